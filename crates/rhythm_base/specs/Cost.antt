@@ -1,0 +1,54 @@
+-- What a derivation costs: the weights of its rules, and for each onset its displacement times a weight by its side.
+use Rattle.std.specs.Prelude.{ℕ, ◌+◌, ◌-◌, ◌*◌, ◌/◌, Bool, nat_lt, if◌then◌else◌, List, [], ◌∷◌, ◌++◌, sum_by, slice_get, Option, Some, None}
+use Rattle.std.specs.List.{flat_map}
+use Rattle.rhythm_base.specs.declared.rule.Rule.{Rule}
+use Rattle.rhythm_base.specs.Forest.{Branch, preorder_of}
+use Rattle.rhythm_base.specs.Line.{Sounding}
+use Rattle.rhythm_base.specs.Leaves.{Leaf, Measure, lies_in, goes_left, line_of}
+use Rattle.rhythm_base.specs.Rulebook.{Rulebook}
+
+-- how far apart two numbers are
+abbrev pub gap : ℕ → ℕ → ℕ
+gap a b = (a - b) + (b - a)
+
+-- the unit of its bar that an onset in the leaf is attached at: the leaf's start, or its end where it goes to the next leaf
+abbrev pub unit_of : ℕ → Leaf → ℕ → ℕ
+unit_of r x t = if goes_left r x t then x.part.place else x.part.place + x.part.width
+
+-- 960ths of a notated quarter of the onset's own bar between the onset and that unit, the whole part:
+-- (3840 * num / den) * |(t - b) * R - q * L| / (R * L)
+abbrev pub displacement_in : ℕ → Leaf → ℕ → ℕ
+displacement_in r x t =
+    (3840 * x.bar.num * gap ((t - x.bar.start) * r) (unit_of r x t * x.bar.length)) / (x.bar.den * (r * x.bar.length))
+
+-- the onset was played after the unit that it is attached at
+abbrev pub is_late : ℕ → Leaf → ℕ → Bool
+is_late r x t = nat_lt (unit_of r x t * x.bar.length) ((t - x.bar.start) * r)
+
+-- what an onset in the leaf costs
+abbrev pub charge_in : Rulebook → Leaf → ℕ → ℕ
+charge_in g x t = (if is_late g.resolution x t then g.late else g.early) * displacement_in g.resolution x t
+
+-- what an onset costs, by the leaf that it lies in
+abbrev pub charge : Rulebook → List Leaf → ℕ → ℕ
+charge g [] t = 0
+charge g (x ∷ xs) t = if lies_in g.resolution x t then charge_in g x t else charge g xs t
+
+-- what all onsets cost
+abbrev pub charges : Rulebook → List Leaf → List Sounding → ℕ
+charges g xs cs = sum_by (λ c. charge g xs c.onset) cs
+
+abbrev pub weight_of : Option Rule → ℕ
+weight_of None = 0
+weight_of (Some rule) = rule.weight
+
+-- the rule numbers of a derivation: in preorder in a tree, and bar after bar
+abbrev pub sequence_of : List Branch → List ℕ
+sequence_of ts = flat_map preorder_of ts
+
+-- the weights of rules, by their numbers
+abbrev pub weights : Rulebook → List ℕ → ℕ
+weights g rs = sum_by (λ r. weight_of (slice_get g.rules r)) rs
+
+abbrev pub cost : Rulebook → List Measure → List Sounding → List Branch → ℕ
+cost g bars cs ts = weights g (sequence_of ts) + charges g (line_of g bars ts) cs

@@ -1,0 +1,36 @@
+-- What a contract sees of a shape, and which shapes are trees of a grammar.
+use Rattle.std.specs.Prelude.{ℕ, ◌+◌, ◌≤◌, Bool, true, ◌&&◌, ◌||◌, ◌==◌, nat_le, length, max}
+use Rattle.rhythm_base.specs.declared.shape.Node.{Node}
+use Rattle.rhythm_base.specs.declared.shape.Node.TheVariants.{Leaf, Cut}
+use Rattle.rhythm_base.specs.Outline.{Outline, end, part, outline_of}
+
+abbrev pub outline : Node → Outline
+outline Leaf = end
+outline (Cut parts) = outline_of parts.items
+
+abbrev pub HasParts : Node → Type 0
+HasParts Leaf = Unit {0}
+HasParts (Cut parts) = (2 ≤ length parts.items) × (length parts.items ≤ 16)
+
+-- the number of parts: none for a leaf
+abbrev pub parts_in : Outline → ℕ
+parts_in end = 0
+parts_in (part x rest) = parts_in rest + 1
+
+-- a leaf, or a cut into 2 to 16 parts
+abbrev pub can_have : ℕ → Bool
+can_have n = (n == 0) || (nat_le 2 n && nat_le n 16)
+
+-- each of the parts is a leaf or a cut into 2 to 16 parts, and so are theirs
+abbrev pub are_cut : Outline → Bool
+are_cut end = true
+are_cut (part x rest) = can_have (parts_in x) && (are_cut x && are_cut rest)
+
+-- how many levels lie below: none below a leaf
+abbrev pub depth : Outline → ℕ
+depth end = 0
+depth (part x rest) = max (depth x + 1) (depth rest)
+
+-- a shape has 2 to 16 parts at each cut, and at most 96 levels: a leaf has one, a cut one more than its deepest part
+abbrev pub is_shape : Outline → Bool
+is_shape x = can_have (parts_in x) && (are_cut x && nat_le (depth x) 95)

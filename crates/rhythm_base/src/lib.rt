@@ -1,0 +1,50 @@
+// The plain types of a transcription and the definitions that every layer cites: grammars, rhythm trees and their
+// leaves, notes and chords, bars, performances and edits. The definitions stand in specs/: what a derivation of a voice
+// is, when it fits, what it costs and which is the least. The code here holds values and compares them, no more.
+#![tactic(auto)]
+
+mod bar_input;
+mod chord;
+mod edit;
+mod edit_fault;
+mod event;
+mod graces;
+mod grammar;
+mod inner;
+mod keys;
+mod kids;
+mod name;
+mod note;
+mod performance;
+mod pin;
+mod portions;
+mod rule;
+mod rule_list;
+mod shape;
+mod span;
+mod tag;
+mod tree;
+mod words;
+
+pub use bar_input::BarInput;
+pub use chord::Chord;
+pub use edit::Edit;
+pub use edit_fault::{EditFault, LimitKind};
+pub use event::{Event, KeyMark, Signature, Tempo, What};
+pub use graces::Graces;
+pub use grammar::{Grammar, Start};
+pub use inner::Inner;
+pub use keys::Keys;
+pub use kids::Kids;
+pub use name::Name;
+pub use note::{Bar, Note};
+pub use performance::Performance;
+pub use pin::Pin;
+pub use portions::Portions;
+pub use rule::{Body, Rule};
+pub use rule_list::RuleList;
+pub use shape::{Node, Shape};
+pub use span::{Frac, Span};
+pub use tag::Tag;
+pub use tree::Tree;
+pub use words::Words;
