@@ -15,15 +15,20 @@ gap a b = (a - b) + (b - a)
 abbrev pub unit_of : ℕ → Leaf → ℕ → ℕ
 unit_of r x t = if goes_left r x t then x.part.place else x.part.place + x.part.width
 
--- 960ths of a notated quarter of the onset's own bar between the onset and that unit, the whole part:
--- (3840 * num / den) * |(t - b) * R - q * L| / (R * L)
-abbrev pub displacement_in : ℕ → Leaf → ℕ → ℕ
-displacement_in r x t =
-    (3840 * x.bar.num * gap ((t - x.bar.start) * r) (unit_of r x t * x.bar.length)) / (x.bar.den * (r * x.bar.length))
+-- The displacement of an onset at tick t of a bar that is attached at the unit q, in 960ths of a notated quarter of that
+-- bar, the whole part: (3840 * num / den) * |t * R - q * L| / (R * L)
+abbrev pub displacement_of : ℕ → ℕ → ℕ → ℕ → ℕ → ℕ → ℕ
+displacement_of num den length r q t = (3840 * num * gap (t * r) (q * length)) / (den * (r * length))
 
 -- the onset was played after the unit that it is attached at
+abbrev pub is_after : ℕ → ℕ → ℕ → ℕ → Bool
+is_after length r q t = nat_lt (q * length) (t * r)
+
+abbrev pub displacement_in : ℕ → Leaf → ℕ → ℕ
+displacement_in r x t = displacement_of x.bar.num x.bar.den x.bar.length r (unit_of r x t) (t - x.bar.start)
+
 abbrev pub is_late : ℕ → Leaf → ℕ → Bool
-is_late r x t = nat_lt (unit_of r x t * x.bar.length) ((t - x.bar.start) * r)
+is_late r x t = is_after x.bar.length r (unit_of r x t) (t - x.bar.start)
 
 -- what an onset in the leaf costs
 abbrev pub charge_in : Rulebook → Leaf → ℕ → ℕ

@@ -3,7 +3,9 @@
 // is, when it fits, what it costs and which is the least. The code here holds values and compares them, no more.
 #![tactic(auto)]
 
+mod bar_fault;
 mod bar_input;
+mod best;
 mod chord;
 mod edit;
 mod edit_fault;
@@ -26,7 +28,9 @@ mod tag;
 mod tree;
 mod words;
 
+pub use bar_fault::BarFault;
 pub use bar_input::BarInput;
+pub use best::Best;
 pub use chord::Chord;
 pub use edit::Edit;
 pub use edit_fault::{EditFault, LimitKind};

@@ -1,0 +1,45 @@
+ghost use Rattle.rhythm_base.specs.Counter.{risen};
+ghost use Rattle.std.specs.Prelude.{◌≡◌, ℕ};
+
+use rhythm_base::Tag;
+use std::marker::{Model, PhantomData};
+
+/// A number of products. It stays at 2 to the power 64 less one, and is marked by what it counts for. Only `product`
+/// raises it, besides adding another counter of the same mark.
+#[derive(Drop)]
+pub struct Steps<P: Tag> {
+    count: u64,
+    mark: PhantomData<P>,
+}
+
+impl<P: Tag> Model for Steps<P> {
+    ghost Value = { ℕ };
+
+    ghost view = { λ s. s.count };
+}
+
+impl<P: Tag> Steps<P> {
+    /// A counter at 0.
+    pub fn zero() -> Steps<P>
+        ensures { result ≡ 0 }
+    {
+        Steps {
+            count: 0,
+            mark: PhantomData,
+        }
+    }
+
+    /// Adds the other's number.
+    pub fn absorb(&mut self, other: Steps<P>)
+        ensures { self.new ≡ risen self.old other }
+    {
+        self.count = self.count.saturating_add(other.count);
+    }
+
+    /// One product more.
+    pub(crate) fn tick(&mut self)
+        ensures { self.new ≡ risen self.old 1 }
+    {
+        self.count = self.count.saturating_add(1);
+    }
+}

@@ -1,0 +1,55 @@
+-- The laws, each as one statement over the definitions.
+use Rattle.std.specs.Prelude.{◌≡◌, ℕ, ◌+◌, ◌*◌, ◌≤◌, ◌<◌, ◌↔◌, true, List, [], ◌∷◌, ◌++◌, length}
+use Rattle.rhythm_base.specs.declared.rule.Rule.{Rule}
+use Rattle.rhythm_base.specs.Cell.{Cell}
+use Rattle.rhythm_base.specs.Cells.{CellFits, last_end}
+use Rattle.rhythm_base.specs.Cost.{charges, cost, sequence_of, weights}
+use Rattle.rhythm_base.specs.DeadBars.{IsDead}
+use Rattle.rhythm_base.specs.Forest.{Branch, none, more, preorder_of}
+use Rattle.rhythm_base.specs.Leaves.{FitsVoice, Measure, line_of}
+use Rattle.rhythm_base.specs.Line.{Sounding}
+use Rattle.rhythm_base.specs.Paths.{IsRanked, IsDeadCell}
+use Rattle.rhythm_base.specs.Ranked.{Entries, product_of, table}
+use Rattle.rhythm_base.specs.Rulebook.{Rulebook}
+use Rattle.rhythm_base.specs.Trees.{are_trees}
+use Rattle.rhythm_laws.specs.Passes.{HasPass}
+use Rattle.rhythm_laws.specs.Tables.{AllRanked}
+use Rattle.rhythm_laws.specs.VersionOne.{displaced}
+use Rattle.rhythm_laws.specs.Voices.{AreCounts, HoldsChords, IsVoice, cell_costs}
+
+-- A derivation of a voice fits exactly where there are counts at the barlines, 0 at both ends, with which each tree fits its
+-- bar; its cost is then the sum of the costs of the bars.
+pub record BarsAreLocal : Type 0 where
+  pub counts : (g : Rulebook) (bars : List Measure) (cs : List Sounding) (ts : List Branch) → IsVoice g bars cs
+      → FitsVoice g bars cs ts ↔ ((ms : List ℕ) × AreCounts g cs bars ts (0 ∷ ms) × (last_end 0 ms ≡ 0))
+  pub costs : (g : Rulebook) (bars : List Measure) (cs : List Sounding) (ts : List Branch) → IsVoice g bars cs
+      → FitsVoice g bars cs ts → cost g bars cs ts ≡ cell_costs g cs bars ts
+
+-- a tree fits a cell with at most one pair of counts
+abbrev pub CountsAreOne : Type 0
+CountsAreOne =
+    (g : Rulebook) (k : Cell) (t : Branch) (from to from' to' : ℕ) → 1 ≤ k.resolution → HoldsChords k
+    → CellFits g k t from to → CellFits g k t from' to' → (from ≡ from') × (to ≡ to')
+
+-- rule lists of two trees of one symbol over one interval are not beginnings of one another, unless the trees are the same
+abbrev pub ListsAreNoPrefixes : Type 0
+ListsAreNoPrefixes =
+    (rules : List Rule) (w s : ℕ) (t u : Branch) (rest : List ℕ) → are_trees rules ((w, s) ∷ []) (more t.rule t.kids none) ≡ true
+    → are_trees rules ((w, s) ∷ []) (more u.rule u.kids none) ≡ true → preorder_of t ++ rest ≡ preorder_of u → (t ≡ u) × (rest ≡ [])
+
+-- the dead bar is the first over whose cells no counts lead: from 0, at most four, and to 0 over the last bar
+abbrev pub DeadBarsAreByCounts : Type 0
+DeadBarsAreByCounts =
+    (g : Rulebook) (bars : List Measure) (cs : List Sounding) (i : ℕ) → IsVoice g bars cs
+    → IsDead g bars cs i ↔ ((i < length bars) × (HasPass g bars cs i → ⊥) × ((j : ℕ) → j < i → HasPass g bars cs j))
+
+-- the table of a list of ranked matrices, and of another behind it, is the product of the two tables
+abbrev pub TablesMultiply : Type 0
+TablesMultiply = (es fs : List Entries) → AllRanked es → table (es ++ fs) ≡ product_of (table es) (table fs)
+
+-- with one weight for early and late onsets, a derivation costs what it did before they were weighed apart: its rules'
+-- weights and that weight times all displacements
+abbrev pub OneWeightIsAsBefore : Type 0
+OneWeightIsAsBefore =
+    (g : Rulebook) (bars : List Measure) (cs : List Sounding) (ts : List Branch) (onset : ℕ) → g.early ≡ onset → g.late ≡ onset
+    → cost g bars cs ts ≡ weights g (sequence_of ts) + onset * displaced g.resolution (line_of g bars ts) cs

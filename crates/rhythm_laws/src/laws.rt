@@ -1,0 +1,39 @@
+ghost use Rattle.rhythm_laws.specs.Laws.{
+  BarsAreLocal,
+  CountsAreOne,
+  DeadBarsAreByCounts,
+  ListsAreNoPrefixes,
+  OneWeightIsAsBefore,
+  TablesMultiply,
+};
+
+/// A derivation of a voice fits exactly where each bar fits with the counts at its barlines, and costs the sum of the bars.
+/// So an edit touches only the bars whose inputs it changes.
+pub fn bars_are_local()
+    ensures { BarsAreLocal }
+{}
+
+/// A tree fits a cell with at most one pair of counts.
+pub fn counts_are_one()
+    ensures { CountsAreOne }
+{}
+
+/// Rule lists parse in one way, so that none is the beginning of another.
+pub fn lists_are_no_prefixes()
+    ensures { ListsAreNoPrefixes }
+{}
+
+/// The dead bar is found by counts alone.
+pub fn dead_bars_are_by_counts()
+    ensures { DeadBarsAreByCounts }
+{}
+
+/// The table of bars side by side is the product of their tables.
+pub fn tables_multiply()
+    ensures { TablesMultiply }
+{}
+
+/// A grammar of one onset weight means what it meant before grammars could have two.
+pub fn one_weight_is_as_before()
+    ensures { OneWeightIsAsBefore }
+{}
