@@ -1,9 +1,9 @@
 -- A displacement is at most the length of the longest bar, 64 whole notes, in 960ths of a quarter.
-use Rattle.std.proofs.Common.{◌≡◌, ℕ, ◌+◌, ◌-◌, ◌*◌, ◌/◌, ◌^◌, ◌<◌, ◌≤◌, arith}
+use Rattle.std.proofs.Common.{◌≡◌, ℕ, zero, suc, ◌+◌, ◌-◌, ◌*◌, ◌/◌, ◌<◌, ◌≤◌, arith}
 use Rattle.std.proofs.Math.Nat.{div-le_of_le-mul, mul-le-mul_right, mul-le-mul_left}
 use Rattle.rhythm_base.specs.Cost.{displacement_of, gap}
-use Rattle.std.proofs.lemmas.Nat.{pow_pos}
-use Rattle.rhythm_base.specs.Signatures.{IsDen}
+use Rattle.std.specs.Prelude.{IsTrue}
+use Rattle.rhythm_base.specs.Signatures.{is_den}
 
 -- an onset of the bar and a unit of it are at most a bar apart
 gap_small : (length r q t : ℕ) → q ≤ r → t < length → gap (t * r) (q * length) ≤ r * length
@@ -27,5 +27,6 @@ displacement_small num den length r q t few some unit onset =
     div-le_of_le-mul (den * (r * length)) all
 
 -- the value of a beat is above 0
-pub den_some : (den : ℕ) → IsDen den → 1 ≤ den
-den_some den h = let power : 2 ^ h.0 ≡ den = h.2 in omega (arith, power, pow_pos h.0)
+pub den_some : (den : ℕ) → IsTrue (is_den den) → 1 ≤ den
+den_some zero h = absurd (cc)
+den_some (suc den) h = omega arith

@@ -32,3 +32,23 @@ pub fn late(length: u64, resolution: u16, q: u16, onset: u64) -> bool
 {
     u64::from(q) * length < onset * u64::from(resolution)
 }
+
+#[cfg(test)]
+mod tests {
+    use super::*;
+    use std::test::Fail;
+
+    #[test]
+    fn measures_from_the_unit(rt: HostRuntime) -> Result<(), Fail> {
+        assert!(rt; displacement(4, 4, 1920, 2, 0, 480) == 960);
+        assert!(rt; displacement(4, 4, 1920, 2, 1, 481) == 958);
+        assert!(rt; displacement(4, 4, 1920, 8, 8, 1900) == 40);
+        assert!(rt; displacement(4, 4, 1920, 8, 0, 21) == 42);
+        assert!(rt; late(1920, 2, 0, 480));
+        assert!(rt; !late(1920, 2, 1, 481));
+        assert!(rt; !late(1920, 2, 1, 960));
+        // The longest bar, 64 whole notes of 2,000,000,000 ticks.
+        assert!(rt; displacement(64, 1, 2_000_000_000, 960, 960, 0) == 245_760);
+        Ok(())
+    }
+}

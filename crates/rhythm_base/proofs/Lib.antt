@@ -1,3 +1,4 @@
 pub mod PieceLemmas
 mod WorkedBars
 mod WorkedPitches
+mod WorkedProducts

@@ -1,5 +1,6 @@
 pub mod Bars
 pub mod Cell
+pub mod CellTables
 pub mod Cells
 pub mod Chords
 pub mod Cost

@@ -105,3 +105,20 @@ fn same_parts(parts: &[Shape], others: &[Shape]) -> bool
         },
     }
 }
+
+#[cfg(test)]
+mod tests {
+    use super::*;
+    use std::test::Fail;
+
+    #[test]
+    fn copies_are_the_same(rt: HostRuntime) -> Result<(), Fail> {
+        let alloc = rt.alloc();
+        let parts = vec![in alloc; Shape::leaf(), Shape::leaf()]?;
+        assert!(rt; parts.len() == 2);
+        let two = Shape::cut(parts);
+        assert!(rt; two.copy(alloc)?.same(&two));
+        assert!(rt; !two.same(&Shape::leaf()));
+        Ok(())
+    }
+}

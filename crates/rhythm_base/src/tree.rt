@@ -63,3 +63,34 @@ impl Tree {
         Ok(())
     }
 }
+
+#[cfg(test)]
+mod tests {
+    use super::*;
+    use std::test::Fail;
+
+    /// A rule over two leaves.
+    fn half(alloc: Global, rule: u16, first: u16, second: u16) -> Result<Tree, AllocError> {
+        let leaf = Tree {
+            rule: first,
+            kids: Vec::new(alloc),
+        };
+        let last = Tree {
+            rule: second,
+            kids: Vec::new(alloc),
+        };
+        Ok(Tree {
+            rule,
+            kids: vec![in alloc; leaf, last]?,
+        })
+    }
+
+    #[test]
+    fn lists_rules_in_preorder(rt: HostRuntime) -> Result<(), Fail> {
+        let alloc = rt.alloc();
+        let kids = vec![in alloc; half(alloc, 1, 2, 3)?, half(alloc, 4, 5, 6)?]?;
+        let tree = Tree { rule: 0, kids }.copy(alloc)?;
+        assert!(rt; tree.sequence(alloc)?.as_slice() == [0, 1, 2, 3, 4, 5, 6].as_slice());
+        Ok(())
+    }
+}

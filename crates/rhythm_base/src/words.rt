@@ -69,3 +69,23 @@ fn piece_at<'a>(text: &'a str, ends: &[usize], at: usize) -> Option<&'a str>
     }
     Some(&text[ends[at - 1]..ends[at]])
 }
+
+#[cfg(test)]
+mod tests {
+    use super::*;
+    use std::test::Fail;
+
+    #[test]
+    fn keeps_words_in_order(rt: HostRuntime) -> Result<(), Fail> {
+        let mut words = Words::new(rt.alloc());
+        words.push("transcribe")?;
+        words.push("")?;
+        words.push("größe")?;
+        assert!(rt; words.count() == 3);
+        assert!(rt; words.get(0) == Some("transcribe"));
+        assert!(rt; words.get(1) == Some(""));
+        assert!(rt; words.get(2) == Some("größe"));
+        assert!(rt; words.get(3).is_none());
+        Ok(())
+    }
+}

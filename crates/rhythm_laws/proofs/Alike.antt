@@ -7,7 +7,7 @@ use Rattle.std.specs.Cmp.Lexicographic.{nat_list_cmp_total}
 use Rattle.std.specs.declared.cmp.Ordering.{Ordering}
 use Rattle.std.specs.declared.cmp.Ordering.TheVariants.{Less, Equal, Greater}
 use Rattle.rhythm_base.specs.Ranked.{Key, Keys, list_cmp, plus, joined, key_of, is_under, count_under, ranked}
-use Rattle.rhythm_laws.proofs.KeyOrders.{flip, itself, above, before_above, list_equal, append_cmp}
+use Rattle.rhythm_laws.proofs.KeyOrders.{flip, itself, above, before_above, list_equal, Parse}
 use Rattle.rhythm_laws.proofs.LeastKeys.{last}
 
 -- both there, with one cost, or neither
@@ -133,9 +133,10 @@ then_same Less o' u u' e f = ap (λ q. ordering_then q u') e
 then_same Equal o' u u' e f = f refl ∙ ap (λ q. ordering_then q u') e
 then_same Greater o' u u' e f = ap (λ q. ordering_then q u') e
 
-abbrev pub has_length : ℕ → Option Key → Type 0
-has_length n None = Unit {0}
-has_length n (Some x) = length x.1 ≡ n
+abbrev pub parse : Option Key → Option Key → Type 0
+parse None q = Unit {0}
+parse (Some x) None = Unit {0}
+parse (Some x) (Some y) = Parse x.1 y.1
 
 joined_same : (p p' q q' : Option Key) → same p p' → same q q' → same (joined p q) (joined p' q')
 joined_same None None q q' h k = tt
@@ -146,29 +147,29 @@ joined_same (Some x) (Some y) None (Some v) h k = absurd k
 joined_same (Some x) (Some y) (Some u) None h k = absurd k
 joined_same (Some x) (Some y) (Some u) (Some v) h k = λ i. h i + k i
 
-pub joined_cmp : (n : ℕ) (x u y v : Key) → length x.1 ≡ n → length u.1 ≡ n → list_cmp (plus x y).1 (plus u v).1 ≡ ordering_then (list_cmp x.1 u.1) (list_cmp y.1 v.1)
-joined_cmp n x u y v lx lu = append_cmp x.1 u.1 y.1 v.1 (lx ∙ sym lu)
+pub joined_cmp : (x u y v : Key) → Parse x.1 u.1 → list_cmp (plus x y).1 (plus u v).1 ≡ ordering_then (list_cmp x.1 u.1) (list_cmp y.1 v.1)
+joined_cmp x u y v l = l y.1 v.1
 
-joined_order : (n n' : ℕ) (p p' q q' u u' v v' : Option Key) → same p p' → same q q' → same u u' → same v v'
-    → has_length n p → has_length n u → has_length n' p' → has_length n' u'
+joined_order : (p p' q q' u u' v v' : Option Key) → same p p' → same q q' → same u u' → same v v'
+    → parse p u → parse p' u'
     → lists_cmp p u ≡ lists_cmp p' u' → ((x y : Key) → p ≡ Some x → u ≡ Some y → list_cmp x.1 y.1 ≡ Equal → lists_cmp q v ≡ lists_cmp q' v')
     → lists_cmp (joined p q) (joined u v) ≡ lists_cmp (joined p' q') (joined u' v')
-joined_order n n' None None q q' u u' v v' h1 h2 h3 h4 l1 l2 l3 l4 e f = refl
-joined_order n n' None (Some y) q q' u u' v v' h1 h2 h3 h4 l1 l2 l3 l4 e f = absurd h1
-joined_order n n' (Some x) None q q' u u' v v' h1 h2 h3 h4 l1 l2 l3 l4 e f = absurd h1
-joined_order n n' (Some x) (Some y) None None u u' v v' h1 h2 h3 h4 l1 l2 l3 l4 e f = refl
-joined_order n n' (Some x) (Some y) None (Some b) u u' v v' h1 h2 h3 h4 l1 l2 l3 l4 e f = absurd h2
-joined_order n n' (Some x) (Some y) (Some a) None u u' v v' h1 h2 h3 h4 l1 l2 l3 l4 e f = absurd h2
-joined_order n n' (Some x) (Some y) (Some a) (Some b) None None v v' h1 h2 h3 h4 l1 l2 l3 l4 e f = refl
-joined_order n n' (Some x) (Some y) (Some a) (Some b) None (Some d) v v' h1 h2 h3 h4 l1 l2 l3 l4 e f = absurd h3
-joined_order n n' (Some x) (Some y) (Some a) (Some b) (Some c) None v v' h1 h2 h3 h4 l1 l2 l3 l4 e f = absurd h3
-joined_order n n' (Some x) (Some y) (Some a) (Some b) (Some c) (Some d) None None h1 h2 h3 h4 l1 l2 l3 l4 e f = refl
-joined_order n n' (Some x) (Some y) (Some a) (Some b) (Some c) (Some d) None (Some t) h1 h2 h3 h4 l1 l2 l3 l4 e f = absurd h4
-joined_order n n' (Some x) (Some y) (Some a) (Some b) (Some c) (Some d) (Some s) None h1 h2 h3 h4 l1 l2 l3 l4 e f = absurd h4
-joined_order n n' (Some x) (Some y) (Some a) (Some b) (Some c) (Some d) (Some s) (Some t) h1 h2 h3 h4 l1 l2 l3 l4 e f =
-    joined_cmp n x c a s l1 l2
+joined_order None None q q' u u' v v' h1 h2 h3 h4 l1 l3 e f = refl
+joined_order None (Some y) q q' u u' v v' h1 h2 h3 h4 l1 l3 e f = absurd h1
+joined_order (Some x) None q q' u u' v v' h1 h2 h3 h4 l1 l3 e f = absurd h1
+joined_order (Some x) (Some y) None None u u' v v' h1 h2 h3 h4 l1 l3 e f = refl
+joined_order (Some x) (Some y) None (Some b) u u' v v' h1 h2 h3 h4 l1 l3 e f = absurd h2
+joined_order (Some x) (Some y) (Some a) None u u' v v' h1 h2 h3 h4 l1 l3 e f = absurd h2
+joined_order (Some x) (Some y) (Some a) (Some b) None None v v' h1 h2 h3 h4 l1 l3 e f = refl
+joined_order (Some x) (Some y) (Some a) (Some b) None (Some d) v v' h1 h2 h3 h4 l1 l3 e f = absurd h3
+joined_order (Some x) (Some y) (Some a) (Some b) (Some c) None v v' h1 h2 h3 h4 l1 l3 e f = absurd h3
+joined_order (Some x) (Some y) (Some a) (Some b) (Some c) (Some d) None None h1 h2 h3 h4 l1 l3 e f = refl
+joined_order (Some x) (Some y) (Some a) (Some b) (Some c) (Some d) None (Some t) h1 h2 h3 h4 l1 l3 e f = absurd h4
+joined_order (Some x) (Some y) (Some a) (Some b) (Some c) (Some d) (Some s) None h1 h2 h3 h4 l1 l3 e f = absurd h4
+joined_order (Some x) (Some y) (Some a) (Some b) (Some c) (Some d) (Some s) (Some t) h1 h2 h3 h4 l1 l3 e f =
+    joined_cmp x c a s l1
     ∙ then_same (list_cmp x.1 c.1) (list_cmp y.1 d.1) (list_cmp a.1 s.1) (list_cmp b.1 t.1) e (f x c refl refl)
-    ∙ sym (joined_cmp n' y d b t l3 l4)
+    ∙ sym (joined_cmp y d b t l3)
 
 none_right : (p : Option Key) → lists_cmp p None ≡ Equal
 none_right None = refl
@@ -187,8 +188,8 @@ abbrev pub IsCount : Option ℕ → Type 0
 IsCount None = Unit {0}
 IsCount (Some m) = m < 5
 
-module _ (r s : ℕ → Option Key) (l k : Keys) (n n' : ℕ) (rows : AreAlike r s) (behind : (m : ℕ) → m < 5 → AreAlike (l m) (k m)) (apart : AreApart r)
-    (long : (m : ℕ) → m < 5 → has_length n (r m)) (long' : (m : ℕ) → m < 5 → has_length n' (s m)) where
+module _ (r s : ℕ → Option Key) (l k : Keys) (rows : AreAlike r s) (behind : (m : ℕ) → m < 5 → AreAlike (l m) (k m)) (apart : AreApart r)
+    (long : (m m' : ℕ) → m < 5 → m' < 5 → parse (r m) (r m')) (long' : (m m' : ℕ) → m < 5 → m' < 5 → parse (s m) (s m')) where
   via_costs : (b : ℕ) → b < 5 → (o : Option ℕ) → IsCount o → same (via r l b o) (via s k b o)
   via_costs b low None h = tt
   via_costs b low (Some m) h = joined_same (r m) (s m) (l m b) (k m b) (rows.costs m h) ((behind m h).costs b low)
@@ -197,9 +198,9 @@ module _ (r s : ℕ → Option Key) (l k : Keys) (n n' : ℕ) (rows : AreAlike r
   via_order b c lb lc None u h g = refl
   via_order b c lb lc (Some m) None h g = none_right (joined (r m) (l m b)) ∙ sym (none_right (joined (s m) (k m b)))
   via_order b c lb lc (Some m) (Some m') h g =
-      joined_order n n' (r m) (s m) (l m b) (k m b) (r m') (s m') (l m' c) (k m' c)
+      joined_order (r m) (s m) (l m b) (k m b) (r m') (s m') (l m' c) (k m' c)
       (rows.costs m h) ((behind m h).costs b lb) (rows.costs m' g) ((behind m' g).costs c lc)
-      (long m h) (long m' g) (long' m h) (long' m' g) (rows.order m m' h g) last_same
+      (long m m' h g) (long' m m' h g) (rows.order m m' h g) last_same
     where
       last_same : (x y : Key) → r m ≡ Some x → r m' ≡ Some y → list_cmp x.1 y.1 ≡ Equal → lists_cmp (l m b) (l m' c) ≡ lists_cmp (k m b) (k m' c)
       last_same x y ex ey e =

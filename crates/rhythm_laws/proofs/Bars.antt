@@ -10,6 +10,7 @@ use Rattle.rhythm_base.specs.Trees.{Part, sizes, children, can_cut, children_of,
 use Rattle.rhythm_base.specs.declared.rule.Body.{Body}
 use Rattle.rhythm_base.specs.declared.rule.Body.TheVariants.{Split, Parts, Note, Short, Tie, Rest, Grace}
 use Rattle.rhythm_base.specs.declared.rule.Rule.{Rule}
+pub use Rattle.rhythm_laws.specs.Forests.{AreWide}
 
 -- parts of positive width side by side from p to q
 abbrev pub SideBySide : ℕ → List Part → ℕ → Type 0
@@ -19,10 +20,6 @@ SideBySide p (x ∷ xs) q = (x.place ≡ p) × (1 ≤ x.width) × SideBySide (p 
 pub SideBySide-append : (p m q : ℕ) (xs ys : List Part) → SideBySide p xs m → SideBySide m ys q → SideBySide p (xs ++ ys) q
 SideBySide-append p m q [] ys h k = subst (λ p. SideBySide p ys q) (sym h) k
 SideBySide-append p m q (x ∷ xs) ys h k = (h.0, h.1, SideBySide-append (p + x.width) m q xs ys h.2 k)
-
-abbrev pub AreWide : List (ℕ × ℕ) → Type 0
-AreWide [] = ⊤
-AreWide (q ∷ qs) = (1 ≤ q.0) × AreWide qs
 
 -- ---- the children of a node fill it
 

@@ -107,8 +107,16 @@ sums_above a b c d o u f g = go (means a c o f) (means b d u g)
     go (inr h) (inl k) = over (a + b) (c + d) (ordering_then o u) (omega (arith, h.0))
     go (inr h) (inr k) = level (a + b) (c + d) (ordering_then o u) (omega (arith, h.0, k.0)) (then_above o u h.1 k.1)
 
+-- neither list is a proper beginning of the other, so that what stands behind them comes after
+abbrev pub Parse : List ℕ → List ℕ → Type 0
+Parse x y = (u v : List ℕ) → list_cmp (x ++ u) (y ++ v) ≡ ordering_then (list_cmp x y) (list_cmp u v)
+
+-- lists of one length do
+pub long_parse : (x y : List ℕ) → length x ≡ length y → Parse x y
+long_parse x y e u v = append_cmp x y u v e
+
 -- neither part is lower, so the whole is not
-pub plus_above : (x y v w : Key) → length x.1 ≡ length v.1 → is_before x v ≡ false → is_before y w ≡ false → is_before (plus x y) (plus v w) ≡ false
+pub plus_above : (x y v w : Key) → Parse x.1 v.1 → is_before x v ≡ false → is_before y w ≡ false → is_before (plus x y) (plus v w) ≡ false
 plus_above x y v w e h k =
-    ap (λ r. is_lt (ordering_then (nat_cmp (x.0 + y.0) (v.0 + w.0)) r)) (append_cmp x.1 v.1 y.1 w.1 e)
+    ap (λ r. is_lt (ordering_then (nat_cmp (x.0 + y.0) (v.0 + w.0)) r)) (e y.1 w.1)
     ∙ sums_above x.0 y.0 v.0 w.0 (list_cmp x.1 v.1) (list_cmp y.1 w.1) h k

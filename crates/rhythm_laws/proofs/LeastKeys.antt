@@ -1,8 +1,9 @@
 -- The least key of a set of keys.
 use Rattle.std.proofs.Common.{◌≡◌, ℕ, zero, suc, ◌<◌, ◌⊎◌, inl, inr, Bool, true, false, length, refl, sym, subst, ap, ◌∙◌, arith}
 use Rattle.std.specs.Prelude.{Option, Some, None, if◌then◌else◌}
+use Rattle.rhythm_laws.specs.Tables.{IsLeastKey}
 use Rattle.rhythm_base.specs.Ranked.{Key, is_before, plus, joined, better, pick, value_of}
-use Rattle.rhythm_laws.proofs.KeyOrders.{keys_total, above, both_above, before_above, key_equal, plus_above}
+use Rattle.rhythm_laws.proofs.KeyOrders.{keys_total, above, both_above, before_above, key_equal, Parse, plus_above}
 
 pub last : (m n : ℕ) → m < suc n → (m < n) ⊎ (m ≡ n)
 last zero zero h = inr refl
@@ -14,8 +15,7 @@ last (suc m) (suc n) h = elim (last m n (omega arith)) [
 ]
 
 abbrev pub IsLeast : (Key → Type 0) → Option Key → Type 0
-IsLeast S None = (k : Key) → S k → ⊥
-IsLeast S (Some x) = S x × ((k : Key) → S k → is_before k x ≡ false)
+IsLeast S o = IsLeastKey S o
 
 pub IsLeast-one : (S : Key → Type 0) (o u : Option Key) → IsLeast S o → IsLeast S u → o ≡ u
 IsLeast-one S None None h k = refl
@@ -31,15 +31,15 @@ IsLeast-same S T (Some x) f g h = (f x h.0, λ k t. h.1 k (g k t))
 abbrev pub Both : (Key → Type 0) → (Key → Type 0) → Key → Type 0
 Both S T k = (x : Key) × (y : Key) × S x × T y × (k ≡ plus x y)
 
-pub joined-least : (S T : Key → Type 0) (n : ℕ) (o u : Option Key) → ((k : Key) → S k → length k.1 ≡ n) → IsLeast S o → IsLeast T u → IsLeast (Both S T) (joined o u)
-joined-least S T n None u long h g = λ k b. h b.0 b.2
-joined-least S T n (Some x) None long h g = λ k b. g b.1 b.3
-joined-least S T n (Some x) (Some y) long h g = ((x, y, h.0, g.0, refl), first)
+pub joined-least : (S T : Key → Type 0) (o u : Option Key) → ((k l : Key) → S k → S l → Parse k.1 l.1) → IsLeast S o → IsLeast T u → IsLeast (Both S T) (joined o u)
+joined-least S T None u long h g = λ k b. h b.0 b.2
+joined-least S T (Some x) None long h g = λ k b. g b.1 b.3
+joined-least S T (Some x) (Some y) long h g = ((x, y, h.0, g.0, refl), first)
   where
     first : (k : Key) → Both S T k → is_before k (plus x y) ≡ false
     first k b =
         ap (λ q. is_before q (plus x y)) b.4
-        ∙ plus_above b.0 b.1 x y (long b.0 b.2 ∙ sym (long x h.0)) (h.1 b.0 b.2) (g.1 b.1 b.3)
+        ∙ plus_above b.0 b.1 x y (long b.0 x b.2 h.0) (h.1 b.0 b.2) (g.1 b.1 b.3)
 
 -- one of the sets before n
 abbrev pub Some-below : (ℕ → Key → Type 0) → ℕ → Key → Type 0

@@ -17,3 +17,4 @@ pub mod PathTables
 pub mod ProductCosts
 pub mod Ranks
 pub mod Parsing
+pub mod ForestLemmas

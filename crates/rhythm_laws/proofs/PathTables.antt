@@ -6,11 +6,11 @@ use Rattle.std.proofs.lemmas.Bool.Decides.{nat_tests}
 use Rattle.rhythm_base.specs.declared.best.Best.{Best}
 use Rattle.rhythm_base.specs.Ranked.{Entries, at, Key, Keys, is_before, plus, joined, key_of, one, times, keys, is_under, ranked, count_under, table_of, table, middle_of, product_of, identity_entries}
 use Rattle.rhythm_base.specs.Paths.{path_key, end_of, AreCounts, IsPathKey, IsLeastPath, IsRanked}
-use Rattle.rhythm_laws.proofs.KeyOrders.{keys_total, itself}
+use Rattle.rhythm_laws.proofs.KeyOrders.{keys_total, itself, long_parse}
 use Rattle.rhythm_laws.proofs.LeastKeys.{IsLeast, IsLeast-one, IsLeast-same, Both, joined-least, Some-below, pick-least}
-use Rattle.rhythm_laws.proofs.Alike.{has_length, ranked_same, via}
+use Rattle.rhythm_laws.proofs.Alike.{parse, ranked_same, via}
 use Rattle.rhythm_laws.proofs.Picks.{times_via}
-use Rattle.rhythm_laws.proofs.Products.{grid_at, grid_same, HaveLength, RowsApart, table_alike, table_apart, middle_is, product_is}
+use Rattle.rhythm_laws.proofs.Products.{grid_at, grid_same, RowsParse, RowsApart, table_alike, table_apart, middle_is, product_is}
 use Rattle.rhythm_laws.specs.Tables.{AllRanked}
 
 -- ---- the keys of the paths from a count to a count
@@ -45,7 +45,7 @@ keys-least [] a b = go (a == b) (grind (arith, nat_tests)) (grind (arith, nat_te
     go false f g = λ k r. g refl r.0
 keys-least (e ∷ es) a b =
     pick-least (λ m. Both (Is (one e a m)) (Reach es m b)) (λ m. joined (one e a m) (keys es m b)) 5
-    (λ m low. joined-least (Is (one e a m)) (Reach es m b) 1 (one e a m) (keys es m b) (λ k i. one_key (at e a m) k i) (Is-least (one e a m)) (keys-least es m b))
+    (λ m low. joined-least (Is (one e a m)) (Reach es m b) (one e a m) (keys es m b) (λ k l i j. long_parse k.1 l.1 (one_key (at e a m) k i ∙ sym (one_key (at e a m) l j))) (Is-least (one e a m)) (keys-least es m b))
 
 plus_long : (x y k : Key) (n m : ℕ) → k ≡ plus x y → length x.1 ≡ n → length y.1 ≡ m → length k.1 ≡ n + m
 plus_long x y k n m e lx ly = ap (λ (q : Key). length q.1) e ∙ length-append x.1 y.1 ∙ (λ i. lx i + ly i)
@@ -59,12 +59,13 @@ Reach-long (e ∷ es) a b k r =
 keys_Reach : (es : List Entries) (a b : ℕ) (k : Key) → keys es a b ≡ Some k → Reach es a b k
 keys_Reach es a b k e = (subst (IsLeast (Reach es a b)) e (keys-least es a b)).0
 
-pub keys_long : (es : List Entries) → HaveLength (length es) (keys es)
-keys_long es a b la lb = go (keys es a b) refl
+pub keys_parse : (es : List Entries) → RowsParse (keys es)
+keys_parse es a b c la lb lc = go (keys es a b) (keys es a c) refl refl
   where
-    go : (o : Option Key) → keys es a b ≡ o → has_length (length es) o
-    go None e = tt
-    go (Some k) e = Reach-long es a b k (keys_Reach es a b k e)
+    go : (o u : Option Key) → keys es a b ≡ o → keys es a c ≡ u → parse o u
+    go None u e f = tt
+    go (Some k) None e f = tt
+    go (Some k) (Some l) e f = long_parse k.1 l.1 (Reach-long es a b k (keys_Reach es a b k e) ∙ sym (Reach-long es a c l (keys_Reach es a c l f)))
 
 -- paths along the first and then along the second
 plus_assoc : (x y z : Key) → plus x (plus y z) ≡ plus (plus x y) z
@@ -95,7 +96,7 @@ Reach-join (e ∷ es) fs a b m x y r q =
 times-least : (es fs : List Entries) (a b : ℕ) → IsLeast (Some-below (λ m. Both (Reach es a m) (Reach fs m b)) 5) (times (keys es) (keys fs) a b)
 times-least es fs a b =
     pick-least (λ m. Both (Reach es a m) (Reach fs m b)) (λ m. joined (keys es a m) (keys fs m b)) 5
-    (λ m low. joined-least (Reach es a m) (Reach fs m b) (length es) (keys es a m) (keys fs m b) (λ k r. Reach-long es a m k r) (keys-least es a m) (keys-least fs m b))
+    (λ m low. joined-least (Reach es a m) (Reach fs m b) (keys es a m) (keys fs m b) (λ k l r q. long_parse k.1 l.1 (Reach-long es a m k r ∙ sym (Reach-long es a m l q))) (keys-least es a m) (keys-least fs m b))
 
 pub keys_append : (es fs : List Entries) (a b : ℕ) → a < 5 → keys (es ++ fs) a b ≡ times (keys es) (keys fs) a b
 keys_append es fs a b low =
@@ -142,7 +143,7 @@ times_table es fs = grid_same _ _ (λ a b la lb. λ i. ranked (λ c. keys_append
 
 pub table_append : (es fs : List Entries) → AllRanked es → table (es ++ fs) ≡ product_of (table es) (table fs)
 unfolding table
-table_append es fs h = times_table es fs ∙ product_is (length es) (keys es) (keys fs) (keys_long es) (keys_apart es h)
+table_append es fs h = times_table es fs ∙ product_is (keys es) (keys fs) (keys_parse es) (keys_apart es h)
 
 -- ---- the table of one matrix, and of none
 
@@ -241,7 +242,7 @@ pub middle_on_path : (es fs : List Entries) (a b : ℕ) → AllRanked es → a <
 unfolding table middle_of
 middle_on_path es fs a b h la lb =
     keys_append es fs a b la ∙ times_via (keys es) (keys fs) a b
-    ∙ ap (via (keys es a) (keys fs) b) (middle_is (length es) (keys es) (keys fs) (keys_long es) (keys_apart es h) a b la lb)
+    ∙ ap (via (keys es a) (keys fs) b) (middle_is (keys es) (keys fs) (keys_parse es) (keys_apart es h) a b la lb)
 
 -- ---- paths as lists of counts
 

@@ -7,7 +7,8 @@ use Rattle.std.specs.declared.cmp.Ordering.{Ordering}
 use Rattle.std.specs.declared.cmp.Ordering.TheVariants.{Less, Equal, Greater}
 use Rattle.rhythm_base.specs.declared.best.Best.{Best}
 use Rattle.rhythm_base.specs.Ranked.{Key, Keys, Sum, list_cmp, is_before, sum_before, plus, joined, summed, key_of, better, pick, number_of, value_of, times, sum_key}
-use Rattle.rhythm_laws.proofs.Alike.{AreAlike, AreApart, same, lists_cmp, has_length, joined_cmp, via, IsCount}
+use Rattle.rhythm_laws.proofs.Alike.{AreAlike, AreApart, same, lists_cmp, parse, joined_cmp, via, IsCount}
+use Rattle.rhythm_laws.proofs.KeyOrders.{Parse}
 
 -- ---- what is picked is one of them
 
@@ -130,44 +131,44 @@ there_same (Some x) None (Some e) (Some f) h k = absurd k
 there_same (Some x) (Some y) (Some e) None h k = absurd k
 there_same (Some x) (Some y) (Some e) (Some f) h k = tt
 
-before_same : (n : ℕ) (x y u v : Key) (e f g k : Best) → length x.1 ≡ n → length u.1 ≡ n → x.0 ≡ e.cost → y.0 ≡ f.cost → u.0 ≡ g.cost → v.0 ≡ k.cost
+before_same : (x y u v : Key) (e f g k : Best) → Parse x.1 u.1 → x.0 ≡ e.cost → y.0 ≡ f.cost → u.0 ≡ g.cost → v.0 ≡ k.cost
     → list_cmp x.1 u.1 ≡ ordering_then (nat_cmp e.rank g.rank) Equal → e.rank ≢ g.rank
     → is_before (plus x y) (plus u v) ≡ sum_before (e.cost + f.cost, e.rank, f.rank) (g.cost + k.cost, g.rank, k.rank)
-before_same n x y u v e f g k lx lu c1 c2 c3 c4 order other =
+before_same x y u v e f g k lx c1 c2 c3 c4 order other =
     let lists : list_cmp (plus x y).1 (plus u v).1 ≡ ordering_then (ordering_then (nat_cmp e.rank g.rank) Equal) (list_cmp y.1 v.1)
-    = joined_cmp n x u y v lx lu ∙ ap (λ o. ordering_then o (list_cmp y.1 v.1)) order in
+    = joined_cmp x u y v lx ∙ ap (λ o. ordering_then o (list_cmp y.1 v.1)) order in
     (λ i. is_lt (ordering_then (nat_cmp (c1 i + c2 i) (c3 i + c4 i)) (lists i)))
     ∙ decides (e.cost + f.cost) (g.cost + k.cost) e.rank g.rank (list_cmp y.1 v.1) other
 
-tests_same : (n : ℕ) (p q u v : Option Key) (e f g k : Option Best) → same p (key_of e) → same q (key_of f) → same u (key_of g) → same v (key_of k)
-    → has_length n p → has_length n u → lists_cmp p u ≡ lists_cmp (key_of e) (key_of g)
+tests_same : (p q u v : Option Key) (e f g k : Option Best) → same p (key_of e) → same q (key_of f) → same u (key_of g) → same v (key_of k)
+    → parse p u → lists_cmp p u ≡ lists_cmp (key_of e) (key_of g)
     → ((x y : Best) → e ≡ Some x → g ≡ Some y → x.rank ≢ y.rank)
     → tested is_before (joined p q) (joined u v) ≡ tested sum_before (summed e f) (summed g k)
-tests_same n None q u v None f g k h1 h2 h3 h4 lp lu o a = refl
-tests_same n None q u v (Some e) f g k h1 h2 h3 h4 lp lu o a = absurd h1
-tests_same n (Some x) q u v None f g k h1 h2 h3 h4 lp lu o a = absurd h1
-tests_same n (Some x) None u v (Some e) None g k h1 h2 h3 h4 lp lu o a = refl
-tests_same n (Some x) None u v (Some e) (Some f) g k h1 h2 h3 h4 lp lu o a = absurd h2
-tests_same n (Some x) (Some y) u v (Some e) None g k h1 h2 h3 h4 lp lu o a = absurd h2
-tests_same n (Some x) (Some y) None v (Some e) (Some f) None k h1 h2 h3 h4 lp lu o a = refl
-tests_same n (Some x) (Some y) None v (Some e) (Some f) (Some g) k h1 h2 h3 h4 lp lu o a = absurd h3
-tests_same n (Some x) (Some y) (Some u) v (Some e) (Some f) None k h1 h2 h3 h4 lp lu o a = absurd h3
-tests_same n (Some x) (Some y) (Some u) None (Some e) (Some f) (Some g) None h1 h2 h3 h4 lp lu o a = refl
-tests_same n (Some x) (Some y) (Some u) None (Some e) (Some f) (Some g) (Some k) h1 h2 h3 h4 lp lu o a = absurd h4
-tests_same n (Some x) (Some y) (Some u) (Some v) (Some e) (Some f) (Some g) None h1 h2 h3 h4 lp lu o a = absurd h4
-tests_same n (Some x) (Some y) (Some u) (Some v) (Some e) (Some f) (Some g) (Some k) h1 h2 h3 h4 lp lu o a =
-    before_same n x y u v e f g k lp lu h1 h2 h3 h4 o (a e g refl refl)
+tests_same None q u v None f g k h1 h2 h3 h4 lp o a = refl
+tests_same None q u v (Some e) f g k h1 h2 h3 h4 lp o a = absurd h1
+tests_same (Some x) q u v None f g k h1 h2 h3 h4 lp o a = absurd h1
+tests_same (Some x) None u v (Some e) None g k h1 h2 h3 h4 lp o a = refl
+tests_same (Some x) None u v (Some e) (Some f) g k h1 h2 h3 h4 lp o a = absurd h2
+tests_same (Some x) (Some y) u v (Some e) None g k h1 h2 h3 h4 lp o a = absurd h2
+tests_same (Some x) (Some y) None v (Some e) (Some f) None k h1 h2 h3 h4 lp o a = refl
+tests_same (Some x) (Some y) None v (Some e) (Some f) (Some g) k h1 h2 h3 h4 lp o a = absurd h3
+tests_same (Some x) (Some y) (Some u) v (Some e) (Some f) None k h1 h2 h3 h4 lp o a = absurd h3
+tests_same (Some x) (Some y) (Some u) None (Some e) (Some f) (Some g) None h1 h2 h3 h4 lp o a = refl
+tests_same (Some x) (Some y) (Some u) None (Some e) (Some f) (Some g) (Some k) h1 h2 h3 h4 lp o a = absurd h4
+tests_same (Some x) (Some y) (Some u) (Some v) (Some e) (Some f) (Some g) None h1 h2 h3 h4 lp o a = absurd h4
+tests_same (Some x) (Some y) (Some u) (Some v) (Some e) (Some f) (Some g) (Some k) h1 h2 h3 h4 lp o a =
+    before_same x y u v e f g k lp h1 h2 h3 h4 o (a e g refl refl)
 
 -- the same count in the middle
-pub middle_same : (n : ℕ) (r : ℕ → Option Key) (l : Keys) (e : ℕ → Option Best) (f : ℕ → ℕ → Option Best) → AreAlike r (λ m. key_of (e m)) → ((m : ℕ) → m < 5 → AreAlike (l m) (λ b. key_of (f m b)))
-    → ((m : ℕ) → m < 5 → has_length n (r m)) → AreApart (λ m. key_of (e m)) → (b : ℕ) → b < 5
+pub middle_same : (r : ℕ → Option Key) (l : Keys) (e : ℕ → Option Best) (f : ℕ → ℕ → Option Best) → AreAlike r (λ m. key_of (e m)) → ((m : ℕ) → m < 5 → AreAlike (l m) (λ b. key_of (f m b)))
+    → ((m m' : ℕ) → m < 5 → m' < 5 → parse (r m) (r m')) → AreApart (λ m. key_of (e m)) → (b : ℕ) → b < 5
     → number_of (pick is_before (λ m. joined (r m) (l m b)) 5) ≡ number_of (pick sum_before (λ m. summed (e m) (f m b)) 5)
-middle_same n r l e f rows behind long apart b low =
+middle_same r l e f rows behind long apart b low =
     pick_same is_before sum_before (λ m. joined (r m) (l m b)) (λ m. summed (e m) (f m b)) 5
     (λ m k. there_same (r m) (l m b) (e m) (f m b) (rows.costs m k) ((behind m k).costs b low))
     (λ i j k less. let k' : j < 5 = omega arith in
-    tests_same n (r i) (l i b) (r j) (l j b) (e i) (f i b) (e j) (f j b) (rows.costs i k) ((behind i k).costs b low) (rows.costs j k') ((behind j k').costs b low)
-    (long i k) (long j k') (rows.order i j k k') (other i j k k' less))
+    tests_same (r i) (l i b) (r j) (l j b) (e i) (f i b) (e j) (f j b) (rows.costs i k) ((behind i k).costs b low) (rows.costs j k') ((behind j k').costs b low)
+    (long i j k k') (rows.order i j k k') (other i j k k' less))
   where
     other : (i j : ℕ) → i < 5 → j < 5 → j < i → (x y : Best) → e i ≡ Some x → e j ≡ Some y → x.rank ≢ y.rank
     other i j k k' less x y ex ey = λ s.

@@ -18,6 +18,7 @@ use Rattle.rhythm_base.specs.Trees.{Part, suits, are_trees, children_of, leaves_
 use Rattle.rhythm_base.specs.declared.rule.Rule.{Rule}
 use Rattle.rhythm_laws.specs.Runs.{IsLine, runs, leaving, ending}
 use Rattle.rhythm_laws.specs.Voices.{HoldsChords}
+pub use Rattle.rhythm_laws.specs.Places.{end_before, runs_at, FitsAt}
 
 reach-later : (r : ℕ) (bar : Measure) (p t u : ℕ) → t ≤ u → reach r bar p t ≡ true → reach r bar p u ≡ true
 reach-later r bar p t u le h =
@@ -26,15 +27,7 @@ reach-later r bar p t u le h =
     let more = scaled bar.start r t u le in
     rw (le_from bar.start u (omega arith), le_from (p * bar.length) ((u - bar.start) * r) (omega arith)) refl
 
--- the end of the last chord with its onset before the place p, where e is the end before the bar
-abbrev pub end_before : ℕ → Measure → List Sounding → ℕ → ℕ → ℕ
-end_before r bar cs e p = last_end e (map (λ c. c.end) (filter (λ c. not (reach r bar p c.onset)) cs))
-
--- the parts from the place p on agree, with f chords carried to the first
-abbrev pub runs_at : ℕ → Measure → List Sounding → ℕ → ℕ → ℕ → List Part → Bool
-runs_at r bar cs e p f xs = runs (looks r) cs (end_before r bar cs e p) f (in_bar bar xs)
-
-in_bar-append : (bar : Measure) (xs ys : List Part) → in_bar bar (xs ++ ys) ≡ in_bar bar xs ++ in_bar bar ys
+pub in_bar-append : (bar : Measure) (xs ys : List Part) → in_bar bar (xs ++ ys) ≡ in_bar bar xs ++ in_bar bar ys
 in_bar-append bar xs ys = map-append (λ p. record { bar = bar; part = p }) xs ys
 
 by_place : (a b : Bool) → (b ≡ true → a ≡ true) → not b ≡ not a || (a && not b)
@@ -81,13 +74,6 @@ end_before-first r bar cs e rise =
     first u le = let nothing : 0 * bar.length ≡ 0 = grind arith in rw (le_from bar.start u le, le_from (0 * bar.length) ((u - bar.start) * r) (omega arith)) refl
 
 -- ---- what a table of intervals asks for
-
--- the parts from the place p on fit with the counts f and t
-pub record FitsAt (r : ℕ) (bar : Measure) (cs : List Sounding) (e p : ℕ) (xs : List Part) (f t : ℕ) : Type 0 where
-  pub runs : runs_at r bar cs e p f xs ≡ true
-  pub leave : leaving (looks r) cs f (in_bar bar xs) ≡ t
-  pub few_from : f ≤ 4
-  pub few_to : t ≤ 4
 
 few_between : (r : ℕ) (bar : Measure) (cs : List Sounding) (e p f t : ℕ) (xs : List Part) → runs_at r bar cs e p f xs ≡ true → leaving (looks r) cs f (in_bar bar xs) ≡ t → t ≤ 4 → f ≤ 4
 few_between r bar cs e p f t [] h k few = subst (λ n. n ≤ 4) (sym k) few

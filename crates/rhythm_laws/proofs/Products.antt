@@ -6,8 +6,8 @@ use Rattle.rhythm_base.specs.Ranked.{Entries, at, five, grid, Key, Keys, list_cm
 use Rattle.std.specs.Cmp.Lexicographic.{nat_list_cmp_total}
 use Rattle.std.proofs.lemmas.Cmp.{tied_itself}
 use Rattle.std.specs.declared.cmp.Ordering.TheVariants.{Equal}
-use Rattle.rhythm_laws.proofs.KeyOrders.{list_equal}
-use Rattle.rhythm_laws.proofs.Alike.{same, lists_cmp, AreAlike, AreApart, has_length, ranked_same, ranks_alike, via, via_alike}
+use Rattle.rhythm_laws.proofs.KeyOrders.{list_equal, long_parse}
+use Rattle.rhythm_laws.proofs.Alike.{same, lists_cmp, AreAlike, AreApart, parse, ranked_same, ranks_alike, via, via_alike}
 use Rattle.rhythm_laws.proofs.Picks.{middle_same, sums_via, times_via, pick_count}
 
 -- ---- five by five
@@ -43,8 +43,9 @@ one_of_table k a b la lb = ap key_of (sym (grid_at (λ a b. ranked (k a) (k a b)
 pub table_alike : (k : Keys) (a : ℕ) → a < 5 → AreAlike (k a) (one (table_of k) a)
 table_alike k a low = alike_to (k a) (λ b. key_of (ranked (k a) (k a b))) (one (table_of k) a) (λ b lb. one_of_table k a b low lb) (ranks_alike (k a))
 
-abbrev pub HaveLength : ℕ → Keys → Type 0
-HaveLength n k = (a b : ℕ) → a < 5 → b < 5 → has_length n (k a b)
+-- no list of a row is a proper beginning of another
+abbrev pub RowsParse : Keys → Type 0
+RowsParse k = (a b c : ℕ) → a < 5 → b < 5 → c < 5 → parse (k a b) (k a c)
 
 abbrev pub RowsApart : Keys → Type 0
 RowsApart k = (a : ℕ) → a < 5 → AreApart (k a)
@@ -64,32 +65,33 @@ table_apart k h a low b c lb lc x y ex ey e = go (k a b) (k a c) refl refl (tabl
         apart_by (Some u) None ep eq h1 h2 o = absurd h2
         apart_by (Some u) (Some v) ep eq h1 h2 o = h a low b c lb lc u v ep eq (list_equal u.1 v.1 o)
 
-one_length : (m : Entries) → HaveLength 1 (one m)
-one_length m a b la lb = go (at m a b)
+ranks_parse : (m : Entries) → RowsParse (one m)
+ranks_parse m a b c la lb lc = go (at m a b) (at m a c)
   where
-    go : (o : Option Best) → has_length 1 (key_of o)
-    go None = tt
-    go (Some e) = refl
+    go : (o u : Option Best) → parse (key_of o) (key_of u)
+    go None u = tt
+    go (Some e) None = tt
+    go (Some e) (Some f) = long_parse (e.rank ∷ []) (f.rank ∷ []) refl
 
 -- ---- the product of tables is the table of the product
 
-pub middle_is : (n : ℕ) (k l : Keys) → HaveLength n k → RowsApart k → (a b : ℕ) → a < 5 → b < 5
+pub middle_is : (k l : Keys) → RowsParse k → RowsApart k → (a b : ℕ) → a < 5 → b < 5
     → number_of (pick is_before (λ m. joined (k a m) (l m b)) 5) ≡ number_of (choice (table_of k) (table_of l) a b)
 unfolding choice
-middle_is n k l long apart a b la lb =
-    middle_same n (k a) l (λ m. at (table_of k) a m) (λ m b. at (table_of l) m b) (table_alike k a la) (λ m lm. table_alike l m lm) (λ m lm. long a m la lm) (table_apart k apart a la) b lb
+middle_is k l long apart a b la lb =
+    middle_same (k a) l (λ m. at (table_of k) a m) (λ m b. at (table_of l) m b) (table_alike k a la) (λ m lm. table_alike l m lm) (λ m m' lm lm'. long a m m' la lm lm') (table_apart k apart a la) b lb
 
-pub product_is : (n : ℕ) (k l : Keys) → HaveLength n k → RowsApart k → table_of (times k l) ≡ product_of (table_of k) (table_of l)
+pub product_is : (k l : Keys) → RowsParse k → RowsApart k → table_of (times k l) ≡ product_of (table_of k) (table_of l)
 unfolding product_of choice
-product_is n k l long apart = grid_same _ _ (λ a b la lb. ranked_same (times k l a) (λ b. sum_key (choice (table_of k) (table_of l) a b)) (rows a la) b lb)
+product_is k l long apart = grid_same _ _ (λ a b la lb. ranked_same (times k l a) (λ b. sum_key (choice (table_of k) (table_of l) a b)) (rows a la) b lb)
   where
     rows : (a : ℕ) → a < 5 → AreAlike (times k l a) (λ b. sum_key (choice (table_of k) (table_of l) a b))
     rows a la =
         let o : ℕ → Option ℕ = λ b. number_of (pick is_before (λ m. joined (k a m) (l m b)) 5) in
         let left : (λ b. via (k a) l b (o b)) ≡ times k l a = λ i b. sym (times_via k l a b) i in
         let ways : AreAlike (λ b. via (k a) l b (o b)) (λ b. via (one (table_of k) a) (one (table_of l)) b (o b))
-        = via_alike (k a) (one (table_of k) a) l (one (table_of l)) n 1 (table_alike k a la) (λ m lm. table_alike l m lm) (apart a la)
-        (λ m lm. long a m la lm) (λ m lm. one_length (table_of k) a m la lm) o (λ b low. pick_count is_before (λ m. joined (k a m) (l m b))) in
+        = via_alike (k a) (one (table_of k) a) l (one (table_of l)) (table_alike k a la) (λ m lm. table_alike l m lm) (apart a la)
+        (λ m m' lm lm'. long a m m' la lm lm') (λ m m' lm lm'. ranks_parse (table_of k) a m m' la lm lm') o (λ b low. pick_count is_before (λ m. joined (k a m) (l m b))) in
         let right : (b : ℕ) → b < 5 → via (one (table_of k) a) (one (table_of l)) b (o b) ≡ sum_key (choice (table_of k) (table_of l) a b)
-        = λ b low. ap (via (one (table_of k) a) (one (table_of l)) b) (middle_is n k l long apart a b la low) ∙ sym (sums_via (λ m. at (table_of k) a m) (λ m b. at (table_of l) m b) b) in
+        = λ b low. ap (via (one (table_of k) a) (one (table_of l)) b) (middle_is k l long apart a b la low) ∙ sym (sums_via (λ m. at (table_of k) a m) (λ m b. at (table_of l) m b) b) in
         alike_to (times k l a) _ _ right (subst (λ r. AreAlike r (λ b. via (one (table_of k) a) (one (table_of l)) b (o b))) left ways)

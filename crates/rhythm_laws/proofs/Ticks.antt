@@ -17,6 +17,7 @@ use Rattle.rhythm_base.specs.Trees.{Part, is_tree, are_trees, leaves_of}
 use Rattle.rhythm_base.specs.declared.rule.Rule.{Rule}
 use Rattle.rhythm_laws.specs.Runs.{IsStep, IsLine}
 use Rattle.rhythm_laws.specs.Voices.{Adjacent}
+pub use Rattle.rhythm_laws.specs.Places.{reach}
 
 -- ---- tests
 
@@ -61,9 +62,6 @@ zero_times : (n : ℕ) → 0 * n ≡ 0
 zero_times n = grind arith
 
 -- ---- a leaf is a step
-
-abbrev pub reach : ℕ → Measure → ℕ → ℕ → Bool
-reach r bar p t = nat_le bar.start t && nat_le (p * bar.length) ((t - bar.start) * r)
 
 inside_plain : (a c d e : Bool) → d ≡ not e → a && (c && d) ≡ (a && c) && not (a && e)
 inside_plain true true d e h = h

@@ -1,5 +1,5 @@
 -- The laws, each as one statement over the definitions.
-use Rattle.std.specs.Prelude.{◌≡◌, ℕ, ◌+◌, ◌*◌, ◌≤◌, ◌<◌, ◌↔◌, true, List, [], ◌∷◌, ◌++◌, length}
+use Rattle.std.specs.Prelude.{◌≡◌, ℕ, ◌+◌, ◌*◌, ◌≤◌, ◌<◌, ◌↔◌, true, List, [], ◌∷◌, ◌++◌, length, Option}
 use Rattle.rhythm_base.specs.declared.rule.Rule.{Rule}
 use Rattle.rhythm_base.specs.Cell.{Cell}
 use Rattle.rhythm_base.specs.Cells.{CellFits, last_end}
@@ -8,10 +8,11 @@ use Rattle.rhythm_base.specs.DeadBars.{IsDead}
 use Rattle.rhythm_base.specs.Forest.{Branch, none, more, preorder_of}
 use Rattle.rhythm_base.specs.Leaves.{FitsVoice, Measure, line_of}
 use Rattle.rhythm_base.specs.Line.{Sounding}
-use Rattle.rhythm_base.specs.Paths.{IsRanked, IsDeadCell}
-use Rattle.rhythm_base.specs.Ranked.{Entries, product_of, table}
+use Rattle.rhythm_base.specs.Outline.{Outline}
+use Rattle.rhythm_base.specs.Ranked.{Entries, Keys, product_of, table, table_of, times}
 use Rattle.rhythm_base.specs.Rulebook.{Rulebook}
 use Rattle.rhythm_base.specs.Trees.{are_trees}
+use Rattle.rhythm_laws.specs.Forests.{AreLeast, AreWide, Ground, IsGround, first_shape, other_shapes}
 use Rattle.rhythm_laws.specs.Passes.{HasPass}
 use Rattle.rhythm_laws.specs.Tables.{AllRanked}
 use Rattle.rhythm_laws.specs.VersionOne.{displaced}
@@ -53,3 +54,12 @@ abbrev pub OneWeightIsAsBefore : Type 0
 OneWeightIsAsBefore =
     (g : Rulebook) (bars : List Measure) (cs : List Sounding) (ts : List Branch) (onset : ℕ) → g.early ≡ onset → g.late ≡ onset
     → cost g bars cs ts ≡ weights g (sequence_of ts) + onset * displaced g.resolution (line_of g bars ts) cs
+
+-- The least of trees side by side, for each number of chords carried in and out, are the least of the first tree and of the
+-- others, with the count between them that gives the least; and their costs and ranks are the product of those of the first
+-- and of the others. So rule lists are never compared: the ranks of one row stand for them.
+pub record LeastForestsAreOfTheLeast : Type 0 where
+  pub least : (d : Ground) (p : ℕ) (q : ℕ × ℕ) (qs : List (ℕ × ℕ)) (s : Option Outline) (first others : Keys) → IsGround d → AreWide (q ∷ qs)
+      → AreLeast d (first_shape s) p (q ∷ []) first → AreLeast d (other_shapes s) (p + q.0) qs others → AreLeast d s p (q ∷ qs) (times first others)
+  pub tables : (d : Ground) (p : ℕ) (q : ℕ × ℕ) (s : Option Outline) (first others : Keys)
+      → AreLeast d (first_shape s) p (q ∷ []) first → table_of (times first others) ≡ product_of (table_of first) (table_of others)

@@ -2,6 +2,7 @@ ghost use Rattle.rhythm_laws.specs.Laws.{
   BarsAreLocal,
   CountsAreOne,
   DeadBarsAreByCounts,
+  LeastForestsAreOfTheLeast,
   ListsAreNoPrefixes,
   OneWeightIsAsBefore,
   TablesMultiply,
@@ -36,4 +37,9 @@ pub fn tables_multiply()
 /// A grammar of one onset weight means what it meant before grammars could have two.
 pub fn one_weight_is_as_before()
     ensures { OneWeightIsAsBefore }
+{}
+
+/// The least trees side by side are made of the least trees, and ranks stand for rule lists.
+pub fn least_forests_are_of_the_least()
+    ensures { LeastForestsAreOfTheLeast }
 {}

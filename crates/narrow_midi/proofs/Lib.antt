@@ -1,0 +1,3 @@
+pub mod SevenBits
+pub mod NotesFollow
+pub mod InBar

@@ -1,0 +1,12 @@
+use Rattle.rhythm_laws.proofs.ForestLemmas.{beside-least, beside-table, least-rows_apart, least-rows_parse}
+use Rattle.rhythm_laws.proofs.Products.{product_is}
+use Rattle.rhythm_base.specs.Forest.{Forest}
+use Rattle.std.proofs.Common.{[], ◌∷◌}
+use Rattle.rhythm_laws.specs.Forests.{first_shape}
+use Rattle.rhythm_laws.proofs.laws.least_forests_are_of_the_least.Goals as goal
+
+pub returns : goal.returns
+returns c = record {
+  least = λ d p q qs s first others ground wide f o. beside-least d ground p q qs wide s first others f o;
+  tables = λ d p q s first others f. product_is first others (least-rows_parse d (first_shape s) p (q ∷ []) first f) (least-rows_apart d (first_shape s) p (q ∷ []) first f);
+}
