@@ -1,5 +1,5 @@
 -- Forests: their costs add up, their lists parse, and the least of trees side by side are made of the least.
-use Rattle.std.proofs.Common.{◌≡◌, ◌≢◌, ◌==◌, ℕ, zero, suc, ◌+◌, ◌*◌, ◌≤◌, ◌<◌, Bool, true, false, not, ◌&&◌, List, [], ◌∷◌, ◌++◌, refl, sym, ap, ap₂, ◌∙◌, subst, arith, append-nil, append_assoc}
+use Rattle.std.proofs.Common.{◌≡◌, ◌≢◌, ◌==◌, ℕ, ◌+◌, ◌≤◌, ◌<◌, Bool, true, false, not, ◌&&◌, List, [], ◌∷◌, ◌++◌, refl, sym, ap, ◌∙◌, subst, arith, append-nil, append_assoc}
 use Rattle.std.specs.Prelude.{Option, Some, None, slice_get, if◌then◌else◌}
 use Rattle.std.proofs.lemmas.List.Sums.{sum_by-append, sum_by-cons}
 use Rattle.rhythm_base.specs.Cost.{charge, charge_in, charges, weight_of, weights}
@@ -8,10 +8,10 @@ use Rattle.rhythm_base.specs.Leaves.{Leaf, in_bar, lies_in, looks}
 use Rattle.rhythm_base.specs.Line.{Sounding}
 use Rattle.rhythm_base.specs.Outline.{Outline, end, part}
 use Rattle.std.proofs.lemmas.Bool.Decides.{nat_tests}
-use Rattle.rhythm_base.specs.Ranked.{Entries, Key, Keys, is_before, joined, plus, product_of, table_of, times}
+use Rattle.rhythm_base.specs.Ranked.{Key, Keys, is_before, joined, plus, product_of, table_of, times}
 use Rattle.rhythm_base.specs.Rulebook.{Rulebook}
-use Rattle.rhythm_base.specs.Trees.{Part, are_shaped, are_trees, children_of, leaves, leaves_at, sizes, suits}
-use Rattle.rhythm_laws.specs.Forests.{AreWide, Ground, IsForestKey, IsGround, Stands, first_shape, forest_cost, has_shapes, other_shapes}
+use Rattle.rhythm_base.specs.Trees.{are_shaped, are_trees, children_of, leaves, leaves_at, sizes, suits}
+use Rattle.rhythm_laws.specs.Forests.{AreWide, Ground, IsForestKey, IsGround, first_shape, forest_cost, has_shapes, other_shapes}
 use Rattle.rhythm_laws.specs.Places.{FitsAt, reach}
 use Rattle.rhythm_laws.specs.Runs.{IsLine}
 use Rattle.rhythm_laws.proofs.Alike.{parse}
@@ -22,7 +22,7 @@ use Rattle.rhythm_laws.proofs.Parsing.{one_parse}
 use Rattle.rhythm_laws.proofs.Places.{trees-join, trees-split, in_bar-append}
 use Rattle.rhythm_laws.proofs.Products.{RowsApart, RowsParse, product_is}
 use Rattle.rhythm_laws.proofs.Ranks.{both, preorders-cmp}
-use Rattle.rhythm_laws.proofs.Reading.{no_left, reaches}
+use Rattle.rhythm_laws.proofs.Reading.{reaches}
 use Rattle.rhythm_laws.proofs.Ticks.{parts-line}
 
 -- ---- costs add up

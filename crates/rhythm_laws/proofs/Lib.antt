@@ -18,3 +18,4 @@ pub mod ProductCosts
 pub mod Ranks
 pub mod Parsing
 pub mod ForestLemmas
+pub mod Attachments

@@ -7,7 +7,7 @@ use Rattle.rhythm_laws.proofs.Reading.{and_left, and_right}
 use Rattle.rhythm_laws.proofs.Cells.{input-cell, one_pair}
 use Rattle.rhythm_laws.proofs.Local.{fits-cells, cells-fit}
 use Rattle.rhythm_laws.proofs.Costs.{cost-cells}
-use Rattle.rhythm_base.specs.Cells.{last_end, CellFits, input}
+use Rattle.rhythm_base.specs.Cells.{last_end, input}
 use Rattle.rhythm_base.specs.Cost.{cost}
 use Rattle.rhythm_base.specs.DeadBars.{heard, end_of, HasRun, IsDead}
 use Rattle.rhythm_base.specs.Leaves.{Measure, Fits}

@@ -1,5 +1,5 @@
 -- Rule lists parse in one way: trees over the same widths and symbols whose lists begin alike, whatever stands behind, are the same.
-use Rattle.std.proofs.Common.{◌≡◌, ℕ, true, ◌&&◌, List, [], ◌∷◌, ◌++◌, refl, sym, ap, ap₂, ◌∙◌, subst, append_assoc, append-nil}
+use Rattle.std.proofs.Common.{◌≡◌, ℕ, true, List, [], ◌∷◌, ◌++◌, refl, sym, ap, ◌∙◌, subst, append_assoc, append-nil}
 use Rattle.std.specs.Prelude.{slice_get}
 use Rattle.rhythm_base.specs.declared.rule.Rule.{Rule}
 use Rattle.rhythm_base.specs.Forest.{Forest, none, more, Branch, preorder, preorder_of}

@@ -4,7 +4,7 @@ use Rattle.std.specs.Prelude.{nat_lt, nat_le, Option}
 use Rattle.std.proofs.Math.Nat.{mul-le-mul_right}
 use Rattle.std.proofs.lemmas.Bool.Decides.{nat_tests}
 use Rattle.rhythm_base.specs.Outline.{Outline}
-use Rattle.rhythm_base.specs.Forest.{Forest, none, more, Branch}
+use Rattle.rhythm_base.specs.Forest.{none, more, Branch}
 use Rattle.rhythm_laws.proofs.Lists.{map_twice}
 use Rattle.rhythm_laws.proofs.Reading.{and_left, and_right}
 use Rattle.rhythm_laws.proofs.Runs.{IsLine-append, IsLike, AreLike}

@@ -1,13 +1,13 @@
 -- The laws, each as one statement over the definitions.
-use Rattle.std.specs.Prelude.{◌≡◌, ℕ, ◌+◌, ◌*◌, ◌≤◌, ◌<◌, ◌↔◌, true, List, [], ◌∷◌, ◌++◌, length, Option}
+use Rattle.std.specs.Prelude.{◌≡◌, ℕ, ◌+◌, ◌*◌, ◌≤◌, ◌<◌, ◌↔◌, true, List, [], ◌∷◌, ◌++◌, filter, length, Option}
 use Rattle.rhythm_base.specs.declared.rule.Rule.{Rule}
 use Rattle.rhythm_base.specs.Cell.{Cell}
 use Rattle.rhythm_base.specs.Cells.{CellFits, last_end}
-use Rattle.rhythm_base.specs.Cost.{charges, cost, sequence_of, weights}
-use Rattle.rhythm_base.specs.DeadBars.{IsDead}
+use Rattle.rhythm_base.specs.Cost.{cost, sequence_of, weights}
+use Rattle.rhythm_base.specs.DeadBars.{IsDead, end_of}
 use Rattle.rhythm_base.specs.Forest.{Branch, none, more, preorder_of}
-use Rattle.rhythm_base.specs.Leaves.{FitsVoice, Measure, line_of}
-use Rattle.rhythm_base.specs.Line.{Sounding}
+use Rattle.rhythm_base.specs.Leaves.{FitsVoice, Measure, are_bars, lies_in, line_of, looks}
+use Rattle.rhythm_base.specs.Line.{Sounding, seat}
 use Rattle.rhythm_base.specs.Outline.{Outline}
 use Rattle.rhythm_base.specs.Ranked.{Entries, Keys, product_of, table, table_of, times}
 use Rattle.rhythm_base.specs.Rulebook.{Rulebook}
@@ -16,7 +16,7 @@ use Rattle.rhythm_laws.specs.Forests.{AreLeast, AreWide, Ground, IsGround, first
 use Rattle.rhythm_laws.specs.Passes.{HasPass}
 use Rattle.rhythm_laws.specs.Tables.{AllRanked}
 use Rattle.rhythm_laws.specs.VersionOne.{displaced}
-use Rattle.rhythm_laws.specs.Voices.{AreCounts, HoldsChords, IsVoice, cell_costs}
+use Rattle.rhythm_laws.specs.Voices.{Adjacent, AreCounts, HoldsChords, IsVoice, cell_costs}
 
 -- A derivation of a voice fits exactly where there are counts at the barlines, 0 at both ends, with which each tree fits its
 -- bar; its cost is then the sum of the costs of the bars.
@@ -25,6 +25,13 @@ pub record BarsAreLocal : Type 0 where
       → FitsVoice g bars cs ts ↔ ((ms : List ℕ) × AreCounts g cs bars ts (0 ∷ ms) × (last_end 0 ms ≡ 0))
   pub costs : (g : Rulebook) (bars : List Measure) (cs : List Sounding) (ts : List Branch) → IsVoice g bars cs
       → FitsVoice g bars cs ts → cost g bars cs ts ≡ cell_costs g cs bars ts
+
+-- in a voice without gaps every onset before its end lies in exactly one leaf, and a later onset is attached to no earlier one
+pub record OnsetsAreAttached : Type 0 where
+  pub one_leaf : (g : Rulebook) (bars : List Measure) (ts : List Branch) (t : ℕ) → 1 ≤ g.resolution → Adjacent 0 bars (end_of 0 bars) → are_bars g bars ts ≡ true
+      → t < end_of 0 bars → length (filter (λ x. lies_in g.resolution x t) (line_of g bars ts)) ≡ 1
+  pub in_order : (g : Rulebook) (bars : List Measure) (ts : List Branch) (t u : ℕ) → 1 ≤ g.resolution → Adjacent 0 bars (end_of 0 bars) → are_bars g bars ts ≡ true
+      → t ≤ u → seat (looks g.resolution) (line_of g bars ts) t ≤ seat (looks g.resolution) (line_of g bars ts) u
 
 -- a tree fits a cell with at most one pair of counts
 abbrev pub CountsAreOne : Type 0

@@ -4,6 +4,7 @@ ghost use Rattle.rhythm_laws.specs.Laws.{
   DeadBarsAreByCounts,
   LeastForestsAreOfTheLeast,
   ListsAreNoPrefixes,
+  OnsetsAreAttached,
   OneWeightIsAsBefore,
   TablesMultiply,
 };
@@ -12,6 +13,11 @@ ghost use Rattle.rhythm_laws.specs.Laws.{
 /// So an edit touches only the bars whose inputs it changes.
 pub fn bars_are_local()
     ensures { BarsAreLocal }
+{}
+
+/// Every onset of a voice lies in exactly one leaf, and attachment keeps the order of onsets.
+pub fn onsets_are_attached()
+    ensures { OnsetsAreAttached }
 {}
 
 /// A tree fits a cell with at most one pair of counts.

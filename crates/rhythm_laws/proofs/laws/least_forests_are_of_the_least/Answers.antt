@@ -1,6 +1,5 @@
-use Rattle.rhythm_laws.proofs.ForestLemmas.{beside-least, beside-table, least-rows_apart, least-rows_parse}
+use Rattle.rhythm_laws.proofs.ForestLemmas.{beside-least, least-rows_apart, least-rows_parse}
 use Rattle.rhythm_laws.proofs.Products.{product_is}
-use Rattle.rhythm_base.specs.Forest.{Forest}
 use Rattle.std.proofs.Common.{[], ◌∷◌}
 use Rattle.rhythm_laws.specs.Forests.{first_shape}
 use Rattle.rhythm_laws.proofs.laws.least_forests_are_of_the_least.Goals as goal

@@ -1,0 +1,9 @@
+pub mod Deaths
+pub mod Descents
+pub mod Growth
+pub mod Pushes
+pub mod Renewals
+pub mod Shortenings
+pub mod Sides
+pub mod Towers
+pub mod Voices

@@ -1,0 +1,34 @@
+-- One cell more behind the last.
+use Rattle.std.proofs.Common.{◌≡◌, ℕ, ◌+◌, ◌<◌, List, [], ◌∷◌, ◌++◌, length, sym, subst, ◌∙◌, arith}
+use Rattle.std.proofs.lemmas.List.{length_push}
+use Rattle.rhythm_base.specs.Paths.{IsRanked}
+use Rattle.rhythm_base.specs.Ranked.{Entries}
+use Rattle.chain_bars.specs.Tower.{IsCheap, AreCheap, AreRanked, AreCells, IsTower, level}
+
+ranked_push : (es : List Entries) (e : Entries) → AreRanked es → IsRanked e → AreRanked (es ++ e ∷ [])
+ranked_push [] e h r = (r, tt)
+ranked_push (x ∷ es) e h r = (h.0, ranked_push es e h.1 r)
+
+cheap_push : (c : ℕ) (es : List Entries) (e : Entries) → AreCheap c es → IsCheap c e → AreCheap c (es ++ e ∷ [])
+cheap_push c [] e h r = (r, tt)
+cheap_push c (x ∷ es) e h r = (h.0, cheap_push c es e h.1 r)
+
+pub cells_push : (es : List Entries) (e : Entries) → AreCells es → length es < 4096 → IsRanked e → IsCheap 500000000000 e → AreCells (es ++ e ∷ [])
+cells_push es e h low r c =
+    let long : length (es ++ e ∷ []) ≡ length es + 1 = length_push es e in
+    record {
+      few = omega (arith, long, low);
+      some = omega (arith, long);
+      ranked = ranked_push es e h.ranked r;
+      cheap = cheap_push 500000000000 es e h.cheap c;
+    }
+
+pub record Grown (es : List Entries) (ls : List (List Entries)) : Type 0 where
+  pub cells : level ls 0 ≡ es
+  pub sound : AreCells (level ls 0)
+  pub tower : IsTower (level ls 0) ls
+
+pub grown_end : (es first : List Entries) (ls : List (List Entries)) → AreCells es → first ≡ es → IsTower first ls → Grown es ls
+grown_end es first ls h e t =
+    let here : level ls 0 ≡ es = t.each 0 t.some ∙ e in
+    record { cells = here; sound = subst AreCells (sym here) h; tower = subst (λ l. IsTower l ls) (sym (t.each 0 t.some)) t }

@@ -1,0 +1,242 @@
+-- What holds of levels of partial products.
+use Rattle.std.proofs.Common.{◌≡◌, ℕ, zero, suc, ◌+◌, ◌*◌, ◌^◌, ◌-◌, ◌/◌, ◌<◌, ◌≤◌, List, [], ◌∷◌, inl, inr, length, refl, sym, subst, ap, ◌∙◌, arith}
+use Rattle.std.specs.Prelude.{Option, Some, None, slice_index_or, slice_set, drop}
+use Rattle.rhythm_base.specs.Ranked.{Entries, at, Key, ranked, keys, table, product_of}
+use Rattle.rhythm_base.specs.Paths.{IsRanked}
+use Rattle.rhythm_laws.proofs.Products.{grid_at}
+use Rattle.rhythm_laws.proofs.ProductCosts.{product_cost}
+use Rattle.std.proofs.lemmas.Bool.{cases_lt}
+use Rattle.std.proofs.Math.Nat.{pow-suc}
+use Rattle.rhythm_laws.proofs.PathTables.{table_append, table_single, two, product_ranked}
+use Rattle.chain_bars.specs.Tower.{paired, node_at, raised, IsCheap, AreCheap, AreRanked, IsTower, AreCells, cost_of, best_cost}
+use Rattle.rhythm_laws.specs.Tables.{AllRanked}
+
+-- ---- one level above another
+
+pub paired_at : (es : List Entries) (k : ℕ) → slice_index_or (paired es) k [] ≡ node_at es k
+paired_at [] k = refl
+paired_at (x ∷ []) zero = refl
+paired_at (x ∷ []) (suc k) = refl
+paired_at (x ∷ y ∷ es) zero = refl
+paired_at (x ∷ y ∷ es) (suc k) = paired_at es k
+
+abbrev pub half : ℕ → ℕ
+half zero = zero
+half (suc zero) = zero
+half (suc (suc n)) = suc (half n)
+
+pub half_is : (n : ℕ) → n / 2 ≡ half n
+half_is zero = refl
+half_is (suc zero) = refl
+half_is (suc (suc n)) =
+    let before : n / 2 ≡ half n = half_is n in
+    omega (arith, before)
+
+pub paired_set : (es : List Entries) (n : ℕ) (c : Entries) → n < length es → paired (slice_set es n c) ≡ slice_set (paired es) (half n) (node_at (slice_set es n c) (half n))
+paired_set [] n c h = absurd (omega arith)
+paired_set (x ∷ []) zero c h = refl
+paired_set (x ∷ []) (suc n) c h = absurd (omega arith)
+paired_set (x ∷ y ∷ es) zero c h = refl
+paired_set (x ∷ y ∷ es) (suc zero) c h = refl
+paired_set (x ∷ y ∷ es) (suc (suc n)) c h = ap (λ l. product_of x y ∷ l) (paired_set es n c (omega arith))
+
+pub paired_length : (es : List Entries) → (length es ≤ 2 * length (paired es)) × (2 * length (paired es) ≤ length es + 1)
+paired_length [] = (omega arith, omega arith)
+paired_length (x ∷ []) = (omega arith, omega arith)
+paired_length (x ∷ y ∷ es) =
+    let before = paired_length es in
+    (omega (arith, before.0), omega (arith, before.1))
+
+double : (k : ℕ) → 2 * suc k ≡ suc (suc (2 * k))
+double k = omega arith
+
+pub node_two : (es : List Entries) (k n m : ℕ) → n ≡ 2 * k → m ≡ 2 * k + 1 → m < length es → node_at es k ≡ product_of (slice_index_or es n []) (slice_index_or es m [])
+node_two [] k n m e f h = absurd (omega arith)
+node_two (x ∷ []) k n m e f h = absurd (omega arith)
+node_two (x ∷ y ∷ es) zero zero (suc zero) e f h = refl
+node_two (x ∷ y ∷ es) zero zero zero e f h = absurd (omega arith)
+node_two (x ∷ y ∷ es) zero zero (suc (suc m)) e f h = absurd (omega arith)
+node_two (x ∷ y ∷ es) zero (suc n) m e f h = absurd (omega arith)
+node_two (x ∷ y ∷ es) (suc k) (suc (suc n)) (suc (suc m)) e f h = node_two es k n m (omega arith) (omega arith) (omega arith)
+node_two (x ∷ y ∷ es) (suc k) zero m e f h = absurd (omega arith)
+node_two (x ∷ y ∷ es) (suc k) (suc zero) m e f h = absurd (omega arith)
+node_two (x ∷ y ∷ es) (suc k) (suc (suc n)) zero e f h = absurd (omega arith)
+node_two (x ∷ y ∷ es) (suc k) (suc (suc n)) (suc zero) e f h = absurd (omega arith)
+
+pub node_one : (es : List Entries) (k n : ℕ) → n ≡ 2 * k → n + 1 ≡ length es → node_at es k ≡ slice_index_or es n []
+node_one [] k n e h = absurd (omega arith)
+node_one (x ∷ []) zero zero e h = refl
+node_one (x ∷ []) zero (suc n) e h = absurd (omega arith)
+node_one (x ∷ []) (suc k) zero e h = absurd (omega arith)
+node_one (x ∷ []) (suc k) (suc n) e h = absurd (omega arith)
+node_one (x ∷ y ∷ es) zero n e h = absurd (omega arith)
+node_one (x ∷ y ∷ es) (suc k) zero e h = absurd (omega arith)
+node_one (x ∷ y ∷ es) (suc k) (suc zero) e h = absurd (omega arith)
+node_one (x ∷ y ∷ es) (suc k) (suc (suc n)) e h = node_one es k n (omega arith) (omega arith)
+
+-- a loop's step: what is above the rest
+pub paired_rest : (es : List Entries) (k n : ℕ) → n ≡ 2 * k → n < length es → paired (drop n es) ≡ node_at es k ∷ paired (drop (suc (suc n)) es)
+paired_rest [] k n e h = absurd (omega arith)
+paired_rest (x ∷ []) zero zero e h = refl
+paired_rest (x ∷ []) zero (suc n) e h = absurd (omega arith)
+paired_rest (x ∷ []) (suc k) zero e h = absurd (omega arith)
+paired_rest (x ∷ []) (suc k) (suc n) e h = absurd (omega arith)
+paired_rest (x ∷ y ∷ es) zero zero e h = refl
+paired_rest (x ∷ y ∷ es) zero (suc n) e h = absurd (omega arith)
+paired_rest (x ∷ y ∷ es) (suc k) zero e h = absurd (omega arith)
+paired_rest (x ∷ y ∷ es) (suc k) (suc zero) e h = absurd (omega arith)
+paired_rest (x ∷ y ∷ es) (suc k) (suc (suc n)) e h = paired_rest es k n (omega arith) (omega arith)
+
+-- ---- ranks and tables
+
+pub to_all : (es : List Entries) → AreRanked es → AllRanked es
+to_all [] h = tt
+to_all (x ∷ es) h = (h.0, to_all es h.1)
+
+pub paired_ranked : (es : List Entries) → AreRanked es → AreRanked (paired es)
+paired_ranked [] h = tt
+paired_ranked (x ∷ []) h = h
+paired_ranked (x ∷ y ∷ es) h = (product_ranked x y h.0 h.1.0, paired_ranked es h.1.1)
+
+pub table_paired : (es : List Entries) → AreRanked es → table (paired es) ≡ table es
+table_paired [] h = refl
+table_paired (x ∷ []) h = refl
+table_paired (x ∷ y ∷ es) h =
+    let p : IsRanked (product_of x y) = product_ranked x y h.0 h.1.0 in
+    table_append (product_of x y ∷ []) (paired es) (p, tt)
+    ∙ (λ i. product_of ((table_single (product_of x y) p ∙ sym (two x y h.0 h.1.0)) i) (table_paired es h.1.1 i))
+    ∙ sym (table_append (x ∷ y ∷ []) es (h.0, (h.1.0, tt)))
+
+pub raised_ranked : (es : List Entries) (k : ℕ) → AreRanked es → AreRanked (raised es k)
+raised_ranked es zero h = h
+raised_ranked es (suc k) h = paired_ranked (raised es k) (raised_ranked es k h)
+
+pub table_raised : (es : List Entries) (k : ℕ) → AreRanked es → table (raised es k) ≡ table es
+table_raised es zero h = refl
+table_raised es (suc k) h = table_paired (raised es k) (raised_ranked es k h) ∙ table_raised es k h
+
+-- ---- lengths
+
+abbrev pub times_two : ℕ → ℕ → ℕ
+times_two zero e = e
+times_two (suc k) e = times_two k (2 * e)
+
+pub times_two_is : (k e : ℕ) → times_two k e ≡ 2 ^ k * e
+times_two_is zero e = grind arith
+times_two_is (suc k) e =
+    let before : times_two k (2 * e) ≡ 2 ^ k * (2 * e) = times_two_is k (2 * e) in
+    let moved : 2 ^ k * (2 * e) ≡ 2 ^ k * 2 * e = grind arith in
+    before ∙ moved ∙ ap (λ n. n * e) (sym (pow-suc 2 k))
+
+pub raised_few : (es : List Entries) (k e : ℕ) → length es ≤ times_two k e → length (raised es k) ≤ e
+raised_few es zero e h = h
+raised_few es (suc k) e h =
+    let before : length (raised es k) ≤ 2 * e = raised_few es k (2 * e) h in
+    let pairs = paired_length (raised es k) in
+    omega (arith, before, pairs.1)
+
+raised_short : (es : List Entries) (k j : ℕ) → k ≡ j + 12 → length es ≤ 4096 → length (raised es k) ≤ 1
+raised_short es k zero e h = subst (λ n. length (raised es n) ≤ 1) (sym e) (raised_few es 12 1 h)
+raised_short es zero (suc j) e h = absurd (omega arith)
+raised_short es (suc k) (suc j) e h =
+    let before : length (raised es k) ≤ 1 = raised_short es k j (omega arith) h in
+    let pairs = paired_length (raised es k) in
+    omega (arith, before, pairs.1)
+
+pub raised_low : (es : List Entries) (k : ℕ) → length es ≤ 4096 → 2 ≤ length (raised es k) → k < 12
+raised_low es k h g = elim (cases_lt k 12) [
+  | inl low ↦ low
+  | inr high ↦ let short = raised_short es k (k - 12) (omega arith) h in absurd (omega (arith, short))
+]
+
+pub raised_some : (es : List Entries) (k : ℕ) → 1 ≤ length es → 1 ≤ length (raised es k)
+raised_some es zero h = h
+raised_some es (suc k) h =
+    let before : 1 ≤ length (raised es k) = raised_some es k h in
+    let pairs = paired_length (raised es k) in
+    omega (arith, before, pairs.0)
+
+-- ---- costs
+
+pub product_cheap : (c : ℕ) (a b : Entries) → IsCheap c a → IsCheap c b → IsCheap (2 * c) (product_of a b)
+product_cheap c a b ha hb i j e s =
+    let q = product_cost a b i j e s in
+    let left : q.1.cost ≤ c = ha i q.0 q.1 q.3 in
+    let right : q.2.cost ≤ c = hb q.0 j q.2 q.4 in
+    omega (arith, q.5, left, right)
+
+pub paired_cheap : (c : ℕ) (es : List Entries) → AreCheap c es → AreCheap (2 * c) (paired es)
+paired_cheap c [] h = tt
+paired_cheap c (x ∷ []) h = ((λ i j e s. let low = h.0 i j e s in omega (arith, low)), tt)
+paired_cheap c (x ∷ y ∷ es) h = (product_cheap c x y h.0 h.1.0, paired_cheap c es h.1.1)
+
+abbrev pub doubled : ℕ → ℕ → ℕ
+doubled zero c = c
+doubled (suc k) c = 2 * doubled k c
+
+pub raised_cheap : (c : ℕ) (es : List Entries) (k : ℕ) → AreCheap c es → AreCheap (doubled k c) (raised es k)
+raised_cheap c es zero h = h
+raised_cheap c es (suc k) h = paired_cheap (doubled k c) (raised es k) (raised_cheap c es k h)
+
+pub cheap_at : (c : ℕ) (es : List Entries) (k : ℕ) → AreCheap c es → IsCheap c (slice_index_or es k [])
+cheap_at c [] k h = λ i j e s. absurd (cc)
+cheap_at c (x ∷ es) zero h = h.0
+cheap_at c (x ∷ es) (suc k) h = cheap_at c es k h.1
+
+pub cheap_more : (c d : ℕ) (es : List Entries) → c ≤ d → AreCheap c es → AreCheap d es
+cheap_more c d [] l h = tt
+cheap_more c d (x ∷ es) l h = ((λ i j e s. let low = h.0 i j e s in omega (arith, low)), cheap_more c d es l h.1)
+
+pub doubled_low : (k : ℕ) → k < 12 → doubled k 500000000000 ≤ 2 ^ 61 - 1
+doubled_low zero h = omega arith
+doubled_low (suc zero) h = omega arith
+doubled_low (suc (suc zero)) h = omega arith
+doubled_low (suc (suc (suc zero))) h = omega arith
+doubled_low (suc (suc (suc (suc zero)))) h = omega arith
+doubled_low (suc (suc (suc (suc (suc zero))))) h = omega arith
+doubled_low (suc (suc (suc (suc (suc (suc zero)))))) h = omega arith
+doubled_low (suc (suc (suc (suc (suc (suc (suc zero))))))) h = omega arith
+doubled_low (suc (suc (suc (suc (suc (suc (suc (suc zero)))))))) h = omega arith
+doubled_low (suc (suc (suc (suc (suc (suc (suc (suc (suc zero))))))))) h = omega arith
+doubled_low (suc (suc (suc (suc (suc (suc (suc (suc (suc (suc zero)))))))))) h = omega arith
+doubled_low (suc (suc (suc (suc (suc (suc (suc (suc (suc (suc (suc zero))))))))))) h = omega arith
+doubled_low (suc (suc (suc (suc (suc (suc (suc (suc (suc (suc (suc (suc k)))))))))))) h = absurd (omega arith)
+
+-- two of a level that has two may be added
+pub level_cheap : (es : List Entries) (k : ℕ) → AreCells es → 2 ≤ length (raised es k) → AreCheap (2 ^ 61 - 1) (raised es k)
+level_cheap es k h g = cheap_more (doubled k 500000000000) (2 ^ 61 - 1) (raised es k) (doubled_low k (raised_low es k h.few g)) (raised_cheap 500000000000 es k h.cheap)
+
+-- ---- the root
+
+cost_ranked : (row : ℕ → Option Key) (o : Option Key) → best_cost (ranked row o) ≡ cost_of o
+cost_ranked row None = refl
+cost_ranked row (Some k) = refl
+
+pub table_cost : (es : List Entries) (a b : ℕ) → a < 5 → b < 5 → best_cost (at (table es) a b) ≡ cost_of (keys es a b)
+unfolding table
+table_cost es a b la lb = ap best_cost (grid_at (λ c d. ranked (keys es c) (keys es c d)) a b la lb) ∙ cost_ranked (keys es a) (keys es a b)
+
+pub root_cost : (es : List Entries) (k : ℕ) (r : Entries) → AreRanked es → raised es k ≡ r ∷ [] → best_cost (at r 0 0) ≡ cost_of (keys es 0 0)
+root_cost es k r h e =
+    let one_ranked : IsRanked r = (subst AreRanked e (raised_ranked es k h)).0 in
+    let same : r ≡ table es = sym (table_single r one_ranked) ∙ sym (ap table e) ∙ table_raised es k h in
+    ap (λ m. best_cost (at m 0 0)) same ∙ table_cost es 0 0 (omega arith) (omega arith)
+
+-- ---- one cell is set anew
+
+pub raised_set : (es fs : List Entries) (k n : ℕ) (x : Entries) → raised fs k ≡ slice_set (raised es k) n x → n < length (raised es k)
+    → raised fs (suc k) ≡ slice_set (raised es (suc k)) (half n) (node_at (raised fs k) (half n))
+raised_set es fs k n x e h =
+    ap paired e ∙ paired_set (raised es k) n x h
+    ∙ ap (λ l. slice_set (paired (raised es k)) (half n) (node_at l (half n))) (sym e)
+
+-- at most d levels stand above at most 2 ^ d cells
+pub tower_low : (es : List Entries) (ls : List (List Entries)) (d : ℕ) → IsTower es ls → length es ≤ 2 ^ d → length ls ≤ d + 1
+tower_low es ls d h few = elim (cases_lt (d + 1) (length ls)) [
+  | inr low ↦ omega (arith, low)
+  | inl high ↦
+      let all : times_two d 1 ≡ 2 ^ d = times_two_is d 1 ∙ grind arith in
+      let short : length (raised es d) ≤ 1 = raised_few es d 1 (subst (λ n. length es ≤ n) (sym all) few) in
+      let long : 2 ≤ length (raised es d) = h.long d high in
+      absurd (omega (arith, short, long))
+]

@@ -1,0 +1,4 @@
+pub mod Laws
+pub mod Reaches
+pub mod Tower
+pub mod Walks

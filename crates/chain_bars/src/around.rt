@@ -1,0 +1,137 @@
+ghost use Rattle.chain_bars.specs.Tower.{AreCells, AreCheap, IsCheap, IsTower, best_cost, cost_of, level};
+ghost use Rattle.carry_matrix.specs.LowSums.{HaveLowSums};
+ghost use Rattle.rhythm_base.specs.Counter.{risen};
+ghost use Rattle.rhythm_base.specs.Ranked.{at, five, keys, product_of};
+ghost use Rattle.std.specs.Prelude.{
+  ◌≡◌,
+  ◌+◌,
+  ◌*◌,
+  ◌/◌,
+  ◌-◌,
+  ◌<◌,
+  ◌≤◌,
+  ◌^◌,
+  ◌≢◌,
+  ℕ,
+  [],
+  drop,
+  length,
+  slice_index_or,
+  take,
+};
+
+use crate::levels::Level;
+use carry_matrix::{CarryMatrix, Steps, product};
+use rhythm_base::{Best, Tag};
+
+/// The least costs of the cells round one of them, each by a number of chords, 0 to 4; none where there is no path.
+#[derive(Clone, Copy, Debug, PartialEq, Eq)]
+pub struct Around {
+    /// Of the cells before it, by the number carried into it.
+    pub before: [Option<u64>; 5],
+    /// Of the cells behind it, by the number carried out of it.
+    pub after: [Option<u64>; 5],
+}
+
+fn cost_at(entry: Option<Best>) -> Option<u64>
+    ensures { result ≡ best_cost entry }
+{
+    match entry {
+        Some(best) => Some(best.cost),
+        None => None,
+    }
+}
+
+/// The costs of what begins with nothing carried, by the number carried out.
+fn costs_from_none(matrix: &CarryMatrix) -> [Option<u64>; 5]
+    ensures { result ≡ five (λ to. best_cost (at matrix.now 0 to)) }
+{
+    let first = cost_at(matrix.get(0, 0));
+    let second = cost_at(matrix.get(0, 1));
+    let third = cost_at(matrix.get(0, 2));
+    let fourth = cost_at(matrix.get(0, 3));
+    let fifth = cost_at(matrix.get(0, 4));
+    [first, second, third, fourth, fifth]
+}
+
+/// The costs of what ends with nothing carried, by the number carried in.
+fn costs_to_none(matrix: &CarryMatrix) -> [Option<u64>; 5]
+    ensures { result ≡ five (λ from. best_cost (at matrix.now from 0)) }
+{
+    let first = cost_at(matrix.get(0, 0));
+    let second = cost_at(matrix.get(1, 0));
+    let third = cost_at(matrix.get(2, 0));
+    let fourth = cost_at(matrix.get(3, 0));
+    let fifth = cost_at(matrix.get(4, 0));
+    [first, second, third, fourth, fifth]
+}
+
+/// What stands before a node under the one above it, and then `before`.
+fn with_left<P: Tag>(
+    nodes: &[CarryMatrix],
+    place: usize,
+    before: &CarryMatrix,
+    products: &mut Steps<P>,
+) -> CarryMatrix
+    requires place { place < length nodes.now }
+    requires cheap { AreCheap (2 ^ 61 - 1) nodes.now }
+    requires small { IsCheap (2 ^ 61 - 1) before.now }
+    ensures right { 2 * (place / 2) < place → result ≡ product_of (slice_index_or nodes.now (2 * (place / 2)) []) before.now }
+    ensures left { place ≤ 2 * (place / 2) → result ≡ before.now }
+    ensures products { products.new ≤ risen products.old 1 }
+{
+    let left = 2 * (place / 2);
+    if left < place {
+        product(&nodes[left], before, products)
+    } else {
+        *before
+    }
+}
+
+/// `after`, and then what stands behind a node under the one above it.
+fn with_right<P: Tag>(
+    nodes: &[CarryMatrix],
+    place: usize,
+    after: &CarryMatrix,
+    products: &mut Steps<P>,
+) -> CarryMatrix
+    requires few { length nodes.now ≤ 4096 }
+    requires place { place < length nodes.now }
+    requires cheap { AreCheap (2 ^ 61 - 1) nodes.now }
+    requires small { IsCheap (2 ^ 61 - 1) after.now }
+    ensures left { 2 * (place / 2) ≡ place → place + 1 < length nodes.now → result ≡ product_of after.now (slice_index_or nodes.now (place + 1) []) }
+    ensures lone { length nodes.now ≤ place + 1 → result ≡ after.now }
+    ensures right { 2 * (place / 2) < place → result ≡ after.now }
+    ensures products { products.new ≤ risen products.old 1 }
+{
+    if 2 * (place / 2) < place {
+        *after
+    } else if place + 1 < nodes.len() {
+        product(after, &nodes[place + 1], products)
+    } else {
+        *after
+    }
+}
+
+/// The least costs of the cells before a cell and of those behind it: at most two products at each level.
+pub fn around_of<P: Tag>(levels: &[Level], at: usize, products: &mut Steps<P>) -> Around
+    requires cells { AreCells (level levels.now 0) }
+    requires tower { IsTower (level levels.now 0) levels.now }
+    requires at { at < length (level levels.now 0) }
+    ensures before { result.before ≡ five (λ to. cost_of (keys (take at (level levels.now 0)) 0 to)) }
+    ensures after { result.after ≡ five (λ from. cost_of (keys (drop (at + 1) (level levels.now 0)) from 0)) }
+    ensures products { (d : ℕ) → length (level levels.now 0) ≤ 2 ^ d → products.new ≤ risen products.old (2 * d) }
+{
+    let mut before = CarryMatrix::identity();
+    let mut after = CarryMatrix::identity();
+    let mut place = at;
+    'up: for below in 0..levels.len() - 1 {
+        before = with_left(levels[below].slice(), place, &before, products);
+        after = with_right(levels[below].slice(), place, &after, products);
+        place = place / 2;
+    }
+    Around {
+        before: costs_from_none(&before),
+        after: costs_to_none(&after),
+    }
+}

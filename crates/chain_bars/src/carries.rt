@@ -1,0 +1,103 @@
+ghost use Rattle.chain_bars.specs.Tower.{AreCells, AreCheap, IsTower, cost_of, level};
+ghost use Rattle.chain_bars.specs.Walks.{AreCarries, descended, number_or};
+ghost use Rattle.rhythm_base.specs.Paths.{AreCounts};
+ghost use Rattle.rhythm_base.specs.Ranked.{keys, middle_of};
+ghost use Rattle.std.specs.Prelude.{
+  ◌≡◌,
+  ◌+◌,
+  ◌*◌,
+  ◌++◌,
+  ◌∷◌,
+  [],
+  slice_index_or,
+  ◌-◌,
+  ◌<◌,
+  ◌≤◌,
+  ◌^◌,
+  IfOk,
+  IsSome,
+  length,
+};
+ghost use Rattle.carry_matrix.specs.LowSums.{HaveLowSums};
+
+use crate::levels::Level;
+use carry_matrix::{CarryMatrix, middle};
+use std::alloc::{AllocError, Global};
+
+/// The count between two cells: that of their product.
+fn between(left: &CarryMatrix, right: &CarryMatrix, from: u8, to: u8) -> u8
+    requires from { from < 5 }
+    requires to { to < 5 }
+    requires small { HaveLowSums left.now right.now }
+    ensures { result ≡ number_or (middle_of left.now right.now from to) }
+{
+    match middle(left, right, from, to) {
+        Some(count) => count,
+        None => 0,
+    }
+}
+
+/// Adds the count behind the node at `left` and its neighbour, after the one between them if there is a neighbour.
+fn push_below(
+    counts: &mut Vec<u8>,
+    nodes: &[CarryMatrix],
+    left: usize,
+    from: u8,
+    to: u8,
+) -> Result<(), AllocError>
+    requires few { length nodes.now ≤ 4096 }
+    requires cheap { AreCheap (2 ^ 61 - 1) nodes.now }
+    requires left { left < length nodes.now }
+    requires from { from < 5 }
+    requires to { to < 5 }
+    ensures two { IfOk result (λ _. left + 1 < length nodes.now → counts.new.items ≡ counts.old.items ++ number_or (middle_of (slice_index_or nodes.now left []) (slice_index_or nodes.now (left + 1) []) from to) ∷ to ∷ []) }
+    ensures lone { IfOk result (λ _. length nodes.now ≤ left + 1 → counts.new.items ≡ counts.old.items ++ to ∷ []) }
+{
+    if left + 1 < nodes.len() {
+        counts.push(between(&nodes[left], &nodes[left + 1], from, to))?;
+        counts.push(to)?;
+        Ok(())
+    } else {
+        counts.push(to)?;
+        Ok(())
+    }
+}
+
+/// The counts at the barlines of a level, from those of the level above it.
+fn one_down(alloc: Global, nodes: &[CarryMatrix], above: &[u8]) -> Result<Vec<u8>, AllocError>
+    requires few { length nodes.now ≤ 4096 }
+    requires cheap { AreCheap (2 ^ 61 - 1) nodes.now }
+    requires some { 1 ≤ length above.now }
+    requires counts { AreCounts above.now }
+    requires covers { length nodes.now ≤ 2 * (length above.now - 1) }
+    requires fits { 2 * (length above.now - 1) ≤ length nodes.now + 1 }
+    ensures { IfOk result (λ v. v.items ≡ descended nodes.now above.now) }
+{
+    let mut counts = Vec::new(alloc);
+    let mut from = above[0];
+    counts.push(from)?;
+    'nodes: for number in 1..above.len() {
+        let to = above[number];
+        push_below(&mut counts, nodes, 2 * (number - 1), from, to)?;
+        from = to;
+    }
+    Ok(counts)
+}
+
+/// The counts at the barlines of the least path from 0 to 0, by walking down from the root.
+pub fn carries_of(alloc: Global, levels: &[Level]) -> Result<Vec<u8>, AllocError>
+    requires cells { AreCells (level levels.now 0) }
+    requires tower { IsTower (level levels.now 0) levels.now }
+    requires path { IsSome (cost_of (keys (level levels.now 0) 0 0)) }
+    ensures { IfOk result (λ v. AreCarries (level levels.now 0) v.items) }
+{
+    let mut counts = Vec::new(alloc);
+    counts.push(0)?;
+    counts.push(0)?;
+    let mut below = levels.len() - 1;
+    'down: while below > 0 {
+        below = below - 1;
+        counts = one_down(alloc, levels[below].slice(), counts.as_slice())?;
+    }
+    Ok(counts)
+}

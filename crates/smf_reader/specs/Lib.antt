@@ -1,0 +1,12 @@
+pub mod Outcome
+pub mod Bytes
+pub mod Quantity
+pub mod Meta
+pub mod Message
+pub mod Event
+pub mod Played
+pub mod Track
+pub mod Chunk
+pub mod Header
+pub mod SmfFile
+pub mod Outcomes

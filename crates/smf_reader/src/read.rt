@@ -1,0 +1,23 @@
+ghost use Rattle.smf_reader.specs.Outcome.{Gives};
+ghost use Rattle.smf_reader.specs.SmfFile.{smf};
+
+use crate::chunk::read_tracks;
+use crate::fault::SmfFault;
+use crate::header::read_header;
+use crate::smf::Smf;
+use std::alloc::Global;
+
+/// What a Standard MIDI File says, or the first fault in it. The bytes are read once, and memory is taken for the events
+/// alone.
+#[tactic(auto, unfolding(crate::specs::SmfFile::smf))]
+pub fn read_smf(alloc: Global, bytes: &[u8]) -> Result<Smf, SmfFault>
+    // The file's one reading, or the one fault that stands in it.
+    ensures { Gives result (smf bytes.now) }
+{
+    let header = read_header(bytes)?;
+    let tracks = read_tracks(alloc, header.tracks, bytes, header.end)?;
+    Ok(Smf {
+        division: header.division,
+        tracks,
+    })
+}
