@@ -1,0 +1,9 @@
+pub mod Chords
+pub mod Conjunctions
+pub mod Costs
+pub mod LeavesUnder
+pub mod Listed
+pub mod Members
+pub mod OneLine
+pub mod Order
+pub mod Shares

@@ -1,0 +1,46 @@
+// The program: gives the words of the command line, the system's files and its standard streams to `run`, which does
+// the rest.
+#![tactic(auto)]
+
+use rhythm_app::{Stop, run, write_line};
+use rhythm_base::Words;
+use rhythm_ports::{RealOutput, RealShelf};
+use std::io::ErrorKind;
+use std::process::ExitCode;
+use std::{env, io};
+
+#[cfg(test)]
+mod tests;
+
+/// The words behind the program's name.
+fn words_of(rt: &HostRuntime) -> io::Result<Words> {
+    let mut words = Words::new(rt.alloc());
+    for word in env::args(rt)?.skip(1) {
+        words.push(word.as_str())?;
+    }
+    Ok(words)
+}
+
+/// Why there are no words: one that is no text is no word of a command.
+fn wordless(error: &io::Error) -> Stop {
+    match error.kind() {
+        ErrorKind::InvalidData => Stop::Usage,
+        _ => Stop::Memory,
+    }
+}
+
+fn main(rt: HostRuntime) -> ExitCode {
+    let mut out = RealOutput::new(rt.stdout());
+    let mut err = RealOutput::new(rt.stderr());
+    match words_of(&rt) {
+        Ok(words) => {
+            let mut shelf = RealShelf::new(&rt);
+            ExitCode::from(run(rt.alloc(), &words, &mut shelf, &mut out, &mut err))
+        }
+        Err(error) => {
+            let stop = wordless(&error);
+            write_line(&mut err, &stop);
+            ExitCode::from(stop.status())
+        }
+    }
+}

@@ -1,0 +1,33 @@
+-- What the words of a command line ask for.
+use Rattle.std.specs.Prelude.{ℕ, nat_eq, List, [], ◌∷◌, codes, if◌then◌else◌, Option, Some, None, unwrap_or}
+use Rattle.std.specs.Cmp.Lexicographic.{pointwise}
+use Rattle.rhythm_ports.specs.Files.{File, file_of}
+use Rattle.rhythm_app.specs.declared.command.Transcription.{Transcription}
+
+-- a command with the names of its files: `transcribe MIDI GRAMMAR`
+pub data Asked : Type 0 where
+  transcribe : List ℕ → List ℕ → Asked
+
+-- a word and two more
+abbrev pub of_two : (List ℕ → List ℕ → Asked) → List (List ℕ) → Option Asked
+of_two make [] = None
+of_two make (a ∷ []) = None
+of_two make (a ∷ b ∷ []) = Some (make a b)
+of_two make (a ∷ b ∷ c ∷ more) = None
+
+-- the command that the words are
+abbrev pub asked_by : List (List ℕ) → Option Asked
+asked_by [] = None
+asked_by (word ∷ more) = if pointwise nat_eq word (codes "transcribe") then of_two transcribe more else None
+
+-- the files that a command names
+abbrev pub names_of : Asked → List (List ℕ)
+names_of (transcribe midi grammar) = midi ∷ grammar ∷ []
+
+-- the bytes under a name, none where there is no such file
+abbrev pub content : List File → List ℕ → List ℕ
+content files name = unwrap_or (file_of files name) []
+
+-- a command as contracts see it
+abbrev pub shown : Transcription → Asked
+shown command = transcribe command.midi.now command.grammar.now
