@@ -48,7 +48,8 @@ pub fn sounds(resolution: u16, bar: &OneBar, leaf: &PlacedLeaf, end: u64) -> boo
     twice_the_middle <= 2 * end as u128 * resolution as u128
 }
 
-/// The number of the leaf that an onset is attached to: the leaf that it lies in, or the next.
+/// The number of the leaf that an onset is attached to: the leaf that it lies in, or the next. It is the number of leaves
+/// where there is no such leaf.
 pub fn seat(resolution: u16, bar: &OneBar, leaves: &[PlacedLeaf], onset: u64) -> usize
     ensures { result ≡ seat (looks resolution) (line_in bar.now leaves.now) onset }
 {
