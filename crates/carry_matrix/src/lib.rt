@@ -15,3 +15,6 @@ pub use matrix::CarryMatrix;
 pub use products::{middle, product};
 pub use rhythm_base::Best;
 pub use steps::Steps;
+
+#[cfg(test)]
+mod tests;
