@@ -2,6 +2,9 @@
 // the rest.
 #![tactic(auto)]
 
+ghost use Rattle.rhythm_app.specs.Stops.{status_of};
+ghost use Rattle.std.specs.Prelude.{◌≡◌, ◌⊎◌};
+
 use rhythm_app::{Stop, run, write_line};
 use rhythm_base::Words;
 use rhythm_ports::{RealOutput, RealShelf};
@@ -22,7 +25,9 @@ fn words_of(rt: &HostRuntime) -> io::Result<Words> {
 }
 
 /// Why there are no words: one that is no text is no word of a command.
-fn wordless(error: &io::Error) -> Stop {
+fn wordless(error: &io::Error) -> Stop
+    ensures { (status_of result ≡ 1) ⊎ (status_of result ≡ 7) }
+{
     match error.kind() {
         ErrorKind::InvalidData => Stop::Usage,
         _ => Stop::Memory,
