@@ -16,6 +16,10 @@ const FORMAT_1: &[u8] = b"MThd\0\0\0\x06\0\x01\0\x01\x01\xe0MTrk\0\0\0\x28\
     \0\x90\x3c\x40\x83\x60\x80\x3c\0\0\x90\x3e\x40\x83\x60\x80\x3e\0\
     \0\x90\x40\x40\x83\x60\x80\x40\0\0\x90\x41\x40\x83\x60\x80\x41\0\0\xff\x2f\0";
 
+/// One note, a quarter long.
+const QUARTER: &[u8] = b"MThd\0\0\0\x06\0\0\0\x01\x01\xe0MTrk\0\0\0\x0d\
+    \0\x90\x3c\x40\x83\x60\x80\x3c\0\0\xff\x2f\0";
+
 /// A note from the middle of the first half of the bar to the end of the second.
 const MIDDLE: &[u8] = b"MThd\0\0\0\x06\0\0\0\x01\x01\xe0MTrk\0\0\0\x0e\
     \x83\x60\x90\x3c\x40\x8b\x20\x80\x3c\0\0\xff\x2f\0";
@@ -35,6 +39,13 @@ const RESTS: &[u8] = b"rhythm 1\nresolution 4\nwindow 30000\nonset 1\nstart 4/4 
 const NINE_RULES: &[u8] = b"rhythm 1\nresolution 4\nwindow 30000\nonset 1\nstart 4/4 B\n\
     B 0 split H H\nH 0 split Q Q\nQ 0 note\nQ 1 note\nQ 2 note\nQ 3 note\nQ 4 note\nQ 5 note\nQ 6 note\n";
 
+/// A usual grammar: eighteen rules with ties and a grace note over eight units.
+const USUAL: &[u8] = b"rhythm 1\nresolution 8\nwindow 30000\nonset 1\nstart 4/4 B\n\
+    B 10 note\nB 10 tie\nB 5 rest\nB 20 split H H\n\
+    H 10 note\nH 10 tie\nH 10 rest\nH 20 split Q Q\n\
+    Q 10 note\nQ 15 short\nQ 10 tie\nQ 10 rest\nQ 40 split E E\n\
+    E 10 note\nE 20 short\nE 10 tie\nE 10 rest\nE 60 grace 1\n";
+
 /// A window of half a second, a quarter note's time.
 const WIDE_WINDOW: &[u8] = b"rhythm 1\nresolution 4\nwindow 500000\nonset 1\nstart 4/4 B\n\
     B 0 split H H\nH 0 split Q Q\nQ 0 note\n";
@@ -43,13 +54,15 @@ const WIDE_WINDOW: &[u8] = b"rhythm 1\nresolution 4\nwindow 500000\nonset 1\nsta
 const HALVES: &[u8] = b"rhythm 1\nresolution 4\nwindow 30000\nonset 1\nstart 4/4 B\n\
     B 0 split H H\nH 0 note\nH 0 rest\n";
 
-/// A note that costs as much as its two parts by rules that come before it.
-const EQUAL_COSTS: &[u8] = b"rhythm 1\nresolution 4\nwindow 30000\nonset 1\nstart 4/4 B\n\
-    B 0 split H H\nH 0 split Q Q\nQ 1 short\nQ 1 note\nQ 1 note\n";
+/// A short whole note costs as much as a half note and a rest, and comes first.
+const SHORT_FIRST: &[u8] = b"rhythm 1\nresolution 4\nwindow 30000\nonset 1\nstart 4/4 B\n\
+    B 1 short\nB 0 split H H\nH 1 note\nH 0 rest\n";
+
+/// The same rules in another order.
+const SPLIT_FIRST: &[u8] = b"rhythm 1\nresolution 4\nwindow 30000\nonset 1\nstart 4/4 B\n\
+    B 0 split H H\nB 1 short\nH 1 note\nH 0 rest\n";
 
 const SCORE: &[u8] = b"**kern\n*M4/4\n*MM120\n=1\n4c\n4d\n4e\n4f\n==\n*-\n";
-
-const STACCATO: &[u8] = b"**kern\n*M4/4\n*MM120\n=1\n4c'\n4d'\n4e'\n4f'\n==\n*-\n";
 
 /// The contents of the two files, how the run ends, and what out and err take.
 struct Case {
@@ -86,6 +99,13 @@ const CASES: &[Case] = &[
     },
     Case {
         midi: QUARTERS,
+        grammar: USUAL,
+        status: 8,
+        out: b"",
+        err: b"unbuilt grammar\n",
+    },
+    Case {
+        midi: QUARTERS,
         grammar: NINE_RULES,
         status: 8,
         out: b"",
@@ -106,6 +126,36 @@ const CASES: &[Case] = &[
         status: 8,
         out: b"",
         err: b"unbuilt notes\n",
+    },
+    // An onset in the middle of the first half begins it, and no rest fits behind it.
+    Case {
+        midi: MIDDLE,
+        grammar: HALVES,
+        status: 3,
+        out: b"",
+        err: b"no derivation 0 0\n",
+    },
+    Case {
+        midi: PAST_MIDDLE,
+        grammar: HALVES,
+        status: 0,
+        out: b"**kern\n*M4/4\n*MM120\n=1\n2r\n2c\n==\n*-\n",
+        err: b"",
+    },
+    // At equal costs the first rule wins.
+    Case {
+        midi: QUARTER,
+        grammar: SHORT_FIRST,
+        status: 0,
+        out: b"**kern\n*M4/4\n*MM120\n=1\n1c'\n==\n*-\n",
+        err: b"",
+    },
+    Case {
+        midi: QUARTER,
+        grammar: SPLIT_FIRST,
+        status: 0,
+        out: b"**kern\n*M4/4\n*MM120\n=1\n2c\n2r\n==\n*-\n",
+        err: b"",
     },
 ];
 
