@@ -71,6 +71,8 @@ mod tests {
         assert!(rt; !sounds(1920, 2, 0, 1, 479));
         assert!(rt; sounds(1920, 2, 0, 2, 960));
         assert!(rt; !sounds(1920, 2, 1, 1, 1439));
+        // A chord from before the bar that ends with it sounds in both halves.
+        assert!(rt; sounds(1920, 2, 0, 1, 1920) && sounds(1920, 2, 1, 1, 1920));
         Ok(())
     }
 }
