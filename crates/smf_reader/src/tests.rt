@@ -262,14 +262,16 @@ fn files(rt: HostRuntime) -> Result<(), Fail> {
     assert_eq!(rt; smf.merged(rt.alloc())?.as_slice(), voices().as_slice());
     assert_eq!(rt; smf.last(), 3840);
 
-    for length in 0..VOICES.len() {
-        let wanted = if length < 4 {
-            SmfFault::NotSmf
-        } else {
-            SmfFault::Truncated { at: length as u64 }
-        };
-        let fault = read_smf(rt.alloc(), &VOICES[..length]).err();
-        assert_eq!(rt; fault, Some(wanted), "{length} bytes");
+    for whole in [QUARTERS, VOICES] {
+        for length in 0..whole.len() {
+            let wanted = if length < 4 {
+                SmfFault::NotSmf
+            } else {
+                SmfFault::Truncated { at: length as u64 }
+            };
+            let fault = read_smf(rt.alloc(), &whole[..length]).err();
+            assert_eq!(rt; fault, Some(wanted), "{length} bytes");
+        }
     }
     for (name, header, track, wanted) in &FAULTS {
         let bytes = file(rt.alloc(), header, track)?;
