@@ -25,6 +25,14 @@ const VOICES: &[u8] = b"MThd\0\0\0\x06\0\x01\0\x03\x01\xe0MTrk\0\0\0\x29\
 /// The content of a header: format 0, one track, and 480 ticks to a quarter note.
 const PLAIN: &[u8] = b"\0\0\0\x01\x01\xe0";
 
+/// The track of the four quarter notes.
+const NOTES: &[u8] = b"\0\x90\x3c\x40\x83\x60\x80\x3c\0\0\x90\x3e\x40\x83\x60\x80\x3e\0\
+    \0\x90\x40\x40\x83\x60\x80\x40\0\0\x90\x41\x40\x83\x60\x80\x41\0\0\xff\x2f\0";
+
+/// The same, with a quantity of four bytes that has no end in place of its first four bytes.
+const NO_QUANTITY: &[u8] = b"\x81\x81\x81\x81\x83\x60\x80\x3c\0\0\x90\x3e\x40\x83\x60\x80\x3e\0\
+    \0\x90\x40\x40\x83\x60\x80\x40\0\0\x90\x41\x40\x83\x60\x80\x41\0\0\xff\x2f\0";
+
 /// The four quarter notes and four deltas behind them, which lead to tick 1,000,000,000.
 const LATEST: &[u8] = b"\0\x90\x3c\x40\x83\x60\x80\x3c\0\0\x90\x3e\x40\x83\x60\x80\x3e\0\
     \0\x90\x40\x40\x83\x60\x80\x40\0\0\x90\x41\x40\x83\x60\x80\x41\0\
@@ -38,21 +46,27 @@ const TOO_LATE: &[u8] = b"\0\x90\x3c\x40\x83\x60\x80\x3c\0\0\x90\x3e\x40\x83\x60
     \xdc\xeb\x85\x04\xff\x2f\0";
 
 /// Contents of headers and of tracks, and the fault. The content of the track begins at place 22.
-const FAULTS: [(&str, &[u8], &[u8], SmfFault); 17] = [
+const FAULTS: [(&str, &[u8], &[u8], SmfFault); 18] = [
     ("five bytes", b"\0\0\0\x01\x01", b"", SmfFault::NotSmf),
     (
         "format 2",
         b"\0\x02\0\x01\x01\xe0",
-        b"",
+        NOTES,
         SmfFault::Format(2),
     ),
     (
         "frames of a film",
         b"\0\0\0\x01\xe7\x28",
-        b"",
+        NOTES,
         SmfFault::Smpte,
     ),
-    ("no ticks", b"\0\0\0\x01\0\0", b"", SmfFault::ZeroDivision),
+    ("no ticks", b"\0\0\0\x01\0\0", NOTES, SmfFault::ZeroDivision),
+    (
+        "no quantity",
+        PLAIN,
+        NO_QUANTITY,
+        SmfFault::BadQuantity { at: 25 },
+    ),
     (
         "no third track",
         b"\0\0\0\x03\x01\xe0",
