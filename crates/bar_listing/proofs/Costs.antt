@@ -1,14 +1,14 @@
 -- What one bar costs, and how large a displacement can be.
-use Rattle.std.proofs.Common.{◌≡◌, ℕ, zero, suc, ◌+◌, ◌-◌, ◌*◌, ◌≤◌, ◌<◌, Bool, true, false, nat_le, IsTrue, List, [], ◌∷◌, ◌++◌, refl, sym, ap, ◌∙◌, arith, append-nil}
+use Rattle.std.proofs.Common.{◌≡◌, ℕ, ◌+◌, ◌-◌, ◌*◌, ◌≤◌, ◌<◌, Bool, true, false, nat_le, List, [], ◌∷◌, ◌++◌, refl, sym, ap, ◌∙◌, arith, append-nil}
 use Rattle.std.specs.Prelude.{if◌then◌else◌}
 use Rattle.std.proofs.Math.Nat.{mul-le-mul, div-le_of_le-mul}
 use Rattle.std.proofs.lemmas.Bool.Decides.{nat_tests}
+use Rattle.rhythm_base.proofs.Beats.{some_beat}
 use Rattle.rhythm_base.specs.Cost.{charges, cost, displacement_in, gap, unit_of, weights}
 use Rattle.rhythm_base.specs.Forest.{Branch, preorder_of}
 use Rattle.rhythm_base.specs.Leaves.{Leaf, goes_left, lies_in, line_of}
 use Rattle.rhythm_base.specs.Line.{Sounding}
 use Rattle.rhythm_base.specs.Rulebook.{Rulebook}
-use Rattle.rhythm_base.specs.Signatures.{is_den}
 use Rattle.bar_listing.specs.declared.leaf.PlacedLeaf.{PlacedLeaf}
 use Rattle.bar_listing.specs.declared.one_bar.OneBar.{OneBar}
 use Rattle.bar_listing.specs.OneBar.{IsBar, measure_of}
@@ -29,10 +29,6 @@ near at place width length whole begun within false right =
     let past : width * length < 2 * (at - place * length) = grind (arith, nat_tests) in
     let end : (place + width) * length ≡ place * length + width * length = grind arith in
     omega arith
-
-some_beat : (den : ℕ) → IsTrue (is_den den) → 1 ≤ den
-some_beat zero h = absurd (cc)
-some_beat (suc den) h = omega arith
 
 -- so its displacement is at most that of a whole bar
 pub displacement_small : (r : ℕ) (bar : OneBar) (x : PlacedLeaf) (onset : ℕ) → 1 ≤ r → IsBar bar → onset < bar.length → lies_in r (leaf_in bar x) onset ≡ true

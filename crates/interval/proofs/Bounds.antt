@@ -25,8 +25,3 @@ displacement_small num den length r q t few some unit onset =
     let turned : den * (245760 * (r * length)) ≡ den * (r * length) * 245760 = grind arith in
     let all : 3840 * num * gap (t * r) (q * length) ≤ den * (r * length) * 245760 = omega (arith, first, second, third, left, right, turned) in
     div-le_of_le-mul (den * (r * length)) all
-
--- the value of a beat is above 0
-pub den_some : (den : ℕ) → IsTrue (is_den den) → 1 ≤ den
-den_some zero h = absurd (cc)
-den_some (suc den) h = omega arith

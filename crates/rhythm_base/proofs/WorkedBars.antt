@@ -1,14 +1,14 @@
 -- Worked bars, computed by the definitions: what fits, what it costs, and that nothing that fits is earlier.
-use Rattle.std.specs.Prelude.{◌≡◌, ℕ, ◌+◌, Bool, true, false, ◌&&◌, ◌==◌, not, List, [], ◌∷◌, ◌++◌, length, map, filter, slice_get, refl, None}
+use Rattle.std.specs.Prelude.{◌≡◌, ℕ, Bool, true, false, ◌&&◌, ◌==◌, not, List, [], ◌∷◌, ◌++◌, length, map, filter, slice_get, refl, None}
 use Rattle.std.proofs.Common.{zero, suc}
 use Rattle.std.specs.List.{list_all, flat_map}
 use Rattle.std.specs.Ordering.{is_lt}
 use Rattle.std.specs.declared.cmp.Ordering.TheVariants.{Less}
 use Rattle.rhythm_base.specs.declared.rule.Rule.{Rule}
 use Rattle.rhythm_base.specs.declared.rule.Body.TheVariants.{Split, Parts, Note, Short, Tie, Rest, Grace}
-use Rattle.rhythm_base.specs.Cells.{input, leaves_in, cell_cost}
+use Rattle.rhythm_base.specs.Cells.{input, cell_cost}
 use Rattle.rhythm_base.specs.Cost.{cost, sequence_of}
-use Rattle.rhythm_base.specs.Forest.{Forest, none, more, Branch, preorder}
+use Rattle.rhythm_base.specs.Forest.{Forest, none, more, Branch}
 use Rattle.rhythm_base.specs.Leaves.{Measure, are_bars, line_of, looks}
 use Rattle.rhythm_base.specs.Least.{rank_of, rank_cmp}
 use Rattle.rhythm_base.specs.Line.{Sounding, agree, past}

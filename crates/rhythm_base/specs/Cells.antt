@@ -1,5 +1,5 @@
 -- The input of a cell, and which trees fit it with the numbers of chords carried in and out.
-use Rattle.std.specs.Prelude.{⊤, ◌≡◌, ℕ, ◌+◌, ◌-◌, ◌≤◌, Bool, true, ◌&&◌, nat_lt, nat_le, List, [], ◌∷◌, filter, map, replicate, min}
+use Rattle.std.specs.Prelude.{◌≡◌, ℕ, ◌+◌, ◌-◌, ◌≤◌, Bool, true, ◌&&◌, nat_lt, nat_le, List, [], ◌∷◌, filter, map, replicate, min}
 use Rattle.rhythm_base.specs.Cell.{Cell}
 use Rattle.rhythm_base.specs.Cost.{charges, weights}
 use Rattle.rhythm_base.specs.Forest.{Branch, preorder_of}

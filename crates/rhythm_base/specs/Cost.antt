@@ -1,5 +1,5 @@
 -- What a derivation costs: the weights of its rules, and for each onset its displacement times a weight by its side.
-use Rattle.std.specs.Prelude.{ℕ, ◌+◌, ◌-◌, ◌*◌, ◌/◌, Bool, nat_lt, if◌then◌else◌, List, [], ◌∷◌, ◌++◌, sum_by, slice_get, Option, Some, None}
+use Rattle.std.specs.Prelude.{ℕ, ◌+◌, ◌-◌, ◌*◌, ◌/◌, Bool, nat_lt, if◌then◌else◌, List, [], ◌∷◌, sum_by, slice_get, Option, Some, None}
 use Rattle.std.specs.List.{flat_map}
 use Rattle.rhythm_base.specs.declared.rule.Rule.{Rule}
 use Rattle.rhythm_base.specs.Forest.{Branch, preorder_of}

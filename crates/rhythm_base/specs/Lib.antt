@@ -1,3 +1,4 @@
+pub mod Alternatives
 pub mod Bars
 pub mod Cell
 pub mod CellTables
@@ -6,10 +7,11 @@ pub mod Chords
 pub mod Cost
 pub mod Counter
 pub mod DeadBars
+pub mod Edits
 pub mod Events
 pub mod Forest
-pub mod Leaves
 pub mod Least
+pub mod Leaves
 pub mod Line
 pub mod Notes
 pub mod Outline
@@ -18,10 +20,16 @@ pub mod Performed
 pub mod Pieces
 pub mod Pitch
 pub mod Ranked
+pub mod Reached
 pub mod Readable
+pub mod Replies
 pub mod Rulebook
+pub mod Script
+pub mod ScriptLines
 pub mod ShapeFalls
+pub mod ShapeText
 pub mod Shapes
 pub mod Signatures
 pub mod Time
 pub mod Trees
+pub mod Voices

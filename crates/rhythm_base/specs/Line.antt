@@ -1,5 +1,5 @@
 -- Attachment and fit over any line of leaves, left to right: the leaves of a whole voice, or those of one bar.
-use Rattle.std.specs.Prelude.{⊤, ◌≡◌, ℕ, ◌+◌, ◌≤◌, Bool, true, false, ◌&&◌, ◌==◌, not, nat_lt, if◌then◌else◌, List, [], ◌∷◌, ◌++◌, length, filter, map}
+use Rattle.std.specs.Prelude.{⊤, ℕ, ◌+◌, ◌≤◌, Bool, true, false, ◌&&◌, ◌==◌, not, nat_lt, if◌then◌else◌, List, [], ◌∷◌, ◌++◌, length, filter, map}
 use Rattle.std.proofs.Common.{suc}
 use Rattle.rhythm_base.specs.declared.inner.Inner.{Inner}
 use Rattle.rhythm_base.specs.declared.rule.Body.{Body}

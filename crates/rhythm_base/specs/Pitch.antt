@@ -1,5 +1,5 @@
 -- Pitches in **kern: a letter, by its octave repeated and in lower or upper case, and an accidental.
-use Rattle.std.specs.Prelude.{ℕ, ◌+◌, ◌-◌, ◌/◌, ◌%◌, Bool, ◌||◌, ◌==◌, nat_le, if◌then◌else◌, List, [], ◌∷◌, ◌++◌, codes, replicate, slice_index}
+use Rattle.std.specs.Prelude.{ℕ, ◌-◌, ◌/◌, ◌%◌, Bool, ◌||◌, ◌==◌, nat_le, if◌then◌else◌, List, [], ◌++◌, codes, replicate, slice_index}
 
 -- the white key of each of the twelve keys of an octave that its name takes: the one below where black keys are sharps, the one above where they are flats
 abbrev pub letters : Bool → List ℕ

@@ -3,7 +3,6 @@ use Rattle.std.specs.Prelude.{◌≡◌, ◌≢◌, ◌⊎◌, ℕ, ◌+◌, ◌
 use Rattle.rhythm_base.specs.declared.grammar.Start.{Start}
 use Rattle.rhythm_base.specs.declared.rule.Body.{Body}
 use Rattle.rhythm_base.specs.declared.rule.Body.TheVariants.{Split, Parts, Note, Short, Tie, Rest, Grace}
-use Rattle.rhythm_base.specs.declared.rule.Rule.{Rule}
 use Rattle.rhythm_base.specs.Rulebook.{Rulebook}
 use Rattle.rhythm_base.specs.Signatures.{IsSignature}
 

@@ -1,5 +1,5 @@
 -- Tempo, key and signature in force, and elapsed time.
-use Rattle.std.specs.Prelude.{ℕ, ℤ, zero, suc, ◌+◌, nat_le, List, [], ◌∷◌, filter, length, ◌-◌, slice_get, Option, Some, None}
+use Rattle.std.specs.Prelude.{ℕ, ℤ, zero, suc, ◌+◌, nat_le, List, filter, length, ◌-◌, slice_get, Option, Some, None}
 use Rattle.std.specs.List.{filter_map}
 use Rattle.rhythm_base.specs.declared.event.Event.{Event}
 use Rattle.rhythm_base.specs.declared.event.KeyMark.{KeyMark}

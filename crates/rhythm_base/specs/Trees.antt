@@ -57,6 +57,11 @@ are_shaped end (more r kids rest) = false
 are_shaped (part x xs) none = false
 are_shaped (part x xs) (more r kids rest) = are_shaped x kids && are_shaped xs rest
 
+-- the shape of the parts: how each is cut
+abbrev pub shape_of : Forest → Outline
+shape_of none = end
+shape_of (more r kids rest) = part (shape_of kids) (shape_of rest)
+
 -- the tree has the pin's shape, where there is a pin
 abbrev pub has_pin : Option Outline → Branch → Bool
 has_pin None t = true

@@ -1,0 +1,35 @@
+-- The alternatives of one bar of a voice: its best trees, with the bar's pin lifted and the others kept.
+use Rattle.std.specs.Prelude.{◌≡◌, ℕ, ◌-◌, ◌≤◌, ◌==◌, ◌⊎◌, if◌then◌else◌, List, [], ◌∷◌, length, All, AllPairs, Contains, slice_get, Some, None}
+use Rattle.std.specs.declared.cmp.Ordering.TheVariants.{Less}
+use Rattle.rhythm_base.specs.Cost.{cost}
+use Rattle.rhythm_base.specs.Forest.{Branch, preorder_of}
+use Rattle.rhythm_base.specs.Least.{rank_cmp}
+use Rattle.rhythm_base.specs.Leaves.{FitsVoice, Measure}
+use Rattle.rhythm_base.specs.Line.{Sounding}
+use Rattle.rhythm_base.specs.Rulebook.{Rulebook}
+
+-- the bars with the pin of the bar of that number lifted
+abbrev pub lifted : ℕ → List Measure → List Measure
+lifted i [] = []
+lifted i (bar ∷ bars) = if i == 0 then record bar { pin = None } ∷ bars else bar ∷ lifted (i - 1) bars
+
+-- a tree of the bar, with the least cost of a derivation of the voice that has it there
+pub record IsAlternative (g : Rulebook) (bars : List Measure) (cs : List Sounding) (i : ℕ) (a : ℕ × Branch) : Type 0 where
+  pub trees : List Branch
+  pub fits : FitsVoice g bars cs trees
+  pub tree : slice_get trees i ≡ Some a.1
+  pub total : a.0 ≡ cost g bars cs trees
+  pub least : (us : List Branch) → FitsVoice g bars cs us → slice_get us i ≡ Some a.1 → a.0 ≤ cost g bars cs us
+
+-- the lower total is earlier, and at equal totals the tree with the lower list of rule numbers
+abbrev pub IsEarlier : ℕ × Branch → ℕ × Branch → Type 0
+IsEarlier a b = rank_cmp (a.0, preorder_of a.1) (b.0, preorder_of b.1) ≡ Less
+
+-- the first `count` trees of the bar that a derivation can have there; fewer where there are no more
+pub record AreAlternatives (g : Rulebook) (bars : List Measure) (cs : List Sounding) (i count : ℕ) (list : List (ℕ × Branch)) : Type 0 where
+  pub are : All (IsAlternative g (lifted i bars) cs i) list
+  pub in_order : AllPairs IsEarlier list
+  pub few : length list ≤ count
+  pub first :
+      (a : ℕ × Branch) → IsAlternative g (lifted i bars) cs i a
+      → Contains list a ⊎ ((length list ≡ count) × All (λ b. IsEarlier b a) list)

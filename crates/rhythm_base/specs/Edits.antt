@@ -1,0 +1,202 @@
+-- Edits of a performance: which are refused and why, and the performance after the others. They speak of lists of notes,
+-- bars and pins alone.
+use Rattle.std.specs.Prelude.{ℕ, ◌+◌, ◌-◌, ◌*◌, ◌/◌, ◌<◌, ◌≤◌, Bool, ◌&&◌, ◌||◌, ◌==◌, not, nat_lt, nat_le, if◌then◌else◌, IsTrue, List, [], ◌∷◌, ◌++◌, length, map, filter, fold, take, Option, Some, None, Result, Ok, Err, ⊤, min}
+use Rattle.std.specs.List.{list_any}
+use Rattle.std.specs.Cmp.Lexicographic.{slice_cmp}
+use Rattle.std.specs.Ordering.{is_lt, nat_cmp}
+use Rattle.rhythm_base.specs.declared.edit.Edit.{Edit}
+use Rattle.rhythm_base.specs.declared.edit.Edit.TheVariants.{Add, Drop, Move, Barline, Pin, Unpin, AddBar, DropBar}
+use Rattle.rhythm_base.specs.declared.edit_fault.EditFault.{EditFault}
+use Rattle.rhythm_base.specs.declared.edit_fault.EditFault.TheVariants.{NoVoice, NoBar, BadSpan, NoNote, SameNote, PastEnd, BarlineOrder, NoteOutside, NotEmpty, OneBar, Limit}
+use Rattle.rhythm_base.specs.declared.edit_fault.LimitKind.TheVariants.{Notes, Bars, Cells, Line}
+use Rattle.rhythm_base.specs.declared.note.Bar.{Bar}
+use Rattle.rhythm_base.specs.declared.note.Note.{Note}
+use Rattle.rhythm_base.specs.declared.pin.Pin as pin
+use Rattle.rhythm_base.specs.Performed.{Performed, place_of_note, place_of_pin}
+use Rattle.rhythm_base.specs.Shapes.{is_shape}
+use Rattle.rhythm_base.specs.Time.{last_of}
+
+-- the numbers of an edit are in the ranges of the edit script, and its shape can be that of a tree
+abbrev pub IsEditInRange : Edit → Type 0
+IsEditInRange (Add channel key onset end) = (channel < 16) × (key < 128) × (onset ≤ 2000000000) × (end ≤ 2000000000)
+IsEditInRange (Drop channel key onset) = (channel < 16) × (key < 128) × (onset ≤ 2000000000)
+IsEditInRange (Move channel key onset to) = (channel < 16) × (key < 128) × (onset ≤ 2000000000) × (to ≤ 2000000000)
+IsEditInRange (Barline bar tick) = (bar ≤ 4096) × (tick ≤ 2000000000)
+IsEditInRange (Pin channel bar shape) = (channel < 16) × (bar ≤ 4096) × IsTrue (is_shape shape)
+IsEditInRange (Unpin channel bar) = (channel < 16) × (bar ≤ 4096)
+IsEditInRange AddBar = ⊤
+IsEditInRange DropBar = ⊤
+
+-- ---- notes
+
+abbrev pub is_note : ℕ → ℕ → ℕ → Note → Bool
+is_note channel key onset n = (n.channel == channel) && ((n.key == key) && (n.onset == onset))
+
+abbrev pub has_note : List Note → ℕ → ℕ → ℕ → Bool
+has_note notes channel key onset = list_any (is_note channel key onset) notes
+
+-- all but the note of that channel, key and onset
+abbrev pub without_note : ℕ → ℕ → ℕ → List Note → List Note
+without_note channel key onset notes = filter (λ n. not (is_note channel key onset n)) notes
+
+-- the note at another onset, of its old length
+abbrev pub moved_to : ℕ → Note → Note
+moved_to to n = record { channel = n.channel; key = n.key; onset = to; end = to + (n.end - n.onset) }
+
+-- the note of that channel, key and onset, moved: a list of one, or of none
+abbrev pub moved_note : ℕ → ℕ → ℕ → ℕ → List Note → List Note
+moved_note channel key onset to notes = map (moved_to to) (filter (is_note channel key onset) notes)
+
+-- it would begin at or after the tick, or end after it
+abbrev pub is_past : ℕ → Note → Bool
+is_past tick n = nat_le tick n.onset || nat_lt tick n.end
+
+-- the onsets of the notes that would
+abbrev pub onsets_past : ℕ → List Note → List ℕ
+onsets_past tick notes = map (λ n. n.onset) (filter (is_past tick) notes)
+
+abbrev pub least : List ℕ → ℕ
+least [] = 0
+least (t ∷ ts) = fold min t ts
+
+-- ---- bars
+
+-- the start of a bar, or the last barline behind the last bar
+abbrev pub barline : List Bar → ℕ → ℕ → ℕ
+barline [] last bar = last
+barline (b ∷ bars) last bar = if bar == 0 then b.start else barline bars last (bar - 1)
+
+-- the barline behind this one, and a tick past the latest possible one where there is none
+abbrev pub barline_behind : Performed → ℕ → ℕ
+barline_behind p bar = if nat_lt bar (length p.bars) then barline p.bars p.last (bar + 1) else 2000000001
+
+abbrev pub with_start : ℕ → Bar → Bar
+with_start tick b = record { start = tick; num = b.num; den = b.den }
+
+-- the bars with another start of the bar of that number
+abbrev pub with_barline : ℕ → ℕ → List Bar → List Bar
+with_barline bar tick [] = []
+with_barline bar tick (b ∷ bars) = if bar == 0 then with_start tick b ∷ bars else b ∷ with_barline (bar - 1) tick bars
+
+-- ticks of a whole bar of the signature: 4 * division * num / den
+abbrev pub nominal : ℕ → Bar → ℕ
+nominal division b = (4 * division * b.num) / b.den
+
+abbrev pub nominal_of : ℕ → Option Bar → ℕ
+nominal_of division None = 0
+nominal_of division (Some b) = nominal division b
+
+-- the last barline after one more bar of the last bar's signature
+abbrev pub next_barline : Performed → ℕ
+next_barline p = p.last + nominal_of p.division (last_of p.bars)
+
+-- a bar of the last bar's signature from the last barline on
+abbrev pub next_bar : ℕ → Option Bar → List Bar
+next_bar last None = []
+next_bar last (Some b) = with_start last b ∷ []
+
+-- where the last bar starts
+abbrev pub last_start : Performed → ℕ
+last_start p = barline p.bars p.last (length p.bars - 1)
+
+-- ---- lists in order
+
+-- the list with one more, in its order: those before it, it, and the others
+abbrev pub put : {X : Type 0} → (X → List ℕ) → X → List X → List X
+put place x xs =
+    filter (λ y. is_lt (slice_cmp nat_cmp (place y) (place x))) xs
+    ++ (x ∷ filter (λ y. not (is_lt (slice_cmp nat_cmp (place y) (place x)))) xs)
+
+abbrev pub put_all : {X : Type 0} → (X → List ℕ) → List X → List X → List X
+put_all place [] ys = ys
+put_all place (x ∷ xs) ys = put place x (put_all place xs ys)
+
+-- ---- pins
+
+abbrev pub is_pin : ℕ → ℕ → pin.Pin → Bool
+is_pin channel bar q = (q.channel == channel) && (q.bar == bar)
+
+abbrev pub without_pin : ℕ → ℕ → List pin.Pin → List pin.Pin
+without_pin channel bar pins = filter (λ q. not (is_pin channel bar q)) pins
+
+-- ---- refusals
+
+abbrev pub lacks_voice : Performed → ℕ → Bool
+lacks_voice p channel = not (list_any (λ c. c == channel) p.channels)
+
+abbrev pub lacks_bar : Performed → ℕ → Bool
+lacks_bar p bar = nat_le (length p.bars) bar
+
+-- the tests of what is asked of a cell
+abbrev pub cell_tests : Performed → ℕ → ℕ → List (Bool × EditFault)
+cell_tests p channel bar = (lacks_voice p channel, NoVoice channel) ∷ (lacks_bar p bar, NoBar bar) ∷ []
+
+-- the tests of an edit in their order, each with the refusal where it holds. A count is tested as it would be after the edit
+abbrev pub tests : Performed → Edit → List (Bool × EditFault)
+tests p (Add channel key onset end) =
+    (lacks_voice p channel, NoVoice channel)
+    ∷ (nat_lt end onset, BadSpan)
+    ∷ (has_note p.notes channel key onset, SameNote)
+    ∷ (is_past p.last (record { channel = channel; key = key; onset = onset; end = end }), PastEnd p.last)
+    ∷ (nat_lt 65536 (length p.notes + 1), Limit Notes (length p.notes + 1))
+    ∷ []
+tests p (Drop channel key onset) =
+    (lacks_voice p channel, NoVoice channel)
+    ∷ (not (has_note p.notes channel key onset), NoNote)
+    ∷ []
+tests p (Move channel key onset to) =
+    (lacks_voice p channel, NoVoice channel)
+    ∷ (not (has_note p.notes channel key onset), NoNote)
+    ∷ (has_note (without_note channel key onset p.notes) channel key to, SameNote)
+    ∷ (list_any (is_past p.last) (moved_note channel key onset to p.notes), PastEnd p.last)
+    ∷ []
+tests p (Barline bar tick) =
+    ((bar == 0) || nat_lt (length p.bars) bar, NoBar bar)
+    ∷ (not (nat_lt (barline p.bars p.last (bar - 1)) tick && nat_lt tick (barline_behind p bar)), BarlineOrder (barline p.bars p.last (bar - 1)) (barline_behind p bar))
+    ∷ ((bar == length p.bars) && list_any (is_past tick) p.notes, NoteOutside (least (onsets_past tick p.notes)))
+    ∷ []
+tests p (Pin channel bar shape) = cell_tests p channel bar
+tests p (Unpin channel bar) = cell_tests p channel bar
+tests p AddBar =
+    (nat_lt 4096 (length p.bars + 1), Limit Bars (length p.bars + 1))
+    ∷ (nat_lt 16384 (length p.channels * (length p.bars + 1)), Limit Cells (length p.channels * (length p.bars + 1)))
+    ∷ (nat_lt 2000000000 (next_barline p), Limit Line (next_barline p))
+    ∷ []
+tests p DropBar =
+    (length p.bars == 1, OneBar)
+    ∷ (list_any (is_past (last_start p)) p.notes, NotEmpty (least (onsets_past (last_start p) p.notes)))
+    ∷ []
+
+-- the first test that holds
+abbrev pub first_refusal : List (Bool × EditFault) → Option EditFault
+first_refusal [] = None
+first_refusal (test ∷ more) = if test.0 then Some test.1 else first_refusal more
+
+-- ---- the performance after
+
+abbrev pub after : Performed → Edit → Performed
+after p (Add channel key onset end) =
+    record p { notes = put place_of_note (record { channel = channel; key = key; onset = onset; end = end }) p.notes }
+after p (Drop channel key onset) = record p { notes = without_note channel key onset p.notes }
+after p (Move channel key onset to) =
+    record p { notes = put_all place_of_note (moved_note channel key onset to p.notes) (without_note channel key onset p.notes) }
+after p (Barline bar tick) =
+    record p { bars = with_barline bar tick p.bars; last = if bar == length p.bars then tick else p.last }
+after p (Pin channel bar shape) =
+    record p { pins = put place_of_pin (record { channel = channel; bar = bar; shape = shape }) (without_pin channel bar p.pins) }
+after p (Unpin channel bar) = record p { pins = without_pin channel bar p.pins }
+after p AddBar = record p { bars = p.bars ++ next_bar p.last (last_of p.bars); last = next_barline p }
+after p DropBar =
+    record p {
+      bars = take (length p.bars - 1) p.bars;
+      last = last_start p;
+      pins = filter (λ q. nat_lt q.bar (length p.bars - 1)) p.pins;
+    }
+
+abbrev pub unless_refused : Performed → Option EditFault → Result Performed EditFault
+unless_refused p None = Ok p
+unless_refused p (Some fault) = Err fault
+
+-- the performance after the edit, or the first refusal. Whether each voice has a derivation is asked afterwards
+abbrev pub edited : Performed → Edit → Result Performed EditFault
+edited p edit = unless_refused (after p edit) (first_refusal (tests p edit))
