@@ -6,7 +6,7 @@ ghost use Rattle.std.specs.Io.KnownBytes.{Appends};
 ghost use Rattle.std.specs.Prelude.{◌≡◌, OnErr, OnOk, decimal};
 
 use crate::stop::{Kind, Missing, Stop};
-use rhythm_ports::{Partial, Sink, write_all};
+use rhythm_ports::{Failed, Sink, write_all};
 
 /// A piece of a line.
 #[derive(Clone, Copy)]
@@ -34,26 +34,26 @@ fn missing_word(missing: Missing) -> &'static str
     }
 }
 
-fn write_text<K: Sink>(sink: &mut K, text: &str) -> Result<(), Partial>
+fn write_text<K: Sink>(sink: &mut K, text: &str) -> Result<(), Failed>
     ensures all { OnOk result (Appends (K.taken sink.old) (K.taken sink.new) text.now) }
     ensures part { OnErr result (AppendsPart (K.taken sink.old) (K.taken sink.new) text.now) }
     ensures cause { HasCause (K.faults sink.old) (K.faults sink.new) result }
 {
-    write_all(sink, text.as_bytes())
+    write_all(sink, text.as_bytes()).map_err(|_partial| Failed)
 }
 
 /// Writes a number, with no memory.
-fn write_number<K: Sink>(sink: &mut K, number: u64) -> Result<(), Partial>
+fn write_number<K: Sink>(sink: &mut K, number: u64) -> Result<(), Failed>
     ensures all { OnOk result (Appends (K.taken sink.old) (K.taken sink.new) (decimal number)) }
     ensures part { OnErr result (AppendsPart (K.taken sink.old) (K.taken sink.new) (decimal number)) }
     ensures cause { HasCause (K.faults sink.old) (K.faults sink.new) result }
 {
     let mut buffer = itoa::Buffer::new();
-    write_all(sink, buffer.format(number).as_bytes())
+    write_all(sink, buffer.format(number).as_bytes()).map_err(|_partial| Failed)
 }
 
 /// Writes a part.
-fn write_part<K: Sink>(sink: &mut K, part: Part) -> Result<(), Partial>
+fn write_part<K: Sink>(sink: &mut K, part: Part) -> Result<(), Failed>
     ensures all { OnOk result (Appends (K.taken sink.old) (K.taken sink.new) (part_text part.entry)) }
     ensures part { OnErr result (AppendsPart (K.taken sink.old) (K.taken sink.new) (part_text part.entry)) }
     ensures cause { HasCause (K.faults sink.old) (K.faults sink.new) result }
@@ -65,7 +65,7 @@ fn write_part<K: Sink>(sink: &mut K, part: Part) -> Result<(), Partial>
 }
 
 /// Writes the parts one after another, up to the first that fails.
-fn write_parts<K: Sink>(sink: &mut K, parts: &[Part]) -> Result<(), Partial>
+fn write_parts<K: Sink>(sink: &mut K, parts: &[Part]) -> Result<(), Failed>
     ensures all { OnOk result (Appends (K.taken sink.old) (K.taken sink.new) (joined (part_texts parts.now))) }
     ensures part { OnErr result (AppendsPart (K.taken sink.old) (K.taken sink.new) (joined (part_texts parts.now))) }
     ensures cause { HasCause (K.faults sink.old) (K.faults sink.new) result }
@@ -77,7 +77,7 @@ fn write_parts<K: Sink>(sink: &mut K, parts: &[Part]) -> Result<(), Partial>
 }
 
 /// Writes the voice and the bar that have no derivation.
-fn write_no_derivation<K: Sink>(sink: &mut K, channel: u64, bar: u64) -> Result<(), Partial>
+fn write_no_derivation<K: Sink>(sink: &mut K, channel: u64, bar: u64) -> Result<(), Failed>
     ensures all { OnOk result (Appends (K.taken sink.old) (K.taken sink.new) (no_derivation_line channel bar)) }
     ensures part { OnErr result (AppendsPart (K.taken sink.old) (K.taken sink.new) (no_derivation_line channel bar)) }
     ensures cause { HasCause (K.faults sink.old) (K.faults sink.new) result }
