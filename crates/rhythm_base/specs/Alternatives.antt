@@ -1,5 +1,6 @@
 -- The alternatives of one bar of a voice: its best trees, with the bar's pin lifted and the others kept.
-use Rattle.std.specs.Prelude.{◌≡◌, ℕ, ◌-◌, ◌≤◌, ◌==◌, ◌⊎◌, if◌then◌else◌, List, [], ◌∷◌, length, All, AllPairs, Contains, slice_get, Some, None}
+use Rattle.std.specs.Prelude.{◌≡◌, ℕ, ◌≤◌, ◌⊎◌, List, [], ◌∷◌, length, All, AllPairs, Contains, slice_get, Some, None}
+use Rattle.std.proofs.Common.{zero, suc}
 use Rattle.std.specs.declared.cmp.Ordering.TheVariants.{Less}
 use Rattle.rhythm_base.specs.Cost.{cost}
 use Rattle.rhythm_base.specs.Forest.{Branch, preorder_of}
@@ -11,7 +12,8 @@ use Rattle.rhythm_base.specs.Rulebook.{Rulebook}
 -- the bars with the pin of the bar of that number lifted
 abbrev pub lifted : ℕ → List Measure → List Measure
 lifted i [] = []
-lifted i (bar ∷ bars) = if i == 0 then record bar { pin = None } ∷ bars else bar ∷ lifted (i - 1) bars
+lifted zero (bar ∷ bars) = record bar { pin = None } ∷ bars
+lifted (suc i) (bar ∷ bars) = bar ∷ lifted i bars
 
 -- a tree of the bar, with the least cost of a derivation of the voice that has it there
 pub record IsAlternative (g : Rulebook) (bars : List Measure) (cs : List Sounding) (i : ℕ) (a : ℕ × Branch) : Type 0 where

@@ -1,6 +1,7 @@
 -- Edits of a performance: which are refused and why, and the performance after the others. They speak of lists of notes,
 -- bars and pins alone.
-use Rattle.std.specs.Prelude.{ℕ, ◌+◌, ◌-◌, ◌*◌, ◌/◌, ◌<◌, ◌≤◌, Bool, ◌&&◌, ◌||◌, ◌==◌, not, nat_lt, nat_le, if◌then◌else◌, IsTrue, List, [], ◌∷◌, ◌++◌, length, map, filter, fold, take, Option, Some, None, Result, Ok, Err, ⊤, min}
+use Rattle.std.specs.Prelude.{ℕ, ◌+◌, ◌-◌, ◌*◌, ◌/◌, ◌<◌, ◌≤◌, Bool, false, ◌&&◌, ◌||◌, ◌==◌, not, nat_lt, nat_le, if◌then◌else◌, IsTrue, List, [], ◌∷◌, ◌++◌, length, map, filter, find, fold, take, Option, Some, None, Result, Ok, Err, ⊤, min}
+use Rattle.std.proofs.Common.{zero, suc}
 use Rattle.std.specs.List.{list_any}
 use Rattle.std.specs.Cmp.Lexicographic.{slice_cmp}
 use Rattle.std.specs.Ordering.{is_lt, nat_cmp}
@@ -43,13 +44,18 @@ without_note channel key onset notes = filter (λ n. not (is_note channel key on
 abbrev pub moved_to : ℕ → Note → Note
 moved_to to n = record { channel = n.channel; key = n.key; onset = to; end = to + (n.end - n.onset) }
 
--- the note of that channel, key and onset, moved: a list of one, or of none
-abbrev pub moved_note : ℕ → ℕ → ℕ → ℕ → List Note → List Note
-moved_note channel key onset to notes = map (moved_to to) (filter (is_note channel key onset) notes)
+-- the note of that channel, key and onset
+abbrev pub note_at : List Note → ℕ → ℕ → ℕ → Option Note
+note_at notes channel key onset = find (is_note channel key onset) notes
 
 -- it would begin at or after the tick, or end after it
 abbrev pub is_past : ℕ → Note → Bool
 is_past tick n = nat_le tick n.onset || nat_lt tick n.end
+
+-- the note, moved, would
+abbrev pub is_moved_past : ℕ → ℕ → Option Note → Bool
+is_moved_past tick to None = false
+is_moved_past tick to (Some n) = is_past tick (moved_to to n)
 
 -- the onsets of the notes that would
 abbrev pub onsets_past : ℕ → List Note → List ℕ
@@ -64,7 +70,8 @@ least (t ∷ ts) = fold min t ts
 -- the start of a bar, or the last barline behind the last bar
 abbrev pub barline : List Bar → ℕ → ℕ → ℕ
 barline [] last bar = last
-barline (b ∷ bars) last bar = if bar == 0 then b.start else barline bars last (bar - 1)
+barline (b ∷ bars) last zero = b.start
+barline (b ∷ bars) last (suc bar) = barline bars last bar
 
 -- the barline behind this one, and a tick past the latest possible one where there is none
 abbrev pub barline_behind : Performed → ℕ → ℕ
@@ -76,7 +83,8 @@ with_start tick b = record { start = tick; num = b.num; den = b.den }
 -- the bars with another start of the bar of that number
 abbrev pub with_barline : ℕ → ℕ → List Bar → List Bar
 with_barline bar tick [] = []
-with_barline bar tick (b ∷ bars) = if bar == 0 then with_start tick b ∷ bars else b ∷ with_barline (bar - 1) tick bars
+with_barline zero tick (b ∷ bars) = with_start tick b ∷ bars
+with_barline (suc bar) tick (b ∷ bars) = b ∷ with_barline bar tick bars
 
 -- ticks of a whole bar of the signature: 4 * division * num / den
 abbrev pub nominal : ℕ → Bar → ℕ
@@ -107,9 +115,10 @@ put place x xs =
     filter (λ y. is_lt (slice_cmp nat_cmp (place y) (place x))) xs
     ++ (x ∷ filter (λ y. not (is_lt (slice_cmp nat_cmp (place y) (place x)))) xs)
 
-abbrev pub put_all : {X : Type 0} → (X → List ℕ) → List X → List X → List X
-put_all place [] ys = ys
-put_all place (x ∷ xs) ys = put place x (put_all place xs ys)
+-- the notes with this one moved
+abbrev pub put_moved : ℕ → Option Note → List Note → List Note
+put_moved to None notes = notes
+put_moved to (Some n) notes = put place_of_note (moved_to to n) notes
 
 -- ---- pins
 
@@ -148,7 +157,7 @@ tests p (Move channel key onset to) =
     (lacks_voice p channel, NoVoice channel)
     ∷ (not (has_note p.notes channel key onset), NoNote)
     ∷ (has_note (without_note channel key onset p.notes) channel key to, SameNote)
-    ∷ (list_any (is_past p.last) (moved_note channel key onset to p.notes), PastEnd p.last)
+    ∷ (is_moved_past p.last to (note_at p.notes channel key onset), PastEnd p.last)
     ∷ []
 tests p (Barline bar tick) =
     ((bar == 0) || nat_lt (length p.bars) bar, NoBar bar)
@@ -179,7 +188,7 @@ after p (Add channel key onset end) =
     record p { notes = put place_of_note (record { channel = channel; key = key; onset = onset; end = end }) p.notes }
 after p (Drop channel key onset) = record p { notes = without_note channel key onset p.notes }
 after p (Move channel key onset to) =
-    record p { notes = put_all place_of_note (moved_note channel key onset to p.notes) (without_note channel key onset p.notes) }
+    record p { notes = put_moved to (note_at p.notes channel key onset) (without_note channel key onset p.notes) }
 after p (Barline bar tick) =
     record p { bars = with_barline bar tick p.bars; last = if bar == length p.bars then tick else p.last }
 after p (Pin channel bar shape) =

@@ -19,3 +19,7 @@ pub mod Ranks
 pub mod Parsing
 pub mod ForestLemmas
 pub mod Attachments
+pub mod OrderedLists
+pub mod Edited
+pub mod EditedBars
+pub mod Uniqueness

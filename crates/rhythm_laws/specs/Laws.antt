@@ -1,17 +1,29 @@
 -- The laws, each as one statement over the definitions.
-use Rattle.std.specs.Prelude.{◌≡◌, ℕ, ◌+◌, ◌*◌, ◌≤◌, ◌<◌, ◌↔◌, true, List, [], ◌∷◌, ◌++◌, filter, length, Option}
+use Rattle.std.specs.Prelude.{◌≡◌, ℕ, ◌+◌, ◌*◌, ◌≤◌, ◌<◌, ◌↔◌, true, List, [], ◌∷◌, ◌++◌, filter, length, Option, Result, Ok}
+use Rattle.rhythm_base.specs.declared.bar_fault.BarFault.{BarFault}
+use Rattle.rhythm_base.specs.declared.chord.Chord.{Chord}
+use Rattle.rhythm_base.specs.declared.edit.Edit.{Edit}
+use Rattle.rhythm_base.specs.declared.event.Signature.{Signature}
+use Rattle.rhythm_base.specs.declared.event.Tempo.{Tempo}
+use Rattle.rhythm_base.specs.declared.note.Bar.{Bar}
+use Rattle.rhythm_base.specs.declared.note.Note.{Note}
 use Rattle.rhythm_base.specs.declared.rule.Rule.{Rule}
+use Rattle.rhythm_base.specs.Bars.{IsLaying}
 use Rattle.rhythm_base.specs.Cell.{Cell}
 use Rattle.rhythm_base.specs.Cells.{CellFits, last_end}
+use Rattle.rhythm_base.specs.Chords.{AreChords}
 use Rattle.rhythm_base.specs.Cost.{cost, sequence_of, weights}
 use Rattle.rhythm_base.specs.DeadBars.{IsDead, end_of}
+use Rattle.rhythm_base.specs.Edits.{IsEditInRange, edited}
 use Rattle.rhythm_base.specs.Forest.{Branch, none, more, preorder_of}
-use Rattle.rhythm_base.specs.Leaves.{FitsVoice, Measure, are_bars, lies_in, line_of, looks}
-use Rattle.rhythm_base.specs.Line.{Sounding, seat}
+use Rattle.rhythm_base.specs.Leaves.{FitsVoice, Measure, are_bars, in_bar, lies_in, line_of, looks}
+use Rattle.rhythm_base.specs.Least.{IsLeast}
+use Rattle.rhythm_base.specs.Line.{Sounding, agree, past, seat}
 use Rattle.rhythm_base.specs.Outline.{Outline}
+use Rattle.rhythm_base.specs.Performed.{IsWellFormed, Performed}
 use Rattle.rhythm_base.specs.Ranked.{Entries, Keys, product_of, table, table_of, times}
 use Rattle.rhythm_base.specs.Rulebook.{Rulebook}
-use Rattle.rhythm_base.specs.Trees.{are_trees}
+use Rattle.rhythm_base.specs.Trees.{are_trees, is_tree, leaves_of}
 use Rattle.rhythm_laws.specs.Forests.{AreLeast, AreWide, Ground, IsGround, first_shape, other_shapes}
 use Rattle.rhythm_laws.specs.Passes.{HasPass}
 use Rattle.rhythm_laws.specs.Tables.{AllRanked}
@@ -70,3 +82,26 @@ pub record LeastForestsAreOfTheLeast : Type 0 where
       → AreLeast d (first_shape s) p (q ∷ []) first → AreLeast d (other_shapes s) (p + q.0) qs others → AreLeast d s p (q ∷ qs) (times first others)
   pub tables : (d : Ground) (p : ℕ) (q : ℕ × ℕ) (s : Option Outline) (first others : Keys)
       → AreLeast d (first_shape s) p (q ∷ []) first → table_of (times first others) ≡ product_of (table_of first) (table_of others)
+
+-- what a performance and a grammar ask has one answer: the bars at loading or their fault, the chords of a voice, and the
+-- least derivation of a voice, where there is one
+pub record AnswersAreOne : Type 0 where
+  pub bars : (division : ℕ) (signatures : List Signature) (onset end : ℕ) (r s : Result (List Bar × ℕ) BarFault)
+      → IsLaying division signatures onset end r → IsLaying division signatures onset end s → r ≡ s
+  pub chords : (tempos : List Tempo) (division window : ℕ) (notes : List Note) (cs ds : List Chord)
+      → AreChords tempos division window notes cs → AreChords tempos division window notes ds → cs ≡ ds
+  pub least : (g : Rulebook) (bars : List Measure) (cs : List Sounding) (ts us : List Branch)
+      → IsLeast g bars cs ts → IsLeast g bars cs us → ts ≡ us
+
+-- an edit that is not refused leaves a well-formed performance with the same voices
+pub record EditsKeepPerformances : Type 0 where
+  pub formed : (p q : Performed) (edit : Edit) → IsWellFormed p → IsEditInRange edit → edited p edit ≡ Ok q → IsWellFormed q
+  pub voices : (p q : Performed) (edit : Edit) → edited p edit ≡ Ok q → q.channels ≡ p.channels
+
+-- a tree whose leaves agree within its bar, with no chord attached past them, is a derivation of the voice of that one bar
+abbrev pub OneBarIsAVoice : Type 0
+OneBarIsAVoice =
+    (g : Rulebook) (bar : Measure) (cs : List Sounding) (t : Branch) → is_tree g.rules g.resolution bar.symbol bar.pin t ≡ true
+    → agree (looks g.resolution) [] [] cs (in_bar bar (leaves_of g.rules g.resolution bar.symbol t)) ≡ true
+    → past (looks g.resolution) [] cs (in_bar bar (leaves_of g.rules g.resolution bar.symbol t)) ≡ 0
+    → FitsVoice g (bar ∷ []) cs (t ∷ [])

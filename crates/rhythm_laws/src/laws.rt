@@ -1,9 +1,12 @@
 ghost use Rattle.rhythm_laws.specs.Laws.{
+  AnswersAreOne,
   BarsAreLocal,
   CountsAreOne,
   DeadBarsAreByCounts,
+  EditsKeepPerformances,
   LeastForestsAreOfTheLeast,
   ListsAreNoPrefixes,
+  OneBarIsAVoice,
   OnsetsAreAttached,
   OneWeightIsAsBefore,
   TablesMultiply,
@@ -48,4 +51,19 @@ pub fn one_weight_is_as_before()
 /// The least trees side by side are made of the least trees, and ranks stand for rule lists.
 pub fn least_forests_are_of_the_least()
     ensures { LeastForestsAreOfTheLeast }
+{}
+
+/// The bars at loading, the chords of a voice and its least derivation are one each.
+pub fn answers_are_one()
+    ensures { AnswersAreOne }
+{}
+
+/// An edit that is not refused leaves a well-formed performance with the same voices.
+pub fn edits_keep_performances()
+    ensures { EditsKeepPerformances }
+{}
+
+/// A tree that fits its bar alone is a derivation of the voice of that one bar.
+pub fn one_bar_is_a_voice()
+    ensures { OneBarIsAVoice }
 {}
