@@ -24,6 +24,7 @@ mod portions;
 mod rule;
 mod rule_list;
 mod shape;
+mod shape_text;
 mod sound;
 mod span;
 mod tag;
