@@ -1,0 +1,4 @@
+pub mod Barlines
+pub mod Lookups
+pub mod Passes
+pub mod Turns

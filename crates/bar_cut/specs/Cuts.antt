@@ -1,0 +1,53 @@
+-- What is cut into cells: the bars of a voice and its chords.
+use Rattle.std.specs.Prelude.{◌≡◌, ℕ, ◌-◌, min, ◌<◌, ◌≤◌, List, length, map, take, All, slice_get, slice_index, Some, None}
+use Rattle.std.specs.List.Sorted.{IsStrictlyIncreasing}
+use Rattle.rhythm_base.specs.declared.chord.Chord.{Chord}
+use Rattle.rhythm_base.specs.declared.inner.Inner.{Inner}
+use Rattle.rhythm_base.specs.declared.note.Bar.{Bar}
+use Rattle.rhythm_base.specs.declared.pin.Pin.{Pin}
+use Rattle.rhythm_base.specs.Cell.{Cell}
+use Rattle.rhythm_base.specs.Cells.{input}
+use Rattle.rhythm_base.specs.Leaves.{soundings}
+use Rattle.rhythm_base.specs.Line.{Rising}
+use Rattle.rhythm_base.specs.Rulebook.{Rulebook, root_of}
+use Rattle.rhythm_base.specs.Signatures.{IsSignature}
+use Rattle.rhythm_base.specs.Voices.{HasStarts, measures_from}
+
+-- a bar that begins before the last barline
+pub record IsBarBefore (last : ℕ) (b : Bar) : Type 0 where
+  pub start : b.start < last
+  pub signature : IsSignature b.num b.den
+
+-- bars side by side from tick 0 to the last barline, and chords whose onsets rise and whose ends are not before them
+pub record AreBarsAndChords (bars : List Bar) (last : ℕ) (voice : List Chord) : Type 0 where
+  pub some_bar : 1 ≤ length bars
+  pub few_bars : length bars ≤ 4096
+  pub are_before : All (IsBarBefore last) bars
+  pub first_bar : slice_index (map (λ b. b.start) bars) 0 ≡ 0
+  pub bars_rise : IsStrictlyIncreasing (map (λ b. b.start) bars)
+  pub last_barline : last ≤ 2000000000
+  pub chords_rise : Rising 0 (soundings voice)
+  pub chords : All (λ c. c.onset ≤ c.end) voice
+
+-- the input of each cell of the voice, bar after bar
+abbrev pub inputs : Rulebook → List Pin → ℕ → ℕ → List Bar → List Chord → List Cell
+inputs g pins channel last bars voice = map (λ m. input g m (soundings voice)) (measures_from g pins channel last 0 bars)
+
+-- the first bar whose signature has no root symbol, and that signature
+pub record IsFirstWithoutStart (g : Rulebook) (bars : List Bar) (bar num den : ℕ) : Type 0 where
+  pub it : Bar
+  pub there : slice_get bars bar ≡ Some it
+  pub signature : (num ≡ it.num) × (den ≡ it.den)
+  pub none : root_of g.starts num den ≡ None
+  pub first : HasStarts g (take bar bars)
+
+-- chords in ticks from a bar's start, their ends cut to the bar's length
+abbrev pub moved_all : ℕ → ℕ → List Chord → List Inner
+moved_all start length own = map (λ c. record { onset = c.onset - start; end = min (c.end - start) length }) own
+
+-- chords that begin from a tick on, before another one, and end not before they begin
+abbrev pub AreInside : ℕ → ℕ → List Chord → Type 0
+AreInside start end own = All (λ c. (start ≤ c.onset) × (c.onset < end) × (c.onset ≤ c.end)) own
+
+abbrev pub Rises : ℕ → List Chord → Type 0
+Rises low cs = Rising low (soundings cs)

@@ -1,0 +1,51 @@
+ghost use Rattle.bar_cut.specs.Cuts.{AreBarsAndChords, IsFirstWithoutStart, inputs};
+ghost use Rattle.bar_cut.specs.declared.fault.CutFault.TheVariants.{NoStart};
+ghost use Rattle.rhythm_base.specs.Readable.{IsInRange};
+ghost use Rattle.rhythm_base.specs.Voices.{HasStarts};
+ghost use Rattle.std.specs.Prelude.{◌≡◌, Err, IfOk, ℕ};
+
+use crate::cell::cell_of;
+use crate::fault::CutFault;
+use crate::inner::{count_before, last_end};
+use crate::lookup::{barline_behind, pin_of, root_of};
+use rhythm_base::{Bar, BarInput, Chord, Grammar, Pin};
+use std::alloc::Global;
+
+/// The input of each cell of a voice, bar after bar. The bars are side by side from tick 0 to the last barline, at `last`;
+/// the chords are those of the voice `channel`, whose pins alone are looked at.
+pub fn cut(
+    alloc: Global,
+    voice: &[Chord],
+    bars: &[Bar],
+    last: u64,
+    grammar: &Grammar,
+    pins: &[Pin],
+    channel: u8,
+) -> Result<Vec<BarInput>, CutFault>
+    requires voice { AreBarsAndChords bars.now last voice.now }
+    requires grammar { IsInRange grammar.now }
+    ensures inputs { IfOk result (λ v. v.items ≡ inputs grammar.now pins.now channel last bars.now voice.now) }
+    ensures starts { IfOk result (λ _. HasStarts grammar.now bars.now) }
+    ensures no_start { (bar num den : ℕ) → result ≡ Err (NoStart bar num den) → IsFirstWithoutStart grammar.now bars.now bar num den }
+{
+    let mut inputs = Vec::with_capacity(alloc, bars.len())?;
+    let mut later = voice;
+    let mut before = 0;
+    'bars: for number in 0..bars.len() {
+        let bar = bars[number];
+        let end = barline_behind(bars, last, number);
+        let Some(symbol) = root_of(grammar, bar.num, bar.den) else {
+            return Err(CutFault::NoStart {
+                bar: number as u32,
+                num: bar.num,
+                den: bar.den,
+            });
+        };
+        let (own, rest) = later.split_at(count_before(later, end));
+        let pin = pin_of(pins, channel, number);
+        inputs.push(cell_of(alloc, grammar, symbol, bar, end, own, before, pin)?)?;
+        before = last_end(own, before);
+        later = rest;
+    }
+    Ok(inputs)
+}
