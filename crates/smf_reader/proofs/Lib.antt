@@ -5,3 +5,4 @@ pub mod Merging
 pub mod NeverMemory
 pub mod OneOutcome
 pub mod ReadToTheEnd
+pub mod ReadInRange

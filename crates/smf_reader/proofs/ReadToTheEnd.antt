@@ -17,28 +17,28 @@ use Rattle.smf_reader.specs.Track.{followed, silence, events}
 use Rattle.smf_reader.specs.Outcomes.{IsReadToItsEnd}
 
 -- what is read has this property
-record Finds {A : Type 0} (P : A → Type 0) (r : Result A SmfFault) : Type 0 where
+pub record Finds {A : Type 0} (P : A → Type 0) (r : Result A SmfFault) : Type 0 where
   pub at : (x : A) → r ≡ Ok x → P x
 
 same_value : {A : Type 0} (x y : A) → ◌≡◌ {A = Result A SmfFault} (Ok x) (Ok y) → x ≡ y
 same_value x y h = cc
 
-value : {A : Type 0} {P : A → Type 0} {x : A} → P x → Finds P (Ok x)
+pub value : {A : Type 0} {P : A → Type 0} {x : A} → P x → Finds P (Ok x)
 value {A} {P} {x} h = record { at = λ y e. subst P (same_value x y e) h }
 
-no_value : {A : Type 0} {P : A → Type 0} {fault : SmfFault} → Finds P (Err fault)
+pub no_value : {A : Type 0} {P : A → Type 0} {fault : SmfFault} → Finds P (Err fault)
 no_value = record { at = λ x h. absurd cc }
 
-any : {A : Type 0} (r : Result A SmfFault) → Finds (λ _. ⊤) r
+pub any : {A : Type 0} (r : Result A SmfFault) → Finds (λ _. ⊤) r
 any r = record { at = λ x h. tt }
 
-chained : {A B : Type 0} {P : A → Type 0} {Q : B → Type 0} {r : Result A SmfFault} {next : A → Result B SmfFault} → Finds P r → ((x : A) → P x → Finds Q (next x)) → Finds Q (r >>= next)
+pub chained : {A B : Type 0} {P : A → Type 0} {Q : B → Type 0} {r : Result A SmfFault} {next : A → Result B SmfFault} → Finds P r → ((x : A) → P x → Finds Q (next x)) → Finds Q (r >>= next)
 chained {A} {B} {P} {Q} {r} {next} first others = go r first where
   go : (r : Result A SmfFault) → Finds P r → Finds Q (r >>= next)
   go (Ok x) h = others x (h.at x refl)
   go (Err fault) h = no_value
 
-chosen : {A : Type 0} {P : A → Type 0} (b : Bool) (x y : Result A SmfFault) → Finds P x → Finds P y → Finds P (if b then x else y)
+pub chosen : {A : Type 0} {P : A → Type 0} (b : Bool) (x y : Result A SmfFault) → Finds P x → Finds P y → Finds P (if b then x else y)
 chosen true x y first second = first
 chosen false x y first second = second
 

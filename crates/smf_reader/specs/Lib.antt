@@ -10,3 +10,4 @@ pub mod Chunk
 pub mod Header
 pub mod SmfFile
 pub mod Outcomes
+pub mod Ranges

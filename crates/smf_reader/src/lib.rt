@@ -20,7 +20,7 @@ mod smf;
 mod track;
 
 pub use fault::SmfFault;
-pub use laws::{files_have_one_outcome, tracks_are_read_to_their_ends};
+pub use laws::{files_have_one_outcome, readings_are_in_range, tracks_are_read_to_their_ends};
 pub use read::read_smf;
 pub use smf::{Smf, Track};
 
