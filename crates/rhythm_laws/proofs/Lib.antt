@@ -23,3 +23,4 @@ pub mod OrderedLists
 pub mod Edited
 pub mod EditedBars
 pub mod Uniqueness
+pub mod OneTable

@@ -27,11 +27,11 @@ use Rattle.rhythm_laws.proofs.Ranks.{both}
 
 -- ---- the least derivation
 
-abbrev label_of : Forest → ℕ
+abbrev pub label_of : Forest → ℕ
 label_of none = 0
 label_of (more r kids rest) = r
 
-abbrev kids_of : Forest → Forest
+abbrev pub kids_of : Forest → Forest
 kids_of none = none
 kids_of (more r kids rest) = kids
 
@@ -56,12 +56,12 @@ one_derivation g (bar ∷ bars) (t ∷ ts) (u ∷ us) p q e =
     let kids_same : t.kids ≡ u.kids = ap kids_of one.0 in
     λ i. record { rule = rules_same i; kids = kids_same i } ∷ rest i
 
-not_less : (r : Ordering) → r ≢ Less → is_lt r ≡ false
+pub not_less : (r : Ordering) → r ≢ Less → is_lt r ≡ false
 not_less Less h = absurd (h refl)
 not_less Equal h = refl
 not_less Greater h = refl
 
-then_both : (o u : Ordering) → ordering_then o u ≡ Equal → (o ≡ Equal) × (u ≡ Equal)
+pub then_both : (o u : Ordering) → ordering_then o u ≡ Equal → (o ≡ Equal) × (u ≡ Equal)
 then_both Less u e = absurd (cc)
 then_both Equal u e = (refl, e)
 then_both Greater u e = absurd (cc)

@@ -11,6 +11,7 @@ use Rattle.rhythm_base.specs.declared.rule.Rule.{Rule}
 use Rattle.rhythm_base.specs.Bars.{IsLaying}
 use Rattle.rhythm_base.specs.Cell.{Cell}
 use Rattle.rhythm_base.specs.Cells.{CellFits, last_end}
+use Rattle.rhythm_base.specs.CellTables.{CellTable, IsTable, list_at}
 use Rattle.rhythm_base.specs.Chords.{AreChords}
 use Rattle.rhythm_base.specs.Cost.{cost, sequence_of, weights}
 use Rattle.rhythm_base.specs.DeadBars.{IsDead, end_of}
@@ -83,8 +84,8 @@ pub record LeastForestsAreOfTheLeast : Type 0 where
   pub tables : (d : Ground) (p : ℕ) (q : ℕ × ℕ) (s : Option Outline) (first others : Keys)
       → AreLeast d (first_shape s) p (q ∷ []) first → table_of (times first others) ≡ product_of (table_of first) (table_of others)
 
--- what a performance and a grammar ask has one answer: the bars at loading or their fault, the chords of a voice, and the
--- least derivation of a voice, where there is one
+-- what a performance and a grammar ask has one answer: the bars at loading or their fault, the chords of a voice, the least
+-- derivation of a voice, where there is one, and the table of a cell
 pub record AnswersAreOne : Type 0 where
   pub bars : (division : ℕ) (signatures : List Signature) (onset end : ℕ) (r s : Result (List Bar × ℕ) BarFault)
       → IsLaying division signatures onset end r → IsLaying division signatures onset end s → r ≡ s
@@ -92,6 +93,8 @@ pub record AnswersAreOne : Type 0 where
       → AreChords tempos division window notes cs → AreChords tempos division window notes ds → cs ≡ ds
   pub least : (g : Rulebook) (bars : List Measure) (cs : List Sounding) (ts us : List Branch)
       → IsLeast g bars cs ts → IsLeast g bars cs us → ts ≡ us
+  pub tables : (g : Rulebook) (v w : CellTable) → IsTable g v → IsTable g w → v.input ≡ w.input
+      → (v.matrix ≡ w.matrix) × ((from to : ℕ) → from < 5 → to < 5 → list_at v from to ≡ list_at w from to)
 
 -- an edit that is not refused leaves a well-formed performance with the same voices
 pub record EditsKeepPerformances : Type 0 where

@@ -53,7 +53,7 @@ pub fn least_forests_are_of_the_least()
     ensures { LeastForestsAreOfTheLeast }
 {}
 
-/// The bars at loading, the chords of a voice and its least derivation are one each.
+/// The bars at loading, the chords of a voice, its least derivation and the table of a cell are one each.
 pub fn answers_are_one()
     ensures { AnswersAreOne }
 {}
