@@ -29,6 +29,13 @@ impl<P: Tag> Steps<P> {
         }
     }
 
+    /// The number of products so far.
+    pub fn count(&self) -> u64
+        ensures { result ≡ self.now }
+    {
+        self.count
+    }
+
     /// Adds the other's number.
     pub fn absorb(&mut self, other: Steps<P>)
         ensures { self.new ≡ risen self.old other }

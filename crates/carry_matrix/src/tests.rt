@@ -62,6 +62,7 @@ fn products_by_hand(rt: HostRuntime) -> Result<(), Fail> {
     // Both ways to no chord cost 7, and the lower list in the first matrix decides. It is the same for both ends, so that
     // those in the second matrix decide between them.
     let both = product(&either, &after, &mut steps);
+    assert!(rt; steps.count() == 1);
     assert!(rt; middle(&either, &after, 0, 0) == Some(1));
     assert!(rt; middle(&either, &after, 0, 4) == Some(1));
     assert!(rt; middle(&either, &after, 0, 1).is_none());

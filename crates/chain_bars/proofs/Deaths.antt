@@ -1,5 +1,5 @@
 -- What paths reach, cell by cell, and the first cell over which none leads.
-use Rattle.std.proofs.Common.{◌≡◌, ◌↔◌, ℕ, zero, suc, ◌+◌, ◌<◌, ◌≤◌, Bool, true, false, List, [], ◌∷◌, ◌++◌, length, take, refl, sym, subst, ap, ◌∙◌, inl, inr, arith}
+use Rattle.std.proofs.Common.{◌≡◌, ◌↔◌, ℕ, zero, suc, ◌+◌, ◌<◌, ◌≤◌, Bool, false, List, [], ◌∷◌, ◌++◌, length, take, refl, sym, subst, ap, ◌∙◌, inl, inr, arith}
 use Rattle.std.specs.Prelude.{Option, Some, None, IsSome, IsTrue, slice_index_or}
 use Rattle.std.proofs.lemmas.Bool.{cases_lt}
 use Rattle.rhythm_base.specs.declared.best.Best.{Best}
@@ -88,24 +88,6 @@ take_snoc (e ∷ es) (suc n) h = ap (λ l. e ∷ l) (take_snoc es n (omega arith
 pub end_low : (a : ℕ) (p : List ℕ) → a < 5 → AreCounts p → end_of a p < 5
 end_low a [] low c = low
 end_low a (m ∷ p) low c = end_low m p c.0 c.1
-
-pub reached_start : (es : List Entries) → AreReached es 0 (true ∷ false ∷ false ∷ false ∷ false ∷ [])
-reached_start es zero low = ((λ t. record { counts = []; carried = tt; there = refl; ends = refl }), λ r. refl)
-reached_start es (suc b) low = ((λ t. absurd (unmarked b low t)), λ r. absurd (nothing r))
-  where
-    unmarked : (n : ℕ) → suc n < 5 → IsTrue (slice_index_or (true ∷ false ∷ false ∷ false ∷ false ∷ []) (suc n) false) → ⊥
-    unmarked zero h t = cc
-    unmarked (suc zero) h t = cc
-    unmarked (suc (suc zero)) h t = cc
-    unmarked (suc (suc (suc zero))) h t = cc
-    unmarked (suc (suc (suc (suc n)))) h t = omega (arith, h)
-
-    nothing : IsReached es 0 (suc b) → ⊥
-    nothing r = go r.counts r.there r.ends
-      where
-        go : (p : List ℕ) → IsSome (path_key [] 0 p) → end_of 0 p ≡ suc b → ⊥
-        go [] h e = omega (arith, e)
-        go (m ∷ p) h e = cc
 
 pub reached_step : (es : List Entries) (n m : ℕ) (cell : Entries) (marks next : List Bool) → m ≡ suc n → n < length es → cell ≡ slice_index_or es n [] → AreReached es n marks
     → ((to : ℕ) → to < 5 → IsTrue (slice_index_or next to false) ↔ CanStep marks cell to) → AreReached es m next

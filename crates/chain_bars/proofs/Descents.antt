@@ -9,10 +9,9 @@ use Rattle.rhythm_laws.proofs.KeyOrders.{keys_total, itself}
 use Rattle.rhythm_laws.proofs.LeastKeys.{IsLeast, IsLeast-one}
 use Rattle.rhythm_laws.proofs.Alike.{via}
 use Rattle.rhythm_laws.proofs.PathTables.{keys-least_path, middle_on_path, least_append, two, table_single, product_ranked}
-use Rattle.chain_bars.specs.Tower.{paired, raised, level, AreCells, AreCheap, AreRanked, IsTower, best_cost, cost_of}
+use Rattle.chain_bars.specs.Tower.{Tier, paired, raised, level, AreCells, AreCheap, AreRanked, IsTower, best_cost, cost_of}
 use Rattle.chain_bars.specs.Walks.{number_or, refined, descended, AreCarries}
-use Rattle.chain_bars.proofs.Towers.{table_paired, table_cost, root_cost, paired_length, raised_ranked, level_cheap}
-use Rattle.chain_bars.proofs.Renewals.{raised_upto}
+use Rattle.chain_bars.proofs.Towers.{table_paired, table_cost, root_cost, root_one, paired_length, raised_ranked, raised_upto, level_cheap}
 use Rattle.chain_bars.proofs.Growth.{single}
 
 pub joined_parts : (o u : Option Key) (k : Key) → joined o u ≡ Some k → (x : Key) × (y : Key) × (o ≡ Some x) × (u ≡ Some y) × (k ≡ plus x y)
@@ -239,13 +238,6 @@ drop_all [] (suc n) h = refl
 drop_all (x ∷ xs) zero h = absurd (omega arith)
 drop_all (x ∷ xs) (suc n) h = drop_all xs n (omega arith)
 
-refined_none : (a : ℕ) (p : List ℕ) → refined [] a p ≡ []
-refined_none a p = refl
-
-pub below_start : (es : List Entries) (p : List ℕ) → 1 ≤ length p → slice_index_or p 0 0 ∷ [] ++ refined (drop (2 * (1 - 1)) es) (slice_index_or p 0 0) (drop 1 p) ≡ descended es p
-below_start es [] h = absurd (omega arith)
-below_start es (a ∷ p) h = refl
-
 pub below_step : (es : List Entries) (p done more : List ℕ) (n n' j j' a : ℕ) → n' ≡ suc n → j' ≡ suc (suc j) → n < length p → j < length es
     → (j + 1 < length es → more ≡ done ++ number_or (middle_of (slice_index_or es j []) (slice_index_or es (j + 1) []) a (slice_index_or p n 0)) ∷ slice_index_or p n 0 ∷ [])
     → (length es ≤ j + 1 → more ≡ done ++ slice_index_or p n 0 ∷ [])
@@ -284,9 +276,6 @@ below_step es p done more n n' j j' a en ej high here paired_more lone last h = 
     counts : drop n p ≡ m ∷ drop n' p
     counts = drop_step p n n' 0 en high
 
-pub below_end : (es : List Entries) (p done : List ℕ) (n j a : ℕ) → length es ≤ j → done ++ refined (drop j es) a (drop n p) ≡ descended es p → done ≡ descended es p
-below_end es p done n j a few h = sym (append-nil done) ∙ ap (λ l. done ++ refined l a (drop n p)) (sym (drop_all es j few)) ∙ h
-
 -- from a level to the one below it
 pub carries_down : (es : List Entries) (p : List ℕ) → AreRanked es → AreCarries (paired es) p → AreCarries es (descended es p)
 carries_down es p r h =
@@ -309,14 +298,11 @@ carries_long es p h =
 
 -- ---- walking down a tower
 
-pub root_carries : (ls : List (List Entries)) (p : List ℕ) → AreCells (level ls 0) → IsTower (level ls 0) ls → IsSome (cost_of (keys (level ls 0) 0 0)) → p ≡ 0 ∷ 0 ∷ [] → AreCarries (raised (level ls 0) (length ls - 1)) p
-root_carries ls p cells t s e =
+pub root_carries : (ls : List Tier) (top : ℕ) (p : List ℕ) → AreCells (level ls 0) → IsSome (cost_of (keys (level ls 0) 0 0)) → top ≡ 12 → p ≡ 0 ∷ 0 ∷ [] → AreCarries (raised (level ls 0) top) p
+root_carries ls top p cells s e f =
     let es : List Entries = level ls 0 in
-    let k : ℕ = length ls - 1 in
-    let some : 1 ≤ length ls = t.some in
-    let one_long : length (raised es k) ≡ 1 = t.root k (omega (arith, some)) in
-    let least = root_least es k (slice_index_or (raised es k) 0 []) cells.ranked (single (raised es k) one_long) s in
-    record { path = 0 ∷ []; from_none = e; key = least.0; least = least.1 }
+    let least = root_least es 12 (slice_index_or (raised es 12) 0 []) cells.ranked (single (raised es 12) (root_one es cells)) s in
+    subst (λ k. AreCarries (raised es k) p) (sym e) (record { path = 0 ∷ []; from_none = f; key = least.0; least = least.1 })
 
 pub record Asked (nodes : List Entries) (p : List ℕ) : Type 0 where
   pub few : length nodes ≤ 4096
@@ -326,26 +312,26 @@ pub record Asked (nodes : List Entries) (p : List ℕ) : Type 0 where
   pub covers : length nodes ≤ 2 * (length p - 1)
   pub fits : 2 * (length p - 1) ≤ length nodes + 1
 
-pub down_asks : (ls : List (List Entries)) (nodes : List Entries) (k above : ℕ) (p : List ℕ) → AreCells (level ls 0) → IsTower (level ls 0) ls → above ≡ suc k → above < length ls → nodes ≡ level ls k
+pub down_asks : (ls : List Tier) (nodes : List Entries) (k above : ℕ) (p : List ℕ) → AreCells (level ls 0) → IsTower (level ls 0) ls → above ≡ suc k → above < 13 → nodes ≡ level ls k
     → AreCarries (raised (level ls 0) above) p → Asked nodes p
 down_asks ls nodes k above p cells t e low n h =
     let es : List Entries = level ls 0 in
-    let here : nodes ≡ raised es k = n ∙ t.each k (omega (arith, e, low)) in
-    let many : 2 ≤ length (raised es k) = t.long k (omega (arith, e, low)) in
+    let all : k < 13 = omega (arith, e, low) in
+    let here : nodes ≡ raised es k = n ∙ t.each k all in
     let upto : length (raised es k) ≤ length es = raised_upto es k in
     let long = carries_long (paired (raised es k)) p (subst (λ a. AreCarries (raised es a) p) e h) in
     let pairs = paired_length (raised es k) in
     let size : length nodes ≡ length (raised es k) = ap length here in
     record {
       few = omega (arith, size, upto, cells.few);
-      cheap = subst (AreCheap (2 ^ 61 - 1)) (sym here) (level_cheap es k cells many);
+      cheap = subst (AreCheap (2 ^ 61 - 1)) (sym here) (level_cheap es k cells all);
       some = omega (arith, long.0);
       counts = long.1;
       covers = omega (arith, long.0, pairs.0, size);
       fits = omega (arith, long.0, pairs.1, size);
     }
 
-pub down_step : (ls : List (List Entries)) (nodes : List Entries) (k above : ℕ) (p q : List ℕ) → AreCells (level ls 0) → IsTower (level ls 0) ls → above ≡ suc k → above < length ls → nodes ≡ level ls k
+pub down_step : (ls : List Tier) (nodes : List Entries) (k above : ℕ) (p q : List ℕ) → AreCells (level ls 0) → IsTower (level ls 0) ls → above ≡ suc k → above < 13 → nodes ≡ level ls k
     → AreCarries (raised (level ls 0) above) p → q ≡ descended nodes p → AreCarries (raised (level ls 0) k) q
 down_step ls nodes k above p q cells t e low n h d =
     let es : List Entries = level ls 0 in

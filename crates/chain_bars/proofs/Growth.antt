@@ -1,98 +1,125 @@
--- Levels that grow, and the cost at the root.
-use Rattle.std.proofs.Common.{◌≡◌, inl, inr, ℕ, zero, suc, ◌+◌, ◌^◌, ◌-◌, ◌<◌, ◌≤◌, List, [], ◌∷◌, ◌++◌, length, refl, sym, subst, ap, ◌∙◌, arith}
-use Rattle.std.specs.Prelude.{slice_index_or}
+-- Levels that are built one above the other, and the cost at the root.
+use Rattle.std.proofs.Common.{◌≡◌, inl, inr, ℕ, zero, suc, ◌+◌, ◌*◌, ◌/◌, ◌-◌, ◌<◌, ◌≤◌, List, [], ◌∷◌, ◌++◌, length, refl, sym, subst, ap, ◌∙◌, arith, append_assoc}
+use Rattle.std.specs.Prelude.{slice_index_or, drop, min}
 use Rattle.std.proofs.lemmas.Bool.{cases_lt}
 use Rattle.std.proofs.lemmas.List.{length_push}
+use Rattle.rhythm_base.specs.Counter.{risen}
 use Rattle.rhythm_base.specs.Ranked.{Entries, at, keys}
 use Rattle.rhythm_base.specs.Paths.{IsRanked}
-use Rattle.chain_bars.specs.Tower.{paired, raised, AreCheap, AreRanked, level, IsTower, AreCells, Growing, cost_of, best_cost}
-use Rattle.chain_bars.proofs.Towers.{paired_length, raised_some, level_cheap, root_cost}
-use Rattle.chain_bars.proofs.Renewals.{raised_upto, index_same}
+use Rattle.chain_bars.specs.Tower.{Tier, paired, node_at, raised, halved, AreRanked, AreCells, IsTower, level, room_at, tier, cost_of, best_cost}
+use Rattle.chain_bars.proofs.Changes.{Asked, tower_asks}
+use Rattle.chain_bars.proofs.Lists.{index_same, tier_read}
+use Rattle.chain_bars.proofs.Towers.{paired_length, paired_rest, raised_length, raised_some, raised_upto, root_cost, root_one}
 
-push_before : (ls : List (List Entries)) (x : List Entries) (k : ℕ) → k < length ls → level (ls ++ x ∷ []) k ≡ level ls k
+-- ---- one level
+
+pub pairs_step : (es ns : List Entries) (k : ℕ) (node : Entries) → 2 * k < length es → ns ++ paired (drop (2 * k) es) ≡ paired es → node ≡ node_at es k
+    → (ns ++ node ∷ []) ++ paired (drop (2 * (k + 1)) es) ≡ paired es
+pairs_step es ns k node h e s =
+    let two_on : 2 * (k + 1) ≡ suc (suc (2 * k)) = omega arith in
+    let rest : node_at es k ∷ paired (drop (2 * (k + 1)) es) ≡ paired (drop (2 * k) es) = ap (λ n. node_at es k ∷ paired (drop n es)) two_on ∙ sym (paired_rest es k (2 * k) refl h) in
+    append_assoc ns (node ∷ []) (paired (drop (2 * (k + 1)) es))
+    ∙ ap (λ (x : Entries). ns ++ x ∷ paired (drop (2 * (k + 1)) es)) s ∙ ap (λ l. ns ++ l) rest ∙ e
+
+-- the products of the pairs below a place
+pub pairs_count : (n k start before now : ℕ) → 2 * k < n → before ≡ risen start (min k (n / 2)) → (2 * k + 1 < n → now ≡ risen before 1) → (n ≤ 2 * k + 1 → now ≡ before) → now ≡ risen start (min (k + 1) (n / 2))
+pairs_count n k start before now low h two lone = elim (cases_lt (2 * k + 1) n) [
+  | inl there ↦ let e = two there in omega (arith, there, h, e)
+  | inr end ↦ let e = lone end in omega (arith, low, end, h, e)
+]
+
+-- ---- one level above the other
+
+push_before : (ls : List Tier) (x : Tier) (k : ℕ) → k < length ls → tier (ls ++ x ∷ []) k ≡ tier ls k
 push_before [] x k h = absurd (omega arith)
 push_before (l ∷ ls) x zero h = refl
 push_before (l ∷ ls) x (suc k) h = push_before ls x k (omega arith)
 
-push_last : (ls : List (List Entries)) (x : List Entries) (k : ℕ) → length ls ≡ k → level (ls ++ x ∷ []) k ≡ x
+push_last : (ls : List Tier) (x : Tier) (k : ℕ) → length ls ≡ k → tier (ls ++ x ∷ []) k ≡ x
 push_last [] x zero h = refl
 push_last [] x (suc k) h = absurd (omega arith)
 push_last (l ∷ ls) x zero h = absurd (omega arith)
 push_last (l ∷ ls) x (suc k) h = push_last ls x k (omega arith)
 
-pub grow_start : (es : List Entries) → Growing es [] es
-grow_start es = record { each = λ k low. absurd (omega (arith, low)); long = λ k low. absurd (omega (arith, low)); top = refl }
+-- the levels below `above`, each with memory for what stands there
+pub record IsBuilt (es : List Entries) (ls : List Tier) (above : ℕ) : Type 0 where
+  pub count : length ls ≡ above
+  pub each : (k : ℕ) → k < above → level ls k ≡ raised es k
+  pub room : (k : ℕ) → k < above → halved (length es) k ≤ room_at ls k
 
-each_pushed : (es : List Entries) (ls : List (List Entries)) (last : List Entries) → Growing es ls last → (k : ℕ) → k < length (ls ++ last ∷ []) → level (ls ++ last ∷ []) k ≡ raised es k
-each_pushed es ls last h k low =
-    let long : length (ls ++ last ∷ []) ≡ length ls + 1 = length_push ls last in
-    elim (cases_lt k (length ls)) [
-      | inl less ↦ push_before ls last k less ∙ h.each k less
-      | inr more ↦
-          let place : length ls ≡ k = omega (arith, low, more, long) in
-          push_last ls last k place ∙ h.top ∙ ap (raised es) place
-    ]
-
-pub grow_step : (es : List Entries) (ls : List (List Entries)) (last next : List Entries) → Growing es ls last → 2 ≤ length last → next ≡ paired last → Growing es (ls ++ last ∷ []) next
-grow_step es ls last next h many e = record { each = each_pushed es ls last h; long = longer; top = e ∙ ap paired h.top ∙ ap (raised es) (sym pushed) }
-  where
-    pushed : length (ls ++ last ∷ []) ≡ suc (length ls)
-    pushed = let long : length (ls ++ last ∷ []) ≡ length ls + 1 = length_push ls last in omega (arith, long)
-
-    longer : (k : ℕ) → k < length (ls ++ last ∷ []) → 2 ≤ length (raised es k)
-    longer k low = elim (cases_lt k (length ls)) [
-      | inl less ↦ h.long k less
-      | inr more ↦
-          let place : length ls ≡ k = omega (arith, low, more, pushed) in
-          subst (λ m. 2 ≤ length (raised es m)) place (subst (λ l. 2 ≤ length l) h.top many)
-    ]
-
-pub grow_end : (es : List Entries) (ls : List (List Entries)) (last : List Entries) → AreCells es → Growing es ls last → length last ≤ 1 → IsTower es (ls ++ last ∷ [])
-grow_end es ls last cells h short = record {
-  some = omega (arith, pushed);
-  each = each_pushed es ls last h;
-  long = λ k low. h.long k (omega (arith, low, pushed));
-  root = λ k e.
-      let place : length ls ≡ k = omega (arith, e, pushed) in
-      let some : 1 ≤ length (raised es k) = raised_some es k cells.some in
-      let one : length (raised es k) ≤ 1 = subst (λ l. length l ≤ 1) (h.top ∙ ap (raised es) place) short in
-      omega (arith, some, one);
+pub built_step : (es : List Entries) (ls : List Tier) (above : ℕ) (t : Tier) → IsBuilt es ls above → t.nodes ≡ raised es above → halved (length es) above ≤ t.room → IsBuilt es (ls ++ t ∷ []) (above + 1)
+built_step es ls above t h e r = record {
+  count = let long : length (ls ++ t ∷ []) ≡ length ls + 1 = length_push ls t in omega (arith, long, h.count);
+  each = λ k low. elim (cases_lt k above) [
+    | inl less ↦ ap (λ (x : Tier). x.nodes) (push_before ls t k (omega (arith, less, h.count))) ∙ h.each k less
+    | inr more ↦
+        let place : above ≡ k = omega (arith, low, more) in
+        ap (λ (x : Tier). x.nodes) (push_last ls t k (h.count ∙ place)) ∙ e ∙ ap (raised es) place
+  ];
+  room = λ k low. elim (cases_lt k above) [
+    | inl less ↦ subst (λ (x : Tier). halved (length es) k ≤ x.room) (sym (push_before ls t k (omega (arith, less, h.count)))) (h.room k less)
+    | inr more ↦
+        let place : above ≡ k = omega (arith, low, more) in
+        subst (λ (x : Tier). halved (length es) k ≤ x.room) (sym (push_last ls t k (h.count ∙ place))) (subst (λ m. halved (length es) m ≤ t.room) place r)
+  ];
 }
-  where
-    pushed : length (ls ++ last ∷ []) ≡ length ls + 1
-    pushed = length_push ls last
 
-pub grow_asks : (es : List Entries) (ls : List (List Entries)) (last : List Entries) → AreCells es → Growing es ls last → 2 ≤ length last → (length last ≤ 4096) × AreCheap (2 ^ 61 - 1) last
-grow_asks es ls last cells h many =
-    let upto : length (raised es (length ls)) ≤ length es = raised_upto es (length ls) in
-    let few : length (raised es (length ls)) ≤ 4096 = omega (arith, upto, cells.few) in
-    (subst (λ l. length l ≤ 4096) (sym h.top) few, subst (AreCheap (2 ^ 61 - 1)) (sym h.top) (level_cheap es (length ls) cells (subst (λ l. 2 ≤ length l) h.top many)))
+-- the level above the last one
+pub record Next (es nodes : List Entries) (a : ℕ) : Type 0 where
+  pub here : paired nodes ≡ raised es (suc a)
+  pub room : halved (length es) (suc a) ≡ (length nodes + 1) / 2
+  pub rest : (start before now : ℕ) → before ≡ risen start (length es - length nodes) → now ≡ risen before (length nodes / 2) → now ≡ risen start (length es - length (raised es (suc a)))
 
-pub shorter : (es next : List Entries) → 2 ≤ length es → next ≡ paired es → length next < length es
-shorter es next h e =
-    let p = paired_length es in
-    subst (λ l. length l < length es) (sym e) (omega (arith, p.1, h))
+pub built_next : (es nodes : List Entries) (a : ℕ) → nodes ≡ raised es a → length (raised es a) ≤ length es → Next es nodes a
+built_next es nodes a e upto =
+    let size : length nodes ≡ length (raised es a) = ap length e in
+    let size_is : length (raised es a) ≡ halved (length es) a = raised_length es a in
+    let pairs = paired_length (raised es a) in
+    record {
+      here = ap paired e;
+      room = omega (arith, size, size_is);
+      rest = λ start before now h n. omega (arith, size, pairs.0, pairs.1, upto, h, n);
+    }
+
+pub built_asks : (es : List Entries) (ls : List Tier) (above : ℕ) (t : Tier) → AreCells es → IsBuilt es ls above → 1 ≤ above → above < 13 → t ≡ slice_index_or ls (above - 1) t → Asked es t.nodes (above - 1)
+built_asks es ls above t cells h some low e =
+    tower_asks es t.nodes (above - 1) cells (omega (arith, low)) (ap (λ (x : Tier). x.nodes) (tier_read ls (above - 1) t (omega (arith, some, h.count)) e) ∙ h.each (above - 1) (omega (arith, some)))
+
+pub record Grown (es : List Entries) (ls : List Tier) (above start now : ℕ) (t : Tier) : Type 0 where
+  pub levels : IsBuilt es (ls ++ t ∷ []) (above + 1)
+  pub products : now ≡ risen start (length es - length (raised es (above + 1 - 1)))
+  pub most : now ≤ risen start (length es - 1)
+
+pub built_more : (es nodes : List Entries) (ls : List Tier) (above start before now : ℕ) (t : Tier) → AreCells es → IsBuilt es ls above → 1 ≤ above → nodes ≡ raised es (above - 1) → t.nodes ≡ paired nodes → (length nodes + 1) / 2 ≤ t.room
+    → before ≡ risen start (length es - length (raised es (above - 1))) → now ≡ risen before (length nodes / 2) → Grown es ls above start now t
+built_more es nodes ls above start before now t cells h some here e r b n =
+    let next = built_next es nodes (above - 1) here (raised_upto es (above - 1)) in
+    let up : suc (above - 1) ≡ above = omega (arith, some) in
+    let again : above + 1 - 1 ≡ suc (above - 1) = omega (arith, some) in
+    let size : length nodes ≡ length (raised es (above - 1)) = ap length here in
+    let rest : now ≡ risen start (length es - length (raised es (suc (above - 1)))) = next.rest start before now (b ∙ ap (λ m. risen start (length es - m)) (sym size)) n in
+    let one : 1 ≤ length (raised es (suc (above - 1))) = raised_some es (suc (above - 1)) cells.some in
+    record {
+      levels = built_step es ls above t h (e ∙ next.here ∙ ap (raised es) up) (subst (λ m. halved (length es) m ≤ t.room) up (let room = next.room in omega (arith, room, r)));
+      products = rest ∙ ap (λ m. risen start (length es - length (raised es m))) (sym again);
+      most = omega (arith, rest, one);
+    }
+
+pub built_most : (es : List Entries) (above start now : ℕ) → AreCells es → now ≡ risen start (length es - length (raised es (above - 1))) → now ≤ risen start (length es - 1)
+built_most es above start now cells e =
+    let one : 1 ≤ length (raised es (above - 1)) = raised_some es (above - 1) cells.some in
+    omega (arith, e, one)
+
+pub built_all : (es : List Entries) (above start now : ℕ) → AreCells es → above ≡ 13 → now ≡ risen start (length es - length (raised es (above - 1))) → now ≡ risen start (length es - 1)
+built_all es above start now cells last e =
+    let top : above - 1 ≡ 12 = omega (arith, last) in
+    e ∙ ap (λ k. risen start (length es - length (raised es k))) top ∙ ap (λ m. risen start (length es - m)) (root_one es cells)
 
 -- ---- each cell is ranked
 
 pub all_ranked : (es : List Entries) → ((k : ℕ) → k < length es → IsRanked (slice_index_or es k [])) → AreRanked es
 all_ranked [] h = tt
 all_ranked (x ∷ es) h = (h 0 (omega arith), all_ranked es (λ k low. h (suc k) (omega arith)))
-
--- ---- the root
-
-pub single : (es : List Entries) → length es ≡ 1 → es ≡ slice_index_or es 0 [] ∷ []
-single [] e = absurd (omega arith)
-single (x ∷ []) e = refl
-single (x ∷ y ∷ es) e = absurd (omega arith)
-
-pub tower_cost : (es : List Entries) (ls : List (List Entries)) → AreCells es → IsTower es ls → (length (level ls (length ls - 1)) ≡ 1) × (best_cost (at (slice_index_or (level ls (length ls - 1)) 0 []) 0 0) ≡ cost_of (keys es 0 0))
-tower_cost es ls cells h =
-    let k : ℕ = length ls - 1 in
-    let some : 1 ≤ length ls = h.some in
-    let here : level ls k ≡ raised es k = h.each k (omega (arith, some)) in
-    let one : length (raised es k) ≡ 1 = h.root k (omega (arith, some)) in
-    (ap length here ∙ one, ap (λ l. best_cost (at (slice_index_or l 0 []) 0 0)) here ∙ root_cost es k (slice_index_or (raised es k) 0 []) cells.ranked (single (raised es k) one))
 
 pub see_step : (es : List Entries) (n : ℕ) (x : Entries) → ((k : ℕ) → k < n → IsRanked (slice_index_or es k [])) → n < length es → x ≡ slice_index_or es n x → IsRanked x
     → (k : ℕ) → k < n + 1 → IsRanked (slice_index_or es k [])
@@ -103,9 +130,26 @@ see_step es n x h low e r k k_low = elim (cases_lt k n) [
       subst (λ m. IsRanked (slice_index_or es m [])) place (subst IsRanked (index_same es n x [] low e) r)
 ]
 
-pub root_is : (es : List Entries) (ls : List (List Entries)) (top : List Entries) (x : Entries) → AreCells (level ls 0) × IsTower (level ls 0) ls → level ls 0 ≡ es
-    → top ≡ level ls (length ls - 1) → x ≡ slice_index_or top 0 x → best_cost (at x 0 0) ≡ cost_of (keys es 0 0)
-root_is es ls top x h v t e =
-    let facts = tower_cost (level ls 0) ls h.0 h.1 in
-    let some : 0 < length top = let one : length top ≡ 1 = ap length t ∙ facts.0 in omega (arith, one) in
-    ap (λ m. best_cost (at m 0 0)) (index_same top 0 x [] some e ∙ ap (λ l. slice_index_or l 0 []) t) ∙ facts.1 ∙ ap (λ c. cost_of (keys c 0 0)) v
+-- ---- the root
+
+pub single : (es : List Entries) → length es ≡ 1 → es ≡ slice_index_or es 0 [] ∷ []
+single [] e = absurd (omega arith)
+single (x ∷ []) e = refl
+single (x ∷ y ∷ es) e = absurd (omega arith)
+
+pub root_is : (ls : List Tier) (top : List Entries) (k : ℕ) (x : Entries) → AreCells (level ls 0) → IsTower (level ls 0) ls → k ≡ 12 → top ≡ level ls k → x ≡ slice_index_or top 0 x
+    → best_cost (at x 0 0) ≡ cost_of (keys (level ls 0) 0 0)
+root_is ls top k x cells t last e s =
+    let es : List Entries = level ls 0 in
+    let here : top ≡ raised es 12 = e ∙ ap (level ls) last ∙ t.each 12 (omega arith) in
+    let one : length (raised es 12) ≡ 1 = root_one es cells in
+    let some : 0 < length top = let size : length top ≡ length (raised es 12) = ap length here in omega (arith, one, size) in
+    ap (λ m. best_cost (at m 0 0)) (index_same top 0 x [] some s ∙ ap (λ l. slice_index_or l 0 []) here)
+    ∙ root_cost es 12 (slice_index_or (raised es 12) 0 []) cells.ranked (single (raised es 12) one)
+
+pub root_some : (ls : List Tier) (top : List Entries) (k : ℕ) → AreCells (level ls 0) → IsTower (level ls 0) ls → k ≡ 12 → top ≡ level ls k → 0 < length top
+root_some ls top k cells t last e =
+    let here : top ≡ raised (level ls 0) 12 = e ∙ ap (level ls) last ∙ t.each 12 (omega arith) in
+    let one : length (raised (level ls 0) 12) ≡ 1 = root_one (level ls 0) cells in
+    let size : length top ≡ length (raised (level ls 0) 12) = ap length here in
+    omega (arith, one, size)

@@ -1,9 +1,13 @@
+pub mod Changes
 pub mod Deaths
 pub mod Descents
+pub mod Endings
 pub mod Growth
+pub mod Lists
 pub mod Pushes
 pub mod Renewals
-pub mod Shortenings
+pub mod Rooms
 pub mod Sides
 pub mod Towers
 pub mod Voices
+pub mod Replicas

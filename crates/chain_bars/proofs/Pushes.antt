@@ -1,9 +1,9 @@
 -- One cell more behind the last.
-use Rattle.std.proofs.Common.{◌≡◌, ℕ, ◌+◌, ◌<◌, List, [], ◌∷◌, ◌++◌, length, sym, subst, ◌∙◌, arith}
+use Rattle.std.proofs.Common.{◌≡◌, ℕ, ◌+◌, ◌<◌, List, [], ◌∷◌, ◌++◌, length, arith}
 use Rattle.std.proofs.lemmas.List.{length_push}
 use Rattle.rhythm_base.specs.Paths.{IsRanked}
 use Rattle.rhythm_base.specs.Ranked.{Entries}
-use Rattle.chain_bars.specs.Tower.{IsCheap, AreCheap, AreRanked, AreCells, IsTower, level}
+use Rattle.chain_bars.specs.Tower.{IsCheap, AreCheap, AreRanked, AreCells}
 
 ranked_push : (es : List Entries) (e : Entries) → AreRanked es → IsRanked e → AreRanked (es ++ e ∷ [])
 ranked_push [] e h r = (r, tt)
@@ -22,13 +22,3 @@ cells_push es e h low r c =
       ranked = ranked_push es e h.ranked r;
       cheap = cheap_push 500000000000 es e h.cheap c;
     }
-
-pub record Grown (es : List Entries) (ls : List (List Entries)) : Type 0 where
-  pub cells : level ls 0 ≡ es
-  pub sound : AreCells (level ls 0)
-  pub tower : IsTower (level ls 0) ls
-
-pub grown_end : (es first : List Entries) (ls : List (List Entries)) → AreCells es → first ≡ es → IsTower first ls → Grown es ls
-grown_end es first ls h e t =
-    let here : level ls 0 ≡ es = t.each 0 t.some ∙ e in
-    record { cells = here; sound = subst AreCells (sym here) h; tower = subst (λ l. IsTower l ls) (sym (t.each 0 t.some)) t }

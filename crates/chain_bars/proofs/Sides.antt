@@ -1,16 +1,16 @@
 -- What stands before a cell and behind it, level by level.
 use Rattle.std.proofs.Common.{◌≡◌, ℕ, zero, suc, ◌+◌, ◌*◌, ◌/◌, ◌-◌, ◌^◌, ◌<◌, ◌≤◌, List, [], ◌∷◌, length, take, refl, sym, subst, ap, ◌∙◌, inl, inr, arith}
-use Rattle.std.specs.Prelude.{Some, None, Bool, true, false, ◌==◌, if◌then◌else◌, drop, slice_index_or}
+use Rattle.std.specs.Prelude.{Some, None, Bool, true, false, ◌==◌, if◌then◌else◌, drop, min, slice_index_or}
 use Rattle.std.proofs.lemmas.Bool.{cases_lt}
+use Rattle.rhythm_base.specs.Counter.{risen}
 use Rattle.rhythm_base.specs.declared.best.Best.{Best}
 use Rattle.rhythm_laws.proofs.ProductCosts.{grid_entry}
 use Rattle.rhythm_base.specs.Ranked.{Entries, at, five, keys, table, product_of, identity_entries}
 use Rattle.rhythm_base.specs.Paths.{IsRanked}
 use Rattle.rhythm_laws.proofs.Products.{five_same}
 use Rattle.rhythm_laws.proofs.PathTables.{table_append, table_single, table_nil, table_ranked, product_assoc, product_ranked, identity_left, identity_right, identity_ranked}
-use Rattle.chain_bars.specs.Tower.{paired, raised, level, IsCheap, AreCheap, AreRanked, AreCells, IsTower, best_cost, cost_of}
-use Rattle.chain_bars.proofs.Towers.{to_all, table_paired, table_cost, doubled, doubled_low, raised_cheap, raised_ranked, raised_low, cheap_at, product_cheap, paired_length, level_cheap}
-use Rattle.chain_bars.proofs.Renewals.{raised_upto}
+use Rattle.chain_bars.specs.Tower.{Tier, paired, raised, level, IsCheap, AreCheap, AreRanked, AreCells, IsTower, best_cost, cost_of}
+use Rattle.chain_bars.proofs.Towers.{to_all, table_paired, table_cost, doubled, doubled_low, raised_cheap, raised_ranked, raised_short, raised_upto, root_one, cheap_at, product_cheap, paired_length, level_cheap}
 use Rattle.chain_bars.proofs.Deaths.{take_snoc}
 use Rattle.chain_bars.proofs.Descents.{drop_step, drop_all}
 
@@ -208,46 +208,57 @@ pub record Asked (es nodes : List Entries) (k place : ℕ) (m : Entries) : Type 
   pub small : IsCheap (2 ^ 61 - 1) m
   pub next : place / 2 < length (raised es (k + 1))
 
-pub side_asks : (ls : List (List Entries)) (nodes : List Entries) (k place : ℕ) (m : Entries) → AreCells (level ls 0) → IsTower (level ls 0) ls → k + 1 < length ls → nodes ≡ level ls k
+pub side_asks : (ls : List Tier) (nodes : List Entries) (k place : ℕ) (m : Entries) → AreCells (level ls 0) → IsTower (level ls 0) ls → k < 12 → nodes ≡ level ls k
     → place < length (raised (level ls 0) k) → IsCheap (doubled k 500000000000) m → Asked (level ls 0) nodes k place m
 side_asks ls nodes k place m cells t low n p h =
     let es : List Entries = level ls 0 in
-    let here : nodes ≡ raised es k = n ∙ t.each k (omega (arith, low)) in
-    let many : 2 ≤ length (raised es k) = t.long k low in
+    let all : k < 13 = omega (arith, low) in
+    let here : nodes ≡ raised es k = n ∙ t.each k all in
     let upto : length (raised es k) ≤ length es = raised_upto es k in
     let size : length nodes ≡ length (raised es k) = ap length here in
     let pairs = paired_length (raised es k) in
-    let bound : doubled k 500000000000 ≤ 2 ^ 61 - 1 = doubled_low k (raised_low es k cells.few many) in
+    let bound : doubled k 500000000000 ≤ 2 ^ 61 - 1 = doubled_low k all in
     let next : suc k ≡ k + 1 = omega arith in
     record {
       here = here;
       few = omega (arith, size, upto, cells.few);
       held = omega (arith, size, p);
-      cheap = subst (AreCheap (2 ^ 61 - 1)) (sym here) (level_cheap es k cells many);
+      cheap = subst (AreCheap (2 ^ 61 - 1)) (sym here) (level_cheap es k cells all);
       small = λ i j e s. let c = h i j e s in omega (arith, c, bound);
       next = subst (λ j. place / 2 < length (raised es j)) next (omega (arith, p, pairs.0));
     }
 
-root_place : (ls : List (List Entries)) (k place : ℕ) → IsTower (level ls 0) ls → k + 1 ≡ length ls → place < length (raised (level ls 0) k) → place ≡ 0
-root_place ls k place t e p =
-    let one : length (raised (level ls 0) k) ≡ 1 = t.root k e in
-    omega (arith, one, p)
-
-pub before_root : (ls : List (List Entries)) (cell k place : ℕ) (m : Entries) → AreCells (level ls 0) → IsTower (level ls 0) ls → k + 1 ≡ length ls → place < length (raised (level ls 0) k)
+pub before_root : (ls : List Tier) (cell k place : ℕ) (m : Entries) → AreCells (level ls 0) → k ≡ 12 → place < length (raised (level ls 0) k)
     → IsBefore (level ls 0) cell k place m → five (λ to. best_cost (at m 0 to)) ≡ five (λ to. cost_of (keys (take cell (level ls 0)) 0 to))
-before_root ls cell k place m cells t e p h =
+before_root ls cell k place m cells e p h =
     let es : List Entries = level ls 0 in
-    let first : place ≡ 0 = root_place ls k place t e p in
+    let one : length (raised es k) ≡ 1 = ap (λ j. length (raised es j)) e ∙ root_one es cells in
+    let first : place ≡ 0 = omega (arith, one, p) in
     let same : m ≡ table (take cell es) =
     sym (identity_left m h.ranked) ∙ ap (λ u. product_of u m) (sym table_nil) ∙ ap (λ j. product_of (table (take j (raised es k))) m) (sym first) ∙ h.whole in
     five_same (λ to. best_cost (at m 0 to)) (λ to. cost_of (keys (take cell es) 0 to)) (λ b low. ap (λ u. best_cost (at u 0 b)) same ∙ table_cost (take cell es) 0 b (omega arith) low)
 
-pub after_root : (ls : List (List Entries)) (cell k place : ℕ) (m : Entries) → AreCells (level ls 0) → IsTower (level ls 0) ls → k + 1 ≡ length ls → place < length (raised (level ls 0) k)
+pub after_root : (ls : List Tier) (cell k place : ℕ) (m : Entries) → AreCells (level ls 0) → k ≡ 12
     → IsAfter (level ls 0) cell k place m → five (λ from. best_cost (at m from 0)) ≡ five (λ from. cost_of (keys (drop (cell + 1) (level ls 0)) from 0))
-after_root ls cell k place m cells t e p h =
+after_root ls cell k place m cells e h =
     let es : List Entries = level ls 0 in
-    let one : length (raised es k) ≡ 1 = t.root k e in
+    let one : length (raised es k) ≡ 1 = ap (λ j. length (raised es j)) e ∙ root_one es cells in
     let none : drop (place + 1) (raised es k) ≡ [] = drop_all (raised es k) (place + 1) (omega (arith, one)) in
     let same : m ≡ table (drop (cell + 1) es) =
     sym (identity_right m h.ranked) ∙ ap (product_of m) (sym table_nil) ∙ ap (λ l. product_of m (table l)) (sym none) ∙ h.whole in
     five_same (λ from. best_cost (at m from 0)) (λ from. cost_of (keys (drop (cell + 1) es) from 0)) (λ b low. ap (λ u. best_cost (at u b 0)) same ∙ table_cost (drop (cell + 1) es) b 0 low (omega arith))
+
+-- at most two products for each level, and none where a single node is left
+pub sides_step : (es : List Entries) (k d n start before left now : ℕ) → n ≡ length (raised es k) → length es ≤ 2 ^ d → before ≤ risen start (2 * min k d) → left ≤ risen before 1 → now ≤ risen left 1
+    → (n ≤ 1 → left ≡ before) → (n ≤ 1 → now ≡ left) → now ≤ risen start (2 * min (k + 1) d)
+sides_step es k d n start before left now size few h one two first second = elim (cases_lt k d) [
+  | inl low ↦ omega (arith, low, h, one, two)
+  | inr high ↦
+      let short : length (raised es k) ≤ 1 = raised_short es d k high few in
+      let e : left ≡ before = first (omega (arith, size, short)) in
+      let f : now ≡ left = second (omega (arith, size, short)) in
+      omega (arith, high, h, e, f)
+]
+
+pub sides_end : (k d start now : ℕ) → now ≤ risen start (2 * min k d) → now ≤ risen start (2 * d)
+sides_end k d start now h = omega (arith, h)

@@ -1,14 +1,15 @@
 -- What holds of levels of partial products.
 use Rattle.std.proofs.Common.{◌≡◌, ℕ, zero, suc, ◌+◌, ◌*◌, ◌^◌, ◌-◌, ◌/◌, ◌<◌, ◌≤◌, List, [], ◌∷◌, inl, inr, length, refl, sym, subst, ap, ◌∙◌, arith}
-use Rattle.std.specs.Prelude.{Option, Some, None, slice_index_or, slice_set, drop}
+use Rattle.std.specs.Prelude.{Option, Some, None, slice_index_or, slice_set, drop, min}
 use Rattle.rhythm_base.specs.Ranked.{Entries, at, Key, ranked, keys, table, product_of}
+use Rattle.rhythm_base.specs.Counter.{risen}
 use Rattle.rhythm_base.specs.Paths.{IsRanked}
 use Rattle.rhythm_laws.proofs.Products.{grid_at}
 use Rattle.rhythm_laws.proofs.ProductCosts.{product_cost}
 use Rattle.std.proofs.lemmas.Bool.{cases_lt}
 use Rattle.std.proofs.Math.Nat.{pow-suc}
 use Rattle.rhythm_laws.proofs.PathTables.{table_append, table_single, two, product_ranked}
-use Rattle.chain_bars.specs.Tower.{paired, node_at, raised, IsCheap, AreCheap, AreRanked, IsTower, AreCells, cost_of, best_cost}
+use Rattle.chain_bars.specs.Tower.{paired, node_at, raised, halved, IsCheap, AreCheap, AreRanked, AreCells, cost_of, best_cost}
 use Rattle.rhythm_laws.specs.Tables.{AllRanked}
 
 -- ---- one level above another
@@ -46,9 +47,6 @@ paired_length (x ∷ []) = (omega arith, omega arith)
 paired_length (x ∷ y ∷ es) =
     let before = paired_length es in
     (omega (arith, before.0), omega (arith, before.1))
-
-double : (k : ℕ) → 2 * suc k ≡ suc (suc (2 * k))
-double k = omega arith
 
 pub node_two : (es : List Entries) (k n m : ℕ) → n ≡ 2 * k → m ≡ 2 * k + 1 → m < length es → node_at es k ≡ product_of (slice_index_or es n []) (slice_index_or es m [])
 node_two [] k n m e f h = absurd (omega arith)
@@ -135,19 +133,21 @@ raised_few es (suc k) e h =
     let pairs = paired_length (raised es k) in
     omega (arith, before, pairs.1)
 
-raised_short : (es : List Entries) (k j : ℕ) → k ≡ j + 12 → length es ≤ 4096 → length (raised es k) ≤ 1
-raised_short es k zero e h = subst (λ n. length (raised es n) ≤ 1) (sym e) (raised_few es 12 1 h)
-raised_short es zero (suc j) e h = absurd (omega arith)
-raised_short es (suc k) (suc j) e h =
-    let before : length (raised es k) ≤ 1 = raised_short es k j (omega arith) h in
+-- from the level on where at most one node is left, there is at most one
+raised_tail : (es : List Entries) (d j k : ℕ) → k ≡ j + d → length es ≤ 2 ^ d → length (raised es k) ≤ 1
+raised_tail es d zero k e h =
+    let all : times_two d 1 ≡ 2 ^ d = times_two_is d 1 ∙ grind arith in
+    let short : length (raised es d) ≤ 1 = raised_few es d 1 (subst (λ n. length es ≤ n) (sym all) h) in
+    let same : k ≡ d = omega (arith, e) in
+    subst (λ n. length (raised es n) ≤ 1) (sym same) short
+raised_tail es d (suc j) zero e h = absurd (omega (arith, e))
+raised_tail es d (suc j) (suc k) e h =
+    let before : length (raised es k) ≤ 1 = raised_tail es d j k (omega (arith, e)) h in
     let pairs = paired_length (raised es k) in
     omega (arith, before, pairs.1)
 
-pub raised_low : (es : List Entries) (k : ℕ) → length es ≤ 4096 → 2 ≤ length (raised es k) → k < 12
-raised_low es k h g = elim (cases_lt k 12) [
-  | inl low ↦ low
-  | inr high ↦ let short = raised_short es k (k - 12) (omega arith) h in absurd (omega (arith, short))
-]
+pub raised_short : (es : List Entries) (d k : ℕ) → d ≤ k → length es ≤ 2 ^ d → length (raised es k) ≤ 1
+raised_short es d k low h = raised_tail es d (k - d) k (omega (arith, low)) h
 
 pub raised_some : (es : List Entries) (k : ℕ) → 1 ≤ length es → 1 ≤ length (raised es k)
 raised_some es zero h = h
@@ -187,7 +187,7 @@ pub cheap_more : (c d : ℕ) (es : List Entries) → c ≤ d → AreCheap c es �
 cheap_more c d [] l h = tt
 cheap_more c d (x ∷ es) l h = ((λ i j e s. let low = h.0 i j e s in omega (arith, low)), cheap_more c d es l h.1)
 
-pub doubled_low : (k : ℕ) → k < 12 → doubled k 500000000000 ≤ 2 ^ 61 - 1
+pub doubled_low : (k : ℕ) → k < 13 → doubled k 500000000000 ≤ 2 ^ 61 - 1
 doubled_low zero h = omega arith
 doubled_low (suc zero) h = omega arith
 doubled_low (suc (suc zero)) h = omega arith
@@ -200,11 +200,19 @@ doubled_low (suc (suc (suc (suc (suc (suc (suc (suc zero)))))))) h = omega arith
 doubled_low (suc (suc (suc (suc (suc (suc (suc (suc (suc zero))))))))) h = omega arith
 doubled_low (suc (suc (suc (suc (suc (suc (suc (suc (suc (suc zero)))))))))) h = omega arith
 doubled_low (suc (suc (suc (suc (suc (suc (suc (suc (suc (suc (suc zero))))))))))) h = omega arith
-doubled_low (suc (suc (suc (suc (suc (suc (suc (suc (suc (suc (suc (suc k)))))))))))) h = absurd (omega arith)
+doubled_low (suc (suc (suc (suc (suc (suc (suc (suc (suc (suc (suc (suc zero)))))))))))) h = omega arith
+doubled_low (suc (suc (suc (suc (suc (suc (suc (suc (suc (suc (suc (suc (suc k))))))))))))) h = absurd (omega arith)
 
--- two of a level that has two may be added
-pub level_cheap : (es : List Entries) (k : ℕ) → AreCells es → 2 ≤ length (raised es k) → AreCheap (2 ^ 61 - 1) (raised es k)
-level_cheap es k h g = cheap_more (doubled k 500000000000) (2 ^ 61 - 1) (raised es k) (doubled_low k (raised_low es k h.few g)) (raised_cheap 500000000000 es k h.cheap)
+-- two of a level may be added
+pub level_cheap : (es : List Entries) (k : ℕ) → AreCells es → k < 13 → AreCheap (2 ^ 61 - 1) (raised es k)
+level_cheap es k h low = cheap_more (doubled k 500000000000) (2 ^ 61 - 1) (raised es k) (doubled_low k low) (raised_cheap 500000000000 es k h.cheap)
+
+-- a single node stands at the top
+pub root_one : (es : List Entries) → AreCells es → length (raised es 12) ≡ 1
+root_one es h =
+    let short : length (raised es 12) ≤ 1 = raised_few es 12 1 h.few in
+    let some : 1 ≤ length (raised es 12) = raised_some es 12 h.some in
+    omega (arith, short, some)
 
 -- ---- the root
 
@@ -230,13 +238,43 @@ raised_set es fs k n x e h =
     ap paired e ∙ paired_set (raised es k) n x h
     ∙ ap (λ l. slice_set (paired (raised es k)) (half n) (node_at l (half n))) (sym e)
 
--- at most d levels stand above at most 2 ^ d cells
-pub tower_low : (es : List Entries) (ls : List (List Entries)) (d : ℕ) → IsTower es ls → length es ≤ 2 ^ d → length ls ≤ d + 1
-tower_low es ls d h few = elim (cases_lt (d + 1) (length ls)) [
-  | inr low ↦ omega (arith, low)
-  | inl high ↦
-      let all : times_two d 1 ≡ 2 ^ d = times_two_is d 1 ∙ grind arith in
-      let short : length (raised es d) ≤ 1 = raised_few es d 1 (subst (λ n. length es ≤ n) (sym all) few) in
-      let long : 2 ≤ length (raised es d) = h.long d high in
-      absurd (omega (arith, short, long))
+-- ---- how many nodes a level has
+
+pub raised_length : (es : List Entries) (k : ℕ) → length (raised es k) ≡ halved (length es) k
+raised_length es zero = refl
+raised_length es (suc k) =
+    let before : length (raised es k) ≡ halved (length es) k = raised_length es k in
+    let pairs = paired_length (raised es k) in
+    omega (arith, before, pairs.0, pairs.1)
+
+pub halved_more : (n m k : ℕ) → n ≤ m → halved n k ≤ halved m k
+halved_more n m zero h = h
+halved_more n m (suc k) h =
+    let before : halved n k ≤ halved m k = halved_more n m k h in
+    omega (arith, before)
+
+pub raised_upto : (es : List Entries) (k : ℕ) → length (raised es k) ≤ length es
+raised_upto es zero = omega arith
+raised_upto es (suc k) =
+    let before : length (raised es k) ≤ length es = raised_upto es k in
+    let p = paired_length (raised es k) in
+    omega (arith, before, p.1)
+
+-- ---- how many products a way to the top takes
+
+-- at most one for each level, and none where at most one node is left
+pub way_step : (es : List Entries) (k d n at start before now : ℕ) → n ≡ length (raised es k) → length es ≤ 2 ^ d → before ≤ risen start (min k d) → (2 * at + 1 < n → now ≡ risen before 1) → (n ≤ 2 * at + 1 → now ≡ before)
+    → now ≤ risen start (min (k + 1) d)
+way_step es k d n at start before now size few h two lone = elim (cases_lt k d) [
+  | inl low ↦ elim (cases_lt (2 * at + 1) n) [
+    | inl there ↦ let e = two there in omega (arith, low, h, e)
+    | inr end ↦ let e = lone end in omega (arith, low, h, e)
+  ]
+  | inr high ↦
+      let short : length (raised es k) ≤ 1 = raised_short es d k high few in
+      let e : now ≡ before = lone (omega (arith, size, short)) in
+      omega (arith, high, h, e)
 ]
+
+pub way_end : (k d start now : ℕ) → now ≤ risen start (min k d) → now ≤ risen start d
+way_end k d start now h = omega (arith, h)

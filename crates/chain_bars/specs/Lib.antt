@@ -1,3 +1,5 @@
+pub mod Chained
+pub mod Endings
 pub mod Laws
 pub mod Reaches
 pub mod Tower

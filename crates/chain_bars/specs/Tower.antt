@@ -1,9 +1,11 @@
 -- Levels of partial products: each has the products of two neighbours of the one below, and a lone last one as it is.
-use Rattle.std.specs.Prelude.{◌≡◌, ℕ, ◌+◌, ◌<◌, ◌≤◌, ◌-◌, List, [], ◌∷◌, length, slice_index_or, slice_set, Option, Some, None}
+use Rattle.std.specs.Prelude.{◌≡◌, ℕ, ◌+◌, ◌/◌, ◌<◌, ◌≤◌, List, [], ◌∷◌, length, slice_index_or, Option, Some, None}
 use Rattle.std.proofs.Common.{zero, suc}
 use Rattle.rhythm_base.specs.declared.best.Best.{Best}
 use Rattle.rhythm_base.specs.Ranked.{Entries, at, Key, product_of}
 use Rattle.rhythm_base.specs.Paths.{IsRanked}
+
+-- ---- what stands above the cells
 
 abbrev pub paired : List Entries → List Entries
 paired [] = []
@@ -22,6 +24,13 @@ abbrev pub raised : List Entries → ℕ → List Entries
 raised es zero = es
 raised es (suc k) = paired (raised es k)
 
+-- how many nodes the level k has above n cells
+abbrev pub halved : ℕ → ℕ → ℕ
+halved n zero = n
+halved n (suc k) = (halved n k + 1) / 2
+
+-- ---- cells
+
 abbrev pub IsCheap : ℕ → Entries → Type 0
 IsCheap c m = (i j : ℕ) (e : Best) → at m i j ≡ Some e → e.cost ≤ c
 
@@ -33,21 +42,45 @@ abbrev pub AreRanked : List Entries → Type 0
 AreRanked [] = Unit {0}
 AreRanked (m ∷ es) = IsRanked m × AreRanked es
 
-abbrev pub level : List (List Entries) → ℕ → List Entries
-level ls k = slice_index_or ls k []
-
--- the cells and what stands above them, up to a single one
-pub record IsTower (cells : List Entries) (ls : List (List Entries)) : Type 0 where
-  pub some : 1 ≤ length ls
-  pub each : (k : ℕ) → k < length ls → level ls k ≡ raised cells k
-  pub long : (k : ℕ) → k + 1 < length ls → 2 ≤ length (raised cells k)
-  pub root : (k : ℕ) → k + 1 ≡ length ls → length (raised cells k) ≡ 1
-
 pub record AreCells (cells : List Entries) : Type 0 where
   pub few : length cells ≤ 4096
   pub some : 1 ≤ length cells
   pub ranked : AreRanked cells
   pub cheap : AreCheap 500000000000 cells
+
+-- ---- levels
+
+-- a level: its nodes, and for how many nodes it has memory
+pub record Tier : Type 0 where
+  pub nodes : List Entries
+  pub room : ℕ
+
+abbrev pub tier : List Tier → ℕ → Tier
+tier ls k = slice_index_or ls k (record { nodes = []; room = 0 })
+
+abbrev pub level : List Tier → ℕ → List Entries
+level ls k = (tier ls k).nodes
+
+abbrev pub room_at : List Tier → ℕ → ℕ
+room_at ls k = (tier ls k).room
+
+-- the cells and what stands above them: at the thirteenth level a single node stands above up to 4,096 cells
+pub record IsTower (cells : List Entries) (ls : List Tier) : Type 0 where
+  pub count : length ls ≡ 13
+  pub each : (k : ℕ) → k < 13 → level ls k ≡ raised cells k
+
+-- each level has memory for what stands there above n cells
+abbrev pub HasRoom : ℕ → List Tier → Type 0
+HasRoom n ls = (k : ℕ) → k < 13 → halved n k ≤ room_at ls k
+
+-- the levels of a chain that has memory for so many cells
+pub record IsChain (ls : List Tier) (room : ℕ) : Type 0 where
+  pub cells : AreCells (level ls 0)
+  pub tower : IsTower (level ls 0) ls
+  pub held : HasRoom room ls
+  pub fits : length (level ls 0) ≤ room
+
+-- ---- costs
 
 abbrev pub cost_of : Option Key → Option ℕ
 cost_of None = None
@@ -56,30 +89,3 @@ cost_of (Some k) = Some k.0
 abbrev pub best_cost : Option Best → Option ℕ
 best_cost None = None
 best_cost (Some e) = Some e.cost
-
--- the levels below `above` are those over the new cells, and the others those over the old ones; the new ones differ at one place
-pub record Renewing (es fs : List Entries) (many : ℕ) (ls : List (List Entries)) (above place : ℕ) : Type 0 where
-  pub count : length ls ≡ many
-  pub new : (k : ℕ) → k < above → level ls k ≡ raised fs k
-  pub old : (k : ℕ) → above ≤ k → k < length ls → level ls k ≡ raised es k
-  pub within : place < length (raised es (above - 1))
-  pub node : Entries
-  pub one : raised fs (above - 1) ≡ slice_set (raised es (above - 1)) place node
-
--- the levels up to the one that grows
-pub record Growing (es : List Entries) (ls : List (List Entries)) (last : List Entries) : Type 0 where
-  pub each : (k : ℕ) → k < length ls → level ls k ≡ raised es k
-  pub long : (k : ℕ) → k < length ls → 2 ≤ length (raised es k)
-  pub top : last ≡ raised es (length ls)
-
--- the cells and what stands above them, up to a single one, and perhaps that one again
-pub record IsTall (cells : List Entries) (ls : List (List Entries)) : Type 0 where
-  pub some : 1 ≤ length ls
-  pub each : (k : ℕ) → k < length ls → level ls k ≡ raised cells k
-  pub root : length (raised cells (length ls - 1)) ≡ 1
-
--- the levels below `above` are those over the new cells, and the others those over the old ones
-pub record Shortening (es fs : List Entries) (many : ℕ) (ls : List (List Entries)) (above : ℕ) : Type 0 where
-  pub count : length ls ≡ many
-  pub new : (k : ℕ) → k < above → level ls k ≡ raised fs k
-  pub old : (k : ℕ) → above ≤ k → k < length ls → level ls k ≡ raised es k

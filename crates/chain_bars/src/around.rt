@@ -79,6 +79,7 @@ fn with_left<P: Tag>(
     ensures right { 2 * (place / 2) < place → result ≡ product_of (slice_index_or nodes.now (2 * (place / 2)) []) before.now }
     ensures left { place ≤ 2 * (place / 2) → result ≡ before.now }
     ensures products { products.new ≤ risen products.old 1 }
+    ensures single { length nodes.now ≤ 1 → products.new ≡ products.old }
 {
     let left = 2 * (place / 2);
     if left < place {
@@ -103,6 +104,7 @@ fn with_right<P: Tag>(
     ensures lone { length nodes.now ≤ place + 1 → result ≡ after.now }
     ensures right { 2 * (place / 2) < place → result ≡ after.now }
     ensures products { products.new ≤ risen products.old 1 }
+    ensures single { length nodes.now ≤ 1 → products.new ≡ products.old }
 {
     if 2 * (place / 2) < place {
         *after

@@ -1,17 +1,20 @@
 ghost use Rattle.rhythm_base.specs.Counter.{risen};
+ghost use Rattle.chain_bars.specs.Endings.{HasNewEnd};
 ghost use Rattle.chain_bars.specs.Tower.{
   AreCells,
   AreCheap,
   AreRanked,
+  HasRoom,
   IsCheap,
-  IsTall,
   IsTower,
   best_cost,
   cost_of,
+  halved,
   level,
   node_at,
   paired,
   raised,
+  room_at,
 };
 ghost use Rattle.rhythm_base.specs.Paths.{IsRanked};
 ghost use Rattle.rhythm_base.specs.Ranked.{Entries, at, keys};
@@ -25,6 +28,7 @@ ghost use Rattle.std.specs.Prelude.{
   ◌^◌,
   ℕ,
   List,
+  IfErr,
   IfOk,
   Some,
   [],
@@ -44,77 +48,93 @@ use rhythm_base::Tag;
 use std::alloc::{AllocError, Global};
 use std::marker::Model;
 
+/// The lowest level has the cells, and the highest a single node: 2 to the power 12 is 4,096.
+const LEVELS: usize = 13;
+
+/// The nodes of a level, and memory for more of them.
 #[derive(Drop)]
 pub struct Level {
     nodes: Vec<CarryMatrix>,
 }
 
 impl Model for Level {
-    ghost use Rattle.rhythm_base.specs.Ranked.{Entries};
-    ghost use Rattle.std.specs.Prelude.{List};
+    ghost use Rattle.chain_bars.specs.Tower.{Tier};
+    ghost use Rattle.std.specs.Prelude.{vec_capacity};
 
-    ghost Value = { List Entries };
+    ghost Value = { Tier };
 
-    ghost view = { λ l. l.nodes.items };
+    ghost view = { λ l. record { nodes = l.nodes.items; room = vec_capacity l.nodes } };
 }
 
 impl Level {
     /// The cells, as the lowest level.
     pub fn copy_of(alloc: Global, cells: &[CarryMatrix]) -> Result<Level, AllocError>
-        ensures { IfOk result (λ l. l ≡ cells.now) }
+        ensures nodes { IfOk result (λ l. l.nodes ≡ cells.now) }
+        ensures room { IfOk result (λ l. length cells.now ≤ l.room) }
     {
         Ok(Level {
             nodes: cells.to_vec(alloc)?,
         })
     }
 
+    /// The number of nodes.
     pub fn len(&self) -> usize
-        ensures { result ≡ length self.now }
+        ensures { result ≡ length self.now.nodes }
     {
         self.nodes.len()
     }
 
+    /// The nodes.
     pub fn slice(&self) -> &[CarryMatrix]
-        ensures { result.now ≡ self.now }
+        ensures { result.now ≡ self.now.nodes }
     {
         self.nodes.as_slice()
     }
 
+    /// Takes memory for so many nodes.
+    pub fn reserve(&mut self, count: usize) -> Result<(), AllocError>
+        ensures nodes { self.new.nodes ≡ self.old.nodes }
+        ensures room { self.old.room ≤ self.new.room }
+        ensures ok { IfOk result (λ _. count ≤ self.new.room) }
+    {
+        let more = count.saturating_sub(self.nodes.len());
+        self.nodes.reserve(more)
+    }
+
+    /// Sets a node.
     pub fn set(&mut self, at: usize, node: CarryMatrix)
-        requires { at < length self.old }
-        ensures { self.new ≡ slice_set self.old at node }
+        requires { at < length self.old.nodes }
+        ensures nodes { self.new.nodes ≡ slice_set self.old.nodes at node }
+        ensures room { self.new.room ≡ self.old.room }
     {
         self.nodes[at] = node;
     }
 
-    /// The cells and one more behind them, as the lowest level.
-    pub fn extended(
-        alloc: Global,
-        cells: &[CarryMatrix],
-        cell: &CarryMatrix,
-    ) -> Result<Level, AllocError>
-        ensures { IfOk result (λ l. l ≡ cells.now ++ cell.now ∷ []) }
-    {
-        let mut nodes = cells.to_vec(alloc)?;
-        nodes.push(*cell)?;
-        Ok(Level { nodes })
-    }
-
     /// Keeps the first `count` nodes.
     pub fn keep(&mut self, count: usize)
-        ensures { self.new ≡ take count self.old }
+        ensures nodes { self.new.nodes ≡ take count self.old.nodes }
+        ensures room { self.new.room ≡ self.old.room }
     {
         self.nodes.truncate(count);
     }
 
-    /// Keeps the first `count` nodes, the last of them renewed.
-    pub fn end_with(&mut self, count: usize, node: CarryMatrix)
-        requires some { 1 ≤ count }
-        requires fits { count ≤ length self.old }
-        ensures { self.new ≡ slice_set (take count self.old) (count - 1) node }
+    /// Adds a node behind the last.
+    pub fn add(&mut self, node: CarryMatrix)
+        requires { length self.old.nodes < self.old.room }
+        ensures nodes { self.new.nodes ≡ self.old.nodes ++ node ∷ [] }
+        ensures room { self.new.room ≡ self.old.room }
     {
-        self.nodes.truncate(count);
-        self.nodes[count - 1] = node;
+        self.nodes.push_reserved(node);
+    }
+
+    /// Keeps the nodes before the place `last`, and puts a node there.
+    pub fn end_with(&mut self, last: usize, node: CarryMatrix)
+        requires { last < self.old.room }
+        ensures nodes { self.new.nodes ≡ take last self.old.nodes ++ node ∷ [] }
+        ensures room { self.new.room ≡ self.old.room }
+    {
+        self.nodes.truncate(last);
+        self.nodes.push_reserved(node);
     }
 
     /// The level above.
@@ -123,14 +143,17 @@ impl Level {
         alloc: Global,
         products: &mut Steps<P>,
     ) -> Result<Level, AllocError>
-        requires few { length self.now ≤ 4096 }
-        requires cheap { AreCheap (2 ^ 61 - 1) self.now }
-        ensures { IfOk result (λ l. l ≡ paired self.now) }
+        requires few { length self.now.nodes ≤ 4096 }
+        requires cheap { AreCheap (2 ^ 61 - 1) self.now.nodes }
+        ensures nodes { IfOk result (λ l. l.nodes ≡ paired self.now.nodes) }
+        ensures room { IfOk result (λ l. (length self.now.nodes + 1) / 2 ≤ l.room) }
+        ensures products { IfOk result (λ _. products.new ≡ risen products.old (length self.now.nodes / 2)) }
+        ensures none { IfErr result (λ _. products.new ≡ products.old) }
     {
-        let mut nodes = Vec::new(alloc);
         let count = (self.len() + 1) / 2;
+        let mut nodes = Vec::with_capacity(alloc, count)?;
         'pairs: for number in 0..count {
-            nodes.push(joined(self.slice(), number, products))?;
+            nodes.push_reserved(joined(self.slice(), number, products));
         }
         Ok(Level { nodes })
     }
@@ -142,14 +165,62 @@ pub fn joined<P: Tag>(nodes: &[CarryMatrix], at: usize, products: &mut Steps<P>)
     requires at { 2 * at < length nodes.now }
     requires cheap { AreCheap (2 ^ 61 - 1) nodes.now }
     ensures result { result ≡ node_at nodes.now at }
-    ensures products { products.new ≤ risen products.old 1 }
+    ensures two { 2 * at + 1 < length nodes.now → products.new ≡ risen products.old 1 }
+    ensures lone { length nodes.now ≤ 2 * at + 1 → products.new ≡ products.old }
 {
-    let left = 2 * at;
-    if left + 1 < nodes.len() {
-        product(&nodes[left], &nodes[left + 1], products)
-    } else {
-        nodes[left]
+    let first = &nodes[2 * at];
+    match nodes.get(2 * at + 1) {
+        Some(second) => product(first, second, products),
+        None => *first,
     }
+}
+
+/// What every cell keeps.
+pub fn see_all(cells: &[CarryMatrix])
+    ensures { AreRanked cells.now }
+{
+    'cells: for number in 0..cells.len() {
+        cells[number].see();
+    }
+}
+
+/// The cells and the levels above them: one product for each cell but one.
+pub fn grown<P: Tag>(
+    alloc: Global,
+    cells: Level,
+    products: &mut Steps<P>,
+) -> Result<Vec<Level>, AllocError>
+    requires cells { AreCells cells.nodes }
+    requires room { length cells.nodes ≤ cells.room }
+    ensures tower { IfOk result (λ v. IsTower cells.nodes v.items) }
+    ensures room { IfOk result (λ v. HasRoom (length cells.nodes) v.items) }
+    ensures products { IfOk result (λ _. products.new ≡ risen products.old (length cells.nodes - 1)) }
+    ensures most { products.new ≤ risen products.old (length cells.nodes - 1) }
+{
+    let mut levels = Vec::new(alloc);
+    levels.push(cells)?;
+    'up: for above in 1..LEVELS {
+        let next = levels[above - 1].paired(alloc, products)?;
+        levels.push(next)?;
+    }
+    Ok(levels)
+}
+
+/// Takes memory for what stands above so many cells.
+pub fn reserve_all(levels: &mut [Level], cells: usize) -> Result<(), AllocError>
+    requires count { length levels.old ≡ 13 }
+    requires few { cells ≤ 4096 }
+    ensures count { length levels.new ≡ 13 }
+    ensures nodes { (k : ℕ) → k < 13 → level levels.new k ≡ level levels.old k }
+    ensures room { (k : ℕ) → k < 13 → room_at levels.old k ≤ room_at levels.new k }
+    ensures ok { IfOk result (λ _. HasRoom cells levels.new) }
+{
+    let mut count = cells;
+    'up: for number in 0..levels.len() {
+        levels[number].reserve(count)?;
+        count = (count + 1) / 2;
+    }
+    Ok(())
 }
 
 /// Sets a cell, and renews what stands above it.
@@ -161,6 +232,7 @@ pub fn renew<P: Tag>(levels: &mut [Level], at: usize, cell: &CarryMatrix, produc
     ensures cells { level levels.new 0 ≡ slice_set (level levels.old 0) at cell.now }
     ensures tower { IsTower (level levels.new 0) levels.new }
     ensures sound { AreCells (level levels.new 0) }
+    ensures room { (k : ℕ) → k < 13 → room_at levels.new k ≡ room_at levels.old k }
     ensures products { (d : ℕ) → length (level levels.old 0) ≤ 2 ^ d → products.new ≤ risen products.old d }
 {
     cell.see();
@@ -173,52 +245,38 @@ pub fn renew<P: Tag>(levels: &mut [Level], at: usize, cell: &CarryMatrix, produc
     }
 }
 
-pub fn see_all(cells: &[CarryMatrix])
-    ensures { AreRanked cells.now }
+/// Renews the last node of each level, where the lowest has got a new end.
+fn renew_last<P: Tag>(levels: &mut [Level], products: &mut Steps<P>)
+    requires { HasNewEnd levels.old }
+    ensures cells { level levels.new 0 ≡ level levels.old 0 }
+    ensures tower { IsTower (level levels.old 0) levels.new }
+    ensures room { (k : ℕ) → k < 13 → room_at levels.new k ≡ room_at levels.old k }
+    ensures products { (d : ℕ) → length (level levels.old 0) ≤ 2 ^ d → products.new ≤ risen products.old d }
 {
-    'cells: for number in 0..cells.len() {
-        cells[number].see();
+    'renewal: for above in 1..levels.len() {
+        let nodes = levels[above - 1].slice();
+        let last = (nodes.len() - 1) / 2;
+        let node = joined(nodes, last, products);
+        levels[above].end_with(last, node);
     }
 }
 
-/// The levels above the cells, and the cells.
-pub fn grown<P: Tag>(
-    alloc: Global,
-    cells: Level,
-    products: &mut Steps<P>,
-) -> Result<Vec<Level>, AllocError>
-    requires { AreCells cells }
-    ensures { IfOk result (λ v. IsTower cells v.items) }
-{
-    let mut levels = Vec::new(alloc);
-    let mut top = cells;
-    'up: while top.len() > 1 {
-        let next = top.paired(alloc, products)?;
-        levels.push(top)?;
-        top = next;
-    }
-    levels.push(top)?;
-    Ok(levels)
-}
-
-/// The levels above the cells and one more behind them.
-pub fn grown_by<P: Tag>(
-    alloc: Global,
-    cells: &[CarryMatrix],
-    cell: &CarryMatrix,
-    products: &mut Steps<P>,
-) -> Result<Vec<Level>, AllocError>
-    requires cells { AreCells cells.now }
-    requires few { length cells.now < 4096 }
+/// Adds a cell behind the last, and renews the last node of each level above it.
+pub fn extend<P: Tag>(levels: &mut [Level], cell: &CarryMatrix, products: &mut Steps<P>)
+    requires cells { AreCells (level levels.old 0) }
+    requires tower { IsTower (level levels.old 0) levels.old }
+    requires few { length (level levels.old 0) < 4096 }
+    requires room { HasRoom (length (level levels.old 0) + 1) levels.old }
     requires cheap { IsCheap 500000000000 cell.now }
-    ensures cells { IfOk result (λ v. level v.items 0 ≡ cells.now ++ cell.now ∷ []) }
-    ensures sound { IfOk result (λ v. AreCells (level v.items 0)) }
-    ensures tower { IfOk result (λ v. IsTower (level v.items 0) v.items) }
+    ensures cells { level levels.new 0 ≡ level levels.old 0 ++ cell.now ∷ [] }
+    ensures sound { AreCells (level levels.new 0) }
+    ensures tower { IsTower (level levels.new 0) levels.new }
+    ensures room { (k : ℕ) → k < 13 → room_at levels.new k ≡ room_at levels.old k }
+    ensures products { (d : ℕ) → length (level levels.old 0) + 1 ≤ 2 ^ d → products.new ≤ risen products.old d }
 {
     cell.see();
-    let first = Level::extended(alloc, cells, cell)?;
-    let levels = grown(alloc, first, products)?;
-    Ok(levels)
+    levels[0].add(*cell);
+    renew_last(levels, products);
 }
 
 /// Takes the last cell away, and renews the last node of each level above it.
@@ -226,33 +284,14 @@ pub fn shorten<P: Tag>(levels: &mut [Level], products: &mut Steps<P>)
     requires cells { AreCells (level levels.old 0) }
     requires tower { IsTower (level levels.old 0) levels.old }
     requires two { 2 ≤ length (level levels.old 0) }
-    ensures tall { IsTall (take (length (level levels.old 0) - 1) (level levels.old 0)) levels.new }
-    ensures sound { AreCells (take (length (level levels.old 0) - 1) (level levels.old 0)) }
+    requires room { HasRoom (length (level levels.old 0)) levels.old }
+    ensures cells { level levels.new 0 ≡ take (length (level levels.old 0) - 1) (level levels.old 0) }
+    ensures sound { AreCells (level levels.new 0) }
+    ensures tower { IsTower (level levels.new 0) levels.new }
+    ensures room { (k : ℕ) → k < 13 → room_at levels.new k ≡ room_at levels.old k }
+    ensures products { (d : ℕ) → length (level levels.old 0) ≤ 2 ^ d → products.new ≤ risen products.old d }
 {
     let count = levels[0].len() - 1;
     levels[0].keep(count);
-    'renewal: for above in 1..levels.len() {
-        let nodes = levels[above - 1].slice();
-        let count = (nodes.len() + 1) / 2;
-        let node = joined(nodes, count - 1, products);
-        levels[above].end_with(count, node);
-    }
-}
-
-/// Whether the last level but one has a single node.
-fn is_tall(levels: &[Level]) -> bool
-    ensures { IsTrue result ↔ ((2 ≤ length levels.now) × (length (level levels.now (length levels.now - 2)) ≡ 1)) }
-{
-    levels.len() >= 2 && levels[levels.len() - 2].len() == 1
-}
-
-/// Takes the levels above the first with a single node away.
-pub fn lower(levels: &mut Vec<Level>)
-    requires cells { AreCells (level levels.old.items 0) }
-    requires tall { IsTall (level levels.old.items 0) levels.old.items }
-    ensures { IsTower (level levels.old.items 0) levels.new.items }
-{
-    'roots: while is_tall(levels.as_slice()) {
-        levels.truncate(levels.len() - 1);
-    }
+    renew_last(levels, products);
 }

@@ -1,5 +1,5 @@
 use Rattle.std.proofs.Common.{◌*◌, ◌/◌, ◌<◌, ◌≤◌, ◌^◌, ◌-◌, length, arith}
-use Rattle.chain_bars.proofs.Renewals.{index_cheap}
+use Rattle.chain_bars.proofs.Lists.{index_cheap}
 use Rattle.chain_bars.proofs.around.with_left.Goals as goal
 
 pub product-requires-clause-small : goal.product-requires-clause-small

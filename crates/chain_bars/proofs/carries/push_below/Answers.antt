@@ -1,5 +1,5 @@
 use Rattle.std.proofs.Common.{◌+◌, ◌≤◌, ◌^◌, ◌-◌, arith}
-use Rattle.chain_bars.proofs.Renewals.{index_cheap}
+use Rattle.chain_bars.proofs.Lists.{index_cheap}
 use Rattle.chain_bars.proofs.carries.push_below.Goals as goal
 
 pub between-requires-clause-small : goal.between-requires-clause-small

@@ -1,7 +1,7 @@
 use Rattle.std.proofs.Common.{◌+◌, ◌-◌, [], length, refl, arith}
 use Rattle.chain_bars.specs.Reaches.{AreReached}
 use Rattle.rhythm_base.specs.Paths.{IsDeadCell}
-use Rattle.chain_bars.proofs.Renewals.{index_same}
+use Rattle.chain_bars.proofs.Lists.{index_same}
 use Rattle.chain_bars.proofs.Deaths.{before_more, dead_here, dead_last, marked_any, not_both, reached_step, reached_total}
 use Rattle.chain_bars.proofs.dead.first_dead_of.Goals as goal
 use Rattle.chain_bars.proofs.dead.first_dead_of.Goals.{Then-not-is_any, Else-reached}

@@ -1,9 +1,8 @@
-use Rattle.std.proofs.Common.{length}
-use Rattle.chain_bars.specs.Tower.{Growing}
+use Rattle.std.proofs.Common.{◌≡◌, ◌-◌, ◌≤◌, length}
+use Rattle.rhythm_base.specs.Counter.{risen}
+use Rattle.chain_bars.proofs.Growth.{IsBuilt}
+use Rattle.chain_bars.specs.Tower.{raised}
 use Rattle.chain_bars.proofs.levels.grown.Given as goal
 
 abbrev pub invariant-up : goal.invariant-up
-invariant-up g l = Growing l.initial.top l.levels.items l.top
-
-abbrev pub decreases-up : goal.decreases-up
-decreases-up g l = length l.top
+invariant-up g l = IsBuilt l.fn.cells.nodes l.levels.items l.above × (1 ≤ l.above) × (l.products ≡ risen l.fn.products (length l.fn.cells.nodes - length (raised l.fn.cells.nodes (l.above - 1))))

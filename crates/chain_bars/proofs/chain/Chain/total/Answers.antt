@@ -1,20 +1,33 @@
-use Rattle.std.proofs.Common.{◌≡◌, ◌∙◌, ◌-◌, ◌≤◌, [], length, sym, ap, subst, arith}
-use Rattle.chain_bars.specs.Tower.{level, best_cost, cost_of}
+use Rattle.std.proofs.Common.{◌≡◌, ◌∙◌, ◌-◌, length, sym, ap, arith}
+use Rattle.chain_bars.specs.Tower.{Tier, level, best_cost, cost_of}
 use Rattle.rhythm_base.specs.Ranked.{keys}
-use Rattle.chain_bars.proofs.Renewals.{index_same}
-use Rattle.chain_bars.proofs.Growth.{root_is}
+use Rattle.chain_bars.specs.Chained.{Chained}
+use Rattle.chain_bars.proofs.Lists.{tier_read}
+use Rattle.chain_bars.proofs.Growth.{root_is, root_some}
 use Rattle.chain_bars.proofs.chain.Chain.total.Goals as goal
-use Rattle.chain_bars.proofs.chain.Chain.total.Goals.{After-get}
+use Rattle.chain_bars.proofs.chain.Chain.total.Goals.{After-slice-top, After-get}
 
-root : (c : After-get) → best_cost c.get.result ≡ cost_of (keys c.args.self.now 0 0)
-root c =
-    let ls = c.self.inside.levels.items in
+last : (c : After-slice-top) → length c.as_slice-levels.result.now - 1 ≡ 12
+last c =
+    let size = ap length c.as_slice-levels.ensures.value in
+    omega (arith, size, c.self.invariant.tower.count)
+
+top : (c : After-slice-top) → c.slice-top.result.now ≡ level c.self.inside.levels.items (length c.as_slice-levels.result.now - 1)
+top c =
     let seen = c.as_slice-levels.result.now in
-    let some : 1 ≤ length seen = subst (λ l. 1 ≤ length l) (sym c.as_slice-levels.ensures.value) c.self.invariant.1.some in
-    let top = c.slice-top.ensures
-    ∙ index_same seen (length seen - 1) c.index-levels-levels.result [] (omega (arith, some)) c.index-levels-levels.is
-    ∙ ap (λ v. level v (length v - 1)) c.as_slice-levels.ensures.value in
-    ap best_cost c.get.ensures.is ∙ root_is c.args.self.now ls c.slice-top.result.now c.index-top-0.result c.self.invariant c.self.view_is top c.index-top-0.is
+    let at_last = last c in
+    c.slice-top.ensures
+    ∙ ap (λ (x : Tier). x.nodes) (tier_read seen (length seen - 1) c.index-levels-levels.result (omega (arith, at_last)) c.index-levels-levels.is)
+    ∙ ap (λ v. level v (length seen - 1)) c.as_slice-levels.ensures.value
+
+pub bounds-top-0 : goal.bounds-top-0
+bounds-top-0 c = root_some c.self.inside.levels.items c.slice-top.result.now (length c.as_slice-levels.result.now - 1) c.self.invariant.cells c.self.invariant.tower (last c) (top c)
+
+root : (c : After-get) → best_cost c.get.result ≡ cost_of (keys c.args.self.now.cells 0 0)
+root c =
+    ap best_cost c.get.ensures.is
+    ∙ root_is c.self.inside.levels.items c.slice-top.result.now (length c.as_slice-levels.result.now - 1) c.index-top-0.result c.self.invariant.cells c.self.invariant.tower (last c.before.before) (top c.before.before) c.index-top-0.is
+    ∙ ap (λ (v : Chained). cost_of (keys v.cells 0 0)) c.self.view_is
 
 pub returns-in-None : goal.returns-in-None
 returns-in-None c = ap best_cost (sym c.in-None.is) ∙ root c.before
