@@ -1,0 +1,13 @@
+use Rattle.std.proofs.Common.{◌≡◌, [], length, map}
+use Rattle.grammar_file.specs.Statements.{in_turn, names_of, spoken_behind}
+use Rattle.grammar_file.proofs.draft.read_lines.Given as goal
+
+-- what the lines so far say, with what those behind them say, is what all lines say
+abbrev pub invariant-lines : goal.invariant-lines
+invariant-lines l = record {
+  names : map (λ k. k.now) l.draft.names.keys ≡ names_of l.draft.spoken.items;
+  same : in_turn (spoken_behind l.version) l.draft.spoken.items l.lines.lines ≡ in_turn (spoken_behind l.version) [] l.fn.lines.lines;
+}
+
+abbrev pub decreases-lines : goal.decreases-lines
+decreases-lines l = length l.lines.lines

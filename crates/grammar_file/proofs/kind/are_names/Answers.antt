@@ -1,0 +1,12 @@
+use Rattle.std.proofs.Common.{rules, tests, sym, ◌∙◌}
+use Rattle.std.proofs.lemmas.Iterator.{YieldsList-from_slice}
+use Rattle.std.proofs.lemmas.Iterator.Search.{all_from_yields_List}
+use Rattle.std.proofs.lemmas.List.Folds.{list_all-map}
+use Rattle.grammar_file.specs.Names.{is_name}
+use Rattle.grammar_file.proofs.kind.are_names.Goals as goal
+
+pub returns : goal.returns
+returns c =
+    all_from_yields_List (λ n. is_name n.now) _ _ c.all.result c.all.ensures.ran
+    (YieldsList-from_slice c.args.words.now c.iter.ensures.rest) (λ x b q k. search (rules, tests))
+    ∙ sym (list_all-map is_name (λ n. n.now) c.args.words.now)

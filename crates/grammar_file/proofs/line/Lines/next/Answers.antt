@@ -1,0 +1,41 @@
+use Rattle.std.proofs.Common.{ap, arith, sym, ◌∙◌}
+use Rattle.std.proofs.lemmas.Bool.Decides.{nat_tests}
+use Rattle.std.proofs.lemmas.Result.{IfOk-weaker}
+use Rattle.grammar_file.proofs.OutcomeLemmas.{on_ok}
+use Rattle.grammar_file.proofs.ContentLemmas.{content-end, content-said, content-skipped}
+use Rattle.grammar_file.specs.Content.{behind_first, content_from, next_of}
+use Rattle.grammar_file.specs.Lines.{lines_of}
+use Rattle.grammar_file.proofs.line.Lines.next.Goals as goal
+
+pub returns-then-is_content-clause-next : goal.returns-then-is_content-clause-next
+returns-then-is_content-clause-next c =
+    let n = c.lines.self-inside.number in
+    let whole = ap (content_from n) (sym c.first_line.ensures.line) ∙ c.lines.invariant.same in
+    let said = content-said n c.first_line.result.0.now (lines_of c.first_line.result.1.now) (sym c.is_content.ensures ∙ c.if-is_content.true) in
+    IfOk-weaker c.numbered.result _ _ (λ next is. is ∙ said.0 ∙ ap next_of whole) c.numbered.ensures.line
+
+pub returns-then-is_content-clause-behind : goal.returns-then-is_content-clause-behind
+returns-then-is_content-clause-behind c =
+    let n = c.lines.self-inside.number in
+    let whole = ap (content_from n) (sym c.first_line.ensures.line) ∙ c.lines.invariant.same in
+    let said = content-said n c.first_line.result.0.now (lines_of c.first_line.result.1.now) (sym c.is_content.ensures ∙ c.if-is_content.true) in
+    on_ok _ c.numbered.result (said.1 ∙ ap behind_first whole)
+
+pub lines-preserved : goal.lines-preserved
+lines-preserved c =
+    let n = c.lines.self-inside.number in
+    let whole = ap (content_from n) (sym c.first_line.ensures.line) ∙ c.lines.invariant.same in
+    record {
+      same = content-skipped n c.first_line.result.0.now (lines_of c.first_line.result.1.now) (sym c.is_content.ensures ∙ c.if-is_content.false) ∙ whole;
+      small = omega (arith, c.first_line.ensures.shorter, c.lines.invariant.small);
+    }
+
+pub returns-clause-next : goal.returns-clause-next
+returns-clause-next c =
+    let none = content-end c.lines.self-inside.number c.lines.self-inside.rest.now (grind (arith, nat_tests, c.is_empty.ensures, c.lines-test.false)) in
+    none.0 ∙ ap next_of c.lines.invariant.same
+
+pub returns-clause-behind : goal.returns-clause-behind
+returns-clause-behind c =
+    let none = content-end c.lines.self-inside.number c.lines.self-inside.rest.now (grind (arith, nat_tests, c.is_empty.ensures, c.lines-test.false)) in
+    none.1 ∙ ap behind_first c.lines.invariant.same

@@ -1,0 +1,50 @@
+-- The grammar that a file says, or its first fault. A line with an unknown name comes behind all other faults, since names
+-- may be used above the lines that they stand at the left of.
+use Rattle.std.specs.Prelude.{ℕ, List, [], ◌∷◌, drop, Result, Ok, Err}
+use Rattle.grammar_file.specs.Content.{Content, content_of}
+use Rattle.grammar_file.specs.Header.{header_of}
+use Rattle.grammar_file.specs.Outcome.{◌>>=◌}
+use Rattle.grammar_file.specs.Statements.{in_turn, names_of, spoken_behind}
+use Rattle.grammar_file.specs.Symbols.{not_understood, rules_in, starts_in}
+use Rattle.grammar_file.specs.declared.draft.Spoken.{Spoken}
+use Rattle.grammar_file.specs.declared.fault.GrammarFault.{GrammarFault}
+use Rattle.grammar_file.specs.declared.fault.GrammarWhat.TheVariants.{UnknownName}
+use Rattle.grammar_file.specs.declared.header.Header.{Header}
+use Rattle.rhythm_base.specs.Rulebook.{Rulebook}
+use Rattle.rhythm_base.specs.declared.grammar.Start.{Start}
+use Rattle.rhythm_base.specs.declared.rule.Rule.{Rule}
+
+-- the starts and the rules of the lines
+abbrev pub starts_and_rules : List (List ℕ) → List Spoken → List Start × List Rule
+starts_and_rules names spoken = (starts_in names spoken, rules_in names spoken)
+
+-- the grammar of a header and lines that use only known names
+abbrev pub rulebook_of : Header → List Spoken → Rulebook
+rulebook_of header spoken = record {
+  version = header.version;
+  resolution = header.resolution;
+  window = header.window;
+  early = header.early;
+  late = header.late;
+  names = names_of spoken;
+  starts = starts_in (names_of spoken) spoken;
+  rules = rules_in (names_of spoken) spoken;
+}
+
+-- the first line that is not understood is the fault
+abbrev pub understood : {A : Type 0} → A → List Spoken → Result A GrammarFault
+understood value [] = Ok value
+understood value (first ∷ others) = Err (record { line = first.line; what = UnknownName })
+
+abbrev pub grammar_of_lines : Header → List Spoken → Result Rulebook GrammarFault
+grammar_of_lines header spoken =
+    understood (rulebook_of header spoken) (not_understood (names_of spoken) spoken)
+
+abbrev pub grammar_of_content : Content → Result Rulebook GrammarFault
+grammar_of_content content = do
+  header ← header_of content
+  spoken ← in_turn (spoken_behind header.version) [] (drop 4 content.lines)
+  grammar_of_lines header spoken
+
+unfoldable pub grammar_of : List ℕ → Result Rulebook GrammarFault
+grammar_of text = grammar_of_content (content_of text)

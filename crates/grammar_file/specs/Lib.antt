@@ -1,0 +1,13 @@
+pub mod Content
+pub mod Grammar
+pub mod Header
+pub mod Lines
+pub mod Names
+pub mod Numbers
+pub mod Outcome
+pub mod Printed
+pub mod ReadBack
+pub mod Said
+pub mod Sayable
+pub mod Statements
+pub mod Symbols

@@ -1,0 +1,31 @@
+-- What reading comes to: a value, or a fault.
+use Rattle.std.specs.Prelude.{◌≡◌, ◌≢◌, ℕ, Result, Ok, Err}
+use Rattle.grammar_file.specs.declared.fault.GrammarFault.{GrammarFault}
+use Rattle.grammar_file.specs.declared.fault.GrammarWhat.{GrammarWhat}
+use Rattle.grammar_file.specs.declared.fault.GrammarWhat.TheVariants.{Memory}
+
+-- readers one behind the other: the next takes what the one before it read, and behind a fault nothing is read
+infixl 10 ◌>>=◌
+abbrev pub ◌>>=◌ : {A B E : Type 0} → Result A E → (A → Result B E) → Result B E
+(Ok x) >>= next = next x
+(Err fault) >>= next = Err fault
+
+-- what a line came to, with the line's number at its fault
+abbrev pub on_line : {A : Type 0} → ℕ → Result A GrammarWhat → Result A GrammarFault
+on_line number (Ok x) = Ok x
+on_line number (Err what) = Err (record { line = number; what = what })
+
+-- what a line's reader returned is what the line comes to, unless memory ran out
+abbrev pub Gives : {A : Type 0} → Result A GrammarWhat → Result A GrammarWhat → Type 0
+Gives (Ok x) outcome = outcome ≡ Ok x
+Gives (Err what) outcome = what ≢ Memory → outcome ≡ Err what
+
+-- what was read, seen as a contract sees it
+abbrev pub seen : {A B E : Type 0} → (A → B) → Result A E → Result B E
+seen view (Ok x) = Ok (view x)
+seen view (Err fault) = Err fault
+
+-- the same of a reader of lines, whose faults have their lines
+abbrev pub GivesAt : {A : Type 0} → Result A GrammarFault → Result A GrammarFault → Type 0
+GivesAt (Ok x) outcome = outcome ≡ Ok x
+GivesAt (Err fault) outcome = fault.what ≢ Memory → outcome ≡ Err fault

@@ -1,0 +1,92 @@
+-- What a line behind the header says by itself. It has one of the forms, or it is no such line; and the numbers of a form
+-- lie in their ranges, or the first that does not is the fault.
+use Rattle.std.specs.Prelude.{ℕ, ◌==◌, ◌&&◌, Bool, true, false, if◌then◌else◌, List, [], ◌∷◌, length, nat_le, Option, Some, None, Result, Ok, Err, codes}
+use Rattle.std.specs.List.{after_first, before_first, list_all}
+use Rattle.std.specs.Str.{bytes_eq}
+use Rattle.grammar_file.specs.Names.{is_name}
+use Rattle.grammar_file.specs.Numbers.{beat_of, is_numeral, number_within}
+use Rattle.grammar_file.specs.Outcome.{◌>>=◌}
+use Rattle.grammar_file.specs.declared.fault.GrammarWhat.{GrammarWhat}
+use Rattle.grammar_file.specs.declared.fault.GrammarWhat.TheVariants.{Line}
+use Rattle.grammar_file.specs.declared.kind.Kind.{Kind}
+use Rattle.grammar_file.specs.declared.kind.Kind.TheVariants as kind
+use Rattle.grammar_file.specs.declared.said.NamedBody.{NamedBody}
+use Rattle.grammar_file.specs.declared.said.NamedBody.TheVariants as body
+use Rattle.grammar_file.specs.declared.said.Said.{Said}
+use Rattle.grammar_file.specs.declared.said.Said.TheVariants as said
+
+-- `start NUM/DEN NAME`, without its first word
+abbrev pub start_of : List ℕ → List ℕ → Result Said GrammarWhat
+start_of signature name =
+    let num = before_first (λ b. b == 47) signature in
+    let den = after_first (λ b. b == 47) signature in
+    if is_numeral num && is_numeral den && is_name name then (do
+      beats ← number_within 1 64 num
+      beat ← beat_of den
+      Ok (said.Start beats beat name)) else Err Line
+
+-- the word behind a rule's weight
+unfoldable pub kind_of : List ℕ → Option Kind
+kind_of word =
+    if bytes_eq word (codes "split") then Some kind.Split
+    else if bytes_eq word (codes "parts") then Some kind.Parts
+    else if bytes_eq word (codes "note") then Some kind.Note
+    else if bytes_eq word (codes "short") then Some kind.Short
+    else if bytes_eq word (codes "tie") then Some kind.Tie
+    else if bytes_eq word (codes "rest") then Some kind.Rest
+    else if bytes_eq word (codes "grace") then Some kind.Grace
+    else None
+
+-- sizes and names in turn
+abbrev pub are_parts : List (List ℕ) → Bool
+are_parts [] = true
+are_parts (size ∷ []) = false
+are_parts (size ∷ name ∷ more) = is_numeral size && is_name name && are_parts more
+
+-- what stands behind that word: 2 to 16 names, 2 to 16 sizes with their names in version 2, a number, or nothing
+abbrev pub has_form : ℕ → Kind → List (List ℕ) → Bool
+has_form version kind.Split words = nat_le 2 (length words) && nat_le (length words) 16 && list_all is_name words
+has_form version kind.Parts words = (version == 2) && nat_le 4 (length words) && nat_le (length words) 32 && are_parts words
+has_form version kind.Grace words = (length words == 1) && list_all is_numeral words
+has_form version kind.Note words = length words == 0
+has_form version kind.Short words = length words == 0
+has_form version kind.Tie words = length words == 0
+has_form version kind.Rest words = length words == 0
+
+-- the sizes, each in its range, and the names
+abbrev pub parts_of : List (List ℕ) → Result (List (ℕ × List ℕ)) GrammarWhat
+parts_of (size ∷ name ∷ more) = do
+  first ← number_within 1 96 size
+  others ← parts_of more
+  Ok ((first, name) ∷ others)
+parts_of _ = Ok []
+
+-- the number of grace chords
+abbrev pub graces_of : List (List ℕ) → Result ℕ GrammarWhat
+graces_of (digits ∷ []) = number_within 1 3 digits
+graces_of _ = Err Line
+
+-- the body with these words behind its first, where they have its form
+abbrev pub body_of : Kind → List (List ℕ) → Result NamedBody GrammarWhat
+body_of kind.Split words = Ok (body.Split words)
+body_of kind.Parts words = parts_of words >>= λ parts. Ok (body.Parts parts)
+body_of kind.Grace words = graces_of words >>= λ graces. Ok (body.Grace graces)
+body_of kind.Note words = Ok body.Note
+body_of kind.Short words = Ok body.Short
+body_of kind.Tie words = Ok body.Tie
+body_of kind.Rest words = Ok body.Rest
+
+-- `NAME WEIGHT` and a body of this kind
+abbrev pub rule_of_kind : ℕ → List ℕ → List ℕ → Option Kind → List (List ℕ) → Result Said GrammarWhat
+rule_of_kind version name weight None words = Err Line
+rule_of_kind version name weight (Some kind) words =
+    if is_name name && is_numeral weight && has_form version kind words then (do
+      w ← number_within 0 1000000 weight
+      b ← body_of kind words
+      Ok (said.Rule name w b)) else Err Line
+
+unfoldable pub said_by : ℕ → List (List ℕ) → Result Said GrammarWhat
+said_by version (first ∷ second ∷ third ∷ words) =
+    if bytes_eq first (codes "start") && (length words == 0) then start_of second third
+    else rule_of_kind version first second (kind_of third) words
+said_by version _ = Err Line

@@ -1,0 +1,138 @@
+ghost use Rattle.grammar_file.specs.Names.{is_known};
+ghost use Rattle.grammar_file.specs.Outcome.{Gives, GivesAt, seen};
+ghost use Rattle.grammar_file.specs.Statements.{conflict, in_turn, is_rule, is_start_of, names_of, spoken_behind, spoken_by};
+ghost use Rattle.grammar_file.specs.declared.fault.GrammarWhat.TheVariants.{Memory};
+ghost use Rattle.std.specs.List.{list_any};
+ghost use Rattle.std.specs.Prelude.{◌≡◌, ◌||◌, [], ◌∷◌, ◌++◌, IfErr, IfOk, OnOk, filter, length, map, nat_lt};
+
+use crate::fault::{GrammarFault, GrammarWhat, on_line};
+use crate::line::{Line, Lines, Next};
+use crate::said::{Said, read_said};
+use indexmap::IndexSet;
+use std::alloc::Global;
+use std::hash::BuildHasherDefault;
+
+/// A line behind the header, with its number.
+#[derive(Drop)]
+pub(crate) struct Spoken<'a> {
+    pub(crate) line: u32,
+    pub(crate) said: Said<'a>,
+}
+
+/// What the lines behind the header say so far.
+#[derive(Drop)]
+pub(crate) struct Draft<'a> {
+    /// The names on the left sides of rules, in the order of their first appearance. A fixed hasher serves, since there are
+    /// at most 64.
+    pub(crate) names: IndexSet<&'a [u8]>,
+    /// What each line says.
+    pub(crate) spoken: Vec<Spoken<'a>>,
+}
+
+/// Whether a line gives a start to the signature.
+fn has_start(spoken: &[Spoken], num: u8, den: u8) -> bool
+    ensures { result ≡ list_any (is_start_of num den) spoken.now }
+{
+    spoken.iter().any(|line| match line.said {
+        Said::Start { num: n, den: d, .. } => n == num && d == den,
+        Said::Rule { .. } => false,
+    })
+}
+
+/// The number of rules.
+fn count_rules(spoken: &[Spoken]) -> usize
+    ensures { result ≡ length (filter is_rule spoken.now) }
+{
+    spoken
+        .iter()
+        .filter(|line| matches!(line.said, Said::Rule { .. }))
+        .count()
+}
+
+impl<'a> Draft<'a> {
+    /// A draft of no lines.
+    fn new(alloc: Global) -> Draft<'a>
+        ensures spoken { result.spoken.items ≡ [] }
+        ensures names { map (λ x. x.now) result.names.keys ≡ [] }
+    {
+        Draft {
+            names: IndexSet::with_hasher(alloc, BuildHasherDefault::new()),
+            spoken: Vec::new(alloc),
+        }
+    }
+
+    /// Whether the name is a left side's, or may be the next one.
+    fn has_room_for(&self, name: &[u8]) -> bool
+        requires { map (λ x. x.now) self.now.names.keys ≡ names_of self.now.spoken.items }
+        ensures { result ≡ (is_known (names_of self.now.spoken.items) name.now || nat_lt (length (names_of self.now.spoken.items)) 64) }
+    {
+        self.names.contains(name) || self.names.len() < 64
+    }
+
+    /// What speaks against a line behind the others.
+    fn conflict(&self, said: &Said) -> Option<GrammarWhat>
+        requires { map (λ x. x.now) self.now.names.keys ≡ names_of self.now.spoken.items }
+        ensures { result ≡ conflict self.now.spoken.items said.now }
+    {
+        match said {
+            Said::Start { num, den, .. } => {
+                has_start(&self.spoken, *num, *den).then_some(GrammarWhat::DoubleStart)
+            }
+            Said::Rule { name, .. } => {
+                if count_rules(&self.spoken) >= 512 {
+                    Some(GrammarWhat::TooManyRules)
+                } else if self.has_room_for(name.as_slice()) {
+                    None
+                } else {
+                    Some(GrammarWhat::TooManyNames)
+                }
+            }
+        }
+    }
+
+    /// What a line says behind the others.
+    fn speak(&self, alloc: Global, version: u8, line: &Line<'a>) -> Result<Spoken<'a>, GrammarWhat>
+        requires { map (λ x. x.now) self.now.names.keys ≡ names_of self.now.spoken.items }
+        ensures { Gives result (spoken_by version self.now.spoken.items line.now) }
+    {
+        let said = read_said(alloc, version, line.words.as_slice())?;
+        match self.conflict(&said) {
+            None => Ok(Spoken {
+                line: line.number,
+                said,
+            }),
+            Some(what) => Err(what),
+        }
+    }
+
+    /// Appends a line.
+    fn push(&mut self, spoken: Spoken<'a>) -> Result<(), GrammarWhat>
+        requires { map (λ x. x.now) self.old.names.keys ≡ names_of self.old.spoken.items }
+        ensures names { OnOk result (map (λ x. x.now) self.new.names.keys ≡ names_of self.new.spoken.items) }
+        ensures spoken { OnOk result (self.new.spoken.items ≡ self.old.spoken.items ++ spoken.entry ∷ []) }
+        ensures err { IfErr result (λ what. what ≡ Memory) }
+    {
+        if let Said::Rule { name, .. } = &spoken.said {
+            self.names.insert(name.as_slice())?;
+        }
+        self.spoken.push(spoken)?;
+        Ok(())
+    }
+}
+
+/// What the lines behind the header say.
+pub(crate) fn read_lines<'a>(
+    alloc: Global,
+    version: u8,
+    lines: &mut Lines<'a>,
+) -> Result<Draft<'a>, GrammarFault>
+    ensures value { GivesAt (seen (λ d. d.spoken.items) result) (in_turn (spoken_behind version) [] lines.old.lines) }
+    ensures names { IfOk result (λ d. map (λ x. x.now) d.names.keys ≡ names_of d.spoken.items) }
+{
+    let mut draft = Draft::new(alloc);
+    'lines: while let Next::Line(line) = lines.next(alloc)? {
+        let spoken = on_line(line.number, draft.speak(alloc, version, &line))?;
+        on_line(line.number, draft.push(spoken))?;
+    }
+    Ok(draft)
+}

@@ -1,0 +1,158 @@
+ghost use Rattle.grammar_file.specs.Content.{behind_first};
+ghost use Rattle.grammar_file.specs.Header.{header_of, line_says, missing, most_units, number_of, numbers_of, version_of, weights_of};
+ghost use Rattle.grammar_file.specs.Outcome.{GivesAt};
+ghost use Rattle.grammar_file.specs.declared.fault.GrammarWhat.TheVariants.{Memory};
+ghost use Rattle.std.specs.Prelude.{◌<◌, ◌≡◌, ◌≢◌, ◌≤◌, IfErr, IfOk, None, OnOk, Some, drop, map, slice_get};
+
+use crate::fault::{GrammarFault, GrammarWhat, on_line};
+use crate::line::{Line, Lines, Next};
+use crate::number::{is_numeral, number_within};
+use std::alloc::Global;
+
+/// What the first four lines say.
+#[derive(Clone, Copy, Debug, PartialEq, Eq)]
+pub(crate) struct Header {
+    /// 1 or 2.
+    pub(crate) version: u8,
+    /// The number of units in every bar.
+    pub(crate) resolution: u16,
+    /// Microseconds within which onsets join a chord.
+    pub(crate) window: u32,
+    /// The weight of early onsets.
+    pub(crate) early: u32,
+    /// The weight of late onsets.
+    pub(crate) late: u32,
+}
+
+/// The version of a file.
+fn version(words: &[&[u8]]) -> Result<u8, GrammarWhat>
+    ensures { result ≡ version_of (map (λ x. x.now) words.now) }
+{
+    match words {
+        [key, version] if *key == b"rhythm".as_slice() && *version == b"1".as_slice() => Ok(1),
+        [key, version] if *key == b"rhythm".as_slice() && *version == b"2".as_slice() => Ok(2),
+        _ => Err(GrammarWhat::Header),
+    }
+}
+
+/// The number of a line that begins with this word.
+fn number(key: &[u8], low: u32, high: u32, words: &[&[u8]]) -> Result<u32, GrammarWhat>
+    requires { high < 4294967295 }
+    ensures value { result ≡ number_of key.now low high (map (λ x. x.now) words.now) }
+    ensures within { IfOk result (λ n. n ≤ high) }
+{
+    match words {
+        [first, digits] if *first == key => {
+            if is_numeral(digits) {
+                number_within(digits, low, high)
+            } else {
+                Err(GrammarWhat::Line)
+            }
+        }
+        _ => Err(GrammarWhat::Header),
+    }
+}
+
+/// Both numbers of a line that begins with this word.
+fn numbers(key: &[u8], low: u32, high: u32, words: &[&[u8]]) -> Result<(u32, u32), GrammarWhat>
+    requires { high < 4294967295 }
+    ensures { result ≡ numbers_of key.now low high (map (λ x. x.now) words.now) }
+{
+    match words {
+        [first, digits, others] if *first == key => {
+            if !(is_numeral(digits) && is_numeral(others)) {
+                return Err(GrammarWhat::Line);
+            }
+            let number = number_within(digits, low, high)?;
+            Ok((number, number_within(others, low, high)?))
+        }
+        _ => Err(GrammarWhat::Header),
+    }
+}
+
+/// The weights of early and of late onsets.
+fn weights(version: u8, words: &[&[u8]]) -> Result<(u32, u32), GrammarWhat>
+    ensures { result ≡ weights_of version (map (λ x. x.now) words.now) }
+{
+    if version == 2 {
+        return numbers(b"onset", 0, 1_000, words);
+    }
+    let weight = number(b"onset", 0, 1_000, words)?;
+    Ok((weight, weight))
+}
+
+/// The next line of the header.
+fn next_line<'a>(alloc: Global, lines: &mut Lines<'a>) -> Result<Line<'a>, GrammarFault>
+    ensures line { IfOk result (λ line. slice_get lines.old.lines 0 ≡ Some line) }
+    ensures behind { OnOk result (lines.new ≡ behind_first lines.old) }
+    ensures end { IfErr result (λ fault. fault.what ≢ Memory → (slice_get lines.old.lines 0 ≡ None) × (fault ≡ missing lines.old.end)) }
+{
+    match lines.next(alloc)? {
+        Next::Line(line) => Ok(line),
+        Next::End(number) => Err(GrammarFault {
+            line: number,
+            what: GrammarWhat::Header,
+        }),
+    }
+}
+
+/// The version that the next line says.
+fn read_version(alloc: Global, lines: &mut Lines) -> Result<u8, GrammarFault>
+    ensures value { GivesAt result (line_says lines.old.end version_of (slice_get lines.old.lines 0)) }
+    ensures behind { OnOk result (lines.new ≡ behind_first lines.old) }
+{
+    let line = next_line(alloc, lines)?;
+    on_line(line.number, version(line.words.as_slice()))
+}
+
+/// The number that the next line says.
+fn read_number(
+    alloc: Global,
+    lines: &mut Lines,
+    key: &[u8],
+    low: u32,
+    high: u32,
+) -> Result<u32, GrammarFault>
+    requires { high < 4294967295 }
+    ensures value { GivesAt result (line_says lines.old.end (number_of key.now low high) (slice_get lines.old.lines 0)) }
+    ensures within { IfOk result (λ n. n ≤ high) }
+    ensures behind { OnOk result (lines.new ≡ behind_first lines.old) }
+{
+    let line = next_line(alloc, lines)?;
+    on_line(line.number, number(key, low, high, line.words.as_slice()))
+}
+
+/// The weights that the next line says.
+fn read_weights(alloc: Global, lines: &mut Lines, version: u8) -> Result<(u32, u32), GrammarFault>
+    ensures value { GivesAt result (line_says lines.old.end (weights_of version) (slice_get lines.old.lines 0)) }
+    ensures behind { OnOk result (lines.new ≡ behind_first lines.old) }
+{
+    let line = next_line(alloc, lines)?;
+    on_line(line.number, weights(version, line.words.as_slice()))
+}
+
+/// The most units of a bar.
+fn most_units(version: u8) -> u32
+    ensures value { result ≡ most_units version }
+    ensures few { result ≤ 960 }
+{
+    if version == 2 { 96 } else { 960 }
+}
+
+/// What the first four lines say.
+pub(crate) fn read_header(alloc: Global, lines: &mut Lines) -> Result<Header, GrammarFault>
+    ensures value { GivesAt result (header_of lines.old) }
+    ensures behind { OnOk result (lines.new.lines ≡ drop 4 lines.old.lines) }
+{
+    let version = read_version(alloc, lines)?;
+    let resolution = read_number(alloc, lines, b"resolution", 1, most_units(version))?;
+    let window = read_number(alloc, lines, b"window", 0, 1_000_000)?;
+    let (early, late) = read_weights(alloc, lines, version)?;
+    Ok(Header {
+        version,
+        resolution: resolution as u16,
+        window,
+        early,
+        late,
+    })
+}

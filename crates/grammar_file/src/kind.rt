@@ -1,0 +1,69 @@
+ghost use Rattle.grammar_file.specs.Said.{are_parts, has_form, kind_of};
+ghost use Rattle.grammar_file.specs.Names.{is_name};
+ghost use Rattle.std.specs.List.{list_all};
+ghost use Rattle.std.specs.Prelude.{◌≡◌, map};
+
+use crate::number::is_numeral;
+use crate::spelling::is_name;
+
+/// The forms of a rule's body.
+#[derive(Clone, Copy, Debug, PartialEq, Eq)]
+pub(crate) enum Kind {
+    Split,
+    Parts,
+    Note,
+    Short,
+    Tie,
+    Rest,
+    Grace,
+}
+
+/// The form that this word begins.
+#[tactic(auto, unfolding(crate::specs::Said::kind_of))]
+pub(crate) fn kind_of(word: &[u8]) -> Option<Kind>
+    ensures { result ≡ kind_of word.now }
+{
+    match word {
+        b"split" => Some(Kind::Split),
+        b"parts" => Some(Kind::Parts),
+        b"note" => Some(Kind::Note),
+        b"short" => Some(Kind::Short),
+        b"tie" => Some(Kind::Tie),
+        b"rest" => Some(Kind::Rest),
+        b"grace" => Some(Kind::Grace),
+        _ => None,
+    }
+}
+
+/// Whether the words are sizes and names in turn.
+pub(crate) fn are_parts(words: &[&[u8]]) -> bool
+    ensures { result ≡ are_parts (map (λ x. x.now) words.now) }
+{
+    match words {
+        [] => true,
+        [_size] => false,
+        [size, name, more @ ..] => is_numeral(size) && is_name(name) && are_parts(more),
+    }
+}
+
+/// Whether the words are names.
+fn are_names(words: &[&[u8]]) -> bool
+    ensures { result ≡ list_all is_name (map (λ x. x.now) words.now) }
+{
+    words.iter().all(|word| is_name(word))
+}
+
+/// Whether the words behind its first fit a body of this kind in this version.
+pub(crate) fn has_form(version: u8, kind: Kind, words: &[&[u8]]) -> bool
+    ensures { result ≡ has_form version kind (map (λ x. x.now) words.now) }
+{
+    match kind {
+        Kind::Split => words.len() >= 2 && words.len() <= 16 && are_names(words),
+        Kind::Parts => { version == 2 && words.len() >= 4 && words.len() <= 32 && are_parts(words) }
+        Kind::Grace => match words {
+            [digits] => is_numeral(digits),
+            _ => false,
+        },
+        Kind::Note | Kind::Short | Kind::Tie | Kind::Rest => words.is_empty(),
+    }
+}

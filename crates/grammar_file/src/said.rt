@@ -1,0 +1,143 @@
+ghost use Rattle.grammar_file.specs.Outcome.{Gives};
+ghost use Rattle.grammar_file.specs.Said.{are_parts, body_of, has_form, kind_of, parts_of, rule_of_kind, said_by, start_of};
+ghost use Rattle.std.specs.List.{after_first, before_first};
+ghost use Rattle.std.specs.Prelude.{◌≡◌, ◌==◌, ℕ, IsTrue, map};
+
+use crate::fault::GrammarWhat;
+use crate::kind::{Kind, has_form, kind_of};
+use crate::number::{beat, is_numeral, number_within};
+use crate::spelling::is_name;
+use crate::words::{Sizes, Word, Words};
+use std::alloc::Global;
+
+/// What a rule makes of an interval, with the symbols of its parts by name.
+#[derive(Drop)]
+pub(crate) enum NamedBody<'a> {
+    Split(Words<'a>),
+    Parts(Sizes<'a>),
+    Note,
+    Short,
+    Tie,
+    Rest,
+    Grace(u8),
+}
+
+/// What a line behind the header says.
+#[derive(Drop)]
+pub(crate) enum Said<'a> {
+    /// The root symbol of the bars of a signature.
+    Start {
+        num: u8,
+        den: u8,
+        name: Word<'a>,
+    },
+    /// A rule of the symbol with this name.
+    Rule {
+        name: Word<'a>,
+        weight: u32,
+        body: NamedBody<'a>,
+    },
+}
+
+/// The words around the first slash.
+fn halves(word: &[u8]) -> (&[u8], &[u8])
+    ensures before { result.0.now ≡ before_first (λ b. b == 47) word.now }
+    ensures behind { result.1.now ≡ after_first (λ b. b == 47) word.now }
+{
+    match word.iter().position(|byte| *byte == b'/') {
+        Some(at) => (&word[..at], &word[at + 1..]),
+        None => (word, &[]),
+    }
+}
+
+/// The start that a line says with these words.
+fn start<'a>(signature: &[u8], name: &'a [u8]) -> Result<Said<'a>, GrammarWhat>
+    ensures { result ≡ start_of signature.now name.now }
+{
+    let (num, den) = halves(signature);
+    if !(is_numeral(num) && is_numeral(den) && is_name(name)) {
+        return Err(GrammarWhat::Line);
+    }
+    let num = number_within(num, 1, 64)? as u8;
+    let den = beat(den)?;
+    Ok(Said::Start {
+        num,
+        den,
+        name: Word::of(name),
+    })
+}
+
+/// The parts of these sizes and names.
+fn parts<'a>(alloc: Global, words: &[&'a [u8]]) -> Result<Sizes<'a>, GrammarWhat>
+    requires { IsTrue (are_parts (map (λ x. x.now) words.now)) }
+    ensures { Gives result (parts_of (map (λ x. x.now) words.now)) }
+{
+    let mut parts = Vec::with_capacity(alloc, words.len() / 2)?;
+    let mut rest = words;
+    'parts: while let [size, name, more @ ..] = rest {
+        parts.push((number_within(size, 1, 96)? as u8, *name))?;
+        rest = more;
+    }
+    Ok(Sizes::of(parts))
+}
+
+/// The body of this kind with these words behind its first.
+fn body<'a>(alloc: Global, kind: Kind, words: &[&'a [u8]]) -> Result<NamedBody<'a>, GrammarWhat>
+    requires { (version : ℕ) × IsTrue (has_form version kind (map (λ x. x.now) words.now)) }
+    ensures { Gives result (body_of kind (map (λ x. x.now) words.now)) }
+{
+    Ok(match kind {
+        Kind::Split => NamedBody::Split(Words::of(Vec::from_slice(alloc, words)?)),
+        Kind::Parts => NamedBody::Parts(parts(alloc, words)?),
+        Kind::Note => NamedBody::Note,
+        Kind::Short => NamedBody::Short,
+        Kind::Tie => NamedBody::Tie,
+        Kind::Rest => NamedBody::Rest,
+        Kind::Grace => NamedBody::Grace(number_within(words[0], 1, 3)? as u8),
+    })
+}
+
+/// The rule that a line says with these words.
+fn rule<'a>(
+    alloc: Global,
+    version: u8,
+    name: &'a [u8],
+    weight: &[u8],
+    word: &[u8],
+    words: &[&'a [u8]],
+) -> Result<Said<'a>, GrammarWhat>
+    ensures { Gives result (rule_of_kind version name.now weight.now (kind_of word.now) (map (λ x. x.now) words.now)) }
+{
+    let Some(kind) = kind_of(word) else {
+        return Err(GrammarWhat::Line);
+    };
+    if !(is_name(name) && is_numeral(weight) && has_form(version, kind, words)) {
+        return Err(GrammarWhat::Line);
+    }
+    let weight = number_within(weight, 0, 1_000_000)?;
+    let body = body(alloc, kind, words)?;
+    Ok(Said::Rule {
+        name: Word::of(name),
+        weight,
+        body,
+    })
+}
+
+/// What a line behind the header says with these words.
+pub(crate) fn read_said<'a>(
+    alloc: Global,
+    version: u8,
+    words: &[&'a [u8]],
+) -> Result<Said<'a>, GrammarWhat>
+    ensures { Gives result (said_by version (map (λ x. x.now) words.now)) }
+{
+    match words {
+        [first, second, third, more @ ..] => {
+            if *first == b"start".as_slice() && more.is_empty() {
+                return start(second, third);
+            }
+            rule(alloc, version, first, second, third, more)
+        }
+        _ => Err(GrammarWhat::Line),
+    }
+}

@@ -1,0 +1,5 @@
+pub mod Among
+pub mod Places
+pub mod Kept
+pub mod Ending
+pub mod OneList

@@ -1,0 +1,4 @@
+pub mod InForce
+pub mod Elapsed
+pub mod SoundBars
+pub mod BarByBar

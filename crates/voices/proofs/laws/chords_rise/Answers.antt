@@ -1,0 +1,5 @@
+use Rattle.voices.proofs.Gathered.{onsets_rise}
+use Rattle.voices.proofs.laws.chords_rise.Goals as goal
+
+pub returns : goal.returns
+returns c = onsets_rise
