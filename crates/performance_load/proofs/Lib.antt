@@ -1,0 +1,4 @@
+pub mod EventLemmas
+pub mod Formed
+pub mod SomeNote
+pub mod VoiceLemmas

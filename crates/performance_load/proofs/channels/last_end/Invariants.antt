@@ -1,0 +1,6 @@
+use Rattle.std.proofs.Common.{◌≡◌, map, take}
+use Rattle.smf_reader.specs.Played.{greatest}
+use Rattle.performance_load.proofs.channels.last_end.Given as goal
+
+abbrev pub invariant-loop-note : goal.invariant-loop-note
+invariant-loop-note l = l.last ≡ greatest (map (λ n. n.end) (take l.note-index l.notes))
