@@ -13,5 +13,6 @@ mod stop;
 mod top;
 
 pub use line::write_line;
+pub use performance_load::{LoadFault, load};
 pub use stop::{Kind, Missing, Stop};
 pub use top::run;

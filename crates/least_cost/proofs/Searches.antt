@@ -1,0 +1,193 @@
+-- The steps of the search for the least trees of an interval.
+use Rattle.std.proofs.Common.{◌≡◌, ℕ, zero, suc, ◌<◌, ◌≤◌, ◌+◌, ◌-◌, ◌/◌, max, ◌^◌, ◌==◌, true, false, All, List, [], ◌∷◌, length, get_or, refl, sym, ap, ◌∙◌, subst, arith}
+use Rattle.std.specs.Prelude.{Option, Some, None, slice_get, take, drop, IsTrue}
+use Rattle.std.proofs.lemmas.List.{take_rest, nil_from_length}
+use Rattle.std.proofs.lemmas.List.Elements.{All-push, All-weaker}
+use Rattle.std.proofs.lemmas.Option.{slice_get_within, get_or_from_slice_get}
+use Rattle.rhythm_base.specs.declared.rule.Body.{Body}
+use Rattle.rhythm_base.specs.declared.rule.Body.TheVariants.{Split, Parts, Note, Short, Tie, Rest, Grace}
+use Rattle.rhythm_base.specs.declared.rule.Rule.{Rule}
+use Rattle.rhythm_base.specs.Cell.{Cell}
+use Rattle.rhythm_base.specs.Forest.{none, more}
+use Rattle.rhythm_base.specs.Outline.{Outline, end, part}
+use Rattle.rhythm_base.specs.Readable.{IsBody}
+use Rattle.rhythm_base.specs.Rulebook.{Rulebook}
+use Rattle.rhythm_base.specs.Signatures.{is_den}
+use Rattle.rhythm_base.specs.Trees.{are_shaped, can_cut, children, leaf_of, sizes, suits}
+use Rattle.rhythm_laws.specs.Forests.{AreWide, IsForestKey, IsGround, first_shape, has_shapes, one_shape, other_shapes}
+use Rattle.rhythm_laws.proofs.ForestLemmas.{split_key}
+use Rattle.rhythm_laws.proofs.Reading.{and_right}
+use Rattle.least_cost.specs.declared.choice.Choice.{Choice}
+use Rattle.least_cost.specs.declared.cut.Piece.{Piece}
+use Rattle.least_cost.specs.declared.entry.Entry.{Entry}
+use Rattle.least_cost.specs.declared.memo.Asked.{Asked}
+use Rattle.least_cost.specs.declared.memo.Found.{Found}
+use Rattle.least_cost.specs.Entries.{IsGood, IsSettled, choice_at, entry_at}
+use Rattle.least_cost.specs.Memos.{AddsFound, HasFound}
+use Rattle.least_cost.specs.Nodes.{AreBeside, AreFound, IsAnswer, IsReady, IsWithin, cut_of, cuts_at, ground_of, is_cut}
+use Rattle.least_cost.specs.Pins.{demanded}
+use Rattle.least_cost.specs.Products.{joined_by}
+use Rattle.least_cost.specs.RuleChoices.{AreRuleChoices, HasNoTree}
+use Rattle.least_cost.specs.RuleLists.{Extends}
+use Rattle.least_cost.specs.Rules.{topped_of}
+use Rattle.least_cost.specs.Shares.{AreBelow}
+use Rattle.least_cost.proofs.Bounds.{IsBounded}
+use Rattle.least_cost.proofs.Goods.{Table, cut-choices, good-beside, good-cheap, good-more}
+use Rattle.least_cost.proofs.Leaves.{cut_body}
+use Rattle.least_cost.proofs.RuleKeys.{cut-least}
+use Rattle.least_cost.proofs.Shares.{below-wide, children-below, children-whole, equal_many, unequal_many}
+
+-- ---- what was found
+
+pub found-more : (g : Rulebook) (k : Cell) (os : List Outline) (ls ms : List (List ℕ)) (xs : List Found) → Extends ls ms → AreFound g k os ls xs → AreFound g k os ms xs
+found-more g k os ls ms xs longer h = record {
+  each =
+      All-weaker (λ x. IsAnswer g k os ls x.asked x.grid) (λ x. IsAnswer g k os ms x.asked x.grid)
+      (λ x a. good-more (ground_of g k) (one_shape (demanded os x.asked.demand)) x.asked.place ((x.asked.width, x.asked.symbol) ∷ []) ls ms x.grid longer a) xs h.each;
+}
+
+pub found-add : (g : Rulebook) (k : Cell) (os : List Outline) (ls : List (List ℕ)) (xs ys : List Found) (asked : Asked) (grid : Table) → AddsFound xs ys asked grid → AreFound g k os ls xs → IsAnswer g k os ls asked grid → AreFound g k os ls ys
+found-add g k os ls xs ys asked grid new h own =
+    let P : Found → Type 0 = λ x. IsAnswer g k os ls x.asked x.grid in
+    let Q : Asked → Type 0 = λ a. IsAnswer g k os ls a new.0.grid in
+    let R : Table → Type 0 = λ t. IsAnswer g k os ls asked t in
+    record { each = subst (All P) (sym new.1) (All-push P xs new.0 h.each (subst Q (sym new.2) (subst R (sym new.3) own))) }
+
+pub found-is : (g : Rulebook) (k : Cell) (os : List Outline) (ls : List (List ℕ)) (xs : List Found) (asked : Asked) (grid : Table) → AreFound g k os ls xs → HasFound xs asked grid → IsAnswer g k os ls asked grid
+found-is g k os ls xs asked grid h f =
+    let P : Found → Type 0 = λ x. IsAnswer g k os ls x.asked x.grid in
+    let Q : Asked → Type 0 = λ a. IsAnswer g k os ls a f.0.grid in
+    let R : Table → Type 0 = λ t. IsAnswer g k os ls asked t in
+    subst R f.3 (subst Q f.2 (subst P f.1.2 (h.each f.1.0 f.0 f.1.1)))
+
+-- ---- the ground
+
+den_some : (den : ℕ) → IsTrue (is_den den) → 1 ≤ den
+den_some zero h = absurd (cc)
+den_some (suc den) h = omega arith
+
+module _ (g : Rulebook) (k : Cell) (ready : IsReady g k) where
+  pub grounded : IsGround (ground_of g k)
+  grounded = record { long = ready.cell.some_tick; rise = ready.cell.rising }
+
+  pub bounds : IsBounded (ground_of g k)
+  bounds = record { ranges = ready.readable.ranges; some_beat = ready.cell.signature.some; few_beats = ready.cell.signature.few; some_den = den_some k.den ready.cell.signature.power }
+
+  -- no entry costs much
+  cheap : (s : Option Outline) (p : ℕ) (qs : List (ℕ × ℕ)) (ls : List (List ℕ)) (t : Table) → AreWide qs → sizes qs ≤ k.resolution → IsGood (ground_of g k) s p qs ls t
+      → (a b : ℕ) (e : Entry) → a < 5 → b < 5 → entry_at t a b ≡ Some e → e.cost < 2 ^ 62
+  cheap s p qs ls t wide within h a b e la lb is =
+      let units : g.resolution ≡ k.resolution = ready.units in
+      let low = good-cheap (ground_of g k) grounded bounds s p qs ls t wide (omega (arith, units, within)) h a b e la lb is in
+      omega (arith, low)
+
+  pub answer-cheap : (os : List Outline) (ls : List (List ℕ)) (asked : Asked) (t : Table) → IsWithin k asked → IsAnswer g k os ls asked t → (a b : ℕ) (e : Entry) → a < 5 → b < 5 → entry_at t a b ≡ Some e → e.cost < 2 ^ 62
+  answer-cheap os ls asked t within h =
+      let far : asked.place + asked.width ≤ k.resolution = within.within in
+      cheap (one_shape (demanded os asked.demand)) asked.place ((asked.width, asked.symbol) ∷ []) ls t (within.wide, tt) (omega (arith, far)) h
+
+  pub beside-cheap : (s : Option Outline) (p w : ℕ) (qs : List (ℕ × ℕ)) (ls : List (List ℕ)) (t : Table) → AreBelow w qs → p + sizes qs ≤ k.resolution → IsGood (ground_of g k) s p qs ls t
+      → (a b : ℕ) (e : Entry) → a < 5 → b < 5 → entry_at t a b ≡ Some e → e.cost < 2 ^ 62
+  beside-cheap s p w qs ls t below within h = cheap s p qs ls t (below-wide w qs below) (omega (arith, within)) h
+
+  -- ---- pieces side by side
+
+  -- no trees may stand where a piece is
+  pub beside-closed : (p : ℕ) (q : ℕ × ℕ) (qs : List (ℕ × ℕ)) (ls : List (List ℕ)) (s : Option Outline) → s ≡ Some end → AreBeside g k s p (q ∷ qs) ls None
+  beside-closed p q qs ls s e a b key h =
+      let P : Option Outline → Type 0 = λ s. IsForestKey (ground_of g k) s p (q ∷ qs) a b key in
+      go (subst P e h)
+    where
+      go : IsForestKey (ground_of g k) (Some end) p (q ∷ qs) a b key → ⊥
+      go (none, stands, is) = let no_tree : false ≡ true = stands.trees in absurd (cc)
+      go (more r f rest, stands, is) = let no_shape : false ≡ true = stands.shaped in absurd (cc)
+
+  -- the others do not fit, so all do not
+  pub beside-stuck : (p : ℕ) (q : ℕ × ℕ) (qs : List (ℕ × ℕ)) (ls : List (List ℕ)) (s t : Option Outline) → AreWide (q ∷ qs) → other_shapes s ≡ t → AreBeside g k t (p + q.0) qs ls None → AreBeside g k s p (q ∷ qs) ls None
+  beside-stuck p q qs ls s t wide e h a b key x =
+      let parts = split_key (ground_of g k) grounded p q qs wide s a b key x in
+      let P : Option Outline → Type 0 = λ s. IsForestKey (ground_of g k) s (p + q.0) qs parts.0 b parts.2.1 in
+      h parts.0 b parts.2.1 (subst P e parts.2.3)
+
+  pub beside-joined : (p w : ℕ) (q : ℕ × ℕ) (qs : List (ℕ × ℕ)) (s t u : Option Outline) (ls ms ns : List (List ℕ)) (left right all : Table) (choices : List (List (Option Choice))) → AreBelow w (q ∷ qs)
+      → first_shape s ≡ one_shape t → other_shapes s ≡ u → IsGood (ground_of g k) (one_shape t) p (q ∷ []) ms left → Extends ls ms → IsGood (ground_of g k) u (p + q.0) qs ls right
+      → ((a b : ℕ) → a < 5 → b < 5 → choice_at choices a b ≡ joined_by (entry_at left a) (λ m. entry_at right m b))
+      → ((a b : ℕ) → a < 5 → b < 5 → IsSettled ms ns (λ n. choice_at choices a n) (choice_at choices a b) (entry_at all a b))
+      → IsGood (ground_of g k) s p (q ∷ qs) ns all
+  beside-joined p w q qs s t u ls ms ns left right all choices below one others own longer behind is settled =
+      let P : Option Outline → Type 0 = λ s. IsGood (ground_of g k) s p (q ∷ []) ms left in
+      let Q : Option Outline → Type 0 = λ s. IsGood (ground_of g k) s (p + q.0) qs ms right in
+      good-beside (ground_of g k) grounded p q qs (below-wide w (q ∷ qs) below) s ms ns left right all choices
+      (subst P (sym one) own) (subst Q (sym others) (good-more (ground_of g k) u (p + q.0) qs ls ms right longer behind)) is settled
+
+  -- one piece alone
+  pub beside-one : (p : ℕ) (q : ℕ × ℕ) (s t u : Option Outline) (ls : List (List ℕ)) (grid : Table) → first_shape s ≡ one_shape t → other_shapes s ≡ u → has_shapes u none ≡ true
+      → IsGood (ground_of g k) (one_shape t) p (q ∷ []) ls grid → IsGood (ground_of g k) s p (q ∷ []) ls grid
+  beside-one p q s t u ls grid one others free own =
+      let P : Option Outline → Type 0 = λ s. IsGood (ground_of g k) s p (q ∷ []) ls grid in
+      subst P (sym one ∙ alone s (ap (λ o. has_shapes o none) others ∙ free)) own
+    where
+      no_more : (xs : Outline) → are_shaped xs none ≡ true → xs ≡ end
+      no_more end h = refl
+      no_more (part x xs) h = absurd (cc)
+
+      alone : (s : Option Outline) → has_shapes (other_shapes s) none ≡ true → first_shape s ≡ s
+      alone None h = refl
+      alone (Some end) h = refl
+      alone (Some (part x xs)) h = ap (λ o. Some (part x o)) (sym (no_more xs h))
+
+  -- ---- a cut
+
+  module _ (asked : Asked) (within : IsWithin k asked) (number : ℕ) (rule : Rule) (at : slice_get g.rules number ≡ Some rule)
+      (suit : suits (slice_get g.rules number) (asked.width, asked.symbol) ≡ true) (cuts : cuts_at g.rules number ≡ true) where
+    suited : suits (Some rule) (asked.width, asked.symbol) ≡ true
+    suited = ap (λ o. suits o (asked.width, asked.symbol)) (sym at) ∙ suit
+
+    own_cut : is_cut rule.body ≡ true
+    own_cut = ap cut_of (sym at) ∙ cuts
+
+    can : can_cut rule.body asked.width ≡ true
+    can = and_right (rule.lhs == asked.symbol) _ suited
+
+    bare : leaf_of rule.body asked.place asked.width ≡ []
+    bare = cut_body rule.body asked.place asked.width own_cut
+
+    pub cut_below : AreBelow asked.width (children rule.body asked.width)
+    cut_below = children-below rule.body asked.width within.wide can
+
+    pub cut_sizes : asked.place + sizes (children rule.body asked.width) ≤ k.resolution
+    cut_sizes =
+        let whole = children-whole rule.body asked.place asked.width within.wide can bare in
+        let far : asked.place + asked.width ≤ k.resolution = within.within in
+        omega (arith, whole.0, far)
+
+    many : (version names : ℕ) (b : Body) (w : ℕ) → IsBody version names b → length (children b w) ≤ 16
+    many version names (Split ks) w h = let few : length ks ≤ 16 = h.1 in omega (arith, few, equal_many (w / max 1 (length ks)) ks)
+    many version names (Parts ps) w h = let few : length ps ≤ 16 = h.2 in omega (arith, few, unequal_many (w / max 1 (sizes ps)) ps)
+    many version names Note w h = omega arith
+    many version names Short w h = omega arith
+    many version names Tie w h = omega arith
+    many version names Rest w h = omega arith
+    many version names (Grace m) w h = omega arith
+
+    pub cut_few : length (children rule.body asked.width) ≤ 16
+    cut_few =
+        let P : Rule → Type 0 = λ r. IsBody g.version (length g.names) r.body in
+        many g.version (length g.names) rule.body asked.width (subst P (get_or_from_slice_get g.rules number rule rule at) (ready.readable.bodies number rule (slice_get_within g.rules number rule at)))
+
+    pub cut_stuck : (os : List Outline) (ls : List (List ℕ)) → AreBeside g k (demanded os asked.demand) asked.place (children rule.body asked.width) ls None
+        → HasNoTree (ground_of g k) (demanded os asked.demand) asked.place (asked.width, asked.symbol) number
+    cut_stuck os ls h a b = cut-least (ground_of g k) (demanded os asked.demand) asked.place (asked.width, asked.symbol) number a b rule at suited bare None (h a b)
+
+    pub cut_topped : (os : List Outline) (ls : List (List ℕ)) (t : Table) (choices : List (List (Option Choice))) → IsGood (ground_of g k) (demanded os asked.demand) asked.place (children rule.body asked.width) ls t
+        → ((a b : ℕ) → a < 5 → b < 5 → choice_at choices a b ≡ topped_of rule.weight number (entry_at t a b))
+        → AreRuleChoices (ground_of g k) (demanded os asked.demand) asked.place (asked.width, asked.symbol) number ls (choice_at choices)
+    cut_topped os ls t choices h is = cut-choices (ground_of g k) (demanded os asked.demand) asked.place (asked.width, asked.symbol) number rule ls t (choice_at choices) at suited bare h is
+
+-- the first piece and the others
+pub pieces-split : (xs : List Piece) (d : Piece) → 1 ≤ length xs → xs ≡ get_or xs 0 d ∷ take (length xs - 1) (drop 1 xs)
+pieces-split [] d low = absurd (omega arith)
+pieces-split (x ∷ xs) d low = ap (λ l. x ∷ l) (sym (take_rest (x ∷ xs) 1))
+
+pub no_pieces : (xs : List Piece) → length xs < 1 → xs ≡ []
+no_pieces xs h = nil_from_length xs (omega arith)

@@ -1,0 +1,29 @@
+use Rattle.std.proofs.Common.{◌+◌, ◌*◌, length}
+use Rattle.least_cost.specs.Entries.{choice_at}
+use Rattle.least_cost.specs.Nodes.{AreFound, ground_of}
+use Rattle.least_cost.specs.Pins.{demanded}
+use Rattle.least_cost.specs.RuleChoices.{IsBestBelow}
+use Rattle.least_cost.specs.RuleLists.{Extends}
+use Rattle.least_cost.proofs.trees.+trees.Given as goal
+
+abbrev pub decreases-beside : goal.decreases-beside
+decreases-beside l = 64 * l.below + length l.pieces.now
+
+abbrev pub decreases-by_cut : goal.decreases-by_cut
+decreases-by_cut l = 64 * l.asked.width + 60
+
+abbrev pub decreases-by_rule : goal.decreases-by_rule
+decreases-by_rule l = 64 * l.asked.width + 61
+
+abbrev pub decreases-by_rules : goal.decreases-by_rules
+decreases-by_rules l = 64 * l.asked.width + 62
+
+abbrev pub decreases-least_trees : goal.decreases-least_trees
+decreases-least_trees l = 64 * l.asked.width + 63
+
+abbrev pub invariant-by_rules-loop-number : goal.invariant-by_rules-loop-number
+invariant-by_rules-loop-number l = record {
+  more : Extends l.initial.memo.lists l.memo.lists;
+  found : AreFound l.grammar l.input l.pins l.memo.lists l.memo.found.items;
+  best : IsBestBelow (ground_of l.grammar l.input) (demanded l.pins l.asked.demand) l.asked.place (l.asked.width, l.asked.symbol) l.number l.memo.lists (choice_at l.best);
+}

@@ -1,0 +1,97 @@
+-- The trees of a cell over an interval of its units, and when all that was found of them is right.
+use Rattle.std.specs.Prelude.{◌≡◌, ℕ, ◌+◌, ◌<◌, ◌≤◌, ◌&&◌, ◌==◌, slice_get, Bool, true, false, List, [], ◌∷◌, All, Option, Some, None, if◌then◌else◌}
+use Rattle.rhythm_base.specs.declared.rule.Body.{Body}
+use Rattle.rhythm_base.specs.declared.rule.Body.TheVariants.{Split, Parts, Note, Short, Tie, Rest, Grace}
+use Rattle.rhythm_base.specs.declared.rule.Rule.{Rule}
+use Rattle.rhythm_laws.specs.Runs.{agreed}
+use Rattle.least_cost.specs.declared.rule_lists.Rope.TheVariants.{Top}
+use Rattle.rhythm_base.specs.Cell.{Cell, IsCell}
+use Rattle.rhythm_base.specs.Cells.{bar_of}
+use Rattle.rhythm_base.specs.Cost.{charges}
+use Rattle.rhythm_base.specs.Forest.{none}
+use Rattle.rhythm_base.specs.Outline.{Outline}
+use Rattle.rhythm_base.specs.Ranked.{Key}
+use Rattle.rhythm_base.specs.Readable.{IsReadable}
+use Rattle.rhythm_base.specs.Rulebook.{Rulebook}
+use Rattle.rhythm_laws.specs.Forests.{Ground, IsForestKey, has_shapes, one_shape}
+use Rattle.rhythm_laws.specs.Places.{FitsAt}
+use Rattle.least_cost.specs.declared.choice.Choice.{Choice}
+use Rattle.least_cost.specs.declared.entry.Entry.{Entry}
+use Rattle.least_cost.specs.declared.memo.Asked.{Asked}
+use Rattle.least_cost.specs.declared.memo.Found.{Found}
+use Rattle.least_cost.specs.declared.trees.LeafHere.{LeafHere}
+use Rattle.least_cost.specs.Entries.{IsGood, choice_at}
+use Rattle.least_cost.specs.OneLeaf.{HasHeard, leaf_of_cell}
+use Rattle.least_cost.specs.Pins.{demanded}
+use Rattle.least_cost.specs.RuleChoices.{AreRuleChoices, HasNoTree}
+
+-- where the trees of a cell stand
+abbrev pub ground_of : Rulebook → Cell → Ground
+ground_of g k = record { book = g; bar = bar_of k; chords = k.chords; before = k.before }
+
+-- a grammar from a file, and a cell of its resolution
+pub record IsReady (g : Rulebook) (k : Cell) : Type 0 where
+  pub readable : IsReadable g
+  pub cell : IsCell k
+  pub units : g.resolution ≡ k.resolution
+
+-- an interval of the cell's units
+pub record IsWithin (k : Cell) (asked : Asked) : Type 0 where
+  pub wide : 1 ≤ asked.width
+  pub within : asked.place + asked.width ≤ k.resolution
+
+-- the entries are the least of one tree of the symbol over the interval, of the demanded shape
+abbrev pub IsAnswer : Rulebook → Cell → List Outline → List (List ℕ) → Asked → List (List (Option Entry)) → Type 0
+IsAnswer g k os ls asked grid =
+    IsGood (ground_of g k) (one_shape (demanded os asked.demand)) asked.place ((asked.width, asked.symbol) ∷ []) ls grid
+
+-- all that was found is right
+pub record AreFound (g : Rulebook) (k : Cell) (os : List Outline) (ls : List (List ℕ)) (xs : List Found) : Type 0 where
+  pub each : All (λ x. IsAnswer g k os ls x.asked x.grid) xs
+
+-- a rule that cuts its interval
+abbrev pub is_cut : Body → Bool
+is_cut (Split symbols) = true
+is_cut (Parts parts) = true
+is_cut Note = false
+is_cut Short = false
+is_cut Tie = false
+is_cut Rest = false
+is_cut (Grace m) = false
+
+abbrev pub cut_of : Option Rule → Bool
+cut_of None = false
+cut_of (Some rule) = is_cut rule.body
+
+-- the rule of this number cuts its interval
+abbrev pub cuts_at : List Rule → ℕ → Bool
+cuts_at rules r = cut_of (slice_get rules r)
+
+-- no leaf fits the interval, with whatever rule
+pub record HasNoLeaf (g : Rulebook) (k : Cell) (os : List Outline) (asked : Asked) : Type 0 where
+  pub none_fits : (body : Body) (a b : ℕ) → has_shapes (demanded os asked.demand) none ≡ true
+      → FitsAt g.resolution (bar_of k) k.chords k.before asked.place (record { body = body; place = asked.place; width = asked.width } ∷ []) a b → ⊥
+
+-- a leaf is allowed over the interval, and this is what it hears and what its onsets cost
+pub record IsLeafHere (g : Rulebook) (k : Cell) (os : List Outline) (asked : Asked) (l : LeafHere) : Type 0 where
+  pub allowed : has_shapes (demanded os asked.demand) none ≡ true
+  pub heard : HasHeard k asked.place asked.width l.heard
+  pub few : l.heard.own ≤ 4
+  pub charges : l.charges ≡ charges g (leaf_of_cell k asked.place asked.width ∷ []) k.chords
+
+-- the choices of the trees with a rule on top, and none where there are no such trees
+abbrev pub AreChoicesFor : Rulebook → Cell → List Outline → List (List ℕ) → Asked → ℕ → Option (List (List (Option Choice))) → Type 0
+AreChoicesFor g k os ls asked r None = HasNoTree (ground_of g k) (demanded os asked.demand) asked.place (asked.width, asked.symbol) r
+AreChoicesFor g k os ls asked r (Some choices) = AreRuleChoices (ground_of g k) (demanded os asked.demand) asked.place (asked.width, asked.symbol) r ls (choice_at choices)
+
+-- the entries of trees side by side, and none where no such trees fit
+abbrev pub AreBeside : Rulebook → Cell → Option Outline → ℕ → List (ℕ × ℕ) → List (List ℕ) → Option (List (List (Option Entry))) → Type 0
+AreBeside g k shapes p qs ls None = (a b : ℕ) (key : Key) → IsForestKey (ground_of g k) shapes p qs a b key → ⊥
+AreBeside g k shapes p qs ls (Some grid) = IsGood (ground_of g k) shapes p qs ls grid
+
+-- the choices of a leaf with the rule of this number
+abbrev pub IsLeafChoices : Rule → ℕ → LeafHere → List (List (Option Choice)) → Type 0
+IsLeafChoices rule r l choices =
+    (a b : ℕ) → a < 5 → b < 5 → choice_at choices a b
+    ≡ (if agreed rule.body (a + l.heard.own) l.heard.sounds && (l.heard.next == b)
+    then Some (record { cost = rule.weight + l.charges; major = r; minor = 0; rope = Top r None }) else None)
