@@ -27,9 +27,11 @@ pub mod Rulebook
 pub mod Script
 pub mod ScriptLines
 pub mod ShapeFalls
+pub mod ShapeReading
 pub mod ShapeText
 pub mod Shapes
 pub mod Signatures
+pub mod Spans
 pub mod Time
 pub mod Trees
 pub mod Voices

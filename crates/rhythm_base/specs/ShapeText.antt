@@ -1,5 +1,7 @@
 -- The text of a shape: `.` for a leaf; for a cut the number of its parts and, in brackets, their texts between spaces.
-use Rattle.std.specs.Prelude.{◌≡◌, ℕ, ◌+◌, ◌<◌, ◌==◌, if◌then◌else◌, IsTrue, List, [], ◌++◌, length, take, codes, decimal}
+use Rattle.std.specs.Prelude.{◌≡◌, ℕ, ◌+◌, ◌<◌, ◌==◌, if◌then◌else◌, IsTrue, List, [], ◌++◌, length, take, codes, decimal, ⊤}
+use Rattle.rhythm_base.specs.declared.shape_parse.ShapeFault.{ShapeFault}
+use Rattle.rhythm_base.specs.declared.shape_parse.ShapeFault.TheVariants.{BadByte, Cut, Memory}
 use Rattle.rhythm_base.specs.Outline.{Outline, end, part}
 use Rattle.rhythm_base.specs.Shapes.{is_shape, parts_in}
 
@@ -38,3 +40,9 @@ pub record IsFirstBadByte (text : List ℕ) (at : ℕ) : Type 0 where
 pub record IsCutShort (text : List ℕ) : Type 0 where
   pub begins : BeginsShape text
   pub short : (x : Outline) → IsShapeText text x → ⊥
+
+-- why a text is that of no shape. Want of memory is the one free answer
+abbrev pub IsShapeFault : List ℕ → ShapeFault → Type 0
+IsShapeFault text (BadByte at) = IsFirstBadByte text at
+IsShapeFault text Cut = IsCutShort text
+IsShapeFault text Memory = ⊤

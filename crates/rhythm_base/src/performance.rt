@@ -118,7 +118,8 @@ impl Performance {
 
     /// The bars, 1 to 4,096, side by side from tick 0.
     pub fn bars(&self) -> &[Bar]
-        ensures { result.now ≡ self.now.bars }
+        ensures value { result.now ≡ self.now.bars }
+        ensures formed { IsWellFormed self.now }
     {
         self.bars.as_slice()
     }
@@ -139,7 +140,8 @@ impl Performance {
 
     /// The notes, by channel, onset and key.
     pub fn notes(&self) -> &[Note]
-        ensures { result.now ≡ self.now.notes }
+        ensures value { result.now ≡ self.now.notes }
+        ensures formed { IsWellFormed self.now }
     {
         self.notes.as_slice()
     }

@@ -1,0 +1,75 @@
+-- The sounding spans of a voice: each chord from its beginning over all its ties, across bars.
+use Rattle.std.specs.Prelude.{◌≡◌, ℕ, ◌+◌, ◌*◌, ◌/◌, ◌≤◌, Bool, true, false, if◌then◌else◌, List, [], ◌∷◌, sum_by, take, take_while, slice_get, unwrap_or}
+use Rattle.std.specs.Int.{IsGcd}
+use Rattle.std.specs.Option.{option_map}
+use Rattle.rhythm_base.specs.declared.note.Bar.{Bar}
+use Rattle.rhythm_base.specs.declared.sound.Sound.{Sound}
+use Rattle.rhythm_base.specs.declared.sound.SoundKind.{SoundKind}
+use Rattle.rhythm_base.specs.declared.sound.SoundKind.TheVariants.{Begin, Short, Tie, Rest}
+use Rattle.rhythm_base.specs.declared.span.Frac.{Frac}
+use Rattle.rhythm_base.specs.declared.span.Span.{Span}
+
+-- n / d in lowest terms
+pub record IsFrac (n d : ℕ) (f : Frac) : Type 0 where
+  pub value : f.num * d ≡ n * f.den
+  pub some : 1 ≤ f.den
+  pub lowest : IsGcd f.num f.den 1
+
+-- ---- places, in parts of a whole note. With R units to the bar there are 64 * R parts to the whole note, and a unit of a
+-- bar of num / den has num * 64 / den parts
+
+abbrev pub parts_of_unit : Bar → ℕ
+parts_of_unit bar = bar.num * (64 / bar.den)
+
+abbrev pub unit_of : List Bar → Sound → ℕ
+unit_of bars s = unwrap_or (option_map parts_of_unit (slice_get bars s.bar)) 0
+
+-- from the beginning of the score: the bars before, and the units before
+abbrev pub place_of : ℕ → List Bar → Sound → ℕ
+place_of resolution bars s = resolution * sum_by parts_of_unit (take s.bar bars) + s.place * unit_of bars s
+
+abbrev pub length_of : List Bar → Sound → ℕ
+length_of bars s = s.width * unit_of bars s
+
+-- ---- runs
+
+abbrev pub begins_chord : SoundKind → Bool
+begins_chord Begin = true
+begins_chord Short = true
+begins_chord Tie = false
+begins_chord Rest = false
+
+abbrev pub is_short : SoundKind → Bool
+is_short Begin = false
+is_short Short = true
+is_short Tie = false
+is_short Rest = false
+
+abbrev pub is_tie : SoundKind → Bool
+is_tie Begin = false
+is_tie Short = false
+is_tie Tie = true
+is_tie Rest = false
+
+-- each sound that begins a chord, with the ties right behind it
+abbrev pub runs : List Sound → List (Sound × List Sound)
+runs [] = []
+runs (s ∷ sounds) = if begins_chord s.kind then (s, take_while (λ t. is_tie t.kind) sounds) ∷ runs sounds else runs sounds
+
+-- the span of a run: it has the keys, the grace chords and the mark of its first sound, and sounds as long as all of it
+pub record IsSpan (resolution : ℕ) (bars : List Bar) (run : Sound × List Sound) (x : Span) : Type 0 where
+  pub start : IsFrac (place_of resolution bars run.0) (64 * resolution) x.start
+  pub len : IsFrac (sum_by (length_of bars) (run.0 ∷ run.1)) (64 * resolution) x.len
+  pub keys : x.keys ≡ run.0.keys
+  pub graces : x.graces ≡ run.0.graces
+  pub short : x.short ≡ is_short run.0.kind
+
+-- as many as there are, each that of its place
+abbrev pub Each : {X Y : Type 0} → (X → Y → Type 0) → List X → List Y → Type 0
+Each Of [] ys = ys ≡ []
+Each Of (x ∷ xs) [] = ⊥
+Each Of (x ∷ xs) (y ∷ ys) = Of x y × Each Of xs ys
+
+-- the spans of a voice, in order
+abbrev pub AreSpans : ℕ → List Bar → List Sound → List Span → Type 0
+AreSpans resolution bars sounds spans = Each (IsSpan resolution bars) (runs sounds) spans
