@@ -1,0 +1,12 @@
+pub mod LowestTerms
+pub mod Powers
+pub mod Plain
+pub mod Firsts
+pub mod Sums
+pub mod Grids
+pub mod OneList
+pub mod Wide
+pub mod Groups
+pub mod Bars
+pub mod Steps
+pub mod Beats

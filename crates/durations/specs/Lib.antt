@@ -1,0 +1,4 @@
+pub mod Value
+pub mod Values
+pub mod Joined
+pub mod Laws
