@@ -1,0 +1,10 @@
+mod NumberLemmas
+mod WordLemmas
+mod KeywordLemmas
+mod CommandLemmas
+mod LineLemmas
+mod SaidLemmas
+mod SendingLemmas
+mod ReplyLemmas
+mod ShapeLemmas
+mod OneCommand

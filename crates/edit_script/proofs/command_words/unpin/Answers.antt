@@ -1,0 +1,10 @@
+use Rattle.std.proofs.Common.{refl}
+use Rattle.edit_script.proofs.WordLemmas.{finds_none}
+use Rattle.edit_script.proofs.command_words.unpin.Goals as goal
+
+pub returns-in_err-channel : goal.returns-in_err-channel
+returns-in_err-channel c = finds_none _ c.from_residual.result c.from_residual.ensures (λ command says. c.in_err-channel.ensures.words says.0 says.2)
+
+pub returns : goal.returns
+returns c =
+    ((c.in_ok-channel.channel, c.in_ok-channel.bar), refl, c.in_ok-channel.ensures.words)
