@@ -1,0 +1,51 @@
+ghost use Rattle.rhythm_gen.specs.Beat.{beat_notes, figure, key, kind, notes_of, shift};
+ghost use Rattle.std.specs.Prelude.{◌≡◌, ◌++◌, ◌<◌, ◌≤◌, OnOk};
+
+use crate::figure::Figure;
+use rhythm_base::Note;
+use std::alloc::AllocError;
+
+/// What a beat at this place of its bar plays, by its draw.
+fn figure_of(place: u32, draw: u32) -> Figure
+    ensures { result ≡ figure (kind place draw) }
+{
+    match draw % 4 {
+        0 if place > 0 => Figure::Rest,
+        3 => Figure::Two,
+        _ => Figure::One,
+    }
+}
+
+/// The key of a beat's notes, by its draw.
+fn key_of(channel: u8, draw: u32) -> u8
+    requires { channel ≤ 1 }
+    ensures { result ≡ key channel draw }
+{
+    60 - 12 * channel + (draw / 84 % 12) as u8
+}
+
+/// Appends the notes of a beat, which is counted through the piece, by its draw.
+pub(crate) fn push_beat(
+    notes: &mut Vec<Note>,
+    channel: u8,
+    beat: u32,
+    draw: u32,
+) -> Result<(), AllocError>
+    requires channel { channel ≤ 1 }
+    requires beat { beat < 8000 }
+    ensures { OnOk result (notes.new.items ≡ notes.old.items ++ beat_notes channel beat draw) }
+{
+    let key = key_of(channel, draw);
+    let begin = u64::from(480 * beat + draw / 4 % 21);
+    let note = |onset: u64, length: u64| Note {
+        channel,
+        key,
+        onset,
+        end: onset + length,
+    };
+    match figure_of(beat % 4, draw) {
+        Figure::Rest => Ok(()),
+        Figure::One => notes.extend_from_slice(&[note(begin, 400)]),
+        Figure::Two => notes.extend_from_slice(&[note(begin, 180), note(begin + 240, 180)]),
+    }
+}
