@@ -24,3 +24,4 @@ pub mod Edited
 pub mod EditedBars
 pub mod Uniqueness
 pub mod OneTable
+pub mod Quiet

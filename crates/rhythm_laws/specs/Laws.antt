@@ -22,11 +22,12 @@ use Rattle.rhythm_base.specs.Least.{IsLeast}
 use Rattle.rhythm_base.specs.Line.{Sounding, agree, past, seat}
 use Rattle.rhythm_base.specs.Outline.{Outline}
 use Rattle.rhythm_base.specs.Performed.{IsWellFormed, Performed}
-use Rattle.rhythm_base.specs.Ranked.{Entries, Keys, product_of, table, table_of, times}
+use Rattle.rhythm_base.specs.Ranked.{Entries, Key, Keys, product_of, table, table_of, times}
 use Rattle.rhythm_base.specs.Rulebook.{Rulebook}
-use Rattle.rhythm_base.specs.Trees.{are_trees, is_tree, leaves_of}
-use Rattle.rhythm_laws.specs.Forests.{AreLeast, AreWide, Ground, IsGround, first_shape, other_shapes}
+use Rattle.rhythm_base.specs.Trees.{are_trees, is_tree, leaves_of, sizes}
+use Rattle.rhythm_laws.specs.Forests.{AreLeast, AreWide, Ground, IsForestKey, IsGround, first_shape, other_shapes}
 use Rattle.rhythm_laws.specs.Passes.{HasPass}
+use Rattle.rhythm_laws.specs.Quiet.{SoundAlike}
 use Rattle.rhythm_laws.specs.Tables.{AllRanked}
 use Rattle.rhythm_laws.specs.VersionOne.{displaced}
 use Rattle.rhythm_laws.specs.Voices.{Adjacent, AreCounts, HoldsChords, IsVoice, cell_costs}
@@ -83,6 +84,13 @@ pub record LeastForestsAreOfTheLeast : Type 0 where
       → AreLeast d (first_shape s) p (q ∷ []) first → AreLeast d (other_shapes s) (p + q.0) qs others → AreLeast d s p (q ∷ qs) (times first others)
   pub tables : (d : Ground) (p : ℕ) (q : ℕ × ℕ) (s : Option Outline) (first others : Keys)
       → AreLeast d (first_shape s) p (q ∷ []) first → table_of (times first others) ≡ product_of (table_of first) (table_of others)
+
+-- Over two intervals of one width in which no chord begins, and which both sound throughout or are both silent throughout,
+-- the same forests fit with the same numbers of chords carried in and out, and they cost the same.
+abbrev pub QuietIntervalsAreAlike : Type 0
+QuietIntervalsAreAlike =
+    (d : Ground) (s : Option Outline) (qs : List (ℕ × ℕ)) (p q from to : ℕ) (key : Key) → IsGround d → AreWide qs → SoundAlike d (sizes qs) p q
+    → IsForestKey d s p qs from to key ↔ IsForestKey d s q qs from to key
 
 -- what a performance and a grammar ask has one answer: the bars at loading or their fault, the chords of a voice, the least
 -- derivation of a voice, where there is one, and the table of a cell

@@ -2,6 +2,7 @@ pub mod Forests
 pub mod Laws
 pub mod Passes
 pub mod Places
+pub mod Quiet
 pub mod Runs
 pub mod Tables
 pub mod VersionOne

@@ -9,6 +9,7 @@ ghost use Rattle.rhythm_laws.specs.Laws.{
   OneBarIsAVoice,
   OnsetsAreAttached,
   OneWeightIsAsBefore,
+  QuietIntervalsAreAlike,
   TablesMultiply,
 };
 
@@ -51,6 +52,11 @@ pub fn one_weight_is_as_before()
 /// The least trees side by side are made of the least trees, and ranks stand for rule lists.
 pub fn least_forests_are_of_the_least()
     ensures { LeastForestsAreOfTheLeast }
+{}
+
+/// Where no chord begins, an interval of a bar is answered by its width alone, and by whether it sounds or is silent.
+pub fn quiet_intervals_are_alike()
+    ensures { QuietIntervalsAreAlike }
 {}
 
 /// The bars at loading, the chords of a voice, its least derivation and the table of a cell are one each.

@@ -7,5 +7,5 @@ mod laws;
 
 pub use laws::{
     bars_are_local, counts_are_one, dead_bars_are_by_counts, lists_are_no_prefixes,
-    one_weight_is_as_before, tables_multiply,
+    one_weight_is_as_before, quiet_intervals_are_alike, tables_multiply,
 };
