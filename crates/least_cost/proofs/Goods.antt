@@ -14,7 +14,7 @@ use Rattle.rhythm_laws.proofs.LeastKeys.{IsLeast-same}
 use Rattle.rhythm_laws.proofs.PathTables.{ranked_rows}
 use Rattle.least_cost.specs.declared.choice.Choice.{Choice}
 use Rattle.least_cost.specs.declared.entry.Entry.{Entry}
-use Rattle.least_cost.specs.Entries.{IsEntryOf, IsGood, IsSettled, choice_at, choice_key, entry_at, nearer_of}
+use Rattle.least_cost.specs.Entries.{IsEntryOf, IsGood, IsSettled, Offers, choice_at, choice_key, entry_at, nearer_of}
 use Rattle.least_cost.specs.Products.{joined_by}
 use Rattle.least_cost.specs.Rules.{topped_of}
 use Rattle.least_cost.specs.RuleChoices.{AreRuleChoices, HasNoTree, IsBestBelow, IsMarked, IsRopeOf, IsRuleKey}
@@ -100,6 +100,9 @@ good-cheap d ground bounded s p qs ls g wide within h a b e la lb is =
 
 -- ---- one tree, by its rules
 
+next_of : (i : ℕ) → suc i ≡ i + 1
+next_of i = omega arith
+
 pub best-more : (d : Ground) (pin : Option Outline) (p : ℕ) (q : ℕ × ℕ) (i : ℕ) (ls ms : List (List ℕ)) (C : ℕ → ℕ → Option Choice) → Extends ls ms → IsBestBelow d pin p q i ls C → IsBestBelow d pin p q i ms C
 best-more d pin p q i ls ms C longer h = record { keys = h.keys; least = h.least; choices = AreChoicesOf-more (λ m. m < i) ls ms C h.keys longer h.choices }
 
@@ -131,6 +134,28 @@ best-next d pin p q i ls C D B old new is = record {
   least = λ a b la lb. lower-least (λ r. IsRuleKey d pin p q r a b) i (old.keys a b) (new.keys a b) (old.least a b la lb) (new.least a b la lb);
   choices = merged-choices i ls C D B old.keys new.keys old.choices new.choices is;
 }
+
+-- what the rule i offers is taken in
+pub best-offered : (d : Ground) (pin : Option Outline) (p : ℕ) (q : ℕ × ℕ) (i : ℕ) (ls : List (List ℕ)) (D : ℕ → ℕ → Option Choice) (old new : List (List (Option Choice))) → IsBestBelow d pin p q i ls (choice_at old)
+    → AreRuleChoices d pin p q i ls D → Offers D old new → IsBestBelow d pin p q (i + 1) ls (choice_at new)
+best-offered d pin p q i ls D old new h own is = subst (λ n. IsBestBelow d pin p q n ls (choice_at new)) (next_of i) (best-next d pin p q i ls (choice_at old) D (choice_at new) h own is)
+
+-- the rule i has no tree
+pub best-passed : (d : Ground) (pin : Option Outline) (p : ℕ) (q : ℕ × ℕ) (i : ℕ) (ls : List (List ℕ)) (C : ℕ → ℕ → Option Choice) → HasNoTree d pin p q i → IsBestBelow d pin p q i ls C → IsBestBelow d pin p q (i + 1) ls C
+best-passed d pin p q i ls C no_tree h = subst (λ n. IsBestBelow d pin p q n ls C) (next_of i) (best-skip d pin p q i ls C no_tree h)
+
+-- none of so many rules has a tree
+pub best-jumped : (d : Ground) (pin : Option Outline) (p : ℕ) (q : ℕ × ℕ) (k i : ℕ) (ls : List (List ℕ)) (C : ℕ → ℕ → Option Choice) → ((j : ℕ) → i ≤ j → j < i + k → HasNoTree d pin p q j) → IsBestBelow d pin p q i ls C → IsBestBelow d pin p q (i + k) ls C
+best-jumped d pin p q zero i ls C bare h = subst (λ n. IsBestBelow d pin p q n ls C) (none_more i) h
+  where
+    none_more : (i : ℕ) → i ≡ i + 0
+    none_more i = omega arith
+best-jumped d pin p q (suc k) i ls C bare h =
+    subst (λ n. IsBestBelow d pin p q n ls C) (one_more i k)
+    (best-passed d pin p q (i + k) ls C (bare (i + k) (omega arith) (omega arith)) (best-jumped d pin p q k i ls C (λ j from below. bare j from (omega (arith, below))) h))
+  where
+    one_more : (i k : ℕ) → (i + k) + 1 ≡ i + suc k
+    one_more i k = omega arith
 
 pub best-settled : (d : Ground) (pin : Option Outline) (p : ℕ) (q : ℕ × ℕ) (ls ms : List (List ℕ)) (choices : List (List (Option Choice))) (g : Table) → IsBestBelow d pin p q (length d.book.rules) ls (choice_at choices)
     → ((a b : ℕ) → a < 5 → b < 5 → IsSettled ls ms (λ n. choice_at choices a n) (choice_at choices a b) (entry_at g a b)) → IsGood d (one_shape pin) p (q ∷ []) ms g

@@ -22,8 +22,8 @@ use Rattle.least_cost.specs.declared.leaf.Heard.{Heard}
 use Rattle.least_cost.specs.declared.memo.Asked.{Asked}
 use Rattle.least_cost.specs.declared.rule_lists.Rope.TheVariants.{Top}
 use Rattle.least_cost.specs.declared.trees.LeafHere.{LeafHere}
-use Rattle.least_cost.specs.Entries.{choice_at, choice_key}
-use Rattle.least_cost.specs.Nodes.{HasNoLeaf, IsLeafChoices, IsLeafHere, ground_of, is_cut}
+use Rattle.least_cost.specs.Entries.{choice_key}
+use Rattle.least_cost.specs.Nodes.{HasNoLeaf, IsLeafHere, ground_of, is_cut, leaf_choice}
 use Rattle.least_cost.specs.OneLeaf.{HasHeard, leaf_of_cell}
 use Rattle.least_cost.specs.Pins.{demanded}
 use Rattle.least_cost.specs.RuleChoices.{AreRuleChoices, HasNoTree, IsMarked, IsRopeOf}
@@ -90,9 +90,9 @@ module _ (g : Rulebook) (k : Cell) (os : List Outline) (asked : Asked) (r : ℕ)
       (λ e. absurd (cc)) (λ e shaped fits. h.none_fits rule.body a b shaped fits)
 
   -- the choices of a leaf
-  pub leaf-choices : (units : g.resolution ≡ k.resolution) (ls : List (List ℕ)) (l : LeafHere) (choices : List (List (Option Choice))) → IsLeafHere g k os asked l → IsLeafChoices rule r l choices
-      → AreRuleChoices (ground_of g k) (demanded os asked.demand) asked.place (asked.width, asked.symbol) r ls (choice_at choices)
-  leaf-choices units ls l choices here is = record {
+  pub leaf-choices : (units : g.resolution ≡ k.resolution) (ls : List (List ℕ)) (l : LeafHere) → IsLeafHere g k os asked l
+      → AreRuleChoices (ground_of g k) (demanded os asked.demand) asked.place (asked.width, asked.symbol) r ls (leaf_choice rule r l)
+  leaf-choices units ls l here = record {
     keys = λ a b. if fit a b then Some (rule.weight + charges g (in_bar (bar_of k) (x ∷ [])) k.chords, r ∷ []) else None;
     least = λ a b la lb.
         leaf-least (ground_of g k) (demanded os asked.demand) asked.place (asked.width, asked.symbol) r a b rule at suit x body.0 body.1 (fit a b)
@@ -103,11 +103,11 @@ module _ (g : Rulebook) (k : Cell) (os : List Outline) (asked : Asked) (r : ℕ)
         let yes_fit : fit a b ≡ true = ap₂ ◌&&◌ t.0 on in absurd (cc));
     choices = record {
       alike = λ a la. record {
-        costs = λ b lb. subst (λ o. same (key (fit a b)) (choice_key o)) (sym (is a b la lb)) (costs (fit a b));
-        order = λ b c lb lc. orders (fit a b) (fit a c) ∙ (λ i. lists_cmp (choice_key (sym (is a b la lb) i)) (choice_key (sym (is a c la lc) i)));
+        costs = λ b lb. costs (fit a b);
+        order = λ b c lb lc. orders (fit a b) (fit a c);
       };
-      ropes = λ a b la lb. subst (λ o. IsRopeOf ls o (key (fit a b))) (sym (is a b la lb)) (ropes (fit a b));
-      marked = λ a b la lb. subst (λ o. IsMarked (λ m. m ≡ r) o (key (fit a b))) (sym (is a b la lb)) (marks (fit a b));
+      ropes = λ a b la lb. ropes (fit a b);
+      marked = λ a b la lb. marks (fit a b);
     };
   }
     where

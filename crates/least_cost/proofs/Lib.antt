@@ -12,3 +12,5 @@ pub mod Leaves
 pub mod Searches
 pub mod Roots
 pub mod Slices
+pub mod Families
+pub mod SymbolSpans

@@ -1,8 +1,7 @@
 -- The steps of the search for the least trees of an interval.
-use Rattle.std.proofs.Common.{◌≡◌, ℕ, zero, suc, ◌<◌, ◌≤◌, ◌+◌, ◌-◌, ◌/◌, max, ◌^◌, ◌==◌, true, false, All, List, [], ◌∷◌, length, get_or, refl, sym, ap, ◌∙◌, subst, arith}
+use Rattle.std.proofs.Common.{◌≡◌, ℕ, zero, suc, ◌<◌, ◌≤◌, ◌+◌, ◌-◌, ◌/◌, max, ◌^◌, ◌==◌, true, false, List, [], ◌∷◌, length, get_or, refl, sym, ap, ◌∙◌, subst, arith}
 use Rattle.std.specs.Prelude.{Option, Some, None, slice_get, take, drop, IsTrue}
 use Rattle.std.proofs.lemmas.List.{take_rest, nil_from_length}
-use Rattle.std.proofs.lemmas.List.Elements.{All-push, All-weaker}
 use Rattle.std.proofs.lemmas.Option.{slice_get_within, get_or_from_slice_get}
 use Rattle.rhythm_base.specs.declared.rule.Body.{Body}
 use Rattle.rhythm_base.specs.declared.rule.Body.TheVariants.{Split, Parts, Note, Short, Tie, Rest, Grace}
@@ -23,8 +22,7 @@ use Rattle.least_cost.specs.declared.entry.Entry.{Entry}
 use Rattle.least_cost.specs.declared.memo.Asked.{Asked}
 use Rattle.least_cost.specs.declared.memo.Found.{Found}
 use Rattle.least_cost.specs.Entries.{IsGood, IsSettled, choice_at, entry_at}
-use Rattle.least_cost.specs.Memos.{AddsFound, HasFound}
-use Rattle.least_cost.specs.Nodes.{AreBeside, AreFound, IsAnswer, IsReady, IsWithin, cut_of, cuts_at, ground_of, is_cut}
+use Rattle.least_cost.specs.Nodes.{AreBeside, IsAnswer, IsAnswerAt, IsReady, IsWithin, cut_of, cuts_at, ground_of, is_cut}
 use Rattle.least_cost.specs.Pins.{demanded}
 use Rattle.least_cost.specs.Products.{joined_by}
 use Rattle.least_cost.specs.RuleChoices.{AreRuleChoices, HasNoTree}
@@ -36,29 +34,6 @@ use Rattle.least_cost.proofs.Goods.{Table, cut-choices, good-beside, good-cheap,
 use Rattle.least_cost.proofs.Leaves.{cut_body}
 use Rattle.least_cost.proofs.RuleKeys.{cut-least}
 use Rattle.least_cost.proofs.Shares.{below-wide, children-below, children-whole, equal_many, unequal_many}
-
--- ---- what was found
-
-pub found-more : (g : Rulebook) (k : Cell) (os : List Outline) (ls ms : List (List ℕ)) (xs : List Found) → Extends ls ms → AreFound g k os ls xs → AreFound g k os ms xs
-found-more g k os ls ms xs longer h = record {
-  each =
-      All-weaker (λ x. IsAnswer g k os ls x.asked x.grid) (λ x. IsAnswer g k os ms x.asked x.grid)
-      (λ x a. good-more (ground_of g k) (one_shape (demanded os x.asked.demand)) x.asked.place ((x.asked.width, x.asked.symbol) ∷ []) ls ms x.grid longer a) xs h.each;
-}
-
-pub found-add : (g : Rulebook) (k : Cell) (os : List Outline) (ls : List (List ℕ)) (xs ys : List Found) (asked : Asked) (grid : Table) → AddsFound xs ys asked grid → AreFound g k os ls xs → IsAnswer g k os ls asked grid → AreFound g k os ls ys
-found-add g k os ls xs ys asked grid new h own =
-    let P : Found → Type 0 = λ x. IsAnswer g k os ls x.asked x.grid in
-    let Q : Asked → Type 0 = λ a. IsAnswer g k os ls a new.0.grid in
-    let R : Table → Type 0 = λ t. IsAnswer g k os ls asked t in
-    record { each = subst (All P) (sym new.1) (All-push P xs new.0 h.each (subst Q (sym new.2) (subst R (sym new.3) own))) }
-
-pub found-is : (g : Rulebook) (k : Cell) (os : List Outline) (ls : List (List ℕ)) (xs : List Found) (asked : Asked) (grid : Table) → AreFound g k os ls xs → HasFound xs asked grid → IsAnswer g k os ls asked grid
-found-is g k os ls xs asked grid h f =
-    let P : Found → Type 0 = λ x. IsAnswer g k os ls x.asked x.grid in
-    let Q : Asked → Type 0 = λ a. IsAnswer g k os ls a f.0.grid in
-    let R : Table → Type 0 = λ t. IsAnswer g k os ls asked t in
-    subst R f.3 (subst Q f.2 (subst P f.1.2 (h.each f.1.0 f.0 f.1.1)))
 
 -- ---- the ground
 
@@ -179,10 +154,17 @@ module _ (g : Rulebook) (k : Cell) (ready : IsReady g k) where
         → HasNoTree (ground_of g k) (demanded os asked.demand) asked.place (asked.width, asked.symbol) number
     cut_stuck os ls h a b = cut-least (ground_of g k) (demanded os asked.demand) asked.place (asked.width, asked.symbol) number a b rule at suited bare None (h a b)
 
-    pub cut_topped : (os : List Outline) (ls : List (List ℕ)) (t : Table) (choices : List (List (Option Choice))) → IsGood (ground_of g k) (demanded os asked.demand) asked.place (children rule.body asked.width) ls t
-        → ((a b : ℕ) → a < 5 → b < 5 → choice_at choices a b ≡ topped_of rule.weight number (entry_at t a b))
-        → AreRuleChoices (ground_of g k) (demanded os asked.demand) asked.place (asked.width, asked.symbol) number ls (choice_at choices)
-    cut_topped os ls t choices h is = cut-choices (ground_of g k) (demanded os asked.demand) asked.place (asked.width, asked.symbol) number rule ls t (choice_at choices) at suited bare h is
+    pub cut_topped : (os : List Outline) (ls : List (List ℕ)) (t : Table) → IsGood (ground_of g k) (demanded os asked.demand) asked.place (children rule.body asked.width) ls t
+        → AreRuleChoices (ground_of g k) (demanded os asked.demand) asked.place (asked.width, asked.symbol) number ls (λ a b. topped_of rule.weight number (entry_at t a b))
+    cut_topped os ls t h = cut-choices (ground_of g k) (demanded os asked.demand) asked.place (asked.width, asked.symbol) number rule ls t (λ a b. topped_of rule.weight number (entry_at t a b)) at suited bare h (λ a b la lb. refl)
+
+-- the entries of a number
+pub answered : (g : Rulebook) (k : Cell) (os : List Outline) (ls : List (List ℕ)) (xs : List Found) (asked : Asked) (n : ℕ) (t : Table) → IsAnswerAt g k os ls xs asked n
+    → ((x : Found) → slice_get xs n ≡ Some x → x.grid ≡ t) → IsAnswer g k os ls asked t
+answered g k os ls xs asked n t a is = subst (IsAnswer g k os ls asked) (is a.0 a.1) a.2
+
+pub answer-low : (g : Rulebook) (k : Cell) (os : List Outline) (ls : List (List ℕ)) (xs : List Found) (asked : Asked) (n : ℕ) → IsAnswerAt g k os ls xs asked n → n < length xs
+answer-low g k os ls xs asked n a = slice_get_within xs n a.0 a.1
 
 -- the first piece and the others
 pub pieces-split : (xs : List Piece) (d : Piece) → 1 ≤ length xs → xs ≡ get_or xs 0 d ∷ take (length xs - 1) (drop 1 xs)

@@ -56,6 +56,10 @@ nearer_of o None = o
 nearer_of None (Some x) = Some x
 nearer_of (Some y) (Some x) = if choice_before x y then Some x else Some y
 
+-- what is offered at each place stands there where it comes before what stood there
+abbrev pub Offers : (ℕ → ℕ → Option Choice) → List (List (Option Choice)) → List (List (Option Choice)) → Type 0
+Offers D old new = (a b : ℕ) → a < 5 → b < 5 → choice_at new a b ≡ nearer_of (choice_at old a b) (D a b)
+
 -- an entry made of a choice in a row of choices
 abbrev pub IsSettled : List (List ℕ) → List (List ℕ) → (ℕ → Option Choice) → Option Choice → Option Entry → Type 0
 IsSettled ls ms row None None = ⊤

@@ -9,5 +9,6 @@ pub mod RuleChoices
 pub mod RuleLists
 pub mod Rules
 pub mod Shares
+pub mod Spans
 pub mod TableCode
 pub mod Tables

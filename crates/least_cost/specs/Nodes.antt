@@ -1,5 +1,5 @@
 -- The trees of a cell over an interval of its units, and when all that was found of them is right.
-use Rattle.std.specs.Prelude.{◌≡◌, ℕ, ◌+◌, ◌<◌, ◌≤◌, ◌&&◌, ◌==◌, slice_get, Bool, true, false, List, [], ◌∷◌, All, Option, Some, None, if◌then◌else◌}
+use Rattle.std.specs.Prelude.{◌≡◌, ℕ, ◌+◌, ◌≤◌, ◌&&◌, ◌==◌, slice_get, Bool, true, false, List, [], ◌∷◌, All, Option, Some, None, if◌then◌else◌}
 use Rattle.rhythm_base.specs.declared.rule.Body.{Body}
 use Rattle.rhythm_base.specs.declared.rule.Body.TheVariants.{Split, Parts, Note, Short, Tie, Rest, Grace}
 use Rattle.rhythm_base.specs.declared.rule.Rule.{Rule}
@@ -18,12 +18,14 @@ use Rattle.rhythm_laws.specs.Places.{FitsAt}
 use Rattle.least_cost.specs.declared.choice.Choice.{Choice}
 use Rattle.least_cost.specs.declared.entry.Entry.{Entry}
 use Rattle.least_cost.specs.declared.memo.Asked.{Asked}
+use Rattle.least_cost.specs.declared.memo.Family.{Family}
 use Rattle.least_cost.specs.declared.memo.Found.{Found}
 use Rattle.least_cost.specs.declared.trees.LeafHere.{LeafHere}
 use Rattle.least_cost.specs.Entries.{IsGood, choice_at}
+use Rattle.least_cost.specs.Memos.{LiesAt}
 use Rattle.least_cost.specs.OneLeaf.{HasHeard, leaf_of_cell}
 use Rattle.least_cost.specs.Pins.{demanded}
-use Rattle.least_cost.specs.RuleChoices.{AreRuleChoices, HasNoTree}
+use Rattle.least_cost.specs.RuleChoices.{IsBestBelow}
 
 -- where the trees of a cell stand
 abbrev pub ground_of : Rulebook → Cell → Ground
@@ -45,9 +47,26 @@ abbrev pub IsAnswer : Rulebook → Cell → List Outline → List (List ℕ) →
 IsAnswer g k os ls asked grid =
     IsGood (ground_of g k) (one_shape (demanded os asked.demand)) asked.place ((asked.width, asked.symbol) ∷ []) ls grid
 
+-- the entries of this number are those
+abbrev pub IsAnswerAt : Rulebook → Cell → List Outline → List (List ℕ) → List Found → Asked → ℕ → Type 0
+IsAnswerAt g k os ls xs asked n = (x : Found) × (slice_get xs n ≡ Some x) × IsAnswer g k os ls asked x.grid
+
+-- the trees that are asked for are of this family
+pub record IsOf (g : Rulebook) (k : Cell) (family : Family) (asked : Asked) : Type 0 where
+  pub site : LiesAt (ground_of g k) family.site asked.place asked.width
+  pub width : family.width ≡ asked.width
+  pub symbol : family.symbol ≡ asked.symbol
+  pub demand : family.demand ≡ asked.demand
+
+-- the entries are the least of one tree of the family over each of its intervals
+abbrev pub IsAnswerOf : Rulebook → Cell → List Outline → List (List ℕ) → Family → List (List (Option Entry)) → Type 0
+IsAnswerOf g k os ls family grid =
+    (p : ℕ) → LiesAt (ground_of g k) family.site p family.width
+    → IsGood (ground_of g k) (one_shape (demanded os family.demand)) p ((family.width, family.symbol) ∷ []) ls grid
+
 -- all that was found is right
 pub record AreFound (g : Rulebook) (k : Cell) (os : List Outline) (ls : List (List ℕ)) (xs : List Found) : Type 0 where
-  pub each : All (λ x. IsAnswer g k os ls x.asked x.grid) xs
+  pub each : All (λ x. IsAnswerOf g k os ls x.family x.grid) xs
 
 -- a rule that cuts its interval
 abbrev pub is_cut : Body → Bool
@@ -79,19 +98,16 @@ pub record IsLeafHere (g : Rulebook) (k : Cell) (os : List Outline) (asked : Ask
   pub few : l.heard.own ≤ 4
   pub charges : l.charges ≡ charges g (leaf_of_cell k asked.place asked.width ∷ []) k.chords
 
--- the choices of the trees with a rule on top, and none where there are no such trees
-abbrev pub AreChoicesFor : Rulebook → Cell → List Outline → List (List ℕ) → Asked → ℕ → Option (List (List (Option Choice))) → Type 0
-AreChoicesFor g k os ls asked r None = HasNoTree (ground_of g k) (demanded os asked.demand) asked.place (asked.width, asked.symbol) r
-AreChoicesFor g k os ls asked r (Some choices) = AreRuleChoices (ground_of g k) (demanded os asked.demand) asked.place (asked.width, asked.symbol) r ls (choice_at choices)
+-- the choices of the trees that are asked for, with a rule before i on top
+abbrev pub AreBest : Rulebook → Cell → List Outline → List (List ℕ) → Asked → ℕ → List (List (Option Choice)) → Type 0
+AreBest g k os ls asked i best = IsBestBelow (ground_of g k) (demanded os asked.demand) asked.place (asked.width, asked.symbol) i ls (choice_at best)
 
 -- the entries of trees side by side, and none where no such trees fit
 abbrev pub AreBeside : Rulebook → Cell → Option Outline → ℕ → List (ℕ × ℕ) → List (List ℕ) → Option (List (List (Option Entry))) → Type 0
 AreBeside g k shapes p qs ls None = (a b : ℕ) (key : Key) → IsForestKey (ground_of g k) shapes p qs a b key → ⊥
 AreBeside g k shapes p qs ls (Some grid) = IsGood (ground_of g k) shapes p qs ls grid
 
--- the choices of a leaf with the rule of this number
-abbrev pub IsLeafChoices : Rule → ℕ → LeafHere → List (List (Option Choice)) → Type 0
-IsLeafChoices rule r l choices =
-    (a b : ℕ) → a < 5 → b < 5 → choice_at choices a b
-    ≡ (if agreed rule.body (a + l.heard.own) l.heard.sounds && (l.heard.next == b)
-    then Some (record { cost = rule.weight + l.charges; major = r; minor = 0; rope = Top r None }) else None)
+-- the choice of a leaf with the rule of this number, where the leaf fits with these numbers carried in and out
+abbrev pub leaf_choice : Rule → ℕ → LeafHere → ℕ → ℕ → Option Choice
+leaf_choice rule r l a b = if agreed rule.body (a + l.heard.own) l.heard.sounds && (l.heard.next == b)
+    then Some (record { cost = rule.weight + l.charges; major = r; minor = 0; rope = Top r None }) else None

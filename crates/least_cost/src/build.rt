@@ -1,5 +1,5 @@
 ghost use Rattle.least_cost.specs.Entries.{IsGood, entry_at, entry_in};
-ghost use Rattle.least_cost.specs.Nodes.{AreFound, IsAnswer, IsReady, IsWithin};
+ghost use Rattle.least_cost.specs.Nodes.{AreFound, IsAnswerAt, IsReady, IsWithin};
 ghost use Rattle.least_cost.specs.Pins.{demanded};
 ghost use Rattle.least_cost.specs.Tables.{best_at, best_of, written, written_at};
 ghost use Rattle.rhythm_base.specs.Cell.{IsCell};
@@ -14,6 +14,7 @@ use crate::entry::{Entry, Grid};
 use crate::memo::{Asked, Memo};
 use crate::pins::Pins;
 use crate::rule_lists::RuleLists;
+use crate::spans::Spans;
 use crate::steps::Steps;
 use crate::table::BarTable;
 use crate::trees::least_trees;
@@ -54,10 +55,12 @@ fn build(alloc: Global, grammar: &Grammar, input: &BarInput) -> Result<BarTable,
         symbol: input.start(),
         demand,
     };
-    let grid = least_trees(alloc, grammar, input, &pins, &mut memo, asked)?;
-    let lists = written_grid(alloc, &memo.lists, &grid)?;
+    let spans = Spans::of(grammar);
+    let number = least_trees(alloc, grammar, &spans, input, &pins, &mut memo, asked)?;
+    let grid = memo.grid(number);
+    let lists = written_grid(alloc, &memo.lists, grid)?;
     let kept = copy_of(alloc, input)?;
-    Ok(BarTable::of(CarryMatrix::make(bests(&grid)), lists, kept))
+    Ok(BarTable::of(CarryMatrix::make(bests(grid)), lists, kept))
 }
 
 /// An equal input.

@@ -18,7 +18,9 @@ ghost use Rattle.std.specs.Prelude.{
   [],
   if◌then◌else◌,
   IfOk,
+  None,
   OnOk,
+  Some,
   slice_index_or,
 };
 
@@ -46,47 +48,25 @@ fn is_before(x: &Choice, y: &Choice) -> bool
     x.cost < y.cost || (x.cost == y.cost && x.major < y.major)
 }
 
-/// The second where it comes before the first.
-pub fn nearer(best: Option<Choice>, next: Option<Choice>) -> Option<Choice>
-    ensures { result ≡ nearer_of best next }
+/// No choices.
+pub fn no_choices() -> Choices
+    ensures { (a b : ℕ) → a < 5 → b < 5 → choice_at result a b ≡ None }
 {
-    match (best, next) {
-        (best, None) => best,
-        (None, Some(next)) => Some(next),
-        (Some(best), Some(next)) => {
-            if is_before(&next, &best) {
-                Some(next)
-            } else {
-                Some(best)
+    [[None; 5]; 5]
+}
+
+/// Puts the choice into the place where it comes before what is there.
+pub fn offer(place: &mut Option<Choice>, next: Choice)
+    ensures { place.new ≡ nearer_of place.old (Some next) }
+{
+    match place {
+        Some(best) => {
+            if is_before(&next, best) {
+                *best = next;
             }
         }
+        None => *place = Some(next),
     }
-}
-
-/// The nearer of each two.
-fn nearer_row(best: &[Option<Choice>; 5], next: &[Option<Choice>; 5]) -> [Option<Choice>; 5]
-    ensures { (b : ℕ) → b < 5 → choice_in result b ≡ nearer_of (choice_in best.now b) (choice_in next.now b) }
-{
-    [
-        nearer(best[0], next[0]),
-        nearer(best[1], next[1]),
-        nearer(best[2], next[2]),
-        nearer(best[3], next[3]),
-        nearer(best[4], next[4]),
-    ]
-}
-
-/// The nearer of each two.
-pub fn nearer_choices(best: &Choices, next: &Choices) -> Choices
-    ensures { (a b : ℕ) → a < 5 → b < 5 → choice_at result a b ≡ nearer_of (choice_at best.now a b) (choice_at next.now a b) }
-{
-    [
-        nearer_row(&best[0], &next[0]),
-        nearer_row(&best[1], &next[1]),
-        nearer_row(&best[2], &next[2]),
-        nearer_row(&best[3], &next[3]),
-        nearer_row(&best[4], &next[4]),
-    ]
 }
 
 /// 1 where the choice is there and its list is lower, and else 0.
@@ -117,52 +97,79 @@ fn rank(row: &[Option<Choice>; 5], major: u16, minor: u8) -> u8
 }
 
 /// The entry of a choice of the row, whose list is kept.
-fn settle(
+#[inline(never)]
+fn kept(
     lists: &mut RuleLists,
     row: &[Option<Choice>; 5],
-    choice: Option<Choice>,
-) -> Result<Option<Entry>, AllocError>
+    choice: &Choice,
+) -> Result<Entry, AllocError>
     ensures more { OnOk result (Extends lists.old lists.new) }
-    ensures entry { IfOk result (λ entry. IsSettled lists.old lists.new (λ n. choice_in row.now n) choice entry) }
+    ensures entry { IfOk result (λ entry. IsSettled lists.old lists.new (λ n. choice_in row.now n) (Some choice.now) (Some entry)) }
 {
-    let Some(choice) = choice else {
-        return Ok(None);
-    };
     let rank = rank(row, choice.major, choice.minor);
     let list = lists.keep(choice.rope)?;
-    Ok(Some(Entry {
+    Ok(Entry {
         cost: choice.cost,
         rank,
         list,
-    }))
+    })
 }
 
+/// Writes the entry of a choice of the row, where there is one, to a place that has none yet. Most places have no choice.
+#[inline(always)]
+fn settle(
+    lists: &mut RuleLists,
+    row: &[Option<Choice>; 5],
+    choice: &Option<Choice>,
+    entry: &mut Option<Entry>,
+) -> Result<(), AllocError>
+    requires { entry.old ≡ None }
+    ensures more { OnOk result (Extends lists.old lists.new) }
+    ensures entry { OnOk result (IsSettled lists.old lists.new (λ n. choice_in row.now n) choice.now entry.new) }
+{
+    match choice {
+        None => Ok(()),
+        Some(choice) => {
+            *entry = Some(kept(lists, row, choice)?);
+            Ok(())
+        }
+    }
+}
+
+/// Writes the entries of a row of choices. There are none yet.
 fn settle_row(
     lists: &mut RuleLists,
     row: &[Option<Choice>; 5],
-) -> Result<[Option<Entry>; 5], AllocError>
+    entries: &mut [Option<Entry>; 5],
+) -> Result<(), AllocError>
+    requires { (b : ℕ) → b < 5 → entry_in entries.old b ≡ None }
     ensures more { OnOk result (Extends lists.old lists.new) }
-    ensures row { IfOk result (λ entries. (b : ℕ) → b < 5 →
-        IsSettled lists.old lists.new (λ n. choice_in row.now n) (choice_in row.now b) (entry_in entries b)) }
+    ensures row { OnOk result ((b : ℕ) → b < 5 →
+        IsSettled lists.old lists.new (λ n. choice_in row.now n) (choice_in row.now b) (entry_in entries.new b)) }
 {
-    let first = settle(lists, row, row[0])?;
-    let second = settle(lists, row, row[1])?;
-    let third = settle(lists, row, row[2])?;
-    let fourth = settle(lists, row, row[3])?;
-    let fifth = settle(lists, row, row[4])?;
-    Ok([first, second, third, fourth, fifth])
+    settle(lists, row, &row[0], &mut entries[0])?;
+    settle(lists, row, &row[1], &mut entries[1])?;
+    settle(lists, row, &row[2], &mut entries[2])?;
+    settle(lists, row, &row[3], &mut entries[3])?;
+    settle(lists, row, &row[4], &mut entries[4])?;
+    Ok(())
 }
 
-/// The entries of the choices, whose lists are kept.
-pub fn settle_all(lists: &mut RuleLists, choices: &Choices) -> Result<Grid, AllocError>
+/// Writes the entries of the choices, whose lists are kept. There are none yet.
+pub fn settle_all(
+    lists: &mut RuleLists,
+    choices: &Choices,
+    grid: &mut Grid,
+) -> Result<(), AllocError>
+    requires { (a b : ℕ) → a < 5 → b < 5 → entry_at grid.old a b ≡ None }
     ensures more { OnOk result (Extends lists.old lists.new) }
-    ensures grid { IfOk result (λ grid. (a b : ℕ) → a < 5 → b < 5 →
-        IsSettled lists.old lists.new (λ n. choice_at choices.now a n) (choice_at choices.now a b) (entry_at grid a b)) }
+    ensures grid { OnOk result ((a b : ℕ) → a < 5 → b < 5 →
+        IsSettled lists.old lists.new (λ n. choice_at choices.now a n) (choice_at choices.now a b) (entry_at grid.new a b)) }
 {
-    let first = settle_row(lists, &choices[0])?;
-    let second = settle_row(lists, &choices[1])?;
-    let third = settle_row(lists, &choices[2])?;
-    let fourth = settle_row(lists, &choices[3])?;
-    let fifth = settle_row(lists, &choices[4])?;
-    Ok([first, second, third, fourth, fifth])
+    settle_row(lists, &choices[0], &mut grid[0])?;
+    settle_row(lists, &choices[1], &mut grid[1])?;
+    settle_row(lists, &choices[2], &mut grid[2])?;
+    settle_row(lists, &choices[3], &mut grid[3])?;
+    settle_row(lists, &choices[4], &mut grid[4])?;
+    Ok(())
 }

@@ -1,11 +1,14 @@
 ghost use Rattle.interval.specs.OneLeaf.{IsLeafOf};
-ghost use Rattle.least_cost.specs.Entries.{choice_at, choice_in};
+ghost use Rattle.least_cost.specs.Entries.{Offers, choice_in, nearer_of};
+ghost use Rattle.least_cost.specs.Memos.{LiesAt};
+ghost use Rattle.least_cost.specs.Nodes.{ground_of};
 ghost use Rattle.least_cost.specs.OneLeaf.{AreChordsIn, HasHeard, SplitsAt, charge_of, leaf_of_cell};
 ghost use Rattle.rhythm_base.specs.Cell.{IsCell, IsInner};
 ghost use Rattle.rhythm_base.specs.Cells.{bar_of, last_end};
 ghost use Rattle.rhythm_base.specs.Cost.{charge, charge_in, charges};
 ghost use Rattle.rhythm_base.specs.Leaves.{goes_left, lies_in, looks, sounds};
 ghost use Rattle.rhythm_base.specs.Readable.{IsInRange};
+ghost use Rattle.rhythm_base.specs.Rulebook.{Rulebook};
 ghost use Rattle.rhythm_laws.specs.Places.{end_before, reach};
 ghost use Rattle.rhythm_laws.specs.Runs.{agreed, lefts, rights};
 ghost use Rattle.std.specs.Prelude.{
@@ -27,7 +30,8 @@ ghost use Rattle.std.specs.Prelude.{
   None,
 };
 
-use crate::choice::{Choice, Choices};
+use crate::choice::{Choice, Choices, offer};
+use crate::memo::Site;
 use interval::{Attached, displacement, late, side, sounds};
 use rhythm_base::{BarInput, Body, Grammar, Inner};
 
@@ -157,6 +161,26 @@ fn end_before(input: &BarInput, unit: u16) -> u64
     }
 }
 
+/// Where an interval lies among those of its width: where no chord begins in it, those that sound throughout are answered
+/// alike, and those that are silent throughout.
+pub fn site_of(input: &BarInput, p: u16, w: u16) -> Site
+    requires cell { IsCell input.now }
+    requires leaf { IsLeafOf input.now.length input.now.resolution p w }
+    ensures { (g : Rulebook) → g.resolution ≡ input.now.resolution → LiesAt (ground_of g input.now) result p w }
+{
+    if count_before(input, p) != count_before(input, p + w) {
+        return Site::From(p);
+    }
+    let end = end_before(input, p) * u64::from(input.resolution());
+    if u64::from(p + w) * input.length() <= end {
+        Site::Sounding
+    } else if end <= u64::from(p) * input.length() {
+        Site::Silent
+    } else {
+        Site::From(p)
+    }
+}
+
 /// The end of the last of the chords that is attached to the leaf, and another end where there is none.
 fn last_own(input: &BarInput, chords: &[Inner], p: u16, w: u16, before: u64) -> u64
     requires chords { All (IsInner input.now.length) chords.now }
@@ -258,36 +282,45 @@ fn agrees(body: &Body, count: usize, sounds: bool) -> bool
     }
 }
 
-fn choice_for(there: bool, choice: Choice) -> Option<Choice>
-    ensures { result ≡ (if there then Some choice else None) }
+/// Offers the choice at one number carried out alone.
+fn offer_at(row: &mut [Option<Choice>; 5], there: bool, next: usize, choice: Choice)
+    ensures { (b : ℕ) → b < 5 → choice_in row.new b ≡ nearer_of (choice_in row.old b) (if there && (next == b) then Some choice else None) }
 {
-    if there { Some(choice) } else { None }
+    if there && next < 5 {
+        offer(&mut row[next], choice);
+    }
 }
 
-/// The choice at one number carried out alone.
-fn only_at(there: bool, next: usize, choice: Choice) -> [Option<Choice>; 5]
-    ensures { (b : ℕ) → b < 5 → choice_in result b ≡ (if there && (next == b) then Some choice else None) }
-{
-    [
-        choice_for(there && next == 0, choice),
-        choice_for(there && next == 1, choice),
-        choice_for(there && next == 2, choice),
-        choice_for(there && next == 3, choice),
-        choice_for(there && next == 4, choice),
-    ]
-}
-
-/// The choices of a leaf with this rule: there is one for each number of chords carried in with which the rule agrees.
-pub fn leaf_choices(body: &Body, heard: Heard, choice: Choice) -> Choices
+/// Offers the choice of a leaf with this rule: for each number of chords carried in with which the rule agrees.
+pub fn offer_leaf(best: &mut Choices, body: &Body, heard: Heard, choice: Choice)
     requires { heard.own ≤ 4 }
-    ensures { (a b : ℕ) → a < 5 → b < 5 → choice_at result a b ≡ (if agreed body.now (a + heard.own) heard.sounds && (heard.next == b) then Some choice else None) }
+    ensures { Offers (λ a b. if agreed body.now (a + heard.own) heard.sounds && (heard.next == b) then Some choice else None) best.old best.new }
 {
     let own = heard.own;
-    [
-        only_at(agrees(body, own, heard.sounds), heard.next, choice),
-        only_at(agrees(body, 1 + own, heard.sounds), heard.next, choice),
-        only_at(agrees(body, 2 + own, heard.sounds), heard.next, choice),
-        only_at(agrees(body, 3 + own, heard.sounds), heard.next, choice),
-        only_at(agrees(body, 4 + own, heard.sounds), heard.next, choice),
-    ]
+    let next = heard.next;
+    offer_at(&mut best[0], agrees(body, own, heard.sounds), next, choice);
+    offer_at(
+        &mut best[1],
+        agrees(body, 1 + own, heard.sounds),
+        next,
+        choice,
+    );
+    offer_at(
+        &mut best[2],
+        agrees(body, 2 + own, heard.sounds),
+        next,
+        choice,
+    );
+    offer_at(
+        &mut best[3],
+        agrees(body, 3 + own, heard.sounds),
+        next,
+        choice,
+    );
+    offer_at(
+        &mut best[4],
+        agrees(body, 4 + own, heard.sounds),
+        next,
+        choice,
+    );
 }

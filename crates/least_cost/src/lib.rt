@@ -16,6 +16,7 @@ mod memo;
 mod pins;
 mod product;
 mod rule_lists;
+mod spans;
 mod steps;
 mod table;
 mod trees;

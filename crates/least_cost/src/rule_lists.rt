@@ -10,12 +10,12 @@ pub enum Rope {
     /// A rule, and the rules below it.
     Top {
         rule: u16,
-        kids: Option<usize>,
+        kids: Option<u32>,
     },
     /// One list behind the other.
     Both {
-        first: Option<usize>,
-        second: Option<usize>,
+        first: Option<u32>,
+        second: Option<u32>,
     },
 }
 
@@ -35,17 +35,18 @@ impl Model for RuleLists {
 }
 
 impl RuleLists {
-    /// No lists.
-    pub fn new(alloc: Global) -> RuleLists
-        ensures { result ≡ [] }
+    /// No lists, with room for some thousand.
+    pub fn new(alloc: Global) -> Result<RuleLists, AllocError>
+        ensures { IfOk result (λ l. l ≡ []) }
     {
-        RuleLists {
-            ropes: Vec::new(alloc),
-        }
+        Ok(RuleLists {
+            ropes: Vec::with_capacity(alloc, 2048)?,
+        })
     }
 
-    /// Keeps one list more. One that is there already keeps its number.
-    pub fn keep(&mut self, rope: Rope) -> Result<Option<usize>, AllocError>
+    /// Keeps one list more. One that is there already keeps its number. There are no numbers past 4,294,967,295: where they
+    /// have run out, the answer is that there is no memory.
+    pub fn keep(&mut self, rope: Rope) -> Result<Option<u32>, AllocError>
         ensures more { OnOk result (Extends self.old self.new) }
         ensures text { IfOk result (λ list. (x : List ℕ) → HasRope self.old rope x → HasText self.new list x) }
     {
@@ -59,7 +60,7 @@ impl RuleLists {
                 second: None,
             } => Ok(Some(first)),
             rope => {
-                let number = self.ropes.len();
+                let number = u32::try_from(self.ropes.len()).ok().ok_or(AllocError)?;
                 self.ropes.push(rope)?;
                 Ok(Some(number))
             }
@@ -67,12 +68,12 @@ impl RuleLists {
     }
 
     /// Writes a list behind what stands in `rules`.
-    pub fn write(&self, list: Option<usize>, rules: &mut Vec<u16>) -> Result<(), AllocError>
+    pub fn write(&self, list: Option<u32>, rules: &mut Vec<u16>) -> Result<(), AllocError>
         ensures { OnOk result (rules.new.items ≡ rules.old.items ++ text_of self.now list) }
     {
         match list {
             None => Ok(()),
-            Some(list) => self.write_list(list, rules),
+            Some(list) => self.write_list(list as usize, rules),
         }
     }
 
@@ -100,13 +101,13 @@ impl RuleLists {
     fn write_earlier(
         &self,
         list: usize,
-        part: Option<usize>,
+        part: Option<u32>,
         rules: &mut Vec<u16>,
     ) -> Result<(), AllocError>
         ensures { OnOk result (rules.new.items ≡ rules.old.items ++ text_before self.now list part) }
     {
         match part {
-            Some(part) if part < list => self.write_list(part, rules),
+            Some(part) if (part as usize) < list => self.write_list(part as usize, rules),
             _ => Ok(()),
         }
     }

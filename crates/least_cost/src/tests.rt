@@ -438,6 +438,42 @@ const ROWS: &[Row] = &[
     },
 ];
 
+/// Intervals without an onset in which a chord sounds, and others in which none does.
+const QUIET_ROWS: &[Row] = &[
+    Row {
+        book: QUARTERS,
+        chords: &[(0, 700), (1000, 1100)],
+        before: 0,
+        pin: Pinned::Free,
+        entries: &[
+            (0, 0, 155, 0, &[3, 4, 7, 9, 11]),
+            (1, 0, 285, 0, &[3, 7, 12, 17, 15, 11, 7, 9, 11]),
+        ],
+    },
+    Row {
+        book: QUARTERS,
+        chords: &[(960, 1440)],
+        before: 700,
+        pin: Pinned::Free,
+        entries: &[
+            (0, 0, 40, 0, &[3, 5, 4]),
+            (1, 0, 40, 0, &[3, 4, 4]),
+            (2, 0, 170, 0, &[3, 7, 12, 17, 15, 11, 4]),
+        ],
+    },
+    Row {
+        book: QUARTERS,
+        chords: &[(240, 1200)],
+        before: 1920,
+        pin: Pinned::Free,
+        entries: &[
+            (0, 0, 120, 0, &[3, 7, 12, 15, 13, 10, 6]),
+            (1, 0, 120, 0, &[3, 7, 12, 13, 13, 10, 6]),
+            (2, 0, 170, 0, &[3, 7, 12, 17, 13, 10, 6]),
+        ],
+    },
+];
+
 fn two(alloc: Global, first: Shape, second: Shape) -> Result<Shape, AllocError> {
     let mut parts = Vec::new(alloc);
     parts.push(first)?;
@@ -517,25 +553,39 @@ fn count_entries(table: &BarTable) -> usize {
     count
 }
 
+/// Whether the table of the row's bar has the row's entries and no others.
+fn has_entries(alloc: Global, row: &Row, builds: &mut Steps<ByHand>) -> Result<bool, Fail> {
+    let grammar = grammar_of(alloc, &row.book)?;
+    let chords = chords_of(alloc, row.chords)?;
+    let pin = shape_of(alloc, row.pin)?;
+    let bar = bar_of(row.book.resolution, chords, row.before, pin);
+    if !is_readable(&grammar) {
+        return Ok(false);
+    }
+    let Some(bar) = bar else {
+        return Ok(false);
+    };
+    let table = build_cell(alloc, &grammar, &bar, builds)?;
+    if table.input().before() != row.before || count_entries(&table) != row.entries.len() {
+        return Ok(false);
+    }
+    Ok(row.entries.iter().all(|entry| has_entry(&table, entry)))
+}
+
 #[test]
 fn tables_of_bars(rt: HostRuntime) -> Result<(), Fail> {
-    let alloc = rt.alloc();
     let mut builds = Steps::<ByHand>::zero();
     for row in ROWS {
-        let grammar = grammar_of(alloc, &row.book)?;
-        let chords = chords_of(alloc, row.chords)?;
-        let pin = shape_of(alloc, row.pin)?;
-        let bar = bar_of(row.book.resolution, chords, row.before, pin);
-        assert!(rt; is_readable(&grammar));
-        let Some(bar) = bar else {
-            return Err(Fail::new("no bar"));
-        };
-        let table = build_cell(alloc, &grammar, &bar, &mut builds)?;
-        assert!(rt; table.input().before() == row.before);
-        assert!(rt; count_entries(&table) == row.entries.len());
-        for entry in row.entries {
-            assert!(rt; has_entry(&table, entry));
-        }
+        assert!(rt; has_entries(rt.alloc(), row, &mut builds)?);
+    }
+    Ok(())
+}
+
+#[test]
+fn tables_of_bars_with_quiet_intervals(rt: HostRuntime) -> Result<(), Fail> {
+    let mut builds = Steps::<ByHand>::zero();
+    for row in QUIET_ROWS {
+        assert!(rt; has_entries(rt.alloc(), row, &mut builds)?);
     }
     Ok(())
 }
@@ -591,6 +641,29 @@ fn a_bar_of_400_chords(rt: HostRuntime) -> Result<(), Fail> {
         assert!(rt; rules.len() == 255);
     }
     assert!(rt; count_entries(&table) == 3);
+    Ok(())
+}
+
+/// Most intervals of this bar have no onset: a chord sounds throughout in some, and none does in others.
+#[test]
+fn quiet_intervals_of_both_kinds(rt: HostRuntime) -> Result<(), Fail> {
+    let alloc = rt.alloc();
+    let mut builds = Steps::<ByHand>::zero();
+    let grammar = grammar_of(alloc, &HALVES_OF_HALVES)?;
+    let chords = chords_of(alloc, &[(1000, 1500)])?;
+    assert!(rt; is_readable(&grammar));
+    let Some(bar) = bar_of(128, chords, 500, None) else {
+        return Err(Fail::new("no bar"));
+    };
+    let table = build_cell(alloc, &grammar, &bar, &mut builds)?;
+    for (from, cost) in [(0u8, 331u64), (1, 331), (2, 334), (3, 336), (4, 338)] {
+        assert!(rt; table.matrix().get(from, 0) == Some(Best { cost, rank: 0 }));
+        let Some(rules) = table.rules(from, 0) else {
+            return Err(Fail::new("no rules"));
+        };
+        assert!(rt; rules.len() == 255);
+    }
+    assert!(rt; count_entries(&table) == 5);
     Ok(())
 }
 

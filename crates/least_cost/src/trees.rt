@@ -1,24 +1,25 @@
-ghost use Rattle.least_cost.specs.Entries.{choice_at, choice_in, entry_at, entry_in};
+ghost use Rattle.least_cost.specs.Entries.{Offers, choice_in, entry_at, entry_in, nearer_of};
 ghost use Rattle.least_cost.specs.Nodes.{
   AreBeside,
-  AreChoicesFor,
+  AreBest,
   AreFound,
   HasNoLeaf,
-  IsAnswer,
-  IsLeafChoices,
+  IsAnswerAt,
   IsLeafHere,
+  IsOf,
   IsReady,
   IsWithin,
   cuts_at,
   ground_of,
   is_cut,
+  leaf_choice,
 };
 ghost use Rattle.least_cost.specs.Pieces.{pair_of};
 ghost use Rattle.least_cost.specs.Pins.{demanded};
-ghost use Rattle.least_cost.specs.RuleChoices.{IsBestBelow};
 ghost use Rattle.least_cost.specs.RuleLists.{Extends};
 ghost use Rattle.least_cost.specs.Rules.{topped_of};
 ghost use Rattle.least_cost.specs.Shares.{AreBelow};
+ghost use Rattle.least_cost.specs.Spans.{AreSpans};
 ghost use Rattle.rhythm_base.specs.Readable.{IsInRange};
 ghost use Rattle.rhythm_base.specs.Trees.{children, sizes, suits};
 ghost use Rattle.std.specs.Prelude.{
@@ -44,14 +45,15 @@ ghost use Rattle.std.specs.Prelude.{
 ghost use Rattle.least_cost.specs.declared.entry.Entry.{Entry};
 ghost use Rattle.least_cost.specs.declared.trees.LeafHere.{LeafHere};
 
-use crate::choice::{Choice, Choices, nearer_choices, settle_all};
+use crate::choice::{Choice, Choices, no_choices, offer, settle_all};
 use crate::cut::{Piece, children, suits};
-use crate::entry::{Entry, Grid};
-use crate::leaf::{Heard, charges, chords_in, hear, leaf_choices};
-use crate::memo::{Asked, Memo};
+use crate::entry::{Entry, Grid, no_entries};
+use crate::leaf::{Heard, charges, chords_in, hear, offer_leaf, site_of};
+use crate::memo::{Asked, Family, Memo};
 use crate::pins::{Demand, Pins, allows_none};
 use crate::product::product;
 use crate::rule_lists::Rope;
+use crate::spans::Spans;
 use rhythm_base::{BarInput, Body, Grammar, Rule};
 use std::alloc::{AllocError, Global};
 
@@ -92,49 +94,53 @@ fn is_cut(body: &Body) -> bool
     }
 }
 
-/// The entry with a rule on top.
-fn topped(entry: Option<Entry>, weight: u32, rule: u16) -> Option<Choice>
-    requires { (e : Entry) → entry ≡ Some e → e.cost < 2 ^ 62 }
-    ensures { result ≡ topped_of weight rule entry }
+/// Offers to a place the entry with a rule on top.
+fn offer_topped(place: &mut Option<Choice>, entry: &Option<Entry>, weight: u32, rule: u16)
+    requires { (e : Entry) → entry.now ≡ Some e → e.cost < 2 ^ 62 }
+    ensures { place.new ≡ nearer_of place.old (topped_of weight rule entry.now) }
 {
-    match entry {
-        None => None,
-        Some(entry) => Some(Choice {
-            cost: u64::from(weight) + entry.cost,
-            major: rule,
-            minor: entry.rank,
-            rope: Rope::Top {
-                rule,
-                kids: entry.list,
+    if let Some(entry) = entry {
+        offer(
+            place,
+            Choice {
+                cost: u64::from(weight) + entry.cost,
+                major: rule,
+                minor: entry.rank,
+                rope: Rope::Top {
+                    rule,
+                    kids: entry.list,
+                },
             },
-        }),
+        );
     }
 }
 
-fn topped_row(row: &[Option<Entry>; 5], weight: u32, rule: u16) -> [Option<Choice>; 5]
+fn offer_topped_row(
+    best: &mut [Option<Choice>; 5],
+    row: &[Option<Entry>; 5],
+    weight: u32,
+    rule: u16,
+)
     requires { (b : ℕ) (e : Entry) → b < 5 → entry_in row.now b ≡ Some e → e.cost < 2 ^ 62 }
-    ensures { (b : ℕ) → b < 5 → choice_in result b ≡ topped_of weight rule (entry_in row.now b) }
+    ensures { (b : ℕ) → b < 5 → choice_in best.new b ≡ nearer_of (choice_in best.old b) (topped_of weight rule (entry_in row.now b)) }
 {
-    [
-        topped(row[0], weight, rule),
-        topped(row[1], weight, rule),
-        topped(row[2], weight, rule),
-        topped(row[3], weight, rule),
-        topped(row[4], weight, rule),
-    ]
+    offer_topped(&mut best[0], &row[0], weight, rule);
+    offer_topped(&mut best[1], &row[1], weight, rule);
+    offer_topped(&mut best[2], &row[2], weight, rule);
+    offer_topped(&mut best[3], &row[3], weight, rule);
+    offer_topped(&mut best[4], &row[4], weight, rule);
 }
 
-fn topped_grid(grid: &Grid, weight: u32, rule: u16) -> Choices
+/// Offers the entries with a rule on top.
+fn offer_topped_grid(best: &mut Choices, grid: &Grid, weight: u32, rule: u16)
     requires { (a b : ℕ) (e : Entry) → a < 5 → b < 5 → entry_at grid.now a b ≡ Some e → e.cost < 2 ^ 62 }
-    ensures { (a b : ℕ) → a < 5 → b < 5 → choice_at result a b ≡ topped_of weight rule (entry_at grid.now a b) }
+    ensures { Offers (λ a b. topped_of weight rule (entry_at grid.now a b)) best.old best.new }
 {
-    [
-        topped_row(&grid[0], weight, rule),
-        topped_row(&grid[1], weight, rule),
-        topped_row(&grid[2], weight, rule),
-        topped_row(&grid[3], weight, rule),
-        topped_row(&grid[4], weight, rule),
-    ]
+    offer_topped_row(&mut best[0], &grid[0], weight, rule);
+    offer_topped_row(&mut best[1], &grid[1], weight, rule);
+    offer_topped_row(&mut best[2], &grid[2], weight, rule);
+    offer_topped_row(&mut best[3], &grid[3], weight, rule);
+    offer_topped_row(&mut best[4], &grid[4], weight, rule);
 }
 
 /// The entries of no trees: what is carried in is carried out.
@@ -155,143 +161,181 @@ fn nothing() -> Grid
     ]
 }
 
-/// The choices of a leaf with this rule, where there may be a leaf.
-fn by_leaf(leaf: Option<LeafHere>, rule: &Rule, number: u16) -> Option<Choices>
+/// Offers the choices of a leaf with this rule, where there may be a leaf.
+fn offer_by_leaf(best: &mut Choices, leaf: Option<LeafHere>, rule: &Rule, number: u16)
     requires { (l : LeafHere) → leaf ≡ Some l → (l.charges < 2 ^ 60) × (l.heard.own ≤ 4) }
-    ensures { MatchOption result (leaf ≡ None) (λ choices. (l : LeafHere) × (leaf ≡ Some l) × IsLeafChoices rule.now number l choices) }
+    ensures { MatchOption leaf (best.new ≡ best.old) (λ l. Offers (leaf_choice rule.now number l) best.old best.new) }
 {
-    let leaf = leaf?;
-    let choice = Choice {
-        cost: u64::from(rule.weight) + leaf.charges,
-        major: number,
-        minor: 0,
-        rope: Rope::Top {
-            rule: number,
-            kids: None,
-        },
-    };
-    Some(leaf_choices(&rule.body, leaf.heard, choice))
+    if let Some(leaf) = leaf {
+        let choice = Choice {
+            cost: u64::from(rule.weight) + leaf.charges,
+            major: number,
+            minor: 0,
+            rope: Rope::Top {
+                rule: number,
+                kids: None,
+            },
+        };
+        offer_leaf(best, &rule.body, leaf.heard, choice);
+    }
 }
 
-/// The least trees that are asked for, found once.
+/// The family of the trees that are asked for.
+fn family_of(grammar: &Grammar, input: &BarInput, asked: Asked) -> Family
+    requires ready { IsReady grammar.now input.now }
+    requires within { IsWithin input.now asked }
+    ensures { IsOf grammar.now input.now result asked }
+{
+    Family {
+        site: site_of(input, asked.place, asked.width),
+        width: asked.width,
+        symbol: asked.symbol,
+        demand: asked.demand,
+    }
+}
+
+/// The number of the least trees that are asked for, found once for all intervals that are answered alike.
 #[cycle(trees)]
 pub fn least_trees(
     alloc: Global,
     grammar: &Grammar,
+    spans: &Spans,
     input: &BarInput,
     pins: &Pins,
     memo: &mut Memo,
     asked: Asked,
-) -> Result<Grid, AllocError>
+) -> Result<usize, AllocError>
     requires ready { IsReady grammar.now input.now }
+    requires spans { AreSpans grammar.now.rules spans.now }
     requires within { IsWithin input.now asked }
     requires found { AreFound grammar.now input.now pins.now memo.old.lists memo.old.found.items }
     ensures more { OnOk result (Extends memo.old.lists memo.new.lists) }
     ensures found { OnOk result (AreFound grammar.now input.now pins.now memo.new.lists memo.new.found.items) }
-    ensures answer { IfOk result (IsAnswer grammar.now input.now pins.now memo.new.lists asked) }
+    ensures answer { IfOk result (IsAnswerAt grammar.now input.now pins.now memo.new.lists memo.new.found.items asked) }
 {
-    if let Some(grid) = memo.find(asked) {
-        return Ok(grid);
+    let family = family_of(grammar, input, asked);
+    if let Some(number) = memo.find(family) {
+        return Ok(number);
     }
     let leaf = leaf_here(grammar, input, pins, asked);
-    let choices = by_rules(alloc, grammar, input, pins, memo, asked, leaf)?;
-    let grid = settle_all(&mut memo.lists, &choices)?;
-    memo.keep(asked, grid)?;
-    Ok(grid)
+    let mut best = no_choices();
+    by_rules(
+        alloc, grammar, spans, input, pins, memo, asked, leaf, &mut best,
+    )?;
+    let mut grid = no_entries();
+    settle_all(&mut memo.lists, &best, &mut grid)?;
+    let number = memo.keep(family, &grid)?;
+    Ok(number)
 }
 
-/// The choices between all rules.
+/// Chooses between all rules. There are no choices yet.
 #[cycle(trees)]
 fn by_rules(
     alloc: Global,
     grammar: &Grammar,
+    spans: &Spans,
     input: &BarInput,
     pins: &Pins,
     memo: &mut Memo,
     asked: Asked,
     leaf: Option<LeafHere>,
-) -> Result<Choices, AllocError>
+    best: &mut Choices,
+) -> Result<(), AllocError>
     requires ready { IsReady grammar.now input.now }
+    requires spans { AreSpans grammar.now.rules spans.now }
     requires within { IsWithin input.now asked }
     requires leaf { MatchOption leaf (HasNoLeaf grammar.now input.now pins.now asked) (IsLeafHere grammar.now input.now pins.now asked) }
     requires small { (l : LeafHere) → leaf ≡ Some l → l.charges < 2 ^ 60 }
     requires found { AreFound grammar.now input.now pins.now memo.old.lists memo.old.found.items }
+    requires best { AreBest grammar.now input.now pins.now memo.old.lists asked 0 best.old }
     ensures more { OnOk result (Extends memo.old.lists memo.new.lists) }
     ensures found { OnOk result (AreFound grammar.now input.now pins.now memo.new.lists memo.new.found.items) }
-    ensures choices { IfOk result (λ choices. IsBestBelow (ground_of grammar.now input.now) (demanded pins.now asked.demand) asked.place (asked.width, asked.symbol)
-        (length grammar.now.rules) memo.new.lists (choice_at choices)) }
+    ensures best { OnOk result (AreBest grammar.now input.now pins.now memo.new.lists asked (length grammar.now.rules) best.new) }
 {
-    let mut best = [[None; 5]; 5];
-    for number in 0..grammar.rules.len() as u16 {
+    let span = spans.span(grammar, asked.symbol);
+    for number in span.first..span.end {
         if grammar.rules[number as usize].lhs != asked.symbol {
             continue;
         }
-        let next = by_rule(alloc, grammar, input, pins, memo, asked, leaf, number)?;
-        if let Some(next) = next {
-            best = nearer_choices(&best, &next);
-        }
+        by_rule(
+            alloc, grammar, spans, input, pins, memo, asked, leaf, number, best,
+        )?;
     }
-    Ok(best)
+    Ok(())
 }
 
-/// The choices of the trees with one rule on top.
+/// Offers the choices of the trees with one rule on top.
 #[cycle(trees)]
 fn by_rule(
     alloc: Global,
     grammar: &Grammar,
+    spans: &Spans,
     input: &BarInput,
     pins: &Pins,
     memo: &mut Memo,
     asked: Asked,
     leaf: Option<LeafHere>,
     number: u16,
-) -> Result<Option<Choices>, AllocError>
+    best: &mut Choices,
+) -> Result<(), AllocError>
     requires ready { IsReady grammar.now input.now }
+    requires spans { AreSpans grammar.now.rules spans.now }
     requires within { IsWithin input.now asked }
     requires number { number < length grammar.now.rules }
     requires leaf { MatchOption leaf (HasNoLeaf grammar.now input.now pins.now asked) (IsLeafHere grammar.now input.now pins.now asked) }
     requires small { (l : LeafHere) → leaf ≡ Some l → l.charges < 2 ^ 60 }
     requires found { AreFound grammar.now input.now pins.now memo.old.lists memo.old.found.items }
+    requires best { AreBest grammar.now input.now pins.now memo.old.lists asked number best.old }
     ensures more { OnOk result (Extends memo.old.lists memo.new.lists) }
     ensures found { OnOk result (AreFound grammar.now input.now pins.now memo.new.lists memo.new.found.items) }
-    ensures choices { IfOk result (AreChoicesFor grammar.now input.now pins.now memo.new.lists asked number) }
+    ensures best { OnOk result (AreBest grammar.now input.now pins.now memo.new.lists asked (number + 1) best.new) }
 {
     let rule = &grammar.rules[number as usize];
     if !suits(rule, asked.width, asked.symbol) {
-        return Ok(None);
+        return Ok(());
     }
     if !is_cut(&rule.body) {
-        return Ok(by_leaf(leaf, rule, number));
+        offer_by_leaf(best, leaf, rule, number);
+        return Ok(());
     }
-    by_cut(alloc, grammar, input, pins, memo, asked, number)
+    by_cut(
+        alloc, grammar, spans, input, pins, memo, asked, number, best,
+    )
 }
 
-/// The choices of the trees with a rule on top that cuts the interval.
+/// Offers the choices of the trees with a rule on top that cuts the interval.
 #[cycle(trees)]
+#[inline(never)]
 fn by_cut(
     alloc: Global,
     grammar: &Grammar,
+    spans: &Spans,
     input: &BarInput,
     pins: &Pins,
     memo: &mut Memo,
     asked: Asked,
     number: u16,
-) -> Result<Option<Choices>, AllocError>
+    best: &mut Choices,
+) -> Result<(), AllocError>
     requires ready { IsReady grammar.now input.now }
+    requires spans { AreSpans grammar.now.rules spans.now }
     requires within { IsWithin input.now asked }
     requires number { number < length grammar.now.rules }
     requires suits { suits (slice_get grammar.now.rules number) (asked.width, asked.symbol) ≡ true }
     requires cut { cuts_at grammar.now.rules number ≡ true }
     requires found { AreFound grammar.now input.now pins.now memo.old.lists memo.old.found.items }
+    requires best { AreBest grammar.now input.now pins.now memo.old.lists asked number best.old }
     ensures more { OnOk result (Extends memo.old.lists memo.new.lists) }
     ensures found { OnOk result (AreFound grammar.now input.now pins.now memo.new.lists memo.new.found.items) }
-    ensures choices { IfOk result (AreChoicesFor grammar.now input.now pins.now memo.new.lists asked number) }
+    ensures best { OnOk result (AreBest grammar.now input.now pins.now memo.new.lists asked (number + 1) best.new) }
 {
     let rule = &grammar.rules[number as usize];
     let pieces = children(alloc, &rule.body, asked.width)?;
-    let grid = beside(
+    let mut grid = no_entries();
+    let some = beside(
         alloc,
         grammar,
+        spans,
         input,
         pins,
         memo,
@@ -299,18 +343,22 @@ fn by_cut(
         pieces.as_slice(),
         asked.demand,
         asked.width,
+        &mut grid,
     )?;
-    match grid {
-        None => Ok(None),
-        Some(grid) => Ok(Some(topped_grid(&grid, rule.weight, number))),
+    if !some {
+        return Ok(());
     }
+    offer_topped_grid(best, &grid, rule.weight, number);
+    Ok(())
 }
 
-/// The least trees over the pieces, side by side from the unit `place` on. Each piece is narrower than `below` units.
+/// Writes the least trees over the pieces, side by side from the unit `place` on, and answers whether any fit. Each piece is
+/// narrower than `below` units. Nothing is written yet.
 #[cycle(trees)]
 fn beside(
     alloc: Global,
     grammar: &Grammar,
+    spans: &Spans,
     input: &BarInput,
     pins: &Pins,
     memo: &mut Memo,
@@ -318,24 +366,30 @@ fn beside(
     pieces: &[Piece],
     demand: Demand,
     below: u16,
-) -> Result<Option<Grid>, AllocError>
+    all: &mut Grid,
+) -> Result<bool, AllocError>
     requires ready { IsReady grammar.now input.now }
+    requires spans { AreSpans grammar.now.rules spans.now }
     requires below { AreBelow below (map pair_of pieces.now) }
     requires within { place + sizes (map pair_of pieces.now) ≤ input.now.resolution }
     requires found { AreFound grammar.now input.now pins.now memo.old.lists memo.old.found.items }
+    requires none { (a b : ℕ) → a < 5 → b < 5 → entry_at all.old a b ≡ None }
     ensures more { OnOk result (Extends memo.old.lists memo.new.lists) }
     ensures found { OnOk result (AreFound grammar.now input.now pins.now memo.new.lists memo.new.found.items) }
-    ensures grid { IfOk result (AreBeside grammar.now input.now (demanded pins.now demand) place (map pair_of pieces.now) memo.new.lists) }
+    ensures all { IfOk result (λ some. AreBeside grammar.now input.now (demanded pins.now demand) place (map pair_of pieces.now) memo.new.lists
+        (if some then Some all.new else None)) }
 {
     match pieces {
-        [] => Ok(if allows_none(pins, demand) {
-            Some(nothing())
-        } else {
-            None
-        }),
+        [] => {
+            if !allows_none(pins, demand) {
+                return Ok(false);
+            }
+            *all = nothing();
+            Ok(true)
+        }
         [piece, rest @ ..] => {
             let Some((first, others)) = pins.split(demand) else {
-                return Ok(None);
+                return Ok(false);
             };
             let asked = Asked {
                 place,
@@ -344,16 +398,23 @@ fn beside(
                 demand: first,
             };
             if rest.is_empty() && allows_none(pins, others) {
-                return Ok(Some(least_trees(alloc, grammar, input, pins, memo, asked)?));
+                let number = least_trees(alloc, grammar, spans, input, pins, memo, asked)?;
+                *all = *memo.grid(number);
+                return Ok(true);
             }
             let next = place + piece.width;
-            let Some(right) = beside(alloc, grammar, input, pins, memo, next, rest, others, below)?
-            else {
-                return Ok(None);
-            };
-            let left = least_trees(alloc, grammar, input, pins, memo, asked)?;
-            let choices = product(&left, &right);
-            Ok(Some(settle_all(&mut memo.lists, &choices)?))
+            let mut right = no_entries();
+            let some = beside(
+                alloc, grammar, spans, input, pins, memo, next, rest, others, below, &mut right,
+            )?;
+            if !some {
+                return Ok(false);
+            }
+            let number = least_trees(alloc, grammar, spans, input, pins, memo, asked)?;
+            let mut choices = no_choices();
+            product(&mut choices, memo.grid(number), &right);
+            settle_all(&mut memo.lists, &choices, all)?;
+            Ok(true)
         }
     }
 }

@@ -14,6 +14,7 @@ use Rattle.least_cost.specs.Pins.{demanded}
 use Rattle.least_cost.specs.Tables.{written, written_at}
 use Rattle.least_cost.proofs.Goods.{Table}
 use Rattle.least_cost.proofs.Roots.{root-low, root-ranked, root-table}
+use Rattle.least_cost.proofs.Searches.{answered}
 use Rattle.least_cost.proofs.build.build.Goals as goal
 
 -- the answer for the whole bar
@@ -31,25 +32,25 @@ make-requires-clause-ranks c =
     let g = c.args.grammar.now in
     let k = c.args.input.now in
     let pin : demanded c.take.new.self c.in_ok-demand.demand ≡ k.pin = c.in_ok-demand.ensures ∙ c.pin.ensures in
-    let good = whole g k (demanded c.take.new.self c.in_ok-demand.demand) c.resolution-2.result c.start.result c.least_trees.new.memo.lists c.in_ok-grid.grid pin c.resolution-2.ensures c.start.ensures.value c.in_ok-grid.ensures.answer in
-    subst IsRanked (sym c.bests.ensures) (root-ranked g k c.requires.ready c.least_trees.new.memo.lists c.in_ok-grid.grid good)
+    let good = whole g k (demanded c.take.new.self c.in_ok-demand.demand) c.resolution-2.result c.start.result c.least_trees.new.memo.lists c.grid-grid.result.now pin c.resolution-2.ensures c.start.ensures.value (answered g k c.take.new.self c.least_trees.new.memo.lists c.least_trees.new.memo.found.items (record { place = 0; width = c.resolution-2.result; symbol = c.start.result; demand = c.in_ok-demand.demand }) c.in_ok-number.number c.grid-grid.result.now c.in_ok-number.ensures.answer c.grid-grid.ensures) in
+    subst IsRanked (sym c.bests.ensures) (root-ranked g k c.requires.ready c.least_trees.new.memo.lists c.grid-grid.result.now good)
 
 pub make-requires-clause-costs : goal.make-requires-clause-costs
 make-requires-clause-costs c =
     let g = c.args.grammar.now in
     let k = c.args.input.now in
     let pin : demanded c.take.new.self c.in_ok-demand.demand ≡ k.pin = c.in_ok-demand.ensures ∙ c.pin.ensures in
-    let good = whole g k (demanded c.take.new.self c.in_ok-demand.demand) c.resolution-2.result c.start.result c.least_trees.new.memo.lists c.in_ok-grid.grid pin c.resolution-2.ensures c.start.ensures.value c.in_ok-grid.ensures.answer in
-    subst AreLow (sym c.bests.ensures) (root-low g k c.requires.ready c.least_trees.new.memo.lists c.in_ok-grid.grid good)
+    let good = whole g k (demanded c.take.new.self c.in_ok-demand.demand) c.resolution-2.result c.start.result c.least_trees.new.memo.lists c.grid-grid.result.now pin c.resolution-2.ensures c.start.ensures.value (answered g k c.take.new.self c.least_trees.new.memo.lists c.least_trees.new.memo.found.items (record { place = 0; width = c.resolution-2.result; symbol = c.start.result; demand = c.in_ok-demand.demand }) c.in_ok-number.number c.grid-grid.result.now c.in_ok-number.ensures.answer c.grid-grid.ensures) in
+    subst AreLow (sym c.bests.ensures) (root-low g k c.requires.ready c.least_trees.new.memo.lists c.grid-grid.result.now good)
 
 pub returns-clause-table : goal.returns-clause-table
 returns-clause-table c =
     let g = c.args.grammar.now in
     let k = c.args.input.now in
     let ls = c.least_trees.new.memo.lists in
-    let t = c.in_ok-grid.grid in
+    let t = c.grid-grid.result.now in
     let pin : demanded c.take.new.self c.in_ok-demand.demand ≡ k.pin = c.in_ok-demand.ensures ∙ c.pin.ensures in
-    let good = whole g k (demanded c.take.new.self c.in_ok-demand.demand) c.resolution-2.result c.start.result ls t pin c.resolution-2.ensures c.start.ensures.value c.in_ok-grid.ensures.answer in
+    let good = whole g k (demanded c.take.new.self c.in_ok-demand.demand) c.resolution-2.result c.start.result ls t pin c.resolution-2.ensures c.start.ensures.value (answered g k c.take.new.self c.least_trees.new.memo.lists c.least_trees.new.memo.found.items (record { place = 0; width = c.resolution-2.result; symbol = c.start.result; demand = c.in_ok-demand.demand }) c.in_ok-number.number c.grid-grid.result.now c.in_ok-number.ensures.answer c.grid-grid.ensures) in
     let made : CellTable = record { matrix = c.make.result; lists = c.in_ok-lists.lists; input = c.in_ok-kept.kept } in
     let lists : (a b : ℕ) → a < 5 → b < 5 → list_at made a b ≡ written ls (entry_at t a b)
     = λ a b la lb. ap (λ l. get_or (get_or l a []) b None) c.in_ok-lists.ensures ∙ written-is ls t a b la lb in

@@ -1,9 +1,9 @@
-use Rattle.std.proofs.Common.{rules, ◌≡◌, ◌≢◌, ◌==◌, ◌&&◌, ◌∙◌, ◌<◌, ◌≤◌, ◌+◌, ◌-◌, [], ◌∷◌, List, ℕ, true, false, length, get_or, map, ap, subst, sym, refl, arith, suc}
-use Rattle.std.specs.Prelude.{MatchOption, Some, None, Option, slice_get, take, drop}
+use Rattle.std.proofs.Common.{rules, ◌≡◌, ◌≢◌, ◌==◌, ◌&&◌, ◌∙◌, ◌<◌, ◌≤◌, ◌+◌, ◌-◌, [], ◌∷◌, List, ℕ, Bool, true, false, length, get_or, map, ap, subst, sym, refl, arith}
+use Rattle.std.specs.Prelude.{MatchOption, Some, None, Option, slice_get, take, drop, if◌then◌else◌}
 use Rattle.std.proofs.lemmas.Bool.Decides.{nat_tests}
 use Rattle.std.proofs.lemmas.List.{length-map, nil_from_length}
 use Rattle.rhythm_base.specs.declared.rule.Rule.{Rule}
-use Rattle.std.proofs.lemmas.Option.{slice_get_read}
+use Rattle.std.proofs.lemmas.Option.{slice_get-get_or, slice_get_read}
 use Rattle.rhythm_base.specs.Cell.{Cell}
 use Rattle.rhythm_base.specs.Outline.{Outline}
 use Rattle.rhythm_base.specs.Rulebook.{Rulebook}
@@ -12,20 +12,23 @@ use Rattle.least_cost.specs.declared.cut.Piece.{Piece}
 use Rattle.least_cost.specs.declared.choice.Choice.{Choice}
 use Rattle.least_cost.specs.declared.memo.Asked.{Asked}
 use Rattle.least_cost.specs.declared.trees.LeafHere.{LeafHere}
-use Rattle.least_cost.specs.Entries.{IsGood, choice_at, choice_in}
-use Rattle.least_cost.specs.Nodes.{AreBeside, AreChoicesFor, AreFound, HasNoLeaf, IsAnswer, IsLeafChoices, IsLeafHere, cut_of, ground_of, is_cut}
+use Rattle.least_cost.specs.Entries.{IsGood, Offers, choice_at, entry_at}
+use Rattle.least_cost.specs.Nodes.{AreBeside, AreBest, AreFound, HasNoLeaf, IsAnswer, IsAnswerAt, IsLeafHere, cut_of, ground_of, is_cut, leaf_choice}
 use Rattle.least_cost.specs.Pieces.{pair_of}
 use Rattle.least_cost.specs.Pins.{demanded}
 use Rattle.least_cost.specs.RuleChoices.{IsBestBelow}
+use Rattle.least_cost.specs.Rules.{topped_of}
 use Rattle.least_cost.specs.Shares.{AreBelow}
-use Rattle.least_cost.proofs.Fives.{each_of_five}
-use Rattle.least_cost.proofs.Goods.{best-more, best-next, best-none, best-settled, best-skip, good-nothing}
+use Rattle.least_cost.proofs.Families.{found-add, found-last, found-more}
+use Rattle.least_cost.proofs.Goods.{best-jumped, best-more, best-none, best-offered, best-passed, best-settled, good-nothing}
 use Rattle.least_cost.proofs.Leaves.{leaf-choices, no_leaf_tree}
-use Rattle.least_cost.proofs.Ropes.{Extends-same, Extends-then}
+use Rattle.least_cost.proofs.Ropes.{Extends-same}
 use Rattle.least_cost.proofs.RuleKeys.{unsuited-least}
-use Rattle.least_cost.proofs.Searches.{answer-cheap, beside-cheap, beside-joined, beside-one, beside-stuck, cut_below, cut_few, cut_sizes, cut_stuck, cut_topped, found-add, found-more, no_pieces, pieces-split}
+use Rattle.least_cost.proofs.Searches.{answer-cheap, answer-low, answered, beside-cheap, beside-joined, beside-one, beside-stuck, cut_below, cut_few, cut_sizes, cut_stuck, cut_topped, grounded, no_pieces, pieces-split}
 use Rattle.least_cost.proofs.Shares.{below-wide}
-use Rattle.least_cost.proofs.trees.+trees.Goals.{by_rules-in-Some, by_rules-in_default}
+use Rattle.least_cost.specs.RuleChoices.{HasNoTree}
+use Rattle.least_cost.specs.Spans.{IsSpan}
+use Rattle.rhythm_base.specs.declared.rule.Body.TheVariants.{Note}
 use Rattle.least_cost.proofs.trees.+trees.Goals as goal
 
 and_then : {A B : Type 0} → A → B → A × B
@@ -35,8 +38,8 @@ none_of : {X : Type 0} (o : Option X) → ((x : X) → o ≡ Some x → ⊥) →
 none_of None h = refl
 none_of (Some x) h = absurd (h x refl)
 
-pub beside-returns-in_default-2-clause-grid : goal.beside-returns-in_default-2-clause-grid
-beside-returns-in_default-2-clause-grid t c =
+pub beside-returns-then-not-some-clause-all : goal.beside-returns-then-not-some-clause-all
+beside-returns-then-not-some-clause-all t c =
     let g = c.args.grammar.now in
     let k = c.args.input.now in
     let xs = c.args.pieces.now in
@@ -44,29 +47,23 @@ beside-returns-in_default-2-clause-grid t c =
     let x = get_or xs 0 d in
     let rest = take (length xs - 1) (drop 1 xs) in
     let e = pieces-split xs d c.in-len1-up.len_at_least in
+    let so = demanded c.args.pins.now c.in-Some.others in
+    let P : Bool → Type 0 = λ b. AreBeside g k so (c.args.place + x.width) (map pair_of rest) c.beside.new.memo.lists (if b then Some c.beside.new.all else None) in
     let s = demanded c.args.pins.now c.args.demand in
     let below : AreBelow c.args.below (map pair_of (x ∷ rest)) = subst (λ l. AreBelow c.args.below (map pair_of l)) e c.requires.below in
-    let field = c.in_ok-right-in-len1-up.field-0 in
-    let stuck : AreBeside g k (demanded c.args.pins.now c.in-Some.others) (c.args.place + x.width) (map pair_of rest) c.beside.new.memo.lists None =
-    subst (AreBeside g k (demanded c.args.pins.now c.in-Some.others) (c.args.place + x.width) (map pair_of rest) c.beside.new.memo.lists) (none_of field c.in_default-2.not-Some) c.in_ok-right-in-len1-up.ensures.grid in
+    let stuck = subst P c.if-not-some.true c.in_ok-some-in-len1-up.ensures.all in
     subst (λ l. AreBeside g k s c.args.place (map pair_of l) c.beside.new.memo.lists None) (sym e)
-    (beside-stuck g k c.requires.ready c.args.place (pair_of x) (map pair_of rest) c.beside.new.memo.lists s (demanded c.args.pins.now c.in-Some.others) (below-wide c.args.below (map pair_of (x ∷ rest)) below) c.in-Some.ensures.1 stuck)
+    (beside-stuck g k c.requires.ready c.args.place (pair_of x) (map pair_of rest) c.beside.new.memo.lists s so (below-wide c.args.below (map pair_of (x ∷ rest)) below) c.in-Some.ensures.1 stuck)
 
-pub beside-product-choices-requires-clause-left : goal.beside-product-choices-requires-clause-left
-beside-product-choices-requires-clause-left t c =
-    let k = c.args.input.now in
-    let xs = c.args.pieces.now in
+pub beside-grid-requires-in-len1-up : goal.beside-grid-requires-in-len1-up
+beside-grid-requires-in-len1-up t c =
     let d : Piece = record { width = 0; symbol = 0 } in
-    let x = get_or xs 0 d in
-    let rest = take (length xs - 1) (drop 1 xs) in
-    let e = pieces-split xs d c.in-len1-up.len_at_least in
-    let below : AreBelow c.args.below (map pair_of (x ∷ rest)) = subst (λ l. AreBelow c.args.below (map pair_of l)) e c.requires.below in
-    let within : c.args.place + sizes (map pair_of (x ∷ rest)) ≤ k.resolution = subst (λ l. c.args.place + sizes (map pair_of l) ≤ k.resolution) e c.requires.within in
-    answer-cheap c.args.grammar.now k c.requires.ready c.args.pins.now c.least_trees-in-len1-up.new.memo.lists (record { place = c.args.place; width = x.width; symbol = x.symbol; demand = c.in-Some.first }) c.in_ok-left-in-len1-up.left
-    (record { wide = below.0; within = omega (arith, within) }) c.in_ok-left-in-len1-up.ensures.answer
+    let x = get_or c.args.pieces.now 0 d in
+    let asked : Asked = record { place = c.args.place; width = x.width; symbol = x.symbol; demand = c.in-Some.first } in
+    answer-low c.args.grammar.now c.args.input.now c.args.pins.now c.least_trees-in-len1-up.new.memo.lists c.least_trees-in-len1-up.new.memo.found.items asked c.in_ok-number-in-len1-up-2.number c.in_ok-number-in-len1-up-2.ensures.answer
 
-pub beside-product-choices-requires-clause-right : goal.beside-product-choices-requires-clause-right
-beside-product-choices-requires-clause-right t c =
+pub beside-product-requires-clause-left : goal.beside-product-requires-clause-left
+beside-product-requires-clause-left t c =
     let g = c.args.grammar.now in
     let k = c.args.input.now in
     let xs = c.args.pieces.now in
@@ -76,22 +73,38 @@ beside-product-choices-requires-clause-right t c =
     let e = pieces-split xs d c.in-len1-up.len_at_least in
     let below : AreBelow c.args.below (map pair_of (x ∷ rest)) = subst (λ l. AreBelow c.args.below (map pair_of l)) e c.requires.below in
     let within : c.args.place + sizes (map pair_of (x ∷ rest)) ≤ k.resolution = subst (λ l. c.args.place + sizes (map pair_of l) ≤ k.resolution) e c.requires.within in
-    let good : AreBeside g k (demanded c.args.pins.now c.in-Some.others) (c.args.place + x.width) (map pair_of rest) c.beside.new.memo.lists (Some c.in-Some-2.right) =
-    subst (AreBeside g k (demanded c.args.pins.now c.in-Some.others) (c.args.place + x.width) (map pair_of rest) c.beside.new.memo.lists) c.in-Some-2.is c.in_ok-right-in-len1-up.ensures.grid in
-    beside-cheap g k c.requires.ready (demanded c.args.pins.now c.in-Some.others) (c.args.place + x.width) c.args.below (map pair_of rest) c.beside.new.memo.lists c.in-Some-2.right below.2 (omega (arith, within)) good
+    let asked : Asked = record { place = c.args.place; width = x.width; symbol = x.symbol; demand = c.in-Some.first } in
+    let own = answered g k c.args.pins.now c.least_trees-in-len1-up.new.memo.lists c.least_trees-in-len1-up.new.memo.found.items asked c.in_ok-number-in-len1-up-2.number c.grid-in-len1-up.result.now c.in_ok-number-in-len1-up-2.ensures.answer c.grid-in-len1-up.ensures in
+    answer-cheap g k c.requires.ready c.args.pins.now c.least_trees-in-len1-up.new.memo.lists asked c.grid-in-len1-up.result.now (record { wide = below.0; within = omega (arith, within) }) own
 
-pub beside-returns-then-allows_none-clause-grid : goal.beside-returns-then-allows_none-clause-grid
-beside-returns-then-allows_none-clause-grid t c =
+pub beside-product-requires-clause-right : goal.beside-product-requires-clause-right
+beside-product-requires-clause-right t c =
+    let g = c.args.grammar.now in
+    let k = c.args.input.now in
+    let xs = c.args.pieces.now in
+    let d : Piece = record { width = 0; symbol = 0 } in
+    let x = get_or xs 0 d in
+    let rest = take (length xs - 1) (drop 1 xs) in
+    let e = pieces-split xs d c.in-len1-up.len_at_least in
+    let below : AreBelow c.args.below (map pair_of (x ∷ rest)) = subst (λ l. AreBelow c.args.below (map pair_of l)) e c.requires.below in
+    let within : c.args.place + sizes (map pair_of (x ∷ rest)) ≤ k.resolution = subst (λ l. c.args.place + sizes (map pair_of l) ≤ k.resolution) e c.requires.within in
+    let so = demanded c.args.pins.now c.in-Some.others in
+    let P : Bool → Type 0 = λ b. AreBeside g k so (c.args.place + x.width) (map pair_of rest) c.beside.new.memo.lists (if b then Some c.beside.new.all else None) in
+    let good = subst P c.if-not-some.false c.in_ok-some-in-len1-up.ensures.all in
+    beside-cheap g k c.requires.ready so (c.args.place + x.width) c.args.below (map pair_of rest) c.beside.new.memo.lists c.beside.new.all below.2 (omega (arith, within)) good
+
+pub beside-returns-else-not-allows_none-clause-all : goal.beside-returns-else-not-allows_none-clause-all
+beside-returns-else-not-allows_none-clause-all t c =
     let s = demanded c.args.pins.now c.args.demand in
     subst (λ l. IsGood (ground_of c.args.grammar.now c.args.input.now) s c.args.place (map pair_of l) c.args.memo.now.lists c.nothing.result) (sym (no_pieces c.args.pieces.now c.in-empty.len_below))
-    (good-nothing (ground_of c.args.grammar.now c.args.input.now) s c.args.place c.args.memo.now.lists c.nothing.result (c.allows_none.ensures.0 c.if-allows_none.true) c.nothing.ensures)
+    (good-nothing (ground_of c.args.grammar.now c.args.input.now) s c.args.place c.args.memo.now.lists c.nothing.result (c.allows_none.ensures.0 c.if-not-allows_none.false) c.nothing.ensures)
 
 pub beside-returns-in_ok-settle_all-in-len1-up-clause-found : goal.beside-returns-in_ok-settle_all-in-len1-up-clause-found
 beside-returns-in_ok-settle_all-in-len1-up-clause-found t c =
-    found-more c.args.grammar.now c.args.input.now c.args.pins.now c.least_trees-in-len1-up.new.memo.lists c.settle_all.new.lists c.least_trees-in-len1-up.new.memo.found.items c.in_ok-settle_all-in-len1-up.ensures.more c.in_ok-left-in-len1-up.ensures.found
+    found-more c.args.grammar.now c.args.input.now c.args.pins.now c.least_trees-in-len1-up.new.memo.lists c.settle_all.new.lists c.least_trees-in-len1-up.new.memo.found.items c.in_ok-settle_all-in-len1-up.ensures.more c.in_ok-number-in-len1-up-2.ensures.found
 
-pub beside-returns-in_ok-settle_all-in-len1-up-clause-grid : goal.beside-returns-in_ok-settle_all-in-len1-up-clause-grid
-beside-returns-in_ok-settle_all-in-len1-up-clause-grid t c =
+pub beside-returns-in_ok-settle_all-in-len1-up-clause-all : goal.beside-returns-in_ok-settle_all-in-len1-up-clause-all
+beside-returns-in_ok-settle_all-in-len1-up-clause-all t c =
     let g = c.args.grammar.now in
     let k = c.args.input.now in
     let xs = c.args.pieces.now in
@@ -99,21 +112,24 @@ beside-returns-in_ok-settle_all-in-len1-up-clause-grid t c =
     let x = get_or xs 0 d in
     let rest = take (length xs - 1) (drop 1 xs) in
     let e = pieces-split xs d c.in-len1-up.len_at_least in
+    let so = demanded c.args.pins.now c.in-Some.others in
+    let P : Bool → Type 0 = λ b. AreBeside g k so (c.args.place + x.width) (map pair_of rest) c.beside.new.memo.lists (if b then Some c.beside.new.all else None) in
+    let asked : Asked = record { place = c.args.place; width = x.width; symbol = x.symbol; demand = c.in-Some.first } in
+    let own = answered g k c.args.pins.now c.least_trees-in-len1-up.new.memo.lists c.least_trees-in-len1-up.new.memo.found.items asked c.in_ok-number-in-len1-up-2.number c.grid-in-len1-up.result.now c.in_ok-number-in-len1-up-2.ensures.answer c.grid-in-len1-up.ensures in
     let s = demanded c.args.pins.now c.args.demand in
     let below : AreBelow c.args.below (map pair_of (x ∷ rest)) = subst (λ l. AreBelow c.args.below (map pair_of l)) e c.requires.below in
-    let good : AreBeside g k (demanded c.args.pins.now c.in-Some.others) (c.args.place + x.width) (map pair_of rest) c.beside.new.memo.lists (Some c.in-Some-2.right) =
-    subst (AreBeside g k (demanded c.args.pins.now c.in-Some.others) (c.args.place + x.width) (map pair_of rest) c.beside.new.memo.lists) c.in-Some-2.is c.in_ok-right-in-len1-up.ensures.grid in
-    subst (λ l. IsGood (ground_of g k) s c.args.place (map pair_of l) c.settle_all.new.lists c.in_ok-settle_all-in-len1-up.field-0) (sym e)
-    (beside-joined g k c.requires.ready c.args.place c.args.below (pair_of x) (map pair_of rest) s (demanded c.args.pins.now c.in-Some.first) (demanded c.args.pins.now c.in-Some.others)
-    c.beside.new.memo.lists c.least_trees-in-len1-up.new.memo.lists c.settle_all.new.lists c.in_ok-left-in-len1-up.left c.in-Some-2.right c.in_ok-settle_all-in-len1-up.field-0 c.product-choices.result
-    below c.in-Some.ensures.0 c.in-Some.ensures.1 c.in_ok-left-in-len1-up.ensures.answer c.in_ok-left-in-len1-up.ensures.more good c.product-choices.ensures c.in_ok-settle_all-in-len1-up.ensures.grid)
+    let good = subst P c.if-not-some.false c.in_ok-some-in-len1-up.ensures.all in
+    subst (λ l. IsGood (ground_of g k) s c.args.place (map pair_of l) c.settle_all.new.lists c.settle_all.new.grid) (sym e)
+    (beside-joined g k c.requires.ready c.args.place c.args.below (pair_of x) (map pair_of rest) s (demanded c.args.pins.now c.in-Some.first) so
+    c.beside.new.memo.lists c.least_trees-in-len1-up.new.memo.lists c.settle_all.new.lists c.grid-in-len1-up.result.now c.beside.new.all c.settle_all.new.grid c.product.new.best
+    below c.in-Some.ensures.0 c.in-Some.ensures.1 own c.in_ok-number-in-len1-up-2.ensures.more good c.product.ensures c.in_ok-settle_all-in-len1-up.ensures.grid)
 
 -- the rule of a number
 rule_here : (xs ys : List Rule) (n : ℕ) (r : Rule) → ys ≡ xs → n < length xs → r ≡ get_or ys n r → slice_get xs n ≡ Some r
 rule_here xs ys n r same low is = slice_get_read xs (length xs) n r refl low (subst (λ l. r ≡ get_or l n r) same is)
 
-pub beside-returns-then-allows_none-2-clause-grid : goal.beside-returns-then-allows_none-2-clause-grid
-beside-returns-then-allows_none-2-clause-grid t c =
+pub beside-returns-then-allows_none-clause-all : goal.beside-returns-then-allows_none-clause-all
+beside-returns-then-allows_none-clause-all t c =
     let g = c.args.grammar.now in
     let k = c.args.input.now in
     let xs = c.args.pieces.now in
@@ -123,9 +139,11 @@ beside-returns-then-allows_none-2-clause-grid t c =
     let s = demanded c.args.pins.now c.args.demand in
     let none : length rest ≡ 0 = search rules in
     let one : xs ≡ x ∷ [] = pieces-split xs d c.in-len1-up.len_at_least ∙ ap (λ l. x ∷ l) (nil_from_length rest none) in
-    subst (λ l. IsGood (ground_of g k) s c.args.place (map pair_of l) c.least_trees.new.memo.lists c.in_ok-least_trees-in-len1-up.field-0) (sym one)
-    (beside-one g k c.requires.ready c.args.place (pair_of x) s (demanded c.args.pins.now c.in-Some.first) (demanded c.args.pins.now c.in-Some.others) c.least_trees.new.memo.lists c.in_ok-least_trees-in-len1-up.field-0
-    c.in-Some.ensures.0 c.in-Some.ensures.1 (c.allows_none-then-is_empty.ensures.0 c.if-allows_none-2.true) c.in_ok-least_trees-in-len1-up.ensures.answer)
+    let asked : Asked = record { place = c.args.place; width = x.width; symbol = x.symbol; demand = c.in-Some.first } in
+    let own = answered g k c.args.pins.now c.least_trees.new.memo.lists c.least_trees.new.memo.found.items asked c.in_ok-number-in-len1-up.number c.grid.result.now c.in_ok-number-in-len1-up.ensures.answer c.grid.ensures in
+    subst (λ l. IsGood (ground_of g k) s c.args.place (map pair_of l) c.least_trees.new.memo.lists c.grid.result.now) (sym one)
+    (beside-one g k c.requires.ready c.args.place (pair_of x) s (demanded c.args.pins.now c.in-Some.first) (demanded c.args.pins.now c.in-Some.others) c.least_trees.new.memo.lists c.grid.result.now
+    c.in-Some.ensures.0 c.in-Some.ensures.1 (c.allows_none-then-is_empty.ensures.0 c.if-allows_none.true) own)
 
 pub by_cut-beside-requires : goal.by_cut-beside-requires
 by_cut-beside-requires t c =
@@ -138,62 +156,94 @@ by_cut-beside-requires t c =
     let long : length c.as_slice.result.now ≡ length (children c.index-rule.result.now.body c.args.asked.width) = sym (length-map c.as_slice.result.now pair_of) ∙ ap length pieces in
     let within = subst (λ qs. c.args.asked.place + sizes qs ≤ k.resolution) (sym pieces) (cut_sizes g k c.requires.ready c.args.asked c.requires.within c.args.number c.index-rule.result.now at c.requires.suits c.requires.cut) in
     let below = subst (AreBelow c.args.asked.width) (sym pieces) (cut_below g k c.requires.ready c.args.asked c.requires.within c.args.number c.index-rule.result.now at c.requires.suits c.requires.cut) in
-    and_then (omega (arith, few, long, c.decreases)) (and_then c.requires.ready (and_then below (and_then within c.requires.found)))
+    and_then (omega (arith, few, long, c.decreases)) (and_then c.requires.ready (and_then c.requires.spans (and_then below (and_then within (and_then c.requires.found c.no_entries-grid.ensures)))))
 
-pub by_cut-returns-in-None-clause-choices : goal.by_cut-returns-in-None-clause-choices
-by_cut-returns-in-None-clause-choices t c =
+pub by_cut-returns-then-not-some-clause-best : goal.by_cut-returns-then-not-some-clause-best
+by_cut-returns-then-not-some-clause-best t c =
     let g = c.args.grammar.now in
     let k = c.args.input.now in
+    let d = ground_of g k in
+    let q : ℕ × ℕ = (c.args.asked.width, c.args.asked.symbol) in
+    let ls = c.beside.new.memo.lists in
     let own : c.grammar.inside.rules.items ≡ g.rules = search rules in
     let at = rule_here g.rules c.grammar.inside.rules.items c.args.number c.index-rule.result.now own c.requires.number c.index-rule.ensures in
     let pieces : map pair_of c.as_slice.result.now ≡ children c.index-rule.result.now.body c.args.asked.width = ap (map pair_of) c.as_slice.ensures.value ∙ c.in_ok-pieces.ensures in
     let s = demanded c.args.pins.now c.args.asked.demand in
-    let none : AreBeside g k s c.args.asked.place (map pair_of c.as_slice.result.now) c.beside.new.memo.lists None = subst (AreBeside g k s c.args.asked.place (map pair_of c.as_slice.result.now) c.beside.new.memo.lists) c.in-None.is c.in_ok-grid.ensures.grid in
-    cut_stuck g k c.requires.ready c.args.asked c.requires.within c.args.number c.index-rule.result.now at c.requires.suits c.requires.cut c.args.pins.now c.beside.new.memo.lists
-    (subst (λ qs. AreBeside g k s c.args.asked.place qs c.beside.new.memo.lists None) pieces none)
+    let P : Bool → Type 0 = λ b. AreBeside g k s c.args.asked.place (map pair_of c.as_slice.result.now) ls (if b then Some c.beside.new.all else None) in
+    let none = subst P c.if-not-some.true c.in_ok-some.ensures.all in
+    let stuck = cut_stuck g k c.requires.ready c.args.asked c.requires.within c.args.number c.index-rule.result.now at c.requires.suits c.requires.cut c.args.pins.now ls
+    (subst (λ qs. AreBeside g k s c.args.asked.place qs ls None) pieces none) in
+    best-passed d s c.args.asked.place q c.args.number ls (choice_at c.args.best.now) stuck
+    (best-more d s c.args.asked.place q c.args.number c.args.memo.now.lists ls (choice_at c.args.best.now) c.in_ok-some.ensures.more c.requires.best)
 
-pub by_cut-topped_grid-requires : goal.by_cut-topped_grid-requires
-by_cut-topped_grid-requires t c =
+pub by_cut-offer_topped_grid-requires : goal.by_cut-offer_topped_grid-requires
+by_cut-offer_topped_grid-requires t c =
     let g = c.args.grammar.now in
     let k = c.args.input.now in
+    let d = ground_of g k in
+    let q : ℕ × ℕ = (c.args.asked.width, c.args.asked.symbol) in
+    let ls = c.beside.new.memo.lists in
     let own : c.grammar.inside.rules.items ≡ g.rules = search rules in
     let at = rule_here g.rules c.grammar.inside.rules.items c.args.number c.index-rule.result.now own c.requires.number c.index-rule.ensures in
     let pieces : map pair_of c.as_slice.result.now ≡ children c.index-rule.result.now.body c.args.asked.width = ap (map pair_of) c.as_slice.ensures.value ∙ c.in_ok-pieces.ensures in
     let s = demanded c.args.pins.now c.args.asked.demand in
-    let good : AreBeside g k s c.args.asked.place (map pair_of c.as_slice.result.now) c.beside.new.memo.lists (Some c.in-Some.grid) = subst (AreBeside g k s c.args.asked.place (map pair_of c.as_slice.result.now) c.beside.new.memo.lists) c.in-Some.is c.in_ok-grid.ensures.grid in
-    beside-cheap g k c.requires.ready s c.args.asked.place c.args.asked.width (map pair_of c.as_slice.result.now) c.beside.new.memo.lists c.in-Some.grid
+    let P : Bool → Type 0 = λ b. AreBeside g k s c.args.asked.place (map pair_of c.as_slice.result.now) ls (if b then Some c.beside.new.all else None) in
+    let good = subst P c.if-not-some.false c.in_ok-some.ensures.all in
+    beside-cheap g k c.requires.ready s c.args.asked.place c.args.asked.width (map pair_of c.as_slice.result.now) ls c.beside.new.all
     (subst (AreBelow c.args.asked.width) (sym pieces) (cut_below g k c.requires.ready c.args.asked c.requires.within c.args.number c.index-rule.result.now at c.requires.suits c.requires.cut))
     (subst (λ qs. c.args.asked.place + sizes qs ≤ k.resolution) (sym pieces) (cut_sizes g k c.requires.ready c.args.asked c.requires.within c.args.number c.index-rule.result.now at c.requires.suits c.requires.cut)) good
 
-pub by_cut-returns-clause-choices : goal.by_cut-returns-clause-choices
-by_cut-returns-clause-choices t c =
+pub by_cut-returns-clause-best : goal.by_cut-returns-clause-best
+by_cut-returns-clause-best t c =
     let g = c.args.grammar.now in
     let k = c.args.input.now in
+    let d = ground_of g k in
+    let q : ℕ × ℕ = (c.args.asked.width, c.args.asked.symbol) in
+    let ls = c.beside.new.memo.lists in
     let own : c.grammar.inside.rules.items ≡ g.rules = search rules in
     let at = rule_here g.rules c.grammar.inside.rules.items c.args.number c.index-rule.result.now own c.requires.number c.index-rule.ensures in
     let pieces : map pair_of c.as_slice.result.now ≡ children c.index-rule.result.now.body c.args.asked.width = ap (map pair_of) c.as_slice.ensures.value ∙ c.in_ok-pieces.ensures in
     let s = demanded c.args.pins.now c.args.asked.demand in
-    let good : AreBeside g k s c.args.asked.place (map pair_of c.as_slice.result.now) c.beside.new.memo.lists (Some c.in-Some.grid) = subst (AreBeside g k s c.args.asked.place (map pair_of c.as_slice.result.now) c.beside.new.memo.lists) c.in-Some.is c.in_ok-grid.ensures.grid in
-    cut_topped g k c.requires.ready c.args.asked c.requires.within c.args.number c.index-rule.result.now at c.requires.suits c.requires.cut c.args.pins.now c.beside.new.memo.lists c.in-Some.grid c.topped_grid.result
-    (subst (λ qs. IsGood (ground_of g k) s c.args.asked.place qs c.beside.new.memo.lists c.in-Some.grid) pieces good) c.topped_grid.ensures
+    let P : Bool → Type 0 = λ b. AreBeside g k s c.args.asked.place (map pair_of c.as_slice.result.now) ls (if b then Some c.beside.new.all else None) in
+    let good = subst P c.if-not-some.false c.in_ok-some.ensures.all in
+    let topped = cut_topped g k c.requires.ready c.args.asked c.requires.within c.args.number c.index-rule.result.now at c.requires.suits c.requires.cut c.args.pins.now ls c.beside.new.all
+    (subst (λ qs. IsGood d s c.args.asked.place qs ls c.beside.new.all) pieces good) in
+    let old = best-more d s c.args.asked.place q c.args.number c.args.memo.now.lists ls (choice_at c.args.best.now) c.in_ok-some.ensures.more c.requires.best in
+    best-offered d s c.args.asked.place q c.args.number ls (λ a b. topped_of c.index-rule.result.now.weight c.args.number (entry_at c.beside.new.all a b)) c.args.best.now c.offer_topped_grid.new.best old topped c.offer_topped_grid.ensures
 
-leaf_answer : (g : Rulebook) (k : Cell) (os : List Outline) (ls : List (List ℕ)) (asked : Asked) (r : ℕ) (rule : Rule) → slice_get g.rules r ≡ Some rule → suits (Some rule) (asked.width, asked.symbol) ≡ true → is_cut rule.body ≡ false
-    → g.resolution ≡ k.resolution → (leaf : Option LeafHere) → MatchOption leaf (HasNoLeaf g k os asked) (IsLeafHere g k os asked) → (o : Option (List (List (Option Choice))))
-    → MatchOption o (leaf ≡ None) (λ choices. (l : LeafHere) × (leaf ≡ Some l) × IsLeafChoices rule r l choices) → AreChoicesFor g k os ls asked r o
-leaf_answer g k os ls asked r rule at suit bare units leaf there None h =
-    let P : Option LeafHere → Type 0 = λ o. MatchOption o (HasNoLeaf g k os asked) (IsLeafHere g k os asked) in
-    no_leaf_tree g k os asked r rule at suit bare (subst P h there)
-leaf_answer g k os ls asked r rule at suit bare units leaf there (Some choices) h =
-    let P : Option LeafHere → Type 0 = λ o. MatchOption o (HasNoLeaf g k os asked) (IsLeafHere g k os asked) in
-    leaf-choices g k os asked r rule at suit bare units ls h.0 choices (subst P h.1 there) h.2
+-- what a leaf offers is taken in
+leaf_offered : (g : Rulebook) (k : Cell) (os : List Outline) (ls : List (List ℕ)) (asked : Asked) (r : ℕ) (rule : Rule) → slice_get g.rules r ≡ Some rule → suits (Some rule) (asked.width, asked.symbol) ≡ true → is_cut rule.body ≡ false
+    → g.resolution ≡ k.resolution → (leaf : Option LeafHere) → MatchOption leaf (HasNoLeaf g k os asked) (IsLeafHere g k os asked) → (old new : List (List (Option Choice)))
+    → MatchOption leaf (new ≡ old) (λ l. Offers (leaf_choice rule r l) old new) → AreBest g k os ls asked r old → AreBest g k os ls asked (r + 1) new
+leaf_offered g k os ls asked r rule at suit bare units None there old new h best =
+    let d = ground_of g k in
+    let s = demanded os asked.demand in
+    let q : ℕ × ℕ = (asked.width, asked.symbol) in
+    subst (λ t. IsBestBelow d s asked.place q (r + 1) ls (choice_at t)) (sym h) (best-passed d s asked.place q r ls (choice_at old) (no_leaf_tree g k os asked r rule at suit bare there) best)
+leaf_offered g k os ls asked r rule at suit bare units (Some l) there old new h best =
+    let d = ground_of g k in
+    let s = demanded os asked.demand in
+    let q : ℕ × ℕ = (asked.width, asked.symbol) in
+    best-offered d s asked.place q r ls (leaf_choice rule r l) old new best (leaf-choices g k os asked r rule at suit bare units ls l there) h
 
-pub by_rule-returns-then-not-is_cut-clause-choices : goal.by_rule-returns-then-not-is_cut-clause-choices
-by_rule-returns-then-not-is_cut-clause-choices t c =
+pub by_rule-returns-then-not-is_cut-clause-best : goal.by_rule-returns-then-not-is_cut-clause-best
+by_rule-returns-then-not-is_cut-clause-best t c =
     let g = c.args.grammar.now in
     let own : c.grammar.inside.rules.items ≡ g.rules = search rules in
     let at = rule_here g.rules c.grammar.inside.rules.items c.args.number c.index-rule.result.now own c.requires.number c.index-rule.ensures in
-    leaf_answer g c.args.input.now c.args.pins.now c.args.memo.now.lists c.args.asked c.args.number c.index-rule.result.now at (sym c.suits.ensures ∙ c.if-not-suits.false) (sym c.is_cut.ensures ∙ c.if-not-is_cut.true)
-    c.requires.ready.units c.args.leaf c.requires.leaf c.by_leaf.result c.by_leaf.ensures
+    leaf_offered g c.args.input.now c.args.pins.now c.args.memo.now.lists c.args.asked c.args.number c.index-rule.result.now at (sym c.suits.ensures ∙ c.if-not-suits.false) (sym c.is_cut.ensures ∙ c.if-not-is_cut.true)
+    c.requires.ready.units c.args.leaf c.requires.leaf c.args.best.now c.offer_by_leaf.new.best c.offer_by_leaf.ensures c.requires.best
+
+pub by_rule-returns-then-not-suits-clause-best : goal.by_rule-returns-then-not-suits-clause-best
+by_rule-returns-then-not-suits-clause-best t c =
+    let g = c.args.grammar.now in
+    let d = ground_of g c.args.input.now in
+    let pin = demanded c.args.pins.now c.args.asked.demand in
+    let q : ℕ × ℕ = (c.args.asked.width, c.args.asked.symbol) in
+    let own : c.grammar.inside.rules.items ≡ g.rules = search rules in
+    let at = rule_here g.rules c.grammar.inside.rules.items c.args.number c.index-rule.result.now own c.requires.number c.index-rule.ensures in
+    let off = ap (λ o. suits o q) at ∙ sym c.suits.ensures ∙ c.if-not-suits.true in
+    best-passed d pin c.args.asked.place q c.args.number c.args.memo.now.lists (choice_at c.args.best.now) (λ a b. unsuited-least d pin c.args.asked.place q c.args.number a b off) c.requires.best
 
 pub by_rule-by_cut-requires : goal.by_rule-by_cut-requires
 by_rule-by_cut-requires t c =
@@ -202,44 +252,7 @@ by_rule-by_cut-requires t c =
     let at = rule_here g.rules c.grammar.inside.rules.items c.args.number c.index-rule.result.now own c.requires.number c.index-rule.ensures in
     let suit = ap (λ o. suits o (c.args.asked.width, c.args.asked.symbol)) at ∙ sym c.suits.ensures ∙ c.if-not-suits.false in
     let cuts = ap cut_of at ∙ sym c.is_cut.ensures ∙ c.if-not-is_cut.false in
-    and_then (omega (arith, c.decreases)) (and_then c.requires.ready (and_then c.requires.within (and_then c.requires.number (and_then suit (and_then cuts c.requires.found)))))
-
-no_choice : (b : ℕ) → b < 5 → choice_in (None ∷ None ∷ None ∷ None ∷ None ∷ []) b ≡ None
-no_choice b low = each_of_five (λ b o. o ≡ None) None None None None None None refl refl refl refl refl b low
-
-pub by_rules-loop-number-init : goal.by_rules-loop-number-init
-by_rules-loop-number-init t c = record {
-  more = Extends-same c.args.memo.now.lists;
-  found = c.requires.found;
-  best =
-      best-none _ _ _ _ _ _
-      (λ a b la lb. each_of_five (λ a row. choice_in row b ≡ None) _ _ _ _ _ [] (no_choice b lb) (no_choice b lb) (no_choice b lb) (no_choice b lb) (no_choice b lb) a la);
-}
-
-pub by_rules-loop-number-preserved : goal.by_rules-loop-number-preserved
-by_rules-loop-number-preserved t c =
-    let g = c.args.grammar.now in
-    let k = c.args.input.now in
-    let d = ground_of g k in
-    let pin = demanded c.args.pins.now c.args.asked.demand in
-    let old = best-more d pin c.args.asked.place (c.args.asked.width, c.args.asked.symbol) c.loop-number.number c.loop-number.memo.lists c.by_rule.new.memo.lists (choice_at c.loop-number.best) c.in_ok-next.ensures.more c.loop-number.invariant.best in
-    let next : suc c.loop-number.number ≡ c.loop-number.number + 1 = omega arith in
-    record {
-      more = Extends-then c.args.memo.now.lists c.loop-number.memo.lists c.by_rule.new.memo.lists c.loop-number.invariant.more c.in_ok-next.ensures.more;
-      found = c.in_ok-next.ensures.found;
-      best = elim c.match-next.branch [
-        | by_rules-in-Some w ↦
-            let new = subst (AreChoicesFor g k c.args.pins.now c.by_rule.new.memo.lists c.args.asked c.loop-number.number) w.in-Some.is c.in_ok-next.ensures.choices in
-            subst (λ n. IsBestBelow d pin c.args.asked.place (c.args.asked.width, c.args.asked.symbol) n c.by_rule.new.memo.lists (choice_at c.match-next.best)) next
-            (best-next d pin c.args.asked.place (c.args.asked.width, c.args.asked.symbol) c.loop-number.number c.by_rule.new.memo.lists (choice_at c.loop-number.best) (choice_at w.in-Some.next) (choice_at c.match-next.best) old new
-            (λ a b la lb. ap (λ t. choice_at t a b) w.best-is ∙ w.nearer_choices-best.ensures a b la lb))
-        | by_rules-in_default w ↦
-            let none = subst (AreChoicesFor g k c.args.pins.now c.by_rule.new.memo.lists c.args.asked c.loop-number.number) (none_of c.in_ok-next.next w.in_default.not-Some) c.in_ok-next.ensures.choices in
-            subst (λ n. IsBestBelow d pin c.args.asked.place (c.args.asked.width, c.args.asked.symbol) n c.by_rule.new.memo.lists (choice_at c.match-next.best)) next
-            (subst (λ t. IsBestBelow d pin c.args.asked.place (c.args.asked.width, c.args.asked.symbol) (suc c.loop-number.number) c.by_rule.new.memo.lists (choice_at t)) (sym w.best-is)
-            (best-skip d pin c.args.asked.place (c.args.asked.width, c.args.asked.symbol) c.loop-number.number c.by_rule.new.memo.lists (choice_at c.loop-number.best) none old))
-      ];
-    }
+    and_then (omega (arith, c.decreases)) (and_then c.requires.ready (and_then c.requires.spans (and_then c.requires.within (and_then c.requires.number (and_then suit (and_then cuts (and_then c.requires.found c.requires.best)))))))
 
 -- a rule of another symbol
 other_symbol : (rules : List Rule) (r : ℕ) (rule : Rule) (w s : ℕ) → slice_get rules r ≡ Some rule → rule.lhs ≢ s → suits (slice_get rules r) (w, s) ≡ false
@@ -247,41 +260,90 @@ other_symbol rules r rule w s at other =
     let off : rule.lhs == s ≡ false = grind (arith, nat_tests) in
     ap (λ o. suits o (w, s)) at ∙ ap (λ b. b && can_cut rule.body w) off
 
+-- no rule outside the span is one of the symbol
+outside : (g : Rulebook) (k : Cell) (os : List Outline) (asked : Asked) (first last j : ℕ) → IsSpan g.rules asked.symbol first last → j < length g.rules → ((first ≤ j) → (j < last) → ⊥)
+    → HasNoTree (ground_of g k) (demanded os asked.demand) asked.place (asked.width, asked.symbol) j
+outside g k os asked first last j span low out a b =
+    let d : Rule = record { lhs = 0; weight = 0; body = Note } in
+    let at = slice_get-get_or g.rules j d low in
+    unsuited-least (ground_of g k) (demanded os asked.demand) asked.place (asked.width, asked.symbol) j a b
+    (other_symbol g.rules j (get_or g.rules j d) asked.width asked.symbol at (λ same. let h = span j d low same in out h.0 h.1))
+
+pub by_rules-loop-number-init : goal.by_rules-loop-number-init
+by_rules-loop-number-init t c =
+    let g = c.args.grammar.now in
+    let k = c.args.input.now in
+    let os = c.args.pins.now in
+    let asked = c.args.asked in
+    let first = c.span-span.result.first in
+    let last = c.span-span.result.end in
+    let low = c.span-span.ensures.within in
+    let P : ℕ → Type 0 = λ n. AreBest g k os c.args.memo.now.lists asked n c.args.best.now in
+    let from_none : 0 + first ≡ first = omega arith in
+    record {
+      more = Extends-same c.args.memo.now.lists;
+      found = c.requires.found;
+      best = subst P from_none (best-jumped (ground_of g k) (demanded os asked.demand) asked.place (asked.width, asked.symbol) first 0 c.args.memo.now.lists (choice_at c.args.best.now)
+          (λ j from below. outside g k os asked first last j c.span-span.ensures.each (omega (arith, below, low.0, low.1)) (λ le lt. omega (arith, le, below))) c.requires.best);
+    }
+
+pub by_rules-returns-clause-best : goal.by_rules-returns-clause-best
+by_rules-returns-clause-best t c =
+    let g = c.args.grammar.now in
+    let k = c.args.input.now in
+    let os = c.args.pins.now in
+    let asked = c.args.asked in
+    let first = c.span-span.result.first in
+    let last = c.span-span.result.end in
+    let low = c.span-span.ensures.within in
+    let at : c.loop-number.number ≡ last = search rules in
+    let ls = c.loop-number.memo.lists in
+    let P : ℕ → Type 0 = λ n. AreBest g k os ls asked n c.loop-number.best in
+    let whole : c.loop-number.number + (length g.rules - c.loop-number.number) ≡ length g.rules = omega (arith, at, low.1) in
+    subst P whole
+    (best-jumped (ground_of g k) (demanded os asked.demand) asked.place (asked.width, asked.symbol) (length g.rules - c.loop-number.number) c.loop-number.number ls (choice_at c.loop-number.best)
+    (λ j from below. outside g k os asked first last j c.span-span.ensures.each (omega (arith, below, whole)) (λ le lt. omega (arith, from, lt, at))) c.loop-number.invariant.best)
+
 pub by_rules-loop-number-preserved-then-index-asked : goal.by_rules-loop-number-preserved-then-index-asked
 by_rules-loop-number-preserved-then-index-asked t c =
     let g = c.args.grammar.now in
     let d = ground_of g c.args.input.now in
     let pin = demanded c.args.pins.now c.args.asked.demand in
+    let q : ℕ × ℕ = (c.args.asked.width, c.args.asked.symbol) in
     let own : c.grammar.inside.rules.items ≡ g.rules = search rules in
     let low : c.loop-number.number < length g.rules = search rules in
     let at = rule_here g.rules c.grammar.inside.rules.items c.loop-number.number c.index.result.now own low c.index.ensures in
     let other = other_symbol g.rules c.loop-number.number c.index.result.now c.args.asked.width c.args.asked.symbol at c.if-index-asked.true in
-    let next : suc c.loop-number.number ≡ c.loop-number.number + 1 = omega arith in
     record {
       more = c.loop-number.invariant.more;
       found = c.loop-number.invariant.found;
-      best =
-          subst (λ n. IsBestBelow d pin c.args.asked.place (c.args.asked.width, c.args.asked.symbol) n c.loop-number.memo.lists (choice_at c.loop-number.best)) next
-          (best-skip d pin c.args.asked.place (c.args.asked.width, c.args.asked.symbol) c.loop-number.number c.loop-number.memo.lists (choice_at c.loop-number.best)
-          (λ a b. unsuited-least d pin c.args.asked.place (c.args.asked.width, c.args.asked.symbol) c.loop-number.number a b other) c.loop-number.invariant.best);
+      best = best-passed d pin c.args.asked.place q c.loop-number.number c.loop-number.memo.lists (choice_at c.loop-number.best) (λ a b. unsuited-least d pin c.args.asked.place q c.loop-number.number a b other) c.loop-number.invariant.best;
     }
+
+pub least_trees-by_rules-requires : goal.least_trees-by_rules-requires
+least_trees-by_rules-requires t c =
+    let best : AreBest c.args.grammar.now c.args.input.now c.args.pins.now c.args.memo.now.lists c.args.asked 0 c.no_choices-best.result = best-none _ _ _ _ _ _ c.no_choices-best.ensures in
+    and_then (omega (arith, c.decreases)) (and_then c.requires.ready (and_then c.requires.spans (and_then c.requires.within (and_then c.leaf_here-leaf.ensures.leaf (and_then c.leaf_here-leaf.ensures.small (and_then c.requires.found best))))))
 
 pub least_trees-returns-clause-found : goal.least_trees-returns-clause-found
 least_trees-returns-clause-found t c =
     let g = c.args.grammar.now in
     let k = c.args.input.now in
     let os = c.args.pins.now in
-    let own : IsAnswer g k os c.settle_all.new.lists c.args.asked c.in_ok-grid.grid =
-    best-settled (ground_of g k) (demanded os c.args.asked.demand) c.args.asked.place (c.args.asked.width, c.args.asked.symbol) c.by_rules.new.memo.lists c.settle_all.new.lists c.in_ok-choices.choices c.in_ok-grid.grid c.in_ok-choices.ensures.choices c.in_ok-grid.ensures.grid in
-    subst (λ ls. AreFound g k os ls c.keep.new.self.found.items) (sym c.in_ok-keep.ensures.0)
-    (found-add g k os c.settle_all.new.lists c.by_rules.new.memo.found.items c.keep.new.self.found.items c.args.asked c.in_ok-grid.grid c.in_ok-keep.ensures.1
-    (found-more g k os c.by_rules.new.memo.lists c.settle_all.new.lists c.by_rules.new.memo.found.items c.in_ok-grid.ensures.more c.in_ok-choices.ensures.found) own)
+    let grid = c.settle_all.new.grid in
+    let own : IsAnswer g k os c.settle_all.new.lists c.args.asked grid =
+    best-settled (ground_of g k) (demanded os c.args.asked.demand) c.args.asked.place (c.args.asked.width, c.args.asked.symbol) c.by_rules.new.memo.lists c.settle_all.new.lists c.by_rules.new.best grid c.in_ok-by_rules.ensures.best c.in_ok-settle_all.ensures.grid in
+    subst (λ ls. AreFound g k os ls c.keep.new.self.found.items) (sym c.in_ok-number.ensures.lists)
+    (found-add g k (grounded g k c.requires.ready) os c.settle_all.new.lists c.by_rules.new.memo.found.items c.keep.new.self.found.items c.family_of-family.result c.args.asked grid c.requires.within c.family_of-family.ensures c.in_ok-number.ensures.found
+    (found-more g k os c.by_rules.new.memo.lists c.settle_all.new.lists c.by_rules.new.memo.found.items c.in_ok-settle_all.ensures.more c.in_ok-by_rules.ensures.found) own)
 
 pub least_trees-returns-clause-answer : goal.least_trees-returns-clause-answer
 least_trees-returns-clause-answer t c =
     let g = c.args.grammar.now in
     let k = c.args.input.now in
     let os = c.args.pins.now in
-    let own : IsAnswer g k os c.settle_all.new.lists c.args.asked c.in_ok-grid.grid =
-    best-settled (ground_of g k) (demanded os c.args.asked.demand) c.args.asked.place (c.args.asked.width, c.args.asked.symbol) c.by_rules.new.memo.lists c.settle_all.new.lists c.in_ok-choices.choices c.in_ok-grid.grid c.in_ok-choices.ensures.choices c.in_ok-grid.ensures.grid in
-    subst (λ ls. IsAnswer g k os ls c.args.asked c.in_ok-grid.grid) (sym c.in_ok-keep.ensures.0) own
+    let grid = c.settle_all.new.grid in
+    let own : IsAnswer g k os c.settle_all.new.lists c.args.asked grid =
+    best-settled (ground_of g k) (demanded os c.args.asked.demand) c.args.asked.place (c.args.asked.width, c.args.asked.symbol) c.by_rules.new.memo.lists c.settle_all.new.lists c.by_rules.new.best grid c.in_ok-by_rules.ensures.best c.in_ok-settle_all.ensures.grid in
+    subst (λ ls. IsAnswerAt g k os ls c.keep.new.self.found.items c.args.asked c.in_ok-number.number) (sym c.in_ok-number.ensures.lists)
+    (found-last g k (grounded g k c.requires.ready) os c.settle_all.new.lists c.by_rules.new.memo.found.items c.keep.new.self.found.items c.family_of-family.result c.args.asked grid c.in_ok-number.number c.in_ok-number.ensures.found c.in_ok-number.ensures.number own)

@@ -1,8 +1,5 @@
 use Rattle.std.proofs.Common.{◌+◌, ◌*◌, length}
-use Rattle.least_cost.specs.Entries.{choice_at}
-use Rattle.least_cost.specs.Nodes.{AreFound, ground_of}
-use Rattle.least_cost.specs.Pins.{demanded}
-use Rattle.least_cost.specs.RuleChoices.{IsBestBelow}
+use Rattle.least_cost.specs.Nodes.{AreBest, AreFound}
 use Rattle.least_cost.specs.RuleLists.{Extends}
 use Rattle.least_cost.proofs.trees.+trees.Given as goal
 
@@ -25,5 +22,5 @@ abbrev pub invariant-by_rules-loop-number : goal.invariant-by_rules-loop-number
 invariant-by_rules-loop-number l = record {
   more : Extends l.initial.memo.lists l.memo.lists;
   found : AreFound l.grammar l.input l.pins l.memo.lists l.memo.found.items;
-  best : IsBestBelow (ground_of l.grammar l.input) (demanded l.pins l.asked.demand) l.asked.place (l.asked.width, l.asked.symbol) l.number l.memo.lists (choice_at l.best);
+  best : AreBest l.grammar l.input l.pins l.memo.lists l.asked l.number l.best;
 }

@@ -14,5 +14,5 @@ pub returns-in_ok-push-in_default-clause-text : goal.returns-in_ok-push-in_defau
 returns-in_ok-push-in_default-clause-text c = λ x h.
     let P : List (List ℕ) → Type 0 = λ ls. HasRope ls c.args.rope x in
     let next : c.push.new.self.items ≡ c.self.inside.ropes.items ++ c.args.rope ∷ [] = search rules in
-    let at : c.len-number.result ≡ length c.self.inside.ropes.items = search rules in
-    (kept_rope c.self.inside.ropes.items c.push.new.self.items c.args.rope c.len-number.result x next at (subst P (sym c.self.view_is) h)).1
+    let at : c.in_ok-number-in_default.number ≡ length c.self.inside.ropes.items = search rules in
+    (kept_rope c.self.inside.ropes.items c.push.new.self.items c.args.rope c.in_ok-number-in_default.number x next at (subst P (sym c.self.view_is) h)).1
