@@ -1,5 +1,5 @@
 -- The shapes that a pin demands, kept in a list from which each part of the pin is named by a number.
-use Rattle.std.specs.Prelude.{◌≡◌, ⊤, ℕ, ◌<◌, nat_lt, if◌then◌else◌, List, [], ◌∷◌, ◌++◌, length, slice_index_or, Option, Some, None}
+use Rattle.std.specs.Prelude.{◌≡◌, ℕ, ◌<◌, nat_lt, if◌then◌else◌, List, [], ◌∷◌, ◌++◌, length, slice_index_or, Option, Some, None}
 use Rattle.rhythm_base.specs.Outline.{Outline, end, part}
 use Rattle.least_cost.specs.declared.pins.PinPart.{PinPart}
 use Rattle.least_cost.specs.declared.pins.Demand.{Demand}
@@ -28,12 +28,6 @@ abbrev pub demanded : List Outline → Demand → Option Outline
 demanded os Any = None
 demanded os Nothing = Some end
 demanded os (Shapes i) = Some (slice_index_or os i end)
-
--- what is demanded is kept
-abbrev pub IsKnown : List Outline → Demand → Type 0
-IsKnown os Any = ⊤
-IsKnown os Nothing = ⊤
-IsKnown os (Shapes i) = i < length os
 
 -- nothing was lost, and outlines were added behind
 abbrev pub Grows : List Outline → List Outline → Type 0

@@ -1,6 +1,6 @@
 ghost use Rattle.least_cost.specs.Memos.{AddsFound, HasFound};
 ghost use Rattle.least_cost.specs.declared.memo.Found.{Found};
-ghost use Rattle.std.specs.Prelude.{◌≡◌, ◌<◌, [], length, slice_get, IfOk, IfSome, OnOk, Some};
+ghost use Rattle.std.specs.Prelude.{◌≡◌, ◌<◌, ◌+◌, ◌*◌, [], length, max, slice_get, IfOk, IfSome, OnOk, Some};
 
 use crate::entry::Grid;
 use crate::pins::Demand;
@@ -83,6 +83,7 @@ impl Memo {
     /// Nothing yet, for a bar of so many units.
     pub fn new(alloc: Global, units: u16) -> Result<Memo, AllocError>
         ensures nothing { IfOk result (λ m. (m.lists ≡ []) × (m.found.items ≡ [])) }
+        ensures buckets { IfOk result (λ m. length m.latest.items ≡ 4 * max units 512 + 1) }
     {
         let buckets = 4 * (units as usize).max(512) + 1;
         Ok(Memo {
