@@ -13,6 +13,7 @@ use Rattle.rhythm_base.specs.Cells.{has_onset, last_end, moved}
 use Rattle.rhythm_base.specs.Leaves.{Measure, soundings}
 use Rattle.rhythm_base.specs.Line.{Rising}
 use Rattle.rhythm_laws.proofs.OrderedLists.{all_cons, all_head, all_tail}
+use Rattle.rhythm_laws.proofs.Reading.{last_end-append}
 use Rattle.bar_cut.specs.Cuts.{AreInside, Rises, moved_all}
 
 abbrev pub is_before : ℕ → Chord → Bool
@@ -129,10 +130,6 @@ own bar t (c ∷ cs) end =
     by false b is same = same
 
 -- ---- the chord before a barline
-
-last_end-append : (e : ℕ) (xs ys : List ℕ) → last_end e (xs ++ ys) ≡ last_end (last_end e xs) ys
-last_end-append e [] ys = refl
-last_end-append e (x ∷ xs) ys = last_end-append x xs ys
 
 -- those before a tick are those before an earlier one, and then those between
 before-parts : (s t low : ℕ) (cs : List Chord) → s ≤ t → Rises low cs → filter (is_before t) cs ≡ filter (is_before s) cs ++ filter (is_before t) (filter (is_from s) cs)

@@ -2,6 +2,7 @@
 use Rattle.std.specs.Prelude.{◌≡◌, ℕ, zero, suc, ◌+◌, ◌*◌, ◌%◌, ◌≤◌, Bool, true, false, ◌==◌, ◌&&◌, if◌then◌else◌, List, [], ◌∷◌, ◌++◌, slice_get, Option, Some, None, ⊤}
 use Rattle.rhythm_base.specs.declared.sound.SoundKind.{SoundKind}
 use Rattle.rhythm_base.specs.declared.sound.SoundKind.TheVariants.{Begin, Short, Tie, Rest}
+use Rattle.rhythm_base.specs.Spans.{is_tie}
 use Rattle.durations.specs.declared.value.Recip.TheVariants.{Of}
 use Rattle.durations.specs.declared.value.Value.{Value}
 use Rattle.durations.specs.declared.joined.Timed.{Timed}
@@ -13,12 +14,6 @@ use Rattle.durations.specs.Values.{AreValues}
 pub record IsTimed (whole : ℕ) (leaf : Timed) : Type 0 where
   pub some : 1 ≤ leaf.len
   pub few : leaf.len ≤ 64 * whole
-
-abbrev pub is_tie : SoundKind → Bool
-is_tie Begin = false
-is_tie Short = false
-is_tie Tie = true
-is_tie Rest = false
 
 abbrev pub begins_or_ties : SoundKind → Bool
 begins_or_ties Begin = true
