@@ -23,7 +23,7 @@ use rhythm_base::{BarInput, Best, Grammar, RuleList, Shape, Tag};
 use std::alloc::{AllocError, Global};
 
 /// Builds the table of the least trees of one bar of one voice. It takes one step. It keeps what it finds of each symbol over
-/// each interval of the bar for as long as it works, so that none is searched twice.
+/// each interval of the bar for as long as it works, and searches intervals that are answered alike once.
 pub fn build_cell<B: Tag>(
     alloc: Global,
     grammar: &Grammar,
@@ -37,6 +37,7 @@ pub fn build_cell<B: Tag>(
     ensures table { IfOk result (IsTable grammar.now) }
 {
     builds.tick();
+    // An accessor's contract tells that the input is well formed.
     let _start = input.start();
     build(alloc, grammar, input)
 }

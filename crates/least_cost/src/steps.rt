@@ -29,7 +29,7 @@ impl<B: Tag> Steps<B> {
         }
     }
 
-    /// The number of products so far.
+    /// The number of builds so far.
     pub fn count(&self) -> u64
         ensures { result ≡ self.now }
     {
