@@ -1,17 +1,13 @@
 -- The barlines of a voice, and its bars from one of them on.
-use Rattle.std.proofs.Common.{◌≡◌, ℕ, zero, suc, ◌+◌, ◌<◌, ◌≤◌, List, [], ◌∷◌, length, drop, take, get_or, subst, refl, ap, ◌∙◌, arith, inl, inr, ◌⊎◌}
+use Rattle.std.proofs.Common.{◌≡◌, ℕ, zero, suc, ◌+◌, ◌<◌, List, [], ◌∷◌, length, drop, take, get_or, subst, refl, ap, ◌∙◌, arith}
 use Rattle.std.specs.Prelude.{All}
-use Rattle.std.specs.List.Sorted.{IsStrictlyIncreasing}
-use Rattle.std.proofs.lemmas.Bool.{cases_order}
-use Rattle.std.proofs.lemmas.List.{length-map}
 use Rattle.rhythm_base.specs.declared.note.Bar.{Bar}
 use Rattle.rhythm_base.specs.declared.pin.Pin.{Pin}
-use Rattle.rhythm_base.specs.Edits.{barline}
-use Rattle.rhythm_base.specs.Rulebook.{Rulebook}
-use Rattle.rhythm_base.specs.Voices.{measure_of, measures_from}
+use Rattle.rhythm_base.specs.Barlines.{barline}
+use Rattle.rhythm_base.specs.Grammar.{Grammar}
+use Rattle.rhythm_base.specs.Voices.{voice_bar, voice_bars_from}
 use Rattle.std.proofs.lemmas.List.Elements.{All-nil}
 use Rattle.rhythm_laws.proofs.OrderedLists.{all_cons, all_head, all_tail}
-use Rattle.rhythm_laws.proofs.EditedBars.{barline_is, barline_last, start_all, starts}
 
 pub barline-drop : (bars : List Bar) (last n : ℕ) → barline (drop n bars) last 0 ≡ barline bars last n
 barline-drop [] last zero = refl
@@ -30,35 +26,14 @@ starts_at (b ∷ bars) last zero d lt = refl
 starts_at (b ∷ bars) last (suc n) d lt = starts_at bars last n d (omega (arith, lt))
 
 -- the bars from a number on are that bar and those from the next number on
-pub measures-next : (g : Rulebook) (pins : List Pin) (channel last n : ℕ) (bars : List Bar) (d : Bar) → n < length bars
-    → measures_from g pins channel last n (drop n bars)
-    ≡ measure_of g pins channel n (get_or bars n d) (barline bars last (n + 1)) ∷ measures_from g pins channel last (n + 1) (drop (n + 1) bars)
+pub measures-next : (g : Grammar) (pins : List Pin) (channel last n : ℕ) (bars : List Bar) (d : Bar) → n < length bars
+    → voice_bars_from g pins channel last n (drop n bars)
+    ≡ voice_bar g pins channel n (get_or bars n d) (barline bars last (n + 1)) ∷ voice_bars_from g pins channel last (n + 1) (drop (n + 1) bars)
 measures-next g pins channel last n bars d lt =
     let one : suc n ≡ n + 1 = omega arith in
-    ap (measures_from g pins channel last n) (drop-next bars n d lt)
-    ∙ ap (λ k. measure_of g pins channel n (get_or bars n d) (barline (drop k bars) last 0) ∷ measures_from g pins channel last k (drop k bars)) one
-    ∙ ap (λ t. measure_of g pins channel n (get_or bars n d) t ∷ measures_from g pins channel last (n + 1) (drop (n + 1) bars)) (barline-drop bars last (n + 1))
-
-below : (a b : ℕ) → (a < b) ⊎ (b ≤ a)
-below a b = elim (cases_order a b) [ inl same ↦ inr (omega (arith, same)) | inr other ↦ elim other [ inl less ↦ inl less | inr back ↦ inr (omega (arith, back)) ] ]
-
--- the barline behind a bar is behind its start, and not behind the last one
-pub barlines_rise : (bars : List Bar) (last n : ℕ) → IsStrictlyIncreasing (starts bars) → All (λ b. b.start < last) bars → n < length bars
-    → (barline bars last n < barline bars last (n + 1)) × (barline bars last (n + 1) ≤ last)
-barlines_rise bars last n up before lt = by (below (n + 1) (length bars))
-  where
-    by : (n + 1 < length bars) ⊎ (length bars ≤ n + 1) → (barline bars last n < barline bars last (n + 1)) × (barline bars last (n + 1) ≤ last)
-    by (inl inside) =
-        let here = barline_is bars last n lt in
-        let next = barline_is bars last (n + 1) inside in
-        let rise = up n (omega (arith, inside, length-map bars (λ b. b.start))) in
-        let most = start_all (λ s. s < last) bars before (n + 1) inside in
-        (omega (arith, here, next, rise), omega (arith, next, most))
-    by (inr end) =
-        let here = barline_is bars last n lt in
-        let next = barline_last bars last (n + 1) end in
-        let most = start_all (λ s. s < last) bars before n lt in
-        (omega (arith, here, next, most), omega (arith, next))
+    ap (voice_bars_from g pins channel last n) (drop-next bars n d lt)
+    ∙ ap (λ k. voice_bar g pins channel n (get_or bars n d) (barline (drop k bars) last 0) ∷ voice_bars_from g pins channel last k (drop k bars)) one
+    ∙ ap (λ t. voice_bar g pins channel n (get_or bars n d) t ∷ voice_bars_from g pins channel last (n + 1) (drop (n + 1) bars)) (barline-drop bars last (n + 1))
 
 -- what holds of the first bars and of the next one holds of one bar more
 pub All-take-next : (P : Bar → Type 0) (bars : List Bar) (n : ℕ) (d : Bar) → n < length bars → All P (take n bars) → P (get_or bars n d) → All P (take (n + 1) bars)

@@ -4,8 +4,8 @@ use Rattle.std.specs.Prelude.{find, if◌then◌else◌}
 use Rattle.std.specs.Option.{option_map}
 use Rattle.rhythm_base.specs.declared.chord.Chord.{Chord}
 use Rattle.rhythm_base.specs.declared.grammar.Start.{Start}
-use Rattle.rhythm_base.specs.Cells.{last_end}
-use Rattle.rhythm_base.specs.Rulebook.{root_of}
+use Rattle.rhythm_base.specs.Lists.{last_end}
+use Rattle.rhythm_base.specs.Grammar.{root_of}
 
 pub root-find : (starts : List Start) (num den : ℕ) → option_map (λ s. s.symbol) (find (λ s. (s.num == num) && (s.den == den)) starts) ≡ root_of starts num den
 root-find [] num den = refl

@@ -8,9 +8,10 @@ use Rattle.std.proofs.lemmas.List.{map-append}
 use Rattle.std.proofs.lemmas.List.Elements.{All-nil}
 use Rattle.rhythm_base.specs.declared.chord.Chord.{Chord}
 use Rattle.rhythm_base.specs.declared.inner.Inner.{Inner}
-use Rattle.rhythm_base.specs.Cell.{IsInner}
-use Rattle.rhythm_base.specs.Cells.{has_onset, last_end, moved}
-use Rattle.rhythm_base.specs.Leaves.{Measure, soundings}
+use Rattle.rhythm_base.specs.BarInput.{IsInner}
+use Rattle.rhythm_base.specs.Lists.{last_end}
+use Rattle.rhythm_base.specs.Cells.{has_onset, within_bar}
+use Rattle.rhythm_base.specs.Leaves.{VoiceBar, soundings}
 use Rattle.rhythm_base.specs.Line.{Rising}
 use Rattle.rhythm_laws.proofs.OrderedLists.{all_cons, all_head, all_tail}
 use Rattle.rhythm_laws.proofs.Reading.{last_end-append}
@@ -105,12 +106,12 @@ from-from s t (c ∷ cs) le = by (is_from s c) (is_from t c) refl refl (from-fro
     by false false is is' rest = rest
 
 -- the chords of a bar as the bar sees them
-pub own : (bar : Measure) (t : ℕ) (cs : List Chord) → bar.start + bar.length ≡ t
-    → moved_all bar.start bar.length (filter (is_before t) (filter (is_from bar.start) cs)) ≡ map (moved bar) (filter (λ c. has_onset bar c.onset) (soundings cs))
+pub own : (bar : VoiceBar) (t : ℕ) (cs : List Chord) → bar.start + bar.length ≡ t
+    → moved_all bar.start bar.length (filter (is_before t) (filter (is_from bar.start) cs)) ≡ map (within_bar bar) (filter (λ c. has_onset bar c.onset) (soundings cs))
 own bar t [] end = refl
 own bar t (c ∷ cs) end =
     by (is_from bar.start c) (is_before t c) refl (own bar t cs end)
-    ∙ ap (λ b. map (moved bar) (if is_from bar.start c && b then record { onset = c.onset; end = c.end } ∷ others else others)) (ap (λ u. nat_lt c.onset u) (sym end))
+    ∙ ap (λ b. map (within_bar bar) (if is_from bar.start c && b then record { onset = c.onset; end = c.end } ∷ others else others)) (ap (λ u. nat_lt c.onset u) (sym end))
   where
     others : List Inner
     others = filter (λ c. has_onset bar c.onset) (soundings cs)
@@ -118,9 +119,9 @@ own bar t (c ∷ cs) end =
     rest : List Chord
     rest = filter (is_from bar.start) cs
 
-    by : (a b : Bool) → is_before t c ≡ b → moved_all bar.start bar.length (filter (is_before t) (filter (is_from bar.start) cs)) ≡ map (moved bar) (filter (λ c. has_onset bar c.onset) (soundings cs))
+    by : (a b : Bool) → is_before t c ≡ b → moved_all bar.start bar.length (filter (is_before t) (filter (is_from bar.start) cs)) ≡ map (within_bar bar) (filter (λ c. has_onset bar c.onset) (soundings cs))
         → moved_all bar.start bar.length (filter (is_before t) (if a then c ∷ filter (is_from bar.start) cs else filter (is_from bar.start) cs))
-        ≡ map (moved bar) (if a && b then record { onset = c.onset; end = c.end } ∷ filter (λ c. has_onset bar c.onset) (soundings cs) else filter (λ c. has_onset bar c.onset) (soundings cs))
+        ≡ map (within_bar bar) (if a && b then record { onset = c.onset; end = c.end } ∷ filter (λ c. has_onset bar c.onset) (soundings cs) else filter (λ c. has_onset bar c.onset) (soundings cs))
     by true true is same =
         ap (λ b. moved_all bar.start bar.length (if b then c ∷ filter (is_before t) (filter (is_from bar.start) cs) else filter (is_before t) (filter (is_from bar.start) cs))) is
         ∙ ap (λ l. record { onset = c.onset - bar.start; end = min (c.end - bar.start) bar.length } ∷ l) same

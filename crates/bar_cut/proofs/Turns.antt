@@ -7,15 +7,18 @@ use Rattle.std.proofs.lemmas.List.Elements.{All-filter, filter_passes}
 use Rattle.rhythm_base.specs.declared.chord.Chord.{Chord}
 use Rattle.rhythm_base.specs.declared.note.Bar.{Bar}
 use Rattle.rhythm_base.specs.declared.pin.Pin.{Pin}
-use Rattle.rhythm_base.specs.Cell.{Cell}
-use Rattle.rhythm_base.specs.Cells.{cut_end, input, last_end}
-use Rattle.rhythm_base.specs.Edits.{barline}
-use Rattle.rhythm_base.specs.Leaves.{Measure, soundings}
-use Rattle.rhythm_base.specs.Outline.{Outline}
-use Rattle.rhythm_base.specs.Rulebook.{Rulebook, root_of}
-use Rattle.rhythm_base.specs.Voices.{measure_of, measures_from, pin_of}
+use Rattle.rhythm_base.specs.BarInput.{BarInput}
+use Rattle.rhythm_base.specs.Lists.{last_end}
+use Rattle.rhythm_base.specs.Cells.{cut_end, input}
+use Rattle.rhythm_base.specs.Barlines.{barline}
+use Rattle.rhythm_base.specs.Leaves.{VoiceBar, soundings}
+use Rattle.rhythm_base.specs.Shape.{Shape}
+use Rattle.rhythm_base.specs.Grammar.{Grammar, root_of}
+use Rattle.rhythm_base.specs.Pins.{pin_of}
+use Rattle.rhythm_base.specs.Voices.{voice_bar, voice_bars_from}
 use Rattle.bar_cut.specs.Cuts.{AreBarsAndChords, AreInside, Rises, moved_all}
-use Rattle.bar_cut.proofs.Barlines.{barlines_rise, measures-next, starts_at}
+use Rattle.bar_cut.proofs.Barlines.{measures-next, starts_at}
+use Rattle.rhythm_laws.proofs.EditedBars.{barlines_rise}
 use Rattle.bar_cut.proofs.Passes.{before-soundings, end_before, end_before-next, from-from, is_before, is_from, own, parted, rises-filter}
 
 rises_on : (s low : ℕ) (cs : List Chord) → Rises low cs → Rises s (filter (is_from s) cs)
@@ -26,7 +29,7 @@ rises_on s low (c ∷ cs) r = by (is_from s c) refl (rises_on s (c.onset + 1) cs
     by true is rest = (grind (arith, nat_tests, is), rises-filter (is_from s) (c.onset + 1) cs r.1)
     by false is rest = rest
 
-module _ (g : Rulebook) (pins : List Pin) (channel last n : ℕ) (bars : List Bar) (voice : List Chord) (d : Bar)
+module _ (g : Grammar) (pins : List Pin) (channel last n : ℕ) (bars : List Bar) (voice : List Chord) (d : Bar)
     (w : AreBarsAndChords bars last voice) (lt : n < length bars) where
   abbrev start : ℕ
   start = barline bars last n
@@ -88,11 +91,11 @@ module _ (g : Rulebook) (pins : List Pin) (channel last n : ℕ) (bars : List Ba
       ∙ ap (λ l. last_end (end_before start voice) (map (λ c. c.end) l)) own_is
       ∙ end_before-next start end 0 voice (omega (arith, rise.0)) w.chords_rise
 
-  abbrev measure : Measure
-  measure = measure_of g pins channel n bar end
+  abbrev measure : VoiceBar
+  measure = voice_bar g pins channel n bar end
 
   -- the input of the cell, of the parts that the pass has
-  abbrev pub cell_with : ℕ → ℕ → List Chord → Cell
+  abbrev pub cell_with : ℕ → ℕ → List Chord → BarInput
   cell_with symbol before cs = record {
     symbol = symbol;
     resolution = g.resolution;
@@ -104,7 +107,7 @@ module _ (g : Rulebook) (pins : List Pin) (channel last n : ℕ) (bars : List Ba
     pin = pin_of pins channel n;
   }
 
-  pub cell_is : (symbol before tick : ℕ) (front : List Chord) (found : Option Outline) → tick ≡ end → front ≡ take count later → found ≡ pin_of pins channel n
+  pub cell_is : (symbol before tick : ℕ) (front : List Chord) (found : Option Shape) → tick ≡ end → front ≡ take count later → found ≡ pin_of pins channel n
       → record {
         symbol = symbol;
         resolution = g.resolution;
@@ -149,12 +152,12 @@ module _ (g : Rulebook) (pins : List Pin) (channel last n : ℕ) (bars : List Ba
       }
 
   -- one more input is made
-  pub made_next : (made : List Cell) (k : Cell) (all : List Cell) → k ≡ input g measure (soundings voice)
-      → made ++ map (λ m. input g m (soundings voice)) (measures_from g pins channel last n (drop n bars)) ≡ all
-      → (made ++ k ∷ []) ++ map (λ m. input g m (soundings voice)) (measures_from g pins channel last (n + 1) (drop (n + 1) bars)) ≡ all
+  pub made_next : (made : List BarInput) (k : BarInput) (all : List BarInput) → k ≡ input g measure (soundings voice)
+      → made ++ map (λ m. input g m (soundings voice)) (voice_bars_from g pins channel last n (drop n bars)) ≡ all
+      → (made ++ k ∷ []) ++ map (λ m. input g m (soundings voice)) (voice_bars_from g pins channel last (n + 1) (drop (n + 1) bars)) ≡ all
   made_next made k all is so_far =
-      let F : Measure → Cell = λ m. input g m (soundings voice) in
-      let more : List Cell = map F (measures_from g pins channel last (n + 1) (drop (n + 1) bars)) in
+      let F : VoiceBar → BarInput = λ m. input g m (soundings voice) in
+      let more : List BarInput = map F (voice_bars_from g pins channel last (n + 1) (drop (n + 1) bars)) in
       append_assoc made (k ∷ []) more
       ∙ ap (λ l. made ++ l) (ap (λ x. x ∷ more) is ∙ ap (map F) (sym (measures-next g pins channel last n bars d lt)))
       ∙ so_far

@@ -1,17 +1,19 @@
 -- What is cut into cells: the bars of a voice and its chords.
+use Rattle.rhythm_base.specs.declared.limits.TheConstants.{LATEST_TICK, MOST_BARS}
 use Rattle.std.specs.Prelude.{◌≡◌, ℕ, ◌-◌, min, ◌<◌, ◌≤◌, List, length, map, take, All, slice_get, slice_index, Some, None}
 use Rattle.std.specs.List.Sorted.{IsStrictlyIncreasing}
 use Rattle.rhythm_base.specs.declared.chord.Chord.{Chord}
 use Rattle.rhythm_base.specs.declared.inner.Inner.{Inner}
 use Rattle.rhythm_base.specs.declared.note.Bar.{Bar}
 use Rattle.rhythm_base.specs.declared.pin.Pin.{Pin}
-use Rattle.rhythm_base.specs.Cell.{Cell}
+use Rattle.rhythm_base.specs.BarInput.{BarInput}
 use Rattle.rhythm_base.specs.Cells.{input}
 use Rattle.rhythm_base.specs.Leaves.{soundings}
 use Rattle.rhythm_base.specs.Line.{Rising}
-use Rattle.rhythm_base.specs.Rulebook.{Rulebook, root_of}
+use Rattle.rhythm_base.specs.Performance.{IsWellFormed, Performance}
+use Rattle.rhythm_base.specs.Grammar.{Grammar, root_of}
 use Rattle.rhythm_base.specs.Signatures.{IsSignature}
-use Rattle.rhythm_base.specs.Voices.{HasStarts, measures_from}
+use Rattle.rhythm_base.specs.Voices.{AreChordsOf, HasStarts, voice_bars, voice_bars_from}
 
 -- a bar that begins before the last barline
 pub record IsBarBefore (last : ℕ) (b : Bar) : Type 0 where
@@ -21,20 +23,20 @@ pub record IsBarBefore (last : ℕ) (b : Bar) : Type 0 where
 -- bars side by side from tick 0 to the last barline, and chords whose onsets rise and whose ends are not before them
 pub record AreBarsAndChords (bars : List Bar) (last : ℕ) (voice : List Chord) : Type 0 where
   pub some_bar : 1 ≤ length bars
-  pub few_bars : length bars ≤ 4096
+  pub few_bars : length bars ≤ MOST_BARS
   pub are_before : All (IsBarBefore last) bars
   pub first_bar : slice_index (map (λ b. b.start) bars) 0 ≡ 0
   pub bars_rise : IsStrictlyIncreasing (map (λ b. b.start) bars)
-  pub last_barline : last ≤ 2000000000
+  pub last_barline : last ≤ LATEST_TICK
   pub chords_rise : Rising 0 (soundings voice)
   pub chords : All (λ c. c.onset ≤ c.end) voice
 
 -- the input of each cell of the voice, bar after bar
-abbrev pub inputs : Rulebook → List Pin → ℕ → ℕ → List Bar → List Chord → List Cell
-inputs g pins channel last bars voice = map (λ m. input g m (soundings voice)) (measures_from g pins channel last 0 bars)
+abbrev pub inputs : Grammar → List Pin → ℕ → ℕ → List Bar → List Chord → List BarInput
+inputs g pins channel last bars voice = map (λ m. input g m (soundings voice)) (voice_bars_from g pins channel last 0 bars)
 
 -- the first bar whose signature has no root symbol, and that signature
-pub record IsFirstWithoutStart (g : Rulebook) (bars : List Bar) (bar num den : ℕ) : Type 0 where
+pub record IsFirstWithoutStart (g : Grammar) (bars : List Bar) (bar num den : ℕ) : Type 0 where
   pub it : Bar
   pub there : slice_get bars bar ≡ Some it
   pub signature : (num ≡ it.num) × (den ≡ it.den)
@@ -51,3 +53,9 @@ AreInside start end own = All (λ c. (start ≤ c.onset) × (c.onset < end) × (
 
 abbrev pub Rises : ℕ → List Chord → Type 0
 Rises low cs = Rising low (soundings cs)
+
+-- The bars of a well-formed performance and the chords of a voice can be cut, and what they are cut into is the input of each bar
+-- of the voice.
+pub record PerformancesCanBeCut : Type 0 where
+  pub bars_and_chords : (g : Grammar) (p : Performance) (channel : ℕ) (cs : List Chord) → IsWellFormed p → AreChordsOf g p channel cs → AreBarsAndChords p.bars p.last cs
+  pub cells : (g : Grammar) (p : Performance) (channel : ℕ) (cs : List Chord) → inputs g p.pins channel p.last p.bars cs ≡ map (λ m. input g m (soundings cs)) (voice_bars g p channel)

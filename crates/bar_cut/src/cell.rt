@@ -1,3 +1,4 @@
+ghost use Rattle.rhythm_base.specs.declared.limits.TheConstants.{LATEST_TICK};
 ghost use Rattle.bar_cut.specs.Cuts.{AreInside, Rises, moved_all};
 ghost use Rattle.rhythm_base.specs.Readable.{IsInRange};
 ghost use Rattle.rhythm_base.specs.Signatures.{IsSignature};
@@ -46,7 +47,7 @@ pub fn cell_of(
     requires grammar { IsInRange grammar.now }
     requires signature { IsSignature bar.num bar.den }
     requires some_tick { bar.start < end }
-    requires few_ticks { end ≤ 2000000000 }
+    requires few_ticks { end ≤ LATEST_TICK }
     requires rise { Rises bar.start own.now }
     requires inside { AreInside bar.start end own.now }
     ensures { IfOk result (λ k. k ≡ record {

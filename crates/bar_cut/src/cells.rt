@@ -1,5 +1,5 @@
 ghost use Rattle.bar_cut.specs.Cuts.{AreBarsAndChords, IsFirstWithoutStart, inputs};
-ghost use Rattle.bar_cut.specs.declared.fault.CutFault.TheVariants.{NoStart};
+ghost use Rattle.bar_cut.specs.declared.fault.CutFault.TheVariants.{Memory, NoStart};
 ghost use Rattle.rhythm_base.specs.Readable.{IsInRange};
 ghost use Rattle.rhythm_base.specs.Voices.{HasStarts};
 ghost use Rattle.std.specs.Prelude.{◌≡◌, Err, IfOk, ℕ};
@@ -8,6 +8,7 @@ use crate::cell::cell_of;
 use crate::fault::CutFault;
 use crate::inner::{count_before, last_end};
 use crate::lookup::{barline_behind, pin_of, root_of};
+use crate::starts::check_starts;
 use rhythm_base::{Bar, BarInput, Chord, Grammar, Pin};
 use std::alloc::Global;
 
@@ -27,20 +28,16 @@ pub fn cut(
     ensures inputs { IfOk result (λ v. v.items ≡ inputs grammar.now pins.now channel last bars.now voice.now) }
     ensures starts { IfOk result (λ _. HasStarts grammar.now bars.now) }
     ensures no_start { (bar num den : ℕ) → result ≡ Err (NoStart bar num den) → IsFirstWithoutStart grammar.now bars.now bar num den }
+    ensures memory { result ≡ Err Memory → HasStarts grammar.now bars.now }
 {
+    check_starts(grammar, bars)?;
     let mut inputs = Vec::with_capacity(alloc, bars.len())?;
     let mut later = voice;
     let mut before = 0;
     'bars: for number in 0..bars.len() {
         let bar = bars[number];
         let end = barline_behind(bars, last, number);
-        let Some(symbol) = root_of(grammar, bar.num, bar.den) else {
-            return Err(CutFault::NoStart {
-                bar: number as u32,
-                num: bar.num,
-                den: bar.den,
-            });
-        };
+        let symbol = root_of(grammar, bar.num, bar.den).unwrap();
         let (own, rest) = later.split_at(count_before(later, end));
         let pin = pin_of(pins, channel, number);
         inputs.push(cell_of(alloc, grammar, symbol, bar, end, own, before, pin)?)?;

@@ -1,4 +1,4 @@
-ghost use Rattle.rhythm_base.specs.Cells.{last_end};
+ghost use Rattle.rhythm_base.specs.Lists.{last_end};
 ghost use Rattle.std.specs.Prelude.{◌≡◌, ◌≤◌, unwrap_or, length, map, min, ◌-◌, nat_le};
 ghost use Rattle.std.specs.List.{position};
 

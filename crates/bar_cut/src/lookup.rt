@@ -1,6 +1,6 @@
-ghost use Rattle.rhythm_base.specs.Edits.{barline};
-ghost use Rattle.rhythm_base.specs.Rulebook.{root_of};
-ghost use Rattle.rhythm_base.specs.Voices.{pin_of};
+ghost use Rattle.rhythm_base.specs.Barlines.{barline};
+ghost use Rattle.rhythm_base.specs.Grammar.{root_of};
+ghost use Rattle.rhythm_base.specs.Pins.{pin_of};
 ghost use Rattle.std.specs.Prelude.{◌≡◌, ◌+◌, ◌<◌, length, option_map};
 
 use rhythm_base::{Bar, Grammar, Pin, Shape};

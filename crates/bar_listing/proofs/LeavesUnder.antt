@@ -1,15 +1,12 @@
 -- The leaves of one tree, by what its rule is.
-use Rattle.std.proofs.Common.{◌≡◌, ℕ, List, [], ◌∷◌, ◌++◌, refl, subst}
-use Rattle.std.specs.Prelude.{Option, Some, None}
-use Rattle.rhythm_base.specs.declared.rule.Body.{Body}
-use Rattle.rhythm_base.specs.declared.rule.Body.TheVariants.{Split, Parts}
-use Rattle.rhythm_base.specs.declared.rule.Body.TheVariants as body
+use Rattle.std.proofs.Common.{inl, inr, sym, ◌∙◌, ◌≡◌, ℕ, List, [], ◌∷◌, ◌++◌, refl}
+use Rattle.std.specs.Prelude.{◌⊎◌, Option, Some, None}
 use Rattle.rhythm_base.specs.declared.rule.Rule.{Rule}
 use Rattle.rhythm_base.specs.Forest.{Forest, none, more}
-use Rattle.rhythm_base.specs.Trees.{leaves, leaves_at, leaf_of, children, children_of}
-use Rattle.bar_listing.specs.declared.leaf.LeafRule.{LeafRule}
-use Rattle.bar_listing.specs.declared.leaf.LeafRule.TheVariants.{Note, Short, Tie, Rest, Grace}
-use Rattle.bar_listing.specs.PlacedLeaves.{IsCut, body_of, part_of}
+use Rattle.rhythm_base.specs.declared.rule.Ending.{Ending}
+use Rattle.rhythm_base.specs.Bodies.{Cut, children, cut_of, ending_of, cuts_or_ends}
+use Rattle.rhythm_base.specs.Trees.{leaves, leaves_at, leaf_of, children_of}
+use Rattle.bar_listing.specs.PlacedLeaves.{part_of}
 
 leaves_nothing : (rules : List Rule) (p : ℕ) (k : Forest) → leaves rules p [] k ≡ []
 leaves_nothing rules p none = refl
@@ -20,27 +17,16 @@ pub leaves-unknown : (rules : List Rule) (o : Option Rule) (p w : ℕ) (k : Fore
 leaves-unknown rules o p w k e = rw (e, leaves_nothing rules p k) refl
 
 -- a rule that is a leaf
-pub leaves-leaf : (rules : List Rule) (o : Option Rule) (rule : Rule) (r : LeafRule) (p w : ℕ) (k : Forest) → o ≡ Some rule → body_of r ≡ rule.body
+pub leaves-leaf : (rules : List Rule) (o : Option Rule) (rule : Rule) (r : Ending) (p w : ℕ) (k : Forest) → o ≡ Some rule → ending_of rule.body ≡ Some r
     → part_of (record { rule = r; place = p; width = w }) ∷ [] ≡ leaves_at o p w ++ leaves rules p (children_of o w) k
-leaves-leaf rules o rule r p w k found same = rw found (subst (λ b. part_of (record { rule = r; place = p; width = w }) ∷ [] ≡ leaf_of b p w ++ leaves rules p (children b w) k) same (own r))
+leaves-leaf rules o rule r p w k found is = rw found (own (cuts_or_ends rule.body))
   where
-    own : (r : LeafRule) → part_of (record { rule = r; place = p; width = w }) ∷ [] ≡ leaf_of (body_of r) p w ++ leaves rules p (children (body_of r) w) k
-    own Note = rw (leaves_nothing rules p k) refl
-    own Short = rw (leaves_nothing rules p k) refl
-    own Tie = rw (leaves_nothing rules p k) refl
-    own Rest = rw (leaves_nothing rules p k) refl
-    own (Grace m) = rw (leaves_nothing rules p k) refl
+    own : ((c : Cut) × (cut_of rule.body ≡ Some c) × (ending_of rule.body ≡ None)) ⊎ ((e : Ending) × (cut_of rule.body ≡ None) × (ending_of rule.body ≡ Some e))
+        → part_of (record { rule = r; place = p; width = w }) ∷ [] ≡ leaf_of rule.body p w ++ leaves rules p (children rule.body w) k
+    own (inl t) = let no : ◌≡◌ {A = Option Ending} None (Some r) = sym t.2 ∙ is in absurd (cc)
+    own (inr t) = rw (is, t.1, leaves_nothing rules p k) refl
 
 -- a rule that cuts
-pub leaves-cut : (rules : List Rule) (o : Option Rule) (rule : Rule) (p w : ℕ) (k : Forest) → o ≡ Some rule → IsCut rule.body
+pub leaves-cut : (rules : List Rule) (o : Option Rule) (rule : Rule) (p w : ℕ) (k : Forest) → o ≡ Some rule → ending_of rule.body ≡ None
     → leaves rules p (children rule.body w) k ≡ leaves_at o p w ++ leaves rules p (children_of o w) k
-leaves-cut rules o rule p w k found cut = rw found (own rule.body cut)
-  where
-    own : (b : Body) → IsCut b → leaves rules p (children b w) k ≡ leaf_of b p w ++ leaves rules p (children b w) k
-    own (Split symbols) h = refl
-    own (Parts parts) h = refl
-    own body.Note h = absurd h
-    own body.Short h = absurd h
-    own body.Tie h = absurd h
-    own body.Rest h = absurd h
-    own (body.Grace m) h = absurd h
+leaves-cut rules o rule p w k found is = rw (found, is) refl

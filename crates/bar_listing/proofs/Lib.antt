@@ -1,6 +1,6 @@
 pub mod Chords
-pub mod Conjunctions
 pub mod Costs
+pub mod LatestSounds
 pub mod LeavesUnder
 pub mod Listed
 pub mod Members

@@ -1,7 +1,7 @@
 ghost use Rattle.std.specs.Prelude.{◌≡◌, ◌≤◌, [], map, IfOk};
 ghost use Rattle.rhythm_base.specs.Leaves.{goes_left, lies_in, looks, sounds};
-ghost use Rattle.rhythm_base.specs.Line.{placed, seat};
-ghost use Rattle.bar_listing.specs.PlacedLeaves.{leaf_in, line_in};
+ghost use Rattle.rhythm_base.specs.Line.{placements, seat};
+ghost use Rattle.bar_listing.specs.PlacedLeaves.{leaf_in, placed_line};
 ghost use Rattle.bar_listing.specs.Seats.{seat_pair};
 
 use crate::leaf::PlacedLeaf;
@@ -51,7 +51,7 @@ pub fn sounds(resolution: u16, bar: &OneBar, leaf: &PlacedLeaf, end: u64) -> boo
 /// The number of the leaf that an onset is attached to: the leaf that it lies in, or the next. It is the number of leaves
 /// where there is no such leaf.
 pub fn seat(resolution: u16, bar: &OneBar, leaves: &[PlacedLeaf], onset: u64) -> usize
-    ensures { result ≡ seat (looks resolution) (line_in bar.now leaves.now) onset }
+    ensures { result ≡ seat (looks resolution) (placed_line bar.now leaves.now) onset }
 {
     for (number, leaf) in leaves.iter().enumerate() {
         if lies_in(resolution, bar, leaf, onset) {
@@ -74,7 +74,7 @@ pub fn seats(
     chords: &[Inner],
 ) -> Result<Vec<SeatedChord>, AllocError>
     ensures { IfOk result (λ found. map seat_pair found.items
-        ≡ placed (looks resolution) (line_in bar.now leaves.now) [] chords.now) }
+        ≡ placements (looks resolution) (placed_line bar.now leaves.now) [] chords.now) }
 {
     let mut found = Vec::new(alloc);
     for chord in chords {

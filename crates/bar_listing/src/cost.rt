@@ -6,14 +6,14 @@ ghost use Rattle.rhythm_base.specs.Cost.{
   cost,
   displacement_in,
   is_late,
-  unit_of,
+  attached_unit,
   weight_of,
   weights,
 };
 ghost use Rattle.rhythm_base.specs.Leaves.{lies_in};
 ghost use Rattle.rhythm_base.specs.Readable.{IsInRange};
-ghost use Rattle.bar_listing.specs.OneBar.{AreWithin, IsBar, measure_of};
-ghost use Rattle.bar_listing.specs.PlacedLeaves.{leaf_in, line_in};
+ghost use Rattle.bar_listing.specs.OneBar.{AreWithin, IsOneBar, bar_of_one};
+ghost use Rattle.bar_listing.specs.PlacedLeaves.{leaf_in, placed_line};
 
 use crate::attach::{goes_left, lies_in};
 use crate::leaf::{PlacedLeaf, leaves_of};
@@ -31,10 +31,10 @@ pub fn cost(
     tree: &Tree,
 ) -> Result<u128, AllocError>
     requires ranges { IsInRange grammar.now }
-    requires bar { IsBar bar.now }
+    requires bar { IsOneBar bar.now }
     requires chords { AreWithin bar.now.length chords.now }
     ensures { IfOk result (λ c. c
-        ≡ cost grammar.now (measure_of bar.now ∷ []) chords.now (tree.now ∷ [])) }
+        ≡ cost grammar.now (bar_of_one bar.now ∷ []) chords.now (tree.now ∷ [])) }
 {
     let rules = grammar.rules.as_slice();
     let numbers = tree.sequence(alloc)?;
@@ -67,9 +67,9 @@ fn weight(rules: &[Rule], number: u16) -> u32
 /// What the onsets of the chords cost together.
 fn charges(grammar: &Grammar, bar: &OneBar, leaves: &[PlacedLeaf], chords: &[Inner]) -> u128
     requires ranges { IsInRange grammar.now }
-    requires bar { IsBar bar.now }
+    requires bar { IsOneBar bar.now }
     requires chords { AreWithin bar.now.length chords.now }
-    ensures value { result ≡ charges grammar.now (line_in bar.now leaves.now) chords.now }
+    ensures value { result ≡ charges grammar.now (placed_line bar.now leaves.now) chords.now }
     ensures small { result < 2 ^ 92 }
 {
     let mut total = 0u128;
@@ -82,9 +82,9 @@ fn charges(grammar: &Grammar, bar: &OneBar, leaves: &[PlacedLeaf], chords: &[Inn
 /// What an onset costs, by the leaf that it lies in.
 fn charge(grammar: &Grammar, bar: &OneBar, leaves: &[PlacedLeaf], onset: u64) -> u128
     requires ranges { IsInRange grammar.now }
-    requires bar { IsBar bar.now }
+    requires bar { IsOneBar bar.now }
     requires onset { onset < bar.now.length }
-    ensures value { result ≡ charge grammar.now (line_in bar.now leaves.now) onset }
+    ensures value { result ≡ charge grammar.now (placed_line bar.now leaves.now) onset }
     ensures small { result ≤ 245760000 }
 {
     for leaf in leaves {
@@ -98,7 +98,7 @@ fn charge(grammar: &Grammar, bar: &OneBar, leaves: &[PlacedLeaf], onset: u64) ->
 /// What an onset in the leaf costs: its displacement times the weight of its side, which is 1,000 at most.
 fn charge_in(grammar: &Grammar, bar: &OneBar, leaf: &PlacedLeaf, onset: u64) -> u128
     requires ranges { IsInRange grammar.now }
-    requires bar { IsBar bar.now }
+    requires bar { IsOneBar bar.now }
     requires onset { onset < bar.now.length }
     requires lies { lies_in grammar.now.resolution (leaf_in bar.now leaf.now) onset ≡ true }
     ensures value { result ≡ charge_in grammar.now (leaf_in bar.now leaf.now) onset }
@@ -125,7 +125,7 @@ fn is_late(resolution: u16, bar: &OneBar, leaf: &PlacedLeaf, onset: u64) -> bool
 /// has more than 245,760 of them.
 fn displacement_in(resolution: u16, bar: &OneBar, leaf: &PlacedLeaf, onset: u64) -> u128
     requires some_unit { 1 ≤ resolution }
-    requires bar { IsBar bar.now }
+    requires bar { IsOneBar bar.now }
     requires onset { onset < bar.now.length }
     requires lies { lies_in resolution (leaf_in bar.now leaf.now) onset ≡ true }
     ensures value { result ≡ displacement_in resolution (leaf_in bar.now leaf.now) onset }
@@ -139,7 +139,7 @@ fn displacement_in(resolution: u16, bar: &OneBar, leaf: &PlacedLeaf, onset: u64)
 
 /// The unit that an onset in the leaf is attached at: where the leaf begins, or where it ends.
 fn unit_of(resolution: u16, bar: &OneBar, leaf: &PlacedLeaf, onset: u64) -> u32
-    ensures value { result ≡ unit_of resolution (leaf_in bar.now leaf.now) onset }
+    ensures value { result ≡ attached_unit resolution (leaf_in bar.now leaf.now) onset }
     ensures small { result < 2 ^ 17 }
 {
     if goes_left(resolution, bar, leaf, onset) {

@@ -1,7 +1,8 @@
 ghost use Rattle.std.specs.Prelude.{◌≡◌, map, nat_lt, IfOk};
 ghost use Rattle.std.specs.List.{list_all};
-ghost use Rattle.rhythm_base.specs.Trees.{can_cut, children, sizes, suits};
-ghost use Rattle.bar_listing.specs.Pieces.{pair_of};
+ghost use Rattle.rhythm_base.specs.Bodies.{can_cut, children, sizes};
+ghost use Rattle.rhythm_base.specs.Trees.{suits};
+ghost use Rattle.bar_listing.specs.Pieces.{piece_pair};
 
 use rhythm_base::{Body, Rule};
 use std::alloc::{AllocError, Global};
@@ -35,7 +36,7 @@ fn can_cut(body: &Body, width: u16) -> bool
             let parts = portions.as_slice();
             parts.len() > 1 && are_some(parts) && width as u128 % sizes(parts).max(1) == 0
         }
-        Body::Note | Body::Short | Body::Tie | Body::Rest | Body::Grace(_) => true,
+        _ => true,
     }
 }
 
@@ -59,18 +60,18 @@ fn sizes(parts: &[(u8, u8)]) -> u128
 
 /// The parts of a node of this width, in units: none of a leaf.
 pub fn children(alloc: Global, body: &Body, width: u16) -> Result<Vec<Piece>, AllocError>
-    ensures { IfOk result (λ pieces. map pair_of pieces.items ≡ children body.now width) }
+    ensures { IfOk result (λ pieces. map piece_pair pieces.items ≡ children body.now width) }
 {
     match body {
         Body::Split(symbols) => equal_pieces(alloc, symbols.as_slice(), width),
         Body::Parts(portions) => unequal_pieces(alloc, portions.as_slice(), width),
-        Body::Note | Body::Short | Body::Tie | Body::Rest | Body::Grace(_) => Ok(Vec::new(alloc)),
+        _ => Ok(Vec::new(alloc)),
     }
 }
 
 /// Parts of these symbols that share the width equally.
 fn equal_pieces(alloc: Global, symbols: &[u8], width: u16) -> Result<Vec<Piece>, AllocError>
-    ensures { IfOk result (λ pieces. map pair_of pieces.items ≡ children (Body.Split symbols.now) width) }
+    ensures { IfOk result (λ pieces. map piece_pair pieces.items ≡ children (Body.Split symbols.now) width) }
 {
     let share = (width as usize / symbols.len().max(1)) as u16;
     let mut pieces = Vec::new(alloc);
@@ -85,7 +86,7 @@ fn equal_pieces(alloc: Global, symbols: &[u8], width: u16) -> Result<Vec<Piece>,
 
 /// Parts that share the width by their sizes.
 fn unequal_pieces(alloc: Global, parts: &[(u8, u8)], width: u16) -> Result<Vec<Piece>, AllocError>
-    ensures { IfOk result (λ pieces. map pair_of pieces.items ≡ children (Body.Parts parts.now) width) }
+    ensures { IfOk result (λ pieces. map piece_pair pieces.items ≡ children (Body.Parts parts.now) width) }
 {
     let share = (width as u128 / sizes(parts).max(1)) as u16;
     let mut pieces = Vec::new(alloc);

@@ -1,34 +1,20 @@
 ghost use Rattle.std.specs.Prelude.{◌≡◌, ◌+◌, ◌++◌, ◌^◌, ◌<◌, map, slice_get, ℕ, IfOk, MatchOption};
 ghost use Rattle.rhythm_base.specs.Forest.{forest_of};
-ghost use Rattle.rhythm_base.specs.Trees.{children_of, leaves, leaves_at, leaves_of, sizes};
-ghost use Rattle.bar_listing.specs.PlacedLeaves.{IsCut, body_of, part_of};
-ghost use Rattle.bar_listing.specs.Pieces.{pair_of};
+ghost use Rattle.rhythm_base.specs.Bodies.{sizes};
+ghost use Rattle.rhythm_base.specs.Trees.{children_of, leaves, leaves_at, leaves_of};
+ghost use Rattle.bar_listing.specs.PlacedLeaves.{part_of};
+ghost use Rattle.bar_listing.specs.Pieces.{piece_pair};
 
 use crate::cut::{Piece, children};
 use crate::numbered::rule_at;
-use rhythm_base::{Body, Rule, Tree};
+use rhythm_base::{Ending, Rule, Tree};
 use std::alloc::{AllocError, Global};
-
-/// What the rule of a leaf asks of the chords.
-#[derive(Clone, Copy, Debug, PartialEq, Eq)]
-pub enum LeafRule {
-    /// A chord begins and sounds past the middle of the leaf.
-    Note,
-    /// A chord begins and ends before the middle of the leaf.
-    Short,
-    /// The chord before goes on.
-    Tie,
-    /// Silence.
-    Rest,
-    /// A chord begins, with so many grace chords before it.
-    Grace(u8),
-}
 
 /// A leaf of a tree.
 #[derive(Clone, Copy, Debug, PartialEq, Eq)]
 pub struct PlacedLeaf {
-    /// What its rule asks.
-    pub rule: LeafRule,
+    /// How its rule ends it.
+    pub rule: Ending,
     /// The unit of the bar at which it begins.
     pub place: u16,
     /// Its width in units.
@@ -57,9 +43,9 @@ fn leaves_beside(
     pieces: &[Piece],
     trees: &[Tree],
 ) -> Result<Vec<PlacedLeaf>, AllocError>
-    requires { place + sizes (map pair_of pieces.now) < 2 ^ 16 }
+    requires { place + sizes (map piece_pair pieces.now) < 2 ^ 16 }
     ensures { IfOk result (λ found. map part_of found.items
-        ≡ leaves rules.now place (map pair_of pieces.now) (forest_of trees.now)) }
+        ≡ leaves rules.now place (map piece_pair pieces.now) (forest_of trees.now)) }
 {
     match trees {
         [] => Ok(Vec::new(alloc)),
@@ -92,23 +78,9 @@ fn leaves_under(
     let Some(rule) = rule_at(rules, tree.rule) else {
         return Ok(Vec::new(alloc));
     };
-    if let Some(rule) = leaf_rule(&rule.body) {
+    if let Some(rule) = rule.body.ending() {
         return Ok(vec![in alloc; PlacedLeaf { rule, place, width }]?);
     }
     let pieces = children(alloc, &rule.body, width)?;
     leaves_beside(alloc, rules, place, pieces.as_slice(), tree.kids.as_slice())
-}
-
-/// What a leaf of this body asks, where it is no cut.
-fn leaf_rule(body: &Body) -> Option<LeafRule>
-    ensures { MatchOption result (IsCut body.now) (λ rule. body_of rule ≡ body.now) }
-{
-    match body {
-        Body::Split(_) | Body::Parts(_) => None,
-        Body::Note => Some(LeafRule::Note),
-        Body::Short => Some(LeafRule::Short),
-        Body::Tie => Some(LeafRule::Tie),
-        Body::Rest => Some(LeafRule::Rest),
-        Body::Grace(count) => Some(LeafRule::Grace(*count)),
-    }
 }

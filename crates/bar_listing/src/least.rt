@@ -3,8 +3,8 @@ ghost use Rattle.std.specs.declared.cmp.Ordering.TheVariants.{Less};
 ghost use Rattle.rhythm_base.specs.Least.{HasNone, IsLeast, rank_cmp};
 ghost use Rattle.rhythm_base.specs.Readable.{IsInRange};
 ghost use Rattle.rhythm_base.specs.Trees.{is_tree};
-ghost use Rattle.bar_listing.specs.Candidates.{IsCandidateOf, earlier, rank_at};
-ghost use Rattle.bar_listing.specs.OneBar.{AreWithin, IsBar, measure_of};
+ghost use Rattle.bar_listing.specs.Candidates.{IsCandidateOf, earlier_candidate, rank_at};
+ghost use Rattle.bar_listing.specs.OneBar.{AreWithin, IsOneBar, bar_of_one};
 
 use crate::cost::cost;
 use crate::fit::fits;
@@ -46,11 +46,11 @@ pub fn least_tree(
 ) -> Result<Option<Tree>, AllocError>
     requires ranges { IsInRange grammar.now }
     requires few_rules { length grammar.now.rules ≤ 65536 }
-    requires bar { IsBar bar.now }
+    requires bar { IsOneBar bar.now }
     requires chords { AreWithin bar.now.length chords.now }
-    ensures none { result ≡ Ok None → HasNone grammar.now (measure_of bar.now ∷ []) chords.now }
+    ensures none { result ≡ Ok None → HasNone grammar.now (bar_of_one bar.now ∷ []) chords.now }
     ensures least { IfOk result (λ found. IfSome found (λ tree.
-        IsLeast grammar.now (measure_of bar.now ∷ []) chords.now (tree ∷ []))) }
+        IsLeast grammar.now (bar_of_one bar.now ∷ []) chords.now (tree ∷ []))) }
 {
     let trees = all_trees(
         alloc,
@@ -78,10 +78,10 @@ fn candidate_of(
     tree: &Tree,
 ) -> Result<Option<Candidate>, AllocError>
     requires ranges { IsInRange grammar.now }
-    requires bar { IsBar bar.now }
+    requires bar { IsOneBar bar.now }
     requires chords { AreWithin bar.now.length chords.now }
     requires tree { is_tree grammar.now.rules grammar.now.resolution bar.now.root None tree.now ≡ true }
-    ensures { IfOk result (IsCandidateOf grammar.now (measure_of bar.now) chords.now tree.now) }
+    ensures { IfOk result (IsCandidateOf grammar.now (bar_of_one bar.now) chords.now tree.now) }
 {
     if !fits(alloc, grammar, bar, chords, tree)? {
         return Ok(None);
@@ -94,7 +94,7 @@ fn candidate_of(
 
 /// The earlier one of the two, and the first where neither is earlier.
 fn earlier(first: Option<Candidate>, second: Option<Candidate>) -> Option<Candidate>
-    ensures { result ≡ earlier first second }
+    ensures { result ≡ earlier_candidate first second }
 {
     match (first, second) {
         (None, second) => second,

@@ -18,20 +18,20 @@ taken c = if nat_lt c.cost 4611686018427387904 then Some (c.middle, (c.cost, c.l
 abbrev pub taken_all : List Choice → List (Option (ℕ × Sum))
 taken_all row = map taken row
 
-abbrev pub numbered : ℕ → Option Sum → Option (ℕ × Sum)
-numbered m None = None
-numbered m (Some s) = Some (m, s)
+abbrev pub numbered_choice : ℕ → Option Sum → Option (ℕ × Sum)
+numbered_choice m None = None
+numbered_choice m (Some s) = Some (m, s)
 
-abbrev pub nearer_of : Option (ℕ × Sum) → Option (ℕ × Sum) → Option (ℕ × Sum)
-nearer_of o None = o
-nearer_of None (Some x) = Some x
-nearer_of (Some y) (Some x) = if sum_before x.1 y.1 then Some x else Some y
+abbrev pub nearer_choice : Option (ℕ × Sum) → Option (ℕ × Sum) → Option (ℕ × Sum)
+nearer_choice o None = o
+nearer_choice None (Some x) = Some x
+nearer_choice (Some y) (Some x) = if sum_before x.1 y.1 then Some x else Some y
 
 -- the entry of a row of choices
 abbrev pub entry_of : List (Option (ℕ × Sum)) → ℕ → Option Best
 entry_of row to = ranked (λ n. sum_key (slice_index_or row n None)) (sum_key (slice_index_or row to None))
 
 -- a number that orders as the ranks of those that are there do, and is above them elsewhere
-abbrev pub key_in : Option (ℕ × Sum) → ℕ
-key_in None = 65536
-key_in (Some x) = x.1.1 * 256 + x.1.2
+abbrev pub choice_key_in : Option (ℕ × Sum) → ℕ
+choice_key_in None = 65536
+choice_key_in (Some x) = x.1.1 * 256 + x.1.2

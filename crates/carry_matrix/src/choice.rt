@@ -1,9 +1,9 @@
 ghost use Rattle.carry_matrix.specs.Choices.{
   cost_or,
   entry_of,
-  key_in,
-  nearer_of,
-  numbered,
+  choice_key_in,
+  nearer_choice,
+  numbered_choice,
   rank_or,
   taken,
   taken_all,
@@ -64,7 +64,7 @@ pub fn sum_of(a: Option<Best>, b: Option<Best>, middle: u8) -> Choice
     requires low_a { IsLow a }
     requires low_b { IsLow b }
     requires small { (x y : Best) → a ≡ Some x → b ≡ Some y → x.cost + y.cost < 2 ^ 62 }
-    ensures { taken result ≡ numbered middle (summed a b) }
+    ensures { taken result ≡ numbered_choice middle (summed a b) }
 {
     let cost = cost_of(a) + cost_of(b);
     Choice {
@@ -82,7 +82,7 @@ fn is_nearer(x: Choice, best: Choice) -> bool
 }
 
 pub fn nearer(best: Choice, x: Choice) -> Choice
-    ensures { taken result ≡ nearer_of (taken best) (taken x) }
+    ensures { taken result ≡ nearer_choice (taken best) (taken x) }
 {
     if is_nearer(x, best) { x } else { best }
 }
@@ -95,7 +95,7 @@ fn key_of(left: u8, right: u8) -> u32
 }
 
 fn key_or(x: Choice) -> u32
-    ensures is { result ≡ key_in (taken x) }
+    ensures is { result ≡ choice_key_in (taken x) }
     ensures fits { x.right < 256 }
 {
     if x.cost < ABSENT {

@@ -1,7 +1,7 @@
-// Five by five ranked matrices: for each number of chords carried into bars side by side, and each number carried out, the
-// least cost, with the place of its rule list among those of its row. Their product joins bars: it takes the count in the
-// middle with the least sum, and at equal sums the lower rank on the left, so no rule list is ever compared. Each product
-// is one step of a counter that only this crate raises.
+//! Five by five ranked matrices: for each number of chords carried into bars side by side, and each number carried out, the
+//! least cost, with the place of its rule list among those of its row. Their product joins bars: it takes the count in the
+//! middle with the least sum, and at equal sums the lower rank on the left, so no rule list is ever compared. Each product
+//! is one step of a counter that only this crate raises.
 #![tactic(auto)]
 
 mod choice;
@@ -15,6 +15,3 @@ pub use matrix::CarryMatrix;
 pub use products::{middle, product};
 pub use rhythm_base::Best;
 pub use steps::Steps;
-
-#[cfg(test)]
-mod tests;

@@ -14,9 +14,9 @@ pub struct CarryMatrix {
 
 impl Model for CarryMatrix {
     ghost use Rattle.rhythm_base.specs.Paths.{AreLow, IsRanked};
-    ghost use Rattle.rhythm_base.specs.Ranked.{Entries};
+    ghost use Rattle.rhythm_base.specs.Ranked.{CarryMatrix};
 
-    ghost Value = { Entries };
+    ghost Value = { CarryMatrix };
 
     ghost view = { λ m. m.entries };
 
@@ -62,8 +62,8 @@ impl CarryMatrix {
         self.entries[from as usize][to as usize]
     }
 
-    /// What every matrix keeps, for a caller that takes it apart by `get`.
-    pub fn see(&self)
+    /// What every matrix keeps.
+    pub(crate) fn see(&self)
         ensures { IsRanked self.now }
     {
         let _ = &self.entries;

@@ -1,4 +1,4 @@
-ghost use Rattle.carry_matrix.specs.Choices.{numbered, taken};
+ghost use Rattle.carry_matrix.specs.Choices.{numbered_choice, taken};
 ghost use Rattle.carry_matrix.specs.LowSums.{HaveLowSums};
 ghost use Rattle.rhythm_base.specs.Counter.{risen};
 ghost use Rattle.rhythm_base.specs.Ranked.{at, choice, middle_of, product_of, summed};
@@ -15,7 +15,7 @@ fn summed_at(a: &CarryMatrix, b: &CarryMatrix, from: u8, middle: u8, to: u8) -> 
     requires middle { middle < 5 }
     requires to { to < 5 }
     requires small { HaveLowSums a.now b.now }
-    ensures { taken result ≡ numbered middle (summed (at a.now from middle) (at b.now middle to)) }
+    ensures { taken result ≡ numbered_choice middle (summed (at a.now from middle) (at b.now middle to)) }
 {
     sum_of(a.get(from, middle), b.get(middle, to), middle)
 }

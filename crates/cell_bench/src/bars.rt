@@ -1,4 +1,4 @@
-ghost use Rattle.rhythm_base.specs.Cell.{IsInner};
+ghost use Rattle.rhythm_base.specs.BarInput.{IsInner};
 ghost use Rattle.rhythm_base.specs.Line.{Rising};
 ghost use Rattle.std.specs.Prelude.{◌≡◌, ◌≤◌, ◌<◌, ℕ, All, IfOk, IfSome, IsTrue};
 
@@ -8,8 +8,8 @@ use std::alloc::{AllocError, Global};
 /// The ticks of a bar of 4/4 at 480 to a quarter note.
 const LENGTH: u32 = 1920;
 
-/// The chord of a number among so many: they are evenly spread, each is behind its place by up to a quarter of the room
-/// from one to the next, and it lasts for one to three quarters of that room.
+/// The chord of a number among so many: they are evenly spread, each is late by up to a quarter of the room from one
+/// to the next, and it lasts for one to three quarters of that room.
 fn chord(number: u32, room: u32, place: u32) -> Inner {
     let quarter = room / 4;
     let late = number % 1000 * 5 % (quarter + 1);

@@ -1,18 +1,14 @@
-// Builds the tables of stated bars, over and over where that is asked for, and prints what the least trees cost. With no
-// words it builds each stated bar once. The words GROUP ONSETS TIMES name the grammar, the number of chords of the bar and
-// how often its table is built: a longer run less a shorter one gives the time of a table.
+//! Builds the tables of stated bars, over and over where that is asked for, and prints what the least trees cost. With no
+//! words it builds each stated bar once. The words GROUP ONSETS TIMES name the grammar, the number of chords of the bar and
+//! how often its table is built: a longer run less a shorter one gives the time of a table.
 #![tactic(auto)]
 
 mod bars;
-mod books;
-mod groups;
-mod readable;
+mod grammars;
 
 use bars::bar_of;
-use books::grammar_of;
-use groups::{Group, STATED};
+use grammars::Group;
 use least_cost::{BarTable, Steps, build_cell};
-use readable::is_readable;
 use rhythm_base::Tag;
 use std::alloc::Global;
 use std::env;
@@ -24,6 +20,23 @@ struct Benchmark;
 
 impl Tag for Benchmark {}
 
+/// The bars that are built when the program is given no words.
+const STATED: &[(Group, u32)] = &[
+    (Group::Halves, 0),
+    (Group::Halves, 8),
+    (Group::Nine, 0),
+    (Group::Nine, 8),
+    (Group::Nine, 40),
+    (Group::Nine, 400),
+    (Group::Many, 0),
+    (Group::Many, 8),
+    (Group::Many, 40),
+    (Group::Many, 400),
+    (Group::Parts, 0),
+    (Group::Parts, 8),
+    (Group::Parts, 40),
+];
+
 /// A bar of a group with so many chords, and how often its table is built.
 #[derive(Clone, Copy)]
 struct Task {
@@ -32,7 +45,7 @@ struct Task {
     times: u32,
 }
 
-/// The words behind the program's name, where they are a task.
+/// The words after the program's name, where they are a task.
 fn task_of(words: &[String]) -> Option<Task> {
     match words {
         [group, onsets, times] => Some(Task {
@@ -46,13 +59,10 @@ fn task_of(words: &[String]) -> Option<Task> {
 
 /// Builds the table so often and keeps the last.
 fn build(alloc: Global, task: Task) -> io::Result<Option<BarTable>> {
-    let grammar = grammar_of(alloc, &task.group.book())?;
+    let grammar = task.group.grammar(alloc)?;
     let Some(bar) = bar_of(alloc, grammar.resolution, task.onsets)? else {
         return Err(io::Error::from(ErrorKind::InvalidInput));
     };
-    if !is_readable(&grammar) {
-        return Err(io::Error::from(ErrorKind::InvalidInput));
-    }
     let mut builds = Steps::<Benchmark>::zero();
     let mut last = None;
     for _ in 0..task.times {

@@ -10,4 +10,3 @@ pub mod Rooms
 pub mod Sides
 pub mod Towers
 pub mod Voices
-pub mod Replicas

@@ -1,8 +1,9 @@
 -- Reading and writing at a place.
 use Rattle.std.proofs.Common.{◌≡◌, ◌≢◌, ℕ, zero, suc, ◌<◌, ◌≤◌, List, [], ◌∷◌, length, take, refl, sym, subst, ap, arith}
 use Rattle.std.specs.Prelude.{slice_index_or, slice_set}
-use Rattle.rhythm_base.specs.Ranked.{Entries}
-use Rattle.chain_bars.specs.Tower.{IsCheap, AreCheap, Tier, level, room_at, tier}
+use Rattle.rhythm_base.specs.Ranked.{CarryMatrix}
+use Rattle.rhythm_base.specs.Paths.{IsCheap, AreCheap}
+use Rattle.chain_bars.specs.Tower.{Level, level, room_at, tier}
 use Rattle.chain_bars.proofs.Towers.{cheap_at}
 
 pub index_same : {A : Type 0} (xs : List A) (n : ℕ) (x z : A) → n < length xs → x ≡ slice_index_or xs n x → x ≡ slice_index_or xs n z
@@ -15,7 +16,7 @@ default_same [] n z w h = absurd (omega arith)
 default_same (y ∷ xs) zero z w h = refl
 default_same (y ∷ xs) (suc n) z w h = default_same xs n z w (omega arith)
 
-pub index_cheap : (c : ℕ) (es : List Entries) (n : ℕ) (x : Entries) → AreCheap c es → n < length es → x ≡ slice_index_or es n x → IsCheap c x
+pub index_cheap : (c : ℕ) (es : List CarryMatrix) (n : ℕ) (x : CarryMatrix) → AreCheap c es → n < length es → x ≡ slice_index_or es n x → IsCheap c x
 index_cheap c es n x h low e = subst (IsCheap c) (sym (index_same es n x [] low e)) (cheap_at c es n h)
 
 pub set_length : {A : Type 0} (xs : List A) (n : ℕ) (x : A) → length (slice_set xs n x) ≡ length xs
@@ -41,11 +42,11 @@ length_take [] (suc n) h = absurd (omega (arith, h))
 length_take (x ∷ xs) (suc n) h = ap suc (length_take xs n (omega (arith, h)))
 
 -- what an index step reads
-pub tier_read : (ls : List Tier) (k : ℕ) (x : Tier) → k < length ls → x ≡ slice_index_or ls k x → x ≡ tier ls k
+pub tier_read : (ls : List Level) (k : ℕ) (x : Level) → k < length ls → x ≡ slice_index_or ls k x → x ≡ tier ls k
 tier_read ls k x low e = index_same ls k x _ low e
 
-pub level_read : (ls : List Tier) (k : ℕ) (x : Tier) → k < length ls → (slice_index_or ls k x).nodes ≡ level ls k
-level_read ls k x low = ap (λ (t : Tier). t.nodes) (default_same ls k x _ low)
+pub level_read : (ls : List Level) (k : ℕ) (x : Level) → k < length ls → (slice_index_or ls k x).nodes ≡ level ls k
+level_read ls k x low = ap (λ (t : Level). t.nodes) (default_same ls k x _ low)
 
-pub room_read : (ls : List Tier) (k : ℕ) (x : Tier) → k < length ls → (slice_index_or ls k x).room ≡ room_at ls k
-room_read ls k x low = ap (λ (t : Tier). t.room) (default_same ls k x _ low)
+pub room_read : (ls : List Level) (k : ℕ) (x : Level) → k < length ls → (slice_index_or ls k x).room ≡ room_at ls k
+room_read ls k x low = ap (λ (t : Level). t.room) (default_same ls k x _ low)

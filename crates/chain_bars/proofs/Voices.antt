@@ -7,47 +7,50 @@ use Rattle.std.specs.Cmp.Lexicographic.{slice_cmp}
 use Rattle.std.specs.declared.cmp.Ordering.{Ordering}
 use Rattle.std.specs.declared.cmp.Ordering.TheVariants.{Less, Equal, Greater}
 use Rattle.rhythm_base.specs.declared.best.Best.{Best}
-use Rattle.rhythm_base.specs.CellTables.{CellTable, IsTable, IsEntry, IsLeastInCell, cell_rank, list_at, is_lower, lower_in}
+use Rattle.rhythm_base.specs.BarTables.{BarTable, IsTable, IsEntry, IsLeastInCell, cell_rank, list_at, is_lower, lower_in}
+use Rattle.rhythm_base.specs.Lists.{last_end}
 use Rattle.rhythm_base.specs.Cells.{CellFits, cell_cost, input}
 use Rattle.rhythm_base.specs.Cost.{cost, sequence_of}
-use Rattle.rhythm_base.specs.Forest.{Branch, none, more, preorder, preorder_of}
-use Rattle.rhythm_base.specs.Leaves.{Fits, Measure}
+use Rattle.rhythm_base.specs.Forest.{Tree, none, more, preorder, preorder_of}
+use Rattle.rhythm_base.specs.Leaves.{Fits, VoiceBar}
 use Rattle.rhythm_base.specs.Least.{HasNone, IsLeast, rank_cmp, rank_of}
-use Rattle.rhythm_base.specs.Line.{Sounding}
-use Rattle.rhythm_base.specs.Paths.{path_key, end_of, AreCounts, HasWay, IsDeadCell, IsPathKey, IsLeastPath}
+use Rattle.rhythm_base.specs.declared.inner.Inner.{Inner}
+use Rattle.rhythm_base.specs.Paths.{path_key, AreCarried, HasWay, IsDeadCell, IsPathKey, IsLeastPath}
 use Rattle.rhythm_base.specs.Ranked as Ranked
-use Rattle.rhythm_base.specs.Ranked.{Entries, Key, at, count_under, is_before, is_under, joined, key_of, keys, list_cmp, one, plus}
-use Rattle.rhythm_base.specs.Rulebook.{Rulebook}
+use Rattle.rhythm_base.specs.Ranked.{CarryMatrix, Key, at, count_under, is_before, is_under, key_sum, key_of, least_key, list_cmp, one, plus}
+use Rattle.rhythm_base.specs.Grammar.{Grammar}
 use Rattle.rhythm_base.specs.Trees.{are_trees, is_tree}
 use Rattle.rhythm_laws.specs.Tables.{IsLeastKey}
 use Rattle.rhythm_laws.specs.Voices.{CellsFit, IsVoice, cell_costs}
-use Rattle.rhythm_laws.proofs.Alike.{lists_cmp, ranks_alike}
-use Rattle.rhythm_laws.proofs.KeyOrders.{above}
+use Rattle.rhythm_laws.specs.Rows.{lists_cmp}
+use Rattle.rhythm_laws.proofs.Alike.{ranks_alike}
+use Rattle.rhythm_laws.proofs.KeyOrders.{never_less, above}
 use Rattle.rhythm_laws.proofs.Locality.{cells-counts, counts-cells, locality, locality-back, locality-cost, dead-pass, pass-dead}
 use Rattle.rhythm_laws.proofs.Parsing.{no_prefix}
-use Rattle.rhythm_laws.proofs.PathTables.{keys-least_path}
+use Rattle.rhythm_laws.proofs.PathTables.{joined_parts, keys-least_path}
+use Rattle.rhythm_laws.proofs.Uniqueness.{not_less}
 use Rattle.rhythm_laws.proofs.Ranks.{both, preorders-cmp, ranks_total, sums_not_less}
 use Rattle.chain_bars.specs.Laws.{AreTables, ArePicked, matrices}
 use Rattle.rhythm_base.specs.DeadBars.{IsDead}
 use Rattle.rhythm_laws.specs.Passes.{CanPass, HasPass}
 use Rattle.chain_bars.proofs.Deaths.{end_low, is_some, joined_some, some_is, some_joined}
-use Rattle.chain_bars.proofs.Descents.{joined_parts, key_parts}
+use Rattle.chain_bars.proofs.Descents.{key_parts}
 
 -- ---- what an entry says of the tree whose list stands there
 
-pub record Entry (g : Rulebook) (x : CellTable) (a m : ℕ) (best : Best) (t : Branch) : Type 0 where
+pub record Entry (g : Grammar) (x : BarTable) (a m : ℕ) (best : Best) (t : Tree) : Type 0 where
   pub there : at x.matrix a m ≡ Some best
   pub least : IsLeastInCell g x.input t a m
   pub cost : best.cost ≡ cell_cost g x.input t
   pub list : list_at x a m ≡ Some (preorder_of t)
   pub rank : best.rank ≡ lower_in x a (preorder_of t) 5
 
-pub entry_of : (g : Rulebook) (x : CellTable) (a m : ℕ) (best : Best) → IsTable g x → a < 5 → m < 5 → at x.matrix a m ≡ Some best → (t : Branch) × Entry g x a m best t
+pub entry_of : (g : Grammar) (x : BarTable) (a m : ℕ) (best : Best) → IsTable g x → a < 5 → m < 5 → at x.matrix a m ≡ Some best → (t : Tree) × Entry g x a m best t
 entry_of g x a m best h la lm e =
     let entry = subst (IsEntry g x a m) e (h.entries a m la lm) in
     (entry.0, record { there = e; least = entry.1; cost = entry.2; list = entry.3; rank = entry.4 })
 
-one_tree : (g : Rulebook) (x : CellTable) (a m : ℕ) (best : Best) (t : Branch) → IsTable g x → a < 5 → m < 5 → at x.matrix a m ≡ Some best
+one_tree : (g : Grammar) (x : BarTable) (a m : ℕ) (best : Best) (t : Tree) → IsTable g x → a < 5 → m < 5 → at x.matrix a m ≡ Some best
     → is_tree g.rules x.input.resolution x.input.symbol x.input.pin t ≡ true → list_at x a m ≡ Some (preorder_of t) → Entry g x a m best t
 one_tree g x a m best t h la lm e tree list =
     let found = entry_of g x a m best h la lm e in
@@ -55,13 +58,13 @@ one_tree g x a m best t h la lm e tree list =
     let same_list : preorder_of found.0 ≡ preorder_of t = cc in
     let mine = both (are_trees g.rules ((x.input.resolution, x.input.symbol) ∷ []) (more t.rule t.kids none)) _ tree in
     let theirs = both (are_trees g.rules ((x.input.resolution, x.input.symbol) ∷ []) (more found.0.rule found.0.kids none)) _ found.1.least.fits.tree in
-    let same = no_prefix g.rules x.input.resolution x.input.symbol found.0 t [] theirs.0 mine.0 (append-nil (preorder_of found.0) ∙ same_list) in
+    let same = no_prefix g.rules (x.input.resolution, x.input.symbol) (x.input.resolution, x.input.symbol) found.0 t [] theirs.0 mine.0 (append-nil (preorder_of found.0) ∙ same_list) in
     subst (Entry g x a m best) same.0 found.1
 
-fits_entry : (g : Rulebook) (x : CellTable) (a m : ℕ) (u : Branch) → IsTable g x → CellFits g x.input u a m → (best : Best) × (t : Branch) × Entry g x a m best t
+fits_entry : (g : Grammar) (x : BarTable) (a m : ℕ) (u : Tree) → IsTable g x → CellFits g x.input u a m → (best : Best) × (t : Tree) × Entry g x a m best t
 fits_entry g x a m u h f = go (at x.matrix a m) refl
   where
-    go : (o : Option Best) → at x.matrix a m ≡ o → (best : Best) × (t : Branch) × Entry g x a m best t
+    go : (o : Option Best) → at x.matrix a m ≡ o → (best : Best) × (t : Tree) × Entry g x a m best t
     go None e = absurd ((subst (IsEntry g x a m) e (h.entries a m (omega (arith, f.few_from)) (omega (arith, f.few_to)))).1 u f)
     go (Some best) e = let found = entry_of g x a m best h (omega (arith, f.few_from)) (omega (arith, f.few_to)) e in (best, found.0, found.1)
 
@@ -71,10 +74,10 @@ abbrev wrap : Option (List ℕ) → Option Key
 wrap None = None
 wrap (Some l) = Some (0, l)
 
-abbrev row : CellTable → ℕ → ℕ → Option Key
+abbrev row : BarTable → ℕ → ℕ → Option Key
 row x a j = wrap (list_at x a j)
 
-lower_is : (x : CellTable) (a : ℕ) (l : List ℕ) (n : ℕ) → lower_in x a l n ≡ count_under (row x a) l n
+lower_is : (x : BarTable) (a : ℕ) (l : List ℕ) (n : ℕ) → lower_in x a l n ≡ count_under (row x a) l n
 lower_is x a l zero = refl
 lower_is x a l (suc n) = λ i. (if here (list_at x a n) i then 1 else 0) + lower_is x a l n i
   where
@@ -82,7 +85,7 @@ lower_is x a l (suc n) = λ i. (if here (list_at x a n) i then 1 else 0) + lower
     here None = refl
     here (Some y) = refl
 
-entries_cmp : (g : Rulebook) (x : CellTable) (a m n : ℕ) (b c : Best) (t u : Branch) → m < 5 → n < 5 → Entry g x a m b t → Entry g x a n c u
+entries_cmp : (g : Grammar) (x : BarTable) (a m n : ℕ) (b c : Best) (t u : Tree) → m < 5 → n < 5 → Entry g x a m b t → Entry g x a n c u
     → slice_cmp nat_cmp (preorder_of t) (preorder_of u) ≡ ordering_then (nat_cmp b.rank c.rank) Equal
 entries_cmp g x a m n b c t u lm ln h k =
     let r : ℕ → Option Key = row x a in
@@ -95,7 +98,7 @@ entries_cmp g x a m n b c t u lm ln h k =
     let second : count_under r (preorder_of u) 5 ≡ c.rank = sym (lower_is x a (preorder_of u) 5) ∙ sym k.rank in
     spelled ∙ (λ i. ordering_then (nat_cmp (first i) (second i)) Equal)
 
-trees_cmp : (g : Rulebook) (w s : ℕ) (t u : Branch) (xs ys : List ℕ) → are_trees g.rules ((w, s) ∷ []) (more t.rule t.kids none) ≡ true → are_trees g.rules ((w, s) ∷ []) (more u.rule u.kids none) ≡ true
+trees_cmp : (g : Grammar) (w s : ℕ) (t u : Tree) (xs ys : List ℕ) → are_trees g.rules ((w, s) ∷ []) (more t.rule t.kids none) ≡ true → are_trees g.rules ((w, s) ∷ []) (more u.rule u.kids none) ≡ true
     → slice_cmp nat_cmp (preorder_of t ++ xs) (preorder_of u ++ ys) ≡ ordering_then (slice_cmp nat_cmp (preorder_of t) (preorder_of u)) (slice_cmp nat_cmp xs ys)
 trees_cmp g w s t u xs ys p q =
     let left : preorder (more t.rule t.kids none) ≡ preorder_of t = append-nil (preorder_of t) in
@@ -104,12 +107,12 @@ trees_cmp g w s t u xs ys p q =
     ∙ preorders-cmp g.rules ((w, s) ∷ []) (more t.rule t.kids none) (more u.rule u.kids none) xs ys p q
     ∙ (λ i. ordering_then (slice_cmp nat_cmp (left i) (right i)) (slice_cmp nat_cmp xs ys))
 
-tree_of : (g : Rulebook) (x : CellTable) (a m : ℕ) (best : Best) (t : Branch) → Entry g x a m best t → are_trees g.rules ((x.input.resolution, x.input.symbol) ∷ []) (more t.rule t.kids none) ≡ true
+tree_of : (g : Grammar) (x : BarTable) (a m : ℕ) (best : Best) (t : Tree) → Entry g x a m best t → are_trees g.rules ((x.input.resolution, x.input.symbol) ∷ []) (more t.rule t.kids none) ≡ true
 tree_of g x a m best t h = (both (are_trees g.rules ((x.input.resolution, x.input.symbol) ∷ []) (more t.rule t.kids none)) _ h.least.fits.tree).0
 
 -- ---- least trees along a path
 
-abbrev pub Along : Rulebook → List CellTable → ℕ → List ℕ → List Branch → Key → Type 0
+abbrev pub Along : Grammar → List BarTable → ℕ → List ℕ → List Tree → Key → Type 0
 Along g [] a [] [] k = k ≡ (0, [])
 Along g [] a [] (t ∷ ts) k = ⊥
 Along g [] a (m ∷ p) ts k = ⊥
@@ -117,7 +120,7 @@ Along g (x ∷ xs) a [] ts k = ⊥
 Along g (x ∷ xs) a (m ∷ p) [] k = ⊥
 Along g (x ∷ xs) a (m ∷ p) (t ∷ ts) k = (m < 5) × ((best : Best) × (rest : Key) × Entry g x a m best t × Along g xs m p ts rest × (k ≡ plus (best.cost, best.rank ∷ []) rest))
 
-pub along_key : (g : Rulebook) (xs : List CellTable) (a : ℕ) (p : List ℕ) (ts : List Branch) (k : Key) → Along g xs a p ts k → AreCounts p × (path_key (matrices xs) a p ≡ Some k)
+pub along_key : (g : Grammar) (xs : List BarTable) (a : ℕ) (p : List ℕ) (ts : List Tree) (k : Key) → Along g xs a p ts k → AreCarried p × (path_key (matrices xs) a p ≡ Some k)
 along_key g [] a [] [] k h = (tt, ap Some (sym h))
 along_key g [] a [] (t ∷ ts) k h = absurd h
 along_key g [] a (m ∷ p) ts k h = absurd h
@@ -125,10 +128,10 @@ along_key g (x ∷ xs) a [] ts k h = absurd h
 along_key g (x ∷ xs) a (m ∷ p) [] k h = absurd h
 along_key g (x ∷ xs) a (m ∷ p) (t ∷ ts) k h =
     let rest = along_key g xs m p ts h.1.1 h.1.3 in
-    ((h.0, rest.0), (λ i. joined (key_of (h.1.2.there i)) (rest.1 i)) ∙ ap Some (sym h.1.4))
+    ((h.0, rest.0), (λ i. key_sum (key_of (h.1.2.there i)) (rest.1 i)) ∙ ap Some (sym h.1.4))
 
-pub along_fits : (g : Rulebook) (cs : List Sounding) (bars : List Measure) (xs : List CellTable) (a : ℕ) (p : List ℕ) (ts : List Branch) (k : Key) → AreTables g cs bars xs → Along g xs a p ts k
-    → CellsFit g cs bars ts a (end_of a p) × (cell_costs g cs bars ts ≡ k.0)
+pub along_fits : (g : Grammar) (cs : List Inner) (bars : List VoiceBar) (xs : List BarTable) (a : ℕ) (p : List ℕ) (ts : List Tree) (k : Key) → AreTables g cs bars xs → Along g xs a p ts k
+    → CellsFit g cs bars ts a (last_end a p) × (cell_costs g cs bars ts ≡ k.0)
 along_fits g cs [] [] a [] [] k h w = (refl, ap (λ (q : Key). q.0) (sym w))
 along_fits g cs [] [] a [] (t ∷ ts) k h w = absurd w
 along_fits g cs [] [] a (m ∷ p) ts k h w = absurd w
@@ -145,8 +148,8 @@ along_fits g cs (bar ∷ bars) (x ∷ xs) a (m ∷ p) (t ∷ ts) k h w =
     )
 
 -- some trees along a path
-pub path_trees : (g : Rulebook) (cs : List Sounding) (bars : List Measure) (xs : List CellTable) (a : ℕ) (p : List ℕ) (k : Key) → AreTables g cs bars xs → a < 5 → AreCounts p → path_key (matrices xs) a p ≡ Some k
-    → (ts : List Branch) × Along g xs a p ts k
+pub path_trees : (g : Grammar) (cs : List Inner) (bars : List VoiceBar) (xs : List BarTable) (a : ℕ) (p : List ℕ) (k : Key) → AreTables g cs bars xs → a < 5 → AreCarried p → path_key (matrices xs) a p ≡ Some k
+    → (ts : List Tree) × Along g xs a p ts k
 path_trees g cs [] [] a [] k h la c e = ([], let s : (0, []) ≡ k = cc in sym s)
 path_trees g cs [] [] a (m ∷ p) k h la c e = absurd (cc)
 path_trees g cs [] (x ∷ xs) a p k h la c e = absurd h
@@ -160,7 +163,7 @@ path_trees g cs (bar ∷ bars) (x ∷ xs) a (m ∷ p) k h la c e =
     (found.0 ∷ rest.0, (c.0, (best.0, parts.1, found.1, rest.1, parts.4 ∙ ap (λ q. plus q parts.1) best.2)))
 
 -- the picked trees along a path
-pub picked_along : (g : Rulebook) (cs : List Sounding) (bars : List Measure) (xs : List CellTable) (a : ℕ) (p : List ℕ) (ts : List Branch) (k : Key) → AreTables g cs bars xs → a < 5 → AreCounts p
+pub picked_along : (g : Grammar) (cs : List Inner) (bars : List VoiceBar) (xs : List BarTable) (a : ℕ) (p : List ℕ) (ts : List Tree) (k : Key) → AreTables g cs bars xs → a < 5 → AreCarried p
     → path_key (matrices xs) a p ≡ Some k → ArePicked g xs a p ts → Along g xs a p ts k
 picked_along g cs [] [] a [] [] k h la c e w = let s : (0, []) ≡ k = cc in sym s
 picked_along g cs [] [] a [] (t ∷ ts) k h la c e w = absurd w
@@ -178,15 +181,15 @@ picked_along g cs (bar ∷ bars) (x ∷ xs) a (m ∷ p) (t ∷ ts) k h la c e w 
 
 -- ---- a derivation against the least trees at its counts
 
-pub record Beaten (g : Rulebook) (cs : List Sounding) (bars : List Measure) (xs : List CellTable) (us : List Branch) (a b : ℕ) : Type 0 where
+pub record Beaten (g : Grammar) (cs : List Inner) (bars : List VoiceBar) (xs : List BarTable) (us : List Tree) (a b : ℕ) : Type 0 where
   pub path : List ℕ
-  pub ends : end_of a path ≡ b
+  pub ends : last_end a path ≡ b
   pub key : Key
-  pub trees : List Branch
+  pub trees : List Tree
   pub along : Along g xs a path trees key
   pub first : rank_cmp (cell_costs g cs bars us, sequence_of us) (key.0, sequence_of trees) ≢ Less
 
-pub beaten : (g : Rulebook) (cs : List Sounding) (bars : List Measure) (xs : List CellTable) (us : List Branch) (a b : ℕ) → AreTables g cs bars xs → CellsFit g cs bars us a b → Beaten g cs bars xs us a b
+pub beaten : (g : Grammar) (cs : List Inner) (bars : List VoiceBar) (xs : List BarTable) (us : List Tree) (a b : ℕ) → AreTables g cs bars xs → CellsFit g cs bars us a b → Beaten g cs bars xs us a b
 beaten g cs [] [] [] a b h f = record { path = []; ends = f; key = (0, []); trees = []; along = refl; first = λ e. absurd (cc) }
 beaten g cs [] [] (u ∷ us) a b h f = absurd f
 beaten g cs [] (x ∷ xs) us a b h f = absurd h
@@ -197,7 +200,7 @@ beaten g cs (bar ∷ bars) (x ∷ xs) (u ∷ us) a b h f =
     let fit : CellFits g x.input u a m = subst (λ c. CellFits g c u a m) (sym h.1) f.1 in
     let found = fits_entry g x a m u h.0 fit in
     let best : Best = found.0 in
-    let t : Branch = found.1 in
+    let t : Tree = found.1 in
     let entry : Entry g x a m best t = found.2 in
     let rest = beaten g cs bars xs us m b h.2 f.2 in
     let mine = both (are_trees g.rules ((x.input.resolution, x.input.symbol) ∷ []) (more u.rule u.kids none)) _ fit.tree in
@@ -216,7 +219,7 @@ beaten g cs (bar ∷ bars) (x ∷ xs) (u ∷ us) a b h f =
 
 -- ---- two paths order as their trees do
 
-pub along_cmp : (g : Rulebook) (cs : List Sounding) (bars : List Measure) (xs : List CellTable) (a : ℕ) (p q : List ℕ) (ts us : List Branch) (k l : Key) → AreTables g cs bars xs → a < 5
+pub along_cmp : (g : Grammar) (cs : List Inner) (bars : List VoiceBar) (xs : List BarTable) (a : ℕ) (p q : List ℕ) (ts us : List Tree) (k l : Key) → AreTables g cs bars xs → a < 5
     → Along g xs a p ts k → Along g xs a q us l → list_cmp k.1 l.1 ≡ slice_cmp nat_cmp (sequence_of ts) (sequence_of us)
 along_cmp g cs [] [] a [] [] [] [] k l h la v w = λ i. list_cmp ((v i).1) ((w i).1)
 along_cmp g cs [] [] a [] [] [] (u ∷ us) k l h la v w = absurd w
@@ -252,21 +255,10 @@ along_cmp g cs (bar ∷ bars) (x ∷ xs) a (m ∷ p) (n ∷ q) (t ∷ ts) (u ∷
 
 -- ---- the least path gives the least derivation
 
-less_is : (o : Ordering) → o ≢ Less → is_lt o ≡ false
-less_is Less f = absurd (f refl)
-less_is Equal f = refl
-less_is Greater f = refl
-
-is_less : (o : Ordering) → is_lt o ≡ false → o ≢ Less
-is_less o e f = let t : true ≡ false = ap is_lt (sym f) ∙ e in cc
-
-pub path_derivation : (g : Rulebook) (bars : List Measure) (cs : List Sounding) (xs : List CellTable) (p : List ℕ) (k : Key) (ts : List Branch) → IsVoice g bars cs → AreTables g cs bars xs
-    → IsLeastPath (matrices xs) 0 0 p k → ArePicked g xs 0 p ts → IsLeast g bars cs ts × (cost g bars cs ts ≡ k.0)
-path_derivation g bars cs xs p k ts voice h path picked = (record { fits = fits; first = first }, costs)
+along_derivation : (g : Grammar) (bars : List VoiceBar) (cs : List Inner) (xs : List BarTable) (p : List ℕ) (k : Key) (ts : List Tree) → IsVoice g bars cs → AreTables g cs bars xs
+    → IsLeastPath (matrices xs) 0 0 p k → Along g xs 0 p ts k → IsLeast g bars cs ts × (cost g bars cs ts ≡ k.0)
+along_derivation g bars cs xs p k ts voice h path along = (record { fits = fits; first = first }, costs)
   where
-    along : Along g xs 0 p ts k
-    along = picked_along g cs bars xs 0 p ts k h (omega arith) path.counts path.key picked
-
     here : CellsFit g cs bars ts 0 0
     here = subst (CellsFit g cs bars ts 0) path.ends (along_fits g cs bars xs 0 p ts k h along).0
 
@@ -276,55 +268,65 @@ path_derivation g bars cs xs p k ts voice h path picked = (record { fits = fits;
     costs : cost g bars cs ts ≡ k.0
     costs = locality-cost g bars cs ts voice fits ∙ (along_fits g cs bars xs 0 p ts k h along).1
 
-    first : (us : List Branch) → Fits g bars cs us 0 → rank_cmp (rank_of g bars cs us) (rank_of g bars cs ts) ≢ Less
+    first : (us : List Tree) → Fits g bars cs us 0 → rank_cmp (rank_of g bars cs us) (rank_of g bars cs ts) ≢ Less
     first us f =
         let by = locality g bars cs us voice f in
         let win = beaten g cs bars xs us 0 0 h (counts-cells g cs bars us 0 0 by.0 by.1 by.2) in
         let key = along_key g xs 0 win.path win.trees win.key win.along in
-        let least : is_before win.key k ≡ false = (subst (IsLeastKey (IsPathKey (matrices xs) 0 0)) path.least (keys-least_path (matrices xs) 0 0)).1 win.key (win.path, key.0, win.ends, key.1) in
+        let least : is_before win.key k ≡ false = path.least win.key (win.path, key.0, win.ends, key.1) in
         let order : list_cmp win.key.1 k.1 ≡ slice_cmp nat_cmp (sequence_of win.trees) (sequence_of ts) = along_cmp g cs bars xs 0 win.path p win.trees ts win.key k h (omega arith) win.along along in
         let second : is_lt (rank_cmp (win.key.0, sequence_of win.trees) (k.0, sequence_of ts)) ≡ false = ap (λ o. is_lt (ordering_then (nat_cmp win.key.0 k.0) o)) (sym order) ∙ least in
         let whole : is_lt (rank_cmp (cell_costs g cs bars us, sequence_of us) (k.0, sequence_of ts)) ≡ false =
-        above ranks_total (cell_costs g cs bars us, sequence_of us) (win.key.0, sequence_of win.trees) (k.0, sequence_of ts) (less_is (rank_cmp (cell_costs g cs bars us, sequence_of us) (win.key.0, sequence_of win.trees)) win.first) second in
-        is_less (rank_cmp (rank_of g bars cs us) (rank_of g bars cs ts))
+        above ranks_total (cell_costs g cs bars us, sequence_of us) (win.key.0, sequence_of win.trees) (k.0, sequence_of ts) (not_less (rank_cmp (cell_costs g cs bars us, sequence_of us) (win.key.0, sequence_of win.trees)) win.first) second in
+        never_less (rank_cmp (rank_of g bars cs us) (rank_of g bars cs ts))
         ((λ i. is_lt (rank_cmp (locality-cost g bars cs us voice f i, sequence_of us) (costs i, sequence_of ts))) ∙ whole)
+
+pub path_derivation : (g : Grammar) (bars : List VoiceBar) (cs : List Inner) (xs : List BarTable) (p : List ℕ) (k : Key) (ts : List Tree) → IsVoice g bars cs → AreTables g cs bars xs
+    → IsLeastPath (matrices xs) 0 0 p k → ArePicked g xs 0 p ts → IsLeast g bars cs ts × (cost g bars cs ts ≡ k.0)
+path_derivation g bars cs xs p k ts voice h path picked = along_derivation g bars cs xs p k ts voice h path (picked_along g cs bars xs 0 p ts k h (omega arith) path.counts path.key picked)
+
+pub key_derivation : (g : Grammar) (bars : List VoiceBar) (cs : List Inner) (xs : List BarTable) (k : Key) → IsVoice g bars cs → AreTables g cs bars xs
+    → least_key (matrices xs) 0 0 ≡ Some k → (ts : List Tree) × IsLeast g bars cs ts × (cost g bars cs ts ≡ k.0)
+key_derivation g bars cs xs k voice h e =
+    let least = subst (IsLeastKey (IsPathKey (matrices xs) 0 0)) e (keys-least_path (matrices xs) 0 0) in
+    let path = least.0 in
+    let trees = path_trees g cs bars xs 0 path.0 k h (omega arith) path.1 path.3 in
+    let won = along_derivation g bars cs xs path.0 k trees.0 voice h (record { counts = path.1; ends = path.2; key = path.3; least = least.1 }) trees.1 in
+    (trees.0, won.0, won.1)
 
 -- ---- there is a path exactly where a derivation fits
 
-pub path_none : (g : Rulebook) (bars : List Measure) (cs : List Sounding) (xs : List CellTable) → IsVoice g bars cs → AreTables g cs bars xs → (keys (matrices xs) 0 0 ≡ None) ↔ HasNone g bars cs
-path_none g bars cs xs voice h = (none_fits, λ f. no_path f (keys (matrices xs) 0 0) refl)
+pub path_none : (g : Grammar) (bars : List VoiceBar) (cs : List Inner) (xs : List BarTable) → IsVoice g bars cs → AreTables g cs bars xs → (least_key (matrices xs) 0 0 ≡ None) ↔ HasNone g bars cs
+path_none g bars cs xs voice h = (none_fits, λ f. no_path f (least_key (matrices xs) 0 0) refl)
   where
-    none_fits : keys (matrices xs) 0 0 ≡ None → HasNone g bars cs
+    none_fits : least_key (matrices xs) 0 0 ≡ None → HasNone g bars cs
     none_fits e us f =
         let by = locality g bars cs us voice f in
         let win = beaten g cs bars xs us 0 0 h (counts-cells g cs bars us 0 0 by.0 by.1 by.2) in
         let key = along_key g xs 0 win.path win.trees win.key win.along in
         (subst (IsLeastKey (IsPathKey (matrices xs) 0 0)) e (keys-least_path (matrices xs) 0 0)) win.key (win.path, key.0, win.ends, key.1)
 
-    no_path : HasNone g bars cs → (o : Option Key) → keys (matrices xs) 0 0 ≡ o → o ≡ None
+    no_path : HasNone g bars cs → (o : Option Key) → least_key (matrices xs) 0 0 ≡ o → o ≡ None
     no_path f None e = refl
     no_path f (Some k) e =
-        let path = (subst (IsLeastKey (IsPathKey (matrices xs) 0 0)) e (keys-least_path (matrices xs) 0 0)).0 in
-        let trees = path_trees g cs bars xs 0 path.0 k h (omega arith) path.1 path.3 in
-        let here : CellsFit g cs bars trees.0 0 0 = subst (CellsFit g cs bars trees.0 0) path.2 (along_fits g cs bars xs 0 path.0 trees.0 k h trees.1).0 in
-        let by = cells-counts g cs bars trees.0 0 0 here in
-        absurd (f trees.0 (locality-back g bars cs trees.0 voice by.0 by.1 by.2))
+        let least = key_derivation g bars cs xs k voice h e in
+        absurd (f least.0 least.1.fits)
 
 -- ---- the dead cell is the dead bar
 
-tables_long : (g : Rulebook) (cs : List Sounding) (bars : List Measure) (xs : List CellTable) → AreTables g cs bars xs → length (matrices xs) ≡ length bars
+tables_long : (g : Grammar) (cs : List Inner) (bars : List VoiceBar) (xs : List BarTable) → AreTables g cs bars xs → length (matrices xs) ≡ length bars
 tables_long g cs [] [] h = refl
 tables_long g cs [] (x ∷ xs) h = absurd h
 tables_long g cs (bar ∷ bars) [] h = absurd h
 tables_long g cs (bar ∷ bars) (x ∷ xs) h = ap suc (tables_long g cs bars xs h.2)
 
-pub record Way (es : List Entries) (a b : ℕ) : Type 0 where
+pub record Way (es : List CarryMatrix) (a b : ℕ) : Type 0 where
   pub counts : List ℕ
-  pub carried : AreCounts counts
+  pub carried : AreCarried counts
   pub there : IsSome (path_key es a counts)
-  pub ends : end_of a counts ≡ b
+  pub ends : last_end a counts ≡ b
 
-pass_way : (g : Rulebook) (cs : List Sounding) (bars : List Measure) (xs : List CellTable) (n a b : ℕ) → AreTables g cs bars xs → CanPass g cs (take n bars) a b → Way (take n (matrices xs)) a b
+pass_way : (g : Grammar) (cs : List Inner) (bars : List VoiceBar) (xs : List BarTable) (n a b : ℕ) → AreTables g cs bars xs → CanPass g cs (take n bars) a b → Way (take n (matrices xs)) a b
 pass_way g cs bars xs zero a b h w = record { counts = []; carried = tt; there = refl; ends = w }
 pass_way g cs [] [] (suc n) a b h w = record { counts = []; carried = tt; there = refl; ends = w }
 pass_way g cs [] (x ∷ xs) (suc n) a b h w = absurd h
@@ -340,7 +342,7 @@ pass_way g cs (bar ∷ bars) (x ∷ xs) (suc n) a b h w =
       ends = rest.ends;
     }
 
-way_pass : (g : Rulebook) (cs : List Sounding) (bars : List Measure) (xs : List CellTable) (n a b : ℕ) (p : List ℕ) → AreTables g cs bars xs → a < 5 → AreCounts p → IsSome (path_key (take n (matrices xs)) a p) → end_of a p ≡ b
+way_pass : (g : Grammar) (cs : List Inner) (bars : List VoiceBar) (xs : List BarTable) (n a b : ℕ) (p : List ℕ) → AreTables g cs bars xs → a < 5 → AreCarried p → IsSome (path_key (take n (matrices xs)) a p) → last_end a p ≡ b
     → CanPass g cs (take n bars) a b
 way_pass g cs bars xs zero a b [] h la c s e = e
 way_pass g cs bars xs zero a b (m ∷ p) h la c s e = absurd (cc)
@@ -356,7 +358,7 @@ way_pass g cs (bar ∷ bars) (x ∷ xs) (suc n) a b (m ∷ p) h la c s e =
     let found = entry_of g x a m best.0 h.0 la c.0 best.1 in
     (m, (found.0, subst (λ k. CellFits g k found.0 a m) h.1 found.1.least.fits), way_pass g cs bars xs n m b p h.2 c.0 c.1 parts.1 e)
 
-module _ (g : Rulebook) (bars : List Measure) (cs : List Sounding) (xs : List CellTable) (h : AreTables g cs bars xs) where
+module _ (g : Grammar) (bars : List VoiceBar) (cs : List Inner) (xs : List BarTable) (h : AreTables g cs bars xs) where
   has_way : (i : ℕ) → HasPass g bars cs i → HasWay (matrices xs) i
   has_way i w =
       let way = pass_way g cs bars xs (i + 1) 0 w.to h w.passes in
@@ -364,15 +366,15 @@ module _ (g : Rulebook) (bars : List Measure) (cs : List Sounding) (xs : List Ce
 
   has_pass : (i : ℕ) → HasWay (matrices xs) i → HasPass g bars cs i
   has_pass i w =
-      let low : end_of 0 w.counts < 5 = end_low 0 w.counts (omega arith) w.carried in
+      let low : last_end 0 w.counts < 5 = end_low 0 w.counts (omega arith) w.carried in
       record {
-        to = end_of 0 w.counts;
-        passes = way_pass g cs bars xs (i + 1) 0 (end_of 0 w.counts) w.counts h (omega arith) w.carried w.there refl;
+        to = last_end 0 w.counts;
+        passes = way_pass g cs bars xs (i + 1) 0 (last_end 0 w.counts) w.counts h (omega arith) w.carried w.there refl;
         few = omega (arith, low);
         none_last = λ last. w.none_last (last ∙ sym (tables_long g cs bars xs h));
       }
 
-pub dead_bar : (g : Rulebook) (bars : List Measure) (cs : List Sounding) (xs : List CellTable) (i : ℕ) → IsVoice g bars cs → AreTables g cs bars xs → IsDeadCell (matrices xs) i ↔ IsDead g bars cs i
+pub dead_bar : (g : Grammar) (bars : List VoiceBar) (cs : List Inner) (xs : List BarTable) (i : ℕ) → IsVoice g bars cs → AreTables g cs bars xs → IsDeadCell (matrices xs) i ↔ IsDead g bars cs i
 dead_bar g bars cs xs i voice h = (
   (λ d. pass-dead g bars cs i voice (subst (λ n. i < n) (tables_long g cs bars xs h) d.cell) (λ w. d.dead (has_way g bars cs xs h i w)) (λ j low. has_pass g bars cs xs h j (d.first j low))),
   (λ d. let by = dead-pass g bars cs i voice d in record {

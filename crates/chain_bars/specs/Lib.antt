@@ -1,4 +1,4 @@
-pub mod Chained
+pub mod Chain
 pub mod Endings
 pub mod Laws
 pub mod Reaches

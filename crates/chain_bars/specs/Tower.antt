@@ -1,28 +1,31 @@
 -- Levels of partial products: each has the products of two neighbours of the one below, and a lone last one as it is.
+use Rattle.rhythm_base.specs.declared.limits.TheConstants.{MOST_BARS, DEAREST_CELL}
 use Rattle.std.specs.Prelude.{◌≡◌, ℕ, ◌+◌, ◌/◌, ◌<◌, ◌≤◌, List, [], ◌∷◌, length, slice_index_or, Option, Some, None}
 use Rattle.std.proofs.Common.{zero, suc}
 use Rattle.rhythm_base.specs.declared.best.Best.{Best}
-use Rattle.rhythm_base.specs.Ranked.{Entries, at, Key, product_of}
-use Rattle.rhythm_base.specs.Paths.{IsRanked}
+use Rattle.rhythm_base.specs.Paths.{AreCheap}
+use Rattle.rhythm_base.specs.Ranked.{CarryMatrix, Key, product_of}
+use Rattle.rhythm_laws.specs.Tables.{AllRanked}
 
 -- ---- what stands above the cells
 
-abbrev pub paired : List Entries → List Entries
-paired [] = []
-paired (x ∷ []) = x ∷ []
-paired (x ∷ y ∷ es) = product_of x y ∷ paired es
+abbrev pub level_above : List CarryMatrix → List CarryMatrix
+level_above [] = []
+level_above (x ∷ []) = x ∷ []
+level_above (x ∷ y ∷ es) = product_of x y ∷ level_above es
 
 -- what stands above the places 2 k and 2 k + 1
-abbrev pub node_at : List Entries → ℕ → Entries
+abbrev pub node_at : List CarryMatrix → ℕ → CarryMatrix
 node_at [] k = []
 node_at (x ∷ []) zero = x
 node_at (x ∷ []) (suc k) = []
 node_at (x ∷ y ∷ es) zero = product_of x y
 node_at (x ∷ y ∷ es) (suc k) = node_at es k
 
-abbrev pub raised : List Entries → ℕ → List Entries
-raised es zero = es
-raised es (suc k) = paired (raised es k)
+-- the level so many above the cells
+abbrev pub level_of : List CarryMatrix → ℕ → List CarryMatrix
+level_of es zero = es
+level_of es (suc k) = level_above (level_of es k)
 
 -- how many nodes the level k has above n cells
 abbrev pub halved : ℕ → ℕ → ℕ
@@ -31,50 +34,39 @@ halved n (suc k) = (halved n k + 1) / 2
 
 -- ---- cells
 
-abbrev pub IsCheap : ℕ → Entries → Type 0
-IsCheap c m = (i j : ℕ) (e : Best) → at m i j ≡ Some e → e.cost ≤ c
-
-abbrev pub AreCheap : ℕ → List Entries → Type 0
-AreCheap c [] = Unit {0}
-AreCheap c (m ∷ es) = IsCheap c m × AreCheap c es
-
-abbrev pub AreRanked : List Entries → Type 0
-AreRanked [] = Unit {0}
-AreRanked (m ∷ es) = IsRanked m × AreRanked es
-
-pub record AreCells (cells : List Entries) : Type 0 where
-  pub few : length cells ≤ 4096
+pub record AreCells (cells : List CarryMatrix) : Type 0 where
+  pub few : length cells ≤ MOST_BARS
   pub some : 1 ≤ length cells
-  pub ranked : AreRanked cells
-  pub cheap : AreCheap 500000000000 cells
+  pub ranked : AllRanked cells
+  pub cheap : AreCheap DEAREST_CELL cells
 
 -- ---- levels
 
 -- a level: its nodes, and for how many nodes it has memory
-pub record Tier : Type 0 where
-  pub nodes : List Entries
+pub record Level : Type 0 where
+  pub nodes : List CarryMatrix
   pub room : ℕ
 
-abbrev pub tier : List Tier → ℕ → Tier
+abbrev pub tier : List Level → ℕ → Level
 tier ls k = slice_index_or ls k (record { nodes = []; room = 0 })
 
-abbrev pub level : List Tier → ℕ → List Entries
+abbrev pub level : List Level → ℕ → List CarryMatrix
 level ls k = (tier ls k).nodes
 
-abbrev pub room_at : List Tier → ℕ → ℕ
+abbrev pub room_at : List Level → ℕ → ℕ
 room_at ls k = (tier ls k).room
 
 -- the cells and what stands above them: at the thirteenth level a single node stands above up to 4,096 cells
-pub record IsTower (cells : List Entries) (ls : List Tier) : Type 0 where
+pub record IsTower (cells : List CarryMatrix) (ls : List Level) : Type 0 where
   pub count : length ls ≡ 13
-  pub each : (k : ℕ) → k < 13 → level ls k ≡ raised cells k
+  pub each : (k : ℕ) → k < 13 → level ls k ≡ level_of cells k
 
 -- each level has memory for what stands there above n cells
-abbrev pub HasRoom : ℕ → List Tier → Type 0
+abbrev pub HasRoom : ℕ → List Level → Type 0
 HasRoom n ls = (k : ℕ) → k < 13 → halved n k ≤ room_at ls k
 
 -- the levels of a chain that has memory for so many cells
-pub record IsChain (ls : List Tier) (room : ℕ) : Type 0 where
+pub record IsChain (ls : List Level) (room : ℕ) : Type 0 where
   pub cells : AreCells (level ls 0)
   pub tower : IsTower (level ls 0) ls
   pub held : HasRoom room ls

@@ -1,7 +1,9 @@
-ghost use Rattle.chain_bars.specs.Tower.{AreCells, AreCheap, IsCheap, IsTower, best_cost, cost_of, level};
+ghost use Rattle.rhythm_base.specs.declared.limits.TheConstants.{MOST_BARS};
+ghost use Rattle.rhythm_base.specs.Paths.{AreCheap, IsCheap};
+ghost use Rattle.chain_bars.specs.Tower.{AreCells, IsTower, best_cost, cost_of, level};
 ghost use Rattle.carry_matrix.specs.LowSums.{HaveLowSums};
 ghost use Rattle.rhythm_base.specs.Counter.{risen};
-ghost use Rattle.rhythm_base.specs.Ranked.{at, five, keys, product_of};
+ghost use Rattle.rhythm_base.specs.Ranked.{at, five, least_key, product_of};
 ghost use Rattle.std.specs.Prelude.{
   ◌≡◌,
   ◌+◌,
@@ -79,6 +81,7 @@ fn with_left<P: Tag>(
     ensures right { 2 * (place / 2) < place → result ≡ product_of (slice_index_or nodes.now (2 * (place / 2)) []) before.now }
     ensures left { place ≤ 2 * (place / 2) → result ≡ before.now }
     ensures products { products.new ≤ risen products.old 1 }
+    ensures rises { products.old ≤ products.new }
     ensures single { length nodes.now ≤ 1 → products.new ≡ products.old }
 {
     let left = 2 * (place / 2);
@@ -96,7 +99,7 @@ fn with_right<P: Tag>(
     after: &CarryMatrix,
     products: &mut Steps<P>,
 ) -> CarryMatrix
-    requires few { length nodes.now ≤ 4096 }
+    requires few { length nodes.now ≤ MOST_BARS }
     requires place { place < length nodes.now }
     requires cheap { AreCheap (2 ^ 61 - 1) nodes.now }
     requires small { IsCheap (2 ^ 61 - 1) after.now }
@@ -104,6 +107,7 @@ fn with_right<P: Tag>(
     ensures lone { length nodes.now ≤ place + 1 → result ≡ after.now }
     ensures right { 2 * (place / 2) < place → result ≡ after.now }
     ensures products { products.new ≤ risen products.old 1 }
+    ensures rises { products.old ≤ products.new }
     ensures single { length nodes.now ≤ 1 → products.new ≡ products.old }
 {
     if 2 * (place / 2) < place {
@@ -120,9 +124,10 @@ pub fn around_of<P: Tag>(levels: &[Level], at: usize, products: &mut Steps<P>) -
     requires cells { AreCells (level levels.now 0) }
     requires tower { IsTower (level levels.now 0) levels.now }
     requires at { at < length (level levels.now 0) }
-    ensures before { result.before ≡ five (λ to. cost_of (keys (take at (level levels.now 0)) 0 to)) }
-    ensures after { result.after ≡ five (λ from. cost_of (keys (drop (at + 1) (level levels.now 0)) from 0)) }
+    ensures before { result.before ≡ five (λ to. cost_of (least_key (take at (level levels.now 0)) 0 to)) }
+    ensures after { result.after ≡ five (λ from. cost_of (least_key (drop (at + 1) (level levels.now 0)) from 0)) }
     ensures products { (d : ℕ) → length (level levels.now 0) ≤ 2 ^ d → products.new ≤ risen products.old (2 * d) }
+    ensures rises { products.old ≤ products.new }
 {
     let mut before = CarryMatrix::identity();
     let mut after = CarryMatrix::identity();

@@ -1,7 +1,9 @@
-ghost use Rattle.chain_bars.specs.Tower.{AreCells, AreCheap, IsTower, cost_of, level};
+ghost use Rattle.rhythm_base.specs.declared.limits.TheConstants.{MOST_BARS};
+ghost use Rattle.rhythm_base.specs.Paths.{AreCheap};
+ghost use Rattle.chain_bars.specs.Tower.{AreCells, IsTower, cost_of, level};
 ghost use Rattle.chain_bars.specs.Walks.{AreCarries, descended, number_or};
-ghost use Rattle.rhythm_base.specs.Paths.{AreCounts};
-ghost use Rattle.rhythm_base.specs.Ranked.{keys, middle_of};
+ghost use Rattle.rhythm_base.specs.Paths.{AreCarried};
+ghost use Rattle.rhythm_base.specs.Ranked.{least_key, middle_of};
 ghost use Rattle.std.specs.Prelude.{
   ◌≡◌,
   ◌+◌,
@@ -45,7 +47,7 @@ fn push_below(
     from: u8,
     to: u8,
 ) -> Result<(), AllocError>
-    requires few { length nodes.now ≤ 4096 }
+    requires few { length nodes.now ≤ MOST_BARS }
     requires cheap { AreCheap (2 ^ 61 - 1) nodes.now }
     requires left { left < length nodes.now }
     requires from { from < 5 }
@@ -65,10 +67,10 @@ fn push_below(
 
 /// The counts at the barlines of a level, from those of the level above it.
 fn one_down(alloc: Global, nodes: &[CarryMatrix], above: &[u8]) -> Result<Vec<u8>, AllocError>
-    requires few { length nodes.now ≤ 4096 }
+    requires few { length nodes.now ≤ MOST_BARS }
     requires cheap { AreCheap (2 ^ 61 - 1) nodes.now }
     requires some { 1 ≤ length above.now }
-    requires counts { AreCounts above.now }
+    requires counts { AreCarried above.now }
     requires covers { length nodes.now ≤ 2 * (length above.now - 1) }
     requires fits { 2 * (length above.now - 1) ≤ length nodes.now + 1 }
     ensures { IfOk result (λ v. v.items ≡ descended nodes.now above.now) }
@@ -88,7 +90,7 @@ fn one_down(alloc: Global, nodes: &[CarryMatrix], above: &[u8]) -> Result<Vec<u8
 pub fn carries_of(alloc: Global, levels: &[Level]) -> Result<Vec<u8>, AllocError>
     requires cells { AreCells (level levels.now 0) }
     requires tower { IsTower (level levels.now 0) levels.now }
-    requires path { IsSome (cost_of (keys (level levels.now 0) 0 0)) }
+    requires path { IsSome (cost_of (least_key (level levels.now 0) 0 0)) }
     ensures { IfOk result (λ v. AreCarries (level levels.now 0) v.items) }
 {
     let mut counts = Vec::new(alloc);

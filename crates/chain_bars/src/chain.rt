@@ -1,8 +1,10 @@
+ghost use Rattle.rhythm_base.specs.declared.limits.TheConstants.{MOST_BARS, DEAREST_CELL};
 ghost use Rattle.rhythm_base.specs.Counter.{risen};
 ghost use Rattle.chain_bars.specs.Walks.{AreCarries};
 ghost use Rattle.rhythm_base.specs.Paths.{IsDeadCell};
-ghost use Rattle.chain_bars.specs.Tower.{AreCheap, IsCheap, cost_of};
-ghost use Rattle.rhythm_base.specs.Ranked.{Entries, five, keys};
+ghost use Rattle.rhythm_base.specs.Paths.{AreCheap, IsCheap};
+ghost use Rattle.chain_bars.specs.Tower.{cost_of};
+ghost use Rattle.rhythm_base.specs.Ranked.{CarryMatrix, five, least_key};
 ghost use Rattle.std.specs.Prelude.{◌≡◌, ◌+◌, ◌<◌, ◌≤◌, ◌^◌, ℕ, List, ◌*◌, IfOk, drop, take, IfSome, IsNone, IsSome, ◌↔◌, length, slice_set, ◌++◌, ◌∷◌, [], ◌-◌, IfErr};
 
 use crate::around::{Around, around_of};
@@ -24,10 +26,10 @@ pub struct Chain {
 }
 
 impl Model for Chain {
-    ghost use Rattle.chain_bars.specs.Chained.{Chained};
+    ghost use Rattle.chain_bars.specs.Chain.{Chain};
     ghost use Rattle.chain_bars.specs.Tower.{IsChain, level};
 
-    ghost Value = { Chained };
+    ghost Value = { Chain };
 
     ghost view = { λ c. record { cells = level c.levels.items 0; room = c.room } };
 
@@ -43,12 +45,13 @@ impl Chain {
         products: &mut Steps<P>,
     ) -> Result<Chain, AllocError>
         requires some { 1 ≤ length cells.now }
-        requires few { length cells.now ≤ 4096 }
-        requires cheap { AreCheap 500000000000 cells.now }
+        requires few { length cells.now ≤ MOST_BARS }
+        requires cheap { AreCheap DEAREST_CELL cells.now }
         ensures cells { IfOk result (λ c. c.cells ≡ cells.now) }
         ensures room { IfOk result (λ c. length cells.now ≤ c.room) }
         ensures products { IfOk result (λ _. products.new ≡ risen products.old (length cells.now - 1)) }
         ensures most { products.new ≤ risen products.old (length cells.now - 1) }
+        ensures rises { products.old ≤ products.new }
     {
         see_all(cells);
         let levels = grown(alloc, Level::copy_of(alloc, cells)?, products)?;
@@ -61,7 +64,7 @@ impl Chain {
     /// Takes memory, so that the chain grows up to so many cells without taking more. After want of memory the room is as
     /// before.
     pub fn reserve(&mut self, cells: u32) -> Result<(), AllocError>
-        requires { cells ≤ 4096 }
+        requires { cells ≤ MOST_BARS }
         ensures cells { self.new.cells ≡ self.old.cells }
         ensures room { self.old.room ≤ self.new.room }
         ensures ok { IfOk result (λ _. cells ≤ self.new.room) }
@@ -76,10 +79,11 @@ impl Chain {
     /// Sets a cell: at most `d` products where there are at most `2 ^ d` cells.
     pub fn replace<P: Tag>(&mut self, at: usize, cell: &CarryMatrix, products: &mut Steps<P>)
         requires at { at < length self.old.cells }
-        requires cheap { IsCheap 500000000000 cell.now }
+        requires cheap { IsCheap DEAREST_CELL cell.now }
         ensures cells { self.new.cells ≡ slice_set self.old.cells at cell.now }
         ensures room { self.new.room ≡ self.old.room }
         ensures products { (d : ℕ) → length self.old.cells ≤ 2 ^ d → products.new ≤ risen products.old d }
+        ensures rises { products.old ≤ products.new }
     {
         renew(self.levels.as_mut_slice(), at, cell, products);
     }
@@ -91,13 +95,14 @@ impl Chain {
         cell: &CarryMatrix,
         products: &mut Steps<P>,
     ) -> Result<(), AllocError>
-        requires few { length self.old.cells < 4096 }
-        requires cheap { IsCheap 500000000000 cell.now }
+        requires few { length self.old.cells < MOST_BARS }
+        requires cheap { IsCheap DEAREST_CELL cell.now }
         ensures ok { IfOk result (λ _. self.new.cells ≡ self.old.cells ++ cell.now ∷ []) }
-        ensures err { IfErr result (λ _. (self.new.cells ≡ self.old.cells) × (products.new ≡ products.old)) }
+        ensures err { IfErr result (λ _. (self.new.cells ≡ self.old.cells) × (self.new.room ≡ self.old.room) × (products.new ≡ products.old)) }
         ensures room { self.old.room ≤ self.new.room }
         ensures fits { length self.new.cells ≤ self.new.room }
         ensures products { (d : ℕ) → length self.old.cells + 1 ≤ 2 ^ d → products.new ≤ risen products.old d }
+        ensures rises { products.old ≤ products.new }
     {
         let count = self.count();
         self.reserve(count + 1)?;
@@ -108,12 +113,13 @@ impl Chain {
     /// Adds a cell behind the last, within the room and so without memory: at most `d` products where there are then at most
     /// `2 ^ d` cells.
     pub fn push_within<P: Tag>(&mut self, cell: &CarryMatrix, products: &mut Steps<P>)
-        requires few { length self.old.cells < 4096 }
+        requires few { length self.old.cells < MOST_BARS }
         requires within { length self.old.cells < self.old.room }
-        requires cheap { IsCheap 500000000000 cell.now }
+        requires cheap { IsCheap DEAREST_CELL cell.now }
         ensures cells { self.new.cells ≡ self.old.cells ++ cell.now ∷ [] }
         ensures room { self.new.room ≡ self.old.room }
         ensures products { (d : ℕ) → length self.old.cells + 1 ≤ 2 ^ d → products.new ≤ risen products.old d }
+        ensures rises { products.old ≤ products.new }
     {
         extend(self.levels.as_mut_slice(), cell, products);
     }
@@ -124,6 +130,7 @@ impl Chain {
         ensures cells { self.new.cells ≡ take (length self.old.cells - 1) self.old.cells }
         ensures room { self.new.room ≡ self.old.room }
         ensures products { (d : ℕ) → length self.old.cells ≤ 2 ^ d → products.new ≤ risen products.old d }
+        ensures rises { products.old ≤ products.new }
     {
         shorten(self.levels.as_mut_slice(), products);
     }
@@ -137,7 +144,7 @@ impl Chain {
 
     /// The cost of the least path from 0 carried in to 0 carried out, none where there is no path.
     pub fn total(&self) -> Option<u64>
-        ensures { result ≡ cost_of (keys self.now.cells 0 0) }
+        ensures { result ≡ cost_of (least_key self.now.cells 0 0) }
     {
         let levels = self.levels.as_slice();
         let top = levels[levels.len() - 1].slice();
@@ -149,9 +156,11 @@ impl Chain {
 
     /// The counts of chords carried over the barlines on the least path from 0 to 0, from the barline before the first cell
     /// to that behind the last.
+    #[tactic(auto, using(crate::proofs::Descents::carries_long))]
     pub fn carries(&self, alloc: Global) -> Result<Vec<u8>, AllocError>
-        requires { IsSome (cost_of (keys self.now.cells 0 0)) }
-        ensures { IfOk result (λ v. AreCarries self.now.cells v.items) }
+        requires { IsSome (cost_of (least_key self.now.cells 0 0)) }
+        ensures path { IfOk result (λ v. AreCarries self.now.cells v.items) }
+        ensures length { IfOk result (λ v. length v.items ≡ length self.now.cells + 1) }
     {
         carries_of(alloc, self.levels.as_slice())
     }
@@ -160,7 +169,7 @@ impl Chain {
     /// voice, the first bar at which it has no derivation.
     pub fn first_dead(&self) -> Option<u32>
         ensures dead { IfSome result (λ i. IsDeadCell self.now.cells i) }
-        ensures none { IsNone result ↔ IsSome (cost_of (keys self.now.cells 0 0)) }
+        ensures none { IsNone result ↔ IsSome (cost_of (least_key self.now.cells 0 0)) }
     {
         first_dead_of(self.levels[0].slice())
     }
@@ -169,9 +178,10 @@ impl Chain {
     /// are at most `2 ^ d` cells.
     pub fn around<P: Tag>(&self, at: usize, products: &mut Steps<P>) -> Around
         requires at { at < length self.now.cells }
-        ensures before { result.before ≡ five (λ to. cost_of (keys (take at self.now.cells) 0 to)) }
-        ensures after { result.after ≡ five (λ from. cost_of (keys (drop (at + 1) self.now.cells) from 0)) }
+        ensures before { result.before ≡ five (λ to. cost_of (least_key (take at self.now.cells) 0 to)) }
+        ensures after { result.after ≡ five (λ from. cost_of (least_key (drop (at + 1) self.now.cells) from 0)) }
         ensures products { (d : ℕ) → length self.now.cells ≤ 2 ^ d → products.new ≤ risen products.old (2 * d) }
+        ensures rises { products.old ≤ products.new }
     {
         around_of(self.levels.as_slice(), at, products)
     }

@@ -1,7 +1,8 @@
-ghost use Rattle.chain_bars.specs.Reaches.{CanStep, IsReached};
+ghost use Rattle.rhythm_base.specs.declared.limits.TheConstants.{MOST_BARS};
+ghost use Rattle.chain_bars.specs.Reaches.{CanStep, IsReachedCount};
 ghost use Rattle.chain_bars.specs.Tower.{cost_of};
 ghost use Rattle.rhythm_base.specs.Paths.{IsDeadCell};
-ghost use Rattle.rhythm_base.specs.Ranked.{at, keys};
+ghost use Rattle.rhythm_base.specs.Ranked.{at, least_key};
 ghost use Rattle.std.specs.Prelude.{
   ◌≡◌,
   ◌<◌,
@@ -63,9 +64,9 @@ fn is_any(reached: &[bool; 5]) -> bool
 /// The first cell over which no counts lead from 0, the last of them to 0.
 pub fn first_dead_of(cells: &[CarryMatrix]) -> Option<u32>
     requires some { 1 ≤ length cells.now }
-    requires few { length cells.now ≤ 4096 }
+    requires few { length cells.now ≤ MOST_BARS }
     ensures dead { IfSome result (λ i. IsDeadCell cells.now i) }
-    ensures none { IsNone result ↔ IsSome (cost_of (keys cells.now 0 0)) }
+    ensures none { IsNone result ↔ IsSome (cost_of (least_key cells.now 0 0)) }
 {
     let mut reached = [true, false, false, false, false];
     'cells: for number in 0..cells.len() {

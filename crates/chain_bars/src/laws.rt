@@ -3,11 +3,17 @@ ghost use Rattle.chain_bars.specs.Laws.{
   KeysAreLeast,
   NoPathIsNoDerivation,
   PathsAreDerivations,
+  PathsGiveDerivations,
 };
 
 /// The least path over the tables of a voice, with each bar's least tree, is the least derivation of the voice.
 pub fn paths_are_derivations()
     ensures { PathsAreDerivations }
+{}
+
+/// Where there is a path, the voice has a least derivation, of the cost of the least path.
+pub fn paths_give_derivations()
+    ensures { PathsGiveDerivations }
 {}
 
 /// There is no path exactly where no derivation fits.

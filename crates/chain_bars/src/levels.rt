@@ -1,23 +1,11 @@
+ghost use Rattle.rhythm_base.specs.declared.limits.TheConstants.{MOST_BARS, DEAREST_CELL};
 ghost use Rattle.rhythm_base.specs.Counter.{risen};
 ghost use Rattle.chain_bars.specs.Endings.{HasNewEnd};
-ghost use Rattle.chain_bars.specs.Tower.{
-  AreCells,
-  AreCheap,
-  AreRanked,
-  HasRoom,
-  IsCheap,
-  IsTower,
-  best_cost,
-  cost_of,
-  halved,
-  level,
-  node_at,
-  paired,
-  raised,
-  room_at,
-};
+ghost use Rattle.rhythm_base.specs.Paths.{AreCheap, IsCheap};
+ghost use Rattle.chain_bars.specs.Tower.{AreCells, HasRoom, IsTower, best_cost, cost_of, halved, level, node_at, level_above, level_of, room_at};
 ghost use Rattle.rhythm_base.specs.Paths.{IsRanked};
-ghost use Rattle.rhythm_base.specs.Ranked.{Entries, at, keys};
+ghost use Rattle.rhythm_laws.specs.Tables.{AllRanked};
+ghost use Rattle.rhythm_base.specs.Ranked.{CarryMatrix, at, least_key};
 ghost use Rattle.std.specs.Prelude.{
   ◌≡◌,
   ◌+◌,
@@ -58,10 +46,10 @@ pub struct Level {
 }
 
 impl Model for Level {
-    ghost use Rattle.chain_bars.specs.Tower.{Tier};
+    ghost use Rattle.chain_bars.specs.Tower.{Level};
     ghost use Rattle.std.specs.Prelude.{vec_capacity};
 
-    ghost Value = { Tier };
+    ghost Value = { Level };
 
     ghost view = { λ l. record { nodes = l.nodes.items; room = vec_capacity l.nodes } };
 }
@@ -143,12 +131,13 @@ impl Level {
         alloc: Global,
         products: &mut Steps<P>,
     ) -> Result<Level, AllocError>
-        requires few { length self.now.nodes ≤ 4096 }
+        requires few { length self.now.nodes ≤ MOST_BARS }
         requires cheap { AreCheap (2 ^ 61 - 1) self.now.nodes }
-        ensures nodes { IfOk result (λ l. l.nodes ≡ paired self.now.nodes) }
+        ensures nodes { IfOk result (λ l. l.nodes ≡ level_above self.now.nodes) }
         ensures room { IfOk result (λ l. (length self.now.nodes + 1) / 2 ≤ l.room) }
         ensures products { IfOk result (λ _. products.new ≡ risen products.old (length self.now.nodes / 2)) }
         ensures none { IfErr result (λ _. products.new ≡ products.old) }
+        ensures rises { products.old ≤ products.new }
     {
         let count = (self.len() + 1) / 2;
         let mut nodes = Vec::with_capacity(alloc, count)?;
@@ -161,12 +150,13 @@ impl Level {
 
 /// What stands above two neighbours, or above a lone last one.
 pub fn joined<P: Tag>(nodes: &[CarryMatrix], at: usize, products: &mut Steps<P>) -> CarryMatrix
-    requires few { length nodes.now ≤ 4096 }
+    requires few { length nodes.now ≤ MOST_BARS }
     requires at { 2 * at < length nodes.now }
     requires cheap { AreCheap (2 ^ 61 - 1) nodes.now }
     ensures result { result ≡ node_at nodes.now at }
     ensures two { 2 * at + 1 < length nodes.now → products.new ≡ risen products.old 1 }
     ensures lone { length nodes.now ≤ 2 * at + 1 → products.new ≡ products.old }
+    ensures rises { products.old ≤ products.new }
 {
     let first = &nodes[2 * at];
     match nodes.get(2 * at + 1) {
@@ -175,12 +165,12 @@ pub fn joined<P: Tag>(nodes: &[CarryMatrix], at: usize, products: &mut Steps<P>)
     }
 }
 
-/// What every cell keeps.
+/// What every cell keeps, as `get` tells it.
 pub fn see_all(cells: &[CarryMatrix])
-    ensures { AreRanked cells.now }
+    ensures { AllRanked cells.now }
 {
     'cells: for number in 0..cells.len() {
-        cells[number].see();
+        let _ = cells[number].get(0, 0);
     }
 }
 
@@ -196,6 +186,7 @@ pub fn grown<P: Tag>(
     ensures room { IfOk result (λ v. HasRoom (length cells.nodes) v.items) }
     ensures products { IfOk result (λ _. products.new ≡ risen products.old (length cells.nodes - 1)) }
     ensures most { products.new ≤ risen products.old (length cells.nodes - 1) }
+    ensures rises { products.old ≤ products.new }
 {
     let mut levels = Vec::new(alloc);
     levels.push(cells)?;
@@ -209,7 +200,7 @@ pub fn grown<P: Tag>(
 /// Takes memory for what stands above so many cells.
 pub fn reserve_all(levels: &mut [Level], cells: usize) -> Result<(), AllocError>
     requires count { length levels.old ≡ 13 }
-    requires few { cells ≤ 4096 }
+    requires few { cells ≤ MOST_BARS }
     ensures count { length levels.new ≡ 13 }
     ensures nodes { (k : ℕ) → k < 13 → level levels.new k ≡ level levels.old k }
     ensures room { (k : ℕ) → k < 13 → room_at levels.old k ≤ room_at levels.new k }
@@ -228,14 +219,15 @@ pub fn renew<P: Tag>(levels: &mut [Level], at: usize, cell: &CarryMatrix, produc
     requires cells { AreCells (level levels.old 0) }
     requires tower { IsTower (level levels.old 0) levels.old }
     requires at { at < length (level levels.old 0) }
-    requires cheap { IsCheap 500000000000 cell.now }
+    requires cheap { IsCheap DEAREST_CELL cell.now }
     ensures cells { level levels.new 0 ≡ slice_set (level levels.old 0) at cell.now }
     ensures tower { IsTower (level levels.new 0) levels.new }
     ensures sound { AreCells (level levels.new 0) }
     ensures room { (k : ℕ) → k < 13 → room_at levels.new k ≡ room_at levels.old k }
     ensures products { (d : ℕ) → length (level levels.old 0) ≤ 2 ^ d → products.new ≤ risen products.old d }
+    ensures rises { products.old ≤ products.new }
 {
-    cell.see();
+    let _ = cell.get(0, 0);
     levels[0].set(at, *cell);
     let mut place = at;
     'up: for above in 1..levels.len() {
@@ -252,6 +244,7 @@ fn renew_last<P: Tag>(levels: &mut [Level], products: &mut Steps<P>)
     ensures tower { IsTower (level levels.old 0) levels.new }
     ensures room { (k : ℕ) → k < 13 → room_at levels.new k ≡ room_at levels.old k }
     ensures products { (d : ℕ) → length (level levels.old 0) ≤ 2 ^ d → products.new ≤ risen products.old d }
+    ensures rises { products.old ≤ products.new }
 {
     'renewal: for above in 1..levels.len() {
         let nodes = levels[above - 1].slice();
@@ -265,16 +258,17 @@ fn renew_last<P: Tag>(levels: &mut [Level], products: &mut Steps<P>)
 pub fn extend<P: Tag>(levels: &mut [Level], cell: &CarryMatrix, products: &mut Steps<P>)
     requires cells { AreCells (level levels.old 0) }
     requires tower { IsTower (level levels.old 0) levels.old }
-    requires few { length (level levels.old 0) < 4096 }
+    requires few { length (level levels.old 0) < MOST_BARS }
     requires room { HasRoom (length (level levels.old 0) + 1) levels.old }
-    requires cheap { IsCheap 500000000000 cell.now }
+    requires cheap { IsCheap DEAREST_CELL cell.now }
     ensures cells { level levels.new 0 ≡ level levels.old 0 ++ cell.now ∷ [] }
     ensures sound { AreCells (level levels.new 0) }
     ensures tower { IsTower (level levels.new 0) levels.new }
     ensures room { (k : ℕ) → k < 13 → room_at levels.new k ≡ room_at levels.old k }
     ensures products { (d : ℕ) → length (level levels.old 0) + 1 ≤ 2 ^ d → products.new ≤ risen products.old d }
+    ensures rises { products.old ≤ products.new }
 {
-    cell.see();
+    let _ = cell.get(0, 0);
     levels[0].add(*cell);
     renew_last(levels, products);
 }
@@ -290,6 +284,7 @@ pub fn shorten<P: Tag>(levels: &mut [Level], products: &mut Steps<P>)
     ensures tower { IsTower (level levels.new 0) levels.new }
     ensures room { (k : ℕ) → k < 13 → room_at levels.new k ≡ room_at levels.old k }
     ensures products { (d : ℕ) → length (level levels.old 0) ≤ 2 ^ d → products.new ≤ risen products.old d }
+    ensures rises { products.old ≤ products.new }
 {
     let count = levels[0].len() - 1;
     levels[0].keep(count);

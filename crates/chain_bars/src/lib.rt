@@ -1,6 +1,6 @@
-// The chain over the bars of a voice: the table of each bar, and the products of neighbours level by level up to one. A bar
-// that changes renews only the products above it. The chain tells the least cost of the whole, the counts of chords carried
-// over the barlines on the least path, the first bar over which no path leads, and the least costs before and behind a bar.
+//! The chain over the bars of a voice: the table of each bar, and the products of neighbours level by level up to one. A bar
+//! that changes renews only the products above it. The chain tells the least cost of the whole, the counts of chords carried
+//! over the barlines on the least path, the first bar over which no path leads, and the least costs before and behind a bar.
 #![tactic(auto)]
 
 mod around;
@@ -9,11 +9,10 @@ mod chain;
 mod dead;
 mod laws;
 mod levels;
-#[cfg(test)]
-mod tests;
 
 pub use around::Around;
 pub use chain::Chain;
 pub use laws::{
     dead_cells_are_dead_bars, keys_are_least, no_path_is_no_derivation, paths_are_derivations,
+    paths_give_derivations,
 };

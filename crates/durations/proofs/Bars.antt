@@ -6,7 +6,7 @@ use Rattle.std.proofs.lemmas.List.Sums.{sum-map, sum_by-cons}
 use Rattle.durations.specs.declared.value.Value.{Value}
 use Rattle.durations.specs.declared.joined.Timed.{Timed}
 use Rattle.durations.specs.declared.joined.Written.{Written}
-use Rattle.durations.specs.Joined.{ArePlaced, AreValuesOf, AreWritten, AreWrittenFrom, dots, placed}
+use Rattle.durations.specs.Joined.{ArePlaced, AreValuesOf, AreWritten, AreWrittenFrom, dots, value_places}
 use Rattle.durations.specs.Laws.{CountsIn, FillTheBar, SumTo}
 use Rattle.durations.specs.Value.{width}
 use Rattle.durations.proofs.Groups.{group_dots, group_grid, group_one, group_summing, leaf_joins, lengths}
@@ -15,7 +15,7 @@ use Rattle.durations.proofs.Sums.{Summing, sums}
 abbrev pub values_in : List Written → List Value
 values_in ws = map (λ w. w.value) ws
 
-placed_values : (whole i place : ℕ) (vs : List Value) (rest : List Written) → values_in (placed whole i place vs ++ rest) ≡ vs ++ values_in rest
+placed_values : (whole i place : ℕ) (vs : List Value) (rest : List Written) → values_in (value_places whole i place vs ++ rest) ≡ vs ++ values_in rest
 placed_values whole i place [] rest = refl
 placed_values whole i place (v ∷ vs) rest = ap (λ x. v ∷ x) (placed_values whole i (place + width whole v) vs rest)
 
@@ -52,7 +52,7 @@ written_sum whole leaves ws some h =
 
 -- ---- places
 
-placed_append : (whole i place : ℕ) (vs : List Value) (rest : List Written) → ArePlaced whole (place + sum_by (width whole) vs) rest → ArePlaced whole place (placed whole i place vs ++ rest)
+placed_append : (whole i place : ℕ) (vs : List Value) (rest : List Written) → ArePlaced whole (place + sum_by (width whole) vs) rest → ArePlaced whole place (value_places whole i place vs ++ rest)
 placed_append whole i place [] rest h = subst (λ x. ArePlaced whole x rest) (omega arith) h
 placed_append whole i place (v ∷ vs) rest h =
     let e : place + sum_by (width whole) (v ∷ vs) ≡ place + width whole v + sum_by (width whole) vs = omega (arith, sum_by-cons (width whole) v vs) in
@@ -96,17 +96,17 @@ written_fills whole leaves ws some h =
 
 -- ---- leaves
 
-placed_leaf : (whole i place most : ℕ) (vs : List Value) → i < most → All (λ w. w.leaf < most) (placed whole i place vs)
+placed_leaf : (whole i place most : ℕ) (vs : List Value) → i < most → All (λ w. w.leaf < most) (value_places whole i place vs)
 placed_leaf whole i place most [] lt = λ k d l. absurd (omega arith)
 placed_leaf whole i place most (v ∷ vs) lt =
-    All-cons (λ w. w.leaf < most) (record { leaf = i; from = place; value = v }) (placed whole i (place + width whole v) vs) lt (placed_leaf whole i (place + width whole v) most vs lt)
+    All-cons (λ w. w.leaf < most) (record { leaf = i; from = place; value = v }) (value_places whole i (place + width whole v) vs) lt (placed_leaf whole i (place + width whole v) most vs lt)
 
 written_leaves : (whole joined i place most : ℕ) (leaves : List Timed) (ws : List Written) → i + length leaves ≤ most → AreWrittenFrom whole joined i place leaves ws → All (λ w. w.leaf < most) ws
 written_leaves whole zero i place most [] ws le h = subst (All (λ w. w.leaf < most)) (sym h) (λ k d l. absurd (omega arith))
 written_leaves whole (suc joined) i place most [] ws le h = subst (All (λ w. w.leaf < most)) (sym h) (λ k d l. absurd (omega arith))
 written_leaves whole zero i place most (leaf ∷ more) ws le (vs, rest, values, is, then) =
     let next = written_leaves whole (dots whole leaf more) (i + 1) (place + leaf.len) most more rest (omega (arith, le)) then in
-    subst (All (λ w. w.leaf < most)) (sym is) (All-append (λ w. w.leaf < most) (placed whole i place vs) rest (placed_leaf whole i place most vs (omega (arith, le))) next)
+    subst (All (λ w. w.leaf < most)) (sym is) (All-append (λ w. w.leaf < most) (value_places whole i place vs) rest (placed_leaf whole i place most vs (omega (arith, le))) next)
 written_leaves whole (suc joined) i place most (leaf ∷ more) ws le h = written_leaves whole joined (i + 1) (place + leaf.len) most more ws (omega (arith, le)) h
 
 pub written_leaf : (whole : ℕ) (leaves : List Timed) (ws : List Written) → AreWritten whole leaves ws → All (λ w. w.leaf < length leaves) ws
@@ -136,8 +136,8 @@ written_grid whole leaves ws h =
 
 -- ---- the written values are one list
 
-both : (whole i place : ℕ) (vs us : List Value) (rest others : List Written) → vs ≡ us → rest ≡ others → placed whole i place vs ++ rest ≡ placed whole i place us ++ others
-both whole i place vs us rest others e f = λ k. placed whole i place (e k) ++ f k
+both : (whole i place : ℕ) (vs us : List Value) (rest others : List Written) → vs ≡ us → rest ≡ others → value_places whole i place vs ++ rest ≡ value_places whole i place us ++ others
+both whole i place vs us rest others e f = λ k. value_places whole i place (e k) ++ f k
 
 written_same :
     (whole joined i place : ℕ) (leaves : List Timed) (ws us : List Written)

@@ -11,7 +11,7 @@ use Rattle.durations.specs.declared.joined.Timed.{Timed}
 use Rattle.durations.specs.declared.joined.Written.{Written}
 use Rattle.durations.specs.Joined.{AreWritten}
 use Rattle.durations.specs.Laws.{CountsIn}
-use Rattle.durations.specs.Value.{grid}
+use Rattle.durations.specs.Value.{value_grid}
 use Rattle.durations.specs.Values.{AreValues}
 use Rattle.durations.proofs.Bars.{written_grid}
 use Rattle.durations.proofs.Grids.{values_grid}
@@ -53,17 +53,17 @@ beat_part den h = one (either (den == 1) _ h)
     one (inl h) = beat_at den 1 h (dvd_of_mod-eq-zero 1 refl)
     one (inr h) = two (either (den == 2) (den == 4 || (den == 8 || (den == 16 || (den == 32 || den == 64)))) h)
 
-pub value_part : (resolution den : ℕ) (v : Value) → IsTrue (is_den den) → CountsIn (resolution * den) v → grid v ∣ 64 * resolution
+pub value_part : (resolution den : ℕ) (v : Value) → IsTrue (is_den den) → CountsIn (resolution * den) v → value_grid v ∣ 64 * resolution
 value_part resolution den v beat counts =
     let turned : resolution * 64 ≡ 64 * resolution = grind arith in
     let doubled : 2 * (32 * resolution) ≡ 64 * resolution = omega arith in
     let part = subst (λ x. resolution * den ∣ x) turned (mul-dvd-mul_left den resolution (beat_part den beat)) in
     counts (64 * resolution) part (subst (λ x. 2 ∣ x) doubled (dvd-mul_right 2 (32 * resolution)))
 
-pub values_part : (resolution den len : ℕ) (vs : List Value) → IsTrue (is_den den) → AreValues len (resolution * den) vs → All (λ v. grid v ∣ 64 * resolution) vs
+pub values_part : (resolution den len : ℕ) (vs : List Value) → IsTrue (is_den den) → AreValues len (resolution * den) vs → All (λ v. value_grid v ∣ 64 * resolution) vs
 values_part resolution den len vs beat h k d lt = value_part resolution den (get_or vs k d) beat (values_grid len (resolution * den) vs h k d lt)
 
 pub written_part :
     (resolution den : ℕ) (leaves : List Timed) (ws : List Written)
-    → IsTrue (is_den den) → AreWritten (resolution * den) leaves ws → All (λ v. grid v ∣ 64 * resolution) (map (λ w. w.value) ws)
+    → IsTrue (is_den den) → AreWritten (resolution * den) leaves ws → All (λ v. value_grid v ∣ 64 * resolution) (map (λ w. w.value) ws)
 written_part resolution den leaves ws beat h k d lt = value_part resolution den (get_or (map (λ w. w.value) ws) k d) beat (written_grid (resolution * den) leaves ws h k d lt)

@@ -8,7 +8,7 @@ use Rattle.rhythm_base.specs.declared.sound.SoundKind.TheVariants.{Begin}
 use Rattle.durations.specs.declared.value.Value.{Value}
 use Rattle.durations.specs.declared.joined.Timed.{Timed}
 use Rattle.durations.specs.declared.joined.Written.{Written}
-use Rattle.durations.specs.Joined.{AreValuesOf, AreWrittenFrom, dots, placed}
+use Rattle.durations.specs.Joined.{AreValuesOf, AreWrittenFrom, dots, value_places}
 use Rattle.durations.specs.Laws.{SumTo}
 use Rattle.durations.specs.Value.{IsWide, width}
 use Rattle.durations.proofs.Groups.{group_dots, group_summing, leaf_joins, lengths}
@@ -33,12 +33,12 @@ step_joined whole (suc joined) i place xs more x ws is some h =
 pub step_group :
     (whole joined i place d : ℕ) (xs more : List Timed) (x : Timed) (vs : List Value) (ws : List Written)
     → xs ≡ x ∷ more → joined ≡ 0 → d ≡ dots whole x more → AreValuesOf whole x d vs → AreWrittenFrom whole d (i + 1) (place + x.len) more ws
-    → AreWrittenFrom whole joined i place xs (placed whole i place vs ++ ws)
+    → AreWrittenFrom whole joined i place xs (value_places whole i place vs ++ ws)
 step_group whole joined i place d xs more x vs ws is none e values h =
     let there : AreValuesOf whole x (dots whole x more) vs = subst (λ n. AreValuesOf whole x n vs) e values in
     let next : AreWrittenFrom whole (dots whole x more) (i + 1) (place + x.len) more ws = subst (λ n. AreWrittenFrom whole n (i + 1) (place + x.len) more ws) e h in
-    subst (λ n. AreWrittenFrom whole n i place xs (placed whole i place vs ++ ws)) (sym none)
-    (subst (λ l. AreWrittenFrom whole 0 i place l (placed whole i place vs ++ ws)) (sym is) (vs, ws, there, refl, next))
+    subst (λ n. AreWrittenFrom whole n i place xs (value_places whole i place vs ++ ws)) (sym none)
+    (subst (λ l. AreWrittenFrom whole 0 i place l (value_places whole i place vs ++ ws)) (sym is) (vs, ws, there, refl, next))
 
 group_sum : (whole d : ℕ) (more : List Timed) (x : Timed) (vs : List Value) → 1 ≤ whole → d ≡ dots whole x more → AreValuesOf whole x d vs → SumTo (x.len + lengths (take (dots whole x more) more)) whole vs
 group_sum whole d more x vs some e values =

@@ -7,7 +7,7 @@ use Rattle.std.proofs.lemmas.List.Sums.{sum-map, sum_by-cons}
 use Rattle.durations.specs.declared.value.Recip.{Recip}
 use Rattle.durations.specs.declared.value.Recip.TheVariants.{Of, Breve, Long}
 use Rattle.durations.specs.declared.value.Value.{Value}
-use Rattle.durations.specs.Value.{IsRow, IsWide, grid, parts, plain_grid, plain_parts, width}
+use Rattle.durations.specs.Value.{IsRow, IsWide, value_grid, parts, plain_grid, plain_parts, width}
 use Rattle.durations.specs.Values.{AreValues, IsPlain}
 use Rattle.durations.specs.Laws.{SumTo}
 use Rattle.durations.proofs.Firsts.{Ways}
@@ -15,7 +15,7 @@ use Rattle.durations.proofs.LowestTerms.{lowest_some}
 
 -- a/b is the length of the value, and the value counts in some parts
 abbrev pub IsLong : ℕ → ℕ → Value → Type 0
-IsLong a b v = (1 ≤ grid v) × (a * grid v ≡ parts v * b)
+IsLong a b v = (1 ≤ value_grid v) × (a * value_grid v ≡ parts v * b)
 
 abbrev pub IsLongAs : ℕ → ℕ → Recip → ℕ → Type 0
 IsLongAs a b r j = (1 ≤ plain_grid r * 2 ^ j) × (a * (plain_grid r * 2 ^ j) ≡ plain_parts r * (2 * 2 ^ j - 1) * b)
@@ -50,7 +50,7 @@ Summing len whole (v ∷ vs) = (first : ℕ) × (rest : ℕ) × (len ≡ first +
 
 -- the same in smaller parts
 long_scaled : (a b g : ℕ) (v : Value) → IsLong a b v → IsLong (a * g) (b * g) v
-long_scaled a b g v h = (h.0, scaled a b g (grid v) (parts v) h.1)
+long_scaled a b g v h = (h.0, scaled a b g (value_grid v) (parts v) h.1)
   where
     scaled : (a b g n p : ℕ) → a * n ≡ p * b → a * g * n ≡ p * (b * g)
     scaled a b g n p e = let f : a * g * n ≡ a * n * g = grind arith in let k : p * b * g ≡ p * (b * g) = grind arith in f ∙ ap (λ x. x * g) e ∙ k
@@ -74,7 +74,7 @@ values_summing len whole (v ∷ more) some (a, b, lowest, h) =
 
 -- a value that is a/b long is a parts of 1/b of a whole note wide
 long_width : (a b : ℕ) (v : Value) → IsLong a b v → IsWide b v × (width b v ≡ a)
-long_width a b v h = (subst (λ x. grid v ∣ x) h.1 (dvd-mul_left (grid v) a), ap (λ x. x / grid v) (sym h.1) ∙ mul-div_cancel a h.0)
+long_width a b v h = (subst (λ x. value_grid v ∣ x) h.1 (dvd-mul_left (value_grid v) a), ap (λ x. x / value_grid v) (sym h.1) ∙ mul-div_cancel a h.0)
 
 pub sums : (len whole : ℕ) (vs : List Value) → Summing len whole vs → SumTo len whole vs
 sums len whole [] h = record { wide = λ k d lt. absurd (omega arith); sum = sym h }

@@ -11,7 +11,7 @@ use Rattle.durations.specs.Value.{width}
 use Rattle.durations.specs.Values.{AreValues}
 
 -- a leaf has some length, at most 64 whole notes
-pub record IsTimed (whole : ℕ) (leaf : Timed) : Type 0 where
+pub record IsTimedLeaf (whole : ℕ) (leaf : Timed) : Type 0 where
   pub some : 1 ≤ leaf.len
   pub few : leaf.len ≤ 64 * whole
 
@@ -44,16 +44,16 @@ AreValuesOf whole leaf zero vs = AreValues leaf.len whole vs
 AreValuesOf whole leaf (suc j) vs = (n : ℕ) × (n * leaf.len ≡ whole) × (vs ≡ record { recip = Of n; dots = suc j } ∷ [])
 
 -- values of the leaf number i, of which the first begins at this place and each other where the one before it ends
-abbrev pub placed : ℕ → ℕ → ℕ → List Value → List Written
-placed whole i place [] = []
-placed whole i place (v ∷ vs) = record { leaf = i; from = place; value = v } ∷ placed whole i (place + width whole v) vs
+abbrev pub value_places : ℕ → ℕ → ℕ → List Value → List Written
+value_places whole i place [] = []
+value_places whole i place (v ∷ vs) = record { leaf = i; from = place; value = v } ∷ value_places whole i (place + width whole v) vs
 
 -- The values of the leaves from number i on, the first of which begins at this place, from left to right. So many of the
 -- first leaves are joined to an earlier one: they are not looked at again. Places count in parts of 1/whole of a whole note
 abbrev pub AreWrittenFrom : ℕ → ℕ → ℕ → ℕ → List Timed → List Written → Type 0
 AreWrittenFrom whole joined i place [] ws = ws ≡ []
 AreWrittenFrom whole zero i place (leaf ∷ more) ws =
-    (vs : List Value) × (rest : List Written) × AreValuesOf whole leaf (dots whole leaf more) vs × (ws ≡ placed whole i place vs ++ rest)
+    (vs : List Value) × (rest : List Written) × AreValuesOf whole leaf (dots whole leaf more) vs × (ws ≡ value_places whole i place vs ++ rest)
     × AreWrittenFrom whole (dots whole leaf more) (i + 1) (place + leaf.len) more rest
 AreWrittenFrom whole (suc joined) i place (leaf ∷ more) ws = AreWrittenFrom whole joined (i + 1) (place + leaf.len) more ws
 

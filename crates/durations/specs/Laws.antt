@@ -5,7 +5,7 @@ use Rattle.rhythm_base.specs.Signatures.{is_den}
 use Rattle.durations.specs.declared.value.Value.{Value}
 use Rattle.durations.specs.declared.joined.Timed.{Timed}
 use Rattle.durations.specs.declared.joined.Written.{Written}
-use Rattle.durations.specs.Value.{IsWide, grid, width}
+use Rattle.durations.specs.Value.{IsWide, value_grid, width}
 use Rattle.durations.specs.Values.{AreValues}
 use Rattle.durations.specs.Joined.{ArePlaced, AreValuesOf, AreWritten, dots}
 
@@ -15,8 +15,8 @@ pub record SumTo (len whole : ℕ) (vs : List Value) : Type 0 where
   pub sum : sum (map (width whole) vs) ≡ len
 
 -- the length of leaves in all
-abbrev pub length_of : List Timed → ℕ
-length_of leaves = sum (map (λ x. x.len) leaves)
+abbrev pub value_length : List Timed → ℕ
+value_length leaves = sum (map (λ x. x.len) leaves)
 
 -- ---- one list, of the right length
 
@@ -32,7 +32,7 @@ ValuesAreOne = (len whole : ℕ) (vs ws : List Value) → 1 ≤ whole → AreVal
 abbrev pub DotsSumToTheLeaves : Type 0
 DotsSumToTheLeaves =
     (whole : ℕ) (leaf : Timed) (more : List Timed) (vs : List Value)
-    → 1 ≤ whole → AreValuesOf whole leaf (dots whole leaf more) vs → SumTo (leaf.len + length_of (take (dots whole leaf more) more)) whole vs
+    → 1 ≤ whole → AreValuesOf whole leaf (dots whole leaf more) vs → SumTo (leaf.len + value_length (take (dots whole leaf more) more)) whole vs
 
 -- the leaves of a bar have one list of written values
 abbrev pub WrittenAreOne : Type 0
@@ -40,9 +40,9 @@ WrittenAreOne = (whole : ℕ) (leaves : List Timed) (some other : List Written) 
 
 -- the written values of a bar stand without a gap from its start to its end, and none goes over the barline
 pub record FillTheBar (whole : ℕ) (leaves : List Timed) (ws : List Written) : Type 0 where
-  pub sum : SumTo (length_of leaves) whole (map (λ w. w.value) ws)
+  pub sum : SumTo (value_length leaves) whole (map (λ w. w.value) ws)
   pub places : ArePlaced whole 0 ws
-  pub within : All (λ w. w.from + width whole w.value ≤ length_of leaves) ws
+  pub within : All (λ w. w.from + width whole w.value ≤ value_length leaves) ws
 
 abbrev pub WrittenFillTheBar : Type 0
 WrittenFillTheBar = (whole : ℕ) (leaves : List Timed) (ws : List Written) → 1 ≤ whole → AreWritten whole leaves ws → FillTheBar whole leaves ws
@@ -52,19 +52,19 @@ WrittenFillTheBar = (whole : ℕ) (leaves : List Timed) (ws : List Written) → 
 -- A value counts in `grid v` parts of a whole note. Where a whole note is cut into an even number of smaller parts, so that
 -- each of its `whole` parts is a whole number of them, the value can be counted in them too
 abbrev pub CountsIn : ℕ → Value → Type 0
-CountsIn whole v = (all : ℕ) → whole ∣ all → 2 ∣ all → grid v ∣ all
+CountsIn whole v = (all : ℕ) → whole ∣ all → 2 ∣ all → value_grid v ∣ all
 
 -- A unit of a bar is 1/(resolution * den) of a whole note. So what counts in the parts of a bar, whatever its signature, can
 -- be counted in 64 * resolution parts of a whole note ..
 abbrev pub BarsCountInTheGrid : Type 0
-BarsCountInTheGrid = (resolution den : ℕ) (v : Value) → IsTrue (is_den den) → CountsIn (resolution * den) v → grid v ∣ 64 * resolution
+BarsCountInTheGrid = (resolution den : ℕ) (v : Value) → IsTrue (is_den den) → CountsIn (resolution * den) v → value_grid v ∣ 64 * resolution
 
 -- .. as do the values of each length ..
 abbrev pub ValuesCountInTheGrid : Type 0
-ValuesCountInTheGrid = (resolution den len : ℕ) (vs : List Value) → IsTrue (is_den den) → AreValues len (resolution * den) vs → All (λ v. grid v ∣ 64 * resolution) vs
+ValuesCountInTheGrid = (resolution den len : ℕ) (vs : List Value) → IsTrue (is_den den) → AreValues len (resolution * den) vs → All (λ v. value_grid v ∣ 64 * resolution) vs
 
 -- .. and the written values of each bar
 abbrev pub WrittenCountInTheGrid : Type 0
 WrittenCountInTheGrid =
     (resolution den : ℕ) (leaves : List Timed) (ws : List Written)
-    → IsTrue (is_den den) → AreWritten (resolution * den) leaves ws → All (λ v. grid v ∣ 64 * resolution) (map (λ w. w.value) ws)
+    → IsTrue (is_den den) → AreWritten (resolution * den) leaves ws → All (λ v. value_grid v ∣ 64 * resolution) (map (λ w. w.value) ws)

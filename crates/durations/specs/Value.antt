@@ -20,8 +20,8 @@ plain_parts Long = 4
 -- ---- each dot adds half of what was added before: with j dots the value is 2 - 1/2^j times as long
 
 -- a value counts in equal parts of a whole note: the number of these parts in a whole note
-abbrev pub grid : Value → ℕ
-grid v = plain_grid v.recip * 2 ^ v.dots
+abbrev pub value_grid : Value → ℕ
+value_grid v = plain_grid v.recip * 2 ^ v.dots
 
 -- and how many of these parts it is long
 abbrev pub parts : Value → ℕ
@@ -29,11 +29,11 @@ parts v = plain_parts v.recip * (2 * 2 ^ v.dots - 1)
 
 -- it is long a whole number of 1/whole of a whole note ..
 abbrev pub IsWide : ℕ → Value → Type 0
-IsWide whole v = grid v ∣ parts v * whole
+IsWide whole v = value_grid v ∣ parts v * whole
 
 -- .. and this is the number
 abbrev pub width : ℕ → Value → ℕ
-width whole v = parts v * whole / grid v
+width whole v = parts v * whole / value_grid v
 
 -- ---- the lengths that are one value: a/b in lowest terms, by the value and its number of dots
 

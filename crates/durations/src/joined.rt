@@ -1,6 +1,6 @@
 ghost use Rattle.std.specs.Prelude.{◌≡◌, ◌*◌, ◌+◌, ◌<◌, ◌≤◌, ◌++◌, ◌^◌, All, IfOk, IfSome, OnOk, length, map, sum, true};
 ghost use Rattle.durations.specs.Joined as bars;
-ghost use Rattle.durations.specs.Joined.{AreWritten, AreValuesOf, IsTimed, placed};
+ghost use Rattle.durations.specs.Joined.{AreWritten, AreValuesOf, IsTimedLeaf, value_places};
 ghost use Rattle.durations.specs.Laws.{CountsIn, FillTheBar};
 ghost use Rattle.durations.specs.Value as lengths;
 ghost use Rattle.durations.specs.Value.{IsWide};
@@ -48,8 +48,8 @@ fn is_tie_of(leaf: Option<Timed>, part: u64, len: u64) -> bool
 /// The dots that a leaf takes from those behind it.
 fn dots(leaf: Timed, more: &[Timed], whole: u64) -> u8
     requires whole { whole ≤ 61440 }
-    requires leaf { IsTimed whole leaf }
-    requires more { All (IsTimed whole) more.now }
+    requires leaf { IsTimedLeaf whole leaf }
+    requires more { All (IsTimedLeaf whole) more.now }
     ensures { result ≡ bars.dots whole leaf more.now }
 {
     if !may_join(leaf, whole) || !is_tie_of(more.first().copied(), 2, leaf.len) {
@@ -65,7 +65,7 @@ fn dots(leaf: Timed, more: &[Timed], whole: u64) -> u8
 fn values_with(alloc: Global, leaf: Timed, dots: u8, whole: u64) -> Result<Vec<Value>, AllocError>
     requires some { 1 ≤ whole }
     requires few { whole ≤ 61440 }
-    requires leaf { IsTimed whole leaf }
+    requires leaf { IsTimedLeaf whole leaf }
     requires joined { 0 < dots → bars.may_join whole leaf ≡ true }
     ensures { IfOk result (λ v. AreValuesOf whole leaf dots v.items) }
 {
@@ -89,7 +89,7 @@ fn push_values(
     requires dots { All (λ v. v.dots ≤ 2) values.now }
     requires wide { All (IsWide whole) values.now }
     requires end { place + sum (map (lengths.width whole) values.now) < 2 ^ 64 }
-    ensures { OnOk result (written.new.items ≡ written.old.items ++ placed whole leaf place values.now) }
+    ensures { OnOk result (written.new.items ≡ written.old.items ++ value_places whole leaf place values.now) }
 {
     let mut from = place;
     'values: for value in values {
@@ -109,7 +109,7 @@ fn push_values(
 pub fn values_of(alloc: Global, leaves: &[Timed], whole: u64) -> Result<Vec<Written>, AllocError>
     requires some { 1 ≤ whole }
     requires few { whole ≤ 61440 }
-    requires leaves { All (IsTimed whole) leaves.now }
+    requires leaves { All (IsTimedLeaf whole) leaves.now }
     requires bar { sum (map (λ x. x.len) leaves.now) ≤ 64 * whole }
     ensures written { IfOk result (λ v. AreWritten whole leaves.now v.items) }
     ensures fills { IfOk result (λ v. FillTheBar whole leaves.now v.items) }

@@ -1,6 +1,6 @@
-// The values in which lengths are written: 5/4 of a whole note is a whole note and a quarter. Within a bar a leaf and the
-// ties behind it may be one value with dots. The values of a length sum to it, those of a bar fill it, and each counts in 64
-// parts of a whole note for each unit of the resolution. No value joins leaves of two bars.
+//! The values in which lengths are written: 5/4 of a whole note is a whole note and a quarter. Within a bar a leaf and the
+//! ties behind it may be one value with dots. The values of a length sum to it, those of a bar fill it, and each counts in 64
+//! parts of a whole note for each unit of the resolution. No value joins leaves of two bars.
 #![tactic(auto)]
 
 mod joined;
@@ -16,6 +16,3 @@ pub use laws::{
 };
 pub use notation::notate;
 pub use value::{Recip, Value};
-
-#[cfg(test)]
-mod tests;

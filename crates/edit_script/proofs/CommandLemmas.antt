@@ -1,18 +1,18 @@
 -- The words of commands.
 use Rattle.std.proofs.Common.{◌≡◌, ℕ, ◌≤◌, List, [], ◌∷◌, length, refl, sym, ap₂, ◌∙◌, arith}
-use Rattle.rhythm_base.specs.ScriptLines.{Are, IsBar, IsChannel, IsCount, IsNumber}
+use Rattle.rhythm_base.specs.ScriptLines.{Are, IsBarWord, IsChannelWord, IsCountWord, IsNumber}
 
 -- a number of alternatives is not 0
-pub asked_count : (channel bar n : ℕ) (words : List (List ℕ)) → Are (IsChannel channel ∷ IsBar bar ∷ IsNumber 16 n ∷ []) words → 1 ≤ n
-    → Are (IsChannel channel ∷ IsBar bar ∷ IsCount n ∷ []) words
+pub asked_count : (channel bar n : ℕ) (words : List (List ℕ)) → Are (IsChannelWord channel ∷ IsBarWord bar ∷ IsNumber 16 n ∷ []) words → 1 ≤ n
+    → Are (IsChannelWord channel ∷ IsBarWord bar ∷ IsCountWord n ∷ []) words
 asked_count channel bar n [] are some = are
 asked_count channel bar n (a ∷ []) are some = absurd are.1
 asked_count channel bar n (a ∷ b ∷ []) are some = absurd are.1.1
 asked_count channel bar n (a ∷ b ∷ c ∷ []) are some = (are.0, (are.1.0, ((are.1.1.0, some), tt)))
 asked_count channel bar n (a ∷ b ∷ c ∷ d ∷ words) are some = absurd are.1.1.1
 
-pub counted : (channel bar n : ℕ) (words : List (List ℕ)) → Are (IsChannel channel ∷ IsBar bar ∷ IsCount n ∷ []) words
-    → Are (IsChannel channel ∷ IsBar bar ∷ IsNumber 16 n ∷ []) words × (1 ≤ n)
+pub counted : (channel bar n : ℕ) (words : List (List ℕ)) → Are (IsChannelWord channel ∷ IsBarWord bar ∷ IsCountWord n ∷ []) words
+    → Are (IsChannelWord channel ∷ IsBarWord bar ∷ IsNumber 16 n ∷ []) words × (1 ≤ n)
 counted channel bar n [] are = absurd are
 counted channel bar n (a ∷ []) are = absurd are.1
 counted channel bar n (a ∷ b ∷ []) are = absurd are.1.1

@@ -7,4 +7,3 @@ mod SaidLemmas
 mod SendingLemmas
 mod ReplyLemmas
 mod ShapeLemmas
-mod OneCommand

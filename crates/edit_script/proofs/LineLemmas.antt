@@ -3,7 +3,7 @@ use Rattle.std.proofs.Common.{◌≡◌, ℕ, ◌-◌, Bool, true, false, if◌t
 use Rattle.std.proofs.lemmas.List.Splits.{join_with_byte-slice_split}
 use Rattle.std.specs.List.{join_with_byte, starts_with}
 use Rattle.std.specs.Prelude.{codes, nat_eq}
-use Rattle.rhythm_base.specs.ScriptLines.{trimmed, words_of}
+use Rattle.rhythm_base.specs.ScriptLines.{trimmed, script_words}
 
 -- a text of `pin`, a space and more
 abbrev BeginsPin : List ℕ → Type 0
@@ -19,7 +19,7 @@ begun : (line : List ℕ) → BeginsPin line → IsTrue (starts_with nat_eq line
 begun line (more, is) = ap (λ l. starts_with nat_eq l (codes "pin ")) is
 
 -- the word `pin` with a word behind it
-pub begins_pin : (line : List ℕ) (second : List ℕ) (rest : List (List ℕ)) → words_of line ≡ codes "pin" ∷ second ∷ rest
+pub begins_pin : (line : List ℕ) (second : List ℕ) (rest : List (List ℕ)) → script_words line ≡ codes "pin" ∷ second ∷ rest
     → IsTrue (starts_with nat_eq line (codes "pin "))
 begins_pin line second rest are =
     let text : trimmed line ≡ codes "pin " ++ join_with_byte 32 (second ∷ rest) =

@@ -1,17 +1,17 @@
 -- Numbers in digits.
-use Rattle.std.proofs.Common.{◌≡◌, ℕ, ◌<◌, ◌==◌, true, false, Some, None, Result, Ok, Err, List, [], ◌∷◌, arith, rules, refl, sym, subst}
+use Rattle.std.proofs.Common.{◌≡◌, ℕ, ◌<◌, ◌==◌, true, false, Some, None, Result, Ok, Err, List, [], ◌∷◌, arith, refl, sym, subst}
 use Rattle.std.proofs.lemmas.Option.{same_Some}
 use Rattle.std.specs.Result.{MatchResult, OkIff, result_ok}
 use Rattle.std.proofs.lemmas.Bool.{and_parts}
 use Rattle.std.proofs.lemmas.Bool.Decides.{nat_tests}
 use Rattle.std.proofs.lemmas.Fmt.{IsAscii-from_digits}
 use Rattle.std.proofs.lemmas.Str.{IsUtf8-from_ascii}
-use Rattle.std.proofs.lemmas.Str.Parse.{IsNumeralModel, numerals_by_value}
 use Rattle.std.specs.Char.{is_ascii_digit}
 use Rattle.std.specs.List.{list_all}
 use Rattle.std.specs.Str.{IsUtf8}
 use Rattle.std.specs.Str.Parse.{IsNumeral, digits_value, without_leading_plus}
 use Rattle.rhythm_base.specs.ScriptLines.{IsNumber}
+use Rattle.rhythm_base.proofs.Numerals.{numerals}
 
 -- bytes that are no text, and the bytes of a text
 pub not_text : {A E : Type 0} (r : Result A E) (P : A → Type 0) (Q : E → Type 0) (N : Type 0) → MatchResult r P (λ e. N × Q e) → None ≡ result_ok r → N
@@ -26,10 +26,6 @@ same_text (Err y) x P Is Q cases e = cc
 pub not_read : {A E : Type 0} (r : Result A E) (P : Type 0) (v : A) → OkIff r P v → None ≡ result_ok r → P → ⊥
 not_read (Ok x) P v cases e = cc
 not_read (Err x) P v cases e = cases
-
--- the test of digits is std's
-pub numerals : IsNumeralModel (λ ds. list_all is_ascii_digit ds ≡ true) (digits_value 10)
-numerals = numerals_by_value _ (search rules)
 
 -- digits are text
 pub digits_are_text : (word : List ℕ) → list_all is_ascii_digit word ≡ true → IsUtf8 word

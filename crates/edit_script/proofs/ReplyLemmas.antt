@@ -3,7 +3,7 @@ use Rattle.std.proofs.Common.{◌≡◌, ℕ, List, [], ◌∷◌, ◌++◌, len
 use Rattle.std.proofs.lemmas.List.{length-map}
 use Rattle.std.specs.Prelude.{Option, codes}
 use Rattle.std.specs.List.{flat_map, join_with_byte}
-use Rattle.rhythm_base.specs.Replies.{line_of}
+use Rattle.rhythm_base.specs.Replies.{reply_line}
 use Rattle.rhythm_ports.specs.declared.sink.Partial.{Partial}
 use Rattle.edit_script.specs.Sending.{Sent, SentPart}
 use Rattle.edit_script.proofs.SendingLemmas.{SentPart-first, SentPart-more}
@@ -13,7 +13,7 @@ module _ (total shape rules : List ℕ) where
   front = join_with_byte 32 (codes "alt" ∷ total ∷ shape ∷ [])
 
   abbrev line : List ℕ
-  line = line_of (codes "alt" ∷ total ∷ shape ∷ rules ∷ [])
+  line = reply_line (codes "alt" ∷ total ∷ shape ∷ rules ∷ [])
 
   pieces : front ++ (codes " " ++ (rules ++ codes "\n")) ≡ line
   pieces =

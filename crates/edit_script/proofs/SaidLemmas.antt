@@ -1,12 +1,13 @@
 -- What a line says by its keyword and the words behind it.
-use Rattle.std.proofs.Common.{◌≡◌, ℕ, ◌≤◌, true, false, List, [], ◌∷◌, Some, None, Result, Ok, Err, IfOk, IfErr, length, drop, arith, refl, sym, ap, ap₂, ◌∙◌, subst, IsTrue}
+use Rattle.std.proofs.Common.{◌≡◌, ℕ, true, false, List, [], ◌∷◌, Some, None, Result, Ok, Err, IfOk, IfErr, drop, refl, sym, ap, ap₂, ◌∙◌, subst, IsTrue}
 use Rattle.std.specs.Prelude.{Option, IsErr, IsErrAnd, codes, nat_eq, slice_get, ok_or}
 use Rattle.std.specs.List.{starts_with}
 use Rattle.rhythm_base.specs.declared.command.Command.{Command}
 use Rattle.rhythm_base.specs.declared.command.Command.TheVariants.{Change, Score, Alternatives, Quit}
 use Rattle.rhythm_base.specs.declared.edit.Edit.TheVariants.{Add, Drop, Move, Barline, Pin, Unpin, AddBar, DropBar}
-use Rattle.rhythm_base.specs.ScriptLines.{AreCommand, words_of}
-use Rattle.edit_script.specs.Behind.{SaysBehind, SaysPin}
+use Rattle.rhythm_base.specs.ScriptLines.{AreCommand, ArePinWords, IsCommandInRange, script_words}
+use Rattle.rhythm_base.proofs.CommandWords.{command_in_range}
+use Rattle.edit_script.specs.Behind.{BeginsPinned, SaysBehind, SaysPin}
 use Rattle.edit_script.specs.Finds.{Finds}
 use Rattle.edit_script.specs.Keywords.{spelling}
 use Rattle.edit_script.specs.Reads.{Reads}
@@ -78,8 +79,8 @@ no_number IsN Is May None fault (Err BadLine) finds e is none = none finds
 no_number IsN Is May None fault (Err Memory) finds e is none = let same : Memory ≡ fault = is.1 in cc
 
 -- a pin, read
-pub reads_pin : (k : Keyword) (words : List (List ℕ)) (r : Result Command LineFault) → k ≡ keyword.Pin → Reads (SaysPin words) (1 ≤ length words) r
-    → Reads (SaysBehind k words) ((k ≡ keyword.Pin) × (1 ≤ length words)) r
+pub reads_pin : (k : Keyword) (words : List (List ℕ)) (r : Result Command LineFault) → k ≡ keyword.Pin → Reads (SaysPin words) (BeginsPinned words) r
+    → Reads (SaysBehind k words) ((k ≡ keyword.Pin) × BeginsPinned words) r
 reads_pin k words (Ok command) same reads = subst (λ (k : Keyword). SaysBehind k words command) (sym same) reads
 reads_pin k words (Err BadLine) same reads = subst (λ (k : Keyword). (command : Command) → SaysBehind k words command → ⊥) (sym same) reads
 reads_pin k words (Err Memory) same reads = (same, reads)
@@ -114,12 +115,35 @@ module _ (words : List (List ℕ)) (word : List ℕ) (rest : List (List ℕ)) (k
   read_bad May (Err BadLine) reads = λ e command says. reads command (said_behind command says)
   read_bad May (Err Memory) reads = λ e. cc
 
--- want of memory may come only where a word stands behind `pin`
-pub read_memory : (line word : List ℕ) (rest : List (List ℕ)) (k : Keyword) → words_of line ≡ word ∷ rest → word ≡ spelling k
-    → (r : Result Command LineFault) → Reads (SaysBehind k rest) ((k ≡ keyword.Pin) × (1 ≤ length rest)) r
+-- `pin` with a channel and a bar behind it
+pin_words : (word : List ℕ) (rest : List (List ℕ)) → word ≡ codes "pin" → BeginsPinned rest → ArePinWords (word ∷ rest)
+pin_words word [] known (channel, bar, first, second) = absurd first
+pin_words word (a ∷ []) known (channel, bar, first, second) = absurd second
+pin_words word (a ∷ b ∷ rest) known (channel, bar, first, second) = (known, (channel, first), (bar, second))
+
+-- want of memory may come only where a channel and a bar stand behind `pin`
+pub read_shape : (words : List (List ℕ)) (word : List ℕ) (rest : List (List ℕ)) (k : Keyword) → words ≡ word ∷ rest → word ≡ spelling k
+    → (r : Result Command LineFault) → Reads (SaysBehind k rest) ((k ≡ keyword.Pin) × BeginsPinned rest) r
+    → IfErr r (λ fault. fault ≡ Memory → ArePinWords words)
+read_shape words word rest k are known (Ok command) reads = tt
+read_shape words word rest k are known (Err BadLine) reads = λ e. cc
+read_shape words word rest k are known (Err Memory) reads =
+    λ e. subst ArePinWords (sym are) (pin_words word rest (known ∙ ap spelling reads.0) reads.1)
+
+-- such a line begins with `pin` and a space
+pub read_memory : (line : List ℕ) (r : Result Command LineFault) → IfErr r (λ fault. fault ≡ Memory → ArePinWords (script_words line))
     → IfErr r (λ fault. fault ≡ Memory → IsTrue (starts_with nat_eq line (codes "pin ")))
-read_memory line word rest k are known (Ok command) reads = tt
-read_memory line word rest k are known (Err BadLine) reads = λ e. cc
-read_memory line word [] k are known (Err Memory) reads = absurd (omega (arith, reads.1))
-read_memory line word (second ∷ rest) k are known (Err Memory) reads =
-    λ e. begins_pin line second rest (are ∙ ap (λ w. w ∷ second ∷ rest) (known ∙ ap spelling reads.0))
+read_memory line (Ok command) shape = tt
+read_memory line (Err fault) shape = λ e. begun (script_words line) refl (shape e)
+  where
+    begun : (words : List (List ℕ)) → script_words line ≡ words → ArePinWords words → IsTrue (starts_with nat_eq line (codes "pin "))
+    begun [] are begins = absurd begins
+    begun (name ∷ []) are begins = absurd begins
+    begun (name ∷ first ∷ []) are begins = absurd begins
+    begun (name ∷ first ∷ second ∷ rest) are begins =
+        begins_pin line first (second ∷ rest) (are ∙ ap (λ w. w ∷ first ∷ second ∷ rest) begins.0)
+
+-- a command that was read is in range
+pub read_range : (words : List (List ℕ)) (r : Result Command LineFault) → IfOk r (λ command. AreCommand command words) → IfOk r IsCommandInRange
+read_range words (Ok command) are = command_in_range command words are
+read_range words (Err fault) are = tt

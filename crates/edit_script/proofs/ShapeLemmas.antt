@@ -6,7 +6,7 @@ use Rattle.std.proofs.lemmas.Fmt.{IsAscii-decimal}
 use Rattle.std.proofs.lemmas.Str.{IsAscii-append, IsUtf8-from_ascii}
 use Rattle.std.proofs.lemmas.Str.Ascii.{IsAscii-cons, IsAscii-nil}
 use Rattle.std.specs.Str.{IsAscii, IsUtf8}
-use Rattle.rhythm_base.specs.Outline.{Outline, end, part}
+use Rattle.rhythm_base.specs.Shape.{Shape, end, part}
 use Rattle.rhythm_base.specs.ShapeText.{IsFirstBadByte, IsShapeText, around_parts, behind_part, shape_text, texts_of_parts}
 use Rattle.rhythm_base.specs.Shapes.{are_cut, can_have, parts_in}
 
@@ -29,7 +29,7 @@ behind_ascii n texts ascii = at (n == 0)
     at true = IsAscii-nil
     at false = IsAscii-cons 32 texts (omega arith) ascii
 
-texts_ascii : (x : Outline) → are_cut x ≡ true → IsAscii (texts_of_parts x)
+texts_ascii : (x : Shape) → are_cut x ≡ true → IsAscii (texts_of_parts x)
 texts_ascii end cut = IsAscii-nil
 texts_ascii (part x rest) cut =
     let first = and_parts (can_have (parts_in x)) _ cut in
@@ -38,7 +38,7 @@ texts_ascii (part x rest) cut =
     (behind_ascii (parts_in rest) (texts_of_parts rest) (texts_ascii rest both.1))
 
 -- the text of a shape is text
-pub shape_is_text : (text : List ℕ) (x : Outline) → IsShapeText text x → IsUtf8 text
+pub shape_is_text : (text : List ℕ) (x : Shape) → IsShapeText text x → IsUtf8 text
 unfolding shape_text
 shape_is_text text x is =
     let first = and_parts (can_have (parts_in x)) _ is.shape in
@@ -46,5 +46,5 @@ shape_is_text text x is =
     subst IsUtf8 (sym is.is) (IsUtf8-from_ascii (shape_text x) (around_ascii (parts_in x) (texts_of_parts x) (few_parts (parts_in x) first.0) (texts_ascii x cut)))
 
 -- no text of a shape has a bad byte
-pub no_bad_byte : (text : List ℕ) (at : ℕ) → IsFirstBadByte text at → (x : Outline) → IsShapeText text x → ⊥
+pub no_bad_byte : (text : List ℕ) (at : ℕ) → IsFirstBadByte text at → (x : Shape) → IsShapeText text x → ⊥
 no_bad_byte text at bad x is = bad.bad (x, drop (at + 1) text, subst (λ (t : List ℕ). IsShapeText t x) (sym (take-append-drop (at + 1) text)) is)

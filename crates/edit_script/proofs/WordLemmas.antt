@@ -1,45 +1,11 @@
 -- The words of a line.
-use Rattle.std.proofs.Common.{◌≡◌, ◌↔◌, ◌==◌, ℕ, ◌+◌, ◌<◌, ◌≤◌, Bor, IsTrue, subst, Bool, true, false, not, cond, nat_lt, Some, None, List, [], ◌∷◌, length, drop, position, arith, refl, sym, ap, ◌∙◌}
-use Rattle.std.proofs.lemmas.Bool.{ltb-false, ltb-true}
-use Rattle.std.proofs.lemmas.List.Splits.{length-slice_split, slice_split-cons_no}
-use Rattle.std.specs.List.{onto_first, position_or_len, slice_split}
+use Rattle.std.proofs.Common.{◌≡◌, ◌↔◌, ◌==◌, ℕ, Bor, IsTrue, subst, Bool, true, false, not, Some, None, List, [], ◌∷◌, length, drop, arith, refl, sym, ap, ◌∙◌}
+use Rattle.std.proofs.lemmas.List.Splits.{length-slice_split}
+use Rattle.std.specs.List.{slice_split}
 use Rattle.std.specs.Prelude.{Option, is_none, option_map}
 use Rattle.edit_script.specs.Finds.{Finds}
 use Rattle.edit_script.specs.LineWords.{Begins, words_in}
 use Rattle.rhythm_base.specs.ScriptLines.{Are}
-
--- what `position` says of `position_or_len`
-pub position-found : {X : Type 0} (p : X → Bool) (xs : List X) (i : ℕ) → position p xs ≡ Some i → position_or_len p xs ≡ i
-position-found p xs i e = at (nat_lt (position_or_len p xs) (length xs)) e
-  where
-    at : (b : Bool) → cond b (Some (position_or_len p xs)) None ≡ Some i → position_or_len p xs ≡ i
-    at true e = cc
-    at false e = cc
-
-pub position-within : {X : Type 0} (p : X → Bool) (xs : List X) (i : ℕ) → position p xs ≡ Some i → i < length xs
-position-within p xs i e = at (nat_lt (position_or_len p xs) (length xs)) refl e
-  where
-    at : (b : Bool) → nat_lt (position_or_len p xs) (length xs) ≡ b → cond b (Some (position_or_len p xs)) None ≡ Some i → i < length xs
-    at true t e = let within = ltb-true _ _ t in let same : position_or_len p xs ≡ i = cc in omega arith
-    at false t e = cc
-
-pub position-missing : {X : Type 0} (p : X → Bool) (xs : List X) → position p xs ≡ None → length xs ≤ position_or_len p xs
-position-missing p xs e = at (nat_lt (position_or_len p xs) (length xs)) refl e
-  where
-    at : (b : Bool) → nat_lt (position_or_len p xs) (length xs) ≡ b → cond b (Some (position_or_len p xs)) None ≡ None
-        → length xs ≤ position_or_len p xs
-    at true t e = cc
-    at false t e = ltb-false _ _ t
-
--- where no element passes the test there is one piece
-pub slice_split-missing : {X : Type 0} (p : X → Bool) (xs : List X) → length xs ≤ position_or_len p xs → slice_split p xs ≡ xs ∷ []
-slice_split-missing p [] none = refl
-slice_split-missing {X} p (x ∷ xs) none = at (p x) refl none (λ less. slice_split-missing p xs less)
-  where
-    at : (b : Bool) → p x ≡ b → length (x ∷ xs) ≤ cond (not b) (1 + position_or_len p xs) 0
-        → (length xs ≤ position_or_len p xs → slice_split p xs ≡ xs ∷ []) → slice_split p (x ∷ xs) ≡ (x ∷ xs) ∷ []
-    at true e less rest = absurd (omega arith)
-    at false e less rest = slice_split-cons_no p x xs e ∙ ap (onto_first x) (rest (omega arith))
 
 -- the parts of what is asked of words
 pub first_is : (Is : List ℕ → Type 0) (more : List (List ℕ → Type 0)) (words : List (List ℕ)) → Are (Is ∷ more) words → Begins Is words
@@ -61,7 +27,7 @@ none_left [] are = refl
 none_left (word ∷ words) are = absurd are
 
 -- some text has a word
-pub some_word : (p : ℕ → Bool) (text : List ℕ) → slice_split p text ≡ [] → ⊥
+some_word : (p : ℕ → Bool) (text : List ℕ) → slice_split p text ≡ [] → ⊥
 some_word p text e = let n = length-slice_split p text in let z = ap length e in absurd (omega (arith, n, z))
 
 -- the word alone is as asked

@@ -1,9 +1,8 @@
-// The lines of an edit script and the replies to them: what a line says, and the text that a reply is written with.
+//! The lines of an edit script and the replies to them: what a line says, and the text that a reply is written with.
 #![tactic(auto)]
 
 mod command_words;
 mod keyword;
-mod laws;
 mod line_fault;
 mod line_words;
 mod number;
@@ -13,11 +12,7 @@ mod reply;
 mod reply_lines;
 mod word;
 
-pub use laws::lines_say_one_command;
 pub use line_fault::LineFault;
 pub use read::read_line;
 pub use reply::{Alt, Refusal, Reply};
 pub use reply_lines::write_reply;
-
-#[cfg(test)]
-mod tests;

@@ -1,11 +1,11 @@
-ghost use Rattle.edit_script.specs.Behind.{SaysBehind, SaysPin};
+ghost use Rattle.edit_script.specs.Behind.{BeginsPinned, SaysBehind, SaysPin};
 ghost use Rattle.edit_script.specs.Reads.{Reads};
 ghost use Rattle.edit_script.specs.declared.keyword.Keyword.TheVariants.{Pin};
 ghost use Rattle.edit_script.specs.declared.line_fault.LineFault.TheVariants.{BadLine, Memory};
-ghost use Rattle.rhythm_base.specs.ScriptLines.{Says, SaysNothing, trimmed};
+ghost use Rattle.rhythm_base.specs.ScriptLines.{BeginsPin, IsCommandInRange, SaysCommand, SaysNothing, trimmed};
 ghost use Rattle.rhythm_base.specs.ShapeText.{IsShapeText};
 ghost use Rattle.std.specs.List.{starts_with};
-ghost use Rattle.std.specs.Prelude.{◌≡◌, ◌≤◌, ⊤, IfErr, IfOk, IsTrue, codes, length, nat_eq};
+ghost use Rattle.std.specs.Prelude.{◌≡◌, ⊤, IfErr, IfOk, IsTrue, codes, nat_eq};
 
 use crate::command_words::{
     LAST_BAR, LAST_CHANNEL, add_note, alone, alternatives, barline, drop_note, move_note, unpin,
@@ -28,7 +28,7 @@ fn trimmed(line: &[u8]) -> &[u8]
 
 /// The command of a keyword with these words behind it.
 fn command(alloc: Global, keyword: Keyword, words: &mut LineWords) -> Result<Command, LineFault>
-    ensures { Reads (SaysBehind keyword words.old) ((keyword ≡ Pin) × (1 ≤ length words.old)) result }
+    ensures { Reads (SaysBehind keyword words.old) ((keyword ≡ Pin) × BeginsPinned words.old) result }
 {
     match keyword {
         Keyword::Add => add_note(words).ok_or(LineFault::BadLine),
@@ -62,7 +62,7 @@ fn shape(alloc: Global, text: &[u8]) -> Result<Shape, LineFault>
 
 /// The command of the words behind `pin`.
 fn pin(alloc: Global, words: &mut LineWords) -> Result<Command, LineFault>
-    ensures { Reads (SaysPin words.old) (1 ≤ length words.old) result }
+    ensures { Reads (SaysPin words.old) (BeginsPinned words.old) result }
 {
     let channel = words.number(LAST_CHANNEL).ok_or(LineFault::BadLine)?;
     let bar = words.number(LAST_BAR).ok_or(LineFault::BadLine)?;
@@ -82,8 +82,11 @@ fn pin(alloc: Global, words: &mut LineWords) -> Result<Command, LineFault>
 /// is 0 to 15, a key 0 to 127, a bar 0 to 4,096, a count 1 to 16; `ONSET`, `END`, `TO` and `TICK` are 0 to 2,000,000,000.
 /// A number has one to ten digits and may begin with zeros.
 pub fn read_line(alloc: Global, line: &[u8]) -> Result<Command, LineFault>
-    ensures command { IfOk result (λ command. Says line.now command) }
+    ensures command { IfOk result (λ command. SaysCommand line.now command) }
     ensures bad { IfErr result (λ fault. fault ≡ BadLine → SaysNothing line.now) }
+    ensures range { IfOk result IsCommandInRange }
+    // the channel and the bar of a pin are tested before its shape asks for memory
+    ensures shape { IfErr result (λ fault. fault ≡ Memory → BeginsPin line.now) }
     ensures memory { IfErr result (λ fault. fault ≡ Memory → IsTrue (starts_with nat_eq line.now (codes "pin "))) }
 {
     let mut words = LineWords::of(trimmed(line));

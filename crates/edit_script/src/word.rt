@@ -1,6 +1,6 @@
 ghost use Rattle.edit_script.specs.Pieces.{word_text};
 ghost use Rattle.edit_script.specs.Sending.{Sent, SentPart};
-ghost use Rattle.rhythm_base.specs.Replies.{line_of};
+ghost use Rattle.rhythm_base.specs.Replies.{reply_line};
 ghost use Rattle.rhythm_ports.specs.Causes.{HasCause};
 ghost use Rattle.std.specs.List.{flat_map, join_with_byte};
 ghost use Rattle.std.specs.Prelude.{◌∷◌, IfErr, IfOk, decimal, map};
@@ -136,8 +136,8 @@ pub(crate) fn write_line<K: Sink>(
     sent: usize,
     words: &[Word],
 ) -> Result<usize, Partial>
-    ensures all { IfOk result (λ count. Sent (K.taken sink.old) (K.taken sink.new) sent count (line_of (map word_text words.now))) }
-    ensures part { IfErr result (λ e. SentPart (K.taken sink.old) (K.taken sink.new) sent e.sent (line_of (map word_text words.now))) }
+    ensures all { IfOk result (λ count. Sent (K.taken sink.old) (K.taken sink.new) sent count (reply_line (map word_text words.now))) }
+    ensures part { IfErr result (λ e. SentPart (K.taken sink.old) (K.taken sink.new) sent e.sent (reply_line (map word_text words.now))) }
     ensures cause { HasCause (K.faults sink.old) (K.faults sink.new) result }
 {
     let sent = write_words(sink, sent, words)?;

@@ -1,12 +1,12 @@
 -- Texts in the order of their first appearance.
-use Rattle.std.proofs.Common.{◌≡◌, ℕ, Bool, true, false, not, cond, ◌||◌, List, [], ◌∷◌, ◌++◌, map, filter, refl, sym, ap, ◌∙◌, subst}
+use Rattle.std.proofs.Common.{◌≡◌, ℕ, Bool, true, false, not, cond, ◌||◌, List, [], ◌∷◌, ◌++◌, filter, refl, sym, ap, ◌∙◌, subst}
 use Rattle.std.proofs.lemmas.List.{append-nil}
 use Rattle.std.proofs.lemmas.List.Elements.{filter-append}
 use Rattle.std.proofs.lemmas.Map.Views.{any-filter_same}
 use Rattle.std.proofs.lemmas.Slice.Eq.{bytes_eq-Decides}
 use Rattle.std.specs.List.{list_any}
 use Rattle.std.specs.Str.{bytes_eq}
-use Rattle.grammar_file.proofs.TextLemmas.{bytes_eq-turned}
+use Rattle.rhythm_base.proofs.Texts.{bytes_eq-turned}
 use Rattle.grammar_file.specs.Names.{first_appearances}
 
 module _ (text : List ℕ) (x : List ℕ) where
@@ -58,8 +58,3 @@ first_appearances-push (text ∷ texts) x = ap (λ ts. text ∷ filter (differs 
         cons_cond : (a : Bool) (us vs : List (List ℕ)) → ◌≡◌ {A = List (List ℕ)} (text ∷ cond a us vs) (cond a (text ∷ us) (text ∷ vs))
         cons_cond true us vs = refl
         cons_cond false us vs = refl
-
--- a test of the images
-pub list_any-map : {X Y : Type 0} (p : Y → Bool) (f : X → Y) (xs : List X) → list_any p (map f xs) ≡ list_any (λ x. p (f x)) xs
-list_any-map p f [] = refl
-list_any-map p f (x ∷ xs) = ap (λ b. p (f x) || b) (list_any-map p f xs)

@@ -1,5 +1,6 @@
 pub mod AppearanceLemmas
 pub mod ContentLemmas
+pub mod EndingLemmas
 pub mod GrammarLemmas
 pub mod HeaderLemmas
 pub mod KnownLemmas
@@ -17,5 +18,4 @@ pub mod SoundLemmas
 pub mod SpokenLemmas
 pub mod StatementLemmas
 pub mod SymbolLemmas
-pub mod TextLemmas
 pub mod WorkedGrammars

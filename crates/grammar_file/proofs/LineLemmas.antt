@@ -5,9 +5,10 @@ use Rattle.std.proofs.lemmas.List.Splits.{slice_split-cons_no, slice_split-cons_
 use Rattle.std.specs.List.{after_first, before_first, onto_first, position_or_len, slice_split, starts_with}
 use Rattle.std.specs.Prelude.{codes, nat_eq}
 use Rattle.std.specs.Str.{bytes_eq}
-use Rattle.grammar_file.proofs.TextLemmas.{bytes_eq-turned}
+use Rattle.rhythm_base.proofs.Texts.{bytes_eq-turned}
 use Rattle.grammar_file.specs.Content.{says_something}
-use Rattle.grammar_file.specs.Lines.{is_blank, lines_among, lines_of, newline, without_return, words_of}
+use Rattle.grammar_file.specs.Lines.{is_blank, lines_among, grammar_lines, newline, without_return, grammar_words}
+use Rattle.rhythm_base.proofs.Positions.{slice_split-missing}
 
 -- pieces follow one another
 pub lines_among_more : (line : List ℕ) (pieces : List (List ℕ)) → 1 ≤ length pieces → lines_among (line ∷ pieces) ≡ without_return line ∷ lines_among pieces
@@ -16,23 +17,13 @@ lines_among_more line (next ∷ more) some = refl
 
 -- a line that a newline ends, and the text behind it
 pub lines_of-first : (text : List ℕ) → position_or_len (λ b. b == newline) text < length text
-    → lines_of text ≡ without_return (before_first (λ b. b == newline) text) ∷ lines_of (after_first (λ b. b == newline) text)
+    → grammar_lines text ≡ without_return (before_first (λ b. b == newline) text) ∷ grammar_lines (after_first (λ b. b == newline) text)
 lines_of-first text within =
     ap lines_among (slice_split_first (λ b. b == newline) text 0 within)
     ∙ lines_among_more _ _ (omega (arith, length-slice_split (λ b. b == newline) (after_first (λ b. b == newline) text)))
 
--- where no element passes the test there is one piece
-pub slice_split-missing : {X : Type 0} (p : X → Bool) (xs : List X) → length xs ≤ position_or_len p xs → slice_split p xs ≡ xs ∷ []
-slice_split-missing p [] none = refl
-slice_split-missing {X} p (x ∷ xs) none = at (p x) refl none (λ less. slice_split-missing p xs less)
-  where
-    at : (b : Bool) → p x ≡ b → length (x ∷ xs) ≤ cond (not b) (1 + position_or_len p xs) 0
-        → (length xs ≤ position_or_len p xs → slice_split p xs ≡ xs ∷ []) → slice_split p (x ∷ xs) ≡ (x ∷ xs) ∷ []
-    at true e less rest = absurd (omega arith)
-    at false e less rest = slice_split-cons_no p x xs e ∙ ap (onto_first x) (rest (omega arith))
-
 -- a text without a newline is one line
-pub lines_of-last : (text : List ℕ) → 0 < length text → length text ≤ position_or_len (λ b. b == newline) text → lines_of text ≡ text ∷ []
+pub lines_of-last : (text : List ℕ) → 0 < length text → length text ≤ position_or_len (λ b. b == newline) text → grammar_lines text ≡ text ∷ []
 lines_of-last text some none = ap lines_among (slice_split-missing (λ b. b == newline) text none) ∙ one text some
   where
     one : (text : List ℕ) → 0 < length text → lines_among (text ∷ []) ≡ text ∷ []
@@ -40,11 +31,11 @@ lines_of-last text some none = ap lines_among (slice_split-missing (λ b. b == n
     one (b ∷ bs) some = refl
 
 -- a blank in front
-words_of-blank : (b : ℕ) (bs : List ℕ) → is_blank b ≡ true → words_of (b ∷ bs) ≡ words_of bs
+words_of-blank : (b : ℕ) (bs : List ℕ) → is_blank b ≡ true → grammar_words (b ∷ bs) ≡ grammar_words bs
 words_of-blank b bs blank = ap (filter (λ word. not (length word == 0))) (slice_split-cons_yes is_blank b bs blank)
 
 -- another byte in front begins the first word
-says-first : (b : ℕ) (bs : List ℕ) → is_blank b ≡ false → says_something (words_of (b ∷ bs)) ≡ not (b == 35)
+says-first : (b : ℕ) (bs : List ℕ) → is_blank b ≡ false → says_something (grammar_words (b ∷ bs)) ≡ not (b == 35)
 says-first b bs other =
     ap (λ pieces. says_something (filter (λ word. not (length word == 0)) pieces)) (slice_split-cons_no is_blank b bs other)
     ∙ at (slice_split is_blank bs)
@@ -62,25 +53,25 @@ says-first b bs other =
 
 -- the first byte that is no blank decides whether a line is content
 pub says-at : (line : List ℕ) (i : ℕ) → position_or_len (λ b. not (is_blank b)) line ≡ i → i < length line
-    → not (get_or line i 0 == 35) ≡ says_something (words_of line)
+    → not (get_or line i 0 == 35) ≡ says_something (grammar_words line)
 says-at [] i e within = absurd (omega arith)
 says-at (b ∷ bs) i e within = at (is_blank b) refl i e within (says-at bs)
   where
     at : (t : Bool) → is_blank b ≡ t → (i : ℕ) → cond (not (not t)) (1 + position_or_len (λ b. not (is_blank b)) bs) 0 ≡ i → i < length (b ∷ bs)
-        → ((j : ℕ) → position_or_len (λ b. not (is_blank b)) bs ≡ j → j < length bs → not (get_or bs j 0 == 35) ≡ says_something (words_of bs))
-        → not (get_or (b ∷ bs) i 0 == 35) ≡ says_something (words_of (b ∷ bs))
+        → ((j : ℕ) → position_or_len (λ b. not (is_blank b)) bs ≡ j → j < length bs → not (get_or bs j 0 == 35) ≡ says_something (grammar_words bs))
+        → not (get_or (b ∷ bs) i 0 == 35) ≡ says_something (grammar_words (b ∷ bs))
     at true blank zero is within rest = absurd (omega arith)
     at true blank (suc i) is within rest = rest i (omega arith) (omega arith) ∙ ap says_something (sym (words_of-blank b bs blank))
     at false other zero is within rest = sym (says-first b bs other)
     at false other (suc i) is within rest = absurd (omega arith)
 
-pub says-nothing : (line : List ℕ) → length line ≤ position_or_len (λ b. not (is_blank b)) line → false ≡ says_something (words_of line)
+pub says-nothing : (line : List ℕ) → length line ≤ position_or_len (λ b. not (is_blank b)) line → false ≡ says_something (grammar_words line)
 says-nothing [] none = refl
 says-nothing (b ∷ bs) none = at (is_blank b) refl none (says-nothing bs)
   where
     at : (t : Bool) → is_blank b ≡ t → length (b ∷ bs) ≤ cond (not (not t)) (1 + position_or_len (λ b. not (is_blank b)) bs) 0
-        → (length bs ≤ position_or_len (λ b. not (is_blank b)) bs → false ≡ says_something (words_of bs))
-        → false ≡ says_something (words_of (b ∷ bs))
+        → (length bs ≤ position_or_len (λ b. not (is_blank b)) bs → false ≡ says_something (grammar_words bs))
+        → false ≡ says_something (grammar_words (b ∷ bs))
     at true blank less rest = rest (omega arith) ∙ ap says_something (sym (words_of-blank b bs blank))
     at false other less rest = absurd (omega arith)
 

@@ -13,9 +13,9 @@ use Rattle.std.specs.List.{AllByRecursion, flat_map, join_with_byte, list_all, s
 use Rattle.std.specs.Prelude.{codes}
 use Rattle.std.specs.Str.{bytes_eq}
 use Rattle.grammar_file.proofs.LineLemmas.{lines_among_more, without_return-none}
-use Rattle.grammar_file.proofs.NumberLemmas.{numerals}
+use Rattle.rhythm_base.proofs.Numerals.{numerals}
 use Rattle.grammar_file.specs.Content.{content_from, numbered, says_something}
-use Rattle.grammar_file.specs.Lines.{is_blank, lines_among, lines_of, newline, without_return, words_of}
+use Rattle.grammar_file.specs.Lines.{is_blank, lines_among, grammar_lines, newline, without_return, grammar_words}
 use Rattle.grammar_file.specs.Names.{is_name, is_name_byte}
 use Rattle.grammar_file.specs.Printed.{line_text}
 use Rattle.grammar_file.specs.declared.line.Line.{Line}
@@ -80,7 +80,7 @@ kept_words (word ∷ words) plain =
     let some : (length word == 0) ≡ false = grind (arith, nat_tests, plain.0.1) in
     rw some (ap (λ ws. word ∷ ws) (kept_words words plain.1))
 
-pub words_of_line : (words : List (List ℕ)) → ArePlain words → words_of (join_with_byte 32 words) ≡ words
+pub words_of_line : (words : List (List ℕ)) → ArePlain words → grammar_words (join_with_byte 32 words) ≡ words
 words_of_line words plain = ap (filter (λ word. not (length word == 0))) (split_words words plain.0 plain.1) ∙ kept_words words plain.1
 
 -- no byte of a line is a newline or a carriage return
@@ -109,16 +109,16 @@ no_return line all = at (bytes_eq (drop (length line - 1) line) (13 ∷ [])) ref
         absurd (cc)
 
 -- the lines of a text
-pub lines_of_text : (lines : List (List (List ℕ))) → AllByRecursion ArePlain lines → lines_of (flat_map line_text lines) ≡ map (join_with_byte 32) lines
+pub lines_of_text : (lines : List (List (List ℕ))) → AllByRecursion ArePlain lines → grammar_lines (flat_map line_text lines) ≡ map (join_with_byte 32) lines
 lines_of_text [] plain = refl
 lines_of_text (words ∷ lines) plain =
     let line = join_with_byte 32 words in
     let rest = flat_map line_text lines in
-    ap lines_of (append_assoc line (newline ∷ []) rest)
+    ap grammar_lines (append_assoc line (newline ∷ []) rest)
     ∙ ap lines_among (slice_split_at (λ b. b == newline) line newline rest
     (All-from_recursion (λ b. (b == newline) ≡ false) line (line_bytes (λ b. (b == newline) ≡ false) refl not_newline words plain.0.1)) refl)
     ∙ lines_among_more line (slice_split (λ b. b == newline) rest) (omega (arith, length-slice_split (λ b. b == newline) rest))
-    ∙ ap (λ first. first ∷ lines_of rest) (no_return line (line_bytes (λ b. (b == 13) ≡ false) refl not_return words plain.0.1))
+    ∙ ap (λ first. first ∷ grammar_lines rest) (no_return line (line_bytes (λ b. (b == 13) ≡ false) refl not_return words plain.0.1))
     ∙ ap (λ more. line ∷ more) (lines_of_text lines plain.1)
 
 -- the lines with their numbers
@@ -139,7 +139,7 @@ said_lines n [] plain = refl
 said_lines n (words ∷ lines) plain =
     rw (words_of_line words plain.0, says words plain.0) (ap (λ more. record { number = n; words = words } ∷ more) (said_lines (n + 1) lines plain.1))
 
-pub content_of_text : (lines : List (List (List ℕ))) → AllByRecursion ArePlain lines → (content_from 1 (lines_of (flat_map line_text lines))).lines ≡ lines_from 1 lines
+pub content_of_text : (lines : List (List (List ℕ))) → AllByRecursion ArePlain lines → (content_from 1 (grammar_lines (flat_map line_text lines))).lines ≡ lines_from 1 lines
 unfolding content_from
 content_of_text lines plain =
     ap (λ ls. filter (λ line. says_something line.words) (numbered 1 ls)) (lines_of_text lines plain) ∙ said_lines 1 lines plain

@@ -8,8 +8,8 @@ use Rattle.std.specs.Prelude.{codes, decimal}
 use Rattle.rhythm_base.specs.Readable.{AppearInOrder}
 use Rattle.rhythm_base.specs.declared.rule.Rule.{Rule}
 use Rattle.std.proofs.lemmas.Grind.{flat_map-append}
-use Rattle.rhythm_base.specs.Rulebook.{Rulebook}
-use Rattle.grammar_file.specs.Printed.{header_words, line_text, name_of, printed, rule_words, start_words}
+use Rattle.rhythm_base.specs.Grammar.{Grammar}
+use Rattle.grammar_file.specs.Printed.{header_words, line_text, symbol_name, printed, rule_words, start_words}
 
 -- four pieces, one behind the other
 pub four_pieces : (text a b c d p q r s : List ℕ) → a ≡ text ++ p → b ≡ a ++ q → c ≡ b ++ r → d ≡ c ++ s
@@ -24,27 +24,27 @@ pub spaced : (word : List ℕ) (words : List (List ℕ)) → join_with_byte 32 (
 spaced word [] = sym (append-nil word)
 spaced word (next ∷ words) = ap (λ text. word ++ 32 ∷ text) (spaced next words)
 
-spaced_names : (names : List (List ℕ)) (symbols : List ℕ) → flat_map (λ w. 32 ∷ w) (map (name_of names) symbols) ≡ flat_map (λ s. 32 ∷ name_of names s) symbols
+spaced_names : (names : List (List ℕ)) (symbols : List ℕ) → flat_map (λ w. 32 ∷ w) (map (symbol_name names) symbols) ≡ flat_map (λ s. 32 ∷ symbol_name names s) symbols
 spaced_names names [] = refl
-spaced_names names (symbol ∷ symbols) = ap (λ text. 32 ∷ (name_of names symbol ++ text)) (spaced_names names symbols)
+spaced_names names (symbol ∷ symbols) = ap (λ text. 32 ∷ (symbol_name names symbol ++ text)) (spaced_names names symbols)
 
 -- a split, and parts
 pub split_text : (names : List (List ℕ)) (symbols : List ℕ)
-    → codes "split" ++ flat_map (λ s. 32 ∷ name_of names s) symbols ≡ join_with_byte 32 (codes "split" ∷ map (name_of names) symbols)
-split_text names symbols = ap (λ text. codes "split" ++ text) (sym (spaced_names names symbols)) ∙ sym (spaced (codes "split") (map (name_of names) symbols))
+    → codes "split" ++ flat_map (λ s. 32 ∷ symbol_name names s) symbols ≡ join_with_byte 32 (codes "split" ∷ map (symbol_name names) symbols)
+split_text names symbols = ap (λ text. codes "split" ++ text) (sym (spaced_names names symbols)) ∙ sym (spaced (codes "split") (map (symbol_name names) symbols))
 
 abbrev part_words : List (List ℕ) → ℕ × ℕ → List (List ℕ)
-part_words names part = decimal part.0 ∷ name_of names part.1 ∷ []
+part_words names part = decimal part.0 ∷ symbol_name names part.1 ∷ []
 
 spaced_parts : (names : List (List ℕ)) (parts : List (ℕ × ℕ))
-    → flat_map (λ w. 32 ∷ w) (flat_map (part_words names) parts) ≡ flat_map (λ q. 32 ∷ (decimal q.0 ++ 32 ∷ name_of names q.1)) parts
+    → flat_map (λ w. 32 ∷ w) (flat_map (part_words names) parts) ≡ flat_map (λ q. 32 ∷ (decimal q.0 ++ 32 ∷ symbol_name names q.1)) parts
 spaced_parts names [] = refl
 spaced_parts names (part ∷ parts) =
-    ap (λ text. 32 ∷ (decimal part.0 ++ 32 ∷ (name_of names part.1 ++ text))) (spaced_parts names parts)
-    ∙ ap (λ text. 32 ∷ text) (sym (append_assoc (decimal part.0) (32 ∷ name_of names part.1) (flat_map (λ q. 32 ∷ (decimal q.0 ++ 32 ∷ name_of names q.1)) parts)))
+    ap (λ text. 32 ∷ (decimal part.0 ++ 32 ∷ (symbol_name names part.1 ++ text))) (spaced_parts names parts)
+    ∙ ap (λ text. 32 ∷ text) (sym (append_assoc (decimal part.0) (32 ∷ symbol_name names part.1) (flat_map (λ q. 32 ∷ (decimal q.0 ++ 32 ∷ symbol_name names q.1)) parts)))
 
 pub parts_text : (names : List (List ℕ)) (parts : List (ℕ × ℕ))
-    → codes "parts" ++ flat_map (λ q. 32 ∷ (decimal q.0 ++ 32 ∷ name_of names q.1)) parts ≡ join_with_byte 32 (codes "parts" ∷ flat_map (part_words names) parts)
+    → codes "parts" ++ flat_map (λ q. 32 ∷ (decimal q.0 ++ 32 ∷ symbol_name names q.1)) parts ≡ join_with_byte 32 (codes "parts" ∷ flat_map (part_words names) parts)
 parts_text names parts = ap (λ text. codes "parts" ++ text) (sym (spaced_parts names parts)) ∙ sym (spaced (codes "parts") (flat_map (part_words names) parts))
 
 -- left sides that appear in order are symbols
@@ -72,7 +72,7 @@ sides_of_rules rules names order = All-from_recursion (λ r. r.lhs < names) rule
     of_rules (rule ∷ rules) all = (all.0, of_rules rules all.1)
 
 -- the text of a grammar, in its three parts
-pub printed_parts : (g : Rulebook) (text a b : List ℕ) → text ≡ flat_map line_text (header_words g) → a ≡ text ++ flat_map line_text (map (start_words g.names) g.starts)
+pub printed_parts : (g : Grammar) (text a b : List ℕ) → text ≡ flat_map line_text (header_words g) → a ≡ text ++ flat_map line_text (map (start_words g.names) g.starts)
     → b ≡ a ++ flat_map line_text (map (rule_words g.names) g.rules) → b ≡ printed g
 unfolding printed
 printed_parts g text a b head starts rules =

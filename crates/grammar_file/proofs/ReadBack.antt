@@ -1,23 +1,26 @@
 -- The printed text of a grammar is read as that grammar.
-use Rattle.std.proofs.Common.{◌≡◌, ◌⊎◌, ℕ, ◌+◌, ◌<◌, ◌≤◌, ◌==◌, if◌then◌else◌, Bool, true, false, not, List, [], ◌∷◌, ◌++◌, length, drop, map, filter, slice_get, Result, Ok, Err, All, inl, inr, refl, sym, ap, ◌∙◌, subst, arith}
+use Rattle.std.proofs.Common.{◌≡◌, ◌⊎◌, ℕ, ◌+◌, ◌<◌, ◌≤◌, ◌==◌, if◌then◌else◌, Bool, true, false, not, List, [], ◌∷◌, ◌++◌, length, drop, map, filter, slice_get, Option, Some, None, Result, Ok, Err, All, inl, inr, refl, sym, ap, ◌∙◌, subst, arith}
 use Rattle.std.proofs.lemmas.Grind.{flat_map-append}
 use Rattle.std.proofs.lemmas.List.{append-nil}
 use Rattle.std.proofs.lemmas.List.Elements.{All-head, All-tail, filter-append, recursion_from_All}
 use Rattle.std.specs.Fmt.{decimal}
 use Rattle.std.specs.List.{AllByRecursion, flat_map, list_all, list_any}
 use Rattle.std.specs.Prelude.{codes}
-use Rattle.rhythm_base.specs.Readable.{AppearInOrder, IsBody, IsReadable, IsStartOf}
-use Rattle.rhythm_base.specs.Rulebook.{Rulebook}
+use Rattle.rhythm_base.specs.Bodies.{Cut, cut_of, ending_of, equal, unequal}
+use Rattle.rhythm_base.specs.Readable.{AppearInOrder, IsBody, IsBodyOf, IsReadable, IsStartOf}
+use Rattle.rhythm_base.specs.Grammar.{Grammar}
 use Rattle.rhythm_base.specs.declared.grammar.Start.{Start}
 use Rattle.rhythm_base.specs.declared.rule.Body.{Body}
 use Rattle.rhythm_base.specs.declared.rule.Body.TheVariants as bodies
+use Rattle.rhythm_base.specs.declared.rule.Ending.{Ending}
 use Rattle.rhythm_base.specs.declared.rule.Rule.{Rule}
+use Rattle.grammar_file.proofs.EndingLemmas.{body_from, body_from-is, ending_plain}
 use Rattle.grammar_file.proofs.GrammarLemmas.{grammar_3}
 use Rattle.grammar_file.proofs.HeaderLemmas.{header_5}
 use Rattle.grammar_file.proofs.PlainLemmas.{ArePlain, IsPlain, content_of_text, decimal_plain, lines_from, name_plain, signature_plain}
 use Rattle.grammar_file.proofs.PrintLemmas.{sides_of_rules}
 use Rattle.grammar_file.proofs.ReadBackLemmas.{IsFront, IsRule, name_known, read_rules, read_starts, rules_spoken, starts_spoken, symbol_of_name}
-use Rattle.grammar_file.proofs.SpokenLemmas.{beat_bound, named, number_line, version_line, weights_line}
+use Rattle.grammar_file.proofs.SpokenLemmas.{beat_bound, named, named_from, number_line, version_line, weights_line}
 use Rattle.grammar_file.specs.Content.{Content, content_of}
 use Rattle.grammar_file.specs.Grammar.{grammar_of, grammar_of_lines, understood}
 use Rattle.grammar_file.specs.Header.{header_of, line_says, most_units, number_of, version_of, weights_of}
@@ -25,7 +28,7 @@ use Rattle.grammar_file.specs.Names.{first_appearances, is_known, symbol_of}
 use Rattle.grammar_file.specs.Outcome.{on_line}
 use Rattle.grammar_file.specs.declared.fault.GrammarFault.{GrammarFault}
 use Rattle.grammar_file.specs.declared.fault.GrammarWhat.{GrammarWhat}
-use Rattle.grammar_file.specs.Printed.{body_words, name_of, printed, rule_words, start_words, weight_words, words_of_lines}
+use Rattle.grammar_file.specs.Printed.{body_words, symbol_name, printed, rule_words, start_words, weight_words, words_of_body, words_of_lines}
 use Rattle.grammar_file.specs.ReadBack.{IsReadBack}
 use Rattle.grammar_file.specs.Sayable.{IsSayable}
 use Rattle.grammar_file.specs.Statements.{in_turn, is_rule, is_start_of, left_sides, names_of, spoken_behind}
@@ -40,7 +43,7 @@ lines_behind n (words ∷ lines) more =
     ap (λ rest. record { number = n; words = words } ∷ rest)
     (lines_behind (n + 1) lines more ∙ ap (λ k. lines_from (n + 1) lines ++ lines_from k more) (omega arith))
 
-module _ (g : Rulebook) (can : IsSayable g) where
+module _ (g : Grammar) (can : IsSayable g) where
   abbrev readable : IsReadable g
   readable = can.readable
 
@@ -48,10 +51,10 @@ module _ (g : Rulebook) (can : IsSayable g) where
   number_plain : (n : ℕ) → n ≤ 1000000 → IsPlain (decimal n)
   number_plain n few = decimal_plain n (omega (arith, few))
 
-  symbol_plain : (symbol : ℕ) → symbol < length g.names → IsPlain (name_of g.names symbol)
-  symbol_plain symbol within = name_plain (name_of g.names symbol) (can.names symbol [] within)
+  symbol_plain : (symbol : ℕ) → symbol < length g.names → IsPlain (symbol_name g.names symbol)
+  symbol_plain symbol within = name_plain (symbol_name g.names symbol) (can.names symbol [] within)
 
-  kids_plain : (symbols : List ℕ) → All (λ s. s < length g.names) symbols → AllByRecursion IsPlain (map (name_of g.names) symbols)
+  kids_plain : (symbols : List ℕ) → All (λ s. s < length g.names) symbols → AllByRecursion IsPlain (map (symbol_name g.names) symbols)
   kids_plain [] bound = tt
   kids_plain (symbol ∷ symbols) bound =
       (symbol_plain symbol (All-head (λ s. s < length g.names) symbol symbols bound), kids_plain symbols (All-tail (λ s. s < length g.names) symbol symbols bound))
@@ -59,20 +62,20 @@ module _ (g : Rulebook) (can : IsSayable g) where
   abbrev IsPart : ℕ × ℕ → Type 0
   IsPart q = (1 ≤ q.0) × (q.0 ≤ 96) × (q.1 < length g.names)
 
-  parts_plain : (parts : List (ℕ × ℕ)) → All IsPart parts → AllByRecursion IsPlain (flat_map (λ part. decimal part.0 ∷ name_of g.names part.1 ∷ []) parts)
+  parts_plain : (parts : List (ℕ × ℕ)) → All IsPart parts → AllByRecursion IsPlain (flat_map (λ part. decimal part.0 ∷ symbol_name g.names part.1 ∷ []) parts)
   parts_plain [] bound = tt
   parts_plain (part ∷ parts) bound =
       let here = All-head IsPart part parts bound in
       (number_plain part.0 (omega (arith, here.1)), (symbol_plain part.1 here.2, parts_plain parts (All-tail IsPart part parts bound)))
 
+  views_plain : (cut : Option Cut) (ending : Option Ending) → IsBodyOf g.version (length g.names) cut ending → AllByRecursion IsPlain (words_of_body g.names cut ending)
+  views_plain (Some (equal symbols)) ending bound = ((refl, omega arith), kids_plain symbols bound.2)
+  views_plain (Some (unequal parts)) ending bound = ((refl, omega arith), parts_plain parts bound.3)
+  views_plain None (Some ending) bound = ending_plain ending bound
+  views_plain None None bound = tt
+
   body_plain : (body : Body) → IsBody g.version (length g.names) body → AllByRecursion IsPlain (body_words g.names body)
-  body_plain (bodies.Split symbols) bound = ((refl, omega arith), kids_plain symbols bound.2)
-  body_plain (bodies.Parts parts) bound = ((refl, omega arith), parts_plain parts bound.3)
-  body_plain bodies.Note bound = ((refl, omega arith), tt)
-  body_plain bodies.Short bound = ((refl, omega arith), tt)
-  body_plain bodies.Tie bound = ((refl, omega arith), tt)
-  body_plain bodies.Rest bound = ((refl, omega arith), tt)
-  body_plain (bodies.Grace graces) bound = ((refl, omega arith), (number_plain graces (omega (arith, bound.1)), tt))
+  body_plain body bound = views_plain (cut_of body) (ending_of body) bound
 
   rules_plain : (rules : List Rule) → AllByRecursion (IsRule g.version g.names can.names readable.names_differ readable.few_names) rules → AllByRecursion ArePlain (map (rule_words g.names) rules)
   rules_plain [] are = tt
@@ -196,26 +199,26 @@ module _ (g : Rulebook) (can : IsSayable g) where
       ∙ rules_read.0
 
   -- all names that the lines use are known
-  kids_known : (symbols : List ℕ) → All (λ s. s < length g.names) symbols → list_all (is_known g.names) (map (name_of g.names) symbols) ≡ true
+  kids_known : (symbols : List ℕ) → All (λ s. s < length g.names) symbols → list_all (is_known g.names) (map (symbol_name g.names) symbols) ≡ true
   kids_known [] bound = refl
   kids_known (symbol ∷ symbols) bound =
       rw (name_known g.names symbol (All-head (λ s. s < length g.names) symbol symbols bound)) (kids_known symbols (All-tail (λ s. s < length g.names) symbol symbols bound))
 
   abbrev with_name : ℕ × ℕ → ℕ × List ℕ
-  with_name part = (part.0, name_of g.names part.1)
+  with_name part = (part.0, symbol_name g.names part.1)
 
   parts_known : (parts : List (ℕ × ℕ)) → All IsPart parts → list_all (is_known g.names) (names_of_parts (map with_name parts)) ≡ true
   parts_known [] bound = refl
   parts_known (part ∷ parts) bound = rw (name_known g.names part.1 (All-head IsPart part parts bound).2) (parts_known parts (All-tail IsPart part parts bound))
 
+  views_known : (cut : Option Cut) (ending : Option Ending) → IsBodyOf g.version (length g.names) cut ending → list_all (is_known g.names) (names_in (named_from g.names cut ending)) ≡ true
+  views_known (Some (equal symbols)) ending bound = kids_known symbols bound.2
+  views_known (Some (unequal parts)) ending bound = parts_known parts bound.3
+  views_known None (Some ending) bound = refl
+  views_known None None bound = refl
+
   body_known : (body : Body) → IsBody g.version (length g.names) body → list_all (is_known g.names) (names_in (named g.names body)) ≡ true
-  body_known (bodies.Split symbols) bound = kids_known symbols bound.2
-  body_known (bodies.Parts parts) bound = parts_known parts bound.3
-  body_known bodies.Note bound = refl
-  body_known bodies.Short bound = refl
-  body_known bodies.Tie bound = refl
-  body_known bodies.Rest bound = refl
-  body_known (bodies.Grace graces) bound = refl
+  body_known body bound = views_known (cut_of body) (ending_of body) bound
 
   starts_known : (n : ℕ) (starts : List Start) → All (IsStartOf (length g.names)) starts → not_understood g.names (starts_spoken g.names n starts) ≡ []
   starts_known n [] are = refl
@@ -235,10 +238,10 @@ module _ (g : Rulebook) (can : IsSayable g) where
       ∙ rw (starts_known 5 g.starts readable.starts) (rules_known _ g.rules rules_are)
 
   -- symbols come back
-  symbol_back : (symbol : ℕ) → symbol < length g.names → symbol_of g.names (name_of g.names symbol) ≡ symbol
+  symbol_back : (symbol : ℕ) → symbol < length g.names → symbol_of g.names (symbol_name g.names symbol) ≡ symbol
   symbol_back symbol within = symbol_of_name g.names symbol readable.names_differ within
 
-  kids_back : (symbols : List ℕ) → All (λ s. s < length g.names) symbols → map (symbol_of g.names) (map (name_of g.names) symbols) ≡ symbols
+  kids_back : (symbols : List ℕ) → All (λ s. s < length g.names) symbols → map (symbol_of g.names) (map (symbol_name g.names) symbols) ≡ symbols
   kids_back [] bound = refl
   kids_back (symbol ∷ symbols) bound =
       rw (symbol_back symbol (All-head (λ s. s < length g.names) symbol symbols bound))
@@ -249,14 +252,14 @@ module _ (g : Rulebook) (can : IsSayable g) where
   parts_back (part ∷ parts) bound =
       rw (symbol_back part.1 (All-head IsPart part parts bound).2) (ap (λ rest. part ∷ rest) (parts_back parts (All-tail IsPart part parts bound)))
 
+  views_back : (cut : Option Cut) (ending : Option Ending) → IsBodyOf g.version (length g.names) cut ending → body_with g.names (named_from g.names cut ending) ≡ body_from cut ending
+  views_back (Some (equal symbols)) ending bound = ap bodies.Split (kids_back symbols bound.2)
+  views_back (Some (unequal parts)) ending bound = ap bodies.Parts (parts_back parts bound.3)
+  views_back None (Some ending) bound = refl
+  views_back None None bound = refl
+
   body_back : (body : Body) → IsBody g.version (length g.names) body → body_with g.names (named g.names body) ≡ body
-  body_back (bodies.Split symbols) bound = ap bodies.Split (kids_back symbols bound.2)
-  body_back (bodies.Parts parts) bound = ap bodies.Parts (parts_back parts bound.3)
-  body_back bodies.Note bound = refl
-  body_back bodies.Short bound = refl
-  body_back bodies.Tie bound = refl
-  body_back bodies.Rest bound = refl
-  body_back (bodies.Grace graces) bound = refl
+  body_back body bound = views_back (cut_of body) (ending_of body) bound ∙ body_from-is body
 
   starts_back : (n : ℕ) (starts : List Start) → All (IsStartOf (length g.names)) starts → starts_in g.names (starts_spoken g.names n starts) ≡ starts
   starts_back n [] are = refl
@@ -284,7 +287,7 @@ module _ (g : Rulebook) (can : IsSayable g) where
   all_rules : rules_in g.names (start_lines ++ rule_lines) ≡ g.rules
   all_rules = flat_map-append (rule_in g.names) start_lines rule_lines ∙ rw (rules_of_starts 5 g.starts) (rules_back _ g.rules rules_are)
 
-  abbrev grammar_with : List (List ℕ) → List Start → List Rule → Rulebook
+  abbrev grammar_with : List (List ℕ) → List Start → List Rule → Grammar
   grammar_with names starts rules = record {
     version = g.version;
     resolution = g.resolution;
@@ -299,8 +302,8 @@ module _ (g : Rulebook) (can : IsSayable g) where
   grammar_read : grammar_of_lines header (start_lines ++ rule_lines) ≡ Ok g
   grammar_read =
       let lines : List Spoken = start_lines ++ rule_lines in
-      let outcome : List (List ℕ) → Result Rulebook GrammarFault = λ names. understood (grammar_with names (starts_in names lines) (rules_in names lines)) (not_understood names lines) in
-      let with : Rulebook → List Spoken → Result Rulebook GrammarFault = λ rulebook others. understood rulebook others in
+      let outcome : List (List ℕ) → Result Grammar GrammarFault = λ names. understood (grammar_with names (starts_in names lines) (rules_in names lines)) (not_understood names lines) in
+      let with : Grammar → List Spoken → Result Grammar GrammarFault = λ rulebook others. understood rulebook others in
       ap outcome rules_read.1
       ∙ ap (with (grammar_with g.names (starts_in g.names lines) (rules_in g.names lines))) all_known
       ∙ ap (λ starts. Ok (grammar_with g.names starts (rules_in g.names lines))) all_starts
@@ -309,13 +312,13 @@ module _ (g : Rulebook) (can : IsSayable g) where
   text_read : grammar_of (printed g) ≡ Ok g
   text_read = grammar_3 (printed g) header (start_lines ++ rule_lines) header_read lines_read ∙ grammar_read
 
-ok_same : (g h : Rulebook) (r : Result Rulebook GrammarFault) → r ≡ Ok g → r ≡ Ok h → h ≡ g
+ok_same : (g h : Grammar) (r : Result Grammar GrammarFault) → r ≡ Ok g → r ≡ Ok h → h ≡ g
 ok_same g h r first second = cc
 
-ok_no_fault : (g : Rulebook) (fault : GrammarFault) (r : Result Rulebook GrammarFault) → r ≡ Ok g → r ≡ Err fault → ⊥
+ok_no_fault : (g : Grammar) (fault : GrammarFault) (r : Result Grammar GrammarFault) → r ≡ Ok g → r ≡ Err fault → ⊥
 ok_no_fault g fault r first second = cc
 
-pub read_back : (g : Rulebook) → IsSayable g → IsReadBack g
+pub read_back : (g : Grammar) → IsSayable g → IsReadBack g
 read_back g can = record {
   says = text_read g can;
   no_other = λ h says. ok_same g h (grammar_of (printed g)) (text_read g can) says;

@@ -9,12 +9,16 @@ use Rattle.std.proofs.lemmas.Slice.Eq.{bytes_eq-Decides}
 use Rattle.std.specs.List.{AllByRecursion, AllPairs, list_all, list_any}
 use Rattle.std.specs.Prelude.{⊤}
 use Rattle.std.specs.Str.{bytes_eq}
+use Rattle.rhythm_base.specs.Grammar.{Grammar}
 use Rattle.rhythm_base.specs.Readable.{AppearInOrder, IsBody, IsStartOf}
-use Rattle.grammar_file.proofs.SoundLemmas.{IsSound, IsSoundBody, IsSoundHeader, IsWithin, header_sound, said_sound, then_ok}
+use Rattle.grammar_file.proofs.EndingLemmas.{ending_readable}
+use Rattle.grammar_file.proofs.NumberLemmas.{IsWithin}
+use Rattle.grammar_file.proofs.OutcomeLemmas.{then_ok}
+use Rattle.grammar_file.proofs.SoundLemmas.{IsSound, IsSoundBody, IsSoundHeader, header_sound, said_sound}
 use Rattle.grammar_file.proofs.StatementLemmas.{first_appearances-with, names_of-rule, names_of-start, with_name}
 use Rattle.grammar_file.proofs.SymbolLemmas.{any-place}
 use Rattle.grammar_file.specs.Content.{content_of}
-use Rattle.grammar_file.specs.Grammar.{grammar_of, grammar_of_lines, rulebook_of, understood}
+use Rattle.grammar_file.specs.Grammar.{grammar_of, grammar_of_lines, grammar_of_parts, understood}
 use Rattle.grammar_file.specs.Header.{header_of, most_units}
 use Rattle.grammar_file.specs.Names.{first_appearances, is_known, is_name, symbol_of}
 use Rattle.grammar_file.specs.Outcome.{◌>>=◌, on_line}
@@ -27,7 +31,7 @@ use Rattle.grammar_file.specs.declared.fault.GrammarWhat.{GrammarWhat}
 use Rattle.grammar_file.specs.declared.header.Header.{Header}
 use Rattle.grammar_file.specs.declared.line.Line.{Line}
 use Rattle.grammar_file.specs.declared.said.NamedBody.{NamedBody}
-use Rattle.grammar_file.specs.declared.said.NamedBody.TheVariants.{Split, Parts, Note, Short, Tie, Rest, Grace}
+use Rattle.grammar_file.specs.declared.said.NamedBody.TheVariants.{Split, Parts, Ending}
 use Rattle.rhythm_base.specs.declared.grammar.Start.{Start}
 use Rattle.rhythm_base.specs.declared.rule.Rule.{Rule}
 use Rattle.grammar_file.specs.declared.said.Said.{Said}
@@ -235,11 +239,7 @@ body_readable version names (Split kids) sound known = (
 body_readable version names (Parts parts) sound known =
     let with : ℕ × List ℕ → ℕ × ℕ = λ part. (part.0, symbol_of names part.1) in
     (sound.0, omega (arith, length-map parts with, sound.1), omega (arith, length-map parts with, sound.2), parts_bound names parts known sound.3)
-body_readable version names Note sound known = tt
-body_readable version names Short sound known = tt
-body_readable version names Tie sound known = tt
-body_readable version names Rest sound known = tt
-body_readable version names (Grace graces) sound known = sound
+body_readable version names (Ending ending) sound known = ending_readable version (length names) ending sound
 
 -- the rules and the starts
 abbrev IsReadableRule : ℕ → ℕ → Rule → Type 0
@@ -380,7 +380,7 @@ in_order known (text ∷ texts) names is = at (is_known known text) refl is (λ 
 
 -- the grammar of sound lines
 rulebook_sayable : (header : Header) (spoken : List Spoken) → IsSoundHeader header → AreSound header.version spoken
-    → AllByRecursion (λ s. is_understood (names_of spoken) s ≡ true) spoken → IsSayable (rulebook_of header spoken)
+    → AllByRecursion (λ s. is_understood (names_of spoken) s ≡ true) spoken → IsSayable (grammar_of_parts header spoken)
 rulebook_sayable header spoken head sound known =
     let names = names_of spoken in
     let rules = rules_readable header.version names spoken sound.each known in
@@ -421,7 +421,7 @@ rulebook_sayable header spoken head sound known =
 lines_sayable : (header : Header) (spoken : List Spoken) → IsSoundHeader header → AreSound header.version spoken → IfOk (grammar_of_lines header spoken) IsSayable
 lines_sayable header spoken head sound = at (not_understood (names_of spoken) spoken) refl
   where
-    at : (others : List Spoken) → not_understood (names_of spoken) spoken ≡ others → IfOk (understood (rulebook_of header spoken) others) IsSayable
+    at : (others : List Spoken) → not_understood (names_of spoken) spoken ≡ others → IfOk (understood (grammar_of_parts header spoken) others) IsSayable
     at [] none = rulebook_sayable header spoken head sound (all_understood (is_understood (names_of spoken)) spoken none)
     at (first ∷ others) some = tt
 
@@ -433,3 +433,7 @@ grammar_is_sayable text =
     (λ header head. then_ok (AreSound header.version) IsSayable (in_turn (spoken_behind header.version) [] (drop 4 (content_of text).lines)) (λ spoken. grammar_of_lines header spoken)
     (lines_sound header.version (drop 4 (content_of text).lines))
     (λ spoken sound. lines_sayable header spoken head sound))
+
+-- so is each grammar that some text says
+pub is_sayable : (text : List ℕ) (g : Grammar) → grammar_of text ≡ Ok g → IsSayable g
+is_sayable text g says = subst (λ r. IfOk r IsSayable) says (grammar_is_sayable text)

@@ -4,16 +4,21 @@ use Rattle.std.proofs.lemmas.Bool.{and_parts, leb-true}
 use Rattle.std.proofs.lemmas.Bool.Decides.{nat_tests}
 use Rattle.std.proofs.lemmas.List.Elements.{All-cons, All-nil}
 use Rattle.std.specs.List.{after_first, before_first}
-use Rattle.std.specs.Prelude.{⊤, codes}
+use Rattle.std.specs.Prelude.{codes}
 use Rattle.std.specs.Str.{bytes_eq}
 use Rattle.std.specs.Str.Parse.{digits_value}
 use Rattle.rhythm_base.specs.Signatures.{IsSignature, is_den}
+use Rattle.rhythm_base.specs.Bodies.{IsLeafEnding}
+use Rattle.grammar_file.proofs.EndingLemmas.{ending_sound}
+use Rattle.grammar_file.proofs.NumberLemmas.{IsWithin, number_sound}
+use Rattle.grammar_file.proofs.OutcomeLemmas.{test_ok, then_ok}
 use Rattle.grammar_file.specs.Content.{Content}
+use Rattle.grammar_file.specs.Endings.{ending_of_words}
 use Rattle.grammar_file.specs.Header.{header_of, line_says, most_units, number_of, numbers_of, version_of, weights_of}
 use Rattle.grammar_file.specs.Names.{is_name}
 use Rattle.grammar_file.specs.Numbers.{beat_of, is_numeral, number_within}
 use Rattle.grammar_file.specs.Outcome.{◌>>=◌, on_line}
-use Rattle.grammar_file.specs.Said.{body_of, graces_of, has_form, kind_of, parts_of, rule_of_kind, said_by, start_of}
+use Rattle.grammar_file.specs.Said.{body_of, has_form, kind_of, parts_of, rule_of_kind, said_by, start_of}
 use Rattle.grammar_file.specs.declared.fault.GrammarWhat.{GrammarWhat}
 use Rattle.grammar_file.specs.declared.fault.GrammarWhat.TheVariants.{Header as header, Line as no_form}
 use Rattle.grammar_file.specs.declared.header.Header.{Header}
@@ -21,29 +26,9 @@ use Rattle.grammar_file.specs.declared.kind.Kind.{Kind}
 use Rattle.grammar_file.specs.declared.kind.Kind.TheVariants as kind
 use Rattle.grammar_file.specs.declared.line.Line.{Line}
 use Rattle.grammar_file.specs.declared.said.NamedBody.{NamedBody}
-use Rattle.grammar_file.specs.declared.said.NamedBody.TheVariants.{Split, Parts, Note, Short, Tie, Rest, Grace}
+use Rattle.grammar_file.specs.declared.said.NamedBody.TheVariants.{Split, Parts, Ending}
 use Rattle.grammar_file.specs.declared.said.Said.{Said}
 use Rattle.grammar_file.specs.declared.said.Said.TheVariants.{Start, Rule}
-
--- what holds of each step's value holds of the chain's
-pub then_ok : {A B E : Type 0} (P : A → Type 0) (Q : B → Type 0) (r : Result A E) (next : A → Result B E)
-    → IfOk r P → ((x : A) → P x → IfOk (next x) Q) → IfOk (r >>= next) Q
-then_ok P Q (Ok x) next first rest = rest x first
-then_ok P Q (Err e) next first rest = tt
-
--- what holds where the test passes
-pub test_ok : {A E : Type 0} (P : A → Type 0) (test : Bool) (r : Result A E) (e : E) → (test ≡ true → IfOk r P) → IfOk (if test then r else Err e) P
-test_ok P true r e passed = passed refl
-test_ok P false r e passed = tt
-
--- a number in its range
-abbrev pub IsWithin : ℕ → ℕ → ℕ → Type 0
-IsWithin low high n = (low ≤ n) × (n ≤ high)
-
-pub number_sound : (low high : ℕ) (digits : List ℕ) → IfOk (number_within low high digits) (IsWithin low high)
-number_sound low high digits =
-    test_ok (IsWithin low high) (nat_le low (digits_value 10 digits) && nat_le (digits_value 10 digits) high) (Ok (digits_value 10 digits)) _
-    (λ passed. let parts = and_parts _ _ passed in (leb-true _ _ parts.0, leb-true _ _ parts.1))
 
 pub beat_sound : (digits : List ℕ) → IfOk (beat_of digits) (λ n. IsTrue (is_den n))
 beat_sound digits = test_ok (λ n. IsTrue (is_den n)) (is_den (digits_value 10 digits)) (Ok (digits_value 10 digits)) _ (λ passed. passed)
@@ -52,11 +37,7 @@ beat_sound digits = test_ok (λ n. IsTrue (is_den n)) (is_den (digits_value 10 d
 abbrev pub IsSoundBody : ℕ → NamedBody → Type 0
 IsSoundBody version (Split names) = (2 ≤ length names) × (length names ≤ 16)
 IsSoundBody version (Parts parts) = (version ≡ 2) × (2 ≤ length parts) × (length parts ≤ 16) × All (λ part. IsWithin 1 96 part.0) parts
-IsSoundBody version Note = ⊤
-IsSoundBody version Short = ⊤
-IsSoundBody version Tie = ⊤
-IsSoundBody version Rest = ⊤
-IsSoundBody version (Grace graces) = IsWithin 1 3 graces
+IsSoundBody version (Ending ending) = IsLeafEnding ending
 
 abbrev pub IsSound : ℕ → Said → Type 0
 IsSound version (Start num den name) = IsSignature num den
@@ -91,11 +72,6 @@ parts_sound (size ∷ name ∷ more) =
     (λ first within. then_ok (AreHalf (length more)) (AreHalf (length (size ∷ name ∷ more))) (parts_of more) _ (parts_sound more)
     (λ others half. (All-cons (λ part. IsWithin 1 96 part.0) (first, name) others within half.0, omega (arith, half.1), omega (arith, half.2))))
 
-graces_sound : (words : List (List ℕ)) → IfOk (graces_of words) (IsWithin 1 3)
-graces_sound [] = tt
-graces_sound (digits ∷ []) = number_sound 1 3 digits
-graces_sound (digits ∷ more ∷ words) = tt
-
 body_sound : (version : ℕ) (k : Kind) (words : List (List ℕ)) → has_form version k words ≡ true → IfOk (body_of k words) (IsSoundBody version)
 body_sound version kind.Split words form =
     let outer = and_parts (nat_le 2 (length words) && nat_le (length words) 16) _ form in
@@ -110,11 +86,8 @@ body_sound version kind.Parts words form =
     let few = leb-true _ _ b.1 in
     then_ok (AreHalf (length words)) (IsSoundBody version) (parts_of words) _ (parts_sound words)
     (λ parts half. (is, omega (arith, half.2, some), omega (arith, half.1, few), half.0))
-body_sound version kind.Grace words form = then_ok (IsWithin 1 3) (IsSoundBody version) (graces_of words) _ (graces_sound words) (λ graces few. few)
-body_sound version kind.Note words form = tt
-body_sound version kind.Short words form = tt
-body_sound version kind.Tie words form = tt
-body_sound version kind.Rest words form = tt
+body_sound version (kind.Ending word) words form =
+    then_ok IsLeafEnding (IsSoundBody version) (ending_of_words word words) _ (ending_sound word words) (λ ending is. is)
 
 rule_sound : (version : ℕ) (name weight : List ℕ) (k : Option Kind) (words : List (List ℕ)) → IfOk (rule_of_kind version name weight k words) (IsSound version)
 rule_sound version name weight None words = tt

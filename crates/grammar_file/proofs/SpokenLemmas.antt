@@ -1,8 +1,8 @@
 -- The lines of a grammar's text say what they were written for.
-use Rattle.std.proofs.Common.{◌≡◌, ◌⊎◌, ℕ, ◌+◌, ◌*◌, ◌<◌, ◌≤◌, ◌^◌, ◌==◌, ◌&&◌, if◌then◌else◌, Bool, true, false, not, cond, List, [], ◌∷◌, ◌++◌, length, take, drop, map, Result, Ok, IsTrue, All, suc, inl, inr, refl, sym, ap, ◌∙◌, subst, arith}
+use Rattle.std.proofs.Common.{◌≡◌, ◌⊎◌, ℕ, ◌+◌, ◌*◌, ◌<◌, ◌≤◌, ◌^◌, ◌==◌, ◌&&◌, if◌then◌else◌, Bool, true, false, not, cond, List, [], ◌∷◌, ◌++◌, Option, Some, None, length, take, drop, map, Result, Ok, IsTrue, All, suc, inl, inr, refl, ap, ◌∙◌, subst, arith}
 use Rattle.std.proofs.lemmas.Bool.{and_parts, le-leb}
 use Rattle.std.proofs.lemmas.Bool.Decides.{nat_tests}
-use Rattle.std.proofs.lemmas.Fmt.{decimal_digit, decimal_nonempty, digits_decimal, digits_value-decimal}
+use Rattle.std.proofs.lemmas.Fmt.{decimal_digit, digits_decimal, digits_value-decimal}
 use Rattle.std.proofs.lemmas.List.{append_assoc, length-map}
 use Rattle.std.proofs.lemmas.List.Elements.{All-head, All-tail}
 use Rattle.std.proofs.lemmas.Slice.Eq.{bytes_eq-Decides}
@@ -11,27 +11,23 @@ use Rattle.std.specs.Fmt.{decimal}
 use Rattle.std.specs.List.{after_first, before_first, flat_map, list_all, position_or_len}
 use Rattle.std.specs.Prelude.{codes}
 use Rattle.std.specs.Str.{bytes_eq}
-use Rattle.rhythm_base.specs.Readable.{IsBody}
+use Rattle.rhythm_base.specs.Bodies.{Cut, cut_of, ending_of, equal, unequal}
+use Rattle.rhythm_base.specs.Readable.{IsBody, IsBodyOf}
 use Rattle.rhythm_base.specs.Signatures.{IsSignature, is_den}
 use Rattle.rhythm_base.specs.declared.rule.Body.{Body}
-use Rattle.rhythm_base.specs.declared.rule.Body.TheVariants as bodies
-use Rattle.grammar_file.proofs.NumberLemmas.{is_numeral-some, numerals}
+use Rattle.rhythm_base.specs.declared.rule.Ending.{Ending}
+use Rattle.rhythm_base.proofs.Numerals.{numerals}
+use Rattle.grammar_file.proofs.EndingLemmas.{ending_said}
+use Rattle.grammar_file.proofs.NumberLemmas.{numeral_decimal, within_decimal}
 use Rattle.grammar_file.specs.Header.{number_of, version_of, weights_of}
 use Rattle.grammar_file.specs.Names.{is_name}
-use Rattle.grammar_file.specs.Numbers.{beat_of, is_numeral, number_within}
-use Rattle.grammar_file.specs.Printed.{body_words, name_of}
+use Rattle.grammar_file.specs.Numbers.{beat_of}
+use Rattle.grammar_file.specs.Printed.{body_words, symbol_name, words_of_body}
 use Rattle.grammar_file.specs.Said.{are_parts, kind_of, parts_of, said_by}
 use Rattle.grammar_file.specs.declared.fault.GrammarWhat.{GrammarWhat}
 use Rattle.grammar_file.specs.declared.said.NamedBody.{NamedBody}
 use Rattle.grammar_file.specs.declared.said.NamedBody.TheVariants as named_bodies
 use Rattle.grammar_file.specs.declared.said.Said.TheVariants.{Start, Rule}
-
--- numbers that are written in digits
-pub numeral_decimal : (n : ℕ) → n < 2 ^ 64 → is_numeral (decimal n) ≡ true
-numeral_decimal n small = sym (is_numeral-some (decimal n) (omega (arith, decimal_nonempty n small))) ∙ digits_decimal numerals n small
-
-pub within_decimal : (low high n : ℕ) → low ≤ n → n ≤ high → n < 2 ^ 64 → number_within low high (decimal n) ≡ Ok n
-within_decimal low high n least most small = rw (digits_value-decimal numerals n small) (rw (le-leb low n least, le-leb n high most) refl)
 
 -- the lines of the header
 pub version_line : (version : ℕ) → (version ≡ 1) ⊎ (version ≡ 2) → version_of (codes "rhythm" ∷ decimal version ∷ []) ≡ Ok version
@@ -103,20 +99,20 @@ start_said version num den name signature spelled =
     ∙ start_parts version num den name signature spelled
 
 -- a rule line
+abbrev pub named_from : List (List ℕ) → Option Cut → Option Ending → NamedBody
+named_from names (Some (equal symbols)) ending = named_bodies.Split (map (symbol_name names) symbols)
+named_from names (Some (unequal parts)) ending = named_bodies.Parts (map (λ part. (part.0, symbol_name names part.1)) parts)
+named_from names None (Some ending) = named_bodies.Ending ending
+named_from names None None = named_bodies.Split []
+
 abbrev pub named : List (List ℕ) → Body → NamedBody
-named names (bodies.Split symbols) = named_bodies.Split (map (name_of names) symbols)
-named names (bodies.Parts parts) = named_bodies.Parts (map (λ part. (part.0, name_of names part.1)) parts)
-named names bodies.Note = named_bodies.Note
-named names bodies.Short = named_bodies.Short
-named names bodies.Tie = named_bodies.Tie
-named names bodies.Rest = named_bodies.Rest
-named names (bodies.Grace graces) = named_bodies.Grace graces
+named names body = named_from names (cut_of body) (ending_of body)
 
 module _ (version : ℕ) (names : List (List ℕ)) (spelled : All (λ n. IsTrue (is_name n)) names) where
-  name_spelled : (symbol : ℕ) → symbol < length names → is_name (name_of names symbol) ≡ true
+  name_spelled : (symbol : ℕ) → symbol < length names → is_name (symbol_name names symbol) ≡ true
   name_spelled symbol within = spelled symbol [] within
 
-  kids_spelled : (symbols : List ℕ) → All (λ s. s < length names) symbols → list_all is_name (map (name_of names) symbols) ≡ true
+  kids_spelled : (symbols : List ℕ) → All (λ s. s < length names) symbols → list_all is_name (map (symbol_name names) symbols) ≡ true
   kids_spelled [] bound = refl
   kids_spelled (symbol ∷ symbols) bound =
       rw (name_spelled symbol (All-head (λ s. s < length names) symbol symbols bound))
@@ -126,7 +122,7 @@ module _ (version : ℕ) (names : List (List ℕ)) (spelled : All (λ n. IsTrue 
   IsPart q = (1 ≤ q.0) × (q.0 ≤ 96) × (q.1 < length names)
 
   abbrev part_words : ℕ × ℕ → List (List ℕ)
-  part_words part = decimal part.0 ∷ name_of names part.1 ∷ []
+  part_words part = decimal part.0 ∷ symbol_name names part.1 ∷ []
 
   parts_spelled : (parts : List (ℕ × ℕ)) → All IsPart parts → are_parts (flat_map part_words parts) ≡ true
   parts_spelled [] bound = refl
@@ -138,7 +134,7 @@ module _ (version : ℕ) (names : List (List ℕ)) (spelled : All (λ n. IsTrue 
   parts_long [] = refl
   parts_long (part ∷ parts) = let more = parts_long parts in omega (arith, more)
 
-  parts_said : (parts : List (ℕ × ℕ)) → All IsPart parts → parts_of (flat_map part_words parts) ≡ Ok (map (λ part. (part.0, name_of names part.1)) parts)
+  parts_said : (parts : List (ℕ × ℕ)) → All IsPart parts → parts_of (flat_map part_words parts) ≡ Ok (map (λ part. (part.0, symbol_name names part.1)) parts)
   parts_said [] bound = refl
   parts_said (part ∷ parts) bound =
       let here = All-head IsPart part parts bound in
@@ -152,21 +148,21 @@ module _ (version : ℕ) (names : List (List ℕ)) (spelled : All (λ n. IsTrue 
       at false e = refl
       at true e = let same = (bytes_eq-Decides name (codes "start")).0 e in let wrong : is_name (codes "start") ≡ true = subst (λ n. is_name n ≡ true) same is in absurd (cc)
 
-  pub rule_said : (name : List ℕ) (weight : ℕ) (body : Body) → is_name name ≡ true → weight ≤ 1000000 → IsBody version (length names) body
-      → said_by version (name ∷ decimal weight ∷ body_words names body) ≡ Ok (Rule name weight (named names body))
+  views_said : (name : List ℕ) (weight : ℕ) (cut : Option Cut) (ending : Option Ending) → is_name name ≡ true → weight ≤ 1000000 → IsBodyOf version (length names) cut ending
+      → said_by version (name ∷ decimal weight ∷ words_of_body names cut ending) ≡ Ok (Rule name weight (named_from names cut ending))
   unfolding said_by kind_of
-  rule_said name weight (bodies.Split symbols) is few bound =
-      let long = length-map symbols (name_of names) in
+  views_said name weight (Some (equal symbols)) ending is few bound =
+      let long = length-map symbols (symbol_name names) in
       rw (
         not_start name is,
         is,
         numeral_decimal weight (omega (arith, few)),
-        le-leb 2 (length (map (name_of names) symbols)) (omega (arith, long, bound.0)),
-        le-leb (length (map (name_of names) symbols)) 16 (omega (arith, long, bound.1)),
+        le-leb 2 (length (map (symbol_name names) symbols)) (omega (arith, long, bound.0)),
+        le-leb (length (map (symbol_name names) symbols)) 16 (omega (arith, long, bound.1)),
         kids_spelled symbols bound.2,
         within_decimal 0 1000000 weight (omega arith) few (omega (arith, few)),
       ) refl
-  rule_said name weight (bodies.Parts parts) is few bound =
+  views_said name weight (Some (unequal parts)) ending is few bound =
       let long = parts_long parts in
       let two : (version == 2) ≡ true = grind (arith, nat_tests, bound.0) in
       rw (
@@ -180,9 +176,11 @@ module _ (version : ℕ) (names : List (List ℕ)) (spelled : All (λ n. IsTrue 
         within_decimal 0 1000000 weight (omega arith) few (omega (arith, few)),
         parts_said parts bound.3,
       ) refl
-  rule_said name weight bodies.Note is few bound = rw (not_start name is, is, numeral_decimal weight (omega (arith, few)), within_decimal 0 1000000 weight (omega arith) few (omega (arith, few))) refl
-  rule_said name weight bodies.Short is few bound = rw (not_start name is, is, numeral_decimal weight (omega (arith, few)), within_decimal 0 1000000 weight (omega arith) few (omega (arith, few))) refl
-  rule_said name weight bodies.Tie is few bound = rw (not_start name is, is, numeral_decimal weight (omega (arith, few)), within_decimal 0 1000000 weight (omega arith) few (omega (arith, few))) refl
-  rule_said name weight bodies.Rest is few bound = rw (not_start name is, is, numeral_decimal weight (omega (arith, few)), within_decimal 0 1000000 weight (omega arith) few (omega (arith, few))) refl
-  rule_said name weight (bodies.Grace graces) is few bound =
-      rw (not_start name is, is, numeral_decimal weight (omega (arith, few)), within_decimal 0 1000000 weight (omega arith) few (omega (arith, few)), numeral_decimal graces (omega (arith, bound.1)), within_decimal 1 3 graces bound.0 bound.1 (omega (arith, bound.1))) refl
+  views_said name weight None (Some ending) is few bound =
+      ending_said version name (decimal weight) weight (not_start name is) is (numeral_decimal weight (omega (arith, few)))
+      (within_decimal 0 1000000 weight (omega arith) few (omega (arith, few))) ending bound
+  views_said name weight None None is few bound = absurd bound
+
+  pub rule_said : (name : List ℕ) (weight : ℕ) (body : Body) → is_name name ≡ true → weight ≤ 1000000 → IsBody version (length names) body
+      → said_by version (name ∷ decimal weight ∷ body_words names body) ≡ Ok (Rule name weight (named names body))
+  rule_said name weight body is few bound = views_said name weight (cut_of body) (ending_of body) is few bound

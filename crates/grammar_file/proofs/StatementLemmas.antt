@@ -4,8 +4,9 @@ use Rattle.std.proofs.lemmas.Grind.{flat_map-append}
 use Rattle.std.proofs.lemmas.List.{append-nil, map-append}
 use Rattle.std.specs.List.{list_any}
 use Rattle.std.specs.Str.{bytes_eq}
-use Rattle.grammar_file.proofs.AppearanceLemmas.{first_appearances-push, list_any-map}
-use Rattle.grammar_file.proofs.TextLemmas.{bytes_eq-sym}
+use Rattle.rhythm_base.proofs.Positions.{list_any-map}
+use Rattle.grammar_file.proofs.AppearanceLemmas.{first_appearances-push}
+use Rattle.rhythm_base.proofs.Texts.{bytes_eq-sym}
 use Rattle.grammar_file.specs.Names.{first_appearances, is_known}
 use Rattle.grammar_file.specs.Statements.{left_side, left_sides, names_of}
 use Rattle.grammar_file.specs.declared.draft.Spoken.{Spoken}

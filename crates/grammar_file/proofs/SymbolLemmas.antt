@@ -4,8 +4,7 @@ use Rattle.std.proofs.lemmas.Bool.Decides.{nat_tests}
 use Rattle.std.proofs.lemmas.List.{map-append, take_all, take_more}
 use Rattle.std.proofs.lemmas.List.Folds.{list_all-map, list_all_at, list_all_more}
 use Rattle.std.specs.List.{list_all, list_any, position_or_len}
-use Rattle.grammar_file.proofs.AppearanceLemmas.{list_any-map}
-use Rattle.grammar_file.proofs.NameLemmas.{position_or_len-map}
+use Rattle.rhythm_base.proofs.Positions.{list_any-map, position_or_len-map}
 use Rattle.std.specs.Str.{bytes_eq}
 use Rattle.grammar_file.specs.Names.{is_known, symbol_of}
 use Rattle.grammar_file.specs.Symbols.{where_known}

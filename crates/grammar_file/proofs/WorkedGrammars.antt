@@ -2,9 +2,10 @@
 use Rattle.std.proofs.Common.{◌≡◌, ℕ, List, [], ◌∷◌, ◌++◌, Result, Ok, Err, refl}
 use Rattle.std.specs.List.{flat_map}
 use Rattle.std.specs.Prelude.{codes}
-use Rattle.rhythm_base.specs.Rulebook.{Rulebook}
+use Rattle.rhythm_base.specs.Grammar.{Grammar}
 use Rattle.rhythm_base.specs.declared.rule.Body.TheVariants.{Parts, Note}
 use Rattle.grammar_file.specs.Content.{content_from}
+use Rattle.grammar_file.specs.Endings.{ending_word_of}
 use Rattle.grammar_file.specs.Grammar.{grammar_of}
 use Rattle.grammar_file.specs.Header.{header_of}
 use Rattle.grammar_file.specs.Names.{is_name, is_name_byte}
@@ -18,7 +19,7 @@ use Rattle.grammar_file.specs.declared.fault.GrammarWhat.TheVariants.{Header, Li
 abbrev text : List (List ℕ) → List ℕ
 text lines = flat_map (λ line. line ++ 10 ∷ []) lines
 
-abbrev fault : ℕ → GrammarWhat → Result Rulebook GrammarFault
+abbrev fault : ℕ → GrammarWhat → Result Grammar GrammarFault
 fault line what = Err (record { line = line; what = what })
 
 -- a bar that is cut into a dotted half note and a quarter note, in version 2
@@ -33,7 +34,7 @@ dotted : grammar_of (text (codes "rhythm 2" ∷ codes "resolution 4" ∷ codes "
       starts = record { num = 4; den = 4; symbol = 0 } ∷ [];
       rules = record { lhs = 0; weight = 0; body = Parts ((3, 1) ∷ (1, 1) ∷ []) } ∷ record { lhs = 1; weight = 0; body = Note } ∷ [];
     })
-unfolding grammar_of header_of content_from is_numeral is_name is_name_byte kind_of said_by
+unfolding grammar_of header_of content_from is_numeral is_name is_name_byte kind_of ending_word_of said_by
 dotted = refl
 
 -- no text, and a text of one line
@@ -48,13 +49,13 @@ one_line = refl
 -- the number of the first line with an unknown name, comments and empty lines counted
 unknown : grammar_of (text (codes "rhythm 1" ∷ codes "# units" ∷ codes "resolution 1" ∷ codes "window 0" ∷ [] ∷ codes "onset 1" ∷ codes "B 0 note" ∷ codes "B 0 split B X" ∷ []))
     ≡ fault 8 UnknownName
-unfolding grammar_of header_of content_from is_numeral is_name is_name_byte kind_of said_by
+unfolding grammar_of header_of content_from is_numeral is_name is_name_byte kind_of ending_word_of said_by
 unknown = refl
 
 -- a later line of no form comes first
 later_line : grammar_of (text (codes "rhythm 1" ∷ codes "resolution 1" ∷ codes "window 0" ∷ codes "onset 1" ∷ codes "B 0 split B X" ∷ codes "B 9999999 foo" ∷ []))
     ≡ fault 6 Line
-unfolding grammar_of header_of content_from is_numeral is_name is_name_byte kind_of said_by
+unfolding grammar_of header_of content_from is_numeral is_name is_name_byte kind_of ending_word_of said_by
 later_line = refl
 
 -- the first number that is out of its range

@@ -10,7 +10,7 @@ use Rattle.grammar_file.specs.declared.draft.Spoken.{Spoken}
 use Rattle.grammar_file.specs.declared.fault.GrammarFault.{GrammarFault}
 use Rattle.grammar_file.specs.declared.fault.GrammarWhat.TheVariants.{UnknownName}
 use Rattle.grammar_file.specs.declared.header.Header.{Header}
-use Rattle.rhythm_base.specs.Rulebook.{Rulebook}
+use Rattle.rhythm_base.specs.Grammar.{Grammar}
 use Rattle.rhythm_base.specs.declared.grammar.Start.{Start}
 use Rattle.rhythm_base.specs.declared.rule.Rule.{Rule}
 
@@ -19,8 +19,8 @@ abbrev pub starts_and_rules : List (List ℕ) → List Spoken → List Start × 
 starts_and_rules names spoken = (starts_in names spoken, rules_in names spoken)
 
 -- the grammar of a header and lines that use only known names
-abbrev pub rulebook_of : Header → List Spoken → Rulebook
-rulebook_of header spoken = record {
+abbrev pub grammar_of_parts : Header → List Spoken → Grammar
+grammar_of_parts header spoken = record {
   version = header.version;
   resolution = header.resolution;
   window = header.window;
@@ -36,15 +36,15 @@ abbrev pub understood : {A : Type 0} → A → List Spoken → Result A GrammarF
 understood value [] = Ok value
 understood value (first ∷ others) = Err (record { line = first.line; what = UnknownName })
 
-abbrev pub grammar_of_lines : Header → List Spoken → Result Rulebook GrammarFault
+abbrev pub grammar_of_lines : Header → List Spoken → Result Grammar GrammarFault
 grammar_of_lines header spoken =
-    understood (rulebook_of header spoken) (not_understood (names_of spoken) spoken)
+    understood (grammar_of_parts header spoken) (not_understood (names_of spoken) spoken)
 
-abbrev pub grammar_of_content : Content → Result Rulebook GrammarFault
+abbrev pub grammar_of_content : Content → Result Grammar GrammarFault
 grammar_of_content content = do
   header ← header_of content
   spoken ← in_turn (spoken_behind header.version) [] (drop 4 content.lines)
   grammar_of_lines header spoken
 
-unfoldable pub grammar_of : List ℕ → Result Rulebook GrammarFault
+unfoldable pub grammar_of : List ℕ → Result Grammar GrammarFault
 grammar_of text = grammar_of_content (content_of text)

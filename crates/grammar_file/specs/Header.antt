@@ -1,4 +1,5 @@
 -- The first four lines of a grammar file.
+use Rattle.rhythm_base.specs.declared.limits.TheConstants.{MOST_UNITS, MOST_UNEQUAL_UNITS, WIDEST_WINDOW, HEAVIEST_ONSET}
 use Rattle.std.specs.Prelude.{ℕ, ◌==◌, ◌&&◌, if◌then◌else◌, List, [], ◌∷◌, Option, Some, None, Result, Ok, Err, codes, slice_get}
 use Rattle.std.specs.Str.{bytes_eq}
 use Rattle.grammar_file.specs.Content.{Content}
@@ -36,12 +37,12 @@ numbers_of key low high _ = Err what.Header
 -- the weights of early and of late onsets: version 1 has one for both
 abbrev pub weights_of : ℕ → List (List ℕ) → Result (ℕ × ℕ) GrammarWhat
 weights_of version words =
-    if version == 2 then numbers_of (codes "onset") 0 1000 words
-    else (number_of (codes "onset") 0 1000 words >>= λ weight. Ok (weight, weight))
+    if version == 2 then numbers_of (codes "onset") 0 HEAVIEST_ONSET words
+    else (number_of (codes "onset") 0 HEAVIEST_ONSET words >>= λ weight. Ok (weight, weight))
 
 -- the most units of a bar
 abbrev pub most_units : ℕ → ℕ
-most_units version = if version == 2 then 96 else 960
+most_units version = if version == 2 then MOST_UNEQUAL_UNITS else MOST_UNITS
 
 -- a line of the header is not there: the fault stands behind the last line
 abbrev pub missing : ℕ → GrammarFault
@@ -57,6 +58,6 @@ unfoldable pub header_of : Content → Result Header GrammarFault
 header_of content = do
   version ← line_says content.end version_of (slice_get content.lines 0)
   resolution ← line_says content.end (number_of (codes "resolution") 1 (most_units version)) (slice_get content.lines 1)
-  window ← line_says content.end (number_of (codes "window") 0 1000000) (slice_get content.lines 2)
+  window ← line_says content.end (number_of (codes "window") 0 WIDEST_WINDOW) (slice_get content.lines 2)
   weights ← line_says content.end (weights_of version) (slice_get content.lines 3)
   Ok (record { version = version; resolution = resolution; window = window; early = weights.0; late = weights.1 })

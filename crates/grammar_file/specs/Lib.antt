@@ -1,4 +1,5 @@
 pub mod Content
+pub mod Endings
 pub mod Grammar
 pub mod Header
 pub mod Lines

@@ -24,9 +24,9 @@ lines_among ([] ∷ []) = []
 lines_among ((byte ∷ bytes) ∷ []) = (byte ∷ bytes) ∷ []
 lines_among (line ∷ next ∷ more) = without_return line ∷ lines_among (next ∷ more)
 
-abbrev pub lines_of : List ℕ → List (List ℕ)
-lines_of text = lines_among (slice_split (λ b. b == newline) text)
+abbrev pub grammar_lines : List ℕ → List (List ℕ)
+grammar_lines text = lines_among (slice_split (λ b. b == newline) text)
 
 -- what stands between the blanks of a line, where it has a byte
-abbrev pub words_of : List ℕ → List (List ℕ)
-words_of line = filter (λ word. not (length word == 0)) (slice_split is_blank line)
+abbrev pub grammar_words : List ℕ → List (List ℕ)
+grammar_words line = filter (λ word. not (length word == 0)) (slice_split is_blank line)

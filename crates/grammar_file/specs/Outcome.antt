@@ -16,14 +16,14 @@ on_line number (Ok x) = Ok x
 on_line number (Err what) = Err (record { line = number; what = what })
 
 -- what a line's reader returned is what the line comes to, unless memory ran out
-abbrev pub Gives : {A : Type 0} → Result A GrammarWhat → Result A GrammarWhat → Type 0
-Gives (Ok x) outcome = outcome ≡ Ok x
-Gives (Err what) outcome = what ≢ Memory → outcome ≡ Err what
+abbrev pub GivesGrammar : {A : Type 0} → Result A GrammarWhat → Result A GrammarWhat → Type 0
+GivesGrammar (Ok x) outcome = outcome ≡ Ok x
+GivesGrammar (Err what) outcome = what ≢ Memory → outcome ≡ Err what
 
 -- what was read, seen as a contract sees it
-abbrev pub seen : {A B E : Type 0} → (A → B) → Result A E → Result B E
-seen view (Ok x) = Ok (view x)
-seen view (Err fault) = Err fault
+abbrev pub seen_grammar : {A B E : Type 0} → (A → B) → Result A E → Result B E
+seen_grammar view (Ok x) = Ok (view x)
+seen_grammar view (Err fault) = Err fault
 
 -- the same of a reader of lines, whose faults have their lines
 abbrev pub GivesAt : {A : Type 0} → Result A GrammarFault → Result A GrammarFault → Type 0

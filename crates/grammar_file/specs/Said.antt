@@ -1,8 +1,10 @@
 -- What a line behind the header says by itself. It has one of the forms, or it is no such line; and the numbers of a form
 -- lie in their ranges, or the first that does not is the fault.
-use Rattle.std.specs.Prelude.{ℕ, ◌==◌, ◌&&◌, Bool, true, false, if◌then◌else◌, List, [], ◌∷◌, length, nat_le, Option, Some, None, Result, Ok, Err, codes}
+use Rattle.rhythm_base.specs.declared.limits.TheConstants.{MOST_UNEQUAL_UNITS, MOST_PARTS, HEAVIEST_RULE}
+use Rattle.std.specs.Prelude.{ℕ, ◌==◌, ◌&&◌, Bool, true, false, if◌then◌else◌, List, [], ◌∷◌, length, nat_le, Option, Some, None, option_map, Result, Ok, Err, codes}
 use Rattle.std.specs.List.{after_first, before_first, list_all}
 use Rattle.std.specs.Str.{bytes_eq}
+use Rattle.grammar_file.specs.Endings.{ending_of_words, ending_word_of, has_ending_form}
 use Rattle.grammar_file.specs.Names.{is_name}
 use Rattle.grammar_file.specs.Numbers.{beat_of, is_numeral, number_within}
 use Rattle.grammar_file.specs.Outcome.{◌>>=◌}
@@ -30,12 +32,7 @@ unfoldable pub kind_of : List ℕ → Option Kind
 kind_of word =
     if bytes_eq word (codes "split") then Some kind.Split
     else if bytes_eq word (codes "parts") then Some kind.Parts
-    else if bytes_eq word (codes "note") then Some kind.Note
-    else if bytes_eq word (codes "short") then Some kind.Short
-    else if bytes_eq word (codes "tie") then Some kind.Tie
-    else if bytes_eq word (codes "rest") then Some kind.Rest
-    else if bytes_eq word (codes "grace") then Some kind.Grace
-    else None
+    else option_map kind.Ending (ending_word_of word)
 
 -- sizes and names in turn
 abbrev pub are_parts : List (List ℕ) → Bool
@@ -43,45 +40,32 @@ are_parts [] = true
 are_parts (size ∷ []) = false
 are_parts (size ∷ name ∷ more) = is_numeral size && is_name name && are_parts more
 
--- what stands behind that word: 2 to 16 names, 2 to 16 sizes with their names in version 2, a number, or nothing
+-- what stands behind that word: 2 to 16 names, 2 to 16 sizes with their names in version 2, or what the ending has
 abbrev pub has_form : ℕ → Kind → List (List ℕ) → Bool
-has_form version kind.Split words = nat_le 2 (length words) && nat_le (length words) 16 && list_all is_name words
+has_form version kind.Split words = nat_le 2 (length words) && nat_le (length words) MOST_PARTS && list_all is_name words
 has_form version kind.Parts words = (version == 2) && nat_le 4 (length words) && nat_le (length words) 32 && are_parts words
-has_form version kind.Grace words = (length words == 1) && list_all is_numeral words
-has_form version kind.Note words = length words == 0
-has_form version kind.Short words = length words == 0
-has_form version kind.Tie words = length words == 0
-has_form version kind.Rest words = length words == 0
+has_form version (kind.Ending word) words = has_ending_form word words
 
 -- the sizes, each in its range, and the names
 abbrev pub parts_of : List (List ℕ) → Result (List (ℕ × List ℕ)) GrammarWhat
 parts_of (size ∷ name ∷ more) = do
-  first ← number_within 1 96 size
+  first ← number_within 1 MOST_UNEQUAL_UNITS size
   others ← parts_of more
   Ok ((first, name) ∷ others)
 parts_of _ = Ok []
-
--- the number of grace chords
-abbrev pub graces_of : List (List ℕ) → Result ℕ GrammarWhat
-graces_of (digits ∷ []) = number_within 1 3 digits
-graces_of _ = Err Line
 
 -- the body with these words behind its first, where they have its form
 abbrev pub body_of : Kind → List (List ℕ) → Result NamedBody GrammarWhat
 body_of kind.Split words = Ok (body.Split words)
 body_of kind.Parts words = parts_of words >>= λ parts. Ok (body.Parts parts)
-body_of kind.Grace words = graces_of words >>= λ graces. Ok (body.Grace graces)
-body_of kind.Note words = Ok body.Note
-body_of kind.Short words = Ok body.Short
-body_of kind.Tie words = Ok body.Tie
-body_of kind.Rest words = Ok body.Rest
+body_of (kind.Ending word) words = ending_of_words word words >>= λ ending. Ok (body.Ending ending)
 
 -- `NAME WEIGHT` and a body of this kind
 abbrev pub rule_of_kind : ℕ → List ℕ → List ℕ → Option Kind → List (List ℕ) → Result Said GrammarWhat
 rule_of_kind version name weight None words = Err Line
 rule_of_kind version name weight (Some kind) words =
     if is_name name && is_numeral weight && has_form version kind words then (do
-      w ← number_within 0 1000000 weight
+      w ← number_within 0 HEAVIEST_RULE weight
       b ← body_of kind words
       Ok (said.Rule name w b)) else Err Line
 

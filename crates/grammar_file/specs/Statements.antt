@@ -1,4 +1,5 @@
 -- The lines behind the header, one behind the other.
+use Rattle.rhythm_base.specs.declared.limits.TheConstants.{MOST_NAMES, MOST_RULES}
 use Rattle.std.specs.Prelude.{ℕ, ◌==◌, ◌&&◌, ◌||◌, Bool, true, false, if◌then◌else◌, List, [], ◌∷◌, ◌++◌, length, filter, nat_le, nat_lt, Option, Some, None, Result, Ok, Err}
 use Rattle.std.specs.List.{flat_map, list_any}
 use Rattle.grammar_file.specs.Names.{first_appearances, is_known}
@@ -49,8 +50,8 @@ is_rule spoken = at spoken.said
 abbrev pub conflict : List Spoken → Said → Option GrammarWhat
 conflict before (Start num den name) = if list_any (is_start_of num den) before then Some DoubleStart else None
 conflict before (Rule name weight body) =
-    if nat_le 512 (length (filter is_rule before)) then Some TooManyRules
-    else if is_known (names_of before) name || nat_lt (length (names_of before)) 64 then None
+    if nat_le MOST_RULES (length (filter is_rule before)) then Some TooManyRules
+    else if is_known (names_of before) name || nat_lt (length (names_of before)) MOST_NAMES then None
     else Some TooManyNames
 
 -- the value, where nothing speaks against it

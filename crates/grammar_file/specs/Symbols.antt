@@ -1,6 +1,7 @@
 -- Names by their numbers.
 use Rattle.std.specs.Prelude.{ℕ, Bool, true, false, not, List, [], ◌∷◌, filter, map, Result, Ok, Err}
 use Rattle.std.specs.List.{flat_map, list_all}
+use Rattle.grammar_file.specs.Endings.{body_of_ending}
 use Rattle.grammar_file.specs.Names.{is_known, symbol_of}
 use Rattle.grammar_file.specs.declared.draft.Spoken.{Spoken}
 use Rattle.grammar_file.specs.declared.fault.GrammarWhat.{GrammarWhat}
@@ -25,11 +26,7 @@ parts_with names parts = map (λ part. (part.0, symbol_of names part.1)) parts
 abbrev pub names_in : NamedBody → List (List ℕ)
 names_in (named.Split names) = names
 names_in (named.Parts parts) = names_of_parts parts
-names_in named.Note = []
-names_in named.Short = []
-names_in named.Tie = []
-names_in named.Rest = []
-names_in (named.Grace graces) = []
+names_in (named.Ending ending) = []
 
 -- the names that a line uses, but for a rule's left side
 abbrev pub names_used : Said → List (List ℕ)
@@ -53,11 +50,7 @@ where_known false x = Err UnknownName
 abbrev pub body_with : List (List ℕ) → NamedBody → Body
 body_with names (named.Split kids) = bodies.Split (map (symbol_of names) kids)
 body_with names (named.Parts parts) = bodies.Parts (parts_with names parts)
-body_with names named.Note = bodies.Note
-body_with names named.Short = bodies.Short
-body_with names named.Tie = bodies.Tie
-body_with names named.Rest = bodies.Rest
-body_with names (named.Grace graces) = bodies.Grace graces
+body_with names (named.Ending ending) = body_of_ending ending
 
 -- the start or the rule of a line
 abbrev pub start_in : List (List ℕ) → Spoken → List Start

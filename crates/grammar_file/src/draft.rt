@@ -1,9 +1,11 @@
+ghost use Rattle.rhythm_base.specs.declared.limits.TheConstants.{MOST_NAMES};
 ghost use Rattle.grammar_file.specs.Names.{is_known};
-ghost use Rattle.grammar_file.specs.Outcome.{Gives, GivesAt, seen};
+ghost use Rattle.grammar_file.specs.Outcome.{GivesGrammar, GivesAt, seen_grammar};
 ghost use Rattle.grammar_file.specs.Statements.{conflict, in_turn, is_rule, is_start_of, names_of, spoken_behind, spoken_by};
 ghost use Rattle.grammar_file.specs.declared.fault.GrammarWhat.TheVariants.{Memory};
 ghost use Rattle.std.specs.List.{list_any};
-ghost use Rattle.std.specs.Prelude.{◌≡◌, ◌||◌, [], ◌∷◌, ◌++◌, IfErr, IfOk, OnOk, filter, length, map, nat_lt};
+ghost use Rattle.grammar_file.specs.Content.{IsLineNumber};
+ghost use Rattle.std.specs.Prelude.{All, ◌≡◌, ◌||◌, [], ◌∷◌, ◌++◌, IfErr, IfOk, OnOk, filter, length, map, nat_lt};
 
 use crate::fault::{GrammarFault, GrammarWhat, on_line};
 use crate::line::{Line, Lines, Next};
@@ -64,7 +66,7 @@ impl<'a> Draft<'a> {
     /// Whether the name is a left side's, or may be the next one.
     fn has_room_for(&self, name: &[u8]) -> bool
         requires { map (λ x. x.now) self.now.names.keys ≡ names_of self.now.spoken.items }
-        ensures { result ≡ (is_known (names_of self.now.spoken.items) name.now || nat_lt (length (names_of self.now.spoken.items)) 64) }
+        ensures { result ≡ (is_known (names_of self.now.spoken.items) name.now || nat_lt (length (names_of self.now.spoken.items)) MOST_NAMES) }
     {
         self.names.contains(name) || self.names.len() < 64
     }
@@ -93,7 +95,8 @@ impl<'a> Draft<'a> {
     /// What a line says behind the others.
     fn speak(&self, alloc: Global, version: u8, line: &Line<'a>) -> Result<Spoken<'a>, GrammarWhat>
         requires { map (λ x. x.now) self.now.names.keys ≡ names_of self.now.spoken.items }
-        ensures { Gives result (spoken_by version self.now.spoken.items line.now) }
+        ensures value { GivesGrammar result (spoken_by version self.now.spoken.items line.now) }
+        ensures line { IfOk result (λ spoken. spoken.line ≡ line.now.number) }
     {
         let said = read_said(alloc, version, line.words.as_slice())?;
         match self.conflict(&said) {
@@ -126,8 +129,10 @@ pub(crate) fn read_lines<'a>(
     version: u8,
     lines: &mut Lines<'a>,
 ) -> Result<Draft<'a>, GrammarFault>
-    ensures value { GivesAt (seen (λ d. d.spoken.items) result) (in_turn (spoken_behind version) [] lines.old.lines) }
+    ensures value { GivesAt (seen_grammar (λ d. d.spoken.items) result) (in_turn (spoken_behind version) [] lines.old.lines) }
     ensures names { IfOk result (λ d. map (λ x. x.now) d.names.keys ≡ names_of d.spoken.items) }
+    ensures lines { IfOk result (λ d. All (λ s. IsLineNumber lines.old.end s.line) d.spoken.items) }
+    ensures at { IfErr result (λ fault. IsLineNumber lines.old.end fault.line) }
 {
     let mut draft = Draft::new(alloc);
     'lines: while let Next::Line(line) = lines.next(alloc)? {

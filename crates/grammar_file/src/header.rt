@@ -1,4 +1,5 @@
-ghost use Rattle.grammar_file.specs.Content.{behind_first};
+ghost use Rattle.rhythm_base.specs.declared.limits.TheConstants.{MOST_UNITS};
+ghost use Rattle.grammar_file.specs.Content.{IsLineNumber, behind_first};
 ghost use Rattle.grammar_file.specs.Header.{header_of, line_says, missing, most_units, number_of, numbers_of, version_of, weights_of};
 ghost use Rattle.grammar_file.specs.Outcome.{GivesAt};
 ghost use Rattle.grammar_file.specs.declared.fault.GrammarWhat.TheVariants.{Memory};
@@ -85,6 +86,8 @@ fn weights(version: u8, words: &[&[u8]]) -> Result<(u32, u32), GrammarWhat>
 fn next_line<'a>(alloc: Global, lines: &mut Lines<'a>) -> Result<Line<'a>, GrammarFault>
     ensures line { IfOk result (λ line. slice_get lines.old.lines 0 ≡ Some line) }
     ensures behind { OnOk result (lines.new ≡ behind_first lines.old) }
+    ensures number { IfOk result (λ line. IsLineNumber lines.old.end line.number) }
+    ensures at { IfErr result (λ fault. IsLineNumber lines.old.end fault.line) }
     ensures end { IfErr result (λ fault. fault.what ≢ Memory → (slice_get lines.old.lines 0 ≡ None) × (fault ≡ missing lines.old.end)) }
 {
     match lines.next(alloc)? {
@@ -98,6 +101,7 @@ fn next_line<'a>(alloc: Global, lines: &mut Lines<'a>) -> Result<Line<'a>, Gramm
 
 /// The version that the next line says.
 fn read_version(alloc: Global, lines: &mut Lines) -> Result<u8, GrammarFault>
+    ensures at { IfErr result (λ fault. IsLineNumber lines.old.end fault.line) }
     ensures value { GivesAt result (line_says lines.old.end version_of (slice_get lines.old.lines 0)) }
     ensures behind { OnOk result (lines.new ≡ behind_first lines.old) }
 {
@@ -114,6 +118,7 @@ fn read_number(
     high: u32,
 ) -> Result<u32, GrammarFault>
     requires { high < 4294967295 }
+    ensures at { IfErr result (λ fault. IsLineNumber lines.old.end fault.line) }
     ensures value { GivesAt result (line_says lines.old.end (number_of key.now low high) (slice_get lines.old.lines 0)) }
     ensures within { IfOk result (λ n. n ≤ high) }
     ensures behind { OnOk result (lines.new ≡ behind_first lines.old) }
@@ -124,6 +129,7 @@ fn read_number(
 
 /// The weights that the next line says.
 fn read_weights(alloc: Global, lines: &mut Lines, version: u8) -> Result<(u32, u32), GrammarFault>
+    ensures at { IfErr result (λ fault. IsLineNumber lines.old.end fault.line) }
     ensures value { GivesAt result (line_says lines.old.end (weights_of version) (slice_get lines.old.lines 0)) }
     ensures behind { OnOk result (lines.new ≡ behind_first lines.old) }
 {
@@ -134,7 +140,7 @@ fn read_weights(alloc: Global, lines: &mut Lines, version: u8) -> Result<(u32, u
 /// The most units of a bar.
 fn most_units(version: u8) -> u32
     ensures value { result ≡ most_units version }
-    ensures few { result ≤ 960 }
+    ensures few { result ≤ MOST_UNITS }
 {
     if version == 2 { 96 } else { 960 }
 }
@@ -142,6 +148,8 @@ fn most_units(version: u8) -> u32
 /// What the first four lines say.
 pub(crate) fn read_header(alloc: Global, lines: &mut Lines) -> Result<Header, GrammarFault>
     ensures value { GivesAt result (header_of lines.old) }
+    ensures at { IfErr result (λ fault. IsLineNumber lines.old.end fault.line) }
+    ensures end { OnOk result (lines.new.end ≡ lines.old.end) }
     ensures behind { OnOk result (lines.new.lines ≡ drop 4 lines.old.lines) }
 {
     let version = read_version(alloc, lines)?;

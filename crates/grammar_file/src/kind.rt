@@ -3,6 +3,7 @@ ghost use Rattle.grammar_file.specs.Names.{is_name};
 ghost use Rattle.std.specs.List.{list_all};
 ghost use Rattle.std.specs.Prelude.{◌≡◌, map};
 
+use crate::endings::{EndingWord, ending_word_of, has_ending_form};
 use crate::number::is_numeral;
 use crate::spelling::is_name;
 
@@ -11,11 +12,7 @@ use crate::spelling::is_name;
 pub(crate) enum Kind {
     Split,
     Parts,
-    Note,
-    Short,
-    Tie,
-    Rest,
-    Grace,
+    Ending(EndingWord),
 }
 
 /// The form that this word begins.
@@ -26,12 +23,7 @@ pub(crate) fn kind_of(word: &[u8]) -> Option<Kind>
     match word {
         b"split" => Some(Kind::Split),
         b"parts" => Some(Kind::Parts),
-        b"note" => Some(Kind::Note),
-        b"short" => Some(Kind::Short),
-        b"tie" => Some(Kind::Tie),
-        b"rest" => Some(Kind::Rest),
-        b"grace" => Some(Kind::Grace),
-        _ => None,
+        _ => ending_word_of(word).map(Kind::Ending),
     }
 }
 
@@ -60,10 +52,6 @@ pub(crate) fn has_form(version: u8, kind: Kind, words: &[&[u8]]) -> bool
     match kind {
         Kind::Split => words.len() >= 2 && words.len() <= 16 && are_names(words),
         Kind::Parts => { version == 2 && words.len() >= 4 && words.len() <= 32 && are_parts(words) }
-        Kind::Grace => match words {
-            [digits] => is_numeral(digits),
-            _ => false,
-        },
-        Kind::Note | Kind::Short | Kind::Tie | Kind::Rest => words.is_empty(),
+        Kind::Ending(word) => has_ending_form(word, words),
     }
 }

@@ -1,5 +1,5 @@
-ghost use Rattle.grammar_file.specs.Content.{Content, behind_first, content_from, line_with, next_of, says_something};
-ghost use Rattle.grammar_file.specs.Lines.{is_blank, lines_of, without_return, words_of};
+ghost use Rattle.grammar_file.specs.Content.{Content, IsLineNumber, IsNext, behind_first, content_from, line_with, next_statement, says_something};
+ghost use Rattle.grammar_file.specs.Lines.{is_blank, grammar_lines, without_return, grammar_words};
 ghost use Rattle.std.specs.Prelude.{◌+◌, ◌<◌, ◌∷◌, ◌≡◌, ◌≤◌, ◌^◌, IfErr, IfOk, OnOk, length};
 ghost use Rattle.grammar_file.specs.declared.fault.GrammarWhat.TheVariants.{Memory};
 
@@ -46,7 +46,7 @@ fn without_return(line: &[u8]) -> &[u8]
 /// The first line of a text, as its words are read, and the text behind it.
 fn first_line(text: &[u8]) -> (&[u8], &[u8])
     requires { 0 < length text.now }
-    ensures line { lines_of text.now ≡ result.0.now ∷ lines_of result.1.now }
+    ensures line { grammar_lines text.now ≡ result.0.now ∷ grammar_lines result.1.now }
     ensures shorter { length result.1.now < length text.now }
 {
     match text.iter().position(|byte| *byte == b'\n') {
@@ -57,7 +57,7 @@ fn first_line(text: &[u8]) -> (&[u8], &[u8])
 
 /// Whether the line has a word, and is no comment.
 fn is_content(line: &[u8]) -> bool
-    ensures { result ≡ says_something (words_of line.now) }
+    ensures { result ≡ says_something (grammar_words line.now) }
 {
     match line.iter().position(|byte| !is_blank(*byte)) {
         Some(first) => line[first] != b'#',
@@ -67,7 +67,7 @@ fn is_content(line: &[u8]) -> bool
 
 /// The words of a line.
 fn words(alloc: Global, line: &[u8]) -> Result<Words<'_>, AllocError>
-    ensures { IfOk result (λ words. words ≡ words_of line.now) }
+    ensures { IfOk result (λ words. words ≡ grammar_words line.now) }
 {
     let words = line
         .split(|byte| is_blank(*byte))
@@ -84,23 +84,23 @@ pub(crate) struct Lines<'a> {
 }
 
 impl<'a> Model for Lines<'a> {
-    ghost use Rattle.std.specs.Prelude.{◌+◌, ◌<◌, ◌^◌, length};
+    ghost use Rattle.std.specs.Prelude.{◌+◌, ◌<◌, ◌≤◌, ◌^◌, length};
     ghost use Rattle.grammar_file.specs.Content.{Content, content_from};
-    ghost use Rattle.grammar_file.specs.Lines.{lines_of};
+    ghost use Rattle.grammar_file.specs.Lines.{grammar_lines};
 
     ghost Value = { Content };
 
-    ghost view = { λ l. content_from l.number (lines_of l.rest.now) };
+    ghost view = { λ l. content_from l.number (grammar_lines l.rest.now) };
 
     // so that no number is lost: each line has a byte
-    ghost invariant = { λ l. l.number + length l.rest.now < 2 ^ 32 };
+    ghost invariant = { λ l. (1 ≤ l.number) × (l.number + length l.rest.now < 2 ^ 32) };
 }
 
 impl<'a> Lines<'a> {
     /// The lines of the text.
     pub(crate) fn of(text: &'a [u8]) -> Lines<'a>
         requires { length text.now ≤ 4294967294 }
-        ensures { result ≡ content_from 1 (lines_of text.now) }
+        ensures { result ≡ content_from 1 (grammar_lines text.now) }
     {
         Lines {
             rest: text,
@@ -110,9 +110,11 @@ impl<'a> Lines<'a> {
 
     /// The next line, which is then behind.
     pub(crate) fn next(&mut self, alloc: Global) -> Result<Next<'a>, GrammarFault>
-        ensures next { IfOk result (λ next. next ≡ next_of self.old) }
+        ensures next { IfOk result (λ next. next ≡ next_statement self.old) }
         ensures behind { OnOk result (self.new ≡ behind_first self.old) }
+        ensures number { IfOk result (IsNext self.old.end) }
         ensures err { IfErr result (λ fault. fault.what ≡ Memory) }
+        ensures at { IfErr result (λ fault. IsLineNumber self.old.end fault.line) }
     {
         'lines: while !self.rest.is_empty() {
             let number = self.number;
@@ -129,8 +131,9 @@ impl<'a> Lines<'a> {
 
 /// The line with its number and words.
 fn numbered<'a>(alloc: Global, number: u32, line: &'a [u8]) -> Result<Next<'a>, GrammarFault>
-    ensures line { IfOk result (λ next. next ≡ line_with number (words_of line.now)) }
+    ensures line { IfOk result (λ next. next ≡ line_with number (grammar_words line.now)) }
     ensures err { IfErr result (λ fault. fault.what ≡ Memory) }
+    ensures at { IfErr result (λ fault. fault.line ≡ number) }
 {
     match words(alloc, line) {
         Ok(words) => Ok(Next::Line(Line { number, words })),

@@ -1,30 +1,18 @@
 ghost use Rattle.grammar_file.specs.Lines.{newline};
-ghost use Rattle.grammar_file.specs.Printed.{body_words, header_words, line_text, name_of, printed, rule_words, start_words, weight_words};
+ghost use Rattle.grammar_file.specs.Printed.{body_words, header_words, line_text, symbol_name, printed, rule_words, start_words, weight_words};
 ghost use Rattle.rhythm_base.specs.Readable.{IsBody, IsReadable};
 ghost use Rattle.std.specs.List.{flat_map, join_with_byte};
 ghost use Rattle.std.specs.Prelude.{◌≡◌, ℕ, [], ◌∷◌, ◌++◌, ◌<◌, All, IfOk, OnOk, codes, decimal, length, map};
 
+use crate::endings::push_ending;
+use crate::text::{push, push_number};
 use rhythm_base::{Body, Grammar, Name, Rule, Start};
 use std::alloc::{AllocError, Global};
-
-/// Appends bytes.
-fn push(text: &mut Vec<u8>, bytes: &[u8]) -> Result<(), AllocError>
-    ensures { OnOk result (text.new.items ≡ text.old.items ++ bytes.now) }
-{
-    text.extend_from_slice(bytes)
-}
-
-/// Appends a number in decimal digits.
-fn push_number(alloc: Global, text: &mut Vec<u8>, number: u32) -> Result<(), AllocError>
-    ensures { OnOk result (text.new.items ≡ text.old.items ++ decimal number) }
-{
-    push(text, number.to_string(alloc)?.as_bytes())
-}
 
 /// Appends a space and the name of a symbol.
 fn push_name(text: &mut Vec<u8>, names: &[Name], symbol: u8) -> Result<(), AllocError>
     requires { symbol < length names.now }
-    ensures { OnOk result (text.new.items ≡ text.old.items ++ 32 ∷ name_of names.now symbol) }
+    ensures { OnOk result (text.new.items ≡ text.old.items ++ 32 ∷ symbol_name names.now symbol) }
 {
     push(text, b" ")?;
     push(text, names[symbol as usize].as_slice())
@@ -33,7 +21,7 @@ fn push_name(text: &mut Vec<u8>, names: &[Name], symbol: u8) -> Result<(), Alloc
 /// Appends the names of symbols, each behind a space.
 fn push_names(text: &mut Vec<u8>, names: &[Name], symbols: &[u8]) -> Result<(), AllocError>
     requires { All (λ s. s < length names.now) symbols.now }
-    ensures { OnOk result (text.new.items ≡ text.old.items ++ flat_map (λ s. 32 ∷ name_of names.now s) symbols.now) }
+    ensures { OnOk result (text.new.items ≡ text.old.items ++ flat_map (λ s. 32 ∷ symbol_name names.now s) symbols.now) }
 {
     for symbol in symbols {
         push_name(text, names, *symbol)?;
@@ -49,7 +37,7 @@ fn push_parts(
     parts: &[(u8, u8)],
 ) -> Result<(), AllocError>
     requires { All (λ q. q.1 < length names.now) parts.now }
-    ensures { OnOk result (text.new.items ≡ text.old.items ++ flat_map (λ q. 32 ∷ (decimal q.0 ++ 32 ∷ name_of names.now q.1)) parts.now) }
+    ensures { OnOk result (text.new.items ≡ text.old.items ++ flat_map (λ q. 32 ∷ (decimal q.0 ++ 32 ∷ symbol_name names.now q.1)) parts.now) }
 {
     for (size, symbol) in parts {
         push(text, b" ")?;
@@ -78,14 +66,10 @@ fn push_body(
             push(text, b"parts")?;
             push_parts(alloc, text, names, parts.as_slice())
         }
-        Body::Note => push(text, b"note"),
-        Body::Short => push(text, b"short"),
-        Body::Tie => push(text, b"tie"),
-        Body::Rest => push(text, b"rest"),
-        Body::Grace(graces) => {
-            push(text, b"grace ")?;
-            push_number(alloc, text, u32::from(*graces))
-        }
+        _ => match body.ending() {
+            Some(ending) => push_ending(alloc, text, ending),
+            None => unreachable!(),
+        },
     }
 }
 

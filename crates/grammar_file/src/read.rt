@@ -1,6 +1,7 @@
+ghost use Rattle.rhythm_base.specs.declared.limits.TheConstants.{MOST_NAMES};
 ghost use Rattle.grammar_file.specs.Grammar.{grammar_of, grammar_of_lines, starts_and_rules, understood};
 ghost use Rattle.grammar_file.specs.Names.{is_name};
-ghost use Rattle.grammar_file.specs.Outcome.{GivesAt, seen};
+ghost use Rattle.grammar_file.specs.Outcome.{GivesAt, seen_grammar};
 ghost use Rattle.grammar_file.specs.Sayable.{IsSayable};
 ghost use Rattle.grammar_file.specs.Statements.{names_of};
 ghost use Rattle.grammar_file.specs.Symbols.{not_understood};
@@ -8,7 +9,9 @@ ghost use Rattle.grammar_file.specs.declared.fault.GrammarWhat.TheVariants.{Memo
 ghost use Rattle.rhythm_base.specs.Readable.{IsReadable};
 ghost use Rattle.rhythm_base.specs.declared.grammar.Start.{Start as StartValue};
 ghost use Rattle.rhythm_base.specs.declared.rule.Rule.{Rule as RuleValue};
-ghost use Rattle.std.specs.Prelude.{List, ◌≡◌, ◌≤◌, IfErr, IfOk, length, map};
+ghost use Rattle.grammar_file.specs.Content.{IsLineNumber};
+ghost use Rattle.grammar_file.specs.Lines.{grammar_lines};
+ghost use Rattle.std.specs.Prelude.{All, ℕ, ◌+◌, List, ◌≡◌, ◌≤◌, IfErr, IfOk, length, map};
 
 use crate::draft::{Draft, Spoken, read_lines};
 use crate::fault::{GrammarFault, GrammarWhat, on_line};
@@ -26,8 +29,9 @@ fn place_all(
     lines: &[Spoken],
 ) -> Result<(Vec<Start>, Vec<Rule>), GrammarFault>
     requires kept { map (λ x. x.now) names.now.keys ≡ names_of lines.now }
-    requires few { length names.now.keys ≤ 64 }
-    ensures { GivesAt {A = List StartValue × List RuleValue} (seen (λ v. (v.0.items, v.1.items)) result) (understood
+    requires few { length names.now.keys ≤ MOST_NAMES }
+    ensures at { (end : ℕ) → All (λ s. IsLineNumber end s.line) lines.now → IfErr result (λ fault. IsLineNumber end fault.line) }
+    ensures value { GivesAt {A = List StartValue × List RuleValue} (seen_grammar (λ v. (v.0.items, v.1.items)) result) (understood
         (starts_and_rules (names_of lines.now) lines.now) (not_understood (names_of lines.now) lines.now)) }
 {
     let mut starts = Vec::new(alloc);
@@ -56,8 +60,10 @@ fn owned_names(alloc: Global, names: &[&[u8]]) -> Result<Vec<Name>, GrammarWhat>
 /// The grammar of a header and the lines behind it.
 fn grammar(alloc: Global, header: Header, draft: &Draft) -> Result<Grammar, GrammarFault>
     requires kept { map (λ x. x.now) draft.now.names.keys ≡ names_of draft.now.spoken.items }
-    requires few { length draft.now.names.keys ≤ 64 }
-    ensures { GivesAt result (grammar_of_lines header draft.now.spoken.items) }
+    requires few { length draft.now.names.keys ≤ MOST_NAMES }
+    ensures value { GivesAt result (grammar_of_lines header draft.now.spoken.items) }
+    ensures at { (end : ℕ) → 1 ≤ end → All (λ s. IsLineNumber end s.line) draft.now.spoken.items
+        → IfErr result (λ fault. IsLineNumber end fault.line) }
 {
     let (starts, rules) = place_all(alloc, &draft.names, &draft.spoken)?;
     let last = draft.spoken.last().map_or(1, |spoken| spoken.line);
@@ -80,6 +86,8 @@ pub fn read_grammar(alloc: Global, text: &[u8]) -> Result<Grammar, GrammarFault>
     // so that the number of a line fits its type
     requires { length text.now ≤ 4294967294 }
     ensures value { GivesAt result (grammar_of text.now) }
+    // a line of the text, or the one behind the last
+    ensures line { IfErr result (λ fault. IsLineNumber (length (grammar_lines text.now) + 1) fault.line) }
     ensures sayable { IfOk result IsSayable }
 
     // What `sayable` implies of every such grammar.

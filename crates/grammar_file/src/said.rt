@@ -1,13 +1,15 @@
-ghost use Rattle.grammar_file.specs.Outcome.{Gives};
+ghost use Rattle.grammar_file.specs.Outcome.{GivesGrammar};
 ghost use Rattle.grammar_file.specs.Said.{are_parts, body_of, has_form, kind_of, parts_of, rule_of_kind, said_by, start_of};
 ghost use Rattle.std.specs.List.{after_first, before_first};
 ghost use Rattle.std.specs.Prelude.{◌≡◌, ◌==◌, ℕ, IsTrue, map};
 
+use crate::endings::ending_of_words;
 use crate::fault::GrammarWhat;
 use crate::kind::{Kind, has_form, kind_of};
 use crate::number::{beat, is_numeral, number_within};
 use crate::spelling::is_name;
 use crate::words::{Sizes, Word, Words};
+use rhythm_base::Ending;
 use std::alloc::Global;
 
 /// What a rule makes of an interval, with the symbols of its parts by name.
@@ -15,11 +17,7 @@ use std::alloc::Global;
 pub(crate) enum NamedBody<'a> {
     Split(Words<'a>),
     Parts(Sizes<'a>),
-    Note,
-    Short,
-    Tie,
-    Rest,
-    Grace(u8),
+    Ending(Ending),
 }
 
 /// What a line behind the header says.
@@ -70,7 +68,7 @@ fn start<'a>(signature: &[u8], name: &'a [u8]) -> Result<Said<'a>, GrammarWhat>
 /// The parts of these sizes and names.
 fn parts<'a>(alloc: Global, words: &[&'a [u8]]) -> Result<Sizes<'a>, GrammarWhat>
     requires { IsTrue (are_parts (map (λ x. x.now) words.now)) }
-    ensures { Gives result (parts_of (map (λ x. x.now) words.now)) }
+    ensures { GivesGrammar result (parts_of (map (λ x. x.now) words.now)) }
 {
     let mut parts = Vec::with_capacity(alloc, words.len() / 2)?;
     let mut rest = words;
@@ -84,16 +82,12 @@ fn parts<'a>(alloc: Global, words: &[&'a [u8]]) -> Result<Sizes<'a>, GrammarWhat
 /// The body of this kind with these words behind its first.
 fn body<'a>(alloc: Global, kind: Kind, words: &[&'a [u8]]) -> Result<NamedBody<'a>, GrammarWhat>
     requires { (version : ℕ) × IsTrue (has_form version kind (map (λ x. x.now) words.now)) }
-    ensures { Gives result (body_of kind (map (λ x. x.now) words.now)) }
+    ensures { GivesGrammar result (body_of kind (map (λ x. x.now) words.now)) }
 {
     Ok(match kind {
         Kind::Split => NamedBody::Split(Words::of(Vec::from_slice(alloc, words)?)),
         Kind::Parts => NamedBody::Parts(parts(alloc, words)?),
-        Kind::Note => NamedBody::Note,
-        Kind::Short => NamedBody::Short,
-        Kind::Tie => NamedBody::Tie,
-        Kind::Rest => NamedBody::Rest,
-        Kind::Grace => NamedBody::Grace(number_within(words[0], 1, 3)? as u8),
+        Kind::Ending(word) => NamedBody::Ending(ending_of_words(word, words)?),
     })
 }
 
@@ -106,7 +100,7 @@ fn rule<'a>(
     word: &[u8],
     words: &[&'a [u8]],
 ) -> Result<Said<'a>, GrammarWhat>
-    ensures { Gives result (rule_of_kind version name.now weight.now (kind_of word.now) (map (λ x. x.now) words.now)) }
+    ensures { GivesGrammar result (rule_of_kind version name.now weight.now (kind_of word.now) (map (λ x. x.now) words.now)) }
 {
     let Some(kind) = kind_of(word) else {
         return Err(GrammarWhat::Line);
@@ -129,7 +123,7 @@ pub(crate) fn read_said<'a>(
     version: u8,
     words: &[&'a [u8]],
 ) -> Result<Said<'a>, GrammarWhat>
-    ensures { Gives result (said_by version (map (λ x. x.now) words.now)) }
+    ensures { GivesGrammar result (said_by version (map (λ x. x.now) words.now)) }
 {
     match words {
         [first, second, third, more @ ..] => {

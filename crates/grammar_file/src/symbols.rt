@@ -1,5 +1,6 @@
+ghost use Rattle.rhythm_base.specs.declared.limits.TheConstants.{MOST_NAMES};
 ghost use Rattle.grammar_file.specs.Names.{is_known, symbol_of};
-ghost use Rattle.grammar_file.specs.Outcome.{Gives, seen};
+ghost use Rattle.grammar_file.specs.Outcome.{GivesGrammar, seen_grammar};
 ghost use Rattle.grammar_file.specs.Statements.{left_side};
 ghost use Rattle.grammar_file.specs.Symbols.{body_with, is_understood, names_in, names_of_parts, parts_with, rule_in, start_in, where_known};
 ghost use Rattle.grammar_file.specs.declared.fault.GrammarWhat.TheVariants.{Memory, UnknownName};
@@ -7,6 +8,7 @@ ghost use Rattle.std.specs.List.{list_all};
 ghost use Rattle.std.specs.Prelude.{◌++◌, ◌≡◌, ◌≢◌, ◌≤◌, IfErr, OnOk, false, length, map, true};
 
 use crate::draft::Spoken;
+use crate::endings::body_of_ending;
 use crate::fault::GrammarWhat;
 use crate::said::{NamedBody, Said};
 use indexmap::IndexSet;
@@ -15,7 +17,7 @@ use std::alloc::Global;
 
 /// The symbol of a name.
 fn symbol(names: &IndexSet<&[u8]>, name: &[u8]) -> Result<u8, GrammarWhat>
-    requires { length names.now.keys ≤ 64 }
+    requires { length names.now.keys ≤ MOST_NAMES }
     ensures { result ≡ where_known (is_known (map (λ x. x.now) names.now.keys) name.now) (symbol_of (map (λ x. x.now) names.now.keys) name.now) }
 {
     match names.get_index_of(name) {
@@ -26,8 +28,8 @@ fn symbol(names: &IndexSet<&[u8]>, name: &[u8]) -> Result<u8, GrammarWhat>
 
 /// The symbols of these names.
 fn kids(alloc: Global, names: &IndexSet<&[u8]>, words: &[&[u8]]) -> Result<Vec<u8>, GrammarWhat>
-    requires { length names.now.keys ≤ 64 }
-    ensures { Gives (seen (λ v. v.items) result) (where_known
+    requires { length names.now.keys ≤ MOST_NAMES }
+    ensures { GivesGrammar (seen_grammar (λ v. v.items) result) (where_known
         (list_all (is_known (map (λ x. x.now) names.now.keys)) (map (λ x. x.now) words.now))
         (map (symbol_of (map (λ x. x.now) names.now.keys)) (map (λ x. x.now) words.now))) }
 {
@@ -44,8 +46,8 @@ fn portions(
     names: &IndexSet<&[u8]>,
     sizes: &[(u8, &[u8])],
 ) -> Result<Vec<(u8, u8)>, GrammarWhat>
-    requires { length names.now.keys ≤ 64 }
-    ensures { Gives (seen (λ v. v.items) result) (where_known
+    requires { length names.now.keys ≤ MOST_NAMES }
+    ensures { GivesGrammar (seen_grammar (λ v. v.items) result) (where_known
         (list_all (is_known (map (λ x. x.now) names.now.keys)) (names_of_parts (map (λ x. (x.0, x.1.now)) sizes.now)))
         (parts_with (map (λ k. k.now) names.now.keys) (map (λ x. (x.0, x.1.now)) sizes.now))) }
 {
@@ -58,8 +60,8 @@ fn portions(
 
 /// The body with symbols for names.
 fn body(alloc: Global, names: &IndexSet<&[u8]>, named: &NamedBody) -> Result<Body, GrammarWhat>
-    requires { length names.now.keys ≤ 64 }
-    ensures { Gives result (where_known
+    requires { length names.now.keys ≤ MOST_NAMES }
+    ensures { GivesGrammar result (where_known
         (list_all (is_known (map (λ x. x.now) names.now.keys)) (names_in named.now))
         (body_with (map (λ x. x.now) names.now.keys) named.now)) }
 {
@@ -72,11 +74,7 @@ fn body(alloc: Global, names: &IndexSet<&[u8]>, named: &NamedBody) -> Result<Bod
             let portions = portions(alloc, names, sizes.as_slice())?;
             Ok(Body::Parts(Portions::of(portions)))
         }
-        NamedBody::Note => Ok(Body::Note),
-        NamedBody::Short => Ok(Body::Short),
-        NamedBody::Tie => Ok(Body::Tie),
-        NamedBody::Rest => Ok(Body::Rest),
-        NamedBody::Grace(graces) => Ok(Body::Grace(*graces)),
+        NamedBody::Ending(ending) => Ok(body_of_ending(*ending)),
     }
 }
 
@@ -88,7 +86,7 @@ pub(crate) fn place(
     starts: &mut Vec<Start>,
     rules: &mut Vec<Rule>,
 ) -> Result<(), GrammarWhat>
-    requires few { length names.now.keys ≤ 64 }
+    requires few { length names.now.keys ≤ MOST_NAMES }
     requires left_side { list_all (is_known (map (λ x. x.now) names.now.keys)) (left_side spoken.now) ≡ true }
     ensures understood { OnOk result (is_understood (map (λ x. x.now) names.now.keys) spoken.now ≡ true) }
     ensures starts { OnOk result (starts.new.items ≡ starts.old.items ++ start_in (map (λ x. x.now) names.now.keys) spoken.now) }

@@ -1,7 +1,8 @@
 -- A displacement is at most the length of the longest bar, 64 whole notes, in 960ths of a quarter.
 use Rattle.std.proofs.Common.{◌≡◌, ℕ, zero, suc, ◌+◌, ◌-◌, ◌*◌, ◌/◌, ◌<◌, ◌≤◌, arith}
 use Rattle.std.proofs.Math.Nat.{div-le_of_le-mul, mul-le-mul_right, mul-le-mul_left}
-use Rattle.rhythm_base.specs.Cost.{displacement_of, gap}
+use Rattle.rhythm_base.specs.Lists.{gap}
+use Rattle.rhythm_base.specs.Cost.{displacement_of}
 use Rattle.std.specs.Prelude.{IsTrue}
 use Rattle.rhythm_base.specs.Signatures.{is_den}
 

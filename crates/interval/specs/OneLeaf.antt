@@ -1,6 +1,7 @@
 -- One leaf of a bar that begins at tick 0, and where an onset of the bar goes.
+use Rattle.rhythm_base.specs.declared.limits.TheConstants.{LATEST_TICK, MOST_UNITS}
 use Rattle.std.specs.Prelude.{ℕ, ◌≡◌, ◌+◌, ◌*◌, ◌<◌, ◌≤◌, IsTrue, ◌&&◌, not, None}
-use Rattle.rhythm_base.specs.declared.rule.Body.TheVariants.{Note}
+use Rattle.rhythm_base.specs.declared.rule.Ending.TheVariants.{Note}
 use Rattle.rhythm_base.specs.Leaves.{Leaf, goes_left, lies_in}
 use Rattle.interval.specs.declared.attachment.Attached.{Attached}
 use Rattle.interval.specs.declared.attachment.Attached.TheVariants.{Before, Left, Right, After}
@@ -9,7 +10,7 @@ use Rattle.interval.specs.declared.attachment.Attached.TheVariants.{Before, Left
 abbrev pub leaf_at : ℕ → ℕ → ℕ → Leaf
 leaf_at length p w = record {
   bar = record { start = 0; length = length; num = 4; den = 4; symbol = 0; pin = None };
-  part = record { body = Note; place = p; width = w };
+  part = record { ending = Note; place = p; width = w };
 }
 
 -- before the leaf, in it and attached to it, in it and attached to the next, or behind it
@@ -22,8 +23,8 @@ IsSide length r p w t After = (p + w) * length ≤ t * r
 -- a leaf of units of the bar, and a bar of 1 to 2,000,000,000 ticks
 pub record IsLeafOf (length r p w : ℕ) : Type 0 where
   pub some_tick : 1 ≤ length
-  pub few_ticks : length ≤ 2000000000
+  pub few_ticks : length ≤ LATEST_TICK
   pub some_unit : 1 ≤ r
-  pub few_units : r ≤ 960
+  pub few_units : r ≤ MOST_UNITS
   pub wide : 1 ≤ w
   pub within : p + w ≤ r

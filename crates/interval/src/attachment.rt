@@ -46,33 +46,3 @@ pub fn sounds(length: u64, resolution: u16, p: u16, w: u16, end: u64) -> bool
     let middle = u64::from(2 * p + w) * length;
     middle <= 2 * end * u64::from(resolution)
 }
-
-#[cfg(test)]
-mod tests {
-    use super::*;
-    use std::test::Fail;
-
-    #[test]
-    fn decides_at_the_middle(rt: HostRuntime) -> Result<(), Fail> {
-        // A bar of 1,920 ticks in two halves: the first half's middle is at tick 480.
-        let cases = [
-            (0, 480, Attached::Left),
-            (0, 481, Attached::Right),
-            (0, 960, Attached::After),
-            (1, 959, Attached::Before),
-            (1, 960, Attached::Left),
-            (1, 1440, Attached::Left),
-            (1, 1441, Attached::Right),
-        ];
-        for (p, onset, wanted) in cases {
-            assert!(rt; side(1920, 2, p, 1, onset) == wanted);
-        }
-        assert!(rt; sounds(1920, 2, 0, 1, 480));
-        assert!(rt; !sounds(1920, 2, 0, 1, 479));
-        assert!(rt; sounds(1920, 2, 0, 2, 960));
-        assert!(rt; !sounds(1920, 2, 1, 1, 1439));
-        // A chord from before the bar that ends with it sounds in both halves.
-        assert!(rt; sounds(1920, 2, 0, 1, 1920) && sounds(1920, 2, 1, 1, 1920));
-        Ok(())
-    }
-}

@@ -1,3 +1,4 @@
+ghost use Rattle.rhythm_base.specs.declared.limits.TheConstants.{LATEST_TICK, MOST_UNITS};
 ghost use Rattle.rhythm_base.specs.Cost.{displacement_of, is_after};
 ghost use Rattle.rhythm_base.specs.Signatures.{IsSignature};
 ghost use Rattle.std.specs.Prelude.{◌≡◌, ◌<◌, ◌≤◌};
@@ -7,9 +8,9 @@ ghost use Rattle.std.specs.Prelude.{◌≡◌, ◌<◌, ◌≤◌};
 pub fn displacement(num: u8, den: u8, length: u64, resolution: u16, q: u16, onset: u64) -> u64
     requires signature { IsSignature num den }
     requires some_tick { 1 ≤ length }
-    requires few_ticks { length ≤ 2000000000 }
+    requires few_ticks { length ≤ LATEST_TICK }
     requires some_unit { 1 ≤ resolution }
-    requires few_units { resolution ≤ 960 }
+    requires few_units { resolution ≤ MOST_UNITS }
     requires unit { q ≤ resolution }
     requires onset { onset < length }
     ensures value { result ≡ displacement_of num den length resolution q onset }
@@ -23,32 +24,12 @@ pub fn displacement(num: u8, den: u8, length: u64, resolution: u16, q: u16, onse
 /// Whether an onset that is attached at unit `q` was played after it.
 pub fn late(length: u64, resolution: u16, q: u16, onset: u64) -> bool
     requires some_tick { 1 ≤ length }
-    requires few_ticks { length ≤ 2000000000 }
+    requires few_ticks { length ≤ LATEST_TICK }
     requires some_unit { 1 ≤ resolution }
-    requires few_units { resolution ≤ 960 }
+    requires few_units { resolution ≤ MOST_UNITS }
     requires unit { q ≤ resolution }
     requires onset { onset < length }
     ensures { result ≡ is_after length resolution q onset }
 {
     u64::from(q) * length < onset * u64::from(resolution)
-}
-
-#[cfg(test)]
-mod tests {
-    use super::*;
-    use std::test::Fail;
-
-    #[test]
-    fn measures_from_the_unit(rt: HostRuntime) -> Result<(), Fail> {
-        assert!(rt; displacement(4, 4, 1920, 2, 0, 480) == 960);
-        assert!(rt; displacement(4, 4, 1920, 2, 1, 481) == 958);
-        assert!(rt; displacement(4, 4, 1920, 8, 8, 1900) == 40);
-        assert!(rt; displacement(4, 4, 1920, 8, 0, 21) == 42);
-        assert!(rt; late(1920, 2, 0, 480));
-        assert!(rt; !late(1920, 2, 1, 481));
-        assert!(rt; !late(1920, 2, 1, 960));
-        // The longest bar, 64 whole notes of 2,000,000,000 ticks.
-        assert!(rt; displacement(64, 1, 2_000_000_000, 960, 960, 0) == 245_760);
-        Ok(())
-    }
 }

@@ -1,6 +1,6 @@
 -- What trees that fit cost at most: R * cost + 1,000,000 * R * trees <= 2,000,000 * R * width + 983,040,000 * width. So no
 -- sum in a bar is too large.
-use Rattle.std.proofs.Common.{inl, inr, ◌≡◌, ℕ, suc, ◌<◌, ◌≤◌, ◌+◌, ◌-◌, ◌*◌, ◌/◌, ◌&&◌, ◌==◌, nat_lt, Bool, true, false, not, List, [], ◌∷◌, ◌++◌, length, map, filter, cond, refl, ap, subst, arith}
+use Rattle.std.proofs.Common.{inl, inr, ◌≡◌, ℕ, suc, ◌<◌, ◌≤◌, ◌+◌, ◌-◌, ◌*◌, ◌/◌, ◌&&◌, ◌==◌, Bool, true, false, not, List, [], ◌∷◌, ◌++◌, length, map, filter, cond, refl, ap, subst, arith, subst₂}
 use Rattle.std.specs.Prelude.{Option, Some, None, slice_get, if◌then◌else◌, nat_le}
 use Rattle.std.proofs.Math.Nat.{mul-le-mul_right, mul-le-mul_left}
 use Rattle.std.proofs.lemmas.Bool.{cases_lt}
@@ -8,25 +8,28 @@ use Rattle.std.proofs.lemmas.Bool.Decides.{nat_tests}
 use Rattle.std.proofs.lemmas.List.Sums.{sum_by-cons}
 use Rattle.std.proofs.lemmas.Option.{slice_get_within, get_or_from_slice_get}
 use Rattle.rhythm_base.specs.declared.rule.Body.{Body}
-use Rattle.rhythm_base.specs.declared.rule.Body.TheVariants.{Split, Parts, Note, Short, Tie, Rest, Grace}
+use Rattle.rhythm_base.specs.Bodies.{cuts_or_ends, can_cut, children, sizes, parts_of_cut}
+use Rattle.rhythm_laws.proofs.Runs.{agrees-few}
 use Rattle.rhythm_base.specs.declared.rule.Rule.{Rule}
-use Rattle.rhythm_base.specs.Cost.{charge, charge_in, charges, displacement_in, gap, is_late, unit_of, weight_of, weights}
+use Rattle.rhythm_base.specs.Lists.{gap}
+use Rattle.rhythm_base.specs.Cost.{charge, charge_in, charges, displacement_in, is_late, attached_unit, weight_of, weights}
 use Rattle.rhythm_base.specs.Forest.{Forest, none, more, preorder}
 use Rattle.rhythm_base.specs.Leaves.{Leaf, goes_left, in_bar, lies_in, looks}
-use Rattle.rhythm_base.specs.Line.{Sounding}
+use Rattle.rhythm_base.specs.declared.inner.Inner.{Inner}
 use Rattle.rhythm_base.specs.Readable.{IsInRange}
-use Rattle.rhythm_base.specs.Rulebook.{Rulebook}
-use Rattle.rhythm_base.specs.Trees.{Part, are_trees, can_cut, children, children_of, leaf_of, leaves, leaves_at, sizes, suits}
-use Rattle.rhythm_base.specs.Outline.{Outline}
-use Rattle.rhythm_laws.specs.Forests.{AreWide, Ground, IsGround, Stands, forest_cost}
+use Rattle.rhythm_base.specs.Grammar.{Grammar}
+use Rattle.rhythm_base.specs.Trees.{BarLeaf, are_trees, children_of, leaf_of, leaves, leaves_at, suits, leaf_of_ending}
+use Rattle.rhythm_base.specs.Shape.{Shape}
+use Rattle.rhythm_laws.specs.Forests.{AreWide, Ground, IsGround, StandsInBar, forest_cost}
 use Rattle.rhythm_laws.specs.Places.{FitsAt}
 use Rattle.rhythm_laws.proofs.ForestLemmas.{forest_cost-first}
 use Rattle.rhythm_laws.proofs.Places.{trees-split}
 use Rattle.rhythm_laws.proofs.Ranks.{both}
 use Rattle.least_cost.proofs.RuleKeys.{top_cost}
-use Rattle.least_cost.proofs.Shares.{below-wide, children-below, children-whole}
-use Rattle.rhythm_laws.specs.Runs.{agreed, lefts, rights}
-use Rattle.rhythm_laws.proofs.Reading.{and_left, and_right}
+use Rattle.rhythm_laws.specs.Runs.{lefts, rights}
+use Rattle.rhythm_base.specs.Line.{agrees}
+use Rattle.rhythm_laws.proofs.Shares.{below-wide, children-below, children-whole}
+use Rattle.rhythm_base.proofs.Booleans.{and_left, and_right}
 
 -- ---- one onset
 
@@ -58,7 +61,7 @@ displaced num den length r w gap some few low long unit half =
 
 -- an onset of the leaf is at most half a leaf from the unit that it is attached at
 half_apart : (r : ℕ) (x : Leaf) (t : ℕ) → lies_in r x t ≡ true
-    → 2 * gap ((t - x.bar.start) * r) (unit_of r x t * x.bar.length) ≤ x.part.width * x.bar.length
+    → 2 * gap ((t - x.bar.start) * r) (attached_unit r x t * x.bar.length) ≤ x.part.width * x.bar.length
 half_apart r x t h = go (goes_left r x t) refl
   where
     n : ℕ
@@ -82,11 +85,11 @@ half_apart r x t h = go (goes_left r x t) refl
         let far : x.part.width * x.bar.length < 2 * ((t - x.bar.start) * r - x.part.place * x.bar.length) = grind (arith, nat_tests) in
         omega (arith, far, within.0, within.1, split)
 
-charge-bound : (g : Rulebook) (x : Leaf) (t : ℕ) → g.early ≤ 1000 → g.late ≤ 1000 → 1 ≤ x.bar.num → x.bar.num ≤ 64 → 1 ≤ x.bar.den → 1 ≤ x.bar.length → 1 ≤ g.resolution
+charge-bound : (g : Grammar) (x : Leaf) (t : ℕ) → g.early ≤ 1000 → g.late ≤ 1000 → 1 ≤ x.bar.num → x.bar.num ≤ 64 → 1 ≤ x.bar.den → 1 ≤ x.bar.length → 1 ≤ g.resolution
     → lies_in g.resolution x t ≡ true → g.resolution * charge_in g x t ≤ 122880000 * x.part.width
 charge-bound g x t early late some few low long unit h =
     let q : ℕ = displacement_in g.resolution x t in
-    let one : g.resolution * q ≤ 122880 * x.part.width = displaced x.bar.num x.bar.den x.bar.length g.resolution x.part.width (gap ((t - x.bar.start) * g.resolution) (unit_of g.resolution x t * x.bar.length)) some few low long unit (half_apart g.resolution x t h) in
+    let one : g.resolution * q ≤ 122880 * x.part.width = displaced x.bar.num x.bar.den x.bar.length g.resolution x.part.width (gap ((t - x.bar.start) * g.resolution) (attached_unit g.resolution x t * x.bar.length)) some few low long unit (half_apart g.resolution x t h) in
     go (is_late g.resolution x t) q one
   where
     go : (b : Bool) (q : ℕ) → g.resolution * q ≤ 122880 * x.part.width → g.resolution * ((if b then g.late else g.early) * q) ≤ 122880000 * x.part.width
@@ -101,9 +104,9 @@ charge-bound g x t early late some few low long unit h =
 
 -- ---- the onsets of a leaf
 
-module _ (g : Rulebook) (x : Leaf) (each : (t : ℕ) → lies_in g.resolution x t ≡ true → g.resolution * charge_in g x t ≤ 122880000 * x.part.width) where
+module _ (g : Grammar) (x : Leaf) (each : (t : ℕ) → lies_in g.resolution x t ≡ true → g.resolution * charge_in g x t ≤ 122880000 * x.part.width) where
   -- by the numbers of its left and right onsets
-  leaf-charges : (cs : List Sounding) → g.resolution * charges g (x ∷ []) cs ≤ 122880000 * x.part.width * (length (lefts (looks g.resolution) x cs) + length (rights (looks g.resolution) x cs))
+  leaf-charges : (cs : List Inner) → g.resolution * charges g (x ∷ []) cs ≤ 122880000 * x.part.width * (length (lefts (looks g.resolution) x cs) + length (rights (looks g.resolution) x cs))
   leaf-charges [] = let nothing : charges g (x ∷ []) [] ≡ 0 = refl in let none : g.resolution * 0 ≡ 0 = grind arith in omega (arith, nothing, none)
   leaf-charges (c ∷ cs) =
       let next = sum_by-cons (λ c. charge g (x ∷ []) c.onset) c cs in
@@ -116,10 +119,10 @@ module _ (g : Rulebook) (x : Leaf) (each : (t : ℕ) → lies_in g.resolution x 
           let three : w * (n + suc m) ≡ w + w * (n + m) = grind arith in
           (omega (arith, one, two), omega (arith, one, three))
 
-      ls : List Sounding
+      ls : List Inner
       ls = filter (λ c. lies_in g.resolution x c.onset && goes_left g.resolution x c.onset) cs
 
-      rs : List Sounding
+      rs : List Inner
       rs = filter (λ c. lies_in g.resolution x c.onset && not (goes_left g.resolution x c.onset)) cs
 
       go : (n : ℕ) (b : Bool) → lies_in g.resolution x c.onset ≡ b → (e : Bool)
@@ -132,18 +135,6 @@ module _ (g : Rulebook) (x : Leaf) (each : (t : ℕ) → lies_in g.resolution x 
 
 -- ---- a tree
 
-pub agreed-few : (b : Body) (n : ℕ) (s : Bool) → agreed b n s ≡ true → n ≤ 4
-agreed-few (Split ks) n s h = absurd (cc)
-agreed-few (Parts ps) n s h = absurd (cc)
-agreed-few Note n s h = let one = and_left (n == 1) s h in grind (arith, nat_tests)
-agreed-few Short n s h = let one = and_left (n == 1) (not s) h in grind (arith, nat_tests)
-agreed-few Tie n s h = let none = and_left (n == 0) s h in grind (arith, nat_tests)
-agreed-few Rest n s h = let none = and_left (n == 0) (not s) h in grind (arith, nat_tests)
-agreed-few (Grace m) n s h =
-    let graces = and_right (nat_lt 0 m) (nat_lt m 4) (and_left (nat_lt 0 m && nat_lt m 4) (n == m + 1) h) in
-    let all = and_right (nat_lt 0 m && nat_lt m 4) (n == m + 1) h in
-    grind (arith, nat_tests)
-
 pub record IsBounded (d : Ground) : Type 0 where
   pub ranges : IsInRange d.book
   pub some_beat : 1 ≤ d.bar.num
@@ -151,14 +142,14 @@ pub record IsBounded (d : Ground) : Type 0 where
   pub some_den : 1 ≤ d.bar.den
 
 module _ (d : Ground) (ground : IsGround d) (bounded : IsBounded d) where
-  one_leaf : (p w : ℕ) (x : Part) (a b c n : ℕ) → x.width ≡ w → 1 ≤ w → c ≤ 1000000 → n ≡ c + (0 + charges d.book (in_bar d.bar (x ∷ [])) d.chords)
+  one_leaf : (p w : ℕ) (x : BarLeaf) (a b c n : ℕ) → x.width ≡ w → 1 ≤ w → c ≤ 1000000 → n ≡ c + (0 + charges d.book (in_bar d.bar (x ∷ [])) d.chords)
       → FitsAt d.book.resolution d.bar d.chords d.before p (x ∷ []) a b → d.book.resolution * n + 1000000 * d.book.resolution ≤ 2000000 * (d.book.resolution * w) + 983040000 * w
   one_leaf p w x a b c n wide some light cost fits =
       let y : Leaf = record { bar = d.bar; part = x } in
       let r : ℕ = d.book.resolution in
       let l : ℕ = length (lefts (looks d.book.resolution) y d.chords) in
       let o : ℕ = length (rights (looks d.book.resolution) y d.chords) in
-      let few = agreed-few x.body (a + l) _ (and_left (agreed x.body (a + l) _) _ fits.runs) in
+      let few = agrees-few x.ending (a + l) _ (and_left (agrees x.ending (a + l) _) _ fits.runs) in
       let out : o ≡ b = fits.leave in
       let few_out : b ≤ 4 = fits.few_to in
       let charged : r * charges d.book (y ∷ []) d.chords ≤ 122880000 * x.width * (l + o)
@@ -180,7 +171,7 @@ module _ (d : Ground) (ground : IsGround d) (bounded : IsBounded d) where
   one_tree None p q k a b n some suit trees light fits cost below = absurd (cc)
   one_tree (Some rule) p q k a b n some suit trees light fits cost below = by_body rule.body (and_right (rule.lhs == q.1) _ suit) trees fits cost
     where
-      bare : (x : Part) → x.width ≡ q.0 → are_trees d.book.rules [] k ≡ true → FitsAt d.book.resolution d.bar d.chords d.before p (x ∷ leaves d.book.rules p [] k) a b
+      bare : (x : BarLeaf) → x.width ≡ q.0 → are_trees d.book.rules [] k ≡ true → FitsAt d.book.resolution d.bar d.chords d.before p (x ∷ leaves d.book.rules p [] k) a b
           → n ≡ rule.weight + (weights d.book (preorder k) + charges d.book (in_bar d.bar (x ∷ leaves d.book.rules p [] k)) d.chords)
           → d.book.resolution * n + 1000000 * d.book.resolution ≤ 2000000 * (d.book.resolution * q.0) + 983040000 * q.0
       bare x wide = go k
@@ -208,17 +199,21 @@ module _ (d : Ground) (ground : IsGround d) (bounded : IsBounded d) where
           → FitsAt d.book.resolution d.bar d.chords d.before p (leaf_of body p q.0 ++ leaves d.book.rules p (children body q.0) k) a b
           → n ≡ rule.weight + (weights d.book (preorder k) + charges d.book (in_bar d.bar (leaf_of body p q.0 ++ leaves d.book.rules p (children body q.0) k)) d.chords)
           → d.book.resolution * n + 1000000 * d.book.resolution ≤ 2000000 * (d.book.resolution * q.0) + 983040000 * q.0
-      by_body (Split ks) cuts trees fits cost =
-          let whole = children-whole (Split ks) p q.0 some cuts refl in
-          cut (children (Split ks) q.0) (below-wide q.0 (children (Split ks) q.0) (children-below (Split ks) q.0 some cuts)) whole.0 whole.1 trees fits cost
-      by_body (Parts ps) cuts trees fits cost =
-          let whole = children-whole (Parts ps) p q.0 some cuts refl in
-          cut (children (Parts ps) q.0) (below-wide q.0 (children (Parts ps) q.0) (children-below (Parts ps) q.0 some cuts)) whole.0 whole.1 trees fits cost
-      by_body Note cuts trees fits cost = bare (record { body = Note; place = p; width = q.0 }) refl trees fits cost
-      by_body Short cuts trees fits cost = bare (record { body = Short; place = p; width = q.0 }) refl trees fits cost
-      by_body Tie cuts trees fits cost = bare (record { body = Tie; place = p; width = q.0 }) refl trees fits cost
-      by_body Rest cuts trees fits cost = bare (record { body = Rest; place = p; width = q.0 }) refl trees fits cost
-      by_body (Grace m) cuts trees fits cost = bare (record { body = Grace m; place = p; width = q.0 }) refl trees fits cost
+      by_body body cuts trees fits cost = elim (cuts_or_ends body) [
+        | inl t ↦
+            let P : List BarLeaf → Type 0 = λ l. FitsAt d.book.resolution d.bar d.chords d.before p (l ++ leaves d.book.rules p (children body q.0) k) a b in
+            let Q : List BarLeaf → Type 0 = λ l. n ≡ rule.weight + (weights d.book (preorder k) + charges d.book (in_bar d.bar (l ++ leaves d.book.rules p (children body q.0) k)) d.chords) in
+            let none_here : leaf_of body p q.0 ≡ [] = ap (λ o. leaf_of_ending o p q.0) t.2 in
+            let whole = children-whole body p q.0 some cuts none_here in
+            cut (children body q.0) (below-wide q.0 (children body q.0) (children-below body q.0 some cuts)) whole.0 whole.1 trees (subst P none_here fits) (subst Q none_here cost)
+        | inr t ↦
+            let nothing : children body q.0 ≡ [] = ap (λ c. parts_of_cut c q.0) t.1 in
+            let P : List BarLeaf → List (ℕ × ℕ) → Type 0 = λ l qs. FitsAt d.book.resolution d.bar d.chords d.before p (l ++ leaves d.book.rules p qs k) a b in
+            let Q : List BarLeaf → List (ℕ × ℕ) → Type 0 = λ l qs. n ≡ rule.weight + (weights d.book (preorder k) + charges d.book (in_bar d.bar (l ++ leaves d.book.rules p qs k)) d.chords) in
+            let own : leaf_of body p q.0 ≡ record { ending = t.0; place = p; width = q.0 } ∷ [] = ap (λ o. leaf_of_ending o p q.0) t.2 in
+            bare (record { ending = t.0; place = p; width = q.0 }) refl (subst (λ qs. are_trees d.book.rules qs k ≡ true) nothing trees)
+            (subst₂ P own nothing fits) (subst₂ Q own nothing cost)
+      ]
 
   weight-light : (r : ℕ) → weight_of (slice_get d.book.rules r) ≤ 1000000
   weight-light r = go (slice_get d.book.rules r) refl
@@ -238,7 +233,7 @@ module _ (d : Ground) (ground : IsGround d) (bounded : IsBounded d) where
       let zero_r : d.book.resolution * 0 ≡ 0 = grind arith in
       omega (arith, cost, zero_r)
     where
-      no_charges : (cs : List Sounding) → 0 + charges d.book [] cs ≡ 0
+      no_charges : (cs : List Inner) → 0 + charges d.book [] cs ≡ 0
       no_charges [] = refl
       no_charges (c ∷ cs) = let next = sum_by-cons (λ c. charge d.book [] c.onset) c cs in omega (arith, next, no_charges cs)
   forest-bound none p (q ∷ qs) a b wide h fits = absurd (cc)
@@ -258,7 +253,7 @@ module _ (d : Ground) (ground : IsGround d) (bounded : IsBounded d) where
       omega (arith, one, others, cost, sum, many, area)
 
   -- so trees within the bar cost less than 3,000,000,000
-  pub stands-cheap : (shapes : Option Outline) (p : ℕ) (qs : List (ℕ × ℕ)) (f : Forest) (a b : ℕ) → AreWide qs → sizes qs ≤ d.book.resolution → Stands d shapes p qs f a b
+  pub stands-cheap : (shapes : Option Shape) (p : ℕ) (qs : List (ℕ × ℕ)) (f : Forest) (a b : ℕ) → AreWide qs → sizes qs ≤ d.book.resolution → StandsInBar d shapes p qs f a b
       → forest_cost d p qs f ≤ 3000000000
   stands-cheap shapes p qs f a b wide within stands =
       let r : ℕ = d.book.resolution in

@@ -7,12 +7,12 @@ use Rattle.std.proofs.lemmas.Option.{get_or_from_slice_get, slice_get-get_or, sl
 use Rattle.std.proofs.lemmas.List.{length-append}
 use Rattle.std.proofs.lemmas.Bool.{cases_lt}
 use Rattle.std.proofs.lemmas.List.Elements.{All-push, All-weaker}
-use Rattle.rhythm_base.specs.Cell.{Cell}
+use Rattle.rhythm_base.specs.BarInput.{BarInput}
 use Rattle.rhythm_base.specs.Cells.{bar_of}
-use Rattle.rhythm_base.specs.Line.{Sounding}
-use Rattle.rhythm_base.specs.Outline.{Outline}
-use Rattle.rhythm_base.specs.Rulebook.{Rulebook}
-use Rattle.rhythm_base.specs.Trees.{sizes}
+use Rattle.rhythm_base.specs.declared.inner.Inner.{Inner}
+use Rattle.rhythm_base.specs.Shape.{Shape}
+use Rattle.rhythm_base.specs.Grammar.{Grammar}
+use Rattle.rhythm_base.specs.Bodies.{sizes}
 use Rattle.rhythm_laws.specs.Forests.{AreWide, Ground, IsForestKey, IsGround, one_shape}
 use Rattle.rhythm_laws.specs.Places.{end_before, reach}
 use Rattle.rhythm_laws.specs.Quiet.{IsSilent, IsSounding, SoundAlike, end_at, is_quiet}
@@ -22,7 +22,7 @@ use Rattle.least_cost.specs.declared.memo.Asked.{Asked}
 use Rattle.least_cost.specs.declared.memo.Family.{Family}
 use Rattle.least_cost.specs.declared.memo.Found.{Found}
 use Rattle.least_cost.specs.declared.memo.Site.{Site}
-use Rattle.least_cost.specs.declared.memo.Site.TheVariants.{From, Sounding as Through, Silent}
+use Rattle.least_cost.specs.declared.memo.Site.TheVariants.{From, Inner as Through, Silent}
 use Rattle.least_cost.specs.declared.pins.Demand.{Demand}
 use Rattle.least_cost.specs.Entries.{IsGood}
 use Rattle.least_cost.specs.Memos.{AddsFound, HasFound, LiesAt}
@@ -34,7 +34,7 @@ use Rattle.least_cost.proofs.Goods.{Table, good-more}
 
 -- ---- intervals that are answered alike
 
-good-alike : (d : Ground) → IsGround d → (s : Option Outline) (qs : List (ℕ × ℕ)) → AreWide qs → (p q : ℕ) (ls : List (List ℕ)) (t : Table) → SoundAlike d (sizes qs) p q → IsGood d s p qs ls t → IsGood d s q qs ls t
+good-alike : (d : Ground) → IsGround d → (s : Option Shape) (qs : List (ℕ × ℕ)) → AreWide qs → (p q : ℕ) (ls : List (List ℕ)) (t : Table) → SoundAlike d (sizes qs) p q → IsGood d s p qs ls t → IsGood d s q qs ls t
 good-alike d ground s qs wide p q ls t alike h = record {
   keys = h.keys;
   least = λ a b la lb.
@@ -45,7 +45,7 @@ good-alike d ground s qs wide p q ls t alike h = record {
   held = h.held;
 }
 
-good-there : (d : Ground) → IsGround d → (s : Option Outline) (w n : ℕ) → 1 ≤ w → (site : Site) (p q : ℕ) (ls : List (List ℕ)) (t : Table) → LiesAt d site p w → LiesAt d site q w
+good-there : (d : Ground) → IsGround d → (s : Option Shape) (w n : ℕ) → 1 ≤ w → (site : Site) (p q : ℕ) (ls : List (List ℕ)) (t : Table) → LiesAt d site p w → LiesAt d site q w
     → IsGood d s p ((w, n) ∷ []) ls t → IsGood d s q ((w, n) ∷ []) ls t
 good-there d ground s w n wide (From o) p q ls t h k good = let P : ℕ → Type 0 = λ p. IsGood d s p ((w, n) ∷ []) ls t in subst P (h ∙ sym k) good
 good-there d ground s w n wide Through p q ls t h k good = good-alike d ground s ((w, n) ∷ []) (wide, _) p q ls t (subst (λ v. SoundAlike d v p q) (alone w) (inl (h, k))) good
@@ -59,7 +59,7 @@ good-there d ground s w n wide Silent p q ls t h k good = good-alike d ground s 
 
 -- ---- what was found
 
-pub found-more : (g : Rulebook) (k : Cell) (os : List Outline) (ls ms : List (List ℕ)) (xs : List Found) → Extends ls ms → AreFound g k os ls xs → AreFound g k os ms xs
+pub found-more : (g : Grammar) (k : BarInput) (os : List Shape) (ls ms : List (List ℕ)) (xs : List Found) → Extends ls ms → AreFound g k os ls xs → AreFound g k os ms xs
 found-more g k os ls ms xs longer h = record {
   each =
       All-weaker (λ x. IsAnswerOf g k os ls x.family x.grid) (λ x. IsAnswerOf g k os ms x.family x.grid)
@@ -67,7 +67,7 @@ found-more g k os ls ms xs longer h = record {
 }
 
 -- an answer as one of the family, by what the family and what is asked have in common
-module _ (g : Rulebook) (k : Cell) (ground : IsGround (ground_of g k)) (os : List Outline) (ls : List (List ℕ)) where
+module _ (g : Grammar) (k : BarInput) (ground : IsGround (ground_of g k)) (os : List Shape) (ls : List (List ℕ)) where
   answer-of : (site : Site) (width symbol : ℕ) (demand : Demand) (asked : Asked) (grid : Table) → 1 ≤ asked.width → LiesAt (ground_of g k) site asked.place asked.width
       → asked.width ≡ width → asked.symbol ≡ symbol → asked.demand ≡ demand → IsAnswer g k os ls asked grid
       → IsAnswerOf g k os ls (record { site = site; width = width; symbol = symbol; demand = demand }) grid
@@ -117,7 +117,7 @@ module _ (g : Rulebook) (k : Cell) (ground : IsGround (ground_of g k)) (os : Lis
 
 -- ---- which intervals are answered alike
 
-all-each : (t : Sounding → Bool) (xs : List Sounding) → ((i : ℕ) (d : Sounding) → i < length xs → t (get_or xs i d) ≡ true) → list_all t xs ≡ true
+all-each : (t : Inner → Bool) (xs : List Inner) → ((i : ℕ) (d : Inner) → i < length xs → t (get_or xs i d) ≡ true) → list_all t xs ≡ true
 all-each t [] h = refl
 all-each t (x ∷ xs) h = rw (h 0 x (omega arith)) (all-each t xs (λ i d k. h (suc i) d (omega arith)))
 
@@ -130,13 +130,13 @@ behind true true h = refl
 behind true false h = absurd (cc)
 behind false b h = refl
 
-module _ (k : Cell) (p w n : ℕ) (first : SplitsAt k.resolution (bar_of k) p k.chords n) (last : SplitsAt k.resolution (bar_of k) (p + w) k.chords n) (g : Rulebook) (units : g.resolution ≡ k.resolution) where
+module _ (k : BarInput) (p w n : ℕ) (first : SplitsAt k.resolution (bar_of k) p k.chords n) (last : SplitsAt k.resolution (bar_of k) (p + w) k.chords n) (g : Grammar) (units : g.resolution ≡ k.resolution) where
   quiet-cell : is_quiet (ground_of g k) p w ≡ true
   quiet-cell =
       subst (λ r. list_all (λ c. not (reach r (bar_of k) p c.onset && not (reach r (bar_of k) (p + w) c.onset))) k.chords ≡ true) (sym units)
       (all-each (λ c. not (reach k.resolution (bar_of k) p c.onset && not (reach k.resolution (bar_of k) (p + w) c.onset))) k.chords each)
     where
-      each : (i : ℕ) (d : Sounding) → i < length k.chords
+      each : (i : ℕ) (d : Inner) → i < length k.chords
           → not (reach k.resolution (bar_of k) p (get_or k.chords i d).onset && not (reach k.resolution (bar_of k) (p + w) (get_or k.chords i d).onset)) ≡ true
       each i d low = elim (cases_lt i n) [ inl less ↦ outside _ _ (first.low i d less) | inr more ↦ behind _ _ (last.high i d more low) ]
 

@@ -1,20 +1,21 @@
 -- What a leaf hears, one chord after the other.
-use Rattle.std.proofs.Common.{◌≡◌, ℕ, zero, suc, ◌<◌, ◌≤◌, ◌+◌, Bool, true, false, List, [], ◌∷◌, ◌++◌, length, map, filter, take, get_or, cond, refl, ap, ◌∙◌, arith}
+use Rattle.std.proofs.Common.{append-nil, ◌≡◌, ℕ, zero, suc, ◌<◌, ◌≤◌, ◌+◌, Bool, true, false, List, [], ◌∷◌, ◌++◌, length, map, filter, take, get_or, cond, refl, ap, ◌∙◌, arith}
 use Rattle.std.specs.Prelude.{if◌then◌else◌}
 use Rattle.std.proofs.lemmas.List.{length-append, take_more}
 use Rattle.std.proofs.lemmas.List.Sums.{sum_by-append, sum_by-cons}
-use Rattle.rhythm_base.specs.Cell.{Cell, IsCell}
-use Rattle.rhythm_base.specs.Cells.{last_end}
+use Rattle.rhythm_base.specs.BarInput.{BarInput, IsBarInput}
+use Rattle.rhythm_base.specs.Lists.{last_end}
 use Rattle.rhythm_base.specs.Cost.{charge, charges}
 use Rattle.rhythm_base.specs.Leaves.{Leaf}
-use Rattle.rhythm_base.specs.Line.{Rising, Sounding}
-use Rattle.rhythm_base.specs.Rulebook.{Rulebook}
+use Rattle.rhythm_base.specs.declared.inner.Inner.{Inner}
+use Rattle.rhythm_base.specs.Line.{Rising}
+use Rattle.rhythm_base.specs.Grammar.{Grammar}
 
 -- the ends of the chords that pass a test
-abbrev pub ends_of : (Sounding → Bool) → List Sounding → List ℕ
+abbrev pub ends_of : (Inner → Bool) → List Inner → List ℕ
 ends_of t cs = map (λ c. c.end) (filter t cs)
 
-pub ends-push : (t : Sounding → Bool) (cs : List Sounding) (c : Sounding) → ends_of t (cs ++ c ∷ []) ≡ ends_of t cs ++ (if t c then c.end ∷ [] else [])
+pub ends-push : (t : Inner → Bool) (cs : List Inner) (c : Inner) → ends_of t (cs ++ c ∷ []) ≡ ends_of t cs ++ (if t c then c.end ∷ [] else [])
 ends-push t [] c = go (t c)
   where
     go : (b : Bool) → map (λ c. c.end) (cond b (c ∷ []) []) ≡ (if b then c.end ∷ [] else [])
@@ -31,11 +32,7 @@ pub last_end-push : (e : ℕ) (xs : List ℕ) (d : ℕ) → last_end e (xs ++ d 
 last_end-push e [] d = refl
 last_end-push e (x ∷ xs) d = last_end-push x xs d
 
-nothing_more : {A : Type 0} (xs : List A) → xs ++ [] ≡ xs
-nothing_more [] = refl
-nothing_more (x ∷ xs) = ap (λ l. x ∷ l) (nothing_more xs)
-
-module _ (t : Sounding → Bool) (cs : List Sounding) (i : ℕ) (d : Sounding) (low : i < length cs) where
+module _ (t : Inner → Bool) (cs : List Inner) (i : ℕ) (d : Inner) (low : i < length cs) where
   next : ends_of t (take (i + 1) cs) ≡ ends_of t (take i cs) ++ (if t (get_or cs i d) then (get_or cs i d).end ∷ [] else [])
   next = ap (ends_of t) (take_more cs i d low) ∙ ends-push t (take i cs) (get_or cs i d)
 
@@ -46,7 +43,7 @@ module _ (t : Sounding → Bool) (cs : List Sounding) (i : ℕ) (d : Sounding) (
       omega (arith, e, long, sum)
 
   pub ends-off : t (get_or cs i d) ≡ false → ends_of t (take (i + 1) cs) ≡ ends_of t (take i cs)
-  ends-off h = next ∙ ap (λ b. ends_of t (take i cs) ++ (if b then (get_or cs i d).end ∷ [] else [])) h ∙ nothing_more (ends_of t (take i cs))
+  ends-off h = next ∙ ap (λ b. ends_of t (take i cs) ++ (if b then (get_or cs i d).end ∷ [] else [])) h ∙ append-nil (ends_of t (take i cs))
 
   pub last-on : (e : ℕ) → t (get_or cs i d) ≡ true → last_end e (ends_of t (take (i + 1) cs)) ≡ (get_or cs i d).end
   last-on e h =
@@ -56,7 +53,7 @@ module _ (t : Sounding → Bool) (cs : List Sounding) (i : ℕ) (d : Sounding) (
 -- ---- few chords
 
 -- onsets that rise are at most as many as ticks
-rising-few : (low l : ℕ) (cs : List Sounding) → Rising low cs → ((i : ℕ) (d : Sounding) → i < length cs → (get_or cs i d).onset < l) → low ≤ l → low + length cs ≤ l
+rising-few : (low l : ℕ) (cs : List Inner) → Rising low cs → ((i : ℕ) (d : Inner) → i < length cs → (get_or cs i d).onset < l) → low ≤ l → low + length cs ≤ l
 rising-few low l [] rise h less = omega arith
 rising-few low l (c ∷ cs) rise h less =
     let own : c.onset < l = h 0 c (omega arith) in
@@ -64,7 +61,7 @@ rising-few low l (c ∷ cs) rise h less =
     let ih = rising-few (c.onset + 1) l cs rise.1 (λ i d k. h (suc i) d (omega arith)) (omega arith) in
     omega (arith, ih, first)
 
-pub few-chords : (k : Cell) → IsCell k → length k.chords ≤ 2000000000
+pub few-chords : (k : BarInput) → IsBarInput k → length k.chords ≤ 2000000000
 few-chords k cell =
     let h = rising-few 0 k.length k.chords cell.rising (λ i d low. (cell.chords i d low).onset) (omega arith) in
     let few : k.length ≤ 2000000000 = cell.few_ticks in
@@ -72,14 +69,14 @@ few-chords k cell =
 
 -- ---- charges
 
-pub charges-push : (g : Rulebook) (xs : List Leaf) (cs : List Sounding) (i : ℕ) (d : Sounding) → i < length cs → charges g xs (take (i + 1) cs) ≡ charges g xs (take i cs) + charge g xs (get_or cs i d).onset
+pub charges-push : (g : Grammar) (xs : List Leaf) (cs : List Inner) (i : ℕ) (d : Inner) → i < length cs → charges g xs (take (i + 1) cs) ≡ charges g xs (take i cs) + charge g xs (get_or cs i d).onset
 charges-push g xs cs i d low =
     let one = sum_by-cons (λ c. charge g xs c.onset) (get_or cs i d) [] in
     let nothing : charges g xs [] ≡ 0 = refl in
     let all = ap (charges g xs) (take_more cs i d low) ∙ sum_by-append (λ c. charge g xs c.onset) (take i cs) (get_or cs i d ∷ []) in
     omega (arith, one, nothing, all)
 
-pub rising-above : (low : ℕ) (cs : List Sounding) → Rising low cs → (j : ℕ) (e : Sounding) → j < length cs → low ≤ (get_or cs j e).onset
+pub rising-above : (low : ℕ) (cs : List Inner) → Rising low cs → (j : ℕ) (e : Inner) → j < length cs → low ≤ (get_or cs j e).onset
 rising-above low [] rise j e h = absurd (omega arith)
 rising-above low (c ∷ cs) rise zero e h = rise.0
 rising-above low (c ∷ cs) rise (suc j) e h =

@@ -4,7 +4,6 @@ pub mod Fives
 pub mod Settling
 pub mod Merging
 pub mod RuleKeys
-pub mod Shares
 pub mod Bounds
 pub mod Goods
 pub mod Hearing

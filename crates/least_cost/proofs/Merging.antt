@@ -7,9 +7,10 @@ use Rattle.std.specs.declared.cmp.Ordering.{Ordering}
 use Rattle.std.specs.declared.cmp.Ordering.TheVariants.{Less, Equal, Greater}
 use Rattle.rhythm_base.specs.Ranked.{Key, Keys, is_before, key_of, list_cmp, ranked}
 use Rattle.rhythm_laws.specs.Tables.{IsLeastKey}
-use Rattle.rhythm_laws.proofs.Alike.{lists_cmp, ranked_same, ranks_alike, same}
+use Rattle.rhythm_laws.specs.Rows.{lists_cmp, same, IsOneBelow}
+use Rattle.rhythm_laws.proofs.Alike.{ranked_same, ranks_alike}
 use Rattle.rhythm_laws.proofs.KeyOrders.{above, before_above, keys_total}
-use Rattle.rhythm_laws.proofs.LeastKeys.{Some-below, last}
+use Rattle.rhythm_laws.proofs.LeastKeys.{last}
 use Rattle.rhythm_laws.proofs.Picks.{decides}
 use Rattle.least_cost.specs.declared.choice.Choice.{Choice}
 use Rattle.least_cost.specs.declared.entry.Entry.{Entry}
@@ -26,7 +27,7 @@ lower_of o None = o
 lower_of None (Some x) = Some x
 lower_of (Some y) (Some x) = if is_before x y then Some x else Some y
 
-pub lower-least : (S : ℕ → Key → Type 0) (n : ℕ) (o u : Option Key) → IsLeastKey (Some-below S n) o → IsLeastKey (S n) u → IsLeastKey (Some-below S (suc n)) (lower_of o u)
+pub lower-least : (S : ℕ → Key → Type 0) (n : ℕ) (o u : Option Key) → IsLeastKey (IsOneBelow S n) o → IsLeastKey (S n) u → IsLeastKey (IsOneBelow S (suc n)) (lower_of o u)
 lower-least S n None None h g = λ k b. elim (last b.0 n b.1) [
   | inl low ↦ h k (b.0, low, b.2)
   | inr same ↦ g k (subst (λ m. S m k) same b.2)
@@ -47,7 +48,7 @@ lower-least S n None (Some y) h g = (
 )
 lower-least S n (Some x) (Some y) h g = go (is_before y x) refl
   where
-    go : (b : Bool) → is_before y x ≡ b → IsLeastKey (Some-below S (suc n)) (if b then Some y else Some x)
+    go : (b : Bool) → is_before y x ≡ b → IsLeastKey (IsOneBelow S (suc n)) (if b then Some y else Some x)
     go true e = (
       (n, omega arith, g.0),
       λ k b. elim (last b.0 n b.1) [

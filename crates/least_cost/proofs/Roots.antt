@@ -1,32 +1,30 @@
 -- The least entries of the whole bar are its table.
-use Rattle.std.proofs.Common.{◌≡◌, ◌≢◌, ℕ, zero, suc, ◌<◌, ◌≤◌, ◌+◌, ◌^◌, ◌&&◌, true, false, All, List, [], ◌∷◌, get_or, refl, sym, ap, ap₂, ◌∙◌, subst, arith, append-nil, inl, inr}
+use Rattle.std.proofs.Common.{◌≡◌, ℕ, zero, suc, ◌<◌, ◌≤◌, ◌+◌, ◌^◌, ◌&&◌, true, false, All, List, [], ◌∷◌, get_or, refl, sym, ap, ap₂, ◌∙◌, subst, arith, append-nil, inl, inr}
 use Rattle.std.specs.Prelude.{Option, Some, None, nat_lt, if◌then◌else◌}
 use Rattle.std.specs.List.{list_all}
-use Rattle.std.specs.Ordering.{is_lt}
-use Rattle.std.specs.declared.cmp.Ordering.{Ordering}
-use Rattle.std.specs.declared.cmp.Ordering.TheVariants.{Less, Equal, Greater}
 use Rattle.std.proofs.lemmas.Bool.{cases_lt}
 use Rattle.std.proofs.lemmas.Bool.Decides.{nat_tests}
 use Rattle.std.proofs.lemmas.List.{get_or_past}
 use Rattle.std.proofs.lemmas.List.Elements.{All-head, All-tail}
 use Rattle.rhythm_base.specs.declared.best.Best.{Best}
 use Rattle.rhythm_base.specs.declared.inner.Inner.{Inner}
-use Rattle.rhythm_base.specs.Cell.{Cell, IsInner}
+use Rattle.rhythm_base.specs.BarInput.{BarInput, IsInner}
 use Rattle.rhythm_base.specs.Cells.{CellFits, bar_of, cell_cost, leaves_in}
-use Rattle.rhythm_base.specs.CellTables.{CellTable, IsEntry, IsLeastInCell, IsTable, cell_rank, is_lower, list_at, lower_in}
+use Rattle.rhythm_base.specs.BarTables.{BarTable, IsEntry, IsLeastInCell, IsTable, cell_rank, is_lower, list_at, lower_in}
 use Rattle.rhythm_base.specs.Cost.{charges, weights}
-use Rattle.rhythm_base.specs.Forest.{Branch, none, more, preorder, preorder_of}
+use Rattle.rhythm_base.specs.Forest.{Tree, none, more, preorder, preorder_of}
 use Rattle.rhythm_base.specs.Least.{rank_cmp}
-use Rattle.rhythm_base.specs.Outline.{Outline}
+use Rattle.rhythm_base.specs.Shape.{Shape}
 use Rattle.rhythm_base.specs.Paths.{AreLow, IsRanked}
-use Rattle.rhythm_base.specs.Ranked.{Entries, Key, at, count_under, five, grid, is_before, is_under, ranked}
-use Rattle.rhythm_base.specs.Rulebook.{Rulebook}
+use Rattle.rhythm_base.specs.Ranked.{CarryMatrix, Key, at, count_under, five, grid, is_before, is_under, ranked}
+use Rattle.rhythm_base.specs.Grammar.{Grammar}
 use Rattle.rhythm_base.specs.Leaves.{in_bar}
 use Rattle.rhythm_base.specs.Trees.{are_trees, has_pin, leaves, leaves_of}
-use Rattle.rhythm_laws.specs.Forests.{IsForestKey, Stands, has_shapes, one_shape}
+use Rattle.rhythm_laws.specs.Forests.{IsForestKey, StandsInBar, has_shapes, one_shape}
 use Rattle.rhythm_laws.specs.Places.{FitsAt}
 use Rattle.rhythm_laws.specs.Tables.{IsLeastKey}
 use Rattle.rhythm_laws.specs.Voices.{HoldsChords}
+use Rattle.rhythm_laws.proofs.KeyOrders.{never_less}
 use Rattle.rhythm_laws.proofs.ForestLemmas.{least-rows_apart}
 use Rattle.rhythm_laws.proofs.PathTables.{table_of_ranked}
 use Rattle.rhythm_laws.proofs.Places.{at-cell, cell-at}
@@ -37,10 +35,9 @@ use Rattle.least_cost.specs.declared.entry.Entry.{Entry}
 use Rattle.least_cost.specs.Entries.{IsEntryOf, IsGood, entry_at}
 use Rattle.least_cost.specs.Nodes.{IsReady, ground_of}
 use Rattle.least_cost.specs.Tables.{best_at, best_of, written}
-use Rattle.least_cost.proofs.Goods.{Table}
+use Rattle.least_cost.proofs.Goods.{Table, good-cheap}
 use Rattle.least_cost.proofs.RuleKeys.{single_tree, top_shape}
 use Rattle.least_cost.proofs.Ropes.{HasText-is}
-use Rattle.least_cost.proofs.Goods.{good-cheap}
 use Rattle.least_cost.proofs.Searches.{bounds, grounded}
 use Rattle.least_cost.proofs.Settling.{best-ranked}
 
@@ -52,16 +49,11 @@ inside l (c ∷ cs) h =
     let on : nat_lt c.onset l ≡ true = grind (arith, nat_tests) in
     ap₂ ◌&&◌ on (inside l cs (All-tail (IsInner l) c cs h))
 
-not_less : (o : Ordering) → is_lt o ≡ false → o ≢ Less
-not_less Less h = λ e. absurd (cc)
-not_less Equal h = λ e. absurd (cc)
-not_less Greater h = λ e. absurd (cc)
-
-module _ (g : Rulebook) (k : Cell) (ready : IsReady g k) where
+module _ (g : Grammar) (k : BarInput) (ready : IsReady g k) where
   holds : HoldsChords k
   holds = record { long = ready.cell.some_tick; rise = ready.cell.rising; below = inside k.length k.chords ready.cell.chords }
 
-  same_pin : (pin : Option Outline) (t : Branch) → has_shapes (one_shape pin) (more t.rule t.kids none) ≡ has_pin pin t
+  same_pin : (pin : Option Shape) (t : Tree) → has_shapes (one_shape pin) (more t.rule t.kids none) ≡ has_pin pin t
   same_pin None t = refl
   same_pin (Some x) t = top_shape (Some x) t.rule t.kids
 
@@ -69,7 +61,7 @@ module _ (g : Rulebook) (k : Cell) (ready : IsReady g k) where
   root = (k.resolution, k.symbol) ∷ []
 
   -- a tree fits the cell exactly where it stands in it
-  stands : (t : Branch) (a b : ℕ) → CellFits g k t a b → Stands (ground_of g k) (one_shape k.pin) 0 root (more t.rule t.kids none) a b
+  stands : (t : Tree) (a b : ℕ) → CellFits g k t a b → StandsInBar (ground_of g k) (one_shape k.pin) 0 root (more t.rule t.kids none) a b
   stands t a b fits =
       let own = both (are_trees g.rules ((k.resolution, k.symbol) ∷ []) (more t.rule t.kids none)) _ fits.tree in
       record {
@@ -78,20 +70,20 @@ module _ (g : Rulebook) (k : Cell) (ready : IsReady g k) where
         fits = subst (λ r. FitsAt r (bar_of k) k.chords k.before 0 (leaves_of g.rules k.resolution k.symbol t) a b) (sym ready.units) (cell-at g k t a b ready.cell.some_unit holds fits);
       }
 
-  fits_cell : (t : Branch) (a b : ℕ) → Stands (ground_of g k) (one_shape k.pin) 0 root (more t.rule t.kids none) a b → CellFits g k t a b
+  fits_cell : (t : Tree) (a b : ℕ) → StandsInBar (ground_of g k) (one_shape k.pin) 0 root (more t.rule t.kids none) a b → CellFits g k t a b
   fits_cell t a b h =
       at-cell g k t a b ready.cell.some_unit holds (ap₂ ◌&&◌ h.trees (sym (same_pin k.pin t) ∙ h.shaped))
       (subst (λ r. FitsAt r (bar_of k) k.chords k.before 0 (leaves_of g.rules k.resolution k.symbol t) a b) ready.units h.fits)
 
-  rank_is : (t : Branch) → ◌≡◌ {A = Key} (weights g (preorder (more t.rule t.kids none)) + charges g (leaves_in g k t) k.chords, preorder (more t.rule t.kids none)) (cell_rank g k t)
+  rank_is : (t : Tree) → ◌≡◌ {A = Key} (weights g (preorder (more t.rule t.kids none)) + charges g (leaves_in g k t) k.chords, preorder (more t.rule t.kids none)) (cell_rank g k t)
   rank_is t =
       let P : List ℕ → Key = λ l. (weights g l + charges g (leaves_in g k t) k.chords, l) in
       ap P (append-nil (preorder_of t))
 
-  cell_key : (t : Branch) (a b : ℕ) → CellFits g k t a b → IsForestKey (ground_of g k) (one_shape k.pin) 0 root a b (cell_rank g k t)
+  cell_key : (t : Tree) (a b : ℕ) → CellFits g k t a b → IsForestKey (ground_of g k) (one_shape k.pin) 0 root a b (cell_rank g k t)
   cell_key t a b fits = (more t.rule t.kids none, stands t a b fits, sym (rank_is t))
 
-  module _ (ls : List (List ℕ)) (t : Table) (good : IsGood (ground_of g k) (one_shape k.pin) 0 root ls t) (table : CellTable) (input : table.input ≡ k) (matrix : table.matrix ≡ grid (best_at t))
+  module _ (ls : List (List ℕ)) (t : Table) (good : IsGood (ground_of g k) (one_shape k.pin) 0 root ls t) (table : BarTable) (input : table.input ≡ k) (matrix : table.matrix ≡ grid (best_at t))
       (lists : (a b : ℕ) → a < 5 → b < 5 → list_at table a b ≡ written ls (entry_at t a b)) where
     list_is : (row : ℕ → Option Key) (e : Option Entry) (u : Option Key) (x : List ℕ) → IsEntryOf ls row e u → is_lower (written ls e) x ≡ is_under u x
     list_is row None None x h = refl
@@ -105,16 +97,16 @@ module _ (g : Rulebook) (k : Cell) (ready : IsReady g k) where
         let here : is_lower (list_at table a n) x ≡ is_under (good.keys a n) x = ap (λ o. is_lower o x) (lists a n la (omega arith)) ∙ list_is (good.keys a) (entry_at t a n) (good.keys a n) x (good.held a n la (omega arith)) in
         λ i. (if here i then 1 else 0) + lower-is a x n la (omega arith) i
 
-    least : (a b : ℕ) (key : Key) → IsLeastKey (IsForestKey (ground_of g k) (one_shape k.pin) 0 root a b) (Some key) → (u : Branch) × IsLeastInCell g k u a b × (key ≡ cell_rank g k u)
+    least : (a b : ℕ) (key : Key) → IsLeastKey (IsForestKey (ground_of g k) (one_shape k.pin) 0 root a b) (Some key) → (u : Tree) × IsLeastInCell g k u a b × (key ≡ cell_rank g k u)
     least a b key h =
         let one = single_tree g.rules (k.resolution, k.symbol) h.0.0 h.0.1.trees in
-        let u : Branch = record { rule = one.0; kids = one.1 } in
-        let own : Stands (ground_of g k) (one_shape k.pin) 0 root (more one.0 one.1 none) a b = subst (λ f. Stands (ground_of g k) (one_shape k.pin) 0 root f a b) one.2 h.0.1 in
+        let u : Tree = record { rule = one.0; kids = one.1 } in
+        let own : StandsInBar (ground_of g k) (one_shape k.pin) 0 root (more one.0 one.1 none) a b = subst (λ f. StandsInBar (ground_of g k) (one_shape k.pin) 0 root f a b) one.2 h.0.1 in
         let is : key ≡ cell_rank g k u = h.0.2 ∙ ap (λ f. (weights g (preorder f) + charges g (in_bar (bar_of k) (leaves g.rules 0 root f)) k.chords, preorder f)) one.2 ∙ rank_is u in (
           u,
           record {
             fits = fits_cell u a b own;
-            first = λ v fits. not_less (rank_cmp (cell_rank g k v) (cell_rank g k u)) (subst (λ q. is_before (cell_rank g k v) q ≡ false) is (h.1 (cell_rank g k v) (cell_key v a b fits)));
+            first = λ v fits. never_less (rank_cmp (cell_rank g k v) (cell_rank g k u)) (subst (λ q. is_before (cell_rank g k v) q ≡ false) is (h.1 (cell_rank g k v) (cell_key v a b fits)));
           },
           is,
         )
@@ -145,7 +137,7 @@ module _ (g : Rulebook) (k : Cell) (ready : IsReady g k) where
 
     apart : IsRanked (grid (best_at t))
     apart =
-        let P : Entries → Type 0 = IsRanked in
+        let P : CarryMatrix → Type 0 = IsRanked in
         subst P (sym (grid_same (best_at t) (λ a b. ranked (good.keys a) (good.keys a b)) (λ a b la lb. best-ranked ls (good.keys a) (entry_at t a b) (good.keys a b) (good.held a b la lb))))
         (table_of_ranked good.keys (least-rows_apart (ground_of g k) (one_shape k.pin) 0 root good.keys good.least))
 
@@ -161,7 +153,7 @@ module _ (g : Rulebook) (k : Cell) (ready : IsReady g k) where
   module _ (ls : List (List ℕ)) (t : Table) (good : IsGood (ground_of g k) (one_shape k.pin) 0 root ls t) where
     pub root-ranked : IsRanked (grid (best_at t))
     root-ranked =
-        let P : Entries → Type 0 = IsRanked in
+        let P : CarryMatrix → Type 0 = IsRanked in
         subst P (sym (grid_same (best_at t) (λ a b. ranked (good.keys a) (good.keys a b)) (λ a b la lb. best-ranked ls (good.keys a) (entry_at t a b) (good.keys a b) (good.held a b la lb))))
         (table_of_ranked good.keys (least-rows_apart (ground_of g k) (one_shape k.pin) 0 root good.keys good.least))
 

@@ -6,7 +6,7 @@ use Rattle.std.proofs.lemmas.Bool.Decides.{nat_tests}
 use Rattle.std.proofs.lemmas.List.{length-append, get_or_append_left, get_or_at, get_or_past, length_push, length-take-le, take-append-drop, drop_more}
 use Rattle.least_cost.specs.declared.rule_lists.Rope.{Rope}
 use Rattle.least_cost.specs.declared.rule_lists.Rope.TheVariants.{Top, Both}
-use Rattle.least_cost.specs.RuleLists.{Extends, HasRope, HasText, rope_text, text_before, text_of, texts}
+use Rattle.least_cost.specs.RuleLists.{Extends, HasRope, HasText, rope_text, text_before, rule_list_of, texts}
 
 -- ---- more lists
 
@@ -29,7 +29,7 @@ HasRope-more ls ms (Both first second) x more h = (h.0, h.1, HasText-more ls ms 
 
 -- ---- lists of ropes
 
-pub HasText-is : (ls : List (List ℕ)) (o : Option ℕ) (x : List ℕ) → HasText ls o x → text_of ls o ≡ x
+pub HasText-is : (ls : List (List ℕ)) (o : Option ℕ) (x : List ℕ) → HasText ls o x → rule_list_of ls o ≡ x
 HasText-is ls None x h = sym h
 HasText-is ls (Some i) x h = h.1
 
@@ -83,7 +83,7 @@ module _ (ropes : List Rope) (i : ℕ) (d : Rope) (low : i < length ropes) where
       let h = texts-more (texts [] (take i ropes) ++ rope_text (texts [] (take i ropes)) (get_or ropes i d) ∷ []) (drop (i + 1) ropes) in
       (h.0, split_at ∙ h.1 ∙ append_assoc (texts [] (take i ropes)) (rope_text (texts [] (take i ropes)) (get_or ropes i d) ∷ []) h.0)
 
-  before_is : (o : Option ℕ) → text_before (texts [] ropes) i o ≡ text_of (texts [] (take i ropes)) o
+  before_is : (o : Option ℕ) → text_before (texts [] ropes) i o ≡ rule_list_of (texts [] (take i ropes)) o
   before_is None = refl
   before_is (Some n) = elim (cases_lt n i) [
     | inl less ↦
@@ -98,15 +98,15 @@ module _ (ropes : List Rope) (i : ℕ) (d : Rope) (low : i < length ropes) where
         ap (λ b. if b then get_or (texts [] ropes) n [] else []) off ∙ sym (get_or_past (texts [] (take i ropes)) n [] (omega (arith, long)))
   ]
 
-  pub text_at : text_of (texts [] ropes) (Some i) ≡ rope_text (texts [] (take i ropes)) (get_or ropes i d)
+  pub text_at : rule_list_of (texts [] ropes) (Some i) ≡ rope_text (texts [] (take i ropes)) (get_or ropes i d)
   text_at = ap (λ l. get_or l i []) whole.1 ∙ get_or_at (texts [] (take i ropes)) (rope_text (texts [] (take i ropes)) (get_or ropes i d)) whole.0 [] i front-long
 
-  pub text_top : (rule : ℕ) (kids : Option ℕ) → get_or ropes i d ≡ Top rule kids → text_of (texts [] ropes) (Some i) ≡ rule ∷ text_before (texts [] ropes) i kids
+  pub text_top : (rule : ℕ) (kids : Option ℕ) → get_or ropes i d ≡ Top rule kids → rule_list_of (texts [] ropes) (Some i) ≡ rule ∷ text_before (texts [] ropes) i kids
   text_top rule kids e = text_at ∙ ap (rope_text (texts [] (take i ropes))) e ∙ ap (λ l. rule ∷ l) (sym (before_is kids))
 
-  pub text_both : (first second : Option ℕ) → get_or ropes i d ≡ Both first second → text_of (texts [] ropes) (Some i) ≡ text_before (texts [] ropes) i first ++ text_before (texts [] ropes) i second
+  pub text_both : (first second : Option ℕ) → get_or ropes i d ≡ Both first second → rule_list_of (texts [] ropes) (Some i) ≡ text_before (texts [] ropes) i first ++ text_before (texts [] ropes) i second
   text_both first second e = text_at ∙ ap (rope_text (texts [] (take i ropes))) e ∙ (λ j. sym (before_is first) j ++ sym (before_is second) j)
 
 -- a number that no list has
-pub text_none : (ropes : List Rope) (i : ℕ) → length ropes ≤ i → text_of (texts [] ropes) (Some i) ≡ []
+pub text_none : (ropes : List Rope) (i : ℕ) → length ropes ≤ i → rule_list_of (texts [] ropes) (Some i) ≡ []
 text_none ropes i h = let long = texts-long ropes in get_or_past (texts [] ropes) i [] (omega (arith, long))

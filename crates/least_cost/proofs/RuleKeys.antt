@@ -7,16 +7,19 @@ use Rattle.rhythm_base.specs.declared.rule.Rule.{Rule}
 use Rattle.rhythm_base.specs.Cost.{charges, weight_of, weights}
 use Rattle.rhythm_base.specs.Forest.{Forest, none, more, preorder}
 use Rattle.rhythm_base.specs.Leaves.{in_bar}
-use Rattle.rhythm_base.specs.Outline.{Outline, end, part}
+use Rattle.rhythm_base.specs.Shape.{Shape}
 use Rattle.rhythm_base.specs.Ranked.{Key, is_before, plus}
 use Rattle.rhythm_base.specs.Shapes.{parts_in}
-use Rattle.rhythm_base.specs.Trees.{Part, are_shaped, are_trees, children, children_of, leaf_of, leaves, leaves_at, suits}
-use Rattle.rhythm_laws.specs.Forests.{Ground, IsForestKey, Stands, forest_cost, has_shapes, one_shape}
+use Rattle.rhythm_base.specs.Bodies.{children}
+use Rattle.rhythm_base.specs.Trees.{BarLeaf, are_shaped, are_trees, children_of, leaf_of, leaves, leaves_at, suits}
+use Rattle.rhythm_laws.specs.Forests.{Ground, IsForestKey, StandsInBar, forest_cost, has_shapes, one_shape}
 use Rattle.rhythm_laws.specs.Places.{FitsAt}
 use Rattle.rhythm_laws.specs.Tables.{IsLeastKey}
 use Rattle.rhythm_laws.proofs.KeyOrders.{itself, keys_total, long_parse, plus_above}
-use Rattle.rhythm_laws.proofs.LeastKeys.{IsLeast-same, Some-below}
+use Rattle.rhythm_laws.specs.Rows.{IsOneBelow}
+use Rattle.rhythm_laws.proofs.LeastKeys.{IsLeast-same}
 use Rattle.rhythm_laws.proofs.Ranks.{both}
+use Rattle.rhythm_laws.proofs.ShapesOfTrees.{one_shape_of, parts-many}
 use Rattle.least_cost.specs.RuleChoices.{IsRuleKey}
 use Rattle.least_cost.proofs.Merging.{on_top}
 
@@ -28,13 +31,13 @@ suits-within rules q r e = go (slice_get rules r) refl e
     go None e h = absurd (cc)
     go (Some rule) e h = slice_get_within rules r rule e
 
-pub rules-whole : (d : Ground) (pin : Option Outline) (p : ℕ) (q : ℕ × ℕ) (a b : ℕ) (o : Option Key) → IsLeastKey (Some-below (λ r. IsRuleKey d pin p q r a b) (length d.book.rules)) o
+pub rules-whole : (d : Ground) (pin : Option Shape) (p : ℕ) (q : ℕ × ℕ) (a b : ℕ) (o : Option Key) → IsLeastKey (IsOneBelow (λ r. IsRuleKey d pin p q r a b) (length d.book.rules)) o
     → IsLeastKey (IsForestKey d (one_shape pin) p (q ∷ []) a b) o
 rules-whole d pin p q a b o h =
-    IsLeast-same (Some-below (λ r. IsRuleKey d pin p q r a b) (length d.book.rules)) (IsForestKey d (one_shape pin) p (q ∷ []) a b) o
+    IsLeast-same (IsOneBelow (λ r. IsRuleKey d pin p q r a b) (length d.book.rules)) (IsForestKey d (one_shape pin) p (q ∷ []) a b) o
     (λ k x. (more x.0 x.2.0 none, x.2.1, x.2.2)) back h
   where
-    back : (k : Key) → IsForestKey d (one_shape pin) p (q ∷ []) a b k → Some-below (λ r. IsRuleKey d pin p q r a b) (length d.book.rules) k
+    back : (k : Key) → IsForestKey d (one_shape pin) p (q ∷ []) a b k → IsOneBelow (λ r. IsRuleKey d pin p q r a b) (length d.book.rules) k
     back k (none, stands, is) = let no : false ≡ true = stands.trees in absurd (cc)
     back k (more r f none, stands, is) = (r, suits-within d.book.rules q r (both (suits (slice_get d.book.rules r) q) _ stands.trees).0, (f, stands, is))
     back k (more r f (more r' f' rest), stands, is) =
@@ -43,7 +46,7 @@ rules-whole d pin p q a b o h =
         absurd (cc)
 
 -- a rule that does not suit
-pub unsuited-least : (d : Ground) (pin : Option Outline) (p : ℕ) (q : ℕ × ℕ) (r a b : ℕ) → suits (slice_get d.book.rules r) q ≡ false → IsLeastKey (IsRuleKey d pin p q r a b) None
+pub unsuited-least : (d : Ground) (pin : Option Shape) (p : ℕ) (q : ℕ × ℕ) (r a b : ℕ) → suits (slice_get d.book.rules r) q ≡ false → IsLeastKey (IsRuleKey d pin p q r a b) None
 unsuited-least d pin p q r a b e k (f, stands, is) = let on = (both (suits (slice_get d.book.rules r) q) _ stands.trees).0 in absurd (cc)
 
 -- trees of one symbol are one tree
@@ -58,18 +61,10 @@ single_tree rules q (more r f (more r' f' rest)) h =
 -- ---- shapes
 
 -- trees of a shape are as many as its parts
-trees-parts : (rules : List Rule) (x : Outline) (qs : List (ℕ × ℕ)) (f : Forest) → are_trees rules qs f ≡ true → are_shaped x f ≡ true → parts_in x ≡ length qs
-trees-parts rules end [] none h s = refl
-trees-parts rules end (q ∷ qs) none h s = absurd (cc)
-trees-parts rules end qs (more r f rest) h s = absurd (cc)
-trees-parts rules (part x xs) qs none h s = absurd (cc)
-trees-parts rules (part x xs) [] (more r f rest) h s = absurd (cc)
-trees-parts rules (part x xs) (q ∷ qs) (more r f rest) h s =
-    let below = (both (suits (slice_get rules r) q) _ h).1 in
-    let others = trees-parts rules xs qs rest (both (are_trees rules (children_of (slice_get rules r) q.0) f) _ below).1 (both (are_shaped x f) _ s).1 in
-    omega (arith, others)
+trees-parts : (rules : List Rule) (x : Shape) (qs : List (ℕ × ℕ)) (f : Forest) → are_trees rules qs f ≡ true → are_shaped x f ≡ true → parts_in x ≡ length qs
+trees-parts rules x qs f h s = ap parts_in ((one_shape_of x f).0 s) ∙ parts-many rules qs f h
 
-pub top_shape : (pin : Option Outline) (r : ℕ) (f : Forest) → has_shapes (one_shape pin) (more r f none) ≡ has_shapes pin f
+pub top_shape : (pin : Option Shape) (r : ℕ) (f : Forest) → has_shapes (one_shape pin) (more r f none) ≡ has_shapes pin f
 top_shape None r f = refl
 top_shape (Some x) r f = go (are_shaped x f)
   where
@@ -78,7 +73,7 @@ top_shape (Some x) r f = go (are_shaped x f)
     go false = refl
 
 -- a rule with another number of parts than the pin
-pub unshaped-least : (d : Ground) (x : Outline) (p : ℕ) (q : ℕ × ℕ) (r a b : ℕ) → parts_in x ≢ length (children_of (slice_get d.book.rules r) q.0) → IsLeastKey (IsRuleKey d (Some x) p q r a b) None
+pub unshaped-least : (d : Ground) (x : Shape) (p : ℕ) (q : ℕ × ℕ) (r a b : ℕ) → parts_in x ≢ length (children_of (slice_get d.book.rules r) q.0) → IsLeastKey (IsRuleKey d (Some x) p q r a b) None
 unshaped-least d x p q r a b other k (f, stands, is) =
     let below = (both (suits (slice_get d.book.rules r) q) _ stands.trees).1 in
     other (trees-parts d.book.rules x (children_of (slice_get d.book.rules r) q.0) f (both (are_trees d.book.rules (children_of (slice_get d.book.rules r) q.0) f) _ below).0 (sym (top_shape (Some x) r f) ∙ stands.shaped))
@@ -106,7 +101,7 @@ top_leaves : (d : Ground) (p : ℕ) (q : ℕ × ℕ) (r : ℕ) (f : Forest)
     → leaves d.book.rules p (q ∷ []) (more r f none) ≡ leaves_at (slice_get d.book.rules r) p q.0 ++ leaves d.book.rules p (children_of (slice_get d.book.rules r) q.0) f
 top_leaves d p q r f = ap (λ l. leaves_at (slice_get d.book.rules r) p q.0 ++ l) (append-nil (leaves d.book.rules p (children_of (slice_get d.book.rules r) q.0) f))
 
-module _ (d : Ground) (pin : Option Outline) (p : ℕ) (q : ℕ × ℕ) (r a b : ℕ) (rule : Rule) (at : slice_get d.book.rules r ≡ Some rule) (suit : suits (Some rule) q ≡ true) where
+module _ (d : Ground) (pin : Option Shape) (p : ℕ) (q : ℕ × ℕ) (r a b : ℕ) (rule : Rule) (at : slice_get d.book.rules r ≡ Some rule) (suit : suits (Some rule) q ≡ true) where
   suited : suits (slice_get d.book.rules r) q ≡ true
   suited = ap (λ o. suits o q) at ∙ suit
 
@@ -128,14 +123,14 @@ module _ (d : Ground) (pin : Option Outline) (p : ℕ) (q : ℕ × ℕ) (r a b :
     cut_key : (f : Forest) → (forest_cost d p (q ∷ []) (more r f none), preorder (more r f none)) ≡ plus (rule.weight, r ∷ []) (forest_cost d p (children rule.body q.0) f, preorder f)
     cut_key f = λ i. (cut_cost f i, append-nil (r ∷ preorder f) i)
 
-    down : (f : Forest) → Stands d (one_shape pin) p (q ∷ []) (more r f none) a b → Stands d pin p (children rule.body q.0) f a b
+    down : (f : Forest) → StandsInBar d (one_shape pin) p (q ∷ []) (more r f none) a b → StandsInBar d pin p (children rule.body q.0) f a b
     down f h = record {
       trees = ap (λ qs. are_trees d.book.rules qs f) (sym kids) ∙ (both (are_trees d.book.rules (children_of (slice_get d.book.rules r) q.0) f) _ (both (suits (slice_get d.book.rules r) q) _ h.trees).1).0;
       shaped = sym (top_shape pin r f) ∙ h.shaped;
       fits = subst (λ l. FitsAt d.book.resolution d.bar d.chords d.before p l a b) (cut_leaves f) h.fits;
     }
 
-    up : (f : Forest) → Stands d pin p (children rule.body q.0) f a b → Stands d (one_shape pin) p (q ∷ []) (more r f none) a b
+    up : (f : Forest) → StandsInBar d pin p (children rule.body q.0) f a b → StandsInBar d (one_shape pin) p (q ∷ []) (more r f none) a b
     up f h = record {
       trees = three (suits (slice_get d.book.rules r) q) (are_trees d.book.rules (children_of (slice_get d.book.rules r) q.0) f) suited (ap (λ qs. are_trees d.book.rules qs f) kids ∙ h.trees);
       shaped = top_shape pin r f ∙ h.shaped;
@@ -155,7 +150,7 @@ module _ (d : Ground) (pin : Option Outline) (p : ℕ) (q : ℕ × ℕ) (r a b :
 
   -- ---- a leaf
 
-  module _ (x : Part) (leaf : leaf_of rule.body p q.0 ≡ x ∷ []) (end_here : children rule.body q.0 ≡ []) where
+  module _ (x : BarLeaf) (leaf : leaf_of rule.body p q.0 ≡ x ∷ []) (end_here : children rule.body q.0 ≡ []) where
     no_kids : (f : Forest) → are_trees d.book.rules (q ∷ []) (more r f none) ≡ true → f ≡ none
     no_kids f h =
         let below = (both (are_trees d.book.rules (children_of (slice_get d.book.rules r) q.0) f) _ (both (suits (slice_get d.book.rules r) q) _ h).1).0 in
@@ -166,10 +161,10 @@ module _ (d : Ground) (pin : Option Outline) (p : ℕ) (q : ℕ × ℕ) (r a b :
         go (more r f rest) h = absurd (cc)
 
     leaf_leaves : leaves d.book.rules p (q ∷ []) (more r none none) ≡ x ∷ []
-    leaf_leaves = top_leaves d p q r none ∙ (λ i. leaf_at i ++ leaves d.book.rules p ((kids ∙ end_here) i) none)
+    leaf_leaves = top_leaves d p q r none ∙ (λ i. leaf_of_ending i ++ leaves d.book.rules p ((kids ∙ end_here) i) none)
       where
-        leaf_at : leaves_at (slice_get d.book.rules r) p q.0 ≡ x ∷ []
-        leaf_at = ap (λ o. leaves_at o p q.0) at ∙ leaf
+        leaf_of_ending : leaves_at (slice_get d.book.rules r) p q.0 ≡ x ∷ []
+        leaf_of_ending = ap (λ o. leaves_at o p q.0) at ∙ leaf
 
     leaf_key : ◌≡◌ {A = Key} (forest_cost d p (q ∷ []) (more r none none), preorder (more r none none)) (rule.weight + charges d.book (in_bar d.bar (x ∷ [])) d.chords, r ∷ [])
     leaf_key =
@@ -203,5 +198,5 @@ module _ (d : Ground) (pin : Option Outline) (p : ℕ) (q : ℕ × ℕ) (r a b :
             ∙ itself keys_total (rule.weight + charges d.book (in_bar d.bar (x ∷ [])) d.chords, r ∷ [])
     leaf-least false h g = λ l y.
         let bare = no_kids y.0 y.1.trees in
-        let own : Stands d (one_shape pin) p (q ∷ []) (more r none none) a b = subst (λ f. Stands d (one_shape pin) p (q ∷ []) (more r f none) a b) bare y.1 in
+        let own : StandsInBar d (one_shape pin) p (q ∷ []) (more r none none) a b = subst (λ f. StandsInBar d (one_shape pin) p (q ∷ []) (more r f none) a b) bare y.1 in
         g refl (sym (top_shape pin r none) ∙ own.shaped) (subst (λ l. FitsAt d.book.resolution d.bar d.chords d.before p l a b) leaf_leaves own.fits)

@@ -2,7 +2,7 @@
 use Rattle.std.proofs.Common.{◌≡◌, ℕ, zero, suc, ◌<◌, ◌+◌, Bool, true, false, List, [], ◌∷◌, ◌++◌, refl, sym, ap, ◌∙◌, subst, arith}
 use Rattle.std.specs.Prelude.{Option, Some, None, if◌then◌else◌}
 use Rattle.rhythm_base.specs.declared.best.Best.{Best}
-use Rattle.rhythm_base.specs.Ranked.{Key, Keys, Sum, at, better, choice, count_under, is_before, joined, number_of, pick, product_of, ranked, sum_before, sum_key, summed, table_of, times, value_of}
+use Rattle.rhythm_base.specs.Ranked.{Key, Keys, Sum, at, better, choice, count_under, is_before, key_sum, number_of, pick, product_of, ranked, sum_before, sum_key, summed, table_of, times, value_of}
 use Rattle.rhythm_laws.proofs.Alike.{via}
 use Rattle.rhythm_laws.proofs.Picks.{Held, pick_held, times_via}
 use Rattle.rhythm_laws.proofs.Products.{RowsApart, RowsParse, grid_at, middle_is, product_is}
@@ -12,7 +12,7 @@ use Rattle.least_cost.specs.declared.entry.Entry.{Entry}
 use Rattle.least_cost.specs.declared.rule_lists.Rope.TheVariants.{Both}
 use Rattle.least_cost.specs.Entries.{IsEntryOf, IsSettled, choice_before, choice_key, nearer_of}
 use Rattle.least_cost.specs.Tables.{best_of}
-use Rattle.least_cost.specs.Products.{joined_by, nearest, paired}
+use Rattle.least_cost.specs.Products.{joined_by, nearest, entry_sum}
 use Rattle.least_cost.specs.RuleChoices.{IsRopeOf}
 use Rattle.least_cost.specs.RuleLists.{Extends, HasRope}
 use Rattle.least_cost.proofs.Ropes.{HasRope-more, HasText-more}
@@ -82,7 +82,7 @@ pick-nearest : (c : ℕ → Option Choice) (n : ℕ) → value_of (pick choice_b
 pick-nearest c zero = refl
 pick-nearest c (suc n) = better-nearer (pick choice_before c n) n (c n) ∙ ap (λ o. nearer_of o (c n)) (pick-nearest c n)
 
-pub paired-sum : (x y : Option Entry) → sum_at (paired x y) ≡ summed (best_of x) (best_of y)
+pub paired-sum : (x y : Option Entry) → sum_at (entry_sum x y) ≡ summed (best_of x) (best_of y)
 paired-sum None y = refl
 paired-sum (Some x) None = refl
 paired-sum (Some x) (Some y) = refl
@@ -104,12 +104,12 @@ numbers-same (Some x) = refl
 module _ (ls : List (List ℕ)) (K L : Keys) (parse : RowsParse K) (apart : RowsApart K) (E F : ℕ → ℕ → Option Entry)
     (left : (a m : ℕ) → a < 5 → m < 5 → IsEntryOf ls (K a) (E a m) (K a m)) (right : (m b : ℕ) → m < 5 → b < 5 → IsEntryOf ls (L m) (F m b) (L m b)) where
   picked : ℕ → ℕ → Option (ℕ × Choice)
-  picked a b = pick choice_before (λ m. paired (E a m) (F m b)) 5
+  picked a b = pick choice_before (λ m. entry_sum (E a m) (F m b)) 5
 
-  picked-choice : (a b : ℕ) → a < 5 → b < 5 → summed_choice (pick choice_before (λ m. paired (E a m) (F m b)) 5) ≡ choice (table_of K) (table_of L) a b
+  picked-choice : (a b : ℕ) → a < 5 → b < 5 → summed_choice (pick choice_before (λ m. entry_sum (E a m) (F m b)) 5) ≡ choice (table_of K) (table_of L) a b
   unfolding choice
   picked-choice a b la lb =
-      pick-sums (λ m. paired (E a m) (F m b)) (λ m. summed (at (table_of K) a m) (at (table_of L) m b)) 5
+      pick-sums (λ m. entry_sum (E a m) (F m b)) (λ m. summed (at (table_of K) a m) (at (table_of L) m b)) 5
       (λ m lm.
       let one : best_of (E a m) ≡ at (table_of K) a m = best-ranked ls (K a) (E a m) (K a m) (left a m la lm) ∙ sym (grid_at (λ a b. ranked (K a) (K a b)) a m la lm) in
       let two : best_of (F m b) ≡ at (table_of L) m b = best-ranked ls (L m) (F m b) (L m b) (right m b lm lb) ∙ sym (grid_at (λ a b. ranked (L a) (L a b)) m b lm lb) in
@@ -118,8 +118,8 @@ module _ (ls : List (List ℕ)) (K L : Keys) (parse : RowsParse K) (apart : Rows
   joined_key : (a b : ℕ) → a < 5 → b < 5 → sum_key (choice (table_of K) (table_of L) a b) ≡ choice_key (joined_by (E a) (λ m. F m b))
   unfolding joined_by
   joined_key a b la lb =
-      ap sum_key (sym (picked-choice a b la lb)) ∙ key-sums (pick choice_before (λ m. paired (E a m) (F m b)) 5)
-      ∙ ap choice_key (pick-nearest (λ m. paired (E a m) (F m b)) 5)
+      ap sum_key (sym (picked-choice a b la lb)) ∙ key-sums (pick choice_before (λ m. entry_sum (E a m) (F m b)) 5)
+      ∙ ap choice_key (pick-nearest (λ m. entry_sum (E a m) (F m b)) 5)
 
   -- costs and ranks of the choices are those of the product of keys
   pub joined-ranked : (a b : ℕ) → a < 5 → b < 5 → ranked (times K L a) (times K L a b) ≡ ranked (λ n. choice_key (joined_by (E a) (λ m. F m n))) (choice_key (joined_by (E a) (λ m. F m b)))
@@ -134,19 +134,19 @@ module _ (ls : List (List ℕ)) (K L : Keys) (parse : RowsParse K) (apart : Rows
   pub joined-rope : (a b : ℕ) → a < 5 → b < 5 → IsRopeOf ls (joined_by (E a) (λ m. F m b)) (times K L a b)
   unfolding joined_by
   joined-rope a b la lb =
-      let o : Option (ℕ × Choice) = pick choice_before (λ m. paired (E a m) (F m b)) 5 in
+      let o : Option (ℕ × Choice) = pick choice_before (λ m. entry_sum (E a m) (F m b)) 5 in
       let P : Option Choice → Type 0 = λ c. IsRopeOf ls c (times K L a b) in
       let Q : Option Key → Type 0 = λ k. IsRopeOf ls (value_of o) k in
-      subst P (pick-nearest (λ m. paired (E a m) (F m b)) 5)
+      subst P (pick-nearest (λ m. entry_sum (E a m) (F m b)) 5)
       (subst Q (sym (times_via K L a b ∙ ap (via (K a) L b) same_number)) (go o held))
     where
-      same_number : number_of (pick is_before (λ m. joined (K a m) (L m b)) 5) ≡ number_of (pick choice_before (λ m. paired (E a m) (F m b)) 5)
-      same_number = middle_is K L parse apart a b la lb ∙ ap number_of (sym (picked-choice a b la lb)) ∙ numbers-same (pick choice_before (λ m. paired (E a m) (F m b)) 5)
+      same_number : number_of (pick is_before (λ m. key_sum (K a m) (L m b)) 5) ≡ number_of (pick choice_before (λ m. entry_sum (E a m) (F m b)) 5)
+      same_number = middle_is K L parse apart a b la lb ∙ ap number_of (sym (picked-choice a b la lb)) ∙ numbers-same (pick choice_before (λ m. entry_sum (E a m) (F m b)) 5)
 
-      held : Held (λ m. paired (E a m) (F m b)) 5 (pick choice_before (λ m. paired (E a m) (F m b)) 5)
-      held = pick_held choice_before (λ m. paired (E a m) (F m b)) 5
+      held : Held (λ m. entry_sum (E a m) (F m b)) 5 (pick choice_before (λ m. entry_sum (E a m) (F m b)) 5)
+      held = pick_held choice_before (λ m. entry_sum (E a m) (F m b)) 5
 
-      both : (c : Choice) (x y : Option Entry) (r s : ℕ → Option Key) (k l : Option Key) → paired x y ≡ Some c → IsEntryOf ls r x k → IsEntryOf ls s y l → IsRopeOf ls (Some c) (joined k l)
+      both : (c : Choice) (x y : Option Entry) (r s : ℕ → Option Key) (k l : Option Key) → entry_sum x y ≡ Some c → IsEntryOf ls r x k → IsEntryOf ls s y l → IsRopeOf ls (Some c) (key_sum k l)
       both c None y r s k l e h g = absurd (cc)
       both c (Some x) None r s k l e h g = absurd (cc)
       both c (Some x) (Some y) r s None l e h g = absurd h
@@ -155,6 +155,6 @@ module _ (ls : List (List ℕ)) (K L : Keys) (parse : RowsParse K) (apart : Rows
           let is : record { cost = x.cost + y.cost; major = x.rank; minor = y.rank; rope = Both x.list y.list } ≡ c = cc in
           subst (λ (d : Choice). HasRope ls d.rope (k.1 ++ l.1)) is (k.1, l.1, h.2, g.2, refl)
 
-      go : (o : Option (ℕ × Choice)) → Held (λ m. paired (E a m) (F m b)) 5 o → IsRopeOf ls (value_of o) (via (K a) L b (number_of o))
+      go : (o : Option (ℕ × Choice)) → Held (λ m. entry_sum (E a m) (F m b)) 5 o → IsRopeOf ls (value_of o) (via (K a) L b (number_of o))
       go None h = tt
       go (Some x) h = both x.1 (E a x.0) (F x.0 b) (K a) (L x.0) (K a x.0) (L x.0 b) h.1 (left a x.0 la h.0) (right x.0 b h.0 lb)

@@ -1,7 +1,7 @@
 -- What is held of an interval: the least cost for each number of chords carried in and out, its place in the row, and the
 -- number of its rule list. And what the choices stand for that entries are made of.
 use Rattle.std.specs.Prelude.{⊤, ◌≡◌, ℕ, ◌<◌, ◌&&◌, ◌||◌, ◌==◌, Bool, nat_lt, if◌then◌else◌, List, [], ◌∷◌, slice_index_or, Option, Some, None}
-use Rattle.rhythm_base.specs.Outline.{Outline}
+use Rattle.rhythm_base.specs.Shape.{Shape}
 use Rattle.rhythm_base.specs.Ranked.{Key, Keys, count_under}
 use Rattle.rhythm_laws.specs.Forests.{AreLeast, Ground}
 use Rattle.least_cost.specs.declared.entry.Entry.{Entry}
@@ -28,7 +28,7 @@ AreEntriesOf ls grid keys = (a b : ℕ) → a < 5 → b < 5 → IsEntryOf ls (ke
 
 -- these are the least of the forests of these shapes, widths and symbols from unit p on, for each number of chords carried
 -- in and out
-pub record IsGood (d : Ground) (shapes : Option Outline) (p : ℕ) (qs : List (ℕ × ℕ)) (ls : List (List ℕ)) (grid : List (List (Option Entry))) : Type 0 where
+pub record IsGood (d : Ground) (shapes : Option Shape) (p : ℕ) (qs : List (ℕ × ℕ)) (ls : List (List ℕ)) (grid : List (List (Option Entry))) : Type 0 where
   pub keys : Keys
   pub least : AreLeast d shapes p qs keys
   pub held : AreEntriesOf ls grid keys

@@ -8,7 +8,6 @@ pub mod Products
 pub mod RuleChoices
 pub mod RuleLists
 pub mod Rules
-pub mod Shares
 pub mod Spans
 pub mod TableCode
 pub mod Tables

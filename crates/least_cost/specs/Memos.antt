@@ -6,12 +6,12 @@ use Rattle.least_cost.specs.declared.entry.Entry.{Entry}
 use Rattle.least_cost.specs.declared.memo.Family.{Family}
 use Rattle.least_cost.specs.declared.memo.Found.{Found}
 use Rattle.least_cost.specs.declared.memo.Site.{Site}
-use Rattle.least_cost.specs.declared.memo.Site.TheVariants.{From, Sounding, Silent}
+use Rattle.least_cost.specs.declared.memo.Site.TheVariants.{From, Inner, Silent}
 
 -- the w units from the unit p on lie there
 abbrev pub LiesAt : Ground → Site → ℕ → ℕ → Type 0
 LiesAt d (From q) p w = p ≡ q
-LiesAt d Sounding p w = IsSounding d p w
+LiesAt d Inner p w = IsSounding d p w
 LiesAt d Silent p w = IsSilent d p w
 
 -- this number is that of entries that were found for the family

@@ -6,10 +6,10 @@ use Rattle.least_cost.specs.declared.rule_lists.Rope.TheVariants.{Both}
 use Rattle.least_cost.specs.Entries.{nearer_of}
 
 -- one entry and another: their costs add up, and the list of the second stands behind that of the first
-abbrev pub paired : Option Entry → Option Entry → Option Choice
-paired None y = None
-paired (Some x) None = None
-paired (Some x) (Some y) = Some (record { cost = x.cost + y.cost; major = x.rank; minor = y.rank; rope = Both x.list y.list })
+abbrev pub entry_sum : Option Entry → Option Entry → Option Choice
+entry_sum None y = None
+entry_sum (Some x) None = None
+entry_sum (Some x) (Some y) = Some (record { cost = x.cost + y.cost; major = x.rank; minor = y.rank; rope = Both x.list y.list })
 
 -- the nearest of the choices before n, and the first of those that are equally near
 abbrev pub nearest : (ℕ → Option Choice) → ℕ → Option Choice
@@ -18,4 +18,4 @@ nearest c (suc n) = nearer_of (nearest c n) (c n)
 
 -- the choice for a number carried in and a number carried out, over the count between
 unfoldable pub joined_by : (ℕ → Option Entry) → (ℕ → Option Entry) → Option Choice
-joined_by row column = nearest (λ m. paired (row m) (column m)) 5
+joined_by row column = nearest (λ m. entry_sum (row m) (column m)) 5

@@ -1,22 +1,21 @@
 -- Choices and the keys of trees that they stand for, rule by rule.
 use Rattle.std.specs.Prelude.{⊤, ◌≡◌, ℕ, ◌<◌, List, [], ◌∷◌, Option, Some, None}
 use Rattle.rhythm_base.specs.Forest.{Forest, none, more, preorder}
-use Rattle.rhythm_base.specs.Outline.{Outline}
+use Rattle.rhythm_base.specs.Shape.{Shape}
 use Rattle.rhythm_base.specs.Ranked.{Key, Keys}
-use Rattle.rhythm_laws.specs.Forests.{Ground, Stands, forest_cost, one_shape}
+use Rattle.rhythm_laws.specs.Forests.{Ground, StandsInBar, forest_cost, one_shape}
 use Rattle.rhythm_laws.specs.Tables.{IsLeastKey}
-use Rattle.rhythm_laws.proofs.Alike.{AreAlike}
-use Rattle.rhythm_laws.proofs.LeastKeys.{Some-below}
+use Rattle.rhythm_laws.specs.Rows.{AreAlike, IsOneBelow}
 use Rattle.least_cost.specs.declared.choice.Choice.{Choice}
 use Rattle.least_cost.specs.Entries.{choice_key}
 use Rattle.least_cost.specs.RuleLists.{HasRope}
 
 -- the key of a tree with the rule r on top
-abbrev pub IsRuleKey : Ground → Option Outline → ℕ → ℕ × ℕ → ℕ → ℕ → ℕ → Key → Type 0
-IsRuleKey d pin p q r a b k = (f : Forest) × Stands d (one_shape pin) p (q ∷ []) (more r f none) a b × (k ≡ (forest_cost d p (q ∷ []) (more r f none), preorder (more r f none)))
+abbrev pub IsRuleKey : Ground → Option Shape → ℕ → ℕ × ℕ → ℕ → ℕ → ℕ → Key → Type 0
+IsRuleKey d pin p q r a b k = (f : Forest) × StandsInBar d (one_shape pin) p (q ∷ []) (more r f none) a b × (k ≡ (forest_cost d p (q ∷ []) (more r f none), preorder (more r f none)))
 
 -- no tree has the rule i on top
-abbrev pub HasNoTree : Ground → Option Outline → ℕ → ℕ × ℕ → ℕ → Type 0
+abbrev pub HasNoTree : Ground → Option Shape → ℕ → ℕ × ℕ → ℕ → Type 0
 HasNoTree d pin p q i = (a b : ℕ) → IsLeastKey (IsRuleKey d pin p q i a b) None
 
 -- the choice's list is the key's
@@ -38,13 +37,13 @@ pub record AreChoicesOf (P : ℕ → Type 0) (ls : List (List ℕ)) (C : ℕ →
   pub marked : (a b : ℕ) → a < 5 → b < 5 → IsMarked P (C a b) (N a b)
 
 -- the choices of the trees with a rule before i on top
-pub record IsBestBelow (d : Ground) (pin : Option Outline) (p : ℕ) (q : ℕ × ℕ) (i : ℕ) (ls : List (List ℕ)) (C : ℕ → ℕ → Option Choice) : Type 0 where
+pub record IsBestBelow (d : Ground) (pin : Option Shape) (p : ℕ) (q : ℕ × ℕ) (i : ℕ) (ls : List (List ℕ)) (C : ℕ → ℕ → Option Choice) : Type 0 where
   pub keys : Keys
-  pub least : (a b : ℕ) → a < 5 → b < 5 → IsLeastKey (Some-below (λ r. IsRuleKey d pin p q r a b) i) (keys a b)
+  pub least : (a b : ℕ) → a < 5 → b < 5 → IsLeastKey (IsOneBelow (λ r. IsRuleKey d pin p q r a b) i) (keys a b)
   pub choices : AreChoicesOf (λ m. m < i) ls C keys
 
 -- the choices of the trees with the rule i on top
-pub record AreRuleChoices (d : Ground) (pin : Option Outline) (p : ℕ) (q : ℕ × ℕ) (i : ℕ) (ls : List (List ℕ)) (D : ℕ → ℕ → Option Choice) : Type 0 where
+pub record AreRuleChoices (d : Ground) (pin : Option Shape) (p : ℕ) (q : ℕ × ℕ) (i : ℕ) (ls : List (List ℕ)) (D : ℕ → ℕ → Option Choice) : Type 0 where
   pub keys : Keys
   pub least : (a b : ℕ) → a < 5 → b < 5 → IsLeastKey (IsRuleKey d pin p q i a b) (keys a b)
   pub choices : AreChoicesOf (λ m. m ≡ i) ls D keys

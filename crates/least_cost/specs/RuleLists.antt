@@ -4,14 +4,14 @@ use Rattle.least_cost.specs.declared.rule_lists.Rope.{Rope}
 use Rattle.least_cost.specs.declared.rule_lists.Rope.TheVariants.{Top, Both}
 
 -- the list of a number, and no rules where there is none
-abbrev pub text_of : List (List ℕ) → Option ℕ → List ℕ
-text_of ls None = []
-text_of ls (Some i) = slice_index_or ls i []
+abbrev pub rule_list_of : List (List ℕ) → Option ℕ → List ℕ
+rule_list_of ls None = []
+rule_list_of ls (Some i) = slice_index_or ls i []
 
 -- what a rope says, by the lists that are kept
 abbrev pub rope_text : List (List ℕ) → Rope → List ℕ
-rope_text ls (Top rule kids) = rule ∷ text_of ls kids
-rope_text ls (Both first second) = text_of ls first ++ text_of ls second
+rope_text ls (Top rule kids) = rule ∷ rule_list_of ls kids
+rope_text ls (Both first second) = rule_list_of ls first ++ rule_list_of ls second
 
 -- the lists of ropes, each by those before it
 abbrev pub texts : List (List ℕ) → List Rope → List (List ℕ)

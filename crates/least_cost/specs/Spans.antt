@@ -9,9 +9,9 @@ AreSpansBelow rules n first end =
     (i : ℕ) (d : Rule) → i < n → i < length rules
     → (slice_index_or first (slice_index_or rules i d).lhs 0 ≤ i) × (i < slice_index_or end (slice_index_or rules i d).lhs 0)
 
-abbrev pub AreSpans : List Rule → Spans → Type 0
-AreSpans rules s = AreSpansBelow rules (length rules) s.first s.end
+abbrev pub AreRuleSpans : List Rule → Spans → Type 0
+AreRuleSpans rules s = AreSpansBelow rules (length rules) s.first s.end
 
 -- each rule of the symbol has a number from the first on, and below the end
-abbrev pub IsSpan : List Rule → ℕ → ℕ → ℕ → Type 0
-IsSpan rules symbol first end = (i : ℕ) (d : Rule) → i < length rules → (slice_index_or rules i d).lhs ≡ symbol → (first ≤ i) × (i < end)
+abbrev pub IsRuleSpan : List Rule → ℕ → ℕ → ℕ → Type 0
+IsRuleSpan rules symbol first end = (i : ℕ) (d : Rule) → i < length rules → (slice_index_or rules i d).lhs ≡ symbol → (first ≤ i) × (i < end)

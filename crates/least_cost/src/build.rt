@@ -2,8 +2,8 @@ ghost use Rattle.least_cost.specs.Entries.{IsGood, entry_at, entry_in};
 ghost use Rattle.least_cost.specs.Nodes.{AreFound, IsAnswerAt, IsReady, IsWithin};
 ghost use Rattle.least_cost.specs.Pins.{demanded};
 ghost use Rattle.least_cost.specs.Tables.{best_at, best_of, written, written_at};
-ghost use Rattle.rhythm_base.specs.Cell.{IsCell};
-ghost use Rattle.rhythm_base.specs.CellTables.{IsTable};
+ghost use Rattle.rhythm_base.specs.BarInput.{IsBarInput};
+ghost use Rattle.rhythm_base.specs.BarTables.{IsTable};
 ghost use Rattle.rhythm_base.specs.Counter.{risen};
 ghost use Rattle.rhythm_base.specs.Paths.{AreLow, IsRanked};
 ghost use Rattle.rhythm_base.specs.Ranked.{five, grid};
@@ -66,7 +66,7 @@ fn build(alloc: Global, grammar: &Grammar, input: &BarInput) -> Result<BarTable,
 
 /// An equal input.
 fn copy_of(alloc: Global, input: &BarInput) -> Result<BarInput, AllocError>
-    requires { IsCell input.now }
+    requires { IsBarInput input.now }
     ensures { IfOk result (λ b. b ≡ input.now) }
 {
     let onsets = input.onsets().to_vec(alloc)?;

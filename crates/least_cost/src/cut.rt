@@ -1,6 +1,7 @@
 ghost use Rattle.std.specs.Prelude.{◌≡◌, map, nat_lt, IfOk};
 ghost use Rattle.std.specs.List.{list_all};
-ghost use Rattle.rhythm_base.specs.Trees.{can_cut, children, sizes, suits};
+ghost use Rattle.rhythm_base.specs.Bodies.{can_cut, children, sizes};
+ghost use Rattle.rhythm_base.specs.Trees.{suits};
 ghost use Rattle.least_cost.specs.Pieces.{pair_of};
 
 use rhythm_base::{Body, Rule};
@@ -35,7 +36,7 @@ fn can_cut(body: &Body, width: u16) -> bool
             let parts = portions.as_slice();
             parts.len() > 1 && are_some(parts) && width as u128 % sizes(parts).max(1) == 0
         }
-        Body::Note | Body::Short | Body::Tie | Body::Rest | Body::Grace(_) => true,
+        _ => true,
     }
 }
 
@@ -64,7 +65,7 @@ pub fn children(alloc: Global, body: &Body, width: u16) -> Result<Vec<Piece>, Al
     match body {
         Body::Split(symbols) => equal_pieces(alloc, symbols.as_slice(), width),
         Body::Parts(portions) => unequal_pieces(alloc, portions.as_slice(), width),
-        Body::Note | Body::Short | Body::Tie | Body::Rest | Body::Grace(_) => Ok(Vec::new(alloc)),
+        _ => Ok(Vec::new(alloc)),
     }
 }
 

@@ -3,14 +3,16 @@ ghost use Rattle.least_cost.specs.Entries.{Offers, choice_in, nearer_of};
 ghost use Rattle.least_cost.specs.Memos.{LiesAt};
 ghost use Rattle.least_cost.specs.Nodes.{ground_of};
 ghost use Rattle.least_cost.specs.OneLeaf.{AreChordsIn, HasHeard, SplitsAt, charge_of, leaf_of_cell};
-ghost use Rattle.rhythm_base.specs.Cell.{IsCell, IsInner};
-ghost use Rattle.rhythm_base.specs.Cells.{bar_of, last_end};
+ghost use Rattle.rhythm_base.specs.BarInput.{IsBarInput, IsInner};
+ghost use Rattle.rhythm_base.specs.Lists.{last_end};
+ghost use Rattle.rhythm_base.specs.Cells.{bar_of};
 ghost use Rattle.rhythm_base.specs.Cost.{charge, charge_in, charges};
 ghost use Rattle.rhythm_base.specs.Leaves.{goes_left, lies_in, looks, sounds};
 ghost use Rattle.rhythm_base.specs.Readable.{IsInRange};
-ghost use Rattle.rhythm_base.specs.Rulebook.{Rulebook};
+ghost use Rattle.rhythm_base.specs.Grammar.{Grammar};
 ghost use Rattle.rhythm_laws.specs.Places.{end_before, reach};
-ghost use Rattle.rhythm_laws.specs.Runs.{agreed, lefts, rights};
+ghost use Rattle.rhythm_laws.specs.Runs.{lefts, rights};
+ghost use Rattle.rhythm_base.specs.Line.{agrees};
 ghost use Rattle.std.specs.Prelude.{
   ◌≡◌,
   ◌+◌,
@@ -33,7 +35,7 @@ ghost use Rattle.std.specs.Prelude.{
 use crate::choice::{Choice, Choices, offer};
 use crate::memo::Site;
 use interval::{Attached, displacement, late, side, sounds};
-use rhythm_base::{BarInput, Body, Grammar, Inner};
+use rhythm_base::{BarInput, Ending, Grammar, Inner};
 
 /// What a leaf hears.
 #[derive(Clone, Copy)]
@@ -76,7 +78,7 @@ fn goes_on(input: &BarInput, p: u16, w: u16, onset: u64) -> bool
 
 /// Whether an onset is at or behind a unit of the bar.
 fn reaches(input: &BarInput, unit: u16, onset: u64) -> bool
-    requires cell { IsCell input.now }
+    requires cell { IsBarInput input.now }
     requires unit { unit ≤ input.now.resolution }
     requires onset { onset < input.now.length }
     ensures { result ≡ reach input.now.resolution (bar_of input.now) unit onset }
@@ -86,7 +88,7 @@ fn reaches(input: &BarInput, unit: u16, onset: u64) -> bool
 
 /// How many onsets of the bar are before a unit.
 fn count_before(input: &BarInput, unit: u16) -> usize
-    requires cell { IsCell input.now }
+    requires cell { IsBarInput input.now }
     requires unit { unit ≤ input.now.resolution }
     ensures split { SplitsAt input.now.resolution (bar_of input.now) unit input.now.chords result }
 {
@@ -106,7 +108,7 @@ fn count_before(input: &BarInput, unit: u16) -> usize
 
 /// The chords with their onsets in the leaf.
 pub fn chords_in(input: &BarInput, p: u16, w: u16) -> &[Inner]
-    requires cell { IsCell input.now }
+    requires cell { IsBarInput input.now }
     requires leaf { IsLeafOf input.now.length input.now.resolution p w }
     ensures { AreChordsIn input.now p w result.now }
 {
@@ -147,7 +149,7 @@ fn count_next(input: &BarInput, chords: &[Inner], p: u16, w: u16) -> usize
 
 /// The end of the last chord with its onset before the unit.
 fn end_before(input: &BarInput, unit: u16) -> u64
-    requires cell { IsCell input.now }
+    requires cell { IsBarInput input.now }
     requires unit { unit ≤ input.now.resolution }
     ensures value { result ≡ end_before input.now.resolution (bar_of input.now) input.now.chords input.now.before unit }
     ensures within { result ≤ input.now.length }
@@ -164,16 +166,16 @@ fn end_before(input: &BarInput, unit: u16) -> u64
 /// Where an interval lies among those of its width: where no chord begins in it, those that sound throughout are answered
 /// alike, and those that are silent throughout.
 pub fn site_of(input: &BarInput, p: u16, w: u16) -> Site
-    requires cell { IsCell input.now }
+    requires cell { IsBarInput input.now }
     requires leaf { IsLeafOf input.now.length input.now.resolution p w }
-    ensures { (g : Rulebook) → g.resolution ≡ input.now.resolution → LiesAt (ground_of g input.now) result p w }
+    ensures { (g : Grammar) → g.resolution ≡ input.now.resolution → LiesAt (ground_of g input.now) result p w }
 {
     if count_before(input, p) != count_before(input, p + w) {
         return Site::From(p);
     }
     let end = end_before(input, p) * u64::from(input.resolution());
     if u64::from(p + w) * input.length() <= end {
-        Site::Sounding
+        Site::Inner
     } else if end <= u64::from(p) * input.length() {
         Site::Silent
     } else {
@@ -200,7 +202,7 @@ fn last_own(input: &BarInput, chords: &[Inner], p: u16, w: u16, before: u64) -> 
 
 /// What the leaf of `w` units from unit `p` on hears of the chords that lie in it and of those before.
 pub fn hear(input: &BarInput, chords: &[Inner], p: u16, w: u16) -> Heard
-    requires cell { IsCell input.now }
+    requires cell { IsBarInput input.now }
     requires leaf { IsLeafOf input.now.length input.now.resolution p w }
     requires chords { AreChordsIn input.now p w chords.now }
     ensures { HasHeard input.now p w result }
@@ -216,7 +218,7 @@ pub fn hear(input: &BarInput, chords: &[Inner], p: u16, w: u16) -> Heard
 /// What an onset costs, by the leaf where it lies in it.
 fn charge(grammar: &Grammar, input: &BarInput, p: u16, w: u16, onset: u64) -> u64
     requires ranges { IsInRange grammar.now }
-    requires cell { IsCell input.now }
+    requires cell { IsBarInput input.now }
     requires units { grammar.now.resolution ≡ input.now.resolution }
     requires leaf { IsLeafOf input.now.length input.now.resolution p w }
     requires onset { onset < input.now.length }
@@ -234,7 +236,7 @@ fn charge(grammar: &Grammar, input: &BarInput, p: u16, w: u16, onset: u64) -> u6
 /// What an onset costs that is attached at a unit of the bar.
 fn charge_at(grammar: &Grammar, input: &BarInput, unit: u16, onset: u64) -> u64
     requires ranges { IsInRange grammar.now }
-    requires cell { IsCell input.now }
+    requires cell { IsBarInput input.now }
     requires units { grammar.now.resolution ≡ input.now.resolution }
     requires unit { unit ≤ input.now.resolution }
     requires onset { onset < input.now.length }
@@ -254,7 +256,7 @@ fn charge_at(grammar: &Grammar, input: &BarInput, unit: u16, onset: u64) -> u64
 /// What the onsets in the leaf cost.
 pub fn charges(grammar: &Grammar, input: &BarInput, chords: &[Inner], p: u16, w: u16) -> u64
     requires ranges { IsInRange grammar.now }
-    requires cell { IsCell input.now }
+    requires cell { IsBarInput input.now }
     requires units { grammar.now.resolution ≡ input.now.resolution }
     requires leaf { IsLeafOf input.now.length input.now.resolution p w }
     requires chords { AreChordsIn input.now p w chords.now }
@@ -268,17 +270,16 @@ pub fn charges(grammar: &Grammar, input: &BarInput, chords: &[Inner], p: u16, w:
     total
 }
 
-/// Whether the rule of a leaf agrees with so many chords attached to it, where the latest chord sounds in it or not.
-fn agrees(body: &Body, count: usize, sounds: bool) -> bool
-    ensures { result ≡ agreed body.now count sounds }
+/// Whether this ending of a leaf agrees with so many chords attached to it, where the latest chord sounds in it or not.
+fn agrees(ending: Ending, count: usize, sounds: bool) -> bool
+    ensures { result ≡ agrees ending count sounds }
 {
-    match body {
-        Body::Split(_) | Body::Parts(_) => false,
-        Body::Note => count == 1 && sounds,
-        Body::Short => count == 1 && !sounds,
-        Body::Tie => count == 0 && sounds,
-        Body::Rest => count == 0 && !sounds,
-        Body::Grace(graces) => (0 < *graces && *graces < 4) && count == *graces as usize + 1,
+    match ending {
+        Ending::Note => count == 1 && sounds,
+        Ending::Short => count == 1 && !sounds,
+        Ending::Tie => count == 0 && sounds,
+        Ending::Rest => count == 0 && !sounds,
+        Ending::Grace(graces) => (0 < graces && graces < 4) && count == graces as usize + 1,
     }
 }
 
@@ -292,34 +293,39 @@ fn offer_at(row: &mut [Option<Choice>; 5], there: bool, next: usize, choice: Cho
 }
 
 /// Offers the choice of a leaf with this rule: for each number of chords carried in with which the rule agrees.
-pub fn offer_leaf(best: &mut Choices, body: &Body, heard: Heard, choice: Choice)
+pub fn offer_leaf(best: &mut Choices, ending: Ending, heard: Heard, choice: Choice)
     requires { heard.own ≤ 4 }
-    ensures { Offers (λ a b. if agreed body.now (a + heard.own) heard.sounds && (heard.next == b) then Some choice else None) best.old best.new }
+    ensures { Offers (λ a b. if agrees ending (a + heard.own) heard.sounds && (heard.next == b) then Some choice else None) best.old best.new }
 {
     let own = heard.own;
     let next = heard.next;
-    offer_at(&mut best[0], agrees(body, own, heard.sounds), next, choice);
+    offer_at(
+        &mut best[0],
+        agrees(ending, own, heard.sounds),
+        next,
+        choice,
+    );
     offer_at(
         &mut best[1],
-        agrees(body, 1 + own, heard.sounds),
+        agrees(ending, 1 + own, heard.sounds),
         next,
         choice,
     );
     offer_at(
         &mut best[2],
-        agrees(body, 2 + own, heard.sounds),
+        agrees(ending, 2 + own, heard.sounds),
         next,
         choice,
     );
     offer_at(
         &mut best[3],
-        agrees(body, 3 + own, heard.sounds),
+        agrees(ending, 3 + own, heard.sounds),
         next,
         choice,
     );
     offer_at(
         &mut best[4],
-        agrees(body, 4 + own, heard.sounds),
+        agrees(ending, 4 + own, heard.sounds),
         next,
         choice,
     );

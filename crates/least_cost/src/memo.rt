@@ -24,7 +24,7 @@ pub enum Site {
     /// From this unit on.
     From(u16),
     /// Wherever no chord begins and one sounds throughout.
-    Sounding,
+    Inner,
     /// Wherever no chord begins and none sounds.
     Silent,
 }
@@ -62,7 +62,7 @@ pub struct Memo {
 fn bucket_of(family: Family, buckets: usize) -> usize {
     let start = match family.site {
         Site::From(place) => place as usize + 2,
-        Site::Sounding => 1,
+        Site::Inner => 1,
         Site::Silent => 0,
     };
     let mixed = (start * 37 + family.width as usize) * 67 + family.symbol as usize;

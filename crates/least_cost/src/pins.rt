@@ -1,5 +1,5 @@
 ghost use Rattle.least_cost.specs.Pins.{Grows, HasOutline, demanded, outline_at, outline_before, outlines};
-ghost use Rattle.rhythm_base.specs.Outline.{Outline, end, outline_of, part};
+ghost use Rattle.rhythm_base.specs.Shape.{Shape, end, shape_of_parts, part};
 ghost use Rattle.rhythm_laws.specs.Forests.{first_shape, has_shapes, one_shape, other_shapes};
 ghost use Rattle.rhythm_base.specs.Forest.{none};
 ghost use Rattle.std.specs.Prelude.{◌≡◌, ◌≤◌, ◌↔◌, List, true, [], Some, None, IfOk, OnOk, IsTrue, MatchOption, option_map};
@@ -34,20 +34,21 @@ pub struct Pins {
 
 impl Model for Pins {
     ghost use Rattle.least_cost.specs.Pins.{outlines};
-    ghost use Rattle.rhythm_base.specs.Outline.{Outline, outline_code};
+    ghost use Rattle.rhythm_base.specs.ShapeCode.{shape_code};
+    ghost use Rattle.rhythm_base.specs.Shape.{Shape};
     ghost use Rattle.std.specs.Coded.{coded_list};
     ghost use Rattle.std.specs.Prelude.{List, []};
 
-    ghost Value = { List Outline };
+    ghost Value = { List Shape };
 
-    ghost coded = { coded_list outline_code };
+    ghost coded = { coded_list shape_code };
 
     ghost view = { λ p. outlines [] p.parts.items };
 }
 
 /// The demand for no trees, or for those of a number.
 fn demand_of(shapes: Option<usize>) -> Demand
-    ensures { (os : List Outline) → demanded os result ≡ Some (outline_at os shapes) }
+    ensures { (os : List Shape) → demanded os result ≡ Some (outline_at os shapes) }
 {
     match shapes {
         None => Demand::Nothing,
@@ -80,7 +81,7 @@ impl Pins {
 
     fn keep(&mut self, slot: PinPart) -> Result<usize, AllocError>
         ensures more { OnOk result (Grows self.old self.new) }
-        ensures outline { IfOk result (λ n. (x y : Outline) → HasOutline self.old slot.parts x → HasOutline self.old slot.others y
+        ensures shape_of_node { IfOk result (λ n. (x y : Shape) → HasOutline self.old slot.parts x → HasOutline self.old slot.others y
             → HasOutline self.new (Some n) (part x y)) }
     {
         let number = self.parts.len();
@@ -91,7 +92,7 @@ impl Pins {
     #[cycle(keeping)]
     fn keep_all(&mut self, shapes: &[Shape]) -> Result<Option<usize>, AllocError>
         ensures more { OnOk result (Grows self.old self.new) }
-        ensures outline { IfOk result (λ n. HasOutline self.new n (outline_of shapes.now)) }
+        ensures shape_of_node { IfOk result (λ n. HasOutline self.new n (shape_of_parts shapes.now)) }
     {
         match shapes {
             [] => Ok(None),
@@ -128,7 +129,7 @@ impl Pins {
 
 /// The number where it is below another.
 fn earlier(part: Option<usize>, number: usize) -> Option<usize>
-    ensures { (os : List Outline) → outline_at os result ≡ outline_before os number part }
+    ensures { (os : List Shape) → outline_at os result ≡ outline_before os number part }
 {
     match part {
         Some(part) if part < number => Some(part),

@@ -5,7 +5,7 @@ ghost use Rattle.least_cost.specs.Entries.{
   entry_in,
   nearer_of,
 };
-ghost use Rattle.least_cost.specs.Products.{joined_by, paired};
+ghost use Rattle.least_cost.specs.Products.{joined_by, entry_sum};
 ghost use Rattle.std.specs.Prelude.{◌≡◌, ◌+◌, ◌<◌, ◌^◌, ℕ, None, Some, slice_index_or};
 ghost use Rattle.least_cost.specs.declared.entry.Entry.{Entry};
 
@@ -17,7 +17,7 @@ use crate::rule_lists::Rope;
 fn offer_pair(place: &mut Option<Choice>, left: Entry, right: &Option<Entry>)
     requires left { left.cost < 2 ^ 62 }
     requires right { (e : Entry) → right.now ≡ Some e → e.cost < 2 ^ 62 }
-    ensures { place.new ≡ nearer_of place.old (paired (Some left) right.now) }
+    ensures { place.new ≡ nearer_of place.old (entry_sum (Some left) right.now) }
 {
     if let Some(right) = right {
         offer(
@@ -40,7 +40,7 @@ fn offer_pair(place: &mut Option<Choice>, left: Entry, right: &Option<Entry>)
 fn offer_left(best: &mut [Option<Choice>; 5], left: Entry, right: &[Option<Entry>; 5])
     requires left { left.cost < 2 ^ 62 }
     requires right { (b : ℕ) (e : Entry) → b < 5 → entry_in right.now b ≡ Some e → e.cost < 2 ^ 62 }
-    ensures { (b : ℕ) → b < 5 → choice_in best.new b ≡ nearer_of (choice_in best.old b) (paired (Some left) (entry_in right.now b)) }
+    ensures { (b : ℕ) → b < 5 → choice_in best.new b ≡ nearer_of (choice_in best.old b) (entry_sum (Some left) (entry_in right.now b)) }
 {
     offer_pair(&mut best[0], left, &right[0]);
     offer_pair(&mut best[1], left, &right[1]);
@@ -54,7 +54,7 @@ fn offer_left(best: &mut [Option<Choice>; 5], left: Entry, right: &[Option<Entry
 fn offer_count(best: &mut [Option<Choice>; 5], left: &Option<Entry>, right: &[Option<Entry>; 5])
     requires left { (e : Entry) → left.now ≡ Some e → e.cost < 2 ^ 62 }
     requires right { (b : ℕ) (e : Entry) → b < 5 → entry_in right.now b ≡ Some e → e.cost < 2 ^ 62 }
-    ensures { (b : ℕ) → b < 5 → choice_in best.new b ≡ nearer_of (choice_in best.old b) (paired left.now (entry_in right.now b)) }
+    ensures { (b : ℕ) → b < 5 → choice_in best.new b ≡ nearer_of (choice_in best.old b) (entry_sum left.now (entry_in right.now b)) }
 {
     if let Some(left) = *left {
         offer_left(best, left, right);

@@ -1,4 +1,4 @@
-ghost use Rattle.least_cost.specs.RuleLists.{Extends, HasRope, HasText, text_before, text_of};
+ghost use Rattle.least_cost.specs.RuleLists.{Extends, HasRope, HasText, text_before, rule_list_of};
 ghost use Rattle.std.specs.Prelude.{◌≡◌, ◌++◌, [], ℕ, List, IfOk, OnOk, Some};
 
 use std::alloc::{AllocError, Global};
@@ -69,7 +69,7 @@ impl RuleLists {
 
     /// Writes a list behind what stands in `rules`.
     pub fn write(&self, list: Option<u32>, rules: &mut Vec<u16>) -> Result<(), AllocError>
-        ensures { OnOk result (rules.new.items ≡ rules.old.items ++ text_of self.now list) }
+        ensures { OnOk result (rules.new.items ≡ rules.old.items ++ rule_list_of self.now list) }
     {
         match list {
             None => Ok(()),
@@ -79,7 +79,7 @@ impl RuleLists {
 
     #[cycle(writing)]
     fn write_list(&self, list: usize, rules: &mut Vec<u16>) -> Result<(), AllocError>
-        ensures { OnOk result (rules.new.items ≡ rules.old.items ++ text_of self.now (Some list)) }
+        ensures { OnOk result (rules.new.items ≡ rules.old.items ++ rule_list_of self.now (Some list)) }
     {
         if list >= self.ropes.len() {
             return Ok(());

@@ -1,4 +1,4 @@
-ghost use Rattle.least_cost.specs.Spans.{AreSpans, IsSpan};
+ghost use Rattle.least_cost.specs.Spans.{AreRuleSpans, IsRuleSpan};
 ghost use Rattle.rhythm_base.specs.Readable.{IsReadable};
 ghost use Rattle.std.specs.Prelude.{◌≡◌, ◌≤◌, length};
 
@@ -22,7 +22,7 @@ impl Spans {
     /// The spans of the grammar's symbols.
     pub fn of(grammar: &Grammar) -> Spans
         requires { IsReadable grammar.now }
-        ensures { AreSpans grammar.now.rules result }
+        ensures { AreRuleSpans grammar.now.rules result }
     {
         let mut first = [u16::MAX; 256];
         let mut end = [0; 256];
@@ -37,9 +37,9 @@ impl Spans {
     /// The numbers between which all rules of the symbol lie.
     pub fn span(&self, grammar: &Grammar, symbol: u8) -> Span
         requires readable { IsReadable grammar.now }
-        requires spans { AreSpans grammar.now.rules self.now }
+        requires spans { AreRuleSpans grammar.now.rules self.now }
         ensures within { (result.first ≤ result.end) × (result.end ≤ length grammar.now.rules) }
-        ensures each { IsSpan grammar.now.rules symbol result.first result.end }
+        ensures each { IsRuleSpan grammar.now.rules symbol result.first result.end }
     {
         let count = grammar.rules.len() as u16;
         let first = self.first[symbol as usize].min(count);

@@ -1,4 +1,4 @@
-ghost use Rattle.rhythm_base.specs.CellTables.{list_at};
+ghost use Rattle.rhythm_base.specs.BarTables.{list_at};
 ghost use Rattle.std.specs.Prelude.{◌≡◌, ◌<◌, None, option_map, slice_index_or};
 
 use carry_matrix::CarryMatrix;
@@ -15,10 +15,10 @@ pub struct BarTable {
 }
 
 impl Model for BarTable {
-    ghost use Rattle.rhythm_base.specs.CellTables.{CellTable};
+    ghost use Rattle.rhythm_base.specs.BarTables.{BarTable};
     ghost use Rattle.least_cost.specs.TableCode.{table_code};
 
-    ghost Value = { CellTable };
+    ghost Value = { BarTable };
 
     ghost coded = { table_code };
 

@@ -1,7 +1,7 @@
 ghost use Rattle.least_cost.specs.Entries.{Offers, choice_in, entry_at, entry_in, nearer_of};
 ghost use Rattle.least_cost.specs.Nodes.{
   AreBeside,
-  AreBest,
+  AreBestChoices,
   AreFound,
   HasNoLeaf,
   IsAnswerAt,
@@ -9,19 +9,19 @@ ghost use Rattle.least_cost.specs.Nodes.{
   IsOf,
   IsReady,
   IsWithin,
-  cuts_at,
+  ending_at,
   ground_of,
-  is_cut,
   leaf_choice,
 };
 ghost use Rattle.least_cost.specs.Pieces.{pair_of};
 ghost use Rattle.least_cost.specs.Pins.{demanded};
 ghost use Rattle.least_cost.specs.RuleLists.{Extends};
 ghost use Rattle.least_cost.specs.Rules.{topped_of};
-ghost use Rattle.least_cost.specs.Shares.{AreBelow};
-ghost use Rattle.least_cost.specs.Spans.{AreSpans};
+ghost use Rattle.rhythm_laws.specs.Shares.{AreBelow};
+ghost use Rattle.least_cost.specs.Spans.{AreRuleSpans};
 ghost use Rattle.rhythm_base.specs.Readable.{IsInRange};
-ghost use Rattle.rhythm_base.specs.Trees.{children, sizes, suits};
+ghost use Rattle.rhythm_base.specs.Bodies.{children, sizes};
+ghost use Rattle.rhythm_base.specs.Trees.{suits};
 ghost use Rattle.std.specs.Prelude.{
   ◌≡◌,
   ◌+◌,
@@ -54,7 +54,7 @@ use crate::pins::{Demand, Pins, allows_none};
 use crate::product::product;
 use crate::rule_lists::Rope;
 use crate::spans::Spans;
-use rhythm_base::{BarInput, Body, Grammar, Rule};
+use rhythm_base::{BarInput, Ending, Grammar};
 use std::alloc::{AllocError, Global};
 
 /// A leaf over an interval: what it hears, and what its onsets cost.
@@ -82,16 +82,6 @@ fn leaf_here(grammar: &Grammar, input: &BarInput, pins: &Pins, asked: Asked) -> 
     }
     let charges = charges(grammar, input, chords, asked.place, asked.width);
     Some(LeafHere { heard, charges })
-}
-
-/// Whether the rule cuts its interval.
-fn is_cut(body: &Body) -> bool
-    ensures { result ≡ is_cut body.now }
-{
-    match body {
-        Body::Split(_) | Body::Parts(_) => true,
-        Body::Note | Body::Short | Body::Tie | Body::Rest | Body::Grace(_) => false,
-    }
 }
 
 /// Offers to a place the entry with a rule on top.
@@ -161,14 +151,20 @@ fn nothing() -> Grid
     ]
 }
 
-/// Offers the choices of a leaf with this rule, where there may be a leaf.
-fn offer_by_leaf(best: &mut Choices, leaf: Option<LeafHere>, rule: &Rule, number: u16)
+/// Offers the choices of a leaf that a rule of this weight ends so, where there may be a leaf.
+fn offer_by_leaf(
+    best: &mut Choices,
+    leaf: Option<LeafHere>,
+    ending: Ending,
+    weight: u32,
+    number: u16,
+)
     requires { (l : LeafHere) → leaf ≡ Some l → (l.charges < 2 ^ 60) × (l.heard.own ≤ 4) }
-    ensures { MatchOption leaf (best.new ≡ best.old) (λ l. Offers (leaf_choice rule.now number l) best.old best.new) }
+    ensures { MatchOption leaf (best.new ≡ best.old) (λ l. Offers (leaf_choice ending weight number l) best.old best.new) }
 {
     if let Some(leaf) = leaf {
         let choice = Choice {
-            cost: u64::from(rule.weight) + leaf.charges,
+            cost: u64::from(weight) + leaf.charges,
             major: number,
             minor: 0,
             rope: Rope::Top {
@@ -176,7 +172,7 @@ fn offer_by_leaf(best: &mut Choices, leaf: Option<LeafHere>, rule: &Rule, number
                 kids: None,
             },
         };
-        offer_leaf(best, &rule.body, leaf.heard, choice);
+        offer_leaf(best, ending, leaf.heard, choice);
     }
 }
 
@@ -206,7 +202,7 @@ pub fn least_trees(
     asked: Asked,
 ) -> Result<usize, AllocError>
     requires ready { IsReady grammar.now input.now }
-    requires spans { AreSpans grammar.now.rules spans.now }
+    requires spans { AreRuleSpans grammar.now.rules spans.now }
     requires within { IsWithin input.now asked }
     requires found { AreFound grammar.now input.now pins.now memo.old.lists memo.old.found.items }
     ensures more { OnOk result (Extends memo.old.lists memo.new.lists) }
@@ -242,15 +238,15 @@ fn by_rules(
     best: &mut Choices,
 ) -> Result<(), AllocError>
     requires ready { IsReady grammar.now input.now }
-    requires spans { AreSpans grammar.now.rules spans.now }
+    requires spans { AreRuleSpans grammar.now.rules spans.now }
     requires within { IsWithin input.now asked }
     requires leaf { MatchOption leaf (HasNoLeaf grammar.now input.now pins.now asked) (IsLeafHere grammar.now input.now pins.now asked) }
     requires small { (l : LeafHere) → leaf ≡ Some l → l.charges < 2 ^ 60 }
     requires found { AreFound grammar.now input.now pins.now memo.old.lists memo.old.found.items }
-    requires best { AreBest grammar.now input.now pins.now memo.old.lists asked 0 best.old }
+    requires best { AreBestChoices grammar.now input.now pins.now memo.old.lists asked 0 best.old }
     ensures more { OnOk result (Extends memo.old.lists memo.new.lists) }
     ensures found { OnOk result (AreFound grammar.now input.now pins.now memo.new.lists memo.new.found.items) }
-    ensures best { OnOk result (AreBest grammar.now input.now pins.now memo.new.lists asked (length grammar.now.rules) best.new) }
+    ensures best { OnOk result (AreBestChoices grammar.now input.now pins.now memo.new.lists asked (length grammar.now.rules) best.new) }
 {
     let span = spans.span(grammar, asked.symbol);
     for number in span.first..span.end {
@@ -279,28 +275,30 @@ fn by_rule(
     best: &mut Choices,
 ) -> Result<(), AllocError>
     requires ready { IsReady grammar.now input.now }
-    requires spans { AreSpans grammar.now.rules spans.now }
+    requires spans { AreRuleSpans grammar.now.rules spans.now }
     requires within { IsWithin input.now asked }
     requires number { number < length grammar.now.rules }
     requires leaf { MatchOption leaf (HasNoLeaf grammar.now input.now pins.now asked) (IsLeafHere grammar.now input.now pins.now asked) }
     requires small { (l : LeafHere) → leaf ≡ Some l → l.charges < 2 ^ 60 }
     requires found { AreFound grammar.now input.now pins.now memo.old.lists memo.old.found.items }
-    requires best { AreBest grammar.now input.now pins.now memo.old.lists asked number best.old }
+    requires best { AreBestChoices grammar.now input.now pins.now memo.old.lists asked number best.old }
     ensures more { OnOk result (Extends memo.old.lists memo.new.lists) }
     ensures found { OnOk result (AreFound grammar.now input.now pins.now memo.new.lists memo.new.found.items) }
-    ensures best { OnOk result (AreBest grammar.now input.now pins.now memo.new.lists asked (number + 1) best.new) }
+    ensures best { OnOk result (AreBestChoices grammar.now input.now pins.now memo.new.lists asked (number + 1) best.new) }
 {
     let rule = &grammar.rules[number as usize];
     if !suits(rule, asked.width, asked.symbol) {
         return Ok(());
     }
-    if !is_cut(&rule.body) {
-        offer_by_leaf(best, leaf, rule, number);
-        return Ok(());
+    match rule.body.ending() {
+        Some(ending) => {
+            offer_by_leaf(best, leaf, ending, rule.weight, number);
+            Ok(())
+        }
+        None => by_cut(
+            alloc, grammar, spans, input, pins, memo, asked, number, best,
+        ),
     }
-    by_cut(
-        alloc, grammar, spans, input, pins, memo, asked, number, best,
-    )
 }
 
 /// Offers the choices of the trees with a rule on top that cuts the interval.
@@ -318,16 +316,16 @@ fn by_cut(
     best: &mut Choices,
 ) -> Result<(), AllocError>
     requires ready { IsReady grammar.now input.now }
-    requires spans { AreSpans grammar.now.rules spans.now }
+    requires spans { AreRuleSpans grammar.now.rules spans.now }
     requires within { IsWithin input.now asked }
     requires number { number < length grammar.now.rules }
     requires suits { suits (slice_get grammar.now.rules number) (asked.width, asked.symbol) ≡ true }
-    requires cut { cuts_at grammar.now.rules number ≡ true }
+    requires cut { ending_at grammar.now.rules number ≡ None }
     requires found { AreFound grammar.now input.now pins.now memo.old.lists memo.old.found.items }
-    requires best { AreBest grammar.now input.now pins.now memo.old.lists asked number best.old }
+    requires best { AreBestChoices grammar.now input.now pins.now memo.old.lists asked number best.old }
     ensures more { OnOk result (Extends memo.old.lists memo.new.lists) }
     ensures found { OnOk result (AreFound grammar.now input.now pins.now memo.new.lists memo.new.found.items) }
-    ensures best { OnOk result (AreBest grammar.now input.now pins.now memo.new.lists asked (number + 1) best.new) }
+    ensures best { OnOk result (AreBestChoices grammar.now input.now pins.now memo.new.lists asked (number + 1) best.new) }
 {
     let rule = &grammar.rules[number as usize];
     let pieces = children(alloc, &rule.body, asked.width)?;
@@ -369,7 +367,7 @@ fn beside(
     all: &mut Grid,
 ) -> Result<bool, AllocError>
     requires ready { IsReady grammar.now input.now }
-    requires spans { AreSpans grammar.now.rules spans.now }
+    requires spans { AreRuleSpans grammar.now.rules spans.now }
     requires below { AreBelow below (map pair_of pieces.now) }
     requires within { place + sizes (map pair_of pieces.now) ≤ input.now.resolution }
     requires found { AreFound grammar.now input.now pins.now memo.old.lists memo.old.found.items }

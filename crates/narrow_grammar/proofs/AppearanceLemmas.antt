@@ -7,8 +7,8 @@ use Rattle.std.proofs.lemmas.Map.Views.{any-filter_same}
 use Rattle.std.proofs.lemmas.Slice.Eq.{bytes_eq-Decides}
 use Rattle.std.specs.List.{list_any}
 use Rattle.std.specs.Str.{bytes_eq}
-use Rattle.narrow_grammar.proofs.TextLemmas.{bytes_eq-turned}
-use Rattle.narrow_grammar.specs.Names.{first_appearances}
+use Rattle.rhythm_base.proofs.Texts.{bytes_eq-turned}
+use Rattle.narrow_grammar.specs.Names.{narrow_appearances}
 
 module _ (text : List ℕ) (x : List ℕ) where
   abbrev differs : List ℕ → Bool
@@ -39,13 +39,13 @@ module _ (text : List ℕ) (x : List ℕ) where
 
 -- a text at the end adds itself where it is new
 pub first_appearances-push : (texts : List (List ℕ)) (x : List ℕ)
-    → first_appearances (texts ++ x ∷ [])
-    ≡ cond (list_any (λ y. bytes_eq y x) (first_appearances texts)) (first_appearances texts) (first_appearances texts ++ x ∷ [])
+    → narrow_appearances (texts ++ x ∷ [])
+    ≡ cond (list_any (λ y. bytes_eq y x) (narrow_appearances texts)) (narrow_appearances texts) (narrow_appearances texts ++ x ∷ [])
 first_appearances-push [] x = refl
 first_appearances-push (text ∷ texts) x = ap (λ ts. text ∷ filter (differs text x) ts) (first_appearances-push texts x) ∙ at (bytes_eq x text) refl
   where
     known : List (List ℕ)
-    known = first_appearances texts
+    known = narrow_appearances texts
 
     at : (b : Bool) → bytes_eq x text ≡ b
         → ◌≡◌ {A = List (List ℕ)} (text ∷ filter (differs text x) (cond (list_any (λ y. bytes_eq y x) known) known (known ++ x ∷ [])))
@@ -63,9 +63,9 @@ first_appearances-push (text ∷ texts) x = ap (λ ts. text ∷ filter (differs 
 -- one line more: its first word is new, or known
 pub first_appearances_more : {X : Type 0} (text : X → List ℕ) (word : List ℕ → List ℕ) (lines : List X) (i : ℕ) (d : X)
     (names : List (List ℕ)) (name : List ℕ) (b : Bool)
-    → i < length lines → names ≡ first_appearances (map word (map text (take i lines))) → name ≡ word (text (get_or lines i d))
+    → i < length lines → names ≡ narrow_appearances (map word (map text (take i lines))) → name ≡ word (text (get_or lines i d))
     → b ≡ list_any (λ y. bytes_eq y name) names
-    → cond b names (names ++ name ∷ []) ≡ first_appearances (map word (map text (take (i + 1) lines)))
+    → cond b names (names ++ name ∷ []) ≡ narrow_appearances (map word (map text (take (i + 1) lines)))
 first_appearances_more text word lines i d names name b within before is known =
     rw (
       take_more lines i d within,
@@ -77,15 +77,10 @@ first_appearances_more text word lines i d names name b within before is known =
       ← known,
     )
 
--- a test of the images
-pub list_any-map : {X Y : Type 0} (p : Y → Bool) (f : X → Y) (xs : List X) → list_any p (map f xs) ≡ list_any (λ x. p (f x)) xs
-list_any-map p f [] = refl
-list_any-map p f (x ∷ xs) = ap (λ b. p (f x) || b) (list_any-map p f xs)
-
 -- no more texts than there were
-pub length-first_appearances : (texts : List (List ℕ)) → length (first_appearances texts) ≤ length texts
+pub length-first_appearances : (texts : List (List ℕ)) → length (narrow_appearances texts) ≤ length texts
 length-first_appearances [] = omega arith
 length-first_appearances (text ∷ texts) =
     let differs : List ℕ → Bool = λ other. not (bytes_eq other text) in
-    let known = first_appearances texts in
+    let known = narrow_appearances texts in
     omega (arith, length-first_appearances texts, length-filter differs known, count_by-le-length differs known)

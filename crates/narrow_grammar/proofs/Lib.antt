@@ -4,4 +4,3 @@ pub mod LineLemmas
 pub mod NameLemmas
 pub mod NarrowLemmas
 pub mod NumberLemmas
-pub mod TextLemmas

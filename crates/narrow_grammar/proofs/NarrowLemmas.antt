@@ -9,15 +9,15 @@ use Rattle.std.specs.Prelude.{⊤, ◌&&◌, if◌then◌else◌, nat_le, nat_lt
 use Rattle.std.specs.Str.{bytes_eq}
 use Rattle.std.specs.Str.Parse.{digits_value}
 use Rattle.narrow_grammar.specs.Each.{each_of}
-use Rattle.narrow_grammar.specs.Header.{header_of, header_with, number_after}
-use Rattle.narrow_grammar.specs.Lines.{after, lines_of, words_of}
-use Rattle.narrow_grammar.specs.Names.{names_of, symbol_of}
-use Rattle.narrow_grammar.specs.NarrowRulebook.{IsNarrowBody, IsNarrowRulebook, narrow_rulebook, rulebook_of, rulebook_of_lines, rulebook_with, start_of}
-use Rattle.narrow_grammar.specs.Numbers.{is_numeral, number_within}
-use Rattle.narrow_grammar.specs.Rules.{body_of, leaf_of, rule_of, rule_of_words, rule_with, split_of}
+use Rattle.narrow_grammar.specs.Header.{narrow_header, header_with, number_after}
+use Rattle.narrow_grammar.specs.Lines.{words_after, narrow_lines, narrow_words}
+use Rattle.narrow_grammar.specs.Names.{narrow_names, narrow_symbol}
+use Rattle.narrow_grammar.specs.NarrowRulebook.{IsNarrowBody, IsNarrowRulebook, narrow_rulebook, narrow_grammar_of, rulebook_of_lines, rulebook_with, narrow_start}
+use Rattle.narrow_grammar.specs.Numbers.{is_narrow_numeral, narrow_number_within}
+use Rattle.narrow_grammar.specs.Rules.{narrow_body, narrow_leaf, rule_of, rule_of_words, rule_with, split_of}
 use Rattle.narrow_grammar.specs.declared.header.Header.{Header}
 use Rattle.rhythm_base.specs.Readable.{IsInRange}
-use Rattle.rhythm_base.specs.Rulebook.{Rulebook}
+use Rattle.rhythm_base.specs.Grammar.{Grammar}
 use Rattle.rhythm_base.specs.declared.grammar.Start.{Start}
 use Rattle.rhythm_base.specs.declared.rule.Body.{Body}
 use Rattle.rhythm_base.specs.declared.rule.Body.TheVariants.{Split, Note, Short, Rest}
@@ -52,14 +52,14 @@ in_each {X} {Y} f P (x ∷ xs) each = at (f x) (each_of f xs) (each x) (in_each 
     at (Some y) (Some ys) h hs = (All-cons P y ys h hs.0, omega arith)
 
 -- the number of a word, and the number behind the beginning of a line
-number_range : (low high : ℕ) (word : List ℕ) → IfSome (number_within low high word) (λ n. (low ≤ n) × (n ≤ high))
+number_range : (low high : ℕ) (word : List ℕ) → IfSome (narrow_number_within low high word) (λ n. (low ≤ n) × (n ≤ high))
 number_range low high word =
     in_test _ (Some (digits_value 10 word)) (λ n. (low ≤ n) × (n ≤ high))
     (λ passed. let parts = and_parts _ _ passed in
-    (leb-true _ _ (and_parts (is_numeral word) (nat_le low (digits_value 10 word)) parts.0).1, leb-true _ _ parts.1))
+    (leb-true _ _ (and_parts (is_narrow_numeral word) (nat_le low (digits_value 10 word)) parts.0).1, leb-true _ _ parts.1))
 
 field_range : (beginning : List ℕ) (low high : ℕ) (line : List ℕ) → IfSome (number_after beginning low high line) (λ n. (low ≤ n) × (n ≤ high))
-field_range beginning low high line = in_chain (number_within low high) (after beginning line) (λ _. ⊤) (λ n. (low ≤ n) × (n ≤ high)) (anything (after beginning line))
+field_range beginning low high line = in_chain (narrow_number_within low high) (words_after beginning line) (λ _. ⊤) (λ n. (low ≤ n) × (n ≤ high)) (anything (words_after beginning line))
     (λ word _. number_range low high word)
 
 -- the numbers of the header are in their ranges
@@ -69,7 +69,7 @@ record InRange (h : Header) : Type 0 where
   window : h.window ≤ 1000000
   onset : h.onset ≤ 1000
 
-header_range : (version resolution window onset : List ℕ) → IfSome (header_of version resolution window onset) InRange
+header_range : (version resolution window onset : List ℕ) → IfSome (narrow_header version resolution window onset) InRange
 header_range version resolution window onset =
     in_test (bytes_eq version (codes "rhythm 1")) _ InRange
     (λ passed. at _ _ _ (field_range (codes "resolution ") 1 4 resolution) (field_range (codes "window ") 0 1000000 window)
@@ -83,7 +83,7 @@ header_range version resolution window onset =
     at (Some r) (Some w) (Some o) hr hw ho = record { some_unit = hr.0; few_units = hr.1; window = hw.1; onset = ho.1 }
 
 -- a symbol is the number of a name
-symbol_bound : (names : List (List ℕ)) (name : List ℕ) → IfSome (symbol_of names name) (λ s. s < length names)
+symbol_bound : (names : List (List ℕ)) (name : List ℕ) → IfSome (narrow_symbol names name) (λ s. s < length names)
 symbol_bound names name =
     in_test (nat_lt (position_or_len (λ known. bytes_eq known name) names) (length names)) _ (λ s. s < length names)
     (λ passed. ltb-true _ _ passed)
@@ -93,7 +93,7 @@ split_narrow : (names parts : List (List ℕ)) → IfSome (split_of names parts)
 split_narrow names parts =
     in_test _ _ (IsNarrowBody (length names))
     (λ passed. let size = and_parts _ _ passed in
-    at _ (leb-true _ _ size.0) (leb-true _ _ size.1) (in_each (symbol_of names) (λ s. s < length names) parts (symbol_bound names)))
+    at _ (leb-true _ _ size.0) (leb-true _ _ size.1) (in_each (narrow_symbol names) (λ s. s < length names) parts (symbol_bound names)))
   where
     at : (found : Option (List ℕ)) → 2 ≤ length parts → length parts ≤ 16
         → IfSome found (λ symbols. All (λ s. s < length names) symbols × (length symbols ≡ length parts))
@@ -101,7 +101,7 @@ split_narrow names parts =
     at None some few each = tt
     at (Some symbols) some few each = (omega arith, omega arith, each.0)
 
-leaf_narrow : (names : ℕ) (word : List ℕ) → IfSome (leaf_of word) (IsNarrowBody names)
+leaf_narrow : (names : ℕ) (word : List ℕ) → IfSome (narrow_leaf word) (IsNarrowBody names)
 leaf_narrow names word = at (bytes_eq word (codes "note")) (bytes_eq word (codes "short")) (bytes_eq word (codes "rest"))
   where
     at : (note short rest : Bool)
@@ -111,7 +111,7 @@ leaf_narrow names word = at (bytes_eq word (codes "note")) (bytes_eq word (codes
     at false false true = tt
     at false false false = tt
 
-body_narrow : (names : List (List ℕ)) (word : List ℕ) (parts : List (List ℕ)) → IfSome (body_of names word parts) (IsNarrowBody (length names))
+body_narrow : (names : List (List ℕ)) (word : List ℕ) (parts : List (List ℕ)) → IfSome (narrow_body names word parts) (IsNarrowBody (length names))
 body_narrow names word parts = at (bytes_eq word (codes "split")) (length parts == 0) _ _ (split_narrow names parts) (leaf_narrow _ word)
   where
     at : (cut whole : Bool) (split leaf : Option Body) → IfSome split (IsNarrowBody (length names)) → IfSome leaf (IsNarrowBody (length names))
@@ -126,7 +126,7 @@ record IsNarrowRule (names : ℕ) (r : Rule) : Type 0 where
   body : IsNarrowBody names r.body
 
 rule_narrow : (names : List (List ℕ)) (line : List ℕ) → IfSome (rule_of names line) (IsNarrowRule (length names))
-rule_narrow names line = words (words_of line)
+rule_narrow names line = words (narrow_words line)
   where
     at : (s w : Option ℕ) (b : Option Body) → IfSome s (λ n. n < length names) → IfSome w (λ n. (0 ≤ n) × (n ≤ 1000000))
         → IfSome b (IsNarrowBody (length names)) → IfSome (rule_with s w b) (IsNarrowRule (length names))
@@ -147,11 +147,11 @@ record IsNarrowStart (names : ℕ) (s : Start) : Type 0 where
   den : s.den ≡ 4
   symbol : s.symbol < names
 
-start_narrow : (names : List (List ℕ)) (line : List ℕ) → IfSome (start_of names line) (IsNarrowStart (length names))
+start_narrow : (names : List (List ℕ)) (line : List ℕ) → IfSome (narrow_start names line) (IsNarrowStart (length names))
 start_narrow names line =
-    at (option_and_then (symbol_of names) (after (codes "start 4/4 ") line))
-    (in_chain (symbol_of names) (after (codes "start 4/4 ") line) (λ _. ⊤) (λ s. s < length names)
-    (anything (after (codes "start 4/4 ") line)) (λ name _. symbol_bound names name))
+    at (option_and_then (narrow_symbol names) (words_after (codes "start 4/4 ") line))
+    (in_chain (narrow_symbol names) (words_after (codes "start 4/4 ") line) (λ _. ⊤) (λ s. s < length names)
+    (anything (words_after (codes "start 4/4 ") line)) (λ name _. symbol_bound names name))
   where
     start : ℕ → Start
     start s = record { num = 4; den = 4; symbol = s }
@@ -161,16 +161,16 @@ start_narrow names line =
     at (Some s) h = record { num = refl; den = refl; symbol = h }
 
 -- the grammar is in range, and narrow
-record IsSmall (g : Rulebook) : Type 0 where
+record IsSmall (g : Grammar) : Type 0 where
   ranges : IsInRange g
   narrow : IsNarrowRulebook g
 
 rulebook_small : (header : Header) (start : List ℕ) (rules : List (List ℕ)) → length rules ≤ 8 → InRange header
-    → IfSome (rulebook_of header start rules) IsSmall
+    → IfSome (narrow_grammar_of header start rules) IsSmall
 rulebook_small header start rules few range =
-    in_chain (λ names. rulebook_with header names (start_of names start) (each_of (rule_of names) rules)) (names_of rules) (λ _. ⊤) IsSmall
-    (anything (names_of rules))
-    (λ names _. at names (start_of names start) (each_of (rule_of names) rules) (start_narrow names start)
+    in_chain (λ names. rulebook_with header names (narrow_start names start) (each_of (rule_of names) rules)) (narrow_names rules) (λ _. ⊤) IsSmall
+    (anything (narrow_names rules))
+    (λ names _. at names (narrow_start names start) (each_of (rule_of names) rules) (start_narrow names start)
     (in_each (rule_of names) (IsNarrowRule (length names)) rules (rule_narrow names)))
   where
     at : (names : List (List ℕ)) (s : Option Start) (rs : Option (List Rule)) → IfSome s (IsNarrowStart (length names))
@@ -206,16 +206,16 @@ lines_small (a ∷ b ∷ []) = tt
 lines_small (a ∷ b ∷ c ∷ []) = tt
 lines_small (a ∷ b ∷ c ∷ d ∷ []) = tt
 lines_small (a ∷ b ∷ c ∷ d ∷ start ∷ rules) =
-    in_test (nat_le 1 (length rules) && nat_le (length rules) 8) (option_and_then (λ header. rulebook_of header start rules) (header_of a b c d)) IsSmall
-    (λ passed. in_chain (λ header. rulebook_of header start rules) (header_of a b c d) InRange IsSmall (header_range a b c d)
+    in_test (nat_le 1 (length rules) && nat_le (length rules) 8) (option_and_then (λ header. narrow_grammar_of header start rules) (narrow_header a b c d)) IsSmall
+    (λ passed. in_chain (λ header. narrow_grammar_of header start rules) (narrow_header a b c d) InRange IsSmall (header_range a b c d)
     (λ header range. rulebook_small header start rules (leb-true _ _ (and_parts (nat_le 1 (length rules)) _ passed).1) range))
 
 narrow_rulebook-IsSmall : (text : List ℕ) → IfSome (narrow_rulebook text) IsSmall
 unfolding narrow_rulebook
-narrow_rulebook-IsSmall text = in_chain rulebook_of_lines (lines_of text) (λ _. ⊤) IsSmall (anything (lines_of text)) (λ lines _. lines_small lines)
+narrow_rulebook-IsSmall text = in_chain rulebook_of_lines (narrow_lines text) (λ _. ⊤) IsSmall (anything (narrow_lines text)) (λ lines _. lines_small lines)
 
-pub narrow_rulebook-ranges : (text : List ℕ) (g : Option Rulebook) → g ≡ narrow_rulebook text → IfSome g IsInRange
+pub narrow_rulebook-ranges : (text : List ℕ) (g : Option Grammar) → g ≡ narrow_rulebook text → IfSome g IsInRange
 narrow_rulebook-ranges text g is = rw is (IfSome_then (narrow_rulebook text) (narrow_rulebook-IsSmall text) (λ g small. small.ranges))
 
-pub narrow_rulebook-narrow : (text : List ℕ) (g : Option Rulebook) → g ≡ narrow_rulebook text → IfSome g IsNarrowRulebook
+pub narrow_rulebook-narrow : (text : List ℕ) (g : Option Grammar) → g ≡ narrow_rulebook text → IfSome g IsNarrowRulebook
 narrow_rulebook-narrow text g is = rw is (IfSome_then (narrow_rulebook text) (narrow_rulebook-IsSmall text) (λ g small. small.narrow))

@@ -1,4 +1,4 @@
-ghost use Rattle.narrow_grammar.specs.NarrowRulebook.{IsNarrowRulebook, narrow_rulebook, rulebook_of, rulebook_of_lines, start_of};
+ghost use Rattle.narrow_grammar.specs.NarrowRulebook.{IsNarrowRulebook, narrow_rulebook, narrow_grammar_of, rulebook_of_lines, narrow_start};
 ghost use Rattle.rhythm_base.specs.Readable.{IsInRange};
 ghost use Rattle.std.specs.Prelude.{◌<◌, ◌≡◌, IfOk, IfSome, length, map};
 
@@ -53,7 +53,7 @@ fn read_grammar(
 ) -> Result<Option<Grammar>, AllocError>
     requires { length rules.now < 256 }
     ensures { IfOk result (λ grammar. grammar
-        ≡ rulebook_of header start.now (map (λ x. x.now) rules.now)) }
+        ≡ narrow_grammar_of header start.now (map (λ x. x.now) rules.now)) }
 {
     let Some(names) = read_names(alloc, rules)? else {
         return Ok(None);
@@ -79,7 +79,7 @@ fn read_grammar(
 /// The root symbol that the line of 4/4 names.
 fn read_start(names: &[&[u8]], line: &[u8]) -> Option<Start>
     requires { length names.now < 256 }
-    ensures { result ≡ start_of (map (λ x. x.now) names.now) line.now }
+    ensures { result ≡ narrow_start (map (λ x. x.now) names.now) line.now }
 {
     let symbol = symbol_of(names, line.strip_prefix(b"start 4/4 ")?)?;
     Some(Start {

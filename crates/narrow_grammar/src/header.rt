@@ -1,4 +1,4 @@
-ghost use Rattle.narrow_grammar.specs.Header.{header_of, number_after};
+ghost use Rattle.narrow_grammar.specs.Header.{narrow_header, number_after};
 ghost use Rattle.std.specs.Prelude.{◌≡◌, false};
 ghost use Rattle.std.specs.Range.{range_inclusive_end, range_inclusive_exhausted, range_inclusive_start};
 
@@ -18,7 +18,7 @@ pub struct Header {
 
 /// The header that the first four lines say.
 pub fn read_header(version: &[u8], resolution: &[u8], window: &[u8], onset: &[u8]) -> Option<Header>
-    ensures { result ≡ header_of version.now resolution.now window.now onset.now }
+    ensures { result ≡ narrow_header version.now resolution.now window.now onset.now }
 {
     if version != b"rhythm 1".as_slice() {
         return None;

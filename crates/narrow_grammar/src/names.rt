@@ -1,6 +1,6 @@
 ghost use Rattle.narrow_grammar.specs.Each.{each_of};
 ghost use Rattle.narrow_grammar.specs.Lines.{first_word};
-ghost use Rattle.narrow_grammar.specs.Names.{first_appearances, is_name, is_name_byte, names_of, symbol_of};
+ghost use Rattle.narrow_grammar.specs.Names.{narrow_appearances, is_narrow_name, is_narrow_name_byte, narrow_names, narrow_symbol};
 ghost use Rattle.std.specs.Option.{option_map};
 ghost use Rattle.std.specs.Prelude.{◌<◌, ◌≡◌, ◌≤◌, IfOk, IfSome, length, map};
 
@@ -9,14 +9,14 @@ use std::alloc::{AllocError, Global};
 
 /// Whether the byte can stand in a name.
 fn is_name_byte(byte: u8) -> bool
-    ensures { result ≡ is_name_byte byte }
+    ensures { result ≡ is_narrow_name_byte byte }
 {
     byte.is_ascii_alphanumeric() || byte == b'_'
 }
 
 /// Whether the word can name a symbol.
 pub fn is_name(word: &[u8]) -> bool
-    ensures { result ≡ is_name word.now }
+    ensures { result ≡ is_narrow_name word.now }
 {
     match word {
         [first, rest @ ..] if first.is_ascii_uppercase() && rest.len() <= 15 => {
@@ -39,7 +39,7 @@ fn first_word(line: &[u8]) -> &[u8]
 /// The left sides of the rule lines, in the order of their first appearance.
 fn left_sides<'a>(alloc: Global, lines: &[&'a [u8]]) -> Result<Vec<&'a [u8]>, AllocError>
     ensures { IfOk result (λ v. map (λ x. x.now) v.items
-        ≡ first_appearances (map first_word (map (λ x. x.now) lines.now))) }
+        ≡ narrow_appearances (map first_word (map (λ x. x.now) lines.now))) }
 {
     let mut names = Vec::new(alloc);
     for line in lines {
@@ -57,7 +57,7 @@ pub fn read_names<'a>(
     lines: &[&'a [u8]],
 ) -> Result<Option<Vec<&'a [u8]>>, AllocError>
     ensures names { IfOk result (λ names. option_map (λ v. map (λ x. x.now) v.items) names
-        ≡ names_of (map (λ x. x.now) lines.now)) }
+        ≡ narrow_names (map (λ x. x.now) lines.now)) }
     ensures few { IfOk result (λ names. IfSome names (λ v. length v.items ≤ length lines.now)) }
 {
     let names = left_sides(alloc, lines)?;
@@ -71,7 +71,7 @@ pub fn read_names<'a>(
 /// The symbol of a name: its place among the names.
 pub fn symbol_of(names: &[&[u8]], name: &[u8]) -> Option<u8>
     requires { length names.now < 256 }
-    ensures { result ≡ symbol_of (map (λ x. x.now) names.now) name.now }
+    ensures { result ≡ narrow_symbol (map (λ x. x.now) names.now) name.now }
 {
     let symbol = names.iter().position(|known| *known == name)?;
     Some(symbol as u8)
@@ -85,7 +85,7 @@ pub fn symbols_of(
 ) -> Result<Option<Vec<u8>>, AllocError>
     requires { length names.now < 256 }
     ensures { IfOk result (λ symbols. option_map (λ v. v.items) symbols
-        ≡ each_of (symbol_of (map (λ x. x.now) names.now)) (map (λ x. x.now) words.now)) }
+        ≡ each_of (narrow_symbol (map (λ x. x.now) names.now)) (map (λ x. x.now) words.now)) }
 {
     let mut symbols = Vec::with_capacity(alloc, words.len())?;
     for word in words {

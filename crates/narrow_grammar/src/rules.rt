@@ -1,5 +1,5 @@
 ghost use Rattle.narrow_grammar.specs.Each.{each_of};
-ghost use Rattle.narrow_grammar.specs.Rules.{body_of, leaf_of, rule_of, split_of};
+ghost use Rattle.narrow_grammar.specs.Rules.{narrow_body, narrow_leaf, rule_of, split_of};
 ghost use Rattle.std.specs.Option.{option_map};
 ghost use Rattle.std.specs.Prelude.{◌<◌, ◌≡◌, IfOk, length, map};
 
@@ -11,7 +11,7 @@ use std::alloc::{AllocError, Global};
 
 /// The leaf of this word.
 fn leaf(word: &[u8]) -> Option<Body>
-    ensures { result ≡ leaf_of word.now }
+    ensures { result ≡ narrow_leaf word.now }
 {
     match word {
         b"note" => Some(Body::Note),
@@ -43,7 +43,7 @@ fn body(
 ) -> Result<Option<Body>, AllocError>
     requires { length names.now < 256 }
     ensures { IfOk result (λ body. body
-        ≡ body_of (map (λ x. x.now) names.now) word.now (map (λ x. x.now) parts.now)) }
+        ≡ narrow_body (map (λ x. x.now) names.now) word.now (map (λ x. x.now) parts.now)) }
 {
     if word == b"split".as_slice() {
         return split(alloc, names, parts);

@@ -5,8 +5,8 @@ use Rattle.std.proofs.lemmas.Option.{option_and_then_some, cond_some, same_Some}
 use Rattle.std.proofs.lemmas.Bool.{cases_cond}
 use Rattle.std.proofs.lemmas.Bool.Decides.{nat_tests}
 use Rattle.rhythm_base.specs.declared.note.Note.{Note}
-use Rattle.narrow_midi.specs.Quantity.{quantity}
-use Rattle.narrow_midi.specs.Event.{tick_after, note_on, note_off, is_end_of_track}
+use Rattle.narrow_midi.specs.Quantity.{narrow_quantity}
+use Rattle.narrow_midi.specs.Event.{narrow_tick_after, note_on, note_off, is_end_of_track}
 use Rattle.narrow_midi.specs.Track.{note, notes, IsNextNote, FollowFrom}
 
 -- the notes behind those in front
@@ -14,19 +14,19 @@ abbrev pub with_front : List Note → Option (List Note) → Option (List Note)
 with_front front found = option_map (λ ns. front ++ ns) found
 
 -- no notes without a delta
-pub without_delta : (n t : ℕ) (bytes : List ℕ) → tick_after t bytes ≡ None → notes n t bytes ≡ None
+pub without_delta : (n t : ℕ) (bytes : List ℕ) → narrow_tick_after t bytes ≡ None → notes n t bytes ≡ None
 unfolding notes
 without_delta zero t bytes h = refl
 without_delta (suc n) t bytes h = rw h refl
 
 -- no more notes at an end of track
-pub at_end : (n t : ℕ) (bytes : List ℕ) (next : ℕ × List ℕ) → 0 < n → tick_after t bytes ≡ Some next → is_end_of_track next.1 ≡ true → notes n t bytes ≡ Some []
+pub at_end : (n t : ℕ) (bytes : List ℕ) (next : ℕ × List ℕ) → 0 < n → narrow_tick_after t bytes ≡ Some next → is_end_of_track next.1 ≡ true → notes n t bytes ≡ Some []
 unfolding notes
 at_end zero t bytes next lt h e = absurd (omega arith)
 at_end (suc n) t bytes next lt h e = rw (h, e) refl
 
 -- no notes where neither a note nor an end of track stands
-pub without_note : (n t : ℕ) (bytes : List ℕ) (next : ℕ × List ℕ) → tick_after t bytes ≡ Some next → is_end_of_track next.1 ≡ false → note next.0 next.1 ≡ None → notes n t bytes ≡ None
+pub without_note : (n t : ℕ) (bytes : List ℕ) (next : ℕ × List ℕ) → narrow_tick_after t bytes ≡ Some next → is_end_of_track next.1 ≡ false → note next.0 next.1 ≡ None → notes n t bytes ≡ None
 unfolding notes
 without_note zero t bytes next h e k = refl
 without_note (suc n) t bytes next h e k = rw (h, e, k) refl
@@ -35,14 +35,14 @@ regroup : (front : List Note) (x : Note) (found : Option (List Note)) → with_f
 regroup front x None = refl
 regroup front x (Some ns) = ap (λ (v : List Note). Some v) (simp append_assoc)
 
-one_more : (n t : ℕ) (bytes : List ℕ) (next : ℕ × List ℕ) (first : Note × List ℕ) (front : List Note) → tick_after t bytes ≡ Some next → is_end_of_track next.1 ≡ false → note next.0 next.1 ≡ Some first
+one_more : (n t : ℕ) (bytes : List ℕ) (next : ℕ × List ℕ) (first : Note × List ℕ) (front : List Note) → narrow_tick_after t bytes ≡ Some next → is_end_of_track next.1 ≡ false → note next.0 next.1 ≡ Some first
     → with_front front (notes (suc n) t bytes) ≡ with_front (front ++ first.0 ∷ []) (notes n first.0.end first.1)
 unfolding notes
 one_more n t bytes next first front h e k = rw (h, e, k) (regroup front first.0 (notes n first.0.end first.1))
 
 -- a note that is read goes to those in front
 pub goes_on : (total t : ℕ) (bytes : List ℕ) (next : ℕ × List ℕ) (first : Note × List ℕ) (front longer : List Note) (all : Option (List Note)) → longer ≡ front ++ first.0 ∷ [] → length front < total
-    → tick_after t bytes ≡ Some next → is_end_of_track next.1 ≡ false → note next.0 next.1 ≡ Some first → with_front front (notes (total - length front) t bytes) ≡ all
+    → narrow_tick_after t bytes ≡ Some next → is_end_of_track next.1 ≡ false → note next.0 next.1 ≡ Some first → with_front front (notes (total - length front) t bytes) ≡ all
     → with_front longer (notes (total - length longer) first.0.end first.1) ≡ all
 goes_on total t bytes next first front longer all grown few h e k so_far =
     let left = total - length longer in
@@ -53,10 +53,10 @@ goes_on total t bytes next first front longer all grown few h e k so_far =
     ∙ so_far
 
 -- a delta leads to no earlier tick
-tick_rises : (t : ℕ) (bytes : List ℕ) (next : ℕ × List ℕ) → tick_after t bytes ≡ Some next → t ≤ next.0
-unfolding tick_after
+tick_rises : (t : ℕ) (bytes : List ℕ) (next : ℕ × List ℕ) → narrow_tick_after t bytes ≡ Some next → t ≤ next.0
+unfolding narrow_tick_after
 tick_rises t bytes next h =
-    option_and_then_some (λ (delta : ℕ × List ℕ). cond (leb (t + delta.0) 1000000000) (Some (t + delta.0, delta.1)) None) (quantity bytes) next h
+    option_and_then_some (λ (delta : ℕ × List ℕ). cond (leb (t + delta.0) 1000000000) (Some (t + delta.0, delta.1)) None) (narrow_quantity bytes) next h
     (λ delta found made. let same = ap (λ (d : ℕ × List ℕ). d.0) (cond_some _ _ _ made).1 in omega arith)
 
 key_below : (bytes : List ℕ) (on : ℕ × List ℕ) → note_on bytes ≡ Some on → on.0 < 128
@@ -69,7 +69,7 @@ note_is_next : (t onset : ℕ) (bytes : List ℕ) (x : Note × List ℕ) → t �
 unfolding note
 note_is_next t onset bytes x le h =
     option_and_then_some _ (note_on bytes) x h
-    (λ on found ends. option_and_then_some _ (tick_after onset on.1) x ends
+    (λ on found ends. option_and_then_some _ (narrow_tick_after onset on.1) x ends
     (λ end reached closes. option_and_then_some _ (note_off end.1) x closes
     (λ off met made.
     let same = (cond_some (on.0 == off.0) _ x made).1 in
@@ -83,7 +83,7 @@ unfolding notes
 notes_follow zero t bytes ns h = absurd cc
 notes_follow (suc n) t bytes ns h =
     let P : List Note → Type 0 = FollowFrom t in
-    option_and_then_some _ (tick_after t bytes) ns h
+    option_and_then_some _ (narrow_tick_after t bytes) ns h
     (λ next reached more. elim (cases_cond (is_end_of_track next.1) _ _ (Some ns) (sym more)) [
       | inl end ↦ subst P (same_Some [] ns (sym end)) tt
       | inr on ↦

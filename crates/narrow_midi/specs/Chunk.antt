@@ -3,15 +3,15 @@ use Rattle.std.specs.Prelude.{ℕ, nat_lt, nat_eq, if◌then◌else◌, List, le
 use Rattle.std.specs.List.{starts_with}
 use Rattle.std.specs.Int.{w32}
 use Rattle.narrow_midi.specs.Chain.{◌>>=◌}
-use Rattle.narrow_midi.specs.Number.{number}
+use Rattle.narrow_midi.specs.Number.{narrow_number}
 
 -- the bytes behind a name
 abbrev pub behind : List ℕ → List ℕ → Option (List ℕ)
 behind name bytes = if starts_with nat_eq bytes name then Some (drop (length name) bytes) else None
 
 -- the content of the chunk of this name at the front, and the bytes behind it
-unfoldable pub chunk : List ℕ → List ℕ → Option (List ℕ × List ℕ)
-chunk name bytes = do
+unfoldable pub narrow_chunk : List ℕ → List ℕ → Option (List ℕ × List ℕ)
+narrow_chunk name bytes = do
   rest ← behind name bytes
-  size ← number w32 rest
+  size ← narrow_number w32 rest
   if nat_lt (length size.1) size.0 then None else Some (take size.0 size.1, drop size.0 size.1)

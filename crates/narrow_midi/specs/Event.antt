@@ -1,12 +1,12 @@
 -- The parts of the events of a narrow track: deltas, and messages of channel 0.
 use Rattle.std.specs.Prelude.{ℕ, ◌+◌, ◌==◌, ◌&&◌, nat_lt, nat_le, Bool, false, if◌then◌else◌, List, [], ◌∷◌, Option, Some, None}
 use Rattle.narrow_midi.specs.Chain.{◌>>=◌}
-use Rattle.narrow_midi.specs.Quantity.{quantity}
+use Rattle.narrow_midi.specs.Quantity.{narrow_quantity}
 
 -- the tick that a delta behind the tick t leads to, at most 1,000,000,000, and the bytes behind it
-unfoldable pub tick_after : ℕ → List ℕ → Option (ℕ × List ℕ)
-tick_after t bytes = do
-  delta ← quantity bytes
+unfoldable pub narrow_tick_after : ℕ → List ℕ → Option (ℕ × List ℕ)
+narrow_tick_after t bytes = do
+  delta ← narrow_quantity bytes
   if nat_le (t + delta.0) 1000000000 then Some (t + delta.0, delta.1) else None
 
 -- the key of a note on, which has a velocity of 1 to 127, and the bytes behind it

@@ -3,7 +3,7 @@ use Rattle.std.specs.Prelude.{◌≡◌, ℕ, ◌-◌, ◌*◌, ◌<◌, ◌≤�
 use Rattle.std.specs.List.Sorted.{IsNonDecreasingBy}
 use Rattle.rhythm_base.specs.declared.note.Note.{Note}
 use Rattle.narrow_midi.specs.Chain.{◌>>=◌}
-use Rattle.narrow_midi.specs.Track.{track}
+use Rattle.narrow_midi.specs.Track.{narrow_track}
 use Rattle.narrow_midi.specs.NarrowFile.{file}
 
 -- the ticks of a quarter note, and the notes in the order of the file
@@ -16,7 +16,7 @@ pub record PieceValue : Type 0 where
 unfoldable pub narrow_piece : List ℕ → Option PieceValue
 narrow_piece bytes = do
   parts ← file bytes
-  notes ← track parts.1
+  notes ← narrow_track parts.1
   last ← slice_get notes (length notes - 1)
   if nat_le last.end (4 * parts.0) && nat_le (16 * last.onset) (60 * parts.0)
       then Some (record { division = parts.0; notes = notes }) else None

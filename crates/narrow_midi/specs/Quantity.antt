@@ -3,15 +3,15 @@ use Rattle.std.specs.Prelude.{ℕ, ◌+◌, ◌*◌, ◌%◌, nat_lt, List, take
 use Rattle.narrow_midi.specs.Chain.{◌>>=◌}
 
 -- the number in the low seven bits of each byte, the most significant first
-abbrev pub seven_bits : List ℕ → ℕ
-seven_bits bytes = fold (λ n byte. n * 128 + byte % 128) 0 bytes
+abbrev pub narrow_seven_bits : List ℕ → ℕ
+narrow_seven_bits bytes = fold (λ n byte. n * 128 + byte % 128) 0 bytes
 
 -- the place of the first byte without the high bit, which is among the first four
-abbrev pub last_place : List ℕ → Option ℕ
-last_place bytes = position (λ byte. nat_lt byte 128) (take 4 bytes)
+abbrev pub narrow_last_place : List ℕ → Option ℕ
+narrow_last_place bytes = position (λ byte. nat_lt byte 128) (take 4 bytes)
 
 -- the quantity up to that byte, and the bytes behind it
-unfoldable pub quantity : List ℕ → Option (ℕ × List ℕ)
-quantity bytes = do
-  last ← last_place bytes
-  Some (seven_bits (take (last + 1) bytes), drop (last + 1) bytes)
+unfoldable pub narrow_quantity : List ℕ → Option (ℕ × List ℕ)
+narrow_quantity bytes = do
+  last ← narrow_last_place bytes
+  Some (narrow_seven_bits (take (last + 1) bytes), drop (last + 1) bytes)

@@ -2,13 +2,13 @@
 use Rattle.std.specs.Prelude.{◌≡◌, ◌<◌, ◌≤◌, ⊤, ℕ, zero, suc, ◌==◌, if◌then◌else◌, List, [], ◌∷◌, length, Option, Some, None}
 use Rattle.rhythm_base.specs.declared.note.Note.{Note}
 use Rattle.narrow_midi.specs.Chain.{◌>>=◌}
-use Rattle.narrow_midi.specs.Event.{tick_after, note_on, note_off, is_end_of_track}
+use Rattle.narrow_midi.specs.Event.{narrow_tick_after, note_on, note_off, is_end_of_track}
 
 -- a note that begins at a tick: its note on, a delta, and the note off of its key. The note, and the bytes behind it
 unfoldable pub note : ℕ → List ℕ → Option (Note × List ℕ)
 note onset bytes = do
   on ← note_on bytes
-  end ← tick_after onset on.1
+  end ← narrow_tick_after onset on.1
   off ← note_off end.1
   if on.0 == off.0 then Some (record { channel = 0; key = on.0; onset = onset; end = end.0 }, off.1) else None
 
@@ -16,15 +16,15 @@ note onset bytes = do
 unfoldable pub notes : ℕ → ℕ → List ℕ → Option (List Note)
 notes zero t bytes = None
 notes (suc n) t bytes = do
-  next ← tick_after t bytes
+  next ← narrow_tick_after t bytes
   if is_end_of_track next.1 then Some [] else (do
     first ← note next.0 next.1
     others ← notes n first.0.end first.1
     Some (first.0 ∷ others))
 
 -- the notes of a track, by its content, which has more bytes than notes
-abbrev pub track : List ℕ → Option (List Note)
-track bytes = notes (length bytes) 0 bytes
+abbrev pub narrow_track : List ℕ → Option (List Note)
+narrow_track bytes = notes (length bytes) 0 bytes
 
 -- a note of channel 0 that begins at the tick t or later
 pub record IsNextNote (t : ℕ) (n : Note) : Type 0 where

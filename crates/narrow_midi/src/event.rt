@@ -1,5 +1,5 @@
 ghost use Rattle.std.specs.Prelude.{◌≡◌, ◌<◌, ◌≤◌, IfSome, length, option_map};
-ghost use Rattle.narrow_midi.specs.Event.{is_end_of_track, note_off, note_on, tick_after};
+ghost use Rattle.narrow_midi.specs.Event.{is_end_of_track, note_off, note_on, narrow_tick_after};
 
 use crate::quantity::read_quantity;
 
@@ -15,10 +15,10 @@ const META: u8 = 0xff;
 const END_OF_TRACK: u8 = 0x2f;
 
 /// The tick that the delta at the front leads to, and the bytes behind it.
-#[tactic(auto, unfolding(crate::specs::Event::tick_after))]
+#[tactic(auto, unfolding(crate::specs::Event::narrow_tick_after))]
 pub(crate) fn read_tick(tick: u64, bytes: &[u8]) -> Option<(u64, &[u8])>
     requires { tick ≤ LAST_TICK }
-    ensures value { option_map (λ d. (d.0, d.1.now)) result ≡ tick_after tick bytes.now }
+    ensures value { option_map (λ d. (d.0, d.1.now)) result ≡ narrow_tick_after tick bytes.now }
     ensures within { IfSome result (λ d. d.0 ≤ LAST_TICK) }
     ensures shorter { IfSome result (λ d. length d.1.now < length bytes.now) }
 {

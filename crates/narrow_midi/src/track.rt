@@ -1,5 +1,5 @@
 ghost use Rattle.std.specs.Prelude.{◌≡◌, ◌<◌, ◌≤◌, IfOk, IfSome, length, option_map};
-ghost use Rattle.narrow_midi.specs.Track.{FollowFrom, note, track};
+ghost use Rattle.narrow_midi.specs.Track.{FollowFrom, note, narrow_track};
 
 use crate::event::{LAST_TICK, is_end_of_track, read_note_off, read_note_on, read_tick};
 use rhythm_base::Note;
@@ -27,7 +27,7 @@ fn read_note(onset: u64, bytes: &[u8]) -> Option<(Note, &[u8])>
 
 /// The notes of a track, by its content.
 pub(crate) fn read_track(alloc: Global, bytes: &[u8]) -> Result<Option<Vec<Note>>, AllocError>
-    ensures value { IfOk result (λ found. option_map (λ v. v.items) found ≡ track bytes.now) }
+    ensures value { IfOk result (λ found. option_map (λ v. v.items) found ≡ narrow_track bytes.now) }
     ensures follow { IfOk result (λ found. IfSome found (λ v. FollowFrom 0 v.items)) }
 {
     let mut notes = Vec::new(alloc);

@@ -11,7 +11,7 @@ use Rattle.rhythm_base.specs.declared.event.What.TheVariants.{On, Off, Tempo, Si
 use Rattle.rhythm_base.specs.declared.note.Note.{Note}
 use Rattle.rhythm_base.specs.Notes.{begun, begun_at, end_of_note, touches, tick_or}
 use Rattle.note_list.specs.Ends.{note_from, ends_from}
-use Rattle.note_list.specs.Pairing.{HasKey, IsEventOf, begins, AreSilent, IsPlayed}
+use Rattle.note_list.specs.Pairing.{IsPlayable, IsEventOf, begins, AreSilent, IsPlayed}
 use Rattle.note_list.proofs.Among.{Among}
 use Rattle.note_list.proofs.Kept.{Pairwise}
 
@@ -45,7 +45,7 @@ entry_after last c0 k0 c k e later table a0 b0 a b ends = go ((c0 == c) && (k0 =
         cc) in
         get_or-set_other table (128 * c0 + k0) (128 * c + k) e.tick 0 other ∙ ends.entry c k a b
 
-ends_more : (last tick : ℕ) (what : What) (later : List Event) (table : List ℕ) → HasKey what → AreEnds last later table → AreEnds last (record { tick = tick; what = what } ∷ later) (ends_from table tick what)
+ends_more : (last tick : ℕ) (what : What) (later : List Event) (table : List ℕ) → IsPlayable what → AreEnds last later table → AreEnds last (record { tick = tick; what = what } ∷ later) (ends_from table tick what)
 ends_more last tick (On c0 k0) later table h e = record {
   long = set_long table (128 * c0 + k0) tick e.long;
   entry = λ c k a b. entry_after last c0 k0 c k (record { tick = tick; what = On c0 k0 }) later table h.0 h.1 a b e;
@@ -61,7 +61,7 @@ ends_more last tick (KeySig s) later table h e = record { long = e.long; entry =
 reversed : {X : Type 0} (x : X) (xs : List X) → reverse (x ∷ xs) ≡ reverse xs ++ x ∷ []
 reversed x xs = reverse-append (x ∷ []) xs
 
-pub going_some : (last tick : ℕ) (what : What) (later : List Event) (table : List ℕ) (list : List Note) (n : Note) → HasKey what → Going last later table list → note_from table tick what ≡ Some n → Going last (record { tick = tick; what = what } ∷ later) (ends_from table tick what) (list ++ n ∷ [])
+pub going_some : (last tick : ℕ) (what : What) (later : List Event) (table : List ℕ) (list : List Note) (n : Note) → IsPlayable what → Going last later table list → note_from table tick what ≡ Some n → Going last (record { tick = tick; what = what } ∷ later) (ends_from table tick what) (list ++ n ∷ [])
 going_some last tick (On c k) later table list n h g e = record { ends = ends_more last tick (On c k) later table h g.ends; notes = sym (reversed (record { channel = c; key = k; onset = tick; end = end_of_note last c k later }) (begun last later) ∙ ap (λ m. reverse (begun last later) ++ m ∷ []) (note_is e) ∙ ap (λ l. l ++ n ∷ []) (sym g.notes)) }
   where
     note_is : note_from table tick (On c k) ≡ Some n → ◌≡◌ {A = Note} (record { channel = c; key = k; onset = tick; end = end_of_note last c k later }) n
@@ -75,7 +75,7 @@ going_some last tick (Tempo m) later table list n h g e = absurd (cc)
 going_some last tick (Signature m d) later table list n h g e = absurd (cc)
 going_some last tick (KeySig s) later table list n h g e = absurd (cc)
 
-pub going_none : (last tick : ℕ) (what : What) (later : List Event) (table : List ℕ) (list : List Note) → HasKey what → Going last later table list → note_from table tick what ≡ None → Going last (record { tick = tick; what = what } ∷ later) (ends_from table tick what) list
+pub going_none : (last tick : ℕ) (what : What) (later : List Event) (table : List ℕ) (list : List Note) → IsPlayable what → Going last later table list → note_from table tick what ≡ None → Going last (record { tick = tick; what = what } ∷ later) (ends_from table tick what) list
 going_none last tick (On c k) later table list h g e = absurd (cc)
 going_none last tick (Off c k) later table list h g e = record { ends = ends_more last tick (Off c k) later table h g.ends; notes = g.notes }
 going_none last tick (Tempo m) later table list h g e = record { ends = ends_more last tick (Tempo m) later table h g.ends; notes = g.notes }
@@ -120,7 +120,7 @@ pub are_played : (last : ℕ) (events : List Event) → Pairwise (λ x y. x.tick
 are_played last [] order h n a = absurd a
 are_played last (e ∷ events) order h n a = one e.what (h e (inl refl)).keyed (λ b. are_played last events order.1 (λ x d. h x (inr d)) n b) a
   where
-    one : (w : What) → HasKey w → (Among n (begun last events) → IsPlayed last n) → Among n (begun_at last e.tick w events ++ begun last events) → IsPlayed last n
+    one : (w : What) → IsPlayable w → (Among n (begun last events) → IsPlayed last n) → Among n (begun_at last e.tick w events ++ begun last events) → IsPlayed last n
     one (On c k) q rest (inl f) =
         let between = end_between last e.tick c k events (h e (inl refl)).tick (λ x b. (order.0 x b, (h x (inr b)).tick)) in
         subst (IsPlayed last) (sym f) record { channel = q.0; key = q.1; after = between.0; within = between.1 }
@@ -141,7 +141,7 @@ pub step_some : (last : ℕ) (events : List Event) (place : ℕ) (d : Event) (ta
     → Some n ≡ note_from table (get_or events (place - 1) d).tick (get_or events (place - 1) d).what → new ≡ ends_from table (get_or events (place - 1) d).tick (get_or events (place - 1) d).what → next ≡ list ++ n ∷ [] → Going last (drop (place - 1) events) new next
 step_some last events place d table new list next n some within all g is ends is_next =
     let x = get_or events (place - 1) d in
-    let keyed : HasKey x.what = (all (place - 1) d (omega arith)).keyed in
+    let keyed : IsPlayable x.what = (all (place - 1) d (omega arith)).keyed in
     let P : List Event → Type 0 = λ l. Going last l new next in
     let Q : List ℕ → Type 0 = λ l. Going last (x ∷ drop place events) l next in
     let R : List Note → Type 0 = λ l. Going last (x ∷ drop place events) (ends_from table x.tick x.what) l in
@@ -151,7 +151,7 @@ pub step_none : (last : ℕ) (events : List Event) (place : ℕ) (d : Event) (ta
     → None ≡ note_from table (get_or events (place - 1) d).tick (get_or events (place - 1) d).what → new ≡ ends_from table (get_or events (place - 1) d).tick (get_or events (place - 1) d).what → Going last (drop (place - 1) events) new list
 step_none last events place d table new list some within all g is ends =
     let x = get_or events (place - 1) d in
-    let keyed : HasKey x.what = (all (place - 1) d (omega arith)).keyed in
+    let keyed : IsPlayable x.what = (all (place - 1) d (omega arith)).keyed in
     let P : List Event → Type 0 = λ l. Going last l new list in
     let Q : List ℕ → Type 0 = λ l. Going last (x ∷ drop place events) l list in
     subst P (sym (from_here events place d some within)) (subst Q (sym ends) (going_none last x.tick x.what (drop place events) table list keyed g (sym is)))

@@ -5,7 +5,7 @@ use Rattle.std.specs.List.{dedup, dedup_from}
 use Rattle.std.specs.Cmp.Lexicographic.{pointwise}
 use Rattle.std.proofs.lemmas.Bool.Decides.{nat_tests}
 use Rattle.rhythm_base.specs.declared.note.Note.{Note}
-use Rattle.rhythm_base.specs.Performed.{place_of_note}
+use Rattle.rhythm_base.specs.Performance.{place_of_note}
 use Rattle.note_list.proofs.Among.{Among, among_at, place_among}
 use Rattle.note_list.proofs.Places.{IsBefore, ArePlacedAlike, Follows, not_before_itself, not_both, before_alike}
 

@@ -1,61 +1,28 @@
 -- The notes of events: the sorted list without the worse notes, and no other.
-use Rattle.std.proofs.Common.{◌≡◌, ℕ, ◌<◌, ◌≤◌, ◌^◌, List, [], ◌∷◌, length, get_or, map, reverse, refl, sym, ap, ◌∙◌, subst, inl, inr, arith}
+use Rattle.std.proofs.Common.{◌≡◌, ℕ, ◌<◌, ◌≤◌, ◌^◌, List, get_or, map, reverse, sym, subst, arith}
 use Rattle.std.specs.Prelude.{All, Contains}
 use Rattle.std.specs.List.{dedup}
-use Rattle.std.specs.List.Sorted.{IsNonDecreasing, IsNonDecreasingBy, IsPermutation, IsSortedByKey}
+use Rattle.std.specs.List.Sorted.{IsNonDecreasing, IsPermutation, IsSortedByKey}
 use Rattle.std.specs.Ordering.{is_lt, nat_cmp}
 use Rattle.std.specs.Cmp.Lexicographic.{slice_cmp}
 use Rattle.std.proofs.lemmas.Cmp.{nat_list_cmp_total}
 use Rattle.std.proofs.lemmas.List.{get_or-map, length-map}
-use Rattle.std.proofs.lemmas.List.Sorted.{sorted_far, ranks_by, Contains-permutation, length_permutation, IsPermutation-sym, IsPermutation-reverse}
+use Rattle.std.proofs.lemmas.List.Sorted.{sorted_far, ranks_by, Contains-permutation, IsPermutation-sym, IsPermutation-reverse}
 use Rattle.rhythm_base.specs.declared.event.Event.{Event}
-use Rattle.rhythm_base.specs.declared.event.What.TheVariants.{Tempo}
 use Rattle.rhythm_base.specs.declared.note.Note.{Note}
 use Rattle.rhythm_base.specs.Notes.{AreNotes, IsKept, begun}
-use Rattle.note_list.specs.Pairing.{AreSilent, IsEventOf, IsPlayed, NotesAreOne, rank_of_note}
+use Rattle.rhythm_laws.proofs.FirstLists.{one_order}
+use Rattle.note_list.specs.Pairing.{IsEventOf, IsPlayed, NotesAreOne, rank_of_note}
 use Rattle.note_list.proofs.Among.{Among, among_at, among_contained, place_among, all_among, all_from_among}
-use Rattle.note_list.proofs.Places.{IsBefore, Follows, follows, not_both, not_before_itself}
+use Rattle.note_list.proofs.Places.{IsBefore, Follows, follows, not_both}
 use Rattle.note_list.proofs.Kept.{Pairwise, pairs_from, to_pairs, IsBest, same_place, kept_all}
-use Rattle.note_list.proofs.Ending.{are_played, silent_if_none, none_if_silent}
+use Rattle.note_list.proofs.Ending.{are_played}
 
 -- ---- lists in order with the same notes are one
 
-before_itself : (n : Note) → IsBefore n n → ⊥
-before_itself n h = not_before_itself n n (record { channel = refl; onset = refl; key = refl }) h
-
-pub one_list : (xs ys : List Note) → Pairwise IsBefore xs → Pairwise IsBefore ys → ((n : Note) → Among n xs → Among n ys) → ((n : Note) → Among n ys → Among n xs) → xs ≡ ys
-one_list [] [] p q f g = refl
-one_list [] (y ∷ ys) p q f g = absurd (g y (inl refl))
-one_list (x ∷ xs) [] p q f g = absurd (f x (inl refl))
-one_list (x ∷ xs) (y ∷ ys) p q f g = λ i. first i ∷ one_list xs ys p.1 q.1 fore back i
-  where
-    meet : Among x (y ∷ ys) → Among y (x ∷ xs) → x ≡ y
-    meet (inl e) b = e
-    meet (inr a) (inl e) = sym e
-    meet (inr a) (inr b) = absurd (not_both x y (p.0 y b) (q.0 x a))
-
-    first : x ≡ y
-    first = meet (f x (inl refl)) (g y (inl refl))
-
-    fore : (n : Note) → Among n xs → Among n ys
-    fore n a = go (f n (inr a))
-      where
-        go : Among n (y ∷ ys) → Among n ys
-        go (inl e) = absurd (before_itself x (subst (IsBefore x) (e ∙ sym first) (p.0 n a)))
-        go (inr b) = b
-
-    back : (n : Note) → Among n ys → Among n xs
-    back n a = go (g n (inr a))
-      where
-        go : Among n (x ∷ xs) → Among n xs
-        go (inl e) = absurd (before_itself y (subst (IsBefore y) (e ∙ first) (q.0 n a)))
-        go (inr b) = b
-
 pub are_one : NotesAreOne
 are_one last events a b h k =
-    one_list a b (to_pairs IsBefore a h.in_order) (to_pairs IsBefore b k.in_order)
-    (λ n m. among_contained b n ((k.kept n).1 ((h.kept n).0 (place_among a n m))))
-    (λ n m. among_contained a n ((h.kept n).1 ((k.kept n).0 (place_among b n m))))
+    one_order IsBefore not_both a b h.in_order k.in_order (λ n there. (k.kept n).1 ((h.kept n).0 there)) (λ n there. (h.kept n).1 ((k.kept n).0 there))
 
 -- ---- the best notes of a list are those of its permutations
 
@@ -116,22 +83,3 @@ pub all_played : (last : ℕ) (events : List Event) (raw sorted : List Note) →
 all_played last events raw sorted low s =
     let good = kept_all sorted (sorted_follow last events raw sorted low s) in
     all_from_among (IsPlayed last) (dedup same_place sorted) (λ n a. sorted_played last events raw sorted s n ((good.1 n).0 a).0)
-
-empty_list : {X : Type 0} (xs : List X) → length xs ≡ 0 → xs ≡ []
-empty_list [] h = refl
-empty_list (x ∷ xs) h = absurd (omega (arith, h))
-
-pub no_note_begins : (last : ℕ) (events : List Event) (raw : List Note) → raw ≡ reverse (begun last events) → length raw ≡ 0 → AreSilent events
-no_note_begins last events raw e h =
-    let same = length_permutation (begun last events) (reverse (begun last events)) (IsPermutation-reverse (begun last events)) in
-    silent_if_none last events (empty_list (begun last events) (omega (arith, same, ap length e, h)))
-
-pub a_note_begins : (last : ℕ) (events : List Event) (raw : List Note) → raw ≡ reverse (begun last events) → (length raw ≡ 0 → ⊥) → AreSilent events → ⊥
-a_note_begins last events raw e some silent = some (ap length (e ∙ ap reverse (none_if_silent last events silent)))
-
--- the order of events by tick, as contracts want it
-pub in_order : (events : List Event) → IsNonDecreasingBy (λ e. e.tick) events → IsNonDecreasing (map (λ e. e.tick) events)
-in_order events h i j d le within =
-    let first : Event = record { tick = 0; what = Tempo 1 } in
-    let long = length-map events (λ (e : Event). e.tick) in
-    omega (arith, long, get_or-map (λ (e : Event). e.tick) events i first d (omega arith), get_or-map (λ (e : Event). e.tick) events j first d (omega arith), h i j first le (omega arith))

@@ -6,7 +6,7 @@ use Rattle.std.specs.declared.cmp.Ordering.{Ordering}
 use Rattle.std.specs.declared.cmp.Ordering.TheVariants.{Less, Equal, Greater}
 use Rattle.std.specs.Cmp.Lexicographic.{slice_cmp}
 use Rattle.rhythm_base.specs.declared.note.Note.{Note}
-use Rattle.rhythm_base.specs.Performed.{place_of_note}
+use Rattle.rhythm_base.specs.Performance.{place_of_note}
 use Rattle.note_list.specs.Pairing.{rank_of_note}
 
 abbrev pub IsBefore : Note → Note → Type 0

@@ -1,4 +1,5 @@
 -- What the pairing of note-ons with their ends comes to.
+use Rattle.rhythm_base.specs.declared.limits.TheConstants.{MOST_NOTES}
 use Rattle.std.specs.Prelude.{◌≡◌, ◌≤◌, ◌<◌, ℕ, ◌-◌, Bool, true, false, List, [], ◌∷◌, length, All, ⊤}
 use Rattle.rhythm_base.specs.declared.event.Event.{Event}
 use Rattle.rhythm_base.specs.declared.event.What.{What}
@@ -9,17 +10,17 @@ use Rattle.note_list.specs.declared.fault.NoteFault.{NoteFault}
 use Rattle.note_list.specs.declared.fault.NoteFault.TheVariants.{NoNotes, TooManyNotes, Memory}
 
 -- it is of one of 16 channels and 128 keys, where it is of any
-abbrev pub HasKey : What → Type 0
-HasKey (On c k) = (c < 16) × (k < 128)
-HasKey (Off c k) = (c < 16) × (k < 128)
-HasKey (Tempo _) = ⊤
-HasKey (Signature _ _) = ⊤
-HasKey (KeySig _) = ⊤
+abbrev pub IsPlayable : What → Type 0
+IsPlayable (On c k) = (c < 16) × (k < 128)
+IsPlayable (Off c k) = (c < 16) × (k < 128)
+IsPlayable (Tempo _) = ⊤
+IsPlayable (Signature _ _) = ⊤
+IsPlayable (KeySig _) = ⊤
 
 -- an event of a file with this last tick
 pub record IsEventOf (last : ℕ) (e : Event) : Type 0 where
   pub tick : e.tick ≤ last
-  pub keyed : HasKey e.what
+  pub keyed : IsPlayable e.what
 
 abbrev pub begins : What → Bool
 begins (On _ _) = true
@@ -47,12 +48,12 @@ pub record IsPlayed (last : ℕ) (n : Note) : Type 0 where
 pub record ArePaired (last : ℕ) (events : List Event) (list : List Note) : Type 0 where
   pub sounding : AreSilent events → ⊥
   pub notes : AreNotes last events list
-  pub few : length list ≤ 65536
+  pub few : length list ≤ MOST_NOTES
 
 -- that there are none, or the number of those that are too many; want of memory says nothing of them
 abbrev pub IsNoteFault : ℕ → List Event → NoteFault → Type 0
 IsNoteFault last events NoNotes = AreSilent events
-IsNoteFault last events (TooManyNotes count) = (notes : List Note) × AreNotes last events notes × (length notes ≡ count) × (65536 < count)
+IsNoteFault last events (TooManyNotes count) = (notes : List Note) × AreNotes last events notes × (length notes ≡ count) × (MOST_NOTES < count)
 IsNoteFault last events Memory = ⊤
 
 -- the notes of events are one list

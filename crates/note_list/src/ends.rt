@@ -1,6 +1,6 @@
 ghost use Rattle.std.specs.Prelude.{◌≡◌, ◌+◌, ◌*◌, All, IfOk, length};
 ghost use Rattle.note_list.specs.Ends.{ends_from, note_from};
-ghost use Rattle.note_list.specs.Pairing.{HasKey};
+ghost use Rattle.note_list.specs.Pairing.{IsPlayable};
 
 use rhythm_base::{Event, Note, What};
 use std::alloc::{AllocError, Global};
@@ -42,7 +42,7 @@ impl Ends {
 
     /// The note that begins with the event, by the next ends behind it. From now on they are those from the event on.
     pub fn take(&mut self, event: Event) -> Option<Note>
-        requires { HasKey event.what }
+        requires { IsPlayable event.what }
         ensures note { result ≡ note_from self.old event.tick event.what }
         ensures ends { self.new ≡ ends_from self.old event.tick event.what }
     {

@@ -1,5 +1,5 @@
-// The notes of a performance, from the merged events of a file: a note begins at each note-on and ends at the next event of
-// its channel and key, or with the file. Of notes of one channel, key and onset the one with the greatest end is kept.
+//! The notes of a performance, from the merged events of a file: a note begins at each note-on and ends at the next event of
+//! its channel and key, or with the file. Of notes of one channel, key and onset the one with the greatest end is kept.
 #![tactic(auto)]
 
 mod begun;
@@ -11,6 +11,3 @@ mod pairing;
 pub use fault::NoteFault;
 pub use laws::notes_are_one;
 pub use pairing::pair;
-
-#[cfg(test)]
-mod tests;

@@ -8,7 +8,9 @@ use Rattle.std.proofs.lemmas.List.{get_or-map, length-map}
 use Rattle.std.proofs.lemmas.List.Elements.{All-append, All-cons, All-filter, All-nil}
 use Rattle.rhythm_base.specs.declared.event.Event.{Event}
 use Rattle.rhythm_base.specs.Events.{IsMerged, at_tick}
-use Rattle.smf_reader.specs.Played.{PlayedTrack, greatest}
+use Rattle.rhythm_laws.proofs.FirstLists.{all_contained}
+use Rattle.rhythm_base.specs.Lists.{greatest}
+use Rattle.smf_reader.specs.Played.{Track}
 
 -- ---- merged events
 
@@ -26,9 +28,6 @@ passes p (x ∷ xs) (suc k) d lt is = by (p x) (passes p xs k d (omega (arith, l
     by true (n, within, at) = (suc n, omega (arith, within), at)
     by false h = h
 
-contained : {X : Type 0} (P : X → Type 0) (xs : List X) (x : X) → All P xs → Contains xs x → P x
-contained P xs x all (k, lt, at) = subst P at (all k x lt)
-
 same_tick : (n : ℕ) → (n == n) ≡ true
 same_tick n = grind (arith, nat_tests)
 
@@ -38,9 +37,9 @@ all_merged P tracks merged h all k d lt =
     let e : Event = get_or merged k d in
     let among = passes (λ x. x.tick == e.tick) merged k d lt (same_tick e.tick) in
     let moved : Contains (at_tick e.tick (flat_map (λ t. t) tracks)) e = subst (λ l. Contains l e) (h.same e.tick) among in
-    contained P (at_tick e.tick (flat_map (λ t. t) tracks)) e (All-filter (λ x. x.tick == e.tick) P (flat_map (λ t. t) tracks) all) moved
+    all_contained P (at_tick e.tick (flat_map (λ t. t) tracks)) e (All-filter (λ x. x.tick == e.tick) P (flat_map (λ t. t) tracks) all) moved
 
-pub all_tracks : (P : Event → Type 0) (tracks : List PlayedTrack) → All (λ t. All P t.events) tracks → All P (flat_map (λ t. t) (map (λ t. t.events) tracks))
+pub all_tracks : (P : Event → Type 0) (tracks : List Track) → All (λ t. All P t.events) tracks → All P (flat_map (λ t. t) (map (λ t. t.events) tracks))
 all_tracks P [] all = All-nil P
 all_tracks P (t ∷ tracks) all =
     All-append P t.events (flat_map (λ t. t) (map (λ t. t.events) tracks)) (all 0 t (omega arith)) (all_tracks P tracks (λ k d lt. all (suc k) d (omega (arith, lt))))
@@ -77,16 +76,16 @@ greatest_low {X} f xs high all = fold_low 0 high (map f xs) (omega arith) (mappe
 
 -- ---- changes in order
 
-abbrev Up : ℕ → List ℕ → Type 0
+abbrev pub Up : ℕ → List ℕ → Type 0
 Up low [] = ⊤
 Up low (x ∷ xs) = (low ≤ x) × Up x xs
 
-up_from : (low : ℕ) (xs : List ℕ) → All (λ x. low ≤ x) xs → IsNonDecreasing xs → Up low xs
+pub up_from : (low : ℕ) (xs : List ℕ) → All (λ x. low ≤ x) xs → IsNonDecreasing xs → Up low xs
 up_from low [] above h = tt
 up_from low (x ∷ xs) above h =
     (above 0 0 (omega arith), up_from x xs (λ k d lt. h 0 (suc k) d (omega arith) (omega (arith, lt))) (λ i j d le lt. h (suc i) (suc j) d (omega (arith, le)) (omega (arith, lt))))
 
-up_lower : (low high : ℕ) (xs : List ℕ) → low ≤ high → Up high xs → Up low xs
+pub up_lower : (low high : ℕ) (xs : List ℕ) → low ≤ high → Up high xs → Up low xs
 up_lower low high [] le h = tt
 up_lower low high (x ∷ xs) le h = (omega (arith, le, h.0), h.1)
 
@@ -95,7 +94,7 @@ up_all low [] h k d lt = absurd (omega (arith, lt))
 up_all low (x ∷ xs) h zero d lt = h.0
 up_all low (x ∷ xs) h (suc k) d lt = let later = up_all x xs h.1 k d (omega (arith, lt)) in omega (arith, h.0, later)
 
-up_to : (low : ℕ) (xs : List ℕ) → Up low xs → IsNonDecreasing xs
+pub up_to : (low : ℕ) (xs : List ℕ) → Up low xs → IsNonDecreasing xs
 up_to low [] h i j d le lt = absurd (omega (arith, lt))
 up_to low (x ∷ xs) h zero zero d le lt = omega arith
 up_to low (x ∷ xs) h zero (suc j) d le lt = up_all x xs h.1 j d (omega (arith, lt))

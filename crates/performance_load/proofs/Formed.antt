@@ -12,21 +12,21 @@ use Rattle.rhythm_base.specs.declared.event.What.TheVariants as what
 use Rattle.rhythm_base.specs.declared.note.Bar.{Bar}
 use Rattle.rhythm_base.specs.declared.note.Note.{Note}
 use Rattle.rhythm_base.specs.Bars.{AreEnough}
-use Rattle.rhythm_base.specs.Performed.{IsKeyMark, IsNoteOf, IsPinOf, IsTempo, IsWellFormed}
+use Rattle.rhythm_base.specs.Performance.{IsKeyMark, IsNoteOf, IsPinOf, IsTempo, IsWellFormed}
 use Rattle.rhythm_base.specs.Time.{key_in, keys_of, signature_in, signatures_of, tempo_in, tempos_of}
-use Rattle.note_list.specs.Pairing.{ArePaired, HasKey, IsEventOf, IsPlayed}
-use Rattle.smf_reader.specs.Played.{PlayedFile}
+use Rattle.note_list.specs.Pairing.{ArePaired, IsPlayable, IsEventOf, IsPlayed}
+use Rattle.smf_reader.specs.Played.{Smf}
 use Rattle.smf_reader.specs.Ranges.{IsPlayedFile, IsPlayedTrack, IsSaid}
-use Rattle.tempo_map.specs.declared.fault.LayFault.{LayFault}
-use Rattle.tempo_map.specs.declared.fault.LayFault.TheVariants as lay
+use Rattle.rhythm_base.specs.declared.bar_fault.BarFault.{BarFault}
+use Rattle.rhythm_base.specs.declared.bar_fault.BarFault.TheVariants as laying
 use Rattle.tempo_map.specs.Laying.{AreBars, Lays}
-use Rattle.performance_load.specs.Loading.{AreMergedOf, AreVoicesOf, Loads, lay_fault_gives, last_end, last_onset, last_tick}
+use Rattle.performance_load.specs.Loading.{AreMergedOf, AreVoicesOf, Loads, bar_fault_gives, greatest_end, greatest_onset, last_tick}
 use Rattle.performance_load.proofs.EventLemmas.{all_merged, all_tracks, below_greatest, chosen_all, chosen_in_order, greatest_low}
 use Rattle.performance_load.proofs.SomeNote.{some_note}
 
 -- ---- the events
 
-has_key : (w : What) → IsSaid w → HasKey w
+has_key : (w : What) → IsSaid w → IsPlayable w
 has_key (what.On c k) h = h
 has_key (what.Off c k) h = h
 has_key (what.Tempo m) h = tt
@@ -36,7 +36,7 @@ has_key (what.KeySig s) h = tt
 abbrev IsFileEvent : ℕ → Event → Type 0
 IsFileEvent last e = (e.tick ≤ last) × IsSaid e.what
 
-module _ (f : PlayedFile) (events : List Event) (played : IsPlayedFile f) (merged : AreMergedOf f events) where
+module _ (f : Smf) (events : List Event) (played : IsPlayedFile f) (merged : AreMergedOf f events) where
   all_events : All (IsFileEvent (last_tick f)) events
   all_events =
       all_merged (IsFileEvent (last_tick f)) (map (λ t. t.events) f.tracks) events merged
@@ -110,17 +110,17 @@ module _ (f : PlayedFile) (events : List Event) (played : IsPlayedFile f) (merge
   -- ---- the notes and the bars
 
   module _ (notes : List Note) (paired : ArePaired (last_tick f) events notes) (sounded : All (IsPlayed (last_tick f)) notes) where
-    pub onset_low : last_onset notes ≤ last_end notes
+    pub onset_low : greatest_onset notes ≤ greatest_end notes
     onset_low =
-        greatest_low (λ n. n.onset) notes (last_end notes) (λ k d lt.
+        greatest_low (λ n. n.onset) notes (greatest_end notes) (λ k d lt.
         let n = sounded k d lt in
         let most = below_greatest (λ n. n.end) notes k d lt in
         omega (arith, n.after, most))
 
-    pub end_low : last_end notes ≤ 1000000000
+    pub end_low : greatest_end notes ≤ 1000000000
     end_low = greatest_low (λ n. n.end) notes 1000000000 (λ k d lt. let n = sounded k d lt in omega (arith, n.within, few_ticks))
 
-    module _ (bars : List Bar) (last : ℕ) (channels : List ℕ) (laid : AreBars f.division bars last) (enough : AreEnough (last_onset notes) (last_end notes) bars last)
+    module _ (bars : List Bar) (last : ℕ) (channels : List ℕ) (laid : AreBars f.division bars last) (enough : AreEnough (greatest_onset notes) (greatest_end notes) bars last)
         (voices : AreVoicesOf notes channels) where
       is_note : All (IsNoteOf channels last) notes
       is_note k d lt =
@@ -192,7 +192,9 @@ module _ (f : PlayedFile) (events : List Event) (played : IsPlayedFile f) (merge
       }
 
 -- a fault of the bars is one of loading
-pub bars_at_fault : (f : PlayedFile) (events : List Event) (notes : List Note) (fault : LayFault) → AreMergedOf f events → ArePaired (last_tick f) events notes
-    → Lays f.division (signatures_of events) (last_onset notes) (last_end notes) (Err fault) → Loads f (Err (lay_fault_gives fault))
-bars_at_fault f events notes (lay.Bars fault) merged paired h = (events, notes, merged, paired, h)
-bars_at_fault f events notes lay.Memory merged paired h = tt
+pub bars_at_fault : (f : Smf) (events : List Event) (notes : List Note) (fault : BarFault) → AreMergedOf f events → ArePaired (last_tick f) events notes
+    → Lays f.division (signatures_of events) (greatest_onset notes) (greatest_end notes) (Err fault) → Loads f (Err (bar_fault_gives fault))
+bars_at_fault f events notes laying.Memory merged paired h = tt
+bars_at_fault f events notes (laying.TooManyBars start) merged paired h = (events, notes, merged, paired, h)
+bars_at_fault f events notes (laying.BadSignature num dd) merged paired h = (events, notes, merged, paired, h)
+bars_at_fault f events notes (laying.UnevenBar number num den) merged paired h = (events, notes, merged, paired, h)

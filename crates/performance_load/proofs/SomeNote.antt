@@ -1,15 +1,14 @@
 -- Events of which one begins a note have a note.
-use Rattle.std.proofs.Common.{◌≡◌, ℕ, zero, suc, ◌<◌, ◌≤◌, inl, inr, false, List, [], ◌∷◌, ◌++◌, length, refl, ap, ◌∙◌, arith}
+use Rattle.std.proofs.Common.{◌≡◌, ℕ, zero, suc, ◌<◌, ◌≤◌, inl, inr, List, [], ◌∷◌, length, refl, ◌∙◌, arith}
 use Rattle.std.specs.Prelude.{All, Contains}
 use Rattle.std.proofs.lemmas.Bool.{cases_order}
 use Rattle.std.proofs.lemmas.Bool.Decides.{eqb_tells}
 use Rattle.std.proofs.lemmas.List.Elements.{All-cons, All-nil}
 use Rattle.rhythm_base.specs.declared.event.Event.{Event}
-use Rattle.rhythm_base.specs.declared.event.What.{What}
-use Rattle.rhythm_base.specs.declared.event.What.TheVariants.{On, Off, Tempo, Signature, KeySig}
 use Rattle.rhythm_base.specs.declared.note.Note.{Note}
-use Rattle.rhythm_base.specs.Notes.{IsKept, begun, begun_at}
-use Rattle.note_list.specs.Pairing.{ArePaired, AreSilent, begins}
+use Rattle.rhythm_base.specs.Notes.{IsKept, begun}
+use Rattle.note_list.proofs.Ending.{silent_if_none}
+use Rattle.note_list.specs.Pairing.{ArePaired}
 
 abbrev Longer : Note → Note → Type 0
 Longer n m = m.channel ≡ n.channel → m.key ≡ n.key → m.onset ≡ n.onset → m.end ≤ n.end
@@ -59,22 +58,10 @@ some_kept n (k ∷ ns) = by (some_kept n ns)
           ]
         ]
 
--- events of which none begins a note are silent, and only they have no notes
-begun_none : (last : ℕ) (events : List Event) → begun last events ≡ [] → AreSilent events
-begun_none last [] none = All-nil (λ e. begins e.what ≡ false)
-begun_none last (e ∷ events) none = by e.what refl none (begun_none last events)
-  where
-    by : (w : What) → e.what ≡ w → begun_at last e.tick w events ++ begun last events ≡ [] → (begun last events ≡ [] → AreSilent events) → AreSilent (e ∷ events)
-    by (On c k) is none rest = absurd (cc)
-    by (Off c k) is none rest = All-cons (λ e. begins e.what ≡ false) e events (ap begins is) (rest none)
-    by (Tempo m) is none rest = All-cons (λ e. begins e.what ≡ false) e events (ap begins is) (rest none)
-    by (Signature a b) is none rest = All-cons (λ e. begins e.what ≡ false) e events (ap begins is) (rest none)
-    by (KeySig s) is none rest = All-cons (λ e. begins e.what ≡ false) e events (ap begins is) (rest none)
-
 kept_in : (notes : List Note) (ns : List Note) → ((n : Note) → IsKept ns n → Contains notes n) → (ns ≡ [] → ⊥) → 1 ≤ length notes
 kept_in notes [] kept some = absurd (some refl)
 kept_in [] (n ∷ ns) kept some = let one = some_kept n ns in let h = kept one.0 one.1 in absurd (omega (arith, h.1))
 kept_in (m ∷ notes) (n ∷ ns) kept some = omega arith
 
 pub some_note : (last : ℕ) (events : List Event) (notes : List Note) → ArePaired last events notes → 1 ≤ length notes
-some_note last events notes h = kept_in notes (begun last events) (λ n kept. (h.notes.kept n).1 kept) (λ none. h.sounding (begun_none last events none))
+some_note last events notes h = kept_in notes (begun last events) (λ n kept. (h.notes.kept n).1 kept) (λ none. h.sounding (silent_if_none last events none))

@@ -12,7 +12,8 @@ use Rattle.std.proofs.lemmas.List.{length-map}
 use Rattle.std.proofs.lemmas.Map.Keys.{IsStrictlyIncreasing-dedup}
 use Rattle.std.proofs.lemmas.List.Kept.{Contains-dedup_nat, Contains-from_dedup}
 use Rattle.rhythm_base.specs.declared.note.Note.{Note}
-use Rattle.rhythm_base.specs.Performed.{AreInOrder, place_of_note}
+use Rattle.rhythm_base.specs.Lists.{AreInOrder}
+use Rattle.rhythm_base.specs.Performance.{place_of_note}
 use Rattle.performance_load.specs.Loading.{AreVoicesOf}
 
 channel_low : (m n : Note) → slice_cmp nat_cmp (place_of_note m) (place_of_note n) ≡ Less → m.channel ≤ n.channel

@@ -1,5 +1,6 @@
-ghost use Rattle.performance_load.specs.Loading.{AreVoicesOf, last_end, last_onset};
-ghost use Rattle.rhythm_base.specs.Performed.{AreInOrder, place_of_note};
+ghost use Rattle.performance_load.specs.Loading.{AreVoicesOf, greatest_end, greatest_onset};
+ghost use Rattle.rhythm_base.specs.Lists.{AreInOrder};
+ghost use Rattle.rhythm_base.specs.Performance.{place_of_note};
 ghost use Rattle.std.specs.Prelude.{◌≡◌, IfOk};
 
 use rhythm_base::Note;
@@ -20,7 +21,7 @@ pub fn channels_of(alloc: Global, notes: &[Note]) -> Result<Vec<u8>, AllocError>
 
 /// The greatest onset, 0 without notes.
 pub fn last_onset(notes: &[Note]) -> u64
-    ensures { result ≡ last_onset notes.now }
+    ensures { result ≡ greatest_onset notes.now }
 {
     let mut last = 0;
     for note in notes {
@@ -31,7 +32,7 @@ pub fn last_onset(notes: &[Note]) -> u64
 
 /// The greatest end, 0 without notes.
 pub fn last_end(notes: &[Note]) -> u64
-    ensures { result ≡ last_end notes.now }
+    ensures { result ≡ greatest_end notes.now }
 {
     let mut last = 0;
     for note in notes {

@@ -1,11 +1,10 @@
-ghost use Rattle.performance_load.specs.Loading.{note_fault_gives, lay_fault_gives};
+ghost use Rattle.performance_load.specs.Loading.{note_fault_gives, bar_fault_gives};
 ghost use Rattle.performance_load.specs.declared.load_fault.LoadFault.TheVariants.{Memory};
 ghost use Rattle.std.specs.Prelude.{◌≡◌};
 
 use note_list::NoteFault;
 use rhythm_base::BarFault;
 use std::alloc::{AllocError, AllocFailed};
-use tempo_map::LayFault;
 use thiserror::Error;
 
 /// Why a file says no performance.
@@ -33,13 +32,13 @@ impl From<NoteFault> for LoadFault {
     }
 }
 
-impl From<LayFault> for LoadFault {
-    ghost from_gives = { λ x e. e ≡ lay_fault_gives x };
+impl From<BarFault> for LoadFault {
+    ghost from_gives = { λ x e. e ≡ bar_fault_gives x };
 
-    fn from(fault: LayFault) -> LoadFault {
+    fn from(fault: BarFault) -> LoadFault {
         match fault {
-            LayFault::Memory => LoadFault::Memory,
-            LayFault::Bars(other) => LoadFault::Bars(other),
+            BarFault::Memory => LoadFault::Memory,
+            other => LoadFault::Bars(other),
         }
     }
 }

@@ -1,5 +1,5 @@
-// The program: gives the words of the command line, the system's files and its standard streams to `run`, which does
-// the rest.
+//! The program: gives the words of the command line, the system's files and its standard streams to `run`, which does
+//! the rest.
 #![tactic(auto)]
 
 ghost use Rattle.rhythm_app.specs.Stops.{status_of};

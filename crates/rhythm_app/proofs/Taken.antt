@@ -5,10 +5,10 @@ use Rattle.std.proofs.Math.Seq.{take-append-add}
 use Rattle.std.proofs.KnownBytes.{Appends-trans}
 use Rattle.std.specs.Io.KnownBytes.{Appends}
 use Rattle.rhythm_ports.specs.Causes.{HasCause}
-use Rattle.rhythm_app.specs.Ends.{AppendsPart, Reports, TakesPart, TakesScore}
+use Rattle.rhythm_app.specs.Ends.{AppendsPart, Reports, EndsInPart, TakesScore}
 use Rattle.rhythm_app.specs.Score.{IsScore}
 use Rattle.rhythm_app.specs.Tests.{Ready}
-use Rattle.rhythm_app.specs.Stops.{joined}
+use Rattle.rhythm_app.specs.Stops.{joined_words}
 use Rattle.rhythm_app.specs.Parts.{part_text, part_texts}
 use Rattle.rhythm_app.specs.declared.line.Part.{Part}
 
@@ -21,27 +21,27 @@ pub AppendsPart-more : (a b c : Option (List ℕ)) (t u : List ℕ) → Appends 
 AppendsPart-more a b c t u front p =
     (length t + p.0, omega (arith, p.1, length-append t u), subst (Appends a c) (sym (take-append-add t u p.0)) (Appends-trans a b c t (take p.0 u) front p.2))
 
-joined_next : (ps : List Part) (i : ℕ) (d : Part) → i < length ps → joined (part_texts (take (suc i) ps)) ≡ joined (part_texts (take i ps)) ++ part_text (get_or ps i d)
+joined_next : (ps : List Part) (i : ℕ) (d : Part) → i < length ps → joined_words (part_texts (take (suc i) ps)) ≡ joined_words (part_texts (take i ps)) ++ part_text (get_or ps i d)
 joined_next [] i d h = absurd (omega arith)
 joined_next (x ∷ ps) zero d h = append-nil (part_text x)
-joined_next (x ∷ ps) (suc i) d h = ap (λ l. part_text x ++ l) (joined_next ps i d (omega arith)) ∙ sym (append_assoc (part_text x) (joined (part_texts (take i ps))) (part_text (get_or ps i d)))
+joined_next (x ∷ ps) (suc i) d h = ap (λ l. part_text x ++ l) (joined_next ps i d (omega arith)) ∙ sym (append_assoc (part_text x) (joined_words (part_texts (take i ps))) (part_text (get_or ps i d)))
 
-joined_at : (ps : List Part) (i : ℕ) (d : Part) → i < length ps → joined (part_texts ps) ≡ joined (part_texts (take i ps)) ++ (part_text (get_or ps i d) ++ joined (part_texts (drop (suc i) ps)))
+joined_at : (ps : List Part) (i : ℕ) (d : Part) → i < length ps → joined_words (part_texts ps) ≡ joined_words (part_texts (take i ps)) ++ (part_text (get_or ps i d) ++ joined_words (part_texts (drop (suc i) ps)))
 joined_at [] i d h = absurd (omega arith)
 joined_at (x ∷ ps) zero d h = refl
-joined_at (x ∷ ps) (suc i) d h = ap (λ l. part_text x ++ l) (joined_at ps i d (omega arith)) ∙ sym (append_assoc (part_text x) (joined (part_texts (take i ps))) (part_text (get_or ps i d) ++ joined (part_texts (drop (suc i) ps))))
+joined_at (x ∷ ps) (suc i) d h = ap (λ l. part_text x ++ l) (joined_at ps i d (omega arith)) ∙ sym (append_assoc (part_text x) (joined_words (part_texts (take i ps))) (part_text (get_or ps i d) ++ joined_words (part_texts (drop (suc i) ps))))
 
 -- one part more was taken
 pub parts_more : (a b c : Option (List ℕ)) (ps : List Part) (i : ℕ) (d : Part) → i < length ps
-    → Appends a b (joined (part_texts (take i ps))) → Appends b c (part_text (get_or ps i d)) → Appends a c (joined (part_texts (take (i + 1) ps)))
-parts_more a b c ps i d h front next = rw (add-one, joined_next ps i d h) (Appends-trans a b c (joined (part_texts (take i ps))) (part_text (get_or ps i d)) front next)
+    → Appends a b (joined_words (part_texts (take i ps))) → Appends b c (part_text (get_or ps i d)) → Appends a c (joined_words (part_texts (take (i + 1) ps)))
+parts_more a b c ps i d h front next = rw (add-one, joined_next ps i d h) (Appends-trans a b c (joined_words (part_texts (take i ps))) (part_text (get_or ps i d)) front next)
 
 -- the write of a part failed
 pub parts_cut : (a b c : Option (List ℕ)) (ps : List Part) (i : ℕ) (d : Part) → i < length ps
-    → Appends a b (joined (part_texts (take i ps))) → AppendsPart b c (part_text (get_or ps i d)) → AppendsPart a c (joined (part_texts ps))
+    → Appends a b (joined_words (part_texts (take i ps))) → AppendsPart b c (part_text (get_or ps i d)) → AppendsPart a c (joined_words (part_texts ps))
 parts_cut a b c ps i d h front next =
-    let rest = joined (part_texts (drop (suc i) ps)) in
-    let cut = AppendsPart-more a b c (joined (part_texts (take i ps))) (part_text (get_or ps i d) ++ rest) front (AppendsPart-first b c (part_text (get_or ps i d)) rest next) in
+    let rest = joined_words (part_texts (drop (suc i) ps)) in
+    let cut = AppendsPart-more a b c (joined_words (part_texts (take i ps))) (part_text (get_or ps i d) ++ rest) front (AppendsPart-first b c (part_text (get_or ps i d)) rest next) in
     subst (AppendsPart a c) (sym (joined_at ps i d h)) cut
 
 pub OnErr-always : {T E : Type 0} (r : Result T E) (P : Type 0) → P → OnErr r P
@@ -56,7 +56,7 @@ reported a b before now t (Err e) all part cause = inr (cause.failed, part)
 
 -- a first part of a score was taken
 pub score_part : {E : Type 0} (a b : Option (List ℕ)) (text taken : List ℕ) (n : ℕ) (tests : Result Ready E) → taken ≡ text → n < length taken → Appends a b (take n taken)
-    → IsOkAnd tests (λ ready. IsScore ready text) → IsOkAnd tests (TakesPart a b)
+    → IsOkAnd tests (λ ready. IsScore ready text) → IsOkAnd tests (EndsInPart a b)
 score_part a b text taken n (Ok ready) same within cut written =
     (text, written, (n, subst (λ t. n < length t) same within, subst (λ t. Appends a b (take n t)) same cut))
 score_part a b text taken n (Err end) same within cut written = absurd written

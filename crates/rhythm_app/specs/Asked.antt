@@ -21,13 +21,13 @@ asked_by [] = None
 asked_by (word ∷ more) = if pointwise nat_eq word (codes "transcribe") then of_two transcribe more else None
 
 -- the files that a command names
-abbrev pub names_of : Asked → List (List ℕ)
-names_of (transcribe midi grammar) = midi ∷ grammar ∷ []
+abbrev pub file_names : Asked → List (List ℕ)
+file_names (transcribe midi grammar) = midi ∷ grammar ∷ []
 
 -- the bytes under a name, none where there is no such file
-abbrev pub content : List File → List ℕ → List ℕ
-content files name = unwrap_or (file_of files name) []
+abbrev pub file_content : List File → List ℕ → List ℕ
+file_content files name = unwrap_or (file_of files name) []
 
 -- a command as contracts see it
-abbrev pub shown : Transcription → Asked
-shown command = transcribe command.midi.now command.grammar.now
+abbrev pub shown_word : Transcription → Asked
+shown_word command = transcribe command.midi.now command.grammar.now

@@ -3,7 +3,7 @@ use Rattle.std.specs.Prelude.{◌≡◌, ◌≢◌, ℕ, ◌⊎◌, ◌<◌, Lis
 use Rattle.std.specs.Io.KnownBytes.{Appends}
 use Rattle.rhythm_ports.specs.Causes.{Rose}
 use Rattle.rhythm_ports.specs.Files.{File, file_of}
-use Rattle.rhythm_app.specs.Asked.{Asked, transcribe, asked_by, names_of, content}
+use Rattle.rhythm_app.specs.Asked.{Asked, transcribe, asked_by, file_names, file_content}
 use Rattle.rhythm_app.specs.declared.stop.Kind.{Kind}
 use Rattle.rhythm_app.specs.declared.stop.Kind.TheVariants as kind
 use Rattle.rhythm_app.specs.declared.stop.Stop.{Stop}
@@ -26,14 +26,14 @@ abbrev pub AppendsPart : Option (List ℕ) → Option (List ℕ) → List ℕ �
 AppendsPart old new text = (n : ℕ) × (n < length text) × Appends old new (take n text)
 
 -- a first part of the score was taken
-abbrev pub TakesPart : Option (List ℕ) → Option (List ℕ) → Ready → Type 0
-TakesPart old new ready = (text : List ℕ) × IsScore ready text × AppendsPart old new text
+abbrev pub EndsInPart : Option (List ℕ) → Option (List ℕ) → Ready → Type 0
+EndsInPart old new ready = (text : List ℕ) × IsScore ready text × AppendsPart old new text
 
 -- the tests that come before the reading of a file pass
 abbrev pub Reached : Option Asked → List File → Kind → Type 0
 Reached None files kind = ⊥
 Reached (Some (transcribe midi grammar)) files kind.Midi = ⊤
-Reached (Some (transcribe midi grammar)) files kind.Grammar = IsOk (midi_tests (content files midi))
+Reached (Some (transcribe midi grammar)) files kind.Grammar = IsOk (midi_tests (file_content files midi))
 
 -- what the command and the files are where a run ends by a stop: the tests before a failed read pass, all of them before a
 -- failed write and where no derivation fits, and any other stop is the first test that fails
@@ -60,7 +60,7 @@ Reports old new before now line = Appends old new line ⊎ (Rose before now × A
 -- the files have every name of the command
 abbrev pub HasNames : List File → Option Asked → Type 0
 HasNames files None = ⊤
-HasNames files (Some asked) = All (λ name. file_of files name ≢ None) (names_of asked)
+HasNames files (Some asked) = All (λ name. file_of files name ≢ None) (file_names asked)
 
 -- a count neither rose nor stands at its last value
 abbrev pub Stood : ℕ → ℕ → Type 0

@@ -7,7 +7,7 @@ use Rattle.rhythm_app.specs.declared.stop.Stop.TheVariants.{Usage, NoDerivation,
 use Rattle.rhythm_app.specs.Score.{HasNoDerivation, IsScore}
 use Rattle.rhythm_app.specs.Tests.{Ready, chord_tests}
 use Rattle.narrow_midi.specs.NarrowPiece.{PieceValue}
-use Rattle.rhythm_base.specs.Rulebook.{Rulebook}
+use Rattle.rhythm_base.specs.Grammar.{Grammar}
 
 -- a stage gives what its tests give, but for a read that fails and for want of memory
 abbrev pub Follows : {T : Type 0} → Result T Stop → Result T Stop → Type 0
@@ -38,7 +38,7 @@ EndsReading before now Usage = ⊥
 EndsReading before now _ = ⊤
 
 -- why a piece and a grammar have no score: their test fails, no derivation fits, or memory is wanted
-abbrev pub IsNoAnswer : PieceValue → Rulebook → Stop → Type 0
+abbrev pub IsNoAnswer : PieceValue → Grammar → Stop → Type 0
 IsNoAnswer piece book Memory = ⊤
 IsNoAnswer piece book (Read _) = ⊥
 IsNoAnswer piece book Write = ⊥
@@ -48,6 +48,6 @@ IsNoAnswer piece book (NoDerivation channel bar) =
 IsNoAnswer piece book stop = chord_tests piece book ≡ Err stop
 
 -- the score of a piece and a grammar, or why there is none
-abbrev pub IsAnswer : {A : Type 0} → PieceValue → Rulebook → Result (Vec ℕ A) Stop → Type 0
-IsAnswer piece book (Ok text) = (ready : Ready) × (chord_tests piece book ≡ Ok ready) × IsScore ready text.items
-IsAnswer piece book (Err stop) = IsNoAnswer piece book stop
+abbrev pub IsStageAnswer : {A : Type 0} → PieceValue → Grammar → Result (Vec ℕ A) Stop → Type 0
+IsStageAnswer piece book (Ok text) = (ready : Ready) × (chord_tests piece book ≡ Ok ready) × IsScore ready text.items
+IsStageAnswer piece book (Err stop) = IsNoAnswer piece book stop

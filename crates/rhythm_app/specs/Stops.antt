@@ -16,13 +16,13 @@ status_of Memory = 7
 status_of (Unbuilt _) = 8
 
 -- texts, one after another
-abbrev pub joined : List (List ℕ) → List ℕ
-joined [] = []
-joined (text ∷ texts) = text ++ joined texts
+abbrev pub joined_words : List (List ℕ) → List ℕ
+joined_words [] = []
+joined_words (text ∷ texts) = text ++ joined_words texts
 
-abbrev pub name_of : Kind → List ℕ
-name_of kind.Midi = codes "midi"
-name_of kind.Grammar = codes "grammar"
+abbrev pub kind_name : Kind → List ℕ
+kind_name kind.Midi = codes "midi"
+kind_name kind.Grammar = codes "grammar"
 
 abbrev pub missing_name : Missing → List ℕ
 missing_name missing.Midi = codes "midi"
@@ -30,12 +30,12 @@ missing_name missing.Grammar = codes "grammar"
 missing_name missing.Notes = codes "notes"
 
 abbrev pub no_derivation_line : ℕ → ℕ → List ℕ
-no_derivation_line channel bar = joined (codes "no derivation " ∷ decimal channel ∷ codes " " ∷ decimal bar ∷ codes "\n" ∷ [])
+no_derivation_line channel bar = joined_words (codes "no derivation " ∷ decimal channel ∷ codes " " ∷ decimal bar ∷ codes "\n" ∷ [])
 
-abbrev pub line_of : Stop → List ℕ
-line_of Usage = joined (codes "usage\n" ∷ [])
-line_of (NoDerivation channel bar) = no_derivation_line channel bar
-line_of (Read kind) = joined (codes "read " ∷ name_of kind ∷ codes "\n" ∷ [])
-line_of Write = joined (codes "write\n" ∷ [])
-line_of Memory = joined (codes "memory\n" ∷ [])
-line_of (Unbuilt missing) = joined (codes "unbuilt " ∷ missing_name missing ∷ codes "\n" ∷ [])
+abbrev pub stop_line : Stop → List ℕ
+stop_line Usage = joined_words (codes "usage\n" ∷ [])
+stop_line (NoDerivation channel bar) = no_derivation_line channel bar
+stop_line (Read kind) = joined_words (codes "read " ∷ kind_name kind ∷ codes "\n" ∷ [])
+stop_line Write = joined_words (codes "write\n" ∷ [])
+stop_line Memory = joined_words (codes "memory\n" ∷ [])
+stop_line (Unbuilt missing) = joined_words (codes "unbuilt " ∷ missing_name missing ∷ codes "\n" ∷ [])

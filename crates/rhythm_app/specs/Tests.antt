@@ -5,9 +5,9 @@ use Rattle.std.specs.List.{list_all, zip}
 use Rattle.narrow_grammar.specs.NarrowRulebook.{narrow_rulebook}
 use Rattle.narrow_midi.specs.NarrowPiece.{PieceValue, narrow_piece}
 use Rattle.rhythm_base.specs.declared.note.Note.{Note}
-use Rattle.rhythm_base.specs.Rulebook.{Rulebook}
+use Rattle.rhythm_base.specs.Grammar.{Grammar}
 use Rattle.rhythm_ports.specs.Files.{File}
-use Rattle.rhythm_app.specs.Asked.{Asked, transcribe, asked_by, content}
+use Rattle.rhythm_app.specs.Asked.{Asked, transcribe, asked_by, file_content}
 use Rattle.rhythm_app.specs.declared.stop.Kind.{Kind}
 use Rattle.rhythm_app.specs.declared.stop.Kind.TheVariants as kind
 use Rattle.rhythm_app.specs.declared.stop.Missing.{Missing}
@@ -40,7 +40,7 @@ sized kind bytes = if nat_le (length bytes) (limit_of kind) then Ok bytes else E
 unfoldable pub midi_tests : List ℕ → Result PieceValue Stop
 midi_tests bytes = passed (sized kind.Midi bytes) (λ b. built missing.Midi (narrow_piece b))
 
-unfoldable pub grammar_tests : List ℕ → Result Rulebook Stop
+unfoldable pub grammar_tests : List ℕ → Result Grammar Stop
 grammar_tests bytes = passed (sized kind.Grammar bytes) (λ b. built missing.Grammar (narrow_rulebook b))
 
 -- neighbouring notes t < u are further apart than the window, so that each is a chord of its own: at 500,000 microseconds to
@@ -51,9 +51,9 @@ are_apart window notes = list_all (λ q. nat_lt window (500000 * (q.1.onset - q.
 -- a piece and a grammar for it
 pub record Ready : Type 0 where
   pub piece : PieceValue
-  pub book : Rulebook
+  pub book : Grammar
 
-unfoldable pub chord_tests : PieceValue → Rulebook → Result Ready Stop
+unfoldable pub chord_tests : PieceValue → Grammar → Result Ready Stop
 chord_tests piece book =
     if are_apart (book.window * piece.division) piece.notes
     then Ok (record { piece = piece; book = book })
@@ -65,8 +65,8 @@ transcribe_tests f g = passed (midi_tests f) (λ piece. passed (grammar_tests g)
 
 abbrev pub tests_of : Option Asked → List File → Result Ready Stop
 tests_of None files = Err Usage
-tests_of (Some (transcribe midi grammar)) files = transcribe_tests (content files midi) (content files grammar)
+tests_of (Some (transcribe midi grammar)) files = transcribe_tests (file_content files midi) (file_content files grammar)
 
 -- all tests of a command line
-abbrev pub tests : List (List ℕ) → List File → Result Ready Stop
-tests words files = tests_of (asked_by words) files
+abbrev pub all_tests : List (List ℕ) → List File → Result Ready Stop
+all_tests words files = tests_of (asked_by words) files

@@ -1,10 +1,10 @@
-ghost use Rattle.bar_listing.specs.OneBar.{AreWithin, IsBar, measure_of as bar_measure};
+ghost use Rattle.bar_listing.specs.OneBar.{AreWithin, IsOneBar, bar_of_one as bar_measure};
 ghost use Rattle.rhythm_app.specs.Score.{IsLeastText, chords_of};
-ghost use Rattle.rhythm_app.specs.Stages.{IsAnswer};
+ghost use Rattle.rhythm_app.specs.Stages.{IsStageAnswer};
 ghost use Rattle.rhythm_app.specs.Tests.{are_apart};
 ghost use Rattle.rhythm_base.specs.Least.{HasNone};
 ghost use Rattle.rhythm_base.specs.Readable.{IsInRange};
-ghost use Rattle.rhythm_base.specs.Rulebook.{root_of};
+ghost use Rattle.rhythm_base.specs.Grammar.{root_of};
 ghost use Rattle.std.specs.Prelude.{
   ◌≡◌,
   ◌≤◌,
@@ -71,7 +71,7 @@ fn least_text(
 ) -> Result<Option<Vec<u8>>, AllocError>
     requires ranges { IsInRange grammar.now }
     requires few_rules { length grammar.now.rules ≤ 65536 }
-    requires bar { IsBar bar.now }
+    requires bar { IsOneBar bar.now }
     requires notes { All (λ n. n.onset < bar.now.length) notes.now }
     ensures none { result ≡ Ok None → HasNone grammar.now (bar_measure bar.now ∷ []) (chords_of notes.now) }
     ensures text { IfOk result (λ found. IfSome found (λ text. IsLeastText grammar.now (bar_measure bar.now) notes.now text.items)) }
@@ -88,7 +88,7 @@ fn least_text(
 pub fn answer(alloc: Global, piece: &Piece, grammar: &Grammar) -> Result<Vec<u8>, Stop>
     requires ranges { IsInRange grammar.now }
     requires few_rules { length grammar.now.rules ≤ 65536 }
-    ensures { IsAnswer piece.now grammar.now result }
+    ensures { IsStageAnswer piece.now grammar.now result }
 {
     let division = u64::from(piece.division());
     if !are_far(u64::from(grammar.window) * division, piece.notes()) {

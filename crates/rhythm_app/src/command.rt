@@ -1,4 +1,4 @@
-ghost use Rattle.rhythm_app.specs.Asked.{asked_by, shown};
+ghost use Rattle.rhythm_app.specs.Asked.{asked_by, shown_word};
 ghost use Rattle.std.specs.Prelude.{◌≡◌, option_map};
 
 use rhythm_base::Words;
@@ -12,7 +12,7 @@ pub struct Transcription<'a> {
 
 /// The command that the words are.
 pub fn command_of<'a>(words: &'a Words) -> Option<Transcription<'a>>
-    ensures { option_map shown result ≡ asked_by words.entry.now }
+    ensures { option_map shown_word result ≡ asked_by words.entry.now }
 {
     if words.count() != 3 {
         return None;

@@ -1,4 +1,4 @@
-ghost use Rattle.rhythm_app.specs.Asked.{content};
+ghost use Rattle.rhythm_app.specs.Asked.{file_content};
 ghost use Rattle.rhythm_app.specs.Stages.{EndsBy, Follows, items_of};
 ghost use Rattle.rhythm_app.specs.Tests.{grammar_tests, limit_of, midi_tests, missing_of, sized};
 ghost use Rattle.rhythm_app.specs.declared.stop.Kind.TheVariants as kind;
@@ -40,7 +40,7 @@ fn read_file<F: Shelf>(
     kind: Kind,
     name: &str,
 ) -> Result<Vec<u8>, Stop>
-    ensures tests { ForSome (F.files shelf.old) (λ files. Follows (sized kind (content files name.now)) (items_of result)) }
+    ensures tests { ForSome (F.files shelf.old) (λ files. Follows (sized kind (file_content files name.now)) (items_of result)) }
     ensures end { IfErr result (EndsBy kind (F.faults shelf.old) (F.faults shelf.new)) }
     ensures later { F.faults shelf.old ≤ F.faults shelf.new }
     ensures files { F.files shelf.new ≡ F.files shelf.old }
@@ -60,7 +60,7 @@ fn read_file<F: Shelf>(
 /// The piece of the MIDI file.
 #[tactic(auto, unfolding(crate::specs::Tests::midi_tests))]
 pub fn midi_piece<F: Shelf>(alloc: Global, shelf: &mut F, name: &str) -> Result<Piece, Stop>
-    ensures tests { ForSome (F.files shelf.old) (λ files. Follows (midi_tests (content files name.now)) result) }
+    ensures tests { ForSome (F.files shelf.old) (λ files. Follows (midi_tests (file_content files name.now)) result) }
     ensures end { IfErr result (EndsBy kind.Midi (F.faults shelf.old) (F.faults shelf.new)) }
     ensures later { F.faults shelf.old ≤ F.faults shelf.new }
     ensures files { F.files shelf.new ≡ F.files shelf.old }
@@ -77,7 +77,7 @@ pub fn midi_piece<F: Shelf>(alloc: Global, shelf: &mut F, name: &str) -> Result<
 /// The grammar of the grammar file.
 #[tactic(auto, unfolding(crate::specs::Tests::grammar_tests))]
 pub fn grammar_of<F: Shelf>(alloc: Global, shelf: &mut F, name: &str) -> Result<Grammar, Stop>
-    ensures tests { ForSome (F.files shelf.old) (λ files. Follows (grammar_tests (content files name.now)) result) }
+    ensures tests { ForSome (F.files shelf.old) (λ files. Follows (grammar_tests (file_content files name.now)) result) }
     ensures ranges { IfOk result IsInRange }
     ensures few_rules { IfOk result (λ grammar. length grammar.rules ≤ 8) }
     ensures end { IfErr result (EndsBy kind.Grammar (F.faults shelf.old) (F.faults shelf.new)) }

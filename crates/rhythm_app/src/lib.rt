@@ -1,6 +1,6 @@
-// The top call: what the words of a command line ask for, from the bytes of the files that they name to the bytes that
-// are written. `run` carries the promise of the whole program as its contract. Each stage (words, files, answer, text)
-// is a function whose contract says what its tests give, and `run` puts them together.
+//! The top call: what the words of a command line ask for, from the bytes of the files that they name to the bytes that
+//! are written. `run` carries the promise of the whole program as its contract. Each stage (words, files, answer, text)
+//! is a function whose contract says what its tests give, and `run` puts them together.
 #![tactic(auto)]
 
 mod answer;

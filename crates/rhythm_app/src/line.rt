@@ -1,7 +1,7 @@
 ghost use Rattle.rhythm_ports.specs.Causes.{HasCause, Rose};
 ghost use Rattle.rhythm_app.specs.Ends.{AppendsPart, Reports};
 ghost use Rattle.rhythm_app.specs.Parts.{part_text, part_texts};
-ghost use Rattle.rhythm_app.specs.Stops.{joined, line_of, missing_name, name_of, no_derivation_line};
+ghost use Rattle.rhythm_app.specs.Stops.{joined_words, stop_line, missing_name, kind_name, no_derivation_line};
 ghost use Rattle.std.specs.Io.KnownBytes.{Appends};
 ghost use Rattle.std.specs.Prelude.{◌≡◌, OnErr, OnOk, decimal};
 
@@ -16,7 +16,7 @@ enum Part<'a> {
 }
 
 fn name(kind: Kind) -> &'static str
-    ensures { result.now ≡ name_of kind }
+    ensures { result.now ≡ kind_name kind }
 {
     match kind {
         Kind::Midi => "midi",
@@ -66,8 +66,8 @@ fn write_part<K: Sink>(sink: &mut K, part: Part) -> Result<(), Failed>
 
 /// Writes the parts one after another, up to the first that fails.
 fn write_parts<K: Sink>(sink: &mut K, parts: &[Part]) -> Result<(), Failed>
-    ensures all { OnOk result (Appends (K.taken sink.old) (K.taken sink.new) (joined (part_texts parts.now))) }
-    ensures part { OnErr result (AppendsPart (K.taken sink.old) (K.taken sink.new) (joined (part_texts parts.now))) }
+    ensures all { OnOk result (Appends (K.taken sink.old) (K.taken sink.new) (joined_words (part_texts parts.now))) }
+    ensures part { OnErr result (AppendsPart (K.taken sink.old) (K.taken sink.new) (joined_words (part_texts parts.now))) }
     ensures cause { HasCause (K.faults sink.old) (K.faults sink.new) result }
 {
     'parts: for part in parts {
@@ -96,7 +96,7 @@ fn write_no_derivation<K: Sink>(sink: &mut K, channel: u64, bar: u64) -> Result<
 
 /// Writes the line of a stop, or a first part of it where a call fails.
 pub fn write_line<K: Sink>(sink: &mut K, stop: &Stop)
-    ensures { Reports (K.taken sink.old) (K.taken sink.new) (K.faults sink.old) (K.faults sink.new) (line_of stop.now) }
+    ensures { Reports (K.taken sink.old) (K.taken sink.new) (K.faults sink.old) (K.faults sink.new) (stop_line stop.now) }
 {
     let _written = match *stop {
         Stop::Usage => write_parts(sink, &[Part::Text("usage\n")]),

@@ -1,6 +1,6 @@
-ghost use Rattle.bar_listing.specs.OneBar.{measure_of as bar_measure};
-ghost use Rattle.bar_listing.specs.PlacedLeaves.{body_of, line_in as bar_line};
-ghost use Rattle.rhythm_app.specs.Score.{lines_of, note_at, pitch_of, text_of, token_of};
+ghost use Rattle.bar_listing.specs.OneBar.{bar_of_one as bar_measure};
+ghost use Rattle.bar_listing.specs.PlacedLeaves.{placed_line as bar_line};
+ghost use Rattle.rhythm_app.specs.Score.{score_lines, note_at_leaf, pitch_of, text_of_piece, token_of};
 ghost use Rattle.std.specs.Prelude.{
   ◌≡◌,
   ◌++◌,
@@ -14,8 +14,8 @@ ghost use Rattle.std.specs.Prelude.{
 };
 
 use crate::pitch_text::push_pitch;
-use bar_listing::{LeafRule, OneBar, PlacedLeaf, leaves_of, seat};
-use rhythm_base::{Grammar, Note, Tree};
+use bar_listing::{OneBar, PlacedLeaf, leaves_of, seat};
+use rhythm_base::{Ending, Grammar, Note, Tree};
 use std::alloc::{AllocError, Global};
 
 /// Appends a number in decimal digits.
@@ -39,29 +39,28 @@ fn push_note(text: &mut Vec<u8>, note: Option<&Note>) -> Result<(), AllocError>
 /// Appends the token of a leaf: the value of a whole note's part, and what sounds in it.
 fn push_token(
     text: &mut Vec<u8>,
-    rule: LeafRule,
+    rule: Ending,
     value: u16,
     note: Option<&Note>,
 ) -> Result<(), AllocError>
     ensures { OnOk result (text.new.items ≡ text.old.items
-        ++ token_of (body_of rule) (decimal value) (pitch_of (option_copied note.entry))) }
+        ++ token_of rule (decimal value) (pitch_of (option_copied note.entry))) }
 {
     match rule {
-        LeafRule::Note => {
+        Ending::Note => {
             push_number(text, value)?;
             push_note(text, note)
         }
-        LeafRule::Short => {
+        Ending::Short => {
             push_number(text, value)?;
             push_note(text, note)?;
             text.extend_from_slice(b"'")
         }
-        LeafRule::Rest => {
+        Ending::Rest => {
             push_number(text, value)?;
             text.extend_from_slice(b"r")
         }
-        LeafRule::Tie => Ok(()),
-        LeafRule::Grace(_) => Ok(()),
+        _ => Ok(()),
     }
 }
 
@@ -73,7 +72,7 @@ fn first_note<'a>(
     notes: &'a [Note],
     number: usize,
 ) -> Option<&'a Note>
-    ensures { option_copied result ≡ note_at resolution (bar_line bar.now leaves.now) notes.entry.now number }
+    ensures { option_copied result ≡ note_at_leaf resolution (bar_line bar.now leaves.now) notes.entry.now number }
 {
     notes
         .iter()
@@ -88,7 +87,7 @@ pub fn score_text(
     notes: &[Note],
     tree: &Tree,
 ) -> Result<Vec<u8>, AllocError>
-    ensures { IfOk result (λ text. text.items ≡ text_of grammar.now (bar_measure bar.now) notes.now tree.now) }
+    ensures { IfOk result (λ text. text.items ≡ text_of_piece grammar.now (bar_measure bar.now) notes.now tree.now) }
 {
     let resolution = grammar.resolution;
     let leaves = leaves_of(alloc, grammar.rules.as_slice(), resolution, tree)?;

@@ -7,13 +7,13 @@ ghost use Rattle.rhythm_app.specs.Ends.{
   MayEnd,
   Reports,
   Stood,
-  TakesPart,
+  EndsInPart,
   TakesScore,
 };
-ghost use Rattle.rhythm_app.specs.Score.{HasDerivation, HasNoDerivation, IsScore};
+ghost use Rattle.rhythm_app.specs.Score.{PieceHasDerivation, HasNoDerivation, IsScore};
 ghost use Rattle.rhythm_app.specs.Stages.{EndsReading};
-ghost use Rattle.rhythm_app.specs.Stops.{line_of, status_of};
-ghost use Rattle.rhythm_app.specs.Tests.{tests, tests_of};
+ghost use Rattle.rhythm_app.specs.Stops.{stop_line, status_of};
+ghost use Rattle.rhythm_app.specs.Tests.{all_tests, tests_of};
 ghost use Rattle.rhythm_app.specs.declared.stop.Stop.TheVariants as stop;
 ghost use Rattle.rhythm_app.specs.declared.stop.Stop.{Stop};
 ghost use Rattle.rhythm_ports.specs.Causes.{Rose};
@@ -77,11 +77,11 @@ fn perform<F: Shelf, O: Sink>(
 ) -> Result<(), Stop>
     ensures usage { (result ≡ Err stop.Usage) ↔ (asked_by words.now ≡ None) }
     ensures done { OnOk result (ForSome (F.files shelf.old) (λ files.
-        IsOkAnd (tests words.now files) (TakesScore (O.taken out.old) (O.taken out.new)))) }
+        IsOkAnd (all_tests words.now files) (TakesScore (O.taken out.old) (O.taken out.new)))) }
     ensures cause { IfErr result (λ stop. ForSome (F.files shelf.old) (λ files. IsCause words.now files stop)) }
     ensures risen { IfErr result (HasRisen (F.faults shelf.old) (F.faults shelf.new) (O.faults out.old) (O.faults out.new)) }
     ensures part { result ≡ Err stop.Write → ForSome (F.files shelf.old) (λ files.
-        IsOkAnd (tests words.now files) (TakesPart (O.taken out.old) (O.taken out.new))) }
+        IsOkAnd (all_tests words.now files) (EndsInPart (O.taken out.old) (O.taken out.new))) }
     ensures nothing { IfErr result (λ end. end ≢ stop.Write → out.new ≡ out.old) }
     ensures files { F.files shelf.new ≡ F.files shelf.old }
     ensures strays { ForSome (F.files shelf.old) (λ files.
@@ -112,17 +112,17 @@ pub fn run<F: Shelf, O: Sink, E: Sink>(
     ensures usage { (result ≡ 1) ↔ (asked_by words.now ≡ None) }
 
     // 8 comes as the tests say, in their order; where all pass, 0, 3 and 6 may come. A failed read and want of memory end any run.
-    ensures status { ForSome (F.files shelf.old) (λ files. MayEnd (tests words.now files) result) }
+    ensures status { ForSome (F.files shelf.old) (λ files. MayEnd (all_tests words.now files) result) }
 
     // With 0 out took the text of the least derivation, with 6 a first part of it, and else nothing.
     ensures text { result ≡ 0 → ForSome (F.files shelf.old) (λ files.
-        IsOkAnd (tests words.now files) (TakesScore (O.taken out.old) (O.taken out.new))) }
+        IsOkAnd (all_tests words.now files) (TakesScore (O.taken out.old) (O.taken out.new))) }
     ensures part { result ≡ 6 → ForSome (F.files shelf.old) (λ files.
-        IsOkAnd (tests words.now files) (TakesPart (O.taken out.old) (O.taken out.new))) }
+        IsOkAnd (all_tests words.now files) (EndsInPart (O.taken out.old) (O.taken out.new))) }
     ensures nothing { result ≢ 0 → result ≢ 6 → out.new ≡ out.old }
 
     // 3 comes only where no derivation fits. With 0 and 6 one does.
-    ensures none { result ≡ 3 → ForSome (F.files shelf.old) (λ files. IsOkAnd (tests words.now files) HasNoDerivation) }
+    ensures none { result ≡ 3 → ForSome (F.files shelf.old) (λ files. IsOkAnd (all_tests words.now files) HasNoDerivation) }
 
     // A failed call is named only where it came.
     ensures read { result ≡ 5 → Rose (F.faults shelf.old) (F.faults shelf.new) }
@@ -131,7 +131,7 @@ pub fn run<F: Shelf, O: Sink, E: Sink>(
     // With 0 err took nothing, and else the line of the stop, or a first part of it where a call of err failed.
     ensures silent { result ≡ 0 → err.new ≡ err.old }
     ensures line { result ≢ 0 → (stop : Stop) × (status_of stop ≡ result)
-        × Reports (E.taken err.old) (E.taken err.new) (E.faults err.old) (E.faults err.new) (line_of stop)
+        × Reports (E.taken err.old) (E.taken err.new) (E.faults err.old) (E.faults err.new) (stop_line stop)
         × ForSome (F.files shelf.old) (λ files. IsCause words.now files stop) }
 
     // No name is opened but the command's.
@@ -140,7 +140,7 @@ pub fn run<F: Shelf, O: Sink, E: Sink>(
         HasNames files (asked_by words.now) → F.strays shelf.new ≡ F.strays shelf.old) }
 
     // Where the files are accepted, a derivation fits and no count rose, the score is written or there was no memory.
-    ensures complete { ForSome (F.files shelf.old) (λ files. IsOkAnd (tests words.now files) HasDerivation
+    ensures complete { ForSome (F.files shelf.old) (λ files. IsOkAnd (all_tests words.now files) PieceHasDerivation
         → Stood (F.faults shelf.old) (F.faults shelf.new) → Stood (O.faults out.old) (O.faults out.new)
         → (result ≡ 0) ⊎ (result ≡ 7)) }
 {

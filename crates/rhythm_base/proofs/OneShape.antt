@@ -3,7 +3,7 @@ use Rattle.std.proofs.Common.{◌≡◌, ℕ, ◌+◌, Bool, true, false, ◌==�
 use Rattle.std.proofs.lemmas.Bool.{and_parts}
 use Rattle.std.proofs.lemmas.Bool.Decides.{nat_tests}
 use Rattle.std.proofs.lemmas.List.{append_cancel_left}
-use Rattle.rhythm_base.specs.Outline.{Outline, end, part}
+use Rattle.rhythm_base.specs.Shape.{Shape, end, part}
 use Rattle.rhythm_base.specs.ShapeText.{IsShapeText, around_parts, behind_part, shape_text, texts_of_parts}
 use Rattle.rhythm_base.specs.Shapes.{are_cut, can_have, parts_in}
 use Rattle.rhythm_base.specs.ShapeReading.{head_text, tail_text}
@@ -24,19 +24,19 @@ past_tail n s a some = ap (λ b. (if b then [] else s ++ codes ")") ++ a) some �
 past_leaf : (n : ℕ) (s a : List ℕ) → (n == 0) ≡ true → tail_text n s ++ a ≡ a
 past_leaf n s a none = ap (λ b. (if b then [] else s ++ codes ")") ++ a) none
 
-no_parts : (x : Outline) → (parts_in x == 0) ≡ true → x ≡ end
+no_parts : (x : Shape) → (parts_in x == 0) ≡ true → x ≡ end
 no_parts end h = refl
 no_parts (part x rest) h = let none : parts_in rest + 1 ≡ 0 = grind (arith, nat_tests, h) in absurd (omega (arith, none))
 
-both_leaves : (x y : Outline) → parts_in x ≡ parts_in y → (parts_in x == 0) ≡ true → x ≡ y
+both_leaves : (x y : Shape) → parts_in x ≡ parts_in y → (parts_in x == 0) ≡ true → x ≡ y
 both_leaves x y many h = no_parts x h ∙ sym (no_parts y (ap (λ n. n == 0) (sym many) ∙ h))
 
 -- parts whose texts begin alike are the same
-Same : Outline → Outline → Type 0
+Same : Shape → Shape → Type 0
 Same x y = (a b : List ℕ) → texts_of_parts x ++ a ≡ texts_of_parts y ++ b → (x ≡ y) × (a ≡ b)
 
 -- so are shapes, by their parts
-same_tails : (x y : Outline) (a b : List ℕ) → parts_in x ≡ parts_in y → Same x y
+same_tails : (x y : Shape) (a b : List ℕ) → parts_in x ≡ parts_in y → Same x y
     → tail_text (parts_in x) (texts_of_parts x) ++ a ≡ tail_text (parts_in y) (texts_of_parts y) ++ b → (x ≡ y) × (a ≡ b)
 unfolding Same
 same_tails x y a b many same e = go (parts_in x == 0) refl
@@ -50,7 +50,7 @@ same_tails x y a b many same e = go (parts_in x == 0) refl
         (parts.0, append_cancel_left (codes ")") a b parts.1)
 
 -- and parts behind others
-same_behind : (x y : Outline) (a b : List ℕ) → parts_in x ≡ parts_in y → Same x y
+same_behind : (x y : Shape) (a b : List ℕ) → parts_in x ≡ parts_in y → Same x y
     → behind_part (parts_in x) (texts_of_parts x) ++ a ≡ behind_part (parts_in y) (texts_of_parts y) ++ b → (x ≡ y) × (a ≡ b)
 unfolding Same
 same_behind x y a b many same e = go (parts_in x == 0) refl
@@ -65,7 +65,7 @@ same_behind x y a b many same e = go (parts_in x == 0) refl
     go true h = (both_leaves x y many h, alike true h)
     go false h = same a b (append_cancel_left (codes " ") _ _ (alike false h))
 
-pub same_parts : (x y : Outline) (a b : List ℕ) → parts_in x ≡ parts_in y → are_cut x ≡ true → are_cut y ≡ true
+pub same_parts : (x y : Shape) (a b : List ℕ) → parts_in x ≡ parts_in y → are_cut x ≡ true → are_cut y ≡ true
     → texts_of_parts x ++ a ≡ texts_of_parts y ++ b → (x ≡ y) × (a ≡ b)
 unfolding Same
 same_parts end end a b many p q e = (refl, e)
@@ -87,7 +87,7 @@ same_parts (part x rest) (part y more) a b many p q e =
     ((λ i. part (first.0 i) (others.0 i)), others.1)
 
 -- a text begins with the text of one shape at most
-pub same_shape : (x y : Outline) (a b : List ℕ) → can_have (parts_in x) ≡ true → can_have (parts_in y) ≡ true → are_cut x ≡ true → are_cut y ≡ true
+pub same_shape : (x y : Shape) (a b : List ℕ) → can_have (parts_in x) ≡ true → can_have (parts_in y) ≡ true → are_cut x ≡ true → are_cut y ≡ true
     → shape_text x ++ a ≡ shape_text y ++ b → (x ≡ y) × (a ≡ b)
 unfolding shape_text Same
 same_shape x y a b can_x can_y cut_x cut_y e =
@@ -95,7 +95,7 @@ same_shape x y a b can_x can_y cut_x cut_y e =
     same_tails x y a b head.0 (λ u v. same_parts x y u v head.0 cut_x cut_y) head.1
 
 -- a text is that of one shape at most
-pub one_shape : (text : List ℕ) (x y : Outline) → IsShapeText text x → IsShapeText text y → x ≡ y
+pub one_shape : (text : List ℕ) (x y : Shape) → IsShapeText text x → IsShapeText text y → x ≡ y
 one_shape text x y p q =
     let p' = and_parts (can_have (parts_in x)) _ p.shape in
     let q' = and_parts (can_have (parts_in y)) _ q.shape in

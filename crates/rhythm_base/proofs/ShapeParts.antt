@@ -2,9 +2,9 @@
 use Rattle.std.proofs.Common.{◌≡◌, ℕ, zero, suc, ◌+◌, ◌-◌, ◌≤◌, true, false, ◌&&◌, ◌==◌, if◌then◌else◌, List, [], ◌∷◌, ◌++◌, codes, length, refl, sym, ap, ◌∙◌, subst, arith, append_assoc, append-nil}
 use Rattle.std.proofs.lemmas.Bool.{and_parts}
 use Rattle.std.proofs.lemmas.Bool.Decides.{nat_tests}
-use Rattle.rhythm_base.specs.Outline.{Outline, end, part, outline_of}
-use Rattle.rhythm_base.proofs.ShapeTexts.{parts_in-outline_of}
-use Rattle.rhythm_base.specs.ShapeReading.{AreParts, Byte, Head, IsPart, Part, Parts, StopsWith, head_text, tail_text}
+use Rattle.rhythm_base.specs.Shape.{Shape, end, part, shape_of_parts}
+use Rattle.rhythm_base.proofs.ShapeTexts.{parts_in-shape_of_parts}
+use Rattle.rhythm_base.specs.ShapeReading.{AreParts, ByteText, HeadText, IsPart, PartText, PartsText, StopsWith, head_text, tail_text}
 use Rattle.rhythm_base.specs.ShapeText.{behind_part, shape_text, texts_of_parts}
 use Rattle.rhythm_base.specs.Shapes.{are_cut, can_have, depth, parts_in}
 use Rattle.rhythm_base.proofs.OneShape.{same_parts, same_shape}
@@ -12,7 +12,7 @@ use Rattle.rhythm_base.proofs.ShapeHeads.{around_is, same_head}
 use Rattle.rhythm_base.proofs.ShapeStops.{rest_same, stops_behind, stops_first}
 
 -- so many leaves
-leaves : ℕ → Outline
+leaves : ℕ → Shape
 leaves zero = end
 leaves (suc n) = part end (leaves n)
 
@@ -38,22 +38,22 @@ leaves_deep (suc (suc n)) levels low =
     let rest = leaves_deep (suc n) levels (λ none. absurd (omega (arith, low none))) in
     omega (arith, rest, positive levels (suc n) low)
 
-no_levels : (x : Outline) → depth x ≤ 0 → parts_in x ≡ 0
+no_levels : (x : Shape) → depth x ≤ 0 → parts_in x ≡ 0
 no_levels end h = refl
 no_levels (part x rest) h = absurd (omega (arith, h))
 
 -- a shape's text is its head and what stands behind it
-shape_is : (x : Outline) → shape_text x ≡ head_text (parts_in x) ++ tail_text (parts_in x) (texts_of_parts x)
+shape_is : (x : Shape) → shape_text x ≡ head_text (parts_in x) ++ tail_text (parts_in x) (texts_of_parts x)
 unfolding shape_text
 shape_is x = around_is (parts_in x) (texts_of_parts x)
 
 -- in the head
-pub stops_in_head : (levels : ℕ) (text : List ℕ) (left : ℕ) → StopsWith (Head levels) text left → StopsWith (Part levels) text left
-stops_in_head levels text left stop = stops_first {B = Part levels} text left stop
+pub stops_in_head : (levels : ℕ) (text : List ℕ) (left : ℕ) → StopsWith (HeadText levels) text left → StopsWith (PartText levels) text left
+stops_in_head levels text left stop = stops_first {B = PartText levels} text left stop
     (λ a w.
-    let x : Outline = leaves w.0 in
+    let x : Shape = leaves w.0 in
     let is : IsPart levels x = record { can = subst (λ n. can_have n ≡ true) (sym (leaves_many w.0)) w.1.can; cut = leaves_cut w.0; low = leaves_deep w.0 levels w.1.low } in
-    let whole : Part levels (a ++ tail_text w.0 (texts_of_parts x)) = (
+    let whole : PartText levels (a ++ tail_text w.0 (texts_of_parts x)) = (
       x,
       is,
       ap (λ l. l ++ tail_text w.0 (texts_of_parts x)) w.2
@@ -69,14 +69,14 @@ stops_in_head levels text left stop = stops_first {B = Part levels} text left st
 
 -- parts and the bracket behind them
 Closed : ℕ → ℕ → List ℕ → Type 0
-Closed levels n text = (x : Outline) × AreParts levels n x × (text ≡ texts_of_parts x ++ codes ")")
+Closed levels n text = (x : Shape) × AreParts levels n x × (text ≡ texts_of_parts x ++ codes ")")
 
 past_tail : (n : ℕ) (s : List ℕ) → (n == 0) ≡ false → tail_text n s ≡ s ++ codes ")"
 past_tail n s some = ap (λ b. if b then [] else s ++ codes ")") some
 
 -- behind the head of a cut
 stops_closed : (levels n : ℕ) (rest text : List ℕ) (left : ℕ) → can_have n ≡ true → (n == 0) ≡ false → text ≡ head_text n ++ rest
-    → StopsWith (Closed levels n) rest left → StopsWith (Part levels) text left
+    → StopsWith (Closed levels n) rest left → StopsWith (PartText levels) text left
 unfolding Closed
 stops_closed levels n rest text left can some is stop =
     stops_behind (head_text n) rest text left is stop
@@ -96,7 +96,7 @@ stops_closed levels n rest text left can some is stop =
 
 -- in the parts of a cut
 pub stops_in_parts : (levels n : ℕ) (rest text : List ℕ) (left : ℕ) → can_have n ≡ true → (n == 0) ≡ false → text ≡ head_text n ++ rest
-    → StopsWith (Parts levels n) rest left → StopsWith (Part levels) text left
+    → StopsWith (PartsText levels n) rest left → StopsWith (PartText levels) text left
 unfolding Closed
 stops_in_parts levels n rest text left can some is stop =
     stops_closed levels n rest text left can some is (stops_first {B = Closed levels n} rest left stop
@@ -104,8 +104,8 @@ stops_in_parts levels n rest text left can some is stop =
     (λ whole w. (texts_of_parts w.0, codes ")", (w.0, w.1, refl), w.2)))
 
 -- before the bracket behind them
-pub stops_at_bracket : (levels n : ℕ) (x : Outline) (last rest text : List ℕ) (left : ℕ) → can_have n ≡ true → (n == 0) ≡ false → text ≡ head_text n ++ rest
-    → AreParts levels n x → rest ≡ texts_of_parts x ++ last → StopsWith (Byte 41) last left → StopsWith (Part levels) text left
+pub stops_at_bracket : (levels n : ℕ) (x : Shape) (last rest text : List ℕ) (left : ℕ) → can_have n ≡ true → (n == 0) ≡ false → text ≡ head_text n ++ rest
+    → AreParts levels n x → rest ≡ texts_of_parts x ++ last → StopsWith (ByteText 41) last left → StopsWith (PartText levels) text left
 unfolding Closed
 stops_at_bracket levels n x last rest text left can some is are parts stop =
     stops_closed levels n rest text left can some is (stops_behind (texts_of_parts x) last rest left parts stop
@@ -116,7 +116,7 @@ stops_at_bracket levels n x last rest text left can some is are parts stop =
     (codes ")", refl, one.1)))
 
 -- the shape of a cut that was read
-pub cut_is : (levels n : ℕ) (x : Outline) (last rest text : List ℕ) → can_have n ≡ true → (n == 0) ≡ false → text ≡ head_text n ++ rest
+pub cut_is : (levels n : ℕ) (x : Shape) (last rest text : List ℕ) → can_have n ≡ true → (n == 0) ≡ false → text ≡ head_text n ++ rest
     → AreParts levels n x → rest ≡ texts_of_parts x ++ (41 ∷ last) → IsPart levels x × (text ≡ shape_text x ++ last)
 cut_is levels n x last rest text can some is are parts =
     let T : List ℕ = texts_of_parts x in
@@ -137,26 +137,26 @@ leaf_text_is = refl
 -- ---- parts
 
 -- one part and others
-pub one_more : (levels n : ℕ) (x rest : Outline) → 1 ≤ levels → IsPart (levels - 1) x → AreParts levels n rest → AreParts levels (n + 1) (part x rest)
+pub one_more : (levels n : ℕ) (x rest : Shape) → 1 ≤ levels → IsPart (levels - 1) x → AreParts levels n rest → AreParts levels (n + 1) (part x rest)
 one_more levels n x rest deep is are = record {
   many = ap (λ k. k + 1) are.many;
   cut = λ i. is.can i && (is.cut i && are.cut i);
   low = omega (arith, is.low, are.low);
 }
 
-texts_are : (x rest : Outline) → texts_of_parts (part x rest) ≡ shape_text x ++ behind_part (parts_in rest) (texts_of_parts rest)
+texts_are : (x rest : Shape) → texts_of_parts (part x rest) ≡ shape_text x ++ behind_part (parts_in rest) (texts_of_parts rest)
 unfolding shape_text
 texts_are x rest = refl
 
 -- in the first
-pub stops_in_part : (levels n : ℕ) (text : List ℕ) (left : ℕ) → 1 ≤ levels → 1 ≤ n → StopsWith (Part (levels - 1)) text left → StopsWith (Parts levels n) text left
-stops_in_part levels n text left deep some stop = stops_first {B = Parts levels n} text left stop
+pub stops_in_part : (levels n : ℕ) (text : List ℕ) (left : ℕ) → 1 ≤ levels → 1 ≤ n → StopsWith (PartText (levels - 1)) text left → StopsWith (PartsText levels n) text left
+stops_in_part levels n text left deep some stop = stops_first {B = PartsText levels n} text left stop
     (λ a w.
-    let rest : Outline = leaves (n - 1) in
+    let rest : Shape = leaves (n - 1) in
     let text : List ℕ = behind_part (parts_in rest) (texts_of_parts rest) in
     let are : AreParts levels (n - 1) rest =
     record { many = leaves_many (n - 1); cut = leaves_cut (n - 1); low = leaves_deep (n - 1) levels (λ none. absurd (omega (arith, none))) } in
-    let whole : Parts levels n (a ++ text) = (
+    let whole : PartsText levels n (a ++ text) = (
       part w.0 rest,
       subst (λ k. AreParts levels k (part w.0 rest)) (omega arith) (one_more levels (n - 1) w.0 rest deep w.1 are),
       ap (λ l. l ++ text) w.2 ∙ sym (texts_are w.0 rest),
@@ -164,21 +164,21 @@ stops_in_part levels n text left deep some stop = stops_first {B = Parts levels 
     (text, whole))
     (λ whole w. first w.0 w.1 w.2)
   where
-    first_of : {x rest : Outline} → AreParts levels n (part x rest) → IsPart (levels - 1) x
+    first_of : {x rest : Shape} → AreParts levels n (part x rest) → IsPart (levels - 1) x
     first_of {x} {rest} are =
         let p = and_parts (can_have (parts_in x)) _ are.cut in
         record { can = p.0; cut = (and_parts (are_cut x) _ p.1).0; low = omega (arith, are.low) }
 
-    first : {whole : List ℕ} (x : Outline) → AreParts levels n x → whole ≡ texts_of_parts x → (a b : List ℕ) × Part (levels - 1) a × (whole ≡ a ++ b)
+    first : {whole : List ℕ} (x : Shape) → AreParts levels n x → whole ≡ texts_of_parts x → (a b : List ℕ) × PartText (levels - 1) a × (whole ≡ a ++ b)
     first end are is = absurd (omega (arith, are.many))
     first (part x rest) are is = (shape_text x, behind_part (parts_in rest) (texts_of_parts rest), (x, first_of are, refl), is ∙ texts_are x rest)
 
 -- the others, behind a space
 More : ℕ → ℕ → List ℕ → Type 0
-More levels n text = (x : Outline) × AreParts levels n x × (text ≡ codes " " ++ texts_of_parts x)
+More levels n text = (x : Shape) × AreParts levels n x × (text ≡ codes " " ++ texts_of_parts x)
 
-stops_in_more : (levels n : ℕ) (x : Outline) (rest text : List ℕ) (left : ℕ) → 1 ≤ levels → 1 ≤ n → IsPart (levels - 1) x → text ≡ shape_text x ++ rest
-    → StopsWith (More levels n) rest left → StopsWith (Parts levels (n + 1)) text left
+stops_in_more : (levels n : ℕ) (x : Shape) (rest text : List ℕ) (left : ℕ) → 1 ≤ levels → 1 ≤ n → IsPart (levels - 1) x → text ≡ shape_text x ++ rest
+    → StopsWith (More levels n) rest left → StopsWith (PartsText levels (n + 1)) text left
 unfolding More
 stops_in_more levels n x rest text left deep some is_part is stop =
     stops_behind (shape_text x) rest text left is stop
@@ -190,10 +190,10 @@ stops_in_more levels n x rest text left deep some is_part is stop =
     ))
     (λ other whole behind w same. split other behind w.0 w.1 (same ∙ ap (λ l. l ++ behind) w.2))
   where
-    behind_is : (y : Outline) → n ≡ parts_in y → behind_part (parts_in y) (texts_of_parts y) ≡ codes " " ++ texts_of_parts y
+    behind_is : (y : Shape) → n ≡ parts_in y → behind_part (parts_in y) (texts_of_parts y) ≡ codes " " ++ texts_of_parts y
     behind_is y many = let not : (parts_in y == 0) ≡ false = grind (arith, nat_tests, many, some) in ap (λ b. if b then [] else codes " " ++ texts_of_parts y) not
 
-    split : (other behind : List ℕ) (y : Outline) → AreParts levels (n + 1) y → shape_text x ++ other ≡ texts_of_parts y ++ behind
+    split : (other behind : List ℕ) (y : Shape) → AreParts levels (n + 1) y → shape_text x ++ other ≡ texts_of_parts y ++ behind
         → (b : List ℕ) × More levels n b × (other ≡ b ++ behind)
     split other behind end are e = absurd (omega (arith, are.many))
     split other behind (part y more) are e =
@@ -207,8 +207,8 @@ stops_in_more levels n x rest text left deep some is_part is stop =
           one.1 ∙ ap (λ l. l ++ behind) (behind_is more many),
         )
 
-pub stops_at_space : (levels n : ℕ) (x : Outline) (rest text : List ℕ) (left : ℕ) → 1 ≤ levels → 1 ≤ n → IsPart (levels - 1) x → text ≡ shape_text x ++ rest
-    → StopsWith (Byte 32) rest left → StopsWith (Parts levels (n + 1)) text left
+pub stops_at_space : (levels n : ℕ) (x : Shape) (rest text : List ℕ) (left : ℕ) → 1 ≤ levels → 1 ≤ n → IsPart (levels - 1) x → text ≡ shape_text x ++ rest
+    → StopsWith (ByteText 32) rest left → StopsWith (PartsText levels (n + 1)) text left
 unfolding More
 stops_at_space levels n x rest text left deep some is_part is stop =
     stops_in_more levels n x rest text left deep some is_part is (stops_first {B = More levels n} rest left stop
@@ -219,8 +219,8 @@ stops_at_space levels n x rest text left deep some is_part is stop =
     (texts_of_parts (leaves n), whole))
     (λ whole w. (codes " ", texts_of_parts w.0, refl, w.2)))
 
-pub stops_in_others : (levels n : ℕ) (x : Outline) (last rest text : List ℕ) (left : ℕ) → 1 ≤ levels → 1 ≤ n → IsPart (levels - 1) x → text ≡ shape_text x ++ rest
-    → rest ≡ 32 ∷ last → StopsWith (Parts levels n) last left → StopsWith (Parts levels (n + 1)) text left
+pub stops_in_others : (levels n : ℕ) (x : Shape) (last rest text : List ℕ) (left : ℕ) → 1 ≤ levels → 1 ≤ n → IsPart (levels - 1) x → text ≡ shape_text x ++ rest
+    → rest ≡ 32 ∷ last → StopsWith (PartsText levels n) last left → StopsWith (PartsText levels (n + 1)) text left
 unfolding More
 stops_in_others levels n x last rest text left deep some is_part is space stop =
     stops_in_more levels n x rest text left deep some is_part is (stops_behind (32 ∷ []) last rest left space stop
@@ -231,16 +231,16 @@ pub not_none : (n : ℕ) → (n ≡ 0 → ⊥) → (n == 0) ≡ false
 not_none n some = grind (arith, nat_tests, some)
 
 -- how many parts were read
-pub size_of_parts : {levels n : ℕ} (before read after : List Outline) → before ≡ [] → after ≡ before ++ read → AreParts levels n (outline_of read) → length after ≡ n
-size_of_parts before read after none is are = ap length (is ∙ ap (λ l. l ++ read) none) ∙ sym (parts_in-outline_of read) ∙ are.many
+pub size_of_parts : {levels n : ℕ} (before read after : List Shape) → before ≡ [] → after ≡ before ++ read → AreParts levels n (shape_of_parts read) → length after ≡ n
+size_of_parts before read after none is are = ap length (is ∙ ap (λ l. l ++ read) none) ∙ sym (parts_in-shape_of_parts read) ∙ are.many
 
 pub cut_size : (n : ℕ) → can_have n ≡ true → (n ≡ 0 → ⊥) → (2 ≤ n) × (n ≤ 16)
 cut_size n can some = (grind (arith, nat_tests, can, some), grind (arith, nat_tests, can, some))
 
 -- what was read, where one part was the last
-pub last_part : (levels n : ℕ) (x : Outline) (rest text : List ℕ) (before after : List Outline) → 1 ≤ levels → n ≡ 1 → IsPart (levels - 1) x
+pub last_part : (levels n : ℕ) (x : Shape) (rest text : List ℕ) (before after : List Shape) → 1 ≤ levels → n ≡ 1 → IsPart (levels - 1) x
     → text ≡ shape_text x ++ rest → after ≡ before ++ x ∷ []
-    → (read : List Outline) × AreParts levels n (outline_of read) × (after ≡ before ++ read) × (text ≡ texts_of_parts (outline_of read) ++ rest)
+    → (read : List Shape) × AreParts levels n (shape_of_parts read) × (after ≡ before ++ read) × (text ≡ texts_of_parts (shape_of_parts read) ++ rest)
 last_part levels n x rest text before after deep one is_part is pushed =
     let none : AreParts levels 0 end = record { many = refl; cut = refl; low = omega arith } in (
       x ∷ [],
@@ -250,12 +250,12 @@ last_part levels n x rest text before after deep one is_part is pushed =
     )
 
 -- and where others followed
-pub more_parts : (levels n : ℕ) (x : Outline) (last rest text : List ℕ) (before middle after : List Outline) → 1 ≤ levels → 1 ≤ n - 1 → IsPart (levels - 1) x
+pub more_parts : (levels n : ℕ) (x : Shape) (last rest text : List ℕ) (before middle after : List Shape) → 1 ≤ levels → 1 ≤ n - 1 → IsPart (levels - 1) x
     → text ≡ shape_text x ++ rest → middle ≡ before ++ x ∷ [] → (behind : List ℕ) → rest ≡ 32 ∷ behind
-    → ((read : List Outline) × AreParts levels (n - 1) (outline_of read) × (after ≡ middle ++ read) × (behind ≡ texts_of_parts (outline_of read) ++ last))
-    → (read : List Outline) × AreParts levels n (outline_of read) × (after ≡ before ++ read) × (text ≡ texts_of_parts (outline_of read) ++ last)
+    → ((read : List Shape) × AreParts levels (n - 1) (shape_of_parts read) × (after ≡ middle ++ read) × (behind ≡ texts_of_parts (shape_of_parts read) ++ last))
+    → (read : List Shape) × AreParts levels n (shape_of_parts read) × (after ≡ before ++ read) × (text ≡ texts_of_parts (shape_of_parts read) ++ last)
 more_parts levels n x last rest text before middle after deep more is_part is pushed behind space others =
-    let y : Outline = outline_of others.0 in
+    let y : Shape = shape_of_parts others.0 in
     let some : (parts_in y == 0) ≡ false = not_none (parts_in y) (λ none. omega (arith, none, more, others.1.many)) in
     let behind_is : behind_part (parts_in y) (texts_of_parts y) ≡ 32 ∷ texts_of_parts y = ap (λ b. if b then [] else codes " " ++ texts_of_parts y) some in (
       x ∷ others.0,

@@ -4,7 +4,7 @@ use Rattle.std.specs.Prelude.{IfErr, Result, Err, ◌⊎◌}
 use Rattle.std.proofs.Common.{inl, inr}
 use Rattle.rhythm_base.specs.declared.shape_parse.Stop.{Stop}
 use Rattle.rhythm_base.specs.declared.shape_parse.Stop.TheVariants.{With, Memory}
-use Rattle.rhythm_base.specs.ShapeReading.{Byte, Head, HeadBehind1, IsHead, Stops, StopsWith, behind_1, head_text, next_of}
+use Rattle.rhythm_base.specs.ShapeReading.{ByteText, HeadText, HeadBehind1, IsHead, Stops, StopsWith, behind_1, head_text, next_byte}
 use Rattle.std.proofs.lemmas.Bool.Decides.{nat_tests}
 use Rattle.std.proofs.lemmas.Result.{IfErr-weaker}
 use Rattle.rhythm_base.specs.Shapes.{can_have}
@@ -23,7 +23,7 @@ stops_behind {A} {B} first rest text left is stop join split = record {
   more = stop.more;
   begins = subst A (sym (append_assoc first stop.read stop.more)) (join (stop.read ++ stop.more) stop.begins);
   stops = λ whole other behind is_whole same.
-      let cut = split (stop.read ++ (next_of stop.rest ∷ other)) whole behind is_whole (sym (append_assoc first stop.read _) ∙ same) in
+      let cut = split (stop.read ++ (next_byte stop.rest ∷ other)) whole behind is_whole (sym (append_assoc first stop.read _) ∙ same) in
       stop.stops cut.0 other behind cut.1 cut.2;
 }
 
@@ -45,7 +45,7 @@ stops_first {A} {B} text left stop more first = record {
 }
 
 -- before the first byte
-pub stops_before : {A : List ℕ → Type 0} (text more : List ℕ) → A more → ((whole : List ℕ) → A whole → (other behind : List ℕ) → next_of text ∷ other ≡ whole ++ behind → ⊥)
+pub stops_before : {A : List ℕ → Type 0} (text more : List ℕ) → A more → ((whole : List ℕ) → A whole → (other behind : List ℕ) → next_byte text ∷ other ≡ whole ++ behind → ⊥)
     → StopsWith A text (length text)
 stops_before text more begins stops = record {
   read = [];
@@ -63,7 +63,7 @@ first_same e = cc
 pub rest_same : {m n : ℕ} {xs ys : List ℕ} → m ∷ xs ≡ n ∷ ys → xs ≡ ys
 rest_same e = cc
 
-pub no_byte : (byte : ℕ) (text : List ℕ) → (next_of text ≡ byte → ⊥) → StopsWith (Byte byte) text (length text)
+pub no_byte : (byte : ℕ) (text : List ℕ) → (next_byte text ≡ byte → ⊥) → StopsWith (ByteText byte) text (length text)
 no_byte byte text other = stops_before text (byte ∷ []) refl
     (λ whole is more behind same. other (first_same (same ∙ ap (λ l. l ++ behind) is)))
 
@@ -85,46 +85,46 @@ turned {T} {A} {B} {t} {u} r err turn = IfErr-weaker r (λ stop. Stops A t stop)
     go (With left) h = turn left h
     go Memory h = tt
 
-pub nothing_next : (text : List ℕ) → length text ≡ 0 → next_of text ≡ 256
+pub nothing_next : (text : List ℕ) → length text ≡ 0 → next_byte text ≡ 256
 nothing_next [] none = refl
 nothing_next (byte ∷ rest) none = absurd (omega (arith, none))
 
-pub next_is : (text : List ℕ) → 1 ≤ length text → next_of text ≡ get_or text 0 0
+pub next_is : (text : List ℕ) → 1 ≤ length text → next_byte text ≡ get_or text 0 0
 next_is [] some = absurd (omega (arith, some))
 next_is (byte ∷ rest) some = refl
 
 -- ---- the number of parts
 
 -- behind the first digit
-pub no_second : (text : List ℕ) → (48 ≤ next_of text → next_of text ≤ 54 → ⊥) → StopsWith HeadBehind1 text (length text)
+pub no_second : (text : List ℕ) → (48 ≤ next_byte text → next_byte text ≤ 54 → ⊥) → StopsWith HeadBehind1 text (length text)
 no_second text other = stops_before text (behind_1 10) (10, omega arith, omega arith, refl)
     (λ whole is more behind same.
-    let first : next_of text ≡ 38 + is.0 = first_same (same ∙ ap (λ l. l ++ behind) is.3) in
+    let first : next_byte text ≡ 38 + is.0 = first_same (same ∙ ap (λ l. l ++ behind) is.3) in
     other (omega (arith, is.1, first)) (omega (arith, is.2, first)))
 
-pub second_then_bracket : (n : ℕ) (rest text : List ℕ) (left : ℕ) → 10 ≤ n → n ≤ 16 → text ≡ (38 + n) ∷ rest → StopsWith (Byte 40) rest left → StopsWith HeadBehind1 text left
+pub second_then_bracket : (n : ℕ) (rest text : List ℕ) (left : ℕ) → 10 ≤ n → n ≤ 16 → text ≡ (38 + n) ∷ rest → StopsWith (ByteText 40) rest left → StopsWith HeadBehind1 text left
 second_then_bracket n rest text left low high is stop =
     stops_behind ((38 + n) ∷ []) rest text left is stop (λ b e. (n, low, high, ap (λ l. (38 + n) ∷ l) e))
     (λ other whole behind w same. let e = same ∙ ap (λ l. l ++ behind) w.3 in (40 ∷ [], refl, rest_same e))
 
 -- the first byte is none that a head begins with
-pub no_head : (levels : ℕ) (text : List ℕ) → (next_of text ≡ 46 → ⊥) → ((levels ≡ 0) ⊎ (next_of text < 49) ⊎ (57 < next_of text)) → StopsWith (Head levels) text (length text)
+pub no_head : (levels : ℕ) (text : List ℕ) → (next_byte text ≡ 46 → ⊥) → ((levels ≡ 0) ⊎ (next_byte text < 49) ⊎ (57 < next_byte text)) → StopsWith (HeadText levels) text (length text)
 no_head levels text no_leaf no_cut = stops_before text (codes ".") (0, record { can = refl; low = λ h. refl }, refl)
     (λ whole is more behind same. wrong behind is.0 is.1 (head_is is.0 is.1.can) (same ∙ ap (λ l. l ++ behind) is.2) no_cut)
   where
-    outside : ((next_of text < 49) ⊎ (57 < next_of text)) → 49 ≤ next_of text → next_of text ≤ 57 → ⊥
+    outside : ((next_byte text < 49) ⊎ (57 < next_byte text)) → 49 ≤ next_byte text → next_byte text ≤ 57 → ⊥
     outside (inl h) low high = omega arith
     outside (inr h) low high = omega arith
 
-    wrong : (behind : List ℕ) {other : List ℕ} (n : ℕ) → IsHead levels n → HeadIs n (head_text n) → next_of text ∷ other ≡ head_text n ++ behind
-        → ((levels ≡ 0) ⊎ (next_of text < 49) ⊎ (57 < next_of text)) → ⊥
+    wrong : (behind : List ℕ) {other : List ℕ} (n : ℕ) → IsHead levels n → HeadIs n (head_text n) → next_byte text ∷ other ≡ head_text n ++ behind
+        → ((levels ≡ 0) ⊎ (next_byte text < 49) ⊎ (57 < next_byte text)) → ⊥
     wrong behind n h (inl (none, is)) e k = no_leaf (first_same (e ∙ ap (λ l. l ++ behind) is))
     wrong behind n h (inr (inl (low, high, is))) e (inl z) = omega (arith, h.low z)
     wrong behind n h (inr (inl (low, high, is))) e (inr z) =
-        let first : next_of text ≡ 48 + n = first_same (e ∙ ap (λ l. l ++ behind) is) in outside z (omega (arith, first, low)) (omega (arith, first, high))
+        let first : next_byte text ≡ 48 + n = first_same (e ∙ ap (λ l. l ++ behind) is) in outside z (omega (arith, first, low)) (omega (arith, first, high))
     wrong behind n h (inr (inr (low, high, is))) e (inl z) = omega (arith, h.low z)
     wrong behind n h (inr (inr (low, high, is))) e (inr z) =
-        let first : next_of text ≡ 49 = first_same (e ∙ ap (λ l. l ++ behind) is) in outside z (omega (arith, first)) (omega (arith, first))
+        let first : next_byte text ≡ 49 = first_same (e ∙ ap (λ l. l ++ behind) is) in outside z (omega (arith, first)) (omega (arith, first))
 
 -- a number of one digit
 pub head_small : (n : ℕ) → 2 ≤ n → n ≤ 9 → can_have n ≡ true → head_text n ≡ (48 + n) ∷ 40 ∷ []
@@ -148,7 +148,7 @@ pub can_be : (n : ℕ) → 2 ≤ n → n ≤ 16 → can_have n ≡ true
 can_be n low high = grind (arith, nat_tests)
 
 pub digit_then_bracket : (levels n : ℕ) (rest text : List ℕ) (left : ℕ) → 1 ≤ levels → 2 ≤ n → n ≤ 9 → text ≡ (48 + n) ∷ rest
-    → StopsWith (Byte 40) rest left → StopsWith (Head levels) text left
+    → StopsWith (ByteText 40) rest left → StopsWith (HeadText levels) text left
 digit_then_bracket levels n rest text left deep low high is stop =
     stops_behind ((48 + n) ∷ []) rest text left is stop
     (λ b e. (n, record { can = can_be n low (omega arith); low = λ h. absurd (omega (arith, h)) }, ap (λ l. (48 + n) ∷ l) e ∙ sym (head_small n low high (can_be n low (omega arith)))))
@@ -159,7 +159,7 @@ digit_then_bracket levels n rest text left deep low high is stop =
     split other behind m (inr (inl (l, h, is))) e = (40 ∷ [], refl, rest_same (e ∙ ap (λ l. l ++ behind) is))
     split other behind m (inr (inr (l, h, is))) e = let first : 48 + n ≡ 49 = first_same (e ∙ ap (λ l. l ++ behind) is) in absurd (omega (arith, first))
 
-pub one_then_digit : (levels : ℕ) (rest text : List ℕ) (left : ℕ) → 1 ≤ levels → text ≡ 49 ∷ rest → StopsWith HeadBehind1 rest left → StopsWith (Head levels) text left
+pub one_then_digit : (levels : ℕ) (rest text : List ℕ) (left : ℕ) → 1 ≤ levels → text ≡ 49 ∷ rest → StopsWith HeadBehind1 rest left → StopsWith (HeadText levels) text left
 one_then_digit levels rest text left deep is stop =
     stops_behind (49 ∷ []) rest text left is stop
     (λ b w. (

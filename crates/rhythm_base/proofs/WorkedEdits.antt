@@ -5,8 +5,8 @@ use Rattle.rhythm_base.specs.declared.edit_fault.EditFault.TheVariants.{NoVoice,
 use Rattle.rhythm_base.specs.declared.note.Bar.{Bar}
 use Rattle.rhythm_base.specs.declared.note.Note.{Note}
 use Rattle.rhythm_base.specs.Edits.{edited}
-use Rattle.rhythm_base.specs.Outline.{Outline, end, part}
-use Rattle.rhythm_base.specs.Performed.{Performed}
+use Rattle.rhythm_base.specs.Shape.{Shape, end, part}
+use Rattle.rhythm_base.specs.Performance.{Performance}
 
 abbrev note : ℕ → ℕ → ℕ → Note
 note key onset until = record { channel = 0; key = key; onset = onset; end = until }
@@ -14,7 +14,7 @@ note key onset until = record { channel = 0; key = key; onset = onset; end = unt
 abbrev bar : ℕ → Bar
 bar start = record { start = start; num = 4; den = 4 }
 
-abbrev performed : List Bar → ℕ → List Note → Performed
+abbrev performed : List Bar → ℕ → List Note → Performance
 performed bars last notes = record {
   division = 480;
   tempos = [];
@@ -29,7 +29,7 @@ performed bars last notes = record {
 abbrev quarters : List Note
 quarters = note 60 0 480 ∷ note 62 480 960 ∷ note 64 960 1440 ∷ note 65 1440 1920 ∷ []
 
-abbrev four : Performed
+abbrev four : Performance
 four = performed (bar 0 ∷ []) 1920 quarters
 
 no_voice : edited four (Add 1 60 0 10) ≡ Err (NoVoice 1)
@@ -71,7 +71,7 @@ stays = refl
 moved : edited four (Move 0 60 0 700) ≡ Ok (performed (bar 0 ∷ []) 1920 (note 62 480 960 ∷ note 60 700 1180 ∷ note 64 960 1440 ∷ note 65 1440 1920 ∷ []))
 moved = refl
 
-abbrev two : Performed
+abbrev two : Performance
 two = performed (bar 0 ∷ bar 1920 ∷ []) 3840 quarters
 
 added : edited four AddBar ≡ Ok two
@@ -91,7 +91,7 @@ barline_moves = refl
 barline_order : edited two (Barline 1 3840) ≡ Err (BarlineOrder 0 3840)
 barline_order = refl
 
-abbrev halves : Outline
+abbrev halves : Shape
 halves = part end (part end end)
 
 -- a pin takes the place of an older one, and dropping the bar drops it

@@ -1,7 +1,7 @@
 -- Worked products of ranked matrices, computed by the definitions.
 use Rattle.std.specs.Prelude.{◌≡◌, ℕ, List, [], ◌∷◌, Option, Some, None, refl}
 use Rattle.rhythm_base.specs.declared.best.Best.{Best}
-use Rattle.rhythm_base.specs.Ranked.{Entries, at, choice, identity_entries, middle_of, product_of, table}
+use Rattle.rhythm_base.specs.Ranked.{CarryMatrix, at, choice, identity_entries, middle_of, product_of, table}
 
 abbrev best : ℕ → ℕ → Option Best
 best cost rank = Some (record { cost = cost; rank = rank })
@@ -10,11 +10,11 @@ abbrev nothing : List (Option Best)
 nothing = None ∷ None ∷ None ∷ None ∷ None ∷ []
 
 -- 0 chords in: 0 out for 5, rank 1, or 1 out for 3, rank 0
-abbrev either : Entries
+abbrev either : CarryMatrix
 either = (best 5 1 ∷ best 3 0 ∷ None ∷ None ∷ None ∷ []) ∷ nothing ∷ nothing ∷ nothing ∷ nothing ∷ []
 
 -- 0 in: 0 out for 2. 1 in: 0 out for 4, rank 1, or 4 out for 1, rank 0
-abbrev after : Entries
+abbrev after : CarryMatrix
 after =
     (best 2 0 ∷ None ∷ None ∷ None ∷ None ∷ []) ∷ (best 4 1 ∷ None ∷ None ∷ None ∷ best 1 0 ∷ []) ∷ nothing ∷ nothing ∷ nothing ∷ []
 
@@ -29,10 +29,10 @@ unfolding product_of choice
 ranks_of_the_product = refl
 
 -- the count 4 in the middle is one like the others
-abbrev to_four : Entries
+abbrev to_four : CarryMatrix
 to_four = (None ∷ None ∷ None ∷ None ∷ best 1 0 ∷ []) ∷ nothing ∷ nothing ∷ nothing ∷ nothing ∷ []
 
-abbrev from_four : Entries
+abbrev from_four : CarryMatrix
 from_four = nothing ∷ nothing ∷ nothing ∷ nothing ∷ (best 6 0 ∷ None ∷ None ∷ None ∷ None ∷ []) ∷ []
 
 over_four : at (product_of to_four from_four) 0 0 ≡ best 7 0

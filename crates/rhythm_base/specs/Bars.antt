@@ -1,10 +1,12 @@
 -- The bars of a file, laid one after another from tick 0.
+use Rattle.rhythm_base.specs.declared.limits.TheConstants.{MOST_BARS}
 use Rattle.std.specs.Prelude.{◌≡◌, ℕ, ◌+◌, ◌-◌, ◌*◌, ◌/◌, ◌%◌, ◌^◌, ◌≤◌, ◌<◌, ◌==◌, ◌||◌, nat_lt, if◌then◌else◌, List, [], ◌∷◌, length, take, Option, Some, None, Result, Ok, Err}
 use Rattle.rhythm_base.specs.declared.bar_fault.BarFault.{BarFault}
 use Rattle.rhythm_base.specs.declared.bar_fault.BarFault.TheVariants.{TooManyBars, BadSignature, UnevenBar}
 use Rattle.rhythm_base.specs.declared.event.Signature.{Signature}
 use Rattle.rhythm_base.specs.declared.note.Bar.{Bar}
-use Rattle.rhythm_base.specs.Time.{in_force, last_of}
+use Rattle.rhythm_base.specs.Lists.{last_of}
+use Rattle.rhythm_base.specs.Time.{in_force}
 
 -- the beats of a signature, and the power of two that is the value of a beat; 4/4 where there is none
 abbrev pub beats_of : Option Signature → ℕ × ℕ
@@ -18,7 +20,7 @@ signature_at signatures b = beats_of (in_force (λ s. s.tick) signatures b)
 -- why bar i cannot begin at tick b: there are too many, its signature is out of range, or it has no whole number of ticks
 abbrev pub fault_of : ℕ → ℕ → ℕ → ℕ × ℕ → Option BarFault
 fault_of division i b s =
-    if i == 4096 then Some (TooManyBars b)
+    if i == MOST_BARS then Some (TooManyBars b)
     else (if (s.0 == 0) || (nat_lt 64 s.0 || nat_lt 6 s.1) then Some (BadSignature s.0 s.1)
     else (if (4 * division * s.0) % (2 ^ s.1) == 0 then None else Some (UnevenBar i s.0 (2 ^ s.1))))
 
@@ -50,16 +52,16 @@ pub record AreEnough (last_onset last_end : ℕ) (bars : List Bar) (e : ℕ) : T
   pub inside : IsAtBarline last_onset (last_of bars) e → ⊥
 
 -- the first k of the bars are not enough
-abbrev pub AreFew : ℕ → List Signature → ℕ → ℕ → List Bar → ℕ → Type 0
-AreFew division signatures onset end bars k =
+abbrev pub AreTooFew : ℕ → List Signature → ℕ → ℕ → List Bar → ℕ → Type 0
+AreTooFew division signatures onset end bars k =
     (e : ℕ) → AreLaid division signatures 0 0 (take k bars) e → AreEnough onset end (take k bars) e → ⊥
 
 -- the fewest bars that are enough, with the tick of the last barline; or the first fault before there are enough
 abbrev pub IsLaying : ℕ → List Signature → ℕ → ℕ → Result (List Bar × ℕ) BarFault → Type 0
 IsLaying division signatures onset end (Ok (bars, last)) =
     AreLaid division signatures 0 0 bars last × AreEnough onset end bars last
-    × ((k : ℕ) → k < length bars → AreFew division signatures onset end bars k)
+    × ((k : ℕ) → k < length bars → AreTooFew division signatures onset end bars k)
 IsLaying division signatures onset end (Err fault) =
     (bars : List Bar) × (b : ℕ) × AreLaid division signatures 0 0 bars b
-    × ((k : ℕ) → k ≤ length bars → AreFew division signatures onset end bars k)
+    × ((k : ℕ) → k ≤ length bars → AreTooFew division signatures onset end bars k)
     × (fault_at division signatures (length bars) b ≡ Some fault)

@@ -1,10 +1,9 @@
 -- Edits of a performance: which are refused and why, and the performance after the others. They speak of lists of notes,
 -- bars and pins alone.
-use Rattle.std.specs.Prelude.{ℕ, ◌+◌, ◌-◌, ◌*◌, ◌/◌, ◌<◌, ◌≤◌, Bool, false, ◌&&◌, ◌||◌, ◌==◌, not, nat_lt, nat_le, if◌then◌else◌, IsTrue, List, [], ◌∷◌, ◌++◌, length, map, filter, find, fold, take, Option, Some, None, Result, Ok, Err, ⊤, min}
+use Rattle.rhythm_base.specs.declared.limits.TheConstants.{LATEST_TICK, MOST_NOTES, MOST_BARS, MOST_CELLS}
+use Rattle.std.specs.Prelude.{ℕ, ◌+◌, ◌-◌, ◌*◌, ◌<◌, ◌≤◌, Bool, false, ◌&&◌, ◌||◌, ◌==◌, not, nat_lt, nat_le, if◌then◌else◌, IsTrue, List, [], ◌∷◌, ◌++◌, length, map, filter, find, take, Option, Some, None, Result, Ok, Err, ⊤}
 use Rattle.std.proofs.Common.{zero, suc}
 use Rattle.std.specs.List.{list_any}
-use Rattle.std.specs.Cmp.Lexicographic.{slice_cmp}
-use Rattle.std.specs.Ordering.{is_lt, nat_cmp}
 use Rattle.rhythm_base.specs.declared.edit.Edit.{Edit}
 use Rattle.rhythm_base.specs.declared.edit.Edit.TheVariants.{Add, Drop, Move, Barline, Pin, Unpin, AddBar, DropBar}
 use Rattle.rhythm_base.specs.declared.edit_fault.EditFault.{EditFault}
@@ -12,19 +11,21 @@ use Rattle.rhythm_base.specs.declared.edit_fault.EditFault.TheVariants.{NoVoice,
 use Rattle.rhythm_base.specs.declared.edit_fault.LimitKind.TheVariants.{Notes, Bars, Cells, Line}
 use Rattle.rhythm_base.specs.declared.note.Bar.{Bar}
 use Rattle.rhythm_base.specs.declared.note.Note.{Note}
-use Rattle.rhythm_base.specs.declared.pin.Pin as pin
-use Rattle.rhythm_base.specs.Performed.{Performed, place_of_note, place_of_pin}
+use Rattle.rhythm_base.specs.Performance.{Performance, place_of_note, place_of_pin}
 use Rattle.rhythm_base.specs.Shapes.{is_shape}
-use Rattle.rhythm_base.specs.Time.{last_of}
+use Rattle.rhythm_base.specs.Lists.{last_of}
+use Rattle.rhythm_base.specs.Lists.{least_of, list_with}
+use Rattle.rhythm_base.specs.Barlines.{barline, barline_behind, next_barline, last_start}
+use Rattle.rhythm_base.specs.Pins.{without_pin}
 
 -- the numbers of an edit are in the ranges of the edit script, and its shape can be that of a tree
 abbrev pub IsEditInRange : Edit → Type 0
-IsEditInRange (Add channel key onset end) = (channel < 16) × (key < 128) × (onset ≤ 2000000000) × (end ≤ 2000000000)
-IsEditInRange (Drop channel key onset) = (channel < 16) × (key < 128) × (onset ≤ 2000000000)
-IsEditInRange (Move channel key onset to) = (channel < 16) × (key < 128) × (onset ≤ 2000000000) × (to ≤ 2000000000)
-IsEditInRange (Barline bar tick) = (bar ≤ 4096) × (tick ≤ 2000000000)
-IsEditInRange (Pin channel bar shape) = (channel < 16) × (bar ≤ 4096) × IsTrue (is_shape shape)
-IsEditInRange (Unpin channel bar) = (channel < 16) × (bar ≤ 4096)
+IsEditInRange (Add channel key onset end) = (channel < 16) × (key < 128) × (onset ≤ LATEST_TICK) × (end ≤ LATEST_TICK)
+IsEditInRange (Drop channel key onset) = (channel < 16) × (key < 128) × (onset ≤ LATEST_TICK)
+IsEditInRange (Move channel key onset to) = (channel < 16) × (key < 128) × (onset ≤ LATEST_TICK) × (to ≤ LATEST_TICK)
+IsEditInRange (Barline bar tick) = (bar ≤ MOST_BARS) × (tick ≤ LATEST_TICK)
+IsEditInRange (Pin channel bar shape) = (channel < 16) × (bar ≤ MOST_BARS) × IsTrue (is_shape shape)
+IsEditInRange (Unpin channel bar) = (channel < 16) × (bar ≤ MOST_BARS)
 IsEditInRange AddBar = ⊤
 IsEditInRange DropBar = ⊤
 
@@ -61,21 +62,7 @@ is_moved_past tick to (Some n) = is_past tick (moved_to to n)
 abbrev pub onsets_past : ℕ → List Note → List ℕ
 onsets_past tick notes = map (λ n. n.onset) (filter (is_past tick) notes)
 
-abbrev pub least : List ℕ → ℕ
-least [] = 0
-least (t ∷ ts) = fold min t ts
-
 -- ---- bars
-
--- the start of a bar, or the last barline behind the last bar
-abbrev pub barline : List Bar → ℕ → ℕ → ℕ
-barline [] last bar = last
-barline (b ∷ bars) last zero = b.start
-barline (b ∷ bars) last (suc bar) = barline bars last bar
-
--- the barline behind this one, and a tick past the latest possible one where there is none
-abbrev pub barline_behind : Performed → ℕ → ℕ
-barline_behind p bar = if nat_lt bar (length p.bars) then barline p.bars p.last (bar + 1) else 2000000001
 
 abbrev pub with_start : ℕ → Bar → Bar
 with_start tick b = record { start = tick; num = b.num; den = b.den }
@@ -86,94 +73,66 @@ with_barline bar tick [] = []
 with_barline zero tick (b ∷ bars) = with_start tick b ∷ bars
 with_barline (suc bar) tick (b ∷ bars) = b ∷ with_barline bar tick bars
 
--- ticks of a whole bar of the signature: 4 * division * num / den
-abbrev pub nominal : ℕ → Bar → ℕ
-nominal division b = (4 * division * b.num) / b.den
-
-abbrev pub nominal_of : ℕ → Option Bar → ℕ
-nominal_of division None = 0
-nominal_of division (Some b) = nominal division b
-
--- the last barline after one more bar of the last bar's signature
-abbrev pub next_barline : Performed → ℕ
-next_barline p = p.last + nominal_of p.division (last_of p.bars)
-
 -- a bar of the last bar's signature from the last barline on
 abbrev pub next_bar : ℕ → Option Bar → List Bar
 next_bar last None = []
 next_bar last (Some b) = with_start last b ∷ []
 
--- where the last bar starts
-abbrev pub last_start : Performed → ℕ
-last_start p = barline p.bars p.last (length p.bars - 1)
-
 -- ---- lists in order
-
--- the list with one more, in its order: those before it, it, and the others
-abbrev pub put : {X : Type 0} → (X → List ℕ) → X → List X → List X
-put place x xs =
-    filter (λ y. is_lt (slice_cmp nat_cmp (place y) (place x))) xs
-    ++ (x ∷ filter (λ y. not (is_lt (slice_cmp nat_cmp (place y) (place x)))) xs)
 
 -- the notes with this one moved
 abbrev pub put_moved : ℕ → Option Note → List Note → List Note
 put_moved to None notes = notes
-put_moved to (Some n) notes = put place_of_note (moved_to to n) notes
+put_moved to (Some n) notes = list_with place_of_note (moved_to to n) notes
 
 -- ---- pins
 
-abbrev pub is_pin : ℕ → ℕ → pin.Pin → Bool
-is_pin channel bar q = (q.channel == channel) && (q.bar == bar)
-
-abbrev pub without_pin : ℕ → ℕ → List pin.Pin → List pin.Pin
-without_pin channel bar pins = filter (λ q. not (is_pin channel bar q)) pins
-
 -- ---- refusals
 
-abbrev pub lacks_voice : Performed → ℕ → Bool
+abbrev pub lacks_voice : Performance → ℕ → Bool
 lacks_voice p channel = not (list_any (λ c. c == channel) p.channels)
 
-abbrev pub lacks_bar : Performed → ℕ → Bool
+abbrev pub lacks_bar : Performance → ℕ → Bool
 lacks_bar p bar = nat_le (length p.bars) bar
 
 -- the tests of what is asked of a cell
-abbrev pub cell_tests : Performed → ℕ → ℕ → List (Bool × EditFault)
+abbrev pub cell_tests : Performance → ℕ → ℕ → List (Bool × EditFault)
 cell_tests p channel bar = (lacks_voice p channel, NoVoice channel) ∷ (lacks_bar p bar, NoBar bar) ∷ []
 
 -- the tests of an edit in their order, each with the refusal where it holds. A count is tested as it would be after the edit
-abbrev pub tests : Performed → Edit → List (Bool × EditFault)
-tests p (Add channel key onset end) =
+abbrev pub edit_tests : Performance → Edit → List (Bool × EditFault)
+edit_tests p (Add channel key onset end) =
     (lacks_voice p channel, NoVoice channel)
     ∷ (nat_lt end onset, BadSpan)
     ∷ (has_note p.notes channel key onset, SameNote)
     ∷ (is_past p.last (record { channel = channel; key = key; onset = onset; end = end }), PastEnd p.last)
-    ∷ (nat_lt 65536 (length p.notes + 1), Limit Notes (length p.notes + 1))
+    ∷ (nat_lt MOST_NOTES (length p.notes + 1), Limit Notes (length p.notes + 1))
     ∷ []
-tests p (Drop channel key onset) =
+edit_tests p (Drop channel key onset) =
     (lacks_voice p channel, NoVoice channel)
     ∷ (not (has_note p.notes channel key onset), NoNote)
     ∷ []
-tests p (Move channel key onset to) =
+edit_tests p (Move channel key onset to) =
     (lacks_voice p channel, NoVoice channel)
     ∷ (not (has_note p.notes channel key onset), NoNote)
     ∷ (has_note (without_note channel key onset p.notes) channel key to, SameNote)
     ∷ (is_moved_past p.last to (note_at p.notes channel key onset), PastEnd p.last)
     ∷ []
-tests p (Barline bar tick) =
+edit_tests p (Barline bar tick) =
     ((bar == 0) || nat_lt (length p.bars) bar, NoBar bar)
     ∷ (not (nat_lt (barline p.bars p.last (bar - 1)) tick && nat_lt tick (barline_behind p bar)), BarlineOrder (barline p.bars p.last (bar - 1)) (barline_behind p bar))
-    ∷ ((bar == length p.bars) && list_any (is_past tick) p.notes, NoteOutside (least (onsets_past tick p.notes)))
+    ∷ ((bar == length p.bars) && list_any (is_past tick) p.notes, NoteOutside (least_of (onsets_past tick p.notes)))
     ∷ []
-tests p (Pin channel bar shape) = cell_tests p channel bar
-tests p (Unpin channel bar) = cell_tests p channel bar
-tests p AddBar =
-    (nat_lt 4096 (length p.bars + 1), Limit Bars (length p.bars + 1))
-    ∷ (nat_lt 16384 (length p.channels * (length p.bars + 1)), Limit Cells (length p.channels * (length p.bars + 1)))
-    ∷ (nat_lt 2000000000 (next_barline p), Limit Line (next_barline p))
+edit_tests p (Pin channel bar shape) = cell_tests p channel bar
+edit_tests p (Unpin channel bar) = cell_tests p channel bar
+edit_tests p AddBar =
+    (nat_lt MOST_BARS (length p.bars + 1), Limit Bars (length p.bars + 1))
+    ∷ (nat_lt MOST_CELLS (length p.channels * (length p.bars + 1)), Limit Cells (length p.channels * (length p.bars + 1)))
+    ∷ (nat_lt LATEST_TICK (next_barline p), Limit Line (next_barline p))
     ∷ []
-tests p DropBar =
+edit_tests p DropBar =
     (length p.bars == 1, OneBar)
-    ∷ (list_any (is_past (last_start p)) p.notes, NotEmpty (least (onsets_past (last_start p) p.notes)))
+    ∷ (list_any (is_past (last_start p)) p.notes, NotEmpty (least_of (onsets_past (last_start p) p.notes)))
     ∷ []
 
 -- the first test that holds
@@ -183,29 +142,29 @@ first_refusal (test ∷ more) = if test.0 then Some test.1 else first_refusal mo
 
 -- ---- the performance after
 
-abbrev pub after : Performed → Edit → Performed
-after p (Add channel key onset end) =
-    record p { notes = put place_of_note (record { channel = channel; key = key; onset = onset; end = end }) p.notes }
-after p (Drop channel key onset) = record p { notes = without_note channel key onset p.notes }
-after p (Move channel key onset to) =
+abbrev pub performance_after : Performance → Edit → Performance
+performance_after p (Add channel key onset end) =
+    record p { notes = list_with place_of_note (record { channel = channel; key = key; onset = onset; end = end }) p.notes }
+performance_after p (Drop channel key onset) = record p { notes = without_note channel key onset p.notes }
+performance_after p (Move channel key onset to) =
     record p { notes = put_moved to (note_at p.notes channel key onset) (without_note channel key onset p.notes) }
-after p (Barline bar tick) =
+performance_after p (Barline bar tick) =
     record p { bars = with_barline bar tick p.bars; last = if bar == length p.bars then tick else p.last }
-after p (Pin channel bar shape) =
-    record p { pins = put place_of_pin (record { channel = channel; bar = bar; shape = shape }) (without_pin channel bar p.pins) }
-after p (Unpin channel bar) = record p { pins = without_pin channel bar p.pins }
-after p AddBar = record p { bars = p.bars ++ next_bar p.last (last_of p.bars); last = next_barline p }
-after p DropBar =
+performance_after p (Pin channel bar shape) =
+    record p { pins = list_with place_of_pin (record { channel = channel; bar = bar; shape = shape }) (without_pin channel bar p.pins) }
+performance_after p (Unpin channel bar) = record p { pins = without_pin channel bar p.pins }
+performance_after p AddBar = record p { bars = p.bars ++ next_bar p.last (last_of p.bars); last = next_barline p }
+performance_after p DropBar =
     record p {
       bars = take (length p.bars - 1) p.bars;
       last = last_start p;
       pins = filter (λ q. nat_lt q.bar (length p.bars - 1)) p.pins;
     }
 
-abbrev pub unless_refused : Performed → Option EditFault → Result Performed EditFault
+abbrev pub unless_refused : Performance → Option EditFault → Result Performance EditFault
 unless_refused p None = Ok p
 unless_refused p (Some fault) = Err fault
 
 -- the performance after the edit, or the first refusal. Whether each voice has a derivation is asked afterwards
-abbrev pub edited : Performed → Edit → Result Performed EditFault
-edited p edit = unless_refused (after p edit) (first_refusal (tests p edit))
+abbrev pub edited : Performance → Edit → Result Performance EditFault
+edited p edit = unless_refused (performance_after p edit) (first_refusal (edit_tests p edit))

@@ -4,7 +4,8 @@ use Rattle.rhythm_base.specs.declared.event.Event.{Event}
 use Rattle.rhythm_base.specs.declared.event.What.{What}
 use Rattle.rhythm_base.specs.declared.event.What.TheVariants.{On, Off, Tempo, Signature, KeySig}
 use Rattle.rhythm_base.specs.declared.note.Note.{Note}
-use Rattle.rhythm_base.specs.Performed.{AreInOrder, place_of_note}
+use Rattle.rhythm_base.specs.Lists.{AreInOrder}
+use Rattle.rhythm_base.specs.Performance.{place_of_note}
 
 -- it begins or ends a note of the channel and key
 abbrev pub touches : ℕ → ℕ → What → Bool

@@ -6,16 +6,16 @@ use Rattle.std.specs.Cmp.Lexicographic.{slice_cmp}
 use Rattle.std.specs.declared.cmp.Ordering.{Ordering}
 use Rattle.rhythm_base.specs.declared.best.Best.{Best}
 
-abbrev pub Entries : Type 0
-Entries = List (List (Option Best))
+abbrev pub CarryMatrix : Type 0
+CarryMatrix = List (List (Option Best))
 
-abbrev pub at : Entries → ℕ → ℕ → Option Best
+abbrev pub at : CarryMatrix → ℕ → ℕ → Option Best
 at m from to = slice_index_or (slice_index_or m from []) to None
 
 abbrev pub five : {A : Type 0} → (ℕ → A) → List A
 five f = f 0 ∷ f 1 ∷ f 2 ∷ f 3 ∷ f 4 ∷ []
 
-abbrev pub grid : (ℕ → ℕ → Option Best) → Entries
+abbrev pub grid : (ℕ → ℕ → Option Best) → CarryMatrix
 grid f = five (λ a. five (f a))
 
 -- ---- keys: a cost, and a list of ranks that decides between equal costs
@@ -39,16 +39,16 @@ is_before x y = is_lt (key_cmp x y)
 abbrev pub plus : Key → Key → Key
 plus x y = (x.0 + y.0, x.1 ++ y.1)
 
-abbrev pub joined : Option Key → Option Key → Option Key
-joined None b = None
-joined (Some x) None = None
-joined (Some x) (Some y) = Some (plus x y)
+abbrev pub key_sum : Option Key → Option Key → Option Key
+key_sum None b = None
+key_sum (Some x) None = None
+key_sum (Some x) (Some y) = Some (plus x y)
 
 abbrev pub key_of : Option Best → Option Key
 key_of None = None
 key_of (Some e) = Some (e.cost, e.rank ∷ [])
 
-abbrev pub one : Entries → Keys
+abbrev pub one : CarryMatrix → Keys
 one m a b = key_of (at m a b)
 
 -- ---- the first of the lowest among those that are there, with its number
@@ -74,12 +74,12 @@ module _ {X : Type 0} where
 -- ---- least paths
 
 abbrev pub times : Keys → Keys → Keys
-times k l a b = value_of (pick is_before (λ m. joined (k a m) (l m b)) 5)
+times k l a b = value_of (pick is_before (λ m. key_sum (k a m) (l m b)) 5)
 
 -- the key of the least path from a count to a count
-abbrev pub keys : List Entries → Keys
-keys [] a b = if a == b then Some (0, []) else None
-keys (m ∷ ms) a b = times (one m) (keys ms) a b
+abbrev pub least_key : List CarryMatrix → Keys
+least_key [] a b = if a == b then Some (0, []) else None
+least_key (m ∷ ms) a b = times (one m) (least_key ms) a b
 
 -- ---- tables: costs, and the places of the lists of ranks in their row
 
@@ -95,12 +95,12 @@ abbrev pub ranked : (ℕ → Option Key) → Option Key → Option Best
 ranked row None = None
 ranked row (Some k) = Some (record { cost = k.0; rank = count_under row k.1 5 })
 
-abbrev pub table_of : Keys → Entries
+abbrev pub table_of : Keys → CarryMatrix
 table_of k = grid (λ a b. ranked (k a) (k a b))
 
 -- the table of a list of matrices
-unfoldable pub table : List Entries → Entries
-table ms = table_of (keys ms)
+unfoldable pub table : List CarryMatrix → CarryMatrix
+table ms = table_of (least_key ms)
 
 -- ---- the product of two
 
@@ -118,18 +118,18 @@ abbrev pub sum_before : Sum → Sum → Bool
 sum_before x y = nat_lt x.0 y.0 || ((x.0 == y.0) && nat_lt x.1 y.1)
 
 -- the count in the middle that is taken, and its sum
-unfoldable pub choice : Entries → Entries → ℕ → ℕ → Option (ℕ × Sum)
+unfoldable pub choice : CarryMatrix → CarryMatrix → ℕ → ℕ → Option (ℕ × Sum)
 choice a b from to = pick sum_before (λ m. summed (at a from m) (at b m to)) 5
 
-unfoldable pub middle_of : Entries → Entries → ℕ → ℕ → Option ℕ
+unfoldable pub middle_of : CarryMatrix → CarryMatrix → ℕ → ℕ → Option ℕ
 middle_of a b from to = number_of (choice a b from to)
 
 abbrev pub sum_key : Option (ℕ × Sum) → Option Key
 sum_key None = None
 sum_key (Some x) = Some (x.1.0, x.1.1 ∷ x.1.2 ∷ [])
 
-unfoldable pub product_of : Entries → Entries → Entries
+unfoldable pub product_of : CarryMatrix → CarryMatrix → CarryMatrix
 product_of a b = table_of (λ from to. sum_key (choice a b from to))
 
-unfoldable pub identity_entries : Entries
+unfoldable pub identity_entries : CarryMatrix
 identity_entries = grid (λ a b. if a == b then Some (record { cost = 0; rank = 0 }) else None)

@@ -7,12 +7,12 @@ use Rattle.rhythm_base.specs.declared.edit_fault.LimitKind.{LimitKind}
 use Rattle.rhythm_base.specs.declared.edit_fault.LimitKind.TheVariants.{Notes, Bars, Cells, Line}
 
 -- words with a space between two, and a newline behind the last
-abbrev pub line_of : List (List ℕ) → List ℕ
-line_of words = join_with_byte 32 words ++ codes "\n"
+abbrev pub reply_line : List (List ℕ) → List ℕ
+reply_line words = join_with_byte 32 words ++ codes "\n"
 
 -- an edit was made: how many cells it reached, and the cost of the performance after it
 abbrev pub done_text : ℕ → ℕ → List ℕ
-done_text built cost = line_of (codes "ok" ∷ decimal built ∷ decimal cost ∷ [])
+done_text built cost = reply_line (codes "ok" ∷ decimal built ∷ decimal cost ∷ [])
 
 abbrev pub limit_word : LimitKind → List ℕ
 limit_word Notes = codes "notes"
@@ -37,19 +37,19 @@ fault_words (NoDerivation channel bar) = codes "NoDerivation" ∷ decimal channe
 fault_words Memory = codes "Memory" ∷ []
 
 abbrev pub refused_text : EditFault → List ℕ
-refused_text fault = line_of (codes "refused" ∷ fault_words fault)
+refused_text fault = reply_line (codes "refused" ∷ fault_words fault)
 
 -- the line says no command
 abbrev pub bad_line_text : List ℕ
-bad_line_text = line_of (codes "refused" ∷ codes "Line" ∷ [])
+bad_line_text = reply_line (codes "refused" ∷ codes "Line" ∷ [])
 
 -- the score would be longer than its limit, which its record of that number from 1 passes
 abbrev pub long_score_text : ℕ → List ℕ
-long_score_text record_number = line_of (codes "refused" ∷ codes "Limit" ∷ codes "score" ∷ decimal record_number ∷ [])
+long_score_text record_number = reply_line (codes "refused" ∷ codes "Limit" ∷ codes "score" ∷ decimal record_number ∷ [])
 
 -- the length of a score and the score
 abbrev pub score_text : List ℕ → List ℕ
-score_text score = line_of (codes "score" ∷ decimal (length score) ∷ []) ++ score
+score_text score = reply_line (codes "score" ∷ decimal (length score) ∷ []) ++ score
 
 -- one alternative as a reply shows it: its total, the text of its shape, and its rule numbers in preorder
 pub record Shown : Type 0 where
@@ -58,11 +58,11 @@ pub record Shown : Type 0 where
   pub rules : List ℕ
 
 abbrev pub shown_text : Shown → List ℕ
-shown_text a = line_of (codes "alt" ∷ decimal a.total ∷ a.shape ∷ join_with_byte 44 (map decimal a.rules) ∷ [])
+shown_text a = reply_line (codes "alt" ∷ decimal a.total ∷ a.shape ∷ join_with_byte 44 (map decimal a.rules) ∷ [])
 
 -- their number, and a line for each
 abbrev pub alternatives_text : List Shown → List ℕ
-alternatives_text shown = line_of (codes "alternatives" ∷ decimal (length shown) ∷ []) ++ flat_map shown_text shown
+alternatives_text shown = reply_line (codes "alternatives" ∷ decimal (length shown) ∷ []) ++ flat_map shown_text shown
 
 abbrev pub bye_text : List ℕ
-bye_text = line_of (codes "bye" ∷ [])
+bye_text = reply_line (codes "bye" ∷ [])

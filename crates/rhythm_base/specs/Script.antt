@@ -1,6 +1,6 @@
 -- What an edit script does: which reply each line may have, and the performance after it. S says what the score of a
 -- performance is: its text, or the number of the record that would pass its limit.
-use Rattle.std.specs.Prelude.{◌≡◌, ◌≢◌, ℕ, ◌⊎◌, List, [], ◌∷◌, ◌++◌, IsTrue, codes, length, map, Some, None, Result, Ok, Err, nat_eq}
+use Rattle.std.specs.Prelude.{◌≡◌, ◌≢◌, ℕ, ◌⊎◌, List, [], ◌∷◌, ◌++◌, IsTrue, All, codes, length, map, Some, None, Result, Ok, Err, nat_eq}
 use Rattle.std.specs.List.{starts_with}
 use Rattle.rhythm_base.specs.declared.chord.Chord.{Chord}
 use Rattle.rhythm_base.specs.declared.command.Command.{Command}
@@ -10,49 +10,68 @@ use Rattle.rhythm_base.specs.declared.edit_fault.EditFault.{EditFault}
 use Rattle.rhythm_base.specs.declared.edit_fault.EditFault.TheVariants.{NoDerivation, Memory}
 use Rattle.rhythm_base.specs.Alternatives.{AreAlternatives}
 use Rattle.rhythm_base.specs.Edits.{cell_tests, edited, first_refusal}
-use Rattle.rhythm_base.specs.Forest.{Branch, preorder_of}
+use Rattle.rhythm_base.specs.Forest.{Tree, preorder_of}
 use Rattle.rhythm_base.specs.Leaves.{soundings}
-use Rattle.rhythm_base.specs.Performed.{Performed}
+use Rattle.rhythm_base.specs.Performance.{IsWellFormed, Performance}
 use Rattle.rhythm_base.specs.Reached.{AreReached}
 use Rattle.rhythm_base.specs.Replies.{Shown, alternatives_text, bad_line_text, bye_text, done_text, long_score_text, refused_text, score_text}
-use Rattle.rhythm_base.specs.Rulebook.{Rulebook}
-use Rattle.rhythm_base.specs.ScriptLines.{Says, SaysNothing}
+use Rattle.rhythm_base.specs.Grammar.{Grammar}
+use Rattle.rhythm_base.specs.ScriptLines.{SaysCommand, SaysNothing}
 use Rattle.rhythm_base.specs.ShapeText.{shape_text}
 use Rattle.rhythm_base.specs.Trees.{shape_of}
-use Rattle.rhythm_base.specs.Voices.{AreChordsOf, IsCostOf, IsDeadVoice, measures}
+use Rattle.rhythm_base.specs.Voices.{AreChordsOf, HasDerivation, IsCostOf, IsDeadVoice, voice_bars}
 
 -- ---- edits
 
 -- why an edit is refused: by the performance alone, or because some voice would have no derivation. None where it is not
-abbrev pub IsRefused : Rulebook → Performed → Edit → EditFault → Type 0
+abbrev pub IsRefused : Grammar → Performance → Edit → EditFault → Type 0
 IsRefused g p edit fault =
     (edited p edit ≡ Err fault)
-    ⊎ ((q : Performed) × (channel bar : ℕ) × (edited p edit ≡ Ok q) × IsDeadVoice g q channel bar × (fault ≡ NoDerivation channel bar))
+    ⊎ ((q : Performance) × (channel bar : ℕ) × (edited p edit ≡ Ok q) × IsDeadVoice g q channel bar × (fault ≡ NoDerivation channel bar))
 
 -- an edit is made: the performance after it, the cells that it reaches, and the cost afterwards
-pub record IsMade (g : Rulebook) (p : Performed) (edit : Edit) (next : Performed) (cells : List (ℕ × ℕ)) (cost : ℕ) : Type 0 where
+pub record IsMade (g : Grammar) (p : Performance) (edit : Edit) (next : Performance) (cells : List (ℕ × ℕ)) (cost : ℕ) : Type 0 where
   pub made : edited p edit ≡ Ok next
   pub reaches : AreReached g p next cells
   pub costs : IsCostOf g next cost
 
+-- what becomes of an edit: a refusal; or how many cells it reached, and the cost of the performance after it
+pub data EditOutcome : Type 0 where
+  refused : EditFault → EditOutcome
+  made : ℕ → ℕ → EditOutcome
+
+-- what may become of an edit, and the performance after it
+abbrev pub IsOutcome : Grammar → Performance → Edit → EditOutcome → Performance → Type 0
+IsOutcome g p edit (refused fault) next = IsRefused g p edit fault × (next ≡ p)
+IsOutcome g p edit (made built cost) next = (cells : List (ℕ × ℕ)) × IsMade g p edit next cells cost × (built ≡ length cells)
+
+abbrev pub outcome_text : EditOutcome → List ℕ
+outcome_text (refused fault) = refused_text fault
+outcome_text (made built cost) = done_text built cost
+
+-- ---- scores
+
+-- a well-formed performance has one score at most, and one where each of its voices has a derivation
+pub record HasOneScore (g : Grammar) (S : Performance → Result (List ℕ) ℕ → Type 0) : Type 0 where
+  pub one : (p : Performance) (r s : Result (List ℕ) ℕ) → IsWellFormed p → S p r → S p s → r ≡ s
+  pub some : (p : Performance) → IsWellFormed p → All (HasDerivation g p) p.channels → (r : Result (List ℕ) ℕ) × S p r
+
 -- ---- alternatives
 
 -- the best trees of one bar of a voice
-pub record AreBest (g : Rulebook) (p : Performed) (channel bar count : ℕ) (list : List (ℕ × Branch)) : Type 0 where
+pub record AreBestOfBar (g : Grammar) (p : Performance) (channel bar count : ℕ) (list : List (ℕ × Tree)) : Type 0 where
   pub chords : List Chord
   pub are_chords : AreChordsOf g p channel chords
-  pub best : AreAlternatives g (measures g p channel) (soundings chords) bar count list
+  pub best : AreAlternatives g (voice_bars g p channel) (soundings chords) bar count list
 
-abbrev pub shown : ℕ × Branch → Shown
-shown a = record { total = a.0; shape = shape_text (shape_of a.1.kids); rules = preorder_of a.1 }
+abbrev pub shown_alternative : ℕ × Tree → Shown
+shown_alternative a = record { total = a.0; shape = shape_text (shape_of a.1.kids); rules = preorder_of a.1 }
 
 -- ---- replies
 
 -- the replies that a command may have and the performance after it. Want of memory is another matter
-abbrev pub Answers : (Performed → Result (List ℕ) ℕ → Type 0) → Rulebook → Performed → Command → List ℕ → Performed → Type 0
-Answers S g p (Change edit) reply next =
-    ((fault : EditFault) × IsRefused g p edit fault × (reply ≡ refused_text fault) × (next ≡ p))
-    ⊎ ((cells : List (ℕ × ℕ)) × (cost : ℕ) × IsMade g p edit next cells cost × (reply ≡ done_text (length cells) cost))
+abbrev pub Answers : (Performance → Result (List ℕ) ℕ → Type 0) → Grammar → Performance → Command → List ℕ → Performance → Type 0
+Answers S g p (Change edit) reply next = (outcome : EditOutcome) × IsOutcome g p edit outcome next × (reply ≡ outcome_text outcome)
 Answers S g p Score reply next =
     (next ≡ p)
     × (((text : List ℕ) × S p (Ok text) × (reply ≡ score_text text))
@@ -60,28 +79,33 @@ Answers S g p Score reply next =
 Answers S g p (Alternatives channel bar count) reply next =
     (next ≡ p)
     × (((fault : EditFault) × (first_refusal (cell_tests p channel bar) ≡ Some fault) × (reply ≡ refused_text fault))
-    ⊎ ((list : List (ℕ × Branch)) × (first_refusal (cell_tests p channel bar) ≡ None)
-    × AreBest g p channel bar count list × (reply ≡ alternatives_text (map shown list))))
+    ⊎ ((list : List (ℕ × Tree)) × (first_refusal (cell_tests p channel bar) ≡ None)
+    × AreBestOfBar g p channel bar count list × (reply ≡ alternatives_text (map shown_alternative list))))
 Answers S g p Quit reply next = (next ≡ p) × (reply ≡ bye_text)
 
 -- the line says a command that may want memory, or begins like a pin
 abbrev pub MayWantMemory : List ℕ → Type 0
-MayWantMemory line = IsTrue (starts_with nat_eq line (codes "pin ")) ⊎ ((command : Command) × Says line command × (command ≢ Quit))
+MayWantMemory line = IsTrue (starts_with nat_eq line (codes "pin ")) ⊎ ((command : Command) × SaysCommand line command × (command ≢ Quit))
 
 -- what a line may do: what its command does; where it says no command, a reply that says so; or want of memory, the only
 -- free answer
-abbrev pub Step : (Performed → Result (List ℕ) ℕ → Type 0) → Rulebook → Performed → List ℕ → List ℕ → Performed → Type 0
+abbrev pub Step : (Performance → Result (List ℕ) ℕ → Type 0) → Grammar → Performance → List ℕ → List ℕ → Performance → Type 0
 Step S g p line reply next =
-    ((command : Command) × Says line command × Answers S g p command reply next)
+    ((command : Command) × SaysCommand line command × Answers S g p command reply next)
     ⊎ (SaysNothing line × (reply ≡ bad_line_text) × (next ≡ p))
     ⊎ (MayWantMemory line × (reply ≡ refused_text Memory) × (next ≡ p))
 
 -- ---- runs
 
--- the lines in their order, up to one that says `quit`, and all replies in one text
-abbrev pub Run : (Performed → Result (List ℕ) ℕ → Type 0) → Rulebook → Performed → List (List ℕ) → List ℕ → Performed → Type 0
-Run S g p [] replies end = (replies ≡ []) × (end ≡ p)
-Run S g p (line ∷ lines) replies end =
-    (reply : List ℕ) × (next : Performed) × Step S g p line reply next
-    × ((Says line Quit × (replies ≡ reply) × (end ≡ next))
-    ⊎ ((Says line Quit → ⊥) × ((more : List ℕ) × Run S g next lines more end × (replies ≡ reply ++ more))))
+-- A run of any machine that takes lines: the lines in their order, up to one that ends the run, and all replies in one text.
+-- `Steps` says which reply a line may have in a state, and the state after it; `Ends` says which lines end the run.
+abbrev pub Run : {State : Type 0} → (State → List ℕ → List ℕ → State → Type 0) → (List ℕ → Type 0) → State → List (List ℕ) → List ℕ → State → Type 0
+Run Steps Ends state [] replies last = (replies ≡ []) × (last ≡ state)
+Run {State} Steps Ends state (line ∷ lines) replies last =
+    (reply : List ℕ) × (next : State) × Steps state line reply next
+    × ((Ends line × (replies ≡ reply) × (last ≡ next))
+    ⊎ ((Ends line → ⊥) × ((more : List ℕ) × Run Steps Ends next lines more last × (replies ≡ reply ++ more))))
+
+-- the run of an edit script: up to a line that says `quit`
+abbrev pub ScriptRun : (Performance → Result (List ℕ) ℕ → Type 0) → Grammar → Performance → List (List ℕ) → List ℕ → Performance → Type 0
+ScriptRun S g p lines replies last = Run (Step S g) (λ line. SaysCommand line Quit) p lines replies last

@@ -8,6 +8,7 @@ use Rattle.rhythm_base.specs.declared.sound.SoundKind.{SoundKind}
 use Rattle.rhythm_base.specs.declared.sound.SoundKind.TheVariants.{Begin, Short, Tie, Rest}
 use Rattle.rhythm_base.specs.declared.span.Frac.{Frac}
 use Rattle.rhythm_base.specs.declared.span.Span.{Span}
+use Rattle.rhythm_base.specs.Lists.{Each}
 
 -- n / d in lowest terms
 pub record IsFrac (n d : ℕ) (f : Frac) : Type 0 where
@@ -21,15 +22,15 @@ pub record IsFrac (n d : ℕ) (f : Frac) : Type 0 where
 abbrev pub parts_of_unit : Bar → ℕ
 parts_of_unit bar = bar.num * (64 / bar.den)
 
-abbrev pub unit_of : List Bar → Sound → ℕ
-unit_of bars s = unwrap_or (option_map parts_of_unit (slice_get bars s.bar)) 0
+abbrev pub parts_of_sound : List Bar → Sound → ℕ
+parts_of_sound bars s = unwrap_or (option_map parts_of_unit (slice_get bars s.bar)) 0
 
 -- from the beginning of the score: the bars before, and the units before
 abbrev pub place_of : ℕ → List Bar → Sound → ℕ
-place_of resolution bars s = resolution * sum_by parts_of_unit (take s.bar bars) + s.place * unit_of bars s
+place_of resolution bars s = resolution * sum_by parts_of_unit (take s.bar bars) + s.place * parts_of_sound bars s
 
-abbrev pub length_of : List Bar → Sound → ℕ
-length_of bars s = s.width * unit_of bars s
+abbrev pub sound_length : List Bar → Sound → ℕ
+sound_length bars s = s.width * parts_of_sound bars s
 
 -- ---- runs
 
@@ -52,24 +53,18 @@ is_tie Tie = true
 is_tie Rest = false
 
 -- each sound that begins a chord, with the ties right behind it
-abbrev pub runs : List Sound → List (Sound × List Sound)
-runs [] = []
-runs (s ∷ sounds) = if begins_chord s.kind then (s, take_while (λ t. is_tie t.kind) sounds) ∷ runs sounds else runs sounds
+abbrev pub chord_runs : List Sound → List (Sound × List Sound)
+chord_runs [] = []
+chord_runs (s ∷ sounds) = if begins_chord s.kind then (s, take_while (λ t. is_tie t.kind) sounds) ∷ chord_runs sounds else chord_runs sounds
 
 -- the span of a run: it has the keys, the grace chords and the mark of its first sound, and sounds as long as all of it
 pub record IsSpan (resolution : ℕ) (bars : List Bar) (run : Sound × List Sound) (x : Span) : Type 0 where
   pub start : IsFrac (place_of resolution bars run.0) (64 * resolution) x.start
-  pub len : IsFrac (sum_by (length_of bars) (run.0 ∷ run.1)) (64 * resolution) x.len
+  pub len : IsFrac (sum_by (sound_length bars) (run.0 ∷ run.1)) (64 * resolution) x.len
   pub keys : x.keys ≡ run.0.keys
   pub graces : x.graces ≡ run.0.graces
   pub short : x.short ≡ is_short run.0.kind
 
--- as many as there are, each that of its place
-abbrev pub Each : {X Y : Type 0} → (X → Y → Type 0) → List X → List Y → Type 0
-Each Of [] ys = ys ≡ []
-Each Of (x ∷ xs) [] = ⊥
-Each Of (x ∷ xs) (y ∷ ys) = Of x y × Each Of xs ys
-
 -- the spans of a voice, in order
 abbrev pub AreSpans : ℕ → List Bar → List Sound → List Span → Type 0
-AreSpans resolution bars sounds spans = Each (IsSpan resolution bars) (runs sounds) spans
+AreSpans resolution bars sounds spans = Each (IsSpan resolution bars) (chord_runs sounds) spans

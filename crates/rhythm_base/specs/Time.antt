@@ -1,5 +1,5 @@
 -- Tempo, key and signature in force, and elapsed time.
-use Rattle.std.specs.Prelude.{ℕ, ℤ, zero, suc, ◌+◌, nat_le, List, filter, length, ◌-◌, slice_get, Option, Some, None}
+use Rattle.std.specs.Prelude.{ℕ, ℤ, zero, suc, ◌+◌, nat_le, List, filter, Option, Some, None}
 use Rattle.std.specs.List.{filter_map}
 use Rattle.rhythm_base.specs.declared.event.Event.{Event}
 use Rattle.rhythm_base.specs.declared.event.KeyMark.{KeyMark}
@@ -7,10 +7,7 @@ use Rattle.rhythm_base.specs.declared.event.Signature.{Signature}
 use Rattle.rhythm_base.specs.declared.event.Tempo.{Tempo}
 use Rattle.rhythm_base.specs.declared.event.What.{What}
 use Rattle.rhythm_base.specs.declared.event.What.TheVariants as what
-
--- the last of a list
-abbrev pub last_of : {X : Type 0} → List X → Option X
-last_of xs = slice_get xs (length xs - 1)
+use Rattle.rhythm_base.specs.Lists.{last_of}
 
 -- the last change at or before a tick
 abbrev pub in_force : {X : Type 0} → (X → ℕ) → List X → ℕ → Option X

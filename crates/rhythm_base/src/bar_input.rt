@@ -1,5 +1,5 @@
 ghost use Rattle.std.specs.Prelude.{◌≡◌, IfOk, option_map};
-ghost use Rattle.rhythm_base.specs.Cell.{Cell, IsCell};
+ghost use Rattle.rhythm_base.specs.BarInput.{BarInput, IsBarInput};
 
 use crate::inner::Inner;
 use crate::shape::Shape;
@@ -20,11 +20,12 @@ pub struct BarInput {
 }
 
 impl Model for BarInput {
-    ghost use Rattle.rhythm_base.specs.Cell.{Cell, IsCell, cell_code};
+    ghost use Rattle.rhythm_base.specs.BarInputCode.{bar_input_code};
+    ghost use Rattle.rhythm_base.specs.BarInput.{BarInput, IsBarInput};
 
-    ghost Value = { Cell };
+    ghost Value = { BarInput };
 
-    ghost coded = { cell_code };
+    ghost coded = { bar_input_code };
 
     ghost view = { λ b. record {
       symbol = b.start;
@@ -37,7 +38,7 @@ impl Model for BarInput {
       pin = b.pin;
     } };
 
-    ghost invariant = { λ b. IsCell record {
+    ghost invariant = { λ b. IsBarInput record {
       symbol = b.start;
       resolution = b.resolution;
       num = b.num;
@@ -62,7 +63,7 @@ impl BarInput {
         before: u64,
         pin: Option<Shape>,
     ) -> BarInput
-        requires { IsCell record {
+        requires { IsBarInput record {
           symbol = start;
           resolution = resolution;
           num = num;
@@ -98,7 +99,7 @@ impl BarInput {
     /// The root symbol of the bar's tree.
     pub fn start(&self) -> u8
         ensures value { result ≡ self.now.symbol }
-        ensures formed { IsCell self.now }
+        ensures formed { IsBarInput self.now }
     {
         self.start
     }

@@ -1,3 +1,6 @@
+use std::error::Error;
+use std::fmt;
+
 /// What a performance has a limit of.
 #[derive(Clone, Copy, Debug, PartialEq, Eq)]
 pub enum LimitKind {
@@ -41,3 +44,51 @@ pub enum EditFault {
     /// Want of memory.
     Memory,
 }
+
+impl fmt::Display for LimitKind {
+    fn fmt<W: fmt::Write>(&self, f: &mut fmt::Formatter<W>) -> fmt::Result {
+        f.write_str(match self {
+            LimitKind::Notes => "notes",
+            LimitKind::Bars => "bars",
+            LimitKind::Cells => "cells",
+            LimitKind::Line => "the last barline",
+        })
+    }
+}
+
+impl fmt::Display for EditFault {
+    fn fmt<W: fmt::Write>(&self, f: &mut fmt::Formatter<W>) -> fmt::Result {
+        match self {
+            EditFault::NoVoice(channel) => write!(f, "channel {channel} has no voice"),
+            EditFault::NoBar(bar) => write!(f, "there is no bar {bar} here"),
+            EditFault::BadSpan => write!(f, "the note would end before it begins"),
+            EditFault::NoNote => write!(f, "there is no such note"),
+            EditFault::SameNote => write!(f, "there is such a note already"),
+            EditFault::PastEnd { last } => write!(
+                f,
+                "the note would not lie before the last barline at tick {last}"
+            ),
+            EditFault::BarlineOrder { low, high } => write!(
+                f,
+                "the barline would not lie between ticks {low} and {high}"
+            ),
+            EditFault::NoteOutside { onset } => write!(
+                f,
+                "the note at tick {onset} would lie past the last barline"
+            ),
+            EditFault::NotEmpty { onset } => write!(
+                f,
+                "the last bar has a note that begins at tick {onset}"
+            ),
+            EditFault::OneBar => write!(f, "there is only one bar"),
+            EditFault::Limit { what, count } => write!(f, "{count} is past the limit of {what}"),
+            EditFault::NoDerivation { channel, bar } => write!(
+                f,
+                "channel {channel} would have no derivation past bar {bar}"
+            ),
+            EditFault::Memory => write!(f, "not enough memory"),
+        }
+    }
+}
+
+impl Error for EditFault {}

@@ -35,9 +35,9 @@ pub struct Grammar {
 }
 
 impl Model for Grammar {
-    ghost use Rattle.rhythm_base.specs.Rulebook.{Rulebook};
+    ghost use Rattle.rhythm_base.specs.Grammar.{Grammar};
 
-    ghost Value = { Rulebook };
+    ghost Value = { Grammar };
 
     ghost view = { λ g. record {
       version = g.version;

@@ -1,4 +1,5 @@
-/// A chord whose onset lies in a bar, as that bar sees it: ticks from the bar's start, the end cut to the bar.
+/// A chord as the leaves of a voice ask of it: its onset and its end, in ticks. In a voice they count from the beginning; in the input of
+/// a cell from the bar's start, and the end is cut to the bar.
 #[derive(Clone, Copy, Debug, PartialEq, Eq)]
 pub struct Inner {
     pub onset: u64,

@@ -1,6 +1,6 @@
-// The plain types of a transcription and the definitions that every layer cites: grammars, rhythm trees and their
-// leaves, notes and chords, bars, performances and edits. The definitions stand in specs/: what a derivation of a voice
-// is, when it fits, what it costs and which is the least. The code here holds values and compares them, no more.
+//! The plain types of a transcription and the definitions that every layer cites: grammars, rhythm trees and their
+//! leaves, notes and chords, bars, performances and edits. The definitions stand in specs/: what a derivation of a voice
+//! is, when it fits, what it costs and which is the least. The code here holds values and compares them, no more.
 #![tactic(auto)]
 
 mod bar_fault;
@@ -16,6 +16,7 @@ mod grammar;
 mod inner;
 mod keys;
 mod kids;
+mod limits;
 mod name;
 mod note;
 mod performance;
@@ -30,6 +31,8 @@ mod sound;
 mod span;
 mod tag;
 mod tree;
+mod tree_from_rules;
+mod tree_shape;
 mod words;
 
 pub use bar_fault::BarFault;
@@ -45,12 +48,17 @@ pub use grammar::{Grammar, Start};
 pub use inner::Inner;
 pub use keys::Keys;
 pub use kids::Kids;
+pub use limits::{
+    DEAREST_CELL, HEAVIEST_ONSET, HEAVIEST_RULE, LATEST_EVENT, LATEST_TICK, MOST_BARS, MOST_CELLS,
+    MOST_DIVISION, MOST_LEVELS_BELOW, MOST_NAMES, MOST_NOTES, MOST_PARTS, MOST_RULES,
+    MOST_UNEQUAL_UNITS, MOST_UNITS, SLOWEST_TEMPO, WIDEST_WINDOW,
+};
 pub use name::Name;
 pub use note::{Bar, Note};
 pub use performance::Performance;
 pub use pin::Pin;
 pub use portions::Portions;
-pub use rule::{Body, Rule};
+pub use rule::{Body, Ending, Rule};
 pub use rule_list::RuleList;
 pub use shape::{Node, Shape};
 pub use shape_parse::ShapeFault;

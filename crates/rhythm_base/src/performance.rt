@@ -1,5 +1,5 @@
 ghost use Rattle.std.specs.Prelude.{◌≡◌};
-ghost use Rattle.rhythm_base.specs.Performed.{IsWellFormed, Performed};
+ghost use Rattle.rhythm_base.specs.Performance.{IsWellFormed, Performance};
 
 use crate::event::{KeyMark, Tempo};
 use crate::note::{Bar, Note};
@@ -20,11 +20,12 @@ pub struct Performance {
 }
 
 impl Model for Performance {
-    ghost use Rattle.rhythm_base.specs.Performed.{IsWellFormed, Performed, performed_code};
+    ghost use Rattle.rhythm_base.specs.PerformanceCode.{performance_code};
+    ghost use Rattle.rhythm_base.specs.Performance.{IsWellFormed, Performance};
 
-    ghost Value = { Performed };
+    ghost Value = { Performance };
 
-    ghost coded = { performed_code };
+    ghost coded = { performance_code };
 
     ghost view = { λ p. record {
       division = p.division;

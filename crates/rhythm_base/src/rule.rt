@@ -1,3 +1,6 @@
+ghost use Rattle.std.specs.Prelude.{◌≡◌, ℕ, length};
+ghost use Rattle.rhythm_base.specs.Bodies.{children, ending_of};
+
 use crate::kids::Kids;
 use crate::portions::Portions;
 
@@ -18,6 +21,48 @@ pub enum Body {
     Rest,
     /// A chord begins, with so many grace chords before it: 1 to 3.
     Grace(u8),
+}
+
+/// How a rule ends an interval: what a leaf is.
+#[derive(Clone, Copy, Debug, PartialEq, Eq)]
+pub enum Ending {
+    /// A chord begins and sounds past the middle of the leaf.
+    Note,
+    /// A chord begins and ends before the middle of the leaf.
+    Short,
+    /// The chord before goes on.
+    Tie,
+    /// Silence.
+    Rest,
+    /// A chord begins, with so many grace chords before it: 1 to 3.
+    Grace(u8),
+}
+
+impl Body {
+    /// How the body ends its interval, none where it cuts it.
+    pub fn ending(&self) -> Option<Ending>
+        ensures { result ≡ ending_of self.now }
+    {
+        match self {
+            Body::Split(_) | Body::Parts(_) => None,
+            Body::Note => Some(Ending::Note),
+            Body::Short => Some(Ending::Short),
+            Body::Tie => Some(Ending::Tie),
+            Body::Rest => Some(Ending::Rest),
+            Body::Grace(graces) => Some(Ending::Grace(*graces)),
+        }
+    }
+
+    /// How many parts the body cuts its interval into, whatever the width: none where it ends it.
+    pub fn part_count(&self) -> usize
+        ensures { (w : ℕ) → result ≡ length (children self.now w) }
+    {
+        match self {
+            Body::Split(symbols) => symbols.as_slice().len(),
+            Body::Parts(portions) => portions.as_slice().len(),
+            Body::Note | Body::Short | Body::Tie | Body::Rest | Body::Grace(_) => 0,
+        }
+    }
 }
 
 /// A rule of a grammar. Rules are numbered from 0 in the order of the file.

@@ -1,5 +1,6 @@
+ghost use Rattle.rhythm_base.specs.declared.limits.TheConstants.{MOST_PARTS};
 ghost use Rattle.std.specs.Prelude.{◌≡◌, ◌≤◌, ◌↔◌, IfOk, IsTrue, length};
-ghost use Rattle.rhythm_base.specs.Outline.{outline_of, end};
+ghost use Rattle.rhythm_base.specs.Shape.{shape_of_parts, end};
 
 use std::alloc::{AllocError, Global};
 use std::marker::Model;
@@ -19,15 +20,16 @@ pub enum Node {
 }
 
 impl Model for Shape {
-    ghost use Rattle.rhythm_base.specs.Outline.{Outline, outline_code, cuts};
+    ghost use Rattle.rhythm_base.specs.ShapeCode.{shape_code};
+    ghost use Rattle.rhythm_base.specs.Shape.{Shape, cuts};
 
-    ghost Value = { Outline };
+    ghost Value = { Shape };
 
-    ghost coded = { outline_code };
+    ghost coded = { shape_code };
 
-    ghost use Rattle.rhythm_base.specs.Shapes.{HasParts, outline};
+    ghost use Rattle.rhythm_base.specs.Shapes.{HasParts, shape_of_node};
 
-    ghost view = { λ s. outline s.node };
+    ghost view = { λ s. shape_of_node s.node };
 
     ghost invariant = { λ s. HasParts s.node };
 
@@ -47,8 +49,8 @@ impl Shape {
 
     pub fn cut(parts: Vec<Shape>) -> Shape
         requires low { 2 ≤ length parts.items }
-        requires high { length parts.items ≤ 16 }
-        ensures { result ≡ outline_of parts.items }
+        requires high { length parts.items ≤ MOST_PARTS }
+        ensures { result ≡ shape_of_parts parts.items }
     {
         Shape {
             node: Node::Cut(parts),
@@ -81,7 +83,7 @@ impl Shape {
 
     /// The parts of a cut, and none of a leaf.
     pub fn parts(&self) -> &[Shape]
-        ensures { outline_of result.now ≡ self.now }
+        ensures { shape_of_parts result.now ≡ self.now }
     {
         match &self.node {
             Node::Leaf => &[],
@@ -92,7 +94,7 @@ impl Shape {
 
 #[cycle(same)]
 fn same_parts(parts: &[Shape], others: &[Shape]) -> bool
-    ensures { IsTrue result ↔ (outline_of parts.now ≡ outline_of others.now) }
+    ensures { IsTrue result ↔ (shape_of_parts parts.now ≡ shape_of_parts others.now) }
 {
     match parts {
         [] => match others {

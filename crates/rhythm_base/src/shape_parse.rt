@@ -1,12 +1,14 @@
-ghost use Rattle.rhythm_base.specs.Outline.{outline_of};
-ghost use Rattle.rhythm_base.specs.ShapeReading.{AreParts, Byte, Head, HeadBehind1, IsHead, IsPart, Part, Parts, Stops, StopsWith, behind_1, head_text};
+ghost use Rattle.rhythm_base.specs.Shape.{shape_of_parts};
+ghost use Rattle.rhythm_base.specs.ShapeReading.{AreParts, ByteText, HeadText, HeadBehind1, IsHead, IsPart, PartText, PartsText, Stops, StopsWith, behind_1, head_text};
 ghost use Rattle.rhythm_base.specs.ShapeText.{IsShapeFault, IsShapeText, shape_text, texts_of_parts};
 ghost use Rattle.rhythm_base.specs.declared.shape_parse.Stop.TheVariants.{Memory};
 ghost use Rattle.std.specs.Prelude.{List, ◌+◌, ◌<◌, ◌≤◌, ◌≡◌, ◌∷◌, ◌++◌, [], IfErr, IfOk, length};
-ghost use Rattle.rhythm_base.specs.Outline.{Outline};
+ghost use Rattle.rhythm_base.specs.Shape.{Shape};
 
 use crate::shape::Shape;
 use std::alloc::{AllocError, AllocFailed, Global};
+use std::error::Error;
+use std::fmt;
 
 /// Why a text is that of no shape.
 #[derive(Clone, Copy, Debug, PartialEq, Eq)]
@@ -18,6 +20,18 @@ pub enum ShapeFault {
     /// There was not enough memory.
     Memory,
 }
+
+impl fmt::Display for ShapeFault {
+    fn fmt<W: fmt::Write>(&self, f: &mut fmt::Formatter<W>) -> fmt::Result {
+        match self {
+            ShapeFault::BadByte(at) => write!(f, "no shape has byte {at} of the text there"),
+            ShapeFault::Cut => write!(f, "the text of the shape is cut short"),
+            ShapeFault::Memory => write!(f, "not enough memory"),
+        }
+    }
+}
+
+impl Error for ShapeFault {}
 
 /// Where reading stops.
 pub(crate) enum Stop {
@@ -65,7 +79,7 @@ impl Shape {
 
 /// The fault of a text whose reading stops with so many bytes left.
 fn fault_with(text: &[u8], left: usize) -> ShapeFault
-    requires { StopsWith (Part 95) text.now left }
+    requires { StopsWith (PartText 95) text.now left }
     ensures { IsShapeFault text.now result }
 {
     if left == 0 {
@@ -78,7 +92,7 @@ fn fault_with(text: &[u8], left: usize) -> ShapeFault
 /// Reads one byte.
 fn byte<'a>(expected: u8, text: &'a [u8]) -> Result<&'a [u8], Stop>
     ensures ok { IfOk result (λ rest. text.now ≡ expected ∷ rest.now) }
-    ensures err { IfErr result (λ stop. Stops (Byte expected) text.now stop) }
+    ensures err { IfErr result (λ stop. Stops (ByteText expected) text.now stop) }
 {
     match text {
         [first, rest @ ..] if *first == expected => Ok(rest),
@@ -89,7 +103,7 @@ fn byte<'a>(expected: u8, text: &'a [u8]) -> Result<&'a [u8], Stop>
 /// Reads a leaf, or a cut up to its first part: how many parts it has, none for a leaf.
 fn head<'a>(text: &'a [u8], levels: usize) -> Result<(usize, &'a [u8]), Stop>
     ensures ok { IfOk result (λ r. IsHead levels r.0 × (text.now ≡ head_text r.0 ++ r.1.now)) }
-    ensures err { IfErr result (λ stop. Stops (Head levels) text.now stop) }
+    ensures err { IfErr result (λ stop. Stops (HeadText levels) text.now stop) }
 {
     let (first, rest) = match text {
         [] => return Err(Stop::With(0)),
@@ -130,7 +144,7 @@ fn head_behind_1<'a>(text: &'a [u8]) -> Result<(usize, &'a [u8]), Stop>
 fn part<'a>(alloc: Global, text: &'a [u8], levels: usize) -> Result<(Shape, &'a [u8]), Stop>
     ensures ok { IfOk result (λ r. IsPart levels r.0 × (text.now ≡ shape_text r.0 ++ r.1.now)) }
     ensures shorter { IfOk result (λ r. length r.1.now < length text.now) }
-    ensures err { IfErr result (λ stop. Stops (Part levels) text.now stop) }
+    ensures err { IfErr result (λ stop. Stops (PartText levels) text.now stop) }
 {
     let (count, rest) = head(text, levels)?;
     if count == 0 {
@@ -153,9 +167,9 @@ fn push_parts<'a>(
 ) -> Result<&'a [u8], Stop>
     requires some { 1 ≤ count }
     requires deep { 1 ≤ levels }
-    ensures ok { IfOk result (λ rest. (read : List Outline) × AreParts levels count (outline_of read)
-        × (parts.new.items ≡ parts.old.items ++ read) × (text.now ≡ texts_of_parts (outline_of read) ++ rest.now)) }
-    ensures err { IfErr result (λ stop. Stops (Parts levels count) text.now stop) }
+    ensures ok { IfOk result (λ rest. (read : List Shape) × AreParts levels count (shape_of_parts read)
+        × (parts.new.items ≡ parts.old.items ++ read) × (text.now ≡ texts_of_parts (shape_of_parts read) ++ rest.now)) }
+    ensures err { IfErr result (λ stop. Stops (PartsText levels count) text.now stop) }
 {
     let (shape, rest) = part(alloc, text, levels - 1)?;
     parts.push(shape)?;

@@ -1,4 +1,4 @@
-ghost use Rattle.rhythm_base.specs.Outline.{outline_of};
+ghost use Rattle.rhythm_base.specs.Shape.{shape_of_parts};
 ghost use Rattle.rhythm_base.specs.ShapeText.{shape_text, texts_of_parts};
 ghost use Rattle.std.specs.Prelude.{◌≡◌, ◌++◌, IfOk, OnOk, string_bytes};
 
@@ -36,7 +36,7 @@ fn push_shape(shape: &Shape, text: &mut String) -> Result<(), AllocError>
 /// Appends the texts of parts, with one space between them.
 #[cycle(push_text)]
 fn push_parts(parts: &[Shape], text: &mut String) -> Result<(), AllocError>
-    ensures { OnOk result (string_bytes text.new ≡ string_bytes text.old ++ texts_of_parts (outline_of parts.now)) }
+    ensures { OnOk result (string_bytes text.new ≡ string_bytes text.old ++ texts_of_parts (shape_of_parts parts.now)) }
 {
     match parts {
         [] => Ok(()),

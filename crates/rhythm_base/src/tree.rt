@@ -16,11 +16,12 @@ pub struct Tree {
 
 impl Model for Tree {
     ghost use Rattle.std.proofs.Common.{arith};
-    ghost use Rattle.rhythm_base.specs.Forest.{Branch, branch_code, forest_of, size_of, most_le-count};
+    ghost use Rattle.rhythm_base.specs.TreeCode.{tree_code};
+    ghost use Rattle.rhythm_base.specs.Forest.{Tree, forest_of, size_of, most_le-count};
 
-    ghost Value = { Branch };
+    ghost Value = { Tree };
 
-    ghost coded = { branch_code };
+    ghost coded = { tree_code };
 
     ghost view = { λ t. record { rule = t.rule; kids = forest_of t.kids.items } };
 

@@ -4,5 +4,6 @@ pub mod Tracks
 pub mod Voices
 pub mod Opening
 pub mod Worked
-pub mod SmallPiece
 pub mod OneByOne
+pub mod Sung
+pub mod FirstBeats

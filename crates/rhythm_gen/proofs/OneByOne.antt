@@ -5,12 +5,12 @@ use Rattle.std.proofs.Math.Nat.{mod-lt}
 use Rattle.rhythm_base.specs.declared.note.Note.{Note}
 use Rattle.rhythm_gen.specs.declared.figure.Figure.{Figure}
 use Rattle.rhythm_gen.specs.declared.figure.Figure.TheVariants.{Rest, One, Two}
-use Rattle.rhythm_gen.specs.Beat.{beat_notes, figure, key, kind, notes_of, shift}
+use Rattle.rhythm_gen.specs.Beat.{beat_notes, figure, key, kind, notes_in_beat, shift}
 use Rattle.rhythm_gen.specs.Draws.{draw}
 use Rattle.rhythm_gen.specs.Voice.{AreOneByOne, voice_notes}
 
 -- a figure, and behind it notes that follow from any tick up to 420 ticks after it began
-figure_first : (f : Figure) (channel k t low end : ℕ) (behind : List Note) → low ≤ t → ((u : ℕ) → u ≤ t + 420 → AreOneByOne u behind end) → AreOneByOne low (notes_of f channel k t ++ behind) end
+figure_first : (f : Figure) (channel k t low end : ℕ) (behind : List Note) → low ≤ t → ((u : ℕ) → u ≤ t + 420 → AreOneByOne u behind end) → AreOneByOne low (notes_in_beat f channel k t ++ behind) end
 figure_first Rest channel k t low end behind le follow = follow low (omega arith)
 figure_first One channel k t low end behind le follow = (le, omega arith, follow (t + 400) (omega arith))
 figure_first Two channel k t low end behind le follow = (le, omega arith, (omega arith, omega arith, follow (t + 420) (omega arith)))

@@ -3,8 +3,8 @@ use Rattle.std.proofs.Common.{◌≡◌, ℕ, ◌+◌, ◌-◌, ◌*◌, ◌≤�
 use Rattle.std.specs.List.{flat_map}
 use Rattle.std.proofs.lemmas.Grind.{flat_map-append}
 use Rattle.rhythm_base.specs.declared.note.Note.{Note}
-use Rattle.rhythm_gen.specs.Quantity.{quantity}
-use Rattle.rhythm_gen.specs.Track.{bytes_from, end_of_track, events_of, track_bytes}
+use Rattle.rhythm_gen.specs.Quantity.{quantity_bytes}
+use Rattle.rhythm_gen.specs.Track.{bytes_from, end_of_track_bytes, events_of, track_bytes}
 use Rattle.rhythm_gen.proofs.ShortForms.{quantity_short}
 
 -- the tick at which the last note ends, or t where there is none
@@ -22,7 +22,7 @@ no_bytes t = refl
 
 -- the two events of a note
 pub note_bytes : (old : List ℕ) (t : ℕ) (n : Note)
-    → (old ++ (quantity (n.onset - t) ++ ((144 + n.channel) ∷ n.key ∷ 64 ∷ []))) ++ (quantity (n.end - n.onset) ++ ((128 + n.channel) ∷ n.key ∷ 0 ∷ [])) ≡ old ++ bytes_from t (events_of n)
+    → (old ++ (quantity_bytes (n.onset - t) ++ ((144 + n.channel) ∷ n.key ∷ 64 ∷ []))) ++ (quantity_bytes (n.end - n.onset) ++ ((128 + n.channel) ∷ n.key ∷ 0 ∷ [])) ≡ old ++ bytes_from t (events_of n)
 unfolding bytes_from
 note_bytes old t n = simp (append_assoc, append-nil)
 
@@ -31,7 +31,7 @@ pub bytes_behind : (t : ℕ) (ns : List Note) (more : List (ℕ × List ℕ)) �
 unfolding bytes_from
 bytes_behind t [] more = refl
 bytes_behind t (n ∷ ns) more =
-    ap (λ (bytes : List ℕ). quantity (n.onset - t) ++ (((144 + n.channel) ∷ n.key ∷ 64 ∷ []) ++ (quantity (n.end - n.onset) ++ (((128 + n.channel) ∷ n.key ∷ 0 ∷ []) ++ bytes)))) (bytes_behind n.end ns more)
+    ap (λ (bytes : List ℕ). quantity_bytes (n.onset - t) ++ (((144 + n.channel) ∷ n.key ∷ 64 ∷ []) ++ (quantity_bytes (n.end - n.onset) ++ (((128 + n.channel) ∷ n.key ∷ 0 ∷ []) ++ bytes)))) (bytes_behind n.end ns more)
     ∙ simp append_assoc
 
 -- one note more
@@ -39,9 +39,9 @@ pub bytes_push : (t : ℕ) (ns : List Note) (n : Note) → bytes_from t (flat_ma
 bytes_push t ns n = ap (bytes_from t) (flat_map-append events_of ns (n ∷ [])) ∙ bytes_behind t ns (events_of n)
 
 -- the end of the track
-pub bytes_end : (ns : List Note) (end : ℕ) → track_bytes ns end ≡ bytes_from 0 (flat_map events_of ns) ++ (quantity (end - last_end 0 ns) ++ end_of_track)
+pub bytes_end : (ns : List Note) (end : ℕ) → track_bytes ns end ≡ bytes_from 0 (flat_map events_of ns) ++ (quantity_bytes (end - last_end 0 ns) ++ end_of_track_bytes)
 unfolding bytes_from
-bytes_end ns end = bytes_behind 0 ns ((end, end_of_track) ∷ []) ∙ simp append-nil
+bytes_end ns end = bytes_behind 0 ns ((end, end_of_track_bytes) ∷ []) ∙ simp append-nil
 
 -- seven bytes an event at most
 few_bytes : (t : ℕ) (ns : List Note) → length (bytes_from t (flat_map events_of ns)) ≤ 14 * length ns
@@ -50,8 +50,8 @@ few_bytes t [] = omega arith
 few_bytes t (n ∷ ns) =
     let rest = few_bytes n.end ns in
     let tail : List ℕ = bytes_from n.end (flat_map events_of ns) in
-    let off : List ℕ = quantity (n.end - n.onset) in
-    let on : List ℕ = quantity (n.onset - t) in
+    let off : List ℕ = quantity_bytes (n.end - n.onset) in
+    let on : List ℕ = quantity_bytes (n.onset - t) in
     omega (
       arith,
       quantity_short (n.onset - t),
@@ -63,12 +63,12 @@ few_bytes t (n ∷ ns) =
 
 pub track_short : (ns : List Note) (end : ℕ) → length (track_bytes ns end) ≤ 14 * length ns + 7
 track_short ns end =
-    let last : List ℕ = quantity (end - last_end 0 ns) in
+    let last : List ℕ = quantity_bytes (end - last_end 0 ns) in
     omega (
       arith,
       ap length (bytes_end ns end),
       few_bytes 0 ns,
       quantity_short (end - last_end 0 ns),
-      length-append (bytes_from 0 (flat_map events_of ns)) (last ++ end_of_track),
-      length-append last end_of_track,
+      length-append (bytes_from 0 (flat_map events_of ns)) (last ++ end_of_track_bytes),
+      length-append last end_of_track_bytes,
     )

@@ -8,7 +8,7 @@ use Rattle.std.proofs.lemmas.List.Elements.{All-append, All-from_recursion}
 use Rattle.rhythm_base.specs.declared.note.Note.{Note}
 use Rattle.rhythm_gen.specs.declared.figure.Figure.{Figure}
 use Rattle.rhythm_gen.specs.declared.figure.Figure.TheVariants.{Rest, One, Two}
-use Rattle.rhythm_gen.specs.Beat.{beat_notes, figure, key, kind, notes_of, shift}
+use Rattle.rhythm_gen.specs.Beat.{beat_notes, figure, key, kind, notes_in_beat, shift}
 use Rattle.rhythm_gen.specs.Draws.{draw}
 use Rattle.rhythm_gen.specs.Voice.{CanBeWritten, first_beats}
 
@@ -32,13 +32,13 @@ more_suc start channel n =
 pub more_beats : (start channel n : ℕ) → first_beats start channel (n + 1) ≡ first_beats start channel n ++ beat_notes channel n (draw start (n + 1))
 more_beats start channel n = ap (first_beats start channel) (add-one n) ∙ more_suc start channel n
 
-figure_written : (f : Figure) (channel k t : ℕ) → channel < 16 → t < 100000000 → AllByRecursion CanBeWritten (notes_of f channel k t)
+figure_written : (f : Figure) (channel k t : ℕ) → channel < 16 → t < 100000000 → AllByRecursion CanBeWritten (notes_in_beat f channel k t)
 figure_written Rest channel k t few early = tt
 figure_written One channel k t few early = (record { channel = few; onset = omega arith; end = omega arith }, tt)
 figure_written Two channel k t few early =
     (record { channel = few; onset = omega arith; end = omega arith }, (record { channel = few; onset = omega arith; end = omega arith }, tt))
 
-figure_few : (f : Figure) (channel k t : ℕ) → length (notes_of f channel k t) ≤ 2
+figure_few : (f : Figure) (channel k t : ℕ) → length (notes_in_beat f channel k t) ≤ 2
 figure_few Rest channel k t = omega arith
 figure_few One channel k t = omega arith
 figure_few Two channel k t = omega arith

@@ -21,14 +21,14 @@ abbrev pub key : ℕ → ℕ → ℕ
 key channel v = 60 - 12 * channel + (v / 84) % 12
 
 -- the notes of a figure that begins at tick t
-abbrev pub notes_of : Figure → ℕ → ℕ → ℕ → List Note
-notes_of Rest channel key t = []
-notes_of One channel key t = record { channel = channel; key = key; onset = t; end = t + 400 } ∷ []
-notes_of Two channel key t =
+abbrev pub notes_in_beat : Figure → ℕ → ℕ → ℕ → List Note
+notes_in_beat Rest channel key t = []
+notes_in_beat One channel key t = record { channel = channel; key = key; onset = t; end = t + 400 } ∷ []
+notes_in_beat Two channel key t =
     record { channel = channel; key = key; onset = t; end = t + 180 }
     ∷ record { channel = channel; key = key; onset = t + 240; end = t + 420 }
     ∷ []
 
 -- The notes of a beat. Beats are counted from 0 through the whole piece, four to a bar, and each has 480 ticks.
 abbrev pub beat_notes : ℕ → ℕ → ℕ → List Note
-beat_notes channel beat v = notes_of (figure (kind (beat % 4) v)) channel (key channel v) (480 * beat + shift v)
+beat_notes channel beat v = notes_in_beat (figure (kind (beat % 4) v)) channel (key channel v) (480 * beat + shift v)

@@ -2,37 +2,37 @@
 use Rattle.std.specs.Prelude.{ℕ, ◌*◌, List, [], ◌∷◌, ◌++◌, length, codes}
 use Rattle.std.specs.Int.{w16, w32, to_be_bytes}
 use Rattle.rhythm_gen.specs.Draws.{draw}
-use Rattle.rhythm_gen.specs.Track.{bytes_from, end_of_track, track_bytes}
+use Rattle.rhythm_gen.specs.Track.{bytes_from, end_of_track_bytes, track_bytes}
 use Rattle.rhythm_gen.specs.Voice.{voice_notes}
 
 -- a chunk: its name, its length and its content
-abbrev pub chunk : List ℕ → List ℕ → List ℕ
-chunk name content = name ++ (to_be_bytes w32 (length content) ++ content)
+abbrev pub chunk_bytes : List ℕ → List ℕ → List ℕ
+chunk_bytes name content = name ++ (to_be_bytes w32 (length content) ++ content)
 
 -- format 1, three tracks, 480 ticks to a quarter note
-abbrev pub header : List ℕ
-header = chunk (codes "MThd") (to_be_bytes w16 1 ++ (to_be_bytes w16 3 ++ to_be_bytes w16 480))
+abbrev pub header_bytes : List ℕ
+header_bytes = chunk_bytes (codes "MThd") (to_be_bytes w16 1 ++ (to_be_bytes w16 3 ++ to_be_bytes w16 480))
 
 -- 500,000 microseconds to a quarter note
-abbrev pub tempo : List ℕ
-tempo = 255 ∷ 81 ∷ 3 ∷ 7 ∷ 161 ∷ 32 ∷ []
+abbrev pub tempo_bytes : List ℕ
+tempo_bytes = 255 ∷ 81 ∷ 3 ∷ 7 ∷ 161 ∷ 32 ∷ []
 
 -- 4/4, a click of the metronome for each quarter note, and eight 32nd notes to a quarter note
-abbrev pub signature : List ℕ
-signature = 255 ∷ 88 ∷ 4 ∷ 4 ∷ 2 ∷ 24 ∷ 8 ∷ []
+abbrev pub signature_bytes : List ℕ
+signature_bytes = 255 ∷ 88 ∷ 4 ∷ 4 ∷ 2 ∷ 24 ∷ 8 ∷ []
 
 -- the tempo and the signature of the whole piece, all at tick 0
 abbrev pub conductor : List ℕ
-conductor = bytes_from 0 ((0, tempo) ∷ (0, signature) ∷ (0, end_of_track) ∷ [])
+conductor = bytes_from 0 ((0, tempo_bytes) ∷ (0, signature_bytes) ∷ (0, end_of_track_bytes) ∷ [])
 
-abbrev pub track : List ℕ → List ℕ
-track content = chunk (codes "MTrk") content
+abbrev pub track_chunk_bytes : List ℕ → List ℕ
+track_chunk_bytes content = chunk_bytes (codes "MTrk") content
 
 -- The track of a voice, where the stream has come to `start`. Each bar has 1920 ticks.
 abbrev pub voice_track : ℕ → ℕ → ℕ → List ℕ
-voice_track start bars channel = track (track_bytes (voice_notes start bars channel) (1920 * bars))
+voice_track start bars channel = track_chunk_bytes (track_bytes (voice_notes start bars channel) (1920 * bars))
 
 -- The file of a number and a count of bars. Channel 1 goes on in the stream behind the draws of channel 0.
 abbrev pub generated : ℕ → ℕ → List ℕ
 generated number bars =
-    header ++ (track conductor ++ (voice_track number bars 0 ++ voice_track (draw number (4 * bars)) bars 1))
+    header_bytes ++ (track_chunk_bytes conductor ++ (voice_track number bars 0 ++ voice_track (draw number (4 * bars)) bars 1))

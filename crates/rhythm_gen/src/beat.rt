@@ -1,4 +1,4 @@
-ghost use Rattle.rhythm_gen.specs.Beat.{beat_notes, figure, key, kind, notes_of, shift};
+ghost use Rattle.rhythm_gen.specs.Beat.{beat_notes, figure, key, kind, notes_in_beat, shift};
 ghost use Rattle.std.specs.Prelude.{◌≡◌, ◌++◌, ◌<◌, ◌≤◌, OnOk};
 
 use crate::figure::Figure;

@@ -1,5 +1,5 @@
 ghost use Rattle.rhythm_gen.specs.Draws.{draw};
-ghost use Rattle.rhythm_gen.specs.MidiFile.{generated, track, voice_track};
+ghost use Rattle.rhythm_gen.specs.MidiFile.{generated, track_chunk_bytes, voice_track};
 ghost use Rattle.std.specs.Prelude.{◌≡◌, ◌++◌, ◌<◌, ◌≤◌, ◌*◌, ◌^◌, IfOk, OnOk, length};
 
 use crate::draws::Draws;
@@ -14,7 +14,7 @@ const OPENING: [u8; 41] = *b"MThd\0\0\0\x06\0\x01\0\x03\x01\xe0\
 /// Appends a track of this content.
 fn push_track(bytes: &mut Vec<u8>, content: &[u8]) -> Result<(), AllocError>
     requires { length content.now < 2 ^ 32 }
-    ensures { OnOk result (bytes.new.items ≡ bytes.old.items ++ track content.now) }
+    ensures { OnOk result (bytes.new.items ≡ bytes.old.items ++ track_chunk_bytes content.now) }
 {
     bytes.extend_from_slice(b"MTrk")?;
     bytes.extend_from_slice(&(content.len() as u32).to_be_bytes())?;

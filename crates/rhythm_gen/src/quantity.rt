@@ -1,4 +1,4 @@
-ghost use Rattle.rhythm_gen.specs.Quantity.{quantity};
+ghost use Rattle.rhythm_gen.specs.Quantity.{quantity_bytes};
 ghost use Rattle.std.specs.Prelude.{◌≡◌, ◌++◌, ◌<◌, OnOk};
 
 use std::alloc::AllocError;
@@ -7,7 +7,7 @@ use std::alloc::AllocError;
 #[tactic(auto, using(crate::proofs::ShortForms::one_byte, crate::proofs::ShortForms::two_bytes, crate::proofs::ShortForms::three_bytes, crate::proofs::ShortForms::four_bytes))]
 pub(crate) fn push_quantity(bytes: &mut Vec<u8>, number: u64) -> Result<(), AllocError>
     requires { number < 268435456 }
-    ensures { OnOk result (bytes.new.items ≡ bytes.old.items ++ quantity number) }
+    ensures { OnOk result (bytes.new.items ≡ bytes.old.items ++ quantity_bytes number) }
 {
     let lowest = (number % 128) as u8;
     let second = 128 + (number / 128 % 128) as u8;

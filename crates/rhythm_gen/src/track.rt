@@ -1,4 +1,4 @@
-ghost use Rattle.rhythm_gen.specs.Quantity.{quantity};
+ghost use Rattle.rhythm_gen.specs.Quantity.{quantity_bytes};
 ghost use Rattle.rhythm_gen.specs.Track.{bytes_from, events_of, track_bytes};
 ghost use Rattle.rhythm_gen.specs.Voice.{CanBeWritten};
 ghost use Rattle.std.specs.Prelude.{◌≡◌, ◌++◌, ◌<◌, ◌≤◌, ◌+◌, ◌*◌, ◌-◌, All, IfOk, OnOk, length};
@@ -12,7 +12,7 @@ const END_OF_TRACK: [u8; 3] = [0xff, 0x2f, 0];
 /// Appends a message that stands so many ticks behind the one before it.
 fn push_event(content: &mut Vec<u8>, delta: u64, message: &[u8]) -> Result<(), AllocError>
     requires { delta < 268435456 }
-    ensures { OnOk result (content.new.items ≡ content.old.items ++ (quantity delta ++ message.now)) }
+    ensures { OnOk result (content.new.items ≡ content.old.items ++ (quantity_bytes delta ++ message.now)) }
 {
     push_quantity(content, delta)?;
     content.extend_from_slice(message)

@@ -6,25 +6,10 @@ use Rattle.std.specs.Cmp.{nat_cmp_is}
 use Rattle.std.specs.Cmp.Lexicographic.{nat_list_cmp_total}
 use Rattle.std.specs.declared.cmp.Ordering.{Ordering}
 use Rattle.std.specs.declared.cmp.Ordering.TheVariants.{Less, Equal, Greater}
-use Rattle.rhythm_base.specs.Ranked.{Key, Keys, list_cmp, plus, joined, key_of, is_under, count_under, ranked}
+use Rattle.rhythm_base.specs.Ranked.{Key, Keys, list_cmp, plus, key_sum, key_of, is_under, count_under, ranked}
+use Rattle.rhythm_laws.specs.Rows.{AreAlike, lists_cmp, same}
 use Rattle.rhythm_laws.proofs.KeyOrders.{flip, itself, above, before_above, list_equal, Parse}
 use Rattle.rhythm_laws.proofs.LeastKeys.{last}
-
--- both there, with one cost, or neither
-abbrev pub same : Option Key → Option Key → Type 0
-same None None = Unit {0}
-same None (Some y) = ⊥
-same (Some x) None = ⊥
-same (Some x) (Some y) = x.0 ≡ y.0
-
-abbrev pub lists_cmp : Option Key → Option Key → Ordering
-lists_cmp None q = Equal
-lists_cmp (Some x) None = Equal
-lists_cmp (Some x) (Some y) = list_cmp x.1 y.1
-
-pub record AreAlike (r s : ℕ → Option Key) : Type 0 where
-  pub costs : (b : ℕ) → b < 5 → same (r b) (s b)
-  pub order : (b c : ℕ) → b < 5 → c < 5 → lists_cmp (r b) (r c) ≡ lists_cmp (s b) (s c)
 
 -- ---- the same ranks
 
@@ -138,7 +123,7 @@ parse None q = Unit {0}
 parse (Some x) None = Unit {0}
 parse (Some x) (Some y) = Parse x.1 y.1
 
-joined_same : (p p' q q' : Option Key) → same p p' → same q q' → same (joined p q) (joined p' q')
+joined_same : (p p' q q' : Option Key) → same p p' → same q q' → same (key_sum p q) (key_sum p' q')
 joined_same None None q q' h k = tt
 joined_same None (Some y) q q' h k = absurd h
 joined_same (Some x) None q q' h k = absurd h
@@ -153,7 +138,7 @@ joined_cmp x u y v l = l y.1 v.1
 joined_order : (p p' q q' u u' v v' : Option Key) → same p p' → same q q' → same u u' → same v v'
     → parse p u → parse p' u'
     → lists_cmp p u ≡ lists_cmp p' u' → ((x y : Key) → p ≡ Some x → u ≡ Some y → list_cmp x.1 y.1 ≡ Equal → lists_cmp q v ≡ lists_cmp q' v')
-    → lists_cmp (joined p q) (joined u v) ≡ lists_cmp (joined p' q') (joined u' v')
+    → lists_cmp (key_sum p q) (key_sum u v) ≡ lists_cmp (key_sum p' q') (key_sum u' v')
 joined_order None None q q' u u' v v' h1 h2 h3 h4 l1 l3 e f = refl
 joined_order None (Some y) q q' u u' v v' h1 h2 h3 h4 l1 l3 e f = absurd h1
 joined_order (Some x) None q q' u u' v v' h1 h2 h3 h4 l1 l3 e f = absurd h1
@@ -182,7 +167,7 @@ AreApart r = (b c : ℕ) → b < 5 → c < 5 → (x y : Key) → r b ≡ Some x 
 -- the way through a count in the middle
 abbrev pub via : (ℕ → Option Key) → Keys → ℕ → Option ℕ → Option Key
 via r l b None = None
-via r l b (Some m) = joined (r m) (l m b)
+via r l b (Some m) = key_sum (r m) (l m b)
 
 abbrev pub IsCount : Option ℕ → Type 0
 IsCount None = Unit {0}
@@ -196,7 +181,7 @@ module _ (r s : ℕ → Option Key) (l k : Keys) (rows : AreAlike r s) (behind :
 
   via_order : (b c : ℕ) → b < 5 → c < 5 → (o u : Option ℕ) → IsCount o → IsCount u → lists_cmp (via r l b o) (via r l c u) ≡ lists_cmp (via s k b o) (via s k c u)
   via_order b c lb lc None u h g = refl
-  via_order b c lb lc (Some m) None h g = none_right (joined (r m) (l m b)) ∙ sym (none_right (joined (s m) (k m b)))
+  via_order b c lb lc (Some m) None h g = none_right (key_sum (r m) (l m b)) ∙ sym (none_right (key_sum (s m) (k m b)))
   via_order b c lb lc (Some m) (Some m') h g =
       joined_order (r m) (s m) (l m b) (k m b) (r m') (s m') (l m' c) (k m' c)
       (rows.costs m h) ((behind m h).costs b lb) (rows.costs m' g) ((behind m' g).costs c lc)

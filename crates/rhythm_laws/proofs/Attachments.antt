@@ -1,8 +1,8 @@
 -- Leaves side by side: an onset between their start and their end lies in exactly one, and later onsets are attached no earlier.
 use Rattle.std.proofs.Common.{◌≡◌, ◌∙◌, ℕ, suc, ◌≤◌, Bool, true, false, not, ◌&&◌, cond, List, [], ◌∷◌, length, filter, refl, ap, arith}
 use Rattle.std.specs.Prelude.{if◌then◌else◌}
-use Rattle.rhythm_base.specs.DeadBars.{end_of}
-use Rattle.rhythm_base.specs.Leaves.{line_of, looks}
+use Rattle.rhythm_base.specs.DeadBars.{end_of_bars}
+use Rattle.rhythm_base.specs.Leaves.{voice_leaves, looks}
 use Rattle.rhythm_base.specs.Line.{Looks, seat}
 use Rattle.rhythm_laws.specs.Laws.{OnsetsAreAttached}
 use Rattle.rhythm_laws.specs.Runs.{IsLine}
@@ -81,9 +81,9 @@ module _ {X : Type 0} (K : Looks X) where
 pub onsets_attached : OnsetsAreAttached
 onsets_attached = record {
   one_leaf = λ g bars ts t some near trees below.
-      lies_once (looks g.resolution) (from_tick 0) (from_tick (end_of 0 bars)) (line_of g bars ts) (voice-line g bars ts 0 (end_of 0 bars) some near trees) t
-      (le_from 0 t (omega arith)) (le_not (end_of 0 bars) t below);
+      lies_once (looks g.resolution) (from_tick 0) (from_tick (end_of_bars 0 bars)) (voice_leaves g bars ts) (voice-line g bars ts 0 (end_of_bars 0 bars) some near trees) t
+      (le_from 0 t (omega arith)) (le_not (end_of_bars 0 bars) t below);
   in_order = λ g bars ts t u some near trees less.
-      in_order (looks g.resolution) (from_tick 0) (from_tick (end_of 0 bars)) (line_of g bars ts) (voice-line g bars ts 0 (end_of 0 bars) some near trees) t u less
+      in_order (looks g.resolution) (from_tick 0) (from_tick (end_of_bars 0 bars)) (voice_leaves g bars ts) (voice-line g bars ts 0 (end_of_bars 0 bars) some near trees) t u less
       (le_from 0 t (omega arith)) (le_from 0 u (omega arith));
 }

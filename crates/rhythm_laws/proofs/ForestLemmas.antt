@@ -5,19 +5,21 @@ use Rattle.std.proofs.lemmas.List.Sums.{sum_by-append, sum_by-cons}
 use Rattle.rhythm_base.specs.Cost.{charge, charge_in, charges, weight_of, weights}
 use Rattle.rhythm_base.specs.Forest.{Forest, none, more, preorder}
 use Rattle.rhythm_base.specs.Leaves.{Leaf, in_bar, lies_in, looks}
-use Rattle.rhythm_base.specs.Line.{Sounding}
-use Rattle.rhythm_base.specs.Outline.{Outline, end, part}
+use Rattle.rhythm_base.specs.declared.inner.Inner.{Inner}
+use Rattle.rhythm_base.specs.Shape.{Shape, end, part}
 use Rattle.std.proofs.lemmas.Bool.Decides.{nat_tests}
-use Rattle.rhythm_base.specs.Ranked.{Key, Keys, is_before, joined, plus, product_of, table_of, times}
-use Rattle.rhythm_base.specs.Rulebook.{Rulebook}
-use Rattle.rhythm_base.specs.Trees.{are_shaped, are_trees, children_of, leaves, leaves_at, sizes, suits}
+use Rattle.rhythm_base.specs.Ranked.{Key, Keys, is_before, key_sum, plus, product_of, table_of, times}
+use Rattle.rhythm_base.specs.Grammar.{Grammar}
+use Rattle.rhythm_base.specs.Bodies.{sizes}
+use Rattle.rhythm_base.specs.Trees.{are_shaped, are_trees, children_of, leaves, leaves_at, suits}
 use Rattle.rhythm_laws.specs.Forests.{AreWide, Ground, IsForestKey, IsGround, first_shape, forest_cost, has_shapes, other_shapes}
 use Rattle.rhythm_laws.specs.Places.{FitsAt, reach}
 use Rattle.rhythm_laws.specs.Runs.{IsLine}
 use Rattle.rhythm_laws.proofs.Alike.{parse}
 use Rattle.rhythm_laws.proofs.Bars.{SideBySide, leaves-fill}
 use Rattle.rhythm_laws.proofs.KeyOrders.{Parse, itself, keys_total}
-use Rattle.rhythm_laws.proofs.LeastKeys.{Both, IsLeast, IsLeast-same, Some-below, joined-least, pick-least}
+use Rattle.rhythm_laws.specs.Rows.{IsOneBelow}
+use Rattle.rhythm_laws.proofs.LeastKeys.{Both, IsLeast, IsLeast-same, joined-least, pick-least}
 use Rattle.rhythm_laws.proofs.Parsing.{one_parse}
 use Rattle.rhythm_laws.proofs.Places.{trees-join, trees-split, in_bar-append}
 use Rattle.rhythm_laws.proofs.Products.{RowsApart, RowsParse, product_is}
@@ -28,7 +30,7 @@ use Rattle.rhythm_laws.proofs.Ticks.{parts-line}
 -- ---- costs add up
 
 -- an onset that the start of a line does not reach lies in none of its leaves
-charge-none : (g : Rulebook) (s z : ℕ → Bool) (xs : List Leaf) (t : ℕ) → IsLine (looks g.resolution) s xs z → s t ≡ false → charge g xs t ≡ 0
+charge-none : (g : Grammar) (s z : ℕ → Bool) (xs : List Leaf) (t : ℕ) → IsLine (looks g.resolution) s xs z → s t ≡ false → charge g xs t ≡ 0
 charge-none g s z [] t line h = refl
 charge-none g s z (x ∷ xs) t line h =
     let out : lies_in g.resolution x t ≡ false = line.1.inside t ∙ ap (λ b. b && not (line.0 t)) h in
@@ -38,7 +40,7 @@ charge-none g s z (x ∷ xs) t line h =
     later true e = let on : s t ≡ true = line.1.back t e in absurd (cc)
     later false e = refl
 
-charge-beside : (g : Rulebook) (s m z : ℕ → Bool) (xs ys : List Leaf) (t : ℕ) → IsLine (looks g.resolution) s xs m → IsLine (looks g.resolution) m ys z
+charge-beside : (g : Grammar) (s m z : ℕ → Bool) (xs ys : List Leaf) (t : ℕ) → IsLine (looks g.resolution) s xs m → IsLine (looks g.resolution) m ys z
     → charge g (xs ++ ys) t ≡ charge g xs t + charge g ys t
 charge-beside g s m z [] ys t one two = omega arith
 charge-beside g s m z (x ∷ xs) ys t one two = go (lies_in g.resolution x t) refl (charge-beside g one.0 m z xs ys t one.2 two)
@@ -60,7 +62,7 @@ charge-beside g s m z (x ∷ xs) ys t one two = go (lies_in g.resolution x t) re
         omega (arith, nothing)
     go false e ih = ih
 
-charges-beside : (g : Rulebook) (s m z : ℕ → Bool) (xs ys : List Leaf) (cs : List Sounding) → IsLine (looks g.resolution) s xs m → IsLine (looks g.resolution) m ys z
+charges-beside : (g : Grammar) (s m z : ℕ → Bool) (xs ys : List Leaf) (cs : List Inner) → IsLine (looks g.resolution) s xs m → IsLine (looks g.resolution) m ys z
     → charges g (xs ++ ys) cs ≡ charges g xs cs + charges g ys cs
 charges-beside g s m z xs ys [] one two = refl
 charges-beside g s m z xs ys (c ∷ cs) one two =
@@ -73,7 +75,7 @@ charges-beside g s m z xs ys (c ∷ cs) one two =
 
 -- ---- the first tree and the others
 
-weights-append : (g : Rulebook) (xs ys : List ℕ) → weights g (xs ++ ys) ≡ weights g xs + weights g ys
+weights-append : (g : Grammar) (xs ys : List ℕ) → weights g (xs ++ ys) ≡ weights g xs + weights g ys
 weights-append g xs ys = sum_by-append (λ r. weight_of (slice_get g.rules r)) xs ys
 
 preorder-first : (r : ℕ) (k rest : Forest) → preorder (more r k rest) ≡ preorder (more r k none) ++ preorder rest
@@ -104,13 +106,13 @@ join_trees d q qs r k rest h g =
     let p' = both (are_trees d.book.rules (children_of (slice_get d.book.rules r) q.0) k) _ p.1 in
     three _ _ _ p.0 p'.0 g
 
-split_shapes : (s : Option Outline) (r : ℕ) (k rest : Forest) → has_shapes s (more r k rest) ≡ true → (has_shapes (first_shape s) (more r k none) ≡ true) × (has_shapes (other_shapes s) rest ≡ true)
+split_shapes : (s : Option Shape) (r : ℕ) (k rest : Forest) → has_shapes s (more r k rest) ≡ true → (has_shapes (first_shape s) (more r k none) ≡ true) × (has_shapes (other_shapes s) rest ≡ true)
 split_shapes None r k rest h = (refl, refl)
 split_shapes (Some end) r k rest h = absurd (cc)
 split_shapes (Some (part x xs)) r k rest h =
     let p = both (are_shaped x k) _ h in (two_and _ _ p.0 refl, p.1)
 
-join_shapes : (s : Option Outline) (r : ℕ) (k rest : Forest) → has_shapes (first_shape s) (more r k none) ≡ true → has_shapes (other_shapes s) rest ≡ true → has_shapes s (more r k rest) ≡ true
+join_shapes : (s : Option Shape) (r : ℕ) (k rest : Forest) → has_shapes (first_shape s) (more r k none) ≡ true → has_shapes (other_shapes s) rest ≡ true → has_shapes s (more r k rest) ≡ true
 join_shapes None r k rest h g = refl
 join_shapes (Some end) r k rest h g = absurd (cc)
 join_shapes (Some (part x xs)) r k rest h g =
@@ -142,8 +144,8 @@ module _ (d : Ground) (ground : IsGround d) (p : ℕ) (q : ℕ × ℕ) (qs : Lis
       omega (arith, rules_sum, onset_sum)
 
   -- a key of trees side by side is one of the first tree and one of the others, with a count between them
-  pub split_key : (s : Option Outline) (f t : ℕ) (key : Key) → IsForestKey d s p (q ∷ qs) f t key
-      → Some-below (λ n. Both (IsForestKey d (first_shape s) p (q ∷ []) f n) (IsForestKey d (other_shapes s) (p + q.0) qs n t)) 5 key
+  pub split_key : (s : Option Shape) (f t : ℕ) (key : Key) → IsForestKey d s p (q ∷ qs) f t key
+      → IsOneBelow (λ n. Both (IsForestKey d (first_shape s) p (q ∷ []) f n) (IsForestKey d (other_shapes s) (p + q.0) qs n t)) 5 key
   split_key s f t key (none, stands, is) = let no : false ≡ true = stands.trees in absurd (cc)
   split_key s f t key (more r k rest, stands, is) =
       let parts = first_trees d q qs r k rest stands.trees in
@@ -163,8 +165,8 @@ module _ (d : Ground) (ground : IsGround d) (p : ℕ) (q : ℕ × ℕ) (qs : Lis
         ),
       )
 
-  pub join_key : (s : Option Outline) (f t : ℕ) (key : Key)
-      → Some-below (λ n. Both (IsForestKey d (first_shape s) p (q ∷ []) f n) (IsForestKey d (other_shapes s) (p + q.0) qs n t)) 5 key → IsForestKey d s p (q ∷ qs) f t key
+  pub join_key : (s : Option Shape) (f t : ℕ) (key : Key)
+      → IsOneBelow (λ n. Both (IsForestKey d (first_shape s) p (q ∷ []) f n) (IsForestKey d (other_shapes s) (p + q.0) qs n t)) 5 key → IsForestKey d s p (q ∷ qs) f t key
   join_key s f t key (n, low, (x, y, (none, stands, is), others, sum)) = let no : false ≡ true = stands.trees in absurd (cc)
   join_key s f t key (n, low, (x, y, (more r k (more r' k' rest'), stands, is), others, sum)) =
       let no : false ≡ true = (first_trees d q [] r k (more r' k' rest') stands.trees).1 in absurd (cc)
@@ -182,13 +184,13 @@ module _ (d : Ground) (ground : IsGround d) (p : ℕ) (q : ℕ × ℕ) (qs : Lis
 
 -- ---- lists parse, and rows are apart
 
-pub keys-parse : (d : Ground) (s : Option Outline) (p : ℕ) (qs : List (ℕ × ℕ)) (a b c : ℕ) (x y : Key) → IsForestKey d s p qs a b x → IsForestKey d s p qs a c y → Parse x.1 y.1
+pub keys-parse : (d : Ground) (s : Option Shape) (p : ℕ) (qs : List (ℕ × ℕ)) (a b c : ℕ) (x y : Key) → IsForestKey d s p qs a b x → IsForestKey d s p qs a c y → Parse x.1 y.1
 keys-parse d s p qs a b c x y (f, stands, is) (g, stands', is') u v =
     let P : List ℕ → List ℕ → Type 0 = λ l m. Parse l m in
     subst (λ l. Parse l y.1) (sym (ap (λ (z : Key). z.1) is)) (subst (λ m. Parse (preorder f) m) (sym (ap (λ (z : Key). z.1) is')) (λ u v. preorders-cmp d.book.rules qs f g u v stands.trees stands'.trees)) u v
 
 -- keys of one row with one list have one count carried out
-pub keys-apart : (d : Ground) (s : Option Outline) (p : ℕ) (qs : List (ℕ × ℕ)) (a b c : ℕ) (x y : Key) → IsForestKey d s p qs a b x → IsForestKey d s p qs a c y → x.1 ≡ y.1 → b ≡ c
+pub keys-apart : (d : Ground) (s : Option Shape) (p : ℕ) (qs : List (ℕ × ℕ)) (a b c : ℕ) (x y : Key) → IsForestKey d s p qs a b x → IsForestKey d s p qs a c y → x.1 ≡ y.1 → b ≡ c
 keys-apart d s p qs a b c x y (f, stands, is) (g, stands', is') e =
     let lists : preorder f ++ [] ≡ preorder g ++ [] = ap (λ l. l ++ []) (sym (ap (λ (z : Key). z.1) is) ∙ e ∙ ap (λ (z : Key). z.1) is') in
     let same : f ≡ g = (one_parse d.book.rules qs f g [] [] stands.trees stands'.trees lists).0 in
@@ -202,7 +204,7 @@ in_set : (S : Key → Type 0) (o : Option Key) (x : Key) → IsLeast S o → o �
 in_set S None x h e = absurd (cc)
 in_set S (Some y) x h e = let same : y ≡ x = cc in subst S same h.0
 
-module _ (d : Ground) (s : Option Outline) (p : ℕ) (qs : List (ℕ × ℕ)) (K : Keys) (least : (a b : ℕ) → a < 5 → b < 5 → IsLeast (IsForestKey d s p qs a b) (K a b)) where
+module _ (d : Ground) (s : Option Shape) (p : ℕ) (qs : List (ℕ × ℕ)) (K : Keys) (least : (a b : ℕ) → a < 5 → b < 5 → IsLeast (IsForestKey d s p qs a b) (K a b)) where
   pub least-rows_parse : RowsParse K
   least-rows_parse a b c la lb lc = go (K a b) (K a c) refl refl
     where
@@ -215,15 +217,15 @@ module _ (d : Ground) (s : Option Outline) (p : ℕ) (qs : List (ℕ × ℕ)) (K
   least-rows_apart a la b c lb lc x y e f same =
       keys-apart d s p qs a b c x y (in_set (IsForestKey d s p qs a b) (K a b) x (least a b la lb) e) (in_set (IsForestKey d s p qs a c) (K a c) y (least a c la lc) f) same
 
-module _ (d : Ground) (ground : IsGround d) (p : ℕ) (q : ℕ × ℕ) (qs : List (ℕ × ℕ)) (wide : AreWide (q ∷ qs)) (s : Option Outline) (K L : Keys)
+module _ (d : Ground) (ground : IsGround d) (p : ℕ) (q : ℕ × ℕ) (qs : List (ℕ × ℕ)) (wide : AreWide (q ∷ qs)) (s : Option Shape) (K L : Keys)
     (first : (a n : ℕ) → a < 5 → n < 5 → IsLeast (IsForestKey d (first_shape s) p (q ∷ []) a n) (K a n))
     (others : (n b : ℕ) → n < 5 → b < 5 → IsLeast (IsForestKey d (other_shapes s) (p + q.0) qs n b) (L n b)) where
   -- it is the least, over the count between them, of the least of the first tree and the least of the others
   pub beside-least : (a b : ℕ) → a < 5 → b < 5 → IsLeast (IsForestKey d s p (q ∷ qs) a b) (times K L a b)
   beside-least a b la lb =
-      IsLeast-same (Some-below (λ n. Both (IsForestKey d (first_shape s) p (q ∷ []) a n) (IsForestKey d (other_shapes s) (p + q.0) qs n b)) 5) (IsForestKey d s p (q ∷ qs) a b) (times K L a b)
+      IsLeast-same (IsOneBelow (λ n. Both (IsForestKey d (first_shape s) p (q ∷ []) a n) (IsForestKey d (other_shapes s) (p + q.0) qs n b)) 5) (IsForestKey d s p (q ∷ qs) a b) (times K L a b)
       (λ k h. join_key d ground p q qs wide s a b k h) (λ k h. split_key d ground p q qs wide s a b k h)
-      (pick-least (λ n. Both (IsForestKey d (first_shape s) p (q ∷ []) a n) (IsForestKey d (other_shapes s) (p + q.0) qs n b)) (λ n. joined (K a n) (L n b)) 5
+      (pick-least (λ n. Both (IsForestKey d (first_shape s) p (q ∷ []) a n) (IsForestKey d (other_shapes s) (p + q.0) qs n b)) (λ n. key_sum (K a n) (L n b)) 5
       (λ n low. joined-least (IsForestKey d (first_shape s) p (q ∷ []) a n) (IsForestKey d (other_shapes s) (p + q.0) qs n b) (K a n) (L n b)
       (λ k l h g. keys-parse d (first_shape s) p (q ∷ []) a n n k l h g) (first a n la low) (others n b low lb)))
 
@@ -242,7 +244,7 @@ nothing-least d p a b la = go (a == b) (grind (arith, nat_tests)) (grind (arith,
     go true f g =
         ((none, record { trees = refl; shaped = refl; fits = record { runs = refl; leave = f refl; few_from = few a la; few_to = subst (λ n. n ≤ 4) (f refl) (few a la) } }, (λ i. (nothing_charged d.book d.chords i, []))), first)
       where
-        nothing_charged : (g : Rulebook) (cs : List Sounding) → 0 ≡ weights g [] + charges g [] cs
+        nothing_charged : (g : Grammar) (cs : List Inner) → 0 ≡ weights g [] + charges g [] cs
         nothing_charged g [] = refl
         nothing_charged g (c ∷ cs) = let more = sum_by-cons (λ c. charge g [] c.onset) c cs in let ih = nothing_charged g cs in omega (arith, more, ih)
 

@@ -1,5 +1,5 @@
 -- The order of keys: its laws, and how it goes with joining.
-use Rattle.std.proofs.Common.{◌≡◌, ℕ, ◌+◌, ◌<◌, ◌⊎◌, inl, inr, true, false, List, [], ◌∷◌, ◌++◌, length, refl, sym, ap, ◌∙◌, arith}
+use Rattle.std.proofs.Common.{◌≡◌, ◌≢◌, ℕ, ◌+◌, ◌<◌, ◌⊎◌, inl, inr, true, false, List, [], ◌∷◌, ◌++◌, length, refl, sym, ap, ◌∙◌, arith}
 use Rattle.std.specs.Ordering.{nat_cmp, ordering_then, ordering_reverse, is_lt, is_gt}
 use Rattle.std.specs.Cmp.{IsTotalOrder, ranked, nat_cmp_is, then_total, on_total, nat_cmp_total}
 use Rattle.std.specs.Cmp.Lexicographic.{nat_list_cmp_total}
@@ -43,7 +43,10 @@ module _ {K : Type 0} {R : K → K → Ordering} (o : IsTotalOrder R) where
   pub before_above : (x y : K) → is_lt (R x y) ≡ true → is_lt (R y x) ≡ false
   before_above x y h = sym (flip y x) ∙ less_not_gt (R x y) h
 
-then_equal : (o u : Ordering) → ordering_then o u ≡ Equal → (o ≡ Equal) × (u ≡ Equal)
+pub never_less : (o : Ordering) → is_lt o ≡ false → o ≢ Less
+never_less o h = λ e. let both : true ≡ false = ap is_lt (sym e) ∙ h in cc
+
+pub then_equal : (o u : Ordering) → ordering_then o u ≡ Equal → (o ≡ Equal) × (u ≡ Equal)
 then_equal Less u e = absurd (cc)
 then_equal Equal u e = (refl, e)
 then_equal Greater u e = absurd (cc)

@@ -1,3 +1,4 @@
+pub mod CheapTables
 pub mod Lists
 pub mod Reading
 pub mod Runs
@@ -15,13 +16,19 @@ pub mod Picks
 pub mod Products
 pub mod PathTables
 pub mod ProductCosts
+pub mod Meetings
 pub mod Ranks
 pub mod Parsing
 pub mod ForestLemmas
 pub mod Attachments
 pub mod OrderedLists
-pub mod Edited
 pub mod EditedBars
 pub mod Uniqueness
 pub mod OneTable
 pub mod Quiet
+pub mod ChordLemmas
+pub mod PerformedVoices
+pub mod FirstLists
+pub mod OneAnswers
+pub mod Shares
+pub mod ShapesOfTrees

@@ -1,14 +1,15 @@
 -- What `filter` gives of chords in the order of their onsets.
 use Rattle.std.proofs.Common.{◌≡◌, ℕ, ◌+◌, ◌≤◌, Bool, true, false, ◌||◌, cond, List, [], ◌∷◌, ◌++◌, map, filter, refl, ap, ap₂, ◌∙◌, arith}
-use Rattle.rhythm_base.specs.Line.{Sounding, Rising}
+use Rattle.rhythm_base.specs.declared.inner.Inner.{Inner}
+use Rattle.rhythm_base.specs.Line.{Rising}
 
 -- none is kept, where the test fails from low on
-pub filter_nothing : (p : ℕ → Bool) (low : ℕ) (cs : List Sounding) → Rising low cs → ((u : ℕ) → low ≤ u → p u ≡ false) → filter (λ c. p c.onset) cs ≡ []
+pub filter_nothing : (p : ℕ → Bool) (low : ℕ) (cs : List Inner) → Rising low cs → ((u : ℕ) → low ≤ u → p u ≡ false) → filter (λ c. p c.onset) cs ≡ []
 filter_nothing p low [] rise h = refl
 filter_nothing p low (c ∷ cs) rise h = rw (h c.onset rise.0) (filter_nothing p (c.onset + 1) cs rise.1 (λ u le. h u (let first : low ≤ c.onset = rise.0 in omega arith)))
 
 -- what passes one of two tests, where nothing that passes the first comes after something that passes the second
-pub filter_split : (p q r : ℕ → Bool) (low : ℕ) (cs : List Sounding) → Rising low cs
+pub filter_split : (p q r : ℕ → Bool) (low : ℕ) (cs : List Inner) → Rising low cs
     → ((t : ℕ) → p t ≡ q t || r t) → ((t u : ℕ) → t ≤ u → r t ≡ true → q u ≡ false)
     → filter (λ c. p c.onset) cs ≡ filter (λ c. q c.onset) cs ++ filter (λ c. r c.onset) cs
 filter_split p q r low [] rise is order = refl

@@ -3,26 +3,26 @@ use Rattle.std.proofs.Common.{◌≡◌, ℕ, zero, suc, ◌+◌, ◌<◌, ◌�
 use Rattle.std.specs.Prelude.{if◌then◌else◌}
 use Rattle.std.specs.declared.cmp.Ordering.TheVariants.{Equal}
 use Rattle.rhythm_base.specs.declared.best.Best.{Best}
-use Rattle.rhythm_base.specs.Cell.{Cell}
+use Rattle.rhythm_base.specs.BarInput.{BarInput}
 use Rattle.rhythm_base.specs.Cells.{CellFits, cell_cost}
-use Rattle.rhythm_base.specs.CellTables.{CellTable, IsEntry, IsLeastInCell, IsTable, cell_rank, is_lower, list_at, lower_in}
-use Rattle.rhythm_base.specs.Forest.{Branch, more, none, preorder, preorder_of}
+use Rattle.rhythm_base.specs.BarTables.{BarTable, IsEntry, IsLeastInCell, IsTable, cell_rank, is_lower, list_at, lower_in}
+use Rattle.rhythm_base.specs.Forest.{Tree, more, none, preorder, preorder_of}
 use Rattle.rhythm_base.specs.Least.{rank_cmp}
 use Rattle.rhythm_base.specs.Ranked.{at, five, grid}
-use Rattle.rhythm_base.specs.Rulebook.{Rulebook}
+use Rattle.rhythm_base.specs.Grammar.{Grammar}
 use Rattle.rhythm_base.specs.Trees.{are_trees, has_pin}
-use Rattle.rhythm_laws.proofs.KeyOrders.{both_above, keys_total, list_equal}
+use Rattle.rhythm_laws.proofs.KeyOrders.{both_above, keys_total, list_equal, then_equal}
 use Rattle.rhythm_laws.proofs.Parsing.{one_parse}
 use Rattle.rhythm_laws.proofs.Ranks.{both}
-use Rattle.rhythm_laws.proofs.Uniqueness.{kids_of, label_of, not_less, then_both}
+use Rattle.rhythm_laws.proofs.Uniqueness.{kids_of, label_of, not_less}
 
 -- the least tree of a cell for two counts is one
-one_least_tree : (g : Rulebook) (k : Cell) (t u : Branch) (from to : ℕ) → IsLeastInCell g k t from to → IsLeastInCell g k u from to → t ≡ u
+one_least_tree : (g : Grammar) (k : BarInput) (t u : Tree) (from to : ℕ) → IsLeastInCell g k t from to → IsLeastInCell g k u from to → t ≡ u
 one_least_tree g k t u from to x y =
     let up = not_less _ (x.first u y.fits) in
     let down = not_less _ (y.first t x.fits) in
     let same : rank_cmp (cell_rank g k t) (cell_rank g k u) ≡ Equal = both_above keys_total (cell_rank g k t) (cell_rank g k u) down up in
-    let lists : preorder_of t ≡ preorder_of u = list_equal (preorder_of t) (preorder_of u) (then_both _ _ same).1 in
+    let lists : preorder_of t ≡ preorder_of u = list_equal (preorder_of t) (preorder_of u) (then_equal _ _ same).1 in
     let p = both (are_trees g.rules ((k.resolution, k.symbol) ∷ []) (more t.rule t.kids none)) (has_pin k.pin t) x.fits.tree in
     let q = both (are_trees g.rules ((k.resolution, k.symbol) ∷ []) (more u.rule u.kids none)) (has_pin k.pin u) y.fits.tree in
     let whole : preorder (more t.rule t.kids none) ++ [] ≡ preorder (more u.rule u.kids none) ++ [] =
@@ -45,7 +45,7 @@ fives f h same =
 grids : (f h : ℕ → ℕ → Option Best) → ((a b : ℕ) → a < 5 → b < 5 → f a b ≡ h a b) → grid f ≡ grid h
 grids f h same = fives (λ a. five (f a)) (λ a. five (h a)) (λ a in_row. fives (f a) (h a) (λ b in_column. same a b in_row in_column))
 
-module _ (g : Rulebook) (v w : CellTable) (same_input : v.input ≡ w.input) where
+module _ (g : Grammar) (v w : BarTable) (same_input : v.input ≡ w.input) where
   -- the lists of two entries are the same and their costs, and their ranks count the lists below one list
   abbrev Alike : ℕ → ℕ → Option Best → Option Best → Type 0
   Alike from to None None = list_at v from to ≡ list_at w from to

@@ -7,8 +7,8 @@ use Rattle.std.specs.declared.cmp.Ordering.TheVariants.{Less, Equal, Greater}
 use Rattle.std.specs.declared.cmp.Ordering.{Ordering}
 use Rattle.std.proofs.lemmas.List.Elements.{All-append, All-filter, filter_passes}
 use Rattle.std.proofs.lemmas.List.Kept.{AllPairs-cons, AllPairs-filter}
-use Rattle.rhythm_base.specs.Edits.{put}
-use Rattle.rhythm_base.specs.Performed.{AreInOrder}
+use Rattle.std.proofs.lemmas.Bool.{not-true}
+use Rattle.rhythm_base.specs.Lists.{list_with, AreInOrder}
 use Rattle.rhythm_laws.proofs.KeyOrders.{above, before_above, both_above, list_equal}
 
 -- ---- each and each later one
@@ -75,10 +75,6 @@ one_way a b h differ false is = absurd (differ (list_equal a b (both_above nat_l
 pub other_way : (a b : List ℕ) → earlier a b ≡ false → (a ≡ b → ⊥) → earlier b a ≡ true
 other_way a b h differ = one_way a b h differ (earlier b a) refl
 
-not_true : (b : Bool) → not b ≡ true → b ≡ false
-not_true true h = absurd (cc)
-not_true false h = refl
-
 module _ {X : Type 0} (place : X → List ℕ) where
   abbrev Before : X → X → Type 0
   Before x y = slice_cmp nat_cmp (place x) (place y) ≡ Less
@@ -94,7 +90,7 @@ module _ {X : Type 0} (place : X → List ℕ) where
 
   -- what stands behind x in a list without its place
   behind : (x y : X) → is_behind x y ≡ true → Differs x y → Before x y
-  behind x y h differ = is_less _ (other_way (place y) (place x) (not_true (is_before x y) h) differ)
+  behind x y h differ = is_less _ (other_way (place y) (place x) (not-true (is_before x y) h) differ)
 
   -- what stands before x stands before all that x does
   all_behind : (x y : X) (xs : List X) → is_before x y ≡ true → All (Before x) xs → All (Before y) (x ∷ xs)
@@ -103,7 +99,7 @@ module _ {X : Type 0} (place : X → List ℕ) where
       (λ k d lt. is_less _ (goes_through (place y) (place x) (place (get_or xs k d)) h (by_less _ (lasts k d lt))))
 
   -- a list in order, with one more at its place, is in order
-  pub put_in_order : (x : X) (xs : List X) → AreInOrder place xs → All (Differs x) xs → AreInOrder place (put place x xs)
+  pub put_in_order : (x : X) (xs : List X) → AreInOrder place xs → All (Differs x) xs → AreInOrder place (list_with place x xs)
   put_in_order x xs h differ =
       let P : X → Bool = is_before x in
       let Q : X → Bool = is_behind x in
@@ -116,7 +112,7 @@ module _ {X : Type 0} (place : X → List ℕ) where
       (λ k d lt. all_behind x (get_or (filter P xs) k d) (filter Q xs) (firsts k d lt) lasts)
 
   -- whatever holds of the list and of one more holds of the list with it
-  pub All-put : (P : X → Type 0) (x : X) (xs : List X) → P x → All P xs → All P (put place x xs)
+  pub All-put : (P : X → Type 0) (x : X) (xs : List X) → P x → All P xs → All P (list_with place x xs)
   All-put P x xs p h =
       All-append P (filter (is_before x) xs) (x ∷ filter (is_behind x) xs) (All-filter (is_before x) P xs h)
       (all_cons P x (filter (is_behind x) xs) p (All-filter (is_behind x) P xs h))

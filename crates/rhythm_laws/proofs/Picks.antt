@@ -6,8 +6,9 @@ use Rattle.std.proofs.lemmas.Bool.Decides.{nat_tests}
 use Rattle.std.specs.declared.cmp.Ordering.{Ordering}
 use Rattle.std.specs.declared.cmp.Ordering.TheVariants.{Less, Equal, Greater}
 use Rattle.rhythm_base.specs.declared.best.Best.{Best}
-use Rattle.rhythm_base.specs.Ranked.{Key, Keys, Sum, list_cmp, is_before, sum_before, plus, joined, summed, key_of, better, pick, number_of, value_of, times, sum_key}
-use Rattle.rhythm_laws.proofs.Alike.{AreAlike, AreApart, same, lists_cmp, parse, joined_cmp, via, IsCount}
+use Rattle.rhythm_base.specs.Ranked.{Key, Keys, Sum, list_cmp, is_before, sum_before, plus, key_sum, summed, key_of, better, pick, number_of, value_of, times, sum_key}
+use Rattle.rhythm_laws.specs.Rows.{AreAlike, same, lists_cmp}
+use Rattle.rhythm_laws.proofs.Alike.{AreApart, parse, joined_cmp, via, IsCount}
 use Rattle.rhythm_laws.proofs.KeyOrders.{Parse}
 
 -- ---- what is picked is one of them
@@ -122,7 +123,7 @@ decides x y r s w n = go (nat_lt x y) (x == y) (nat_lt r s) (r == s) (grind (ari
     go false true false false e = refl
     go false true false true e = absurd (cc)
 
-there_same : (p q : Option Key) (e f : Option Best) → same p (key_of e) → same q (key_of f) → both_there (joined p q) (summed e f)
+there_same : (p q : Option Key) (e f : Option Best) → same p (key_of e) → same q (key_of f) → both_there (key_sum p q) (summed e f)
 there_same None q None f h k = tt
 there_same None q (Some e) f h k = absurd h
 there_same (Some x) q None f h k = absurd h
@@ -143,7 +144,7 @@ before_same x y u v e f g k lx c1 c2 c3 c4 order other =
 tests_same : (p q u v : Option Key) (e f g k : Option Best) → same p (key_of e) → same q (key_of f) → same u (key_of g) → same v (key_of k)
     → parse p u → lists_cmp p u ≡ lists_cmp (key_of e) (key_of g)
     → ((x y : Best) → e ≡ Some x → g ≡ Some y → x.rank ≢ y.rank)
-    → tested is_before (joined p q) (joined u v) ≡ tested sum_before (summed e f) (summed g k)
+    → tested is_before (key_sum p q) (key_sum u v) ≡ tested sum_before (summed e f) (summed g k)
 tests_same None q u v None f g k h1 h2 h3 h4 lp o a = refl
 tests_same None q u v (Some e) f g k h1 h2 h3 h4 lp o a = absurd h1
 tests_same (Some x) q u v None f g k h1 h2 h3 h4 lp o a = absurd h1
@@ -162,9 +163,9 @@ tests_same (Some x) (Some y) (Some u) (Some v) (Some e) (Some f) (Some g) (Some 
 -- the same count in the middle
 pub middle_same : (r : ℕ → Option Key) (l : Keys) (e : ℕ → Option Best) (f : ℕ → ℕ → Option Best) → AreAlike r (λ m. key_of (e m)) → ((m : ℕ) → m < 5 → AreAlike (l m) (λ b. key_of (f m b)))
     → ((m m' : ℕ) → m < 5 → m' < 5 → parse (r m) (r m')) → AreApart (λ m. key_of (e m)) → (b : ℕ) → b < 5
-    → number_of (pick is_before (λ m. joined (r m) (l m b)) 5) ≡ number_of (pick sum_before (λ m. summed (e m) (f m b)) 5)
+    → number_of (pick is_before (λ m. key_sum (r m) (l m b)) 5) ≡ number_of (pick sum_before (λ m. summed (e m) (f m b)) 5)
 middle_same r l e f rows behind long apart b low =
-    pick_same is_before sum_before (λ m. joined (r m) (l m b)) (λ m. summed (e m) (f m b)) 5
+    pick_same is_before sum_before (λ m. key_sum (r m) (l m b)) (λ m. summed (e m) (f m b)) 5
     (λ m k. there_same (r m) (l m b) (e m) (f m b) (rows.costs m k) ((behind m k).costs b low))
     (λ i j k less. let k' : j < 5 = omega arith in
     tests_same (r i) (l i b) (r j) (l j b) (e i) (f i b) (e j) (f j b) (rows.costs i k) ((behind i k).costs b low) (rows.costs j k') ((behind j k').costs b low)
@@ -181,7 +182,7 @@ abbrev pub keyed : Option Sum → Option Key
 keyed None = None
 keyed (Some x) = Some (x.0, x.1 ∷ x.2 ∷ [])
 
-keyed_summed : (e f : Option Best) → keyed (summed e f) ≡ joined (key_of e) (key_of f)
+keyed_summed : (e f : Option Best) → keyed (summed e f) ≡ key_sum (key_of e) (key_of f)
 keyed_summed None f = refl
 keyed_summed (Some e) None = refl
 keyed_summed (Some e) (Some f) = refl
@@ -202,9 +203,9 @@ sums_via e f b =
     ∙ ap keyed (pick_found sum_before (λ m. summed (e m) (f m b)) 5)
     ∙ found_via e f b (number_of (pick sum_before (λ m. summed (e m) (f m b)) 5))
 
-keys_found_via : (r : ℕ → Option Key) (l : Keys) (b : ℕ) (o : Option ℕ) → found (λ m. joined (r m) (l m b)) o ≡ via r l b o
+keys_found_via : (r : ℕ → Option Key) (l : Keys) (b : ℕ) (o : Option ℕ) → found (λ m. key_sum (r m) (l m b)) o ≡ via r l b o
 keys_found_via r l b None = refl
 keys_found_via r l b (Some m) = refl
 
-pub times_via : (k l : Keys) (a b : ℕ) → times k l a b ≡ via (k a) l b (number_of (pick is_before (λ m. joined (k a m) (l m b)) 5))
-times_via k l a b = pick_found is_before (λ m. joined (k a m) (l m b)) 5 ∙ keys_found_via (k a) l b (number_of (pick is_before (λ m. joined (k a m) (l m b)) 5))
+pub times_via : (k l : Keys) (a b : ℕ) → times k l a b ≡ via (k a) l b (number_of (pick is_before (λ m. key_sum (k a m) (l m b)) 5))
+times_via k l a b = pick_found is_before (λ m. key_sum (k a m) (l m b)) 5 ∙ keys_found_via (k a) l b (number_of (pick is_before (λ m. key_sum (k a m) (l m b)) 5))

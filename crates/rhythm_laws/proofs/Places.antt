@@ -2,32 +2,35 @@
 use Rattle.std.proofs.Common.{◌≡◌, ℕ, ◌+◌, ◌-◌, ◌*◌, ◌≤◌, ◌<◌, Bool, true, false, not, ◌&&◌, ◌||◌, List, [], ◌∷◌, ◌++◌, map, filter, refl, sym, ap, ap₂, ◌∙◌, subst, arith, append_assoc}
 use Rattle.std.specs.Prelude.{nat_le, slice_get}
 use Rattle.std.proofs.lemmas.List.{map-append}
-use Rattle.rhythm_base.specs.Forest.{Forest, more, Branch}
+use Rattle.rhythm_base.specs.Forest.{Forest, more, Tree}
 use Rattle.rhythm_laws.proofs.Lists.{filter_split, filter_nothing}
-use Rattle.rhythm_laws.proofs.Reading.{and_left, and_right, between, reaches, last_end-append}
+use Rattle.rhythm_base.proofs.Booleans.{and_left, and_right}
+use Rattle.rhythm_laws.proofs.Reading.{between, reaches, last_end-append}
 use Rattle.rhythm_laws.proofs.Runs.{runs-append, leaving-append, ending-is, runs-few_leaf, runs-one_leaf}
 use Rattle.rhythm_laws.proofs.Bars.{SideBySide, leaves_under, tree-fill}
 use Rattle.rhythm_laws.proofs.Cells.{cell-agree, cell-past}
 use Rattle.rhythm_laws.proofs.Ticks.{le_from, le_tells, scaled, reach, parts-line}
-use Rattle.rhythm_base.specs.Cell.{Cell}
-use Rattle.rhythm_base.specs.Cells.{last_end, CellFits, bar_of, leaves_in}
-use Rattle.rhythm_base.specs.Leaves.{Measure, looks, in_bar}
-use Rattle.rhythm_base.specs.Line.{Sounding, Rising}
-use Rattle.rhythm_base.specs.Rulebook.{Rulebook}
-use Rattle.rhythm_base.specs.Trees.{Part, suits, are_trees, children_of, leaves_at, leaves, is_tree, leaves_of}
+use Rattle.rhythm_base.specs.BarInput.{BarInput}
+use Rattle.rhythm_base.specs.Lists.{last_end}
+use Rattle.rhythm_base.specs.Cells.{CellFits, bar_of, leaves_in}
+use Rattle.rhythm_base.specs.Leaves.{VoiceBar, looks, in_bar}
+use Rattle.rhythm_base.specs.declared.inner.Inner.{Inner}
+use Rattle.rhythm_base.specs.Line.{Rising}
+use Rattle.rhythm_base.specs.Grammar.{Grammar}
+use Rattle.rhythm_base.specs.Trees.{BarLeaf, suits, are_trees, children_of, leaves_at, leaves, is_tree, leaves_of}
 use Rattle.rhythm_base.specs.declared.rule.Rule.{Rule}
 use Rattle.rhythm_laws.specs.Runs.{IsLine, runs, leaving, ending}
 use Rattle.rhythm_laws.specs.Voices.{HoldsChords}
 pub use Rattle.rhythm_laws.specs.Places.{end_before, runs_at, FitsAt}
 
-reach-later : (r : ℕ) (bar : Measure) (p t u : ℕ) → t ≤ u → reach r bar p t ≡ true → reach r bar p u ≡ true
+reach-later : (r : ℕ) (bar : VoiceBar) (p t u : ℕ) → t ≤ u → reach r bar p t ≡ true → reach r bar p u ≡ true
 reach-later r bar p t u le h =
     let here = le_tells bar.start t (and_left (nat_le bar.start t) _ h) in
     let far = le_tells _ _ (and_right (nat_le bar.start t) _ h) in
     let more = scaled bar.start r t u le in
     rw (le_from bar.start u (omega arith), le_from (p * bar.length) ((u - bar.start) * r) (omega arith)) refl
 
-pub in_bar-append : (bar : Measure) (xs ys : List Part) → in_bar bar (xs ++ ys) ≡ in_bar bar xs ++ in_bar bar ys
+pub in_bar-append : (bar : VoiceBar) (xs ys : List BarLeaf) → in_bar bar (xs ++ ys) ≡ in_bar bar xs ++ in_bar bar ys
 in_bar-append bar xs ys = map-append (λ p. record { bar = bar; part = p }) xs ys
 
 by_place : (a b : Bool) → (b ≡ true → a ≡ true) → not b ≡ not a || (a && not b)
@@ -36,8 +39,8 @@ by_place true false h = refl
 by_place false true h = h refl
 by_place false false h = refl
 
-module _ (r : ℕ) (bar : Measure) (cs : List Sounding) (low e : ℕ) (rise : Rising low cs) (long : 1 ≤ bar.length) where
-  end_before-step : (p m : ℕ) (xs : List Part) → SideBySide p xs m → ending (looks r) cs (end_before r bar cs e p) (in_bar bar xs) ≡ end_before r bar cs e m
+module _ (r : ℕ) (bar : VoiceBar) (cs : List Inner) (low e : ℕ) (rise : Rising low cs) (long : 1 ≤ bar.length) where
+  end_before-step : (p m : ℕ) (xs : List BarLeaf) → SideBySide p xs m → ending (looks r) cs (end_before r bar cs e p) (in_bar bar xs) ≡ end_before r bar cs e m
   end_before-step p m xs h =
       ending-is (looks r) cs (reach r bar p) (reach r bar m) (end_before r bar cs e p) low (in_bar bar xs) rise line
       ∙ sym (last_end-append e (map (λ c. c.end) (filter (λ c. not (reach r bar p c.onset)) cs)) (map (λ c. c.end) (filter (λ c. between (reach r bar p) (reach r bar m) c.onset) cs)))
@@ -50,23 +53,23 @@ module _ (r : ℕ) (bar : Measure) (cs : List Sounding) (low e : ℕ) (rise : Ri
       line = parts-line r bar p m xs long h
 
   -- parts side by side agree with one another through a count alone
-  pub runs_at-append : (p m f : ℕ) (xs ys : List Part) → SideBySide p xs m
+  pub runs_at-append : (p m f : ℕ) (xs ys : List BarLeaf) → SideBySide p xs m
       → runs_at r bar cs e p f (xs ++ ys) ≡ runs_at r bar cs e p f xs && runs_at r bar cs e m (leaving (looks r) cs f (in_bar bar xs)) ys
   runs_at-append p m f xs ys h =
       ap (runs (looks r) cs (end_before r bar cs e p) f) (in_bar-append bar xs ys)
       ∙ runs-append (looks r) cs (end_before r bar cs e p) f (in_bar bar xs) (in_bar bar ys)
       ∙ ap (λ d. runs_at r bar cs e p f xs && runs (looks r) cs d (leaving (looks r) cs f (in_bar bar xs)) (in_bar bar ys)) (end_before-step p m xs h)
 
-  pub leaving_at-append : (f : ℕ) (xs ys : List Part) → leaving (looks r) cs f (in_bar bar (xs ++ ys)) ≡ leaving (looks r) cs (leaving (looks r) cs f (in_bar bar xs)) (in_bar bar ys)
+  pub leaving_at-append : (f : ℕ) (xs ys : List BarLeaf) → leaving (looks r) cs f (in_bar bar (xs ++ ys)) ≡ leaving (looks r) cs (leaving (looks r) cs f (in_bar bar xs)) (in_bar bar ys)
   leaving_at-append f xs ys = ap (leaving (looks r) cs f) (in_bar-append bar xs ys) ∙ leaving-append (looks r) cs f (in_bar bar xs) (in_bar bar ys)
 
   -- parts that fill some units agree with one count
-  pub runs_at-one : (p m f g : ℕ) (xs : List Part) → SideBySide p xs m → p < m → runs_at r bar cs e p f xs ≡ true → runs_at r bar cs e p g xs ≡ true → f ≡ g
+  pub runs_at-one : (p m f g : ℕ) (xs : List BarLeaf) → SideBySide p xs m → p < m → runs_at r bar cs e p f xs ≡ true → runs_at r bar cs e p g xs ≡ true → f ≡ g
   runs_at-one p m f g [] h some k j = absurd (omega (arith, h))
   runs_at-one p m f g (x ∷ xs) h some k j = runs-one_leaf (looks r) cs (end_before r bar cs e p) f g (record { bar = bar; part = x }) (in_bar bar xs) k j
 
 -- at the bar's start it is the end before the bar
-pub end_before-first : (r : ℕ) (bar : Measure) (cs : List Sounding) (e : ℕ) → Rising bar.start cs → end_before r bar cs e 0 ≡ e
+pub end_before-first : (r : ℕ) (bar : VoiceBar) (cs : List Inner) (e : ℕ) → Rising bar.start cs → end_before r bar cs e 0 ≡ e
 end_before-first r bar cs e rise =
     ap (λ l. last_end e (map (λ c. c.end) l)) (filter_nothing (λ t. not (reach r bar 0 t)) bar.start cs rise (λ u le. ap not (first u le)))
   where
@@ -75,13 +78,13 @@ end_before-first r bar cs e rise =
 
 -- ---- what a table of intervals asks for
 
-few_between : (r : ℕ) (bar : Measure) (cs : List Sounding) (e p f t : ℕ) (xs : List Part) → runs_at r bar cs e p f xs ≡ true → leaving (looks r) cs f (in_bar bar xs) ≡ t → t ≤ 4 → f ≤ 4
+few_between : (r : ℕ) (bar : VoiceBar) (cs : List Inner) (e p f t : ℕ) (xs : List BarLeaf) → runs_at r bar cs e p f xs ≡ true → leaving (looks r) cs f (in_bar bar xs) ≡ t → t ≤ 4 → f ≤ 4
 few_between r bar cs e p f t [] h k few = subst (λ n. n ≤ 4) (sym k) few
 few_between r bar cs e p f t (x ∷ xs) h k few = runs-few_leaf (looks r) cs (end_before r bar cs e p) f (record { bar = bar; part = x }) (in_bar bar xs) h
 
-module _ (r : ℕ) (bar : Measure) (cs : List Sounding) (low e : ℕ) (rise : Rising low cs) (long : 1 ≤ bar.length) (p m : ℕ) (xs : List Part) (side : SideBySide p xs m) where
+module _ (r : ℕ) (bar : VoiceBar) (cs : List Inner) (low e : ℕ) (rise : Rising low cs) (long : 1 ≤ bar.length) (p m : ℕ) (xs : List BarLeaf) (side : SideBySide p xs m) where
   -- two lists of parts side by side fit exactly where each fits, with a count between them
-  pub fits_at-split : (ys : List Part) (f t : ℕ) → FitsAt r bar cs e p (xs ++ ys) f t → (n : ℕ) × FitsAt r bar cs e p xs f n × FitsAt r bar cs e m ys n t
+  pub fits_at-split : (ys : List BarLeaf) (f t : ℕ) → FitsAt r bar cs e p (xs ++ ys) f t → (n : ℕ) × FitsAt r bar cs e p xs f n × FitsAt r bar cs e m ys n t
   fits_at-split ys f t h =
       let n : ℕ = leaving (looks r) cs f (in_bar bar xs) in
       let both = sym (runs_at-append r bar cs low e rise long p m f xs ys side) ∙ h.runs in
@@ -94,7 +97,7 @@ module _ (r : ℕ) (bar : Measure) (cs : List Sounding) (low e : ℕ) (rise : Ri
         record { runs = others; leave = out; few_from = few; few_to = h.few_to },
       )
 
-  pub fits_at-join : (ys : List Part) (f n t : ℕ) → FitsAt r bar cs e p xs f n → FitsAt r bar cs e m ys n t → FitsAt r bar cs e p (xs ++ ys) f t
+  pub fits_at-join : (ys : List BarLeaf) (f n t : ℕ) → FitsAt r bar cs e p xs f n → FitsAt r bar cs e m ys n t → FitsAt r bar cs e p (xs ++ ys) f t
   fits_at-join ys f n t h k =
       let others : runs_at r bar cs e m (leaving (looks r) cs f (in_bar bar xs)) ys ≡ true = subst (λ n. runs_at r bar cs e m n ys ≡ true) (sym h.leave) k.runs in
       record {
@@ -111,7 +114,7 @@ module _ (r : ℕ) (bar : Measure) (cs : List Sounding) (low e : ℕ) (rise : Ri
       (same, sym h.leave ∙ ap (λ n. leaving (looks r) cs n (in_bar bar xs)) same ∙ k.leave)
 
 -- a tree fits a cell exactly where its leaves fit from 0 on
-pub cell-at : (g : Rulebook) (k : Cell) (t : Branch) (f to : ℕ) → 1 ≤ k.resolution → HoldsChords k → CellFits g k t f to → FitsAt k.resolution (bar_of k) k.chords k.before 0 (leaves_of g.rules k.resolution k.symbol t) f to
+pub cell-at : (g : Grammar) (k : BarInput) (t : Tree) (f to : ℕ) → 1 ≤ k.resolution → HoldsChords k → CellFits g k t f to → FitsAt k.resolution (bar_of k) k.chords k.before 0 (leaves_of g.rules k.resolution k.symbol t) f to
 cell-at g k t f to some is h = record {
   runs = ap (λ e. runs (looks k.resolution) k.chords e f (leaves_in g k t)) (end_before-first k.resolution (bar_of k) k.chords k.before is.rise) ∙ sym (cell-agree g k t f some is h.tree) ∙ h.leaves;
   leave = sym (cell-past g k t f some is h.tree) ∙ h.leave;
@@ -119,7 +122,7 @@ cell-at g k t f to some is h = record {
   few_to = h.few_to;
 }
 
-pub at-cell : (g : Rulebook) (k : Cell) (t : Branch) (f to : ℕ) → 1 ≤ k.resolution → HoldsChords k → is_tree g.rules k.resolution k.symbol k.pin t ≡ true
+pub at-cell : (g : Grammar) (k : BarInput) (t : Tree) (f to : ℕ) → 1 ≤ k.resolution → HoldsChords k → is_tree g.rules k.resolution k.symbol k.pin t ≡ true
     → FitsAt k.resolution (bar_of k) k.chords k.before 0 (leaves_of g.rules k.resolution k.symbol t) f to → CellFits g k t f to
 at-cell g k t f to some is tree h = record {
   tree = tree;
@@ -131,7 +134,7 @@ at-cell g k t f to some is tree h = record {
 
 -- ---- trees side by side
 
-module _ (rules : List Rule) (res : ℕ) (bar : Measure) (cs : List Sounding) (low e : ℕ) (rise : Rising low cs) (long : 1 ≤ bar.length) (p : ℕ) (q : ℕ × ℕ) (qs : List (ℕ × ℕ)) (r : ℕ) (k rest : Forest) (wide : 1 ≤ q.0) (h : are_trees rules (q ∷ qs) (more r k rest) ≡ true) where
+module _ (rules : List Rule) (res : ℕ) (bar : VoiceBar) (cs : List Inner) (low e : ℕ) (rise : Rising low cs) (long : 1 ≤ bar.length) (p : ℕ) (q : ℕ × ℕ) (qs : List (ℕ × ℕ)) (r : ℕ) (k rest : Forest) (wide : 1 ≤ q.0) (h : are_trees rules (q ∷ qs) (more r k rest) ≡ true) where
   -- what the first tree has below it fills its width
   first-fill : SideBySide p (leaves_under rules (slice_get rules r) p q k) (p + q.0)
   first-fill =

@@ -2,12 +2,13 @@
 use Rattle.std.proofs.Common.{◌≡◌, ℕ, zero, suc, ◌<◌, [], ◌∷◌, refl, sym, subst, ap, ◌∙◌, arith}
 use Rattle.std.specs.Prelude.{Option, Some, None, slice_index_or}
 use Rattle.rhythm_base.specs.declared.best.Best.{Best}
-use Rattle.rhythm_base.specs.Ranked.{Entries, at, five, grid, Key, Keys, list_cmp, is_before, joined, key_of, one, pick, number_of, times, ranked, table_of, choice, sum_key, product_of}
+use Rattle.rhythm_base.specs.Ranked.{CarryMatrix, at, five, grid, Key, Keys, list_cmp, is_before, key_sum, key_of, one, pick, number_of, times, ranked, table_of, choice, sum_key, product_of}
 use Rattle.std.specs.Cmp.Lexicographic.{nat_list_cmp_total}
 use Rattle.std.proofs.lemmas.Cmp.{tied_itself}
 use Rattle.std.specs.declared.cmp.Ordering.TheVariants.{Equal}
 use Rattle.rhythm_laws.proofs.KeyOrders.{list_equal, long_parse}
-use Rattle.rhythm_laws.proofs.Alike.{same, lists_cmp, AreAlike, AreApart, parse, ranked_same, ranks_alike, via, via_alike}
+use Rattle.rhythm_laws.specs.Rows.{same, lists_cmp, AreAlike}
+use Rattle.rhythm_laws.proofs.Alike.{AreApart, parse, ranked_same, ranks_alike, via, via_alike}
 use Rattle.rhythm_laws.proofs.Picks.{middle_same, sums_via, times_via, pick_count}
 
 -- ---- five by five
@@ -65,7 +66,7 @@ table_apart k h a low b c lb lc x y ex ey e = go (k a b) (k a c) refl refl (tabl
         apart_by (Some u) None ep eq h1 h2 o = absurd h2
         apart_by (Some u) (Some v) ep eq h1 h2 o = h a low b c lb lc u v ep eq (list_equal u.1 v.1 o)
 
-ranks_parse : (m : Entries) → RowsParse (one m)
+ranks_parse : (m : CarryMatrix) → RowsParse (one m)
 ranks_parse m a b c la lb lc = go (at m a b) (at m a c)
   where
     go : (o u : Option Best) → parse (key_of o) (key_of u)
@@ -76,7 +77,7 @@ ranks_parse m a b c la lb lc = go (at m a b) (at m a c)
 -- ---- the product of tables is the table of the product
 
 pub middle_is : (k l : Keys) → RowsParse k → RowsApart k → (a b : ℕ) → a < 5 → b < 5
-    → number_of (pick is_before (λ m. joined (k a m) (l m b)) 5) ≡ number_of (choice (table_of k) (table_of l) a b)
+    → number_of (pick is_before (λ m. key_sum (k a m) (l m b)) 5) ≡ number_of (choice (table_of k) (table_of l) a b)
 unfolding choice
 middle_is k l long apart a b la lb =
     middle_same (k a) l (λ m. at (table_of k) a m) (λ m b. at (table_of l) m b) (table_alike k a la) (λ m lm. table_alike l m lm) (λ m m' lm lm'. long a m m' la lm lm') (table_apart k apart a la) b lb
@@ -87,11 +88,11 @@ product_is k l long apart = grid_same _ _ (λ a b la lb. ranked_same (times k l 
   where
     rows : (a : ℕ) → a < 5 → AreAlike (times k l a) (λ b. sum_key (choice (table_of k) (table_of l) a b))
     rows a la =
-        let o : ℕ → Option ℕ = λ b. number_of (pick is_before (λ m. joined (k a m) (l m b)) 5) in
+        let o : ℕ → Option ℕ = λ b. number_of (pick is_before (λ m. key_sum (k a m) (l m b)) 5) in
         let left : (λ b. via (k a) l b (o b)) ≡ times k l a = λ i b. sym (times_via k l a b) i in
         let ways : AreAlike (λ b. via (k a) l b (o b)) (λ b. via (one (table_of k) a) (one (table_of l)) b (o b))
         = via_alike (k a) (one (table_of k) a) l (one (table_of l)) (table_alike k a la) (λ m lm. table_alike l m lm) (apart a la)
-        (λ m m' lm lm'. long a m m' la lm lm') (λ m m' lm lm'. ranks_parse (table_of k) a m m' la lm lm') o (λ b low. pick_count is_before (λ m. joined (k a m) (l m b))) in
+        (λ m m' lm lm'. long a m m' la lm lm') (λ m m' lm lm'. ranks_parse (table_of k) a m m' la lm lm') o (λ b low. pick_count is_before (λ m. key_sum (k a m) (l m b))) in
         let right : (b : ℕ) → b < 5 → via (one (table_of k) a) (one (table_of l)) b (o b) ≡ sum_key (choice (table_of k) (table_of l) a b)
         = λ b low. ap (via (one (table_of k) a) (one (table_of l)) b) (middle_is k l long apart a b la low) ∙ sym (sums_via (λ m. at (table_of k) a m) (λ m b. at (table_of l) m b) b) in
         alike_to (times k l a) _ _ right (subst (λ r. AreAlike r (λ b. via (one (table_of k) a) (one (table_of l)) b (o b))) left ways)

@@ -5,51 +5,50 @@ use Rattle.std.specs.List.{list_all}
 use Rattle.std.proofs.Math.Nat.{mul-le-mul_right}
 use Rattle.std.proofs.lemmas.List.{map-append}
 use Rattle.std.proofs.lemmas.List.Sums.{sum_by-cons}
-use Rattle.rhythm_base.specs.declared.rule.Body.{Body}
-use Rattle.rhythm_base.specs.declared.rule.Body.TheVariants.{Split, Parts, Note, Short, Tie, Rest, Grace}
+use Rattle.rhythm_base.specs.declared.rule.Ending.{Ending}
+use Rattle.std.proofs.lemmas.Bool.{not-true}
 use Rattle.rhythm_base.specs.declared.rule.Rule.{Rule}
-use Rattle.rhythm_base.specs.Cells.{last_end}
+use Rattle.rhythm_base.specs.Lists.{last_end}
 use Rattle.rhythm_base.specs.Cost.{charge, charges, weights}
 use Rattle.rhythm_base.specs.Forest.{Forest, none, more, preorder}
-use Rattle.rhythm_base.specs.Leaves.{Leaf, Measure, in_bar, lies_in, looks}
-use Rattle.rhythm_base.specs.Line.{Looks, Sounding}
-use Rattle.rhythm_base.specs.Outline.{Outline}
+use Rattle.rhythm_base.specs.Leaves.{Leaf, VoiceBar, in_bar, lies_in, looks}
+use Rattle.rhythm_base.specs.declared.inner.Inner.{Inner}
+use Rattle.rhythm_base.specs.Line.{Looks, agrees}
+use Rattle.rhythm_base.specs.Shape.{Shape}
 use Rattle.rhythm_base.specs.Ranked.{Key}
-use Rattle.rhythm_base.specs.Rulebook.{Rulebook}
-use Rattle.rhythm_base.specs.Trees.{Part, are_trees, children_of, leaf_of, leaves, leaves_at, sizes}
-use Rattle.rhythm_laws.specs.Forests.{AreWide, Ground, IsForestKey, IsGround, Stands, forest_cost}
+use Rattle.rhythm_base.specs.Grammar.{Grammar}
+use Rattle.rhythm_base.specs.Bodies.{sizes, ending_of}
+use Rattle.rhythm_base.specs.Trees.{BarLeaf, are_trees, children_of, leaves, leaves_at, leaf_of_ending}
+use Rattle.rhythm_laws.specs.Forests.{AreWide, Ground, IsForestKey, IsGround, StandsInBar, forest_cost}
 use Rattle.rhythm_laws.specs.Places.{reach, runs_at}
 use Rattle.rhythm_laws.specs.Quiet.{IsSilent, IsSounding, SoundAlike, end_at, is_quiet}
-use Rattle.rhythm_laws.specs.Runs.{IsLine, agreed, leaving, lefts, rights, runs}
+use Rattle.rhythm_laws.specs.Runs.{IsLine, leaving, lefts, rights, runs}
 use Rattle.rhythm_laws.proofs.Bars.{SideBySide, leaves-fill}
 use Rattle.rhythm_laws.proofs.Lists.{map_twice}
-use Rattle.rhythm_laws.proofs.Reading.{and_left, and_right, between, reaches}
+use Rattle.rhythm_base.proofs.Booleans.{and_left, and_right}
+use Rattle.rhythm_laws.proofs.Reading.{between, reaches}
 use Rattle.rhythm_laws.proofs.Ticks.{before_end, le_from, le_not, parts-line}
 
 -- ---- no chord begins between the two ends of a line
 
-abbrev pub none_between : (ℕ → Bool) → (ℕ → Bool) → List Sounding → Bool
+abbrev pub none_between : (ℕ → Bool) → (ℕ → Bool) → List Inner → Bool
 none_between s z cs = list_all (λ c. not (between s z c.onset)) cs
 
-off : (b : Bool) → not b ≡ true → b ≡ false
-off true h = sym h
-off false h = refl
-
 -- what begins in part of it begins in it, so nothing does
-filter_quiet : (p q : ℕ → Bool) (cs : List Sounding) → ((t : ℕ) → q t ≡ true → p t ≡ true) → list_all (λ c. not (p c.onset)) cs ≡ true → filter (λ c. q c.onset) cs ≡ []
+filter_quiet : (p q : ℕ → Bool) (cs : List Inner) → ((t : ℕ) → q t ≡ true → p t ≡ true) → list_all (λ c. not (p c.onset)) cs ≡ true → filter (λ c. q c.onset) cs ≡ []
 filter_quiet p q [] in_p h = refl
 filter_quiet p q (c ∷ cs) in_p h = go (q c.onset) refl (filter_quiet p q cs in_p (and_right (not (p c.onset)) _ h))
   where
     go : (b : Bool) → q c.onset ≡ b → filter (λ c. q c.onset) cs ≡ [] → cond b (c ∷ filter (λ c. q c.onset) cs) (filter (λ c. q c.onset) cs) ≡ []
-    go true e ih = let on = in_p c.onset e in let no = off (p c.onset) (and_left (not (p c.onset)) _ h) in absurd (cc)
+    go true e ih = let on = in_p c.onset e in let no = not-true (p c.onset) (and_left (not (p c.onset)) _ h) in absurd (cc)
     go false e ih = ih
 
-all_quiet : (p q : ℕ → Bool) (cs : List Sounding) → ((t : ℕ) → q t ≡ true → p t ≡ true) → list_all (λ c. not (p c.onset)) cs ≡ true → list_all (λ c. not (q c.onset)) cs ≡ true
+all_quiet : (p q : ℕ → Bool) (cs : List Inner) → ((t : ℕ) → q t ≡ true → p t ≡ true) → list_all (λ c. not (p c.onset)) cs ≡ true → list_all (λ c. not (q c.onset)) cs ≡ true
 all_quiet p q [] in_p h = refl
 all_quiet p q (c ∷ cs) in_p h = go (q c.onset) refl (all_quiet p q cs in_p (and_right (not (p c.onset)) _ h))
   where
     go : (b : Bool) → q c.onset ≡ b → list_all (λ c. not (q c.onset)) cs ≡ true → not b && list_all (λ c. not (q c.onset)) cs ≡ true
-    go true e ih = let on = in_p c.onset e in let no = off (p c.onset) (and_left (not (p c.onset)) _ h) in absurd (cc)
+    go true e ih = let on = in_p c.onset e in let no = not-true (p c.onset) (and_left (not (p c.onset)) _ h) in absurd (cc)
     go false e ih = ih
 
 inside_both : (a b c : Bool) → (c ≡ true → b ≡ true) → a && not b ≡ true → a && not c ≡ true
@@ -68,11 +67,11 @@ behind_both false true c h k = absurd (let no = h refl in cc)
 behind_both false false c h k = k
 
 -- the rules of leaves agree with what is carried to the first alone, where all sound or none does
-abbrev pub calm : Bool → ℕ → List Body → Bool
+abbrev pub calm : Bool → ℕ → List Ending → Bool
 calm b f [] = true
-calm b f (y ∷ ys) = agreed y (f + 0) b && calm b 0 ys
+calm b f (y ∷ ys) = agrees y (f + 0) b && calm b 0 ys
 
-abbrev pub carried_by : ℕ → List Body → ℕ
+abbrev pub carried_by : ℕ → List Ending → ℕ
 carried_by f [] = f
 carried_by f (y ∷ ys) = carried_by 0 ys
 
@@ -81,7 +80,7 @@ abbrev pub AllSound : {X : Type 0} → Looks X → ℕ → Bool → List X → T
 AllSound K e b [] = ⊤
 AllSound K e b (x ∷ xs) = (K.sounds x e ≡ b) × AllSound K e b xs
 
-module _ {X : Type 0} (K : Looks X) (cs : List Sounding) where
+module _ {X : Type 0} (K : Looks X) (cs : List Inner) where
   module _ (s z : ℕ → Bool) (x : X) (xs : List X) (line : IsLine K s (x ∷ xs) z) (quiet : none_between s z cs ≡ true) where
     inside : (t : ℕ) → K.lies x t ≡ true → between s z t ≡ true
     inside t h = inside_both (s t) (line.0 t) (z t) (λ k. reaches K line.0 z xs line.2 t k) (sym (line.1.inside t) ∙ h)
@@ -95,13 +94,13 @@ module _ {X : Type 0} (K : Looks X) (cs : List Sounding) where
     quiet_rest : none_between line.0 z cs ≡ true
     quiet_rest = all_quiet (between s z) (between line.0 z) cs (λ t h. behind_both (s t) (line.0 t) (z t) (line.1.back t) h) quiet
 
-  pub runs-calm : (s z : ℕ → Bool) (e f : ℕ) (b : Bool) (xs : List X) → IsLine K s xs z → none_between s z cs ≡ true → AllSound K e b xs → runs K cs e f xs ≡ calm b f (map K.body xs)
+  pub runs-calm : (s z : ℕ → Bool) (e f : ℕ) (b : Bool) (xs : List X) → IsLine K s xs z → none_between s z cs ≡ true → AllSound K e b xs → runs K cs e f xs ≡ calm b f (map K.ending xs)
   runs-calm s z e f b [] line quiet all = refl
   runs-calm s z e f b (x ∷ xs) line quiet all =
-      ap₂ (λ l r. agreed (K.body x) (f + length l) (K.sounds x (last_end e l)) && runs K cs (last_end (last_end e l) r) (length r) xs) (no_lefts s z x xs line quiet) (no_rights s z x xs line quiet)
-      ∙ ap₂ (λ t r. agreed (K.body x) (f + 0) t && r) all.0 (runs-calm line.0 z e 0 b xs line.2 (quiet_rest s z x xs line quiet) all.1)
+      ap₂ (λ l r. agrees (K.ending x) (f + length l) (K.sounds x (last_end e l)) && runs K cs (last_end (last_end e l) r) (length r) xs) (no_lefts s z x xs line quiet) (no_rights s z x xs line quiet)
+      ∙ ap₂ (λ t r. agrees (K.ending x) (f + 0) t && r) all.0 (runs-calm line.0 z e 0 b xs line.2 (quiet_rest s z x xs line quiet) all.1)
 
-  pub leaving-calm : (s z : ℕ → Bool) (f : ℕ) (xs : List X) → IsLine K s xs z → none_between s z cs ≡ true → leaving K cs f xs ≡ carried_by f (map K.body xs)
+  pub leaving-calm : (s z : ℕ → Bool) (f : ℕ) (xs : List X) → IsLine K s xs z → none_between s z cs ≡ true → leaving K cs f xs ≡ carried_by f (map K.ending xs)
   leaving-calm s z f [] line quiet = refl
   leaving-calm s z f (x ∷ xs) line quiet =
       ap (λ r. leaving K cs (length r) xs) (no_rights s z x xs line quiet)
@@ -109,7 +108,7 @@ module _ {X : Type 0} (K : Looks X) (cs : List Sounding) where
 
 -- ---- nothing is charged
 
-charge-quiet : (g : Rulebook) (s z : ℕ → Bool) (xs : List Leaf) (t : ℕ) → IsLine (looks g.resolution) s xs z → between s z t ≡ false → charge g xs t ≡ 0
+charge-quiet : (g : Grammar) (s z : ℕ → Bool) (xs : List Leaf) (t : ℕ) → IsLine (looks g.resolution) s xs z → between s z t ≡ false → charge g xs t ≡ 0
 charge-quiet g s z [] t line h = refl
 charge-quiet g s z (x ∷ xs) t line h = go (lies_in g.resolution x t) refl (charge-quiet g line.0 z xs t line.2 (off_too (between line.0 z t) refl))
   where
@@ -122,54 +121,49 @@ charge-quiet g s z (x ∷ xs) t line h = go (lies_in g.resolution x t) refl (cha
         let on = inside_both (s t) (line.0 t) (z t) (λ k. reaches (looks g.resolution) line.0 z xs line.2 t k) (sym (line.1.inside t) ∙ e) in absurd (cc)
     go false e ih = rw e ih
 
-charges-quiet : (g : Rulebook) (s z : ℕ → Bool) (xs : List Leaf) (cs : List Sounding) → IsLine (looks g.resolution) s xs z → none_between s z cs ≡ true → charges g xs cs ≡ 0
+charges-quiet : (g : Grammar) (s z : ℕ → Bool) (xs : List Leaf) (cs : List Inner) → IsLine (looks g.resolution) s xs z → none_between s z cs ≡ true → charges g xs cs ≡ 0
 charges-quiet g s z xs [] line h = refl
 charges-quiet g s z xs (c ∷ cs) line h =
     let all = sum_by-cons (λ c. charge g xs c.onset) c cs in
-    let here = charge-quiet g s z xs c.onset line (off (between s z c.onset) (and_left (not (between s z c.onset)) _ h)) in
+    let here = charge-quiet g s z xs c.onset line (not-true (between s z c.onset) (and_left (not (between s z c.onset)) _ h)) in
     let ih = charges-quiet g s z xs cs line (and_right (not (between s z c.onset)) _ h) in
     omega (arith, all, here, ih)
 
 -- ---- the leaves of one forest at two places have the same rules
 
-abbrev bodies : List Part → List Body
-bodies xs = map (λ x. x.body) xs
+abbrev endings : List BarLeaf → List Ending
+endings xs = map (λ x. x.ending) xs
 
-leaf-body : (b : Body) (p q w : ℕ) → bodies (leaf_of b p w) ≡ bodies (leaf_of b q w)
-leaf-body (Split ks) p q w = refl
-leaf-body (Parts ps) p q w = refl
-leaf-body Note p q w = refl
-leaf-body Short p q w = refl
-leaf-body Tie p q w = refl
-leaf-body Rest p q w = refl
-leaf-body (Grace m) p q w = refl
+leaf-ending : (e : Option Ending) (p q w : ℕ) → endings (leaf_of_ending e p w) ≡ endings (leaf_of_ending e q w)
+leaf-ending None p q w = refl
+leaf-ending (Some e) p q w = refl
 
-leaf-bodies : (o : Option Rule) (p q w : ℕ) → bodies (leaves_at o p w) ≡ bodies (leaves_at o q w)
-leaf-bodies None p q w = refl
-leaf-bodies (Some rule) p q w = leaf-body rule.body p q w
+leaf-endings : (o : Option Rule) (p q w : ℕ) → endings (leaves_at o p w) ≡ endings (leaves_at o q w)
+leaf-endings None p q w = refl
+leaf-endings (Some rule) p q w = leaf-ending (ending_of rule.body) p q w
 
-forest-bodies : (rules : List Rule) (f : Forest) (p q : ℕ) (qs : List (ℕ × ℕ)) → bodies (leaves rules p qs f) ≡ bodies (leaves rules q qs f)
-forest-bodies rules none p q qs = refl
-forest-bodies rules (more r k rest) p q [] = refl
-forest-bodies rules (more r k rest) p q (v ∷ qs) =
+forest-endings : (rules : List Rule) (f : Forest) (p q : ℕ) (qs : List (ℕ × ℕ)) → endings (leaves rules p qs f) ≡ endings (leaves rules q qs f)
+forest-endings rules none p q qs = refl
+forest-endings rules (more r k rest) p q [] = refl
+forest-endings rules (more r k rest) p q (v ∷ qs) =
     let o : Option Rule = slice_get rules r in
     apart p
-    ∙ ap₂ ◌++◌ (leaf-bodies o p q v.0) (ap₂ ◌++◌ (forest-bodies rules k p q (children_of o v.0)) (forest-bodies rules rest (p + v.0) (q + v.0) qs))
+    ∙ ap₂ ◌++◌ (leaf-endings o p q v.0) (ap₂ ◌++◌ (forest-endings rules k p q (children_of o v.0)) (forest-endings rules rest (p + v.0) (q + v.0) qs))
     ∙ sym (apart q)
   where
-    apart : (p : ℕ) → bodies (leaves rules p (v ∷ qs) (more r k rest))
-        ≡ bodies (leaves_at (slice_get rules r) p v.0) ++ (bodies (leaves rules p (children_of (slice_get rules r) v.0) k) ++ bodies (leaves rules (p + v.0) qs rest))
+    apart : (p : ℕ) → endings (leaves rules p (v ∷ qs) (more r k rest))
+        ≡ endings (leaves_at (slice_get rules r) p v.0) ++ (endings (leaves rules p (children_of (slice_get rules r) v.0) k) ++ endings (leaves rules (p + v.0) qs rest))
     apart p =
-        map-append (λ x. x.body) (leaves_at (slice_get rules r) p v.0) (leaves rules p (children_of (slice_get rules r) v.0) k ++ leaves rules (p + v.0) qs rest)
-        ∙ ap (λ l. bodies (leaves_at (slice_get rules r) p v.0) ++ l) (map-append (λ x. x.body) (leaves rules p (children_of (slice_get rules r) v.0) k) (leaves rules (p + v.0) qs rest))
+        map-append (λ x. x.ending) (leaves_at (slice_get rules r) p v.0) (leaves rules p (children_of (slice_get rules r) v.0) k ++ leaves rules (p + v.0) qs rest)
+        ∙ ap (λ l. endings (leaves_at (slice_get rules r) p v.0) ++ l) (map-append (λ x. x.ending) (leaves rules p (children_of (slice_get rules r) v.0) k) (leaves rules (p + v.0) qs rest))
 
 -- ---- what sounds in an interval
 
 doubled : (a b : ℕ) → 2 * a * b ≡ 2 * (a * b)
 doubled a b = grind arith
 
-module _ (r : ℕ) (bar : Measure) (e : ℕ) where
-  sounding-parts : (p m : ℕ) (xs : List Part) → SideBySide p xs m → bar.start * r + m * bar.length ≤ e * r → AllSound (looks r) e true (in_bar bar xs)
+module _ (r : ℕ) (bar : VoiceBar) (e : ℕ) where
+  sounding-parts : (p m : ℕ) (xs : List BarLeaf) → SideBySide p xs m → bar.start * r + m * bar.length ≤ e * r → AllSound (looks r) e true (in_bar bar xs)
   sounding-parts p m [] side h = _
   sounding-parts p m (x ∷ xs) side h =
       let far = before_end (p + x.width) m xs side.2 in
@@ -181,7 +175,7 @@ module _ (r : ℕ) (bar : Measure) (e : ℕ) where
       let c = doubled e r in
       (le_from _ _ (omega (arith, more, a, b, c, h)), sounding-parts (p + x.width) m xs side.2 h)
 
-  silent-parts : (o p m : ℕ) (xs : List Part) → 1 ≤ bar.length → SideBySide p xs m → o ≤ p → e * r ≤ bar.start * r + o * bar.length → AllSound (looks r) e false (in_bar bar xs)
+  silent-parts : (o p m : ℕ) (xs : List BarLeaf) → 1 ≤ bar.length → SideBySide p xs m → o ≤ p → e * r ≤ bar.start * r + o * bar.length → AllSound (looks r) e false (in_bar bar xs)
   silent-parts o p m [] long side near h = _
   silent-parts o p m (x ∷ xs) long side near h =
       let place = side.0 in
@@ -195,7 +189,7 @@ module _ (r : ℕ) (bar : Measure) (e : ℕ) where
 
 -- ---- forests
 
-module _ (d : Ground) (ground : IsGround d) (s : Option Outline) (qs : List (ℕ × ℕ)) (wide : AreWide qs) where
+module _ (d : Ground) (ground : IsGround d) (s : Option Shape) (qs : List (ℕ × ℕ)) (wide : AreWide qs) where
   -- no chord begins over the forest, and all its leaves sound or none does
   pub record IsCalm (b : Bool) (p : ℕ) (f : Forest) : Type 0 where
     pub quiet : is_quiet d p (sizes qs) ≡ true
@@ -214,22 +208,22 @@ module _ (d : Ground) (ground : IsGround d) (s : Option Outline) (qs : List (ℕ
     calm-silent : (p : ℕ) → IsSilent d p (sizes qs) → IsCalm false p f
     calm-silent p h = record { quiet = h.quiet; all = silent-parts d.book.resolution d.bar (end_at d p) p p (p + sizes qs) (leaves d.book.rules p qs f) ground.long (fills p) (omega arith) h.over }
 
-    bodies-here : (p : ℕ) → map (λ x. x.part.body) (in_bar d.bar (leaves d.book.rules p qs f)) ≡ bodies (leaves d.book.rules p qs f)
-    bodies-here p = map_twice (λ x. x.part.body) (λ x. record { bar = d.bar; part = x }) (leaves d.book.rules p qs f)
+    endings-here : (p : ℕ) → map (λ x. x.part.ending) (in_bar d.bar (leaves d.book.rules p qs f)) ≡ endings (leaves d.book.rules p qs f)
+    endings-here p = map_twice (λ x. x.part.ending) (λ x. record { bar = d.bar; part = x }) (leaves d.book.rules p qs f)
 
-    same-bodies : (p q : ℕ) → map (λ x. x.part.body) (in_bar d.bar (leaves d.book.rules p qs f)) ≡ map (λ x. x.part.body) (in_bar d.bar (leaves d.book.rules q qs f))
-    same-bodies p q = bodies-here p ∙ forest-bodies d.book.rules f p q qs ∙ sym (bodies-here q)
+    same-endings : (p q : ℕ) → map (λ x. x.part.ending) (in_bar d.bar (leaves d.book.rules p qs f)) ≡ map (λ x. x.part.ending) (in_bar d.bar (leaves d.book.rules q qs f))
+    same-endings p q = endings-here p ∙ forest-endings d.book.rules f p q qs ∙ sym (endings-here q)
 
     moved-runs : (b : Bool) (p q n : ℕ) → IsCalm b p f → IsCalm b q f → runs_at d.book.resolution d.bar d.chords d.before p n (leaves d.book.rules p qs f) ≡ runs_at d.book.resolution d.bar d.chords d.before q n (leaves d.book.rules q qs f)
     moved-runs b p q n h k =
         runs-calm (looks d.book.resolution) d.chords _ _ (end_at d p) n b (in_bar d.bar (leaves d.book.rules p qs f)) (line p) h.quiet h.all
-        ∙ ap (calm b n) (same-bodies p q)
+        ∙ ap (calm b n) (same-endings p q)
         ∙ sym (runs-calm (looks d.book.resolution) d.chords _ _ (end_at d q) n b (in_bar d.bar (leaves d.book.rules q qs f)) (line q) k.quiet k.all)
 
     moved-leaving : (b : Bool) (p q n : ℕ) → IsCalm b p f → IsCalm b q f → leaving (looks d.book.resolution) d.chords n (in_bar d.bar (leaves d.book.rules p qs f)) ≡ leaving (looks d.book.resolution) d.chords n (in_bar d.bar (leaves d.book.rules q qs f))
     moved-leaving b p q n h k =
         leaving-calm (looks d.book.resolution) d.chords _ _ n (in_bar d.bar (leaves d.book.rules p qs f)) (line p) h.quiet
-        ∙ ap (carried_by n) (same-bodies p q)
+        ∙ ap (carried_by n) (same-endings p q)
         ∙ sym (leaving-calm (looks d.book.resolution) d.chords _ _ n (in_bar d.bar (leaves d.book.rules q qs f)) (line q) k.quiet)
 
     moved-cost : (b : Bool) (p q : ℕ) → IsCalm b p f → IsCalm b q f → forest_cost d p qs f ≡ forest_cost d q qs f
@@ -238,7 +232,7 @@ module _ (d : Ground) (ground : IsGround d) (s : Option Outline) (qs : List (ℕ
         (charges-quiet d.book _ _ (in_bar d.bar (leaves d.book.rules p qs f)) d.chords (line p) h.quiet
         ∙ sym (charges-quiet d.book _ _ (in_bar d.bar (leaves d.book.rules q qs f)) d.chords (line q) k.quiet))
 
-  calm-key : (b : Bool) (p q from to : ℕ) (key : Key) (f : Forest) (stands : Stands d s p qs f from to) → key ≡ (forest_cost d p qs f, preorder f) → IsCalm b p f → IsCalm b q f → IsForestKey d s q qs from to key
+  calm-key : (b : Bool) (p q from to : ℕ) (key : Key) (f : Forest) (stands : StandsInBar d s p qs f from to) → key ≡ (forest_cost d p qs f, preorder f) → IsCalm b p f → IsCalm b q f → IsForestKey d s q qs from to key
   calm-key b p q from to key f stands is h k = (
     f,
     record {

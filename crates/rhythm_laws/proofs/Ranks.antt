@@ -10,14 +10,10 @@ use Rattle.rhythm_base.specs.declared.rule.Rule.{Rule}
 use Rattle.rhythm_base.specs.Forest.{Forest, none, more, preorder}
 use Rattle.rhythm_base.specs.Least.{Rank, rank_cmp}
 use Rattle.rhythm_base.specs.Trees.{are_trees, children_of, suits}
+use Rattle.rhythm_laws.proofs.KeyOrders.{then_assoc}
 
 pub ranks_total : IsTotalOrder rank_cmp
 ranks_total = then_total (on_total (λ (p : Rank). p.0) nat_cmp_total) (on_total (λ (p : Rank). p.1) nat_list_cmp_total)
-
-pub then_assoc : (a b c : Ordering) → ordering_then (ordering_then a b) c ≡ ordering_then a (ordering_then b c)
-then_assoc Less b c = refl
-then_assoc Equal b c = refl
-then_assoc Greater b c = refl
 
 -- the greater number decides, and else what comes next
 pub not_less-means : (a c : ℕ) (o : Ordering) → ordering_then (nat_cmp a c) o ≢ Less → (c < a) ⊎ ((a ≡ c) × (o ≢ Less))

@@ -3,49 +3,47 @@ use Rattle.std.proofs.Common.{◌≡◌, ℕ, suc, ◌+◌, ◌≤◌, ◌==◌,
 use Rattle.std.specs.Prelude.{⊤}
 use Rattle.std.proofs.lemmas.List.{map-append}
 use Rattle.std.proofs.lemmas.Bool.Decides.{nat_tests}
-use Rattle.rhythm_laws.proofs.Reading.{between, chords_split, last_end-append, and_left, and_right}
-use Rattle.rhythm_base.specs.Cells.{last_end}
-use Rattle.rhythm_base.specs.Line.{Sounding, Rising, Looks}
-use Rattle.rhythm_base.specs.declared.rule.Body.{Body}
-use Rattle.rhythm_base.specs.declared.rule.Body.TheVariants.{Split, Parts, Note, Short, Tie, Rest, Grace}
-use Rattle.rhythm_laws.specs.Runs.{lefts, rights, agreed, runs, leaving, ending, IsLine}
+use Rattle.rhythm_base.proofs.Booleans.{and_left, and_right}
+use Rattle.rhythm_laws.proofs.Reading.{between, chords_split, last_end-append}
+use Rattle.rhythm_base.specs.Lists.{last_end}
+use Rattle.rhythm_base.specs.declared.inner.Inner.{Inner}
+use Rattle.rhythm_base.specs.Line.{Rising, Looks, agrees}
+use Rattle.rhythm_base.specs.declared.rule.Ending.{Ending}
+use Rattle.rhythm_base.specs.declared.rule.Ending.TheVariants.{Note, Short, Tie, Rest, Grace}
+use Rattle.rhythm_laws.specs.Runs.{lefts, rights, runs, leaving, ending, IsLine}
 
 and_assoc : (a b c : Bool) → (a && b) && c ≡ a && (b && c)
 and_assoc true b c = refl
 and_assoc false b c = refl
 
 -- a rule agrees with four chords at most
-agreed-few : (b : Body) (n : ℕ) (s : Bool) → agreed b n s ≡ true → n ≤ 4
-agreed-few (Split ks) n s h = absurd (cc)
-agreed-few (Parts ps) n s h = absurd (cc)
-agreed-few Note n s h = let one = and_left (n == 1) s h in grind (arith, nat_tests)
-agreed-few Short n s h = let one = and_left (n == 1) (not s) h in grind (arith, nat_tests)
-agreed-few Tie n s h = let none = and_left (n == 0) s h in grind (arith, nat_tests)
-agreed-few Rest n s h = let none = and_left (n == 0) (not s) h in grind (arith, nat_tests)
-agreed-few (Grace m) n s h =
+pub agrees-few : (b : Ending) (n : ℕ) (s : Bool) → agrees b n s ≡ true → n ≤ 4
+agrees-few Note n s h = let one = and_left (n == 1) s h in grind (arith, nat_tests)
+agrees-few Short n s h = let one = and_left (n == 1) (not s) h in grind (arith, nat_tests)
+agrees-few Tie n s h = let none = and_left (n == 0) s h in grind (arith, nat_tests)
+agrees-few Rest n s h = let none = and_left (n == 0) (not s) h in grind (arith, nat_tests)
+agrees-few (Grace m) n s h =
     let graces = and_right (nat_lt 0 m) (nat_lt m 4) (and_left (nat_lt 0 m && nat_lt m 4) (n == m + 1) h) in
     let all = and_right (nat_lt 0 m && nat_lt m 4) (n == m + 1) h in
     grind (arith, nat_tests)
 
 -- and with one number of chords only
-agreed-one : (b : Body) (n k : ℕ) (s t : Bool) → agreed b n s ≡ true → agreed b k t ≡ true → n ≡ k
-agreed-one (Split ks) n k s t h j = absurd (cc)
-agreed-one (Parts ps) n k s t h j = absurd (cc)
-agreed-one Note n k s t h j = let a = and_left (n == 1) s h in let b = and_left (k == 1) t j in grind (arith, nat_tests)
-agreed-one Short n k s t h j = let a = and_left (n == 1) (not s) h in let b = and_left (k == 1) (not t) j in grind (arith, nat_tests)
-agreed-one Tie n k s t h j = let a = and_left (n == 0) s h in let b = and_left (k == 0) t j in grind (arith, nat_tests)
-agreed-one Rest n k s t h j = let a = and_left (n == 0) (not s) h in let b = and_left (k == 0) (not t) j in grind (arith, nat_tests)
-agreed-one (Grace m) n k s t h j =
+agrees-one : (b : Ending) (n k : ℕ) (s t : Bool) → agrees b n s ≡ true → agrees b k t ≡ true → n ≡ k
+agrees-one Note n k s t h j = let a = and_left (n == 1) s h in let b = and_left (k == 1) t j in grind (arith, nat_tests)
+agrees-one Short n k s t h j = let a = and_left (n == 1) (not s) h in let b = and_left (k == 1) (not t) j in grind (arith, nat_tests)
+agrees-one Tie n k s t h j = let a = and_left (n == 0) s h in let b = and_left (k == 0) t j in grind (arith, nat_tests)
+agrees-one Rest n k s t h j = let a = and_left (n == 0) (not s) h in let b = and_left (k == 0) (not t) j in grind (arith, nat_tests)
+agrees-one (Grace m) n k s t h j =
     let a = and_right (nat_lt 0 m && nat_lt m 4) (n == m + 1) h in
     let b = and_right (nat_lt 0 m && nat_lt m 4) (k == m + 1) j in
     grind (arith, nat_tests)
 
-module _ {X : Type 0} (K : Looks X) (cs : List Sounding) where
+module _ {X : Type 0} (K : Looks X) (cs : List Inner) where
   pub runs-append : (e f : ℕ) (xs ys : List X) → runs K cs e f (xs ++ ys) ≡ runs K cs e f xs && runs K cs (ending K cs e xs) (leaving K cs f xs) ys
   runs-append e f [] ys = refl
   runs-append e f (x ∷ xs) ys =
-      ap (λ b. agreed (K.body x) (f + length (lefts K x cs)) (K.sounds x (last_end e (lefts K x cs))) && b) (runs-append (last_end (last_end e (lefts K x cs)) (rights K x cs)) (length (rights K x cs)) xs ys)
-      ∙ sym (and_assoc (agreed (K.body x) (f + length (lefts K x cs)) (K.sounds x (last_end e (lefts K x cs)))) _ _)
+      ap (λ b. agrees (K.ending x) (f + length (lefts K x cs)) (K.sounds x (last_end e (lefts K x cs))) && b) (runs-append (last_end (last_end e (lefts K x cs)) (rights K x cs)) (length (rights K x cs)) xs ys)
+      ∙ sym (and_assoc (agrees (K.ending x) (f + length (lefts K x cs)) (K.sounds x (last_end e (lefts K x cs)))) _ _)
 
   pub leaving-append : (f : ℕ) (xs ys : List X) → leaving K cs f (xs ++ ys) ≡ leaving K cs (leaving K cs f xs) ys
   leaving-append f [] ys = refl
@@ -64,7 +62,7 @@ module _ {X : Type 0} (K : Looks X) (cs : List Sounding) where
       empty true = refl
       empty false = refl
 
-      nothing : (ds : List Sounding) → filter (λ c. between s z c.onset) ds ≡ []
+      nothing : (ds : List Inner) → filter (λ c. between s z c.onset) ds ≡ []
       nothing [] = refl
       nothing (d ∷ ds) =
           let out : between s z d.onset ≡ false = ap (λ b. s d.onset && not b) (λ i. sym line i d.onset) ∙ empty (s d.onset) in
@@ -76,19 +74,19 @@ module _ {X : Type 0} (K : Looks X) (cs : List Sounding) where
       ∙ last_end-append e (lefts K x cs) (rights K x cs ++ map (λ c. c.end) fo)
       ∙ last_end-append (last_end e (lefts K x cs)) (rights K x cs) (map (λ c. c.end) fo))
     where
-      fl : List Sounding
+      fl : List Inner
       fl = filter (λ c. K.lies x c.onset && K.left x c.onset) cs
 
-      fr : List Sounding
+      fr : List Inner
       fr = filter (λ c. K.lies x c.onset && not (K.left x c.onset)) cs
 
-      fo : List Sounding
+      fo : List Inner
       fo = filter (λ c. between line.0 z c.onset) cs
 
   -- at most four chords are carried to a leaf
   pub runs-few_leaf : (e f : ℕ) (x : X) (xs : List X) → runs K cs e f (x ∷ xs) ≡ true → f ≤ 4
   runs-few_leaf e f x xs r =
-      let few = agreed-few (K.body x) (f + length (lefts K x cs)) _ (and_left (agreed (K.body x) (f + length (lefts K x cs)) (K.sounds x (last_end e (lefts K x cs)))) _ r) in
+      let few = agrees-few (K.ending x) (f + length (lefts K x cs)) _ (and_left (agrees (K.ending x) (f + length (lefts K x cs)) (K.sounds x (last_end e (lefts K x cs)))) _ r) in
       omega arith
 
   -- leaves fit with one count at their start, and so with one at their end
@@ -96,7 +94,7 @@ module _ {X : Type 0} (K : Looks X) (cs : List Sounding) where
   runs-one_leaf e f g x xs r q =
       let n : ℕ = length (lefts K x cs) in
       let sounding : Bool = K.sounds x (last_end e (lefts K x cs)) in
-      let same : f + n ≡ g + n = agreed-one (K.body x) (f + n) (g + n) sounding sounding (and_left (agreed (K.body x) (f + n) sounding) _ r) (and_left (agreed (K.body x) (g + n) sounding) _ q) in
+      let same : f + n ≡ g + n = agrees-one (K.ending x) (f + n) (g + n) sounding sounding (and_left (agrees (K.ending x) (f + n) sounding) _ r) (and_left (agrees (K.ending x) (g + n) sounding) _ q) in
       omega arith
 
   -- the same for a line that some tick is in
@@ -111,11 +109,11 @@ module _ {X : Type 0} (K : Looks X) (cs : List Sounding) where
 -- ---- the same run in other coordinates
 
 -- y has the ends of x, each taken to another end
-pub record IsLike {X : Type 0} (K : Looks X) (cs ds : List Sounding) (to : ℕ → ℕ) (x y : X) : Type 0 where
+pub record IsLike {X : Type 0} (K : Looks X) (cs ds : List Inner) (to : ℕ → ℕ) (x y : X) : Type 0 where
   pub lefts : lefts K y ds ≡ map to (lefts K x cs)
   pub rights : rights K y ds ≡ map to (rights K x cs)
   pub sounds : (e : ℕ) → K.sounds y (to e) ≡ K.sounds x e
-  pub body : K.body y ≡ K.body x
+  pub body : K.ending y ≡ K.ending x
 
 length_mapped : (to : ℕ → ℕ) (es : List ℕ) → length (map to es) ≡ length es
 length_mapped to [] = refl
@@ -125,7 +123,7 @@ last_end-map : (to : ℕ → ℕ) (e : ℕ) (es : List ℕ) → last_end (to e) 
 last_end-map to e [] = refl
 last_end-map to e (d ∷ ds) = last_end-map to d ds
 
-module _ {X : Type 0} (K : Looks X) (cs ds : List Sounding) (to : ℕ → ℕ) where
+module _ {X : Type 0} (K : Looks X) (cs ds : List Inner) (to : ℕ → ℕ) where
   abbrev pub AreLike : List X → List X → Type 0
   AreLike [] [] = ⊤
   AreLike [] (y ∷ ys) = ⊥
@@ -137,7 +135,7 @@ module _ {X : Type 0} (K : Looks X) (cs ds : List Sounding) (to : ℕ → ℕ) w
   runs-like e f [] (y ∷ ys) like = absurd like
   runs-like e f (x ∷ xs) [] like = absurd like
   runs-like e f (x ∷ xs) (y ∷ ys) like =
-      ap₂ (λ l r. agreed (K.body y) (f + length l) (K.sounds y (last_end (to e) l)) && runs K ds (last_end (last_end (to e) l) r) (length r) ys) like.0.lefts like.0.rights
+      ap₂ (λ l r. agrees (K.ending y) (f + length l) (K.sounds y (last_end (to e) l)) && runs K ds (last_end (last_end (to e) l) r) (length r) ys) like.0.lefts like.0.rights
       ∙ ap₂ ◌&&◌ own (others (runs-like (last_end (last_end e (lefts K x cs)) (rights K x cs)) (length (rights K x cs)) xs ys like.1))
     where
       ls : List ℕ
@@ -146,10 +144,10 @@ module _ {X : Type 0} (K : Looks X) (cs ds : List Sounding) (to : ℕ → ℕ) w
       rs : List ℕ
       rs = rights K x cs
 
-      own : agreed (K.body y) (f + length (map to ls)) (K.sounds y (last_end (to e) (map to ls))) ≡ agreed (K.body x) (f + length ls) (K.sounds x (last_end e ls))
+      own : agrees (K.ending y) (f + length (map to ls)) (K.sounds y (last_end (to e) (map to ls))) ≡ agrees (K.ending x) (f + length ls) (K.sounds x (last_end e ls))
       own =
-          ap₂ (λ n d. agreed (K.body y) (f + n) (K.sounds y d)) (length_mapped to ls) (last_end-map to e ls)
-          ∙ ap₂ (λ b s. agreed b (f + length ls) s) like.0.body (like.0.sounds (last_end e ls))
+          ap₂ (λ n d. agrees (K.ending y) (f + n) (K.sounds y d)) (length_mapped to ls) (last_end-map to e ls)
+          ∙ ap₂ (λ b s. agrees b (f + length ls) s) like.0.body (like.0.sounds (last_end e ls))
 
       others : runs K ds (to (last_end (last_end e ls) rs)) (length rs) ys ≡ runs K cs (last_end (last_end e ls) rs) (length rs) xs
           → runs K ds (last_end (last_end (to e) (map to ls)) (map to rs)) (length (map to rs)) ys ≡ runs K cs (last_end (last_end e ls) rs) (length rs) xs

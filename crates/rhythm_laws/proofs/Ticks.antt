@@ -3,17 +3,17 @@ use Rattle.std.proofs.Common.{◌≡◌, ℕ, ◌+◌, ◌-◌, ◌*◌, ◌≤�
 use Rattle.std.specs.Prelude.{nat_lt, nat_le, Option}
 use Rattle.std.proofs.Math.Nat.{mul-le-mul_right}
 use Rattle.std.proofs.lemmas.Bool.Decides.{nat_tests}
-use Rattle.rhythm_base.specs.Outline.{Outline}
-use Rattle.rhythm_base.specs.Forest.{none, more, Branch}
+use Rattle.rhythm_base.specs.Shape.{Shape}
+use Rattle.rhythm_base.specs.Forest.{none, more, Tree}
 use Rattle.rhythm_laws.proofs.Lists.{map_twice}
-use Rattle.rhythm_laws.proofs.Reading.{and_left, and_right}
+use Rattle.rhythm_base.proofs.Booleans.{and_left, and_right}
 use Rattle.rhythm_laws.proofs.Runs.{IsLine-append, IsLike, AreLike}
 use Rattle.rhythm_laws.proofs.Bars.{SideBySide, leaves-fill, times_wide}
-use Rattle.rhythm_base.specs.Cells.{cut_end, has_onset, moved}
-use Rattle.rhythm_base.specs.Leaves.{Measure, Leaf, lies_in, goes_left, sounds, looks, in_bar, line_of, are_bars}
-use Rattle.rhythm_base.specs.Line.{Sounding}
-use Rattle.rhythm_base.specs.Rulebook.{Rulebook}
-use Rattle.rhythm_base.specs.Trees.{Part, is_tree, are_trees, leaves_of}
+use Rattle.rhythm_base.specs.Cells.{cut_end, has_onset, within_bar}
+use Rattle.rhythm_base.specs.Leaves.{VoiceBar, Leaf, lies_in, goes_left, sounds, looks, in_bar, voice_leaves, are_bars}
+use Rattle.rhythm_base.specs.declared.inner.Inner.{Inner}
+use Rattle.rhythm_base.specs.Grammar.{Grammar}
+use Rattle.rhythm_base.specs.Trees.{BarLeaf, is_tree, are_trees, leaves_of}
 use Rattle.rhythm_base.specs.declared.rule.Rule.{Rule}
 use Rattle.rhythm_laws.specs.Runs.{IsStep, IsLine}
 use Rattle.rhythm_laws.specs.Voices.{Adjacent}
@@ -77,7 +77,7 @@ halves_plain a b p w le h = let low = le_tells (2 * (b - p)) w h in le_from (2 *
 no_sound : (a m r : ℕ) → 1 ≤ m → nat_le (a + m) (2 * 0 * r) ≡ false
 no_sound a m r h = let nothing : 2 * 0 * r ≡ 0 = grind arith in le_not (a + m) (2 * 0 * r) (omega arith)
 
-pub leaf-step : (r : ℕ) (bar : Measure) (x : Part) → 1 ≤ x.width → 1 ≤ bar.length → IsStep (looks r) (reach r bar x.place) (record { bar = bar; part = x }) (reach r bar (x.place + x.width))
+pub leaf-step : (r : ℕ) (bar : VoiceBar) (x : BarLeaf) → 1 ≤ x.width → 1 ≤ bar.length → IsStep (looks r) (reach r bar x.place) (record { bar = bar; part = x }) (reach r bar (x.place + x.width))
 leaf-step r bar x wide long = record {
   inside = λ t. inside_plain (nat_le bar.start t) (nat_le (x.place * bar.length) ((t - bar.start) * r)) _ _ (lt_not_le ((t - bar.start) * r) ((x.place + x.width) * bar.length));
   back = back;
@@ -101,7 +101,7 @@ leaf-step r bar x wide long = record {
         let more = scaled bar.start r t u le in
         rw (le_from bar.start u (omega arith), le_from ((x.place + x.width) * bar.length) ((u - bar.start) * r) (omega arith)) refl
 
-pub parts-line : (r : ℕ) (bar : Measure) (p q : ℕ) (xs : List Part) → 1 ≤ bar.length → SideBySide p xs q → IsLine (looks r) (reach r bar p) (in_bar bar xs) (reach r bar q)
+pub parts-line : (r : ℕ) (bar : VoiceBar) (p q : ℕ) (xs : List BarLeaf) → 1 ≤ bar.length → SideBySide p xs q → IsLine (looks r) (reach r bar p) (in_bar bar xs) (reach r bar q)
 parts-line r bar p q [] long h = ap (reach r bar) h
 parts-line r bar p q (x ∷ xs) long h = (
   reach r bar (p + x.width),
@@ -118,7 +118,7 @@ with_true : (a b : Bool) → b ≡ true → a && b ≡ a
 with_true true b h = h
 with_true false b h = refl
 
-first_reached : (r : ℕ) (bar : Measure) → reach r bar 0 ≡ from_tick bar.start
+first_reached : (r : ℕ) (bar : VoiceBar) → reach r bar 0 ≡ from_tick bar.start
 first_reached r bar = λ i t. each t i
   where
     each : (t : ℕ) → reach r bar 0 t ≡ from_tick bar.start t
@@ -149,23 +149,23 @@ last_plain r b l t some = go (nat_le (b + l) t) refl
             let apart : ((t - b) + 1) * r ≡ (t - b) * r + r = grind arith in
             rw (le_from b t h, le_not (r * l) ((t - b) * r) (omega (arith, turned))) refl
 
-last_reached : (r : ℕ) (bar : Measure) → 1 ≤ r → reach r bar r ≡ from_tick (bar.start + bar.length)
+last_reached : (r : ℕ) (bar : VoiceBar) → 1 ≤ r → reach r bar r ≡ from_tick (bar.start + bar.length)
 last_reached r bar some = λ i t. last_plain r bar.start bar.length t some i
 
 -- the leaves of a tree fill its bar
-pub parts-fill : (rules : List Rule) (r s : ℕ) (pin : Option Outline) (t : Branch) → 1 ≤ r → is_tree rules r s pin t ≡ true → SideBySide 0 (leaves_of rules r s t) r
+pub parts-fill : (rules : List Rule) (r s : ℕ) (pin : Option Shape) (t : Tree) → 1 ≤ r → is_tree rules r s pin t ≡ true → SideBySide 0 (leaves_of rules r s t) r
 parts-fill rules r s pin t some h =
     let filled = leaves-fill rules (more t.rule t.kids none) 0 ((r, s) ∷ []) (some, _) (and_left (are_trees rules ((r, s) ∷ []) (more t.rule t.kids none)) _ h) in
     let end : 0 + (r + 0) ≡ r = omega arith in
     subst (λ n. SideBySide 0 (leaves_of rules r s t) n) end filled
 
-pub bar-line : (r : ℕ) (bar : Measure) (xs : List Part) → 1 ≤ r → 1 ≤ bar.length → SideBySide 0 xs r → IsLine (looks r) (from_tick bar.start) (in_bar bar xs) (from_tick (bar.start + bar.length))
+pub bar-line : (r : ℕ) (bar : VoiceBar) (xs : List BarLeaf) → 1 ≤ r → 1 ≤ bar.length → SideBySide 0 xs r → IsLine (looks r) (from_tick bar.start) (in_bar bar xs) (from_tick (bar.start + bar.length))
 bar-line r bar xs some long h =
     subst (λ z. IsLine (looks r) (from_tick bar.start) (in_bar bar xs) z) (last_reached r bar some)
     (subst (λ s. IsLine (looks r) s (in_bar bar xs) (reach r bar r)) (first_reached r bar) (parts-line r bar 0 r xs long h))
 
 -- the leaves of all bars are one line
-pub voice-line : (g : Rulebook) (bars : List Measure) (ts : List Branch) (b e : ℕ) → 1 ≤ g.resolution → Adjacent b bars e → are_bars g bars ts ≡ true → IsLine (looks g.resolution) (from_tick b) (line_of g bars ts) (from_tick e)
+pub voice-line : (g : Grammar) (bars : List VoiceBar) (ts : List Tree) (b e : ℕ) → 1 ≤ g.resolution → Adjacent b bars e → are_bars g bars ts ≡ true → IsLine (looks g.resolution) (from_tick b) (voice_leaves g bars ts) (from_tick e)
 voice-line g [] [] b e some near h = ap from_tick near
 voice-line g [] (t ∷ ts) b e some near h = absurd (cc)
 voice-line g (bar ∷ bars) [] b e some near h = absurd (cc)
@@ -173,12 +173,12 @@ voice-line g (bar ∷ bars) (t ∷ ts) b e some near h =
     let tree = and_left (is_tree g.rules g.resolution bar.symbol bar.pin t) _ h in
     let first = bar-line g.resolution bar (leaves_of g.rules g.resolution bar.symbol t) some near.1 (parts-fill g.rules g.resolution bar.symbol bar.pin t some tree) in
     let others = voice-line g bars ts (b + bar.length) e some near.2 (and_right (is_tree g.rules g.resolution bar.symbol bar.pin t) _ h) in
-    IsLine-append (looks g.resolution) [] (from_tick b) (from_tick (b + bar.length)) (from_tick e) (in_bar bar (leaves_of g.rules g.resolution bar.symbol t)) (line_of g bars ts)
+    IsLine-append (looks g.resolution) [] (from_tick b) (from_tick (b + bar.length)) (from_tick e) (in_bar bar (leaves_of g.rules g.resolution bar.symbol t)) (voice_leaves g bars ts)
     (subst (λ n. IsLine (looks g.resolution) (from_tick n) (in_bar bar (leaves_of g.rules g.resolution bar.symbol t)) (from_tick (n + bar.length))) near.0 first) others
 
 -- ---- the leaves of a bar, from 0 on
 
-abbrev pub at_zero : Measure → Measure
+abbrev pub at_zero : VoiceBar → VoiceBar
 at_zero bar = record { start = 0; length = bar.length; num = bar.num; den = bar.den; symbol = bar.symbol; pin = bar.pin }
 
 same_parts : (a e c d : Bool) → (a ≡ true → d ≡ true → e ≡ true) → (a && e) && (c && d) ≡ a && (c && d)
@@ -188,7 +188,7 @@ same_parts true false true true h = h refl refl
 same_parts true false true false h = refl
 same_parts true false false d h = refl
 
-pub lies-moved : (r : ℕ) (bar : Measure) (x : Part) (t : ℕ) → x.place + x.width ≤ r
+pub lies-moved : (r : ℕ) (bar : VoiceBar) (x : BarLeaf) (t : ℕ) → x.place + x.width ≤ r
     → has_onset bar t && lies_in r (record { bar = at_zero bar; part = x }) (t - bar.start) ≡ lies_in r (record { bar = bar; part = x }) t
 lies-moved r bar x t within =
     rw (take_zero (t - bar.start), le_from 0 (t - bar.start) (omega arith))
@@ -207,7 +207,7 @@ lies-moved r bar x t within =
             let less : (t - bar.start) * r < (x.place + x.width) * bar.length = grind (arith, nat_tests) in
             absurd (omega arith)
 
-pub left-moved : (r : ℕ) (bar : Measure) (x : Part) (t : ℕ) → goes_left r (record { bar = at_zero bar; part = x }) (t - bar.start) ≡ goes_left r (record { bar = bar; part = x }) t
+pub left-moved : (r : ℕ) (bar : VoiceBar) (x : BarLeaf) (t : ℕ) → goes_left r (record { bar = at_zero bar; part = x }) (t - bar.start) ≡ goes_left r (record { bar = bar; part = x }) t
 left-moved r bar x t = rw (take_zero (t - bar.start)) refl
 
 -- an end sounds in a leaf exactly where the cut end sounds in it from 0 on
@@ -254,7 +254,7 @@ sounds_plain r b e l m some most = le_same (2 * 0 * r + m) (2 * min (e - b) l * 
             go n (inl w) = let full : 2 * n * r ≡ 2 * (e - b) * r = ap (λ n. 2 * n * r) w in omega (arith, nothing, parts k)
             go n (inr w) = let full : 2 * n * r ≡ 2 * l * r = ap (λ n. 2 * n * r) w in omega (arith, nothing)
 
-pub sounds-moved : (r : ℕ) (bar : Measure) (x : Part) (e : ℕ) → 1 ≤ x.width → 1 ≤ bar.length → x.place + x.width ≤ r
+pub sounds-moved : (r : ℕ) (bar : VoiceBar) (x : BarLeaf) (e : ℕ) → 1 ≤ x.width → 1 ≤ bar.length → x.place + x.width ≤ r
     → sounds r (record { bar = at_zero bar; part = x }) (cut_end bar e) ≡ sounds r (record { bar = bar; part = x }) e
 sounds-moved r bar x e wide long within =
     sounds_plain r bar.start e bar.length ((2 * x.place + x.width) * bar.length) (times_wide (2 * x.place + x.width) bar.length (omega arith) long) most
@@ -277,11 +277,11 @@ filter_moved {A} {B} p q f (x ∷ xs) = go (q x) (p (f x)) refl (filter_moved p 
     go false b e ih = ih
 
 -- the ends of the kept chords, moved
-ends_moved : (bar : Measure) (p q : ℕ → Bool) (cs : List Sounding) → ((t : ℕ) → has_onset bar t && p (t - bar.start) ≡ q t)
-    → map (λ c. c.end) (filter (λ c. p c.onset) (map (moved bar) (filter (λ c. has_onset bar c.onset) cs))) ≡ map (cut_end bar) (map (λ c. c.end) (filter (λ c. q c.onset) cs))
+ends_moved : (bar : VoiceBar) (p q : ℕ → Bool) (cs : List Inner) → ((t : ℕ) → has_onset bar t && p (t - bar.start) ≡ q t)
+    → map (λ c. c.end) (filter (λ c. p c.onset) (map (within_bar bar) (filter (λ c. has_onset bar c.onset) cs))) ≡ map (cut_end bar) (map (λ c. c.end) (filter (λ c. q c.onset) cs))
 ends_moved bar p q cs same =
-    ap (map (λ c. c.end)) (filter_moved (λ c. p c.onset) (λ c. has_onset bar c.onset) (moved bar) cs)
-    ∙ map_twice (λ c. c.end) (moved bar) (filter (λ c. has_onset bar c.onset && p (c.onset - bar.start)) cs)
+    ap (map (λ c. c.end)) (filter_moved (λ c. p c.onset) (λ c. has_onset bar c.onset) (within_bar bar) cs)
+    ∙ map_twice (λ c. c.end) (within_bar bar) (filter (λ c. has_onset bar c.onset && p (c.onset - bar.start)) cs)
     ∙ (λ i. map (λ c. cut_end bar c.end) (filter (λ c. same c.onset i) cs))
     ∙ sym (map_twice (cut_end bar) (λ c. c.end) (filter (λ c. q c.onset) cs))
 
@@ -289,8 +289,8 @@ and_over : (a b c : Bool) → a && (b && c) ≡ (a && b) && c
 and_over true b c = refl
 and_over false b c = refl
 
-pub part-like : (r : ℕ) (bar : Measure) (cs : List Sounding) (x : Part) → 1 ≤ x.width → 1 ≤ bar.length → x.place + x.width ≤ r
-    → IsLike (looks r) cs (map (moved bar) (filter (λ c. has_onset bar c.onset) cs)) (cut_end bar) (record { bar = bar; part = x }) (record { bar = at_zero bar; part = x })
+pub part-like : (r : ℕ) (bar : VoiceBar) (cs : List Inner) (x : BarLeaf) → 1 ≤ x.width → 1 ≤ bar.length → x.place + x.width ≤ r
+    → IsLike (looks r) cs (map (within_bar bar) (filter (λ c. has_onset bar c.onset) cs)) (cut_end bar) (record { bar = bar; part = x }) (record { bar = at_zero bar; part = x })
 part-like r bar cs x wide long within = record {
   lefts = ends_moved bar (λ t. lies_in r y t && goes_left r y t) (λ t. lies_in r z t && goes_left r z t) cs
       (λ t. and_over (has_onset bar t) (lies_in r y (t - bar.start)) (goes_left r y (t - bar.start)) ∙ ap₂ ◌&&◌ (lies-moved r bar x t within) (left-moved r bar x t));
@@ -306,12 +306,12 @@ part-like r bar cs x wide long within = record {
     z : Leaf
     z = record { bar = bar; part = x }
 
-pub before_end : (p q : ℕ) (xs : List Part) → SideBySide p xs q → p ≤ q
+pub before_end : (p q : ℕ) (xs : List BarLeaf) → SideBySide p xs q → p ≤ q
 before_end p q [] h = omega (arith, h)
 before_end p q (x ∷ xs) h = let ih = before_end (p + x.width) q xs h.2 in omega arith
 
-pub parts-like : (r : ℕ) (bar : Measure) (cs : List Sounding) (p : ℕ) (xs : List Part) → 1 ≤ bar.length → SideBySide p xs r
-    → AreLike (looks r) cs (map (moved bar) (filter (λ c. has_onset bar c.onset) cs)) (cut_end bar) (in_bar bar xs) (in_bar (at_zero bar) xs)
+pub parts-like : (r : ℕ) (bar : VoiceBar) (cs : List Inner) (p : ℕ) (xs : List BarLeaf) → 1 ≤ bar.length → SideBySide p xs r
+    → AreLike (looks r) cs (map (within_bar bar) (filter (λ c. has_onset bar c.onset) cs)) (cut_end bar) (in_bar bar xs) (in_bar (at_zero bar) xs)
 parts-like r bar cs p [] long h = _
 parts-like r bar cs p (x ∷ xs) long h =
     let within = before_end (p + x.width) r xs h.2 in

@@ -1,6 +1,6 @@
 -- Definitions that are relations and have at most one answer: the least derivation, the bars at loading, the chords.
 use Rattle.std.proofs.Common.{◌≡◌, ℕ, ◌+◌, ◌<◌, ◌≤◌, inl, inr, Bool, true, false, ◌&&◌, List, [], ◌∷◌, ◌++◌, length, take, subst, refl, sym, ap, ◌∙◌, arith, append-nil, Some, None, Result, Ok, Err}
-use Rattle.std.specs.Ordering.{is_lt, ordering_then}
+use Rattle.std.specs.Ordering.{is_lt}
 use Rattle.std.specs.Prelude.{◌≢◌, All}
 use Rattle.std.specs.declared.cmp.Ordering.TheVariants.{Less, Equal, Greater}
 use Rattle.std.specs.declared.cmp.Ordering.{Ordering}
@@ -11,16 +11,17 @@ use Rattle.rhythm_base.specs.declared.event.Signature.{Signature}
 use Rattle.rhythm_base.specs.declared.event.Tempo.{Tempo}
 use Rattle.rhythm_base.specs.declared.note.Bar.{Bar}
 use Rattle.rhythm_base.specs.declared.note.Note.{Note}
-use Rattle.rhythm_base.specs.Bars.{AreEnough, AreFew, AreLaid, IsLaying, fault_at, nominal_at}
+use Rattle.rhythm_base.specs.Bars.{AreEnough, AreTooFew, AreLaid, IsLaying, fault_at, nominal_at}
 use Rattle.rhythm_base.specs.Chords.{AreChords, Joins, StandsApart, chord_of}
 use Rattle.rhythm_base.specs.Cost.{sequence_of}
-use Rattle.rhythm_base.specs.Forest.{Branch, Forest, more, none, preorder, preorder_of}
+use Rattle.rhythm_base.specs.Forest.{Tree, Forest, more, none, preorder, preorder_of}
 use Rattle.rhythm_base.specs.Least.{IsLeast, rank_cmp, rank_of}
-use Rattle.rhythm_base.specs.Leaves.{FitsVoice, Leaf, Measure, are_bars, in_bar, looks}
-use Rattle.rhythm_base.specs.Line.{Sounding, agree, past}
-use Rattle.rhythm_base.specs.Rulebook.{Rulebook}
+use Rattle.rhythm_base.specs.Leaves.{FitsVoice, Leaf, VoiceBar, are_bars, in_bar, looks}
+use Rattle.rhythm_base.specs.declared.inner.Inner.{Inner}
+use Rattle.rhythm_base.specs.Line.{agree, past}
+use Rattle.rhythm_base.specs.Grammar.{Grammar}
 use Rattle.rhythm_base.specs.Trees.{are_trees, has_pin, is_tree, leaves_of}
-use Rattle.rhythm_laws.proofs.KeyOrders.{both_above, keys_total, list_equal}
+use Rattle.rhythm_laws.proofs.KeyOrders.{both_above, keys_total, list_equal, then_equal}
 use Rattle.rhythm_laws.proofs.OrderedLists.{all_head, all_tail}
 use Rattle.rhythm_laws.proofs.Parsing.{one_parse}
 use Rattle.rhythm_laws.proofs.Ranks.{both}
@@ -36,7 +37,7 @@ kids_of none = none
 kids_of (more r kids rest) = kids
 
 -- derivations of the same bars with one list of rule numbers are the same
-pub one_derivation : (g : Rulebook) (bars : List Measure) (ts us : List Branch) → are_bars g bars ts ≡ true → are_bars g bars us ≡ true
+pub one_derivation : (g : Grammar) (bars : List VoiceBar) (ts us : List Tree) → are_bars g bars ts ≡ true → are_bars g bars us ≡ true
     → sequence_of ts ≡ sequence_of us → ts ≡ us
 one_derivation g [] [] [] p q e = refl
 one_derivation g [] [] (u ∷ us) p q e = absurd (cc)
@@ -61,18 +62,13 @@ not_less Less h = absurd (h refl)
 not_less Equal h = refl
 not_less Greater h = refl
 
-pub then_both : (o u : Ordering) → ordering_then o u ≡ Equal → (o ≡ Equal) × (u ≡ Equal)
-then_both Less u e = absurd (cc)
-then_both Equal u e = (refl, e)
-then_both Greater u e = absurd (cc)
-
 -- there is at most one least derivation
-pub one_least : (g : Rulebook) (bars : List Measure) (cs : List Sounding) (ts us : List Branch) → IsLeast g bars cs ts → IsLeast g bars cs us → ts ≡ us
+pub one_least : (g : Grammar) (bars : List VoiceBar) (cs : List Inner) (ts us : List Tree) → IsLeast g bars cs ts → IsLeast g bars cs us → ts ≡ us
 one_least g bars cs ts us t u =
     let up = not_less _ (t.first us u.fits) in
     let down = not_less _ (u.first ts t.fits) in
     let same : rank_cmp (rank_of g bars cs ts) (rank_of g bars cs us) ≡ Equal = both_above keys_total (rank_of g bars cs ts) (rank_of g bars cs us) down up in
-    let lists = then_both _ _ same in
+    let lists = then_equal _ _ same in
     one_derivation g bars ts us t.fits.trees u.fits.trees (list_equal (sequence_of ts) (sequence_of us) lists.1)
 
 -- ---- the chords
@@ -152,7 +148,7 @@ module _ (division : ℕ) (signatures : List Signature) where
 
   module _ (onset end : ℕ) where
     abbrev Few : List Bar → ℕ → Type 0
-    Few bars k = AreFew division signatures onset end bars k
+    Few bars k = AreTooFew division signatures onset end bars k
 
     -- bars that are enough are no first ones of bars that were still too few there
     not_few : (xs ys : List Bar) (e : ℕ) → take (length xs) ys ≡ xs → Laid 0 0 xs e → AreEnough onset end xs e → Few ys (length xs) → ⊥
@@ -221,7 +217,7 @@ module _ (division : ℕ) (signatures : List Signature) where
 
 -- ---- one bar
 
-pub one_bar : (g : Rulebook) (bar : Measure) (cs : List Sounding) (t : Branch) → is_tree g.rules g.resolution bar.symbol bar.pin t ≡ true
+pub one_bar : (g : Grammar) (bar : VoiceBar) (cs : List Inner) (t : Tree) → is_tree g.rules g.resolution bar.symbol bar.pin t ≡ true
     → agree (looks g.resolution) [] [] cs (in_bar bar (leaves_of g.rules g.resolution bar.symbol t)) ≡ true
     → past (looks g.resolution) [] cs (in_bar bar (leaves_of g.rules g.resolution bar.symbol t)) ≡ 0
     → FitsVoice g (bar ∷ []) cs (t ∷ [])

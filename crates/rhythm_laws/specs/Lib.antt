@@ -1,9 +1,12 @@
 pub mod Forests
 pub mod Laws
+pub mod Meetings
 pub mod Passes
 pub mod Places
 pub mod Quiet
+pub mod Rows
 pub mod Runs
+pub mod Shares
 pub mod Tables
 pub mod VersionOne
 pub mod Voices

@@ -1,42 +1,31 @@
 -- A line of leaves read from left to right, handing on a count of chords and the latest end.
-use Rattle.std.specs.Prelude.{◌≡◌, ℕ, ◌+◌, ◌≤◌, Bool, true, false, ◌&&◌, ◌==◌, not, nat_lt, List, [], ◌∷◌, length, filter, map}
-use Rattle.rhythm_base.specs.declared.rule.Body.{Body}
-use Rattle.rhythm_base.specs.declared.rule.Body.TheVariants.{Split, Parts, Note, Short, Tie, Rest, Grace}
-use Rattle.rhythm_base.specs.Cells.{last_end}
-use Rattle.rhythm_base.specs.Line.{Sounding, Looks}
+use Rattle.std.specs.Prelude.{◌≡◌, ℕ, ◌+◌, ◌≤◌, Bool, true, false, ◌&&◌, not, List, [], ◌∷◌, length, filter, map}
+use Rattle.rhythm_base.specs.Lists.{last_end}
+use Rattle.rhythm_base.specs.declared.inner.Inner.{Inner}
+use Rattle.rhythm_base.specs.Line.{agrees, Looks}
 
 -- the ends of the chords of the left half of a leaf, which are attached to it
-abbrev pub lefts : {X : Type 0} → Looks X → X → List Sounding → List ℕ
+abbrev pub lefts : {X : Type 0} → Looks X → X → List Inner → List ℕ
 lefts K x cs = map (λ c. c.end) (filter (λ c. K.lies x c.onset && K.left x c.onset) cs)
 
 -- the ends of the chords of its right half, which are attached to the next leaf
-abbrev pub rights : {X : Type 0} → Looks X → X → List Sounding → List ℕ
+abbrev pub rights : {X : Type 0} → Looks X → X → List Inner → List ℕ
 rights K x cs = map (λ c. c.end) (filter (λ c. K.lies x c.onset && not (K.left x c.onset)) cs)
 
--- the rule agrees with a number of chords, where the latest of these and of those before sounds or not
-abbrev pub agreed : Body → ℕ → Bool → Bool
-agreed (Split symbols) n b = false
-agreed (Parts parts) n b = false
-agreed Note n b = (n == 1) && b
-agreed Short n b = (n == 1) && not b
-agreed Tie n b = (n == 0) && b
-agreed Rest n b = (n == 0) && not b
-agreed (Grace m) n b = (nat_lt 0 m && nat_lt m 4) && (n == m + 1)
-
 -- all leaves agree, where f chords are carried to the first and e is the latest end before
-abbrev pub runs : {X : Type 0} → Looks X → List Sounding → ℕ → ℕ → List X → Bool
+abbrev pub runs : {X : Type 0} → Looks X → List Inner → ℕ → ℕ → List X → Bool
 runs K cs e f [] = true
 runs K cs e f (x ∷ xs) =
-    agreed (K.body x) (f + length (lefts K x cs)) (K.sounds x (last_end e (lefts K x cs)))
+    agrees (K.ending x) (f + length (lefts K x cs)) (K.sounds x (last_end e (lefts K x cs)))
     && runs K cs (last_end (last_end e (lefts K x cs)) (rights K x cs)) (length (rights K x cs)) xs
 
 -- the number of chords that leave the line
-abbrev pub leaving : {X : Type 0} → Looks X → List Sounding → ℕ → List X → ℕ
+abbrev pub leaving : {X : Type 0} → Looks X → List Inner → ℕ → List X → ℕ
 leaving K cs f [] = f
 leaving K cs f (x ∷ xs) = leaving K cs (length (rights K x cs)) xs
 
 -- the latest end at the end of the line
-abbrev pub ending : {X : Type 0} → Looks X → List Sounding → ℕ → List X → ℕ
+abbrev pub ending : {X : Type 0} → Looks X → List Inner → ℕ → List X → ℕ
 ending K cs e [] = e
 ending K cs e (x ∷ xs) = ending K cs (last_end (last_end e (lefts K x cs)) (rights K x cs)) xs
 

@@ -1,9 +1,9 @@
 -- Lists of ranked matrices, and the least key of a set.
 use Rattle.std.specs.Prelude.{◌≡◌, false, List, [], ◌∷◌, Option, Some, None}
 use Rattle.rhythm_base.specs.Paths.{IsRanked}
-use Rattle.rhythm_base.specs.Ranked.{Entries, Key, is_before}
+use Rattle.rhythm_base.specs.Ranked.{CarryMatrix, Key, is_before}
 
-abbrev pub AllRanked : List Entries → Type 0
+abbrev pub AllRanked : List CarryMatrix → Type 0
 AllRanked [] = Unit {0}
 AllRanked (e ∷ es) = IsRanked e × AllRanked es
 

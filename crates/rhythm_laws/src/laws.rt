@@ -3,14 +3,20 @@ ghost use Rattle.rhythm_laws.specs.Laws.{
   BarsAreLocal,
   CountsAreOne,
   DeadBarsAreByCounts,
-  EditsKeepPerformances,
   LeastForestsAreOfTheLeast,
   ListsAreNoPrefixes,
   OneBarIsAVoice,
   OnsetsAreAttached,
+  OneTableIsItsOwn,
   OneWeightIsAsBefore,
+  ProductsTakeTheLeast,
+  PerformancesAreVoices,
   QuietIntervalsAreAlike,
+  ShapesAreOne,
+  TablesAreCheap,
   TablesMultiply,
+  VoicesHaveOneAnswer,
+  TreesHaveShapes,
 };
 
 /// A derivation of a voice fits exactly where each bar fits with the counts at its barlines, and costs the sum of the bars.
@@ -29,7 +35,7 @@ pub fn counts_are_one()
     ensures { CountsAreOne }
 {}
 
-/// Rule lists parse in one way, so that none is the beginning of another.
+/// Rule lists parse in one way, so that none is the beginning of another: the list alone decides the tree.
 pub fn lists_are_no_prefixes()
     ensures { ListsAreNoPrefixes }
 {}
@@ -42,6 +48,16 @@ pub fn dead_bars_are_by_counts()
 /// The table of bars side by side is the product of their tables.
 pub fn tables_multiply()
     ensures { TablesMultiply }
+{}
+
+/// The product of two tables takes the least sum of the costs that meet, and at equal sums the lower rank on the left.
+pub fn products_take_the_least()
+    ensures { ProductsTakeTheLeast }
+{}
+
+/// The table of one bar is the bar's own.
+pub fn one_table_is_its_own()
+    ensures { OneTableIsItsOwn }
 {}
 
 /// A grammar of one onset weight means what it meant before grammars could have two.
@@ -59,17 +75,38 @@ pub fn quiet_intervals_are_alike()
     ensures { QuietIntervalsAreAlike }
 {}
 
-/// The bars at loading, the chords of a voice, its least derivation and the table of a cell are one each.
+/// The merged events and the bars at loading, the chords of a voice, its least derivation and the table of a cell are one each.
 pub fn answers_are_one()
     ensures { AnswersAreOne }
-{}
-
-/// An edit that is not refused leaves a well-formed performance with the same voices.
-pub fn edits_keep_performances()
-    ensures { EditsKeepPerformances }
 {}
 
 /// A tree that fits its bar alone is a derivation of the voice of that one bar.
 pub fn one_bar_is_a_voice()
     ensures { OneBarIsAVoice }
+{}
+
+/// A voice of a well-formed performance is one that the other laws are about.
+pub fn performances_are_voices()
+    ensures { PerformancesAreVoices }
+{}
+
+/// The costs of voices, the dead voice, the cells that a change reaches and the alternatives of a bar are one each.
+pub fn voices_have_one_answer()
+    ensures { VoicesHaveOneAnswer }
+{}
+
+/// The parts of a tree have one shape, and a pin of that shape alone is met by them.
+pub fn shapes_are_one()
+    ensures { ShapesAreOne }
+{}
+
+/// A tree of a readable grammar over its whole bar has a shape that an edit script can say: so each printed alternative can
+/// be pinned.
+pub fn trees_have_shapes()
+    ensures { TreesHaveShapes }
+{}
+
+/// The costs in the table of a cell are small enough to be added up over a chain of bars.
+pub fn tables_are_cheap()
+    ensures { TablesAreCheap }
 {}

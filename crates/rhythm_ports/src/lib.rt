@@ -1,8 +1,8 @@
-// The outside as traits: a source of bytes, a sink for bytes, a shelf of files, a gate for workers.
-// A call fails only where its object's count of faults rises, and contracts can name that count.
-// Each trait has a form in memory, which tells its bytes and fails where it was told to, a sure
-// form, which never fails, and a real form before the system, which tells no bytes. `read_all`,
-// `read_shelf` and `write_all` move a whole input or output through them.
+//! The outside as traits: a source of bytes, a sink for bytes, a shelf of files, a gate for workers.
+//! A call fails only where its object's count of faults rises, and contracts can name that count.
+//! Each trait has a form in memory, which tells its bytes and fails where it was told to, a sure
+//! form, which never fails, and a real form before the system, which tells no bytes. `read_all`,
+//! `read_shelf` and `write_all` move a whole input or output through them.
 #![tactic(auto)]
 
 mod calls;

@@ -1,6 +1,8 @@
 ghost use Rattle.std.specs.Prelude.{◌+◌, ◌≤◌};
 
 use std::alloc::AllocError;
+use std::error::Error;
+use std::fmt;
 
 /// Why an input was not read whole.
 #[derive(Clone, Copy, Debug, PartialEq, Eq)]
@@ -12,6 +14,18 @@ pub enum ReadEnd {
     /// There was no memory for the bytes.
     Memory,
 }
+
+impl fmt::Display for ReadEnd {
+    fn fmt<W: fmt::Write>(&self, f: &mut fmt::Formatter<W>) -> fmt::Result {
+        match self {
+            ReadEnd::Fault => write!(f, "a read failed"),
+            ReadEnd::TooLong { read } => write!(f, "the input is too long: {read} bytes were read"),
+            ReadEnd::Memory => write!(f, "not enough memory"),
+        }
+    }
+}
+
+impl Error for ReadEnd {}
 
 impl From<AllocError> for ReadEnd {
     ghost use Rattle.std.specs.Prelude.{◌≡◌};

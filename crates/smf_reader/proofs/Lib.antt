@@ -5,4 +5,8 @@ pub mod Merging
 pub mod NeverMemory
 pub mod OneOutcome
 pub mod ReadToTheEnd
+pub mod ReadToTheLastTrack
 pub mod ReadInRange
+pub mod StandingBytes
+pub mod StandingEvents
+pub mod StandingChunks

@@ -7,7 +7,7 @@ use Rattle.smf_reader.specs.declared.fault.SmfFault.TheVariants.{NotSmf, Format,
 use Rattle.smf_reader.specs.declared.meaning.Meaning.{Meaning}
 use Rattle.smf_reader.specs.declared.meaning.Meaning.TheVariants as meanings
 use Rattle.smf_reader.specs.Outcome.{◌>>=◌, or_fault}
-use Rattle.smf_reader.specs.Played.{PlayedTrack}
+use Rattle.smf_reader.specs.Played.{Track}
 use Rattle.smf_reader.specs.Bytes.{byte, data_byte, content}
 use Rattle.smf_reader.specs.Quantity.{last_place, endless, quantity}
 use Rattle.smf_reader.specs.Meta.{meta_meaning, meta_event}
@@ -107,7 +107,7 @@ bytes_event bytes tick running p =
     (λ at. chained (bytes_status bytes running at.1)
     (λ head. chained (bytes_message bytes at.1 head.0 head.1) (λ said. value)))
 
-bytes_followed : (m : Meaning) (tick : ℕ) (behind : Result PlayedTrack SmfFault) → IsOfBytes behind → IsOfBytes (followed m tick behind)
+bytes_followed : (m : Meaning) (tick : ℕ) (behind : Result Track SmfFault) → IsOfBytes behind → IsOfBytes (followed m tick behind)
 bytes_followed (meanings.Event what) tick behind sure = chained sure (λ later. value)
 bytes_followed meanings.Skipped tick behind sure = sure
 bytes_followed meanings.EndOfTrack tick behind sure = value

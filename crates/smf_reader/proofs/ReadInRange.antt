@@ -15,7 +15,7 @@ use Rattle.smf_reader.specs.declared.meaning.Meaning.TheVariants as meanings
 use Rattle.smf_reader.specs.declared.event.Step.{Step}
 use Rattle.smf_reader.specs.declared.header.Header.{Header}
 use Rattle.smf_reader.specs.Outcome.{◌>>=◌, or_fault}
-use Rattle.smf_reader.specs.Played.{PlayedFile, PlayedTrack}
+use Rattle.smf_reader.specs.Played.{Smf, Track}
 use Rattle.smf_reader.specs.Bytes.{byte, data_byte, content}
 use Rattle.smf_reader.specs.Quantity.{quantity}
 use Rattle.smf_reader.specs.Meta.{key_signature, meta_meaning, meta_event, signature, tempo, end_of_track}
@@ -195,10 +195,10 @@ climbs_from : (a b : ℕ) (es : List Event) (last : ℕ) → a ≤ b → Climbs 
 climbs_from a b [] last le h = (omega (arith, le, h.0), h.1)
 climbs_from a b (e ∷ es) last le h = (omega (arith, le, h.0), h.1, h.2)
 
-abbrev IsTrackFrom : ℕ → PlayedTrack → Type 0
+abbrev IsTrackFrom : ℕ → Track → Type 0
 IsTrackFrom tick t = Climbs tick t.events t.last
 
-read_followed : (tick : ℕ) (step : Step) (behind : Result PlayedTrack SmfFault) → IsStep tick step → Finds (IsTrackFrom step.tick) behind
+read_followed : (tick : ℕ) (step : Step) (behind : Result Track SmfFault) → IsStep tick step → Finds (IsTrackFrom step.tick) behind
     → (m : Meaning) → step.meaning ≡ m → Finds (IsTrackFrom tick) (followed m step.tick behind)
 read_followed tick step behind is later (meanings.Event what) same =
     chained later (λ t climbs. value {x = begun_by step.tick what t} (is.0, subst IsMeaning same is.2, climbs))
@@ -234,7 +234,7 @@ climbs_all tick [] last h k d lt = absurd (omega (arith, lt))
 climbs_all tick (e ∷ es) last h zero d lt = ((climbs_last e.tick es last h.2).0, h.1)
 climbs_all tick (e ∷ es) last h (suc k) d lt = climbs_all e.tick es last h.2 k d (omega (arith, lt))
 
-is_track : (t : PlayedTrack) → IsTrackFrom 0 t → IsPlayedTrack t
+is_track : (t : Track) → IsTrackFrom 0 t → IsPlayedTrack t
 is_track t h =
     let all = climbs_all 0 t.events t.last h in
     record {
@@ -244,7 +244,7 @@ is_track t h =
       few_ticks = (climbs_last 0 t.events t.last h).1;
     }
 
-all_cons : (t : PlayedTrack) (ts : List PlayedTrack) → IsPlayedTrack t → All IsPlayedTrack ts → All IsPlayedTrack (t ∷ ts)
+all_cons : (t : Track) (ts : List Track) → IsPlayedTrack t → All IsPlayedTrack ts → All IsPlayedTrack (t ∷ ts)
 all_cons t ts one all zero d lt = one
 all_cons t ts one all (suc k) d lt = all k d (omega (arith, lt))
 
@@ -273,7 +273,7 @@ read_header bytes =
     ticks size false true few some = no_value
     ticks size false false few some = value {x = record { tracks = number 2 bytes 10; division = number 2 bytes 12; end = 8 + size }} (grind (arith, nat_tests, some), grind (arith, nat_tests, few))
 
-pub in_range : (bytes : List ℕ) → AreBytes bytes → (played : PlayedFile) → smf bytes ≡ Ok played → IsPlayedFile played
+pub in_range : (bytes : List ℕ) → AreBytes bytes → (played : Smf) → smf bytes ≡ Ok played → IsPlayedFile played
 unfolding smf
 in_range bytes h played is =
     let finds : Finds IsPlayedFile (header bytes >>= λ head. tracks (length bytes) head.tracks bytes head.end >>= λ played. Ok (record { division = head.division; tracks = played })) =

@@ -7,7 +7,7 @@ use Rattle.smf_reader.specs.declared.meaning.Meaning.{Meaning}
 use Rattle.smf_reader.specs.declared.meaning.Meaning.TheVariants as meanings
 use Rattle.smf_reader.specs.declared.event.Step.{Step}
 use Rattle.smf_reader.specs.Outcome.{◌>>=◌, or_fault}
-use Rattle.smf_reader.specs.Played.{PlayedTrack}
+use Rattle.smf_reader.specs.Played.{Track}
 use Rattle.smf_reader.specs.Bytes.{byte, data_byte, content}
 use Rattle.smf_reader.specs.Quantity.{last_place, endless, seven_bits, quantity}
 use Rattle.smf_reader.specs.Meta.{meta_meaning, meta_event}
@@ -15,6 +15,7 @@ use Rattle.smf_reader.specs.Message.{running_after, note_meaning, status, channe
 use Rattle.smf_reader.specs.Event.{tick_after, event}
 use Rattle.smf_reader.specs.Track.{followed, silence, events}
 use Rattle.smf_reader.specs.Outcomes.{IsReadToItsEnd}
+use Rattle.smf_reader.proofs.TrackSteps.{at_end}
 
 -- what is read has this property
 pub record Finds {A : Type 0} (P : A → Type 0) (r : Result A SmfFault) : Type 0 where
@@ -95,7 +96,7 @@ later_event bytes tick running p =
     (λ said more. value {x = record { tick = at.0; meaning = said.0; running = running_after head.0 running; next = said.1 }} (omega arith))))
 
 -- what is read behind an event is the same where what is read from each later place is
-same_behind : (p tick : ℕ) (b : Bool) (r : Result Step SmfFault) (one two : Step → Result PlayedTrack SmfFault) → Finds (λ step. p < step.next) r → ((step : Step) → p < step.next → one step ≡ two step)
+same_behind : (p tick : ℕ) (b : Bool) (r : Result Step SmfFault) (one two : Step → Result Track SmfFault) → Finds (λ step. p < step.next) r → ((step : Step) → p < step.next → one step ≡ two step)
     → cond b (Ok (silence tick)) (r >>= λ step. followed step.meaning step.tick (one step)) ≡ cond b (Ok (silence tick)) (r >>= λ step. followed step.meaning step.tick (two step))
 same_behind p tick true r one two later alike = refl
 same_behind p tick false (Err fault) one two later alike = refl
@@ -111,11 +112,6 @@ enough (suc n) (suc m) bytes tick running p le1 le2 =
     same_behind p tick (leb (length bytes) p) (event bytes tick running p) (λ step. events n bytes step.tick step.running step.next) (λ step. events m bytes step.tick step.running step.next) (later_event bytes tick running p)
     (λ step later. enough n m bytes step.tick step.running step.next (omega arith) (omega arith))
 
-over : (n : ℕ) (bytes : List ℕ) (tick : ℕ) (running : Option ℕ) (p : ℕ) → length bytes ≤ p → events n bytes tick running p ≡ Ok (silence tick)
-unfolding events
-over zero bytes tick running p le = refl
-over (suc n) bytes tick running p le = let e : leb (length bytes) p ≡ true = grind arith in rw e refl
-
 on : (n : ℕ) (bytes : List ℕ) (tick : ℕ) (running : Option ℕ) (p : ℕ) → p < length bytes → length bytes ≤ n
     → events n bytes tick running p ≡ (event bytes tick running p >>= λ step. followed step.meaning step.tick (events n bytes step.tick step.running step.next))
 unfolding events
@@ -128,6 +124,6 @@ on (suc n) bytes tick running p lt le =
 
 pub is_read_to_its_end : (bytes : List ℕ) → IsReadToItsEnd bytes
 is_read_to_its_end bytes = record {
-  over = over (length bytes) bytes;
+  over = at_end (length bytes) bytes;
   on = λ tick running p lt. on (length bytes) bytes tick running p lt (omega arith);
 }

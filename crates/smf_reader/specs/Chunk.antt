@@ -7,7 +7,7 @@ use Rattle.smf_reader.specs.declared.fault.SmfFault.{SmfFault}
 use Rattle.smf_reader.specs.declared.fault.SmfFault.TheVariants.{Truncated}
 use Rattle.smf_reader.specs.declared.chunk.Chunk.{Chunk}
 use Rattle.smf_reader.specs.Outcome.{◌>>=◌}
-use Rattle.smf_reader.specs.Played.{PlayedTrack}
+use Rattle.smf_reader.specs.Played.{Track}
 use Rattle.smf_reader.specs.Track.{track}
 
 -- the number in the n bytes from the place p on, the most significant first
@@ -26,7 +26,7 @@ chunk bytes p =
     }))
 
 -- so many tracks in the chunks from the place p on, at most n chunks
-unfoldable pub tracks : ℕ → ℕ → List ℕ → ℕ → Result (List PlayedTrack) SmfFault
+unfoldable pub tracks : ℕ → ℕ → List ℕ → ℕ → Result (List Track) SmfFault
 tracks n zero bytes p = Ok []
 tracks zero (suc count) bytes p = Err (Truncated (length bytes))
 tracks (suc n) (suc count) bytes p = do

@@ -1,4 +1,5 @@
 -- Events of a track (Standard MIDI Files 1.0, "MTrk event"): a delta time and a message.
+use Rattle.rhythm_base.specs.declared.limits.TheConstants.{LATEST_EVENT}
 use Rattle.std.specs.Prelude.{ℕ, ◌+◌, nat_le, if◌then◌else◌, List, Option, Result, Ok, Err}
 use Rattle.smf_reader.specs.declared.fault.SmfFault.{SmfFault}
 use Rattle.smf_reader.specs.declared.fault.SmfFault.TheVariants.{TooLate}
@@ -11,7 +12,7 @@ use Rattle.smf_reader.specs.Message.{status, running_after, message}
 unfoldable pub tick_after : List ℕ → ℕ → ℕ → Result (ℕ × ℕ) SmfFault
 tick_after bytes tick p = do
   delta ← quantity bytes p
-  if nat_le (tick + delta.0) 1000000000 then Ok (tick + delta.0, delta.1) else Err (TooLate p)
+  if nat_le (tick + delta.0) LATEST_EVENT then Ok (tick + delta.0, delta.1) else Err (TooLate p)
 
 -- the event at the place p, behind the tick and the last channel status
 unfoldable pub event : List ℕ → ℕ → Option ℕ → ℕ → Result Step SmfFault

@@ -15,11 +15,11 @@ or_fault None fault = Err fault
 or_fault (Some x) fault = Ok x
 
 -- what was read, seen as a contract sees it
-abbrev pub seen : {A B : Type 0} → (A → B) → Result A SmfFault → Result B SmfFault
-seen view (Ok x) = Ok (view x)
-seen view (Err fault) = Err fault
+abbrev pub seen_file : {A B : Type 0} → (A → B) → Result A SmfFault → Result B SmfFault
+seen_file view (Ok x) = Ok (view x)
+seen_file view (Err fault) = Err fault
 
 -- what a reader returned is what reading comes to, unless memory ran out
-abbrev pub Gives : {A : Type 0} → Result A SmfFault → Result A SmfFault → Type 0
-Gives (Ok x) outcome = outcome ≡ Ok x
-Gives (Err fault) outcome = fault ≢ Memory → outcome ≡ Err fault
+abbrev pub GivesFile : {A : Type 0} → Result A SmfFault → Result A SmfFault → Type 0
+GivesFile (Ok x) outcome = outcome ≡ Ok x
+GivesFile (Err fault) outcome = fault ≢ Memory → outcome ≡ Err fault

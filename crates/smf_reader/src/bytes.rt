@@ -1,5 +1,5 @@
 ghost use Rattle.std.specs.Prelude.{◌≡◌, ◌+◌, ◌<◌, ◌≤◌, IfOk, length, drop};
-ghost use Rattle.smf_reader.specs.Outcome.{seen};
+ghost use Rattle.smf_reader.specs.Outcome.{seen_file};
 ghost use Rattle.smf_reader.specs.Bytes.{byte, data_byte, content};
 ghost use Rattle.smf_reader.specs.declared.fault.SmfFault.TheVariants.{Truncated};
 
@@ -50,7 +50,7 @@ pub(crate) fn read_data_byte(bytes: &[u8], at: usize) -> Result<u8, SmfFault>
 /// The bytes from this place on, as many as `size`.
 pub(crate) fn read_content(bytes: &[u8], at: usize, size: u32) -> Result<&[u8], SmfFault>
     requires { at ≤ length bytes.now }
-    ensures value { seen (λ c. c.now) result ≡ content bytes.now at size }
+    ensures value { seen_file (λ c. c.now) result ≡ content bytes.now at size }
     ensures within { IfOk result (λ _. at + size ≤ length bytes.now) }
 {
     match bytes_from(bytes, at).split_at_checked(size as usize) {

@@ -1,5 +1,5 @@
 ghost use Rattle.std.specs.Prelude.{◌≡◌, ◌+◌, ◌<◌, ◌≤◌, IfOk, length};
-ghost use Rattle.smf_reader.specs.Outcome.{Gives, seen};
+ghost use Rattle.smf_reader.specs.Outcome.{GivesFile, seen_file};
 ghost use Rattle.smf_reader.specs.Chunk.{chunk, number, tracks};
 
 use crate::bytes::{bytes_from, truncated};
@@ -58,7 +58,7 @@ pub(crate) fn read_tracks(
     at: usize,
 ) -> Result<Vec<Track>, SmfFault>
     requires { at ≤ length bytes.now }
-    ensures { Gives (seen (λ v. v.items) result) (tracks (length bytes.now) count bytes.now at) }
+    ensures { GivesFile (seen_file (λ v. v.items) result) (tracks (length bytes.now) count bytes.now at) }
 {
     let mut tracks = Vec::new(alloc);
     let mut left = count;

@@ -1,3 +1,4 @@
+ghost use Rattle.rhythm_base.specs.declared.limits.TheConstants.{LATEST_EVENT};
 ghost use Rattle.std.specs.Prelude.{◌≡◌, ◌<◌, ◌≤◌, IfOk, length};
 ghost use Rattle.smf_reader.specs.Event.{event, tick_after};
 
@@ -5,9 +6,7 @@ use crate::fault::SmfFault;
 use crate::meaning::Meaning;
 use crate::message::{read_message, read_status, running_after};
 use crate::quantity::read_quantity;
-
-/// The greatest tick that a file may reach.
-const LAST_TICK: u64 = 1_000_000_000;
+use rhythm_base::LATEST_EVENT;
 
 /// An event, and what stands behind it.
 #[derive(Clone, Copy, Debug, PartialEq, Eq)]
@@ -26,14 +25,14 @@ pub(crate) struct Step {
 #[tactic(auto, unfolding(crate::specs::Event::tick_after))]
 fn read_tick(bytes: &[u8], tick: u64, at: usize) -> Result<(u64, usize), SmfFault>
     requires place { at ≤ length bytes.now }
-    requires tick { tick ≤ LAST_TICK }
+    requires tick { tick ≤ LATEST_EVENT }
     ensures value { result ≡ tick_after bytes.now tick at }
-    ensures limit { IfOk result (λ d. d.0 ≤ LAST_TICK) }
+    ensures limit { IfOk result (λ d. d.0 ≤ LATEST_EVENT) }
     ensures later { IfOk result (λ d. at < d.1) }
 {
     let (delta, place) = read_quantity(bytes, at)?;
     let tick = tick + u64::from(delta);
-    if tick <= LAST_TICK {
+    if tick <= LATEST_EVENT {
         Ok((tick, place))
     } else {
         Err(SmfFault::TooLate { at: at as u64 })
@@ -49,9 +48,9 @@ pub(crate) fn read_event(
     at: usize,
 ) -> Result<Step, SmfFault>
     requires place { at ≤ length bytes.now }
-    requires tick { tick ≤ LAST_TICK }
+    requires tick { tick ≤ LATEST_EVENT }
     ensures value { result ≡ event bytes.now tick running at }
-    ensures limit { IfOk result (λ s. s.tick ≤ LAST_TICK) }
+    ensures limit { IfOk result (λ s. s.tick ≤ LATEST_EVENT) }
     ensures later { IfOk result (λ s. at < s.next) }
     ensures within { IfOk result (λ s. s.next ≤ length bytes.now) }
 {

@@ -2,6 +2,8 @@ ghost use Rattle.std.specs.Prelude.{◌≡◌};
 ghost use Rattle.smf_reader.specs.declared.fault.SmfFault.TheVariants.{Memory};
 
 use std::alloc::{AllocError, AllocFailed};
+use std::error::Error;
+use std::fmt;
 
 /// Why bytes could not be read as a Standard MIDI File: the first fault in the order of reading. Places are offsets from
 /// the beginning of the bytes.
@@ -32,6 +34,33 @@ pub enum SmfFault {
     /// There was not enough memory.
     Memory,
 }
+
+impl fmt::Display for SmfFault {
+    fn fmt<W: fmt::Write>(&self, f: &mut fmt::Formatter<W>) -> fmt::Result {
+        match self {
+            SmfFault::NotSmf => write!(f, "the file is no Standard MIDI File"),
+            SmfFault::Format(format) => write!(f, "files of format {format} are not read"),
+            SmfFault::Smpte => write!(f, "the division counts the frames of a film"),
+            SmfFault::ZeroDivision => write!(f, "a quarter note has no ticks"),
+            SmfFault::Truncated { at } => write!(f, "the file ends too early at byte {at}"),
+            SmfFault::BadQuantity { at } => write!(f, "the number at byte {at} has too many bytes"),
+            SmfFault::NoStatus { at } => write!(f, "a status byte is missing at byte {at}"),
+            SmfFault::BadStatus { at } => write!(f, "no event has the status at byte {at}"),
+            SmfFault::BadData { at } => write!(f, "byte {at} is no data byte"),
+            SmfFault::BadMeta { at } => write!(
+                f,
+                "the meta event at byte {at} has a wrong length or content"
+            ),
+            SmfFault::TooLate { at } => write!(
+                f,
+                "the delta time at byte {at} leads past the latest tick"
+            ),
+            SmfFault::Memory => write!(f, "not enough memory"),
+        }
+    }
+}
+
+impl Error for SmfFault {}
 
 impl From<AllocError> for SmfFault {
     ghost from_gives = { λ _ e. e ≡ Memory };

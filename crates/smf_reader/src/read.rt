@@ -1,4 +1,4 @@
-ghost use Rattle.smf_reader.specs.Outcome.{Gives};
+ghost use Rattle.smf_reader.specs.Outcome.{GivesFile};
 ghost use Rattle.smf_reader.specs.SmfFile.{smf};
 
 use crate::chunk::read_tracks;
@@ -12,7 +12,7 @@ use std::alloc::Global;
 #[tactic(auto, unfolding(crate::specs::SmfFile::smf))]
 pub fn read_smf(alloc: Global, bytes: &[u8]) -> Result<Smf, SmfFault>
     // The file's one reading, or the one fault that stands in it.
-    ensures { Gives result (smf bytes.now) }
+    ensures { GivesFile result (smf bytes.now) }
 {
     let header = read_header(bytes)?;
     let tracks = read_tracks(alloc, header.tracks, bytes, header.end)?;

@@ -1,7 +1,7 @@
 ghost use Rattle.std.specs.Prelude.{◌≡◌, IfOk, map};
 ghost use Rattle.std.specs.List.{flat_map};
 ghost use Rattle.rhythm_base.specs.Events.{IsMerged};
-ghost use Rattle.smf_reader.specs.Played.{greatest};
+ghost use Rattle.rhythm_base.specs.Lists.{greatest};
 
 use rhythm_base::Event;
 use std::alloc::{AllocError, Global};
@@ -17,9 +17,9 @@ pub struct Track {
 }
 
 impl Model for Track {
-    ghost use Rattle.smf_reader.specs.Played.{PlayedTrack};
+    ghost use Rattle.smf_reader.specs.Played.{Track};
 
-    ghost Value = { PlayedTrack };
+    ghost Value = { Track };
 
     ghost view = { λ t. record { events = t.events.items; last = t.last } };
 }
@@ -34,9 +34,9 @@ pub struct Smf {
 }
 
 impl Model for Smf {
-    ghost use Rattle.smf_reader.specs.Played.{PlayedFile};
+    ghost use Rattle.smf_reader.specs.Played.{Smf};
 
-    ghost Value = { PlayedFile };
+    ghost Value = { Smf };
 
     ghost view = { λ s. record { division = s.division; tracks = s.tracks.items } };
 }

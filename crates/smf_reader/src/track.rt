@@ -1,5 +1,5 @@
 ghost use Rattle.std.specs.Prelude.{◌≤◌, length};
-ghost use Rattle.smf_reader.specs.Outcome.{Gives};
+ghost use Rattle.smf_reader.specs.Outcome.{GivesFile};
 ghost use Rattle.smf_reader.specs.Track.{track};
 
 use crate::event::read_event;
@@ -12,7 +12,7 @@ use std::alloc::Global;
 /// The track whose events begin at this place and whose chunk ends with the bytes.
 pub(crate) fn read_track(alloc: Global, bytes: &[u8], at: usize) -> Result<Track, SmfFault>
     requires { at ≤ length bytes.now }
-    ensures { Gives result (track bytes.now at) }
+    ensures { GivesFile result (track bytes.now at) }
 {
     let mut events = Vec::new(alloc);
     let mut last = 0;

@@ -6,12 +6,13 @@ use Rattle.std.proofs.lemmas.Bool.{cases_lt}
 use Rattle.std.proofs.lemmas.List.Elements.{All-cons}
 use Rattle.std.proofs.lemmas.List.{take-append-le, length-append, take_all}
 use Rattle.rhythm_base.specs.declared.bar_fault.BarFault.{BarFault}
+use Rattle.rhythm_base.specs.declared.bar_fault.BarFault.TheVariants.{TooManyBars, BadSignature, UnevenBar, Memory}
 use Rattle.rhythm_base.specs.declared.event.Signature.{Signature}
 use Rattle.rhythm_base.specs.declared.note.Bar.{Bar}
-use Rattle.rhythm_base.specs.Bars.{fault_at, signature_at, nominal_at, AreLaid, AreEnough, AreFew, IsAtBarline, IsLaying}
-use Rattle.rhythm_base.specs.Performed.{IsBarOf}
-use Rattle.rhythm_base.specs.Time.{last_of}
-use Rattle.tempo_map.specs.Laying.{AreBars, IsBarAt}
+use Rattle.rhythm_base.specs.Bars.{fault_at, signature_at, nominal_at, AreLaid, AreEnough, AreTooFew, IsAtBarline, IsLaying}
+use Rattle.rhythm_base.specs.Performance.{IsBarOf}
+use Rattle.rhythm_base.specs.Lists.{last_of}
+use Rattle.tempo_map.specs.Laying.{AreBars, IsBarAt, Lays}
 use Rattle.tempo_map.proofs.SoundBars.{no_fault, nominal_few, nominal_some}
 
 -- the bars decide where they end
@@ -47,7 +48,7 @@ last_snoc (y ∷ z ∷ xs) x =
 -- the bars so far, none of whose fronts is enough
 pub record Laying (d : ℕ) (s : List Signature) (onset end : ℕ) (bars : List Bar) (e : ℕ) : Type 0 where
   pub laid : AreLaid d s 0 0 bars e
-  pub few : (k : ℕ) → k < length bars → AreFew d s onset end bars k
+  pub few : (k : ℕ) → k < length bars → AreTooFew d s onset end bars k
   pub count : length bars ≤ 4096
   pub close : IsClose (last_of bars) e
   pub near : e ≤ 1016776704
@@ -56,7 +57,7 @@ pub laying_none : (d : ℕ) (s : List Signature) (onset end : ℕ) → Laying d 
 laying_none d s onset end = record { laid = refl; few = λ k h. absurd (omega arith); count = omega arith; close = refl; near = omega arith }
 
 -- bars that are not enough are few
-pub all_few : (d : ℕ) (s : List Signature) (onset end : ℕ) (bars : List Bar) (e : ℕ) → AreLaid d s 0 0 bars e → (AreEnough onset end bars e → ⊥) → AreFew d s onset end bars (length bars)
+pub all_few : (d : ℕ) (s : List Signature) (onset end : ℕ) (bars : List Bar) (e : ℕ) → AreLaid d s 0 0 bars e → (AreEnough onset end bars e → ⊥) → AreTooFew d s onset end bars (length bars)
 all_few d s onset end bars e laid more f there enough =
     let whole : take (length bars) bars ≡ bars = take_all (length bars) bars (omega arith) in
     let same : f ≡ e = one_end d s 0 0 bars f e (subst (λ l. AreLaid d s 0 0 l f) whole there) laid in
@@ -88,7 +89,7 @@ laying_more d s onset end bars e bar low le early h more at =
           subst (λ l. (f : ℕ) → AreLaid d s 0 0 l f → AreEnough onset end l f → ⊥) (sym (take-append-le k bars (bar ∷ []) within))
           (elim (cases_lt k (length bars)) [
             | inl lt ↦ h.few k lt
-            | inr ge ↦ (let at : length bars ≡ k = omega arith in subst (AreFew d s onset end bars) at (all_few d s onset end bars e h.laid more))
+            | inr ge ↦ (let at : length bars ≡ k = omega arith in subst (AreTooFew d s onset end bars) at (all_few d s onset end bars e h.laid more))
           ]);
       count = omega (arith, length-append bars (bar ∷ []), h.count, sound.number);
       close = rw (last_snoc bars bar) (omega (arith, start, short));
@@ -156,7 +157,14 @@ is_fault d s onset end bars e fault h more at = (
   h.laid,
   (λ k le. elim (cases_lt k (length bars)) [
     | inl lt ↦ h.few k lt
-    | inr ge ↦ (let same : length bars ≡ k = omega arith in subst (AreFew d s onset end bars) same (all_few d s onset end bars e h.laid more))
+    | inr ge ↦ (let same : length bars ≡ k = omega arith in subst (AreTooFew d s onset end bars) same (all_few d s onset end bars e h.laid more))
   ]),
   at,
 )
+
+-- and so what laying comes to
+pub lays_fault : (d : ℕ) (s : List Signature) (onset end : ℕ) (fault : BarFault) → IsLaying d s onset end (Err fault) → Lays d s onset end (Err fault)
+lays_fault d s onset end (TooManyBars start) h = h
+lays_fault d s onset end (BadSignature num dd) h = h
+lays_fault d s onset end (UnevenBar bar num den) h = h
+lays_fault d s onset end Memory h = tt

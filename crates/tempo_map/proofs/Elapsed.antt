@@ -8,8 +8,9 @@ use Rattle.std.proofs.lemmas.List.{get_or_default, get_or-map, length-map, get_o
 use Rattle.std.proofs.Math.Seq.{get_or-append_seam}
 use Rattle.std.proofs.Math.Nat.{mul-le-mul_left}
 use Rattle.rhythm_base.specs.declared.event.Tempo.{Tempo}
-use Rattle.rhythm_base.specs.Time.{last_of, time, micros_or}
-use Rattle.tempo_map.specs.Timed.{AreUpTo, IsElapsedAt, AreElapsed}
+use Rattle.rhythm_base.specs.Lists.{last_of}
+use Rattle.rhythm_base.specs.Time.{time, micros_or}
+use Rattle.tempo_map.specs.TempoMap.{AreUpTo, IsElapsedAt, AreElapsed}
 use Rattle.tempo_map.proofs.InForce.{by_tick, time_from, last_taken}
 
 abbrev pub tick_at : List Tempo → ℕ → ℕ

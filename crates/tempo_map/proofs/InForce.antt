@@ -6,8 +6,9 @@ use Rattle.std.specs.List.Sorted.{IsNonDecreasing, IsNonDecreasingBy, IsPartitio
 use Rattle.std.proofs.lemmas.List.{get_or-map, length-map}
 use Rattle.std.proofs.lemmas.Bool.Decides.{nat_tests}
 use Rattle.rhythm_base.specs.declared.event.Tempo.{Tempo}
-use Rattle.tempo_map.specs.Timed.{AreUpTo}
-use Rattle.rhythm_base.specs.Time.{in_force, last_of, time, tempo_at, micros_or}
+use Rattle.tempo_map.specs.TempoMap.{AreUpTo}
+use Rattle.rhythm_base.specs.Lists.{last_of}
+use Rattle.rhythm_base.specs.Time.{in_force, time, tempo_at, micros_or}
 
 -- a filter that passes a front of a list and no more
 pub filter_front : {X : Type 0} (p : X → Bool) (xs : List X) (n : ℕ) → n ≤ length xs → AllWithin (λ y. p y ≡ true) xs 0 n → AllWithin (λ y. p y ≡ false) xs n (length xs) → filter p xs ≡ take n xs
@@ -65,9 +66,3 @@ found_up_to tick xs n t within found = record {
 
 pub force_up_to : {X : Type 0} (tick : X → ℕ) (xs : List X) (n t : ℕ) → AreUpTo tick xs t n → in_force tick xs t ≡ last_of (take n xs)
 force_up_to tick xs n t up = force_at tick xs n t up.within up.past up.ahead
-
--- the order of a list by tick, as contracts want it
-pub in_order : {X : Type 0} (tick : X → ℕ) (xs : List X) (e : X) → IsNonDecreasingBy tick xs → IsNonDecreasing (map tick xs)
-in_order tick xs e h i j d le within =
-    let long = length-map xs tick in
-    omega (arith, long, get_or-map tick xs i e d (omega arith), get_or-map tick xs j e d (omega arith), h i j e le (omega arith))

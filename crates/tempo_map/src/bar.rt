@@ -1,13 +1,11 @@
+ghost use Rattle.rhythm_base.specs.declared.limits.TheConstants.{MOST_BARS};
 ghost use Rattle.std.specs.Prelude.{◌≡◌, ◌≤◌, ◌*◌, ◌/◌, map};
 ghost use Rattle.std.specs.List.Sorted.{IsNonDecreasing};
 ghost use Rattle.rhythm_base.specs.Bars as laying;
 ghost use Rattle.tempo_map.specs.Laying.{IsBarAt};
 
 use crate::in_force::signature_in_force;
-use rhythm_base::{Bar, BarFault, Signature};
-
-/// The most bars of a score.
-const MOST_BARS: usize = 4096;
+use rhythm_base::{Bar, BarFault, MOST_BARS, Signature};
 
 /// The beats of the signature in force at a tick, and the power of two that is the value of a beat: 4/4 before the first
 /// change.
@@ -29,10 +27,10 @@ pub fn bar_at(
     start: u64,
 ) -> Result<Bar, BarFault>
     requires signatures { IsNonDecreasing (map (λ s. s.tick) signatures.now) }
-    requires number { number ≤ 4096 }
+    requires number { number ≤ MOST_BARS }
     ensures { IsBarAt division signatures.now number start result }
 {
-    if number == MOST_BARS {
+    if number == MOST_BARS as usize {
         return Err(BarFault::TooManyBars { start });
     }
     let (num, dd) = signature_at(signatures, start);

@@ -1,7 +1,7 @@
 ghost use Rattle.std.specs.Prelude.{◌≡◌, map, option_map};
 ghost use Rattle.std.specs.List.Sorted.{IsNonDecreasing};
 ghost use Rattle.rhythm_base.specs.Time.{in_force};
-ghost use Rattle.tempo_map.specs.Timed.{AreUpTo};
+ghost use Rattle.tempo_map.specs.TempoMap.{AreUpTo};
 
 use rhythm_base::{KeyMark, Signature, Tempo};
 

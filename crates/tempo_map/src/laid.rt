@@ -1,12 +1,12 @@
+ghost use Rattle.rhythm_base.specs.declared.limits.TheConstants.{LATEST_TICK, LATEST_EVENT, MOST_DIVISION};
 ghost use Rattle.std.specs.Prelude.{◌≡◌, ◌≤◌, ◌<◌, ◌↔◌, IsTrue, IfOk, map};
 ghost use Rattle.std.specs.List.Sorted.{IsNonDecreasing};
 ghost use Rattle.rhythm_base.specs.Bars.{AreEnough, IsAtBarline};
-ghost use Rattle.rhythm_base.specs.Time.{last_of};
+ghost use Rattle.rhythm_base.specs.Lists.{last_of};
 ghost use Rattle.tempo_map.specs.Laying.{AreBars, Lays};
 
 use crate::bar::{bar_at, nominal};
-use crate::fault::LayFault;
-use rhythm_base::{Bar, Signature};
+use rhythm_base::{Bar, BarFault, Signature};
 use std::alloc::Global;
 use std::marker::Model;
 
@@ -20,16 +20,16 @@ pub struct Laid {
 }
 
 impl Model for Laid {
-    ghost use Rattle.tempo_map.specs.Laying.{LaidBars};
+    ghost use Rattle.tempo_map.specs.Laying.{Laid};
 
-    ghost Value = { LaidBars };
+    ghost Value = { Laid };
 
     ghost view = { λ l. record { bars = l.bars.items; last = l.last } };
 }
 
 /// Whether the onset is in the last sixteenth of the last bar, which ends at `end`.
 fn is_at_barline(bars: &[Bar], end: u64, onset: u64) -> bool
-    requires near { end ≤ 2000000000 }
+    requires near { end ≤ LATEST_TICK }
     requires before { onset < end }
     ensures { IsTrue result ↔ IsAtBarline onset (last_of bars.now) end }
 {
@@ -41,7 +41,7 @@ fn is_at_barline(bars: &[Bar], end: u64, onset: u64) -> bool
 
 /// Whether bars up to `end` are enough for notes of this last onset and this last end.
 fn are_enough(bars: &[Bar], end: u64, last_onset: u64, last_end: u64) -> bool
-    requires { end ≤ 2000000000 }
+    requires { end ≤ LATEST_TICK }
     ensures { IsTrue result ↔ AreEnough last_onset last_end bars.now end }
 {
     last_end <= end && last_onset < end && !is_at_barline(bars, end, last_onset)
@@ -57,12 +57,12 @@ pub fn lay_bars(
     signatures: &[Signature],
     last_onset: u64,
     last_end: u64,
-) -> Result<Laid, LayFault>
+) -> Result<Laid, BarFault>
     requires some_tick { 1 ≤ division }
-    requires few_ticks { division ≤ 32767 }
+    requires few_ticks { division ≤ MOST_DIVISION }
     requires signatures { IsNonDecreasing (map (λ s. s.tick) signatures.now) }
     requires onset { last_onset ≤ last_end }
-    requires end { last_end ≤ 1000000000 }
+    requires end { last_end ≤ LATEST_EVENT }
     ensures laid { Lays division signatures.now last_onset last_end result }
     ensures formed { IfOk result (λ l. AreBars division l.bars l.last) }
 {

@@ -1,15 +1,13 @@
+ghost use Rattle.rhythm_base.specs.declared.limits.TheConstants.{LATEST_TICK};
 ghost use Rattle.std.specs.Prelude.{◌≡◌, ◌≤◌, IfOk, map};
 ghost use Rattle.std.specs.List.Sorted.{IsNonDecreasing};
 ghost use Rattle.rhythm_base.specs.Time as times;
-ghost use Rattle.tempo_map.specs.Timed.{AreElapsed, Timed};
+ghost use Rattle.tempo_map.specs.TempoMap.{AreElapsed, TempoMap};
 
 use crate::in_force::{key_in_force, tempo_in_force, tempos_up_to};
-use rhythm_base::{KeyMark, Tempo};
+use rhythm_base::{KeyMark, LATEST_TICK, Tempo};
 use std::alloc::{AllocError, Global};
 use std::marker::Model;
-
-/// The greatest tick of a score, that of the latest last barline. Time is told up to here.
-const LATEST: u64 = 2_000_000_000;
 
 /// The tempo where there is no change yet, in microseconds of a quarter note.
 const USUAL: u32 = 500_000;
@@ -24,13 +22,13 @@ pub struct TempoMap {
 }
 
 impl Model for TempoMap {
-    ghost use Rattle.tempo_map.specs.Timed.{IsTimed, Timed};
+    ghost use Rattle.tempo_map.specs.TempoMap.{IsTempoMap, TempoMap};
 
-    ghost Value = { Timed };
+    ghost Value = { TempoMap };
 
     ghost view = { λ m. record { tempos = m.tempos.items; key_marks = m.key_marks.items } };
 
-    ghost invariant = { λ m. IsTimed m.tempos.items m.elapsed.items m.key_marks.items };
+    ghost invariant = { λ m. IsTempoMap m.tempos.items m.elapsed.items m.key_marks.items };
 }
 
 /// The elapsed time at each change of tempo that is no later than the greatest tick of a score.
@@ -45,7 +43,7 @@ fn elapsed_of(alloc: Global, tempos: &[Tempo]) -> Result<Vec<u64>, AllocError>
         micros: USUAL,
     };
     for tempo in tempos {
-        if tempo.tick > LATEST {
+        if tempo.tick > LATEST_TICK {
             return Ok(elapsed);
         }
         time += (tempo.tick - last.tick) * u64::from(last.micros);
@@ -59,7 +57,7 @@ fn elapsed_of(alloc: Global, tempos: &[Tempo]) -> Result<Vec<u64>, AllocError>
 fn time_at(tempos: &[Tempo], elapsed: &[u64], tick: u64) -> u64
     requires order { IsNonDecreasing (map (λ t. t.tick) tempos.now) }
     requires elapsed { AreElapsed tempos.now elapsed.now }
-    requires tick { tick ≤ 2000000000 }
+    requires tick { tick ≤ LATEST_TICK }
     ensures { result ≡ times.time tempos.now tick }
 {
     let count = tempos_up_to(tempos, tick);
@@ -92,7 +90,7 @@ impl TempoMap {
     /// The elapsed time at a tick, in microseconds over the division: divided by the ticks of a quarter note it is
     /// microseconds.
     pub fn time(&self, tick: u64) -> u64
-        requires { tick ≤ 2000000000 }
+        requires { tick ≤ LATEST_TICK }
         ensures { result ≡ times.time self.now.tempos tick }
     {
         time_at(self.tempos.as_slice(), self.elapsed.as_slice(), tick)
@@ -100,7 +98,7 @@ impl TempoMap {
 
     /// The tempo in force at a tick, in microseconds of a quarter note.
     pub fn tempo_at(&self, tick: u64) -> u32
-        requires { tick ≤ 2000000000 }
+        requires { tick ≤ LATEST_TICK }
         ensures { result ≡ times.tempo_at self.now.tempos tick }
     {
         match tempo_in_force(self.tempos.as_slice(), tick) {
@@ -111,7 +109,7 @@ impl TempoMap {
 
     /// The key in force at a tick, as sharps where above 0 and flats where below, and none before the first change.
     pub fn key_at(&self, tick: u64) -> Option<i8>
-        requires { tick ≤ 2000000000 }
+        requires { tick ≤ LATEST_TICK }
         ensures { result ≡ times.key_at self.now.key_marks tick }
     {
         key_in_force(self.key_marks.as_slice(), tick).map(|mark| mark.sf)

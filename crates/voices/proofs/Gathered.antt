@@ -1,8 +1,6 @@
--- The chords of a voice as they are gathered; their onsets rise.
-use Rattle.std.proofs.Common.{◌≡◌, ℕ, zero, suc, ◌+◌, ◌-◌, ◌*◌, ◌^◌, ◌<◌, ◌≤◌, List, [], ◌∷◌, ◌++◌, length, map, get_or, drop, append_assoc, refl, sym, ap, ◌∙◌, subst, inl, inr, arith}
-use Rattle.std.specs.Prelude.{All, max, bit_or, fold, slice_index}
-use Rattle.std.specs.List.Sorted.{IsStrictlyIncreasing}
-use Rattle.std.proofs.lemmas.Bool.{cases_lt}
+-- The chords of a voice as they are gathered.
+use Rattle.std.proofs.Common.{◌≡◌, ℕ, suc, ◌+◌, ◌-◌, ◌*◌, ◌^◌, ◌<◌, ◌≤◌, List, [], ◌∷◌, ◌++◌, length, get_or, drop, append_assoc, refl, sym, ap, ◌∙◌, subst, arith}
+use Rattle.std.specs.Prelude.{All, max, bit_or}
 use Rattle.std.proofs.lemmas.List.Elements.{All-cons, All-nil, All-append}
 use Rattle.std.proofs.Math.Seq.{drop-cons}
 use Rattle.std.proofs.lemmas.Grind.{fold-append}
@@ -11,30 +9,14 @@ use Rattle.std.proofs.lemmas.Bool.Decides.{nat_tests}
 use Rattle.std.specs.Ordering.{nat_cmp}
 use Rattle.std.specs.declared.cmp.Ordering.TheVariants.{Less}
 use Rattle.std.specs.Cmp.Lexicographic.{slice_cmp}
-use Rattle.rhythm_base.specs.Performed.{place_of_note}
-use Rattle.voices.specs.Voice.{IsVoice}
+use Rattle.rhythm_base.specs.Performance.{place_of_note}
+use Rattle.rhythm_laws.proofs.ChordLemmas.{time_rises}
+use Rattle.voices.specs.Voice.{AreNotesOfVoice}
 use Rattle.rhythm_base.specs.declared.chord.Chord.{Chord}
 use Rattle.rhythm_base.specs.declared.event.Tempo.{Tempo}
 use Rattle.rhythm_base.specs.declared.note.Note.{Note}
-use Rattle.rhythm_base.specs.Chords.{AreChords, Joins, StandsApart, chord_of}
-use Rattle.rhythm_base.specs.Time.{time, tempo_at}
-
--- ---- time does not fall
-
-more_time : (tempos : List Tempo) (t d : ℕ) → time tempos t ≤ time tempos (t + d)
-unfolding time
-more_time tempos t zero = let e : t + 0 ≡ t = omega arith in subst (λ n. time tempos t ≤ time tempos n) (sym e) (omega arith)
-more_time tempos t (suc d) =
-    let e : t + suc d ≡ suc (t + d) = omega arith in
-    let h = more_time tempos t d in
-    let step : time tempos (suc (t + d)) ≡ time tempos (t + d) + tempo_at tempos (t + d) = refl in
-    subst (λ n. time tempos t ≤ time tempos n) (sym e) (omega (arith, h, step))
-
-pub time_rises : (tempos : List Tempo) (t u : ℕ) → t ≤ u → time tempos t ≤ time tempos u
-time_rises tempos t u le = let e : t + (u - t) ≡ u = omega arith in subst (λ n. time tempos t ≤ time tempos n) e (more_time tempos t (u - t))
-
-after_window : (tempos : List Tempo) (t u w : ℕ) → time tempos t + w < time tempos u → t < u
-after_window tempos t u w h = elim (cases_lt t u) [ inl l ↦ l | inr ge ↦ absurd (let r = time_rises tempos u t ge in omega (arith, r, h)) ]
+use Rattle.rhythm_base.specs.Chords.{AreChords, Joins, chord_of}
+use Rattle.rhythm_base.specs.Time.{time}
 
 -- ---- the chords so far
 
@@ -88,67 +70,12 @@ gathering_apart tempos division window notes done next chord begin n later start
 pub gathering_last : (tempos : List Tempo) (division window : ℕ) (notes : List Note) (done : List Chord) (chord : Chord) (begin : ℕ) → Gathering tempos division window notes done chord begin [] → AreChords tempos division window notes (done ++ chord ∷ [])
 gathering_last tempos division window notes done chord begin g = g.whole (chord ∷ []) (g.first, g.others, [], refl, g.joins, tt, g.is, refl)
 
--- ---- laws
-
-pub onsets_rise : (tempos : List Tempo) (division window : ℕ) (notes : List Note) (cs : List Chord) → AreChords tempos division window notes cs → IsStrictlyIncreasing (map (λ c. c.onset) cs)
-onsets_rise tempos division window notes [] h = λ k l. absurd (omega arith)
-onsets_rise tempos division window notes (c ∷ []) h = λ k l. absurd (omega arith)
-onsets_rise tempos division window notes (c ∷ d ∷ cs) (f, xs, us, e, p, a, m, (g, ys, vs, i, q, b, n, h)) = go (onsets_rise tempos division window us (d ∷ cs) (g, ys, vs, i, q, b, n, h))
-  where
-    rises : c.onset < d.onset
-    rises =
-        let apart : StandsApart tempos division window f (g ∷ (ys ++ vs)) = subst (StandsApart tempos division window f) i a in
-        let low : c.onset ≡ f.onset = ap (λ (x : Chord). x.onset) m in
-        let high : d.onset ≡ g.onset = ap (λ (x : Chord). x.onset) n in
-        let less = after_window tempos f.onset g.onset (window * division) apart in
-        omega (arith, low, high, less)
-
-    go : IsStrictlyIncreasing (map (λ x. x.onset) (d ∷ cs)) → (k : ℕ) → k + 1 < length (map (λ x. x.onset) (c ∷ d ∷ cs)) → slice_index (map (λ x. x.onset) (c ∷ d ∷ cs)) k < slice_index (map (λ x. x.onset) (c ∷ d ∷ cs)) (k + 1)
-    go rest zero l = rises
-    go rest (suc k) l =
-        let moved : suc k + 1 ≡ suc (k + 1) = omega arith in
-        subst (λ n. slice_index (map (λ (x : Chord). x.onset) (d ∷ cs)) k < slice_index (map (λ (x : Chord). x.onset) (c ∷ d ∷ cs)) n) (sym moved) (rest k (omega arith))
-
--- ---- ends
-
-end_low : (e : ℕ) (ns : List Note) → e ≤ fold (λ k m. max k m.end) e ns
-end_low e [] = omega arith
-end_low e (n ∷ ns) = let h = end_low (max e n.end) ns in omega (arith, h)
-
-end_high : (e high : ℕ) (ns : List Note) → e ≤ high → All (λ m. m.end ≤ high) ns → fold (λ k m. max k m.end) e ns ≤ high
-end_high e high [] le h = le
-end_high e high (n ∷ ns) le h =
-    let one : n.end ≤ high = h 0 n (omega arith) in
-    end_high (max e n.end) high ns (omega (arith, le, one)) (λ k d l. h (suc k) d (omega arith))
-
-all_left : {X : Type 0} (P : X → Type 0) (xs ys : List X) → All P (xs ++ ys) → All P xs
-all_left P [] ys h = All-nil P
-all_left P (x ∷ xs) ys h = All-cons P x xs (h 0 x (omega arith)) (all_left P xs ys (λ k d l. h (suc k) d (omega arith)))
-
-all_right : {X : Type 0} (P : X → Type 0) (xs ys : List X) → All P (xs ++ ys) → All P ys
-all_right P [] ys h = h
-all_right P (x ∷ xs) ys h = all_right P xs ys (λ k d l. h (suc k) d (omega arith))
-
-pub ends_behind : (tempos : List Tempo) (division window high : ℕ) (notes : List Note) (cs : List Chord) → AreChords tempos division window notes cs
-    → All (λ n. (n.onset ≤ n.end) × (n.end ≤ high)) notes → All (λ c. (c.onset ≤ c.end) × (c.end ≤ high)) cs
-ends_behind tempos division window high notes [] h all = All-nil (λ (c : Chord). (c.onset ≤ c.end) × (c.end ≤ high))
-ends_behind tempos division window high notes (c ∷ cs) (f, xs, us, e, p, a, m, h) all =
-    let P : Note → Type 0 = λ n. (n.onset ≤ n.end) × (n.end ≤ high) in
-    let parts : All P (f ∷ (xs ++ us)) = subst (All P) e all in
-    let first : P f = parts 0 f (omega arith) in
-    let rest : All P (xs ++ us) = λ k d l. parts (suc k) d (omega arith) in
-    let low = end_low f.end xs in
-    let top = end_high f.end high xs first.1 (λ k d l. (all_left P xs us rest k d l).1) in
-    let onset : c.onset ≡ f.onset = ap (λ (x : Chord). x.onset) m in
-    let end : c.end ≡ fold (λ k m. max k m.end) f.end xs = ap (λ (x : Chord). x.end) m in
-    All-cons (λ (x : Chord). (x.onset ≤ x.end) × (x.end ≤ high)) c cs (omega (arith, first.0, low, onset, end), omega (arith, top, end)) (ends_behind tempos division window high us cs h (all_right P xs us rest))
-
 -- ---- the notes of a voice come one after another
 
 comes : (m n : Note) → m.channel ≡ n.channel → slice_cmp nat_cmp (place_of_note m) (place_of_note n) ≡ Less → m.onset ≤ n.onset
 comes m n e h = grind (arith, nat_tests)
 
-pub voice_rises : (notes : List Note) (i : ℕ) (d : Note) → IsVoice notes → i < length notes → All (λ m. (get_or notes i d).onset ≤ m.onset) (drop (suc i) notes)
+pub voice_rises : (notes : List Note) (i : ℕ) (d : Note) → AreNotesOfVoice notes → i < length notes → All (λ m. (get_or notes i d).onset ≤ m.onset) (drop (suc i) notes)
 voice_rises notes i d v within k e lt =
     let there : suc i + k < length notes = omega (arith, lt, length-drop (suc i) notes) in
     let same : get_or (drop (suc i) notes) k e ≡ get_or notes (suc i + k) e = get_or-drop (suc i) notes k e in
@@ -168,7 +95,7 @@ in_time tempos division window notes done chord begin n rest g =
     let le = time_rises tempos g.first.onset n.onset (g.before 0 n (omega arith)) in
     omega (arith, le, g.started)
 
-pub rises_after : (first : Note) (others : List Note) (i : ℕ) (d : Note) → IsVoice (first ∷ others) → i < length others → All (λ m. (get_or others i d).onset ≤ m.onset) (drop (i + 1) others)
+pub rises_after : (first : Note) (others : List Note) (i : ℕ) (d : Note) → AreNotesOfVoice (first ∷ others) → i < length others → All (λ m. (get_or others i d).onset ≤ m.onset) (drop (i + 1) others)
 rises_after first others i d v within =
     let one : suc i ≡ i + 1 = omega arith in
     subst (λ n. All (λ m. (get_or others i d).onset ≤ m.onset) (drop n others)) one (voice_rises (first ∷ others) (suc i) d v (omega arith))

@@ -1,20 +1,22 @@
 -- The notes of one voice, and what holds of all their chords.
+use Rattle.rhythm_base.specs.declared.limits.TheConstants.{LATEST_TICK}
 use Rattle.std.specs.Prelude.{◌≡◌, ℕ, ◌≤◌, ◌<◌, List, map, All, AllPairs}
 use Rattle.std.specs.List.Sorted.{IsStrictlyIncreasing}
 use Rattle.rhythm_base.specs.declared.chord.Chord.{Chord}
 use Rattle.rhythm_base.specs.declared.event.Tempo.{Tempo}
 use Rattle.rhythm_base.specs.declared.note.Note.{Note}
 use Rattle.rhythm_base.specs.Chords.{AreChords}
-use Rattle.rhythm_base.specs.Performed.{AreInOrder, place_of_note}
+use Rattle.rhythm_base.specs.Lists.{AreInOrder}
+use Rattle.rhythm_base.specs.Performance.{place_of_note}
 
 -- a note of 128 keys that lies before the latest tick of a score
 pub record IsSounded (n : Note) : Type 0 where
   pub key : n.key < 128
-  pub onset : n.onset ≤ 2000000000
-  pub end : n.end ≤ 2000000000
+  pub onset : n.onset ≤ LATEST_TICK
+  pub end : n.end ≤ LATEST_TICK
 
 -- the notes of one channel, in order
-pub record IsVoice (notes : List Note) : Type 0 where
+pub record AreNotesOfVoice (notes : List Note) : Type 0 where
   pub channel : AllPairs (λ m n. m.channel ≡ n.channel) notes
   pub in_order : AreInOrder place_of_note notes
   pub each : All IsSounded notes
@@ -26,8 +28,8 @@ ChordsRise =
     → AreChords tempos division window notes cs → IsStrictlyIncreasing (map (λ c. c.onset) cs)
 
 -- chords end at or after their onsets, and no later than a tick, where their notes do
-abbrev pub ChordsEndBehind : Type 0
-ChordsEndBehind =
+abbrev pub NoChordEndsBeforeItBegins : Type 0
+NoChordEndsBeforeItBegins =
     (tempos : List Tempo) (division window high : ℕ) (notes : List Note) (cs : List Chord)
     → AreChords tempos division window notes cs
     → All (λ n. (n.onset ≤ n.end) × (n.end ≤ high)) notes → All (λ c. (c.onset ≤ c.end) × (c.end ≤ high)) cs

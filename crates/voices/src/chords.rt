@@ -1,6 +1,6 @@
 ghost use Rattle.std.specs.Prelude.{◌≡◌, ◌<◌, ◌^◌, [], ◌∷◌, IfOk, bit_or, max};
 ghost use Rattle.rhythm_base.specs.Chords as chords;
-ghost use Rattle.voices.specs.Voice.{IsVoice};
+ghost use Rattle.voices.specs.Voice.{AreNotesOfVoice};
 
 use rhythm_base::{Chord, Keys, Note};
 use std::alloc::{AllocError, Global};
@@ -34,7 +34,7 @@ fn joined(chord: Chord, note: &Note) -> Chord
     }
 }
 
-/// The chords of a voice of one note and others behind it.
+/// The chords of a voice of one note and others after it.
 fn gathered(
     alloc: Global,
     first: &Note,
@@ -43,7 +43,7 @@ fn gathered(
     division: u16,
     window: u32,
 ) -> Result<Vec<Chord>, AllocError>
-    requires { IsVoice (first.now ∷ others.now) }
+    requires { AreNotesOfVoice (first.now ∷ others.now) }
     ensures { IfOk result (λ v. chords.AreChords map.now.tempos division window (first.now ∷ others.now) v.items) }
 {
     let window = u64::from(window) * u64::from(division);
@@ -73,7 +73,7 @@ pub fn chords_of(
     division: u16,
     window: u32,
 ) -> Result<Vec<Chord>, AllocError>
-    requires { IsVoice notes.now }
+    requires { AreNotesOfVoice notes.now }
     ensures { IfOk result (λ v. chords.AreChords map.now.tempos division window notes.now v.items) }
 {
     match notes {

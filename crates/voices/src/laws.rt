@@ -1,4 +1,4 @@
-ghost use Rattle.voices.specs.Voice.{ChordsEndBehind, ChordsRise};
+ghost use Rattle.voices.specs.Voice.{ChordsRise, NoChordEndsBeforeItBegins};
 
 /// The onsets of the chords of a voice rise strictly.
 pub fn chords_rise()
@@ -6,6 +6,6 @@ pub fn chords_rise()
 {}
 
 /// Where no note ends before its onset, no chord does; and the chords end no later than the notes.
-pub fn chords_end_behind_their_onsets()
-    ensures { ChordsEndBehind }
+pub fn no_chord_ends_before_it_begins()
+    ensures { NoChordEndsBeforeItBegins }
 {}

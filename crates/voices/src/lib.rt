@@ -1,12 +1,9 @@
-// The chords of a voice: notes that begin within a window of time after the first of them are one chord. The window is in
-// microseconds, and the elapsed time is that of the tempo map.
+//! The chords of a voice: notes that begin within a window of time after the first of them are one chord. The window is in
+//! microseconds, and the elapsed time is that of the tempo map.
 #![tactic(auto)]
 
 mod chords;
 mod laws;
 
 pub use chords::chords_of;
-pub use laws::{chords_end_behind_their_onsets, chords_rise};
-
-#[cfg(test)]
-mod tests;
+pub use laws::{chords_rise, no_chord_ends_before_it_begins};

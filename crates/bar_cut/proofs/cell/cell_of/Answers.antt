@@ -1,5 +1,5 @@
 use Rattle.std.proofs.Common.{rules, arith, subst, sym, ◌≡◌, ◌-◌, ◌+◌, All}
-use Rattle.rhythm_base.specs.Cell.{IsInner}
+use Rattle.rhythm_base.specs.BarInput.{IsInner}
 use Rattle.rhythm_base.specs.Line.{Rising}
 use Rattle.bar_cut.specs.Cuts.{AreInside, moved_all}
 use Rattle.bar_cut.proofs.Passes.{inner-moved, rises-moved}

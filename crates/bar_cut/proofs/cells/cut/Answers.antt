@@ -1,16 +1,11 @@
-use Rattle.std.proofs.Common.{rules, arith, subst, sym, ap, ◌∙◌, ◌≡◌, ◌<◌, ◌≤◌, ◌+◌, ◌++◌, ◌∷◌, [], take, map, length, get_or, Some, None}
-use Rattle.std.proofs.lemmas.List.{take_all}
-use Rattle.std.proofs.lemmas.List.Elements.{All-nil}
-use Rattle.std.proofs.lemmas.Option.{slice_get-get_or}
-use Rattle.std.specs.Prelude.{◌≢◌, filter, slice_get}
+use Rattle.std.proofs.Common.{rules, arith, subst, sym, ap, ◌∙◌, ◌≡◌, ◌<◌, ◌+◌, ◌++◌, ◌∷◌, [], map, length, get_or, Some}
+use Rattle.std.specs.Prelude.{filter}
 use Rattle.rhythm_base.specs.declared.note.Bar.{Bar}
-use Rattle.rhythm_base.specs.Cells.{last_end}
-use Rattle.rhythm_base.specs.Edits.{barline}
-use Rattle.rhythm_base.specs.Rulebook.{root_of}
-use Rattle.rhythm_base.specs.Voices.{HasStarts}
+use Rattle.rhythm_base.specs.Lists.{last_end}
+use Rattle.rhythm_base.specs.Barlines.{barline}
+use Rattle.rhythm_base.specs.Grammar.{root_of}
 use Rattle.rhythm_laws.proofs.EditedBars.{barline_is}
 use Rattle.bar_cut.specs.Cuts.{AreInside, Rises, inputs}
-use Rattle.bar_cut.proofs.Barlines.{All-take-next}
 use Rattle.bar_cut.proofs.Passes.{all_from_start, end_before, is_from}
 use Rattle.bar_cut.proofs.Turns as turn
 use Rattle.bar_cut.proofs.cells.cut.Goals as goal
@@ -26,23 +21,6 @@ bars-init c =
       made = ap (λ l. l ++ inputs c.args.grammar.now c.args.pins.now c.args.channel c.args.last c.args.bars.now c.args.voice.now) c.in_ok-inputs.ensures.items;
       later = sym all.1 ∙ ap (λ t. filter (is_from t) c.args.voice.now) (sym zero);
       before = ap (λ cs. last_end 0 (map (λ c. c.end) cs)) (sym all.0) ∙ ap (λ t. end_before t c.args.voice.now) (sym zero);
-      starts = All-nil _;
-    }
-
-pub returns-in_default-clause-no_start : goal.returns-in_default-clause-no_start
-returns-in_default-clause-no_start c = λ bar num den h.
-    let lt : c.bars.number < length c.args.bars.now = search rules in
-    let b : Bar = get_or c.args.bars.now c.bars.number no_bar in
-    let n_is : c.bars.number ≡ bar = cc in
-    let num_is : b.num ≡ num = cc in
-    let den_is : b.den ≡ den = cc in
-    let none : root_of c.args.grammar.now.starts b.num b.den ≡ None = search rules in
-    record {
-      it = b;
-      there = subst (λ k. slice_get c.args.bars.now k ≡ Some b) n_is (slice_get-get_or c.args.bars.now c.bars.number no_bar lt);
-      signature = (sym num_is, sym den_is);
-      none = (λ i. root_of c.args.grammar.now.starts (sym num_is i) (sym den_is i)) ∙ none;
-      first = subst (λ k. HasStarts c.args.grammar.now (take k c.args.bars.now)) n_is c.bars.invariant.starts;
     }
 
 pub cell_of-requires-clause-some_tick : goal.cell_of-requires-clause-some_tick
@@ -83,20 +61,13 @@ bars-preserved c =
     let back = turn.back_is c.args.grammar.now c.args.pins.now c.args.channel c.args.last c.bars.number c.args.bars.now c.args.voice.now no_bar c.requires.voice lt
     c.split_at.result.1.now c.bars.later.now c.count_before.result c.barline_behind-end.result c.split_at.ensures.back c.count_before.ensures c.barline_behind-end.ensures c.bars.invariant.later in
     let b : Bar = get_or c.args.bars.now c.bars.number no_bar in
-    let root : Some c.in-Some.symbol ≡ root_of c.args.grammar.now.starts b.num b.den = sym c.in-Some.is ∙ c.root_of.ensures in
+    let root : Some c.unwrap-symbol.result ≡ root_of c.args.grammar.now.starts b.num b.den = sym c.unwrap-symbol.ensures ∙ c.root_of.ensures in
     let is = c.in_ok-cell_of.ensures
-    ∙ turn.cell_is c.args.grammar.now c.args.pins.now c.args.channel c.args.last c.bars.number c.args.bars.now c.args.voice.now no_bar c.requires.voice lt c.in-Some.symbol c.bars.before c.barline_behind-end.result c.split_at.result.0.now _ c.barline_behind-end.ensures front c.pin_of-pin.ensures
-    ∙ turn.input_is c.args.grammar.now c.args.pins.now c.args.channel c.args.last c.bars.number c.args.bars.now c.args.voice.now no_bar c.requires.voice lt c.in-Some.symbol c.bars.before root c.bars.invariant.before in
-    let P : Bar → Type 0 = λ b. root_of c.args.grammar.now.starts b.num b.den ≢ None in
+    ∙ turn.cell_is c.args.grammar.now c.args.pins.now c.args.channel c.args.last c.bars.number c.args.bars.now c.args.voice.now no_bar c.requires.voice lt c.unwrap-symbol.result c.bars.before c.barline_behind-end.result c.split_at.result.0.now _ c.barline_behind-end.ensures front c.pin_of-pin.ensures
+    ∙ turn.input_is c.args.grammar.now c.args.pins.now c.args.channel c.args.last c.bars.number c.args.bars.now c.args.voice.now no_bar c.requires.voice lt c.unwrap-symbol.result c.bars.before root c.bars.invariant.before in
     let pushed : c.push.new.self.items ≡ c.bars.inputs.items ++ c.in_ok-cell_of.field-0 ∷ [] = search rules in
     record {
       made = rw pushed (turn.made_next c.args.grammar.now c.args.pins.now c.args.channel c.args.last c.bars.number c.args.bars.now c.args.voice.now no_bar c.requires.voice lt c.bars.inputs.items c.in_ok-cell_of.field-0 _ is c.bars.invariant.made);
       later = back ∙ turn.rest_is c.args.grammar.now c.args.pins.now c.args.channel c.args.last c.bars.number c.args.bars.now c.args.voice.now no_bar c.requires.voice lt;
       before = c.last_end-before.ensures ∙ ap (λ l. last_end c.bars.before (map (λ c. c.end) l)) front ∙ turn.before_is c.args.grammar.now c.args.pins.now c.args.channel c.args.last c.bars.number c.args.bars.now c.args.voice.now no_bar c.requires.voice lt c.bars.before c.bars.invariant.before;
-      starts = All-take-next P c.args.bars.now c.bars.number no_bar lt c.bars.invariant.starts (λ h. let wrong = root ∙ h in absurd (cc));
     }
-
-pub returns-clause-starts : goal.returns-clause-starts
-returns-clause-starts c =
-    let all : length c.args.bars.now ≤ c.bars.number = omega (arith, c.bars-test.false) in
-    subst (HasStarts c.args.grammar.now) (take_all c.bars.number c.args.bars.now all) c.bars.invariant.starts

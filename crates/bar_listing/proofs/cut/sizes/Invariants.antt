@@ -1,5 +1,5 @@
 use Rattle.std.proofs.Common.{◌≡◌, ◌≤◌, ◌+◌, ◌*◌, drop}
-use Rattle.rhythm_base.specs.Trees.{sizes}
+use Rattle.rhythm_base.specs.Bodies.{sizes}
 use Rattle.bar_listing.proofs.cut.sizes.Given as goal
 
 abbrev pub invariant-loop-part : goal.invariant-loop-part

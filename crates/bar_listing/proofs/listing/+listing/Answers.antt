@@ -2,11 +2,12 @@ use Rattle.std.proofs.Common.{rules, arith, refl, ap, ◌∙◌, subst, ◌≡�
 use Rattle.std.specs.List.{flat_map}
 use Rattle.std.proofs.lemmas.List.{take_all}
 use Rattle.std.proofs.lemmas.Option.{slice_get_read}
-use Rattle.rhythm_base.specs.Trees.{children, suits}
+use Rattle.rhythm_base.specs.Bodies.{children}
+use Rattle.rhythm_base.specs.Trees.{suits}
 use Rattle.bar_listing.specs.Listing.{with_kid}
-use Rattle.bar_listing.specs.Pieces.{pair_of}
+use Rattle.bar_listing.specs.Pieces.{piece_pair}
 use Rattle.bar_listing.proofs.Listed.{AreAllBelow, AreAllUnder, AreAllBelow-more, AreAllBelow-all, AreAllUnder-piece, AreAllBy-suits}
-use Rattle.bar_listing.proofs.Conjunctions.{holds_right}
+use Rattle.rhythm_base.proofs.Booleans.{and_right}
 use Rattle.bar_listing.proofs.Shares.{IsNarrower, piece_narrower}
 use Rattle.bar_listing.proofs.listing.+listing.Goals as goal
 
@@ -24,10 +25,10 @@ all_trees-returns t c =
 pub trees_by-all_trees-requires : goal.trees_by-all_trees-requires
 trees_by-all_trees-requires t c =
     let suited : suits (Some c.index-rules-number.result) (c.args.width, c.args.symbol) ≡ true = search rules in
-    let pieces : map pair_of c.deref-piece-items.result.now ≡ children c.index-rules-number.result.body c.args.width = ap (map pair_of) c.deref-piece-items.ensures.value ∙ c.in_ok-pieces.ensures in
-    let narrow : IsNarrower c.args.width (pair_of (get_or c.deref-piece-items.result.now c.loop-piece.piece-index (record { width = 0; symbol = 0 }))) =
+    let pieces : map piece_pair c.deref-piece-items.result.now ≡ children c.index-rules-number.result.body c.args.width = ap (map piece_pair) c.deref-piece-items.ensures.value ∙ c.in_ok-pieces.ensures in
+    let narrow : IsNarrower c.args.width (piece_pair (get_or c.deref-piece-items.result.now c.loop-piece.piece-index (record { width = 0; symbol = 0 }))) =
     piece_narrower c.index-rules-number.result.body c.args.width c.deref-piece-items.result.now c.loop-piece.piece-index (record { width = 0; symbol = 0 }) c.requires.some_unit
-    (holds_right (c.index-rules-number.result.lhs == c.args.symbol) _ suited) pieces c.loop-piece-test.true in
+    (and_right (c.index-rules-number.result.lhs == c.args.symbol) _ suited) pieces c.loop-piece-test.true in
     let less : 2 * (get_or c.deref-piece-items.result.now c.loop-piece.piece-index (record { width = 0; symbol = 0 })).width + 1 < 2 * c.args.width = omega (arith, narrow.1) in
     (omega (arith, less, c.decreases), (c.requires.few, narrow.0))
 
@@ -43,7 +44,7 @@ pub trees_by-returns : goal.trees_by-returns
 trees_by-returns t c =
     let found = slice_get_read c.args.rules.now _ _ _ refl c.requires.number c.index-rules-number.is in
     let suited : suits (Some c.index-rules-number.result) (c.args.width, c.args.symbol) ≡ true = search rules in
-    let pieces : map pair_of (take c.loop-piece.piece-index c.deref-piece-items.result.now) ≡ children c.index-rules-number.result.body c.args.width =
-    ap (map pair_of) (take_all c.loop-piece.piece-index c.deref-piece-items.result.now c.loop-piece-test.false ∙ c.deref-piece-items.ensures.value) ∙ c.in_ok-pieces.ensures in
+    let pieces : map piece_pair (take c.loop-piece.piece-index c.deref-piece-items.result.now) ≡ children c.index-rules-number.result.body c.args.width =
+    ap (map piece_pair) (take_all c.loop-piece.piece-index c.deref-piece-items.result.now c.loop-piece-test.false ∙ c.deref-piece-items.ensures.value) ∙ c.in_ok-pieces.ensures in
     AreAllBy-suits c.args.rules.now c.args.width c.args.symbol c.args.number c.index-rules-number.result c.loop-piece.trees.items found suited
     (subst (λ qs. AreAllUnder c.args.rules.now c.args.number qs c.loop-piece.trees.items) pieces c.loop-piece.invariant)

@@ -1,5 +1,5 @@
 use Rattle.std.proofs.Common.{◌+◌, ◌*◌, map, take}
-use Rattle.bar_listing.specs.Pieces.{pair_of}
+use Rattle.bar_listing.specs.Pieces.{piece_pair}
 use Rattle.bar_listing.proofs.Listed.{AreAllBelow, AreAllUnder}
 use Rattle.bar_listing.proofs.listing.+listing.Given as goal
 
@@ -13,4 +13,4 @@ abbrev pub invariant-all_trees-loop-number : goal.invariant-all_trees-loop-numbe
 invariant-all_trees-loop-number l = AreAllBelow l.rules l.width l.symbol l.number l.trees.items
 
 abbrev pub invariant-trees_by-loop-piece : goal.invariant-trees_by-loop-piece
-invariant-trees_by-loop-piece l = AreAllUnder l.rules l.number (map pair_of (take l.piece-index l.piece-items)) l.trees.items
+invariant-trees_by-loop-piece l = AreAllUnder l.rules l.number (map piece_pair (take l.piece-index l.piece-items)) l.trees.items

@@ -1,6 +1,5 @@
-use Rattle.std.proofs.Common.{◌≡◌, ◌∙◌, sym, subst}
+use Rattle.std.proofs.Common.{◌∙◌, sym, subst}
 use Rattle.rhythm_base.specs.Paths.{IsRanked, AreLow}
-use Rattle.rhythm_base.specs.Ranked.{product_of}
 use Rattle.carry_matrix.proofs.Codes.{rows_are}
 use Rattle.rhythm_laws.proofs.ProductCosts.{product_low}
 use Rattle.rhythm_laws.proofs.PathTables.{product_ranked}

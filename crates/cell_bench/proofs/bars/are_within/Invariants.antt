@@ -1,6 +1,6 @@
 use Rattle.std.proofs.Common.{◌<◌, ℕ, get_or}
 use Rattle.rhythm_base.specs.declared.inner.Inner.{Inner}
-use Rattle.rhythm_base.specs.Cell.{IsInner}
+use Rattle.rhythm_base.specs.BarInput.{IsInner}
 use Rattle.cell_bench.proofs.bars.are_within.Given as goal
 
 abbrev pub invariant-loop-chord : goal.invariant-loop-chord

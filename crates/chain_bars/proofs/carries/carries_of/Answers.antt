@@ -1,5 +1,5 @@
 use Rattle.std.proofs.Common.{◌≡◌, ◌∙◌, ◌-◌, ◌++◌, ◌∷◌, [], length, ap, sym, subst, arith}
-use Rattle.chain_bars.specs.Tower.{Tier, level, raised}
+use Rattle.chain_bars.specs.Tower.{Level, level, level_of}
 use Rattle.chain_bars.specs.Walks.{AreCarries}
 use Rattle.chain_bars.proofs.Lists.{tier_read}
 use Rattle.chain_bars.proofs.Descents.{Asked, down_asks, down_step, root_carries}
@@ -14,12 +14,12 @@ down-init c = (
 )
 
 nodes_are : (c : After-as_slice) → c.slice.result.now ≡ level c.args.levels.now (c.down.below - 1)
-nodes_are c = c.slice.ensures ∙ ap (λ (x : Tier). x.nodes) (tier_read c.args.levels.now (c.down.below - 1) c.index-levels-below.result (omega (arith, c.down.invariant.0)) c.index-levels-below.is)
+nodes_are c = c.slice.ensures ∙ ap (λ (x : Level). x.nodes) (tier_read c.args.levels.now (c.down.below - 1) c.index-levels-below.result (omega (arith, c.down.invariant.0)) c.index-levels-below.is)
 
 asked : (c : After-as_slice) → Asked c.slice.result.now c.as_slice.result.now
 asked c =
     down_asks c.args.levels.now c.slice.result.now (c.down.below - 1) c.down.below c.as_slice.result.now c.requires.cells c.requires.tower (omega (arith, c.down-test.true)) (omega (arith, c.down.invariant.0, c.requires.tower.count)) (nodes_are c)
-    (subst (AreCarries (raised (level c.args.levels.now 0) c.down.below)) (sym c.as_slice.ensures.value) c.down.invariant.1)
+    (subst (AreCarries (level_of (level c.args.levels.now 0) c.down.below)) (sym c.as_slice.ensures.value) c.down.invariant.1)
 
 pub one_down-requires-clause-few : goal.one_down-requires-clause-few
 one_down-requires-clause-few c = (asked c).few
@@ -43,6 +43,6 @@ pub down-preserved : goal.down-preserved
 down-preserved c = (
   omega (arith, c.down.invariant.0),
   down_step c.args.levels.now c.slice.result.now (c.down.below - 1) c.down.below c.as_slice.result.now c.in_ok-counts.counts.items c.requires.cells c.requires.tower (omega (arith, c.down-test.true)) (omega (arith, c.down.invariant.0, c.requires.tower.count))
-      (c.slice.ensures ∙ ap (λ (x : Tier). x.nodes) (tier_read c.args.levels.now (c.down.below - 1) c.index-levels-below.result (omega (arith, c.down.invariant.0)) c.index-levels-below.is))
-      (subst (AreCarries (raised (level c.args.levels.now 0) c.down.below)) (sym c.as_slice.ensures.value) c.down.invariant.1) c.in_ok-counts.ensures,
+      (c.slice.ensures ∙ ap (λ (x : Level). x.nodes) (tier_read c.args.levels.now (c.down.below - 1) c.index-levels-below.result (omega (arith, c.down.invariant.0)) c.index-levels-below.is))
+      (subst (AreCarries (level_of (level c.args.levels.now 0) c.down.below)) (sym c.as_slice.ensures.value) c.down.invariant.1) c.in_ok-counts.ensures,
 )

@@ -1,5 +1,5 @@
 use Rattle.std.proofs.Common.{◌+◌, ◌-◌, [], length, refl, arith}
-use Rattle.chain_bars.specs.Reaches.{AreReached}
+use Rattle.chain_bars.specs.Reaches.{AreReachedCounts}
 use Rattle.rhythm_base.specs.Paths.{IsDeadCell}
 use Rattle.chain_bars.proofs.Lists.{index_same}
 use Rattle.chain_bars.proofs.Deaths.{before_more, dead_here, dead_last, marked_any, not_both, reached_step, reached_total}
@@ -21,7 +21,7 @@ returns-then-not-is_any-clause-none c = ((λ e. absurd (cc)), λ h. absurd (not_
 
 pub cells-preserved : goal.cells-preserved
 cells-preserved c =
-    let next : AreReached c.args.cells.now (c.cells.number + 1) c.behind-next.result =
+    let next : AreReachedCounts c.args.cells.now (c.cells.number + 1) c.behind-next.result =
     reached_step c.args.cells.now c.cells.number (c.cells.number + 1) c.index-cells-number.result c.cells.reached c.behind-next.result (omega arith) c.cells-test.true
     (index_same c.args.cells.now c.cells.number c.index-cells-number.result [] c.cells-test.true c.index-cells-number.is) c.cells.invariant.0 c.behind-next.ensures in
     (next, before_more c.args.cells.now c.cells.number c.cells.invariant.1 (marked_any c.args.cells.now (c.cells.number + 1) c.behind-next.result next (c.is_any.ensures.0 (cc))))

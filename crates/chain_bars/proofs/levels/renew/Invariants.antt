@@ -8,4 +8,4 @@ use Rattle.chain_bars.proofs.levels.renew.Given as goal
 abbrev pub invariant-up : goal.invariant-up
 invariant-up g l =
     IsRenewing (level l.fn.levels 0) (slice_set (level l.fn.levels 0) l.at l.cell) l.fn.levels l.levels l.above l.place × (1 ≤ l.above)
-    × ((d : ℕ) → length (level l.fn.levels 0) ≤ 2 ^ d → l.products ≤ risen l.fn.products (min (l.above - 1) d))
+    × ((d : ℕ) → length (level l.fn.levels 0) ≤ 2 ^ d → l.products ≤ risen l.fn.products (min (l.above - 1) d)) × (l.fn.products ≤ l.products)

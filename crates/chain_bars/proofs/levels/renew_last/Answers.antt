@@ -9,7 +9,7 @@ use Rattle.chain_bars.proofs.Towers.{way_step, way_end}
 use Rattle.chain_bars.proofs.levels.renew_last.Goals as goal
 
 pub renewal-init : goal.renewal-init
-renewal-init g c = (c.requires, end_start c.args.levels.now c.requires, omega arith, λ d few. omega arith)
+renewal-init g c = (c.requires, end_start c.args.levels.now c.requires, omega arith, λ d few. omega arith, omega arith)
 
 pub overflow_sub-last : goal.overflow_sub-last
 overflow_sub-last g c = (change_asks c.renewal.invariant.0.before (level c.args.levels.now 0) c.args.levels.now c.renewal.levels c.renewal.above c.slice-nodes.result.now c.index-levels-above.result c.renewal.invariant.0.cells c.renewal.invariant.1 c.renewal.invariant.2 (omega (arith, c.renewal-test.true, c.renewal.invariant.0.count)) c.slice-nodes.ensures).some
@@ -43,6 +43,7 @@ renewal-preserved g c =
       omega arith,
       λ d few. subst (λ k. c.joined-node.new.products ≤ risen c.args.products.now (min k d)) again
           (way_step (level c.args.levels.now 0) (c.renewal.above - 1) d (length c.slice-nodes.result.now) last c.args.products.now c.renewal.products c.joined-node.new.products (ap length asked.here) few (c.renewal.invariant.3 d few) c.joined-node.ensures.two c.joined-node.ensures.lone),
+      omega (arith, c.renewal.invariant.4, c.joined-node.ensures.rises),
     )
 
 pub returns-clause-cells : goal.returns-clause-cells

@@ -9,4 +9,4 @@ use Rattle.chain_bars.proofs.levels.renew_last.Given as goal
 abbrev pub invariant-renewal : goal.invariant-renewal
 invariant-renewal g l =
     (h : HasNewEnd l.fn.levels) × IsChanging h.before (level l.fn.levels 0) l.fn.levels l.levels l.above × (1 ≤ l.above)
-    × ((d : ℕ) → length (level l.fn.levels 0) ≤ 2 ^ d → l.products ≤ risen l.fn.products (min (l.above - 1) d))
+    × ((d : ℕ) → length (level l.fn.levels 0) ≤ 2 ^ d → l.products ≤ risen l.fn.products (min (l.above - 1) d)) × (l.fn.products ≤ l.products)

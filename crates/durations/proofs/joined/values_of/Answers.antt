@@ -6,7 +6,7 @@ use Rattle.std.proofs.lemmas.List.Sums.{sum-map, sum_by_more, sum_by_more_le, su
 use Rattle.rhythm_base.specs.declared.sound.SoundKind.TheVariants.{Begin}
 use Rattle.durations.specs.declared.joined.Timed.{Timed}
 use Rattle.durations.specs.declared.joined.Written.{Written}
-use Rattle.durations.specs.Joined.{AreWritten, AreWrittenFrom, dots, placed}
+use Rattle.durations.specs.Joined.{AreWritten, AreWrittenFrom, dots, value_places}
 use Rattle.durations.specs.Value.{IsWide, width}
 use Rattle.durations.proofs.Bars.{written_dots, written_fills, written_grid, written_leaf}
 use Rattle.durations.proofs.Steps.{behind, leaf_at, nothing, step_joined, step_group, group_wide, group_few, group_end}
@@ -75,9 +75,9 @@ leaves-preserved c =
             let none : c.leaves.joined ≡ 0 = omega (arith, w.if-joined-gt0.false) in
             let e = w.dots-joined.ensures ∙ ap (dots whole (leaf_at xs i)) (behind xs (i + 1)) in
             let step = step_group whole c.leaves.joined i place d (drop i xs) (drop (i + 1) xs) (leaf_at xs i) vs ws is none e w.in_ok-values.ensures next in
-            let all = c.leaves.invariant.so_far (placed whole i place vs ++ ws) step in
-            let items = ap (λ v. v.items) w.written-is ∙ w.in_ok-push_values.ensures ∙ ap (λ x. c.leaves.written.items ++ placed whole i place x) w.deref.ensures.value in
-            subst (AreWritten whole xs) (sym (append_assoc c.leaves.written.items (placed whole i place vs) ws) ∙ ap (λ x. x ++ ws) (sym items)) all
+            let all = c.leaves.invariant.so_far (value_places whole i place vs ++ ws) step in
+            let items = ap (λ v. v.items) w.written-is ∙ w.in_ok-push_values.ensures ∙ ap (λ x. c.leaves.written.items ++ value_places whole i place x) w.deref.ensures.value in
+            subst (AreWritten whole xs) (sym (append_assoc c.leaves.written.items (value_places whole i place vs) ws) ∙ ap (λ x. x ++ ws) (sym items)) all
       ];
       place = omega (arith, c.leaves.invariant.place, sum-map f (take i xs), sum-map f (take (i + 1) xs), sum_by_more f xs i (record { len = 0; kind = Begin }) c.leaves-test.true);
       few = omega (arith, c.leaves.invariant.few, some);

@@ -3,7 +3,7 @@ use Rattle.std.proofs.lemmas.Iterator.{YieldsList-from_slice}
 use Rattle.std.proofs.lemmas.Iterator.Search.{position_from_yields_List}
 use Rattle.std.proofs.lemmas.List.{take_rest}
 use Rattle.std.proofs.lemmas.List.Splits.{slice_split_first}
-use Rattle.edit_script.proofs.WordLemmas.{position-found, position-missing, position-within, slice_split-missing}
+use Rattle.rhythm_base.proofs.Positions.{position-found, position-missing, position-within, slice_split-missing}
 use Rattle.edit_script.proofs.line_words.first_word.Goals as goal
 
 pub returns-in-Some : goal.returns-in-Some

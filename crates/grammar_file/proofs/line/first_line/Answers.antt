@@ -2,7 +2,7 @@ use Rattle.std.proofs.Common.{rules, tests, arith, refl, sym, ◌∙◌, ◌==�
 use Rattle.std.proofs.lemmas.Iterator.{YieldsList-from_slice}
 use Rattle.std.proofs.lemmas.Iterator.Search.{position_from_yields_List}
 use Rattle.std.proofs.lemmas.List.{take_rest}
-use Rattle.grammar_file.proofs.NameLemmas.{position-found, position-missing, position-within}
+use Rattle.rhythm_base.proofs.Positions.{position-found, position-missing, position-within}
 use Rattle.grammar_file.proofs.LineLemmas.{lines_of-first, lines_of-last}
 use Rattle.grammar_file.proofs.line.first_line.Goals as goal
 

@@ -1,7 +1,7 @@
 use Rattle.std.proofs.Common.{rules, tests, sym, ◌∙◌, not}
 use Rattle.std.proofs.lemmas.Iterator.{YieldsList-from_slice}
 use Rattle.std.proofs.lemmas.Iterator.Search.{position_from_yields_List}
-use Rattle.grammar_file.proofs.NameLemmas.{position-found, position-missing, position-within}
+use Rattle.rhythm_base.proofs.Positions.{position-found, position-missing, position-within}
 use Rattle.grammar_file.proofs.LineLemmas.{says-at, says-nothing}
 use Rattle.grammar_file.specs.Lines.{is_blank}
 use Rattle.grammar_file.proofs.line.is_content.Goals as goal

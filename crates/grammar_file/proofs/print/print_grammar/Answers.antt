@@ -1,7 +1,7 @@
 use Rattle.std.proofs.Common.{◌<◌, ◌++◌, List, ℕ, length, map, All, sym, ap, subst, ◌∙◌}
 use Rattle.rhythm_base.specs.Readable.{IsBody}
 use Rattle.std.specs.List.{flat_map}
-use Rattle.rhythm_base.specs.Rulebook.{Rulebook}
+use Rattle.rhythm_base.specs.Grammar.{Grammar}
 use Rattle.rhythm_base.specs.declared.rule.Rule.{Rule}
 use Rattle.grammar_file.proofs.PrintLemmas.{printed_parts, sides_of_rules}
 use Rattle.grammar_file.specs.Printed.{header_words, line_text, rule_words, start_words}
@@ -9,7 +9,7 @@ use Rattle.grammar_file.proofs.print.print_grammar.Goals as goal
 
 pub push_rules-requires-clause-sides : goal.push_rules-requires-clause-sides
 push_rules-requires-clause-sides c =
-    let g : Rulebook = c.args.grammar.now in
+    let g : Grammar = c.args.grammar.now in
     let names = c.deref-3.ensures.value ∙ ap (λ g. g.names) c.grammar.view_is in
     let rules = c.deref-4.ensures.value ∙ ap (λ g. g.rules) c.grammar.view_is in
     let P : List Rule → Type 0 = λ rs. All (λ r. r.lhs < length g.names) rs in
@@ -18,7 +18,7 @@ push_rules-requires-clause-sides c =
 
 pub push_rules-requires-clause-bodies : goal.push_rules-requires-clause-bodies
 push_rules-requires-clause-bodies c =
-    let g : Rulebook = c.args.grammar.now in
+    let g : Grammar = c.args.grammar.now in
     let names = c.deref-3.ensures.value ∙ ap (λ g. g.names) c.grammar.view_is in
     let rules = c.deref-4.ensures.value ∙ ap (λ g. g.rules) c.grammar.view_is in
     let P : List Rule → Type 0 = λ rs. All (λ r. IsBody g.version (length g.names) r.body) rs in
@@ -27,7 +27,7 @@ push_rules-requires-clause-bodies c =
 
 pub returns : goal.returns
 returns c =
-    let g : Rulebook = c.args.grammar.now in
+    let g : Grammar = c.args.grammar.now in
     let names = c.deref.ensures.value ∙ ap (λ g. g.names) c.grammar.view_is in
     let starts = c.deref-2.ensures.value ∙ ap (λ g. g.starts) c.grammar.view_is in
     let names-again = c.deref-3.ensures.value ∙ ap (λ g. g.names) c.grammar.view_is in

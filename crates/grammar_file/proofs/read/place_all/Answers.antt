@@ -3,6 +3,7 @@ use Rattle.std.proofs.lemmas.Result.{err_from_is_err_and}
 use Rattle.std.specs.List.{list_all}
 use Rattle.grammar_file.proofs.KnownLemmas.{filter_first, left_sides_known}
 use Rattle.grammar_file.proofs.OutcomeLemmas.{err_holds, on_line-err}
+use Rattle.grammar_file.specs.Content.{IsLineNumber}
 use Rattle.grammar_file.specs.Grammar.{starts_and_rules, understood}
 use Rattle.grammar_file.specs.Names.{is_known}
 use Rattle.grammar_file.specs.Statements.{left_side, names_of}
@@ -22,8 +23,16 @@ place-requires-clause-left_side c =
     let P : Spoken → Type 0 = λ s. list_all (is_known (names_of c.args.lines.now)) (left_side s) ≡ true in
     rw c.requires.kept (subst P (sym c.line-item.is) known)
 
-pub returns-in_err-on_line : goal.returns-in_err-on_line
-returns-in_err-on_line c =
+pub returns-in_err-on_line-clause-at : goal.returns-in_err-on_line-clause-at
+returns-in_err-on_line-clause-at c = λ end within.
+    let line : Spoken = c.line-item.result in
+    let p = err_from_is_err_and c.from_residual.result c.from_residual.ensures.1 in
+    let why = on_line-err line.line c.place.result _ (sym c.on_line.ensures ∙ c.in_err-on_line.was) in
+    let P : Spoken → Type 0 = λ s. IsLineNumber end s.line in
+    rw (p.1, p.2, why.2) (subst P (sym c.line-item.is) (within c.loop-line.line-index line c.loop-line-test.true))
+
+pub returns-in_err-on_line-clause-value : goal.returns-in_err-on_line-clause-value
+returns-in_err-on_line-clause-value c =
     let line : Spoken = c.line-item.result in
     let lines : List Spoken = c.args.lines.now in
     let names : List (List ℕ) = names_of lines in

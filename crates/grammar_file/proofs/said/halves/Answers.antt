@@ -2,7 +2,7 @@ use Rattle.std.proofs.Common.{rules, tests, arith, sym, ◌∙◌, ap, take, dro
 use Rattle.std.proofs.lemmas.Iterator.{YieldsList-from_slice}
 use Rattle.std.proofs.lemmas.Iterator.Search.{position_from_yields_List}
 use Rattle.std.proofs.lemmas.List.{drop_all, take_all, take_rest}
-use Rattle.grammar_file.proofs.NameLemmas.{position-found, position-missing}
+use Rattle.rhythm_base.proofs.Positions.{position-found, position-missing}
 use Rattle.grammar_file.proofs.said.halves.Goals as goal
 
 pub returns-in-Some-clause-before : goal.returns-in-Some-clause-before

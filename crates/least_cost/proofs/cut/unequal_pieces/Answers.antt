@@ -1,6 +1,6 @@
 use Rattle.std.proofs.Common.{◌≡◌, max, arith, rules}
-use Rattle.rhythm_base.specs.Trees.{sizes}
-use Rattle.least_cost.proofs.Shares.{part_le}
+use Rattle.rhythm_base.specs.Bodies.{sizes}
+use Rattle.rhythm_base.proofs.Sizes.{part_le}
 use Rattle.least_cost.proofs.cut.unequal_pieces.Goals as goal
 
 pub overflow_mul-part : goal.overflow_mul-part

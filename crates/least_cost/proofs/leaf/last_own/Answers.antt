@@ -1,9 +1,8 @@
 use Rattle.std.proofs.Common.{◌≡◌, ◌<◌, ◌∙◌, ◌&&◌, Bool, true, false, get_or, length, ap, sym, arith}
 use Rattle.rhythm_base.specs.declared.inner.Inner.{Inner}
-use Rattle.rhythm_base.specs.Cell.{IsInner}
-use Rattle.rhythm_base.specs.Cells.{last_end}
+use Rattle.rhythm_base.specs.BarInput.{IsInner}
+use Rattle.rhythm_base.specs.Lists.{last_end}
 use Rattle.rhythm_base.specs.Leaves.{goes_left, lies_in}
-use Rattle.rhythm_base.specs.Line.{Sounding}
 use Rattle.least_cost.specs.OneLeaf.{leaf_of_cell}
 use Rattle.least_cost.proofs.Hearing.{ends-off, last-on}
 use Rattle.least_cost.proofs.leaf.last_own.Goals.{then-goes_here, else-goes_here}
@@ -17,7 +16,7 @@ loop-chord-preserved c =
     let low : i < length items = c.loop-chord-test.true in
     let k = c.args.input.now in
     let x = leaf_of_cell k c.args.p c.args.w in
-    let t : Sounding → Bool = λ c'. lies_in k.resolution x c'.onset && goes_left k.resolution x c'.onset in
+    let t : Inner → Bool = λ c'. lies_in k.resolution x c'.onset && goes_left k.resolution x c'.onset in
     elim c.if-goes_here.branch [
       | then-goes_here v ↦
           let out : t (get_or items i d) ≡ true = sym c.goes_here.ensures ∙ v.if-goes_here.true in

@@ -1,5 +1,5 @@
 use Rattle.std.proofs.Common.{◌≡◌, ◌≤◌, take}
-use Rattle.rhythm_base.specs.Cells.{last_end}
+use Rattle.rhythm_base.specs.Lists.{last_end}
 use Rattle.rhythm_base.specs.Leaves.{looks}
 use Rattle.rhythm_laws.specs.Runs.{lefts}
 use Rattle.least_cost.specs.OneLeaf.{leaf_of_cell}

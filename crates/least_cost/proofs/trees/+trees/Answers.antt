@@ -4,31 +4,32 @@ use Rattle.std.proofs.lemmas.Bool.Decides.{nat_tests}
 use Rattle.std.proofs.lemmas.List.{length-map, nil_from_length}
 use Rattle.rhythm_base.specs.declared.rule.Rule.{Rule}
 use Rattle.std.proofs.lemmas.Option.{slice_get-get_or, slice_get_read}
-use Rattle.rhythm_base.specs.Cell.{Cell}
-use Rattle.rhythm_base.specs.Outline.{Outline}
-use Rattle.rhythm_base.specs.Rulebook.{Rulebook}
-use Rattle.rhythm_base.specs.Trees.{can_cut, children, sizes, suits}
+use Rattle.rhythm_base.specs.BarInput.{BarInput}
+use Rattle.rhythm_base.specs.Shape.{Shape}
+use Rattle.rhythm_base.specs.Grammar.{Grammar}
+use Rattle.rhythm_base.specs.Bodies.{can_cut, children, sizes, ending_of}
+use Rattle.rhythm_base.specs.Trees.{suits}
 use Rattle.least_cost.specs.declared.cut.Piece.{Piece}
 use Rattle.least_cost.specs.declared.choice.Choice.{Choice}
 use Rattle.least_cost.specs.declared.memo.Asked.{Asked}
 use Rattle.least_cost.specs.declared.trees.LeafHere.{LeafHere}
 use Rattle.least_cost.specs.Entries.{IsGood, Offers, choice_at, entry_at}
-use Rattle.least_cost.specs.Nodes.{AreBeside, AreBest, AreFound, HasNoLeaf, IsAnswer, IsAnswerAt, IsLeafHere, cut_of, ground_of, is_cut, leaf_choice}
+use Rattle.least_cost.specs.Nodes.{AreBeside, AreBestChoices, AreFound, HasNoLeaf, IsAnswer, IsAnswerAt, IsLeafHere, ground_of, leaf_choice, rule_ending}
 use Rattle.least_cost.specs.Pieces.{pair_of}
 use Rattle.least_cost.specs.Pins.{demanded}
-use Rattle.least_cost.specs.RuleChoices.{IsBestBelow}
+use Rattle.least_cost.specs.RuleChoices.{IsBestBelow, HasNoTree}
 use Rattle.least_cost.specs.Rules.{topped_of}
-use Rattle.least_cost.specs.Shares.{AreBelow}
+use Rattle.rhythm_laws.specs.Shares.{AreBelow}
 use Rattle.least_cost.proofs.Families.{found-add, found-last, found-more}
 use Rattle.least_cost.proofs.Goods.{best-jumped, best-more, best-none, best-offered, best-passed, best-settled, good-nothing}
 use Rattle.least_cost.proofs.Leaves.{leaf-choices, no_leaf_tree}
 use Rattle.least_cost.proofs.Ropes.{Extends-same}
 use Rattle.least_cost.proofs.RuleKeys.{unsuited-least}
 use Rattle.least_cost.proofs.Searches.{answer-cheap, answer-low, answered, beside-cheap, beside-joined, beside-one, beside-stuck, cut_below, cut_few, cut_sizes, cut_stuck, cut_topped, grounded, no_pieces, pieces-split}
-use Rattle.least_cost.proofs.Shares.{below-wide}
-use Rattle.least_cost.specs.RuleChoices.{HasNoTree}
-use Rattle.least_cost.specs.Spans.{IsSpan}
+use Rattle.rhythm_laws.proofs.Shares.{below-wide}
+use Rattle.least_cost.specs.Spans.{IsRuleSpan}
 use Rattle.rhythm_base.specs.declared.rule.Body.TheVariants.{Note}
+use Rattle.rhythm_base.specs.declared.rule.Ending.{Ending}
 use Rattle.least_cost.proofs.trees.+trees.Goals as goal
 
 and_then : {A B : Type 0} → A → B → A × B
@@ -212,26 +213,26 @@ by_cut-returns-clause-best t c =
     best-offered d s c.args.asked.place q c.args.number ls (λ a b. topped_of c.index-rule.result.now.weight c.args.number (entry_at c.beside.new.all a b)) c.args.best.now c.offer_topped_grid.new.best old topped c.offer_topped_grid.ensures
 
 -- what a leaf offers is taken in
-leaf_offered : (g : Rulebook) (k : Cell) (os : List Outline) (ls : List (List ℕ)) (asked : Asked) (r : ℕ) (rule : Rule) → slice_get g.rules r ≡ Some rule → suits (Some rule) (asked.width, asked.symbol) ≡ true → is_cut rule.body ≡ false
+leaf_offered : (g : Grammar) (k : BarInput) (os : List Shape) (ls : List (List ℕ)) (asked : Asked) (r : ℕ) (rule : Rule) → slice_get g.rules r ≡ Some rule → suits (Some rule) (asked.width, asked.symbol) ≡ true → (ending : Ending) → ending_of rule.body ≡ Some ending
     → g.resolution ≡ k.resolution → (leaf : Option LeafHere) → MatchOption leaf (HasNoLeaf g k os asked) (IsLeafHere g k os asked) → (old new : List (List (Option Choice)))
-    → MatchOption leaf (new ≡ old) (λ l. Offers (leaf_choice rule r l) old new) → AreBest g k os ls asked r old → AreBest g k os ls asked (r + 1) new
-leaf_offered g k os ls asked r rule at suit bare units None there old new h best =
+    → MatchOption leaf (new ≡ old) (λ l. Offers (leaf_choice ending rule.weight r l) old new) → AreBestChoices g k os ls asked r old → AreBestChoices g k os ls asked (r + 1) new
+leaf_offered g k os ls asked r rule at suit ending ends units None there old new h best =
     let d = ground_of g k in
     let s = demanded os asked.demand in
     let q : ℕ × ℕ = (asked.width, asked.symbol) in
-    subst (λ t. IsBestBelow d s asked.place q (r + 1) ls (choice_at t)) (sym h) (best-passed d s asked.place q r ls (choice_at old) (no_leaf_tree g k os asked r rule at suit bare there) best)
-leaf_offered g k os ls asked r rule at suit bare units (Some l) there old new h best =
+    subst (λ t. IsBestBelow d s asked.place q (r + 1) ls (choice_at t)) (sym h) (best-passed d s asked.place q r ls (choice_at old) (no_leaf_tree g k os asked r rule at suit ending ends there) best)
+leaf_offered g k os ls asked r rule at suit ending ends units (Some l) there old new h best =
     let d = ground_of g k in
     let s = demanded os asked.demand in
     let q : ℕ × ℕ = (asked.width, asked.symbol) in
-    best-offered d s asked.place q r ls (leaf_choice rule r l) old new best (leaf-choices g k os asked r rule at suit bare units ls l there) h
+    best-offered d s asked.place q r ls (leaf_choice ending rule.weight r l) old new best (leaf-choices g k os asked r rule at suit ending ends units ls l there) h
 
-pub by_rule-returns-then-not-is_cut-clause-best : goal.by_rule-returns-then-not-is_cut-clause-best
-by_rule-returns-then-not-is_cut-clause-best t c =
+pub by_rule-returns-in-Some-clause-best : goal.by_rule-returns-in-Some-clause-best
+by_rule-returns-in-Some-clause-best t c =
     let g = c.args.grammar.now in
     let own : c.grammar.inside.rules.items ≡ g.rules = search rules in
     let at = rule_here g.rules c.grammar.inside.rules.items c.args.number c.index-rule.result.now own c.requires.number c.index-rule.ensures in
-    leaf_offered g c.args.input.now c.args.pins.now c.args.memo.now.lists c.args.asked c.args.number c.index-rule.result.now at (sym c.suits.ensures ∙ c.if-not-suits.false) (sym c.is_cut.ensures ∙ c.if-not-is_cut.true)
+    leaf_offered g c.args.input.now c.args.pins.now c.args.memo.now.lists c.args.asked c.args.number c.index-rule.result.now at (sym c.suits.ensures ∙ c.if-not-suits.false) c.in-Some.ending (sym c.ending.ensures ∙ c.in-Some.is)
     c.requires.ready.units c.args.leaf c.requires.leaf c.args.best.now c.offer_by_leaf.new.best c.offer_by_leaf.ensures c.requires.best
 
 pub by_rule-returns-then-not-suits-clause-best : goal.by_rule-returns-then-not-suits-clause-best
@@ -251,7 +252,7 @@ by_rule-by_cut-requires t c =
     let own : c.grammar.inside.rules.items ≡ g.rules = search rules in
     let at = rule_here g.rules c.grammar.inside.rules.items c.args.number c.index-rule.result.now own c.requires.number c.index-rule.ensures in
     let suit = ap (λ o. suits o (c.args.asked.width, c.args.asked.symbol)) at ∙ sym c.suits.ensures ∙ c.if-not-suits.false in
-    let cuts = ap cut_of at ∙ sym c.is_cut.ensures ∙ c.if-not-is_cut.false in
+    let cuts = ap rule_ending at ∙ sym c.ending.ensures ∙ c.in-None.is in
     and_then (omega (arith, c.decreases)) (and_then c.requires.ready (and_then c.requires.spans (and_then c.requires.within (and_then c.requires.number (and_then suit (and_then cuts (and_then c.requires.found c.requires.best)))))))
 
 -- a rule of another symbol
@@ -261,7 +262,7 @@ other_symbol rules r rule w s at other =
     ap (λ o. suits o (w, s)) at ∙ ap (λ b. b && can_cut rule.body w) off
 
 -- no rule outside the span is one of the symbol
-outside : (g : Rulebook) (k : Cell) (os : List Outline) (asked : Asked) (first last j : ℕ) → IsSpan g.rules asked.symbol first last → j < length g.rules → ((first ≤ j) → (j < last) → ⊥)
+outside : (g : Grammar) (k : BarInput) (os : List Shape) (asked : Asked) (first last j : ℕ) → IsRuleSpan g.rules asked.symbol first last → j < length g.rules → ((first ≤ j) → (j < last) → ⊥)
     → HasNoTree (ground_of g k) (demanded os asked.demand) asked.place (asked.width, asked.symbol) j
 outside g k os asked first last j span low out a b =
     let d : Rule = record { lhs = 0; weight = 0; body = Note } in
@@ -278,7 +279,7 @@ by_rules-loop-number-init t c =
     let first = c.span-span.result.first in
     let last = c.span-span.result.end in
     let low = c.span-span.ensures.within in
-    let P : ℕ → Type 0 = λ n. AreBest g k os c.args.memo.now.lists asked n c.args.best.now in
+    let P : ℕ → Type 0 = λ n. AreBestChoices g k os c.args.memo.now.lists asked n c.args.best.now in
     let from_none : 0 + first ≡ first = omega arith in
     record {
       more = Extends-same c.args.memo.now.lists;
@@ -298,7 +299,7 @@ by_rules-returns-clause-best t c =
     let low = c.span-span.ensures.within in
     let at : c.loop-number.number ≡ last = search rules in
     let ls = c.loop-number.memo.lists in
-    let P : ℕ → Type 0 = λ n. AreBest g k os ls asked n c.loop-number.best in
+    let P : ℕ → Type 0 = λ n. AreBestChoices g k os ls asked n c.loop-number.best in
     let whole : c.loop-number.number + (length g.rules - c.loop-number.number) ≡ length g.rules = omega (arith, at, low.1) in
     subst P whole
     (best-jumped (ground_of g k) (demanded os asked.demand) asked.place (asked.width, asked.symbol) (length g.rules - c.loop-number.number) c.loop-number.number ls (choice_at c.loop-number.best)
@@ -322,7 +323,7 @@ by_rules-loop-number-preserved-then-index-asked t c =
 
 pub least_trees-by_rules-requires : goal.least_trees-by_rules-requires
 least_trees-by_rules-requires t c =
-    let best : AreBest c.args.grammar.now c.args.input.now c.args.pins.now c.args.memo.now.lists c.args.asked 0 c.no_choices-best.result = best-none _ _ _ _ _ _ c.no_choices-best.ensures in
+    let best : AreBestChoices c.args.grammar.now c.args.input.now c.args.pins.now c.args.memo.now.lists c.args.asked 0 c.no_choices-best.result = best-none _ _ _ _ _ _ c.no_choices-best.ensures in
     and_then (omega (arith, c.decreases)) (and_then c.requires.ready (and_then c.requires.spans (and_then c.requires.within (and_then c.leaf_here-leaf.ensures.leaf (and_then c.leaf_here-leaf.ensures.small (and_then c.requires.found best))))))
 
 pub least_trees-returns-clause-found : goal.least_trees-returns-clause-found

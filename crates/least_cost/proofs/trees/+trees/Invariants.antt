@@ -1,5 +1,5 @@
 use Rattle.std.proofs.Common.{◌+◌, ◌*◌, length}
-use Rattle.least_cost.specs.Nodes.{AreBest, AreFound}
+use Rattle.least_cost.specs.Nodes.{AreBestChoices, AreFound}
 use Rattle.least_cost.specs.RuleLists.{Extends}
 use Rattle.least_cost.proofs.trees.+trees.Given as goal
 
@@ -22,5 +22,5 @@ abbrev pub invariant-by_rules-loop-number : goal.invariant-by_rules-loop-number
 invariant-by_rules-loop-number l = record {
   more : Extends l.initial.memo.lists l.memo.lists;
   found : AreFound l.grammar l.input l.pins l.memo.lists l.memo.found.items;
-  best : AreBest l.grammar l.input l.pins l.memo.lists l.asked l.number l.best;
+  best : AreBestChoices l.grammar l.input l.pins l.memo.lists l.asked l.number l.best;
 }

@@ -2,7 +2,7 @@ use Rattle.std.proofs.Common.{rules, tests, sym, ◌∙◌, ap, take, ◌==◌}
 use Rattle.std.proofs.lemmas.Iterator.{YieldsList-from_slice}
 use Rattle.std.proofs.lemmas.Iterator.Search.{position_from_yields_List}
 use Rattle.std.proofs.lemmas.List.{take_all}
-use Rattle.narrow_grammar.proofs.NameLemmas.{position-found, position-missing}
+use Rattle.rhythm_base.proofs.Positions.{position-found, position-missing}
 use Rattle.narrow_grammar.proofs.names.first_word.Goals as goal
 
 pub returns-in-Some : goal.returns-in-Some

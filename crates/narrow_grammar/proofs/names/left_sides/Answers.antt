@@ -2,7 +2,8 @@ use Rattle.std.proofs.Common.{◌≡◌, sym, ◌∙◌, ap, map}
 use Rattle.std.proofs.lemmas.List.{map-append}
 use Rattle.std.specs.List.{list_any}
 use Rattle.std.specs.Str.{bytes_eq}
-use Rattle.narrow_grammar.proofs.AppearanceLemmas.{first_appearances_more, list_any-map}
+use Rattle.rhythm_base.proofs.Positions.{list_any-map}
+use Rattle.narrow_grammar.proofs.AppearanceLemmas.{first_appearances_more}
 use Rattle.narrow_grammar.specs.Lines.{first_word}
 use Rattle.narrow_grammar.proofs.names.left_sides.Goals as goal
 use Rattle.narrow_grammar.proofs.names.left_sides.Goals.{then-not-contains+in_ok-push, else-not-contains}

@@ -1,5 +1,5 @@
 use Rattle.std.proofs.Common.{◌≡◌, ℕ, List, ◌-◌, length, Some, sym, ap, ◌∙◌, append-nil, arith, length-append}
-use Rattle.narrow_midi.specs.Track.{track}
+use Rattle.narrow_midi.specs.Track.{narrow_track}
 use Rattle.narrow_midi.proofs.NotesFollow.{with_front, without_delta, at_end, without_note, notes_follow, goes_on}
 use Rattle.narrow_midi.proofs.track.read_track.Goals as goal
 use Rattle.narrow_midi.proofs.track.read_track.Goals.{Then-is_end_of_track}
@@ -10,7 +10,7 @@ returns-in_default-clause-value c =
     let none = without_delta (length c.args.bytes.now - length s.notes.items) s.tick s.rest.now (sym c.in_default.ensures.value) in
     ap (with_front s.notes.items) (sym none) ∙ s.invariant.whole
 
-whole : (c : Then-is_end_of_track) → Some c.events.notes.items ≡ track c.args.bytes.now
+whole : (c : Then-is_end_of_track) → Some c.events.notes.items ≡ narrow_track c.args.bytes.now
 whole c =
     let s = c.events in
     let next : ℕ × List ℕ = (c.in-Some.next, c.in-Some.message.now) in

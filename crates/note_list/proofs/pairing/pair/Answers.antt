@@ -1,21 +1,14 @@
-use Rattle.std.proofs.Common.{◌≡◌, ◌<◌, ◌^◌, List, length, true, false, sym, subst, rules, arith}
+use Rattle.std.proofs.Common.{◌≡◌, ◌<◌, ◌^◌, List, sym, subst, rules, arith}
 use Rattle.std.specs.Prelude.{All}
 use Rattle.std.specs.List.{dedup}
-use Rattle.std.proofs.lemmas.Bool.Decides.{nat_tests}
 use Rattle.std.proofs.lemmas.Fn.{dedup_same}
 use Rattle.std.proofs.lemmas.List.Sorted.{answers_always}
 use Rattle.rhythm_base.specs.declared.note.Note.{Note}
 use Rattle.rhythm_base.specs.Notes.{AreNotes}
 use Rattle.note_list.specs.Pairing.{IsPlayed, rank_of_note}
 use Rattle.note_list.proofs.Kept.{same_place}
-use Rattle.note_list.proofs.OneList.{AreSorted, are_notes, all_played, no_note_begins, a_note_begins}
+use Rattle.note_list.proofs.OneList.{AreSorted, are_notes, all_played}
 use Rattle.note_list.proofs.pairing.pair.Goals as goal
-
-pub returns-then-is_empty-clause-fault : goal.returns-then-is_empty-clause-fault
-returns-then-is_empty-clause-fault c =
-    let raw = c.in_ok-notes.notes in
-    let none : length raw.items ≡ 0 = grind (arith, nat_tests, c.is_empty.ensures, c.if-is_empty.true, raw.ok) in
-    no_note_begins c.args.last c.args.events.now raw.items c.in_ok-notes.ensures none
 
 pub returns-then-len-gt-MOST_NOTES-clause-fault : goal.returns-then-len-gt-MOST_NOTES-clause-fault
 returns-then-len-gt-MOST_NOTES-clause-fault c =
@@ -45,12 +38,8 @@ returns-clause-notes c =
     let kept : c.dedup_by_key.new.self.items ≡ dedup same_place c.sort_by_key.new.self.items = dedup_same _ same_place _ (λ x y b f' x' y' k. search rules) _ _ c.dedup_by_key.ensures.filtered in
     let P : List Note → Type 0 = AreNotes c.args.last c.args.events.now in
     let low : c.args.last < 2 ^ 64 = omega arith in
-    let some : (length raw.items ≡ 0) → ⊥ = λ h. absurd (
-    let empty : c.is_empty.result ≡ true = grind (arith, nat_tests, c.is_empty.ensures, h, raw.ok) in
-    let full : c.is_empty.result ≡ false = c.if-is_empty.false in
-    cc) in
     record {
-      sounding = a_note_begins c.args.last c.args.events.now raw.items c.in_ok-notes.ensures some;
+      sounding = search rules;
       notes = subst P (sym kept) (are_notes c.args.last c.args.events.now raw.items c.sort_by_key.new.self.items low sorted);
       few = omega (arith, c.if-len-gt-MOST_NOTES.false, c.len.ensures, c.dedup_by_key.new.self.ok);
     }

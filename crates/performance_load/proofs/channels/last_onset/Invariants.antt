@@ -1,5 +1,5 @@
 use Rattle.std.proofs.Common.{◌≡◌, map, take}
-use Rattle.smf_reader.specs.Played.{greatest}
+use Rattle.rhythm_base.specs.Lists.{greatest}
 use Rattle.performance_load.proofs.channels.last_onset.Given as goal
 
 abbrev pub invariant-loop-note : goal.invariant-loop-note

@@ -4,12 +4,12 @@ use Rattle.std.specs.List.Sorted.{IsNonDecreasing}
 use Rattle.rhythm_base.specs.declared.event.Event.{Event}
 use Rattle.rhythm_base.specs.declared.note.Note.{Note}
 use Rattle.rhythm_base.specs.Bars.{AreEnough}
-use Rattle.rhythm_base.specs.Performed.{IsWellFormed}
+use Rattle.rhythm_base.specs.Performance.{IsWellFormed}
 use Rattle.rhythm_base.specs.Time.{keys_of, signatures_of, tempos_of}
 use Rattle.note_list.specs.Pairing.{ArePaired, IsEventOf, IsPlayed}
-use Rattle.smf_reader.specs.Played.{PlayedFile}
+use Rattle.smf_reader.specs.Played.{Smf}
 use Rattle.tempo_map.specs.Laying.{AreBars, Lays}
-use Rattle.performance_load.specs.Loading.{AreVoicesOf, Loads, lay_fault_gives, last_end, last_onset, last_tick}
+use Rattle.performance_load.specs.Loading.{AreVoicesOf, Loads, bar_fault_gives, greatest_end, greatest_onset, last_tick}
 use Rattle.performance_load.proofs.Formed.{are_events, bars_at_fault, end_low, formed, onset_low, signatures_in_order}
 use Rattle.performance_load.proofs.loading.load.Goals as goal
 
@@ -29,7 +29,7 @@ lay_bars-requires-clause-onset c =
     let paired : ArePaired (last_tick c.args.smf.now) c.in_ok-events.events.items c.in_ok-notes.notes.items =
     subst (λ t. ArePaired t c.in_ok-events.events.items c.in_ok-notes.notes.items) c.last.ensures (subst (λ es. ArePaired c.last.result es c.in_ok-notes.notes.items) c.deref.ensures.value c.in_ok-notes.ensures.notes) in
     let low = onset_low c.args.smf.now c.in_ok-events.events.items c.requires c.in_ok-events.ensures c.in_ok-notes.notes.items paired sounded in
-    omega (arith, low, c.last_onset.ensures ∙ ap last_onset c.deref-4.ensures.value, c.last_end.ensures ∙ ap last_end c.deref-5.ensures.value)
+    omega (arith, low, c.last_onset.ensures ∙ ap greatest_onset c.deref-4.ensures.value, c.last_end.ensures ∙ ap greatest_end c.deref-5.ensures.value)
 
 pub lay_bars-requires-clause-end : goal.lay_bars-requires-clause-end
 lay_bars-requires-clause-end c =
@@ -37,44 +37,44 @@ lay_bars-requires-clause-end c =
     let paired : ArePaired (last_tick c.args.smf.now) c.in_ok-events.events.items c.in_ok-notes.notes.items =
     subst (λ t. ArePaired t c.in_ok-events.events.items c.in_ok-notes.notes.items) c.last.ensures (subst (λ es. ArePaired c.last.result es c.in_ok-notes.notes.items) c.deref.ensures.value c.in_ok-notes.ensures.notes) in
     let low = end_low c.args.smf.now c.in_ok-events.events.items c.requires c.in_ok-events.ensures c.in_ok-notes.notes.items paired sounded in
-    omega (arith, low, c.last_end.ensures ∙ ap last_end c.deref-5.ensures.value)
+    omega (arith, low, c.last_end.ensures ∙ ap greatest_end c.deref-5.ensures.value)
 
 pub returns-in_err-laid : goal.returns-in_err-laid
 returns-in_err-laid c =
-    let f : PlayedFile = c.args.smf.now in
+    let f : Smf = c.args.smf.now in
     let paired : ArePaired (last_tick f) c.in_ok-events.events.items c.in_ok-notes.notes.items =
     subst (λ t. ArePaired t c.in_ok-events.events.items c.in_ok-notes.notes.items) c.last.ensures (subst (λ es. ArePaired c.last.result es c.in_ok-notes.notes.items) c.deref.ensures.value c.in_ok-notes.ensures.notes) in
     let signatures : c.deref-3.result.now ≡ signatures_of c.in_ok-events.events.items = c.deref-3.ensures.value ∙ c.in_ok-changes.ensures.signatures ∙ ap signatures_of c.deref-2.ensures.value in
-    let onset : c.last_onset.result ≡ last_onset c.in_ok-notes.notes.items = c.last_onset.ensures ∙ ap last_onset c.deref-4.ensures.value in
-    let end : c.last_end.result ≡ last_end c.in_ok-notes.notes.items = c.last_end.ensures ∙ ap last_end c.deref-5.ensures.value in
+    let onset : c.last_onset.result ≡ greatest_onset c.in_ok-notes.notes.items = c.last_onset.ensures ∙ ap greatest_onset c.deref-4.ensures.value in
+    let end : c.last_end.result ≡ greatest_end c.in_ok-notes.notes.items = c.last_end.ensures ∙ ap greatest_end c.deref-5.ensures.value in
     let division : c.smf.inside.division ≡ f.division = search rules in
     let laid : Lays c.smf.inside.division c.deref-3.result.now c.last_onset.result c.last_end.result (Err c.in_err-laid.field-0.0) = c.in_err-laid.ensures.laid in
-    let moved : Lays f.division (signatures_of c.in_ok-events.events.items) (last_onset c.in_ok-notes.notes.items) (last_end c.in_ok-notes.notes.items) (Err c.in_err-laid.field-0.0) =
-    subst (λ d. Lays d (signatures_of c.in_ok-events.events.items) (last_onset c.in_ok-notes.notes.items) (last_end c.in_ok-notes.notes.items) (Err c.in_err-laid.field-0.0)) division
-    (subst (λ s. Lays c.smf.inside.division s (last_onset c.in_ok-notes.notes.items) (last_end c.in_ok-notes.notes.items) (Err c.in_err-laid.field-0.0)) signatures
-    (subst (λ o. Lays c.smf.inside.division c.deref-3.result.now o (last_end c.in_ok-notes.notes.items) (Err c.in_err-laid.field-0.0)) onset
+    let moved : Lays f.division (signatures_of c.in_ok-events.events.items) (greatest_onset c.in_ok-notes.notes.items) (greatest_end c.in_ok-notes.notes.items) (Err c.in_err-laid.field-0.0) =
+    subst (λ d. Lays d (signatures_of c.in_ok-events.events.items) (greatest_onset c.in_ok-notes.notes.items) (greatest_end c.in_ok-notes.notes.items) (Err c.in_err-laid.field-0.0)) division
+    (subst (λ s. Lays c.smf.inside.division s (greatest_onset c.in_ok-notes.notes.items) (greatest_end c.in_ok-notes.notes.items) (Err c.in_err-laid.field-0.0)) signatures
+    (subst (λ o. Lays c.smf.inside.division c.deref-3.result.now o (greatest_end c.in_ok-notes.notes.items) (Err c.in_err-laid.field-0.0)) onset
     (subst (λ e. Lays c.smf.inside.division c.deref-3.result.now c.last_onset.result e (Err c.in_err-laid.field-0.0)) end laid))) in
-    let gives : c.from_residual-in_err-laid.result ≡ Err (lay_fault_gives c.in_err-laid.field-0.0) = search rules in
+    let gives : c.from_residual-in_err-laid.result ≡ Err (bar_fault_gives c.in_err-laid.field-0.0) = search rules in
     subst (Loads f) (sym gives) (bars_at_fault f c.in_ok-events.events.items c.in_ok-notes.notes.items c.in_err-laid.field-0.0 c.in_ok-events.ensures paired moved)
 
 pub make-requires : goal.make-requires
 make-requires c =
-    let f : PlayedFile = c.args.smf.now in
+    let f : Smf = c.args.smf.now in
     let events : List Event = c.in_ok-events.events.items in
     let notes : List Note = c.in_ok-notes.notes.items in
     let sounded : All (IsPlayed (last_tick f)) notes = subst (λ t. All (IsPlayed t) notes) c.last.ensures c.in_ok-notes.ensures.played in
     let paired : ArePaired (last_tick f) events notes =
     subst (λ t. ArePaired t events notes) c.last.ensures (subst (λ es. ArePaired c.last.result es notes) c.deref.ensures.value c.in_ok-notes.ensures.notes) in
-    let onset : c.last_onset.result ≡ last_onset notes = c.last_onset.ensures ∙ ap last_onset c.deref-4.ensures.value in
-    let end : c.last_end.result ≡ last_end notes = c.last_end.ensures ∙ ap last_end c.deref-5.ensures.value in
+    let onset : c.last_onset.result ≡ greatest_onset notes = c.last_onset.ensures ∙ ap greatest_onset c.deref-4.ensures.value in
+    let end : c.last_end.result ≡ greatest_end notes = c.last_end.ensures ∙ ap greatest_end c.deref-5.ensures.value in
     let division : c.smf.inside.division ≡ f.division = search rules in
     let tempos : c.in_ok-changes.changes.tempos.items ≡ tempos_of events = c.in_ok-changes.ensures.tempos ∙ ap tempos_of c.deref-2.ensures.value in
     let key_marks : c.in_ok-changes.changes.key_marks.items ≡ keys_of events = c.in_ok-changes.ensures.key_marks ∙ ap keys_of c.deref-2.ensures.value in
     let bars : c.laid.inside.bars.items ≡ c.in_ok-laid.laid.bars = search rules in
     let last : c.laid.inside.last ≡ c.in_ok-laid.laid.last = search rules in
     let pins : c.new.result.items ≡ [] = c.new.ensures.items in
-    let enough : AreEnough (last_onset notes) (last_end notes) c.in_ok-laid.laid.bars c.in_ok-laid.laid.last =
-    subst (λ o. AreEnough o (last_end notes) c.in_ok-laid.laid.bars c.in_ok-laid.laid.last) onset
+    let enough : AreEnough (greatest_onset notes) (greatest_end notes) c.in_ok-laid.laid.bars c.in_ok-laid.laid.last =
+    subst (λ o. AreEnough o (greatest_end notes) c.in_ok-laid.laid.bars c.in_ok-laid.laid.last) onset
     (subst (λ e. AreEnough c.last_onset.result e c.in_ok-laid.laid.bars c.in_ok-laid.laid.last) end c.in_ok-laid.ensures.laid.1) in
     let laid : AreBars f.division c.in_ok-laid.laid.bars c.in_ok-laid.laid.last = subst (λ d. AreBars d c.in_ok-laid.laid.bars c.in_ok-laid.laid.last) division c.in_ok-laid.ensures.formed in
     let voices : AreVoicesOf notes c.in_ok-channels.channels.items = subst (λ ns. AreVoicesOf ns c.in_ok-channels.channels.items) c.deref-6.ensures.value c.in_ok-channels.ensures in

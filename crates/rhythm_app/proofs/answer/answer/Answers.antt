@@ -1,7 +1,7 @@
 use Rattle.std.proofs.Common.{rules, ◌≡◌, ◌*◌, [], ◌∷◌, true, ap, subst, refl}
 use Rattle.std.specs.Prelude.{IfSome, Ok, unwrap_or}
 use Rattle.rhythm_base.specs.Least.{HasNone}
-use Rattle.rhythm_base.specs.Rulebook.{root_of}
+use Rattle.rhythm_base.specs.Grammar.{root_of}
 use Rattle.rhythm_app.specs.Score.{IsLeastText, chords_of}
 use Rattle.rhythm_app.specs.Tests.{are_apart}
 use Rattle.rhythm_app.proofs.ReadyBars.{are_ready, bar_with, of_ready}

@@ -1,5 +1,5 @@
 use Rattle.std.proofs.Common.{◌≡◌, drop}
-use Rattle.rhythm_base.specs.Rulebook.{root_of}
+use Rattle.rhythm_base.specs.Grammar.{root_of}
 use Rattle.rhythm_app.proofs.answer.root.Given as goal
 
 abbrev pub invariant-starts : goal.invariant-starts

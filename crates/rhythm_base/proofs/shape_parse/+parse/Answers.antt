@@ -1,7 +1,7 @@
 use Rattle.std.proofs.Common.{List, ◌+◌, ◌≤◌, ◌≡◌, ◌∷◌, ◌++◌, ℕ, ◌-◌, sym, ap, ◌∙◌, subst, arith}
 use Rattle.std.proofs.lemmas.Result.{err_from_is_err_and, IfOk-weaker}
-use Rattle.rhythm_base.specs.Outline.{outline_of}
-use Rattle.rhythm_base.specs.ShapeReading.{IsPart, Parts, StopsWith, head_text}
+use Rattle.rhythm_base.specs.Shape.{shape_of_parts}
+use Rattle.rhythm_base.specs.ShapeReading.{IsPart, PartsText, StopsWith, head_text}
 use Rattle.rhythm_base.specs.ShapeText.{shape_text, texts_of_parts}
 use Rattle.rhythm_base.proofs.ShapeStops
 use Rattle.rhythm_base.proofs.ShapeParts
@@ -32,7 +32,7 @@ part-returns-in_err-rest-2-clause-err t c =
     let head = c.in_ok-count.ensures.ok in
     let parts = c.in_ok-rest.ensures.ok in
     ShapeStops.stopped c.from_residual-in_err-rest-2.result _ p.0 p.1 p.2 c.in_err-rest-2.ensures.err
-    (λ left stop. ShapeParts.stops_at_bracket c.args.levels c.in_ok-count.count (outline_of parts.0) c.in_ok-rest.rest.now c.in_ok-count.rest.now c.args.text.now left
+    (λ left stop. ShapeParts.stops_at_bracket c.args.levels c.in_ok-count.count (shape_of_parts parts.0) c.in_ok-rest.rest.now c.in_ok-count.rest.now c.args.text.now left
     head.0.can (ShapeParts.not_none c.in_ok-count.count c.if-count-eq0.false) head.1 parts.1 parts.3 stop)
 
 pub part-cut-requires-clause-low : goal.part-cut-requires-clause-low
@@ -54,10 +54,10 @@ part-returns-clause-ok t c =
     let head = c.in_ok-count.ensures.ok in
     let parts = c.in_ok-rest.ensures.ok in
     let all : c.push_parts.new.parts.items ≡ parts.0 = parts.2 ∙ ap (λ l. l ++ parts.0) c.new-parts.ensures.items in
-    let bracket : c.in_ok-count.rest.now ≡ texts_of_parts (outline_of parts.0) ++ 41 ∷ c.in_ok-rest-2.rest.now =
-    parts.3 ∙ ap (λ l. texts_of_parts (outline_of parts.0) ++ l) c.in_ok-rest-2.ensures.ok in
-    subst (λ x. IsPart c.args.levels x × (c.args.text.now ≡ shape_text x ++ c.in_ok-rest-2.rest.now)) (sym (c.cut.ensures ∙ ap outline_of all))
-    (ShapeParts.cut_is c.args.levels c.in_ok-count.count (outline_of parts.0) c.in_ok-rest-2.rest.now c.in_ok-count.rest.now c.args.text.now head.0.can
+    let bracket : c.in_ok-count.rest.now ≡ texts_of_parts (shape_of_parts parts.0) ++ 41 ∷ c.in_ok-rest-2.rest.now =
+    parts.3 ∙ ap (λ l. texts_of_parts (shape_of_parts parts.0) ++ l) c.in_ok-rest-2.ensures.ok in
+    subst (λ x. IsPart c.args.levels x × (c.args.text.now ≡ shape_text x ++ c.in_ok-rest-2.rest.now)) (sym (c.cut.ensures ∙ ap shape_of_parts all))
+    (ShapeParts.cut_is c.args.levels c.in_ok-count.count (shape_of_parts parts.0) c.in_ok-rest-2.rest.now c.in_ok-count.rest.now c.args.text.now head.0.can
     (ShapeParts.not_none c.in_ok-count.count c.if-count-eq0.false) head.1 parts.1 bracket)
 
 pub push_parts-returns-in_err-shape-clause-err : goal.push_parts-returns-in_err-shape-clause-err
@@ -79,7 +79,7 @@ push_parts-returns-in_err-rest-clause-err t c =
     let more : 1 ≤ c.args.count - 1 = omega (arith, c.requires.some, c.if-count-eq1.false) in
     let whole : c.args.count - 1 + 1 ≡ c.args.count = omega (arith, c.requires.some) in
     ShapeStops.stopped c.from_residual-in_err-rest.result _ p.0 p.1 p.2 c.in_err-rest.ensures.err
-    (λ left stop. subst (λ n. StopsWith (Parts c.args.levels n) c.args.text.now left) whole
+    (λ left stop. subst (λ n. StopsWith (PartsText c.args.levels n) c.args.text.now left) whole
     (ShapeParts.stops_at_space c.args.levels (c.args.count - 1) c.in_ok-shape.shape c.in_ok-shape.rest.now c.args.text.now left c.requires.deep more shape.0 shape.1 stop))
 
 pub push_parts-returns-clause-ok : goal.push_parts-returns-clause-ok
@@ -97,6 +97,6 @@ push_parts-returns-clause-err t c =
     let more : 1 ≤ c.args.count - 1 = omega (arith, c.requires.some, c.if-count-eq1.false) in
     let whole : c.args.count - 1 + 1 ≡ c.args.count = omega (arith, c.requires.some) in
     ShapeStops.turned c.push_parts.result c.push_parts.ensures.err
-    (λ left stop. subst (λ n. StopsWith (Parts c.args.levels n) c.args.text.now left) whole
+    (λ left stop. subst (λ n. StopsWith (PartsText c.args.levels n) c.args.text.now left) whole
     (ShapeParts.stops_in_others c.args.levels (c.args.count - 1) c.in_ok-shape.shape c.in_ok-rest.rest.now c.in_ok-shape.rest.now c.args.text.now left
     c.requires.deep more shape.0 shape.1 c.in_ok-rest.ensures.ok stop))

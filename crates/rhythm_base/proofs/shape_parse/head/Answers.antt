@@ -1,6 +1,6 @@
 use Rattle.std.proofs.Common.{List, ◌+◌, ◌<◌, ◌≤◌, ◌≡◌, ◌∷◌, ◌++◌, length, take, drop, get_or, ℕ, ◌-◌, sym, ap, ◌∙◌, subst, arith, inl, inr}
 use Rattle.std.proofs.lemmas.Result.{err_from_is_err_and, IfOk-weaker}
-use Rattle.rhythm_base.specs.ShapeReading.{Head, IsHead, StopsWith, head_text}
+use Rattle.rhythm_base.specs.ShapeReading.{HeadText, IsHead, StopsWith, head_text}
 use Rattle.rhythm_base.proofs.ShapeStops
 use Rattle.rhythm_base.proofs.ShapeTexts.{first_and_rest}
 use mathlib.Core.Logic.{⊎_elim}
@@ -12,7 +12,7 @@ returns-in-empty-clause-err c =
     let text : List ℕ = c.args.text.now in
     let none : length text ≡ 0 = omega (arith, c.in-empty.len_below) in
     let next = ShapeStops.nothing_next text none in
-    subst (λ n. StopsWith (Head c.args.levels) text n) none
+    subst (λ n. StopsWith (HeadText c.args.levels) text n) none
     (ShapeStops.no_head c.args.levels text (λ h. omega (arith, h, next)) (inr (inr (omega (arith, next)))))
 
 pub returns-in_err-byte-clause-err : goal.returns-in_err-byte-clause-err

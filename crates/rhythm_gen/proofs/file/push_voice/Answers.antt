@@ -2,7 +2,7 @@ use Rattle.std.proofs.Common.{rules, ◌≡◌, ◌++◌, ◌*◌, List, ℕ, le
 use Rattle.std.specs.Prelude.{All}
 use Rattle.std.proofs.lemmas.Result.{IfOk-equal}
 use Rattle.rhythm_base.specs.declared.note.Note.{Note}
-use Rattle.rhythm_gen.specs.MidiFile.{track}
+use Rattle.rhythm_gen.specs.MidiFile.{track_chunk_bytes}
 use Rattle.rhythm_gen.specs.Track.{track_bytes}
 use Rattle.rhythm_gen.specs.Voice.{CanBeWritten, first_beats}
 use Rattle.rhythm_gen.proofs.Tracks.{track_short}
@@ -28,4 +28,4 @@ returns-clause-track c =
     let notes : c.as_slice.result.now ≡ first_beats c.args.draws.now c.args.channel (4 * c.args.bars) = search rules in
     let content : c.as_slice-2.result.now ≡ track_bytes c.as_slice.result.now (1920 * c.args.bars) = search rules in
     let all = content ∙ ap (λ (xs : List Note). track_bytes xs (1920 * c.args.bars)) notes in
-    IfOk-equal c.push_track.result _ _ _ c.push_track.ensures (ap (λ (xs : List ℕ). c.args.bytes.now.items ++ track xs) all)
+    IfOk-equal c.push_track.result _ _ _ c.push_track.ensures (ap (λ (xs : List ℕ). c.args.bytes.now.items ++ track_chunk_bytes xs) all)

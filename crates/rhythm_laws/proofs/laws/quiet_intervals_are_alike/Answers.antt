@@ -1,4 +1,4 @@
-use Rattle.rhythm_base.specs.Trees.{sizes}
+use Rattle.rhythm_base.specs.Bodies.{sizes}
 use Rattle.rhythm_laws.proofs.Quiet.{alike-key, alike-turned}
 use Rattle.rhythm_laws.proofs.laws.quiet_intervals_are_alike.Goals as goal
 

@@ -1,6 +1,6 @@
 use Rattle.std.proofs.Common.{ℕ, ◌-◌, List, length, refl, sym, ap, subst, arith, ◌∙◌}
 use Rattle.std.proofs.lemmas.Result.{err_from_is_err_and}
-use Rattle.smf_reader.specs.Played.{PlayedTrack}
+use Rattle.smf_reader.specs.Played.{Track}
 use Rattle.smf_reader.specs.Track.{track}
 use Rattle.smf_reader.specs.Chunk.{tracks}
 use Rattle.smf_reader.proofs.ChunkSteps.{ComesTo, starts, is_done, fails, goes_on, skips, track_fails}
@@ -9,7 +9,7 @@ use Rattle.smf_reader.proofs.chunk.read_tracks.Goals as goal
 pub chunks-init : goal.chunks-init
 chunks-init c =
     let whole = tracks (length c.args.bytes.now) c.args.count c.args.bytes.now c.args.at in
-    let P : List PlayedTrack → Type 0 = λ ts. ComesTo c.args.bytes.now ts c.args.count c.args.at whole in
+    let P : List Track → Type 0 = λ ts. ComesTo c.args.bytes.now ts c.args.count c.args.at whole in
     record {
       so_far = subst P (sym c.new-tracks.ensures.items) (starts c.args.bytes.now c.args.count c.args.at whole refl);
       within = c.requires;

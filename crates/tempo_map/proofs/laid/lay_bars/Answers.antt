@@ -4,7 +4,7 @@ use Rattle.std.proofs.lemmas.Result.{err_from_is_err_and}
 use Rattle.rhythm_base.specs.declared.note.Bar.{Bar}
 use Rattle.rhythm_base.specs.Bars.{AreEnough, fault_at, nominal_at}
 use Rattle.tempo_map.specs.Laying.{IsBarAt}
-use Rattle.tempo_map.proofs.BarByBar.{Laying, laying_more, are_bars, is_fault}
+use Rattle.tempo_map.proofs.BarByBar.{Laying, laying_more, are_bars, is_fault, lays_fault}
 use Rattle.tempo_map.proofs.laid.lay_bars.Goals as goal
 
 pub returns-in_err-bar-clause-laid : goal.returns-in_err-bar-clause-laid
@@ -17,7 +17,8 @@ returns-in_err-bar-clause-laid c =
     let p = err_from_is_err_and c.from_residual.result c.from_residual.ensures.1 in
     let count : c.len.result ≡ length s.bars.items = omega (arith, c.len.ensures, s.bars.ok) in
     let at : fault_at c.args.division c.args.signatures.now (length s.bars.items) s.end ≡ Some c.in_err-bar.field-0.0 = subst (λ n. fault_at c.args.division c.args.signatures.now n s.end ≡ Some c.in_err-bar.field-0.0) count c.in_err-bar.ensures in
-    rw (p.1, p.2) (is_fault c.args.division c.args.signatures.now c.args.last_onset c.args.last_end s.bars.items s.end c.in_err-bar.field-0.0 s.invariant more at)
+    rw (p.1, p.2) (lays_fault c.args.division c.args.signatures.now c.args.last_onset c.args.last_end c.in_err-bar.field-0.0
+    (is_fault c.args.division c.args.signatures.now c.args.last_onset c.args.last_end s.bars.items s.end c.in_err-bar.field-0.0 s.invariant more at))
 
 pub bars-preserved : goal.bars-preserved
 bars-preserved c =

@@ -1,7 +1,7 @@
 use Rattle.std.proofs.Common.{◌≡◌, ◌∙◌, ◌++◌, ◌+◌, ◌*◌, ◌/◌, ◌<◌, length, ap, arith}
 use Rattle.std.specs.Prelude.{drop}
 use Rattle.std.proofs.lemmas.List.{length_push}
-use Rattle.chain_bars.specs.Tower.{node_at, paired}
+use Rattle.chain_bars.specs.Tower.{node_at, level_above}
 use Rattle.chain_bars.proofs.Growth.{pairs_step, pairs_count}
 use Rattle.chain_bars.proofs.levels.Level.paired.Goals as goal
 
@@ -14,7 +14,7 @@ pairs-preserved g c =
     let read = c.slice.ensures in
     let size : length c.slice.result.now ≡ length nodes = ap length read in
     let more : length c.push_reserved.new.self.items ≡ length c.pairs.nodes.items + 1 = ap length c.push_reserved.ensures.items ∙ length_push c.pairs.nodes.items c.joined.result in (
-      ap (λ l. l ++ paired (drop (2 * (c.pairs.number + 1)) nodes)) c.push_reserved.ensures.items
+      ap (λ l. l ++ level_above (drop (2 * (c.pairs.number + 1)) nodes)) c.push_reserved.ensures.items
           ∙ pairs_step nodes c.pairs.nodes.items c.pairs.number c.joined.result low c.pairs.invariant.0 (c.joined.ensures.result ∙ ap (λ l. node_at l c.pairs.number) read),
       omega (arith, more, c.pairs.invariant.1),
       omega (arith, c.pairs.invariant.2, c.push_reserved.ensures.capacity),

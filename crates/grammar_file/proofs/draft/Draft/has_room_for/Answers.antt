@@ -1,7 +1,7 @@
 use Rattle.std.proofs.Common.{◌≡◌, length, nat_lt, refl, sym, ap, ◌∙◌}
 use Rattle.std.proofs.lemmas.List.{length-map}
 use Rattle.std.specs.Str.{bytes_eq}
-use Rattle.grammar_file.proofs.AppearanceLemmas.{list_any-map}
+use Rattle.rhythm_base.proofs.Positions.{list_any-map}
 use Rattle.grammar_file.specs.Names.{is_known}
 use Rattle.grammar_file.specs.Statements.{names_of}
 use Rattle.grammar_file.proofs.draft.Draft.has_room_for.Goals as goal

@@ -1,5 +1,5 @@
-use Rattle.rhythm_base.specs.Outline.{cuts, outline_of}
+use Rattle.rhythm_base.specs.Shape.{cuts, shape_of_parts}
 use Rattle.least_cost.proofs.pins.Pins.+keeping.Given as goal
 
 abbrev pub decreases-keep_all : goal.decreases-keep_all
-decreases-keep_all l = cuts (outline_of l.shapes.now)
+decreases-keep_all l = cuts (shape_of_parts l.shapes.now)

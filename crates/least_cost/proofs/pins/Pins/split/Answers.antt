@@ -1,6 +1,6 @@
 use Rattle.std.proofs.Common.{rules, ◌≡◌, ◌∙◌, ◌≤◌, ◌<◌, [], length, get_or, ap, subst, sym}
 use Rattle.std.specs.Prelude.{Some}
-use Rattle.rhythm_base.specs.Outline.{end, part}
+use Rattle.rhythm_base.specs.Shape.{end, part}
 use Rattle.rhythm_laws.specs.Forests.{first_shape, one_shape, other_shapes}
 use Rattle.least_cost.proofs.Outlines.{outline_is, outline_none}
 use Rattle.least_cost.specs.Pins.{demanded, outline_at, outline_before, outlines}

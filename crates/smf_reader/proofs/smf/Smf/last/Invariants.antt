@@ -1,5 +1,5 @@
 use Rattle.std.proofs.Common.{◌≡◌, map, take}
-use Rattle.smf_reader.specs.Played.{greatest}
+use Rattle.rhythm_base.specs.Lists.{greatest}
 use Rattle.smf_reader.proofs.smf.Smf.last.Given as goal
 
 abbrev pub invariant-loop-track : goal.invariant-loop-track

@@ -1,0 +1,48 @@
+-- The laws, each as one statement over the definitions.
+use Rattle.rhythm_base.specs.declared.limits.TheConstants.{MOST_NOTES, MOST_CELLS}
+use Rattle.std.specs.Prelude.{◌≡◌, ◌≢◌, ℕ, ◌*◌, ◌≤◌, List, length, Result, Ok}
+use Rattle.rhythm_base.specs.declared.command.Command.{Command}
+use Rattle.rhythm_base.specs.declared.command.Command.TheVariants.{Quit}
+use Rattle.rhythm_base.specs.declared.edit.Edit.{Edit}
+use Rattle.rhythm_base.specs.declared.edit_fault.EditFault.TheVariants.{Memory}
+use Rattle.rhythm_base.specs.Edits.{IsEditInRange, edited}
+use Rattle.rhythm_base.specs.Performance.{IsWellFormed, Performance}
+use Rattle.rhythm_base.specs.Replies.{refused_text}
+use Rattle.rhythm_base.specs.Grammar.{Grammar}
+use Rattle.rhythm_base.specs.Script.{HasOneScore, Run, ScriptRun, Step}
+use Rattle.rhythm_base.specs.ScriptLines.{SaysCommand}
+use Rattle.rhythm_base.specs.Voices.{HasStarts}
+
+-- an edit that is not refused leaves a well-formed performance with the same voices, within the limits of notes and of cells,
+-- and with a root symbol for each bar, where it was so before
+pub record EditsKeepPerformances : Type 0 where
+  pub formed : (p q : Performance) (edit : Edit) → IsWellFormed p → IsEditInRange edit → edited p edit ≡ Ok q → IsWellFormed q
+  pub voices : (p q : Performance) (edit : Edit) → edited p edit ≡ Ok q → q.channels ≡ p.channels
+  pub notes : (p q : Performance) (edit : Edit) → edited p edit ≡ Ok q → length p.notes ≤ MOST_NOTES → length q.notes ≤ MOST_NOTES
+  pub cells : (p q : Performance) (edit : Edit) → edited p edit ≡ Ok q → length p.channels * length p.bars ≤ MOST_CELLS
+      → length q.channels * length q.bars ≤ MOST_CELLS
+  pub starts : (g : Grammar) (p q : Performance) (edit : Edit) → edited p edit ≡ Ok q → HasStarts g p.bars → HasStarts g q.bars
+
+-- a line says one command at most
+abbrev pub LinesSayOneCommand : Type 0
+LinesSayOneCommand = (line : List ℕ) (command other : Command) → SaysCommand line command → SaysCommand line other → command ≡ other
+
+-- Let S say what the score of a performance is. Of one well-formed performance a line has one reply, and leaves one performance,
+-- but for want of memory, which may come instead. A performance that it leaves is well formed.
+pub record LinesHaveOneAnswer (S : Performance → Result (List ℕ) ℕ → Type 0) : Type 0 where
+  pub one : (g : Grammar) (p next next' : Performance) (line reply reply' : List ℕ) → 1 ≤ g.resolution → HasOneScore g S → IsWellFormed p
+      → Step S g p line reply next → Step S g p line reply' next' → reply ≢ refused_text Memory → reply' ≢ refused_text Memory
+      → (reply ≡ reply') × (next ≡ next')
+  pub formed : (g : Grammar) (p next : Performance) (line reply : List ℕ) → IsWellFormed p → Step S g p line reply next → IsWellFormed next
+
+-- what a line may do without want of memory
+abbrev pub AmpleStep : (Performance → Result (List ℕ) ℕ → Type 0) → Grammar → Performance → List ℕ → List ℕ → Performance → Type 0
+AmpleStep S g p line reply next = Step S g p line reply next × (reply ≢ refused_text Memory)
+
+-- so a script has one run without want of memory: the same replies, and the same performance at its end, which is well formed
+pub record ScriptsHaveOneRun (S : Performance → Result (List ℕ) ℕ → Type 0) : Type 0 where
+  pub one : (g : Grammar) (p last last' : Performance) (lines : List (List ℕ)) (replies replies' : List ℕ) → 1 ≤ g.resolution
+      → HasOneScore g S → IsWellFormed p → Run (AmpleStep S g) (λ line. SaysCommand line Quit) p lines replies last
+      → Run (AmpleStep S g) (λ line. SaysCommand line Quit) p lines replies' last' → (replies ≡ replies') × (last ≡ last')
+  pub formed : (g : Grammar) (p last : Performance) (lines : List (List ℕ)) (replies : List ℕ) → IsWellFormed p → ScriptRun S g p lines replies last
+      → IsWellFormed last

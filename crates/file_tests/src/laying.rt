@@ -1,0 +1,331 @@
+use rhythm_base::{Bar, BarFault, Event, KeyMark, Signature, Tempo, What};
+use std::alloc::{AllocError, Global};
+use std::test::Fail;
+use tempo_map::{Laid, TempoMap, changes_of, lay_bars};
+
+/// A change of signature: its tick, its beats and the power of two that is the value of a beat.
+type Change = (u64, u8, u8);
+
+/// A bar: its start, its beats and the value of a beat.
+type Laying = (u64, u8, u8);
+
+/// The division, the changes of signature, the last onset and the last end, and the bars and the last barline.
+const LAYINGS: [(&str, u16, &[Change], u64, u64, &[Laying], u64); 9] = [
+    ("one bar", 480, &[], 0, 1920, &[(0, 4, 4)], 1920),
+    (
+        "before the last sixteenth",
+        480,
+        &[],
+        1700,
+        1800,
+        &[(0, 4, 4)],
+        1920,
+    ),
+    (
+        "where the last sixteenth begins",
+        480,
+        &[],
+        1800,
+        1800,
+        &[(0, 4, 4)],
+        1920,
+    ),
+    (
+        "in the last sixteenth",
+        480,
+        &[],
+        1801,
+        1801,
+        &[(0, 4, 4), (1920, 4, 4)],
+        3840,
+    ),
+    (
+        "carried over",
+        480,
+        &[],
+        1900,
+        1920,
+        &[(0, 4, 4), (1920, 4, 4)],
+        3840,
+    ),
+    (
+        "at the last barline",
+        480,
+        &[],
+        1920,
+        1920,
+        &[(0, 4, 4), (1920, 4, 4)],
+        3840,
+    ),
+    (
+        "a signature inside a bar",
+        480,
+        &[(960, 6, 3)],
+        1920,
+        3360,
+        &[(0, 4, 4), (1920, 6, 8)],
+        3360,
+    ),
+    (
+        "of two signatures at a tick the last",
+        480,
+        &[(0, 2, 2), (0, 3, 2)],
+        0,
+        1,
+        &[(0, 3, 4)],
+        1440,
+    ),
+    (
+        "a bad signature that no bar takes",
+        480,
+        &[(5, 0, 9), (1920, 3, 2)],
+        0,
+        2000,
+        &[(0, 4, 4), (1920, 3, 4)],
+        3360,
+    ),
+];
+
+/// The division, the changes of signature and the last end, and the fault.
+const FAULTS: [(&str, u16, &[Change], u64, BarFault); 8] = [
+    (
+        "one tick too many",
+        1,
+        &[],
+        16385,
+        BarFault::TooManyBars { start: 16384 },
+    ),
+    (
+        "half a tick",
+        1,
+        &[(0, 1, 3)],
+        1,
+        BarFault::UnevenBar {
+            bar: 0,
+            num: 1,
+            den: 8,
+        },
+    ),
+    (
+        "seven sixteenths of a tick",
+        1,
+        &[(0, 7, 6)],
+        1,
+        BarFault::UnevenBar {
+            bar: 0,
+            num: 7,
+            den: 64,
+        },
+    ),
+    (
+        "half a tick in the second bar",
+        1,
+        &[(3, 1, 3)],
+        5,
+        BarFault::UnevenBar {
+            bar: 1,
+            num: 1,
+            den: 8,
+        },
+    ),
+    (
+        "no beats",
+        480,
+        &[(0, 0, 2)],
+        1,
+        BarFault::BadSignature { num: 0, dd: 2 },
+    ),
+    (
+        "65 beats",
+        480,
+        &[(0, 65, 2)],
+        1,
+        BarFault::BadSignature { num: 65, dd: 2 },
+    ),
+    (
+        "beats of a 128th",
+        480,
+        &[(0, 4, 7)],
+        1,
+        BarFault::BadSignature { num: 4, dd: 7 },
+    ),
+    (
+        "the first of two faults",
+        1,
+        &[(0, 1, 3), (4, 0, 2)],
+        5,
+        BarFault::UnevenBar {
+            bar: 0,
+            num: 1,
+            den: 8,
+        },
+    ),
+];
+
+fn signatures_of(alloc: Global, changes: &[Change]) -> Result<Vec<Signature>, AllocError> {
+    changes
+        .iter()
+        .map(|(tick, num, dd)| Signature {
+            tick: *tick,
+            num: *num,
+            dd: *dd,
+        })
+        .collect(alloc)
+}
+
+fn tempos_of(alloc: Global, changes: &[(u64, u32)]) -> Result<Vec<Tempo>, AllocError> {
+    changes
+        .iter()
+        .map(|(tick, micros)| Tempo {
+            tick: *tick,
+            micros: *micros,
+        })
+        .collect(alloc)
+}
+
+fn layings_of(alloc: Global, bars: &[Bar]) -> Result<Vec<Laying>, AllocError> {
+    bars.iter()
+        .map(|bar| (bar.start, bar.num, bar.den))
+        .collect(alloc)
+}
+
+/// The bars for these signatures, which are put in order first.
+fn laid(
+    alloc: Global,
+    division: u16,
+    changes: &[Change],
+    last_onset: u64,
+    last_end: u64,
+) -> Result<Laid, BarFault> {
+    let mut signatures = signatures_of(alloc, changes)?;
+    signatures.sort_by_key(|signature| signature.tick)?;
+    let end = last_end.min(1_000_000_000);
+    lay_bars(
+        alloc,
+        division.max(1).min(32767),
+        signatures.as_slice(),
+        last_onset.min(end),
+        end,
+    )
+}
+
+#[test]
+fn bars(rt: HostRuntime) -> Result<(), Fail> {
+    for (name, division, signatures, onset, end, bars, last) in &LAYINGS {
+        let laid = laid(rt.alloc(), *division, signatures, *onset, *end)
+            .ok()
+            .ok_or(*name)?;
+        assert_eq!(rt;
+            layings_of(rt.alloc(), laid.bars.as_slice())?.as_slice(),
+            *bars,
+            "{name}"
+        );
+        assert_eq!(rt; laid.last, *last, "{name}");
+    }
+    let most = laid(rt.alloc(), 1, &[], 0, 16384).ok().ok_or("4,096 bars")?;
+    assert_eq!(rt; most.bars.len(), 4096);
+    assert_eq!(rt; most.last, 16384);
+    for (name, division, signatures, end, wanted) in &FAULTS {
+        let fault = laid(rt.alloc(), *division, signatures, 0, *end).err();
+        assert_eq!(rt; fault, Some(*wanted), "{name}");
+    }
+    Ok(())
+}
+
+/// The map of these changes, which are put in order first.
+fn map(
+    alloc: Global,
+    tempos: &[(u64, u32)],
+    key_marks: &[KeyMark],
+) -> Result<TempoMap, AllocError> {
+    let mut tempos = tempos_of(alloc, tempos)?;
+    tempos.sort_by_key(|change| change.tick)?;
+    let mut key_marks = key_marks.to_vec(alloc)?;
+    key_marks.sort_by_key(|change| change.tick)?;
+    TempoMap::new(alloc, tempos.as_slice(), key_marks.as_slice())
+}
+
+/// Changes of tempo and a tick, and the time and the tempo there.
+const TIMES: [(&[(u64, u32)], u64, u64, u32); 9] = [
+    (&[], 0, 0, 500_000),
+    (&[], 3, 1_500_000, 500_000),
+    (&[(0, 480_000), (10, 960_000)], 9, 4_320_000, 480_000),
+    (&[(0, 480_000), (10, 960_000)], 10, 4_800_000, 960_000),
+    (&[(0, 480_000), (10, 960_000)], 20, 14_400_000, 960_000),
+    (&[(0, 480_000), (10, 960_000)], 21, 15_360_000, 960_000),
+    (&[(4, 1), (4, 1000)], 6, 2_002_000, 1000),
+    (&[(2, 1)], 2_000_000_000, 2_000_999_998, 1),
+    (
+        &[(0, 7), (2_000_000_001, 1)],
+        2_000_000_000,
+        14_000_000_000,
+        7,
+    ),
+];
+
+#[test]
+fn times(rt: HostRuntime) -> Result<(), Fail> {
+    for (tempos, tick, time, micros) in &TIMES {
+        let map = map(rt.alloc(), tempos, &[])?;
+        let tick = (*tick).min(2_000_000_000);
+        assert_eq!(rt; map.time(tick), *time, "at {tick}");
+        assert_eq!(rt; map.tempo_at(tick), *micros, "at {tick}");
+    }
+    let marks = [KeyMark { tick: 5, sf: -2 }, KeyMark { tick: 8, sf: 3 }];
+    let map = map(rt.alloc(), &[], &marks)?;
+    for (tick, key) in [(4, None), (5, Some(-2)), (7, Some(-2)), (8, Some(3))] {
+        let tick = u64::min(tick, 2_000_000_000);
+        assert_eq!(rt; map.key_at(tick), key, "at {tick}");
+    }
+    Ok(())
+}
+
+#[test]
+fn changes(rt: HostRuntime) -> Result<(), Fail> {
+    let events = [
+        Event {
+            tick: 0,
+            what: What::Tempo(480_000),
+        },
+        Event {
+            tick: 0,
+            what: What::On {
+                channel: 0,
+                key: 60,
+            },
+        },
+        Event {
+            tick: 3,
+            what: What::KeySig(-7),
+        },
+        Event {
+            tick: 4,
+            what: What::Signature { num: 0, dd: 9 },
+        },
+        Event {
+            tick: 5,
+            what: What::Off {
+                channel: 0,
+                key: 60,
+            },
+        },
+        Event {
+            tick: 6,
+            what: What::Tempo(1),
+        },
+    ];
+    let changes = changes_of(rt.alloc(), &events)?;
+    assert_eq!(rt;
+        changes.tempos.as_slice(),
+        tempos_of(rt.alloc(), &[(0, 480_000), (6, 1)])?.as_slice()
+    );
+    assert_eq!(rt;
+        changes.key_marks.as_slice(),
+        [KeyMark { tick: 3, sf: -7 }].as_slice()
+    );
+    assert_eq!(rt;
+        changes.signatures.as_slice(),
+        signatures_of(rt.alloc(), &[(4, 0, 9)])?.as_slice()
+    );
+    Ok(())
+}

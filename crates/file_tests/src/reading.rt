@@ -1,0 +1,303 @@
+use rhythm_base::{Event, What};
+use smf_reader::{SmfFault, read_smf};
+use std::alloc::{AllocError, Global};
+use std::test::Fail;
+
+/// Four quarter notes from C to F, with 480 ticks to a quarter note.
+const QUARTERS: &[u8] = b"MThd\0\0\0\x06\0\0\0\x01\x01\xe0MTrk\0\0\0\x28\
+    \0\x90\x3c\x40\x83\x60\x80\x3c\0\0\x90\x3e\x40\x83\x60\x80\x3e\0\
+    \0\x90\x40\x40\x83\x60\x80\x40\0\0\x90\x41\x40\x83\x60\x80\x41\0\0\xff\x2f\0";
+
+/// The same notes, with a chunk of another type before the track, and a meta event that is skipped before them.
+const QUARTERS_AND_OTHERS: &[u8] =
+    b"MThd\0\0\0\x06\0\0\0\x01\x01\xe0XFIH\0\0\0\x03abcMTrk\0\0\0\x2d\
+    \0\xff\x7f\x01\x41\0\x90\x3c\x40\x83\x60\x80\x3c\0\0\x90\x3e\x40\x83\x60\x80\x3e\0\
+    \0\x90\x40\x40\x83\x60\x80\x40\0\0\x90\x41\x40\x83\x60\x80\x41\0\0\xff\x2f\0";
+
+/// Three tracks: time and key, a voice with running status, and a voice of one note.
+const VOICES: &[u8] = b"MThd\0\0\0\x06\0\x01\0\x03\x01\xe0MTrk\0\0\0\x29\
+    \0\xff\x03\x04Demo\0\xff\x58\x04\x04\x02\x18\x08\0\xff\x59\x02\xfe\0\
+    \0\xff\x51\x03\x09\x27\xc0\x8f\0\xff\x51\x03\x07\xa1\x20\0\xff\x2f\0MTrk\0\0\0\x26\
+    \x05\x90\x46\x50\x07\x4a\x50\0\xff\x05\x02la\x83\x4a\x46\0\0\x4a\0\
+    \x0f\x48\x50\x8b\x07\x48\0\x0a\x46\x50\x8e\x62\x46\0\0\xff\x2f\0MTrk\0\0\0\x10\
+    \0\xc1\0\0\x91\x2e\x40\x9e\0\x81\x2e\x40\0\xff\x2f\0";
+
+/// The content of a header: format 0, one track, and 480 ticks to a quarter note.
+const PLAIN: &[u8] = b"\0\0\0\x01\x01\xe0";
+
+/// The track of the four quarter notes.
+const NOTES: &[u8] = b"\0\x90\x3c\x40\x83\x60\x80\x3c\0\0\x90\x3e\x40\x83\x60\x80\x3e\0\
+    \0\x90\x40\x40\x83\x60\x80\x40\0\0\x90\x41\x40\x83\x60\x80\x41\0\0\xff\x2f\0";
+
+/// The same, with a quantity of four bytes that has no end in place of its first four bytes.
+const NO_QUANTITY: &[u8] = b"\x81\x81\x81\x81\x83\x60\x80\x3c\0\0\x90\x3e\x40\x83\x60\x80\x3e\0\
+    \0\x90\x40\x40\x83\x60\x80\x40\0\0\x90\x41\x40\x83\x60\x80\x41\0\0\xff\x2f\0";
+
+/// The four quarter notes and four deltas behind them, which lead to tick 1,000,000,000.
+const LATEST: &[u8] = b"\0\x90\x3c\x40\x83\x60\x80\x3c\0\0\x90\x3e\x40\x83\x60\x80\x3e\0\
+    \0\x90\x40\x40\x83\x60\x80\x40\0\0\x90\x41\x40\x83\x60\x80\x41\0\
+    \xff\xff\xff\x7f\xff\x01\0\xff\xff\xff\x7f\xff\x01\0\xff\xff\xff\x7f\xff\x01\0\
+    \xdc\xeb\x85\x03\xff\x2f\0";
+
+/// The same, one tick later.
+const TOO_LATE: &[u8] = b"\0\x90\x3c\x40\x83\x60\x80\x3c\0\0\x90\x3e\x40\x83\x60\x80\x3e\0\
+    \0\x90\x40\x40\x83\x60\x80\x40\0\0\x90\x41\x40\x83\x60\x80\x41\0\
+    \xff\xff\xff\x7f\xff\x01\0\xff\xff\xff\x7f\xff\x01\0\xff\xff\xff\x7f\xff\x01\0\
+    \xdc\xeb\x85\x04\xff\x2f\0";
+
+/// Contents of headers and of tracks, and the fault. The content of the track begins at place 22.
+const FAULTS: [(&str, &[u8], &[u8], SmfFault); 18] = [
+    ("five bytes", b"\0\0\0\x01\x01", b"", SmfFault::NotSmf),
+    (
+        "format 2",
+        b"\0\x02\0\x01\x01\xe0",
+        NOTES,
+        SmfFault::Format(2),
+    ),
+    (
+        "frames of a film",
+        b"\0\0\0\x01\xe7\x28",
+        NOTES,
+        SmfFault::Smpte,
+    ),
+    ("no ticks", b"\0\0\0\x01\0\0", NOTES, SmfFault::ZeroDivision),
+    (
+        "no quantity",
+        PLAIN,
+        NO_QUANTITY,
+        SmfFault::BadQuantity { at: 25 },
+    ),
+    (
+        "no third track",
+        b"\0\0\0\x03\x01\xe0",
+        b"",
+        SmfFault::Truncated { at: 30 },
+    ),
+    (
+        "a delta alone",
+        PLAIN,
+        b"\0",
+        SmfFault::Truncated { at: 23 },
+    ),
+    (
+        "one data byte",
+        PLAIN,
+        b"\0\x90\x3c",
+        SmfFault::Truncated { at: 25 },
+    ),
+    (
+        "four high bits",
+        PLAIN,
+        b"\x81\x81\x81\x81\0",
+        SmfFault::BadQuantity { at: 25 },
+    ),
+    (
+        "three high bits",
+        PLAIN,
+        b"\x81\x81\x81",
+        SmfFault::Truncated { at: 25 },
+    ),
+    (
+        "no status",
+        PLAIN,
+        b"\0\x3c\x40",
+        SmfFault::NoStatus { at: 23 },
+    ),
+    (
+        "status f4",
+        PLAIN,
+        b"\0\xf4\0",
+        SmfFault::BadStatus { at: 23 },
+    ),
+    (
+        "a key above 127",
+        PLAIN,
+        b"\0\x90\x80",
+        SmfFault::BadData { at: 24 },
+    ),
+    (
+        "a key neither major nor minor",
+        PLAIN,
+        b"\0\xff\x59\x02\0\x02",
+        SmfFault::BadMeta { at: 23 },
+    ),
+    (
+        "tempo 0",
+        PLAIN,
+        b"\0\xff\x51\x03\0\0\0",
+        SmfFault::BadMeta { at: 23 },
+    ),
+    (
+        "half a long tempo",
+        PLAIN,
+        b"\0\xff\x51\x04\x01\x02",
+        SmfFault::Truncated { at: 28 },
+    ),
+    (
+        "a tick too late",
+        PLAIN,
+        TOO_LATE,
+        SmfFault::TooLate { at: 79 },
+    ),
+    (
+        "a delta too late at the end",
+        PLAIN,
+        b"\xff\xff\xff\x7f\xff\x01\0\xff\xff\xff\x7f\xff\x01\0\xff\xff\xff\x7f\xff\x01\0\xff\xff\xff\x7f",
+        SmfFault::TooLate { at: 43 },
+    ),
+];
+
+/// Contents of headers and of tracks, the number of tracks that are read, the number of events, and the last tick.
+const READINGS: [(&str, &[u8], &[u8], usize, usize, u64); 8] = [
+    ("no tracks", b"\0\0\0\0\x01\xe0", b"\0\xf4", 0, 0, 0),
+    (
+        "two tracks of format 0",
+        b"\0\0\0\x02\x01\xe0",
+        b"\x03\x90\x3c\x40",
+        2,
+        2,
+        3,
+    ),
+    (
+        "nine bytes",
+        b"\0\x01\0\x01\x01\xe0\xff\xff\xff",
+        b"\x03\x90\x3c\x40",
+        1,
+        1,
+        3,
+    ),
+    ("the latest tick", PLAIN, LATEST, 1, 8, 1_000_000_000),
+    ("a meta type of 80", PLAIN, b"\x07\xff\x80\0", 1, 0, 7),
+    (
+        "a system exclusive event",
+        PLAIN,
+        b"\x07\xf0\x02\x01\xf7\0\xf7\0",
+        1,
+        0,
+        7,
+    ),
+    (
+        "bytes behind the end of track",
+        PLAIN,
+        b"\x07\xff\x2f\0\xf4",
+        1,
+        0,
+        7,
+    ),
+    ("no event", PLAIN, b"", 1, 0, 0),
+];
+
+/// The events of the four quarter notes.
+fn quarters() -> [Event; 8] {
+    [
+        on(0, 0, 60),
+        off(480, 0, 60),
+        on(480, 0, 62),
+        off(960, 0, 62),
+        on(960, 0, 64),
+        off(1440, 0, 64),
+        on(1440, 0, 65),
+        off(1920, 0, 65),
+    ]
+}
+
+/// The events of the voices, merged.
+fn voices() -> [Event; 14] {
+    [
+        Event {
+            tick: 0,
+            what: What::Signature { num: 4, dd: 2 },
+        },
+        Event {
+            tick: 0,
+            what: What::KeySig(-2),
+        },
+        Event {
+            tick: 0,
+            what: What::Tempo(600_000),
+        },
+        on(0, 1, 46),
+        on(5, 0, 70),
+        on(12, 0, 74),
+        off(470, 0, 70),
+        off(470, 0, 74),
+        on(485, 0, 72),
+        off(1900, 0, 72),
+        on(1910, 0, 70),
+        Event {
+            tick: 1920,
+            what: What::Tempo(500_000),
+        },
+        off(3800, 0, 70),
+        off(3840, 1, 46),
+    ]
+}
+
+/// A note-on.
+fn on(tick: u64, channel: u8, key: u8) -> Event {
+    Event {
+        tick,
+        what: What::On { channel, key },
+    }
+}
+
+/// A note-off.
+fn off(tick: u64, channel: u8, key: u8) -> Event {
+    Event {
+        tick,
+        what: What::Off { channel, key },
+    }
+}
+
+/// A file of a header and two tracks with these contents.
+fn file(alloc: Global, header: &[u8], track: &[u8]) -> Result<Vec<u8>, AllocError> {
+    let mut bytes = Vec::new(alloc);
+    bytes.extend_from_slice(b"MThd\0\0\0")?;
+    bytes.push(header.len().min(255) as u8)?;
+    bytes.extend_from_slice(header)?;
+    for _ in 0..2 {
+        bytes.extend_from_slice(b"MTrk\0\0\0")?;
+        bytes.push(track.len().min(255) as u8)?;
+        bytes.extend_from_slice(track)?;
+    }
+    Ok(bytes)
+}
+
+#[test]
+fn files(rt: HostRuntime) -> Result<(), Fail> {
+    for bytes in [QUARTERS, QUARTERS_AND_OTHERS] {
+        let smf = read_smf(rt.alloc(), bytes)
+            .ok()
+            .ok_or("four quarter notes")?;
+        assert_eq!(rt; smf.division, 480);
+        assert_eq!(rt; smf.merged(rt.alloc())?.as_slice(), quarters().as_slice());
+    }
+    let smf = read_smf(rt.alloc(), VOICES).ok().ok_or("voices")?;
+    assert_eq!(rt; smf.merged(rt.alloc())?.as_slice(), voices().as_slice());
+    assert_eq!(rt; smf.last(), 3840);
+
+    for whole in [QUARTERS, VOICES] {
+        for length in 0..whole.len() {
+            let wanted = if length < 4 {
+                SmfFault::NotSmf
+            } else {
+                SmfFault::Truncated { at: length as u64 }
+            };
+            let fault = read_smf(rt.alloc(), &whole[..length]).err();
+            assert_eq!(rt; fault, Some(wanted), "{length} bytes");
+        }
+    }
+    for (name, header, track, wanted) in &FAULTS {
+        let bytes = file(rt.alloc(), header, track)?;
+        let fault = read_smf(rt.alloc(), bytes.as_slice()).err();
+        assert_eq!(rt; fault, Some(*wanted), "{name}");
+    }
+    for (name, header, track, tracks, events, last) in &READINGS {
+        let bytes = file(rt.alloc(), header, track)?;
+        let smf = read_smf(rt.alloc(), bytes.as_slice()).ok().ok_or(*name)?;
+        assert_eq!(rt; smf.tracks.len(), *tracks, "{name}");
+        assert_eq!(rt; smf.merged(rt.alloc())?.len(), *events, "{name}");
+        assert_eq!(rt; smf.last(), *last, "{name}");
+    }
+    Ok(())
+}

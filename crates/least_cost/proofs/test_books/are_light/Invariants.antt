@@ -1,6 +1,0 @@
-use Rattle.std.proofs.Common.{◌<◌, ◌≤◌, ℕ, get_or}
-use Rattle.rhythm_base.specs.declared.rule.Rule.{Rule}
-use Rattle.least_cost.proofs.test_books.are_light.Given as goal
-
-abbrev pub invariant-loop-rule : goal.invariant-loop-rule
-invariant-loop-rule l = (k : ℕ) (d : Rule) → k < l.rule-index → (get_or l.rules k d).weight ≤ 1000000

@@ -1,7 +1,0 @@
-use Rattle.std.proofs.Common.{◌<◌, ℕ, get_or}
-use Rattle.rhythm_base.specs.declared.inner.Inner.{Inner}
-use Rattle.rhythm_base.specs.Cell.{IsInner}
-use Rattle.least_cost.proofs.test_books.are_within.Given as goal
-
-abbrev pub invariant-loop-chord : goal.invariant-loop-chord
-invariant-loop-chord l = (k : ℕ) (d : Inner) → k < l.chord-index → IsInner l.length (get_or l.chords k d)

@@ -1,0 +1,50 @@
+/// The latest tick of a barline, and so of any note's onset or end.
+pub const LATEST_TICK: u64 = 2_000_000_000;
+
+/// The latest tick of an event of a MIDI file.
+pub const LATEST_EVENT: u64 = 1_000_000_000;
+
+/// The most ticks of a quarter note.
+pub const MOST_DIVISION: u16 = 32_767;
+
+/// The slowest tempo, in microseconds of a quarter note.
+pub const SLOWEST_TEMPO: u32 = 16_777_215;
+
+/// The most notes of a performance.
+pub const MOST_NOTES: u32 = 65_536;
+
+/// The most bars of a performance.
+pub const MOST_BARS: u32 = 4_096;
+
+/// The most cells of a performance: bars times voices.
+pub const MOST_CELLS: u32 = 16_384;
+
+/// The most units of a bar.
+pub const MOST_UNITS: u16 = 960;
+
+/// The most units of a bar in a grammar of version 2, whose cuts may be unequal.
+pub const MOST_UNEQUAL_UNITS: u16 = 96;
+
+/// The most names of symbols of a grammar.
+pub const MOST_NAMES: usize = 64;
+
+/// The most rules of a grammar.
+pub const MOST_RULES: usize = 512;
+
+/// The most parts of a cut.
+pub const MOST_PARTS: usize = 16;
+
+/// The most levels below the first level of a shape: 96 levels in all.
+pub const MOST_LEVELS_BELOW: usize = 95;
+
+/// The greatest window, in microseconds, within which notes are one chord.
+pub const WIDEST_WINDOW: u32 = 1_000_000;
+
+/// The greatest weight of a rule.
+pub const HEAVIEST_RULE: u32 = 1_000_000;
+
+/// The greatest weight of an onset's displacement.
+pub const HEAVIEST_ONSET: u32 = 1_000;
+
+/// More than the least tree of a cell can cost, so that the sums over a voice's bars do not overflow.
+pub const DEAREST_CELL: u64 = 500_000_000_000;

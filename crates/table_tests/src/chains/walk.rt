@@ -1,0 +1,92 @@
+ghost use Rattle.std.specs.Prelude.{◌<◌, ◌≤◌, length};
+
+use carry_matrix::CarryMatrix;
+use chain_bars::Chain;
+use std::alloc::{AllocError, Global};
+
+/// A way over the first cells: its cost, the list of its ranks, and the counts at the barlines that it has passed.
+#[derive(Clone, Copy)]
+pub struct Way {
+    pub cost: u64,
+    pub ranks: [u8; 9],
+    pub counts: [u8; 10],
+}
+
+/// A way that goes on over a cell.
+fn onward(way: Option<Way>, cell: &CarryMatrix, number: usize, from: u8, to: u8) -> Option<Way>
+    requires number { number < 9 }
+    requires from { from < 5 }
+    requires to { to < 5 }
+{
+    let mut longer = way?;
+    let entry = cell.get(from, to)?;
+    longer.cost = longer.cost.saturating_add(entry.cost);
+    longer.ranks[number] = entry.rank;
+    longer.counts[number + 1] = to;
+    Some(longer)
+}
+
+/// That of the lesser cost, and of equal costs that with the lower list of ranks.
+fn lesser(first: Option<Way>, second: Option<Way>) -> Option<Way> {
+    match (first, second) {
+        (Some(x), Some(y)) => Some(if (y.cost, y.ranks) < (x.cost, x.ranks) {
+            y
+        } else {
+            x
+        }),
+        (Some(x), None) => Some(x),
+        (None, other) => other,
+    }
+}
+
+/// The least way to a count behind a cell.
+fn least_to(ways: &[Option<Way>; 5], cell: &CarryMatrix, number: usize, to: u8) -> Option<Way>
+    requires number { number < 9 }
+    requires to { to < 5 }
+{
+    let first = onward(ways[0], cell, number, 0, to);
+    let second = lesser(first, onward(ways[1], cell, number, 1, to));
+    let third = lesser(second, onward(ways[2], cell, number, 2, to));
+    let fourth = lesser(third, onward(ways[3], cell, number, 3, to));
+    lesser(fourth, onward(ways[4], cell, number, 4, to))
+}
+
+/// The least way over the cells to each count, by walking from cell to cell.
+fn walk(cells: &[CarryMatrix]) -> [Option<Way>; 5]
+    requires { length cells.now ≤ 9 }
+{
+    let start = Way {
+        cost: 0,
+        ranks: [0; 9],
+        counts: [0; 10],
+    };
+    let mut ways = [Some(start), None, None, None, None];
+    'cells: for number in 0..cells.len() {
+        let cell = &cells[number];
+        ways = [
+            least_to(&ways, cell, number, 0),
+            least_to(&ways, cell, number, 1),
+            least_to(&ways, cell, number, 2),
+            least_to(&ways, cell, number, 3),
+            least_to(&ways, cell, number, 4),
+        ];
+    }
+    ways
+}
+
+/// Whether a chain answers with the cost and the counts of the least way over these cells.
+pub fn is_walked(alloc: Global, chain: &Chain, cells: &[CarryMatrix]) -> Result<bool, AllocError>
+    requires { length cells.now ≤ 9 }
+{
+    let [least, _, _, _, _] = walk(cells);
+    if chain.total().is_none() {
+        return Ok(least.is_none());
+    }
+    let carries = chain.carries(alloc)?;
+    match least {
+        None => Ok(false),
+        Some(way) => Ok(
+            chain.total() == Some(way.cost) && carries.as_slice() == &way.counts[..cells.len() + 1],
+        ),
+    }
+}

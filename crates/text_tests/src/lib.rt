@@ -1,0 +1,8 @@
+//! Tests of what is read and written as text: grammar files, and the lines of edit scripts with the replies to them. They call
+//! public functions alone.
+#![tactic(auto)]
+
+#[cfg(test)]
+mod grammars;
+#[cfg(test)]
+mod scripts;
