@@ -1,0 +1,9 @@
+pub mod Quantities
+pub mod VoiceTracks
+pub mod Files
+pub mod EvenBars
+pub mod NoteEvents
+pub mod ChannelNotes
+pub mod PieceEvents
+pub mod PieceNotes
+pub mod PieceBars
