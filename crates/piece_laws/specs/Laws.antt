@@ -31,7 +31,7 @@ pub record PiecesHaveTheirBars : Type 0 where
   pub each : (number bars : ℕ) (p : Performance) → IsLoadingOf number bars (Ok p) → p.bars ≡ meant_bars bars
   pub last : (number bars : ℕ) (p : Performance) → IsLoadingOf number bars (Ok p) → p.last ≡ 1920 * bars
 
--- it has the notes that the piece was made of, and no other, so at least one for each voice and bar
+-- it has the notes that the piece was made of, and no other, at least twice as many as bars
 pub record PiecesKeepTheirNotes : Type 0 where
   pub notes : (number bars : ℕ) (p : Performance) → IsLoadingOf number bars (Ok p) → p.notes ≡ meant_notes number bars
   pub many : (number bars : ℕ) (p : Performance) → IsLoadingOf number bars (Ok p) → 2 * bars ≤ length p.notes

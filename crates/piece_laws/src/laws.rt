@@ -15,7 +15,7 @@ pub fn pieces_have_their_bars()
     ensures { PiecesHaveTheirBars }
 {}
 
-/// A piece has the notes that it was made of when it is loaded: at least one for each voice and bar.
+/// A piece has the notes that it was made of when it is loaded, at least twice as many as bars.
 pub fn pieces_keep_their_notes()
     ensures { PiecesKeepTheirNotes }
 {}
