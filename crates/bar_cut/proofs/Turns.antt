@@ -1,4 +1,4 @@
--- What one turn of the pass does: the chords of one bar, those behind it, and the input of its cell.
+-- What one turn of the pass does: the chords of one bar, those after it, and the input of its cell.
 use Rattle.std.proofs.Common.{◌≡◌, ℕ, ◌+◌, ◌-◌, ◌<◌, ◌≤◌, Bool, true, false, nat_lt, List, [], ◌∷◌, ◌++◌, length, map, take, drop, get_or, min, subst, refl, sym, ap, ◌∙◌, arith, append_assoc, Option, Some, if◌then◌else◌}
 use Rattle.std.specs.Prelude.{filter, unwrap_or}
 use Rattle.std.specs.List.{position}
@@ -91,8 +91,8 @@ module _ (g : Grammar) (pins : List Pin) (channel last n : ℕ) (bars : List Bar
       ∙ ap (λ l. last_end (end_before start voice) (map (λ c. c.end) l)) own_is
       ∙ end_before-next start end 0 voice (omega (arith, rise.0)) w.chords_rise
 
-  abbrev measure : VoiceBar
-  measure = voice_bar g pins channel n bar end
+  abbrev cell_bar : VoiceBar
+  cell_bar = voice_bar g pins channel n bar end
 
   -- the input of the cell, of the parts that the pass has
   abbrev pub cell_with : ℕ → ℕ → List Chord → BarInput
@@ -130,14 +130,14 @@ module _ (g : Grammar) (pins : List Pin) (channel last n : ℕ) (bars : List Bar
   }
 
   pub input_is : (symbol before : ℕ) → Some symbol ≡ root_of g.starts bar.num bar.den → before ≡ end_before start voice
-      → cell_with symbol before (take count later) ≡ input g measure (soundings voice)
+      → cell_with symbol before (take count later) ≡ input g cell_bar (soundings voice)
   input_is symbol before root same =
-      let symbol_is : symbol ≡ measure.symbol = ap (λ o. unwrap_or o 0) root in
+      let symbol_is : symbol ≡ cell_bar.symbol = ap (λ o. unwrap_or o 0) root in
       let whole : bar.start + (end - bar.start) ≡ end = omega (arith, rise.0, start_is) in
-      let chords_are = ap (λ s. moved_all bar.start (end - bar.start) (filter (is_before end) (filter (is_from s) voice))) start_is ∙ own measure end voice whole in
+      let chords_are = ap (λ s. moved_all bar.start (end - bar.start) (filter (is_before end) (filter (is_from s) voice))) start_is ∙ own cell_bar end voice whole in
       let early : end_before start voice ≡ last_end 0 (map (λ c. c.end) (filter (λ c. nat_lt c.onset bar.start) (soundings voice))) =
       ap (λ s. end_before s voice) start_is ∙ ap (last_end 0) (sym (before-soundings bar.start voice)) in
-      let before_same : min (before - bar.start) (end - bar.start) ≡ cut_end measure (last_end 0 (map (λ c. c.end) (filter (λ c. nat_lt c.onset bar.start) (soundings voice)))) =
+      let before_same : min (before - bar.start) (end - bar.start) ≡ cut_end cell_bar (last_end 0 (map (λ c. c.end) (filter (λ c. nat_lt c.onset bar.start) (soundings voice)))) =
       ap (λ b. min (b - bar.start) (end - bar.start)) (same ∙ early) in
       let own_are = ap (moved_all bar.start (end - bar.start)) own_is ∙ chords_are in
       λ i. record {
@@ -152,7 +152,7 @@ module _ (g : Grammar) (pins : List Pin) (channel last n : ℕ) (bars : List Bar
       }
 
   -- one more input is made
-  pub made_next : (made : List BarInput) (k : BarInput) (all : List BarInput) → k ≡ input g measure (soundings voice)
+  pub made_next : (made : List BarInput) (k : BarInput) (all : List BarInput) → k ≡ input g cell_bar (soundings voice)
       → made ++ map (λ m. input g m (soundings voice)) (voice_bars_from g pins channel last n (drop n bars)) ≡ all
       → (made ++ k ∷ []) ++ map (λ m. input g m (soundings voice)) (voice_bars_from g pins channel last (n + 1) (drop (n + 1) bars)) ≡ all
   made_next made k all is so_far =

@@ -7,7 +7,7 @@ ghost use Rattle.std.specs.Prelude.{◌≡◌, Err, IfOk, ℕ};
 use crate::cell::cell_of;
 use crate::fault::CutFault;
 use crate::inner::{count_before, last_end};
-use crate::lookup::{barline_behind, pin_of, root_of};
+use crate::lookup::{barline_after, pin_of, root_of};
 use crate::starts::check_starts;
 use rhythm_base::{Bar, BarInput, Chord, Grammar, Pin};
 use std::alloc::Global;
@@ -36,7 +36,7 @@ pub fn cut(
     let mut before = 0;
     'bars: for number in 0..bars.len() {
         let bar = bars[number];
-        let end = barline_behind(bars, last, number);
+        let end = barline_after(bars, last, number);
         let symbol = root_of(grammar, bar.num, bar.den).unwrap();
         let (own, rest) = later.split_at(count_before(later, end));
         let pin = pin_of(pins, channel, number);

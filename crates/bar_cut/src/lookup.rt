@@ -26,8 +26,8 @@ pub fn pin_of(pins: &[Pin], channel: u8, bar: usize) -> Option<&Shape>
     Some(&pin.shape)
 }
 
-/// The barline behind the bar of that number: the start of the next bar, or the last barline.
-pub fn barline_behind(bars: &[Bar], last: u64, number: usize) -> u64
+/// The barline after the bar of that number: the start of the next bar, or the last barline.
+pub fn barline_after(bars: &[Bar], last: u64, number: usize) -> u64
     requires { number < length bars.now }
     ensures { result ≡ barline bars.now last (number + 1) }
 {

@@ -232,10 +232,10 @@ below_step es p done more n n' j j' a en ej high here paired_more lone last h = 
       let grown : more ≡ done ++ m ∷ [] = lone more_or in
       let nodes : drop j es ≡ slice_index_or es j [] ∷ [] =
       drop_step es j (j + 1) [] (omega arith) here ∙ ap (λ l. slice_index_or es j [] ∷ l) (drop_all es (j + 1) more_or) in
-      let behind : drop j' es ≡ [] = drop_all es j' (omega (arith, more_or, ej)) in
+      let after : drop j' es ≡ [] = drop_all es j' (omega (arith, more_or, ej)) in
       let end : drop n' p ≡ [] = drop_all p n' (last more_or) in
       ap (λ l. l ++ refined (drop j' es) m (drop n' p)) grown
-      ∙ ap (λ l. (done ++ m ∷ []) ++ refined l m (drop n' p)) behind
+      ∙ ap (λ l. (done ++ m ∷ []) ++ refined l m (drop n' p)) after
       ∙ append-nil (done ++ m ∷ [])
       ∙ ap (λ l. done ++ m ∷ l) (sym end)
       ∙ ap (λ l. done ++ l) (λ i. refined (sym nodes i) a (sym counts i))

@@ -1,4 +1,4 @@
--- One cell more behind the last.
+-- One cell more after the last.
 use Rattle.std.proofs.Common.{◌≡◌, ℕ, ◌+◌, ◌<◌, List, [], ◌∷◌, ◌++◌, length, arith}
 use Rattle.std.proofs.lemmas.List.{length_push}
 use Rattle.rhythm_base.specs.Paths.{IsRanked, IsCheap, AreCheap}

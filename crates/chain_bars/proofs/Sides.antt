@@ -1,4 +1,4 @@
--- What stands before a cell and behind it, level by level.
+-- What stands before a cell and after it, level by level.
 use Rattle.std.proofs.Common.{◌≡◌, ℕ, zero, suc, ◌+◌, ◌*◌, ◌/◌, ◌-◌, ◌^◌, ◌<◌, ◌≤◌, List, [], ◌∷◌, length, take, refl, sym, subst, ap, ◌∙◌, inl, inr, arith}
 use Rattle.std.specs.Prelude.{Some, None, Bool, true, false, ◌==◌, if◌then◌else◌, drop, min, slice_index_or}
 use Rattle.std.proofs.lemmas.Bool.{cases_lt}
@@ -154,10 +154,10 @@ after_step es cell k place m n cells low h left lone right = elim (cases_lt (2 *
     | inl there ↦
         let made : n ≡ product_of m node = left (omega (arith, more)) there in
         let node_ranked : IsRanked node = ranked_at fs (place + 1) ranked there in
-        let behind : suc (place + 1) ≡ 2 * q + 2 = omega (arith, more) in
+        let after : suc (place + 1) ≡ 2 * q + 2 = omega (arith, more) in
         let rest_ranked : IsRanked (table (drop (2 * q + 2) fs)) = table_ranked (drop (2 * q + 2) fs) (to_all (drop (2 * q + 2) fs) (ranked_drop fs (2 * q + 2) ranked)) in
         let shorter : table (drop (place + 1) fs) ≡ product_of node (table (drop (2 * q + 2) fs)) =
-        ap table (drop_step fs (place + 1) (2 * q + 2) [] (sym behind) there)
+        ap table (drop_step fs (place + 1) (2 * q + 2) [] (sym after) there)
         ∙ table_append (node ∷ []) (drop (2 * q + 2) fs) (node_ranked, tt)
         ∙ ap (λ t. product_of t (table (drop (2 * q + 2) fs))) (table_single node node_ranked) in
         record {

@@ -31,7 +31,7 @@ use rhythm_base::{Best, Tag};
 pub struct Around {
     /// Of the cells before it, by the number carried into it.
     pub before: [Option<u64>; 5],
-    /// Of the cells behind it, by the number carried out of it.
+    /// Of the cells after it, by the number carried out of it.
     pub after: [Option<u64>; 5],
 }
 
@@ -92,7 +92,7 @@ fn with_left<P: Tag>(
     }
 }
 
-/// `after`, and then what stands behind a node under the one above it.
+/// `after`, and then what stands after a node under the one above it.
 fn with_right<P: Tag>(
     nodes: &[CarryMatrix],
     place: usize,
@@ -119,7 +119,7 @@ fn with_right<P: Tag>(
     }
 }
 
-/// The least costs of the cells before a cell and of those behind it: at most two products at each level.
+/// The least costs of the cells before a cell and of those after it: at most two products at each level.
 pub fn around_of<P: Tag>(levels: &[Level], at: usize, products: &mut Steps<P>) -> Around
     requires cells { AreCells (level levels.now 0) }
     requires tower { IsTower (level levels.now 0) levels.now }

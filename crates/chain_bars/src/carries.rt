@@ -39,7 +39,7 @@ fn between(left: &CarryMatrix, right: &CarryMatrix, from: u8, to: u8) -> u8
     }
 }
 
-/// Adds the count behind the node at `left` and its neighbour, after the one between them if there is a neighbour.
+/// Adds the count after the node at `left` and its neighbour, after the one between them if there is a neighbour.
 fn push_below(
     counts: &mut Vec<u8>,
     nodes: &[CarryMatrix],

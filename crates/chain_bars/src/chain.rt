@@ -88,7 +88,7 @@ impl Chain {
         renew(self.levels.as_mut_slice(), at, cell, products);
     }
 
-    /// Adds a cell behind the last, and takes the memory for it: at most `d` products where there are then at most `2 ^ d`
+    /// Adds a cell after the last, and takes the memory for it: at most `d` products where there are then at most `2 ^ d`
     /// cells. After want of memory the chain is as before.
     pub fn push<P: Tag>(
         &mut self,
@@ -110,7 +110,7 @@ impl Chain {
         Ok(())
     }
 
-    /// Adds a cell behind the last, within the room and so without memory: at most `d` products where there are then at most
+    /// Adds a cell after the last, within the room and so without memory: at most `d` products where there are then at most
     /// `2 ^ d` cells.
     pub fn push_within<P: Tag>(&mut self, cell: &CarryMatrix, products: &mut Steps<P>)
         requires few { length self.old.cells < MOST_BARS }
@@ -155,7 +155,7 @@ impl Chain {
     }
 
     /// The counts of chords carried over the barlines on the least path from 0 to 0, from the barline before the first cell
-    /// to that behind the last.
+    /// to that after the last.
     #[tactic(auto, using(crate::proofs::Descents::carries_long))]
     pub fn carries(&self, alloc: Global) -> Result<Vec<u8>, AllocError>
         requires { IsSome (cost_of (least_key self.now.cells 0 0)) }
@@ -165,7 +165,7 @@ impl Chain {
         carries_of(alloc, self.levels.as_slice())
     }
 
-    /// The first cell over which no counts lead from 0 at the first barline, to 0 behind the last cell: for the tables of a
+    /// The first cell over which no counts lead from 0 at the first barline, to 0 after the last cell: for the tables of a
     /// voice, the first bar at which it has no derivation.
     pub fn first_dead(&self) -> Option<u32>
         ensures dead { IfSome result (λ i. IsDeadCell self.now.cells i) }
@@ -174,7 +174,7 @@ impl Chain {
         first_dead_of(self.levels[0].slice())
     }
 
-    /// The least costs of the cells before a cell, from 0, and of those behind it, to 0: at most `2 * d` products where there
+    /// The least costs of the cells before a cell, from 0, and of those after it, to 0: at most `2 * d` products where there
     /// are at most `2 ^ d` cells.
     pub fn around<P: Tag>(&self, at: usize, products: &mut Steps<P>) -> Around
         requires at { at < length self.now.cells }

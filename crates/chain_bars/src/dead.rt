@@ -42,8 +42,8 @@ fn leads_to(reached: &[bool; 5], cell: &CarryMatrix, to: u8) -> bool
     is_any(&[first, second, third, fourth, fifth])
 }
 
-/// The counts behind a cell.
-fn behind(reached: &[bool; 5], cell: &CarryMatrix) -> [bool; 5]
+/// The counts after a cell.
+fn after(reached: &[bool; 5], cell: &CarryMatrix) -> [bool; 5]
     ensures { (to : ℕ) → to < 5 → IsTrue (slice_index_or result to false) ↔ CanStep reached.now cell.now to }
 {
     let first = leads_to(reached, cell, 0);
@@ -70,7 +70,7 @@ pub fn first_dead_of(cells: &[CarryMatrix]) -> Option<u32>
 {
     let mut reached = [true, false, false, false, false];
     'cells: for number in 0..cells.len() {
-        let next = behind(&reached, &cells[number]);
+        let next = after(&reached, &cells[number]);
         if !is_any(&next) {
             return Some(number as u32);
         }

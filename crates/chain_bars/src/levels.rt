@@ -106,7 +106,7 @@ impl Level {
         self.nodes.truncate(count);
     }
 
-    /// Adds a node behind the last.
+    /// Adds a node after the last.
     pub fn add(&mut self, node: CarryMatrix)
         requires { length self.old.nodes < self.old.room }
         ensures nodes { self.new.nodes ≡ self.old.nodes ++ node ∷ [] }
@@ -254,7 +254,7 @@ fn renew_last<P: Tag>(levels: &mut [Level], products: &mut Steps<P>)
     }
 }
 
-/// Adds a cell behind the last, and renews the last node of each level above it.
+/// Adds a cell after the last, and renews the last node of each level above it.
 pub fn extend<P: Tag>(levels: &mut [Level], cell: &CarryMatrix, products: &mut Steps<P>)
     requires cells { AreCells (level levels.old 0) }
     requires tower { IsTower (level levels.old 0) levels.old }

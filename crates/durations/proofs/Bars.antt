@@ -58,7 +58,7 @@ placed_append whole i place (v ∷ vs) rest h =
     let e : place + sum_by (width whole) (v ∷ vs) ≡ place + width whole v + sum_by (width whole) vs = omega (arith, sum_by-cons (width whole) v vs) in
     (refl, placed_append whole i (place + width whole v) vs rest (subst (λ x. ArePlaced whole x rest) e h))
 
--- the next value begins behind the leaves that are joined to an earlier one
+-- the next value begins after the leaves that are joined to an earlier one
 written_places : (whole joined i place : ℕ) (leaves : List Timed) (ws : List Written) → 1 ≤ whole → AreWrittenFrom whole joined i place leaves ws → ArePlaced whole (place + lengths (take joined leaves)) ws
 written_places whole zero i place [] ws some h = subst (ArePlaced whole (place + lengths (take zero []))) (sym h) tt
 written_places whole (suc joined) i place [] ws some h = subst (ArePlaced whole (place + lengths (take (suc joined) []))) (sym h) tt

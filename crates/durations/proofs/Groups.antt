@@ -11,7 +11,7 @@ use Rattle.std.proofs.lemmas.Nat.Gcd.{dvd_trans}
 use Rattle.durations.specs.declared.value.Recip.TheVariants.{Of}
 use Rattle.durations.specs.declared.value.Value.{Value}
 use Rattle.durations.specs.declared.joined.Timed.{Timed}
-use Rattle.durations.specs.Joined.{AreValuesOf, dots, is_tie_of, dots_behind, may_join}
+use Rattle.durations.specs.Joined.{AreValuesOf, dots, is_tie_of, dots_after, may_join}
 use Rattle.rhythm_base.specs.Spans.{is_tie}
 use Rattle.durations.specs.Laws.{CountsIn, SumTo}
 use Rattle.durations.proofs.Firsts.{values_dots}
@@ -37,7 +37,7 @@ tie_len b x y h = grind (arith, nat_tests, h)
 none_joined : (len : ℕ) (more : List Timed) → IsJoin len more 0
 none_joined len more = record { few = omega arith; last = len; length = omega arith; ties = omega arith }
 
-ties_join : (len : ℕ) (more : List Timed) → IsJoin len more (dots_behind len more)
+ties_join : (len : ℕ) (more : List Timed) → IsJoin len more (dots_after len more)
 ties_join len [] = none_joined len []
 ties_join len (half ∷ []) = go (is_tie_of len 2 (Some half)) refl
   where
@@ -57,7 +57,7 @@ ties_join len (half ∷ quarter ∷ more) = go (is_tie_of len 2 (Some half)) ref
 pub leaf_joins : (whole : ℕ) (leaf : Timed) (more : List Timed) → IsJoin leaf.len more (dots whole leaf more)
 leaf_joins whole leaf more = go (may_join whole leaf)
   where
-    go : (b : Bool) → IsJoin leaf.len more (cond b (dots_behind leaf.len more) 0)
+    go : (b : Bool) → IsJoin leaf.len more (cond b (dots_after leaf.len more) 0)
     go false = none_joined leaf.len more
     go true = ties_join leaf.len more
 

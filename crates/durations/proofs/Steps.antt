@@ -18,9 +18,9 @@ use Rattle.durations.proofs.Sums.{sums}
 abbrev pub leaf_at : List Timed → ℕ → Timed
 leaf_at xs i = get_or xs i (record { len = 0; kind = Begin })
 
--- the leaves behind a place, as a slice to the end
-pub behind : (xs : List Timed) (i : ℕ) → take (length xs - i) (drop i xs) ≡ drop i xs
-behind xs i = ap (λ n. take n (drop i xs)) (sym (length-drop i xs)) ∙ take-length (drop i xs)
+-- the leaves after a place, as a slice to the end
+pub after : (xs : List Timed) (i : ℕ) → take (length xs - i) (drop i xs) ≡ drop i xs
+after xs i = ap (λ n. take n (drop i xs)) (sym (length-drop i xs)) ∙ take-length (drop i xs)
 
 pub step_joined :
     (whole joined i place : ℕ) (xs more : List Timed) (x : Timed) (ws : List Written)

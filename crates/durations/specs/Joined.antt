@@ -31,12 +31,12 @@ is_tie_of len k None = false
 is_tie_of len k (Some leaf) = is_tie leaf.kind && (k * leaf.len == len)
 
 -- the next leaf makes a dot where it is a tie of half the length, and then the following one where it is a tie of a quarter
-abbrev pub dots_behind : ℕ → List Timed → ℕ
-dots_behind len more = if is_tie_of len 2 (slice_get more 0) then (if is_tie_of len 4 (slice_get more 1) then 2 else 1) else 0
+abbrev pub dots_after : ℕ → List Timed → ℕ
+dots_after len more = if is_tie_of len 2 (slice_get more 0) then (if is_tie_of len 4 (slice_get more 1) then 2 else 1) else 0
 
--- the dots that a leaf takes from those behind it: as many of these are joined to it
+-- the dots that a leaf takes from those after it: as many of these are joined to it
 abbrev pub dots : ℕ → Timed → List Timed → ℕ
-dots whole leaf more = if may_join whole leaf then dots_behind leaf.len more else 0
+dots whole leaf more = if may_join whole leaf then dots_after leaf.len more else 0
 
 -- the values of a leaf with those that are joined to it: without dots those of its length, else one value with so many dots
 abbrev pub AreValuesOf : ℕ → Timed → ℕ → List Value → Type 0

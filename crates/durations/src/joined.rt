@@ -24,12 +24,12 @@ pub struct Timed {
 pub struct Written {
     /// The leaf that it is a value of, numbered from 0: the first one where several are joined.
     pub leaf: u32,
-    /// How many parts of a whole note behind the bar's start it begins.
+    /// How many parts of a whole note after the bar's start it begins.
     pub from: u64,
     pub value: Value,
 }
 
-/// Whether ties behind a leaf may be joined to it.
+/// Whether ties after a leaf may be joined to it.
 fn may_join(leaf: Timed, whole: u64) -> bool
     requires { 1 ≤ leaf.len }
     ensures { result ≡ bars.may_join whole leaf }
@@ -45,7 +45,7 @@ fn is_tie_of(leaf: Option<Timed>, part: u64, len: u64) -> bool
     leaf.is_some_and(|tie| tie.kind == SoundKind::Tie && part * tie.len == len)
 }
 
-/// The dots that a leaf takes from those behind it.
+/// The dots that a leaf takes from those after it.
 fn dots(leaf: Timed, more: &[Timed], whole: u64) -> u8
     requires whole { whole ≤ 61440 }
     requires leaf { IsTimedLeaf whole leaf }
@@ -104,7 +104,7 @@ fn push_values(
 }
 
 /// The values of the leaves of one bar, from left to right and with joined dots: a leaf of 1/n of a whole note that begins a
-/// chord or is a tie takes a dot from a tie of half its length behind it, and then a second from a tie of a quarter. A short
+/// chord or is a tie takes a dot from a tie of half its length after it, and then a second from a tie of a quarter. A short
 /// leaf and a rest take none and give none. Lengths and places count in parts of 1/`whole` of a whole note.
 pub fn values_of(alloc: Global, leaves: &[Timed], whole: u64) -> Result<Vec<Written>, AllocError>
     requires some { 1 ≤ whole }

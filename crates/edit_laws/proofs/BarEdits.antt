@@ -1,4 +1,4 @@
--- The bars after an edit: one starts elsewhere, the last is dropped, or one more stands behind them.
+-- The bars after an edit: one starts elsewhere, the last is dropped, or one more stands after them.
 use Rattle.std.proofs.Common.{◌≡◌, ℕ, zero, suc, ◌+◌, ◌-◌, ◌*◌, ◌/◌, ◌%◌, ◌<◌, ◌≤◌, true, false, ◌==◌, List, [], ◌∷◌, ◌++◌, length, take, subst, refl, sym, ap, ◌∙◌, arith, ◌⊎◌, inl, inr, length-append, Some}
 use Rattle.std.specs.List.Sorted.{IsStrictlyIncreasing}
 use Rattle.std.specs.Prelude.{All, slice_index, slice_get}
@@ -117,7 +117,7 @@ below_start bars n t up lt less k le =
           omega (arith, before, less)
     ]
 
--- one more bar that starts behind all
+-- one more bar that starts after all
 pub rises-push : (bars : List Bar) (b : Bar) → IsStrictlyIncreasing (starts bars) → All (λ x. x.start < b.start) bars → IsStrictlyIncreasing (starts (bars ++ b ∷ []))
 rises-push bars b up below k lt = pushed (eqb_tells (k + 1) (length bars))
   where
@@ -149,7 +149,7 @@ rises-push bars b up below k lt = pushed (eqb_tells (k + 1) (length bars))
         let old = up k (omega (arith, inside, size)) in
         omega (arith, here, next, old)
 
--- a start behind the bars changes none
+-- a start after the bars changes none
 pub unchanged : (k tick : ℕ) (bars : List Bar) → length bars ≤ k → with_barline k tick bars ≡ bars
 unchanged k tick [] le = refl
 unchanged zero tick (b ∷ bars) le = absurd (omega arith)

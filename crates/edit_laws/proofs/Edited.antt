@@ -21,7 +21,7 @@ use Rattle.rhythm_base.specs.declared.note.Bar.{Bar}
 use Rattle.rhythm_base.specs.declared.note.Note.{Note}
 use Rattle.rhythm_base.specs.declared.pin.Pin as pin
 use Rattle.rhythm_base.specs.Lists.{list_with, AreInOrder, last_of}
-use Rattle.rhythm_base.specs.Barlines.{barline, barline_behind, last_start, next_barline, nominal, nominal_of}
+use Rattle.rhythm_base.specs.Barlines.{barline, barline_after, last_start, next_barline, nominal, nominal_of}
 use Rattle.rhythm_base.specs.Pins.{is_pin, without_pin}
 use Rattle.rhythm_base.specs.Edits.{IsEditInRange, performance_after, next_bar, with_barline, with_start, edited, first_refusal, has_note, is_moved_past, is_note, is_past, moved_to, note_at, put_moved, lacks_voice, edit_tests, unless_refused, without_note}
 use Rattle.rhythm_base.specs.Shape.{Shape}
@@ -328,7 +328,7 @@ last_moved p tick w low high none =
     (w.first_bar, w.bars_rise) high
     (notes_until p.channels p.last tick p.notes w.notes none) w.pins w.pins_in_order
 
--- a tick before the barline behind bar number `bar` is before the last barline
+-- a tick before the barline after bar number `bar` is before the last barline
 before_last : (p : Performance) (bar tick : ℕ) → IsWellFormed p → tick < barline p.bars p.last (bar + 1) → tick < p.last
 before_last p bar tick w high = go (cases_below (bar + 1) (length p.bars))
   where
@@ -373,13 +373,13 @@ not_one n some h =
     let other : n ≡ 1 → ⊥ = λ is. absurd (grind (arith, nat_tests, h, is)) in
     omega (arith, some, ne_lt 1 n some (λ is. other (sym is)))
 
-behind_last : (p : Performance) (bar : ℕ) → length p.bars ≤ bar → barline_behind p bar ≡ 2000000001
-behind_last p bar le =
+after_last : (p : Performance) (bar : ℕ) → length p.bars ≤ bar → barline_after p bar ≡ 2000000001
+after_last p bar le =
     let no : nat_lt bar (length p.bars) ≡ false = grind (arith, nat_tests, le) in
     ap (λ b. if b then barline p.bars p.last (bar + 1) else 2000000001) no
 
-behind_inner : (p : Performance) (bar : ℕ) → bar < length p.bars → barline_behind p bar ≡ barline p.bars p.last (bar + 1)
-behind_inner p bar lt =
+after_inner : (p : Performance) (bar : ℕ) → bar < length p.bars → barline_after p bar ≡ barline p.bars p.last (bar + 1)
+after_inner p bar lt =
     let is : nat_lt bar (length p.bars) ≡ true = grind (arith, nat_tests, lt) in
     ap (λ b. if b then barline p.bars p.last (bar + 1) else 2000000001) is
 
@@ -415,18 +415,18 @@ set_barline p bar tick w range h = by (eqb_tells bar (length p.bars))
     few : bar ≤ length p.bars
     few = let either = false_either (λ (x : ℕ). true) (bar == 0) (nat_lt (length p.bars) bar) pass.0 in grind (arith, nat_tests, either.1)
 
-    between : (barline p.bars p.last (bar - 1) < tick) × (tick < barline_behind p bar)
-    between = both_less (barline p.bars p.last (bar - 1)) tick (barline_behind p bar) (not_false _ pass.1.0)
+    between : (barline p.bars p.last (bar - 1) < tick) × (tick < barline_after p bar)
+    between = both_less (barline p.bars p.last (bar - 1)) tick (barline_after p bar) (not_false _ pass.1.0)
 
     by : ((bar == length p.bars ≡ true) × (bar ≡ length p.bars)) ⊎ ((bar == length p.bars ≡ false) × (bar ≡ length p.bars → ⊥)) → WithBarline p bar tick (bar == length p.bars)
     by (inl is) =
-        let high : barline_behind p bar ≡ 2000000001 = behind_last p bar (omega (arith, is.1)) in
+        let high : barline_after p bar ≡ 2000000001 = after_last p bar (omega (arith, is.1)) in
         let none : list_any (is_past tick) p.notes ≡ false = second_false (bar == length p.bars) _ is.0 pass.1.1.0 in
         let formed = last_moved p tick w (subst (λ k. barline p.bars p.last (k - 1) < tick) is.1 between.0) (omega (arith, between.1, high)) none in
         subst (WithBarline p bar tick) (sym is.0) (subst (λ l. IsWellFormed (record p { bars = l; last = tick })) (sym (unchanged bar tick p.bars (omega (arith, is.1)))) formed)
     by (inr other) =
         let inside : bar < length p.bars = ne_lt bar (length p.bars) few other.1 in
-        let high : barline_behind p bar ≡ barline p.bars p.last (bar + 1) = behind_inner p bar inside in
+        let high : barline_after p bar ≡ barline p.bars p.last (bar + 1) = after_inner p bar inside in
         subst (WithBarline p bar tick) (sym other.0) (inner_moved p bar tick w some inside between.0 (subst (λ t. tick < t) high between.1))
 
 add_bar : (p : Performance) → Formed p AddBar

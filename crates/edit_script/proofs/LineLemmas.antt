@@ -18,7 +18,7 @@ whole line false begins = begins
 begun : (line : List ℕ) → BeginsPin line → IsTrue (starts_with nat_eq line (codes "pin "))
 begun line (more, is) = ap (λ l. starts_with nat_eq l (codes "pin ")) is
 
--- the word `pin` with a word behind it
+-- the word `pin` with a word after it
 pub begins_pin : (line : List ℕ) (second : List ℕ) (rest : List (List ℕ)) → script_words line ≡ codes "pin" ∷ second ∷ rest
     → IsTrue (starts_with nat_eq line (codes "pin "))
 begins_pin line second rest are =

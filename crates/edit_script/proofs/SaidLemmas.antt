@@ -1,4 +1,4 @@
--- What a line says by its keyword and the words behind it.
+-- What a line says by its keyword and the words after it.
 use Rattle.std.proofs.Common.{◌≡◌, ℕ, true, false, List, [], ◌∷◌, Some, None, Result, Ok, Err, IfOk, IfErr, drop, refl, sym, ap, ap₂, ◌∙◌, subst, IsTrue}
 use Rattle.std.specs.Prelude.{Option, IsErr, IsErrAnd, codes, nat_eq, slice_get, ok_or}
 use Rattle.std.specs.List.{starts_with}
@@ -7,7 +7,7 @@ use Rattle.rhythm_base.specs.declared.command.Command.TheVariants.{Change, Score
 use Rattle.rhythm_base.specs.declared.edit.Edit.TheVariants.{Add, Drop, Move, Barline, Pin, Unpin, AddBar, DropBar}
 use Rattle.rhythm_base.specs.ScriptLines.{AreCommand, ArePinWords, IsCommandInRange, script_words}
 use Rattle.rhythm_base.proofs.CommandWords.{command_in_range}
-use Rattle.edit_script.specs.Behind.{BeginsPinned, SaysBehind, SaysPin}
+use Rattle.edit_script.specs.After.{BeginsPinned, SaysAfter, SaysPin}
 use Rattle.edit_script.specs.Finds.{Finds}
 use Rattle.edit_script.specs.Keywords.{spelling}
 use Rattle.edit_script.specs.Reads.{Reads}
@@ -22,7 +22,7 @@ use Rattle.edit_script.proofs.KeywordLemmas.{same_keyword}
 pub record HasKeyword (command : Command) (name : List ℕ) (rest : List (List ℕ)) : Type 0 where
   pub keyword : Keyword
   pub spelled : name ≡ spelling keyword
-  pub says : SaysBehind keyword rest command
+  pub says : SaysAfter keyword rest command
 
 pub keyword_in : (command : Command) (name : List ℕ) (rest : List (List ℕ)) → AreCommand command (name ∷ rest) → HasKeyword command name rest
 keyword_in (Change (Add channel key onset end)) name rest are = record { keyword = keyword.Add; spelled = are.0; says = ((channel, key, onset, end), refl, are.1) }
@@ -46,8 +46,8 @@ pin_said name (a ∷ []) command spelled (channel, bar, shape, is, first, second
 pin_said name (a ∷ b ∷ rest) command spelled (channel, bar, shape, is, first, second, text) =
     subst (λ (c : Command). AreCommand c (name ∷ a ∷ b ∷ rest)) (sym is) (spelled, first, second, text)
 
--- the words behind a keyword say the command of all words
-pub said : (k : Keyword) (name : List ℕ) (rest : List (List ℕ)) (command : Command) → name ≡ spelling k → SaysBehind k rest command → AreCommand command (name ∷ rest)
+-- the words after a keyword say the command of all words
+pub said : (k : Keyword) (name : List ℕ) (rest : List (List ℕ)) (command : Command) → name ≡ spelling k → SaysAfter k rest command → AreCommand command (name ∷ rest)
 said keyword.Add name rest command spelled (n, is, are) = subst (λ (c : Command). AreCommand c (name ∷ rest)) (sym is) (spelled, are)
 said keyword.Drop name rest command spelled (n, is, are) = subst (λ (c : Command). AreCommand c (name ∷ rest)) (sym is) (spelled, are)
 said keyword.Move name rest command spelled (n, is, are) = subst (λ (c : Command). AreCommand c (name ∷ rest)) (sym is) (spelled, are)
@@ -62,11 +62,11 @@ said keyword.Quit name rest command spelled (is, are) = subst (λ (c : Command).
 
 -- what was found, read
 pub reads_found : (k : Keyword) (words : List (List ℕ)) (May : Type 0) (this : Keyword) (o : Option Command) (r : Result Command LineFault) → k ≡ this
-    → Finds (SaysBehind this words) o → r ≡ ok_or o BadLine → Reads (SaysBehind k words) May r
+    → Finds (SaysAfter this words) o → r ≡ ok_or o BadLine → Reads (SaysAfter k words) May r
 reads_found k words May this o r same found is =
-    subst (λ (r : Result Command LineFault). Reads (SaysBehind k words) May r) (sym is) (subst (λ (k : Keyword). Reads (SaysBehind k words) May (ok_or o BadLine)) (sym same) (of o found))
+    subst (λ (r : Result Command LineFault). Reads (SaysAfter k words) May r) (sym is) (subst (λ (k : Keyword). Reads (SaysAfter k words) May (ok_or o BadLine)) (sym same) (of o found))
   where
-    of : (o : Option Command) → Finds (SaysBehind this words) o → Reads (SaysBehind this words) May (ok_or o BadLine)
+    of : (o : Option Command) → Finds (SaysAfter this words) o → Reads (SaysAfter this words) May (ok_or o BadLine)
     of (Some x) found = found
     of None found = found
 
@@ -80,15 +80,15 @@ no_number IsN Is May None fault (Err Memory) finds e is none = let same : Memory
 
 -- a pin, read
 pub reads_pin : (k : Keyword) (words : List (List ℕ)) (r : Result Command LineFault) → k ≡ keyword.Pin → Reads (SaysPin words) (BeginsPinned words) r
-    → Reads (SaysBehind k words) ((k ≡ keyword.Pin) × BeginsPinned words) r
-reads_pin k words (Ok command) same reads = subst (λ (k : Keyword). SaysBehind k words command) (sym same) reads
-reads_pin k words (Err BadLine) same reads = subst (λ (k : Keyword). (command : Command) → SaysBehind k words command → ⊥) (sym same) reads
+    → Reads (SaysAfter k words) ((k ≡ keyword.Pin) × BeginsPinned words) r
+reads_pin k words (Ok command) same reads = subst (λ (k : Keyword). SaysAfter k words command) (sym same) reads
+reads_pin k words (Err BadLine) same reads = subst (λ (k : Keyword). (command : Command) → SaysAfter k words command → ⊥) (sym same) reads
 reads_pin k words (Err Memory) same reads = (same, reads)
 
--- the first word and those behind it
+-- the first word and those after it
 pub words_are : (words all : List (List ℕ)) (word : List ℕ) (rest : List (List ℕ)) → words ≡ all → Some word ≡ slice_get words 0 → rest ≡ drop 1 words → all ≡ word ∷ rest
-words_are [] all word rest same first behind = cc
-words_are (w ∷ words) all word rest same first behind = let e : word ≡ w = cc in sym same ∙ ap₂ ◌∷◌ (sym e) (sym behind)
+words_are [] all word rest same first after = cc
+words_are (w ∷ words) all word rest same first after = let e : word ≡ w = cc in sym same ∙ ap₂ ◌∷◌ (sym e) (sym after)
 
 -- a first word that is no keyword
 pub no_keyword : (words : List (List ℕ)) (word : List ℕ) (rest : List (List ℕ)) → words ≡ word ∷ rest → ((k : Keyword) → word ≡ spelling k → ⊥)
@@ -98,32 +98,32 @@ no_keyword words word rest are none command says =
     none has.keyword has.spelled
 
 module _ (words : List (List ℕ)) (word : List ℕ) (rest : List (List ℕ)) (k : Keyword) (are : words ≡ word ∷ rest) (known : word ≡ spelling k) where
-  said_behind : (command : Command) → AreCommand command words → SaysBehind k rest command
-  said_behind command says =
+  said_after : (command : Command) → AreCommand command words → SaysAfter k rest command
+  said_after command says =
       let has = keyword_in command word rest (subst (AreCommand command) are says) in
       let same = same_keyword has.keyword k (sym has.spelled ∙ known) in
-      subst (λ (k : Keyword). SaysBehind k rest command) same has.says
+      subst (λ (k : Keyword). SaysAfter k rest command) same has.says
 
-  -- a command of the words behind the keyword is that of all words, and where there is none the line says none
-  pub read_ok : (May : Type 0) (r : Result Command LineFault) → Reads (SaysBehind k rest) May r → IfOk r (λ command. AreCommand command words)
+  -- a command of the words after the keyword is that of all words, and where there is none the line says none
+  pub read_ok : (May : Type 0) (r : Result Command LineFault) → Reads (SaysAfter k rest) May r → IfOk r (λ command. AreCommand command words)
   read_ok May (Ok command) reads = subst (AreCommand command) (sym are) (said k word rest command known reads)
   read_ok May (Err fault) reads = tt
 
-  pub read_bad : (May : Type 0) (r : Result Command LineFault) → Reads (SaysBehind k rest) May r
+  pub read_bad : (May : Type 0) (r : Result Command LineFault) → Reads (SaysAfter k rest) May r
       → IfErr r (λ fault. fault ≡ BadLine → (command : Command) → AreCommand command words → ⊥)
   read_bad May (Ok command) reads = tt
-  read_bad May (Err BadLine) reads = λ e command says. reads command (said_behind command says)
+  read_bad May (Err BadLine) reads = λ e command says. reads command (said_after command says)
   read_bad May (Err Memory) reads = λ e. cc
 
--- `pin` with a channel and a bar behind it
+-- `pin` with a channel and a bar after it
 pin_words : (word : List ℕ) (rest : List (List ℕ)) → word ≡ codes "pin" → BeginsPinned rest → ArePinWords (word ∷ rest)
 pin_words word [] known (channel, bar, first, second) = absurd first
 pin_words word (a ∷ []) known (channel, bar, first, second) = absurd second
 pin_words word (a ∷ b ∷ rest) known (channel, bar, first, second) = (known, (channel, first), (bar, second))
 
--- want of memory may come only where a channel and a bar stand behind `pin`
+-- want of memory may come only where a channel and a bar stand after `pin`
 pub read_shape : (words : List (List ℕ)) (word : List ℕ) (rest : List (List ℕ)) (k : Keyword) → words ≡ word ∷ rest → word ≡ spelling k
-    → (r : Result Command LineFault) → Reads (SaysBehind k rest) ((k ≡ keyword.Pin) × BeginsPinned rest) r
+    → (r : Result Command LineFault) → Reads (SaysAfter k rest) ((k ≡ keyword.Pin) × BeginsPinned rest) r
     → IfErr r (λ fault. fault ≡ Memory → ArePinWords words)
 read_shape words word rest k are known (Ok command) reads = tt
 read_shape words word rest k are known (Err BadLine) reads = λ e. cc

@@ -25,15 +25,15 @@ pub SentPart-more : (a b c : Option (List ℕ)) (i j k : ℕ) (t u : List ℕ) �
 SentPart-more a b c i j k t u front p =
     (length t + p.0, omega (arith, p.1, length-append t u), subst (Sent a c i k) (sym (take-append-add t u p.0)) (Sent-trans a b c i j k t (take p.0 u) front p.2))
 
--- a piece, and then what is written behind it
-pub all_behind : (a b c : Option (List ℕ)) (i j : ℕ) (t u : List ℕ) (r : Result ℕ Partial) → Sent a b i j t → IfOk r (λ k. Sent b c j k u) → IfOk r (λ k. Sent a c i k (t ++ u))
-all_behind a b c i j t u (Ok k) front next = Sent-trans a b c i j k t u front next
-all_behind a b c i j t u (Err e) front next = tt
+-- a piece, and then what is written after it
+pub all_after : (a b c : Option (List ℕ)) (i j : ℕ) (t u : List ℕ) (r : Result ℕ Partial) → Sent a b i j t → IfOk r (λ k. Sent b c j k u) → IfOk r (λ k. Sent a c i k (t ++ u))
+all_after a b c i j t u (Ok k) front next = Sent-trans a b c i j k t u front next
+all_after a b c i j t u (Err e) front next = tt
 
-pub part_behind : (a b c : Option (List ℕ)) (i j : ℕ) (t u : List ℕ) (r : Result ℕ Partial) → Sent a b i j t → IfErr r (λ e. SentPart b c j e.sent u)
+pub part_after : (a b c : Option (List ℕ)) (i j : ℕ) (t u : List ℕ) (r : Result ℕ Partial) → Sent a b i j t → IfErr r (λ e. SentPart b c j e.sent u)
     → IfErr r (λ e. SentPart a c i e.sent (t ++ u))
-part_behind a b c i j t u (Ok k) front next = tt
-part_behind a b c i j t u (Err e) front next = SentPart-more a b c i j e.sent t u front next
+part_after a b c i j t u (Ok k) front next = tt
+part_after a b c i j t u (Err e) front next = SentPart-more a b c i j e.sent t u front next
 
 -- the pieces of the elements of a list
 flat_next : {X : Type 0} (f : X → List ℕ) (xs : List X) (i : ℕ) (d : X) → i < length xs → flat_map f (take (suc i) xs) ≡ flat_map f (take i xs) ++ f (get_or xs i d)
@@ -63,7 +63,7 @@ pieces_cut f a b c i j k xs n d h front next =
     subst (SentPart a c i k) (sym (flat_at f xs n d h))
     (SentPart-more a b c i j k (flat_map f (take n xs)) (piece ++ rest) front (SentPart-first b c j k piece rest next))
 
--- a joined text is its first piece, and the others each behind a separator
+-- a joined text is its first piece, and the others each after a separator
 pub joined : {X : Type 0} (c : ℕ) (f : X → List ℕ) (x : X) (xs : List X) → f x ++ flat_map (λ y. c ∷ f y) xs ≡ join_with_byte c (map f (x ∷ xs))
 joined c f x [] = append-nil (f x)
 joined c f x (y ∷ ys) = ap (λ l. f x ++ (c ∷ l)) (joined c f y ys)

@@ -7,7 +7,7 @@ use Rattle.std.proofs.lemmas.Str.{IsAscii-append, IsUtf8-from_ascii}
 use Rattle.std.proofs.lemmas.Str.Ascii.{IsAscii-cons, IsAscii-nil}
 use Rattle.std.specs.Str.{IsAscii, IsUtf8}
 use Rattle.rhythm_base.specs.Shape.{Shape, end, part}
-use Rattle.rhythm_base.specs.ShapeText.{IsFirstBadByte, IsShapeText, around_parts, behind_part, shape_text, texts_of_parts}
+use Rattle.rhythm_base.specs.ShapeText.{IsFirstBadByte, IsShapeText, around_parts, after_part, shape_text, texts_of_parts}
 use Rattle.rhythm_base.specs.Shapes.{are_cut, can_have, parts_in}
 
 few_parts : (n : ℕ) → can_have n ≡ true → n < 2 ^ 64
@@ -22,8 +22,8 @@ around_ascii n texts few ascii = at (n == 0)
         IsAscii-append (decimal n) _ (IsAscii-decimal n few)
         (IsAscii-cons 40 _ (omega arith) (IsAscii-append texts _ ascii (IsAscii-cons 41 [] (omega arith) IsAscii-nil)))
 
-behind_ascii : (n : ℕ) (texts : List ℕ) → IsAscii texts → IsAscii (behind_part n texts)
-behind_ascii n texts ascii = at (n == 0)
+after_ascii : (n : ℕ) (texts : List ℕ) → IsAscii texts → IsAscii (after_part n texts)
+after_ascii n texts ascii = at (n == 0)
   where
     at : (b : Bool) → IsAscii (if b then [] else codes " " ++ texts)
     at true = IsAscii-nil
@@ -35,7 +35,7 @@ texts_ascii (part x rest) cut =
     let first = and_parts (can_have (parts_in x)) _ cut in
     let both = and_parts (are_cut x) (are_cut rest) first.1 in
     IsAscii-append _ _ (around_ascii (parts_in x) (texts_of_parts x) (few_parts (parts_in x) first.0) (texts_ascii x both.0))
-    (behind_ascii (parts_in rest) (texts_of_parts rest) (texts_ascii rest both.1))
+    (after_ascii (parts_in rest) (texts_of_parts rest) (texts_ascii rest both.1))
 
 -- the text of a shape is text
 pub shape_is_text : (text : List ℕ) (x : Shape) → IsShapeText text x → IsUtf8 text

@@ -1,7 +1,7 @@
 pub mod Finds
 pub mod LineWords
 pub mod Keywords
-pub mod Behind
+pub mod After
 pub mod Reads
 pub mod Pieces
 pub mod ReplyText

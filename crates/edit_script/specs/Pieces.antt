@@ -9,7 +9,7 @@ abbrev pub word_text : Word → List ℕ
 word_text (Name text) = text.now
 word_text (Number number) = decimal number
 
--- what stands behind the name of a refusal
+-- what stands after the name of a refusal
 abbrev pub details_texts : Details → List (List ℕ)
 details_texts details.None = []
 details_texts (details.One word) = word_text word ∷ []

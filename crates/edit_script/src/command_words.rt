@@ -1,4 +1,4 @@
-ghost use Rattle.edit_script.specs.Behind.{SaysAlone, SaysBehind};
+ghost use Rattle.edit_script.specs.After.{SaysAlone, SaysAfter};
 ghost use Rattle.edit_script.specs.Finds.{Finds};
 ghost use Rattle.edit_script.specs.declared.keyword.Keyword.TheVariants as keyword;
 
@@ -16,9 +16,9 @@ const LAST_TICK: u32 = 2_000_000_000;
 /// The greatest number of alternatives that a line asks for.
 const MOST_ALTERNATIVES: u32 = 16;
 
-/// The command of the words behind `add`.
+/// The command of the words after `add`.
 pub(crate) fn add_note(words: &mut LineWords) -> Option<Command>
-    ensures { Finds (SaysBehind keyword.Add words.old) result }
+    ensures { Finds (SaysAfter keyword.Add words.old) result }
 {
     let (channel, key, onset, end) = words.four(LAST_CHANNEL, LAST_KEY, LAST_TICK, LAST_TICK)?;
     Some(Command::Change(Edit::Add {
@@ -29,9 +29,9 @@ pub(crate) fn add_note(words: &mut LineWords) -> Option<Command>
     }))
 }
 
-/// The command of the words behind `drop`.
+/// The command of the words after `drop`.
 pub(crate) fn drop_note(words: &mut LineWords) -> Option<Command>
-    ensures { Finds (SaysBehind keyword.Drop words.old) result }
+    ensures { Finds (SaysAfter keyword.Drop words.old) result }
 {
     let (channel, key, onset) = words.three(LAST_CHANNEL, LAST_KEY, LAST_TICK)?;
     Some(Command::Change(Edit::Drop {
@@ -41,9 +41,9 @@ pub(crate) fn drop_note(words: &mut LineWords) -> Option<Command>
     }))
 }
 
-/// The command of the words behind `move`.
+/// The command of the words after `move`.
 pub(crate) fn move_note(words: &mut LineWords) -> Option<Command>
-    ensures { Finds (SaysBehind keyword.Move words.old) result }
+    ensures { Finds (SaysAfter keyword.Move words.old) result }
 {
     let (channel, key, onset, to) = words.four(LAST_CHANNEL, LAST_KEY, LAST_TICK, LAST_TICK)?;
     Some(Command::Change(Edit::Move {
@@ -54,9 +54,9 @@ pub(crate) fn move_note(words: &mut LineWords) -> Option<Command>
     }))
 }
 
-/// The command of the words behind `barline`.
+/// The command of the words after `barline`.
 pub(crate) fn barline(words: &mut LineWords) -> Option<Command>
-    ensures { Finds (SaysBehind keyword.Barline words.old) result }
+    ensures { Finds (SaysAfter keyword.Barline words.old) result }
 {
     let (bar, tick) = words.two(LAST_BAR, LAST_TICK)?;
     Some(Command::Change(Edit::Barline {
@@ -65,9 +65,9 @@ pub(crate) fn barline(words: &mut LineWords) -> Option<Command>
     }))
 }
 
-/// The command of the words behind `unpin`.
+/// The command of the words after `unpin`.
 pub(crate) fn unpin(words: &mut LineWords) -> Option<Command>
-    ensures { Finds (SaysBehind keyword.Unpin words.old) result }
+    ensures { Finds (SaysAfter keyword.Unpin words.old) result }
 {
     let (channel, bar) = words.two(LAST_CHANNEL, LAST_BAR)?;
     Some(Command::Change(Edit::Unpin {
@@ -76,9 +76,9 @@ pub(crate) fn unpin(words: &mut LineWords) -> Option<Command>
     }))
 }
 
-/// The command of the words behind `alt`.
+/// The command of the words after `alt`.
 pub(crate) fn alternatives(words: &mut LineWords) -> Option<Command>
-    ensures { Finds (SaysBehind keyword.Alt words.old) result }
+    ensures { Finds (SaysAfter keyword.Alt words.old) result }
 {
     let (channel, bar, count) = words.three(LAST_CHANNEL, LAST_BAR, MOST_ALTERNATIVES)?;
     if count == 0 {
@@ -91,7 +91,7 @@ pub(crate) fn alternatives(words: &mut LineWords) -> Option<Command>
     })
 }
 
-/// The command of a keyword behind which no word stands.
+/// The command of a keyword after which no word stands.
 pub(crate) fn alone(command: Command, words: &LineWords) -> Option<Command>
     ensures { Finds (SaysAlone command words.now) result }
 {

@@ -10,7 +10,7 @@ use std::marker::Model;
 /// The words of a line that are left to be read, with one space between two of them.
 #[derive(Drop)]
 pub(crate) struct LineWords<'a> {
-    // none behind the last word
+    // none after the last word
     rest: Option<&'a [u8]>,
 }
 
@@ -23,7 +23,7 @@ impl<'a> Model for LineWords<'a> {
     ghost view = { λ w. words_in (option_map (λ x. x.now) w.rest) };
 }
 
-/// The first word of a text, and the text behind the space that ends it.
+/// The first word of a text, and the text after the space that ends it.
 fn first_word(text: &[u8]) -> (&[u8], Option<&[u8]>)
     ensures { slice_split (λ b. b == 32) text.now ≡ result.0.now ∷ words_in (option_map (λ x. x.now) result.1) }
 {
@@ -41,10 +41,10 @@ impl<'a> LineWords<'a> {
         LineWords { rest: Some(text) }
     }
 
-    /// The next word, which is then behind.
+    /// The next word, which is then after.
     pub(crate) fn next(&mut self) -> Option<&'a [u8]>
         ensures first { option_map (λ w. w.now) result ≡ slice_get self.old 0 }
-        ensures behind { self.new ≡ drop 1 self.old }
+        ensures after { self.new ≡ drop 1 self.old }
     {
         let (word, rest) = first_word(self.rest?);
         self.rest = rest;
@@ -72,7 +72,7 @@ impl<'a> LineWords<'a> {
     pub(crate) fn number(&mut self, most: u32) -> Option<u32>
         ensures first { Finds (λ n. Begins (IsNumber most n) self.old) result }
         ensures within { IfSome result (λ n. n ≤ most) }
-        ensures behind { self.new ≡ drop 1 self.old }
+        ensures after { self.new ≡ drop 1 self.old }
     {
         number(self.next()?, most)
     }

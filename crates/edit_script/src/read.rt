@@ -1,4 +1,4 @@
-ghost use Rattle.edit_script.specs.Behind.{BeginsPinned, SaysBehind, SaysPin};
+ghost use Rattle.edit_script.specs.After.{BeginsPinned, SaysAfter, SaysPin};
 ghost use Rattle.edit_script.specs.Reads.{Reads};
 ghost use Rattle.edit_script.specs.declared.keyword.Keyword.TheVariants.{Pin};
 ghost use Rattle.edit_script.specs.declared.line_fault.LineFault.TheVariants.{BadLine, Memory};
@@ -26,9 +26,9 @@ fn trimmed(line: &[u8]) -> &[u8]
     }
 }
 
-/// The command of a keyword with these words behind it.
+/// The command of a keyword with these words after it.
 fn command(alloc: Global, keyword: Keyword, words: &mut LineWords) -> Result<Command, LineFault>
-    ensures { Reads (SaysBehind keyword words.old) ((keyword ≡ Pin) × BeginsPinned words.old) result }
+    ensures { Reads (SaysAfter keyword words.old) ((keyword ≡ Pin) × BeginsPinned words.old) result }
 {
     match keyword {
         Keyword::Add => add_note(words).ok_or(LineFault::BadLine),
@@ -60,7 +60,7 @@ fn shape(alloc: Global, text: &[u8]) -> Result<Shape, LineFault>
     }
 }
 
-/// The command of the words behind `pin`.
+/// The command of the words after `pin`.
 fn pin(alloc: Global, words: &mut LineWords) -> Result<Command, LineFault>
     ensures { Reads (SaysPin words.old) (BeginsPinned words.old) result }
 {

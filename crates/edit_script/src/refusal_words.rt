@@ -5,7 +5,7 @@ ghost use Rattle.std.specs.Prelude.{◌≡◌, Some, drop, slice_get};
 use crate::word::Word;
 use rhythm_base::{EditFault, LimitKind};
 
-/// What stands behind the name of a refusal.
+/// What stands after the name of a refusal.
 #[derive(Clone, Copy)]
 pub(crate) enum Details {
     None,
@@ -46,7 +46,7 @@ pub(crate) fn name_of(fault: EditFault) -> &'static [u8]
     }
 }
 
-/// What stands behind the name of a refusal.
+/// What stands after the name of a refusal.
 pub(crate) fn details_of(fault: EditFault) -> Details
     ensures { details_texts result ≡ drop 1 (fault_words fault) }
 {

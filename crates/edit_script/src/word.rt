@@ -14,7 +14,7 @@ pub(crate) enum Word<'a> {
     Number(u64),
 }
 
-/// Writes bytes behind so many others, and counts them.
+/// Writes bytes after so many others, and counts them.
 pub(crate) fn write_bytes<K: Sink>(
     sink: &mut K,
     sent: usize,
@@ -47,8 +47,8 @@ fn write_word<K: Sink>(sink: &mut K, sent: usize, word: Word) -> Result<usize, P
     }
 }
 
-/// Writes a separator and the word behind it.
-fn write_behind<K: Sink>(
+/// Writes a separator and the word after it.
+fn write_after<K: Sink>(
     sink: &mut K,
     sent: usize,
     separator: u8,
@@ -70,7 +70,7 @@ fn write_later_words<K: Sink>(sink: &mut K, sent: usize, words: &[Word]) -> Resu
 {
     let mut count = sent;
     'words: for word in words {
-        count = write_behind(sink, count, b' ', *word)?;
+        count = write_after(sink, count, b' ', *word)?;
     }
     Ok(count)
 }
@@ -87,7 +87,7 @@ fn write_later_numbers<K: Sink>(
 {
     let mut count = sent;
     'numbers: for number in numbers {
-        count = write_behind(sink, count, b',', Word::Number(u64::from(*number)))?;
+        count = write_after(sink, count, b',', Word::Number(u64::from(*number)))?;
     }
     Ok(count)
 }

@@ -33,7 +33,7 @@ const NOTES: &[u8] = b"\0\x90\x3c\x40\x83\x60\x80\x3c\0\0\x90\x3e\x40\x83\x60\x8
 const NO_QUANTITY: &[u8] = b"\x81\x81\x81\x81\x83\x60\x80\x3c\0\0\x90\x3e\x40\x83\x60\x80\x3e\0\
     \0\x90\x40\x40\x83\x60\x80\x40\0\0\x90\x41\x40\x83\x60\x80\x41\0\0\xff\x2f\0";
 
-/// The four quarter notes and four deltas behind them, which lead to tick 1,000,000,000.
+/// The four quarter notes and four deltas after them, which lead to tick 1,000,000,000.
 const LATEST: &[u8] = b"\0\x90\x3c\x40\x83\x60\x80\x3c\0\0\x90\x3e\x40\x83\x60\x80\x3e\0\
     \0\x90\x40\x40\x83\x60\x80\x40\0\0\x90\x41\x40\x83\x60\x80\x41\0\
     \xff\xff\xff\x7f\xff\x01\0\xff\xff\xff\x7f\xff\x01\0\xff\xff\xff\x7f\xff\x01\0\
@@ -177,7 +177,7 @@ const READINGS: [(&str, &[u8], &[u8], usize, usize, u64); 8] = [
         7,
     ),
     (
-        "bytes behind the end of track",
+        "bytes after the end of track",
         PLAIN,
         b"\x07\xff\x2f\0\xf4",
         1,

@@ -1,6 +1,6 @@
--- The lines that say something, one behind the other.
+-- The lines that say something, one after the other.
 use Rattle.std.proofs.Common.{◌≡◌, ℕ, ◌+◌, ◌≤◌, true, false, List, [], ◌∷◌, length, filter, refl, sym, ap, ◌∙◌, arith}
-use Rattle.grammar_file.specs.Content.{Content, IsLineNumber, behind_first, content_from, line_with, next_statement, numbered, says_something}
+use Rattle.grammar_file.specs.Content.{Content, IsLineNumber, content_after_first, content_from, line_with, next_statement, numbered, says_something}
 use Rattle.grammar_file.specs.Lines.{grammar_lines, grammar_words}
 use Rattle.grammar_file.specs.declared.line.Line.{Line}
 use Rattle.grammar_file.specs.declared.line.Next.TheVariants.{End}
@@ -19,18 +19,18 @@ content-skipped n line lines nothing = rw nothing (ap (content (said_of (n + 1) 
 
 -- a line that says something
 pub content-said : (n : ℕ) (line : List ℕ) (lines : List (List ℕ)) → says_something (grammar_words line) ≡ true
-    → (line_with n (grammar_words line) ≡ next_statement (content_from n (line ∷ lines))) × (content_from (n + 1) lines ≡ behind_first (content_from n (line ∷ lines)))
+    → (line_with n (grammar_words line) ≡ next_statement (content_from n (line ∷ lines))) × (content_from (n + 1) lines ≡ content_after_first (content_from n (line ∷ lines)))
 unfolding content_from
 content-said n line lines something = rw something (refl, ap (content (said_of (n + 1) lines)) (omega arith))
 
 -- no text
 pub content-end : (n : ℕ) (text : List ℕ) → length text ≡ 0
-    → (End n ≡ next_statement (content_from n (grammar_lines text))) × (content_from n (grammar_lines text) ≡ behind_first (content_from n (grammar_lines text)))
+    → (End n ≡ next_statement (content_from n (grammar_lines text))) × (content_from n (grammar_lines text) ≡ content_after_first (content_from n (grammar_lines text)))
 unfolding content_from
 content-end n [] none = (ap End (omega arith), refl)
 content-end n (b ∷ bs) none = absurd (omega arith)
 
--- the number behind the last line
+-- the number after the last line
 pub content_from-end : (n : ℕ) (lines : List (List ℕ)) → (content_from n lines).end ≡ n + length lines
 unfolding content_from
 content_from-end n lines = refl

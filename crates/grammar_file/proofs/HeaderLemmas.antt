@@ -2,33 +2,33 @@
 use Rattle.std.proofs.Common.{◌≡◌, ℕ, ◌+◌, List, [], ◌∷◌, drop, slice_get, zero, suc, Result, Ok, Err, refl, ap, ◌∙◌}
 use Rattle.std.proofs.lemmas.List.{drop-drop}
 use Rattle.std.specs.Prelude.{codes}
-use Rattle.grammar_file.specs.Content.{Content, behind_first}
+use Rattle.grammar_file.specs.Content.{Content, content_after_first}
 use Rattle.grammar_file.specs.Header.{header_of, line_says, most_units, number_of, version_of, weights_of}
 use Rattle.grammar_file.specs.declared.fault.GrammarFault.{GrammarFault}
 use Rattle.grammar_file.specs.declared.fault.GrammarWhat.{GrammarWhat}
 
--- the first line behind n others
-pub get_behind : {X : Type 0} (xs : List X) (n : ℕ) → slice_get (drop n xs) 0 ≡ slice_get xs n
-get_behind [] zero = refl
-get_behind [] (suc n) = refl
-get_behind (x ∷ xs) zero = refl
-get_behind (x ∷ xs) (suc n) = get_behind xs n
+-- the first line after n others
+pub get_after : {X : Type 0} (xs : List X) (n : ℕ) → slice_get (drop n xs) 0 ≡ slice_get xs n
+get_after [] zero = refl
+get_after [] (suc n) = refl
+get_after (x ∷ xs) zero = refl
+get_after (x ∷ xs) (suc n) = get_after xs n
 
 -- what stands n lines further on
-pub record IsBehind (n : ℕ) (content further : Content) : Type 0 where
+pub record IsLaterContent (n : ℕ) (content further : Content) : Type 0 where
   lines : further.lines ≡ drop n content.lines
   end : further.end ≡ content.end
 
-pub one_behind : (content further : Content) → further ≡ behind_first content → IsBehind 1 content further
-one_behind content further is = record { lines = ap (λ c. c.lines) is; end = ap (λ c. c.end) is }
+pub one_after : (content further : Content) → further ≡ content_after_first content → IsLaterContent 1 content further
+one_after content further is = record { lines = ap (λ c. c.lines) is; end = ap (λ c. c.end) is }
 
-pub one_more_behind : (n : ℕ) (content further last : Content) → IsBehind n content further → last ≡ behind_first further → IsBehind (n + 1) content last
-one_more_behind n content further last there is = record { lines = ap (λ c. c.lines) is ∙ ap (drop 1) there.lines ∙ drop-drop 1 n content.lines; end = ap (λ c. c.end) is ∙ there.end }
+pub one_more_after : (n : ℕ) (content further last : Content) → IsLaterContent n content further → last ≡ content_after_first further → IsLaterContent (n + 1) content last
+one_more_after n content further last there is = record { lines = ap (λ c. c.lines) is ∙ ap (drop 1) there.lines ∙ drop-drop 1 n content.lines; end = ap (λ c. c.end) is ∙ there.end }
 
 -- the first line there is the n-th line here
-pub line_behind : {A : Type 0} (n : ℕ) (content further : Content) (say : List (List ℕ) → Result A GrammarWhat) → IsBehind n content further
+pub line_after : {A : Type 0} (n : ℕ) (content further : Content) (say : List (List ℕ) → Result A GrammarWhat) → IsLaterContent n content further
     → line_says further.end say (slice_get further.lines 0) ≡ line_says content.end say (slice_get content.lines n)
-line_behind n content further say there = rw (there.lines, there.end, get_behind content.lines n) refl
+line_after n content further say there = rw (there.lines, there.end, get_after content.lines n) refl
 
 -- the outcome of a line, as it stands in the header
 abbrev pub version_line : Content → Result ℕ GrammarFault

@@ -15,7 +15,7 @@ pub lines_among_more : (line : List ℕ) (pieces : List (List ℕ)) → 1 ≤ le
 lines_among_more line [] some = absurd (omega arith)
 lines_among_more line (next ∷ more) some = refl
 
--- a line that a newline ends, and the text behind it
+-- a line that a newline ends, and the text after it
 pub lines_of-first : (text : List ℕ) → position_or_len (λ b. b == newline) text < length text
     → grammar_lines text ≡ without_return (before_first (λ b. b == newline) text) ∷ grammar_lines (after_first (λ b. b == newline) text)
 lines_of-first text within =

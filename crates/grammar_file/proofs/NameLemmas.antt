@@ -19,7 +19,7 @@ unfolding is_name
 is_name-parts [] some = absurd (omega arith)
 is_name-parts (x ∷ xs) some = refl
 
--- an upper-case letter and few bytes behind it
+-- an upper-case letter and few bytes after it
 pub is_name-first : (word : List ℕ) → 1 ≤ length word → is_ascii_uppercase (get_or word 0 0) ≡ true → length (drop 1 word) ≤ 15
     → list_all is_name_byte (drop 1 word) ≡ is_name word
 is_name-first word some capital few = rw (is_name-parts word some) (rw capital (grind (arith, nat_tests)))

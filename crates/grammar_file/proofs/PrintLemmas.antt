@@ -11,7 +11,7 @@ use Rattle.std.proofs.lemmas.Grind.{flat_map-append}
 use Rattle.rhythm_base.specs.Grammar.{Grammar}
 use Rattle.grammar_file.specs.Printed.{header_words, line_text, symbol_name, printed, rule_words, start_words}
 
--- four pieces, one behind the other
+-- four pieces, one after the other
 pub four_pieces : (text a b c d p q r s : List ℕ) → a ≡ text ++ p → b ≡ a ++ q → c ≡ b ++ r → d ≡ c ++ s
     → d ≡ text ++ (p ++ (q ++ (r ++ (s ++ []))))
 four_pieces text a b c d p q r s e f g h =
@@ -19,7 +19,7 @@ four_pieces text a b c d p q r s e f g h =
     ∙ append_assoc ((text ++ p) ++ q) r s ∙ append_assoc (text ++ p) q (r ++ s) ∙ append_assoc text p (q ++ (r ++ s))
     ∙ ap (λ t. text ++ (p ++ (q ++ (r ++ t)))) (sym (append-nil s))
 
--- words behind a first one, each behind a space
+-- words after a first one, each after a space
 pub spaced : (word : List ℕ) (words : List (List ℕ)) → join_with_byte 32 (word ∷ words) ≡ word ++ flat_map (λ w. 32 ∷ w) words
 spaced word [] = sym (append-nil word)
 spaced word (next ∷ words) = ap (λ text. word ++ 32 ∷ text) (spaced next words)

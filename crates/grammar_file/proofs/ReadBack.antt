@@ -31,17 +31,17 @@ use Rattle.grammar_file.specs.declared.fault.GrammarWhat.{GrammarWhat}
 use Rattle.grammar_file.specs.Printed.{body_words, symbol_name, printed, rule_words, start_words, weight_words, words_of_body, words_of_lines}
 use Rattle.grammar_file.specs.ReadBack.{IsReadBack}
 use Rattle.grammar_file.specs.Sayable.{IsSayable}
-use Rattle.grammar_file.specs.Statements.{in_turn, is_rule, is_start_of, left_sides, names_of, spoken_behind}
+use Rattle.grammar_file.specs.Statements.{in_turn, is_rule, is_start_of, left_sides, names_of, spoken_after}
 use Rattle.grammar_file.specs.Symbols.{body_with, is_understood, names_in, names_of_parts, not_understood, parts_with, rule_in, rules_in, start_in, starts_in}
 use Rattle.grammar_file.specs.declared.draft.Spoken.{Spoken}
 use Rattle.grammar_file.specs.declared.header.Header.{Header}
 
--- the lines behind others
-lines_behind : (n : ℕ) (lines more : List (List (List ℕ))) → lines_from n (lines ++ more) ≡ lines_from n lines ++ lines_from (n + length lines) more
-lines_behind n [] more = ap (λ k. lines_from k more) (omega arith)
-lines_behind n (words ∷ lines) more =
+-- the lines after others
+lines_after : (n : ℕ) (lines more : List (List (List ℕ))) → lines_from n (lines ++ more) ≡ lines_from n lines ++ lines_from (n + length lines) more
+lines_after n [] more = ap (λ k. lines_from k more) (omega arith)
+lines_after n (words ∷ lines) more =
     ap (λ rest. record { number = n; words = words } ∷ rest)
-    (lines_behind (n + 1) lines more ∙ ap (λ k. lines_from (n + 1) lines ++ lines_from k more) (omega arith))
+    (lines_after (n + 1) lines more ∙ ap (λ k. lines_from (n + 1) lines ++ lines_from k more) (omega arith))
 
 module _ (g : Grammar) (can : IsSayable g) where
   abbrev readable : IsReadable g
@@ -155,7 +155,7 @@ module _ (g : Grammar) (can : IsSayable g) where
       on_line_number : {A : Type 0} → ℕ → Result A GrammarWhat → Result A GrammarFault
       on_line_number number r = on_line number r
 
-  -- the lines behind the header
+  -- the lines after the header
   abbrev start_lines : List Spoken
   start_lines = starts_spoken g.names 5 g.starts
 
@@ -180,7 +180,7 @@ module _ (g : Grammar) (can : IsSayable g) where
   abbrev Front : List (List ℕ) → Type 0
   Front known = IsFront g.version g.names can.names readable.names_differ readable.few_names known
 
-  rules_read : (in_turn (spoken_behind g.version) start_lines (lines_from (5 + length (map (start_words g.names) g.starts)) (map (rule_words g.names) g.rules)) ≡ Ok (start_lines ++ rule_lines))
+  rules_read : (in_turn (spoken_after g.version) start_lines (lines_from (5 + length (map (start_words g.names) g.starts)) (map (rule_words g.names) g.rules)) ≡ Ok (start_lines ++ rule_lines))
       × (names_of (start_lines ++ rule_lines) ≡ g.names)
   rules_read =
       let P : List (List ℕ) → Type 0 = λ known. AppearInOrder (length known) (map (λ r. r.lhs) g.rules) (length g.names) in
@@ -190,10 +190,10 @@ module _ (g : Grammar) (can : IsSayable g) where
       (omega (arith, ap length (no_rules 5 g.starts), readable.few_rules))
       (subst P (sym no_names) readable.left_sides) rules_are
 
-  lines_read : in_turn (spoken_behind g.version) [] (drop 4 (content_of (printed g)).lines) ≡ Ok (start_lines ++ rule_lines)
+  lines_read : in_turn (spoken_after g.version) [] (drop 4 (content_of (printed g)).lines) ≡ Ok (start_lines ++ rule_lines)
   lines_read =
-      ap (λ lines. in_turn (spoken_behind g.version) [] (drop 4 lines)) text_lines
-      ∙ ap (in_turn (spoken_behind g.version) []) (lines_behind 5 (map (start_words g.names) g.starts) (map (rule_words g.names) g.rules))
+      ap (λ lines. in_turn (spoken_after g.version) [] (drop 4 lines)) text_lines
+      ∙ ap (in_turn (spoken_after g.version) []) (lines_after 5 (map (start_words g.names) g.starts) (map (rule_words g.names) g.rules))
       ∙ read_starts g.version g.names can.names readable.names_differ readable.few_names [] 5 g.starts
       (lines_from (5 + length (map (start_words g.names) g.starts)) (map (rule_words g.names) g.rules)) refl refl (all_fresh g.starts) readable.starts_differ readable.starts
       ∙ rules_read.0

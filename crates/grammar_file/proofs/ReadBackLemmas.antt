@@ -1,4 +1,4 @@
--- The lines of a grammar's text, one behind the other, are read as its starts and rules.
+-- The lines of a grammar's text, one after the other, are read as its starts and rules.
 use Rattle.std.proofs.Common.{◌≡◌, ◌≢◌, ℕ, ◌+◌, ◌<◌, ◌≤◌, ◌==◌, ◌&&◌, ◌||◌, if◌then◌else◌, Bool, true, false, cond, nat_le, nat_lt, List, [], ◌∷◌, ◌++◌, length, get_or, map, filter, None, Ok, IsTrue, All, zero, suc, refl, sym, ap, ◌∙◌, subst, arith}
 use Rattle.std.proofs.lemmas.Bool.{lt-ltb}
 use Rattle.std.proofs.lemmas.Bool.Decides.{nat_tests}
@@ -21,7 +21,7 @@ use Rattle.grammar_file.proofs.StatementLemmas.{names_of-rule, names_of-start}
 use Rattle.grammar_file.specs.Names.{is_known, is_name, symbol_of}
 use Rattle.grammar_file.specs.Printed.{symbol_name, rule_words, start_words}
 use Rattle.grammar_file.specs.Said.{said_by}
-use Rattle.grammar_file.specs.Statements.{conflict, in_turn, is_rule, is_start_of, names_of, spoken_behind}
+use Rattle.grammar_file.specs.Statements.{conflict, in_turn, is_rule, is_start_of, names_of, spoken_after}
 use Rattle.grammar_file.specs.declared.draft.Spoken.{Spoken}
 use Rattle.grammar_file.specs.declared.line.Line.{Line}
 use Rattle.grammar_file.specs.declared.said.Said.{Said}
@@ -29,7 +29,7 @@ use Rattle.grammar_file.specs.declared.said.Said.TheVariants as says
 
 -- a line that nothing speaks against
 spoken : (version : ℕ) (before : List Spoken) (number : ℕ) (words : List (List ℕ)) (said : Said) → said_by version words ≡ Ok said → conflict before said ≡ None
-    → spoken_behind version before (record { number = number; words = words }) ≡ Ok (record { line = number; said = said })
+    → spoken_after version before (record { number = number; words = words }) ≡ Ok (record { line = number; said = said })
 spoken version before number words said is free = rw (is, free) refl
 
 -- what the lines of starts and of rules say, numbered from n on
@@ -90,8 +90,8 @@ module _ (version : ℕ) (names : List (List ℕ)) (spelled : All (λ n. IsTrue 
 
   pub read_starts : (before : List Spoken) (n : ℕ) (starts : List Start) (more : List Line) → names_of before ≡ [] → filter is_rule before ≡ []
       → AllByRecursion (Fresh before) starts → AllPairs OtherSignature starts → All (IsStartOf (length names)) starts
-      → in_turn (spoken_behind version) before (lines_from n (map (start_words names) starts) ++ more) ≡ in_turn (spoken_behind version) (before ++ starts_spoken names n starts) more
-  read_starts before n [] more none no_rule fresh pairs are = ap (λ b. in_turn (spoken_behind version) b more) (sym (append-nil before))
+      → in_turn (spoken_after version) before (lines_from n (map (start_words names) starts) ++ more) ≡ in_turn (spoken_after version) (before ++ starts_spoken names n starts) more
+  read_starts before n [] more none no_rule fresh pairs are = ap (λ b. in_turn (spoken_after version) b more) (sym (append-nil before))
   read_starts before n (s ∷ starts) more none no_rule fresh pairs are =
       let here = All-head (IsStartOf (length names)) s starts are in
       let said = start_said version s.num s.den (symbol_name names s.symbol) here.signature (spelled s.symbol [] here.symbol) in
@@ -102,7 +102,7 @@ module _ (version : ℕ) (names : List (List ℕ)) (spelled : All (λ n. IsTrue 
       (read_starts (before ++ line ∷ []) (n + 1) starts more (names_of-start before n s.num s.den (symbol_name names s.symbol) ∙ none)
       (filter-append is_rule before (line ∷ []) ∙ append-nil (filter is_rule before) ∙ no_rule)
       (still_fresh before n s starts fresh.1 others.0) others.1 (All-tail (IsStartOf (length names)) s starts are)
-      ∙ ap (λ b. in_turn (spoken_behind version) b more) (append_assoc before (line ∷ []) (starts_spoken names (n + 1) starts)))
+      ∙ ap (λ b. in_turn (spoken_after version) b more) (append_assoc before (line ∷ []) (starts_spoken names (n + 1) starts)))
 
   -- the rules: the names so far are the first of all names
   pub record IsFront (known : List (List ℕ)) : Type 0 where
@@ -194,7 +194,7 @@ module _ (version : ℕ) (names : List (List ℕ)) (spelled : All (λ n. IsTrue 
 
   pub read_rules : (before : List Spoken) (n : ℕ) (rules : List Rule) → IsFront (names_of before) → length (filter is_rule before) + length rules ≤ 512
       → AppearInOrder (length (names_of before)) (map (λ r. r.lhs) rules) (length names) → AllByRecursion IsRule rules
-      → (in_turn (spoken_behind version) before (lines_from n (map (rule_words names) rules)) ≡ Ok (before ++ rules_spoken names n rules))
+      → (in_turn (spoken_after version) before (lines_from n (map (rule_words names) rules)) ≡ Ok (before ++ rules_spoken names n rules))
       × (names_of (before ++ rules_spoken names n rules) ≡ names)
   read_rules before n [] front few order are =
       (ap Ok (sym (append-nil before)), ap names_of (append-nil before) ∙ all_front (names_of before) front order)

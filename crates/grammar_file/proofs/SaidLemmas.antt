@@ -10,24 +10,24 @@ use Rattle.grammar_file.specs.Said.{are_parts, kind_of, parts_of, rule_of_kind, 
 use Rattle.grammar_file.specs.declared.fault.GrammarWhat.{GrammarWhat}
 use Rattle.grammar_file.specs.declared.fault.GrammarWhat.TheVariants.{Line}
 
--- parts behind others
-abbrev pub behind : List (ℕ × List ℕ) → Result (List (ℕ × List ℕ)) GrammarWhat → Result (List (ℕ × List ℕ)) GrammarWhat
-behind parts others = others >>= λ more. Ok (parts ++ more)
+-- parts after others
+abbrev pub after : List (ℕ × List ℕ) → Result (List (ℕ × List ℕ)) GrammarWhat → Result (List (ℕ × List ℕ)) GrammarWhat
+after parts others = others >>= λ more. Ok (parts ++ more)
 
-behind_one : (parts : List (ℕ × List ℕ)) (part : ℕ × List ℕ) (others : Result (List (ℕ × List ℕ)) GrammarWhat)
-    → behind (parts ++ part ∷ []) others ≡ behind parts (others >>= λ more. Ok (part ∷ more))
-behind_one parts part (Ok more) = ap Ok (append_assoc parts (part ∷ []) more)
-behind_one parts part (Err what) = refl
+after_one : (parts : List (ℕ × List ℕ)) (part : ℕ × List ℕ) (others : Result (List (ℕ × List ℕ)) GrammarWhat)
+    → after (parts ++ part ∷ []) others ≡ after parts (others >>= λ more. Ok (part ∷ more))
+after_one parts part (Ok more) = ap Ok (append_assoc parts (part ∷ []) more)
+after_one parts part (Err what) = refl
 
 -- a size and a name more
 pub parts_more : {X : Type 0} (text : X → List ℕ) (rest : List X) (d : X) (n : ℕ) (parts : List (ℕ × List ℕ))
     → 2 ≤ length rest → number_within 1 96 (text (get_or rest 0 d)) ≡ Ok n
-    → behind (parts ++ (n, text (get_or rest 1 d)) ∷ []) (parts_of (map text (drop 2 rest))) ≡ behind parts (parts_of (map text rest))
+    → after (parts ++ (n, text (get_or rest 1 d)) ∷ []) (parts_of (map text (drop 2 rest))) ≡ after parts (parts_of (map text rest))
 parts_more text [] d n parts some e = absurd (omega arith)
 parts_more text (x ∷ []) d n parts some e = absurd (omega arith)
-parts_more text (x ∷ y ∷ rest) d n parts some e = behind_one parts (n, text y) (parts_of (map text rest)) ∙ ap (behind parts) (rw e refl)
+parts_more text (x ∷ y ∷ rest) d n parts some e = after_one parts (n, text y) (parts_of (map text rest)) ∙ ap (after parts) (rw e refl)
 
--- the form of what is behind a size and a name
+-- the form of what is after a size and a name
 pub parts_form : {X : Type 0} (text : X → List ℕ) (rest : List X) → 2 ≤ length rest → are_parts (map text rest) ≡ true → are_parts (map text (drop 2 rest)) ≡ true
 parts_form text [] some form = absurd (omega arith)
 parts_form text (x ∷ []) some form = absurd (omega arith)
@@ -35,7 +35,7 @@ parts_form text (x ∷ y ∷ rest) some form = (and_parts _ _ form).1
 
 -- nothing is left where no pair is
 pub parts_end : {X : Type 0} (text : X → List ℕ) (rest : List X) (parts : List (ℕ × List ℕ)) → length rest < 2 → are_parts (map text rest) ≡ true
-    → behind parts (parts_of (map text rest)) ≡ Ok parts
+    → after parts (parts_of (map text rest)) ≡ Ok parts
 parts_end text [] parts few form = ap Ok (append-nil parts)
 parts_end text (x ∷ []) parts few form = cc
 parts_end text (x ∷ y ∷ rest) parts few form = absurd (omega arith)

@@ -24,7 +24,7 @@ use Rattle.grammar_file.specs.Names.{first_appearances, is_known, is_name, symbo
 use Rattle.grammar_file.specs.Outcome.{◌>>=◌, on_line}
 use Rattle.grammar_file.specs.Said.{said_by}
 use Rattle.grammar_file.specs.Sayable.{IsSayable}
-use Rattle.grammar_file.specs.Statements.{conflict, in_turn, is_rule, is_start_of, left_side, left_sides, names_of, spoken_behind, unless}
+use Rattle.grammar_file.specs.Statements.{conflict, in_turn, is_rule, is_start_of, left_side, left_sides, names_of, spoken_after, unless}
 use Rattle.grammar_file.specs.Symbols.{body_with, is_understood, names_in, names_of_parts, not_understood, parts_with, rule_in, rules_in, start_in, starts_in}
 use Rattle.grammar_file.specs.declared.draft.Spoken.{Spoken}
 use Rattle.grammar_file.specs.declared.fault.GrammarWhat.{GrammarWhat}
@@ -67,7 +67,7 @@ or_false : (a b : Bool) → (a || b) ≡ false → (a ≡ false) × (b ≡ false
 or_false true b e = absurd (cc)
 or_false false b e = (refl, e)
 
--- a start behind others, and a rule
+-- a start after others, and a rule
 differs : (num den : ℕ) (name : List ℕ) (before : List Spoken) → list_any (is_start_of num den) before ≡ false
     → AllByRecursion (λ s. Differ s.said (says.Start num den name)) before
 differs num den name [] e = tt
@@ -125,7 +125,7 @@ push_rule version before line (says.Rule name weight body) sound here none =
     }
 
 spoken_sound : (version : ℕ) (before : List Spoken) (line : Line) → AreSound version before
-    → IfOk (spoken_behind version before line) (λ y. AreSound version (before ++ y ∷ []))
+    → IfOk (spoken_after version before line) (λ y. AreSound version (before ++ y ∷ []))
 spoken_sound version before line sound = at (said_by version line.words) (said_sound version line.words)
   where
     new : Said → Spoken
@@ -142,16 +142,16 @@ spoken_sound version before line sound = at (said_by version line.words) (said_s
     at (Err what) here = tt
 
 in_turn_sound : (version : ℕ) (lines : List Line) (before : List Spoken) → AreSound version before
-    → IfOk (in_turn (spoken_behind version) before lines) (AreSound version)
+    → IfOk (in_turn (spoken_after version) before lines) (AreSound version)
 in_turn_sound version [] before sound = sound
 in_turn_sound version (line ∷ lines) before sound =
-    then_ok (λ y. AreSound version (before ++ y ∷ [])) (AreSound version) (spoken_behind version before line) _ (spoken_sound version before line sound)
+    then_ok (λ y. AreSound version (before ++ y ∷ [])) (AreSound version) (spoken_after version before line) _ (spoken_sound version before line sound)
     (λ y more. in_turn_sound version lines (before ++ y ∷ []) more)
 
-pub lines_sound : (version : ℕ) (lines : List Line) → IfOk (in_turn (spoken_behind version) [] lines) (AreSound version)
+pub lines_sound : (version : ℕ) (lines : List Line) → IfOk (in_turn (spoken_after version) [] lines) (AreSound version)
 lines_sound version lines = in_turn_sound version lines [] (record { each = tt; few_names = omega arith; few_rules = omega arith; starts_differ = tt })
 
-pub few_names : (version : ℕ) (lines : List Line) (spoken : List Spoken) → in_turn (spoken_behind version) [] lines ≡ Ok spoken → length (names_of spoken) ≤ 64
+pub few_names : (version : ℕ) (lines : List Line) (spoken : List Spoken) → in_turn (spoken_after version) [] lines ≡ Ok spoken → length (names_of spoken) ≤ 64
 few_names version lines spoken e = let sound = subst (λ r. IfOk r (AreSound version)) e (lines_sound version lines) in sound.few_names
 
 -- no line is left that is not understood
@@ -428,9 +428,9 @@ lines_sayable header spoken head sound = at (not_understood (names_of spoken) sp
 pub grammar_is_sayable : (text : List ℕ) → IfOk (grammar_of text) IsSayable
 unfolding grammar_of
 grammar_is_sayable text =
-    then_ok IsSoundHeader IsSayable (header_of (content_of text)) (λ header. in_turn (spoken_behind header.version) [] (drop 4 (content_of text).lines) >>= λ spoken. grammar_of_lines header spoken)
+    then_ok IsSoundHeader IsSayable (header_of (content_of text)) (λ header. in_turn (spoken_after header.version) [] (drop 4 (content_of text).lines) >>= λ spoken. grammar_of_lines header spoken)
     (header_sound (content_of text))
-    (λ header head. then_ok (AreSound header.version) IsSayable (in_turn (spoken_behind header.version) [] (drop 4 (content_of text).lines)) (λ spoken. grammar_of_lines header spoken)
+    (λ header head. then_ok (AreSound header.version) IsSayable (in_turn (spoken_after header.version) [] (drop 4 (content_of text).lines)) (λ spoken. grammar_of_lines header spoken)
     (lines_sound header.version (drop 4 (content_of text).lines))
     (λ spoken sound. lines_sayable header spoken head sound))
 

@@ -6,7 +6,7 @@ use Rattle.grammar_file.specs.declared.line.Line.{Line}
 use Rattle.grammar_file.specs.declared.line.Next.{Next}
 use Rattle.grammar_file.specs.declared.line.Next.TheVariants as nexts
 
--- the lines that say something, and the number behind that of the last line of any kind
+-- the lines that say something, and the number after that of the last line of any kind
 pub record Content : Type 0 where
   pub lines : List Line
   pub end : ℕ
@@ -40,9 +40,9 @@ next_statement content = at content.lines content.end
 abbrev pub line_with : ℕ → List (List ℕ) → Next
 line_with number words = nexts.Line (record { number = number; words = words })
 
--- what stands behind the first line
-abbrev pub behind_first : Content → Content
-behind_first content = record { lines = drop 1 content.lines; end = content.end }
+-- what stands after the first line
+abbrev pub content_after_first : Content → Content
+content_after_first content = record { lines = drop 1 content.lines; end = content.end }
 
 -- a line's number is 1 at least, and that of the last line and one more at most
 abbrev pub IsLineNumber : ℕ → ℕ → Type 0

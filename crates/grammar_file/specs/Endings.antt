@@ -1,4 +1,4 @@
--- How a rule ends an interval, in a file: the word of an ending, what stands behind it, the ending that both say, and the
+-- How a rule ends an interval, in a file: the word of an ending, what stands after it, the ending that both say, and the
 -- words that it is printed with.
 use Rattle.std.specs.Prelude.{ℕ, ◌==◌, ◌&&◌, Bool, if◌then◌else◌, List, [], ◌∷◌, length, Option, Some, None, Result, Ok, Err, codes}
 use Rattle.std.specs.Fmt.{decimal}
@@ -25,7 +25,7 @@ ending_word_of text =
     else if bytes_eq text (codes "grace") then Some word.Grace
     else None
 
--- what stands behind that word: a number, or nothing
+-- what stands after that word: a number, or nothing
 abbrev pub has_ending_form : EndingWord → List (List ℕ) → Bool
 has_ending_form word.Note words = length words == 0
 has_ending_form word.Short words = length words == 0
@@ -38,7 +38,7 @@ abbrev pub graces_of : List (List ℕ) → Result ℕ GrammarWhat
 graces_of (digits ∷ []) = number_within 1 3 digits
 graces_of _ = Err Line
 
--- the ending with these words behind its first, where they have its form
+-- the ending with these words after its first, where they have its form
 abbrev pub ending_of_words : EndingWord → List (List ℕ) → Result Ending GrammarWhat
 ending_of_words word.Note words = Ok endings.Note
 ending_of_words word.Short words = Ok endings.Short

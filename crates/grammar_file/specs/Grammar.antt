@@ -1,10 +1,10 @@
--- The grammar that a file says, or its first fault. A line with an unknown name comes behind all other faults, since names
+-- The grammar that a file says, or its first fault. A line with an unknown name comes after all other faults, since names
 -- may be used above the lines that they stand at the left of.
 use Rattle.std.specs.Prelude.{ℕ, List, [], ◌∷◌, drop, Result, Ok, Err}
 use Rattle.grammar_file.specs.Content.{Content, content_of}
 use Rattle.grammar_file.specs.Header.{header_of}
 use Rattle.grammar_file.specs.Outcome.{◌>>=◌}
-use Rattle.grammar_file.specs.Statements.{in_turn, names_of, spoken_behind}
+use Rattle.grammar_file.specs.Statements.{in_turn, names_of, spoken_after}
 use Rattle.grammar_file.specs.Symbols.{not_understood, rules_in, starts_in}
 use Rattle.grammar_file.specs.declared.draft.Spoken.{Spoken}
 use Rattle.grammar_file.specs.declared.fault.GrammarFault.{GrammarFault}
@@ -43,7 +43,7 @@ grammar_of_lines header spoken =
 abbrev pub grammar_of_content : Content → Result Grammar GrammarFault
 grammar_of_content content = do
   header ← header_of content
-  spoken ← in_turn (spoken_behind header.version) [] (drop 4 content.lines)
+  spoken ← in_turn (spoken_after header.version) [] (drop 4 content.lines)
   grammar_of_lines header spoken
 
 unfoldable pub grammar_of : List ℕ → Result Grammar GrammarFault

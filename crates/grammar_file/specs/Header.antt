@@ -19,13 +19,13 @@ version_of (key ∷ version ∷ []) =
     else Err what.Header
 version_of _ = Err what.Header
 
--- the number behind this word, in its range
+-- the number after this word, in its range
 abbrev pub number_of : List ℕ → ℕ → ℕ → List (List ℕ) → Result ℕ GrammarWhat
 number_of key low high (first ∷ digits ∷ []) =
     if bytes_eq first key then (if is_numeral digits then number_within low high digits else Err what.Line) else Err what.Header
 number_of key low high _ = Err what.Header
 
--- both numbers behind this word, each in the range
+-- both numbers after this word, each in the range
 abbrev pub numbers_of : List ℕ → ℕ → ℕ → List (List ℕ) → Result (ℕ × ℕ) GrammarWhat
 numbers_of key low high (first ∷ digits ∷ others ∷ []) =
     if bytes_eq first key then (if is_numeral digits && is_numeral others then (do
@@ -44,7 +44,7 @@ weights_of version words =
 abbrev pub most_units : ℕ → ℕ
 most_units version = if version == 2 then MOST_UNEQUAL_UNITS else MOST_UNITS
 
--- a line of the header is not there: the fault stands behind the last line
+-- a line of the header is not there: the fault stands after the last line
 abbrev pub missing : ℕ → GrammarFault
 missing end = record { line = end; what = what.Header }
 

@@ -4,7 +4,7 @@ use Rattle.grammar_file.specs.declared.fault.GrammarFault.{GrammarFault}
 use Rattle.grammar_file.specs.declared.fault.GrammarWhat.{GrammarWhat}
 use Rattle.grammar_file.specs.declared.fault.GrammarWhat.TheVariants.{Memory}
 
--- readers one behind the other: the next takes what the one before it read, and behind a fault nothing is read
+-- readers one after the other: the next takes what the one before it read, and after a fault nothing is read
 infixl 10 ◌>>=◌
 abbrev pub ◌>>=◌ : {A B E : Type 0} → Result A E → (A → Result B E) → Result B E
 (Ok x) >>= next = next x

@@ -1,4 +1,4 @@
--- The text of a grammar: the header, the starts and the rules, one space between words, a newline behind each line, and
+-- The text of a grammar: the header, the starts and the rules, one space between words, a newline after each line, and
 -- numbers without leading zeros.
 use Rattle.std.specs.Prelude.{ℕ, ◌==◌, if◌then◌else◌, List, [], ◌∷◌, ◌++◌, map, get_or, codes, Option, Some, None}
 use Rattle.std.specs.Fmt.{decimal}
@@ -41,7 +41,7 @@ abbrev pub cut_words : List (List ℕ) → Cut → List (List ℕ)
 cut_words names (equal symbols) = codes "split" ∷ map (symbol_name names) symbols
 cut_words names (unequal parts) = codes "parts" ∷ flat_map (λ part. decimal part.0 ∷ symbol_name names part.1 ∷ []) parts
 
--- the words behind a rule's weight: they say how the body cuts its interval, or how it ends it
+-- the words after a rule's weight: they say how the body cuts its interval, or how it ends it
 abbrev pub words_of_body : List (List ℕ) → Option Cut → Option Ending → List (List ℕ)
 words_of_body names (Some cut) ending = cut_words names cut
 words_of_body names None (Some ending) = ending_words ending

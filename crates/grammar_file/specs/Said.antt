@@ -1,4 +1,4 @@
--- What a line behind the header says by itself. It has one of the forms, or it is no such line; and the numbers of a form
+-- What a line after the header says by itself. It has one of the forms, or it is no such line; and the numbers of a form
 -- lie in their ranges, or the first that does not is the fault.
 use Rattle.rhythm_base.specs.declared.limits.TheConstants.{MOST_UNEQUAL_UNITS, MOST_PARTS, HEAVIEST_RULE}
 use Rattle.std.specs.Prelude.{ℕ, ◌==◌, ◌&&◌, Bool, true, false, if◌then◌else◌, List, [], ◌∷◌, length, nat_le, Option, Some, None, option_map, Result, Ok, Err, codes}
@@ -27,7 +27,7 @@ start_of signature name =
       beat ← beat_of den
       Ok (said.Start beats beat name)) else Err Line
 
--- the word behind a rule's weight
+-- the word after a rule's weight
 unfoldable pub kind_of : List ℕ → Option Kind
 kind_of word =
     if bytes_eq word (codes "split") then Some kind.Split
@@ -40,7 +40,7 @@ are_parts [] = true
 are_parts (size ∷ []) = false
 are_parts (size ∷ name ∷ more) = is_numeral size && is_name name && are_parts more
 
--- what stands behind that word: 2 to 16 names, 2 to 16 sizes with their names in version 2, or what the ending has
+-- what stands after that word: 2 to 16 names, 2 to 16 sizes with their names in version 2, or what the ending has
 abbrev pub has_form : ℕ → Kind → List (List ℕ) → Bool
 has_form version kind.Split words = nat_le 2 (length words) && nat_le (length words) MOST_PARTS && list_all is_name words
 has_form version kind.Parts words = (version == 2) && nat_le 4 (length words) && nat_le (length words) 32 && are_parts words
@@ -54,7 +54,7 @@ parts_of (size ∷ name ∷ more) = do
   Ok ((first, name) ∷ others)
 parts_of _ = Ok []
 
--- the body with these words behind its first, where they have its form
+-- the body with these words after its first, where they have its form
 abbrev pub body_of : Kind → List (List ℕ) → Result NamedBody GrammarWhat
 body_of kind.Split words = Ok (body.Split words)
 body_of kind.Parts words = parts_of words >>= λ parts. Ok (body.Parts parts)

@@ -1,4 +1,4 @@
--- The lines behind the header, one behind the other.
+-- The lines after the header, one after the other.
 use Rattle.rhythm_base.specs.declared.limits.TheConstants.{MOST_NAMES, MOST_RULES}
 use Rattle.std.specs.Prelude.{ℕ, ◌==◌, ◌&&◌, ◌||◌, Bool, true, false, if◌then◌else◌, List, [], ◌∷◌, ◌++◌, length, filter, nat_le, nat_lt, Option, Some, None, Result, Ok, Err}
 use Rattle.std.specs.List.{flat_map, list_any}
@@ -45,7 +45,7 @@ is_rule spoken = at spoken.said
     at (Start num den name) = false
     at (Rule name weight body) = true
 
--- what speaks against a line behind what the lines before it say: a second start of a signature, a rule behind 512
+-- what speaks against a line after what the lines before it say: a second start of a signature, a rule after 512
 -- others, or a 65th name on the left side
 abbrev pub conflict : List Spoken → Said → Option GrammarWhat
 conflict before (Start num den name) = if list_any (is_start_of num den) before then Some DoubleStart else None
@@ -59,16 +59,16 @@ abbrev pub unless : {A : Type 0} → Option GrammarWhat → A → Result A Gramm
 unless None x = Ok x
 unless (Some what) x = Err what
 
--- what a line says behind what the lines before it say
+-- what a line says after what the lines before it say
 abbrev pub spoken_by : ℕ → List Spoken → Line → Result Spoken GrammarWhat
 spoken_by version before line = do
   said ← said_by version line.words
   unless (conflict before said) (record { line = line.number; said = said })
 
-abbrev pub spoken_behind : ℕ → List Spoken → Line → Result Spoken GrammarFault
-spoken_behind version before line = on_line line.number (spoken_by version before line)
+abbrev pub spoken_after : ℕ → List Spoken → Line → Result Spoken GrammarFault
+spoken_after version before line = on_line line.number (spoken_by version before line)
 
--- what read gives of each element behind what it gave of those before it, or the first fault
+-- what read gives of each element after what it gave of those before it, or the first fault
 abbrev pub in_turn : {A B E : Type 0} → (List B → A → Result B E) → List B → List A → Result (List B) E
 in_turn read before [] = Ok before
 in_turn read before (x ∷ xs) = read before x >>= λ y. in_turn read (before ++ y ∷ []) xs

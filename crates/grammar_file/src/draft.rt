@@ -1,7 +1,7 @@
 ghost use Rattle.rhythm_base.specs.declared.limits.TheConstants.{MOST_NAMES};
 ghost use Rattle.grammar_file.specs.Names.{is_known};
 ghost use Rattle.grammar_file.specs.Outcome.{GivesGrammar, GivesAt, seen_grammar};
-ghost use Rattle.grammar_file.specs.Statements.{conflict, in_turn, is_rule, is_start_of, names_of, spoken_behind, spoken_by};
+ghost use Rattle.grammar_file.specs.Statements.{conflict, in_turn, is_rule, is_start_of, names_of, spoken_after, spoken_by};
 ghost use Rattle.grammar_file.specs.declared.fault.GrammarWhat.TheVariants.{Memory};
 ghost use Rattle.std.specs.List.{list_any};
 ghost use Rattle.grammar_file.specs.Content.{IsLineNumber};
@@ -14,14 +14,14 @@ use indexmap::IndexSet;
 use std::alloc::Global;
 use std::hash::BuildHasherDefault;
 
-/// A line behind the header, with its number.
+/// A line after the header, with its number.
 #[derive(Drop)]
 pub(crate) struct Spoken<'a> {
     pub(crate) line: u32,
     pub(crate) said: Said<'a>,
 }
 
-/// What the lines behind the header say so far.
+/// What the lines after the header say so far.
 #[derive(Drop)]
 pub(crate) struct Draft<'a> {
     /// The names on the left sides of rules, in the order of their first appearance. A fixed hasher serves, since there are
@@ -71,7 +71,7 @@ impl<'a> Draft<'a> {
         self.names.contains(name) || self.names.len() < 64
     }
 
-    /// What speaks against a line behind the others.
+    /// What speaks against a line after the others.
     fn conflict(&self, said: &Said) -> Option<GrammarWhat>
         requires { map (λ x. x.now) self.now.names.keys ≡ names_of self.now.spoken.items }
         ensures { result ≡ conflict self.now.spoken.items said.now }
@@ -92,7 +92,7 @@ impl<'a> Draft<'a> {
         }
     }
 
-    /// What a line says behind the others.
+    /// What a line says after the others.
     fn speak(&self, alloc: Global, version: u8, line: &Line<'a>) -> Result<Spoken<'a>, GrammarWhat>
         requires { map (λ x. x.now) self.now.names.keys ≡ names_of self.now.spoken.items }
         ensures value { GivesGrammar result (spoken_by version self.now.spoken.items line.now) }
@@ -123,13 +123,13 @@ impl<'a> Draft<'a> {
     }
 }
 
-/// What the lines behind the header say.
+/// What the lines after the header say.
 pub(crate) fn read_lines<'a>(
     alloc: Global,
     version: u8,
     lines: &mut Lines<'a>,
 ) -> Result<Draft<'a>, GrammarFault>
-    ensures value { GivesAt (seen_grammar (λ d. d.spoken.items) result) (in_turn (spoken_behind version) [] lines.old.lines) }
+    ensures value { GivesAt (seen_grammar (λ d. d.spoken.items) result) (in_turn (spoken_after version) [] lines.old.lines) }
     ensures names { IfOk result (λ d. map (λ x. x.now) d.names.keys ≡ names_of d.spoken.items) }
     ensures lines { IfOk result (λ d. All (λ s. IsLineNumber lines.old.end s.line) d.spoken.items) }
     ensures at { IfErr result (λ fault. IsLineNumber lines.old.end fault.line) }

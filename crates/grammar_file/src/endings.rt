@@ -33,7 +33,7 @@ pub(crate) fn ending_word_of(word: &[u8]) -> Option<EndingWord>
     }
 }
 
-/// Whether the words behind its first fit an ending of this word.
+/// Whether the words after its first fit an ending of this word.
 pub(crate) fn has_ending_form(word: EndingWord, words: &[&[u8]]) -> bool
     ensures { result ≡ has_ending_form word (map (λ x. x.now) words.now) }
 {
@@ -48,7 +48,7 @@ pub(crate) fn has_ending_form(word: EndingWord, words: &[&[u8]]) -> bool
     }
 }
 
-/// The ending of this word with these words behind it.
+/// The ending of this word with these words after it.
 pub(crate) fn ending_of_words(word: EndingWord, words: &[&[u8]]) -> Result<Ending, GrammarWhat>
     requires { IsTrue (has_ending_form word (map (λ x. x.now) words.now)) }
     ensures { result ≡ ending_of_words word (map (λ x. x.now) words.now) }

@@ -25,7 +25,7 @@ pub enum GrammarWhat {
     Memory,
 }
 
-/// Why a text could not be read as a grammar file: the first line with a fault, but lines with unknown names come behind
+/// Why a text could not be read as a grammar file: the first line with a fault, but lines with unknown names come after
 /// all others.
 #[derive(Clone, Copy, Debug, PartialEq, Eq)]
 pub struct GrammarFault {

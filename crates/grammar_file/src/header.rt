@@ -1,5 +1,5 @@
 ghost use Rattle.rhythm_base.specs.declared.limits.TheConstants.{MOST_UNITS};
-ghost use Rattle.grammar_file.specs.Content.{IsLineNumber, behind_first};
+ghost use Rattle.grammar_file.specs.Content.{IsLineNumber, content_after_first};
 ghost use Rattle.grammar_file.specs.Header.{header_of, line_says, missing, most_units, number_of, numbers_of, version_of, weights_of};
 ghost use Rattle.grammar_file.specs.Outcome.{GivesAt};
 ghost use Rattle.grammar_file.specs.declared.fault.GrammarWhat.TheVariants.{Memory};
@@ -85,7 +85,7 @@ fn weights(version: u8, words: &[&[u8]]) -> Result<(u32, u32), GrammarWhat>
 /// The next line of the header.
 fn next_line<'a>(alloc: Global, lines: &mut Lines<'a>) -> Result<Line<'a>, GrammarFault>
     ensures line { IfOk result (λ line. slice_get lines.old.lines 0 ≡ Some line) }
-    ensures behind { OnOk result (lines.new ≡ behind_first lines.old) }
+    ensures after { OnOk result (lines.new ≡ content_after_first lines.old) }
     ensures number { IfOk result (λ line. IsLineNumber lines.old.end line.number) }
     ensures at { IfErr result (λ fault. IsLineNumber lines.old.end fault.line) }
     ensures end { IfErr result (λ fault. fault.what ≢ Memory → (slice_get lines.old.lines 0 ≡ None) × (fault ≡ missing lines.old.end)) }
@@ -103,7 +103,7 @@ fn next_line<'a>(alloc: Global, lines: &mut Lines<'a>) -> Result<Line<'a>, Gramm
 fn read_version(alloc: Global, lines: &mut Lines) -> Result<u8, GrammarFault>
     ensures at { IfErr result (λ fault. IsLineNumber lines.old.end fault.line) }
     ensures value { GivesAt result (line_says lines.old.end version_of (slice_get lines.old.lines 0)) }
-    ensures behind { OnOk result (lines.new ≡ behind_first lines.old) }
+    ensures after { OnOk result (lines.new ≡ content_after_first lines.old) }
 {
     let line = next_line(alloc, lines)?;
     on_line(line.number, version(line.words.as_slice()))
@@ -121,7 +121,7 @@ fn read_number(
     ensures at { IfErr result (λ fault. IsLineNumber lines.old.end fault.line) }
     ensures value { GivesAt result (line_says lines.old.end (number_of key.now low high) (slice_get lines.old.lines 0)) }
     ensures within { IfOk result (λ n. n ≤ high) }
-    ensures behind { OnOk result (lines.new ≡ behind_first lines.old) }
+    ensures after { OnOk result (lines.new ≡ content_after_first lines.old) }
 {
     let line = next_line(alloc, lines)?;
     on_line(line.number, number(key, low, high, line.words.as_slice()))
@@ -131,7 +131,7 @@ fn read_number(
 fn read_weights(alloc: Global, lines: &mut Lines, version: u8) -> Result<(u32, u32), GrammarFault>
     ensures at { IfErr result (λ fault. IsLineNumber lines.old.end fault.line) }
     ensures value { GivesAt result (line_says lines.old.end (weights_of version) (slice_get lines.old.lines 0)) }
-    ensures behind { OnOk result (lines.new ≡ behind_first lines.old) }
+    ensures after { OnOk result (lines.new ≡ content_after_first lines.old) }
 {
     let line = next_line(alloc, lines)?;
     on_line(line.number, weights(version, line.words.as_slice()))
@@ -150,7 +150,7 @@ pub(crate) fn read_header(alloc: Global, lines: &mut Lines) -> Result<Header, Gr
     ensures value { GivesAt result (header_of lines.old) }
     ensures at { IfErr result (λ fault. IsLineNumber lines.old.end fault.line) }
     ensures end { OnOk result (lines.new.end ≡ lines.old.end) }
-    ensures behind { OnOk result (lines.new.lines ≡ drop 4 lines.old.lines) }
+    ensures after { OnOk result (lines.new.lines ≡ drop 4 lines.old.lines) }
 {
     let version = read_version(alloc, lines)?;
     let resolution = read_number(alloc, lines, b"resolution", 1, most_units(version))?;

@@ -45,7 +45,7 @@ fn are_names(words: &[&[u8]]) -> bool
     words.iter().all(|word| is_name(word))
 }
 
-/// Whether the words behind its first fit a body of this kind in this version.
+/// Whether the words after its first fit a body of this kind in this version.
 pub(crate) fn has_form(version: u8, kind: Kind, words: &[&[u8]]) -> bool
     ensures { result ≡ has_form version kind (map (λ x. x.now) words.now) }
 {

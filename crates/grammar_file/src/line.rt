@@ -1,4 +1,4 @@
-ghost use Rattle.grammar_file.specs.Content.{Content, IsLineNumber, IsNext, behind_first, content_from, line_with, next_statement, says_something};
+ghost use Rattle.grammar_file.specs.Content.{Content, IsLineNumber, IsNext, content_after_first, content_from, line_with, next_statement, says_something};
 ghost use Rattle.grammar_file.specs.Lines.{is_blank, grammar_lines, without_return, grammar_words};
 ghost use Rattle.std.specs.Prelude.{◌+◌, ◌<◌, ◌∷◌, ◌≡◌, ◌≤◌, ◌^◌, IfErr, IfOk, OnOk, length};
 ghost use Rattle.grammar_file.specs.declared.fault.GrammarWhat.TheVariants.{Memory};
@@ -22,7 +22,7 @@ pub(crate) struct Line<'a> {
 pub(crate) enum Next<'a> {
     /// A line that says something.
     Line(Line<'a>),
-    /// No such line; the number behind that of the last line.
+    /// No such line; the number after that of the last line.
     End(u32),
 }
 
@@ -43,7 +43,7 @@ fn without_return(line: &[u8]) -> &[u8]
     }
 }
 
-/// The first line of a text, as its words are read, and the text behind it.
+/// The first line of a text, as its words are read, and the text after it.
 fn first_line(text: &[u8]) -> (&[u8], &[u8])
     requires { 0 < length text.now }
     ensures line { grammar_lines text.now ≡ result.0.now ∷ grammar_lines result.1.now }
@@ -108,10 +108,10 @@ impl<'a> Lines<'a> {
         }
     }
 
-    /// The next line, which is then behind.
+    /// The next line, which is then after.
     pub(crate) fn next(&mut self, alloc: Global) -> Result<Next<'a>, GrammarFault>
         ensures next { IfOk result (λ next. next ≡ next_statement self.old) }
-        ensures behind { OnOk result (self.new ≡ behind_first self.old) }
+        ensures after { OnOk result (self.new ≡ content_after_first self.old) }
         ensures number { IfOk result (IsNext self.old.end) }
         ensures err { IfErr result (λ fault. fault.what ≡ Memory) }
         ensures at { IfErr result (λ fault. IsLineNumber self.old.end fault.line) }

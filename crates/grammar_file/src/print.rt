@@ -18,7 +18,7 @@ fn push_name(text: &mut Vec<u8>, names: &[Name], symbol: u8) -> Result<(), Alloc
     push(text, names[symbol as usize].as_slice())
 }
 
-/// Appends the names of symbols, each behind a space.
+/// Appends the names of symbols, each after a space.
 fn push_names(text: &mut Vec<u8>, names: &[Name], symbols: &[u8]) -> Result<(), AllocError>
     requires { All (λ s. s < length names.now) symbols.now }
     ensures { OnOk result (text.new.items ≡ text.old.items ++ flat_map (λ s. 32 ∷ symbol_name names.now s) symbols.now) }
@@ -29,7 +29,7 @@ fn push_names(text: &mut Vec<u8>, names: &[Name], symbols: &[u8]) -> Result<(), 
     Ok(())
 }
 
-/// Appends sizes and the names of symbols in turn, each behind a space.
+/// Appends sizes and the names of symbols in turn, each after a space.
 fn push_parts(
     alloc: Global,
     text: &mut Vec<u8>,

@@ -57,7 +57,7 @@ fn owned_names(alloc: Global, names: &[&[u8]]) -> Result<Vec<Name>, GrammarWhat>
     Ok(owned)
 }
 
-/// The grammar of a header and the lines behind it.
+/// The grammar of a header and the lines after it.
 fn grammar(alloc: Global, header: Header, draft: &Draft) -> Result<Grammar, GrammarFault>
     requires kept { map (λ x. x.now) draft.now.names.keys ≡ names_of draft.now.spoken.items }
     requires few { length draft.now.names.keys ≤ MOST_NAMES }
@@ -80,13 +80,13 @@ fn grammar(alloc: Global, header: Header, draft: &Draft) -> Result<Grammar, Gram
     })
 }
 
-/// The grammar that a file says, or its first fault; but faults of unknown names come behind all others. Lines are read one
+/// The grammar that a file says, or its first fault; but faults of unknown names come after all others. Lines are read one
 /// after another, and memory is taken for the words of one line at a time, for what the lines say, and for the grammar.
 pub fn read_grammar(alloc: Global, text: &[u8]) -> Result<Grammar, GrammarFault>
     // so that the number of a line fits its type
     requires { length text.now ≤ 4294967294 }
     ensures value { GivesAt result (grammar_of text.now) }
-    // a line of the text, or the one behind the last
+    // a line of the text, or the one after the last
     ensures line { IfErr result (λ fault. IsLineNumber (length (grammar_lines text.now) + 1) fault.line) }
     ensures sayable { IfOk result IsSayable }
 

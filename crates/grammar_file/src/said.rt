@@ -20,7 +20,7 @@ pub(crate) enum NamedBody<'a> {
     Ending(Ending),
 }
 
-/// What a line behind the header says.
+/// What a line after the header says.
 #[derive(Drop)]
 pub(crate) enum Said<'a> {
     /// The root symbol of the bars of a signature.
@@ -40,7 +40,7 @@ pub(crate) enum Said<'a> {
 /// The words around the first slash.
 fn halves(word: &[u8]) -> (&[u8], &[u8])
     ensures before { result.0.now ≡ before_first (λ b. b == 47) word.now }
-    ensures behind { result.1.now ≡ after_first (λ b. b == 47) word.now }
+    ensures after { result.1.now ≡ after_first (λ b. b == 47) word.now }
 {
     match word.iter().position(|byte| *byte == b'/') {
         Some(at) => (&word[..at], &word[at + 1..]),
@@ -79,7 +79,7 @@ fn parts<'a>(alloc: Global, words: &[&'a [u8]]) -> Result<Sizes<'a>, GrammarWhat
     Ok(Sizes::of(parts))
 }
 
-/// The body of this kind with these words behind its first.
+/// The body of this kind with these words after its first.
 fn body<'a>(alloc: Global, kind: Kind, words: &[&'a [u8]]) -> Result<NamedBody<'a>, GrammarWhat>
     requires { (version : ℕ) × IsTrue (has_form version kind (map (λ x. x.now) words.now)) }
     ensures { GivesGrammar result (body_of kind (map (λ x. x.now) words.now)) }
@@ -117,7 +117,7 @@ fn rule<'a>(
     })
 }
 
-/// What a line behind the header says with these words.
+/// What a line after the header says with these words.
 pub(crate) fn read_said<'a>(
     alloc: Global,
     version: u8,

@@ -13,7 +13,7 @@ leaf_at length p w = record {
   part = record { ending = Note; place = p; width = w };
 }
 
--- before the leaf, in it and attached to it, in it and attached to the next, or behind it
+-- before the leaf, in it and attached to it, in it and attached to the next, or after it
 abbrev pub IsSide : ℕ → ℕ → ℕ → ℕ → ℕ → Attached → Type 0
 IsSide length r p w t Before = t * r < p * length
 IsSide length r p w t Left = IsTrue (lies_in r (leaf_at length p w) t && goes_left r (leaf_at length p w) t)

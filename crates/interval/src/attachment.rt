@@ -11,7 +11,7 @@ pub enum Attached {
     Left,
     /// It lies in the leaf and is attached to the next one: it is after the middle.
     Right,
-    /// It is behind the leaf.
+    /// It is after the leaf.
     After,
 }
 

@@ -125,10 +125,10 @@ outside : (a b : Bool) → a ≡ false → not (a && not b) ≡ true
 outside true b h = absurd (cc)
 outside false b h = refl
 
-behind : (a b : Bool) → b ≡ true → not (a && not b) ≡ true
-behind true true h = refl
-behind true false h = absurd (cc)
-behind false b h = refl
+after : (a b : Bool) → b ≡ true → not (a && not b) ≡ true
+after true true h = refl
+after true false h = absurd (cc)
+after false b h = refl
 
 module _ (k : BarInput) (p w n : ℕ) (first : SplitsAt k.resolution (bar_of k) p k.chords n) (last : SplitsAt k.resolution (bar_of k) (p + w) k.chords n) (g : Grammar) (units : g.resolution ≡ k.resolution) where
   quiet-cell : is_quiet (ground_of g k) p w ≡ true
@@ -138,7 +138,7 @@ module _ (k : BarInput) (p w n : ℕ) (first : SplitsAt k.resolution (bar_of k) 
     where
       each : (i : ℕ) (d : Inner) → i < length k.chords
           → not (reach k.resolution (bar_of k) p (get_or k.chords i d).onset && not (reach k.resolution (bar_of k) (p + w) (get_or k.chords i d).onset)) ≡ true
-      each i d low = elim (cases_lt i n) [ inl less ↦ outside _ _ (first.low i d less) | inr more ↦ behind _ _ (last.high i d more low) ]
+      each i d low = elim (cases_lt i n) [ inl less ↦ outside _ _ (first.low i d less) | inr more ↦ after _ _ (last.high i d more low) ]
 
   module _ (e : ℕ) (is : e ≡ end_before k.resolution (bar_of k) k.chords k.before p) where
     end-cell : end_at (ground_of g k) p * g.resolution ≡ e * k.resolution

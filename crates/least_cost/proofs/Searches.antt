@@ -86,11 +86,11 @@ module _ (g : Grammar) (k : BarInput) (ready : IsReady g k) where
       → ((a b : ℕ) → a < 5 → b < 5 → choice_at choices a b ≡ joined_by (entry_at left a) (λ m. entry_at right m b))
       → ((a b : ℕ) → a < 5 → b < 5 → IsSettled ms ns (λ n. choice_at choices a n) (choice_at choices a b) (entry_at all a b))
       → IsGood (ground_of g k) s p (q ∷ qs) ns all
-  beside-joined p w q qs s t u ls ms ns left right all choices below one others own longer behind is settled =
+  beside-joined p w q qs s t u ls ms ns left right all choices below one others own longer after is settled =
       let P : Option Shape → Type 0 = λ s. IsGood (ground_of g k) s p (q ∷ []) ms left in
       let Q : Option Shape → Type 0 = λ s. IsGood (ground_of g k) s (p + q.0) qs ms right in
       good-beside (ground_of g k) grounded p q qs (below-wide w (q ∷ qs) below) s ms ns left right all choices
-      (subst P (sym one) own) (subst Q (sym others) (good-more (ground_of g k) u (p + q.0) qs ls ms right longer behind)) is settled
+      (subst P (sym one) own) (subst Q (sym others) (good-more (ground_of g k) u (p + q.0) qs ls ms right longer after)) is settled
 
   -- one piece alone
   pub beside-one : (p : ℕ) (q : ℕ × ℕ) (s t u : Option Shape) (ls : List (List ℕ)) (grid : Table) → first_shape s ≡ one_shape t → other_shapes s ≡ u → has_shapes u none ≡ true

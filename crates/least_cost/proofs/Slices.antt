@@ -41,8 +41,8 @@ module _ (cs : List Inner) (a b : ℕ) (order : a ≤ b) (within : b ≤ length 
   abbrev between : List Inner
   between = take (b - a) (drop a cs)
 
-  abbrev behind : List Inner
-  behind = drop (b - a) (drop a cs)
+  abbrev after : List Inner
+  after = drop (b - a) (drop a cs)
 
   whole : cs ≡ take a cs ++ (take (b - a) (drop a cs) ++ drop (b - a) (drop a cs))
   whole = sym (take-append-drop a cs) ∙ ap (λ l. take a cs ++ l) (sym (take-append-drop (b - a) (drop a cs)))
@@ -50,8 +50,8 @@ module _ (cs : List Inner) (a b : ℕ) (order : a ≤ b) (within : b ≤ length 
   front-at : (i : ℕ) (d : Inner) → i < length (take a cs) → (get_or (take a cs) i d ≡ get_or cs i d) × (i < a)
   front-at i d h = let long = length-take-le a cs (omega arith) in (get_or-take a cs i d (omega (arith, h, long)), omega (arith, h, long))
 
-  behind-at : (i : ℕ) (d : Inner) → i < length (drop (b - a) (drop a cs)) → (get_or (drop (b - a) (drop a cs)) i d ≡ get_or cs (b + i) d) × (b + i < length cs)
-  behind-at i d h =
+  after-at : (i : ℕ) (d : Inner) → i < length (drop (b - a) (drop a cs)) → (get_or (drop (b - a) (drop a cs)) i d ≡ get_or cs (b + i) d) × (b + i < length cs)
+  after-at i d h =
       let one = length-drop (b - a) (drop a cs) in
       let two = length-drop a cs in
       let place : a + ((b - a) + i) ≡ b + i = omega arith in
@@ -62,7 +62,7 @@ module _ (cs : List Inner) (a b : ℕ) (order : a ≤ b) (within : b ≤ length 
       → filter t (take (b - a) (drop a cs)) ≡ filter t cs
   filter-between t low high =
       let front : filter t (take a cs) ≡ [] = filter-none t (take a cs) (λ i d h. let p = front-at i d h in ap t p.0 ∙ low i d p.1) in
-      let back : filter t (drop (b - a) (drop a cs)) ≡ [] = filter-none t (drop (b - a) (drop a cs)) (λ i d h. let p = behind-at i d h in ap t p.0 ∙ high (b + i) d (omega arith) p.1) in
+      let back : filter t (drop (b - a) (drop a cs)) ≡ [] = filter-none t (drop (b - a) (drop a cs)) (λ i d h. let p = after-at i d h in ap t p.0 ∙ high (b + i) d (omega arith) p.1) in
       sym (append-nil (filter t (take (b - a) (drop a cs))))
       ∙ ap (λ l. filter t (take (b - a) (drop a cs)) ++ l) (sym back)
       ∙ ap (λ l. l ++ (filter t (take (b - a) (drop a cs)) ++ filter t (drop (b - a) (drop a cs)))) (sym front)
@@ -77,7 +77,7 @@ module _ (cs : List Inner) (a b : ℕ) (order : a ≤ b) (within : b ≤ length 
   charges-between g k p w low high =
       let x = leaf_of_cell k p w in
       let front = nothing (take a cs) (λ i d h. let q = front-at i d h in ap (λ c. lies_in g.resolution x c.onset) q.0 ∙ low i d q.1) in
-      let back = nothing (drop (b - a) (drop a cs)) (λ i d h. let q = behind-at i d h in ap (λ c. lies_in g.resolution x c.onset) q.0 ∙ high (b + i) d (omega arith) q.1) in
+      let back = nothing (drop (b - a) (drop a cs)) (λ i d h. let q = after-at i d h in ap (λ c. lies_in g.resolution x c.onset) q.0 ∙ high (b + i) d (omega arith) q.1) in
       let one = sum_by-append (λ c. charge g (x ∷ []) c.onset) (take a cs) (take (b - a) (drop a cs) ++ drop (b - a) (drop a cs)) in
       let two = sum_by-append (λ c. charge g (x ∷ []) c.onset) (take (b - a) (drop a cs)) (drop (b - a) (drop a cs)) in
       let all = ap (charges g (x ∷ [])) whole in
@@ -151,7 +151,7 @@ module _ (k : BarInput) (cell : IsBarInput k) (u : ℕ) where
 
 -- ---- the chords in a leaf
 
-module _ (k : BarInput) (cell : IsBarInput k) (p w a b : ℕ) (first : SplitsAt k.resolution (bar_of k) p k.chords a) (behind : SplitsAt k.resolution (bar_of k) (p + w) k.chords b) where
+module _ (k : BarInput) (cell : IsBarInput k) (p w a b : ℕ) (first : SplitsAt k.resolution (bar_of k) p k.chords a) (after : SplitsAt k.resolution (bar_of k) (p + w) k.chords b) where
   before_leaf : (r : ℕ) → r ≡ k.resolution → (i : ℕ) (d : Inner) → i < a → lies_in r (leaf_of_cell k p w) (get_or k.chords i d).onset ≡ false
   before_leaf r units i d h = subst (λ r. lies_in r (leaf_of_cell k p w) (get_or k.chords i d).onset ≡ false) (sym units)
       (not_true _ (λ on. let q = inside (get_or k.chords i d).onset on in let was = first.low i d h in absurd (cc)))
@@ -162,9 +162,9 @@ module _ (k : BarInput) (cell : IsBarInput k) (p w a b : ℕ) (first : SplitsAt 
           let rest = and_right (nat_le 0 t) _ on in
           ap₂ ◌&&◌ low (and_left (nat_le (p * k.length) ((t - 0) * k.resolution)) _ rest)
 
-  behind_leaf : (r : ℕ) → r ≡ k.resolution → (i : ℕ) (d : Inner) → b ≤ i → i < length k.chords → lies_in r (leaf_of_cell k p w) (get_or k.chords i d).onset ≡ false
-  behind_leaf r units i d h low = subst (λ r. lies_in r (leaf_of_cell k p w) (get_or k.chords i d).onset ≡ false) (sym units)
-      (not_true _ (λ on. outside (get_or k.chords i d).onset on (behind.high i d h low)))
+  after_leaf : (r : ℕ) → r ≡ k.resolution → (i : ℕ) (d : Inner) → b ≤ i → i < length k.chords → lies_in r (leaf_of_cell k p w) (get_or k.chords i d).onset ≡ false
+  after_leaf r units i d h low = subst (λ r. lies_in r (leaf_of_cell k p w) (get_or k.chords i d).onset ≡ false) (sym units)
+      (not_true _ (λ on. outside (get_or k.chords i d).onset on (after.high i d h low)))
     where
       outside : (t : ℕ) → lies_in k.resolution (leaf_of_cell k p w) t ≡ true → reach k.resolution (bar_of k) (p + w) t ≡ true → ⊥
       outside t on far =
@@ -182,7 +182,7 @@ module _ (k : BarInput) (cell : IsBarInput k) (p w a b : ℕ) (first : SplitsAt 
         let d : Inner = record { onset = 0; end = 0 } in
         let inside : a ≤ length k.chords = first.within in
         let off = first.low b d less in
-        let on = behind.high b d (omega arith) (omega (arith, less)) in
+        let on = after.high b d (omega arith) (omega (arith, less)) in
         let both_on = sooner (get_or k.chords b d).onset on in
         absurd (cc)
   ]
@@ -199,17 +199,17 @@ module _ (k : BarInput) (cell : IsBarInput k) (p w a b : ℕ) (first : SplitsAt 
 
   pub chords_between : a ≤ b → AreChordsIn k p w (take (b - a) (drop a k.chords))
   chords_between order =
-      let within : b ≤ length k.chords = behind.within in
+      let within : b ≤ length k.chords = after.within in
       let cut = length-drop a k.chords in
       let long = length-take-le (b - a) (drop a k.chords) (omega (arith, cut, within)) in
       record {
         inner = All-take (IsInner k.length) (b - a) (drop a k.chords) (All-drop (IsInner k.length) a k.chords cell.chords);
         few = omega (arith, long, within);
         own = ap (map (λ c. c.end)) (filter-between k.chords a b order within (λ c. lies_in k.resolution (leaf_of_cell k p w) c.onset && (looks k.resolution).left (leaf_of_cell k p w) c.onset)
-            (λ i d h. no_left _ _ (before_leaf k.resolution refl i d h)) (λ i d h l. no_left _ _ (behind_leaf k.resolution refl i d h l)));
+            (λ i d h. no_left _ _ (before_leaf k.resolution refl i d h)) (λ i d h l. no_left _ _ (after_leaf k.resolution refl i d h l)));
         next = ap (map (λ c. c.end)) (filter-between k.chords a b order within (λ c. lies_in k.resolution (leaf_of_cell k p w) c.onset && not ((looks k.resolution).left (leaf_of_cell k p w) c.onset))
-            (λ i d h. no_left _ _ (before_leaf k.resolution refl i d h)) (λ i d h l. no_left _ _ (behind_leaf k.resolution refl i d h l)));
-        charges = λ g units. charges-between k.chords a b order within g k p w (before_leaf g.resolution units) (behind_leaf g.resolution units);
+            (λ i d h. no_left _ _ (before_leaf k.resolution refl i d h)) (λ i d h l. no_left _ _ (after_leaf k.resolution refl i d h l)));
+        charges = λ g units. charges-between k.chords a b order within g k p w (before_leaf g.resolution units) (after_leaf g.resolution units);
       }
     where
       no_left : (x y : Bool) → x ≡ false → x && y ≡ false

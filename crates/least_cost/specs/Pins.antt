@@ -29,7 +29,7 @@ demanded os Any = None
 demanded os Nothing = Some end
 demanded os (Shapes i) = Some (slice_index_or os i end)
 
--- nothing was lost, and outlines were added behind
+-- nothing was lost, and outlines were added after
 abbrev pub Grows : List Shape → List Shape → Type 0
 Grows os ps = (xs : List Shape) × (ps ≡ os ++ xs)
 

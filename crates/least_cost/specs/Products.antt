@@ -5,7 +5,7 @@ use Rattle.least_cost.specs.declared.entry.Entry.{Entry}
 use Rattle.least_cost.specs.declared.rule_lists.Rope.TheVariants.{Both}
 use Rattle.least_cost.specs.Entries.{nearer_of}
 
--- one entry and another: their costs add up, and the list of the second stands behind that of the first
+-- one entry and another: their costs add up, and the list of the second stands after that of the first
 abbrev pub entry_sum : Option Entry → Option Entry → Option Choice
 entry_sum None y = None
 entry_sum (Some x) None = None

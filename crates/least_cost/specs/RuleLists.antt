@@ -23,7 +23,7 @@ abbrev pub text_before : List (List ℕ) → ℕ → Option ℕ → List ℕ
 text_before ls i None = []
 text_before ls i (Some n) = if nat_lt n i then slice_index_or ls n [] else []
 
--- nothing was lost, and lists were added behind
+-- nothing was lost, and lists were added after
 abbrev pub Extends : List (List ℕ) → List (List ℕ) → Type 0
 Extends ls ms = (more : List (List ℕ)) × (ms ≡ ls ++ more)
 

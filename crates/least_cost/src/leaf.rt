@@ -76,7 +76,7 @@ fn goes_on(input: &BarInput, p: u16, w: u16, onset: u64) -> bool
     }
 }
 
-/// Whether an onset is at or behind a unit of the bar.
+/// Whether an onset is at or after a unit of the bar.
 fn reaches(input: &BarInput, unit: u16, onset: u64) -> bool
     requires cell { IsBarInput input.now }
     requires unit { unit ≤ input.now.resolution }
@@ -113,8 +113,8 @@ pub fn chords_in(input: &BarInput, p: u16, w: u16) -> &[Inner]
     ensures { AreChordsIn input.now p w result.now }
 {
     let first = count_before(input, p);
-    let behind = count_before(input, p + w);
-    &input.onsets()[first..behind]
+    let after = count_before(input, p + w);
+    &input.onsets()[first..after]
 }
 
 /// How many of the chords are attached to the leaf.

@@ -8,7 +8,7 @@ use rhythm_base::Shape;
 use std::alloc::{AllocError, Global};
 use std::marker::Model;
 
-/// One of shapes side by side: its parts, and the shapes behind it. None stands for no shapes.
+/// One of shapes side by side: its parts, and the shapes after it. None stands for no shapes.
 #[derive(Clone, Copy)]
 pub struct PinPart {
     pub parts: Option<usize>,
@@ -105,7 +105,7 @@ impl Pins {
         }
     }
 
-    /// What is demanded of the first tree alone, as what is demanded below it, and of the trees behind it; none where no
+    /// What is demanded of the first tree alone, as what is demanded below it, and of the trees after it; none where no
     /// tree may stand there.
     pub fn split(&self, demand: Demand) -> Option<(Demand, Demand)>
         ensures { MatchOption result (demanded self.now demand ≡ Some end) (λ q.

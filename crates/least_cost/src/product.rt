@@ -13,7 +13,7 @@ use crate::choice::{Choice, Choices, offer};
 use crate::entry::{Entry, Grid};
 use crate::rule_lists::Rope;
 
-/// Offers to a place what an entry, and one for what stands behind it, come to.
+/// Offers to a place what an entry, and one for what stands after it, come to.
 fn offer_pair(place: &mut Option<Choice>, left: Entry, right: &Option<Entry>)
     requires left { left.cost < 2 ^ 62 }
     requires right { (e : Entry) → right.now ≡ Some e → e.cost < 2 ^ 62 }
@@ -35,7 +35,7 @@ fn offer_pair(place: &mut Option<Choice>, left: Entry, right: &Option<Entry>)
     }
 }
 
-/// Offers to the choices of a row what an entry comes to with those for what stands behind it.
+/// Offers to the choices of a row what an entry comes to with those for what stands after it.
 #[inline(never)]
 fn offer_left(best: &mut [Option<Choice>; 5], left: Entry, right: &[Option<Entry>; 5])
     requires left { left.cost < 2 ^ 62 }
@@ -75,7 +75,7 @@ fn offer_row(best: &mut [Option<Choice>; 5], left: &[Option<Entry>; 5], right: &
     offer_count(best, &left[4], &right[4]);
 }
 
-/// Offers to choices, which are none yet, what trees of the left side and, behind them, trees of the right side come to:
+/// Offers to choices, which are none yet, what trees of the left side and, after them, trees of the right side come to:
 /// over the count of chords between them the least sum, and at equal sums that of the lower list on the left.
 pub fn product(best: &mut Choices, left: &Grid, right: &Grid)
     requires none { (a b : ℕ) → a < 5 → b < 5 → choice_at best.old a b ≡ None }

@@ -12,7 +12,7 @@ pub enum Rope {
         rule: u16,
         kids: Option<u32>,
     },
-    /// One list behind the other.
+    /// One list after the other.
     Both {
         first: Option<u32>,
         second: Option<u32>,
@@ -67,7 +67,7 @@ impl RuleLists {
         }
     }
 
-    /// Writes a list behind what stands in `rules`.
+    /// Writes a list after what stands in `rules`.
     pub fn write(&self, list: Option<u32>, rules: &mut Vec<u16>) -> Result<(), AllocError>
         ensures { OnOk result (rules.new.items ≡ rules.old.items ++ rule_list_of self.now list) }
     {

@@ -14,14 +14,14 @@ module _ (text : List ℕ) (x : List ℕ) where
   abbrev differs : List ℕ → Bool
   differs other = not (bytes_eq other text)
 
-  -- behind a text that is x, x adds nothing
+  -- after a text that is x, x adds nothing
   same_step : (known : List (List ℕ)) → bytes_eq x text ≡ true → (a : Bool)
       → filter differs (cond a known (known ++ x ∷ [])) ≡ filter differs known
   same_step known e true = refl
   same_step known e false =
       filter-append differs known (x ∷ []) ∙ ap (λ b. filter differs known ++ cond (not b) (x ∷ []) []) e ∙ append-nil (filter differs known)
 
-  -- behind another text, x adds itself where it is new
+  -- after another text, x adds itself where it is new
   other_step : (known : List (List ℕ)) → bytes_eq x text ≡ false → (a : Bool)
       → filter differs (cond a known (known ++ x ∷ [])) ≡ cond a (filter differs known) (filter differs known ++ x ∷ [])
   other_step known e true = refl

@@ -19,7 +19,7 @@ rulebook_of_lines-short text (a ∷ b ∷ c ∷ []) short = refl
 rulebook_of_lines-short text (a ∷ b ∷ c ∷ d ∷ []) short = refl
 rulebook_of_lines-short text (a ∷ b ∷ c ∷ d ∷ e ∷ rules) short = absurd (omega arith)
 
--- five lines and few rule lines say what the header and the lines behind it say
+-- five lines and few rule lines say what the header and the lines after it say
 pub rulebook_of_lines-parts : {X : Type 0} (text : X → List ℕ) (lines rules : List X) (d : X) (header : Header)
     → 5 ≤ length lines → rules ≡ drop 5 lines → 1 ≤ length rules → length rules ≤ 8
     → narrow_header (text (get_or lines 0 d)) (text (get_or lines 1 d)) (text (get_or lines 2 d)) (text (get_or lines 3 d)) ≡ Some header

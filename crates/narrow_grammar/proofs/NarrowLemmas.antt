@@ -51,7 +51,7 @@ in_each {X} {Y} f P (x ∷ xs) each = at (f x) (each_of f xs) (each x) (in_each 
     at (Some y) None h hs = tt
     at (Some y) (Some ys) h hs = (All-cons P y ys h hs.0, omega arith)
 
--- the number of a word, and the number behind the beginning of a line
+-- the number of a word, and the number after the beginning of a line
 number_range : (low high : ℕ) (word : List ℕ) → IfSome (narrow_number_within low high word) (λ n. (low ≤ n) × (n ≤ high))
 number_range low high word =
     in_test _ (Some (digits_value 10 word)) (λ n. (low ≤ n) × (n ≤ high))

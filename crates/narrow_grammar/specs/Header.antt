@@ -5,7 +5,7 @@ use Rattle.narrow_grammar.specs.Lines.{words_after}
 use Rattle.narrow_grammar.specs.Numbers.{narrow_number_within}
 use Rattle.narrow_grammar.specs.declared.header.Header.{Header}
 
--- the number behind this beginning of a line
+-- the number after this beginning of a line
 abbrev pub number_after : List ℕ → ℕ → ℕ → List ℕ → Option ℕ
 number_after beginning low high line = option_and_then (narrow_number_within low high) (words_after beginning line)
 

@@ -20,6 +20,6 @@ narrow_words line = slice_split (λ b. b == space) line
 abbrev pub first_word : List ℕ → List ℕ
 first_word line = before_first (λ b. b == space) line
 
--- what stands behind this beginning of a line
+-- what stands after this beginning of a line
 abbrev pub words_after : List ℕ → List ℕ → Option (List ℕ)
 words_after beginning line = if starts_with nat_eq line beginning then Some (drop (length beginning) line) else None

@@ -34,7 +34,7 @@ rulebook_with header names (Some start) (Some rules) =
     })
 rulebook_with header names _ _ = None
 
--- what the lines behind the header say
+-- what the lines after the header say
 abbrev pub narrow_grammar_of : Header → List ℕ → List (List ℕ) → Option Grammar
 narrow_grammar_of header start rules =
     option_and_then (λ names. rulebook_with header names (narrow_start names start) (each_of (rule_of names) rules)) (narrow_names rules)

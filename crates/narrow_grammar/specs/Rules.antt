@@ -24,7 +24,7 @@ narrow_leaf word =
     else if bytes_eq word (codes "rest") then Some Rest
     else None
 
--- what the word behind the weight and the words after it say
+-- what the word after the weight and the words after it say
 abbrev pub narrow_body : List (List ℕ) → List ℕ → List (List ℕ) → Option Body
 narrow_body names word parts =
     if bytes_eq word (codes "split") then split_of names parts

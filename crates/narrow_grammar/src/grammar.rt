@@ -44,7 +44,7 @@ fn read_lines(alloc: Global, lines: &[&[u8]]) -> Result<Option<Grammar>, AllocEr
     read_grammar(alloc, header, start, rules)
 }
 
-/// The grammar of this header that the lines behind it say.
+/// The grammar of this header that the lines after it say.
 fn read_grammar(
     alloc: Global,
     header: Header,

@@ -30,7 +30,7 @@ pub fn read_header(version: &[u8], resolution: &[u8], window: &[u8], onset: &[u8
     })
 }
 
-/// The number behind the first words of a line.
+/// The number after the first words of a line.
 fn number_after(words: &[u8], line: &[u8], range: RangeInclusive<u32>) -> Option<u32>
     requires { range_inclusive_exhausted range ≡ false }
     ensures { result ≡ number_after words.now (range_inclusive_start range) (range_inclusive_end range) line.now }

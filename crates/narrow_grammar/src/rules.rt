@@ -34,7 +34,7 @@ fn split(alloc: Global, names: &[&[u8]], parts: &[&[u8]]) -> Result<Option<Body>
     Ok(symbols.map(|symbols| Body::Split(Kids::of(symbols))))
 }
 
-/// What the word behind a rule's weight, and the words after it, make of an interval.
+/// What the word after a rule's weight, and the words after it, make of an interval.
 fn body(
     alloc: Global,
     names: &[&[u8]],

@@ -9,7 +9,7 @@ use Rattle.narrow_midi.specs.Quantity.{narrow_quantity}
 use Rattle.narrow_midi.specs.Event.{narrow_tick_after, note_on, note_off, is_end_of_track}
 use Rattle.narrow_midi.specs.Track.{note, notes, IsNextNote, FollowFrom}
 
--- the notes behind those in front
+-- the notes after those in front
 abbrev pub with_front : List Note → Option (List Note) → Option (List Note)
 with_front front found = option_map (λ ns. front ++ ns) found
 
@@ -89,7 +89,7 @@ notes_follow (suc n) t bytes ns h =
       | inr on ↦
           option_and_then_some _ (note next.0 next.1) ns (sym on)
           (λ first found others. option_and_then_some _ (notes n first.0.end first.1) ns others
-          (λ behind rest made.
-          subst P (same_Some (first.0 ∷ behind) ns made)
-          (note_is_next t next.0 next.1 first (tick_rises t bytes next reached) found, notes_follow n first.0.end first.1 behind rest)))
+          (λ after rest made.
+          subst P (same_Some (first.0 ∷ after) ns made)
+          (note_is_next t next.0 next.1 first (tick_rises t bytes next reached) found, notes_follow n first.0.end first.1 after rest)))
     ])

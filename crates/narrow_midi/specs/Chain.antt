@@ -1,4 +1,4 @@
--- Readers one behind the other: the next one takes what the one before it found, and nothing is found where one of them
+-- Readers one after the other: the next one takes what the one before it found, and nothing is found where one of them
 -- finds nothing.
 use Rattle.std.specs.Prelude.{Option, option_and_then}
 

@@ -5,13 +5,13 @@ use Rattle.std.specs.Int.{w32}
 use Rattle.narrow_midi.specs.Chain.{◌>>=◌}
 use Rattle.narrow_midi.specs.Number.{narrow_number}
 
--- the bytes behind a name
-abbrev pub behind : List ℕ → List ℕ → Option (List ℕ)
-behind name bytes = if starts_with nat_eq bytes name then Some (drop (length name) bytes) else None
+-- the bytes after a name
+abbrev pub after : List ℕ → List ℕ → Option (List ℕ)
+after name bytes = if starts_with nat_eq bytes name then Some (drop (length name) bytes) else None
 
--- the content of the chunk of this name at the front, and the bytes behind it
+-- the content of the chunk of this name at the front, and the bytes after it
 unfoldable pub narrow_chunk : List ℕ → List ℕ → Option (List ℕ × List ℕ)
 narrow_chunk name bytes = do
-  rest ← behind name bytes
+  rest ← after name bytes
   size ← narrow_number w32 rest
   if nat_lt (length size.1) size.0 then None else Some (take size.0 size.1, drop size.0 size.1)

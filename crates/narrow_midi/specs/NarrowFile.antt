@@ -14,7 +14,7 @@ division content = do
   if (format.0 == 0) && ((tracks.0 == 1) && ((length ticks.1 == 0) && (nat_le 1 ticks.0 && nat_le ticks.0 32767)))
       then Some ticks.0 else None
 
--- a header and a track, and nothing behind them: the division, and the content of the track
+-- a header and a track, and nothing after them: the division, and the content of the track
 unfoldable pub file : List ℕ → Option (ℕ × List ℕ)
 file bytes = do
   header ← narrow_chunk (codes "MThd") bytes

@@ -10,7 +10,7 @@ narrow_seven_bits bytes = fold (λ n byte. n * 128 + byte % 128) 0 bytes
 abbrev pub narrow_last_place : List ℕ → Option ℕ
 narrow_last_place bytes = position (λ byte. nat_lt byte 128) (take 4 bytes)
 
--- the quantity up to that byte, and the bytes behind it
+-- the quantity up to that byte, and the bytes after it
 unfoldable pub narrow_quantity : List ℕ → Option (ℕ × List ℕ)
 narrow_quantity bytes = do
   last ← narrow_last_place bytes

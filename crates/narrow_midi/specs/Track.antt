@@ -4,7 +4,7 @@ use Rattle.rhythm_base.specs.declared.note.Note.{Note}
 use Rattle.narrow_midi.specs.Chain.{◌>>=◌}
 use Rattle.narrow_midi.specs.Event.{narrow_tick_after, note_on, note_off, is_end_of_track}
 
--- a note that begins at a tick: its note on, a delta, and the note off of its key. The note, and the bytes behind it
+-- a note that begins at a tick: its note on, a delta, and the note off of its key. The note, and the bytes after it
 unfoldable pub note : ℕ → List ℕ → Option (Note × List ℕ)
 note onset bytes = do
   on ← note_on bytes
@@ -12,7 +12,7 @@ note onset bytes = do
   off ← note_off end.1
   if on.0 == off.0 then Some (record { channel = 0; key = on.0; onset = onset; end = end.0 }, off.1) else None
 
--- the notes behind the tick t, fewer than n: behind a delta stands the end of track, or a note and the notes behind it
+-- the notes after the tick t, fewer than n: after a delta stands the end of track, or a note and the notes after it
 unfoldable pub notes : ℕ → ℕ → List ℕ → Option (List Note)
 notes zero t bytes = None
 notes (suc n) t bytes = do

@@ -3,7 +3,7 @@ ghost use Rattle.std.specs.Int.{w16, w32};
 ghost use Rattle.narrow_midi.specs.Number.{narrow_number};
 ghost use Rattle.narrow_midi.specs.Chunk.{narrow_chunk};
 
-/// The number in the two bytes at the front, the most significant first, and the bytes behind it.
+/// The number in the two bytes at the front, the most significant first, and the bytes after it.
 pub(crate) fn read_u16(bytes: &[u8]) -> Option<(u16, &[u8])>
     ensures { option_map (λ n. (n.0, n.1.now)) result ≡ narrow_number w16 bytes.now }
 {
@@ -11,7 +11,7 @@ pub(crate) fn read_u16(bytes: &[u8]) -> Option<(u16, &[u8])>
     Some((u16::from_be_bytes(*front), rest))
 }
 
-/// The number in the four bytes at the front, the most significant first, and the bytes behind it.
+/// The number in the four bytes at the front, the most significant first, and the bytes after it.
 fn read_u32(bytes: &[u8]) -> Option<(u32, &[u8])>
     ensures { option_map (λ n. (n.0, n.1.now)) result ≡ narrow_number w32 bytes.now }
 {
@@ -19,7 +19,7 @@ fn read_u32(bytes: &[u8]) -> Option<(u32, &[u8])>
     Some((u32::from_be_bytes(*front), rest))
 }
 
-/// The content of the chunk of this name at the front, and the bytes behind it.
+/// The content of the chunk of this name at the front, and the bytes after it.
 #[tactic(auto, unfolding(crate::specs::Chunk::narrow_chunk))]
 pub(crate) fn read_chunk<'a>(name: &[u8; 4], bytes: &'a [u8]) -> Option<(&'a [u8], &'a [u8])>
     ensures { option_map (λ c. (c.0.now, c.1.now)) result ≡ narrow_chunk name.now bytes.now }

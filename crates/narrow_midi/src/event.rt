@@ -14,7 +14,7 @@ const META: u8 = 0xff;
 
 const END_OF_TRACK: u8 = 0x2f;
 
-/// The tick that the delta at the front leads to, and the bytes behind it.
+/// The tick that the delta at the front leads to, and the bytes after it.
 #[tactic(auto, unfolding(crate::specs::Event::narrow_tick_after))]
 pub(crate) fn read_tick(tick: u64, bytes: &[u8]) -> Option<(u64, &[u8])>
     requires { tick ≤ LAST_TICK }
@@ -27,7 +27,7 @@ pub(crate) fn read_tick(tick: u64, bytes: &[u8]) -> Option<(u64, &[u8])>
     (tick <= LAST_TICK).then_some((tick, rest))
 }
 
-/// The key of the note on of channel 0 at the front, and the bytes behind it. With velocity 0 it is none.
+/// The key of the note on of channel 0 at the front, and the bytes after it. With velocity 0 it is none.
 pub(crate) fn read_note_on(bytes: &[u8]) -> Option<(u8, &[u8])>
     ensures value { option_map (λ m. (m.0, m.1.now)) result ≡ note_on bytes.now }
     ensures shorter { IfSome result (λ m. length m.1.now < length bytes.now) }
@@ -38,7 +38,7 @@ pub(crate) fn read_note_on(bytes: &[u8]) -> Option<(u8, &[u8])>
     }
 }
 
-/// The key of the note off of channel 0 at the front, and the bytes behind it.
+/// The key of the note off of channel 0 at the front, and the bytes after it.
 pub(crate) fn read_note_off(bytes: &[u8]) -> Option<(u8, &[u8])>
     ensures value { option_map (λ m. (m.0, m.1.now)) result ≡ note_off bytes.now }
     ensures shorter { IfSome result (λ m. length m.1.now < length bytes.now) }
@@ -49,7 +49,7 @@ pub(crate) fn read_note_off(bytes: &[u8]) -> Option<(u8, &[u8])>
     }
 }
 
-/// Whether an end of track stands here, and nothing behind it.
+/// Whether an end of track stands here, and nothing after it.
 pub(crate) fn is_end_of_track(bytes: &[u8]) -> bool
     ensures { result ≡ is_end_of_track bytes.now }
 {

@@ -20,7 +20,7 @@ fn seven_bits(bytes: &[u8]) -> u32
     number
 }
 
-/// The quantity at the front, the MIDI standard's number of variable length, and the bytes behind it. A spelling that is
+/// The quantity at the front, the MIDI standard's number of variable length, and the bytes after it. A spelling that is
 /// longer than need be is accepted.
 #[tactic(auto, unfolding(crate::specs::Quantity::narrow_quantity))]
 pub(crate) fn read_quantity(bytes: &[u8]) -> Option<(u32, &[u8])>

@@ -119,7 +119,7 @@ fn narrow_files(rt: HostRuntime) -> Result<(), Fail> {
         bytes.push(0)?;
         assert!(rt;
             read_narrow(rt.alloc(), bytes.as_slice())?.is_none(),
-            "{name} and a byte behind"
+            "{name} and a byte after"
         );
     }
     for (name, track, note_read) in &TRACKS {

@@ -5,7 +5,7 @@ use crate::event::{LAST_TICK, is_end_of_track, read_note_off, read_note_on, read
 use rhythm_base::Note;
 use std::alloc::{AllocError, Global};
 
-/// The note that begins at this tick, whose note on stands at the front, and the bytes behind its note off.
+/// The note that begins at this tick, whose note on stands at the front, and the bytes after its note off.
 #[tactic(auto, unfolding(crate::specs::Track::note))]
 fn read_note(onset: u64, bytes: &[u8]) -> Option<(Note, &[u8])>
     requires { onset ≤ LAST_TICK }
@@ -40,11 +40,11 @@ pub(crate) fn read_track(alloc: Global, bytes: &[u8]) -> Result<Option<Vec<Note>
         if is_end_of_track(message) {
             return Ok(Some(notes));
         }
-        let Some((note, behind)) = read_note(next, message) else {
+        let Some((note, after)) = read_note(next, message) else {
             return Ok(None);
         };
         tick = note.end;
-        rest = behind;
+        rest = after;
         notes.push(note)?;
     }
 }

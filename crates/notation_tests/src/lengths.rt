@@ -122,7 +122,7 @@ const BARS: [(&str, u64, &[Leaf], &[Placed]); 23] = [
         &[(0, 0, Of(2), 0), (1, 4, Of(2), 0)],
     ),
     (
-        ".. with the tie behind the barline",
+        ".. with the tie after the barline",
         8,
         &[(2, Tie), (6, Rest)],
         &[(0, 0, Of(4), 0), (1, 2, Of(2), 1)],
@@ -181,7 +181,7 @@ const BARS: [(&str, u64, &[Leaf], &[Placed]); 23] = [
         &[(0, 0, Of(2), 0), (1, 4, Of(4), 0), (2, 6, Of(4), 0)],
     ),
     (
-        "a short leaf behind",
+        "a short leaf after",
         8,
         &[(4, Begin), (2, Short), (2, Rest)],
         &[(0, 0, Of(2), 0), (1, 4, Of(4), 0), (2, 6, Of(4), 0)],
@@ -193,7 +193,7 @@ const BARS: [(&str, u64, &[Leaf], &[Placed]); 23] = [
         &[(0, 0, Of(2), 0), (1, 4, Of(4), 0), (2, 6, Of(4), 0)],
     ),
     (
-        "a rest before a tie and a rest behind",
+        "a rest before a tie and a rest after",
         8,
         &[(2, Rest), (1, Tie), (2, Begin), (1, Rest)],
         &[

@@ -15,7 +15,7 @@ use Rattle.note_list.specs.Pairing.{IsPlayable, IsEventOf, begins, AreSilent, Is
 use Rattle.note_list.proofs.Among.{Among}
 use Rattle.note_list.proofs.Kept.{Pairwise}
 
--- for each channel and key the next end behind an event
+-- for each channel and key the next end after an event
 pub record AreEnds (last : ℕ) (later : List Event) (ends : List ℕ) : Type 0 where
   pub long : length ends ≡ 2048
   pub entry : (c k : ℕ) → c < 16 → k < 128 → slice_index ends (128 * c + k) ≡ end_of_note last c k later

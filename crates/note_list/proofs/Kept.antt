@@ -9,7 +9,7 @@ use Rattle.rhythm_base.specs.Performance.{place_of_note}
 use Rattle.note_list.proofs.Among.{Among, among_at, place_among}
 use Rattle.note_list.proofs.Places.{IsBefore, ArePlacedAlike, Follows, not_before_itself, not_both, before_alike}
 
--- each and those behind it
+-- each and those after it
 abbrev pub Pairwise : {X : Type 0} → (X → X → Type 0) → List X → Type 0
 Pairwise R [] = ⊤
 Pairwise R (x ∷ xs) = ((y : _) → Among y xs → R x y) × Pairwise R xs
@@ -60,7 +60,7 @@ same_end m n e = let f : m.end ≡ n.end = ap (λ (x : Note). x.end) e in omega 
 abbrev pub IsGood : List Note → List Note → Type 0
 IsGood out xs = Pairwise IsBefore out × ((n : Note) → Among n out ↔ IsBest xs n)
 
--- a worse note behind the best of its place changes nothing
+-- a worse note after the best of its place changes nothing
 worse_more : (k x : Note) (xs : List Note) (n : Note) → ArePlacedAlike x k → x.end ≤ k.end → IsBest (k ∷ xs) n → IsBest (k ∷ x ∷ xs) n
 worse_more k x xs n same le (inl e, best) = (inl e, go)
   where

@@ -30,7 +30,7 @@ fn place_of(channel: u8, key: u8) -> usize
 }
 
 impl Ends {
-    /// Behind the last event every note ends with the file.
+    /// After the last event every note ends with the file.
     pub fn new(alloc: Global, last: u64) -> Result<Ends, AllocError>
         ensures long { IfOk result (λ e. length e ≡ 2048) }
         ensures last { IfOk result (All (λ t. t ≡ last)) }
@@ -40,7 +40,7 @@ impl Ends {
         })
     }
 
-    /// The note that begins with the event, by the next ends behind it. From now on they are those from the event on.
+    /// The note that begins with the event, by the next ends after it. From now on they are those from the event on.
     pub fn take(&mut self, event: Event) -> Option<Note>
         requires { IsPlayable event.what }
         ensures note { result ≡ note_from self.old event.tick event.what }

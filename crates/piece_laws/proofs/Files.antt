@@ -25,7 +25,7 @@ use Rattle.piece_laws.proofs.VoiceTracks.{voice_read}
 abbrev IsTrackOf : List ℕ → Track → Type 0
 IsTrackOf content t = (bytes : List ℕ) (p : ℕ) → drop p bytes ≡ content → track bytes p ≡ Ok t
 
--- a track's chunk, and the tracks behind it
+-- a track's chunk, and the tracks after it
 one_track : (bytes : List ℕ) (p count : ℕ) (content rest : List ℕ) (t : Track) (others : List Track) → length content < 4294967296 → drop p bytes ≡ track_chunk_bytes content ++ rest → IsTrackOf content t
     → ((q : ℕ) → drop q bytes ≡ rest → tracks (length bytes) count bytes q ≡ Ok others) → tracks (length bytes) (suc count) bytes p ≡ Ok (t ∷ others)
 one_track bytes p count content rest t others short at reads more =
@@ -38,7 +38,7 @@ one_track bytes p count content rest t others short at reads more =
     ∙ ap (λ (r : Result Track _). r >>= λ first. tracks (length bytes) count bytes (p + 8 + length content) >>= λ later. Ok (first ∷ later)) (reads _ _ (content_stands bytes p a b c d content rest at size))
     ∙ ap (λ (r : Result (List Track) _). r >>= λ later. Ok (t ∷ later)) (more _ (rest_stands bytes p a b c d content rest at size))
 
--- three tracks behind the header
+-- three tracks after the header
 three_read : (first second third : List ℕ) (s t u : Track) → length first < 4294967296 → length second < 4294967296 → length third < 4294967296 → IsTrackOf first s → IsTrackOf second t → IsTrackOf third u
     → smf (header_bytes ++ (track_chunk_bytes first ++ (track_chunk_bytes second ++ track_chunk_bytes third))) ≡ Ok (record { division = 480; tracks = s ∷ t ∷ u ∷ [] })
 three_read first second third s t u short1 short2 short3 reads1 reads2 reads3 =
@@ -51,8 +51,8 @@ three_read first second third s t u short1 short2 short3 reads1 reads2 reads3 =
     (λ p at. one_track bytes p 1 second (track_chunk_bytes third) t (u ∷ []) short2 at reads2
     (λ q here. one_track bytes q 0 third [] u [] short3 (here ∙ sym (append-nil (track_chunk_bytes third))) reads3 (λ r there. (is_read_to_its_last_track bytes).over r))))
 
-behind_meta : (bytes : List ℕ) (p type : ℕ) (said rest : List ℕ) → drop p bytes ≡ 255 ∷ type ∷ length said ∷ (said ++ rest) → drop (p + 2 + 1 + length said) bytes ≡ rest
-behind_meta bytes p type said rest at =
+after_meta : (bytes : List ℕ) (p type : ℕ) (said rest : List ℕ) → drop p bytes ≡ 255 ∷ type ∷ length said ∷ (said ++ rest) → drop (p + 2 + 1 + length said) bytes ≡ rest
+after_meta bytes p type said rest at =
     stands_after bytes (p + 2 + 1) said rest (stands_after_one bytes (p + 2) (length said) (said ++ rest) (stands_after bytes p (255 ∷ type ∷ []) (length said ∷ (said ++ rest)) at))
 
 -- the tempo, the signature and the end of the first track
@@ -64,10 +64,10 @@ conductor_read bytes p at =
     let one : List ℕ = 255 ∷ 81 ∷ 3 ∷ 7 ∷ 161 ∷ 32 ∷ 0 ∷ two in
     let here : drop (p + 1) bytes ≡ one = stands_after_one bytes p 0 one at in
     let p1 = p + 1 + 2 + 1 + 3 in
-    let at1 : drop p1 bytes ≡ 0 ∷ two = behind_meta bytes (p + 1) 81 (7 ∷ 161 ∷ 32 ∷ []) (0 ∷ two) here in
+    let at1 : drop p1 bytes ≡ 0 ∷ two = after_meta bytes (p + 1) 81 (7 ∷ 161 ∷ 32 ∷ []) (0 ∷ two) here in
     let here1 : drop (p1 + 1) bytes ≡ two = stands_after_one bytes p1 0 two at1 in
     let p2 = p1 + 1 + 2 + 1 + 4 in
-    let at2 : drop p2 bytes ≡ 0 ∷ end = behind_meta bytes (p1 + 1) 88 (4 ∷ 2 ∷ 24 ∷ 8 ∷ []) (0 ∷ end) here1 in
+    let at2 : drop p2 bytes ≡ 0 ∷ end = after_meta bytes (p1 + 1) 88 (4 ∷ 2 ∷ 24 ∷ 8 ∷ []) (0 ∷ end) here1 in
     let here2 : drop (p2 + 1) bytes ≡ end = stands_after_one bytes p2 0 end at2 in
     let size = bytes_are_at bytes p 0 one at in
     let size1 = bytes_are_at bytes p1 0 two at1 in

@@ -64,7 +64,7 @@ module _ (number bars : ℕ) where
       (all_from_among (λ n. n.onset ≤ 1920 * bars - 220) notes (λ n a. let le = (notes_in_bars n a).0 in omega (arith, le))) in
       omega (arith, low)
 
-  -- and no end is behind it
+  -- and no end is after it
   ends_by_barline : greatest_end (meant_notes number bars) ≤ 1920 * bars
   ends_by_barline = greatest_low (λ n. n.end) (meant_notes number bars) (1920 * bars) (all_from_among (λ n. n.end ≤ 1920 * bars) (meant_notes number bars) (λ n a. (notes_in_bars n a).1))
 

@@ -37,7 +37,7 @@ later_note voice low end (m ∷ ns) n sung (inr a) =
     let rest = later_note voice m.end end ns n sung.1 a in
     (rest.0, omega (arith, rest.1, sung.0.after, sung.0.order))
 
--- the notes of a voice, and behind them those of later channels
+-- the notes of a voice, and after them those of later channels
 in_order : (voice low end : ℕ) (notes others : List Note) → AreSung voice low notes end → Pairwise IsBefore others → ((n : Note) → Among n others → voice < n.channel) → Pairwise IsBefore (notes ++ others)
 in_order voice low end [] others sung order far = order
 in_order voice low end (m ∷ ns) others sung order far = ((λ n a. near n (among_both ns others n a)), in_order voice m.end end ns others sung.1 order far)

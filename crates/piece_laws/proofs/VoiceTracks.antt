@@ -48,11 +48,11 @@ last_read bytes t p u running le early at =
     subst (λ v. events (length bytes) bytes t running p ≡ Ok (silence v)) same
     (end_read bytes t p (u - t) q running (quantity_read bytes p (u - t) (255 ∷ 47 ∷ 0 ∷ []) (omega arith) at) (omega arith) (omega arith) [] here)
 
-behind_message : (bytes : List ℕ) (p s key velocity : ℕ) (delta rest : List ℕ) → drop p bytes ≡ delta ++ (s ∷ key ∷ velocity ∷ rest) → drop (p + length delta + 1 + 2) bytes ≡ rest
-behind_message bytes p s key velocity delta rest at =
+after_message : (bytes : List ℕ) (p s key velocity : ℕ) (delta rest : List ℕ) → drop p bytes ≡ delta ++ (s ∷ key ∷ velocity ∷ rest) → drop (p + length delta + 1 + 2) bytes ≡ rest
+after_message bytes p s key velocity delta rest at =
     stands_after bytes (p + length delta + 1) (key ∷ velocity ∷ []) rest (stands_after_one bytes (p + length delta) s (key ∷ velocity ∷ rest) (stands_after bytes p delta (s ∷ key ∷ velocity ∷ rest) at))
 
--- the notes and the end of the track behind a tick
+-- the notes and the end of the track after a tick
 notes_read : (bytes : List ℕ) (t p : ℕ) (running : Option ℕ) (channel : ℕ) (notes : List Note) (end : ℕ) → channel < 16 → end < 268435456 → AreSung channel t notes end → drop p bytes ≡ bytes_from t (event_bytes notes end)
     → events (length bytes) bytes t running p ≡ Ok (played_voice notes end)
 unfolding bytes_from
@@ -62,8 +62,8 @@ notes_read bytes t p running channel (n ∷ ns) end few early sung at =
     let off : List ℕ = quantity_bytes (n.end - n.onset) ++ ((128 + n.channel) ∷ n.key ∷ 0 ∷ tail) in
     let p2 = p + length (quantity_bytes (n.onset - t)) + 1 + 2 in
     let p3 = p2 + length (quantity_bytes (n.end - n.onset)) + 1 + 2 in
-    let at2 : drop p2 bytes ≡ off = behind_message bytes p (144 + n.channel) n.key 64 (quantity_bytes (n.onset - t)) off at in
-    let at3 : drop p3 bytes ≡ tail = behind_message bytes p2 (128 + n.channel) n.key 0 (quantity_bytes (n.end - n.onset)) tail at2 in
+    let at2 : drop p2 bytes ≡ off = after_message bytes p (144 + n.channel) n.key 64 (quantity_bytes (n.onset - t)) off at in
+    let at3 : drop p3 bytes ≡ tail = after_message bytes p2 (128 + n.channel) n.key 0 (quantity_bytes (n.end - n.onset)) tail at2 in
     let long : n.end ≤ end = sung_within channel n.end end ns sung.1 in
     let small : n.channel < 16 = omega (arith, sung.0.of_voice) in
     let rest = notes_read bytes n.end p3 (Some (128 + n.channel)) channel ns end few early sung.1 at3 in

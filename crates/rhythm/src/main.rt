@@ -15,7 +15,7 @@ use std::{env, io};
 #[cfg(test)]
 mod tests;
 
-/// The words behind the program's name.
+/// The words after the program's name.
 fn words_of(rt: &HostRuntime) -> io::Result<Words> {
     let mut words = Words::new(rt.alloc());
     for word in env::args(rt)?.skip(1) {

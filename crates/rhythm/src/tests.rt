@@ -127,7 +127,7 @@ const CASES: &[Case] = &[
         out: b"",
         err: b"unbuilt notes\n",
     },
-    // An onset in the middle of the first half begins it, and no rest fits behind it.
+    // An onset in the middle of the first half begins it, and no rest fits after it.
     Case {
         midi: MIDDLE,
         grammar: HALVES,

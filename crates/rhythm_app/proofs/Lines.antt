@@ -37,11 +37,11 @@ line_written bar r notes items i d text more whole h kept pushed =
     let all : List Leaf = placed_line bar items in
     let x : PlacedLeaf = get_or items i d in
     let token : List ℕ = token_of x.rule (decimal (r / max x.width 1)) (pitch_of (note_at_leaf r all notes i)) in
-    let behind : List ℕ = score_lines r all notes (suc i) (placed_line bar (drop (suc i) items)) in
-    let next : score_lines r all notes (i + 1) (placed_line bar (drop (i + 1) items)) ≡ behind = ap (λ n. score_lines r all notes n (placed_line bar (drop n items))) (add-one i) in
-    let left : more ++ behind ≡ text ++ ((token ++ 10 ∷ []) ++ behind) =
-    ap (λ l. l ++ behind) pushed ∙ append_assoc (text ++ token) (10 ∷ []) behind ∙ append_assoc text token (10 ∷ [] ++ behind)
-    ∙ ap (λ l. text ++ l) (sym (append_assoc token (10 ∷ []) behind)) in
+    let after : List ℕ = score_lines r all notes (suc i) (placed_line bar (drop (suc i) items)) in
+    let next : score_lines r all notes (i + 1) (placed_line bar (drop (i + 1) items)) ≡ after = ap (λ n. score_lines r all notes n (placed_line bar (drop n items))) (add-one i) in
+    let left : more ++ after ≡ text ++ ((token ++ 10 ∷ []) ++ after) =
+    ap (λ l. l ++ after) pushed ∙ append_assoc (text ++ token) (10 ∷ []) after ∙ append_assoc text token (10 ∷ [] ++ after)
+    ∙ ap (λ l. text ++ l) (sym (append_assoc token (10 ∷ []) after)) in
     ap (λ l. more ++ l) next ∙ left ∙ sym (ap (λ l. text ++ score_lines r all notes i (placed_line bar l)) (here items i d h)) ∙ kept
 
 -- the text with all its lines and its tail is that of the leaves

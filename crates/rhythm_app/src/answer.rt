@@ -1,4 +1,4 @@
-ghost use Rattle.bar_listing.specs.OneBar.{AreWithin, IsOneBar, bar_of_one as bar_measure};
+ghost use Rattle.bar_listing.specs.OneBar.{AreWithin, IsOneBar, bar_of_one as piece_bar};
 ghost use Rattle.rhythm_app.specs.Score.{IsLeastText, chords_of};
 ghost use Rattle.rhythm_app.specs.Stages.{IsStageAnswer};
 ghost use Rattle.rhythm_app.specs.Tests.{are_apart};
@@ -73,8 +73,8 @@ fn least_text(
     requires few_rules { length grammar.now.rules ≤ 65536 }
     requires bar { IsOneBar bar.now }
     requires notes { All (λ n. n.onset < bar.now.length) notes.now }
-    ensures none { result ≡ Ok None → HasNone grammar.now (bar_measure bar.now ∷ []) (chords_of notes.now) }
-    ensures text { IfOk result (λ found. IfSome found (λ text. IsLeastText grammar.now (bar_measure bar.now) notes.now text.items)) }
+    ensures none { result ≡ Ok None → HasNone grammar.now (piece_bar bar.now ∷ []) (chords_of notes.now) }
+    ensures text { IfOk result (λ found. IfSome found (λ text. IsLeastText grammar.now (piece_bar bar.now) notes.now text.items)) }
 {
     let chords = chords_in(alloc, notes)?;
     match least_tree(alloc, grammar, bar, chords.as_slice())? {

@@ -1,4 +1,4 @@
-ghost use Rattle.bar_listing.specs.OneBar.{bar_of_one as bar_measure};
+ghost use Rattle.bar_listing.specs.OneBar.{bar_of_one as piece_bar};
 ghost use Rattle.bar_listing.specs.PlacedLeaves.{placed_line as bar_line};
 ghost use Rattle.rhythm_app.specs.Score.{score_lines, note_at_leaf, pitch_of, text_of_piece, token_of};
 ghost use Rattle.std.specs.Prelude.{
@@ -87,7 +87,7 @@ pub fn score_text(
     notes: &[Note],
     tree: &Tree,
 ) -> Result<Vec<u8>, AllocError>
-    ensures { IfOk result (λ text. text.items ≡ text_of_piece grammar.now (bar_measure bar.now) notes.now tree.now) }
+    ensures { IfOk result (λ text. text.items ≡ text_of_piece grammar.now (piece_bar bar.now) notes.now tree.now) }
 {
     let resolution = grammar.resolution;
     let leaves = leaves_of(alloc, grammar.rules.as_slice(), resolution, tree)?;

@@ -83,7 +83,7 @@ values_are (Asked ∷ more) (n ∷ ns) (word ∷ words) tell are = ap₂ ◌∷�
 abbrev nth : List ℕ → ℕ → ℕ
 nth ns i = get_or ns i 0
 
--- the command of a first word, of the numbers behind it, and for a pin of a shape
+-- the command of a first word, of the numbers after it, and for a pin of a shape
 abbrev commanded : List ℕ → List ℕ → Shape → Option Command
 commanded name ns shape =
     if bytes_eq name (codes "add") then Some (Change (Add (nth ns 0) (nth ns 1) (nth ns 2) (nth ns 3)))

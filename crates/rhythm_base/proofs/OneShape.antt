@@ -4,7 +4,7 @@ use Rattle.std.proofs.lemmas.Bool.{and_parts}
 use Rattle.std.proofs.lemmas.Bool.Decides.{nat_tests}
 use Rattle.std.proofs.lemmas.List.{append_cancel_left}
 use Rattle.rhythm_base.specs.Shape.{Shape, end, part}
-use Rattle.rhythm_base.specs.ShapeText.{IsShapeText, around_parts, behind_part, shape_text, texts_of_parts}
+use Rattle.rhythm_base.specs.ShapeText.{IsShapeText, around_parts, after_part, shape_text, texts_of_parts}
 use Rattle.rhythm_base.specs.Shapes.{are_cut, can_have, parts_in}
 use Rattle.rhythm_base.specs.ShapeReading.{head_text, tail_text}
 use Rattle.rhythm_base.proofs.ShapeHeads.{around_is, same_head}
@@ -17,7 +17,7 @@ same_around m n s t a b p q e =
     (sym (append_assoc (head_text m) (tail_text m s) a) ∙ ap (λ l. l ++ a) (sym (around_is m s)) ∙ e
     ∙ ap (λ l. l ++ b) (around_is n t) ∙ append_assoc (head_text n) (tail_text n t) b)
 
--- what stands behind the head of a cut
+-- what stands after the head of a cut
 past_tail : (n : ℕ) (s a : List ℕ) → (n == 0) ≡ false → tail_text n s ++ a ≡ s ++ (codes ")" ++ a)
 past_tail n s a some = ap (λ b. (if b then [] else s ++ codes ")") ++ a) some ∙ append_assoc s (codes ")") a
 
@@ -49,13 +49,13 @@ same_tails x y a b many same e = go (parts_in x == 0) refl
         (sym (past_tail (parts_in x) (texts_of_parts x) a h) ∙ e ∙ past_tail (parts_in y) (texts_of_parts y) b (ap (λ n. n == 0) (sym many) ∙ h)) in
         (parts.0, append_cancel_left (codes ")") a b parts.1)
 
--- and parts behind others
-same_behind : (x y : Shape) (a b : List ℕ) → parts_in x ≡ parts_in y → Same x y
-    → behind_part (parts_in x) (texts_of_parts x) ++ a ≡ behind_part (parts_in y) (texts_of_parts y) ++ b → (x ≡ y) × (a ≡ b)
+-- and parts after others
+same_after : (x y : Shape) (a b : List ℕ) → parts_in x ≡ parts_in y → Same x y
+    → after_part (parts_in x) (texts_of_parts x) ++ a ≡ after_part (parts_in y) (texts_of_parts y) ++ b → (x ≡ y) × (a ≡ b)
 unfolding Same
-same_behind x y a b many same e = go (parts_in x == 0) refl
+same_after x y a b many same e = go (parts_in x == 0) refl
   where
-    text : (n : ℕ) (c : Bool) (s z : List ℕ) → (n == 0) ≡ c → behind_part n s ++ z ≡ (if c then [] else codes " " ++ s) ++ z
+    text : (n : ℕ) (c : Bool) (s z : List ℕ) → (n == 0) ≡ c → after_part n s ++ z ≡ (if c then [] else codes " " ++ s) ++ z
     text n c s z h = ap (λ b. (if b then [] else codes " " ++ s) ++ z) h
 
     alike : (c : Bool) → (parts_in x == 0) ≡ c → (if c then [] else codes " " ++ texts_of_parts x) ++ a ≡ (if c then [] else codes " " ++ texts_of_parts y) ++ b
@@ -77,13 +77,13 @@ same_parts (part x rest) (part y more) a b many p q e =
     let q' = and_parts (can_have (parts_in y)) _ q in
     let q'' = and_parts (are_cut y) _ q'.1 in
     let left : parts_in rest ≡ parts_in more = omega (arith, many) in
-    let S : List ℕ = behind_part (parts_in rest) (texts_of_parts rest) in
-    let T : List ℕ = behind_part (parts_in more) (texts_of_parts more) in
+    let S : List ℕ = after_part (parts_in rest) (texts_of_parts rest) in
+    let T : List ℕ = after_part (parts_in more) (texts_of_parts more) in
     let whole : around_parts (parts_in x) (texts_of_parts x) ++ (S ++ a) ≡ around_parts (parts_in y) (texts_of_parts y) ++ (T ++ b) =
     sym (append_assoc (around_parts (parts_in x) (texts_of_parts x)) S a) ∙ e ∙ append_assoc (around_parts (parts_in y) (texts_of_parts y)) T b in
     let head = same_around (parts_in x) (parts_in y) (texts_of_parts x) (texts_of_parts y) _ _ p'.0 q'.0 whole in
     let first = same_tails x y (S ++ a) (T ++ b) head.0 (λ u v. same_parts x y u v head.0 p''.0 q''.0) head.1 in
-    let others = same_behind rest more a b left (λ u v. same_parts rest more u v left p''.1 q''.1) first.1 in
+    let others = same_after rest more a b left (λ u v. same_parts rest more u v left p''.1 q''.1) first.1 in
     ((λ i. part (first.0 i) (others.0 i)), others.1)
 
 -- a text begins with the text of one shape at most

@@ -91,7 +91,7 @@ AreEnds-push text word from [] utf8 h =
     (omega arith, subst P long (IsCharBoundary-end (text ++ word)), long)
 AreEnds-push text word from (end ∷ ends) utf8 h = (h.0, within_longer text word end utf8 h.1, AreEnds-push text word end ends utf8 h.2)
 
--- the piece at a place past the first, by the ends before it and behind it
+-- the piece at a place past the first, by the ends before it and after it
 pub record Between (text : List ℕ) (ends : List ℕ) (k start end : ℕ) : Type 0 where
   pub rises : start ≤ end
   pub starts : IsCharBoundary text start

@@ -33,7 +33,7 @@ first-parts rules r n m list rest f own first other =
     let same : n ≡ m = own 0 ∙ sym (other 0) in
     subst (λ n. AreFirst rules n list f rest) same first
 
--- a tree and the trees behind it
+-- a tree and the trees after it
 pub first-more : (rules : List Rule) (count r : ℕ) (list rest last : List ℕ) (t : Tree) (f : Forest) → 1 ≤ count → t.rule ≡ r
     → ((n : ℕ) → HasPartsOf rules r n → AreFirst rules n list t.kids rest) → AreFirst rules (count - 1) rest f last → AreFirst rules count (r ∷ list) (more t.rule t.kids f) last
 first-more rules count r list rest last t f some rule own others = go
@@ -51,9 +51,9 @@ first-more rules count r list rest last t f some rule own others = go
         (subst (λ n. are_trees rules (children_of (slice_get rules n) q.0) k ≡ true) head below.0)
         (sym (append_assoc (preorder k) (preorder s) xs) ∙ tail) in
         let rest_many : length qs ≡ count - 1 = omega (arith, many) in
-        let behind = others qs s xs rest_many below.1 (sym kids.1) in
+        let after = others qs s xs rest_many below.1 (sym kids.1) in
         let same : t.rule ≡ r' = rule ∙ sym head in
-        ((λ i. more (same i) (kids.0 i) (behind.0 i)), behind.1)
+        ((λ i. more (same i) (kids.0 i) (after.0 i)), after.1)
 
 -- the tree of a whole list
 told : (g : Grammar) (symbol : ℕ) (rules rest : List ℕ) (t u : Tree) → IsTold g symbol rules t → u.rule ≡ t.rule

@@ -71,9 +71,9 @@ bad_byte text left some stop =
           (sym (append_assoc stop.read (next_byte stop.rest ∷ []) begins.1) ∙ ap (λ l. l ++ begins.1) (sym byte) ∙ sym (append-nil (take (length text - left + 1) text ++ begins.1)));
     }
 
--- a whole shape with more behind it
-pub more_behind : (text rest : List ℕ) (x : Shape) → IsPart 95 x → text ≡ shape_text x ++ rest → 1 ≤ length rest → IsFirstBadByte text (length text - length rest)
-more_behind text rest x is whole some =
+-- a whole shape with more after it
+pub more_after : (text rest : List ℕ) (x : Shape) → IsPart 95 x → text ≡ shape_text x ++ rest → 1 ≤ length rest → IsFirstBadByte text (length text - length rest)
+more_after text rest x is whole some =
     let sizes = ap length whole ∙ length-append (shape_text x) rest in
     let at : length text - length rest ≡ length (shape_text x) = omega (arith, sizes) in
     let shape : IsShapeText (shape_text x) x = record { shape = part_is_shape x is; is = refl } in

@@ -1,30 +1,30 @@
--- Where reading a shape stops: a stop in what is read first, or behind it, is a stop of the whole.
+-- Where reading a shape stops: a stop in what is read first, or after it, is a stop of the whole.
 use Rattle.std.proofs.Common.{◌≡◌, ℕ, ◌+◌, ◌≤◌, ◌<◌, true, List, [], ◌∷◌, ◌++◌, length, get_or, codes, refl, sym, ap, ◌∙◌, subst, arith, append_assoc}
 use Rattle.std.specs.Prelude.{IfErr, Result, Err, ◌⊎◌}
 use Rattle.std.proofs.Common.{inl, inr}
 use Rattle.rhythm_base.specs.declared.shape_parse.Stop.{Stop}
 use Rattle.rhythm_base.specs.declared.shape_parse.Stop.TheVariants.{With, Memory}
-use Rattle.rhythm_base.specs.ShapeReading.{ByteText, HeadText, HeadBehind1, IsHead, Stops, StopsWith, behind_1, head_text, next_byte}
+use Rattle.rhythm_base.specs.ShapeReading.{ByteText, HeadText, HeadAfter1, IsHead, Stops, StopsWith, after_1, head_text, next_byte}
 use Rattle.std.proofs.lemmas.Bool.Decides.{nat_tests}
 use Rattle.std.proofs.lemmas.Result.{IfErr-weaker}
 use Rattle.rhythm_base.specs.Shapes.{can_have}
 use Rattle.rhythm_base.proofs.ShapeHeads.{HeadIs, head_is}
 
--- behind what was read first, which is what each such text begins with
-pub stops_behind : {A B : List ℕ → Type 0} (first rest text : List ℕ) (left : ℕ) → text ≡ first ++ rest → StopsWith B rest left
+-- after what was read first, which is what each such text begins with
+pub stops_after : {A B : List ℕ → Type 0} (first rest text : List ℕ) (left : ℕ) → text ≡ first ++ rest → StopsWith B rest left
     → ((b : List ℕ) → B b → A (first ++ b))
-    → ((other whole behind : List ℕ) → A whole → first ++ other ≡ whole ++ behind → (b : List ℕ) × B b × (other ≡ b ++ behind))
+    → ((other whole after : List ℕ) → A whole → first ++ other ≡ whole ++ after → (b : List ℕ) × B b × (other ≡ b ++ after))
     → StopsWith A text left
-stops_behind {A} {B} first rest text left is stop join split = record {
+stops_after {A} {B} first rest text left is stop join split = record {
   read = first ++ stop.read;
   rest = stop.rest;
   is = is ∙ ap (λ l. first ++ l) stop.is ∙ sym (append_assoc first stop.read stop.rest);
   many = stop.many;
   more = stop.more;
   begins = subst A (sym (append_assoc first stop.read stop.more)) (join (stop.read ++ stop.more) stop.begins);
-  stops = λ whole other behind is_whole same.
-      let cut = split (stop.read ++ (next_byte stop.rest ∷ other)) whole behind is_whole (sym (append_assoc first stop.read _) ∙ same) in
-      stop.stops cut.0 other behind cut.1 cut.2;
+  stops = λ whole other after is_whole same.
+      let cut = split (stop.read ++ (next_byte stop.rest ∷ other)) whole after is_whole (sym (append_assoc first stop.read _) ∙ same) in
+      stop.stops cut.0 other after cut.1 cut.2;
 }
 
 -- in what is read first
@@ -39,13 +39,13 @@ stops_first {A} {B} text left stop more first = record {
   many = stop.many;
   more = stop.more ++ (more (stop.read ++ stop.more) stop.begins).0;
   begins = subst B (append_assoc stop.read stop.more _) (more (stop.read ++ stop.more) stop.begins).1;
-  stops = λ whole other behind is_whole same.
+  stops = λ whole other after is_whole same.
       let cut = first whole is_whole in
-      stop.stops cut.0 other (cut.1 ++ behind) cut.2 (same ∙ ap (λ l. l ++ behind) cut.3 ∙ append_assoc cut.0 cut.1 behind);
+      stop.stops cut.0 other (cut.1 ++ after) cut.2 (same ∙ ap (λ l. l ++ after) cut.3 ∙ append_assoc cut.0 cut.1 after);
 }
 
 -- before the first byte
-pub stops_before : {A : List ℕ → Type 0} (text more : List ℕ) → A more → ((whole : List ℕ) → A whole → (other behind : List ℕ) → next_byte text ∷ other ≡ whole ++ behind → ⊥)
+pub stops_before : {A : List ℕ → Type 0} (text more : List ℕ) → A more → ((whole : List ℕ) → A whole → (other after : List ℕ) → next_byte text ∷ other ≡ whole ++ after → ⊥)
     → StopsWith A text (length text)
 stops_before text more begins stops = record {
   read = [];
@@ -54,7 +54,7 @@ stops_before text more begins stops = record {
   many = refl;
   more = more;
   begins = begins;
-  stops = λ whole other behind is_whole same. stops whole is_whole other behind same;
+  stops = λ whole other after is_whole same. stops whole is_whole other after same;
 }
 
 pub first_same : {m n : ℕ} {xs ys : List ℕ} → m ∷ xs ≡ n ∷ ys → m ≡ n
@@ -65,7 +65,7 @@ rest_same e = cc
 
 pub no_byte : (byte : ℕ) (text : List ℕ) → (next_byte text ≡ byte → ⊥) → StopsWith (ByteText byte) text (length text)
 no_byte byte text other = stops_before text (byte ∷ []) refl
-    (λ whole is more behind same. other (first_same (same ∙ ap (λ l. l ++ behind) is)))
+    (λ whole is more after same. other (first_same (same ∙ ap (λ l. l ++ after) is)))
 
 -- a stop of one set of texts is the stop of another
 pub stopped : {T : Type 0} {A B : List ℕ → Type 0} {t u : List ℕ} (r : Result T Stop) (s x : Stop) → r ≡ Err x → x ≡ s → Stops A t s
@@ -95,36 +95,36 @@ next_is (byte ∷ rest) some = refl
 
 -- ---- the number of parts
 
--- behind the first digit
-pub no_second : (text : List ℕ) → (48 ≤ next_byte text → next_byte text ≤ 54 → ⊥) → StopsWith HeadBehind1 text (length text)
-no_second text other = stops_before text (behind_1 10) (10, omega arith, omega arith, refl)
-    (λ whole is more behind same.
-    let first : next_byte text ≡ 38 + is.0 = first_same (same ∙ ap (λ l. l ++ behind) is.3) in
+-- after the first digit
+pub no_second : (text : List ℕ) → (48 ≤ next_byte text → next_byte text ≤ 54 → ⊥) → StopsWith HeadAfter1 text (length text)
+no_second text other = stops_before text (after_1 10) (10, omega arith, omega arith, refl)
+    (λ whole is more after same.
+    let first : next_byte text ≡ 38 + is.0 = first_same (same ∙ ap (λ l. l ++ after) is.3) in
     other (omega (arith, is.1, first)) (omega (arith, is.2, first)))
 
-pub second_then_bracket : (n : ℕ) (rest text : List ℕ) (left : ℕ) → 10 ≤ n → n ≤ 16 → text ≡ (38 + n) ∷ rest → StopsWith (ByteText 40) rest left → StopsWith HeadBehind1 text left
+pub second_then_bracket : (n : ℕ) (rest text : List ℕ) (left : ℕ) → 10 ≤ n → n ≤ 16 → text ≡ (38 + n) ∷ rest → StopsWith (ByteText 40) rest left → StopsWith HeadAfter1 text left
 second_then_bracket n rest text left low high is stop =
-    stops_behind ((38 + n) ∷ []) rest text left is stop (λ b e. (n, low, high, ap (λ l. (38 + n) ∷ l) e))
-    (λ other whole behind w same. let e = same ∙ ap (λ l. l ++ behind) w.3 in (40 ∷ [], refl, rest_same e))
+    stops_after ((38 + n) ∷ []) rest text left is stop (λ b e. (n, low, high, ap (λ l. (38 + n) ∷ l) e))
+    (λ other whole after w same. let e = same ∙ ap (λ l. l ++ after) w.3 in (40 ∷ [], refl, rest_same e))
 
 -- the first byte is none that a head begins with
 pub no_head : (levels : ℕ) (text : List ℕ) → (next_byte text ≡ 46 → ⊥) → ((levels ≡ 0) ⊎ (next_byte text < 49) ⊎ (57 < next_byte text)) → StopsWith (HeadText levels) text (length text)
 no_head levels text no_leaf no_cut = stops_before text (codes ".") (0, record { can = refl; low = λ h. refl }, refl)
-    (λ whole is more behind same. wrong behind is.0 is.1 (head_is is.0 is.1.can) (same ∙ ap (λ l. l ++ behind) is.2) no_cut)
+    (λ whole is more after same. wrong after is.0 is.1 (head_is is.0 is.1.can) (same ∙ ap (λ l. l ++ after) is.2) no_cut)
   where
     outside : ((next_byte text < 49) ⊎ (57 < next_byte text)) → 49 ≤ next_byte text → next_byte text ≤ 57 → ⊥
     outside (inl h) low high = omega arith
     outside (inr h) low high = omega arith
 
-    wrong : (behind : List ℕ) {other : List ℕ} (n : ℕ) → IsHead levels n → HeadIs n (head_text n) → next_byte text ∷ other ≡ head_text n ++ behind
+    wrong : (after : List ℕ) {other : List ℕ} (n : ℕ) → IsHead levels n → HeadIs n (head_text n) → next_byte text ∷ other ≡ head_text n ++ after
         → ((levels ≡ 0) ⊎ (next_byte text < 49) ⊎ (57 < next_byte text)) → ⊥
-    wrong behind n h (inl (none, is)) e k = no_leaf (first_same (e ∙ ap (λ l. l ++ behind) is))
-    wrong behind n h (inr (inl (low, high, is))) e (inl z) = omega (arith, h.low z)
-    wrong behind n h (inr (inl (low, high, is))) e (inr z) =
-        let first : next_byte text ≡ 48 + n = first_same (e ∙ ap (λ l. l ++ behind) is) in outside z (omega (arith, first, low)) (omega (arith, first, high))
-    wrong behind n h (inr (inr (low, high, is))) e (inl z) = omega (arith, h.low z)
-    wrong behind n h (inr (inr (low, high, is))) e (inr z) =
-        let first : next_byte text ≡ 49 = first_same (e ∙ ap (λ l. l ++ behind) is) in outside z (omega (arith, first)) (omega (arith, first))
+    wrong after n h (inl (none, is)) e k = no_leaf (first_same (e ∙ ap (λ l. l ++ after) is))
+    wrong after n h (inr (inl (low, high, is))) e (inl z) = omega (arith, h.low z)
+    wrong after n h (inr (inl (low, high, is))) e (inr z) =
+        let first : next_byte text ≡ 48 + n = first_same (e ∙ ap (λ l. l ++ after) is) in outside z (omega (arith, first, low)) (omega (arith, first, high))
+    wrong after n h (inr (inr (low, high, is))) e (inl z) = omega (arith, h.low z)
+    wrong after n h (inr (inr (low, high, is))) e (inr z) =
+        let first : next_byte text ≡ 49 = first_same (e ∙ ap (λ l. l ++ after) is) in outside z (omega (arith, first)) (omega (arith, first))
 
 -- a number of one digit
 pub head_small : (n : ℕ) → 2 ≤ n → n ≤ 9 → can_have n ≡ true → head_text n ≡ (48 + n) ∷ 40 ∷ []
@@ -136,10 +136,10 @@ head_small n low high can = go (head_is n can)
     go (inr (inr (l, h, is))) = absurd (omega arith)
 
 -- a number of two digits
-pub head_great : (n : ℕ) → 10 ≤ n → can_have n ≡ true → head_text n ≡ 49 ∷ behind_1 n
+pub head_great : (n : ℕ) → 10 ≤ n → can_have n ≡ true → head_text n ≡ 49 ∷ after_1 n
 head_great n low can = go (head_is n can)
   where
-    go : HeadIs n (head_text n) → head_text n ≡ 49 ∷ behind_1 n
+    go : HeadIs n (head_text n) → head_text n ≡ 49 ∷ after_1 n
     go (inl (none, is)) = absurd (omega (arith, none))
     go (inr (inl (l, h, is))) = absurd (omega arith)
     go (inr (inr (l, h, is))) = is
@@ -150,26 +150,26 @@ can_be n low high = grind (arith, nat_tests)
 pub digit_then_bracket : (levels n : ℕ) (rest text : List ℕ) (left : ℕ) → 1 ≤ levels → 2 ≤ n → n ≤ 9 → text ≡ (48 + n) ∷ rest
     → StopsWith (ByteText 40) rest left → StopsWith (HeadText levels) text left
 digit_then_bracket levels n rest text left deep low high is stop =
-    stops_behind ((48 + n) ∷ []) rest text left is stop
+    stops_after ((48 + n) ∷ []) rest text left is stop
     (λ b e. (n, record { can = can_be n low (omega arith); low = λ h. absurd (omega (arith, h)) }, ap (λ l. (48 + n) ∷ l) e ∙ sym (head_small n low high (can_be n low (omega arith)))))
-    (λ other whole behind w same. split other behind w.0 (head_is w.0 w.1.can) (same ∙ ap (λ l. l ++ behind) w.2))
+    (λ other whole after w same. split other after w.0 (head_is w.0 w.1.can) (same ∙ ap (λ l. l ++ after) w.2))
   where
-    split : (other behind : List ℕ) (m : ℕ) → HeadIs m (head_text m) → (48 + n) ∷ other ≡ head_text m ++ behind → (b : List ℕ) × (b ≡ 40 ∷ []) × (other ≡ b ++ behind)
-    split other behind m (inl (none, is)) e = let first : 48 + n ≡ 46 = first_same (e ∙ ap (λ l. l ++ behind) is) in absurd (omega (arith, first))
-    split other behind m (inr (inl (l, h, is))) e = (40 ∷ [], refl, rest_same (e ∙ ap (λ l. l ++ behind) is))
-    split other behind m (inr (inr (l, h, is))) e = let first : 48 + n ≡ 49 = first_same (e ∙ ap (λ l. l ++ behind) is) in absurd (omega (arith, first))
+    split : (other after : List ℕ) (m : ℕ) → HeadIs m (head_text m) → (48 + n) ∷ other ≡ head_text m ++ after → (b : List ℕ) × (b ≡ 40 ∷ []) × (other ≡ b ++ after)
+    split other after m (inl (none, is)) e = let first : 48 + n ≡ 46 = first_same (e ∙ ap (λ l. l ++ after) is) in absurd (omega (arith, first))
+    split other after m (inr (inl (l, h, is))) e = (40 ∷ [], refl, rest_same (e ∙ ap (λ l. l ++ after) is))
+    split other after m (inr (inr (l, h, is))) e = let first : 48 + n ≡ 49 = first_same (e ∙ ap (λ l. l ++ after) is) in absurd (omega (arith, first))
 
-pub one_then_digit : (levels : ℕ) (rest text : List ℕ) (left : ℕ) → 1 ≤ levels → text ≡ 49 ∷ rest → StopsWith HeadBehind1 rest left → StopsWith (HeadText levels) text left
+pub one_then_digit : (levels : ℕ) (rest text : List ℕ) (left : ℕ) → 1 ≤ levels → text ≡ 49 ∷ rest → StopsWith HeadAfter1 rest left → StopsWith (HeadText levels) text left
 one_then_digit levels rest text left deep is stop =
-    stops_behind (49 ∷ []) rest text left is stop
+    stops_after (49 ∷ []) rest text left is stop
     (λ b w. (
       w.0,
       record { can = can_be w.0 (omega (arith, w.1)) w.2; low = λ h. absurd (omega (arith, h)) },
       ap (λ l. 49 ∷ l) w.3 ∙ sym (head_great w.0 w.1 (can_be w.0 (omega (arith, w.1)) w.2)),
     ))
-    (λ other whole behind w same. split other behind w.0 (head_is w.0 w.1.can) (same ∙ ap (λ l. l ++ behind) w.2))
+    (λ other whole after w same. split other after w.0 (head_is w.0 w.1.can) (same ∙ ap (λ l. l ++ after) w.2))
   where
-    split : (other behind : List ℕ) (m : ℕ) → HeadIs m (head_text m) → 49 ∷ other ≡ head_text m ++ behind → (b : List ℕ) × HeadBehind1 b × (other ≡ b ++ behind)
-    split other behind m (inl (none, is)) e = let first : 49 ≡ 46 = first_same (e ∙ ap (λ l. l ++ behind) is) in absurd (omega (arith, first))
-    split other behind m (inr (inl (l, h, is))) e = let first : 49 ≡ 48 + m = first_same (e ∙ ap (λ l. l ++ behind) is) in absurd (omega (arith, first))
-    split other behind m (inr (inr (l, h, is))) e = (behind_1 m, (m, l, h, refl), rest_same (e ∙ ap (λ l. l ++ behind) is))
+    split : (other after : List ℕ) (m : ℕ) → HeadIs m (head_text m) → 49 ∷ other ≡ head_text m ++ after → (b : List ℕ) × HeadAfter1 b × (other ≡ b ++ after)
+    split other after m (inl (none, is)) e = let first : 49 ≡ 46 = first_same (e ∙ ap (λ l. l ++ after) is) in absurd (omega (arith, first))
+    split other after m (inr (inl (l, h, is))) e = let first : 49 ≡ 48 + m = first_same (e ∙ ap (λ l. l ++ after) is) in absurd (omega (arith, first))
+    split other after m (inr (inr (l, h, is))) e = (after_1 m, (m, l, h, refl), rest_same (e ∙ ap (λ l. l ++ after) is))

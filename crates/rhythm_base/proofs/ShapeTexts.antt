@@ -4,7 +4,7 @@ use Rattle.std.specs.Prelude.{is_ok}
 use Rattle.std.proofs.lemmas.List.{take_all}
 use Rattle.std.proofs.lemmas.Bool.Decides.{nat_tests}
 use Rattle.rhythm_base.specs.Shape.{Shape, part, shape_of_parts}
-use Rattle.rhythm_base.specs.ShapeText.{around_parts, behind_part, shape_text, texts_of_parts}
+use Rattle.rhythm_base.specs.ShapeText.{around_parts, after_part, shape_text, texts_of_parts}
 use Rattle.rhythm_base.specs.Shapes.{parts_in}
 
 -- a text that grew where the call could
@@ -43,9 +43,9 @@ cut_text before x xs is some =
     ∙ ap (λ n. around_parts n T) (sym (parts_in-shape_of_parts xs))
     ∙ ap (λ y. around_parts (parts_in y) (texts_of_parts y)) is)
 
-behind : (n m : ℕ) (texts : List ℕ) → n ≡ m → (n == 0 ≡ true → texts ≡ []) → (b : Bool) → (n == 0) ≡ b → (if b then [] else codes " ") ++ texts ≡ behind_part m texts
-behind n m texts same none true is = none is ∙ ap (λ b. if b then [] else codes " " ++ texts) (sym is ∙ ap (λ k. k == 0) same)
-behind n m texts same none false is = ap (λ b. if b then [] else codes " " ++ texts) (sym is ∙ ap (λ k. k == 0) same)
+after : (n m : ℕ) (texts : List ℕ) → n ≡ m → (n == 0 ≡ true → texts ≡ []) → (b : Bool) → (n == 0) ≡ b → (if b then [] else codes " ") ++ texts ≡ after_part m texts
+after n m texts same none true is = none is ∙ ap (λ b. if b then [] else codes " " ++ texts) (sym is ∙ ap (λ k. k == 0) same)
+after n m texts same none false is = ap (λ b. if b then [] else codes " " ++ texts) (sym is ∙ ap (λ k. k == 0) same)
 
 none_none : (xs : List Shape) → (length xs == 0) ≡ true → texts_of_parts (shape_of_parts xs) ≡ []
 none_none [] h = refl
@@ -60,4 +60,4 @@ parts_text before x xs =
     let G : List ℕ = if length xs == 0 then [] else codes " " in
     let T : List ℕ = texts_of_parts (shape_of_parts xs) in
     append_assoc (before ++ S) G T ∙ append_assoc before S (G ++ T)
-    ∙ ap (λ l. before ++ (S ++ l)) (behind (length xs) (parts_in (shape_of_parts xs)) T (sym (parts_in-shape_of_parts xs)) (none_none xs) (length xs == 0) refl)
+    ∙ ap (λ l. before ++ (S ++ l)) (after (length xs) (parts_in (shape_of_parts xs)) T (sym (parts_in-shape_of_parts xs)) (none_none xs) (length xs == 0) refl)

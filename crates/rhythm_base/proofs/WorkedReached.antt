@@ -214,13 +214,13 @@ module _ (p : Performance) (cs : List Chord) (has : HasOnly p cs) where
   input_is i k of =
       slice_get-map (λ m. input book m (soundings cs)) (voice_bars book p 0) i
       ∙ ap (option_map (λ m. input book m (soundings cs))) of.there
-      ∙ ap (λ l. Some (input book of.measure (soundings l))) (sym (has.only of.chords of.are_chords))
+      ∙ ap (λ l. Some (input book of.cell_bar (soundings l))) (sym (has.only of.chords of.are_chords))
       ∙ ap (λ x. Some x) (sym of.is)
 
   is_input : (i : ℕ) (k : BarInput) → slice_get (inputs p cs) i ≡ Some k → IsInputOf book p 0 i k
   is_input i k is =
       let at = get_map (λ m. input book m (soundings cs)) (voice_bars book p 0) i k is in
-      record { chords = cs; are_chords = has.are; measure = at.0; there = at.1; is = at.2 }
+      record { chords = cs; are_chords = has.are; cell_bar = at.0; there = at.1; is = at.2 }
 
 -- the marked cells are the reached ones
 module _ (p q : Performance) (cs ds : List Chord) (before : HasOnly p cs) (after : HasOnly q ds) (voice : q.channels ≡ 0 ∷ [])

@@ -69,7 +69,7 @@ module _ (S : Performance → Result (List ℕ) ℕ → Type 0) (g : Grammar) wh
   goes_on : SaysCommand (codes "dropbar") Quit → ⊥
   goes_on says = let wrong : codes "dropbar" ≡ codes "quit" = says.0 in absurd (cc)
 
-  -- nothing is answered to a line behind `quit`
+  -- nothing is answered to a line after `quit`
   run_to_quit : ScriptRun S g one_bar (script_lines (codes "dropbar\n\nquit\naddbar\n")) (codes "refused OneBar\nrefused Line\nbye\n") one_bar
   run_to_quit = (
     codes "refused OneBar\n",

@@ -6,15 +6,15 @@ use Rattle.rhythm_base.specs.declared.note.Bar.{Bar}
 use Rattle.rhythm_base.specs.Performance.{Performance}
 use Rattle.rhythm_base.specs.Lists.{last_of}
 
--- the start of a bar, or the last barline behind the last bar
+-- the start of a bar, or the last barline after the last bar
 abbrev pub barline : List Bar → ℕ → ℕ → ℕ
 barline [] last bar = last
 barline (b ∷ bars) last zero = b.start
 barline (b ∷ bars) last (suc bar) = barline bars last bar
 
--- the barline behind this one, and a tick past the latest possible one where there is none
-abbrev pub barline_behind : Performance → ℕ → ℕ
-barline_behind p bar = if nat_lt bar (length p.bars) then barline p.bars p.last (bar + 1) else LATEST_TICK + 1
+-- the barline after this one, and a tick past the latest possible one where there is none
+abbrev pub barline_after : Performance → ℕ → ℕ
+barline_after p bar = if nat_lt bar (length p.bars) then barline p.bars p.last (bar + 1) else LATEST_TICK + 1
 
 -- ticks of a whole bar of the signature: 4 * division * num / den
 abbrev pub nominal : ℕ → Bar → ℕ

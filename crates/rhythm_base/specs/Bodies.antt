@@ -1,4 +1,5 @@
--- The body of a rule in two views: how it cuts its interval, and how it ends it. One of the two is none.
+-- The body of a rule in two views: how it cuts its interval, and how it ends it. One of the two is none. And how what ends an
+-- interval sounds.
 use Rattle.std.proofs.Common.{◌≡◌, inl, inr, refl}
 use Rattle.std.specs.Prelude.{◌⊎◌, ◌≤◌, ⊤, ℕ, ◌+◌, ◌*◌, ◌/◌, ◌%◌, Bool, true, ◌&&◌, ◌==◌, nat_lt, List, [], ◌∷◌, length, map, max, Option, Some, None}
 use Rattle.std.specs.List.{list_all}
@@ -6,6 +7,8 @@ use Rattle.rhythm_base.specs.declared.rule.Body.{Body}
 use Rattle.rhythm_base.specs.declared.rule.Body.TheVariants.{Split, Parts, Note, Short, Tie, Rest, Grace}
 use Rattle.rhythm_base.specs.declared.rule.Ending.{Ending}
 use Rattle.rhythm_base.specs.declared.rule.Ending.TheVariants as endings
+use Rattle.rhythm_base.specs.declared.sound.SoundKind.{SoundKind}
+use Rattle.rhythm_base.specs.declared.sound.SoundKind.TheVariants as kinds
 
 -- equal parts of these symbols, or parts of these sizes and symbols, first to last
 pub data Cut : Type 0 where
@@ -37,6 +40,14 @@ IsLeafEnding endings.Short = ⊤
 IsLeafEnding endings.Tie = ⊤
 IsLeafEnding endings.Rest = ⊤
 IsLeafEnding (endings.Grace m) = (1 ≤ m) × (m ≤ 3)
+
+-- how a leaf sounds: with grace chords it is a beginning too
+abbrev pub sound_kind : Ending → SoundKind
+sound_kind endings.Note = kinds.Begin
+sound_kind endings.Short = kinds.Short
+sound_kind endings.Tie = kinds.Tie
+sound_kind endings.Rest = kinds.Rest
+sound_kind (endings.Grace m) = kinds.Begin
 
 -- ---- how it cuts
 

@@ -15,7 +15,7 @@ use Rattle.rhythm_base.specs.Performance.{Performance, place_of_note, place_of_p
 use Rattle.rhythm_base.specs.Shapes.{is_shape}
 use Rattle.rhythm_base.specs.Lists.{last_of}
 use Rattle.rhythm_base.specs.Lists.{least_of, list_with}
-use Rattle.rhythm_base.specs.Barlines.{barline, barline_behind, next_barline, last_start}
+use Rattle.rhythm_base.specs.Barlines.{barline, barline_after, next_barline, last_start}
 use Rattle.rhythm_base.specs.Pins.{without_pin}
 
 -- the numbers of an edit are in the ranges of the edit script, and its shape can be that of a tree
@@ -120,7 +120,7 @@ edit_tests p (Move channel key onset to) =
     ∷ []
 edit_tests p (Barline bar tick) =
     ((bar == 0) || nat_lt (length p.bars) bar, NoBar bar)
-    ∷ (not (nat_lt (barline p.bars p.last (bar - 1)) tick && nat_lt tick (barline_behind p bar)), BarlineOrder (barline p.bars p.last (bar - 1)) (barline_behind p bar))
+    ∷ (not (nat_lt (barline p.bars p.last (bar - 1)) tick && nat_lt tick (barline_after p bar)), BarlineOrder (barline p.bars p.last (bar - 1)) (barline_after p bar))
     ∷ ((bar == length p.bars) && list_any (is_past tick) p.notes, NoteOutside (least_of (onsets_past tick p.notes)))
     ∷ []
 edit_tests p (Pin channel bar shape) = cell_tests p channel bar

@@ -15,9 +15,9 @@ use Rattle.rhythm_base.specs.Voices.{AreChordsOf, voice_bars}
 pub record IsInputOf (g : Grammar) (p : Performance) (channel bar : ℕ) (k : BarInput) : Type 0 where
   pub chords : List Chord
   pub are_chords : AreChordsOf g p channel chords
-  pub measure : VoiceBar
-  pub there : slice_get (voice_bars g p channel) bar ≡ Some measure
-  pub is : k ≡ input g measure (soundings chords)
+  pub cell_bar : VoiceBar
+  pub there : slice_get (voice_bars g p channel) bar ≡ Some cell_bar
+  pub is : k ≡ input g cell_bar (soundings chords)
 
 -- the cell is new, or its input is another one
 abbrev pub HasNewInput : Grammar → Performance → Performance → ℕ → ℕ → Type 0

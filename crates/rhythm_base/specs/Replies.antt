@@ -6,7 +6,7 @@ use Rattle.rhythm_base.specs.declared.edit_fault.EditFault.TheVariants.{NoVoice,
 use Rattle.rhythm_base.specs.declared.edit_fault.LimitKind.{LimitKind}
 use Rattle.rhythm_base.specs.declared.edit_fault.LimitKind.TheVariants.{Notes, Bars, Cells, Line}
 
--- words with a space between two, and a newline behind the last
+-- words with a space between two, and a newline after the last
 abbrev pub reply_line : List (List ℕ) → List ℕ
 reply_line words = join_with_byte 32 words ++ codes "\n"
 

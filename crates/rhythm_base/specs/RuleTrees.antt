@@ -15,7 +15,7 @@ IsRuleList g symbol rules = (t : Tree) × IsTold g symbol rules t
 abbrev pub HasPartsOf : List Rule → ℕ → ℕ → Type 0
 HasPartsOf rules r count = (w : ℕ) → count ≡ length (children_of (slice_get rules r) w)
 
--- these are the trees, so many, whose rules the list begins with, and what stands behind them, if it begins with those of any
+-- these are the trees, so many, whose rules the list begins with, and what stands after them, if it begins with those of any
 abbrev pub AreFirst : List Rule → ℕ → List ℕ → Forest → List ℕ → Type 0
 AreFirst rules count list f rest =
     (qs : List (ℕ × ℕ)) (g : Forest) (xs : List ℕ) → length qs ≡ count → are_trees rules qs g ≡ true → preorder g ++ xs ≡ list

@@ -19,13 +19,13 @@ use Rattle.rhythm_base.specs.Lists.{last_of}
 abbrev pub between_newlines : List ℕ → List (List ℕ)
 between_newlines bytes = slice_split (λ b. b == 10) bytes
 
--- what stands behind the last newline is a line where it is not empty
+-- what stands after the last newline is a line where it is not empty
 abbrev pub open_line : Option (List ℕ) → List (List ℕ)
 open_line None = []
 open_line (Some []) = []
 open_line (Some (b ∷ bytes)) = (b ∷ bytes) ∷ []
 
--- the lines of a script: each newline ends one, and a line may stand behind the last. A carriage return is left where it is
+-- the lines of a script: each newline ends one, and a line may stand after the last. A carriage return is left where it is
 abbrev pub script_lines : List ℕ → List (List ℕ)
 script_lines bytes =
     take (length (between_newlines bytes) - 1) (between_newlines bytes) ++ open_line (last_of (between_newlines bytes))
@@ -109,7 +109,7 @@ IsCommandInRange Score = ⊤
 IsCommandInRange (Alternatives channel bar count) = (channel < 16) × (bar ≤ 4096) × (1 ≤ count) × (count ≤ 16)
 IsCommandInRange Quit = ⊤
 
--- `pin`, a channel and a bar, whatever stands behind them
+-- `pin`, a channel and a bar, whatever stands after them
 abbrev pub ArePinWords : List (List ℕ) → Type 0
 ArePinWords (name ∷ first ∷ second ∷ rest) = Is (codes "pin") name × ((channel : ℕ) × IsChannelWord channel first) × ((bar : ℕ) × IsBarWord bar second)
 ArePinWords _ = ⊥

@@ -10,7 +10,7 @@ use Rattle.rhythm_base.specs.Shapes.{are_cut, can_have, depth, parts_in}
 abbrev pub head_text : ℕ → List ℕ
 head_text n = if n == 0 then codes "." else decimal n ++ codes "("
 
--- what stands behind it
+-- what stands after it
 abbrev pub tail_text : ℕ → List ℕ → List ℕ
 tail_text n texts = if n == 0 then [] else texts ++ codes ")"
 
@@ -20,7 +20,7 @@ next_byte [] = 256
 next_byte (byte ∷ rest) = byte
 
 -- reading texts of a set stops with so many bytes left: what stands before them begins a text of the set, and with the
--- next byte it begins no text of the set with whatever behind it
+-- next byte it begins no text of the set with whatever after it
 pub record StopsWith (Texts : List ℕ → Type 0) (text : List ℕ) (left : ℕ) : Type 0 where
   pub read : List ℕ
   pub rest : List ℕ
@@ -28,7 +28,7 @@ pub record StopsWith (Texts : List ℕ → Type 0) (text : List ℕ) (left : ℕ
   pub many : length rest ≡ left
   pub more : List ℕ
   pub begins : Texts (read ++ more)
-  pub stops : (whole other behind : List ℕ) → Texts whole → read ++ (next_byte rest ∷ other) ≡ whole ++ behind → ⊥
+  pub stops : (whole other after : List ℕ) → Texts whole → read ++ (next_byte rest ∷ other) ≡ whole ++ after → ⊥
 
 abbrev pub Stops : (List ℕ → Type 0) → List ℕ → Stop → Type 0
 Stops Texts text (With left) = StopsWith Texts text left
@@ -47,12 +47,12 @@ pub record IsHead (levels n : ℕ) : Type 0 where
 abbrev pub HeadText : ℕ → List ℕ → Type 0
 HeadText levels text = (n : ℕ) × IsHead levels n × (text ≡ head_text n)
 
--- what stands behind the first digit of a number of two digits
-abbrev pub behind_1 : ℕ → List ℕ
-behind_1 n = (38 + n) ∷ 40 ∷ []
+-- what stands after the first digit of a number of two digits
+abbrev pub after_1 : ℕ → List ℕ
+after_1 n = (38 + n) ∷ 40 ∷ []
 
-abbrev pub HeadBehind1 : List ℕ → Type 0
-HeadBehind1 text = (n : ℕ) × (10 ≤ n) × (n ≤ 16) × (text ≡ behind_1 n)
+abbrev pub HeadAfter1 : List ℕ → Type 0
+HeadAfter1 text = (n : ℕ) × (10 ≤ n) × (n ≤ 16) × (text ≡ after_1 n)
 
 -- a shape with so many levels below it at most
 pub record IsPart (levels : ℕ) (x : Shape) : Type 0 where

@@ -9,14 +9,14 @@ use Rattle.rhythm_base.specs.Shapes.{is_shape, parts_in}
 abbrev pub around_parts : ℕ → List ℕ → List ℕ
 around_parts n texts = if n == 0 then codes "." else decimal n ++ (codes "(" ++ (texts ++ codes ")"))
 
--- what stands behind a part: nothing behind the last, else a space and the texts of the others
-abbrev pub behind_part : ℕ → List ℕ → List ℕ
-behind_part n texts = if n == 0 then [] else codes " " ++ texts
+-- what stands after a part: nothing after the last, else a space and the texts of the others
+abbrev pub after_part : ℕ → List ℕ → List ℕ
+after_part n texts = if n == 0 then [] else codes " " ++ texts
 
 -- the texts of the parts of a shape, with one space between them
 abbrev pub texts_of_parts : Shape → List ℕ
 texts_of_parts end = []
-texts_of_parts (part x rest) = around_parts (parts_in x) (texts_of_parts x) ++ behind_part (parts_in rest) (texts_of_parts rest)
+texts_of_parts (part x rest) = around_parts (parts_in x) (texts_of_parts x) ++ after_part (parts_in rest) (texts_of_parts rest)
 
 unfoldable pub shape_text : Shape → List ℕ
 shape_text x = around_parts (parts_in x) (texts_of_parts x)

@@ -52,7 +52,13 @@ is_tie Short = false
 is_tie Tie = true
 is_tie Rest = false
 
--- each sound that begins a chord, with the ties right behind it
+abbrev pub is_rest : SoundKind → Bool
+is_rest Begin = false
+is_rest Short = false
+is_rest Tie = false
+is_rest Rest = true
+
+-- each sound that begins a chord, with the ties right after it
 abbrev pub chord_runs : List Sound → List (Sound × List Sound)
 chord_runs [] = []
 chord_runs (s ∷ sounds) = if begins_chord s.kind then (s, take_while (λ t. is_tie t.kind) sounds) ∷ chord_runs sounds else chord_runs sounds

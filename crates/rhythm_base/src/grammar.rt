@@ -20,7 +20,7 @@ pub struct Grammar {
     pub version: u8,
     /// The number of units in every bar, 1 to 960, and to 96 in version 2.
     pub resolution: u16,
-    /// Notes whose onsets are at most so many microseconds behind a chord's first onset join that chord.
+    /// Notes whose onsets are at most so many microseconds after a chord's first onset join that chord.
     pub window: u32,
     /// The cost of one 960th of a quarter by which an onset is notated later than it was played, 0 to 1,000.
     pub early: u32,

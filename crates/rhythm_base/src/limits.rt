@@ -48,3 +48,21 @@ pub const HEAVIEST_ONSET: u32 = 1_000;
 
 /// More than the least tree of a cell can cost, so that the sums over a voice's bars do not overflow.
 pub const DEAREST_CELL: u64 = 500_000_000_000;
+
+/// The most voices of a performance: there is one for each channel at most.
+pub const MOST_VOICES: usize = 16;
+
+/// The most bytes of a MIDI file.
+pub const LONGEST_MIDI: u64 = 16_777_216;
+
+/// The most bytes of a grammar file.
+pub const LONGEST_GRAMMAR: u64 = 1_048_576;
+
+/// The most bytes of a **kern text, written or read.
+pub const LONGEST_SCORE: u64 = 67_108_864;
+
+/// The most bytes of an edit script.
+pub const LONGEST_SCRIPT: u64 = 16_777_216;
+
+/// The most bytes of a line of an edit script, without its newline.
+pub const LONGEST_SCRIPT_LINE: u64 = 4_096;

@@ -1,8 +1,10 @@
 ghost use Rattle.std.specs.Prelude.{◌≡◌, ℕ, length};
 ghost use Rattle.rhythm_base.specs.Bodies.{children, ending_of};
+ghost use Rattle.rhythm_base.specs.Bodies as bodies;
 
 use crate::kids::Kids;
 use crate::portions::Portions;
+use crate::sound::SoundKind;
 
 /// What a rule makes of an interval: it cuts it into parts, or ends it as a leaf.
 #[derive(Drop)]
@@ -36,6 +38,20 @@ pub enum Ending {
     Rest,
     /// A chord begins, with so many grace chords before it: 1 to 3.
     Grace(u8),
+}
+
+impl Ending {
+    /// How a leaf sounds that ends so: with grace chords it is a beginning too.
+    pub fn sound_kind(self) -> SoundKind
+        ensures { result ≡ bodies.sound_kind self }
+    {
+        match self {
+            Ending::Note | Ending::Grace(_) => SoundKind::Begin,
+            Ending::Short => SoundKind::Short,
+            Ending::Tie => SoundKind::Tie,
+            Ending::Rest => SoundKind::Rest,
+        }
+    }
 }
 
 impl Body {

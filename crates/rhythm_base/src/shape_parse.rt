@@ -1,5 +1,5 @@
 ghost use Rattle.rhythm_base.specs.Shape.{shape_of_parts};
-ghost use Rattle.rhythm_base.specs.ShapeReading.{AreParts, ByteText, HeadText, HeadBehind1, IsHead, IsPart, PartText, PartsText, Stops, StopsWith, behind_1, head_text};
+ghost use Rattle.rhythm_base.specs.ShapeReading.{AreParts, ByteText, HeadText, HeadAfter1, IsHead, IsPart, PartText, PartsText, Stops, StopsWith, after_1, head_text};
 ghost use Rattle.rhythm_base.specs.ShapeText.{IsShapeFault, IsShapeText, shape_text, texts_of_parts};
 ghost use Rattle.rhythm_base.specs.declared.shape_parse.Stop.TheVariants.{Memory};
 ghost use Rattle.std.specs.Prelude.{List, ◌+◌, ◌<◌, ◌≤◌, ◌≡◌, ◌∷◌, ◌++◌, [], IfErr, IfOk, length};
@@ -114,7 +114,7 @@ fn head<'a>(text: &'a [u8], levels: usize) -> Result<(usize, &'a [u8]), Stop>
     } else if levels == 0 {
         Err(Stop::With(text.len()))
     } else if first == b'1' {
-        head_behind_1(rest)
+        head_after_1(rest)
     } else if (b'2'..=b'9').contains(&first) {
         Ok((usize::from(first - b'0'), byte(b'(', rest)?))
     } else {
@@ -123,9 +123,9 @@ fn head<'a>(text: &'a [u8], levels: usize) -> Result<(usize, &'a [u8]), Stop>
 }
 
 /// Reads the second digit of a number of parts, 10 to 16, and the bracket.
-fn head_behind_1<'a>(text: &'a [u8]) -> Result<(usize, &'a [u8]), Stop>
-    ensures ok { IfOk result (λ r. (10 ≤ r.0) × (r.0 ≤ 16) × (text.now ≡ behind_1 r.0 ++ r.1.now)) }
-    ensures err { IfErr result (λ stop. Stops HeadBehind1 text.now stop) }
+fn head_after_1<'a>(text: &'a [u8]) -> Result<(usize, &'a [u8]), Stop>
+    ensures ok { IfOk result (λ r. (10 ≤ r.0) × (r.0 ≤ 16) × (text.now ≡ after_1 r.0 ++ r.1.now)) }
+    ensures err { IfErr result (λ stop. Stops HeadAfter1 text.now stop) }
 {
     match text {
         [] => Err(Stop::With(0)),
@@ -139,7 +139,7 @@ fn head_behind_1<'a>(text: &'a [u8]) -> Result<(usize, &'a [u8]), Stop>
     }
 }
 
-/// Reads a shape with so many levels below it at most, and gives what stands behind it.
+/// Reads a shape with so many levels below it at most, and gives what stands after it.
 #[cycle(parse)]
 fn part<'a>(alloc: Global, text: &'a [u8], levels: usize) -> Result<(Shape, &'a [u8]), Stop>
     ensures ok { IfOk result (λ r. IsPart levels r.0 × (text.now ≡ shape_text r.0 ++ r.1.now)) }

@@ -26,7 +26,7 @@ impl Tree {
     }
 }
 
-/// The tree of this rule whose parts' rules the list begins with, and what stands behind them.
+/// The tree of this rule whose parts' rules the list begins with, and what stands after them.
 #[cycle(read)]
 fn first_tree<'a>(
     alloc: Global,
@@ -45,7 +45,7 @@ fn first_tree<'a>(
     Ok((Tree { rule, kids }, rest))
 }
 
-/// Appends the trees, so many, whose rules the list begins with, and gives what stands behind them.
+/// Appends the trees, so many, whose rules the list begins with, and gives what stands after them.
 #[cycle(read)]
 fn push_trees<'a>(
     alloc: Global,

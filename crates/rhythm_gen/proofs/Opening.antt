@@ -13,7 +13,7 @@ opening_is = refl
 regroup : (xs ys zs : List ℕ) → (xs ++ ys) ++ zs ≡ xs ++ (ys ++ zs)
 regroup xs ys zs = simp append_assoc
 
--- two tracks behind them make a file
+-- two tracks after them make a file
 pub whole_file : (bytes upper lower : List ℕ) → bytes ≡ (opening ++ upper) ++ lower → bytes ≡ header_bytes ++ (track_chunk_bytes conductor ++ (upper ++ lower))
 whole_file bytes upper lower made =
     made

@@ -3,7 +3,7 @@ use Rattle.std.proofs.lemmas.Bool.{cases_lt}
 use Rattle.std.proofs.Common.{inl, inr, ◌≡◌, ℕ, ◌+◌, ◌/◌, ◌%◌, ◌<◌, ◌≤◌, Bool, true, false, if◌then◌else◌, List, [], ◌∷◌, length, arith}
 use Rattle.std.specs.Prelude.{nat_lt}
 use Rattle.std.proofs.lemmas.Bool.Decides.{nat_tests}
-use Rattle.rhythm_gen.specs.Quantity.{IsShortest, quantity_bytes, said_behind}
+use Rattle.rhythm_gen.specs.Quantity.{IsShortest, quantity_bytes, said_after}
 
 pub one_byte : (n : ℕ) → n < 128 → quantity_bytes n ≡ (n % 128) ∷ []
 one_byte n high = grind (arith, nat_tests)
@@ -28,24 +28,24 @@ quantity_short n =
     let two : List ℕ = (128 + (n / 128) % 128) ∷ (n % 128) ∷ [] in
     let three : List ℕ = (128 + (n / 16384) % 128) ∷ (128 + (n / 128) % 128) ∷ (n % 128) ∷ [] in
     let four : List ℕ = (128 + (n / 2097152) % 128) ∷ (128 + (n / 16384) % 128) ∷ (128 + (n / 128) % 128) ∷ (n % 128) ∷ [] in
-    let behind : List ℕ = if nat_lt n 2097152 then three else four in
-    either_short (nat_lt n 128) one (if nat_lt n 16384 then two else behind) (omega arith)
-    (either_short (nat_lt n 16384) two behind (omega arith) (either_short (nat_lt n 2097152) three four (omega arith) (omega arith)))
+    let after : List ℕ = if nat_lt n 2097152 then three else four in
+    either_short (nat_lt n 128) one (if nat_lt n 16384 then two else after) (omega arith)
+    (either_short (nat_lt n 16384) two after (omega arith) (either_short (nat_lt n 2097152) three four (omega arith) (omega arith)))
 
 -- ---- no fewer bytes say the number
 
-less_two : (n : ℕ) (bytes : List ℕ) → 128 ≤ n → 1 ≤ length bytes → said_behind 0 bytes ≡ n → 2 ≤ length bytes
+less_two : (n : ℕ) (bytes : List ℕ) → 128 ≤ n → 1 ≤ length bytes → said_after 0 bytes ≡ n → 2 ≤ length bytes
 less_two n [] low some e = absurd (omega arith)
 less_two n (b ∷ []) low some e = absurd (omega arith)
 less_two n (b ∷ c ∷ bs) low some e = omega arith
 
-less_three : (n : ℕ) (bytes : List ℕ) → 16384 ≤ n → 1 ≤ length bytes → said_behind 0 bytes ≡ n → 3 ≤ length bytes
+less_three : (n : ℕ) (bytes : List ℕ) → 16384 ≤ n → 1 ≤ length bytes → said_after 0 bytes ≡ n → 3 ≤ length bytes
 less_three n [] low some e = absurd (omega arith)
 less_three n (b ∷ []) low some e = absurd (omega arith)
 less_three n (b ∷ c ∷ []) low some e = absurd (omega arith)
 less_three n (b ∷ c ∷ d ∷ bs) low some e = omega arith
 
-less_four : (n : ℕ) (bytes : List ℕ) → 2097152 ≤ n → 1 ≤ length bytes → said_behind 0 bytes ≡ n → 4 ≤ length bytes
+less_four : (n : ℕ) (bytes : List ℕ) → 2097152 ≤ n → 1 ≤ length bytes → said_after 0 bytes ≡ n → 4 ≤ length bytes
 less_four n [] low some e = absurd (omega arith)
 less_four n (b ∷ []) low some e = absurd (omega arith)
 less_four n (b ∷ c ∷ []) low some e = absurd (omega arith)

@@ -22,12 +22,12 @@ abbrev pub AreSung : ℕ → ℕ → List Note → ℕ → Type 0
 AreSung voice low [] end = low ≤ end
 AreSung voice low (n ∷ ns) end = IsSung voice low end n × AreSung voice n.end ns end
 
--- a figure, and behind it notes that follow
-figure_first : (f : Figure) (channel k t low end : ℕ) (behind : List Note) → k < 128 → low ≤ t → t + 460 ≤ end → ((u : ℕ) → u ≤ t + 420 → AreSung channel u behind end) → AreSung channel low (notes_in_beat f channel k t ++ behind) end
-figure_first Rest channel k t low end behind small le room follow = follow low (omega arith)
-figure_first One channel k t low end behind small le room follow =
+-- a figure, and after it notes that follow
+figure_first : (f : Figure) (channel k t low end : ℕ) (later : List Note) → k < 128 → low ≤ t → t + 460 ≤ end → ((u : ℕ) → u ≤ t + 420 → AreSung channel u later end) → AreSung channel low (notes_in_beat f channel k t ++ later) end
+figure_first Rest channel k t low end later small le room follow = follow low (omega arith)
+figure_first One channel k t low end later small le room follow =
     (record { of_voice = refl; after = le; order = omega arith; early = omega arith; key = small }, follow (t + 400) (omega arith))
-figure_first Two channel k t low end behind small le room follow = (
+figure_first Two channel k t low end later small le room follow = (
   record { of_voice = refl; after = le; order = omega arith; early = omega arith; key = small },
   (record { of_voice = refl; after = omega arith; order = omega arith; early = omega arith; key = small }, follow (t + 420) (omega arith)),
 )
@@ -40,8 +40,8 @@ beats_sung start channel a zero low end le room = omega arith
 beats_sung start channel a (suc n) low end le room =
     let v = draw start (a + 1) in
     let late : shift v < 21 = mod-lt (v / 4) (omega arith) in
-    let behind : List Note = flat_map (λ beat. beat_notes channel beat (draw start (beat + 1))) (range_with_len (a + 1) n) in
-    figure_first (figure (kind (a % 4) v)) channel (key channel v) (480 * a + shift v) low end behind (small_key channel v) (omega arith) (omega arith)
+    let later : List Note = flat_map (λ beat. beat_notes channel beat (draw start (beat + 1))) (range_with_len (a + 1) n) in
+    figure_first (figure (kind (a % 4) v)) channel (key channel v) (480 * a + shift v) low end later (small_key channel v) (omega arith) (omega arith)
     (λ u early. beats_sung start channel (a + 1) n u end (omega arith) (omega arith))
 
 -- from tick 0 to the last barline

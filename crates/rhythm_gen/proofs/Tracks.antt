@@ -26,22 +26,22 @@ pub note_bytes : (old : List ℕ) (t : ℕ) (n : Note)
 unfolding bytes_from
 note_bytes old t n = simp (append_assoc, append-nil)
 
--- events behind those of notes
-pub bytes_behind : (t : ℕ) (ns : List Note) (more : List (ℕ × List ℕ)) → bytes_from t (flat_map events_of ns ++ more) ≡ bytes_from t (flat_map events_of ns) ++ bytes_from (last_end t ns) more
+-- events after those of notes
+pub bytes_after : (t : ℕ) (ns : List Note) (more : List (ℕ × List ℕ)) → bytes_from t (flat_map events_of ns ++ more) ≡ bytes_from t (flat_map events_of ns) ++ bytes_from (last_end t ns) more
 unfolding bytes_from
-bytes_behind t [] more = refl
-bytes_behind t (n ∷ ns) more =
-    ap (λ (bytes : List ℕ). quantity_bytes (n.onset - t) ++ (((144 + n.channel) ∷ n.key ∷ 64 ∷ []) ++ (quantity_bytes (n.end - n.onset) ++ (((128 + n.channel) ∷ n.key ∷ 0 ∷ []) ++ bytes)))) (bytes_behind n.end ns more)
+bytes_after t [] more = refl
+bytes_after t (n ∷ ns) more =
+    ap (λ (bytes : List ℕ). quantity_bytes (n.onset - t) ++ (((144 + n.channel) ∷ n.key ∷ 64 ∷ []) ++ (quantity_bytes (n.end - n.onset) ++ (((128 + n.channel) ∷ n.key ∷ 0 ∷ []) ++ bytes)))) (bytes_after n.end ns more)
     ∙ simp append_assoc
 
 -- one note more
 pub bytes_push : (t : ℕ) (ns : List Note) (n : Note) → bytes_from t (flat_map events_of (ns ++ n ∷ [])) ≡ bytes_from t (flat_map events_of ns) ++ bytes_from (last_end t ns) (events_of n)
-bytes_push t ns n = ap (bytes_from t) (flat_map-append events_of ns (n ∷ [])) ∙ bytes_behind t ns (events_of n)
+bytes_push t ns n = ap (bytes_from t) (flat_map-append events_of ns (n ∷ [])) ∙ bytes_after t ns (events_of n)
 
 -- the end of the track
 pub bytes_end : (ns : List Note) (end : ℕ) → track_bytes ns end ≡ bytes_from 0 (flat_map events_of ns) ++ (quantity_bytes (end - last_end 0 ns) ++ end_of_track_bytes)
 unfolding bytes_from
-bytes_end ns end = bytes_behind 0 ns ((end, end_of_track_bytes) ∷ []) ∙ simp append-nil
+bytes_end ns end = bytes_after 0 ns ((end, end_of_track_bytes) ∷ []) ∙ simp append-nil
 
 -- seven bytes an event at most
 few_bytes : (t : ℕ) (ns : List Note) → length (bytes_from t (flat_map events_of ns)) ≤ 14 * length ns

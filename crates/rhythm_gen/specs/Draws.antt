@@ -1,7 +1,7 @@
 -- Streams of draws. A stream starts with a number, and each draw gives the next.
 use Rattle.std.specs.Prelude.{ℕ, zero, suc, ◌+◌, ◌*◌, ◌%◌}
 
--- the draw behind another one, or behind the start
+-- the draw after another one, or after the start
 abbrev pub next_draw : ℕ → ℕ
 next_draw s = (75 * s + 74) % 65537
 

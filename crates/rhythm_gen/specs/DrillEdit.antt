@@ -5,7 +5,7 @@ use Rattle.rhythm_base.specs.declared.edit.Edit.TheVariants.{Add, Drop, Move, Ba
 use Rattle.rhythm_base.specs.Performance.{Performance}
 use Rattle.rhythm_gen.specs.Draws.{draw}
 
--- a note is added, from 120 to 240 ticks behind the start of the bar of that number
+-- a note is added, from 120 to 240 ticks after the start of the bar of that number
 abbrev pub added_note : ℕ → ℕ → ℕ → Performance → Option Edit
 added_note channel key bar p = option_map (λ b. Add channel key (b.start + 120) (b.start + 240)) (slice_get p.bars bar)
 

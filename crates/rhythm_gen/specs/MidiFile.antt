@@ -32,7 +32,7 @@ track_chunk_bytes content = chunk_bytes (codes "MTrk") content
 abbrev pub voice_track : ℕ → ℕ → ℕ → List ℕ
 voice_track start bars channel = track_chunk_bytes (track_bytes (voice_notes start bars channel) (1920 * bars))
 
--- The file of a number and a count of bars. Channel 1 goes on in the stream behind the draws of channel 0.
+-- The file of a number and a count of bars. Channel 1 goes on in the stream after the draws of channel 0.
 abbrev pub generated : ℕ → ℕ → List ℕ
 generated number bars =
     header_bytes ++ (track_chunk_bytes conductor ++ (voice_track number bars 0 ++ voice_track (draw number (4 * bars)) bars 1))

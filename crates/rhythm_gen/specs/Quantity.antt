@@ -10,12 +10,12 @@ quantity_bytes n =
     else (if nat_lt n 2097152 then (128 + (n / 16384) % 128) ∷ (128 + (n / 128) % 128) ∷ (n % 128) ∷ []
     else (128 + (n / 2097152) % 128) ∷ (128 + (n / 16384) % 128) ∷ (128 + (n / 128) % 128) ∷ (n % 128) ∷ []))
 
--- the number that bytes say, by the lower seven bits of each, behind what the bytes before them say
-abbrev pub said_behind : ℕ → List ℕ → ℕ
-said_behind n [] = n
-said_behind n (b ∷ bs) = said_behind (128 * n + b % 128) bs
+-- the number that bytes say, by the lower seven bits of each, after what the bytes before them say
+abbrev pub said_after : ℕ → List ℕ → ℕ
+said_after n [] = n
+said_after n (b ∷ bs) = said_after (128 * n + b % 128) bs
 
 -- its quantity says the number, and no fewer bytes do
 pub record IsShortest (n : ℕ) : Type 0 where
-  pub says : said_behind 0 (quantity_bytes n) ≡ n
-  pub shortest : (bytes : List ℕ) → 1 ≤ length bytes → said_behind 0 bytes ≡ n → length (quantity_bytes n) ≤ length bytes
+  pub says : said_after 0 (quantity_bytes n) ≡ n
+  pub shortest : (bytes : List ℕ) → 1 ≤ length bytes → said_after 0 bytes ≡ n → length (quantity_bytes n) ≤ length bytes

@@ -16,7 +16,7 @@ end_of_track_bytes = 255 ∷ 47 ∷ 0 ∷ []
 abbrev pub event_bytes : List Note → ℕ → List (ℕ × List ℕ)
 event_bytes notes end = flat_map events_of notes ++ (end, end_of_track_bytes) ∷ []
 
--- events behind tick t: each message behind the ticks that have passed since the event before it. No status is left out
+-- events after tick t: each message after the ticks that have passed since the event before it. No status is left out
 unfoldable pub bytes_from : ℕ → List (ℕ × List ℕ) → List ℕ
 bytes_from t [] = []
 bytes_from t (event ∷ more) = quantity_bytes (event.0 - t) ++ (event.1 ++ bytes_from event.0 more)

@@ -9,7 +9,7 @@ use std::alloc::{AllocError, Global};
 
 const END_OF_TRACK: [u8; 3] = [0xff, 0x2f, 0];
 
-/// Appends a message that stands so many ticks behind the one before it.
+/// Appends a message that stands so many ticks after the one before it.
 fn push_event(content: &mut Vec<u8>, delta: u64, message: &[u8]) -> Result<(), AllocError>
     requires { delta < 268435456 }
     ensures { OnOk result (content.new.items ≡ content.old.items ++ (quantity_bytes delta ++ message.now)) }
@@ -18,7 +18,7 @@ fn push_event(content: &mut Vec<u8>, delta: u64, message: &[u8]) -> Result<(), A
     content.extend_from_slice(message)
 }
 
-/// Appends the note on and the note off of a note behind the tick.
+/// Appends the note on and the note off of a note after the tick.
 fn push_note(content: &mut Vec<u8>, tick: u64, note: &Note) -> Result<(), AllocError>
     requires { CanBeWritten note.now }
     ensures { OnOk result (content.new.items ≡ content.old.items ++ bytes_from tick (events_of note.now)) }

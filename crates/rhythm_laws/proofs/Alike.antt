@@ -173,24 +173,24 @@ abbrev pub IsCount : Option ℕ → Type 0
 IsCount None = Unit {0}
 IsCount (Some m) = m < 5
 
-module _ (r s : ℕ → Option Key) (l k : Keys) (rows : AreAlike r s) (behind : (m : ℕ) → m < 5 → AreAlike (l m) (k m)) (apart : AreApart r)
+module _ (r s : ℕ → Option Key) (l k : Keys) (rows : AreAlike r s) (after : (m : ℕ) → m < 5 → AreAlike (l m) (k m)) (apart : AreApart r)
     (long : (m m' : ℕ) → m < 5 → m' < 5 → parse (r m) (r m')) (long' : (m m' : ℕ) → m < 5 → m' < 5 → parse (s m) (s m')) where
   via_costs : (b : ℕ) → b < 5 → (o : Option ℕ) → IsCount o → same (via r l b o) (via s k b o)
   via_costs b low None h = tt
-  via_costs b low (Some m) h = joined_same (r m) (s m) (l m b) (k m b) (rows.costs m h) ((behind m h).costs b low)
+  via_costs b low (Some m) h = joined_same (r m) (s m) (l m b) (k m b) (rows.costs m h) ((after m h).costs b low)
 
   via_order : (b c : ℕ) → b < 5 → c < 5 → (o u : Option ℕ) → IsCount o → IsCount u → lists_cmp (via r l b o) (via r l c u) ≡ lists_cmp (via s k b o) (via s k c u)
   via_order b c lb lc None u h g = refl
   via_order b c lb lc (Some m) None h g = none_right (key_sum (r m) (l m b)) ∙ sym (none_right (key_sum (s m) (k m b)))
   via_order b c lb lc (Some m) (Some m') h g =
       joined_order (r m) (s m) (l m b) (k m b) (r m') (s m') (l m' c) (k m' c)
-      (rows.costs m h) ((behind m h).costs b lb) (rows.costs m' g) ((behind m' g).costs c lc)
+      (rows.costs m h) ((after m h).costs b lb) (rows.costs m' g) ((after m' g).costs c lc)
       (long m m' h g) (long' m m' h g) (rows.order m m' h g) last_same
     where
       last_same : (x y : Key) → r m ≡ Some x → r m' ≡ Some y → list_cmp x.1 y.1 ≡ Equal → lists_cmp (l m b) (l m' c) ≡ lists_cmp (k m b) (k m' c)
       last_same x y ex ey e =
           let one_place : m ≡ m' = apart m m' h g x y ex ey (list_equal x.1 y.1 e) in
-          subst (λ w. lists_cmp (l m b) (l w c) ≡ lists_cmp (k m b) (k w c)) one_place ((behind m h).order b c lb lc)
+          subst (λ w. lists_cmp (l m b) (l w c) ≡ lists_cmp (k m b) (k w c)) one_place ((after m h).order b c lb lc)
 
   pub via_alike : (o : ℕ → Option ℕ) → ((b : ℕ) → b < 5 → IsCount (o b)) → AreAlike (λ b. via r l b (o b)) (λ b. via s k b (o b))
   via_alike o h = record {

@@ -99,10 +99,10 @@ end_high e high (n ∷ ns) le h =
     let one : n.end ≤ high = all_head (λ m. m.end ≤ high) n ns h in
     end_high (max e n.end) high ns (omega (arith, le, one)) (all_tail (λ m. m.end ≤ high) n ns h)
 
-pub ends_behind : (tempos : List Tempo) (division window high : ℕ) (notes : List Note) (cs : List Chord) → AreChords tempos division window notes cs
+pub chords_end_after : (tempos : List Tempo) (division window high : ℕ) (notes : List Note) (cs : List Chord) → AreChords tempos division window notes cs
     → All (λ n. (n.onset ≤ n.end) × (n.end ≤ high)) notes → All (λ c. (c.onset ≤ c.end) × (c.end ≤ high)) cs
-ends_behind tempos division window high notes [] h all = All-nil (λ (c : Chord). (c.onset ≤ c.end) × (c.end ≤ high))
-ends_behind tempos division window high notes (c ∷ cs) (f, xs, us, e, p, a, m, h) all =
+chords_end_after tempos division window high notes [] h all = All-nil (λ (c : Chord). (c.onset ≤ c.end) × (c.end ≤ high))
+chords_end_after tempos division window high notes (c ∷ cs) (f, xs, us, e, p, a, m, h) all =
     let P : Note → Type 0 = λ n. (n.onset ≤ n.end) × (n.end ≤ high) in
     let parts : All P (f ∷ (xs ++ us)) = subst (All P) e all in
     let first : P f = all_head P f (xs ++ us) parts in
@@ -112,4 +112,4 @@ ends_behind tempos division window high notes (c ∷ cs) (f, xs, us, e, p, a, m,
     let onset : c.onset ≡ f.onset = ap (λ (x : Chord). x.onset) m in
     let end : c.end ≡ fold (λ k m. max k m.end) f.end xs = ap (λ (x : Chord). x.end) m in
     all_cons (λ (x : Chord). (x.onset ≤ x.end) × (x.end ≤ high)) c cs (omega (arith, first.0, low, onset, end), omega (arith, top, end))
-    (ends_behind tempos division window high us cs h (all_right P xs us rest))
+    (chords_end_after tempos division window high us cs h (all_right P xs us rest))

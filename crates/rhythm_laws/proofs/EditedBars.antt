@@ -17,7 +17,7 @@ barline_is [] last k lt = absurd (omega arith)
 barline_is (b ∷ bars) last zero lt = refl
 barline_is (b ∷ bars) last (suc k) lt = barline_is bars last k (omega arith)
 
--- and the last barline stands behind them
+-- and the last barline stands after them
 pub barline_last : (bars : List Bar) (last k : ℕ) → length bars ≤ k → barline bars last k ≡ last
 barline_last [] last k le = refl
 barline_last (b ∷ bars) last zero le = absurd (omega arith)
@@ -29,7 +29,7 @@ start_all P [] all k lt = absurd (omega arith)
 start_all P (b ∷ bars) all zero lt = all_head (λ b. P b.start) b bars all
 start_all P (b ∷ bars) all (suc k) lt = start_all P bars (all_tail (λ b. P b.start) b bars all) k (omega arith)
 
--- the barline behind a bar is behind its start, and not behind the last one
+-- the barline after a bar is after its start, and not after the last one
 pub barlines_rise : (bars : List Bar) (last n : ℕ) → IsStrictlyIncreasing (starts bars) → All (λ b. b.start < last) bars → n < length bars
     → (barline bars last n < barline bars last (n + 1)) × (barline bars last (n + 1) ≤ last)
 barlines_rise bars last n up before lt = by (cases_lt (n + 1) (length bars))

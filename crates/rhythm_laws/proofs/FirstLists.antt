@@ -38,7 +38,7 @@ module _ {X : Type 0} (E : X → X → Type 0) (apart : (x y : X) → E x y → 
     pub few : length xs ≤ count
     pub first : (a : X) → S a → Contains xs a ⊎ ((length xs ≡ count) × All (λ b. E b a) xs)
 
-  -- an element is the first one, or behind it
+  -- an element is the first one, or after it
   heads : (S : X → Type 0) (count : ℕ) (x : X) (xs : List X) (a : X) → AreFirst S count (x ∷ xs) → S a → (x ≡ a) ⊎ E x a
   heads S count x xs a h s = elim (h.first a s) [
     | inl there ↦ elim (contains_split a x xs there) [
@@ -48,7 +48,7 @@ module _ {X : Type 0} (E : X → X → Type 0) (apart : (x y : X) → E x y → 
     | inr full ↦ inr (all_head (λ b. E b a) x xs full.1)
   ]
 
-  -- those behind the first are the first of those behind it
+  -- those after the first are the first of those after it
   tails : (S : X → Type 0) (count : ℕ) (x : X) (xs : List X) → AreFirst S (suc count) (x ∷ xs) → AreFirst (λ a. S a × E x a) count xs
   tails S count x xs h =
       let after = pairs_head E x xs h.in_order in

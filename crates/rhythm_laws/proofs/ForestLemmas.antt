@@ -137,8 +137,8 @@ module _ (d : Ground) (ground : IsGround d) (p : ℕ) (q : ℕ × ℕ) (qs : Lis
       let one_width : p + (q.0 + 0) ≡ p + q.0 = omega arith in
       let own : SideBySide p (leaves d.book.rules p (q ∷ []) (more r k none)) (p + q.0) = subst (SideBySide p (leaves d.book.rules p (q ∷ []) (more r k none))) one_width fill in
       let line = parts-line d.book.resolution d.bar p (p + q.0) (leaves d.book.rules p (q ∷ []) (more r k none)) ground.long own in
-      let behind = parts-line d.book.resolution d.bar (p + q.0) (p + q.0 + sizes qs) (leaves d.book.rules (p + q.0) qs rest) ground.long others in
-      let sums = charges-beside d.book (reach d.book.resolution d.bar p) (reach d.book.resolution d.bar (p + q.0)) (reach d.book.resolution d.bar (p + q.0 + sizes qs)) (in_bar d.bar (leaves d.book.rules p (q ∷ []) (more r k none))) (in_bar d.bar (leaves d.book.rules (p + q.0) qs rest)) d.chords line behind in
+      let after = parts-line d.book.resolution d.bar (p + q.0) (p + q.0 + sizes qs) (leaves d.book.rules (p + q.0) qs rest) ground.long others in
+      let sums = charges-beside d.book (reach d.book.resolution d.bar p) (reach d.book.resolution d.bar (p + q.0)) (reach d.book.resolution d.bar (p + q.0 + sizes qs)) (in_bar d.bar (leaves d.book.rules p (q ∷ []) (more r k none))) (in_bar d.bar (leaves d.book.rules (p + q.0) qs rest)) d.chords line after in
       let rules_sum = ap (weights d.book) (preorder-first r k rest) ∙ weights-append d.book (preorder (more r k none)) (preorder rest) in
       let onset_sum = ap (λ l. charges d.book (in_bar d.bar l) d.chords) (all_leaves r k rest) ∙ ap (λ l. charges d.book l d.chords) (in_bar-append d.bar (leaves d.book.rules p (q ∷ []) (more r k none)) (leaves d.book.rules (p + q.0) qs rest)) ∙ sums in
       omega (arith, rules_sum, onset_sum)
@@ -170,14 +170,14 @@ module _ (d : Ground) (ground : IsGround d) (p : ℕ) (q : ℕ × ℕ) (qs : Lis
   join_key s f t key (n, low, (x, y, (none, stands, is), others, sum)) = let no : false ≡ true = stands.trees in absurd (cc)
   join_key s f t key (n, low, (x, y, (more r k (more r' k' rest'), stands, is), others, sum)) =
       let no : false ≡ true = (first_trees d q [] r k (more r' k' rest') stands.trees).1 in absurd (cc)
-  join_key s f t key (n, low, (x, y, (more r k none, stands, is), (rest, behind, is'), sum)) =
-      let trees = join_trees d q qs r k rest stands.trees behind.trees in
+  join_key s f t key (n, low, (x, y, (more r k none, stands, is), (rest, after, is'), sum)) =
+      let trees = join_trees d q qs r k rest stands.trees after.trees in
       let own = subst (λ l. FitsAt d.book.resolution d.bar d.chords d.before p l f n) (first_leaves r k) stands.fits in (
         more r k rest,
         record {
           trees = trees;
-          shaped = join_shapes s r k rest stands.shaped behind.shaped;
-          fits = trees-join d.book.rules d.book.resolution d.bar d.chords d.bar.start d.before ground.rise ground.long p q qs r k rest wide.0 trees f n t own behind.fits;
+          shaped = join_shapes s r k rest stands.shaped after.shaped;
+          fits = trees-join d.book.rules d.book.resolution d.bar d.chords d.bar.start d.before ground.rise ground.long p q qs r k rest wide.0 trees f n t own after.fits;
         },
         sum ∙ (λ i. plus (is i) (is' i)) ∙ sym (λ i. (forest_cost-first r k rest trees i, preorder-first r k rest i)),
       )

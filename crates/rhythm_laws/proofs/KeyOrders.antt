@@ -73,7 +73,7 @@ then_assoc Less b c = refl
 then_assoc Equal b c = refl
 then_assoc Greater b c = refl
 
--- lists that are as long: what comes behind decides last
+-- lists that are as long: what comes after decides last
 pub append_cmp : (x y v w : List ℕ) → length x ≡ length y → list_cmp (x ++ v) (y ++ w) ≡ ordering_then (list_cmp x y) (list_cmp v w)
 append_cmp [] [] v w e = refl
 append_cmp [] (d ∷ y) v w e = absurd (omega arith)
@@ -110,7 +110,7 @@ sums_above a b c d o u f g = go (means a c o f) (means b d u g)
     go (inr h) (inl k) = over (a + b) (c + d) (ordering_then o u) (omega (arith, h.0))
     go (inr h) (inr k) = level (a + b) (c + d) (ordering_then o u) (omega (arith, h.0, k.0)) (then_above o u h.1 k.1)
 
--- neither list is a proper beginning of the other, so that what stands behind them comes after
+-- neither list is a proper beginning of the other, so that what stands after them comes after
 abbrev pub Parse : List ℕ → List ℕ → Type 0
 Parse x y = (u v : List ℕ) → list_cmp (x ++ u) (y ++ v) ≡ ordering_then (list_cmp x y) (list_cmp u v)
 

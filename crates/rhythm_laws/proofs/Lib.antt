@@ -19,6 +19,7 @@ pub mod ProductCosts
 pub mod Meetings
 pub mod Ranks
 pub mod Parsing
+pub mod EqualCuts
 pub mod ForestLemmas
 pub mod Attachments
 pub mod OrderedLists

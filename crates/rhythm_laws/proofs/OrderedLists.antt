@@ -63,7 +63,7 @@ through a b c h k false is =
     let wrong = above nat_list_cmp_total b a c back is in
     absurd (cc)
 
--- before the one and behind the other
+-- before the one and after the other
 pub goes_through : (a b c : List ℕ) → earlier a b ≡ true → earlier b c ≡ true → earlier a c ≡ true
 goes_through a b c h k = through a b c h k (earlier a c) refl
 
@@ -82,19 +82,19 @@ module _ {X : Type 0} (place : X → List ℕ) where
   abbrev is_before : X → X → Bool
   is_before x y = earlier (place y) (place x)
 
-  abbrev is_behind : X → X → Bool
-  is_behind x y = not (is_before x y)
+  abbrev is_not_before : X → X → Bool
+  is_not_before x y = not (is_before x y)
 
   abbrev Differs : X → X → Type 0
   Differs x y = place y ≡ place x → ⊥
 
-  -- what stands behind x in a list without its place
-  behind : (x y : X) → is_behind x y ≡ true → Differs x y → Before x y
-  behind x y h differ = is_less _ (other_way (place y) (place x) (not-true (is_before x y) h) differ)
+  -- what stands after x in a list without its place
+  after : (x y : X) → is_not_before x y ≡ true → Differs x y → Before x y
+  after x y h differ = is_less _ (other_way (place y) (place x) (not-true (is_before x y) h) differ)
 
   -- what stands before x stands before all that x does
-  all_behind : (x y : X) (xs : List X) → is_before x y ≡ true → All (Before x) xs → All (Before y) (x ∷ xs)
-  all_behind x y xs h lasts =
+  all_after : (x y : X) (xs : List X) → is_before x y ≡ true → All (Before x) xs → All (Before y) (x ∷ xs)
+  all_after x y xs h lasts =
       all_cons (Before y) x xs (is_less _ h)
       (λ k d lt. is_less _ (goes_through (place y) (place x) (place (get_or xs k d)) h (by_less _ (lasts k d lt))))
 
@@ -102,17 +102,17 @@ module _ {X : Type 0} (place : X → List ℕ) where
   pub put_in_order : (x : X) (xs : List X) → AreInOrder place xs → All (Differs x) xs → AreInOrder place (list_with place x xs)
   put_in_order x xs h differ =
       let P : X → Bool = is_before x in
-      let Q : X → Bool = is_behind x in
+      let Q : X → Bool = is_not_before x in
       let firsts : All (λ y. is_before x y ≡ true) (filter P xs) = filter_passes P xs in
       let lasts : All (Before x) (filter Q xs) =
-      λ k d lt. behind x (get_or (filter Q xs) k d) (filter_passes Q xs k d lt) (All-filter Q (Differs x) xs differ k d lt) in
+      λ k d lt. after x (get_or (filter Q xs) k d) (filter_passes Q xs k d lt) (All-filter Q (Differs x) xs differ k d lt) in
       pairs_append Before (filter P xs) (x ∷ filter Q xs)
       (AllPairs-filter Before P xs h)
       (AllPairs-cons Before x (filter Q xs) lasts (AllPairs-filter Before Q xs h))
-      (λ k d lt. all_behind x (get_or (filter P xs) k d) (filter Q xs) (firsts k d lt) lasts)
+      (λ k d lt. all_after x (get_or (filter P xs) k d) (filter Q xs) (firsts k d lt) lasts)
 
   -- whatever holds of the list and of one more holds of the list with it
   pub All-put : (P : X → Type 0) (x : X) (xs : List X) → P x → All P xs → All P (list_with place x xs)
   All-put P x xs p h =
-      All-append P (filter (is_before x) xs) (x ∷ filter (is_behind x) xs) (All-filter (is_before x) P xs h)
-      (all_cons P x (filter (is_behind x) xs) p (All-filter (is_behind x) P xs h))
+      All-append P (filter (is_before x) xs) (x ∷ filter (is_not_before x) xs) (All-filter (is_before x) P xs h)
+      (all_cons P x (filter (is_not_before x) xs) p (All-filter (is_not_before x) P xs h))

@@ -1,4 +1,4 @@
--- Rule lists parse in one way: trees whose lists begin alike, whatever stands behind, are the same, over any widths and of any symbols.
+-- Rule lists parse in one way: trees whose lists begin alike, whatever stands after, are the same, over any widths and of any symbols.
 use Rattle.std.proofs.Common.{◌≡◌, ℕ, true, List, [], ◌∷◌, ◌++◌, length, refl, sym, ap, ◌∙◌, subst, append_assoc, append-nil}
 use Rattle.std.specs.Prelude.{slice_get}
 use Rattle.rhythm_base.specs.declared.rule.Rule.{Rule}

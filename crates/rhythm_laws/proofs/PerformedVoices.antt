@@ -15,7 +15,7 @@ use Rattle.rhythm_base.specs.Line.{Rising}
 use Rattle.rhythm_base.specs.Performance.{IsNoteOf, IsWellFormed, Performance}
 use Rattle.rhythm_base.specs.Grammar.{Grammar}
 use Rattle.rhythm_base.specs.Voices.{AreChordsOf, voice_bars, voice_bars_from, notes_of_voice}
-use Rattle.rhythm_laws.proofs.ChordLemmas.{ends_behind, onsets_keep, onsets_rise, rise_later, soundings_rise}
+use Rattle.rhythm_laws.proofs.ChordLemmas.{chords_end_after, onsets_keep, onsets_rise, rise_later, soundings_rise}
 use Rattle.rhythm_laws.proofs.EditedBars.{barline_is, barlines_rise, starts}
 use Rattle.rhythm_laws.proofs.OrderedLists.{all_head, all_tail}
 use Rattle.rhythm_laws.specs.Voices.{Adjacent, IsVoice}
@@ -57,7 +57,7 @@ module _ (g : Grammar) (p : Performance) (channel : ℕ) (cs : List Chord) (w : 
 
   -- no chord ends before its onset
   pub ends_after : All (λ c. c.onset ≤ c.end) cs
-  ends_after k d lt = (ends_behind p.tempos p.division g.window p.last (notes_of_voice p channel) cs are (λ i n below. ((notes_are i n below).after, (notes_are i n below).end)) k d lt).0
+  ends_after k d lt = (chords_end_after p.tempos p.division g.window p.last (notes_of_voice p channel) cs are (λ i n below. ((notes_are i n below).after, (notes_are i n below).end)) k d lt).0
 
   near : Adjacent 0 (voice_bars g p channel) p.last
   near =

@@ -164,11 +164,11 @@ tests_same (Some x) (Some y) (Some u) (Some v) (Some e) (Some f) (Some g) (Some 
 pub middle_same : (r : ℕ → Option Key) (l : Keys) (e : ℕ → Option Best) (f : ℕ → ℕ → Option Best) → AreAlike r (λ m. key_of (e m)) → ((m : ℕ) → m < 5 → AreAlike (l m) (λ b. key_of (f m b)))
     → ((m m' : ℕ) → m < 5 → m' < 5 → parse (r m) (r m')) → AreApart (λ m. key_of (e m)) → (b : ℕ) → b < 5
     → number_of (pick is_before (λ m. key_sum (r m) (l m b)) 5) ≡ number_of (pick sum_before (λ m. summed (e m) (f m b)) 5)
-middle_same r l e f rows behind long apart b low =
+middle_same r l e f rows after long apart b low =
     pick_same is_before sum_before (λ m. key_sum (r m) (l m b)) (λ m. summed (e m) (f m b)) 5
-    (λ m k. there_same (r m) (l m b) (e m) (f m b) (rows.costs m k) ((behind m k).costs b low))
+    (λ m k. there_same (r m) (l m b) (e m) (f m b) (rows.costs m k) ((after m k).costs b low))
     (λ i j k less. let k' : j < 5 = omega arith in
-    tests_same (r i) (l i b) (r j) (l j b) (e i) (f i b) (e j) (f j b) (rows.costs i k) ((behind i k).costs b low) (rows.costs j k') ((behind j k').costs b low)
+    tests_same (r i) (l i b) (r j) (l j b) (e i) (f i b) (e j) (f j b) (rows.costs i k) ((after i k).costs b low) (rows.costs j k') ((after j k').costs b low)
     (long i j k k') (rows.order i j k k') (other i j k k' less))
   where
     other : (i j : ℕ) → i < 5 → j < 5 → j < i → (x y : Best) → e i ≡ Some x → e j ≡ Some y → x.rank ≢ y.rank

@@ -57,14 +57,14 @@ inside_both true false true h k = absurd (let no = h refl in cc)
 inside_both true false false h k = refl
 inside_both false b c h k = k
 
-behind_both : (a b c : Bool) → (b ≡ true → a ≡ true) → b && not c ≡ true → a && not c ≡ true
-behind_both true b c h k = go b c k
+after_both : (a b c : Bool) → (b ≡ true → a ≡ true) → b && not c ≡ true → a && not c ≡ true
+after_both true b c h k = go b c k
   where
     go : (b c : Bool) → b && not c ≡ true → not c ≡ true
     go true c k = k
     go false c k = absurd (cc)
-behind_both false true c h k = absurd (let no = h refl in cc)
-behind_both false false c h k = k
+after_both false true c h k = absurd (let no = h refl in cc)
+after_both false false c h k = k
 
 -- the rules of leaves agree with what is carried to the first alone, where all sound or none does
 abbrev pub calm : Bool → ℕ → List Ending → Bool
@@ -92,7 +92,7 @@ module _ {X : Type 0} (K : Looks X) (cs : List Inner) where
     no_rights = ap (map (λ c. c.end)) (filter_quiet (between s z) (λ t. K.lies x t && not (K.left x t)) cs (λ t h. inside t (and_left (K.lies x t) _ h)) quiet)
 
     quiet_rest : none_between line.0 z cs ≡ true
-    quiet_rest = all_quiet (between s z) (between line.0 z) cs (λ t h. behind_both (s t) (line.0 t) (z t) (line.1.back t) h) quiet
+    quiet_rest = all_quiet (between s z) (between line.0 z) cs (λ t h. after_both (s t) (line.0 t) (z t) (line.1.back t) h) quiet
 
   pub runs-calm : (s z : ℕ → Bool) (e f : ℕ) (b : Bool) (xs : List X) → IsLine K s xs z → none_between s z cs ≡ true → AllSound K e b xs → runs K cs e f xs ≡ calm b f (map K.ending xs)
   runs-calm s z e f b [] line quiet all = refl
@@ -113,7 +113,7 @@ charge-quiet g s z [] t line h = refl
 charge-quiet g s z (x ∷ xs) t line h = go (lies_in g.resolution x t) refl (charge-quiet g line.0 z xs t line.2 (off_too (between line.0 z t) refl))
   where
     off_too : (b : Bool) → between line.0 z t ≡ b → b ≡ false
-    off_too true e = let on = behind_both (s t) (line.0 t) (z t) (line.1.back t) e in absurd (cc)
+    off_too true e = let on = after_both (s t) (line.0 t) (z t) (line.1.back t) e in absurd (cc)
     off_too false e = refl
 
     go : (b : Bool) → lies_in g.resolution x t ≡ b → charge g xs t ≡ 0 → charge g (x ∷ xs) t ≡ 0

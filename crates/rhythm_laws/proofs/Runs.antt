@@ -3,6 +3,7 @@ use Rattle.std.proofs.Common.{◌≡◌, ℕ, suc, ◌+◌, ◌≤◌, ◌==◌,
 use Rattle.std.specs.Prelude.{⊤}
 use Rattle.std.proofs.lemmas.List.{map-append}
 use Rattle.std.proofs.lemmas.Bool.Decides.{nat_tests}
+use Rattle.std.proofs.lemmas.Bool.{false≢true, not-true, true≢false}
 use Rattle.rhythm_base.proofs.Booleans.{and_left, and_right}
 use Rattle.rhythm_laws.proofs.Reading.{between, chords_split, last_end-append}
 use Rattle.rhythm_base.specs.Lists.{last_end}
@@ -10,6 +11,8 @@ use Rattle.rhythm_base.specs.declared.inner.Inner.{Inner}
 use Rattle.rhythm_base.specs.Line.{Rising, Looks, agrees}
 use Rattle.rhythm_base.specs.declared.rule.Ending.{Ending}
 use Rattle.rhythm_base.specs.declared.rule.Ending.TheVariants.{Note, Short, Tie, Rest, Grace}
+use Rattle.rhythm_base.specs.Bodies.{sound_kind}
+use Rattle.rhythm_base.specs.Spans.{begins_chord, is_rest, is_short, is_tie}
 use Rattle.rhythm_laws.specs.Runs.{lefts, rights, runs, leaving, ending, IsLine}
 
 and_assoc : (a b c : Bool) → (a && b) && c ≡ a && (b && c)
@@ -37,6 +40,53 @@ agrees-one (Grace m) n k s t h j =
     let a = and_right (nat_lt 0 m && nat_lt m 4) (n == m + 1) h in
     let b = and_right (nat_lt 0 m && nat_lt m 4) (k == m + 1) j in
     grind (arith, nat_tests)
+
+-- a leaf in which a chord begins has one or more attached to it
+pub agrees-begins : (b : Ending) (n : ℕ) (s : Bool) → begins_chord (sound_kind b) ≡ true → agrees b n s ≡ true → 1 ≤ n
+agrees-begins Note n s k h = let one = and_left (n == 1) s h in grind (arith, nat_tests)
+agrees-begins Short n s k h = let one = and_left (n == 1) (not s) h in grind (arith, nat_tests)
+agrees-begins Tie n s k h = absurd (false≢true k)
+agrees-begins Rest n s k h = absurd (false≢true k)
+agrees-begins (Grace m) n s k h = let all = and_right (nat_lt 0 m && nat_lt m 4) (n == m + 1) h in grind (arith, nat_tests)
+
+-- any other leaf has none
+pub agrees-silent : (b : Ending) (n : ℕ) (s : Bool) → begins_chord (sound_kind b) ≡ false → agrees b n s ≡ true → n ≡ 0
+agrees-silent Note n s k h = absurd (true≢false k)
+agrees-silent Short n s k h = absurd (true≢false k)
+agrees-silent Tie n s k h = let none = and_left (n == 0) s h in grind (arith, nat_tests)
+agrees-silent Rest n s k h = let none = and_left (n == 0) (not s) h in grind (arith, nat_tests)
+agrees-silent (Grace m) n s k h = absurd (true≢false k)
+
+-- the latest chord sounds in a tie
+pub agrees-tied : (b : Ending) (n : ℕ) (s : Bool) → is_tie (sound_kind b) ≡ true → agrees b n s ≡ true → s ≡ true
+agrees-tied Note n s k h = absurd (false≢true k)
+agrees-tied Short n s k h = absurd (false≢true k)
+agrees-tied Tie n s k h = and_right (n == 0) s h
+agrees-tied Rest n s k h = absurd (false≢true k)
+agrees-tied (Grace m) n s k h = absurd (false≢true k)
+
+-- and not in a short leaf or in a rest
+pub agrees-short : (b : Ending) (n : ℕ) (s : Bool) → is_short (sound_kind b) ≡ true → agrees b n s ≡ true → s ≡ false
+agrees-short Note n s k h = absurd (false≢true k)
+agrees-short Short n s k h = not-true s (and_right (n == 1) (not s) h)
+agrees-short Tie n s k h = absurd (false≢true k)
+agrees-short Rest n s k h = absurd (false≢true k)
+agrees-short (Grace m) n s k h = absurd (false≢true k)
+
+pub agrees-rest : (b : Ending) (n : ℕ) (s : Bool) → is_rest (sound_kind b) ≡ true → agrees b n s ≡ true → s ≡ false
+agrees-rest Note n s k h = absurd (false≢true k)
+agrees-rest Short n s k h = absurd (false≢true k)
+agrees-rest Tie n s k h = absurd (false≢true k)
+agrees-rest Rest n s k h = not-true s (and_right (n == 0) (not s) h)
+agrees-rest (Grace m) n s k h = absurd (false≢true k)
+
+-- a short leaf has one chord
+pub agrees-one_short : (b : Ending) (n : ℕ) (s : Bool) → is_short (sound_kind b) ≡ true → agrees b n s ≡ true → n ≡ 1
+agrees-one_short Note n s k h = absurd (false≢true k)
+agrees-one_short Short n s k h = let one = and_left (n == 1) (not s) h in grind (arith, nat_tests)
+agrees-one_short Tie n s k h = absurd (false≢true k)
+agrees-one_short Rest n s k h = absurd (false≢true k)
+agrees-one_short (Grace m) n s k h = absurd (false≢true k)
 
 module _ {X : Type 0} (K : Looks X) (cs : List Inner) where
   pub runs-append : (e f : ℕ) (xs ys : List X) → runs K cs e f (xs ++ ys) ≡ runs K cs e f xs && runs K cs (ending K cs e xs) (leaving K cs f xs) ys

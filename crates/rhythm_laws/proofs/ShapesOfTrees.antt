@@ -144,7 +144,7 @@ half-falls names rules bodies n r q at suit = go (slice_get rules r) refl n at s
 -- ---- a readable grammar
 
 module _ (g : Grammar) (readable : IsReadable g) where
-  body-of : (r : ℕ) (rule : Rule) → slice_get g.rules r ≡ Some rule → IsBody g.version (length g.names) rule.body
+  pub body-of : (r : ℕ) (rule : Rule) → slice_get g.rules r ≡ Some rule → IsBody g.version (length g.names) rule.body
   body-of r rule e =
       let P : Rule → Type 0 = λ x. IsBody g.version (length g.names) x.body in
       subst P (get_or_from_slice_get g.rules r rule rule e) (readable.bodies r rule (slice_get_within g.rules r rule e))

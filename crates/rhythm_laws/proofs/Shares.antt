@@ -20,7 +20,7 @@ equal_below : (v w : ℕ) (ks : List ℕ) → 1 ≤ v → v < w → AreBelow w (
 equal_below v w [] h k = tt
 equal_below v w (s ∷ ks) h k = (h, k, equal_below v w ks h k)
 
--- sizes behind others of the sum before
+-- sizes after others of the sum before
 unequal_below : (v w before : ℕ) (ps : List (ℕ × ℕ)) → 1 ≤ v → (before + sizes ps) * v ≡ w → list_all (λ q. nat_lt 0 q.0) ps ≡ true → 2 ≤ before + length ps → AreBelow w (map (λ q. (q.0 * v, q.1)) ps)
 unequal_below v w before [] h e some many = tt
 unequal_below v w before (q ∷ qs) h e some many =

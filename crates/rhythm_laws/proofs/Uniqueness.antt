@@ -101,10 +101,10 @@ one_chords tempos division window notes (x ∷ cs) [] c d = let wrong : c.0 ∷ 
 one_chords tempos division window notes (x ∷ cs) (y ∷ ds) c d =
     let whole : c.0 ∷ (c.1 ++ c.2) ≡ d.0 ∷ (d.1 ++ d.2) = sym c.3 ∙ d.3 in
     let first : c.0 ≡ d.0 = cc in
-    let behind : c.1 ++ c.2 ≡ d.1 ++ d.2 = cc in
+    let after : c.1 ++ c.2 ≡ d.1 ++ d.2 = cc in
     let joins : All (Joins tempos division window d.0) c.1 = subst (λ n. All (Joins tempos division window n) c.1) first c.4 in
     let apart : StandsApart tempos division window d.0 c.2 = subst (λ n. StandsApart tempos division window n c.2) first c.5 in
-    let split = one_split tempos division window d.0 c.1 d.1 c.2 d.2 joins d.4 apart d.5 behind in
+    let split = one_split tempos division window d.0 c.1 d.1 c.2 d.2 joins d.4 apart d.5 after in
     let rest = one_chords tempos division window d.2 cs ds (subst (λ l. AreChords tempos division window l cs) split.1 c.7) d.7 in
     let head : x ≡ y = c.6 ∙ (λ i. chord_of (first i) (split.0 i)) ∙ sym d.6 in
     λ i. head i ∷ rest i

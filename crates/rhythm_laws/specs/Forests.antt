@@ -38,7 +38,7 @@ abbrev pub one_shape : Option Shape → Option Shape
 one_shape None = None
 one_shape (Some x) = Some (part x end)
 
--- the shapes of the first tree alone, and those of the trees behind it
+-- the shapes of the first tree alone, and those of the trees after it
 abbrev pub first_shape : Option Shape → Option Shape
 first_shape None = None
 first_shape (Some end) = Some end

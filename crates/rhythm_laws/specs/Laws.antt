@@ -31,7 +31,7 @@ use Rattle.rhythm_base.specs.Performance.{IsWellFormed, Performance}
 use Rattle.rhythm_base.specs.Ranked.{CarryMatrix, Key, Keys, at, product_of, table, table_of, times}
 use Rattle.rhythm_base.specs.Grammar.{Grammar}
 use Rattle.rhythm_base.specs.Bodies.{sizes}
-use Rattle.rhythm_base.specs.Trees.{are_trees, is_tree, leaves_of, are_shaped, shape_of}
+use Rattle.rhythm_base.specs.Trees.{are_trees, is_tree, leaves, leaves_of, are_shaped, shape_of}
 use Rattle.rhythm_base.specs.Reached.{AreReached}
 use Rattle.rhythm_base.specs.Voices.{AreChordsOf, IsCostOf, IsDeadVoice, IsLeastCost, IsLeastOf, voice_bars}
 use Rattle.rhythm_base.specs.Readable.{IsReadable}
@@ -41,7 +41,7 @@ use Rattle.rhythm_laws.specs.Meetings.{IsNoLater, Meeting, sum_of}
 use Rattle.rhythm_laws.specs.Passes.{HasPass}
 use Rattle.rhythm_laws.specs.Quiet.{SoundAlike}
 use Rattle.rhythm_laws.specs.Tables.{AllRanked}
-use Rattle.rhythm_laws.specs.VersionOne.{displaced}
+use Rattle.rhythm_laws.specs.VersionOne.{are_equal_trees, displaced, equal_leaves}
 use Rattle.rhythm_laws.specs.Voices.{Adjacent, AreCounts, HoldsChords, IsVoice, cell_costs}
 
 -- A derivation of a voice fits exactly where there are counts at the barlines, 0 at both ends, with which each tree fits its
@@ -78,7 +78,7 @@ DeadBarsAreByCounts =
     (g : Grammar) (bars : List VoiceBar) (cs : List Inner) (i : ℕ) → IsVoice g bars cs
     → IsDead g bars cs i ↔ ((i < length bars) × (HasPass g bars cs i → ⊥) × ((j : ℕ) → j < i → HasPass g bars cs j))
 
--- the table of a list of ranked matrices, and of another behind it, is the product of the two tables
+-- the table of a list of ranked matrices, and of another after it, is the product of the two tables
 abbrev pub TablesMultiply : Type 0
 TablesMultiply = (es fs : List CarryMatrix) → AllRanked es → table (es ++ fs) ≡ product_of (table es) (table fs)
 
@@ -99,6 +99,11 @@ abbrev pub OneWeightIsAsBefore : Type 0
 OneWeightIsAsBefore =
     (g : Grammar) (bars : List VoiceBar) (cs : List Inner) (ts : List Tree) (onset : ℕ) → g.early ≡ onset → g.late ≡ onset
     → cost g bars cs ts ≡ weights g (sequence_of ts) + onset * displaced g.resolution (voice_leaves g bars ts) cs
+
+-- A grammar of version 1 has the trees that it had before cuts could be unequal, with the same leaves.
+pub record EqualCutsAreAsBefore : Type 0 where
+  pub trees : (g : Grammar) (qs : List (ℕ × ℕ)) (f : Forest) → IsReadable g → g.version ≡ 1 → are_trees g.rules qs f ≡ are_equal_trees g.rules qs f
+  pub leaves : (g : Grammar) (p : ℕ) (qs : List (ℕ × ℕ)) (f : Forest) → IsReadable g → g.version ≡ 1 → leaves g.rules p qs f ≡ equal_leaves g.rules p qs f
 
 -- The least of trees side by side, for each number of chords carried in and out, are the least of the first tree and of the
 -- others, with the count between them that gives the least; and their costs and ranks are the product of those of the first

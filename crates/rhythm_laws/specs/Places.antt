@@ -6,7 +6,7 @@ use Rattle.rhythm_base.specs.declared.inner.Inner.{Inner}
 use Rattle.rhythm_base.specs.Trees.{BarLeaf}
 use Rattle.rhythm_laws.specs.Runs.{leaving, runs}
 
--- an onset is at or behind the unit p of a bar of r units
+-- an onset is at or after the unit p of a bar of r units
 abbrev pub reach : ℕ → VoiceBar → ℕ → ℕ → Bool
 reach r bar p t = nat_le bar.start t && nat_le (p * bar.length) ((t - bar.start) * r)
 

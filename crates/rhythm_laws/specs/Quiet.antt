@@ -12,7 +12,7 @@ is_quiet d p w = list_all (λ c. not (reach d.book.resolution d.bar p c.onset &&
 abbrev pub end_at : Ground → ℕ → ℕ
 end_at d p = end_before d.book.resolution d.bar d.chords d.before p
 
--- no chord begins in the w units from the unit p on, and the last one before them ends at or behind their end
+-- no chord begins in the w units from the unit p on, and the last one before them ends at or after their end
 pub record IsSounding (d : Ground) (p w : ℕ) : Type 0 where
   pub quiet : is_quiet d p w ≡ true
   pub through : d.bar.start * d.book.resolution + (p + w) * d.bar.length ≤ end_at d p * d.book.resolution

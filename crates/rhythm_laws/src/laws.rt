@@ -3,6 +3,7 @@ ghost use Rattle.rhythm_laws.specs.Laws.{
   BarsAreLocal,
   CountsAreOne,
   DeadBarsAreByCounts,
+  EqualCutsAreAsBefore,
   LeastForestsAreOfTheLeast,
   ListsAreNoPrefixes,
   OneBarIsAVoice,
@@ -63,6 +64,11 @@ pub fn one_table_is_its_own()
 /// A grammar of one onset weight means what it meant before grammars could have two.
 pub fn one_weight_is_as_before()
     ensures { OneWeightIsAsBefore }
+{}
+
+/// A grammar of version 1 has the trees that it had before cuts could be unequal.
+pub fn equal_cuts_are_as_before()
+    ensures { EqualCutsAreAsBefore }
 {}
 
 /// The least trees side by side are made of the least trees, and ranks stand for rule lists.

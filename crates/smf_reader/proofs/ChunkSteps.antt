@@ -18,7 +18,7 @@ pub record ComesTo (bytes : List ℕ) (front : List Track) (left : ℕ) (p : ℕ
   pub enough : length bytes ≤ p + fuel
   pub whole : with_front front (tracks fuel left bytes p) ≡ outcome
 
--- no chunk behind the bytes
+-- no chunk after the bytes
 pub at_end : (bytes : List ℕ) (p : ℕ) → length bytes ≤ p → chunk bytes p ≡ Err (Truncated (length bytes))
 unfolding chunk
 at_end bytes p le = let short : nat_lt (length bytes) (p + 8) ≡ true = grind arith in rw short refl
@@ -32,7 +32,7 @@ one_more : (n count : ℕ) (bytes : List ℕ) (p : ℕ) (c : Chunk) → chunk by
 unfolding tracks
 one_more n count bytes p c read = rw read refl
 
--- what is read behind a chunk, by the fuel that is left
+-- what is read after a chunk, by the fuel that is left
 record Follows (bytes : List ℕ) (front : List Track) (count p : ℕ) (c : Chunk) (outcome : Result (List Track) SmfFault) : Type 0 where
   pub fuel : ℕ
   pub enough : length bytes ≤ suc (p + fuel)

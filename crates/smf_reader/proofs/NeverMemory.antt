@@ -91,10 +91,10 @@ bytes_exclusive : (bytes : List ℕ) (p : ℕ) → IsOfBytes (system_exclusive b
 unfolding system_exclusive
 bytes_exclusive bytes p = chained (bytes_quantity bytes p) (λ size. chained (bytes_content bytes size.1 size.0) (λ said. value))
 
-bytes_message : (bytes : List ℕ) (p s behind : ℕ) → IsOfBytes (message bytes p s behind)
+bytes_message : (bytes : List ℕ) (p s after : ℕ) → IsOfBytes (message bytes p s after)
 unfolding message
-bytes_message bytes p s behind =
-    chosen _ _ _ (bytes_channel bytes s behind) (chosen _ _ _ (bytes_meta bytes p) (chosen _ _ _ (bytes_exclusive bytes behind) (fault_of _ (λ h. cc))))
+bytes_message bytes p s after =
+    chosen _ _ _ (bytes_channel bytes s after) (chosen _ _ _ (bytes_meta bytes p) (chosen _ _ _ (bytes_exclusive bytes after) (fault_of _ (λ h. cc))))
 
 bytes_tick : (bytes : List ℕ) (tick p : ℕ) → IsOfBytes (tick_after bytes tick p)
 unfolding tick_after
@@ -107,10 +107,10 @@ bytes_event bytes tick running p =
     (λ at. chained (bytes_status bytes running at.1)
     (λ head. chained (bytes_message bytes at.1 head.0 head.1) (λ said. value)))
 
-bytes_followed : (m : Meaning) (tick : ℕ) (behind : Result Track SmfFault) → IsOfBytes behind → IsOfBytes (followed m tick behind)
-bytes_followed (meanings.Event what) tick behind sure = chained sure (λ later. value)
-bytes_followed meanings.Skipped tick behind sure = sure
-bytes_followed meanings.EndOfTrack tick behind sure = value
+bytes_followed : (m : Meaning) (tick : ℕ) (after : Result Track SmfFault) → IsOfBytes after → IsOfBytes (followed m tick after)
+bytes_followed (meanings.Event what) tick after sure = chained sure (λ later. value)
+bytes_followed meanings.Skipped tick after sure = sure
+bytes_followed meanings.EndOfTrack tick after sure = value
 
 bytes_events : (n : ℕ) (bytes : List ℕ) (tick : ℕ) (running : Option ℕ) (p : ℕ) → IsOfBytes (events n bytes tick running p)
 unfolding events

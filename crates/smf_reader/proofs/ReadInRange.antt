@@ -159,10 +159,10 @@ read_meta bytes p h =
 
 -- ---- events
 
-read_message : (bytes : List ℕ) (p s behind : ℕ) → AreBytes bytes → Finds (λ m. IsMeaning m.0) (message bytes p s behind)
+read_message : (bytes : List ℕ) (p s after : ℕ) → AreBytes bytes → Finds (λ m. IsMeaning m.0) (message bytes p s after)
 unfolding message
-read_message bytes p s behind h =
-    chosen _ _ _ (read_channel bytes s behind) (chosen _ _ _ (read_meta bytes p h) (chosen _ _ _ (read_exclusive bytes behind) no_value))
+read_message bytes p s after h =
+    chosen _ _ _ (read_channel bytes s after) (chosen _ _ _ (read_meta bytes p h) (chosen _ _ _ (read_exclusive bytes after) no_value))
 
 read_tick : (bytes : List ℕ) (tick p : ℕ) → Finds {A = ℕ × ℕ} (λ d. (tick ≤ d.0) × (d.0 ≤ 1000000000)) (tick_after bytes tick p)
 unfolding tick_after
@@ -198,12 +198,12 @@ climbs_from a b (e ∷ es) last le h = (omega (arith, le, h.0), h.1, h.2)
 abbrev IsTrackFrom : ℕ → Track → Type 0
 IsTrackFrom tick t = Climbs tick t.events t.last
 
-read_followed : (tick : ℕ) (step : Step) (behind : Result Track SmfFault) → IsStep tick step → Finds (IsTrackFrom step.tick) behind
-    → (m : Meaning) → step.meaning ≡ m → Finds (IsTrackFrom tick) (followed m step.tick behind)
-read_followed tick step behind is later (meanings.Event what) same =
+read_followed : (tick : ℕ) (step : Step) (after : Result Track SmfFault) → IsStep tick step → Finds (IsTrackFrom step.tick) after
+    → (m : Meaning) → step.meaning ≡ m → Finds (IsTrackFrom tick) (followed m step.tick after)
+read_followed tick step after is later (meanings.Event what) same =
     chained later (λ t climbs. value {x = begun_by step.tick what t} (is.0, subst IsMeaning same is.2, climbs))
-read_followed tick step behind is later meanings.Skipped same = record { at = λ t e. climbs_from tick step.tick t.events t.last is.0 (later.at t e) }
-read_followed tick step behind is later meanings.EndOfTrack same = value {x = silence step.tick} (is.0, is.1)
+read_followed tick step after is later meanings.Skipped same = record { at = λ t e. climbs_from tick step.tick t.events t.last is.0 (later.at t e) }
+read_followed tick step after is later meanings.EndOfTrack same = value {x = silence step.tick} (is.0, is.1)
 
 read_events : (n : ℕ) (bytes : List ℕ) (tick : ℕ) (running : Option ℕ) (p : ℕ) → AreBytes bytes → tick ≤ 1000000000 → Finds (IsTrackFrom tick) (events n bytes tick running p)
 unfolding events

@@ -73,14 +73,14 @@ later_exclusive bytes p =
     chained (later_quantity bytes p)
     (λ size more. chained (any (content bytes size.1 size.0)) (λ said _. value {x = (meanings.Skipped, size.1 + size.0)} (omega arith)))
 
-weaker : {r : Result (Meaning × ℕ) SmfFault} (p behind : ℕ) → p ≤ behind → Finds (λ m. behind < m.1) r → Finds (λ m. p < m.1) r
-weaker p behind le h = record { at = λ m e. let more = h.at m e in omega arith }
+weaker : {r : Result (Meaning × ℕ) SmfFault} (p further : ℕ) → p ≤ further → Finds (λ m. further < m.1) r → Finds (λ m. p < m.1) r
+weaker p further le h = record { at = λ m e. let more = h.at m e in omega arith }
 
-later_message : (bytes : List ℕ) (p s behind : ℕ) → p ≤ behind → Finds (λ m. p < m.1) (message bytes p s behind)
+later_message : (bytes : List ℕ) (p s further : ℕ) → p ≤ further → Finds (λ m. p < m.1) (message bytes p s further)
 unfolding message
-later_message bytes p s behind le =
-    chosen _ _ _ (weaker p behind le (later_channel bytes s behind))
-    (chosen _ _ _ (later_meta bytes p) (chosen _ _ _ (weaker p behind le (later_exclusive bytes behind)) no_value))
+later_message bytes p s further le =
+    chosen _ _ _ (weaker p further le (later_channel bytes s further))
+    (chosen _ _ _ (later_meta bytes p) (chosen _ _ _ (weaker p further le (later_exclusive bytes further)) no_value))
 
 later_tick : (bytes : List ℕ) (tick p : ℕ) → Finds (λ d. p < d.1) (tick_after bytes tick p)
 unfolding tick_after
@@ -95,12 +95,12 @@ later_event bytes tick running p =
     (λ head here. chained (later_message bytes at.1 head.0 head.1 here)
     (λ said more. value {x = record { tick = at.0; meaning = said.0; running = running_after head.0 running; next = said.1 }} (omega arith))))
 
--- what is read behind an event is the same where what is read from each later place is
-same_behind : (p tick : ℕ) (b : Bool) (r : Result Step SmfFault) (one two : Step → Result Track SmfFault) → Finds (λ step. p < step.next) r → ((step : Step) → p < step.next → one step ≡ two step)
+-- what is read after an event is the same where what is read from each later place is
+same_after : (p tick : ℕ) (b : Bool) (r : Result Step SmfFault) (one two : Step → Result Track SmfFault) → Finds (λ step. p < step.next) r → ((step : Step) → p < step.next → one step ≡ two step)
     → cond b (Ok (silence tick)) (r >>= λ step. followed step.meaning step.tick (one step)) ≡ cond b (Ok (silence tick)) (r >>= λ step. followed step.meaning step.tick (two step))
-same_behind p tick true r one two later alike = refl
-same_behind p tick false (Err fault) one two later alike = refl
-same_behind p tick false (Ok step) one two later alike = ap (followed step.meaning step.tick) (alike step (later.at step refl))
+same_after p tick true r one two later alike = refl
+same_after p tick false (Err fault) one two later alike = refl
+same_after p tick false (Ok step) one two later alike = ap (followed step.meaning step.tick) (alike step (later.at step refl))
 
 -- any two bounds that are enough do the same
 enough : (n m : ℕ) (bytes : List ℕ) (tick : ℕ) (running : Option ℕ) (p : ℕ) → length bytes ≤ p + n → length bytes ≤ p + m → events n bytes tick running p ≡ events m bytes tick running p
@@ -109,7 +109,7 @@ enough zero zero bytes tick running p le1 le2 = refl
 enough zero (suc m) bytes tick running p le1 le2 = let e : leb (length bytes) p ≡ true = grind arith in rw e refl
 enough (suc n) zero bytes tick running p le1 le2 = let e : leb (length bytes) p ≡ true = grind arith in rw e refl
 enough (suc n) (suc m) bytes tick running p le1 le2 =
-    same_behind p tick (leb (length bytes) p) (event bytes tick running p) (λ step. events n bytes step.tick step.running step.next) (λ step. events m bytes step.tick step.running step.next) (later_event bytes tick running p)
+    same_after p tick (leb (length bytes) p) (event bytes tick running p) (λ step. events n bytes step.tick step.running step.next) (λ step. events m bytes step.tick step.running step.next) (later_event bytes tick running p)
     (λ step later. enough n m bytes step.tick step.running step.next (omega arith) (omega arith))
 
 on : (n : ℕ) (bytes : List ℕ) (tick : ℕ) (running : Option ℕ) (p : ℕ) → p < length bytes → length bytes ≤ n
@@ -119,7 +119,7 @@ on zero bytes tick running p lt le = absurd (omega arith)
 on (suc n) bytes tick running p lt le =
     let e : leb (length bytes) p ≡ false = grind arith in
     rw e
-    (same_behind p tick false (event bytes tick running p) (λ step. events n bytes step.tick step.running step.next) (λ step. events (suc n) bytes step.tick step.running step.next) (later_event bytes tick running p)
+    (same_after p tick false (event bytes tick running p) (λ step. events n bytes step.tick step.running step.next) (λ step. events (suc n) bytes step.tick step.running step.next) (later_event bytes tick running p)
     (λ step later. enough n (suc n) bytes step.tick step.running step.next (omega arith) (omega arith)))
 
 pub is_read_to_its_end : (bytes : List ℕ) → IsReadToItsEnd bytes

@@ -22,7 +22,7 @@ byte_read bytes p b rest at = rw (first_get bytes p b rest at) refl
 pub bytes_are_at : (bytes : List ℕ) (p b : ℕ) (rest : List ℕ) → drop p bytes ≡ b ∷ rest → length bytes ≡ p + 1 + length rest
 bytes_are_at bytes p b rest at = omega (arith, length-drop p bytes, ap length at)
 
--- the bytes behind those that were read
+-- the bytes after those that were read
 pub stands_after : (bytes : List ℕ) (p : ℕ) (read rest : List ℕ) → drop p bytes ≡ read ++ rest → drop (p + length read) bytes ≡ rest
 stands_after bytes p read rest at = sym (drop-drop (length read) p bytes) ∙ ap (drop (length read)) at ∙ drop-append_seam read rest
 

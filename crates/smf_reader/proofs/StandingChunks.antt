@@ -41,7 +41,7 @@ module _ (bytes : List ℕ) (p a b c d : ℕ) (content rest : List ℕ) (at : dr
       let whole : nat_lt (length bytes) (p + 8 + length content) ≡ false = grind (arith, nat_tests) in
       rw (head, number_read, whole, at) refl
 
-  -- a track's chunk is read as a track, and the tracks go on behind it
+  -- a track's chunk is read as a track, and the tracks go on after it
   pub track_read : (count : ℕ) → tracks (length bytes) (suc count) bytes p
       ≡ (track (take (p + 8 + length content) bytes) (p + 8) >>= λ first. tracks (length bytes) count bytes (p + 8 + length content) >>= λ others. Ok (first ∷ others))
   track_read count =

@@ -1,4 +1,4 @@
--- Events at a place of a track: what stands there is read, and what is behind it.
+-- Events at a place of a track: what stands there is read, and what is after it.
 use Rattle.rhythm_base.specs.declared.limits.TheConstants.{LATEST_EVENT}
 use Rattle.std.proofs.Common.{◌≡◌, ℕ, ◌+◌, ◌<◌, ◌≤◌, ◌/◌, ◌%◌, ◌==◌, true, false, List, [], ◌∷◌, ◌++◌, length, length-append, drop, refl, ap, ◌∙◌, subst, Some, Ok, Result, arith}
 use Rattle.std.specs.Prelude.{Option, nat_le, nat_lt}
@@ -63,7 +63,7 @@ meta_read bytes p type said rest meaning short means at =
     let room : p + 2 + 1 + length said ≤ length bytes = omega (arith, size, length-append said rest) in
     rw (byte_read bytes (p + 1) type (length said ∷ (said ++ rest)) one, short_read bytes (p + 2) (length said) (said ++ rest) short two, content_read bytes (p + 2 + 1) said rest room three, means) refl
 
--- what an event leads to, where the events go on behind it
+-- what an event leads to, where the events go on after it
 goes_on : (bytes : List ℕ) (t p : ℕ) (running : Option ℕ) (step : Step) → p < length bytes → event bytes t running p ≡ Ok step
     → events (length bytes) bytes t running p ≡ followed step.meaning step.tick (events (length bytes) bytes step.tick step.running step.next)
 goes_on bytes t p running step lt read =
@@ -89,18 +89,18 @@ module _ (bytes : List ℕ) (t p d q : ℕ) (running : Option ℕ) (delta : quan
       → events (length bytes) bytes t running p ≡ (events (length bytes) bytes (t + d) (Some (144 + channel)) (q + 1 + 2) >>= λ later. Ok (begun_by (t + d) (On channel key) later))
   note_on_read channel key velocity rest few low loud soft at =
       let s = 144 + channel in
-      let behind = events (length bytes) bytes (t + d) (Some s) (q + 1 + 2) in
+      let after = events (length bytes) bytes (t + d) (Some s) (q + 1 + 2) in
       goes_on bytes t p running (record { tick = t + d; meaning = note_meaning s key velocity; running = Some s; next = q + 1 + 2 }) lt (note_event s key velocity rest (omega arith) (omega arith) low soft at)
-      ∙ ap (λ (m : Meaning). followed m (t + d) behind) (on_meaning s channel key velocity (omega arith) (omega arith) loud)
+      ∙ ap (λ (m : Meaning). followed m (t + d) after) (on_meaning s channel key velocity (omega arith) (omega arith) loud)
 
   -- a note off
   pub note_off_read : (channel key velocity : ℕ) (rest : List ℕ) → channel < 16 → key < 128 → velocity < 128 → drop q bytes ≡ (128 + channel) ∷ key ∷ velocity ∷ rest
       → events (length bytes) bytes t running p ≡ (events (length bytes) bytes (t + d) (Some (128 + channel)) (q + 1 + 2) >>= λ later. Ok (begun_by (t + d) (Off channel key) later))
   note_off_read channel key velocity rest few low soft at =
       let s = 128 + channel in
-      let behind = events (length bytes) bytes (t + d) (Some s) (q + 1 + 2) in
+      let after = events (length bytes) bytes (t + d) (Some s) (q + 1 + 2) in
       goes_on bytes t p running (record { tick = t + d; meaning = note_meaning s key velocity; running = Some s; next = q + 1 + 2 }) lt (note_event s key velocity rest (omega arith) (omega arith) low soft at)
-      ∙ ap (λ (m : Meaning). followed m (t + d) behind) (off_meaning s channel key velocity (omega arith) (omega arith))
+      ∙ ap (λ (m : Meaning). followed m (t + d) after) (off_meaning s channel key velocity (omega arith) (omega arith))
 
   -- the end of the track
   pub end_read : (rest : List ℕ) → drop q bytes ≡ 255 ∷ 47 ∷ 0 ∷ rest → events (length bytes) bytes t running p ≡ Ok (silence (t + d))

@@ -12,12 +12,12 @@ use Rattle.smf_reader.specs.Event.{event}
 use Rattle.smf_reader.specs.Track.{silence, followed, begun_by, events}
 
 -- the events in front of a track
-abbrev pub behind : List Event → Track → Track
-behind front played = record { events = front ++ played.events; last = played.last }
+abbrev pub after : List Event → Track → Track
+after front played = record { events = front ++ played.events; last = played.last }
 
 -- what is read, with the events in front
 abbrev pub with_front : List Event → Result Track SmfFault → Result Track SmfFault
-with_front front outcome = outcome >>= λ played. Ok (behind front played)
+with_front front outcome = outcome >>= λ played. Ok (after front played)
 
 -- with these events in front, the track comes to the outcome by the events from this place on, which the fuel is enough for
 pub record ComesTo (bytes : List ℕ) (front : List Event) (tick : ℕ) (running : Option ℕ) (p : ℕ) (outcome : Result Track SmfFault) : Type 0 where
@@ -25,7 +25,7 @@ pub record ComesTo (bytes : List ℕ) (front : List Event) (tick : ℕ) (running
   pub enough : length bytes ≤ p + fuel
   pub whole : with_front front (events fuel bytes tick running p) ≡ outcome
 
--- no event behind the bytes
+-- no event after the bytes
 pub at_end : (n : ℕ) (bytes : List ℕ) (tick : ℕ) (running : Option ℕ) (p : ℕ) → length bytes ≤ p → events n bytes tick running p ≡ Ok (silence tick)
 unfolding events
 at_end zero bytes tick running p le = refl
@@ -37,7 +37,7 @@ one_more : (n : ℕ) (bytes : List ℕ) (tick : ℕ) (running : Option ℕ) (p :
 unfolding events
 one_more n bytes tick running p lt = let e : leb (length bytes) p ≡ false = grind arith in rw e refl
 
--- what is read behind an event, by the fuel that is left
+-- what is read after an event, by the fuel that is left
 record Follows (bytes : List ℕ) (front : List Event) (p : ℕ) (step : Step) (outcome : Result Track SmfFault) : Type 0 where
   pub fuel : ℕ
   pub enough : length bytes ≤ suc (p + fuel)

@@ -1,5 +1,5 @@
 -- Chunks (Standard MIDI Files 1.0, "Chunks"): four letters for the type, the length of the content in four bytes, and the
--- content. Behind the header a chunk of another type than MTrk is skipped.
+-- content. After the header a chunk of another type than MTrk is skipped.
 use Rattle.std.specs.Prelude.{ℕ, zero, suc, ◌+◌, nat_eq, nat_lt, if◌then◌else◌, List, [], ◌∷◌, length, take, drop, codes, Result, Ok, Err}
 use Rattle.std.specs.List.{starts_with}
 use Rattle.byteorder.specs.Endian.{big_number}

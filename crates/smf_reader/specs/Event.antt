@@ -8,13 +8,13 @@ use Rattle.smf_reader.specs.Outcome.{◌>>=◌}
 use Rattle.smf_reader.specs.Quantity.{quantity}
 use Rattle.smf_reader.specs.Message.{status, running_after, message}
 
--- the tick that the delta time at the place p leads to, at most 1,000,000,000, and the place behind it
+-- the tick that the delta time at the place p leads to, at most 1,000,000,000, and the place after it
 unfoldable pub tick_after : List ℕ → ℕ → ℕ → Result (ℕ × ℕ) SmfFault
 tick_after bytes tick p = do
   delta ← quantity bytes p
   if nat_le (tick + delta.0) LATEST_EVENT then Ok (tick + delta.0, delta.1) else Err (TooLate p)
 
--- the event at the place p, behind the tick and the last channel status
+-- the event at the place p, after the tick and the last channel status
 unfoldable pub event : List ℕ → ℕ → Option ℕ → ℕ → Result Step SmfFault
 event bytes tick running p = do
   at ← tick_after bytes tick p

@@ -1,5 +1,5 @@
 -- The header (Standard MIDI Files 1.0, "Header Chunks"): format, number of tracks and division, two bytes each. Bytes
--- behind these are skipped. A file of format 0 may have any number of tracks.
+-- after these are skipped. A file of format 0 may have any number of tracks.
 use Rattle.std.specs.Prelude.{ℕ, ◌+◌, ◌==◌, nat_eq, nat_lt, nat_le, not, if◌then◌else◌, List, length, codes, Result, Ok, Err}
 use Rattle.std.specs.List.{starts_with}
 use Rattle.smf_reader.specs.declared.fault.SmfFault.{SmfFault}

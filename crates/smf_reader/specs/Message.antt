@@ -11,7 +11,7 @@ use Rattle.smf_reader.specs.Bytes.{byte, data_byte, content}
 use Rattle.smf_reader.specs.Quantity.{quantity}
 use Rattle.smf_reader.specs.Meta.{meta_event}
 
--- the status of the message at the place p, and the place behind it. A data byte stands there where the last channel
+-- the status of the message at the place p, and the place after it. A data byte stands there where the last channel
 -- status of the track is left out ("running status"): then nothing of the message is read yet
 unfoldable pub status : List ℕ → Option ℕ → ℕ → Result (ℕ × ℕ) SmfFault
 status bytes running p = do
@@ -20,7 +20,7 @@ status bytes running p = do
     last ← or_fault running (NoStatus p)
     Ok (last, p)) else Ok (b, p + 1)
 
--- the last channel status behind a message of this status: other messages leave it as it was
+-- the last channel status after a message of this status: other messages leave it as it was
 abbrev pub running_after : ℕ → Option ℕ → Option ℕ
 running_after status running = if nat_lt status 0xf0 then Some status else running
 
@@ -39,17 +39,17 @@ channel_message bytes status p = do
     second ← data_byte bytes (p + 1)
     Ok (note_meaning status first second, p + 2))
 
--- the bytes of a system exclusive event behind its f0 or f7: their number and they, which are skipped
+-- the bytes of a system exclusive event after its f0 or f7: their number and they, which are skipped
 unfoldable pub system_exclusive : List ℕ → ℕ → Result (Meaning × ℕ) SmfFault
 system_exclusive bytes p = do
   size ← quantity bytes p
   said ← content bytes size.1 size.0
   Ok (Skipped, size.1 + size.0)
 
--- what the message at the place p says, of this status with the place `behind` behind it; and the place behind the message
+-- what the message at the place p says, of this status with the place `after` after it; and the place after the message
 unfoldable pub message : List ℕ → ℕ → ℕ → ℕ → Result (Meaning × ℕ) SmfFault
-message bytes p status behind =
-    if nat_lt status 0xf0 then channel_message bytes status behind
+message bytes p status after =
+    if nat_lt status 0xf0 then channel_message bytes status after
     else (if status == 0xff then meta_event bytes p
-    else (if (status == 0xf0) || (status == 0xf7) then system_exclusive bytes behind
+    else (if (status == 0xf0) || (status == 0xf7) then system_exclusive bytes after
     else Err (BadStatus p)))

@@ -42,7 +42,7 @@ meta_meaning type said =
     else (if type == 0x59 then key_signature said
     else Some Skipped)))
 
--- the meta event whose ff stands at the place p, and the place behind it
+-- the meta event whose ff stands at the place p, and the place after it
 unfoldable pub meta_event : List ℕ → ℕ → Result (Meaning × ℕ) SmfFault
 meta_event bytes p = do
   type ← byte bytes (p + 1)

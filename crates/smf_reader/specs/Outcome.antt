@@ -3,7 +3,7 @@ use Rattle.std.specs.Prelude.{◌≡◌, ◌≢◌, Option, Some, None, Result, 
 use Rattle.smf_reader.specs.declared.fault.SmfFault.{SmfFault}
 use Rattle.smf_reader.specs.declared.fault.SmfFault.TheVariants.{Memory}
 
--- readers one behind the other: the next takes what the one before it read, and behind a fault nothing is read
+-- readers one after the other: the next takes what the one before it read, and after a fault nothing is read
 infixl 10 ◌>>=◌
 abbrev pub ◌>>=◌ : {A B : Type 0} → Result A SmfFault → (A → Result B SmfFault) → Result B SmfFault
 (Ok x) >>= next = next x

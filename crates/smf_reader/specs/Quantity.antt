@@ -9,7 +9,7 @@ use Rattle.smf_reader.specs.Outcome.{◌>>=◌, or_fault}
 abbrev pub seven_bits : List ℕ → ℕ
 seven_bits bytes = fold (λ n b. n * 128 + b % 128) 0 bytes
 
--- the first of the four bytes at the front that has no high bit, by its place behind the front
+-- the first of the four bytes at the front that has no high bit, by its place after the front
 abbrev pub last_place : List ℕ → Option ℕ
 last_place front = position (λ b. nat_lt b 128) (take 4 front)
 
@@ -17,7 +17,7 @@ last_place front = position (λ b. nat_lt b 128) (take 4 front)
 abbrev pub endless : List ℕ → ℕ → SmfFault
 endless bytes p = if nat_lt (length bytes) (p + 4) then Truncated (length bytes) else BadQuantity (p + 3)
 
--- the quantity at the place p, and the place behind it
+-- the quantity at the place p, and the place after it
 unfoldable pub quantity : List ℕ → ℕ → Result (ℕ × ℕ) SmfFault
 quantity bytes p = do
   last ← or_fault (last_place (drop p bytes)) (endless bytes p)

@@ -1,5 +1,5 @@
 -- A Standard MIDI File of format 0 or 1: a header, and chunks up to the last of the tracks that it counts. What stands
--- behind them is not read.
+-- after them is not read.
 use Rattle.std.specs.Prelude.{ℕ, List, length, Result, Ok}
 use Rattle.smf_reader.specs.declared.fault.SmfFault.{SmfFault}
 use Rattle.smf_reader.specs.Outcome.{◌>>=◌}

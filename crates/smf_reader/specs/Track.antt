@@ -8,21 +8,21 @@ use Rattle.smf_reader.specs.Outcome.{◌>>=◌}
 use Rattle.smf_reader.specs.Event.{event}
 use Rattle.smf_reader.specs.Played.{Track}
 
--- nothing behind an event at this tick
+-- nothing after an event at this tick
 abbrev pub silence : ℕ → Track
 silence tick = record { events = []; last = tick }
 
--- an event and what is played behind it
+-- an event and what is played after it
 abbrev pub begun_by : ℕ → What → Track → Track
 begun_by tick what later = record { events = record { tick = tick; what = what } ∷ later.events; last = later.last }
 
--- an event with this meaning, and what is read behind it. An end of track lets nothing follow
+-- an event with this meaning, and what is read after it. An end of track lets nothing follow
 abbrev pub followed : Meaning → ℕ → Result Track SmfFault → Result Track SmfFault
-followed (meanings.Event what) tick behind = behind >>= λ later. Ok (begun_by tick what later)
-followed meanings.Skipped tick behind = behind
-followed meanings.EndOfTrack tick behind = Ok (silence tick)
+followed (meanings.Event what) tick after = after >>= λ later. Ok (begun_by tick what later)
+followed meanings.Skipped tick after = after
+followed meanings.EndOfTrack tick after = Ok (silence tick)
 
--- the events from the place p on, at most n, behind the tick and the last channel status
+-- the events from the place p on, at most n, after the tick and the last channel status
 unfoldable pub events : ℕ → List ℕ → ℕ → Option ℕ → ℕ → Result Track SmfFault
 events zero bytes tick running p = Ok (silence tick)
 events (suc n) bytes tick running p =

@@ -9,7 +9,7 @@ use crate::track::read_track;
 use byteorder::{BigEndian, ByteOrder};
 use std::alloc::Global;
 
-/// A chunk, by its content's first place and the place behind it.
+/// A chunk, by its content's first place and the place after it.
 #[derive(Clone, Copy, Debug, PartialEq, Eq)]
 pub(crate) struct Chunk {
     /// Whether its type is MTrk.

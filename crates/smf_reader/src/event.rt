@@ -8,7 +8,7 @@ use crate::message::{read_message, read_status, running_after};
 use crate::quantity::read_quantity;
 use rhythm_base::LATEST_EVENT;
 
-/// An event, and what stands behind it.
+/// An event, and what stands after it.
 #[derive(Clone, Copy, Debug, PartialEq, Eq)]
 pub(crate) struct Step {
     /// The sum of the delta times up to the event.
@@ -17,11 +17,11 @@ pub(crate) struct Step {
     pub(crate) meaning: Meaning,
     /// The last channel status.
     pub(crate) running: Option<u8>,
-    /// The place behind it.
+    /// The place after it.
     pub(crate) next: usize,
 }
 
-/// The tick that the delta time at this place leads to, and the place behind it.
+/// The tick that the delta time at this place leads to, and the place after it.
 #[tactic(auto, unfolding(crate::specs::Event::tick_after))]
 fn read_tick(bytes: &[u8], tick: u64, at: usize) -> Result<(u64, usize), SmfFault>
     requires place { at ≤ length bytes.now }
@@ -39,7 +39,7 @@ fn read_tick(bytes: &[u8], tick: u64, at: usize) -> Result<(u64, usize), SmfFaul
     }
 }
 
-/// The event at this place, behind a tick and the last channel status.
+/// The event at this place, after a tick and the last channel status.
 #[tactic(auto, unfolding(crate::specs::Event::event))]
 pub(crate) fn read_event(
     bytes: &[u8],
@@ -55,8 +55,8 @@ pub(crate) fn read_event(
     ensures within { IfOk result (λ s. s.next ≤ length bytes.now) }
 {
     let (tick, message) = read_tick(bytes, tick, at)?;
-    let (status, behind) = read_status(bytes, running, message)?;
-    let (meaning, next) = read_message(bytes, message, status, behind)?;
+    let (status, after) = read_status(bytes, running, message)?;
+    let (meaning, next) = read_message(bytes, message, status, after)?;
     Ok(Step {
         tick,
         meaning,

@@ -14,7 +14,7 @@ pub(crate) struct Header {
     pub(crate) tracks: u16,
     /// Ticks of a quarter note, 1 to 32,767.
     pub(crate) division: u16,
-    /// The place behind the header.
+    /// The place after the header.
     pub(crate) end: usize,
 }
 

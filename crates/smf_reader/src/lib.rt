@@ -1,7 +1,7 @@
 //! Standard MIDI Files of format 0 and 1 with metrical time: each one is read, and of all other bytes the first fault is
 //! named, with its place. What a file says stands in specs/, from bytes and quantities over messages, events and tracks to
 //! chunks and the file: for each part a function from the bytes and a place in them to what is read there and the place
-//! behind it, or to the fault that stands there. The reader is proved to be that function, unless memory runs out. The
+//! after it, or to the fault that stands there. The reader is proved to be that function, unless memory runs out. The
 //! events of the tracks of a file can be merged into one list.
 #![tactic(auto)]
 

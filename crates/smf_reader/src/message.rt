@@ -15,7 +15,7 @@ const ESCAPE: u8 = 0xf7;
 
 const META: u8 = 0xff;
 
-/// The status of the message at this place, and the place behind it. A data byte there stands for the last channel status.
+/// The status of the message at this place, and the place after it. A data byte there stands for the last channel status.
 #[tactic(auto, unfolding(crate::specs::Message::status))]
 pub(crate) fn read_status(
     bytes: &[u8],
@@ -37,7 +37,7 @@ pub(crate) fn read_status(
     }
 }
 
-/// The last channel status behind a message of this status.
+/// The last channel status after a message of this status.
 pub(crate) fn running_after(status: u8, running: Option<u8>) -> Option<u8>
     ensures { result ≡ running_after status running }
 {
@@ -60,7 +60,7 @@ fn note_meaning(status: u8, key: u8, velocity: u8) -> Meaning
     }
 }
 
-/// What a channel message says whose data stand at this place, and the place behind it.
+/// What a channel message says whose data stand at this place, and the place after it.
 #[tactic(auto, unfolding(crate::specs::Message::channel_message))]
 fn read_channel_message(bytes: &[u8], status: u8, at: usize) -> Result<(Meaning, usize), SmfFault>
     ensures value { result ≡ channel_message bytes.now status at }
@@ -75,7 +75,7 @@ fn read_channel_message(bytes: &[u8], status: u8, at: usize) -> Result<(Meaning,
     Ok((note_meaning(status, first, second), at + 2))
 }
 
-/// A system exclusive event, by the place behind its status, and the place behind the event.
+/// A system exclusive event, by the place after its status, and the place after the event.
 #[tactic(auto, unfolding(crate::specs::Message::system_exclusive))]
 fn read_system_exclusive(bytes: &[u8], at: usize) -> Result<(Meaning, usize), SmfFault>
     requires { at ≤ length bytes.now }
@@ -88,25 +88,25 @@ fn read_system_exclusive(bytes: &[u8], at: usize) -> Result<(Meaning, usize), Sm
     Ok((Meaning::Skipped, place + size as usize))
 }
 
-/// What the message at this place says, of this status with the place `behind` behind it, and the place behind the message.
+/// What the message at this place says, of this status with the place `after` after it, and the place after the message.
 #[tactic(auto, unfolding(crate::specs::Message::message))]
 pub(crate) fn read_message(
     bytes: &[u8],
     at: usize,
     status: u8,
-    behind: usize,
+    after: usize,
 ) -> Result<(Meaning, usize), SmfFault>
     requires here { at < length bytes.now }
-    requires order { at ≤ behind }
-    requires within { behind ≤ length bytes.now }
-    ensures value { result ≡ message bytes.now at status behind }
+    requires order { at ≤ after }
+    requires within { after ≤ length bytes.now }
+    ensures value { result ≡ message bytes.now at status after }
     ensures later { IfOk result (λ m. at < m.1) }
     ensures within { IfOk result (λ m. m.1 ≤ length bytes.now) }
 {
     match status {
         META => read_meta(bytes, at),
-        SYSTEM_EXCLUSIVE | ESCAPE => read_system_exclusive(bytes, behind),
-        _ if status < SYSTEM_EXCLUSIVE => read_channel_message(bytes, status, behind),
+        SYSTEM_EXCLUSIVE | ESCAPE => read_system_exclusive(bytes, after),
+        _ if status < SYSTEM_EXCLUSIVE => read_channel_message(bytes, status, after),
         _ => Err(SmfFault::BadStatus { at: at as u64 }),
     }
 }

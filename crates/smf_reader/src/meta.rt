@@ -45,7 +45,7 @@ fn meaning_of(kind: u8, content: &[u8]) -> Option<Meaning>
     }
 }
 
-/// What the meta event says whose ff stands at this place, and the place behind it.
+/// What the meta event says whose ff stands at this place, and the place after it.
 #[tactic(auto, unfolding(crate::specs::Meta::meta_event))]
 pub(crate) fn read_meta(bytes: &[u8], at: usize) -> Result<(Meaning, usize), SmfFault>
     requires { at < length bytes.now }

@@ -23,7 +23,7 @@ fn seven_bits(bytes: &[u8]) -> u32
     number
 }
 
-/// The quantity at this place, and the place behind it.
+/// The quantity at this place, and the place after it.
 #[tactic(auto, unfolding(crate::specs::Quantity::quantity))]
 pub(crate) fn read_quantity(bytes: &[u8], at: usize) -> Result<(u32, usize), SmfFault>
     requires { at ≤ length bytes.now }

@@ -6,7 +6,7 @@ mod walk;
 
 use bars::{
     closed_bar, dear, dear_or_carried, either_between, late_onset, nine_bars, open_bar, plain,
-    rest_before, short_behind, tied_before, tied_behind, wide,
+    rest_before, short_after, tied_after, tied_before, wide,
 };
 use carry_matrix::{CarryMatrix, Steps};
 use chain_bars::{Around, Chain};
@@ -29,8 +29,8 @@ fn finds_the_dead_bar(rt: HostRuntime) -> Result<(), Fail> {
     let mut chain = Chain::new(alloc, &[late_onset()], &mut products)?;
     assert!(rt; chain.total().is_none());
     assert!(rt; chain.first_dead() == Some(0));
-    // A bar behind it can take the chord.
-    chain.push(&short_behind(), &mut products)?;
+    // A bar after it can take the chord.
+    chain.push(&short_after(), &mut products)?;
     assert!(rt; chain.total() == Some(515));
     assert!(rt; chain.first_dead().is_none());
     chain.push(&open_bar(), &mut products)?;
@@ -77,12 +77,12 @@ fn carries(
 fn carries_the_stored_counts(rt: HostRuntime) -> Result<(), Fail> {
     let alloc = rt.alloc();
     // A chord that sounds over the barline, for 45 and 75.
-    assert!(rt; carries(alloc, &rest_before(), &short_behind(), [0, 1, 0])?);
+    assert!(rt; carries(alloc, &rest_before(), &short_after(), [0, 1, 0])?);
     // Two ways, and the one over the greater count costs less.
-    assert!(rt; carries(alloc, &dear_or_carried(), &short_behind(), [0, 0, 0])?);
-    assert!(rt; carries(alloc, &dear_or_carried(), &tied_behind(), [0, 1, 0])?);
+    assert!(rt; carries(alloc, &dear_or_carried(), &short_after(), [0, 0, 0])?);
+    assert!(rt; carries(alloc, &dear_or_carried(), &tied_after(), [0, 1, 0])?);
     // Two ways for 4: the lower list in the first bar decides.
-    assert!(rt; carries(alloc, &tied_before(), &tied_behind(), [0, 2, 0])?);
+    assert!(rt; carries(alloc, &tied_before(), &tied_after(), [0, 2, 0])?);
     assert!(rt; carries(alloc, &open_bar(), &open_bar(), [0, 0, 0])?);
     Ok(())
 }
@@ -138,10 +138,10 @@ fn pushes_and_pops_across_a_power_of_two(rt: HostRuntime) -> Result<(), Fail> {
 }
 
 #[test]
-fn costs_before_and_behind(rt: HostRuntime) -> Result<(), Fail> {
+fn costs_before_and_after(rt: HostRuntime) -> Result<(), Fail> {
     let alloc = rt.alloc();
     let mut products = Steps::<Products>::zero();
-    let bars = [rest_before(), either_between(), short_behind()];
+    let bars = [rest_before(), either_between(), short_after()];
     let chain = Chain::new(alloc, &bars, &mut products)?;
     let first = Around {
         before: [Some(0), None, None, None, None],
@@ -168,7 +168,7 @@ fn grows_within_its_room(rt: HostRuntime) -> Result<(), Fail> {
     let mut chain = Chain::new(alloc, &[rest_before()], &mut products)?;
     chain.reserve(3)?;
     chain.push_within(&either_between(), &mut products);
-    chain.push_within(&short_behind(), &mut products);
+    chain.push_within(&short_after(), &mut products);
     assert!(rt; chain.total() == Some(53));
     match counts(alloc, &chain)? {
         Some(counts) => assert!(rt; counts.as_slice() == [0, 1, 0, 0].as_slice()),

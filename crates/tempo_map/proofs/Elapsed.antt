@@ -99,7 +99,7 @@ counted_small tempos times k tick micros now x c within is early low =
     let s = time_small (x.tick - tick) micros low in
     omega (arith, s, c.small, le)
 
--- a change that is too late ends it: so are those behind it
+-- a change that is too late ends it: so are those after it
 pub counted_late : (tempos : List Tempo) (times : List ℕ) (k tick micros now : ℕ) (x : Tempo) → IsNonDecreasing (map (λ t. t.tick) tempos) → Counted tempos times k tick micros now → k < length tempos → x ≡ get_or tempos k x → 2000000000 < x.tick → AreElapsed tempos times
 counted_late tempos times k tick micros now x order c within is late j h early =
     elim (cases_lt j k) [

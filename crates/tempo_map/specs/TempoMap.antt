@@ -7,7 +7,7 @@ use Rattle.rhythm_base.specs.declared.event.KeyMark.{KeyMark}
 use Rattle.rhythm_base.specs.declared.event.Tempo.{Tempo}
 use Rattle.rhythm_base.specs.Time.{time}
 
--- the first n of the changes are at or before a tick, and those behind them are later
+-- the first n of the changes are at or before a tick, and those after them are later
 pub record AreUpTo {X : Type 0} (tick : X → ℕ) (changes : List X) (t n : ℕ) : Type 0 where
   pub within : n ≤ length changes
   pub past : AllWithin (λ x. tick x ≤ t) changes 0 n

@@ -46,8 +46,8 @@ pub fn rest_before() -> CarryMatrix
     ])
 }
 
-/// The bar behind it, without an onset.
-pub fn short_behind() -> CarryMatrix
+/// The bar after it, without an onset.
+pub fn short_after() -> CarryMatrix
     ensures { IsCheap 500000000000 result }
 {
     CarryMatrix::make([
@@ -117,7 +117,7 @@ pub fn tied_before() -> CarryMatrix
 }
 
 /// From no chord for 2, from one for 2, and from two for 1.
-pub fn tied_behind() -> CarryMatrix
+pub fn tied_after() -> CarryMatrix
     ensures { IsCheap 500000000000 result }
 {
     CarryMatrix::make([

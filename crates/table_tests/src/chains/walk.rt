@@ -39,7 +39,7 @@ fn lesser(first: Option<Way>, second: Option<Way>) -> Option<Way> {
     }
 }
 
-/// The least way to a count behind a cell.
+/// The least way to a count after a cell.
 fn least_to(ways: &[Option<Way>; 5], cell: &CarryMatrix, number: usize, to: u8) -> Option<Way>
     requires number { number < 9 }
     requires to { to < 5 }

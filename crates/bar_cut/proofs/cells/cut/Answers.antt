@@ -28,19 +28,19 @@ cell_of-requires-clause-some_tick c =
     let lt : c.bars.number < length c.args.bars.now = search rules in
     let rise = turn.rise c.args.grammar.now c.args.pins.now c.args.channel c.args.last c.bars.number c.args.bars.now c.args.voice.now no_bar c.requires.voice lt in
     let start = turn.start_is c.args.grammar.now c.args.pins.now c.args.channel c.args.last c.bars.number c.args.bars.now c.args.voice.now no_bar c.requires.voice lt in
-    omega (arith, rise.0, start, c.barline_behind-end.ensures)
+    omega (arith, rise.0, start, c.barline_after-end.ensures)
 
 pub cell_of-requires-clause-few_ticks : goal.cell_of-requires-clause-few_ticks
 cell_of-requires-clause-few_ticks c =
     let lt : c.bars.number < length c.args.bars.now = search rules in
     let rise = turn.rise c.args.grammar.now c.args.pins.now c.args.channel c.args.last c.bars.number c.args.bars.now c.args.voice.now no_bar c.requires.voice lt in
-    omega (arith, rise.1, c.requires.voice.last_barline, c.barline_behind-end.ensures)
+    omega (arith, rise.1, c.requires.voice.last_barline, c.barline_after-end.ensures)
 
 pub cell_of-requires-clause-rise : goal.cell_of-requires-clause-rise
 cell_of-requires-clause-rise c =
     let lt : c.bars.number < length c.args.bars.now = search rules in
     let front = turn.front_is c.args.grammar.now c.args.pins.now c.args.channel c.args.last c.bars.number c.args.bars.now c.args.voice.now no_bar c.requires.voice lt
-    c.split_at.result.0.now c.bars.later.now c.count_before.result c.barline_behind-end.result c.split_at.ensures.front c.count_before.ensures c.barline_behind-end.ensures c.bars.invariant.later in
+    c.split_at.result.0.now c.bars.later.now c.count_before.result c.barline_after-end.result c.split_at.ensures.front c.count_before.ensures c.barline_after-end.ensures c.bars.invariant.later in
     subst (λ cs. Rises (get_or c.args.bars.now c.bars.number no_bar).start cs) (sym front)
     (turn.own_rises c.args.grammar.now c.args.pins.now c.args.channel c.args.last c.bars.number c.args.bars.now c.args.voice.now no_bar c.requires.voice lt)
 
@@ -48,22 +48,22 @@ pub cell_of-requires-clause-inside : goal.cell_of-requires-clause-inside
 cell_of-requires-clause-inside c =
     let lt : c.bars.number < length c.args.bars.now = search rules in
     let front = turn.front_is c.args.grammar.now c.args.pins.now c.args.channel c.args.last c.bars.number c.args.bars.now c.args.voice.now no_bar c.requires.voice lt
-    c.split_at.result.0.now c.bars.later.now c.count_before.result c.barline_behind-end.result c.split_at.ensures.front c.count_before.ensures c.barline_behind-end.ensures c.bars.invariant.later in
+    c.split_at.result.0.now c.bars.later.now c.count_before.result c.barline_after-end.result c.split_at.ensures.front c.count_before.ensures c.barline_after-end.ensures c.bars.invariant.later in
     let inside = turn.own_inside c.args.grammar.now c.args.pins.now c.args.channel c.args.last c.bars.number c.args.bars.now c.args.voice.now no_bar c.requires.voice lt in
-    subst (λ e. AreInside (get_or c.args.bars.now c.bars.number no_bar).start e c.split_at.result.0.now) (sym c.barline_behind-end.ensures)
+    subst (λ e. AreInside (get_or c.args.bars.now c.bars.number no_bar).start e c.split_at.result.0.now) (sym c.barline_after-end.ensures)
     (subst (λ cs. AreInside (get_or c.args.bars.now c.bars.number no_bar).start (barline c.args.bars.now c.args.last (c.bars.number + 1)) cs) (sym front) inside)
 
 pub bars-preserved : goal.bars-preserved
 bars-preserved c =
     let lt : c.bars.number < length c.args.bars.now = search rules in
     let front = turn.front_is c.args.grammar.now c.args.pins.now c.args.channel c.args.last c.bars.number c.args.bars.now c.args.voice.now no_bar c.requires.voice lt
-    c.split_at.result.0.now c.bars.later.now c.count_before.result c.barline_behind-end.result c.split_at.ensures.front c.count_before.ensures c.barline_behind-end.ensures c.bars.invariant.later in
+    c.split_at.result.0.now c.bars.later.now c.count_before.result c.barline_after-end.result c.split_at.ensures.front c.count_before.ensures c.barline_after-end.ensures c.bars.invariant.later in
     let back = turn.back_is c.args.grammar.now c.args.pins.now c.args.channel c.args.last c.bars.number c.args.bars.now c.args.voice.now no_bar c.requires.voice lt
-    c.split_at.result.1.now c.bars.later.now c.count_before.result c.barline_behind-end.result c.split_at.ensures.back c.count_before.ensures c.barline_behind-end.ensures c.bars.invariant.later in
+    c.split_at.result.1.now c.bars.later.now c.count_before.result c.barline_after-end.result c.split_at.ensures.back c.count_before.ensures c.barline_after-end.ensures c.bars.invariant.later in
     let b : Bar = get_or c.args.bars.now c.bars.number no_bar in
     let root : Some c.unwrap-symbol.result ≡ root_of c.args.grammar.now.starts b.num b.den = sym c.unwrap-symbol.ensures ∙ c.root_of.ensures in
     let is = c.in_ok-cell_of.ensures
-    ∙ turn.cell_is c.args.grammar.now c.args.pins.now c.args.channel c.args.last c.bars.number c.args.bars.now c.args.voice.now no_bar c.requires.voice lt c.unwrap-symbol.result c.bars.before c.barline_behind-end.result c.split_at.result.0.now _ c.barline_behind-end.ensures front c.pin_of-pin.ensures
+    ∙ turn.cell_is c.args.grammar.now c.args.pins.now c.args.channel c.args.last c.bars.number c.args.bars.now c.args.voice.now no_bar c.requires.voice lt c.unwrap-symbol.result c.bars.before c.barline_after-end.result c.split_at.result.0.now _ c.barline_after-end.ensures front c.pin_of-pin.ensures
     ∙ turn.input_is c.args.grammar.now c.args.pins.now c.args.channel c.args.last c.bars.number c.args.bars.now c.args.voice.now no_bar c.requires.voice lt c.unwrap-symbol.result c.bars.before root c.bars.invariant.before in
     let pushed : c.push.new.self.items ≡ c.bars.inputs.items ++ c.in_ok-cell_of.field-0 ∷ [] = search rules in
     record {

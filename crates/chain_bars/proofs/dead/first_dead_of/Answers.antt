@@ -8,9 +8,9 @@ use Rattle.chain_bars.proofs.dead.first_dead_of.Goals.{Then-not-is_any, Else-rea
 
 dead_now : (c : Then-not-is_any) → IsDeadCell c.args.cells.now c.cells.number
 dead_now c =
-    dead_here c.args.cells.now c.cells.number (c.cells.number + 1) c.behind-next.result c.is_any.result refl c.cells-test.true
-    (reached_step c.args.cells.now c.cells.number (c.cells.number + 1) c.index-cells-number.result c.cells.reached c.behind-next.result (omega arith) c.cells-test.true
-    (index_same c.args.cells.now c.cells.number c.index-cells-number.result [] c.cells-test.true c.index-cells-number.is) c.cells.invariant.0 c.behind-next.ensures)
+    dead_here c.args.cells.now c.cells.number (c.cells.number + 1) c.after-next.result c.is_any.result refl c.cells-test.true
+    (reached_step c.args.cells.now c.cells.number (c.cells.number + 1) c.index-cells-number.result c.cells.reached c.after-next.result (omega arith) c.cells-test.true
+    (index_same c.args.cells.now c.cells.number c.index-cells-number.result [] c.cells-test.true c.index-cells-number.is) c.cells.invariant.0 c.after-next.ensures)
     c.cells.invariant.1 c.is_any.ensures c.if-not-is_any.true
 
 pub returns-then-not-is_any-clause-dead : goal.returns-then-not-is_any-clause-dead
@@ -21,10 +21,10 @@ returns-then-not-is_any-clause-none c = ((λ e. absurd (cc)), λ h. absurd (not_
 
 pub cells-preserved : goal.cells-preserved
 cells-preserved c =
-    let next : AreReachedCounts c.args.cells.now (c.cells.number + 1) c.behind-next.result =
-    reached_step c.args.cells.now c.cells.number (c.cells.number + 1) c.index-cells-number.result c.cells.reached c.behind-next.result (omega arith) c.cells-test.true
-    (index_same c.args.cells.now c.cells.number c.index-cells-number.result [] c.cells-test.true c.index-cells-number.is) c.cells.invariant.0 c.behind-next.ensures in
-    (next, before_more c.args.cells.now c.cells.number c.cells.invariant.1 (marked_any c.args.cells.now (c.cells.number + 1) c.behind-next.result next (c.is_any.ensures.0 (cc))))
+    let next : AreReachedCounts c.args.cells.now (c.cells.number + 1) c.after-next.result =
+    reached_step c.args.cells.now c.cells.number (c.cells.number + 1) c.index-cells-number.result c.cells.reached c.after-next.result (omega arith) c.cells-test.true
+    (index_same c.args.cells.now c.cells.number c.index-cells-number.result [] c.cells-test.true c.index-cells-number.is) c.cells.invariant.0 c.after-next.ensures in
+    (next, before_more c.args.cells.now c.cells.number c.cells.invariant.1 (marked_any c.args.cells.now (c.cells.number + 1) c.after-next.result next (c.is_any.ensures.0 (cc))))
 
 pub returns-then-reached-clause-none : goal.returns-then-reached-clause-none
 returns-then-reached-clause-none c = (

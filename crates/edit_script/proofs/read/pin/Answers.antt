@@ -14,4 +14,4 @@ pub returns-in_err-bar : goal.returns-in_err-bar
 returns-in_err-bar c =
     no_number _ _ _ c.number-2.result c.in_err-bar.field-0.0 c.from_residual-in_err-bar.result c.number-2.ensures.first c.in_err-bar.ensures.value
     (c.from_residual-in_err-bar.ensures.0, c.from_residual-in_err-bar.ensures.1)
-    (λ none command (channel, bar, shape, is, first, second, text). none bar (subst (Begins (IsBarWord bar)) (sym c.number.ensures.behind) second))
+    (λ none command (channel, bar, shape, is, first, second, text). none bar (subst (Begins (IsBarWord bar)) (sym c.number.ensures.after) second))

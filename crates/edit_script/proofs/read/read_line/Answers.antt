@@ -6,17 +6,17 @@ use Rattle.edit_script.proofs.read.read_line.Goals as goal
 
 pub returns-in_default-keyword_of-clause-bad : goal.returns-in_default-keyword_of-clause-bad
 returns-in_default-keyword_of-clause-bad c = λ e.
-    let are = words_are c.of-words.result (script_words c.args.line.now) c.in-Some.word.now c.next.new.self (c.of-words.ensures ∙ ap (slice_split (λ b. b == 32)) c.trimmed.ensures) c.in-Some.ensures.first c.next.ensures.behind in
+    let are = words_are c.of-words.result (script_words c.args.line.now) c.in-Some.word.now c.next.new.self (c.of-words.ensures ∙ ap (slice_split (λ b. b == 32)) c.trimmed.ensures) c.in-Some.ensures.first c.next.ensures.after in
     no_keyword _ c.in-Some.word.now c.next.new.self are c.in_default-keyword_of.ensures
 
 pub returns-clause-command : goal.returns-clause-command
 returns-clause-command c =
-    let are = words_are c.of-words.result (script_words c.args.line.now) c.in-Some.word.now c.next.new.self (c.of-words.ensures ∙ ap (slice_split (λ b. b == 32)) c.trimmed.ensures) c.in-Some.ensures.first c.next.ensures.behind in
+    let are = words_are c.of-words.result (script_words c.args.line.now) c.in-Some.word.now c.next.new.self (c.of-words.ensures ∙ ap (slice_split (λ b. b == 32)) c.trimmed.ensures) c.in-Some.ensures.first c.next.ensures.after in
     read_ok _ _ _ _ are c.in-Some-keyword_of.ensures _ c.command.result c.command.ensures
 
 pub returns-clause-bad : goal.returns-clause-bad
 returns-clause-bad c =
-    let are = words_are c.of-words.result (script_words c.args.line.now) c.in-Some.word.now c.next.new.self (c.of-words.ensures ∙ ap (slice_split (λ b. b == 32)) c.trimmed.ensures) c.in-Some.ensures.first c.next.ensures.behind in
+    let are = words_are c.of-words.result (script_words c.args.line.now) c.in-Some.word.now c.next.new.self (c.of-words.ensures ∙ ap (slice_split (λ b. b == 32)) c.trimmed.ensures) c.in-Some.ensures.first c.next.ensures.after in
     read_bad _ _ _ _ are c.in-Some-keyword_of.ensures _ c.command.result c.command.ensures
 
 pub returns-clause-range : goal.returns-clause-range
@@ -24,7 +24,7 @@ returns-clause-range c = read_range (script_words c.args.line.now) c.command.res
 
 pub returns-clause-shape : goal.returns-clause-shape
 returns-clause-shape c =
-    let are = words_are c.of-words.result (script_words c.args.line.now) c.in-Some.word.now c.next.new.self (c.of-words.ensures ∙ ap (slice_split (λ b. b == 32)) c.trimmed.ensures) c.in-Some.ensures.first c.next.ensures.behind in
+    let are = words_are c.of-words.result (script_words c.args.line.now) c.in-Some.word.now c.next.new.self (c.of-words.ensures ∙ ap (slice_split (λ b. b == 32)) c.trimmed.ensures) c.in-Some.ensures.first c.next.ensures.after in
     read_shape _ _ _ _ are c.in-Some-keyword_of.ensures c.command.result c.command.ensures
 
 pub returns-clause-memory : goal.returns-clause-memory

@@ -1,6 +1,6 @@
 use Rattle.rhythm_base.specs.Replies.{score_text}
 use Rattle.edit_script.specs.Sending.{SentPart}
-use Rattle.edit_script.proofs.SendingLemmas.{SentPart-first, handed, part_behind}
+use Rattle.edit_script.proofs.SendingLemmas.{SentPart-first, handed, part_after}
 use Rattle.edit_script.proofs.reply_lines.write_score.Goals as goal
 
 pub returns-in_err-sent-clause-part : goal.returns-in_err-sent-clause-part
@@ -11,4 +11,4 @@ returns-in_err-sent-clause-part g c =
 
 pub returns-clause-part : goal.returns-clause-part
 returns-clause-part g c =
-    part_behind _ _ _ c.args.sent c.in_ok-sent.sent _ c.args.score.now c.write_bytes.result c.in_ok-sent.ensures.all c.write_bytes.ensures.part
+    part_after _ _ _ c.args.sent c.in_ok-sent.sent _ c.args.score.now c.write_bytes.result c.in_ok-sent.ensures.all c.write_bytes.ensures.part

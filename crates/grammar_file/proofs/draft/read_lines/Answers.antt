@@ -12,13 +12,13 @@ lines-preserved c =
     let said = on_line-ok line.number c.speak.result spoken (sym c.on_line.ensures ∙ c.in_ok-spoken.was) in
     let put = on_line-ok line.number c.push.result c.in_ok-on_line.field-0 (sym c.on_line-in-Line.ensures ∙ c.in_ok-on_line.was) in
     let more : c.push.new.self.spoken.items ≡ c.lines.draft.spoken.items ++ spoken ∷ [] = on_ok_holds _ c.push.result c.in_ok-on_line.field-0 put c.push.ensures.spoken in
-    let behind = ap (λ (x : Content). x.end) c.in_ok-line.ensures.behind in
+    let after = ap (λ (x : Content). x.end) c.in_ok-line.ensures.after in
     let number : IsLineNumber c.lines.lines.end line.number = subst (IsNext c.lines.lines.end) c.in-Line.is c.in_ok-line.ensures.number in
     let own : spoken.line ≡ line.number = at_ok (λ s. s.line ≡ line.number) c.speak.result spoken said c.speak.ensures.line in
     let here : IsLineNumber c.args.lines.now.end spoken.line = subst (λ n. IsLineNumber c.args.lines.now.end n) (sym own) (subst (λ e. IsLineNumber e line.number) c.lines.invariant.end number) in
     record {
       names = on_ok_holds _ c.push.result c.in_ok-on_line.field-0 put c.push.ensures.names;
-      end = behind ∙ c.lines.invariant.end;
+      end = after ∙ c.lines.invariant.end;
       lines = subst (All (λ (s : Spoken). IsLineNumber c.args.lines.now.end s.line)) (sym more) (All-push (λ s. IsLineNumber c.args.lines.now.end s.line) c.lines.draft.spoken.items spoken c.lines.invariant.lines here);
       same = search rules;
     }

@@ -12,7 +12,7 @@ use Rattle.grammar_file.specs.declared.draft.Spoken.{Spoken}
 use Rattle.grammar_file.specs.Header.{header_of}
 use Rattle.grammar_file.specs.Outcome.{GivesAt}
 use Rattle.grammar_file.specs.Sayable.{IsSayable}
-use Rattle.grammar_file.specs.Statements.{in_turn, spoken_behind}
+use Rattle.grammar_file.specs.Statements.{in_turn, spoken_after}
 use Rattle.grammar_file.proofs.read.read_grammar.Goals as goal
 
 pub returns-in_err-header-clause-value : goal.returns-in_err-header-clause-value
@@ -23,10 +23,10 @@ returns-in_err-header-clause-value c =
 pub returns-in_err-draft-clause-value : goal.returns-in_err-draft-clause-value
 returns-in_err-draft-clause-value c =
     let version = c.in_ok-header.header.version in
-    let lines : c.read_header.new.lines.lines ≡ drop 4 (content_of c.args.text.now).lines = c.in_ok-header.ensures.behind ∙ ap (λ content. drop 4 content.lines) c.of-lines.ensures in
+    let lines : c.read_header.new.lines.lines ≡ drop 4 (content_of c.args.text.now).lines = c.in_ok-header.ensures.after ∙ ap (λ content. drop 4 content.lines) c.of-lines.ensures in
     let p = err_from_is_err_and c.from_residual-in_err-draft.result c.from_residual-in_err-draft.ensures.1 in
     rw (p.1, p.2) (λ other. grammar_2 c.args.text.now _ c.in_ok-header.header (ap header_of (sym c.of-lines.ensures) ∙ c.in_ok-header.ensures.value)
-    (ap (in_turn (spoken_behind version) []) (sym lines) ∙ c.in_err-draft.ensures.value other))
+    (ap (in_turn (spoken_after version) []) (sym lines) ∙ c.in_err-draft.ensures.value other))
 
 pub returns-in_err-header-clause-line : goal.returns-in_err-header-clause-line
 returns-in_err-header-clause-line c =
@@ -54,24 +54,24 @@ grammar-requires-clause-few c =
 pub returns-clause-value : goal.returns-clause-value
 returns-clause-value c =
     let version = c.in_ok-header.header.version in
-    let lines : c.read_header.new.lines.lines ≡ drop 4 (content_of c.args.text.now).lines = c.in_ok-header.ensures.behind ∙ ap (λ content. drop 4 content.lines) c.of-lines.ensures in
+    let lines : c.read_header.new.lines.lines ≡ drop 4 (content_of c.args.text.now).lines = c.in_ok-header.ensures.after ∙ ap (λ content. drop 4 content.lines) c.of-lines.ensures in
     subst (GivesAt c.grammar.result) (sym (grammar_3 c.args.text.now c.in_ok-header.header c.in_ok-draft.draft.spoken.items
     (ap header_of (sym c.of-lines.ensures) ∙ c.in_ok-header.ensures.value)
-    (ap (in_turn (spoken_behind version) []) (sym lines) ∙ c.in_ok-draft.ensures.value))) c.grammar.ensures.value
+    (ap (in_turn (spoken_after version) []) (sym lines) ∙ c.in_ok-draft.ensures.value))) c.grammar.ensures.value
 
 pub returns-clause-sayable : goal.returns-clause-sayable
 returns-clause-sayable c =
     let version = c.in_ok-header.header.version in
-    let lines : c.read_header.new.lines.lines ≡ drop 4 (content_of c.args.text.now).lines = c.in_ok-header.ensures.behind ∙ ap (λ content. drop 4 content.lines) c.of-lines.ensures in
+    let lines : c.read_header.new.lines.lines ≡ drop 4 (content_of c.args.text.now).lines = c.in_ok-header.ensures.after ∙ ap (λ content. drop 4 content.lines) c.of-lines.ensures in
     given_ok IsSayable c.grammar.result _ (subst (GivesAt c.grammar.result) (sym (grammar_3 c.args.text.now c.in_ok-header.header c.in_ok-draft.draft.spoken.items
     (ap header_of (sym c.of-lines.ensures) ∙ c.in_ok-header.ensures.value)
-    (ap (in_turn (spoken_behind version) []) (sym lines) ∙ c.in_ok-draft.ensures.value))) c.grammar.ensures.value) (grammar_is_sayable c.args.text.now)
+    (ap (in_turn (spoken_after version) []) (sym lines) ∙ c.in_ok-draft.ensures.value))) c.grammar.ensures.value) (grammar_is_sayable c.args.text.now)
 
 pub returns-clause-readable : goal.returns-clause-readable
 returns-clause-readable c =
     let version = c.in_ok-header.header.version in
-    let lines : c.read_header.new.lines.lines ≡ drop 4 (content_of c.args.text.now).lines = c.in_ok-header.ensures.behind ∙ ap (λ content. drop 4 content.lines) c.of-lines.ensures in
+    let lines : c.read_header.new.lines.lines ≡ drop 4 (content_of c.args.text.now).lines = c.in_ok-header.ensures.after ∙ ap (λ content. drop 4 content.lines) c.of-lines.ensures in
     IfOk-weaker c.grammar.result IsSayable IsReadable (λ g can. can.readable)
     (given_ok IsSayable c.grammar.result _ (subst (GivesAt c.grammar.result) (sym (grammar_3 c.args.text.now c.in_ok-header.header c.in_ok-draft.draft.spoken.items
     (ap header_of (sym c.of-lines.ensures) ∙ c.in_ok-header.ensures.value)
-    (ap (in_turn (spoken_behind version) []) (sym lines) ∙ c.in_ok-draft.ensures.value))) c.grammar.ensures.value) (grammar_is_sayable c.args.text.now))
+    (ap (in_turn (spoken_after version) []) (sym lines) ∙ c.in_ok-draft.ensures.value))) c.grammar.ensures.value) (grammar_is_sayable c.args.text.now))

@@ -11,8 +11,8 @@ returns-in-Some-clause-before c =
     (YieldsList-from_slice c.args.word.now c.iter.ensures.rest) (λ x b q k. search (rules, tests)) in
     ap (λ n. take n c.args.word.now) (sym (position-found (λ b. b == 47) c.args.word.now _ (sym found ∙ c.in-Some.is)))
 
-pub returns-in-Some-clause-behind : goal.returns-in-Some-clause-behind
-returns-in-Some-clause-behind c =
+pub returns-in-Some-clause-after : goal.returns-in-Some-clause-after
+returns-in-Some-clause-after c =
     let found = position_from_yields_List (λ b. b == 47) _ _ c.position.result c.position.ensures.ran
     (YieldsList-from_slice c.args.word.now c.iter.ensures.rest) (λ x b q k. search (rules, tests)) in
     take_rest c.args.word.now (c.in-Some.at + 1)
@@ -24,8 +24,8 @@ returns-in-None-clause-before c =
     (YieldsList-from_slice c.args.word.now c.iter.ensures.rest) (λ x b q k. search (rules, tests)) in
     sym (take_all _ c.args.word.now (position-missing (λ b. b == 47) c.args.word.now (sym found ∙ c.in-None.is)))
 
-pub returns-in-None-clause-behind : goal.returns-in-None-clause-behind
-returns-in-None-clause-behind c =
+pub returns-in-None-clause-after : goal.returns-in-None-clause-after
+returns-in-None-clause-after c =
     let found = position_from_yields_List (λ b. b == 47) _ _ c.position.result c.position.ensures.ran
     (YieldsList-from_slice c.args.word.now c.iter.ensures.rest) (λ x b q k. search (rules, tests)) in
     let missing = position-missing (λ b. b == 47) c.args.word.now (sym found ∙ c.in-None.is) in

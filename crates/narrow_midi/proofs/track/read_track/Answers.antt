@@ -40,7 +40,7 @@ events-preserved c =
     let found = c.in-Some-read_note in
     let grown = c.in_ok-push.ensures.items in
     record {
-      whole = goes_on (length c.args.bytes.now) s.tick s.rest.now next (found.note, found.behind.now) s.notes.items _ _ grown (omega (arith, c.in-Some.ensures.shorter)) (sym c.in-Some.ensures.value) goes (sym found.ensures.value) s.invariant.whole;
+      whole = goes_on (length c.args.bytes.now) s.tick s.rest.now next (found.note, found.after.now) s.notes.items _ _ grown (omega (arith, c.in-Some.ensures.shorter)) (sym c.in-Some.ensures.value) goes (sym found.ensures.value) s.invariant.whole;
       room = omega (arith, c.in-Some.ensures.shorter, found.ensures.shorter, simp length-append at (ap length grown));
       tick = found.ensures.within;
     }

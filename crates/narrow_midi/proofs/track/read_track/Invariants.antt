@@ -3,7 +3,7 @@ use Rattle.narrow_midi.specs.Track.{notes, narrow_track}
 use Rattle.narrow_midi.proofs.NotesFollow.{with_front}
 use Rattle.narrow_midi.proofs.track.read_track.Given as goal
 
--- the notes so far and those behind the tick are the notes of the track, and there is room for as many as bytes are left
+-- the notes so far and those after the tick are the notes of the track, and there is room for as many as bytes are left
 abbrev pub invariant-events : goal.invariant-events
 invariant-events l = record {
   whole : with_front l.notes.items (notes (length l.bytes - length l.notes.items) l.tick l.rest) ≡ narrow_track l.bytes;

@@ -40,18 +40,18 @@ returns-then-first-eq49-clause-ok c =
     let text : List ℕ = c.args.text.now in
     let rest : List ℕ = take (length text - 1) (drop 1 text) in
     let is : text ≡ 49 ∷ rest = first_and_rest 0 text c.in-len1-up.len_at_least ∙ ap (λ d. d ∷ rest) c.if-first-eq49.true in
-    IfOk-weaker c.head_behind_1.result _ _ (λ r w.
+    IfOk-weaker c.head_after_1.result _ _ (λ r w.
     let can = ShapeStops.can_be r.0 (omega (arith, w.0)) w.1 in (
       record { can = can; low = λ none. absurd (c.if-levels-eq0.false none) },
       is ∙ ap (λ l. 49 ∷ l) w.2 ∙ ap (λ l. l ++ r.1.now) (sym (ShapeStops.head_great r.0 w.0 can)),
-    )) c.head_behind_1.ensures.ok
+    )) c.head_after_1.ensures.ok
 
 pub returns-then-first-eq49-clause-err : goal.returns-then-first-eq49-clause-err
 returns-then-first-eq49-clause-err c =
     let text : List ℕ = c.args.text.now in
     let rest : List ℕ = take (length text - 1) (drop 1 text) in
     let is : text ≡ 49 ∷ rest = first_and_rest 0 text c.in-len1-up.len_at_least ∙ ap (λ d. d ∷ rest) c.if-first-eq49.true in
-    ShapeStops.turned c.head_behind_1.result c.head_behind_1.ensures.err
+    ShapeStops.turned c.head_after_1.result c.head_after_1.ensures.err
     (λ left stop. ShapeStops.one_then_digit c.args.levels rest text left (omega (arith, c.if-levels-eq0.false)) is stop)
 
 pub returns-in_ok-byte-clause-ok : goal.returns-in_ok-byte-clause-ok

@@ -16,13 +16,13 @@ first_tree-returns-clause-parts t c = λ count other.
 pub push_trees-returns-in_ok-push-in-len1-up-clause-read : goal.push_trees-returns-in_ok-push-in-len1-up-clause-read
 push_trees-returns-in_ok-push-in-len1-up-clause-read t c =
     let list : List ℕ = c.args.rules.now in
-    let behind : List ℕ = take (length list - 1) (drop 1 list) in
-    let is : list ≡ get_or list 0 0 ∷ behind = first_and_rest 0 list c.in-len1-up.len_at_least in
+    let after : List ℕ = take (length list - 1) (drop 1 list) in
+    let is : list ≡ get_or list 0 0 ∷ after = first_and_rest 0 list c.in-len1-up.len_at_least in
     let tree : Tree = c.in_ok-tree-in-len1-up.tree in
     IfOk-weaker c.push_trees.result _ _ (λ last w. (
       tree ∷ w.0,
       w.1 ∙ ap (λ l. l ++ w.0) c.in_ok-push-in-len1-up.ensures.items ∙ append_assoc c.args.trees.now.items (tree ∷ []) w.0,
       subst (λ l. AreFirst c.args.book.now c.args.count l (more tree.rule tree.kids (forest_of w.0)) last.now) (sym is)
-          (first-more c.args.book.now c.args.count (get_or list 0 0) behind c.in_ok-tree-in-len1-up.rest.now last.now tree (forest_of w.0) c.if-count-gt0.true
+          (first-more c.args.book.now c.args.count (get_or list 0 0) after c.in_ok-tree-in-len1-up.rest.now last.now tree (forest_of w.0) c.if-count-gt0.true
           c.in_ok-tree-in-len1-up.ensures.rule c.in_ok-tree-in-len1-up.ensures.parts w.2),
     )) c.push_trees.ensures.read

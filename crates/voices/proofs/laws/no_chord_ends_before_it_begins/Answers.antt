@@ -1,5 +1,5 @@
-use Rattle.rhythm_laws.proofs.ChordLemmas.{ends_behind}
+use Rattle.rhythm_laws.proofs.ChordLemmas.{chords_end_after}
 use Rattle.voices.proofs.laws.no_chord_ends_before_it_begins.Goals as goal
 
 pub returns : goal.returns
-returns c = ends_behind
+returns c = chords_end_after

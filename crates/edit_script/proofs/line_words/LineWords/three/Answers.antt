@@ -10,4 +10,4 @@ pub returns-in_err-next-clause-words : goal.returns-in_err-next-clause-words
 returns-in_err-next-clause-words c =
     finds_none _ c.from_residual-in_err-next.result c.from_residual-in_err-next.ensures (λ n are.
     c.in_err-next.ensures.words (n.1, n.2)
-    (subst (Are (IsNumber c.args.second n.1 ∷ IsNumber c.args.third n.2 ∷ [])) (sym c.number.ensures.behind) (rest_are (IsNumber c.args.first n.0) (IsNumber c.args.second n.1 ∷ IsNumber c.args.third n.2 ∷ []) c.args.self.now are)))
+    (subst (Are (IsNumber c.args.second n.1 ∷ IsNumber c.args.third n.2 ∷ [])) (sym c.number.ensures.after) (rest_are (IsNumber c.args.first n.0) (IsNumber c.args.second n.1 ∷ IsNumber c.args.third n.2 ∷ []) c.args.self.now are)))

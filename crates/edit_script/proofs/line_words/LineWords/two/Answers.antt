@@ -10,4 +10,4 @@ pub returns-in_err-last-clause-words : goal.returns-in_err-last-clause-words
 returns-in_err-last-clause-words c =
     finds_none _ c.from_residual-in_err-last.result c.from_residual-in_err-last.ensures (λ n are.
     c.in_err-last.ensures.words n.1
-    (subst (Are (IsNumber c.args.second n.1 ∷ [])) (sym c.number.ensures.behind) (rest_are (IsNumber c.args.first n.0) (IsNumber c.args.second n.1 ∷ []) c.args.self.now are)))
+    (subst (Are (IsNumber c.args.second n.1 ∷ [])) (sym c.number.ensures.after) (rest_are (IsNumber c.args.first n.0) (IsNumber c.args.second n.1 ∷ []) c.args.self.now are)))

@@ -3,7 +3,7 @@ use Rattle.std.proofs.lemmas.Bool.Decides.{nat_tests}
 use Rattle.std.proofs.lemmas.Result.{IfOk-weaker}
 use Rattle.grammar_file.proofs.OutcomeLemmas.{err_weaker, on_ok}
 use Rattle.grammar_file.proofs.ContentLemmas.{content-end, content-said, content-skipped, next-end, next-line}
-use Rattle.grammar_file.specs.Content.{IsLineNumber, IsNext, behind_first, content_from, next_statement}
+use Rattle.grammar_file.specs.Content.{IsLineNumber, IsNext, content_after_first, content_from, next_statement}
 use Rattle.grammar_file.specs.Lines.{grammar_lines}
 use Rattle.grammar_file.proofs.line.Lines.next.Goals as goal
 
@@ -32,12 +32,12 @@ pub returns-clause-number : goal.returns-clause-number
 returns-clause-number c =
     next-end c.lines.self-inside.number c.lines.self-inside.rest.now c.args.self.now c.lines.invariant.some (grind (arith, nat_tests, c.is_empty.ensures, c.lines-test.false)) c.lines.invariant.same
 
-pub returns-then-is_content-clause-behind : goal.returns-then-is_content-clause-behind
-returns-then-is_content-clause-behind c =
+pub returns-then-is_content-clause-after : goal.returns-then-is_content-clause-after
+returns-then-is_content-clause-after c =
     let n = c.lines.self-inside.number in
     let whole = ap (content_from n) (sym c.first_line.ensures.line) ∙ c.lines.invariant.same in
     let said = content-said n c.first_line.result.0.now (grammar_lines c.first_line.result.1.now) (sym c.is_content.ensures ∙ c.if-is_content.true) in
-    on_ok _ c.numbered.result (said.1 ∙ ap behind_first whole)
+    on_ok _ c.numbered.result (said.1 ∙ ap content_after_first whole)
 
 pub lines-preserved : goal.lines-preserved
 lines-preserved c =
@@ -54,7 +54,7 @@ returns-clause-next c =
     let none = content-end c.lines.self-inside.number c.lines.self-inside.rest.now (grind (arith, nat_tests, c.is_empty.ensures, c.lines-test.false)) in
     none.0 ∙ ap next_statement c.lines.invariant.same
 
-pub returns-clause-behind : goal.returns-clause-behind
-returns-clause-behind c =
+pub returns-clause-after : goal.returns-clause-after
+returns-clause-after c =
     let none = content-end c.lines.self-inside.number c.lines.self-inside.rest.now (grind (arith, nat_tests, c.is_empty.ensures, c.lines-test.false)) in
-    none.1 ∙ ap behind_first c.lines.invariant.same
+    none.1 ∙ ap content_after_first c.lines.invariant.same

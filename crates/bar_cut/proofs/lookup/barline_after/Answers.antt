@@ -1,7 +1,7 @@
 use Rattle.std.proofs.Common.{arith, sym, ◌+◌}
 use Rattle.rhythm_laws.proofs.EditedBars.{barline_last}
 use Rattle.bar_cut.proofs.Barlines.{starts_at}
-use Rattle.bar_cut.proofs.lookup.barline_behind.Goals as goal
+use Rattle.bar_cut.proofs.lookup.barline_after.Goals as goal
 
 pub returns-then-number-bars : goal.returns-then-number-bars
 returns-then-number-bars c = sym (starts_at c.args.bars.now c.args.last (c.args.number + 1) _ c.if-number-bars.true)

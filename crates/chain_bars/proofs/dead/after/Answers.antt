@@ -1,6 +1,6 @@
 use Rattle.chain_bars.specs.Reaches.{CanStep}
 use Rattle.chain_bars.proofs.Deaths.{each_of_five}
-use Rattle.chain_bars.proofs.dead.behind.Goals as goal
+use Rattle.chain_bars.proofs.dead.after.Goals as goal
 
 pub returns : goal.returns
 returns c =

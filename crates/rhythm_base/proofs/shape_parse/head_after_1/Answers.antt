@@ -1,11 +1,11 @@
 use Rattle.std.proofs.Common.{List, ◌+◌, ◌<◌, ◌≤◌, ◌≡◌, ◌∷◌, length, take, drop, get_or, ℕ, ◌-◌, ap, ◌∙◌, subst, arith}
 use Rattle.std.proofs.lemmas.Result.{err_from_is_err_and}
-use Rattle.rhythm_base.specs.ShapeReading.{HeadBehind1, StopsWith}
+use Rattle.rhythm_base.specs.ShapeReading.{HeadAfter1, StopsWith}
 use Rattle.rhythm_base.proofs.ShapeStops
 use Rattle.rhythm_base.proofs.ShapeTexts.{first_and_rest}
 use mathlib.Core.Logic.{⊎_elim}
 use Rattle.std.proofs.lemmas.Bool.Decides.{nat_tests}
-use Rattle.rhythm_base.proofs.shape_parse.head_behind_1.Goals as goal
+use Rattle.rhythm_base.proofs.shape_parse.head_after_1.Goals as goal
 
 pub returns-in_err-byte-in-len1-up-clause-err : goal.returns-in_err-byte-in-len1-up-clause-err
 returns-in_err-byte-in-len1-up-clause-err c =
@@ -25,7 +25,7 @@ pub returns-in-empty-clause-err : goal.returns-in-empty-clause-err
 returns-in-empty-clause-err c =
     let text : List ℕ = c.args.text.now in
     let none : length text ≡ 0 = omega (arith, c.in-empty.len_below) in
-    subst (λ n. StopsWith HeadBehind1 text n) none (ShapeStops.no_second text (λ low high. omega (arith, high, ShapeStops.nothing_next text none)))
+    subst (λ n. StopsWith HeadAfter1 text n) none (ShapeStops.no_second text (λ low high. omega (arith, high, ShapeStops.nothing_next text none)))
 
 pub returns-else-contains-clause-err : goal.returns-else-contains-clause-err
 returns-else-contains-clause-err c =
