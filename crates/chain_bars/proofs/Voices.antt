@@ -314,7 +314,7 @@ path_none g bars cs xs voice h = (none_fits, λ f. no_path f (least_key (matrice
 
 -- ---- the dead cell is the dead bar
 
-tables_long : (g : Grammar) (cs : List Inner) (bars : List VoiceBar) (xs : List BarTable) → AreTables g cs bars xs → length (matrices xs) ≡ length bars
+pub tables_long : (g : Grammar) (cs : List Inner) (bars : List VoiceBar) (xs : List BarTable) → AreTables g cs bars xs → length (matrices xs) ≡ length bars
 tables_long g cs [] [] h = refl
 tables_long g cs [] (x ∷ xs) h = absurd h
 tables_long g cs (bar ∷ bars) [] h = absurd h

@@ -1,6 +1,10 @@
-// Tests of what is written of a bar's leaves: the values of a length, and the values with dots of the leaves and ties of a
-// bar, each by a table.
+// Tests of the way from a derivation to what is written, each by a table: the sounds and spans of derivations, the values of
+// a length, the values with dots of the leaves and ties of a bar, and the texts of scores.
 #![tactic(auto)]
 
 #[cfg(test)]
+mod kern;
+#[cfg(test)]
 mod lengths;
+#[cfg(test)]
+mod sounds;

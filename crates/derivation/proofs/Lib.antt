@@ -1,0 +1,16 @@
+pub mod Middles
+pub mod WalkedLeaves
+pub mod AttachedChords
+pub mod NumberedLeaves
+pub mod SoundPlaces
+pub mod WellSounding
+pub mod ReadChords
+pub mod SoundsRead
+pub mod BarsRead
+pub mod ChordKeys
+pub mod WithoutPins
+pub mod Fractions
+pub mod OneSpans
+pub mod FilledBars
+pub mod SpansRead
+pub mod WorkedSounds

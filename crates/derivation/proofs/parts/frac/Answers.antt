@@ -1,0 +1,9 @@
+use Rattle.std.proofs.Common.{◌*◌, subst, arith}
+use Rattle.durations.specs.Values.{IsLowest}
+use Rattle.derivation.proofs.Fractions.{frac_of_lowest}
+use Rattle.derivation.proofs.parts.frac.Goals as goal
+
+pub returns : goal.returns
+returns c =
+    frac_of_lowest c.args.parts (64 * c.args.resolution) _ _ (omega (arith, c.requires))
+    (subst (λ n. IsLowest c.args.parts (64 * n) c.lowest-length.result.parts c.lowest-length.result.whole) c.from.ensures c.lowest-length.ensures)

@@ -1,0 +1,4 @@
+pub mod Laws
+pub mod Sounds
+pub mod TimedLeaves
+pub mod WellSounded

@@ -1,0 +1,22 @@
+pub mod AllRecords
+pub mod BarSounds
+pub mod BarTokens
+pub mod BarValues
+pub mod ColumnLemmas
+pub mod KeySets
+pub mod Merging
+pub mod OneScore
+pub mod OneText
+pub mod Pairs
+pub mod Rising
+pub mod RisingKeys
+pub mod RisingPlaces
+pub mod Separators
+pub mod TimedSounds
+pub mod VoiceTokens
+pub mod ValuesExist
+pub mod Writing
+mod WorkedChanges
+mod WorkedRecords
+mod WorkedScore
+mod WorkedTokens

@@ -1,0 +1,13 @@
+use Rattle.std.proofs.Common.{◌≡◌, ◌∷◌, [], ◌++◌, List, sym, ap, ◌∙◌, Some, None, arith, refl}
+use Rattle.std.proofs.lemmas.List.{append_assoc}
+use Rattle.std.proofs.lemmas.Option.{slice_get_read}
+use Rattle.kern_writer.specs.Values.{VoiceValue, is_first, values_of_sounds}
+use Rattle.kern_writer.proofs.BarValues.{first_value_of, values_more}
+use Rattle.kern_writer.proofs.voice_value.values_for.Goals as goal
+
+pub written-preserved : goal.written-preserved
+written-preserved c =
+    let xs = c.args.sounds.now in
+    let read = slice_get_read xs _ _ _ refl (c.requires _ _ c.written-test.true) c.index-sounds-value.is in
+    let next = values_more xs c.written.before c.args.written.now c.written.value-index _ _ c.written-test.true read in
+    grind (arith, append_assoc)

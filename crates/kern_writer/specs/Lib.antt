@@ -1,0 +1,13 @@
+pub mod Score
+pub mod Values
+pub mod Tokens
+pub mod Changes
+pub mod Records
+pub mod Text
+pub mod PerformanceScore
+pub mod Laws
+pub mod Columns
+pub mod Ahead
+pub mod Shared
+pub mod Writing
+pub mod KeyRange

@@ -1,0 +1,130 @@
+ghost use Rattle.kern_writer.specs.Changes as definitions;
+ghost use Rattle.kern_writer.specs.Changes.{changes, key_before, key_change, quarters_of_minute, signature_change, tempo_change};
+ghost use Rattle.kern_writer.specs.Records.{alike};
+ghost use Rattle.kern_writer.specs.Score.{IsScoreBar};
+ghost use Rattle.kern_writer.specs.Writing.{IsBounded, Writes};
+ghost use Rattle.std.specs.Prelude.{◌≡◌, ◌≤◌, IfSome, map};
+
+use crate::fault::ScoreFault;
+use crate::kern_text::KernText;
+use crate::score::ScoreBar;
+use crate::shared::{SharedToken, write_shared};
+
+/// The quarter notes of a minute, rounded, halves up.
+fn quarters(bar: &ScoreBar) -> u64
+    requires { IsScoreBar bar.now }
+    ensures { result ≡ quarters_of_minute bar.now.tempo }
+{
+    let tempo = u64::from(bar.tempo);
+    (120_000_000 + tempo) / (2 * tempo)
+}
+
+/// Whether a key is the one before.
+fn is_same_key(before: Option<i8>, sf: i8) -> bool
+    ensures { result ≡ definitions.same_key before sf }
+{
+    match before {
+        None => false,
+        Some(other) => other == sf,
+    }
+}
+
+/// Whether the signature of a bar is the one before.
+fn is_same_signature(before: Option<ScoreBar>, bar: &ScoreBar) -> bool
+    ensures { result ≡ definitions.same_signature before bar.now }
+{
+    match before {
+        None => false,
+        Some(other) => other.num == bar.num && other.den == bar.den,
+    }
+}
+
+/// Whether the tempo of a bar is rounded to the same number as the one before.
+fn is_same_tempo(before: Option<ScoreBar>, bar: &ScoreBar) -> bool
+    requires before { IfSome before IsScoreBar }
+    requires bar { IsScoreBar bar.now }
+    ensures { result ≡ definitions.same_tempo before bar.now }
+{
+    match before {
+        None => false,
+        Some(other) => quarters(&other) == quarters(bar),
+    }
+}
+
+/// The key before.
+fn key_of(before: Option<ScoreBar>) -> Option<i8>
+    ensures { result ≡ key_before before }
+{
+    match before {
+        None => None,
+        Some(other) => other.sf,
+    }
+}
+
+/// Writes the key of a bar, where it has one and it is not the one before.
+fn write_key(
+    text: &mut KernText,
+    voices: usize,
+    before: Option<i8>,
+    key: Option<i8>,
+) -> Result<(), ScoreFault>
+    requires { IsBounded text.old }
+    ensures { Writes (map (alike voices) (key_change before key)) text.old result text.new }
+{
+    match key {
+        Some(sf) if !is_same_key(before, sf) => write_shared(text, voices, SharedToken::Key(sf)),
+        _ => Ok(()),
+    }
+}
+
+/// Writes the signature of a bar, where it is not the one before.
+fn write_signature(
+    text: &mut KernText,
+    voices: usize,
+    before: Option<ScoreBar>,
+    bar: &ScoreBar,
+) -> Result<(), ScoreFault>
+    requires { IsBounded text.old }
+    ensures { Writes (map (alike voices) (signature_change before bar.now)) text.old result text.new }
+{
+    if is_same_signature(before, bar) {
+        return Ok(());
+    }
+    let ScoreBar { num, den, .. } = *bar;
+    write_shared(text, voices, SharedToken::Signature { num, den })
+}
+
+/// Writes the tempo of a bar, where it is not the one before.
+fn write_tempo(
+    text: &mut KernText,
+    voices: usize,
+    before: Option<ScoreBar>,
+    bar: &ScoreBar,
+) -> Result<(), ScoreFault>
+    requires text { IsBounded text.old }
+    requires before { IfSome before IsScoreBar }
+    requires bar { IsScoreBar bar.now }
+    ensures { Writes (map (alike voices) (tempo_change before bar.now)) text.old result text.new }
+{
+    if is_same_tempo(before, bar) {
+        return Ok(());
+    }
+    write_shared(text, voices, SharedToken::Tempo(quarters(bar)))
+}
+
+/// Writes the changes before a bar.
+pub(crate) fn write_changes(
+    text: &mut KernText,
+    voices: usize,
+    before: Option<ScoreBar>,
+    bar: &ScoreBar,
+) -> Result<(), ScoreFault>
+    requires text { IsBounded text.old }
+    requires before { IfSome before IsScoreBar }
+    requires bar { IsScoreBar bar.now }
+    ensures { Writes (map (alike voices) (changes before bar.now)) text.old result text.new }
+{
+    write_key(text, voices, key_of(before), bar.sf)?;
+    write_signature(text, voices, before, bar)?;
+    write_tempo(text, voices, before, bar)
+}

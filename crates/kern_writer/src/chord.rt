@@ -1,0 +1,143 @@
+ghost use Rattle.kern_writer.specs.KeyRange.{AreKeysIn};
+ghost use Rattle.kern_writer.specs.Tokens.{chord_text, closing, goes_on, grace_text, main_text, note_text, opening, short_mark};
+ghost use Rattle.rhythm_base.specs.Pitch.{pitch};
+ghost use Rattle.std.specs.Prelude.{◌≡◌, ◌++◌, IsTrue, OnOk, codes};
+
+use crate::kern_text::push_between;
+use crate::key_range::KeyRange;
+use crate::pitch::push_pitch;
+use crate::value_text::push_value;
+use crate::voice_value::VoiceValue;
+use rhythm_base::{Keys, SoundKind};
+use std::alloc::AllocError;
+
+/// Appends the bracket of the first value of a span of several.
+fn push_opening(text: &mut Vec<u8>, goes_on: bool, next: bool) -> Result<(), AllocError>
+    ensures { OnOk result (text.new.items ≡ text.old.items ++ opening goes_on next) }
+{
+    if !goes_on && next {
+        text.push(b'[')?;
+    }
+    Ok(())
+}
+
+/// Appends the bracket of the last value of a span of several, and the underscore of one between the first and the last.
+fn push_closing(text: &mut Vec<u8>, goes_on: bool, next: bool) -> Result<(), AllocError>
+    ensures { OnOk result (text.new.items ≡ text.old.items ++ closing goes_on next) }
+{
+    if goes_on {
+        text.push(if next { b'_' } else { b']' })?;
+    }
+    Ok(())
+}
+
+/// Appends the mark of the first value of a short leaf.
+fn push_short(text: &mut Vec<u8>, value: &VoiceValue) -> Result<(), AllocError>
+    ensures { OnOk result (text.new.items ≡ text.old.items ++ short_mark value.now) }
+{
+    if value.sound.kind == SoundKind::Short && value.first {
+        text.push(b'\'')?;
+    }
+    Ok(())
+}
+
+/// Appends a note of a value.
+fn push_note(
+    text: &mut Vec<u8>,
+    flats: bool,
+    value: &VoiceValue,
+    next: bool,
+    key: u8,
+) -> Result<(), AllocError>
+    ensures { OnOk result (text.new.items ≡ text.old.items ++ note_text flats value.now next key) }
+{
+    let goes_on = value.goes_on();
+    push_opening(text, goes_on, next)?;
+    push_value(text, value.value)?;
+    push_pitch(text, flats, key)?;
+    push_closing(text, goes_on, next)?;
+    push_short(text, value)
+}
+
+/// Whether two sets of keys are one.
+fn are_same(keys: Keys, other: Keys) -> bool
+    ensures { IsTrue result → keys ≡ other }
+{
+    keys == other
+}
+
+/// Appends the notes of a value by rising key, with a space between two.
+fn push_notes(
+    text: &mut Vec<u8>,
+    flats: bool,
+    range: KeyRange,
+    value: &VoiceValue,
+    next: bool,
+) -> Result<(), AllocError>
+    requires { AreKeysIn range value.now.sound.keys }
+    ensures { OnOk result (text.new.items ≡ text.old.items ++ chord_text (note_text flats value.now next) value.now.sound.keys) }
+{
+    let keys = value.sound.keys;
+    let mut found = Keys::none();
+    let mut number = 0;
+    'keys: for key in range.low..range.end {
+        if keys.has(key) {
+            push_between(text, b' ', number)?;
+            push_note(text, flats, value, next, key)?;
+            number += 1;
+            found = found.join(Keys::one(key));
+            if are_same(found, keys) {
+                return Ok(());
+            }
+        }
+    }
+    Ok(())
+}
+
+/// Appends the main token of a value.
+pub(crate) fn push_main(
+    text: &mut Vec<u8>,
+    flats: bool,
+    range: KeyRange,
+    value: &VoiceValue,
+    next: bool,
+) -> Result<(), AllocError>
+    requires { AreKeysIn range value.now.sound.keys }
+    ensures { OnOk result (text.new.items ≡ text.old.items ++ main_text flats value.now next) }
+{
+    if value.sound.kind == SoundKind::Rest {
+        push_value(text, value.value)?;
+        text.extend_from_slice(b"r")
+    } else {
+        push_notes(text, flats, range, value, next)
+    }
+}
+
+/// Appends a note of a grace chord.
+fn push_grace_note(text: &mut Vec<u8>, flats: bool, key: u8) -> Result<(), AllocError>
+    ensures { OnOk result (text.new.items ≡ text.old.items ++ (codes "q" ++ pitch flats key)) }
+{
+    text.extend_from_slice(b"q")?;
+    push_pitch(text, flats, key)
+}
+
+/// Appends a grace chord by rising key, with a space between two.
+pub(crate) fn push_grace(
+    text: &mut Vec<u8>,
+    flats: bool,
+    range: KeyRange,
+    keys: Keys,
+) -> Result<(), AllocError>
+    requires { AreKeysIn range keys }
+    ensures { OnOk result (text.new.items ≡ text.old.items ++ grace_text flats keys) }
+{
+    let mut number = 0;
+    'grace_keys: for key in range.low..range.end {
+        if keys.has(key) {
+            push_between(text, b' ', number)?;
+            push_grace_note(text, flats, key)?;
+            number += 1;
+        }
+    }
+    Ok(())
+}

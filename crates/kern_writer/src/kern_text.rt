@@ -1,0 +1,75 @@
+ghost use Rattle.kern_writer.specs.Shared.{between};
+ghost use Rattle.kern_writer.specs.Writing.{HasEnded, IfTooLong, IsPast};
+ghost use Rattle.std.specs.Prelude.{◌≡◌, ◌+◌, ◌<◌, ◌≤◌, MatchResult, OnOk, ◌++◌, [], length};
+
+use crate::fault::ScoreFault;
+use rhythm_base::LONGEST_SCORE;
+use std::alloc::{AllocError, Global};
+
+/// A text in the making: whole records, and maybe pieces of the next one.
+#[derive(Drop)]
+pub(crate) struct KernText {
+    pub(crate) bytes: Vec<u8>,
+    /// How many records are ended.
+    pub(crate) lines: u32,
+}
+
+/// The number of one more record, with which the text has so many bytes.
+fn next_line(lines: u32, bytes: usize) -> Result<u32, ScoreFault>
+    requires { lines ≤ LONGEST_SCORE }
+    ensures { MatchResult result (λ line. (line ≡ lines + 1) × (bytes ≤ LONGEST_SCORE)) (λ e. IfTooLong e (λ line. (line ≡ lines + 1) × (LONGEST_SCORE < bytes))) }
+{
+    let line = lines + 1;
+    if bytes as u64 > LONGEST_SCORE {
+        Err(ScoreFault::TooLong { line })
+    } else {
+        Ok(line)
+    }
+}
+
+impl KernText {
+    /// No record yet.
+    pub(crate) fn new(alloc: Global) -> KernText
+        ensures bytes { result.bytes.items ≡ [] }
+        ensures lines { result.lines ≡ 0 }
+    {
+        KernText {
+            bytes: Vec::new(alloc),
+            lines: 0,
+        }
+    }
+
+    /// Ends the record whose pieces were appended.
+    pub(crate) fn end_record(&mut self) -> Result<(), ScoreFault>
+        requires { self.old.lines ≤ LONGEST_SCORE }
+        ensures { MatchResult result (λ _. HasEnded self.old self.new) (λ e. IfTooLong e (IsPast self.old)) }
+    {
+        self.bytes.push(b'\n')?;
+        self.lines = next_line(self.lines, self.bytes.len())?;
+        Ok(())
+    }
+}
+
+/// Appends the separator before the column of this number, where it is not the first.
+pub(crate) fn push_between(text: &mut Vec<u8>, byte: u8, number: usize) -> Result<(), AllocError>
+    ensures { OnOk result (text.new.items ≡ text.old.items ++ between byte number) }
+{
+    if number > 0 {
+        text.push(byte)?;
+    }
+    Ok(())
+}
+
+#[cfg(test)]
+mod tests {
+    use super::*;
+    use std::test::Fail;
+
+    /// A text of 67,108,864 bytes is not too long, and one of one byte more is.
+    #[test]
+    fn ends_at_the_longest_text(rt: HostRuntime) -> Result<(), Fail> {
+        assert!(rt; next_line(6, 67_108_864) == Ok(7));
+        assert!(rt; next_line(6, 67_108_865) == Err(ScoreFault::TooLong { line: 7 }));
+        Ok(())
+    }
+}
