@@ -1,0 +1,4 @@
+pub mod Formed
+pub mod OtherBarlines
+pub mod Places
+pub mod Searches

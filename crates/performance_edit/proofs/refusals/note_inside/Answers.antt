@@ -1,0 +1,10 @@
+use Rattle.std.proofs.Common.{rules, ◌≡◌, ◌∙◌, ap}
+use Rattle.std.specs.Option.{option_map}
+use Rattle.rhythm_base.specs.declared.edit_fault.EditFault.TheVariants.{NotEmpty}
+use Rattle.performance_edit.proofs.Searches.{least-past}
+use Rattle.performance_edit.proofs.refusals.note_inside.Goals as goal
+
+pub returns : goal.returns
+returns c =
+    let said : c.map.result ≡ option_map NotEmpty c.least_past.result = search rules in
+    said ∙ ap (option_map NotEmpty) c.least_past.ensures ∙ least-past NotEmpty c.args.start c.args.notes.now
