@@ -1,0 +1,8 @@
+//! Builds the tables of many cells: one table for each input, in their order, and one step of the counter for each.
+#![tactic(auto)]
+
+mod limits;
+mod pool;
+
+pub use limits::MOST_WORKERS;
+pub use pool::build_cells;

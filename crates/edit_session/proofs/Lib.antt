@@ -1,0 +1,16 @@
+pub mod VoiceNotes
+pub mod Runs
+pub mod VoiceInputs
+pub mod EachRuns
+pub mod Tables
+pub mod Channels
+pub mod Voices
+pub mod PathCosts
+pub mod Faults
+pub mod PickedTrees
+pub mod LeastSounds
+pub mod CellPlaces
+pub mod OtherInputs
+pub mod ReachedVoices
+pub mod SuitingTables
+pub mod GrownVoices

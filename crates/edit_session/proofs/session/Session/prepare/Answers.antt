@@ -1,0 +1,25 @@
+use Rattle.std.proofs.Common.{◌≡◌, ℕ, List, [], Ok, sym, subst}
+use Rattle.std.specs.Prelude.{MatchResult}
+use Rattle.edit_laws.proofs.EditedCounts.{edited_cells, edited_notes, edited_starts}
+use Rattle.rhythm_base.specs.Edits.{edited}
+use Rattle.rhythm_base.specs.Reached.{AreReached}
+use Rattle.rhythm_base.specs.Voices.{HasStarts}
+use Rattle.edit_session.specs.Session.{Session}
+use Rattle.edit_session.proofs.session.Session.prepare.Goals as goal
+
+pub prepare_next-requires-clause-starts : goal.prepare_next-requires-clause-starts
+prepare_next-requires-clause-starts g c κs within =
+    subst (λ (s : Session). HasStarts s.grammar c.in-Ok.next.bars) c.self.view_is
+    (edited_starts c.self.inside.grammar c.self.inside.performance c.in-Ok.next c.args.edit.now c.in-Ok.ensures.ok c.self.invariant.starts)
+
+pub prepare_next-requires-clause-few_cells : goal.prepare_next-requires-clause-few_cells
+prepare_next-requires-clause-few_cells g c κs within = edited_cells c.self.inside.performance c.in-Ok.next c.args.edit.now c.in-Ok.ensures.ok c.self.invariant.few_cells
+
+pub prepare_next-requires-clause-few_notes : goal.prepare_next-requires-clause-few_notes
+prepare_next-requires-clause-few_notes g c κs within = edited_notes c.self.inside.performance c.in-Ok.next c.args.edit.now c.in-Ok.ensures.ok c.self.invariant.few_notes
+
+pub returns-in-Ok-prepare_next-clause-most : goal.returns-in-Ok-prepare_next-clause-most
+returns-in-Ok-prepare_next-clause-most g c cells h =
+    let s : Session = c.args.self.now in
+    let made : edited s.performance c.args.edit.now ≡ Ok c.in-Ok.next = subst (λ (t : Session). edited t.performance c.args.edit.now ≡ Ok c.in-Ok.next) c.self.view_is c.in-Ok.ensures.ok in
+    c.prepare_next.ensures.most cells (subst (λ r. MatchResult r (λ q. AreReached s.grammar s.performance q cells) (λ fault. cells ≡ [])) made h)

@@ -1,0 +1,10 @@
+pub mod Session
+pub mod Opening
+pub mod VoiceTables
+pub mod Inputs
+pub mod Kept
+pub mod LeastTrees
+pub mod Laws
+pub mod Prepared
+pub mod PreparedCode
+pub mod ReachedCells

@@ -1,0 +1,23 @@
+//! The editing session: a performance and a grammar with the table of each cell and the chain of each voice, kept so that a
+//! score is at hand after each edit. All that a session answers is decided by its grammar and its performance.
+#![tactic(auto)]
+
+mod inputs;
+mod kept_voices;
+mod laws;
+mod least_trees;
+mod open_fault;
+mod opening;
+mod prepared;
+mod preparing;
+mod reached;
+mod same_input;
+mod score;
+mod session;
+mod voice_tables;
+
+pub use kern_writer::ScoreFault;
+pub use laws::openings_are_one;
+pub use open_fault::OpenFault;
+pub use prepared::{CellTable, Prepared};
+pub use session::Session;

@@ -1,0 +1,63 @@
+ghost use Rattle.bar_pool.specs.declared.limits.TheConstants.{MOST_WORKERS};
+ghost use Rattle.edit_session.specs.Inputs.{AreCellTables};
+ghost use Rattle.edit_session.specs.Opening.{IsBuilt, IsOpenFault, cells_of};
+ghost use Rattle.edit_session.specs.declared.open_fault.OpenFault.TheVariants.{Cells};
+ghost use Rattle.rhythm_base.specs.Counter.{risen};
+ghost use Rattle.rhythm_base.specs.Performance.{IsWellFormed};
+ghost use Rattle.rhythm_base.specs.Readable.{IsReadable};
+ghost use Rattle.rhythm_base.specs.Voices.{HasStarts};
+ghost use Rattle.rhythm_base.specs.declared.limits.TheConstants.{MOST_CELLS};
+ghost use Rattle.std.specs.Prelude.{◌≡◌, ◌≤◌, ◌<◌, IfErr, IfOk, OnOk};
+
+use crate::inputs::cell_inputs;
+use crate::open_fault::OpenFault;
+use bar_pool::build_cells;
+use least_cost::{BarTable, Steps};
+use rhythm_base::{Grammar, MOST_CELLS, Performance, Tag};
+use rhythm_ports::Gate;
+use std::alloc::Global;
+use std::thread::Threads;
+
+/// Whether there are few enough cells.
+fn check_cells(performance: &Performance) -> Result<(), OpenFault>
+    ensures formed { IsWellFormed performance.now }
+    ensures few { IfOk result (λ _. cells_of performance.now ≤ MOST_CELLS) }
+    ensures fault { IfErr result (λ fault. (fault ≡ Cells (cells_of performance.now)) × (MOST_CELLS < cells_of performance.now)) }
+{
+    let bars = performance.bars().len() as u64;
+    let count = performance.channels().len() as u64 * bars;
+    if count > u64::from(MOST_CELLS) {
+        return Err(OpenFault::Cells { count });
+    }
+    Ok(())
+}
+
+/// The table of each cell, voice after voice and bar after bar: each is built once, and none where there are too many cells or
+/// where a root symbol is wanting.
+pub fn cell_tables<R: Threads + Sync, G: Gate + Sync, B: Tag>(
+    rt: &R,
+    alloc: Global,
+    grammar: &Grammar,
+    performance: &Performance,
+    workers: u32,
+    gate: &G,
+    builds: &mut Steps<B>,
+) -> Result<Vec<BarTable>, OpenFault>
+    requires some_worker { 1 ≤ workers }
+    requires few_workers { workers ≤ MOST_WORKERS }
+    requires readable { IsReadable grammar.now }
+    ensures formed { IsWellFormed performance.now }
+    ensures few { IfOk result (λ _. cells_of performance.now ≤ MOST_CELLS) }
+    ensures starts { IfOk result (λ _. HasStarts grammar.now performance.now.bars) }
+    ensures tables { IfOk result (λ v. AreCellTables grammar.now performance.now v.items) }
+    ensures fault { IfErr result (IsOpenFault grammar.now performance.now) }
+    ensures builds { OnOk result (builds.new ≡ risen builds.old (cells_of performance.now)) }
+    ensures built { IfErr result (IsBuilt builds.old builds.new (risen builds.old (cells_of performance.now))) }
+    ensures rises { builds.old ≤ builds.new }
+{
+    check_cells(performance)?;
+    let inputs = cell_inputs(alloc, grammar, performance)?;
+    let cells = inputs.as_slice();
+    let tables = build_cells(rt, alloc, grammar, cells, workers, gate, builds)?;
+    Ok(tables)
+}

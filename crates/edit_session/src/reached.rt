@@ -1,0 +1,149 @@
+ghost use Rattle.edit_session.specs.Inputs.{AreInputsOfVoice};
+ghost use Rattle.edit_session.specs.Kept.{AreTablesOfVoice};
+ghost use Rattle.edit_session.specs.ReachedCells.{AreOtherInputs, AreReachedInputs, HasOtherInput, place_pair};
+ghost use Rattle.rhythm_base.specs.BarInput.{BarInput};
+ghost use Rattle.rhythm_base.specs.Lists.{Each};
+ghost use Rattle.rhythm_base.specs.Performance.{IsWellFormed};
+ghost use Rattle.rhythm_base.specs.Readable.{IsReadable};
+ghost use Rattle.rhythm_base.specs.Voices.{HasStarts};
+ghost use Rattle.rhythm_base.specs.declared.limits.TheConstants.{MOST_BARS};
+ghost use Rattle.std.specs.Prelude.{◌≡◌, ◌↔◌, ◌<◌, ◌≤◌, IfOk, IsTrue, List, length, map, option_map};
+
+use crate::inputs::{tempo_map_of, voice_inputs};
+use crate::same_input::same_input;
+use crate::voice_tables::VoiceTables;
+use least_cost::BarTable;
+use rhythm_base::{BarInput, Grammar, Performance, Shape};
+use std::alloc::{AllocError, Global};
+use tempo_map::TempoMap;
+
+/// The voice and the bar of a cell.
+#[derive(Clone, Copy, Debug, PartialEq, Eq)]
+pub struct CellPlace {
+    pub channel: u8,
+    pub bar: u32,
+}
+
+/// Cells and the input of each.
+#[derive(Drop)]
+pub struct ReachedCells {
+    pub cells: Vec<CellPlace>,
+    pub inputs: Vec<BarInput>,
+}
+
+/// An equal pin.
+fn copied_pin(alloc: Global, pin: Option<&Shape>) -> Result<Option<Shape>, AllocError>
+    ensures { IfOk result (λ o. o ≡ option_map (λ s. s.now) pin.entry) }
+{
+    match pin {
+        None => Ok(None),
+        Some(shape) => Ok(Some(shape.copy(alloc)?)),
+    }
+}
+
+/// An equal input.
+fn copied_input(alloc: Global, input: &BarInput) -> Result<BarInput, AllocError>
+    ensures { IfOk result (λ k. k ≡ input.now) }
+{
+    let start = input.start();
+    let chords = input.onsets().to_vec(alloc)?;
+    let pin = copied_pin(alloc, input.pin())?;
+    Ok(BarInput::make(
+        start,
+        input.resolution(),
+        input.num(),
+        input.den(),
+        input.length(),
+        chords,
+        input.before(),
+        pin,
+    ))
+}
+
+/// There is no table for the bar, or it has another input.
+fn has_other_input(tables: &[BarTable], inputs: &[BarInput], bar: usize) -> bool
+    requires { bar < length inputs.now }
+    ensures { IsTrue result ↔ HasOtherInput tables.now inputs.now bar }
+{
+    match tables.get(bar) {
+        None => true,
+        Some(table) => !same_input(table.input(), &inputs[bar]),
+    }
+}
+
+/// The cells of a voice of which the input is another one than that of their table, and these inputs.
+fn other_inputs(
+    alloc: Global,
+    channel: u8,
+    inputs: &[BarInput],
+    tables: &[BarTable],
+) -> Result<ReachedCells, AllocError>
+    requires { length inputs.now ≤ MOST_BARS }
+    ensures { IfOk result (λ r. AreOtherInputs channel inputs.now tables.now (length inputs.now) (map place_pair r.cells.items) r.inputs.items) }
+{
+    let mut cells = Vec::new(alloc);
+    let mut others = Vec::new(alloc);
+    'bars: for number in 0..inputs.len() {
+        if has_other_input(tables, inputs, number) {
+            others.push(copied_input(alloc, &inputs[number])?)?;
+            cells.push(CellPlace {
+                channel,
+                bar: number as u32,
+            })?;
+        }
+    }
+    Ok(ReachedCells {
+        cells,
+        inputs: others,
+    })
+}
+
+/// The cells of the voice of a channel of which the input is another one than that of their table, and these inputs.
+fn voice_reached(
+    alloc: Global,
+    grammar: &Grammar,
+    performance: &Performance,
+    tempo_map: &TempoMap,
+    channel: u8,
+    tables: &[BarTable],
+) -> Result<ReachedCells, AllocError>
+    requires readable { IsReadable grammar.now }
+    requires formed { IsWellFormed performance.now }
+    requires tempos { tempo_map.now.tempos ≡ performance.now.tempos }
+    ensures { IfOk result (λ r. (inputs : List BarInput) × AreInputsOfVoice grammar.now performance.now channel inputs
+        × AreOtherInputs channel inputs tables.now (length inputs) (map place_pair r.cells.items) r.inputs.items) }
+{
+    match voice_inputs(alloc, grammar, performance, tempo_map, channel) {
+        Err(_fault) => Err(AllocError),
+        Ok(inputs) => other_inputs(alloc, channel, inputs.as_slice(), tables),
+    }
+}
+
+/// The cells that a change of the performance reaches, and their inputs.
+pub fn reached_cells(
+    alloc: Global,
+    grammar: &Grammar,
+    before: &Performance,
+    after: &Performance,
+    voices: &[VoiceTables],
+) -> Result<ReachedCells, AllocError>
+    requires readable { IsReadable grammar.now }
+    requires formed { IsWellFormed before.now }
+    requires formed_after { IsWellFormed after.now }
+    requires channels { after.now.channels ≡ before.now.channels }
+    requires tables { Each (λ channel voice. AreTablesOfVoice grammar.now before.now channel voice.tables) before.now.channels voices.now }
+    ensures { IfOk result (λ r. AreReachedInputs grammar.now before.now after.now r.cells.items r.inputs.items) }
+{
+    let tempo_map = tempo_map_of(alloc, after)?;
+    let channels = before.channels();
+    let mut cells = Vec::new(alloc);
+    let mut inputs = Vec::new(alloc);
+    'voices: for number in 0..voices.len() {
+        let channel = channels[number];
+        let tables = voices[number].tables();
+        let mut own = voice_reached(alloc, grammar, after, &tempo_map, channel, tables)?;
+        cells.append(&mut own.cells)?;
+        inputs.append(&mut own.inputs)?;
+    }
+    Ok(ReachedCells { cells, inputs })
+}

@@ -1,0 +1,202 @@
+ghost use Rattle.bar_pool.specs.declared.limits.TheConstants.{MOST_WORKERS};
+ghost use Rattle.edit_session.specs.Opening.{CanOpen, IsBuilt, IsOpenFault, cells_of};
+ghost use Rattle.edit_session.specs.declared.open_fault.OpenFault.TheVariants.{Cells, Memory, NoDerivation, NoStart};
+ghost use Rattle.kern_writer.specs.PerformanceScore.{HasTooLongText, IsTextOf};
+ghost use Rattle.kern_writer.specs.declared.fault.ScoreFault.TheVariants.{TooLong};
+ghost use Rattle.rhythm_base.specs.Counter.{risen};
+ghost use Rattle.rhythm_base.specs.Performance.{IsWellFormed};
+ghost use Rattle.rhythm_base.specs.Readable.{IsReadable};
+ghost use Rattle.rhythm_base.specs.Voices.{IsCostOf};
+ghost use Rattle.rhythm_base.specs.declared.limits.TheConstants.{LONGEST_SCORE, MOST_BARS, MOST_CELLS, MOST_NOTES};
+ghost use Rattle.edit_session.specs.Prepared.{Suits};
+ghost use Rattle.rhythm_base.specs.Edits as edits;
+ghost use Rattle.rhythm_base.specs.Reached.{AreReached, WouldReach};
+ghost use Rattle.rhythm_base.specs.Voices.{HasStarts};
+ghost use Rattle.rhythm_base.specs.declared.edit_fault.EditFault.TheVariants as faults;
+ghost use Rattle.rhythm_base.specs.declared.edit_fault.EditFault.{EditFault};
+ghost use Rattle.std.specs.Prelude.{◌≡◌, ◌≢◌, ◌≤◌, ◌<◌, ℕ, Err, IfErr, IfOk, List, Ok, OnOk, length};
+
+use crate::kept_voices::{first_dead_voice, reserve_all, total_of, voices_of};
+use crate::open_fault::OpenFault;
+use crate::opening::cell_tables;
+use crate::prepared::Prepared;
+use crate::preparing::{place_for, reached_tables};
+use crate::reached::reached_cells;
+use crate::score::whole_score;
+use crate::voice_tables::VoiceTables;
+use carry_matrix::Steps as Products;
+use kern_writer::{ScoreFault, write_kern};
+use least_cost::Steps as Builds;
+use performance_edit::edited;
+use rhythm_base::{Edit, EditFault, Grammar, Performance, Tag};
+use rhythm_ports::Gate;
+use std::alloc::{AllocError, Global};
+use std::marker::Model;
+use std::thread::Threads;
+
+/// A performance and a grammar, with the table of each cell and the chain of each voice.
+#[derive(Drop)]
+pub struct Session {
+    grammar: Grammar,
+    performance: Performance,
+    workers: u32,
+    voices: Vec<VoiceTables>,
+    room: u32,
+}
+
+impl Model for Session {
+    ghost use Rattle.std.specs.Coded.{codes};
+    ghost use Rattle.edit_session.specs.Session.{Session};
+    ghost use Rattle.rhythm_base.specs.PerformanceCode.{performance_code};
+
+    ghost Value = { Session };
+
+    ghost coded = { Prim.hlevel (codes, performance_code) };
+
+    ghost use Rattle.edit_session.specs.Kept.{IsSession};
+
+    ghost view = { λ s. record { grammar = s.grammar; performance = s.performance; room = s.room } };
+
+    ghost invariant = { λ s. IsSession s.grammar s.performance s.workers s.voices.items s.room };
+}
+
+impl Session {
+    /// Opens a session on a performance: each cell is built once, by up to so many workers, 1 to 16.
+    pub fn open<R: Threads + Sync, G: Gate + Sync, B: Tag, P: Tag>(
+        rt: &R,
+        alloc: Global,
+        performance: Performance,
+        grammar: Grammar,
+        workers: u32,
+        gate: &G,
+        builds: &mut Builds<B>,
+        products: &mut Products<P>,
+    ) -> Result<Session, OpenFault>
+        requires some_worker { 1 ≤ workers }
+        requires few_workers { workers ≤ MOST_WORKERS }
+        requires readable { IsReadable grammar }
+        requires few_notes { length performance.notes ≤ MOST_NOTES }
+        ensures grammar { IfOk result (λ s. s.grammar ≡ grammar) }
+        ensures performance { IfOk result (λ s. s.performance ≡ performance) }
+        ensures opened { OnOk result (CanOpen grammar performance) }
+        ensures fault { IfErr result (IsOpenFault grammar performance) }
+        ensures builds { OnOk result (builds.new ≡ risen builds.old (cells_of performance)) }
+        ensures built { IfErr result (IsBuilt builds.old builds.new (risen builds.old (cells_of performance))) }
+        ensures rises { builds.old ≤ builds.new }
+        ensures products { products.old ≤ products.new }
+    {
+        let tables = cell_tables(rt, alloc, &grammar, &performance, workers, gate, builds)?;
+        let bars = performance.bars().len();
+        let count = performance.channels().len();
+        let voices = voices_of(alloc, tables, count, bars, products)?;
+        if let Some(dead) = first_dead_voice(voices.as_slice()) {
+            return Err(OpenFault::NoDerivation {
+                channel: performance.channels()[dead.voice],
+                bar: dead.bar,
+            });
+        }
+        Ok(Session {
+            grammar,
+            performance,
+            workers,
+            voices,
+            room: bars as u32,
+        })
+    }
+
+    /// What the least derivations of all voices cost together.
+    pub fn cost(&self) -> u64
+        ensures { IsCostOf self.now.grammar self.now.performance result }
+    {
+        total_of(self.voices.as_slice())
+    }
+
+    /// The **kern text of the least derivation of each voice.
+    pub fn score(&self, alloc: Global) -> Result<Vec<u8>, ScoreFault>
+        ensures text { IfOk result (λ v. IsTextOf self.now.grammar self.now.performance v.items) }
+        ensures short { IfOk result (λ v. length v.items ≤ LONGEST_SCORE) }
+        ensures too_long { (line : ℕ) → result ≡ Err (TooLong line) → HasTooLongText self.now.grammar self.now.performance line }
+    {
+        let voices = self.voices.as_slice();
+        let score = whole_score(alloc, &self.grammar, &self.performance, voices)?;
+        write_kern(alloc, &score)
+    }
+
+    /// The performance as edited so far.
+    pub fn performance(&self) -> &Performance
+        ensures value { result.now ≡ self.now.performance }
+        ensures formed { IsWellFormed self.now.performance }
+    {
+        &self.performance
+    }
+    /// Takes memory, so that the session grows up to so many bars without taking more.
+    pub fn reserve(&mut self, bars: u32) -> Result<(), AllocError>
+        requires { bars ≤ MOST_BARS }
+        ensures grammar { self.new.grammar ≡ self.old.grammar }
+        ensures performance { self.new.performance ≡ self.old.performance }
+        ensures room { self.old.room ≤ self.new.room }
+        ensures ok { OnOk result (bars ≤ self.new.room) }
+    {
+        reserve_all(self.voices.as_mut_slice(), bars)?;
+        self.room = self.room.max(bars);
+        Ok(())
+    }
+
+    /// The tables of the cells that the change to another performance reaches, and memory for those that they replace.
+    fn prepare_next<R: Threads + Sync, G: Gate + Sync, B: Tag>(
+        &self,
+        rt: &R,
+        alloc: Global,
+        next: Performance,
+        gate: &G,
+        builds: &mut Builds<B>,
+    ) -> Result<Prepared, AllocError>
+        requires formed { IsWellFormed next }
+        requires channels { next.channels ≡ self.now.performance.channels }
+        requires starts { HasStarts self.now.grammar next.bars }
+        requires few_cells { cells_of next ≤ MOST_CELLS }
+        requires few_notes { length next.notes ≤ MOST_NOTES }
+        ensures next { IfOk result (λ x. x.next ≡ next) }
+        ensures suits { IfOk result (λ x. Suits self.now.grammar self.now.performance x) }
+        ensures builds { IfOk result (λ x. builds.new ≡ risen builds.old (length x.tables)) }
+        ensures most { (cells : List (ℕ × ℕ)) → AreReached self.now.grammar self.now.performance next cells → builds.new ≤ risen builds.old (length cells) }
+        ensures rises { builds.old ≤ builds.new }
+    {
+        let voices = self.voices.as_slice();
+        let reached = reached_cells(alloc, &self.grammar, &self.performance, &next, voices)?;
+        let grammar = &self.grammar;
+        let tables = reached_tables(rt, alloc, grammar, &reached, self.workers, gate, builds)?;
+        let bars = self.performance.bars().len();
+        let lost = bars.saturating_sub(next.bars().len());
+        let place = place_for(alloc, tables.len(), voices.len(), lost)?;
+        Ok(Prepared::of(next, tables, place))
+    }
+
+    /// Makes an edit ready: the performance after it, with the table of each cell that it reaches, each built once. Whether
+    /// each voice has a derivation is asked afterwards.
+    pub fn prepare<R: Threads + Sync, G: Gate + Sync, B: Tag>(
+        &self,
+        rt: &R,
+        alloc: Global,
+        edit: &Edit,
+        gate: &G,
+        builds: &mut Builds<B>,
+    ) -> Result<Prepared, EditFault>
+        requires { edits.IsEditInRange edit.now }
+        ensures next { IfOk result (λ x. edits.edited self.now.performance edit.now ≡ Ok x.next) }
+        ensures suits { IfOk result (λ x. Suits self.now.grammar self.now.performance x) }
+        ensures builds { IfOk result (λ x. builds.new ≡ risen builds.old (length x.tables)) }
+        ensures refused { (fault : EditFault) → result ≡ Err fault → fault ≢ faults.Memory → edits.edited self.now.performance edit.now ≡ Err fault }
+        ensures unbuilt { (fault : EditFault) → result ≡ Err fault → fault ≢ faults.Memory → builds.new ≡ builds.old }
+        ensures most { (cells : List (ℕ × ℕ)) → WouldReach self.now.grammar self.now.performance edit.now cells → builds.new ≤ risen builds.old (length cells) }
+        ensures rises { builds.old ≤ builds.new }
+    {
+        match edited(alloc, &self.performance, edit) {
+            Err(fault) => Err(fault),
+            Ok(next) => match self.prepare_next(rt, alloc, next, gate, builds) {
+                Ok(prepared) => Ok(prepared),
+                Err(_error) => Err(EditFault::Memory),
+            },
+        }
+    }
+}
