@@ -5,15 +5,19 @@
 ghost use Rattle.rhythm_app.specs.Stops.{status_of};
 ghost use Rattle.std.specs.Prelude.{◌≡◌, ◌⊎◌};
 
+use least_cost::Steps;
 use rhythm_app::{Stop, run, write_line};
-use rhythm_base::Words;
-use rhythm_ports::{RealOutput, RealShelf};
+use rhythm_base::{Tag, Words};
+use rhythm_ports::{OpenGate, RealInput, RealOutput, RealShelf};
 use std::io::ErrorKind;
 use std::process::ExitCode;
 use std::{env, io};
 
-#[cfg(test)]
-mod tests;
+/// What the tables of a run are counted for.
+#[derive(Clone, Copy)]
+struct InRun;
+
+impl Tag for InRun {}
 
 /// The words after the program's name.
 fn words_of(rt: &HostRuntime) -> io::Result<Words> {
@@ -35,17 +39,28 @@ fn wordless(error: &io::Error) -> Stop
 }
 
 fn main(rt: HostRuntime) -> ExitCode {
-    let mut out = RealOutput::new(rt.stdout());
     let mut err = RealOutput::new(rt.stderr());
-    match words_of(&rt) {
-        Ok(words) => {
-            let mut shelf = RealShelf::new(&rt);
-            ExitCode::from(run(rt.alloc(), &words, &mut shelf, &mut out, &mut err))
-        }
+    let words = match words_of(&rt) {
+        Ok(words) => words,
         Err(error) => {
             let stop = wordless(&error);
             write_line(&mut err, &stop);
-            ExitCode::from(stop.status())
+            return ExitCode::from(stop.status());
         }
-    }
+    };
+    let mut shelf = RealShelf::new(&rt);
+    let mut script = RealInput::new(rt.stdin());
+    let mut out = RealOutput::new(rt.stdout());
+    let mut builds = Steps::<InRun>::zero();
+    ExitCode::from(run(
+        &rt,
+        rt.alloc(),
+        &words,
+        &mut shelf,
+        &mut script,
+        &mut out,
+        &mut err,
+        &OpenGate,
+        &mut builds,
+    ))
 }

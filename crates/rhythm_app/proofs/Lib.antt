@@ -1,3 +1,7 @@
+pub mod InTurn
+pub mod OneOutcome
+pub mod Reading
+pub mod Scoring
+pub mod Statuses
 pub mod Taken
-pub mod Lines
-pub mod ReadyBars
+pub mod Transcribing

@@ -1,13 +1,14 @@
 use Rattle.std.proofs.Common.{◌≡◌, ℕ, zero, suc, ◌+◌, ◌<◌, List, [], ◌∷◌, ◌++◌, length, take, drop, refl, sym, ap, subst, arith, ◌∙◌, length-append, append_assoc, append-nil, add-one, get_or, inl, inr, OnErr, OnOk, Result, Ok, Err}
-use Rattle.std.specs.Prelude.{IsOkAnd, Option}
+use Rattle.std.specs.Prelude.{Option}
 use Rattle.std.proofs.lemmas.List.{take-append-le}
 use Rattle.std.proofs.Math.Seq.{take-append-add}
 use Rattle.std.proofs.KnownBytes.{Appends-trans}
 use Rattle.std.specs.Io.KnownBytes.{Appends}
 use Rattle.rhythm_ports.specs.Causes.{HasCause}
-use Rattle.rhythm_app.specs.Ends.{AppendsPart, Reports, EndsInPart, TakesScore}
-use Rattle.rhythm_app.specs.Score.{IsScore}
-use Rattle.rhythm_app.specs.Tests.{Ready}
+use Rattle.rhythm_app.specs.Asked.{Asked}
+use Rattle.rhythm_app.specs.Ends.{AppendsPart, Reports, TakesFirstPart, TakesText}
+use Rattle.rhythm_app.specs.Outcome.{HasOutcomeOf}
+use Rattle.rhythm_ports.specs.Files.{File}
 use Rattle.rhythm_app.specs.Stops.{joined_words}
 use Rattle.rhythm_app.specs.Parts.{part_text, part_texts}
 use Rattle.rhythm_app.specs.declared.line.Part.{Part}
@@ -54,15 +55,12 @@ pub reported : {T E : Type 0} (a b : Option (List ℕ)) (before now : ℕ) (t : 
 reported a b before now t (Ok x) all part cause = inl all
 reported a b before now t (Err e) all part cause = inr (cause.failed, part)
 
--- a first part of a score was taken
-pub score_part : {E : Type 0} (a b : Option (List ℕ)) (text taken : List ℕ) (n : ℕ) (tests : Result Ready E) → taken ≡ text → n < length taken → Appends a b (take n taken)
-    → IsOkAnd tests (λ ready. IsScore ready text) → IsOkAnd tests (EndsInPart a b)
-score_part a b text taken n (Ok ready) same within cut written =
-    (text, written, (n, subst (λ t. n < length t) same within, subst (λ t. Appends a b (take n t)) same cut))
-score_part a b text taken n (Err end) same within cut written = absurd written
+-- the text that is the outcome was taken whole, or a first part of it
+pub text_taken : (a b : Option (List ℕ)) (asked : Option Asked) (files : List File) (text taken : List ℕ) → taken ≡ text → Appends a b taken → HasOutcomeOf asked files (Ok text)
+    → TakesText a b asked files
+text_taken a b asked files text taken same all outcome = (text, outcome, subst (Appends a b) same all)
 
--- a score was taken whole
-pub score_whole : {E : Type 0} (a b : Option (List ℕ)) (text taken : List ℕ) (tests : Result Ready E) → taken ≡ text → Appends a b taken
-    → IsOkAnd tests (λ ready. IsScore ready text) → IsOkAnd tests (TakesScore a b)
-score_whole a b text taken (Ok ready) same all written = (text, written, subst (Appends a b) same all)
-score_whole a b text taken (Err end) same all written = absurd written
+pub part_taken : (a b : Option (List ℕ)) (asked : Option Asked) (files : List File) (text taken : List ℕ) (n : ℕ) → taken ≡ text → n < length taken → Appends a b (take n taken)
+    → HasOutcomeOf asked files (Ok text) → TakesFirstPart a b asked files
+part_taken a b asked files text taken n same within cut outcome =
+    (text, outcome, (n, subst (λ t. n < length t) same within, subst (λ t. Appends a b (take n t)) same cut))

@@ -1,7 +1,8 @@
 pub mod Asked
+pub mod Builds
 pub mod Ends
+pub mod Laws
+pub mod Outcome
 pub mod Parts
-pub mod Score
 pub mod Stages
 pub mod Stops
-pub mod Tests

@@ -1,41 +1,133 @@
 -- The status of each stop, and the line that err takes.
-use Rattle.std.specs.Prelude.{ℕ, List, [], ◌∷◌, ◌++◌, codes, decimal}
+use Rattle.std.specs.Prelude.{ℕ, List, [], ◌∷◌, ◌++◌, codes, decimal, Option, Some, None}
+use Rattle.grammar_file.specs.declared.fault.GrammarWhat.{GrammarWhat}
+use Rattle.grammar_file.specs.declared.fault.GrammarWhat.TheVariants as what
 use Rattle.rhythm_app.specs.declared.stop.Kind.{Kind}
 use Rattle.rhythm_app.specs.declared.stop.Kind.TheVariants as kind
-use Rattle.rhythm_app.specs.declared.stop.Missing.{Missing}
-use Rattle.rhythm_app.specs.declared.stop.Missing.TheVariants as missing
 use Rattle.rhythm_app.specs.declared.stop.Stop.{Stop}
-use Rattle.rhythm_app.specs.declared.stop.Stop.TheVariants.{Usage, NoDerivation, Read, Write, Memory, Unbuilt}
+use Rattle.rhythm_app.specs.declared.stop.Stop.TheVariants.{Usage, FileTooLong, Smf, Grammar, NoNotes, TooManyNotes, BadSignature, UnevenBar, TooManyBars, TooManyCells, NoStart, NoDerivation, ScoreTooLong, Read, Write, Memory}
+use Rattle.smf_reader.specs.declared.fault.SmfFault.{SmfFault}
+use Rattle.smf_reader.specs.declared.fault.SmfFault.TheVariants as smf
 
 abbrev pub status_of : Stop → ℕ
 status_of Usage = 1
+status_of (FileTooLong _ _) = 4
+status_of (Smf _) = 2
+status_of (Grammar _) = 2
+status_of NoNotes = 2
+status_of (TooManyNotes _) = 4
+status_of (BadSignature _ _) = 2
+status_of (UnevenBar _ _ _) = 2
+status_of (TooManyBars _) = 4
+status_of (TooManyCells _) = 4
+status_of (NoStart _ _ _) = 2
 status_of (NoDerivation _ _) = 3
+status_of (ScoreTooLong _) = 4
 status_of (Read _) = 5
 status_of Write = 6
 status_of Memory = 7
-status_of (Unbuilt _) = 8
+
+-- ---- names
+
+abbrev pub kind_name : Kind → List ℕ
+kind_name kind.Midi = codes "midi"
+kind_name kind.Grammar = codes "grammar"
+
+-- the name of a fault of a MIDI file, and its number, where it has one. No file has want of memory as its fault
+abbrev pub smf_name : SmfFault → List ℕ
+smf_name smf.NotSmf = codes "NotSmf"
+smf_name (smf.Format _) = codes "Format"
+smf_name smf.Smpte = codes "Smpte"
+smf_name smf.ZeroDivision = codes "ZeroDivision"
+smf_name (smf.Truncated _) = codes "Truncated"
+smf_name (smf.BadQuantity _) = codes "BadQuantity"
+smf_name (smf.NoStatus _) = codes "NoStatus"
+smf_name (smf.BadStatus _) = codes "BadStatus"
+smf_name (smf.BadData _) = codes "BadData"
+smf_name (smf.BadMeta _) = codes "BadMeta"
+smf_name (smf.TooLate _) = codes "TooLate"
+smf_name smf.Memory = codes "Memory"
+
+abbrev pub smf_number : SmfFault → Option ℕ
+smf_number smf.NotSmf = None
+smf_number (smf.Format format) = Some format
+smf_number smf.Smpte = None
+smf_number smf.ZeroDivision = None
+smf_number (smf.Truncated at) = Some at
+smf_number (smf.BadQuantity at) = Some at
+smf_number (smf.NoStatus at) = Some at
+smf_number (smf.BadStatus at) = Some at
+smf_number (smf.BadData at) = Some at
+smf_number (smf.BadMeta at) = Some at
+smf_number (smf.TooLate at) = Some at
+smf_number smf.Memory = None
+
+-- the same of what is wrong with a line of a grammar file
+abbrev pub what_name : GrammarWhat → List ℕ
+what_name what.Header = codes "Header"
+what_name what.Line = codes "Line"
+what_name (what.Number _) = codes "Number"
+what_name what.DoubleStart = codes "DoubleStart"
+what_name what.TooManyRules = codes "TooManyRules"
+what_name what.TooManyNames = codes "TooManyNames"
+what_name what.UnknownName = codes "UnknownName"
+what_name what.Memory = codes "Memory"
+
+abbrev pub what_number : GrammarWhat → Option ℕ
+what_number what.Header = None
+what_number what.Line = None
+what_number (what.Number limit) = Some limit
+what_number what.DoubleStart = None
+what_number what.TooManyRules = None
+what_number what.TooManyNames = None
+what_number what.UnknownName = None
+what_number what.Memory = None
+
+-- ---- lines
 
 -- texts, one after another
 abbrev pub joined_words : List (List ℕ) → List ℕ
 joined_words [] = []
 joined_words (text ∷ texts) = text ++ joined_words texts
 
-abbrev pub kind_name : Kind → List ℕ
-kind_name kind.Midi = codes "midi"
-kind_name kind.Grammar = codes "grammar"
+-- a name, and a number after it, where there is one
+abbrev pub named_line : List ℕ → List ℕ → Option ℕ → List ℕ
+named_line head name None = joined_words (head ∷ name ∷ codes "\n" ∷ [])
+named_line head name (Some number) = joined_words (head ∷ name ∷ codes " " ∷ decimal number ∷ codes "\n" ∷ [])
 
-abbrev pub missing_name : Missing → List ℕ
-missing_name missing.Midi = codes "midi"
-missing_name missing.Grammar = codes "grammar"
-missing_name missing.Notes = codes "notes"
+-- a line of the grammar file, and what is wrong with it
+abbrev pub grammar_fault_line : ℕ → List ℕ → Option ℕ → List ℕ
+grammar_fault_line line name None = joined_words (codes "grammar " ∷ decimal line ∷ codes " " ∷ name ∷ codes "\n" ∷ [])
+grammar_fault_line line name (Some number) =
+    joined_words (codes "grammar " ∷ decimal line ∷ codes " " ∷ name ∷ codes " " ∷ decimal number ∷ codes "\n" ∷ [])
 
-abbrev pub no_derivation_line : ℕ → ℕ → List ℕ
-no_derivation_line channel bar = joined_words (codes "no derivation " ∷ decimal channel ∷ codes " " ∷ decimal bar ∷ codes "\n" ∷ [])
+-- two numbers
+abbrev pub pair_line : List ℕ → ℕ → ℕ → List ℕ
+pair_line head first second = joined_words (head ∷ decimal first ∷ codes " " ∷ decimal second ∷ codes "\n" ∷ [])
+
+-- a bar and its signature
+abbrev pub signature_line : List ℕ → ℕ → ℕ → ℕ → List ℕ
+signature_line head bar num den =
+    joined_words (head ∷ decimal bar ∷ codes " " ∷ decimal num ∷ codes "/" ∷ decimal den ∷ codes "\n" ∷ [])
+
+-- what is counted, and the number that is above its limit
+abbrev pub limit_line : List ℕ → ℕ → List ℕ
+limit_line name count = named_line (codes "limit ") name (Some count)
 
 abbrev pub stop_line : Stop → List ℕ
 stop_line Usage = joined_words (codes "usage\n" ∷ [])
-stop_line (NoDerivation channel bar) = no_derivation_line channel bar
-stop_line (Read kind) = joined_words (codes "read " ∷ kind_name kind ∷ codes "\n" ∷ [])
+stop_line (FileTooLong kind read) = limit_line (kind_name kind) read
+stop_line (Smf fault) = named_line (codes "smf ") (smf_name fault) (smf_number fault)
+stop_line (Grammar fault) = grammar_fault_line fault.line (what_name fault.what) (what_number fault.what)
+stop_line NoNotes = joined_words (codes "notes NoNotes\n" ∷ [])
+stop_line (TooManyNotes count) = limit_line (codes "notes") count
+stop_line (BadSignature num dd) = pair_line (codes "bars BadSignature ") num dd
+stop_line (UnevenBar bar num den) = signature_line (codes "bars UnevenBar ") bar num den
+stop_line (TooManyBars start) = limit_line (codes "bars") start
+stop_line (TooManyCells count) = limit_line (codes "cells") count
+stop_line (NoStart bar num den) = signature_line (codes "start ") bar num den
+stop_line (NoDerivation channel bar) = pair_line (codes "no derivation ") channel bar
+stop_line (ScoreTooLong line) = limit_line (codes "score") line
+stop_line (Read kind) = named_line (codes "read ") (kind_name kind) None
 stop_line Write = joined_words (codes "write\n" ∷ [])
 stop_line Memory = joined_words (codes "memory\n" ∷ [])
-stop_line (Unbuilt missing) = joined_words (codes "unbuilt " ∷ missing_name missing ∷ codes "\n" ∷ [])

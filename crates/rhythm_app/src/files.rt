@@ -1,16 +1,20 @@
 ghost use Rattle.rhythm_app.specs.Asked.{file_content};
-ghost use Rattle.rhythm_app.specs.Stages.{EndsBy, Follows, items_of};
-ghost use Rattle.rhythm_app.specs.Tests.{grammar_tests, limit_of, midi_tests, missing_of, sized};
+ghost use Rattle.rhythm_app.specs.Outcome.{IsRead, IsUnderstood, limit_of, sized, stopped};
+ghost use Rattle.rhythm_app.specs.Stages.{EndsBy, Follows, IsEarly, IsOfContent, items_of};
 ghost use Rattle.rhythm_app.specs.declared.stop.Kind.TheVariants as kind;
+ghost use Rattle.rhythm_app.specs.declared.stop.Stop.TheVariants as stop;
+ghost use Rattle.rhythm_base.specs.Readable.{IsReadable};
 ghost use Rattle.rhythm_ports.specs.Files.{file_of};
+ghost use Rattle.smf_reader.specs.Ranges.{IsPlayedFile};
+ghost use Rattle.smf_reader.specs.SmfFile.{smf};
 ghost use Rattle.std.specs.Option.{ForSome};
-ghost use Rattle.rhythm_base.specs.Readable.{IsInRange};
-ghost use Rattle.std.specs.Prelude.{◌≡◌, ◌≢◌, ◌≤◌, length, IfErr, IfOk, None};
+ghost use Rattle.std.specs.Prelude.{◌≡◌, ◌≢◌, ◌≤◌, IfErr, IfOk, None, length};
 
-use crate::stop::{Kind, Missing, Stop};
-use narrow_midi::Piece;
-use rhythm_base::Grammar;
+use crate::stop::{Kind, Stop};
+use grammar_file::{GrammarFault, GrammarWhat, read_grammar};
+use rhythm_base::{Grammar, LONGEST_GRAMMAR, LONGEST_MIDI};
 use rhythm_ports::{ReadEnd, Shelf, read_shelf};
+use smf_reader::{Smf, SmfFault, read_smf};
 use std::alloc::Global;
 
 /// The most bytes that a file of this kind may have.
@@ -18,18 +22,8 @@ fn limit(kind: Kind) -> u64
     ensures { result ≡ limit_of kind }
 {
     match kind {
-        Kind::Midi => 16_777_216,
-        Kind::Grammar => 1_048_576,
-    }
-}
-
-/// What a file of this kind is missing where it is not narrow.
-fn missing(kind: Kind) -> Missing
-    ensures { result ≡ missing_of kind }
-{
-    match kind {
-        Kind::Midi => Missing::Midi,
-        Kind::Grammar => Missing::Grammar,
+        Kind::Midi => LONGEST_MIDI,
+        Kind::Grammar => LONGEST_GRAMMAR,
     }
 }
 
@@ -40,7 +34,8 @@ fn read_file<F: Shelf>(
     kind: Kind,
     name: &str,
 ) -> Result<Vec<u8>, Stop>
-    ensures tests { ForSome (F.files shelf.old) (λ files. Follows (sized kind (file_content files name.now)) (items_of result)) }
+    ensures tests { ForSome (F.files shelf.old) (λ files. Follows (λ r. sized kind (file_content files name.now) ≡ r) (items_of result)) }
+    ensures within { IfOk result (λ bytes. length bytes.items ≤ limit_of kind) }
     ensures end { IfErr result (EndsBy kind (F.faults shelf.old) (F.faults shelf.new)) }
     ensures later { F.faults shelf.old ≤ F.faults shelf.new }
     ensures files { F.files shelf.new ≡ F.files shelf.old }
@@ -52,43 +47,58 @@ fn read_file<F: Shelf>(
     match read_shelf(alloc, shelf, limit(kind)) {
         Ok(bytes) => Ok(bytes),
         Err(ReadEnd::Fault) => Err(Stop::Read(kind)),
-        Err(ReadEnd::TooLong { .. }) => Err(Stop::Unbuilt(missing(kind))),
+        Err(ReadEnd::TooLong { read }) => Err(Stop::FileTooLong { kind, read }),
         Err(ReadEnd::Memory) => Err(Stop::Memory),
     }
 }
 
-/// The piece of the MIDI file.
-#[tactic(auto, unfolding(crate::specs::Tests::midi_tests))]
-pub fn midi_piece<F: Shelf>(alloc: Global, shelf: &mut F, name: &str) -> Result<Piece, Stop>
-    ensures tests { ForSome (F.files shelf.old) (λ files. Follows (midi_tests (file_content files name.now)) result) }
+/// What the bytes of the MIDI file say.
+fn smf_in(alloc: Global, bytes: &[u8]) -> Result<Smf, Stop>
+    ensures tests { Follows (λ r. stopped stop.Smf (smf bytes.now) ≡ r) result }
+    ensures played { IfOk result IsPlayedFile }
+    ensures early { IfErr result IsEarly }
+    ensures content { IfErr result IsOfContent }
+{
+    match read_smf(alloc, bytes) {
+        Ok(played) => Ok(played),
+        Err(SmfFault::Memory) => Err(Stop::Memory),
+        Err(fault) => Err(Stop::Smf(fault)),
+    }
+}
+
+/// What the MIDI file says.
+#[tactic(auto, unfolding(crate::specs::Outcome::midi_tests))]
+pub fn midi_of<F: Shelf>(alloc: Global, shelf: &mut F, name: &str) -> Result<Smf, Stop>
+    ensures tests { ForSome (F.files shelf.old) (λ files. Follows (IsRead (file_content files name.now)) result) }
+    ensures played { IfOk result IsPlayedFile }
     ensures end { IfErr result (EndsBy kind.Midi (F.faults shelf.old) (F.faults shelf.new)) }
     ensures later { F.faults shelf.old ≤ F.faults shelf.new }
     ensures files { F.files shelf.new ≡ F.files shelf.old }
     ensures strays { ForSome (F.files shelf.old) (λ files. file_of files name.now ≢ None → F.strays shelf.new ≡ F.strays shelf.old) }
 {
     let bytes = read_file(alloc, shelf, Kind::Midi, name)?;
-    match narrow_midi::read_narrow(alloc, bytes.as_slice()) {
-        Ok(Some(piece)) => Ok(piece),
-        Ok(None) => Err(Stop::Unbuilt(Missing::Midi)),
-        Err(_) => Err(Stop::Memory),
-    }
+    smf_in(alloc, bytes.as_slice())
 }
 
 /// The grammar of the grammar file.
-#[tactic(auto, unfolding(crate::specs::Tests::grammar_tests))]
+#[tactic(auto, unfolding(crate::specs::Outcome::grammar_tests))]
 pub fn grammar_of<F: Shelf>(alloc: Global, shelf: &mut F, name: &str) -> Result<Grammar, Stop>
-    ensures tests { ForSome (F.files shelf.old) (λ files. Follows (grammar_tests (file_content files name.now)) result) }
-    ensures ranges { IfOk result IsInRange }
-    ensures few_rules { IfOk result (λ grammar. length grammar.rules ≤ 8) }
+    ensures tests { ForSome (F.files shelf.old) (λ files. Follows (IsUnderstood (file_content files name.now)) result) }
+    ensures readable { IfOk result IsReadable }
     ensures end { IfErr result (EndsBy kind.Grammar (F.faults shelf.old) (F.faults shelf.new)) }
     ensures later { F.faults shelf.old ≤ F.faults shelf.new }
     ensures files { F.files shelf.new ≡ F.files shelf.old }
     ensures strays { ForSome (F.files shelf.old) (λ files. file_of files name.now ≢ None → F.strays shelf.new ≡ F.strays shelf.old) }
 {
     let bytes = read_file(alloc, shelf, Kind::Grammar, name)?;
-    match narrow_grammar::read_narrow(alloc, bytes.as_slice()) {
-        Ok(Some(grammar)) => Ok(grammar),
-        Ok(None) => Err(Stop::Unbuilt(Missing::Grammar)),
-        Err(_) => Err(Stop::Memory),
+    match read_grammar(alloc, bytes.as_slice()) {
+        Ok(grammar) => Ok(grammar),
+        Err(
+            GrammarFault {
+                what: GrammarWhat::Memory,
+                ..
+            },
+        ) => Err(Stop::Memory),
+        Err(fault) => Err(Stop::Grammar(fault)),
     }
 }

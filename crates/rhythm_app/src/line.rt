@@ -1,37 +1,29 @@
-ghost use Rattle.rhythm_ports.specs.Causes.{HasCause, Rose};
+ghost use Rattle.rhythm_ports.specs.Causes.{HasCause};
 ghost use Rattle.rhythm_app.specs.Ends.{AppendsPart, Reports};
 ghost use Rattle.rhythm_app.specs.Parts.{part_text, part_texts};
-ghost use Rattle.rhythm_app.specs.Stops.{joined_words, stop_line, missing_name, kind_name, no_derivation_line};
+ghost use Rattle.rhythm_app.specs.Stops.{
+  joined_words,
+  limit_line,
+  named_line,
+  pair_line,
+  signature_line,
+  stop_line,
+};
+ghost use Rattle.rhythm_app.specs.declared.stop.Stop.TheVariants as stop;
 ghost use Rattle.std.specs.Io.KnownBytes.{Appends};
 ghost use Rattle.std.specs.Prelude.{◌≡◌, OnErr, OnOk, decimal};
 
-use crate::stop::{Kind, Missing, Stop};
+use crate::names::{kind_name, smf_name, smf_number, what_name, what_number};
+use crate::stop::Stop;
+use grammar_file::GrammarFault;
 use rhythm_ports::{Failed, Sink, write_all};
+use smf_reader::SmfFault;
 
 /// A piece of a line.
 #[derive(Clone, Copy)]
 enum Part<'a> {
     Text(&'a str),
     Number(u64),
-}
-
-fn name(kind: Kind) -> &'static str
-    ensures { result.now ≡ kind_name kind }
-{
-    match kind {
-        Kind::Midi => "midi",
-        Kind::Grammar => "grammar",
-    }
-}
-
-fn missing_word(missing: Missing) -> &'static str
-    ensures { result.now ≡ missing_name missing }
-{
-    match missing {
-        Missing::Midi => "midi",
-        Missing::Grammar => "grammar",
-        Missing::Notes => "notes",
-    }
 }
 
 fn write_text<K: Sink>(sink: &mut K, text: &str) -> Result<(), Failed>
@@ -76,50 +68,154 @@ fn write_parts<K: Sink>(sink: &mut K, parts: &[Part]) -> Result<(), Failed>
     Ok(())
 }
 
+/// Writes a name, and a number after it, where there is one.
+fn write_named<'a, K: Sink>(
+    sink: &mut K,
+    head: &'a str,
+    name: &'a str,
+    number: Option<u64>,
+) -> Result<(), Failed>
+    ensures all { OnOk result (Appends (K.taken sink.old) (K.taken sink.new) (named_line head.now name.now number)) }
+    ensures part { OnErr result (AppendsPart (K.taken sink.old) (K.taken sink.new) (named_line head.now name.now number)) }
+    ensures cause { HasCause (K.faults sink.old) (K.faults sink.new) result }
+{
+    let head = Part::Text(head);
+    let name = Part::Text(name);
+    match number {
+        None => write_parts(sink, &[head, name, Part::Text("\n")]),
+        Some(number) => {
+            let number = Part::Number(number);
+            write_parts(
+                sink,
+                &[head, name, Part::Text(" "), number, Part::Text("\n")],
+            )
+        }
+    }
+}
+
+/// Writes what is counted and the number that is above its limit.
+fn write_limit<K: Sink>(sink: &mut K, name: &str, count: u64) -> Result<(), Failed>
+    ensures all { OnOk result (Appends (K.taken sink.old) (K.taken sink.new) (limit_line name.now count)) }
+    ensures part { OnErr result (AppendsPart (K.taken sink.old) (K.taken sink.new) (limit_line name.now count)) }
+    ensures cause { HasCause (K.faults sink.old) (K.faults sink.new) result }
+{
+    write_named(sink, "limit ", name, Some(count))
+}
+
+/// Writes the fault of a MIDI file.
+fn write_smf_fault<K: Sink>(sink: &mut K, fault: SmfFault) -> Result<(), Failed>
+    ensures all { OnOk result (Appends (K.taken sink.old) (K.taken sink.new) (stop_line (stop.Smf fault))) }
+    ensures part { OnErr result (AppendsPart (K.taken sink.old) (K.taken sink.new) (stop_line (stop.Smf fault))) }
+    ensures cause { HasCause (K.faults sink.old) (K.faults sink.new) result }
+{
+    write_named(sink, "smf ", smf_name(fault), smf_number(fault))
+}
+
+/// Writes a line of the grammar file and what is wrong with it.
+fn write_grammar_fault<K: Sink>(sink: &mut K, fault: GrammarFault) -> Result<(), Failed>
+    ensures all { OnOk result (Appends (K.taken sink.old) (K.taken sink.new) (stop_line (stop.Grammar fault))) }
+    ensures part { OnErr result (AppendsPart (K.taken sink.old) (K.taken sink.new) (stop_line (stop.Grammar fault))) }
+    ensures cause { HasCause (K.faults sink.old) (K.faults sink.new) result }
+{
+    let head = Part::Text("grammar ");
+    let line = Part::Number(u64::from(fault.line));
+    let space = Part::Text(" ");
+    let name = Part::Text(what_name(fault.what));
+    let end = Part::Text("\n");
+    match what_number(fault.what) {
+        None => write_parts(sink, &[head, line, space, name, end]),
+        Some(number) => {
+            let number = Part::Number(number);
+            write_parts(sink, &[head, line, space, name, space, number, end])
+        }
+    }
+}
+
+/// Writes the two numbers of a signature.
+fn write_signature<K: Sink>(sink: &mut K, head: &str, num: u8, dd: u8) -> Result<(), Failed>
+    ensures all { OnOk result (Appends (K.taken sink.old) (K.taken sink.new) (pair_line head.now num dd)) }
+    ensures part { OnErr result (AppendsPart (K.taken sink.old) (K.taken sink.new) (pair_line head.now num dd)) }
+    ensures cause { HasCause (K.faults sink.old) (K.faults sink.new) result }
+{
+    write_parts(
+        sink,
+        &[
+            Part::Text(head),
+            Part::Number(u64::from(num)),
+            Part::Text(" "),
+            Part::Number(u64::from(dd)),
+            Part::Text("\n"),
+        ],
+    )
+}
+
 /// Writes the voice and the bar that have no derivation.
-fn write_no_derivation<K: Sink>(sink: &mut K, channel: u64, bar: u64) -> Result<(), Failed>
-    ensures all { OnOk result (Appends (K.taken sink.old) (K.taken sink.new) (no_derivation_line channel bar)) }
-    ensures part { OnErr result (AppendsPart (K.taken sink.old) (K.taken sink.new) (no_derivation_line channel bar)) }
+fn write_no_derivation<K: Sink>(sink: &mut K, channel: u8, bar: u32) -> Result<(), Failed>
+    ensures all { OnOk result (Appends (K.taken sink.old) (K.taken sink.new) (stop_line (stop.NoDerivation channel bar))) }
+    ensures part { OnErr result (AppendsPart (K.taken sink.old) (K.taken sink.new) (stop_line (stop.NoDerivation channel bar))) }
     ensures cause { HasCause (K.faults sink.old) (K.faults sink.new) result }
 {
     write_parts(
         sink,
         &[
             Part::Text("no derivation "),
-            Part::Number(channel),
+            Part::Number(u64::from(channel)),
             Part::Text(" "),
-            Part::Number(bar),
+            Part::Number(u64::from(bar)),
             Part::Text("\n"),
         ],
     )
+}
+
+/// Writes a bar and its signature.
+fn write_bar<K: Sink>(sink: &mut K, head: &str, bar: u32, num: u8, den: u8) -> Result<(), Failed>
+    ensures all { OnOk result (Appends (K.taken sink.old) (K.taken sink.new) (signature_line head.now bar num den)) }
+    ensures part { OnErr result (AppendsPart (K.taken sink.old) (K.taken sink.new) (signature_line head.now bar num den)) }
+    ensures cause { HasCause (K.faults sink.old) (K.faults sink.new) result }
+{
+    write_parts(
+        sink,
+        &[
+            Part::Text(head),
+            Part::Number(u64::from(bar)),
+            Part::Text(" "),
+            Part::Number(u64::from(num)),
+            Part::Text("/"),
+            Part::Number(u64::from(den)),
+            Part::Text("\n"),
+        ],
+    )
+}
+
+/// Writes the line of a stop.
+fn write_stop<K: Sink>(sink: &mut K, stop: Stop) -> Result<(), Failed>
+    ensures all { OnOk result (Appends (K.taken sink.old) (K.taken sink.new) (stop_line stop)) }
+    ensures part { OnErr result (AppendsPart (K.taken sink.old) (K.taken sink.new) (stop_line stop)) }
+    ensures cause { HasCause (K.faults sink.old) (K.faults sink.new) result }
+{
+    match stop {
+        Stop::Usage => write_text(sink, "usage\n"),
+        Stop::FileTooLong { kind, read } => write_limit(sink, kind_name(kind), read),
+        Stop::Smf(fault) => write_smf_fault(sink, fault),
+        Stop::Grammar(fault) => write_grammar_fault(sink, fault),
+        Stop::NoNotes => write_text(sink, "notes NoNotes\n"),
+        Stop::TooManyNotes { count } => write_limit(sink, "notes", count),
+        Stop::BadSignature { num, dd } => write_signature(sink, "bars BadSignature ", num, dd),
+        Stop::UnevenBar { bar, num, den } => write_bar(sink, "bars UnevenBar ", bar, num, den),
+        Stop::TooManyBars { start } => write_limit(sink, "bars", start),
+        Stop::TooManyCells { count } => write_limit(sink, "cells", count),
+        Stop::NoStart { bar, num, den } => write_bar(sink, "start ", bar, num, den),
+        Stop::NoDerivation { channel, bar } => write_no_derivation(sink, channel, bar),
+        Stop::ScoreTooLong { line } => write_limit(sink, "score", u64::from(line)),
+        Stop::Read(kind) => write_named(sink, "read ", kind_name(kind), None),
+        Stop::Write => write_text(sink, "write\n"),
+        Stop::Memory => write_text(sink, "memory\n"),
+    }
 }
 
 /// Writes the line of a stop, or a first part of it where a call fails.
 pub fn write_line<K: Sink>(sink: &mut K, stop: &Stop)
     ensures { Reports (K.taken sink.old) (K.taken sink.new) (K.faults sink.old) (K.faults sink.new) (stop_line stop.now) }
 {
-    let _written = match *stop {
-        Stop::Usage => write_parts(sink, &[Part::Text("usage\n")]),
-        Stop::NoDerivation { channel, bar } => {
-            write_no_derivation(sink, channel as u64, bar as u64)
-        }
-        Stop::Read(kind) => write_parts(
-            sink,
-            &[
-                Part::Text("read "),
-                Part::Text(name(kind)),
-                Part::Text("\n"),
-            ],
-        ),
-        Stop::Write => write_parts(sink, &[Part::Text("write\n")]),
-        Stop::Memory => write_parts(sink, &[Part::Text("memory\n")]),
-        Stop::Unbuilt(missing) => write_parts(
-            sink,
-            &[
-                Part::Text("unbuilt "),
-                Part::Text(missing_word(missing)),
-                Part::Text("\n"),
-            ],
-        ),
-    };
+    let _written = write_stop(sink, *stop);
 }

@@ -1,102 +1,72 @@
-ghost use Rattle.bar_listing.specs.OneBar.{bar_of_one as piece_bar};
-ghost use Rattle.bar_listing.specs.PlacedLeaves.{placed_line as bar_line};
-ghost use Rattle.rhythm_app.specs.Score.{score_lines, note_at_leaf, pitch_of, text_of_piece, token_of};
-ghost use Rattle.std.specs.Prelude.{
-  ◌≡◌,
-  ◌++◌,
-  ◌/◌,
-  codes,
-  decimal,
-  max,
-  option_copied,
-  IfOk,
-  OnOk,
-};
+ghost use Rattle.edit_session.specs.Opening.{cells_of};
+ghost use Rattle.rhythm_app.specs.Builds.{MatchBuilds};
+ghost use Rattle.rhythm_app.specs.Outcome.{IsScoring, open_stop};
+ghost use Rattle.rhythm_app.specs.Stages.{Follows, IsOfContent, items_of};
+ghost use Rattle.rhythm_base.specs.Counter.{risen};
+ghost use Rattle.rhythm_base.specs.Readable.{IsReadable};
+ghost use Rattle.rhythm_base.specs.declared.limits.TheConstants.{MOST_NOTES};
+ghost use Rattle.std.specs.Prelude.{◌≡◌, ◌≤◌, IfErr, OnOk, length};
 
-use crate::pitch_text::push_pitch;
-use bar_listing::{OneBar, PlacedLeaf, leaves_of, seat};
-use rhythm_base::{Ending, Grammar, Note, Tree};
-use std::alloc::{AllocError, Global};
+use crate::stop::Stop;
+use carry_matrix::Steps as Products;
+use edit_session::{OpenFault, ScoreFault, Session};
+use least_cost::Steps as Builds;
+use rhythm_base::{Grammar, Performance, Tag};
+use rhythm_ports::Gate;
+use std::alloc::Global;
+use std::thread::Threads;
 
-/// Appends a number in decimal digits.
-fn push_number(text: &mut Vec<u8>, number: u16) -> Result<(), AllocError>
-    ensures { OnOk result (text.new.items ≡ text.old.items ++ decimal number) }
+/// What the products of a run are counted for.
+#[derive(Clone, Copy)]
+struct InChains;
+
+impl Tag for InChains {}
+
+/// A fault of opening a session as a stop.
+fn open_stop(fault: OpenFault) -> Stop
+    ensures { result ≡ open_stop fault }
 {
-    let mut buffer = itoa::Buffer::new();
-    text.extend_from_slice(buffer.format(number).as_bytes())
-}
-
-/// Appends the pitch of a note, where there is one.
-fn push_note(text: &mut Vec<u8>, note: Option<&Note>) -> Result<(), AllocError>
-    ensures { OnOk result (text.new.items ≡ text.old.items ++ pitch_of (option_copied note.entry)) }
-{
-    match note {
-        None => Ok(()),
-        Some(note) => push_pitch(text, note.key),
+    match fault {
+        OpenFault::Cells { count } => Stop::TooManyCells { count },
+        OpenFault::NoStart { bar, num, den } => Stop::NoStart { bar, num, den },
+        OpenFault::NoDerivation { channel, bar } => Stop::NoDerivation { channel, bar },
+        OpenFault::Memory => Stop::Memory,
     }
 }
 
-/// Appends the token of a leaf: the value of a whole note's part, and what sounds in it.
-fn push_token(
-    text: &mut Vec<u8>,
-    rule: Ending,
-    value: u16,
-    note: Option<&Note>,
-) -> Result<(), AllocError>
-    ensures { OnOk result (text.new.items ≡ text.old.items
-        ++ token_of rule (decimal value) (pitch_of (option_copied note.entry))) }
-{
-    match rule {
-        Ending::Note => {
-            push_number(text, value)?;
-            push_note(text, note)
-        }
-        Ending::Short => {
-            push_number(text, value)?;
-            push_note(text, note)?;
-            text.extend_from_slice(b"'")
-        }
-        Ending::Rest => {
-            push_number(text, value)?;
-            text.extend_from_slice(b"r")
-        }
-        _ => Ok(()),
-    }
-}
-
-/// The first note that is attached to a leaf of the bar, by the leaf's number.
-fn first_note<'a>(
-    resolution: u16,
-    bar: &OneBar,
-    leaves: &[PlacedLeaf],
-    notes: &'a [Note],
-    number: usize,
-) -> Option<&'a Note>
-    ensures { option_copied result ≡ note_at_leaf resolution (bar_line bar.now leaves.now) notes.entry.now number }
-{
-    notes
-        .iter()
-        .find(|note| seat(resolution, bar, leaves, note.onset) == number)
-}
-
-/// The text of the bar for the tree of its derivation.
-pub fn score_text(
+/// The score of a performance by a grammar. Each of its cells is built once, by one worker.
+pub fn score_of<R: Threads + Sync, G: Gate + Sync, B: Tag>(
+    rt: &R,
     alloc: Global,
-    grammar: &Grammar,
-    bar: &OneBar,
-    notes: &[Note],
-    tree: &Tree,
-) -> Result<Vec<u8>, AllocError>
-    ensures { IfOk result (λ text. text.items ≡ text_of_piece grammar.now (piece_bar bar.now) notes.now tree.now) }
+    performance: Performance,
+    grammar: Grammar,
+    gate: &G,
+    builds: &mut Builds<B>,
+) -> Result<Vec<u8>, Stop>
+    requires readable { IsReadable grammar }
+    requires few_notes { length performance.notes ≤ MOST_NOTES }
+    ensures tests { Follows (IsScoring grammar performance) (items_of result) }
+    ensures content { IfErr result IsOfContent }
+    ensures all { OnOk result (builds.new ≡ risen builds.old (cells_of performance)) }
+    ensures built { IfErr result (MatchBuilds (builds.new ≡ risen builds.old (cells_of performance)) (builds.new ≤ risen builds.old (cells_of performance)) (builds.new ≡ builds.old)) }
+    ensures rises { builds.old ≤ builds.new }
 {
-    let resolution = grammar.resolution;
-    let leaves = leaves_of(alloc, grammar.rules.as_slice(), resolution, tree)?;
-    let mut text = Vec::from_slice(alloc, b"**kern\n*M4/4\n*MM120\n=1\n")?;
-    'leaves: for (number, leaf) in leaves.iter().enumerate() {
-        let note = first_note(resolution, bar, leaves.as_slice(), notes, number);
-        push_token(&mut text, leaf.rule, resolution / leaf.width.max(1), note)?;
-        text.push(b'\n')?;
+    let mut products = Products::<InChains>::zero();
+    match Session::open(
+        rt,
+        alloc,
+        performance,
+        grammar,
+        1,
+        gate,
+        builds,
+        &mut products,
+    ) {
+        Ok(session) => match session.score(alloc) {
+            Ok(text) => Ok(text),
+            Err(ScoreFault::TooLong { line }) => Err(Stop::ScoreTooLong { line }),
+            Err(ScoreFault::Memory) => Err(Stop::Memory),
+        },
+        Err(fault) => Err(open_stop(fault)),
     }
-    text.extend_from_slice(b"==\n*-\n")?;
-    Ok(text)
 }

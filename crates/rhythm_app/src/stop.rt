@@ -1,6 +1,9 @@
 ghost use Rattle.rhythm_app.specs.Stops.{status_of};
 ghost use Rattle.std.specs.Prelude.{◌≡◌};
 
+use grammar_file::GrammarFault;
+use smf_reader::SmfFault;
+
 /// Which of the command's files.
 #[derive(Clone, Copy, Debug, PartialEq, Eq)]
 pub enum Kind {
@@ -10,32 +13,41 @@ pub enum Kind {
     Grammar,
 }
 
-/// What the program does not take yet.
-#[derive(Clone, Copy, Debug, PartialEq, Eq)]
-pub enum Missing {
-    /// A MIDI file that is not narrow.
-    Midi,
-    /// A grammar file that is not narrow.
-    Grammar,
-    /// Notes so close together that they are one chord.
-    Notes,
-}
-
 /// Why a run ends without its answer.
 #[derive(Clone, Copy, Debug, PartialEq, Eq)]
 pub enum Stop {
     /// The words are no command.
     Usage,
+    /// A file is too long; so many bytes of it were read.
+    FileTooLong { kind: Kind, read: u64 },
+    /// The first fault of the MIDI file.
+    Smf(SmfFault),
+    /// The first fault of the grammar file.
+    Grammar(GrammarFault),
+    /// The MIDI file has no note.
+    NoNotes,
+    /// The MIDI file has more than 65,536 notes: this many.
+    TooManyNotes { count: u64 },
+    /// A bar takes a signature that is out of range.
+    BadSignature { num: u8, dd: u8 },
+    /// A bar has no whole number of ticks.
+    UnevenBar { bar: u32, num: u8, den: u8 },
+    /// There would be more than 4,096 bars; the next one would begin at this tick.
+    TooManyBars { start: u64 },
+    /// There are more than 16,384 cells: this many bars of voices.
+    TooManyCells { count: u64 },
+    /// The grammar has no root symbol for the signature of this bar.
+    NoStart { bar: u32, num: u8, den: u8 },
     /// A voice has no derivation that fits: its channel and its dead bar.
     NoDerivation { channel: u8, bar: u32 },
+    /// The score is longer than 67,108,864 bytes; the number, from 1, of the first line that ends past them.
+    ScoreTooLong { line: u32 },
     /// A file was not read.
     Read(Kind),
     /// The output was not written.
     Write,
     /// Want of memory.
     Memory,
-    /// What is asked for is not built yet.
-    Unbuilt(Missing),
 }
 
 impl Stop {
@@ -45,11 +57,21 @@ impl Stop {
     {
         match self {
             Stop::Usage => 1,
+            Stop::Smf(_)
+            | Stop::Grammar(_)
+            | Stop::NoNotes
+            | Stop::BadSignature { .. }
+            | Stop::UnevenBar { .. }
+            | Stop::NoStart { .. } => 2,
             Stop::NoDerivation { .. } => 3,
+            Stop::FileTooLong { .. }
+            | Stop::TooManyNotes { .. }
+            | Stop::TooManyBars { .. }
+            | Stop::TooManyCells { .. }
+            | Stop::ScoreTooLong { .. } => 4,
             Stop::Read(_) => 5,
             Stop::Write => 6,
             Stop::Memory => 7,
-            Stop::Unbuilt(_) => 8,
         }
     }
 }

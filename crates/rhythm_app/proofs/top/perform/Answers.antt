@@ -1,24 +1,24 @@
-use Rattle.std.proofs.Common.{sym, subst}
-use Rattle.std.specs.Prelude.{IsOkAnd}
-use Rattle.rhythm_app.specs.Ends.{HasNames, EndsInPart, TakesScore}
-use Rattle.rhythm_app.specs.Tests.{tests_of}
-use Rattle.rhythm_app.proofs.Taken.{score_part, score_whole}
+use Rattle.std.proofs.Common.{subst, Ok}
+use Rattle.rhythm_app.specs.Builds.{HasBuiltAll}
+use Rattle.rhythm_app.specs.Outcome.{HasOutcomeOf}
+use Rattle.rhythm_app.proofs.Taken.{part_taken, text_taken}
 use Rattle.rhythm_app.proofs.top.perform.Goals as goal
 
-pub returns-in-Ok-clause-strays : goal.returns-in-Ok-clause-strays
-returns-in-Ok-clause-strays g c = λ files are names. c.transcribe.ensures.strays files are (subst (HasNames files) (sym c.in-Some.ensures) names)
+pub returns-in-Ok-write_all-clause-done : goal.returns-in-Ok-write_all-clause-done
+returns-in-Ok-write_all-clause-done g c = λ files are.
+    text_taken (g.O.Sink.taken c.args.out.now) (g.O.Sink.taken c.write_all.new.sink) _ files c.in-Ok.text.items c.as_slice.result.now c.as_slice.ensures.value c.in-Ok-write_all.ensures.all
+    (subst (λ asked. HasOutcomeOf asked files (Ok c.in-Ok.text.items)) c.in-Some.ensures (c.in-Ok.ensures.score files are))
 
-pub returns-in-Ok-clause-done : goal.returns-in-Ok-clause-done
-returns-in-Ok-clause-done g c = λ files are.
-    subst (λ asked. IsOkAnd (tests_of asked files) (TakesScore (g.O.Sink.taken c.args.out.now) (g.O.Sink.taken c.write_all.new.sink))) c.in-Some.ensures
-    (score_whole (g.O.Sink.taken c.args.out.now) (g.O.Sink.taken c.write_all.new.sink) c.in_ok-text.text.items c.as_slice.result.now _ c.as_slice.ensures.value
-    c.in-Ok.ensures.all (c.in_ok-text.ensures.score files are))
+pub returns-in-Ok-write_all-clause-all : goal.returns-in-Ok-write_all-clause-all
+returns-in-Ok-write_all-clause-all g c = λ files are.
+    subst (λ asked. HasBuiltAll asked c.args.builds.now c.transcribe.new.builds files) c.in-Some.ensures (c.in-Ok.ensures.all files are)
 
-pub returns-clause-part : goal.returns-clause-part
-returns-clause-part g c = λ failed files are.
-    subst (λ asked. IsOkAnd (tests_of asked files) (EndsInPart (g.O.Sink.taken c.args.out.now) (g.O.Sink.taken c.write_all.new.sink))) c.in-Some.ensures
-    (score_part (g.O.Sink.taken c.args.out.now) (g.O.Sink.taken c.write_all.new.sink) c.in_ok-text.text.items c.as_slice.result.now c.in-Err.field-0.sent _ c.as_slice.ensures.value
-    c.in-Err.ensures.within c.in-Err.ensures.part (c.in_ok-text.ensures.score files are))
+pub returns-in-Ok-clause-part : goal.returns-in-Ok-clause-part
+returns-in-Ok-clause-part g c = λ failed files are.
+    part_taken (g.O.Sink.taken c.args.out.now) (g.O.Sink.taken c.write_all.new.sink) _ files c.in-Ok.text.items c.as_slice.result.now c.in-Err-write_all.field-0.sent c.as_slice.ensures.value
+    c.in-Err-write_all.ensures.within c.in-Err-write_all.ensures.part
+    (subst (λ asked. HasOutcomeOf asked files (Ok c.in-Ok.text.items)) c.in-Some.ensures (c.in-Ok.ensures.score files are))
 
-pub returns-clause-strays : goal.returns-clause-strays
-returns-clause-strays g c = λ files are names. c.transcribe.ensures.strays files are (subst (HasNames files) (sym c.in-Some.ensures) names)
+pub returns-in-Ok-clause-built : goal.returns-in-Ok-clause-built
+returns-in-Ok-clause-built g c = λ files are.
+    subst (λ asked. HasBuiltAll asked c.args.builds.now c.transcribe.new.builds files) c.in-Some.ensures (c.in-Ok.ensures.all files are)

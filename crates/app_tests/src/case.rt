@@ -1,0 +1,117 @@
+ghost use Rattle.std.specs.Prelude.{◌≤◌};
+
+use crate::files::{Change, Played, midi_file};
+use least_cost::Steps;
+use rhythm_app::run;
+use rhythm_base::{Tag, Words};
+use rhythm_ports::{MemShelf, MemSink, MemSource, OpenGate};
+use std::alloc::{AllocError, Global};
+use std::thread::Threads;
+
+/// What the tables of these runs are counted for.
+#[derive(Clone, Copy)]
+pub struct InTests;
+
+impl Tag for InTests {}
+
+/// The MIDI file of a case: its bytes, or what it is built of, with the ticks of a quarter note.
+#[derive(Clone, Copy)]
+pub enum Piece {
+    Bytes(&'static [u8]),
+    Built(u16, &'static [Change], &'static [Played]),
+}
+
+/// The contents of the two files, how the run ends, and what out and err take.
+#[derive(Clone, Copy)]
+pub struct Case {
+    pub shows: &'static str,
+    pub piece: Piece,
+    pub grammar: &'static [u8],
+    pub status: u8,
+    pub out: &'static [u8],
+    pub err: &'static [u8],
+}
+
+/// The words as a list.
+pub fn words_of(alloc: Global, words: &[&str]) -> Result<Words, AllocError> {
+    let mut list = Words::new(alloc);
+    'words: for word in words {
+        list.push(word)?;
+    }
+    Ok(list)
+}
+
+/// The bytes of the MIDI file.
+pub fn midi_of(alloc: Global, piece: Piece) -> Result<Vec<u8>, AllocError> {
+    match piece {
+        Piece::Bytes(bytes) => Vec::from_slice(alloc, bytes),
+        Piece::Built(division, changes, notes) => midi_file(alloc, division, changes, notes),
+    }
+}
+
+/// A shelf with the two files, of which a read moves so many bytes.
+pub fn shelf_with(
+    alloc: Global,
+    most: usize,
+    piece: Piece,
+    grammar: &[u8],
+) -> Result<MemShelf, AllocError>
+    requires { 1 ≤ most }
+{
+    let mut shelf = MemShelf::new(alloc, most, Vec::new(alloc));
+    shelf.put("a.mid", midi_of(alloc, piece)?)?;
+    shelf.put("a.grammar", Vec::from_slice(alloc, grammar)?)?;
+    Ok(shelf)
+}
+
+/// What a run took and left behind.
+#[derive(Clone, Copy)]
+pub struct Ran {
+    pub status: u8,
+    pub builds: u64,
+}
+
+/// Runs `transcribe` over the shelf, with these sinks.
+pub fn transcribe<R: Threads + Sync>(
+    rt: &R,
+    alloc: Global,
+    words: &Words,
+    shelf: &mut MemShelf,
+    out: &mut MemSink,
+    err: &mut MemSink,
+) -> Ran {
+    let mut script = MemSource::new(Vec::new(alloc), 1, Vec::new(alloc));
+    let mut builds = Steps::<InTests>::zero();
+    let status = run(
+        rt,
+        alloc,
+        words,
+        shelf,
+        &mut script,
+        out,
+        err,
+        &OpenGate,
+        &mut builds,
+    );
+    Ran {
+        status,
+        builds: builds.count(),
+    }
+}
+
+/// Whether the case ends as it should where each call moves at most so many bytes.
+pub fn holds<R: Threads + Sync>(
+    rt: &R,
+    alloc: Global,
+    most: usize,
+    case: &Case,
+) -> Result<bool, AllocError>
+    requires { 1 ≤ most }
+{
+    let words = words_of(alloc, &["transcribe", "a.mid", "a.grammar"])?;
+    let mut shelf = shelf_with(alloc, most, case.piece, case.grammar)?;
+    let mut out = MemSink::new(alloc, most, Vec::new(alloc));
+    let mut err = MemSink::new(alloc, most, Vec::new(alloc));
+    let ran = transcribe(rt, alloc, &words, &mut shelf, &mut out, &mut err);
+    Ok(ran.status == case.status && out.bytes() == case.out && err.bytes() == case.err)
+}

@@ -1,0 +1,106 @@
+use crate::case::{Piece, shelf_with, transcribe, words_of};
+use crate::grammars::{QUARTERS, QUARTERS_OF_RESTS, USUAL, WHOLE};
+use crate::midi::{FOUR_QUARTERS, TWO_VOICES};
+use crate::scores::FOUR_QUARTERS_SCORE;
+use rhythm_ports::MemSink;
+use std::test::Fail;
+
+/// Words that are no command.
+const NO_COMMANDS: &[&[&str]] = &[
+    &[],
+    &["transcribe"],
+    &["transcribe", "a.mid"],
+    &["edit", "a.mid", "a.grammar"],
+    &["transcribe", "a.mid", "a.grammar", "more"],
+];
+
+#[test]
+fn words_that_are_no_command_are_refused(rt: HostRuntime) -> Result<(), Fail> {
+    let alloc = rt.alloc();
+    for words in NO_COMMANDS {
+        let words = words_of(alloc, words)?;
+        let mut shelf = shelf_with(alloc, 1, Piece::Bytes(FOUR_QUARTERS), QUARTERS)?;
+        let mut out = MemSink::new(alloc, 1, Vec::new(alloc));
+        let mut err = MemSink::new(alloc, 1, Vec::new(alloc));
+        let ran = transcribe(&rt, alloc, &words, &mut shelf, &mut out, &mut err);
+        assert!(rt; ran.status == 1 && ran.builds == 0);
+        assert!(rt; out.bytes().is_empty() && err.bytes() == b"usage\n".as_slice());
+    }
+    Ok(())
+}
+
+#[test]
+fn a_first_part_is_written_before_a_failure(rt: HostRuntime) -> Result<(), Fail> {
+    let alloc = rt.alloc();
+    let words = words_of(alloc, &["transcribe", "a.mid", "a.grammar"])?;
+    let mut shelf = shelf_with(alloc, 4096, Piece::Bytes(FOUR_QUARTERS), QUARTERS)?;
+    let mut out = MemSink::new(alloc, 10, vec![in alloc; 2]?);
+    let mut err = MemSink::new(alloc, 10, Vec::new(alloc));
+    let ran = transcribe(&rt, alloc, &words, &mut shelf, &mut out, &mut err);
+    assert!(rt; ran.status == 6 && ran.builds == 1);
+    assert!(rt; out.bytes() == &FOUR_QUARTERS_SCORE[..20] && err.bytes() == b"write\n".as_slice());
+    Ok(())
+}
+
+#[test]
+fn a_file_that_is_not_there_is_named(rt: HostRuntime) -> Result<(), Fail> {
+    let alloc = rt.alloc();
+    for (midi, grammar, line) in [
+        ("b.mid", "a.grammar", b"read midi\n".as_slice()),
+        ("a.mid", "b.grammar", b"read grammar\n"),
+    ] {
+        let words = words_of(alloc, &["transcribe", midi, grammar])?;
+        let mut shelf = shelf_with(alloc, 4096, Piece::Bytes(FOUR_QUARTERS), QUARTERS)?;
+        let mut out = MemSink::new(alloc, 10, Vec::new(alloc));
+        let mut err = MemSink::new(alloc, 10, Vec::new(alloc));
+        let ran = transcribe(&rt, alloc, &words, &mut shelf, &mut out, &mut err);
+        assert!(rt; ran.status == 5 && ran.builds == 0);
+        assert!(rt; out.bytes().is_empty() && err.bytes() == line);
+    }
+    Ok(())
+}
+
+#[test]
+fn a_line_that_is_cut_changes_no_status(rt: HostRuntime) -> Result<(), Fail> {
+    let alloc = rt.alloc();
+    let words = words_of(alloc, &["transcribe", "a.mid", "a.grammar"])?;
+    let mut shelf = shelf_with(alloc, 4096, Piece::Bytes(FOUR_QUARTERS), QUARTERS_OF_RESTS)?;
+    let mut out = MemSink::new(alloc, 10, Vec::new(alloc));
+    let mut err = MemSink::new(alloc, 10, vec![in alloc; 1]?);
+    let ran = transcribe(&rt, alloc, &words, &mut shelf, &mut out, &mut err);
+    assert!(rt; ran.status == 3 && ran.builds == 1);
+    assert!(rt; out.bytes().is_empty() && err.bytes() == b"no derivat".as_slice());
+    Ok(())
+}
+
+#[test]
+fn each_cell_is_built_once(rt: HostRuntime) -> Result<(), Fail> {
+    let alloc = rt.alloc();
+    for (piece, grammar, cells) in [
+        (Piece::Bytes(FOUR_QUARTERS), QUARTERS, 1),
+        (Piece::Bytes(TWO_VOICES), USUAL, 4),
+        (Piece::Built(1, &[], &[(0, 60, 0, 16_384)]), WHOLE, 4096),
+    ] {
+        let words = words_of(alloc, &["transcribe", "a.mid", "a.grammar"])?;
+        let mut shelf = shelf_with(alloc, 4096, piece, grammar)?;
+        let mut out = MemSink::new(alloc, 4096, Vec::new(alloc));
+        let mut err = MemSink::new(alloc, 4096, Vec::new(alloc));
+        let ran = transcribe(&rt, alloc, &words, &mut shelf, &mut out, &mut err);
+        assert!(rt; ran.status == 0 && ran.builds == cells);
+    }
+    Ok(())
+}
+
+#[test]
+fn a_grammar_file_that_is_too_long_is_refused(rt: HostRuntime) -> Result<(), Fail> {
+    let alloc = rt.alloc();
+    let long = Vec::from_elem(alloc, b'\n', 1_048_577)?;
+    let words = words_of(alloc, &["transcribe", "a.mid", "a.grammar"])?;
+    let mut shelf = shelf_with(alloc, 4096, Piece::Bytes(FOUR_QUARTERS), &long)?;
+    let mut out = MemSink::new(alloc, 4096, Vec::new(alloc));
+    let mut err = MemSink::new(alloc, 4096, Vec::new(alloc));
+    let ran = transcribe(&rt, alloc, &words, &mut shelf, &mut out, &mut err);
+    assert!(rt; ran.status == 4 && ran.builds == 0);
+    assert!(rt; out.bytes().is_empty() && err.bytes() == b"limit grammar 1048577\n".as_slice());
+    Ok(())
+}

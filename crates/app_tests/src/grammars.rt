@@ -1,0 +1,260 @@
+/// A bar of four quarters.
+pub const QUARTERS: &[u8] = b"\
+    rhythm 1\n\
+    resolution 4\n\
+    window 30000\n\
+    onset 1\n\
+    start 4/4 B\n\
+    B 0 split H H\n\
+    H 0 split Q Q\n\
+    Q 0 note\n\
+";
+
+/// The same with rests in place of notes.
+pub const QUARTERS_OF_RESTS: &[u8] = b"\
+    rhythm 1\n\
+    resolution 4\n\
+    window 30000\n\
+    onset 1\n\
+    start 4/4 B\n\
+    B 0 split H H\n\
+    H 0 split Q Q\n\
+    Q 0 rest\n\
+";
+
+/// The same with the greatest weight.
+pub const HEAVIEST_WEIGHT: &[u8] = b"\
+    rhythm 1\n\
+    resolution 4\n\
+    window 30000\n\
+    onset 1\n\
+    start 4/4 B\n\
+    B 1000000 split H H\n\
+    H 0 split Q Q\n\
+    Q 0 note\n\
+";
+
+/// The same with a weight above the greatest.
+pub const WEIGHT_ABOVE: &[u8] = b"\
+    rhythm 1\n\
+    resolution 4\n\
+    window 30000\n\
+    onset 1\n\
+    start 4/4 B\n\
+    B 1000001 split H H\n\
+    H 0 split Q Q\n\
+    Q 0 note\n\
+";
+
+/// A bar down to eighths.
+pub const USUAL: &[u8] = b"\
+    rhythm 1\n\
+    resolution 8\n\
+    window 30000\n\
+    onset 1\n\
+    start 4/4 B\n\
+    B 10 note\n\
+    B 10 tie\n\
+    B 5 rest\n\
+    B 20 split H H\n\
+    H 10 note\n\
+    H 10 tie\n\
+    H 10 rest\n\
+    H 20 split Q Q\n\
+    Q 10 note\n\
+    Q 15 short\n\
+    Q 10 tie\n\
+    Q 10 rest\n\
+    Q 40 split E E\n\
+    E 10 note\n\
+    E 20 short\n\
+    E 10 tie\n\
+    E 10 rest\n\
+    E 60 grace 1\n\
+";
+
+/// The same in version 2.
+pub const USUAL_IN_VERSION_2: &[u8] = b"\
+    rhythm 2\n\
+    resolution 8\n\
+    window 30000\n\
+    onset 1 1\n\
+    start 4/4 B\n\
+    B 10 note\n\
+    B 10 tie\n\
+    B 5 rest\n\
+    B 20 split H H\n\
+    H 10 note\n\
+    H 10 tie\n\
+    H 10 rest\n\
+    H 20 split Q Q\n\
+    Q 10 note\n\
+    Q 15 short\n\
+    Q 10 tie\n\
+    Q 10 rest\n\
+    Q 40 split E E\n\
+    E 10 note\n\
+    E 20 short\n\
+    E 10 tie\n\
+    E 10 rest\n\
+    E 60 grace 1\n\
+";
+
+/// A bar of 5/4 is a note.
+pub const WHOLE_OF_FIVE: &[u8] = b"\
+    rhythm 1\n\
+    resolution 1\n\
+    window 0\n\
+    onset 1\n\
+    start 5/4 F\n\
+    F 0 note\n\
+";
+
+/// A bar of two halves.
+pub const HALVES: &[u8] = b"\
+    rhythm 1\n\
+    resolution 2\n\
+    window 0\n\
+    onset 1\n\
+    start 4/4 B\n\
+    B 0 split H H\n\
+    H 0 note\n\
+    H 0 rest\n\
+    H 0 tie\n\
+    H 0 short\n\
+";
+
+/// A bar is one leaf.
+pub const WHOLE: &[u8] = b"\
+    rhythm 1\n\
+    resolution 1\n\
+    window 0\n\
+    onset 1\n\
+    start 4/4 B\n\
+    B 0 note\n\
+    B 0 rest\n\
+    B 0 tie\n\
+    B 0 short\n\
+";
+
+/// Two halves or three thirds, at no cost.
+pub const TWO_OR_THREE: &[u8] = b"\
+    rhythm 1\n\
+    resolution 6\n\
+    window 0\n\
+    onset 1\n\
+    start 4/4 B\n\
+    B 0 split A A\n\
+    B 0 split T T T\n\
+    A 0 note\n\
+    A 0 tie\n\
+    T 0 note\n\
+    T 0 tie\n\
+";
+
+/// The same with the thirds first.
+pub const THREE_OR_TWO: &[u8] = b"\
+    rhythm 1\n\
+    resolution 6\n\
+    window 0\n\
+    onset 1\n\
+    start 4/4 B\n\
+    B 0 split T T T\n\
+    B 0 split A A\n\
+    A 0 note\n\
+    A 0 tie\n\
+    T 0 note\n\
+    T 0 tie\n\
+";
+
+/// Four quarters, each with two grace notes or none.
+pub const GRACES: &[u8] = b"\
+    rhythm 1\n\
+    resolution 4\n\
+    window 0\n\
+    onset 1\n\
+    start 4/4 B\n\
+    B 0 split Q Q Q Q\n\
+    Q 0 note\n\
+    Q 0 rest\n\
+    Q 0 tie\n\
+    Q 0 short\n\
+    Q 5 grace 2\n\
+";
+
+/// A bar of 4/4 or 6/8 is a note.
+pub const TWO_SIGNATURES: &[u8] = b"\
+    rhythm 1\n\
+    resolution 1\n\
+    window 0\n\
+    onset 1\n\
+    start 4/4 B\n\
+    start 6/8 B\n\
+    B 0 note\n\
+";
+
+/// A name that is no rule's.
+pub const UNKNOWN_NAME: &[u8] = b"\
+    rhythm 1\n\
+    resolution 1\n\
+    window 0\n\
+    onset 1\n\
+    start 4/4 B\n\
+    B 0 note\n\
+    B 0 split B X\n\
+";
+
+/// A bar in two parts, three quarters and one.
+pub const UNEQUAL: &[u8] = b"\
+    rhythm 2\n\
+    resolution 4\n\
+    window 0\n\
+    onset 3 1\n\
+    start 4/4 B\n\
+    B 0 parts 3 H 1 H\n\
+    H 0 note\n\
+";
+
+/// The same with too many units.
+pub const UNITS_ABOVE: &[u8] = b"\
+    rhythm 2\n\
+    resolution 97\n\
+    window 0\n\
+    onset 3 1\n\
+    start 4/4 B\n\
+    B 0 parts 3 H 1 H\n\
+    H 0 note\n\
+";
+
+/// The same with one weight for onsets.
+pub const ONE_WEIGHT: &[u8] = b"\
+    rhythm 2\n\
+    resolution 4\n\
+    window 0\n\
+    onset 1\n\
+    start 4/4 B\n\
+    B 0 parts 3 H 1 H\n\
+    H 0 note\n\
+";
+
+/// The same in version 1, which has no such parts.
+pub const PARTS_IN_VERSION_1: &[u8] = b"\
+    rhythm 1\n\
+    resolution 4\n\
+    window 0\n\
+    onset 1\n\
+    start 4/4 B\n\
+    B 0 parts 3 H 1 H\n\
+    H 0 note\n\
+";
+
+/// The same with a part of no size.
+pub const NO_PART: &[u8] = b"\
+    rhythm 2\n\
+    resolution 4\n\
+    window 0\n\
+    onset 3 1\n\
+    start 4/4 B\n\
+    B 0 parts 0 H 1 H\n\
+    H 0 note\n\
+";

@@ -1,0 +1,18 @@
+//! Tests of the top call, from the bytes of two files to what out and err take: the scores of small pieces, with ties,
+//! grace notes, several voices and changes; what refuses a file, notes, bars or a grammar; and calls that fail.
+#![tactic(auto)]
+
+#[cfg(test)]
+mod case;
+#[cfg(test)]
+mod failures;
+#[cfg(test)]
+mod files;
+#[cfg(test)]
+mod grammars;
+#[cfg(test)]
+mod midi;
+#[cfg(test)]
+mod refusals;
+#[cfg(test)]
+mod scores;

@@ -1,9 +1,0 @@
-pub mod Chords
-pub mod Costs
-pub mod LatestSounds
-pub mod LeavesUnder
-pub mod Listed
-pub mod Members
-pub mod OneLine
-pub mod Order
-pub mod Shares

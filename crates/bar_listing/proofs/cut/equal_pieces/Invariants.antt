@@ -1,6 +1,0 @@
-use Rattle.std.proofs.Common.{◌≡◌, map, take}
-use Rattle.bar_listing.specs.Pieces.{piece_pair}
-use Rattle.bar_listing.proofs.cut.equal_pieces.Given as goal
-
-abbrev pub invariant-loop-symbol : goal.invariant-loop-symbol
-invariant-loop-symbol l = map piece_pair l.pieces.items ≡ map (λ s. (l.share, s)) (take l.symbol-index l.symbols)

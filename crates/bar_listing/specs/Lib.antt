@@ -1,6 +1,0 @@
-pub mod Candidates
-pub mod Listing
-pub mod OneBar
-pub mod Pieces
-pub mod PlacedLeaves
-pub mod Seats

@@ -1,8 +1,0 @@
--- A function at each element of a list.
-use Rattle.std.specs.Prelude.{List, [], ◌∷◌, Option, Some, option_and_then}
-use Rattle.std.specs.Option.{option_map}
-
--- what f gives of the elements, where it gives something of each
-abbrev pub each_of : {X Y : Type 0} → (X → Option Y) → List X → Option (List Y)
-each_of f [] = Some []
-each_of f (x ∷ xs) = option_and_then (λ y. option_map (λ ys. y ∷ ys) (each_of f xs)) (f x)

@@ -1,3 +1,0 @@
-pub mod SevenBits
-pub mod NotesFollow
-pub mod InBar

@@ -1,8 +1,0 @@
-use Rattle.std.proofs.Common.{arith}
-use Rattle.narrow_midi.proofs.SevenBits.{three_digits_below}
-use Rattle.narrow_midi.proofs.quantity.seven_bits.Goals as goal
-
-pub overflow_mul-number : goal.overflow_mul-number
-overflow_mul-number c =
-    let s = c.loop-byte in
-    omega (arith, three_digits_below s.byte-index s.number (omega arith) s.invariant.below)

@@ -1,7 +1,0 @@
--- Readers one after the other: the next one takes what the one before it found, and nothing is found where one of them
--- finds nothing.
-use Rattle.std.specs.Prelude.{Option, option_and_then}
-
-infixl 10 ◌>>=◌
-abbrev pub ◌>>=◌ : {A B : Type 0} → Option A → (A → Option B) → Option B
-found >>= next = option_and_then next found

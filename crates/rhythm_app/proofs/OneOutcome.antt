@@ -1,0 +1,105 @@
+-- What words and files come to is one.
+use Rattle.std.proofs.Common.{◌≡◌, ◌≤◌, ◌+◌, ℕ, List, Option, Some, None, ap, inl, inr, refl, sym, subst, ◌∙◌, Bool, true, false, Result, Ok, Err}
+use Rattle.std.specs.Prelude.{IfOk, if◌then◌else◌, nat_le, length}
+use Rattle.edit_session.proofs.Faults.{fault_or_open, one_fault}
+use Rattle.edit_session.specs.Opening.{CanOpen}
+use Rattle.grammar_file.proofs.SayableLemmas.{is_sayable}
+use Rattle.grammar_file.specs.Grammar.{grammar_of}
+use Rattle.kern_writer.proofs.OneScore.{scores_one}
+use Rattle.kern_writer.proofs.OneText.{texts_one}
+use Rattle.kern_writer.specs.PerformanceScore.{HasTooLongText, IsTextOf}
+use Rattle.kern_writer.specs.Text.{IsScoreText, IsTooLong}
+use Rattle.performance_load.proofs.OneLoading.{one_loading}
+use Rattle.performance_load.specs.declared.load_fault.LoadFault.{LoadFault}
+use Rattle.rhythm_app.proofs.InTurn.{IsOne, in_turn_one}
+use Rattle.rhythm_app.specs.Asked.{Asked, transcribe, asked_by, file_content}
+use Rattle.rhythm_app.specs.Laws.{OutcomesAreOne}
+use Rattle.rhythm_app.specs.Outcome.{AreInTurn, HasOutcomeOf, IsLoading, IsRead, IsScoring, IsTranscription, IsUnderstood, IsUnopened, grammar_tests, limit_of, load_stop, open_stop, passed, stopped}
+use Rattle.rhythm_app.specs.declared.stop.Kind.TheVariants as kind
+use Rattle.rhythm_app.specs.declared.stop.Stop.{Stop}
+use Rattle.rhythm_app.specs.declared.stop.Stop.TheVariants as stop
+use Rattle.rhythm_base.specs.Grammar.{Grammar}
+use Rattle.rhythm_base.specs.Performance.{IsWellFormed, Performance}
+use Rattle.rhythm_base.specs.Readable.{IsReadable}
+use Rattle.rhythm_base.specs.declared.limits.TheConstants.{LONGEST_SCORE}
+use Rattle.rhythm_ports.specs.Files.{File}
+use Rattle.smf_reader.specs.Played.{Smf}
+
+-- ---- the files and the performance
+
+one_read : (bytes : List ℕ) → IsOne (IsRead bytes)
+one_read bytes r s h k = sym h ∙ k
+
+one_understood : (bytes : List ℕ) → IsOne (IsUnderstood bytes)
+one_understood bytes r s h k = sym h ∙ k
+
+-- what is understood is a grammar that a file can say
+readable : (bytes : List ℕ) (g : Grammar) → IsUnderstood bytes (Ok g) → IsReadable g
+unfolding grammar_tests
+readable bytes g = go (nat_le (length bytes) (limit_of kind.Grammar))
+  where
+    said : (r : Result Grammar _) → grammar_of bytes ≡ r → ◌≡◌ {A = Result Grammar Stop} (stopped stop.Grammar r) (Ok g) → IsReadable g
+    said (Ok h) is e = let same : h ≡ g = cc in (is_sayable bytes g (is ∙ ap Ok same)).readable
+    said (Err fault) is e = absurd (cc)
+
+    go : (b : Bool) → ◌≡◌ {A = Result Grammar Stop} (passed (if b then Ok bytes else Err (stop.FileTooLong kind.Grammar (limit_of kind.Grammar + 1))) (λ b. stopped stop.Grammar (grammar_of b))) (Ok g) → IsReadable g
+    go true e = said (grammar_of bytes) refl e
+    go false e = absurd (cc)
+
+one_loaded : (f : Smf) → IsOne (IsLoading f)
+one_loaded f r s h k = h.4 ∙ ap (stopped load_stop) (one_loading f h.0 k.0 h.1 k.1 h.2 k.2) ∙ sym k.4
+
+well_formed : (f : Smf) (p : Performance) → IsLoading f (Ok p) → IsWellFormed p
+well_formed f p h = go h.0 h.3 h.4
+  where
+    go : (r : Result Performance LoadFault) → IfOk r IsWellFormed → ◌≡◌ {A = Result Performance Stop} (Ok p) (stopped load_stop r) → IsWellFormed p
+    go (Ok q) formed e = let same : q ≡ p = cc in subst IsWellFormed same formed
+    go (Err fault) formed e = absurd (cc)
+
+-- ---- the score
+
+module _ (g : Grammar) (p : Performance) (read : IsReadable g) (formed : IsWellFormed p) where
+  one_text : (a b : List ℕ) → IsTextOf g p a → IsTextOf g p b → a ≡ b
+  one_text a b (s, h, k) (t, i, j) =
+      let same = scores_one.score g p s t read formed h i in
+      texts_one.text t a b (scores_one.can_be_written g p t read formed i) (subst (λ x. IsScoreText x a) same k) j
+
+  one_line : (a b : ℕ) → HasTooLongText g p a → HasTooLongText g p b → a ≡ b
+  one_line a b (s, h, k) (t, i, j) =
+      let same = scores_one.score g p s t read formed h i in
+      texts_one.too_long t a b (scores_one.can_be_written g p t read formed i) (subst (λ x. IsTooLong x a) same k) j
+
+  not_too_long : (text : List ℕ) (line : ℕ) → IsTextOf g p text → length text ≤ LONGEST_SCORE → HasTooLongText g p line → ⊥
+  not_too_long text line (s, h, k) short (t, i, j) =
+      let same = scores_one.score g p s t read formed h i in
+      texts_one.either t text line (scores_one.can_be_written g p t read formed i) (subst (λ x. IsScoreText x text) same k) short j
+
+  opened : (s : Stop) → CanOpen g p → IsUnopened g p s → ⊥
+  opened s can (fault, is, other, same) = fault_or_open g p fault read formed other can is
+
+  one_scoring : IsOne (IsScoring g p)
+  one_scoring (Ok a) (Ok b) h k = ap Ok (one_text a b h.1 k.1)
+  one_scoring (Ok a) (Err t) h (inl k) = absurd (opened t h.0 k)
+  one_scoring (Ok a) (Err t) h (inr k) = absurd (not_too_long a k.0 h.1 h.2 k.2)
+  one_scoring (Err s) (Ok b) (inl h) k = absurd (opened s k.0 h)
+  one_scoring (Err s) (Ok b) (inr h) k = absurd (not_too_long b h.0 k.1 k.2 h.2)
+  one_scoring (Err s) (Err t) (inl h) (inl k) = ap Err (h.3 ∙ ap open_stop (one_fault g p h.0 k.0 read formed h.2 k.2 h.1 k.1) ∙ sym k.3)
+  one_scoring (Err s) (Err t) (inl h) (inr k) = absurd (opened s k.1 h)
+  one_scoring (Err s) (Err t) (inr h) (inl k) = absurd (opened t h.1 k)
+  one_scoring (Err s) (Err t) (inr h) (inr k) = ap Err (h.3 ∙ ap stop.ScoreTooLong (one_line h.0 k.0 h.2 k.2) ∙ sym k.3)
+
+-- ---- the run
+
+one_transcription : (midi grammar : List ℕ) → IsOne (IsTranscription midi grammar)
+one_transcription midi grammar =
+    in_turn_one (IsRead midi) (λ f. AreInTurn (IsUnderstood grammar) (λ g. AreInTurn (IsLoading f) (λ p. IsScoring g p))) (one_read midi)
+    (λ f _. in_turn_one (IsUnderstood grammar) (λ g. AreInTurn (IsLoading f) (λ p. IsScoring g p)) (one_understood grammar)
+    (λ g understood. in_turn_one (IsLoading f) (λ p. IsScoring g p) (one_loaded f)
+    (λ p loaded. one_scoring g p (readable grammar g understood) (well_formed f p loaded))))
+
+one_of : (asked : Option Asked) (files : List File) → IsOne (HasOutcomeOf asked files)
+one_of None files r s h k = h ∙ sym k
+one_of (Some (transcribe midi grammar)) files r s h k = one_transcription (file_content files midi) (file_content files grammar) r s h k
+
+pub one_outcome : OutcomesAreOne
+one_outcome words files = one_of (asked_by words) files

@@ -1,0 +1,121 @@
+-- What the words of a command line and the bytes of the files come to: a text, or the first test that fails, as a stop. The tests
+-- come in this order: the words; the MIDI file's size and its faults; the grammar file's size and its faults; the notes and the
+-- bars; the cells, the root symbols and the derivations; the size of the score. A failed read, a failed write and want of memory
+-- are no outcomes: they may end any run.
+use Rattle.std.specs.Prelude.{◌≡◌, ◌≢◌, ℕ, ◌+◌, ◌≤◌, ◌⊎◌, nat_le, List, length, IfOk, if◌then◌else◌, Result, Ok, Err, Option, Some, None}
+use Rattle.edit_session.specs.Opening.{CanOpen, IsOpenFault}
+use Rattle.edit_session.specs.declared.open_fault.OpenFault.{OpenFault}
+use Rattle.edit_session.specs.declared.open_fault.OpenFault.TheVariants as opening
+use Rattle.grammar_file.specs.Grammar.{grammar_of}
+use Rattle.kern_writer.specs.PerformanceScore.{HasTooLongText, IsTextOf}
+use Rattle.note_list.specs.declared.fault.NoteFault.TheVariants as note
+use Rattle.performance_load.specs.Loading.{Loads}
+use Rattle.performance_load.specs.declared.load_fault.LoadFault.{LoadFault}
+use Rattle.performance_load.specs.declared.load_fault.LoadFault.TheVariants as loading
+use Rattle.rhythm_app.specs.Asked.{Asked, transcribe, asked_by, file_content}
+use Rattle.rhythm_app.specs.declared.stop.Kind.{Kind}
+use Rattle.rhythm_app.specs.declared.stop.Kind.TheVariants as kind
+use Rattle.rhythm_app.specs.declared.stop.Stop.{Stop}
+use Rattle.rhythm_app.specs.declared.stop.Stop.TheVariants as stop
+use Rattle.rhythm_base.specs.Grammar.{Grammar}
+use Rattle.rhythm_base.specs.Performance.{IsWellFormed, Performance}
+use Rattle.rhythm_base.specs.declared.bar_fault.BarFault.TheVariants as laying
+use Rattle.rhythm_base.specs.declared.limits.TheConstants.{LONGEST_GRAMMAR, LONGEST_MIDI, LONGEST_SCORE}
+use Rattle.rhythm_ports.specs.Files.{File}
+use Rattle.smf_reader.specs.Played.{Smf}
+use Rattle.smf_reader.specs.SmfFile.{smf}
+
+-- ---- the files
+
+-- the most bytes that a file may have
+abbrev pub limit_of : Kind → ℕ
+limit_of kind.Midi = LONGEST_MIDI
+limit_of kind.Grammar = LONGEST_GRAMMAR
+
+-- the bytes of a file that is not too long. Of a longer one, one byte more than the limit is read
+abbrev pub sized : Kind → List ℕ → Result (List ℕ) Stop
+sized kind bytes = if nat_le (length bytes) (limit_of kind) then Ok bytes else Err (stop.FileTooLong kind (limit_of kind + 1))
+
+-- the next test, where a test passed
+abbrev pub passed : {T U : Type 0} → Result T Stop → (T → Result U Stop) → Result U Stop
+passed (Ok x) next = next x
+passed (Err s) next = Err s
+
+-- what a layer came to, with its fault as a stop
+abbrev pub stopped : {T E : Type 0} → (E → Stop) → Result T E → Result T Stop
+stopped as_stop (Ok x) = Ok x
+stopped as_stop (Err fault) = Err (as_stop fault)
+
+unfoldable pub midi_tests : List ℕ → Result Smf Stop
+midi_tests bytes = passed (sized kind.Midi bytes) (λ b. stopped stop.Smf (smf b))
+
+unfoldable pub grammar_tests : List ℕ → Result Grammar Stop
+grammar_tests bytes = passed (sized kind.Grammar bytes) (λ b. stopped stop.Grammar (grammar_of b))
+
+-- what the MIDI file comes to
+abbrev pub IsRead : List ℕ → Result Smf Stop → Type 0
+IsRead bytes r = midi_tests bytes ≡ r
+
+-- what the grammar file comes to
+abbrev pub IsUnderstood : List ℕ → Result Grammar Stop → Type 0
+IsUnderstood bytes r = grammar_tests bytes ≡ r
+
+-- ---- the performance
+
+-- a fault of loading as a stop
+abbrev pub load_stop : LoadFault → Stop
+load_stop (loading.Notes note.NoNotes) = stop.NoNotes
+load_stop (loading.Notes (note.TooManyNotes count)) = stop.TooManyNotes count
+load_stop (loading.Notes note.Memory) = stop.Memory
+load_stop (loading.Bars (laying.TooManyBars start)) = stop.TooManyBars start
+load_stop (loading.Bars (laying.BadSignature num dd)) = stop.BadSignature num dd
+load_stop (loading.Bars (laying.UnevenBar bar num den)) = stop.UnevenBar bar num den
+load_stop (loading.Bars laying.Memory) = stop.Memory
+load_stop loading.Memory = stop.Memory
+
+-- what loading the file comes to. A performance is always well formed
+abbrev pub IsLoading : Smf → Result Performance Stop → Type 0
+IsLoading f r =
+    (loaded : Result Performance LoadFault) × Loads f loaded × (loaded ≢ Err loading.Memory) × IfOk loaded IsWellFormed × (r ≡ stopped load_stop loaded)
+
+-- ---- the score
+
+-- a fault of opening a session as a stop
+abbrev pub open_stop : OpenFault → Stop
+open_stop (opening.Cells count) = stop.TooManyCells count
+open_stop (opening.NoStart bar num den) = stop.NoStart bar num den
+open_stop (opening.NoDerivation channel bar) = stop.NoDerivation channel bar
+open_stop opening.Memory = stop.Memory
+
+-- no session is opened
+abbrev pub IsUnopened : Grammar → Performance → Stop → Type 0
+IsUnopened g p s = (fault : OpenFault) × IsOpenFault g p fault × (fault ≢ opening.Memory) × (s ≡ open_stop fault)
+
+-- a session is opened, and its score is too long
+abbrev pub IsTooLongToWrite : Grammar → Performance → Stop → Type 0
+IsTooLongToWrite g p s = (line : ℕ) × CanOpen g p × HasTooLongText g p line × (s ≡ stop.ScoreTooLong line)
+
+-- what the score of a performance and a grammar comes to
+abbrev pub IsScoring : Grammar → Performance → Result (List ℕ) Stop → Type 0
+IsScoring g p (Ok text) = CanOpen g p × IsTextOf g p text × (length text ≤ LONGEST_SCORE)
+IsScoring g p (Err s) = IsUnopened g p s ⊎ IsTooLongToWrite g p s
+
+-- ---- the run
+
+-- one test and, with what it came to, the next: both pass, or the first that fails is the outcome
+abbrev pub AreInTurn : {T U : Type 0} → (Result T Stop → Type 0) → (T → Result U Stop → Type 0) → Result U Stop → Type 0
+AreInTurn {T} first next (Ok y) = (x : T) × first (Ok x) × next x (Ok y)
+AreInTurn {T} first next (Err s) = first (Err s) ⊎ ((x : T) × first (Ok x) × next x (Err s))
+
+-- what `transcribe` comes to, by the bytes of its two files
+abbrev pub IsTranscription : List ℕ → List ℕ → Result (List ℕ) Stop → Type 0
+IsTranscription midi grammar =
+    AreInTurn (IsRead midi) (λ f. AreInTurn (IsUnderstood grammar) (λ g. AreInTurn (IsLoading f) (λ p. IsScoring g p)))
+
+abbrev pub HasOutcomeOf : Option Asked → List File → Result (List ℕ) Stop → Type 0
+HasOutcomeOf None files r = r ≡ Err stop.Usage
+HasOutcomeOf (Some (transcribe midi grammar)) files r = IsTranscription (file_content files midi) (file_content files grammar) r
+
+-- what a command line comes to
+abbrev pub HasOutcome : List (List ℕ) → List File → Result (List ℕ) Stop → Type 0
+HasOutcome words files r = HasOutcomeOf (asked_by words) files r
