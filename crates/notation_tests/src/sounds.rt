@@ -5,6 +5,7 @@ ghost use Rattle.std.specs.Prelude.{[], ◌≡◌, ◌≤◌, IfOk, Ok, length};
 
 use derivation::{derivations_are_well_sounded, sounds_of, spans_of};
 use grammar_file::read_grammar;
+use kern_reader::{KernEvent, read_kern};
 use rhythm_base::SoundKind::{Begin, Rest, Tie};
 use rhythm_base::{Bar, Chord, Graces, Grammar, Keys, Sound, SoundKind, Span, Tree};
 use std::alloc::Global;
@@ -246,5 +247,55 @@ fn sounds(rt: HostRuntime) -> Result<(), Fail> {
     assert!(rt; is_heard(&lower, &LOWER_SOUNDS, &LOWER_SPANS), "lower");
     let graced = graced_voice(rt.alloc())?;
     assert!(rt; is_heard(&graced, &GRACED_SOUNDS, &GRACED_SPANS), "graced");
+    Ok(())
+}
+
+/// The score of the upper and the lower voice.
+const SCORE: &[u8] = b"\
+    **kern\t**kern\n\
+    *k[b-e-]\t*k[b-e-]\n\
+    *M4/4\t*M4/4\n\
+    *MM100\t*MM100\n\
+    =1\t=1\n\
+    4b- 4dd\t[1BB-\n\
+    [4cc\t.\n\
+    2cc]\t.\n\
+    *MM120\t*MM120\n\
+    =2\t=2\n\
+    1b-\t1BB-]\n\
+    ==\t==\n\
+    *-\t*-\n\
+";
+
+/// Whether an event is this span of a spine.
+fn is_event(event: &KernEvent, spine: u8, span: &Span) -> bool {
+    event.spine == spine
+        && event.span.start == span.start
+        && event.span.len == span.len
+        && event.span.keys == span.keys
+        && event.span.short == span.short
+        && event.span.graces.as_slice() == span.graces.as_slice()
+}
+
+/// Whether the events of a spine are these spans.
+fn are_events(events: &[KernEvent], spine: u8, spans: &[Span]) -> bool {
+    events.len() == spans.len()
+        && events
+            .iter()
+            .zip(spans)
+            .all(|(event, span)| is_event(event, spine, span))
+}
+
+/// The events that are read of a score are the spans of its voices.
+#[test]
+fn spans_are_the_events_of_the_score(rt: HostRuntime) -> Result<(), Fail> {
+    let upper = upper_voice(rt.alloc())?;
+    let lower = lower_voice(rt.alloc())?;
+    let score = read_kern(rt.alloc(), SCORE)?;
+    let events = score.events(rt.alloc())?;
+    assert!(rt; events.len() == 4);
+    let (first, second) = events.as_slice().split_at(3);
+    assert!(rt; are_events(first, 1, upper.spans.as_slice()), "upper");
+    assert!(rt; are_events(second, 2, lower.spans.as_slice()), "lower");
     Ok(())
 }

@@ -1,0 +1,19 @@
+pub mod ChordLemmas
+pub mod ColumnLemmas
+pub mod EventLemmas
+pub mod FractionLemmas
+pub mod GridLemmas
+pub mod GridWalk
+pub mod KeyLemmas
+pub mod LineLemmas
+pub mod NumberLemmas
+pub mod PitchLemmas
+pub mod Runs
+pub mod SignatureLemmas
+pub mod SpineLemmas
+pub mod StepLemmas
+pub mod TextLemmas
+pub mod TokenLemmas
+pub mod WidthLemmas
+pub mod ZipLemmas
+mod WorkedTexts

@@ -1,0 +1,6 @@
+use Rattle.std.proofs.Common.{◌≡◌, ◌++◌, ◌-◌}
+use Rattle.kern_reader.specs.EventText.{keys_from, keys_text, listed_on}
+use Rattle.kern_reader.proofs.event_text.push_keys.Given as goal
+
+abbrev pub invariant-keys : goal.invariant-keys
+invariant-keys l = l.text.items ++ listed_on l.first (keys_from l.keys l.key (128 - l.key)) ≡ l.initial.text.items ++ keys_text l.keys

@@ -1,0 +1,17 @@
+use Rattle.std.proofs.Common.{◌≡◌, ◌+◌, ◌<◌, ◌≤◌, ◌^◌, List, length}
+use Rattle.kern_reader.specs.declared.line.KernLine.{KernLine}
+use Rattle.kern_reader.specs.Outcome.{read_from, read_text}
+use Rattle.kern_reader.specs.Reading.{IsReading}
+use Rattle.kern_reader.specs.Text.{kern_lines}
+use Rattle.kern_reader.proofs.read.read_kern.Given as goal
+
+abbrev pub invariant-lines : goal.invariant-lines
+invariant-lines l = record {
+  before : (before : List KernLine) × IsReading l.number before l.reading × (read_from before l.number (kern_lines l.rest) ≡ read_text l.bytes);
+  some : 1 ≤ l.number;
+  small : l.number + length l.rest < 2 ^ 32;
+  count : l.number + length (kern_lines l.rest) ≡ length (kern_lines l.bytes) + 1;
+}
+
+abbrev pub decreases-lines : goal.decreases-lines
+decreases-lines l = length l.rest

@@ -1,0 +1,11 @@
+pub mod Text
+pub mod Tokens
+pub mod Lines
+pub mod Columns
+pub mod Faults
+pub mod Score
+pub mod Outcome
+pub mod Reading
+pub mod Events
+pub mod EventText
+pub mod FaultName
