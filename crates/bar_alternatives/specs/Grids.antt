@@ -1,0 +1,23 @@
+-- The best of each pair of counts: those of chords carried in and out.
+use Rattle.std.specs.Prelude.{◌≡◌, ℕ, zero, suc, ◌+◌, ◌*◌, ◌<◌, List, [], slice_index_or}
+use Rattle.rhythm_base.specs.Ranked.{Key}
+use Rattle.bar_alternatives.specs.Firsts.{AreAddable, sums_offered}
+
+-- the list for the counts `from` and `to`
+abbrev pub ranking_at : List (List Key) → ℕ → ℕ → List Key
+ranking_at grid from to = slice_index_or grid (5 * from + to) []
+
+-- it has a list for each pair of counts
+abbrev pub HasLists : (ℕ → ℕ → List Key) → List (List Key) → Type 0
+HasLists lists grid = (from to : ℕ) → from < 5 → to < 5 → ranking_at grid from to ≡ lists from to
+
+abbrev pub AreAllAddable : List (List Key) → Type 0
+AreAllAddable grid = (from to : ℕ) → from < 5 → to < 5 → AreAddable (ranking_at grid from to)
+
+-- what was offered over the counts before n between trees on the left and others on the right
+abbrev pub joined_below : ℕ → List (List Key) → List (List Key) → ℕ → ℕ → ℕ → List Key
+joined_below count left right from to zero = []
+joined_below count left right from to (suc n) = sums_offered count (ranking_at left from n) (ranking_at right n to) (joined_below count left right from to n)
+
+unfoldable pub joined : ℕ → List (List Key) → List (List Key) → ℕ → ℕ → List Key
+joined count left right from to = joined_below count left right from to 5

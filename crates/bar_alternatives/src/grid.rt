@@ -1,0 +1,136 @@
+ghost use Rattle.bar_alternatives.specs.Firsts.{AreKept, AreAddable, all_offered, offered};
+ghost use Rattle.bar_alternatives.specs.Grids.{AreAllAddable, HasLists, joined, ranking_at};
+ghost use Rattle.rhythm_base.specs.Ranked.{plus};
+ghost use Rattle.std.specs.Prelude.{
+  ◌≡◌,
+  ◌++◌,
+  ◌&&◌,
+  ◌==◌,
+  ◌∷◌,
+  ◌<◌,
+  ◌^◌,
+  ℕ,
+  [],
+  if◌then◌else◌,
+  IfOk,
+  OnOk,
+  map,
+};
+
+use crate::ranking::Ranking;
+use std::alloc::{AllocError, Global};
+use std::marker::Model;
+
+/// The best trees of an interval by the number of chords carried in and the number carried out.
+#[derive(Drop)]
+pub struct Grid {
+    rankings: Vec<Ranking>,
+}
+
+impl Model for Grid {
+    ghost use Rattle.rhythm_base.specs.Ranked.{Key};
+    ghost use Rattle.std.specs.Prelude.{◌≡◌, List, length};
+
+    ghost Value = { List (List Key) };
+
+    ghost view = { λ g. g.rankings.items };
+
+    ghost invariant = { λ g. length g.rankings.items ≡ 25 };
+}
+
+impl Grid {
+    /// No trees for any counts.
+    pub fn none(alloc: Global) -> Result<Grid, AllocError>
+        ensures { IfOk result (HasLists (λ from to. [])) }
+    {
+        let mut rankings = Vec::with_capacity(alloc, 25)?;
+        'pairs: for _pair in 0..25usize {
+            rankings.push(Ranking::none(alloc))?;
+        }
+        Ok(Grid { rankings })
+    }
+
+    /// The best trees for these counts.
+    pub fn at(&self, from: usize, to: usize) -> &Ranking
+        requires from { from < 5 }
+        requires to { to < 5 }
+        ensures { result.now ≡ ranking_at self.now from to }
+    {
+        &self.rankings[5 * from + to]
+    }
+
+    /// Offers trees of this cost and with these rules for these counts.
+    pub fn offer(
+        &mut self,
+        alloc: Global,
+        count: usize,
+        from: usize,
+        to: usize,
+        cost: u64,
+        rules: &[u16],
+    ) -> Result<(), AllocError>
+        requires from { from < 5 }
+        requires to { to < 5 }
+        requires kept { AreKept count (ranking_at self.old from to) }
+        ensures { OnOk result (HasLists (λ a b. if (a == from) && (b == to) then offered count (cost, rules.now) (ranking_at self.old a b)
+            else ranking_at self.old a b) self.new) }
+    {
+        self.rankings[5 * from + to].offer(alloc, count, cost, rules, &[])?;
+        Ok(())
+    }
+
+    /// Offers each of the others at this cost more, with this rule before its own.
+    pub fn offer_topped(
+        &mut self,
+        alloc: Global,
+        count: usize,
+        cost: u64,
+        rule: u16,
+        others: &Grid,
+    ) -> Result<(), AllocError>
+        requires kept { (a b : ℕ) → a < 5 → b < 5 → AreKept count (ranking_at self.old a b) }
+        requires cost { cost < 2 ^ 62 }
+        requires others { AreAllAddable others.now }
+        ensures { OnOk result (HasLists (λ a b. all_offered count (map (plus (cost, rule ∷ [])) (ranking_at others.now a b)) (ranking_at self.old a b)) self.new) }
+    {
+        'pairs: for pair in 0..25 {
+            self.rankings[pair].offer_each(alloc, count, cost, &[rule], &others.rankings[pair])?;
+        }
+        Ok(())
+    }
+}
+
+/// The best trees on the left followed by others on the right, with any count between them.
+fn join_at(
+    alloc: Global,
+    count: usize,
+    left: &Grid,
+    right: &Grid,
+    from: usize,
+    to: usize,
+) -> Result<Ranking, AllocError>
+    requires from { from < 5 }
+    requires to { to < 5 }
+    requires left { AreAllAddable left.now }
+    requires right { AreAllAddable right.now }
+    ensures { IfOk result (λ r. r ≡ joined count left.now right.now from to) }
+{
+    let mut best = Ranking::none(alloc);
+    'counts: for middle in 0..5 {
+        best.offer_sums(alloc, count, left.at(from, middle), right.at(middle, to))?;
+    }
+    Ok(best)
+}
+
+/// The best trees on the left followed by others on the right, for each pair of counts.
+pub fn join(alloc: Global, count: usize, left: &Grid, right: &Grid) -> Result<Grid, AllocError>
+    requires left { AreAllAddable left.now }
+    requires right { AreAllAddable right.now }
+    ensures { IfOk result (HasLists (joined count left.now right.now)) }
+{
+    let mut rankings = Vec::with_capacity(alloc, 25)?;
+    'pairs: for pair in 0..25 {
+        rankings.push(join_at(alloc, count, left, right, pair / 5, pair % 5)?)?;
+    }
+    Ok(Grid { rankings })
+}

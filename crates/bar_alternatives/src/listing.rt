@@ -1,0 +1,89 @@
+ghost use Rattle.bar_alternatives.specs.BestTrees.{AreBestTrees, AreSmall, without_pin};
+ghost use Rattle.bar_alternatives.specs.Totals.{IsListed};
+ghost use Rattle.least_cost.specs.Nodes.{IsReady};
+ghost use Rattle.rhythm_base.specs.BarInput.{IsBarInput};
+ghost use Rattle.rhythm_base.specs.Lists.{Each};
+ghost use Rattle.rhythm_base.specs.Readable.{IsReadable};
+ghost use Rattle.rhythm_base.specs.RuleTrees.{IsRuleList};
+ghost use Rattle.std.specs.Prelude.{◌≡◌, All, IfOk};
+
+use crate::alternative::Alternative;
+use crate::memo::{Asked, Memo};
+use crate::ranking::Ranking;
+use crate::search::best_trees;
+use crate::totals::best_totals;
+use rhythm_base::{BarInput, Grammar, Tree};
+use std::alloc::{AllocError, Global};
+
+/// The input with its pin lifted.
+fn lifted(alloc: Global, input: &BarInput) -> Result<BarInput, AllocError>
+    requires { IsBarInput input.now }
+    ensures { IfOk result (λ b. b ≡ without_pin input.now) }
+{
+    let onsets = input.onsets().to_vec(alloc)?;
+    Ok(BarInput::make(
+        input.start(),
+        input.resolution(),
+        input.num(),
+        input.den(),
+        input.length(),
+        onsets,
+        input.before(),
+        None,
+    ))
+}
+
+/// The totals with the trees whose rules are listed.
+fn listed(
+    alloc: Global,
+    grammar: &Grammar,
+    start: u8,
+    best: &Ranking,
+) -> Result<Vec<Alternative>, AllocError>
+    requires { All (λ key. IsRuleList grammar.now start key.1) best.now }
+    ensures { IfOk result (λ list. Each (IsListed grammar.now start) best.now list.items) }
+{
+    let mut list = Vec::new(alloc);
+    'entries: for entry in best.entries() {
+        let tree = Tree::from_rules(alloc, grammar, start, entry.rules())?;
+        list.push(Alternative {
+            total: entry.cost(),
+            tree,
+        })?;
+    }
+    Ok(list)
+}
+
+/// The best trees of a bar, its pin lifted, with what lies before it and after it: the first `count` of the trees that fit
+/// with counts for which a cost before, by the number of chords carried in, and a cost after, by the number carried out, are
+/// there. A total is the sum of these two costs and the tree's own. The least total comes first, and of equal totals the tree
+/// with the lower rule list. There are fewer only where there are no more such trees. The call keeps the best `count` trees of
+/// each symbol over each interval of the bar for as long as it works, and never lists all.
+pub fn alternatives(
+    alloc: Global,
+    grammar: &Grammar,
+    input: &BarInput,
+    before: &[Option<u64>; 5],
+    after: &[Option<u64>; 5],
+    count: u32,
+) -> Result<Vec<Alternative>, AllocError>
+    requires readable { IsReadable grammar.now }
+    requires units { input.now.resolution ≡ grammar.now.resolution }
+    requires before { AreSmall before.now }
+    requires after { AreSmall after.now }
+    ensures { IfOk result (λ list. AreBestTrees grammar.now (without_pin input.now) before.now after.now count list.items) }
+{
+    // An accessor's contract tells that the input is well formed.
+    let start = input.start();
+    let input = lifted(alloc, input)?;
+    let asked = Asked {
+        place: 0,
+        width: input.resolution(),
+        symbol: start,
+    };
+    let count = count as usize;
+    let mut memo = Memo::new(alloc, input.resolution())?;
+    let number = best_trees(alloc, grammar, &input, count, &mut memo, asked)?;
+    let best = best_totals(alloc, count, memo.grid(number), before, after)?;
+    listed(alloc, grammar, start, &best)
+}
