@@ -1,4 +1,5 @@
 pub mod VoiceNotes
+pub mod Rises
 pub mod Runs
 pub mod VoiceInputs
 pub mod EachRuns
@@ -14,3 +15,14 @@ pub mod OtherInputs
 pub mod ReachedVoices
 pub mod SuitingTables
 pub mod GrownVoices
+pub mod SomeChords
+pub mod SameInputs
+pub mod CellHeads
+pub mod CellTables
+pub mod Exchanges
+pub mod TablesBelow
+pub mod LostTables
+pub mod ExchangedVoices
+pub mod Commits
+pub mod Risen
+pub mod ExchangedBars

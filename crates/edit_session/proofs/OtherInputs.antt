@@ -1,9 +1,9 @@
 -- The cells of a voice with another input than that of their table, one bar more; and why they are the reached ones.
-use Rattle.std.proofs.Common.{◌≡◌, ◌≢◌, ℕ, ◌+◌, ◌<◌, ◌≤◌, ◌↔◌, ◌⊎◌, List, [], ◌∷◌, ◌++◌, length, get_or, map, refl, sym, ap, ◌∙◌, subst, inl, inr, arith}
+use Rattle.std.proofs.Common.{◌≡◌, ℕ, ◌+◌, ◌<◌, ◌↔◌, ◌⊎◌, List, [], ◌∷◌, ◌++◌, length, get_or, map, refl, sym, ap, ◌∙◌, subst, inl, inr, arith}
 use Rattle.std.specs.Prelude.{Some, None, option_map, slice_get, zero, suc}
 use Rattle.std.proofs.lemmas.Bool.{cases_lt}
 use Rattle.std.proofs.lemmas.List.{map-append, length-map}
-use Rattle.std.proofs.lemmas.Option.{same_Some, slice_get-map, slice_get-get_or, slice_get_within, get_or_from_slice_get}
+use Rattle.std.proofs.lemmas.Option.{same_Some, slice_get-map, slice_get-get_or, slice_get_within}
 use Rattle.bar_pool.proofs.EachLemmas.{Each-push}
 use Rattle.chain_bars.specs.Laws.{AreTables}
 use Rattle.rhythm_base.specs.declared.inner.Inner.{Inner}
@@ -12,7 +12,6 @@ use Rattle.rhythm_base.specs.BarTables.{BarTable, IsTable}
 use Rattle.rhythm_base.specs.Cells.{input}
 use Rattle.rhythm_base.specs.Grammar.{Grammar}
 use Rattle.rhythm_base.specs.Leaves.{VoiceBar, soundings}
-use Rattle.rhythm_base.specs.Lists.{Each}
 use Rattle.rhythm_base.specs.Performance.{Performance}
 use Rattle.rhythm_base.specs.Reached.{HasNewInput, IsInputOf}
 use Rattle.rhythm_base.specs.Voices.{notes_of_voice, voice_bars}
@@ -21,7 +20,7 @@ use Rattle.edit_session.specs.declared.reached.CellPlace.{CellPlace}
 use Rattle.edit_session.specs.Inputs.{AreInputsOfVoice}
 use Rattle.edit_session.specs.Kept.{AreTablesOfVoice}
 use Rattle.edit_session.specs.Prepared.{IsTableOfCell}
-use Rattle.edit_session.specs.ReachedCells.{AreCellsWhere, AreOtherInputs, HasOtherInput, place_pair}
+use Rattle.edit_session.specs.ReachedCells.{AreOtherInputs, HasOtherInput, place_pair}
 use Rattle.edit_session.proofs.CellPlaces.{cells_append, cells_same, lower_bar, no_cells, one_cell}
 use Rattle.edit_session.proofs.Tables.{voice_long}
 use Rattle.kern_writer.proofs.OneScore.{bars_length}
@@ -95,7 +94,7 @@ each_table g cs (b₁ ∷ bars) (x₁ ∷ tables) zero x b h there bar =
     (subst (IsTable g) same h.0, (λ m. (sym same m).input) ∙ h.1 ∙ ap (λ c. input g c cs) at)
 each_table g cs (b₁ ∷ bars) (x₁ ∷ tables) (suc i) x b h there bar = each_table g cs bars tables i x b h.2 there bar
 
-bar_there : (g : Grammar) (p : Performance) (channel i : ℕ) → i < length p.bars → (b : VoiceBar) × (slice_get (voice_bars g p channel) i ≡ Some b)
+pub bar_there : (g : Grammar) (p : Performance) (channel i : ℕ) → i < length p.bars → (b : VoiceBar) × (slice_get (voice_bars g p channel) i ≡ Some b)
 bar_there g p channel i lt =
     let d : VoiceBar = record { start = 0; length = 0; num = 0; den = 0; symbol = 0; pin = None } in
     let long = bars_length g p.pins channel p.last 0 p.bars in

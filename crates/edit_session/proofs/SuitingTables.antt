@@ -7,7 +7,6 @@ use Rattle.std.proofs.lemmas.List.Filters.{length-filter_both}
 use Rattle.bar_pool.specs.Pool.{AreTablesOf, IsTableOf}
 use Rattle.rhythm_base.specs.declared.limits.TheConstants.{MOST_CELLS, MOST_NOTES}
 use Rattle.rhythm_base.specs.BarInput.{BarInput}
-use Rattle.rhythm_base.specs.BarTables.{BarTable}
 use Rattle.rhythm_base.specs.Grammar.{Grammar}
 use Rattle.rhythm_base.specs.Lists.{Each}
 use Rattle.rhythm_base.specs.Performance.{Performance}
@@ -17,7 +16,7 @@ use Rattle.rhythm_laws.proofs.OneAnswers.{one_reached}
 use Rattle.rhythm_laws.proofs.OrderedLists.{all_cons}
 use Rattle.edit_session.specs.declared.reached.CellPlace.{CellPlace}
 use Rattle.edit_session.specs.Opening.{cells_of}
-use Rattle.edit_session.specs.Prepared.{CellTable, IsCellTable, IsTableOfCell, Suits, cell_of, given_up, bar_table_of}
+use Rattle.edit_session.specs.Prepared.{CellTable, IsCellTable, IsTableOfCell, Suits, cell_of, bar_table_of}
 use Rattle.edit_session.specs.ReachedCells.{AreReachedInputs, place_pair}
 use Rattle.edit_session.proofs.EachRuns.{Each-length, Each-through}
 

@@ -8,3 +8,4 @@ pub mod Laws
 pub mod Prepared
 pub mod PreparedCode
 pub mod ReachedCells
+pub mod Exchange

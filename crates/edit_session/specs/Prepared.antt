@@ -3,6 +3,7 @@ use Rattle.rhythm_base.specs.declared.limits.TheConstants.{MOST_CELLS, MOST_NOTE
 use Rattle.std.specs.Prelude.{◌≡◌, ℕ, ◌+◌, ◌*◌, ◌-◌, ◌≤◌, List, All, length, filter, map, nat_lt}
 use Rattle.edit_session.specs.Opening.{cells_of}
 use Rattle.rhythm_base.specs.BarTables.{BarTable, IsTable}
+use Rattle.rhythm_base.specs.Counter.{risen}
 use Rattle.rhythm_base.specs.Grammar.{Grammar}
 use Rattle.rhythm_base.specs.Performance.{Performance}
 use Rattle.rhythm_base.specs.Reached.{AreReached, IsInputOf}
@@ -19,6 +20,10 @@ pub record Prepared : Type 0 where
   pub next : Performance
   pub tables : List CellTable
   pub place : ℕ
+
+-- a counter rose by a number of which P says something
+abbrev pub RisesBy : ℕ → ℕ → (ℕ → Type 0) → Type 0
+RisesBy old new P = (n : ℕ) × (new ≡ risen old n) × P n
 
 abbrev pub cell_of : CellTable → ℕ × ℕ
 cell_of x = (x.channel, x.bar)

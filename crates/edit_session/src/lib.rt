@@ -2,6 +2,8 @@
 //! score is at hand after each edit. All that a session answers is decided by its grammar and its performance.
 #![tactic(auto)]
 
+mod committed;
+mod exchange;
 mod inputs;
 mod kept_voices;
 mod laws;
@@ -16,6 +18,7 @@ mod score;
 mod session;
 mod voice_tables;
 
+pub use committed::{Applied, Committed, Dead};
 pub use kern_writer::ScoreFault;
 pub use laws::openings_are_one;
 pub use open_fault::OpenFault;

@@ -11,9 +11,9 @@ use std::marker::Model;
 /// The table of a cell.
 #[derive(Drop)]
 pub struct CellTable {
-    channel: u8,
-    bar: u32,
-    table: BarTable,
+    pub(crate) channel: u8,
+    pub(crate) bar: u32,
+    pub(crate) table: BarTable,
 }
 
 impl Model for CellTable {
@@ -87,6 +87,16 @@ impl Prepared {
             tables,
             place,
         }
+    }
+
+    /// Its parts: what `of` was given.
+    pub(crate) fn parts(self) -> (Performance, Vec<CellTable>, Vec<CellTable>)
+        ensures next { result.0 ≡ self.next }
+        ensures tables { result.1.items ≡ self.tables }
+        ensures place { vec_capacity result.2 ≡ self.place }
+        ensures none { result.2.items ≡ [] }
+    {
+        (self.next, self.tables, self.place)
     }
 
     /// The performance that comes next.

@@ -6,16 +6,19 @@ ghost use Rattle.kern_writer.specs.declared.fault.ScoreFault.TheVariants.{TooLon
 ghost use Rattle.rhythm_base.specs.Counter.{risen};
 ghost use Rattle.rhythm_base.specs.Performance.{IsWellFormed};
 ghost use Rattle.rhythm_base.specs.Readable.{IsReadable};
-ghost use Rattle.rhythm_base.specs.Voices.{IsCostOf};
+ghost use Rattle.rhythm_base.specs.Script.{IsOutcome, made, refused};
+ghost use Rattle.rhythm_base.specs.Voices.{HasDerivation, IsCostOf, IsDeadVoice};
 ghost use Rattle.rhythm_base.specs.declared.limits.TheConstants.{LONGEST_SCORE, MOST_BARS, MOST_CELLS, MOST_NOTES};
-ghost use Rattle.edit_session.specs.Prepared.{Suits};
+ghost use Rattle.edit_session.specs.Prepared.{RisesBy, Suits};
 ghost use Rattle.rhythm_base.specs.Edits as edits;
 ghost use Rattle.rhythm_base.specs.Reached.{AreReached, WouldReach};
 ghost use Rattle.rhythm_base.specs.Voices.{HasStarts};
 ghost use Rattle.rhythm_base.specs.declared.edit_fault.EditFault.TheVariants as faults;
 ghost use Rattle.rhythm_base.specs.declared.edit_fault.EditFault.{EditFault};
-ghost use Rattle.std.specs.Prelude.{◌≡◌, ◌≢◌, ◌≤◌, ◌<◌, ℕ, Err, IfErr, IfOk, List, Ok, OnOk, length};
+ghost use Rattle.std.specs.Prelude.{◌≡◌, ◌≢◌, ◌≤◌, ◌<◌, ◌*◌, ◌^◌, ℕ, All, Err, IfErr, IfOk, List, Ok, OnErr, OnOk, length};
 
+use crate::committed::{Applied, Committed, Dead};
+use crate::exchange::{Exchanged, exchange};
 use crate::kept_voices::{first_dead_voice, reserve_all, total_of, voices_of};
 use crate::open_fault::OpenFault;
 use crate::opening::cell_tables;
@@ -32,6 +35,7 @@ use rhythm_base::{Edit, EditFault, Grammar, Performance, Tag};
 use rhythm_ports::Gate;
 use std::alloc::{AllocError, Global};
 use std::marker::Model;
+use std::mem;
 use std::thread::Threads;
 
 /// A performance and a grammar, with the table of each cell and the chain of each voice.
@@ -159,7 +163,7 @@ impl Session {
         ensures next { IfOk result (λ x. x.next ≡ next) }
         ensures suits { IfOk result (λ x. Suits self.now.grammar self.now.performance x) }
         ensures builds { IfOk result (λ x. builds.new ≡ risen builds.old (length x.tables)) }
-        ensures most { (cells : List (ℕ × ℕ)) → AreReached self.now.grammar self.now.performance next cells → builds.new ≤ risen builds.old (length cells) }
+        ensures most { RisesBy builds.old builds.new (λ n. (cells : List (ℕ × ℕ)) → AreReached self.now.grammar self.now.performance next cells → n ≤ length cells) }
         ensures rises { builds.old ≤ builds.new }
     {
         let voices = self.voices.as_slice();
@@ -188,7 +192,7 @@ impl Session {
         ensures builds { IfOk result (λ x. builds.new ≡ risen builds.old (length x.tables)) }
         ensures refused { (fault : EditFault) → result ≡ Err fault → fault ≢ faults.Memory → edits.edited self.now.performance edit.now ≡ Err fault }
         ensures unbuilt { (fault : EditFault) → result ≡ Err fault → fault ≢ faults.Memory → builds.new ≡ builds.old }
-        ensures most { (cells : List (ℕ × ℕ)) → WouldReach self.now.grammar self.now.performance edit.now cells → builds.new ≤ risen builds.old (length cells) }
+        ensures most { RisesBy builds.old builds.new (λ n. (cells : List (ℕ × ℕ)) → WouldReach self.now.grammar self.now.performance edit.now cells → n ≤ length cells) }
         ensures rises { builds.old ≤ builds.new }
     {
         match edited(alloc, &self.performance, edit) {
@@ -197,6 +201,94 @@ impl Session {
                 Ok(prepared) => Ok(prepared),
                 Err(_error) => Err(EditFault::Memory),
             },
+        }
+    }
+
+    /// Puts the session on what is prepared, and takes no memory for it. Where some voice of it has no derivation, the session
+    /// stays as it was, and what was prepared is given up. A change of notes, barlines or pins makes at most `d` products for
+    /// each cell that it reaches, where there are at most `2 ^ d` bars.
+    pub fn commit<P: Tag>(
+        &mut self,
+        prepared: Prepared,
+        products: &mut Products<P>,
+    ) -> Result<Committed, Dead>
+        requires suits { Suits self.old.grammar self.old.performance prepared }
+        requires room { length prepared.next.bars ≤ self.old.room }
+        ensures grammar { self.new.grammar ≡ self.old.grammar }
+        ensures room { self.new.room ≡ self.old.room }
+        ensures performance { OnOk result (self.new.performance ≡ prepared.next) }
+        ensures derivations { OnOk result (All (HasDerivation self.old.grammar prepared.next) prepared.next.channels) }
+        ensures built { IfOk result (λ c. c.applied.built ≡ length prepared.tables) }
+        ensures cost { IfOk result (λ c. IsCostOf self.old.grammar prepared.next c.applied.cost) }
+        ensures back { IfOk result (λ c. c.back.next ≡ self.old.performance) }
+        ensures suits_back { IfOk result (λ c. Suits self.new.grammar self.new.performance c.back) }
+        ensures room_back { IfOk result (λ c. length c.back.next.bars ≤ self.new.room) }
+        ensures dead { IfErr result (λ dead. IsDeadVoice self.old.grammar prepared.next dead.channel dead.bar) }
+        ensures unchanged { OnErr result (self.new.performance ≡ self.old.performance) }
+        ensures products { (d : ℕ) → length prepared.next.bars ≡ length self.old.performance.bars → length prepared.next.bars ≤ 2 ^ d
+            → OnOk result (products.new ≤ risen products.old (length prepared.tables * d)) }
+        ensures rises { products.old ≤ products.new }
+    {
+        let built = prepared.tables();
+        let (next, tables, place) = prepared.parts();
+        let bars = next.bars().len();
+        let voices = self.voices.as_mut_slice();
+        let exchanged = exchange(voices, next.channels(), bars, tables, place, products);
+        if let Some(dead) = first_dead_voice(self.voices.as_slice()) {
+            let Exchanged { tables, place } = exchanged;
+            let bars = self.performance.bars().len();
+            let voices = self.voices.as_mut_slice();
+            let _back = exchange(voices, next.channels(), bars, tables, place, products);
+            return Err(Dead {
+                channel: next.channels()[dead.voice],
+                bar: dead.bar,
+            });
+        }
+        let before = mem::replace(&mut self.performance, next);
+        let cost = total_of(self.voices.as_slice());
+        let back = Prepared::of(before, exchanged.tables, exchanged.place);
+        let applied = Applied { built, cost };
+        Ok(Committed { applied, back })
+    }
+
+    /// Makes an edit, or says why it is refused: `prepare`, `reserve` and `commit`. All memory is taken before the session
+    /// changes, and after each refusal it is as before. An edit of notes, barlines or pins makes at most `d` products for each
+    /// cell that it reaches, where there are at most `2 ^ d` bars.
+    pub fn apply<R: Threads + Sync, G: Gate + Sync, B: Tag, P: Tag>(
+        &mut self,
+        rt: &R,
+        alloc: Global,
+        edit: &Edit,
+        gate: &G,
+        builds: &mut Builds<B>,
+        products: &mut Products<P>,
+    ) -> Result<Applied, EditFault>
+        requires { edits.IsEditInRange edit.now }
+        ensures grammar { self.new.grammar ≡ self.old.grammar }
+        ensures room { self.old.room ≤ self.new.room }
+        ensures made { IfOk result (λ a. IsOutcome self.old.grammar self.old.performance edit.now (made a.built a.cost) self.new.performance) }
+        ensures derivations { OnOk result (All (HasDerivation self.new.grammar self.new.performance) self.new.performance.channels) }
+        ensures refused { (fault : EditFault) → result ≡ Err fault → fault ≢ faults.Memory
+            → IsOutcome self.old.grammar self.old.performance edit.now (refused fault) self.new.performance }
+        ensures unchanged { OnErr result (self.new.performance ≡ self.old.performance) }
+        ensures builds { IfOk result (λ a. builds.new ≡ risen builds.old a.built) }
+        ensures most { RisesBy builds.old builds.new (λ n. (cells : List (ℕ × ℕ)) → WouldReach self.old.grammar self.old.performance edit.now cells → n ≤ length cells) }
+        ensures rises { builds.old ≤ builds.new }
+        ensures products { (d : ℕ) → length self.new.performance.bars ≡ length self.old.performance.bars → length self.new.performance.bars ≤ 2 ^ d
+            → IfOk result (λ a. products.new ≤ risen products.old (a.built * d)) }
+        ensures products_rise { products.old ≤ products.new }
+    {
+        let prepared = self.prepare(rt, alloc, edit, gate, builds)?;
+        let bars = prepared.next().bars().len() as u32;
+        if let Err(_error) = self.reserve(bars) {
+            return Err(EditFault::Memory);
+        }
+        match self.commit(prepared, products) {
+            Err(dead) => Err(EditFault::NoDerivation {
+                channel: dead.channel,
+                bar: dead.bar,
+            }),
+            Ok(committed) => Ok(committed.applied),
         }
     }
 }

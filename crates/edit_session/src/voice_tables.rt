@@ -2,15 +2,22 @@ ghost use Rattle.rhythm_base.specs.declared.limits.TheConstants.{DEAREST_CELL, M
 ghost use Rattle.chain_bars.specs.Laws.{matrices};
 ghost use Rattle.chain_bars.specs.Walks.{AreCarries};
 ghost use Rattle.edit_session.specs.VoiceTables.{HasPath, HasTables, IsGrown, path_cost};
-ghost use Rattle.rhythm_base.specs.Paths.{AreCheap, IsDeadCell};
+ghost use Rattle.rhythm_base.specs.BarTables.{BarTable};
+ghost use Rattle.rhythm_base.specs.Counter.{risen};
+ghost use Rattle.rhythm_base.specs.Paths.{AreCheap, IsCheap, IsDeadCell};
 ghost use Rattle.std.specs.List.{flat_map};
 ghost use Rattle.std.specs.Prelude.{
   ◌≡◌,
   ◌+◌,
   ◌*◌,
   ◌≤◌,
+  ◌<◌,
+  ◌^◌,
   ◌++◌,
   ◌↔◌,
+  ℕ,
+  [],
+  ◌∷◌,
   All,
   IfOk,
   IfSome,
@@ -18,6 +25,8 @@ ghost use Rattle.std.specs.Prelude.{
   OnOk,
   length,
   reverse,
+  slice_index_or,
+  slice_set,
   vec_capacity,
 };
 
@@ -27,6 +36,7 @@ use least_cost::BarTable;
 use rhythm_base::Tag;
 use std::alloc::{AllocError, Global};
 use std::marker::Model;
+use std::mem;
 
 /// The table of each bar of a voice, and the chain over them.
 #[derive(Drop)]
@@ -90,6 +100,47 @@ impl VoiceTables {
         self.chain.reserve(bars)?;
         let more = (bars as usize).saturating_sub(self.tables.len());
         self.tables.reserve(more)
+    }
+
+    /// Puts a table in the place of another, which it gives: at most `d` products where there are at most `2 ^ d` bars.
+    pub fn swap<P: Tag>(&mut self, bar: usize, table: BarTable, products: &mut Steps<P>) -> BarTable
+        requires bar { bar < length self.old.tables }
+        requires cheap { IsCheap DEAREST_CELL table.matrix }
+        ensures table { (d : BarTable) → result ≡ slice_index_or self.old.tables bar d }
+        ensures tables { self.new.tables ≡ slice_set self.old.tables bar table }
+        ensures room { self.new.room ≡ self.old.room }
+        ensures products { (d : ℕ) → length self.old.tables ≤ 2 ^ d → products.new ≤ risen products.old d }
+        ensures rises { products.old ≤ products.new }
+    {
+        self.chain.replace(bar, table.matrix(), products);
+        mem::replace(&mut self.tables[bar], table)
+    }
+
+    /// Adds the table of a bar after the last, within the room and so without memory: at most `d` products where there are
+    /// then at most `2 ^ d` bars.
+    pub fn push_within<P: Tag>(&mut self, table: BarTable, products: &mut Steps<P>)
+        requires few { length self.old.tables < MOST_BARS }
+        requires within { length self.old.tables < self.old.room }
+        requires cheap { IsCheap DEAREST_CELL table.matrix }
+        ensures tables { self.new.tables ≡ self.old.tables ++ table ∷ [] }
+        ensures room { self.new.room ≡ self.old.room }
+        ensures products { (d : ℕ) → length self.old.tables + 1 ≤ 2 ^ d → products.new ≤ risen products.old d }
+        ensures rises { products.old ≤ products.new }
+    {
+        self.chain.push_within(table.matrix(), products);
+        self.tables.push_reserved(table);
+    }
+
+    /// Takes the table of the last bar off: at most `d` products where there were at most `2 ^ d` bars.
+    pub fn pop<P: Tag>(&mut self, products: &mut Steps<P>) -> BarTable
+        requires { 1 < length self.old.tables }
+        ensures tables { self.old.tables ≡ self.new.tables ++ result ∷ [] }
+        ensures room { self.new.room ≡ self.old.room }
+        ensures products { (d : ℕ) → length self.old.tables ≤ 2 ^ d → products.new ≤ risen products.old d }
+        ensures rises { products.old ≤ products.new }
+    {
+        self.chain.pop(products);
+        self.tables.take_last()
     }
 
     /// The tables, bar after bar.

@@ -1,8 +1,8 @@
-use Rattle.std.proofs.Common.{rules, ◌≡◌, ◌≤◌, ◌<◌, ◌∙◌, length, take, sym, subst, arith}
+use Rattle.std.proofs.Common.{rules, ◌≤◌, ◌<◌, length, take, sym, subst}
 use Rattle.std.specs.Prelude.{All}
 use Rattle.std.proofs.lemmas.List.{take_all, take_more_set}
 use Rattle.std.proofs.lemmas.List.Elements.{All-nil, All-push}
-use Rattle.edit_session.specs.VoiceTables.{IsGrown, VoiceTables}
+use Rattle.edit_session.specs.VoiceTables.{VoiceTables}
 use Rattle.edit_session.proofs.GrownVoices.{grown_same, grown_set}
 use Rattle.edit_session.proofs.kept_voices.reserve_all.Goals as goal
 

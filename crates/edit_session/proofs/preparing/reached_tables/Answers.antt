@@ -1,4 +1,4 @@
-use Rattle.std.proofs.Common.{length, ap, sym, arith}
+use Rattle.std.proofs.Common.{length, ap, arith}
 use Rattle.bar_pool.specs.Pool.{IsTableOf}
 use Rattle.edit_session.proofs.EachRuns.{Each-length}
 use Rattle.edit_session.proofs.preparing.reached_tables.Goals as goal

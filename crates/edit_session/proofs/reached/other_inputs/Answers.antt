@@ -1,9 +1,9 @@
-use Rattle.std.proofs.Common.{rules, ◌+◌, ◌≡◌, ◌++◌, ◌∷◌, [], IsTrue, length, map, refl, ap, sym, ◌∙◌, subst, Vec, Global}
+use Rattle.std.proofs.Common.{rules, ◌+◌, ◌≡◌, ◌++◌, ◌∷◌, [], length, map, refl, ap, sym, ◌∙◌, subst, Vec, Global}
 use Rattle.std.proofs.lemmas.Option.{slice_get_read}
 use Rattle.rhythm_base.specs.BarInput.{BarInput}
 use Rattle.edit_session.specs.declared.reached.CellPlace.{CellPlace}
 use Rattle.edit_session.specs.ReachedCells.{AreOtherInputs, place_pair}
-use Rattle.edit_session.proofs.OtherInputs.{none_below, other_pushed, same_more}
+use Rattle.edit_session.proofs.OtherInputs.{other_pushed, same_more}
 use Rattle.edit_session.proofs.reached.other_inputs.Goals as goal
 use Rattle.edit_session.proofs.reached.other_inputs.Goals.{then-has_other_input+in_ok-copied_input+in_ok-push+in_ok-push-2, else-has_other_input}
 

@@ -1,10 +1,10 @@
-use Rattle.std.proofs.Common.{rules, ℕ, List, ◌≡◌, ◌<◌, ◌≤◌, ◌+◌, ◌++◌, ◌∷◌, [], length, map, get_or, subst, sym, ap, ◌∙◌, arith}
+use Rattle.std.proofs.Common.{rules, ℕ, List, ◌≡◌, ◌<◌, ◌++◌, length, map, get_or, subst, sym, ap, ◌∙◌, arith}
 use Rattle.chain_bars.proofs.Lists.{default_same}
 use Rattle.edit_session.proofs.EachRuns.{Each-at, Each-length}
 use Rattle.edit_session.specs.Kept.{AreTablesOfVoice}
 use Rattle.edit_session.specs.VoiceTables.{VoiceTables}
 use Rattle.edit_session.specs.ReachedCells.{AreOtherInputs, place_pair}
-use Rattle.edit_session.proofs.ReachedVoices.{AreReachedUntil, all_reached, voice_pushed}
+use Rattle.edit_session.proofs.ReachedVoices.{all_reached, voice_pushed}
 use Rattle.edit_session.proofs.reached.reached_cells.Goals as goal
 
 pub bounds-channels-number : goal.bounds-channels-number

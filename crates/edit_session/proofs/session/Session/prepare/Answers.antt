@@ -1,4 +1,4 @@
-use Rattle.std.proofs.Common.{◌≡◌, ℕ, List, [], Ok, sym, subst}
+use Rattle.std.proofs.Common.{◌≡◌, [], Ok, subst}
 use Rattle.std.specs.Prelude.{MatchResult}
 use Rattle.edit_laws.proofs.EditedCounts.{edited_cells, edited_notes, edited_starts}
 use Rattle.rhythm_base.specs.Edits.{edited}
@@ -19,7 +19,8 @@ pub prepare_next-requires-clause-few_notes : goal.prepare_next-requires-clause-f
 prepare_next-requires-clause-few_notes g c κs within = edited_notes c.self.inside.performance c.in-Ok.next c.args.edit.now c.in-Ok.ensures.ok c.self.invariant.few_notes
 
 pub returns-in-Ok-prepare_next-clause-most : goal.returns-in-Ok-prepare_next-clause-most
-returns-in-Ok-prepare_next-clause-most g c cells h =
+returns-in-Ok-prepare_next-clause-most g c =
     let s : Session = c.args.self.now in
     let made : edited s.performance c.args.edit.now ≡ Ok c.in-Ok.next = subst (λ (t : Session). edited t.performance c.args.edit.now ≡ Ok c.in-Ok.next) c.self.view_is c.in-Ok.ensures.ok in
-    c.prepare_next.ensures.most cells (subst (λ r. MatchResult r (λ q. AreReached s.grammar s.performance q cells) (λ fault. cells ≡ [])) made h)
+    let most = c.prepare_next.ensures.most in
+    (most.0, most.1, λ cells h. most.2 cells (subst (λ r. MatchResult r (λ q. AreReached s.grammar s.performance q cells) (λ fault. cells ≡ [])) made h))

@@ -1,4 +1,4 @@
-use Rattle.std.proofs.Common.{rules, ◌≡◌, ◌-◌, ◌≤◌, ◌∙◌, ℕ, List, length, map, ap, sym, subst, arith}
+use Rattle.std.proofs.Common.{rules, List, ℕ, ◌≡◌, ◌-◌, ◌≤◌, ◌∙◌, length, map, ap, sym, subst}
 use Rattle.std.specs.Prelude.{vec_capacity}
 use Rattle.rhythm_base.specs.Voices.{HasStarts}
 use Rattle.rhythm_base.specs.Counter.{risen}
@@ -11,6 +11,7 @@ use Rattle.edit_session.specs.Session.{Session}
 use Rattle.edit_session.specs.VoiceTables.{VoiceTables}
 use Rattle.edit_session.proofs.EachRuns.{Each-length}
 use Rattle.edit_session.proofs.SuitingTables.{cells_units, inputs_count, reached_number, suits, tables_number}
+use Rattle.edit_session.proofs.Rises.{rises_within}
 use Rattle.edit_session.proofs.Voices.{all_tables}
 use Rattle.edit_session.proofs.session.Session.prepare_next.Goals as goal
 
@@ -29,18 +30,20 @@ reached_tables-requires-clause-inputs g c κs within =
     inputs_count c.self.inside.grammar c.self.inside.performance c.args.next c.in_ok-reached.reached.cells.items c.in_ok-reached.reached.inputs.items c.in_ok-reached.ensures
 
 pub returns-in_err-tables-clause-most : goal.returns-in_err-tables-clause-most
-returns-in_err-tables-clause-most g c cells h =
-    let inside : AreReached c.self.inside.grammar c.self.inside.performance c.args.next cells = subst (λ (s : Session). AreReached s.grammar s.performance c.args.next cells) (sym c.self.view_is) h in
-    subst (λ n. c.reached_tables.new.builds ≤ risen c.args.builds.now n)
-    (reached_number c.self.inside.grammar c.self.inside.performance c.args.next c.in_ok-reached.reached.cells.items c.in_ok-reached.reached.inputs.items cells c.in_ok-reached.ensures inside)
-    c.reached_tables.ensures.most
+returns-in_err-tables-clause-most g c =
+    let number = λ (cells : List (ℕ × ℕ)) (h : AreReached c.args.self.now.grammar c.args.self.now.performance c.args.next cells).
+    (let inside = subst (λ (s : Session). AreReached s.grammar s.performance c.args.next cells) (sym c.self.view_is) h in
+    reached_number c.self.inside.grammar c.self.inside.performance c.args.next c.in_ok-reached.reached.cells.items c.in_ok-reached.reached.inputs.items cells c.in_ok-reached.ensures inside) in
+    rises_within c.args.builds.now c.reached_tables.new.builds (length c.in_ok-reached.reached.cells.items) c.reached_tables.ensures.rises c.reached_tables.ensures.most
+    (λ cells. AreReached c.args.self.now.grammar c.args.self.now.performance c.args.next cells) number
 
 pub returns-in_err-place-clause-most : goal.returns-in_err-place-clause-most
-returns-in_err-place-clause-most g c cells h =
-    let inside : AreReached c.self.inside.grammar c.self.inside.performance c.args.next cells = subst (λ (s : Session). AreReached s.grammar s.performance c.args.next cells) (sym c.self.view_is) h in
-    subst (λ n. c.reached_tables.new.builds ≤ risen c.args.builds.now n)
-    (reached_number c.self.inside.grammar c.self.inside.performance c.args.next c.in_ok-reached.reached.cells.items c.in_ok-reached.reached.inputs.items cells c.in_ok-reached.ensures inside)
-    c.reached_tables.ensures.most
+returns-in_err-place-clause-most g c =
+    let number = λ (cells : List (ℕ × ℕ)) (h : AreReached c.args.self.now.grammar c.args.self.now.performance c.args.next cells).
+    (let inside = subst (λ (s : Session). AreReached s.grammar s.performance c.args.next cells) (sym c.self.view_is) h in
+    reached_number c.self.inside.grammar c.self.inside.performance c.args.next c.in_ok-reached.reached.cells.items c.in_ok-reached.reached.inputs.items cells c.in_ok-reached.ensures inside) in
+    rises_within c.args.builds.now c.reached_tables.new.builds (length c.in_ok-reached.reached.cells.items) c.reached_tables.ensures.rises c.reached_tables.ensures.most
+    (λ cells. AreReached c.args.self.now.grammar c.args.self.now.performance c.args.next cells) number
 
 pub returns-clause-suits : goal.returns-clause-suits
 returns-clause-suits g c =
@@ -64,8 +67,9 @@ returns-clause-builds g c =
     built ∙ ap (risen c.args.builds.now) (sym number) ∙ sym (ap (λ (x : Prepared). risen c.args.builds.now (length x.tables)) c.of.ensures)
 
 pub returns-clause-most : goal.returns-clause-most
-returns-clause-most g c cells h =
-    let inside : AreReached c.self.inside.grammar c.self.inside.performance c.args.next cells = subst (λ (s : Session). AreReached s.grammar s.performance c.args.next cells) (sym c.self.view_is) h in
-    subst (λ n. c.reached_tables.new.builds ≤ risen c.args.builds.now n)
-    (reached_number c.self.inside.grammar c.self.inside.performance c.args.next c.in_ok-reached.reached.cells.items c.in_ok-reached.reached.inputs.items cells c.in_ok-reached.ensures inside)
-    c.reached_tables.ensures.most
+returns-clause-most g c =
+    let number = λ (cells : List (ℕ × ℕ)) (h : AreReached c.args.self.now.grammar c.args.self.now.performance c.args.next cells).
+    (let inside = subst (λ (s : Session). AreReached s.grammar s.performance c.args.next cells) (sym c.self.view_is) h in
+    reached_number c.self.inside.grammar c.self.inside.performance c.args.next c.in_ok-reached.reached.cells.items c.in_ok-reached.reached.inputs.items cells c.in_ok-reached.ensures inside) in
+    rises_within c.args.builds.now c.reached_tables.new.builds (length c.in_ok-reached.reached.cells.items) c.reached_tables.ensures.rises c.reached_tables.ensures.most
+    (λ cells. AreReached c.args.self.now.grammar c.args.self.now.performance c.args.next cells) number

@@ -1,5 +1,5 @@
-use Rattle.std.proofs.Common.{rules, ◌≡◌, ◌≤◌, ◌∙◌, List, length, ap, sym, subst, arith}
-use Rattle.std.specs.Prelude.{All, max}
+use Rattle.std.proofs.Common.{rules, ◌≡◌, List, length, ap, sym, subst, arith}
+use Rattle.std.specs.Prelude.{max}
 use Rattle.rhythm_base.specs.Lists.{Each}
 use Rattle.edit_session.specs.Kept.{IsKeptVoice}
 use Rattle.edit_session.specs.VoiceTables.{IsGrown, VoiceTables}

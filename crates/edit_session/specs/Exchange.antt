@@ -1,0 +1,108 @@
+-- What is exchanged where a session changes to another performance: the tables that come in, and those that go out.
+use Rattle.std.specs.Prelude.{◌≡◌, ◌⊎◌, ℕ, ◌+◌, ◌*◌, ◌-◌, ◌<◌, ◌≤◌, List, [], ◌∷◌, ◌++◌, All, Contains, filter, length, map, max, nat_lt, slice_index_or}
+use Rattle.rhythm_base.specs.declared.limits.TheConstants.{DEAREST_CELL, MOST_BARS}
+use Rattle.edit_session.specs.Kept.{AreTablesOfVoice, AreTablesOfVoices}
+use Rattle.edit_session.specs.Prepared.{CellTable, IsCellTable, IsTableOfCell, cell_of}
+use Rattle.edit_session.specs.ReachedCells.{AreCellsWhere}
+use Rattle.edit_session.specs.VoiceTables.{VoiceTables}
+use Rattle.rhythm_base.specs.BarTables.{BarTable}
+use Rattle.rhythm_base.specs.Grammar.{Grammar}
+use Rattle.rhythm_base.specs.Performance.{IsWellFormed, Performance}
+use Rattle.rhythm_base.specs.Paths.{IsCheap}
+use Rattle.rhythm_base.specs.Reached.{AreReached, IsReached}
+
+-- the performance before and that afterwards, under a grammar
+pub record Change : Type 0 where
+  pub grammar : Grammar
+  pub before : Performance
+  pub after : Performance
+
+-- both are well formed, and have the same voices
+pub record IsChange (x : Change) : Type 0 where
+  pub formed : IsWellFormed x.before
+  pub formed_after : IsWellFormed x.after
+  pub channels : x.after.channels ≡ x.before.channels
+
+-- the cell of the voice c and the bar i comes before that of this channel and bar
+abbrev pub IsBefore : ℕ → ℕ → ℕ → ℕ → Type 0
+IsBefore channel bar c i = (c < channel) ⊎ ((c ≡ channel) × (i < bar))
+
+-- the tables of a voice that is changed up to a bar: those before it are of the performance afterwards, and the others still of
+-- the one before
+pub record AreChangedUpTo (x : Change) (channel bar : ℕ) (tables : List BarTable) : Type 0 where
+  pub long : length tables ≡ max (length x.before.bars) bar
+  pub changed : (i : ℕ) (d : BarTable) → i < bar → IsTableOfCell x.grammar x.after channel i (slice_index_or tables i d)
+  pub kept : (i : ℕ) (d : BarTable) → bar ≤ i → i < length x.before.bars → IsTableOfCell x.grammar x.before channel i (slice_index_or tables i d)
+
+-- up to a cell the tables are exchanged: of it and the reached cells after it they have still to come, and those of the cells
+-- before it that the way back would reach are gone
+pub record AreExchangedUpTo (x : Change) (channel bar : ℕ) (coming gone : List CellTable) : Type 0 where
+  pub cells_coming : AreCellsWhere (λ c i. IsReached x.grammar x.before x.after c i × (IsBefore channel bar c i → ⊥)) (map cell_of coming)
+  pub tables_coming : All (IsCellTable x.grammar x.after) coming
+  pub cells_gone : AreCellsWhere (λ c i. IsReached x.grammar x.after x.before c i × IsBefore channel bar c i) (map cell_of gone)
+  pub tables_gone : All (IsCellTable x.grammar x.before) gone
+
+-- how many of the tables are of the first bars
+abbrev pub tables_below : ℕ → List CellTable → ℕ
+tables_below bars tables = length (filter (λ t. nat_lt t.bar bars) tables)
+
+-- the tables of the bars of a voice, from a number on
+abbrev pub numbered : ℕ → ℕ → List BarTable → List CellTable
+numbered channel bar [] = []
+numbered channel bar (table ∷ tables) = record { channel = channel; bar = bar; table = table } ∷ numbered channel (bar + 1) tables
+
+-- the last of the tables is that of this cell
+abbrev pub IsLastOf : List CellTable → ℕ → ℕ → Type 0
+IsLastOf tables channel bar = (t : CellTable) × (rest : List CellTable) × (tables ≡ rest ++ t ∷ []) × (cell_of t ≡ (channel, bar))
+
+-- what goes out where the table of a cell comes in: the one in its place
+abbrev pub table_out : List BarTable → CellTable → CellTable
+table_out tables t = record { channel = t.channel; bar = t.bar; table = slice_index_or tables t.bar t.table }
+
+-- a voice of the performance before, with nothing exchanged from it on
+pub record IsVoiceBefore (x : Change) (channel : ℕ) (tables : List BarTable) (coming gone : List CellTable) : Type 0 where
+  pub is : IsChange x
+  pub voice : Contains x.before.channels channel
+  pub tables_before : AreTablesOfVoice x.grammar x.before channel tables
+  pub exchanged : AreExchangedUpTo x channel 0 coming gone
+
+-- For each table that has come in, one of a bar that both performances have has gone out, or it is that of a new bar.
+abbrev pub IsEven : Change → ℕ → List CellTable → List CellTable → List CellTable → List CellTable → Type 0
+IsEven x added coming gone left out =
+    tables_below (length x.after.bars) out + added + length left ≡ tables_below (length x.after.bars) gone + length coming
+
+-- the voice is changed up to a bar
+pub record IsVoiceUpTo (x : Change) (channel bar : ℕ) (tables : List BarTable) (coming gone left out : List CellTable) : Type 0 where
+  pub changed : AreChangedUpTo x channel bar tables
+  pub exchanged : AreExchangedUpTo x channel bar left out
+  pub even : IsEven x (bar - length x.before.bars) coming gone left out
+
+-- the voice is changed
+pub record IsVoiceAfter (x : Change) (channel : ℕ) (tables : List BarTable) (coming gone left out : List CellTable) : Type 0 where
+  pub tables_after : AreTablesOfVoice x.grammar x.after channel tables
+  pub exchanged : AreExchangedUpTo x (channel + 1) 0 left out
+  pub even : IsEven x (length x.after.bars - length x.before.bars) coming gone left out
+
+-- the voices of the performance before, and the tables of the cells that the change reaches
+pub record AreVoicesBefore (x : Change) (voices : List VoiceTables) (coming : List CellTable) : Type 0 where
+  pub is : IsChange x
+  pub tables : AreTablesOfVoices x.grammar x.before voices
+  pub reached : AreReached x.grammar x.before x.after (map cell_of coming)
+  pub tables_coming : All (IsCellTable x.grammar x.after) coming
+
+-- the voices afterwards, and the tables of the cells that the way back reaches, with place for those that it puts out
+pub record AreVoicesAfter (x : Change) (voices : List VoiceTables) (gone : List CellTable) (place : ℕ) : Type 0 where
+  pub tables : AreTablesOfVoices x.grammar x.after voices
+  pub reached : AreReached x.grammar x.after x.before (map cell_of gone)
+  pub tables_gone : All (IsCellTable x.grammar x.before) gone
+  pub enough : tables_below (length x.after.bars) gone + length x.before.channels * (length x.after.bars - length x.before.bars) ≤ place
+
+-- each voice has as many tables, and there is place for all tables that go out where these come in
+pub record HasPlace (voices : List VoiceTables) (bars : ℕ) (coming : List CellTable) (place : ℕ) : Type 0 where
+  pub count : ℕ
+  pub few : count ≤ MOST_BARS
+  pub each : All (λ v. length v.tables ≡ count) voices
+  pub enough : tables_below count coming + length voices * (count - bars) ≤ place
+
+abbrev pub IsCheapTable : CellTable → Type 0
+IsCheapTable t = IsCheap DEAREST_CELL t.table.matrix

@@ -1,0 +1,10 @@
+// The tests of an editing session: edits one after another, with the cells that they reach, the costs and the scores, and
+// changes that are made, refused and taken back.
+#![tactic(auto)]
+
+#[cfg(test)]
+mod changes;
+#[cfg(test)]
+mod edits;
+#[cfg(test)]
+mod pieces;

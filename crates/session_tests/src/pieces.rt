@@ -1,0 +1,126 @@
+ghost use Rattle.rhythm_base.specs.Readable.{IsReadable};
+ghost use Rattle.rhythm_base.specs.declared.limits.TheConstants.{MOST_NOTES};
+ghost use Rattle.smf_reader.specs.Ranges.{IsPlayedFile};
+ghost use Rattle.std.specs.Prelude.{◌≤◌, IfSome, length};
+
+use carry_matrix::Steps as Products;
+use edit_session::Session;
+use grammar_file::read_grammar;
+use least_cost::Steps as Builds;
+use performance_load::load;
+use rhythm_base::{Grammar, Performance, Tag};
+use rhythm_ports::OpenGate;
+use smf_reader::{Smf, read_smf};
+use std::alloc::Global;
+use std::thread::Threads;
+
+/// What the counters of these tests count for.
+#[derive(Clone, Copy)]
+pub struct InTests;
+
+impl Tag for InTests {}
+
+/// Four quarter notes from C to F, with 480 ticks to a quarter note.
+pub const FOUR_QUARTERS: &[u8] = b"\
+    MThd\0\0\0\x06\0\0\0\x01\x01\xe0\
+    MTrk\0\0\0(\0\x90<@\x83`\x80<\0\0\x90>@\x83`\x80>\0\0\x90@@\x83`\x80@\0\0\x90A@\
+    \x83`\x80A\0\0\xff/\0\
+";
+
+/// A note over a whole bar.
+pub const WHOLE_NOTE: &[u8] = b"\
+    MThd\0\0\0\x06\0\0\0\x01\x01\xe0\
+    MTrk\0\0\0\x0d\0\x90<@\x8f\0\x80<\0\0\xff/\0\
+";
+
+/// Three notes that begin 20 ticks apart and end together, after a half note.
+pub const THREE_NEAR: &[u8] = b"\
+    MThd\0\0\0\x06\0\0\0\x01\x01\xe0\
+    MTrk\0\0\0\x1d\0\x90<@\x14\x90>@\x14\x90@@\x87\x18\x80<\0\0\x80>\0\0\x80@\0\0\xff/\0\
+";
+
+/// A note of three eighths of a bar.
+pub const THREE_EIGHTHS: &[u8] = b"\
+    MThd\0\0\0\x06\0\0\0\x01\x01\xe0\
+    MTrk\0\0\0\x0d\0\x90<@\x85P\x80<\0\0\xff/\0\
+";
+
+/// A bar down to eighths.
+const USUAL: &[u8] = b"\
+    rhythm 1\n\
+    resolution 8\n\
+    window 30000\n\
+    onset 1\n\
+    start 4/4 B\n\
+    B 10 note\n\
+    B 10 tie\n\
+    B 5 rest\n\
+    B 20 split H H\n\
+    H 10 note\n\
+    H 10 tie\n\
+    H 10 rest\n\
+    H 20 split Q Q\n\
+    Q 10 note\n\
+    Q 15 short\n\
+    Q 10 tie\n\
+    Q 10 rest\n\
+    Q 40 split E E\n\
+    E 10 note\n\
+    E 20 short\n\
+    E 10 tie\n\
+    E 10 rest\n\
+    E 60 grace 1\n\
+";
+
+/// What the MIDI file says.
+fn played_in(alloc: Global, bytes: &[u8]) -> Option<Smf>
+    ensures { IfSome result IsPlayedFile }
+{
+    match read_smf(alloc, bytes) {
+        Ok(played) => Some(played),
+        Err(_) => None,
+    }
+}
+
+/// The performance of the file.
+fn performance_of(alloc: Global, played: &Smf) -> Option<Performance>
+    requires { IsPlayedFile played.now }
+    ensures { IfSome result (λ p. length p.notes ≤ MOST_NOTES) }
+{
+    match load(alloc, played) {
+        Ok(performance) => Some(performance),
+        Err(_) => None,
+    }
+}
+
+/// The grammar.
+fn grammar(alloc: Global) -> Option<Grammar>
+    ensures { IfSome result IsReadable }
+{
+    match read_grammar(alloc, USUAL) {
+        Ok(grammar) => Some(grammar),
+        Err(_) => None,
+    }
+}
+
+/// A session on a piece, with two workers.
+pub fn opened<R: Threads + Sync>(rt: &R, alloc: Global, bytes: &[u8]) -> Option<Session> {
+    let played = played_in(alloc, bytes)?;
+    let performance = performance_of(alloc, &played)?;
+    let grammar = grammar(alloc)?;
+    let mut builds = Builds::<InTests>::zero();
+    let mut products = Products::<InTests>::zero();
+    match Session::open(
+        rt,
+        alloc,
+        performance,
+        grammar,
+        2,
+        &OpenGate,
+        &mut builds,
+        &mut products,
+    ) {
+        Ok(session) => Some(session),
+        Err(_) => None,
+    }
+}
