@@ -4,8 +4,9 @@ use crate::files::{Change, Played, midi_file};
 use least_cost::Steps;
 use rhythm_app::run;
 use rhythm_base::{Tag, Words};
-use rhythm_ports::{MemShelf, MemSink, MemSource, OpenGate};
+use rhythm_ports::{Gate, MemShelf, MemSink, MemSource, OpenGate};
 use std::alloc::{AllocError, Global};
+use std::sync::atomic::{AtomicU64, Ordering};
 use std::thread::Threads;
 
 /// What the tables of these runs are counted for.
@@ -69,6 +70,61 @@ pub fn shelf_with(
 pub struct Ran {
     pub status: u8,
     pub builds: u64,
+}
+
+/// Counts the cells that are passed to be built.
+#[derive(Drop)]
+pub struct CountingGate {
+    passed: AtomicU64,
+}
+
+impl CountingGate {
+    /// No cell has passed yet.
+    pub fn new() -> CountingGate {
+        CountingGate {
+            passed: AtomicU64::new(0),
+        }
+    }
+
+    /// How many cells have passed.
+    pub fn passed(&self) -> u64 {
+        self.passed.load(Ordering::Relaxed)
+    }
+}
+
+impl Gate for CountingGate {
+    fn pass(&self, _index: u64) {
+        self.passed.fetch_add(1, Ordering::Relaxed);
+    }
+}
+
+/// Runs `edit` over the shelf and the script, with these sinks.
+pub fn edit<R: Threads + Sync>(
+    rt: &R,
+    alloc: Global,
+    shelf: &mut MemShelf,
+    script: &mut MemSource,
+    out: &mut MemSink,
+    err: &mut MemSink,
+    gate: &CountingGate,
+) -> Result<Ran, AllocError> {
+    let words = words_of(alloc, &["edit", "a.mid", "a.grammar"])?;
+    let mut builds = Steps::<InTests>::zero();
+    let status = run(
+        rt,
+        alloc,
+        &words,
+        shelf,
+        script,
+        out,
+        err,
+        gate,
+        &mut builds,
+    );
+    Ok(Ran {
+        status,
+        builds: builds.count(),
+    })
 }
 
 /// Runs `transcribe` over the shelf, with these sinks.

@@ -10,7 +10,9 @@ const NO_COMMANDS: &[&[&str]] = &[
     &[],
     &["transcribe"],
     &["transcribe", "a.mid"],
-    &["edit", "a.mid", "a.grammar"],
+    &["edit", "a.mid"],
+    &["edit", "a.mid", "a.grammar", "more"],
+    &["studio", "a.mid", "a.grammar"],
     &["transcribe", "a.mid", "a.grammar", "more"],
 ];
 

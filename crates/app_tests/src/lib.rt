@@ -5,6 +5,8 @@
 #[cfg(test)]
 mod case;
 #[cfg(test)]
+mod edits;
+#[cfg(test)]
 mod failures;
 #[cfg(test)]
 mod files;

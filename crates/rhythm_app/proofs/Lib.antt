@@ -1,7 +1,9 @@
 pub mod InTurn
 pub mod OneOutcome
+pub mod Performing
 pub mod Reading
 pub mod Scoring
 pub mod Statuses
+pub mod Stops
 pub mod Taken
 pub mod Transcribing

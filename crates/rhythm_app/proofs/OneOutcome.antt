@@ -1,5 +1,5 @@
 -- What words and files come to is one.
-use Rattle.std.proofs.Common.{◌≡◌, ◌≤◌, ◌+◌, ℕ, List, Option, Some, None, ap, inl, inr, refl, sym, subst, ◌∙◌, Bool, true, false, Result, Ok, Err}
+use Rattle.std.proofs.Common.{◌≡◌, ◌≤◌, ◌+◌, ℕ, List, Option, Some, None, ap, ap₂, inl, inr, refl, sym, subst, ◌∙◌, Bool, true, false, Result, Ok, Err}
 use Rattle.std.specs.Prelude.{IfOk, if◌then◌else◌, nat_le, length}
 use Rattle.edit_session.proofs.Faults.{fault_or_open, one_fault}
 use Rattle.edit_session.specs.Opening.{CanOpen}
@@ -12,9 +12,9 @@ use Rattle.kern_writer.specs.Text.{IsScoreText, IsTooLong}
 use Rattle.performance_load.proofs.OneLoading.{one_loading}
 use Rattle.performance_load.specs.declared.load_fault.LoadFault.{LoadFault}
 use Rattle.rhythm_app.proofs.InTurn.{IsOne, in_turn_one}
-use Rattle.rhythm_app.specs.Asked.{Asked, transcribe, asked_by, file_content}
+use Rattle.rhythm_app.specs.Asked.{Asked, transcribe, edit, asked_by, file_content}
 use Rattle.rhythm_app.specs.Laws.{OutcomesAreOne}
-use Rattle.rhythm_app.specs.Outcome.{AreInTurn, HasOutcomeOf, IsLoading, IsRead, IsScoring, IsTranscription, IsUnderstood, IsUnopened, grammar_tests, limit_of, load_stop, open_stop, passed, stopped}
+use Rattle.rhythm_app.specs.Outcome.{AreInTurn, AreInputs, AreRead, HasOutcomeOf, IsEditing, IsLoading, IsRead, IsScoring, Ready, say, serve, IsUnderstood, IsUnopened, grammar_tests, limit_of, load_stop, open_stop, passed, stopped}
 use Rattle.rhythm_app.specs.declared.stop.Kind.TheVariants as kind
 use Rattle.rhythm_app.specs.declared.stop.Stop.{Stop}
 use Rattle.rhythm_app.specs.declared.stop.Stop.TheVariants as stop
@@ -78,28 +78,57 @@ module _ (g : Grammar) (p : Performance) (read : IsReadable g) (formed : IsWellF
   opened s can (fault, is, other, same) = fault_or_open g p fault read formed other can is
 
   one_scoring : IsOne (IsScoring g p)
-  one_scoring (Ok a) (Ok b) h k = ap Ok (one_text a b h.1 k.1)
-  one_scoring (Ok a) (Err t) h (inl k) = absurd (opened t h.0 k)
-  one_scoring (Ok a) (Err t) h (inr k) = absurd (not_too_long a k.0 h.1 h.2 k.2)
-  one_scoring (Err s) (Ok b) (inl h) k = absurd (opened s k.0 h)
-  one_scoring (Err s) (Ok b) (inr h) k = absurd (not_too_long b h.0 k.1 k.2 h.2)
+  one_scoring (Ok (say a)) (Ok (say b)) h k = ap (λ text. Ok (say text)) (one_text a b h.1 k.1)
+  one_scoring (Ok (say a)) (Ok (serve e q)) h k = absurd k
+  one_scoring (Ok (serve e q)) s h k = absurd h
+  one_scoring (Ok (say a)) (Err t) h (inl k) = absurd (opened t h.0 k)
+  one_scoring (Ok (say a)) (Err t) h (inr k) = absurd (not_too_long a k.0 h.1 h.2 k.2)
+  one_scoring (Err s) (Ok (say b)) (inl h) k = absurd (opened s k.0 h)
+  one_scoring (Err s) (Ok (say b)) (inr h) k = absurd (not_too_long b h.0 k.1 k.2 h.2)
+  one_scoring (Err s) (Ok (serve e q)) h k = absurd k
   one_scoring (Err s) (Err t) (inl h) (inl k) = ap Err (h.3 ∙ ap open_stop (one_fault g p h.0 k.0 read formed h.2 k.2 h.1 k.1) ∙ sym k.3)
   one_scoring (Err s) (Err t) (inl h) (inr k) = absurd (opened s k.1 h)
   one_scoring (Err s) (Err t) (inr h) (inl k) = absurd (opened t h.1 k)
   one_scoring (Err s) (Err t) (inr h) (inr k) = ap Err (h.3 ∙ ap stop.ScoreTooLong (one_line h.0 k.0 h.2 k.2) ∙ sym k.3)
 
+  one_editing : IsOne (IsEditing g p)
+  one_editing (Ok (say a)) s h k = absurd h
+  one_editing (Ok (serve e q)) (Ok (say b)) h k = absurd k
+  one_editing (Ok (serve e q)) (Ok (serve f r)) h k = ap (λ x. Ok x) (ap₂ serve (h.1 ∙ sym k.1) (h.2 ∙ sym k.2))
+  one_editing (Ok (serve e q)) (Err t) h k = absurd (opened t h.0 k)
+  one_editing (Err s) (Ok (say b)) h k = absurd k
+  one_editing (Err s) (Ok (serve f r)) h k = absurd (opened s k.0 h)
+  one_editing (Err s) (Err t) h k = ap Err (h.3 ∙ ap open_stop (one_fault g p h.0 k.0 read formed h.2 k.2 h.1 k.1) ∙ sym k.3)
+
 -- ---- the run
 
-one_transcription : (midi grammar : List ℕ) → IsOne (IsTranscription midi grammar)
-one_transcription midi grammar =
-    in_turn_one (IsRead midi) (λ f. AreInTurn (IsUnderstood grammar) (λ g. AreInTurn (IsLoading f) (λ p. IsScoring g p))) (one_read midi)
-    (λ f _. in_turn_one (IsUnderstood grammar) (λ g. AreInTurn (IsLoading f) (λ p. IsScoring g p)) (one_understood grammar)
-    (λ g understood. in_turn_one (IsLoading f) (λ p. IsScoring g p) (one_loaded f)
-    (λ p loaded. one_scoring g p (readable grammar g understood) (well_formed f p loaded))))
+one_pair : (g : Grammar) (p : Performance) → IsOne (λ (r : Result (Grammar × Performance) Stop). r ≡ Ok (g, p))
+one_pair g p r s h k = h ∙ sym k
+
+one_inputs : (midi grammar : List ℕ) → IsOne (AreInputs midi grammar)
+one_inputs midi grammar =
+    in_turn_one (IsRead midi) (λ f. AreInTurn (IsUnderstood grammar) (λ g. AreInTurn (IsLoading f) (λ p r. r ≡ Ok (g, p)))) (one_read midi)
+    (λ f _. in_turn_one (IsUnderstood grammar) (λ g. AreInTurn (IsLoading f) (λ p r. r ≡ Ok (g, p))) (one_understood grammar)
+    (λ g _. in_turn_one (IsLoading f) (λ p r. r ≡ Ok (g, p)) (one_loaded f) (λ p _. one_pair g p)))
+
+same_inputs : (i : Grammar × Performance) (g : Grammar) (p : Performance) → ◌≡◌ {A = Result (Grammar × Performance) Stop} (Ok i) (Ok (g, p)) → (g, p) ≡ i
+same_inputs i g p e = cc
+
+-- the grammar can be read, and the performance is well formed
+sound_inputs : (midi grammar : List ℕ) (i : Grammar × Performance) → AreInputs midi grammar (Ok i) → IsReadable i.0 × IsWellFormed i.1
+sound_inputs midi grammar i (f, read, (g, understood, (p, loaded, is))) =
+    subst (λ (x : Grammar × Performance). IsReadable x.0 × IsWellFormed x.1) (same_inputs i g p is) (readable grammar g understood, well_formed f p loaded)
+
+one_of_files : (last : Grammar → Performance → Result Ready Stop → Type 0) → ((g : Grammar) (p : Performance) → IsReadable g → IsWellFormed p → IsOne (last g p))
+    → (midi grammar : List ℕ) → IsOne (AreRead midi grammar last)
+one_of_files last one midi grammar =
+    in_turn_one (AreInputs midi grammar) (λ i. last i.0 i.1) (one_inputs midi grammar)
+    (λ i are. let sound = sound_inputs midi grammar i are in one i.0 i.1 sound.0 sound.1)
 
 one_of : (asked : Option Asked) (files : List File) → IsOne (HasOutcomeOf asked files)
 one_of None files r s h k = h ∙ sym k
-one_of (Some (transcribe midi grammar)) files r s h k = one_transcription (file_content files midi) (file_content files grammar) r s h k
+one_of (Some (transcribe midi grammar)) files r s h k = one_of_files IsScoring one_scoring (file_content files midi) (file_content files grammar) r s h k
+one_of (Some (edit midi grammar)) files r s h k = one_of_files IsEditing one_editing (file_content files midi) (file_content files grammar) r s h k
 
 pub one_outcome : OutcomesAreOne
 one_outcome words files = one_of (asked_by words) files

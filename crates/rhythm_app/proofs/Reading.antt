@@ -26,7 +26,8 @@ midi_read content bytes seen r (inl within) same says = go r says
 -- a stop of a stage that reads no file is one of a stage that reads one
 content_ends : (kind : Kind) (before now : ℕ) (s : Stop) → IsEarly s → IsOfContent s → EndsBy kind before now s
 content_ends kind before now stop.Usage early content = early
-content_ends kind before now (stop.FileTooLong k n) early content = early
+content_ends kind before now (stop.FileTooLong k n) early content = absurd content
+content_ends kind before now (stop.LineTooLong n) early content = absurd content
 content_ends kind before now (stop.Smf fault) early content = early
 content_ends kind before now (stop.Grammar fault) early content = early
 content_ends kind before now stop.NoNotes early content = early
@@ -45,3 +46,23 @@ content_ends kind before now stop.Memory early content = early
 pub early_ends : {T : Type 0} (kind : Kind) (before now : ℕ) (r : Result T Stop) → IfErr r IsEarly → IfErr r IsOfContent → IfErr r (EndsBy kind before now)
 early_ends kind before now (Ok x) early content = tt
 early_ends kind before now (Err s) early content = content_ends kind before now s early content
+
+-- a stage that reads ends early
+pub ends_early : (kind : Kind) (before now : ℕ) (s : Stop) → EndsBy kind before now s → IsEarly s
+ends_early kind before now stop.Usage end = end
+ends_early kind before now (stop.FileTooLong k n) end = tt
+ends_early kind before now (stop.LineTooLong n) end = end
+ends_early kind before now (stop.Smf e) end = tt
+ends_early kind before now (stop.Grammar e) end = tt
+ends_early kind before now stop.NoNotes end = tt
+ends_early kind before now (stop.TooManyNotes n) end = tt
+ends_early kind before now (stop.BadSignature m n) end = tt
+ends_early kind before now (stop.UnevenBar l m n) end = tt
+ends_early kind before now (stop.TooManyBars n) end = tt
+ends_early kind before now (stop.TooManyCells n) end = tt
+ends_early kind before now (stop.NoStart l m n) end = tt
+ends_early kind before now (stop.NoDerivation m n) end = end
+ends_early kind before now (stop.ScoreTooLong n) end = end
+ends_early kind before now (stop.Read k) end = tt
+ends_early kind before now stop.Write end = end
+ends_early kind before now stop.Memory end = tt

@@ -6,8 +6,9 @@ use Rattle.std.proofs.KnownBytes.{Appends-trans}
 use Rattle.std.specs.Io.KnownBytes.{Appends}
 use Rattle.rhythm_ports.specs.Causes.{HasCause}
 use Rattle.rhythm_app.specs.Asked.{Asked}
-use Rattle.rhythm_app.specs.Ends.{AppendsPart, Reports, TakesFirstPart, TakesText}
-use Rattle.rhythm_app.specs.Outcome.{HasOutcomeOf}
+use Rattle.rhythm_app.specs.Ends.{AppendsPart, Reports, IsSaid}
+use Rattle.rhythm_app.specs.Builds.{HasBuiltAll}
+use Rattle.rhythm_app.specs.Outcome.{HasOutcomeOf, say}
 use Rattle.rhythm_ports.specs.Files.{File}
 use Rattle.rhythm_app.specs.Stops.{joined_words}
 use Rattle.rhythm_app.specs.Parts.{part_text, part_texts}
@@ -56,11 +57,11 @@ reported a b before now t (Ok x) all part cause = inl all
 reported a b before now t (Err e) all part cause = inr (cause.failed, part)
 
 -- the text that is the outcome was taken whole, or a first part of it
-pub text_taken : (a b : Option (List ℕ)) (asked : Option Asked) (files : List File) (text taken : List ℕ) → taken ≡ text → Appends a b taken → HasOutcomeOf asked files (Ok text)
-    → TakesText a b asked files
-text_taken a b asked files text taken same all outcome = (text, outcome, subst (Appends a b) same all)
+pub text_taken : (a b : Option (List ℕ)) (asked : Option Asked) (files : List File) (text taken : List ℕ) (built built' : ℕ) → taken ≡ text → Appends a b taken
+    → HasOutcomeOf asked files (Ok (say text)) → HasBuiltAll asked built built' files → IsSaid asked files (Appends a b) built built'
+text_taken a b asked files text taken built built' same all outcome builds = (text, outcome, subst (Appends a b) same all, builds)
 
-pub part_taken : (a b : Option (List ℕ)) (asked : Option Asked) (files : List File) (text taken : List ℕ) (n : ℕ) → taken ≡ text → n < length taken → Appends a b (take n taken)
-    → HasOutcomeOf asked files (Ok text) → TakesFirstPart a b asked files
-part_taken a b asked files text taken n same within cut outcome =
-    (text, outcome, (n, subst (λ t. n < length t) same within, subst (λ t. Appends a b (take n t)) same cut))
+pub part_taken : (a b : Option (List ℕ)) (asked : Option Asked) (files : List File) (text taken : List ℕ) (n built built' : ℕ) → taken ≡ text → n < length taken
+    → Appends a b (take n taken) → HasOutcomeOf asked files (Ok (say text)) → HasBuiltAll asked built built' files → IsSaid asked files (AppendsPart a b) built built'
+part_taken a b asked files text taken n built built' same within cut outcome builds =
+    (text, outcome, (n, subst (λ (t : List ℕ). n < length t) same within, subst (λ (t : List ℕ). Appends a b (take n t)) same cut), builds)

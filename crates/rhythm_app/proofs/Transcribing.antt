@@ -1,14 +1,18 @@
--- What the stages of a transcription come to together.
-use Rattle.std.proofs.Common.{◌≡◌, ℕ, List, Vec, inl, inr, refl, subst, IfErr, IfOk, OnOk, Option, Some, Result, Ok, Err}
+-- What the stages of a command come to together.
+use Rattle.std.proofs.Common.{◌≡◌, ◌⊎◌, ℕ, List, Vec, inl, inr, refl, subst, IfErr, IfOk, OnOk, Option, Some, Result, Ok, Err}
 use Rattle.std.specs.Option.{ForSome}
 use Rattle.performance_load.specs.Loading.{IsLoaded, Loads}
 use Rattle.performance_load.specs.declared.load_fault.LoadFault.{LoadFault}
+use Rattle.edit_session.specs.Opening.{CanOpen}
+use Rattle.edit_session.specs.Session.{Session}
 use Rattle.rhythm_app.proofs.InTurn.{next_follows, stop_follows}
-use Rattle.rhythm_app.specs.Asked.{Asked, transcribe, file_content}
-use Rattle.rhythm_app.specs.Builds.{IsPerformanceOf, MatchBuilds}
+use Rattle.rhythm_app.proofs.Scoring.{unopened_editing}
+use Rattle.rhythm_app.specs.Asked.{Asked, transcribe, edit, file_content}
+use Rattle.rhythm_app.specs.Builds.{IsPerformanceIn, MatchBuilds}
 use Rattle.rhythm_app.specs.Ends.{IsCauseOf, IsFailureOf}
-use Rattle.rhythm_app.specs.Outcome.{AreInTurn, HasOutcomeOf, IsLoading, IsRead, IsScoring, IsTranscription, IsUnderstood, load_stop, stopped}
-use Rattle.rhythm_app.specs.Stages.{Follows, IsFailure, IsOfContent, items_of}
+use Rattle.rhythm_app.specs.Outcome.{AreInTurn, AreInputs, HasOutcomeOf, IsEditing, IsLoading, IsRead, IsScoring, IsUnderstood, IsUnopened, Ready, load_stop, say, serve, stopped}
+use Rattle.rhythm_app.specs.Stages.{Follows, IsFailure, IsOfContent, IsReadFailure, said_of}
+use Rattle.rhythm_app.specs.declared.stop.Kind.TheVariants as kind
 use Rattle.rhythm_app.specs.declared.stop.Stop.{Stop}
 use Rattle.rhythm_app.specs.declared.stop.Stop.TheVariants as stop
 use Rattle.rhythm_base.specs.Grammar.{Grammar}
@@ -22,6 +26,7 @@ use Rattle.smf_reader.specs.Played.{Smf}
 content_fails : (asked : Asked) (files : List File) (s : Stop) → IsFailure s → IsOfContent s → IsFailureOf (Some asked) files s
 content_fails asked files stop.Usage failed content = absurd content
 content_fails asked files (stop.FileTooLong k n) failed content = absurd failed
+content_fails asked files (stop.LineTooLong n) failed content = absurd failed
 content_fails asked files (stop.Smf e) failed content = absurd failed
 content_fails asked files (stop.Grammar e) failed content = absurd failed
 content_fails asked files stop.NoNotes failed content = absurd failed
@@ -44,7 +49,10 @@ stop_cause asked files s (inr failed) content = inr (content_fails asked files s
 -- what is known of the cells by the stop gives what follows from it
 match_more : {A B C D E F : Type 0} → (A → D) → (B → E) → (C → F) → (s : Stop) → MatchBuilds A B C s → MatchBuilds D E F s
 match_more a b d stop.Usage h = d h
-match_more a b d (stop.FileTooLong k n) h = d h
+match_more a b d (stop.FileTooLong kind.Midi n) h = d h
+match_more a b d (stop.FileTooLong kind.Grammar n) h = d h
+match_more a b d (stop.FileTooLong kind.Script n) h = tt
+match_more a b d (stop.LineTooLong n) h = tt
 match_more a b d (stop.Smf e) h = d h
 match_more a b d (stop.Grammar e) h = d h
 match_more a b d stop.NoNotes h = d h
@@ -56,8 +64,10 @@ match_more a b d (stop.TooManyCells n) h = d h
 match_more a b d (stop.NoStart l m n) h = d h
 match_more a b d (stop.NoDerivation m n) h = a h
 match_more a b d (stop.ScoreTooLong n) h = a h
-match_more a b d (stop.Read k) h = d h
-match_more a b d stop.Write h = a h
+match_more a b d (stop.Read kind.Midi) h = d h
+match_more a b d (stop.Read kind.Grammar) h = d h
+match_more a b d (stop.Read kind.Script) h = tt
+match_more a b d stop.Write h = tt
 match_more a b d stop.Memory h = b h
 
 pub built_more : {T A B C D E F : Type 0} → (r : Result T Stop) → (A → D) → (B → E) → (C → F) → IfErr r (MatchBuilds A B C) → IfErr r (MatchBuilds D E F)
@@ -68,50 +78,148 @@ pub all_more : {T E A B : Type 0} → (r : Result T E) → (A → B) → OnOk r 
 all_more (Ok x) a h = a h
 all_more (Err e) a h = tt
 
--- ---- what a stage that scores comes to
-
-module _ {A : Type 0} (fs : Option (List File)) (asked : Asked) where
-  abbrev Scored : Result (Vec ℕ A) Stop → Type 0
-  Scored r = (files : List File) → fs ≡ Some files → Follows (HasOutcomeOf (Some asked) files) (items_of r)
-
-  pub scored_text : (r : Result (Vec ℕ A) Stop) → Scored r → IfOk r (λ text. ForSome fs (λ files. HasOutcomeOf (Some asked) files (Ok text.items)))
-  scored_text (Err s) h = tt
-  scored_text (Ok text) h = λ files are. whole files (h files are)
-    where
-      whole : (files : List File) → Follows (HasOutcomeOf (Some asked) files) (Ok text.items) → HasOutcomeOf (Some asked) files (Ok text.items)
-      whole files (inl outcome) = outcome
-      whole files (inr failed) = absurd failed
-
-  pub scored_cause : (r : Result (Vec ℕ A) Stop) → Scored r → IfErr r IsOfContent → IfErr r (λ s. ForSome fs (λ files. IsCauseOf (Some asked) files s))
-  scored_cause (Ok text) h content = tt
-  scored_cause (Err s) h content = λ files are. stop_cause asked files s (h files are) content
-
--- ---- the stages
+-- ---- the inputs
 
 module _ (midi grammar : List ℕ) (f : Smf) (g : Grammar) (read : Follows (IsRead midi) (Ok f)) (understood : Follows (IsUnderstood grammar) (Ok g)) where
-  abbrev Loaded : Result (List ℕ) Stop → Type 0
-  Loaded = AreInTurn (IsLoading f) (λ p. IsScoring g p)
-
-  loading_follows : (r : Result (List ℕ) Stop) → Follows Loaded r → Follows (IsTranscription midi grammar) r
+  loading_follows : (r : Result (Grammar × Performance) Stop) → Follows (AreInTurn (IsLoading f) (λ p s. s ≡ Ok (g, p))) r → Follows (AreInputs midi grammar) r
   loading_follows r h =
-      next_follows (IsRead midi) (λ f. AreInTurn (IsUnderstood grammar) (λ g. AreInTurn (IsLoading f) (λ p. IsScoring g p))) f r read
-      (next_follows (IsUnderstood grammar) (λ g. AreInTurn (IsLoading f) (λ p. IsScoring g p)) g r understood h)
+      next_follows (IsRead midi) (λ f. AreInTurn (IsUnderstood grammar) (λ g. AreInTurn (IsLoading f) (λ p s. s ≡ Ok (g, p)))) f r read
+      (next_follows (IsUnderstood grammar) (λ g. AreInTurn (IsLoading f) (λ p s. s ≡ Ok (g, p))) g r understood h)
 
   -- the performance could not be loaded
-  pub unloaded_follows : (s : Stop) → Follows (IsLoading f) (Err s) → Follows (IsTranscription midi grammar) (Err s)
-  unloaded_follows s h = loading_follows (Err s) (stop_follows (IsLoading f) (λ p. IsScoring g p) s h)
+  pub unloaded_follows : (s : Stop) → Follows (IsLoading f) (Err s) → Follows (AreInputs midi grammar) (Err s)
+  unloaded_follows s h = loading_follows (Err s) (stop_follows (IsLoading f) (λ p s. s ≡ Ok (g, p)) s h)
 
-  -- it was, and its score is what the run comes to
-  pub loaded_follows : (p : Performance) (r : Result (List ℕ) Stop) → Follows (IsLoading f) (Ok p) → Follows (IsScoring g p) r → Follows (IsTranscription midi grammar) r
-  loaded_follows p r h k = loading_follows r (next_follows (IsLoading f) (λ p. IsScoring g p) p r h k)
+  -- it was
+  pub loaded_follows : (p : Performance) → Follows (IsLoading f) (Ok p) → Follows (AreInputs midi grammar) (Ok (g, p))
+  loaded_follows p h = loading_follows (Ok (g, p)) (next_follows (IsLoading f) (λ p s. s ≡ Ok (g, p)) p (Ok (g, p)) h (inl refl))
+
+-- where the files hold no reason, memory was wanted
+content_read : (midi : List ℕ) (s : Stop) → IsFailure s → IsOfContent s → IsReadFailure midi s
+content_read midi stop.Usage failed content = absurd content
+content_read midi (stop.FileTooLong k n) failed content = absurd failed
+content_read midi (stop.LineTooLong n) failed content = absurd failed
+content_read midi (stop.Smf e) failed content = absurd failed
+content_read midi (stop.Grammar e) failed content = absurd failed
+content_read midi stop.NoNotes failed content = absurd failed
+content_read midi (stop.TooManyNotes n) failed content = absurd failed
+content_read midi (stop.BadSignature m n) failed content = absurd failed
+content_read midi (stop.UnevenBar l m n) failed content = absurd failed
+content_read midi (stop.TooManyBars n) failed content = absurd failed
+content_read midi (stop.TooManyCells n) failed content = absurd failed
+content_read midi (stop.NoStart l m n) failed content = absurd failed
+content_read midi (stop.NoDerivation m n) failed content = absurd failed
+content_read midi (stop.ScoreTooLong n) failed content = absurd failed
+content_read midi (stop.Read k) failed content = absurd content
+content_read midi stop.Write failed content = absurd content
+content_read midi stop.Memory failed content = tt
+
+pub inputs_cause : (midi grammar : List ℕ) (s : Stop) → Follows (AreInputs midi grammar) (Err s) → IsOfContent s → AreInputs midi grammar (Err s) ⊎ IsReadFailure midi s
+inputs_cause midi grammar s (inl are) content = inl are
+inputs_cause midi grammar s (inr failed) content = inr (content_read midi s failed content)
 
 -- the performance that was loaded is that of the MIDI file
 loaded_is : (f : Smf) (p : Performance) (loaded : Result Performance LoadFault) → Loads f loaded → ◌≡◌ {A = Result Performance Stop} (Ok p) (stopped load_stop loaded) → IsLoaded f p
 loaded_is f p (Ok q) h is = let same : q ≡ p = cc in subst (IsLoaded f) same h
 loaded_is f p (Err fault) h is = absurd (cc)
 
-pub is_performance : (midi grammar : List ℕ) (files : List File) (f : Smf) (p : Performance) → Follows (IsRead (file_content files midi)) (Ok f) → Follows (IsLoading f) (Ok p)
-    → IsPerformanceOf (Some (transcribe midi grammar)) files p
-is_performance midi grammar files f p (inl read) (inl loading) = (f, read, loaded_is f p loading.0 loading.1 loading.4)
-is_performance midi grammar files f p (inr failed) loading = absurd failed
-is_performance midi grammar files f p (inl read) (inr failed) = absurd failed
+pub is_performance : (midi : List ℕ) (f : Smf) (p : Performance) → Follows (IsRead midi) (Ok f) → Follows (IsLoading f) (Ok p) → IsPerformanceIn midi p
+is_performance midi f p (inl read) (inl loading) = (f, read, loaded_is f p loading.0 loading.1 loading.4)
+is_performance midi f p (inr failed) loading = absurd failed
+is_performance midi f p (inl read) (inr failed) = absurd failed
+
+-- ---- a command on its inputs
+
+module _ (midi grammar : List ℕ) (files : List File) where
+  pub transcribe_fails : (s : Stop) → IsReadFailure (file_content files midi) s → IsFailureOf (Some (transcribe midi grammar)) files s
+  transcribe_fails (stop.Read kind.Midi) failed = tt
+  transcribe_fails (stop.Read kind.Grammar) failed = failed
+  transcribe_fails (stop.Read kind.Script) failed = absurd failed
+  transcribe_fails stop.Memory failed = refl
+  transcribe_fails stop.Write failed = absurd failed
+  transcribe_fails stop.Usage failed = absurd failed
+  transcribe_fails (stop.FileTooLong k n) failed = absurd failed
+  transcribe_fails (stop.LineTooLong n) failed = absurd failed
+  transcribe_fails (stop.Smf e) failed = absurd failed
+  transcribe_fails (stop.Grammar e) failed = absurd failed
+  transcribe_fails stop.NoNotes failed = absurd failed
+  transcribe_fails (stop.TooManyNotes n) failed = absurd failed
+  transcribe_fails (stop.BadSignature m n) failed = absurd failed
+  transcribe_fails (stop.UnevenBar l m n) failed = absurd failed
+  transcribe_fails (stop.TooManyBars n) failed = absurd failed
+  transcribe_fails (stop.TooManyCells n) failed = absurd failed
+  transcribe_fails (stop.NoStart l m n) failed = absurd failed
+  transcribe_fails (stop.NoDerivation m n) failed = absurd failed
+  transcribe_fails (stop.ScoreTooLong n) failed = absurd failed
+
+  pub edit_fails : (s : Stop) → IsReadFailure (file_content files midi) s → IsFailureOf (Some (edit midi grammar)) files s
+  edit_fails (stop.Read kind.Midi) failed = tt
+  edit_fails (stop.Read kind.Grammar) failed = failed
+  edit_fails (stop.Read kind.Script) failed = absurd failed
+  edit_fails stop.Memory failed = refl
+  edit_fails stop.Write failed = absurd failed
+  edit_fails stop.Usage failed = absurd failed
+  edit_fails (stop.FileTooLong k n) failed = absurd failed
+  edit_fails (stop.LineTooLong n) failed = absurd failed
+  edit_fails (stop.Smf e) failed = absurd failed
+  edit_fails (stop.Grammar e) failed = absurd failed
+  edit_fails stop.NoNotes failed = absurd failed
+  edit_fails (stop.TooManyNotes n) failed = absurd failed
+  edit_fails (stop.BadSignature m n) failed = absurd failed
+  edit_fails (stop.UnevenBar l m n) failed = absurd failed
+  edit_fails (stop.TooManyBars n) failed = absurd failed
+  edit_fails (stop.TooManyCells n) failed = absurd failed
+  edit_fails (stop.NoStart l m n) failed = absurd failed
+  edit_fails (stop.NoDerivation m n) failed = absurd failed
+  edit_fails (stop.ScoreTooLong n) failed = absurd failed
+
+  -- the inputs are not had
+  pub transcribe_stops : (s : Stop) → AreInputs (file_content files midi) (file_content files grammar) (Err s) ⊎ IsReadFailure (file_content files midi) s
+      → IsCauseOf (Some (transcribe midi grammar)) files s
+  transcribe_stops s (inl are) = inl (inl are)
+  transcribe_stops s (inr failed) = inr (transcribe_fails s failed)
+
+  pub edit_stops : (s : Stop) → AreInputs (file_content files midi) (file_content files grammar) (Err s) ⊎ IsReadFailure (file_content files midi) s
+      → IsCauseOf (Some (edit midi grammar)) files s
+  edit_stops s (inl are) = inl (inl are)
+  edit_stops s (inr failed) = inr (edit_fails s failed)
+
+  module _ (i : Grammar × Performance) (are : Follows (AreInputs (file_content files midi) (file_content files grammar)) (Ok i)) where
+    pub scored : (r : Result Ready Stop) → Follows (IsScoring i.0 i.1) r → Follows (HasOutcomeOf (Some (transcribe midi grammar)) files) r
+    scored r h = next_follows (AreInputs (file_content files midi) (file_content files grammar)) (λ i. IsScoring i.0 i.1) i r are h
+
+    pub opened : (r : Result Ready Stop) → Follows (IsEditing i.0 i.1) r → Follows (HasOutcomeOf (Some (edit midi grammar)) files) r
+    opened r h = next_follows (AreInputs (file_content files midi) (file_content files grammar)) (λ i. IsEditing i.0 i.1) i r are h
+
+pub no_failure : {T : Type 0} (outcome : Result T Stop → Type 0) (x : T) → Follows outcome (Ok x) → outcome (Ok x)
+no_failure outcome x (inl h) = h
+no_failure outcome x (inr failed) = absurd failed
+
+-- ---- a stage and what it is ready for
+
+module _ {T : Type 0} (fs : Option (List File)) (asked : Asked) (ready : T → Ready) where
+  abbrev pub Follow : Result T Stop → Type 0
+  Follow (Ok x) = (files : List File) → fs ≡ Some files → Follows (HasOutcomeOf (Some asked) files) (Ok (ready x))
+  Follow (Err s) = (files : List File) → fs ≡ Some files → Follows (HasOutcomeOf (Some asked) files) (Err s)
+
+  pub stage_ready : (r : Result T Stop) → Follow r → IfOk r (λ x. ForSome fs (λ files. HasOutcomeOf (Some asked) files (Ok (ready x))))
+  stage_ready (Ok x) h = λ files are. no_failure (HasOutcomeOf (Some asked) files) (ready x) (h files are)
+  stage_ready (Err s) h = tt
+
+  pub stage_cause : (r : Result T Stop) → Follow r → IfErr r IsOfContent → IfErr r (λ s. ForSome fs (λ files. IsCauseOf (Some asked) files s))
+  stage_cause (Ok x) h content = tt
+  stage_cause (Err s) h content = λ files are. stop_cause asked files s (h files are) content
+
+-- a text that is ready
+pub said_follow : {A : Type 0} (fs : Option (List File)) (asked : Asked) (r : Result (Vec ℕ A) Stop)
+    → ((files : List File) → fs ≡ Some files → Follows (HasOutcomeOf (Some asked) files) (said_of r)) → Follow fs asked (λ v. say v.items) r
+said_follow fs asked (Ok x) h = h
+said_follow fs asked (Err s) h = h
+
+-- a session that is ready
+pub opened_follow : (fs : Option (List File)) (asked : Asked) (r : Result Session Stop) (g : Grammar) (p : Performance) → IfOk r (λ s. s.grammar ≡ g) → IfOk r (λ s. s.performance ≡ p)
+    → OnOk r (CanOpen g p) → IfErr r (λ s. IsUnopened g p s ⊎ (s ≡ stop.Memory))
+    → ((files : List File) → fs ≡ Some files → (x : Result Ready Stop) → Follows (IsEditing g p) x → Follows (HasOutcomeOf (Some asked) files) x)
+    → Follow fs asked (λ s. serve s.grammar s.performance) r
+opened_follow fs asked (Ok s) g p grammar performance can unopened all = λ files are. all files are (Ok (serve s.grammar s.performance)) (inl (can, grammar, performance))
+opened_follow fs asked (Err s) g p grammar performance can unopened all = λ files are. all files are (Err s) (unopened_editing g p s unopened)

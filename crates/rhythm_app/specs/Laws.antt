@@ -1,9 +1,9 @@
 -- The laws, each as one statement over the definitions.
 use Rattle.std.specs.Prelude.{◌≡◌, ℕ, List, Result}
-use Rattle.rhythm_app.specs.Outcome.{HasOutcome}
+use Rattle.rhythm_app.specs.Outcome.{HasOutcome, Ready}
 use Rattle.rhythm_app.specs.declared.stop.Stop.{Stop}
 use Rattle.rhythm_ports.specs.Files.{File}
 
--- words and files come to one text or to one stop
+-- words and files come to one text, to one grammar and performance, or to one stop
 abbrev pub OutcomesAreOne : Type 0
-OutcomesAreOne = (words : List (List ℕ)) (files : List File) (r s : Result (List ℕ) Stop) → HasOutcome words files r → HasOutcome words files s → r ≡ s
+OutcomesAreOne = (words : List (List ℕ)) (files : List File) (r s : Result Ready Stop) → HasOutcome words files r → HasOutcome words files s → r ≡ s

@@ -1,7 +1,7 @@
--- What the words of a command line and the bytes of the files come to: a text, or the first test that fails, as a stop. The tests
--- come in this order: the words; the MIDI file's size and its faults; the grammar file's size and its faults; the notes and the
--- bars; the cells, the root symbols and the derivations; the size of the score. A failed read, a failed write and want of memory
--- are no outcomes: they may end any run.
+-- What the words of a command line and the bytes of the files come to: what the command is ready to write, or the first test that
+-- fails, as a stop. The tests come in this order: the words; the MIDI file's size and its faults; the grammar file's size and its
+-- faults; the notes and the bars; the cells, the root symbols and the derivations; the size of a score. A failed read, a failed
+-- write and want of memory are no outcomes: they may end any run.
 use Rattle.std.specs.Prelude.{◌≡◌, ◌≢◌, ℕ, ◌+◌, ◌≤◌, ◌⊎◌, nat_le, List, length, IfOk, if◌then◌else◌, Result, Ok, Err, Option, Some, None}
 use Rattle.edit_session.specs.Opening.{CanOpen, IsOpenFault}
 use Rattle.edit_session.specs.declared.open_fault.OpenFault.{OpenFault}
@@ -12,7 +12,7 @@ use Rattle.note_list.specs.declared.fault.NoteFault.TheVariants as note
 use Rattle.performance_load.specs.Loading.{Loads}
 use Rattle.performance_load.specs.declared.load_fault.LoadFault.{LoadFault}
 use Rattle.performance_load.specs.declared.load_fault.LoadFault.TheVariants as loading
-use Rattle.rhythm_app.specs.Asked.{Asked, transcribe, asked_by, file_content}
+use Rattle.rhythm_app.specs.Asked.{Asked, transcribe, edit, asked_by, file_content}
 use Rattle.rhythm_app.specs.declared.stop.Kind.{Kind}
 use Rattle.rhythm_app.specs.declared.stop.Kind.TheVariants as kind
 use Rattle.rhythm_app.specs.declared.stop.Stop.{Stop}
@@ -20,7 +20,7 @@ use Rattle.rhythm_app.specs.declared.stop.Stop.TheVariants as stop
 use Rattle.rhythm_base.specs.Grammar.{Grammar}
 use Rattle.rhythm_base.specs.Performance.{IsWellFormed, Performance}
 use Rattle.rhythm_base.specs.declared.bar_fault.BarFault.TheVariants as laying
-use Rattle.rhythm_base.specs.declared.limits.TheConstants.{LONGEST_GRAMMAR, LONGEST_MIDI, LONGEST_SCORE}
+use Rattle.rhythm_base.specs.declared.limits.TheConstants.{LONGEST_GRAMMAR, LONGEST_MIDI, LONGEST_SCORE, LONGEST_SCRIPT}
 use Rattle.rhythm_ports.specs.Files.{File}
 use Rattle.smf_reader.specs.Played.{Smf}
 use Rattle.smf_reader.specs.SmfFile.{smf}
@@ -31,6 +31,7 @@ use Rattle.smf_reader.specs.SmfFile.{smf}
 abbrev pub limit_of : Kind → ℕ
 limit_of kind.Midi = LONGEST_MIDI
 limit_of kind.Grammar = LONGEST_GRAMMAR
+limit_of kind.Script = LONGEST_SCRIPT
 
 -- the bytes of a file that is not too long. Of a longer one, one byte more than the limit is read
 abbrev pub sized : Kind → List ℕ → Result (List ℕ) Stop
@@ -95,10 +96,23 @@ IsUnopened g p s = (fault : OpenFault) × IsOpenFault g p fault × (fault ≢ op
 abbrev pub IsTooLongToWrite : Grammar → Performance → Stop → Type 0
 IsTooLongToWrite g p s = (line : ℕ) × CanOpen g p × HasTooLongText g p line × (s ≡ stop.ScoreTooLong line)
 
+-- what a command is ready for where its tests pass: to write a text; or to answer the lines of a script by a grammar, from a
+-- performance on
+pub data Ready : Type 0 where
+  say : List ℕ → Ready
+  serve : Grammar → Performance → Ready
+
 -- what the score of a performance and a grammar comes to
-abbrev pub IsScoring : Grammar → Performance → Result (List ℕ) Stop → Type 0
-IsScoring g p (Ok text) = CanOpen g p × IsTextOf g p text × (length text ≤ LONGEST_SCORE)
+abbrev pub IsScoring : Grammar → Performance → Result Ready Stop → Type 0
+IsScoring g p (Ok (say text)) = CanOpen g p × IsTextOf g p text × (length text ≤ LONGEST_SCORE)
+IsScoring g p (Ok (serve h q)) = ⊥
 IsScoring g p (Err s) = IsUnopened g p s ⊎ IsTooLongToWrite g p s
+
+-- what an editing session on a performance and a grammar comes to
+abbrev pub IsEditing : Grammar → Performance → Result Ready Stop → Type 0
+IsEditing g p (Ok (say text)) = ⊥
+IsEditing g p (Ok (serve h q)) = CanOpen g p × (h ≡ g) × (q ≡ p)
+IsEditing g p (Err s) = IsUnopened g p s
 
 -- ---- the run
 
@@ -107,15 +121,20 @@ abbrev pub AreInTurn : {T U : Type 0} → (Result T Stop → Type 0) → (T → 
 AreInTurn {T} first next (Ok y) = (x : T) × first (Ok x) × next x (Ok y)
 AreInTurn {T} first next (Err s) = first (Err s) ⊎ ((x : T) × first (Ok x) × next x (Err s))
 
--- what `transcribe` comes to, by the bytes of its two files
-abbrev pub IsTranscription : List ℕ → List ℕ → Result (List ℕ) Stop → Type 0
-IsTranscription midi grammar =
-    AreInTurn (IsRead midi) (λ f. AreInTurn (IsUnderstood grammar) (λ g. AreInTurn (IsLoading f) (λ p. IsScoring g p)))
+-- what the bytes of a MIDI file and a grammar file come to: the grammar and the performance that they say
+abbrev pub AreInputs : List ℕ → List ℕ → Result (Grammar × Performance) Stop → Type 0
+AreInputs midi grammar =
+    AreInTurn (IsRead midi) (λ f. AreInTurn (IsUnderstood grammar) (λ g. AreInTurn (IsLoading f) (λ p r. r ≡ Ok (g, p))))
 
-abbrev pub HasOutcomeOf : Option Asked → List File → Result (List ℕ) Stop → Type 0
+-- what they come to by what is asked of the grammar and the performance
+abbrev pub AreRead : List ℕ → List ℕ → (Grammar → Performance → Result Ready Stop → Type 0) → Result Ready Stop → Type 0
+AreRead midi grammar last = AreInTurn (AreInputs midi grammar) (λ inputs. last inputs.0 inputs.1)
+
+abbrev pub HasOutcomeOf : Option Asked → List File → Result Ready Stop → Type 0
 HasOutcomeOf None files r = r ≡ Err stop.Usage
-HasOutcomeOf (Some (transcribe midi grammar)) files r = IsTranscription (file_content files midi) (file_content files grammar) r
+HasOutcomeOf (Some (transcribe midi grammar)) files r = AreRead (file_content files midi) (file_content files grammar) IsScoring r
+HasOutcomeOf (Some (edit midi grammar)) files r = AreRead (file_content files midi) (file_content files grammar) IsEditing r
 
 -- what a command line comes to
-abbrev pub HasOutcome : List (List ℕ) → List File → Result (List ℕ) Stop → Type 0
+abbrev pub HasOutcome : List (List ℕ) → List File → Result Ready Stop → Type 0
 HasOutcome words files r = HasOutcomeOf (asked_by words) files r

@@ -5,13 +5,16 @@ use Rattle.grammar_file.specs.declared.fault.GrammarWhat.TheVariants as what
 use Rattle.rhythm_app.specs.declared.stop.Kind.{Kind}
 use Rattle.rhythm_app.specs.declared.stop.Kind.TheVariants as kind
 use Rattle.rhythm_app.specs.declared.stop.Stop.{Stop}
-use Rattle.rhythm_app.specs.declared.stop.Stop.TheVariants.{Usage, FileTooLong, Smf, Grammar, NoNotes, TooManyNotes, BadSignature, UnevenBar, TooManyBars, TooManyCells, NoStart, NoDerivation, ScoreTooLong, Read, Write, Memory}
+use Rattle.rhythm_app.specs.declared.stop.Stop.TheVariants.{Usage, FileTooLong, LineTooLong, Smf, Grammar, NoNotes, TooManyNotes, BadSignature, UnevenBar, TooManyBars, TooManyCells, NoStart, NoDerivation, ScoreTooLong, Read, Write, Memory}
+use Rattle.script_run.specs.declared.script_stop.ScriptStop.{ScriptStop}
+use Rattle.script_run.specs.declared.script_stop.ScriptStop.TheVariants as script
 use Rattle.smf_reader.specs.declared.fault.SmfFault.{SmfFault}
 use Rattle.smf_reader.specs.declared.fault.SmfFault.TheVariants as smf
 
 abbrev pub status_of : Stop → ℕ
 status_of Usage = 1
 status_of (FileTooLong _ _) = 4
+status_of (LineTooLong _) = 4
 status_of (Smf _) = 2
 status_of (Grammar _) = 2
 status_of NoNotes = 2
@@ -27,11 +30,20 @@ status_of (Read _) = 5
 status_of Write = 6
 status_of Memory = 7
 
+-- why the answering of a script ends, as a stop of the run
+abbrev pub script_stop : ScriptStop → Stop
+script_stop script.Read = Read kind.Script
+script_stop (script.TooLong read) = FileTooLong kind.Script read
+script_stop (script.LineTooLong read) = LineTooLong read
+script_stop script.Write = Write
+script_stop script.Memory = Memory
+
 -- ---- names
 
 abbrev pub kind_name : Kind → List ℕ
 kind_name kind.Midi = codes "midi"
 kind_name kind.Grammar = codes "grammar"
+kind_name kind.Script = codes "script"
 
 -- the name of a fault of a MIDI file, and its number, where it has one. No file has want of memory as its fault
 abbrev pub smf_name : SmfFault → List ℕ
@@ -117,6 +129,7 @@ limit_line name count = named_line (codes "limit ") name (Some count)
 abbrev pub stop_line : Stop → List ℕ
 stop_line Usage = joined_words (codes "usage\n" ∷ [])
 stop_line (FileTooLong kind read) = limit_line (kind_name kind) read
+stop_line (LineTooLong read) = limit_line (codes "script-line") read
 stop_line (Smf fault) = named_line (codes "smf ") (smf_name fault) (smf_number fault)
 stop_line (Grammar fault) = grammar_fault_line fault.line (what_name fault.what) (what_number fault.what)
 stop_line NoNotes = joined_words (codes "notes NoNotes\n" ∷ [])

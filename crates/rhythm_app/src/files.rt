@@ -12,7 +12,7 @@ ghost use Rattle.std.specs.Prelude.{◌≡◌, ◌≢◌, ◌≤◌, IfErr, IfOk
 
 use crate::stop::{Kind, Stop};
 use grammar_file::{GrammarFault, GrammarWhat, read_grammar};
-use rhythm_base::{Grammar, LONGEST_GRAMMAR, LONGEST_MIDI};
+use rhythm_base::{Grammar, LONGEST_GRAMMAR, LONGEST_MIDI, LONGEST_SCRIPT};
 use rhythm_ports::{ReadEnd, Shelf, read_shelf};
 use smf_reader::{Smf, SmfFault, read_smf};
 use std::alloc::Global;
@@ -24,6 +24,7 @@ fn limit(kind: Kind) -> u64
     match kind {
         Kind::Midi => LONGEST_MIDI,
         Kind::Grammar => LONGEST_GRAMMAR,
+        Kind::Script => LONGEST_SCRIPT,
     }
 }
 

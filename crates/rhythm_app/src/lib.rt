@@ -3,15 +3,18 @@
 //! is a function whose contract says what its tests come to, and `run` puts them together.
 #![tactic(auto)]
 
-mod command;
+mod edit;
 mod files;
+mod inputs;
 mod laws;
 mod line;
 mod names;
 mod performance;
-mod score;
+mod request;
+mod session;
 mod stop;
 mod top;
+mod transcribe;
 
 pub use laws::outcomes_are_one;
 pub use line::write_line;

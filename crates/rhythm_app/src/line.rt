@@ -196,6 +196,7 @@ fn write_stop<K: Sink>(sink: &mut K, stop: Stop) -> Result<(), Failed>
     match stop {
         Stop::Usage => write_text(sink, "usage\n"),
         Stop::FileTooLong { kind, read } => write_limit(sink, kind_name(kind), read),
+        Stop::LineTooLong { read } => write_limit(sink, "script-line", read),
         Stop::Smf(fault) => write_smf_fault(sink, fault),
         Stop::Grammar(fault) => write_grammar_fault(sink, fault),
         Stop::NoNotes => write_text(sink, "notes NoNotes\n"),

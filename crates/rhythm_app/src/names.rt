@@ -5,13 +5,14 @@ use crate::stop::Kind;
 use grammar_file::GrammarWhat;
 use smf_reader::SmfFault;
 
-/// The name of a file.
+/// The name of an input.
 pub fn kind_name(kind: Kind) -> &'static str
     ensures { result.now ≡ kind_name kind }
 {
     match kind {
         Kind::Midi => "midi",
         Kind::Grammar => "grammar",
+        Kind::Script => "script",
     }
 }
 

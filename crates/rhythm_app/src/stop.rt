@@ -4,13 +4,15 @@ ghost use Rattle.std.specs.Prelude.{◌≡◌};
 use grammar_file::GrammarFault;
 use smf_reader::SmfFault;
 
-/// Which of the command's files.
+/// Which of the command's inputs.
 #[derive(Clone, Copy, Debug, PartialEq, Eq)]
 pub enum Kind {
     /// The MIDI file.
     Midi,
     /// The grammar file.
     Grammar,
+    /// The edit script, which is no file by name.
+    Script,
 }
 
 /// Why a run ends without its answer.
@@ -18,8 +20,10 @@ pub enum Kind {
 pub enum Stop {
     /// The words are no command.
     Usage,
-    /// A file is too long; so many bytes of it were read.
+    /// A file or the script is too long; so many bytes of it were read.
     FileTooLong { kind: Kind, read: u64 },
+    /// A line of the script is longer than 4,096 bytes; so many of it were read.
+    LineTooLong { read: u64 },
     /// The first fault of the MIDI file.
     Smf(SmfFault),
     /// The first fault of the grammar file.
@@ -42,7 +46,7 @@ pub enum Stop {
     NoDerivation { channel: u8, bar: u32 },
     /// The score is longer than 67,108,864 bytes; the number, from 1, of the first line that ends past them.
     ScoreTooLong { line: u32 },
-    /// A file was not read.
+    /// A file or the script was not read.
     Read(Kind),
     /// The output was not written.
     Write,
@@ -65,6 +69,7 @@ impl Stop {
             | Stop::NoStart { .. } => 2,
             Stop::NoDerivation { .. } => 3,
             Stop::FileTooLong { .. }
+            | Stop::LineTooLong { .. }
             | Stop::TooManyNotes { .. }
             | Stop::TooManyBars { .. }
             | Stop::TooManyCells { .. }

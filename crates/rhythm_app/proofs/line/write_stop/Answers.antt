@@ -38,3 +38,23 @@ pub returns-in-BadSignature-clause-part : goal.returns-in-BadSignature-clause-pa
 returns-in-BadSignature-clause-part g c =
     let written = c.write_signature in
     subst (λ (s : Stop). OnErr written.result (AppendsPart (g.K.Sink.taken c.args.sink.now) (g.K.Sink.taken written.new.sink) (stop_line s))) (sym c.in-BadSignature.is) written.ensures.part
+
+pub returns-in-LineTooLong-clause-all : goal.returns-in-LineTooLong-clause-all
+returns-in-LineTooLong-clause-all g c =
+    let written = c.write_limit-in-LineTooLong in
+    subst (λ (s : Stop). OnOk written.result (Appends (g.K.Sink.taken c.args.sink.now) (g.K.Sink.taken written.new.sink) (stop_line s))) (sym c.in-LineTooLong.is) written.ensures.all
+
+pub returns-in-LineTooLong-clause-part : goal.returns-in-LineTooLong-clause-part
+returns-in-LineTooLong-clause-part g c =
+    let written = c.write_limit-in-LineTooLong in
+    subst (λ (s : Stop). OnErr written.result (AppendsPart (g.K.Sink.taken c.args.sink.now) (g.K.Sink.taken written.new.sink) (stop_line s))) (sym c.in-LineTooLong.is) written.ensures.part
+
+pub returns-in-TooManyNotes-clause-all : goal.returns-in-TooManyNotes-clause-all
+returns-in-TooManyNotes-clause-all g c =
+    let written = c.write_limit-in-TooManyNotes in
+    subst (λ (s : Stop). OnOk written.result (Appends (g.K.Sink.taken c.args.sink.now) (g.K.Sink.taken written.new.sink) (stop_line s))) (sym c.in-TooManyNotes.is) written.ensures.all
+
+pub returns-in-BadSignature-clause-all : goal.returns-in-BadSignature-clause-all
+returns-in-BadSignature-clause-all g c =
+    let written = c.write_signature in
+    subst (λ (s : Stop). OnOk written.result (Appends (g.K.Sink.taken c.args.sink.now) (g.K.Sink.taken written.new.sink) (stop_line s))) (sym c.in-BadSignature.is) written.ensures.all

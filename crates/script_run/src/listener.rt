@@ -1,0 +1,146 @@
+ghost use Rattle.edit_script.specs.declared.reply.Reply.TheVariants as replies;
+ghost use Rattle.rhythm_base.specs.Counter.{risen};
+ghost use Rattle.rhythm_base.specs.declared.limits.TheConstants.{LONGEST_SCRIPT, LONGEST_SCRIPT_LINE};
+ghost use Rattle.rhythm_ports.specs.Causes.{HasCause};
+ghost use Rattle.script_run.specs.Answers.{Quits};
+ghost use Rattle.script_run.specs.Hearing.{Heard, Replies};
+ghost use Rattle.std.specs.Io.KnownBytes.{Appends};
+ghost use Rattle.std.specs.Prelude.{◌≡◌, ◌≤◌, ◌<◌, ◌+◌, ◌↔◌, ◌++◌, ◌∷◌, [], ℕ, List, IfOk, IsTrue, MatchBool, OnErr, length, take};
+
+use crate::reply::reply_to;
+use carry_matrix::Steps as Products;
+use edit_script::{Reply, write_reply};
+use edit_session::Session;
+use least_cost::Steps as Builds;
+use rhythm_base::{LONGEST_SCRIPT, LONGEST_SCRIPT_LINE, Tag};
+use rhythm_ports::{Gate, Partial, Sink};
+use std::alloc::{AllocError, Global};
+use std::marker::Model;
+use std::thread::Threads;
+
+/// What the products of a script are counted for.
+#[derive(Clone, Copy)]
+struct InScript;
+
+impl Tag for InScript {}
+
+/// A session, the line that was begun, and how many bytes of the script were read.
+#[derive(Drop)]
+pub struct Listener {
+    session: Session,
+    line: Vec<u8>,
+    read: u64,
+    products: Products<InScript>,
+}
+
+impl Model for Listener {
+    ghost use Rattle.std.specs.Coded.{codes};
+    ghost use Rattle.rhythm_base.specs.PerformanceCode.{performance_code};
+    ghost use Rattle.script_run.specs.Hearing.{Heard};
+
+    ghost Value = { Heard };
+
+    ghost coded = { Prim.hlevel (codes, performance_code) };
+
+    ghost use Rattle.rhythm_base.specs.declared.limits.TheConstants.{LONGEST_SCRIPT, LONGEST_SCRIPT_LINE};
+    ghost use Rattle.std.specs.Prelude.{◌≤◌, length, vec_capacity};
+
+    ghost view = { λ l. record {
+      grammar = l.session.grammar;
+      performance = l.session.performance;
+      begun = l.line.items;
+      read = l.read;
+    } };
+
+    ghost invariant = { λ l.
+        (length l.line.items ≤ LONGEST_SCRIPT_LINE) × (LONGEST_SCRIPT_LINE ≤ vec_capacity l.line) × (l.read ≤ LONGEST_SCRIPT) };
+}
+
+/// Whether the reply is that to a line that ends the script.
+fn is_bye(reply: &Reply) -> bool
+    ensures { IsTrue result ↔ (reply.now ≡ replies.Bye) }
+{
+    matches!(reply, Reply::Bye)
+}
+
+impl Listener {
+    /// Nothing was heard yet.
+    pub fn new(alloc: Global, session: Session) -> Result<Listener, AllocError>
+        ensures { IfOk result (λ l. l ≡ record { grammar = session.grammar; performance = session.performance; begun = []; read = 0 }) }
+    {
+        let line = Vec::with_capacity(alloc, LONGEST_SCRIPT_LINE as usize)?;
+        Ok(Listener {
+            session,
+            line,
+            read: 0,
+            products: Products::zero(),
+        })
+    }
+
+    /// Joins a byte to the line that was begun.
+    pub fn join(&mut self, byte: u8)
+        requires line { length self.old.begun < LONGEST_SCRIPT_LINE }
+        requires script { self.old.read < LONGEST_SCRIPT }
+        ensures { self.new ≡ record self.old { begun = self.old.begun ++ byte ∷ []; read = self.old.read + 1 } }
+    {
+        self.line.push_reserved(byte);
+        self.read += 1;
+    }
+
+    /// Answers the line that was begun, at its newline or at the end of the script, and forgets it. Says whether it is a line that
+    /// ends the script.
+    pub fn answer<R: Threads + Sync, O: Sink, G: Gate + Sync, B: Tag>(
+        &mut self,
+        rt: &R,
+        alloc: Global,
+        out: &mut O,
+        gate: &G,
+        builds: &mut Builds<B>,
+    ) -> Result<bool, Partial>
+        ensures same { (self.new.grammar ≡ self.old.grammar) × (self.new.read ≡ self.old.read) × (self.new.begun ≡ []) }
+        ensures ok { IfOk result (λ ends. (IsTrue ends ↔ Quits self.old.begun)
+            × ((reply : List ℕ) × (n : ℕ) × Replies self.old reply n self.new.performance
+            × Appends (O.taken out.old) (O.taken out.new) reply × (builds.new ≡ risen builds.old n))) }
+        ensures cut { OnErr result ((reply : List ℕ) × (n sent : ℕ) × Replies self.old reply n self.new.performance
+            × (sent < length reply) × Appends (O.taken out.old) (O.taken out.new) (take sent reply) × (builds.new ≡ risen builds.old n)) }
+        ensures cause { HasCause (O.faults out.old) (O.faults out.new) result }
+    {
+        let line = self.line.as_slice();
+        let products = &mut self.products;
+        let reply = reply_to(rt, alloc, &mut self.session, line, gate, builds, products);
+        self.line.clear();
+        match write_reply(out, &reply) {
+            Ok(()) => Ok(is_bye(&reply)),
+            Err(partial) => Err(partial),
+        }
+    }
+
+    /// Counts the newline of a line that was answered.
+    pub fn pass_newline(&mut self)
+        requires { self.old.read < LONGEST_SCRIPT }
+        ensures { self.new ≡ record self.old { read = self.old.read + 1 } }
+    {
+        self.read += 1;
+    }
+
+    /// Whether no line was begun.
+    pub fn has_no_line(&self) -> bool
+        ensures { IsTrue result ↔ (self.now.begun ≡ []) }
+    {
+        self.line.is_empty()
+    }
+
+    /// Whether so many bytes were read that one more is too many.
+    pub fn is_full(&self) -> bool
+        ensures { MatchBool result (self.now.read ≡ LONGEST_SCRIPT) (self.now.read < LONGEST_SCRIPT) }
+    {
+        self.read == LONGEST_SCRIPT
+    }
+
+    /// Whether the line that was begun is as long as a line may be.
+    pub fn has_long_line(&self) -> bool
+        ensures { MatchBool result (length self.now.begun ≡ LONGEST_SCRIPT_LINE) (length self.now.begun < LONGEST_SCRIPT_LINE) }
+    {
+        self.line.len() as u64 == LONGEST_SCRIPT_LINE
+    }
+}
