@@ -7,12 +7,15 @@ pub mod Tables
 pub mod Channels
 pub mod Voices
 pub mod PathCosts
+pub mod AskedBars
+pub mod AskedCells
 pub mod Faults
 pub mod PickedTrees
 pub mod LeastSounds
 pub mod CellPlaces
 pub mod OtherInputs
 pub mod ReachedVoices
+pub mod OtherVoices
 pub mod SuitingTables
 pub mod GrownVoices
 pub mod SomeChords

@@ -84,7 +84,7 @@ one_input g p channel bar k l h i =
     let same : h.cell_bar ≡ i.cell_bar = cc in
     h.is ∙ (λ m. input g (same m) (soundings (chords m))) ∙ sym i.is
 
-each_table : (g : Grammar) (cs : List Inner) (bars : List VoiceBar) (tables : List BarTable) (i : ℕ) (x : BarTable) (b : VoiceBar) → AreTables g cs bars tables
+pub each_table : (g : Grammar) (cs : List Inner) (bars : List VoiceBar) (tables : List BarTable) (i : ℕ) (x : BarTable) (b : VoiceBar) → AreTables g cs bars tables
     → slice_get tables i ≡ Some x → slice_get bars i ≡ Some b → IsTable g x × (x.input ≡ input g b cs)
 each_table g cs [] tables i x b h there bar = absurd (cc)
 each_table g cs (b₁ ∷ bars) [] i x b h there bar = absurd h

@@ -36,11 +36,14 @@ path_cheap c (x ∷ es) a (m ∷ p) k h e =
     let rest = path_cheap c es m p parts.1 h.1 parts.3 in
     omega (arith, low, rest, ap (λ (q : Key). q.0) parts.4, ap (λ (q : Key). q.0) best.2)
 
+pub least_cheap : (c : ℕ) (es : List CarryMatrix) (a b : ℕ) (k : Key) → AreCheap c es → least_key es a b ≡ Some k → k.0 ≤ length es * c
+least_cheap c es a b k h e =
+    let least = subst (IsLeastKey (IsPathKey es a b)) e (keys-least_path es a b) in
+    path_cheap c es a least.0.0 k h least.0.3
+
 key_cheap : (c : ℕ) (es : List CarryMatrix) (o : Option Key) → AreCheap c es → least_key es 0 0 ≡ o → unwrap_or (cost_of o) 0 ≤ length es * c
 key_cheap c es None h e = omega arith
-key_cheap c es (Some k) h e =
-    let least = subst (IsLeastKey (IsPathKey es 0 0)) e (keys-least_path es 0 0) in
-    path_cheap c es 0 least.0.0 k h least.0.3
+key_cheap c es (Some k) h e = least_cheap c es 0 0 k h e
 
 cheap : (g : Grammar) (cs : List Inner) (bars : List VoiceBar) (tables : List BarTable) → AreTables g cs bars tables → AreCheap DEAREST_CELL (matrices tables)
 cheap g cs [] [] h = tt

@@ -89,6 +89,26 @@ module _ (g : Grammar) (p q : Performance) where
               inr (sym same, omega (arith, low, inputs_long g q channel inputs of), (other_is_new g p q channel i inputs tables h of low).1 (subst (λ d. HasNewInput g p q d i) (sym same) u.1.2))
         ]
 
+    -- one voice more of which no cell is reached
+    pub voice_skipped : (n channel : ℕ) (cells : List (ℕ × ℕ)) (inputs : List BarInput) → n < length p.channels → get_or p.channels n channel ≡ channel
+        → ((i : ℕ) → IsReached g p q channel i → ⊥) → AreReachedUntil g p q n cells inputs → AreReachedUntil g p q (n + 1) cells inputs
+    voice_skipped n channel cells inputs lt at none before = record {
+      are = cells_same (Until n) (Until (n + 1)) cells (λ c i. (more c i, less c i)) before.are;
+      each = before.each;
+    }
+      where
+        one : take (n + 1) p.channels ≡ take n p.channels ++ channel ∷ []
+        one = take_more p.channels n channel lt ∙ ap (λ c. take n p.channels ++ c ∷ []) at
+
+        more : (c i : ℕ) → Until n c i → Until (n + 1) c i
+        more c i u = (subst (λ cs. Contains cs c) (sym one) (Contains-append_left (take n p.channels) (channel ∷ []) c u.0), u.1)
+
+        less : (c i : ℕ) → Until (n + 1) c i → Until n c i
+        less c i u = elim (Contains-push_cases (take n p.channels) channel c (subst (λ cs. Contains cs c) one u.0)) [
+          | inl before ↦ (before, u.1)
+          | inr same ↦ absurd (none i (subst (λ d. IsReached g p q d i) (sym same) u.1))
+        ]
+
     pub all_reached : (n : ℕ) (cells : List (ℕ × ℕ)) (inputs : List BarInput) → length p.channels ≤ n → AreReachedUntil g p q n cells inputs → AreReached g p q cells
     all_reached n cells inputs all h = record {
       in_order = h.are.in_order;

@@ -5,7 +5,9 @@ pub mod Inputs
 pub mod Kept
 pub mod LeastTrees
 pub mod Laws
+pub mod Asking
 pub mod Prepared
 pub mod PreparedCode
 pub mod ReachedCells
+pub mod ChangedVoices
 pub mod Exchange

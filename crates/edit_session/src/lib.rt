@@ -2,6 +2,8 @@
 //! score is at hand after each edit. All that a session answers is decided by its grammar and its performance.
 #![tactic(auto)]
 
+mod ask_fault;
+mod asking;
 mod committed;
 mod exchange;
 mod inputs;
@@ -18,6 +20,8 @@ mod score;
 mod session;
 mod voice_tables;
 
+pub use ask_fault::AskFault;
+pub use bar_alternatives::Alternative;
 pub use committed::{Applied, Committed, Dead};
 pub use kern_writer::ScoreFault;
 pub use laws::openings_are_one;

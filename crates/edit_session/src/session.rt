@@ -1,4 +1,5 @@
 ghost use Rattle.bar_pool.specs.declared.limits.TheConstants.{MOST_WORKERS};
+ghost use Rattle.edit_session.specs.Asking.{CanBePinned, IsAskFault};
 ghost use Rattle.edit_session.specs.Opening.{CanOpen, IsBuilt, IsOpenFault, cells_of};
 ghost use Rattle.edit_session.specs.declared.open_fault.OpenFault.TheVariants.{Cells, Memory, NoDerivation, NoStart};
 ghost use Rattle.kern_writer.specs.PerformanceScore.{HasTooLongText, IsTextOf};
@@ -6,7 +7,7 @@ ghost use Rattle.kern_writer.specs.declared.fault.ScoreFault.TheVariants.{TooLon
 ghost use Rattle.rhythm_base.specs.Counter.{risen};
 ghost use Rattle.rhythm_base.specs.Performance.{IsWellFormed};
 ghost use Rattle.rhythm_base.specs.Readable.{IsReadable};
-ghost use Rattle.rhythm_base.specs.Script.{IsOutcome, made, refused};
+ghost use Rattle.rhythm_base.specs.Script.{AreBestOfBar, IsOutcome, made, refused};
 ghost use Rattle.rhythm_base.specs.Voices.{HasDerivation, IsCostOf, IsDeadVoice};
 ghost use Rattle.rhythm_base.specs.declared.limits.TheConstants.{LONGEST_SCORE, MOST_BARS, MOST_CELLS, MOST_NOTES};
 ghost use Rattle.edit_session.specs.Prepared.{RisesBy, Suits};
@@ -15,8 +16,10 @@ ghost use Rattle.rhythm_base.specs.Reached.{AreReached, WouldReach};
 ghost use Rattle.rhythm_base.specs.Voices.{HasStarts};
 ghost use Rattle.rhythm_base.specs.declared.edit_fault.EditFault.TheVariants as faults;
 ghost use Rattle.rhythm_base.specs.declared.edit_fault.EditFault.{EditFault};
-ghost use Rattle.std.specs.Prelude.{◌≡◌, ◌≢◌, ◌≤◌, ◌<◌, ◌*◌, ◌^◌, ℕ, All, Err, IfErr, IfOk, List, Ok, OnErr, OnOk, length};
+ghost use Rattle.std.specs.Prelude.{◌≡◌, ◌≢◌, ◌≤◌, ◌<◌, ◌*◌, ◌^◌, ℕ, All, Err, IfErr, IfOk, List, None, Ok, OnErr, OnOk, length};
 
+use crate::ask_fault::AskFault;
+use crate::asking::{alternatives_of, place_of};
 use crate::committed::{Applied, Committed, Dead};
 use crate::exchange::{Exchanged, exchange};
 use crate::kept_voices::{first_dead_voice, reserve_all, total_of, voices_of};
@@ -27,6 +30,7 @@ use crate::preparing::{place_for, reached_tables};
 use crate::reached::reached_cells;
 use crate::score::whole_score;
 use crate::voice_tables::VoiceTables;
+use bar_alternatives::Alternative;
 use carry_matrix::Steps as Products;
 use kern_writer::{ScoreFault, write_kern};
 use least_cost::Steps as Builds;
@@ -124,6 +128,37 @@ impl Session {
         let voices = self.voices.as_slice();
         let score = whole_score(alloc, &self.grammar, &self.performance, voices)?;
         write_kern(alloc, &score)
+    }
+
+    /// The first `count` alternatives of a bar of a voice: the best trees of the bar, its pin lifted, each with the least cost of a
+    /// derivation of the voice that has it there. The bar can be pinned to each of them. At most `2 * d` products, where there are at
+    /// most `2 ^ d` bars.
+    pub fn alternatives<P: Tag>(
+        &self,
+        alloc: Global,
+        channel: u8,
+        bar: u32,
+        count: u32,
+        products: &mut Products<P>,
+    ) -> Result<Vec<Alternative>, AskFault>
+        ensures there { OnOk result (edits.first_refusal (edits.cell_tests self.now.performance channel bar) ≡ None) }
+        ensures best { IfOk result (λ list. AreBestOfBar self.now.grammar self.now.performance channel bar count list.items) }
+        ensures shapes { IfOk result (λ list. All CanBePinned list.items) }
+        ensures fault { IfErr result (IsAskFault self.now.performance channel bar) }
+        ensures products { (d : ℕ) → length self.now.performance.bars ≤ 2 ^ d → products.new ≤ risen products.old (2 * d) }
+        ensures rises { products.old ≤ products.new }
+    {
+        let Some(place) = place_of(self.performance.channels(), channel) else {
+            return Err(AskFault::NoVoice(channel));
+        };
+        let number = bar as usize;
+        if number >= self.performance.bars().len() {
+            return Err(AskFault::NoBar(bar));
+        }
+        let voices = self.voices.as_slice();
+        let grammar = &self.grammar;
+        let list = alternatives_of(alloc, grammar, &voices[place], number, count, products)?;
+        Ok(list)
     }
 
     /// The performance as edited so far.

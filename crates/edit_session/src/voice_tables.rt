@@ -1,4 +1,5 @@
 ghost use Rattle.rhythm_base.specs.declared.limits.TheConstants.{DEAREST_CELL, MOST_BARS};
+ghost use Rattle.bar_alternatives.specs.Laws.{costs_after, costs_before};
 ghost use Rattle.chain_bars.specs.Laws.{matrices};
 ghost use Rattle.chain_bars.specs.Walks.{AreCarries};
 ghost use Rattle.edit_session.specs.VoiceTables.{HasPath, HasTables, IsGrown, path_cost};
@@ -31,7 +32,7 @@ ghost use Rattle.std.specs.Prelude.{
 };
 
 use carry_matrix::{CarryMatrix, Steps};
-use chain_bars::Chain;
+use chain_bars::{Around, Chain};
 use least_cost::BarTable;
 use rhythm_base::Tag;
 use std::alloc::{AllocError, Global};
@@ -172,5 +173,17 @@ impl VoiceTables {
         ensures length { IfOk result (λ v. length v.items ≡ length self.now.tables + 1) }
     {
         self.chain.carries(alloc)
+    }
+
+    /// The least costs of the bars before a bar, and of those after it: at most `2 * d` products where there are at most `2 ^ d`
+    /// bars.
+    pub fn around<P: Tag>(&self, bar: usize, products: &mut Steps<P>) -> Around
+        requires { bar < length self.now.tables }
+        ensures before { result.before ≡ costs_before self.now.tables bar }
+        ensures after { result.after ≡ costs_after self.now.tables bar }
+        ensures products { (d : ℕ) → length self.now.tables ≤ 2 ^ d → products.new ≤ risen products.old (2 * d) }
+        ensures rises { products.old ≤ products.new }
+    {
+        self.chain.around(bar, products)
     }
 }
