@@ -4,6 +4,7 @@
 
 mod ask_fault;
 mod asking;
+mod changed_voice;
 mod committed;
 mod exchange;
 mod inputs;

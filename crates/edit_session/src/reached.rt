@@ -1,3 +1,4 @@
+ghost use Rattle.edit_session.specs.ChangedVoices.{KeepsOthers};
 ghost use Rattle.edit_session.specs.Inputs.{AreInputsOfVoice};
 ghost use Rattle.edit_session.specs.Kept.{AreTablesOfVoice};
 ghost use Rattle.edit_session.specs.ReachedCells.{AreOtherInputs, AreReachedInputs, HasOtherInput, place_pair};
@@ -9,6 +10,7 @@ ghost use Rattle.rhythm_base.specs.Voices.{HasStarts};
 ghost use Rattle.rhythm_base.specs.declared.limits.TheConstants.{MOST_BARS};
 ghost use Rattle.std.specs.Prelude.{◌≡◌, ◌↔◌, ◌<◌, ◌≤◌, IfOk, IsTrue, List, length, map, option_map};
 
+use crate::changed_voice::may_change;
 use crate::inputs::{tempo_map_of, voice_inputs};
 use crate::same_input::same_input;
 use crate::voice_tables::VoiceTables;
@@ -119,18 +121,21 @@ fn voice_reached(
     }
 }
 
-/// The cells that a change of the performance reaches, and their inputs.
+/// The cells that a change of the performance reaches, and their inputs. Chords and inputs are worked out of no voice but the
+/// one that may be changed, or of all.
 pub fn reached_cells(
     alloc: Global,
     grammar: &Grammar,
     before: &Performance,
     after: &Performance,
+    changed: Option<u8>,
     voices: &[VoiceTables],
 ) -> Result<ReachedCells, AllocError>
     requires readable { IsReadable grammar.now }
     requires formed { IsWellFormed before.now }
     requires formed_after { IsWellFormed after.now }
     requires channels { after.now.channels ≡ before.now.channels }
+    requires others { KeepsOthers changed before.now after.now }
     requires tables { Each (λ channel voice. AreTablesOfVoice grammar.now before.now channel voice.tables) before.now.channels voices.now }
     ensures { IfOk result (λ r. AreReachedInputs grammar.now before.now after.now r.cells.items r.inputs.items) }
 {
@@ -140,10 +145,12 @@ pub fn reached_cells(
     let mut inputs = Vec::new(alloc);
     'voices: for number in 0..voices.len() {
         let channel = channels[number];
-        let tables = voices[number].tables();
-        let mut own = voice_reached(alloc, grammar, after, &tempo_map, channel, tables)?;
-        cells.append(&mut own.cells)?;
-        inputs.append(&mut own.inputs)?;
+        if may_change(changed, channel) {
+            let tables = voices[number].tables();
+            let mut own = voice_reached(alloc, grammar, after, &tempo_map, channel, tables)?;
+            cells.append(&mut own.cells)?;
+            inputs.append(&mut own.inputs)?;
+        }
     }
     Ok(ReachedCells { cells, inputs })
 }

@@ -1,5 +1,6 @@
 ghost use Rattle.bar_pool.specs.declared.limits.TheConstants.{MOST_WORKERS};
 ghost use Rattle.edit_session.specs.Asking.{CanBePinned, IsAskFault};
+ghost use Rattle.edit_session.specs.ChangedVoices.{KeepsOthers};
 ghost use Rattle.edit_session.specs.Opening.{CanOpen, IsBuilt, IsOpenFault, cells_of};
 ghost use Rattle.edit_session.specs.declared.open_fault.OpenFault.TheVariants.{Cells, Memory, NoDerivation, NoStart};
 ghost use Rattle.kern_writer.specs.PerformanceScore.{HasTooLongText, IsTextOf};
@@ -20,6 +21,7 @@ ghost use Rattle.std.specs.Prelude.{◌≡◌, ◌≢◌, ◌≤◌, ◌<◌, �
 
 use crate::ask_fault::AskFault;
 use crate::asking::{alternatives_of, place_of};
+use crate::changed_voice::changed_channel;
 use crate::committed::{Applied, Committed, Dead};
 use crate::exchange::{Exchanged, exchange};
 use crate::kept_voices::{first_dead_voice, reserve_all, total_of, voices_of};
@@ -187,11 +189,13 @@ impl Session {
         rt: &R,
         alloc: Global,
         next: Performance,
+        changed: Option<u8>,
         gate: &G,
         builds: &mut Builds<B>,
     ) -> Result<Prepared, AllocError>
         requires formed { IsWellFormed next }
         requires channels { next.channels ≡ self.now.performance.channels }
+        requires others { KeepsOthers changed self.now.performance next }
         requires starts { HasStarts self.now.grammar next.bars }
         requires few_cells { cells_of next ≤ MOST_CELLS }
         requires few_notes { length next.notes ≤ MOST_NOTES }
@@ -202,8 +206,9 @@ impl Session {
         ensures rises { builds.old ≤ builds.new }
     {
         let voices = self.voices.as_slice();
-        let reached = reached_cells(alloc, &self.grammar, &self.performance, &next, voices)?;
         let grammar = &self.grammar;
+        let before = &self.performance;
+        let reached = reached_cells(alloc, grammar, before, &next, changed, voices)?;
         let tables = reached_tables(rt, alloc, grammar, &reached, self.workers, gate, builds)?;
         let bars = self.performance.bars().len();
         let lost = bars.saturating_sub(next.bars().len());
@@ -232,10 +237,13 @@ impl Session {
     {
         match edited(alloc, &self.performance, edit) {
             Err(fault) => Err(fault),
-            Ok(next) => match self.prepare_next(rt, alloc, next, gate, builds) {
-                Ok(prepared) => Ok(prepared),
-                Err(_error) => Err(EditFault::Memory),
-            },
+            Ok(next) => {
+                let changed = changed_channel(edit);
+                match self.prepare_next(rt, alloc, next, changed, gate, builds) {
+                    Ok(prepared) => Ok(prepared),
+                    Err(_error) => Err(EditFault::Memory),
+                }
+            }
         }
     }
 

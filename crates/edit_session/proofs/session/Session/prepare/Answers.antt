@@ -1,10 +1,12 @@
-use Rattle.std.proofs.Common.{◌≡◌, [], Ok, subst}
-use Rattle.std.specs.Prelude.{MatchResult}
+use Rattle.std.proofs.Common.{◌≡◌, ℕ, [], Ok, subst, sym}
+use Rattle.std.specs.Prelude.{MatchResult, Option}
 use Rattle.edit_laws.proofs.EditedCounts.{edited_cells, edited_notes, edited_starts}
 use Rattle.rhythm_base.specs.Edits.{edited}
 use Rattle.rhythm_base.specs.Reached.{AreReached}
 use Rattle.rhythm_base.specs.Voices.{HasStarts}
+use Rattle.edit_session.specs.ChangedVoices.{KeepsOthers, changed_channel}
 use Rattle.edit_session.specs.Session.{Session}
+use Rattle.edit_session.proofs.OtherVoices.{edited_keeps}
 use Rattle.edit_session.proofs.session.Session.prepare.Goals as goal
 
 pub prepare_next-requires-clause-starts : goal.prepare_next-requires-clause-starts
@@ -24,3 +26,9 @@ returns-in-Ok-prepare_next-clause-most g c =
     let made : edited s.performance c.args.edit.now ≡ Ok c.in-Ok.next = subst (λ (t : Session). edited t.performance c.args.edit.now ≡ Ok c.in-Ok.next) c.self.view_is c.in-Ok.ensures.ok in
     let most = c.prepare_next.ensures.most in
     (most.0, most.1, λ cells h. most.2 cells (subst (λ r. MatchResult r (λ q. AreReached s.grammar s.performance q cells) (λ fault. cells ≡ [])) made h))
+
+pub prepare_next-requires-clause-others : goal.prepare_next-requires-clause-others
+prepare_next-requires-clause-others g c κs within =
+    let kept = edited_keeps c.self.inside.performance c.in-Ok.next c.args.edit.now c.self.invariant.formed c.in-Ok.ensures.ok in
+    subst (λ (changed : Option ℕ). KeepsOthers changed c.args.self.now.performance c.in-Ok.next) (sym c.changed_channel-changed.ensures)
+    (subst (λ (s : Session). KeepsOthers (changed_channel c.args.edit.now) s.performance c.in-Ok.next) c.self.view_is kept)
