@@ -7,9 +7,10 @@ use Rattle.std.proofs.lemmas.Bool.Decides.{nat_tests}
 use Rattle.std.proofs.lemmas.List.Elements.{All-append}
 use Rattle.rhythm_base.specs.Grammar.{Grammar}
 use Rattle.rhythm_base.specs.Performance.{Performance}
+use Rattle.rhythm_base.specs.Script.{Step}
 use Rattle.rhythm_base.specs.ScriptLines.{between_newlines, open_line, script_lines}
 use Rattle.rhythm_base.specs.declared.limits.TheConstants.{LONGEST_SCRIPT, LONGEST_SCRIPT_LINE}
-use Rattle.script_run.specs.Answers.{AreAnswers, IsBuiltFor, Editing, IsAnswer, IsReply, Quits, begun_on}
+use Rattle.script_run.specs.Answers.{AreAnswers, IsBuiltFor, Editing, IsAnswer, IsScore, Quits, begun_on}
 use Rattle.script_run.specs.Bytes.{IsWithinLimits, begun_line, whole_lines}
 use Rattle.script_run.specs.Ends.{AreAnswered, IsBroken, IsCut, IsOverLimit, IsOverLine, IsOverScript, IsQuit, IsReadOut, IsStopped}
 use Rattle.script_run.specs.Hearing.{Closes, Heard, Hears, HearsAll, HearsUpTo, IsCutThere, IsLineTooLongThere, IsTooLongThere, QuitsThere, Replies, StopsThere}
@@ -58,7 +59,7 @@ module _ (g : Grammar) (p : Performance) where
   answer_of : (bytes replies : List ℕ) (n : ℕ) (h : Heard) → IsAt g p bytes replies n h → (reply : List ℕ) (k : ℕ) (next : Performance) → Replies h reply k next
       → IsAnswer g (edited_to h.performance n) h.begun reply (edited_to next (n + k))
   answer_of bytes replies n h at reply k next said =
-      let P : Grammar → Type 0 = λ x. IsReply x h.performance h.begun reply next in
+      let P : Grammar → Type 0 = λ x. Step (IsScore x) x h.performance h.begun reply next in
       let B : Grammar → Type 0 = λ x. IsBuiltFor x h.performance h.begun reply k in
       (subst P at.grammar said.0, (k, subst B at.grammar said.1, refl))
 

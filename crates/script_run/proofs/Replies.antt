@@ -1,5 +1,5 @@
 -- What the replies to lines say.
-use Rattle.std.proofs.Common.{◌≡◌, ◌≢◌, ℕ, arith, inl, inr, List, [], ◌∷◌, refl, sym, ap, subst, ◌∙◌, codes, get_or}
+use Rattle.std.proofs.Common.{◌≡◌, ◌≢◌, ℕ, arith, inl, inr, List, [], ◌∷◌, refl, subst, codes}
 use Rattle.std.specs.Prelude.{IsTrue, nat_eq}
 use Rattle.std.specs.List.{starts_with}
 use Rattle.edit_script.specs.declared.reply.Refusal.TheVariants as refusals
@@ -8,14 +8,14 @@ use Rattle.rhythm_base.proofs.CommandWords.{one_command}
 use Rattle.rhythm_base.specs.Grammar.{Grammar}
 use Rattle.rhythm_base.specs.Performance.{Performance}
 use Rattle.rhythm_base.specs.Replies.{bad_line_text, bye_text, done_text, refused_text}
-use Rattle.rhythm_base.specs.Script.{IsOutcome, made, refused}
-use Rattle.rhythm_base.specs.ScriptLines.{Are, ArePinWords, BeginsPin, Is, SaysCommand, SaysNothing, IsBarWord, IsChannelWord, IsCountWord, script_words}
+use Rattle.rhythm_base.specs.Script.{IsOutcome, Step, made, refused}
+use Rattle.rhythm_base.specs.ScriptLines.{Are, ArePinWords, BeginsPin, Is, SaysCommand, SaysNothing, script_words}
 use Rattle.rhythm_base.specs.declared.command.Command.{Command}
 use Rattle.rhythm_base.specs.declared.command.Command.TheVariants.{Change, Score, Alternatives, Quit}
 use Rattle.rhythm_base.specs.declared.edit.Edit.{Edit}
 use Rattle.rhythm_base.specs.declared.edit_fault.EditFault.{EditFault}
 use Rattle.rhythm_base.specs.declared.edit_fault.EditFault.TheVariants.{NoVoice, NoBar, BadSpan, NoNote, SameNote, PastEnd, BarlineOrder, NoteOutside, NotEmpty, OneBar, Limit, NoDerivation, Memory}
-use Rattle.script_run.specs.Answers.{AsksForAlternatives, IsBuiltFor, IsBuiltForEdit, IsReply, Quits}
+use Rattle.script_run.specs.Answers.{IsBuiltFor, IsBuiltForEdit, IsScore, Quits}
 use Rattle.script_run.specs.Hearing.{MayAnswer}
 
 module _ (g : Grammar) (p : Performance) where
@@ -41,32 +41,30 @@ module _ (g : Grammar) (p : Performance) where
 
   -- ---- lines
 
-  -- a line that says another command does not ask for alternatives
-  asks_not : (line : List ℕ) (command : Command) → SaysCommand line command → ((channel bar count : ℕ) → command ≢ Alternatives channel bar count)
-      → AsksForAlternatives line → ⊥
-  asks_not line command says other (channel, bar, count, asks) = other channel bar count (one_command line command (Alternatives channel bar count) says asks)
-
-  command_replies : (line : List ℕ) (command : Command) (reply : List ℕ) (next : Performance) → SaysCommand line command
-      → ((channel bar count : ℕ) → command ≢ Alternatives channel bar count) → command ≢ Quit → MayAnswer g p command reply next → IsReply g p line reply next
-  command_replies line command reply next says other goes (inl answers) = inl (asks_not line command says other, inl (command, says, answers))
-  command_replies line command reply next says other goes (inr (text, same)) =
-      inl (asks_not line command says other, inr (inr (inr (command, says, goes), text, same)))
+  command_replies : (line : List ℕ) (command : Command) (reply : List ℕ) (next : Performance) → SaysCommand line command → command ≢ Quit → MayAnswer g p command reply next
+      → Step (IsScore g) g p line reply next
+  command_replies line command reply next says goes (inl answers) = inl (command, says, answers)
+  command_replies line command reply next says goes (inr (text, same)) = inr (inr (inr (command, says, goes), text, same))
 
   pub change_replies : (line : List ℕ) (edit : Edit) (reply : List ℕ) (next : Performance) → SaysCommand line (Change edit)
-      → MayAnswer g p (Change edit) reply next → IsReply g p line reply next
-  change_replies line edit reply next says h = command_replies line (Change edit) reply next says (λ channel bar count e. cc) (λ e. cc) h
+      → MayAnswer g p (Change edit) reply next → Step (IsScore g) g p line reply next
+  change_replies line edit reply next says h = command_replies line (Change edit) reply next says (λ e. cc) h
 
-  pub score_replies : (line : List ℕ) (reply : List ℕ) → SaysCommand line Score → MayAnswer g p Score reply p → IsReply g p line reply p
-  score_replies line reply says h = command_replies line Score reply p says (λ channel bar count e. cc) (λ e. cc) h
+  pub score_replies : (line : List ℕ) (reply : List ℕ) → SaysCommand line Score → MayAnswer g p Score reply p → Step (IsScore g) g p line reply p
+  score_replies line reply says h = command_replies line Score reply p says (λ e. cc) h
 
-  pub quit_replies : (line : List ℕ) → SaysCommand line Quit → IsReply g p line bye_text p
-  quit_replies line says = inl (asks_not line Quit says (λ channel bar count e. cc), inl (Quit, says, (refl, refl)))
+  pub alternatives_replies : (line : List ℕ) (channel bar count : ℕ) (reply : List ℕ) → SaysCommand line (Alternatives channel bar count)
+      → MayAnswer g p (Alternatives channel bar count) reply p → Step (IsScore g) g p line reply p
+  alternatives_replies line channel bar count reply says h = command_replies line (Alternatives channel bar count) reply p says (λ e. cc) h
 
-  pub nothing_replies : (line : List ℕ) → SaysNothing line → IsReply g p line bad_line_text p
-  nothing_replies line none = inl ((λ asks. none (Alternatives asks.0 asks.1 asks.2) asks.3), inr (inl (none, refl, refl)))
+  pub quit_replies : (line : List ℕ) → SaysCommand line Quit → Step (IsScore g) g p line bye_text p
+  quit_replies line says = inl (Quit, says, (refl, refl))
 
-  pub alternatives_replies : (line : List ℕ) (channel bar count : ℕ) → SaysCommand line (Alternatives channel bar count) → IsReply g p line bad_line_text p
-  alternatives_replies line channel bar count says = inr ((channel, bar, count, says), refl, refl)
+  pub nothing_replies : (line : List ℕ) → SaysNothing line → Step (IsScore g) g p line bad_line_text p
+  nothing_replies line none = inr (inl (none, refl, refl))
+
+  pub memory_replies : (line : List ℕ) → IsTrue (starts_with nat_eq line (codes "pin ")) → Step (IsScore g) g p line (refused_text Memory) p
+  memory_replies line begins = inr (inr (inl begins, refl, refl))
 
   -- ---- builds
 
@@ -96,23 +94,6 @@ module _ (g : Grammar) (p : Performance) where
 
   pub memory_builds : (line : List ℕ) → IsBuiltFor g p line (refused_text Memory) 0
   memory_builds line = record { edit = λ edit is. inr ((Memory, refl), λ cells would. omega arith); other = λ _. refl }
-
--- a line that begins with the words of a pin does not ask for alternatives
-pub pin_asks_not : (line : List ℕ) → BeginsPin line → AsksForAlternatives line → ⊥
-pin_asks_not line pin (channel, bar, count, asks) = go (script_words line) pin asks
-  where
-    go : (words : List (List ℕ)) → ArePinWords words
-        → Are (Is (codes "alt") ∷ IsChannelWord channel ∷ IsBarWord bar ∷ IsCountWord count ∷ []) words → ⊥
-    go [] pin asks = absurd pin
-    go (a ∷ []) pin asks = absurd pin
-    go (a ∷ b ∷ []) pin asks = absurd pin
-    go (a ∷ b ∷ c ∷ rest) pin asks =
-        let same : codes "pin" ≡ codes "alt" = sym pin.0 ∙ asks.0 in
-        let heads : get_or (codes "pin") 0 0 ≡ get_or (codes "alt") 0 0 = ap (λ l. get_or l 0 0) same in
-        omega (arith, heads)
-
-pub memory_replies : (g : Grammar) (p : Performance) (line : List ℕ) → BeginsPin line → IsTrue (starts_with nat_eq line (codes "pin ")) → IsReply g p line (refused_text Memory) p
-memory_replies g p line pin begins = inl (pin_asks_not line pin, inr (inr (inl begins, refl, refl)))
 
 -- a line that says no command, or another one, does not say `quit`
 pub quits_not : (line : List ℕ) (command : Command) → SaysCommand line command → command ≢ Quit → Quits line → ⊥

@@ -5,10 +5,10 @@ use Rattle.kern_writer.specs.PerformanceScore.{HasTooLongText, IsTextOf}
 use Rattle.rhythm_base.specs.Grammar.{Grammar}
 use Rattle.rhythm_base.specs.Performance.{Performance}
 use Rattle.rhythm_base.specs.Reached.{WouldReach}
-use Rattle.rhythm_base.specs.Replies.{bad_line_text, done_text, refused_text}
+use Rattle.rhythm_base.specs.Replies.{done_text, refused_text}
 use Rattle.rhythm_base.specs.Script.{Run, Step}
 use Rattle.rhythm_base.specs.ScriptLines.{SaysCommand}
-use Rattle.rhythm_base.specs.declared.command.Command.TheVariants.{Change, Alternatives, Quit}
+use Rattle.rhythm_base.specs.declared.command.Command.TheVariants.{Change, Quit}
 use Rattle.rhythm_base.specs.declared.edit.Edit.{Edit}
 use Rattle.rhythm_base.specs.declared.edit_fault.EditFault.{EditFault}
 use Rattle.rhythm_base.specs.declared.limits.TheConstants.{LONGEST_SCORE}
@@ -17,15 +17,6 @@ use Rattle.rhythm_base.specs.declared.limits.TheConstants.{LONGEST_SCORE}
 abbrev pub IsScore : Grammar → Performance → Result (List ℕ) ℕ → Type 0
 IsScore g p (Ok text) = IsTextOf g p text × (length text ≤ LONGEST_SCORE)
 IsScore g p (Err line) = HasTooLongText g p line
-
-abbrev pub AsksForAlternatives : List ℕ → Type 0
-AsksForAlternatives line = (channel bar count : ℕ) × SaysCommand line (Alternatives channel bar count)
-
--- What a line may do. One that asks for alternatives is answered like one that says no command, since they are not given yet
-abbrev pub IsReply : Grammar → Performance → List ℕ → List ℕ → Performance → Type 0
-IsReply g p line reply next =
-    ((AsksForAlternatives line → ⊥) × Step (IsScore g) g p line reply next)
-    ⊎ (AsksForAlternatives line × (reply ≡ bad_line_text) × (next ≡ p))
 
 abbrev pub Quits : List ℕ → Type 0
 Quits line = SaysCommand line Quit
@@ -52,7 +43,7 @@ begun_on p = record { performance = p; built = 0 }
 -- what a line may do, with the cells that are built for it
 abbrev pub IsAnswer : Grammar → Editing → List ℕ → List ℕ → Editing → Type 0
 IsAnswer g old line reply new =
-    IsReply g old.performance line reply new.performance × ((n : ℕ) × IsBuiltFor g old.performance line reply n × (new.built ≡ old.built + n))
+    Step (IsScore g) g old.performance line reply new.performance × ((n : ℕ) × IsBuiltFor g old.performance line reply n × (new.built ≡ old.built + n))
 
 -- the replies to lines, up to one that says `quit`
 abbrev pub AreAnswers : Grammar → Editing → List (List ℕ) → List ℕ → Editing → Type 0

@@ -6,6 +6,7 @@ mod listener;
 mod reply;
 mod script;
 mod script_stop;
+mod shown;
 
 pub use script::{ONE_READ, run_script};
 pub use script_stop::ScriptStop;

@@ -2,14 +2,16 @@ ghost use Rattle.edit_script.specs.ReplyText.{reply_text};
 ghost use Rattle.edit_script.specs.declared.reply.Reply.TheVariants as replies;
 ghost use Rattle.rhythm_base.specs.Counter.{risen};
 ghost use Rattle.rhythm_base.specs.Edits.{IsEditInRange};
+ghost use Rattle.rhythm_base.specs.Script.{Step};
 ghost use Rattle.rhythm_base.specs.declared.command.Command.TheVariants as command;
-ghost use Rattle.script_run.specs.Answers.{IsBuiltFor, IsBuiltForEdit, IsReply, Quits};
+ghost use Rattle.script_run.specs.Answers.{IsBuiltFor, IsBuiltForEdit, IsScore, Quits};
 ghost use Rattle.script_run.specs.Hearing.{MayAnswer};
 ghost use Rattle.std.specs.Prelude.{◌≡◌, ◌≢◌, ◌↔◌, ℕ};
 
+use crate::shown::all_shown;
 use carry_matrix::Steps as Products;
 use edit_script::{LineFault, Refusal, Reply, read_line};
-use edit_session::{ScoreFault, Session};
+use edit_session::{AskFault, ScoreFault, Session};
 use least_cost::Steps as Builds;
 use rhythm_base::{Command, Edit, EditFault, Tag};
 use rhythm_ports::Gate;
@@ -53,6 +55,29 @@ fn score_reply(alloc: Global, session: &Session) -> Reply
     }
 }
 
+/// The reply to a line that asks for the alternatives of a bar of a voice.
+fn alternatives_reply<P: Tag>(
+    alloc: Global,
+    session: &Session,
+    channel: u8,
+    bar: u32,
+    count: u32,
+    products: &mut Products<P>,
+) -> Reply
+    ensures answer { MayAnswer session.now.grammar session.now.performance (command.Alternatives channel bar count) (reply_text result) session.now.performance }
+    ensures goes_on { result ≢ replies.Bye }
+{
+    match session.alternatives(alloc, channel, bar, count, products) {
+        Ok(list) => match all_shown(alloc, list.as_slice()) {
+            Ok(alts) => Reply::List(alts),
+            Err(_error) => Reply::Refused(Refusal::Edit(EditFault::Memory)),
+        },
+        Err(AskFault::NoVoice(voice)) => Reply::Refused(Refusal::Edit(EditFault::NoVoice(voice))),
+        Err(AskFault::NoBar(number)) => Reply::Refused(Refusal::Edit(EditFault::NoBar(number))),
+        Err(AskFault::Memory) => Reply::Refused(Refusal::Edit(EditFault::Memory)),
+    }
+}
+
 /// The reply to a line, which changes the session where the line says an edit that is accepted.
 pub fn reply_to<R: Threads + Sync, G: Gate + Sync, B: Tag, P: Tag>(
     rt: &R,
@@ -64,7 +89,7 @@ pub fn reply_to<R: Threads + Sync, G: Gate + Sync, B: Tag, P: Tag>(
     products: &mut Products<P>,
 ) -> Reply
     ensures grammar { session.new.grammar ≡ session.old.grammar }
-    ensures answer { IsReply session.old.grammar session.old.performance line.now (reply_text result) session.new.performance }
+    ensures answer { Step (IsScore session.old.grammar) session.old.grammar session.old.performance line.now (reply_text result) session.new.performance }
     ensures built { (n : ℕ) × IsBuiltFor session.old.grammar session.old.performance line.now (reply_text result) n × (builds.new ≡ risen builds.old n) }
     ensures ends { (result ≡ replies.Bye) ↔ Quits line.now }
 {
@@ -73,7 +98,13 @@ pub fn reply_to<R: Threads + Sync, G: Gate + Sync, B: Tag, P: Tag>(
             reply_to_edit(rt, alloc, session, &edit, gate, builds, products)
         }
         Ok(Command::Score) => score_reply(alloc, session),
-        Ok(Command::Alternatives { .. }) => Reply::Refused(Refusal::Line),
+        Ok(
+            Command::Alternatives {
+                channel,
+                bar,
+                count,
+            },
+        ) => alternatives_reply(alloc, session, channel, bar, count, products),
         Ok(Command::Quit) => Reply::Bye,
         Err(LineFault::BadLine) => Reply::Refused(Refusal::Line),
         Err(LineFault::Memory) => Reply::Refused(Refusal::Edit(EditFault::Memory)),

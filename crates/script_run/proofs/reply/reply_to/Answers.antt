@@ -33,7 +33,7 @@ returns-in-Ok-Score-clause-built g c =
 pub returns-in-Ok-Alternatives-clause-answer : goal.returns-in-Ok-Alternatives-clause-answer
 returns-in-Ok-Alternatives-clause-answer g c =
     let says = subst (SaysCommand c.args.line.now) c.in-Ok-Alternatives.field-0-is c.in-Ok-Alternatives.ensures.command in
-    alternatives_replies c.args.session.now.grammar c.args.session.now.performance c.args.line.now _ _ _ says
+    alternatives_replies c.args.session.now.grammar c.args.session.now.performance c.args.line.now _ _ _ (reply_text c.alternatives_reply.result) says c.alternatives_reply.ensures.answer
 
 pub returns-in-Ok-Alternatives-clause-built : goal.returns-in-Ok-Alternatives-clause-built
 returns-in-Ok-Alternatives-clause-built g c =
@@ -60,8 +60,7 @@ returns-in-Err-BadLine-clause-built g c =
 
 pub returns-in-Err-Memory-clause-answer : goal.returns-in-Err-Memory-clause-answer
 returns-in-Err-Memory-clause-answer g c =
-    memory_replies c.args.session.now.grammar c.args.session.now.performance c.args.line.now (c.in-Err-Memory.ensures.shape c.in-Err-Memory.field-0-is)
-    (c.in-Err-Memory.ensures.memory c.in-Err-Memory.field-0-is)
+    memory_replies c.args.session.now.grammar c.args.session.now.performance c.args.line.now (c.in-Err-Memory.ensures.memory c.in-Err-Memory.field-0-is)
 
 pub returns-in-Err-Memory-clause-built : goal.returns-in-Err-Memory-clause-built
 returns-in-Err-Memory-clause-built g c = (0, memory_builds c.args.session.now.grammar c.args.session.now.performance c.args.line.now, omega arith)
