@@ -1,18 +1,16 @@
 -- The best trees of a bar between the costs of the bars round it are the alternatives of the bar of the voice.
-use Rattle.std.proofs.Common.{◌≡◌, ℕ, zero, suc, ◌+◌, ◌*◌, ◌^◌, ◌<◌, ◌≤◌, true, List, [], ◌∷◌, length, get_or, take, drop, refl, sym, ap, ◌∙◌, subst, arith}
-use Rattle.std.specs.Prelude.{All, Option, Some, None, IsTrue, slice_get}
+use Rattle.std.proofs.Common.{◌≡◌, ℕ, zero, suc, ◌+◌, ◌*◌, ◌^◌, ◌<◌, ◌≤◌, true, List, [], ◌∷◌, length, get_or, take, drop, refl, subst, arith}
+use Rattle.std.specs.Prelude.{All, Option, Some, None, slice_get}
 use Rattle.std.proofs.Math.Nat.{mul-le-mul_right}
 use Rattle.std.proofs.lemmas.List.{length-drop, length-map, length-take}
-use Rattle.std.proofs.lemmas.Option.{slice_get-get_or}
 use Rattle.bar_alternatives.proofs.VoiceBars.{best_alternatives}
-use Rattle.bar_alternatives.specs.BestTrees.{AreBestTrees, AreSmall, cost_at, without_pin}
+use Rattle.bar_alternatives.specs.BestTrees.{AreBestTrees, AreSmall, without_pin}
 use Rattle.bar_alternatives.specs.Laws.{costs_after, costs_before}
-use Rattle.chain_bars.specs.Laws.{AreTables, matrices}
+use Rattle.chain_bars.specs.Laws.{matrices}
 use Rattle.chain_bars.specs.Tower.{cost_of}
 use Rattle.rhythm_base.specs.declared.limits.TheConstants.{DEAREST_CELL, MOST_BARS}
 use Rattle.rhythm_base.specs.BarInput.{BarInput}
 use Rattle.rhythm_base.specs.BarTables.{BarTable}
-use Rattle.rhythm_base.specs.Cells.{input}
 use Rattle.rhythm_base.specs.Forest.{Tree}
 use Rattle.rhythm_base.specs.Grammar.{Grammar}
 use Rattle.rhythm_base.specs.Leaves.{soundings}

@@ -1,5 +1,5 @@
 -- An edit of notes or pins leaves each voice but its own as it was, and so reaches no cell of it.
-use Rattle.std.proofs.Common.{◌≡◌, ℕ, suc, ◌<◌, ◌≤◌, Bool, true, false, not, ◌&&◌, ◌==◌, List, [], ◌∷◌, ◌++◌, length, get_or, refl, sym, ap, ◌∙◌, subst, inl, inr, arith, Ok}
+use Rattle.std.proofs.Common.{◌≡◌, ℕ, suc, Bool, true, false, not, ◌&&◌, ◌==◌, List, [], ◌∷◌, ◌++◌, length, get_or, refl, sym, ap, ◌∙◌, subst, inl, inr, arith, Ok}
 use Rattle.std.specs.Prelude.{All, filter, find, if◌then◌else◌, Option, Some, None, option_map, slice_get, unwrap_or, ◌-◌}
 use Rattle.std.specs.Cmp.Lexicographic.{slice_cmp}
 use Rattle.std.specs.Ordering.{nat_cmp, is_lt}
@@ -18,13 +18,11 @@ use Rattle.rhythm_base.specs.BarInput.{BarInput}
 use Rattle.rhythm_base.specs.Chords.{AreChords}
 use Rattle.rhythm_base.specs.Edits.{edited, edit_tests, first_refusal, is_note, moved_to, note_at, performance_after, put_moved, without_note}
 use Rattle.rhythm_base.specs.Grammar.{Grammar, root_of}
-use Rattle.rhythm_base.specs.Leaves.{VoiceBar}
 use Rattle.rhythm_base.specs.Lists.{AreInOrder, list_with}
 use Rattle.rhythm_base.specs.Performance.{IsWellFormed, Performance, place_of_note, place_of_pin}
 use Rattle.rhythm_base.specs.Pins.{is_pin, pin_of, without_pin}
 use Rattle.rhythm_base.specs.Reached.{HasNewInput, IsInputOf, IsReached}
-use Rattle.rhythm_base.specs.Shape.{Shape}
-use Rattle.rhythm_base.specs.Voices.{AreChordsOf, notes_of_voice, voice_bar, voice_bars, voice_bars_from}
+use Rattle.rhythm_base.specs.Voices.{AreChordsOf, notes_of_voice, voice_bars, voice_bars_from}
 use Rattle.rhythm_laws.proofs.OrderedLists.{goes_through, pairs_head, pairs_tail}
 use Rattle.edit_laws.proofs.Edited.{made}
 use Rattle.edit_session.specs.ChangedVoices.{IsVoiceKept, KeepsOthers, MayChange, changed_channel}

@@ -1,5 +1,5 @@
 -- By how much a counter rose.
-use Rattle.std.proofs.Common.{◌≡◌, ℕ, ◌-◌, ◌≤◌, arith, List, length, subst}
+use Rattle.std.proofs.Common.{◌≡◌, ℕ, ◌-◌, ◌≤◌, arith, List, length}
 use Rattle.edit_session.specs.Prepared.{RisesBy}
 use Rattle.rhythm_base.specs.Counter.{risen}
 

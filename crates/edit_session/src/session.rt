@@ -170,6 +170,7 @@ impl Session {
     {
         &self.performance
     }
+
     /// Takes memory, so that the session grows up to so many bars without taking more.
     pub fn reserve(&mut self, bars: u32) -> Result<(), AllocError>
         requires { bars ≤ MOST_BARS }

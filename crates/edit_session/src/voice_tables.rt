@@ -158,11 +158,14 @@ impl VoiceTables {
         self.chain.total()
     }
 
-    /// The first bar over whose table no path leads, where no path leads over them all.
+    /// The first bar over whose table no path leads, where no path leads over them all. Where one does no bar is looked at.
     pub fn first_dead(&self) -> Option<u32>
         ensures dead { IfSome result (λ bar. IsDeadCell (matrices self.now.tables) bar) }
         ensures none { IsNone result ↔ HasPath self.now }
     {
+        if self.chain.total().is_some() {
+            return None;
+        }
         self.chain.first_dead()
     }
 

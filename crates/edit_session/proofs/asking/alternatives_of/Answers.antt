@@ -1,6 +1,6 @@
 use Rattle.std.proofs.Common.{ℕ, ◌≡◌, ◌<◌, List, ap, get_or, length, refl, subst, sym, ◌∙◌}
 use Rattle.std.specs.Prelude.{Some, slice_get}
-use Rattle.std.proofs.lemmas.Option.{slice_get-get_or, slice_get_read}
+use Rattle.std.proofs.lemmas.Option.{slice_get_read}
 use Rattle.bar_alternatives.specs.BestTrees.{AreBestTrees, AreSmall, without_pin}
 use Rattle.bar_alternatives.specs.Laws.{costs_after, costs_before}
 use Rattle.rhythm_base.specs.BarInput.{BarInput}

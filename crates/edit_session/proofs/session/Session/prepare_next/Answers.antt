@@ -1,4 +1,4 @@
-use Rattle.std.proofs.Common.{rules, List, ℕ, ◌≡◌, ◌-◌, ◌≤◌, ◌∙◌, length, map, ap, sym, subst}
+use Rattle.std.proofs.Common.{rules, List, ℕ, ◌≡◌, ◌-◌, ◌∙◌, length, map, ap, sym, subst}
 use Rattle.std.specs.Prelude.{vec_capacity}
 use Rattle.rhythm_base.specs.Voices.{HasStarts}
 use Rattle.rhythm_base.specs.Counter.{risen}
