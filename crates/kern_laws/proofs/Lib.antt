@@ -1,3 +1,11 @@
 pub mod OneList
 pub mod Pitches
+pub mod TextRuns
+pub mod TextSplits
+pub mod TextTests
+pub mod TokenChords
+pub mod TokenKeys
+pub mod TokenNotes
+pub mod TokenPitches
+pub mod TokenValues
 pub mod Values
