@@ -7,5 +7,6 @@ pub mod TokenChords
 pub mod TokenKeys
 pub mod TokenNotes
 pub mod TokenPitches
+pub mod TokenStyles
 pub mod TokenValues
 pub mod Values

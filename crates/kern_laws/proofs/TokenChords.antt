@@ -7,14 +7,12 @@ use Rattle.std.proofs.lemmas.Bool.{and_from}
 use Rattle.std.proofs.lemmas.Bool.Decides.{nat_tests}
 use Rattle.derivation.specs.WellSounded.{AreKeys}
 use Rattle.kern_writer.specs.Tokens.{chord_text, rising_keys}
-use Rattle.kern_reader.specs.declared.token.Note.{Note}
-use Rattle.kern_reader.specs.declared.token.Style.{Style}
 use Rattle.kern_reader.specs.declared.token.Token.{Token}
 use Rattle.kern_reader.specs.Tokens.{◌>>=◌, all_notes, chord_of, chord_of_notes, chord_token, follows, keys_with, note_of, rise, same_style}
 use Rattle.kern_laws.proofs.TextSplits.{split_joined}
 use Rattle.kern_laws.proofs.TextTests.{all_joined, all_weaker, graphic_no_space, graphic_prints, is_graphic, is_printing, lacks}
 use Rattle.kern_laws.proofs.TokenKeys.{KeysRise, keys_rise, keys_set, or_none, set_with}
-use Rattle.kern_laws.proofs.TokenNotes.{note_at}
+use Rattle.kern_laws.proofs.TokenStyles.{Note, Style, note_at}
 
 -- each key's text is read as its note
 abbrev pub AreRead : Style → (ℕ → List ℕ) → Type 0

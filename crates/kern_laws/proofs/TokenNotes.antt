@@ -12,12 +12,8 @@ use Rattle.rhythm_base.specs.Spans.{is_rest, is_short, is_tie}
 use Rattle.durations.specs.declared.value.Value.{Value}
 use Rattle.kern_writer.specs.Tokens.{closing, goes_on, note_text, opening, short_mark, value_text}
 use Rattle.kern_writer.specs.Values.{VoiceValue}
-use Rattle.kern_reader.specs.declared.token.Note.{Note}
-use Rattle.kern_reader.specs.declared.token.Style.{Style}
-use Rattle.kern_reader.specs.declared.token.Style.TheVariants as style
 use Rattle.kern_reader.specs.declared.token.TieMark.{TieMark}
 use Rattle.kern_reader.specs.declared.token.TieMark.TheVariants.{Absent, GoesOn, Ends}
-use Rattle.kern_reader.specs.declared.token.Writing.{Writing}
 use Rattle.kern_reader.specs.Lines.{digit_first}
 use Rattle.kern_reader.specs.Tokens.{◌>>=◌, IsWellValue, after_value, is_pitch_byte, is_value_byte, key_of, marks_of, marks_part, note_of, pitch_part, value_of, value_part, valued_note}
 use Rattle.kern_laws.specs.ScoreLines.{tie_mark, writing_of}
@@ -25,6 +21,7 @@ use Rattle.kern_laws.proofs.Pitches.{pitches}
 use Rattle.kern_laws.proofs.TextRuns.{run_dropped, run_taken}
 use Rattle.kern_laws.proofs.TextTests.{all_append, is_graphic}
 use Rattle.kern_laws.proofs.TokenPitches.{pitch_begins, pitch_bytes, pitch_graphic, value_ends}
+use Rattle.kern_laws.proofs.TokenStyles.{Style, grace_style, note_at, valued_style}
 use Rattle.kern_laws.proofs.TokenValues.{value_begins, value_bytes, value_graphic}
 use Rattle.kern_laws.proofs.Values.{values}
 
@@ -75,30 +72,6 @@ short_begins v h = short_kind v.sound.kind v.first h
 
 -- ---- a note with a value
 
-abbrev valued : Bool → Option Value → Option ℕ → Option (TieMark × Bool) → Option Note
-valued opens value key marks =
-    value >>= λ v. key >>= λ k. marks >>= λ m. Some (record { style = style.Valued (record { value = v; opens = opens; tie = m.0; short = m.1 }); key = k })
-
-valued_parts : (opens : Bool) (text : List ℕ) → valued_note opens text ≡ valued opens (value_of (value_part text)) (key_of (pitch_part text)) (marks_of (marks_part text))
-unfolding valued_note
-valued_parts opens text = refl
-
-valued_read :
-    (opens : Bool) (value letters marks : List ℕ) (v : Value) (k : ℕ) (m : TieMark × Bool)
-    → list_all is_value_byte value ≡ true → prefix_len is_value_byte (letters ++ marks) ≡ 0 → list_all is_pitch_byte letters ≡ true → prefix_len is_pitch_byte marks ≡ 0
-    → value_of value ≡ Some v → key_of letters ≡ Some k → marks_of marks ≡ Some m
-    → valued_note opens (value ++ (letters ++ marks)) ≡ Some (record { style = style.Valued (record { value = v; opens = opens; tie = m.0; short = m.1 }); key = k })
-valued_read opens value letters marks v k m bytes ends pitched over read_value read_key read_marks =
-    let text = value ++ (letters ++ marks) in
-    let first : value_part text ≡ value = run_taken is_value_byte value (letters ++ marks) bytes ends in
-    let rest : after_value text ≡ letters ++ marks = run_dropped is_value_byte value (letters ++ marks) bytes ends in
-    let second : pitch_part text ≡ letters = ap (λ t. take_while is_pitch_byte t) rest ∙ run_taken is_pitch_byte letters marks pitched over in
-    let third : marks_part text ≡ marks = ap (λ t. drop (prefix_len is_pitch_byte t) t) rest ∙ run_dropped is_pitch_byte letters marks pitched over in
-    valued_parts opens text
-    ∙ ap (λ o. valued opens o (key_of (pitch_part text)) (marks_of (marks_part text))) (ap value_of first ∙ read_value)
-    ∙ ap (λ o. valued opens (Some v) o (marks_of (marks_part text))) (ap key_of second ∙ read_key)
-    ∙ ap (λ o. valued opens (Some v) (Some k) o) (ap marks_of third ∙ read_marks)
-
 -- a note of a value without a bracket before it
 abbrev pub plain_text : Bool → VoiceValue → Bool → ℕ → List ℕ
 plain_text flats v next key = value_text v.value ++ (pitch flats key ++ marks_text (goes_on v) next (is_marked_short v))
@@ -113,14 +86,25 @@ note_parts flats v next key =
     append_assoc ((front ++ value) ++ letters) (closing (goes_on v) next) (short_mark v) ∙ append_assoc (front ++ value) letters marks
     ∙ append_assoc front value (letters ++ marks)
 
-plain_read : (flats : Bool) (v : VoiceValue) (next : Bool) (key : ℕ) (opens : Bool) → IsWellValue v.value → key < 128
-    → valued_note opens (plain_text flats v next key)
-    ≡ Some (record { style = style.Valued (record { value = v.value; opens = opens; tie = tie_mark (goes_on v) next; short = is_marked_short v }); key = key })
-plain_read flats v next key opens well within =
-    valued_read opens (value_text v.value) (pitch flats key) (marks_text (goes_on v) next (is_marked_short v)) v.value key (tie_mark (goes_on v) next, is_marked_short v)
-    (value_bytes v.value) (value_ends (pitch flats key) (marks_text (goes_on v) next (is_marked_short v)) (pitch_begins flats key within))
-    (pitch_bytes flats key within) (marks_end (goes_on v) next (is_marked_short v))
-    (values v.value well) (pitches flats key within) (marks_read (goes_on v) next (is_marked_short v) (short_begins v))
+-- the style of its notes
+abbrev pub note_style : VoiceValue → Bool → Style
+note_style v next = (valued_style (writing_of v next)).0
+
+plain_read : (flats : Bool) (v : VoiceValue) (next : Bool) (key : ℕ) → IsWellValue v.value → key < 128
+    → valued_note (writing_of v next).opens (plain_text flats v next key) ≡ Some (note_at (note_style v next) key)
+plain_read flats v next key well within =
+    let text = plain_text flats v next key in
+    let value = value_text v.value in
+    let letters = pitch flats key in
+    let marks = marks_text (goes_on v) next (is_marked_short v) in
+    let ends = value_ends letters marks (pitch_begins flats key within) in
+    let over = marks_end (goes_on v) next (is_marked_short v) in
+    let first : value_part text ≡ value = run_taken is_value_byte value (letters ++ marks) (value_bytes v.value) ends in
+    let rest : after_value text ≡ letters ++ marks = run_dropped is_value_byte value (letters ++ marks) (value_bytes v.value) ends in
+    let second : pitch_part text ≡ letters = ap (λ t. take_while is_pitch_byte t) rest ∙ run_taken is_pitch_byte letters marks (pitch_bytes flats key within) over in
+    let third : marks_part text ≡ marks = ap (λ t. drop (prefix_len is_pitch_byte t) t) rest ∙ run_dropped is_pitch_byte letters marks (pitch_bytes flats key within) over in
+    (valued_style (writing_of v next)).1.read text key (ap value_of first ∙ values v.value well) (ap key_of second ∙ pitches flats key within)
+    (ap marks_of third ∙ marks_read (goes_on v) next (is_marked_short v) (short_begins v))
 
 -- a note that begins with a digit has no bracket
 unbracketed : (text : List ℕ) → digit_first text ≡ true → note_of text ≡ valued_note false text
@@ -135,23 +119,17 @@ pub first_append : (text more : List ℕ) → digit_first text ≡ true → digi
 first_append [] more h = cc
 first_append (b ∷ text) more h = h
 
-abbrev pub note_style : VoiceValue → Bool → Style
-note_style v next = style.Valued (writing_of v next)
-
-abbrev pub note_at : Style → ℕ → Note
-note_at s key = record { style = s; key = key }
+bracket_read : (flats : Bool) (v : VoiceValue) (next : Bool) (key : ℕ) (opens : Bool) → IsWellValue v.value
+    → note_of ((if opens then codes "[" else []) ++ plain_text flats v next key) ≡ valued_note opens (plain_text flats v next key)
+unfolding note_of
+bracket_read flats v next key true well = refl
+bracket_read flats v next key false well =
+    unbracketed (plain_text flats v next key) (first_append (value_text v.value) (pitch flats key ++ marks_text (goes_on v) next (is_marked_short v)) (value_begins v.value well))
 
 pub note_read : (flats : Bool) (v : VoiceValue) (next : Bool) (key : ℕ) → IsWellValue v.value → key < 128
     → note_of (note_text flats v next key) ≡ Some (note_at (note_style v next) key)
-unfolding note_of
-note_read flats v next key well within = ap note_of (note_parts flats v next key) ∙ at (not (goes_on v) && next)
-  where
-    at : (opens : Bool) → note_of ((if opens then codes "[" else []) ++ plain_text flats v next key)
-        ≡ Some (record { style = style.Valued (record { value = v.value; opens = opens; tie = tie_mark (goes_on v) next; short = is_marked_short v }); key = key })
-    at true = plain_read flats v next key true well within
-    at false =
-        unbracketed (plain_text flats v next key) (first_append (value_text v.value) (pitch flats key ++ marks_text (goes_on v) next (is_marked_short v)) (value_begins v.value well))
-        ∙ plain_read flats v next key false well within
+note_read flats v next key well within =
+    ap note_of (note_parts flats v next key) ∙ bracket_read flats v next key (not (goes_on v) && next) well ∙ plain_read flats v next key well within
 
 plain_graphic : (flats : Bool) (v : VoiceValue) (next : Bool) (key : ℕ) → key < 128 → list_all is_graphic (plain_text flats v next key) ≡ true
 plain_graphic flats v next key within =
@@ -173,9 +151,9 @@ note_graphic flats v next key within =
 abbrev pub grace_note_text : Bool → ℕ → List ℕ
 grace_note_text flats key = codes "q" ++ pitch flats key
 
-pub grace_read : (flats : Bool) (key : ℕ) → key < 128 → note_of (grace_note_text flats key) ≡ Some (note_at style.Grace key)
+pub grace_read : (flats : Bool) (key : ℕ) → key < 128 → note_of (grace_note_text flats key) ≡ Some (note_at grace_style.0 key)
 unfolding note_of
-grace_read flats key within = ap (λ o. option_map (λ k. record { style = style.Grace; key = k }) o) (pitches flats key within)
+grace_read flats key within = grace_style.1.read (pitch flats key) key (pitches flats key within)
 
 pub grace_graphic : (flats : Bool) (key : ℕ) → key < 128 → list_all is_graphic (grace_note_text flats key) ≡ true
 grace_graphic flats key within = pitch_graphic flats key within

@@ -1,8 +1,8 @@
 -- What the records of a score say, line by line: the tokens of each voice at each place. It is said as the records are, with a token
 -- in the place of each text.
-use Rattle.std.specs.Prelude.{◌≡◌, ◌↔◌, ℕ, ℤ, ◌-◌, ◌==◌, nat_lt, Bool, true, false, not, ◌&&◌, if◌then◌else◌, List, [], ◌∷◌, ◌++◌, find, fold, length, map, max, Contains, IsSome, slice_index_or, Option, Some, None, ⊤}
+use Rattle.std.specs.Prelude.{◌≡◌, ◌≢◌, ◌↔◌, ℕ, ℤ, ◌-◌, ◌==◌, nat_lt, Bool, true, false, not, ◌&&◌, if◌then◌else◌, List, [], ◌∷◌, ◌++◌, codes, find, fold, length, map, max, replicate, Contains, IsSome, slice_index_or, Option, Some, None, ⊤}
 use Rattle.std.proofs.Common.{suc, zero}
-use Rattle.std.specs.List.{flat_map}
+use Rattle.std.specs.List.{flat_map, join_with_byte}
 use Rattle.std.specs.List.Sorted.{IsStrictlyIncreasing}
 use Rattle.rhythm_base.specs.Lists.{Each}
 use Rattle.rhythm_base.specs.Spans.{is_rest, is_short}
@@ -11,17 +11,60 @@ use Rattle.kern_writer.specs.Changes.{key_before, key_change, signature_change, 
 use Rattle.kern_writer.specs.Score.{Score}
 use Rattle.kern_writer.specs.Tokens.{goes_on, next_goes_on}
 use Rattle.kern_writer.specs.Values.{AreVoiceValues, VoiceValue}
-use Rattle.kern_reader.specs.declared.line.KernLine.{KernLine}
-use Rattle.kern_reader.specs.declared.line.KernLine.TheVariants.{Heading, Signature, Other, Ending, Barline, LastBarline, Data}
-use Rattle.kern_reader.specs.declared.line.Stage.{Stage}
-use Rattle.kern_reader.specs.declared.line.Stage.TheVariants as stage
 use Rattle.kern_reader.specs.declared.token.TieMark.{TieMark}
 use Rattle.kern_reader.specs.declared.token.TieMark.TheVariants.{Absent, GoesOn, Ends}
 use Rattle.kern_reader.specs.declared.token.Token.{Token}
 use Rattle.kern_reader.specs.declared.token.Token.TheVariants as token
 use Rattle.kern_reader.specs.declared.token.Writing.{Writing}
-use Rattle.kern_reader.specs.Columns.{announced, columns_of, current_bar, grid_of, spines_of, stage_of}
+use Rattle.kern_reader.specs.declared.token.TimeSignature.{TimeSignature}
+use Rattle.kern_reader.specs.Columns.{announced, columns_of, current_bar, grid_of, spines_of, stage_after, stage_of}
 use Rattle.kern_reader.specs.Faults.{first_fault, is_head_stage, said_tests}
+use Rattle.kern_reader.specs.Lines.{barline, data_line, interpretation, line_of, signature_line}
+
+-- ---- what the reader's lines are called here, each by what says it
+
+abbrev type_of : {X : Type 0} → X → Type 0
+type_of {X} x = X
+
+abbrev pub KernLine : Type 0
+KernLine = type_of (data_line None)
+
+abbrev pub Heading : ℕ → KernLine
+Heading n = line_of (join_with_byte 9 (replicate n (codes "**kern")))
+
+abbrev pub Signature : TimeSignature → KernLine
+Signature signature = signature_line (Some signature)
+
+abbrev pub Other : KernLine
+Other = interpretation [] []
+
+abbrev pub Ending : KernLine
+Ending = line_of (codes "*-")
+
+abbrev pub Barline : KernLine
+Barline = barline (codes "=") []
+
+abbrev pub LastBarline : KernLine
+LastBarline = barline (codes "==") []
+
+abbrev pub Data : List Token → KernLine
+Data tokens = data_line (Some tokens)
+
+-- how far a text has come: nowhere, past its head, past its last barline, and past its end
+abbrev pub Stage : Type 0
+Stage = type_of (stage_of [])
+
+abbrev pub Head : Stage
+Head = stage_of []
+
+abbrev pub Body : Stage
+Body = stage_after Other
+
+abbrev pub Last : Stage
+Last = stage_after LastBarline
+
+abbrev pub Over : Stage
+Over = stage_after Ending
 
 -- ---- tokens
 
@@ -139,22 +182,18 @@ pub record AreScoreLines (s : Score) (lines : List KernLine) : Type 0 where
 
 -- ---- lines in which the reader finds no fault
 
--- the head stands first, the end after the last barline, and nothing after the end
-abbrev pub HasTurn : Stage → KernLine → Type 0
-HasTurn stage.Head (Heading spines) = ⊤
-HasTurn stage.Head _ = ⊥
-HasTurn stage.Body (Heading spines) = ⊥
-HasTurn stage.Body Ending = ⊥
-HasTurn stage.Body _ = ⊤
-HasTurn stage.Last Ending = ⊤
-HasTurn stage.Last _ = ⊥
-HasTurn stage.Over _ = ⊥
+-- the head stands first, the end after the last barline and nowhere before it, and nothing after the end
+pub record HasTurn (at : Stage) (line : KernLine) : Type 0 where
+  pub head : at ≡ Head → (n : ℕ) × (line ≡ Heading n)
+  pub body : at ≡ Body → line ≢ Ending
+  pub last : at ≡ Last → line ≡ Ending
+  pub over : at ≢ Over
 
--- after those before them, last first, each line stands in its turn and has no fault in n spines, and the last one ends the score
+-- After those before them, last first, no line has a fault of what it says, up to the end of all spines; and after the head
+-- there are n spines
 abbrev pub StandFrom : ℕ → List KernLine → List KernLine → Type 0
-StandFrom n before [] = stage_of before ≡ stage.Over
+StandFrom n before [] = stage_of before ≡ Over
 StandFrom n before (line ∷ lines) =
-    HasTurn (stage_of before) line
-    × (is_head_stage (stage_of before) ≡ false → length (columns_of before) ≡ n)
+    HasTurn (stage_of before) line × (is_head_stage (stage_of before) ≡ false → length (columns_of before) ≡ n)
     × (first_fault (said_tests (stage_of before) (grid_of before) (current_bar before) (announced before) (spines_of before) line) ≡ None)
     × StandFrom n (line ∷ before) lines
