@@ -1,5 +1,6 @@
 pub mod OneList
 pub mod Pitches
+pub mod RecordsLines
 pub mod TextRuns
 pub mod TextSplits
 pub mod TextTests
@@ -8,5 +9,7 @@ pub mod TokenKeys
 pub mod TokenNotes
 pub mod TokenPitches
 pub mod TokenStyles
+pub mod TokenTexts
 pub mod TokenValues
 pub mod Values
+pub mod WordsSay
