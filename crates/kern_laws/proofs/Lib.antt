@@ -1,6 +1,7 @@
 pub mod OneList
 pub mod Pitches
 pub mod RecordsLines
+pub mod RecordsVoices
 pub mod TextRuns
 pub mod TextSplits
 pub mod TextTests
