@@ -1,6 +1,8 @@
 pub mod OneList
 pub mod Pitches
 pub mod RecordsLines
+pub mod RecordsPairs
+pub mod RecordsPlaces
 pub mod RecordsVoices
 pub mod TextRuns
 pub mod TextSplits
