@@ -1,8 +1,11 @@
 pub mod OneList
 pub mod Pitches
+pub mod ReadBackTexts
+pub mod RecordsBars
 pub mod RecordsLines
 pub mod RecordsPairs
 pub mod RecordsPlaces
+pub mod RecordsSay
 pub mod RecordsVoices
 pub mod TextRuns
 pub mod TextSplits
