@@ -1,16 +1,13 @@
 -- A text of a score is read where the lines that its records say stand one after another.
-use Rattle.std.proofs.Common.{◌≡◌, ℕ, zero, suc, ◌+◌, ◌≤◌, ◌==◌, ◌&&◌, Bool, true, false, not, List, [], ◌∷◌, ◌++◌, length, map, reverse, append_assoc, append-nil, refl, sym, ap, ◌∙◌, subst, arith}
-use Rattle.std.specs.Prelude.{Ok, Result, Some, None, codes, if◌then◌else◌, nat_le}
-use Rattle.std.specs.List.{list_all}
+use Rattle.std.proofs.Common.{◌≡◌, ℕ, suc, ◌+◌, ◌≤◌, ◌==◌, ◌&&◌, true, false, not, List, [], ◌∷◌, ◌++◌, length, map, reverse, append_assoc, append-nil, refl, sym, ap, ◌∙◌, subst, arith}
+use Rattle.std.specs.Prelude.{Ok, None, codes, nat_le}
 use Rattle.std.proofs.lemmas.Bool.{and_from, and_right, le-leb, not_from_true}
 use Rattle.std.proofs.lemmas.Bool.Decides.{nat_tests}
 use Rattle.std.proofs.lemmas.List.{reverse-append}
 use Rattle.rhythm_base.specs.Lists.{Each}
-use Rattle.kern_writer.specs.Records.{AreRecords, Record, alike, head, tail}
+use Rattle.kern_writer.specs.Records.{Record, alike, head, tail}
 use Rattle.kern_writer.specs.Score.{IsScore, Score}
 use Rattle.kern_writer.specs.Text.{IsScoreText, records_text}
-use Rattle.kern_reader.specs.declared.fault.KernFault.{KernFault}
-use Rattle.kern_reader.specs.declared.fault.KernWhat.{KernWhat}
 use Rattle.kern_reader.specs.Columns.{announced, columns_of, current_bar, grid_of, spines_of, stage_after, stage_of}
 use Rattle.kern_reader.specs.Faults.{first_fault, has_no_head, has_wrong_width, is_head_stage, is_out_of_turn, line_fault, said_tests}
 use Rattle.kern_reader.specs.Lines.{is_ending, is_heading, line_of}
@@ -20,7 +17,7 @@ use Rattle.kern_reader.proofs.TextLemmas.{read_next}
 use Rattle.kern_laws.specs.ScoreLines.{AreScoreLines, Body, Ending, Head, Heading, KernLine, Last, LastBarline, Stage, StandFrom}
 use Rattle.kern_laws.proofs.RecordsLines.{SaysInside, SaysLine, row_text}
 use Rattle.kern_laws.proofs.RecordsSay.{SayScore, records_apart, score_rows}
-use Rattle.kern_laws.proofs.TextSplits.{in_line, lines_of_records}
+use Rattle.kern_laws.proofs.TextSplits.{lines_of_records}
 use Rattle.kern_laws.proofs.WordsSay.{end_ending, end_says, head_heading, head_says, last_ending, last_says}
 
 -- ---- the tests of a line by its text

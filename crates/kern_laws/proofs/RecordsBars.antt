@@ -1,5 +1,5 @@
 -- What the records of the bars say.
-use Rattle.std.proofs.Common.{◌≡◌, ℕ, ℤ, zero, suc, Bool, true, false, List, [], ◌∷◌, ◌++◌, length, map, refl, sym, ap, ◌∙◌, subst}
+use Rattle.std.proofs.Common.{◌≡◌, ℕ, ℤ, suc, Bool, true, false, List, [], ◌∷◌, ◌++◌, length, map, refl, sym, ap, ◌∙◌, subst}
 use Rattle.std.specs.Prelude.{All, Option, Some, None, if◌then◌else◌, slice_index_or}
 use Rattle.std.specs.List.{flat_map}
 use Rattle.std.proofs.lemmas.List.{length-map, map-append}
@@ -65,9 +65,11 @@ bar_said m n before bar tokens saids records well h count (places, are, is) =
     each_append (SaysInside (suc m)) (map (alike (suc m)) (changes before bar)) (barline_record (suc m) n ∷ data_rows) (change_lines before bar) (Barline ∷ data_lines)
     (changes_say m before bar well) (barline_says m n, placed) in
     let rows : records ≡ map (alike (suc m)) (changes before bar) ++ barline_record (suc m) n ∷ data_rows =
-    is ∙ ap (λ k. map (alike k) (changes before bar) ++ barline_record k n ∷ data_rows) count in
-    (change_lines before bar ++ Barline ∷ data_lines, (places, same_places tokens saids places h are, refl),
-    subst (λ rs. Each (SaysInside (suc m)) rs (change_lines before bar ++ Barline ∷ data_lines)) (sym rows) all)
+    is ∙ ap (λ k. map (alike k) (changes before bar) ++ barline_record k n ∷ data_rows) count in (
+      change_lines before bar ++ Barline ∷ data_lines,
+      (places, same_places tokens saids places h are, refl),
+      subst (λ rs. Each (SaysInside (suc m)) rs (change_lines before bar ++ Barline ∷ data_lines)) (sym rows) all,
+    )
 
 -- ---- all bars
 
@@ -83,6 +85,8 @@ bars_say m n before [] tokens saids records well h count are = ([], refl, subst 
 bars_say m n before (bar ∷ bars) tokens saids records well h count (own, others, are_own, are_others, is) =
     let first = bar_said m n before bar (tokens_in_bar n tokens) (said_in_bar n saids) own (All-head IsScoreBar bar bars well) (bar_of_voices n tokens saids h)
     (length-map tokens (λ bars. slice_index_or bars n []) ∙ count) are_own in
-    let rest = bars_say m (suc n) (Some bar) bars tokens saids others (All-tail IsScoreBar bar bars well) h count are_others in
-    (first.0 ++ rest.0, (first.0, rest.0, first.1, rest.1, refl),
-    subst (λ rs. Each (SaysInside (suc m)) rs (first.0 ++ rest.0)) (sym is) (each_append (SaysInside (suc m)) own others first.0 rest.0 first.2 rest.2))
+    let rest = bars_say m (suc n) (Some bar) bars tokens saids others (All-tail IsScoreBar bar bars well) h count are_others in (
+      first.0 ++ rest.0,
+      (first.0, rest.0, first.1, rest.1, refl),
+      subst (λ rs. Each (SaysInside (suc m)) rs (first.0 ++ rest.0)) (sym is) (each_append (SaysInside (suc m)) own others first.0 rest.0 first.2 rest.2),
+    )

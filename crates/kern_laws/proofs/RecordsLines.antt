@@ -1,18 +1,17 @@
 -- What a record says, as a line of the reader.
-use Rattle.std.proofs.Common.{◌≡◌, ℕ, zero, suc, ◌==◌, ◌&&◌, Bool, true, false, not, List, [], ◌∷◌, ◌++◌, length, refl, sym, ap, ◌∙◌, subst, arith}
-use Rattle.std.specs.Prelude.{Option, Some, None, codes, if◌then◌else◌, replicate}
+use Rattle.std.proofs.Common.{◌≡◌, ℕ, suc, ◌==◌, ◌&&◌, Bool, true, false, not, List, [], ◌∷◌, length, refl, sym, ap, ◌∙◌, arith}
+use Rattle.std.specs.Prelude.{Some, codes}
 use Rattle.std.specs.List.{join_with_byte, list_all}
 use Rattle.std.specs.Option.{option_map}
 use Rattle.std.specs.Str.{bytes_eq}
 use Rattle.std.proofs.lemmas.Bool.{and_from, and_left, and_parts}
-use Rattle.std.proofs.lemmas.Bool.Decides.{nat_tests}
 use Rattle.rhythm_base.specs.Lists.{Each}
-use Rattle.kern_writer.specs.Records.{Record, alike}
+use Rattle.kern_writer.specs.Records.{Record}
 use Rattle.kern_reader.specs.declared.token.Token.{Token}
 use Rattle.kern_reader.specs.Columns.{stage_after}
 use Rattle.kern_reader.specs.Lines.{all_are, data_line, is_ending, is_heading, line_of, other_line}
 use Rattle.kern_reader.specs.Text.{begins_with, columns, is_skipped}
-use Rattle.kern_reader.specs.Tokens.{◌>>=◌, all_tokens, token_of}
+use Rattle.kern_reader.specs.Tokens.{◌>>=◌, all_tokens}
 use Rattle.kern_laws.specs.ScoreLines.{Body, Data, KernLine}
 use Rattle.kern_laws.proofs.TextSplits.{false_of_not, in_line, split_joined}
 use Rattle.kern_laws.proofs.TextTests.{all_joined, all_weaker, is_printing, lacks, printing_no_newline, printing_no_tab}

@@ -1,7 +1,6 @@
 -- What the records at a place of a bar say.
-use Rattle.std.proofs.Common.{◌≡◌, ℕ, zero, suc, ◌-◌, ◌≤◌, ◌<◌, ◌==◌, Bool, true, false, cond, List, [], ◌∷◌, ◌++◌, length, get_or, map, refl, sym, ap, ◌∙◌, subst, arith}
-use Rattle.std.specs.Prelude.{Contains, IsSome, Option, Some, None, ⊤, codes, fold, if◌then◌else◌, max, nat_lt}
-use Rattle.std.specs.List.{flat_map}
+use Rattle.std.proofs.Common.{◌≡◌, ℕ, zero, suc, ◌-◌, ◌==◌, Bool, true, false, cond, List, [], ◌∷◌, length, get_or, map, refl, ap, ◌∙◌, subst, arith}
+use Rattle.std.specs.Prelude.{IsSome, Option, Some, None, ⊤, codes, fold, if◌then◌else◌, max, nat_lt}
 use Rattle.std.proofs.lemmas.Bool.{ltb-false}
 use Rattle.std.proofs.lemmas.List.{length-map}
 use Rattle.rhythm_base.specs.Lists.{Each}
@@ -124,9 +123,10 @@ some_token (Some t) (Some x) h some = some
 pub same_places : (tokens : List (List Token)) (saids : List (List Said)) (places : List ℕ) → BarSays tokens saids → ArePlaces tokens places → AreSaidPlaces saids places
 same_places tokens saids places h are = record {
   rise = are.rise;
-  exactly = λ place.
-    (λ c. partner (Each SaysSame) (λ ts. IsSome (token_at place ts)) (λ xs. IsSome (said_at place xs)) tokens saids
-    (λ ts xs k. some_said (token_at place ts) (said_at place xs) (there place ts xs k)) h ((are.exactly place).0 c),
+  exactly = λ place. (
+    λ c. partner (Each SaysSame) (λ ts. IsSome (token_at place ts)) (λ xs. IsSome (said_at place xs)) tokens saids
+        (λ ts xs k. some_said (token_at place ts) (said_at place xs) (there place ts xs k)) h ((are.exactly place).0 c),
     λ c. (are.exactly place).1 (partner (λ xs ts. Each SaysSame ts xs) (λ xs. IsSome (said_at place xs)) (λ ts. IsSome (token_at place ts)) saids tokens
-    (λ xs ts k. some_token (token_at place ts) (said_at place xs) (there place ts xs k)) (each_turned (Each SaysSame) tokens saids h) c));
+        (λ xs ts k. some_token (token_at place ts) (said_at place xs) (there place ts xs k)) (each_turned (Each SaysSame) tokens saids h) c),
+  );
 }

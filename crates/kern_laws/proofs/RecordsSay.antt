@@ -1,12 +1,11 @@
 -- What the records of a score say.
-use Rattle.rhythm_base.specs.declared.limits.TheConstants.{MOST_VOICES}
 use Rattle.std.proofs.Common.{◌≡◌, ℕ, zero, suc, ◌≤◌, true, List, [], ◌∷◌, ◌++◌, length, map, refl, sym, ap, ◌∙◌, subst, arith}
-use Rattle.std.specs.Prelude.{codes, Some, None}
+use Rattle.std.specs.Prelude.{None}
 use Rattle.std.specs.List.{list_all}
 use Rattle.std.proofs.lemmas.Bool.{and_from}
 use Rattle.std.proofs.lemmas.List.{length-map}
 use Rattle.rhythm_base.specs.Lists.{Each}
-use Rattle.kern_writer.specs.Records.{AreRecords, Record, alike, head, tail}
+use Rattle.kern_writer.specs.Records.{AreRecords, Record, head, tail}
 use Rattle.kern_writer.specs.Score.{IsScore, Score}
 use Rattle.kern_writer.specs.Tokens.{voice_tokens}
 use Rattle.kern_writer.specs.Values.{AreVoiceValues}
@@ -61,10 +60,12 @@ inside_lines n (row ∷ rows) (line ∷ lines) h = (h.0.says, inside_lines n row
 lines_say : (m : ℕ) (s : Score) (records : List Record) → SayScore m s records → (lines : List KernLine) × AreScoreLines s lines × Each (SaysLine (length s.voices)) records lines
 lines_say m s records h =
     let inside = each_append (SaysLine (suc m)) h.rows (tail (suc m)) h.bars (LastBarline ∷ Ending ∷ []) (inside_lines (suc m) h.rows h.bars h.say) (last_says m, (end_says m, refl)) in
-    let all : Each (SaysLine (suc m)) (head (suc m) ∷ (h.rows ++ tail (suc m))) (Heading (suc m) ∷ (h.bars ++ LastBarline ∷ Ending ∷ [])) = (head_says m, inside) in
-    (Heading (length s.voices) ∷ (h.bars ++ LastBarline ∷ Ending ∷ []), h.are_bars,
-    subst (λ rs. Each (SaysLine (length s.voices)) rs (Heading (length s.voices) ∷ (h.bars ++ LastBarline ∷ Ending ∷ []))) (sym h.are_rows)
-    (subst (λ n. Each (SaysLine n) (head (suc m) ∷ (h.rows ++ tail (suc m))) (Heading n ∷ (h.bars ++ LastBarline ∷ Ending ∷ []))) (sym h.count) all))
+    let all : Each (SaysLine (suc m)) (head (suc m) ∷ (h.rows ++ tail (suc m))) (Heading (suc m) ∷ (h.bars ++ LastBarline ∷ Ending ∷ [])) = (head_says m, inside) in (
+      Heading (length s.voices) ∷ (h.bars ++ LastBarline ∷ Ending ∷ []),
+      h.are_bars,
+      subst (λ rs. Each (SaysLine (length s.voices)) rs (Heading (length s.voices) ∷ (h.bars ++ LastBarline ∷ Ending ∷ []))) (sym h.are_rows)
+          (subst (λ n. Each (SaysLine n) (head (suc m) ∷ (h.rows ++ tail (suc m))) (Heading n ∷ (h.bars ++ LastBarline ∷ Ending ∷ []))) (sym h.count) all),
+    )
 
 rows_apart : (n : ℕ) (rows : List Record) (lines : List KernLine) → Each (SaysLine n) rows lines → list_all in_line rows ≡ true
 rows_apart n [] lines h = refl

@@ -1,7 +1,7 @@
 -- The tokens of a voice say what the voice says.
 use Rattle.rhythm_base.specs.declared.limits.TheConstants.{MOST_UNITS}
-use Rattle.std.proofs.Common.{◌≡◌, ℕ, zero, suc, ◌*◌, ◌^◌, ◌≤◌, ◌<◌, ◌==◌, Bool, true, false, List, [], ◌∷◌, ◌++◌, length, get_or, map, refl, sym, ap, ◌∙◌, subst, arith}
-use Rattle.std.specs.Prelude.{All, Option, Some, None, IsTrue, if◌then◌else◌, slice_get}
+use Rattle.std.proofs.Common.{◌≡◌, ℕ, zero, suc, ◌*◌, ◌^◌, ◌≤◌, ◌==◌, Bool, true, false, List, [], ◌∷◌, ◌++◌, get_or, map, refl, sym, ap, subst, arith}
+use Rattle.std.specs.Prelude.{All, Option, Some, None, if◌then◌else◌, slice_get}
 use Rattle.std.specs.Int.{◌∣◌}
 use Rattle.std.specs.List.{flat_map}
 use Rattle.std.proofs.Math.Nat.{eq-zero_of_zero-dvd, mul-le-mul_left}
@@ -18,12 +18,12 @@ use Rattle.durations.proofs.Bars.{written_dots}
 use Rattle.durations.proofs.Beats.{written_part}
 use Rattle.kern_writer.specs.declared.score.ScoreBar.{ScoreBar}
 use Rattle.kern_writer.specs.Score.{IsScoreBar}
-use Rattle.kern_writer.specs.Tokens.{Token, bar_tokens, grace_text, graces_before, has_flats, next_goes_on, token, voice_tokens}
+use Rattle.kern_writer.specs.Tokens.{Token, bar_tokens, grace_text, has_flats, next_goes_on, token, voice_tokens}
 use Rattle.kern_writer.specs.Values.{AreBarValues, AreVoiceValues, VoiceValue, is_first, sounds_in_bar, timed, value_of_sound, values_of_sounds}
 use Rattle.kern_writer.proofs.BarValues.{sounds_of_values}
 use Rattle.kern_reader.specs.declared.token.Token.TheVariants as reads
 use Rattle.kern_reader.specs.Tokens.{IsWellValue}
-use Rattle.kern_laws.specs.ScoreLines.{Said, bar_said, said, said_graces, voice_said}
+use Rattle.kern_laws.specs.ScoreLines.{Said, bar_said, said, voice_said}
 use Rattle.kern_laws.proofs.TokenTexts.{SaysToken, grace_said, main_said}
 
 -- ---- values that are written can be read
@@ -117,6 +117,7 @@ pub voices_say : (r count : ℕ) (bars : List ScoreBar) (voices : List (List Sou
 voices_say r count bars [] [] some few well sounded h = refl
 voices_say r count bars [] (vss ∷ values) some few well sounded h = cc
 voices_say r count bars (sounds ∷ voices) [] some few well sounded h = absurd h
-voices_say r count bars (sounds ∷ voices) (vss ∷ values) some few well sounded h =
-    (voice_says r 0 bars sounds vss some few well (All-head (AreWellSounded r count) sounds voices sounded).each h.0,
-    voices_say r count bars voices values some few well (All-tail (AreWellSounded r count) sounds voices sounded) h.1)
+voices_say r count bars (sounds ∷ voices) (vss ∷ values) some few well sounded h = (
+  voice_says r 0 bars sounds vss some few well (All-head (AreWellSounded r count) sounds voices sounded).each h.0,
+  voices_say r count bars voices values some few well (All-tail (AreWellSounded r count) sounds voices sounded) h.1,
+)

@@ -1,18 +1,17 @@
 -- Chords are read as they are written.
-use Rattle.std.proofs.Common.{◌≡◌, ℕ, suc, ◌^◌, ◌<◌, ◌≤◌, ◌==◌, ◌&&◌, true, false, not, List, [], ◌∷◌, ◌++◌, map, refl, sym, ap, ◌∙◌, subst, arith, bit_or, append-nil}
-use Rattle.std.specs.Prelude.{Option, Some, None, if◌then◌else◌, nat_lt}
-use Rattle.std.specs.List.{join_with_byte, list_all, slice_split}
+use Rattle.std.proofs.Common.{◌≡◌, ℕ, suc, ◌^◌, ◌<◌, ◌==◌, true, not, List, [], ◌∷◌, ◌++◌, map, refl, sym, ap, ◌∙◌, arith, bit_or, append-nil}
+use Rattle.std.specs.Prelude.{Some, None, if◌then◌else◌, nat_lt}
+use Rattle.std.specs.List.{join_with_byte, list_all}
 use Rattle.std.specs.Option.{option_map}
 use Rattle.std.proofs.lemmas.Bool.{and_from}
 use Rattle.std.proofs.lemmas.Bool.Decides.{nat_tests}
 use Rattle.derivation.specs.WellSounded.{AreKeys}
 use Rattle.kern_writer.specs.Tokens.{chord_text, rising_keys}
-use Rattle.kern_reader.specs.declared.token.Token.{Token}
 use Rattle.kern_reader.specs.Tokens.{◌>>=◌, all_notes, chord_of, chord_of_notes, chord_token, follows, keys_with, note_of, rise, same_style}
 use Rattle.kern_laws.proofs.TextSplits.{split_joined}
 use Rattle.kern_laws.proofs.TextTests.{all_joined, all_weaker, graphic_no_space, graphic_prints, is_graphic, is_printing, lacks}
 use Rattle.kern_laws.proofs.TokenKeys.{KeysRise, keys_rise, keys_set, or_none, set_with}
-use Rattle.kern_laws.proofs.TokenStyles.{Note, Style, note_at}
+use Rattle.kern_laws.proofs.TokenStyles.{Style, note_at}
 
 -- each key's text is read as its note
 abbrev pub AreRead : Style → (ℕ → List ℕ) → Type 0

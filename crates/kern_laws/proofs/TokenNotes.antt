@@ -1,21 +1,16 @@
 -- Notes are read as they are written.
 use Rattle.std.proofs.Common.{◌≡◌, ℕ, ◌<◌, ◌==◌, ◌&&◌, ◌||◌, Bool, true, false, not, List, [], ◌∷◌, ◌++◌, drop, take_while, append_assoc, refl, sym, ap, ◌∙◌, arith}
-use Rattle.std.specs.Prelude.{Option, Some, None, codes, if◌then◌else◌}
-use Rattle.std.specs.Char.{is_ascii_digit}
+use Rattle.std.specs.Prelude.{Some, codes, if◌then◌else◌}
 use Rattle.std.specs.List.{list_all, prefix_len}
-use Rattle.std.specs.Option.{option_map}
 use Rattle.std.proofs.lemmas.Bool.Decides.{nat_tests}
 use Rattle.rhythm_base.specs.declared.sound.SoundKind.{SoundKind}
 use Rattle.rhythm_base.specs.declared.sound.SoundKind.TheVariants.{Begin, Short, Tie, Rest}
 use Rattle.rhythm_base.specs.Pitch.{pitch}
 use Rattle.rhythm_base.specs.Spans.{is_rest, is_short, is_tie}
-use Rattle.durations.specs.declared.value.Value.{Value}
 use Rattle.kern_writer.specs.Tokens.{closing, goes_on, note_text, opening, short_mark, value_text}
 use Rattle.kern_writer.specs.Values.{VoiceValue}
-use Rattle.kern_reader.specs.declared.token.TieMark.{TieMark}
-use Rattle.kern_reader.specs.declared.token.TieMark.TheVariants.{Absent, GoesOn, Ends}
 use Rattle.kern_reader.specs.Lines.{digit_first}
-use Rattle.kern_reader.specs.Tokens.{◌>>=◌, IsWellValue, after_value, is_pitch_byte, is_value_byte, key_of, marks_of, marks_part, note_of, pitch_part, value_of, value_part, valued_note}
+use Rattle.kern_reader.specs.Tokens.{IsWellValue, after_value, is_pitch_byte, is_value_byte, key_of, marks_of, marks_part, note_of, pitch_part, value_of, value_part, valued_note}
 use Rattle.kern_laws.specs.ScoreLines.{tie_mark, writing_of}
 use Rattle.kern_laws.proofs.Pitches.{pitches}
 use Rattle.kern_laws.proofs.TextRuns.{run_dropped, run_taken}

@@ -1,15 +1,13 @@
 -- How the notes of a chord are written, alike in all of them.
 use Rattle.std.proofs.Common.{◌≡◌, ℕ, ◌==◌, Bool, true, false, List, refl, ap, ◌∙◌, arith}
-use Rattle.std.specs.Prelude.{Option, Some, None}
+use Rattle.std.specs.Prelude.{Option, Some}
 use Rattle.std.specs.Option.{option_map}
 use Rattle.std.proofs.lemmas.Bool.{and_from}
 use Rattle.std.proofs.lemmas.Bool.Decides.{nat_tests}
 use Rattle.durations.specs.declared.value.Recip.{Recip}
 use Rattle.durations.specs.declared.value.Recip.TheVariants.{Of, Breve, Long}
-use Rattle.durations.specs.declared.value.Value.{Value}
 use Rattle.kern_reader.specs.declared.token.TieMark.{TieMark}
 use Rattle.kern_reader.specs.declared.token.TieMark.TheVariants.{Absent, GoesOn, Ends}
-use Rattle.kern_reader.specs.declared.token.Token.{Token}
 use Rattle.kern_reader.specs.declared.token.Token.TheVariants as token
 use Rattle.kern_reader.specs.declared.token.Writing.{Writing}
 use Rattle.kern_reader.specs.Tokens.{◌>>=◌, chord_token, follows, grace_note, key_of, marks_of, marks_part, pitch_part, same_bool, same_recip, same_style, same_tie, same_writing, value_of, value_part, valued_note}
@@ -73,8 +71,11 @@ read_on next o = o >>= next
 
 pub valued_style : (w : Writing) → (s : Style) × IsValuedStyle w s
 unfolding valued_note
-valued_style w = (_, record {
-  read = λ text key e f g. ap (read_on _) e ∙ (ap (read_on _) f ∙ ap (read_on _) g);
-  token = λ keys. refl;
-  same = writing_same w;
-})
+valued_style w = (
+  _,
+  record {
+    read = λ text key e f g. ap (read_on _) e ∙ (ap (read_on _) f ∙ ap (read_on _) g);
+    token = λ keys. refl;
+    same = writing_same w;
+  },
+)

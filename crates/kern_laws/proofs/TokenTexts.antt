@@ -1,8 +1,7 @@
 -- The text of each column of a data record is read as its token.
-use Rattle.std.proofs.Common.{◌≡◌, ℕ, ◌<◌, ◌≤◌, ◌==◌, ◌&&◌, Bool, true, false, not, List, [], ◌∷◌, ◌++◌, drop, append_assoc, refl, sym, ap, ◌∙◌, subst, arith}
+use Rattle.std.proofs.Common.{◌≡◌, ℕ, ◌<◌, ◌==◌, ◌&&◌, Bool, true, false, not, List, [], ◌∷◌, ◌++◌, append_assoc, refl, sym, ap, ◌∙◌, subst, arith}
 use Rattle.std.specs.Prelude.{Some, codes, if◌then◌else◌}
-use Rattle.std.specs.Char.{is_ascii_digit}
-use Rattle.std.specs.List.{list_all, prefix_len}
+use Rattle.std.specs.List.{list_all}
 use Rattle.std.specs.Str.{bytes_eq}
 use Rattle.std.proofs.lemmas.Bool.{and_left}
 use Rattle.std.proofs.lemmas.Bool.Decides.{nat_tests}
@@ -10,17 +9,17 @@ use Rattle.rhythm_base.specs.Pitch.{pitch}
 use Rattle.rhythm_base.specs.Spans.{is_rest}
 use Rattle.derivation.specs.WellSounded.{AreKeys, IsWellSounding}
 use Rattle.durations.specs.declared.value.Value.{Value}
-use Rattle.kern_writer.specs.Tokens.{chord_text, goes_on, grace_text, main_text, note_text, opening, value_text}
+use Rattle.kern_writer.specs.Tokens.{chord_text, goes_on, grace_text, main_text, note_text, value_text}
 use Rattle.kern_writer.specs.Values.{VoiceValue}
 use Rattle.kern_reader.specs.declared.token.Token.{Token}
 use Rattle.kern_reader.specs.declared.token.Token.TheVariants as token
 use Rattle.kern_reader.specs.Lines.{digit_first}
-use Rattle.kern_reader.specs.Tokens.{IsWellValue, after_value, chord_of, is_pitch_byte, is_value_byte, rest_of, token_of, value_part}
+use Rattle.kern_reader.specs.Tokens.{IsWellValue, after_value, chord_of, is_value_byte, rest_of, token_of, value_part}
 use Rattle.kern_laws.specs.ScoreLines.{value_token, writing_of}
 use Rattle.kern_laws.proofs.TextRuns.{run_dropped, run_taken}
 use Rattle.kern_laws.proofs.TextTests.{all_append, all_weaker, graphic_prints, is_graphic, is_printing}
-use Rattle.kern_laws.proofs.TokenChords.{ReadsChord, chord_read}
-use Rattle.kern_laws.proofs.TokenNotes.{first_append, grace_graphic, grace_note_text, grace_read, is_marked_short, marks_text, note_graphic, note_parts, note_read, note_style, plain_text}
+use Rattle.kern_laws.proofs.TokenChords.{chord_read}
+use Rattle.kern_laws.proofs.TokenNotes.{first_append, grace_graphic, grace_note_text, grace_read, is_marked_short, marks_text, note_graphic, note_parts, note_read, plain_text}
 use Rattle.kern_laws.proofs.TokenPitches.{begins_pitch, pitch_begins, pitch_no_rest, value_ends}
 use Rattle.kern_laws.proofs.TokenStyles.{grace_style, valued_style}
 use Rattle.kern_laws.proofs.TokenValues.{value_begins, value_bytes, value_graphic}
@@ -105,10 +104,11 @@ value_front v flats key more well within =
     let text = value_text v ++ rest in
     let digit = first_append (value_text v) rest (value_begins v well) in
     let after : after_value text ≡ rest = run_dropped is_value_byte (value_text v) rest (value_bytes v) (value_ends (pitch flats key) more (pitch_begins flats key within)) in
-    let no : bytes_eq (after_value text) (codes "r") ≡ false = ap (λ t. bytes_eq t (codes "r")) after ∙ no_rest rest (begins_append (pitch flats key) more (pitch_begins flats key within)) in
-    (digit_data text digit,
-    ap (λ b. if b then Some token.Null else if bytes_eq (after_value text) (codes "r") then rest_of (value_part text) else chord_of text) (digit_no_dot text digit)
-    ∙ ap (λ b. if b then rest_of (value_part text) else chord_of text) no)
+    let no : bytes_eq (after_value text) (codes "r") ≡ false = ap (λ t. bytes_eq t (codes "r")) after ∙ no_rest rest (begins_append (pitch flats key) more (pitch_begins flats key within)) in (
+      digit_data text digit,
+      ap (λ b. if b then Some token.Null else if bytes_eq (after_value text) (codes "r") then rest_of (value_part text) else chord_of text) (digit_no_dot text digit)
+          ∙ ap (λ b. if b then rest_of (value_part text) else chord_of text) no,
+    )
 
 -- the text of a note begins a chord
 note_front : (flats : Bool) (v : VoiceValue) (next : Bool) (key : ℕ) (more : List ℕ) → IsWellValue v.value → key < 128 → IsChordFront (note_text flats v next key ++ more)

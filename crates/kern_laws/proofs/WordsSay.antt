@@ -1,11 +1,10 @@
 -- What the records say that have the same text in each column: the head, changes, barlines and the end.
-use Rattle.std.proofs.Common.{◌≡◌, ℕ, ℤ, pos, negsuc, zero, suc, ◌^◌, ◌*◌, ◌+◌, ◌<◌, ◌≤◌, ◌==◌, ◌&&◌, ◌||◌, Bool, true, false, not, List, [], ◌∷◌, ◌++◌, drop, take, append_assoc, length, refl, sym, ap, ◌∙◌, subst, arith}
-use Rattle.std.specs.Prelude.{Option, Some, None, codes, decimal, if◌then◌else◌, nat_le, replicate, get_or, IsTrue}
+use Rattle.std.proofs.Common.{◌≡◌, ℕ, ℤ, pos, negsuc, suc, ◌^◌, ◌*◌, ◌+◌, ◌<◌, ◌≤◌, ◌==◌, true, false, not, List, [], ◌∷◌, ◌++◌, append_assoc, length, refl, sym, ap, ◌∙◌, subst, arith}
+use Rattle.std.specs.Prelude.{Some, None, codes, decimal, if◌then◌else◌, nat_le, replicate, get_or, IsTrue}
 use Rattle.std.specs.Char.{is_ascii_digit}
-use Rattle.std.specs.List.{list_all, list_any, slice_split}
+use Rattle.std.specs.List.{list_all, list_any}
 use Rattle.std.specs.Str.{bytes_eq}
-use Rattle.std.specs.Str.Parse.{digits_value}
-use Rattle.std.proofs.lemmas.Bool.{and_from, and_left, and_parts, le-leb, or_left}
+use Rattle.std.proofs.lemmas.Bool.{and_from, and_left, and_parts, or_left}
 use Rattle.std.proofs.lemmas.Bool.Decides.{nat_tests}
 use Rattle.std.proofs.lemmas.Fmt.{decimal_nonempty, digits_value-decimal, first_decimal}
 use Rattle.std.proofs.lemmas.List.{length-replicate}
@@ -13,15 +12,14 @@ use Rattle.rhythm_base.proofs.Numerals.{numerals}
 use Rattle.rhythm_base.specs.Signatures.{IsSignature, is_den}
 use Rattle.kern_writer.specs.declared.score.ScoreBar.{ScoreBar}
 use Rattle.kern_writer.specs.Changes.{accidentals, key_text, quarters_of_minute, signature_text, tempo_text}
-use Rattle.kern_writer.specs.Records.{Record, alike, barline_record, head}
+use Rattle.kern_writer.specs.Records.{alike, barline_record, head}
 use Rattle.kern_reader.specs.declared.token.TimeSignature.{TimeSignature}
-use Rattle.kern_reader.specs.Columns.{stage_after}
-use Rattle.kern_reader.specs.Lines.{all_are, barline, begins_signature, digit_first, interpretation, is_ending, is_heading, is_refused_word, line_of, other_line, signature_line, signature_of, signature_of_numbers, signature_of_parts}
+use Rattle.kern_reader.specs.Lines.{all_are, begins_signature, is_ending, is_heading, is_refused_word, line_of, other_line, signature_of, signature_of_numbers, signature_of_parts}
 use Rattle.kern_reader.specs.Text.{begins_with, columns}
 use Rattle.kern_reader.specs.Tokens.{◌>>=◌, is_plain, number_of}
 use Rattle.kern_reader.proofs.NumberLemmas.{number_read}
-use Rattle.kern_laws.specs.ScoreLines.{Barline, Body, Ending, Heading, KernLine, LastBarline, Other, Signature}
-use Rattle.kern_laws.proofs.RecordsLines.{SaysInside, SaysLine, all_printing, not_all, other_said, row_columns, row_says, row_text}
+use Rattle.kern_laws.specs.ScoreLines.{Barline, Ending, Heading, KernLine, LastBarline, Other, Signature}
+use Rattle.kern_laws.proofs.RecordsLines.{SaysInside, SaysLine, not_all, other_said, row_columns, row_says, row_text}
 use Rattle.kern_laws.proofs.TextSplits.{split_first, split_last}
 use Rattle.kern_laws.proofs.TextTests.{all_alike, all_append, all_take, all_weaker, decimal_digits, digit_graphic, graphic_prints, is_printing, lacks, none_alike}
 use Rattle.kern_laws.proofs.TokenValues.{digits_begin}
@@ -205,7 +203,7 @@ signature_says m bar h =
     let signature : TimeSignature = record { num = bar.num; den = bar.den } in
     subst (λ t. SaysInside (suc m) (alike (suc m) t) (Signature signature)) (sym (signature_parts bar)) (record {
       says = word_says m word (Signature signature) prints refl
-      (word_other m word prints refl refl ∙ signature_row m rest signature (signature_begins bar.num bar.den h.few) (numbers_back bar.num bar.den h));
+          (word_other m word prints refl refl ∙ signature_row m rest signature (signature_begins bar.num bar.den h.few) (numbers_back bar.num bar.den h));
       ending = word_ending m word prints refl;
       body = refl;
     })

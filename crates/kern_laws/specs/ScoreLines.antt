@@ -1,6 +1,6 @@
 -- What the records of a score say, line by line: the tokens of each voice at each place. It is said as the records are, with a token
 -- in the place of each text.
-use Rattle.std.specs.Prelude.{◌≡◌, ◌≢◌, ◌↔◌, ℕ, ℤ, ◌-◌, ◌==◌, nat_lt, Bool, true, false, not, ◌&&◌, if◌then◌else◌, List, [], ◌∷◌, ◌++◌, codes, find, fold, length, map, max, replicate, Contains, IsSome, slice_index_or, Option, Some, None, ⊤}
+use Rattle.std.specs.Prelude.{◌≡◌, ◌≢◌, ◌↔◌, ℕ, ◌-◌, ◌==◌, nat_lt, Bool, true, false, not, ◌&&◌, if◌then◌else◌, List, [], ◌∷◌, ◌++◌, codes, find, fold, length, map, max, replicate, Contains, IsSome, slice_index_or, Option, Some, None}
 use Rattle.std.proofs.Common.{suc, zero}
 use Rattle.std.specs.List.{flat_map, join_with_byte}
 use Rattle.std.specs.List.Sorted.{IsStrictlyIncreasing}
