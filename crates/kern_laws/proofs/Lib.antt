@@ -7,6 +7,7 @@ pub mod RecordsPairs
 pub mod RecordsPlaces
 pub mod RecordsSay
 pub mod RecordsVoices
+pub mod TextNumbers
 pub mod TextRuns
 pub mod TextSplits
 pub mod TextTests

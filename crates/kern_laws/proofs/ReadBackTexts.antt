@@ -28,7 +28,8 @@ record PassesTests (at : Stage) (spines : ℕ) (text : List ℕ) : Type 0 where
   turn : is_out_of_turn at text ≡ false
   width : has_wrong_width at spines text ≡ false
 
-as_wide : (spines n : ℕ) (text : List ℕ) → length (columns text) ≡ n → spines ≡ n → (not (length text == 0) && not (length (columns text) == spines)) ≡ false
+as_wide : (spines n : ℕ) (text : List ℕ) → length (columns text) ≡ n → spines ≡ n
+    → (not (length text == 0) && not (length (columns text) == spines)) ≡ false
 as_wide spines n text wide as_many =
     let same : (length (columns text) == spines) ≡ true = equal (length (columns text)) spines (wide ∙ sym as_many) in
     and_right (not (length text == 0)) (not (length (columns text) == spines)) (not_from_true (length (columns text) == spines) same)
@@ -42,17 +43,20 @@ body_passes spines n text ending wide as_many = record { head = refl; turn = end
 
 last_passes : (spines n : ℕ) (text : List ℕ) → is_ending text ≡ true → length (columns text) ≡ n → spines ≡ n → PassesTests Last spines text
 unfolding has_no_head is_out_of_turn has_wrong_width
-last_passes spines n text ending wide as_many = record { head = refl; turn = not_from_true (is_ending text) ending; width = as_wide spines n text wide as_many }
+last_passes spines n text ending wide as_many =
+    record { head = refl; turn = not_from_true (is_ending text) ending; width = as_wide spines n text wide as_many }
 
 head_passes : (spines n : ℕ) (text : List ℕ) → is_heading text ≡ true → length (columns text) ≡ n → n ≤ 16 → PassesTests Head spines text
 unfolding has_no_head is_out_of_turn has_wrong_width
 head_passes spines n text heading wide few =
     let narrow : nat_le (length (columns text)) 16 ≡ true = ap (λ k. nat_le k 16) wide ∙ le-leb n 16 few in
-    record { head = not_from_true (is_heading text && nat_le (length (columns text)) 16) (and_from (is_heading text) (nat_le (length (columns text)) 16) heading narrow); turn = refl; width = refl }
+    let both = and_from (is_heading text) (nat_le (length (columns text)) 16) heading narrow in
+    record { head = not_from_true (is_heading text && nat_le (length (columns text)) 16) both; turn = refl; width = refl }
 
 -- ---- one line
 
-no_fault : (before : List KernLine) (text : List ℕ) (line : KernLine) → PassesTests (stage_of before) (length (columns_of before)) text → line_of text ≡ line
+no_fault : (before : List KernLine) (text : List ℕ) (line : KernLine) → PassesTests (stage_of before) (length (columns_of before)) text
+    → line_of text ≡ line
     → first_fault (said_tests (stage_of before) (grid_of before) (current_bar before) (announced before) (spines_of before) line) ≡ None → line_fault before text ≡ None
 unfolding line_fault
 no_fault before text line passes is none =
@@ -77,7 +81,8 @@ lines_on before (line ∷ lines) = lines_on (line ∷ before) lines
 lines_turned : (before lines : List KernLine) → lines_on before lines ≡ reverse lines ++ before
 lines_turned before [] = refl
 lines_turned before (line ∷ lines) =
-    lines_turned (line ∷ before) lines ∙ sym (append_assoc (reverse lines) (line ∷ []) before) ∙ ap (λ ls. ls ++ before) (sym (reverse-append (line ∷ []) lines))
+    lines_turned (line ∷ before) lines ∙ sym (append_assoc (reverse lines) (line ∷ []) before) ∙ ap (λ ls. ls ++ before)
+    (sym (reverse-append (line ∷ []) lines))
 
 over : (number : ℕ) (lines : List KernLine) → at_end (stage_after Ending) number lines ≡ Ok lines
 unfolding line_of
@@ -112,10 +117,10 @@ head_body : (text : List ℕ) → is_heading text ≡ true → stage_after (line
 unfolding line_of
 head_body text heading = rw heading refl
 
-all_read : (m : ℕ) (rows : List Record) (lines : List KernLine) → suc m ≤ 16 → Each (SaysInside (suc m)) rows lines
+lines_read : (m : ℕ) (rows : List Record) (lines : List KernLine) → suc m ≤ 16 → Each (SaysInside (suc m)) rows lines
     → StandFrom (suc m) [] (Heading (suc m) ∷ (lines ++ LastBarline ∷ Ending ∷ []))
     → read_from [] 1 (map row_text (head (suc m) ∷ (rows ++ tail (suc m)))) ≡ Ok (reverse (Heading (suc m) ∷ (lines ++ LastBarline ∷ Ending ∷ [])))
-all_read m rows lines few each stand =
+lines_read m rows lines few each stand =
     let all = Heading (suc m) ∷ (lines ++ LastBarline ∷ Ending ∷ []) in
     let says = head_says m in
     let body : stage_after (Heading (suc m)) ≡ Body = head_body (row_text (head (suc m))) (head_heading m) in
@@ -125,16 +130,21 @@ all_read m rows lines few each stand =
 
 -- ---- the text
 
+-- the lines of a score, by those of its bars
+abbrev with_ends : ℕ → List KernLine → List KernLine
+with_ends n bars = Heading n ∷ (bars ++ LastBarline ∷ Ending ∷ [])
+
 score_read : (m : ℕ) (s : Score) (records : List Record) (text : List ℕ) → text ≡ records_text records → SayScore m s records
     → (lines : List KernLine) × AreScoreLines s lines × (StandFrom (length s.voices) [] lines → read_text text ≡ Ok (reverse lines))
 score_read m s records text is h =
-    let lines = Heading (length s.voices) ∷ (h.bars ++ LastBarline ∷ Ending ∷ []) in
-    let pieces : kern_lines text ≡ map row_text (head (suc m) ∷ (h.rows ++ tail (suc m))) =
+    let n = length s.voices in
+    let rows = head (suc m) ∷ (h.rows ++ tail (suc m)) in
+    let pieces : kern_lines text ≡ map row_text rows =
     ap kern_lines is ∙ lines_of_records records (records_apart m s records h) ∙ ap (map row_text) h.are_rows in
-    let read : StandFrom (length s.voices) [] lines → read_from [] 1 (map row_text (head (suc m) ∷ (h.rows ++ tail (suc m)))) ≡ Ok (reverse lines) =
-    subst (λ n. StandFrom n [] (Heading n ∷ (h.bars ++ LastBarline ∷ Ending ∷ [])) → read_from [] 1 (map row_text (head (suc m) ∷ (h.rows ++ tail (suc m)))) ≡ Ok (reverse (Heading n ∷ (h.bars ++ LastBarline ∷ Ending ∷ []))))
-    (sym h.count) (all_read m h.rows h.bars h.few h.say) in
-    (lines, h.are_bars, λ stand. ap (read_from [] 1) pieces ∙ read stand)
+    let read : StandFrom n [] (with_ends n h.bars) → read_from [] 1 (map row_text rows) ≡ Ok (reverse (with_ends n h.bars)) =
+    subst (λ k. StandFrom k [] (with_ends k h.bars) → read_from [] 1 (map row_text rows) ≡ Ok (reverse (with_ends k h.bars)))
+    (sym h.count) (lines_read m h.rows h.bars h.few h.say) in
+    (with_ends n h.bars, h.are_bars, λ stand. ap (read_from [] 1) pieces ∙ read stand)
 
 -- a text of a score says lines of the score; where they stand, they are all that is read of it
 pub reads : (s : Score) (text : List ℕ) → IsScore s → IsScoreText s text

@@ -56,7 +56,8 @@ row_said [] (next ∷ rest) h = refl
 row_said (b ∷ first) [] h = h
 row_said (b ∷ first) (next ∷ rest) h = h
 
-pub row_says : (n : ℕ) (first : List ℕ) (rest : List (List ℕ)) (line : KernLine) → all_printing (first ∷ rest) ≡ true → begins_with 33 first ≡ false → length (first ∷ rest) ≡ n
+pub row_says : (n : ℕ) (first : List ℕ) (rest : List (List ℕ)) (line : KernLine) → all_printing (first ∷ rest) ≡ true
+    → begins_with 33 first ≡ false → length (first ∷ rest) ≡ n
     → line_of (row_text (first ∷ rest)) ≡ line → SaysLine n (first ∷ rest) line
 row_says n first rest line printing said count is = record {
   apart = row_apart (first ∷ rest) printing;
@@ -66,8 +67,10 @@ row_says n first rest line printing said count is = record {
 }
 
 -- a word that is not the first column does not stand in all
-pub not_all : (word first : List ℕ) (rest : List (List ℕ)) → all_printing (first ∷ rest) ≡ true → bytes_eq first word ≡ false → all_are word (columns (row_text (first ∷ rest))) ≡ false
-not_all word first rest printing differs = ap (all_are word) (row_columns first rest printing) ∙ and_left (bytes_eq first word) (all_are word rest) differs
+pub not_all : (word first : List ℕ) (rest : List (List ℕ)) → all_printing (first ∷ rest) ≡ true → bytes_eq first word ≡ false
+    → all_are word (columns (row_text (first ∷ rest))) ≡ false
+not_all word first rest printing differs =
+    ap (all_are word) (row_columns first rest printing) ∙ and_left (bytes_eq first word) (all_are word rest) differs
 
 -- what is neither a head nor an end
 pub other_said : (text : List ℕ) → is_heading text ≡ false → is_ending text ≡ false → line_of text ≡ other_line (columns text)
@@ -99,16 +102,19 @@ not_word : (text word : List ℕ) → begins_with 42 text ≡ false → bytes_eq
 not_word [] word h = refl
 not_word (b ∷ text) word h = and_left (b == 42) (bytes_eq text word) h
 
-data_other : (first : List ℕ) (rest : List (List ℕ)) → begins_with 42 first ≡ false → begins_with 61 first ≡ false → other_line (first ∷ rest) ≡ data_line (all_tokens (first ∷ rest))
+data_other : (first : List ℕ) (rest : List (List ℕ)) → begins_with 42 first ≡ false → begins_with 61 first ≡ false
+    → other_line (first ∷ rest) ≡ data_line (all_tokens (first ∷ rest))
 unfolding other_line
 data_other first rest star equals = rw (star, equals) refl
 
-data_row : (n : ℕ) (first : List ℕ) (rest : List (List ℕ)) (tokens : List Token) → Each SaysToken (first ∷ rest) tokens → begins_data first ≡ true → length (first ∷ rest) ≡ n
+data_row : (n : ℕ) (first : List ℕ) (rest : List (List ℕ)) (tokens : List Token) → Each SaysToken (first ∷ rest) tokens
+    → begins_data first ≡ true → length (first ∷ rest) ≡ n
     → SaysInside n (first ∷ rest) (Data tokens)
 data_row n first rest tokens each begins count =
     let printing = each_printing (first ∷ rest) tokens each in
     let bytes = data_bytes first begins in
-    let no_head : is_heading (row_text (first ∷ rest)) ≡ false = not_all (codes "**kern") first rest printing (not_word first (codes "*kern") bytes.1) in
+    let no_head : is_heading (row_text (first ∷ rest)) ≡ false = not_all (codes "**kern") first rest printing
+    (not_word first (codes "*kern") bytes.1) in
     let no_end : is_ending (row_text (first ∷ rest)) ≡ false = not_all (codes "*-") first rest printing (not_word first (codes "-") bytes.1) in
     let is : line_of (row_text (first ∷ rest)) ≡ Data tokens =
     other_said (row_text (first ∷ rest)) no_head no_end ∙ ap other_line (row_columns first rest printing)

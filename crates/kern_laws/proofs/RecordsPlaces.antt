@@ -22,7 +22,8 @@ SayThere None (Some x) = ⊥
 SayThere (Some t) None = ⊥
 SayThere (Some t) (Some x) = SaysSame t x
 
-one_there : (b : Bool) (t : Token) (x : Said) (o : Option Token) (p : Option Said) → SaysSame t x → SayThere o p → SayThere (cond b (Some t) o) (cond b (Some x) p)
+one_there : (b : Bool) (t : Token) (x : Said) (o : Option Token) (p : Option Said) → SaysSame t x → SayThere o p
+    → SayThere (cond b (Some t) o) (cond b (Some x) p)
 one_there true t x o p same rest = same
 one_there false t x o p same rest = rest
 
@@ -61,15 +62,19 @@ main_says m place tokens saids h count =
 
 -- ---- the grace records
 
-grace_there : (left : ℕ) (texts : List (List ℕ)) (graces : List ℕ) → Each SaysGrace texts graces → SaysToken (grace_column (suc left) texts) (grace_or_null (suc left) graces)
+grace_there : (left : ℕ) (texts : List (List ℕ)) (graces : List ℕ) → Each SaysGrace texts graces
+    → SaysToken (grace_column (suc left) texts) (grace_or_null (suc left) graces)
 grace_there left texts graces h =
-    subst (λ n. SaysToken (grace_column (suc left) texts) (if nat_lt n (suc left) then reads.Null else reads.Grace (get_or graces (n - suc left) 0))) (each_length SaysGrace texts graces h)
+    subst (λ n. SaysToken (grace_column (suc left) texts) (if nat_lt n (suc left) then reads.Null else reads.Grace (get_or graces (n - suc left) 0)))
+    (each_length SaysGrace texts graces h)
     (at (nat_lt (length texts) (suc left)) refl)
   where
     at : (b : Bool) → nat_lt (length texts) (suc left) ≡ b
-        → SaysToken (if b then codes "." else get_or texts (length texts - suc left) []) (if b then reads.Null else reads.Grace (get_or graces (length texts - suc left) 0))
+        → SaysToken (if b then codes "." else get_or texts (length texts - suc left) [])
+        (if b then reads.Null else reads.Grace (get_or graces (length texts - suc left) 0))
     at true e = null_said
-    at false e = let few = ltb-false (length texts) (suc left) e in each_at SaysGrace texts graces (length texts - suc left) [] 0 h (omega (arith, few))
+    at false e =
+        let few = ltb-false (length texts) (suc left) e in each_at SaysGrace texts graces (length texts - suc left) [] 0 h (omega (arith, few))
 
 grace_says : (m place left : ℕ) (tokens : List (List Token)) (saids : List (List Said)) → BarSays tokens saids → length tokens ≡ suc m
     → SaysInside (suc m) (grace_record place tokens (suc left)) (grace_line place saids (suc left))
@@ -77,7 +82,8 @@ grace_says m place left tokens saids h count =
     let text : List Token → List ℕ = λ ts. grace_column (suc left) (grace_tokens (token_at place ts)) in
     data_says m (grace_record place tokens (suc left)) (map (λ xs. grace_or_null (suc left) (graces_or_none (said_at place xs))) saids)
     (each_map (Each SaysSame) SaysToken text (λ xs. grace_or_null (suc left) (graces_or_none (said_at place xs))) tokens saids
-    (λ ts xs k. grace_there left (grace_tokens (token_at place ts)) (graces_or_none (said_at place xs)) (graces_there (token_at place ts) (said_at place xs) (there place ts xs k))) h)
+    (λ ts xs k. grace_there left (grace_tokens (token_at place ts)) (graces_or_none (said_at place xs))
+    (graces_there (token_at place ts) (said_at place xs) (there place ts xs k))) h)
     (length-map tokens text ∙ count)
 
 graces_say : (m place n : ℕ) (tokens : List (List Token)) (saids : List (List Said)) → BarSays tokens saids → length tokens ≡ suc m
@@ -86,14 +92,16 @@ graces_say m place zero tokens saids h count = refl
 graces_say m place (suc n) tokens saids h count = (grace_says m place n tokens saids h count, graces_say m place n tokens saids h count)
 
 grace_count : (place n : ℕ) (tokens : List (List Token)) (saids : List (List Said)) → BarSays tokens saids
-    → fold (λ n ts. max n (length (grace_tokens (token_at place ts)))) n tokens ≡ fold (λ n xs. max n (length (graces_or_none (said_at place xs)))) n saids
+    → fold (λ n ts. max n (length (grace_tokens (token_at place ts)))) n tokens ≡ fold
+    (λ n xs. max n (length (graces_or_none (said_at place xs)))) n saids
 grace_count place n [] [] h = refl
 grace_count place n [] (xs ∷ saids) h = cc
 grace_count place n (ts ∷ tokens) [] h = absurd h
 grace_count place n (ts ∷ tokens) (xs ∷ saids) h =
     let graces = graces_there (token_at place ts) (said_at place xs) (there place ts xs h.0) in
     grace_count place (max n (length (grace_tokens (token_at place ts)))) tokens saids h.1
-    ∙ ap (λ k. fold (λ n xs. max n (length (graces_or_none (said_at place xs)))) (max n k) saids) (each_length SaysGrace (grace_tokens (token_at place ts)) (graces_or_none (said_at place xs)) graces)
+    ∙ ap (λ k. fold (λ n xs. max n (length (graces_or_none (said_at place xs)))) (max n k) saids)
+    (each_length SaysGrace (grace_tokens (token_at place ts)) (graces_or_none (said_at place xs)) graces)
 
 -- ---- all records at a place
 
@@ -102,8 +110,10 @@ pub place_says : (m place : ℕ) (tokens : List (List Token)) (saids : List (Lis
 place_says m place tokens saids h count =
     let n = grace_records_at place tokens in
     let graces : Each (SaysInside (suc m)) (grace_records place tokens n) (grace_lines place saids (grace_lines_at place saids)) =
-    subst (λ k. Each (SaysInside (suc m)) (grace_records place tokens n) (grace_lines place saids k)) (grace_count place 0 tokens saids h) (graces_say m place n tokens saids h count) in
-    each_append (SaysInside (suc m)) (grace_records place tokens n) (main_record place tokens ∷ []) (grace_lines place saids (grace_lines_at place saids)) (main_line place saids ∷ []) graces
+    subst (λ k. Each (SaysInside (suc m)) (grace_records place tokens n) (grace_lines place saids k)) (grace_count place 0 tokens saids h)
+    (graces_say m place n tokens saids h count) in
+    each_append (SaysInside (suc m)) (grace_records place tokens n) (main_record place tokens ∷ [])
+    (grace_lines place saids (grace_lines_at place saids)) (main_line place saids ∷ []) graces
     (main_says m place tokens saids h count, refl)
 
 -- ---- the places
@@ -120,7 +130,8 @@ some_token None (Some x) h some = absurd h
 some_token (Some t) None h some = absurd h
 some_token (Some t) (Some x) h some = some
 
-pub same_places : (tokens : List (List Token)) (saids : List (List Said)) (places : List ℕ) → BarSays tokens saids → ArePlaces tokens places → AreSaidPlaces saids places
+pub same_places : (tokens : List (List Token)) (saids : List (List Said)) (places : List ℕ) → BarSays tokens saids → ArePlaces tokens places
+    → AreSaidPlaces saids places
 same_places tokens saids places h are = record {
   rise = are.rise;
   exactly = λ place. (

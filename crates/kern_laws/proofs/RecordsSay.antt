@@ -33,7 +33,8 @@ score_says m s records count well are =
     let tokens = map (voice_tokens s.bars) are.values in
     let saids = map voice_said are.values in
     let voices = voices_say s.resolution (length s.bars) s.bars s.voices are.values well.some_unit well.few_units well.bars well.voices are.are_values in
-    let as_many : length tokens ≡ suc m = length-map are.values (voice_tokens s.bars) ∙ sym (each_length (AreVoiceValues s.resolution 0 s.bars) s.voices are.values are.are_values) ∙ count in
+    let as_many : length tokens ≡ suc m = length-map are.values (voice_tokens s.bars) ∙ sym
+    (each_length (AreVoiceValues s.resolution 0 s.bars) s.voices are.values are.are_values) ∙ count in
     let bars = bars_say m 0 None s.bars tokens saids are.bars well.bars voices as_many are.are_bars in
     record {
       count = count;
@@ -57,10 +58,13 @@ inside_lines n [] lines h = h
 inside_lines n (row ∷ rows) [] h = h
 inside_lines n (row ∷ rows) (line ∷ lines) h = (h.0.says, inside_lines n rows lines h.1)
 
-lines_say : (m : ℕ) (s : Score) (records : List Record) → SayScore m s records → (lines : List KernLine) × AreScoreLines s lines × Each (SaysLine (length s.voices)) records lines
+lines_say : (m : ℕ) (s : Score) (records : List Record) → SayScore m s records
+    → (lines : List KernLine) × AreScoreLines s lines × Each (SaysLine (length s.voices)) records lines
 lines_say m s records h =
-    let inside = each_append (SaysLine (suc m)) h.rows (tail (suc m)) h.bars (LastBarline ∷ Ending ∷ []) (inside_lines (suc m) h.rows h.bars h.say) (last_says m, (end_says m, refl)) in
-    let all : Each (SaysLine (suc m)) (head (suc m) ∷ (h.rows ++ tail (suc m))) (Heading (suc m) ∷ (h.bars ++ LastBarline ∷ Ending ∷ [])) = (head_says m, inside) in (
+    let inside = each_append (SaysLine (suc m)) h.rows (tail (suc m)) h.bars (LastBarline ∷ Ending ∷ [])
+    (inside_lines (suc m) h.rows h.bars h.say) (last_says m, (end_says m, refl)) in
+    let all : Each (SaysLine (suc m)) (head (suc m) ∷ (h.rows ++ tail (suc m))) (Heading (suc m) ∷ (h.bars ++ LastBarline ∷ Ending ∷ [])) =
+    (head_says m, inside) in (
       Heading (length s.voices) ∷ (h.bars ++ LastBarline ∷ Ending ∷ []),
       h.are_bars,
       subst (λ rs. Each (SaysLine (length s.voices)) rs (Heading (length s.voices) ∷ (h.bars ++ LastBarline ∷ Ending ∷ []))) (sym h.are_rows)
@@ -77,5 +81,6 @@ pub records_apart : (m : ℕ) (s : Score) (records : List Record) → SayScore m
 records_apart m s records h = let all = lines_say m s records h in rows_apart (length s.voices) records all.0 all.2
 
 -- each record of a score says a line, and these are the lines of the score
-pub records_say : (s : Score) (records : List Record) → IsScore s → AreRecords s records → (lines : List KernLine) × AreScoreLines s lines × Each (SaysLine (length s.voices)) records lines
+pub records_say : (s : Score) (records : List Record) → IsScore s → AreRecords s records
+    → (lines : List KernLine) × AreScoreLines s lines × Each (SaysLine (length s.voices)) records lines
 records_say s records well are = let all = score_rows s records well are in lines_say all.0 s records all.1

@@ -49,22 +49,26 @@ pub record IsWellVoiceValue (v : VoiceValue) : Type 0 where
 
 one_value : (P : Value → Type 0) (o : Option Sound) (first : Bool) (w : Written) → P w.value → All (λ v. P v.value) (value_of_sound o first w)
 one_value P None first w h = All-nil (λ v. P v.value)
-one_value P (Some s) first w h = All-cons (λ v. P v.value) (record { place = w.from; value = w.value; sound = s; first = first }) [] h (All-nil (λ v. P v.value))
+one_value P (Some s) first w h =
+    All-cons (λ v. P v.value) (record { place = w.from; value = w.value; sound = s; first = first }) [] h (All-nil (λ v. P v.value))
 
-values_hold : (P : Value → Type 0) (sounds : List Sound) (before : Option ℕ) (ws : List Written) → All P (map (λ w. w.value) ws) → All (λ v. P v.value) (values_of_sounds sounds before ws)
+values_hold : (P : Value → Type 0) (sounds : List Sound) (before : Option ℕ) (ws : List Written) → All P (map (λ w. w.value) ws)
+    → All (λ v. P v.value) (values_of_sounds sounds before ws)
 values_hold P sounds before [] all = All-nil (λ v. P v.value)
 values_hold P sounds before (w ∷ ws) all =
     All-append (λ v. P v.value) (value_of_sound (slice_get sounds w.leaf) (is_first before w.leaf) w) (values_of_sounds sounds (Some w.leaf) ws)
     (one_value P (slice_get sounds w.leaf) (is_first before w.leaf) w (All-head P w.value (map (λ w. w.value) ws) all))
     (values_hold P sounds (Some w.leaf) ws (All-tail P w.value (map (λ w. w.value) ws) all))
 
-pub bar_values : (r : ℕ) (bar : ScoreBar) (sounds : List Sound) (vs : List VoiceValue) → 1 ≤ r → r ≤ MOST_UNITS → IsScoreBar bar → All IsWellSounding sounds
+pub bar_values : (r : ℕ) (bar : ScoreBar) (sounds : List Sound) (vs : List VoiceValue) → 1 ≤ r → r ≤ MOST_UNITS → IsScoreBar bar
+    → All IsWellSounding sounds
     → AreBarValues r bar sounds vs → All IsWellVoiceValue vs
 bar_values r bar sounds vs some few well sounding (ws, written, is) =
     let whole = r * bar.den in
     let dots = written_dots whole (map (timed bar) sounds) ws written in
     let parts = written_part r bar.den (map (timed bar) sounds) ws well.signature.power written in
-    let values = values_hold IsWellValue sounds None ws (λ k d lt. well_value r (get_or (map (λ w. w.value) ws) k d) some few (dots k d lt) (parts k d lt)) in
+    let values = values_hold IsWellValue sounds None ws
+    (λ k d lt. well_value r (get_or (map (λ w. w.value) ws) k d) some few (dots k d lt) (parts k d lt)) in
     let of_sounds = sounds_of_values IsWellSounding sounds None ws sounding in
     subst (All IsWellVoiceValue) (sym is) (λ k d lt. record { value = values k d lt; sound = of_sounds k d lt })
 
@@ -80,9 +84,11 @@ pub record SaysSame (t : Token) (x : Said) : Type 0 where
 
 graces_said : (flats : Bool) (graces : List ℕ) → All AreKeys graces → Each SaysGrace (map (grace_text flats) graces) graces
 graces_said flats [] all = refl
-graces_said flats (keys ∷ graces) all = (grace_said flats keys (All-head AreKeys keys graces all), graces_said flats graces (All-tail AreKeys keys graces all))
+graces_said flats (keys ∷ graces) all =
+    (grace_said flats keys (All-head AreKeys keys graces all), graces_said flats graces (All-tail AreKeys keys graces all))
 
-graces_at : (flats : Bool) (first : Bool) (graces : List ℕ) → All AreKeys graces → Each SaysGrace (if first then map (grace_text flats) graces else []) (if first then graces else [])
+graces_at : (flats : Bool) (first : Bool) (graces : List ℕ) → All AreKeys graces
+    → Each SaysGrace (if first then map (grace_text flats) graces else []) (if first then graces else [])
 graces_at flats true graces all = graces_said flats graces all
 graces_at flats false graces all = refl
 
@@ -93,27 +99,31 @@ token_said flats v next well = record {
   main = main_said flats v next well.value well.sound;
 }
 
-bar_says : (flats : Bool) (vs later : List VoiceValue) → All IsWellVoiceValue vs → Each SaysSame (bar_tokens flats vs later) (bar_said vs later)
-bar_says flats [] later all = refl
-bar_says flats (v ∷ vs) later all =
-    (token_said flats v (next_goes_on (vs ++ later)) (All-head IsWellVoiceValue v vs all), bar_says flats vs later (All-tail IsWellVoiceValue v vs all))
+values_say : (flats : Bool) (vs later : List VoiceValue) → All IsWellVoiceValue vs → Each SaysSame (bar_tokens flats vs later) (bar_said vs later)
+values_say flats [] later all = refl
+values_say flats (v ∷ vs) later all =
+    (token_said flats v (next_goes_on (vs ++ later)) (All-head IsWellVoiceValue v vs all), values_say flats vs later (All-tail IsWellVoiceValue v vs all))
 
 -- ---- voices
 
-voice_says : (r n : ℕ) (bars : List ScoreBar) (sounds : List Sound) (vss : List (List VoiceValue)) → 1 ≤ r → r ≤ MOST_UNITS → All IsScoreBar bars → All IsWellSounding sounds
+voice_says : (r n : ℕ) (bars : List ScoreBar) (sounds : List Sound) (vss : List (List VoiceValue)) → 1 ≤ r → r ≤ MOST_UNITS
+    → All IsScoreBar bars → All IsWellSounding sounds
     → AreVoiceValues r n bars sounds vss → Each (Each SaysSame) (voice_tokens bars vss) (voice_said vss)
 voice_says r n [] sounds vss some few well sounding h = ap voice_said h
 voice_says r n (bar ∷ bars) sounds [] some few well sounding h = absurd h
 voice_says r n (bar ∷ bars) sounds (vs ∷ vss) some few well sounding h =
-    let own = bar_values r bar (sounds_in_bar n sounds) vs some few (All-head IsScoreBar bar bars well) (All-filter (λ s. s.bar == n) IsWellSounding sounds sounding) h.0 in
-    (bar_says (has_flats bar.sf) vs (flat_map (λ vs. vs) vss) own, voice_says r (suc n) bars sounds vss some few (All-tail IsScoreBar bar bars well) sounding h.1)
+    let own = bar_values r bar (sounds_in_bar n sounds) vs some few (All-head IsScoreBar bar bars well)
+    (All-filter (λ s. s.bar == n) IsWellSounding sounds sounding) h.0 in
+    (values_say (has_flats bar.sf) vs (flat_map (λ vs. vs) vss) own, voice_says r (suc n) bars sounds vss some few (All-tail IsScoreBar bar bars well) sounding h.1)
 
 -- what the tokens of each voice say
 abbrev pub VoicesSay : List (List (List Token)) → List (List (List Said)) → Type 0
 VoicesSay tokens saids = Each (Each (Each SaysSame)) tokens saids
 
-pub voices_say : (r count : ℕ) (bars : List ScoreBar) (voices : List (List Sound)) (values : List (List (List VoiceValue))) → 1 ≤ r → r ≤ MOST_UNITS → All IsScoreBar bars
-    → All (AreWellSounded r count) voices → Each (AreVoiceValues r 0 bars) voices values → VoicesSay (map (voice_tokens bars) values) (map voice_said values)
+pub voices_say : (r count : ℕ) (bars : List ScoreBar) (voices : List (List Sound)) (values : List (List (List VoiceValue))) → 1 ≤ r
+    → r ≤ MOST_UNITS → All IsScoreBar bars
+    → All (AreWellSounded r count) voices → Each (AreVoiceValues r 0 bars) voices values → VoicesSay (map (voice_tokens bars) values)
+    (map voice_said values)
 voices_say r count bars [] [] some few well sounded h = refl
 voices_say r count bars [] (vss ∷ values) some few well sounded h = cc
 voices_say r count bars (sounds ∷ voices) [] some few well sounded h = absurd h

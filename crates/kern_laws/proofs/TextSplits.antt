@@ -17,11 +17,13 @@ same_byte : (byte : ℕ) → (byte == byte) ≡ true
 same_byte byte = grind (arith, nat_tests)
 
 -- a text without the byte is cut at the first one after it
-pub split_first : (byte : ℕ) (text more : List ℕ) → lacks byte text ≡ true → slice_split (λ b. b == byte) (text ++ byte ∷ more) ≡ text ∷ slice_split (λ b. b == byte) more
+pub split_first : (byte : ℕ) (text more : List ℕ) → lacks byte text ≡ true
+    → slice_split (λ b. b == byte) (text ++ byte ∷ more) ≡ text ∷ slice_split (λ b. b == byte) more
 split_first byte [] more h = slice_split-cons_yes (λ b. b == byte) byte more (same_byte byte)
 split_first byte (b ∷ text) more h =
     let parts = and_parts (not (b == byte)) (lacks byte text) h in
-    slice_split-cons_no (λ b. b == byte) b (text ++ byte ∷ more) (false_of_not (b == byte) parts.0) ∙ ap (onto_first b) (split_first byte text more parts.1)
+    slice_split-cons_no (λ b. b == byte) b (text ++ byte ∷ more) (false_of_not (b == byte) parts.0) ∙ ap (onto_first b)
+    (split_first byte text more parts.1)
 
 pub split_last : (byte : ℕ) (text : List ℕ) → lacks byte text ≡ true → slice_split (λ b. b == byte) text ≡ text ∷ []
 split_last byte [] h = refl

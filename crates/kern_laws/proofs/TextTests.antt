@@ -49,7 +49,8 @@ pub none_alike : {X : Type 0} (p : X → Bool) (n : ℕ) (x : X) → p x ≡ fal
 none_alike p zero x h = refl
 none_alike p (suc n) x h = or_from (p x) (list_any p (replicate n x)) h (none_alike p n x h)
 
-pub all_joined : (p : ℕ → Bool) (byte : ℕ) (parts : List (List ℕ)) → p byte ≡ true → list_all (list_all p) parts ≡ true → list_all p (join_with_byte byte parts) ≡ true
+pub all_joined : (p : ℕ → Bool) (byte : ℕ) (parts : List (List ℕ)) → p byte ≡ true → list_all (list_all p) parts ≡ true
+    → list_all p (join_with_byte byte parts) ≡ true
 all_joined p byte [] h k = refl
 all_joined p byte (part ∷ []) h k = (and_parts (list_all p part) true k).0
 all_joined p byte (part ∷ next ∷ parts) h k =
@@ -85,10 +86,12 @@ onto_digits : (k n : ℕ) (text : List ℕ) → list_all is_ascii_digit text ≡
 onto_digits zero n text h = h
 onto_digits (suc k) n text h =
     let digit = digit_glyph false (n % 10) in
-    let more : list_all is_ascii_digit (digit ∷ text) ≡ true = and_from (is_ascii_digit digit) (list_all is_ascii_digit text) (glyph_digit (n % 10) (mod-lt n (omega arith))) h in
+    let more : list_all is_ascii_digit (digit ∷ text) ≡ true = and_from (is_ascii_digit digit) (list_all is_ascii_digit text)
+    (glyph_digit (n % 10) (mod-lt n (omega arith))) h in
     at (n / 10 == 0) (digit ∷ text) (digits_onto k 10 false (n / 10) (digit ∷ text)) more (onto_digits k (n / 10) (digit ∷ text) more)
   where
-    at : (b : Bool) (xs ys : List ℕ) → list_all is_ascii_digit xs ≡ true → list_all is_ascii_digit ys ≡ true → list_all is_ascii_digit (if b then xs else ys) ≡ true
+    at : (b : Bool) (xs ys : List ℕ) → list_all is_ascii_digit xs ≡ true → list_all is_ascii_digit ys ≡ true
+        → list_all is_ascii_digit (if b then xs else ys) ≡ true
     at true xs ys e f = e
     at false xs ys e f = f
 

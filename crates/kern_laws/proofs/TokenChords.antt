@@ -20,7 +20,8 @@ AreRead s text = (k : ℕ) → k < 128 → note_of (text k) ≡ Some (note_at s 
 abbrev pub AreGraphic : (ℕ → List ℕ) → Type 0
 AreGraphic text = (k : ℕ) → k < 128 → list_all is_graphic (text k) ≡ true
 
-notes_read : (s : Style) (text : ℕ → List ℕ) (low : ℕ) (ks : List ℕ) → AreRead s text → KeysRise low ks → all_notes (map text ks) ≡ Some (map (note_at s) ks)
+notes_read : (s : Style) (text : ℕ → List ℕ) (low : ℕ) (ks : List ℕ) → AreRead s text → KeysRise low ks
+    → all_notes (map text ks) ≡ Some (map (note_at s) ks)
 notes_read s text low [] read h = refl
 notes_read s text low (k ∷ ks) read h =
     ap (λ o. o >>= λ note. option_map (λ notes. note ∷ notes) (all_notes (map text ks))) (read k h.1)
@@ -30,7 +31,8 @@ notes_rise : (s : Style) (k : ℕ) (ks : List ℕ) → same_style s s ≡ true �
 notes_rise s k [] same h = refl
 notes_rise s k (j ∷ ks) same h =
     let above : nat_lt k j ≡ true = let lt : k < j = omega (arith, h.0) in grind (arith, nat_tests) in
-    and_from (follows (note_at s k) (note_at s j)) (rise (note_at s j) (map (note_at s) ks)) (and_from (same_style s s) (nat_lt k j) same above) (notes_rise s j ks same h.2)
+    and_from (follows (note_at s k) (note_at s j)) (rise (note_at s j) (map (note_at s) ks))
+    (and_from (same_style s s) (nat_lt k j) same above) (notes_rise s j ks same h.2)
 
 notes_set : (s : Style) (keys : ℕ) (ks : List ℕ) → keys_with keys (map (note_at s) ks) ≡ set_with keys ks
 notes_set s keys [] = refl
@@ -55,7 +57,8 @@ unfolding chord_of
 keys_read s text k ks same read graphic h =
     let apart = all_weaker (list_all is_graphic) (lacks 32) (map text (k ∷ ks)) no_spaces (texts_graphic text 0 (k ∷ ks) graphic h) in
     let up : rise (note_at s k) (map (note_at s) ks) ≡ true = notes_rise s k ks same h.2 in
-    let set : keys_with (2 ^ k) (map (note_at s) ks) ≡ set_with 0 (k ∷ ks) = notes_set s (2 ^ k) ks ∙ ap (λ a. set_with a ks) (sym (or_none (2 ^ k))) in
+    let set : keys_with (2 ^ k) (map (note_at s) ks) ≡ set_with 0 (k ∷ ks) = notes_set s (2 ^ k) ks ∙ ap (λ a. set_with a ks)
+    (sym (or_none (2 ^ k))) in
     ap (λ pieces. all_notes pieces >>= chord_of_notes) (split_joined 32 (text k) (map text ks) apart)
     ∙ ap (λ o. o >>= chord_of_notes) (notes_read s text 0 (k ∷ ks) read h)
     ∙ ap (λ b. if b then Some (chord_token s (keys_with (2 ^ k) (map (note_at s) ks))) else None) up
@@ -79,7 +82,8 @@ pub record ReadsChord (s : Style) (text : ℕ → List ℕ) (keys : ℕ) : Type 
   pub first : IsChordText text (chord_text text keys)
   pub is : chord_of (chord_text text keys) ≡ Some (chord_token s keys)
 
-pub chord_read : (s : Style) (text : ℕ → List ℕ) (keys : ℕ) → same_style s s ≡ true → AreRead s text → AreGraphic text → AreKeys keys → ReadsChord s text keys
+pub chord_read : (s : Style) (text : ℕ → List ℕ) (keys : ℕ) → same_style s s ≡ true → AreRead s text → AreGraphic text → AreKeys keys
+    → ReadsChord s text keys
 chord_read s text keys same read graphic are = at (rising_keys keys) refl (keys_rise keys) (keys_set keys are.1)
   where
     at : (ks : List ℕ) → rising_keys keys ≡ ks → KeysRise 0 ks → set_with 0 ks ≡ keys → ReadsChord s text keys
@@ -87,7 +91,8 @@ chord_read s text keys same read graphic are = at (rising_keys keys) refl (keys_
     at (k ∷ ks) e h set =
         let whole : chord_text text keys ≡ join_with_byte 32 (map text (k ∷ ks)) = ap (λ js. join_with_byte 32 (map text js)) e in
         let front = joined_first (text k) (map text ks) in
-        let prints = all_joined is_printing 32 (map text (k ∷ ks)) refl (all_weaker (list_all is_graphic) (list_all is_printing) (map text (k ∷ ks)) all_print (texts_graphic text 0 (k ∷ ks) graphic h)) in
+        let prints = all_joined is_printing 32 (map text (k ∷ ks)) refl
+        (all_weaker (list_all is_graphic) (list_all is_printing) (map text (k ∷ ks)) all_print (texts_graphic text 0 (k ∷ ks) graphic h)) in
         record {
           printing = ap (list_all is_printing) whole ∙ prints;
           first = record { key = k; within = h.1; more = front.0; is = whole ∙ front.1 };

@@ -47,10 +47,12 @@ from_set keys k (suc n) = at (bit_at keys k) refl (bit_at-lt keys k) (from_set k
         → set_with (keys % 2 ^ k) ((if bit_at keys k == 1 then k ∷ [] else []) ++ keys_from keys (suc k) n) ≡ keys % 2 ^ (k + suc n)
     at zero e less rest =
         ap (λ b. set_with (keys % 2 ^ k) ((if b == 1 then k ∷ [] else []) ++ keys_from keys (suc k) n)) e
-        ∙ ap (λ a. set_with a (keys_from keys (suc k) n)) (sym (found_skip keys k e) ∙ ap (λ m. keys % 2 ^ m) next) ∙ rest ∙ ap (λ m. keys % 2 ^ m) last
+        ∙ ap (λ a. set_with a (keys_from keys (suc k) n)) (sym (found_skip keys k e) ∙ ap (λ m. keys % 2 ^ m) next) ∙ rest ∙ ap
+        (λ m. keys % 2 ^ m) last
     at (suc zero) e less rest =
         ap (λ b. set_with (keys % 2 ^ k) ((if b == 1 then k ∷ [] else []) ++ keys_from keys (suc k) n)) e
-        ∙ ap (λ a. set_with a (keys_from keys (suc k) n)) (sym (found_push keys k e) ∙ ap (λ m. keys % 2 ^ m) next) ∙ rest ∙ ap (λ m. keys % 2 ^ m) last
+        ∙ ap (λ a. set_with a (keys_from keys (suc k) n)) (sym (found_push keys k e) ∙ ap (λ m. keys % 2 ^ m) next) ∙ rest ∙ ap
+        (λ m. keys % 2 ^ m) last
     at (suc (suc b)) e less rest = absurd (omega (arith, less))
 
 pub keys_set : (keys : ℕ) → keys < 2 ^ 128 → set_with 0 (rising_keys keys) ≡ keys

@@ -72,7 +72,8 @@ abbrev pub plain_text : Bool → VoiceValue → Bool → ℕ → List ℕ
 plain_text flats v next key = value_text v.value ++ (pitch flats key ++ marks_text (goes_on v) next (is_marked_short v))
 
 -- a note is its bracket and that
-pub note_parts : (flats : Bool) (v : VoiceValue) (next : Bool) (key : ℕ) → note_text flats v next key ≡ opening (goes_on v) next ++ plain_text flats v next key
+pub note_parts : (flats : Bool) (v : VoiceValue) (next : Bool) (key : ℕ)
+    → note_text flats v next key ≡ opening (goes_on v) next ++ plain_text flats v next key
 note_parts flats v next key =
     let front = opening (goes_on v) next in
     let value = value_text v.value in
@@ -96,8 +97,10 @@ plain_read flats v next key well within =
     let over = marks_end (goes_on v) next (is_marked_short v) in
     let first : value_part text ≡ value = run_taken is_value_byte value (letters ++ marks) (value_bytes v.value) ends in
     let rest : after_value text ≡ letters ++ marks = run_dropped is_value_byte value (letters ++ marks) (value_bytes v.value) ends in
-    let second : pitch_part text ≡ letters = ap (λ t. take_while is_pitch_byte t) rest ∙ run_taken is_pitch_byte letters marks (pitch_bytes flats key within) over in
-    let third : marks_part text ≡ marks = ap (λ t. drop (prefix_len is_pitch_byte t) t) rest ∙ run_dropped is_pitch_byte letters marks (pitch_bytes flats key within) over in
+    let second : pitch_part text ≡ letters = ap (λ t. take_while is_pitch_byte t) rest ∙ run_taken is_pitch_byte letters marks
+    (pitch_bytes flats key within) over in
+    let third : marks_part text ≡ marks = ap (λ t. drop (prefix_len is_pitch_byte t) t) rest ∙ run_dropped is_pitch_byte letters marks
+    (pitch_bytes flats key within) over in
     (valued_style (writing_of v next)).1.read text key (ap value_of first ∙ values v.value well) (ap key_of second ∙ pitches flats key within)
     (ap marks_of third ∙ marks_read (goes_on v) next (is_marked_short v) (short_begins v))
 
@@ -119,7 +122,8 @@ bracket_read : (flats : Bool) (v : VoiceValue) (next : Bool) (key : ℕ) (opens 
 unfolding note_of
 bracket_read flats v next key true well = refl
 bracket_read flats v next key false well =
-    unbracketed (plain_text flats v next key) (first_append (value_text v.value) (pitch flats key ++ marks_text (goes_on v) next (is_marked_short v)) (value_begins v.value well))
+    let rest = pitch flats key ++ marks_text (goes_on v) next (is_marked_short v) in
+    unbracketed (plain_text flats v next key) (first_append (value_text v.value) rest (value_begins v.value well))
 
 pub note_read : (flats : Bool) (v : VoiceValue) (next : Bool) (key : ℕ) → IsWellValue v.value → key < 128
     → note_of (note_text flats v next key) ≡ Some (note_at (note_style v next) key)
@@ -139,7 +143,8 @@ bracket_graphic false = refl
 pub note_graphic : (flats : Bool) (v : VoiceValue) (next : Bool) (key : ℕ) → key < 128 → list_all is_graphic (note_text flats v next key) ≡ true
 note_graphic flats v next key within =
     ap (list_all is_graphic) (note_parts flats v next key)
-    ∙ all_append is_graphic (opening (goes_on v) next) (plain_text flats v next key) (bracket_graphic (not (goes_on v) && next)) (plain_graphic flats v next key within)
+    ∙ all_append is_graphic (opening (goes_on v) next) (plain_text flats v next key) (bracket_graphic (not (goes_on v) && next))
+    (plain_graphic flats v next key within)
 
 -- ---- a grace note
 

@@ -56,7 +56,9 @@ digit_no_dot (b ∷ text) h = let no : (b == 46) ≡ false = grind (arith, nat_t
 -- ---- rests
 
 rest_prints : (v : Value) → list_all is_printing (value_text v ++ codes "r") ≡ true
-rest_prints v = all_weaker is_graphic is_printing (value_text v ++ codes "r") graphic_prints (all_append is_graphic (value_text v) (codes "r") (value_graphic v) refl)
+rest_prints v =
+    all_weaker is_graphic is_printing (value_text v ++ codes "r") graphic_prints
+    (all_append is_graphic (value_text v) (codes "r") (value_graphic v) refl)
 
 rest_read : (v : Value) → IsWellValue v → token_of (value_text v ++ codes "r") ≡ Some (token.Rest v)
 unfolding token_of
@@ -97,21 +99,26 @@ begins_append : (text more : List ℕ) → begins_pitch text ≡ true → begins
 begins_append [] more h = cc
 begins_append (b ∷ text) more h = h
 
-value_front : (v : Value) (flats : Bool) (key : ℕ) (more : List ℕ) → IsWellValue v → key < 128 → IsChordFront (value_text v ++ (pitch flats key ++ more))
+value_front : (v : Value) (flats : Bool) (key : ℕ) (more : List ℕ) → IsWellValue v → key < 128
+    → IsChordFront (value_text v ++ (pitch flats key ++ more))
 unfolding token_of
 value_front v flats key more well within =
     let rest = pitch flats key ++ more in
     let text = value_text v ++ rest in
     let digit = first_append (value_text v) rest (value_begins v well) in
-    let after : after_value text ≡ rest = run_dropped is_value_byte (value_text v) rest (value_bytes v) (value_ends (pitch flats key) more (pitch_begins flats key within)) in
-    let no : bytes_eq (after_value text) (codes "r") ≡ false = ap (λ t. bytes_eq t (codes "r")) after ∙ no_rest rest (begins_append (pitch flats key) more (pitch_begins flats key within)) in (
+    let after : after_value text ≡ rest = run_dropped is_value_byte (value_text v) rest (value_bytes v)
+    (value_ends (pitch flats key) more (pitch_begins flats key within)) in
+    let no : bytes_eq (after_value text) (codes "r") ≡ false = ap (λ t. bytes_eq t (codes "r")) after ∙ no_rest rest
+    (begins_append (pitch flats key) more (pitch_begins flats key within)) in (
       digit_data text digit,
-      ap (λ b. if b then Some token.Null else if bytes_eq (after_value text) (codes "r") then rest_of (value_part text) else chord_of text) (digit_no_dot text digit)
+      ap (λ b. if b then Some token.Null else if bytes_eq (after_value text) (codes "r") then rest_of (value_part text) else chord_of text)
+          (digit_no_dot text digit)
           ∙ ap (λ b. if b then rest_of (value_part text) else chord_of text) no,
     )
 
 -- the text of a note begins a chord
-note_front : (flats : Bool) (v : VoiceValue) (next : Bool) (key : ℕ) (more : List ℕ) → IsWellValue v.value → key < 128 → IsChordFront (note_text flats v next key ++ more)
+note_front : (flats : Bool) (v : VoiceValue) (next : Bool) (key : ℕ) (more : List ℕ) → IsWellValue v.value → key < 128
+    → IsChordFront (note_text flats v next key ++ more)
 note_front flats v next key more well within =
     subst (λ t. IsChordFront (t ++ more)) (sym (note_parts flats v next key)) (at (not (goes_on v) && next))
   where
@@ -120,7 +127,8 @@ note_front flats v next key more well within =
     at false =
         let marks = marks_text (goes_on v) next (is_marked_short v) in
         let parts : plain_text flats v next key ++ more ≡ value_text v.value ++ (pitch flats key ++ (marks ++ more)) =
-        append_assoc (value_text v.value) (pitch flats key ++ marks) more ∙ ap (λ t. value_text v.value ++ t) (append_assoc (pitch flats key) marks more) in
+        append_assoc (value_text v.value) (pitch flats key ++ marks) more ∙ ap (λ t. value_text v.value ++ t)
+        (append_assoc (pitch flats key) marks more) in
         subst IsChordFront (sym parts) (value_front v.value flats key (marks ++ more) well within)
 
 -- ---- chords
@@ -137,21 +145,25 @@ pub grace_said : (flats : Bool) (keys : ℕ) → AreKeys keys → SaysToken (gra
 grace_said flats keys are =
     let read = chord_read grace_style.0 (grace_note_text flats) keys grace_style.1.same (grace_read flats) (grace_graphic flats) are in
     let first = read.first in
-    chord_said (grace_note_text flats) keys (token.Grace keys) (λ k more within. grace_front (pitch flats k ++ more)) read.printing first.key first.more first.within first.is
+    chord_said (grace_note_text flats) keys (token.Grace keys)
+    (λ k more within. grace_front (pitch flats k ++ more)) read.printing first.key first.more first.within first.is
     (read.is ∙ ap Some (grace_style.1.token keys))
 
 valued_said : (flats : Bool) (v : VoiceValue) (next : Bool) → IsWellValue v.value → AreKeys v.sound.keys
     → SaysToken (chord_text (note_text flats v next) v.sound.keys) (token.Chord (writing_of v next) v.sound.keys)
 valued_said flats v next well are =
     let style = valued_style (writing_of v next) in
-    let read = chord_read style.0 (note_text flats v next) v.sound.keys style.1.same (λ k within. note_read flats v next k well within) (note_graphic flats v next) are in
+    let read = chord_read style.0 (note_text flats v next) v.sound.keys style.1.same (λ k within. note_read flats v next k well within)
+    (note_graphic flats v next) are in
     let first = read.first in
-    chord_said (note_text flats v next) v.sound.keys (token.Chord (writing_of v next) v.sound.keys) (λ k more within. note_front flats v next k more well within) read.printing first.key first.more first.within first.is
+    chord_said (note_text flats v next) v.sound.keys (token.Chord (writing_of v next) v.sound.keys)
+    (λ k more within. note_front flats v next k more well within) read.printing first.key first.more first.within first.is
     (read.is ∙ ap Some (style.1.token v.sound.keys))
 
 -- ---- the text at the place of a value
 
-pub main_said : (flats : Bool) (v : VoiceValue) (next : Bool) → IsWellValue v.value → IsWellSounding v.sound → SaysToken (main_text flats v next) (value_token v next)
+pub main_said : (flats : Bool) (v : VoiceValue) (next : Bool) → IsWellValue v.value → IsWellSounding v.sound
+    → SaysToken (main_text flats v next) (value_token v next)
 main_said flats v next well sounds = at (is_rest v.sound.kind) sounds.sounding
   where
     at : (silent : Bool) → (silent ≡ false → AreKeys v.sound.keys)

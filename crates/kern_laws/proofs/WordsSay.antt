@@ -1,14 +1,13 @@
 -- What the records say that have the same text in each column: the head, changes, barlines and the end.
-use Rattle.std.proofs.Common.{◌≡◌, ℕ, ℤ, pos, negsuc, suc, ◌^◌, ◌*◌, ◌+◌, ◌<◌, ◌≤◌, ◌==◌, true, false, not, List, [], ◌∷◌, ◌++◌, append_assoc, length, refl, sym, ap, ◌∙◌, subst, arith}
-use Rattle.std.specs.Prelude.{Some, None, codes, decimal, if◌then◌else◌, nat_le, replicate, get_or, IsTrue}
+use Rattle.std.proofs.Common.{◌≡◌, ℕ, ℤ, pos, negsuc, suc, ◌*◌, ◌+◌, ◌≤◌, ◌==◌, true, false, not, List, [], ◌∷◌, ◌++◌, append_assoc, refl, sym, ap, ◌∙◌, subst, arith}
+use Rattle.std.specs.Prelude.{Some, None, codes, decimal, if◌then◌else◌, replicate, IsTrue}
 use Rattle.std.specs.Char.{is_ascii_digit}
 use Rattle.std.specs.List.{list_all, list_any}
 use Rattle.std.specs.Str.{bytes_eq}
 use Rattle.std.proofs.lemmas.Bool.{and_from, and_left, and_parts, or_left}
 use Rattle.std.proofs.lemmas.Bool.Decides.{nat_tests}
-use Rattle.std.proofs.lemmas.Fmt.{decimal_nonempty, digits_value-decimal, first_decimal}
+use Rattle.std.proofs.lemmas.Fmt.{decimal_nonempty}
 use Rattle.std.proofs.lemmas.List.{length-replicate}
-use Rattle.rhythm_base.proofs.Numerals.{numerals}
 use Rattle.rhythm_base.specs.Signatures.{IsSignature, is_den}
 use Rattle.kern_writer.specs.declared.score.ScoreBar.{ScoreBar}
 use Rattle.kern_writer.specs.Changes.{accidentals, key_text, quarters_of_minute, signature_text, tempo_text}
@@ -16,10 +15,10 @@ use Rattle.kern_writer.specs.Records.{alike, barline_record, head}
 use Rattle.kern_reader.specs.declared.token.TimeSignature.{TimeSignature}
 use Rattle.kern_reader.specs.Lines.{all_are, begins_signature, is_ending, is_heading, is_refused_word, line_of, other_line, signature_of, signature_of_numbers, signature_of_parts}
 use Rattle.kern_reader.specs.Text.{begins_with, columns}
-use Rattle.kern_reader.specs.Tokens.{◌>>=◌, is_plain, number_of}
-use Rattle.kern_reader.proofs.NumberLemmas.{number_read}
+use Rattle.kern_reader.specs.Tokens.{◌>>=◌, number_of}
 use Rattle.kern_laws.specs.ScoreLines.{Barline, Ending, Heading, KernLine, LastBarline, Other, Signature}
 use Rattle.kern_laws.proofs.RecordsLines.{SaysInside, SaysLine, not_all, other_said, row_columns, row_says, row_text}
+use Rattle.kern_laws.proofs.TextNumbers.{number_back}
 use Rattle.kern_laws.proofs.TextSplits.{split_first, split_last}
 use Rattle.kern_laws.proofs.TextTests.{all_alike, all_append, all_take, all_weaker, decimal_digits, digit_graphic, graphic_prints, is_printing, lacks, none_alike}
 use Rattle.kern_laws.proofs.TokenValues.{digits_begin}
@@ -42,12 +41,14 @@ decimal_prints n = all_weaker is_ascii_digit is_printing (decimal n) digit_print
 word_columns : (m : ℕ) (text : List ℕ) → list_all is_printing text ≡ true → columns (row_text (alike (suc m) text)) ≡ alike (suc m) text
 word_columns m text prints = row_columns text (replicate m text) (all_alike (list_all is_printing) (suc m) text prints)
 
-word_says : (m : ℕ) (text : List ℕ) (line : KernLine) → list_all is_printing text ≡ true → begins_with 33 text ≡ false → line_of (row_text (alike (suc m) text)) ≡ line
+word_says : (m : ℕ) (text : List ℕ) (line : KernLine) → list_all is_printing text ≡ true → begins_with 33 text ≡ false
+    → line_of (row_text (alike (suc m) text)) ≡ line
     → SaysLine (suc m) (alike (suc m) text) line
 word_says m text line prints said is =
     row_says (suc m) text (replicate m text) line (all_alike (list_all is_printing) (suc m) text prints) said (length-replicate (suc m) text) is
 
-word_ending : (m : ℕ) (text : List ℕ) → list_all is_printing text ≡ true → bytes_eq text (codes "*-") ≡ false → is_ending (row_text (alike (suc m) text)) ≡ false
+word_ending : (m : ℕ) (text : List ℕ) → list_all is_printing text ≡ true → bytes_eq text (codes "*-") ≡ false
+    → is_ending (row_text (alike (suc m) text)) ≡ false
 word_ending m text prints differs = not_all (codes "*-") text (replicate m text) (all_alike (list_all is_printing) (suc m) text prints) differs
 
 word_other : (m : ℕ) (text : List ℕ) → list_all is_printing text ≡ true → bytes_eq text (codes "**kern") ≡ false → bytes_eq text (codes "*-") ≡ false
@@ -60,7 +61,9 @@ word_other m text prints no_head no_end =
 -- ---- the head and the end
 
 pub head_heading : (m : ℕ) → is_heading (row_text (head (suc m))) ≡ true
-head_heading m = ap (all_are (codes "**kern")) (word_columns m (codes "**kern") refl) ∙ all_alike (λ text. bytes_eq text (codes "**kern")) (suc m) (codes "**kern") refl
+head_heading m =
+    ap (all_are (codes "**kern")) (word_columns m (codes "**kern") refl) ∙ all_alike (λ text. bytes_eq text (codes "**kern")) (suc m)
+    (codes "**kern") refl
 
 pub head_says : (m : ℕ) → SaysLine (suc m) (head (suc m)) (Heading (suc m))
 head_says m = word_says m (codes "**kern") (Heading (suc m)) refl refl refl
@@ -74,7 +77,8 @@ end_line text no_head end = rw (no_head, end) refl
 
 pub end_says : (m : ℕ) → SaysLine (suc m) (alike (suc m) (codes "*-")) Ending
 end_says m =
-    let no_head = not_all (codes "**kern") (codes "*-") (replicate m (codes "*-")) (all_alike (list_all is_printing) (suc m) (codes "*-") refl) refl in
+    let no_head = not_all (codes "**kern") (codes "*-") (replicate m (codes "*-"))
+    (all_alike (list_all is_printing) (suc m) (codes "*-") refl) refl in
     word_says m (codes "*-") Ending refl refl (end_line (row_text (alike (suc m) (codes "*-"))) no_head (end_ending m))
 
 -- ---- barlines
@@ -109,14 +113,17 @@ pub barline_says : (m n : ℕ) → SaysInside (suc m) (barline_record (suc m) n)
 barline_says m n =
     let text = codes "=" ++ decimal (n + 1) in
     record {
-      says = word_says m text Barline (decimal_prints (n + 1)) refl (word_other m text (decimal_prints (n + 1)) refl refl ∙ bar_line m (decimal (n + 1)) (decimal_digits (n + 1)));
+      says =
+          word_says m text Barline (decimal_prints (n + 1)) refl
+          (word_other m text (decimal_prints (n + 1)) refl refl ∙ bar_line m (decimal (n + 1)) (decimal_digits (n + 1)));
       ending = word_ending m text (decimal_prints (n + 1)) refl;
       body = refl;
     }
 
 -- ---- keys and tempos
 
-other_row : (m : ℕ) (text : List ℕ) → begins_with 42 text ≡ true → is_refused_word text ≡ false → begins_signature text ≡ false → other_line (alike (suc m) text) ≡ Other
+other_row : (m : ℕ) (text : List ℕ) → begins_with 42 text ≡ true → is_refused_word text ≡ false → begins_signature text ≡ false
+    → other_line (alike (suc m) text) ≡ Other
 unfolding other_line
 other_row m text star known without = rw (none_alike is_refused_word (suc m) text known, none_alike begins_signature (suc m) text without, star) refl
 
@@ -134,31 +141,13 @@ accidentals_print (pos n) = all_take is_printing (2 * n) (codes "f#c#g#d#a#e#b#"
 accidentals_print (negsuc n) = all_take is_printing (2 * (n + 1)) (codes "b-e-a-d-g-c-f-") refl
 
 pub key_says : (m : ℕ) (sf : ℤ) → SaysInside (suc m) (alike (suc m) (key_text sf)) Other
-key_says m sf = other_inside m (key_text sf) (all_append is_printing (accidentals sf) (codes "]") (accidentals_print sf) refl) refl refl refl refl refl refl
+key_says m sf =
+    other_inside m (key_text sf) (all_append is_printing (accidentals sf) (codes "]") (accidentals_print sf) refl) refl refl refl refl refl refl
 
 pub tempo_says : (m : ℕ) (bar : ScoreBar) → SaysInside (suc m) (alike (suc m) (tempo_text bar)) Other
 tempo_says m bar = other_inside m (tempo_text bar) (decimal_prints (quarters_of_minute bar.tempo)) refl refl refl refl refl refl
 
 -- ---- signatures
-
-plain_of : (ds : List ℕ) → list_all is_ascii_digit ds ≡ true → 0 < length ds → 48 < get_or ds 0 0 → is_plain ds ≡ true
-plain_of [] all some first = absurd (omega (arith, some))
-plain_of (d ∷ ds) all some first =
-    let parts = and_parts (is_ascii_digit d) (list_all is_ascii_digit ds) all in
-    low d ds first parts.0 parts.1
-  where
-    low : (d : ℕ) (ds : List ℕ) → 48 < d → is_ascii_digit d ≡ true → list_all is_ascii_digit ds ≡ true → is_plain (d ∷ ds) ≡ true
-    low d ds first digit rest =
-        let high : nat_le d 57 ≡ true = grind (arith, nat_tests) in
-        let above : nat_le 49 d ≡ true = grind (arith, nat_tests) in
-        rw (above, high, rest) refl
-
-number_back : (n : ℕ) → 1 ≤ n → n ≤ 64 → number_of 64 (decimal n) ≡ Some n
-number_back n some few =
-    let small : n < 2 ^ 64 = omega (arith, few) in
-    let value = digits_value-decimal numerals n small in
-    let plain = plain_of (decimal n) (decimal_digits n) (decimal_nonempty n small) (first_decimal n some small) in
-    sym (number_read 64 (decimal n) plain (omega (arith, value, few))) ∙ ap Some value
 
 den_range : (den : ℕ) → IsTrue (is_den den) → (1 ≤ den) × (den ≤ 64)
 den_range den h = (grind (arith, nat_tests), grind (arith, nat_tests))
@@ -172,13 +161,15 @@ slash_free n = all_weaker is_ascii_digit (λ b. not (b == 47)) (decimal n) no_sl
 signature_parts : (bar : ScoreBar) → signature_text bar ≡ 42 ∷ 77 ∷ (decimal bar.num ++ 47 ∷ decimal bar.den)
 signature_parts bar = ap (λ t. 42 ∷ 77 ∷ t) (append_assoc (decimal bar.num) (47 ∷ []) (decimal bar.den))
 
-numbers_back : (num den : ℕ) → IsSignature num den → signature_of (42 ∷ 77 ∷ (decimal num ++ 47 ∷ decimal den)) ≡ Some (record { num = num; den = den })
+numbers_back : (num den : ℕ) → IsSignature num den
+    → signature_of (42 ∷ 77 ∷ (decimal num ++ 47 ∷ decimal den)) ≡ Some (record { num = num; den = den })
 unfolding signature_of
 numbers_back num den h =
     let range = den_range den h.power in
-    ap signature_of_numbers (split_first 47 (decimal num) (decimal den) (slash_free num) ∙ ap (λ parts. decimal num ∷ parts) (split_last 47 (decimal den) (slash_free den)))
-    ∙ ap (λ o. o >>= λ n. number_of 64 (decimal den) >>= λ d. signature_of_parts n d) (number_back num h.some h.few)
-    ∙ ap (λ o. o >>= λ d. signature_of_parts num d) (number_back den range.0 range.1)
+    ap signature_of_numbers (split_first 47 (decimal num) (decimal den) (slash_free num))
+    ∙ ap (λ parts. signature_of_numbers (decimal num ∷ parts)) (split_last 47 (decimal den) (slash_free den))
+    ∙ ap (λ o. o >>= λ n. number_of 64 (decimal den) >>= λ d. signature_of_parts n d) (number_back 64 num h.some h.few (omega arith))
+    ∙ ap (λ o. o >>= λ d. signature_of_parts num d) (number_back 64 den range.0 range.1 (omega arith))
     ∙ ap (λ b. if b then Some (record { num = num; den = den }) else None) h.power
 
 signature_prints : (num den : ℕ) → list_all is_printing (42 ∷ 77 ∷ (decimal num ++ 47 ∷ decimal den)) ≡ true
@@ -187,15 +178,18 @@ signature_prints num den = all_append is_printing (decimal num) (47 ∷ decimal 
 signature_begins : (num den : ℕ) → num ≤ 64 → begins_signature (42 ∷ 77 ∷ (decimal num ++ 47 ∷ decimal den)) ≡ true
 signature_begins num den few = digits_begin (decimal num) (47 ∷ decimal den) (decimal_nonempty num (omega (arith, few))) (decimal_digits num)
 
-signature_row : (m : ℕ) (rest : List ℕ) (signature : TimeSignature) → begins_signature (42 ∷ 77 ∷ rest) ≡ true → signature_of (42 ∷ 77 ∷ rest) ≡ Some signature
+signature_row : (m : ℕ) (rest : List ℕ) (signature : TimeSignature) → begins_signature (42 ∷ 77 ∷ rest) ≡ true
+    → signature_of (42 ∷ 77 ∷ rest) ≡ Some signature
     → other_line (alike (suc m) (42 ∷ 77 ∷ rest)) ≡ Signature signature
 unfolding other_line
 signature_row m rest signature begins is =
     let word = 42 ∷ 77 ∷ rest in
-    let any : list_any begins_signature (alike (suc m) word) ≡ true = or_left (begins_signature word) (list_any begins_signature (replicate m word)) begins in
+    let any : list_any begins_signature (alike (suc m) word) ≡ true = or_left (begins_signature word)
+    (list_any begins_signature (replicate m word)) begins in
     rw (none_alike is_refused_word (suc m) word refl, any, all_word m word, is) refl
 
-pub signature_says : (m : ℕ) (bar : ScoreBar) → IsSignature bar.num bar.den → SaysInside (suc m) (alike (suc m) (signature_text bar)) (Signature (record { num = bar.num; den = bar.den }))
+pub signature_says : (m : ℕ) (bar : ScoreBar) → IsSignature bar.num bar.den
+    → SaysInside (suc m) (alike (suc m) (signature_text bar)) (Signature (record { num = bar.num; den = bar.den }))
 signature_says m bar h =
     let rest = decimal bar.num ++ 47 ∷ decimal bar.den in
     let word = 42 ∷ 77 ∷ rest in
