@@ -1,0 +1,144 @@
+-- Values that count in one grid: their least common multiple divides it, and how wide they are in it.
+use Rattle.std.proofs.Common.{◌≡◌, ℕ, zero, suc, ◌+◌, ◌-◌, ◌*◌, ◌/◌, ◌%◌, ◌^◌, ◌<◌, ◌≤◌, ◌==◌, Bool, true, false, ◌||◌, List, [], ◌∷◌, refl, sym, ap, ◌∙◌, subst, arith, ◌⊎◌, inl, inr}
+use Rattle.std.specs.Prelude.{All, IsTrue, if◌then◌else◌}
+use Rattle.std.specs.Int.{◌∣◌}
+use Rattle.std.proofs.Math.Nat.{div-mul_cancel, dvd-sub, dvd_trans, dvd-mul_right, dvd_of_mul-dvd-mul_right, le_of_dvd, mul-div_left, mul-dvd-mul_right, zero-dvd}
+use Rattle.std.proofs.lemmas.Bool.Decides.{nat_tests}
+use Rattle.std.proofs.lemmas.List.Elements.{All-head, All-tail}
+use Rattle.std.proofs.lemmas.Nat.{pow_pos, div-add-mod'}
+use Rattle.std.proofs.lemmas.Nat.Gcd.{dvd_of_mod-eq-zero}
+use Rattle.rhythm_base.specs.Signatures.{is_den}
+use Rattle.durations.specs.declared.value.Value.{Value}
+use Rattle.durations.specs.Value.{IsWide, parts, plain_grid, value_grid, width}
+use Rattle.kern_reader.specs.Columns.{gcd, gcd_within, grid_with, lcm}
+use Rattle.kern_reader.specs.Tokens.{IsWellValue}
+use Rattle.kern_reader.proofs.GridLemmas.{gcd_is, gcd_some}
+
+-- ---- the least common multiple
+
+common_scaled : (steps a b n d : ℕ) → b < steps → d ∣ n * a → d ∣ n * b → d ∣ n * gcd_within steps a b
+common_scaled zero a b n d few h k = absurd (omega (arith, few))
+common_scaled (suc steps) a b n d few h k = at (b == 0) refl (λ less. common_scaled steps b (a % b) n d less k rest)
+  where
+    whole : n * a ≡ n * b * (a / b) + n * (a % b)
+    whole = ap (λ x. n * x) (sym (div-add-mod' a b)) ∙ ring n (a / b) b (a % b)
+      where
+        ring : (n q b r : ℕ) → n * (q * b + r) ≡ n * b * q + n * r
+        ring n q b r = grind arith
+
+    left : n * a - n * b * (a / b) ≡ n * (a % b)
+    left = omega (arith, whole)
+
+    rest : d ∣ n * (a % b)
+    rest = subst (λ x. d ∣ x) left (dvd-sub d h (dvd_trans d k (dvd-mul_right (n * b) (a / b))))
+
+    at : (t : Bool) → (b == 0) ≡ t → (a % b < steps → d ∣ n * gcd_within steps b (a % b)) → d ∣ n * (if t then a else gcd_within steps b (a % b))
+    at true e next = h
+    at false e next = let some : 0 < b = grind (arith, nat_tests) in next (omega arith)
+
+gcd_scaled : (a b n d : ℕ) → d ∣ n * a → d ∣ n * b → d ∣ n * gcd a b
+unfolding gcd
+gcd_scaled a b n d h k = common_scaled (suc b) a b n d (omega arith) h k
+
+-- it divides each common multiple
+pub lcm_divides : (a b n : ℕ) → 1 ≤ b → a ∣ n → b ∣ n → lcm a b ∣ n
+lcm_divides a b n some h k =
+    let g = gcd a b in
+    let some_g : 0 < g = (gcd_some a b some).0 in
+    let first : a * b ∣ n * a = subst (λ x. x ∣ n * a) (turned b a) (mul-dvd-mul_right b k a) in
+    let second : a * b ∣ n * b = mul-dvd-mul_right a h b in
+    let both : a * b ∣ n * g = gcd_scaled a b n (a * b) first second in
+    let split : a * (b / g) * g ≡ a * b = regrouped a (b / g) g ∙ ap (λ x. a * x) (div-mul_cancel g (gcd_is a b).1) in
+    dvd_of_mul-dvd-mul_right {k = g} (a * (b / g)) {n = n} some_g (subst (λ x. x ∣ n * g) (sym split) both)
+  where
+    turned : (x y : ℕ) → x * y ≡ y * x
+    turned x y = grind arith
+
+    regrouped : (x y z : ℕ) → x * y * z ≡ x * (y * z)
+    regrouped x y z = grind arith
+
+positive : (d n : ℕ) → 1 ≤ n → d ∣ n → 1 ≤ d
+positive zero n some divides = let e : n ≡ zero = (zero-dvd {n = n}).0 divides in absurd (omega arith)
+positive (suc d) n some divides = omega arith
+
+pub grid_divides : (n grid : ℕ) (vs : List Value) → 1 ≤ n → grid ∣ n → All (λ v. value_grid v ∣ n) vs → grid_with grid vs ∣ n
+grid_divides n grid [] some h all = h
+grid_divides n grid (v ∷ vs) some h all =
+    let k = All-head (λ v. value_grid v ∣ n) v vs all in
+    grid_divides n (lcm grid (value_grid v)) vs some (lcm_divides grid (value_grid v) n (positive (value_grid v) n some k) h k) (All-tail (λ v. value_grid v ∣ n) v vs all)
+
+pub divisor_some : (d n : ℕ) → 1 ≤ n → d ∣ n → 1 ≤ d
+divisor_some d n some h = positive d n some h
+
+-- ---- widths
+
+-- a value is so many times as wide in parts that are as many times finer
+pub width_finer : (whole k n : ℕ) (v : Value) → 1 ≤ value_grid v → whole * k ≡ n → IsWide whole v → width n v ≡ k * width whole v
+width_finer whole k n v some finer wide =
+    let w = width whole v in
+    let is : w * value_grid v ≡ parts v * whole = div-mul_cancel (value_grid v) wide in
+    let product : parts v * n ≡ k * w * value_grid v = ap (λ x. parts v * x) (sym finer) ∙ apart (parts v) whole k ∙ ap (λ x. k * x) (sym is) ∙ joined k w (value_grid v) in
+    ap (λ x. x / value_grid v) product ∙ mul-div_left (k * w) some
+  where
+    apart : (p a b : ℕ) → p * (a * b) ≡ b * (p * a)
+    apart p a b = grind arith
+
+    joined : (a b c : ℕ) → a * (b * c) ≡ a * b * c
+    joined a b c = grind arith
+
+-- a value that counts in a grid of at most 61,440 parts is one that is read
+small_plain : (g p n : ℕ) → 1 ≤ p → 1 ≤ n → g * p ∣ n → n ≤ 61440 → (1 ≤ g) × (g ≤ 61440)
+small_plain g p n some long h few =
+    let first : g ∣ n = dvd_trans g (dvd-mul_right g p) h in
+    (positive g n long first, omega (arith, le_of_dvd {m = g} {n = n} long first, few))
+
+pub well_value : (v : Value) (n : ℕ) → 1 ≤ n → n ≤ 61440 → value_grid v ∣ n → v.dots ≤ 2 → IsWellValue v
+well_value v n some few h dots =
+    let small = small_plain (plain_grid v.recip) (2 ^ v.dots) n (pow_pos v.dots) some h few in
+    record { some = small.0; few = small.1; dots = dots }
+
+-- ---- the beat of a signature is a part of 64
+
+either : (a b : Bool) → (a || b) ≡ true → (a ≡ true) ⊎ (b ≡ true)
+either true b h = inl refl
+either false b h = inr h
+
+beat_at : (den k : ℕ) → (den == k) ≡ true → k ∣ 64 → den ∣ 64
+beat_at den k h part = let e : den ≡ k = grind (arith, nat_tests, h) in subst (λ x. x ∣ 64) (sym e) part
+
+pub beat_part : (den : ℕ) → IsTrue (is_den den) → den ∣ 64
+beat_part den h = go (either (den == 1) _ h)
+  where
+    last : (den == 32 ≡ true) ⊎ (den == 64 ≡ true) → den ∣ 64
+    last (inl h) = beat_at den 32 h (dvd_of_mod-eq-zero 32 refl)
+    last (inr h) = beat_at den 64 h (dvd_of_mod-eq-zero 64 refl)
+
+    five : (den == 16 ≡ true) ⊎ ((den == 32 || den == 64) ≡ true) → den ∣ 64
+    five (inl h) = beat_at den 16 h (dvd_of_mod-eq-zero 16 refl)
+    five (inr h) = last (either (den == 32) (den == 64) h)
+
+    four : (den == 8 ≡ true) ⊎ ((den == 16 || (den == 32 || den == 64)) ≡ true) → den ∣ 64
+    four (inl h) = beat_at den 8 h (dvd_of_mod-eq-zero 8 refl)
+    four (inr h) = five (either (den == 16) _ h)
+
+    three : (den == 4 ≡ true) ⊎ ((den == 8 || (den == 16 || (den == 32 || den == 64))) ≡ true) → den ∣ 64
+    three (inl h) = beat_at den 4 h (dvd_of_mod-eq-zero 4 refl)
+    three (inr h) = four (either (den == 8) _ h)
+
+    two : (den == 2 ≡ true) ⊎ ((den == 4 || (den == 8 || (den == 16 || (den == 32 || den == 64)))) ≡ true) → den ∣ 64
+    two (inl h) = beat_at den 2 h (dvd_of_mod-eq-zero 2 refl)
+    two (inr h) = three (either (den == 4) _ h)
+
+    go : (den == 1 ≡ true) ⊎ ((den == 2 || (den == 4 || (den == 8 || (den == 16 || (den == 32 || den == 64))))) ≡ true) → den ∣ 64
+    go (inl h) = beat_at den 1 h (dvd_of_mod-eq-zero 1 refl)
+    go (inr h) = two (either (den == 2) _ h)
+
+-- parts of 1/(resolution * den) of a whole note are so many of 64 * resolution
+pub parts_finer : (resolution den : ℕ) → IsTrue (is_den den) → resolution * den * (64 / den) ≡ 64 * resolution
+parts_finer resolution den beat = let whole = div-mul_cancel den (beat_part den beat) in ring resolution den (64 / den) whole
+  where
+    ring : (r d k : ℕ) → k * d ≡ 64 → r * d * k ≡ 64 * r
+    ring r d k e = turned r d k ∙ ap (λ x. x * r) e
+      where
+        turned : (r d k : ℕ) → r * d * k ≡ k * d * r
+        turned r d k = grind arith
