@@ -1,10 +1,9 @@
 -- What a voice says can stand.
-use Rattle.std.proofs.Common.{◌≡◌, ℕ, zero, suc, ◌+◌, ◌-◌, ◌*◌, ◌/◌, ◌^◌, ◌≤◌, ◌==◌, Bool, true, false, not, ◌&&◌, ◌||◌, List, [], ◌∷◌, ◌++◌, length, take, refl, sym, ap, ◌∙◌, subst, arith, Option, Some, None}
+use Rattle.std.proofs.Common.{◌≡◌, ℕ, zero, suc, ◌+◌, ◌-◌, ◌*◌, ◌/◌, ◌^◌, ◌≤◌, Bool, true, false, not, ◌&&◌, ◌||◌, List, [], ◌∷◌, ◌++◌, length, take, refl, sym, ap, ◌∙◌, subst, arith, Option, Some, None}
 use Rattle.std.specs.Prelude.{All, if◌then◌else◌, nat_lt, slice_index_or, sum_by, ⊤}
 use Rattle.std.specs.List.{flat_map}
 use Rattle.std.proofs.Math.Nat.{div-mul_cancel}
-use Rattle.std.proofs.lemmas.Bool.{false≢true}
-use Rattle.std.proofs.lemmas.Bool.Decides.{nat_tests}
+use Rattle.std.proofs.lemmas.Bool.{false≢true, eq-eqb}
 use Rattle.std.proofs.lemmas.List.Elements.{All-cons, All-head, All-nil, All-tail, All-append}
 use Rattle.std.proofs.lemmas.List.Sums.{sum_by-cons}
 use Rattle.std.proofs.lemmas.Nat.{pow_pos}
@@ -90,9 +89,6 @@ abbrev pub tied_by : Option Sound → Bool → Option ℕ
 tied_by None next = None
 tied_by (Some s) next = if next then Some s.keys else None
 
-same_keys : (a b : ℕ) → a ≡ b → (b == a) ≡ true
-same_keys a b e = grind (arith, nat_tests, e)
-
 module _ (v : VoiceValue) (next : Bool) where
   -- a value that does not go on stands where no tie is open, and one that does after one of its keys
   tie_right : (before : Option Sound) → (goes_on v ≡ true → Links before v.sound) → is_tie_wrong (value_token v next) (tied_by before (goes_on v)) ≡ false
@@ -109,8 +105,8 @@ module _ (v : VoiceValue) (next : Bool) where
       chord (Some s) true links = go next
         where
           go : (n : Bool) → is_chord_untied (record { value = v.value; opens = false; tie = tie_mark true n; short = (writing_of v next).short }) v.sound.keys (Some s.keys) ≡ false
-          go true = ap not (same_keys s.keys v.sound.keys (links refl).1)
-          go false = ap not (same_keys s.keys v.sound.keys (links refl).1)
+          go true = ap not (eq-eqb v.sound.keys s.keys (sym (links refl).1))
+          go false = ap not (eq-eqb v.sound.keys s.keys (sym (links refl).1))
 
       go : (rest : Bool) → is_rest v.sound.kind ≡ rest → (b : Bool) → goes_on v ≡ b
           → is_tie_wrong (if rest then token.Rest v.value else token.Chord (writing_of v next) v.sound.keys) (tied_by before (goes_on v)) ≡ false

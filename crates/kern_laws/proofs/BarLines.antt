@@ -1,10 +1,12 @@
 -- The lines of bars, after those before them.
 use Rattle.std.proofs.Common.{◌≡◌, ℕ, zero, suc, ◌*◌, ◌/◌, ◌≤◌, ◌==◌, Bool, true, false, not, ◌&&◌, ◌||◌, List, [], ◌∷◌, ◌++◌, length, map, refl, sym, ap, ap₂, ◌∙◌, subst, arith, Option, Some, None}
+use Rattle.kern_laws.proofs.PlaceSteps.{waiting_bar}
+use Rattle.std.proofs.lemmas.List.{length-map}
 use Rattle.std.specs.Prelude.{All, if◌then◌else◌, nat_lt, is_none, slice_index_or}
 use Rattle.std.specs.Int.{◌∣◌}
 use Rattle.std.specs.List.{flat_map, list_all, list_any}
 use Rattle.std.proofs.Math.Nat.{div-mul_cancel, eq_of_mul-eq-mul_right, le_of_dvd}
-use Rattle.std.proofs.lemmas.Bool.{and_parts, false≢true, le-ltb}
+use Rattle.std.proofs.lemmas.Bool.{and_parts, false≢true, le-ltb, eq-eqb}
 use Rattle.std.proofs.lemmas.Bool.Decides.{nat_tests}
 use Rattle.std.proofs.lemmas.List.Elements.{All-cons, All-head, All-tail}
 use Rattle.rhythm_base.specs.Lists.{Each}
@@ -90,7 +92,7 @@ module _ (width r : ℕ) (some : 1 ≤ 64 * r) (few : 64 * r ≤ 61440) (n : ℕ
     record {
       turn = body_turn (stage_of before) Other is.body.stage other_ending;
       wide = λ h. is.body.wide;
-      faultless = said_right (stage_of before) (grid_of before) (current_bar before) (announced before) (spines_of before) Other refl (small_grid (grid_of before) (64 * r) some few is.body.divides) refl refl refl refl;
+      faultless = said_right before Other refl (small_grid (grid_of before) (64 * r) some few is.body.divides) refl refl refl refl;
     },
     record {
       body = record { stage = refl; well = All-cons IsWellLine Other before tt is.body.well; divides = is.body.divides; wide = is.body.wide };
@@ -115,7 +117,7 @@ module _ (width r : ℕ) (some : 1 ≤ 64 * r) (few : 64 * r ≤ 61440) (n : ℕ
     record {
       turn = body_turn (stage_of before) (Signature (signature_of_bar bar)) is.body.stage (signature_ending (signature_of_bar bar));
       wide = λ h. is.body.wide;
-      faultless = said_right (stage_of before) (grid_of before) (current_bar before) (announced before) (spines_of before) (Signature (signature_of_bar bar)) refl (small_grid (grid_of before) (64 * r) some few is.body.divides) refl refl refl refl;
+      faultless = said_right before (Signature (signature_of_bar bar)) refl (small_grid (grid_of before) (64 * r) some few is.body.divides) refl refl refl refl;
     },
     record {
       body = record { stage = refl; well = All-cons IsWellLine (Signature (signature_of_bar bar)) before well.signature is.body.well; divides = is.body.divides; wide = is.body.wide };
@@ -158,9 +160,6 @@ module _ (width r : ℕ) (some : 1 ≤ 64 * r) (few : 64 * r ≤ 61440) (n : ℕ
 place_bar : (grid : ℕ) (signature : TimeSignature) (column : List Token) → place grid (token.Bar signature ∷ column) ≡ 0
 place_bar grid signature column = ap (λ s. s.place) (spine_next grid (token.Bar signature) column)
 
-waiting_bar : (signature : TimeSignature) (column : List Token) → length (waiting (token.Bar signature ∷ column)) ≡ 0
-waiting_bar signature column = ap (λ s. s.graces) (spine_next 1 (token.Bar signature) column)
-
 begun_at : (r n : ℕ) (bar : ScoreBar) (bars : List ScoreBar) (p : Part) (column : List Token) → IsRested r n (bar ∷ bars) p column
     → IsAt (frame_of r bar) (Rest r (suc n) bars) (begun n p) (token.Bar (signature_of_bar bar) ∷ column)
 begun_at r n bar bars p column is =
@@ -168,7 +167,7 @@ begun_at r n bar bars p column is =
     record {
       here = place_bar (64 * r) (signature_of_bar bar) column ∙ sym (nothing (64 / bar.den)) ∙ ap (λ k. 64 / bar.den * k) (sym first);
       fits = fits;
-      waits = waiting_bar (signature_of_bar bar) column;
+      waits = ap length (waiting_bar (signature_of_bar bar) column);
       later = (more, spelt);
     }
   where
@@ -191,10 +190,6 @@ no_waiting r n g bars (p ∷ parts) [] each = absurd each
 no_waiting r n g bars (p ∷ parts) (c ∷ columns) (own, rest) =
     ap₂ ◌||◌ (ap (nat_lt 0) own.waits) (no_waiting r n g bars parts columns rest)
 
-length_barred : (signature : Option TimeSignature) (columns : List (List Token)) → length (map (add_bar signature) columns) ≡ length columns
-length_barred signature [] = refl
-length_barred signature (c ∷ columns) = ap suc (length_barred signature columns)
-
 barline_ending : Barline ≡ Ending → ⊥
 unfolding line_of
 barline_ending e = cc
@@ -208,7 +203,7 @@ module _ (width r : ℕ) (some : 1 ≤ 64 * r) (few : 64 * r ≤ 61440) (n : ℕ
     record {
       turn = body_turn (stage_of before) Barline is.body.stage barline_ending;
       wide = λ h. is.body.wide;
-      faultless = said_right (stage_of before) (grid_of before) (current_bar before) (announced before) (spines_of before) Barline refl (small_grid (grid_of before) (64 * r) some few is.body.divides) refl
+      faultless = said_right before Barline refl (small_grid (grid_of before) (64 * r) some few is.body.divides) refl
           (no_waiting r n (grid_of before) (bar ∷ bars) parts (columns_of before) is.each) (ap₂ ◌||◌ is.full (ap is_none is.said)) refl;
     },
     record {
@@ -216,7 +211,7 @@ module _ (width r : ℕ) (some : 1 ≤ 64 * r) (few : 64 * r ≤ 61440) (n : ℕ
         stage = refl;
         well = All-cons IsWellLine Barline before tt is.body.well;
         divides = is.body.divides;
-        wide = length_barred (announced before) (columns_of before) ∙ is.body.wide;
+        wide = length-map (columns_of before) (add_bar (announced before)) ∙ is.body.wide;
       };
       bar = is.said;
       next = is.said;
@@ -235,7 +230,7 @@ module _ (width r : ℕ) (some : 1 ≤ 64 * r) (few : 64 * r ≤ 61440) (n : ℕ
       turned (place g column) bar.den t ∙ ap (λ x. x * bar.den) (sym scaled ∙ full) ∙ beats (64 / bar.den) r bar.num bar.den ∙ ap (λ x. x * (r * bar.num)) beat
       ∙ sorted r bar.num ∙ ap (λ x. bar.num * x) (sym finer) ∙ joined bar.num g t in
       let same : place g column * bar.den ≡ bar.num * g = eq_of_mul-eq-mul_right t positive (place g column * bar.den) (bar.num * g) left in
-      test (place g column * bar.den) (bar.num * g) same
+      eq-eqb (place g column * bar.den) (bar.num * g) same
     where
       turned : (p d t : ℕ) → p * d * t ≡ p * t * d
       turned p d t = grind arith
@@ -248,9 +243,6 @@ module _ (width r : ℕ) (some : 1 ≤ 64 * r) (few : 64 * r ≤ 61440) (n : ℕ
 
       joined : (m g t : ℕ) → m * (g * t) ≡ m * g * t
       joined m g t = grind arith
-
-      test : (a b : ℕ) → a ≡ b → (a == b) ≡ true
-      test a b e = grind (arith, nat_tests, e)
 
   all_filled : (g t : ℕ) (ps : List Part) (columns : List (List Token)) → IsScoreBar bar → 1 ≤ t → g * t ≡ 64 * r → All (IsColumnOn g) columns → Each (IsFull (frame_of r bar) (Rest r (suc n) bars)) ps columns
       → list_all (is_filled g (signature_of_bar bar)) (map (spine_at g) columns) ≡ true

@@ -110,10 +110,10 @@ some_values whole leaf (suc d) vs long (n, e, is) = (_, [], is)
 -- ---- bars
 
 module _ (r : ℕ) (bar : ScoreBar) (well : IsScoreBar bar) (some : 1 ≤ r * bar.den) (all : List Sound) where
-  group_is : (whole : ℕ) → whole ≡ r * bar.den → (s : Sound) (more : List Sound) (v : Value) (vs : List Value)
+  group_is : (s : Sound) (more : List Sound) (v : Value) (vs : List Value)
       → AreValuesOf (r * bar.den) (timed bar s) (dots (r * bar.den) (timed bar s) (map (timed bar) more)) (v ∷ vs)
       → AreGroup r (r * bar.den) (sound_len bar.num s + sound_lens bar.num (take (dots (r * bar.den) (timed bar s) (map (timed bar) more)) more)) v vs
-  group_is whole is s more v vs values =
+  group_is s more v vs values =
       let whole = r * bar.den in
       let leaves = map (timed bar) more in
       let d = dots whole (timed bar s) leaves in
@@ -151,7 +151,7 @@ module _ (r : ℕ) (bar : ScoreBar) (well : IsScoreBar bar) (some : 1 ≤ r * ba
           let group = subst (AreValuesOf (r * bar.den) (timed bar s) (dots (r * bar.den) (timed bar s) (map (timed bar) more))) same values in
           let taken = ap (values_of_sounds all before) (is ∙ ap (λ xs. value_places (r * bar.den) i place xs ++ rest) same) ∙ values_among (r * bar.den) all i place s before v others rest here
           ∙ ap (λ b. leaf_values (r * bar.den) place s b (v ∷ others) ++ values_of_sounds all (Some i) rest) (first i (omega arith)) in
-          (dots (r * bar.den) (timed bar s) (map (timed bar) more), v, others, values_of_sounds all (Some i) rest, group_is (r * bar.den) refl s more v others group, dots_ties (r * bar.den) bar s more, taken, then_is)
+          (dots (r * bar.den) (timed bar s) (map (timed bar) more), v, others, values_of_sounds all (Some i) rest, group_is s more v others group, dots_ties (r * bar.den) bar s more, taken, then_is)
   sounded_from (suc joined) i place before (s ∷ more) ws at first (tie, ties) long h = (
     tie,
     sounded_from joined (i + 1) (place + sound_len bar.num s) before more ws (λ k. let e : i + 1 + k ≡ i + suc k = omega arith in ap (slice_get all) e ∙ at (suc k))

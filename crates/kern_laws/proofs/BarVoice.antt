@@ -1,5 +1,6 @@
 -- The sounds and the values of a voice, bar by bar.
 use Rattle.std.proofs.Common.{◌≡◌, ℕ, suc, ◌+◌, ◌*◌, ◌<◌, ◌≤◌, ◌≢◌, ◌==◌, Bool, true, false, List, [], ◌∷◌, ◌++◌, length, refl, sym, ap, ap₂, ◌∙◌, subst, arith, append-nil}
+use Rattle.std.proofs.lemmas.Bool.{eq-eqb}
 use Rattle.std.specs.Prelude.{All, cond, if◌then◌else◌, sum_by, ⊤}
 use Rattle.std.proofs.lemmas.Bool.Decides.{nat_tests}
 use Rattle.std.proofs.lemmas.List.Elements.{All-cons, All-head, All-nil, All-tail, filter-append}
@@ -57,16 +58,13 @@ parted r total n p (s ∷ sounds) less (within, bar, place, wide, fits, next) = 
 
 -- ---- the sounds of each bar
 
-bar_test : (a b : ℕ) → a ≡ b → (a == b) ≡ true
-bar_test a b e = grind (arith, nat_tests, e)
-
 bar_other : (a b : ℕ) → a ≢ b → (a == b) ≡ false
 bar_other a b other = grind (arith, nat_tests, other)
 
 own_in : (n p : ℕ) (own : List Sound) → StandOwn n p own → sounds_in_bar n own ≡ own
 own_in n p [] stand = refl
 own_in n p (s ∷ own) (bar, place, wide, stand) =
-    ap (λ b. cond b (s ∷ sounds_in_bar n own) (sounds_in_bar n own)) (bar_test s.bar n bar) ∙ ap (λ xs. s ∷ xs) (own_in n (p + s.width) own stand)
+    ap (λ b. cond b (s ∷ sounds_in_bar n own) (sounds_in_bar n own)) (eq-eqb s.bar n bar) ∙ ap (λ xs. s ∷ xs) (own_in n (p + s.width) own stand)
 
 own_out : (n m p : ℕ) (own : List Sound) → n < m → StandOwn n p own → sounds_in_bar m own ≡ []
 own_out n m p [] less stand = refl

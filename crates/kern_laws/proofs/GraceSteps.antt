@@ -3,7 +3,7 @@ use Rattle.std.proofs.Common.{◌≡◌, ℕ, suc, ◌+◌, ◌-◌, ◌*◌, �
 use Rattle.std.specs.Prelude.{if◌then◌else◌, nat_lt, nat_le}
 use Rattle.std.proofs.Math.Nat.{mul-le-mul_left}
 use Rattle.std.proofs.Math.Seq.{take-suc}
-use Rattle.std.proofs.lemmas.Bool.{ltb-true, ltb-false}
+use Rattle.std.proofs.lemmas.Bool.{ltb-true, ltb-false, eq-eqb}
 use Rattle.std.proofs.lemmas.Bool.Decides.{nat_tests}
 use Rattle.std.proofs.lemmas.List.Elements.{All-nil}
 use Rattle.kern_reader.specs.declared.token.Token.{Token}
@@ -20,9 +20,6 @@ use Rattle.kern_laws.proofs.PlaceSteps.{AtPlace, here, later, at_place, not_null
 
 null_heard : (grid least : ℕ) (graces : Bool) (column : List Token) → stands graces least token.Null (place grid column) ≡ true → IsHeard grid least graces token.Null column
 null_heard grid least graces column stands = record { stands = stands; grace = refl; tie = refl; well = tt; counts = All-nil (Counts grid) }
-
-same_test : (a b : ℕ) → a ≡ b → (a == b) ≡ true
-same_test a b e = grind (arith, nat_tests, e)
 
 other_test : (a b : ℕ) → b < a → not (a == b) ≡ true
 other_test a b less = grind (arith, nat_tests, less)
@@ -118,7 +115,7 @@ module _ (f : Frame) (Later : Ahead) (x : ℕ) (p : Part) (column : List Token) 
           let more = ltb-false (length (graces_at x p)) (suc left) e in
           let stood : place f.grid column ≡ f.times * x = is.here ∙ ap (λ n. f.times * n) (at more (at_place f (open_keys column) p.saids x is.fits low within)) in
           let waiting_few : nat_le 3 (length (waiting column)) ≡ false = let w = is.waits in grind (arith, nat_tests, few, more, w) in
-          record { stands = same_test (place f.grid column) (f.times * x) stood; grace = waiting_few; tie = refl; well = tt; counts = All-nil (Counts f.grid) }
+          record { stands = eq-eqb (place f.grid column) (f.times * x) stood; grace = waiting_few; tie = refl; well = tt; counts = All-nil (Counts f.grid) }
 
   -- ---- the main line
 
@@ -139,7 +136,7 @@ module _ (f : Frame) (Later : Ahead) (x : ℕ) (p : Part) (column : List Token) 
       record {
         here = here;
         fits = subst (λ o. Fits f o rest) (sym opened) fits.2;
-        waits = waiting_value s.main column fit.valued;
+        waits = ap length (waiting_value s.main column fit.valued);
         later = subst (λ o. Later p.voice p.target o (spelled rest (clean (s.main ∷ column)))) after (subst (Later p.voice p.target (open_after (open_keys column) p.saids)) spelt is.later);
       }
     where
@@ -179,7 +176,7 @@ module _ (f : Frame) (Later : Ahead) (x : ℕ) (p : Part) (column : List Token) 
           let count : length (waiting column) ≡ length s.graces = is.waits ∙ ap (λ o. length (graces_or_none o) - 0) said ∙ omega arith in
           subst (λ o. IsHeard f.grid (f.times * x) false (main_or_null o) column) (sym said)
           (record {
-            stands = ap (λ b. if b then not (place f.grid column == f.times * x) else (place f.grid column == f.times * x)) (not_null s.main fit.valued) ∙ same_test (place f.grid column) (f.times * x) stood;
+            stands = ap (λ b. if b then not (place f.grid column == f.times * x) else (place f.grid column == f.times * x)) (not_null s.main fit.valued) ∙ eq-eqb (place f.grid column) (f.times * x) stood;
             grace = ap (is_grace_wrong s.main) count ∙ fit.grace;
             tie = fit.tie;
             well = fit.well;

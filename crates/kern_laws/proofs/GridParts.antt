@@ -2,7 +2,7 @@
 use Rattle.std.proofs.Common.{◌≡◌, ℕ, zero, suc, ◌+◌, ◌-◌, ◌*◌, ◌/◌, ◌%◌, ◌^◌, ◌<◌, ◌≤◌, ◌==◌, Bool, true, false, ◌||◌, List, [], ◌∷◌, refl, sym, ap, ◌∙◌, subst, arith, ◌⊎◌, inl, inr}
 use Rattle.std.specs.Prelude.{All, IsTrue, if◌then◌else◌}
 use Rattle.std.specs.Int.{◌∣◌}
-use Rattle.std.proofs.Math.Nat.{div-mul_cancel, dvd-sub, dvd_trans, dvd-mul_right, dvd_of_mul-dvd-mul_right, le_of_dvd, mul-div_left, mul-dvd-mul_right, zero-dvd}
+use Rattle.std.proofs.Math.Nat.{div-mul_cancel, dvd-sub, dvd_trans, dvd-mul_right, dvd_of_mul-dvd-mul_right, le_of_dvd, mul-div_left, mul-dvd-mul_right, zero-dvd, mul_comm}
 use Rattle.std.proofs.lemmas.Bool.Decides.{nat_tests}
 use Rattle.std.proofs.lemmas.List.Elements.{All-head, All-tail}
 use Rattle.std.proofs.lemmas.Nat.{pow_pos, div-add-mod'}
@@ -69,6 +69,16 @@ grid_divides n grid (v ∷ vs) some h all =
 
 pub divisor_some : (d n : ℕ) → 1 ≤ n → d ∣ n → 1 ≤ d
 divisor_some d n some h = positive d n some h
+
+-- a finer grid has a whole number of times as many parts
+pub finer_times : (g n : ℕ) → 1 ≤ n → g ∣ n → (t : ℕ) × (1 ≤ t) × (g * t ≡ n)
+finer_times g n some divides =
+    let whole : n / g * g ≡ n = div-mul_cancel g divides in
+    (n / g, factor (n / g) (subst (λ x. 1 ≤ x) (sym whole) some), mul_comm g (n / g) ∙ whole)
+  where
+    factor : (t : ℕ) → 1 ≤ t * g → 1 ≤ t
+    factor zero h = absurd (omega (arith, h))
+    factor (suc t) h = omega arith
 
 -- ---- widths
 

@@ -1,5 +1,6 @@
 -- The head of a score, its last barline, and its end.
 use Rattle.std.proofs.Common.{◌≡◌, ℕ, zero, suc, ◌*◌, ◌≤◌, true, false, ◌||◌, List, [], ◌∷◌, ◌++◌, length, map, replicate, refl, sym, ap, ap₂, ◌∙◌, subst, arith, Option, None}
+use Rattle.std.proofs.lemmas.List.{length-replicate}
 use Rattle.std.specs.Prelude.{All, codes, is_some, nat_lt}
 use Rattle.std.specs.Int.{◌∣◌}
 use Rattle.std.specs.List.{join_with_byte, list_any}
@@ -38,14 +39,10 @@ heading_text : (n : ℕ) → 1 ≤ n → (is_heading (heads n) ≡ true) × (col
 heading_text zero some = absurd (omega (arith, some))
 heading_text (suc n) some = (ap (all_are (codes "**kern")) (split_heads n) ∙ all_heads (suc n), split_heads n)
 
-length_heads : (n : ℕ) → length (replicate n (codes "**kern")) ≡ n
-length_heads zero = refl
-length_heads (suc n) = ap suc (length_heads n)
-
 module _ (n : ℕ) (some : 1 ≤ n) where
   head_columns : columns_of (Heading n ∷ []) ≡ replicate n []
   unfolding line_of
-  head_columns = let (is, wide) = heading_text n some in rw is (ap (λ k. replicate k []) (ap length wide ∙ length_heads n))
+  head_columns = let (is, wide) = heading_text n some in rw is (ap (λ k. replicate k []) (ap length wide ∙ length-replicate n (codes "**kern")))
 
   head_stage : stage_after (Heading n) ≡ Body
   unfolding line_of
@@ -99,10 +96,6 @@ first_rested : (r : ℕ) (bars : List ScoreBar) (voices : List (List (List Said)
 first_rested r bars [] all = refl
 first_rested r bars (voice ∷ voices) (fits, rest) = (record { waits = refl; later = (fits, refl) }, first_rested r bars voices rest)
 
-length_spines : (n : ℕ) → length (replicate n (let none : List Token = [] in none)) ≡ n
-length_spines zero = refl
-length_spines (suc n) = ap suc (length_spines n)
-
 head_turn : (n : ℕ) → HasTurn Head (Heading n)
 unfolding line_of
 head_turn n = record { head = λ e. (n, refl); body = λ e. absurd (no_body e); last = λ e. absurd (no_last e); over = λ e. no_over e }
@@ -124,7 +117,7 @@ module _ (r : ℕ) (some : 1 ≤ 64 * r) (few : 64 * r ≤ 61440) (bars : List S
       record {
         turn = head_turn n;
         wide = λ e. absurd (not_head e);
-        faultless = said_right Head 1 None None [] (Heading n) (head_read n voiced) (ap (λ vs. nat_lt 61440 (grid_with 1 vs)) (head_values n voiced)) (head_placed n voiced) (head_grace n voiced) (head_full n voiced) (head_tie n voiced);
+        faultless = said_right [] (Heading n) (head_read n voiced) (ap (λ vs. nat_lt 61440 (grid_with 1 vs)) (head_values n voiced)) (head_placed n voiced) (head_grace n voiced) (head_full n voiced) (head_tie n voiced);
       }
     where
       not_head : is_head_stage Head ≡ false → ⊥
@@ -139,7 +132,7 @@ module _ (r : ℕ) (some : 1 ≤ 64 * r) (few : 64 * r ≤ 61440) (bars : List S
           stage = head_stage n voiced;
           well = All-cons IsWellLine (Heading n) [] (head_well n voiced) (All-nil IsWellLine);
           divides = subst (λ vs. grid_with 1 vs ∣ 64 * r) (sym (head_values n voiced)) (one-dvd (64 * r));
-          wide = ap length spines ∙ length_spines n;
+          wide = ap length spines ∙ length-replicate n (let none : List Token = [] in none);
         };
         said = head_announced n voiced;
         full = ap (λ o. is_unfilled (grid_of (Heading n ∷ [])) o (spines_of (Heading n ∷ []))) (head_bar n voiced);
@@ -180,7 +173,7 @@ module _ (width r : ℕ) (some : 1 ≤ 64 * r) (few : 64 * r ≤ 61440) (next : 
   last_good = record {
     turn = body_turn (stage_of before) LastBarline is.body.stage last_ending;
     wide = λ h. is.body.wide;
-    faultless = said_right (stage_of before) (grid_of before) (current_bar before) (announced before) (spines_of before) LastBarline refl (small_grid (grid_of before) (64 * r) some few is.body.divides) refl
+    faultless = said_right before LastBarline refl (small_grid (grid_of before) (64 * r) some few is.body.divides) refl
         (no_waiting r n (grid_of before) [] parts (columns_of before) is.each) is.full (no_open r n (grid_of before) parts (columns_of before) is.each);
   }
 
@@ -189,7 +182,7 @@ module _ (width r : ℕ) (some : 1 ≤ 64 * r) (few : 64 * r ≤ 61440) (next : 
   end_good = record {
     turn = last_turn;
     wide = λ h. is.body.wide;
-    faultless = said_right Last (grid_of before) (current_bar before) (announced before) (spines_of before) Ending refl (small_grid (grid_of before) (64 * r) some few is.body.divides) refl refl refl refl;
+    faultless = said_right (LastBarline ∷ before) Ending refl (small_grid (grid_of before) (64 * r) some few is.body.divides) refl refl refl refl;
   }
 
   end_columns : columns_of (Ending ∷ LastBarline ∷ before) ≡ columns_of before

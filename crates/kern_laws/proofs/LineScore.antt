@@ -1,5 +1,6 @@
 -- The lines of a score that can be written stand.
-use Rattle.std.proofs.Common.{◌≡◌, ℕ, suc, ◌+◌, ◌*◌, ◌≤◌, List, [], ◌∷◌, ◌++◌, length, map, refl, sym, ap, ◌∙◌, subst, arith, None}
+use Rattle.std.proofs.Common.{◌≡◌, ℕ, ◌+◌, ◌*◌, ◌≤◌, List, [], ◌∷◌, ◌++◌, length, map, sym, ap, ◌∙◌, subst, arith, None}
+use Rattle.std.proofs.lemmas.List.{length-map}
 use Rattle.std.specs.Prelude.{All, slice_index_or}
 use Rattle.std.proofs.lemmas.List.Elements.{All-head, All-tail}
 use Rattle.rhythm_base.specs.declared.limits.TheConstants.{MOST_UNITS}
@@ -41,14 +42,10 @@ all_fit r bars (sounds ∷ voices) (vss ∷ values) some few right well (own, re
   all_fit r bars voices values some few right (All-tail (AreWellSounded r (length bars)) sounds voices well) rest,
 )
 
-length_said : (values : List (List (List VoiceValue))) → length (map voice_said values) ≡ length values
-length_said [] = refl
-length_said (vss ∷ values) = ap suc (length_said values)
-
 -- all lines of a score that can be written stand, to its end
 pub score_done : (s : Score) (lines : List KernLine) → IsScore s → (are : AreScoreLines s lines) → (after : List KernLine) × IsDone s.resolution s.bars (map voice_said are.values) lines after
 score_done s lines is are =
-    let width : length (map voice_said are.values) ≡ length s.voices = length_said are.values ∙ each_lengths (AreVoiceValues s.resolution 0 s.bars) s.voices are.values are.are_values in
+    let width : length (map voice_said are.values) ≡ length s.voices = length-map are.values voice_said ∙ each_lengths (AreVoiceValues s.resolution 0 s.bars) s.voices are.values are.are_values in
     let few = few_parts s.resolution is.few_units in
     let some : 1 ≤ 64 * s.resolution = let h = is.some_unit in omega (arith, h) in
     let voiced : 1 ≤ length (map voice_said are.values) = let h = is.some_voice in omega (arith, width, h) in
@@ -59,5 +56,5 @@ score_done s lines is are =
 pub lines_stand : (s : Score) (lines : List KernLine) → IsScore s → AreScoreLines s lines → StandFrom (length s.voices) [] lines
 lines_stand s lines is are =
     let (after, done) = score_done s lines is are in
-    let width : length (map voice_said are.values) ≡ length s.voices = length_said are.values ∙ each_lengths (AreVoiceValues s.resolution 0 s.bars) s.voices are.values are.are_values in
+    let width : length (map voice_said are.values) ≡ length s.voices = length-map are.values voice_said ∙ each_lengths (AreVoiceValues s.resolution 0 s.bars) s.voices are.values are.are_values in
     subst (λ n. StandFrom n [] lines) width (walk_stands (length (map voice_said are.values)) [] lines after done.walk done.over)

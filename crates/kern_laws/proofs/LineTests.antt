@@ -1,9 +1,9 @@
 -- A line of data that may stand after those before it.
-use Rattle.std.proofs.Common.{◌≡◌, ℕ, zero, suc, ◌*◌, ◌/◌, ◌≤◌, ◌==◌, Bool, true, false, not, ◌&&◌, ◌||◌, List, [], ◌∷◌, length, map, refl, sym, ap, ap₂, ◌∙◌, subst, arith, inl, inr, Option, Some, None}
+use Rattle.std.proofs.Common.{◌≡◌, ℕ, suc, ◌*◌, ◌≤◌, ◌==◌, Bool, true, false, not, ◌&&◌, ◌||◌, List, [], ◌∷◌, length, map, refl, sym, ap, ap₂, ◌∙◌, subst, arith, inl, inr, Some, None}
 use Rattle.std.specs.Prelude.{All, if◌then◌else◌}
 use Rattle.std.specs.Int.{◌∣◌}
 use Rattle.std.specs.List.{flat_map, list_all, list_any, zip}
-use Rattle.std.proofs.Math.Nat.{div-mul_cancel, eq_of_mul-eq-mul_right, le_of_dvd, le_of_mul-le-mul_right, mul_comm}
+use Rattle.std.proofs.Math.Nat.{eq_of_mul-eq-mul_right, le_of_dvd, le_of_mul-le-mul_right}
 use Rattle.std.proofs.lemmas.Bool.{false≢true, le-ltb}
 use Rattle.std.proofs.lemmas.Bool.Decides.{nat_tests}
 use Rattle.std.proofs.lemmas.List.Elements.{All-append, All-cons, All-head, All-nil, All-tail}
@@ -20,7 +20,7 @@ use Rattle.kern_reader.specs.Tokens.{IsWellToken}
 use Rattle.kern_reader.proofs.ColumnLemmas.{columns_on}
 use Rattle.kern_reader.proofs.SpineLemmas.{spine_scaled}
 use Rattle.kern_laws.specs.ScoreLines.{Body, Data, Ending, HasTurn, Head, KernLine, Last, Over, Stage}
-use Rattle.kern_laws.proofs.GridParts.{grid_divides}
+use Rattle.kern_laws.proofs.GridParts.{grid_divides, finer_times}
 use Rattle.kern_laws.proofs.LineLists.{Every, HasOne, each_lengths, least_from}
 use Rattle.kern_laws.proofs.LineWalk.{IsGood}
 use Rattle.kern_laws.proofs.PlaceParts.{IsHeard}
@@ -37,28 +37,28 @@ pub record IsInside (n grid : ℕ) (signature : TimeSignature) (before : List Ke
   pub bar : current_bar before ≡ Some signature
   pub next : announced before ≡ Some signature
 
--- what is known of a spine
-abbrev type_of : {X : Type 0} → X → Type 0
-type_of {X} x = X
-
-abbrev pub Known : Type 0
-Known = type_of (spine_at 1 [])
-
 -- ---- faults, one after another
 
 no_fault : (b : Bool) (what : KernWhat) (more : List (Bool × KernWhat)) → b ≡ false → first_fault more ≡ None → first_fault ((b, what) ∷ more) ≡ None
 no_fault b what more e rest = ap (λ t. if t then Some what else first_fault more) e ∙ rest
 
-pub said_right : (at : Stage) (grid : ℕ) (bar next : Option TimeSignature) (spines : List Known) (line : KernLine)
-    → is_unread at line ≡ false → has_no_grid grid line ≡ false → is_misplaced bar spines line ≡ false → has_wrong_grace spines line ≡ false → is_wrong_bar grid bar next spines line ≡ false
-    → has_wrong_tie spines line ≡ false → first_fault (said_tests at grid bar next spines line) ≡ None
-said_right at grid bar next spines line read on_grid placed grace full tie =
-    let last = no_fault (has_wrong_tie spines line) what.Tie [] tie refl in
-    let bars = no_fault (is_wrong_bar grid bar next spines line) what.Bar ((has_wrong_tie spines line, what.Tie) ∷ []) full last in
-    let graces = no_fault (has_wrong_grace spines line) what.Grace ((is_wrong_bar grid bar next spines line, what.Bar) ∷ (has_wrong_tie spines line, what.Tie) ∷ []) grace bars in
-    let places = no_fault (is_misplaced bar spines line) what.Place ((has_wrong_grace spines line, what.Grace) ∷ (is_wrong_bar grid bar next spines line, what.Bar) ∷ (has_wrong_tie spines line, what.Tie) ∷ []) placed graces in
-    let grids = no_fault (has_no_grid grid line) what.Grid ((is_misplaced bar spines line, what.Place) ∷ (has_wrong_grace spines line, what.Grace) ∷ (is_wrong_bar grid bar next spines line, what.Bar) ∷ (has_wrong_tie spines line, what.Tie) ∷ []) on_grid places in
-    no_fault (is_unread at line) what.Token ((has_no_grid grid line, what.Grid) ∷ (is_misplaced bar spines line, what.Place) ∷ (has_wrong_grace spines line, what.Grace) ∷ (is_wrong_bar grid bar next spines line, what.Bar) ∷ (has_wrong_tie spines line, what.Tie) ∷ []) read grids
+-- a line that stands, test by test
+pub said_right : (before : List KernLine) (line : KernLine) → is_unread (stage_of before) line ≡ false → has_no_grid (grid_of before) line ≡ false
+    → is_misplaced (current_bar before) (spines_of before) line ≡ false → has_wrong_grace (spines_of before) line ≡ false
+    → is_wrong_bar (grid_of before) (current_bar before) (announced before) (spines_of before) line ≡ false → has_wrong_tie (spines_of before) line ≡ false
+    → first_fault (said_tests (stage_of before) (grid_of before) (current_bar before) (announced before) (spines_of before) line) ≡ None
+said_right before line read on_grid placed grace full tie =
+    let ties = (has_wrong_tie (spines_of before) line, what.Tie) ∷ [] in
+    let bars = (is_wrong_bar (grid_of before) (current_bar before) (announced before) (spines_of before) line, what.Bar) ∷ ties in
+    let graces = (has_wrong_grace (spines_of before) line, what.Grace) ∷ bars in
+    let places = (is_misplaced (current_bar before) (spines_of before) line, what.Place) ∷ graces in
+    let grids = (has_no_grid (grid_of before) line, what.Grid) ∷ places in
+    no_fault (is_unread (stage_of before) line) what.Token grids read
+    (no_fault (has_no_grid (grid_of before) line) what.Grid places on_grid
+    (no_fault (is_misplaced (current_bar before) (spines_of before) line) what.Place graces placed
+    (no_fault (has_wrong_grace (spines_of before) line) what.Grace bars grace
+    (no_fault (is_wrong_bar (grid_of before) (current_bar before) (announced before) (spines_of before) line) what.Bar ties full
+    (no_fault (has_wrong_tie (spines_of before) line) what.Tie [] tie refl)))))
 
 -- ---- places on a coarser grid
 
@@ -169,14 +169,7 @@ length_added (t ∷ ts) (column ∷ columns) e = ap suc (length_added ts columns
     less e = omega (arith, e)
 
 pub finest : (n grid : ℕ) (before : List KernLine) → 1 ≤ grid → IsBody n grid before → (t : ℕ) × (1 ≤ t) × (grid_of before * t ≡ grid)
-finest n grid before some is =
-    let g = grid_of before in
-    let whole : grid / g * g ≡ grid = div-mul_cancel g is.divides in
-    (grid / g, positive (grid / g) g (subst (λ x. 1 ≤ x) (sym whole) some), mul_comm g (grid / g) ∙ whole)
-  where
-    positive : (t g : ℕ) → 1 ≤ t * g → 1 ≤ t
-    positive zero g h = absurd (omega (arith, h))
-    positive (suc t) g h = omega arith
+finest n grid before some is = finer_times (grid_of before) grid some is.divides
 
 -- ---- turns
 
@@ -250,7 +243,7 @@ data_good n grid m signature before ts some few is each low one = (
         let each_g : Each (IsHeard (g * t) m graces) ts columns = subst (λ x. Each (IsHeard x m graces) ts columns) (sym finer) each in
         let low_g : Every (λ c. m ≤ place (g * t) c) columns = subst (λ x. Every (λ c. m ≤ place x c) columns) (sym finer) low in
         let one_g : HasOne (λ c. place (g * t) c ≡ m) columns = subst (λ x. HasOne (λ c. place x c ≡ m) columns) (sym finer) one in
-        said_right (stage_of before) g (current_bar before) (announced before) (spines_of before) (Data ts) unread on_grid
+        said_right before (Data ts) unread on_grid
         (placed g t positive on each_g (least_is g t positive m columns on low_g one_g)) (graces_right g t positive each_g) bar (ties_right g t positive each_g)
       where
         placed : (g t : ℕ) (positive : 1 ≤ t) → All (IsColumnOn g) columns → Each (IsHeard (g * t) m graces) ts columns → (q : ℕ) × (q * t ≡ m) × (least_place (map (spine_at g) columns) ≡ q)

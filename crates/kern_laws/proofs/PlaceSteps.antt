@@ -1,13 +1,15 @@
 -- One token more in a column, in the middle of a bar.
-use Rattle.std.proofs.Common.{◌≡◌, ℕ, ◌+◌, ◌<◌, ◌≤◌, ◌==◌, Bool, true, false, List, [], ◌∷◌, length, refl, ap, arith, Option, Some, None}
+use Rattle.std.proofs.Common.{◌≡◌, ℕ, ◌+◌, ◌<◌, ◌≤◌, ◌==◌, Bool, true, false, List, [], ◌∷◌, refl, ap, arith, Option, Some, None}
+use Rattle.kern_reader.specs.declared.token.TimeSignature.{TimeSignature}
+use Rattle.std.specs.List.{flat_map}
 use Rattle.std.specs.Prelude.{IsSome, cond}
 use Rattle.std.proofs.lemmas.Bool.{false≢true}
 use Rattle.std.proofs.lemmas.Bool.Decides.{nat_tests}
 use Rattle.kern_reader.specs.declared.token.Token.{Token}
 use Rattle.kern_reader.specs.declared.token.Token.TheVariants as token
-use Rattle.kern_reader.specs.Columns.{has_value, open_keys, place, waiting}
+use Rattle.kern_reader.specs.Columns.{has_value, open_keys, place, waiting, grace_keys}
 use Rattle.kern_reader.specs.Faults.{is_grace, is_null}
-use Rattle.kern_reader.proofs.SpineLemmas.{spine_next, waiting_chord, waiting_rest}
+use Rattle.kern_reader.proofs.SpineLemmas.{spine_next, waiting_chord, waiting_rest, is_apart, take_while-stops}
 use Rattle.kern_laws.specs.ScoreLines.{Said, said_at}
 use Rattle.kern_laws.proofs.PlaceParts.{Fits, Frame, next_place, saids_after, token_width}
 
@@ -26,12 +28,15 @@ place_value grid (token.Rest value) column e = ap (λ s. s.place) (spine_next gr
 place_value grid (token.Grace keys) column e = absurd (false≢true e)
 place_value grid (token.Chord writing keys) column e = ap (λ s. s.place) (spine_next grid (token.Chord writing keys) column)
 
-pub waiting_value : (t : Token) (column : List Token) → has_value t ≡ true → length (waiting (t ∷ column)) ≡ 0
+pub waiting_bar : (signature : TimeSignature) (column : List Token) → waiting (token.Bar signature ∷ column) ≡ []
+waiting_bar signature column = ap (flat_map grace_keys) (take_while-stops is_apart (token.Bar signature) column refl)
+
+pub waiting_value : (t : Token) (column : List Token) → has_value t ≡ true → waiting (t ∷ column) ≡ []
 waiting_value (token.Bar signature) column e = absurd (false≢true e)
 waiting_value token.Null column e = absurd (false≢true e)
-waiting_value (token.Rest value) column e = ap length (waiting_rest value column)
+waiting_value (token.Rest value) column e = waiting_rest value column
 waiting_value (token.Grace keys) column e = absurd (false≢true e)
-waiting_value (token.Chord writing keys) column e = ap length (waiting_chord writing keys column)
+waiting_value (token.Chord writing keys) column e = waiting_chord writing keys column
 
 pub open_value : (t : Token) (column : List Token) → has_value t ≡ true → open_keys (t ∷ column) ≡ open_keys (t ∷ [])
 open_value (token.Bar signature) column e = absurd (false≢true e)

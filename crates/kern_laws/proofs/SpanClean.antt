@@ -1,5 +1,6 @@
 -- The spans of a column do not depend on its dots, nor on how fine its grid is.
 use Rattle.std.proofs.Common.{◌≡◌, ℕ, ◌+◌, ◌*◌, ◌≤◌, Bool, true, false, List, [], ◌∷◌, ◌++◌, drop, refl, sym, ap, ap₂, ◌∙◌, arith}
+use Rattle.kern_laws.proofs.PlaceSteps.{waiting_bar}
 use Rattle.std.specs.Prelude.{All, reverse, sum, sum_by, take_while, if◌then◌else◌}
 use Rattle.std.specs.List.{flat_map, prefix_len}
 use Rattle.std.proofs.Math.Nat.{dvd-mul_left, dvd_trans, eq_of_mul-eq-mul_right, mul_comm}
@@ -12,23 +13,19 @@ use Rattle.rhythm_base.specs.Spans.{sound_length}
 use Rattle.rhythm_base.specs.Spans as sounds
 use Rattle.durations.specs.declared.value.Value.{Value}
 use Rattle.durations.specs.Value.{parts, value_grid, width}
-use Rattle.kern_reader.specs.declared.token.TimeSignature.{TimeSignature}
 use Rattle.kern_reader.specs.declared.token.Token.{Token}
 use Rattle.kern_reader.specs.declared.token.Token.TheVariants as token
 use Rattle.kern_reader.specs.declared.token.Writing.{Writing}
-use Rattle.kern_reader.specs.Columns.{continues, grace_keys, place, spine_after, spine_at, token_values, waiting}
+use Rattle.kern_reader.specs.Columns.{continues, place, spine_after, spine_at, token_values, waiting}
 use Rattle.kern_reader.specs.Events.{Beginning, bar_start, bars, beginnings, holds_tie, place_of, tied_values, token_bars}
 use Rattle.kern_reader.specs.Score.{Counts, IsColumnOn, IsTokenOn}
-use Rattle.kern_reader.proofs.SpineLemmas.{IsOn, is_apart, spine_next, spine_scaled, take_while-goes, take_while-stops, values_on, waiting_chord, waiting_grace, waiting_null, waiting_rest}
+use Rattle.kern_reader.proofs.SpineLemmas.{IsOn, spine_next, spine_scaled, take_while-goes, take_while-stops, values_on, waiting_chord, waiting_grace, waiting_null, waiting_rest}
 use Rattle.kern_reader.proofs.GridLemmas.{counted}
 use Rattle.kern_laws.proofs.GridParts.{width_finer}
 use Rattle.kern_laws.proofs.PlaceParts.{clean}
 use Rattle.kern_laws.proofs.SpanMatch.{IsMatch}
 
 -- ---- without dots
-
-pub waiting_bar : (signature : TimeSignature) (column : List Token) → waiting (token.Bar signature ∷ column) ≡ []
-waiting_bar signature column = ap (flat_map grace_keys) (take_while-stops is_apart (token.Bar signature) column refl)
 
 spine_clean : (grid : ℕ) (column : List Token) → spine_at grid (clean column) ≡ spine_at grid column
 spine_clean grid [] = refl

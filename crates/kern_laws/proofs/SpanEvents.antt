@@ -1,9 +1,9 @@
 -- The events of a score that is written are the spans of its voices.
-use Rattle.std.proofs.Common.{◌≡◌, ℕ, zero, suc, ◌+◌, ◌*◌, ◌/◌, ◌≤◌, List, [], ◌∷◌, length, map, sym, ap, ◌∙◌, subst, arith, append-nil}
+use Rattle.std.proofs.Common.{◌≡◌, ℕ, suc, ◌+◌, ◌*◌, ◌≤◌, List, [], ◌∷◌, length, map, sym, ap, ◌∙◌, subst, arith, append-nil}
+use Rattle.kern_laws.proofs.GridParts.{finer_times}
+use Rattle.kern_reader.proofs.TextLemmas.{All_reverse}
 use Rattle.std.specs.Prelude.{◌↔◌, All, reverse, slice_index_or}
-use Rattle.std.proofs.lemmas.List.{reverse-append}
-use Rattle.std.proofs.lemmas.List.Elements.{All-append, All-cons, All-head, All-nil, All-tail}
-use Rattle.std.proofs.Math.Nat.{div-mul_cancel, mul_comm}
+use Rattle.std.proofs.lemmas.List.Elements.{All-head, All-nil, All-tail}
 use Rattle.rhythm_base.specs.declared.note.Bar.{Bar}
 use Rattle.rhythm_base.specs.declared.sound.Sound.{Sound}
 use Rattle.rhythm_base.specs.Lists.{Each}
@@ -30,12 +30,6 @@ use Rattle.kern_laws.proofs.SpanMatch.{IsMatch, kern_spans, sound_spans}
 use Rattle.kern_laws.proofs.SpanTokens.{bars_read, clean_reversed, voice_read}
 use Rattle.kern_laws.proofs.SpanVoices.{AreUnits, units_are, voice_matches}
 
-reversed_all : {X : Type 0} (P : X → Type 0) (xs : List X) → All P xs → All P (reverse xs)
-reversed_all P [] all = all
-reversed_all P (x ∷ xs) all =
-    subst (All P) (sym (reverse-append (x ∷ []) xs))
-    (All-append P (reverse xs) (x ∷ []) (reversed_all P xs (All-tail P x xs all)) (All-cons P x [] (All-head P x xs all) (All-nil P)))
-
 module _ (r : ℕ) (sbars : List ScoreBar) (bars : List Bar) (some : 1 ≤ r) (few : 64 * r ≤ 61440) (right : All IsScoreBar sbars) (units : AreUnits bars 0 sbars)
     (g t : ℕ) (fine : 1 ≤ g) (positive : 1 ≤ t) (finer : g * t ≡ 64 * r) where
   -- one column
@@ -48,7 +42,7 @@ module _ (r : ℕ) (sbars : List ScoreBar) (bars : List Bar) (some : 1 ≤ r) (f
       let here : Each (IsMatch (g * t) r bars) (beginnings [] (clean (reverse column))) (chord_runs sounds) =
       subst (λ k. Each (IsMatch k r bars) (beginnings [] (clean (reverse column))) (chord_runs sounds)) (sym finer)
       (subst (λ ts. Each (IsMatch (64 * r) r bars) (beginnings [] ts) (chord_runs sounds)) (sym read) matches) in
-      each_original g t positive r bars [] (reverse column) (chord_runs sounds) (All-nil (IsTokenOn g)) (reversed_all (IsTokenOn g) column on) here
+      each_original g t positive r bars [] (reverse column) (chord_runs sounds) (All-nil (IsTokenOn g)) (All_reverse (IsTokenOn g) column on) here
 
   -- all columns
   events_voices : (spine : ℕ) (voices : List (List Sound)) (values : List (List (List VoiceValue))) (columns : List (List Token)) (events : List KernEvent)
@@ -79,12 +73,9 @@ events_are_spans s lines bars events is are have =
     let few = few_parts s.resolution is.few_units in
     let some : 1 ≤ 64 * s.resolution = let h = is.some_unit in omega (arith, h) in
     let g = grid_of after in
-    let whole : 64 * s.resolution / g * g ≡ 64 * s.resolution = div-mul_cancel g done.divides in
-    let all = events_voices s.resolution s.bars bars is.some_unit few is.bars (units_are bars s.bars have) g (64 * s.resolution / g) (grid_some after done.well)
-    (positive (64 * s.resolution / g) g (subst (λ x. 1 ≤ x) (sym whole) some)) (mul_comm g (64 * s.resolution / g) ∙ whole)
-    1 s.voices are.values (columns_of after) events is.voices are.are_values done.each (columns_on after done.well) in
+    let (t, positive, finer) = finer_times g (64 * s.resolution) some done.divides in
+    let units = units_are bars s.bars have in
+    let counted = columns_on after done.well in
+    let all = events_voices s.resolution s.bars bars is.some_unit few is.bars units g t (grid_some after done.well) positive finer
+    1 s.voices are.values (columns_of after) events is.voices are.are_values done.each counted in
     subst (λ ls. AreEvents (score_columns ls) events ↔ AreVoiceSpans s.resolution bars 1 s.voices events) (sym same) all
-  where
-    positive : (t g : ℕ) → 1 ≤ t * g → 1 ≤ t
-    positive zero g h = absurd (omega (arith, h))
-    positive (suc t) g h = omega arith

@@ -16,12 +16,12 @@ use Rattle.kern_reader.specs.declared.token.Token.TheVariants as token
 use Rattle.kern_reader.specs.Columns.{has_value, place, waiting}
 use Rattle.kern_reader.specs.Events.{bar_start, bars, beginnings, tied_values}
 use Rattle.kern_reader.specs.Faults.{is_null}
-use Rattle.kern_reader.proofs.SpineLemmas.{waiting_chord, waiting_grace, waiting_rest}
+use Rattle.kern_reader.proofs.SpineLemmas.{waiting_grace}
 use Rattle.kern_laws.specs.ScoreLines.{Said, bar_said, said_graces, value_token, voice_said}
 use Rattle.kern_laws.proofs.BarLines.{said_in, signature_of_bar, spelled_bars}
 use Rattle.kern_laws.proofs.BarVoice.{AreVoice}
 use Rattle.kern_laws.proofs.PlaceParts.{clean, graced, spelled, token_width}
-use Rattle.kern_laws.proofs.PlaceSteps.{place_grace, place_value}
+use Rattle.kern_laws.proofs.PlaceSteps.{place_grace, place_value, waiting_value}
 use Rattle.kern_laws.proofs.SpanClean.{tied_goes}
 
 abbrev pub graces_read : List ℕ → List Token
@@ -103,13 +103,6 @@ graces_tied (keys ∷ graces) ts = tied_goes (token.Grace keys) (graces_read gra
 
 -- ---- values
 
-waiting_valued : (t : Token) (column : List Token) → has_value t ≡ true → waiting (t ∷ column) ≡ []
-waiting_valued (token.Bar signature) column e = absurd (false≢true e)
-waiting_valued token.Null column e = absurd (false≢true e)
-waiting_valued (token.Rest value) column e = waiting_rest value column
-waiting_valued (token.Grace keys) column e = absurd (false≢true e)
-waiting_valued (token.Chord writing keys) column e = waiting_chord writing keys column
-
 bars_valued : (t : Token) (column : List Token) → has_value t ≡ true → bars (t ∷ column) ≡ bars column
 bars_valued (token.Bar signature) column e = absurd (false≢true e)
 bars_valued token.Null column e = refl
@@ -131,7 +124,7 @@ value_reached grid times all n at w before t valued wide start total here = reco
   start = ap (λ xs. sum (drop 1 xs)) (bars_valued t before valued) ∙ start;
   total = ap sum (bars_valued t before valued) ∙ total;
   here = place_value grid t before valued ∙ ap₂ ◌+◌ wide here ∙ joined times w at;
-  waits = waiting_valued t before valued;
+  waits = waiting_value t before valued;
 }
   where
     joined : (t w a : ℕ) → t * w + t * a ≡ t * (a + w)

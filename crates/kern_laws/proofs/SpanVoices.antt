@@ -1,5 +1,6 @@
 -- The spans of the columns of a score are those of its voices.
 use Rattle.std.proofs.Common.{◌≡◌, ℕ, suc, ◌+◌, ◌*◌, ◌/◌, ◌<◌, ◌≤◌, List, [], ◌∷◌, ◌++◌, length, map, take, refl, sym, ap, ap₂, ◌∙◌, subst, arith, Some}
+use Rattle.kern_laws.proofs.PlaceSteps.{waiting_bar}
 use Rattle.std.specs.Prelude.{All, slice_get, sum, sum_by, unwrap_or}
 use Rattle.std.specs.List.{flat_map}
 use Rattle.std.specs.Option.{option_map}
@@ -22,7 +23,7 @@ use Rattle.kern_reader.proofs.SpineLemmas.{spine_next}
 use Rattle.kern_laws.specs.ReadBack.{HaveSignatures}
 use Rattle.kern_laws.proofs.BarLines.{signature_of_bar}
 use Rattle.kern_laws.proofs.BarVoice.{AreVoice}
-use Rattle.kern_laws.proofs.SpanClean.{tied_goes, waiting_bar}
+use Rattle.kern_laws.proofs.SpanClean.{tied_goes}
 use Rattle.kern_laws.proofs.SpanMatch.{IsMatch}
 use Rattle.kern_laws.proofs.SpanRuns.{match_bar, tied_bar, tied_length}
 use Rattle.kern_laws.proofs.SpanTokens.{IsReached, values_read, voice_read}

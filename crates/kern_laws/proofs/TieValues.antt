@@ -32,7 +32,7 @@ Alike None before = ⊤
 Alike (Some last) None = ⊥
 Alike (Some last) (Some before) = (is_rest before.kind ≡ is_rest last.kind) × (before.keys ≡ last.keys)
 
-tie_sounds : (k : SoundKind) → is_tie k ≡ true → is_rest k ≡ false
+pub tie_sounds : (k : SoundKind) → is_tie k ≡ true → is_rest k ≡ false
 tie_sounds Begin e = refl
 tie_sounds Short e = refl
 tie_sounds Tie e = refl
