@@ -1,0 +1,151 @@
+-- What plain words say.
+use Rattle.std.proofs.Common.{◌≡◌, ◌∙◌, ◌≤◌, ◌+◌, ◌==◌, ℕ, zero, suc, take, Bool, ◌||◌, ◌&&◌, not, true, false, true≢false, refl, sym, ap, subst, arith, List, [], ◌∷◌, ◌++◌, Option, Some, None, codes}
+use Rattle.std.specs.List.{count_by, fold, list_all, position_or_len}
+use Rattle.std.specs.Prelude.{⊤, IsTrue, drop, if◌then◌else◌, option_map, slice_get}
+use Rattle.std.specs.Str.{bytes_eq}
+use Rattle.std.proofs.lemmas.Bool.{and_parts}
+use Rattle.std.proofs.lemmas.List.Sums.{sum_by-cons}
+use Rattle.std.proofs.lemmas.Slice.Eq.{bytes_eq-Decides}
+use Rattle.clap.specs.Walk.{Held, Row, Walk, has_row, nothing_held, settled_rows, walk, with_default}
+use Rattle.clap.specs.Kinds.{Kinds}
+use Rattle.clap.specs.Faults.{built_fault, defaults_fault, fault_of, level_fault, settle_fault}
+use Rattle.clap.specs.Simple.{built, matches_of}
+use Rattle.command_line.specs.CommandLines.{LineMatches, invocation_of, line_matches}
+use Rattle.command_line.specs.FlatCommand.{line_app}
+use Rattle.command_line.specs.PlainWords.{ArePlain, begins_with_hyphen, other_words, word_of_workers}
+use Rattle.command_line.specs.Numbers.{workers_of}
+use Rattle.command_line.specs.Requests.{asks, has_free, is_dashes, is_help, is_version, is_workers}
+use Rattle.command_line.specs.declared.invocation.CommandLine.{CommandLine}
+use Rattle.command_line.specs.declared.invocation.Invocation.TheVariants.{Command}
+use Rattle.command_line.proofs.Rows.{Text, words_so_far}
+use Rattle.command_line.proofs.Walks.{Ends, IsFree, Pending, a_word, an_option, is_after_option, is_hyphenless, is_plain, not_true, nothing, pending_of, place, rows_with, shape, walk_ends}
+
+-- ---- after the walk
+
+-- nothing has a default
+no_defaults : (rows : List Row) → defaults_fault rows shape.rules ≡ []
+unfolding defaults_fault
+no_defaults rows = go (has_row (codes "workers") rows) (has_row (codes "words") rows) refl refl
+  where
+    go : (a b : Bool) → has_row (codes "workers") rows ≡ a → has_row (codes "words") rows ≡ b → defaults_fault rows shape.rules ≡ []
+    go true true e f = rw (e, f) refl
+    go true false e f = rw (e, f) refl
+    go false true e f = rw (e, f) refl
+    go false false e f = rw (e, f) refl
+
+all_rows : (rows : List Row) → fold with_default rows shape.rules ≡ rows
+all_rows rows = go (has_row (codes "workers") rows) (has_row (codes "words") rows) refl refl
+  where
+    go : (a b : Bool) → has_row (codes "workers") rows ≡ a → has_row (codes "words") rows ≡ b → fold with_default rows shape.rules ≡ rows
+    go true true e f = rw (e, f) refl
+    go true false e f = rw (e, f) refl
+    go false true e f = rw (e, f) refl
+    go false false e f = rw (e, f) refl
+
+-- what is pending is no fault
+settles : (p : Pending) (rows : List Row) → IsFree p rows → settle_fault shape.rules false (place p rows).held ≡ []
+settles nothing rows free = refl
+settles (a_word word) rows free = refl
+settles (an_option word) rows free = rw free refl
+
+settled_is : (p : Pending) (rows : List Row) → settled_rows shape.rules (pending_of p) rows ≡ rows_with p rows
+settled_is nothing rows = refl
+settled_is (a_word word) rows = refl
+settled_is (an_option word) rows = refl
+
+no_fault : (words said : List Text) (option_word : Option Text) → Ends nothing [] words said option_word → fault_of line_app words ≡ []
+no_fault words said option_word e = rw (e.walks, e.passes, settles e.last e.found e.free, settled_is e.last e.found, no_defaults (rows_with e.last e.found)) refl
+
+rows_are : (words said : List Text) (option_word : Option Text) (e : Ends nothing [] words said option_word) → matches_of line_app words ≡ rows_with e.last e.found
+rows_are words said option_word e = rw (e.walks, settled_is e.last e.found) (all_rows (rows_with e.last e.found))
+
+pub plain_matches : (words : List Text) → is_plain words ≡ true → line_matches words ≡ Some (record { workers = word_of_workers words; words = other_words words })
+unfolding line_matches
+plain_matches words plain =
+    let e = walk_ends words plain nothing [] [] tt refl refl refl in
+    rw (no_fault words _ _ e, rows_are words _ _ e, e.words_are, e.option_is) refl
+
+-- ---- plain words by a test
+
+both_true : (a b : Bool) → a ≡ true → b ≡ true → (a && b) ≡ true
+both_true a b e f = rw (e, f) refl
+
+-- how often the option stands, from the first word on
+counted : (word : Text) (words : List Text) → count_by is_workers (word ∷ words) ≡ (if is_workers word then 1 else 0) + count_by is_workers words
+counted word words = sum_by-cons (λ w. if is_workers w then 1 else 0) word words
+
+-- where none of the words is the option, none begins with `-`
+all_hyphenless : (words : List Text) → count_by is_workers words ≤ 0 → list_all (λ word. is_workers word || is_hyphenless word) words ≡ true
+    → list_all is_hyphenless words ≡ true
+all_hyphenless [] few others = refl
+all_hyphenless (word ∷ words) few others =
+    let both = and_parts (is_workers word || is_hyphenless word) (list_all (λ w. is_workers w || is_hyphenless w) words) others in
+    go (is_workers word) (omega (arith, few, counted word words)) both.0 (λ less. all_hyphenless words less both.1)
+  where
+    go : (b : Bool) → (if b then 1 else 0) + count_by is_workers words ≤ 0 → (b || is_hyphenless word) ≡ true
+        → (count_by is_workers words ≤ 0 → list_all is_hyphenless words ≡ true) → (is_hyphenless word && list_all is_hyphenless words) ≡ true
+    go true few first later = absurd (omega (arith, few))
+    go false few first later = both_true (is_hyphenless word) (list_all is_hyphenless words) first (later (omega (arith, few)))
+
+plain_test : (words : List Text) → ArePlain words → is_plain words ≡ true
+plain_test [] plain = refl
+plain_test (word ∷ words) plain =
+    let both = and_parts (is_workers word || is_hyphenless word) (list_all (λ w. is_workers w || is_hyphenless w) words) plain.others in
+    go (is_workers word) refl words (omega (arith, plain.once, counted word words)) plain.followed both.0 both.1
+    (λ few followed. plain_test words (record { once = few; followed = followed; others = both.1 }))
+  where
+    go : (b : Bool) → is_workers word ≡ b → (ws : List Text) → (if b then 1 else 0) + count_by is_workers ws ≤ 1
+        → ((before : List Text) → word ∷ ws ≡ before ++ codes "--workers" ∷ [] → ⊥)
+        → (b || is_hyphenless word) ≡ true → list_all (λ w. is_workers w || is_hyphenless w) ws ≡ true
+        → (count_by is_workers ws ≤ 1 → ((before : List Text) → ws ≡ before ++ codes "--workers" ∷ [] → ⊥) → is_plain ws ≡ true)
+        → (if b then is_after_option ws else (is_hyphenless word && is_plain ws)) ≡ true
+    go true e [] once followed first others later = absurd (followed [] (ap (λ (w : Text). w ∷ []) ((bytes_eq-Decides word (codes "--workers")).0 e)))
+    go true e (n ∷ ws) once followed first others later = all_hyphenless (n ∷ ws) (omega (arith, once)) others
+    go false e ws once followed first others later =
+        both_true (is_hyphenless word) (is_plain ws) first (later (omega (arith, once)) (λ before same. followed (word ∷ before) (ap (λ (rest : List Text). word ∷ rest) same)))
+
+-- ---- plain words ask for nothing
+
+-- the test passes for words alone that begin with `-` and are not the option
+abbrev IsOfFlags : (Text → Bool) → Type 0
+IsOfFlags test = (word : Text) → (is_workers word || is_hyphenless word) ≡ true → test word ≡ false
+
+none_free : (test : Text → Bool) → IsOfFlags test → (n : ℕ) (follows : Bool) (words : List Text)
+    → list_all (λ word. is_workers word || is_hyphenless word) words ≡ true → has_free test follows (take n words) ≡ false
+none_free test flags zero follows words plain = refl
+none_free test flags (suc n) follows [] plain = refl
+none_free test flags (suc n) follows (word ∷ words) plain =
+    let both = and_parts (is_workers word || is_hyphenless word) (list_all (λ w. is_workers w || is_hyphenless w) words) plain in
+    rw (flags word both.0) (none_free test flags n (is_workers word) words both.1)
+
+flags_of : (test : Text → Bool) → test (codes "--workers") ≡ false → ((word : Text) → begins_with_hyphen word ≡ false → test word ≡ false) → IsOfFlags test
+flags_of test not_option not_plain word e = go (is_workers word) refl e
+  where
+    go : (b : Bool) → is_workers word ≡ b → (b || is_hyphenless word) ≡ true → test word ≡ false
+    go true same e = subst (λ (w : Text). test w ≡ false) (sym ((bytes_eq-Decides word (codes "--workers")).0 same)) not_option
+    go false same e = not_plain word (not_true (begins_with_hyphen word) e)
+
+no_help : (word : Text) → begins_with_hyphen word ≡ false → is_help word ≡ false
+no_help [] e = refl
+no_help (b ∷ bs) e = let miss : (b == 45) ≡ false = e in rw miss refl
+
+no_version : (word : Text) → begins_with_hyphen word ≡ false → is_version word ≡ false
+no_version [] e = refl
+no_version (b ∷ bs) e = let miss : (b == 45) ≡ false = e in rw miss refl
+
+-- ---- the law
+
+pub plain_words : (words : List Text) → ArePlain words
+    → invocation_of words ≡ option_map (λ (n : ℕ). Command (record { workers = n; words = other_words words })) (workers_of (word_of_workers words))
+plain_words words plain =
+    let no_help_asked : asks is_help words ≡ false =
+    none_free is_help (flags_of is_help refl no_help) (position_or_len is_dashes words) false words plain.others in
+    let no_version_asked : asks is_version words ≡ false =
+    none_free is_version (flags_of is_version refl no_version) (position_or_len is_dashes words) false words plain.others in
+    rw (no_help_asked, no_version_asked, plain_matches words (plain_test words plain)) (by (workers_of (word_of_workers words)))
+  where
+    by : (o : Option ℕ)
+        → option_map Command (option_map (λ (n : ℕ). record { workers = n; words = other_words words }) o)
+        ≡ option_map (λ (n : ℕ). Command (record { workers = n; words = other_words words })) o
+    by None = refl
+    by (Some n) = refl

@@ -1,0 +1,6 @@
+pub mod FlatCommand
+pub mod Numbers
+pub mod Requests
+pub mod CommandLines
+pub mod PlainWords
+pub mod Laws

@@ -1,0 +1,63 @@
+ghost use Rattle.command_line.specs.declared.invocation.WordsFault.TheVariants.{Memory};
+ghost use Rattle.std.specs.Prelude.{◌≡◌};
+
+use rhythm_base::Words;
+use std::alloc::{AllocError, AllocFailed};
+use std::error::Error;
+use std::fmt;
+
+/// A command with its options.
+#[derive(Drop)]
+pub struct CommandLine {
+    /// How many workers build cells, 1 to 16.
+    pub workers: u32,
+    /// The name of the command and its arguments.
+    pub words: Words,
+}
+
+/// What the words of a command line say.
+#[derive(Drop)]
+pub enum Invocation {
+    /// They ask for help.
+    Help,
+    /// They ask for the version.
+    Version,
+    /// They are a command line, whatever its command is.
+    Command(CommandLine),
+}
+
+/// Why words say nothing.
+#[derive(Clone, Copy, Debug, PartialEq, Eq)]
+pub enum WordsFault {
+    /// The words are no command line, or the number of workers is none of 1 to 16.
+    Refused,
+    /// Want of memory.
+    Memory,
+}
+
+impl fmt::Display for WordsFault {
+    fn fmt<W: fmt::Write>(&self, f: &mut fmt::Formatter<W>) -> fmt::Result {
+        match self {
+            WordsFault::Refused => write!(f, "the words are no command line"),
+            WordsFault::Memory => write!(f, "not enough memory"),
+        }
+    }
+}
+
+impl Error for WordsFault {}
+
+impl From<AllocError> for WordsFault {
+    ghost from_gives = { λ _ e. e ≡ Memory };
+
+    fn from(_error: AllocError) -> WordsFault {
+        WordsFault::Memory
+    }
+}
+
+impl<T: Drop> From<AllocFailed<T>> for WordsFault {
+    ghost from_gives = { λ _ e. e ≡ Memory };
+
+    fn from(_error: AllocFailed<T>) -> WordsFault {
+        WordsFault::Memory
+    }
+}

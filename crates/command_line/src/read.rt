@@ -1,0 +1,83 @@
+ghost use Rattle.clap.specs.Words.{found_of};
+ghost use Rattle.command_line.specs.CommandLines.{command_line_of, invocation_of, seen_matches};
+ghost use Rattle.command_line.specs.declared.invocation.WordsFault.TheVariants.{Refused};
+ghost use Rattle.std.specs.Prelude.{◌≡◌, ◌≤◌, IfErr, IfOk, None, Some, map};
+
+use crate::flat_command::matches_of;
+use crate::invocation::{CommandLine, Invocation, WordsFault};
+use crate::number::workers_in;
+use crate::requests::asks_by;
+use clap::ArgMatches;
+use rhythm_base::Words;
+use std::alloc::{AllocError, Global};
+
+/// The words as a list of texts.
+fn texts_of<'a>(alloc: Global, words: &'a Words) -> Result<Vec<&'a str>, AllocError>
+    ensures { IfOk result (λ list. map (λ s. s.now) list.items ≡ words.entry.now) }
+{
+    let mut list = Vec::new(alloc);
+    for at in 0..words.count() {
+        if let Some(word) = words.get(at) {
+            list.push(word)?;
+        }
+    }
+    Ok(list)
+}
+
+/// A list of texts as words.
+fn words_of(alloc: Global, list: &[&str]) -> Result<Words, AllocError>
+    ensures { IfOk result (λ words. words ≡ map (λ s. s.now) list.now) }
+{
+    let mut words = Words::new(alloc);
+    for word in list {
+        words.push(word)?;
+    }
+    Ok(words)
+}
+
+/// The words of the positional.
+fn words_in(alloc: Global, matches: &ArgMatches<'_>) -> Result<Words, AllocError>
+    ensures { IfOk result (λ words. words ≡ (seen_matches (found_of matches.now)).words) }
+{
+    match matches.get_strs("words") {
+        Some(list) => words_of(alloc, list),
+        None => Ok(Words::new(alloc)),
+    }
+}
+
+/// The command line that the words are.
+fn command_line(alloc: Global, list: &[&str]) -> Result<CommandLine, WordsFault>
+    ensures ok { IfOk result (λ line. command_line_of (map (λ s. s.now) list.now) ≡ Some line) }
+    ensures refused { IfErr result (λ fault. fault ≡ Refused → command_line_of (map (λ s. s.now) list.now) ≡ None) }
+{
+    let matches = match matches_of(alloc, list) {
+        Ok(matches) => matches,
+        Err(fault) => return Err(fault),
+    };
+    match workers_in(matches.get_str("workers")) {
+        Some(workers) => {
+            let words = words_in(alloc, &matches)?;
+            Ok(CommandLine { workers, words })
+        }
+        None => Err(WordsFault::Refused),
+    }
+}
+
+/// What the words of a command line say.
+///
+/// They are refused exactly where `clap` refuses them, or where the number of workers is none of 1 to 16. Words that ask
+/// for help or for the version are not refused, whatever else they are.
+pub fn read_words(alloc: Global, words: &Words) -> Result<Invocation, WordsFault>
+    ensures ok { IfOk result (λ said. invocation_of words.now ≡ Some said) }
+    ensures refused { IfErr result (λ fault. fault ≡ Refused → invocation_of words.now ≡ None) }
+{
+    let list = texts_of(alloc, words)?;
+    if asks_by(list.as_slice(), "--help", "-h") {
+        return Ok(Invocation::Help);
+    }
+    if asks_by(list.as_slice(), "--version", "-V") {
+        return Ok(Invocation::Version);
+    }
+    let line = command_line(alloc, list.as_slice())?;
+    Ok(Invocation::Command(line))
+}
