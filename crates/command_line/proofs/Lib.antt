@@ -3,3 +3,4 @@ pub mod Walks
 pub mod PlainLines
 pub mod Asking
 pub mod Reading
+pub mod Numbers

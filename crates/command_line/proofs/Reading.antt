@@ -50,9 +50,9 @@ unfolding line_matches
 matches_are words m passes has =
     let rows : rows_of (found_of m) ≡ matches_of line_app words = (has refl).0 in
     let option_is : first_of (codes "workers") (matches_of line_app words) ≡ first_value (found_of m) (codes "workers") =
-        sym (first_value-rows (found_of m) (codes "workers") ∙ ap (first_of (codes "workers")) rows) in
+    sym (first_value-rows (found_of m) (codes "workers") ∙ ap (first_of (codes "workers")) rows) in
     let words_are : all_of (codes "words") (matches_of line_app words) ≡ option_map raw_values (matched_of (found_of m) (codes "words")) =
-        sym (raw_values-rows (found_of m) (codes "words") ∙ ap (all_of (codes "words")) rows) in
+    sym (raw_values-rows (found_of m) (codes "words") ∙ ap (all_of (codes "words")) rows) in
     of_parts (fault_of line_app words) passes _ _ _ _ option_is words_are
   where
     of_parts : (kinds : Kinds) → kinds ≡ [] → (a b : Option Text) (x y : Option (List Text)) → a ≡ b → x ≡ y

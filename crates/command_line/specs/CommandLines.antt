@@ -1,5 +1,5 @@
 -- What the words of a command line say.
-use Rattle.std.specs.Prelude.{ℕ, if◌then◌else◌, List, [], ◌∷◌, codes, Option, Some, None, option_and_then, option_map, unwrap_or}
+use Rattle.std.specs.Prelude.{⊤, ℕ, ◌≤◌, if◌then◌else◌, List, [], ◌∷◌, codes, Option, Some, None, option_and_then, option_map, unwrap_or}
 use Rattle.clap.specs.Words.{Kinds, all_of, fault_of, first_of, first_value, matched_of, matches_of, raw_values}
 use Rattle.clap.specs.declared.parser.matches.Found.{Found}
 use Rattle.command_line.specs.FlatCommand.{line_app}
@@ -37,6 +37,12 @@ seen_matches found = record {
 abbrev pub command_line_of : List (List ℕ) → Option CommandLine
 command_line_of words =
     option_and_then (λ (m : LineMatches). option_map (λ (n : ℕ). record { workers = n; words = m.words }) (workers_of m.workers)) (line_matches words)
+
+-- a command line has 1 to 16 workers
+abbrev pub HasWorkers : Invocation → Type 0
+HasWorkers Help = ⊤
+HasWorkers Version = ⊤
+HasWorkers (Command line) = (1 ≤ line.workers) × (line.workers ≤ 16)
 
 -- what the words say: they ask for help, or else for the version, or else they are a command line
 abbrev pub invocation_of : List (List ℕ) → Option Invocation

@@ -1,11 +1,16 @@
--- The law, as one statement over the definitions.
-use Rattle.std.specs.Prelude.{◌≡◌, ℕ, List, option_map}
+-- The laws, each as one statement over the definitions.
+use Rattle.std.specs.Prelude.{◌≡◌, ◌≤◌, ◌↔◌, ℕ, List, Some, option_map}
+use Rattle.rhythm_base.specs.ScriptLines.{IsNumber}
 use Rattle.command_line.specs.CommandLines.{invocation_of}
-use Rattle.command_line.specs.Numbers.{workers_of}
+use Rattle.command_line.specs.Numbers.{number_in, workers_of}
 use Rattle.command_line.specs.PlainWords.{ArePlain, other_words, word_of_workers}
 use Rattle.command_line.specs.declared.invocation.CommandLine.{CommandLine}
 use Rattle.command_line.specs.declared.invocation.Invocation.{Invocation}
 use Rattle.command_line.specs.declared.invocation.Invocation.TheVariants.{Command}
+
+-- the numbers of a command line are written as those of an edit script
+abbrev pub NumbersAreAsInScripts : Type 0
+NumbersAreAsInScripts = (least most n : ℕ) (word : List ℕ) → (number_in least most word ≡ Some n) ↔ (IsNumber most n word × (least ≤ n))
 
 -- plain words are never refused by `clap` and ask for no help and no version: the word after the option says the number of workers, and
 -- the other words, in order, are the words of the command

@@ -11,7 +11,7 @@ mod requests;
 mod texts;
 
 pub use invocation::{CommandLine, Invocation, WordsFault};
-pub use laws::plain_words_are_taken;
+pub use laws::{numbers_are_as_in_scripts, plain_words_are_taken};
 pub use number::number_in;
 pub use read::read_words;
 pub use texts::{help_text, version_text};

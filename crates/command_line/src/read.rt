@@ -1,5 +1,5 @@
 ghost use Rattle.clap.specs.Words.{found_of};
-ghost use Rattle.command_line.specs.CommandLines.{command_line_of, invocation_of, seen_matches};
+ghost use Rattle.command_line.specs.CommandLines.{HasWorkers, command_line_of, invocation_of, seen_matches};
 ghost use Rattle.command_line.specs.declared.invocation.WordsFault.TheVariants.{Refused};
 ghost use Rattle.std.specs.Prelude.{◌≡◌, ◌≤◌, IfErr, IfOk, None, Some, map};
 
@@ -70,6 +70,7 @@ fn command_line(alloc: Global, list: &[&str]) -> Result<CommandLine, WordsFault>
 pub fn read_words(alloc: Global, words: &Words) -> Result<Invocation, WordsFault>
     ensures ok { IfOk result (λ said. invocation_of words.now ≡ Some said) }
     ensures refused { IfErr result (λ fault. fault ≡ Refused → invocation_of words.now ≡ None) }
+    ensures workers { IfOk result HasWorkers }
 {
     let list = texts_of(alloc, words)?;
     if asks_by(list.as_slice(), "--help", "-h") {
