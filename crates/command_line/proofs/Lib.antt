@@ -1,5 +1,6 @@
 pub mod Rows
 pub mod Walks
+pub mod Taking
 pub mod PlainLines
 pub mod Asking
 pub mod Reading

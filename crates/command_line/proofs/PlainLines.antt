@@ -12,58 +12,48 @@ use Rattle.clap.specs.Faults.{built_fault, defaults_fault, fault_of, level_fault
 use Rattle.clap.specs.Simple.{built, matches_of}
 use Rattle.command_line.specs.CommandLines.{LineMatches, invocation_of, line_matches}
 use Rattle.command_line.specs.FlatCommand.{line_app}
-use Rattle.command_line.specs.PlainWords.{ArePlain, begins_with_hyphen, other_words, word_of_workers}
+use Rattle.command_line.specs.PlainWords.{ArePlainWords, begins_with_hyphen, other_words, word_of_workers}
 use Rattle.command_line.specs.Numbers.{workers_of}
 use Rattle.command_line.specs.Requests.{asks, has_free, is_dashes, is_help, is_version, is_workers}
 use Rattle.command_line.specs.declared.invocation.CommandLine.{CommandLine}
 use Rattle.command_line.specs.declared.invocation.Invocation.TheVariants.{Command}
 use Rattle.command_line.proofs.Rows.{Text, words_so_far}
-use Rattle.command_line.proofs.Walks.{Ends, IsFree, Pending, a_word, an_option, is_after_option, is_hyphenless, is_plain, not_true, nothing, pending_of, place, rows_with, shape, walk_ends}
+use Rattle.command_line.proofs.Taking.{faultless, no_defaults}
+use Rattle.command_line.proofs.Walks.{WalkEnds, IsFree, Pending, a_word, an_option, is_after_option, is_hyphenless, is_plain, not_true, nothing, pending_of, walk_at, rows_with, built_shape, walk_ends}
 
 -- ---- after the walk
 
--- nothing has a default
-no_defaults : (rows : List Row) → defaults_fault rows shape.rules ≡ []
-unfolding defaults_fault
-no_defaults rows = go (has_row (codes "workers") rows) (has_row (codes "words") rows) refl refl
-  where
-    go : (a b : Bool) → has_row (codes "workers") rows ≡ a → has_row (codes "words") rows ≡ b → defaults_fault rows shape.rules ≡ []
-    go true true e f = rw (e, f) refl
-    go true false e f = rw (e, f) refl
-    go false true e f = rw (e, f) refl
-    go false false e f = rw (e, f) refl
-
-all_rows : (rows : List Row) → fold with_default rows shape.rules ≡ rows
+all_rows : (rows : List Row) → fold with_default rows built_shape.rules ≡ rows
 all_rows rows = go (has_row (codes "workers") rows) (has_row (codes "words") rows) refl refl
   where
-    go : (a b : Bool) → has_row (codes "workers") rows ≡ a → has_row (codes "words") rows ≡ b → fold with_default rows shape.rules ≡ rows
+    go : (a b : Bool) → has_row (codes "workers") rows ≡ a → has_row (codes "words") rows ≡ b → fold with_default rows built_shape.rules ≡ rows
     go true true e f = rw (e, f) refl
     go true false e f = rw (e, f) refl
     go false true e f = rw (e, f) refl
     go false false e f = rw (e, f) refl
 
 -- what is pending is no fault
-settles : (p : Pending) (rows : List Row) → IsFree p rows → settle_fault shape.rules false (place p rows).held ≡ []
+settles : (p : Pending) (rows : List Row) → IsFree p rows → settle_fault built_shape.rules false (walk_at p rows).held ≡ []
 settles nothing rows free = refl
 settles (a_word word) rows free = refl
 settles (an_option word) rows free = rw free refl
 
-settled_is : (p : Pending) (rows : List Row) → settled_rows shape.rules (pending_of p) rows ≡ rows_with p rows
+settled_is : (p : Pending) (rows : List Row) → settled_rows built_shape.rules (pending_of p) rows ≡ rows_with p rows
 settled_is nothing rows = refl
 settled_is (a_word word) rows = refl
 settled_is (an_option word) rows = refl
 
-no_fault : (words said : List Text) (option_word : Option Text) → Ends nothing [] words said option_word → fault_of line_app words ≡ []
+no_fault : (words said : List Text) (option_word : Option Text) → WalkEnds nothing [] words said option_word → fault_of line_app words ≡ []
 no_fault words said option_word e = rw (e.walks, e.passes, settles e.last e.found e.free, settled_is e.last e.found, no_defaults (rows_with e.last e.found)) refl
 
-rows_are : (words said : List Text) (option_word : Option Text) (e : Ends nothing [] words said option_word) → matches_of line_app words ≡ rows_with e.last e.found
+rows_are : (words said : List Text) (option_word : Option Text) (e : WalkEnds nothing [] words said option_word) → matches_of line_app words ≡ rows_with e.last e.found
 rows_are words said option_word e = rw (e.walks, settled_is e.last e.found) (all_rows (rows_with e.last e.found))
 
 pub plain_matches : (words : List Text) → is_plain words ≡ true → line_matches words ≡ Some (record { workers = word_of_workers words; words = other_words words })
 unfolding line_matches
 plain_matches words plain =
     let e = walk_ends words plain nothing [] [] tt refl refl refl in
-    rw (no_fault words _ _ e, rows_are words _ _ e, e.words_are, e.option_is) refl
+    let taken = (faultless words).1 (no_fault words _ _ e) in rw (taken, rows_are words _ _ e, e.words_are, e.option_is) refl
 
 -- ---- plain words by a test
 
@@ -87,7 +77,7 @@ all_hyphenless (word ∷ words) few others =
     go true few first later = absurd (omega (arith, few))
     go false few first later = both_true (is_hyphenless word) (list_all is_hyphenless words) first (later (omega (arith, few)))
 
-plain_test : (words : List Text) → ArePlain words → is_plain words ≡ true
+plain_test : (words : List Text) → ArePlainWords words → is_plain words ≡ true
 plain_test [] plain = refl
 plain_test (word ∷ words) plain =
     let both = and_parts (is_workers word || is_hyphenless word) (list_all (λ w. is_workers w || is_hyphenless w) words) plain.others in
@@ -135,7 +125,7 @@ no_version (b ∷ bs) e = let miss : (b == 45) ≡ false = e in rw miss refl
 
 -- ---- the law
 
-pub plain_words : (words : List Text) → ArePlain words
+pub plain_words : (words : List Text) → ArePlainWords words
     → invocation_of words ≡ option_map (λ (n : ℕ). Command (record { workers = n; words = other_words words })) (workers_of (word_of_workers words))
 plain_words words plain =
     let no_help_asked : asks is_help words ≡ false =

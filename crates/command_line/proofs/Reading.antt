@@ -1,5 +1,5 @@
 -- What a command line is read by.
-use Rattle.std.proofs.Common.{◌≡◌, ◌≢◌, ◌∙◌, ℕ, ◌<◌, ◌≤◌, ◌+◌, ◌^◌, ◌==◌, Bool, true, false, get_or, Some, None, Result, Ok, Err, IfOk, List, [], ◌∷◌, ◌++◌, length, map, take, arith, refl, sym, ap, subst, Option, inl, inr, codes, Bor}
+use Rattle.std.proofs.Common.{◌≡◌, ◌≢◌, ◌∙◌, ℕ, ◌<◌, ◌≤◌, ◌+◌, ◌^◌, ◌==◌, Bool, true, false, true≢false, get_or, Some, None, Result, Ok, Err, IfOk, List, [], ◌∷◌, ◌++◌, length, map, take, arith, refl, sym, ap, subst, Option, inl, inr, codes, Bor}
 use Rattle.std.specs.Prelude.{if◌then◌else◌, option_map, slice_get, unwrap_or}
 use Rattle.std.specs.Result.{result_ok}
 use Rattle.std.specs.Char.{is_ascii_digit}
@@ -13,15 +13,17 @@ use Rattle.clap.specs.Matches.{first_value, found_of, matched_of, raw_values}
 use Rattle.clap.specs.Simple.{HasMatchesOf, matches_of}
 use Rattle.clap.specs.Walk.{all_of, first_of, rows_of}
 use Rattle.clap.specs.Faults.{fault_of}
+use Rattle.clap.specs.Takes.{takes}
 use Rattle.clap.specs.Kinds.{HasKind, IsAmong, Kinds}
 use Rattle.clap.specs.Values.{kind_of}
 use Rattle.clap.proofs.WalkLemmas.{first_value-rows, raw_values-rows}
 use Rattle.clap.specs.declared.error.Error.{Error}
 use Rattle.clap.specs.declared.error.kind.ErrorKind.TheVariants.{OutOfMemory}
 use Rattle.clap.specs.declared.parser.matches.ArgMatches.{ArgMatches}
-use Rattle.command_line.specs.CommandLines.{LineMatches, line_matches, seen_matches, unless_fault}
+use Rattle.command_line.specs.CommandLines.{LineMatches, line_matches, seen_matches}
 use Rattle.command_line.specs.FlatCommand.{line_app}
 use Rattle.command_line.proofs.Rows.{Text}
+use Rattle.command_line.proofs.Taking.{faultless, is_passed, takes_is}
 
 -- one to ten digits are read as a number
 pub digits_read : {E : Type 0} (word : Text) (r : Result ℕ E) → ParsesUnsigned 64 10 word r → 0 < length word → length word ≤ 10
@@ -53,19 +55,21 @@ matches_are words m passes has =
     sym (first_value-rows (found_of m) (codes "workers") ∙ ap (first_of (codes "workers")) rows) in
     let words_are : all_of (codes "words") (matches_of line_app words) ≡ option_map raw_values (matched_of (found_of m) (codes "words")) =
     sym (raw_values-rows (found_of m) (codes "words") ∙ ap (all_of (codes "words")) rows) in
-    of_parts (fault_of line_app words) passes _ _ _ _ option_is words_are
+    of_parts (takes line_app words) ((faultless words).1 passes) _ _ _ _ option_is words_are
   where
-    of_parts : (kinds : Kinds) → kinds ≡ [] → (a b : Option Text) (x y : Option (List Text)) → a ≡ b → x ≡ y
-        → unless_fault kinds (record { workers = a; words = unwrap_or x [] }) ≡ Some (record { workers = b; words = unwrap_or y [] })
-    of_parts [] e a b x y same all = rw (same, all) refl
-    of_parts (k ∷ kinds) e a b x y same all = cc
+    of_parts : (taken : Bool) → taken ≡ true → (a b : Option Text) (x y : Option (List Text)) → a ≡ b → x ≡ y
+        → (if◌then◌else◌ {A = Option LineMatches} taken (Some (record { workers = a; words = unwrap_or x [] })) None)
+        ≡ Some (record { workers = b; words = unwrap_or y [] })
+    of_parts true e a b x y same all = rw (same, all) refl
+    of_parts false e a b x y same all = absurd (true≢false (sym e))
 
 -- an error that is not for memory refuses the words
 pub refusal_is : (words : List Text) (e : Error) → HasKind (fault_of line_app words) e → kind_of e ≢ OutOfMemory → line_matches words ≡ None
 unfolding line_matches
 refusal_is words e (inl memory) other = absurd (other memory)
-refusal_is words e (inr among) other = some_kind (fault_of line_app words) among _
+refusal_is words e (inr among) other =
+    let refused : takes line_app words ≡ false = sym (takes_is words) ∙ some_kind (fault_of line_app words) among in rw refused refl
   where
-    some_kind : (kinds : Kinds) → IsAmong (kind_of e) kinds → (x : LineMatches) → unless_fault kinds x ≡ None
-    some_kind [] among x = absurd among
-    some_kind (k ∷ kinds) among x = refl
+    some_kind : (kinds : Kinds) → IsAmong (kind_of e) kinds → is_passed kinds ≡ false
+    some_kind [] among = absurd among
+    some_kind (k ∷ kinds) among = refl

@@ -15,8 +15,8 @@ use Rattle.command_line.specs.Requests.{is_workers}
 use Rattle.command_line.proofs.Rows.{Text, no_option-with_word, option-with_option, option-with_word, with_option, with_word, words-with_word, words_so_far}
 
 -- the command as it is built
-abbrev pub shape : Shape
-shape = (built line_app).top
+abbrev pub built_shape : Shape
+built_shape = (built line_app).top
 
 -- what is pending: nothing, a word, or the word of the option
 pub data Pending : Type 0 where
@@ -41,8 +41,8 @@ waiting_of (a_word word) = positional
 waiting_of (an_option word) = idle
 
 -- where the walk stands between two words
-abbrev pub place : Pending → List Row → Walk
-place p rows = record {
+abbrev pub walk_at : Pending → List Row → Walk
+walk_at p rows = record {
   held = record { rows = rows; pending = pending_of p; skip = 0 };
   waiting = waiting_of p;
   position = 1;
@@ -51,8 +51,8 @@ place p rows = record {
 }
 
 -- after the option, before its word
-abbrev pub place_at_option : List Row → Walk
-place_at_option rows = record {
+abbrev pub walk_at_option : List Row → Walk
+walk_at_option rows = record {
   held = record { rows = rows; pending = Some (codes "workers", []); skip = 0 };
   waiting = option (codes "workers");
   position = 1;
@@ -62,7 +62,7 @@ place_at_option rows = record {
 
 -- a step, and that it is no fault
 abbrev pub Steps : Walk → Text → Walk → Type 0
-Steps w word next = (walked shape.rules [] w word ≡ next) × ((rest : List Text) → walk_fault shape [] w (word ∷ rest) ≡ walk_fault shape [] next rest)
+Steps w word next = (walked built_shape.rules [] w word ≡ next) × ((rest : List Text) → walk_fault built_shape [] w (word ∷ rest) ≡ walk_fault built_shape [] next rest)
 
 -- what is pending may be counted: the option was not given before
 abbrev pub IsFree : Pending → List Row → Type 0
@@ -70,19 +70,19 @@ IsFree nothing rows = ⊤
 IsFree (a_word word) rows = ⊤
 IsFree (an_option word) rows = has_row (codes "workers") rows ≡ false
 
-step_value : (rows : List Row) (n : Text) → begins_with_hyphen n ≡ false → Steps (place_at_option rows) n (place (an_option n) rows)
+step_value : (rows : List Row) (n : Text) → begins_with_hyphen n ≡ false → Steps (walk_at_option rows) n (walk_at (an_option n) rows)
 unfolding walked walk_fault
 step_value rows [] e = (refl, λ rest. refl)
 step_value rows (b ∷ bs) e = let miss : (b == 45) ≡ false = e in rw (miss, miss) (refl, λ rest. refl)
 
-step_option : (p : Pending) (rows : List Row) → IsFree p rows → Steps (place p rows) (codes "--workers") (place_at_option (rows_with p rows))
+step_option : (p : Pending) (rows : List Row) → IsFree p rows → Steps (walk_at p rows) (codes "--workers") (walk_at_option (rows_with p rows))
 unfolding walked walk_fault
 step_option nothing rows free = (refl, λ rest. refl)
 step_option (a_word w) rows free = (refl, λ rest. refl)
 step_option (an_option w) rows free = (refl, λ rest. rw free refl)
 
 pub step_word : (p : Pending) (rows : List Row) (word : Text) → IsFree p rows → begins_with_hyphen word ≡ false
-    → Steps (place p rows) word (place (a_word word) (rows_with p rows))
+    → Steps (walk_at p rows) word (walk_at (a_word word) (rows_with p rows))
 unfolding walked walk_fault
 step_word nothing rows [] free e = (refl, λ rest. refl)
 step_word (a_word w) rows [] free e = (refl, λ rest. refl)
@@ -94,11 +94,11 @@ step_word (an_option w) rows (b ∷ bs) free e = let miss : (b == 45) ≡ false 
 -- ---- the walk
 
 -- where the walk ends, no word is refused, and the rows say the words and the word of the option
-pub record Ends (p : Pending) (rows : List Row) (words said : List Text) (option_word : Option Text) : Type 0 where
+pub record WalkEnds (p : Pending) (rows : List Row) (words said : List Text) (option_word : Option Text) : Type 0 where
   pub last : Pending
   pub found : List Row
-  pub walks : fold (walked shape.rules []) (place p rows) words ≡ place last found
-  pub passes : walk_fault shape [] (place p rows) words ≡ []
+  pub walks : fold (walked built_shape.rules []) (walk_at p rows) words ≡ walk_at last found
+  pub passes : walk_fault built_shape [] (walk_at p rows) words ≡ []
   pub free : IsFree last found
   pub words_are : words_so_far (rows_with last found) ≡ said
   pub option_is : first_of (codes "workers") (rows_with last found) ≡ option_word
@@ -111,19 +111,19 @@ not_true true e = absurd (true≢false (sym e))
 not_true false e = refl
 
 -- no fault where no word is left
-no_words : (w : Walk) → walk_fault shape [] w [] ≡ []
+no_words : (w : Walk) → walk_fault built_shape [] w [] ≡ []
 unfolding walk_fault
 no_words w = refl
 
 -- the walk over words none of which begins with `-`
 plain_walk : (words : List Text) → list_all is_hyphenless words ≡ true → (p : Pending) (rows : List Row) (said : List Text) (option_word : Option Text)
     → IsFree p rows → words_so_far (rows_with p rows) ≡ said → first_of (codes "workers") (rows_with p rows) ≡ option_word
-    → Ends p rows words (said ++ words) option_word
+    → WalkEnds p rows words (said ++ words) option_word
 plain_walk [] plain p rows said option_word free words_are option_is = record {
   last = p;
   found = rows;
   walks = refl;
-  passes = no_words (place p rows);
+  passes = no_words (walk_at p rows);
   free = free;
   words_are = words_are ∙ sym (append-nil said);
   option_is = option_is;
@@ -137,7 +137,7 @@ plain_walk (word ∷ words) plain p rows said option_word free words_are option_
     record {
       last = rest.last;
       found = rest.found;
-      walks = ap (λ (w : Walk). fold (walked shape.rules []) w words) step.0 ∙ rest.walks;
+      walks = ap (λ (w : Walk). fold (walked built_shape.rules []) w words) step.0 ∙ rest.walks;
       passes = step.1 words ∙ rest.passes;
       free = rest.free;
       words_are = rest.words_are ∙ append_assoc said (word ∷ []) words;
@@ -157,7 +157,7 @@ is_plain (word ∷ words) = if is_workers word then is_after_option words else (
 -- the walk over the option and what follows it
 option_walk : (words : List Text) → is_after_option words ≡ true → (p : Pending) (rows : List Row) (said : List Text)
     → IsFree p rows → has_row (codes "workers") (rows_with p rows) ≡ false → words_so_far (rows_with p rows) ≡ said
-    → Ends p rows (codes "--workers" ∷ words) (said ++ drop 1 words) (slice_get words 0)
+    → WalkEnds p rows (codes "--workers" ∷ words) (said ++ drop 1 words) (slice_get words 0)
 option_walk [] plain p rows said free none words_are = absurd (true≢false (sym plain))
 option_walk (n ∷ words) plain p rows said free none words_are =
     let both = and_parts (is_hyphenless n) (list_all is_hyphenless words) plain in
@@ -168,7 +168,7 @@ option_walk (n ∷ words) plain p rows said free none words_are =
     record {
       last = rest.last;
       found = rest.found;
-      walks = ap (λ (w : Walk). fold (walked shape.rules []) w (n ∷ words)) first.0 ∙ ap (λ (w : Walk). fold (walked shape.rules []) w words) second.0 ∙ rest.walks;
+      walks = ap (λ (w : Walk). fold (walked built_shape.rules []) w (n ∷ words)) first.0 ∙ ap (λ (w : Walk). fold (walked built_shape.rules []) w words) second.0 ∙ rest.walks;
       passes = first.1 (n ∷ words) ∙ second.1 words ∙ rest.passes;
       free = rest.free;
       words_are = rest.words_are;
@@ -178,7 +178,7 @@ option_walk (n ∷ words) plain p rows said free none words_are =
 -- the walk over plain words
 pub walk_ends : (words : List Text) → is_plain words ≡ true → (p : Pending) (rows : List Row) (said : List Text)
     → IsFree p rows → has_row (codes "workers") (rows_with p rows) ≡ false → words_so_far (rows_with p rows) ≡ said
-    → first_of (codes "workers") (rows_with p rows) ≡ None → Ends p rows words (said ++ other_words words) (word_of_workers words)
+    → first_of (codes "workers") (rows_with p rows) ≡ None → WalkEnds p rows words (said ++ other_words words) (word_of_workers words)
 walk_ends [] plain p rows said free none words_are option_is = plain_walk [] refl p rows said None free words_are option_is
 walk_ends (word ∷ words) plain p rows said free none words_are option_is =
     go (is_workers word) refl plain (λ e. option_walk words e p rows said free none words_are)
@@ -191,7 +191,7 @@ walk_ends (word ∷ words) plain p rows said free none words_are option_is =
     record {
       last = rest.last;
       found = rest.found;
-      walks = ap (λ (w : Walk). fold (walked shape.rules []) w words) step.0 ∙ rest.walks;
+      walks = ap (λ (w : Walk). fold (walked built_shape.rules []) w words) step.0 ∙ rest.walks;
       passes = step.1 words ∙ rest.passes;
       free = rest.free;
       words_are = rest.words_are ∙ append_assoc said (word ∷ []) (other_words words);
@@ -199,15 +199,15 @@ walk_ends (word ∷ words) plain p rows said free none words_are option_is =
     })
   where
     After : Type 0
-    After = is_after_option words ≡ true → Ends p rows (codes "--workers" ∷ words) (said ++ drop 1 words) (slice_get words 0)
+    After = is_after_option words ≡ true → WalkEnds p rows (codes "--workers" ∷ words) (said ++ drop 1 words) (slice_get words 0)
 
     Before : Type 0
-    Before = begins_with_hyphen word ≡ false → is_plain words ≡ true → Ends p rows (word ∷ words) (said ++ word ∷ other_words words) (word_of_workers words)
+    Before = begins_with_hyphen word ≡ false → is_plain words ≡ true → WalkEnds p rows (word ∷ words) (said ++ word ∷ other_words words) (word_of_workers words)
 
     go : (b : Bool) → is_workers word ≡ b → (if b then is_after_option words else (is_hyphenless word && is_plain words)) ≡ true → After → Before
-        → Ends p rows (word ∷ words) (said ++ (if b then drop 1 words else word ∷ other_words words)) (if b then slice_get words 0 else word_of_workers words)
+        → WalkEnds p rows (word ∷ words) (said ++ (if b then drop 1 words else word ∷ other_words words)) (if b then slice_get words 0 else word_of_workers words)
     go true e plain after before =
         let same : codes "--workers" ≡ word = sym ((bytes_eq-Decides word (codes "--workers")).0 e) in
-        subst (λ (w : Text). Ends p rows (w ∷ words) (said ++ drop 1 words) (slice_get words 0)) same (after plain)
+        subst (λ (w : Text). WalkEnds p rows (w ∷ words) (said ++ drop 1 words) (slice_get words 0)) same (after plain)
     go false e plain after before =
         let both = and_parts (is_hyphenless word) (is_plain words) plain in before (not_true (begins_with_hyphen word) both.0) both.1

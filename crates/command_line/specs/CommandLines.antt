@@ -1,6 +1,6 @@
 -- What the words of a command line say.
-use Rattle.std.specs.Prelude.{⊤, ℕ, ◌≤◌, if◌then◌else◌, List, [], ◌∷◌, codes, Option, Some, None, option_and_then, option_map, unwrap_or}
-use Rattle.clap.specs.Words.{Kinds, all_of, fault_of, first_of, first_value, matched_of, matches_of, raw_values}
+use Rattle.std.specs.Prelude.{⊤, ℕ, ◌≤◌, if◌then◌else◌, List, [], codes, Option, Some, None, option_and_then, option_map, unwrap_or}
+use Rattle.clap.specs.Words.{all_of, first_of, first_value, matched_of, matches_of, raw_values, takes}
 use Rattle.clap.specs.declared.parser.matches.Found.{Found}
 use Rattle.command_line.specs.FlatCommand.{line_app}
 use Rattle.command_line.specs.Numbers.{workers_of}
@@ -14,17 +14,15 @@ pub record LineMatches : Type 0 where
   pub workers : Option (List ℕ)
   pub words : List (List ℕ)
 
--- what is given where no fault is
-abbrev pub unless_fault : Kinds → LineMatches → Option LineMatches
-unless_fault [] matches = Some matches
-unless_fault (fault ∷ faults) matches = None
-
--- what `clap`'s written meaning of the flat command gives, none where it refuses the words
+-- what `clap`'s written meaning of the flat command gives, none where it does not take the words
 unfoldable pub line_matches : List (List ℕ) → Option LineMatches
-line_matches words = unless_fault (fault_of line_app words) (record {
-  workers = first_of (codes "workers") (matches_of line_app words);
-  words = unwrap_or (all_of (codes "words") (matches_of line_app words)) [];
-})
+line_matches words =
+    if takes line_app words
+    then Some (record {
+      workers = first_of (codes "workers") (matches_of line_app words);
+      words = unwrap_or (all_of (codes "words") (matches_of line_app words)) [];
+    })
+    else None
 
 -- the same as the getters of `clap` give it
 abbrev pub seen_matches : Found → LineMatches

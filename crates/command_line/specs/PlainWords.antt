@@ -7,8 +7,8 @@ abbrev pub begins_with_hyphen : List ℕ → Bool
 begins_with_hyphen [] = false
 begins_with_hyphen (byte ∷ bytes) = byte == 45
 
--- at most one word is the option, a further word follows it, and no other word begins with `-`
-pub record ArePlain (words : List (List ℕ)) : Type 0 where
+-- at most one word is the option, it is not the last word, and no other word begins with `-`
+pub record ArePlainWords (words : List (List ℕ)) : Type 0 where
   pub once : count_by is_workers words ≤ 1
   pub followed : (before : List (List ℕ)) → words ≢ before ++ codes "--workers" ∷ []
   pub others : IsTrue (list_all (λ word. is_workers word || not (begins_with_hyphen word)) words)

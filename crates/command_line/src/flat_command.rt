@@ -27,7 +27,7 @@ fn parsed<'a>(alloc: Global, words: &'a [&'a str]) -> Result<ArgMatches<'a>, Err
 }
 
 /// Whether `clap` refuses the words, or there was not enough memory.
-fn fault_of(error: &Error) -> WordsFault
+fn words_fault(error: &Error) -> WordsFault
     ensures { result ≡ Refused → kind_of error.now ≢ ErrorKind.OutOfMemory }
 {
     if error.kind() == ErrorKind::OutOfMemory {
@@ -38,7 +38,7 @@ fn fault_of(error: &Error) -> WordsFault
 }
 
 /// The matches of the words, where `clap` does not refuse them.
-pub(crate) fn matches_of<'a>(
+pub(crate) fn taken_matches<'a>(
     alloc: Global,
     words: &'a [&'a str],
 ) -> Result<ArgMatches<'a>, WordsFault>
@@ -47,6 +47,6 @@ pub(crate) fn matches_of<'a>(
 {
     match parsed(alloc, words) {
         Ok(matches) => Ok(matches),
-        Err(error) => Err(fault_of(&error)),
+        Err(error) => Err(words_fault(&error)),
     }
 }

@@ -3,7 +3,7 @@ ghost use Rattle.command_line.specs.CommandLines.{HasWorkers, command_line_of, i
 ghost use Rattle.command_line.specs.declared.invocation.WordsFault.TheVariants.{Refused};
 ghost use Rattle.std.specs.Prelude.{◌≡◌, ◌≤◌, IfErr, IfOk, None, Some, map};
 
-use crate::flat_command::matches_of;
+use crate::flat_command::taken_matches;
 use crate::invocation::{CommandLine, Invocation, WordsFault};
 use crate::number::workers_in;
 use crate::requests::asks_by;
@@ -36,7 +36,7 @@ fn words_of(alloc: Global, list: &[&str]) -> Result<Words, AllocError>
 }
 
 /// The words of the positional.
-fn words_in(alloc: Global, matches: &ArgMatches<'_>) -> Result<Words, AllocError>
+fn given_words(alloc: Global, matches: &ArgMatches<'_>) -> Result<Words, AllocError>
     ensures { IfOk result (λ words. words ≡ (seen_matches (found_of matches.now)).words) }
 {
     match matches.get_strs("words") {
@@ -50,13 +50,13 @@ fn command_line(alloc: Global, list: &[&str]) -> Result<CommandLine, WordsFault>
     ensures ok { IfOk result (λ line. command_line_of (map (λ s. s.now) list.now) ≡ Some line) }
     ensures refused { IfErr result (λ fault. fault ≡ Refused → command_line_of (map (λ s. s.now) list.now) ≡ None) }
 {
-    let matches = match matches_of(alloc, list) {
+    let matches = match taken_matches(alloc, list) {
         Ok(matches) => matches,
         Err(fault) => return Err(fault),
     };
     match workers_in(matches.get_str("workers")) {
         Some(workers) => {
-            let words = words_in(alloc, &matches)?;
+            let words = given_words(alloc, &matches)?;
             Ok(CommandLine { workers, words })
         }
         None => Err(WordsFault::Refused),

@@ -1,3 +1,5 @@
+ghost use Rattle.std.specs.Prelude.{◌≡◌, ◌∷◌, ◌++◌, [], codes};
+
 /// How the program is called, for its user: lines of at most 80 characters.
 pub fn help_text() -> &'static str {
     "\
@@ -40,6 +42,8 @@ Status:
 }
 
 /// The name of the program and its version.
-pub fn version_text() -> &'static str {
+pub fn version_text() -> &'static str
+    ensures { result.now ≡ codes "rhythm 0.1" ++ 10 ∷ [] }
+{
     "rhythm 0.1\n"
 }

@@ -77,7 +77,7 @@ const SAID: [(&str, &str); 53] = [
 ];
 
 /// The words of a line with `|` between two of them.
-fn words_in(alloc: Global, line: &str) -> Result<Words, AllocError> {
+fn split_words(alloc: Global, line: &str) -> Result<Words, AllocError> {
     let mut words = Words::new(alloc);
     for word in line.split('|') {
         words.push(word)?;
@@ -107,7 +107,7 @@ fn said(alloc: Global, words: &Words) -> Result<String, AllocError> {
 #[test]
 fn words_say_command_lines(rt: HostRuntime) -> Result<(), Fail> {
     for (line, expected) in SAID {
-        let words = words_in(rt.alloc(), line)?;
+        let words = split_words(rt.alloc(), line)?;
         assert!(rt; said(rt.alloc(), &words)?.as_str() == expected, "{line}");
     }
     Ok(())

@@ -1,10 +1,10 @@
 use Rattle.std.proofs.Common.{map}
 use Rattle.command_line.proofs.Reading.{matches_are, refusal_is}
-use Rattle.command_line.proofs.flat_command.matches_of.Goals as goal
+use Rattle.command_line.proofs.flat_command.taken_matches.Goals as goal
 
 pub returns-in-Ok-clause-ok : goal.returns-in-Ok-clause-ok
 returns-in-Ok-clause-ok c = matches_are (map (λ s. s.now) c.args.words.now) c.in-Ok.matches c.in-Ok.ensures.kinds c.in-Ok.ensures.ok
 
 pub returns-in-Err-clause-refused : goal.returns-in-Err-clause-refused
 returns-in-Err-clause-refused c =
-    λ refused. refusal_is (map (λ s. s.now) c.args.words.now) c.in-Err.error c.in-Err.ensures.kinds (c.fault_of.ensures refused)
+    λ refused. refusal_is (map (λ s. s.now) c.args.words.now) c.in-Err.error c.in-Err.ensures.kinds (c.words_fault.ensures refused)
