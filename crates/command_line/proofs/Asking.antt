@@ -1,5 +1,5 @@
 -- The search for a word that asks.
-use Rattle.std.proofs.Common.{◌≡◌, ◌∙◌, ℕ, suc, ◌<◌, ◌+◌, Bool, ◌⊎◌, inl, inr, ◌||◌, ◌&&◌, not, true, false, refl, sym, ap, subst, arith, List, [], ◌∷◌, get_or, length, drop, map, take, add-one, drop-cons, Bor}
+use Rattle.std.proofs.Common.{◌≡◌, ◌∙◌, ℕ, suc, ◌<◌, ◌+◌, Bool, ◌⊎◌, inl, inr, ◌||◌, ◌&&◌, not, true, false, refl, arith, List, ◌∷◌, get_or, length, drop, map, add-one, drop-cons, Bor}
 use Rattle.std.specs.List.{before_first, position_or_len}
 use Rattle.command_line.specs.Requests.{has_free, is_dashes, is_workers}
 use Rattle.command_line.proofs.Rows.{Text}

@@ -1,23 +1,20 @@
 -- What plain words say.
-use Rattle.std.proofs.Common.{◌≡◌, ◌∙◌, ◌≤◌, ◌+◌, ◌==◌, ℕ, zero, suc, take, Bool, ◌||◌, ◌&&◌, not, true, false, true≢false, refl, sym, ap, subst, arith, List, [], ◌∷◌, ◌++◌, Option, Some, None, codes}
+use Rattle.std.proofs.Common.{◌≡◌, ◌≤◌, ◌+◌, ◌==◌, ℕ, zero, suc, take, Bool, ◌||◌, ◌&&◌, true, false, refl, sym, ap, subst, arith, List, [], ◌∷◌, ◌++◌, Option, Some, None, codes}
 use Rattle.std.specs.List.{count_by, fold, list_all, position_or_len}
-use Rattle.std.specs.Prelude.{⊤, IsTrue, drop, if◌then◌else◌, option_map, slice_get}
-use Rattle.std.specs.Str.{bytes_eq}
+use Rattle.std.specs.Prelude.{if◌then◌else◌, option_map}
 use Rattle.std.proofs.lemmas.Bool.{and_parts}
 use Rattle.std.proofs.lemmas.List.Sums.{sum_by-cons}
 use Rattle.std.proofs.lemmas.Slice.Eq.{bytes_eq-Decides}
-use Rattle.clap.specs.Walk.{Held, Row, Walk, has_row, nothing_held, settled_rows, walk, with_default}
-use Rattle.clap.specs.Kinds.{Kinds}
-use Rattle.clap.specs.Faults.{built_fault, defaults_fault, fault_of, level_fault, settle_fault}
-use Rattle.clap.specs.Simple.{built, matches_of}
-use Rattle.command_line.specs.CommandLines.{LineMatches, invocation_of, line_matches}
+use Rattle.clap.specs.Walk.{Row, has_row, settled_rows, with_default}
+use Rattle.clap.specs.Faults.{fault_of, settle_fault}
+use Rattle.clap.specs.Simple.{matches_of}
+use Rattle.command_line.specs.CommandLines.{invocation_of, line_matches}
 use Rattle.command_line.specs.FlatCommand.{line_app}
 use Rattle.command_line.specs.PlainWords.{ArePlainWords, begins_with_hyphen, other_words, word_of_workers}
 use Rattle.command_line.specs.Numbers.{workers_of}
 use Rattle.command_line.specs.Requests.{asks, has_free, is_dashes, is_help, is_version, is_workers}
-use Rattle.command_line.specs.declared.invocation.CommandLine.{CommandLine}
 use Rattle.command_line.specs.declared.invocation.Invocation.TheVariants.{Command}
-use Rattle.command_line.proofs.Rows.{Text, words_so_far}
+use Rattle.command_line.proofs.Rows.{Text}
 use Rattle.command_line.proofs.Taking.{faultless, no_defaults}
 use Rattle.command_line.proofs.Walks.{WalkEnds, IsFree, Pending, a_word, an_option, is_after_option, is_hyphenless, is_plain, not_true, nothing, pending_of, walk_at, rows_with, built_shape, walk_ends}
 

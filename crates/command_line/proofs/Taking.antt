@@ -1,16 +1,15 @@
 -- `clap` takes words exactly where it finds no fault in them.
-use Rattle.std.proofs.Common.{◌≡◌, ◌∙◌, ℕ, ◌+◌, ◌<◌, ◌≤◌, ◌==◌, zero, suc, Bool, ◌||◌, ◌&&◌, not, true, false, true≢false, refl, sym, ap, ap₂, arith, List, [], ◌∷◌, length, drop, Option, Some, None, codes}
-use Rattle.std.specs.Prelude.{◌↔◌, is_some, encode_utf8, if◌then◌else◌, nat_le, nat_lt, slice_get}
+use Rattle.std.proofs.Common.{◌≡◌, ◌∙◌, ℕ, ◌==◌, zero, suc, Bool, ◌||◌, ◌&&◌, true, false, true≢false, refl, sym, ap, ap₂, arith, List, [], ◌∷◌, length, drop, Option, Some, None, codes}
+use Rattle.std.specs.Prelude.{◌↔◌, is_some, encode_utf8, if◌then◌else◌, nat_le, slice_get}
 use Rattle.std.specs.Str.{bytes_eq, chars}
-use Rattle.std.specs.List.{fold}
 use Rattle.std.specs.Option.{option_map_or}
 use Rattle.std.proofs.lemmas.Bool.Decides.{nat_tests}
-use Rattle.clap.specs.Kinds.{Kinds, or_else, range_kinds}
+use Rattle.clap.specs.Kinds.{Kinds, or_else}
 use Rattle.clap.specs.Lexer.{long_of, short_of}
-use Rattle.clap.specs.Walk.{Held, Row, Rule, Step, Waiting, Walk, arg_by_id, arg_by_index, arg_by_long, has_row, idle, is_pending, next, option, positional, settled, nothing_held, subcommand, trailing, value, walk, walk_from, walked, word_met}
-use Rattle.clap.specs.Simple.{Shape, built, filled, with_index}
-use Rattle.clap.specs.Faults.{bundle_fault, bundle_step_fault, defaults_fault, flags_fault, flag_word_fault, long_fault, option_fault, other_fault, fault_of, settle_fault, step_fault, turn_fault, use_fault, walk_fault, word_fault}
-use Rattle.clap.specs.Takes.{bundle_passes, bundle_step_passes, flags_pass, flag_word_passes, long_passes, option_passes, other_passes, takes, settle_passes, step_passes, turn_passes, use_passes, walk_passes, word_passes}
+use Rattle.clap.specs.Walk.{Held, Row, Rule, Step, Waiting, Walk, arg_by_id, arg_by_long, has_row, idle, is_pending, next, option, positional, settled, nothing_held, subcommand, trailing, value, walk, walk_from, walked, word_met}
+use Rattle.clap.specs.Simple.{filled, with_index}
+use Rattle.clap.specs.Faults.{bundle_fault, bundle_step_fault, defaults_fault, flags_fault, flag_word_fault, long_fault, other_fault, fault_of, settle_fault, step_fault, turn_fault, use_fault, walk_fault, word_fault}
+use Rattle.clap.specs.Takes.{bundle_passes, bundle_step_passes, flags_pass, flag_word_passes, long_passes, other_passes, takes, settle_passes, step_passes, turn_passes, use_passes, walk_passes, word_passes}
 use Rattle.command_line.specs.FlatCommand.{line_app, words_rule, workers_rule}
 use Rattle.command_line.proofs.Rows.{Text}
 use Rattle.command_line.proofs.Walks.{built_shape}

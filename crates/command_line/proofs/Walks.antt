@@ -1,13 +1,12 @@
 -- `clap`'s walk over plain words.
-use Rattle.std.proofs.Common.{◌≡◌, ◌∙◌, ℕ, ◌==◌, Bool, ◌||◌, ◌&&◌, not, true, false, true≢false, refl, sym, ap, subst, List, [], ◌∷◌, ◌++◌, append_assoc, append-nil, Option, Some, None, codes}
+use Rattle.std.proofs.Common.{◌≡◌, ◌∙◌, ◌==◌, Bool, ◌&&◌, not, true, false, true≢false, refl, sym, ap, subst, List, [], ◌∷◌, ◌++◌, append_assoc, append-nil, Option, Some, None, codes}
 use Rattle.std.specs.List.{fold, list_all}
-use Rattle.std.specs.Prelude.{⊤, IsTrue, drop, if◌then◌else◌, slice_get}
-use Rattle.std.specs.Str.{bytes_eq}
+use Rattle.std.specs.Prelude.{⊤, drop, if◌then◌else◌, slice_get}
 use Rattle.std.proofs.lemmas.Bool.{and_parts}
 use Rattle.std.proofs.lemmas.Slice.Eq.{bytes_eq-Decides}
-use Rattle.clap.specs.Walk.{Held, Row, Rule, Waiting, Walk, first_of, has_row, idle, option, positional, settled_rows, walked}
+use Rattle.clap.specs.Walk.{Row, Waiting, Walk, first_of, has_row, idle, option, positional, walked}
 use Rattle.clap.specs.Simple.{Shape, built}
-use Rattle.clap.specs.Faults.{settle_fault, walk_fault}
+use Rattle.clap.specs.Faults.{walk_fault}
 use Rattle.clap.specs.declared.builder.value_parser.Reading.TheVariants.{AsWritten}
 use Rattle.command_line.specs.FlatCommand.{line_app}
 use Rattle.command_line.specs.PlainWords.{begins_with_hyphen, other_words, word_of_workers}

@@ -4,8 +4,6 @@ use Rattle.rhythm_base.specs.ScriptLines.{IsNumber}
 use Rattle.command_line.specs.CommandLines.{invocation_of}
 use Rattle.command_line.specs.Numbers.{number_in, workers_of}
 use Rattle.command_line.specs.PlainWords.{ArePlainWords, other_words, word_of_workers}
-use Rattle.command_line.specs.declared.invocation.CommandLine.{CommandLine}
-use Rattle.command_line.specs.declared.invocation.Invocation.{Invocation}
 use Rattle.command_line.specs.declared.invocation.Invocation.TheVariants.{Command}
 
 -- the numbers of a command line are written as those of an edit script

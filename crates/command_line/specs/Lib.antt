@@ -4,3 +4,4 @@ pub mod Requests
 pub mod CommandLines
 pub mod PlainWords
 pub mod Laws
+pub mod Texts

@@ -1,5 +1,5 @@
 -- Plain words, which say what they say without `clap`.
-use Rattle.std.specs.Prelude.{◌≡◌, ◌≢◌, ℕ, ◌==◌, ◌≤◌, ◌||◌, Bool, IsTrue, false, not, if◌then◌else◌, List, [], ◌∷◌, ◌++◌, codes, count_by, drop, slice_get, Option, None}
+use Rattle.std.specs.Prelude.{◌≢◌, ℕ, ◌==◌, ◌≤◌, ◌||◌, Bool, IsTrue, false, not, if◌then◌else◌, List, [], ◌∷◌, ◌++◌, codes, count_by, drop, slice_get, Option, None}
 use Rattle.std.specs.List.{list_all}
 use Rattle.command_line.specs.Requests.{is_workers}
 

@@ -1,7 +1,10 @@
-ghost use Rattle.std.specs.Prelude.{◌≡◌, ◌∷◌, ◌++◌, [], codes};
+ghost use Rattle.command_line.specs.Texts.{has_narrow_lines};
+ghost use Rattle.std.specs.Prelude.{IsTrue, ◌≡◌, ◌∷◌, ◌++◌, [], codes};
 
 /// How the program is called, for its user: lines of at most 80 characters.
-pub fn help_text() -> &'static str {
+pub fn help_text() -> &'static str
+    ensures { IsTrue (has_narrow_lines result.now) }
+{
     "\
 Usage: rhythm [--workers N] COMMAND ARGUMENT...
 

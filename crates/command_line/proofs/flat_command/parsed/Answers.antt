@@ -1,5 +1,5 @@
-use Rattle.std.proofs.Common.{rules, ap, ap₂, true, map, refl, IfOk, IfErr, ◌≡◌, ◌∙◌, subst}
-use Rattle.clap.specs.Words.{App, FailsBy, HasMatchesOf, app_of, fault_of, is_simple_and_free, kind_of, rule_of, takes, with_rule}
+use Rattle.std.proofs.Common.{rules, ap, ap₂, true, map, refl, IfOk, ◌≡◌, ◌∙◌, subst}
+use Rattle.clap.specs.Words.{App, FailsBy, HasMatchesOf, app_of, fault_of, is_simple_and_free, rule_of, with_rule}
 use Rattle.clap.specs.Simple.{app_of_fields}
 use Rattle.clap.specs.declared.builder.command.Command.TheOpen.{Command-F}
 use Rattle.clap.specs.declared.builder.command.Command.{Command}

@@ -1,5 +1,4 @@
-use Rattle.std.proofs.Common.{◌≡◌, ◌<◌, ◌∙◌, None, ap, arith, length, map, option_map, sym, take}
-use Rattle.std.specs.Prelude.{slice_get}
+use Rattle.std.proofs.Common.{◌<◌, arith, length, sym}
 use Rattle.command_line.proofs.Reading.{one_more_word, word_there}
 use Rattle.command_line.proofs.read.texts_of.Goals.{in-Some+in_ok-push, in_default}
 use Rattle.command_line.proofs.read.texts_of.Goals as goal
