@@ -1,0 +1,3 @@
+pub mod EditKinds
+pub mod DrillSteps
+pub mod OneDrill

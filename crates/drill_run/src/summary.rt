@@ -1,0 +1,58 @@
+ghost use Rattle.drill_run.specs.Drill.{Drilled};
+ghost use Rattle.drill_run.specs.Ends.{IsSaid};
+ghost use Rattle.drill_run.specs.declared.drill_stop.DrillStop.TheVariants as stop;
+ghost use Rattle.kern_writer.specs.PerformanceScore.{HasTooLongText, IsTextOf};
+ghost use Rattle.rhythm_base.specs.declared.limits.TheConstants.{LONGEST_SCORE};
+ghost use Rattle.std.specs.Prelude.{◌≡◌, ◌≤◌, ℕ, Err, IfOk, List, Ok, length};
+
+use crate::drill_stop::DrillStop;
+use crate::figures::{Figures, text_of};
+use edit_session::{ScoreFault, Session};
+use std::alloc::Global;
+
+/// The length of the score.
+fn score_length(alloc: Global, session: &Session) -> Result<u64, DrillStop>
+    ensures length { IfOk result (λ n. (score : List ℕ) × IsTextOf session.now.grammar session.now.performance score
+        × (length score ≤ LONGEST_SCORE) × (n ≡ length score)) }
+    ensures too_long { (line : ℕ) → result ≡ Err (stop.ScoreTooLong line) → HasTooLongText session.now.grammar session.now.performance line }
+{
+    match session.score(alloc) {
+        Ok(text) => Ok(text.len() as u64),
+        Err(ScoreFault::TooLong { line }) => Err(DrillStop::ScoreTooLong { line }),
+        Err(ScoreFault::Memory) => Err(DrillStop::Memory),
+    }
+}
+
+/// The summary of a drill, after its last edit.
+pub fn summary_of(
+    alloc: Global,
+    session: &Session,
+    accepted: u32,
+    built: u64,
+) -> Result<Vec<u8>, DrillStop>
+    ensures summary { IfOk result (λ text. IsSaid session.now.grammar record { performance = session.now.performance; accepted = accepted; built = built } (Ok text.items)) }
+    ensures too_long { (line : ℕ) → result ≡ Err (stop.ScoreTooLong line)
+        → IsSaid session.now.grammar record { performance = session.now.performance; accepted = accepted; built = built } (Err line) }
+{
+    let performance = session.performance();
+    let bars = performance.bars().len() as u64;
+    let cells = performance.channels().len() as u64 * bars;
+    let cost = session.cost();
+    match score_length(alloc, session) {
+        Ok(bytes) => {
+            let figures = Figures {
+                bars,
+                cells,
+                accepted: u64::from(accepted),
+                built,
+                cost,
+                bytes,
+            };
+            match text_of(alloc, &figures) {
+                Ok(text) => Ok(text),
+                Err(_error) => Err(DrillStop::Memory),
+            }
+        }
+        Err(stop) => Err(stop),
+    }
+}
