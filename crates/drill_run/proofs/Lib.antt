@@ -1,3 +1,5 @@
 pub mod EditKinds
 pub mod DrillSteps
 pub mod OneDrill
+pub mod Reach
+pub mod Keeps
