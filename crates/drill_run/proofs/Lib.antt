@@ -3,3 +3,4 @@ pub mod DrillSteps
 pub mod OneDrill
 pub mod Reach
 pub mod Keeps
+pub mod Tries

@@ -77,8 +77,10 @@ impl Drill {
                 self.built += applied.built;
                 Ok(())
             }
-            Err(EditFault::Memory) => Err(AllocError),
-            Err(_refused) => Ok(()),
+            Err(fault) => match fault {
+                EditFault::Memory => Err(AllocError),
+                _ => Ok(()),
+            },
         }
     }
 
