@@ -4,3 +4,4 @@ pub mod OneDrill
 pub mod Reach
 pub mod Keeps
 pub mod Tries
+pub mod Drills
