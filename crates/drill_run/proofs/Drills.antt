@@ -36,9 +36,9 @@ module _ (g h : Grammar) (number m : ℕ) (p q : Performance) (e accepted built 
       → HasComeTo g number p (e + 1) r accepted' built' start later
   went_on r accepted' built' later (reached, more, step, grown, rises) =
       let first : IsStep g m e (standing q accepted built) (standing r accepted' built') more =
-          subst (λ (x : Grammar). IsStep x m e (standing q accepted built) (standing r accepted' built') more) same step in
+      subst (λ (x : Grammar). IsStep x m e (standing q accepted built) (standing r accepted' built') more) same step in
       let own : IsStep g number e (standing q accepted built) (standing r accepted' built') more =
-          subst (λ (n : ℕ). IsStep g n e (standing q accepted built) (standing r accepted' built') more) of_number first in
+      subst (λ (n : ℕ). IsStep g n e (standing q accepted built) (standing r accepted' built') more) of_number first in
       let before = come.2 in
       (come.0 + more, one_more g number p e (standing q accepted built) (standing r accepted' built') come.0 more come.1 own, omega (arith, before, grown, rises))
 

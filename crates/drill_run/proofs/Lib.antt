@@ -5,3 +5,4 @@ pub mod Reach
 pub mod Keeps
 pub mod Tries
 pub mod Drills
+pub mod Pieces

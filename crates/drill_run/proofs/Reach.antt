@@ -33,18 +33,18 @@ few_from low (c ∷ cells) order all above le =
     let from = all_head (λ d. low ≤ number_of d) c cells above in
     let later = pairs_head IsEarlierCell c cells order in
     let next : All (λ d. number_of c + 1 ≤ number_of d) cells = λ k d lt.
-        (let x = get_or cells k d in
-        let less : number_of c < number_of x = rises c.0 c.1 x.0 x.1 it.1 (later k d lt) in
-        omega (arith, less)) in
+    (let x = get_or cells k d in
+    let less : number_of c < number_of x = rises c.0 c.1 x.0 x.1 it.1 (later k d lt) in
+    omega (arith, less)) in
     let rest = few_from (number_of c + 1) cells (pairs_tail IsEarlierCell c cells order) (all_tail IsCell c cells all) next (omega (arith, it.0, it.1)) in
     omega (arith, rest, from)
 
 pub few_reached : (g : Grammar) (p q : Performance) (cells : List (ℕ × ℕ)) → IsWellFormed q → AreReached g p q cells → length cells ≤ 65536
 few_reached g p q cells w h =
     let all : All IsCell cells = λ k d lt.
-        (let x = get_or cells k d in
-        let is = (h.exactly x.0 x.1).0 (Contains-get_or cells k d lt) in
-        (low_channel is.0, omega (arith, is.1, w.few_bars))) in
+    (let x = get_or cells k d in
+    let is = (h.exactly x.0 x.1).0 (Contains-get_or cells k d lt) in
+    (low_channel is.0, omega (arith, is.1, w.few_bars))) in
     let most = few_from 0 cells h.in_order all (λ k d lt. omega arith) (omega arith) in
     omega (arith, most)
   where

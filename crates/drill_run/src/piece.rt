@@ -1,17 +1,46 @@
 ghost use Rattle.piece_laws.specs.Laws.{IsLoadingOf};
 ghost use Rattle.rhythm_base.specs.declared.limits.TheConstants.{MOST_NOTES};
+ghost use Rattle.rhythm_gen.specs.MidiFile.{generated};
+ghost use Rattle.smf_reader.specs.Outcome.{GivesFile};
+ghost use Rattle.smf_reader.specs.Outcomes.{SaysFile};
+ghost use Rattle.smf_reader.specs.Ranges.{IsPlayedFile};
+ghost use Rattle.smf_reader.specs.SmfFile.{smf};
 ghost use Rattle.std.specs.Prelude.{◌≡◌, ◌≤◌, ◌*◌, ◌∷◌, [], IfOk, Ok, length};
 
 use performance_load::{LoadFault, load};
 use rhythm_base::Performance;
 use rhythm_gen::generate;
-use smf_reader::{SmfFault, read_smf};
+use smf_reader::{Smf, SmfFault, read_smf};
 use std::alloc::{AllocError, Global};
 
 /// The number of bars of the piece of a drill.
 pub const DRILL_BARS: u32 = 500;
 
-/// The performance of the piece of a number, as its file is read and loaded.
+/// What a file says, or the first fault in it.
+fn played_in(alloc: Global, file: &[u8]) -> Result<Smf, SmfFault>
+    ensures gives { GivesFile result (smf file.now) }
+    ensures range { IfOk result IsPlayedFile }
+{
+    read_smf(alloc, file)
+}
+
+/// What the file of the piece of a number says. It has no fault.
+fn played_piece(alloc: Global, number: u32) -> Result<Smf, AllocError>
+    requires { number ≤ 65534 }
+    ensures says { IfOk result (SaysFile (generated number DRILL_BARS)) }
+    ensures range { IfOk result IsPlayedFile }
+{
+    let bytes = generate(alloc, number, DRILL_BARS)?;
+    match played_in(alloc, bytes.as_slice()) {
+        Ok(played) => Ok(played),
+        Err(fault) => match fault {
+            SmfFault::Memory => Err(AllocError),
+            _ => unreachable!(),
+        },
+    }
+}
+
+/// The performance of the piece of a number, as its file is read and loaded. It has no fault.
 pub fn made_performance(alloc: Global, number: u32) -> Result<Performance, AllocError>
     requires { number ≤ 65534 }
     ensures loading { IfOk result (λ p. IsLoadingOf number DRILL_BARS (Ok p)) }
@@ -21,14 +50,12 @@ pub fn made_performance(alloc: Global, number: u32) -> Result<Performance, Alloc
     ensures notes { IfOk result (λ p. 2 * DRILL_BARS ≤ length p.notes) }
     ensures few_notes { IfOk result (λ p. length p.notes ≤ MOST_NOTES) }
 {
-    let bytes = generate(alloc, number, DRILL_BARS)?;
-    match read_smf(alloc, bytes.as_slice()) {
-        Ok(played) => match load(alloc, &played) {
-            Ok(performance) => Ok(performance),
-            Err(LoadFault::Memory) => Err(AllocError),
-            Err(_fault) => unreachable!(),
+    let played = played_piece(alloc, number)?;
+    match load(alloc, &played) {
+        Ok(performance) => Ok(performance),
+        Err(fault) => match fault {
+            LoadFault::Memory => Err(AllocError),
+            _ => unreachable!(),
         },
-        Err(SmfFault::Memory) => Err(AllocError),
-        Err(_fault) => unreachable!(),
     }
 }

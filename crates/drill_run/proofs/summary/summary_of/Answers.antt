@@ -19,13 +19,13 @@ returns-in-Ok-text_of-clause-summary c =
     let channels = ap length (c.channels.ensures ∙ ap (λ p. p.channels) own) in
     let score = c.in-Ok.ensures.length in
     let figures : Figures = record {
-        bars = length c.bars.result.now;
-        cells = length c.channels.result.now * length c.bars.result.now;
-        accepted = c.from.result;
-        built = c.args.built;
-        cost = c.cost-cost.result;
-        bytes = c.in-Ok.bytes;
-      } in (
+      bars = length c.bars.result.now;
+      cells = length c.channels.result.now * length c.bars.result.now;
+      accepted = c.from.result;
+      built = c.args.built;
+      cost = c.cost-cost.result;
+      bytes = c.in-Ok.bytes;
+    } in (
       figures,
       record {
         bars = bars;
