@@ -42,27 +42,6 @@ module _ (g h : Grammar) (number m : ℕ) (p q : Performance) (e accepted built 
       let before = come.2 in
       (come.0 + more, one_more g number p e (standing q accepted built) (standing r accepted' built') come.0 more come.1 own, omega (arith, before, grown, rises))
 
-  pub broke_off : (later : ℕ) → e < DRILL_EDITS
-      → ((more : ℕ) × (later ≡ risen now more) × ((edit : Edit) → drill_edit m e q ≡ Some edit → IsWithinReach h q edit more)) → IsBrokenOff g number p start later
-  broke_off later less (more, rises, within) =
-      let before = come.2 in
-      record {
-        edits = e;
-        few = omega (arith, less);
-        last = standing q accepted built;
-        besides = come.0;
-        drilled = come.1;
-        more = more;
-        next = λ edit is. subst (λ (x : Grammar). IsWithinReach x q edit more) same (within edit (subst (λ n. drill_edit n e q ≡ Some edit) (sym of_number) is));
-        none = λ last. absurd (omega (arith, less, last));
-        rises = omega (arith, before, rises);
-      }
-
--- all edits were tried
-pub come_to_end : (g : Grammar) (number : ℕ) (p q : Performance) (e accepted built start now : ℕ) → e ≡ DRILL_EDITS → HasComeTo g number p e q accepted built start now
-    → HasComeTo g number p DRILL_EDITS q accepted built start now
-come_to_end g number p q e accepted built start now last come = subst (λ n. HasComeTo g number p n q accepted built start now) last come
-
 -- there was not enough memory after the last edit
 pub broke_off_at_end : (g : Grammar) (number : ℕ) (p q : Performance) (accepted built start now : ℕ) → HasComeTo g number p DRILL_EDITS q accepted built start now
     → IsBrokenOff g number p start now

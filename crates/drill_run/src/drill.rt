@@ -128,6 +128,7 @@ pub fn run_drill<R: Threads + Sync, G: Gate + Sync, B: Tag>(
     ensures summary { IfOk result (λ text. HasDrilled session.grammar number session.performance (Ok text.items) builds.old builds.new) }
     ensures too_long { (line : ℕ) → result ≡ Err (stop.ScoreTooLong line) → HasDrilled session.grammar number session.performance (Err line) builds.old builds.new }
     ensures memory { result ≡ Err stop.Memory → IsBrokenOff session.grammar number session.performance builds.old builds.new }
+    ensures rises { builds.old ≤ builds.new }
 {
     let mut drill = Drill {
         number,

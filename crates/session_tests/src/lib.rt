@@ -1,9 +1,11 @@
 // The tests of an editing session: edits one after another, with the cells that they reach, the costs and the scores, and
-// changes that are made, refused and taken back.
+// changes that are made, refused and taken back; and whole drills.
 #![tactic(auto)]
 
 #[cfg(test)]
 mod changes;
+#[cfg(test)]
+mod drills;
 #[cfg(test)]
 mod edits;
 #[cfg(test)]

@@ -94,7 +94,7 @@ fn performance_of(alloc: Global, played: &Smf) -> Option<Performance>
 }
 
 /// The grammar.
-fn grammar(alloc: Global) -> Option<Grammar>
+pub fn grammar(alloc: Global) -> Option<Grammar>
     ensures { IfSome result IsReadable }
 {
     match read_grammar(alloc, USUAL) {

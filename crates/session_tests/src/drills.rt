@@ -1,0 +1,82 @@
+ghost use Rattle.std.specs.Prelude.{◌≤◌};
+
+use crate::pieces::{InTests, grammar};
+use carry_matrix::Steps as Products;
+use drill_run::{made_performance, run_drill};
+use edit_session::Session;
+use least_cost::Steps as Builds;
+use rhythm_ports::OpenGate;
+use std::alloc::{AllocError, Global};
+use std::test::Fail;
+use std::thread::Threads;
+
+/// A drill: its number, its summary, and how many cells are built for it at most.
+struct Drill {
+    number: u32,
+    summary: &'static [u8],
+    cells: u64,
+}
+
+/// What an independent program says of the drills of these numbers. In the second an edit is refused.
+const DRILLS: [Drill; 2] = [
+    Drill {
+        number: 7,
+        summary: b"bars 500\ncells 1000\naccepted 40\nbuilt 70\ncost 233929\nbytes 22926\n",
+        cells: 1070,
+    },
+    Drill {
+        number: 100,
+        summary: b"bars 500\ncells 1000\naccepted 39\nbuilt 69\ncost 237065\nbytes 23187\n",
+        cells: 1071,
+    },
+];
+
+/// The summary of the drill of a number, with two workers.
+fn summary_of<R: Threads + Sync>(
+    rt: &R,
+    alloc: Global,
+    number: u32,
+    builds: &mut Builds<InTests>,
+) -> Option<Vec<u8>>
+    requires { number ≤ 65534 }
+{
+    let Ok(performance) = made_performance(alloc, number) else {
+        return None;
+    };
+    let grammar = grammar(alloc)?;
+    let mut products = Products::<InTests>::zero();
+    let opened = Session::open(
+        rt,
+        alloc,
+        performance,
+        grammar,
+        2,
+        &OpenGate,
+        builds,
+        &mut products,
+    );
+    match opened {
+        Ok(session) => match run_drill(rt, alloc, session, number, &OpenGate, builds) {
+            Ok(text) => Some(text),
+            Err(_) => None,
+        },
+        Err(_) => None,
+    }
+}
+
+#[test]
+fn drills_come_to_their_summaries(rt: HostRuntime) -> Result<(), Fail> {
+    let alloc = rt.alloc();
+    for drill in &DRILLS {
+        let mut builds = Builds::<InTests>::zero();
+        if drill.number > 65534 {
+            return Err(AllocError)?;
+        }
+        let Some(text) = summary_of(&rt, alloc, drill.number, &mut builds) else {
+            return Err(AllocError)?;
+        };
+        assert!(rt; text.as_slice() == drill.summary, "{}", drill.number);
+        assert!(rt; builds.count() <= drill.cells, "{}", drill.number);
+    }
+    Ok(())
+}
