@@ -1,8 +1,10 @@
 //! Builds the tables of many cells: one table for each input, in their order, and one step of the counter for each.
 #![tactic(auto)]
 
+mod laws;
 mod limits;
 mod pool;
 
+pub use laws::draws_keep_their_law;
 pub use limits::MOST_WORKERS;
 pub use pool::build_cells;
