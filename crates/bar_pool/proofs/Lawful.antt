@@ -4,7 +4,7 @@ use Rattle.std.specs.Prelude.{if◌then◌else◌, Option, Some, slice_get, sum_
 use Rattle.std.proofs.lemmas.Bool.Decides.{nat_tests}
 use Rattle.std.proofs.lemmas.List.Sums.{sum_by_push}
 use Rattle.std.proofs.lemmas.List.Concat.{length-flat_map}
-use Rattle.std.proofs.lemmas.List.Elements.{All-set}
+use Rattle.std.proofs.lemmas.List.Elements.{All-push, All-set}
 use Rattle.std.proofs.lemmas.Option.{get_or_from_slice_get, slice_get_within}
 use Rattle.bar_pool.specs.Draws.{AreLawful, Draws, Event, HasEachBelow, IsAfter, IsRun, IsSeat, Seat, drawn_by_all, new_seat, seat_after, seat_less, seat_with, start, times, draw, split, join}
 use Rattle.bar_pool.specs.Laws.{DrawsKeepTheirLaw}
@@ -13,12 +13,6 @@ use Rattle.bar_pool.proofs.Counting.{below_from, length-each, sum_by-at, sum_by-
 -- what a fact about each member says of the member at a place
 pub All-at : {X : Type 0} (P : X → Type 0) (xs : List X) (i : ℕ) (v : X) → All P xs → slice_get xs i ≡ Some v → P v
 All-at P xs i v h e = subst P (get_or_from_slice_get xs i v v e) (h i v (slice_get_within xs i v e))
-
-All-push : {X : Type 0} (P : X → Type 0) (xs : List X) (y : X) → All P xs → P y → All P (xs ++ y ∷ [])
-All-push P [] y h p zero d l = p
-All-push P [] y h p (suc k) d l = absurd (omega arith)
-All-push P (x ∷ xs) y h p zero d l = h zero d (omega arith)
-All-push P (x ∷ xs) y h p (suc k) d l = All-push P xs y (λ j e m. h (suc j) e (omega arith)) p k d (omega arith)
 
 -- the seat at another place is as it was
 set-else : {X : Type 0} (xs : List X) (i j : ℕ) (v w : X) → i ≢ j → slice_get xs j ≡ Some v → slice_get (set xs i w) j ≡ Some v

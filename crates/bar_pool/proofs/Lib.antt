@@ -1,3 +1,4 @@
 pub mod Counting
 pub mod EachLemmas
 pub mod Lawful
+pub mod TableKeeps

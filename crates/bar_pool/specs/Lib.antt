@@ -1,3 +1,4 @@
+pub mod DrawTable
 pub mod Draws
 pub mod Laws
 pub mod Pool
