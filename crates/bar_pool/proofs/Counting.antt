@@ -1,5 +1,5 @@
 -- Sums over a list, and how often numbers stand in one.
-use Rattle.std.proofs.Common.{◌≡◌, ◌≢◌, ⊎_elim, ℕ, zero, suc, ◌+◌, ◌<◌, ◌≤◌, min, nat_lt, ◌==◌, cond, Bool, true, false, List, [], ◌∷◌, ◌++◌, length, get_or, set, All, refl, sym, ap, ◌∙◌, subst, arith}
+use Rattle.std.proofs.Common.{◌≡◌, ◌≢◌, ⊎_elim, ℕ, zero, suc, ◌+◌, ◌<◌, ◌≤◌, max, min, nat_lt, ◌==◌, cond, Bool, true, false, List, [], ◌∷◌, ◌++◌, length, get_or, set, All, refl, sym, ap, ◌∙◌, subst, arith}
 use Rattle.std.specs.Prelude.{if◌then◌else◌, Option, Some, slice_get, sum_by, flat_map}
 use Rattle.std.proofs.lemmas.Bool.Decides.{nat_tests}
 use Rattle.std.proofs.lemmas.Bool.{cases_lt}
@@ -96,3 +96,22 @@ spread-each (suc n) m xs low h = omega (arith, spread-each n m xs (omega arith) 
 -- a list that has each number below n once has n numbers
 pub length-each : (n : ℕ) (xs : List ℕ) → HasEachBelow n xs → length xs ≡ n
 length-each n xs h = omega (arith, spread-length n xs (λ x g. omega (arith, h x, above_none x n g)), spread-each n n xs (omega arith) h)
+
+-- the least number above all of the list
+pub above : List ℕ → ℕ
+above [] = 0
+above (x ∷ xs) = max (x + 1) (above xs)
+
+pub above-least : (xs : List ℕ) (n : ℕ) → All (λ x. x < n) xs → above xs ≤ n
+unfolding above
+above-least [] n h = omega arith
+above-least (x ∷ xs) n h = let P : ℕ → Type 0 = λ x. x < n in omega (arith, All-head P x xs h, above-least xs n (All-tail P x xs h))
+
+pub above-push : (xs : List ℕ) (n : ℕ) → above (xs ++ n ∷ []) ≡ max (above xs) (n + 1)
+unfolding above
+above-push [] n = omega arith
+above-push (x ∷ xs) n = omega (arith, above-push xs n)
+
+pub above-nil : above [] ≡ 0
+unfolding above
+above-nil = refl

@@ -1,4 +1,5 @@
 pub mod Counting
 pub mod EachLemmas
 pub mod Lawful
+pub mod Numbered
 pub mod TableKeeps

@@ -5,6 +5,7 @@ mod draws;
 mod laws;
 mod limits;
 mod pool;
+mod workers;
 
 pub use draws::{
     Draw, DrawCounts, DrawRule, DrawSeat, DrawTable, HalfShare, SeatView, SharedDraws, Takeover,

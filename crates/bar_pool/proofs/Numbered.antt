@@ -1,0 +1,60 @@
+-- A seat and its numbered tables after one draw more.
+use Rattle.std.proofs.Common.{◌≡◌, ℕ, zero, suc, ◌+◌, ◌<◌, ◌≤◌, nat_lt, Bool, true, false, List, [], ◌∷◌, ◌++◌, length, map, All, max, refl, sym, ap, ◌∙◌, subst, arith, length-append}
+use Rattle.std.specs.Prelude.{if◌then◌else◌, Option, Some, slice_get}
+use Rattle.std.proofs.lemmas.Bool.Decides.{nat_tests}
+use Rattle.std.proofs.lemmas.List.{map-append}
+use Rattle.std.proofs.lemmas.List.Elements.{All-push}
+use Rattle.atomic_table.specs.Table.{Me}
+use Rattle.bar_pool.specs.Draws.{seat_after}
+use Rattle.bar_pool.specs.DrawTable.{seat_of, view_of}
+use Rattle.bar_pool.specs.Pool.{IsTableOf}
+use Rattle.bar_pool.specs.Workers.{HasShare, IsNumbered, numbers}
+use Rattle.bar_pool.specs.declared.draws.SeatView.{SeatView}
+use Rattle.bar_pool.proofs.Counting.{above, above-least, above-push}
+use Rattle.rhythm_base.specs.BarInput.{BarInput}
+use Rattle.rhythm_base.specs.BarTables.{BarTable}
+use Rattle.rhythm_base.specs.Grammar.{Grammar}
+
+-- a number below that of the inputs joins the list
+took : (v : SeatView) (n : ℕ) → n < v.inputs → view_of v (seat_after v.inputs n (seat_of v)) ≡ record v { drawn = v.drawn ++ n ∷ [] }
+took v n low = go (nat_lt n v.inputs) (grind (arith, nat_tests))
+  where
+    go : (b : Bool) → b ≡ true → view_of v (if b then record (seat_of v) { drawn = v.drawn ++ n ∷ [] } else record (seat_of v) { past = v.past + 1 }) ≡ record v { drawn = v.drawn ++ n ∷ [] }
+    go true e = refl
+    go false e = absurd (cc)
+
+module _ (me after : Me ℕ SeatView) (n count : ℕ) (drew : after ≡ (view_of me.0 (seat_after me.0.inputs n (seat_of me.0)), me.1)) (has : HasShare me count 1) (low : n < count) where
+  pub me_after : after ≡ (record me.0 { drawn = me.0.drawn ++ n ∷ [] }, me.1)
+  me_after =
+      let bound : n < me.0.inputs = omega (arith, has.inputs) in
+      drew ∙ ap (λ (v : SeatView). (v, me.1)) (took me.0 n bound)
+
+  pub share_after : HasShare after count 1
+  share_after =
+      let P : Me ℕ SeatView → Type 0 = λ m. HasShare m count 1 in
+      subst P (sym me_after) record { share = has.share; inputs = has.inputs; slots = has.slots }
+
+  pub drawn_after : after.0.drawn ≡ me.0.drawn ++ n ∷ []
+  drawn_after = ap (λ (m : Me ℕ SeatView). m.0.drawn) me_after
+
+  pub past_after : after.0.past ≡ me.0.past
+  past_after = ap (λ (m : Me ℕ SeatView). m.0.past) me_after
+
+  pub length_after : length after.0.drawn ≡ length me.0.drawn + 1
+  length_after = ap length drawn_after ∙ omega (arith, length-append me.0.drawn (n ∷ []))
+
+  pub above_after : above after.0.drawn ≡ max (above me.0.drawn) (n + 1)
+  above_after = ap above drawn_after ∙ above-push me.0.drawn n
+
+  pub numbers_after : {T : Type 0} (built more : List (ℕ × T)) (t : T) → more ≡ built ++ (n, t) ∷ [] → numbers built ≡ me.0.drawn → numbers more ≡ after.0.drawn
+  numbers_after built more t e h =
+      ap (λ l. numbers l) e ∙ map-append (λ p. p.0) built ((n, t) ∷ []) ∙ ap (λ l. l ++ n ∷ []) h ∙ sym drawn_after
+
+-- the numbered tables with one more
+pub tables_after : (g : Grammar) (inputs : List BarInput) (built more : List (ℕ × BarTable)) (n : ℕ) (input : BarInput) (t : BarTable) → more ≡ built ++ (n, t) ∷ []
+    → All (IsNumbered g inputs) built → slice_get inputs n ≡ Some input → IsTableOf g input t → All (IsNumbered g inputs) more
+tables_after g inputs built more n input t e h at of =
+    let one : IsNumbered g inputs (n, t) = λ other f.
+    let same : input ≡ other = cc in
+    subst (λ k. IsTableOf g k t) same of in
+    subst (All (IsNumbered g inputs)) (sym e) (All-push (IsNumbered g inputs) built (n, t) h one)

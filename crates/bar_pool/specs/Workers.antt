@@ -1,0 +1,36 @@
+-- What the workers of a seat have drawn and built.
+use Rattle.std.specs.Prelude.{◌≡◌, ℕ, ◌<◌, List, [], All, Option, Some, map, slice_get}
+use Rattle.atomic_table.specs.Table.{Me}
+use Rattle.bar_pool.specs.Pool.{IsTableOf}
+use Rattle.bar_pool.specs.declared.draws.SeatView.{SeatView}
+use Rattle.rhythm_base.specs.BarInput.{BarInput}
+use Rattle.rhythm_base.specs.BarTables.{BarTable}
+use Rattle.rhythm_base.specs.Grammar.{Grammar}
+
+-- a seat of this share, of so many inputs, that drew nothing and holds no slot
+pub record IsFresh (me : Me ℕ SeatView) (count part : ℕ) : Type 0 where
+  pub share : me.0.share ≡ part
+  pub drawn : me.0.drawn ≡ []
+  pub past : me.0.past ≡ 0
+  pub inputs : me.0.inputs ≡ count
+  pub slots : me.1 ≡ []
+
+-- a seat of this share, of so many inputs, that holds no slot
+pub record HasShare (me : Me ℕ SeatView) (count part : ℕ) : Type 0 where
+  pub share : me.0.share ≡ part
+  pub inputs : me.0.inputs ≡ count
+  pub slots : me.1 ≡ []
+
+-- the numbers of numbered things
+abbrev pub numbers : {T : Type 0} → List (ℕ × T) → List ℕ
+numbers things = map (λ p. p.0) things
+
+-- the table is that of the input of its number
+abbrev pub IsNumbered : Grammar → List BarInput → ℕ × BarTable → Type 0
+IsNumbered g inputs numbered = (input : BarInput) → slice_get inputs numbered.0 ≡ Some input → IsTableOf g input numbered.1
+
+-- the seat drew past the inputs, and there is a table for each number that it drew before
+pub record AreBuilt (g : Grammar) (inputs : List BarInput) (me : Me ℕ SeatView) (built : List (ℕ × BarTable)) : Type 0 where
+  pub past : 0 < me.0.past
+  pub numbers : numbers built ≡ me.0.drawn
+  pub tables : All (IsNumbered g inputs) built
