@@ -65,16 +65,19 @@ unfolding spread
 spread-cons zero y ys = grind (arith, nat_tests)
 spread-cons (suc n) y ys = omega (arith, spread-cons n y ys, one_more y n, times-cons n y ys)
 
-below_one : (y n : ℕ) → y < n → ◌≡◌ {A = ℕ} (if nat_lt y n then 1 else 0) 1
+pub below_one : (y n : ℕ) → y < n → ◌≡◌ {A = ℕ} (if nat_lt y n then 1 else 0) 1
 below_one y n h = grind (arith, nat_tests)
 
-above_none : (y n : ℕ) → n ≤ y → ◌≡◌ {A = ℕ} (if nat_lt y n then 1 else 0) 0
+pub above_none : (y n : ℕ) → n ≤ y → ◌≡◌ {A = ℕ} (if nat_lt y n then 1 else 0) 0
 above_none y n h = grind (arith, nat_tests)
+
+pub most_one : (x n : ℕ) → ◌≤◌ (if nat_lt x n then 1 else 0) 1
+most_one x n = grind (arith, nat_tests)
 
 pub below_from : (x n : ℕ) → 1 ≤ (if nat_lt x n then 1 else 0) → x < n
 below_from x n h = grind (arith, nat_tests)
 
-self_once : (y n : ℕ) → 1 ≤ (if y == y then 1 else 0) + n
+pub self_once : (y n : ℕ) → 1 ≤ (if y == y then 1 else 0) + n
 self_once y n = grind (arith, nat_tests)
 
 spread-nil : (n : ℕ) → spread n [] ≡ 0

@@ -2,4 +2,5 @@ pub mod Counting
 pub mod EachLemmas
 pub mod Lawful
 pub mod Numbered
+pub mod Placed
 pub mod TableKeeps

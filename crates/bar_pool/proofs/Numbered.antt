@@ -1,14 +1,14 @@
 -- A seat and its numbered tables after one draw more.
 use Rattle.std.proofs.Common.{◌≡◌, ℕ, zero, suc, ◌+◌, ◌<◌, ◌≤◌, nat_lt, Bool, true, false, List, [], ◌∷◌, ◌++◌, length, map, All, max, refl, sym, ap, ◌∙◌, subst, arith, length-append}
-use Rattle.std.specs.Prelude.{if◌then◌else◌, Option, Some, slice_get}
+use Rattle.std.specs.Prelude.{if◌then◌else◌, Option, Some, slice_get, IfOk, IsOk, Result, Ok, Err}
 use Rattle.std.proofs.lemmas.Bool.Decides.{nat_tests}
 use Rattle.std.proofs.lemmas.List.{map-append}
-use Rattle.std.proofs.lemmas.List.Elements.{All-push}
+use Rattle.std.proofs.lemmas.List.Elements.{All-append, All-push}
 use Rattle.atomic_table.specs.Table.{Me}
 use Rattle.bar_pool.specs.Draws.{seat_after}
-use Rattle.bar_pool.specs.DrawTable.{seat_of, view_of}
+use Rattle.bar_pool.specs.DrawTable.{seat_of, view_of, view_with}
 use Rattle.bar_pool.specs.Pool.{IsTableOf}
-use Rattle.bar_pool.specs.Workers.{HasShare, IsNumbered, numbers}
+use Rattle.bar_pool.specs.Workers.{AreBuilt, HasShare, IsNumbered, numbers}
 use Rattle.bar_pool.specs.declared.draws.SeatView.{SeatView}
 use Rattle.bar_pool.proofs.Counting.{above, above-least, above-push}
 use Rattle.rhythm_base.specs.BarInput.{BarInput}
@@ -58,3 +58,20 @@ tables_after g inputs built more n input t e h at of =
     let same : input ≡ other = cc in
     subst (λ k. IsTableOf g k t) same of in
     subst (All (IsNumbered g inputs)) (sym e) (All-push (IsNumbered g inputs) built (n, t) h one)
+
+-- what two seats have built, where one takes over the other
+module _ (g : Grammar) (inputs : List BarInput) (first second after : Me ℕ SeatView) (me : after ≡ (view_with first.0 second.0, [])) where
+  built : (xs ys zs : List (ℕ × BarTable)) → AreBuilt g inputs first xs → AreBuilt g inputs second ys → zs ≡ xs ++ ys → AreBuilt g inputs after zs
+  built xs ys zs a b e = record {
+    past = let same = ap (λ (m : Me ℕ SeatView). m.0.past) me in omega (arith, same, a.past);
+    numbers = ap (λ l. numbers l) e ∙ map-append (λ p. p.0) xs ys ∙ ap (λ l. l ++ numbers ys) a.numbers ∙ ap (λ l. first.0.drawn ++ l) b.numbers ∙ sym (ap (λ (m : Me ℕ SeatView). m.0.drawn) me);
+    tables = subst (All (IsNumbered g inputs)) (sym e) (All-append (IsNumbered g inputs) xs ys a.tables b.tables);
+  }
+
+  pub both_built : {V E : Type 0} (items : V → List (ℕ × BarTable)) (r a b : Result V E) → IfOk r (λ v. IfOk a (λ x. IfOk b (λ y. items v ≡ items x ++ items y)))
+      → (IsOk r → IsOk a × IsOk b) → IfOk a (λ x. AreBuilt g inputs first (items x)) → IfOk b (λ y. AreBuilt g inputs second (items y))
+      → IfOk r (λ v. AreBuilt g inputs after (items v))
+  both_built items (Err e) a b all both one two = tt
+  both_built items (Ok v) (Ok x) (Ok y) all both one two = built (items x) (items y) (items v) one two all
+  both_built items (Ok v) (Ok x) (Err e) all both one two = let h : false ≡ true = (both refl).1 in absurd (cc)
+  both_built items (Ok v) (Err e) b all both one two = let h : false ≡ true = (both refl).0 in absurd (cc)

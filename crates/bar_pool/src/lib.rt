@@ -4,6 +4,7 @@
 mod draws;
 mod laws;
 mod limits;
+mod places;
 mod pool;
 mod workers;
 

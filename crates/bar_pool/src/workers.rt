@@ -65,3 +65,111 @@ fn build_drawn<G: Gate, B: Tag>(
         tables.push((number, table))?;
     }
 }
+
+/// What the workers of a seat have built: the seat, the count of the builds, and the tables, each with the number of its
+/// input, if there was enough memory.
+pub struct Built<B: Tag> {
+    pub seat: DrawSeat,
+    pub builds: Steps<B>,
+    pub tables: Result<Vec<(usize, BarTable)>, AllocError>,
+}
+
+/// The tables of both.
+fn together(
+    first: Result<Vec<(usize, BarTable)>, AllocError>,
+    second: Result<Vec<(usize, BarTable)>, AllocError>,
+) -> Result<Vec<(usize, BarTable)>, AllocError>
+    ensures tables { IfOk result (λ v. IfOk first (λ a. IfOk second (λ b. v.items ≡ a.items ++ b.items))) }
+    ensures both { IsOk result → IsOk first × IsOk second }
+{
+    let mut tables = first?;
+    let mut others = second?;
+    tables.append(&mut others)?;
+    Ok(tables)
+}
+
+/// One seat takes over what another's workers have built.
+fn take_over<B: Tag>(shared: &SharedDraws, first: Built<B>, second: Built<B>) -> Built<B>
+    requires words { shared.now.table_id.words ≡ 1 }
+    requires first_table { first.seat.table_id ≡ shared.now.table_id }
+    requires second_table { second.seat.table_id ≡ shared.now.table_id }
+    requires some { 0 < first.seat.me.0.share }
+    requires slots { (first.seat.me.1 ≡ []) × (second.seat.me.1 ≡ []) }
+    requires first_builds { first.builds ≡ risen 0 (length first.seat.me.0.drawn) }
+    requires second_builds { second.builds ≡ risen 0 (length second.seat.me.0.drawn) }
+    ensures table { result.seat.table_id ≡ shared.now.table_id }
+    ensures view { result.seat.me ≡ (view_with first.seat.me.0 second.seat.me.0, []) }
+    ensures tables { IfOk result.tables (λ v. IfOk first.tables (λ a. IfOk second.tables (λ b. v.items ≡ a.items ++ b.items))) }
+    ensures both { IsOk result.tables → IsOk first.tables × IsOk second.tables }
+    ensures builds { result.builds ≡ risen 0 (length result.seat.me.0.drawn) }
+{
+    let Built {
+        mut seat,
+        mut builds,
+        tables,
+    } = first;
+    let Built {
+        seat: other,
+        builds: more,
+        tables: others,
+    } = second;
+    shared.join_seat::<Takeover>(&mut seat, other);
+    builds.absorb(more);
+    Built {
+        seat,
+        builds,
+        tables: together(tables, others),
+    }
+}
+
+/// Builds the cells whose numbers the workers of the seat draw. They are as many as its share, each with half of the share of
+/// the one that started it, down to a share of one.
+#[cycle(build_by)]
+pub fn build_by<R: Threads + Sync, G: Gate + Sync, B: Tag>(
+    rt: &R,
+    alloc: Global,
+    order: &Order<'_, G>,
+    shared: &SharedDraws,
+    seat: DrawSeat,
+    workers: u64,
+) -> Built<B>
+    requires readable { IsReadable order.now.grammar.now }
+    requires units { All (λ k. k.resolution ≡ order.now.grammar.now.resolution) order.now.inputs.now }
+    requires table { seat.table_id ≡ shared.now.table_id }
+    requires words { shared.now.table_id.words ≡ 1 }
+    requires some { 0 < workers }
+    requires fresh { IsFresh seat.me (length order.now.inputs.now) workers }
+    ensures table { result.seat.table_id ≡ shared.now.table_id }
+    ensures share { HasShare result.seat.me (length order.now.inputs.now) workers }
+    ensures tables { IfOk result.tables (λ v. AreBuilt order.now.grammar.now order.now.inputs.now result.seat.me v.items) }
+    ensures builds { result.builds ≡ risen 0 (length result.seat.me.0.drawn) }
+{
+    let mut seat = seat;
+    if workers == 1 {
+        let mut builds = Steps::zero();
+        let tables = build_drawn(alloc, order, shared, &mut seat, &mut builds);
+        return Built {
+            seat,
+            builds,
+            tables,
+        };
+    }
+    let half = workers / 2;
+    let other = shared.split_seat::<HalfShare>(&mut seat);
+    let left = move || -> Built<B>
+        requires { IsSync R.row × IsSync G.row × IsReadable order.now.grammar.now × All (λ k. k.resolution ≡ order.now.grammar.now.resolution) order.now.inputs.now × (0 < half) × (half < workers) × (seat.table_id ≡ shared.now.table_id) × (shared.now.table_id.words ≡ 1) × IsFresh seat.me (length order.now.inputs.now) (workers - half) }
+        ensures table { result.seat.table_id ≡ shared.entry.now.table_id }
+        ensures share { HasShare result.seat.me (length order.entry.now.inputs.now) (workers - half) }
+        ensures tables { IfOk result.tables (λ v. AreBuilt order.entry.now.grammar.now order.entry.now.inputs.now result.seat.me v.items) }
+        ensures builds { result.builds ≡ risen 0 (length result.seat.me.0.drawn) }
+    { build_by(rt, alloc, order, shared, seat, workers - half) };
+    let right = move || -> Built<B>
+        requires { IsSync R.row × IsSync G.row × IsReadable order.now.grammar.now × All (λ k. k.resolution ≡ order.now.grammar.now.resolution) order.now.inputs.now × (0 < half) × (other.table_id ≡ shared.now.table_id) × (shared.now.table_id.words ≡ 1) × IsFresh other.me (length order.now.inputs.now) half }
+        ensures table { result.seat.table_id ≡ shared.entry.now.table_id }
+        ensures share { HasShare result.seat.me (length order.entry.now.inputs.now) half }
+        ensures tables { IfOk result.tables (λ v. AreBuilt order.entry.now.grammar.now order.entry.now.inputs.now result.seat.me v.items) }
+        ensures builds { result.builds ≡ risen 0 (length result.seat.me.0.drawn) }
+    { build_by(rt, alloc, order, shared, other, half) };
+    let (first, second) = join(rt, left, right);
+    take_over(shared, first, second)
+}

@@ -1,0 +1,16 @@
+use Rattle.std.proofs.Common.{arith}
+use Rattle.bar_pool.proofs.TableKeeps.{split_allowed}
+use Rattle.bar_pool.proofs.Numbered.{both_built}
+use Rattle.bar_pool.proofs.workers.+build_by.Goals as goal
+
+pub split_seat-other-requires : goal.split_seat-other-requires
+split_seat-other-requires g t c =
+    let seat = c.args.seat in
+    (c.requires.table, omega arith, split_allowed c.args.shared.now.key seat.id seat.me.0 (omega arith) c.requires.fresh.past)
+
+pub returns-clause-tables : goal.returns-clause-tables
+returns-clause-tables g t c =
+    let first = c.join-first.result.0 in
+    let second = c.join-first.result.1 in
+    both_built c.args.order.now.grammar.now c.args.order.now.inputs.now first.seat.me second.seat.me c.take_over.result.seat.me c.take_over.ensures.view (λ v. v.items)
+    c.take_over.result.tables first.tables second.tables c.take_over.ensures.tables c.take_over.ensures.both c.join-first.ensures.first.1.1.0 c.join-first.ensures.second.1.1.0

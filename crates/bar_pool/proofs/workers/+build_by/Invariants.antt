@@ -1,0 +1,11 @@
+use Rattle.std.proofs.Common.{◌+◌, ◌*◌}
+use Rattle.bar_pool.proofs.workers.+build_by.Given as goal
+
+abbrev pub decreases-build_by : goal.decreases-build_by
+decreases-build_by g l = 2 * l.workers + 1
+
+abbrev pub decreases-left : goal.decreases-left
+decreases-left g l = 2 * l.workers
+
+abbrev pub decreases-right : goal.decreases-right
+decreases-right g l = 2 * l.half + 2
