@@ -1,6 +1,7 @@
 -- Lists of which each member is that of its place, one member longer.
-use Rattle.std.proofs.Common.{ℕ, ◌+◌, ◌<◌, List, [], ◌∷◌, ◌++◌, length, get_or, take, refl, sym, subst}
+use Rattle.std.proofs.Common.{ℕ, suc, ◌+◌, ◌≡◌, arith, ◌<◌, List, [], ◌∷◌, ◌++◌, length, get_or, take, refl, sym, subst}
 use Rattle.std.proofs.lemmas.List.{take_more}
+use Rattle.std.specs.Prelude.{Some, slice_get}
 use Rattle.rhythm_base.specs.Lists.{Each}
 
 pub Each-push : {X Y : Type 0} (Of : X → Y → Type 0) (xs : List X) (ys : List Y) (x : X) (y : Y) → Each Of xs ys → Of x y → Each Of (xs ++ x ∷ []) (ys ++ y ∷ [])
@@ -13,3 +14,11 @@ pub Each-more : {X Y : Type 0} (Of : X → Y → Type 0) (xs : List X) (ys : Lis
     → Each Of (take (i + 1) xs) (ys ++ y ∷ [])
 Each-more Of xs ys i d y lt h of =
     subst (λ zs. Each Of zs (ys ++ y ∷ [])) (sym (take_more xs i d lt)) (Each-push Of (take i xs) ys (get_or xs i d) y h of)
+
+-- by the members at the places
+pub Each-from : {X Y : Type 0} (Of : X → Y → Type 0) (xs : List X) (ys : List Y) → length ys ≡ length xs
+    → ((k : ℕ) (x : X) (y : Y) → slice_get xs k ≡ Some x → slice_get ys k ≡ Some y → Of x y) → Each Of xs ys
+Each-from Of [] [] e h = refl
+Each-from Of [] (y ∷ ys) e h = absurd (omega arith)
+Each-from Of (x ∷ xs) [] e h = absurd (omega arith)
+Each-from Of (x ∷ xs) (y ∷ ys) e h = (h 0 x y refl refl, Each-from Of xs ys (omega arith) (λ k v w a b. h (suc k) v w a b))

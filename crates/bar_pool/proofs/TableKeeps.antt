@@ -37,7 +37,7 @@ words-set : (words : List ℕ) (n : ℕ) → length words ≡ 1 → length (set 
 words-set [] n h = absurd (omega arith)
 words-set (w ∷ ws) n h = h
 
-seat_at : (views : List SeatView) (id : ℕ) (v : SeatView) → get_elem? views id ≡ some v → slice_get (map seat_of views) id ≡ Some (seat_of v)
+pub seat_at : (views : List SeatView) (id : ℕ) (v : SeatView) → get_elem? views id ≡ some v → slice_get (map seat_of views) id ≡ Some (seat_of v)
 seat_at views id v e = slice_get-map seat_of views id v (from_elem views id v e)
 
 -- what a seat with a share knows

@@ -4,6 +4,7 @@ ghost use Rattle.rhythm_base.specs.Readable.{IsReadable};
 ghost use Rattle.bar_pool.specs.declared.limits.TheConstants.{MOST_WORKERS};
 ghost use Rattle.std.specs.Prelude.{◌≡◌, ◌≤◌, All, IfOk, OnOk, length};
 
+use crate::workers::{Order, build_by_workers};
 use least_cost::{BarTable, Steps, build_cell};
 use rhythm_base::{BarInput, Grammar, Tag};
 use rhythm_ports::Gate;
@@ -11,7 +12,8 @@ use std::alloc::{AllocError, Global};
 use std::thread::Threads;
 
 /// The table of each input, in the order of the inputs. Before a cell is built, `gate` is passed with the number of its input.
-/// So far the calling thread builds all cells by itself, whatever the number of workers, 1 to 16.
+/// There are at most as many workers as inputs. One worker is the calling thread, which builds the cells in turn; several
+/// draw the numbers of their cells.
 pub fn build_cells<R: Threads + Sync, G: Gate + Sync, B: Tag>(
     rt: &R,
     alloc: Global,
@@ -30,10 +32,36 @@ pub fn build_cells<R: Threads + Sync, G: Gate + Sync, B: Tag>(
     ensures most { builds.new ≤ risen builds.old (length inputs.now) }
     ensures rises { builds.old ≤ builds.new }
 {
+    let order = Order {
+        grammar,
+        inputs,
+        gate,
+    };
+    let workers = inputs.len().min(workers as usize);
+    if workers <= 1 {
+        return build_in_turn(alloc, &order, builds);
+    }
+    build_by_workers(rt, alloc, &order, workers as u64, builds)
+}
+
+/// Builds the cells one after another.
+fn build_in_turn<G: Gate, B: Tag>(
+    alloc: Global,
+    order: &Order<'_, G>,
+    builds: &mut Steps<B>,
+) -> Result<Vec<BarTable>, AllocError>
+    requires readable { IsReadable order.now.grammar.now }
+    requires units { All (λ k. k.resolution ≡ order.now.grammar.now.resolution) order.now.inputs.now }
+    ensures tables { IfOk result (λ v. AreTablesOf order.now.grammar.now order.now.inputs.now v.items) }
+    ensures builds { OnOk result (builds.new ≡ risen builds.old (length order.now.inputs.now)) }
+    ensures most { builds.new ≤ risen builds.old (length order.now.inputs.now) }
+    ensures rises { builds.old ≤ builds.new }
+{
+    let inputs = order.inputs;
     let mut tables = Vec::with_capacity(alloc, inputs.len())?;
     'cells: for number in 0..inputs.len() {
-        gate.pass(number as u64);
-        tables.push(build_cell(alloc, grammar, &inputs[number], builds)?)?;
+        order.gate.pass(number as u64);
+        tables.push(build_cell(alloc, order.grammar, &inputs[number], builds)?)?;
     }
     Ok(tables)
 }

@@ -1,5 +1,6 @@
 ghost use Rattle.bar_pool.specs.DrawTable.{view_of, view_with};
 ghost use Rattle.bar_pool.specs.Draws.{seat_after};
+ghost use Rattle.bar_pool.specs.Pool.{AreTablesOf};
 ghost use Rattle.bar_pool.specs.DrawTable.{seat_of};
 ghost use Rattle.bar_pool.specs.Workers.{AreBuilt, HasShare, IsFresh};
 ghost use Rattle.rhythm_base.specs.Counter.{risen};
@@ -7,7 +8,8 @@ ghost use Rattle.rhythm_base.specs.Readable.{IsReadable};
 ghost use Rattle.std.specs.Prelude.{◌≡◌, ◌+◌, ◌-◌, ◌<◌, ◌≤◌, ◌^◌, ◌++◌, [], ℕ, All, IfOk, IsOk, OnOk, length};
 ghost use Rattle.std.specs.Thread.{IsSync};
 
-use crate::draws::{Draw, DrawSeat, HalfShare, SharedDraws, Takeover};
+use crate::draws::{Draw, DrawCounts, DrawSeat, DrawTable, HalfShare, SharedDraws, Takeover};
+use crate::places::in_places;
 use least_cost::{BarTable, Steps, build_cell};
 use rhythm_base::{BarInput, Grammar, Tag};
 use rhythm_ports::Gate;
@@ -124,8 +126,8 @@ fn take_over<B: Tag>(shared: &SharedDraws, first: Built<B>, second: Built<B>) ->
 
 /// Builds the cells whose numbers the workers of the seat draw. They are as many as its share, each with half of the share of
 /// the one that started it, down to a share of one.
-#[cycle(build_by)]
-pub fn build_by<R: Threads + Sync, G: Gate + Sync, B: Tag>(
+#[cycle(build_in_halves)]
+pub fn build_in_halves<R: Threads + Sync, G: Gate + Sync, B: Tag>(
     rt: &R,
     alloc: Global,
     order: &Order<'_, G>,
@@ -162,14 +164,48 @@ pub fn build_by<R: Threads + Sync, G: Gate + Sync, B: Tag>(
         ensures share { HasShare result.seat.me (length order.entry.now.inputs.now) (workers - half) }
         ensures tables { IfOk result.tables (λ v. AreBuilt order.entry.now.grammar.now order.entry.now.inputs.now result.seat.me v.items) }
         ensures builds { result.builds ≡ risen 0 (length result.seat.me.0.drawn) }
-    { build_by(rt, alloc, order, shared, seat, workers - half) };
+    { build_in_halves(rt, alloc, order, shared, seat, workers - half) };
     let right = move || -> Built<B>
         requires { IsSync R.row × IsSync G.row × IsReadable order.now.grammar.now × All (λ k. k.resolution ≡ order.now.grammar.now.resolution) order.now.inputs.now × (0 < half) × (other.table_id ≡ shared.now.table_id) × (shared.now.table_id.words ≡ 1) × IsFresh other.me (length order.now.inputs.now) half }
         ensures table { result.seat.table_id ≡ shared.entry.now.table_id }
         ensures share { HasShare result.seat.me (length order.entry.now.inputs.now) half }
         ensures tables { IfOk result.tables (λ v. AreBuilt order.entry.now.grammar.now order.entry.now.inputs.now result.seat.me v.items) }
         ensures builds { result.builds ≡ risen 0 (length result.seat.me.0.drawn) }
-    { build_by(rt, alloc, order, shared, other, half) };
+    { build_in_halves(rt, alloc, order, shared, other, half) };
     let (first, second) = join(rt, left, right);
     take_over(shared, first, second)
+}
+
+/// Builds the cells by so many workers, who draw the numbers of their cells at a table. Where one wants memory it stops, and
+/// the others go on.
+pub fn build_by_workers<R: Threads + Sync, G: Gate + Sync, B: Tag>(
+    rt: &R,
+    alloc: Global,
+    order: &Order<'_, G>,
+    workers: u64,
+    builds: &mut Steps<B>,
+) -> Result<Vec<BarTable>, AllocError>
+    requires some_worker { 1 ≤ workers }
+    requires few_workers { workers ≤ length order.now.inputs.now }
+    requires readable { IsReadable order.now.grammar.now }
+    requires units { All (λ k. k.resolution ≡ order.now.grammar.now.resolution) order.now.inputs.now }
+    ensures tables { IfOk result (λ v. AreTablesOf order.now.grammar.now order.now.inputs.now v.items) }
+    ensures builds { OnOk result (builds.new ≡ risen builds.old (length order.now.inputs.now)) }
+    ensures most { builds.new ≤ risen builds.old (length order.now.inputs.now) }
+    ensures rises { builds.old ≤ builds.new }
+{
+    let count = order.inputs.len();
+    let counts = DrawCounts {
+        inputs: count as u64,
+        workers,
+    };
+    let (table, seat) = DrawTable::of_words(alloc, &[0], &counts)?;
+    let Built {
+        seat,
+        builds: more,
+        tables,
+    } = build_in_halves(rt, alloc, order, &table.shared, seat, workers);
+    builds.absorb(more);
+    table.close_with(seat).free();
+    in_places(alloc, tables?, count)
 }

@@ -1,8 +1,8 @@
 use Rattle.std.proofs.Common.{◌+◌, ◌*◌}
-use Rattle.bar_pool.proofs.workers.+build_by.Given as goal
+use Rattle.bar_pool.proofs.workers.+build_in_halves.Given as goal
 
-abbrev pub decreases-build_by : goal.decreases-build_by
-decreases-build_by g l = 2 * l.workers + 1
+abbrev pub decreases-build_in_halves : goal.decreases-build_in_halves
+decreases-build_in_halves g l = 2 * l.workers + 1
 
 abbrev pub decreases-left : goal.decreases-left
 decreases-left g l = 2 * l.workers

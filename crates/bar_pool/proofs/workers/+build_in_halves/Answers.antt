@@ -1,7 +1,7 @@
 use Rattle.std.proofs.Common.{arith}
 use Rattle.bar_pool.proofs.TableKeeps.{split_allowed}
 use Rattle.bar_pool.proofs.Numbered.{both_built}
-use Rattle.bar_pool.proofs.workers.+build_by.Goals as goal
+use Rattle.bar_pool.proofs.workers.+build_in_halves.Goals as goal
 
 pub split_seat-other-requires : goal.split_seat-other-requires
 split_seat-other-requires g t c =
