@@ -5,3 +5,4 @@ pub mod Lawful
 pub mod Numbered
 pub mod Placed
 pub mod TableKeeps
+pub mod WorkedDraws

@@ -12,8 +12,8 @@ use std::alloc::{AllocError, Global};
 use std::thread::Threads;
 
 /// The table of each input, in the order of the inputs. Before a cell is built, `gate` is passed with the number of its input.
-/// There are at most as many workers as inputs. One worker is the calling thread, which builds the cells in turn; several
-/// draw the numbers of their cells.
+/// There are `workers` of them, but no more than inputs, and each draws the number of the cell that it builds next. One worker
+/// is the calling thread, which takes the numbers in turn. With no inputs there is nothing to draw.
 pub fn build_cells<R: Threads + Sync, G: Gate + Sync, B: Tag>(
     rt: &R,
     alloc: Global,

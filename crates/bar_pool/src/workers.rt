@@ -1,7 +1,6 @@
-ghost use Rattle.bar_pool.specs.DrawTable.{view_of, view_with};
+ghost use Rattle.bar_pool.specs.DrawTable.{seat_of, view_of, view_with};
 ghost use Rattle.bar_pool.specs.Draws.{seat_after};
 ghost use Rattle.bar_pool.specs.Pool.{AreTablesOf};
-ghost use Rattle.bar_pool.specs.DrawTable.{seat_of};
 ghost use Rattle.bar_pool.specs.Workers.{AreBuilt, HasShare, IsFresh};
 ghost use Rattle.rhythm_base.specs.Counter.{risen};
 ghost use Rattle.rhythm_base.specs.Readable.{IsReadable};
@@ -36,7 +35,8 @@ fn draw(shared: &SharedDraws, seat: &mut DrawSeat) -> u64
     shared.fetch_add::<Draw>(seat, 0, 1)
 }
 
-/// Builds the cells whose numbers it draws, until a number is past the inputs.
+/// Builds the cells whose numbers one worker draws, each in one atomic step. It stops at the first number past the inputs, and
+/// where it wants memory.
 fn build_drawn<G: Gate, B: Tag>(
     alloc: Global,
     order: &Order<'_, G>,
@@ -124,8 +124,8 @@ fn take_over<B: Tag>(shared: &SharedDraws, first: Built<B>, second: Built<B>) ->
     }
 }
 
-/// Builds the cells whose numbers the workers of the seat draw. They are as many as its share, each with half of the share of
-/// the one that started it, down to a share of one.
+/// Builds the cells whose numbers the workers of the seat draw. They are as many as its share. The seat gives half of it to
+/// another, the workers of both draw side by side, and then the seat takes over what the other's have built.
 #[cycle(build_in_halves)]
 pub fn build_in_halves<R: Threads + Sync, G: Gate + Sync, B: Tag>(
     rt: &R,
@@ -176,8 +176,8 @@ pub fn build_in_halves<R: Threads + Sync, G: Gate + Sync, B: Tag>(
     take_over(shared, first, second)
 }
 
-/// Builds the cells by so many workers, who draw the numbers of their cells at a table. Where one wants memory it stops, and
-/// the others go on.
+/// Builds the cells by so many workers, who draw the numbers of their cells at a table of one word. Where one of them wants
+/// memory the others go on, and the answer is given when all have ended. The tables are moved to their places.
 pub fn build_by_workers<R: Threads + Sync, G: Gate + Sync, B: Tag>(
     rt: &R,
     alloc: Global,
@@ -202,10 +202,10 @@ pub fn build_by_workers<R: Threads + Sync, G: Gate + Sync, B: Tag>(
     let (table, seat) = DrawTable::of_words(alloc, &[0], &counts)?;
     let Built {
         seat,
-        builds: more,
+        builds: own,
         tables,
     } = build_in_halves(rt, alloc, order, &table.shared, seat, workers);
-    builds.absorb(more);
+    builds.absorb(own);
     table.close_with(seat).free();
     in_places(alloc, tables?, count)
 }

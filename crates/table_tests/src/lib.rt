@@ -20,3 +20,5 @@ mod leaves;
 mod products;
 #[cfg(test)]
 mod tables;
+#[cfg(test)]
+mod workers;

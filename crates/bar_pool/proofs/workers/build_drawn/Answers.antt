@@ -11,8 +11,8 @@ pub draws-init : goal.draws-init
 draws-init g c =
     let none = c.new-tables.ensures.items in
     record {
-      table = refl;
-      id = refl;
+      table = search rules;
+      id = search rules;
       share = record { share = c.requires.fresh.share; inputs = c.requires.fresh.inputs; slots = c.requires.fresh.slots };
       past = c.requires.fresh.past;
       numbers = ap (λ l. numbers l) none ∙ sym c.requires.fresh.drawn;

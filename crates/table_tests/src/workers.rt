@@ -1,0 +1,178 @@
+ghost use Rattle.rhythm_base.specs.Readable.{IsReadable};
+ghost use Rattle.std.specs.Prelude.{◌≡◌, ◌≤◌, All, IfOk};
+
+use crate::bars::{bar_of, chords_of};
+use crate::grammars::{QUARTERS, read};
+use bar_pool::build_cells;
+use least_cost::{BarTable, Steps};
+use rhythm_base::{BarInput, Grammar, Tag};
+use rhythm_ports::{Gate, OpenGate};
+use std::alloc::Global;
+use std::sync::atomic::{AtomicBool, AtomicU64, Ordering};
+use std::test::Fail;
+
+/// What the steps of these builds are counted for.
+#[derive(Clone, Copy)]
+struct ByWorkers;
+
+impl Tag for ByWorkers {}
+
+/// So many bars, each with a chord at another tick.
+fn bars(alloc: Global, grammar: &Grammar, count: u64) -> Result<Vec<BarInput>, Fail>
+    requires readable { IsReadable grammar.now }
+    requires few { count ≤ 12 }
+    ensures { IfOk result (λ v. All (λ b. b.resolution ≡ grammar.now.resolution) v.items) }
+{
+    let mut bars = Vec::new(alloc);
+    for number in 0..count {
+        let onset = number * 155;
+        let chords = chords_of(alloc, &[(onset, onset + 100), (onset + 150, 1920)])?;
+        let Some(bar) = bar_of(grammar, chords, onset / 2, None) else {
+            return Err(Fail::new("no bar"));
+        };
+        bars.push(bar)?;
+    }
+    Ok(bars)
+}
+
+/// Holds one number until three others have passed, for at most 100,000,000 turns.
+#[derive(Drop)]
+struct Holding {
+    held: u64,
+    passed: AtomicU64,
+    gave_up: AtomicBool,
+}
+
+impl Holding {
+    fn new(held: u64) -> Holding {
+        Holding {
+            held,
+            passed: AtomicU64::new(0),
+            gave_up: AtomicBool::new(false),
+        }
+    }
+}
+
+impl Gate for Holding {
+    fn pass(&self, index: u64) {
+        if index != self.held {
+            self.passed.fetch_add(1, Ordering::SeqCst);
+            return;
+        }
+        for _ in 0..100_000_000u32 {
+            if self.passed.load(Ordering::SeqCst) == 3 {
+                return;
+            }
+        }
+        self.gave_up.store(true, Ordering::SeqCst);
+    }
+}
+
+/// Whichever cell one of two workers is held at, the other draws all that are left.
+#[test]
+fn a_worker_draws_what_a_held_one_leaves(rt: HostRuntime) -> Result<(), Fail> {
+    let alloc = rt.alloc();
+    let grammar = read(alloc, QUARTERS)?;
+    let inputs = bars(alloc, &grammar, 4)?;
+    for held in 0..3u64 {
+        let gate = Holding::new(held);
+        let mut builds = Steps::<ByWorkers>::zero();
+        let tables = build_cells(
+            &rt,
+            alloc,
+            &grammar,
+            inputs.as_slice(),
+            2,
+            &gate,
+            &mut builds,
+        )?;
+        assert!(rt; tables.len() == 4 && builds.count() == 4, "number {held}");
+        assert!(rt;
+            !gate.gave_up.load(Ordering::SeqCst),
+            "number {held} was held to the end"
+        );
+    }
+    Ok(())
+}
+
+/// Whether the two tables have the same costs and rules.
+fn are_equal(one: &BarTable, other: &BarTable) -> bool {
+    for from in 0..5u8 {
+        for to in 0..5u8 {
+            if one.matrix().get(from, to) != other.matrix().get(from, to) {
+                return false;
+            }
+            if one.rules(from, to) != other.rules(from, to) {
+                return false;
+            }
+        }
+    }
+    true
+}
+
+#[test]
+fn any_number_of_workers_gives_equal_tables(rt: HostRuntime) -> Result<(), Fail> {
+    let alloc = rt.alloc();
+    let grammar = read(alloc, QUARTERS)?;
+    let inputs = bars(alloc, &grammar, 12)?;
+    let mut builds = Steps::<ByWorkers>::zero();
+    let alone = build_cells(
+        &rt,
+        alloc,
+        &grammar,
+        inputs.as_slice(),
+        1,
+        &OpenGate,
+        &mut builds,
+    )?;
+    assert!(rt; alone.len() == 12);
+    for workers in [2u32, 3, 16] {
+        let tables = build_cells(
+            &rt,
+            alloc,
+            &grammar,
+            inputs.as_slice(),
+            workers,
+            &OpenGate,
+            &mut builds,
+        )?;
+        assert!(rt; tables.len() == 12);
+        for (one, other) in alone.iter().zip(tables.iter()) {
+            assert!(rt; are_equal(one, other), "by {workers} workers");
+        }
+    }
+    assert!(rt; builds.count() == 48);
+    Ok(())
+}
+
+/// The tables of the dozen differ, so that one in another's place would be seen.
+#[test]
+fn the_tables_differ(rt: HostRuntime) -> Result<(), Fail> {
+    let alloc = rt.alloc();
+    let grammar = read(alloc, QUARTERS)?;
+    let inputs = bars(alloc, &grammar, 12)?;
+    let mut builds = Steps::<ByWorkers>::zero();
+    let tables = build_cells(
+        &rt,
+        alloc,
+        &grammar,
+        inputs.as_slice(),
+        16,
+        &OpenGate,
+        &mut builds,
+    )?;
+    for (one, other) in tables.iter().zip(tables.iter().skip(1)) {
+        assert!(rt; !are_equal(one, other));
+    }
+    Ok(())
+}
+
+#[test]
+fn no_cells_by_four_workers(rt: HostRuntime) -> Result<(), Fail> {
+    let alloc = rt.alloc();
+    let grammar = read(alloc, QUARTERS)?;
+    let mut builds = Steps::<ByWorkers>::zero();
+    let tables = build_cells(&rt, alloc, &grammar, &[], 4, &OpenGate, &mut builds)?;
+    assert!(rt; tables.is_empty() && builds.count() == 0);
+    Ok(())
+}
