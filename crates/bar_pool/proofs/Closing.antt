@@ -1,14 +1,14 @@
 -- What the seat that took over all others has, at the close of the table.
-use Rattle.std.proofs.Common.{◌≡◌, ℕ, zero, suc, ◌+◌, ◌<◌, ◌≤◌, min, List, [], ◌∷◌, ◌++◌, length, map, All, refl, sym, ap, ◌∙◌, subst, arith}
-use Rattle.std.specs.Prelude.{Option, Some, None, slice_get, sum_by, flat_map, IfOk, Result, Ok, Err}
+use Rattle.std.proofs.Common.{◌≡◌, ℕ, zero, suc, ◌<◌, ◌≤◌, min, List, [], ◌∷◌, length, All, refl, sym, ap, ◌∙◌, subst, arith}
+use Rattle.std.specs.Prelude.{Some, slice_get, sum_by, IfOk, Result, Ok, Err}
 use Rattle.std.proofs.lemmas.List.Sums.{sum_by-cons}
 use Rattle.std.proofs.lemmas.List.Concat.{length-flat_map}
 use Rattle.std.proofs.lemmas.List.Elements.{All-head, All-tail}
 use Rattle.std.proofs.lemmas.Option.{slice_get_within}
 use Rattle.atomic_table.specs.Table.{Final, Me, Seen, State}
-use Rattle.bar_pool.specs.Draws.{AreLawful, Draws, HasEachBelow, IsSeat, Seat, drawn_by_all, times}
+use Rattle.bar_pool.specs.Draws.{AreLawful, Draws, HasEachBelow, Seat, drawn_by_all, times}
 use Rattle.bar_pool.specs.DrawTable.{IsDrawTable, draws_of, seat_of}
-use Rattle.bar_pool.specs.Workers.{AreBuilt, HasShare, IsNumbered, numbers}
+use Rattle.bar_pool.specs.Workers.{HasShare, IsNumbered, numbers}
 use Rattle.bar_pool.specs.Places.{StandIn}
 use Rattle.bar_pool.specs.Pool.{AreTablesOf, IsTableOf}
 use Rattle.bar_pool.specs.declared.draws.DrawCounts.{DrawCounts}

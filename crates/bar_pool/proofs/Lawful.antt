@@ -1,12 +1,12 @@
 -- The law of draws holds at the start, and each event keeps it.
-use Rattle.std.proofs.Common.{◌≡◌, ◌≢◌, ℕ, zero, suc, ◌+◌, ◌-◌, ◌<◌, ◌≤◌, min, nat_lt, ◌==◌, Bool, true, false, List, [], ◌∷◌, ◌++◌, length, get_or, set, All, refl, sym, ap, ◌∙◌, subst, arith, length-append}
-use Rattle.std.specs.Prelude.{if◌then◌else◌, Option, Some, slice_get, sum_by, flat_map}
+use Rattle.std.proofs.Common.{◌≡◌, ◌≢◌, ℕ, zero, suc, ◌+◌, ◌<◌, ◌≤◌, min, nat_lt, ◌==◌, Bool, true, false, List, [], ◌∷◌, ◌++◌, length, get_or, set, All, refl, sym, ap, subst, arith, length-append}
+use Rattle.std.specs.Prelude.{if◌then◌else◌, Some, slice_get, sum_by}
 use Rattle.std.proofs.lemmas.Bool.Decides.{nat_tests}
 use Rattle.std.proofs.lemmas.List.Sums.{sum_by_push}
 use Rattle.std.proofs.lemmas.List.Concat.{length-flat_map}
 use Rattle.std.proofs.lemmas.List.Elements.{All-push, All-set}
 use Rattle.std.proofs.lemmas.Option.{get_or_from_slice_get, slice_get_within}
-use Rattle.bar_pool.specs.Draws.{AreLawful, Draws, Event, HasEachBelow, IsAfter, IsRun, IsSeat, Seat, drawn_by_all, new_seat, seat_after, seat_less, seat_with, start, times, draw, split, join}
+use Rattle.bar_pool.specs.Draws.{AreLawful, Draws, Event, IsAfter, IsRun, IsSeat, Seat, drawn_by_all, new_seat, seat_less, seat_with, start, times, draw, split, join}
 use Rattle.bar_pool.specs.Laws.{DrawsKeepTheirLaw}
 use Rattle.bar_pool.proofs.Counting.{below_from, length-each, sum_by-at, sum_by-below, sum_by-most, times-append, times-at, times-cons, times-flat_map}
 

@@ -1,6 +1,6 @@
 -- A seat and its numbered tables after one draw more.
-use Rattle.std.proofs.Common.{◌≡◌, ℕ, zero, suc, ◌+◌, ◌<◌, ◌≤◌, nat_lt, Bool, true, false, List, [], ◌∷◌, ◌++◌, length, map, All, max, refl, sym, ap, ◌∙◌, subst, arith, length-append}
-use Rattle.std.specs.Prelude.{if◌then◌else◌, Option, Some, slice_get, IfOk, IsOk, Result, Ok, Err}
+use Rattle.std.proofs.Common.{◌≡◌, ℕ, ◌+◌, ◌<◌, nat_lt, Bool, true, false, List, [], ◌∷◌, ◌++◌, length, All, max, refl, sym, ap, ◌∙◌, subst, arith, length-append}
+use Rattle.std.specs.Prelude.{if◌then◌else◌, Some, slice_get, IfOk, IsOk, Result, Ok, Err}
 use Rattle.std.proofs.lemmas.Bool.Decides.{nat_tests}
 use Rattle.std.proofs.lemmas.List.{map-append}
 use Rattle.std.proofs.lemmas.List.Elements.{All-append, All-push}
@@ -10,7 +10,7 @@ use Rattle.bar_pool.specs.DrawTable.{seat_of, view_of, view_with}
 use Rattle.bar_pool.specs.Pool.{IsTableOf}
 use Rattle.bar_pool.specs.Workers.{AreBuilt, HasShare, IsNumbered, numbers}
 use Rattle.bar_pool.specs.declared.draws.SeatView.{SeatView}
-use Rattle.bar_pool.proofs.Counting.{above, above-least, above-push}
+use Rattle.bar_pool.proofs.Counting.{above, above-push}
 use Rattle.rhythm_base.specs.BarInput.{BarInput}
 use Rattle.rhythm_base.specs.BarTables.{BarTable}
 use Rattle.rhythm_base.specs.Grammar.{Grammar}

@@ -1,17 +1,17 @@
 -- Each step at the table is an event of draws, and so keeps the table's rule.
-use Rattle.std.proofs.Common.{◌≡◌, ◌≢◌, ⊎_elim, ℕ, zero, suc, ◌+◌, ◌-◌, ◌/◌, ◌%◌, ◌<◌, ◌≤◌, ◌^◌, min, nat_lt, Bool, true, false, List, [], ◌∷◌, ◌++◌, length, map, get_or, set, All, refl, sym, ap, ◌∙◌, subst, arith}
-use Rattle.std.specs.Prelude.{if◌then◌else◌, Option, Some, slice_get, slice_index}
+use Rattle.std.proofs.Common.{◌≡◌, ◌≢◌, ⊎_elim, ℕ, zero, suc, ◌+◌, ◌/◌, ◌%◌, ◌<◌, ◌≤◌, ◌^◌, nat_lt, Bool, true, false, List, [], ◌∷◌, ◌++◌, length, map, set, refl, sym, ap, ◌∙◌, arith}
+use Rattle.std.specs.Prelude.{if◌then◌else◌, Some, slice_get, slice_index}
 use mathlib.Core.Option.{some, some-ne-none, some-injective}
 use lib.ListN.{get_elem?}
-use Rattle.atomic_table.specs.Table.{Allows, Final, Joins, Me, Seen, Splits, State, Step, keeps}
+use Rattle.atomic_table.specs.Table.{Allows, Joins, Me, Splits, State, Step, keeps}
 use Rattle.atomic_table.proofs.Lists.{at_set}
 use Rattle.std.proofs.lemmas.List.{map-append}
 use Rattle.std.proofs.lemmas.List.Elements.{All-push, All-set}
-use Rattle.bar_pool.specs.Draws.{AreLawful, Draws, IsAfter, Seat, draw, join, new_seat, seat_after, seat_less, seat_with, split}
+use Rattle.bar_pool.specs.Draws.{Draws, IsAfter, Seat, draw, join, new_seat, seat_after, split}
 use Rattle.bar_pool.specs.DrawTable.{HasCounts, IsDrawTable, IsDrawn, draws_of, first_view, given_half, kept_half, seat_of, spent_view, view_of, view_with}
 use Rattle.bar_pool.specs.declared.draws.DrawCounts.{DrawCounts}
 use Rattle.bar_pool.specs.declared.draws.SeatView.{SeatView}
-use Rattle.bar_pool.proofs.Lawful.{All-at, draw_keeps, drawn_below, event_keeps, join_keeps, next_below, split_keeps, start_lawful}
+use Rattle.bar_pool.proofs.Lawful.{All-at, draw_keeps, drawn_below, join_keeps, next_below, split_keeps, start_lawful}
 
 -- the two ways to read a list
 from_elem : {X : Type 0} (xs : List X) (i : ℕ) (v : X) → get_elem? xs i ≡ some v → slice_get xs i ≡ Some v

@@ -1,5 +1,5 @@
 -- Draws worked by hand.
-use Rattle.std.proofs.Common.{◌≡◌, ℕ, List, [], ◌∷◌, refl, arith}
+use Rattle.std.proofs.Common.{List, [], ◌∷◌, refl, arith}
 use Rattle.bar_pool.specs.Draws.{Draws, Event, IsRun, Seat, draw, join, new_seat, split, start}
 
 -- Two workers and two inputs: the seat is split, each seat draws one number and then one past the inputs, and they are joined.

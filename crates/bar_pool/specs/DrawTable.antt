@@ -1,7 +1,7 @@
 -- Draws at a table of one word: the word is the number that is drawn next, and each seat has a view. The table opens with
 -- the word 0 and one seat for all workers. A draw adds one to the word. A split and a join only read it. At the close the
 -- word and the views of the seats are still draws that meet the law.
-use Rattle.std.specs.Prelude.{◌≡◌, ℕ, ◌+◌, ◌/◌, ◌<◌, ◌^◌, List, [], ◌∷◌, All, length, map, slice_index}
+use Rattle.std.specs.Prelude.{◌≡◌, ℕ, ◌+◌, ◌/◌, ◌<◌, ◌^◌, List, [], All, length, map, slice_index}
 use Rattle.atomic_table.specs.Table.{Me, Step}
 use Rattle.bar_pool.specs.Draws.{AreLawful, Draws, Seat, new_seat, seat_after, seat_less, seat_with}
 use Rattle.bar_pool.specs.declared.draws.DrawCounts.{DrawCounts}
@@ -39,7 +39,9 @@ first_view c = record { share = c.workers; drawn = []; past = 0; inputs = c.inpu
 -- above all that the seat drew
 abbrev pub IsDrawn : {S : Type 0} → Step S → Me S SeatView → ℕ → Me S SeatView → Type 0
 IsDrawn step before number after =
-    (after.0 ≡ view_of before.0 (seat_after before.0.inputs number (seat_of before.0))) × (after.1 ≡ before.1) × All (λ x. x < number) before.0.drawn
+    (after.0 ≡ view_of before.0 (seat_after before.0.inputs number (seat_of before.0)))
+    × (after.1 ≡ before.1)
+    × All (λ x. x < number) before.0.drawn
 
 -- a split: a seat keeps the greater half of its share, and a new seat has the other
 abbrev pub kept_half : SeatView → SeatView

@@ -1,8 +1,9 @@
--- Numbers that are drawn in turn, each by one of several seats. A number below that of the inputs is drawn for its input.
-use Rattle.std.specs.Prelude.{◌≡◌, ◌≢◌, ℕ, ◌+◌, ◌-◌, ◌<◌, ◌≤◌, min, nat_lt, ◌==◌, List, [], ◌∷◌, ◌++◌, All, length, Option, Some, slice_get, slice_set, sum_by, count_by, flat_map, if◌then◌else◌}
+-- Numbers that are drawn in turn, each by one of several seats. The numbers below the count of the inputs are theirs; all others
+-- are past the inputs.
+use Rattle.std.specs.Prelude.{◌≡◌, ◌≢◌, ℕ, ◌+◌, ◌-◌, ◌<◌, ◌≤◌, min, nat_lt, ◌==◌, if◌then◌else◌}
+use Rattle.std.specs.Prelude.{List, [], ◌∷◌, ◌++◌, All, length, Some, slice_get, slice_set, sum_by, count_by, flat_map}
 
--- One who draws: for how many workers it stands, the numbers below that of the inputs that it drew, and how often it drew
--- past them.
+-- One who draws: for how many workers it stands, the numbers of inputs that it drew, and how often it drew past the inputs.
 pub record Seat : Type 0 where
   pub share : ℕ
   pub drawn : List ℕ
@@ -25,14 +26,14 @@ times x xs = count_by (λ y. y == x) xs
 abbrev pub HasEachBelow : ℕ → List ℕ → Type 0
 HasEachBelow n xs = (x : ℕ) → times x xs ≡ (if nat_lt x n then 1 else 0)
 
--- the seat drew past the inputs at most once for each of its workers, and nothing where it stands for none
+-- the seat drew past the inputs at most as often as it stands for workers, and it has no number where it stands for none
 pub record IsSeat (s : Seat) : Type 0 where
   pub past : s.past ≤ s.share
   pub idle : s.share ≡ 0 → s.drawn ≡ []
 
--- The law of draws for so many inputs by so many workers. The seats share the workers. Together they have each number
--- below both the next and the number of inputs once, and no other. The next number is the count of these and of the
--- draws past the inputs.
+-- The law of draws for so many inputs and so many workers. The shares of the seats are the workers. The seats together have
+-- each number below both the next and the count of the inputs once, and no other. The next number is the count of these
+-- numbers and of the draws past the inputs.
 pub record AreLawful (inputs workers : ℕ) (draws : Draws) : Type 0 where
   pub shares : sum_by (λ s. s.share) draws.seats ≡ workers
   pub seats : All IsSeat draws.seats
@@ -49,7 +50,8 @@ start workers = record { next = 0; seats = new_seat workers ∷ [] }
 
 -- a seat after it drew the number
 abbrev pub seat_after : ℕ → ℕ → Seat → Seat
-seat_after inputs number s = if nat_lt number inputs then record s { drawn = s.drawn ++ number ∷ [] } else record s { past = s.past + 1 }
+seat_after inputs number s =
+    if nat_lt number inputs then record s { drawn = s.drawn ++ number ∷ [] } else record s { past = s.past + 1 }
 
 -- a seat after it gave away a part of its share
 abbrev pub seat_less : ℕ → Seat → Seat
@@ -59,7 +61,7 @@ seat_less part s = record s { share = s.share - part }
 abbrev pub seat_with : Seat → Seat → Seat
 seat_with s other = record { share = s.share + other.share; drawn = s.drawn ++ other.drawn; past = s.past + other.past }
 
--- The seat with this place draws; it gives a part of its share to a new seat; or it takes over the seat with the second
+-- The seat at this place draws; or it gives so great a part of its share to a new seat; or it takes over the seat at another
 -- place.
 pub data Event : Type 0 where
   draw : ℕ → Event

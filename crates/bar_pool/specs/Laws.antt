@@ -3,4 +3,6 @@ use Rattle.bar_pool.specs.Draws.{AreLawful, Draws, Event, IsRun, start}
 
 -- any events in any order, from the start on, leave draws that meet the law
 abbrev pub DrawsKeepTheirLaw : Type 0
-DrawsKeepTheirLaw = (inputs workers : ℕ) (events : List Event) (draws : Draws) → IsRun inputs events (start workers) draws → AreLawful inputs workers draws
+DrawsKeepTheirLaw =
+    (inputs workers : ℕ) (events : List Event) (draws : Draws)
+    → IsRun inputs events (start workers) draws → AreLawful inputs workers draws

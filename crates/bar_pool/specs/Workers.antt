@@ -1,5 +1,5 @@
 -- What the workers of a seat have drawn and built.
-use Rattle.std.specs.Prelude.{◌≡◌, ℕ, ◌<◌, List, [], All, Option, Some, map, slice_get}
+use Rattle.std.specs.Prelude.{◌≡◌, ℕ, ◌<◌, List, [], All, Some, map, slice_get}
 use Rattle.atomic_table.specs.Table.{Me}
 use Rattle.bar_pool.specs.Pool.{IsTableOf}
 use Rattle.bar_pool.specs.declared.draws.SeatView.{SeatView}

@@ -159,14 +159,26 @@ pub fn build_in_halves<R: Threads + Sync, G: Gate + Sync, B: Tag>(
     let half = workers / 2;
     let other = shared.split_seat::<HalfShare>(&mut seat);
     let left = move || -> Built<B>
-        requires { IsSync R.row × IsSync G.row × IsReadable order.now.grammar.now × All (λ k. k.resolution ≡ order.now.grammar.now.resolution) order.now.inputs.now × (0 < half) × (half < workers) × (seat.table_id ≡ shared.now.table_id) × (shared.now.table_id.words ≡ 1) × IsFresh seat.me (length order.now.inputs.now) (workers - half) }
+        requires sync { IsSync R.row × IsSync G.row }
+        requires readable { IsReadable order.now.grammar.now }
+        requires units { All (λ k. k.resolution ≡ order.now.grammar.now.resolution) order.now.inputs.now }
+        requires half { (0 < half) × (half < workers) }
+        requires table { seat.table_id ≡ shared.now.table_id }
+        requires words { shared.now.table_id.words ≡ 1 }
+        requires fresh { IsFresh seat.me (length order.now.inputs.now) (workers - half) }
         ensures table { result.seat.table_id ≡ shared.entry.now.table_id }
         ensures share { HasShare result.seat.me (length order.entry.now.inputs.now) (workers - half) }
         ensures tables { IfOk result.tables (λ v. AreBuilt order.entry.now.grammar.now order.entry.now.inputs.now result.seat.me v.items) }
         ensures builds { result.builds ≡ risen 0 (length result.seat.me.0.drawn) }
     { build_in_halves(rt, alloc, order, shared, seat, workers - half) };
     let right = move || -> Built<B>
-        requires { IsSync R.row × IsSync G.row × IsReadable order.now.grammar.now × All (λ k. k.resolution ≡ order.now.grammar.now.resolution) order.now.inputs.now × (0 < half) × (other.table_id ≡ shared.now.table_id) × (shared.now.table_id.words ≡ 1) × IsFresh other.me (length order.now.inputs.now) half }
+        requires sync { IsSync R.row × IsSync G.row }
+        requires readable { IsReadable order.now.grammar.now }
+        requires units { All (λ k. k.resolution ≡ order.now.grammar.now.resolution) order.now.inputs.now }
+        requires half { 0 < half }
+        requires table { other.table_id ≡ shared.now.table_id }
+        requires words { shared.now.table_id.words ≡ 1 }
+        requires fresh { IsFresh other.me (length order.now.inputs.now) half }
         ensures table { result.seat.table_id ≡ shared.entry.now.table_id }
         ensures share { HasShare result.seat.me (length order.entry.now.inputs.now) half }
         ensures tables { IfOk result.tables (λ v. AreBuilt order.entry.now.grammar.now order.entry.now.inputs.now result.seat.me v.items) }

@@ -77,3 +77,22 @@ pub fn bar_of(alloc: Global, resolution: u16, count: u32) -> Result<Option<BarIn
         Ok(None)
     }
 }
+
+/// So many bars like that.
+pub fn bars_of(
+    alloc: Global,
+    resolution: u16,
+    chords: u32,
+    count: u32,
+) -> Result<Option<Vec<BarInput>>, AllocError>
+    ensures { IfOk result (λ o. IfSome o (λ v. All (λ b. b.resolution ≡ resolution) v.items)) }
+{
+    let mut bars = Vec::new(alloc);
+    for _ in 0..count {
+        let Some(bar) = bar_of(alloc, resolution, chords)? else {
+            return Ok(None);
+        };
+        bars.push(bar)?;
+    }
+    Ok(Some(bars))
+}

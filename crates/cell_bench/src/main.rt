@@ -1,18 +1,22 @@
 //! Builds the tables of stated bars, over and over where that is asked for, and prints what the least trees cost. With no
 //! words it builds each stated bar once. The words GROUP ONSETS TIMES name the grammar, the number of chords of the bar and
-//! how often its table is built: a longer run less a shorter one gives the time of a table.
+//! how often its table is built: a longer run less a shorter one gives the time of a table. With a fourth word, WORKERS, the
+//! tables are those of so many equal bars, and are built by so many workers, 1 to 16.
 #![tactic(auto)]
 
 mod bars;
 mod grammars;
 
-use bars::bar_of;
+use bar_pool::{MOST_WORKERS, build_cells};
+use bars::{bar_of, bars_of};
 use grammars::Group;
 use least_cost::{BarTable, Steps, build_cell};
 use rhythm_base::Tag;
+use rhythm_ports::OpenGate;
 use std::alloc::Global;
 use std::env;
 use std::io::{self, ErrorKind};
+use std::thread::Threads;
 
 /// What the builds of this program are counted for.
 #[derive(Clone, Copy)]
@@ -43,6 +47,8 @@ struct Task {
     group: Group,
     onsets: u32,
     times: u32,
+    /// By how many workers; none where one table is built after another without them.
+    workers: Option<u32>,
 }
 
 /// The words after the program's name, where they are a task.
@@ -52,6 +58,13 @@ fn task_of(words: &[String]) -> Option<Task> {
             group: Group::named(group.as_str())?,
             onsets: onsets.as_str().parse::<u32>().ok()?,
             times: times.as_str().parse::<u32>().ok()?,
+            workers: None,
+        }),
+        [group, onsets, times, workers] => Some(Task {
+            group: Group::named(group.as_str())?,
+            onsets: onsets.as_str().parse::<u32>().ok()?,
+            times: times.as_str().parse::<u32>().ok()?,
+            workers: Some(workers.as_str().parse::<u32>().ok()?),
         }),
         _ => None,
     }
@@ -71,6 +84,25 @@ fn build(alloc: Global, task: Task) -> io::Result<Option<BarTable>> {
     Ok(last)
 }
 
+/// Builds the tables of so many equal bars by the workers, and keeps the last.
+fn build_by<R: Threads + Sync>(
+    rt: &R,
+    alloc: Global,
+    task: Task,
+    workers: u32,
+) -> io::Result<Option<BarTable>> {
+    if workers < 1 || workers > MOST_WORKERS {
+        return Err(io::Error::from(ErrorKind::InvalidInput));
+    }
+    let grammar = task.group.grammar(alloc)?;
+    let Some(bars) = bars_of(alloc, grammar.resolution, task.onsets, task.times)? else {
+        return Err(io::Error::from(ErrorKind::InvalidInput));
+    };
+    let mut builds = Steps::<Benchmark>::zero();
+    let mut tables = build_cells(rt, alloc, &grammar, bars.as_slice(), workers, &OpenGate, &mut builds)?;
+    Ok(tables.pop())
+}
+
 /// The cost of each entry, by the numbers of chords carried in and out.
 fn print_costs(rt: &impl Print, table: &BarTable) -> io::Result<()> {
     let mut some = false;
@@ -88,9 +120,13 @@ fn print_costs(rt: &impl Print, table: &BarTable) -> io::Result<()> {
     println!(rt;)
 }
 
-fn run(rt: &impl Print, alloc: Global, task: Task) -> io::Result<()> {
+fn run<R: Print + Threads + Sync>(rt: &R, alloc: Global, task: Task) -> io::Result<()> {
     print!(rt; "{} {}:", task.group.name(), task.onsets)?;
-    match build(alloc, task)? {
+    let last = match task.workers {
+        None => build(alloc, task)?,
+        Some(workers) => build_by(rt, alloc, task, workers)?,
+    };
+    match last {
         None => println!(rt; " not built"),
         Some(table) => print_costs(rt, &table),
     }
@@ -116,6 +152,7 @@ fn main(rt: HostRuntime) -> io::Result<()> {
                 group: *group,
                 onsets: *onsets,
                 times: 1,
+                workers: None,
             },
         )?;
     }

@@ -1,6 +1,6 @@
-use Rattle.std.proofs.Common.{rules, arith, ◌≡◌, length, subst, sym, ap}
+use Rattle.std.proofs.Common.{rules, arith, length, subst, sym}
 use Rattle.bar_pool.specs.Draws.{HasEachBelow}
-use Rattle.bar_pool.specs.Workers.{AreBuilt, numbers}
+use Rattle.bar_pool.specs.Workers.{AreBuilt}
 use Rattle.bar_pool.proofs.Closing.{closed, closed_few, tables_of, with_both}
 use Rattle.bar_pool.proofs.Counting.{length-each}
 use Rattle.bar_pool.proofs.workers.build_by_workers.Goals as goal

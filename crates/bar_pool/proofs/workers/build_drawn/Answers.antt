@@ -2,7 +2,7 @@ use Rattle.std.proofs.Common.{rules, arith, ◌≡◌, ◌<◌, ◌++◌, ◌∷
 use Rattle.std.specs.Prelude.{Some, slice_get}
 use Rattle.std.proofs.lemmas.Option.{slice_get_read}
 use Rattle.bar_pool.specs.Pool.{IsTableOf}
-use Rattle.bar_pool.specs.Workers.{HasShare, IsNumbered, numbers}
+use Rattle.bar_pool.specs.Workers.{IsNumbered, numbers}
 use Rattle.bar_pool.proofs.Counting.{above, above-least, above-nil}
 use Rattle.bar_pool.proofs.Numbered.{above_after, length_after, numbers_after, past_after, share_after, tables_after}
 use Rattle.bar_pool.proofs.workers.build_drawn.Goals as goal
