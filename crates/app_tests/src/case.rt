@@ -127,8 +127,8 @@ pub fn edit<R: Threads + Sync>(
     })
 }
 
-/// Runs `transcribe` over the shelf, with these sinks.
-pub fn transcribe<R: Threads + Sync>(
+/// Runs a command that reads no script, over the shelf, with these sinks.
+pub fn unscripted<R: Threads + Sync>(
     rt: &R,
     alloc: Global,
     words: &Words,
@@ -168,6 +168,6 @@ pub fn holds<R: Threads + Sync>(
     let mut shelf = shelf_with(alloc, most, case.piece, case.grammar)?;
     let mut out = MemSink::new(alloc, most, Vec::new(alloc));
     let mut err = MemSink::new(alloc, most, Vec::new(alloc));
-    let ran = transcribe(rt, alloc, &words, &mut shelf, &mut out, &mut err);
+    let ran = unscripted(rt, alloc, &words, &mut shelf, &mut out, &mut err);
     Ok(ran.status == case.status && out.bytes() == case.out && err.bytes() == case.err)
 }

@@ -1,4 +1,4 @@
-use crate::case::{Piece, shelf_with, transcribe, words_of};
+use crate::case::{Piece, shelf_with, unscripted, words_of};
 use crate::grammars::{QUARTERS, QUARTERS_OF_RESTS, USUAL, WHOLE};
 use crate::midi::{FOUR_QUARTERS, TWO_VOICES};
 use crate::scores::FOUR_QUARTERS_SCORE;
@@ -11,6 +11,10 @@ const NO_COMMANDS: &[&[&str]] = &[
     &["transcribe"],
     &["transcribe", "a.mid"],
     &["edit", "a.mid"],
+    &["events"],
+    &["events", "a.krn", "more"],
+    &["events", "a.mid", "a.grammar", "more"],
+    &["transcribe", "a.mid", "a.grammar", "more", "more"],
     &["edit", "a.mid", "a.grammar", "more"],
     &["studio", "a.mid", "a.grammar"],
     &["transcribe", "a.mid", "a.grammar", "more"],
@@ -24,7 +28,7 @@ fn words_that_are_no_command_are_refused(rt: HostRuntime) -> Result<(), Fail> {
         let mut shelf = shelf_with(alloc, 1, Piece::Bytes(FOUR_QUARTERS), QUARTERS)?;
         let mut out = MemSink::new(alloc, 1, Vec::new(alloc));
         let mut err = MemSink::new(alloc, 1, Vec::new(alloc));
-        let ran = transcribe(&rt, alloc, &words, &mut shelf, &mut out, &mut err);
+        let ran = unscripted(&rt, alloc, &words, &mut shelf, &mut out, &mut err);
         assert!(rt; ran.status == 1 && ran.builds == 0);
         assert!(rt; out.bytes().is_empty() && err.bytes() == b"usage\n".as_slice());
     }
@@ -38,7 +42,7 @@ fn a_first_part_is_written_before_a_failure(rt: HostRuntime) -> Result<(), Fail>
     let mut shelf = shelf_with(alloc, 4096, Piece::Bytes(FOUR_QUARTERS), QUARTERS)?;
     let mut out = MemSink::new(alloc, 10, vec![in alloc; 2]?);
     let mut err = MemSink::new(alloc, 10, Vec::new(alloc));
-    let ran = transcribe(&rt, alloc, &words, &mut shelf, &mut out, &mut err);
+    let ran = unscripted(&rt, alloc, &words, &mut shelf, &mut out, &mut err);
     assert!(rt; ran.status == 6 && ran.builds == 1);
     assert!(rt; out.bytes() == &FOUR_QUARTERS_SCORE[..20] && err.bytes() == b"write\n".as_slice());
     Ok(())
@@ -55,7 +59,7 @@ fn a_file_that_is_not_there_is_named(rt: HostRuntime) -> Result<(), Fail> {
         let mut shelf = shelf_with(alloc, 4096, Piece::Bytes(FOUR_QUARTERS), QUARTERS)?;
         let mut out = MemSink::new(alloc, 10, Vec::new(alloc));
         let mut err = MemSink::new(alloc, 10, Vec::new(alloc));
-        let ran = transcribe(&rt, alloc, &words, &mut shelf, &mut out, &mut err);
+        let ran = unscripted(&rt, alloc, &words, &mut shelf, &mut out, &mut err);
         assert!(rt; ran.status == 5 && ran.builds == 0);
         assert!(rt; out.bytes().is_empty() && err.bytes() == line);
     }
@@ -69,7 +73,7 @@ fn a_line_that_is_cut_changes_no_status(rt: HostRuntime) -> Result<(), Fail> {
     let mut shelf = shelf_with(alloc, 4096, Piece::Bytes(FOUR_QUARTERS), QUARTERS_OF_RESTS)?;
     let mut out = MemSink::new(alloc, 10, Vec::new(alloc));
     let mut err = MemSink::new(alloc, 10, vec![in alloc; 1]?);
-    let ran = transcribe(&rt, alloc, &words, &mut shelf, &mut out, &mut err);
+    let ran = unscripted(&rt, alloc, &words, &mut shelf, &mut out, &mut err);
     assert!(rt; ran.status == 3 && ran.builds == 1);
     assert!(rt; out.bytes().is_empty() && err.bytes() == b"no derivat".as_slice());
     Ok(())
@@ -87,7 +91,7 @@ fn each_cell_is_built_once(rt: HostRuntime) -> Result<(), Fail> {
         let mut shelf = shelf_with(alloc, 4096, piece, grammar)?;
         let mut out = MemSink::new(alloc, 4096, Vec::new(alloc));
         let mut err = MemSink::new(alloc, 4096, Vec::new(alloc));
-        let ran = transcribe(&rt, alloc, &words, &mut shelf, &mut out, &mut err);
+        let ran = unscripted(&rt, alloc, &words, &mut shelf, &mut out, &mut err);
         assert!(rt; ran.status == 0 && ran.builds == cells);
     }
     Ok(())
@@ -101,7 +105,7 @@ fn a_grammar_file_that_is_too_long_is_refused(rt: HostRuntime) -> Result<(), Fai
     let mut shelf = shelf_with(alloc, 4096, Piece::Bytes(FOUR_QUARTERS), &long)?;
     let mut out = MemSink::new(alloc, 4096, Vec::new(alloc));
     let mut err = MemSink::new(alloc, 4096, Vec::new(alloc));
-    let ran = transcribe(&rt, alloc, &words, &mut shelf, &mut out, &mut err);
+    let ran = unscripted(&rt, alloc, &words, &mut shelf, &mut out, &mut err);
     assert!(rt; ran.status == 4 && ran.builds == 0);
     assert!(rt; out.bytes().is_empty() && err.bytes() == b"limit grammar 1048577\n".as_slice());
     Ok(())

@@ -1,11 +1,13 @@
-//! Tests of the top call, from the bytes of two files to what out and err take: the scores of small pieces, with ties,
-//! grace notes, several voices and changes; what refuses a file, notes, bars or a grammar; and calls that fail.
+//! Tests of the top call, from the bytes of files to what out and err take: the scores of small pieces, with ties, grace notes,
+//! several voices and changes; the events of scores; what refuses a file, notes, bars or a grammar; and calls that fail.
 #![tactic(auto)]
 
 #[cfg(test)]
 mod case;
 #[cfg(test)]
 mod edits;
+#[cfg(test)]
+mod events;
 #[cfg(test)]
 mod failures;
 #[cfg(test)]

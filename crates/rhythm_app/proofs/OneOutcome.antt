@@ -1,10 +1,17 @@
 -- What words and files come to is one.
-use Rattle.std.proofs.Common.{◌≡◌, ◌≤◌, ◌+◌, ℕ, List, Option, Some, None, ap, ap₂, inl, inr, refl, sym, subst, ◌∙◌, Bool, true, false, Result, Ok, Err}
+use Rattle.std.proofs.Common.{◌≡◌, ◌≤◌, ◌+◌, ℕ, List, Option, Some, None, ap, ap₂, inl, inr, refl, sym, subst, ◌∙◌, Bool, true, false, Result, Ok, Err, arith}
+use Rattle.std.proofs.lemmas.Bool.{leb-true}
 use Rattle.std.specs.Prelude.{IfOk, if◌then◌else◌, nat_le, length}
 use Rattle.edit_session.proofs.Faults.{fault_or_open, one_fault}
 use Rattle.edit_session.specs.Opening.{CanOpen}
 use Rattle.grammar_file.proofs.SayableLemmas.{is_sayable}
 use Rattle.grammar_file.specs.Grammar.{grammar_of}
+use Rattle.kern_laws.proofs.OneList.{one_list}
+use Rattle.kern_reader.proofs.ScoreLemmas.{well_score}
+use Rattle.kern_reader.specs.EventText.{events_text}
+use Rattle.kern_reader.specs.Outcome.{score_of}
+use Rattle.kern_reader.specs.Score.{IsKernScore, KernColumns}
+use Rattle.kern_reader.specs.declared.fault.KernFault.{KernFault}
 use Rattle.kern_writer.proofs.OneScore.{scores_one}
 use Rattle.kern_writer.proofs.OneText.{texts_one}
 use Rattle.kern_writer.specs.PerformanceScore.{HasTooLongText, IsTextOf}
@@ -12,9 +19,9 @@ use Rattle.kern_writer.specs.Text.{IsScoreText, IsTooLong}
 use Rattle.performance_load.proofs.OneLoading.{one_loading}
 use Rattle.performance_load.specs.declared.load_fault.LoadFault.{LoadFault}
 use Rattle.rhythm_app.proofs.InTurn.{IsOne, in_turn_one}
-use Rattle.rhythm_app.specs.Asked.{Asked, transcribe, edit, asked_by, file_content}
+use Rattle.rhythm_app.specs.Asked.{Asked, transcribe, edit, events, asked_by, file_content}
 use Rattle.rhythm_app.specs.Laws.{OutcomesAreOne}
-use Rattle.rhythm_app.specs.Outcome.{AreInTurn, AreInputs, AreRead, HasOutcomeOf, IsEditing, IsLoading, IsRead, IsScoring, Ready, say, serve, IsUnderstood, IsUnopened, grammar_tests, limit_of, load_stop, open_stop, passed, stopped}
+use Rattle.rhythm_app.specs.Outcome.{AreInTurn, AreInputs, AreRead, HasOutcomeOf, IsEditing, IsListing, IsLoading, IsRead, IsScoreRead, IsScoring, Ready, say, serve, IsUnderstood, IsUnopened, grammar_tests, kern_tests, limit_of, load_stop, open_stop, passed, stopped}
 use Rattle.rhythm_app.specs.declared.stop.Kind.TheVariants as kind
 use Rattle.rhythm_app.specs.declared.stop.Stop.{Stop}
 use Rattle.rhythm_app.specs.declared.stop.Stop.TheVariants as stop
@@ -100,6 +107,33 @@ module _ (g : Grammar) (p : Performance) (read : IsReadable g) (formed : IsWellF
   one_editing (Err s) (Ok (serve f r)) h k = absurd (opened s k.0 h)
   one_editing (Err s) (Err t) h k = ap Err (h.3 ∙ ap open_stop (one_fault g p h.0 k.0 read formed h.2 k.2 h.1 k.1) ∙ sym k.3)
 
+-- ---- the events
+
+one_score_read : (bytes : List ℕ) → IsOne (IsScoreRead bytes)
+one_score_read bytes r s h k = sym h ∙ k
+
+-- the score of a file that is not too long is in its ranges
+in_ranges : (bytes : List ℕ) (score : KernColumns) → IsScoreRead bytes (Ok score) → IsKernScore score
+unfolding kern_tests
+in_ranges bytes score = go (nat_le (length bytes) (limit_of kind.Kern)) refl
+  where
+    said : (r : Result KernColumns KernFault) → score_of bytes ≡ r → length bytes ≤ limit_of kind.Kern → ◌≡◌ {A = Result KernColumns Stop} (stopped stop.Kern r) (Ok score) → IsKernScore score
+    said (Ok s) is short e = let same : s ≡ score = cc in well_score bytes score (omega (arith, short)) (is ∙ ap Ok same)
+    said (Err fault) is short e = absurd (cc)
+
+    go : (b : Bool) → nat_le (length bytes) (limit_of kind.Kern) ≡ b
+        → ◌≡◌ {A = Result KernColumns Stop} (passed (if b then Ok bytes else Err (stop.FileTooLong kind.Kern (limit_of kind.Kern + 1))) (λ b. stopped stop.Kern (score_of b))) (Ok score) → IsKernScore score
+    go true short e = said (score_of bytes) refl (leb-true (length bytes) (limit_of kind.Kern) short) e
+    go false short e = absurd (cc)
+
+one_listing : (score : KernColumns) → IsKernScore score → IsOne (IsListing score)
+one_listing score well (Ok (say a)) (Ok (say b)) (list, are, text) (same, others, equal) =
+    ap (λ x. Ok (say x)) (text ∙ ap events_text (one_list score list same well are others) ∙ sym equal)
+one_listing score well (Ok (say a)) (Ok (serve g p)) h k = absurd k
+one_listing score well (Ok (say a)) (Err s) h k = absurd k
+one_listing score well (Ok (serve g p)) s h k = absurd h
+one_listing score well (Err s) t h k = absurd h
+
 -- ---- the run
 
 one_pair : (g : Grammar) (p : Performance) → IsOne (λ (r : Result (Grammar × Performance) Stop). r ≡ Ok (g, p))
@@ -129,6 +163,9 @@ one_of : (asked : Option Asked) (files : List File) → IsOne (HasOutcomeOf aske
 one_of None files r s h k = h ∙ sym k
 one_of (Some (transcribe midi grammar)) files r s h k = one_of_files IsScoring one_scoring (file_content files midi) (file_content files grammar) r s h k
 one_of (Some (edit midi grammar)) files r s h k = one_of_files IsEditing one_editing (file_content files midi) (file_content files grammar) r s h k
+one_of (Some (events kern)) files r s h k =
+    in_turn_one (IsScoreRead (file_content files kern)) IsListing (one_score_read (file_content files kern))
+    (λ score read. one_listing score (in_ranges (file_content files kern) score read)) r s h k
 
 pub one_outcome : OutcomesAreOne
 one_outcome words files = one_of (asked_by words) files

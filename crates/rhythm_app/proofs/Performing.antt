@@ -20,10 +20,12 @@ took_of : (before now : ℕ) (W P N : Type 0) (s : Stop) → (s ≡ stop.Write �
 took_of before now W P N stop.Usage write other = let ended = other (λ e. cc) in reading_took before now W P N stop.Usage ended.1 ended.0
 took_of before now W P N (stop.FileTooLong kind.Midi n) write other = let ended = other (λ e. cc) in reading_took before now W P N (stop.FileTooLong kind.Midi n) ended.1 ended.0
 took_of before now W P N (stop.FileTooLong kind.Grammar n) write other = let ended = other (λ e. cc) in reading_took before now W P N (stop.FileTooLong kind.Grammar n) ended.1 ended.0
+took_of before now W P N (stop.FileTooLong kind.Kern n) write other = let ended = other (λ e. cc) in reading_took before now W P N (stop.FileTooLong kind.Kern n) ended.1 ended.0
 took_of before now W P N (stop.FileTooLong kind.Script n) write other = let ended = other (λ e. cc) in reading_took before now W P N (stop.FileTooLong kind.Script n) ended.1 ended.0
 took_of before now W P N (stop.LineTooLong n) write other = let ended = other (λ e. cc) in reading_took before now W P N (stop.LineTooLong n) ended.1 ended.0
 took_of before now W P N (stop.Smf x) write other = let ended = other (λ e. cc) in reading_took before now W P N (stop.Smf x) ended.1 ended.0
 took_of before now W P N (stop.Grammar x) write other = let ended = other (λ e. cc) in reading_took before now W P N (stop.Grammar x) ended.1 ended.0
+took_of before now W P N (stop.Kern x) write other = let ended = other (λ e. cc) in reading_took before now W P N (stop.Kern x) ended.1 ended.0
 took_of before now W P N stop.NoNotes write other = let ended = other (λ e. cc) in reading_took before now W P N stop.NoNotes ended.1 ended.0
 took_of before now W P N (stop.TooManyNotes n) write other = let ended = other (λ e. cc) in reading_took before now W P N (stop.TooManyNotes n) ended.1 ended.0
 took_of before now W P N (stop.BadSignature m n) write other = let ended = other (λ e. cc) in reading_took before now W P N (stop.BadSignature m n) ended.1 ended.0
@@ -35,6 +37,7 @@ took_of before now W P N (stop.NoDerivation m n) write other = let ended = other
 took_of before now W P N (stop.ScoreTooLong n) write other = let ended = other (λ e. cc) in reading_took before now W P N (stop.ScoreTooLong n) ended.1 ended.0
 took_of before now W P N (stop.Read kind.Midi) write other = let ended = other (λ e. cc) in reading_took before now W P N (stop.Read kind.Midi) ended.1 ended.0
 took_of before now W P N (stop.Read kind.Grammar) write other = let ended = other (λ e. cc) in reading_took before now W P N (stop.Read kind.Grammar) ended.1 ended.0
+took_of before now W P N (stop.Read kind.Kern) write other = let ended = other (λ e. cc) in reading_took before now W P N (stop.Read kind.Kern) ended.1 ended.0
 took_of before now W P N (stop.Read kind.Script) write other = let ended = other (λ e. cc) in reading_took before now W P N (stop.Read kind.Script) ended.1 ended.0
 took_of before now W P N stop.Write write other = write refl
 took_of before now W P N stop.Memory write other = let ended = other (λ e. cc) in reading_took before now W P N stop.Memory ended.1 ended.0
@@ -80,10 +83,12 @@ module _ (fs : Option (List File)) (asked words : Option Asked) (same : asked �
   stopped_took N stop.Usage h = h
   stopped_took N (stop.FileTooLong kind.Midi n) h = h
   stopped_took N (stop.FileTooLong kind.Grammar n) h = h
+  stopped_took N (stop.FileTooLong kind.Kern n) h = h
   stopped_took N (stop.FileTooLong kind.Script n) h = moved (stop.FileTooLong kind.Script n) h
   stopped_took N (stop.LineTooLong n) h = moved (stop.LineTooLong n) h
   stopped_took N (stop.Smf x) h = h
   stopped_took N (stop.Grammar x) h = h
+  stopped_took N (stop.Kern x) h = h
   stopped_took N stop.NoNotes h = h
   stopped_took N (stop.TooManyNotes n) h = h
   stopped_took N (stop.BadSignature m n) h = h
@@ -95,6 +100,7 @@ module _ (fs : Option (List File)) (asked words : Option Asked) (same : asked �
   stopped_took N (stop.ScoreTooLong n) h = h
   stopped_took N (stop.Read kind.Midi) h = h
   stopped_took N (stop.Read kind.Grammar) h = h
+  stopped_took N (stop.Read kind.Kern) h = h
   stopped_took N (stop.Read kind.Script) h = moved (stop.Read kind.Script) h
   stopped_took N stop.Write h = λ files are. inr (moved stop.Write h files are)
   stopped_took N stop.Memory h = h

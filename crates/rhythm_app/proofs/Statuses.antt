@@ -1,7 +1,7 @@
 -- The status of a run, by what its words and files come to.
 use Rattle.std.proofs.Common.{◌≡◌, ℕ, List, inl, inr, refl, subst, Result, Ok, Err}
 use Rattle.std.specs.Prelude.{⊤, Option, Some, None}
-use Rattle.rhythm_app.specs.Asked.{Asked, transcribe, edit, asked_by}
+use Rattle.rhythm_app.specs.Asked.{Asked, transcribe, edit, events, asked_by}
 use Rattle.rhythm_app.specs.Ends.{HasRisen, HasStatus, IsAnswered, IsCause, IsComplete, IsCompleteFor, IsFailureOf, MayEnd, Reached}
 use Rattle.rhythm_app.specs.Outcome.{HasOutcome, HasOutcomeOf, Ready, say, serve}
 use Rattle.rhythm_app.specs.declared.stop.Kind.TheVariants as kind
@@ -47,6 +47,7 @@ reached_ready None files reached = absurd reached
 reached_ready (Some (transcribe midi grammar)) files reached = absurd reached
 reached_ready (Some (edit midi grammar)) files (say text, h) = absurd h.2
 reached_ready (Some (edit midi grammar)) files (serve g p, h) = (serve g p, h, tt)
+reached_ready (Some (events kern)) files reached = absurd reached
 
 may_end_4 : (ready : Ready) → Serves ready → MayEnd (Ok ready) 4
 may_end_4 (say text) serves = absurd serves
@@ -69,10 +70,12 @@ module _ (words : List (List ℕ)) (files : List File) where
   failure_status stop.Usage failed r outcome = absurd failed
   failure_status (stop.FileTooLong kind.Midi n) failed r outcome = absurd failed
   failure_status (stop.FileTooLong kind.Grammar n) failed r outcome = absurd failed
+  failure_status (stop.FileTooLong kind.Kern n) failed r outcome = absurd failed
   failure_status (stop.FileTooLong kind.Script n) failed r outcome = script_status failed r outcome
   failure_status (stop.LineTooLong n) failed r outcome = script_status failed r outcome
   failure_status (stop.Smf e) failed r outcome = absurd failed
   failure_status (stop.Grammar e) failed r outcome = absurd failed
+  failure_status (stop.Kern e) failed r outcome = absurd failed
   failure_status stop.NoNotes failed r outcome = absurd failed
   failure_status (stop.TooManyNotes n) failed r outcome = absurd failed
   failure_status (stop.BadSignature m n) failed r outcome = absurd failed
@@ -127,10 +130,12 @@ module _ (words : List (List ℕ)) (files : List File) where
     failure_complete stop.Usage failed risen ready k = absurd failed
     failure_complete (stop.FileTooLong kind.Midi n) failed risen ready k = absurd failed
     failure_complete (stop.FileTooLong kind.Grammar n) failed risen ready k = absurd failed
+    failure_complete (stop.FileTooLong kind.Kern n) failed risen ready k = absurd failed
     failure_complete (stop.FileTooLong kind.Script n) failed risen ready k = complete_script ready 4 failed k (λ g p read heard written. inr (inl refl))
     failure_complete (stop.LineTooLong n) failed risen ready k = complete_script ready 4 failed k (λ g p read heard written. inr (inl refl))
     failure_complete (stop.Smf e) failed risen ready k = absurd failed
     failure_complete (stop.Grammar e) failed risen ready k = absurd failed
+    failure_complete (stop.Kern e) failed risen ready k = absurd failed
     failure_complete stop.NoNotes failed risen ready k = absurd failed
     failure_complete (stop.TooManyNotes n) failed risen ready k = absurd failed
     failure_complete (stop.BadSignature m n) failed risen ready k = absurd failed
@@ -142,6 +147,7 @@ module _ (words : List (List ℕ)) (files : List File) where
     failure_complete (stop.ScoreTooLong n) failed risen ready k = absurd failed
     failure_complete (stop.Read kind.Midi) failed risen ready k = complete_read ready risen
     failure_complete (stop.Read kind.Grammar) failed risen ready k = complete_read ready risen
+    failure_complete (stop.Read kind.Kern) failed risen ready k = complete_read ready risen
     failure_complete (stop.Read kind.Script) failed risen ready k = complete_script ready 5 failed k (λ g p read heard written. absurd (heard risen))
     failure_complete stop.Write failed risen ready k = complete_write ready risen
     failure_complete stop.Memory failed risen ready k = complete_7 ready

@@ -29,6 +29,7 @@ content_fails asked files (stop.FileTooLong k n) failed content = absurd failed
 content_fails asked files (stop.LineTooLong n) failed content = absurd failed
 content_fails asked files (stop.Smf e) failed content = absurd failed
 content_fails asked files (stop.Grammar e) failed content = absurd failed
+content_fails asked files (stop.Kern e) failed content = absurd failed
 content_fails asked files stop.NoNotes failed content = absurd failed
 content_fails asked files (stop.TooManyNotes n) failed content = absurd failed
 content_fails asked files (stop.BadSignature m n) failed content = absurd failed
@@ -51,10 +52,12 @@ match_more : {A B C D E F : Type 0} → (A → D) → (B → E) → (C → F) �
 match_more a b d stop.Usage h = d h
 match_more a b d (stop.FileTooLong kind.Midi n) h = d h
 match_more a b d (stop.FileTooLong kind.Grammar n) h = d h
+match_more a b d (stop.FileTooLong kind.Kern n) h = d h
 match_more a b d (stop.FileTooLong kind.Script n) h = tt
 match_more a b d (stop.LineTooLong n) h = tt
 match_more a b d (stop.Smf e) h = d h
 match_more a b d (stop.Grammar e) h = d h
+match_more a b d (stop.Kern e) h = d h
 match_more a b d stop.NoNotes h = d h
 match_more a b d (stop.TooManyNotes n) h = d h
 match_more a b d (stop.BadSignature m n) h = d h
@@ -66,6 +69,7 @@ match_more a b d (stop.NoDerivation m n) h = a h
 match_more a b d (stop.ScoreTooLong n) h = a h
 match_more a b d (stop.Read kind.Midi) h = d h
 match_more a b d (stop.Read kind.Grammar) h = d h
+match_more a b d (stop.Read kind.Kern) h = d h
 match_more a b d (stop.Read kind.Script) h = tt
 match_more a b d stop.Write h = tt
 match_more a b d stop.Memory h = b h
@@ -101,6 +105,7 @@ content_read midi (stop.FileTooLong k n) failed content = absurd failed
 content_read midi (stop.LineTooLong n) failed content = absurd failed
 content_read midi (stop.Smf e) failed content = absurd failed
 content_read midi (stop.Grammar e) failed content = absurd failed
+content_read midi (stop.Kern e) failed content = absurd failed
 content_read midi stop.NoNotes failed content = absurd failed
 content_read midi (stop.TooManyNotes n) failed content = absurd failed
 content_read midi (stop.BadSignature m n) failed content = absurd failed
@@ -134,6 +139,7 @@ module _ (midi grammar : List ℕ) (files : List File) where
   pub transcribe_fails : (s : Stop) → IsReadFailure (file_content files midi) s → IsFailureOf (Some (transcribe midi grammar)) files s
   transcribe_fails (stop.Read kind.Midi) failed = tt
   transcribe_fails (stop.Read kind.Grammar) failed = failed
+  transcribe_fails (stop.Read kind.Kern) failed = absurd failed
   transcribe_fails (stop.Read kind.Script) failed = absurd failed
   transcribe_fails stop.Memory failed = refl
   transcribe_fails stop.Write failed = absurd failed
@@ -142,6 +148,7 @@ module _ (midi grammar : List ℕ) (files : List File) where
   transcribe_fails (stop.LineTooLong n) failed = absurd failed
   transcribe_fails (stop.Smf e) failed = absurd failed
   transcribe_fails (stop.Grammar e) failed = absurd failed
+  transcribe_fails (stop.Kern e) failed = absurd failed
   transcribe_fails stop.NoNotes failed = absurd failed
   transcribe_fails (stop.TooManyNotes n) failed = absurd failed
   transcribe_fails (stop.BadSignature m n) failed = absurd failed
@@ -155,6 +162,7 @@ module _ (midi grammar : List ℕ) (files : List File) where
   pub edit_fails : (s : Stop) → IsReadFailure (file_content files midi) s → IsFailureOf (Some (edit midi grammar)) files s
   edit_fails (stop.Read kind.Midi) failed = tt
   edit_fails (stop.Read kind.Grammar) failed = failed
+  edit_fails (stop.Read kind.Kern) failed = absurd failed
   edit_fails (stop.Read kind.Script) failed = absurd failed
   edit_fails stop.Memory failed = refl
   edit_fails stop.Write failed = absurd failed
@@ -163,6 +171,7 @@ module _ (midi grammar : List ℕ) (files : List File) where
   edit_fails (stop.LineTooLong n) failed = absurd failed
   edit_fails (stop.Smf e) failed = absurd failed
   edit_fails (stop.Grammar e) failed = absurd failed
+  edit_fails (stop.Kern e) failed = absurd failed
   edit_fails stop.NoNotes failed = absurd failed
   edit_fails (stop.TooManyNotes n) failed = absurd failed
   edit_fails (stop.BadSignature m n) failed = absurd failed

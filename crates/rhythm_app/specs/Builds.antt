@@ -3,7 +3,7 @@ use Rattle.std.specs.Prelude.{◌≡◌, ℕ, ◌≤◌, ◌⊎◌, List, Ok, Op
 use Rattle.std.specs.Option.{ForSome}
 use Rattle.edit_session.specs.Opening.{cells_of}
 use Rattle.performance_load.specs.Loading.{IsLoaded}
-use Rattle.rhythm_app.specs.Asked.{Asked, transcribe, edit, file_content}
+use Rattle.rhythm_app.specs.Asked.{Asked, transcribe, edit, events, file_content}
 use Rattle.rhythm_app.specs.Outcome.{midi_tests}
 use Rattle.rhythm_app.specs.declared.stop.Kind.TheVariants as kind
 use Rattle.rhythm_app.specs.declared.stop.Stop.{Stop}
@@ -17,19 +17,20 @@ use Rattle.smf_reader.specs.Played.{Smf}
 abbrev pub IsPerformanceIn : List ℕ → Performance → Type 0
 IsPerformanceIn bytes p = (f : Smf) × (midi_tests bytes ≡ Ok f) × IsLoaded f p
 
--- the performance that the command's MIDI file says
-abbrev pub IsPerformanceOf : Option Asked → List File → Performance → Type 0
-IsPerformanceOf None files p = ⊥
-IsPerformanceOf (Some (transcribe midi grammar)) files p = IsPerformanceIn (file_content files midi) p
-IsPerformanceOf (Some (edit midi grammar)) files p = IsPerformanceIn (file_content files midi) p
-
 -- all cells of that performance were built, each once
-abbrev pub HasBuiltAll : Option Asked → ℕ → ℕ → List File → Type 0
-HasBuiltAll asked old new files = (p : Performance) × IsPerformanceOf asked files p × (new ≡ risen old (cells_of p))
+abbrev pub AreAllBuilt : List ℕ → ℕ → ℕ → Type 0
+AreAllBuilt bytes old new = (p : Performance) × IsPerformanceIn bytes p × (new ≡ risen old (cells_of p))
 
 -- no more of them were built
-abbrev pub HasBuiltSome : Option Asked → ℕ → ℕ → List File → Type 0
-HasBuiltSome asked old new files = (p : Performance) × IsPerformanceOf asked files p × (new ≤ risen old (cells_of p))
+abbrev pub AreSomeBuilt : List ℕ → ℕ → ℕ → Type 0
+AreSomeBuilt bytes old new = (p : Performance) × IsPerformanceIn bytes p × (new ≤ risen old (cells_of p))
+
+-- all cells of the command's performance were built. `events` has none, and leaves the counter as it was
+abbrev pub HasBuiltAll : Option Asked → ℕ → ℕ → List File → Type 0
+HasBuiltAll None old new files = ⊥
+HasBuiltAll (Some (transcribe midi grammar)) old new files = AreAllBuilt (file_content files midi) old new
+HasBuiltAll (Some (edit midi grammar)) old new files = AreAllBuilt (file_content files midi) old new
+HasBuiltAll (Some (events kern)) old new files = new ≡ old
 
 -- what holds of the cells by the stop: all of them are built where only a derivation or room for the score is wanting, some of them
 -- may be where memory is, and none before any other stop. Where something was written before, more is known by what was written
@@ -43,7 +44,15 @@ MatchBuilds all some none (FileTooLong kind.Script _) = ⊤
 MatchBuilds all some none (LineTooLong _) = ⊤
 MatchBuilds all some none _ = none
 
--- how many cells had been built when a run stopped
+-- the same of the cells of a MIDI file
+abbrev pub HasBuiltOf : Option (List File) → List ℕ → ℕ → ℕ → Stop → Type 0
+HasBuiltOf files midi old new =
+    MatchBuilds (ForSome files (λ files. AreAllBuilt (file_content files midi) old new))
+    ((new ≡ old) ⊎ ForSome files (λ files. AreSomeBuilt (file_content files midi) old new)) (new ≡ old)
+
+-- how many cells had been built when a run stopped: none where no performance is asked for
 abbrev pub HasBuilt : Option (List File) → Option Asked → ℕ → ℕ → Stop → Type 0
-HasBuilt files asked old new =
-    MatchBuilds (ForSome files (HasBuiltAll asked old new)) ((new ≡ old) ⊎ ForSome files (HasBuiltSome asked old new)) (new ≡ old)
+HasBuilt files None old new = λ stop. new ≡ old
+HasBuilt files (Some (transcribe midi grammar)) old new = HasBuiltOf files midi old new
+HasBuilt files (Some (edit midi grammar)) old new = HasBuiltOf files midi old new
+HasBuilt files (Some (events kern)) old new = λ stop. new ≡ old

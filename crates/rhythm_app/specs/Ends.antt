@@ -3,7 +3,7 @@
 use Rattle.std.specs.Prelude.{◌≡◌, ◌≢◌, ℕ, ◌+◌, ◌⊎◌, ◌<◌, List, All, length, take, Result, Ok, Err, Option, Some, None, IsOk, IsSome, ⊤}
 use Rattle.std.specs.Io.KnownBytes.{Appends}
 use Rattle.edit_session.specs.Opening.{cells_of}
-use Rattle.rhythm_app.specs.Asked.{Asked, transcribe, edit, asked_by, file_names, file_content}
+use Rattle.rhythm_app.specs.Asked.{Asked, transcribe, edit, events, asked_by, file_names, file_content}
 use Rattle.rhythm_app.specs.Builds.{HasBuiltAll}
 use Rattle.rhythm_app.specs.Outcome.{HasOutcome, HasOutcomeOf, Ready, say, serve, midi_tests}
 use Rattle.rhythm_app.specs.Stops.{status_of, script_stop}
@@ -39,7 +39,7 @@ HasStatus words files status = (r : Result Ready Stop) → HasOutcome words file
 abbrev pub AppendsPart : Option (List ℕ) → Option (List ℕ) → List ℕ → Type 0
 AppendsPart old new text = (n : ℕ) × (n < length text) × Appends old new (take n text)
 
--- a text is the outcome; out took what W says of it, and all cells were built
+-- a text is the outcome; out took what W says of it, and all cells were built, where there are any
 abbrev pub IsSaid : Option Asked → List File → (List ℕ → Type 0) → ℕ → ℕ → Type 0
 IsSaid asked files W built built' = (text : List ℕ) × HasOutcomeOf asked files (Ok (say text)) × W text × HasBuiltAll asked built built' files
 
@@ -79,10 +79,16 @@ abbrev pub Reached : Option Asked → List File → Kind → Type 0
 Reached None files kind = ⊥
 Reached (Some (transcribe midi grammar)) files kind.Midi = ⊤
 Reached (Some (transcribe midi grammar)) files kind.Grammar = IsOk (midi_tests (file_content files midi))
+Reached (Some (transcribe midi grammar)) files kind.Kern = ⊥
 Reached (Some (transcribe midi grammar)) files kind.Script = ⊥
 Reached (Some (edit midi grammar)) files kind.Midi = ⊤
 Reached (Some (edit midi grammar)) files kind.Grammar = IsOk (midi_tests (file_content files midi))
+Reached (Some (edit midi grammar)) files kind.Kern = ⊥
 Reached (Some (edit midi grammar)) files kind.Script = (ready : Ready) × HasOutcomeOf (Some (edit midi grammar)) files (Ok ready)
+Reached (Some (events kern)) files kind.Midi = ⊥
+Reached (Some (events kern)) files kind.Grammar = ⊥
+Reached (Some (events kern)) files kind.Kern = ⊤
+Reached (Some (events kern)) files kind.Script = ⊥
 
 -- what the command and the files are where a call fails, the script is over a limit, or memory is wanted: the tests before a failed
 -- read pass, and all of them before the script is read or anything is written

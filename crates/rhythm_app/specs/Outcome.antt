@@ -1,18 +1,24 @@
 -- What the words of a command line and the bytes of the files come to: what the command is ready to write, or the first test that
 -- fails, as a stop. The tests come in this order: the words; the MIDI file's size and its faults; the grammar file's size and its
--- faults; the notes and the bars; the cells, the root symbols and the derivations; the size of a score. A failed read, a failed
--- write and want of memory are no outcomes: they may end any run.
+-- faults; the notes and the bars; the cells, the root symbols and the derivations; the size of a score. Where the command has a
+-- **kern file, after the words come its size and its faults. A failed read, a failed write and want of memory are no outcomes: they
+-- may end any run.
 use Rattle.std.specs.Prelude.{◌≡◌, ◌≢◌, ℕ, ◌+◌, ◌≤◌, ◌⊎◌, nat_le, List, length, IfOk, if◌then◌else◌, Result, Ok, Err, Option, Some, None}
 use Rattle.edit_session.specs.Opening.{CanOpen, IsOpenFault}
 use Rattle.edit_session.specs.declared.open_fault.OpenFault.{OpenFault}
 use Rattle.edit_session.specs.declared.open_fault.OpenFault.TheVariants as opening
 use Rattle.grammar_file.specs.Grammar.{grammar_of}
+use Rattle.kern_reader.specs.EventText.{events_text}
+use Rattle.kern_reader.specs.Events.{AreEvents}
+use Rattle.kern_reader.specs.Outcome.{score_of}
+use Rattle.kern_reader.specs.Score.{KernColumns}
+use Rattle.kern_reader.specs.declared.event.KernEvent.{KernEvent}
 use Rattle.kern_writer.specs.PerformanceScore.{HasTooLongText, IsTextOf}
 use Rattle.note_list.specs.declared.fault.NoteFault.TheVariants as note
 use Rattle.performance_load.specs.Loading.{Loads}
 use Rattle.performance_load.specs.declared.load_fault.LoadFault.{LoadFault}
 use Rattle.performance_load.specs.declared.load_fault.LoadFault.TheVariants as loading
-use Rattle.rhythm_app.specs.Asked.{Asked, transcribe, edit, asked_by, file_content}
+use Rattle.rhythm_app.specs.Asked.{Asked, transcribe, edit, events, asked_by, file_content}
 use Rattle.rhythm_app.specs.declared.stop.Kind.{Kind}
 use Rattle.rhythm_app.specs.declared.stop.Kind.TheVariants as kind
 use Rattle.rhythm_app.specs.declared.stop.Stop.{Stop}
@@ -31,6 +37,7 @@ use Rattle.smf_reader.specs.SmfFile.{smf}
 abbrev pub limit_of : Kind → ℕ
 limit_of kind.Midi = LONGEST_MIDI
 limit_of kind.Grammar = LONGEST_GRAMMAR
+limit_of kind.Kern = LONGEST_SCORE
 limit_of kind.Script = LONGEST_SCRIPT
 
 -- the bytes of a file that is not too long. Of a longer one, one byte more than the limit is read
@@ -53,6 +60,9 @@ midi_tests bytes = passed (sized kind.Midi bytes) (λ b. stopped stop.Smf (smf b
 unfoldable pub grammar_tests : List ℕ → Result Grammar Stop
 grammar_tests bytes = passed (sized kind.Grammar bytes) (λ b. stopped stop.Grammar (grammar_of b))
 
+unfoldable pub kern_tests : List ℕ → Result KernColumns Stop
+kern_tests bytes = passed (sized kind.Kern bytes) (λ b. stopped stop.Kern (score_of b))
+
 -- what the MIDI file comes to
 abbrev pub IsRead : List ℕ → Result Smf Stop → Type 0
 IsRead bytes r = midi_tests bytes ≡ r
@@ -60,6 +70,10 @@ IsRead bytes r = midi_tests bytes ≡ r
 -- what the grammar file comes to
 abbrev pub IsUnderstood : List ℕ → Result Grammar Stop → Type 0
 IsUnderstood bytes r = grammar_tests bytes ≡ r
+
+-- what the **kern file comes to
+abbrev pub IsScoreRead : List ℕ → Result KernColumns Stop → Type 0
+IsScoreRead bytes r = kern_tests bytes ≡ r
 
 -- ---- the performance
 
@@ -114,6 +128,14 @@ IsEditing g p (Ok (say text)) = ⊥
 IsEditing g p (Ok (serve h q)) = CanOpen g p × (h ≡ g) × (q ≡ p)
 IsEditing g p (Err s) = IsUnopened g p s
 
+-- ---- the events
+
+-- what the score of a **kern file comes to: the text of its events
+abbrev pub IsListing : KernColumns → Result Ready Stop → Type 0
+IsListing score (Ok (say text)) = (list : List KernEvent) × AreEvents score list × (text ≡ events_text list)
+IsListing score (Ok (serve g p)) = ⊥
+IsListing score (Err s) = ⊥
+
 -- ---- the run
 
 -- one test and, with what it came to, the next: both pass, or the first that fails is the outcome
@@ -134,6 +156,7 @@ abbrev pub HasOutcomeOf : Option Asked → List File → Result Ready Stop → T
 HasOutcomeOf None files r = r ≡ Err stop.Usage
 HasOutcomeOf (Some (transcribe midi grammar)) files r = AreRead (file_content files midi) (file_content files grammar) IsScoring r
 HasOutcomeOf (Some (edit midi grammar)) files r = AreRead (file_content files midi) (file_content files grammar) IsEditing r
+HasOutcomeOf (Some (events kern)) files r = AreInTurn (IsScoreRead (file_content files kern)) IsListing r
 
 -- what a command line comes to
 abbrev pub HasOutcome : List (List ℕ) → List File → Result Ready Stop → Type 0

@@ -2,10 +2,11 @@
 use Rattle.std.specs.Prelude.{ℕ, List, [], ◌∷◌, ◌++◌, codes, decimal, Option, Some, None}
 use Rattle.grammar_file.specs.declared.fault.GrammarWhat.{GrammarWhat}
 use Rattle.grammar_file.specs.declared.fault.GrammarWhat.TheVariants as what
+use Rattle.kern_reader.specs.FaultName.{fault_name}
 use Rattle.rhythm_app.specs.declared.stop.Kind.{Kind}
 use Rattle.rhythm_app.specs.declared.stop.Kind.TheVariants as kind
 use Rattle.rhythm_app.specs.declared.stop.Stop.{Stop}
-use Rattle.rhythm_app.specs.declared.stop.Stop.TheVariants.{Usage, FileTooLong, LineTooLong, Smf, Grammar, NoNotes, TooManyNotes, BadSignature, UnevenBar, TooManyBars, TooManyCells, NoStart, NoDerivation, ScoreTooLong, Read, Write, Memory}
+use Rattle.rhythm_app.specs.declared.stop.Stop.TheVariants.{Usage, FileTooLong, LineTooLong, Smf, Grammar, Kern, NoNotes, TooManyNotes, BadSignature, UnevenBar, TooManyBars, TooManyCells, NoStart, NoDerivation, ScoreTooLong, Read, Write, Memory}
 use Rattle.script_run.specs.declared.script_stop.ScriptStop.{ScriptStop}
 use Rattle.script_run.specs.declared.script_stop.ScriptStop.TheVariants as script
 use Rattle.smf_reader.specs.declared.fault.SmfFault.{SmfFault}
@@ -17,6 +18,7 @@ status_of (FileTooLong _ _) = 4
 status_of (LineTooLong _) = 4
 status_of (Smf _) = 2
 status_of (Grammar _) = 2
+status_of (Kern _) = 2
 status_of NoNotes = 2
 status_of (TooManyNotes _) = 4
 status_of (BadSignature _ _) = 2
@@ -43,6 +45,7 @@ script_stop script.Memory = Memory
 abbrev pub kind_name : Kind → List ℕ
 kind_name kind.Midi = codes "midi"
 kind_name kind.Grammar = codes "grammar"
+kind_name kind.Kern = codes "kern"
 kind_name kind.Script = codes "script"
 
 -- the name of a fault of a MIDI file, and its number, where it has one. No file has want of memory as its fault
@@ -113,6 +116,10 @@ grammar_fault_line line name None = joined_words (codes "grammar " ∷ decimal l
 grammar_fault_line line name (Some number) =
     joined_words (codes "grammar " ∷ decimal line ∷ codes " " ∷ name ∷ codes " " ∷ decimal number ∷ codes "\n" ∷ [])
 
+-- a line of the **kern file, and the name of its fault
+abbrev pub kern_fault_line : ℕ → List ℕ → List ℕ
+kern_fault_line line name = joined_words (codes "kern " ∷ decimal line ∷ codes " " ∷ name ∷ codes "\n" ∷ [])
+
 -- two numbers
 abbrev pub pair_line : List ℕ → ℕ → ℕ → List ℕ
 pair_line head first second = joined_words (head ∷ decimal first ∷ codes " " ∷ decimal second ∷ codes "\n" ∷ [])
@@ -132,6 +139,7 @@ stop_line (FileTooLong kind read) = limit_line (kind_name kind) read
 stop_line (LineTooLong read) = limit_line (codes "script-line") read
 stop_line (Smf fault) = named_line (codes "smf ") (smf_name fault) (smf_number fault)
 stop_line (Grammar fault) = grammar_fault_line fault.line (what_name fault.what) (what_number fault.what)
+stop_line (Kern fault) = kern_fault_line fault.line (fault_name fault.what)
 stop_line NoNotes = joined_words (codes "notes NoNotes\n" ∷ [])
 stop_line (TooManyNotes count) = limit_line (codes "notes") count
 stop_line (BadSignature num dd) = pair_line (codes "bars BadSignature ") num dd

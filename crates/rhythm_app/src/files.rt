@@ -1,5 +1,5 @@
 ghost use Rattle.rhythm_app.specs.Asked.{file_content};
-ghost use Rattle.rhythm_app.specs.Outcome.{IsRead, IsUnderstood, limit_of, sized, stopped};
+ghost use Rattle.rhythm_app.specs.Outcome.{IsRead, IsScoreRead, IsUnderstood, limit_of, sized, stopped};
 ghost use Rattle.rhythm_app.specs.Stages.{EndsBy, Follows, IsEarly, IsOfContent, items_of};
 ghost use Rattle.rhythm_app.specs.declared.stop.Kind.TheVariants as kind;
 ghost use Rattle.rhythm_app.specs.declared.stop.Stop.TheVariants as stop;
@@ -12,7 +12,8 @@ ghost use Rattle.std.specs.Prelude.{◌≡◌, ◌≢◌, ◌≤◌, IfErr, IfOk
 
 use crate::stop::{Kind, Stop};
 use grammar_file::{GrammarFault, GrammarWhat, read_grammar};
-use rhythm_base::{Grammar, LONGEST_GRAMMAR, LONGEST_MIDI, LONGEST_SCRIPT};
+use kern_reader::{KernFault, KernScore, KernWhat, read_kern};
+use rhythm_base::{Grammar, LONGEST_GRAMMAR, LONGEST_MIDI, LONGEST_SCORE, LONGEST_SCRIPT};
 use rhythm_ports::{ReadEnd, Shelf, read_shelf};
 use smf_reader::{Smf, SmfFault, read_smf};
 use std::alloc::Global;
@@ -24,6 +25,7 @@ fn limit(kind: Kind) -> u64
     match kind {
         Kind::Midi => LONGEST_MIDI,
         Kind::Grammar => LONGEST_GRAMMAR,
+        Kind::Kern => LONGEST_SCORE,
         Kind::Script => LONGEST_SCRIPT,
     }
 }
@@ -101,5 +103,27 @@ pub fn grammar_of<F: Shelf>(alloc: Global, shelf: &mut F, name: &str) -> Result<
             },
         ) => Err(Stop::Memory),
         Err(fault) => Err(Stop::Grammar(fault)),
+    }
+}
+
+/// The score of the **kern file.
+#[tactic(auto, unfolding(crate::specs::Outcome::kern_tests))]
+pub fn kern_of<F: Shelf>(alloc: Global, shelf: &mut F, name: &str) -> Result<KernScore, Stop>
+    ensures tests { ForSome (F.files shelf.old) (λ files. Follows (IsScoreRead (file_content files name.now)) result) }
+    ensures end { IfErr result (EndsBy kind.Kern (F.faults shelf.old) (F.faults shelf.new)) }
+    ensures later { F.faults shelf.old ≤ F.faults shelf.new }
+    ensures files { F.files shelf.new ≡ F.files shelf.old }
+    ensures strays { ForSome (F.files shelf.old) (λ files. file_of files name.now ≢ None → F.strays shelf.new ≡ F.strays shelf.old) }
+{
+    let bytes = read_file(alloc, shelf, Kind::Kern, name)?;
+    match read_kern(alloc, bytes.as_slice()) {
+        Ok(score) => Ok(score),
+        Err(
+            KernFault {
+                what: KernWhat::Memory,
+                ..
+            },
+        ) => Err(Stop::Memory),
+        Err(fault) => Err(Stop::Kern(fault)),
     }
 }

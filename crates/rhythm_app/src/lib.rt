@@ -4,6 +4,7 @@
 #![tactic(auto)]
 
 mod edit;
+mod events;
 mod files;
 mod inputs;
 mod laws;

@@ -16,6 +16,7 @@ ghost use Rattle.std.specs.Prelude.{◌≡◌, OnErr, OnOk, decimal};
 use crate::names::{kind_name, smf_name, smf_number, what_name, what_number};
 use crate::stop::Stop;
 use grammar_file::GrammarFault;
+use kern_reader::KernFault;
 use rhythm_ports::{Failed, Sink, write_all};
 use smf_reader::SmfFault;
 
@@ -131,6 +132,24 @@ fn write_grammar_fault<K: Sink>(sink: &mut K, fault: GrammarFault) -> Result<(),
     }
 }
 
+/// Writes a line of the **kern file and the name of its fault.
+fn write_kern_fault<K: Sink>(sink: &mut K, fault: KernFault) -> Result<(), Failed>
+    ensures all { OnOk result (Appends (K.taken sink.old) (K.taken sink.new) (stop_line (stop.Kern fault))) }
+    ensures part { OnErr result (AppendsPart (K.taken sink.old) (K.taken sink.new) (stop_line (stop.Kern fault))) }
+    ensures cause { HasCause (K.faults sink.old) (K.faults sink.new) result }
+{
+    write_parts(
+        sink,
+        &[
+            Part::Text("kern "),
+            Part::Number(u64::from(fault.line)),
+            Part::Text(" "),
+            Part::Text(fault.what.name()),
+            Part::Text("\n"),
+        ],
+    )
+}
+
 /// Writes the two numbers of a signature.
 fn write_signature<K: Sink>(sink: &mut K, head: &str, num: u8, dd: u8) -> Result<(), Failed>
     ensures all { OnOk result (Appends (K.taken sink.old) (K.taken sink.new) (pair_line head.now num dd)) }
@@ -199,6 +218,7 @@ fn write_stop<K: Sink>(sink: &mut K, stop: Stop) -> Result<(), Failed>
         Stop::LineTooLong { read } => write_limit(sink, "script-line", read),
         Stop::Smf(fault) => write_smf_fault(sink, fault),
         Stop::Grammar(fault) => write_grammar_fault(sink, fault),
+        Stop::Kern(fault) => write_kern_fault(sink, fault),
         Stop::NoNotes => write_text(sink, "notes NoNotes\n"),
         Stop::TooManyNotes { count } => write_limit(sink, "notes", count),
         Stop::BadSignature { num, dd } => write_signature(sink, "bars BadSignature ", num, dd),

@@ -12,6 +12,7 @@ pub fn kind_name(kind: Kind) -> &'static str
     match kind {
         Kind::Midi => "midi",
         Kind::Grammar => "grammar",
+        Kind::Kern => "kern",
         Kind::Script => "script",
     }
 }

@@ -2,6 +2,7 @@ ghost use Rattle.rhythm_app.specs.Stops.{status_of};
 ghost use Rattle.std.specs.Prelude.{◌≡◌};
 
 use grammar_file::GrammarFault;
+use kern_reader::KernFault;
 use smf_reader::SmfFault;
 
 /// Which of the command's inputs.
@@ -11,6 +12,8 @@ pub enum Kind {
     Midi,
     /// The grammar file.
     Grammar,
+    /// The **kern file.
+    Kern,
     /// The edit script, which is no file by name.
     Script,
 }
@@ -28,6 +31,8 @@ pub enum Stop {
     Smf(SmfFault),
     /// The first fault of the grammar file.
     Grammar(GrammarFault),
+    /// The first line of the **kern file with a fault.
+    Kern(KernFault),
     /// The MIDI file has no note.
     NoNotes,
     /// The MIDI file has more than 65,536 notes: this many.
@@ -63,6 +68,7 @@ impl Stop {
             Stop::Usage => 1,
             Stop::Smf(_)
             | Stop::Grammar(_)
+            | Stop::Kern(_)
             | Stop::NoNotes
             | Stop::BadSignature { .. }
             | Stop::UnevenBar { .. }

@@ -21,6 +21,7 @@ ghost use Rattle.std.specs.Option.{ForSome};
 ghost use Rattle.std.specs.Prelude.{◌≡◌, ◌≢◌, ◌≤◌, ◌↔◌, Err, IfErr, None, OnOk};
 
 use crate::edit::edit;
+use crate::events::events;
 use crate::line::write_line;
 use crate::request::{Request, request_of};
 use crate::stop::Stop;
@@ -63,14 +64,15 @@ fn perform<R: Threads + Sync, F: Shelf, S: Source, O: Sink, G: Gate + Sync, B: T
         None => Err(Stop::Usage),
         Some(Request::Transcribe(names)) => transcribe(rt, alloc, names, shelf, out, gate, builds),
         Some(Request::Edit(names)) => edit(rt, alloc, names, shelf, script, out, gate, builds),
+        Some(Request::Events(kern)) => events(alloc, kern, shelf, out),
     }
 }
 
 /// Does what the words ask for, and answers how it ended.
 ///
-/// 0: the score is written, or the script is answered. 1: the words are no command. 2: a file is refused, or has no bars of notes
-/// that the grammar has root symbols for. 3: no derivation fits. 4: a quantity is above its limit. 5: a read failed. 6: a write
-/// failed. 7: there was not enough memory; in a script this comes only before its first line is answered.
+/// 0: the score or the events are written, or the script is answered. 1: the words are no command. 2: a file is refused, or has no
+/// bars of notes that the grammar has root symbols for. 3: no derivation fits. 4: a quantity is above its limit. 5: a read failed.
+/// 6: a write failed. 7: there was not enough memory; in a script this comes only before its first line is answered.
 pub fn run<R: Threads + Sync, F: Shelf, S: Source, O: Sink, E: Sink, G: Gate + Sync, B: Tag>(
     rt: &R,
     alloc: Global,
@@ -90,14 +92,14 @@ pub fn run<R: Threads + Sync, F: Shelf, S: Source, O: Sink, E: Sink, G: Gate + S
     ensures status { ForSome (F.files shelf.old) (λ files. HasStatus words.now files result) }
 
     // With 0 out took the text that is the outcome, or the replies to all lines of the script; and all cells of the performance were
-    // built once, and then those for the edits.
+    // built once, and then those for the edits. `events` builds none.
     ensures done { result ≡ 0 → ForSome (F.files shelf.old) (λ files.
         IsAnswered (asked_by words.now) files (S.rest script.old) (S.rest script.new) (O.taken out.old) (O.taken out.new) builds.old builds.new) }
 
     // With 0 err took nothing. Else it took the line of the stop, or a first part of it where a call of err failed. That stop is the
     // outcome or a failure, which is named only where it came. After a failed write out took a first part of what it takes with 0;
     // where the script could not be read or is over a limit, the replies to the lines before; and else nothing, and no byte of
-    // the script is read. It says how many cells had been built.
+    // the script is read. It says how many cells had been built: none by `events`, however it ends.
     ensures silent { result ≡ 0 → err.new ≡ err.old }
     ensures line { result ≢ 0 → (stop : Stop) × (status_of stop ≡ result)
         × Reports (E.taken err.old) (E.taken err.new) (E.faults err.old) (E.faults err.new) (stop_line stop)
