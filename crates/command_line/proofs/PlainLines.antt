@@ -2,7 +2,8 @@
 use Rattle.std.proofs.Common.{◌≡◌, ◌≤◌, ◌+◌, ◌==◌, ℕ, zero, suc, take, Bool, ◌||◌, ◌&&◌, true, false, refl, sym, ap, subst, arith, List, [], ◌∷◌, ◌++◌, Option, Some, None, codes}
 use Rattle.std.specs.List.{count_by, fold, list_all, position_or_len}
 use Rattle.std.specs.Prelude.{if◌then◌else◌, option_map}
-use Rattle.std.proofs.lemmas.Bool.{and_parts}
+use Rattle.std.proofs.lemmas.Bool.{and_parts, not-true}
+use Rattle.std.specs.Cmp.Derive.{both_true}
 use Rattle.std.proofs.lemmas.List.Sums.{sum_by-cons}
 use Rattle.std.proofs.lemmas.Slice.Eq.{bytes_eq-Decides}
 use Rattle.clap.specs.Walk.{Row, has_row, settled_rows, with_default}
@@ -16,7 +17,7 @@ use Rattle.command_line.specs.Requests.{asks, has_free, is_dashes, is_help, is_v
 use Rattle.command_line.specs.declared.invocation.Invocation.TheVariants.{Command}
 use Rattle.command_line.proofs.Rows.{Text}
 use Rattle.command_line.proofs.Taking.{faultless, no_defaults}
-use Rattle.command_line.proofs.Walks.{WalkEnds, IsFree, Pending, a_word, an_option, is_after_option, is_hyphenless, is_plain, not_true, nothing, pending_of, walk_at, rows_with, built_shape, walk_ends}
+use Rattle.command_line.proofs.Walks.{WalkEnds, IsFree, Pending, a_word, an_option, is_after_option, is_hyphenless, is_plain, nothing, pending_of, walk_at, rows_with, built_shape, walk_ends}
 
 -- ---- after the walk
 
@@ -54,9 +55,6 @@ plain_matches words plain =
 
 -- ---- plain words by a test
 
-both_true : (a b : Bool) → a ≡ true → b ≡ true → (a && b) ≡ true
-both_true a b e f = rw (e, f) refl
-
 -- how often the option stands, from the first word on
 counted : (word : Text) (words : List Text) → count_by is_workers (word ∷ words) ≡ (if is_workers word then 1 else 0) + count_by is_workers words
 counted word words = sum_by-cons (λ w. if is_workers w then 1 else 0) word words
@@ -72,7 +70,7 @@ all_hyphenless (word ∷ words) few others =
     go : (b : Bool) → (if b then 1 else 0) + count_by is_workers words ≤ 0 → (b || is_hyphenless word) ≡ true
         → (count_by is_workers words ≤ 0 → list_all is_hyphenless words ≡ true) → (is_hyphenless word && list_all is_hyphenless words) ≡ true
     go true few first later = absurd (omega (arith, few))
-    go false few first later = both_true (is_hyphenless word) (list_all is_hyphenless words) first (later (omega (arith, few)))
+    go false few first later = both_true first (later (omega (arith, few)))
 
 plain_test : (words : List Text) → ArePlainWords words → is_plain words ≡ true
 plain_test [] plain = refl
@@ -89,7 +87,7 @@ plain_test (word ∷ words) plain =
     go true e [] once followed first others later = absurd (followed [] (ap (λ (w : Text). w ∷ []) ((bytes_eq-Decides word (codes "--workers")).0 e)))
     go true e (n ∷ ws) once followed first others later = all_hyphenless (n ∷ ws) (omega (arith, once)) others
     go false e ws once followed first others later =
-        both_true (is_hyphenless word) (is_plain ws) first (later (omega (arith, once)) (λ before same. followed (word ∷ before) (ap (λ (rest : List Text). word ∷ rest) same)))
+        both_true first (later (omega (arith, once)) (λ before same. followed (word ∷ before) (ap (λ (rest : List Text). word ∷ rest) same)))
 
 -- ---- plain words ask for nothing
 
@@ -110,7 +108,7 @@ flags_of test not_option not_plain word e = go (is_workers word) refl e
   where
     go : (b : Bool) → is_workers word ≡ b → (b || is_hyphenless word) ≡ true → test word ≡ false
     go true same e = subst (λ (w : Text). test w ≡ false) (sym ((bytes_eq-Decides word (codes "--workers")).0 same)) not_option
-    go false same e = not_plain word (not_true (begins_with_hyphen word) e)
+    go false same e = not_plain word (not-true (begins_with_hyphen word) e)
 
 no_help : (word : Text) → begins_with_hyphen word ≡ false → is_help word ≡ false
 no_help [] e = refl

@@ -2,7 +2,7 @@
 use Rattle.std.proofs.Common.{◌≡◌, ◌∙◌, ◌==◌, Bool, ◌&&◌, not, true, false, true≢false, refl, sym, ap, subst, List, [], ◌∷◌, ◌++◌, append_assoc, append-nil, Option, Some, None, codes}
 use Rattle.std.specs.List.{fold, list_all}
 use Rattle.std.specs.Prelude.{⊤, drop, if◌then◌else◌, slice_get}
-use Rattle.std.proofs.lemmas.Bool.{and_parts}
+use Rattle.std.proofs.lemmas.Bool.{and_parts, not-true}
 use Rattle.std.proofs.lemmas.Slice.Eq.{bytes_eq-Decides}
 use Rattle.clap.specs.Walk.{Row, Waiting, Walk, first_of, has_row, idle, option, positional, walked}
 use Rattle.clap.specs.Simple.{Shape, built}
@@ -105,10 +105,6 @@ pub record WalkEnds (p : Pending) (rows : List Row) (words said : List Text) (op
 abbrev pub is_hyphenless : Text → Bool
 is_hyphenless word = not (begins_with_hyphen word)
 
-pub not_true : (b : Bool) → not b ≡ true → b ≡ false
-not_true true e = absurd (true≢false (sym e))
-not_true false e = refl
-
 -- no fault where no word is left
 no_words : (w : Walk) → walk_fault built_shape [] w [] ≡ []
 unfolding walk_fault
@@ -129,7 +125,7 @@ plain_walk [] plain p rows said option_word free words_are option_is = record {
 }
 plain_walk (word ∷ words) plain p rows said option_word free words_are option_is =
     let both = and_parts (is_hyphenless word) (list_all is_hyphenless words) plain in
-    let step = step_word p rows word free (not_true (begins_with_hyphen word) both.0) in
+    let step = step_word p rows word free (not-true (begins_with_hyphen word) both.0) in
     let rest = plain_walk words both.1 (a_word word) (rows_with p rows) (said ++ word ∷ []) option_word tt
     (words-with_word AsWritten word (rows_with p rows) ∙ ap (λ (ws : List Text). ws ++ word ∷ []) words_are)
     (option-with_word AsWritten word (rows_with p rows) ∙ option_is) in
@@ -161,7 +157,7 @@ option_walk [] plain p rows said free none words_are = absurd (true≢false (sym
 option_walk (n ∷ words) plain p rows said free none words_are =
     let both = and_parts (is_hyphenless n) (list_all is_hyphenless words) plain in
     let first = step_option p rows free in
-    let second = step_value (rows_with p rows) n (not_true (begins_with_hyphen n) both.0) in
+    let second = step_value (rows_with p rows) n (not-true (begins_with_hyphen n) both.0) in
     let says = option-with_option AsWritten n (rows_with p rows) none in
     let rest = plain_walk words both.1 (an_option n) (rows_with p rows) said (Some n) none (says.1 ∙ words_are) says.0 in
     record {
@@ -209,4 +205,4 @@ walk_ends (word ∷ words) plain p rows said free none words_are option_is =
         let same : codes "--workers" ≡ word = sym ((bytes_eq-Decides word (codes "--workers")).0 e) in
         subst (λ (w : Text). WalkEnds p rows (w ∷ words) (said ++ drop 1 words) (slice_get words 0)) same (after plain)
     go false e plain after before =
-        let both = and_parts (is_hyphenless word) (is_plain words) plain in before (not_true (begins_with_hyphen word) both.0) both.1
+        let both = and_parts (is_hyphenless word) (is_plain words) plain in before (not-true (begins_with_hyphen word) both.0) both.1
