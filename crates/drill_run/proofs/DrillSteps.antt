@@ -1,5 +1,5 @@
 -- One edit of a drill: what it leaves is well formed, and is decided.
-use Rattle.std.proofs.Common.{◌≡◌, ℕ, zero, suc, ◌+◌, ◌≤◌, ◌<◌, ◌⊎◌, inl, inr, List, [], ◌∷◌, length, refl, sym, ap, ◌∙◌, subst, arith, Some, Ok}
+use Rattle.std.proofs.Common.{◌≡◌, ℕ, zero, suc, ◌+◌, ◌≤◌, inl, inr, List, [], ◌∷◌, length, sym, ap, ◌∙◌, subst, arith, Some, Ok}
 use Rattle.std.specs.Prelude.{Contains}
 use Rattle.rhythm_base.specs.declared.edit.Edit.{Edit}
 use Rattle.rhythm_base.specs.declared.edit_fault.EditFault.{EditFault}
@@ -8,11 +8,11 @@ use Rattle.rhythm_base.specs.Grammar.{Grammar}
 use Rattle.rhythm_base.specs.Performance.{IsWellFormed, Performance}
 use Rattle.rhythm_base.specs.Reached.{AreReached}
 use Rattle.rhythm_base.specs.Script.{EditOutcome, IsMade, IsOutcome, IsRefused, made, refused}
-use Rattle.rhythm_base.specs.Voices.{HasDerivation, IsCostOf, IsLeastCost, IsSumOfCosts}
+use Rattle.rhythm_base.specs.Voices.{HasDerivation, IsCostOf, IsSumOfCosts}
 use Rattle.rhythm_laws.proofs.OneAnswers.{dead_has_none, one_reached}
 use Rattle.edit_laws.proofs.Edited.{edited_formed}
 use Rattle.rhythm_gen.specs.DrillEdit.{drill_edit}
-use Rattle.drill_run.specs.Drill.{Drilled, IsCounted, IsStep}
+use Rattle.drill_run.specs.Drill.{Drilled, IsCounted, IsDrilledTo, IsStep}
 use Rattle.drill_run.proofs.EditKinds.{drill_range, kind_of}
 
 -- ---- well formed
@@ -27,6 +27,13 @@ step_formed g number e old new besides formed step = by step.outcome step.comes
     by : (outcome : EditOutcome) → IsOutcome g old.performance step.edit outcome new.performance → IsWellFormed new.performance
     by (refused fault) (is, stays) = subst IsWellFormed (sym stays) formed
     by (made reached cost) (cells, is, count) = kept_formed number e old.performance new.performance step.edit formed step.is is.made
+
+pub drilled_formed : (g : Grammar) (number : ℕ) (p : Performance) → IsWellFormed p → (e : ℕ) (last : Drilled) (besides : ℕ) → IsDrilledTo g number p e last besides
+    → IsWellFormed last.performance
+unfolding IsDrilledTo
+drilled_formed g number p formed zero last besides h = subst (λ (d : Drilled). IsWellFormed d.performance) (sym h.0) formed
+drilled_formed g number p formed (suc e) last besides (before, m, n, first, step, sum) =
+    step_formed g number e before last n (drilled_formed g number p formed e before m first) step
 
 -- ---- one outcome
 

@@ -1,14 +1,12 @@
 -- The edits of a drill so far, and one more.
-use Rattle.std.proofs.Common.{◌≡◌, ℕ, ◌+◌, ◌≤◌, ◌<◌, refl, sym, ap, ◌∙◌, subst, arith, Some}
+use Rattle.std.proofs.Common.{◌≡◌, ℕ, ◌+◌, refl, sym, subst, arith}
 use Rattle.std.proofs.Math.Numerals.{add-one}
-use Rattle.rhythm_base.specs.declared.edit.Edit.{Edit}
 use Rattle.rhythm_base.specs.Counter.{risen}
 use Rattle.rhythm_base.specs.Grammar.{Grammar}
 use Rattle.rhythm_base.specs.Performance.{Performance}
-use Rattle.rhythm_gen.specs.DrillEdit.{drill_edit}
 use Rattle.drill_run.specs.declared.drill.TheConstants.{DRILL_EDITS}
-use Rattle.drill_run.specs.Drill.{Drilled, IsDrilledTo, IsStep, IsWithinReach, undrilled}
-use Rattle.drill_run.specs.Ends.{HasDrilled, IsBrokenOff, IsSaid}
+use Rattle.drill_run.specs.Drill.{Drilled, IsDrilledTo, IsStep, undrilled}
+use Rattle.drill_run.specs.Ends.{IsBrokenOff}
 use Rattle.drill_run.proofs.Tries.{standing}
 
 -- a drill stands there after its first edits, and a counter rose from one number to another

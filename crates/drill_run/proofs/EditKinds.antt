@@ -1,5 +1,5 @@
 -- The kinds of edits that a drill makes, and that one which is made is in range.
-use Rattle.std.proofs.Common.{◌≡◌, ℕ, zero, suc, ◌+◌, ◌%◌, ◌==◌, ◌<◌, ◌≤◌, Bool, true, false, if◌then◌else◌, ◌&&◌, ◌||◌, ◌⊎◌, inl, inr, List, [], ◌∷◌, length, refl, sym, ap, subst, arith, Option, Some, None, Ok}
+use Rattle.std.proofs.Common.{◌≡◌, ℕ, zero, suc, ◌+◌, ◌%◌, ◌==◌, ◌<◌, ◌≤◌, Bool, true, false, if◌then◌else◌, ◌&&◌, ◌||◌, ◌⊎◌, inl, inr, List, [], ◌∷◌, length, refl, sym, subst, arith, Option, Some, None, Ok}
 use Rattle.std.specs.List.{list_any}
 use Rattle.std.specs.Prelude.{All, Contains, find, max, nat_le, nat_lt, option_map, slice_get}
 use Rattle.std.proofs.Math.Nat.{mod-lt}
@@ -10,10 +10,10 @@ use Rattle.rhythm_base.specs.declared.edit.Edit.{Edit}
 use Rattle.rhythm_base.specs.declared.note.Bar.{Bar}
 use Rattle.rhythm_base.specs.declared.note.Note.{Note}
 use Rattle.rhythm_base.specs.Barlines.{barline, barline_after}
-use Rattle.rhythm_base.specs.Edits.{IsEditInRange, edit_tests, edited, first_refusal, has_note, is_moved_past, is_note, is_past, moved_to, note_at, performance_after}
+use Rattle.rhythm_base.specs.Edits.{IsEditInRange, edit_tests, edited, first_refusal, is_moved_past, is_note, is_past, moved_to, note_at, performance_after}
 use Rattle.rhythm_base.specs.Performance.{IsBarOf, IsNoteOf, IsWellFormed, Performance}
 use Rattle.rhythm_gen.specs.Draws.{draw}
-use Rattle.rhythm_gen.specs.DrillEdit.{added_note, delayed, drill_edit, dropped, edit_by, moved_note}
+use Rattle.rhythm_gen.specs.DrillEdit.{added_note, delayed, drill_edit, dropped, moved_note}
 use Rattle.edit_laws.proofs.Edited.{all_pass, made, not_false}
 use Rattle.rhythm_laws.proofs.OrderedLists.{all_head, all_tail}
 

@@ -1,5 +1,5 @@
 -- What an edit of a drill keeps: the number of bars, the last barline, and all notes but one that it drops.
-use Rattle.std.proofs.Common.{◌≡◌, ℕ, zero, suc, ◌+◌, ◌*◌, ◌%◌, ◌==◌, ◌<◌, ◌≤◌, Bool, true, false, not, if◌then◌else◌, ◌⊎◌, inl, inr, List, [], ◌∷◌, length, refl, sym, ap, ◌∙◌, subst, arith, Option, Some, None, Ok}
+use Rattle.std.proofs.Common.{◌≡◌, ℕ, ◌+◌, ◌*◌, ◌%◌, ◌==◌, ◌<◌, ◌≤◌, Bool, true, false, not, if◌then◌else◌, ◌⊎◌, inl, inr, List, [], ◌∷◌, length, refl, sym, ap, subst, arith, Some, None}
 use Rattle.std.specs.Cmp.Lexicographic.{slice_cmp}
 use Rattle.std.specs.Ordering.{nat_cmp}
 use Rattle.std.specs.Prelude.{All, AllPairs, filter}
@@ -8,17 +8,16 @@ use Rattle.std.proofs.lemmas.Bool.Decides.{eqb_tells, nat_tests}
 use Rattle.std.proofs.lemmas.List.Elements.{filter_passes}
 use Rattle.std.proofs.lemmas.List.Filters.{length-filter_both}
 use Rattle.std.proofs.lemmas.List.Kept.{AllPairs-filter}
-use Rattle.rhythm_base.specs.declared.edit.Edit.TheVariants.{Add, Drop, Move, Barline}
 use Rattle.rhythm_base.specs.declared.edit.Edit.{Edit}
 use Rattle.rhythm_base.specs.declared.note.Note.{Note}
-use Rattle.rhythm_base.specs.Edits.{edit_tests, edited, first_refusal, is_note, moved_to, note_at, performance_after, put_moved, with_barline, without_note}
+use Rattle.rhythm_base.specs.Edits.{edit_tests, first_refusal, is_note, moved_to, note_at, performance_after, put_moved, without_note}
 use Rattle.rhythm_base.specs.Grammar.{Grammar}
 use Rattle.rhythm_base.specs.Performance.{IsWellFormed, Performance, place_of_note}
 use Rattle.rhythm_base.specs.Script.{EditOutcome, IsOutcome, made, refused}
 use Rattle.edit_laws.proofs.BarEdits.{length-with_barline}
 use Rattle.edit_laws.proofs.Edited.{made as made_passes}
 use Rattle.edit_laws.proofs.EditedCounts.{length-put}
-use Rattle.drill_run.specs.Drill.{Drilled, IsCounted, IsStep}
+use Rattle.drill_run.specs.Drill.{Drilled, IsStep}
 use Rattle.drill_run.proofs.EditKinds.{IsKind, kind_of, moved_inside}
 
 -- ---- one note fewer
@@ -45,24 +44,25 @@ one_fewer p channel key onset w =
 
 -- ---- an edit
 
--- as many bars, the same last barline, and no note fewer, or one where the number of the edit leaves 1 over fours
+-- the same voices, as many bars, the same last barline, and no note fewer, or one where the number of the edit leaves 1 over fours
 pub record Keeps (e : ℕ) (p q : Performance) : Type 0 where
+  pub voices : q.channels ≡ p.channels
   pub bars : length q.bars ≡ length p.bars
   pub last : q.last ≡ p.last
   pub notes : (length p.notes ≤ length q.notes) ⊎ ((e % 4 ≡ 1) × (length p.notes ≤ length q.notes + 1))
 
 unchanged : (e : ℕ) (p : Performance) → Keeps e p p
-unchanged e p = record { bars = refl; last = refl; notes = inl (omega arith) }
+unchanged e p = record { voices = refl; bars = refl; last = refl; notes = inl (omega arith) }
 
 module _ (e : ℕ) (p : Performance) (w : IsWellFormed p) where
   after : (edit : Edit) → IsKind e p edit → first_refusal (edit_tests p edit) ≡ None → Keeps e p (performance_after p edit)
   after edit (inl (channel, key, onset, until, low, small, is)) passes =
       let n : Note = record { channel = channel; key = key; onset = onset; end = until } in
       let more = length-put place_of_note n p.notes in
-      subst (λ (x : Edit). Keeps e p (performance_after p x)) (sym is) (record { bars = refl; last = refl; notes = inl (omega (arith, more)) })
+      subst (λ (x : Edit). Keeps e p (performance_after p x)) (sym is) (record { voices = refl; bars = refl; last = refl; notes = inl (omega (arith, more)) })
   after edit (inr (inl (k, n, there, turn, is))) passes =
       let fewer = one_fewer p n.channel n.key n.onset w in
-      subst (λ (x : Edit). Keeps e p (performance_after p x)) (sym is) (record { bars = refl; last = refl; notes = inr (turn, fewer) })
+      subst (λ (x : Edit). Keeps e p (performance_after p x)) (sym is) (record { voices = refl; bars = refl; last = refl; notes = inr (turn, fewer) })
   after edit (inr (inr (inl (k, n, there, is)))) passes =
       let to = n.onset + 30 in
       let one = moved_inside p n.channel n.key n.onset to (subst (λ (x : Edit). first_refusal (edit_tests p x) ≡ None) is passes) in
@@ -70,9 +70,9 @@ module _ (e : ℕ) (p : Performance) (w : IsWellFormed p) where
       let fewer = one_fewer p n.channel n.key n.onset w in
       let more = length-put place_of_note (moved_to to one.0) rest in
       let same : length (put_moved to (note_at p.notes n.channel n.key n.onset) rest) ≡ length (put_moved to (Some one.0) rest) = ap (λ o. length (put_moved to o rest)) one.1 in
-      subst (λ (x : Edit). Keeps e p (performance_after p x)) (sym is) (record { bars = refl; last = refl; notes = inl (omega (arith, fewer, more, same)) })
+      subst (λ (x : Edit). Keeps e p (performance_after p x)) (sym is) (record { voices = refl; bars = refl; last = refl; notes = inl (omega (arith, fewer, more, same)) })
   after edit (inr (inr (inr (bar, tick, some, few, is)))) passes =
-      subst (λ (x : Edit). Keeps e p (performance_after p x)) (sym is) (record { bars = length-with_barline bar tick p.bars; last = kept (eqb_tells bar (length p.bars)); notes = inl (omega arith) })
+      subst (λ (x : Edit). Keeps e p (performance_after p x)) (sym is) (record { voices = refl; bars = length-with_barline bar tick p.bars; last = kept (eqb_tells bar (length p.bars)); notes = inl (omega arith) })
     where
       kept : (((bar == length p.bars) ≡ true) × (bar ≡ length p.bars)) ⊎ (((bar == length p.bars) ≡ false) × (bar ≡ length p.bars → ⊥)) → (if bar == length p.bars then tick else p.last) ≡ p.last
       kept (inl is) = absurd (omega (arith, few, is.1))

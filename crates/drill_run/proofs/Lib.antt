@@ -3,6 +3,8 @@ pub mod DrillSteps
 pub mod OneDrill
 pub mod Reach
 pub mod Keeps
+pub mod KeptBars
 pub mod Tries
 pub mod Drills
 pub mod Pieces
+pub mod Worked

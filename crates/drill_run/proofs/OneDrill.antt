@@ -1,6 +1,6 @@
 -- A drill comes to one end.
 use Rattle.std.proofs.Common.{◌≡◌, ℕ, zero, suc, ◌≤◌, List, length, sym, ap, ◌∙◌, subst, Result, Ok, Err}
-use Rattle.kern_writer.specs.PerformanceScore.{HasTooLongText, IsScoreOf, IsTextOf}
+use Rattle.kern_writer.specs.PerformanceScore.{HasTooLongText, IsTextOf}
 use Rattle.kern_writer.specs.Score.{Score}
 use Rattle.kern_writer.specs.Text.{IsScoreText, IsTooLong}
 use Rattle.kern_writer.proofs.OneScore.{scores_one}
@@ -15,24 +15,18 @@ use Rattle.drill_run.specs.declared.figures.Figures.{Figures}
 use Rattle.drill_run.specs.Drill.{Drilled, IsDrilledTo, IsStep}
 use Rattle.drill_run.specs.Ends.{IsDrillOf, IsSaid}
 use Rattle.drill_run.specs.Laws.{DrillsAreOne}
-use Rattle.drill_run.specs.Summary.{AreFigures, IsSummary, summary_text}
-use Rattle.drill_run.proofs.DrillSteps.{one_step, step_formed}
+use Rattle.drill_run.specs.Summary.{AreFigures, summary_text}
+use Rattle.drill_run.proofs.DrillSteps.{drilled_formed, one_step}
 
 -- ---- the edits
 
 module _ (g : Grammar) (number : ℕ) (p : Performance) (some : 1 ≤ g.resolution) (formed : IsWellFormed p) where
-  pub drilled_formed : (e : ℕ) (last : Drilled) (besides : ℕ) → IsDrilledTo g number p e last besides → IsWellFormed last.performance
-  unfolding IsDrilledTo
-  drilled_formed zero last besides h = subst (λ (d : Drilled). IsWellFormed d.performance) (sym h.0) formed
-  drilled_formed (suc e) last besides (before, m, n, first, step, sum) =
-      step_formed g number e before last n (drilled_formed e before m first) step
-
   pub one_drilled : (e : ℕ) (last last' : Drilled) (besides besides' : ℕ) → IsDrilledTo g number p e last besides → IsDrilledTo g number p e last' besides' → last ≡ last'
   unfolding IsDrilledTo
   one_drilled zero last last' besides besides' h k = h.0 ∙ sym k.0
   one_drilled (suc e) last last' besides besides' (before, m, n, first, step, sum) (before', m', n', first', step', sum') =
       let same = one_drilled e before before' m m' first first' in
-      one_step g number e before last last' n n' some (drilled_formed e before m first) step
+      one_step g number e before last last' n n' some (drilled_formed g number p formed e before m first) step
       (subst (λ (d : Drilled). IsStep g number e d last' n') (sym same) step')
 
 -- ---- the end
@@ -83,5 +77,5 @@ drills_one = record {
     said : (g : Grammar) (number : ℕ) (p : Performance) (a b : Result (List ℕ) ℕ) → IsReadable g → IsWellFormed p → IsDrillOf g number p a → IsDrillOf g number p b → a ≡ b
     said g number p a b readable formed (last, besides, to, end) (last', besides', to', end') =
         let same = one_drilled g number p readable.ranges.some_unit formed DRILL_EDITS last last' besides besides' to to' in
-        one_said g last readable (drilled_formed g number p readable.ranges.some_unit formed DRILL_EDITS last besides to) a b end
+        one_said g last readable (drilled_formed g number p formed DRILL_EDITS last besides to) a b end
         (subst (λ (d : Drilled). IsSaid g d b) (sym same) end')

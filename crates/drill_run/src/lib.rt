@@ -12,5 +12,5 @@ mod summary;
 pub use drill::{DRILL_EDITS, run_drill};
 pub use drill_stop::DrillStop;
 pub use figures::Figures;
-pub use laws::drills_are_one;
+pub use laws::{drills_are_one, drills_keep_bars};
 pub use piece::{DRILL_BARS, made_performance};

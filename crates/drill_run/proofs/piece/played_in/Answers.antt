@@ -1,4 +1,4 @@
-use Rattle.std.proofs.Common.{◌<◌, arith, Ok, Err, Result, IfOk, List, ℕ, ◌≡◌}
+use Rattle.std.proofs.Common.{◌<◌, arith}
 use Rattle.std.proofs.lemmas.List.Elements.{All-from_get_or}
 use Rattle.drill_run.proofs.Pieces.{range_of}
 use Rattle.drill_run.proofs.piece.played_in.Goals as goal

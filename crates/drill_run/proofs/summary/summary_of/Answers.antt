@@ -1,4 +1,4 @@
-use Rattle.std.proofs.Common.{rules, ◌≡◌, ◌*◌, ◌≤◌, ◌∙◌, arith, refl, ap, length}
+use Rattle.std.proofs.Common.{◌*◌, ◌≤◌, ◌∙◌, arith, refl, ap, length}
 use Rattle.std.proofs.Math.Nat.{mul-le-mul}
 use Rattle.edit_session.proofs.Channels.{few_channels}
 use Rattle.drill_run.specs.declared.figures.Figures.{Figures}

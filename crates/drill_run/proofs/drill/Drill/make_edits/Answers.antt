@@ -1,4 +1,4 @@
-use Rattle.std.proofs.Common.{rules, ◌≡◌, ◌+◌, ◌∙◌, arith, refl}
+use Rattle.std.proofs.Common.{◌∙◌, arith, refl}
 use Rattle.drill_run.proofs.Drills.{at_start, went_on}
 use Rattle.drill_run.proofs.Keeps.{keeps_enough, step_keeps}
 use Rattle.drill_run.proofs.Tries.{standing}

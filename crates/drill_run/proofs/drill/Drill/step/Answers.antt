@@ -1,7 +1,7 @@
-use Rattle.std.proofs.Common.{rules, ◌≡◌, ◌+◌, arith, refl, subst, Some}
+use Rattle.std.proofs.Common.{◌≡◌, arith, refl, subst, Some}
 use Rattle.rhythm_base.specs.Performance.{Performance}
 use Rattle.rhythm_gen.specs.DrillEdit.{drill_edit}
-use Rattle.drill_run.proofs.Tries.{accepted_step, any_edit, reached_few, refused_step}
+use Rattle.drill_run.proofs.Tries.{accepted_step, reached_few, refused_step}
 use Rattle.drill_run.proofs.drill.Drill.step.Goals as goal
 
 pub overflow_add-self-in-Ok : goal.overflow_add-self-in-Ok
