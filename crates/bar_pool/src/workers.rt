@@ -63,7 +63,8 @@ fn build_drawn<G: Gate, B: Tag>(
         }
         order.gate.pass(number);
         let number = number as usize;
-        let table = build_cell(alloc, order.grammar, &inputs[number], builds)?;
+        let input = &inputs[number];
+        let table = build_cell(alloc, order.grammar, input, builds)?;
         tables.push((number, table))?;
     }
 }
