@@ -1,22 +1,25 @@
 //! Builds the tables of stated bars, over and over where that is asked for, and prints what the least trees cost. With no
 //! words it builds each stated bar once. The words GROUP ONSETS TIMES name the grammar, the number of chords of the bar and
-//! how often its table is built: a longer run less a shorter one gives the time of a table. With a fourth word, WORKERS, the
-//! tables are those of so many equal bars, and are built by so many workers, 1 to 16.
+//! how often its table is built: a longer run less a shorter one gives the time of a table. With the word `alternatives` before
+//! them the 16 best trees of the bar are listed so often in place of its table, with nothing round it, and with the word
+//! `carried` between bars to which chords may be carried.
 #![tactic(auto)]
 
+ghost use Rattle.std.specs.Prelude.{◌≡◌, IfOk};
+
 mod bars;
+mod best_trees;
 mod grammars;
 
-use bar_pool::{MOST_WORKERS, build_cells};
-use bars::{bar_of, bars_of};
+use bar_alternatives::Alternative;
+use bars::bar_of;
+use best_trees::{Around, best_trees, print_trees};
 use grammars::Group;
 use least_cost::{BarTable, Steps, build_cell};
-use rhythm_base::Tag;
-use rhythm_ports::OpenGate;
+use rhythm_base::{BarInput, Grammar, Tag};
 use std::alloc::Global;
 use std::env;
 use std::io::{self, ErrorKind};
-use std::thread::Threads;
 
 /// What the builds of this program are counted for.
 #[derive(Clone, Copy)]
@@ -47,35 +50,54 @@ struct Task {
     group: Group,
     onsets: u32,
     times: u32,
-    /// By how many workers; none where one table is built after another without them.
-    workers: Option<u32>,
 }
 
-/// The words after the program's name, where they are a task.
-fn task_of(words: &[String]) -> Option<Task> {
+/// What is done over and over: the table of the bar is built, or its best trees are listed.
+#[derive(Clone, Copy)]
+enum Work {
+    Table,
+    BestTrees(Around),
+}
+
+/// The task of these words.
+fn task_of(group: &str, onsets: &str, times: &str) -> Option<Task> {
+    Some(Task {
+        group: Group::named(group)?,
+        onsets: onsets.parse::<u32>().ok()?,
+        times: times.parse::<u32>().ok()?,
+    })
+}
+
+/// The words after the program's name, where they are a task, and what is done.
+fn asked_of(words: &[String]) -> Option<(Work, Task)> {
     match words {
-        [group, onsets, times] => Some(Task {
-            group: Group::named(group.as_str())?,
-            onsets: onsets.as_str().parse::<u32>().ok()?,
-            times: times.as_str().parse::<u32>().ok()?,
-            workers: None,
-        }),
-        [group, onsets, times, workers] => Some(Task {
-            group: Group::named(group.as_str())?,
-            onsets: onsets.as_str().parse::<u32>().ok()?,
-            times: times.as_str().parse::<u32>().ok()?,
-            workers: Some(workers.as_str().parse::<u32>().ok()?),
-        }),
+        [group, onsets, times] => {
+            let task = task_of(group.as_str(), onsets.as_str(), times.as_str())?;
+            Some((Work::Table, task))
+        }
+        [work, group, onsets, times] => {
+            let around = Around::named(work.as_str())?;
+            let task = task_of(group.as_str(), onsets.as_str(), times.as_str())?;
+            Some((Work::BestTrees(around), task))
+        }
         _ => None,
     }
+}
+
+/// The bar of the task.
+fn bar_for(alloc: Global, grammar: &Grammar, task: Task) -> io::Result<BarInput>
+    ensures { IfOk result (λ b. b.resolution ≡ grammar.now.resolution) }
+{
+    let Some(bar) = bar_of(alloc, grammar.resolution, task.onsets)? else {
+        return Err(io::Error::from(ErrorKind::InvalidInput));
+    };
+    Ok(bar)
 }
 
 /// Builds the table so often and keeps the last.
 fn build(alloc: Global, task: Task) -> io::Result<Option<BarTable>> {
     let grammar = task.group.grammar(alloc)?;
-    let Some(bar) = bar_of(alloc, grammar.resolution, task.onsets)? else {
-        return Err(io::Error::from(ErrorKind::InvalidInput));
-    };
+    let bar = bar_for(alloc, &grammar, task)?;
     let mut builds = Steps::<Benchmark>::zero();
     let mut last = None;
     for _ in 0..task.times {
@@ -84,23 +106,15 @@ fn build(alloc: Global, task: Task) -> io::Result<Option<BarTable>> {
     Ok(last)
 }
 
-/// Builds the tables of so many equal bars by the workers, and keeps the last.
-fn build_by<R: Threads + Sync>(
-    rt: &R,
-    alloc: Global,
-    task: Task,
-    workers: u32,
-) -> io::Result<Option<BarTable>> {
-    if workers < 1 || workers > MOST_WORKERS {
-        return Err(io::Error::from(ErrorKind::InvalidInput));
-    }
+/// Lists the best trees so often and keeps the last list.
+fn list_trees(alloc: Global, task: Task, around: Around) -> io::Result<Vec<Alternative>> {
     let grammar = task.group.grammar(alloc)?;
-    let Some(bars) = bars_of(alloc, grammar.resolution, task.onsets, task.times)? else {
-        return Err(io::Error::from(ErrorKind::InvalidInput));
-    };
-    let mut builds = Steps::<Benchmark>::zero();
-    let mut tables = build_cells(rt, alloc, &grammar, bars.as_slice(), workers, &OpenGate, &mut builds)?;
-    Ok(tables.pop())
+    let bar = bar_for(alloc, &grammar, task)?;
+    let mut last = Vec::new(alloc);
+    for _ in 0..task.times {
+        last = best_trees(alloc, &grammar, &bar, around)?;
+    }
+    Ok(last)
 }
 
 /// The cost of each entry, by the numbers of chords carried in and out.
@@ -120,15 +134,17 @@ fn print_costs(rt: &impl Print, table: &BarTable) -> io::Result<()> {
     println!(rt;)
 }
 
-fn run<R: Print + Threads + Sync>(rt: &R, alloc: Global, task: Task) -> io::Result<()> {
+fn run(rt: &impl Print, alloc: Global, work: Work, task: Task) -> io::Result<()> {
     print!(rt; "{} {}:", task.group.name(), task.onsets)?;
-    let last = match task.workers {
-        None => build(alloc, task)?,
-        Some(workers) => build_by(rt, alloc, task, workers)?,
-    };
-    match last {
-        None => println!(rt; " not built"),
-        Some(table) => print_costs(rt, &table),
+    match work {
+        Work::Table => match build(alloc, task)? {
+            None => println!(rt; " not built"),
+            Some(table) => print_costs(rt, &table),
+        },
+        Work::BestTrees(around) => {
+            let list = list_trees(alloc, task, around)?;
+            print_trees(rt, alloc, list.as_slice())
+        }
     }
 }
 
@@ -138,8 +154,8 @@ fn main(rt: HostRuntime) -> io::Result<()> {
     for word in env::args(&rt)?.skip(1) {
         words.push(word)?;
     }
-    if let Some(task) = task_of(words.as_slice()) {
-        return run(&rt, alloc, task);
+    if let Some((work, task)) = asked_of(words.as_slice()) {
+        return run(&rt, alloc, work, task);
     }
     if !words.is_empty() {
         return Err(io::Error::from(ErrorKind::InvalidInput));
@@ -148,11 +164,11 @@ fn main(rt: HostRuntime) -> io::Result<()> {
         run(
             &rt,
             alloc,
+            Work::Table,
             Task {
                 group: *group,
                 onsets: *onsets,
                 times: 1,
-                workers: None,
             },
         )?;
     }
