@@ -2,6 +2,7 @@
 use Rattle.std.proofs.Common.{◌≡◌, ℕ, ◌<◌, ◌≤◌, ◌+◌, inl, inr, List, [], ◌∷◌, ◌++◌, length, sym, ap, ◌∙◌, subst, arith}
 use Rattle.std.specs.Prelude.{All, None, Some, slice_get}
 use Rattle.std.proofs.Math.Seq.{get_or-append_seam}
+use Rattle.std.proofs.Math.ListN.{get_or-append}
 use Rattle.std.proofs.lemmas.List.{length-append}
 use Rattle.std.proofs.lemmas.List.Elements.{All-push}
 use Rattle.std.proofs.lemmas.Option.{get_or_from_slice_get, slice_get-get_or, slice_get_within}
@@ -16,11 +17,13 @@ use Rattle.least_cost.specs.Nodes.{ground_of}
 use Rattle.bar_alternatives.specs.declared.memo.Asked.{Asked}
 use Rattle.bar_alternatives.specs.declared.memo.Family.{Family}
 use Rattle.bar_alternatives.specs.declared.memo.Found.{Found}
+use Rattle.bar_alternatives.specs.declared.memo.LastParts.{LastParts}
+use Rattle.bar_alternatives.specs.declared.memo.LastParts.TheVariants.{One, Several}
 use Rattle.bar_alternatives.specs.declared.memo.Site.{Site}
 use Rattle.bar_alternatives.specs.declared.memo.Site.TheVariants.{From, Inner as Through, Silent}
 use Rattle.bar_alternatives.specs.Grids.{ranking_at}
-use Rattle.bar_alternatives.specs.Memos.{AddsFound, HasFound, LiesAt}
-use Rattle.bar_alternatives.specs.Nodes.{AreBestForests, AreFound, IsAnswer, IsAnswerAt, IsAnswerOf, IsOf, IsWithin}
+use Rattle.bar_alternatives.specs.Memos.{AddsFound, AreThere, HasFound, IsGridOf, KeepsFound, LiesAt}
+use Rattle.bar_alternatives.specs.Nodes.{AreBestForests, AreBestLast, AreFound, IsAnswer, IsAnswerAt, IsAnswerOf, IsOf, IsWithin}
 use Rattle.bar_alternatives.proofs.Firsts.{first-same}
 
 -- ---- intervals that are answered alike
@@ -96,3 +99,31 @@ answer-low g k count xs asked n a = slice_get_within xs n a.0 a.1
 pub answered : (g : Grammar) (k : BarInput) (count : ℕ) (xs : List Found) (asked : Asked) (n : ℕ) (grid : List (List Key)) → IsAnswerAt g k count xs asked n
     → ((x : Found) → slice_get xs n ≡ Some x → x.grid ≡ grid) → IsAnswer g k count asked grid
 answered g k count xs asked n grid a is = subst (IsAnswer g k count asked) (is a.0 a.1) a.2
+
+-- ---- what stays found
+
+pub kept_through : (xs ys zs : List Found) → KeepsFound xs ys → KeepsFound ys zs → KeepsFound xs zs
+kept_through xs ys zs f g n x at = g n x (f n x at)
+
+pub kept-add : (xs ys : List Found) (family : Family) (grid : List (List Key)) → AddsFound xs ys family grid → KeepsFound xs ys
+kept-add xs ys family grid new n y at =
+    let low : n < length xs = slice_get_within xs n y at in
+    let all : List Found = xs ++ new.0 ∷ [] in
+    let long = length-append xs (new.0 ∷ []) in
+    let here : n < length all = omega (arith, low, long) in
+    ap (λ l. slice_get l n) new.1 ∙ slice_get-get_or all n y here ∙ ap (λ (z : Found). Some z) (get_or-append xs (new.0 ∷ []) y n low ∙ get_or_from_slice_get xs n y y at)
+
+-- ---- the last parts of a cut
+
+module _ (d : Ground) (count : ℕ) (p : ℕ) (qs : List (ℕ × ℕ)) where
+  pub last-kept : (xs ys : List Found) (parts : LastParts) → KeepsFound xs ys → AreBestLast d count xs p qs parts → AreBestLast d count ys p qs parts
+  last-kept xs ys (One n) keeps (x, at, best) = (x, keeps n x at, best)
+  last-kept xs ys (Several own) keeps best = best
+
+  pub last-there : (xs : List Found) (parts : LastParts) → AreBestLast d count xs p qs parts → AreThere xs parts
+  last-there xs (One n) (x, at, best) = slice_get_within xs n x at
+  last-there xs (Several own) best = tt
+
+  pub last-grid : (xs : List Found) (parts : LastParts) (grid : List (List Key)) → AreBestLast d count xs p qs parts → IsGridOf xs parts grid → AreBestForests d count p qs grid
+  last-grid xs (One n) grid (x, at, best) is = subst (AreBestForests d count p qs) (is x at) best
+  last-grid xs (Several own) grid best is = subst (AreBestForests d count p qs) is best

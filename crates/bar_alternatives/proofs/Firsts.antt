@@ -7,7 +7,7 @@ use Rattle.std.specs.Ordering.{nat_cmp, ordering_then, is_lt}
 use Rattle.std.specs.declared.cmp.Ordering.{Ordering}
 use Rattle.std.specs.declared.cmp.Ordering.TheVariants.{Less, Equal, Greater}
 use Rattle.std.proofs.lemmas.Cmp.{tied_itself}
-use Rattle.std.proofs.lemmas.List.{length-map, length-take}
+use Rattle.std.proofs.lemmas.List.{append_assoc, length-map, length-take}
 use Rattle.std.proofs.lemmas.List.Elements.{All-take, All-weaker}
 use Rattle.std.proofs.lemmas.List.Kept.{AllPairs-cons}
 use Rattle.rhythm_base.specs.Ranked.{Key, is_before, list_cmp, plus}
@@ -315,6 +315,13 @@ plus_right x y z h =
     ap (λ o. is_lt (ordering_then (nat_cmp (x.0 + y.0) (x.0 + z.0)) o)) lists
     ∙ less_by (x.0 + y.0) (x.0 + z.0) (list_cmp y.1 z.1) (elim (less_means y.0 z.0 (list_cmp y.1 z.1) h) [ inl less ↦ inl (omega (arith, less)) | inr same ↦ inr (ap (λ n. x.0 + n) same.0, same.1) ])
 
+-- what is before costs no more
+pub before_cost : (x y : Key) → IsBefore x y → x.0 ≤ y.0
+before_cost x y h = elim (less_means x.0 y.0 (list_cmp x.1 y.1) h) [ inl less ↦ (let low = less in omega (arith, low)) | inr same ↦ (let even = same.0 in omega (arith, even)) ]
+
+pub cheap_before : (x y : Key) → x.0 < y.0 → IsBefore x y
+cheap_before x y h = less_by x.0 y.0 (list_cmp x.1 y.1) (inl h)
+
 -- the same on the right, and what is before on the left, where lists are no beginnings of one another
 plus_left : (x z y : Key) → Parse x.1 z.1 → IsBefore x z → IsBefore (plus x y) (plus z y)
 plus_left x z y p h =
@@ -342,6 +349,54 @@ mapped_order f (x ∷ xs) keeps h =
     (mapped_all (IsBefore (f x)) f xs (all_by (λ y. IsBefore (f x) (f y)) xs (λ y c. keeps x y (contains_first x xs) (contains_later y x xs c) (all_contained (IsBefore x) xs y after c))))
     (mapped_order f xs (λ y z c d. keeps y z (contains_later y x xs c) (contains_later z x xs d)) (pairs_tail IsBefore x xs h))
 
+contains_mapped : (f : Key → Key) (xs : List Key) (x : Key) → Contains xs x → Contains (map f xs) (f x)
+contains_mapped f [] x c = absurd (omega (arith, c.1))
+contains_mapped f (y ∷ ys) x c = elim (contains_split x y ys c) [
+  | inl same ↦ subst (λ z. Contains (f y ∷ map f ys) (f z)) same (contains_first (f y) (map f ys))
+  | inr later ↦ contains_later (f x) (f y) (map f ys) (contains_mapped f ys x later)
+]
+
+-- a key of the set with another before it
+abbrev pub IsTopped : (Key → Type 0) → Key → Key → Type 0
+IsTopped T x k = (y : Key) × T y × (k ≡ plus x y)
+
+-- the first of a set are the first with a key before each
+pub first-mapped : (T : Key → Type 0) (n : ℕ) (top : Key) (xs : List Key) → AreFirst T n xs → AreFirst (IsTopped T top) n (map (plus top) xs)
+first-mapped T n top xs h = record {
+  are = mapped_all (IsTopped T top) (plus top) xs (All-weaker T (λ x. IsTopped T top (plus top x)) (λ x t. (x, t, refl)) xs h.are);
+  in_order = mapped_order (plus top) xs (λ y z c d less. plus_right top y z less) h.in_order;
+  few = let few = h.few in let same = length-map xs (plus top) in omega (arith, few, same);
+  first = λ k s. elim (h.first s.0 s.1) [
+    | inl there ↦ inl (subst (Contains (map (plus top) xs)) (sym s.2) (contains_mapped (plus top) xs s.0 there))
+    | inr full ↦ inr (
+      length-map xs (plus top) ∙ full.0,
+      mapped_all (λ z. IsBefore z k) (plus top) xs (λ i d lt. subst (IsBefore (plus top (get_or xs i d))) (sym s.2) (plus_right top (get_or xs i d) s.0 (full.1 i d lt))),
+    )
+  ];
+}
+
+-- with one list before them, lists are no beginnings of one another where they were none
+same_top : (t x y : List ℕ) → list_cmp (t ++ x) (t ++ y) ≡ list_cmp x y
+same_top t x y = long_parse t t refl x y ∙ ap (λ o. ordering_then o (list_cmp x y)) (tied_itself nat_list_cmp_total t)
+
+parse_topped : (t x y : List ℕ) → Parse x y → Parse (t ++ x) (t ++ y)
+parse_topped t x y p u v =
+    (λ i. list_cmp (append_assoc t x u i) (append_assoc t y v i)) ∙ same_top t (x ++ u) (y ++ v) ∙ p u v ∙ ap (λ o. ordering_then o (list_cmp u v)) (sym (same_top t x y))
+
+pub topped-parse : (T : Key → Type 0) (top : Key) → ((k l : Key) → T k → T l → Parse k.1 l.1) → (k l : Key) → IsTopped T top k → IsTopped T top l → Parse k.1 l.1
+topped-parse T top parse k l (x, s, is) (y, t, is') =
+    subst (λ (z : Key). Parse z.1 l.1) (sym is) (subst (λ (z : Key). Parse (top.1 ++ x.1) z.1) (sym is') (parse_topped top.1 x.1 y.1 (parse x y s t)))
+
+pub plus_assoc : (x y z : Key) → plus (plus x y) z ≡ plus x (plus y z)
+plus_assoc x y z =
+    let sum : (x.0 + y.0) + z.0 ≡ x.0 + (y.0 + z.0) = omega arith in
+    λ i. (sum i, append_assoc x.1 y.1 z.1 i)
+
+pub plus_nothing : (x : Key) → plus (0, []) x ≡ x
+plus_nothing x =
+    let same : 0 + x.0 ≡ x.0 = omega arith in
+    λ i. (same i, x.1)
+
 -- one key before all of a set
 pub first-topped : (U T : Key → Type 0) (n : ℕ) (x : Key) (ys acc : List Key) → AreFirst T n ys → AreFirst U n acc → AreFirst (λ k. U k ⊎ ((y : Key) × T y × (k ≡ plus x y))) n (all_offered n (map (plus x) ys) acc)
 first-topped U T n x ys acc right h =
@@ -367,9 +422,6 @@ first-topped U T n x ys acc right h =
 -- the first keys on the left, one after the other, before all of a set
 abbrev IsHalf : (Key → Type 0) → List Key → Key → Type 0
 IsHalf T xs k = (x : Key) × Contains xs x × ((y : Key) × T y × (k ≡ plus x y))
-
-abbrev IsTopped : (Key → Type 0) → Key → Key → Type 0
-IsTopped T x k = (y : Key) × T y × (k ≡ plus x y)
 
 first-half : (T : Key → Type 0) (n : ℕ) (ys : List Key) → AreFirst T n ys → (xs : List Key) (U : Key → Type 0) (acc : List Key) → AreFirst U n acc → AreFirst (λ k. U k ⊎ IsHalf T xs k) n (sums_offered n xs ys acc)
 first-half T n ys right [] U acc h = first-same U (λ k. U k ⊎ IsHalf T [] k) n acc (λ k u. inl u) (λ k s. elim s [ inl u ↦ u | inr i ↦ absurd (omega (arith, i.1.1)) ]) h

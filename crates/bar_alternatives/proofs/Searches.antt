@@ -1,5 +1,5 @@
 -- What the search has at each of its steps.
-use Rattle.std.proofs.Common.{◌≡◌, ℕ, ◌<◌, ◌≤◌, ◌+◌, ◌&&◌, ◌==◌, Bool, true, false, List, [], ◌∷◌, length, map, refl, sym, ap, ap₂, ◌∙◌, subst, arith}
+use Rattle.std.proofs.Common.{◌≡◌, ◌⊎◌, ℕ, ◌<◌, ◌≤◌, ◌+◌, ◌&&◌, ◌==◌, Bool, true, false, List, [], ◌∷◌, length, map, refl, sym, ap, ap₂, ◌∙◌, subst, arith}
 use Rattle.std.specs.Prelude.{None, Some, slice_get, if◌then◌else◌}
 use Rattle.std.proofs.lemmas.Bool.Decides.{nat_tests}
 use Rattle.rhythm_base.specs.declared.rule.Ending.{Ending}
@@ -13,11 +13,12 @@ use Rattle.rhythm_base.specs.Leaves.{in_bar}
 use Rattle.rhythm_base.specs.Line.{agrees}
 use Rattle.rhythm_base.specs.Ranked.{Key, plus}
 use Rattle.rhythm_base.specs.Trees.{BarLeaf, suits}
+use Rattle.rhythm_laws.specs.Forests.{IsForestKey}
 use Rattle.rhythm_laws.specs.Places.{FitsAt}
 use Rattle.rhythm_laws.specs.Rows.{IsOneBelow}
 use Rattle.rhythm_laws.specs.Shares.{AreBelow}
 use Rattle.rhythm_laws.proofs.Ranks.{both}
-use Rattle.rhythm_laws.proofs.Shares.{below-wide}
+use Rattle.rhythm_laws.proofs.Shares.{below-wide, children-whole}
 use Rattle.least_cost.specs.Nodes.{IsReady, ending_at, ground_of, rule_ending}
 use Rattle.least_cost.specs.Nodes as Narrow
 use Rattle.least_cost.specs.RuleChoices.{IsRuleKey}
@@ -30,8 +31,9 @@ use Rattle.bar_alternatives.specs.declared.memo.Asked.{Asked}
 use Rattle.bar_alternatives.specs.Firsts.{AreFirst, AreKept, all_offered, offered}
 use Rattle.bar_alternatives.specs.Grids.{AreAllAddable, HasLists, joined, ranking_at}
 use Rattle.bar_alternatives.specs.Nodes.{AreBestBelow, AreBestForests, HasNoLeaf, IsAnswer, IsLeafHere, IsWithin, is_leaf_at}
+use Rattle.bar_alternatives.proofs.Firsts.{IsTopped}
 use Rattle.bar_alternatives.proofs.Rules.{leaf_back, leaf_there, unsuited_none}
-use Rattle.bar_alternatives.proofs.Steps.{below-none, below-skip, cut-next, first-kept, forests-joined, forests-addable, one-next, rules-all}
+use Rattle.bar_alternatives.proofs.Steps.{below-none, below-skip, cut-next, first-kept, forests-joined, forests-addable, forests-topped, one-next, rules-all}
 
 -- ---- before any rule, and after all
 
@@ -111,12 +113,17 @@ module _ (g : Grammar) (k : BarInput) (ready : IsReady g k) (count : ℕ) (asked
 
   -- ---- a cut
 
-  pub best-cut : ending_of rule.body ≡ None → (kids old new : List (List Key)) → AreBestForests (ground_of g k) count asked.place (children rule.body asked.width) kids
-      → HasLists (λ a b. all_offered count (map (plus (rule.weight, i ∷ [])) (ranking_at kids a b)) (ranking_at old a b)) new
-      → AreBestBelow g k count asked i old → AreBestBelow g k count asked (i + 1) new
-  best-cut cuts kids old new best is h a b la lb =
-      subst (AreFirst (IsOneBelow (λ r. IsRuleKey (ground_of g k) None asked.place (asked.width, asked.symbol) r a b) (i + 1)) count) (sym (is a b la lb))
-      (cut-next (ground_of g k) asked.place (asked.width, asked.symbol) count i a b rule at suit (cut_body rule.body asked.place asked.width cuts) (ranking_at kids a b) (ranking_at old a b) (best a b la lb) (h a b la lb))
+  pub best-cut : ending_of rule.body ≡ None → IsWithin k asked → (q : ℕ × ℕ) (qs : List (ℕ × ℕ)) → children rule.body asked.width ≡ q ∷ qs → AreBelow asked.width (q ∷ qs) → (left right old new : List (List Key))
+      → AreBestForests (ground_of g k) count asked.place (q ∷ []) left → AreBestForests (ground_of g k) count (asked.place + q.0) qs right
+      → HasLists (λ a b. joined count (rule.weight, i ∷ []) left right a b (ranking_at old a b)) new → AreBestBelow g k count asked i old → AreBestBelow g k count asked (i + 1) new
+  best-cut cuts within q qs kids below left right old new own others is h a b la lb =
+      let d = ground_of g k in
+      let Below : Key → Type 0 = IsOneBelow (λ r. IsRuleKey d None asked.place (asked.width, asked.symbol) r a b) i in
+      let all = joined count (rule.weight, i ∷ []) left right a b (ranking_at old a b) in
+      subst (AreFirst (IsOneBelow (λ r. IsRuleKey d None asked.place (asked.width, asked.symbol) r a b) (i + 1)) count) (sym (is a b la lb))
+      (cut-next d asked.place (asked.width, asked.symbol) count i a b rule at suit (cut_body rule.body asked.place asked.width cuts) all
+      (subst (λ qs. AreFirst (λ key. Below key ⊎ IsTopped (IsForestKey d None asked.place qs a b) (rule.weight, i ∷ []) key) count all) (sym kids)
+      (forests-topped d (grounded g k ready) count asked.place q qs (below-wide asked.width (q ∷ qs) below) left right own others (rule.weight, i ∷ []) Below (ranking_at old a b) (h a b la lb) a b la lb)))
 
 -- ---- the parts of a cut
 
@@ -126,7 +133,7 @@ module _ (g : Grammar) (k : BarInput) (ready : IsReady g k) where
       forests-addable (ground_of g k) (grounded g k ready) (bounds g k ready) count p qs grid (below-wide w qs below) (let units : g.resolution ≡ k.resolution = ready.units in omega (arith, units, within)) h
 
   pub beside-joined : (count p w : ℕ) (q : ℕ × ℕ) (qs : List (ℕ × ℕ)) (left right all : List (List Key)) → AreBelow w (q ∷ qs) → AreBestForests (ground_of g k) count p (q ∷ []) left
-      → AreBestForests (ground_of g k) count (p + q.0) qs right → HasLists (joined count left right) all → AreBestForests (ground_of g k) count p (q ∷ qs) all
+      → AreBestForests (ground_of g k) count (p + q.0) qs right → HasLists (λ a b. joined count (0, []) left right a b []) all → AreBestForests (ground_of g k) count p (q ∷ qs) all
   beside-joined count p w q qs left right all below own others is =
       forests-joined (ground_of g k) (grounded g k ready) count p q qs (below-wide w (q ∷ qs) below) left right own others all is
 
@@ -143,6 +150,12 @@ module _ (g : Grammar) (k : BarInput) (ready : IsReady g k) where
 
     pub parts_within : asked.place + sizes (children rule.body asked.width) ≤ k.resolution
     parts_within = cut_sizes g k ready as_narrow within_narrow number rule at suit cuts
+
+    pub parts_some : 2 ≤ length (children rule.body asked.width)
+    parts_some =
+        let suited : suits (Some rule) (asked.width, asked.symbol) ≡ true = ap (λ o. suits o (asked.width, asked.symbol)) (sym at) ∙ suit in
+        let own : ending_of rule.body ≡ None = ap rule_ending (sym at) ∙ cuts in
+        (children-whole rule.body asked.place asked.width within.wide (both (rule.lhs == asked.symbol) _ suited).1 (cut_body rule.body asked.place asked.width own)).1
 
     pub parts_few : length (children rule.body asked.width) ≤ 16
     parts_few = cut_few g k ready as_narrow within_narrow number rule at suit cuts

@@ -20,7 +20,7 @@ use Rattle.least_cost.proofs.Bounds.{IsBounded, stands-cheap}
 use Rattle.bar_alternatives.specs.Firsts.{AreFirst, AreKept, all_offered, offered, sums_offered}
 use Rattle.bar_alternatives.specs.Grids.{AreAllAddable, HasLists, joined, joined_below, ranking_at}
 use Rattle.bar_alternatives.specs.Nodes.{AreBestForests}
-use Rattle.bar_alternatives.proofs.Firsts.{first-joined, first-none, first-offered, first-same, first-topped}
+use Rattle.bar_alternatives.proofs.Firsts.{IsTopped, first-joined, first-mapped, first-none, first-offered, first-same, plus_assoc, plus_nothing, topped-parse}
 use Rattle.bar_alternatives.proofs.Rules.{cut_back, cut_there, rule_back, rule_there}
 
 -- ---- one set more
@@ -51,14 +51,14 @@ module _ (d : Ground) (p : ℕ) (q : ℕ × ℕ) (n i a b : ℕ) where
   abbrev Below : ℕ → Key → Type 0
   Below = IsOneBelow (λ r. IsRuleKey d None p q r a b)
 
-  pub cut-next : (rule : Rule) → slice_get d.book.rules i ≡ Some rule → suits (Some rule) q ≡ true → leaf_of rule.body p q.0 ≡ [] → (ys xs : List Key)
-      → AreFirst (IsForestKey d None p (children rule.body q.0) a b) n ys → AreFirst (Below i) n xs → AreFirst (Below (i + 1)) n (all_offered n (map (plus (rule.weight, i ∷ [])) ys) xs)
-  cut-next rule at suit cut ys xs kids h =
-      below-next (λ r. IsRuleKey d None p q r a b) n i (all_offered n (map (plus (rule.weight, i ∷ [])) ys) xs)
-      (first-same (λ k. Below i k ⊎ ((y : Key) × IsForestKey d None p (children rule.body q.0) a b y × (k ≡ plus (rule.weight, i ∷ []) y))) (λ k. Below i k ⊎ IsRuleKey d None p q i a b k) n (all_offered n (map (plus (rule.weight, i ∷ [])) ys) xs)
+  pub cut-next : (rule : Rule) → slice_get d.book.rules i ≡ Some rule → suits (Some rule) q ≡ true → leaf_of rule.body p q.0 ≡ [] → (xs : List Key)
+      → AreFirst (λ k. Below i k ⊎ IsTopped (IsForestKey d None p (children rule.body q.0) a b) (rule.weight, i ∷ []) k) n xs → AreFirst (Below (i + 1)) n xs
+  cut-next rule at suit cut xs h =
+      below-next (λ r. IsRuleKey d None p q r a b) n i xs
+      (first-same (λ k. Below i k ⊎ IsTopped (IsForestKey d None p (children rule.body q.0) a b) (rule.weight, i ∷ []) k) (λ k. Below i k ⊎ IsRuleKey d None p q i a b k) n xs
       (λ k s. elim s [ inl x ↦ inl x | inr y ↦ inr (cut_back d p q i a b rule at suit cut k y) ])
       (λ k s. elim s [ inl x ↦ inl x | inr w ↦ inr (cut_there d p q i a b rule at suit cut k w) ])
-      (first-topped (Below i) (IsForestKey d None p (children rule.body q.0) a b) n (rule.weight, i ∷ []) ys xs kids h))
+      h)
 
   -- the rule of one tree alone
   pub one-next : (key : Key) (xs : List Key) → ((k : Key) → IsRuleKey d None p q i a b k → k ≡ key) → IsRuleKey d None p q i a b key → AreFirst (Below i) n xs → AreFirst (Below (i + 1)) n (offered n key xs)
@@ -74,27 +74,63 @@ module _ (d : Ground) (p : ℕ) (q : ℕ × ℕ) (n i a b : ℕ) where
 
 -- ---- trees side by side
 
+-- one set more in a union
+union-next : (W : ℕ → Key → Type 0) (U : Key → Type 0) (n i : ℕ) (xs : List Key) → AreFirst (λ k. (U k ⊎ IsOneBelow W i k) ⊎ W i k) n xs → AreFirst (λ k. U k ⊎ IsOneBelow W (i + 1) k) n xs
+union-next W U n i xs h = first-same (λ k. (U k ⊎ IsOneBelow W i k) ⊎ W i k) (λ k. U k ⊎ IsOneBelow W (i + 1) k) n xs there back h
+  where
+    there : (k : Key) → (U k ⊎ IsOneBelow W i k) ⊎ W i k → U k ⊎ IsOneBelow W (i + 1) k
+    there k (inl (inl u)) = inl u
+    there k (inl (inr x)) = inr (x.0, omega (arith, x.1), x.2)
+    there k (inr w) = inr (i, omega arith, w)
+
+    back : (k : Key) → U k ⊎ IsOneBelow W (i + 1) k → (U k ⊎ IsOneBelow W i k) ⊎ W i k
+    back k (inl u) = inl (inl u)
+    back k (inr x) = elim (last x.0 i (omega (arith, x.1))) [ inl low ↦ inl (inr (x.0, low, x.2)) | inr same ↦ inr (subst (λ m. W m k) same x.2) ]
+
 module _ (d : Ground) (ground : IsGround d) (n p : ℕ) (q : ℕ × ℕ) (qs : List (ℕ × ℕ)) (wide : AreWide (q ∷ qs)) (left right : List (List Key))
     (own : AreBestForests d n p (q ∷ []) left) (others : AreBestForests d n (p + q.0) qs right) where
-  abbrev Meets : ℕ → ℕ → ℕ → Key → Type 0
-  Meets a b m = Both (IsForestKey d None p (q ∷ []) a m) (IsForestKey d None (p + q.0) qs m b)
+  module _ (top : Key) (U : Key → Type 0) (old : List Key) (before : AreFirst U n old) (a b : ℕ) (la : a < 5) (lb : b < 5) where
+    -- a tree on the left, with the top before it, and others on the right, with m chords between them
+    abbrev Meets : ℕ → Key → Type 0
+    Meets m = Both (IsTopped (IsForestKey d None p (q ∷ []) a m) top) (IsForestKey d None (p + q.0) qs m b)
 
-  below : (a b m : ℕ) → a < 5 → b < 5 → m ≤ 5 → AreFirst (IsOneBelow (Meets a b) m) n (joined_below n left right a b m)
-  below a b zero la lb lm = below-none (Meets a b) n
-  below a b (suc m) la lb lm =
-      let next : m + 1 ≡ suc m = omega arith in
-      let low : m < 5 = omega (arith, lm) in
-      subst (λ j. AreFirst (IsOneBelow (Meets a b) j) n (sums_offered n (ranking_at left a m) (ranking_at right m b) (joined_below n left right a b m))) next
-      (below-next (Meets a b) n m (sums_offered n (ranking_at left a m) (ranking_at right m b) (joined_below n left right a b m))
-      (first-joined (IsOneBelow (Meets a b) m) (IsForestKey d None p (q ∷ []) a m) (IsForestKey d None (p + q.0) qs m b) n (ranking_at left a m) (ranking_at right m b) (own a m la low) (others m b low lb)
-      (λ k l s t. keys-parse d None p (q ∷ []) a m m k l s t) (joined_below n left right a b m) (below a b m la lb (omega (arith, lm)))))
+    below : (m : ℕ) → m ≤ 5 → AreFirst (λ k. U k ⊎ IsOneBelow Meets m k) n (joined_below n top left right a b old m)
+    below zero lm = first-same U (λ k. U k ⊎ IsOneBelow Meets 0 k) n old (λ k u. inl u) (λ k s. elim s [ inl u ↦ u | inr x ↦ absurd (omega (arith, x.1)) ]) before
+    below (suc m) lm =
+        let next : m + 1 ≡ suc m = omega arith in
+        let low : m < 5 = omega (arith, lm) in
+        let all = joined_below n top left right a b old m in
+        let firsts = map (plus top) (ranking_at left a m) in
+        subst (λ j. AreFirst (λ k. U k ⊎ IsOneBelow Meets j k) n (sums_offered n firsts (ranking_at right m b) all)) next
+        (union-next Meets U n m (sums_offered n firsts (ranking_at right m b) all)
+        (first-joined (λ k. U k ⊎ IsOneBelow Meets m k) (IsTopped (IsForestKey d None p (q ∷ []) a m) top) (IsForestKey d None (p + q.0) qs m b) n firsts (ranking_at right m b)
+        (first-mapped (IsForestKey d None p (q ∷ []) a m) n top (ranking_at left a m) (own a m la low)) (others m b low lb)
+        (topped-parse (IsForestKey d None p (q ∷ []) a m) top (λ k l s t. keys-parse d None p (q ∷ []) a m m k l s t)) all (below m (omega (arith, lm)))))
 
-  pub forests-joined : (all : List (List Key)) → HasLists (joined n left right) all → AreBestForests d n p (q ∷ qs) all
-  unfolding joined
+    there : (k : Key) → IsOneBelow Meets 5 k → IsTopped (IsForestKey d None p (q ∷ qs) a b) top k
+    there k (m, low, (t, y, (x, s, is), rest, sum)) =
+        (plus x y, join_key d ground p q qs wide None a b (plus x y) (m, low, (x, y, s, rest, refl)), sum ∙ ap (λ z. plus z y) is ∙ plus_assoc top x y)
+
+    back : (k : Key) → IsTopped (IsForestKey d None p (q ∷ qs) a b) top k → IsOneBelow Meets 5 k
+    back k (z, f, is) = go (split_key d ground p q qs wide None a b z f)
+      where
+        go : IsOneBelow (λ m. Both (IsForestKey d None p (q ∷ []) a m) (IsForestKey d None (p + q.0) qs m b)) 5 z → IsOneBelow Meets 5 k
+        go (m, low, (x, y, s, rest, sum)) = (m, low, (plus top x, y, (x, s, refl), rest, is ∙ ap (plus top) sum ∙ sym (plus_assoc top x y)))
+
+    -- what was there, and the trees side by side with the top before them
+    pub forests-topped : AreFirst (λ k. U k ⊎ IsTopped (IsForestKey d None p (q ∷ qs) a b) top k) n (joined n top left right a b old)
+    unfolding joined
+    forests-topped =
+        first-same (λ k. U k ⊎ IsOneBelow Meets 5 k) (λ k. U k ⊎ IsTopped (IsForestKey d None p (q ∷ qs) a b) top k) n (joined_below n top left right a b old 5)
+        (λ k s. elim s [ inl u ↦ inl u | inr x ↦ inr (there k x) ]) (λ k s. elim s [ inl u ↦ inl u | inr x ↦ inr (back k x) ]) (below 5 (omega arith))
+
+  pub forests-joined : (all : List (List Key)) → HasLists (λ a b. joined n (0, []) left right a b []) all → AreBestForests d n p (q ∷ qs) all
   forests-joined all is a b la lb =
       subst (AreFirst (IsForestKey d None p (q ∷ qs) a b) n) (sym (is a b la lb))
-      (first-same (IsOneBelow (Meets a b) 5) (IsForestKey d None p (q ∷ qs) a b) n (joined_below n left right a b 5)
-      (λ k x. join_key d ground p q qs wide None a b k x) (λ k x. split_key d ground p q qs wide None a b k x) (below a b 5 la lb (omega arith)))
+      (first-same (λ k. ⊥ ⊎ IsTopped (IsForestKey d None p (q ∷ qs) a b) (0, []) k) (IsForestKey d None p (q ∷ qs) a b) n (joined n (0, []) left right a b [])
+      (λ k s. elim s [ inl x ↦ absurd x | inr x ↦ subst (IsForestKey d None p (q ∷ qs) a b) (sym (x.2 ∙ plus_nothing x.0)) x.1 ])
+      (λ k x. inr (k, x, sym (plus_nothing k)))
+      (forests-topped (0, []) (λ k. ⊥) [] (first-none (λ k. ⊥) n (λ k x. x)) a b la lb))
 
 nothing_charged : (g : Grammar) (cs : List Inner) → weights g [] + charges g [] cs ≡ 0
 nothing_charged g [] = refl

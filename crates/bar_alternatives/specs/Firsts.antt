@@ -55,3 +55,8 @@ pub record AreAddable (keys : List Key) : Type 0 where
 pub record IsPast (count : ℕ) (k : Key) (keys : List Key) : Type 0 where
   pub full : length keys ≡ count
   pub before : All (λ x. IsBefore x k) keys
+
+-- there are as many keys as may be, and each costs less
+pub record AreCheaper (count c : ℕ) (keys : List Key) : Type 0 where
+  pub full : length keys ≡ count
+  pub low : All (λ k. k.0 < c) keys

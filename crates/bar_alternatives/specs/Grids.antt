@@ -1,6 +1,6 @@
 -- The best of each pair of counts: those of chords carried in and out.
-use Rattle.std.specs.Prelude.{◌≡◌, ℕ, zero, suc, ◌+◌, ◌*◌, ◌<◌, List, [], slice_index_or}
-use Rattle.rhythm_base.specs.Ranked.{Key}
+use Rattle.std.specs.Prelude.{◌≡◌, ℕ, zero, suc, ◌+◌, ◌*◌, ◌<◌, List, [], map, slice_index_or}
+use Rattle.rhythm_base.specs.Ranked.{Key, plus}
 use Rattle.bar_alternatives.specs.Firsts.{AreAddable, sums_offered}
 
 -- the list for the counts `from` and `to`
@@ -14,10 +14,11 @@ HasLists lists grid = (from to : ℕ) → from < 5 → to < 5 → ranking_at gri
 abbrev pub AreAllAddable : List (List Key) → Type 0
 AreAllAddable grid = (from to : ℕ) → from < 5 → to < 5 → AreAddable (ranking_at grid from to)
 
--- what was offered over the counts before n between trees on the left and others on the right
-abbrev pub joined_below : ℕ → List (List Key) → List (List Key) → ℕ → ℕ → ℕ → List Key
-joined_below count left right from to zero = []
-joined_below count left right from to (suc n) = sums_offered count (ranking_at left from n) (ranking_at right n to) (joined_below count left right from to n)
+-- what was offered over the counts before n between trees on the left and others on the right, each with the top before it
+abbrev pub joined_below : ℕ → Key → List (List Key) → List (List Key) → ℕ → ℕ → List Key → ℕ → List Key
+joined_below count top left right from to old zero = old
+joined_below count top left right from to old (suc n) =
+    sums_offered count (map (plus top) (ranking_at left from n)) (ranking_at right n to) (joined_below count top left right from to old n)
 
-unfoldable pub joined : ℕ → List (List Key) → List (List Key) → ℕ → ℕ → List Key
-joined count left right from to = joined_below count left right from to 5
+unfoldable pub joined : ℕ → Key → List (List Key) → List (List Key) → ℕ → ℕ → List Key → List Key
+joined count top left right from to old = joined_below count top left right from to old 5

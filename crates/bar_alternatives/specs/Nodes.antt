@@ -17,6 +17,8 @@ use Rattle.least_cost.specs.RuleChoices.{IsRuleKey}
 use Rattle.bar_alternatives.specs.declared.memo.Asked.{Asked}
 use Rattle.bar_alternatives.specs.declared.memo.Family.{Family}
 use Rattle.bar_alternatives.specs.declared.memo.Found.{Found}
+use Rattle.bar_alternatives.specs.declared.memo.LastParts.{LastParts}
+use Rattle.bar_alternatives.specs.declared.memo.LastParts.TheVariants.{One, Several}
 use Rattle.bar_alternatives.specs.BestTrees.{cost_at}
 use Rattle.bar_alternatives.specs.Firsts.{AreFirst}
 use Rattle.bar_alternatives.specs.Grids.{ranking_at}
@@ -64,6 +66,11 @@ is_leaf_at ending l a b = agrees ending (a + l.heard.own) l.heard.sounds && (l.h
 -- what was found under this number is that
 abbrev pub IsAnswerAt : Grammar → BarInput → ℕ → List Found → Asked → ℕ → Type 0
 IsAnswerAt g k count xs asked n = (x : Found) × (slice_get xs n ≡ Some x) × IsAnswer g k count asked x.grid
+
+-- the best trees over these parts, the last of a cut
+abbrev pub AreBestLast : Ground → ℕ → List Found → ℕ → List (ℕ × ℕ) → LastParts → Type 0
+AreBestLast d count xs p qs (One n) = (x : Found) × (slice_get xs n ≡ Some x) × AreBestForests d count p qs x.grid
+AreBestLast d count xs p qs (Several grid) = AreBestForests d count p qs grid
 
 -- the trees that are asked for are of this family
 pub record IsOf (g : Grammar) (k : BarInput) (family : Family) (asked : Asked) : Type 0 where

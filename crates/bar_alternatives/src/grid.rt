@@ -75,62 +75,82 @@ impl Grid {
         ensures { OnOk result (HasLists (λ a b. if (a == from) && (b == to) then offered count (cost, rules.now) (ranking_at self.old a b)
             else ranking_at self.old a b) self.new) }
     {
-        self.rankings[5 * from + to].offer(alloc, count, cost, rules, &[])?;
+        self.rankings[5 * from + to].offer(alloc, count, cost, rules, &[], &[])?;
         Ok(())
     }
 
-    /// Offers each of the others at this cost more, with this rule before its own.
-    pub fn offer_topped(
+    /// Offers the trees on the left followed by others on the right, with any count between them, at this cost more and with
+    /// these rules before theirs.
+    pub fn offer_joined(
         &mut self,
         alloc: Global,
         count: usize,
         cost: u64,
-        rule: u16,
-        others: &Grid,
+        top: &[u16],
+        left: &Grid,
+        right: &Grid,
     ) -> Result<(), AllocError>
         requires kept { (a b : ℕ) → a < 5 → b < 5 → AreKept count (ranking_at self.old a b) }
         requires cost { cost < 2 ^ 62 }
-        requires others { AreAllAddable others.now }
-        ensures { OnOk result (HasLists (λ a b. all_offered count (map (plus (cost, rule ∷ [])) (ranking_at others.now a b)) (ranking_at self.old a b)) self.new) }
+        requires left { AreAllAddable left.now }
+        requires right { AreAllAddable right.now }
+        ensures { OnOk result (HasLists (λ a b. joined count (cost, top.now) left.now right.now a b (ranking_at self.old a b)) self.new) }
     {
         'pairs: for pair in 0..25 {
-            self.rankings[pair].offer_each(alloc, count, cost, &[rule], &others.rankings[pair])?;
+            let best = &mut self.rankings[pair];
+            offer_at(
+                alloc,
+                count,
+                cost,
+                top,
+                left,
+                right,
+                pair / 5,
+                pair % 5,
+                best,
+            )?;
         }
         Ok(())
     }
 }
 
-/// The best trees on the left followed by others on the right, with any count between them.
-fn join_at(
+/// Offers the trees on the left followed by others on the right for one pair of counts.
+fn offer_at(
     alloc: Global,
     count: usize,
+    cost: u64,
+    top: &[u16],
     left: &Grid,
     right: &Grid,
     from: usize,
     to: usize,
-) -> Result<Ranking, AllocError>
+    best: &mut Ranking,
+) -> Result<(), AllocError>
     requires from { from < 5 }
     requires to { to < 5 }
+    requires kept { AreKept count best.old }
+    requires cost { cost < 2 ^ 62 }
     requires left { AreAllAddable left.now }
     requires right { AreAllAddable right.now }
-    ensures { IfOk result (λ r. r ≡ joined count left.now right.now from to) }
+    ensures { OnOk result (best.new ≡ joined count (cost, top.now) left.now right.now from to best.old) }
 {
-    let mut best = Ranking::none(alloc);
     'counts: for middle in 0..5 {
-        best.offer_sums(alloc, count, left.at(from, middle), right.at(middle, to))?;
+        let first = left.at(from, middle);
+        let second = right.at(middle, to);
+        if !first.is_empty() && !second.is_empty() {
+            best.offer_sums(alloc, count, cost, top, first, second)?;
+        }
     }
-    Ok(best)
+    Ok(())
 }
 
 /// The best trees on the left followed by others on the right, for each pair of counts.
 pub fn join(alloc: Global, count: usize, left: &Grid, right: &Grid) -> Result<Grid, AllocError>
     requires left { AreAllAddable left.now }
     requires right { AreAllAddable right.now }
-    ensures { IfOk result (HasLists (joined count left.now right.now)) }
+    ensures { IfOk result (HasLists (λ a b. joined count (0, []) left.now right.now a b [])) }
 {
-    let mut rankings = Vec::with_capacity(alloc, 25)?;
-    'pairs: for pair in 0..25 {
-        rankings.push(join_at(alloc, count, left, right, pair / 5, pair % 5)?)?;
-    }
-    Ok(Grid { rankings })
+    let mut grid = Grid::none(alloc)?;
+    grid.offer_joined(alloc, count, 0, &[], left, right)?;
+    Ok(grid)
 }

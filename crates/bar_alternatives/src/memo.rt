@@ -1,4 +1,4 @@
-ghost use Rattle.bar_alternatives.specs.Memos.{AddsFound, HasFound};
+ghost use Rattle.bar_alternatives.specs.Memos.{AddsFound, AreThere, HasFound, IsGridOf};
 ghost use Rattle.bar_alternatives.specs.declared.memo.Found.{Found};
 ghost use Rattle.std.specs.Prelude.{◌≡◌, ◌<◌, [], length, slice_get, IfOk, IfSome, OnOk, Some, ◌+◌, ◌*◌, max};
 
@@ -40,6 +40,15 @@ pub struct Found {
     pub grid: Grid,
     /// What was found before in the same bucket.
     earlier: Option<u32>,
+}
+
+/// The best trees over the last parts of a cut, side by side.
+#[derive(Drop)]
+pub enum LastParts {
+    /// Those over the very last, by the number of what was found.
+    One(usize),
+    /// Those over several.
+    Several(Grid),
 }
 
 /// All that was found so far.
@@ -113,6 +122,17 @@ impl Memo {
         ensures { (x : Found) → slice_get self.now.found.items number ≡ Some x → x.grid ≡ result.now }
     {
         &self.found[number].grid
+    }
+
+    /// The trees over the last parts of a cut.
+    pub fn grid_of<'a>(&'a self, parts: &'a LastParts) -> &'a Grid
+        requires { AreThere self.now.found.items parts.now }
+        ensures { IsGridOf self.now.found.items parts.now result.now }
+    {
+        match parts {
+            LastParts::One(number) => self.grid(*number),
+            LastParts::Several(grid) => grid,
+        }
     }
 
     /// Keeps what was found, and answers its number.

@@ -2,12 +2,13 @@ ghost use Rattle.bar_alternatives.specs.Grids.{HasLists};
 ghost use Rattle.bar_alternatives.specs.Firsts.{offered};
 ghost use Rattle.bar_alternatives.specs.Nodes.{
   AreBestBelow,
-  AreBestForests,
+  AreBestLast,
   AreFound,
   IsAnswerAt,
   IsOf,
   IsWithin,
 };
+ghost use Rattle.bar_alternatives.specs.Memos.{KeepsFound};
 ghost use Rattle.bar_alternatives.specs.Pieces.{pair_of};
 ghost use Rattle.least_cost.specs.Nodes.{IsReady, ending_at, ground_of};
 ghost use Rattle.rhythm_base.specs.Bodies.{sizes};
@@ -34,7 +35,7 @@ use crate::cut::{Piece, children, suits};
 use crate::grid::{Grid, join};
 use crate::leaf::site_of;
 use crate::leaf_offer::{leaf_here, offer_leaf};
-use crate::memo::{Asked, Family, Memo};
+use crate::memo::{Asked, Family, LastParts, Memo};
 use rhythm_base::{BarInput, Grammar};
 use std::alloc::{AllocError, Global};
 
@@ -75,6 +76,7 @@ pub fn best_trees(
     requires ready { IsReady grammar.now input.now }
     requires within { IsWithin input.now asked }
     requires found { AreFound grammar.now input.now count memo.old.found.items }
+    ensures more { OnOk result (KeepsFound memo.old.found.items memo.new.found.items) }
     ensures found { OnOk result (AreFound grammar.now input.now count memo.new.found.items) }
     ensures answer { IfOk result (IsAnswerAt grammar.now input.now count memo.new.found.items asked) }
 {
@@ -103,6 +105,7 @@ fn by_rules(
     requires within { IsWithin input.now asked }
     requires found { AreFound grammar.now input.now count memo.old.found.items }
     requires best { AreBestBelow grammar.now input.now count asked 0 best.old }
+    ensures more { OnOk result (KeepsFound memo.old.found.items memo.new.found.items) }
     ensures found { OnOk result (AreFound grammar.now input.now count memo.new.found.items) }
     ensures best { OnOk result (AreBestBelow grammar.now input.now count asked (length grammar.now.rules) best.new) }
 {
@@ -129,6 +132,7 @@ fn by_rule(
     requires number { number < length grammar.now.rules }
     requires found { AreFound grammar.now input.now count memo.old.found.items }
     requires best { AreBestBelow grammar.now input.now count asked number best.old }
+    ensures more { OnOk result (KeepsFound memo.old.found.items memo.new.found.items) }
     ensures found { OnOk result (AreFound grammar.now input.now count memo.new.found.items) }
     ensures best { OnOk result (AreBestBelow grammar.now input.now count asked (number + 1) best.new) }
 {
@@ -164,22 +168,32 @@ fn by_cut(
     requires cut { ending_at grammar.now.rules number ≡ None }
     requires found { AreFound grammar.now input.now count memo.old.found.items }
     requires best { AreBestBelow grammar.now input.now count asked number best.old }
+    ensures more { OnOk result (KeepsFound memo.old.found.items memo.new.found.items) }
     ensures found { OnOk result (AreFound grammar.now input.now count memo.new.found.items) }
     ensures best { OnOk result (AreBestBelow grammar.now input.now count asked (number + 1) best.new) }
 {
     let rule = &grammar.rules[number as usize];
     let pieces = children(alloc, &rule.body, asked.width)?;
-    let kids = beside(
+    let [piece, rest @ ..] = pieces.as_slice() else {
+        return Ok(());
+    };
+    let first = Asked {
+        place: asked.place,
+        width: piece.width,
+        symbol: piece.symbol,
+    };
+    let next = asked.place + piece.width;
+    let others = beside(alloc, grammar, input, count, memo, next, rest, asked.width)?;
+    let left = best_trees(alloc, grammar, input, count, memo, first)?;
+    let right = memo.grid_of(&others);
+    best.offer_joined(
         alloc,
-        grammar,
-        input,
         count,
-        memo,
-        asked.place,
-        pieces.as_slice(),
-        asked.width,
-    )?;
-    best.offer_topped(alloc, count, u64::from(rule.weight), number, &kids)
+        u64::from(rule.weight),
+        &[number],
+        memo.grid(left),
+        right,
+    )
 }
 
 /// The best trees over the pieces, side by side from the unit `place` on. Each piece is narrower than `below` units.
@@ -193,26 +207,32 @@ fn beside(
     place: u16,
     pieces: &[Piece],
     below: u16,
-) -> Result<Grid, AllocError>
+) -> Result<LastParts, AllocError>
     requires ready { IsReady grammar.now input.now }
     requires below { AreBelow below (map pair_of pieces.now) }
     requires within { place + sizes (map pair_of pieces.now) ≤ input.now.resolution }
     requires found { AreFound grammar.now input.now count memo.old.found.items }
+    ensures more { OnOk result (KeepsFound memo.old.found.items memo.new.found.items) }
     ensures found { OnOk result (AreFound grammar.now input.now count memo.new.found.items) }
-    ensures best { IfOk result (AreBestForests (ground_of grammar.now input.now) count place (map pair_of pieces.now)) }
+    ensures best { IfOk result (AreBestLast (ground_of grammar.now input.now) count memo.new.found.items place (map pair_of pieces.now)) }
 {
     match pieces {
-        [] => nothing(alloc, count),
+        [] => Ok(LastParts::Several(nothing(alloc, count)?)),
         [piece, rest @ ..] => {
-            let next = place + piece.width;
-            let others = beside(alloc, grammar, input, count, memo, next, rest, below)?;
             let asked = Asked {
                 place,
                 width: piece.width,
                 symbol: piece.symbol,
             };
+            if rest.is_empty() {
+                let number = best_trees(alloc, grammar, input, count, memo, asked)?;
+                return Ok(LastParts::One(number));
+            }
+            let next = place + piece.width;
+            let others = beside(alloc, grammar, input, count, memo, next, rest, below)?;
             let number = best_trees(alloc, grammar, input, count, memo, asked)?;
-            join(alloc, count, memo.grid(number), &others)
+            let all = join(alloc, count, memo.grid(number), memo.grid_of(&others))?;
+            Ok(LastParts::Several(all))
         }
     }
 }

@@ -29,7 +29,7 @@ fn offer_totals(
     let Some(last) = last else {
         return Ok(());
     };
-    best.offer_each(alloc, count, first + last, &[], trees)
+    best.offer_each(alloc, count, first + last, &[], &[], trees)
 }
 
 /// The best trees at their costs together with those before and after.

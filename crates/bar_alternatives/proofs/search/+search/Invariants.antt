@@ -1,4 +1,5 @@
 use Rattle.std.proofs.Common.{◌+◌, ◌*◌, length}
+use Rattle.bar_alternatives.specs.Memos.{KeepsFound}
 use Rattle.bar_alternatives.specs.Nodes.{AreBestBelow, AreFound}
 use Rattle.bar_alternatives.proofs.search.+search.Given as goal
 
@@ -19,6 +20,7 @@ decreases-best_trees l = 64 * l.asked.width + 63
 
 abbrev pub invariant-by_rules-rules : goal.invariant-by_rules-rules
 invariant-by_rules-rules l = record {
+  more : KeepsFound l.initial.memo.found.items l.memo.found.items;
   found : AreFound l.grammar l.input l.count l.memo.found.items;
   best : AreBestBelow l.grammar l.input l.count l.asked l.number l.best;
 }
