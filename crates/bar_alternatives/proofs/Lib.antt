@@ -1,4 +1,3 @@
-pub mod Comparing
 pub mod Families
 pub mod Firsts
 pub mod Grids

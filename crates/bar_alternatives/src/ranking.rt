@@ -68,12 +68,15 @@ impl Entry {
 fn order_of_lists(first: &[u16], second: &[u16], other: &[u16]) -> Ordering
     ensures { result ≡ list_cmp (first.now ++ second.now) other.now }
 {
-    if first.len() > other.len() {
-        return first.cmp(other);
-    }
-    match first.cmp(&other[..first.len()]) {
-        Ordering::Equal => second.cmp(&other[first.len()..]),
-        order => order,
+    match first {
+        [] => second.cmp(other),
+        [rule, rules @ ..] => match other {
+            [] => Ordering::Greater,
+            [one, more @ ..] => match rule.cmp(one) {
+                Ordering::Equal => order_of_lists(rules, second, more),
+                order => order,
+            },
+        },
     }
 }
 
@@ -81,12 +84,15 @@ fn order_of_lists(first: &[u16], second: &[u16], other: &[u16]) -> Ordering
 fn order_of_pieces(top: &[u16], first: &[u16], second: &[u16], other: &[u16]) -> Ordering
     ensures { result ≡ list_cmp ((top.now ++ first.now) ++ second.now) other.now }
 {
-    if top.len() > other.len() {
-        return top.cmp(other);
-    }
-    match top.cmp(&other[..top.len()]) {
-        Ordering::Equal => order_of_lists(first, second, &other[top.len()..]),
-        order => order,
+    match top {
+        [] => order_of_lists(first, second, other),
+        [rule, rules @ ..] => match other {
+            [] => Ordering::Greater,
+            [one, more @ ..] => match rule.cmp(one) {
+                Ordering::Equal => order_of_pieces(rules, first, second, more),
+                order => order,
+            },
+        },
     }
 }
 
@@ -202,6 +208,11 @@ impl Ranking {
             return Ok(false);
         }
         let mut rules = self.room(alloc, count);
+        rules.reserve(
+            top.len()
+                .saturating_add(first.len())
+                .saturating_add(second.len()),
+        )?;
         rules.extend_from_slice(top)?;
         rules.extend_from_slice(first)?;
         rules.extend_from_slice(second)?;

@@ -29,7 +29,7 @@ returns-clause-kept c =
     let k : Key = (c.args.cost, (c.args.top.now ++ c.args.first.now) ++ c.args.second.now) in
     let place : IsPlace c.args.self.now k c.in-Some.place = subst (λ xs. IsPlace xs k c.in-Some.place) (c.as_slice.ensures.value ∙ c.self.view_is) c.in-Some.ensures in
     let entries = c.self-2.view_is ∙ c.room-rules.ensures.entries in
-    let tops = c.in_ok-extend_from_slice.ensures.items ∙ ap (λ l. l ++ c.args.top.now) c.room-rules.ensures.list in
+    let tops = c.in_ok-extend_from_slice.ensures.items ∙ ap (λ l. l ++ c.args.top.now) (c.reserve.ensures.items ∙ c.room-rules.ensures.list) in
     let firsts = c.in_ok-extend_from_slice-2.ensures.items ∙ ap (λ l. l ++ c.args.first.now) tops in
     let lists = c.in_ok-extend_from_slice-3.ensures.items ∙ ap (λ l. l ++ c.args.second.now) firsts in
     c.in_ok-insert.ensures.items
