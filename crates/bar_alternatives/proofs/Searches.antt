@@ -1,5 +1,5 @@
 -- What the search has at each of its steps.
-use Rattle.std.proofs.Common.{◌≡◌, ◌⊎◌, ℕ, ◌<◌, ◌≤◌, ◌+◌, ◌&&◌, ◌==◌, Bool, true, false, List, [], ◌∷◌, length, map, refl, sym, ap, ap₂, ◌∙◌, subst, arith}
+use Rattle.std.proofs.Common.{◌≡◌, ◌⊎◌, ℕ, ◌<◌, ◌≤◌, ◌+◌, ◌&&◌, ◌==◌, Bool, true, false, List, [], ◌∷◌, length, refl, sym, ap, ap₂, ◌∙◌, subst, arith}
 use Rattle.std.specs.Prelude.{None, Some, slice_get, if◌then◌else◌}
 use Rattle.std.proofs.lemmas.Bool.Decides.{nat_tests}
 use Rattle.rhythm_base.specs.declared.rule.Ending.{Ending}
@@ -11,7 +11,7 @@ use Rattle.rhythm_base.specs.Cost.{charges}
 use Rattle.rhythm_base.specs.Grammar.{Grammar}
 use Rattle.rhythm_base.specs.Leaves.{in_bar}
 use Rattle.rhythm_base.specs.Line.{agrees}
-use Rattle.rhythm_base.specs.Ranked.{Key, plus}
+use Rattle.rhythm_base.specs.Ranked.{Key}
 use Rattle.rhythm_base.specs.Trees.{BarLeaf, suits}
 use Rattle.rhythm_laws.specs.Forests.{IsForestKey}
 use Rattle.rhythm_laws.specs.Places.{FitsAt}
@@ -28,7 +28,7 @@ use Rattle.least_cost.proofs.Leaves.{agrees-fits, cut_body, fits-agrees, leaf_bo
 use Rattle.least_cost.proofs.Searches.{bounds, cut_below, cut_few, cut_sizes, grounded}
 use Rattle.bar_alternatives.specs.declared.leaf_offer.LeafHere.{LeafHere}
 use Rattle.bar_alternatives.specs.declared.memo.Asked.{Asked}
-use Rattle.bar_alternatives.specs.Firsts.{AreFirst, AreKept, all_offered, offered}
+use Rattle.bar_alternatives.specs.Firsts.{AreFirst, AreKept, offered}
 use Rattle.bar_alternatives.specs.Grids.{AreAllAddable, HasLists, joined, ranking_at}
 use Rattle.bar_alternatives.specs.Nodes.{AreBestBelow, AreBestForests, HasNoLeaf, IsAnswer, IsLeafHere, IsWithin, is_leaf_at}
 use Rattle.bar_alternatives.proofs.Firsts.{IsTopped}

@@ -17,7 +17,7 @@ use Rattle.rhythm_laws.proofs.ForestLemmas.{join_key, keys-parse, split_key}
 use Rattle.rhythm_laws.proofs.LeastKeys.{Both, last}
 use Rattle.least_cost.specs.RuleChoices.{IsRuleKey}
 use Rattle.least_cost.proofs.Bounds.{IsBounded, stands-cheap}
-use Rattle.bar_alternatives.specs.Firsts.{AreFirst, AreKept, all_offered, offered, sums_offered}
+use Rattle.bar_alternatives.specs.Firsts.{AreFirst, AreKept, offered, sums_offered}
 use Rattle.bar_alternatives.specs.Grids.{AreAllAddable, HasLists, joined, joined_below, ranking_at}
 use Rattle.bar_alternatives.specs.Nodes.{AreBestForests}
 use Rattle.bar_alternatives.proofs.Firsts.{IsTopped, first-joined, first-mapped, first-none, first-offered, first-same, plus_assoc, plus_nothing, topped-parse}

@@ -136,10 +136,14 @@ fn offer_at(
 {
     'counts: for middle in 0..5 {
         let first = left.at(from, middle);
-        let second = right.at(middle, to);
-        if !first.is_empty() && !second.is_empty() {
-            best.offer_sums(alloc, count, cost, top, first, second)?;
+        if first.is_empty() {
+            continue;
         }
+        let second = right.at(middle, to);
+        if second.is_empty() {
+            continue;
+        }
+        best.offer_sums(alloc, count, cost, top, first, second)?;
     }
     Ok(())
 }

@@ -1,14 +1,8 @@
-use Rattle.std.proofs.Common.{rules, ◌≡◌, ◌∙◌, subst, sym}
+use Rattle.std.proofs.Common.{rules, ◌≡◌, subst, sym}
 use Rattle.rhythm_base.specs.Ranked.{Key}
-use Rattle.bar_alternatives.specs.Firsts.{AreAddable, AreKept}
+use Rattle.bar_alternatives.specs.Firsts.{AreAddable}
 use Rattle.bar_alternatives.proofs.Grids.{joined-all, joined-bare_left, joined-bare_right, joined-kept, joined-next}
 use Rattle.bar_alternatives.proofs.grid.offer_at.Goals as goal
-use Rattle.bar_alternatives.proofs.grid.offer_at.Goals.{
-  then-not-is_empty+then-not-is_empty-2+in_ok-offer_sums,
-  else-not-is_empty,
-  else-not-is_empty-via-then-not-is_empty+else-not-is_empty-2,
-  else-not-is_empty-via-else-not-is_empty,
-}
 
 pub offer_sums-requires-clause-left : goal.offer_sums-requires-clause-left
 offer_sums-requires-clause-left c = subst AreAddable (sym c.at-first.ensures) (c.requires.left c.args.from c.counts.middle c.requires.from c.counts-test.true)
@@ -24,24 +18,43 @@ counts-preserved c =
     let r = c.args.right.now in
     let old = c.args.best.now in
     let now = c.counts.best in
+    let m = c.counts.middle in
     let first = c.at-first.result.now in
     let others = c.at-second.result.now in
+    record {
+      kept = joined-kept n top l r c.args.from c.args.to old now c.offer_sums.new.self first others c.counts.invariant.kept c.in_ok-offer_sums.ensures;
+      so_far = joined-next n top l r c.args.from c.args.to old m now c.offer_sums.new.self first others c.at-first.ensures c.at-second.ensures c.counts.invariant.so_far c.in_ok-offer_sums.ensures;
+    }
+
+pub counts-preserved-then-is_empty : goal.counts-preserved-then-is_empty
+counts-preserved-then-is_empty c =
+    let n = c.args.count in
+    let top : Key = (c.args.cost, c.args.top.now) in
+    let l = c.args.left.now in
+    let r = c.args.right.now in
+    let old = c.args.best.now in
+    let now = c.counts.best in
     let m = c.counts.middle in
-    elim c.if-not-is_empty.branch [
-      | then-not-is_empty+then-not-is_empty-2+in_ok-offer_sums w ↦ record {
-        kept = subst (AreKept n) (sym w.best-is) (joined-kept n top l r c.args.from c.args.to old now w.offer_sums.new.self first others c.counts.invariant.kept w.in_ok-offer_sums.ensures);
-        so_far = w.best-is ∙ joined-next n top l r c.args.from c.args.to old m now w.offer_sums.new.self first others c.at-first.ensures c.at-second.ensures c.counts.invariant.so_far w.in_ok-offer_sums.ensures;
-      }
-      | else-not-is_empty w ↦ record {
-        kept = subst (AreKept n) (sym w.best-is) c.counts.invariant.kept;
-        so_far = elim w.else-not-is_empty.branch [
-          | else-not-is_empty-via-then-not-is_empty+else-not-is_empty-2 v ↦ w.best-is
-              ∙ joined-bare_right n top l r c.args.from c.args.to old m now others c.at-second.ensures (v.is_empty-then-not-is_empty.ensures.0 v.if-not-is_empty-2.false) c.counts.invariant.so_far
-          | else-not-is_empty-via-else-not-is_empty v ↦ w.best-is
-              ∙ joined-bare_left n top l r c.args.from c.args.to old m now first c.at-first.ensures (c.is_empty.ensures.0 v.if-not-is_empty.false) c.counts.invariant.so_far
-        ];
-      }
-    ]
+    let first = c.at-first.result.now in
+    record {
+      kept = c.counts.invariant.kept;
+      so_far = joined-bare_left n top l r c.args.from c.args.to old m now first c.at-first.ensures (c.is_empty.ensures.0 c.if-is_empty.true) c.counts.invariant.so_far;
+    }
+
+pub counts-preserved-then-is_empty-2 : goal.counts-preserved-then-is_empty-2
+counts-preserved-then-is_empty-2 c =
+    let n = c.args.count in
+    let top : Key = (c.args.cost, c.args.top.now) in
+    let l = c.args.left.now in
+    let r = c.args.right.now in
+    let old = c.args.best.now in
+    let now = c.counts.best in
+    let m = c.counts.middle in
+    let others = c.at-second.result.now in
+    record {
+      kept = c.counts.invariant.kept;
+      so_far = joined-bare_right n top l r c.args.from c.args.to old m now others c.at-second.ensures (c.is_empty-in-counts.ensures.0 c.if-is_empty-2.true) c.counts.invariant.so_far;
+    }
 
 pub returns : goal.returns
 returns c =
