@@ -88,7 +88,7 @@ pub fn bars_of(
     ensures { IfOk result (λ o. IfSome o (λ v. All (λ b. b.resolution ≡ resolution) v.items)) }
 {
     let mut bars = Vec::new(alloc);
-    for _ in 0..count {
+    'bars: for _ in 0..count {
         let Some(bar) = bar_of(alloc, resolution, chords)? else {
             return Ok(None);
         };

@@ -1,7 +1,8 @@
 //! Builds the tables of stated bars, over and over where that is asked for, and prints what the least trees cost. With no
 //! words it builds each stated bar once. The words GROUP ONSETS TIMES name the grammar, the number of chords of the bar and
-//! how often its table is built: a longer run less a shorter one gives the time of a table. With the word `alternatives` before
-//! them the 16 best trees of the bar are listed so often in place of its table, with nothing round it, and with the word
+//! how often its table is built: a longer run less a shorter one gives the time of a table. With a fourth word, WORKERS, the
+//! tables are those of so many equal bars, and are built by so many workers, 1 to 16. With the word `alternatives` before the
+//! three the 16 best trees of the bar are listed so often in place of its table, with nothing round it, and with the word
 //! `carried` between bars to which chords may be carried.
 #![tactic(auto)]
 
@@ -12,14 +13,17 @@ mod best_trees;
 mod grammars;
 
 use bar_alternatives::Alternative;
-use bars::bar_of;
+use bar_pool::{MOST_WORKERS, build_cells};
+use bars::{bar_of, bars_of};
 use best_trees::{Around, best_trees, print_trees};
 use grammars::Group;
 use least_cost::{BarTable, Steps, build_cell};
 use rhythm_base::{BarInput, Grammar, Tag};
+use rhythm_ports::OpenGate;
 use std::alloc::Global;
 use std::env;
 use std::io::{self, ErrorKind};
+use std::thread::Threads;
 
 /// What the builds of this program are counted for.
 #[derive(Clone, Copy)]
@@ -52,10 +56,12 @@ struct Task {
     times: u32,
 }
 
-/// What is done over and over: the table of the bar is built, or its best trees are listed.
+/// What is done over and over: the table of the bar is built, by one call after another or by so many workers, or its best
+/// trees are listed.
 #[derive(Clone, Copy)]
 enum Work {
     Table,
+    Tables(u32),
     BestTrees(Around),
 }
 
@@ -75,11 +81,17 @@ fn asked_of(words: &[String]) -> Option<(Work, Task)> {
             let task = task_of(group.as_str(), onsets.as_str(), times.as_str())?;
             Some((Work::Table, task))
         }
-        [work, group, onsets, times] => {
-            let around = Around::named(work.as_str())?;
-            let task = task_of(group.as_str(), onsets.as_str(), times.as_str())?;
-            Some((Work::BestTrees(around), task))
-        }
+        [first, second, third, fourth] => match Around::named(first.as_str()) {
+            Some(around) => {
+                let task = task_of(second.as_str(), third.as_str(), fourth.as_str())?;
+                Some((Work::BestTrees(around), task))
+            }
+            None => {
+                let task = task_of(first.as_str(), second.as_str(), third.as_str())?;
+                let workers = fourth.as_str().parse::<u32>().ok()?;
+                Some((Work::Tables(workers), task))
+            }
+        },
         _ => None,
     }
 }
@@ -104,6 +116,33 @@ fn build(alloc: Global, task: Task) -> io::Result<Option<BarTable>> {
         last = Some(build_cell(alloc, &grammar, &bar, &mut builds)?);
     }
     Ok(last)
+}
+
+/// Builds the tables of so many equal bars by the workers, and keeps the last.
+fn build_by<R: Threads + Sync>(
+    rt: &R,
+    alloc: Global,
+    task: Task,
+    workers: u32,
+) -> io::Result<Option<BarTable>> {
+    if workers < 1 || workers > MOST_WORKERS {
+        return Err(io::Error::from(ErrorKind::InvalidInput));
+    }
+    let grammar = task.group.grammar(alloc)?;
+    let Some(bars) = bars_of(alloc, grammar.resolution, task.onsets, task.times)? else {
+        return Err(io::Error::from(ErrorKind::InvalidInput));
+    };
+    let mut builds = Steps::<Benchmark>::zero();
+    let mut tables = build_cells(
+        rt,
+        alloc,
+        &grammar,
+        bars.as_slice(),
+        workers,
+        &OpenGate,
+        &mut builds,
+    )?;
+    Ok(tables.pop())
 }
 
 /// Lists the best trees so often and keeps the last list.
@@ -134,13 +173,19 @@ fn print_costs(rt: &impl Print, table: &BarTable) -> io::Result<()> {
     println!(rt;)
 }
 
-fn run(rt: &impl Print, alloc: Global, work: Work, task: Task) -> io::Result<()> {
+/// The costs of a table, where there is one.
+fn print_built(rt: &impl Print, table: Option<BarTable>) -> io::Result<()> {
+    match table {
+        None => println!(rt; " not built"),
+        Some(table) => print_costs(rt, &table),
+    }
+}
+
+fn run<R: Print + Threads + Sync>(rt: &R, alloc: Global, work: Work, task: Task) -> io::Result<()> {
     print!(rt; "{} {}:", task.group.name(), task.onsets)?;
     match work {
-        Work::Table => match build(alloc, task)? {
-            None => println!(rt; " not built"),
-            Some(table) => print_costs(rt, &table),
-        },
+        Work::Table => print_built(rt, build(alloc, task)?),
+        Work::Tables(workers) => print_built(rt, build_by(rt, alloc, task, workers)?),
         Work::BestTrees(around) => {
             let list = list_trees(alloc, task, around)?;
             print_trees(rt, alloc, list.as_slice())
