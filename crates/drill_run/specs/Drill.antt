@@ -44,4 +44,4 @@ pub record IsStep (g : Grammar) (number e : ℕ) (old new : Drilled) (besides : 
 unfoldable pub IsDrilledTo : Grammar → ℕ → Performance → ℕ → Drilled → ℕ → Type 0
 IsDrilledTo g number p zero last besides = (last ≡ undrilled p) × (besides ≡ 0)
 IsDrilledTo g number p (suc e) last besides =
-    (before : Drilled) × (some : ℕ) × (more : ℕ) × IsDrilledTo g number p e before some × IsStep g number e before last more × (besides ≡ some + more)
+    (before : Drilled) × (earlier : ℕ) × (own : ℕ) × IsDrilledTo g number p e before earlier × IsStep g number e before last own × (besides ≡ earlier + own)
