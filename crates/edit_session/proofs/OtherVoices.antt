@@ -25,7 +25,7 @@ use Rattle.rhythm_base.specs.Reached.{HasNewInput, IsInputOf, IsReached}
 use Rattle.rhythm_base.specs.Voices.{AreChordsOf, notes_of_voice, voice_bars, voice_bars_from}
 use Rattle.rhythm_laws.proofs.OrderedLists.{goes_through, pairs_head, pairs_tail}
 use Rattle.edit_laws.proofs.Edited.{made}
-use Rattle.edit_session.specs.ChangedVoices.{IsVoiceKept, KeepsOthers, MayChange, changed_channel}
+use Rattle.edit_session.specs.ChangedVoices.{IsUnchangedVoice, LeavesOthers, MayChange, changed_channel}
 use Rattle.edit_session.proofs.OtherInputs.{one_input}
 
 -- ---- what a test keeps of lists with one more, or with fewer
@@ -159,37 +159,37 @@ module _ (one channel : ℕ) (other : channel ≡ one → ⊥) where
 -- ---- an edit
 
 module _ (p : Performance) (formed : IsWellFormed p) (channel : ℕ) where
-  with_notes : (notes : List Note) → filter (λ n. n.channel == channel) notes ≡ notes_of_voice p channel → IsVoiceKept p (record p { notes = notes }) channel
+  with_notes : (notes : List Note) → filter (λ n. n.channel == channel) notes ≡ notes_of_voice p channel → IsUnchangedVoice p (record p { notes = notes }) channel
   with_notes notes same = record { notes = same; pins = λ bar. refl; bars = refl; last = refl; tempos = refl; division = refl }
 
-  with_pins : (pins : List pin.Pin) → ((bar : ℕ) → pin_of pins channel bar ≡ pin_of p.pins channel bar) → IsVoiceKept p (record p { pins = pins }) channel
+  with_pins : (pins : List pin.Pin) → ((bar : ℕ) → pin_of pins channel bar ≡ pin_of p.pins channel bar) → IsUnchangedVoice p (record p { pins = pins }) channel
   with_pins pins same = record { notes = refl; pins = same; bars = refl; last = refl; tempos = refl; division = refl }
 
-  kept_after : (edit : Edit) → (MayChange (changed_channel edit) channel → ⊥) → IsVoiceKept p (performance_after p edit) channel
-  kept_after (Add one key onset end) other =
+  unchanged_after : (edit : Edit) → (MayChange (changed_channel edit) channel → ⊥) → IsUnchangedVoice p (performance_after p edit) channel
+  unchanged_after (Add one key onset end) other =
       let n : Note = record { channel = one; key = key; onset = onset; end = end } in
       with_notes (list_with place_of_note n p.notes) (notes_put one channel other n p.notes refl formed.notes_in_order)
-  kept_after (Drop one key onset) other = with_notes (without_note one key onset p.notes) (notes_without one channel other key onset p.notes)
-  kept_after (Move one key onset to) other =
+  unchanged_after (Drop one key onset) other = with_notes (without_note one key onset p.notes) (notes_without one channel other key onset p.notes)
+  unchanged_after (Move one key onset to) other =
       with_notes (put_moved to (note_at p.notes one key onset) (without_note one key onset p.notes)) (notes_moved one channel other key onset to p.notes formed.notes_in_order)
-  kept_after (Barline bar tick) other = absurd (other tt)
-  kept_after (Pin one bar shape) other =
+  unchanged_after (Barline bar tick) other = absurd (other tt)
+  unchanged_after (Pin one bar shape) other =
       let q : pin.Pin = record { channel = one; bar = bar; shape = shape } in
       let pins : List pin.Pin = list_with place_of_pin q (without_pin one bar p.pins) in
       with_pins pins (same_pin one channel other pins p.pins (pins_put one channel other bar q p.pins refl formed.pins_in_order))
-  kept_after (Unpin one bar) other =
+  unchanged_after (Unpin one bar) other =
       with_pins (without_pin one bar p.pins) (same_pin one channel other (without_pin one bar p.pins) p.pins (pins_without one channel other bar p.pins))
-  kept_after AddBar other = absurd (other tt)
-  kept_after DropBar other = absurd (other tt)
+  unchanged_after AddBar other = absurd (other tt)
+  unchanged_after DropBar other = absurd (other tt)
 
-pub edited_keeps : (p q : Performance) (edit : Edit) → IsWellFormed p → edited p edit ≡ Ok q → KeepsOthers (changed_channel edit) p q
-edited_keeps p q edit formed h = λ channel other.
+pub edited_leaves : (p q : Performance) (edit : Edit) → IsWellFormed p → edited p edit ≡ Ok q → LeavesOthers (changed_channel edit) p q
+edited_leaves p q edit formed h = λ channel other.
     let after = made (performance_after p edit) q (first_refusal (edit_tests p edit)) h in
-    subst (λ r. IsVoiceKept p r channel) after.1 (kept_after p formed channel edit other)
+    subst (λ r. IsUnchangedVoice p r channel) after.1 (unchanged_after p formed channel edit other)
 
 -- ---- the cells of a voice that is as before
 
-module _ (g : Grammar) (p q : Performance) (channel : ℕ) (kept : IsVoiceKept p q channel) where
+module _ (g : Grammar) (p q : Performance) (channel : ℕ) (kept : IsUnchangedVoice p q channel) where
   same_bars_from : (last i : ℕ) (bars : List Bar) → voice_bars_from g q.pins channel last i bars ≡ voice_bars_from g p.pins channel last i bars
   same_bars_from last i [] = refl
   same_bars_from last i (b ∷ bars) =
@@ -223,8 +223,8 @@ module _ (g : Grammar) (p q : Performance) (channel : ℕ) (kept : IsVoiceKept p
   }
 
   -- no cell of it is reached
-  pub kept_unreached : (i : ℕ) → IsReached g p q channel i → ⊥
-  kept_unreached i reached = at reached.2
+  pub unchanged_unreached : (i : ℕ) → IsReached g p q channel i → ⊥
+  unchanged_unreached i reached = at reached.2
     where
       at : HasNewInput g p q channel i → ⊥
       at (inl le) = let lt = reached.1 in omega (arith, le, lt, ap length kept.bars)

@@ -23,7 +23,7 @@ MayChange None channel = ⊤
 MayChange (Some one) channel = channel ≡ one
 
 -- the voice of the channel is as before: its notes and its pins, the bars, and all that times depend on
-pub record IsVoiceKept (before after : Performance) (channel : ℕ) : Type 0 where
+pub record IsUnchangedVoice (before after : Performance) (channel : ℕ) : Type 0 where
   pub notes : notes_of_voice after channel ≡ notes_of_voice before channel
   pub pins : (bar : ℕ) → pin_of after.pins channel bar ≡ pin_of before.pins channel bar
   pub bars : after.bars ≡ before.bars
@@ -32,5 +32,5 @@ pub record IsVoiceKept (before after : Performance) (channel : ℕ) : Type 0 whe
   pub division : after.division ≡ before.division
 
 -- each voice that may not change is as before
-abbrev pub KeepsOthers : Option ℕ → Performance → Performance → Type 0
-KeepsOthers changed before after = (channel : ℕ) → (MayChange changed channel → ⊥) → IsVoiceKept before after channel
+abbrev pub LeavesOthers : Option ℕ → Performance → Performance → Type 0
+LeavesOthers changed before after = (channel : ℕ) → (MayChange changed channel → ⊥) → IsUnchangedVoice before after channel

@@ -1,4 +1,4 @@
-ghost use Rattle.edit_session.specs.ChangedVoices.{KeepsOthers};
+ghost use Rattle.edit_session.specs.ChangedVoices.{LeavesOthers};
 ghost use Rattle.edit_session.specs.Inputs.{AreInputsOfVoice};
 ghost use Rattle.edit_session.specs.Kept.{AreTablesOfVoice};
 ghost use Rattle.edit_session.specs.ReachedCells.{AreOtherInputs, AreReachedInputs, HasOtherInput, place_pair};
@@ -135,7 +135,7 @@ pub fn reached_cells(
     requires formed { IsWellFormed before.now }
     requires formed_after { IsWellFormed after.now }
     requires channels { after.now.channels ≡ before.now.channels }
-    requires others { KeepsOthers changed before.now after.now }
+    requires others { LeavesOthers changed before.now after.now }
     requires tables { Each (λ channel voice. AreTablesOfVoice grammar.now before.now channel voice.tables) before.now.channels voices.now }
     ensures { IfOk result (λ r. AreReachedInputs grammar.now before.now after.now r.cells.items r.inputs.items) }
 {

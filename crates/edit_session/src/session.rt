@@ -1,6 +1,6 @@
 ghost use Rattle.bar_pool.specs.declared.limits.TheConstants.{MOST_WORKERS};
 ghost use Rattle.edit_session.specs.Asking.{CanBePinned, IsAskFault};
-ghost use Rattle.edit_session.specs.ChangedVoices.{KeepsOthers};
+ghost use Rattle.edit_session.specs.ChangedVoices.{LeavesOthers};
 ghost use Rattle.edit_session.specs.Opening.{CanOpen, IsBuilt, IsOpenFault, cells_of};
 ghost use Rattle.edit_session.specs.declared.open_fault.OpenFault.TheVariants.{Cells, Memory, NoDerivation, NoStart};
 ghost use Rattle.kern_writer.specs.PerformanceScore.{HasTooLongText, IsTextOf};
@@ -196,7 +196,7 @@ impl Session {
     ) -> Result<Prepared, AllocError>
         requires formed { IsWellFormed next }
         requires channels { next.channels ≡ self.now.performance.channels }
-        requires others { KeepsOthers changed self.now.performance next }
+        requires others { LeavesOthers changed self.now.performance next }
         requires starts { HasStarts self.now.grammar next.bars }
         requires few_cells { cells_of next ≤ MOST_CELLS }
         requires few_notes { length next.notes ≤ MOST_NOTES }

@@ -7,7 +7,7 @@ use Rattle.edit_session.specs.ReachedCells.{AreOtherInputs, place_pair}
 use Rattle.rhythm_base.specs.BarInput.{BarInput}
 use Rattle.edit_session.specs.declared.reached.CellPlace.{CellPlace}
 use Rattle.edit_session.specs.ChangedVoices.{MayChange}
-use Rattle.edit_session.proofs.OtherVoices.{kept_unreached}
+use Rattle.edit_session.proofs.OtherVoices.{unchanged_unreached}
 use Rattle.edit_session.proofs.ReachedVoices.{AreReachedUntil, all_reached, voice_pushed, voice_skipped}
 use Rattle.edit_session.proofs.reached.reached_cells.Goals as goal
 use Rattle.edit_session.proofs.reached.reached_cells.Goals.{then-may_change+in_ok-own+in_ok-append+in_ok-append-2, else-may_change}
@@ -44,7 +44,7 @@ voices-preserved c =
           subst (λ (v : Vec CellPlace Global). AreReachedUntil g p q (n + 1) (map place_pair v.items) c.if-may_change.inputs.items) (sym w.cells-is)
           (subst (λ (v : Vec BarInput Global). AreReachedUntil g p q (n + 1) (map place_pair c.voices.cells.items) v.items) (sym w.inputs-is)
           (voice_skipped g p q c.requires.formed c.requires.channels n channel (map place_pair c.voices.cells.items) c.voices.inputs.items lt at
-          (kept_unreached g p q channel (c.requires.others channel other)) c.voices.invariant))
+          (unchanged_unreached g p q channel (c.requires.others channel other)) c.voices.invariant))
     ]
 
 pub returns : goal.returns

@@ -4,9 +4,9 @@ use Rattle.edit_laws.proofs.EditedCounts.{edited_cells, edited_notes, edited_sta
 use Rattle.rhythm_base.specs.Edits.{edited}
 use Rattle.rhythm_base.specs.Reached.{AreReached}
 use Rattle.rhythm_base.specs.Voices.{HasStarts}
-use Rattle.edit_session.specs.ChangedVoices.{KeepsOthers, changed_channel}
+use Rattle.edit_session.specs.ChangedVoices.{LeavesOthers, changed_channel}
 use Rattle.edit_session.specs.Session.{Session}
-use Rattle.edit_session.proofs.OtherVoices.{edited_keeps}
+use Rattle.edit_session.proofs.OtherVoices.{edited_leaves}
 use Rattle.edit_session.proofs.session.Session.prepare.Goals as goal
 
 pub prepare_next-requires-clause-starts : goal.prepare_next-requires-clause-starts
@@ -29,6 +29,6 @@ returns-in-Ok-prepare_next-clause-most g c =
 
 pub prepare_next-requires-clause-others : goal.prepare_next-requires-clause-others
 prepare_next-requires-clause-others g c κs within =
-    let kept = edited_keeps c.self.inside.performance c.in-Ok.next c.args.edit.now c.self.invariant.formed c.in-Ok.ensures.ok in
-    subst (λ (changed : Option ℕ). KeepsOthers changed c.args.self.now.performance c.in-Ok.next) (sym c.changed_channel-changed.ensures)
-    (subst (λ (s : Session). KeepsOthers (changed_channel c.args.edit.now) s.performance c.in-Ok.next) c.self.view_is kept)
+    let kept = edited_leaves c.self.inside.performance c.in-Ok.next c.args.edit.now c.self.invariant.formed c.in-Ok.ensures.ok in
+    subst (λ (changed : Option ℕ). LeavesOthers changed c.args.self.now.performance c.in-Ok.next) (sym c.changed_channel-changed.ensures)
+    (subst (λ (s : Session). LeavesOthers (changed_channel c.args.edit.now) s.performance c.in-Ok.next) c.self.view_is kept)
