@@ -9,6 +9,7 @@ pub mod LineLemmas
 pub mod NumberLemmas
 pub mod PitchLemmas
 pub mod Runs
+pub mod ScoreLemmas
 pub mod SignatureLemmas
 pub mod SpineLemmas
 pub mod StepLemmas
