@@ -1,12 +1,9 @@
-ghost use Rattle.bar_alternatives.specs.Firsts.{AreKept, AreAddable, all_offered, offered};
+ghost use Rattle.bar_alternatives.specs.Firsts.{AreKept, offered};
 ghost use Rattle.bar_alternatives.specs.Grids.{AreAllAddable, HasLists, joined, ranking_at};
-ghost use Rattle.rhythm_base.specs.Ranked.{plus};
 ghost use Rattle.std.specs.Prelude.{
   ◌≡◌,
-  ◌++◌,
   ◌&&◌,
   ◌==◌,
-  ◌∷◌,
   ◌<◌,
   ◌^◌,
   ℕ,
@@ -14,7 +11,6 @@ ghost use Rattle.std.specs.Prelude.{
   if◌then◌else◌,
   IfOk,
   OnOk,
-  map,
 };
 
 use crate::ranking::Ranking;
