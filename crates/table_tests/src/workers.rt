@@ -24,7 +24,7 @@ fn bars(alloc: Global, grammar: &Grammar, count: u64) -> Result<Vec<BarInput>, F
     ensures { IfOk result (λ v. All (λ b. b.resolution ≡ grammar.now.resolution) v.items) }
 {
     let mut bars = Vec::new(alloc);
-    for number in 0..count {
+    'bars: for number in 0..count {
         let onset = number * 155;
         let chords = chords_of(alloc, &[(onset, onset + 100), (onset + 150, 1920)])?;
         let Some(bar) = bar_of(grammar, chords, onset / 2, None) else {
