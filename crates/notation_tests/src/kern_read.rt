@@ -5,7 +5,7 @@ use std::test::Fail;
 /// What a text shows, the text, and what it comes to: the lines of its events, or the line and the name of its fault.
 type Case = (&'static str, &'static str, &'static str);
 
-const CASES: [Case; 43] = [
+const CASES: [Case; 48] = [
     ("an empty text", "", "1 Head"),
     (
         "a line with another number of columns",
@@ -95,6 +95,11 @@ const CASES: [Case; 43] = [
         "3 End",
     ),
     ("an end without a last barline", "**kern\n*-\n", "2 End"),
+    (
+        "and so with another number of columns",
+        "**kern\t**kern\n*-\n",
+        "2 End",
+    ),
     ("no line but comments", "!a\n!b\n", "1 Head"),
     (
         "a wrong first line after a comment",
@@ -126,6 +131,26 @@ const CASES: [Case; 43] = [
     (
         "a grid above 61,440",
         "**kern\n*M4/4\n=1\n61440r\n7r\n",
+        "5 Grid",
+    ),
+    (
+        "two values that have no common grid, on one line",
+        "**kern\t**kern\n*M4/4\t*M4/4\n=1\t=1\n251c\t256c\n",
+        "4 Grid",
+    ),
+    (
+        "a value that is none beside one that has no grid",
+        "**kern\t**kern\n*M4/4\t*M4/4\n=1\t=1\n61440r\t7h\n",
+        "4 Token",
+    ),
+    (
+        "four whole notes with two dots",
+        "**kern\n*M7/1\n=1\n00..c\n==\n*-\n",
+        "1 0/1 7/1 note 60\n",
+    ),
+    (
+        "and so as a rest, whose quarters count in the grid",
+        "**kern\n*M7/1\n=1\n15361c\n00..r\n",
         "5 Grid",
     ),
     (
