@@ -1,3 +1,4 @@
+pub mod Asking
 pub mod InTurn
 pub mod OneOutcome
 pub mod Performing

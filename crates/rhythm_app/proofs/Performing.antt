@@ -1,9 +1,9 @@
 -- What a command comes to is what the words come to.
-use Rattle.std.proofs.Common.{◌≡◌, ◌≢◌, ℕ, List, inl, inr, refl, sym, subst, IfErr, OnOk, Option, Result, Ok, Err}
+use Rattle.std.proofs.Common.{◌≡◌, ◌≢◌, ℕ, List, inl, inr, refl, sym, subst, ◌⊎◌, IfErr, OnOk, Option, Result, Ok, Err}
 use Rattle.std.specs.Option.{ForSome}
 use Rattle.std.specs.Io.KnownBytes.{Appends}
 use Rattle.rhythm_app.specs.Asked.{Asked}
-use Rattle.rhythm_app.specs.Ends.{AppendsPart, HasNames, HasStopped, IsAnswered, IsCauseOf, IsCutShort, IsSaid, IsServed, MatchStop}
+use Rattle.rhythm_app.specs.Ends.{AppendsPart, HasNames, HasRisen, HasStopped, IsAnswered, IsCauseOf, IsCutShort, IsSaid, IsServed, MatchStop}
 use Rattle.rhythm_app.specs.Stages.{EndsReading}
 use Rattle.rhythm_app.specs.declared.stop.Kind.TheVariants as kind
 use Rattle.rhythm_app.specs.declared.stop.Stop.{Stop}
@@ -121,3 +121,44 @@ pub untouched : {X : Type 0} (x : X) (O : Type 0) (End : Stop → Type 0) (r : R
     → IfErr r (λ end. end ≢ stop.Write → (O × (x ≡ x)) × End end)
 untouched x O End (Ok y) h = tt
 untouched x O End (Err s) h = λ other. let ended = h other in ((ended.0, refl), ended.1)
+
+-- ---- a command that reads no file and builds nothing
+
+-- it ends by want of memory, or by a failed write
+abbrev IsFreeEnd : Type 0 → Stop → Type 0
+IsFreeEnd rose end = (end ≡ stop.Memory) ⊎ ((end ≡ stop.Write) × rose)
+
+free_ending : (O X : Type 0) (before now : ℕ) (s : Stop) → IsFreeEnd O s → (s ≢ stop.Write → X) → s ≢ stop.Write → X × EndsReading before now s
+free_ending O X before now s (inl e) nothing other = (nothing other, subst (EndsReading before now) (sym e) tt)
+free_ending O X before now s (inr e) nothing other = absurd (other e.0)
+
+free_ends : {A : Type 0} (x : A) (O X : Type 0) (before now : ℕ) (r : Result (Unit {0}) Stop) → IfErr r (IsFreeEnd O) → IfErr r (λ end. end ≢ stop.Write → X)
+    → IfErr r (λ end. end ≢ stop.Write → (X × (x ≡ x)) × EndsReading before now end)
+free_ends x O X before now (Ok y) ends h = tt
+free_ends x O X before now (Err s) ends h = free_ending O (X × (x ≡ x)) before now s ends (λ other. (h other, refl))
+
+risen_at : (F S O : Type 0) (s : Stop) → IsFreeEnd O s → HasRisen F S O s
+risen_at F S O s (inl e) = subst (HasRisen F S O) (sym e) tt
+risen_at F S O s (inr e) = subst (HasRisen F S O) (sym e.0) e.1
+
+pub free_risen : (F S O : Type 0) (r : Result (Unit {0}) Stop) → IfErr r (IsFreeEnd O) → IfErr r (HasRisen F S O)
+free_risen F S O (Ok y) ends = tt
+free_risen F S O (Err s) ends = risen_at F S O s ends
+
+module _ (fs : Option (List File)) (asked words : Option Asked) (same : asked ≡ words) (rest taken taken' : Option (List ℕ)) (built : ℕ) where
+  pub free_answered : (r : Result (Unit {0}) Stop) → ((files : List File) (built : ℕ) → OnOk r (IsSaid asked files (Appends taken taken') built built))
+      → OnOk r (ForSome fs (λ files. IsAnswered words files rest rest taken taken' built built))
+  free_answered (Ok x) done = λ files are. inl (subst (λ (a : Option Asked). IsSaid a files (Appends taken taken') built built) same (done files built))
+  free_answered (Err s) done = tt
+
+  pub free_cause : (r : Result (Unit {0}) Stop) → ((files : List File) → IfErr r (λ s. IsCauseOf asked files s)) → IfErr r (λ s. ForSome fs (λ files. IsCauseOf words files s))
+  free_cause (Ok x) cause = tt
+  free_cause (Err s) cause = λ files are. subst (λ (a : Option Asked). IsCauseOf a files s) same (cause files)
+
+  pub free_took : {A : Type 0} (x : A) (O X : Type 0) (before now : ℕ) (r : Result (Unit {0}) Stop)
+      → ((files : List File) (built : ℕ) → r ≡ Err stop.Write → IsSaid asked files (AppendsPart taken taken') built built)
+      → IfErr r (IsFreeEnd O) → IfErr r (λ end. end ≢ stop.Write → X)
+      → IfErr r (λ end. MatchStop end (ForSome fs (λ files. IsCutShort words files rest rest taken taken' built built))
+      (ForSome fs (λ files. HasStopped words files rest rest taken taken' built built end)) (X × (x ≡ x)))
+  free_took x O X before now r part ends nothing =
+      said_took fs asked words same rest rest taken taken' built built before now (X × (x ≡ x)) r (λ e files are. part files built e) (free_ends x O X before now r ends nothing)

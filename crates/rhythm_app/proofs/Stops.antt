@@ -135,7 +135,7 @@ script_cause midi grammar files ready script.Read h = inr (ready, h)
 script_cause midi grammar files ready (script.TooLong n) h = inr (ready, h)
 script_cause midi grammar files ready (script.LineTooLong n) h = inr (ready, h)
 script_cause midi grammar files ready script.Write h = inr (ready, h)
-script_cause midi grammar files ready script.Memory h = inr refl
+script_cause midi grammar files ready script.Memory h = inr tt
 
 pub script_risen : (F S O : Type 0) (s : ScriptStop) → (s ≡ script.Read → S) → (s ≡ script.Write → O) → HasRisen F S O (script_stop s)
 script_risen F S O script.Read read write = read refl

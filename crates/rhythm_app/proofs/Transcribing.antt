@@ -41,7 +41,7 @@ content_fails asked files (stop.NoDerivation m n) failed content = absurd failed
 content_fails asked files (stop.ScoreTooLong n) failed content = absurd failed
 content_fails asked files (stop.Read k) failed content = absurd content
 content_fails asked files stop.Write failed content = absurd content
-content_fails asked files stop.Memory failed content = refl
+content_fails asked files stop.Memory failed content = tt
 
 pub stop_cause : (asked : Asked) (files : List File) (s : Stop) → Follows (HasOutcomeOf (Some asked) files) (Err s) → IsOfContent s → IsCauseOf (Some asked) files s
 stop_cause asked files s (inl outcome) content = inl outcome
@@ -141,7 +141,7 @@ module _ (midi grammar : List ℕ) (files : List File) where
   transcribe_fails (stop.Read kind.Grammar) failed = failed
   transcribe_fails (stop.Read kind.Kern) failed = absurd failed
   transcribe_fails (stop.Read kind.Script) failed = absurd failed
-  transcribe_fails stop.Memory failed = refl
+  transcribe_fails stop.Memory failed = tt
   transcribe_fails stop.Write failed = absurd failed
   transcribe_fails stop.Usage failed = absurd failed
   transcribe_fails (stop.FileTooLong k n) failed = absurd failed
@@ -164,7 +164,7 @@ module _ (midi grammar : List ℕ) (files : List File) where
   edit_fails (stop.Read kind.Grammar) failed = failed
   edit_fails (stop.Read kind.Kern) failed = absurd failed
   edit_fails (stop.Read kind.Script) failed = absurd failed
-  edit_fails stop.Memory failed = refl
+  edit_fails stop.Memory failed = tt
   edit_fails stop.Write failed = absurd failed
   edit_fails stop.Usage failed = absurd failed
   edit_fails (stop.FileTooLong k n) failed = absurd failed

@@ -1,57 +1,99 @@
 -- What the words of a command line ask for.
-use Rattle.std.specs.Prelude.{ℕ, nat_eq, List, [], ◌∷◌, codes, if◌then◌else◌, Option, Some, None, unwrap_or, ⊤}
+use Rattle.std.specs.Prelude.{ℕ, nat_eq, List, [], ◌∷◌, codes, if◌then◌else◌, Option, Some, None, option_and_then, option_map, unwrap_or, ◌≤◌, ⊤}
 use Rattle.std.specs.Cmp.Lexicographic.{pointwise}
+use Rattle.command_line.specs.CommandLines.{invocation_of}
+use Rattle.command_line.specs.Numbers.{number_in}
+use Rattle.command_line.specs.declared.invocation.Invocation.{Invocation}
+use Rattle.command_line.specs.declared.invocation.Invocation.TheVariants as invocation
 use Rattle.rhythm_ports.specs.Files.{File, file_of}
 use Rattle.rhythm_app.specs.declared.request.Request.{Request}
 use Rattle.rhythm_app.specs.declared.request.Request.TheVariants as request
 
--- a command with the names of its files: `transcribe MIDI GRAMMAR`, `edit MIDI GRAMMAR` or `events KERN`
+-- the help, the version, or a command with the names of its files and its numbers: `transcribe MIDI GRAMMAR`, `edit MIDI GRAMMAR`,
+-- `events KERN` or `generate NUMBER BARS`
 pub data Asked : Type 0 where
+  help : Asked
+  version : Asked
   transcribe : List ℕ → List ℕ → Asked
   edit : List ℕ → List ℕ → Asked
   events : List ℕ → Asked
+  generate : ℕ → ℕ → Asked
 
 -- a word and one more
-abbrev pub of_one : (List ℕ → Asked) → List (List ℕ) → Option Asked
+abbrev pub of_one : (List ℕ → Option Asked) → List (List ℕ) → Option Asked
 of_one make [] = None
-of_one make (a ∷ []) = Some (make a)
+of_one make (a ∷ []) = make a
 of_one make (a ∷ b ∷ more) = None
 
 -- a word and two more
-abbrev pub of_two : (List ℕ → List ℕ → Asked) → List (List ℕ) → Option Asked
+abbrev pub of_two : (List ℕ → List ℕ → Option Asked) → List (List ℕ) → Option Asked
 of_two make [] = None
 of_two make (a ∷ []) = None
-of_two make (a ∷ b ∷ []) = Some (make a b)
+of_two make (a ∷ b ∷ []) = make a b
 of_two make (a ∷ b ∷ c ∷ more) = None
 
--- the command that the words are
-abbrev pub asked_by : List (List ℕ) → Option Asked
-asked_by [] = None
-asked_by (word ∷ more) =
-    if pointwise nat_eq word (codes "transcribe") then of_two transcribe more
-    else if pointwise nat_eq word (codes "edit") then of_two edit more
-    else if pointwise nat_eq word (codes "events") then of_one events more
+-- the number of a piece, 0 to 65,534, and how many bars it has, 1 to 2,000
+abbrev pub generate_by : List ℕ → List ℕ → Option Asked
+generate_by number bars = option_and_then (λ (n : ℕ). option_map (λ (b : ℕ). generate n b) (number_in 1 2000 bars)) (number_in 0 65534 number)
+
+-- the command of the words that are no option
+abbrev pub command_by : List (List ℕ) → Option Asked
+command_by [] = None
+command_by (word ∷ more) =
+    if pointwise nat_eq word (codes "transcribe") then of_two (λ a b. Some (transcribe a b)) more
+    else if pointwise nat_eq word (codes "edit") then of_two (λ a b. Some (edit a b)) more
+    else if pointwise nat_eq word (codes "events") then of_one (λ a. Some (events a)) more
+    else if pointwise nat_eq word (codes "generate") then of_two generate_by more
     else None
+
+-- what is asked for, whatever the number of workers is
+abbrev pub asked_of : Invocation → Option Asked
+asked_of invocation.Help = Some help
+asked_of invocation.Version = Some version
+asked_of (invocation.Command line) = command_by line.words
+
+-- what the words ask for. Where they are plain they are never refused by `clap`, so nothing is asked for exactly where the number of
+-- workers is none of 1 to 16 or the words without the option are no command
+unfoldable pub asked_by : List (List ℕ) → Option Asked
+asked_by words = option_and_then asked_of (invocation_of words)
 
 -- the files that a command names
 abbrev pub file_names : Asked → List (List ℕ)
+file_names help = []
+file_names version = []
 file_names (transcribe midi grammar) = midi ∷ grammar ∷ []
 file_names (edit midi grammar) = midi ∷ grammar ∷ []
 file_names (events kern) = kern ∷ []
+file_names (generate number bars) = []
 
 -- the bytes under a name, none where there is no such file
 abbrev pub file_content : List File → List ℕ → List ℕ
 file_content files name = unwrap_or (file_of files name) []
 
--- a command as contracts see it
+-- a request as contracts see it
 abbrev pub shown_request : Request → Asked
+shown_request request.Help = help
+shown_request request.Version = version
 shown_request (request.Transcribe files) = transcribe files.midi.now files.grammar.now
 shown_request (request.Edit files) = edit files.midi.now files.grammar.now
 shown_request (request.Events kern) = events kern.now
+shown_request (request.Generate number bars) = generate number bars
+
+-- the numbers of a request lie in their ranges
+abbrev pub IsInRange : Request → Type 0
+IsInRange request.Help = ⊤
+IsInRange request.Version = ⊤
+IsInRange (request.Transcribe files) = ⊤
+IsInRange (request.Edit files) = ⊤
+IsInRange (request.Events kern) = ⊤
+IsInRange (request.Generate number bars) = (number ≤ 65534) × (1 ≤ bars) × (bars ≤ 2000)
 
 -- no script is read for the command
 abbrev pub ReadsNoScript : Option Asked → Type 0
 ReadsNoScript None = ⊤
+ReadsNoScript (Some help) = ⊤
+ReadsNoScript (Some version) = ⊤
 ReadsNoScript (Some (transcribe midi grammar)) = ⊤
 ReadsNoScript (Some (edit midi grammar)) = ⊥
 ReadsNoScript (Some (events kern)) = ⊤
+ReadsNoScript (Some (generate number bars)) = ⊤

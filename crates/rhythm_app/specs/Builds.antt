@@ -3,7 +3,7 @@ use Rattle.std.specs.Prelude.{◌≡◌, ℕ, ◌≤◌, ◌⊎◌, List, Ok, Op
 use Rattle.std.specs.Option.{ForSome}
 use Rattle.edit_session.specs.Opening.{cells_of}
 use Rattle.performance_load.specs.Loading.{IsLoaded}
-use Rattle.rhythm_app.specs.Asked.{Asked, transcribe, edit, events, file_content}
+use Rattle.rhythm_app.specs.Asked.{Asked, help, version, transcribe, edit, events, generate, file_content}
 use Rattle.rhythm_app.specs.Outcome.{midi_tests}
 use Rattle.rhythm_app.specs.declared.stop.Kind.TheVariants as kind
 use Rattle.rhythm_app.specs.declared.stop.Stop.{Stop}
@@ -25,12 +25,15 @@ AreAllBuilt bytes old new = (p : Performance) × IsPerformanceIn bytes p × (new
 abbrev pub AreSomeBuilt : List ℕ → ℕ → ℕ → Type 0
 AreSomeBuilt bytes old new = (p : Performance) × IsPerformanceIn bytes p × (new ≤ risen old (cells_of p))
 
--- all cells of the command's performance were built. `events` has none, and leaves the counter as it was
+-- all cells of the command's performance were built. A command that has none leaves the counter as it was
 abbrev pub HasBuiltAll : Option Asked → ℕ → ℕ → List File → Type 0
 HasBuiltAll None old new files = ⊥
+HasBuiltAll (Some help) old new files = new ≡ old
+HasBuiltAll (Some version) old new files = new ≡ old
 HasBuiltAll (Some (transcribe midi grammar)) old new files = AreAllBuilt (file_content files midi) old new
 HasBuiltAll (Some (edit midi grammar)) old new files = AreAllBuilt (file_content files midi) old new
 HasBuiltAll (Some (events kern)) old new files = new ≡ old
+HasBuiltAll (Some (generate number bars)) old new files = new ≡ old
 
 -- what holds of the cells by the stop: all of them are built where only a derivation or room for the score is wanting, some of them
 -- may be where memory is, and none before any other stop. Where something was written before, more is known by what was written
@@ -53,6 +56,9 @@ HasBuiltOf files midi old new =
 -- how many cells had been built when a run stopped: none where no performance is asked for
 abbrev pub HasBuilt : Option (List File) → Option Asked → ℕ → ℕ → Stop → Type 0
 HasBuilt files None old new = λ stop. new ≡ old
+HasBuilt files (Some help) old new = λ stop. new ≡ old
+HasBuilt files (Some version) old new = λ stop. new ≡ old
 HasBuilt files (Some (transcribe midi grammar)) old new = HasBuiltOf files midi old new
 HasBuilt files (Some (edit midi grammar)) old new = HasBuiltOf files midi old new
 HasBuilt files (Some (events kern)) old new = λ stop. new ≡ old
+HasBuilt files (Some (generate number bars)) old new = λ stop. new ≡ old

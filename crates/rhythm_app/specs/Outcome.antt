@@ -1,9 +1,9 @@
 -- What the words of a command line and the bytes of the files come to: what the command is ready to write, or the first test that
 -- fails, as a stop. The tests come in this order: the words; the MIDI file's size and its faults; the grammar file's size and its
 -- faults; the notes and the bars; the cells, the root symbols and the derivations; the size of a score. Where the command has a
--- **kern file, after the words come its size and its faults. A failed read, a failed write and want of memory are no outcomes: they
+-- **kern file, after the words come its size and its faults. `generate`, the help and the version read no file. A failed read, a failed write and want of memory are no outcomes: they
 -- may end any run.
-use Rattle.std.specs.Prelude.{◌≡◌, ◌≢◌, ℕ, ◌+◌, ◌≤◌, ◌⊎◌, nat_le, List, length, IfOk, if◌then◌else◌, Result, Ok, Err, Option, Some, None}
+use Rattle.std.specs.Prelude.{◌≡◌, ◌≢◌, ℕ, ◌+◌, ◌≤◌, ◌⊎◌, nat_le, List, [], ◌∷◌, ◌++◌, codes, length, IfOk, if◌then◌else◌, Result, Ok, Err, Option, Some, None}
 use Rattle.edit_session.specs.Opening.{CanOpen, IsOpenFault}
 use Rattle.edit_session.specs.declared.open_fault.OpenFault.{OpenFault}
 use Rattle.edit_session.specs.declared.open_fault.OpenFault.TheVariants as opening
@@ -18,7 +18,7 @@ use Rattle.note_list.specs.declared.fault.NoteFault.TheVariants as note
 use Rattle.performance_load.specs.Loading.{Loads}
 use Rattle.performance_load.specs.declared.load_fault.LoadFault.{LoadFault}
 use Rattle.performance_load.specs.declared.load_fault.LoadFault.TheVariants as loading
-use Rattle.rhythm_app.specs.Asked.{Asked, transcribe, edit, events, asked_by, file_content}
+use Rattle.rhythm_app.specs.Asked.{Asked, help, version, transcribe, edit, events, generate, asked_by, file_content}
 use Rattle.rhythm_app.specs.declared.stop.Kind.{Kind}
 use Rattle.rhythm_app.specs.declared.stop.Kind.TheVariants as kind
 use Rattle.rhythm_app.specs.declared.stop.Stop.{Stop}
@@ -27,6 +27,7 @@ use Rattle.rhythm_base.specs.Grammar.{Grammar}
 use Rattle.rhythm_base.specs.Performance.{IsWellFormed, Performance}
 use Rattle.rhythm_base.specs.declared.bar_fault.BarFault.TheVariants as laying
 use Rattle.rhythm_base.specs.declared.limits.TheConstants.{LONGEST_GRAMMAR, LONGEST_MIDI, LONGEST_SCORE, LONGEST_SCRIPT}
+use Rattle.rhythm_gen.specs.MidiFile.{generated}
 use Rattle.rhythm_ports.specs.Files.{File}
 use Rattle.smf_reader.specs.Played.{Smf}
 use Rattle.smf_reader.specs.SmfFile.{smf}
@@ -110,20 +111,23 @@ IsUnopened g p s = (fault : OpenFault) × IsOpenFault g p fault × (fault ≢ op
 abbrev pub IsTooLongToWrite : Grammar → Performance → Stop → Type 0
 IsTooLongToWrite g p s = (line : ℕ) × CanOpen g p × HasTooLongText g p line × (s ≡ stop.ScoreTooLong line)
 
--- what a command is ready for where its tests pass: to write a text; or to answer the lines of a script by a grammar, from a
--- performance on
+-- what a command is ready for where its tests pass: to write how the program is called; to write a text; or to answer the lines of a
+-- script by a grammar, from a performance on
 pub data Ready : Type 0 where
+  explain : Ready
   say : List ℕ → Ready
   serve : Grammar → Performance → Ready
 
 -- what the score of a performance and a grammar comes to
 abbrev pub IsScoring : Grammar → Performance → Result Ready Stop → Type 0
+IsScoring g p (Ok explain) = ⊥
 IsScoring g p (Ok (say text)) = CanOpen g p × IsTextOf g p text × (length text ≤ LONGEST_SCORE)
 IsScoring g p (Ok (serve h q)) = ⊥
 IsScoring g p (Err s) = IsUnopened g p s ⊎ IsTooLongToWrite g p s
 
 -- what an editing session on a performance and a grammar comes to
 abbrev pub IsEditing : Grammar → Performance → Result Ready Stop → Type 0
+IsEditing g p (Ok explain) = ⊥
 IsEditing g p (Ok (say text)) = ⊥
 IsEditing g p (Ok (serve h q)) = CanOpen g p × (h ≡ g) × (q ≡ p)
 IsEditing g p (Err s) = IsUnopened g p s
@@ -132,6 +136,7 @@ IsEditing g p (Err s) = IsUnopened g p s
 
 -- what the score of a **kern file comes to: the text of its events
 abbrev pub IsListing : KernColumns → Result Ready Stop → Type 0
+IsListing score (Ok explain) = ⊥
 IsListing score (Ok (say text)) = (list : List KernEvent) × AreEvents score list × (text ≡ events_text list)
 IsListing score (Ok (serve g p)) = ⊥
 IsListing score (Err s) = ⊥
@@ -152,11 +157,18 @@ AreInputs midi grammar =
 abbrev pub AreRead : List ℕ → List ℕ → (Grammar → Performance → Result Ready Stop → Type 0) → Result Ready Stop → Type 0
 AreRead midi grammar last = AreInTurn (AreInputs midi grammar) (λ inputs. last inputs.0 inputs.1)
 
+-- the text of the version: one line
+abbrev pub version_line : List ℕ
+version_line = codes "rhythm 0.1" ++ 10 ∷ []
+
 abbrev pub HasOutcomeOf : Option Asked → List File → Result Ready Stop → Type 0
 HasOutcomeOf None files r = r ≡ Err stop.Usage
+HasOutcomeOf (Some help) files r = r ≡ Ok explain
+HasOutcomeOf (Some version) files r = r ≡ Ok (say version_line)
 HasOutcomeOf (Some (transcribe midi grammar)) files r = AreRead (file_content files midi) (file_content files grammar) IsScoring r
 HasOutcomeOf (Some (edit midi grammar)) files r = AreRead (file_content files midi) (file_content files grammar) IsEditing r
 HasOutcomeOf (Some (events kern)) files r = AreInTurn (IsScoreRead (file_content files kern)) IsListing r
+HasOutcomeOf (Some (generate number bars)) files r = r ≡ Ok (say (generated number bars))
 
 -- what a command line comes to
 abbrev pub HasOutcome : List (List ℕ) → List File → Result Ready Stop → Type 0

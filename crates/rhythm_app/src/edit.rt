@@ -44,11 +44,14 @@ fn script_stop(stop: ScriptStop) -> Stop
 fn session_of<R: Threads + Sync, F: Shelf, G: Gate + Sync, B: Tag>(
     rt: &R,
     alloc: Global,
+    workers: u32,
     names: FileNames,
     shelf: &mut F,
     gate: &G,
     builds: &mut Builds<B>,
 ) -> Result<Session, Stop>
+    requires some_worker { 1 ≤ workers }
+    requires few_workers { workers ≤ 16 }
     ensures ready { IfOk result (λ s. ForSome (F.files shelf.old) (λ files.
         HasOutcomeOf (Some (edit names.entry.midi.now names.entry.grammar.now)) files (Ok (serve s.grammar s.performance)))) }
     ensures cause { IfErr result (λ end. ForSome (F.files shelf.old) (λ files.
@@ -64,7 +67,7 @@ fn session_of<R: Threads + Sync, F: Shelf, G: Gate + Sync, B: Tag>(
 {
     match inputs_of(alloc, names, shelf) {
         Ok((grammar, performance)) => {
-            open_session(rt, alloc, grammar, performance, gate, builds)
+            open_session(rt, alloc, workers, grammar, performance, gate, builds)
         }
         Err(stop) => Err(stop),
     }
@@ -74,6 +77,7 @@ fn session_of<R: Threads + Sync, F: Shelf, G: Gate + Sync, B: Tag>(
 pub fn edit<R: Threads + Sync, F: Shelf, S: Source, O: Sink, G: Gate + Sync, B: Tag>(
     rt: &R,
     alloc: Global,
+    workers: u32,
     names: FileNames,
     shelf: &mut F,
     script: &mut S,
@@ -81,6 +85,8 @@ pub fn edit<R: Threads + Sync, F: Shelf, S: Source, O: Sink, G: Gate + Sync, B: 
     gate: &G,
     builds: &mut Builds<B>,
 ) -> Result<(), Stop>
+    requires some_worker { 1 ≤ workers }
+    requires few_workers { workers ≤ 16 }
     ensures done { OnOk result (ForSome (F.files shelf.old) (λ files.
         IsServed (Some (edit names.entry.midi.now names.entry.grammar.now)) files
         (λ g p last. IsDone g p (S.rest script.old) (S.rest script.new) (O.taken out.old) (O.taken out.new) last) builds.old builds.new)) }
@@ -98,7 +104,7 @@ pub fn edit<R: Threads + Sync, F: Shelf, S: Source, O: Sink, G: Gate + Sync, B: 
     ensures known { IfErr result (λ end. end ≢ stop.Usage) }
     ensures rises { builds.old ≤ builds.new }
 {
-    match session_of(rt, alloc, names, shelf, gate, builds) {
+    match session_of(rt, alloc, workers, names, shelf, gate, builds) {
         Ok(session) => match run_script(rt, alloc, session, script, out, gate, builds) {
             Ok(()) => Ok(()),
             Err(stop) => Err(script_stop(stop)),

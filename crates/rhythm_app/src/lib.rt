@@ -6,6 +6,8 @@
 mod edit;
 mod events;
 mod files;
+mod generate;
+mod help;
 mod inputs;
 mod laws;
 mod line;

@@ -1,6 +1,8 @@
-ghost use Rattle.rhythm_app.specs.Asked.{asked_by, shown_request};
-ghost use Rattle.std.specs.Prelude.{◌≡◌, ◌∷◌, [], option_map};
+ghost use Rattle.command_line.specs.CommandLines.{HasWorkers};
+ghost use Rattle.rhythm_app.specs.Asked.{IsInRange, asked_of, command_by, generate_by, shown_request};
+ghost use Rattle.std.specs.Prelude.{◌≡◌, ◌≤◌, ◌∷◌, [], IfSome, option_map};
 
+use command_line::{Invocation, number_in};
 use rhythm_base::Words;
 
 /// The names of the two files of a command.
@@ -13,17 +15,24 @@ pub struct FileNames<'a> {
 /// What the words ask for.
 #[derive(Clone, Copy)]
 pub enum Request<'a> {
+    /// How the program is called.
+    Help,
+    /// The name of the program and its version.
+    Version,
     /// The score of a MIDI file.
     Transcribe(FileNames<'a>),
     /// The replies to an edit script on the performance of a MIDI file.
     Edit(FileNames<'a>),
     /// The events of a **kern file.
     Events(&'a str),
+    /// The MIDI file of the piece of a number.
+    Generate { number: u32, bars: u32 },
 }
 
 /// The command of a word and the name of one file.
 fn request_of_one<'a>(word: &'a str, file: &'a str) -> Option<Request<'a>>
-    ensures { option_map shown_request result ≡ asked_by (word.entry.now ∷ file.entry.now ∷ []) }
+    ensures asked { option_map shown_request result ≡ command_by (word.entry.now ∷ file.entry.now ∷ []) }
+    ensures range { IfSome result IsInRange }
 {
     if word == "events" {
         Some(Request::Events(file))
@@ -32,37 +41,73 @@ fn request_of_one<'a>(word: &'a str, file: &'a str) -> Option<Request<'a>>
     }
 }
 
-/// The command of a word and the names of two files.
-fn request_of_two<'a>(word: &'a str, files: FileNames<'a>) -> Option<Request<'a>>
-    ensures { option_map shown_request result ≡ asked_by (word.entry.now ∷ files.entry.midi.now ∷ files.entry.grammar.now ∷ []) }
+/// `generate` with its two numbers.
+fn generate_request<'a>(number: &'a str, bars: &'a str) -> Option<Request<'a>>
+    ensures asked { option_map shown_request result ≡ generate_by number.entry.now bars.entry.now }
+    ensures range { IfSome result IsInRange }
 {
+    let number = number_in(number, 0, 65534)? as u32;
+    let bars = number_in(bars, 1, 2000)? as u32;
+    Some(Request::Generate { number, bars })
+}
+
+/// The command of a word and two more.
+fn request_of_two<'a>(word: &'a str, first: &'a str, second: &'a str) -> Option<Request<'a>>
+    ensures asked { option_map shown_request result ≡ command_by (word.entry.now ∷ first.entry.now ∷ second.entry.now ∷ []) }
+    ensures range { IfSome result IsInRange }
+{
+    let files = FileNames {
+        midi: first,
+        grammar: second,
+    };
     if word == "transcribe" {
         Some(Request::Transcribe(files))
     } else if word == "edit" {
         Some(Request::Edit(files))
+    } else if word == "generate" {
+        generate_request(first, second)
     } else {
         None
     }
 }
 
 /// The command that the words are.
-pub fn request_of<'a>(words: &'a Words) -> Option<Request<'a>>
-    ensures { option_map shown_request result ≡ asked_by words.entry.now }
+fn command_of<'a>(words: &'a Words) -> Option<Request<'a>>
+    ensures asked { option_map shown_request result ≡ command_by words.entry.now }
+    ensures range { IfSome result IsInRange }
 {
     let word = words.get(0)?;
     let first = words.get(1)?;
     match words.count() {
         2 => request_of_one(word, first),
         3 => {
-            let grammar = words.get(2)?;
-            request_of_two(
-                word,
-                FileNames {
-                    midi: first,
-                    grammar,
-                },
-            )
+            let second = words.get(2)?;
+            request_of_two(word, first, second)
         }
         _ => None,
+    }
+}
+
+/// What is asked for.
+pub fn request_of<'a>(said: &'a Invocation) -> Option<Request<'a>>
+    ensures asked { option_map shown_request result ≡ asked_of said.entry.now }
+    ensures range { IfSome result IsInRange }
+{
+    match said {
+        Invocation::Help => Some(Request::Help),
+        Invocation::Version => Some(Request::Version),
+        Invocation::Command(line) => command_of(&line.words),
+    }
+}
+
+/// The number of workers that build cells.
+pub fn workers_of(said: &Invocation) -> u32
+    requires { HasWorkers said.now }
+    ensures some_worker { 1 ≤ result }
+    ensures few_workers { result ≤ 16 }
+{
+    match said {
+        Invocation::Help | Invocation::Version => 1,
+        Invocation::Command(line) => line.workers,
     }
 }

@@ -35,15 +35,18 @@ fn open_stop(fault: OpenFault) -> Stop
     }
 }
 
-/// A session on a performance. Each of its cells is built once, by one worker.
+/// A session on a performance. Each of its cells is built once, by one of the workers.
 pub fn open_session<R: Threads + Sync, G: Gate + Sync, B: Tag>(
     rt: &R,
     alloc: Global,
+    workers: u32,
     grammar: Grammar,
     performance: Performance,
     gate: &G,
     builds: &mut Builds<B>,
 ) -> Result<Session, Stop>
+    requires some_worker { 1 ≤ workers }
+    requires few_workers { workers ≤ 16 }
     requires readable { IsReadable grammar }
     requires few_notes { length performance.notes ≤ MOST_NOTES }
     ensures grammar { IfOk result (λ s. s.grammar ≡ grammar) }
@@ -61,7 +64,7 @@ pub fn open_session<R: Threads + Sync, G: Gate + Sync, B: Tag>(
         alloc,
         performance,
         grammar,
-        1,
+        workers,
         gate,
         builds,
         &mut products,

@@ -24,15 +24,18 @@ use rhythm_ports::{Gate, Shelf, Sink, write_all};
 use std::alloc::Global;
 use std::thread::Threads;
 
-/// The score of a performance by a grammar. Each of its cells is built once, by one worker.
+/// The score of a performance by a grammar. Each of its cells is built once, by one of the workers.
 fn score_of<R: Threads + Sync, G: Gate + Sync, B: Tag>(
     rt: &R,
     alloc: Global,
+    workers: u32,
     grammar: Grammar,
     performance: Performance,
     gate: &G,
     builds: &mut Builds<B>,
 ) -> Result<Vec<u8>, Stop>
+    requires some_worker { 1 ≤ workers }
+    requires few_workers { workers ≤ 16 }
     requires readable { IsReadable grammar }
     requires few_notes { length performance.notes ≤ MOST_NOTES }
     ensures tests { Follows (IsScoring grammar performance) (said_of result) }
@@ -41,7 +44,7 @@ fn score_of<R: Threads + Sync, G: Gate + Sync, B: Tag>(
     ensures built { IfErr result (MatchBuilds (builds.new ≡ risen builds.old (cells_of performance)) (builds.new ≤ risen builds.old (cells_of performance)) (builds.new ≡ builds.old)) }
     ensures rises { builds.old ≤ builds.new }
 {
-    match open_session(rt, alloc, grammar, performance, gate, builds) {
+    match open_session(rt, alloc, workers, grammar, performance, gate, builds) {
         Ok(session) => match session.score(alloc) {
             Ok(text) => Ok(text),
             Err(ScoreFault::TooLong { line }) => Err(Stop::ScoreTooLong { line }),
@@ -55,11 +58,14 @@ fn score_of<R: Threads + Sync, G: Gate + Sync, B: Tag>(
 fn score_text<R: Threads + Sync, F: Shelf, G: Gate + Sync, B: Tag>(
     rt: &R,
     alloc: Global,
+    workers: u32,
     names: FileNames,
     shelf: &mut F,
     gate: &G,
     builds: &mut Builds<B>,
 ) -> Result<Vec<u8>, Stop>
+    requires some_worker { 1 ≤ workers }
+    requires few_workers { workers ≤ 16 }
     ensures score { IfOk result (λ text. ForSome (F.files shelf.old) (λ files.
         HasOutcomeOf (Some (transcribe names.entry.midi.now names.entry.grammar.now)) files (Ok (say text.items)))) }
     ensures cause { IfErr result (λ end. ForSome (F.files shelf.old) (λ files.
@@ -73,7 +79,15 @@ fn score_text<R: Threads + Sync, F: Shelf, G: Gate + Sync, B: Tag>(
     ensures rises { builds.old ≤ builds.new }
 {
     match inputs_of(alloc, names, shelf) {
-        Ok((grammar, performance)) => score_of(rt, alloc, grammar, performance, gate, builds),
+        Ok((grammar, performance)) => score_of(
+            rt,
+            alloc,
+            workers,
+            grammar,
+            performance,
+            gate,
+            builds,
+        ),
         Err(stop) => Err(stop),
     }
 }
@@ -82,12 +96,15 @@ fn score_text<R: Threads + Sync, F: Shelf, G: Gate + Sync, B: Tag>(
 pub fn transcribe<R: Threads + Sync, F: Shelf, O: Sink, G: Gate + Sync, B: Tag>(
     rt: &R,
     alloc: Global,
+    workers: u32,
     names: FileNames,
     shelf: &mut F,
     out: &mut O,
     gate: &G,
     builds: &mut Builds<B>,
 ) -> Result<(), Stop>
+    requires some_worker { 1 ≤ workers }
+    requires few_workers { workers ≤ 16 }
     ensures done { OnOk result (ForSome (F.files shelf.old) (λ files.
         IsSaid (Some (transcribe names.entry.midi.now names.entry.grammar.now)) files (Appends (O.taken out.old) (O.taken out.new)) builds.old builds.new)) }
     ensures cause { IfErr result (λ end. ForSome (F.files shelf.old) (λ files.
@@ -103,7 +120,7 @@ pub fn transcribe<R: Threads + Sync, F: Shelf, O: Sink, G: Gate + Sync, B: Tag>(
     ensures known { IfErr result (λ end. end ≢ stop.Usage) }
     ensures rises { builds.old ≤ builds.new }
 {
-    match score_text(rt, alloc, names, shelf, gate, builds) {
+    match score_text(rt, alloc, workers, names, shelf, gate, builds) {
         Ok(text) => match write_all(out, text.as_slice()) {
             Ok(()) => Ok(()),
             Err(_partial) => Err(Stop::Write),
