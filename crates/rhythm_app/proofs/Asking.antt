@@ -3,7 +3,7 @@ use Rattle.std.proofs.Common.{◌≡◌, ℕ, List, ap, inl, inr, refl, sym, Opt
 use Rattle.std.specs.Prelude.{option_and_then}
 use Rattle.command_line.specs.CommandLines.{invocation_of}
 use Rattle.command_line.specs.declared.invocation.Invocation.{Invocation}
-use Rattle.rhythm_app.specs.Asked.{Asked, help, version, transcribe, edit, events, generate, asked_by, asked_of}
+use Rattle.rhythm_app.specs.Asked.{Asked, help, version, transcribe, edit, events, generate, drill, asked_by, asked_of}
 use Rattle.rhythm_app.specs.Builds.{HasBuilt}
 use Rattle.rhythm_app.specs.declared.stop.Stop.TheVariants as stop
 use Rattle.rhythm_ports.specs.Files.{File}
@@ -27,3 +27,4 @@ unread_built files (Some (transcribe midi grammar)) built = inl refl
 unread_built files (Some (edit midi grammar)) built = inl refl
 unread_built files (Some (events kern)) built = refl
 unread_built files (Some (generate number bars)) built = refl
+unread_built files (Some (drill number grammar)) built = inl refl

@@ -1,4 +1,5 @@
 pub mod Asking
+pub mod Drilling
 pub mod InTurn
 pub mod OneOutcome
 pub mod Performing

@@ -2,6 +2,8 @@
 use Rattle.std.proofs.Common.{◌≡◌, ◌≤◌, ◌+◌, ℕ, List, Option, Some, None, ap, ap₂, inl, inr, refl, sym, subst, ◌∙◌, Bool, true, false, Result, Ok, Err, arith}
 use Rattle.std.proofs.lemmas.Bool.{leb-true}
 use Rattle.std.specs.Prelude.{IfOk, if◌then◌else◌, nat_le, length}
+use Rattle.drill_run.proofs.OneDrill.{drills_one}
+use Rattle.drill_run.specs.Ends.{IsDrillOf}
 use Rattle.edit_session.proofs.Faults.{fault_or_open, one_fault}
 use Rattle.edit_session.specs.Opening.{CanOpen}
 use Rattle.grammar_file.proofs.SayableLemmas.{is_sayable}
@@ -17,11 +19,12 @@ use Rattle.kern_writer.proofs.OneText.{texts_one}
 use Rattle.kern_writer.specs.PerformanceScore.{HasTooLongText, IsTextOf}
 use Rattle.kern_writer.specs.Text.{IsScoreText, IsTooLong}
 use Rattle.performance_load.proofs.OneLoading.{one_loading}
+use Rattle.performance_load.specs.Loading.{Loads}
 use Rattle.performance_load.specs.declared.load_fault.LoadFault.{LoadFault}
 use Rattle.rhythm_app.proofs.InTurn.{IsOne, in_turn_one}
-use Rattle.rhythm_app.specs.Asked.{Asked, help, version, transcribe, edit, events, generate, asked_by, file_content}
+use Rattle.rhythm_app.specs.Asked.{Asked, help, version, transcribe, edit, events, generate, drill, asked_by, file_content}
 use Rattle.rhythm_app.specs.Laws.{OutcomesAreOne}
-use Rattle.rhythm_app.specs.Outcome.{AreInTurn, AreInputs, AreRead, HasOutcomeOf, IsEditing, IsListing, IsLoading, IsRead, IsScoreRead, IsScoring, Ready, say, serve, IsUnderstood, IsUnopened, explain, grammar_tests, kern_tests, limit_of, load_stop, open_stop, passed, stopped}
+use Rattle.rhythm_app.specs.Outcome.{AreInTurn, AreInputs, AreRead, HasOutcomeOf, IsEditing, IsListing, IsLoading, IsRead, IsScoreRead, IsScoring, IsDrilling, IsMade, IsPieceOf, IsTooLongDrill, Ready, say, serve, IsUnderstood, IsUnopened, explain, grammar_tests, kern_tests, limit_of, load_stop, open_stop, passed, stopped}
 use Rattle.rhythm_app.specs.declared.stop.Kind.TheVariants as kind
 use Rattle.rhythm_app.specs.declared.stop.Stop.{Stop}
 use Rattle.rhythm_app.specs.declared.stop.Stop.TheVariants as stop
@@ -31,6 +34,7 @@ use Rattle.rhythm_base.specs.Readable.{IsReadable}
 use Rattle.rhythm_base.specs.declared.limits.TheConstants.{LONGEST_SCORE}
 use Rattle.rhythm_ports.specs.Files.{File}
 use Rattle.smf_reader.specs.Played.{Smf}
+use Rattle.smf_reader.specs.declared.fault.SmfFault.{SmfFault}
 
 -- ---- the files and the performance
 
@@ -113,6 +117,65 @@ module _ (g : Grammar) (p : Performance) (read : IsReadable g) (formed : IsWellF
   one_editing (Err s) (Ok (serve f r)) h k = absurd (opened s k.0 h)
   one_editing (Err s) (Err t) h k = ap Err (h.3 ∙ ap open_stop (one_fault g p h.0 k.0 read formed h.2 k.2 h.1 k.1) ∙ sym k.3)
 
+  -- ---- the drill
+
+  drill_or_open : (number : ℕ) (s : Stop) → IsTooLongDrill g number p s → IsUnopened g p s → ⊥
+  drill_or_open number s (line, can, h, e) k = opened s can k
+
+  drills_apart : (number : ℕ) (text : List ℕ) (s : Stop) → IsDrillOf g number p (Ok text) → IsTooLongDrill g number p s → ⊥
+  drills_apart number text s h (line, can, k, e) = not_text text line (drills_one.said g number p (Ok text) (Err line) read formed h k)
+    where
+      not_text : (text : List ℕ) (line : ℕ) → ◌≡◌ {A = Result (List ℕ) ℕ} (Ok text) (Err line) → ⊥
+      not_text text line e = cc
+
+  same_text : (a b : List ℕ) → ◌≡◌ {A = Result (List ℕ) ℕ} (Ok a) (Ok b) → a ≡ b
+  same_text a b e = cc
+
+  same_line : (a b : ℕ) → ◌≡◌ {A = Result (List ℕ) ℕ} (Err a) (Err b) → a ≡ b
+  same_line a b e = cc
+
+  one_drilling : (number : ℕ) → IsOne (IsDrilling g number p)
+  one_drilling number (Ok explain) s h k = absurd h
+  one_drilling number (Ok (serve e q)) s h k = absurd h
+  one_drilling number (Ok (say a)) (Ok explain) h k = absurd k
+  one_drilling number (Ok (say a)) (Ok (say b)) h k = ap (λ text. Ok (say text)) (same_text a b (drills_one.said g number p (Ok a) (Ok b) read formed h.1 k.1))
+  one_drilling number (Ok (say a)) (Ok (serve e q)) h k = absurd k
+  one_drilling number (Ok (say a)) (Err t) h (inl k) = absurd (opened t h.0 k)
+  one_drilling number (Ok (say a)) (Err t) h (inr k) = absurd (drills_apart number a t h.1 k)
+  one_drilling number (Err s) (Ok explain) h k = absurd k
+  one_drilling number (Err s) (Ok (say b)) (inl h) k = absurd (opened s k.0 h)
+  one_drilling number (Err s) (Ok (say b)) (inr h) k = absurd (drills_apart number b s k.1 h)
+  one_drilling number (Err s) (Ok (serve e q)) h k = absurd k
+  one_drilling number (Err s) (Err t) (inl h) (inl k) = ap Err (h.3 ∙ ap open_stop (one_fault g p h.0 k.0 read formed h.2 k.2 h.1 k.1) ∙ sym k.3)
+  one_drilling number (Err s) (Err t) (inl h) (inr k) = absurd (opened s k.1 h)
+  one_drilling number (Err s) (Err t) (inr h) (inl k) = absurd (opened t h.1 k)
+  one_drilling number (Err s) (Err t) (inr h) (inr k) =
+      ap Err (h.3 ∙ ap stop.ScoreTooLong (same_line h.0 k.0 (drills_one.said g number p (Err h.0) (Err k.0) read formed h.2 k.2)) ∙ sym k.3)
+
+same_performance : (p q : Performance) → ◌≡◌ {A = Result Performance LoadFault} (Ok p) (Ok q) → p ≡ q
+same_performance p q e = cc
+
+same_file : (f h : Smf) → ◌≡◌ {A = Result Smf SmfFault} (Ok f) (Ok h) → f ≡ h
+same_file f h e = cc
+
+-- the piece of a number is one
+one_piece : (number : ℕ) (p q : Performance) → IsPieceOf number p → IsPieceOf number q → p ≡ q
+one_piece number p q h k =
+    let loading = h.0 in
+    let other = k.0 in
+    let same : loading.file ≡ other.file = same_file loading.file other.file (sym loading.says ∙ other.says) in
+    same_performance p q
+    (one_loading other.file (Ok p) (Ok q) (subst (λ f. Loads f (Ok p)) same loading.loads) other.loads (λ e. cc) (λ e. cc))
+
+one_made : (number : ℕ) → IsOne (IsMade number)
+one_made number r s h k = h.2 ∙ ap (λ p. Ok p) (one_piece number h.0 k.0 h.1 k.1) ∙ sym k.2
+
+made_formed : (number : ℕ) (p : Performance) → IsMade number (Ok p) → IsWellFormed p
+made_formed number p (q, piece, e) = let same : q ≡ p = back p q e in subst IsWellFormed same piece.1
+  where
+    back : (p q : Performance) → ◌≡◌ {A = Result Performance Stop} (Ok p) (Ok q) → q ≡ p
+    back p q e = cc
+
 -- ---- the events
 
 one_score_read : (bytes : List ℕ) → IsOne (IsScoreRead bytes)
@@ -177,6 +240,10 @@ one_of (Some (events kern)) files r s h k =
     in_turn_one (IsScoreRead (file_content files kern)) IsListing (one_score_read (file_content files kern))
     (λ score read. one_listing score (in_ranges (file_content files kern) score read)) r s h k
 one_of (Some (generate number bars)) files r s h k = h ∙ sym k
+one_of (Some (drill number grammar)) files r s h k =
+    in_turn_one (IsUnderstood (file_content files grammar)) (λ g. AreInTurn (IsMade number) (λ p. IsDrilling g number p)) (one_understood (file_content files grammar))
+    (λ g understood. in_turn_one (IsMade number) (λ p. IsDrilling g number p) (one_made number)
+    (λ p made. one_drilling g p (readable (file_content files grammar) g understood) (made_formed number p made) number)) r s h k
 
 pub one_outcome : OutcomesAreOne
 one_outcome words files = one_of (asked_by words) files

@@ -1,7 +1,7 @@
 -- The status of a run, by what its words and files come to.
 use Rattle.std.proofs.Common.{◌≡◌, ℕ, List, inl, inr, refl, subst, Result, Ok, Err}
 use Rattle.std.specs.Prelude.{⊤, Option, Some, None}
-use Rattle.rhythm_app.specs.Asked.{Asked, help, version, transcribe, edit, events, generate, asked_by}
+use Rattle.rhythm_app.specs.Asked.{Asked, help, version, transcribe, edit, events, generate, drill, asked_by}
 use Rattle.rhythm_app.specs.Ends.{HasRisen, HasStatus, IsAnswered, IsCause, IsComplete, IsCompleteFor, IsFailureOf, MayEnd, Reached}
 use Rattle.rhythm_app.specs.Outcome.{HasOutcome, HasOutcomeOf, Ready, explain, say, serve}
 use Rattle.rhythm_app.specs.declared.stop.Kind.TheVariants as kind
@@ -57,6 +57,7 @@ reached_ready (Some (edit midi grammar)) files (say text, h) = absurd h.2
 reached_ready (Some (edit midi grammar)) files (serve g p, h) = (serve g p, h, tt)
 reached_ready (Some (events kern)) files reached = absurd reached
 reached_ready (Some (generate number bars)) files reached = absurd reached
+reached_ready (Some (drill number grammar)) files reached = absurd reached
 
 may_end_4 : (ready : Ready) → Serves ready → MayEnd (Ok ready) 4
 may_end_4 explain serves = absurd serves

@@ -10,7 +10,7 @@ use Rattle.rhythm_app.specs.declared.request.Request.{Request}
 use Rattle.rhythm_app.specs.declared.request.Request.TheVariants as request
 
 -- the help, the version, or a command with the names of its files and its numbers: `transcribe MIDI GRAMMAR`, `edit MIDI GRAMMAR`,
--- `events KERN` or `generate NUMBER BARS`
+-- `events KERN`, `generate NUMBER BARS` or `drill NUMBER GRAMMAR`
 pub data Asked : Type 0 where
   help : Asked
   version : Asked
@@ -18,6 +18,7 @@ pub data Asked : Type 0 where
   edit : List ℕ → List ℕ → Asked
   events : List ℕ → Asked
   generate : ℕ → ℕ → Asked
+  drill : ℕ → List ℕ → Asked
 
 -- a word and one more
 abbrev pub of_one : (List ℕ → Option Asked) → List (List ℕ) → Option Asked
@@ -36,6 +37,10 @@ of_two make (a ∷ b ∷ c ∷ more) = None
 abbrev pub generate_by : List ℕ → List ℕ → Option Asked
 generate_by number bars = option_and_then (λ (n : ℕ). option_map (λ (b : ℕ). generate n b) (number_in 1 2000 bars)) (number_in 0 65534 number)
 
+-- the number of a piece, and a file
+abbrev pub drill_by : List ℕ → List ℕ → Option Asked
+drill_by number grammar = option_map (λ (n : ℕ). drill n grammar) (number_in 0 65534 number)
+
 -- the command of the words that are no option
 abbrev pub command_by : List (List ℕ) → Option Asked
 command_by [] = None
@@ -44,6 +49,7 @@ command_by (word ∷ more) =
     else if pointwise nat_eq word (codes "edit") then of_two (λ a b. Some (edit a b)) more
     else if pointwise nat_eq word (codes "events") then of_one (λ a. Some (events a)) more
     else if pointwise nat_eq word (codes "generate") then of_two generate_by more
+    else if pointwise nat_eq word (codes "drill") then of_two drill_by more
     else None
 
 -- what is asked for, whatever the number of workers is
@@ -65,6 +71,7 @@ file_names (transcribe midi grammar) = midi ∷ grammar ∷ []
 file_names (edit midi grammar) = midi ∷ grammar ∷ []
 file_names (events kern) = kern ∷ []
 file_names (generate number bars) = []
+file_names (drill number grammar) = grammar ∷ []
 
 -- the bytes under a name, none where there is no such file
 abbrev pub file_content : List File → List ℕ → List ℕ
@@ -78,6 +85,7 @@ shown_request (request.Transcribe files) = transcribe files.midi.now files.gramm
 shown_request (request.Edit files) = edit files.midi.now files.grammar.now
 shown_request (request.Events kern) = events kern.now
 shown_request (request.Generate number bars) = generate number bars
+shown_request (request.Drill number grammar) = drill number grammar.now
 
 -- the numbers of a request lie in their ranges
 abbrev pub IsInRange : Request → Type 0
@@ -87,6 +95,7 @@ IsInRange (request.Transcribe files) = ⊤
 IsInRange (request.Edit files) = ⊤
 IsInRange (request.Events kern) = ⊤
 IsInRange (request.Generate number bars) = (number ≤ 65534) × (1 ≤ bars) × (bars ≤ 2000)
+IsInRange (request.Drill number grammar) = number ≤ 65534
 
 -- no script is read for the command
 abbrev pub ReadsNoScript : Option Asked → Type 0
@@ -97,3 +106,4 @@ ReadsNoScript (Some (transcribe midi grammar)) = ⊤
 ReadsNoScript (Some (edit midi grammar)) = ⊥
 ReadsNoScript (Some (events kern)) = ⊤
 ReadsNoScript (Some (generate number bars)) = ⊤
+ReadsNoScript (Some (drill number grammar)) = ⊤

@@ -1,14 +1,16 @@
 -- By how much a run raises the counter of builds.
-use Rattle.std.specs.Prelude.{◌≡◌, ℕ, ◌≤◌, ◌⊎◌, List, Ok, Option, Some, None, ⊤}
+use Rattle.std.specs.Prelude.{◌≡◌, ℕ, ◌≤◌, ◌⊎◌, List, Result, Ok, Err, Option, Some, None, ⊤}
 use Rattle.std.specs.Option.{ForSome}
+use Rattle.drill_run.specs.Ends.{HasDrilled, IsBrokenOff}
 use Rattle.edit_session.specs.Opening.{cells_of}
 use Rattle.performance_load.specs.Loading.{IsLoaded}
-use Rattle.rhythm_app.specs.Asked.{Asked, help, version, transcribe, edit, events, generate, file_content}
-use Rattle.rhythm_app.specs.Outcome.{midi_tests}
+use Rattle.rhythm_app.specs.Asked.{Asked, help, version, transcribe, edit, events, generate, drill, file_content}
+use Rattle.rhythm_app.specs.Outcome.{IsPieceOf, IsUnderstood, midi_tests}
 use Rattle.rhythm_app.specs.declared.stop.Kind.TheVariants as kind
 use Rattle.rhythm_app.specs.declared.stop.Stop.{Stop}
 use Rattle.rhythm_app.specs.declared.stop.Stop.TheVariants.{FileTooLong, LineTooLong, NoDerivation, Read, ScoreTooLong, Write, Memory}
 use Rattle.rhythm_base.specs.Counter.{risen}
+use Rattle.rhythm_base.specs.Grammar.{Grammar}
 use Rattle.rhythm_base.specs.Performance.{Performance}
 use Rattle.rhythm_ports.specs.Files.{File}
 use Rattle.smf_reader.specs.Played.{Smf}
@@ -25,7 +27,16 @@ AreAllBuilt bytes old new = (p : Performance) × IsPerformanceIn bytes p × (new
 abbrev pub AreSomeBuilt : List ℕ → ℕ → ℕ → Type 0
 AreSomeBuilt bytes old new = (p : Performance) × IsPerformanceIn bytes p × (new ≤ risen old (cells_of p))
 
--- all cells of the command's performance were built. A command that has none leaves the counter as it was
+-- a grammar file and the number of a piece say this grammar and this performance, and P holds of them
+abbrev pub ForPiece : List ℕ → ℕ → (Grammar → Performance → Type 0) → Type 0
+ForPiece bytes number P = (g : Grammar) × (p : Performance) × IsUnderstood bytes (Ok g) × IsPieceOf number p × P g p
+
+-- all cells of a piece were built, each once, and then those for the edits of its drill, which comes to this
+abbrev pub AreDrilled : List ℕ → ℕ → Result (List ℕ) ℕ → ℕ → ℕ → Type 0
+AreDrilled bytes number said old new = ForPiece bytes number (λ g p. HasDrilled g number p said (risen old (cells_of p)) new)
+
+-- all cells of the command's performance were built. A drill builds, besides, those for its edits. A command
+-- that has no cells leaves the counter as it was
 abbrev pub HasBuiltAll : Option Asked → ℕ → ℕ → List File → Type 0
 HasBuiltAll None old new files = ⊥
 HasBuiltAll (Some help) old new files = new ≡ old
@@ -34,6 +45,7 @@ HasBuiltAll (Some (transcribe midi grammar)) old new files = AreAllBuilt (file_c
 HasBuiltAll (Some (edit midi grammar)) old new files = AreAllBuilt (file_content files midi) old new
 HasBuiltAll (Some (events kern)) old new files = new ≡ old
 HasBuiltAll (Some (generate number bars)) old new files = new ≡ old
+HasBuiltAll (Some (drill number grammar)) old new files = (text : List ℕ) × AreDrilled (file_content files grammar) number (Ok text) old new
 
 -- what holds of the cells by the stop: all of them are built where only a derivation or room for the score is wanting, some of them
 -- may be where memory is, and none before any other stop. Where something was written before, more is known by what was written
@@ -53,6 +65,26 @@ HasBuiltOf files midi old new =
     MatchBuilds (ForSome files (λ files. AreAllBuilt (file_content files midi) old new))
     ((new ≡ old) ⊎ ForSome files (λ files. AreSomeBuilt (file_content files midi) old new)) (new ≡ old)
 
+-- what holds of the cells of a drill by the stop: as of those of a file, but where the last score is too long, those for the edits are
+-- built, too; and where memory is wanting, some of these may be
+abbrev pub MatchDrilled : Type 0 → (ℕ → Type 0) → Type 0 → Type 0 → Stop → Type 0
+MatchDrilled all long some none (NoDerivation _ _) = all
+MatchDrilled all long some none (ScoreTooLong line) = long line
+MatchDrilled all long some none Memory = some
+MatchDrilled all long some none Write = ⊤
+MatchDrilled all long some none _ = none
+
+-- some of the cells of a performance were built, or all of them and some of those for the edits of its drill
+abbrev pub AreSomeDrilled : Grammar → ℕ → Performance → ℕ → ℕ → Type 0
+AreSomeDrilled g number p old new = (new ≤ risen old (cells_of p)) ⊎ IsBrokenOff g number p (risen old (cells_of p)) new
+
+-- the same of the cells of a drill by a grammar file
+abbrev pub HasDrilledOf : Option (List File) → ℕ → List ℕ → ℕ → ℕ → Stop → Type 0
+HasDrilledOf files number grammar old new =
+    MatchDrilled (ForSome files (λ files. ForPiece (file_content files grammar) number (λ g p. new ≡ risen old (cells_of p))))
+    (λ line. ForSome files (λ files. AreDrilled (file_content files grammar) number (Err line) old new))
+    ((new ≡ old) ⊎ ForSome files (λ files. ForPiece (file_content files grammar) number (λ g p. AreSomeDrilled g number p old new))) (new ≡ old)
+
 -- how many cells had been built when a run stopped: none where no performance is asked for
 abbrev pub HasBuilt : Option (List File) → Option Asked → ℕ → ℕ → Stop → Type 0
 HasBuilt files None old new = λ stop. new ≡ old
@@ -62,3 +94,4 @@ HasBuilt files (Some (transcribe midi grammar)) old new = HasBuiltOf files midi 
 HasBuilt files (Some (edit midi grammar)) old new = HasBuiltOf files midi old new
 HasBuilt files (Some (events kern)) old new = λ stop. new ≡ old
 HasBuilt files (Some (generate number bars)) old new = λ stop. new ≡ old
+HasBuilt files (Some (drill number grammar)) old new = HasDrilledOf files number grammar old new

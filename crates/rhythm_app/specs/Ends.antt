@@ -4,7 +4,7 @@ use Rattle.std.specs.Prelude.{◌≡◌, ◌≢◌, ℕ, ◌+◌, ◌⊎◌, ◌
 use Rattle.std.specs.Io.KnownBytes.{Appends}
 use Rattle.command_line.specs.Texts.{has_narrow_lines}
 use Rattle.edit_session.specs.Opening.{cells_of}
-use Rattle.rhythm_app.specs.Asked.{Asked, help, version, transcribe, edit, events, generate, asked_by, file_names, file_content}
+use Rattle.rhythm_app.specs.Asked.{Asked, help, version, transcribe, edit, events, generate, drill, asked_by, file_names, file_content}
 use Rattle.rhythm_app.specs.Builds.{HasBuiltAll}
 use Rattle.rhythm_app.specs.Outcome.{HasOutcome, HasOutcomeOf, Ready, explain, say, serve, midi_tests}
 use Rattle.rhythm_app.specs.Stops.{status_of, script_stop}
@@ -98,6 +98,10 @@ Reached (Some (events kern)) files kind.Grammar = ⊥
 Reached (Some (events kern)) files kind.Kern = ⊤
 Reached (Some (events kern)) files kind.Script = ⊥
 Reached (Some (generate number bars)) files kind = ⊥
+Reached (Some (drill number grammar)) files kind.Midi = ⊥
+Reached (Some (drill number grammar)) files kind.Grammar = ⊤
+Reached (Some (drill number grammar)) files kind.Kern = ⊥
+Reached (Some (drill number grammar)) files kind.Script = ⊥
 
 -- what the command and the files are where a call fails, the script is over a limit, or memory is wanted: the tests before a failed
 -- read pass, and all of them before the script is read or anything is written. Memory may be wanted before the words are read

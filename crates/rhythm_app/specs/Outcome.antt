@@ -1,9 +1,11 @@
 -- What the words of a command line and the bytes of the files come to: what the command is ready to write, or the first test that
 -- fails, as a stop. The tests come in this order: the words; the MIDI file's size and its faults; the grammar file's size and its
 -- faults; the notes and the bars; the cells, the root symbols and the derivations; the size of a score. Where the command has a
--- **kern file, after the words come its size and its faults. `generate`, the help and the version read no file. A failed read, a failed write and want of memory are no outcomes: they
+-- **kern file, after the words come its size and its faults. `drill` has a grammar file, the cells, the root symbols and the derivations of its piece, and the size of its last score; `generate`, the help and the version read no file. A failed read, a failed write and want of memory are no outcomes: they
 -- may end any run.
 use Rattle.std.specs.Prelude.{◌≡◌, ◌≢◌, ℕ, ◌+◌, ◌≤◌, ◌⊎◌, nat_le, List, [], ◌∷◌, ◌++◌, codes, length, IfOk, if◌then◌else◌, Result, Ok, Err, Option, Some, None}
+use Rattle.drill_run.specs.Ends.{IsDrillOf}
+use Rattle.drill_run.specs.declared.piece.TheConstants.{DRILL_BARS}
 use Rattle.edit_session.specs.Opening.{CanOpen, IsOpenFault}
 use Rattle.edit_session.specs.declared.open_fault.OpenFault.{OpenFault}
 use Rattle.edit_session.specs.declared.open_fault.OpenFault.TheVariants as opening
@@ -18,7 +20,8 @@ use Rattle.note_list.specs.declared.fault.NoteFault.TheVariants as note
 use Rattle.performance_load.specs.Loading.{Loads}
 use Rattle.performance_load.specs.declared.load_fault.LoadFault.{LoadFault}
 use Rattle.performance_load.specs.declared.load_fault.LoadFault.TheVariants as loading
-use Rattle.rhythm_app.specs.Asked.{Asked, help, version, transcribe, edit, events, generate, asked_by, file_content}
+use Rattle.piece_laws.specs.Laws.{IsLoadingOf}
+use Rattle.rhythm_app.specs.Asked.{Asked, help, version, transcribe, edit, events, generate, drill, asked_by, file_content}
 use Rattle.rhythm_app.specs.declared.stop.Kind.{Kind}
 use Rattle.rhythm_app.specs.declared.stop.Kind.TheVariants as kind
 use Rattle.rhythm_app.specs.declared.stop.Stop.{Stop}
@@ -141,6 +144,27 @@ IsListing score (Ok (say text)) = (list : List KernEvent) × AreEvents score lis
 IsListing score (Ok (serve g p)) = ⊥
 IsListing score (Err s) = ⊥
 
+-- ---- the drill
+
+-- the performance of the piece of a number, as its file is read and loaded. It is always well formed
+abbrev pub IsPieceOf : ℕ → Performance → Type 0
+IsPieceOf number p = IsLoadingOf number DRILL_BARS (Ok p) × IsWellFormed p
+
+-- a piece is always made
+abbrev pub IsMade : ℕ → Result Performance Stop → Type 0
+IsMade number r = (p : Performance) × IsPieceOf number p × (r ≡ Ok p)
+
+-- a session is opened, and the score after the last edit of the drill is too long
+abbrev pub IsTooLongDrill : Grammar → ℕ → Performance → Stop → Type 0
+IsTooLongDrill g number p s = (line : ℕ) × CanOpen g p × IsDrillOf g number p (Err line) × (s ≡ stop.ScoreTooLong line)
+
+-- what the drill of a number on a performance comes to by a grammar: its summary
+abbrev pub IsDrilling : Grammar → ℕ → Performance → Result Ready Stop → Type 0
+IsDrilling g number p (Ok explain) = ⊥
+IsDrilling g number p (Ok (say text)) = CanOpen g p × IsDrillOf g number p (Ok text)
+IsDrilling g number p (Ok (serve h q)) = ⊥
+IsDrilling g number p (Err s) = IsUnopened g p s ⊎ IsTooLongDrill g number p s
+
 -- ---- the run
 
 -- one test and, with what it came to, the next: both pass, or the first that fails is the outcome
@@ -169,6 +193,8 @@ HasOutcomeOf (Some (transcribe midi grammar)) files r = AreRead (file_content fi
 HasOutcomeOf (Some (edit midi grammar)) files r = AreRead (file_content files midi) (file_content files grammar) IsEditing r
 HasOutcomeOf (Some (events kern)) files r = AreInTurn (IsScoreRead (file_content files kern)) IsListing r
 HasOutcomeOf (Some (generate number bars)) files r = r ≡ Ok (say (generated number bars))
+HasOutcomeOf (Some (drill number grammar)) files r =
+    AreInTurn (IsUnderstood (file_content files grammar)) (λ g. AreInTurn (IsMade number) (λ p. IsDrilling g number p)) r
 
 -- what a command line comes to
 abbrev pub HasOutcome : List (List ℕ) → List File → Result Ready Stop → Type 0

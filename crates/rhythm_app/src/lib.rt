@@ -3,6 +3,7 @@
 //! is a function whose contract says what its tests come to, and `run` puts them together.
 #![tactic(auto)]
 
+mod drill;
 mod edit;
 mod events;
 mod files;

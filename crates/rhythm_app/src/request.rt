@@ -1,5 +1,5 @@
 ghost use Rattle.command_line.specs.CommandLines.{HasWorkers};
-ghost use Rattle.rhythm_app.specs.Asked.{IsInRange, asked_of, command_by, generate_by, shown_request};
+ghost use Rattle.rhythm_app.specs.Asked.{IsInRange, asked_of, command_by, drill_by, generate_by, shown_request};
 ghost use Rattle.std.specs.Prelude.{◌≡◌, ◌≤◌, ◌∷◌, [], IfSome, option_map};
 
 use command_line::{Invocation, number_in};
@@ -27,6 +27,8 @@ pub enum Request<'a> {
     Events(&'a str),
     /// The MIDI file of the piece of a number.
     Generate { number: u32, bars: u32 },
+    /// The summary of the drill of a number by a grammar.
+    Drill { number: u32, grammar: &'a str },
 }
 
 /// The command of a word and the name of one file.
@@ -51,6 +53,15 @@ fn generate_request<'a>(number: &'a str, bars: &'a str) -> Option<Request<'a>>
     Some(Request::Generate { number, bars })
 }
 
+/// `drill` with its number and the name of its file.
+fn drill_request<'a>(number: &'a str, grammar: &'a str) -> Option<Request<'a>>
+    ensures asked { option_map shown_request result ≡ drill_by number.entry.now grammar.entry.now }
+    ensures range { IfSome result IsInRange }
+{
+    let number = number_in(number, 0, 65534)? as u32;
+    Some(Request::Drill { number, grammar })
+}
+
 /// The command of a word and two more.
 fn request_of_two<'a>(word: &'a str, first: &'a str, second: &'a str) -> Option<Request<'a>>
     ensures asked { option_map shown_request result ≡ command_by (word.entry.now ∷ first.entry.now ∷ second.entry.now ∷ []) }
@@ -66,6 +77,8 @@ fn request_of_two<'a>(word: &'a str, first: &'a str, second: &'a str) -> Option<
         Some(Request::Edit(files))
     } else if word == "generate" {
         generate_request(first, second)
+    } else if word == "drill" {
+        drill_request(first, second)
     } else {
         None
     }

@@ -22,6 +22,7 @@ ghost use Rattle.rhythm_ports.specs.Causes.{Rose};
 ghost use Rattle.std.specs.Option.{ForSome};
 ghost use Rattle.std.specs.Prelude.{◌≡◌, ◌≢◌, ◌≤◌, ◌↔◌, ◌⊎◌, Err, IfErr, None, OnOk};
 
+use crate::drill::drill;
 use crate::edit::edit;
 use crate::events::events;
 use crate::generate::write_piece;
@@ -79,6 +80,11 @@ fn perform<R: Threads + Sync, F: Shelf, S: Source, O: Sink, G: Gate + Sync, B: T
         }
         Some(Request::Events(kern)) => events(alloc, kern, shelf, out),
         Some(Request::Generate { number, bars }) => write_piece(alloc, number, bars, out),
+        Some(Request::Drill { number, grammar }) => {
+            drill(
+                rt, alloc, workers, number, grammar, shelf, out, gate, builds,
+            )
+        }
     }
 }
 

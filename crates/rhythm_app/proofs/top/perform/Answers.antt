@@ -1,5 +1,5 @@
 use Rattle.std.proofs.Common.{◌≡◌, ap, sym, Some, ◌∙◌}
-use Rattle.rhythm_app.specs.Asked.{asked_of, edit, events, generate, help, shown_request, transcribe, version}
+use Rattle.rhythm_app.specs.Asked.{asked_of, drill, edit, events, generate, help, shown_request, transcribe, version}
 use Rattle.rhythm_app.specs.Stages.{EndsReading}
 use Rattle.rhythm_app.specs.declared.request.Request.{Request}
 use Rattle.rhythm_ports.specs.Causes.{Rose}
@@ -151,3 +151,29 @@ returns-in-Some-Generate-clause-took g c =
 pub returns-in-Some-Generate-clause-risen : goal.returns-in-Some-Generate-clause-risen
 returns-in-Some-Generate-clause-risen g c =
     free_risen (Rose (g.F.Shelf.faults c.args.shelf.now) (g.F.Shelf.faults c.args.shelf.now)) (Rose (g.S.Source.faults c.args.script.now) (g.S.Source.faults c.args.script.now)) (Rose (g.O.Sink.faults c.args.out.now) (g.O.Sink.faults c.write_piece.new.out)) c.write_piece.result c.write_piece.ensures.ends
+
+pub returns-in-Some-Drill-clause-done : goal.returns-in-Some-Drill-clause-done
+returns-in-Some-Drill-clause-done g c =
+    let same = ap (λ (r : Request). Some (shown_request r)) (sym c.in-Some-Drill.field-0-is) ∙ c.in-Some-Drill.ensures.asked in
+    said_answered (g.F.Shelf.files c.args.shelf.now) (Some (drill c.in-Some-Drill.number c.in-Some-Drill.grammar.now)) (asked_of c.args.said.now) same
+    (g.S.Source.rest c.args.script.now) (g.S.Source.rest c.args.script.now) (g.O.Sink.taken c.args.out.now) (g.O.Sink.taken c.drill.new.out) c.args.builds.now c.drill.new.builds c.drill.result c.drill.ensures.done
+
+pub returns-in-Some-Drill-clause-cause : goal.returns-in-Some-Drill-clause-cause
+returns-in-Some-Drill-clause-cause g c =
+    let same = ap (λ (r : Request). Some (shown_request r)) (sym c.in-Some-Drill.field-0-is) ∙ c.in-Some-Drill.ensures.asked in
+    same_cause (g.F.Shelf.files c.args.shelf.now) (Some (drill c.in-Some-Drill.number c.in-Some-Drill.grammar.now)) (asked_of c.args.said.now) same
+    (g.S.Source.rest c.args.script.now) (g.S.Source.rest c.args.script.now) (g.O.Sink.taken c.args.out.now) (g.O.Sink.taken c.drill.new.out) c.args.builds.now c.drill.new.builds c.drill.result c.drill.ensures.cause
+
+pub returns-in-Some-Drill-clause-took : goal.returns-in-Some-Drill-clause-took
+returns-in-Some-Drill-clause-took g c =
+    let same = ap (λ (r : Request). Some (shown_request r)) (sym c.in-Some-Drill.field-0-is) ∙ c.in-Some-Drill.ensures.asked in
+    said_took (g.F.Shelf.files c.args.shelf.now) (Some (drill c.in-Some-Drill.number c.in-Some-Drill.grammar.now)) (asked_of c.args.said.now) same
+    (g.S.Source.rest c.args.script.now) (g.S.Source.rest c.args.script.now) (g.O.Sink.taken c.args.out.now) (g.O.Sink.taken c.drill.new.out) c.args.builds.now c.drill.new.builds (g.F.Shelf.faults c.args.shelf.now) (g.F.Shelf.faults c.drill.new.shelf) ((c.drill.new.out ≡ c.args.out.now) × (c.args.script.now ≡ c.args.script.now))
+    c.drill.result c.drill.ensures.part (untouched c.args.script.now (c.drill.new.out ≡ c.args.out.now) (EndsReading (g.F.Shelf.faults c.args.shelf.now) (g.F.Shelf.faults c.drill.new.shelf)) c.drill.result
+    c.drill.ensures.nothing)
+
+pub returns-in-Some-Drill-clause-strays : goal.returns-in-Some-Drill-clause-strays
+returns-in-Some-Drill-clause-strays g c = λ files are names.
+    let same = ap (λ (r : Request). Some (shown_request r)) (sym c.in-Some-Drill.field-0-is) ∙ c.in-Some-Drill.ensures.asked in
+    c.drill.ensures.strays files are (same_names (g.F.Shelf.files c.args.shelf.now) (Some (drill c.in-Some-Drill.number c.in-Some-Drill.grammar.now)) (asked_of c.args.said.now) same
+    (g.S.Source.rest c.args.script.now) (g.S.Source.rest c.args.script.now) (g.O.Sink.taken c.args.out.now) (g.O.Sink.taken c.drill.new.out) c.args.builds.now c.drill.new.builds files names)

@@ -1,0 +1,139 @@
+-- What the stages of a drill come to together.
+use Rattle.std.proofs.Common.{◌≡◌, ◌⊎◌, ℕ, List, Vec, inl, inr, refl, sym, subst, IfErr, IfOk, OnOk, Option, Some, Result, Ok, Err}
+use Rattle.std.specs.Option.{ForSome}
+use Rattle.std.specs.Prelude.{◌≤◌}
+use Rattle.drill_run.specs.Drill.{Drilled}
+use Rattle.drill_run.specs.Ends.{HasDrilled, IsBrokenOff, IsDrillOf}
+use Rattle.edit_session.specs.Opening.{CanOpen, IsOpenFault, cells_of}
+use Rattle.edit_session.specs.declared.open_fault.OpenFault.{OpenFault}
+use Rattle.edit_session.specs.declared.open_fault.OpenFault.TheVariants as opening
+use Rattle.rhythm_app.proofs.InTurn.{next_follows}
+use Rattle.rhythm_app.specs.Asked.{drill, file_content}
+use Rattle.rhythm_app.specs.Builds.{AreDrilled, AreSomeDrilled, ForPiece, HasBuilt, HasBuiltAll, MatchBuilds, MatchDrilled}
+use Rattle.rhythm_app.specs.Outcome.{AreInTurn, HasOutcomeOf, IsDrilling, IsMade, IsPieceOf, IsUnderstood, IsUnopened, Ready, open_stop, say}
+use Rattle.rhythm_app.specs.Stages.{Follows, IsEarly, said_of}
+use Rattle.rhythm_app.specs.declared.stop.Kind.TheVariants as kind
+use Rattle.rhythm_app.specs.declared.stop.Stop.{Stop}
+use Rattle.rhythm_app.specs.declared.stop.Stop.TheVariants as stop
+use Rattle.rhythm_base.specs.Counter.{risen}
+use Rattle.rhythm_base.specs.Grammar.{Grammar}
+use Rattle.rhythm_base.specs.Performance.{Performance}
+use Rattle.rhythm_ports.specs.Files.{File}
+
+-- ---- the session
+
+module _ (g : Grammar) (number : ℕ) (p : Performance) where
+  -- no session is opened
+  pub unopened_drilling : (s : Stop) → IsUnopened g p s ⊎ (s ≡ stop.Memory) → Follows (IsDrilling g number p) (Err s)
+  unopened_drilling s (inl h) = inl (inl h)
+  unopened_drilling s (inr e) = subst (λ (x : Stop). Follows (IsDrilling g number p) (Err x)) (sym e) (inr tt)
+
+  module _ (A B C : Type 0) (D : Type 0) (L : ℕ → Type 0) where
+    at_fault : (fault : OpenFault) → MatchBuilds A B C (open_stop fault) → MatchDrilled A L (B ⊎ D) C (open_stop fault)
+    at_fault (opening.Cells count) h = h
+    at_fault (opening.NoStart bar num den) h = h
+    at_fault (opening.NoDerivation channel bar) h = h
+    at_fault opening.Memory h = inl h
+
+    -- the cells that were built by then
+    pub unopened_built : (s : Stop) → IsUnopened g p s ⊎ (s ≡ stop.Memory) → MatchBuilds A B C s → MatchDrilled A L (B ⊎ D) C s
+    unopened_built s (inl (fault, is, other, e)) h =
+        subst (MatchDrilled A L (B ⊎ D) C) (sym e) (at_fault fault (subst (MatchBuilds A B C) e h))
+    unopened_built s (inr e) h = subst (MatchDrilled A L (B ⊎ D) C) (sym e) (inl (subst (MatchBuilds A B C) e h))
+
+  -- the drill is that of the grammar and the performance that the session was opened with
+  pub same_drill : (h : Grammar) (q : Performance) (said : Result (List ℕ) ℕ) (start mid now : ℕ) → h ≡ g → q ≡ p → mid ≡ start
+      → HasDrilled h number q said mid now → HasDrilled g number p said start now
+  same_drill h q said start mid now a b e d =
+      subst (λ m. HasDrilled g number p said m now) e
+      (subst (λ (x : Performance). HasDrilled g number x said mid now) b (subst (λ (x : Grammar). HasDrilled x number q said mid now) a d))
+
+  pub same_break : (h : Grammar) (q : Performance) (start mid now : ℕ) → h ≡ g → q ≡ p → mid ≡ start
+      → IsBrokenOff h number q mid now → IsBrokenOff g number p start now
+  same_break h q start mid now a b e d =
+      subst (λ m. IsBrokenOff g number p m now) e
+      (subst (λ (x : Performance). IsBrokenOff g number x mid now) b (subst (λ (x : Grammar). IsBrokenOff x number q mid now) a d))
+
+  -- what it comes to
+  pub drill_of : (said : Result (List ℕ) ℕ) (start now : ℕ) → HasDrilled g number p said start now → IsDrillOf g number p said
+  drill_of said start now (last, besides, drilled, is, rises) = (last, besides, drilled, is)
+
+  pub drilling_said : (text : List ℕ) (start now : ℕ) → CanOpen g p → HasDrilled g number p (Ok text) start now → Follows (IsDrilling g number p) (Ok (say text))
+  drilling_said text start now can d = inl (can, drill_of (Ok text) start now d)
+
+  pub drilling_too_long : (line start now : ℕ) → CanOpen g p → HasDrilled g number p (Err line) start now → Follows (IsDrilling g number p) (Err (stop.ScoreTooLong line))
+  drilling_too_long line start now can d = inl (inr (line, can, drill_of (Err line) start now d, refl))
+
+-- ---- the file and the piece
+
+-- nothing is built yet
+pub early_drilled : (A B : Type 0) (L : ℕ → Type 0) (old : ℕ) (s : Stop) → IsEarly s → MatchDrilled A L ((old ≡ old) ⊎ B) (old ≡ old) s
+early_drilled A B L old stop.Usage early = absurd early
+early_drilled A B L old (stop.FileTooLong k n) early = refl
+early_drilled A B L old (stop.LineTooLong n) early = absurd early
+early_drilled A B L old (stop.Smf e) early = refl
+early_drilled A B L old (stop.Grammar e) early = refl
+early_drilled A B L old (stop.Kern e) early = refl
+early_drilled A B L old stop.NoNotes early = refl
+early_drilled A B L old (stop.TooManyNotes n) early = refl
+early_drilled A B L old (stop.BadSignature m n) early = refl
+early_drilled A B L old (stop.UnevenBar l m n) early = refl
+early_drilled A B L old (stop.TooManyBars n) early = refl
+early_drilled A B L old (stop.TooManyCells n) early = refl
+early_drilled A B L old (stop.NoStart l m n) early = refl
+early_drilled A B L old (stop.NoDerivation m n) early = absurd early
+early_drilled A B L old (stop.ScoreTooLong n) early = absurd early
+early_drilled A B L old (stop.Read k) early = refl
+early_drilled A B L old stop.Write early = absurd early
+early_drilled A B L old stop.Memory early = inl refl
+
+-- what is known of the cells by the stop gives what follows from it
+drilled_more : {A D B E C F : Type 0} (L M : ℕ → Type 0) → (A → D) → ((line : ℕ) → L line → M line) → (B → E) → (C → F) → (s : Stop) → MatchDrilled A L B C s → MatchDrilled D M E F s
+drilled_more L M a l b n stop.Usage h = n h
+drilled_more L M a l b n (stop.FileTooLong k m) h = n h
+drilled_more L M a l b n (stop.LineTooLong m) h = n h
+drilled_more L M a l b n (stop.Smf e) h = n h
+drilled_more L M a l b n (stop.Grammar e) h = n h
+drilled_more L M a l b n (stop.Kern e) h = n h
+drilled_more L M a l b n stop.NoNotes h = n h
+drilled_more L M a l b n (stop.TooManyNotes m) h = n h
+drilled_more L M a l b n (stop.BadSignature m k) h = n h
+drilled_more L M a l b n (stop.UnevenBar j m k) h = n h
+drilled_more L M a l b n (stop.TooManyBars m) h = n h
+drilled_more L M a l b n (stop.TooManyCells m) h = n h
+drilled_more L M a l b n (stop.NoStart j m k) h = n h
+drilled_more L M a l b n (stop.NoDerivation m k) h = a h
+drilled_more L M a l b n (stop.ScoreTooLong m) h = l m h
+drilled_more L M a l b n (stop.Read k) h = n h
+drilled_more L M a l b n stop.Write h = tt
+drilled_more L M a l b n stop.Memory h = b h
+
+understood_is : (bytes : List ℕ) (g : Grammar) → Follows (IsUnderstood bytes) (Ok g) → IsUnderstood bytes (Ok g)
+understood_is bytes g (inl h) = h
+understood_is bytes g (inr failed) = absurd failed
+
+module _ (fs : Option (List File)) (number : ℕ) (grammar : List ℕ) (g : Grammar) (p : Performance)
+    (understood : (files : List File) → fs ≡ Some files → Follows (IsUnderstood (file_content files grammar)) (Ok g)) (piece : IsPieceOf number p) where
+  for_piece : (P : Grammar → Performance → Type 0) → P g p → ForSome fs (λ files. ForPiece (file_content files grammar) number P)
+  for_piece P h = λ files are. (g, p, understood_is (file_content files grammar) g (understood files are), piece, h)
+
+  -- the drill of the piece is what the words and the file come to
+  pub drill_follows : (files : List File) → fs ≡ Some files → (r : Result Ready Stop) → Follows (IsDrilling g number p) r
+      → Follows (HasOutcomeOf (Some (drill number grammar)) files) r
+  drill_follows files are r h =
+      next_follows (IsUnderstood (file_content files grammar)) (λ g. AreInTurn (IsMade number) (λ p. IsDrilling g number p)) g r (understood files are)
+      (next_follows (IsMade number) (λ p. IsDrilling g number p) p r (inl (p, piece, refl)) h)
+
+  pub all_drilled : {A : Type 0} (old new : ℕ) (r : Result (Vec ℕ A) Stop) → IfOk r (λ text. HasDrilled g number p (Ok text.items) (risen old (cells_of p)) new)
+      → OnOk r (ForSome fs (HasBuiltAll (Some (drill number grammar)) old new))
+  all_drilled old new (Ok text) h = λ files are. (text.items, for_piece (λ g p. HasDrilled g number p (Ok text.items) (risen old (cells_of p)) new) h files are)
+  all_drilled old new (Err s) h = tt
+
+  pub piece_built : {T : Type 0} (old new : ℕ) (r : Result T Stop)
+      → IfErr r (MatchDrilled (new ≡ risen old (cells_of p)) (λ line. HasDrilled g number p (Err line) (risen old (cells_of p)) new) (AreSomeDrilled g number p old new) (new ≡ old))
+      → IfErr r (HasBuilt fs (Some (drill number grammar)) old new)
+  piece_built old new (Ok x) h = tt
+  piece_built old new (Err s) h =
+      drilled_more (λ line. HasDrilled g number p (Err line) (risen old (cells_of p)) new) (λ line. ForSome fs (λ files. AreDrilled (file_content files grammar) number (Err line) old new))
+      (for_piece (λ g p. new ≡ risen old (cells_of p))) (λ line. for_piece (λ g p. HasDrilled g number p (Err line) (risen old (cells_of p)) new))
+      (λ some. inr (for_piece (λ g p. AreSomeDrilled g number p old new) some)) (λ none. none) s h
