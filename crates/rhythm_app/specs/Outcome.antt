@@ -1,8 +1,9 @@
 -- What the words of a command line and the bytes of the files come to: what the command is ready to write, or the first test that
 -- fails, as a stop. The tests come in this order: the words; the MIDI file's size and its faults; the grammar file's size and its
 -- faults; the notes and the bars; the cells, the root symbols and the derivations; the size of a score. Where the command has a
--- **kern file, after the words come its size and its faults. `drill` has a grammar file, the cells, the root symbols and the derivations of its piece, and the size of its last score; `generate`, the help and the version read no file. A failed read, a failed write and want of memory are no outcomes: they
--- may end any run.
+-- **kern file, after the words come its size and its faults. `drill` has a grammar file, the cells, the root symbols and the derivations
+-- of its piece, and the size of its last score; `generate`, the help and the version read no file. A failed read, a failed write and
+-- want of memory are no outcomes: they may end any run.
 use Rattle.std.specs.Prelude.{◌≡◌, ◌≢◌, ℕ, ◌+◌, ◌≤◌, ◌⊎◌, nat_le, List, [], ◌∷◌, ◌++◌, codes, length, IfOk, if◌then◌else◌, Result, Ok, Err, Option, Some, None}
 use Rattle.drill_run.specs.Ends.{IsDrillOf}
 use Rattle.drill_run.specs.declared.piece.TheConstants.{DRILL_BARS}
