@@ -98,7 +98,7 @@ impl Gate for CountingGate {
     }
 }
 
-/// Runs `edit` over the shelf and the script, with these sinks.
+/// Runs `edit` over the shelf and the script, with these sinks, by one worker.
 pub fn edit<R: Threads + Sync>(
     rt: &R,
     alloc: Global,
@@ -108,7 +108,21 @@ pub fn edit<R: Threads + Sync>(
     err: &mut MemSink,
     gate: &CountingGate,
 ) -> Result<Ran, AllocError> {
-    let words = words_of(alloc, &["edit", "a.mid", "a.grammar"])?;
+    edit_by(rt, alloc, "1", shelf, script, out, err, gate)
+}
+
+/// Runs `edit` over the shelf and the script, with these sinks, by so many workers.
+pub fn edit_by<R: Threads + Sync>(
+    rt: &R,
+    alloc: Global,
+    workers: &str,
+    shelf: &mut MemShelf,
+    script: &mut MemSource,
+    out: &mut MemSink,
+    err: &mut MemSink,
+    gate: &CountingGate,
+) -> Result<Ran, AllocError> {
+    let words = words_of(alloc, &["edit", "--workers", workers, "a.mid", "a.grammar"])?;
     let mut builds = Steps::<InTests>::zero();
     let status = run(
         rt,

@@ -1,6 +1,6 @@
 ghost use Rattle.std.specs.Prelude.{◌≤◌};
 
-use crate::case::{CountingGate, Piece, edit, shelf_with};
+use crate::case::{CountingGate, Piece, edit, edit_by, shelf_with};
 use crate::grammars::USUAL;
 use crate::midi::FOUR_QUARTERS;
 use rhythm_ports::{MemSink, MemSource};
@@ -447,6 +447,7 @@ fn replies_hold<R: Threads + Sync>(
     rt: &R,
     alloc: Global,
     most: usize,
+    workers: &str,
     case: &ScriptCase,
 ) -> Result<bool, AllocError>
     requires { 1 ≤ most }
@@ -456,9 +457,10 @@ fn replies_hold<R: Threads + Sync>(
     let mut out = MemSink::new(alloc, most, Vec::new(alloc));
     let mut err = MemSink::new(alloc, most, Vec::new(alloc));
     let gate = CountingGate::new();
-    let ran = edit(
+    let ran = edit_by(
         rt,
         alloc,
+        workers,
         &mut shelf,
         &mut script,
         &mut out,
@@ -480,8 +482,23 @@ fn each_line_has_its_reply(rt: HostRuntime) -> Result<(), Fail> {
     for case in CASES {
         for most in [1, 2, 3, 4096] {
             assert!(rt;
-                replies_hold(&rt, alloc, most, case)?,
+                replies_hold(&rt, alloc, most, "1", case)?,
                 "{} by {most}",
+                case.shows
+            );
+        }
+    }
+    Ok(())
+}
+
+#[test]
+fn the_replies_are_the_same_by_many_workers(rt: HostRuntime) -> Result<(), Fail> {
+    let alloc = rt.alloc();
+    for case in CASES {
+        for workers in ["2", "16"] {
+            assert!(rt;
+                replies_hold(&rt, alloc, 4096, workers, case)?,
+                "{} by {workers} workers",
                 case.shows
             );
         }

@@ -1,9 +1,12 @@
 //! Tests of the top call, from the bytes of files to what out and err take: the scores of small pieces, with ties, grace notes,
-//! several voices and changes; the events of scores; what refuses a file, notes, bars or a grammar; and calls that fail.
+//! several voices and changes; the events of scores; pieces and drills of numbers; words that are answered or refused; what
+//! refuses a file, notes, bars or a grammar; and calls that fail.
 #![tactic(auto)]
 
 #[cfg(test)]
 mod case;
+#[cfg(test)]
+mod drills;
 #[cfg(test)]
 mod edits;
 #[cfg(test)]
@@ -20,3 +23,5 @@ mod midi;
 mod refusals;
 #[cfg(test)]
 mod scores;
+#[cfg(test)]
+mod words;

@@ -1,5 +1,5 @@
 -- What the words ask for.
-use Rattle.std.proofs.Common.{◌≡◌, ℕ, List, ap, inl, inr, refl, sym, Option, Some, None}
+use Rattle.std.proofs.Common.{◌≡◌, ℕ, List, ap, inl, refl, sym, Option, Some, None}
 use Rattle.std.specs.Prelude.{option_and_then}
 use Rattle.command_line.specs.CommandLines.{invocation_of}
 use Rattle.command_line.specs.declared.invocation.Invocation.{Invocation}

@@ -1,18 +1,15 @@
 -- What the stages of a drill come to together.
 use Rattle.std.proofs.Common.{◌≡◌, ◌⊎◌, ℕ, List, Vec, inl, inr, refl, sym, subst, IfErr, IfOk, OnOk, Option, Some, Result, Ok, Err}
 use Rattle.std.specs.Option.{ForSome}
-use Rattle.std.specs.Prelude.{◌≤◌}
-use Rattle.drill_run.specs.Drill.{Drilled}
 use Rattle.drill_run.specs.Ends.{HasDrilled, IsBrokenOff, IsDrillOf}
-use Rattle.edit_session.specs.Opening.{CanOpen, IsOpenFault, cells_of}
+use Rattle.edit_session.specs.Opening.{CanOpen, cells_of}
 use Rattle.edit_session.specs.declared.open_fault.OpenFault.{OpenFault}
 use Rattle.edit_session.specs.declared.open_fault.OpenFault.TheVariants as opening
 use Rattle.rhythm_app.proofs.InTurn.{next_follows}
 use Rattle.rhythm_app.specs.Asked.{drill, file_content}
 use Rattle.rhythm_app.specs.Builds.{AreDrilled, AreSomeDrilled, ForPiece, HasBuilt, HasBuiltAll, MatchBuilds, MatchDrilled}
 use Rattle.rhythm_app.specs.Outcome.{AreInTurn, HasOutcomeOf, IsDrilling, IsMade, IsPieceOf, IsUnderstood, IsUnopened, Ready, open_stop, say}
-use Rattle.rhythm_app.specs.Stages.{Follows, IsEarly, said_of}
-use Rattle.rhythm_app.specs.declared.stop.Kind.TheVariants as kind
+use Rattle.rhythm_app.specs.Stages.{Follows, IsEarly}
 use Rattle.rhythm_app.specs.declared.stop.Stop.{Stop}
 use Rattle.rhythm_app.specs.declared.stop.Stop.TheVariants as stop
 use Rattle.rhythm_base.specs.Counter.{risen}

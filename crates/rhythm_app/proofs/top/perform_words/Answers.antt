@@ -1,12 +1,11 @@
-use Rattle.std.proofs.Common.{◌≡◌, ◌≢◌, ◌∙◌, inl, inr, IfErr, OnOk, Option, Some, None, Result, Err, refl, sym, subst}
+use Rattle.std.proofs.Common.{◌≡◌, ◌≢◌, ◌∙◌, inl, IfErr, OnOk, Option, Err, refl, sym, subst}
 use Rattle.std.specs.Option.{ForSome}
 use Rattle.rhythm_app.specs.Asked.{Asked, ReadsNoScript}
 use Rattle.rhythm_app.specs.Builds.{HasBuilt}
 use Rattle.rhythm_app.specs.Ends.{HasNames, HasStopped, IsAnswered, IsCauseOf, IsCutShort, MatchStop}
 use Rattle.rhythm_app.specs.Outcome.{HasOutcomeOf}
-use Rattle.rhythm_app.specs.declared.stop.Stop.{Stop}
 use Rattle.rhythm_app.specs.declared.stop.Stop.TheVariants as stop
-use Rattle.rhythm_app.proofs.Asking.{asked_as, asked_nothing, unread_built}
+use Rattle.rhythm_app.proofs.Asking.{asked_as, asked_nothing}
 use Rattle.rhythm_app.proofs.top.perform_words.Goals as goal
 
 pub returns-in-Ok-clause-done : goal.returns-in-Ok-clause-done
