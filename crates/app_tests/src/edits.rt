@@ -204,7 +204,6 @@ const CASES: &[ScriptCase] = &[
             add 0 60 1920 2400\n\
             dropbar\n\
             move 0 60 0 0\n\
-            alt 0 0 2\n\
         ",
         out: b"\
             refused NoVoice 1\n\
@@ -221,7 +220,6 @@ const CASES: &[ScriptCase] = &[
             ok 1 140\n\
             refused NotEmpty 1920\n\
             ok 0 140\n\
-            refused Line\n\
         ",
         builds: 4,
     },
@@ -279,7 +277,7 @@ const CASES: &[ScriptCase] = &[
             refused Line\n\
             refused Line\n\
         ",
-        builds: 3,
+        builds: 4,
     },
     ScriptCase {
         shows: "each rhythm of four quarters can be pinned, and then costs what was said",
@@ -342,7 +340,11 @@ const CASES: &[ScriptCase] = &[
     },
     ScriptCase {
         shows: "and so of three notes close together",
-        piece: Piece::Built(480, &[], &[(0, 60, 0, 960), (0, 62, 20, 960), (0, 64, 40, 960)]),
+        piece: Piece::Built(
+            480,
+            &[],
+            &[(0, 60, 0, 960), (0, 62, 20, 960), (0, 64, 40, 960)],
+        ),
         script: b"\
             alt 0 0 16\n\
             pin 0 0 2(2(2(. .) .) .)\n\
