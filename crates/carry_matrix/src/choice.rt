@@ -1,39 +1,27 @@
-ghost use Rattle.carry_matrix.specs.Choices.{
-  cost_or,
-  entry_of,
-  choice_key_in,
-  nearer_choice,
-  numbered_choice,
-  rank_or,
-  taken,
-  taken_all,
-};
-ghost use Rattle.rhythm_base.specs.Paths.{IsLow};
-ghost use Rattle.rhythm_base.specs.Ranked.{is_under, sum_key, summed};
+ghost use Rattle.carry_matrix.specs.Choices.{entry_of, taken, taken_all};
+ghost use Rattle.rhythm_base.specs.Ranked.{better, is_under, sum_before, sum_key, summed};
 ghost use Rattle.rhythm_base.specs.declared.best.Best.{Best};
 ghost use Rattle.std.specs.Prelude.{
   ◌≡◌,
   ◌+◌,
-  ◌*◌,
   ◌<◌,
   ◌∷◌,
   ◌||◌,
   ◌&&◌,
   ◌==◌,
+  ◌^◌,
+  ℕ,
+  [],
   nat_lt,
   if◌then◌else◌,
-  [],
-  ◌^◌,
+  slice_index_or,
+  None,
   Some,
 };
 
 use rhythm_base::Best;
 
-/// Where there is no entry its cost stands for none: 2 to the power 62. Two of these add up without overflow.
-pub const ABSENT: u64 = 4611686018427387904;
-
-/// A count in the middle with the sum of the two costs there and the ranks on both sides; none where the cost is 2 to the
-/// power 62 or more.
+/// A count in the middle, with the sum of the two costs there and the ranks on both sides.
 #[derive(Clone, Copy)]
 pub struct Choice {
     pub cost: u64,
@@ -42,96 +30,118 @@ pub struct Choice {
     pub middle: u8,
 }
 
-fn cost_of(entry: Option<Best>) -> u64
-    ensures { result ≡ cost_or entry }
-{
-    match entry {
-        Some(best) => best.cost,
-        None => ABSENT,
-    }
-}
+/// Choices by the number of chords carried out.
+pub type Choices = [Option<Choice>; 5];
 
-fn rank_of(entry: Option<Best>) -> u8
-    ensures { result ≡ rank_or entry }
-{
-    match entry {
-        Some(best) => best.rank,
-        None => 0,
-    }
-}
-
-pub fn sum_of(a: Option<Best>, b: Option<Best>, middle: u8) -> Choice
-    requires low_a { IsLow a }
-    requires low_b { IsLow b }
-    requires small { (x y : Best) → a ≡ Some x → b ≡ Some y → x.cost + y.cost < 2 ^ 62 }
-    ensures { taken result ≡ numbered_choice middle (summed a b) }
-{
-    let cost = cost_of(a) + cost_of(b);
-    Choice {
-        cost,
-        left: rank_of(a),
-        right: rank_of(b),
-        middle,
-    }
-}
-
-fn is_nearer(x: Choice, best: Choice) -> bool
-    ensures { result ≡ nat_lt x.cost best.cost || ((x.cost == best.cost) && nat_lt x.left best.left) }
+#[inline(always)]
+fn is_nearer(x: &Choice, best: &Choice) -> bool
+    ensures { result ≡ nat_lt x.now.cost best.now.cost || ((x.now.cost == best.now.cost) && nat_lt x.now.left best.now.left) }
 {
     x.cost < best.cost || (x.cost == best.cost && x.left < best.left)
 }
 
-pub fn nearer(best: Choice, x: Choice) -> Choice
-    ensures { taken result ≡ nearer_choice (taken best) (taken x) }
+/// Offers the sum of two entries round a count in the middle: it is taken where it is nearer than what stands there.
+#[inline(always)]
+fn offer(place: &mut Option<Choice>, left: Best, right: Option<Best>, middle: u8)
+    requires small { (y : Best) → right ≡ Some y → left.cost + y.cost < 2 ^ 62 }
+    ensures { taken place.new ≡ better sum_before (taken place.old) middle (summed (Some left) right) }
 {
-    if is_nearer(x, best) { x } else { best }
-}
-
-/// A number that orders as the two ranks do.
-fn key_of(left: u8, right: u8) -> u32
-    ensures { result ≡ left * 256 + right }
-{
-    left as u32 * 256 + right as u32
-}
-
-fn key_or(x: Choice) -> u32
-    ensures is { result ≡ choice_key_in (taken x) }
-    ensures fits { x.right < 256 }
-{
-    if x.cost < ABSENT {
-        key_of(x.left, x.right)
-    } else {
-        65536
+    let Some(right) = right else {
+        return;
+    };
+    let next = Choice {
+        cost: left.cost + right.cost,
+        left: left.rank,
+        right: right.rank,
+        middle,
+    };
+    match place {
+        Some(best) => {
+            if is_nearer(&next, best) {
+                *best = next;
+            }
+        }
+        None => *place = Some(next),
     }
 }
 
-fn lower(x: Choice, left: u8, right: u8) -> u8
-    ensures is { result ≡ (if is_under (sum_key (taken x)) (left ∷ right ∷ []) then 1 else 0) }
+/// Offers the sum of two entries, where both are there.
+pub fn offer_over(place: &mut Option<Choice>, left: Option<Best>, right: Option<Best>, middle: u8)
+    requires small { (x y : Best) → left ≡ Some x → right ≡ Some y → x.cost + y.cost < 2 ^ 62 }
+    ensures { taken place.new ≡ better sum_before (taken place.old) middle (summed left right) }
+{
+    if let Some(left) = left {
+        offer(place, left, right, middle);
+    }
+}
+
+/// Offers the sums of an entry, where it is there, and those of a row.
+#[inline(always)]
+pub fn offer_row_over(
+    choices: &mut Choices,
+    left: Option<Best>,
+    row: &[Option<Best>; 5],
+    middle: u8,
+)
+    requires small { (x y : Best) (to : ℕ) → left ≡ Some x → to < 5 → slice_index_or row.now to None ≡ Some y → x.cost + y.cost < 2 ^ 62 }
+    ensures { (to : ℕ) → to < 5
+        → taken (slice_index_or choices.new to None) ≡ better sum_before (taken (slice_index_or choices.old to None)) middle (summed left (slice_index_or row.now to None)) }
+{
+    if let Some(left) = left {
+        offer_row(choices, left, row, middle);
+    }
+}
+
+/// Offers the sums of an entry and those of a row.
+#[inline(always)]
+fn offer_row(choices: &mut Choices, left: Best, row: &[Option<Best>; 5], middle: u8)
+    requires small { (to : ℕ) (y : Best) → to < 5 → slice_index_or row.now to None ≡ Some y → left.cost + y.cost < 2 ^ 62 }
+    ensures { (to : ℕ) → to < 5
+        → taken (slice_index_or choices.new to None) ≡ better sum_before (taken (slice_index_or choices.old to None)) middle (summed (Some left) (slice_index_or row.now to None)) }
+{
+    offer(&mut choices[0], left, row[0], middle);
+    offer(&mut choices[1], left, row[1], middle);
+    offer(&mut choices[2], left, row[2], middle);
+    offer(&mut choices[3], left, row[3], middle);
+    offer(&mut choices[4], left, row[4], middle);
+}
+
+/// 1 where the choice is there and its ranks are lower, and else 0.
+#[inline(always)]
+fn lower(choice: &Option<Choice>, left: u8, right: u8) -> u8
+    ensures is { result ≡ (if is_under (sum_key (taken choice.now)) (left ∷ right ∷ []) then 1 else 0) }
     ensures small { result < 2 }
 {
-    if key_or(x) < key_of(left, right) {
-        1
-    } else {
-        0
+    match choice {
+        None => 0,
+        Some(choice) => {
+            if choice.left < left || (choice.left == left && choice.right < right) {
+                1
+            } else {
+                0
+            }
+        }
     }
 }
 
 /// The entry of a row: its cost, and how many of the row have lower ranks.
-pub fn entry(row: &[Choice; 5], to: usize) -> Option<Best>
+#[inline(always)]
+pub fn entry(row: &Choices, to: usize) -> Option<Best>
     requires { to < 5 }
     ensures { result ≡ entry_of (taken_all row.now) to }
 {
-    let own = row[to];
-    if own.cost < ABSENT {
-        let rank = lower(row[4], own.left, own.right)
-            + (lower(row[3], own.left, own.right)
-                + (lower(row[2], own.left, own.right)
-                    + (lower(row[1], own.left, own.right) + lower(row[0], own.left, own.right))));
-        Some(Best {
-            cost: own.cost,
-            rank,
-        })
-    } else {
-        None
+    match &row[to] {
+        None => None,
+        Some(own) => {
+            let rank = lower(&row[4], own.left, own.right)
+                + (lower(&row[3], own.left, own.right)
+                    + (lower(&row[2], own.left, own.right)
+                        + (lower(&row[1], own.left, own.right)
+                            + lower(&row[0], own.left, own.right))));
+            Some(Best {
+                cost: own.cost,
+                rank,
+            })
+        }
     }
 }

@@ -1,6 +1,6 @@
 ghost use Rattle.rhythm_base.specs.Paths.{AreLow, IsLow, IsRanked};
 ghost use Rattle.rhythm_base.specs.Ranked.{at, identity_entries};
-ghost use Rattle.std.specs.Prelude.{◌≡◌, ◌<◌};
+ghost use Rattle.std.specs.Prelude.{◌≡◌, ◌<◌, [], slice_index_or};
 
 use rhythm_base::Best;
 use std::marker::Model;
@@ -60,6 +60,14 @@ impl CarryMatrix {
         ensures low { IsLow result }
     {
         self.entries[from as usize][to as usize]
+    }
+
+    /// The entries for this number carried in, by the number carried out.
+    pub(crate) fn row(&self, from: u8) -> &[Option<Best>; 5]
+        requires { from < 5 }
+        ensures { result.now ≡ slice_index_or self.now from [] }
+    {
+        &self.entries[from as usize]
     }
 
     /// What every matrix keeps.

@@ -1,51 +1,50 @@
-ghost use Rattle.carry_matrix.specs.Choices.{numbered_choice, taken};
+ghost use Rattle.carry_matrix.specs.Choices.{taken};
 ghost use Rattle.carry_matrix.specs.LowSums.{HaveLowSums};
 ghost use Rattle.rhythm_base.specs.Counter.{risen};
-ghost use Rattle.rhythm_base.specs.Ranked.{at, choice, middle_of, product_of, summed};
-ghost use Rattle.std.specs.Prelude.{◌≡◌, ◌<◌, [], slice_index_or};
+ghost use Rattle.rhythm_base.specs.Ranked.{choice, middle_of, product_of};
+ghost use Rattle.std.specs.Prelude.{◌≡◌, ◌<◌, ℕ, None, [], slice_index_or};
 
-use crate::choice::{ABSENT, Choice, entry, nearer, sum_of};
+use crate::choice::{Choice, Choices, entry, offer_over, offer_row_over};
 use crate::matrix::CarryMatrix;
 use crate::steps::Steps;
 use rhythm_base::{Best, Tag};
 
-/// The sum of the two entries round a count in the middle.
-fn summed_at(a: &CarryMatrix, b: &CarryMatrix, from: u8, middle: u8, to: u8) -> Choice
-    requires from { from < 5 }
-    requires middle { middle < 5 }
-    requires to { to < 5 }
-    requires small { HaveLowSums a.now b.now }
-    ensures { taken result ≡ numbered_choice middle (summed (at a.now from middle) (at b.now middle to)) }
-{
-    sum_of(a.get(from, middle), b.get(middle, to), middle)
-}
-
-/// The count in the middle and its sum.
-fn chosen(a: &CarryMatrix, b: &CarryMatrix, from: u8, to: u8) -> Choice
+/// The count in the middle and its sum, none where no count has both entries.
+fn chosen(a: &CarryMatrix, b: &CarryMatrix, from: u8, to: u8) -> Option<Choice>
     requires from { from < 5 }
     requires to { to < 5 }
     requires small { HaveLowSums a.now b.now }
     ensures { taken result ≡ choice a.now b.now from to }
 {
-    let first = summed_at(a, b, from, 0, to);
-    let second = nearer(first, summed_at(a, b, from, 1, to));
-    let third = nearer(second, summed_at(a, b, from, 2, to));
-    let fourth = nearer(third, summed_at(a, b, from, 3, to));
-    nearer(fourth, summed_at(a, b, from, 4, to))
+    let mut best = None;
+    'counts: for middle in 0..5u8 {
+        offer_over(&mut best, a.get(from, middle), b.get(middle, to), middle);
+    }
+    best
+}
+
+/// The counts in the middle and their sums, for each number carried out.
+#[inline(always)]
+fn chosen_row(a: &CarryMatrix, b: &CarryMatrix, from: u8) -> Choices
+    requires from { from < 5 }
+    requires small { HaveLowSums a.now b.now }
+    ensures { (to : ℕ) → to < 5 → taken (slice_index_or result to None) ≡ choice a.now b.now from to }
+{
+    let mut choices = [None; 5];
+    'middles: for middle in 0..5u8 {
+        offer_row_over(&mut choices, a.get(from, middle), b.row(middle), middle);
+    }
+    choices
 }
 
 /// The row of the product for a number carried in.
+#[inline(always)]
 fn row_of(a: &CarryMatrix, b: &CarryMatrix, from: u8) -> [Option<Best>; 5]
     requires from { from < 5 }
     requires small { HaveLowSums a.now b.now }
     ensures { result ≡ slice_index_or (product_of a.now b.now) from [] }
 {
-    let first = chosen(a, b, from, 0);
-    let second = chosen(a, b, from, 1);
-    let third = chosen(a, b, from, 2);
-    let fourth = chosen(a, b, from, 3);
-    let fifth = chosen(a, b, from, 4);
-    let row = [first, second, third, fourth, fifth];
+    let row = chosen_row(a, b, from);
     [
         entry(&row, 0),
         entry(&row, 1),
@@ -81,10 +80,8 @@ pub fn middle(a: &CarryMatrix, b: &CarryMatrix, from: u8, to: u8) -> Option<u8>
     requires small { HaveLowSums a.now b.now }
     ensures { result ≡ middle_of a.now b.now from to }
 {
-    let choice = chosen(a, b, from, to);
-    if choice.cost < ABSENT {
-        Some(choice.middle)
-    } else {
-        None
+    match chosen(a, b, from, to) {
+        None => None,
+        Some(choice) => Some(choice.middle),
     }
 }
