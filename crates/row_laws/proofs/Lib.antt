@@ -1,0 +1,13 @@
+pub mod BestRules
+pub mod Bounds
+pub mod Digits
+pub mod Folds
+pub mod Grounds
+pub mod LeafKeys
+pub mod Lower
+pub mod Passing
+pub mod QuietIntervals
+pub mod QuietTrees
+pub mod RowProducts
+pub mod RuleKeys
+pub mod RuleSets

@@ -1,0 +1,9 @@
+pub mod BestRules
+pub mod Folds
+pub mod Grounds
+pub mod LeafRules
+pub mod Leaves
+pub mod QuietTrees
+pub mod RuleKeys
+pub mod Rows
+pub mod Ways
