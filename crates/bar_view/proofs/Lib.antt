@@ -1,0 +1,10 @@
+pub mod Points
+pub mod Parts
+pub mod Filters
+pub mod Quiets
+pub mod Leaves
+pub mod Adding
+pub mod Few
+pub mod Narrower
+pub mod Charges
+pub mod LookUps

@@ -1,0 +1,4 @@
+pub mod Displaced
+pub mod Points
+pub mod Units
+pub mod Views

@@ -1,0 +1,117 @@
+ghost use Rattle.bar_view.specs.Points.{IsPoint};
+ghost use Rattle.bar_view.specs.Units.{AreUnits, IsPart, SplitsAt, end_of_earlier};
+ghost use Rattle.rhythm_base.specs.BarInput.{BarInput, IsBarInput};
+ghost use Rattle.rhythm_base.specs.declared.inner.Inner.{Inner};
+ghost use Rattle.rhythm_base.specs.declared.limits.TheConstants.{LATEST_TICK, MOST_UNITS};
+ghost use Rattle.std.specs.Prelude.{◌≡◌, ◌+◌, ◌*◌, ◌<◌, ◌≤◌, ℕ, OnOk, Option, length, max, slice_index_or};
+
+use crate::point::Point;
+use crate::stretch::Stretch;
+use rhythm_base::BarInput;
+use row_laws::Quiet;
+use std::alloc::{AllocError, Global};
+
+/// The chords of a bar by the unit.
+#[derive(Drop)]
+pub struct Units {
+    /// How many onsets are before the unit.
+    pub below: Vec<u32>,
+    /// The quiet units from the unit on; none where it is not quiet itself.
+    pub quiet: Vec<Option<Stretch>>,
+}
+
+impl Units {
+    /// No units.
+    pub fn new(alloc: Global) -> Units {
+        Units {
+            below: Vec::new(alloc),
+            quiet: Vec::new(alloc),
+        }
+    }
+
+    /// Forgets all units, and takes room for so many and the end of the last one.
+    pub fn clear(&mut self, units: u16) -> Result<(), AllocError>
+        ensures below { OnOk result (length self.new.below.items ≡ 0) }
+        ensures quiet { OnOk result (length self.new.quiet.items ≡ 0) }
+    {
+        self.below.clear();
+        self.quiet.clear();
+        self.below.reserve(usize::from(units) + 1)?;
+        self.quiet.reserve(usize::from(units) + 1)
+    }
+
+    /// Goes on up to `last`, the unit in which the next chord begins, or the end of the bar: so many chords begin before, and
+    /// the last of them ends at a point.
+    pub fn go_on(
+        &mut self,
+        input: &BarInput,
+        count: u32,
+        end: Point,
+        last: u16,
+    ) -> Result<(), AllocError>
+        requires cell { IsBarInput input.now }
+        requires units { AreUnits input.now self.old }
+        requires split { (unit : ℕ) → length self.old.below.items ≤ unit → unit ≤ last → SplitsAt input.now unit count }
+        requires end { (d : Inner) → IsPoint input.now.length (end_of_earlier input.now count d * input.now.resolution) end }
+        requires within { last ≤ input.now.resolution }
+        ensures units { OnOk result (AreUnits input.now self.new) }
+        ensures long { OnOk result (length self.new.below.items ≡ max (length self.old.below.items) (last + 1)) }
+    {
+        let next = usize::from(last);
+        if next < self.below.len() {
+            return Ok(());
+        }
+        self.below.resize(next + 1, count)?;
+        fill(&mut self.quiet, input.length(), end, last)?;
+        self.quiet.push(None)?;
+        Ok(())
+    }
+}
+
+/// Goes on up to a unit, and no chord begins before it: those that the chord before fills, which ends at a point, the one
+/// in which it ends, and those after it.
+fn fill(
+    quiet: &mut Vec<Option<Stretch>>,
+    ticks: u64,
+    end: Point,
+    next: u16,
+) -> Result<(), AllocError>
+    requires few_ticks { ticks ≤ LATEST_TICK }
+    requires few { end.unit ≤ MOST_UNITS }
+    ensures long { OnOk result (length quiet.new.items ≡ max (length quiet.old.items) next) }
+    ensures same { OnOk result ((unit : ℕ) (d : Option Stretch) → unit < length quiet.old.items → slice_index_or quiet.new.items unit d ≡ slice_index_or quiet.old.items unit d) }
+    ensures part { OnOk result ((at unit : ℕ) (d : Option Stretch) → IsPoint ticks at end → length quiet.old.items ≤ unit → unit < next → IsPart ticks at next unit (slice_index_or quiet.new.items unit d)) }
+{
+    let full = end.unit.min(next);
+    let over = end.after().min(next);
+    let sounding = Stretch {
+        until: full,
+        quiet: Quiet::Sounding,
+    };
+    let silent = Stretch {
+        until: next,
+        quiet: Quiet::Silent,
+    };
+    extend(quiet, full, Some(sounding))?;
+    extend(quiet, over, None)?;
+    extend(quiet, next, Some(silent))?;
+    Ok(())
+}
+
+/// Goes on up to a unit with units that are alike.
+#[inline(always)]
+fn extend(
+    quiet: &mut Vec<Option<Stretch>>,
+    next: u16,
+    stretch: Option<Stretch>,
+) -> Result<(), AllocError>
+    ensures long { OnOk result (length quiet.new.items ≡ max (length quiet.old.items) next) }
+    ensures same { OnOk result ((unit : ℕ) (d : Option Stretch) → unit < length quiet.old.items → slice_index_or quiet.new.items unit d ≡ slice_index_or quiet.old.items unit d) }
+    ensures more { OnOk result ((unit : ℕ) (d : Option Stretch) → length quiet.old.items ≤ unit → unit < next → slice_index_or quiet.new.items unit d ≡ stretch) }
+{
+    if quiet.len() < usize::from(next) {
+        quiet.resize(usize::from(next), stretch)
+    } else {
+        Ok(())
+    }
+}
