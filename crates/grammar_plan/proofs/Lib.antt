@@ -1,0 +1,10 @@
+pub mod Cutting
+pub mod Finishing
+pub mod Framing
+pub mod Growing
+pub mod LeafTables
+pub mod QuietLemmas
+pub mod QuietSteps
+pub mod QuietSums
+pub mod SeatLemmas
+pub mod SymbolSpans

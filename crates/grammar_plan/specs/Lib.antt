@@ -1,0 +1,6 @@
+pub mod Drafts
+pub mod Frames
+pub mod LeafTables
+pub mod Plans
+pub mod QuietRows
+pub mod Spans
