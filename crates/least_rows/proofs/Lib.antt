@@ -1,0 +1,17 @@
+pub mod Choices
+pub mod Fives
+pub mod Fronts
+pub mod Joins
+pub mod QuietRows
+pub mod RowEntries
+pub mod Steps
+pub mod Settling
+pub mod LeafChoices
+pub mod Asked
+pub mod Known
+pub mod Cutting
+pub mod PlanSeats
+pub mod QuietLists
+pub mod WayLists
+pub mod RowRanks
+pub mod RootRows

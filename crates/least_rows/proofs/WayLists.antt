@@ -1,0 +1,261 @@
+-- Rule lists along a way, and of the entries of a row.
+use Rattle.std.proofs.Common.{◌≡◌, ℕ, zero, suc, ◌<◌, ◌≤◌, ◌+◌, ◌-◌, ◌/◌, ◌%◌, ◌==◌, Bool, true, false, cond, not, List, [], ◌∷◌, ◌++◌, length, take, get_or, map, refl, sym, ap, ◌∙◌, subst, arith, add-zero}
+use Rattle.std.specs.Prelude.{Option, Some, None, slice_get, position}
+use Rattle.std.specs.List.{position_or_len}
+use Rattle.rhythm_base.proofs.Positions.{position-missing}
+use Rattle.std.proofs.lemmas.Bool.Decides.{nat_tests}
+use Rattle.std.proofs.lemmas.List.Quantifiers.{position-Some}
+use Rattle.std.proofs.lemmas.Option.{slice_get-get_or}
+use Rattle.rhythm_base.specs.BarInput.{BarInput}
+use Rattle.rhythm_base.specs.Bodies.{children, sizes}
+use Rattle.rhythm_base.specs.Cells.{bar_of}
+use Rattle.rhythm_base.specs.Grammar.{Grammar}
+use Rattle.rhythm_base.specs.Leaves.{VoiceBar, in_bar, looks}
+use Rattle.rhythm_base.specs.Ranked.{Key}
+use Rattle.rhythm_base.specs.Trees.{BarLeaf, leaves}
+use Rattle.rhythm_base.specs.declared.rule.Ending.{Ending}
+use Rattle.rhythm_base.specs.declared.rule.Rule.{Rule}
+use Rattle.rhythm_laws.specs.Forests.{Ground, IsForestKey, IsGround}
+use Rattle.rhythm_laws.specs.Places.{reach}
+use Rattle.rhythm_laws.specs.Quiet.{is_quiet}
+use Rattle.rhythm_laws.specs.Tables.{IsLeastKey}
+use Rattle.rhythm_laws.proofs.Bars.{SideBySide, leaves-fill}
+use Rattle.rhythm_laws.proofs.LeastKeys.{IsLeast-one}
+use Rattle.rhythm_laws.proofs.Quiet.{carried_by, leaving-calm}
+use Rattle.rhythm_laws.proofs.Ticks.{parts-line}
+use Rattle.row_laws.specs.Grounds.{IsReady, ground_of}
+use Rattle.row_laws.specs.QuietTrees.{IsQuiet, IsQuietLeast}
+use Rattle.row_laws.specs.Ways.{IsWayList}
+use Rattle.row_laws.specs.declared.quiet.Quiet.{Quiet}
+use Rattle.row_laws.specs.declared.quiet.Quiet.TheVariants.{Sounding, Silent}
+use Rattle.grammar_plan.specs.Plans.{HasSeat, IsCutOf, IsPlan, IsQuietTree, pair_of, rows_of}
+use Rattle.grammar_plan.specs.declared.cut.Cut.{Cut}
+use Rattle.grammar_plan.specs.declared.plan.Plan.{Plan}
+use Rattle.grammar_plan.specs.declared.quiet_tree.QuietTree.{QuietTree}
+use Rattle.grammar_plan.specs.declared.seat.Seat.{Seat}
+use Rattle.least_rows.specs.Entries.{IsEntry, IsMade, IsRow}
+use Rattle.least_rows.specs.declared.entry.Entry.{Entry}
+use Rattle.least_rows.specs.Parts.{ArePartsOf, AreSeatsOf, IsLeg}
+use Rattle.least_rows.specs.declared.parts.Leg.{Leg}
+use Rattle.least_rows.specs.declared.parts.Parts.{Parts}
+use Rattle.std.proofs.Math.Seq.{take-length}
+use Rattle.least_rows.proofs.PlanSeats.{All-at, below-at, cut_below, cut_whole, has_seat-width, one_at, parts-at, parts-length, seat_of, sizes-more, width_of}
+
+-- ---- the ground of a cell
+
+pub grounded : (g : Grammar) (k : BarInput) → IsReady g k → IsGround (ground_of g k)
+grounded g k ready = record { long = ready.cell.some_tick; rise = ready.cell.rising }
+
+-- ---- nothing is carried out of a quiet interval
+
+nothing_carried : (xs : List Ending) → carried_by 0 xs ≡ 0
+nothing_carried [] = refl
+nothing_carried (x ∷ xs) = nothing_carried xs
+
+some_carried : (p w a : ℕ) (bar : VoiceBar) (xs : List BarLeaf) → 1 ≤ w → SideBySide p xs (p + w) → carried_by a (map (λ x. x.part.ending) (in_bar bar xs)) ≡ 0
+some_carried p w a bar [] wide side = absurd (omega (arith, side))
+some_carried p w a bar (x ∷ xs) wide side = nothing_carried (map (λ x. x.part.ending) (in_bar bar xs))
+
+quiet_of : (quiet : Quiet) (d : Ground) (p w : ℕ) → IsQuiet quiet d p w → is_quiet d p w ≡ true
+quiet_of Sounding d p w h = h.quiet
+quiet_of Silent d p w h = h.quiet
+
+pub quiet-nothing : (d : Ground) → IsGround d → (quiet : Quiet) (p a b : ℕ) (q : ℕ × ℕ) (k : Key) → 1 ≤ q.0 → IsQuiet quiet d p q.0 → IsForestKey d None p (q ∷ []) a b k → b ≡ 0
+quiet-nothing d ground quiet p a b q k wide calm (f, stands, is) =
+    let r : ℕ = d.book.resolution in
+    let xs : List BarLeaf = leaves d.book.rules p (q ∷ []) f in
+    let same : q.0 + 0 ≡ q.0 = add-zero q.0 in
+    let fill : SideBySide p xs (p + q.0) = subst (λ w. SideBySide p xs (p + w)) same (leaves-fill d.book.rules f p (q ∷ []) (wide, tt) stands.trees) in
+    let line = parts-line r d.bar p (p + q.0) xs ground.long fill in
+    sym stands.fits.leave ∙ leaving-calm (looks r) d.chords (reach r d.bar p) (reach r d.bar (p + q.0)) a (in_bar d.bar xs) line (quiet_of quiet d p q.0 calm) ∙ some_carried p q.0 a d.bar xs wide fill
+
+-- ---- the least key of a quiet interval is that of the plan
+
+pub quiet-key : (g : Grammar) (k : BarInput) (plan : Plan) → IsReady g k → IsPlan g plan → (quiet : Quiet) (n : ℕ) (s : Seat) → slice_get plan.seats.items n ≡ Some s → n < length plan.seats.items
+    → (p a b : ℕ) → a < 5 → IsQuiet quiet (ground_of g k) p s.width → (key : Key) → IsLeastKey (IsForestKey (ground_of g k) None p (pair_of s ∷ []) a b) (Some key) → IsQuietLeast g quiet (pair_of s) a (Some key)
+quiet-key g k plan ready plan_of quiet n s at low p a b la calm key least =
+    go (get_or (get_or (rows_of plan quiet) n []) a None) (plan_of.quiet n a quiet low la s at)
+  where
+    wide : 1 ≤ s.width
+    wide = (seat_of g plan plan_of n s at).wide
+
+    none_out : b ≡ 0
+    none_out = quiet-nothing (ground_of g k) (grounded g k ready) quiet p a b (pair_of s) key wide calm least.0
+
+    own : IsLeastKey (IsForestKey (ground_of g k) None p (pair_of s ∷ []) a 0) (Some key)
+    own = subst (λ b. IsLeastKey (IsForestKey (ground_of g k) None p (pair_of s ∷ []) a b) (Some key)) none_out least
+
+    go : (t : Option QuietTree) → IsQuietTree g plan quiet (pair_of s) a t → IsQuietLeast g quiet (pair_of s) a (Some key)
+    go None h = absurd (h (bar_of k) k.chords k.before (grounded g k ready) p calm key own.0)
+    go (Some t) (x, all, cost, cheap, made) =
+        let same : Some x ≡ Some key = IsLeast-one (IsForestKey (ground_of g k) None p (pair_of s ∷ []) a 0) (Some x) (Some key) (all (bar_of k) k.chords k.before (grounded g k ready) p calm) own in
+        let P : Option Key → Type 0 = IsQuietLeast g quiet (pair_of s) a in
+        subst P same all
+
+-- ---- the entries of a row
+
+module _ {X : Type 0} (p : X → Bool) where
+  none_before : (xs : List X) (i : ℕ) (x : X) → length xs ≤ position_or_len p xs → slice_get xs i ≡ Some x → p x ≡ false
+  none_before [] i x h at = absurd (cc)
+  none_before (y ∷ ys) i x h at = go (p y) refl h i at (λ i. none_before ys i x)
+    where
+      go : (b : Bool) → p y ≡ b → suc (length ys) ≤ cond (not b) (1 + position_or_len p ys) 0 → (i : ℕ) → slice_get (y ∷ ys) i ≡ Some x
+          → ((i : ℕ) → length ys ≤ position_or_len p ys → slice_get ys i ≡ Some x → p x ≡ false) → p x ≡ false
+      go true e h i at later = absurd (omega (arith, h))
+      go false e h zero at later = let same : y ≡ x = cc in ap p (sym same) ∙ e
+      go false e h (suc i) at later = later i (omega (arith, h)) at
+
+  pub position-none : (xs : List X) (i : ℕ) (x : X) → position p xs ≡ None → slice_get xs i ≡ Some x → p x ≡ false
+  position-none xs i x h at = none_before xs i x (position-missing p xs h) at
+
+module _ (d : Ground) (plan : Plan) (p : ℕ) (q : ℕ × ℕ) (a : ℕ) (entries : List Entry) (row : IsRow d plan p q a entries) (to : ℕ) (key : Key) (least : IsLeastKey (IsForestKey d None p (q ∷ []) a to) (Some key)) where
+  few : to < 5
+  few = let top : to ≤ 4 = least.0.1.fits.few_to in omega arith
+
+  own_key : row.keys to ≡ Some key
+  own_key = IsLeast-one (IsForestKey d None p (q ∷ []) a to) (row.keys to) (Some key) (row.least to few) least
+
+  -- the row has an entry where there is a key
+  pub entry_there : position (λ e. e.to == to) entries ≡ None → ⊥
+  entry_there h =
+      let one = row.all to key few own_key in
+      let no = position-none (λ e. e.to == to) entries one.0 one.1 h one.2 in
+      let is = one.3 in
+      absurd (grind (arith, nat_tests))
+
+  -- and so its list is made
+  pub entry_made : (i : ℕ) (e : Entry) → position (λ e. e.to == to) entries ≡ Some i → e ≡ get_or entries i e → IsMade d plan p q a e.rule e.cut e.way e.to key.1
+  entry_made i e h at =
+      let found = position-Some (λ (e : Entry). e.to == to) entries i e h in
+      let here : slice_get entries i ≡ Some e = slice_get-get_or entries i e found.0 ∙ ap Some (sym at) in
+      let own : IsEntry d plan p q a row.keys e = All-at (IsEntry d plan p q a row.keys) entries i e row.each here in
+      let on : e.to == to ≡ true = ap (λ (e : Entry). e.to == to) at ∙ found.1 in
+      let is : e.to ≡ to = grind (arith, nat_tests) in
+      let same : Some own.1 ≡ Some key = sym own.2 ∙ ap row.keys is ∙ own_key in
+      let equal : own.1 ≡ key = cc in
+      subst (λ (k : Key). IsMade d plan p q a e.rule e.cut e.way e.to k.1) equal own.4
+
+-- how the list of any entry of a row is made
+pub entry_list : (d : Ground) (plan : Plan) (p : ℕ) (q : ℕ × ℕ) (a : ℕ) (entries : List Entry) → IsRow d plan p q a entries → (i : ℕ) (e : Entry) → i < length entries → e ≡ get_or entries i e
+    → (list : List ℕ) × IsMade d plan p q a e.rule e.cut e.way e.to list
+entry_list d plan p q a entries row i e low at =
+    let here : slice_get entries i ≡ Some e = slice_get-get_or entries i e low ∙ ap Some (sym at) in
+    let own : IsEntry d plan p q a row.keys e = All-at (IsEntry d plan p q a row.keys) entries i e row.each here in
+    (own.1.1, own.4)
+
+-- ---- a way
+
+-- the way over one part less
+pub record IsWayStep (d : Ground) (p : ℕ) (qs : List (ℕ × ℕ)) (a n way m : ℕ) (list : List ℕ) : Type 0 where
+  pub earlier : List ℕ
+  pub key : Key
+  pub before : IsWayList d p qs a n (way / 8) (way % 8) earlier
+  pub digit : way % 8 < 5
+  pub least : IsLeastKey (IsForestKey d None (p + sizes (take n qs)) (get_or qs n (0, 0) ∷ []) (way % 8) m) (Some key)
+  pub whole : list ≡ earlier ++ key.1
+
+pub way_step : (d : Ground) (p : ℕ) (qs : List (ℕ × ℕ)) (a n c way m : ℕ) (list : List ℕ) → c ≡ suc n → IsWayList d p qs a c way m list → IsWayStep d p qs a n way m list
+way_step d p qs a n c way m list e h = go (subst (λ c. IsWayList d p qs a c way m list) e h)
+  where
+    go : IsWayList d p qs a (suc n) way m list → IsWayStep d p qs a n way m list
+    go (w, l, xs, k, before, low, is, least, whole) =
+        let high : w ≡ way / 8 = omega (arith, low, is) in
+        let digit : l ≡ way % 8 = omega (arith, low, is) in
+        record {
+          earlier = xs;
+          key = k;
+          before = subst (λ w. IsWayList d p qs a n w (way % 8) xs) high (subst (λ l. IsWayList d p qs a n w l xs) digit before);
+          digit = omega (arith, low, digit);
+          least = subst (λ l. IsLeastKey (IsForestKey d None (p + sizes (take n qs)) (get_or qs n (0, 0) ∷ []) l m) (Some k)) digit least;
+          whole = whole;
+        }
+
+-- the cut of a list that is made so
+pub record IsMadeCut (d : Ground) (plan : Plan) (p : ℕ) (q : ℕ × ℕ) (a rule : ℕ) (c : Cut) (way to : ℕ) (list : List ℕ) : Type 0 where
+  pub cut : IsCutOf d.book plan q c
+  pub below : List ℕ
+  pub along : IsWayList d p (children cut.rule.body q.0) a (length (children cut.rule.body q.0)) way to below
+  pub whole : list ≡ rule ∷ below
+
+pub made_cut : (d : Ground) (plan : Plan) (p : ℕ) (q : ℕ × ℕ) (a rule : ℕ) (o : Option ℕ) (n way to : ℕ) (list : List ℕ) (c : Cut) → IsMade d plan p q a rule o way to list → o ≡ Some n → slice_get plan.cuts.items n ≡ Some c
+    → IsMadeCut d plan p q a rule c way to list
+made_cut d plan p q a rule o n way to list c made is at = go (subst (λ o. IsMade d plan p q a rule o way to list) is made)
+  where
+    go : IsMade d plan p q a rule (Some n) way to list → IsMadeCut d plan p q a rule c way to list
+    go (x, body, xs, at_x, own, cut_of, cut_rule, along, whole) =
+        let same : x ≡ c = one_at plan.cuts.items n x c at_x at in
+        let equal : body ≡ cut_of.rule = one_at d.book.rules x.rule body cut_of.rule cut_rule.at cut_of.is.at in
+        let made : IsMadeCut d plan p q a rule x way to list = record {
+          cut = cut_of;
+          below = xs;
+          along = subst (λ (b : Rule). IsWayList d p (children b.body q.0) a (length (children b.body q.0)) way to xs) equal along;
+          whole = whole;
+        } in
+        subst (λ c. IsMadeCut d plan p q a rule c way to list) same made
+
+-- it is one of the plan's cuts
+pub made_there : (d : Ground) (plan : Plan) (p : ℕ) (q : ℕ × ℕ) (a rule : ℕ) (o : Option ℕ) (n way to : ℕ) (list : List ℕ) → IsMade d plan p q a rule o way to list → o ≡ Some n → (c : Cut) × (slice_get plan.cuts.items n ≡ Some c)
+made_there d plan p q a rule o n way to list made is = let own = subst (λ o. IsMade d plan p q a rule o way to list) is made in (own.0, own.3)
+
+pub made_leaf : (d : Ground) (plan : Plan) (p : ℕ) (q : ℕ × ℕ) (a rule : ℕ) (o : Option ℕ) (way to : ℕ) (list : List ℕ) → IsMade d plan p q a rule o way to list → o ≡ None → list ≡ rule ∷ []
+made_leaf d plan p q a rule o way to list made is = subst (λ o. IsMade d plan p q a rule o way to list) is made
+
+-- ---- the last part of a leg
+
+module _ (g : Grammar) (k : BarInput) (plan : Plan) (x : Parts) (leg : Leg) (parts : ArePartsOf plan x) (some : x.first < leg.end) (d : ℕ) where
+  -- of whatever parts have these seats
+  pub last_seat : (qs : List (ℕ × ℕ)) → leg.end ≤ x.end → AreSeatsOf plan x qs → HasSeat plan (get_or plan.parts.items (leg.end - 1) d) (get_or qs (leg.end - 1 - x.first) (0, 0))
+  last_seat qs high are = parts-at plan x qs (leg.end - 1) d (omega (arith, some)) (omega (arith, some, high)) parts.within are
+
+  pub last_sizes : (qs : List (ℕ × ℕ)) → leg.end ≤ x.end → AreSeatsOf plan x qs
+      → sizes (take (leg.end - x.first) qs) ≡ sizes (take (leg.end - 1 - x.first) qs) + (get_or qs (leg.end - 1 - x.first) (0, 0)).0
+  last_sizes qs high are =
+      let order : x.first ≤ x.end = parts.order in
+      let long = parts-length plan x qs order parts.within are in
+      let count : leg.end - x.first ≡ suc (leg.end - 1 - x.first) = omega (arith, some) in
+      ap (λ n. sizes (take n qs)) count ∙ sizes-more qs (leg.end - 1 - x.first) (omega (arith, long, some, high))
+
+  pub last_narrow : leg.end ≤ x.end → (q : ℕ × ℕ) → HasSeat plan (get_or plan.parts.items (leg.end - 1) d) q → q.0 < x.width
+  last_narrow high q h =
+      let n : ℕ = get_or plan.parts.items (leg.end - 1) d in
+      let order : x.first ≤ x.end = parts.order in
+      let long = parts-length plan x parts.seats order parts.within parts.are in
+      let below = below-at x.width parts.seats (leg.end - 1 - x.first) parts.below (omega (arith, long, some, high)) in
+      let own : width_of (slice_get plan.seats.items n) ≡ (get_or parts.seats (leg.end - 1 - x.first) (0, 0)).0 = has_seat-width plan n (get_or parts.seats (leg.end - 1 - x.first) (0, 0)) (last_seat parts.seats high parts.are) in
+      let same : width_of (slice_get plan.seats.items n) ≡ q.0 = has_seat-width plan n q h in
+      omega (arith, below.1, own, same)
+
+-- the parts of an entry's cut
+module _ (g : Grammar) (k : BarInput) (plan : Plan) (s : Seat) (p a rule way to : ℕ) (list : List ℕ) (c : Cut) (wide : 1 ≤ s.width) (within : p + s.width ≤ k.resolution)
+    (made : IsMadeCut (ground_of g k) plan p (pair_of s) a rule c way to list) where
+  abbrev all_parts : Parts
+  all_parts = record { first = c.first; end = c.end; width = s.width }
+
+  pub cut_parts : ArePartsOf plan (record { first = c.first; end = c.end; width = s.width })
+  cut_parts = record {
+    order = made.cut.order;
+    within = made.cut.within;
+    seats = children made.cut.rule.body s.width;
+    are = made.cut.parts;
+    below = cut_below g plan (pair_of s) c wide made.cut;
+  }
+
+  pub cut_count : c.end - c.first ≡ length (children made.cut.rule.body s.width)
+  cut_count = sym (parts-length plan all_parts (children made.cut.rule.body s.width) made.cut.order made.cut.within made.cut.parts)
+
+  pub cut_along : IsWayList (ground_of g k) p (children made.cut.rule.body s.width) a (c.end - c.first) way to made.below
+  cut_along = subst (λ n. IsWayList (ground_of g k) p (children made.cut.rule.body s.width) a n way to made.below) (sym cut_count) made.along
+
+  pub cut_leg : IsLeg g k plan (record { first = c.first; end = c.end; width = s.width }) (record { place = p; from = a; end = c.end; way = way; to = to })
+  cut_leg =
+      let every : take (c.end - c.first) (children made.cut.rule.body s.width) ≡ children made.cut.rule.body s.width = ap (λ n. take n (children made.cut.rule.body s.width)) cut_count ∙ take-length (children made.cut.rule.body s.width) in
+      let whole : sizes (take (c.end - c.first) (children made.cut.rule.body s.width)) ≡ s.width = ap sizes every ∙ cut_whole g plan (pair_of s) c wide made.cut in
+      record {
+        first = made.cut.order;
+        end = let same : c.end ≤ c.end = omega arith in same;
+        seats = children made.cut.rule.body s.width;
+        are = made.cut.parts;
+        within = omega (arith, whole, within);
+        list = made.below;
+        way = cut_along;
+      }

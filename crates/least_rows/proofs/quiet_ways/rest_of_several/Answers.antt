@@ -1,0 +1,25 @@
+use Rattle.std.proofs.Common.{◌≡◌, refl, subst, arith}
+use Rattle.std.specs.Prelude.{None}
+use Rattle.row_laws.specs.Grounds.{ground_of}
+use Rattle.grammar_plan.specs.Plans.{pair_of}
+use Rattle.least_rows.specs.Fronts.{AreWaysBelow, way_in}
+use Rattle.least_rows.specs.Steps.{way_to_none}
+use Rattle.least_rows.proofs.Steps.{below-all, below-none}
+use Rattle.least_rows.proofs.quiet_ways.rest_of_several.Goals as goal
+
+pub counts-init : goal.counts-init
+counts-init c = λ place s at calm. below-none (ground_of c.args.search.now.grammar.now c.args.search.now.input.now) place (pair_of s) (way_in c.args.ways.now) (way_to_none None) (λ b lb. refl)
+
+pub returns-in-None-clause-ways : goal.returns-in-None-clause-ways
+returns-in-None-clause-ways c = λ place s at calm.
+    let d = ground_of c.args.search.now.grammar.now c.args.search.now.input.now in
+    let five : c.counts.count ≡ 5 = omega arith in
+    let whole : AreWaysBelow d place (pair_of s) (way_in c.args.ways.now) 5 (way_to_none c.counts.best) = subst (λ n. AreWaysBelow d place (pair_of s) (way_in c.args.ways.now) n (way_to_none c.counts.best)) five (c.counts.invariant place s at calm) in
+    below-all d place (pair_of s) (way_in c.args.ways.now) _ (subst (λ o. AreWaysBelow d place (pair_of s) (way_in c.args.ways.now) 5 (way_to_none o)) c.in-None.is whole)
+
+pub returns-in-Some-clause-ways : goal.returns-in-Some-clause-ways
+returns-in-Some-clause-ways c = λ place s at calm.
+    let d = ground_of c.args.search.now.grammar.now c.args.search.now.input.now in
+    let five : c.counts.count ≡ 5 = omega arith in
+    let whole : AreWaysBelow d place (pair_of s) (way_in c.args.ways.now) 5 (way_to_none c.counts.best) = subst (λ n. AreWaysBelow d place (pair_of s) (way_in c.args.ways.now) n (way_to_none c.counts.best)) five (c.counts.invariant place s at calm) in
+    below-all d place (pair_of s) (way_in c.args.ways.now) _ (subst (λ o. AreWaysBelow d place (pair_of s) (way_in c.args.ways.now) 5 (way_to_none o)) c.in-Some.is whole)

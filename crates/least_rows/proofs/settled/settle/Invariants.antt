@@ -1,0 +1,10 @@
+use Rattle.std.proofs.Common.{◌≡◌, List, ◌++◌, length}
+use Rattle.least_rows.specs.Choices.{IsSplit, count_some}
+use Rattle.least_rows.specs.declared.entry.Entry.{Entry}
+use Rattle.least_rows.proofs.settled.settle.Given as goal
+
+abbrev pub invariant-entries : goal.invariant-entries
+invariant-entries l = (es : List Entry) × (l.entries.items ≡ l.initial.entries.items ++ es) × (l.count ≡ length es) × IsSplit l.best l.left es
+
+abbrev pub decreases-entries : goal.decreases-entries
+decreases-entries l = count_some l.left

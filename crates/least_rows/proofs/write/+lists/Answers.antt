@@ -1,0 +1,261 @@
+use Rattle.std.proofs.Common.{rules, ◌≡◌, ◌==◌, ◌+◌, ◌-◌, ◌<◌, ◌≤◌, ◌++◌, [], ◌∷◌, ℕ, suc, length, position, slice_get, take, ◌%◌, arith, refl, sym, ap, ◌∙◌, subst, get_or, append_assoc}
+use Rattle.std.specs.Prelude.{Some, None}
+use Rattle.std.proofs.lemmas.Option.{get_or_from_slice_get, slice_get_within, slice_get_read}
+use Rattle.rhythm_base.specs.Bodies.{children, sizes}
+use Rattle.rhythm_laws.specs.Forests.{IsForestKey}
+use Rattle.rhythm_laws.specs.Tables.{IsLeastKey}
+use Rattle.row_laws.specs.Grounds.{ground_of}
+use Rattle.grammar_plan.specs.Plans.{HasSeat, pair_of}
+use Rattle.grammar_plan.specs.declared.seat.Seat.{Seat}
+use Rattle.least_rows.specs.Entries.{IsRow}
+use Rattle.least_rows.specs.States.{IsRowAt}
+use Rattle.least_rows.specs.declared.entry.Entry.{Entry}
+use Rattle.rhythm_base.specs.Grammar.{Grammar}
+use Rattle.rhythm_base.proofs.Positions.{position-within}
+use Rattle.row_laws.specs.QuietTrees.{IsQuiet}
+use Rattle.least_rows.proofs.PlanSeats.{has_seat-pair, has_seat-within, on_ok, one_at, parts_lower, seat_lower, seat_of}
+use Rattle.least_rows.proofs.WayLists.{cut_along, cut_leg, cut_parts, entry_list, entry_made, entry_there, last_narrow, last_seat, last_sizes, made_cut, made_leaf, made_there, quiet-key, way_step}
+use Rattle.least_rows.proofs.write.+lists.Goals as goal
+
+and_then : {A B : Type 0} → A → B → A × B
+and_then a b = (a, b)
+
+pub write-returns-in-Some-clause-list : goal.write-returns-in-Some-clause-list
+write-returns-in-Some-clause-list t c =
+    let g = c.args.search.now.grammar.now in
+    let k = c.args.search.now.input.now in
+    let plan = c.args.search.now.plan.now in
+    let at : slice_get plan.seats.items c.args.tree.seat ≡ Some c.index.result.now = slice_get_read plan.seats.items (length plan.seats.items) c.args.tree.seat c.index.result.now refl c.requires.seat c.index.ensures in
+    let calm : (g : Grammar) → g.resolution ≡ k.resolution → IsQuiet c.in-Some.quiet (ground_of g k) c.args.tree.place c.index.result.now.width = c.in-Some.ensures in
+    on_ok c.write_quiet.result
+    (λ h s key at_s least.
+    let same : c.index.result.now ≡ s = one_at plan.seats.items c.args.tree.seat c.index.result.now s at at_s in
+    let here : IsQuiet c.in-Some.quiet (ground_of g k) c.args.tree.place s.width = subst (λ (s : Seat). IsQuiet c.in-Some.quiet (ground_of g k) c.args.tree.place s.width) same (calm g c.requires.search.ready.units) in
+    h s key at_s (quiet-key g k plan c.requires.search.ready c.requires.search.plan_of c.in-Some.quiet c.args.tree.seat s at_s c.requires.seat c.args.tree.place c.args.tree.from c.args.tree.to c.requires.from here key least))
+    c.write_quiet.ensures
+
+pub write-entries_of-requires : goal.write-entries_of-requires
+write-entries_of-requires t c =
+    let g = c.args.search.now.grammar.now in
+    let k = c.args.search.now.input.now in
+    let plan = c.args.search.now.plan.now in
+    let at : slice_get plan.seats.items c.args.tree.seat ≡ Some c.index.result.now = slice_get_read plan.seats.items (length plan.seats.items) c.args.tree.seat c.index.result.now refl c.requires.seat c.index.ensures in
+    let row : (s : Seat) → slice_get plan.seats.items c.args.tree.seat ≡ Some s → IsRowAt g k plan c.row.new.self.entries.items c.args.tree.place (pair_of s) c.args.tree.from c.in_ok-span.span = c.in_ok-span.ensures.row in
+    (row c.index.result.now at).within
+
+pub write-returns-in_default-entry_in-clause-list : goal.write-returns-in_default-entry_in-clause-list
+write-returns-in_default-entry_in-clause-list t c s key at least =
+    let g = c.args.search.now.grammar.now in
+    let k = c.args.search.now.input.now in
+    let plan = c.args.search.now.plan.now in
+    let row : (s : Seat) → slice_get plan.seats.items c.args.tree.seat ≡ Some s → IsRowAt g k plan c.row.new.self.entries.items c.args.tree.place (pair_of s) c.args.tree.from c.in_ok-span.span = c.in_ok-span.ensures.row in
+    let own = subst (IsRow (ground_of g k) plan c.args.tree.place (pair_of s) c.args.tree.from) (sym c.entries_of.ensures) (row s at).row in
+    let none : position (λ (e : Entry). e.to == c.args.tree.to) c.entries_of.result.now ≡ None = c.in_default-entry_in.ensures in
+    absurd (entry_there (ground_of g k) plan c.args.tree.place (pair_of s) c.args.tree.from c.entries_of.result.now own c.args.tree.to key least none)
+
+pub write-returns-in_default-cut-clause-list : goal.write-returns-in_default-cut-clause-list
+write-returns-in_default-cut-clause-list t c s key at least =
+    let g = c.args.search.now.grammar.now in
+    let k = c.args.search.now.input.now in
+    let plan = c.args.search.now.plan.now in
+    let e = c.in-Some-entry_in.entry in
+    let row : (s : Seat) → slice_get plan.seats.items c.args.tree.seat ≡ Some s → IsRowAt g k plan c.row.new.self.entries.items c.args.tree.place (pair_of s) c.args.tree.from c.in_ok-span.span = c.in_ok-span.ensures.row in
+    let own = subst (IsRow (ground_of g k) plan c.args.tree.place (pair_of s) c.args.tree.from) (sym c.entries_of.ensures) (row s at).row in
+    let found : (i : ℕ) × (position (λ (e : Entry). e.to == c.args.tree.to) c.entries_of.result.now ≡ Some i) × (e ≡ get_or c.entries_of.result.now i e) = c.in-Some-entry_in.ensures in
+    let made = entry_made (ground_of g k) plan c.args.tree.place (pair_of s) c.args.tree.from c.entries_of.result.now own c.args.tree.to key least found.0 e found.1 found.2 in
+    let pushed : c.push.new.self.items ≡ c.args.list.now.items ++ e.rule ∷ [] = search rules in
+    pushed ∙ ap (λ l. c.args.list.now.items ++ l) (sym (made_leaf (ground_of g k) plan c.args.tree.place (pair_of s) c.args.tree.from e.rule e.cut e.way e.to key.1 made c.in_default-cut.is))
+
+pub write-index-cut-requires : goal.write-index-cut-requires
+write-index-cut-requires t c =
+    let g = c.args.search.now.grammar.now in
+    let k = c.args.search.now.input.now in
+    let plan = c.args.search.now.plan.now in
+    let e = c.in-Some-entry_in.entry in
+    let s = c.index.result.now in
+    let at : slice_get plan.seats.items c.args.tree.seat ≡ Some s = slice_get_read plan.seats.items (length plan.seats.items) c.args.tree.seat s refl c.requires.seat c.index.ensures in
+    let row : (s : Seat) → slice_get plan.seats.items c.args.tree.seat ≡ Some s → IsRowAt g k plan c.row.new.self.entries.items c.args.tree.place (pair_of s) c.args.tree.from c.in_ok-span.span = c.in_ok-span.ensures.row in
+    let own = subst (IsRow (ground_of g k) plan c.args.tree.place (pair_of s) c.args.tree.from) (sym c.entries_of.ensures) (row s at).row in
+    let found : (i : ℕ) × (position (λ (e : Entry). e.to == c.args.tree.to) c.entries_of.result.now ≡ Some i) × (e ≡ get_or c.entries_of.result.now i e) = c.in-Some-entry_in.ensures in
+    let low = position-within (λ (e : Entry). e.to == c.args.tree.to) c.entries_of.result.now found.0 found.1 in
+    let made = entry_list (ground_of g k) plan c.args.tree.place (pair_of s) c.args.tree.from c.entries_of.result.now own found.0 e low found.2 in
+    let cut = made_there (ground_of g k) plan c.args.tree.place (pair_of s) c.args.tree.from e.rule e.cut c.in-Some-cut.number e.way e.to made.0 made.1 c.in-Some-cut.is in
+    let there = slice_get_within plan.cuts.items c.in-Some-cut.number cut.0 cut.1 in
+    omega (arith, there)
+
+pub write-write_parts-requires : goal.write-write_parts-requires
+write-write_parts-requires t c =
+    let g = c.args.search.now.grammar.now in
+    let k = c.args.search.now.input.now in
+    let plan = c.args.search.now.plan.now in
+    let e = c.in-Some-entry_in.entry in
+    let s = c.index.result.now in
+    let at : slice_get plan.seats.items c.args.tree.seat ≡ Some s = slice_get_read plan.seats.items (length plan.seats.items) c.args.tree.seat s refl c.requires.seat c.index.ensures in
+    let row : (s : Seat) → slice_get plan.seats.items c.args.tree.seat ≡ Some s → IsRowAt g k plan c.row.new.self.entries.items c.args.tree.place (pair_of s) c.args.tree.from c.in_ok-span.span = c.in_ok-span.ensures.row in
+    let own = subst (IsRow (ground_of g k) plan c.args.tree.place (pair_of s) c.args.tree.from) (sym c.entries_of.ensures) (row s at).row in
+    let found : (i : ℕ) × (position (λ (e : Entry). e.to == c.args.tree.to) c.entries_of.result.now ≡ Some i) × (e ≡ get_or c.entries_of.result.now i e) = c.in-Some-entry_in.ensures in
+    let low = position-within (λ (e : Entry). e.to == c.args.tree.to) c.entries_of.result.now found.0 found.1 in
+    let list = entry_list (ground_of g k) plan c.args.tree.place (pair_of s) c.args.tree.from c.entries_of.result.now own found.0 e low found.2 in
+    let there = made_there (ground_of g k) plan c.args.tree.place (pair_of s) c.args.tree.from e.rule e.cut c.in-Some-cut.number e.way e.to list.0 list.1 c.in-Some-cut.is in
+    let cut_at : slice_get plan.cuts.items c.in-Some-cut.number ≡ Some c.index-cut.result.now = there.1 ∙ ap Some (sym (get_or_from_slice_get plan.cuts.items c.in-Some-cut.number there.0 c.index-cut.result.now there.1) ∙ sym c.index-cut.ensures) in
+    let made = made_cut (ground_of g k) plan c.args.tree.place (pair_of s) c.args.tree.from e.rule e.cut c.in-Some-cut.number e.way e.to list.0 c.index-cut.result.now list.1 c.in-Some-cut.is cut_at in
+    let wide = (seat_of g plan c.requires.search.plan_of c.args.tree.seat s at).wide in
+    let within = c.requires.within s at in
+    let few : c.index-cut.result.now.end ≤ length plan.parts.items = made.cut.within in
+    let lower = parts_lower plan c.args.tree.seat s.width (c.index-cut.result.now.end - c.index-cut.result.now.first) s at refl (omega (arith, few)) in
+    and_then (omega (arith, lower, c.decreases))
+    (and_then c.requires.search
+    (and_then (cut_parts g k plan s c.args.tree.place c.args.tree.from e.rule e.way e.to list.0 c.index-cut.result.now wide within made)
+    (and_then (cut_leg g k plan s c.args.tree.place c.args.tree.from e.rule e.way e.to list.0 c.index-cut.result.now wide within made) c.in_ok-span.ensures.known)))
+
+pub write-returns-clause-list : goal.write-returns-clause-list
+write-returns-clause-list t c s key at least =
+    let g = c.args.search.now.grammar.now in
+    let k = c.args.search.now.input.now in
+    let plan = c.args.search.now.plan.now in
+    let e = c.in-Some-entry_in.entry in
+    let cut = c.index-cut.result.now in
+    let row : (s : Seat) → slice_get plan.seats.items c.args.tree.seat ≡ Some s → IsRowAt g k plan c.row.new.self.entries.items c.args.tree.place (pair_of s) c.args.tree.from c.in_ok-span.span = c.in_ok-span.ensures.row in
+    let own = subst (IsRow (ground_of g k) plan c.args.tree.place (pair_of s) c.args.tree.from) (sym c.entries_of.ensures) (row s at).row in
+    let found : (i : ℕ) × (position (λ (e : Entry). e.to == c.args.tree.to) c.entries_of.result.now ≡ Some i) × (e ≡ get_or c.entries_of.result.now i e) = c.in-Some-entry_in.ensures in
+    let made = entry_made (ground_of g k) plan c.args.tree.place (pair_of s) c.args.tree.from c.entries_of.result.now own c.args.tree.to key least found.0 e found.1 found.2 in
+    let there = made_there (ground_of g k) plan c.args.tree.place (pair_of s) c.args.tree.from e.rule e.cut c.in-Some-cut.number e.way e.to key.1 made c.in-Some-cut.is in
+    let cut_at : slice_get plan.cuts.items c.in-Some-cut.number ≡ Some cut = there.1 ∙ ap Some (sym (get_or_from_slice_get plan.cuts.items c.in-Some-cut.number there.0 cut there.1) ∙ sym c.index-cut.ensures) in
+    let made_so = made_cut (ground_of g k) plan c.args.tree.place (pair_of s) c.args.tree.from e.rule e.cut c.in-Some-cut.number e.way e.to key.1 cut made c.in-Some-cut.is cut_at in
+    let wide = (seat_of g plan c.requires.search.plan_of c.args.tree.seat s at).wide in
+    let along = cut_along g k plan s c.args.tree.place c.args.tree.from e.rule e.way e.to key.1 cut wide (c.requires.within s at) made_so in
+    let pushed : c.push.new.self.items ≡ c.args.list.now.items ++ e.rule ∷ [] = search rules in
+    let below : c.write_parts.new.list.items ≡ c.push.new.self.items ++ made_so.below = c.in_ok-write_parts.ensures.list (children made_so.cut.rule.body s.width) made_so.below made_so.cut.parts along in
+    below ∙ ap (λ l. l ++ made_so.below) pushed ∙ append_assoc c.args.list.now.items (e.rule ∷ []) made_so.below ∙ ap (λ l. c.args.list.now.items ++ l) (sym made_so.whole)
+
+pub write_parts-write_parts-requires : goal.write_parts-write_parts-requires
+write_parts-write_parts-requires t c =
+    let plan = c.args.search.now.plan.now in
+    let d = ground_of c.args.search.now.grammar.now c.args.search.now.input.now in
+    let leg = c.requires.leg in
+    let start : c.args.parts.first ≤ c.args.leg.end = leg.first in
+    let low : c.args.parts.first < c.args.leg.end = omega (arith, start, c.if-leg-parts.false) in
+    let high : c.args.leg.end ≤ c.args.parts.end = leg.end in
+    let count : c.args.leg.end - c.args.parts.first ≡ suc (c.args.leg.end - 1 - c.args.parts.first) = omega (arith, low) in
+    let step = way_step d c.args.leg.place leg.seats c.args.leg.from (c.args.leg.end - 1 - c.args.parts.first) (c.args.leg.end - c.args.parts.first) c.args.leg.way c.args.leg.to leg.list count leg.way in
+    let more = last_sizes c.args.search.now.grammar.now c.args.search.now.input.now plan c.args.parts c.args.leg c.requires.parts low 0 leg.seats high leg.are in
+    let within : c.args.leg.place + sizes (take (c.args.leg.end - c.args.parts.first) leg.seats) ≤ c.args.search.now.input.now.resolution = leg.within in
+    and_then (omega (arith, c.decreases, low)) (and_then c.requires.search (and_then c.requires.parts (and_then (record {
+      first = omega (arith, low);
+      end = omega (arith, high);
+      seats = leg.seats;
+      are = leg.are;
+      within = omega (arith, within, more);
+      list = step.earlier;
+      way = step.before;
+    }) c.requires.known)))
+
+pub write_parts-write-requires : goal.write_parts-write-requires
+write_parts-write-requires t c =
+    let g = c.args.search.now.grammar.now in
+    let k = c.args.search.now.input.now in
+    let plan = c.args.search.now.plan.now in
+    let d = ground_of g k in
+    let leg = c.requires.leg in
+    let n = c.index-seat.result.now in
+    let start : c.args.parts.first ≤ c.args.leg.end = leg.first in
+    let low : c.args.parts.first < c.args.leg.end = omega (arith, start, c.if-leg-parts.false) in
+    let high : c.args.leg.end ≤ c.args.parts.end = leg.end in
+    let count : c.args.leg.end - c.args.parts.first ≡ suc (c.args.leg.end - 1 - c.args.parts.first) = omega (arith, low) in
+    let step = way_step d c.args.leg.place leg.seats c.args.leg.from (c.args.leg.end - 1 - c.args.parts.first) (c.args.leg.end - c.args.parts.first) c.args.leg.way c.args.leg.to leg.list count leg.way in
+    let q = get_or leg.seats (c.args.leg.end - 1 - c.args.parts.first) (0, 0) in
+    let first = last_seat g k plan c.args.parts c.args.leg c.requires.parts low n leg.seats high leg.are in
+    let seat : HasSeat plan n q = subst (λ n. HasSeat plan n q) (sym c.index-seat.ensures) first in
+    let narrow = last_narrow g k plan c.args.parts c.args.leg c.requires.parts low n high q first in
+    let more = last_sizes g k plan c.args.parts c.args.leg c.requires.parts low 0 leg.seats high leg.are in
+    let within : c.args.leg.place + sizes (take (c.args.leg.end - c.args.parts.first) leg.seats) ≤ k.resolution = leg.within in
+    let place : c.in_ok-place.place ≡ c.args.leg.place + sizes (take (c.args.leg.end - 1 - c.args.parts.first) leg.seats) = c.in_ok-place.ensures.place leg.seats leg.are in
+    let lower = seat_lower plan n c.args.parts.width (c.args.leg.end - c.args.parts.first) q seat narrow in
+    and_then (omega (arith, lower, c.decreases)) (and_then c.requires.search (and_then (has_seat-within plan n q seat)
+    (and_then (λ s at. let wide : s.width ≡ q.0 = ap (λ (q : ℕ × ℕ). q.0) (has_seat-pair plan n q s seat at) in omega (arith, wide, place, within, more))
+    (and_then step.digit c.in_ok-place.ensures.known))))
+
+pub write_parts-index-requires : goal.write_parts-index-requires
+write_parts-index-requires t c =
+    let g = c.args.search.now.grammar.now in
+    let k = c.args.search.now.input.now in
+    let plan = c.args.search.now.plan.now in
+    let leg = c.requires.leg in
+    let n = c.index-seat.result.now in
+    let start : c.args.parts.first ≤ c.args.leg.end = leg.first in
+    let low : c.args.parts.first < c.args.leg.end = omega (arith, start, c.if-leg-parts.false) in
+    let high : c.args.leg.end ≤ c.args.parts.end = leg.end in
+    let q = get_or leg.seats (c.args.leg.end - 1 - c.args.parts.first) (0, 0) in
+    let first = last_seat g k plan c.args.parts c.args.leg c.requires.parts low n leg.seats high leg.are in
+    let seat : HasSeat plan n q = subst (λ n. HasSeat plan n q) (sym c.index-seat.ensures) first in
+    let there = has_seat-within plan n q seat in
+    omega (arith, there)
+
+pub write_parts-overflow_add-result : goal.write_parts-overflow_add-result
+write_parts-overflow_add-result t c =
+    let g = c.args.search.now.grammar.now in
+    let k = c.args.search.now.input.now in
+    let plan = c.args.search.now.plan.now in
+    let leg = c.requires.leg in
+    let n = c.index-seat.result.now in
+    let start : c.args.parts.first ≤ c.args.leg.end = leg.first in
+    let low : c.args.parts.first < c.args.leg.end = omega (arith, start, c.if-leg-parts.false) in
+    let high : c.args.leg.end ≤ c.args.parts.end = leg.end in
+    let q = get_or leg.seats (c.args.leg.end - 1 - c.args.parts.first) (0, 0) in
+    let first = last_seat g k plan c.args.parts c.args.leg c.requires.parts low n leg.seats high leg.are in
+    let seat : HasSeat plan n q = subst (λ n. HasSeat plan n q) (sym c.index-seat.ensures) first in
+    let there = has_seat-within plan n q seat in
+    let at : slice_get plan.seats.items n ≡ Some c.index.result.now = slice_get_read plan.seats.items (length plan.seats.items) n c.index.result.now refl there c.index.ensures in
+    let wide : c.index.result.now.width ≡ q.0 = ap (λ (q : ℕ × ℕ). q.0) (has_seat-pair plan n q c.index.result.now seat at) in
+    let more = last_sizes g k plan c.args.parts c.args.leg c.requires.parts low 0 leg.seats high leg.are in
+    let within : c.args.leg.place + sizes (take (c.args.leg.end - c.args.parts.first) leg.seats) ≤ k.resolution = leg.within in
+    let place : c.in_ok-place.place ≡ c.args.leg.place + sizes (take (c.args.leg.end - 1 - c.args.parts.first) leg.seats) = c.in_ok-place.ensures.place leg.seats leg.are in
+    let few : k.resolution ≤ 960 = c.requires.search.ready.cell.few_units in
+    omega (arith, wide, more, within, place, few)
+
+pub write_parts-returns-clause-place : goal.write_parts-returns-clause-place
+write_parts-returns-clause-place t c qs are =
+    let g = c.args.search.now.grammar.now in
+    let k = c.args.search.now.input.now in
+    let plan = c.args.search.now.plan.now in
+    let leg = c.requires.leg in
+    let n = c.index-seat.result.now in
+    let start : c.args.parts.first ≤ c.args.leg.end = leg.first in
+    let low : c.args.parts.first < c.args.leg.end = omega (arith, start, c.if-leg-parts.false) in
+    let high : c.args.leg.end ≤ c.args.parts.end = leg.end in
+    let q = get_or qs (c.args.leg.end - 1 - c.args.parts.first) (0, 0) in
+    let first = last_seat g k plan c.args.parts c.args.leg c.requires.parts low n qs high are in
+    let seat : HasSeat plan n q = subst (λ n. HasSeat plan n q) (sym c.index-seat.ensures) first in
+    let there = has_seat-within plan n q seat in
+    let at : slice_get plan.seats.items n ≡ Some c.index.result.now = slice_get_read plan.seats.items (length plan.seats.items) n c.index.result.now refl there c.index.ensures in
+    let wide : c.index.result.now.width ≡ q.0 = ap (λ (q : ℕ × ℕ). q.0) (has_seat-pair plan n q c.index.result.now seat at) in
+    let more = last_sizes g k plan c.args.parts c.args.leg c.requires.parts low 0 qs high are in
+    let place : c.in_ok-place.place ≡ c.args.leg.place + sizes (take (c.args.leg.end - 1 - c.args.parts.first) qs) = c.in_ok-place.ensures.place qs are in
+    omega (arith, wide, more, place)
+
+pub write_parts-returns-clause-list : goal.write_parts-returns-clause-list
+write_parts-returns-clause-list t c qs xs are way =
+    let g = c.args.search.now.grammar.now in
+    let k = c.args.search.now.input.now in
+    let plan = c.args.search.now.plan.now in
+    let d = ground_of g k in
+    let leg = c.requires.leg in
+    let n = c.index-seat.result.now in
+    let start : c.args.parts.first ≤ c.args.leg.end = leg.first in
+    let low : c.args.parts.first < c.args.leg.end = omega (arith, start, c.if-leg-parts.false) in
+    let high : c.args.leg.end ≤ c.args.parts.end = leg.end in
+    let count : c.args.leg.end - c.args.parts.first ≡ suc (c.args.leg.end - 1 - c.args.parts.first) = omega (arith, low) in
+    let step = way_step d c.args.leg.place qs c.args.leg.from (c.args.leg.end - 1 - c.args.parts.first) (c.args.leg.end - c.args.parts.first) c.args.leg.way c.args.leg.to xs count way in
+    let q = get_or qs (c.args.leg.end - 1 - c.args.parts.first) (0, 0) in
+    let first = last_seat g k plan c.args.parts c.args.leg c.requires.parts low n qs high are in
+    let seat : HasSeat plan n q = subst (λ n. HasSeat plan n q) (sym c.index-seat.ensures) first in
+    let there = has_seat-within plan n q seat in
+    let at : slice_get plan.seats.items n ≡ Some c.index.result.now = slice_get_read plan.seats.items (length plan.seats.items) n c.index.result.now refl there c.index.ensures in
+    let pair : pair_of c.index.result.now ≡ q = has_seat-pair plan n q c.index.result.now seat at in
+    let place : c.in_ok-place.place ≡ c.args.leg.place + sizes (take (c.args.leg.end - 1 - c.args.parts.first) qs) = c.in_ok-place.ensures.place qs are in
+    let earlier : c.write_parts.new.list.items ≡ c.args.list.now.items ++ step.earlier = c.in_ok-place.ensures.list qs step.earlier are step.before in
+    let least : IsLeastKey (IsForestKey d None c.in_ok-place.place (pair_of c.index.result.now ∷ []) (c.args.leg.way % 8) c.args.leg.to) (Some step.key) =
+    subst (λ p. IsLeastKey (IsForestKey d None p (pair_of c.index.result.now ∷ []) (c.args.leg.way % 8) c.args.leg.to) (Some step.key)) (sym place)
+    (subst (λ q. IsLeastKey (IsForestKey d None (c.args.leg.place + sizes (take (c.args.leg.end - 1 - c.args.parts.first) qs)) (q ∷ []) (c.args.leg.way % 8) c.args.leg.to) (Some step.key)) (sym pair) step.least) in
+    let last : c.write.new.list.items ≡ c.write_parts.new.list.items ++ step.key.1 = c.in_ok-write.ensures.list c.index.result.now step.key at least in
+    last ∙ ap (λ l. l ++ step.key.1) earlier ∙ append_assoc c.args.list.now.items step.earlier step.key.1 ∙ ap (λ l. c.args.list.now.items ++ l) (sym step.whole)

@@ -1,0 +1,125 @@
+-- The least ways over the first parts of a cut, by the number of chords carried out of them.
+use Rattle.std.specs.Prelude.{⊤, ◌≡◌, ◌≢◌, ℕ, zero, suc, ◌+◌, ◌*◌, ◌<◌, ◌≤◌, ◌^◌, ◌==◌, if◌then◌else◌, List, [], ◌∷◌, take, length, slice_get, slice_index_or, Option, Some, None}
+use Rattle.rhythm_base.specs.Ranked.{Key, Keys}
+use Rattle.rhythm_laws.specs.Forests.{Ground}
+use Rattle.rhythm_laws.specs.Rows.{AreAlike}
+use Rattle.row_laws.specs.BestRules.{Choice, choice_key, is_nearer}
+use Rattle.row_laws.specs.Rows.{AreLeastRow}
+use Rattle.row_laws.specs.Ways.{IsWayList}
+use Rattle.grammar_plan.specs.declared.quiet_tree.QuietTree.{QuietTree}
+use Rattle.least_rows.specs.declared.entry.Entry.{Entry}
+use Rattle.least_rows.specs.declared.front.Front.{Front}
+use Rattle.least_rows.specs.declared.front.Front.TheVariants.{One, Several}
+use Rattle.least_rows.specs.declared.way.Way.{Way}
+
+-- ---- ways
+
+abbrev pub way_in : List (Option Way) → ℕ → Option Way
+way_in ways count = slice_index_or ways count None
+
+-- the cost and the order of a way
+abbrev pub sum_of_way : Option Way → Option Choice
+sum_of_way None = None
+sum_of_way (Some w) = Some (w.cost, w.order)
+
+-- the second where it is nearer than the first
+abbrev pub nearer_way : Option Way → Option Way → Option Way
+nearer_way o None = o
+nearer_way None (Some x) = Some x
+nearer_way (Some y) (Some x) = if is_nearer (x.cost, x.order) (y.cost, y.order) then Some x else Some y
+
+-- one part more, into which so many chords are carried, with the cost and the rank of its entry
+abbrev pub way_on : Option Way → ℕ → Option Choice → Option Way
+way_on None count r = None
+way_on (Some w) count None = None
+way_on (Some w) count (Some r) = Some (record { cost = w.cost + r.0; order = w.order * 8 + r.1; way = w.way * 8 + count })
+
+-- the nearest of those over the first n counts between
+abbrev pub nearest_below : (ℕ → Option Way) → (ℕ → ℕ → Option Choice) → ℕ → ℕ → Option Way
+nearest_below front ranks b zero = None
+nearest_below front ranks b (suc n) = nearer_way (nearest_below front ranks b n) (way_on (front n) n (ranks n b))
+
+unfoldable pub nearest_way : (ℕ → Option Way) → (ℕ → ℕ → Option Choice) → ℕ → Option Way
+nearest_way front ranks b = nearest_below front ranks b 5
+
+-- ---- fronts
+
+abbrev pub front_at : Front → ℕ → Option Way
+front_at (One way count) b = if count == b then Some way else None
+front_at (Several ways) b = way_in ways b
+
+-- a number carried out is below 5
+abbrev pub IsFront : Front → Type 0
+IsFront (One way count) = count < 5
+IsFront (Several ways) = ⊤
+
+-- there may be no way at all
+abbrev pub ways_of : Option Front → ℕ → Option Way
+ways_of None b = None
+ways_of (Some front) b = front_at front b
+
+-- the way is by the counts between the trees of the key's list
+abbrev pub IsWayMade : Ground → ℕ → List (ℕ × ℕ) → ℕ → ℕ → ℕ → Option Way → Option Key → Type 0
+IsWayMade d p qs a n m None k = ⊤
+IsWayMade d p qs a n m (Some w) None = ⊤
+IsWayMade d p qs a n m (Some w) (Some k) = IsWayList d p qs a n w.way m k.1
+
+-- these are the least ways over the first n of the trees of these widths and symbols from unit p on, with a chords carried in,
+-- by the number carried out
+pub record AreWays (d : Ground) (p : ℕ) (qs : List (ℕ × ℕ)) (a n : ℕ) (ways : ℕ → Option Way) : Type 0 where
+  pub row : ℕ → Option Key
+  pub least : AreLeastRow d p (take n qs) a row
+  pub alike : AreAlike row (λ m. choice_key (sum_of_way (ways m)))
+  pub made : (m : ℕ) → m < 5 → IsWayMade d p qs a n m (ways m) (row m)
+  pub short : (m : ℕ) (w : Way) → m < 5 → ways m ≡ Some w → (w.order < 8 ^ n) × (w.way < 8 ^ n)
+
+-- so that one part more does not overflow
+abbrev pub IsShort : Way → Type 0
+IsShort w = (w.cost ≤ 3000000000) × (w.order < 2 ^ 48) × (w.way < 2 ^ 48)
+
+abbrev pub AreShort : (ℕ → Option Way) → Type 0
+AreShort ways = (m : ℕ) (w : Way) → m < 5 → ways m ≡ Some w → IsShort w
+
+-- ---- one part more
+
+-- the cost and the rank, from i on, of the entry for a number carried out
+abbrev pub rank_in : List Entry → ℕ → ℕ → Option Choice
+rank_in [] i b = None
+rank_in (e ∷ es) i b = if e.to == b then Some (e.cost, i) else rank_in es (suc i) b
+
+-- the nearest ways with the tree of this width and symbol behind them, from unit p on: by its rows for the counts that are
+-- carried out of them
+pub record AreWaysOn (d : Ground) (p : ℕ) (q : ℕ × ℕ) (ways next : ℕ → Option Way) : Type 0 where
+  pub keys : Keys
+  pub ranks : ℕ → ℕ → Option Choice
+  pub least : (m : ℕ) (w : Way) → m < 5 → ways m ≡ Some w → AreLeastRow d p (q ∷ []) m (keys m)
+  pub alike : (m : ℕ) (w : Way) → m < 5 → ways m ≡ Some w → AreAlike (keys m) (λ b. choice_key (ranks m b))
+  pub digits : (m b : ℕ) (c : Choice) → ranks m b ≡ Some c → c.1 < 8
+  pub nearest : (b : ℕ) → b < 5 → next b ≡ nearest_way ways ranks b
+
+-- few entries for different counts, of trees that do not cost much
+pub record AreEntries (entries : List Entry) : Type 0 where
+  pub few : length entries ≤ 5
+  pub each : (i : ℕ) (e : Entry) → slice_get entries i ≡ Some e → (e.to < 5) × (e.cost ≤ 3000000000)
+  pub apart : (i j : ℕ) (e f : Entry) → i < j → slice_get entries i ≡ Some e → slice_get entries j ≡ Some f → e.to ≢ f.to
+
+-- the cost and the rank of the tree over a quiet interval: none is carried out of it, and there is no other
+abbrev pub quiet_rank : Option QuietTree → ℕ → Option Choice
+quiet_rank None b = None
+quiet_rank (Some t) b = if 0 == b then Some (t.cost, 0) else None
+
+-- the same for the first n of the counts that are carried out
+pub record AreWaysBelow (d : Ground) (p : ℕ) (q : ℕ × ℕ) (ways : ℕ → Option Way) (n : ℕ) (next : ℕ → Option Way) : Type 0 where
+  pub keys : Keys
+  pub ranks : ℕ → ℕ → Option Choice
+  pub least : (m : ℕ) (w : Way) → m < n → ways m ≡ Some w → AreLeastRow d p (q ∷ []) m (keys m)
+  pub alike : (m : ℕ) (w : Way) → m < n → ways m ≡ Some w → AreAlike (keys m) (λ b. choice_key (ranks m b))
+  pub digits : (m b : ℕ) (c : Choice) → ranks m b ≡ Some c → c.1 < 8
+  pub nearest : (b : ℕ) → b < 5 → next b ≡ nearest_below ways ranks b n
+
+-- these costs and ranks stand for the row of the width and symbol from unit p on, with a chords carried in
+pub record IsRanked (d : Ground) (p : ℕ) (q : ℕ × ℕ) (a : ℕ) (ranks : ℕ → Option Choice) : Type 0 where
+  pub keys : ℕ → Option Key
+  pub least : AreLeastRow d p (q ∷ []) a keys
+  pub alike : AreAlike keys (λ b. choice_key (ranks b))
+  pub digits : (b : ℕ) (c : Choice) → ranks b ≡ Some c → c.1 < 8

@@ -1,0 +1,10 @@
+pub mod BarTrees
+pub mod Choices
+pub mod Entries
+pub mod Fronts
+pub mod Parts
+pub mod Places
+pub mod Roots
+pub mod Searches
+pub mod States
+pub mod Steps

@@ -1,0 +1,34 @@
+-- The parts of a cut.
+use Rattle.std.specs.Prelude.{ℕ, ◌+◌, ◌-◌, ◌≤◌, List, length, take}
+use Rattle.rhythm_base.specs.BarInput.{BarInput}
+use Rattle.rhythm_base.specs.Bodies.{sizes}
+use Rattle.rhythm_base.specs.Grammar.{Grammar}
+use Rattle.rhythm_laws.specs.Shares.{AreBelow}
+use Rattle.row_laws.specs.Grounds.{ground_of}
+use Rattle.row_laws.specs.Ways.{IsWayList}
+use Rattle.grammar_plan.specs.Plans.{HaveSeats, between}
+use Rattle.grammar_plan.specs.declared.plan.Plan.{Plan}
+use Rattle.least_rows.specs.declared.parts.Leg.{Leg}
+use Rattle.least_rows.specs.declared.parts.Parts.{Parts}
+
+-- the seats of the parts have these widths and symbols
+abbrev pub AreSeatsOf : Plan → Parts → List (ℕ × ℕ) → Type 0
+AreSeatsOf plan x qs = HaveSeats plan (between plan.parts.items x.first x.end) qs
+
+-- the plan has the seats of the parts, which are narrower than the interval
+pub record ArePartsOf (plan : Plan) (x : Parts) : Type 0 where
+  pub order : x.first ≤ x.end
+  pub within : x.end ≤ length plan.parts.items
+  pub seats : List (ℕ × ℕ)
+  pub are : AreSeatsOf plan x seats
+  pub below : AreBelow x.width seats
+
+-- the first parts, up to the end of the leg, lie in the bar, and the way leads over them
+pub record IsLeg (g : Grammar) (k : BarInput) (plan : Plan) (x : Parts) (leg : Leg) : Type 0 where
+  pub first : x.first ≤ leg.end
+  pub end : leg.end ≤ x.end
+  pub seats : List (ℕ × ℕ)
+  pub are : AreSeatsOf plan x seats
+  pub within : leg.place + sizes (take (leg.end - x.first) seats) ≤ k.resolution
+  pub list : List ℕ
+  pub way : IsWayList (ground_of g k) leg.place seats leg.from (leg.end - x.first) leg.way leg.to list

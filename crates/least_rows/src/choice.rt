@@ -1,0 +1,168 @@
+ghost use Rattle.least_rows.specs.Choices.{
+  IsEntryOf,
+  IsFirst,
+  choice_in,
+  nearer_choice,
+  topped_choice,
+};
+ghost use Rattle.least_rows.specs.Fronts.{AreShort, IsFront, IsShort, front_at, way_in};
+ghost use Rattle.least_rows.specs.declared.way.Way.{Way};
+ghost use Rattle.least_rows.specs.declared.choice.Choice.{Choice};
+ghost use Rattle.row_laws.specs.BestRules.{is_nearer};
+ghost use Rattle.std.specs.Prelude.{
+  ◌≡◌,
+  ◌+◌,
+  ◌<◌,
+  ◌≤◌,
+  ℕ,
+  MatchOption,
+  None,
+  Some,
+  slice_set,
+};
+
+use crate::entry::Entry;
+use crate::front::Front;
+use crate::way::Way;
+use grammar_plan::Cut;
+
+/// What an entry of a row may become.
+#[derive(Clone, Copy)]
+pub struct Choice {
+    pub cost: u64,
+    /// What orders the rule lists of such choices: the rule, times 2 to the power 48, and the order of the way over its parts.
+    pub order: u64,
+    pub cut: Option<u32>,
+    pub way: u64,
+}
+
+/// Choices by the number of chords carried out.
+pub type Choices = [Option<Choice>; 5];
+
+/// The place of a rule in an order, above 16 digits to the base 8.
+pub const RULE: u64 = 281_474_976_710_656;
+
+/// The first costs less than the second, or as much and its rule list comes before.
+#[inline(always)]
+fn is_nearer(x: &Choice, y: &Choice) -> bool
+    ensures { result ≡ is_nearer (x.now.cost, x.now.order) (y.now.cost, y.now.order) }
+{
+    x.cost < y.cost || (x.cost == y.cost && x.order < y.order)
+}
+
+/// Puts a choice into the place where it is nearer than what is there.
+#[inline(always)]
+pub fn offer(place: &mut Option<Choice>, next: Choice)
+    ensures { place.new ≡ nearer_choice place.old (Some next) }
+{
+    match place {
+        Some(best) => {
+            if is_nearer(&next, best) {
+                *best = next;
+            }
+        }
+        None => *place = Some(next),
+    }
+}
+
+/// Offers a way over the parts of a cut, with the cut on top.
+#[inline(always)]
+fn offer_way(place: &mut Option<Choice>, way: Way, cut: &Cut, number: u32)
+    requires short { IsShort way }
+    ensures { place.new ≡ nearer_choice place.old (topped_choice cut.now number (Some way)) }
+{
+    offer(
+        place,
+        Choice {
+            cost: u64::from(cut.weight) + way.cost,
+            order: u64::from(cut.rule) * RULE + way.order,
+            cut: Some(number),
+            way: way.way,
+        },
+    );
+}
+
+/// Offers a way where there is one.
+#[inline(always)]
+fn offer_some(place: &mut Option<Choice>, way: &Option<Way>, cut: &Cut, number: u32)
+    requires short { (w : Way) → way.now ≡ Some w → IsShort w }
+    ensures { place.new ≡ nearer_choice place.old (topped_choice cut.now number way.now) }
+{
+    if let Some(way) = *way {
+        offer_way(place, way, cut, number);
+    }
+}
+
+/// Offers several ways.
+#[inline(never)]
+fn offer_ways(best: &mut Choices, ways: &[Option<Way>; 5], cut: &Cut, number: u32)
+    requires short { AreShort (way_in ways.now) }
+    ensures { (b : ℕ) → b < 5 → choice_in best.new b ≡ nearer_choice (choice_in best.old b) (topped_choice cut.now number (way_in ways.now b)) }
+{
+    offer_some(&mut best[0], &ways[0], cut, number);
+    offer_some(&mut best[1], &ways[1], cut, number);
+    offer_some(&mut best[2], &ways[2], cut, number);
+    offer_some(&mut best[3], &ways[3], cut, number);
+    offer_some(&mut best[4], &ways[4], cut, number);
+}
+
+/// Offers the ways over all parts of a cut, with the cut on top.
+#[inline(always)]
+pub fn offer_front(best: &mut Choices, front: &Front, cut: &Cut, number: u32)
+    requires front { IsFront front.now }
+    requires short { AreShort (front_at front.now) }
+    ensures { (b : ℕ) → b < 5 → choice_in best.new b ≡ nearer_choice (choice_in best.old b) (topped_choice cut.now number (front_at front.now b)) }
+{
+    match front {
+        Front::One(way, count) => offer_way(&mut best[*count as usize], *way, cut, number),
+        Front::Several(ways) => offer_ways(best, ways, cut, number),
+    }
+}
+
+/// The one of the lower order: that which is the first below, or the one of this number.
+#[inline(always)]
+fn earlier(best: &Choices, first: Option<u8>, to: u8) -> Option<u8>
+    requires low { to < 5 }
+    requires first { IsFirst best.now to first }
+    ensures { IsFirst best.now (to + 1) result }
+{
+    let Some(next) = &best[to as usize] else {
+        return first;
+    };
+    let Some(known) = first else {
+        return Some(to);
+    };
+    match &best[known as usize] {
+        Some(choice) if choice.order <= next.order => first,
+        _ => Some(to),
+    }
+}
+
+/// The number of the choice of the lowest order.
+fn first_of(best: &Choices) -> Option<u8>
+    ensures { IsFirst best.now 5 result }
+{
+    let mut first = None;
+    'tos: for to in 0..5u8 {
+        first = earlier(best, first, to);
+    }
+    first
+}
+
+/// Takes the choice of the lowest order out, as an entry.
+pub fn take_first(left: &mut Choices) -> Option<Entry>
+    ensures { MatchOption result
+        ((left.new ≡ left.old) × ((b : ℕ) → b < 5 → choice_in left.old b ≡ None))
+        (λ e. IsFirst left.old 5 (Some e.to) × ((c : Choice) → choice_in left.old e.to ≡ Some c → IsEntryOf c e.to e) × (left.new ≡ slice_set left.old e.to None)) }
+{
+    let to = first_of(left)?;
+    let choice = left[to as usize]?;
+    left[to as usize] = None;
+    Some(Entry {
+        cost: choice.cost,
+        to,
+        rule: (choice.order / RULE) as u16,
+        cut: choice.cut,
+        way: choice.way,
+    })
+}

@@ -1,0 +1,26 @@
+//! The search for the least trees of one bar of one voice that has no pin. A row, the least trees of a seat from a unit on for
+//! one number of chords carried in, is found when it is asked for, and once. It holds only the entries that are there, in the
+//! order of their rule lists, so that the place of an entry is its rank. Trees side by side are followed from left to right,
+//! over the counts of chords between them, and no rule list is made before the end.
+#![tactic(auto)]
+
+mod bar_trees;
+mod choice;
+mod entry;
+mod front;
+mod leaf_choices;
+mod parts;
+mod quiet_lists;
+mod quiet_ways;
+mod room;
+mod roots;
+mod rows;
+mod search;
+mod settled;
+mod state;
+mod tree_at;
+mod way;
+mod write;
+
+pub use bar_trees::{BarTrees, ListSpan};
+pub use room::Room;

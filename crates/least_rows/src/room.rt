@@ -1,0 +1,71 @@
+ghost use Rattle.grammar_plan.specs.Plans.{HasSeat, IsPlan};
+ghost use Rattle.least_rows.specs.BarTrees.{AreBarTrees};
+ghost use Rattle.row_laws.specs.Grounds.{IsReady};
+ghost use Rattle.std.specs.Prelude.{◌≡◌, [], IfOk, OnOk};
+
+use crate::bar_trees::BarTrees;
+use crate::roots::trees_of;
+use crate::rows::Rows;
+use crate::search::Search;
+use bar_view::View;
+use grammar_plan::Plan;
+use rhythm_base::{BarInput, Grammar};
+use std::alloc::{AllocError, Global};
+
+/// Room for the search of one worker, kept from bar to bar.
+#[derive(Drop)]
+pub struct Room {
+    view: View,
+    rows: Rows,
+    /// The rule lists of the last bar, one after another.
+    pub rules: Vec<u16>,
+}
+
+impl Room {
+    /// No room yet.
+    pub fn new(alloc: Global) -> Room {
+        Room {
+            view: View::new(alloc),
+            rows: Rows::new(alloc),
+            rules: Vec::new(alloc),
+        }
+    }
+
+    /// The least trees of a bar whose root symbol has this seat in the plan of the grammar. The bar's pin is not looked at.
+    pub fn search(
+        &mut self,
+        grammar: &Grammar,
+        plan: &Plan,
+        input: &BarInput,
+        root: u32,
+    ) -> Result<BarTrees, AllocError>
+        requires ready { IsReady grammar.now input.now }
+        requires plan { IsPlan grammar.now plan.now }
+        requires root { HasSeat plan.now root (input.now.resolution, input.now.symbol) }
+        ensures { IfOk result (AreBarTrees grammar.now input.now self.new.rules.items) }
+    {
+        self.view.set(grammar, input)?;
+        clear(&mut self.rows, plan)?;
+        self.rules.clear();
+        let search = Search {
+            grammar,
+            plan,
+            input,
+            view: &self.view,
+        };
+        trees_of(&mut self.rows, &search, root, &mut self.rules)
+    }
+}
+
+/// Forgets all rows, and makes room for those of the plan.
+fn clear(rows: &mut Rows, plan: &Plan) -> Result<(), AllocError>
+    ensures { OnOk result (rows.new.states.items ≡ []) }
+{
+    rows.states.clear();
+    rows.entries.clear();
+    let places = plan.places as usize;
+    if rows.table.len() < places {
+        rows.table.resize(places, 0)?;
+    }
+    Ok(())
+}

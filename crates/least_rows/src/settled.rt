@@ -1,0 +1,21 @@
+ghost use Rattle.least_rows.specs.Choices.{AreSettled};
+ghost use Rattle.std.specs.Prelude.{IfOk};
+
+use crate::choice::{Choices, take_first};
+use crate::entry::Entry;
+use crate::state::RowSpan;
+use std::alloc::AllocError;
+
+/// Adds the entries of the choices, in the order of their rule lists.
+pub fn settle(entries: &mut Vec<Entry>, best: &Choices) -> Result<RowSpan, AllocError>
+    ensures { IfOk result (AreSettled best.now entries.old.items entries.new.items) }
+{
+    let first = u32::try_from(entries.len()).ok().ok_or(AllocError)?;
+    let mut left = *best;
+    let mut count = 0u8;
+    'entries: while let Some(entry) = take_first(&mut left) {
+        entries.push(entry)?;
+        count += 1;
+    }
+    Ok(RowSpan { first, count })
+}

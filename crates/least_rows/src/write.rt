@@ -1,0 +1,137 @@
+ghost use Rattle.grammar_plan.specs.Plans.{between, pair_of};
+ghost use Rattle.grammar_plan.specs.declared.seat.Seat.{Seat};
+ghost use Rattle.least_rows.specs.Parts.{ArePartsOf, AreSeatsOf, IsLeg};
+ghost use Rattle.least_rows.specs.Searches.{IsSearch};
+ghost use Rattle.least_rows.specs.States.{AreKnown};
+ghost use Rattle.rhythm_base.specs.Bodies.{sizes};
+ghost use Rattle.rhythm_base.specs.Ranked.{Key};
+ghost use Rattle.rhythm_laws.specs.Forests.{IsForestKey};
+ghost use Rattle.rhythm_laws.specs.Tables.{IsLeastKey};
+ghost use Rattle.row_laws.specs.Grounds.{ground_of};
+ghost use Rattle.row_laws.specs.Ways.{IsWayList};
+ghost use Rattle.std.specs.Prelude.{◌≡◌, ◌==◌, ◌+◌, ◌-◌, ◌<◌, ◌≤◌, ◌++◌, [], ◌∷◌, ℕ, List, IfOk, MatchOption, OnOk, None, Some, length, position, slice_index_or, slice_get, take};
+
+use crate::entry::Entry;
+use crate::parts::{Leg, Parts};
+use crate::quiet_lists::write_quiet;
+use crate::rows::Rows;
+use crate::search::Search;
+use crate::state::RowSpan;
+use crate::tree_at::TreeAt;
+use std::alloc::{AllocError, Global};
+
+/// The entries of a row.
+pub fn entries_of(rows: &Rows, span: RowSpan) -> &[Entry]
+    requires { span.first + span.count ≤ length rows.now.entries.items }
+    ensures { result.now ≡ between rows.now.entries.items span.first (span.first + span.count) }
+{
+    let first = span.first as usize;
+    &rows.entries[first..first + span.count as usize]
+}
+
+/// Where in a row the entry for a number carried out stands.
+pub fn place_in(row: &[Entry], to: u8) -> Option<usize>
+    ensures { result ≡ position (λ e. e.to == to) row.now }
+{
+    row.iter().position(|entry| entry.to == to)
+}
+
+/// The entry of a row for a number carried out.
+fn entry_in(row: &[Entry], to: u8) -> Option<Entry>
+    ensures { MatchOption result (position (λ e. e.to == to) row.now ≡ None) (λ e. (i : ℕ) × (position (λ e. e.to == to) row.now ≡ Some i) × (e ≡ slice_index_or row.now i e)) }
+{
+    match place_in(row, to) {
+        None => None,
+        Some(at) => Some(row[at]),
+    }
+}
+
+/// Writes the rules of a least tree.
+#[cycle(lists)]
+pub fn write(
+    rows: &mut Rows,
+    search: &Search<'_>,
+    tree: TreeAt,
+    list: &mut Vec<u16>,
+) -> Result<(), AllocError>
+    requires search { IsSearch search.now.grammar.now search.now.input.now search.now.plan.now search.now.view.now }
+    requires seat { tree.seat < length search.now.plan.now.seats.items }
+    requires within { (s : Seat) → slice_get search.now.plan.now.seats.items tree.seat ≡ Some s → tree.place + s.width ≤ search.now.input.now.resolution }
+    requires from { tree.from < 5 }
+    requires known { AreKnown search.now.grammar.now search.now.input.now search.now.plan.now rows.old }
+    ensures known { OnOk result (AreKnown search.now.grammar.now search.now.input.now search.now.plan.now rows.new) }
+    ensures list { OnOk result ((s : Seat) (k : Key) → slice_get search.now.plan.now.seats.items tree.seat ≡ Some s
+        → IsLeastKey (IsForestKey (ground_of search.now.grammar.now search.now.input.now) None tree.place (pair_of s ∷ []) tree.from tree.to) (Some k)
+        → list.new.items ≡ list.old.items ++ k.1) }
+{
+    let plan = search.plan;
+    let width = plan.seats[tree.seat as usize].width;
+    if let Some(quiet) = search.view.quiet(search.input, tree.place, width) {
+        return write_quiet(search.grammar, plan, quiet, tree.seat, tree.from, list);
+    }
+    let span = rows.row(search, tree.seat, tree.place, tree.from)?;
+    let Some(entry) = entry_in(entries_of(rows, span), tree.to) else {
+        return Ok(());
+    };
+    list.push(entry.rule)?;
+    let Some(number) = entry.cut else {
+        return Ok(());
+    };
+    let cut = &plan.cuts[number as usize];
+    let parts = Parts {
+        first: cut.first,
+        end: cut.end,
+        width,
+    };
+    let leg = Leg {
+        place: tree.place,
+        from: tree.from,
+        end: cut.end,
+        way: entry.way,
+        to: entry.to,
+    };
+    write_parts(rows, search, parts, leg, list)?;
+    Ok(())
+}
+
+/// Writes the rules of the least trees of the first parts of a cut along a way, and says at which unit the next part begins.
+#[cycle(lists)]
+fn write_parts(
+    rows: &mut Rows,
+    search: &Search<'_>,
+    parts: Parts,
+    leg: Leg,
+    list: &mut Vec<u16>,
+) -> Result<u16, AllocError>
+    requires search { IsSearch search.now.grammar.now search.now.input.now search.now.plan.now search.now.view.now }
+    requires parts { ArePartsOf search.now.plan.now parts }
+    requires leg { IsLeg search.now.grammar.now search.now.input.now search.now.plan.now parts leg }
+    requires known { AreKnown search.now.grammar.now search.now.input.now search.now.plan.now rows.old }
+    ensures known { OnOk result (AreKnown search.now.grammar.now search.now.input.now search.now.plan.now rows.new) }
+    ensures place { IfOk result (λ p. (qs : List (ℕ × ℕ)) → AreSeatsOf search.now.plan.now parts qs → p ≡ leg.place + sizes (take (leg.end - parts.first) qs)) }
+    ensures list { OnOk result ((qs : List (ℕ × ℕ)) (xs : List ℕ) → AreSeatsOf search.now.plan.now parts qs
+        → IsWayList (ground_of search.now.grammar.now search.now.input.now) leg.place qs leg.from (leg.end - parts.first) leg.way leg.to xs
+        → list.new.items ≡ list.old.items ++ xs) }
+{
+    if leg.end == parts.first {
+        return Ok(leg.place);
+    }
+    let part = leg.end - 1;
+    let from = (leg.way % 8) as u8;
+    let earlier = Leg {
+        end: part,
+        way: leg.way / 8,
+        to: from,
+        ..leg
+    };
+    let place = write_parts(rows, search, parts, earlier, list)?;
+    let seat = search.plan.parts[part as usize];
+    let tree = TreeAt {
+        seat,
+        place,
+        from,
+        to: leg.to,
+    };
+    write(rows, search, tree, list)?;
+    Ok(place + search.plan.seats[seat as usize].width)
+}
