@@ -5,6 +5,7 @@ mod draws;
 mod laws;
 mod limits;
 mod places;
+mod plans;
 mod pool;
 mod workers;
 

@@ -4,8 +4,10 @@ ghost use Rattle.rhythm_base.specs.Readable.{IsReadable};
 ghost use Rattle.bar_pool.specs.declared.limits.TheConstants.{MOST_WORKERS};
 ghost use Rattle.std.specs.Prelude.{◌≡◌, ◌≤◌, All, IfOk, OnOk, length};
 
+use crate::plans::plan_of;
 use crate::workers::{Order, build_by_workers};
-use least_cost::{BarTable, Steps, build_cell};
+use least_cost::{BarTable, Steps, build_planned};
+use least_rows::Room;
 use rhythm_base::{BarInput, Grammar, Tag};
 use rhythm_ports::Gate;
 use std::alloc::{AllocError, Global};
@@ -32,12 +34,15 @@ pub fn build_cells<R: Threads + Sync, G: Gate + Sync, B: Tag>(
     ensures most { builds.new ≤ risen builds.old (length inputs.now) }
     ensures rises { builds.old ≤ builds.new }
 {
+    if inputs.is_empty() {
+        return Ok(Vec::new(alloc));
+    }
+    let workers = inputs.len().min(workers as usize);
     let order = Order {
         grammar,
         inputs,
         gate,
     };
-    let workers = inputs.len().min(workers as usize);
     if workers <= 1 {
         return build_in_turn(alloc, &order, builds);
     }
@@ -58,10 +63,20 @@ fn build_in_turn<G: Gate, B: Tag>(
     ensures rises { builds.old ≤ builds.new }
 {
     let inputs = order.inputs;
+    let plan = plan_of(alloc, order.grammar)?;
+    let mut room = Room::new(alloc);
     let mut tables = Vec::with_capacity(alloc, inputs.len())?;
     'cells: for number in 0..inputs.len() {
         order.gate.pass(number as u64);
-        tables.push(build_cell(alloc, order.grammar, &inputs[number], builds)?)?;
+        let table = build_planned(
+            alloc,
+            order.grammar,
+            &plan,
+            &mut room,
+            &inputs[number],
+            builds,
+        )?;
+        tables.push(table)?;
     }
     Ok(tables)
 }

@@ -9,7 +9,9 @@ ghost use Rattle.std.specs.Thread.{IsSync};
 
 use crate::draws::{Draw, DrawCounts, DrawSeat, DrawTable, HalfShare, SharedDraws, Takeover};
 use crate::places::in_places;
-use least_cost::{BarTable, Steps, build_cell};
+use crate::plans::plan_of;
+use least_cost::{BarTable, Steps, build_planned};
+use least_rows::Room;
 use rhythm_base::{BarInput, Grammar, Tag};
 use rhythm_ports::Gate;
 use std::alloc::{AllocError, Global};
@@ -35,7 +37,7 @@ fn draw(shared: &SharedDraws, seat: &mut DrawSeat) -> u64
     shared.fetch_add::<Draw>(seat, 0, 1)
 }
 
-/// Builds the cells whose numbers one worker draws, each in one atomic step. It stops at the first number past the inputs, and
+/// Builds the cells whose numbers one worker draws, each in one atomic step, by a plan of its own. It stops at the first number past the inputs, and
 /// where it wants memory.
 fn build_drawn<G: Gate, B: Tag>(
     alloc: Global,
@@ -55,6 +57,8 @@ fn build_drawn<G: Gate, B: Tag>(
     ensures builds { builds.new ≡ risen builds.old (length seat.new.me.0.drawn) }
 {
     let inputs = order.inputs;
+    let plan = plan_of(alloc, order.grammar)?;
+    let mut room = Room::new(alloc);
     let mut tables = Vec::new(alloc);
     'draws: loop {
         let number = draw(shared, seat);
@@ -64,7 +68,7 @@ fn build_drawn<G: Gate, B: Tag>(
         order.gate.pass(number);
         let number = number as usize;
         let input = &inputs[number];
-        let table = build_cell(alloc, order.grammar, input, builds)?;
+        let table = build_planned(alloc, order.grammar, &plan, &mut room, input, builds)?;
         tables.push((number, table))?;
     }
 }

@@ -6,11 +6,8 @@ use Rattle.std.specs.Cmp.{nat_cmp_is}
 use Rattle.std.specs.declared.cmp.Ordering.{Ordering}
 use Rattle.std.specs.declared.cmp.Ordering.TheVariants.{Less, Equal, Greater}
 use Rattle.rhythm_base.specs.Ranked.{Key, Keys, is_before, key_of, list_cmp, ranked}
-use Rattle.rhythm_laws.specs.Tables.{IsLeastKey}
-use Rattle.rhythm_laws.specs.Rows.{lists_cmp, same, IsOneBelow}
+use Rattle.rhythm_laws.specs.Rows.{lists_cmp, same}
 use Rattle.rhythm_laws.proofs.Alike.{ranked_same, ranks_alike}
-use Rattle.rhythm_laws.proofs.KeyOrders.{above, before_above, keys_total}
-use Rattle.rhythm_laws.proofs.LeastKeys.{last}
 use Rattle.rhythm_laws.proofs.Picks.{decides}
 use Rattle.least_cost.specs.declared.choice.Choice.{Choice}
 use Rattle.least_cost.specs.declared.entry.Entry.{Entry}
@@ -18,51 +15,8 @@ use Rattle.least_cost.specs.Entries.{IsEntryOf, choice_before, choice_key, neare
 use Rattle.least_cost.specs.Rules.{topped_of}
 use Rattle.least_cost.specs.RuleChoices.{AreChoicesOf, IsMarked, IsRopeOf}
 use Rattle.least_cost.specs.RuleLists.{Extends}
+pub use Rattle.row_laws.proofs.Lower.{lower-least, lower_of, on_top}
 use Rattle.least_cost.proofs.Settling.{IsRopeOf-more}
-
--- ---- the lower of two keys
-
-abbrev pub lower_of : Option Key → Option Key → Option Key
-lower_of o None = o
-lower_of None (Some x) = Some x
-lower_of (Some y) (Some x) = if is_before x y then Some x else Some y
-
-pub lower-least : (S : ℕ → Key → Type 0) (n : ℕ) (o u : Option Key) → IsLeastKey (IsOneBelow S n) o → IsLeastKey (S n) u → IsLeastKey (IsOneBelow S (suc n)) (lower_of o u)
-lower-least S n None None h g = λ k b. elim (last b.0 n b.1) [
-  | inl low ↦ h k (b.0, low, b.2)
-  | inr same ↦ g k (subst (λ m. S m k) same b.2)
-]
-lower-least S n (Some x) None h g = (
-  (h.0.0, omega (arith, h.0.1), h.0.2),
-  λ k b. elim (last b.0 n b.1) [
-    | inl low ↦ h.1 k (b.0, low, b.2)
-    | inr same ↦ absurd (g k (subst (λ m. S m k) same b.2))
-  ],
-)
-lower-least S n None (Some y) h g = (
-  (n, omega arith, g.0),
-  λ k b. elim (last b.0 n b.1) [
-    | inl low ↦ absurd (h k (b.0, low, b.2))
-    | inr same ↦ g.1 k (subst (λ m. S m k) same b.2)
-  ],
-)
-lower-least S n (Some x) (Some y) h g = go (is_before y x) refl
-  where
-    go : (b : Bool) → is_before y x ≡ b → IsLeastKey (IsOneBelow S (suc n)) (if b then Some y else Some x)
-    go true e = (
-      (n, omega arith, g.0),
-      λ k b. elim (last b.0 n b.1) [
-        | inl low ↦ above keys_total k x y (h.1 k (b.0, low, b.2)) (before_above keys_total y x e)
-        | inr same ↦ g.1 k (subst (λ m. S m k) same b.2)
-      ],
-    )
-    go false e = (
-      (h.0.0, omega (arith, h.0.1), h.0.2),
-      λ k b. elim (last b.0 n b.1) [
-        | inl low ↦ h.1 k (b.0, low, b.2)
-        | inr same ↦ above keys_total k y x (g.1 k (subst (λ m. S m k) same b.2)) e
-      ],
-    )
 
 -- ---- choices of rules
 
@@ -82,10 +36,6 @@ pub choices-ranked : (P : ℕ → Type 0) (ls : List (List ℕ)) (C : ℕ → �
 choices-ranked P ls C N h a b la lb = ranked_same (N a) (λ b. choice_key (C a b)) (h.alike a la) b lb
 
 -- ---- a rule on top
-
-abbrev pub on_top : ℕ → ℕ → Option Key → Option Key
-on_top w r None = None
-on_top w r (Some k) = Some (w + k.0, r ∷ k.1)
 
 topped-same : (w r : ℕ) (ls : List (List ℕ)) (row : ℕ → Option Key) (e : Option Entry) (u : Option Key) → IsEntryOf ls row e u → same (on_top w r u) (choice_key (topped_of w r e))
 topped-same w r ls row None None h = tt

@@ -16,11 +16,11 @@ use Rattle.rhythm_base.specs.Forest.{Tree, none, more, preorder, preorder_of}
 use Rattle.rhythm_base.specs.Least.{rank_cmp}
 use Rattle.rhythm_base.specs.Shape.{Shape}
 use Rattle.rhythm_base.specs.Paths.{AreLow, IsRanked}
-use Rattle.rhythm_base.specs.Ranked.{CarryMatrix, Key, at, count_under, five, grid, is_before, is_under, ranked}
+use Rattle.rhythm_base.specs.Ranked.{Key, Keys, at, count_under, five, grid, is_before, is_under, ranked, table_of}
 use Rattle.rhythm_base.specs.Grammar.{Grammar}
 use Rattle.rhythm_base.specs.Leaves.{in_bar}
 use Rattle.rhythm_base.specs.Trees.{are_trees, has_pin, leaves, leaves_of}
-use Rattle.rhythm_laws.specs.Forests.{IsForestKey, StandsInBar, has_shapes, one_shape}
+use Rattle.rhythm_laws.specs.Forests.{AreLeast, IsForestKey, StandsInBar, forest_cost, has_shapes, one_shape}
 use Rattle.rhythm_laws.specs.Places.{FitsAt}
 use Rattle.rhythm_laws.specs.Tables.{IsLeastKey}
 use Rattle.rhythm_laws.specs.Voices.{HoldsChords}
@@ -34,8 +34,10 @@ use Rattle.rhythm_laws.proofs.Ranks.{both}
 use Rattle.least_cost.specs.declared.entry.Entry.{Entry}
 use Rattle.least_cost.specs.Entries.{IsEntryOf, IsGood, entry_at}
 use Rattle.least_cost.specs.Nodes.{IsReady, ground_of}
-use Rattle.least_cost.specs.Tables.{best_at, best_of, written}
-use Rattle.least_cost.proofs.Goods.{Table, good-cheap}
+use Rattle.least_cost.specs.Tables.{best_at, entry_key}
+use Rattle.least_cost.proofs.Bounds.{stands-cheap}
+use Rattle.least_cost.proofs.Goods.{Table}
+use Rattle.least_cost.proofs.ListSpans.{key_list}
 use Rattle.least_cost.proofs.RuleKeys.{single_tree, top_shape}
 use Rattle.least_cost.proofs.Ropes.{HasText-is}
 use Rattle.least_cost.proofs.Searches.{bounds, grounded}
@@ -83,101 +85,106 @@ module _ (g : Grammar) (k : BarInput) (ready : IsReady g k) where
   cell_key : (t : Tree) (a b : ℕ) → CellFits g k t a b → IsForestKey (ground_of g k) (one_shape k.pin) 0 root a b (cell_rank g k t)
   cell_key t a b fits = (more t.rule t.kids none, stands t a b fits, sym (rank_is t))
 
-  module _ (ls : List (List ℕ)) (t : Table) (good : IsGood (ground_of g k) (one_shape k.pin) 0 root ls t) (table : BarTable) (input : table.input ≡ k) (matrix : table.matrix ≡ grid (best_at t))
-      (lists : (a b : ℕ) → a < 5 → b < 5 → list_at table a b ≡ written ls (entry_at t a b)) where
-    list_is : (row : ℕ → Option Key) (e : Option Entry) (u : Option Key) (x : List ℕ) → IsEntryOf ls row e u → is_lower (written ls e) x ≡ is_under u x
-    list_is row None None x h = refl
-    list_is row None (Some k) x h = absurd h
-    list_is row (Some e) None x h = absurd h
-    list_is row (Some e) (Some k) x h = ap (λ l. is_lower (Some l) x) (HasText-is ls e.list k.1 h.2)
+  least_tree : (a b : ℕ) (key : Key) → IsLeastKey (IsForestKey (ground_of g k) (one_shape k.pin) 0 root a b) (Some key) → (u : Tree) × IsLeastInCell g k u a b × (key ≡ cell_rank g k u)
+  least_tree a b key h =
+      let one = single_tree g.rules (k.resolution, k.symbol) h.0.0 h.0.1.trees in
+      let u : Tree = record { rule = one.0; kids = one.1 } in
+      let own : StandsInBar (ground_of g k) (one_shape k.pin) 0 root (more one.0 one.1 none) a b = subst (λ f. StandsInBar (ground_of g k) (one_shape k.pin) 0 root f a b) one.2 h.0.1 in
+      let is : key ≡ cell_rank g k u = h.0.2 ∙ ap (λ f. (weights g (preorder f) + charges g (in_bar (bar_of k) (leaves g.rules 0 root f)) k.chords, preorder f)) one.2 ∙ rank_is u in (
+        u,
+        record {
+          fits = fits_cell u a b own;
+          first = λ v fits. never_less (rank_cmp (cell_rank g k v) (cell_rank g k u)) (subst (λ q. is_before (cell_rank g k v) q ≡ false) is (h.1 (cell_rank g k v) (cell_key v a b fits)));
+        },
+        is,
+      )
 
-    lower-is : (a : ℕ) (x : List ℕ) (n : ℕ) → a < 5 → n ≤ 5 → lower_in table a x n ≡ count_under (good.keys a) x n
-    lower-is a x zero la ln = refl
-    lower-is a x (suc n) la ln =
-        let here : is_lower (list_at table a n) x ≡ is_under (good.keys a n) x = ap (λ o. is_lower o x) (lists a n la (omega arith)) ∙ list_is (good.keys a) (entry_at t a n) (good.keys a n) x (good.held a n la (omega arith)) in
-        λ i. (if here i then 1 else 0) + lower-is a x n la (omega arith) i
+  key_cheap : (a b : ℕ) (key : Key) → IsLeastKey (IsForestKey (ground_of g k) (one_shape k.pin) 0 root a b) (Some key) → key.0 ≤ 3000000000
+  key_cheap a b key h =
+      let cost : key.0 ≡ forest_cost (ground_of g k) 0 root h.0.0 = ap (λ (q : Key). q.0) h.0.2 in
+      let units : g.resolution ≡ k.resolution = ready.units in
+      let low = stands-cheap (ground_of g k) (grounded g k ready) (bounds g k ready) (one_shape k.pin) 0 root h.0.0 a b (ready.cell.some_unit, tt) (omega (arith, units)) h.0.1 in
+      omega (arith, cost, low)
 
-    least : (a b : ℕ) (key : Key) → IsLeastKey (IsForestKey (ground_of g k) (one_shape k.pin) 0 root a b) (Some key) → (u : Tree) × IsLeastInCell g k u a b × (key ≡ cell_rank g k u)
-    least a b key h =
-        let one = single_tree g.rules (k.resolution, k.symbol) h.0.0 h.0.1.trees in
-        let u : Tree = record { rule = one.0; kids = one.1 } in
-        let own : StandsInBar (ground_of g k) (one_shape k.pin) 0 root (more one.0 one.1 none) a b = subst (λ f. StandsInBar (ground_of g k) (one_shape k.pin) 0 root f a b) one.2 h.0.1 in
-        let is : key ≡ cell_rank g k u = h.0.2 ∙ ap (λ f. (weights g (preorder f) + charges g (in_bar (bar_of k) (leaves g.rules 0 root f)) k.chords, preorder f)) one.2 ∙ rank_is u in (
-          u,
-          record {
-            fits = fits_cell u a b own;
-            first = λ v fits. never_less (rank_cmp (cell_rank g k v) (cell_rank g k u)) (subst (λ q. is_before (cell_rank g k v) q ≡ false) is (h.1 (cell_rank g k v) (cell_key v a b fits)));
-          },
-          is,
-        )
+  -- the least keys of the whole bar
+  module _ (keys : Keys) (least : AreLeast (ground_of g k) (one_shape k.pin) 0 root keys) where
+    pub root-ranked : IsRanked (table_of keys)
+    root-ranked = table_of_ranked keys (least-rows_apart (ground_of g k) (one_shape k.pin) 0 root keys least)
 
-    entry-is : (a b : ℕ) → a < 5 → b < 5 → (e : Option Entry) (u : Option Key) → entry_at t a b ≡ e → IsLeastKey (IsForestKey (ground_of g k) (one_shape k.pin) 0 root a b) u → IsEntryOf ls (good.keys a) e u
-        → IsEntry g (record table { input = k }) a b (best_of e)
-    entry-is a b la lb None None at h i =
-        (lists a b la lb ∙ ap (written ls) at, λ v fits. h (cell_rank g k v) (cell_key v a b fits))
-    entry-is a b la lb None (Some key) at h i = absurd i
-    entry-is a b la lb (Some e) None at h i = absurd i
-    entry-is a b la lb (Some e) (Some key) at h i =
-        let found = least a b key h in
-        let cost : key.0 ≡ cell_cost g k found.0 = ap (λ (q : Key). q.0) found.2 in
-        let list : key.1 ≡ preorder_of found.0 = ap (λ (q : Key). q.1) found.2 in (
-          found.0,
-          found.1,
-          i.0 ∙ cost,
-          lists a b la lb ∙ ap (written ls) at ∙ ap Some (HasText-is ls e.list key.1 i.2 ∙ list),
-          i.1 ∙ sym (lower-is a key.1 5 la (omega arith)) ∙ ap (λ l. lower_in table a l 5) list,
-          at_most (cheap-root e at),
-        )
-      where
-        at_most : e.cost ≤ 3000000000 → e.cost ≤ 500000000000
-        at_most low = omega (arith, low)
-
-        cheap-root : (e : Entry) → entry_at t a b ≡ Some e → e.cost ≤ 3000000000
-        cheap-root e at = good-cheap (ground_of g k) (grounded g k ready) (bounds g k ready) (one_shape k.pin) 0 root ls t (ready.cell.some_unit, tt) (let units : g.resolution ≡ k.resolution = ready.units in omega (arith, units)) good a b e la lb at
-
-    apart : IsRanked (grid (best_at t))
-    apart =
-        let P : CarryMatrix → Type 0 = IsRanked in
-        subst P (sym (grid_same (best_at t) (λ a b. ranked (good.keys a) (good.keys a b)) (λ a b la lb. best-ranked ls (good.keys a) (entry_at t a b) (good.keys a b) (good.held a b la lb))))
-        (table_of_ranked good.keys (least-rows_apart (ground_of g k) (one_shape k.pin) 0 root good.keys good.least))
-
-    -- the table of the entries
-    pub root-table : IsTable g (record table { input = k })
-    root-table = record {
-      ranked = subst IsRanked (sym matrix) apart;
-      entries = λ a b la lb.
-          let is : at table.matrix a b ≡ best_of (entry_at t a b) = ap (λ m. at m a b) matrix ∙ grid_at (best_at t) a b la lb in
-          subst (IsEntry g (record table { input = k }) a b) (sym is) (entry-is a b la lb (entry_at t a b) (good.keys a b) refl (good.least a b la lb) (good.held a b la lb));
-    }
-
-  module _ (ls : List (List ℕ)) (t : Table) (good : IsGood (ground_of g k) (one_shape k.pin) 0 root ls t) where
-    pub root-ranked : IsRanked (grid (best_at t))
-    root-ranked =
-        let P : CarryMatrix → Type 0 = IsRanked in
-        subst P (sym (grid_same (best_at t) (λ a b. ranked (good.keys a) (good.keys a b)) (λ a b la lb. best-ranked ls (good.keys a) (entry_at t a b) (good.keys a b) (good.held a b la lb))))
-        (table_of_ranked good.keys (least-rows_apart (ground_of g k) (one_shape k.pin) 0 root good.keys good.least))
-
-    pub root-low : AreLow (grid (best_at t))
+    pub root-low : AreLow (table_of keys)
     root-low i j e is = elim (cases_lt i 5) [
       | inl li ↦
           elim (cases_lt j 5) [
-            | inl lj ↦ of_entry li lj (entry_at t i j) refl (grid_entry (best_at t) i j e is)
+            | inl lj ↦ of_key li lj (keys i j) (least i j li lj) (grid_entry (λ a b. ranked (keys a) (keys a b)) i j e is)
             | inr hj ↦
-                let row : at (grid (best_at t)) i j ≡ get_or (five (best_at t i)) j None = ap (λ r. get_or r j None) (five_at (λ c. five (best_at t c)) [] i li) in
-                let past : get_or (five (best_at t i)) j None ≡ None = get_or_past (five (best_at t i)) j None hj in
+                let row : at (table_of keys) i j ≡ get_or (five (λ b. ranked (keys i) (keys i b))) j None = ap (λ r. get_or r j None) (five_at (λ a. five (λ b. ranked (keys a) (keys a b))) [] i li) in
+                let past : get_or (five (λ b. ranked (keys i) (keys i b))) j None ≡ None = get_or_past (five (λ b. ranked (keys i) (keys i b))) j None hj in
                 let no_entry : None ≡ Some e = sym past ∙ sym row ∙ is in
                 absurd (cc)
           ]
       | inr hi ↦
-          let row : at (grid (best_at t)) i j ≡ get_or {A = Option Best} [] j None = ap (λ r. get_or r j None) (get_or_past (five (λ c. five (best_at t c))) i [] hi) in
+          let row : at (table_of keys) i j ≡ get_or {A = Option Best} [] j None = ap (λ r. get_or r j None) (get_or_past (five (λ a. five (λ b. ranked (keys a) (keys a b)))) i [] hi) in
           let no_entry : None ≡ Some e = sym row ∙ is in
           absurd (cc)
     ]
       where
-        of_entry : i < 5 → j < 5 → (o : Option Entry) → entry_at t i j ≡ o → best_of o ≡ Some e → e.cost < 2 ^ 62
-        of_entry li lj None at h = absurd (cc)
-        of_entry li lj (Some x) at h =
-            let low = good-cheap (ground_of g k) (grounded g k ready) (bounds g k ready) (one_shape k.pin) 0 root ls t (ready.cell.some_unit, tt) (let units : g.resolution ≡ k.resolution = ready.units in omega (arith, units)) good i j x li lj at in
-            let own : record { cost = x.cost; rank = x.rank } ≡ e = cc in
-            let cost : x.cost ≡ e.cost = ap (λ (b : Best). b.cost) own in
+        of_key : i < 5 → j < 5 → (o : Option Key) → IsLeastKey (IsForestKey (ground_of g k) (one_shape k.pin) 0 root i j) o → ranked (keys i) o ≡ Some e → e.cost < 2 ^ 62
+        of_key li lj None h at = absurd (cc)
+        of_key li lj (Some key) h at =
+            let low = key_cheap i j key h in
+            let own : record { cost = key.0; rank = count_under (keys i) key.1 5 } ≡ e = cc in
+            let cost : key.0 ≡ e.cost = ap (λ (b : Best). b.cost) own in
             omega (arith, low, cost)
+
+    module _ (table : BarTable) (matrix : table.matrix ≡ table_of keys) (lists : (a b : ℕ) → a < 5 → b < 5 → list_at table a b ≡ key_list (keys a b)) where
+      list_is : (u : Option Key) (x : List ℕ) → is_lower (key_list u) x ≡ is_under u x
+      list_is None x = refl
+      list_is (Some k) x = refl
+
+      lower-is : (a : ℕ) (x : List ℕ) (n : ℕ) → a < 5 → n ≤ 5 → lower_in table a x n ≡ count_under (keys a) x n
+      lower-is a x zero la ln = refl
+      lower-is a x (suc n) la ln =
+          let here : is_lower (list_at table a n) x ≡ is_under (keys a n) x = ap (λ o. is_lower o x) (lists a n la (omega arith)) ∙ list_is (keys a n) x in
+          λ i. (if here i then 1 else 0) + lower-is a x n la (omega arith) i
+
+      entry-is : (a b : ℕ) → a < 5 → b < 5 → (u : Option Key) → keys a b ≡ u → IsLeastKey (IsForestKey (ground_of g k) (one_shape k.pin) 0 root a b) u → IsEntry g (record table { input = k }) a b (ranked (keys a) u)
+      entry-is a b la lb None at h = (lists a b la lb ∙ ap key_list at, λ v fits. h (cell_rank g k v) (cell_key v a b fits))
+      entry-is a b la lb (Some key) at h =
+          let found = least_tree a b key h in
+          let cost : key.0 ≡ cell_cost g k found.0 = ap (λ (q : Key). q.0) found.2 in
+          let list : key.1 ≡ preorder_of found.0 = ap (λ (q : Key). q.1) found.2 in
+          let cheap = key_cheap a b key h in (
+            found.0,
+            found.1,
+            cost,
+            lists a b la lb ∙ ap key_list at ∙ ap Some list,
+            sym (lower-is a key.1 5 la (omega arith)) ∙ ap (λ l. lower_in table a l 5) list,
+            at_most cheap,
+          )
+        where
+          at_most : key.0 ≤ 3000000000 → key.0 ≤ 500000000000
+          at_most low = omega (arith, low)
+
+      -- the table of the keys
+      pub root-table : IsTable g (record table { input = k })
+      root-table = record {
+        ranked = subst IsRanked (sym matrix) root-ranked;
+        entries = λ a b la lb.
+            let is : at table.matrix a b ≡ ranked (keys a) (keys a b) = ap (λ m. at m a b) matrix ∙ grid_at (λ a b. ranked (keys a) (keys a b)) a b la lb in
+            subst (IsEntry g (record table { input = k }) a b) (sym is) (entry-is a b la lb (keys a b) refl (least a b la lb));
+      }
+
+-- ---- entries of the search of a bar with a pin
+
+module _ (g : Grammar) (k : BarInput) (ls : List (List ℕ)) (t : Table) (good : IsGood (ground_of g k) (one_shape k.pin) 0 ((k.resolution, k.symbol) ∷ []) ls t) where
+  pub good-matrix : grid (best_at t) ≡ table_of good.keys
+  good-matrix = grid_same (best_at t) (λ a b. ranked (good.keys a) (good.keys a b)) (λ a b la lb. best-ranked ls (good.keys a) (entry_at t a b) (good.keys a b) (good.held a b la lb))
+
+  same_key : (row : ℕ → Option Key) (e : Option Entry) (u : Option Key) → IsEntryOf ls row e u → entry_key ls e ≡ u
+  same_key row None None h = refl
+  same_key row None (Some k) h = absurd h
+  same_key row (Some e) None h = absurd h
+  same_key row (Some e) (Some k) h = λ i. Some (h.0 i, HasText-is ls e.list k.1 h.2 i)
+
+  pub good-key : (a b : ℕ) → a < 5 → b < 5 → entry_key ls (entry_at t a b) ≡ good.keys a b
+  good-key a b la lb = same_key (good.keys a) (entry_at t a b) (good.keys a b) (good.held a b la lb)

@@ -5,16 +5,16 @@ use Rattle.rhythm_base.specs.Bodies.{ending_of}
 use Rattle.rhythm_base.specs.declared.rule.Rule.{Rule}
 use Rattle.rhythm_base.specs.Line.{agrees}
 use Rattle.least_cost.specs.declared.rule_lists.Rope.TheVariants.{Top}
-use Rattle.rhythm_base.specs.BarInput.{BarInput, IsBarInput}
+use Rattle.rhythm_base.specs.BarInput.{BarInput}
 use Rattle.rhythm_base.specs.Cells.{bar_of}
 use Rattle.rhythm_base.specs.Cost.{charges}
 use Rattle.rhythm_base.specs.Forest.{none}
 use Rattle.rhythm_base.specs.Shape.{Shape}
 use Rattle.rhythm_base.specs.Ranked.{Key}
-use Rattle.rhythm_base.specs.Readable.{IsReadable}
 use Rattle.rhythm_base.specs.Grammar.{Grammar}
-use Rattle.rhythm_laws.specs.Forests.{Ground, IsForestKey, has_shapes, one_shape}
+use Rattle.rhythm_laws.specs.Forests.{IsForestKey, has_shapes, one_shape}
 use Rattle.rhythm_laws.specs.Places.{FitsAt}
+pub use Rattle.row_laws.specs.Grounds.{IsReady, ground_of}
 use Rattle.least_cost.specs.declared.choice.Choice.{Choice}
 use Rattle.least_cost.specs.declared.entry.Entry.{Entry}
 use Rattle.least_cost.specs.declared.memo.Asked.{Asked}
@@ -26,16 +26,6 @@ use Rattle.least_cost.specs.Memos.{LiesAt}
 use Rattle.least_cost.specs.OneLeaf.{HasHeard, leaf_of_cell}
 use Rattle.least_cost.specs.Pins.{demanded}
 use Rattle.least_cost.specs.RuleChoices.{IsBestBelow}
-
--- where the trees of a cell stand
-abbrev pub ground_of : Grammar → BarInput → Ground
-ground_of g k = record { book = g; bar = bar_of k; chords = k.chords; before = k.before }
-
--- a grammar from a file, and a cell of its resolution
-pub record IsReady (g : Grammar) (k : BarInput) : Type 0 where
-  pub readable : IsReadable g
-  pub cell : IsBarInput k
-  pub units : g.resolution ≡ k.resolution
 
 -- an interval of the cell's units
 pub record IsWithin (k : BarInput) (asked : Asked) : Type 0 where

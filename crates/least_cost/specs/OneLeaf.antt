@@ -1,20 +1,16 @@
 -- A leaf of a cell and the cell's chords.
 use Rattle.std.specs.Prelude.{◌≡◌, ℕ, ◌*◌, ◌<◌, ◌≤◌, All, true, false, List, [], ◌∷◌, length, slice_index_or, if◌then◌else◌}
 use Rattle.rhythm_base.specs.declared.inner.Inner.{Inner}
-use Rattle.rhythm_base.specs.declared.rule.Ending.TheVariants.{Note}
 use Rattle.rhythm_base.specs.BarInput.{BarInput, IsInner}
 use Rattle.rhythm_base.specs.Lists.{last_end}
 use Rattle.rhythm_base.specs.Cells.{bar_of}
-use Rattle.rhythm_base.specs.Leaves.{Leaf, VoiceBar, looks, sounds}
+use Rattle.rhythm_base.specs.Leaves.{VoiceBar, looks, sounds}
 use Rattle.rhythm_base.specs.Cost.{charges, displacement_of, is_after}
 use Rattle.rhythm_base.specs.Grammar.{Grammar}
 use Rattle.rhythm_laws.specs.Places.{end_before, reach}
 use Rattle.rhythm_laws.specs.Runs.{lefts, rights}
+pub use Rattle.row_laws.specs.Leaves.{leaf_of_cell}
 use Rattle.least_cost.specs.declared.leaf.Heard.{Heard}
-
--- the leaf of w units from unit p on. Its rule makes no difference to its chords
-abbrev pub leaf_of_cell : BarInput → ℕ → ℕ → Leaf
-leaf_of_cell k p w = record { bar = bar_of k; part = record { ending = Note; place = p; width = w } }
 
 -- how many chords of the cell are attached to the leaf and to the next, and whether the latest chord sounds in the leaf:
 -- that attached to it, or else the last one with its onset before the leaf

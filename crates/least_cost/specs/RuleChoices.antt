@@ -1,18 +1,14 @@
 -- Choices and the keys of trees that they stand for, rule by rule.
-use Rattle.std.specs.Prelude.{⊤, ◌≡◌, ℕ, ◌<◌, List, [], ◌∷◌, Option, Some, None}
-use Rattle.rhythm_base.specs.Forest.{Forest, none, more, preorder}
+use Rattle.std.specs.Prelude.{⊤, ◌≡◌, ℕ, ◌<◌, List, ◌∷◌, Option, Some, None}
 use Rattle.rhythm_base.specs.Shape.{Shape}
 use Rattle.rhythm_base.specs.Ranked.{Key, Keys}
-use Rattle.rhythm_laws.specs.Forests.{Ground, StandsInBar, forest_cost, one_shape}
+use Rattle.rhythm_laws.specs.Forests.{Ground}
 use Rattle.rhythm_laws.specs.Tables.{IsLeastKey}
 use Rattle.rhythm_laws.specs.Rows.{AreAlike, IsOneBelow}
+pub use Rattle.row_laws.specs.RuleKeys.{IsRuleKey}
 use Rattle.least_cost.specs.declared.choice.Choice.{Choice}
 use Rattle.least_cost.specs.Entries.{choice_key}
 use Rattle.least_cost.specs.RuleLists.{HasRope}
-
--- the key of a tree with the rule r on top
-abbrev pub IsRuleKey : Ground → Option Shape → ℕ → ℕ × ℕ → ℕ → ℕ → ℕ → Key → Type 0
-IsRuleKey d pin p q r a b k = (f : Forest) × StandsInBar d (one_shape pin) p (q ∷ []) (more r f none) a b × (k ≡ (forest_cost d p (q ∷ []) (more r f none), preorder (more r f none)))
 
 -- no tree has the rule i on top
 abbrev pub HasNoTree : Ground → Option Shape → ℕ → ℕ × ℕ → ℕ → Type 0

@@ -1,14 +1,16 @@
 ghost use Rattle.least_cost.specs.Entries.{IsGood, entry_at, entry_in};
 ghost use Rattle.least_cost.specs.Nodes.{AreFound, IsAnswerAt, IsReady, IsWithin};
 ghost use Rattle.least_cost.specs.Pins.{demanded};
-ghost use Rattle.least_cost.specs.Tables.{best_at, best_of, written, written_at};
+ghost use Rattle.least_cost.specs.Tables.{AreGridLists, AreRowLists, best_at, best_of, entry_key};
+ghost use Rattle.grammar_plan.specs.Plans.{HasSeat, IsPlan};
+ghost use Rattle.least_rows.specs.BarTrees.{IsListOf};
 ghost use Rattle.rhythm_base.specs.BarInput.{IsBarInput};
 ghost use Rattle.rhythm_base.specs.BarTables.{IsTable};
 ghost use Rattle.rhythm_base.specs.Counter.{risen};
 ghost use Rattle.rhythm_base.specs.Paths.{AreLow, IsRanked};
-ghost use Rattle.rhythm_base.specs.Ranked.{five, grid};
+ghost use Rattle.rhythm_base.specs.Ranked.{at, five, grid};
 ghost use Rattle.rhythm_base.specs.Readable.{IsReadable};
-ghost use Rattle.std.specs.Prelude.{◌≡◌, ◌<◌, ℕ, IfOk, OnOk, option_map};
+ghost use Rattle.std.specs.Prelude.{◌≡◌, ◌++◌, ◌<◌, ℕ, List, None, IfOk, OnOk, option_map, slice_index_or};
 
 use crate::entry::{Entry, Grid};
 use crate::memo::{Asked, Memo};
@@ -19,11 +21,12 @@ use crate::steps::Steps;
 use crate::table::BarTable;
 use crate::trees::least_trees;
 use carry_matrix::CarryMatrix;
-use rhythm_base::{BarInput, Best, Grammar, RuleList, Shape, Tag};
+use grammar_plan::Plan;
+use least_rows::{ListSpan, Room};
+use rhythm_base::{BarInput, Best, Grammar, Shape, Tag};
 use std::alloc::{AllocError, Global};
 
-/// Builds the table of the least trees of one bar of one voice. It takes one step. It keeps what it finds of each symbol over
-/// each interval of the bar for as long as it works, and searches intervals that are answered alike once.
+/// Builds the table of the least trees of one bar of one voice. It takes one step.
 pub fn build_cell<B: Tag>(
     alloc: Global,
     grammar: &Grammar,
@@ -42,7 +45,79 @@ pub fn build_cell<B: Tag>(
     build(alloc, grammar, input)
 }
 
+/// The same by a plan of the grammar, in a room that is kept from bar to bar. A bar with a pin, or whose root symbol the plan
+/// does not know, is built as without them.
+pub fn build_planned<B: Tag>(
+    alloc: Global,
+    grammar: &Grammar,
+    plan: &Plan,
+    room: &mut Room,
+    input: &BarInput,
+    builds: &mut Steps<B>,
+) -> Result<BarTable, AllocError>
+    requires readable { IsReadable grammar.now }
+    requires units { input.now.resolution ≡ grammar.now.resolution }
+    requires plan { IsPlan grammar.now plan.now }
+    ensures builds { builds.new ≡ risen builds.old 1 }
+    ensures input { IfOk result (λ t. t.input ≡ input.now) }
+    ensures table { IfOk result (IsTable grammar.now) }
+{
+    Steps::tick(builds);
+    let start = input.start();
+    if input.pin().is_some() {
+        return build_pinned(alloc, grammar, input);
+    }
+    match plan.root(grammar, start) {
+        Some(root) => build_by_rows(alloc, grammar, plan, room, input, root),
+        None => build(alloc, grammar, input),
+    }
+}
+
 fn build(alloc: Global, grammar: &Grammar, input: &BarInput) -> Result<BarTable, AllocError>
+    requires ready { IsReady grammar.now input.now }
+    ensures input { IfOk result (λ t. t.input ≡ input.now) }
+    ensures table { IfOk result (IsTable grammar.now) }
+{
+    if input.pin().is_some() {
+        return build_pinned(alloc, grammar, input);
+    }
+    let start = input.start();
+    let plan = Plan::of(alloc, grammar, &[start])?;
+    match plan.root(grammar, start) {
+        Some(root) => {
+            let mut room = Room::new(alloc);
+            build_by_rows(alloc, grammar, &plan, &mut room, input, root)
+        }
+        None => build_pinned(alloc, grammar, input),
+    }
+}
+
+/// The table of a bar without a pin, whose root symbol has this seat in the plan.
+fn build_by_rows(
+    alloc: Global,
+    grammar: &Grammar,
+    plan: &Plan,
+    room: &mut Room,
+    input: &BarInput,
+    root: u32,
+) -> Result<BarTable, AllocError>
+    requires ready { IsReady grammar.now input.now }
+    requires plan { IsPlan grammar.now plan.now }
+    requires root { HasSeat plan.now root (input.now.resolution, input.now.symbol) }
+    requires pin { input.now.pin ≡ None }
+    ensures input { IfOk result (λ t. t.input ≡ input.now) }
+    ensures table { IfOk result (IsTable grammar.now) }
+{
+    let trees = room.search(grammar, plan, input, root)?;
+    let kept = copy_of(alloc, input)?;
+    let matrix = CarryMatrix::make(whole(&trees.bests));
+    let table = BarTable::of(alloc, matrix, room.rules.as_slice(), &trees.lists, kept)?;
+    Ok(table)
+}
+
+/// The table of a bar, with a pin or without. It keeps what it finds of each symbol over each interval of the bar for as long
+/// as it works, and searches intervals that are answered alike once.
+fn build_pinned(alloc: Global, grammar: &Grammar, input: &BarInput) -> Result<BarTable, AllocError>
     requires ready { IsReady grammar.now input.now }
     ensures input { IfOk result (λ t. t.input ≡ input.now) }
     ensures table { IfOk result (IsTable grammar.now) }
@@ -59,9 +134,12 @@ fn build(alloc: Global, grammar: &Grammar, input: &BarInput) -> Result<BarTable,
     let spans = Spans::of(grammar);
     let number = least_trees(alloc, grammar, &spans, input, &pins, &mut memo, asked)?;
     let grid = memo.grid(number);
-    let lists = written_grid(alloc, &memo.lists, grid)?;
+    let mut rules = Vec::new(alloc);
+    let lists = write_grid(&memo.lists, grid, &mut rules)?;
     let kept = copy_of(alloc, input)?;
-    Ok(BarTable::of(CarryMatrix::make(bests(grid)), lists, kept))
+    let matrix = CarryMatrix::make(bests(grid));
+    let table = BarTable::of(alloc, matrix, rules.as_slice(), &lists, kept)?;
+    Ok(table)
 }
 
 /// An equal input.
@@ -129,52 +207,77 @@ fn bests(entries: &Grid) -> [[Option<Best>; 5]; 5]
     ]
 }
 
-/// The rule list of an entry, written out.
-fn written_entry(
-    alloc: Global,
+fn whole_row(row: &[Option<Best>; 5]) -> [Option<Best>; 5]
+    ensures { result ≡ five (λ b. slice_index_or row.now b None) }
+{
+    [row[0], row[1], row[2], row[3], row[4]]
+}
+
+/// The same entries.
+fn whole(entries: &[[Option<Best>; 5]; 5]) -> [[Option<Best>; 5]; 5]
+    ensures { result ≡ grid (at entries.now) }
+{
+    [
+        whole_row(&entries[0]),
+        whole_row(&entries[1]),
+        whole_row(&entries[2]),
+        whole_row(&entries[3]),
+        whole_row(&entries[4]),
+    ]
+}
+
+/// Writes the rule list of an entry after what stands in `rules`, and says where.
+fn write_entry(
     lists: &RuleLists,
     entry: Option<Entry>,
-) -> Result<Option<RuleList>, AllocError>
-    ensures { IfOk result (λ list. list ≡ written lists.now entry) }
+    rules: &mut Vec<u16>,
+) -> Result<Option<ListSpan>, AllocError>
+    ensures grows { OnOk result ((more : List ℕ) × (rules.new.items ≡ rules.old.items ++ more)) }
+    ensures list { IfOk result (λ span. IsListOf rules.new.items span (entry_key lists.now entry)) }
 {
     match entry {
         None => Ok(None),
         Some(entry) => {
-            let mut rules = Vec::new(alloc);
-            lists.write(entry.list, &mut rules)?;
-            Ok(Some(RuleList::of(rules)))
+            let first = number_of(rules.len())?;
+            lists.write(entry.list, rules)?;
+            let end = number_of(rules.len())?;
+            Ok(Some(ListSpan { first, end }))
         }
     }
 }
 
-fn written_row(
-    alloc: Global,
-    lists: &RuleLists,
-    row: &[Option<Entry>; 5],
-) -> Result<[Option<RuleList>; 5], AllocError>
-    ensures { IfOk result (λ all. all ≡ five (λ b. written lists.now (entry_in row.now b))) }
+/// A place among the rules as a number. Where the numbers have run out, the answer is that there is no memory.
+fn number_of(place: usize) -> Result<u32, AllocError>
+    ensures { IfOk result (λ n. n ≡ place) }
 {
-    Ok([
-        written_entry(alloc, lists, row[0])?,
-        written_entry(alloc, lists, row[1])?,
-        written_entry(alloc, lists, row[2])?,
-        written_entry(alloc, lists, row[3])?,
-        written_entry(alloc, lists, row[4])?,
-    ])
+    u32::try_from(place).ok().ok_or(AllocError)
 }
 
-fn written_grid(
-    alloc: Global,
+fn write_row(
+    lists: &RuleLists,
+    row: &[Option<Entry>; 5],
+    rules: &mut Vec<u16>,
+) -> Result<[Option<ListSpan>; 5], AllocError>
+    ensures grows { OnOk result ((more : List ℕ) × (rules.new.items ≡ rules.old.items ++ more)) }
+    ensures lists { IfOk result (AreRowLists rules.new.items (λ b. entry_key lists.now (entry_in row.now b)) 5) }
+{
+    let mut spans = [None; 5];
+    'counts: for to in 0..5u8 {
+        spans[to as usize] = write_entry(lists, row[to as usize], rules)?;
+    }
+    Ok(spans)
+}
+
+fn write_grid(
     lists: &RuleLists,
     entries: &Grid,
-) -> Result<[[Option<RuleList>; 5]; 5], AllocError>
-    ensures { IfOk result (λ all. all ≡ five (λ a. five (written_at lists.now entries.now a))) }
+    rules: &mut Vec<u16>,
+) -> Result<[[Option<ListSpan>; 5]; 5], AllocError>
+    ensures { IfOk result (AreGridLists rules.new.items (λ a b. entry_key lists.now (entry_at entries.now a b)) 5) }
 {
-    Ok([
-        written_row(alloc, lists, &entries[0])?,
-        written_row(alloc, lists, &entries[1])?,
-        written_row(alloc, lists, &entries[2])?,
-        written_row(alloc, lists, &entries[3])?,
-        written_row(alloc, lists, &entries[4])?,
-    ])
+    let mut spans = [[None; 5]; 5];
+    'counts: for from in 0..5u8 {
+        spans[from as usize] = write_row(lists, &entries[from as usize], rules)?;
+    }
+    Ok(spans)
 }

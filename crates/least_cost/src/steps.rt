@@ -5,7 +5,7 @@ use rhythm_base::Tag;
 use std::marker::{Model, PhantomData};
 
 /// A number of builds. It stays at 2 to the power 64 less one, and is marked by what it counts for. Only
-/// `build_cell` raises it, besides adding another counter of the same mark.
+/// `build_cell` and `build_planned` raise it, besides adding another counter of the same mark.
 #[derive(Drop)]
 pub struct Steps<B: Tag> {
     count: u64,

@@ -1,8 +1,12 @@
+ghost use Rattle.least_cost.specs.Tables.{AreWithin, lists_in};
 ghost use Rattle.rhythm_base.specs.BarTables.{list_at};
-ghost use Rattle.std.specs.Prelude.{◌≡◌, ◌<◌, None, option_map, slice_index_or};
+ghost use Rattle.std.specs.Prelude.{◌≡◌, ◌<◌, IfOk, None, option_map, slice_index_or};
 
+use crate::lists::lists_of;
 use carry_matrix::CarryMatrix;
+use least_rows::ListSpan;
 use rhythm_base::{BarInput, RuleList};
+use std::alloc::{AllocError, Global};
 use std::marker::Model;
 
 /// The least trees of one bar of one voice, by the number of chords carried into the bar and the number carried out: what
@@ -26,18 +30,23 @@ impl Model for BarTable {
 }
 
 impl BarTable {
+    /// The table whose rule lists stand in these spans of the rules.
     pub(crate) fn of(
+        alloc: Global,
         matrix: CarryMatrix,
-        lists: [[Option<RuleList>; 5]; 5],
+        rules: &[u16],
+        spans: &[[Option<ListSpan>; 5]; 5],
         input: BarInput,
-    ) -> BarTable
-        ensures { result ≡ record { matrix = matrix; lists = lists; input = input } }
+    ) -> Result<BarTable, AllocError>
+        requires { AreWithin rules.now spans.now }
+        ensures { IfOk result (λ t. t ≡ record { matrix = matrix; lists = lists_in rules.now spans.now; input = input }) }
     {
-        BarTable {
+        let lists = lists_of(alloc, rules, spans)?;
+        Ok(BarTable {
             matrix,
             lists,
             input,
-        }
+        })
     }
 
     /// The costs, each at most 500,000,000,000, and the places of the rule lists in their rows.

@@ -48,11 +48,11 @@ draws-preserved g c =
       numbers = numbers_after me after n (length inputs) drew has low c.draws.tables.items c.push.new.self.items c.in_ok-table.table pushed c.draws.invariant.numbers;
       tables = tables_after c.args.order.now.grammar.now inputs c.draws.tables.items c.push.new.self.items n c.index-inputs-number.result c.in_ok-table.table pushed c.draws.invariant.tables at of;
       within = omega (arith, above_after me after n (length inputs) drew has low, c.draws.invariant.within, low);
-      builds = omega (arith, length_after me after n (length inputs) drew has low, c.draws.invariant.builds, c.build_cell.ensures.builds);
+      builds = omega (arith, length_after me after n (length inputs) drew has low, c.draws.invariant.builds, c.build_planned.ensures.builds);
     }
 
 pub returns-in_err-push-clause-builds : goal.returns-in_err-push-clause-builds
 returns-in_err-push-clause-builds g c =
     let low : c.draw-number.result < length c.args.order.now.inputs.now = search rules in
     let longer = length_after c.draws.seat.me c.draw-number.new.seat.me c.draw-number.result (length c.args.order.now.inputs.now) c.draw-number.ensures.view c.draws.invariant.share low in
-    omega (arith, longer, c.draws.invariant.builds, c.build_cell.ensures.builds)
+    omega (arith, longer, c.draws.invariant.builds, c.build_planned.ensures.builds)
