@@ -15,12 +15,15 @@ pub enum Group {
     Nine,
     /// 64 symbols with cuts in 2, 3 and 5.
     Many,
+    /// 64 symbols with cuts in 2, 3 and 5 into symbols that are drawn, so that nearly all occur over nearly all widths.
+    Mixed,
     /// Unequal parts besides halves and thirds, and onsets that weigh more where they are early than where they are late.
     Parts,
 }
 
 /// A text with the same lines for each of so many symbols. In these lines A stands for the symbol's name, B for the name of
-/// the symbol after it, C and D for the names of those after B; after the last symbol comes the first.
+/// the symbol after it, C and D for the names of those after B; after the last symbol comes the first. X stands for the name of
+/// a symbol that is drawn anew each time.
 #[derive(Clone, Copy)]
 struct Repeated {
     header: &'static [u8],
@@ -98,6 +101,27 @@ const MANY: Repeated = Repeated {
     ",
 };
 
+const MIXED: Repeated = Repeated {
+    header: b"\
+        rhythm 1\n\
+        resolution 960\n\
+        window 0\n\
+        onset 1\n\
+        start 4/4 S0\n\
+    ",
+    symbols: 64,
+    lines: b"\
+        A 2 split X X\n\
+        A 3 split X X X\n\
+        A 5 split X X X X X\n\
+        A 4 note\n\
+        A 6 short\n\
+        A 3 tie\n\
+        A 1 rest\n\
+        A 9 grace 1\n\
+    ",
+};
+
 const PARTS: Repeated = Repeated {
     header: b"\
         rhythm 2\n\
@@ -131,6 +155,7 @@ impl Group {
             "halves" => Some(Group::Halves),
             "nine" => Some(Group::Nine),
             "many" => Some(Group::Many),
+            "mixed" => Some(Group::Mixed),
             "parts" => Some(Group::Parts),
             _ => None,
         }
@@ -141,6 +166,7 @@ impl Group {
             Group::Halves => "halves",
             Group::Nine => "nine",
             Group::Many => "many",
+            Group::Mixed => "mixed",
             Group::Parts => "parts",
         }
     }
@@ -151,6 +177,7 @@ impl Group {
             Group::Halves => Vec::from_slice(alloc, HALVES),
             Group::Nine => text_of(alloc, NINE),
             Group::Many => text_of(alloc, MANY),
+            Group::Mixed => text_of(alloc, MIXED),
             Group::Parts => text_of(alloc, PARTS),
         }
     }
@@ -179,8 +206,9 @@ fn kind_of(what: GrammarWhat) -> ErrorKind {
 
 fn text_of(alloc: Global, repeated: Repeated) -> Result<Vec<u8>, AllocError> {
     let mut text = Vec::from_slice(alloc, repeated.header)?;
+    let mut draw = 1;
     for symbol in 0..repeated.symbols {
-        push_lines(alloc, &mut text, symbol, repeated)?;
+        push_lines(alloc, &mut text, symbol, repeated, &mut draw)?;
     }
     Ok(text)
 }
@@ -191,6 +219,7 @@ fn push_lines(
     text: &mut Vec<u8>,
     symbol: u8,
     repeated: Repeated,
+    draw: &mut u32,
 ) -> Result<(), AllocError>
     requires { symbol < repeated.symbols }
 {
@@ -200,10 +229,17 @@ fn push_lines(
                 let after = u32::from(symbol) + u32::from(*byte - b'A');
                 push_name(alloc, text, after % u32::from(repeated.symbols))?;
             }
+            b'X' => push_name(alloc, text, drawn(draw) % u32::from(repeated.symbols))?,
             byte => text.push(byte)?,
         }
     }
     Ok(())
+}
+
+/// The next number that is drawn, below 65,536.
+fn drawn(draw: &mut u32) -> u32 {
+    *draw = draw.wrapping_mul(1_664_525).wrapping_add(1_013_904_223);
+    *draw >> 16
 }
 
 /// Appends the name of the symbol of a number.
