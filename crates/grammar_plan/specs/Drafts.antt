@@ -1,4 +1,4 @@
--- Seats and cuts while a plan is made: what stands stays, and what comes is put behind it.
+-- Seats and cuts while a plan is made: what stands stays, and what comes is put after it.
 use Rattle.std.specs.Prelude.{⊤, ◌≡◌, ℕ, ◌<◌, ◌≤◌, List, [], ◌∷◌, ◌++◌, ◌&&◌, Bool, true, false, length, slice_get, Option, Some, None}
 use Rattle.rhythm_base.specs.Bodies.{children, ending_of}
 use Rattle.rhythm_base.specs.Grammar.{Grammar}
@@ -10,7 +10,7 @@ use Rattle.grammar_plan.specs.Plans.{between, pair_of}
 use Rattle.grammar_plan.specs.declared.cut.Cut.{Cut}
 use Rattle.grammar_plan.specs.declared.seat.Seat.{Seat}
 
--- more behind it
+-- more after it
 abbrev pub IsLonger : {X : Type 0} → List X → List X → Type 0
 IsLonger {X} xs ys = (more : List X) × (ys ≡ xs ++ more)
 
@@ -28,7 +28,7 @@ HavePairs pairs (n ∷ ns) (q ∷ qs) = HasPair pairs n q × HavePairs pairs ns 
 abbrev pub ArePairs : ℕ → ℕ → List (ℕ × ℕ) → Type 0
 ArePairs most names pairs = (n : ℕ) (q : ℕ × ℕ) → HasPair pairs n q → (1 ≤ q.0) × (q.0 ≤ most) × (q.1 < names)
 
--- the numbers of these widths and symbols were put behind the parts
+-- the numbers of these widths and symbols were put after the parts
 pub record ArePushed (old new : List (ℕ × ℕ)) (parts more : List ℕ) (qs : List (ℕ × ℕ)) : Type 0 where
   pub longer : IsLonger old new
   pub numbers : List ℕ
@@ -72,7 +72,7 @@ is_no_ending (Some ending) = false
 abbrev pub cuts_pair : Rule → ℕ × ℕ → Bool
 cuts_pair rule q = is_no_ending (ending_of rule.body) && suits (Some rule) q
 
--- the cuts of the width and symbol by the rules before n were put behind the cuts
+-- the cuts of the width and symbol by the rules before n were put after the cuts
 pub record HasMoreCuts (g : Grammar) (q : ℕ × ℕ) (old pairs : List (ℕ × ℕ)) (before parts : List ℕ) (was cuts : List Cut) (n : ℕ) : Type 0 where
   pub pairs_longer : IsLonger old pairs
   pub parts_longer : IsLonger before parts

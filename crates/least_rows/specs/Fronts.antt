@@ -87,7 +87,7 @@ abbrev pub rank_in : List Entry → ℕ → ℕ → Option Choice
 rank_in [] i b = None
 rank_in (e ∷ es) i b = if e.to == b then Some (e.cost, i) else rank_in es (suc i) b
 
--- the nearest ways with the tree of this width and symbol behind them, from unit p on: by its rows for the counts that are
+-- the nearest ways with the tree of this width and symbol after them, from unit p on: by its rows for the counts that are
 -- carried out of them
 pub record AreWaysOn (d : Ground) (p : ℕ) (q : ℕ × ℕ) (ways next : ℕ → Option Way) : Type 0 where
   pub keys : Keys

@@ -34,7 +34,7 @@ abbrev pub AreChoicesOf : Grammar → BarInput → Plan → (seat place from : �
 AreChoicesOf g k plan seat place from rules choices =
     (s : Seat) → slice_get plan.seats.items seat ≡ Some s → AreBestChoices (ground_of g k) plan place (pair_of s) from (rules s) choices
 
--- the ways with the tree of the seat behind them
+-- the ways with the tree of the seat after them
 abbrev pub AreWaysOver : Grammar → BarInput → Plan → (seat place : ℕ) → (ℕ → Option Way) → (ℕ → Option Way) → Type 0
 AreWaysOver g k plan seat place ways next = (s : Seat) → slice_get plan.seats.items seat ≡ Some s → AreWaysOn (ground_of g k) place (pair_of s) ways next
 

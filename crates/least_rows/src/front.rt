@@ -25,7 +25,7 @@ pub enum Front {
     Several(Ways),
 }
 
-/// Offers a way out of which `count` chords are carried with each entry behind it of a row that they are carried into.
+/// Offers a way out of which `count` chords are carried with each entry after it of a row that they are carried into.
 #[inline(always)]
 pub fn join(next: &mut Ways, way: Way, count: u8, entries: &[Entry])
     requires short { IsShort way }
@@ -43,7 +43,7 @@ pub fn join(next: &mut Ways, way: Way, count: u8, entries: &[Entry])
     }
 }
 
-/// One way with the entries of a row behind it.
+/// One way with the entries of a row after it.
 #[inline(always)]
 pub fn fork(way: Way, count: u8, entries: &[Entry]) -> Option<Front>
     requires short { IsShort way }
@@ -63,7 +63,7 @@ pub fn fork(way: Way, count: u8, entries: &[Entry]) -> Option<Front>
     }
 }
 
-/// One way with the tree over a quiet interval behind it.
+/// One way with the tree over a quiet interval after it.
 #[inline(always)]
 pub fn rest(way: Way, count: u8, tree: Option<QuietTree>) -> Option<Front>
     requires short { IsShort way }

@@ -10,7 +10,7 @@ use crate::way::{Way, offer_way};
 use grammar_plan::QuietTree;
 use row_laws::Quiet;
 
-/// Offers a way with a tree over a quiet interval behind it, where there is one.
+/// Offers a way with a tree over a quiet interval after it, where there is one.
 #[inline(always)]
 fn offer_rest(best: &mut Option<Way>, way: Way, count: u8, tree: Option<QuietTree>)
     requires short { IsShort way }
@@ -23,7 +23,7 @@ fn offer_rest(best: &mut Option<Way>, way: Way, count: u8, tree: Option<QuietTre
     }
 }
 
-/// Offers the way out of which `count` chords are carried with the tree over a quiet interval behind it.
+/// Offers the way out of which `count` chords are carried with the tree over a quiet interval after it.
 #[inline(always)]
 fn offer_quiet(
     search: &Search<'_>,
@@ -49,7 +49,7 @@ fn offer_quiet(
     }
 }
 
-/// Several ways with the tree over a quiet interval behind them.
+/// Several ways with the tree over a quiet interval after them.
 #[inline(never)]
 fn rest_of_several(
     search: &Search<'_>,
@@ -73,7 +73,7 @@ fn rest_of_several(
     }
 }
 
-/// The ways with the tree over a quiet interval behind them.
+/// The ways with the tree over a quiet interval after them.
 #[inline(always)]
 pub fn over_quiet(search: &Search<'_>, front: &Front, seat: u32, quiet: Quiet) -> Option<Front>
     requires search { IsSearch search.now.grammar.now search.now.input.now search.now.plan.now search.now.view.now }

@@ -292,7 +292,7 @@ impl Rows {
         Ok(Some(front))
     }
 
-    /// The ways with the tree of a seat from the unit `place` on behind them.
+    /// The ways with the tree of a seat from the unit `place` on after them.
     #[cycle(rows)]
     #[inline(always)]
     fn over_part(
@@ -348,7 +348,7 @@ impl Rows {
         }
     }
 
-    /// Several ways with the tree of the seat behind them.
+    /// Several ways with the tree of the seat after them.
     #[cycle(rows)]
     #[inline(never)]
     fn over_rows(
@@ -374,7 +374,7 @@ impl Rows {
         Ok(Some(Front::Several(next)))
     }
 
-    /// Offers the way out of which `count` chords are carried with the entries behind it of the seat's row for that count.
+    /// Offers the way out of which `count` chords are carried with the entries after it of the seat's row for that count.
     #[cycle(rows)]
     #[inline(always)]
     fn join_row(
