@@ -17,8 +17,7 @@ use Rattle.row_laws.proofs.Bounds.{IsBounded}
 use Rattle.row_laws.proofs.Folds.{fold-alike, fold-via}
 use Rattle.row_laws.proofs.RowProducts.{row-apart, row-cheap, row-next, row-none, row-parse}
 use Rattle.least_rows.specs.declared.way.Way.{Way}
-use Rattle.least_rows.specs.declared.front.Front.TheVariants.{One}
-use Rattle.least_rows.specs.Fronts.{AreShort, AreWays, AreWaysOn, IsWayMade, front_at, nearer_way, nearest_below, nearest_way, sum_of_way, way_on}
+use Rattle.least_rows.specs.Fronts.{AreShort, AreWays, AreWaysOn, IsWayMade, nearer_way, nearest_below, nearest_way, one_way, sum_of_way, way_on}
 
 -- ---- which count between is taken
 
@@ -175,7 +174,7 @@ ways-then d ground p a low qs wide n here front next ways at q there is on =
 
 -- ---- no part yet
 
-pub ways-first : (d : Ground) (p a : ℕ) → a < 5 → (qs : List (ℕ × ℕ)) → AreWays d p qs a 0 (front_at (One (record { cost = 0; order = 0; way = 0 }) a))
+pub ways-first : (d : Ground) (p a : ℕ) → a < 5 → (qs : List (ℕ × ℕ)) → AreWays d p qs a 0 (one_way (record { cost = 0; order = 0; way = 0 }) a)
 ways-first d p a low qs = record {
   row = λ b. if a == b then Some (0, []) else None;
   least = row-none d p a low;
@@ -195,7 +194,7 @@ ways-first d p a low qs = record {
     order-of false u = refl
 
     order : (b c : ℕ) → lists_cmp (if a == b then Some (0, []) else None) (if a == c then Some (0, []) else None)
-        ≡ lists_cmp (choice_key (sum_of_way (front_at (One (record { cost = 0; order = 0; way = 0 }) a) b))) (choice_key (sum_of_way (front_at (One (record { cost = 0; order = 0; way = 0 }) a) c)))
+        ≡ lists_cmp (choice_key (sum_of_way (one_way (record { cost = 0; order = 0; way = 0 }) a b))) (choice_key (sum_of_way (one_way (record { cost = 0; order = 0; way = 0 }) a c)))
     order b c = order-of (a == b) (a == c)
 
     made : (b : ℕ) (t : Bool) → (a == b) ≡ t → IsWayMade d p qs a 0 b (if t then Some (record { cost = 0; order = 0; way = 0 }) else None) (if t then Some (0, []) else None)
@@ -251,3 +250,24 @@ ways-short d ground bounds p a qs wide within n few front ways m w lm e =
     let small = ways.short m w lm e in
     let power = small-power n few in
     (cost, omega (arith, small.0, power), omega (arith, small.1, power))
+
+-- ---- the same ways, said otherwise
+
+pub ways-same : (d : Ground) (p : ℕ) (qs : List (ℕ × ℕ)) (a n : ℕ) (ways next : ℕ → Option Way) → ((b : ℕ) → b < 5 → ways b ≡ next b) → AreWays d p qs a n ways → AreWays d p qs a n next
+ways-same d p qs a n ways next e h = record {
+  row = h.row;
+  least = h.least;
+  alike = alike-to h.row (λ b. choice_key (sum_of_way (ways b))) (λ b. choice_key (sum_of_way (next b))) (λ b lb. ap (λ o. choice_key (sum_of_way o)) (e b lb)) h.alike;
+  made = λ m lm. subst (λ o. IsWayMade d p qs a n m o (h.row m)) (e m lm) (h.made m lm);
+  short = λ m w lm f. h.short m w lm (e m lm ∙ f);
+}
+
+pub on-same : (d : Ground) (p : ℕ) (q : ℕ × ℕ) (ways from next : ℕ → Option Way) → ((b : ℕ) → b < 5 → from b ≡ next b) → AreWaysOn d p q ways from → AreWaysOn d p q ways next
+on-same d p q ways from next e h = record {
+  keys = h.keys;
+  ranks = h.ranks;
+  least = h.least;
+  alike = h.alike;
+  digits = h.digits;
+  nearest = λ b lb. sym (e b lb) ∙ h.nearest b lb;
+}

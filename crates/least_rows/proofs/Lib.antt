@@ -15,3 +15,6 @@ pub mod QuietLists
 pub mod WayLists
 pub mod RowRanks
 pub mod RootRows
+pub mod Limits
+pub mod Tops
+pub mod CutsMore

@@ -156,7 +156,7 @@ same-choice-of : (k : Key) (o : Option Choice) → same (Some k) (choice_key (su
 same-choice-of k None h = absurd h
 same-choice-of k (Some c) h = (c, refl)
 
-same-key-of : (o : Option Key) (c : Choice) → same o (choice_key (sum_of_choice (Some c))) → (k : Key) × (o ≡ Some k) × (k.0 ≡ c.cost)
+pub same-key-of : (o : Option Key) (c : Choice) → same o (choice_key (sum_of_choice (Some c))) → (k : Key) × (o ≡ Some k) × (k.0 ≡ c.cost)
 same-key-of None c h = absurd h
 same-key-of (Some k) c h = (k, refl, h)
 

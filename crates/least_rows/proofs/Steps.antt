@@ -7,13 +7,12 @@ use Rattle.rhythm_laws.specs.Rows.{AreAlike}
 use Rattle.rhythm_laws.proofs.LeastKeys.{last}
 use Rattle.row_laws.specs.BestRules.{Choice, choice_key}
 use Rattle.row_laws.specs.Rows.{AreLeastRow}
-use Rattle.least_rows.specs.declared.front.Front.TheVariants.{One}
 use Rattle.least_rows.specs.declared.way.Way.{Way}
-use Rattle.least_rows.specs.Fronts.{AreWaysBelow, AreWaysOn, IsRanked, front_at, nearer_way, nearest_below, nearest_way, way_on}
+use Rattle.least_rows.specs.Fronts.{AreWaysBelow, AreWaysOn, IsRanked, nearer_way, nearest_below, nearest_way, one_way, way_on}
 
 -- ---- one way alone
 
-one-below : (w : Way) (o : Option Choice) (m b : ℕ) → m < 5 → nearest_below (front_at (One w m)) (λ n b. o) b 5 ≡ way_on (Some w) m o
+one-below : (w : Way) (o : Option Choice) (m b : ℕ) → m < 5 → nearest_below (one_way w m) (λ n b. o) b 5 ≡ way_on (Some w) m o
 one-below w None zero b h = refl
 one-below w None (suc zero) b h = refl
 one-below w None (suc (suc zero)) b h = refl
@@ -27,11 +26,11 @@ one-below w (Some c) (suc (suc (suc zero))) b h = refl
 one-below w (Some c) (suc (suc (suc (suc zero)))) b h = refl
 one-below w (Some c) (suc (suc (suc (suc (suc m))))) b h = absurd (omega arith)
 
-one-nearest : (w : Way) (ranks : ℕ → Option Choice) (m b : ℕ) → m < 5 → nearest_way (front_at (One w m)) (λ n b. ranks b) b ≡ way_on (Some w) m (ranks b)
+one-nearest : (w : Way) (ranks : ℕ → Option Choice) (m b : ℕ) → m < 5 → nearest_way (one_way w m) (λ n b. ranks b) b ≡ way_on (Some w) m (ranks b)
 unfolding nearest_way
 one-nearest w ranks m b h = one-below w (ranks b) m b h
 
-the-one : (w v : Way) (m n : ℕ) → front_at (One w m) n ≡ Some v → m ≡ n
+the-one : (w v : Way) (m n : ℕ) → one_way w m n ≡ Some v → m ≡ n
 the-one w v m n e = go (m == n) refl e
   where
     go : (t : Bool) → (m == n) ≡ t → (if t then Some w else None) ≡ Some v → m ≡ n
@@ -39,7 +38,7 @@ the-one w v m n e = go (m == n) refl e
     go false h e = absurd (cc)
 
 pub one-on : (d : Ground) (p : ℕ) (q : ℕ × ℕ) (w : Way) (m : ℕ) → m < 5 → (ranks : ℕ → Option Choice) → IsRanked d p q m ranks → (next : ℕ → Option Way)
-    → ((b : ℕ) → b < 5 → next b ≡ way_on (Some w) m (ranks b)) → AreWaysOn d p q (front_at (One w m)) next
+    → ((b : ℕ) → b < 5 → next b ≡ way_on (Some w) m (ranks b)) → AreWaysOn d p q (one_way w m) next
 one-on d p q w m low ranks row next is = record {
   keys = λ n. row.keys;
   ranks = λ n. ranks;

@@ -1,5 +1,5 @@
 -- What the entries of a row may become: the nearest choice for each number of chords carried out.
-use Rattle.std.specs.Prelude.{⊤, ◌≡◌, ◌≢◌, ◌⊎◌, ℕ, suc, ◌+◌, ◌*◌, ◌/◌, ◌<◌, ◌≤◌, ◌^◌, if◌then◌else◌, List, [], ◌∷◌, ◌++◌, length, slice_get, slice_index_or, Option, Some, None}
+use Rattle.std.specs.Prelude.{⊤, ◌≡◌, ◌≢◌, ◌⊎◌, ℕ, suc, ◌+◌, ◌*◌, ◌/◌, ◌<◌, ◌≤◌, ◌^◌, Bool, true, false, nat_lt, if◌then◌else◌, List, [], ◌∷◌, ◌++◌, length, slice_get, slice_index_or, Option, Some, None}
 use Rattle.rhythm_base.specs.Grammar.{Grammar}
 use Rattle.rhythm_base.specs.Ranked.{Key}
 use Rattle.rhythm_laws.specs.Forests.{Ground}
@@ -33,6 +33,19 @@ nearer_choice (Some y) (Some x) = if is_nearer (x.cost, x.order) (y.cost, y.orde
 abbrev pub topped_choice : Cut → ℕ → Option Way → Option Choice
 topped_choice cut number None = None
 topped_choice cut number (Some w) = Some (record { cost = cut.weight + w.cost; order = cut.rule * 2 ^ 48 + w.order; cut = Some number; way = w.way })
+
+abbrev pub cost_of : Option Choice → Option ℕ
+cost_of None = None
+cost_of (Some c) = Some c.cost
+
+-- what a tree may cost at most to be offered, where no chord is carried out of any
+abbrev pub limit_of : List (Option Choice) → Bool → Option ℕ
+limit_of choices true = cost_of (choice_in choices 0)
+limit_of choices false = None
+
+abbrev pub is_over : ℕ → Option ℕ → Bool
+is_over cost None = false
+is_over cost (Some limit) = nat_lt limit cost
 
 -- the list of the key is made as the choice says
 abbrev pub IsChoiceMade : Ground → Plan → ℕ → ℕ × ℕ → ℕ → ℕ → Option Choice → Option Key → Type 0

@@ -6,10 +6,11 @@ use Rattle.rhythm_laws.specs.Rows.{AreAlike}
 use Rattle.row_laws.specs.BestRules.{Choice, choice_key, is_nearer}
 use Rattle.row_laws.specs.Rows.{AreLeastRow}
 use Rattle.row_laws.specs.Ways.{IsWayList}
+use Rattle.grammar_plan.specs.Plans.{between}
 use Rattle.grammar_plan.specs.declared.quiet_tree.QuietTree.{QuietTree}
 use Rattle.least_rows.specs.declared.entry.Entry.{Entry}
-use Rattle.least_rows.specs.declared.front.Front.{Front}
-use Rattle.least_rows.specs.declared.front.Front.TheVariants.{One, Several}
+use Rattle.least_rows.specs.declared.lead.Lead.{Lead}
+use Rattle.least_rows.specs.declared.lead.Lead.TheVariants.{Nowhere, One, Several}
 use Rattle.least_rows.specs.declared.way.Way.{Way}
 
 -- ---- ways
@@ -42,21 +43,38 @@ nearest_below front ranks b (suc n) = nearer_way (nearest_below front ranks b n)
 unfoldable pub nearest_way : (ℕ → Option Way) → (ℕ → ℕ → Option Choice) → ℕ → Option Way
 nearest_way front ranks b = nearest_below front ranks b 5
 
--- ---- fronts
+-- ---- the entries of a row
 
-abbrev pub front_at : Front → ℕ → Option Way
-front_at (One way count) b = if count == b then Some way else None
-front_at (Several ways) b = way_in ways b
+-- the cost and the rank, from i on, of the entry for a number carried out
+abbrev pub rank_in : List Entry → ℕ → ℕ → Option Choice
+rank_in [] i b = None
+rank_in (e ∷ es) i b = if e.to == b then Some (e.cost, i) else rank_in es (suc i) b
 
--- a number carried out is below 5
-abbrev pub IsFront : Front → Type 0
-IsFront (One way count) = count < 5
-IsFront (Several ways) = ⊤
+-- few entries for different counts, of trees that do not cost much
+pub record AreEntries (entries : List Entry) : Type 0 where
+  pub few : length entries ≤ 5
+  pub each : (i : ℕ) (e : Entry) → slice_get entries i ≡ Some e → (e.to < 5) × (e.cost ≤ 3000000000)
+  pub apart : (i j : ℕ) (e f : Entry) → i < j → slice_get entries i ≡ Some e → slice_get entries j ≡ Some f → e.to ≢ f.to
 
--- there may be no way at all
-abbrev pub ways_of : Option Front → ℕ → Option Way
-ways_of None b = None
-ways_of (Some front) b = front_at front b
+-- ---- where a way leads
+
+-- one way alone, out of which so many chords are carried
+abbrev pub one_way : Way → ℕ → ℕ → Option Way
+one_way way count b = if count == b then Some way else None
+
+-- the ways over the next part, from one way
+abbrev pub ways_of : List Entry → Way → ℕ → Lead → ℕ → Option Way
+ways_of entries way count Nowhere b = None
+ways_of entries way count (One next to) b = one_way next to b
+ways_of entries way count (Several span) b = way_on (Some way) count (rank_in (between entries span.first (span.first + span.count)) 0 b)
+
+-- a number carried out is below 5, and a row is there
+abbrev pub IsLead : List Entry → Lead → Type 0
+IsLead entries Nowhere = ⊤
+IsLead entries (One next to) = to < 5
+IsLead entries (Several span) = (span.first + span.count ≤ length entries) × AreEntries (between entries span.first (span.first + span.count))
+
+-- ---- the ways over the first parts
 
 -- the way is by the counts between the trees of the key's list
 abbrev pub IsWayMade : Ground → ℕ → List (ℕ × ℕ) → ℕ → ℕ → ℕ → Option Way → Option Key → Type 0
@@ -82,11 +100,6 @@ AreShort ways = (m : ℕ) (w : Way) → m < 5 → ways m ≡ Some w → IsShort 
 
 -- ---- one part more
 
--- the cost and the rank, from i on, of the entry for a number carried out
-abbrev pub rank_in : List Entry → ℕ → ℕ → Option Choice
-rank_in [] i b = None
-rank_in (e ∷ es) i b = if e.to == b then Some (e.cost, i) else rank_in es (suc i) b
-
 -- the nearest ways with the tree of this width and symbol after them, from unit p on: by its rows for the counts that are
 -- carried out of them
 pub record AreWaysOn (d : Ground) (p : ℕ) (q : ℕ × ℕ) (ways next : ℕ → Option Way) : Type 0 where
@@ -96,12 +109,6 @@ pub record AreWaysOn (d : Ground) (p : ℕ) (q : ℕ × ℕ) (ways next : ℕ �
   pub alike : (m : ℕ) (w : Way) → m < 5 → ways m ≡ Some w → AreAlike (keys m) (λ b. choice_key (ranks m b))
   pub digits : (m b : ℕ) (c : Choice) → ranks m b ≡ Some c → c.1 < 8
   pub nearest : (b : ℕ) → b < 5 → next b ≡ nearest_way ways ranks b
-
--- few entries for different counts, of trees that do not cost much
-pub record AreEntries (entries : List Entry) : Type 0 where
-  pub few : length entries ≤ 5
-  pub each : (i : ℕ) (e : Entry) → slice_get entries i ≡ Some e → (e.to < 5) × (e.cost ≤ 3000000000)
-  pub apart : (i j : ℕ) (e f : Entry) → i < j → slice_get entries i ≡ Some e → slice_get entries j ≡ Some f → e.to ≢ f.to
 
 -- the cost and the rank of the tree over a quiet interval: none is carried out of it, and there is no other
 abbrev pub quiet_rank : Option QuietTree → ℕ → Option Choice

@@ -8,3 +8,4 @@ pub mod Roots
 pub mod Searches
 pub mod States
 pub mod Steps
+pub mod Tops

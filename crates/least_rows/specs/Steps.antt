@@ -1,19 +1,19 @@
 -- What one step of the search finds, of the seat of a number.
-use Rattle.std.specs.Prelude.{◌≡◌, ◌⊎◌, ℕ, ◌<◌, ◌^◌, ◌==◌, if◌then◌else◌, List, length, slice_get, slice_set, slice_index_or, MatchOption, Option, Some, None}
+use Rattle.std.specs.Prelude.{◌≡◌, ◌⊎◌, ℕ, ◌<◌, ◌^◌, ◌==◌, if◌then◌else◌, Bool, false, List, [], ◌∷◌, length, slice_get, slice_set, slice_index_or, MatchOption, Option, Some, None}
 use Rattle.rhythm_base.specs.BarInput.{BarInput}
-use Rattle.rhythm_base.specs.Bodies.{children}
 use Rattle.rhythm_base.specs.Grammar.{Grammar}
+use Rattle.rhythm_base.specs.Ranked.{Key}
+use Rattle.rhythm_laws.specs.Forests.{IsForestKey}
 use Rattle.row_laws.specs.Grounds.{ground_of}
 use Rattle.row_laws.specs.Leaves.{HasLeaf, IsCrowded}
 use Rattle.row_laws.specs.QuietTrees.{IsQuiet}
 use Rattle.row_laws.specs.declared.quiet.Quiet.{Quiet}
 use Rattle.bar_view.specs.declared.leaf.Leaf.{Leaf}
-use Rattle.grammar_plan.specs.Plans.{IsCutOf, pair_of}
-use Rattle.grammar_plan.specs.declared.cut.Cut.{Cut}
+use Rattle.grammar_plan.specs.Plans.{pair_of}
 use Rattle.grammar_plan.specs.declared.plan.Plan.{Plan}
 use Rattle.grammar_plan.specs.declared.seat.Seat.{Seat}
 use Rattle.least_rows.specs.Choices.{AreBestChoices, AreSettled}
-use Rattle.least_rows.specs.Fronts.{AreWays, AreWaysBelow, AreWaysOn}
+use Rattle.least_rows.specs.Fronts.{AreWaysBelow, AreWaysOn}
 use Rattle.least_rows.specs.States.{HasRow, IsRowAt}
 use Rattle.least_rows.specs.declared.choice.Choice.{Choice}
 use Rattle.least_rows.specs.declared.rows.Rows.{Rows}
@@ -28,6 +28,16 @@ IsRowOf g k plan rows seat place from span = (s : Seat) → slice_get plan.seats
 -- the leaf over the interval, none where too many chords are attached to it or to the next
 abbrev pub IsLeafAt : Grammar → BarInput → ℕ → ℕ → Option Leaf → Type 0
 IsLeafAt g k place width leaf = MatchOption leaf (IsCrowded k place width) (λ l. HasLeaf g k place width l.own l.next l.sounds l.charges × (l.charges < 2 ^ 60))
+
+-- none of the chords that lie in the leaf is attached to the next
+abbrev pub ends_there : Option Leaf → Bool
+ends_there None = false
+ends_there (Some l) = l.next == 0
+
+-- no chord is carried out of a tree of the seat
+abbrev pub EndsThere : Grammar → BarInput → Plan → (seat place : ℕ) → Type 0
+EndsThere g k plan seat place =
+    (s : Seat) (a b : ℕ) (key : Key) → slice_get plan.seats.items seat ≡ Some s → IsForestKey (ground_of g k) None place (pair_of s ∷ []) a b key → b ≡ 0
 
 -- these choices stand for the trees of the seat with a rule of the set on top
 abbrev pub AreChoicesOf : Grammar → BarInput → Plan → (seat place from : ℕ) → (Seat → ℕ → Type 0) → List (Option Choice) → Type 0
@@ -54,12 +64,6 @@ AreQuietWaysBelow g k plan quiet seat ways n next =
 abbrev pub way_to_none : Option Way → ℕ → Option Way
 way_to_none None b = None
 way_to_none (Some way) b = if 0 == b then Some way else None
-
--- the ways over all parts of a cut of the seat
-abbrev pub AreWaysOfCut : Grammar → BarInput → Plan → (seat : ℕ) → Cut → (place from : ℕ) → (ℕ → Option Way) → Type 0
-AreWaysOfCut g k plan seat cut place from ways =
-    (s : Seat) → slice_get plan.seats.items seat ≡ Some s → (c : IsCutOf g plan (pair_of s) cut)
-    → AreWays (ground_of g k) place (children c.rule.body s.width) from (length (children c.rule.body s.width)) ways
 
 -- the row of a state was known, or was added
 abbrev pub KeepsRow : Rows → Rows → (number from : ℕ) → List (Option Choice) → RowSpan → Type 0

@@ -2,10 +2,12 @@ ghost use Rattle.least_rows.specs.Choices.{
   IsEntryOf,
   IsFirst,
   choice_in,
+  is_over,
+  limit_of,
   nearer_choice,
   topped_choice,
 };
-ghost use Rattle.least_rows.specs.Fronts.{AreShort, IsFront, IsShort, front_at, way_in};
+ghost use Rattle.least_rows.specs.Fronts.{AreShort, IsShort, way_in};
 ghost use Rattle.least_rows.specs.declared.way.Way.{Way};
 ghost use Rattle.least_rows.specs.declared.choice.Choice.{Choice};
 ghost use Rattle.row_laws.specs.BestRules.{is_nearer};
@@ -22,7 +24,6 @@ ghost use Rattle.std.specs.Prelude.{
 };
 
 use crate::entry::Entry;
-use crate::front::Front;
 use crate::way::Way;
 use grammar_plan::Cut;
 
@@ -67,7 +68,7 @@ pub fn offer(place: &mut Option<Choice>, next: Choice)
 
 /// Offers a way over the parts of a cut, with the cut on top.
 #[inline(always)]
-fn offer_way(place: &mut Option<Choice>, way: Way, cut: &Cut, number: u32)
+pub fn offer_way(place: &mut Option<Choice>, way: Way, cut: &Cut, number: u32)
     requires short { IsShort way }
     ensures { place.new ≡ nearer_choice place.old (topped_choice cut.now number (Some way)) }
 {
@@ -95,7 +96,7 @@ fn offer_some(place: &mut Option<Choice>, way: &Option<Way>, cut: &Cut, number: 
 
 /// Offers several ways.
 #[inline(never)]
-fn offer_ways(best: &mut Choices, ways: &[Option<Way>; 5], cut: &Cut, number: u32)
+pub fn offer_ways(best: &mut Choices, ways: &[Option<Way>; 5], cut: &Cut, number: u32)
     requires short { AreShort (way_in ways.now) }
     ensures { (b : ℕ) → b < 5 → choice_in best.new b ≡ nearer_choice (choice_in best.old b) (topped_choice cut.now number (way_in ways.now b)) }
 {
@@ -106,16 +107,25 @@ fn offer_ways(best: &mut Choices, ways: &[Option<Way>; 5], cut: &Cut, number: u3
     offer_some(&mut best[4], &ways[4], cut, number);
 }
 
-/// Offers the ways over all parts of a cut, with the cut on top.
+/// What a tree may cost at most to be offered, where no chord is carried out of any: what the choice for none costs.
 #[inline(always)]
-pub fn offer_front(best: &mut Choices, front: &Front, cut: &Cut, number: u32)
-    requires front { IsFront front.now }
-    requires short { AreShort (front_at front.now) }
-    ensures { (b : ℕ) → b < 5 → choice_in best.new b ≡ nearer_choice (choice_in best.old b) (topped_choice cut.now number (front_at front.now b)) }
+pub fn limit_of(best: &Choices, ends: bool) -> Option<u64>
+    ensures { result ≡ limit_of best.now ends }
 {
-    match front {
-        Front::One(way, count) => offer_way(&mut best[*count as usize], *way, cut, number),
-        Front::Several(ways) => offer_ways(best, ways, cut, number),
+    match &best[0] {
+        Some(choice) if ends => Some(choice.cost),
+        _ => None,
+    }
+}
+
+/// A cost is over the limit, where there is one.
+#[inline(always)]
+pub fn is_over(cost: u64, limit: Option<u64>) -> bool
+    ensures { result ≡ is_over cost limit }
+{
+    match limit {
+        None => false,
+        Some(limit) => limit < cost,
     }
 }
 

@@ -1,6 +1,6 @@
-ghost use Rattle.least_rows.specs.Choices.{AreBestChoices};
+ghost use Rattle.least_rows.specs.Choices.{AreBestChoices, choice_in};
 ghost use Rattle.least_rows.specs.Searches.{IsSearch};
-ghost use Rattle.least_rows.specs.Steps.{IsLeafAt};
+ghost use Rattle.least_rows.specs.Steps.{IsLeafAt, ends_there};
 ghost use Rattle.grammar_plan.specs.Plans.{pair_of};
 ghost use Rattle.row_laws.specs.Grounds.{ground_of};
 ghost use Rattle.row_laws.specs.Leaves.{HasLeaf};
@@ -27,40 +27,49 @@ fn leaf_choice(rule: LeafRule, charges: u64) -> Choice
     }
 }
 
-/// The choices of a seat by a leaf, with `from` chords carried in.
+/// Offers the leaf of a seat, with `from` chords carried in, where a rule ends it.
 #[inline(always)]
-fn by_leaf(search: &Search<'_>, seat: &Seat, leaf: Leaf, from: u8) -> Choices
+fn offer_one(best: &mut Choices, search: &Search<'_>, seat: &Seat, leaf: Leaf, from: u8)
     requires search { IsSearch search.now.grammar.now search.now.input.now search.now.plan.now search.now.view.now }
+    requires none { (b : ℕ) → b < 5 → choice_in best.old b ≡ None }
     requires symbol { seat.now.symbol < length search.now.plan.now.leaves.items }
     requires from { from < 5 }
     requires leaf { (leaf.own ≤ 4) × (leaf.next ≤ 4) × (leaf.charges < 2 ^ 60) }
     ensures { (place : ℕ) → 1 ≤ seat.now.width → place + seat.now.width ≤ search.now.input.now.resolution
         → HasLeaf search.now.grammar.now search.now.input.now place seat.now.width leaf.own leaf.next leaf.sounds leaf.charges
-        → AreBestChoices (ground_of search.now.grammar.now search.now.input.now) search.now.plan.now place (pair_of seat.now) from (EndsInterval search.now.grammar.now) result }
+        → AreBestChoices (ground_of search.now.grammar.now search.now.input.now) search.now.plan.now place (pair_of seat.now) from (EndsInterval search.now.grammar.now) best.new }
 {
     let count = from + leaf.own;
     match search.plan.leaf(search.grammar, seat, count, leaf.sounds) {
-        None => [None; 5],
-        Some(rule) => {
-            let mut best = [None; 5];
-            best[leaf.next as usize] = Some(leaf_choice(rule, leaf.charges));
-            best
-        }
+        None => {}
+        Some(rule) => best[leaf.next as usize] = Some(leaf_choice(rule, leaf.charges)),
     }
 }
 
-/// The choices of a seat by its leaf, where it has one.
+/// Offers the leaf of a seat, with `from` chords carried in, where it has one.
 #[inline(always)]
-pub fn leaf_choices(search: &Search<'_>, seat: &Seat, leaf: Option<Leaf>, from: u8) -> Choices
+pub fn offer_leaf(best: &mut Choices, search: &Search<'_>, seat: &Seat, leaf: Option<Leaf>, from: u8)
     requires search { IsSearch search.now.grammar.now search.now.input.now search.now.plan.now search.now.view.now }
+    requires none { (b : ℕ) → b < 5 → choice_in best.old b ≡ None }
     requires symbol { seat.now.symbol < length search.now.plan.now.leaves.items }
     requires from { from < 5 }
     requires leaf { (l : Leaf) → leaf ≡ Some l → (l.own ≤ 4) × (l.next ≤ 4) × (l.charges < 2 ^ 60) }
     ensures { (place : ℕ) → 1 ≤ seat.now.width → place + seat.now.width ≤ search.now.input.now.resolution → IsLeafAt search.now.grammar.now search.now.input.now place seat.now.width leaf
-        → AreBestChoices (ground_of search.now.grammar.now search.now.input.now) search.now.plan.now place (pair_of seat.now) from (EndsInterval search.now.grammar.now) result }
+        → AreBestChoices (ground_of search.now.grammar.now search.now.input.now) search.now.plan.now place (pair_of seat.now) from (EndsInterval search.now.grammar.now) best.new }
 {
     match leaf {
-        None => [None; 5],
-        Some(leaf) => by_leaf(search, seat, leaf, from),
+        None => {}
+        Some(leaf) => offer_one(best, search, seat, leaf, from),
+    }
+}
+
+/// No chord that lies in the leaf is attached to the next one.
+#[inline(always)]
+pub fn ends_there(leaf: Option<Leaf>) -> bool
+    ensures { result ≡ ends_there leaf }
+{
+    match leaf {
+        None => false,
+        Some(leaf) => leaf.next == 0,
     }
 }

@@ -7,7 +7,8 @@
 mod bar_trees;
 mod choice;
 mod entry;
-mod front;
+mod fork;
+mod lead;
 mod leaf_choices;
 mod parts;
 mod quiet_lists;
@@ -18,8 +19,10 @@ mod rows;
 mod search;
 mod settled;
 mod state;
+mod top;
 mod tree_at;
 mod way;
+mod ways;
 mod write;
 
 pub use bar_trees::{BarTrees, ListSpan};

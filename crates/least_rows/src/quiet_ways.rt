@@ -1,10 +1,9 @@
-ghost use Rattle.least_rows.specs.Fronts.{AreShort, IsFront, IsShort, front_at, nearer_way, quiet_rank, way_in, way_on, ways_of};
+ghost use Rattle.least_rows.specs.Fronts.{AreShort, IsShort, nearer_way, quiet_rank, way_in, way_on};
 ghost use Rattle.grammar_plan.specs.declared.quiet_tree.QuietTree.{QuietTree};
 ghost use Rattle.least_rows.specs.Searches.{IsSearch};
 ghost use Rattle.least_rows.specs.Steps.{AreQuietWays, AreQuietWaysBelow, way_to_none};
-ghost use Rattle.std.specs.Prelude.{◌≡◌, ◌+◌, ◌<◌, ◌≤◌, ℕ, IfSome, Some, length};
+ghost use Rattle.std.specs.Prelude.{◌≡◌, ◌+◌, ◌<◌, ◌≤◌, ℕ, Some, length};
 
-use crate::front::{Front, rest};
 use crate::search::Search;
 use crate::way::{Way, offer_way};
 use grammar_plan::QuietTree;
@@ -51,43 +50,21 @@ fn offer_quiet(
 
 /// Several ways with the tree over a quiet interval after them.
 #[inline(never)]
-fn rest_of_several(
+pub fn rest_of_several(
     search: &Search<'_>,
     ways: &[Option<Way>; 5],
     seat: u32,
     quiet: Quiet,
-) -> Option<Front>
+) -> Option<Way>
     requires search { IsSearch search.now.grammar.now search.now.input.now search.now.plan.now search.now.view.now }
     requires seat { seat < length search.now.plan.now.seats.items }
     requires short { AreShort (way_in ways.now) }
-    ensures front { IfSome result IsFront }
-    ensures ways { AreQuietWays search.now.grammar.now search.now.input.now search.now.plan.now quiet seat (way_in ways.now) (ways_of result) }
+    ensures { AreQuietWays search.now.grammar.now search.now.input.now search.now.plan.now quiet seat (way_in ways.now) (way_to_none result) }
 {
     let mut best = None;
     'counts: for count in 0..5u8 {
         offer_quiet(search, &mut best, ways, count, seat, quiet);
     }
-    match best {
-        None => None,
-        Some(way) => Some(Front::One(way, 0)),
-    }
+    best
 }
 
-/// The ways with the tree over a quiet interval after them.
-#[inline(always)]
-pub fn over_quiet(search: &Search<'_>, front: &Front, seat: u32, quiet: Quiet) -> Option<Front>
-    requires search { IsSearch search.now.grammar.now search.now.input.now search.now.plan.now search.now.view.now }
-    requires seat { seat < length search.now.plan.now.seats.items }
-    requires front { IsFront front.now }
-    requires short { AreShort (front_at front.now) }
-    ensures front { IfSome result IsFront }
-    ensures ways { AreQuietWays search.now.grammar.now search.now.input.now search.now.plan.now quiet seat (front_at front.now) (ways_of result) }
-{
-    match front {
-        Front::One(way, count) => {
-            let tree = search.plan.quiet_tree(search.grammar, seat, quiet, *count);
-            rest(*way, *count, tree)
-        }
-        Front::Several(ways) => rest_of_several(search, ways, seat, quiet),
-    }
-}

@@ -1,18 +1,19 @@
-ghost use Rattle.grammar_plan.specs.Plans.{IsCutOf, pair_of};
+ghost use Rattle.grammar_plan.specs.Plans.{pair_of};
 ghost use Rattle.grammar_plan.specs.declared.seat.Seat.{Seat};
 ghost use Rattle.least_rows.specs.Choices.{RulesBefore};
-ghost use Rattle.least_rows.specs.Fronts.{AreShort, IsFront, front_at, way_in, ways_of};
+ghost use Rattle.least_rows.specs.Fronts.{AreShort, IsLead, IsShort, one_way, way_in, ways_of};
 ghost use Rattle.least_rows.specs.Places.{HasPlace};
 ghost use Rattle.least_rows.specs.Searches.{IsSearch};
 ghost use Rattle.least_rows.specs.States.{AreKnown, Grows, HasState, IsRowAt};
 ghost use Rattle.least_rows.specs.Steps.{
   AreChoicesOf,
-  AreWaysOfCut,
   AreWaysOver,
   AreWaysOverBelow,
+  EndsThere,
   IsRowOf,
   KeepsRow,
 };
+ghost use Rattle.least_rows.specs.Tops.{AreWaysTo, IsFork, IsOffered, IsTop, ways_at};
 ghost use Rattle.grammar_plan.specs.Plans.{between};
 ghost use Rattle.row_laws.specs.LeafRules.{EndsInterval};
 ghost use Rattle.std.specs.Prelude.{
@@ -20,23 +21,29 @@ ghost use Rattle.std.specs.Prelude.{
   ◌+◌,
   ◌<◌,
   ◌≤◌,
+  ℕ,
+  true,
   IfOk,
   IfSome,
+  None,
   OnOk,
   Some,
   length,
   slice_get,
 };
 
-use crate::choice::{Choices, offer_front};
+use crate::choice::{Choices, is_over, limit_of, offer_way, offer_ways};
 use crate::entry::Entry;
-use crate::front::{Front, fork, join};
-use crate::leaf_choices::leaf_choices;
-use crate::quiet_ways::over_quiet;
+use crate::fork::Fork;
+use crate::lead::{Lead, lead_by_quiet, lead_by_row};
+use crate::leaf_choices::{ends_there, offer_leaf};
+use crate::quiet_ways::rest_of_several;
 use crate::search::Search;
 use crate::settled::settle;
 use crate::state::{RowSpan, State};
+use crate::top::Top;
 use crate::way::Way;
+use crate::ways::join;
 use grammar_plan::{Cut, Plan, Seat};
 use std::alloc::{AllocError, Global};
 
@@ -147,10 +154,10 @@ impl Rows {
     }
 
     /// Keeps the row of a state, where it has none.
-    fn keep_row(&mut self, number: usize, from: u8, best: &Choices) -> Result<RowSpan, AllocError>
+    fn keep_row(&mut self, number: usize, from: u8, best: &mut Choices) -> Result<RowSpan, AllocError>
         requires number { number < length self.old.states.items }
         requires from { from < 5 }
-        ensures { IfOk result (KeepsRow self.old self.new number from best.now) }
+        ensures { IfOk result (KeepsRow self.old self.new number from best.old) }
     {
         match self.states[number].rows[from as usize] {
             Some(span) => Ok(span),
@@ -164,6 +171,7 @@ impl Rows {
 
     /// The row of a seat from the unit `place` on, with `from` chords carried in.
     #[cycle(rows)]
+    #[inline(always)]
     pub fn row(
         &mut self,
         search: &Search<'_>,
@@ -213,25 +221,30 @@ impl Rows {
     {
         let plan = search.plan;
         let leaf = self.states[number].leaf;
-        let mut best = leaf_choices(search, &plan.seats[seat as usize], leaf, from);
-        self.offer_cuts(search, seat, place, from, &mut best)?;
-        let span = self.keep_row(number, from, &best)?;
+        let ends = ends_there(leaf);
+        let mut best = [None; 5];
+        offer_leaf(&mut best, search, &plan.seats[seat as usize], leaf, from);
+        self.offer_cuts(search, seat, place, from, ends, &mut best)?;
+        let span = self.keep_row(number, from, &mut best)?;
         Ok(span)
     }
 
-    /// Offers the trees with a cut of the seat on top.
+    /// Offers the trees with a cut of the seat on top. `ends` tells that no chord is carried out of them.
     #[cycle(rows)]
+    #[inline(always)]
     fn offer_cuts(
         &mut self,
         search: &Search<'_>,
         seat: u32,
         place: u16,
         from: u8,
+        ends: bool,
         best: &mut Choices,
     ) -> Result<(), AllocError>
         requires search { IsSearch search.now.grammar.now search.now.input.now search.now.plan.now search.now.view.now }
         requires place { HasPlace search.now.input.now search.now.plan.now seat place }
         requires from { from < 5 }
+        requires ends { ends ≡ true → EndsThere search.now.grammar.now search.now.input.now search.now.plan.now seat place }
         requires known { AreKnown search.now.grammar.now search.now.input.now search.now.plan.now self.old }
         requires best { AreChoicesOf search.now.grammar.now search.now.input.now search.now.plan.now seat place from (λ s. EndsInterval search.now.grammar.now) best.old }
         ensures known { OnOk result (AreKnown search.now.grammar.now search.now.input.now search.now.plan.now self.new) }
@@ -243,135 +256,202 @@ impl Rows {
         let first = plan.seats[seat as usize].first;
         let end = plan.seats[seat as usize].end;
         'cuts: for number in first..end {
+            let top = Top {
+                seat,
+                place,
+                from,
+                number,
+            };
             let cut = &plan.cuts[number as usize];
-            let front = self.over_parts(search, seat, cut, place, from)?;
-            match &front {
-                None => {}
-                Some(front) => offer_front(best, front, cut, number),
-            }
+            self.offer_cut(search, top, cut, ends, best)?;
         }
         Ok(())
     }
 
-    /// The ways over all parts of a cut of the seat.
+    /// Offers the trees with this cut on top, but for those that cost too much to be the least. As long as one way alone leads
+    /// on, it is followed alone.
     #[cycle(rows)]
-    fn over_parts(
+    #[inline(always)]
+    fn offer_cut(
         &mut self,
         search: &Search<'_>,
-        seat: u32,
+        top: Top,
         cut: &Cut,
-        place: u16,
-        from: u8,
-    ) -> Result<Option<Front>, AllocError>
+        ends: bool,
+        best: &mut Choices,
+    ) -> Result<(), AllocError>
         requires search { IsSearch search.now.grammar.now search.now.input.now search.now.plan.now search.now.view.now }
-        requires place { HasPlace search.now.input.now search.now.plan.now seat place }
-        requires cut { (s : Seat) → slice_get search.now.plan.now.seats.items seat ≡ Some s → IsCutOf search.now.grammar.now search.now.plan.now (pair_of s) cut.now }
-        requires from { from < 5 }
+        requires top { IsTop search.now.grammar.now search.now.input.now search.now.plan.now top cut.now }
+        requires ends { ends ≡ true → EndsThere search.now.grammar.now search.now.input.now search.now.plan.now top.seat top.place }
         requires known { AreKnown search.now.grammar.now search.now.input.now search.now.plan.now self.old }
+        requires best { AreChoicesOf search.now.grammar.now search.now.input.now search.now.plan.now top.seat top.place top.from
+            (λ s. RulesBefore search.now.grammar.now search.now.plan.now s top.number) best.old }
         ensures known { OnOk result (AreKnown search.now.grammar.now search.now.input.now search.now.plan.now self.new) }
         ensures grows { OnOk result (Grows self.old self.new) }
-        ensures front { IfOk result (λ o. IfSome o IsFront) }
-        ensures ways { IfOk result (λ o. AreWaysOfCut search.now.grammar.now search.now.input.now search.now.plan.now seat cut.now place from (ways_of o)) }
+        ensures best { OnOk result (AreChoicesOf search.now.grammar.now search.now.input.now search.now.plan.now top.seat top.place top.from
+            (λ s. RulesBefore search.now.grammar.now search.now.plan.now s (top.number + 1)) best.new) }
     {
-        let plan = search.plan;
-        let none = Way {
+        let limit = limit_of(best, ends);
+        let mut way = Way {
             cost: 0,
             order: 0,
             way: 0,
         };
-        let mut front = Front::One(none, from);
-        let mut at = place;
+        let mut count = top.from;
+        let mut at = top.place;
         'parts: for part in cut.first..cut.end {
-            let own = plan.parts[part as usize];
-            match self.over_part(search, &front, own, at)? {
-                Some(next) => front = next,
-                None => return Ok(None),
+            if is_over(u64::from(cut.weight) + way.cost, limit) {
+                return Ok(());
             }
-            at += plan.seats[own as usize].width;
+            let seat = search.plan.parts[part as usize];
+            let lead = self.lead(search, way, count, seat, at)?;
+            at += search.plan.seats[seat as usize].width;
+            match lead {
+                Lead::Nowhere => return Ok(()),
+                Lead::One(next, to) => {
+                    way = next;
+                    count = to;
+                }
+                Lead::Several(span) => {
+                    let fork = Fork {
+                        way,
+                        count,
+                        span,
+                        part: part + 1,
+                        at,
+                    };
+                    return self.offer_fork(search, top, cut, fork, best);
+                }
+            }
         }
-        Ok(Some(front))
+        offer_way(&mut best[count as usize], way, cut, top.number);
+        Ok(())
     }
 
-    /// The ways with the tree of a seat from the unit `place` on after them.
+    /// Where one way leads over the tree of a seat from the unit `place` on.
     #[cycle(rows)]
     #[inline(always)]
-    fn over_part(
+    fn lead(
         &mut self,
         search: &Search<'_>,
-        front: &Front,
+        way: Way,
+        count: u8,
         seat: u32,
         place: u16,
-    ) -> Result<Option<Front>, AllocError>
+    ) -> Result<Lead, AllocError>
         requires search { IsSearch search.now.grammar.now search.now.input.now search.now.plan.now search.now.view.now }
         requires place { HasPlace search.now.input.now search.now.plan.now seat place }
-        requires front { IsFront front.now }
-        requires short { AreShort (front_at front.now) }
+        requires short { IsShort way }
+        requires count { count < 5 }
         requires known { AreKnown search.now.grammar.now search.now.input.now search.now.plan.now self.old }
         ensures known { OnOk result (AreKnown search.now.grammar.now search.now.input.now search.now.plan.now self.new) }
         ensures grows { OnOk result (Grows self.old self.new) }
-        ensures front { IfOk result (λ o. IfSome o IsFront) }
-        ensures ways { IfOk result (λ o. AreWaysOver search.now.grammar.now search.now.input.now search.now.plan.now seat place (front_at front.now) (ways_of o)) }
+        ensures lead { IfOk result (IsLead self.new.entries.items) }
+        ensures ways { IfOk result (λ lead. AreWaysOver search.now.grammar.now search.now.input.now search.now.plan.now seat place (one_way way count) (ways_of self.new.entries.items way count lead)) }
     {
         let plan = search.plan;
         let width = plan.seats[seat as usize].width;
         match search.view.quiet(search.input, place, width) {
-            Some(quiet) => Ok(over_quiet(search, front, seat, quiet)),
-            None => self.over_row(search, front, seat, place),
+            Some(quiet) => {
+                let tree = plan.quiet_tree(search.grammar, seat, quiet, count);
+                Ok(lead_by_quiet(way, count, tree))
+            }
+            None => {
+                let span = self.row(search, seat, place, count)?;
+                Ok(lead_by_row(way, count, span, self.entries_of(span)))
+            }
         }
     }
 
-    /// The same, by the rows of the seat.
+    /// Offers the trees with this cut on top whose ways go through a fork.
     #[cycle(rows)]
-    fn over_row(
+    #[inline(never)]
+    fn offer_fork(
         &mut self,
         search: &Search<'_>,
-        front: &Front,
-        seat: u32,
-        place: u16,
-    ) -> Result<Option<Front>, AllocError>
+        top: Top,
+        cut: &Cut,
+        fork: Fork,
+        best: &mut Choices,
+    ) -> Result<(), AllocError>
         requires search { IsSearch search.now.grammar.now search.now.input.now search.now.plan.now search.now.view.now }
-        requires place { HasPlace search.now.input.now search.now.plan.now seat place }
-        requires front { IsFront front.now }
-        requires short { AreShort (front_at front.now) }
+        requires top { IsTop search.now.grammar.now search.now.input.now search.now.plan.now top cut.now }
+        requires part { (cut.now.first ≤ fork.part) × (fork.part ≤ cut.now.end) }
+        requires fork { IsFork self.old.entries.items fork }
+        requires ways { AreWaysTo search.now.grammar.now search.now.input.now search.now.plan.now top cut.now fork.part fork.at (ways_at self.old.entries.items fork) }
         requires known { AreKnown search.now.grammar.now search.now.input.now search.now.plan.now self.old }
         ensures known { OnOk result (AreKnown search.now.grammar.now search.now.input.now search.now.plan.now self.new) }
         ensures grows { OnOk result (Grows self.old self.new) }
-        ensures front { IfOk result (λ o. IfSome o IsFront) }
-        ensures ways { IfOk result (λ o. AreWaysOver search.now.grammar.now search.now.input.now search.now.plan.now seat place (front_at front.now) (ways_of o)) }
+        ensures best { OnOk result (IsOffered search.now.grammar.now search.now.input.now search.now.plan.now top cut.now best.old best.new) }
     {
-        match front {
-            Front::One(way, count) => {
-                let span = self.row(search, seat, place, *count)?;
-                Ok(fork(*way, *count, self.entries_of(span)))
-            }
-            Front::Several(ways) => self.over_rows(search, ways, seat, place),
+        let mut ways = [None; 5];
+        join(&mut ways, fork.way, fork.count, self.entries_of(fork.span));
+        let mut at = fork.at;
+        'parts: for part in fork.part..cut.end {
+            let seat = search.plan.parts[part as usize];
+            let mut next = [None; 5];
+            self.over(search, &mut next, &ways, seat, at)?;
+            ways = next;
+            at += search.plan.seats[seat as usize].width;
         }
+        offer_ways(best, &ways, cut, top.number);
+        Ok(())
     }
 
-    /// Several ways with the tree of the seat after them.
+    /// Several ways with the tree of a seat from the unit `place` on after them.
     #[cycle(rows)]
-    #[inline(never)]
-    fn over_rows(
+    #[inline(always)]
+    fn over(
         &mut self,
         search: &Search<'_>,
+        next: &mut [Option<Way>; 5],
         ways: &[Option<Way>; 5],
         seat: u32,
         place: u16,
-    ) -> Result<Option<Front>, AllocError>
+    ) -> Result<(), AllocError>
         requires search { IsSearch search.now.grammar.now search.now.input.now search.now.plan.now search.now.view.now }
         requires place { HasPlace search.now.input.now search.now.plan.now seat place }
+        requires none { (b : ℕ) → b < 5 → way_in next.old b ≡ None }
         requires short { AreShort (way_in ways.now) }
         requires known { AreKnown search.now.grammar.now search.now.input.now search.now.plan.now self.old }
         ensures known { OnOk result (AreKnown search.now.grammar.now search.now.input.now search.now.plan.now self.new) }
         ensures grows { OnOk result (Grows self.old self.new) }
-        ensures front { IfOk result (λ o. IfSome o IsFront) }
-        ensures ways { IfOk result (λ o. AreWaysOver search.now.grammar.now search.now.input.now search.now.plan.now seat place (way_in ways.now) (ways_of o)) }
+        ensures ways { OnOk result (AreWaysOver search.now.grammar.now search.now.input.now search.now.plan.now seat place (way_in ways.now) (way_in next.new)) }
     {
-        let mut next = [None; 5];
-        'counts: for count in 0..5u8 {
-            self.join_row(search, &mut next, ways, count, seat, place)?;
+        let width = search.plan.seats[seat as usize].width;
+        match search.view.quiet(search.input, place, width) {
+            Some(quiet) => {
+                next[0] = rest_of_several(search, ways, seat, quiet);
+                Ok(())
+            }
+            None => self.over_rows(search, next, ways, seat, place),
         }
-        Ok(Some(Front::Several(next)))
+    }
+
+    /// The same by the rows of the seat.
+    #[cycle(rows)]
+    #[inline(always)]
+    fn over_rows(
+        &mut self,
+        search: &Search<'_>,
+        next: &mut [Option<Way>; 5],
+        ways: &[Option<Way>; 5],
+        seat: u32,
+        place: u16,
+    ) -> Result<(), AllocError>
+        requires search { IsSearch search.now.grammar.now search.now.input.now search.now.plan.now search.now.view.now }
+        requires place { HasPlace search.now.input.now search.now.plan.now seat place }
+        requires none { (b : ℕ) → b < 5 → way_in next.old b ≡ None }
+        requires short { AreShort (way_in ways.now) }
+        requires known { AreKnown search.now.grammar.now search.now.input.now search.now.plan.now self.old }
+        ensures known { OnOk result (AreKnown search.now.grammar.now search.now.input.now search.now.plan.now self.new) }
+        ensures grows { OnOk result (Grows self.old self.new) }
+        ensures ways { OnOk result (AreWaysOver search.now.grammar.now search.now.input.now search.now.plan.now seat place (way_in ways.now) (way_in next.new)) }
+    {
+        'counts: for count in 0..5u8 {
+            self.join_row(search, next, ways, count, seat, place)?;
+        }
+        Ok(())
     }
 
     /// Offers the way out of which `count` chords are carried with the entries after it of the seat's row for that count.

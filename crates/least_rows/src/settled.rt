@@ -7,13 +7,12 @@ use crate::state::RowSpan;
 use std::alloc::AllocError;
 
 /// Adds the entries of the choices, in the order of their rule lists.
-pub fn settle(entries: &mut Vec<Entry>, best: &Choices) -> Result<RowSpan, AllocError>
-    ensures { IfOk result (AreSettled best.now entries.old.items entries.new.items) }
+pub fn settle(entries: &mut Vec<Entry>, best: &mut Choices) -> Result<RowSpan, AllocError>
+    ensures { IfOk result (AreSettled best.old entries.old.items entries.new.items) }
 {
     let first = u32::try_from(entries.len()).ok().ok_or(AllocError)?;
-    let mut left = *best;
     let mut count = 0u8;
-    'entries: while let Some(entry) = take_first(&mut left) {
+    'entries: while let Some(entry) = take_first(best) {
         entries.push(entry)?;
         count += 1;
     }

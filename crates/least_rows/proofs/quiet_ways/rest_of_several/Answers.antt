@@ -10,16 +10,9 @@ use Rattle.least_rows.proofs.quiet_ways.rest_of_several.Goals as goal
 pub counts-init : goal.counts-init
 counts-init c = λ place s at calm. below-none (ground_of c.args.search.now.grammar.now c.args.search.now.input.now) place (pair_of s) (way_in c.args.ways.now) (way_to_none None) (λ b lb. refl)
 
-pub returns-in-None-clause-ways : goal.returns-in-None-clause-ways
-returns-in-None-clause-ways c = λ place s at calm.
+pub returns : goal.returns
+returns c = λ place s at calm.
     let d = ground_of c.args.search.now.grammar.now c.args.search.now.input.now in
     let five : c.counts.count ≡ 5 = omega arith in
-    let whole : AreWaysBelow d place (pair_of s) (way_in c.args.ways.now) 5 (way_to_none c.counts.best) = subst (λ n. AreWaysBelow d place (pair_of s) (way_in c.args.ways.now) n (way_to_none c.counts.best)) five (c.counts.invariant place s at calm) in
-    below-all d place (pair_of s) (way_in c.args.ways.now) _ (subst (λ o. AreWaysBelow d place (pair_of s) (way_in c.args.ways.now) 5 (way_to_none o)) c.in-None.is whole)
-
-pub returns-in-Some-clause-ways : goal.returns-in-Some-clause-ways
-returns-in-Some-clause-ways c = λ place s at calm.
-    let d = ground_of c.args.search.now.grammar.now c.args.search.now.input.now in
-    let five : c.counts.count ≡ 5 = omega arith in
-    let whole : AreWaysBelow d place (pair_of s) (way_in c.args.ways.now) 5 (way_to_none c.counts.best) = subst (λ n. AreWaysBelow d place (pair_of s) (way_in c.args.ways.now) n (way_to_none c.counts.best)) five (c.counts.invariant place s at calm) in
-    below-all d place (pair_of s) (way_in c.args.ways.now) _ (subst (λ o. AreWaysBelow d place (pair_of s) (way_in c.args.ways.now) 5 (way_to_none o)) c.in-Some.is whole)
+    below-all d place (pair_of s) (way_in c.args.ways.now) _
+    (subst (λ n. AreWaysBelow d place (pair_of s) (way_in c.args.ways.now) n (way_to_none c.counts.best)) five (c.counts.invariant place s at calm))

@@ -10,16 +10,16 @@ entries-init c = ([], sym (append-nil c.args.entries.now.items), refl, split-sta
 pub entries-smaller : goal.entries-smaller
 entries-smaller c =
     let first = c.in-Some.ensures.0 in
-    let less = count-out c.entries.left c.in-Some.entry.to first.1 first.2 in
+    let less = count-out c.entries.best c.in-Some.entry.to first.1 first.2 in
     let same = ap count_some c.in-Some.ensures.2 in
-    let low : count_some c.take_first.new.left < count_some c.entries.left = omega (arith, less, same) in
+    let low : count_some c.take_first.new.left < count_some c.entries.best = omega (arith, less, same) in
     low
 
 pub entries-preserved : goal.entries-preserved
 entries-preserved c =
     let h = c.entries.invariant in
     let e = c.in-Some.entry in
-    let split = split-more c.args.best.now c.entries.left h.0 h.3 e c.in-Some.ensures.0 c.in-Some.ensures.1 in
+    let split = split-more c.args.best.now c.entries.best h.0 h.3 e c.in-Some.ensures.0 c.in-Some.ensures.1 in
     let long = length-append h.0 (e ∷ []) in
     let count : c.entries.count ≡ length h.0 = h.2 in (
       h.0 ++ e ∷ [],

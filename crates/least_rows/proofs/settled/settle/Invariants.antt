@@ -4,7 +4,7 @@ use Rattle.least_rows.specs.declared.entry.Entry.{Entry}
 use Rattle.least_rows.proofs.settled.settle.Given as goal
 
 abbrev pub invariant-entries : goal.invariant-entries
-invariant-entries l = (es : List Entry) × (l.entries.items ≡ l.initial.entries.items ++ es) × (l.count ≡ length es) × IsSplit l.best l.left es
+invariant-entries l = (es : List Entry) × (l.entries.items ≡ l.initial.entries.items ++ es) × (l.count ≡ length es) × IsSplit l.initial.best l.best es
 
 abbrev pub decreases-entries : goal.decreases-entries
-decreases-entries l = count_some l.left
+decreases-entries l = count_some l.best

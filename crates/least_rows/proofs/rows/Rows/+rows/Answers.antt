@@ -1,27 +1,30 @@
-use Rattle.std.proofs.Common.{◌⊎◌, inl, ◌≡◌, ◌<◌, ◌≤◌, ◌+◌, ◌-◌, take, ◌==◌, ◌∙◌, ℕ, Bool, true, false, zero, suc, List, [], ◌∷◌, length, refl, sym, ap, subst, arith}
-use Rattle.std.specs.Prelude.{IfOk, IfSome, Option, Some, None, if◌then◌else◌, slice_get, slice_index_or}
+use Rattle.std.proofs.Common.{rules, inl, inr, ◌⊎◌, ◌≡◌, ◌<◌, ◌≤◌, ◌+◌, ◌-◌, take, ◌==◌, ◌∙◌, ℕ, Bool, true, false, zero, suc, List, [], ◌∷◌, length, refl, sym, ap, subst, arith}
+use Rattle.std.specs.Prelude.{IfOk, IfSome, Option, Some, None, if◌then◌else◌, slice_get, slice_index_or, slice_set}
 use Rattle.std.proofs.lemmas.Bool.Decides.{nat_tests}
 use Rattle.std.proofs.lemmas.Option.{get_or_from_slice_get, slice_get_read, slice_get_within}
+use Rattle.std.proofs.lemmas.Grind.{get_or-set_at}
+use Rattle.std.proofs.lemmas.List.{get_or-set_other}
 use Rattle.row_laws.specs.Grounds.{ground_of}
+use Rattle.row_laws.specs.QuietTrees.{IsQuiet}
 use Rattle.row_laws.specs.LeafRules.{EndsInterval}
 use Rattle.row_laws.proofs.Grounds.{bounds, grounded}
-use Rattle.rhythm_base.specs.Bodies.{children, sizes}
-use Rattle.least_rows.proofs.Cutting.{cut-few, cut-long, cut-whole, cut-wide, part-below, part-inside, part-next, part-seat}
-use Rattle.least_rows.proofs.Fronts.{ways-first, ways-none, ways-short, ways-then}
 use Rattle.least_rows.specs.Places.{width_at, width_of}
-use Rattle.grammar_plan.specs.Plans.{IsCutOf, pair_of}
+use Rattle.grammar_plan.specs.Plans.{IsSeat, pair_of}
 use Rattle.grammar_plan.specs.declared.seat.Seat.{Seat}
-use Rattle.least_rows.specs.Choices.{AreBestChoices, RulesBefore, choice_in, nearer_choice, topped_choice}
-use Rattle.least_rows.specs.Fronts.{AreShort, AreWays, AreWaysBelow, AreWaysOn, IsFront, IsShort, front_at, nearer_way, rank_in, way_in, way_on, ways_of}
-use Rattle.least_rows.specs.Steps.{AreChoicesOf, AreWaysOver, IsLeafAt}
-use Rattle.least_rows.specs.declared.front.Front.TheVariants.{One}
+use Rattle.least_rows.specs.Choices.{AreBestChoices, RulesBefore, choice_in, is_over, limit_of}
+use Rattle.least_rows.specs.Fronts.{AreShort, AreWays, AreWaysBelow, IsLead, IsShort, nearer_way, one_way, quiet_rank, rank_in, way_in, way_on, ways_of}
+use Rattle.least_rows.specs.Steps.{AreChoicesOf, AreWaysOver, EndsThere, IsLeafAt, way_to_none}
+use Rattle.least_rows.specs.Tops.{IsTop, parts_of, ways_at}
+use Rattle.least_rows.specs.declared.lead.Lead.TheVariants.{Several}
 use Rattle.least_rows.specs.declared.way.Way.{Way}
-use Rattle.least_rows.proofs.Asked.{next-one, seat-of}
-use Rattle.least_rows.proofs.Choices.{all-rules, choices-cut, choices-rules, cut-new, no_cut-yet, one-cut-less, one-more-cut}
+use Rattle.least_rows.proofs.Asked.{next-one, quiet-row, seat-of}
+use Rattle.least_rows.proofs.CutsMore.{choices-offered, choices-passed, ends-so, one-offered, over-limit}
+use Rattle.least_rows.proofs.Fronts.{on-same, ways-same}
+use Rattle.least_rows.proofs.PlanSeats.{on_ok}
+use Rattle.least_rows.proofs.Choices.{all-rules, choices-rules, no_cut-yet}
 use Rattle.least_rows.proofs.Known.{grows-none, grows-then, keep-grows, keep-known, keep-row, leaf-of, row-of, seat-same, span-entries, span-ranked}
 use Rattle.least_rows.proofs.Steps.{below-all, below-more, below-none, below-skip, one-on}
-use Rattle.least_rows.specs.declared.choice.Choice.{Choice}
-use Rattle.least_rows.proofs.rows.Rows.+rows.Goals.{offer_cuts-in-None, offer_cuts-in-Some}
+use Rattle.least_rows.proofs.Tops.{few-parts, part-less, part-of, part-place, to-first, to-next, to-nowhere, to-short, to-whole}
 use Rattle.least_rows.proofs.rows.Rows.+rows.Goals as goal
 
 and_then : {A B : Type 0} → A → B → A × B
@@ -35,12 +38,26 @@ nones (suc (suc (suc zero))) h = refl
 nones (suc (suc (suc (suc zero)))) h = refl
 nones (suc (suc (suc (suc (suc b))))) h = absurd (omega arith)
 
-one-short : (w : Way) (m : ℕ) → m < 5 → AreShort (front_at (One w m)) → IsShort w
+one-short : (w : Way) (m : ℕ) → m < 5 → AreShort (one_way w m) → IsShort w
 one-short w m low h = h m w low (own (m == m) (grind (arith, nat_tests)))
   where
     own : (t : Bool) → t ≡ true → (if t then Some w else None) ≡ Some w
     own true e = refl
     own false e = absurd (cc)
+
+-- the first of two where the other is not there
+first-way : (o : Option Way) → nearer_way None o ≡ o
+first-way None = refl
+first-way (Some w) = refl
+
+-- ways by which none are carried out
+none-alone : (next : List (Option Way)) (o : Option Way) → length next ≡ 5 → ((b : ℕ) → b < 5 → way_in next b ≡ None) → (b : ℕ) → b < 5 → way_to_none o b ≡ way_in (slice_set next 0 o) b
+none-alone next None long none zero low = sym (get_or-set_at next 0 0 None None refl (omega (arith, long)))
+none-alone next (Some w) long none zero low = sym (get_or-set_at next 0 0 (Some w) None refl (omega (arith, long)))
+none-alone next None long none (suc b) low = sym (get_or-set_other next 0 (suc b) None None (λ e. absurd (omega (arith, e))) ∙ none (suc b) low)
+none-alone next (Some w) long none (suc b) low =
+    let apart : (0 == suc b) ≡ false = grind (arith, nat_tests) in
+    ap (λ t. if t then Some w else None) apart ∙ sym (get_or-set_other next 0 (suc b) (Some w) None (λ e. absurd (omega (arith, e))) ∙ none (suc b) low)
 
 -- ---- a row
 
@@ -118,7 +135,7 @@ pub over_rows-counts-init : goal.over_rows-counts-init
 over_rows-counts-init t c = record {
   known = c.requires.known;
   grows = grows-none c.args.self.now;
-  below = λ s at. below-none (ground_of c.args.search.now.grammar.now c.args.search.now.input.now) c.args.place (pair_of s) (way_in c.args.ways.now) (way_in (None ∷ None ∷ None ∷ None ∷ None ∷ [])) nones;
+  below = λ s at. below-none (ground_of c.args.search.now.grammar.now c.args.search.now.input.now) c.args.place (pair_of s) (way_in c.args.ways.now) (way_in c.args.next.now) c.requires.none;
 }
 
 pub over_rows-returns-clause-ways : goal.over_rows-returns-clause-ways
@@ -127,54 +144,399 @@ over_rows-returns-clause-ways t c = λ s at.
     let five : c.counts.count ≡ 5 = omega arith in
     below-all d c.args.place (pair_of s) (way_in c.args.ways.now) _ (subst (λ n. AreWaysBelow d c.args.place (pair_of s) (way_in c.args.ways.now) n (way_in c.counts.next)) five (c.counts.invariant.below s at))
 
--- ---- one way
-
-pub over_row-entries_of-requires : goal.over_row-entries_of-requires
-over_row-entries_of-requires t c = record { within = (c.in_ok-span-in-One.ensures.row c.requires.place.0 c.requires.place.1).within }
-
-pub over_row-fork-requires-clause-short : goal.over_row-fork-requires-clause-short
-over_row-fork-requires-clause-short t c = one-short c.in-One.way c.in-One.count (subst IsFront c.in-One.is c.requires.front) (subst (λ f. AreShort (front_at f)) c.in-One.is c.requires.short)
-
-pub over_row-fork-requires-clause-entries : goal.over_row-fork-requires-clause-entries
-over_row-fork-requires-clause-entries t c =
-    let s = c.requires.place.0 in
-    let at = c.requires.place.1 in
-    span-entries c.args.search.now.grammar.now c.args.search.now.input.now c.args.search.now.plan.now c.requires.search.ready c.requires.search.plan_of c.args.seat s at c.row.new.self.entries.items c.args.place c.in-One.count c.in_ok-span-in-One.span
-    (c.in_ok-span-in-One.ensures.row s at) c.entries_of.result.now c.entries_of.ensures
-
-pub over_row-over_rows-requires : goal.over_row-over_rows-requires
-over_row-over_rows-requires t c =
-    and_then (omega (arith, c.decreases)) (and_then c.requires.search (and_then c.requires.place (and_then (subst (λ f. AreShort (front_at f)) c.in-Several.is c.requires.short) c.requires.known)))
-
-pub over_row-returns-in_ok-span-in-One-clause-ways : goal.over_row-returns-in_ok-span-in-One-clause-ways
-over_row-returns-in_ok-span-in-One-clause-ways t c = λ s at.
+pub over-returns-in-Some-clause-ways : goal.over-returns-in-Some-clause-ways
+over-returns-in-Some-clause-ways t c = λ s at.
     let g = c.args.search.now.grammar.now in
     let k = c.args.search.now.input.now in
-    subst (λ f. AreWaysOn (ground_of g k) c.args.place (pair_of s) (front_at f) (ways_of c.fork.result)) (sym c.in-One.is)
-    (one-on (ground_of g k) c.args.place (pair_of s) c.in-One.way c.in-One.count (subst IsFront c.in-One.is c.requires.front) (rank_in c.entries_of.result.now 0)
-    (span-ranked g k c.args.search.now.plan.now c.requires.search.ready c.requires.search.plan_of c.args.seat s at c.row.new.self.entries.items c.args.place c.in-One.count c.in_ok-span-in-One.span
-    (c.in_ok-span-in-One.ensures.row s at) c.entries_of.result.now c.entries_of.ensures)
-    (ways_of c.fork.result) c.fork.ensures.ways)
+    let plan = c.args.search.now.plan.now in
+    let d = ground_of g k in
+    let one : c.index.result.now ≡ s = c.index.ensures ∙ get_or_from_slice_get plan.seats.items c.args.seat s c.index.result.now at in
+    let calm = subst (λ (s : Seat). IsQuiet c.in-Some.quiet d c.args.place s.width) one (c.in-Some.ensures g c.requires.search.ready.units) in
+    on-same d c.args.place (pair_of s) (way_in c.args.ways.now) (way_to_none c.rest_of_several.result) _ (none-alone c.args.next.now c.rest_of_several.result (search rules) c.requires.none) (c.rest_of_several.ensures c.args.place s at calm)
 
-pub over_row-returns-in-Several-clause-ways : goal.over_row-returns-in-Several-clause-ways
-over_row-returns-in-Several-clause-ways t c =
-    subst (λ f. IfOk c.over_rows.result (λ o. AreWaysOver c.args.search.now.grammar.now c.args.search.now.input.now c.args.search.now.plan.now c.args.seat c.args.place (front_at f) (ways_of o))) (sym c.in-Several.is) c.over_rows.ensures.ways
+-- ---- where one way leads
+
+pub lead-entries_of-requires : goal.lead-entries_of-requires
+lead-entries_of-requires t c = record { within = (c.in_ok-span-in-None.ensures.row c.requires.place.0 c.requires.place.1).within }
+
+pub lead-lead_by_row-requires-clause-entries : goal.lead-lead_by_row-requires-clause-entries
+lead-lead_by_row-requires-clause-entries t c =
+    let s = c.requires.place.0 in
+    let at = c.requires.place.1 in
+    span-entries c.args.search.now.grammar.now c.args.search.now.input.now c.args.search.now.plan.now c.requires.search.ready c.requires.search.plan_of c.args.seat s at c.row.new.self.entries.items c.args.place c.args.count c.in_ok-span-in-None.span
+    (c.in_ok-span-in-None.ensures.row s at) c.entries_of.result.now c.entries_of.ensures
+
+pub lead-returns-in-Some-clause-lead : goal.lead-returns-in-Some-clause-lead
+lead-returns-in-Some-clause-lead t c = c.lead_by_quiet.ensures.lead c.args.self.now.entries.items
+
+pub lead-returns-in-Some-clause-ways : goal.lead-returns-in-Some-clause-ways
+lead-returns-in-Some-clause-ways t c = λ s at.
+    let g = c.args.search.now.grammar.now in
+    let k = c.args.search.now.input.now in
+    let plan = c.args.search.now.plan.now in
+    let d = ground_of g k in
+    let one : c.index.result.now ≡ s = c.index.ensures ∙ get_or_from_slice_get plan.seats.items c.args.seat s c.index.result.now at in
+    let calm = subst (λ (s : Seat). IsQuiet c.in-Some.quiet d c.args.place s.width) one (c.in-Some.ensures g c.requires.search.ready.units) in
+    one-on d c.args.place (pair_of s) c.args.way c.args.count c.requires.count (quiet_rank c.quiet_tree-tree.result)
+    (quiet-row g k plan c.requires.search.ready c.requires.search.plan_of c.args.seat c.in-Some.quiet c.args.count c.quiet_tree-tree.result c.quiet_tree-tree.ensures c.args.place s at calm)
+    (ways_of c.args.self.now.entries.items c.args.way c.args.count c.lead_by_quiet.result) (c.lead_by_quiet.ensures.ways c.args.self.now.entries.items)
+
+pub lead-returns-in_ok-span-in-None-clause-lead : goal.lead-returns-in_ok-span-in-None-clause-lead
+lead-returns-in_ok-span-in-None-clause-lead t c =
+    c.lead_by_row.ensures.lead c.row.new.self.entries.items (c.in_ok-span-in-None.ensures.row c.requires.place.0 c.requires.place.1).within (sym c.entries_of.ensures)
+
+pub lead-returns-in_ok-span-in-None-clause-ways : goal.lead-returns-in_ok-span-in-None-clause-ways
+lead-returns-in_ok-span-in-None-clause-ways t c = λ s at.
+    let g = c.args.search.now.grammar.now in
+    let k = c.args.search.now.input.now in
+    one-on (ground_of g k) c.args.place (pair_of s) c.args.way c.args.count c.requires.count (rank_in c.entries_of.result.now 0)
+    (span-ranked g k c.args.search.now.plan.now c.requires.search.ready c.requires.search.plan_of c.args.seat s at c.row.new.self.entries.items c.args.place c.args.count c.in_ok-span-in-None.span
+    (c.in_ok-span-in-None.ensures.row s at) c.entries_of.result.now c.entries_of.ensures)
+    (ways_of c.row.new.self.entries.items c.args.way c.args.count c.lead_by_row.result) (c.lead_by_row.ensures.ways c.row.new.self.entries.items (sym c.entries_of.ensures))
+
+-- ---- one cut
+
+pub offer_cut-parts-init : goal.offer_cut-parts-init
+offer_cut-parts-init t c = record {
+  known = c.requires.known;
+  grows = grows-none c.args.self.now;
+  same = refl;
+  few = c.requires.top.few;
+  ways = λ t. to-first c.args.search.now.grammar.now c.args.search.now.input.now c.args.search.now.plan.now c.requires.search.ready c.requires.search.plan_of c.args.top c.args.cut.now t;
+}
+
+pub offer_cut-overflow_add-from : goal.offer_cut-overflow_add-from
+offer_cut-overflow_add-from t c =
+    let g = c.args.search.now.grammar.now in
+    let k = c.args.search.now.input.now in
+    let plan = c.args.search.now.plan.now in
+    let ready = c.requires.search.ready in
+    let of = c.requires.search.plan_of in
+    let top = c.args.top in
+    let cut = c.args.cut.now in
+    let ways = (c.parts.invariant.ways c.requires.top).1 in
+    let end = c.parts-test.true in
+    let short = one-short c.parts.way c.parts.count c.parts.invariant.few (to-short g k plan ready of top cut c.requires.top (c.parts.part - cut.first) (few-parts g k plan ready of top cut c.requires.top c.parts.part (omega (arith, end))) (one_way c.parts.way c.parts.count) ways) in
+    let weight = c.from.ensures in
+    let small = c.fits-cut.1.0.1 in
+    omega (arith, short.0, weight, small)
+
+pub offer_cut-returns-then-is_over-clause-best : goal.offer_cut-returns-then-is_over-clause-best
+offer_cut-returns-then-is_over-clause-best t c =
+    let g = c.args.search.now.grammar.now in
+    let k = c.args.search.now.input.now in
+    let plan = c.args.search.now.plan.now in
+    let ready = c.requires.search.ready in
+    let of = c.requires.search.plan_of in
+    let top = c.args.top in
+    let cut = c.args.cut.now in
+    let before : AreChoicesOf g k plan top.seat top.place top.from (λ s. RulesBefore g plan s top.number) c.parts.best = subst (AreChoicesOf g k plan top.seat top.place top.from (λ s. RulesBefore g plan s top.number)) (sym c.parts.invariant.same) c.requires.best in
+    let same = c.parts.invariant.same in
+    let tested : is_over (c.from.result + c.parts.way.cost) (limit_of c.args.best.now c.args.ends) ≡ true = ap (is_over (c.from.result + c.parts.way.cost)) (sym c.limit_of-limit.ensures) ∙ sym c.is_over.ensures ∙ c.if-is_over.true in
+    let over = over-limit c.args.best.now c.args.ends (c.from.result + c.parts.way.cost) tested in
+    let dear : over.1.cost < cut.weight + c.parts.way.cost = subst (λ n. over.1.cost < n + c.parts.way.cost) c.from.ensures over.3 in
+    choices-passed g k plan ready of top cut c.requires.top c.parts.best before (c.requires.ends over.0) over.1 (ap (λ l. choice_in l 0) same ∙ over.2) (c.parts.part - cut.first) c.parts.way c.parts.count (c.parts.invariant.ways c.requires.top).1 dear
+
+pub offer_cut-lead-requires : goal.offer_cut-lead-requires
+offer_cut-lead-requires t c =
+    let g = c.args.search.now.grammar.now in
+    let k = c.args.search.now.input.now in
+    let plan = c.args.search.now.plan.now in
+    let ready = c.requires.search.ready in
+    let of = c.requires.search.plan_of in
+    let top = c.args.top in
+    let cut = c.args.cut.now in
+    let w = c.parts.invariant.ways c.requires.top in
+    let x = part-of g k plan ready of top cut c.requires.top c.parts.part c.index-seat.result.now c.parts.at c.parts.auto.part c.parts-test.true c.index-seat.ensures w.0 in
+    let ways = (c.parts.invariant.ways c.requires.top).1 in
+    let end = c.parts-test.true in
+    let short = one-short c.parts.way c.parts.count c.parts.invariant.few (to-short g k plan ready of top cut c.requires.top (c.parts.part - cut.first) (few-parts g k plan ready of top cut c.requires.top c.parts.part (omega (arith, end))) (one_way c.parts.way c.parts.count) ways) in
+    let less = part-less g k plan ready of top cut c.requires.top c.parts.part c.index-seat.result.now c.parts.at x in
+    and_then (omega (arith, c.decreases, less)) (and_then c.requires.search (and_then (part-place g k plan ready of top cut c.requires.top c.parts.part c.index-seat.result.now c.parts.at x) (and_then short (and_then c.parts.invariant.few c.parts.invariant.known))))
+
+pub offer_cut-index-requires : goal.offer_cut-index-requires
+offer_cut-index-requires t c =
+    let g = c.args.search.now.grammar.now in
+    let k = c.args.search.now.input.now in
+    let plan = c.args.search.now.plan.now in
+    let ready = c.requires.search.ready in
+    let of = c.requires.search.plan_of in
+    let top = c.args.top in
+    let cut = c.args.cut.now in
+    let w = c.parts.invariant.ways c.requires.top in
+    let x = part-of g k plan ready of top cut c.requires.top c.parts.part c.index-seat.result.now c.parts.at c.parts.auto.part c.parts-test.true c.index-seat.ensures w.0 in
+    let low = slice_get_within plan.seats.items c.index-seat.result.now x.seat x.there in
+    omega (arith, low)
+
+pub offer_cut-overflow_add-at : goal.offer_cut-overflow_add-at
+offer_cut-overflow_add-at t c =
+    let g = c.args.search.now.grammar.now in
+    let k = c.args.search.now.input.now in
+    let plan = c.args.search.now.plan.now in
+    let ready = c.requires.search.ready in
+    let of = c.requires.search.plan_of in
+    let top = c.args.top in
+    let cut = c.args.cut.now in
+    let w = c.parts.invariant.ways c.requires.top in
+    let x = part-of g k plan ready of top cut c.requires.top c.parts.part c.index-seat.result.now c.parts.at c.parts.auto.part c.parts-test.true c.index-seat.ensures w.0 in
+    let same : c.index.result.now ≡ x.seat = c.index.ensures ∙ get_or_from_slice_get plan.seats.items c.index-seat.result.now x.seat c.index.result.now x.there in
+    let width = ap (λ (s : Seat). s.width) same in
+    let within = x.within in
+    let most = ready.readable.ranges.few_units in
+    let units = ready.units in
+    omega (arith, width, within, most, units)
+
+pub offer_cut-returns-in-Nowhere-clause-grows : goal.offer_cut-returns-in-Nowhere-clause-grows
+offer_cut-returns-in-Nowhere-clause-grows t c = grows-then c.args.self.now c.parts.self c.lead.new.self c.parts.invariant.grows c.in_ok-lead.ensures.grows
+
+pub offer_cut-returns-in-Nowhere-clause-best : goal.offer_cut-returns-in-Nowhere-clause-best
+offer_cut-returns-in-Nowhere-clause-best t c =
+    let g = c.args.search.now.grammar.now in
+    let k = c.args.search.now.input.now in
+    let plan = c.args.search.now.plan.now in
+    let ready = c.requires.search.ready in
+    let of = c.requires.search.plan_of in
+    let top = c.args.top in
+    let cut = c.args.cut.now in
+    let before : AreChoicesOf g k plan top.seat top.place top.from (λ s. RulesBefore g plan s top.number) c.parts.best = subst (AreChoicesOf g k plan top.seat top.place top.from (λ s. RulesBefore g plan s top.number)) (sym c.parts.invariant.same) c.requires.best in
+    let end = c.parts-test.true in
+    choices-offered g k plan ready of top cut c.requires.top c.parts.best before c.parts.best (λ t.
+        let w = c.parts.invariant.ways t in
+        let x = part-of g k plan ready of top cut t c.parts.part c.index-seat.result.now c.parts.at c.parts.auto.part c.parts-test.true c.index-seat.ensures w.0 in
+        let same : c.index.result.now ≡ x.seat = c.index.ensures ∙ get_or_from_slice_get plan.seats.items c.index-seat.result.now x.seat c.index.result.now x.there in
+        let next = to-next g k plan ready of top cut t c.parts.part c.index-seat.result.now c.parts.at c.index.result.now.width c.parts.auto.part x w.0 (ap (λ (s : Seat). s.width) same) (one_way c.parts.way c.parts.count) (λ b. None) w.1 (subst (λ l. AreWaysOver g k plan c.index-seat.result.now c.parts.at (one_way c.parts.way c.parts.count) (ways_of c.lead.new.self.entries.items c.parts.way c.parts.count l)) c.in-Nowhere.is c.in_ok-lead.ensures.ways) in
+        ((λ b. None), to-nowhere g k plan ready of top cut t (c.parts.part + 1) (omega (arith, end)) next.1, λ b lb. refl))
+
+pub offer_cut-offer_fork-requires : goal.offer_cut-offer_fork-requires
+offer_cut-offer_fork-requires t c =
+    let g = c.args.search.now.grammar.now in
+    let k = c.args.search.now.input.now in
+    let plan = c.args.search.now.plan.now in
+    let ready = c.requires.search.ready in
+    let of = c.requires.search.plan_of in
+    let top = c.args.top in
+    let cut = c.args.cut.now in
+    let ways = (c.parts.invariant.ways c.requires.top).1 in
+    let end = c.parts-test.true in
+    let short = one-short c.parts.way c.parts.count c.parts.invariant.few (to-short g k plan ready of top cut c.requires.top (c.parts.part - cut.first) (few-parts g k plan ready of top cut c.requires.top c.parts.part (omega (arith, end))) (one_way c.parts.way c.parts.count) ways) in
+    let lead = subst (IsLead c.lead.new.self.entries.items) c.in-Several.is c.in_ok-lead.ensures.lead in
+    let first = c.parts.auto.part in
+    and_then (omega (arith, c.decreases)) (and_then c.requires.search (and_then c.requires.top (and_then (omega (arith, first), omega (arith, end)) (and_then (short, c.parts.invariant.few, lead.0, lead.1) (and_then (λ t.
+        let w = c.parts.invariant.ways t in
+        let x = part-of g k plan ready of top cut t c.parts.part c.index-seat.result.now c.parts.at c.parts.auto.part c.parts-test.true c.index-seat.ensures w.0 in
+        let same : c.index.result.now ≡ x.seat = c.index.ensures ∙ get_or_from_slice_get plan.seats.items c.index-seat.result.now x.seat c.index.result.now x.there in
+        let next = to-next g k plan ready of top cut t c.parts.part c.index-seat.result.now c.parts.at c.index.result.now.width c.parts.auto.part x w.0 (ap (λ (s : Seat). s.width) same) (one_way c.parts.way c.parts.count) (ways_of c.lead.new.self.entries.items c.parts.way c.parts.count (Several c.in-Several.span)) w.1 (subst (λ l. AreWaysOver g k plan c.index-seat.result.now c.parts.at (one_way c.parts.way c.parts.count) (ways_of c.lead.new.self.entries.items c.parts.way c.parts.count l)) c.in-Several.is c.in_ok-lead.ensures.ways) in
+        next) c.in_ok-lead.ensures.known)))))
+
+pub offer_cut-returns-in-Several-clause-grows : goal.offer_cut-returns-in-Several-clause-grows
+offer_cut-returns-in-Several-clause-grows t c =
+    on_ok c.offer_fork.result (λ more. grows-then c.args.self.now c.lead.new.self c.offer_fork.new.self (grows-then c.args.self.now c.parts.self c.lead.new.self c.parts.invariant.grows c.in_ok-lead.ensures.grows) more) c.offer_fork.ensures.grows
+
+pub offer_cut-returns-in-Several-clause-best : goal.offer_cut-returns-in-Several-clause-best
+offer_cut-returns-in-Several-clause-best t c =
+    let g = c.args.search.now.grammar.now in
+    let k = c.args.search.now.input.now in
+    let plan = c.args.search.now.plan.now in
+    let ready = c.requires.search.ready in
+    let of = c.requires.search.plan_of in
+    let top = c.args.top in
+    let cut = c.args.cut.now in
+    let before : AreChoicesOf g k plan top.seat top.place top.from (λ s. RulesBefore g plan s top.number) c.parts.best = subst (AreChoicesOf g k plan top.seat top.place top.from (λ s. RulesBefore g plan s top.number)) (sym c.parts.invariant.same) c.requires.best in
+    on_ok c.offer_fork.result (λ offered. choices-offered g k plan ready of top cut c.requires.top c.parts.best before c.offer_fork.new.best offered) c.offer_fork.ensures.best
+
+pub offer_cut-parts-preserved : goal.offer_cut-parts-preserved
+offer_cut-parts-preserved t c =
+    let g = c.args.search.now.grammar.now in
+    let k = c.args.search.now.input.now in
+    let plan = c.args.search.now.plan.now in
+    let ready = c.requires.search.ready in
+    let of = c.requires.search.plan_of in
+    let top = c.args.top in
+    let cut = c.args.cut.now in
+    record {
+      known = c.in_ok-lead.ensures.known;
+      grows = grows-then c.args.self.now c.parts.self c.lead.new.self c.parts.invariant.grows c.in_ok-lead.ensures.grows;
+      same = c.parts.invariant.same;
+      few = subst (IsLead c.lead.new.self.entries.items) c.in-One.is c.in_ok-lead.ensures.lead;
+      ways = λ t.
+          let w = c.parts.invariant.ways t in
+          let x = part-of g k plan ready of top cut t c.parts.part c.index-seat.result.now c.parts.at c.parts.auto.part c.parts-test.true c.index-seat.ensures w.0 in
+          let same : c.index.result.now ≡ x.seat = c.index.ensures ∙ get_or_from_slice_get plan.seats.items c.index-seat.result.now x.seat c.index.result.now x.there in
+          let next = to-next g k plan ready of top cut t c.parts.part c.index-seat.result.now c.parts.at c.index.result.now.width c.parts.auto.part x w.0 (ap (λ (s : Seat). s.width) same) (one_way c.parts.way c.parts.count) (one_way c.in-One.next c.in-One.to) w.1 (subst (λ l. AreWaysOver g k plan c.index-seat.result.now c.parts.at (one_way c.parts.way c.parts.count) (ways_of c.lead.new.self.entries.items c.parts.way c.parts.count l)) c.in-One.is c.in_ok-lead.ensures.ways) in
+          next;
+    }
+
+pub offer_cut-offer_way-requires : goal.offer_cut-offer_way-requires
+offer_cut-offer_way-requires t c =
+    let g = c.args.search.now.grammar.now in
+    let k = c.args.search.now.input.now in
+    let plan = c.args.search.now.plan.now in
+    let ready = c.requires.search.ready in
+    let of = c.requires.search.plan_of in
+    let top = c.args.top in
+    let cut = c.args.cut.now in
+    let ways = (c.parts.invariant.ways c.requires.top).1 in
+    let upto = c.parts.auto.part-end in
+    let order = c.requires.top.is.order in
+    let end : c.parts.part ≤ cut.end = upto order in
+    record { short = one-short c.parts.way c.parts.count c.parts.invariant.few (to-short g k plan ready of top cut c.requires.top (c.parts.part - cut.first) (few-parts g k plan ready of top cut c.requires.top c.parts.part end) (one_way c.parts.way c.parts.count) ways) }
+
+pub offer_cut-returns-clause-best : goal.offer_cut-returns-clause-best
+offer_cut-returns-clause-best t c =
+    let g = c.args.search.now.grammar.now in
+    let k = c.args.search.now.input.now in
+    let plan = c.args.search.now.plan.now in
+    let ready = c.requires.search.ready in
+    let of = c.requires.search.plan_of in
+    let top = c.args.top in
+    let cut = c.args.cut.now in
+    let before : AreChoicesOf g k plan top.seat top.place top.from (λ s. RulesBefore g plan s top.number) c.parts.best = subst (AreChoicesOf g k plan top.seat top.place top.from (λ s. RulesBefore g plan s top.number)) (sym c.parts.invariant.same) c.requires.best in
+    let ways = (c.parts.invariant.ways c.requires.top).1 in
+    let upto = c.parts.auto.part-end in
+    let order = c.requires.top.is.order in
+    let end : c.parts.part ≤ cut.end = upto order in
+    let past = c.parts-test.false in
+    let last : c.parts.part ≡ cut.end = omega (arith, past, end) in
+    let long : length c.parts.best ≡ 5 = search rules in
+    let few = c.parts.invariant.few in
+    choices-offered g k plan ready of top cut c.requires.top c.parts.best before _ (λ t.
+        (one_way c.parts.way c.parts.count, to-whole g k plan ready of top cut t c.parts.part last (one_way c.parts.way c.parts.count) (c.parts.invariant.ways t).1,
+            λ b lb. one-offered c.parts.best c.parts.count (omega (arith, few, long)) _ cut top.number c.parts.way c.offer_way.ensures b))
+
+-- ---- a fork
+
+pub offer_fork-parts-init : goal.offer_fork-parts-init
+offer_fork-parts-init t c =
+    let g = c.args.search.now.grammar.now in
+    let k = c.args.search.now.input.now in
+    let plan = c.args.search.now.plan.now in
+    let ready = c.requires.search.ready in
+    let of = c.requires.search.plan_of in
+    let top = c.args.top in
+    let cut = c.args.cut.now in
+    record {
+      known = c.requires.known;
+      grows = grows-none c.args.self.now;
+      ways = λ t.
+          let w = c.requires.ways t in
+          (w.0, ways-same (ground_of g k) top.place (parts_of g k plan top cut t) top.from (c.args.fork.part - cut.first) (ways_at c.args.self.now.entries.items c.args.fork) (way_in c.join.new.next)
+              (λ b lb. sym (c.join.ensures b lb ∙ ap (λ o. nearer_way o (way_on (Some c.args.fork.way) c.args.fork.count (rank_in c.entries_of.result.now 0 b))) (nones b lb)
+              ∙ first-way (way_on (Some c.args.fork.way) c.args.fork.count (rank_in c.entries_of.result.now 0 b)) ∙ ap (λ l. way_on (Some c.args.fork.way) c.args.fork.count (rank_in l 0 b)) c.entries_of.ensures)) w.1);
+    }
+
+pub offer_fork-over-requires : goal.offer_fork-over-requires
+offer_fork-over-requires t c =
+    let g = c.args.search.now.grammar.now in
+    let k = c.args.search.now.input.now in
+    let plan = c.args.search.now.plan.now in
+    let ready = c.requires.search.ready in
+    let of = c.requires.search.plan_of in
+    let top = c.args.top in
+    let cut = c.args.cut.now in
+    let w = c.parts.invariant.ways c.requires.top in
+    let x = part-of g k plan ready of top cut c.requires.top c.parts.part c.index-seat.result.now c.parts.at (omega (arith, c.parts.auto.part, c.requires.part.0)) c.parts-test.true c.index-seat.ensures w.0 in
+    let end = c.parts-test.true in
+    let short = to-short g k plan ready of top cut c.requires.top (c.parts.part - cut.first) (few-parts g k plan ready of top cut c.requires.top c.parts.part (omega (arith, end))) (way_in c.parts.ways) w.1 in
+    let less = part-less g k plan ready of top cut c.requires.top c.parts.part c.index-seat.result.now c.parts.at x in
+    and_then (omega (arith, c.decreases, less)) (and_then c.requires.search (and_then (part-place g k plan ready of top cut c.requires.top c.parts.part c.index-seat.result.now c.parts.at x) (and_then nones (and_then short c.parts.invariant.known))))
+
+pub offer_fork-index-requires : goal.offer_fork-index-requires
+offer_fork-index-requires t c =
+    let g = c.args.search.now.grammar.now in
+    let k = c.args.search.now.input.now in
+    let plan = c.args.search.now.plan.now in
+    let ready = c.requires.search.ready in
+    let of = c.requires.search.plan_of in
+    let top = c.args.top in
+    let cut = c.args.cut.now in
+    let w = c.parts.invariant.ways c.requires.top in
+    let x = part-of g k plan ready of top cut c.requires.top c.parts.part c.index-seat.result.now c.parts.at (omega (arith, c.parts.auto.part, c.requires.part.0)) c.parts-test.true c.index-seat.ensures w.0 in
+    let low = slice_get_within plan.seats.items c.index-seat.result.now x.seat x.there in
+    omega (arith, low)
+
+pub offer_fork-overflow_add-at : goal.offer_fork-overflow_add-at
+offer_fork-overflow_add-at t c =
+    let g = c.args.search.now.grammar.now in
+    let k = c.args.search.now.input.now in
+    let plan = c.args.search.now.plan.now in
+    let ready = c.requires.search.ready in
+    let of = c.requires.search.plan_of in
+    let top = c.args.top in
+    let cut = c.args.cut.now in
+    let w = c.parts.invariant.ways c.requires.top in
+    let x = part-of g k plan ready of top cut c.requires.top c.parts.part c.index-seat.result.now c.parts.at (omega (arith, c.parts.auto.part, c.requires.part.0)) c.parts-test.true c.index-seat.ensures w.0 in
+    let same : c.index.result.now ≡ x.seat = c.index.ensures ∙ get_or_from_slice_get plan.seats.items c.index-seat.result.now x.seat c.index.result.now x.there in
+    let width = ap (λ (s : Seat). s.width) same in
+    let within = x.within in
+    let most = ready.readable.ranges.few_units in
+    let units = ready.units in
+    omega (arith, width, within, most, units)
+
+pub offer_fork-parts-preserved : goal.offer_fork-parts-preserved
+offer_fork-parts-preserved t c =
+    let g = c.args.search.now.grammar.now in
+    let k = c.args.search.now.input.now in
+    let plan = c.args.search.now.plan.now in
+    let ready = c.requires.search.ready in
+    let of = c.requires.search.plan_of in
+    let top = c.args.top in
+    let cut = c.args.cut.now in
+    record {
+      known = c.in_ok-over.ensures.known;
+      grows = grows-then c.args.self.now c.parts.self c.over.new.self c.parts.invariant.grows c.in_ok-over.ensures.grows;
+      ways = λ t.
+          let w = c.parts.invariant.ways t in
+          let x = part-of g k plan ready of top cut t c.parts.part c.index-seat.result.now c.parts.at (omega (arith, c.parts.auto.part, c.requires.part.0)) c.parts-test.true c.index-seat.ensures w.0 in
+          let same : c.index.result.now ≡ x.seat = c.index.ensures ∙ get_or_from_slice_get plan.seats.items c.index-seat.result.now x.seat c.index.result.now x.there in
+          let next = to-next g k plan ready of top cut t c.parts.part c.index-seat.result.now c.parts.at c.index.result.now.width (omega (arith, c.parts.auto.part, c.requires.part.0)) x w.0 (ap (λ (s : Seat). s.width) same) (way_in c.parts.ways) (way_in c.over.new.next) w.1 c.in_ok-over.ensures.ways in
+          next;
+    }
+
+pub offer_fork-offer_ways-requires : goal.offer_fork-offer_ways-requires
+offer_fork-offer_ways-requires t c =
+    let g = c.args.search.now.grammar.now in
+    let k = c.args.search.now.input.now in
+    let plan = c.args.search.now.plan.now in
+    let ready = c.requires.search.ready in
+    let of = c.requires.search.plan_of in
+    let top = c.args.top in
+    let cut = c.args.cut.now in
+    let ways = (c.parts.invariant.ways c.requires.top).1 in
+    let upto = c.parts.auto.part-end in
+    let end : c.parts.part ≤ cut.end = upto c.requires.part.1 in
+    record { short = to-short g k plan ready of top cut c.requires.top (c.parts.part - cut.first) (few-parts g k plan ready of top cut c.requires.top c.parts.part end) (way_in c.parts.ways) ways }
+
+pub offer_fork-returns-clause-best : goal.offer_fork-returns-clause-best
+offer_fork-returns-clause-best t c = λ t.
+    let g = c.args.search.now.grammar.now in
+    let k = c.args.search.now.input.now in
+    let plan = c.args.search.now.plan.now in
+    let upto = c.parts.auto.part-end in
+    let end : c.parts.part ≤ c.args.cut.now.end = upto c.requires.part.1 in
+    let past = c.parts-test.false in
+    (way_in c.parts.ways, to-whole g k plan c.requires.search.ready c.requires.search.plan_of c.args.top c.args.cut.now t c.parts.part (omega (arith, past, end)) (way_in c.parts.ways) (c.parts.invariant.ways t).1, c.offer_ways.ensures)
+
+-- ---- the cuts of a seat
 
 pub find_row-offer_cuts-requires : goal.find_row-offer_cuts-requires
 find_row-offer_cuts-requires t c =
     let g = c.args.search.now.grammar.now in
     let k = c.args.search.now.input.now in
     let plan = c.args.search.now.plan.now in
-    let best : AreChoicesOf g k plan c.args.seat c.args.place c.args.from (λ s. EndsInterval g) c.leaf_choices-best.result = λ s at.
+    let ready = c.requires.search.ready in
+    let of = c.requires.search.plan_of in
+    let seat : (s : Seat) → slice_get plan.seats.items c.args.seat ≡ Some s → IsSeat g plan s = λ s at. seat-of g plan of c.args.seat s at in
+    let leaf = leaf-of g k plan c.args.self.now c.args.number c.args.seat c.args.place c.index.result.now c.requires.known c.requires.state c.index.ensures in
+    let best : AreChoicesOf g k plan c.args.seat c.args.place c.args.from (λ s. EndsInterval g) c.offer_leaf.new.best = λ s at.
     let one : c.index-2.result.now ≡ s = c.index-2.ensures ∙ get_or_from_slice_get plan.seats.items c.args.seat s c.index-2.result.now at in
-    let seat = seat-of g plan c.requires.search.plan_of c.args.seat s at in
     let own = seat-same plan c.args.seat c.args.seat c.requires.place.0 s refl c.requires.place.1 at in
     let within : c.args.place + s.width ≤ k.resolution = subst (λ (s : Seat). c.args.place + s.width ≤ k.resolution) own c.requires.place.2 in
-    let leaf = leaf-of g k plan c.args.self.now c.args.number c.args.seat c.args.place c.index.result.now c.requires.known c.requires.state c.index.ensures s at in
     let Q : Seat → Type 0 = λ s. 1 ≤ s.width → c.args.place + s.width ≤ k.resolution → IsLeafAt g k c.args.place s.width c.index.result.now.leaf
-    → AreBestChoices (ground_of g k) plan c.args.place (pair_of s) c.args.from (EndsInterval g) c.leaf_choices-best.result in
-    subst Q one (c.leaf_choices-best.ensures c.args.place) seat.wide within leaf in
-    and_then (omega (arith, c.decreases)) (and_then c.requires.search (and_then c.requires.place (and_then c.requires.from (and_then c.requires.known best))))
+    → AreBestChoices (ground_of g k) plan c.args.place (pair_of s) c.args.from (EndsInterval g) c.offer_leaf.new.best in
+    subst Q one (c.offer_leaf.ensures c.args.place) (seat s at).wide within (leaf s at) in
+    let ends : c.ends_there-ends.result ≡ true → EndsThere g k plan c.args.seat c.args.place = λ yes s a b key at f.
+    ends-so g k ready c.args.place s.width s.symbol (seat s at).wide c.index.result.now.leaf (leaf s at) (sym c.ends_there-ends.ensures ∙ yes) a b key f in
+    and_then (omega (arith, c.decreases)) (and_then c.requires.search (and_then c.requires.place (and_then c.requires.from (and_then ends (and_then c.requires.known best)))))
 
 pub offer_cuts-cuts-init : goal.offer_cuts-cuts-init
 offer_cuts-cuts-init t c = record {
@@ -198,82 +560,34 @@ offer_cuts-index-cut-requires t c =
     let inside = seat.inside in
     omega (arith, end, inside)
 
-pub offer_cuts-over_parts-requires : goal.offer_cuts-over_parts-requires
-offer_cuts-over_parts-requires t c =
+pub offer_cuts-offer_cut-requires : goal.offer_cuts-offer_cut-requires
+offer_cuts-offer_cut-requires t c =
     let g = c.args.search.now.grammar.now in
     let k = c.args.search.now.input.now in
     let plan = c.args.search.now.plan.now in
+    let ready = c.requires.search.ready in
+    let of = c.requires.search.plan_of in
     let z = c.requires.place.0 in
     let firsts = ap (λ (s : Seat). s.first) (c.index.ensures ∙ get_or_from_slice_get plan.seats.items c.args.seat z c.index.result.now c.requires.place.1) in
-    let ends = ap (λ (s : Seat). s.end) (c.index-2.ensures ∙ get_or_from_slice_get plan.seats.items c.args.seat z c.index-2.result.now c.requires.place.1) in
-    let zone = seat-of g plan c.requires.search.plan_of c.args.seat z c.requires.place.1 in
+    let lasts = ap (λ (s : Seat). s.end) (c.index-2.ensures ∙ get_or_from_slice_get plan.seats.items c.args.seat z c.index-2.result.now c.requires.place.1) in
+    let zone = seat-of g plan of c.args.seat z c.requires.place.1 in
     let inside = zone.inside in
-    let low : c.cuts.number < length plan.cuts.items = omega (arith, ends, inside) in
+    let low : c.cuts.number < length plan.cuts.items = omega (arith, lasts, inside) in
     let here : slice_get plan.cuts.items c.cuts.number ≡ Some c.index-cut.result.now = slice_get_read plan.cuts.items (length plan.cuts.items) c.cuts.number c.index-cut.result.now refl low c.index-cut.ensures in
     let first : z.first ≤ c.cuts.number = omega (arith, firsts) in
-    let end : c.cuts.number < z.end = omega (arith, ends) in
-    let is : (s : Seat) → slice_get plan.seats.items c.args.seat ≡ Some s → IsCutOf g plan (pair_of s) c.index-cut.result.now = λ s at.
-    subst (λ (s : Seat). IsCutOf g plan (pair_of s) c.index-cut.result.now) (seat-same plan c.args.seat c.args.seat z s refl c.requires.place.1 at) (zone.cuts c.cuts.number c.index-cut.result.now first end here) in
-    and_then (omega (arith, c.decreases)) (and_then c.requires.search (and_then c.requires.place (and_then is (and_then c.requires.from c.cuts.invariant.known))))
-
-pub offer_cuts-offer_front-requires-clause-short : goal.offer_cuts-offer_front-requires-clause-short
-offer_cuts-offer_front-requires-clause-short t c =
-    let g = c.args.search.now.grammar.now in
-    let k = c.args.search.now.input.now in
-    let plan = c.args.search.now.plan.now in
-    let z = c.requires.place.0 in
-    let firsts = ap (λ (s : Seat). s.first) (c.index.ensures ∙ get_or_from_slice_get plan.seats.items c.args.seat z c.index.result.now c.requires.place.1) in
-    let ends = ap (λ (s : Seat). s.end) (c.index-2.ensures ∙ get_or_from_slice_get plan.seats.items c.args.seat z c.index-2.result.now c.requires.place.1) in
-    let zone = seat-of g plan c.requires.search.plan_of c.args.seat z c.requires.place.1 in
-    let inside = zone.inside in
-    let low : c.cuts.number < length plan.cuts.items = omega (arith, ends, inside) in
-    let here : slice_get plan.cuts.items c.cuts.number ≡ Some c.index-cut.result.now = slice_get_read plan.cuts.items (length plan.cuts.items) c.cuts.number c.index-cut.result.now refl low c.index-cut.ensures in
-    let first : z.first ≤ c.cuts.number = omega (arith, firsts) in
-    let end : c.cuts.number < z.end = omega (arith, ends) in
-    let is : (s : Seat) → slice_get plan.seats.items c.args.seat ≡ Some s → IsCutOf g plan (pair_of s) c.index-cut.result.now = λ s at.
-    subst (λ (s : Seat). IsCutOf g plan (pair_of s) c.index-cut.result.now) (seat-same plan c.args.seat c.args.seat z s refl c.requires.place.1 at) (zone.cuts c.cuts.number c.index-cut.result.now first end here) in
-    let cut = is z c.requires.place.1 in
-    let ways = c.in_ok-front.ensures.ways z c.requires.place.1 cut in
-    let whole = cut-whole g k plan c.requires.search.ready z zone c.index-cut.result.now cut in
-    let wide = zone.within in
-    ways-short (ground_of g k) (grounded g k c.requires.search.ready) (bounds g k c.requires.search.ready) c.args.place c.args.from (children cut.rule.body z.width) (cut-wide g k plan c.requires.search.ready z zone c.index-cut.result.now cut) (omega (arith, whole, wide))
-    (length (children cut.rule.body z.width)) (cut-few g k plan c.requires.search.ready z zone c.index-cut.result.now cut) (front_at c.in-Some.front)
-    (subst (λ o. AreWays (ground_of g k) c.args.place (children cut.rule.body z.width) c.args.from (length (children cut.rule.body z.width)) (ways_of o)) c.in-Some.is ways)
-
-pub offer_cuts-cuts-preserved : goal.offer_cuts-cuts-preserved
-offer_cuts-cuts-preserved t c = record {
-  known = c.in_ok-front.ensures.known;
-  grows = grows-then c.args.self.now c.cuts.self c.over_parts.new.self c.cuts.invariant.grows c.in_ok-front.ensures.grows;
-  best = λ s at.
-      let g = c.args.search.now.grammar.now in
-      let k = c.args.search.now.input.now in
-      let d = ground_of g k in
-      let plan = c.args.search.now.plan.now in
-      let firsts = ap (λ (s : Seat). s.first) (c.index.ensures ∙ get_or_from_slice_get plan.seats.items c.args.seat s c.index.result.now at) in
-      let ends = ap (λ (s : Seat). s.end) (c.index-2.ensures ∙ get_or_from_slice_get plan.seats.items c.args.seat s c.index-2.result.now at) in
-      let zone = seat-of g plan c.requires.search.plan_of c.args.seat s at in
-      let inside = zone.inside in
-      let low : c.cuts.number < length plan.cuts.items = omega (arith, ends, inside) in
-      let cut = c.index-cut.result.now in
-      let here : slice_get plan.cuts.items c.cuts.number ≡ Some cut = slice_get_read plan.cuts.items (length plan.cuts.items) c.cuts.number cut refl low c.index-cut.ensures in
-      let first : s.first ≤ c.cuts.number = omega (arith, firsts) in
-      let end : c.cuts.number < s.end = omega (arith, ends) in
-      let is = zone.cuts c.cuts.number cut first end here in
-      let few = cut-few g k plan c.requires.search.ready s zone cut is in
-      let ways = c.in_ok-front.ensures.ways s at is in
-      let P : List (Option Choice) → Type 0 = AreBestChoices d plan c.args.place (pair_of s) c.args.from (RulesBefore g plan s (c.cuts.number + 1)) in
-      let more : (next : List (Option Choice)) → ((b : ℕ) → b < 5 → choice_in next b ≡ nearer_choice (choice_in c.cuts.best b) (topped_choice cut c.cuts.number (ways_of c.in_ok-front.front b))) → P next = λ next e.
-      choices-rules d plan c.args.place (pair_of s) c.args.from (λ r. RulesBefore g plan s c.cuts.number r ⊎ (r ≡ cut.rule)) (RulesBefore g plan s (c.cuts.number + 1)) next
-      (one-more-cut g plan s c.cuts.number cut first here) (one-cut-less g plan s c.cuts.number cut here)
-      (choices-cut d plan c.args.place (pair_of s) c.args.from (RulesBefore g plan s c.cuts.number) c.cuts.best (c.cuts.invariant.best s at) c.cuts.number cut here is
-      (cut-new g plan s zone c.cuts.number cut is.rule first end here is.is) (ways_of c.in_ok-front.front) few ways next e) in
-      elim c.match-front.branch [
-        | offer_cuts-in-None w ↦
-            subst P (sym w.best-is) (more c.cuts.best (λ b lb. sym (ap (λ o. nearer_choice (choice_in c.cuts.best b) (topped_choice cut c.cuts.number (ways_of o b))) w.in-None.is)))
-        | offer_cuts-in-Some w ↦
-            subst P (sym w.best-is) (more w.offer_front.new.best (λ b lb. w.offer_front.ensures b lb ∙ sym (ap (λ o. nearer_choice (choice_in c.cuts.best b) (topped_choice cut c.cuts.number (ways_of o b))) w.in-Some.is)))
-      ];
-}
+    let end : c.cuts.number < z.end = omega (arith, lasts) in
+    let top : IsTop g k plan (record { seat = c.args.seat; place = c.args.place; from = c.args.from; number = c.cuts.number }) c.index-cut.result.now
+    = record {
+      seat = z;
+      at = c.requires.place.1;
+      within = c.requires.place.2;
+      few = c.requires.from;
+      there = here;
+      first = first;
+      end = end;
+      is = zone.cuts c.cuts.number c.index-cut.result.now first end here;
+    } in
+    and_then (omega (arith, c.decreases)) (and_then c.requires.search (and_then top (and_then c.requires.ends (and_then c.cuts.invariant.known c.cuts.invariant.best))))
 
 pub offer_cuts-returns-clause-best : goal.offer_cuts-returns-clause-best
 offer_cuts-returns-clause-best t c = λ s at.
@@ -287,202 +601,3 @@ offer_cuts-returns-clause-best t c = λ s at.
     let order = seat.order in
     let last : c.cuts.number ≡ s.end = omega (arith, first, end, order) in
     subst (λ n. AreBestChoices (ground_of g c.args.search.now.input.now) plan c.args.place (pair_of s) c.args.from (RulesBefore g plan s n) c.cuts.best) last (c.cuts.invariant.best s at)
-
-pub over_parts-parts-init : goal.over_parts-parts-init
-over_parts-parts-init t c = record {
-  known = c.requires.known;
-  grows = grows-none c.args.self.now;
-  front = c.requires.from;
-  ways = λ s at cut.
-      let d = ground_of c.args.search.now.grammar.now c.args.search.now.input.now in
-      let none : c.args.cut.now.first - c.args.cut.now.first ≡ 0 = omega arith in
-      let begin : c.args.place ≡ c.args.place + 0 = omega arith in (
-        subst (λ n. c.args.place ≡ c.args.place + sizes (take n (children cut.rule.body s.width))) (sym none) begin,
-        subst (λ n. AreWays d c.args.place (children cut.rule.body s.width) c.args.from n (front_at (One (record { cost = 0; order = 0; way = 0 }) c.args.from))) (sym none)
-            (ways-first d c.args.place c.args.from c.requires.from (children cut.rule.body s.width)),
-      );
-}
-
-pub over_parts-index-own-requires : goal.over_parts-index-own-requires
-over_parts-index-own-requires t c =
-    let cut = c.requires.cut c.requires.place.0 c.requires.place.1 in
-    let order = cut.order in
-    let within = cut.within in
-    omega (arith, order, within)
-
-pub over_parts-over_part-requires : goal.over_parts-over_part-requires
-over_parts-over_part-requires t c =
-    let z = c.requires.place.0 in
-    let zat = c.requires.place.1 in
-    let cut = c.requires.cut z zat in
-    let g = c.args.search.now.grammar.now in
-    let k = c.args.search.now.input.now in
-    let d = ground_of g k in
-    let plan = c.args.search.now.plan.now in
-    let ready = c.requires.search.ready in
-    let zone = seat-of g plan c.requires.search.plan_of c.args.seat z zat in
-    let qs = children cut.rule.body z.width in
-    let order = cut.order in
-    let within = cut.within in
-    let own = c.index-own.result.now in
-    let low : c.parts.part < length plan.parts.items = omega (arith, order, within) in
-    let here : slice_get plan.parts.items c.parts.part ≡ Some own = slice_get_read plan.parts.items (length plan.parts.items) c.parts.part own refl low c.index-own.ensures in
-    let first : c.args.cut.now.first ≤ c.parts.part = omega arith in
-    let n : ℕ = c.parts.part - c.args.cut.now.first in
-    let ps = part-seat g k plan ready z zone c.args.cut.now cut c.parts.part own first c.parts-test.true here in
-    let there = (c.parts.invariant.ways z zat cut).0 in
-    let ways = (c.parts.invariant.ways z zat cut).1 in
-    let u = ps.1.0 in
-    let q_width : u.width ≡ (slice_index_or qs (c.parts.part - c.args.cut.now.first) (0, 0)).0 = ap (λ (q : ℕ × ℕ). q.0) ps.1.2 in
-    let upto = part-inside g k plan ready z zone c.args.cut.now cut (c.parts.part - c.args.cut.now.first) ps.0 in
-    let eo : width_at plan own ≡ u.width = ap width_of ps.1.1 in
-    let ez : width_at plan c.args.seat ≡ z.width = ap width_of zat in
-    let less = part-below g k plan ready z zone c.args.cut.now cut (c.parts.part - c.args.cut.now.first) ps.0 in
-    let far = c.requires.place.2 in
-    let whole = cut-whole g k plan ready z zone c.args.cut.now cut in
-    let wide = zone.within in
-    let few = cut-few g k plan ready z zone c.args.cut.now cut in
-    let some = ps.0 in
-    let short = ways-short d (grounded g k ready) (bounds g k ready) c.args.place c.args.from qs (cut-wide g k plan ready z zone c.args.cut.now cut) (omega (arith, whole, wide)) (c.parts.part - c.args.cut.now.first) (omega (arith, some, few)) (front_at c.parts.front) ways in
-    and_then (omega (arith, c.decreases, eo, ez, less, q_width)) (and_then c.requires.search (and_then (u, ps.1.1, omega (arith, there, q_width, upto, far)) (and_then c.parts.invariant.front (and_then short c.parts.invariant.known))))
-
-pub over_parts-returns-in-None-clause-grows : goal.over_parts-returns-in-None-clause-grows
-over_parts-returns-in-None-clause-grows t c =
-    grows-then c.args.self.now c.parts.self c.over_part.new.self c.parts.invariant.grows c.in_ok-next.ensures.grows
-
-pub over_parts-returns-in-None-clause-ways : goal.over_parts-returns-in-None-clause-ways
-over_parts-returns-in-None-clause-ways t c = λ s at cut.
-    let g = c.args.search.now.grammar.now in
-    let k = c.args.search.now.input.now in
-    let d = ground_of g k in
-    let plan = c.args.search.now.plan.now in
-    let ready = c.requires.search.ready in
-    let zone = seat-of g plan c.requires.search.plan_of c.args.seat s at in
-    let qs = children cut.rule.body s.width in
-    let order = cut.order in
-    let within = cut.within in
-    let own = c.index-own.result.now in
-    let low : c.parts.part < length plan.parts.items = omega (arith, order, within) in
-    let here : slice_get plan.parts.items c.parts.part ≡ Some own = slice_get_read plan.parts.items (length plan.parts.items) c.parts.part own refl low c.index-own.ensures in
-    let first : c.args.cut.now.first ≤ c.parts.part = omega arith in
-    let n : ℕ = c.parts.part - c.args.cut.now.first in
-    let ps = part-seat g k plan ready s zone c.args.cut.now cut c.parts.part own first c.parts-test.true here in
-    let there = (c.parts.invariant.ways s at cut).0 in
-    let ways = (c.parts.invariant.ways s at cut).1 in
-    let u = ps.1.0 in
-    let q_width : u.width ≡ (slice_index_or qs (c.parts.part - c.args.cut.now.first) (0, 0)).0 = ap (λ (q : ℕ × ℕ). q.0) ps.1.2 in
-    let upto = part-inside g k plan ready s zone c.args.cut.now cut (c.parts.part - c.args.cut.now.first) ps.0 in
-    let wide = cut-wide g k plan ready s zone c.args.cut.now cut in
-    let on : AreWaysOn d c.parts.at (pair_of u) (front_at c.parts.front) (λ b. None) = subst (λ o. AreWaysOn d c.parts.at (pair_of u) (front_at c.parts.front) (ways_of o)) c.in-None.is (c.in_ok-next.ensures.ways u ps.1.1) in
-    let none : AreWays d c.args.place qs c.args.from (suc (c.parts.part - c.args.cut.now.first)) (λ b. None)
-    = ways-then d (grounded g k ready) c.args.place c.args.from c.requires.from qs wide (c.parts.part - c.args.cut.now.first) ps.0 (front_at c.parts.front) (λ b. None) ways c.parts.at (pair_of u) there ps.1.2 on in
-    let some = ps.0 in
-    ways-none d (grounded g k ready) c.args.place c.args.from c.requires.from qs wide (suc (c.parts.part - c.args.cut.now.first)) (length qs - suc (c.parts.part - c.args.cut.now.first)) (omega (arith, some)) none
-
-pub over_parts-index-requires : goal.over_parts-index-requires
-over_parts-index-requires t c =
-    let z = c.requires.place.0 in
-    let zat = c.requires.place.1 in
-    let cut = c.requires.cut z zat in
-    let g = c.args.search.now.grammar.now in
-    let k = c.args.search.now.input.now in
-    let d = ground_of g k in
-    let plan = c.args.search.now.plan.now in
-    let ready = c.requires.search.ready in
-    let zone = seat-of g plan c.requires.search.plan_of c.args.seat z zat in
-    let qs = children cut.rule.body z.width in
-    let order = cut.order in
-    let within = cut.within in
-    let own = c.index-own.result.now in
-    let low : c.parts.part < length plan.parts.items = omega (arith, order, within) in
-    let here : slice_get plan.parts.items c.parts.part ≡ Some own = slice_get_read plan.parts.items (length plan.parts.items) c.parts.part own refl low c.index-own.ensures in
-    let first : c.args.cut.now.first ≤ c.parts.part = omega arith in
-    let n : ℕ = c.parts.part - c.args.cut.now.first in
-    let ps = part-seat g k plan ready z zone c.args.cut.now cut c.parts.part own first c.parts-test.true here in
-    let there = (c.parts.invariant.ways z zat cut).0 in
-    let ways = (c.parts.invariant.ways z zat cut).1 in
-    let u = ps.1.0 in
-    let q_width : u.width ≡ (slice_index_or qs (c.parts.part - c.args.cut.now.first) (0, 0)).0 = ap (λ (q : ℕ × ℕ). q.0) ps.1.2 in
-    let upto = part-inside g k plan ready z zone c.args.cut.now cut (c.parts.part - c.args.cut.now.first) ps.0 in
-    let low : own < length plan.seats.items = slice_get_within plan.seats.items own u ps.1.1 in
-    omega (arith, low)
-
-pub over_parts-overflow_add-at : goal.over_parts-overflow_add-at
-over_parts-overflow_add-at t c =
-    let z = c.requires.place.0 in
-    let zat = c.requires.place.1 in
-    let cut = c.requires.cut z zat in
-    let g = c.args.search.now.grammar.now in
-    let k = c.args.search.now.input.now in
-    let d = ground_of g k in
-    let plan = c.args.search.now.plan.now in
-    let ready = c.requires.search.ready in
-    let zone = seat-of g plan c.requires.search.plan_of c.args.seat z zat in
-    let qs = children cut.rule.body z.width in
-    let order = cut.order in
-    let within = cut.within in
-    let own = c.index-own.result.now in
-    let low : c.parts.part < length plan.parts.items = omega (arith, order, within) in
-    let here : slice_get plan.parts.items c.parts.part ≡ Some own = slice_get_read plan.parts.items (length plan.parts.items) c.parts.part own refl low c.index-own.ensures in
-    let first : c.args.cut.now.first ≤ c.parts.part = omega arith in
-    let n : ℕ = c.parts.part - c.args.cut.now.first in
-    let ps = part-seat g k plan ready z zone c.args.cut.now cut c.parts.part own first c.parts-test.true here in
-    let there = (c.parts.invariant.ways z zat cut).0 in
-    let ways = (c.parts.invariant.ways z zat cut).1 in
-    let u = ps.1.0 in
-    let q_width : u.width ≡ (slice_index_or qs (c.parts.part - c.args.cut.now.first) (0, 0)).0 = ap (λ (q : ℕ × ℕ). q.0) ps.1.2 in
-    let upto = part-inside g k plan ready z zone c.args.cut.now cut (c.parts.part - c.args.cut.now.first) ps.0 in
-    let same-seat : c.index.result.now ≡ u = c.index.ensures ∙ get_or_from_slice_get plan.seats.items own u c.index.result.now ps.1.1 in
-    let width = ap (λ (s : Seat). s.width) same-seat in
-    let far = c.requires.place.2 in
-    let most = ready.readable.ranges.few_units in
-    let units = ready.units in
-    omega (arith, there, q_width, upto, width, far, most, units)
-
-pub over_parts-parts-preserved : goal.over_parts-parts-preserved
-over_parts-parts-preserved t c = record {
-  known = c.in_ok-next.ensures.known;
-  grows = grows-then c.args.self.now c.parts.self c.over_part.new.self c.parts.invariant.grows c.in_ok-next.ensures.grows;
-  front = subst (λ o. IfSome o IsFront) c.in-Some.is c.in_ok-next.ensures.front;
-  ways = λ s at cut.
-      let g = c.args.search.now.grammar.now in
-      let k = c.args.search.now.input.now in
-      let d = ground_of g k in
-      let plan = c.args.search.now.plan.now in
-      let ready = c.requires.search.ready in
-      let zone = seat-of g plan c.requires.search.plan_of c.args.seat s at in
-      let qs = children cut.rule.body s.width in
-      let order = cut.order in
-      let within = cut.within in
-      let own = c.index-own.result.now in
-      let low : c.parts.part < length plan.parts.items = omega (arith, order, within) in
-      let here : slice_get plan.parts.items c.parts.part ≡ Some own = slice_get_read plan.parts.items (length plan.parts.items) c.parts.part own refl low c.index-own.ensures in
-      let first : c.args.cut.now.first ≤ c.parts.part = omega arith in
-      let n : ℕ = c.parts.part - c.args.cut.now.first in
-      let ps = part-seat g k plan ready s zone c.args.cut.now cut c.parts.part own first c.parts-test.true here in
-      let there = (c.parts.invariant.ways s at cut).0 in
-      let ways = (c.parts.invariant.ways s at cut).1 in
-      let u = ps.1.0 in
-      let q_width : u.width ≡ (slice_index_or qs (c.parts.part - c.args.cut.now.first) (0, 0)).0 = ap (λ (q : ℕ × ℕ). q.0) ps.1.2 in
-      let upto = part-inside g k plan ready s zone c.args.cut.now cut (c.parts.part - c.args.cut.now.first) ps.0 in
-      let wide = cut-wide g k plan ready s zone c.args.cut.now cut in
-      let on : AreWaysOn d c.parts.at (pair_of u) (front_at c.parts.front) (front_at c.in-Some.next) = subst (λ o. AreWaysOn d c.parts.at (pair_of u) (front_at c.parts.front) (ways_of o)) c.in-Some.is (c.in_ok-next.ensures.ways u ps.1.1) in
-      let more : AreWays d c.args.place qs c.args.from (suc (c.parts.part - c.args.cut.now.first)) (front_at c.in-Some.next)
-      = ways-then d (grounded g k ready) c.args.place c.args.from c.requires.from qs wide (c.parts.part - c.args.cut.now.first) ps.0 (front_at c.parts.front) (front_at c.in-Some.next) ways c.parts.at (pair_of u) there ps.1.2 on in
-      let same-seat : c.index.result.now ≡ u = c.index.ensures ∙ get_or_from_slice_get plan.seats.items own u c.index.result.now ps.1.1 in
-      let width = ap (λ (s : Seat). s.width) same-seat in
-      let step = part-next g k plan ready s zone c.args.cut.now cut (c.parts.part - c.args.cut.now.first) ps.0 in
-      let number : suc (c.parts.part - c.args.cut.now.first) ≡ c.parts.part + 1 - c.args.cut.now.first = omega (arith, first) in
-      let place : c.parts.at + c.index.result.now.width ≡ c.args.place + sizes (take (suc (c.parts.part - c.args.cut.now.first)) qs) = omega (arith, there, step, width, q_width) in (
-        subst (λ n. c.parts.at + c.index.result.now.width ≡ c.args.place + sizes (take n qs)) number place,
-        subst (λ n. AreWays d c.args.place qs c.args.from n (front_at c.in-Some.next)) number more,
-      );
-}
-
-pub over_parts-returns-clause-ways : goal.over_parts-returns-clause-ways
-over_parts-returns-clause-ways t c = λ s at cut.
-    let d = ground_of c.args.search.now.grammar.now c.args.search.now.input.now in
-    let order = cut.order in
-    let long = cut-long c.args.search.now.grammar.now c.args.search.now.plan.now s c.args.cut.now cut in
-    let all : c.parts.part - c.args.cut.now.first ≡ length (children cut.rule.body s.width) = omega (arith, order, long) in
-    subst (λ n. AreWays d c.args.place (children cut.rule.body s.width) c.args.from n (front_at c.parts.front)) all (c.parts.invariant.ways s at cut).1

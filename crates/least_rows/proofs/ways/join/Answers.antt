@@ -5,7 +5,7 @@ use Rattle.least_rows.specs.declared.entry.Entry.{Entry}
 use Rattle.least_rows.specs.declared.way.Way.{Way}
 use Rattle.least_rows.specs.Fronts.{nearer_way, way_in}
 use Rattle.least_rows.proofs.Joins.{join-more}
-use Rattle.least_rows.proofs.front.join.Goals as goal
+use Rattle.least_rows.proofs.ways.join.Goals as goal
 
 pub entries-preserved : goal.entries-preserved
 entries-preserved c =

@@ -1,0 +1,86 @@
+-- The choices of a seat with one cut more, and when a cut is passed over.
+use Rattle.std.proofs.Common.{inl, inr, ◌⊎◌, ◌≡◌, ◌≢◌, ℕ, zero, suc, ◌+◌, ◌<◌, ◌≤◌, ◌==◌, Bool, true, false, List, [], ◌∷◌, length, refl, sym, ap, ◌∙◌, subst, arith}
+use Rattle.std.specs.Prelude.{Option, Some, None, if◌then◌else◌, nat_lt, slice_get, slice_set}
+use Rattle.std.proofs.lemmas.Bool.Decides.{nat_tests}
+use Rattle.std.proofs.lemmas.Grind.{get_or-set_at}
+use Rattle.std.proofs.lemmas.List.{get_or-set_other}
+use Rattle.rhythm_base.specs.BarInput.{BarInput}
+use Rattle.rhythm_base.specs.Grammar.{Grammar}
+use Rattle.rhythm_base.specs.Ranked.{Key}
+use Rattle.rhythm_laws.specs.Forests.{Ground, IsForestKey}
+use Rattle.bar_view.specs.declared.leaf.Leaf.{Leaf}
+use Rattle.row_laws.specs.Grounds.{IsReady, ground_of}
+use Rattle.row_laws.proofs.Grounds.{grounded}
+use Rattle.row_laws.proofs.Passing.{next-none}
+use Rattle.grammar_plan.specs.Plans.{IsPlan, IsSeat, pair_of}
+use Rattle.grammar_plan.specs.declared.cut.Cut.{Cut}
+use Rattle.grammar_plan.specs.declared.plan.Plan.{Plan}
+use Rattle.grammar_plan.specs.declared.seat.Seat.{Seat}
+use Rattle.least_rows.specs.Choices.{AreBestChoices, RulesBefore, choice_in, cost_of, is_over, limit_of, nearer_choice, topped_choice}
+use Rattle.least_rows.specs.Fronts.{AreWays, one_way}
+use Rattle.least_rows.specs.Steps.{AreChoicesOf, EndsThere, IsLeafAt, ends_there}
+use Rattle.least_rows.specs.Tops.{IsOffered, IsTop, parts_of}
+use Rattle.least_rows.specs.declared.choice.Choice.{Choice}
+use Rattle.least_rows.specs.declared.top.Top.{Top}
+use Rattle.least_rows.specs.declared.way.Way.{Way}
+use Rattle.least_rows.proofs.Asked.{seat-of}
+use Rattle.least_rows.proofs.Choices.{choices-cut, choices-rules, cut-new, one-cut-less, one-more-cut}
+use Rattle.least_rows.proofs.Cutting.{cut-few, cut-wide}
+use Rattle.least_rows.proofs.Known.{seat-same}
+use Rattle.least_rows.proofs.Limits.{choices-over}
+
+-- one way alone is offered
+pub one-offered : (best : List (Option Choice)) (count : ℕ) → count < length best → (v : Option Choice) (cut : Cut) (number : ℕ) (way : Way) → v ≡ nearer_choice (choice_in best count) (topped_choice cut number (Some way))
+    → (b : ℕ) → choice_in (slice_set best count v) b ≡ nearer_choice (choice_in best b) (topped_choice cut number (one_way way count b))
+one-offered best count low v cut number way is b = go (count == b) refl
+  where
+    go : (t : Bool) → (count == b) ≡ t → choice_in (slice_set best count v) b ≡ nearer_choice (choice_in best b) (topped_choice cut number (if t then Some way else None))
+    go true e =
+        let same : count ≡ b = grind (arith, nat_tests) in
+        subst (λ b. choice_in (slice_set best count v) b ≡ nearer_choice (choice_in best b) (topped_choice cut number (Some way))) same (get_or-set_at best count count v None refl low ∙ is)
+    go false e = let other : b ≢ count = λ s. grind (arith, nat_tests) in get_or-set_other best count b v None other
+
+-- a cost over the limit
+pub over-limit : (best : List (Option Choice)) (ends : Bool) (cost : ℕ) → is_over cost (limit_of best ends) ≡ true → (ends ≡ true) × (c : Choice) × (choice_in best 0 ≡ Some c) × (c.cost < cost)
+over-limit best false cost e = absurd (cc)
+over-limit best true cost e = go (choice_in best 0) refl e
+  where
+    go : (o : Option Choice) → choice_in best 0 ≡ o → is_over cost (cost_of o) ≡ true → (true ≡ true) × (c : Choice) × (choice_in best 0 ≡ Some c) × (c.cost < cost)
+    go None f e = absurd (cc)
+    go (Some c) f e = (refl, c, f, grind (arith, nat_tests))
+
+-- where the leaf has no chord for the next, no tree carries one out
+pub ends-so : (g : Grammar) (k : BarInput) → IsReady g k → (place w symbol : ℕ) → 1 ≤ w → (leaf : Option Leaf) → IsLeafAt g k place w leaf → ends_there leaf ≡ true
+    → (a b : ℕ) (key : Key) → IsForestKey (ground_of g k) None place ((w, symbol) ∷ []) a b key → b ≡ 0
+ends-so g k ready place w symbol wide None h e a b key f = absurd (cc)
+ends-so g k ready place w symbol wide (Some l) h e a b key f =
+    let none : l.next ≡ 0 = grind (arith, nat_tests) in
+    next-none g k ready place w symbol a b key wide (sym h.0.next_chords ∙ none) f
+
+module _ (g : Grammar) (k : BarInput) (plan : Plan) (ready : IsReady g k) (of : IsPlan g plan) (top : Top) (cut : Cut) (t : IsTop g k plan top cut) (old : List (Option Choice))
+    (before : AreChoicesOf g k plan top.seat top.place top.from (λ s. RulesBefore g plan s top.number) old) where
+  abbrev d : Ground
+  d = ground_of g k
+
+  zone : IsSeat g plan t.seat
+  zone = seat-of g plan of top.seat t.seat t.at
+
+  -- the rules before the next cut are those before this one, and its own
+  after : (new : List (Option Choice)) → AreBestChoices d plan top.place (pair_of t.seat) top.from (λ r. RulesBefore g plan t.seat top.number r ⊎ (r ≡ cut.rule)) new
+      → AreChoicesOf g k plan top.seat top.place top.from (λ s. RulesBefore g plan s (top.number + 1)) new
+  after new h s at =
+      subst (λ (s : Seat). AreBestChoices d plan top.place (pair_of s) top.from (RulesBefore g plan s (top.number + 1)) new) (seat-same plan top.seat top.seat t.seat s refl t.at at)
+      (choices-rules d plan top.place (pair_of t.seat) top.from (λ r. RulesBefore g plan t.seat top.number r ⊎ (r ≡ cut.rule)) (RulesBefore g plan t.seat (top.number + 1)) new
+      (one-more-cut g plan t.seat top.number cut t.first t.there) (one-cut-less g plan t.seat top.number cut t.there) h)
+
+  pub choices-offered : (new : List (Option Choice)) → IsOffered g k plan top cut old new → AreChoicesOf g k plan top.seat top.place top.from (λ s. RulesBefore g plan s (top.number + 1)) new
+  choices-offered new h =
+      let own = h t in
+      after new (choices-cut d plan top.place (pair_of t.seat) top.from (RulesBefore g plan t.seat top.number) old (before t.seat t.at) top.number cut t.there t.is
+      (cut-new g plan t.seat zone top.number cut t.is.rule t.first t.end t.there t.is.is) own.0 (cut-few g k plan ready t.seat zone cut t.is) own.1 new own.2)
+
+  pub choices-passed : EndsThere g k plan top.seat top.place → (c : Choice) → choice_in old 0 ≡ Some c → (n : ℕ) (w : Way) (m : ℕ) → AreWays d top.place (parts_of g k plan top cut t) top.from n (one_way w m)
+      → c.cost < cut.weight + w.cost → AreChoicesOf g k plan top.seat top.place top.from (λ s. RulesBefore g plan s (top.number + 1)) old
+  choices-passed ends c first n w m ways over =
+      after old (choices-over d (grounded g k ready) plan top.place (pair_of t.seat) top.from (RulesBefore g plan t.seat top.number) old (before t.seat t.at) cut t.is
+      (cut-wide g k plan ready t.seat zone cut t.is) (λ b key f. ends t.seat top.from b key t.at f) c first n w m ways over)

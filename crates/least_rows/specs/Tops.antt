@@ -1,0 +1,56 @@
+-- A cut of a seat on top, and the ways over its parts.
+use Rattle.std.specs.Prelude.{◌≡◌, ℕ, ◌+◌, ◌-◌, ◌<◌, ◌≤◌, List, length, take, slice_get, Option, Some}
+use Rattle.rhythm_base.specs.BarInput.{BarInput}
+use Rattle.rhythm_base.specs.Bodies.{children, sizes}
+use Rattle.rhythm_base.specs.Grammar.{Grammar}
+use Rattle.row_laws.specs.Grounds.{ground_of}
+use Rattle.grammar_plan.specs.Plans.{IsCutOf, between, pair_of}
+use Rattle.grammar_plan.specs.declared.cut.Cut.{Cut}
+use Rattle.grammar_plan.specs.declared.plan.Plan.{Plan}
+use Rattle.grammar_plan.specs.declared.seat.Seat.{Seat}
+use Rattle.least_rows.specs.Choices.{choice_in, nearer_choice, topped_choice}
+use Rattle.least_rows.specs.Fronts.{AreEntries, AreWays, IsShort, ways_of}
+use Rattle.least_rows.specs.declared.choice.Choice.{Choice}
+use Rattle.least_rows.specs.declared.entry.Entry.{Entry}
+use Rattle.least_rows.specs.declared.fork.Fork.{Fork}
+use Rattle.least_rows.specs.declared.lead.Lead.TheVariants.{Several}
+use Rattle.least_rows.specs.declared.top.Top.{Top}
+use Rattle.least_rows.specs.declared.way.Way.{Way}
+
+-- this is the cut, one of those of its seat, whose interval lies in the bar
+pub record IsTop (g : Grammar) (k : BarInput) (plan : Plan) (top : Top) (cut : Cut) : Type 0 where
+  pub seat : Seat
+  pub at : slice_get plan.seats.items top.seat ≡ Some seat
+  pub within : top.place + seat.width ≤ k.resolution
+  pub few : top.from < 5
+  pub there : slice_get plan.cuts.items top.number ≡ Some cut
+  pub first : seat.first ≤ top.number
+  pub end : top.number < seat.end
+  pub is : IsCutOf g plan (pair_of seat) cut
+
+-- the widths and symbols of its parts
+abbrev pub parts_of : (g : Grammar) (k : BarInput) (plan : Plan) (top : Top) (cut : Cut) → IsTop g k plan top cut → List (ℕ × ℕ)
+parts_of g k plan top cut t = children t.is.rule.body t.seat.width
+
+-- these are the least ways over the parts before one of them, which begins at this unit
+abbrev pub AreWaysTo : Grammar → BarInput → Plan → Top → Cut → (part at : ℕ) → (ℕ → Option Way) → Type 0
+AreWaysTo g k plan top cut part at ways =
+    (t : IsTop g k plan top cut) → (at ≡ top.place + sizes (take (part - cut.first) (parts_of g k plan top cut t)))
+    × AreWays (ground_of g k) top.place (parts_of g k plan top cut t) top.from (part - cut.first) ways
+
+-- the least trees with the cut on top were offered
+abbrev pub IsOffered : Grammar → BarInput → Plan → Top → Cut → (old new : List (Option Choice)) → Type 0
+IsOffered g k plan top cut old new =
+    (t : IsTop g k plan top cut) → (ways : ℕ → Option Way)
+    × AreWays (ground_of g k) top.place (parts_of g k plan top cut t) top.from (length (parts_of g k plan top cut t)) ways
+    × ((b : ℕ) → b < 5 → choice_in new b ≡ nearer_choice (choice_in old b) (topped_choice cut top.number (ways b)))
+
+-- ---- where a way leads on to several
+
+abbrev pub IsFork : List Entry → Fork → Type 0
+IsFork entries x =
+    IsShort x.way × (x.count < 5) × (x.span.first + x.span.count ≤ length entries) × AreEntries (between entries x.span.first (x.span.first + x.span.count))
+
+-- the ways after the row
+abbrev pub ways_at : List Entry → Fork → ℕ → Option Way
+ways_at entries x = ways_of entries x.way x.count (Several x.span)
