@@ -19,10 +19,11 @@ use Rattle.row_laws.specs.Rows.{AreLeastRow}
 use Rattle.row_laws.proofs.BestRules.{best-whole}
 use Rattle.row_laws.proofs.RowProducts.{row-apart}
 use Rattle.grammar_plan.specs.declared.plan.Plan.{Plan}
-use Rattle.least_rows.specs.Choices.{AreBestChoices, IsChoiceMade, IsEntryOf, IsFirst, IsSplit, choice_in, count_some, sum_of_choice}
+use Rattle.least_rows.specs.Choices.{AreBestChoices, AreSettled, IsAlone, IsChoiceMade, IsEntryOf, IsFirst, IsSplit, choice_in, count_some, sum_of_choice}
 use Rattle.least_rows.specs.Entries.{IsEntry, IsMade, IsRow}
 use Rattle.least_rows.specs.declared.choice.Choice.{Choice}
 use Rattle.least_rows.specs.declared.entry.Entry.{Entry}
+use Rattle.least_rows.specs.declared.state.RowSpan.{RowSpan}
 
 -- ---- one thing more at the end of a list
 
@@ -149,6 +150,54 @@ module _ (choices left : List (Option Choice)) (es : List Entry) (h : IsSplit ch
             subst (λ (y : Choice). x.order ≤ y.order) (sym same-y) order,
             λ s. let no : None ≡ Some first.1 = sym m.4 ∙ ap (choice_in left) (s ∙ ap (λ (g : Entry). g.to) is) ∙ first.2 in absurd (cc),
           )
+
+-- ---- one choice alone
+
+pub settled-alone : (choices : List (Option Choice)) → length choices ≡ 5 → (e : Entry) → IsAlone choices e → (old new : List Entry) (span : RowSpan) → new ≡ old ++ e ∷ [] → span.first ≡ length old → span.count ≡ 1 → AreSettled choices old new span
+settled-alone choices long e h old new span added first count =
+    let zero-to : e.to ≡ 0 = h.2.0 in
+    let there : choice_in choices e.to ≡ Some h.0 = ap (choice_in choices) zero-to ∙ h.1 in
+    let low : e.to < 5 = omega (arith, zero-to) in
+    let lowest : IsFirst choices 5 (Some e.to) = (low, h.0, there, λ b x lb at. order b x lb at) in
+    record {
+      es = e ∷ [];
+      added = added;
+      first = first;
+      count = count;
+      left = slice_set choices e.to None;
+      split = split-more choices choices [] (split-start choices long) e lowest (λ c at. own c at);
+      none = λ b lb. gone b lb (b == e.to) refl;
+    }
+  where
+    only : (b : ℕ) (x : Choice) → b < 5 → choice_in choices b ≡ Some x → b ≡ 0
+    only b x lb at = go (b == 0) refl
+      where
+        go : (t : Bool) → (b == 0) ≡ t → b ≡ 0
+        go true t = grind (arith, nat_tests)
+        go false t = let other : b ≢ 0 = λ w. grind (arith, nat_tests) in let no : None ≡ Some x = sym (h.3 b lb other) ∙ at in absurd (cc)
+
+    order : (b : ℕ) (x : Choice) → b < 5 → choice_in choices b ≡ Some x → h.0.order ≤ x.order
+    order b x lb at =
+        let both : Some x ≡ Some h.0 = sym at ∙ ap (choice_in choices) (only b x lb at) ∙ h.1 in
+        let is : x ≡ h.0 = cc in
+        subst (λ (x : Choice). h.0.order ≤ x.order) (sym is) (omega arith)
+
+    own : (c : Choice) → choice_in choices e.to ≡ Some c → IsEntryOf c e.to e
+    own c at =
+        let both : Some h.0 ≡ Some c = sym h.1 ∙ ap (choice_in choices) (sym h.2.0) ∙ at in
+        let is : h.0 ≡ c = cc in
+        let rest = subst (λ (c : Choice). (e.cost ≡ c.cost) × (e.rule ≡ c.order / 2 ^ 48) × (e.cut ≡ c.cut) × (e.way ≡ c.way)) is (h.2.1, h.2.2, h.2.3, h.2.4) in
+        (refl, rest.0, rest.1, rest.2, rest.3)
+
+    gone : (b : ℕ) → b < 5 → (t : Bool) → (b == e.to) ≡ t → choice_in (slice_set choices e.to None) b ≡ None
+    gone b lb true t =
+        let same : e.to ≡ b = grind (arith, nat_tests) in
+        let to : e.to ≡ 0 = h.2.0 in
+        get_or-set_at choices e.to b None None (sym same) (omega (arith, to, long))
+    gone b lb false t =
+        let other : b ≢ e.to = λ w. grind (arith, nat_tests) in
+        let apart : b ≢ 0 = λ w. other (w ∙ sym h.2.0) in
+        get_or-set_other choices e.to b None None other ∙ h.3 b lb apart
 
 -- ---- the row
 

@@ -1,14 +1,23 @@
 -- The least ways with a part behind them.
 use Rattle.std.proofs.Common.{inl, inr, ◌≡◌, ℕ, zero, suc, ◌<◌, ◌==◌, Bool, true, false, [], ◌∷◌, refl, sym, ap, ◌∙◌, subst, arith}
-use Rattle.std.specs.Prelude.{Option, Some, None, if◌then◌else◌}
+use Rattle.std.specs.Prelude.{Option, Some, None, if◌then◌else◌, slice_get}
 use Rattle.std.proofs.lemmas.Bool.Decides.{nat_tests}
+use Rattle.rhythm_base.specs.BarInput.{BarInput}
+use Rattle.rhythm_base.specs.Grammar.{Grammar}
 use Rattle.rhythm_laws.specs.Forests.{Ground}
 use Rattle.rhythm_laws.specs.Rows.{AreAlike}
 use Rattle.rhythm_laws.proofs.LeastKeys.{last}
 use Rattle.row_laws.specs.BestRules.{Choice, choice_key}
 use Rattle.row_laws.specs.Rows.{AreLeastRow}
+use Rattle.row_laws.specs.Grounds.{ground_of}
+use Rattle.grammar_plan.specs.Plans.{pair_of}
+use Rattle.grammar_plan.specs.declared.plan.Plan.{Plan}
+use Rattle.grammar_plan.specs.declared.seat.Seat.{Seat}
+use Rattle.least_rows.specs.Steps.{LeadsOver}
+use Rattle.least_rows.specs.declared.lead.Lead.{Lead}
+use Rattle.least_rows.specs.declared.lead.Lead.TheVariants.{Nowhere, One, Several}
 use Rattle.least_rows.specs.declared.way.Way.{Way}
-use Rattle.least_rows.specs.Fronts.{AreWaysBelow, AreWaysOn, IsRanked, nearer_way, nearest_below, nearest_way, one_way, way_on}
+use Rattle.least_rows.specs.Fronts.{IsLead, AreWaysBelow, AreWaysOn, IsRanked, nearer_way, nearest_below, nearest_way, one_way, way_on}
 
 -- ---- one way alone
 
@@ -132,3 +141,11 @@ module _ (d : Ground) (p : ℕ) (q : ℕ × ℕ) (ways : ℕ → Option Way) (n 
       digit : (m b : ℕ) (c : Choice) (t : Bool) → (if t then ranks else below.ranks m) b ≡ Some c → c.1 < 8
       digit m b c true e = row.digits b c e
       digit m b c false e = below.digits m b c e
+
+-- ---- where one way leads
+
+pub lead-over : (g : Grammar) (k : BarInput) (plan : Plan) (seat place : ℕ) (way : Way) (count : ℕ) → count < 5 → (ranks : ℕ → Option Choice)
+    → ((s : Seat) → slice_get plan.seats.items seat ≡ Some s → IsRanked (ground_of g k) place (pair_of s) count ranks) → (lead : Lead) → IsLead ranks way count lead → LeadsOver g k plan seat place way count lead
+lead-over g k plan seat place way count low ranks row Nowhere h = λ s at. one-on (ground_of g k) place (pair_of s) way count low ranks (row s at) (λ b. None) h
+lead-over g k plan seat place way count low ranks row (One next to) h = (h.0, λ s at. one-on (ground_of g k) place (pair_of s) way count low ranks (row s at) (one_way next to) h.1)
+lead-over g k plan seat place way count low ranks row Several h = tt

@@ -75,6 +75,10 @@ IsFirst choices n (Some to) =
 abbrev pub IsEntryOf : Choice → ℕ → Entry → Type 0
 IsEntryOf c to e = (e.to ≡ to) × (e.cost ≡ c.cost) × (e.rule ≡ c.order / 2 ^ 48) × (e.cut ≡ c.cut) × (e.way ≡ c.way)
 
+-- the entry of the choice by which none are carried out, where there is no other
+abbrev pub IsAlone : List (Option Choice) → Entry → Type 0
+IsAlone choices e = (c : Choice) × (choice_in choices 0 ≡ Some c) × IsEntryOf c 0 e × ((b : ℕ) → b < 5 → b ≢ 0 → choice_in choices b ≡ None)
+
 abbrev pub count_some : List (Option Choice) → ℕ
 count_some [] = 0
 count_some (None ∷ xs) = count_some xs

@@ -6,7 +6,6 @@ use Rattle.rhythm_laws.specs.Rows.{AreAlike}
 use Rattle.row_laws.specs.BestRules.{Choice, choice_key, is_nearer}
 use Rattle.row_laws.specs.Rows.{AreLeastRow}
 use Rattle.row_laws.specs.Ways.{IsWayList}
-use Rattle.grammar_plan.specs.Plans.{between}
 use Rattle.grammar_plan.specs.declared.quiet_tree.QuietTree.{QuietTree}
 use Rattle.least_rows.specs.declared.entry.Entry.{Entry}
 use Rattle.least_rows.specs.declared.lead.Lead.{Lead}
@@ -62,17 +61,11 @@ pub record AreEntries (entries : List Entry) : Type 0 where
 abbrev pub one_way : Way → ℕ → ℕ → Option Way
 one_way way count b = if count == b then Some way else None
 
--- the ways over the next part, from one way
-abbrev pub ways_of : List Entry → Way → ℕ → Lead → ℕ → Option Way
-ways_of entries way count Nowhere b = None
-ways_of entries way count (One next to) b = one_way next to b
-ways_of entries way count (Several span) b = way_on (Some way) count (rank_in (between entries span.first (span.first + span.count)) 0 b)
-
--- a number carried out is below 5, and a row is there
-abbrev pub IsLead : List Entry → Lead → Type 0
-IsLead entries Nowhere = ⊤
-IsLead entries (One next to) = to < 5
-IsLead entries (Several span) = (span.first + span.count ≤ length entries) × AreEntries (between entries span.first (span.first + span.count))
+-- one way leads on so over a part whose entries have these costs and ranks: to none, to one, or to what its row tells
+abbrev pub IsLead : (ℕ → Option Choice) → Way → ℕ → Lead → Type 0
+IsLead ranks way count Nowhere = (b : ℕ) → b < 5 → None ≡ way_on (Some way) count (ranks b)
+IsLead ranks way count (One next to) = (to < 5) × ((b : ℕ) → b < 5 → one_way next to b ≡ way_on (Some way) count (ranks b))
+IsLead ranks way count Several = ⊤
 
 -- ---- the ways over the first parts
 

@@ -1,5 +1,5 @@
 -- What one step of the search finds, of the seat of a number.
-use Rattle.std.specs.Prelude.{◌≡◌, ◌⊎◌, ℕ, ◌<◌, ◌^◌, ◌==◌, if◌then◌else◌, Bool, false, List, [], ◌∷◌, length, slice_get, slice_set, slice_index_or, MatchOption, Option, Some, None}
+use Rattle.std.specs.Prelude.{⊤, ◌≡◌, ◌⊎◌, ℕ, ◌<◌, ◌^◌, ◌==◌, if◌then◌else◌, Bool, false, List, [], ◌∷◌, length, slice_get, slice_set, slice_index_or, MatchOption, Option, Some, None}
 use Rattle.rhythm_base.specs.BarInput.{BarInput}
 use Rattle.rhythm_base.specs.Grammar.{Grammar}
 use Rattle.rhythm_base.specs.Ranked.{Key}
@@ -13,9 +13,11 @@ use Rattle.grammar_plan.specs.Plans.{pair_of}
 use Rattle.grammar_plan.specs.declared.plan.Plan.{Plan}
 use Rattle.grammar_plan.specs.declared.seat.Seat.{Seat}
 use Rattle.least_rows.specs.Choices.{AreBestChoices, AreSettled}
-use Rattle.least_rows.specs.Fronts.{AreWaysBelow, AreWaysOn}
+use Rattle.least_rows.specs.Fronts.{AreWaysBelow, AreWaysOn, one_way}
 use Rattle.least_rows.specs.States.{HasRow, IsRowAt}
 use Rattle.least_rows.specs.declared.choice.Choice.{Choice}
+use Rattle.least_rows.specs.declared.lead.Lead.{Lead}
+use Rattle.least_rows.specs.declared.lead.Lead.TheVariants.{Nowhere, One, Several}
 use Rattle.least_rows.specs.declared.rows.Rows.{Rows}
 use Rattle.least_rows.specs.declared.state.RowSpan.{RowSpan}
 use Rattle.least_rows.specs.declared.state.State.{State}
@@ -50,6 +52,12 @@ AreWaysOver g k plan seat place ways next = (s : Seat) → slice_get plan.seats.
 
 abbrev pub AreWaysOverBelow : Grammar → BarInput → Plan → (seat place : ℕ) → (ℕ → Option Way) → ℕ → (ℕ → Option Way) → Type 0
 AreWaysOverBelow g k plan seat place ways n next = (s : Seat) → slice_get plan.seats.items seat ≡ Some s → AreWaysBelow (ground_of g k) place (pair_of s) ways n next
+
+-- one way leads on so over the tree of the seat
+abbrev pub LeadsOver : Grammar → BarInput → Plan → (seat place : ℕ) → Way → ℕ → Lead → Type 0
+LeadsOver g k plan seat place way count Nowhere = AreWaysOver g k plan seat place (one_way way count) (λ b. None)
+LeadsOver g k plan seat place way count (One next to) = (to < 5) × AreWaysOver g k plan seat place (one_way way count) (one_way next to)
+LeadsOver g k plan seat place way count Several = ⊤
 
 -- the same over an interval of the seat that is quiet so
 abbrev pub AreQuietWays : Grammar → BarInput → Plan → Quiet → (seat : ℕ) → (ℕ → Option Way) → (ℕ → Option Way) → Type 0

@@ -4,16 +4,13 @@ use Rattle.rhythm_base.specs.BarInput.{BarInput}
 use Rattle.rhythm_base.specs.Bodies.{children, sizes}
 use Rattle.rhythm_base.specs.Grammar.{Grammar}
 use Rattle.row_laws.specs.Grounds.{ground_of}
-use Rattle.grammar_plan.specs.Plans.{IsCutOf, between, pair_of}
+use Rattle.grammar_plan.specs.Plans.{IsCutOf, pair_of}
 use Rattle.grammar_plan.specs.declared.cut.Cut.{Cut}
 use Rattle.grammar_plan.specs.declared.plan.Plan.{Plan}
 use Rattle.grammar_plan.specs.declared.seat.Seat.{Seat}
 use Rattle.least_rows.specs.Choices.{choice_in, nearer_choice, topped_choice}
-use Rattle.least_rows.specs.Fronts.{AreEntries, AreWays, IsShort, ways_of}
+use Rattle.least_rows.specs.Fronts.{AreWays}
 use Rattle.least_rows.specs.declared.choice.Choice.{Choice}
-use Rattle.least_rows.specs.declared.entry.Entry.{Entry}
-use Rattle.least_rows.specs.declared.fork.Fork.{Fork}
-use Rattle.least_rows.specs.declared.lead.Lead.TheVariants.{Several}
 use Rattle.least_rows.specs.declared.top.Top.{Top}
 use Rattle.least_rows.specs.declared.way.Way.{Way}
 
@@ -44,13 +41,3 @@ IsOffered g k plan top cut old new =
     (t : IsTop g k plan top cut) → (ways : ℕ → Option Way)
     × AreWays (ground_of g k) top.place (parts_of g k plan top cut t) top.from (length (parts_of g k plan top cut t)) ways
     × ((b : ℕ) → b < 5 → choice_in new b ≡ nearer_choice (choice_in old b) (topped_choice cut top.number (ways b)))
-
--- ---- where a way leads on to several
-
-abbrev pub IsFork : List Entry → Fork → Type 0
-IsFork entries x =
-    IsShort x.way × (x.count < 5) × (x.span.first + x.span.count ≤ length entries) × AreEntries (between entries x.span.first (x.span.first + x.span.count))
-
--- the ways after the row
-abbrev pub ways_at : List Entry → Fork → ℕ → Option Way
-ways_at entries x = ways_of entries x.way x.count (Several x.span)

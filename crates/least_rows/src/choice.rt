@@ -1,4 +1,5 @@
 ghost use Rattle.least_rows.specs.Choices.{
+  IsAlone,
   IsEntryOf,
   IsFirst,
   choice_in,
@@ -17,6 +18,7 @@ ghost use Rattle.std.specs.Prelude.{
   ◌<◌,
   ◌≤◌,
   ℕ,
+  IfSome,
   MatchOption,
   None,
   Some,
@@ -159,6 +161,31 @@ fn first_of(best: &Choices) -> Option<u8>
     first
 }
 
+/// The choice as an entry.
+#[inline(always)]
+fn entry_of(choice: &Choice, to: u8) -> Entry
+    ensures { IsEntryOf choice.now to result }
+{
+    Entry {
+        cost: choice.cost,
+        to,
+        rule: (choice.order / RULE) as u16,
+        cut: choice.cut,
+        way: choice.way,
+    }
+}
+
+/// The choice by which none are carried out, as an entry, where there is no other.
+#[inline(always)]
+pub fn alone(best: &Choices) -> Option<Entry>
+    ensures { IfSome result (IsAlone best.now) }
+{
+    match best {
+        [Some(choice), None, None, None, None] => Some(entry_of(choice, 0)),
+        _ => None,
+    }
+}
+
 /// Takes the choice of the lowest order out, as an entry.
 pub fn take_first(left: &mut Choices) -> Option<Entry>
     ensures { MatchOption result
@@ -168,11 +195,5 @@ pub fn take_first(left: &mut Choices) -> Option<Entry>
     let to = first_of(left)?;
     let choice = left[to as usize]?;
     left[to as usize] = None;
-    Some(Entry {
-        cost: choice.cost,
-        to,
-        rule: (choice.order / RULE) as u16,
-        cut: choice.cut,
-        way: choice.way,
-    })
+    Some(entry_of(&choice, to))
 }

@@ -1,4 +1,3 @@
-use crate::state::RowSpan;
 use crate::way::Way;
 
 /// Where a way over the first parts of a cut leads on to several.
@@ -7,8 +6,6 @@ pub struct Fork {
     /// The way up to the part before, and the number of chords carried out of it.
     pub way: Way,
     pub count: u8,
-    /// The row of that part.
-    pub span: RowSpan,
     /// The part that comes next, among the plan's, and the unit at which it begins.
     pub part: u32,
     pub at: u16,

@@ -1,7 +1,7 @@
 ghost use Rattle.grammar_plan.specs.Plans.{pair_of};
 ghost use Rattle.grammar_plan.specs.declared.seat.Seat.{Seat};
 ghost use Rattle.least_rows.specs.Choices.{RulesBefore};
-ghost use Rattle.least_rows.specs.Fronts.{AreShort, IsLead, IsShort, one_way, way_in, ways_of};
+ghost use Rattle.least_rows.specs.Fronts.{AreShort, IsShort, one_way, way_in};
 ghost use Rattle.least_rows.specs.Places.{HasPlace};
 ghost use Rattle.least_rows.specs.Searches.{IsSearch};
 ghost use Rattle.least_rows.specs.States.{AreKnown, Grows, HasState, IsRowAt};
@@ -12,8 +12,9 @@ ghost use Rattle.least_rows.specs.Steps.{
   EndsThere,
   IsRowOf,
   KeepsRow,
+  LeadsOver,
 };
-ghost use Rattle.least_rows.specs.Tops.{AreWaysTo, IsFork, IsOffered, IsTop, ways_at};
+ghost use Rattle.least_rows.specs.Tops.{AreWaysTo, IsOffered, IsTop};
 ghost use Rattle.grammar_plan.specs.Plans.{between};
 ghost use Rattle.row_laws.specs.LeafRules.{EndsInterval};
 ghost use Rattle.std.specs.Prelude.{
@@ -21,6 +22,7 @@ ghost use Rattle.std.specs.Prelude.{
   ◌+◌,
   ◌<◌,
   ◌≤◌,
+  ◌^◌,
   ℕ,
   true,
   IfOk,
@@ -304,25 +306,23 @@ impl Rows {
                 return Ok(());
             }
             let seat = search.plan.parts[part as usize];
-            let lead = self.lead(search, way, count, seat, at)?;
-            at += search.plan.seats[seat as usize].width;
-            match lead {
+            match self.lead(search, way, count, seat, at)? {
                 Lead::Nowhere => return Ok(()),
                 Lead::One(next, to) => {
                     way = next;
                     count = to;
                 }
-                Lead::Several(span) => {
+                Lead::Several => {
                     let fork = Fork {
                         way,
                         count,
-                        span,
-                        part: part + 1,
+                        part,
                         at,
                     };
                     return self.offer_fork(search, top, cut, fork, best);
                 }
             }
+            at += search.plan.seats[seat as usize].width;
         }
         offer_way(&mut best[count as usize], way, cut, top.number);
         Ok(())
@@ -346,8 +346,7 @@ impl Rows {
         requires known { AreKnown search.now.grammar.now search.now.input.now search.now.plan.now self.old }
         ensures known { OnOk result (AreKnown search.now.grammar.now search.now.input.now search.now.plan.now self.new) }
         ensures grows { OnOk result (Grows self.old self.new) }
-        ensures lead { IfOk result (IsLead self.new.entries.items) }
-        ensures ways { IfOk result (λ lead. AreWaysOver search.now.grammar.now search.now.input.now search.now.plan.now seat place (one_way way count) (ways_of self.new.entries.items way count lead)) }
+        ensures lead { IfOk result (LeadsOver search.now.grammar.now search.now.input.now search.now.plan.now seat place way count) }
     {
         let plan = search.plan;
         let width = plan.seats[seat as usize].width;
@@ -358,7 +357,7 @@ impl Rows {
             }
             None => {
                 let span = self.row(search, seat, place, count)?;
-                Ok(lead_by_row(way, count, span, self.entries_of(span)))
+                Ok(lead_by_row(way, count, self.entries_of(span)))
             }
         }
     }
@@ -376,18 +375,19 @@ impl Rows {
     ) -> Result<(), AllocError>
         requires search { IsSearch search.now.grammar.now search.now.input.now search.now.plan.now search.now.view.now }
         requires top { IsTop search.now.grammar.now search.now.input.now search.now.plan.now top cut.now }
-        requires part { (cut.now.first ≤ fork.part) × (fork.part ≤ cut.now.end) }
-        requires fork { IsFork self.old.entries.items fork }
-        requires ways { AreWaysTo search.now.grammar.now search.now.input.now search.now.plan.now top cut.now fork.part fork.at (ways_at self.old.entries.items fork) }
+        requires part { (cut.now.first ≤ fork.part) × (fork.part < cut.now.end) × (cut.now.end < 2 ^ 32) }
+        requires count { fork.count < 5 }
+        requires ways { AreWaysTo search.now.grammar.now search.now.input.now search.now.plan.now top cut.now fork.part fork.at (one_way fork.way fork.count) }
         requires known { AreKnown search.now.grammar.now search.now.input.now search.now.plan.now self.old }
         ensures known { OnOk result (AreKnown search.now.grammar.now search.now.input.now search.now.plan.now self.new) }
         ensures grows { OnOk result (Grows self.old self.new) }
         ensures best { OnOk result (IsOffered search.now.grammar.now search.now.input.now search.now.plan.now top cut.now best.old best.new) }
     {
+        let own = search.plan.parts[fork.part as usize];
         let mut ways = [None; 5];
-        join(&mut ways, fork.way, fork.count, self.entries_of(fork.span));
-        let mut at = fork.at;
-        'parts: for part in fork.part..cut.end {
+        self.join_fork(search, &mut ways, fork, own)?;
+        let mut at = fork.at + search.plan.seats[own as usize].width;
+        'parts: for part in fork.part + 1..cut.end {
             let seat = search.plan.parts[part as usize];
             let mut next = [None; 5];
             self.over(search, &mut next, &ways, seat, at)?;
@@ -395,6 +395,31 @@ impl Rows {
             at += search.plan.seats[seat as usize].width;
         }
         offer_ways(best, &ways, cut, top.number);
+        Ok(())
+    }
+
+    /// The ways over the part at which one way parts, a tree of this seat.
+    #[cycle(rows)]
+    #[inline(always)]
+    fn join_fork(
+        &mut self,
+        search: &Search<'_>,
+        ways: &mut [Option<Way>; 5],
+        fork: Fork,
+        seat: u32,
+    ) -> Result<(), AllocError>
+        requires search { IsSearch search.now.grammar.now search.now.input.now search.now.plan.now search.now.view.now }
+        requires place { HasPlace search.now.input.now search.now.plan.now seat fork.at }
+        requires none { (b : ℕ) → b < 5 → way_in ways.old b ≡ None }
+        requires short { IsShort fork.way }
+        requires count { fork.count < 5 }
+        requires known { AreKnown search.now.grammar.now search.now.input.now search.now.plan.now self.old }
+        ensures known { OnOk result (AreKnown search.now.grammar.now search.now.input.now search.now.plan.now self.new) }
+        ensures grows { OnOk result (Grows self.old self.new) }
+        ensures ways { OnOk result (AreWaysOver search.now.grammar.now search.now.input.now search.now.plan.now seat fork.at (one_way fork.way fork.count) (way_in ways.new)) }
+    {
+        let span = self.row(search, seat, fork.at, fork.count)?;
+        join(ways, fork.way, fork.count, self.entries_of(span));
         Ok(())
     }
 

@@ -12,10 +12,9 @@ use Rattle.least_rows.specs.Places.{width_at, width_of}
 use Rattle.grammar_plan.specs.Plans.{IsSeat, pair_of}
 use Rattle.grammar_plan.specs.declared.seat.Seat.{Seat}
 use Rattle.least_rows.specs.Choices.{AreBestChoices, RulesBefore, choice_in, is_over, limit_of}
-use Rattle.least_rows.specs.Fronts.{AreShort, AreWays, AreWaysBelow, IsLead, IsShort, nearer_way, one_way, quiet_rank, rank_in, way_in, way_on, ways_of}
-use Rattle.least_rows.specs.Steps.{AreChoicesOf, AreWaysOver, EndsThere, IsLeafAt, way_to_none}
-use Rattle.least_rows.specs.Tops.{IsTop, parts_of, ways_at}
-use Rattle.least_rows.specs.declared.lead.Lead.TheVariants.{Several}
+use Rattle.least_rows.specs.Fronts.{AreShort, AreWays, AreWaysBelow, IsShort, nearer_way, one_way, quiet_rank, rank_in, way_in, way_on}
+use Rattle.least_rows.specs.Steps.{AreChoicesOf, AreWaysOver, EndsThere, IsLeafAt, LeadsOver, way_to_none}
+use Rattle.least_rows.specs.Tops.{IsTop, parts_of}
 use Rattle.least_rows.specs.declared.way.Way.{Way}
 use Rattle.least_rows.proofs.Asked.{next-one, quiet-row, seat-of}
 use Rattle.least_rows.proofs.CutsMore.{choices-offered, choices-passed, ends-so, one-offered, over-limit}
@@ -23,7 +22,7 @@ use Rattle.least_rows.proofs.Fronts.{on-same, ways-same}
 use Rattle.least_rows.proofs.PlanSeats.{on_ok}
 use Rattle.least_rows.proofs.Choices.{all-rules, choices-rules, no_cut-yet}
 use Rattle.least_rows.proofs.Known.{grows-none, grows-then, keep-grows, keep-known, keep-row, leaf-of, row-of, seat-same, span-entries, span-ranked}
-use Rattle.least_rows.proofs.Steps.{below-all, below-more, below-none, below-skip, one-on}
+use Rattle.least_rows.proofs.Steps.{below-all, below-more, below-none, below-skip, lead-over, one-on}
 use Rattle.least_rows.proofs.Tops.{few-parts, part-less, part-of, part-place, to-first, to-next, to-nowhere, to-short, to-whole}
 use Rattle.least_rows.proofs.rows.Rows.+rows.Goals as goal
 
@@ -167,32 +166,26 @@ lead-lead_by_row-requires-clause-entries t c =
     (c.in_ok-span-in-None.ensures.row s at) c.entries_of.result.now c.entries_of.ensures
 
 pub lead-returns-in-Some-clause-lead : goal.lead-returns-in-Some-clause-lead
-lead-returns-in-Some-clause-lead t c = c.lead_by_quiet.ensures.lead c.args.self.now.entries.items
-
-pub lead-returns-in-Some-clause-ways : goal.lead-returns-in-Some-clause-ways
-lead-returns-in-Some-clause-ways t c = λ s at.
+lead-returns-in-Some-clause-lead t c =
     let g = c.args.search.now.grammar.now in
     let k = c.args.search.now.input.now in
     let plan = c.args.search.now.plan.now in
     let d = ground_of g k in
-    let one : c.index.result.now ≡ s = c.index.ensures ∙ get_or_from_slice_get plan.seats.items c.args.seat s c.index.result.now at in
-    let calm = subst (λ (s : Seat). IsQuiet c.in-Some.quiet d c.args.place s.width) one (c.in-Some.ensures g c.requires.search.ready.units) in
-    one-on d c.args.place (pair_of s) c.args.way c.args.count c.requires.count (quiet_rank c.quiet_tree-tree.result)
-    (quiet-row g k plan c.requires.search.ready c.requires.search.plan_of c.args.seat c.in-Some.quiet c.args.count c.quiet_tree-tree.result c.quiet_tree-tree.ensures c.args.place s at calm)
-    (ways_of c.args.self.now.entries.items c.args.way c.args.count c.lead_by_quiet.result) (c.lead_by_quiet.ensures.ways c.args.self.now.entries.items)
+    lead-over g k plan c.args.seat c.args.place c.args.way c.args.count c.requires.count (quiet_rank c.quiet_tree-tree.result) (λ s at.
+        let one : c.index.result.now ≡ s = c.index.ensures ∙ get_or_from_slice_get plan.seats.items c.args.seat s c.index.result.now at in
+        let calm = subst (λ (s : Seat). IsQuiet c.in-Some.quiet d c.args.place s.width) one (c.in-Some.ensures g c.requires.search.ready.units) in
+        quiet-row g k plan c.requires.search.ready c.requires.search.plan_of c.args.seat c.in-Some.quiet c.args.count c.quiet_tree-tree.result c.quiet_tree-tree.ensures c.args.place s at calm)
+    c.lead_by_quiet.result c.lead_by_quiet.ensures
 
 pub lead-returns-in_ok-span-in-None-clause-lead : goal.lead-returns-in_ok-span-in-None-clause-lead
 lead-returns-in_ok-span-in-None-clause-lead t c =
-    c.lead_by_row.ensures.lead c.row.new.self.entries.items (c.in_ok-span-in-None.ensures.row c.requires.place.0 c.requires.place.1).within (sym c.entries_of.ensures)
-
-pub lead-returns-in_ok-span-in-None-clause-ways : goal.lead-returns-in_ok-span-in-None-clause-ways
-lead-returns-in_ok-span-in-None-clause-ways t c = λ s at.
     let g = c.args.search.now.grammar.now in
     let k = c.args.search.now.input.now in
-    one-on (ground_of g k) c.args.place (pair_of s) c.args.way c.args.count c.requires.count (rank_in c.entries_of.result.now 0)
-    (span-ranked g k c.args.search.now.plan.now c.requires.search.ready c.requires.search.plan_of c.args.seat s at c.row.new.self.entries.items c.args.place c.args.count c.in_ok-span-in-None.span
-    (c.in_ok-span-in-None.ensures.row s at) c.entries_of.result.now c.entries_of.ensures)
-    (ways_of c.row.new.self.entries.items c.args.way c.args.count c.lead_by_row.result) (c.lead_by_row.ensures.ways c.row.new.self.entries.items (sym c.entries_of.ensures))
+    let plan = c.args.search.now.plan.now in
+    lead-over g k plan c.args.seat c.args.place c.args.way c.args.count c.requires.count (rank_in c.entries_of.result.now 0) (λ s at.
+        span-ranked g k plan c.requires.search.ready c.requires.search.plan_of c.args.seat s at c.row.new.self.entries.items c.args.place c.args.count c.in_ok-span-in-None.span
+        (c.in_ok-span-in-None.ensures.row s at) c.entries_of.result.now c.entries_of.ensures)
+    c.lead_by_row.result c.lead_by_row.ensures
 
 -- ---- one cut
 
@@ -303,30 +296,14 @@ offer_cut-returns-in-Nowhere-clause-best t c =
     choices-offered g k plan ready of top cut c.requires.top c.parts.best before c.parts.best (λ t.
         let w = c.parts.invariant.ways t in
         let x = part-of g k plan ready of top cut t c.parts.part c.index-seat.result.now c.parts.at c.parts.auto.part c.parts-test.true c.index-seat.ensures w.0 in
-        let same : c.index.result.now ≡ x.seat = c.index.ensures ∙ get_or_from_slice_get plan.seats.items c.index-seat.result.now x.seat c.index.result.now x.there in
-        let next = to-next g k plan ready of top cut t c.parts.part c.index-seat.result.now c.parts.at c.index.result.now.width c.parts.auto.part x w.0 (ap (λ (s : Seat). s.width) same) (one_way c.parts.way c.parts.count) (λ b. None) w.1 (subst (λ l. AreWaysOver g k plan c.index-seat.result.now c.parts.at (one_way c.parts.way c.parts.count) (ways_of c.lead.new.self.entries.items c.parts.way c.parts.count l)) c.in-Nowhere.is c.in_ok-lead.ensures.ways) in
+        let next = to-next g k plan ready of top cut t c.parts.part c.index-seat.result.now c.parts.at x.seat.width c.parts.auto.part x w.0 refl (one_way c.parts.way c.parts.count) (λ b. None) w.1 (subst (LeadsOver g k plan c.index-seat.result.now c.parts.at c.parts.way c.parts.count) c.in-Nowhere.is c.in_ok-lead.ensures.lead) in
         ((λ b. None), to-nowhere g k plan ready of top cut t (c.parts.part + 1) (omega (arith, end)) next.1, λ b lb. refl))
 
 pub offer_cut-offer_fork-requires : goal.offer_cut-offer_fork-requires
 offer_cut-offer_fork-requires t c =
-    let g = c.args.search.now.grammar.now in
-    let k = c.args.search.now.input.now in
-    let plan = c.args.search.now.plan.now in
-    let ready = c.requires.search.ready in
-    let of = c.requires.search.plan_of in
-    let top = c.args.top in
-    let cut = c.args.cut.now in
-    let ways = (c.parts.invariant.ways c.requires.top).1 in
-    let end = c.parts-test.true in
-    let short = one-short c.parts.way c.parts.count c.parts.invariant.few (to-short g k plan ready of top cut c.requires.top (c.parts.part - cut.first) (few-parts g k plan ready of top cut c.requires.top c.parts.part (omega (arith, end))) (one_way c.parts.way c.parts.count) ways) in
-    let lead = subst (IsLead c.lead.new.self.entries.items) c.in-Several.is c.in_ok-lead.ensures.lead in
     let first = c.parts.auto.part in
-    and_then (omega (arith, c.decreases)) (and_then c.requires.search (and_then c.requires.top (and_then (omega (arith, first), omega (arith, end)) (and_then (short, c.parts.invariant.few, lead.0, lead.1) (and_then (λ t.
-        let w = c.parts.invariant.ways t in
-        let x = part-of g k plan ready of top cut t c.parts.part c.index-seat.result.now c.parts.at c.parts.auto.part c.parts-test.true c.index-seat.ensures w.0 in
-        let same : c.index.result.now ≡ x.seat = c.index.ensures ∙ get_or_from_slice_get plan.seats.items c.index-seat.result.now x.seat c.index.result.now x.there in
-        let next = to-next g k plan ready of top cut t c.parts.part c.index-seat.result.now c.parts.at c.index.result.now.width c.parts.auto.part x w.0 (ap (λ (s : Seat). s.width) same) (one_way c.parts.way c.parts.count) (ways_of c.lead.new.self.entries.items c.parts.way c.parts.count (Several c.in-Several.span)) w.1 (subst (λ l. AreWaysOver g k plan c.index-seat.result.now c.parts.at (one_way c.parts.way c.parts.count) (ways_of c.lead.new.self.entries.items c.parts.way c.parts.count l)) c.in-Several.is c.in_ok-lead.ensures.ways) in
-        next) c.in_ok-lead.ensures.known)))))
+    let end = c.parts-test.true in
+    and_then (omega (arith, c.decreases)) (and_then c.requires.search (and_then c.requires.top (and_then (first, end, c.fits-cut.1.1.1.0.1) (and_then c.parts.invariant.few (and_then c.parts.invariant.ways c.in_ok-lead.ensures.known)))))
 
 pub offer_cut-returns-in-Several-clause-grows : goal.offer_cut-returns-in-Several-clause-grows
 offer_cut-returns-in-Several-clause-grows t c =
@@ -357,12 +334,12 @@ offer_cut-parts-preserved t c =
       known = c.in_ok-lead.ensures.known;
       grows = grows-then c.args.self.now c.parts.self c.lead.new.self c.parts.invariant.grows c.in_ok-lead.ensures.grows;
       same = c.parts.invariant.same;
-      few = subst (IsLead c.lead.new.self.entries.items) c.in-One.is c.in_ok-lead.ensures.lead;
+      few = (subst (LeadsOver g k plan c.index-seat.result.now c.parts.at c.parts.way c.parts.count) c.in-One.is c.in_ok-lead.ensures.lead).0;
       ways = λ t.
           let w = c.parts.invariant.ways t in
           let x = part-of g k plan ready of top cut t c.parts.part c.index-seat.result.now c.parts.at c.parts.auto.part c.parts-test.true c.index-seat.ensures w.0 in
           let same : c.index.result.now ≡ x.seat = c.index.ensures ∙ get_or_from_slice_get plan.seats.items c.index-seat.result.now x.seat c.index.result.now x.there in
-          let next = to-next g k plan ready of top cut t c.parts.part c.index-seat.result.now c.parts.at c.index.result.now.width c.parts.auto.part x w.0 (ap (λ (s : Seat). s.width) same) (one_way c.parts.way c.parts.count) (one_way c.in-One.next c.in-One.to) w.1 (subst (λ l. AreWaysOver g k plan c.index-seat.result.now c.parts.at (one_way c.parts.way c.parts.count) (ways_of c.lead.new.self.entries.items c.parts.way c.parts.count l)) c.in-One.is c.in_ok-lead.ensures.ways) in
+          let next = to-next g k plan ready of top cut t c.parts.part c.index-seat.result.now c.parts.at c.index.result.now.width c.parts.auto.part x w.0 (ap (λ (s : Seat). s.width) same) (one_way c.parts.way c.parts.count) (one_way c.in-One.next c.in-One.to) w.1 (subst (LeadsOver g k plan c.index-seat.result.now c.parts.at c.parts.way c.parts.count) c.in-One.is c.in_ok-lead.ensures.lead).1 in
           next;
     }
 
@@ -405,6 +382,80 @@ offer_cut-returns-clause-best t c =
 
 -- ---- a fork
 
+pub join_fork-entries_of-requires : goal.join_fork-entries_of-requires
+join_fork-entries_of-requires t c = record { within = (c.in_ok-span.ensures.row c.requires.place.0 c.requires.place.1).within }
+
+pub join_fork-join-requires-clause-entries : goal.join_fork-join-requires-clause-entries
+join_fork-join-requires-clause-entries t c =
+    let s = c.requires.place.0 in
+    let at = c.requires.place.1 in
+    span-entries c.args.search.now.grammar.now c.args.search.now.input.now c.args.search.now.plan.now c.requires.search.ready c.requires.search.plan_of c.args.seat s at c.row.new.self.entries.items c.args.fork.at c.args.fork.count c.in_ok-span.span
+    (c.in_ok-span.ensures.row s at) c.entries_of.result.now c.entries_of.ensures
+
+pub join_fork-returns-clause-ways : goal.join_fork-returns-clause-ways
+join_fork-returns-clause-ways t c = λ s at.
+    let g = c.args.search.now.grammar.now in
+    let k = c.args.search.now.input.now in
+    let ranks = rank_in c.entries_of.result.now 0 in
+    one-on (ground_of g k) c.args.fork.at (pair_of s) c.args.fork.way c.args.fork.count c.requires.count ranks
+    (span-ranked g k c.args.search.now.plan.now c.requires.search.ready c.requires.search.plan_of c.args.seat s at c.row.new.self.entries.items c.args.fork.at c.args.fork.count c.in_ok-span.span
+    (c.in_ok-span.ensures.row s at) c.entries_of.result.now c.entries_of.ensures)
+    (way_in c.join.new.next)
+    (λ b lb. c.join.ensures b lb ∙ ap (λ o. nearer_way o (way_on (Some c.args.fork.way) c.args.fork.count (ranks b))) (c.requires.none b lb) ∙ first-way (way_on (Some c.args.fork.way) c.args.fork.count (ranks b)))
+
+pub offer_fork-join_fork-requires : goal.offer_fork-join_fork-requires
+offer_fork-join_fork-requires t c =
+    let g = c.args.search.now.grammar.now in
+    let k = c.args.search.now.input.now in
+    let plan = c.args.search.now.plan.now in
+    let ready = c.requires.search.ready in
+    let of = c.requires.search.plan_of in
+    let top = c.args.top in
+    let cut = c.args.cut.now in
+    let v = c.requires.ways c.requires.top in
+    let y = part-of g k plan ready of top cut c.requires.top c.args.fork.part c.index-own.result.now c.args.fork.at c.requires.part.0 c.requires.part.1 c.index-own.ensures v.0 in
+    let short = one-short c.args.fork.way c.args.fork.count c.requires.count (to-short g k plan ready of top cut c.requires.top (c.args.fork.part - cut.first) y.few (one_way c.args.fork.way c.args.fork.count) v.1) in
+    let less = part-less g k plan ready of top cut c.requires.top c.args.fork.part c.index-own.result.now c.args.fork.at y in
+    and_then (omega (arith, c.decreases, less)) (and_then c.requires.search (and_then (part-place g k plan ready of top cut c.requires.top c.args.fork.part c.index-own.result.now c.args.fork.at y) (and_then nones (and_then short (and_then c.requires.count c.requires.known)))))
+
+pub offer_fork-index-requires : goal.offer_fork-index-requires
+offer_fork-index-requires t c =
+    let g = c.args.search.now.grammar.now in
+    let k = c.args.search.now.input.now in
+    let plan = c.args.search.now.plan.now in
+    let ready = c.requires.search.ready in
+    let of = c.requires.search.plan_of in
+    let top = c.args.top in
+    let cut = c.args.cut.now in
+    let v = c.requires.ways c.requires.top in
+    let y = part-of g k plan ready of top cut c.requires.top c.args.fork.part c.index-own.result.now c.args.fork.at c.requires.part.0 c.requires.part.1 c.index-own.ensures v.0 in
+    let low = slice_get_within plan.seats.items c.index-own.result.now y.seat y.there in
+    omega (arith, low)
+
+pub offer_fork-overflow_add-at : goal.offer_fork-overflow_add-at
+offer_fork-overflow_add-at t c =
+    let g = c.args.search.now.grammar.now in
+    let k = c.args.search.now.input.now in
+    let plan = c.args.search.now.plan.now in
+    let ready = c.requires.search.ready in
+    let of = c.requires.search.plan_of in
+    let top = c.args.top in
+    let cut = c.args.cut.now in
+    let v = c.requires.ways c.requires.top in
+    let y = part-of g k plan ready of top cut c.requires.top c.args.fork.part c.index-own.result.now c.args.fork.at c.requires.part.0 c.requires.part.1 c.index-own.ensures v.0 in
+    let same : c.index.result.now ≡ y.seat = c.index.ensures ∙ get_or_from_slice_get plan.seats.items c.index-own.result.now y.seat c.index.result.now y.there in
+    let width = ap (λ (s : Seat). s.width) same in
+    let within = y.within in
+    let most = ready.readable.ranges.few_units in
+    let units = ready.units in
+    omega (arith, width, within, most, units)
+
+pub offer_fork-overflow_step-part : goal.offer_fork-overflow_step-part
+offer_fork-overflow_step-part t c =
+    let high = c.requires.part.1 in
+    let fits = c.requires.part.2 in
+    omega (arith, high, fits)
+
 pub offer_fork-parts-init : goal.offer_fork-parts-init
 offer_fork-parts-init t c =
     let g = c.args.search.now.grammar.now in
@@ -415,13 +466,13 @@ offer_fork-parts-init t c =
     let top = c.args.top in
     let cut = c.args.cut.now in
     record {
-      known = c.requires.known;
-      grows = grows-none c.args.self.now;
+      known = c.in_ok-join_fork.ensures.known;
+      grows = grows-none c.join_fork.new.self;
       ways = λ t.
-          let w = c.requires.ways t in
-          (w.0, ways-same (ground_of g k) top.place (parts_of g k plan top cut t) top.from (c.args.fork.part - cut.first) (ways_at c.args.self.now.entries.items c.args.fork) (way_in c.join.new.next)
-              (λ b lb. sym (c.join.ensures b lb ∙ ap (λ o. nearer_way o (way_on (Some c.args.fork.way) c.args.fork.count (rank_in c.entries_of.result.now 0 b))) (nones b lb)
-              ∙ first-way (way_on (Some c.args.fork.way) c.args.fork.count (rank_in c.entries_of.result.now 0 b)) ∙ ap (λ l. way_on (Some c.args.fork.way) c.args.fork.count (rank_in l 0 b)) c.entries_of.ensures)) w.1);
+          let v = c.requires.ways t in
+          let y = part-of g k plan ready of top cut t c.args.fork.part c.index-own.result.now c.args.fork.at c.requires.part.0 c.requires.part.1 c.index-own.ensures v.0 in
+          let same : c.index.result.now ≡ y.seat = c.index.ensures ∙ get_or_from_slice_get plan.seats.items c.index-own.result.now y.seat c.index.result.now y.there in
+          to-next g k plan ready of top cut t c.args.fork.part c.index-own.result.now c.args.fork.at c.index.result.now.width c.requires.part.0 y v.0 (ap (λ (s : Seat). s.width) same) (one_way c.args.fork.way c.args.fork.count) (way_in c.join_fork.new.ways) v.1 c.in_ok-join_fork.ensures.ways;
     }
 
 pub offer_fork-over-requires : goal.offer_fork-over-requires
@@ -435,13 +486,12 @@ offer_fork-over-requires t c =
     let cut = c.args.cut.now in
     let w = c.parts.invariant.ways c.requires.top in
     let x = part-of g k plan ready of top cut c.requires.top c.parts.part c.index-seat.result.now c.parts.at (omega (arith, c.parts.auto.part, c.requires.part.0)) c.parts-test.true c.index-seat.ensures w.0 in
-    let end = c.parts-test.true in
-    let short = to-short g k plan ready of top cut c.requires.top (c.parts.part - cut.first) (few-parts g k plan ready of top cut c.requires.top c.parts.part (omega (arith, end))) (way_in c.parts.ways) w.1 in
+    let short = to-short g k plan ready of top cut c.requires.top (c.parts.part - cut.first) x.few (way_in c.parts.ways) w.1 in
     let less = part-less g k plan ready of top cut c.requires.top c.parts.part c.index-seat.result.now c.parts.at x in
     and_then (omega (arith, c.decreases, less)) (and_then c.requires.search (and_then (part-place g k plan ready of top cut c.requires.top c.parts.part c.index-seat.result.now c.parts.at x) (and_then nones (and_then short c.parts.invariant.known))))
 
-pub offer_fork-index-requires : goal.offer_fork-index-requires
-offer_fork-index-requires t c =
+pub offer_fork-index-requires-in-parts : goal.offer_fork-index-requires-in-parts
+offer_fork-index-requires-in-parts t c =
     let g = c.args.search.now.grammar.now in
     let k = c.args.search.now.input.now in
     let plan = c.args.search.now.plan.now in
@@ -454,8 +504,8 @@ offer_fork-index-requires t c =
     let low = slice_get_within plan.seats.items c.index-seat.result.now x.seat x.there in
     omega (arith, low)
 
-pub offer_fork-overflow_add-at : goal.offer_fork-overflow_add-at
-offer_fork-overflow_add-at t c =
+pub offer_fork-overflow_add-at-in-parts : goal.offer_fork-overflow_add-at-in-parts
+offer_fork-overflow_add-at-in-parts t c =
     let g = c.args.search.now.grammar.now in
     let k = c.args.search.now.input.now in
     let plan = c.args.search.now.plan.now in
@@ -465,7 +515,7 @@ offer_fork-overflow_add-at t c =
     let cut = c.args.cut.now in
     let w = c.parts.invariant.ways c.requires.top in
     let x = part-of g k plan ready of top cut c.requires.top c.parts.part c.index-seat.result.now c.parts.at (omega (arith, c.parts.auto.part, c.requires.part.0)) c.parts-test.true c.index-seat.ensures w.0 in
-    let same : c.index.result.now ≡ x.seat = c.index.ensures ∙ get_or_from_slice_get plan.seats.items c.index-seat.result.now x.seat c.index.result.now x.there in
+    let same : c.index-in-parts.result.now ≡ x.seat = c.index-in-parts.ensures ∙ get_or_from_slice_get plan.seats.items c.index-seat.result.now x.seat c.index-in-parts.result.now x.there in
     let width = ap (λ (s : Seat). s.width) same in
     let within = x.within in
     let most = ready.readable.ranges.few_units in
@@ -483,13 +533,12 @@ offer_fork-parts-preserved t c =
     let cut = c.args.cut.now in
     record {
       known = c.in_ok-over.ensures.known;
-      grows = grows-then c.args.self.now c.parts.self c.over.new.self c.parts.invariant.grows c.in_ok-over.ensures.grows;
+      grows = grows-then c.join_fork.new.self c.parts.self c.over.new.self c.parts.invariant.grows c.in_ok-over.ensures.grows;
       ways = λ t.
           let w = c.parts.invariant.ways t in
           let x = part-of g k plan ready of top cut t c.parts.part c.index-seat.result.now c.parts.at (omega (arith, c.parts.auto.part, c.requires.part.0)) c.parts-test.true c.index-seat.ensures w.0 in
-          let same : c.index.result.now ≡ x.seat = c.index.ensures ∙ get_or_from_slice_get plan.seats.items c.index-seat.result.now x.seat c.index.result.now x.there in
-          let next = to-next g k plan ready of top cut t c.parts.part c.index-seat.result.now c.parts.at c.index.result.now.width (omega (arith, c.parts.auto.part, c.requires.part.0)) x w.0 (ap (λ (s : Seat). s.width) same) (way_in c.parts.ways) (way_in c.over.new.next) w.1 c.in_ok-over.ensures.ways in
-          next;
+          let same : c.index-in-parts.result.now ≡ x.seat = c.index-in-parts.ensures ∙ get_or_from_slice_get plan.seats.items c.index-seat.result.now x.seat c.index-in-parts.result.now x.there in
+          to-next g k plan ready of top cut t c.parts.part c.index-seat.result.now c.parts.at c.index-in-parts.result.now.width (omega (arith, c.parts.auto.part, c.requires.part.0)) x w.0 (ap (λ (s : Seat). s.width) same) (way_in c.parts.ways) (way_in c.over.new.next) w.1 c.in_ok-over.ensures.ways;
     }
 
 pub offer_fork-offer_ways-requires : goal.offer_fork-offer_ways-requires
@@ -502,17 +551,20 @@ offer_fork-offer_ways-requires t c =
     let top = c.args.top in
     let cut = c.args.cut.now in
     let ways = (c.parts.invariant.ways c.requires.top).1 in
-    let upto = c.parts.auto.part-end in
-    let end : c.parts.part ≤ cut.end = upto c.requires.part.1 in
+    let high = c.requires.part.1 in
+    let end : c.parts.part ≤ cut.end = c.parts.auto.part-end (omega (arith, high)) in
     record { short = to-short g k plan ready of top cut c.requires.top (c.parts.part - cut.first) (few-parts g k plan ready of top cut c.requires.top c.parts.part end) (way_in c.parts.ways) ways }
+
+pub offer_fork-returns-clause-grows : goal.offer_fork-returns-clause-grows
+offer_fork-returns-clause-grows t c = grows-then c.args.self.now c.join_fork.new.self c.parts.self c.in_ok-join_fork.ensures.grows c.parts.invariant.grows
 
 pub offer_fork-returns-clause-best : goal.offer_fork-returns-clause-best
 offer_fork-returns-clause-best t c = λ t.
     let g = c.args.search.now.grammar.now in
     let k = c.args.search.now.input.now in
     let plan = c.args.search.now.plan.now in
-    let upto = c.parts.auto.part-end in
-    let end : c.parts.part ≤ c.args.cut.now.end = upto c.requires.part.1 in
+    let high = c.requires.part.1 in
+    let end : c.parts.part ≤ c.args.cut.now.end = c.parts.auto.part-end (omega (arith, high)) in
     let past = c.parts-test.false in
     (way_in c.parts.ways, to-whole g k plan c.requires.search.ready c.requires.search.plan_of c.args.top c.args.cut.now t c.parts.part (omega (arith, past, end)) (way_in c.parts.ways) (c.parts.invariant.ways t).1, c.offer_ways.ensures)
 

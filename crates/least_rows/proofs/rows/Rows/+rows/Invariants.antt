@@ -13,6 +13,9 @@ decreases-find_row l = 16 * width_at l.search.now.plan.now l.seat + 3
 abbrev pub decreases-join_row : goal.decreases-join_row
 decreases-join_row l = 16 * width_at l.search.now.plan.now l.seat + 5
 
+abbrev pub decreases-join_fork : goal.decreases-join_fork
+decreases-join_fork l = 16 * width_at l.search.now.plan.now l.seat + 5
+
 abbrev pub decreases-lead : goal.decreases-lead
 decreases-lead l = 16 * width_at l.search.now.plan.now l.seat + 5
 
