@@ -9,7 +9,7 @@ pub mod Goods
 pub mod Hearing
 pub mod Leaves
 pub mod Searches
-pub mod ListSpans
+pub mod TableLists
 pub mod Roots
 pub mod Slices
 pub mod Families

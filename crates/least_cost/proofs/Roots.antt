@@ -37,7 +37,7 @@ use Rattle.least_cost.specs.Nodes.{IsReady, ground_of}
 use Rattle.least_cost.specs.Tables.{best_at, entry_key}
 use Rattle.least_cost.proofs.Bounds.{stands-cheap}
 use Rattle.least_cost.proofs.Goods.{Table}
-use Rattle.least_cost.proofs.ListSpans.{key_list}
+use Rattle.least_cost.proofs.TableLists.{key_list}
 use Rattle.least_cost.proofs.RuleKeys.{single_tree, top_shape}
 use Rattle.least_cost.proofs.Ropes.{HasText-is}
 use Rattle.least_cost.proofs.Searches.{bounds, grounded}

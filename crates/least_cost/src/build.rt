@@ -1,14 +1,14 @@
 ghost use Rattle.least_cost.specs.Entries.{IsGood, entry_at, entry_in};
 ghost use Rattle.least_cost.specs.Nodes.{AreFound, IsAnswerAt, IsReady, IsWithin};
 ghost use Rattle.least_cost.specs.Pins.{demanded};
-ghost use Rattle.least_cost.specs.Tables.{AreGridLists, AreRowLists, best_at, best_of, entry_key};
+ghost use Rattle.least_cost.specs.Tables.{best_at, best_of, entry_key, grid_keys};
+ghost use Rattle.least_rows.specs.WrittenLists.{AreWritten, IsListAt, IsListOf, number_of};
 ghost use Rattle.grammar_plan.specs.Plans.{HasSeat, IsPlan};
-ghost use Rattle.least_rows.specs.BarTrees.{IsListOf};
 ghost use Rattle.rhythm_base.specs.BarInput.{IsBarInput};
 ghost use Rattle.rhythm_base.specs.BarTables.{IsTable};
 ghost use Rattle.rhythm_base.specs.Counter.{risen};
 ghost use Rattle.rhythm_base.specs.Paths.{AreLow, IsRanked};
-ghost use Rattle.rhythm_base.specs.Ranked.{at, five, grid};
+ghost use Rattle.rhythm_base.specs.Ranked.{five, grid};
 ghost use Rattle.rhythm_base.specs.Readable.{IsReadable};
 ghost use Rattle.std.specs.Prelude.{◌≡◌, ◌++◌, ◌<◌, ℕ, List, None, IfOk, OnOk, option_map, slice_index_or};
 
@@ -22,7 +22,7 @@ use crate::table::BarTable;
 use crate::trees::least_trees;
 use carry_matrix::CarryMatrix;
 use grammar_plan::Plan;
-use least_rows::{ListSpan, Room};
+use least_rows::{Room, WrittenLists};
 use rhythm_base::{BarInput, Best, Grammar, Shape, Tag};
 use std::alloc::{AllocError, Global};
 
@@ -108,11 +108,12 @@ fn build_by_rows(
     ensures input { IfOk result (λ t. t.input ≡ input.now) }
     ensures table { IfOk result (IsTable grammar.now) }
 {
-    let trees = room.search(grammar, plan, input, root)?;
+    room.search(grammar, plan, input, root)?;
+    let trees = &room.trees;
+    let lists = trees.lists.copy(alloc)?;
     let kept = copy_of(alloc, input)?;
-    let matrix = CarryMatrix::make(whole(&trees.bests));
-    let table = BarTable::of(alloc, matrix, room.rules.as_slice(), &trees.lists, kept)?;
-    Ok(table)
+    let matrix = CarryMatrix::make(trees.bests.rows);
+    Ok(BarTable::of(matrix, lists, kept))
 }
 
 /// The table of a bar, with a pin or without. It keeps what it finds of each symbol over each interval of the bar for as long
@@ -134,12 +135,10 @@ fn build_pinned(alloc: Global, grammar: &Grammar, input: &BarInput) -> Result<Ba
     let spans = Spans::of(grammar);
     let number = least_trees(alloc, grammar, &spans, input, &pins, &mut memo, asked)?;
     let grid = memo.grid(number);
-    let mut rules = Vec::new(alloc);
-    let lists = write_grid(&memo.lists, grid, &mut rules)?;
+    let lists = write_grid(alloc, &memo.lists, grid)?;
     let kept = copy_of(alloc, input)?;
     let matrix = CarryMatrix::make(bests(grid));
-    let table = BarTable::of(alloc, matrix, rules.as_slice(), &lists, kept)?;
-    Ok(table)
+    Ok(BarTable::of(matrix, lists, kept))
 }
 
 /// An equal input.
@@ -207,77 +206,49 @@ fn bests(entries: &Grid) -> [[Option<Best>; 5]; 5]
     ]
 }
 
-fn whole_row(row: &[Option<Best>; 5]) -> [Option<Best>; 5]
-    ensures { result ≡ five (λ b. slice_index_or row.now b None) }
-{
-    [row[0], row[1], row[2], row[3], row[4]]
-}
-
-/// The same entries.
-fn whole(entries: &[[Option<Best>; 5]; 5]) -> [[Option<Best>; 5]; 5]
-    ensures { result ≡ grid (at entries.now) }
-{
-    [
-        whole_row(&entries[0]),
-        whole_row(&entries[1]),
-        whole_row(&entries[2]),
-        whole_row(&entries[3]),
-        whole_row(&entries[4]),
-    ]
-}
-
-/// Writes the rule list of an entry after what stands in `rules`, and says where.
+/// Writes the rule list of an entry after what stands in `rules`.
 fn write_entry(
     lists: &RuleLists,
     entry: Option<Entry>,
     rules: &mut Vec<u16>,
-) -> Result<Option<ListSpan>, AllocError>
-    ensures grows { OnOk result ((more : List ℕ) × (rules.new.items ≡ rules.old.items ++ more)) }
-    ensures list { IfOk result (λ span. IsListOf rules.new.items span (entry_key lists.now entry)) }
+) -> Result<(), AllocError>
+    ensures { OnOk result ((more : List ℕ) × (rules.new.items ≡ rules.old.items ++ more) × IsListOf (entry_key lists.now entry) more) }
 {
     match entry {
-        None => Ok(None),
-        Some(entry) => {
-            let first = number_of(rules.len())?;
-            lists.write(entry.list, rules)?;
-            let end = number_of(rules.len())?;
-            Ok(Some(ListSpan { first, end }))
-        }
+        None => Ok(()),
+        Some(entry) => lists.write(entry.list, rules),
     }
 }
 
-/// A place among the rules as a number. Where the numbers have run out, the answer is that there is no memory.
-fn number_of(place: usize) -> Result<u32, AllocError>
-    ensures { IfOk result (λ n. n ≡ place) }
-{
-    u32::try_from(place).ok().ok_or(AllocError)
-}
-
+/// Writes the rule lists of the entries for a number carried in.
 fn write_row(
     lists: &RuleLists,
-    row: &[Option<Entry>; 5],
-    rules: &mut Vec<u16>,
-) -> Result<[Option<ListSpan>; 5], AllocError>
-    ensures grows { OnOk result ((more : List ℕ) × (rules.new.items ≡ rules.old.items ++ more)) }
-    ensures lists { IfOk result (AreRowLists rules.new.items (λ b. entry_key lists.now (entry_in row.now b)) 5) }
+    entries: &Grid,
+    from: u8,
+    written: &mut WrittenLists,
+) -> Result<(), AllocError>
+    requires from { from < 5 }
+    requires written { AreWritten (IsListAt (grid_keys lists.now entries.now)) written.old.rules.items written.old.ends (number_of from 0) }
+    ensures { OnOk result (AreWritten (IsListAt (grid_keys lists.now entries.now)) written.new.rules.items written.new.ends (number_of from 5)) }
 {
-    let mut spans = [None; 5];
     'counts: for to in 0..5u8 {
-        spans[to as usize] = write_entry(lists, row[to as usize], rules)?;
+        write_entry(
+            lists,
+            entries[from as usize][to as usize],
+            &mut written.rules,
+        )?;
+        written.end(from, to)?;
     }
-    Ok(spans)
+    Ok(())
 }
 
-fn write_grid(
-    lists: &RuleLists,
-    entries: &Grid,
-    rules: &mut Vec<u16>,
-) -> Result<[[Option<ListSpan>; 5]; 5], AllocError>
-    ensures { IfOk result (AreGridLists rules.new.items (λ a b. entry_key lists.now (entry_at entries.now a b)) 5) }
+/// The rule lists of the entries.
+fn write_grid(alloc: Global, lists: &RuleLists, entries: &Grid) -> Result<WrittenLists, AllocError>
+    ensures { IfOk result (λ x. AreWritten (IsListAt (grid_keys lists.now entries.now)) x.rules.items x.ends 25) }
 {
-    let mut spans = [[None; 5]; 5];
+    let mut written = WrittenLists::new(alloc);
     'counts: for from in 0..5u8 {
-        spans[from as usize] = write_row(lists, &entries[from as usize], rules)?;
+        write_row(lists, entries, from, &mut written)?;
     }
-    Ok(spans)
+    Ok(written)
 }

@@ -14,7 +14,6 @@ mod choice;
 mod cut;
 mod entry;
 mod leaf;
-mod lists;
 mod memo;
 mod pins;
 mod product;

@@ -1,12 +1,10 @@
-ghost use Rattle.least_cost.specs.Tables.{AreWithin, lists_in};
+ghost use Rattle.least_cost.specs.Tables.{AreAllPlaced, lists_of};
 ghost use Rattle.rhythm_base.specs.BarTables.{list_at};
-ghost use Rattle.std.specs.Prelude.{◌≡◌, ◌<◌, IfOk, None, option_map, slice_index_or};
+ghost use Rattle.std.specs.Prelude.{◌≡◌, ◌<◌, option_map};
 
-use crate::lists::lists_of;
 use carry_matrix::CarryMatrix;
-use least_rows::ListSpan;
-use rhythm_base::{BarInput, RuleList};
-use std::alloc::{AllocError, Global};
+use least_rows::WrittenLists;
+use rhythm_base::BarInput;
 use std::marker::Model;
 
 /// The least trees of one bar of one voice, by the number of chords carried into the bar and the number carried out: what
@@ -14,39 +12,36 @@ use std::marker::Model;
 #[derive(Drop)]
 pub struct BarTable {
     matrix: CarryMatrix,
-    lists: [[Option<RuleList>; 5]; 5],
+    /// Where the matrix has no entry the list is not looked at.
+    lists: WrittenLists,
     input: BarInput,
 }
 
 impl Model for BarTable {
     ghost use Rattle.rhythm_base.specs.BarTables.{BarTable};
     ghost use Rattle.least_cost.specs.TableCode.{table_code};
+    ghost use Rattle.least_cost.specs.Tables.{AreAllPlaced, lists_of};
 
     ghost Value = { BarTable };
 
     ghost coded = { table_code };
 
-    ghost view = { λ t. record { matrix = t.matrix; lists = t.lists; input = t.input } };
+    ghost view = { λ t. record { matrix = t.matrix; lists = lists_of t.matrix t.lists.rules.items t.lists.ends; input = t.input } };
+
+    ghost invariant = { λ t. AreAllPlaced t.lists.rules.items t.lists.ends };
 }
 
 impl BarTable {
-    /// The table whose rule lists stand in these spans of the rules.
-    pub(crate) fn of(
-        alloc: Global,
-        matrix: CarryMatrix,
-        rules: &[u16],
-        spans: &[[Option<ListSpan>; 5]; 5],
-        input: BarInput,
-    ) -> Result<BarTable, AllocError>
-        requires { AreWithin rules.now spans.now }
-        ensures { IfOk result (λ t. t ≡ record { matrix = matrix; lists = lists_in rules.now spans.now; input = input }) }
+    /// The table of these costs and rule lists.
+    pub(crate) fn of(matrix: CarryMatrix, lists: WrittenLists, input: BarInput) -> BarTable
+        requires { AreAllPlaced lists.rules.items lists.ends }
+        ensures { result ≡ record { matrix = matrix; lists = lists_of matrix lists.rules.items lists.ends; input = input } }
     {
-        let lists = lists_of(alloc, rules, spans)?;
-        Ok(BarTable {
+        BarTable {
             matrix,
             lists,
             input,
-        })
+        }
     }
 
     /// The costs, each at most 500,000,000,000, and the places of the rule lists in their rows.
@@ -62,7 +57,10 @@ impl BarTable {
         requires to { to < 5 }
         ensures { option_map (λ r. r.now) result ≡ list_at self.now from to }
     {
-        list_in(&self.lists[from as usize], to)
+        match self.matrix.get(from, to) {
+            None => None,
+            Some(_best) => Some(self.lists.list(from, to)),
+        }
     }
 
     /// The input that the table was built for.
@@ -70,15 +68,5 @@ impl BarTable {
         ensures { result.now ≡ self.now.input }
     {
         &self.input
-    }
-}
-
-fn list_in(row: &[Option<RuleList>; 5], to: u8) -> Option<&[u16]>
-    requires { to < 5 }
-    ensures { option_map (λ r. r.now) result ≡ slice_index_or row.now to None }
-{
-    match &row[to as usize] {
-        None => None,
-        Some(list) => Some(list.as_slice()),
     }
 }

@@ -14,6 +14,7 @@ pub mod PlanSeats
 pub mod QuietLists
 pub mod WayLists
 pub mod RowRanks
+pub mod ListEnds
 pub mod RootRows
 pub mod Limits
 pub mod Tops

@@ -1,7 +1,8 @@
 -- Rule lists over quiet intervals.
-use Rattle.std.proofs.Common.{◌≡◌, ℕ, ◌≤◌, List, [], ◌∷◌, refl, subst, arith}
+use Rattle.std.proofs.Common.{◌≡◌, ℕ, ◌<◌, ◌≤◌, ◌-◌, inl, inr, List, [], ◌∷◌, length, get_or, refl, sym, ap, ◌∙◌, subst, arith}
 use Rattle.std.specs.Prelude.{Option, Some, None, slice_get}
 use Rattle.std.proofs.Math.Nat.{mul-le-mul_left}
+use Rattle.std.proofs.lemmas.Option.{get_or_from_slice_get, slice_get_cases}
 use Rattle.rhythm_base.specs.Grammar.{Grammar}
 use Rattle.rhythm_base.specs.Leaves.{VoiceBar}
 use Rattle.rhythm_base.specs.Ranked.{Key}
@@ -12,12 +13,13 @@ use Rattle.row_laws.specs.declared.quiet.Quiet.{Quiet}
 use Rattle.row_laws.specs.declared.quiet.Quiet.TheVariants.{Sounding, Silent}
 use Rattle.rhythm_base.specs.Bodies.{children}
 use Rattle.rhythm_base.specs.declared.rule.Rule.{Rule}
-use Rattle.grammar_plan.specs.Plans.{HasQuietTree, HaveSeats, IsCutOf, IsPlan, IsQuietMade, IsQuietTree, between, pair_of}
+use Rattle.grammar_plan.specs.Plans.{HasQuietTree, HasSeat, HaveSeats, IsCutOf, IsPlan, IsQuietMade, IsQuietTree, between, pair_of}
 use Rattle.grammar_plan.specs.declared.cut.Cut.{Cut}
 use Rattle.grammar_plan.specs.declared.plan.Plan.{Plan}
 use Rattle.grammar_plan.specs.declared.quiet_tree.QuietTree.{QuietTree}
 use Rattle.grammar_plan.specs.declared.seat.Seat.{Seat}
-use Rattle.least_rows.proofs.PlanSeats.{one_at, seat_of}
+use Rattle.least_rows.specs.declared.parts.Parts.{Parts}
+use Rattle.least_rows.proofs.PlanSeats.{below-at, cut_below, has_seat-within, one_at, parts-at, parts-length, parts_lower, seat_lower, seat_measure, seat_of}
 
 -- a bar of one tick without chords
 still : VoiceBar
@@ -86,3 +88,31 @@ module _ (g : Grammar) (plan : Plan) (plan_of : IsPlan g plan) (quiet : Quiet) (
           let P : Option ℕ → Type 0 = λ o. IsQuietMade g plan quiet (pair_of s) from t.rule o k.1 in
           let own = subst P cut made in
           (own.0, own.3, own.5)
+
+-- the seat, and the cut that stands at the number
+pub quiet_cut_of : (g : Grammar) (plan : Plan) → IsPlan g plan → (quiet : Quiet) (n from : ℕ) → n < length plan.seats.items → (t : QuietTree) → HasQuietTree g plan n quiet from (Some t) → (m : ℕ) → t.cut ≡ Some m
+    → (c : Cut) → c ≡ get_or plan.cuts.items m c → (s : Seat) × (slice_get plan.seats.items n ≡ Some s) × IsCutOf g plan (pair_of s) c × (slice_get plan.cuts.items m ≡ Some c)
+quiet_cut_of g plan plan_of quiet n from low t h m cut c is = elim (slice_get_cases plan.seats.items n).1 [
+  | inl there ↦
+      let own = quiet_cut g plan plan_of quiet n from there.0 there.2 t h m cut in
+      let same : own.0 ≡ c = sym (get_or_from_slice_get plan.cuts.items m own.0 c own.1) ∙ sym is in
+      (there.0, there.2, subst (IsCutOf g plan (pair_of there.0)) same own.2, own.1 ∙ ap Some same)
+  | inr past ↦ absurd (omega (arith, low, past.0))
+]
+
+-- the part of a cut at a place, which is narrower than what is cut
+pub quiet_part : (g : Grammar) (plan : Plan) → IsPlan g plan → (n : ℕ) (s : Seat) → slice_get plan.seats.items n ≡ Some s → (c : Cut) → IsCutOf g plan (pair_of s) c → (part seat : ℕ) → c.first ≤ part → part < c.end
+    → seat ≡ get_or plan.parts.items part seat → (seat < length plan.seats.items) × (seat_measure plan seat < seat_measure plan n)
+quiet_part g plan plan_of n s at c cut part seat low high is =
+    let wide = (seat_of g plan plan_of n s at).wide in
+    let x : Parts = record { first = c.first; end = c.end; width = s.width } in
+    let qs = children cut.rule.body s.width in
+    let within = cut.within in
+    let here = parts-at plan x qs part seat low high within cut.parts in
+    let q = get_or qs (part - c.first) (0, 0) in
+    let own : HasSeat plan seat q = subst (λ n. HasSeat plan n q) (sym is) here in
+    let long = parts-length plan x qs cut.order within cut.parts in
+    let below = below-at s.width qs (part - c.first) (cut_below g plan (pair_of s) c wide cut) (omega (arith, long, low, high)) in
+    let lower = seat_lower plan seat s.width 0 q own below.1 in
+    let whole = parts_lower plan n s.width 0 s at refl (omega arith) in
+    (has_seat-within plan seat q own, omega (arith, lower, whole))

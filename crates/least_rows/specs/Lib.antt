@@ -9,3 +9,4 @@ pub mod Searches
 pub mod States
 pub mod Steps
 pub mod Tops
+pub mod WrittenLists

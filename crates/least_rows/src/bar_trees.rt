@@ -1,16 +1,26 @@
+use crate::written_lists::WrittenLists;
 use rhythm_base::Best;
 
-/// Where a rule list stands: from the first rule on, and before the end.
+/// The costs of the least trees of a bar and the places of their rule lists in their rows.
 #[derive(Clone, Copy)]
-pub struct ListSpan {
-    pub first: u32,
-    pub end: u32,
+pub struct BarBests {
+    /// By the number of chords carried in, and then by the number carried out.
+    pub rows: [[Option<Best>; 5]; 5],
 }
 
-/// The least trees of a bar, by the number of chords carried in, and then by the number carried out.
-#[derive(Clone, Copy)]
+impl BarBests {
+    /// No trees.
+    pub fn none() -> BarBests {
+        BarBests {
+            rows: [[None; 5]; 5],
+        }
+    }
+}
+
+/// The least trees of a bar.
+#[derive(Drop)]
 pub struct BarTrees {
-    pub bests: [[Option<Best>; 5]; 5],
-    /// Where their rule lists stand among the room's rules.
-    pub lists: [[Option<ListSpan>; 5]; 5],
+    pub bests: BarBests,
+    /// Their rule lists; that of a tree that is not there is empty.
+    pub lists: WrittenLists,
 }

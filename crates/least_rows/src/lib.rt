@@ -11,6 +11,7 @@ mod fork;
 mod lead;
 mod leaf_choices;
 mod parts;
+mod quiet_bar;
 mod quiet_lists;
 mod quiet_ways;
 mod room;
@@ -24,6 +25,8 @@ mod tree_at;
 mod way;
 mod ways;
 mod write;
+mod written_lists;
 
-pub use bar_trees::{BarTrees, ListSpan};
+pub use bar_trees::{BarBests, BarTrees};
 pub use room::Room;
+pub use written_lists::WrittenLists;

@@ -1,11 +1,9 @@
-ghost use Rattle.grammar_plan.specs.Plans.{IsPlan, between, pair_of};
+ghost use Rattle.grammar_plan.specs.Plans.{IsPlan, pair_of};
 ghost use Rattle.grammar_plan.specs.declared.seat.Seat.{Seat};
-ghost use Rattle.least_rows.specs.Parts.{ArePartsOf, AreSeatsOf};
 ghost use Rattle.rhythm_base.specs.Ranked.{Key};
-ghost use Rattle.row_laws.specs.QuietTrees.{IsQuietLeast, IsQuietList};
-ghost use Rattle.std.specs.Prelude.{◌≡◌, ◌+◌, ◌<◌, ◌≤◌, ◌++◌, ℕ, List, OnOk, Some, length, slice_get};
+ghost use Rattle.row_laws.specs.QuietTrees.{IsQuietLeast};
+ghost use Rattle.std.specs.Prelude.{◌≡◌, ◌<◌, ◌++◌, OnOk, Some, length, slice_get};
 
-use crate::parts::Parts;
 use grammar_plan::Plan;
 use rhythm_base::Grammar;
 use row_laws::Quiet;
@@ -27,7 +25,6 @@ pub fn write_quiet(
     ensures { OnOk result ((s : Seat) (k : Key) → slice_get plan.now.seats.items seat ≡ Some s → IsQuietLeast grammar.now quiet (pair_of s) from (Some k)
         → list.new.items ≡ list.old.items ++ k.1) }
 {
-    let width = plan.seats[seat as usize].width;
     let Some(tree) = plan.quiet_tree(grammar, seat, quiet, from) else {
         return Ok(());
     };
@@ -36,38 +33,17 @@ pub fn write_quiet(
         return Ok(());
     };
     let cut = &plan.cuts[number as usize];
-    let parts = Parts {
-        first: cut.first,
-        end: cut.end,
-        width,
-    };
-    write_quiet_parts(grammar, plan, quiet, parts, from, list)
-}
-
-/// Writes the rules of the least trees of parts over an interval that is quiet so. The chords are carried into the first.
-#[cycle(quiet_lists)]
-fn write_quiet_parts(
-    grammar: &Grammar,
-    plan: &Plan,
-    quiet: Quiet,
-    parts: Parts,
-    from: u8,
-    list: &mut Vec<u16>,
-) -> Result<(), AllocError>
-    requires plan { IsPlan grammar.now plan.now }
-    requires parts { ArePartsOf plan.now parts }
-    requires from { from < 5 }
-    ensures { OnOk result ((qs : List (ℕ × ℕ)) (xs : List ℕ) → AreSeatsOf plan.now parts qs → IsQuietList grammar.now quiet qs from xs
-        → list.new.items ≡ list.old.items ++ xs) }
-{
-    if parts.first == parts.end {
-        return Ok(());
+    let mut carried = from;
+    'parts: for part in cut.first..cut.end {
+        write_quiet(
+            grammar,
+            plan,
+            quiet,
+            plan.parts[part as usize],
+            carried,
+            list,
+        )?;
+        carried = 0;
     }
-    let seat = plan.parts[parts.first as usize];
-    write_quiet(grammar, plan, quiet, seat, from, list)?;
-    let others = Parts {
-        first: parts.first + 1,
-        ..parts
-    };
-    write_quiet_parts(grammar, plan, quiet, others, 0, list)
+    Ok(())
 }

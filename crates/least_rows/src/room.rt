@@ -1,12 +1,14 @@
 ghost use Rattle.grammar_plan.specs.Plans.{HasSeat, IsPlan};
 ghost use Rattle.least_rows.specs.BarTrees.{AreBarTrees};
 ghost use Rattle.row_laws.specs.Grounds.{IsReady};
-ghost use Rattle.std.specs.Prelude.{◌≡◌, [], IfOk, OnOk};
+ghost use Rattle.std.specs.Prelude.{◌≡◌, [], OnOk};
 
-use crate::bar_trees::BarTrees;
-use crate::roots::trees_of;
+use crate::bar_trees::{BarBests, BarTrees};
+use crate::quiet_bar::quiet_bar;
+use crate::roots::{quiet_trees_of, trees_of};
 use crate::rows::Rows;
 use crate::search::Search;
+use crate::written_lists::WrittenLists;
 use bar_view::View;
 use grammar_plan::Plan;
 use rhythm_base::{BarInput, Grammar};
@@ -17,8 +19,8 @@ use std::alloc::{AllocError, Global};
 pub struct Room {
     view: View,
     rows: Rows,
-    /// The rule lists of the last bar, one after another.
-    pub rules: Vec<u16>,
+    /// The least trees of the last bar.
+    pub trees: BarTrees,
 }
 
 impl Room {
@@ -27,7 +29,10 @@ impl Room {
         Room {
             view: View::new(alloc),
             rows: Rows::new(alloc),
-            rules: Vec::new(alloc),
+            trees: BarTrees {
+                bests: BarBests::none(),
+                lists: WrittenLists::new(alloc),
+            },
         }
     }
 
@@ -38,22 +43,24 @@ impl Room {
         plan: &Plan,
         input: &BarInput,
         root: u32,
-    ) -> Result<BarTrees, AllocError>
+    ) -> Result<(), AllocError>
         requires ready { IsReady grammar.now input.now }
         requires plan { IsPlan grammar.now plan.now }
         requires root { HasSeat plan.now root (input.now.resolution, input.now.symbol) }
-        ensures { IfOk result (AreBarTrees grammar.now input.now self.new.rules.items) }
+        ensures { OnOk result (AreBarTrees grammar.now input.now self.new.trees) }
     {
+        if let Some(quiet) = quiet_bar(input) {
+            return quiet_trees_of(grammar, plan, input, quiet, root, &mut self.trees);
+        }
         self.view.set(grammar, input)?;
         clear(&mut self.rows, plan)?;
-        self.rules.clear();
         let search = Search {
             grammar,
             plan,
             input,
             view: &self.view,
         };
-        trees_of(&mut self.rows, &search, root, &mut self.rules)
+        trees_of(&mut self.rows, &search, root, &mut self.trees)
     }
 }
 

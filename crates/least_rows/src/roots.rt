@@ -1,43 +1,124 @@
-ghost use Rattle.grammar_plan.specs.Plans.{HasSeat};
-ghost use Rattle.least_rows.specs.BarTrees.{AreBarTrees, IsListOf};
-ghost use Rattle.least_rows.specs.Roots.{AreRootBests, AreRootKeys, AreRootLists, IsBestIn, IsRootBest};
+ghost use Rattle.grammar_plan.specs.Plans.{HasSeat, IsPlan};
+ghost use Rattle.least_rows.specs.BarTrees.{AreBarTrees};
+ghost use Rattle.least_rows.specs.Roots.{AreRootBests, IsBestIn, IsOnlyTree, IsRootBest, IsRootList, IsRootListAt};
 ghost use Rattle.least_rows.specs.Searches.{IsSearch};
 ghost use Rattle.least_rows.specs.States.{AreKnown};
-ghost use Rattle.rhythm_base.specs.Ranked.{Key};
-ghost use Rattle.row_laws.specs.Grounds.{ground_of};
+ghost use Rattle.least_rows.specs.WrittenLists.{AreWritten, number_of};
+ghost use Rattle.row_laws.specs.Grounds.{IsReady, ground_of};
 ghost use Rattle.row_laws.specs.QuietTrees.{IsQuiet};
-ghost use Rattle.std.specs.Prelude.{◌≡◌, ◌<◌, ◌++◌, ℕ, List, IfOk, OnOk, Option, None, length, slice_index_or};
+ghost use Rattle.std.specs.Prelude.{◌≡◌, ◌<◌, ◌++◌, [], ◌∷◌, ℕ, List, IfOk, OnOk, None, length, slice_index_or};
 
-use crate::bar_trees::{BarTrees, ListSpan};
+use crate::bar_trees::{BarBests, BarTrees};
 use crate::entry::Entry;
+use crate::quiet_lists::write_quiet;
 use crate::rows::Rows;
 use crate::search::Search;
 use crate::tree_at::TreeAt;
 use crate::write::{entries_of, place_in, write};
-use rhythm_base::Best;
+use crate::written_lists::WrittenLists;
+use grammar_plan::Plan;
+use rhythm_base::{BarInput, Best, Grammar};
 use row_laws::Quiet;
 use std::alloc::{AllocError, Global};
 
-/// The least trees of a bar, whose root symbol has this seat. Their rule lists are written after what stands in `rules`.
+/// Finds the least trees of a bar, whose root symbol has this seat.
 pub fn trees_of(
     rows: &mut Rows,
     search: &Search<'_>,
     root: u32,
-    rules: &mut Vec<u16>,
-) -> Result<BarTrees, AllocError>
+    trees: &mut BarTrees,
+) -> Result<(), AllocError>
     requires search { IsSearch search.now.grammar.now search.now.input.now search.now.plan.now search.now.view.now }
     requires root { HasSeat search.now.plan.now root (search.now.input.now.resolution, search.now.input.now.symbol) }
     requires known { AreKnown search.now.grammar.now search.now.input.now search.now.plan.now rows.old }
-    ensures { IfOk result (AreBarTrees search.now.grammar.now search.now.input.now rules.new.items) }
+    ensures { OnOk result (AreBarTrees search.now.grammar.now search.now.input.now trees.new) }
 {
-    let mut bests = [[None; 5]; 5];
-    let mut lists = [[None; 5]; 5];
+    trees.bests = BarBests::none();
+    trees.lists.clear();
     'counts: for from in 0..5u8 {
         let row = root_bests(rows, search, root, from)?;
-        lists[from as usize] = write_lists(rows, search, root, from, &row, rules)?;
-        bests[from as usize] = row;
+        write_lists(rows, search, root, from, &row, &mut trees.lists)?;
+        trees.bests.rows[from as usize] = row;
     }
-    Ok(BarTrees { bests, lists })
+    Ok(())
+}
+
+/// The same of a bar that is quiet as a whole: no tree carries a chord out of it.
+pub fn quiet_trees_of(
+    grammar: &Grammar,
+    plan: &Plan,
+    input: &BarInput,
+    quiet: Quiet,
+    root: u32,
+    trees: &mut BarTrees,
+) -> Result<(), AllocError>
+    requires ready { IsReady grammar.now input.now }
+    requires plan { IsPlan grammar.now plan.now }
+    requires root { HasSeat plan.now root (input.now.resolution, input.now.symbol) }
+    requires quiet { IsQuiet quiet (ground_of grammar.now input.now) 0 input.now.resolution }
+    ensures { OnOk result (AreBarTrees grammar.now input.now trees.new) }
+{
+    trees.bests = BarBests::none();
+    trees.lists.clear();
+    'counts: for from in 0..5u8 {
+        let best = quiet_row(grammar, plan, input, quiet, root, from, &mut trees.lists)?;
+        trees.bests.rows[from as usize] = [best, None, None, None, None];
+    }
+    Ok(())
+}
+
+/// Writes the rule list of the only tree of a row over a quiet bar, and says what the tree costs. The other lists of the row
+/// are empty.
+fn quiet_row(
+    grammar: &Grammar,
+    plan: &Plan,
+    input: &BarInput,
+    quiet: Quiet,
+    root: u32,
+    from: u8,
+    lists: &mut WrittenLists,
+) -> Result<Option<Best>, AllocError>
+    requires ready { IsReady grammar.now input.now }
+    requires plan { IsPlan grammar.now plan.now }
+    requires root { HasSeat plan.now root (input.now.resolution, input.now.symbol) }
+    requires quiet { IsQuiet quiet (ground_of grammar.now input.now) 0 input.now.resolution }
+    requires from { from < 5 }
+    requires written { AreWritten (IsRootListAt grammar.now input.now) lists.old.rules.items lists.old.ends (number_of from 0) }
+    ensures best { IfOk result (λ best. AreRootBests grammar.now input.now from (best ∷ None ∷ None ∷ None ∷ None ∷ [])) }
+    ensures written { OnOk result (AreWritten (IsRootListAt grammar.now input.now) lists.new.rules.items lists.new.ends (number_of from 5)) }
+{
+    let best = only_tree(grammar, plan, input, quiet, root, from, &mut lists.rules)?;
+    'ends: for to in 0..5u8 {
+        lists.end(from, to)?;
+    }
+    Ok(best)
+}
+
+/// Writes the rule list of that tree, where there is one.
+fn only_tree(
+    grammar: &Grammar,
+    plan: &Plan,
+    input: &BarInput,
+    quiet: Quiet,
+    root: u32,
+    from: u8,
+    rules: &mut Vec<u16>,
+) -> Result<Option<Best>, AllocError>
+    requires ready { IsReady grammar.now input.now }
+    requires plan { IsPlan grammar.now plan.now }
+    requires root { HasSeat plan.now root (input.now.resolution, input.now.symbol) }
+    requires quiet { IsQuiet quiet (ground_of grammar.now input.now) 0 input.now.resolution }
+    requires from { from < 5 }
+    ensures { IfOk result (λ best. IsOnlyTree grammar.now input.now from best rules.old.items rules.new.items) }
+{
+    let Some(tree) = plan.quiet_tree(grammar, root, quiet, from) else {
+        return Ok(None);
+    };
+    write_quiet(grammar, plan, quiet, root, from, rules)?;
+    Ok(Some(Best {
+        cost: tree.cost,
+        rank: 0,
+    }))
 }
 
 /// The costs and the ranks of the root's row for a number carried in.
@@ -54,40 +135,15 @@ fn root_bests(
     ensures known { OnOk result (AreKnown search.now.grammar.now search.now.input.now search.now.plan.now rows.new) }
     ensures bests { IfOk result (AreRootBests search.now.grammar.now search.now.input.now from) }
 {
-    let input = search.input;
-    let width = input.resolution();
-    match search.view.quiet(input, 0, width) {
-        Some(quiet) => Ok(quiet_bests(search, quiet, root, from)),
-        None => {
-            let span = rows.row(search, root, 0, from)?;
-            Ok(bests_in(entries_of(rows, span)))
-        }
-    }
+    let span = rows.row(search, root, 0, from)?;
+    Ok(bests_in(entries_of(rows, span)))
 }
 
-/// The same over a bar that is quiet as a whole.
-fn quiet_bests(search: &Search<'_>, quiet: Quiet, root: u32, from: u8) -> [Option<Best>; 5]
-    requires search { IsSearch search.now.grammar.now search.now.input.now search.now.plan.now search.now.view.now }
-    requires root { HasSeat search.now.plan.now root (search.now.input.now.resolution, search.now.input.now.symbol) }
-    requires from { from < 5 }
-    requires quiet { IsQuiet quiet (ground_of search.now.grammar.now search.now.input.now) 0 search.now.input.now.resolution }
-    ensures { AreRootBests search.now.grammar.now search.now.input.now from result }
-{
-    match search.plan.quiet_tree(search.grammar, root, quiet, from) {
-        None => [None; 5],
-        Some(tree) => {
-            let best = Best {
-                cost: tree.cost,
-                rank: 0,
-            };
-            [Some(best), None, None, None, None]
-        }
-    }
-}
-
+/// The costs of the entries of a row, by the number carried out. Their places in it are their ranks.
 fn bests_in(row: &[Entry]) -> [Option<Best>; 5]
     requires { length row.now < 256 }
-    ensures { (b : ℕ) → b < 5 → IsBestIn row.now b (slice_index_or result b None) }
+    ensures long { length result ≡ 5 }
+    ensures each { (b : ℕ) → b < 5 → IsBestIn row.now b (slice_index_or result b None) }
 {
     [
         best_in(row, 0),
@@ -112,25 +168,24 @@ fn best_in(row: &[Entry], to: u8) -> Option<Best>
     }
 }
 
-/// Writes the rule lists of the root's row for a number carried in, and says where they stand.
+/// Writes the rule lists of the root's row for a number carried in.
 fn write_lists(
     rows: &mut Rows,
     search: &Search<'_>,
     root: u32,
     from: u8,
     bests: &[Option<Best>; 5],
-    rules: &mut Vec<u16>,
-) -> Result<[Option<ListSpan>; 5], AllocError>
+    lists: &mut WrittenLists,
+) -> Result<(), AllocError>
     requires search { IsSearch search.now.grammar.now search.now.input.now search.now.plan.now search.now.view.now }
     requires root { HasSeat search.now.plan.now root (search.now.input.now.resolution, search.now.input.now.symbol) }
     requires from { from < 5 }
     requires bests { AreRootBests search.now.grammar.now search.now.input.now from bests.now }
     requires known { AreKnown search.now.grammar.now search.now.input.now search.now.plan.now rows.old }
+    requires written { AreWritten (IsRootListAt search.now.grammar.now search.now.input.now) lists.old.rules.items lists.old.ends (number_of from 0) }
     ensures known { OnOk result (AreKnown search.now.grammar.now search.now.input.now search.now.plan.now rows.new) }
-    ensures grows { OnOk result ((more : List ℕ) × (rules.new.items ≡ rules.old.items ++ more)) }
-    ensures lists { IfOk result (AreRootLists search.now.grammar.now search.now.input.now rules.new.items from 5) }
+    ensures written { OnOk result (AreWritten (IsRootListAt search.now.grammar.now search.now.input.now) lists.new.rules.items lists.new.ends (number_of from 5)) }
 {
-    let mut lists = [None; 5];
     'counts: for to in 0..5u8 {
         let tree = TreeAt {
             seat: root,
@@ -138,9 +193,10 @@ fn write_lists(
             from,
             to,
         };
-        lists[to as usize] = write_list(rows, search, tree, bests[to as usize], rules)?;
+        write_list(rows, search, tree, bests[to as usize], &mut lists.rules)?;
+        lists.end(from, to)?;
     }
-    Ok(lists)
+    Ok(())
 }
 
 /// Writes the rule list of one of them, where it is there.
@@ -150,7 +206,7 @@ fn write_list(
     tree: TreeAt,
     best: Option<Best>,
     rules: &mut Vec<u16>,
-) -> Result<Option<ListSpan>, AllocError>
+) -> Result<(), AllocError>
     requires search { IsSearch search.now.grammar.now search.now.input.now search.now.plan.now search.now.view.now }
     requires root { HasSeat search.now.plan.now tree.seat (search.now.input.now.resolution, search.now.input.now.symbol) }
     requires place { tree.place ≡ 0 }
@@ -159,21 +215,10 @@ fn write_list(
     requires best { IsRootBest search.now.grammar.now search.now.input.now tree.from tree.to best }
     requires known { AreKnown search.now.grammar.now search.now.input.now search.now.plan.now rows.old }
     ensures known { OnOk result (AreKnown search.now.grammar.now search.now.input.now search.now.plan.now rows.new) }
-    ensures grows { OnOk result ((more : List ℕ) × (rules.new.items ≡ rules.old.items ++ more)) }
-    ensures list { IfOk result (λ list. (keys : ℕ → Option Key) → AreRootKeys search.now.grammar.now search.now.input.now tree.from keys → IsListOf rules.new.items list (keys tree.to)) }
+    ensures list { OnOk result ((more : List ℕ) × (rules.new.items ≡ rules.old.items ++ more) × IsRootList search.now.grammar.now search.now.input.now tree.from tree.to more) }
 {
     let Some(_best) = best else {
-        return Ok(None);
+        return Ok(());
     };
-    let first = number_of(rules.len())?;
-    write(rows, search, tree, rules)?;
-    let end = number_of(rules.len())?;
-    Ok(Some(ListSpan { first, end }))
-}
-
-/// A place among the rules as a number. Where the numbers have run out, the answer is that there is no memory.
-fn number_of(place: usize) -> Result<u32, AllocError>
-    ensures { IfOk result (λ n. n ≡ place) }
-{
-    u32::try_from(place).ok().ok_or(AllocError)
+    write(rows, search, tree, rules)
 }

@@ -1,10 +1,6 @@
-use Rattle.std.proofs.Common.{◌≡◌, length}
-use Rattle.least_cost.specs.Entries.{entry_at}
-use Rattle.least_cost.specs.Tables.{AreGridLists, entry_key}
+use Rattle.least_rows.specs.WrittenLists.{AreWritten, IsListAt, number_of}
+use Rattle.least_cost.specs.Tables.{grid_keys}
 use Rattle.least_cost.proofs.build.write_grid.Given as goal
 
 abbrev pub invariant-counts : goal.invariant-counts
-invariant-counts l = record {
-  long : length l.spans ≡ 5;
-  lists : AreGridLists l.rules.items (λ a b. entry_key l.lists (entry_at l.entries a b)) l.from l.spans;
-}
+invariant-counts l = AreWritten (IsListAt (grid_keys l.lists l.entries)) l.written.rules.items l.written.ends (number_of l.from 0)

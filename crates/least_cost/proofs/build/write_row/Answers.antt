@@ -1,18 +1,19 @@
-use Rattle.std.proofs.Common.{◌≡◌, ◌++◌, ℕ, List, append_assoc, ap, ◌∙◌}
-use Rattle.std.proofs.lemmas.List.{length-set}
-use Rattle.least_cost.specs.Entries.{entry_in}
-use Rattle.least_cost.specs.Tables.{entry_key}
-use Rattle.least_cost.proofs.ListSpans.{row_more, row_next}
+use Rattle.std.proofs.Common.{◌≡◌, ◌+◌, suc, sym, subst, arith}
+use Rattle.least_rows.specs.WrittenLists.{AreWritten, IsListAt, number_of}
+use Rattle.least_rows.proofs.ListEnds.{written-next}
+use Rattle.least_cost.specs.Tables.{grid_keys}
+use Rattle.least_cost.proofs.TableLists.{list-at}
 use Rattle.least_cost.proofs.build.write_row.Goals as goal
 
 pub counts-preserved : goal.counts-preserved
 counts-preserved c =
-    let old = c.counts.invariant in
-    let keys = λ (b : ℕ). entry_key c.args.lists.now (entry_in c.args.row.now b) in
-    let grown : (more : List ℕ) × (c.write_entry.new.rules.items ≡ c.counts.rules.items ++ more) = c.in_ok-spans.ensures.grows in
-    record {
-      long = length-set c.counts.spans c.counts.to c.in_ok-spans.field-0 ∙ old.long;
-      grows = (old.grows.0 ++ grown.0, grown.1 ∙ ap (λ l. l ++ grown.0) old.grows.1 ∙ append_assoc c.args.rules.now.items old.grows.0 grown.0);
-      lists = row_next c.write_entry.new.rules.items keys c.counts.to c.counts.spans c.in_ok-spans.field-0 old.long c.counts-test.true
-          (row_more c.counts.rules.items grown.0 c.write_entry.new.rules.items keys c.counts.to c.counts.spans grown.1 old.lists) c.in_ok-spans.ensures.list;
-    }
+    let keys = grid_keys c.args.lists.now c.args.entries.now in
+    let from = c.args.from in
+    let to = c.counts.to in
+    let more = c.in_ok-write_entry.ensures in
+    let later = c.write_entry.new.rules.items in
+    let next : suc (number_of from to) ≡ number_of from (to + 1) = omega arith in
+    let here = written-next (IsListAt keys) c.counts.written.rules.items more.0 later c.counts.written.ends (number_of from to) (number_of from (to + 1)) (omega (arith, c.counts-test.true, c.requires.from)) c.counts.invariant more.1
+    (list-at keys from to more.0 c.counts-test.true more.2) next in
+    subst (λ l. AreWritten (IsListAt keys) l c.end.new.self.ends (number_of from (to + 1))) (sym c.in_ok-end.ensures.rules)
+    (subst (λ e. AreWritten (IsListAt keys) later e (number_of from (to + 1))) (sym c.in_ok-end.ensures.ends) here)

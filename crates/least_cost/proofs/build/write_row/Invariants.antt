@@ -1,11 +1,6 @@
-use Rattle.std.proofs.Common.{◌≡◌, ◌++◌, ℕ, List, length}
-use Rattle.least_cost.specs.Entries.{entry_in}
-use Rattle.least_cost.specs.Tables.{AreRowLists, entry_key}
+use Rattle.least_rows.specs.WrittenLists.{AreWritten, IsListAt, number_of}
+use Rattle.least_cost.specs.Tables.{grid_keys}
 use Rattle.least_cost.proofs.build.write_row.Given as goal
 
 abbrev pub invariant-counts : goal.invariant-counts
-invariant-counts l = record {
-  long : length l.spans ≡ 5;
-  grows : (more : List ℕ) × (l.rules.items ≡ l.initial.rules.items ++ more);
-  lists : AreRowLists l.rules.items (λ b. entry_key l.lists (entry_in l.row b)) l.to l.spans;
-}
+invariant-counts l = AreWritten (IsListAt (grid_keys l.lists l.entries)) l.written.rules.items l.written.ends (number_of l.fn.from l.to)

@@ -1,9 +1,17 @@
-use Rattle.std.proofs.Common.{◌-◌}
-use Rattle.least_rows.proofs.PlanSeats.{parts_measure, seat_measure}
+use Rattle.std.proofs.Common.{◌≡◌, ◌<◌, ◌≤◌, ◌++◌, ℕ, List}
+use Rattle.row_laws.specs.QuietTrees.{IsQuietList}
+use Rattle.grammar_plan.specs.Plans.{HaveSeats, between}
+use Rattle.least_rows.proofs.PlanSeats.{seat_measure}
 use Rattle.least_rows.proofs.quiet_lists.+quiet_lists.Given as goal
+
+-- the parts that are left, and what is left of their list
+abbrev pub invariant-parts : goal.invariant-parts
+invariant-parts l = record {
+  order : l.initial.part ≤ l.part;
+  carried : l.carried < 5;
+  rest : (qs : List (ℕ × ℕ)) (xs : List ℕ) → HaveSeats l.plan (between l.plan.parts.items l.initial.part l.part-end) qs → IsQuietList l.grammar l.quiet qs l.fn.from xs
+      → (rs : List (ℕ × ℕ)) × (ys : List ℕ) × HaveSeats l.plan (between l.plan.parts.items l.part l.part-end) rs × IsQuietList l.grammar l.quiet rs l.carried ys × (l.list.items ++ ys ≡ l.initial.list.items ++ xs);
+}
 
 abbrev pub decreases-write_quiet : goal.decreases-write_quiet
 decreases-write_quiet l = seat_measure l.plan.now l.seat
-
-abbrev pub decreases-write_quiet_parts : goal.decreases-write_quiet_parts
-decreases-write_quiet_parts l = parts_measure l.plan.now l.parts.width (l.parts.end - l.parts.first)

@@ -11,17 +11,17 @@ use Rattle.least_rows.proofs.roots.root_bests.Goals as goal
 pub entries_of-requires : goal.entries_of-requires
 entries_of-requires c =
     let seat = c.requires.root in
-    let row : (s : Seat) → slice_get c.args.search.now.plan.now.seats.items c.args.root ≡ Some s → IsRowAt c.args.search.now.grammar.now c.args.search.now.input.now c.args.search.now.plan.now c.row.new.self.entries.items 0 (pair_of s) c.args.from c.in_ok-span-in-None.span
-    = c.in_ok-span-in-None.ensures.row in
+    let row : (s : Seat) → slice_get c.args.search.now.plan.now.seats.items c.args.root ≡ Some s → IsRowAt c.args.search.now.grammar.now c.args.search.now.input.now c.args.search.now.plan.now c.row.new.self.entries.items 0 (pair_of s) c.args.from c.in_ok-span.span
+    = c.in_ok-span.ensures.row in
     (row seat.0 seat.1).within
 
-pub returns-in_ok-span-in-None-clause-bests : goal.returns-in_ok-span-in-None-clause-bests
-returns-in_ok-span-in-None-clause-bests c =
+pub returns-clause-bests : goal.returns-clause-bests
+returns-clause-bests c =
     let g = c.args.search.now.grammar.now in
     let k = c.args.search.now.input.now in
     let plan = c.args.search.now.plan.now in
     let seat = c.requires.root in
-    let row : (s : Seat) → slice_get c.args.search.now.plan.now.seats.items c.args.root ≡ Some s → IsRowAt c.args.search.now.grammar.now c.args.search.now.input.now c.args.search.now.plan.now c.row.new.self.entries.items 0 (pair_of s) c.args.from c.in_ok-span-in-None.span
-    = c.in_ok-span-in-None.ensures.row in
+    let row : (s : Seat) → slice_get c.args.search.now.plan.now.seats.items c.args.root ≡ Some s → IsRowAt c.args.search.now.grammar.now c.args.search.now.input.now c.args.search.now.plan.now c.row.new.self.entries.items 0 (pair_of s) c.args.from c.in_ok-span.span
+    = c.in_ok-span.ensures.row in
     let own = subst (IsRow (ground_of g k) plan 0 (pair_of seat.0) c.args.from) (sym c.entries_of.ensures) (row seat.0 seat.1).row in
-    row_root g k plan c.args.from c.entries_of.result.now c.bests_in.result (subst (λ q. IsRow (ground_of g k) plan 0 q c.args.from c.entries_of.result.now) seat.2 own) c.bests_in.ensures
+    row_root g k plan c.args.from c.entries_of.result.now c.bests_in.result c.bests_in.ensures.long (subst (λ q. IsRow (ground_of g k) plan 0 q c.args.from c.entries_of.result.now) seat.2 own) c.bests_in.ensures.each

@@ -1,26 +1,31 @@
-use Rattle.std.proofs.Common.{rules, ◌≡◌, ◌++◌, ℕ, List, ◌∙◌, subst}
+use Rattle.std.proofs.Common.{rules, ◌≡◌, ◌+◌, refl, ◌∙◌, subst, arith}
 use Rattle.std.proofs.lemmas.List.{length-set}
-use Rattle.least_rows.specs.Roots.{AreRootRows}
-use Rattle.least_rows.proofs.RootRows.{bar_trees, rows_more, rows_next}
+use Rattle.least_rows.specs.Roots.{AreRootRows, IsRootListAt}
+use Rattle.least_rows.specs.WrittenLists.{AreWritten, number_of}
+use Rattle.least_rows.proofs.RootRows.{bar-trees, rows-next}
 use Rattle.least_rows.proofs.roots.trees_of.Goals as goal
 
 pub counts-preserved : goal.counts-preserved
 counts-preserved c =
     let g = c.args.search.now.grammar.now in
     let k = c.args.search.now.input.now in
+    let from = c.counts.from in
     let old = c.counts.invariant in
-    let grown : (more : List ℕ) × (c.write_lists.new.rules.items ≡ c.counts.rules.items ++ more) = c.in_ok-lists.ensures.grows in
+    let row = c.in_ok-row.row in
+    let next : number_of from 5 ≡ number_of (from + 1) 0 = omega arith in
     record {
-      known = c.in_ok-lists.ensures.known;
-      bests_long = length-set c.counts.bests c.counts.from c.in_ok-row.row ∙ old.bests_long;
-      lists_long = length-set c.counts.lists c.counts.from c.in_ok-lists.field-0 ∙ old.lists_long;
-      rows = rows_next g k c.write_lists.new.rules.items c.counts.from c.counts.bests c.counts.lists c.in_ok-row.row c.in_ok-lists.field-0 old.bests_long old.lists_long c.counts-test.true
-          (rows_more g k c.counts.rules.items grown.0 c.write_lists.new.rules.items c.counts.from c.counts.bests c.counts.lists grown.1 old.rows) c.in_ok-row.ensures.bests c.in_ok-lists.ensures.lists;
+      known = c.in_ok-write_lists.ensures.known;
+      long = length-set c.counts.trees.bests.rows from row ∙ old.long;
+      rows = rows-next g k from c.counts.trees.bests.rows row old.long c.counts-test.true old.rows c.in_ok-row.ensures.bests;
+      written = subst (AreWritten (IsRootListAt g k) c.write_lists.new.lists.rules.items c.write_lists.new.lists.ends) next c.in_ok-write_lists.ensures.written;
     }
 
 pub returns : goal.returns
 returns c =
     let g = c.args.search.now.grammar.now in
     let k = c.args.search.now.input.now in
+    let own = c.counts.invariant in
+    let trees = c.counts.trees in
     let all : c.counts.from ≡ 5 = search rules in
-    bar_trees g k c.counts.rules.items c.counts.bests c.counts.lists (subst (λ n. AreRootRows g k c.counts.rules.items n c.counts.bests c.counts.lists) all c.counts.invariant.rows)
+    bar-trees g k trees.bests.rows (subst (λ n. AreRootRows g k n trees.bests.rows) all own.rows) trees own.long refl
+    (subst (λ n. AreWritten (IsRootListAt g k) trees.lists.rules.items trees.lists.ends (number_of n 0)) all own.written)

@@ -1,12 +1,13 @@
 use Rattle.std.proofs.Common.{◌≡◌, length}
-use Rattle.least_rows.specs.Roots.{AreRootRows}
+use Rattle.least_rows.specs.Roots.{AreRootRows, IsRootListAt}
 use Rattle.least_rows.specs.States.{AreKnown}
+use Rattle.least_rows.specs.WrittenLists.{AreWritten, number_of}
 use Rattle.least_rows.proofs.roots.trees_of.Given as goal
 
 abbrev pub invariant-counts : goal.invariant-counts
 invariant-counts l = record {
   known : AreKnown l.search.grammar.now l.search.input.now l.search.plan.now l.rows;
-  bests_long : length l.bests ≡ 5;
-  lists_long : length l.lists ≡ 5;
-  rows : AreRootRows l.search.grammar.now l.search.input.now l.rules.items l.from l.bests l.lists;
+  long : length l.trees.bests.rows ≡ 5;
+  rows : AreRootRows l.search.grammar.now l.search.input.now l.from l.trees.bests.rows;
+  written : AreWritten (IsRootListAt l.search.grammar.now l.search.input.now) l.trees.lists.rules.items l.trees.lists.ends (number_of l.from 0);
 }

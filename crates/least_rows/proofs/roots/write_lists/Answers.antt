@@ -1,18 +1,27 @@
-use Rattle.std.proofs.Common.{◌≡◌, ◌++◌, ℕ, List, append_assoc, ap, ◌∙◌}
-use Rattle.std.proofs.lemmas.List.{length-set}
-use Rattle.least_rows.proofs.RootRows.{lists_more, lists_next}
+use Rattle.std.proofs.Common.{◌≡◌, ◌+◌, suc, refl, sym, subst, arith}
+use Rattle.least_rows.specs.Roots.{IsRootListAt}
+use Rattle.least_rows.specs.WrittenLists.{AreWritten, number_of}
+use Rattle.least_rows.proofs.ListEnds.{written-next}
+use Rattle.least_rows.proofs.RootRows.{root-list-of, row-best}
 use Rattle.least_rows.proofs.roots.write_lists.Goals as goal
+
+pub write_list-requires-clause-best : goal.write_list-requires-clause-best
+write_list-requires-clause-best c = row-best c.args.search.now.grammar.now c.args.search.now.input.now c.args.from c.counts.to c.args.bests.now c.counts-test.true c.requires.bests
 
 pub counts-preserved : goal.counts-preserved
 counts-preserved c =
     let g = c.args.search.now.grammar.now in
     let k = c.args.search.now.input.now in
+    let from = c.args.from in
+    let to = c.counts.to in
     let old = c.counts.invariant in
-    let grown : (more : List ℕ) × (c.write_list.new.rules.items ≡ c.counts.rules.items ++ more) = c.in_ok-lists.ensures.grows in
+    let more = c.in_ok-write_list.ensures.list in
+    let later = c.write_list.new.rules.items in
+    let next : suc (number_of from to) ≡ number_of from (to + 1) = omega arith in
+    let here = written-next (IsRootListAt g k) c.counts.lists.rules.items more.0 later c.counts.lists.ends (number_of from to) (number_of from (to + 1)) (omega (arith, c.counts-test.true, c.requires.from)) old.written more.1
+    (root-list-of g k from to (number_of from to) more.0 c.counts-test.true more.2 refl) next in
     record {
-      known = c.in_ok-lists.ensures.known;
-      long = length-set c.counts.lists c.counts.to c.in_ok-lists.field-0 ∙ old.long;
-      grows = (old.grows.0 ++ grown.0, grown.1 ∙ ap (λ l. l ++ grown.0) old.grows.1 ∙ append_assoc c.args.rules.now.items old.grows.0 grown.0);
-      lists = lists_next g k c.write_list.new.rules.items c.args.from c.counts.to c.counts.lists c.in_ok-lists.field-0 old.long c.counts-test.true
-          (lists_more g k c.counts.rules.items grown.0 c.write_list.new.rules.items c.args.from c.counts.to c.counts.lists grown.1 old.lists) c.in_ok-lists.ensures.list;
+      known = c.in_ok-write_list.ensures.known;
+      written = subst (λ l. AreWritten (IsRootListAt g k) l c.end.new.self.ends (number_of from (to + 1))) (sym c.in_ok-end.ensures.rules)
+          (subst (λ e. AreWritten (IsRootListAt g k) later e (number_of from (to + 1))) (sym c.in_ok-end.ensures.ends) here);
     }

@@ -1,0 +1,76 @@
+ghost use Rattle.least_rows.specs.WrittenLists.{IsPlaced, list_of, number_of};
+ghost use Rattle.std.specs.Prelude.{◌≡◌, ◌<◌, [], IfOk, OnOk, length, slice_set};
+
+use std::alloc::{AllocError, Global};
+
+/// Rule lists one after another: for each number of chords carried in one for each number carried out.
+#[derive(Drop)]
+pub struct WrittenLists {
+    pub rules: Vec<u16>,
+    /// Where each list ends. The first begins at 0, and each other where the one before it ends.
+    pub ends: [u32; 25],
+}
+
+impl WrittenLists {
+    /// No rules.
+    pub fn new(alloc: Global) -> WrittenLists
+        ensures empty { result.rules.items ≡ [] }
+        ensures long { length result.ends ≡ 25 }
+    {
+        WrittenLists {
+            rules: Vec::new(alloc),
+            ends: [0; 25],
+        }
+    }
+
+    /// Forgets all rules.
+    pub fn clear(&mut self)
+        ensures empty { self.new.rules.items ≡ [] }
+        ensures long { length self.new.ends ≡ 25 }
+    {
+        self.rules.clear();
+        self.ends = [0; 25];
+    }
+
+    /// Ends the list for these numbers carried in and out. Where the numbers of places have run out, the answer is that there
+    /// is no memory.
+    #[inline(always)]
+    pub fn end(&mut self, from: u8, to: u8) -> Result<(), AllocError>
+        requires from { from < 5 }
+        requires to { to < 5 }
+        ensures rules { self.new.rules.items ≡ self.old.rules.items }
+        ensures ends { OnOk result (self.new.ends ≡ slice_set self.old.ends (number_of from to) (length self.old.rules.items)) }
+    {
+        let end = u32::try_from(self.rules.len()).ok().ok_or(AllocError)?;
+        self.ends[5 * from as usize + to as usize] = end;
+        Ok(())
+    }
+
+    /// The list for these numbers carried in and out.
+    pub fn list(&self, from: u8, to: u8) -> &[u16]
+        requires from { from < 5 }
+        requires to { to < 5 }
+        requires placed { IsPlaced self.now.rules.items self.now.ends (number_of from to) }
+        ensures { result.now ≡ list_of self.now.rules.items self.now.ends (number_of from to) }
+    {
+        let number = 5 * from as usize + to as usize;
+        let end = self.ends[number] as usize;
+        let first = if number == 0 {
+            0
+        } else {
+            self.ends[number - 1] as usize
+        };
+        &self.rules[first..end]
+    }
+
+    /// Equal lists, in a room that is no longer than they are.
+    pub fn copy(&self, alloc: Global) -> Result<WrittenLists, AllocError>
+        ensures rules { IfOk result (λ x. x.rules.items ≡ self.now.rules.items) }
+        ensures ends { IfOk result (λ x. x.ends ≡ self.now.ends) }
+    {
+        Ok(WrittenLists {
+            rules: self.rules.as_slice().to_vec(alloc)?,
+            ends: self.ends,
+        })
+    }
+}
