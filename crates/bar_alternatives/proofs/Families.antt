@@ -13,7 +13,7 @@ use Rattle.rhythm_base.specs.Ranked.{Key}
 use Rattle.rhythm_laws.specs.Forests.{AreWide, Ground, IsForestKey, IsGround}
 use Rattle.rhythm_laws.specs.Quiet.{SoundAlike}
 use Rattle.rhythm_laws.proofs.Quiet.{alike-key, alike-turned}
-use Rattle.least_cost.specs.Nodes.{ground_of}
+use Rattle.pinned_trees.specs.Nodes.{ground_of}
 use Rattle.bar_alternatives.specs.declared.memo.Asked.{Asked}
 use Rattle.bar_alternatives.specs.declared.memo.Family.{Family}
 use Rattle.bar_alternatives.specs.declared.memo.Found.{Found}

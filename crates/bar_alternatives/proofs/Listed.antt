@@ -17,7 +17,7 @@ use Rattle.rhythm_laws.proofs.FirstLists.{all_contained, contains_split, one_ear
 use Rattle.rhythm_laws.proofs.Ranks.{ranks_total}
 use Rattle.rhythm_laws.proofs.OrderedLists.{all_cons, all_head, all_tail, pairs_head, pairs_nil, pairs_tail}
 use Rattle.rhythm_laws.proofs.Parsing.{no_prefix}
-use Rattle.least_cost.specs.Nodes.{IsReady}
+use Rattle.pinned_trees.specs.Nodes.{IsReady}
 use Rattle.bar_alternatives.specs.BestTrees.{AreBestTrees, IsLookedAt}
 use Rattle.bar_alternatives.specs.Firsts.{AreFirst, IsBefore}
 use Rattle.bar_alternatives.specs.Nodes.{IsTotal}

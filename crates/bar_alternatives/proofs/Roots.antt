@@ -20,8 +20,8 @@ use Rattle.rhythm_laws.specs.Places.{FitsAt}
 use Rattle.rhythm_laws.specs.Voices.{HoldsChords}
 use Rattle.rhythm_laws.proofs.Places.{at-cell, cell-at}
 use Rattle.rhythm_laws.proofs.Ranks.{both}
-use Rattle.least_cost.specs.Nodes.{IsReady, ground_of}
-use Rattle.least_cost.proofs.RuleKeys.{single_tree}
+use Rattle.pinned_trees.specs.Nodes.{IsReady, ground_of}
+use Rattle.pinned_trees.proofs.RuleKeys.{single_tree}
 use Rattle.bar_alternatives.specs.BestTrees.{IsLookedAt}
 use Rattle.bar_alternatives.specs.Nodes.{IsTotal}
 

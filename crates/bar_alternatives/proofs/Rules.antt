@@ -13,8 +13,8 @@ use Rattle.rhythm_laws.specs.Forests.{Ground, IsForestKey, StandsInBar, forest_c
 use Rattle.rhythm_laws.specs.Places.{FitsAt}
 use Rattle.rhythm_laws.specs.Rows.{IsOneBelow}
 use Rattle.rhythm_laws.proofs.Ranks.{both}
-use Rattle.least_cost.specs.RuleChoices.{IsRuleKey}
-use Rattle.least_cost.proofs.RuleKeys.{single_tree, top_cost}
+use Rattle.pinned_trees.specs.RuleChoices.{IsRuleKey}
+use Rattle.pinned_trees.proofs.RuleKeys.{single_tree, top_cost}
 
 three : (a b : Bool) → a ≡ true → b ≡ true → a && (b && true) ≡ true
 three true true p q = refl

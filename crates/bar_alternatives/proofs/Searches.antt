@@ -19,13 +19,13 @@ use Rattle.rhythm_laws.specs.Rows.{IsOneBelow}
 use Rattle.rhythm_laws.specs.Shares.{AreBelow}
 use Rattle.rhythm_laws.proofs.Ranks.{both}
 use Rattle.rhythm_laws.proofs.Shares.{below-wide, children-whole}
-use Rattle.least_cost.specs.Nodes.{IsReady, ending_at, ground_of, rule_ending}
-use Rattle.least_cost.specs.Nodes as Narrow
-use Rattle.least_cost.specs.RuleChoices.{IsRuleKey}
-use Rattle.least_cost.specs.declared.memo.Asked as narrow
-use Rattle.least_cost.specs.declared.pins.Demand.TheVariants.{Any}
-use Rattle.least_cost.proofs.Leaves.{agrees-fits, cut_body, fits-agrees, leaf_body}
-use Rattle.least_cost.proofs.Searches.{bounds, cut_below, cut_few, cut_sizes, grounded}
+use Rattle.pinned_trees.specs.Nodes.{IsReady, ending_at, ground_of, rule_ending}
+use Rattle.pinned_trees.specs.Nodes as Narrow
+use Rattle.pinned_trees.specs.RuleChoices.{IsRuleKey}
+use Rattle.pinned_trees.specs.declared.memo.Asked as narrow
+use Rattle.pinned_trees.specs.declared.pins.Demand.TheVariants.{Any}
+use Rattle.pinned_trees.proofs.Leaves.{agrees-fits, cut_body, fits-agrees, leaf_body}
+use Rattle.pinned_trees.proofs.Searches.{bounds, cut_below, cut_few, cut_sizes, grounded}
 use Rattle.bar_alternatives.specs.declared.leaf_offer.LeafHere.{LeafHere}
 use Rattle.bar_alternatives.specs.declared.memo.Asked.{Asked}
 use Rattle.bar_alternatives.specs.Firsts.{AreFirst, AreKept, offered}

@@ -15,8 +15,8 @@ use Rattle.rhythm_laws.specs.Forests.{AreWide, Ground, IsForestKey, IsGround, fo
 use Rattle.rhythm_laws.specs.Rows.{IsOneBelow}
 use Rattle.rhythm_laws.proofs.ForestLemmas.{join_key, keys-parse, split_key}
 use Rattle.rhythm_laws.proofs.LeastKeys.{Both, last}
-use Rattle.least_cost.specs.RuleChoices.{IsRuleKey}
-use Rattle.least_cost.proofs.Bounds.{IsBounded, stands-cheap}
+use Rattle.pinned_trees.specs.RuleChoices.{IsRuleKey}
+use Rattle.pinned_trees.proofs.Bounds.{IsBounded, stands-cheap}
 use Rattle.bar_alternatives.specs.Firsts.{AreFirst, AreKept, offered, sums_offered}
 use Rattle.bar_alternatives.specs.Grids.{AreAllAddable, HasLists, joined, joined_below, ranking_at}
 use Rattle.bar_alternatives.specs.Nodes.{AreBestForests}

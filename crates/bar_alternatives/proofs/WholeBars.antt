@@ -6,7 +6,7 @@ use Rattle.rhythm_base.specs.Grammar.{Grammar}
 use Rattle.rhythm_base.specs.Ranked.{Key, plus}
 use Rattle.rhythm_laws.specs.Forests.{IsForestKey}
 use Rattle.rhythm_laws.specs.Rows.{IsOneBelow}
-use Rattle.least_cost.specs.Nodes.{ground_of}
+use Rattle.pinned_trees.specs.Nodes.{ground_of}
 use Rattle.bar_alternatives.specs.BestTrees.{cost_at}
 use Rattle.bar_alternatives.specs.Firsts.{AreFirst, AreKept, all_offered}
 use Rattle.bar_alternatives.specs.Grids.{ranking_at}

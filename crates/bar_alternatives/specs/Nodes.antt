@@ -6,14 +6,14 @@ use Rattle.rhythm_base.specs.Cost.{charges}
 use Rattle.rhythm_base.specs.Line.{agrees}
 use Rattle.rhythm_base.specs.declared.rule.Ending.{Ending}
 use Rattle.rhythm_laws.specs.Places.{FitsAt}
-use Rattle.least_cost.specs.OneLeaf.{HasHeard, leaf_of_cell}
+use Rattle.pinned_trees.specs.OneLeaf.{HasHeard, leaf_of_cell}
 use Rattle.bar_alternatives.specs.declared.leaf_offer.LeafHere.{LeafHere}
 use Rattle.rhythm_base.specs.Grammar.{Grammar}
 use Rattle.rhythm_base.specs.Ranked.{Key, plus}
 use Rattle.rhythm_laws.specs.Forests.{Ground, IsForestKey}
 use Rattle.rhythm_laws.specs.Rows.{IsOneBelow}
-use Rattle.least_cost.specs.Nodes.{ground_of}
-use Rattle.least_cost.specs.RuleChoices.{IsRuleKey}
+use Rattle.pinned_trees.specs.Nodes.{ground_of}
+use Rattle.pinned_trees.specs.RuleChoices.{IsRuleKey}
 use Rattle.bar_alternatives.specs.declared.memo.Asked.{Asked}
 use Rattle.bar_alternatives.specs.declared.memo.Family.{Family}
 use Rattle.bar_alternatives.specs.declared.memo.Found.{Found}

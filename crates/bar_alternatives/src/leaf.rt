@@ -1,7 +1,7 @@
 ghost use Rattle.interval.specs.OneLeaf.{IsLeafOf};
 ghost use Rattle.bar_alternatives.specs.Memos.{LiesAt};
-ghost use Rattle.least_cost.specs.Nodes.{ground_of};
-ghost use Rattle.least_cost.specs.OneLeaf.{AreChordsIn, HasHeard, SplitsAt, charge_of, leaf_of_cell};
+ghost use Rattle.pinned_trees.specs.Nodes.{ground_of};
+ghost use Rattle.pinned_trees.specs.OneLeaf.{AreChordsIn, HasHeard, SplitsAt, charge_of, leaf_of_cell};
 ghost use Rattle.rhythm_base.specs.BarInput.{IsBarInput, IsInner};
 ghost use Rattle.rhythm_base.specs.Lists.{last_end};
 ghost use Rattle.rhythm_base.specs.Cells.{bar_of};

@@ -2,7 +2,7 @@ ghost use Rattle.bar_alternatives.specs.Firsts.{AreKept, offered};
 ghost use Rattle.bar_alternatives.specs.Grids.{HasLists, ranking_at};
 ghost use Rattle.bar_alternatives.specs.Nodes.{HasNoLeaf, IsLeafHere, IsWithin, is_leaf_at};
 ghost use Rattle.bar_alternatives.specs.declared.leaf_offer.LeafHere.{LeafHere};
-ghost use Rattle.least_cost.specs.Nodes.{IsReady};
+ghost use Rattle.pinned_trees.specs.Nodes.{IsReady};
 ghost use Rattle.std.specs.Prelude.{
   ◌≡◌,
   ◌+◌,

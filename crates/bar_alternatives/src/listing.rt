@@ -1,6 +1,6 @@
 ghost use Rattle.bar_alternatives.specs.BestTrees.{AreBestTrees, AreSmall, without_pin};
 ghost use Rattle.bar_alternatives.specs.Totals.{IsListed};
-ghost use Rattle.least_cost.specs.Nodes.{IsReady};
+ghost use Rattle.pinned_trees.specs.Nodes.{IsReady};
 ghost use Rattle.rhythm_base.specs.BarInput.{IsBarInput};
 ghost use Rattle.rhythm_base.specs.Lists.{Each};
 ghost use Rattle.rhythm_base.specs.Readable.{IsReadable};

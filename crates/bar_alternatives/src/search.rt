@@ -10,7 +10,7 @@ ghost use Rattle.bar_alternatives.specs.Nodes.{
 };
 ghost use Rattle.bar_alternatives.specs.Memos.{KeepsFound};
 ghost use Rattle.bar_alternatives.specs.Pieces.{pair_of};
-ghost use Rattle.least_cost.specs.Nodes.{IsReady, ending_at, ground_of};
+ghost use Rattle.pinned_trees.specs.Nodes.{IsReady, ending_at, ground_of};
 ghost use Rattle.rhythm_base.specs.Bodies.{sizes};
 ghost use Rattle.rhythm_base.specs.Trees.{suits};
 ghost use Rattle.rhythm_laws.specs.Shares.{AreBelow};
@@ -31,11 +31,12 @@ ghost use Rattle.std.specs.Prelude.{
   slice_get,
 };
 
-use crate::cut::{Piece, children, suits};
+use crate::cut::{Piece, children};
 use crate::grid::{Grid, join};
 use crate::leaf::site_of;
 use crate::leaf_offer::{leaf_here, offer_leaf};
 use crate::memo::{Asked, Family, LastParts, Memo};
+use grammar_plan::suits;
 use rhythm_base::{BarInput, Grammar};
 use std::alloc::{AllocError, Global};
 

@@ -8,7 +8,7 @@ use crate::cut::Cut;
 use crate::pairs::Pairs;
 use crate::parts::push_parts;
 use crate::spans::Span;
-use crate::suits::suits;
+use crate::suiting::suits;
 use rhythm_base::{Grammar, Rule};
 use std::alloc::AllocError;
 

@@ -18,10 +18,12 @@ mod seat;
 mod seat_table;
 mod seats;
 mod spans;
-mod suits;
+mod suiting;
 
 pub use cut::Cut;
 pub use leaf_rule::LeafRule;
 pub use plan::Plan;
 pub use quiet_tree::QuietTree;
 pub use seat::Seat;
+pub use spans::{Span, Spans};
+pub use suiting::{sizes, suits};

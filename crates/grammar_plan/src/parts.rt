@@ -3,7 +3,7 @@ ghost use Rattle.rhythm_base.specs.Bodies.{children};
 ghost use Rattle.std.specs.Prelude.{IfOk};
 
 use crate::pairs::Pairs;
-use crate::suits::sizes;
+use crate::suiting::sizes;
 use rhythm_base::Body;
 use std::alloc::AllocError;
 

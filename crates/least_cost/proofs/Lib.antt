@@ -1,16 +1,2 @@
-pub mod Ropes
-pub mod Outlines
-pub mod Fives
-pub mod Settling
-pub mod Merging
-pub mod RuleKeys
-pub mod Bounds
-pub mod Goods
-pub mod Hearing
-pub mod Leaves
-pub mod Searches
 pub mod TableLists
 pub mod Roots
-pub mod Slices
-pub mod Families
-pub mod SymbolSpans

@@ -1,4 +1,4 @@
--- The least entries of the whole bar are its table.
+-- The least keys of the whole bar are its table.
 use Rattle.std.proofs.Common.{◌≡◌, ℕ, zero, suc, ◌<◌, ◌≤◌, ◌+◌, ◌^◌, ◌&&◌, true, false, All, List, [], ◌∷◌, get_or, refl, sym, ap, ap₂, ◌∙◌, subst, arith, append-nil, inl, inr}
 use Rattle.std.specs.Prelude.{Option, Some, None, nat_lt, if◌then◌else◌}
 use Rattle.std.specs.List.{list_all}
@@ -29,19 +29,13 @@ use Rattle.rhythm_laws.proofs.ForestLemmas.{least-rows_apart}
 use Rattle.rhythm_laws.proofs.PathTables.{table_of_ranked}
 use Rattle.rhythm_laws.proofs.Places.{at-cell, cell-at}
 use Rattle.rhythm_laws.proofs.ProductCosts.{grid_entry}
-use Rattle.rhythm_laws.proofs.Products.{five_at, grid_at, grid_same}
+use Rattle.rhythm_laws.proofs.Products.{five_at, grid_at}
 use Rattle.rhythm_laws.proofs.Ranks.{both}
-use Rattle.least_cost.specs.declared.entry.Entry.{Entry}
-use Rattle.least_cost.specs.Entries.{IsEntryOf, IsGood, entry_at}
-use Rattle.least_cost.specs.Nodes.{IsReady, ground_of}
-use Rattle.least_cost.specs.Tables.{best_at, entry_key}
-use Rattle.least_cost.proofs.Bounds.{stands-cheap}
-use Rattle.least_cost.proofs.Goods.{Table}
+use Rattle.row_laws.specs.Grounds.{IsReady, ground_of}
+use Rattle.row_laws.proofs.Bounds.{stands-cheap}
+use Rattle.row_laws.proofs.Grounds.{bounds, grounded}
+use Rattle.row_laws.proofs.RuleKeys.{single_tree, top_shape}
 use Rattle.least_cost.proofs.TableLists.{key_list}
-use Rattle.least_cost.proofs.RuleKeys.{single_tree, top_shape}
-use Rattle.least_cost.proofs.Ropes.{HasText-is}
-use Rattle.least_cost.proofs.Searches.{bounds, grounded}
-use Rattle.least_cost.proofs.Settling.{best-ranked}
 
 -- all onsets lie in the bar
 inside : (l : ℕ) (cs : List Inner) → All (IsInner l) cs → list_all (λ c. nat_lt c.onset l) cs ≡ true
@@ -173,18 +167,3 @@ module _ (g : Grammar) (k : BarInput) (ready : IsReady g k) where
             let is : at table.matrix a b ≡ ranked (keys a) (keys a b) = ap (λ m. at m a b) matrix ∙ grid_at (λ a b. ranked (keys a) (keys a b)) a b la lb in
             subst (IsEntry g (record table { input = k }) a b) (sym is) (entry-is a b la lb (keys a b) refl (least a b la lb));
       }
-
--- ---- entries of the search of a bar with a pin
-
-module _ (g : Grammar) (k : BarInput) (ls : List (List ℕ)) (t : Table) (good : IsGood (ground_of g k) (one_shape k.pin) 0 ((k.resolution, k.symbol) ∷ []) ls t) where
-  pub good-matrix : grid (best_at t) ≡ table_of good.keys
-  good-matrix = grid_same (best_at t) (λ a b. ranked (good.keys a) (good.keys a b)) (λ a b la lb. best-ranked ls (good.keys a) (entry_at t a b) (good.keys a b) (good.held a b la lb))
-
-  same_key : (row : ℕ → Option Key) (e : Option Entry) (u : Option Key) → IsEntryOf ls row e u → entry_key ls e ≡ u
-  same_key row None None h = refl
-  same_key row None (Some k) h = absurd h
-  same_key row (Some e) None h = absurd h
-  same_key row (Some e) (Some k) h = λ i. Some (h.0 i, HasText-is ls e.list k.1 h.2 i)
-
-  pub good-key : (a b : ℕ) → a < 5 → b < 5 → entry_key ls (entry_at t a b) ≡ good.keys a b
-  good-key a b la lb = same_key (good.keys a) (entry_at t a b) (good.keys a b) (good.held a b la lb)

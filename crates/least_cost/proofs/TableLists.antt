@@ -25,10 +25,3 @@ lists-are m keys rules ends is h a b la lb =
     own : (u : Option Key) → IsListOf u (list_of rules ends (number_of a b)) → list_where (ranked (keys a) u) (list_of rules ends (number_of a b)) ≡ key_list u
     own None held = refl
     own (Some k) held = ap Some held
-
--- the list of a key stands in its place
-pub list-at : (keys : Keys) (a b : ℕ) (xs : List ℕ) → b < 5 → IsListOf (keys a b) xs → IsListAt keys (number_of a b) xs
-list-at keys a b xs low h a' b' low' is =
-    let row : a ≡ a' = omega (arith, low, low', is) in
-    let count : b ≡ b' = omega (arith, low, low', is) in
-    subst (λ b. IsListOf (keys a' b) xs) count (subst (λ a. IsListOf (keys a b) xs) row h)

@@ -1,13 +1,2 @@
-pub mod Entries
-pub mod Memos
-pub mod Nodes
-pub mod OneLeaf
-pub mod Pieces
-pub mod Pins
-pub mod Products
-pub mod RuleChoices
-pub mod RuleLists
-pub mod Rules
-pub mod Spans
 pub mod TableCode
 pub mod Tables

@@ -1,8 +1,8 @@
 use Rattle.std.proofs.Common.{◌∙◌, ◌<◌, ◌≤◌, [], ◌∷◌, length, ap, arith}
 use Rattle.std.proofs.lemmas.List.{take_all}
 use Rattle.rhythm_base.specs.Cost.{charges}
-use Rattle.least_cost.specs.OneLeaf.{leaf_of_cell}
-use Rattle.least_cost.proofs.Hearing.{few-chords}
+use Rattle.pinned_trees.specs.OneLeaf.{leaf_of_cell}
+use Rattle.pinned_trees.proofs.Hearing.{few-chords}
 use Rattle.bar_alternatives.proofs.leaf.charges.Goals as goal
 
 pub overflow_add-total : goal.overflow_add-total

@@ -1,6 +1,6 @@
 use Rattle.std.proofs.Common.{◌≡◌, ◌≤◌, ◌*◌, ◌∷◌, [], take}
 use Rattle.rhythm_base.specs.Cost.{charges}
-use Rattle.least_cost.specs.OneLeaf.{leaf_of_cell}
+use Rattle.pinned_trees.specs.OneLeaf.{leaf_of_cell}
 use Rattle.bar_alternatives.proofs.leaf.charges.Given as goal
 
 abbrev pub invariant-loop-chord : goal.invariant-loop-chord

@@ -1,6 +1,6 @@
 use Rattle.std.proofs.Common.{◌-◌, take, drop, sym, subst, arith}
-use Rattle.least_cost.specs.OneLeaf.{AreChordsIn}
-use Rattle.least_cost.proofs.Slices.{chords_between, ordered}
+use Rattle.pinned_trees.specs.OneLeaf.{AreChordsIn}
+use Rattle.pinned_trees.proofs.Slices.{chords_between, ordered}
 use Rattle.bar_alternatives.proofs.leaf.chords_in.Goals as goal
 
 pub returns : goal.returns

@@ -2,7 +2,7 @@ use Rattle.std.proofs.Common.{◌≡◌, ◌∙◌, ◌<◌, ◌≤◌, ◌+◌,
 use Rattle.rhythm_base.specs.declared.inner.Inner.{Inner}
 use Rattle.rhythm_base.specs.Cells.{bar_of}
 use Rattle.rhythm_laws.specs.Places.{reach}
-use Rattle.least_cost.proofs.Slices.{above-middle, below-middle}
+use Rattle.pinned_trees.proofs.Slices.{above-middle, below-middle}
 use Rattle.bar_alternatives.proofs.leaf.count_before.Goals as goal
 
 pub search-preserved-then-reaches : goal.search-preserved-then-reaches

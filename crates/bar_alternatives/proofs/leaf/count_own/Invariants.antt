@@ -1,7 +1,7 @@
 use Rattle.std.proofs.Common.{◌≡◌, ◌≤◌, length, take}
 use Rattle.rhythm_base.specs.Leaves.{looks}
 use Rattle.rhythm_laws.specs.Runs.{lefts}
-use Rattle.least_cost.specs.OneLeaf.{leaf_of_cell}
+use Rattle.pinned_trees.specs.OneLeaf.{leaf_of_cell}
 use Rattle.bar_alternatives.proofs.leaf.count_own.Given as goal
 
 abbrev pub invariant-loop-chord : goal.invariant-loop-chord

@@ -1,6 +1,6 @@
 use Rattle.std.proofs.Common.{◌∙◌, ◌-◌, get_or, ap, sym, arith}
 use Rattle.rhythm_base.specs.declared.inner.Inner.{Inner}
-use Rattle.least_cost.proofs.Slices.{end-first, end-last}
+use Rattle.pinned_trees.proofs.Slices.{end-first, end-last}
 use Rattle.bar_alternatives.proofs.leaf.end_before.Goals as goal
 
 pub returns-then-first-eq0-clause-value : goal.returns-then-first-eq0-clause-value

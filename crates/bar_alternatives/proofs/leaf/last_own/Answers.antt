@@ -3,8 +3,8 @@ use Rattle.rhythm_base.specs.declared.inner.Inner.{Inner}
 use Rattle.rhythm_base.specs.BarInput.{IsInner}
 use Rattle.rhythm_base.specs.Lists.{last_end}
 use Rattle.rhythm_base.specs.Leaves.{goes_left, lies_in}
-use Rattle.least_cost.specs.OneLeaf.{leaf_of_cell}
-use Rattle.least_cost.proofs.Hearing.{ends-off, last-on}
+use Rattle.pinned_trees.specs.OneLeaf.{leaf_of_cell}
+use Rattle.pinned_trees.proofs.Hearing.{ends-off, last-on}
 use Rattle.bar_alternatives.proofs.leaf.last_own.Goals.{then-goes_here, else-goes_here}
 use Rattle.bar_alternatives.proofs.leaf.last_own.Goals as goal
 

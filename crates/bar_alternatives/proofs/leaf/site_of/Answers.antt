@@ -1,7 +1,7 @@
 use Rattle.std.proofs.Common.{rules, ◌≡◌, ◌+◌, ◌≤◌, ◌*◌, sym, subst}
 use Rattle.rhythm_base.specs.Cells.{bar_of}
-use Rattle.least_cost.specs.OneLeaf.{SplitsAt}
-use Rattle.least_cost.proofs.Families.{silent-cell, sounding-cell}
+use Rattle.pinned_trees.specs.OneLeaf.{SplitsAt}
+use Rattle.pinned_trees.proofs.Families.{silent-cell, sounding-cell}
 use Rattle.bar_alternatives.proofs.leaf.site_of.Goals as goal
 
 pub returns-then-from-length : goal.returns-then-from-length

@@ -1,5 +1,5 @@
 use Rattle.std.proofs.Common.{arith}
-use Rattle.least_cost.proofs.Leaves.{fits-agrees}
+use Rattle.pinned_trees.proofs.Leaves.{fits-agrees}
 use Rattle.bar_alternatives.proofs.leaf_offer.leaf_here.Goals.{then-heard-gt4-via-then-heard-gt4, then-heard-gt4-via-else-heard-gt4+then-heard-gt4-2}
 use Rattle.bar_alternatives.proofs.leaf_offer.leaf_here.Goals as goal
 

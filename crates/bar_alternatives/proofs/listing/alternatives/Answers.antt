@@ -7,8 +7,8 @@ use Rattle.rhythm_base.specs.Lists.{Each}
 use Rattle.rhythm_base.specs.Ranked.{Key}
 use Rattle.rhythm_base.specs.Readable.{IsReadable}
 use Rattle.rhythm_base.specs.RuleTrees.{IsRuleList}
-use Rattle.least_cost.specs.Nodes.{IsReady, ground_of}
-use Rattle.least_cost.proofs.Searches.{bounds, grounded}
+use Rattle.pinned_trees.specs.Nodes.{IsReady, ground_of}
+use Rattle.pinned_trees.proofs.Searches.{bounds, grounded}
 use Rattle.bar_alternatives.specs.BestTrees.{AreBestTrees, without_pin}
 use Rattle.bar_alternatives.specs.Firsts.{AreFirst}
 use Rattle.bar_alternatives.specs.Grids.{AreAllAddable}

@@ -8,7 +8,7 @@ use Rattle.rhythm_base.specs.Shape.{Shape}
 use Rattle.rhythm_laws.specs.Forests.{AreLeast, one_shape}
 use Rattle.least_rows.specs.BarTrees.{AreBarTrees}
 use Rattle.least_rows.specs.declared.bar_trees.BarTrees.{BarTrees}
-use Rattle.least_cost.specs.Nodes.{ground_of}
+use Rattle.row_laws.specs.Grounds.{ground_of}
 use Rattle.least_cost.specs.Tables.{AreAllPlaced, lists_of}
 use Rattle.least_cost.proofs.Roots.{root-low, root-ranked, root-table}
 use Rattle.least_cost.proofs.TableLists.{lists-are}

@@ -1,0 +1,12 @@
+pub mod Entries
+pub mod Memos
+pub mod Nodes
+pub mod OneLeaf
+pub mod Pieces
+pub mod Pins
+pub mod Products
+pub mod Roots
+pub mod RuleChoices
+pub mod RuleLists
+pub mod Rules
+pub mod Writing
