@@ -12,7 +12,7 @@ use Rattle.grammar_plan.specs.Plans.{HasQuietTree, IsPlan, IsSeat, pair_of}
 use Rattle.grammar_plan.specs.declared.plan.Plan.{Plan}
 use Rattle.grammar_plan.specs.declared.quiet_tree.QuietTree.{QuietTree}
 use Rattle.grammar_plan.specs.declared.seat.Seat.{Seat}
-use Rattle.least_rows.specs.Fronts.{IsRanked, quiet_rank}
+use Rattle.least_rows.specs.Ways.{IsRanked, quiet_rank}
 use Rattle.least_rows.proofs.QuietRows.{quiet-ranked}
 use Rattle.least_rows.proofs.RowEntries.{all-at}
 

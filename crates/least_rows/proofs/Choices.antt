@@ -23,10 +23,10 @@ use Rattle.grammar_plan.specs.declared.cut.Cut.{Cut}
 use Rattle.grammar_plan.specs.declared.plan.Plan.{Plan}
 use Rattle.grammar_plan.specs.declared.seat.Seat.{Seat}
 use Rattle.least_rows.specs.Choices.{AreBestChoices, IsChoiceMade, RulesBefore, choice_in, nearer_choice, sum_of_choice, topped_choice}
-use Rattle.least_rows.specs.Fronts.{AreWays, IsWayMade, sum_of_way}
+use Rattle.least_rows.specs.Ways.{AreWays, IsWayMade, sum_of_way}
 use Rattle.least_rows.specs.declared.choice.Choice.{Choice}
 use Rattle.least_rows.specs.declared.way.Way.{Way}
-use Rattle.least_rows.proofs.Fronts.{small-power}
+use Rattle.least_rows.proofs.FirstWays.{small-power}
 
 -- ---- other names for the same
 

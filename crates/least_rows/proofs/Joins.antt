@@ -8,7 +8,7 @@ use Rattle.std.proofs.lemmas.List.{get_or-set_other}
 use Rattle.std.proofs.lemmas.Option.{get_or_from_slice_get, slice_get_within}
 use Rattle.least_rows.specs.declared.entry.Entry.{Entry}
 use Rattle.least_rows.specs.declared.way.Way.{Way}
-use Rattle.least_rows.specs.Fronts.{AreEntries, nearer_way, rank_in, way_in, way_on}
+use Rattle.least_rows.specs.Ways.{AreEntries, nearer_way, rank_in, way_in, way_on}
 use Rattle.least_rows.proofs.RowEntries.{HasNone, rank-last, rank-none, rank-other}
 
 -- ---- the first entries

@@ -25,7 +25,7 @@ use Rattle.least_rows.specs.declared.state.State.{State}
 use Rattle.row_laws.specs.Grounds.{IsReady}
 use Rattle.row_laws.proofs.Grounds.{bounds, grounded}
 use Rattle.grammar_plan.specs.Plans.{IsPlan}
-use Rattle.least_rows.specs.Fronts.{AreEntries, IsRanked, rank_in}
+use Rattle.least_rows.specs.Ways.{AreEntries, IsRanked, rank_in}
 use Rattle.least_rows.proofs.Asked.{seat-of}
 use Rattle.least_rows.proofs.RowEntries.{all-at, row-entries, row-ranked}
 use Rattle.least_rows.proofs.Settling.{append-get, last-get, split-row}

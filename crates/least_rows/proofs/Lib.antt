@@ -1,6 +1,6 @@
 pub mod Choices
 pub mod Fives
-pub mod Fronts
+pub mod FirstWays
 pub mod Joins
 pub mod QuietRows
 pub mod RowEntries
@@ -18,4 +18,4 @@ pub mod ListEnds
 pub mod RootRows
 pub mod Limits
 pub mod Tops
-pub mod CutsMore
+pub mod NextCut

@@ -1,5 +1,5 @@
 -- A cut is left out where its trees cost more than one that is there already.
-use Rattle.std.proofs.Common.{inl, inr, ◌⊎◌, ◌≡◌, ℕ, ◌+◌, ◌<◌, ◌==◌, Bool, true, false, List, ◌∷◌, [], ◌++◌, take, drop, refl, sym, ap, ◌∙◌, subst, arith, take-append-drop}
+use Rattle.std.proofs.Common.{◌⊎◌, ◌≡◌, ℕ, ◌+◌, ◌<◌, ◌==◌, Bool, true, false, List, ◌∷◌, [], ◌++◌, take, drop, sym, ap, ◌∙◌, subst, arith, take-append-drop}
 use Rattle.std.specs.Prelude.{Option, Some, None, if◌then◌else◌}
 use Rattle.rhythm_base.specs.Bodies.{children}
 use Rattle.rhythm_base.specs.Ranked.{Key}
@@ -13,7 +13,7 @@ use Rattle.grammar_plan.specs.Plans.{IsCutOf}
 use Rattle.grammar_plan.specs.declared.cut.Cut.{Cut}
 use Rattle.grammar_plan.specs.declared.plan.Plan.{Plan}
 use Rattle.least_rows.specs.Choices.{AreBestChoices, choice_in, sum_of_choice}
-use Rattle.least_rows.specs.Fronts.{AreWays, one_way, sum_of_way}
+use Rattle.least_rows.specs.Ways.{AreWays, one_way, sum_of_way}
 use Rattle.least_rows.specs.declared.choice.Choice.{Choice}
 use Rattle.least_rows.specs.declared.way.Way.{Way}
 use Rattle.least_rows.proofs.Settling.{same-key-of}

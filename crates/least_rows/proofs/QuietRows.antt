@@ -26,7 +26,7 @@ use Rattle.row_laws.specs.declared.quiet.Quiet.TheVariants.{Sounding, Silent}
 use Rattle.grammar_plan.specs.Plans.{IsQuietTree}
 use Rattle.grammar_plan.specs.declared.plan.Plan.{Plan}
 use Rattle.grammar_plan.specs.declared.quiet_tree.QuietTree.{QuietTree}
-use Rattle.least_rows.specs.Fronts.{IsRanked, quiet_rank}
+use Rattle.least_rows.specs.Ways.{IsRanked, quiet_rank}
 
 no_onset : (quiet : Quiet) (d : Ground) (p w : ℕ) → IsQuiet quiet d p w → is_quiet d p w ≡ true
 no_onset Sounding d p w h = h.quiet

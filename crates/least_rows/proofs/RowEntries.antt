@@ -21,7 +21,7 @@ use Rattle.row_laws.proofs.RowProducts.{row-cheap}
 use Rattle.grammar_plan.specs.declared.plan.Plan.{Plan}
 use Rattle.least_rows.specs.declared.entry.Entry.{Entry}
 use Rattle.least_rows.specs.Entries.{IsEntry, IsRow}
-use Rattle.least_rows.specs.Fronts.{AreEntries, IsRanked, rank_in}
+use Rattle.least_rows.specs.Ways.{AreEntries, IsRanked, rank_in}
 
 pub all-at : {X : Type 0} (P : X → Type 0) (xs : List X) (i : ℕ) (x : X) → All P xs → slice_get xs i ≡ Some x → P x
 all-at P xs i x h e = subst P (get_or_from_slice_get xs i x x e) (h i x (slice_get_within xs i x e))

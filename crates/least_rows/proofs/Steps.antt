@@ -17,7 +17,7 @@ use Rattle.least_rows.specs.Steps.{LeadsOver}
 use Rattle.least_rows.specs.declared.lead.Lead.{Lead}
 use Rattle.least_rows.specs.declared.lead.Lead.TheVariants.{Nowhere, One, Several}
 use Rattle.least_rows.specs.declared.way.Way.{Way}
-use Rattle.least_rows.specs.Fronts.{IsLead, AreWaysBelow, AreWaysOn, IsRanked, nearer_way, nearest_below, nearest_way, one_way, way_on}
+use Rattle.least_rows.specs.Ways.{IsLead, AreWaysBelow, AreWaysOn, IsRanked, nearer_way, nearest_below, nearest_way, one_way, way_on}
 
 -- ---- one way alone
 

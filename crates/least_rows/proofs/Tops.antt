@@ -12,7 +12,7 @@ use Rattle.grammar_plan.specs.Plans.{IsPlan, IsSeat, pair_of}
 use Rattle.grammar_plan.specs.declared.cut.Cut.{Cut}
 use Rattle.grammar_plan.specs.declared.plan.Plan.{Plan}
 use Rattle.grammar_plan.specs.declared.seat.Seat.{Seat}
-use Rattle.least_rows.specs.Fronts.{AreShort, AreWays, one_way}
+use Rattle.least_rows.specs.Ways.{AreShort, AreWays, one_way}
 use Rattle.least_rows.specs.Places.{HasPlace, width_at, width_of}
 use Rattle.least_rows.specs.Steps.{AreWaysOver}
 use Rattle.least_rows.specs.Tops.{IsTop, parts_of}
@@ -20,7 +20,7 @@ use Rattle.least_rows.specs.declared.top.Top.{Top}
 use Rattle.least_rows.specs.declared.way.Way.{Way}
 use Rattle.least_rows.proofs.Asked.{seat-of}
 use Rattle.least_rows.proofs.Cutting.{cut-few, cut-long, cut-whole, cut-wide, part-below, part-inside, part-next, part-seat}
-use Rattle.least_rows.proofs.Fronts.{ways-first, ways-none, ways-short, ways-then}
+use Rattle.least_rows.proofs.FirstWays.{ways-first, ways-none, ways-short, ways-then}
 
 -- a part of the cut, which begins at this unit
 pub record IsPart (g : Grammar) (k : BarInput) (plan : Plan) (top : Top) (cut : Cut) (t : IsTop g k plan top cut) (part own at : ℕ) : Type 0 where

@@ -1,7 +1,7 @@
 pub mod BarTrees
 pub mod Choices
 pub mod Entries
-pub mod Fronts
+pub mod Ways
 pub mod Parts
 pub mod Places
 pub mod Roots

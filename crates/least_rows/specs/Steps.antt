@@ -1,5 +1,5 @@
 -- What one step of the search finds, of the seat of a number.
-use Rattle.std.specs.Prelude.{⊤, ◌≡◌, ◌⊎◌, ℕ, ◌<◌, ◌^◌, ◌==◌, if◌then◌else◌, Bool, false, List, [], ◌∷◌, length, slice_get, slice_set, slice_index_or, MatchOption, Option, Some, None}
+use Rattle.std.specs.Prelude.{⊤, ◌≡◌, ◌⊎◌, ℕ, ◌<◌, ◌^◌, ◌==◌, if◌then◌else◌, Bool, false, List, [], ◌∷◌, slice_get, slice_set, slice_index_or, MatchOption, Option, Some, None}
 use Rattle.rhythm_base.specs.BarInput.{BarInput}
 use Rattle.rhythm_base.specs.Grammar.{Grammar}
 use Rattle.rhythm_base.specs.Ranked.{Key}
@@ -13,7 +13,7 @@ use Rattle.grammar_plan.specs.Plans.{pair_of}
 use Rattle.grammar_plan.specs.declared.plan.Plan.{Plan}
 use Rattle.grammar_plan.specs.declared.seat.Seat.{Seat}
 use Rattle.least_rows.specs.Choices.{AreBestChoices, AreSettled}
-use Rattle.least_rows.specs.Fronts.{AreWaysBelow, AreWaysOn, one_way}
+use Rattle.least_rows.specs.Ways.{AreWaysBelow, AreWaysOn, one_way}
 use Rattle.least_rows.specs.States.{HasRow, IsRowAt}
 use Rattle.least_rows.specs.declared.choice.Choice.{Choice}
 use Rattle.least_rows.specs.declared.lead.Lead.{Lead}

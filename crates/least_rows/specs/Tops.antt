@@ -9,7 +9,7 @@ use Rattle.grammar_plan.specs.declared.cut.Cut.{Cut}
 use Rattle.grammar_plan.specs.declared.plan.Plan.{Plan}
 use Rattle.grammar_plan.specs.declared.seat.Seat.{Seat}
 use Rattle.least_rows.specs.Choices.{choice_in, nearer_choice, topped_choice}
-use Rattle.least_rows.specs.Fronts.{AreWays}
+use Rattle.least_rows.specs.Ways.{AreWays}
 use Rattle.least_rows.specs.declared.choice.Choice.{Choice}
 use Rattle.least_rows.specs.declared.top.Top.{Top}
 use Rattle.least_rows.specs.declared.way.Way.{Way}

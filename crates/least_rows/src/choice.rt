@@ -8,7 +8,7 @@ ghost use Rattle.least_rows.specs.Choices.{
   nearer_choice,
   topped_choice,
 };
-ghost use Rattle.least_rows.specs.Fronts.{AreShort, IsShort, way_in};
+ghost use Rattle.least_rows.specs.Ways.{AreShort, IsShort, way_in};
 ghost use Rattle.least_rows.specs.declared.way.Way.{Way};
 ghost use Rattle.least_rows.specs.declared.choice.Choice.{Choice};
 ghost use Rattle.row_laws.specs.BestRules.{is_nearer};

@@ -1,4 +1,4 @@
-ghost use Rattle.least_rows.specs.Fronts.{AreEntries, IsLead, IsShort, quiet_rank, rank_in};
+ghost use Rattle.least_rows.specs.Ways.{AreEntries, IsLead, IsShort, quiet_rank, rank_in};
 ghost use Rattle.grammar_plan.specs.declared.quiet_tree.QuietTree.{QuietTree};
 ghost use Rattle.std.specs.Prelude.{◌≡◌, ◌<◌, ◌≤◌, Some};
 

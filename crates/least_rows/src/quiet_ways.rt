@@ -1,4 +1,4 @@
-ghost use Rattle.least_rows.specs.Fronts.{AreShort, IsShort, nearer_way, quiet_rank, way_in, way_on};
+ghost use Rattle.least_rows.specs.Ways.{AreShort, IsShort, nearer_way, quiet_rank, way_in, way_on};
 ghost use Rattle.grammar_plan.specs.declared.quiet_tree.QuietTree.{QuietTree};
 ghost use Rattle.least_rows.specs.Searches.{IsSearch};
 ghost use Rattle.least_rows.specs.Steps.{AreQuietWays, AreQuietWaysBelow, way_to_none};

@@ -1,7 +1,7 @@
 ghost use Rattle.grammar_plan.specs.Plans.{pair_of};
 ghost use Rattle.grammar_plan.specs.declared.seat.Seat.{Seat};
 ghost use Rattle.least_rows.specs.Choices.{RulesBefore};
-ghost use Rattle.least_rows.specs.Fronts.{AreShort, IsShort, one_way, way_in};
+ghost use Rattle.least_rows.specs.Ways.{AreShort, IsShort, one_way, way_in};
 ghost use Rattle.least_rows.specs.Places.{HasPlace};
 ghost use Rattle.least_rows.specs.Searches.{IsSearch};
 ghost use Rattle.least_rows.specs.States.{AreKnown, Grows, HasState, IsRowAt};

@@ -1,4 +1,4 @@
-ghost use Rattle.least_rows.specs.Fronts.{IsShort, nearer_way};
+ghost use Rattle.least_rows.specs.Ways.{IsShort, nearer_way};
 ghost use Rattle.row_laws.specs.BestRules.{is_nearer};
 ghost use Rattle.std.specs.Prelude.{◌≡◌, ◌+◌, ◌*◌, ◌<◌, ◌≤◌, Some};
 

@@ -1,4 +1,4 @@
-ghost use Rattle.least_rows.specs.Fronts.{AreEntries, IsShort, nearer_way, rank_in, way_in, way_on};
+ghost use Rattle.least_rows.specs.Ways.{AreEntries, IsShort, nearer_way, rank_in, way_in, way_on};
 ghost use Rattle.std.specs.Prelude.{◌≡◌, ◌<◌, ℕ, Some};
 
 use crate::entry::Entry;

@@ -1,7 +1,7 @@
 use Rattle.std.proofs.Common.{rules, ◌≡◌, length}
 use Rattle.std.specs.Prelude.{None}
 use Rattle.least_rows.specs.Choices.{nearer_choice, topped_choice}
-use Rattle.least_rows.specs.Fronts.{way_in}
+use Rattle.least_rows.specs.Ways.{way_in}
 use Rattle.least_rows.proofs.Fives.{each_written}
 use Rattle.least_rows.proofs.choice.offer_ways.Goals as goal
 

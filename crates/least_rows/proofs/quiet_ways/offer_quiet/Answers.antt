@@ -1,7 +1,7 @@
 use Rattle.std.proofs.Common.{◌∙◌, refl, sym, ap}
 use Rattle.row_laws.specs.Grounds.{ground_of}
 use Rattle.grammar_plan.specs.Plans.{pair_of}
-use Rattle.least_rows.specs.Fronts.{AreWaysBelow, nearer_way, quiet_rank, way_in, way_on}
+use Rattle.least_rows.specs.Ways.{AreWaysBelow, nearer_way, quiet_rank, way_in, way_on}
 use Rattle.least_rows.specs.Steps.{way_to_none}
 use Rattle.least_rows.proofs.Asked.{next-one, quiet-cheap, quiet-row}
 use Rattle.least_rows.proofs.Steps.{below-more, below-skip}

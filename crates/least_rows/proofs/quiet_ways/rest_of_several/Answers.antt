@@ -2,7 +2,7 @@ use Rattle.std.proofs.Common.{◌≡◌, refl, subst, arith}
 use Rattle.std.specs.Prelude.{None}
 use Rattle.row_laws.specs.Grounds.{ground_of}
 use Rattle.grammar_plan.specs.Plans.{pair_of}
-use Rattle.least_rows.specs.Fronts.{AreWaysBelow, way_in}
+use Rattle.least_rows.specs.Ways.{AreWaysBelow, way_in}
 use Rattle.least_rows.specs.Steps.{way_to_none}
 use Rattle.least_rows.proofs.Steps.{below-all, below-none}
 use Rattle.least_rows.proofs.quiet_ways.rest_of_several.Goals as goal

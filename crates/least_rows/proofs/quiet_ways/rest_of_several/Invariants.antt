@@ -1,4 +1,4 @@
-use Rattle.least_rows.specs.Fronts.{way_in}
+use Rattle.least_rows.specs.Ways.{way_in}
 use Rattle.least_rows.specs.Steps.{AreQuietWaysBelow, way_to_none}
 use Rattle.least_rows.proofs.quiet_ways.rest_of_several.Given as goal
 

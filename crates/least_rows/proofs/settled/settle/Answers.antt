@@ -1,7 +1,6 @@
-use Rattle.std.proofs.Common.{Result, Ok, Err, ◌≡◌, List, [], ◌∷◌, ◌++◌, length}
+use Rattle.std.proofs.Common.{Result, Ok, Err}
 use Rattle.std.specs.Prelude.{IfOk, OnOk}
-use Rattle.least_rows.specs.Choices.{AreSettled, IsAlone}
-use Rattle.least_rows.specs.declared.entry.Entry.{Entry}
+use Rattle.least_rows.specs.Choices.{AreSettled}
 use Rattle.least_rows.specs.declared.state.RowSpan.{RowSpan}
 use Rattle.least_rows.proofs.Settling.{settled-alone}
 use Rattle.least_rows.proofs.settled.settle.Goals as goal

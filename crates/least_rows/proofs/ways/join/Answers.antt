@@ -3,7 +3,7 @@ use Rattle.std.specs.Prelude.{Some, None, slice_get, slice_index_or}
 use Rattle.std.proofs.lemmas.Option.{slice_get-get_or}
 use Rattle.least_rows.specs.declared.entry.Entry.{Entry}
 use Rattle.least_rows.specs.declared.way.Way.{Way}
-use Rattle.least_rows.specs.Fronts.{nearer_way, way_in}
+use Rattle.least_rows.specs.Ways.{nearer_way, way_in}
 use Rattle.least_rows.proofs.Joins.{join-more}
 use Rattle.least_rows.proofs.ways.join.Goals as goal
 

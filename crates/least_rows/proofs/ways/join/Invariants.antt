@@ -1,6 +1,6 @@
 use Rattle.std.proofs.Common.{◌≡◌, ◌<◌, ℕ, take, length}
 use Rattle.std.specs.Prelude.{Some}
-use Rattle.least_rows.specs.Fronts.{nearer_way, rank_in, way_in, way_on}
+use Rattle.least_rows.specs.Ways.{nearer_way, rank_in, way_in, way_on}
 use Rattle.least_rows.proofs.ways.join.Given as goal
 
 abbrev pub invariant-entries : goal.invariant-entries

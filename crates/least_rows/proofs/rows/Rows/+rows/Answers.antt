@@ -1,5 +1,5 @@
-use Rattle.std.proofs.Common.{rules, inl, inr, ◌⊎◌, ◌≡◌, ◌<◌, ◌≤◌, ◌+◌, ◌-◌, take, ◌==◌, ◌∙◌, ℕ, Bool, true, false, zero, suc, List, [], ◌∷◌, length, refl, sym, ap, subst, arith}
-use Rattle.std.specs.Prelude.{IfOk, IfSome, Option, Some, None, if◌then◌else◌, slice_get, slice_index_or, slice_set}
+use Rattle.std.proofs.Common.{rules, inl, ◌≡◌, ◌<◌, ◌≤◌, ◌+◌, ◌-◌, ◌==◌, ◌∙◌, ℕ, Bool, true, false, zero, suc, List, [], ◌∷◌, length, refl, sym, ap, subst, arith}
+use Rattle.std.specs.Prelude.{Option, Some, None, if◌then◌else◌, slice_get, slice_set}
 use Rattle.std.proofs.lemmas.Bool.Decides.{nat_tests}
 use Rattle.std.proofs.lemmas.Option.{get_or_from_slice_get, slice_get_read, slice_get_within}
 use Rattle.std.proofs.lemmas.Grind.{get_or-set_at}
@@ -7,18 +7,16 @@ use Rattle.std.proofs.lemmas.List.{get_or-set_other}
 use Rattle.row_laws.specs.Grounds.{ground_of}
 use Rattle.row_laws.specs.QuietTrees.{IsQuiet}
 use Rattle.row_laws.specs.LeafRules.{EndsInterval}
-use Rattle.row_laws.proofs.Grounds.{bounds, grounded}
-use Rattle.least_rows.specs.Places.{width_at, width_of}
 use Rattle.grammar_plan.specs.Plans.{IsSeat, pair_of}
 use Rattle.grammar_plan.specs.declared.seat.Seat.{Seat}
 use Rattle.least_rows.specs.Choices.{AreBestChoices, RulesBefore, choice_in, is_over, limit_of}
-use Rattle.least_rows.specs.Fronts.{AreShort, AreWays, AreWaysBelow, IsShort, nearer_way, one_way, quiet_rank, rank_in, way_in, way_on}
-use Rattle.least_rows.specs.Steps.{AreChoicesOf, AreWaysOver, EndsThere, IsLeafAt, LeadsOver, way_to_none}
-use Rattle.least_rows.specs.Tops.{IsTop, parts_of}
+use Rattle.least_rows.specs.Ways.{AreShort, AreWaysBelow, IsShort, nearer_way, one_way, quiet_rank, rank_in, way_in, way_on}
+use Rattle.least_rows.specs.Steps.{AreChoicesOf, EndsThere, IsLeafAt, LeadsOver, way_to_none}
+use Rattle.least_rows.specs.Tops.{IsTop}
 use Rattle.least_rows.specs.declared.way.Way.{Way}
 use Rattle.least_rows.proofs.Asked.{next-one, quiet-row, seat-of}
-use Rattle.least_rows.proofs.CutsMore.{choices-offered, choices-passed, ends-so, one-offered, over-limit}
-use Rattle.least_rows.proofs.Fronts.{on-same, ways-same}
+use Rattle.least_rows.proofs.NextCut.{choices-offered, choices-passed, ends-so, one-offered, over-limit}
+use Rattle.least_rows.proofs.FirstWays.{on-same}
 use Rattle.least_rows.proofs.PlanSeats.{on_ok}
 use Rattle.least_rows.proofs.Choices.{all-rules, choices-rules, no_cut-yet}
 use Rattle.least_rows.proofs.Known.{grows-none, grows-then, keep-grows, keep-known, keep-row, leaf-of, row-of, seat-same, span-entries, span-ranked}

@@ -1,6 +1,6 @@
-use Rattle.std.proofs.Common.{◌≡◌, ◌+◌, ◌*◌, ◌<◌, ◌≤◌}
+use Rattle.std.proofs.Common.{◌≡◌, ◌+◌, ◌*◌, ◌<◌}
 use Rattle.least_rows.specs.Choices.{RulesBefore}
-use Rattle.least_rows.specs.Fronts.{one_way, way_in}
+use Rattle.least_rows.specs.Ways.{one_way, way_in}
 use Rattle.least_rows.specs.Places.{width_at}
 use Rattle.least_rows.specs.States.{AreKnown, Grows}
 use Rattle.least_rows.specs.Steps.{AreChoicesOf, AreWaysOverBelow}

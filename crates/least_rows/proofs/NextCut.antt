@@ -1,6 +1,6 @@
 -- The choices of a seat with one cut more, and when a cut is passed over.
-use Rattle.std.proofs.Common.{inl, inr, ◌⊎◌, ◌≡◌, ◌≢◌, ℕ, zero, suc, ◌+◌, ◌<◌, ◌≤◌, ◌==◌, Bool, true, false, List, [], ◌∷◌, length, refl, sym, ap, ◌∙◌, subst, arith}
-use Rattle.std.specs.Prelude.{Option, Some, None, if◌then◌else◌, nat_lt, slice_get, slice_set}
+use Rattle.std.proofs.Common.{◌⊎◌, ◌≡◌, ◌≢◌, ℕ, ◌+◌, ◌<◌, ◌≤◌, ◌==◌, Bool, true, false, List, [], ◌∷◌, length, refl, sym, ◌∙◌, subst, arith}
+use Rattle.std.specs.Prelude.{Option, Some, None, if◌then◌else◌, slice_set}
 use Rattle.std.proofs.lemmas.Bool.Decides.{nat_tests}
 use Rattle.std.proofs.lemmas.Grind.{get_or-set_at}
 use Rattle.std.proofs.lemmas.List.{get_or-set_other}
@@ -17,7 +17,7 @@ use Rattle.grammar_plan.specs.declared.cut.Cut.{Cut}
 use Rattle.grammar_plan.specs.declared.plan.Plan.{Plan}
 use Rattle.grammar_plan.specs.declared.seat.Seat.{Seat}
 use Rattle.least_rows.specs.Choices.{AreBestChoices, RulesBefore, choice_in, cost_of, is_over, limit_of, nearer_choice, topped_choice}
-use Rattle.least_rows.specs.Fronts.{AreWays, one_way}
+use Rattle.least_rows.specs.Ways.{AreWays, one_way}
 use Rattle.least_rows.specs.Steps.{AreChoicesOf, EndsThere, IsLeafAt, ends_there}
 use Rattle.least_rows.specs.Tops.{IsOffered, IsTop, parts_of}
 use Rattle.least_rows.specs.declared.choice.Choice.{Choice}

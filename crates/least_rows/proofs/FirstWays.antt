@@ -17,7 +17,7 @@ use Rattle.row_laws.proofs.Bounds.{IsBounded}
 use Rattle.row_laws.proofs.Folds.{fold-alike, fold-via}
 use Rattle.row_laws.proofs.RowProducts.{row-apart, row-cheap, row-next, row-none, row-parse}
 use Rattle.least_rows.specs.declared.way.Way.{Way}
-use Rattle.least_rows.specs.Fronts.{AreShort, AreWays, AreWaysOn, IsWayMade, nearer_way, nearest_below, nearest_way, one_way, sum_of_way, way_on}
+use Rattle.least_rows.specs.Ways.{AreShort, AreWays, AreWaysOn, IsWayMade, nearer_way, nearest_below, nearest_way, one_way, sum_of_way, way_on}
 
 -- ---- which count between is taken
 

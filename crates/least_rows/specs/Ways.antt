@@ -36,11 +36,11 @@ way_on (Some w) count (Some r) = Some (record { cost = w.cost + r.0; order = w.o
 
 -- the nearest of those over the first n counts between
 abbrev pub nearest_below : (ℕ → Option Way) → (ℕ → ℕ → Option Choice) → ℕ → ℕ → Option Way
-nearest_below front ranks b zero = None
-nearest_below front ranks b (suc n) = nearer_way (nearest_below front ranks b n) (way_on (front n) n (ranks n b))
+nearest_below ways ranks b zero = None
+nearest_below ways ranks b (suc n) = nearer_way (nearest_below ways ranks b n) (way_on (ways n) n (ranks n b))
 
 unfoldable pub nearest_way : (ℕ → Option Way) → (ℕ → ℕ → Option Choice) → ℕ → Option Way
-nearest_way front ranks b = nearest_below front ranks b 5
+nearest_way ways ranks b = nearest_below ways ranks b 5
 
 -- ---- the entries of a row
 
