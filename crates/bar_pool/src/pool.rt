@@ -1,4 +1,5 @@
 ghost use Rattle.bar_pool.specs.Pool.{AreTablesOf};
+ghost use Rattle.grammar_plan.specs.Plans.{IsPlan};
 ghost use Rattle.rhythm_base.specs.Counter.{risen};
 ghost use Rattle.rhythm_base.specs.Readable.{IsReadable};
 ghost use Rattle.bar_pool.specs.declared.limits.TheConstants.{MOST_WORKERS};
@@ -38,8 +39,10 @@ pub fn build_cells<R: Threads + Sync, G: Gate + Sync, B: Tag>(
         return Ok(Vec::new(alloc));
     }
     let workers = inputs.len().min(workers as usize);
+    let plan = plan_of(alloc, grammar)?;
     let order = Order {
         grammar,
+        plan: &plan,
         inputs,
         gate,
     };
@@ -56,6 +59,7 @@ fn build_in_turn<G: Gate, B: Tag>(
     builds: &mut Steps<B>,
 ) -> Result<Vec<BarTable>, AllocError>
     requires readable { IsReadable order.now.grammar.now }
+    requires plan { IsPlan order.now.grammar.now order.now.plan.now }
     requires units { All (λ k. k.resolution ≡ order.now.grammar.now.resolution) order.now.inputs.now }
     ensures tables { IfOk result (λ v. AreTablesOf order.now.grammar.now order.now.inputs.now v.items) }
     ensures builds { OnOk result (builds.new ≡ risen builds.old (length order.now.inputs.now)) }
@@ -63,7 +67,6 @@ fn build_in_turn<G: Gate, B: Tag>(
     ensures rises { builds.old ≤ builds.new }
 {
     let inputs = order.inputs;
-    let plan = plan_of(alloc, order.grammar)?;
     let mut room = Room::new(alloc);
     let mut tables = Vec::with_capacity(alloc, inputs.len())?;
     'cells: for number in 0..inputs.len() {
@@ -71,7 +74,7 @@ fn build_in_turn<G: Gate, B: Tag>(
         let table = build_planned(
             alloc,
             order.grammar,
-            &plan,
+            order.plan,
             &mut room,
             &inputs[number],
             builds,

@@ -2,6 +2,7 @@ ghost use Rattle.bar_pool.specs.DrawTable.{seat_of, view_of, view_with};
 ghost use Rattle.bar_pool.specs.Draws.{seat_after};
 ghost use Rattle.bar_pool.specs.Pool.{AreTablesOf};
 ghost use Rattle.bar_pool.specs.Workers.{AreBuilt, HasShare, IsFresh};
+ghost use Rattle.grammar_plan.specs.Plans.{IsPlan};
 ghost use Rattle.rhythm_base.specs.Counter.{risen};
 ghost use Rattle.rhythm_base.specs.Readable.{IsReadable};
 ghost use Rattle.std.specs.Prelude.{◌≡◌, ◌+◌, ◌-◌, ◌<◌, ◌≤◌, ◌^◌, ◌++◌, [], ℕ, All, IfOk, IsOk, OnOk, length};
@@ -9,7 +10,7 @@ ghost use Rattle.std.specs.Thread.{IsSync};
 
 use crate::draws::{Draw, DrawCounts, DrawSeat, DrawTable, HalfShare, SharedDraws, Takeover};
 use crate::places::in_places;
-use crate::plans::plan_of;
+use grammar_plan::Plan;
 use least_cost::{BarTable, Steps, build_planned};
 use least_rows::Room;
 use rhythm_base::{BarInput, Grammar, Tag};
@@ -21,6 +22,8 @@ use std::thread::{Threads, join};
 #[derive(Clone, Copy)]
 pub struct Order<'a, G> {
     pub grammar: &'a Grammar,
+    /// The plan of the grammar.
+    pub plan: &'a Plan,
     pub inputs: &'a [BarInput],
     pub gate: &'a G,
 }
@@ -37,7 +40,7 @@ fn draw(shared: &SharedDraws, seat: &mut DrawSeat) -> u64
     shared.fetch_add::<Draw>(seat, 0, 1)
 }
 
-/// Builds the cells whose numbers one worker draws, each in one atomic step, by a plan of its own. It stops at the first number past the inputs, and
+/// Builds the cells whose numbers one worker draws, each in one atomic step. It stops at the first number past the inputs, and
 /// where it wants memory.
 fn build_drawn<G: Gate, B: Tag>(
     alloc: Global,
@@ -47,6 +50,7 @@ fn build_drawn<G: Gate, B: Tag>(
     builds: &mut Steps<B>,
 ) -> Result<Vec<(usize, BarTable)>, AllocError>
     requires readable { IsReadable order.now.grammar.now }
+    requires plan { IsPlan order.now.grammar.now order.now.plan.now }
     requires units { All (λ k. k.resolution ≡ order.now.grammar.now.resolution) order.now.inputs.now }
     requires table { seat.old.table_id ≡ shared.now.table_id }
     requires words { shared.now.table_id.words ≡ 1 }
@@ -57,7 +61,6 @@ fn build_drawn<G: Gate, B: Tag>(
     ensures builds { builds.new ≡ risen builds.old (length seat.new.me.0.drawn) }
 {
     let inputs = order.inputs;
-    let plan = plan_of(alloc, order.grammar)?;
     let mut room = Room::new(alloc);
     let mut tables = Vec::new(alloc);
     'draws: loop {
@@ -68,7 +71,7 @@ fn build_drawn<G: Gate, B: Tag>(
         order.gate.pass(number);
         let number = number as usize;
         let input = &inputs[number];
-        let table = build_planned(alloc, order.grammar, &plan, &mut room, input, builds)?;
+        let table = build_planned(alloc, order.grammar, order.plan, &mut room, input, builds)?;
         tables.push((number, table))?;
     }
 }
@@ -129,6 +132,19 @@ fn take_over<B: Tag>(shared: &SharedDraws, first: Built<B>, second: Built<B>) ->
     }
 }
 
+/// Calls both side by side. What may go to another thread is looked for here, where little else is known.
+fn side_by_side<R: Threads, F: FnOnce() -> Built<B> + Send, G: FnOnce() -> Built<B>, B: Tag>(
+    rt: &R,
+    left: F,
+    right: G,
+) -> (Built<B>, Built<B>)
+    requires { F.pre left × G.pre right }
+    ensures first { F.post left result.0 }
+    ensures second { G.post right result.1 }
+{
+    join(rt, left, right)
+}
+
 /// Builds the cells whose numbers the workers of the seat draw. They are as many as its share. The seat gives half of it to
 /// another, the workers of both draw side by side, and then the seat takes over what the other's have built.
 #[cycle(build_in_halves)]
@@ -141,6 +157,7 @@ pub fn build_in_halves<R: Threads + Sync, G: Gate + Sync, B: Tag>(
     workers: u64,
 ) -> Built<B>
     requires readable { IsReadable order.now.grammar.now }
+    requires plan { IsPlan order.now.grammar.now order.now.plan.now }
     requires units { All (λ k. k.resolution ≡ order.now.grammar.now.resolution) order.now.inputs.now }
     requires table { seat.table_id ≡ shared.now.table_id }
     requires words { shared.now.table_id.words ≡ 1 }
@@ -162,23 +179,26 @@ pub fn build_in_halves<R: Threads + Sync, G: Gate + Sync, B: Tag>(
         };
     }
     let half = workers / 2;
+    let rest = workers - half;
     let other = shared.split_seat::<HalfShare>(&mut seat);
     let left = move || -> Built<B>
         requires sync { IsSync R.row × IsSync G.row }
         requires readable { IsReadable order.now.grammar.now }
+        requires plan { IsPlan order.now.grammar.now order.now.plan.now }
         requires units { All (λ k. k.resolution ≡ order.now.grammar.now.resolution) order.now.inputs.now }
-        requires half { (0 < half) × (half < workers) }
+        requires rest { 0 < rest }
         requires table { seat.table_id ≡ shared.now.table_id }
         requires words { shared.now.table_id.words ≡ 1 }
-        requires fresh { IsFresh seat.me (length order.now.inputs.now) (workers - half) }
+        requires fresh { IsFresh seat.me (length order.now.inputs.now) rest }
         ensures table { result.seat.table_id ≡ shared.entry.now.table_id }
-        ensures share { HasShare result.seat.me (length order.entry.now.inputs.now) (workers - half) }
+        ensures share { HasShare result.seat.me (length order.entry.now.inputs.now) rest }
         ensures tables { IfOk result.tables (λ v. AreBuilt order.entry.now.grammar.now order.entry.now.inputs.now result.seat.me v.items) }
         ensures builds { result.builds ≡ risen 0 (length result.seat.me.0.drawn) }
-    { build_in_halves(rt, alloc, order, shared, seat, workers - half) };
+    { build_in_halves(rt, alloc, order, shared, seat, rest) };
     let right = move || -> Built<B>
         requires sync { IsSync R.row × IsSync G.row }
         requires readable { IsReadable order.now.grammar.now }
+        requires plan { IsPlan order.now.grammar.now order.now.plan.now }
         requires units { All (λ k. k.resolution ≡ order.now.grammar.now.resolution) order.now.inputs.now }
         requires half { 0 < half }
         requires table { other.table_id ≡ shared.now.table_id }
@@ -189,7 +209,7 @@ pub fn build_in_halves<R: Threads + Sync, G: Gate + Sync, B: Tag>(
         ensures tables { IfOk result.tables (λ v. AreBuilt order.entry.now.grammar.now order.entry.now.inputs.now result.seat.me v.items) }
         ensures builds { result.builds ≡ risen 0 (length result.seat.me.0.drawn) }
     { build_in_halves(rt, alloc, order, shared, other, half) };
-    let (first, second) = join(rt, left, right);
+    let (first, second) = side_by_side(rt, left, right);
     take_over(shared, first, second)
 }
 
@@ -205,6 +225,7 @@ pub fn build_by_workers<R: Threads + Sync, G: Gate + Sync, B: Tag>(
     requires some_worker { 1 ≤ workers }
     requires few_workers { workers ≤ length order.now.inputs.now }
     requires readable { IsReadable order.now.grammar.now }
+    requires plan { IsPlan order.now.grammar.now order.now.plan.now }
     requires units { All (λ k. k.resolution ≡ order.now.grammar.now.resolution) order.now.inputs.now }
     ensures tables { IfOk result (λ v. AreTablesOf order.now.grammar.now order.now.inputs.now v.items) }
     ensures builds { OnOk result (builds.new ≡ risen builds.old (length order.now.inputs.now)) }

@@ -10,7 +10,7 @@ split_seat-other-requires g t c =
 
 pub returns-clause-tables : goal.returns-clause-tables
 returns-clause-tables g t c =
-    let first = c.join-first.result.0 in
-    let second = c.join-first.result.1 in
+    let first = c.side_by_side-first.result.0 in
+    let second = c.side_by_side-first.result.1 in
     both_built c.args.order.now.grammar.now c.args.order.now.inputs.now first.seat.me second.seat.me c.take_over.result.seat.me c.take_over.ensures.view (λ v. v.items)
-    c.take_over.result.tables first.tables second.tables c.take_over.ensures.tables c.take_over.ensures.both c.join-first.ensures.first.1.1.0 c.join-first.ensures.second.1.1.0
+    c.take_over.result.tables first.tables second.tables c.take_over.ensures.tables c.take_over.ensures.both c.side_by_side-first.ensures.first.1.1.0 c.side_by_side-first.ensures.second.1.1.0
