@@ -16,7 +16,7 @@ use Rattle.rhythm_base.specs.Forest.{Tree, none, more, preorder, preorder_of}
 use Rattle.rhythm_base.specs.Least.{rank_cmp}
 use Rattle.rhythm_base.specs.Shape.{Shape}
 use Rattle.rhythm_base.specs.Paths.{AreLow, IsRanked}
-use Rattle.rhythm_base.specs.Ranked.{Key, Keys, at, count_under, five, grid, is_before, is_under, ranked, table_of}
+use Rattle.rhythm_base.specs.Ranked.{Key, Keys, at, count_under, five, is_before, is_under, ranked, table_of}
 use Rattle.rhythm_base.specs.Grammar.{Grammar}
 use Rattle.rhythm_base.specs.Leaves.{in_bar}
 use Rattle.rhythm_base.specs.Trees.{are_trees, has_pin, leaves, leaves_of}

@@ -1,5 +1,5 @@
 -- The rule lists of a table.
-use Rattle.std.proofs.Common.{◌≡◌, ℕ, ◌<◌, List, [], get_or, refl, ap, ◌∙◌, subst, arith}
+use Rattle.std.proofs.Common.{◌≡◌, ℕ, ◌<◌, List, [], get_or, refl, ap, ◌∙◌, arith}
 use Rattle.std.specs.Prelude.{Option, Some, None}
 use Rattle.rhythm_base.specs.Ranked.{CarryMatrix, Key, Keys, at, five, ranked, table_of}
 use Rattle.rhythm_laws.proofs.Products.{five_at, grid_at}

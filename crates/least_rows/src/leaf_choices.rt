@@ -48,7 +48,13 @@ fn offer_one(best: &mut Choices, search: &Search<'_>, seat: &Seat, leaf: Leaf, f
 
 /// Offers the leaf of a seat, with `from` chords carried in, where it has one.
 #[inline(always)]
-pub fn offer_leaf(best: &mut Choices, search: &Search<'_>, seat: &Seat, leaf: Option<Leaf>, from: u8)
+pub fn offer_leaf(
+    best: &mut Choices,
+    search: &Search<'_>,
+    seat: &Seat,
+    leaf: Option<Leaf>,
+    from: u8,
+)
     requires search { IsSearch search.now.grammar.now search.now.input.now search.now.plan.now search.now.view.now }
     requires none { (b : ℕ) → b < 5 → choice_in best.old b ≡ None }
     requires symbol { seat.now.symbol < length search.now.plan.now.leaves.items }

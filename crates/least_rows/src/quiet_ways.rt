@@ -67,4 +67,3 @@ pub fn rest_of_several(
     }
     best
 }
-

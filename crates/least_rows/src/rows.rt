@@ -156,7 +156,12 @@ impl Rows {
     }
 
     /// Keeps the row of a state, where it has none.
-    fn keep_row(&mut self, number: usize, from: u8, best: &mut Choices) -> Result<RowSpan, AllocError>
+    fn keep_row(
+        &mut self,
+        number: usize,
+        from: u8,
+        best: &mut Choices,
+    ) -> Result<RowSpan, AllocError>
         requires number { number < length self.old.states.items }
         requires from { from < 5 }
         ensures { IfOk result (KeepsRow self.old self.new number from best.old) }

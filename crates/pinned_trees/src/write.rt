@@ -44,7 +44,11 @@ fn write_row(
 }
 
 /// The rule lists of the entries.
-pub fn write_grid(alloc: Global, lists: &RuleLists, entries: &Grid) -> Result<WrittenLists, AllocError>
+pub fn write_grid(
+    alloc: Global,
+    lists: &RuleLists,
+    entries: &Grid,
+) -> Result<WrittenLists, AllocError>
     ensures { IfOk result (λ x. AreWritten (IsListAt (grid_keys lists.now entries.now)) x.rules.items x.ends 25) }
 {
     let mut written = WrittenLists::new(alloc);

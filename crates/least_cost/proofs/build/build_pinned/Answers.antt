@@ -1,4 +1,4 @@
-use Rattle.std.proofs.Common.{◌≡◌, ◌∙◌, ap, subst, sym}
+use Rattle.std.proofs.Common.{◌∙◌, ap, subst, sym}
 use Rattle.rhythm_base.specs.BarTables.{BarTable, IsTable}
 use Rattle.rhythm_base.specs.Paths.{AreLow, IsRanked}
 use Rattle.least_cost.specs.Tables.{lists_of}

@@ -170,9 +170,9 @@ lead-returns-in-Some-clause-lead t c =
     let plan = c.args.search.now.plan.now in
     let d = ground_of g k in
     lead-over g k plan c.args.seat c.args.place c.args.way c.args.count c.requires.count (quiet_rank c.quiet_tree-tree.result) (λ s at.
-        let one : c.index.result.now ≡ s = c.index.ensures ∙ get_or_from_slice_get plan.seats.items c.args.seat s c.index.result.now at in
-        let calm = subst (λ (s : Seat). IsQuiet c.in-Some.quiet d c.args.place s.width) one (c.in-Some.ensures g c.requires.search.ready.units) in
-        quiet-row g k plan c.requires.search.ready c.requires.search.plan_of c.args.seat c.in-Some.quiet c.args.count c.quiet_tree-tree.result c.quiet_tree-tree.ensures c.args.place s at calm)
+    let one : c.index.result.now ≡ s = c.index.ensures ∙ get_or_from_slice_get plan.seats.items c.args.seat s c.index.result.now at in
+    let calm = subst (λ (s : Seat). IsQuiet c.in-Some.quiet d c.args.place s.width) one (c.in-Some.ensures g c.requires.search.ready.units) in
+    quiet-row g k plan c.requires.search.ready c.requires.search.plan_of c.args.seat c.in-Some.quiet c.args.count c.quiet_tree-tree.result c.quiet_tree-tree.ensures c.args.place s at calm)
     c.lead_by_quiet.result c.lead_by_quiet.ensures
 
 pub lead-returns-in_ok-span-in-None-clause-lead : goal.lead-returns-in_ok-span-in-None-clause-lead
@@ -181,8 +181,8 @@ lead-returns-in_ok-span-in-None-clause-lead t c =
     let k = c.args.search.now.input.now in
     let plan = c.args.search.now.plan.now in
     lead-over g k plan c.args.seat c.args.place c.args.way c.args.count c.requires.count (rank_in c.entries_of.result.now 0) (λ s at.
-        span-ranked g k plan c.requires.search.ready c.requires.search.plan_of c.args.seat s at c.row.new.self.entries.items c.args.place c.args.count c.in_ok-span-in-None.span
-        (c.in_ok-span-in-None.ensures.row s at) c.entries_of.result.now c.entries_of.ensures)
+    span-ranked g k plan c.requires.search.ready c.requires.search.plan_of c.args.seat s at c.row.new.self.entries.items c.args.place c.args.count c.in_ok-span-in-None.span
+    (c.in_ok-span-in-None.ensures.row s at) c.entries_of.result.now c.entries_of.ensures)
     c.lead_by_row.result c.lead_by_row.ensures
 
 -- ---- one cut
@@ -292,10 +292,10 @@ offer_cut-returns-in-Nowhere-clause-best t c =
     let before : AreChoicesOf g k plan top.seat top.place top.from (λ s. RulesBefore g plan s top.number) c.parts.best = subst (AreChoicesOf g k plan top.seat top.place top.from (λ s. RulesBefore g plan s top.number)) (sym c.parts.invariant.same) c.requires.best in
     let end = c.parts-test.true in
     choices-offered g k plan ready of top cut c.requires.top c.parts.best before c.parts.best (λ t.
-        let w = c.parts.invariant.ways t in
-        let x = part-of g k plan ready of top cut t c.parts.part c.index-seat.result.now c.parts.at c.parts.auto.part c.parts-test.true c.index-seat.ensures w.0 in
-        let next = to-next g k plan ready of top cut t c.parts.part c.index-seat.result.now c.parts.at x.seat.width c.parts.auto.part x w.0 refl (one_way c.parts.way c.parts.count) (λ b. None) w.1 (subst (LeadsOver g k plan c.index-seat.result.now c.parts.at c.parts.way c.parts.count) c.in-Nowhere.is c.in_ok-lead.ensures.lead) in
-        ((λ b. None), to-nowhere g k plan ready of top cut t (c.parts.part + 1) (omega (arith, end)) next.1, λ b lb. refl))
+    let w = c.parts.invariant.ways t in
+    let x = part-of g k plan ready of top cut t c.parts.part c.index-seat.result.now c.parts.at c.parts.auto.part c.parts-test.true c.index-seat.ensures w.0 in
+    let next = to-next g k plan ready of top cut t c.parts.part c.index-seat.result.now c.parts.at x.seat.width c.parts.auto.part x w.0 refl (one_way c.parts.way c.parts.count) (λ b. None) w.1 (subst (LeadsOver g k plan c.index-seat.result.now c.parts.at c.parts.way c.parts.count) c.in-Nowhere.is c.in_ok-lead.ensures.lead) in
+    ((λ b. None), to-nowhere g k plan ready of top cut t (c.parts.part + 1) (omega (arith, end)) next.1, λ b lb. refl))
 
 pub offer_cut-offer_fork-requires : goal.offer_cut-offer_fork-requires
 offer_cut-offer_fork-requires t c =
@@ -374,9 +374,11 @@ offer_cut-returns-clause-best t c =
     let last : c.parts.part ≡ cut.end = omega (arith, past, end) in
     let long : length c.parts.best ≡ 5 = search rules in
     let few = c.parts.invariant.few in
-    choices-offered g k plan ready of top cut c.requires.top c.parts.best before _ (λ t.
-        (one_way c.parts.way c.parts.count, to-whole g k plan ready of top cut t c.parts.part last (one_way c.parts.way c.parts.count) (c.parts.invariant.ways t).1,
-            λ b lb. one-offered c.parts.best c.parts.count (omega (arith, few, long)) _ cut top.number c.parts.way c.offer_way.ensures b))
+    choices-offered g k plan ready of top cut c.requires.top c.parts.best before _ (λ t. (
+      one_way c.parts.way c.parts.count,
+      to-whole g k plan ready of top cut t c.parts.part last (one_way c.parts.way c.parts.count) (c.parts.invariant.ways t).1,
+      λ b lb. one-offered c.parts.best c.parts.count (omega (arith, few, long)) _ cut top.number c.parts.way c.offer_way.ensures b,
+    ))
 
 -- ---- a fork
 
