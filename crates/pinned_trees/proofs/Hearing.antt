@@ -3,7 +3,6 @@ use Rattle.std.proofs.Common.{append-nil, ◌≡◌, ℕ, zero, suc, ◌<◌, �
 use Rattle.std.specs.Prelude.{if◌then◌else◌}
 use Rattle.std.proofs.lemmas.List.{length-append, take_more}
 use Rattle.std.proofs.lemmas.List.Sums.{sum_by-append, sum_by-cons}
-use Rattle.rhythm_base.specs.BarInput.{BarInput, IsBarInput}
 use Rattle.rhythm_base.specs.Lists.{last_end}
 use Rattle.rhythm_base.specs.Cost.{charge, charges}
 use Rattle.rhythm_base.specs.Leaves.{Leaf}
@@ -49,23 +48,6 @@ module _ (t : Inner → Bool) (cs : List Inner) (i : ℕ) (d : Inner) (low : i <
   last-on e h =
       ap (last_end e) (next ∙ ap (λ b. ends_of t (take i cs) ++ (if b then (get_or cs i d).end ∷ [] else [])) h)
       ∙ last_end-push e (ends_of t (take i cs)) (get_or cs i d).end
-
--- ---- few chords
-
--- onsets that rise are at most as many as ticks
-rising-few : (low l : ℕ) (cs : List Inner) → Rising low cs → ((i : ℕ) (d : Inner) → i < length cs → (get_or cs i d).onset < l) → low ≤ l → low + length cs ≤ l
-rising-few low l [] rise h less = omega arith
-rising-few low l (c ∷ cs) rise h less =
-    let own : c.onset < l = h 0 c (omega arith) in
-    let first : low ≤ c.onset = rise.0 in
-    let ih = rising-few (c.onset + 1) l cs rise.1 (λ i d k. h (suc i) d (omega arith)) (omega arith) in
-    omega (arith, ih, first)
-
-pub few-chords : (k : BarInput) → IsBarInput k → length k.chords ≤ 2000000000
-few-chords k cell =
-    let h = rising-few 0 k.length k.chords cell.rising (λ i d low. (cell.chords i d low).onset) (omega arith) in
-    let few : k.length ≤ 2000000000 = cell.few_ticks in
-    omega (arith, h)
 
 -- ---- charges
 

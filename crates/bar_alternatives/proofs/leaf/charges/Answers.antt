@@ -2,7 +2,7 @@ use Rattle.std.proofs.Common.{◌∙◌, ◌<◌, ◌≤◌, [], ◌∷◌, leng
 use Rattle.std.proofs.lemmas.List.{take_all}
 use Rattle.rhythm_base.specs.Cost.{charges}
 use Rattle.pinned_trees.specs.OneLeaf.{leaf_of_cell}
-use Rattle.pinned_trees.proofs.Hearing.{few-chords}
+use Rattle.bar_view.proofs.Few.{few-chords}
 use Rattle.bar_alternatives.proofs.leaf.charges.Goals as goal
 
 pub overflow_add-total : goal.overflow_add-total
