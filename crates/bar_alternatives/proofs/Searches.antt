@@ -25,7 +25,8 @@ use Rattle.pinned_trees.specs.RuleChoices.{IsRuleKey}
 use Rattle.pinned_trees.specs.declared.memo.Asked as narrow
 use Rattle.pinned_trees.specs.declared.pins.Demand.TheVariants.{Any}
 use Rattle.pinned_trees.proofs.Leaves.{agrees-fits, cut_body, fits-agrees, leaf_body}
-use Rattle.pinned_trees.proofs.Searches.{bounds, cut_below, cut_few, cut_sizes, grounded}
+use Rattle.pinned_trees.proofs.Searches.{cut_below, cut_few, cut_sizes}
+use Rattle.row_laws.proofs.Grounds.{bounds, grounded}
 use Rattle.bar_alternatives.specs.declared.leaf_offer.LeafHere.{LeafHere}
 use Rattle.bar_alternatives.specs.declared.memo.Asked.{Asked}
 use Rattle.bar_alternatives.specs.Firsts.{AreFirst, AreKept, offered}

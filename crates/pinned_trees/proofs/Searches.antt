@@ -12,7 +12,7 @@ use Rattle.rhythm_base.specs.Readable.{IsBodyOf, IsBody}
 use Rattle.rhythm_base.specs.Grammar.{Grammar}
 use Rattle.rhythm_base.specs.Bodies.{Cut, cut_of, equal, parts_of_cut, unequal, can_cut, children, sizes, ending_of}
 use Rattle.rhythm_base.specs.Trees.{leaf_of, suits}
-use Rattle.rhythm_laws.specs.Forests.{AreWide, IsForestKey, IsGround, first_shape, has_shapes, one_shape, other_shapes}
+use Rattle.rhythm_laws.specs.Forests.{AreWide, IsForestKey, first_shape, has_shapes, one_shape, other_shapes}
 use Rattle.rhythm_laws.proofs.ForestLemmas.{split_key}
 use Rattle.rhythm_base.proofs.Booleans.{and_right}
 use Rattle.pinned_trees.specs.declared.choice.Choice.{Choice}
@@ -28,29 +28,20 @@ use Rattle.pinned_trees.specs.RuleChoices.{AreRuleChoices, HasNoTree}
 use Rattle.pinned_trees.specs.RuleLists.{Extends}
 use Rattle.pinned_trees.specs.Rules.{topped_of}
 use Rattle.rhythm_laws.specs.Shares.{AreBelow}
-use Rattle.pinned_trees.proofs.Bounds.{IsBounded}
 use Rattle.pinned_trees.proofs.Goods.{Table, cut-choices, good-beside, good-cheap, good-more}
 use Rattle.pinned_trees.proofs.Leaves.{cut_body}
 use Rattle.pinned_trees.proofs.RuleKeys.{cut-least}
-use Rattle.rhythm_base.proofs.Beats.{some_beat}
+use Rattle.row_laws.proofs.Grounds.{bounds, grounded}
 use Rattle.rhythm_laws.proofs.ShapesOfTrees.{one_shape_of}
 use Rattle.rhythm_laws.proofs.Shares.{below-wide, children-below, children-whole}
 
--- ---- the ground
-
 module _ (g : Grammar) (k : BarInput) (ready : IsReady g k) where
-  pub grounded : IsGround (ground_of g k)
-  grounded = record { long = ready.cell.some_tick; rise = ready.cell.rising }
-
-  pub bounds : IsBounded (ground_of g k)
-  bounds = record { ranges = ready.readable.ranges; some_beat = ready.cell.signature.some; few_beats = ready.cell.signature.few; some_den = some_beat k.den ready.cell.signature.power }
-
   -- no entry costs much
   cheap : (s : Option Shape) (p : ℕ) (qs : List (ℕ × ℕ)) (ls : List (List ℕ)) (t : Table) → AreWide qs → sizes qs ≤ k.resolution → IsGood (ground_of g k) s p qs ls t
       → (a b : ℕ) (e : Entry) → a < 5 → b < 5 → entry_at t a b ≡ Some e → e.cost < 2 ^ 62
   cheap s p qs ls t wide within h a b e la lb is =
       let units : g.resolution ≡ k.resolution = ready.units in
-      let low = good-cheap (ground_of g k) grounded bounds s p qs ls t wide (omega (arith, units, within)) h a b e la lb is in
+      let low = good-cheap (ground_of g k) (grounded g k ready) (bounds g k ready) s p qs ls t wide (omega (arith, units, within)) h a b e la lb is in
       omega (arith, low)
 
   pub answer-cheap : (os : List Shape) (ls : List (List ℕ)) (asked : Asked) (t : Table) → IsWithin k asked → IsAnswer g k os ls asked t → (a b : ℕ) (e : Entry) → a < 5 → b < 5 → entry_at t a b ≡ Some e → e.cost < 2 ^ 62
@@ -77,7 +68,7 @@ module _ (g : Grammar) (k : BarInput) (ready : IsReady g k) where
   -- the others do not fit, so all do not
   pub beside-stuck : (p : ℕ) (q : ℕ × ℕ) (qs : List (ℕ × ℕ)) (ls : List (List ℕ)) (s t : Option Shape) → AreWide (q ∷ qs) → other_shapes s ≡ t → AreBeside g k t (p + q.0) qs ls None → AreBeside g k s p (q ∷ qs) ls None
   beside-stuck p q qs ls s t wide e h a b key x =
-      let parts = split_key (ground_of g k) grounded p q qs wide s a b key x in
+      let parts = split_key (ground_of g k) (grounded g k ready) p q qs wide s a b key x in
       let P : Option Shape → Type 0 = λ s. IsForestKey (ground_of g k) s (p + q.0) qs parts.0 b parts.2.1 in
       h parts.0 b parts.2.1 (subst P e parts.2.3)
 
@@ -89,7 +80,7 @@ module _ (g : Grammar) (k : BarInput) (ready : IsReady g k) where
   beside-joined p w q qs s t u ls ms ns left right all choices below one others own longer after is settled =
       let P : Option Shape → Type 0 = λ s. IsGood (ground_of g k) s p (q ∷ []) ms left in
       let Q : Option Shape → Type 0 = λ s. IsGood (ground_of g k) s (p + q.0) qs ms right in
-      good-beside (ground_of g k) grounded p q qs (below-wide w (q ∷ qs) below) s ms ns left right all choices
+      good-beside (ground_of g k) (grounded g k ready) p q qs (below-wide w (q ∷ qs) below) s ms ns left right all choices
       (subst P (sym one) own) (subst Q (sym others) (good-more (ground_of g k) u (p + q.0) qs ls ms right longer after)) is settled
 
   -- one piece alone

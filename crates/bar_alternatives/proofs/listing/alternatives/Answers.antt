@@ -8,7 +8,7 @@ use Rattle.rhythm_base.specs.Ranked.{Key}
 use Rattle.rhythm_base.specs.Readable.{IsReadable}
 use Rattle.rhythm_base.specs.RuleTrees.{IsRuleList}
 use Rattle.pinned_trees.specs.Nodes.{IsReady, ground_of}
-use Rattle.pinned_trees.proofs.Searches.{bounds, grounded}
+use Rattle.row_laws.proofs.Grounds.{bounds, grounded}
 use Rattle.bar_alternatives.specs.BestTrees.{AreBestTrees, without_pin}
 use Rattle.bar_alternatives.specs.Firsts.{AreFirst}
 use Rattle.bar_alternatives.specs.Grids.{AreAllAddable}

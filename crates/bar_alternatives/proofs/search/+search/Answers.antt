@@ -10,7 +10,7 @@ use Rattle.rhythm_laws.specs.Shares.{AreBelow}
 use Rattle.rhythm_base.specs.BarInput.{BarInput}
 use Rattle.rhythm_base.specs.Grammar.{Grammar}
 use Rattle.pinned_trees.specs.Nodes.{IsReady, ending_at, ground_of, rule_ending}
-use Rattle.pinned_trees.proofs.Searches.{grounded}
+use Rattle.row_laws.proofs.Grounds.{grounded}
 use Rattle.bar_alternatives.specs.declared.cut.Piece.{Piece}
 use Rattle.bar_alternatives.specs.declared.memo.Asked.{Asked}
 use Rattle.bar_alternatives.specs.Grids.{HasLists, joined, ranking_at}

@@ -25,7 +25,8 @@ use Rattle.pinned_trees.proofs.Goods.{best-jumped, best-more, best-none, best-of
 use Rattle.pinned_trees.proofs.Leaves.{leaf-choices, no_leaf_tree}
 use Rattle.pinned_trees.proofs.Ropes.{Extends-same}
 use Rattle.pinned_trees.proofs.RuleKeys.{unsuited-least}
-use Rattle.pinned_trees.proofs.Searches.{answer-cheap, answer-low, answered, beside-cheap, beside-joined, beside-one, beside-stuck, cut_below, cut_few, cut_sizes, cut_stuck, cut_topped, grounded, no_pieces, pieces-split}
+use Rattle.pinned_trees.proofs.Searches.{answer-cheap, answer-low, answered, beside-cheap, beside-joined, beside-one, beside-stuck, cut_below, cut_few, cut_sizes, cut_stuck, cut_topped, no_pieces, pieces-split}
+use Rattle.row_laws.proofs.Grounds.{grounded}
 use Rattle.rhythm_laws.proofs.Shares.{below-wide}
 use Rattle.grammar_plan.specs.Spans.{IsRuleSpan}
 use Rattle.rhythm_base.specs.declared.rule.Body.TheVariants.{Note}
