@@ -1,5 +1,7 @@
-use Rattle.std.proofs.Common.{◌≡◌, ℕ, ap, subst, sym}
+use Rattle.std.proofs.Common.{◌≡◌, ◌∙◌, ◌*◌, ◌≤◌, ℕ, [], ◌∷◌, length, ap, arith, subst, sym}
 use Rattle.std.specs.Prelude.{All, reverse}
+use Rattle.std.proofs.lemmas.List.{length-append}
+use Rattle.rhythm_base.specs.Counter.{risen}
 use Rattle.edit_session.specs.Exchange.{IsCheapTable, IsLastOf}
 use Rattle.edit_session.specs.Prepared.{cell_of}
 use Rattle.edit_session.proofs.ExchangedBars.{all_but_last, bar_came, bar_stayed, came_count, came_long, cell_is, not_first}
@@ -34,6 +36,14 @@ pub returns-then-is_last_of-clause-count : goal.returns-then-is_last_of-clause-c
 returns-then-is_last_of-clause-count g c = λ n same.
     came_count c.args.voice.now.tables c.place_table.new.voice.tables c.take_last-next.result c.args.coming.now.items c.take_last-next.new.self.items c.args.gone.now.items c.place_table.new.gone.items c.args.bar n
     (ap (λ (q : ℕ × ℕ). q.1) (cell g c)) c.take_last-next.ensures.items c.place_table.ensures.swapped c.place_table.ensures.pushed same
+
+pub returns-then-is_last_of-clause-products : goal.returns-then-is_last_of-clause-products
+returns-then-is_last_of-clause-products g c = λ d m long count.
+    let parts = ap length c.take_last-next.ensures.items in
+    let sum = length-append c.take_last-next.new.self.items (c.take_last-next.result ∷ []) in
+    let one : 1 ≡ m = omega (arith, parts, sum, count) in
+    let alone : d ≡ 1 * d = omega arith in
+    subst (λ n. c.place_table.new.products ≤ risen c.args.products.now n) (alone ∙ ap (λ m. m * d) one) (c.place_table.ensures.products d long)
 
 pub returns-else-is_last_of-clause-exchanged : goal.returns-else-is_last_of-clause-exchanged
 returns-else-is_last_of-clause-exchanged g c = λ x first begin is voice low h.
