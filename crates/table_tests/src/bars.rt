@@ -77,3 +77,14 @@ pub fn count_entries(table: &BarTable) -> usize {
     }
     count
 }
+
+/// How many rules the least tree for these numbers carried in and out has, where it is there.
+pub fn rule_count(table: &BarTable, from: u8, to: u8) -> Option<usize> {
+    if from > 4 || to > 4 {
+        return None;
+    }
+    match table.rules(from, to) {
+        Some(rules) => Some(rules.len()),
+        None => None,
+    }
+}
