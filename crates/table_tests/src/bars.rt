@@ -4,7 +4,7 @@ ghost use Rattle.rhythm_base.specs.Readable.{IsReadable};
 ghost use Rattle.std.specs.Prelude.{◌≡◌, All, IfSome, IsTrue};
 
 use least_cost::BarTable;
-use rhythm_base::{BarInput, Grammar, Inner, Shape};
+use rhythm_base::{BarInput, Best, Grammar, Inner, Shape};
 use std::alloc::{AllocError, Global};
 
 /// Whether the onsets rise from a tick on.
@@ -78,13 +78,13 @@ pub fn count_entries(table: &BarTable) -> usize {
     count
 }
 
-/// How many rules the least tree for these numbers carried in and out has, where it is there.
-pub fn rule_count(table: &BarTable, from: u8, to: u8) -> Option<usize> {
+/// The least tree for these numbers carried in and out has this cost and rank, and so many rules.
+pub fn has_entry(table: &BarTable, from: u8, to: u8, best: Best, count: usize) -> bool {
     if from > 4 || to > 4 {
-        return None;
+        return false;
     }
     match table.rules(from, to) {
-        Some(rules) => Some(rules.len()),
-        None => None,
+        Some(rules) => rules.len() == count && table.matrix().get(from, to) == Some(best),
+        None => false,
     }
 }

@@ -1,4 +1,4 @@
-use crate::bars::{bar_of, chords_of, count_entries, rule_count};
+use crate::bars::{bar_of, chords_of, count_entries, has_entry};
 use crate::grammars::{HALVES_OF_HALVES, read};
 use least_cost::{Steps, build_cell};
 use rhythm_base::{Best, Inner, Tag};
@@ -29,8 +29,7 @@ fn a_bar_of_400_chords(rt: HostRuntime) -> Result<(), Fail> {
     };
     let table = build_cell(alloc, &grammar, &bar, &mut builds)?;
     for (from, cost) in [(0u8, 4029u64), (1, 4031), (2, 4033)] {
-        assert!(rt; table.matrix().get(from, 1) == Some(Best { cost, rank: 0 }));
-        assert!(rt; rule_count(&table, from, 1) == Some(255));
+        assert!(rt; has_entry(&table, from, 1, Best { cost, rank: 0 }, 255));
     }
     assert!(rt; count_entries(&table) == 3);
     Ok(())
@@ -48,8 +47,7 @@ fn quiet_intervals_of_both_kinds(rt: HostRuntime) -> Result<(), Fail> {
     };
     let table = build_cell(alloc, &grammar, &bar, &mut builds)?;
     for (from, cost) in [(0u8, 331u64), (1, 331), (2, 334), (3, 336), (4, 338)] {
-        assert!(rt; table.matrix().get(from, 0) == Some(Best { cost, rank: 0 }));
-        assert!(rt; rule_count(&table, from, 0) == Some(255));
+        assert!(rt; has_entry(&table, from, 0, Best { cost, rank: 0 }, 255));
     }
     assert!(rt; count_entries(&table) == 5);
     Ok(())
@@ -96,8 +94,7 @@ fn a_grammar_of_64_names_and_512_rules(rt: HostRuntime) -> Result<(), Fail> {
         (1, 1, 983, 1, 5),
     ];
     for (from, to, cost, rank, count) in entries {
-        assert!(rt; table.matrix().get(from, to) == Some(Best { cost, rank }));
-        assert!(rt; rule_count(&table, from, to) == Some(count));
+        assert!(rt; has_entry(&table, from, to, Best { cost, rank }, count));
     }
     assert!(rt; count_entries(&table) == 5);
     Ok(())
