@@ -1,6 +1,6 @@
 -- Units between two onsets are quiet.
 use Rattle.std.proofs.Common.{◌≡◌, ℕ, suc, ◌<◌, ◌≤◌, ◌+◌, ◌-◌, ◌*◌, ◌&&◌, Bool, true, false, not, List, [], ◌∷◌, length, map, get_or, refl, sym, ap, ◌∙◌, subst, arith, inl, inr}
-use Rattle.std.specs.Prelude.{nat_le, Option, Some, None}
+use Rattle.std.specs.Prelude.{nat_le}
 use Rattle.std.specs.List.{list_all}
 use Rattle.std.proofs.lemmas.Bool.{cases_lt}
 use Rattle.rhythm_base.specs.declared.inner.Inner.{Inner}
@@ -80,15 +80,12 @@ module _ (k : BarInput) (p w n : ℕ) (first : SplitsAt k p n) (last : SplitsAt 
 
 -- up to the unit in which the next chord begins
 pub part-quiet : (k : BarInput) (u next n at : ℕ) (d : Inner) → ((v : ℕ) → u ≤ v → v ≤ next → SplitsAt k v n) → end_of_earlier k n d * k.resolution ≡ at → next ≤ k.resolution
-    → (o : Option Stretch) → IsPart k.length at next u o → IsQuietFrom k u o
-part-quiet k u next n at d splits is within None h = tt
-part-quiet k u next n at d splits is within (Some s) h =
-    let some : u < s.until = h.0 in
-    let near : s.until ≤ next = h.1 in
+    → (s : Stretch) → IsPart k.length at next u s → IsQuietFrom k u s
+part-quiet k u next n at d splits is within s h some =
+    let near : s.until ≤ next = (h some).0 in
     let whole : s.until ≡ u + (s.until - u) = omega (arith, some) in
     record {
-      some = some;
       within = omega (arith, near, within);
       quiet = λ g units. quiet-so k u (s.until - u) n (splits u (omega arith) (omega (arith, some, near))) (splits (u + (s.until - u)) (omega arith) (omega (arith, near, whole))) g units s.quiet at d is
-          (subst (λ v. SoundsSo s.quiet k.length at u v) whole h.2);
+          (subst (λ v. SoundsSo s.quiet k.length at u v) whole (h some).1);
     }

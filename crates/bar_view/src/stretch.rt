@@ -1,3 +1,5 @@
+ghost use Rattle.std.specs.Prelude.{◌≡◌};
+
 use row_laws::Quiet;
 
 /// Units of a bar that are quiet alike.
@@ -7,4 +9,16 @@ pub struct Stretch {
     pub until: u16,
     /// How they sound.
     pub quiet: Quiet,
+}
+
+impl Stretch {
+    /// No units: it goes up to the first one.
+    pub fn none() -> Stretch
+        ensures { result.until ≡ 0 }
+    {
+        Stretch {
+            until: 0,
+            quiet: Quiet::Silent,
+        }
+    }
 }

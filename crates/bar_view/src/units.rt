@@ -16,8 +16,8 @@ use std::alloc::{AllocError, Global};
 pub struct Units {
     /// How many onsets are before the unit.
     pub below: Vec<u32>,
-    /// The quiet units from the unit on; none where it is not quiet itself.
-    pub quiet: Vec<Option<Stretch>>,
+    /// The quiet units from the unit on. Where it is not quiet itself, the stretch goes up to no later unit.
+    pub quiet: Vec<Stretch>,
 }
 
 impl Units {
@@ -63,24 +63,19 @@ impl Units {
         }
         self.below.resize(next + 1, count)?;
         fill(&mut self.quiet, input.length(), end, last)?;
-        self.quiet.push(None)?;
+        self.quiet.push(Stretch::none())?;
         Ok(())
     }
 }
 
 /// Goes on up to a unit, and no chord begins before it: those that the chord before fills, which ends at a point, the one
 /// in which it ends, and those after it.
-fn fill(
-    quiet: &mut Vec<Option<Stretch>>,
-    ticks: u64,
-    end: Point,
-    next: u16,
-) -> Result<(), AllocError>
+fn fill(quiet: &mut Vec<Stretch>, ticks: u64, end: Point, next: u16) -> Result<(), AllocError>
     requires few_ticks { ticks ≤ LATEST_TICK }
     requires few { end.unit ≤ MOST_UNITS }
     ensures long { OnOk result (length quiet.new.items ≡ max (length quiet.old.items) next) }
-    ensures same { OnOk result ((unit : ℕ) (d : Option Stretch) → unit < length quiet.old.items → slice_index_or quiet.new.items unit d ≡ slice_index_or quiet.old.items unit d) }
-    ensures part { OnOk result ((at unit : ℕ) (d : Option Stretch) → IsPoint ticks at end → length quiet.old.items ≤ unit → unit < next → IsPart ticks at next unit (slice_index_or quiet.new.items unit d)) }
+    ensures same { OnOk result ((unit : ℕ) (d : Stretch) → unit < length quiet.old.items → slice_index_or quiet.new.items unit d ≡ slice_index_or quiet.old.items unit d) }
+    ensures part { OnOk result ((at unit : ℕ) (d : Stretch) → IsPoint ticks at end → length quiet.old.items ≤ unit → unit < next → IsPart ticks at next unit (slice_index_or quiet.new.items unit d)) }
 {
     let full = end.unit.min(next);
     let over = end.after().min(next);
@@ -92,22 +87,18 @@ fn fill(
         until: next,
         quiet: Quiet::Silent,
     };
-    extend(quiet, full, Some(sounding))?;
-    extend(quiet, over, None)?;
-    extend(quiet, next, Some(silent))?;
+    extend(quiet, full, sounding)?;
+    extend(quiet, over, Stretch::none())?;
+    extend(quiet, next, silent)?;
     Ok(())
 }
 
 /// Goes on up to a unit with units that are alike.
 #[inline(always)]
-fn extend(
-    quiet: &mut Vec<Option<Stretch>>,
-    next: u16,
-    stretch: Option<Stretch>,
-) -> Result<(), AllocError>
+fn extend(quiet: &mut Vec<Stretch>, next: u16, stretch: Stretch) -> Result<(), AllocError>
     ensures long { OnOk result (length quiet.new.items ≡ max (length quiet.old.items) next) }
-    ensures same { OnOk result ((unit : ℕ) (d : Option Stretch) → unit < length quiet.old.items → slice_index_or quiet.new.items unit d ≡ slice_index_or quiet.old.items unit d) }
-    ensures more { OnOk result ((unit : ℕ) (d : Option Stretch) → length quiet.old.items ≤ unit → unit < next → slice_index_or quiet.new.items unit d ≡ stretch) }
+    ensures same { OnOk result ((unit : ℕ) (d : Stretch) → unit < length quiet.old.items → slice_index_or quiet.new.items unit d ≡ slice_index_or quiet.old.items unit d) }
+    ensures more { OnOk result ((unit : ℕ) (d : Stretch) → length quiet.old.items ≤ unit → unit < next → slice_index_or quiet.new.items unit d ≡ stretch) }
 {
     if quiet.len() < usize::from(next) {
         quiet.resize(usize::from(next), stretch)

@@ -119,8 +119,8 @@ impl View {
         requires within { place + width ≤ input.now.resolution }
         ensures { (g : Grammar) → g.resolution ≡ input.now.resolution → IfSome result (λ q. IsQuiet q (ground_of g input.now) place width) }
     {
-        let stretch = self.units.quiet[usize::from(place)]?;
-        if width <= stretch.until - place {
+        let stretch = self.units.quiet[usize::from(place)];
+        if place < stretch.until && width <= stretch.until - place {
             Some(stretch.quiet)
         } else {
             None

@@ -1,5 +1,5 @@
 use Rattle.std.proofs.Common.{rules, ◌≡◌, ◌≤◌, ◌+◌, ◌++◌, ◌*◌, ◌∙◌, [], ◌∷◌, length, max, get_or, refl, sym, ap, subst, arith, inl, inr}
-use Rattle.std.specs.Prelude.{None, vec_len}
+use Rattle.std.specs.Prelude.{vec_len}
 use Rattle.std.proofs.Math.Seq.{get_or-append_seam}
 use Rattle.std.proofs.lemmas.List.{get_or_append_left, length-append}
 use Rattle.std.proofs.lemmas.Bool.{cases_lt}
@@ -24,8 +24,8 @@ returns-clause-units c =
     let long : length c.resize.new.self.items ≡ last + 1 = search rules in
     let filled : length c.fill.new.quiet.items ≡ max (length old.quiet.items) last = c.in_ok-fill.ensures.long in
     let alike : length old.quiet.items ≡ length old.below.items = c.requires.units.alike in
-    let pushed : c.push.new.self.items ≡ c.fill.new.quiet.items ++ None ∷ [] = c.in_ok-push.ensures.items in
-    let one_more = ap length pushed ∙ length-append c.fill.new.quiet.items (None ∷ []) in
+    let pushed : c.push.new.self.items ≡ c.fill.new.quiet.items ++ c.none.result ∷ [] = c.in_ok-push.ensures.items in
+    let one_more = ap length pushed ∙ length-append c.fill.new.quiet.items (c.none.result ∷ []) in
     let point : IsPoint k.length (end_of_earlier k count e * k.resolution) c.args.end = c.requires.end e in
     let ticks : c.length.result ≡ k.length = c.length.ensures in
     let point' : IsPoint c.length.result (end_of_earlier k count e * k.resolution) c.args.end = subst (λ l. IsPoint l (end_of_earlier k count e * k.resolution) c.args.end) (sym ticks) point in
@@ -37,7 +37,7 @@ returns-clause-units c =
         | inr far ↦ subst (SplitsAt k u) (sym (c.in_ok-resize.ensures.by_index.1 u 0 refl (omega (arith, as_list, far)) (omega (arith, next, h, long)))) (c.requires.split u far (omega (arith, h, long)))
       ];
       quiet = λ u d h. subst (λ xs. IsQuietFrom k u (get_or xs u d)) (sym pushed) (elim (cases_lt u (length c.fill.new.quiet.items)) [
-        | inl low ↦ subst (IsQuietFrom k u) (sym (get_or_append_left c.fill.new.quiet.items (None ∷ []) d u low)) (elim (cases_lt u (length old.quiet.items)) [
+        | inl low ↦ subst (IsQuietFrom k u) (sym (get_or_append_left c.fill.new.quiet.items (c.none.result ∷ []) d u low)) (elim (cases_lt u (length old.quiet.items)) [
           | inl first ↦ subst (IsQuietFrom k u) (sym (c.in_ok-fill.ensures.same u d first)) (c.requires.units.quiet u d first)
           | inr far ↦
               part-quiet k u last count (end_of_earlier k count e * k.resolution) e (λ v low near. c.requires.split v (omega (arith, far, low, alike)) near) refl c.requires.within (get_or c.fill.new.quiet.items u d)
@@ -45,7 +45,7 @@ returns-clause-units c =
         ])
         | inr behind ↦
             let last_one : length c.fill.new.quiet.items ≡ u = omega (arith, behind, h, one_more) in
-            subst (λ v. IsQuietFrom k v (get_or (c.fill.new.quiet.items ++ None ∷ []) v d)) last_one
-            (subst (IsQuietFrom k (length c.fill.new.quiet.items)) (sym (get_or-append_seam c.fill.new.quiet.items None [] d)) tt)
+            subst (λ v. IsQuietFrom k v (get_or (c.fill.new.quiet.items ++ c.none.result ∷ []) v d)) last_one
+            (subst (IsQuietFrom k (length c.fill.new.quiet.items)) (sym (get_or-append_seam c.fill.new.quiet.items c.none.result [] d)) (λ some. absurd (omega (arith, some, c.none.ensures))))
       ]);
     }
