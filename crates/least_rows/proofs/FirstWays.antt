@@ -17,7 +17,7 @@ use Rattle.row_laws.proofs.Bounds.{IsBounded}
 use Rattle.row_laws.proofs.Folds.{fold-alike, fold-via}
 use Rattle.row_laws.proofs.RowProducts.{row-apart, row-cheap, row-next, row-none, row-parse}
 use Rattle.least_rows.specs.declared.way.Way.{Way}
-use Rattle.least_rows.specs.Ways.{AreShort, AreWays, AreWaysOn, IsWayMade, nearer_way, nearest_below, nearest_way, one_way, sum_of_way, way_on}
+use Rattle.least_rows.specs.Ways.{AreShort, AreWays, AreWaysOn, IsLow, IsWayMade, nearer_way, nearest_below, nearest_way, one_way, sum_of_way, way_on}
 
 -- ---- which count between is taken
 
@@ -234,6 +234,9 @@ ways-none d ground p a low qs wide n (suc more) e ways =
 pub small-power : (n : ℕ) → n ≤ 16 → 8 ^ n ≤ 2 ^ 48
 small-power n h = let low : 8 ^ n ≤ 8 ^ 16 = pow-le-pow_right {n = 8} (omega arith) {i = n} {j = 16} h in low
 
+small-power-less : (n : ℕ) → n ≤ 15 → 8 ^ n ≤ 2 ^ 45
+small-power-less n h = let low : 8 ^ n ≤ 8 ^ 15 = pow-le-pow_right {n = 8} (omega arith) {i = n} {j = 15} h in low
+
 fewer-sizes : (n : ℕ) (qs : List (ℕ × ℕ)) → sizes (take n qs) ≤ sizes qs
 fewer-sizes zero qs = omega arith
 fewer-sizes (suc n) [] = omega arith
@@ -250,6 +253,13 @@ ways-short d ground bounds p a qs wide within n few front ways m w lm e =
     let small = ways.short m w lm e in
     let power = small-power n few in
     (cost, omega (arith, small.0, power), omega (arith, small.1, power))
+
+pub ways-low : (d : Ground) (p a : ℕ) (qs : List (ℕ × ℕ)) (n : ℕ) → n ≤ 15 → (front : ℕ → Option Way) → AreWays d p qs a n front → AreShort front
+    → (m : ℕ) (w : Way) → m < 5 → front m ≡ Some w → IsLow w
+ways-low d p a qs n few front ways short m w lm e =
+    let small = ways.short m w lm e in
+    let power = small-power-less n few in
+    ((short m w lm e).0, omega (arith, small.0, power), omega (arith, small.1, power))
 
 -- ---- the same ways, said otherwise
 

@@ -12,7 +12,7 @@ use Rattle.grammar_plan.specs.Plans.{IsPlan, IsSeat, pair_of}
 use Rattle.grammar_plan.specs.declared.cut.Cut.{Cut}
 use Rattle.grammar_plan.specs.declared.plan.Plan.{Plan}
 use Rattle.grammar_plan.specs.declared.seat.Seat.{Seat}
-use Rattle.least_rows.specs.Ways.{AreShort, AreWays, one_way}
+use Rattle.least_rows.specs.Ways.{AreShort, AreWays, AreWaysOn, IsLow, one_way}
 use Rattle.least_rows.specs.Places.{HasPlace, width_at, width_of}
 use Rattle.least_rows.specs.Steps.{AreWaysOver}
 use Rattle.least_rows.specs.Tops.{IsTop, parts_of}
@@ -20,7 +20,7 @@ use Rattle.least_rows.specs.declared.top.Top.{Top}
 use Rattle.least_rows.specs.declared.way.Way.{Way}
 use Rattle.least_rows.proofs.Asked.{seat-of}
 use Rattle.least_rows.proofs.Cutting.{cut-few, cut-long, cut-whole, cut-wide, part-below, part-inside, part-next, part-seat}
-use Rattle.least_rows.proofs.FirstWays.{ways-first, ways-none, ways-short, ways-then}
+use Rattle.least_rows.proofs.FirstWays.{ways-first, ways-low, ways-none, ways-short, ways-then}
 
 -- a part of the cut, which begins at this unit
 pub record IsPart (g : Grammar) (k : BarInput) (plan : Plan) (top : Top) (cut : Cut) (t : IsTop g k plan top cut) (part own at : ℕ) : Type 0 where
@@ -86,11 +86,21 @@ module _ (g : Grammar) (k : BarInput) (plan : Plan) (ready : IsReady g k) (of : 
       let long = cut-long g plan t.seat cut t.is in
       omega (arith, end, few, long)
 
+  pub cut-most : cut.end - cut.first ≤ 16
+  cut-most = few-parts cut.end (omega arith)
+
   pub to-short : (n : ℕ) → n ≤ 16 → (ways : ℕ → Option Way) → AreWays d top.place qs top.from n ways → AreShort ways
   to-short n few ways h =
       let all = whole in
       let wide = zone.within in
       ways-short d (grounded g k ready) (bounds g k ready) top.place top.from qs (cut-wide g k plan ready t.seat zone cut t.is) (omega (arith, all, wide)) n few ways h
+
+  pub to-low : (part : ℕ) → part < cut.end → (ways : ℕ → Option Way) → AreWays d top.place qs top.from (part - cut.first) ways → (m : ℕ) (w : Way) → m < 5 → ways m ≡ Some w → IsLow w
+  to-low part high ways h =
+      let few = cut-few g k plan ready t.seat zone cut t.is in
+      let long = cut-long g plan t.seat cut t.is in
+      let order = t.is.order in
+      ways-low d top.place top.from qs (part - cut.first) (omega (arith, high, few, long, order)) ways h (to-short (part - cut.first) (omega (arith, high, few, long, order)) ways h)
 
   pub to-first : (top.place ≡ top.place + sizes (take (cut.first - cut.first) qs)) × AreWays d top.place qs top.from (cut.first - cut.first) (one_way (record { cost = 0; order = 0; way = 0 }) top.from)
   to-first =
@@ -122,3 +132,12 @@ module _ (g : Grammar) (k : BarInput) (plan : Plan) (ready : IsReady g k) (of : 
       let long = cut-long g plan t.seat cut t.is in
       let order = t.is.order in
       ways-none d (grounded g k ready) top.place top.from t.few qs (cut-wide g k plan ready t.seat zone cut t.is) (part - cut.first) (length qs - (part - cut.first)) (omega (arith, long, end, order)) h
+
+  -- over the last part
+  pub to-last : (part at : ℕ) → cut.first ≤ part → part + 1 ≡ cut.end → at ≡ top.place + sizes (take (part - cut.first) qs) → (ways next : ℕ → Option Way) → AreWays d top.place qs top.from (part - cut.first) ways
+      → AreWaysOn d at (slice_index_or qs (part - cut.first) (0, 0)) ways next → AreWays d top.place qs top.from (length qs) next
+  to-last part at low last begin ways next h on =
+      let long = cut-long g plan t.seat cut t.is in
+      let number : suc (part - cut.first) ≡ length qs = omega (arith, long, low, last) in
+      subst (λ n. AreWays d top.place qs top.from n next) number
+      (ways-then d (grounded g k ready) top.place top.from t.few qs (cut-wide g k plan ready t.seat zone cut t.is) (part - cut.first) (omega (arith, long, low, last)) ways next h at (slice_index_or qs (part - cut.first) (0, 0)) begin refl on)

@@ -8,7 +8,7 @@ ghost use Rattle.least_rows.specs.Choices.{
   nearer_choice,
   topped_choice,
 };
-ghost use Rattle.least_rows.specs.Ways.{AreShort, IsShort, way_in};
+ghost use Rattle.least_rows.specs.Ways.{AreEntries, IsLow, rank_in, way_on};
 ghost use Rattle.least_rows.specs.declared.way.Way.{Way};
 ghost use Rattle.least_rows.specs.declared.choice.Choice.{Choice};
 ghost use Rattle.row_laws.specs.BestRules.{is_nearer};
@@ -17,6 +17,7 @@ ghost use Rattle.std.specs.Prelude.{
   ◌+◌,
   ◌<◌,
   ◌≤◌,
+  ◌^◌,
   ℕ,
   IfSome,
   MatchOption,
@@ -71,7 +72,7 @@ pub fn offer(place: &mut Option<Choice>, next: Choice)
 /// Offers a way over the parts of a cut, with the cut on top.
 #[inline(always)]
 pub fn offer_way(place: &mut Option<Choice>, way: Way, cut: &Cut, number: u32)
-    requires short { IsShort way }
+    requires fits { (way.cost ≤ 6000000000) × (way.order < 2 ^ 48) }
     ensures { place.new ≡ nearer_choice place.old (topped_choice cut.now number (Some way)) }
 {
     offer(
@@ -85,28 +86,28 @@ pub fn offer_way(place: &mut Option<Choice>, way: Way, cut: &Cut, number: u32)
     );
 }
 
-/// Offers a way where there is one.
+/// Offers a way over all parts but the last, out of which `count` chords are carried, with each entry after it of a row that they
+/// are carried into.
 #[inline(always)]
-fn offer_some(place: &mut Option<Choice>, way: &Option<Way>, cut: &Cut, number: u32)
-    requires short { (w : Way) → way.now ≡ Some w → IsShort w }
-    ensures { place.new ≡ nearer_choice place.old (topped_choice cut.now number way.now) }
+pub fn offer_entries(
+    best: &mut Choices,
+    cut: &Cut,
+    number: u32,
+    way: Way,
+    count: u8,
+    entries: &[Entry],
+)
+    requires low { IsLow way }
+    requires count { count < 5 }
+    requires entries { AreEntries entries.now }
+    ensures { (b : ℕ) → b < 5 → choice_in best.new b ≡ nearer_choice (choice_in best.old b) (topped_choice cut.now number (way_on (Some way) count (rank_in entries.now 0 b))) }
 {
-    if let Some(way) = *way {
-        offer_way(place, way, cut, number);
+    let mut rank = 0u8;
+    'entries: for entry in entries {
+        let whole = way.then(count, entry.cost, rank);
+        offer_way(&mut best[entry.to as usize], whole, cut, number);
+        rank += 1;
     }
-}
-
-/// Offers several ways.
-#[inline(never)]
-pub fn offer_ways(best: &mut Choices, ways: &[Option<Way>; 5], cut: &Cut, number: u32)
-    requires short { AreShort (way_in ways.now) }
-    ensures { (b : ℕ) → b < 5 → choice_in best.new b ≡ nearer_choice (choice_in best.old b) (topped_choice cut.now number (way_in ways.now b)) }
-{
-    offer_some(&mut best[0], &ways[0], cut, number);
-    offer_some(&mut best[1], &ways[1], cut, number);
-    offer_some(&mut best[2], &ways[2], cut, number);
-    offer_some(&mut best[3], &ways[3], cut, number);
-    offer_some(&mut best[4], &ways[4], cut, number);
 }
 
 /// What a tree may cost at most to be offered, where no chord is carried out of any: what the choice for none costs.

@@ -10,3 +10,10 @@ pub struct Fork {
     pub part: u32,
     pub at: u16,
 }
+
+/// A part of a cut, among the plan's, and the unit at which it begins.
+#[derive(Clone, Copy)]
+pub struct PartAt {
+    pub part: u32,
+    pub at: u16,
+}

@@ -1,7 +1,7 @@
 ghost use Rattle.grammar_plan.specs.Plans.{pair_of};
 ghost use Rattle.grammar_plan.specs.declared.seat.Seat.{Seat};
 ghost use Rattle.least_rows.specs.Choices.{RulesBefore};
-ghost use Rattle.least_rows.specs.Ways.{AreShort, IsShort, one_way, way_in};
+ghost use Rattle.least_rows.specs.Ways.{AreShort, IsLow, IsShort, one_way, way_in};
 ghost use Rattle.least_rows.specs.Places.{HasPlace};
 ghost use Rattle.least_rows.specs.Searches.{IsSearch};
 ghost use Rattle.least_rows.specs.States.{AreKnown, Grows, HasState, IsRowAt};
@@ -13,12 +13,14 @@ ghost use Rattle.least_rows.specs.Steps.{
   IsRowOf,
   KeepsRow,
   LeadsOver,
+  way_to_none,
 };
-ghost use Rattle.least_rows.specs.Tops.{AreWaysTo, IsOffered, IsTop};
+ghost use Rattle.least_rows.specs.Tops.{AreEntriesOffered, AreWaysTo, BeginsAt, IsOffered, IsPassed, IsTop};
 ghost use Rattle.grammar_plan.specs.Plans.{between};
 ghost use Rattle.row_laws.specs.LeafRules.{EndsInterval};
 ghost use Rattle.std.specs.Prelude.{
   ◌≡◌,
+  ◌⊎◌,
   ◌+◌,
   ◌<◌,
   ◌≤◌,
@@ -34,9 +36,9 @@ ghost use Rattle.std.specs.Prelude.{
   slice_get,
 };
 
-use crate::choice::{Choices, is_over, limit_of, offer_way, offer_ways};
+use crate::choice::{Choices, is_over, limit_of, offer_entries, offer_way};
 use crate::entry::Entry;
-use crate::fork::Fork;
+use crate::fork::{Fork, PartAt};
 use crate::lead::{Lead, lead_by_quiet, lead_by_row};
 use crate::leaf_choices::{ends_there, offer_leaf};
 use crate::quiet_ways::rest_of_several;
@@ -299,14 +301,47 @@ impl Rows {
             (λ s. RulesBefore search.now.grammar.now search.now.plan.now s (top.number + 1)) best.new) }
     {
         let limit = limit_of(best, ends);
-        let mut way = Way {
+        let way = Way {
             cost: 0,
             order: 0,
             way: 0,
         };
-        let mut count = top.from;
-        let mut at = top.place;
-        'parts: for part in cut.first..cut.end {
+        let start = Fork {
+            way,
+            count: top.from,
+            part: cut.first,
+            at: top.place,
+        };
+        self.offer_along(search, top, cut, start, limit, best)
+    }
+
+    /// Offers the trees with this cut on top that go one way up to a part, but for those that cost more than the limit. As long as
+    /// one way alone leads on, it is followed alone.
+    #[cycle(rows)]
+    #[inline(always)]
+    fn offer_along(
+        &mut self,
+        search: &Search<'_>,
+        top: Top,
+        cut: &Cut,
+        start: Fork,
+        limit: Option<u64>,
+        best: &mut Choices,
+    ) -> Result<(), AllocError>
+        requires search { IsSearch search.now.grammar.now search.now.input.now search.now.plan.now search.now.view.now }
+        requires top { IsTop search.now.grammar.now search.now.input.now search.now.plan.now top cut.now }
+        requires part { (cut.now.first ≤ start.part) × (start.part ≤ cut.now.end) }
+        requires count { start.count < 5 }
+        requires ways { AreWaysTo search.now.grammar.now search.now.input.now search.now.plan.now top cut.now start.part start.at (one_way start.way start.count) }
+        requires known { AreKnown search.now.grammar.now search.now.input.now search.now.plan.now self.old }
+        ensures known { OnOk result (AreKnown search.now.grammar.now search.now.input.now search.now.plan.now self.new) }
+        ensures grows { OnOk result (Grows self.old self.new) }
+        ensures best { OnOk result (IsOffered search.now.grammar.now search.now.input.now search.now.plan.now top cut.now best.old best.new ⊎ IsPassed search.now.grammar.now search.now.input.now search.now.plan.now top cut.now limit best.old best.new) }
+    {
+        let mut way = start.way;
+        let mut count = start.count;
+        let mut at = start.at;
+        'parts: for part in start.part..cut.end {
             if is_over(u64::from(cut.weight) + way.cost, limit) {
                 return Ok(());
             }
@@ -388,18 +423,49 @@ impl Rows {
         ensures grows { OnOk result (Grows self.old self.new) }
         ensures best { OnOk result (IsOffered search.now.grammar.now search.now.input.now search.now.plan.now top cut.now best.old best.new) }
     {
+        let part = fork.part + 1;
+        if part == cut.end {
+            return self.offer_last(search, top, cut, fork, best);
+        }
         let own = search.plan.parts[fork.part as usize];
         let mut ways = [None; 5];
         self.join_fork(search, &mut ways, fork, own)?;
-        let mut at = fork.at + search.plan.seats[own as usize].width;
-        'parts: for part in fork.part + 1..cut.end {
-            let seat = search.plan.parts[part as usize];
-            let mut next = [None; 5];
-            self.over(search, &mut next, &ways, seat, at)?;
-            ways = next;
-            at += search.plan.seats[seat as usize].width;
-        }
-        offer_ways(best, &ways, cut, top.number);
+        let at = fork.at + search.plan.seats[own as usize].width;
+        self.offer_rest(search, top, cut, PartAt { part, at }, &ways, best)
+    }
+
+    /// Offers the trees with this cut on top that go one way up to the last part.
+    #[cycle(rows)]
+    #[inline(always)]
+    fn offer_last(
+        &mut self,
+        search: &Search<'_>,
+        top: Top,
+        cut: &Cut,
+        fork: Fork,
+        best: &mut Choices,
+    ) -> Result<(), AllocError>
+        requires search { IsSearch search.now.grammar.now search.now.input.now search.now.plan.now search.now.view.now }
+        requires top { IsTop search.now.grammar.now search.now.input.now search.now.plan.now top cut.now }
+        requires part { (cut.now.first ≤ fork.part) × (fork.part < cut.now.end) }
+        requires begin { BeginsAt search.now.grammar.now search.now.input.now search.now.plan.now top cut.now fork.part fork.at }
+        requires low { IsLow fork.way }
+        requires count { fork.count < 5 }
+        requires known { AreKnown search.now.grammar.now search.now.input.now search.now.plan.now self.old }
+        ensures known { OnOk result (AreKnown search.now.grammar.now search.now.input.now search.now.plan.now self.new) }
+        ensures grows { OnOk result (Grows self.old self.new) }
+        ensures best { OnOk result (AreEntriesOffered search.now.grammar.now search.now.input.now search.now.plan.now top cut.now fork best.old best.new) }
+    {
+        let own = search.plan.parts[fork.part as usize];
+        let span = self.row(search, own, fork.at, fork.count)?;
+        offer_entries(
+            best,
+            cut,
+            top.number,
+            fork.way,
+            fork.count,
+            self.entries_of(span),
+        );
         Ok(())
     }
 
@@ -428,34 +494,114 @@ impl Rows {
         Ok(())
     }
 
-    /// Several ways with the tree of a seat from the unit `place` on after them.
+    /// Offers the trees with this cut on top that go these ways up to a part.
     #[cycle(rows)]
-    #[inline(always)]
-    fn over(
+    #[inline(never)]
+    fn offer_rest(
         &mut self,
         search: &Search<'_>,
-        next: &mut [Option<Way>; 5],
+        top: Top,
+        cut: &Cut,
+        next: PartAt,
         ways: &[Option<Way>; 5],
-        seat: u32,
-        place: u16,
+        best: &mut Choices,
     ) -> Result<(), AllocError>
         requires search { IsSearch search.now.grammar.now search.now.input.now search.now.plan.now search.now.view.now }
-        requires place { HasPlace search.now.input.now search.now.plan.now seat place }
-        requires none { (b : ℕ) → b < 5 → way_in next.old b ≡ None }
-        requires short { AreShort (way_in ways.now) }
+        requires top { IsTop search.now.grammar.now search.now.input.now search.now.plan.now top cut.now }
+        requires part { (cut.now.first ≤ next.part) × (next.part < cut.now.end) × (cut.now.end < 2 ^ 32) }
+        requires ways { AreWaysTo search.now.grammar.now search.now.input.now search.now.plan.now top cut.now next.part next.at (way_in ways.now) }
         requires known { AreKnown search.now.grammar.now search.now.input.now search.now.plan.now self.old }
         ensures known { OnOk result (AreKnown search.now.grammar.now search.now.input.now search.now.plan.now self.new) }
         ensures grows { OnOk result (Grows self.old self.new) }
-        ensures ways { OnOk result (AreWaysOver search.now.grammar.now search.now.input.now search.now.plan.now seat place (way_in ways.now) (way_in next.new)) }
+        ensures best { OnOk result (IsOffered search.now.grammar.now search.now.input.now search.now.plan.now top cut.now best.old best.new) }
     {
+        let seat = search.plan.parts[next.part as usize];
         let width = search.plan.seats[seat as usize].width;
-        match search.view.quiet(search.input, place, width) {
+        let part = next.part + 1;
+        let at = next.at + width;
+        match search.view.quiet(search.input, next.at, width) {
             Some(quiet) => {
-                next[0] = rest_of_several(search, ways, seat, quiet);
-                Ok(())
+                let way = rest_of_several(search, ways, seat, quiet);
+                self.offer_alone(search, top, cut, PartAt { part, at }, way, best)
             }
-            None => self.over_rows(search, next, ways, seat, place),
+            None => {
+                if part == cut.end {
+                    return self.offer_several(search, top, cut, next, ways, best);
+                }
+                let mut over = [None; 5];
+                self.over_rows(search, &mut over, ways, seat, next.at)?;
+                self.offer_rest(search, top, cut, PartAt { part, at }, &over, best)
+            }
         }
+    }
+
+    /// Offers the trees with this cut on top that go one way, out of which no chord is carried, up to a part, where there is one.
+    #[cycle(rows)]
+    #[inline(always)]
+    fn offer_alone(
+        &mut self,
+        search: &Search<'_>,
+        top: Top,
+        cut: &Cut,
+        next: PartAt,
+        way: Option<Way>,
+        best: &mut Choices,
+    ) -> Result<(), AllocError>
+        requires search { IsSearch search.now.grammar.now search.now.input.now search.now.plan.now search.now.view.now }
+        requires top { IsTop search.now.grammar.now search.now.input.now search.now.plan.now top cut.now }
+        requires part { (cut.now.first ≤ next.part) × (next.part ≤ cut.now.end) }
+        requires ways { AreWaysTo search.now.grammar.now search.now.input.now search.now.plan.now top cut.now next.part next.at (way_to_none way) }
+        requires known { AreKnown search.now.grammar.now search.now.input.now search.now.plan.now self.old }
+        ensures known { OnOk result (AreKnown search.now.grammar.now search.now.input.now search.now.plan.now self.new) }
+        ensures grows { OnOk result (Grows self.old self.new) }
+        ensures best { OnOk result (IsOffered search.now.grammar.now search.now.input.now search.now.plan.now top cut.now best.old best.new) }
+    {
+        let Some(way) = way else {
+            return Ok(());
+        };
+        let start = Fork {
+            way,
+            count: 0,
+            part: next.part,
+            at: next.at,
+        };
+        self.offer_along(search, top, cut, start, None, best)
+    }
+
+    /// Offers the trees with this cut on top that go these ways up to the last part.
+    #[cycle(rows)]
+    #[inline(always)]
+    fn offer_several(
+        &mut self,
+        search: &Search<'_>,
+        top: Top,
+        cut: &Cut,
+        last: PartAt,
+        ways: &[Option<Way>; 5],
+        best: &mut Choices,
+    ) -> Result<(), AllocError>
+        requires search { IsSearch search.now.grammar.now search.now.input.now search.now.plan.now search.now.view.now }
+        requires top { IsTop search.now.grammar.now search.now.input.now search.now.plan.now top cut.now }
+        requires part { (cut.now.first ≤ last.part) × (last.part + 1 ≡ cut.now.end) }
+        requires ways { AreWaysTo search.now.grammar.now search.now.input.now search.now.plan.now top cut.now last.part last.at (way_in ways.now) }
+        requires known { AreKnown search.now.grammar.now search.now.input.now search.now.plan.now self.old }
+        ensures known { OnOk result (AreKnown search.now.grammar.now search.now.input.now search.now.plan.now self.new) }
+        ensures grows { OnOk result (Grows self.old self.new) }
+        ensures best { OnOk result (IsOffered search.now.grammar.now search.now.input.now search.now.plan.now top cut.now best.old best.new) }
+    {
+        'counts: for count in 0..5u8 {
+            let Some(way) = ways[count as usize] else {
+                continue;
+            };
+            let fork = Fork {
+                way,
+                count,
+                part: last.part,
+                at: last.at,
+            };
+            self.offer_last(search, top, cut, fork, best)?;
+        }
+        Ok(())
     }
 
     /// The same by the rows of the seat.

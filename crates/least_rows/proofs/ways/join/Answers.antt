@@ -1,4 +1,4 @@
-use Rattle.std.proofs.Common.{rules, ◌≡◌, ◌<◌, ◌+◌, ◌*◌, ◌∙◌, length, ap, arith}
+use Rattle.std.proofs.Common.{rules, ◌≡◌, ◌<◌, ◌+◌, ◌*◌, ◌∙◌, length, refl, ap, arith}
 use Rattle.std.specs.Prelude.{Some, None, slice_get, slice_index_or}
 use Rattle.std.proofs.lemmas.Option.{slice_get-get_or}
 use Rattle.least_rows.specs.declared.entry.Entry.{Entry}
@@ -19,6 +19,6 @@ entries-preserved c =
     record {
       rank = omega (arith, rank);
       long = search rules;
-      next = join-more (way_in c.args.next.now) c.entries.next c.args.way c.args.count c.args.entries.now n e _ c.entries.invariant.long at c.requires.entries
+      next = join-more Way nearer_way (λ o. refl) (way_in c.args.next.now) c.entries.next c.args.way c.args.count c.args.entries.now n e _ c.entries.invariant.long at c.requires.entries
           (c.offer_way.ensures ∙ ap (λ (w : Way). nearer_way (way_in c.entries.next e.to) (Some w)) whole) c.entries.invariant.next;
     }

@@ -1,27 +1,27 @@
-use Rattle.std.proofs.Common.{rules, inl, ◌≡◌, ◌<◌, ◌≤◌, ◌+◌, ◌-◌, ◌==◌, ◌∙◌, ℕ, Bool, true, false, zero, suc, List, [], ◌∷◌, length, refl, sym, ap, subst, arith}
-use Rattle.std.specs.Prelude.{Option, Some, None, if◌then◌else◌, slice_get, slice_set}
+use Rattle.std.proofs.Common.{rules, inl, inr, ◌≡◌, ◌<◌, ◌≤◌, ◌+◌, ◌-◌, ◌==◌, ◌∙◌, ℕ, Bool, true, false, zero, suc, List, [], ◌∷◌, length, refl, sym, ap, subst, arith}
+use Rattle.std.specs.Prelude.{Option, Some, None, if◌then◌else◌, slice_get}
 use Rattle.std.proofs.lemmas.Bool.Decides.{nat_tests}
 use Rattle.std.proofs.lemmas.Option.{get_or_from_slice_get, slice_get_read, slice_get_within}
-use Rattle.std.proofs.lemmas.Grind.{get_or-set_at}
-use Rattle.std.proofs.lemmas.List.{get_or-set_other}
 use Rattle.row_laws.specs.Grounds.{ground_of}
 use Rattle.row_laws.specs.QuietTrees.{IsQuiet}
 use Rattle.row_laws.specs.LeafRules.{EndsInterval}
 use Rattle.grammar_plan.specs.Plans.{IsSeat, pair_of}
 use Rattle.grammar_plan.specs.declared.seat.Seat.{Seat}
-use Rattle.least_rows.specs.Choices.{AreBestChoices, RulesBefore, choice_in, is_over, limit_of}
-use Rattle.least_rows.specs.Ways.{AreShort, AreWaysBelow, IsShort, nearer_way, one_way, quiet_rank, rank_in, way_in, way_on}
+use Rattle.least_rows.specs.Choices.{AreBestChoices, RulesBefore, choice_in, is_over, limit_of, nearer_choice, topped_choice}
+use Rattle.least_rows.specs.Ways.{AreShort, AreWays, AreWaysBelow, IsLow, IsRanked, IsShort, nearer_way, one_way, quiet_rank, rank_in, way_in, way_on}
 use Rattle.least_rows.specs.Steps.{AreChoicesOf, EndsThere, IsLeafAt, LeadsOver, way_to_none}
-use Rattle.least_rows.specs.Tops.{IsTop}
+use Rattle.least_rows.specs.Tops.{AreWaysTo, IsOffered, IsTop, part_at, parts_of}
+use Rattle.least_rows.specs.declared.choice.Choice.{Choice}
 use Rattle.least_rows.specs.declared.way.Way.{Way}
 use Rattle.least_rows.proofs.Asked.{next-one, quiet-row, seat-of}
 use Rattle.least_rows.proofs.NextCut.{choices-offered, choices-passed, ends-so, one-offered, over-limit}
-use Rattle.least_rows.proofs.FirstWays.{on-same}
+use Rattle.least_rows.proofs.FirstWays.{ways-same}
 use Rattle.least_rows.proofs.PlanSeats.{on_ok}
 use Rattle.least_rows.proofs.Choices.{all-rules, choices-rules, no_cut-yet}
 use Rattle.least_rows.proofs.Known.{grows-none, grows-then, keep-grows, keep-known, keep-row, leaf-of, row-of, seat-same, span-entries, span-ranked}
 use Rattle.least_rows.proofs.Steps.{below-all, below-more, below-none, below-skip, lead-over, one-on}
-use Rattle.least_rows.proofs.Tops.{few-parts, part-less, part-of, part-place, to-first, to-next, to-nowhere, to-short, to-whole}
+use Rattle.least_rows.proofs.ToppedWays.{nearer-topped}
+use Rattle.least_rows.proofs.Tops.{cut-most, few-parts, part-less, part-of, part-place, to-first, to-last, to-low, to-next, to-nowhere, to-short, to-whole}
 use Rattle.least_rows.proofs.rows.Rows.+rows.Goals as goal
 
 and_then : {A B : Type 0} → A → B → A × B
@@ -47,14 +47,16 @@ first-way : (o : Option Way) → nearer_way None o ≡ o
 first-way None = refl
 first-way (Some w) = refl
 
--- ways by which none are carried out
-none-alone : (next : List (Option Way)) (o : Option Way) → length next ≡ 5 → ((b : ℕ) → b < 5 → way_in next b ≡ None) → (b : ℕ) → b < 5 → way_to_none o b ≡ way_in (slice_set next 0 o) b
-none-alone next None long none zero low = sym (get_or-set_at next 0 0 None None refl (omega (arith, long)))
-none-alone next (Some w) long none zero low = sym (get_or-set_at next 0 0 (Some w) None refl (omega (arith, long)))
-none-alone next None long none (suc b) low = sym (get_or-set_other next 0 (suc b) None None (λ e. absurd (omega (arith, e))) ∙ none (suc b) low)
-none-alone next (Some w) long none (suc b) low =
-    let apart : (0 == suc b) ≡ false = grind (arith, nat_tests) in
-    ap (λ t. if t then Some w else None) apart ∙ sym (get_or-set_other next 0 (suc b) (Some w) None (λ e. absurd (omega (arith, e))) ∙ none (suc b) low)
+no-way : (o : Option Way) → ((w : Way) → o ≡ Some w → ⊥) → o ≡ None
+no-way None h = refl
+no-way (Some w) h = absurd (h w refl)
+
+one-low : (w : Way) (m : ℕ) → m < 5 → ((n : ℕ) (v : Way) → n < 5 → one_way w m n ≡ Some v → IsLow v) → IsLow w
+one-low w m low h = h m w low (own (m == m) (grind (arith, nat_tests)))
+  where
+    own : (t : Bool) → t ≡ true → (if t then Some w else None) ≡ Some w
+    own true e = refl
+    own false e = absurd (cc)
 
 -- ---- a row
 
@@ -141,16 +143,6 @@ over_rows-returns-clause-ways t c = λ s at.
     let five : c.counts.count ≡ 5 = omega arith in
     below-all d c.args.place (pair_of s) (way_in c.args.ways.now) _ (subst (λ n. AreWaysBelow d c.args.place (pair_of s) (way_in c.args.ways.now) n (way_in c.counts.next)) five (c.counts.invariant.below s at))
 
-pub over-returns-in-Some-clause-ways : goal.over-returns-in-Some-clause-ways
-over-returns-in-Some-clause-ways t c = λ s at.
-    let g = c.args.search.now.grammar.now in
-    let k = c.args.search.now.input.now in
-    let plan = c.args.search.now.plan.now in
-    let d = ground_of g k in
-    let one : c.index.result.now ≡ s = c.index.ensures ∙ get_or_from_slice_get plan.seats.items c.args.seat s c.index.result.now at in
-    let calm = subst (λ (s : Seat). IsQuiet c.in-Some.quiet d c.args.place s.width) one (c.in-Some.ensures g c.requires.search.ready.units) in
-    on-same d c.args.place (pair_of s) (way_in c.args.ways.now) (way_to_none c.rest_of_several.result) _ (none-alone c.args.next.now c.rest_of_several.result (search rules) c.requires.none) (c.rest_of_several.ensures c.args.place s at calm)
-
 -- ---- where one way leads
 
 pub lead-entries_of-requires : goal.lead-entries_of-requires
@@ -187,17 +179,53 @@ lead-returns-in_ok-span-in-None-clause-lead t c =
 
 -- ---- one cut
 
-pub offer_cut-parts-init : goal.offer_cut-parts-init
-offer_cut-parts-init t c = record {
+pub offer_cut-offer_along-requires : goal.offer_cut-offer_along-requires
+offer_cut-offer_along-requires t c =
+    let g = c.args.search.now.grammar.now in
+    let k = c.args.search.now.input.now in
+    let plan = c.args.search.now.plan.now in
+    let ready = c.requires.search.ready in
+    let of = c.requires.search.plan_of in
+    let top = c.args.top in
+    let cut = c.args.cut.now in
+    let long = cut-most g k plan ready of top cut c.requires.top in
+    and_then (omega (arith, c.decreases, long)) (and_then c.requires.search (and_then c.requires.top (and_then (omega arith, c.requires.top.is.order) (and_then c.requires.top.few
+    (and_then (λ t. to-first g k plan ready of top cut t) c.requires.known)))))
+
+pub offer_cut-returns-clause-best : goal.offer_cut-returns-clause-best
+offer_cut-returns-clause-best t c =
+    let g = c.args.search.now.grammar.now in
+    let k = c.args.search.now.input.now in
+    let plan = c.args.search.now.plan.now in
+    let ready = c.requires.search.ready in
+    let of = c.requires.search.plan_of in
+    let top = c.args.top in
+    let cut = c.args.cut.now in
+    let after : List (Option Choice) → Type 0 = AreChoicesOf g k plan top.seat top.place top.from (λ s. RulesBefore g plan s (top.number + 1)) in
+    let old = c.args.best.now in
+    let new = c.offer_along.new.best in
+    on_ok c.offer_along.result (λ h. elim h [
+      | inl offered ↦ choices-offered g k plan ready of top cut c.requires.top old c.requires.best new offered
+      | inr passed ↦
+          let dear = passed.1 c.requires.top in
+          let tested : is_over (cut.weight + dear.1.cost) (limit_of old c.args.ends) ≡ true = ap (is_over (cut.weight + dear.1.cost)) (sym c.limit_of-limit.ensures) ∙ dear.4 in
+          let over = over-limit old c.args.ends (cut.weight + dear.1.cost) tested in
+          subst after (sym passed.0) (choices-passed g k plan ready of top cut c.requires.top old c.requires.best (c.requires.ends over.0) over.1 over.2 dear.0 dear.1 dear.2 dear.3 over.3)
+    ]) c.offer_along.ensures.best
+
+-- ---- one way up to a part
+
+pub offer_along-parts-init : goal.offer_along-parts-init
+offer_along-parts-init t c = record {
   known = c.requires.known;
   grows = grows-none c.args.self.now;
   same = refl;
-  few = c.requires.top.few;
-  ways = λ t. to-first c.args.search.now.grammar.now c.args.search.now.input.now c.args.search.now.plan.now c.requires.search.ready c.requires.search.plan_of c.args.top c.args.cut.now t;
+  few = c.requires.count;
+  ways = c.requires.ways;
 }
 
-pub offer_cut-overflow_add-from : goal.offer_cut-overflow_add-from
-offer_cut-overflow_add-from t c =
+pub offer_along-overflow_add-from : goal.offer_along-overflow_add-from
+offer_along-overflow_add-from t c =
     let g = c.args.search.now.grammar.now in
     let k = c.args.search.now.input.now in
     let plan = c.args.search.now.plan.now in
@@ -212,24 +240,15 @@ offer_cut-overflow_add-from t c =
     let small = c.fits-cut.1.0.1 in
     omega (arith, short.0, weight, small)
 
-pub offer_cut-returns-then-is_over-clause-best : goal.offer_cut-returns-then-is_over-clause-best
-offer_cut-returns-then-is_over-clause-best t c =
-    let g = c.args.search.now.grammar.now in
-    let k = c.args.search.now.input.now in
-    let plan = c.args.search.now.plan.now in
-    let ready = c.requires.search.ready in
-    let of = c.requires.search.plan_of in
-    let top = c.args.top in
+pub offer_along-returns-then-is_over-clause-best : goal.offer_along-returns-then-is_over-clause-best
+offer_along-returns-then-is_over-clause-best t c =
     let cut = c.args.cut.now in
-    let before : AreChoicesOf g k plan top.seat top.place top.from (λ s. RulesBefore g plan s top.number) c.parts.best = subst (AreChoicesOf g k plan top.seat top.place top.from (λ s. RulesBefore g plan s top.number)) (sym c.parts.invariant.same) c.requires.best in
-    let same = c.parts.invariant.same in
-    let tested : is_over (c.from.result + c.parts.way.cost) (limit_of c.args.best.now c.args.ends) ≡ true = ap (is_over (c.from.result + c.parts.way.cost)) (sym c.limit_of-limit.ensures) ∙ sym c.is_over.ensures ∙ c.if-is_over.true in
-    let over = over-limit c.args.best.now c.args.ends (c.from.result + c.parts.way.cost) tested in
-    let dear : over.1.cost < cut.weight + c.parts.way.cost = subst (λ n. over.1.cost < n + c.parts.way.cost) c.from.ensures over.3 in
-    choices-passed g k plan ready of top cut c.requires.top c.parts.best before (c.requires.ends over.0) over.1 (ap (λ l. choice_in l 0) same ∙ over.2) (c.parts.part - cut.first) c.parts.way c.parts.count (c.parts.invariant.ways c.requires.top).1 dear
+    let tested : is_over (c.from.result + c.parts.way.cost) c.args.limit ≡ true = sym c.is_over.ensures ∙ c.if-is_over.true in
+    let dear : is_over (cut.weight + c.parts.way.cost) c.args.limit ≡ true = subst (λ n. is_over (n + c.parts.way.cost) c.args.limit ≡ true) c.from.ensures tested in
+    inr (c.parts.invariant.same, λ t. (c.parts.part - cut.first, c.parts.way, c.parts.count, (c.parts.invariant.ways t).1, dear))
 
-pub offer_cut-lead-requires : goal.offer_cut-lead-requires
-offer_cut-lead-requires t c =
+pub offer_along-lead-requires : goal.offer_along-lead-requires
+offer_along-lead-requires t c =
     let g = c.args.search.now.grammar.now in
     let k = c.args.search.now.input.now in
     let plan = c.args.search.now.plan.now in
@@ -238,15 +257,15 @@ offer_cut-lead-requires t c =
     let top = c.args.top in
     let cut = c.args.cut.now in
     let w = c.parts.invariant.ways c.requires.top in
-    let x = part-of g k plan ready of top cut c.requires.top c.parts.part c.index-seat.result.now c.parts.at c.parts.auto.part c.parts-test.true c.index-seat.ensures w.0 in
+    let x = part-of g k plan ready of top cut c.requires.top c.parts.part c.index-seat.result.now c.parts.at (omega (arith, c.parts.auto.part, c.requires.part.0)) c.parts-test.true c.index-seat.ensures w.0 in
     let ways = (c.parts.invariant.ways c.requires.top).1 in
     let end = c.parts-test.true in
     let short = one-short c.parts.way c.parts.count c.parts.invariant.few (to-short g k plan ready of top cut c.requires.top (c.parts.part - cut.first) (few-parts g k plan ready of top cut c.requires.top c.parts.part (omega (arith, end))) (one_way c.parts.way c.parts.count) ways) in
     let less = part-less g k plan ready of top cut c.requires.top c.parts.part c.index-seat.result.now c.parts.at x in
     and_then (omega (arith, c.decreases, less)) (and_then c.requires.search (and_then (part-place g k plan ready of top cut c.requires.top c.parts.part c.index-seat.result.now c.parts.at x) (and_then short (and_then c.parts.invariant.few c.parts.invariant.known))))
 
-pub offer_cut-index-requires : goal.offer_cut-index-requires
-offer_cut-index-requires t c =
+pub offer_along-index-requires : goal.offer_along-index-requires
+offer_along-index-requires t c =
     let g = c.args.search.now.grammar.now in
     let k = c.args.search.now.input.now in
     let plan = c.args.search.now.plan.now in
@@ -255,12 +274,12 @@ offer_cut-index-requires t c =
     let top = c.args.top in
     let cut = c.args.cut.now in
     let w = c.parts.invariant.ways c.requires.top in
-    let x = part-of g k plan ready of top cut c.requires.top c.parts.part c.index-seat.result.now c.parts.at c.parts.auto.part c.parts-test.true c.index-seat.ensures w.0 in
+    let x = part-of g k plan ready of top cut c.requires.top c.parts.part c.index-seat.result.now c.parts.at (omega (arith, c.parts.auto.part, c.requires.part.0)) c.parts-test.true c.index-seat.ensures w.0 in
     let low = slice_get_within plan.seats.items c.index-seat.result.now x.seat x.there in
     omega (arith, low)
 
-pub offer_cut-overflow_add-at : goal.offer_cut-overflow_add-at
-offer_cut-overflow_add-at t c =
+pub offer_along-overflow_add-at : goal.offer_along-overflow_add-at
+offer_along-overflow_add-at t c =
     let g = c.args.search.now.grammar.now in
     let k = c.args.search.now.input.now in
     let plan = c.args.search.now.plan.now in
@@ -269,7 +288,7 @@ offer_cut-overflow_add-at t c =
     let top = c.args.top in
     let cut = c.args.cut.now in
     let w = c.parts.invariant.ways c.requires.top in
-    let x = part-of g k plan ready of top cut c.requires.top c.parts.part c.index-seat.result.now c.parts.at c.parts.auto.part c.parts-test.true c.index-seat.ensures w.0 in
+    let x = part-of g k plan ready of top cut c.requires.top c.parts.part c.index-seat.result.now c.parts.at (omega (arith, c.parts.auto.part, c.requires.part.0)) c.parts-test.true c.index-seat.ensures w.0 in
     let same : c.index.result.now ≡ x.seat = c.index.ensures ∙ get_or_from_slice_get plan.seats.items c.index-seat.result.now x.seat c.index.result.now x.there in
     let width = ap (λ (s : Seat). s.width) same in
     let within = x.within in
@@ -277,11 +296,11 @@ offer_cut-overflow_add-at t c =
     let units = ready.units in
     omega (arith, width, within, most, units)
 
-pub offer_cut-returns-in-Nowhere-clause-grows : goal.offer_cut-returns-in-Nowhere-clause-grows
-offer_cut-returns-in-Nowhere-clause-grows t c = grows-then c.args.self.now c.parts.self c.lead.new.self c.parts.invariant.grows c.in_ok-lead.ensures.grows
+pub offer_along-returns-in-Nowhere-clause-grows : goal.offer_along-returns-in-Nowhere-clause-grows
+offer_along-returns-in-Nowhere-clause-grows t c = grows-then c.args.self.now c.parts.self c.lead.new.self c.parts.invariant.grows c.in_ok-lead.ensures.grows
 
-pub offer_cut-returns-in-Nowhere-clause-best : goal.offer_cut-returns-in-Nowhere-clause-best
-offer_cut-returns-in-Nowhere-clause-best t c =
+pub offer_along-returns-in-Nowhere-clause-best : goal.offer_along-returns-in-Nowhere-clause-best
+offer_along-returns-in-Nowhere-clause-best t c =
     let g = c.args.search.now.grammar.now in
     let k = c.args.search.now.input.now in
     let plan = c.args.search.now.plan.now in
@@ -289,38 +308,35 @@ offer_cut-returns-in-Nowhere-clause-best t c =
     let of = c.requires.search.plan_of in
     let top = c.args.top in
     let cut = c.args.cut.now in
-    let before : AreChoicesOf g k plan top.seat top.place top.from (λ s. RulesBefore g plan s top.number) c.parts.best = subst (AreChoicesOf g k plan top.seat top.place top.from (λ s. RulesBefore g plan s top.number)) (sym c.parts.invariant.same) c.requires.best in
     let end = c.parts-test.true in
-    choices-offered g k plan ready of top cut c.requires.top c.parts.best before c.parts.best (λ t.
+    inl (λ t.
     let w = c.parts.invariant.ways t in
-    let x = part-of g k plan ready of top cut t c.parts.part c.index-seat.result.now c.parts.at c.parts.auto.part c.parts-test.true c.index-seat.ensures w.0 in
-    let next = to-next g k plan ready of top cut t c.parts.part c.index-seat.result.now c.parts.at x.seat.width c.parts.auto.part x w.0 refl (one_way c.parts.way c.parts.count) (λ b. None) w.1 (subst (LeadsOver g k plan c.index-seat.result.now c.parts.at c.parts.way c.parts.count) c.in-Nowhere.is c.in_ok-lead.ensures.lead) in
-    ((λ b. None), to-nowhere g k plan ready of top cut t (c.parts.part + 1) (omega (arith, end)) next.1, λ b lb. refl))
+    let x = part-of g k plan ready of top cut t c.parts.part c.index-seat.result.now c.parts.at (omega (arith, c.parts.auto.part, c.requires.part.0)) c.parts-test.true c.index-seat.ensures w.0 in
+    let next = to-next g k plan ready of top cut t c.parts.part c.index-seat.result.now c.parts.at x.seat.width (omega (arith, c.parts.auto.part, c.requires.part.0)) x w.0 refl (one_way c.parts.way c.parts.count) (λ b. None) w.1 (subst (LeadsOver g k plan c.index-seat.result.now c.parts.at c.parts.way c.parts.count) c.in-Nowhere.is c.in_ok-lead.ensures.lead) in
+    ((λ b. None), to-nowhere g k plan ready of top cut t (c.parts.part + 1) (omega (arith, end)) next.1, λ b lb. ap (λ l. choice_in l b) c.parts.invariant.same))
 
-pub offer_cut-offer_fork-requires : goal.offer_cut-offer_fork-requires
-offer_cut-offer_fork-requires t c =
+pub offer_along-offer_fork-requires : goal.offer_along-offer_fork-requires
+offer_along-offer_fork-requires t c =
+    let from = c.requires.part.0 in
     let first = c.parts.auto.part in
     let end = c.parts-test.true in
-    and_then (omega (arith, c.decreases)) (and_then c.requires.search (and_then c.requires.top (and_then (first, end, c.fits-cut.1.1.1.0.1) (and_then c.parts.invariant.few (and_then c.parts.invariant.ways c.in_ok-lead.ensures.known)))))
+    and_then (omega (arith, c.decreases, first, end)) (and_then c.requires.search (and_then c.requires.top (and_then (omega (arith, first, from), end, c.fits-cut.1.1.1.0.1) (and_then c.parts.invariant.few (and_then c.parts.invariant.ways c.in_ok-lead.ensures.known)))))
 
-pub offer_cut-returns-in-Several-clause-grows : goal.offer_cut-returns-in-Several-clause-grows
-offer_cut-returns-in-Several-clause-grows t c =
+pub offer_along-returns-in-Several-clause-grows : goal.offer_along-returns-in-Several-clause-grows
+offer_along-returns-in-Several-clause-grows t c =
     on_ok c.offer_fork.result (λ more. grows-then c.args.self.now c.lead.new.self c.offer_fork.new.self (grows-then c.args.self.now c.parts.self c.lead.new.self c.parts.invariant.grows c.in_ok-lead.ensures.grows) more) c.offer_fork.ensures.grows
 
-pub offer_cut-returns-in-Several-clause-best : goal.offer_cut-returns-in-Several-clause-best
-offer_cut-returns-in-Several-clause-best t c =
+pub offer_along-returns-in-Several-clause-best : goal.offer_along-returns-in-Several-clause-best
+offer_along-returns-in-Several-clause-best t c =
     let g = c.args.search.now.grammar.now in
     let k = c.args.search.now.input.now in
     let plan = c.args.search.now.plan.now in
-    let ready = c.requires.search.ready in
-    let of = c.requires.search.plan_of in
     let top = c.args.top in
     let cut = c.args.cut.now in
-    let before : AreChoicesOf g k plan top.seat top.place top.from (λ s. RulesBefore g plan s top.number) c.parts.best = subst (AreChoicesOf g k plan top.seat top.place top.from (λ s. RulesBefore g plan s top.number)) (sym c.parts.invariant.same) c.requires.best in
-    on_ok c.offer_fork.result (λ offered. choices-offered g k plan ready of top cut c.requires.top c.parts.best before c.offer_fork.new.best offered) c.offer_fork.ensures.best
+    on_ok c.offer_fork.result (λ offered. inl (subst (λ l. IsOffered g k plan top cut l c.offer_fork.new.best) c.parts.invariant.same offered)) c.offer_fork.ensures.best
 
-pub offer_cut-parts-preserved : goal.offer_cut-parts-preserved
-offer_cut-parts-preserved t c =
+pub offer_along-parts-preserved : goal.offer_along-parts-preserved
+offer_along-parts-preserved t c =
     let g = c.args.search.now.grammar.now in
     let k = c.args.search.now.input.now in
     let plan = c.args.search.now.plan.now in
@@ -335,14 +351,14 @@ offer_cut-parts-preserved t c =
       few = (subst (LeadsOver g k plan c.index-seat.result.now c.parts.at c.parts.way c.parts.count) c.in-One.is c.in_ok-lead.ensures.lead).0;
       ways = λ t.
           let w = c.parts.invariant.ways t in
-          let x = part-of g k plan ready of top cut t c.parts.part c.index-seat.result.now c.parts.at c.parts.auto.part c.parts-test.true c.index-seat.ensures w.0 in
+          let x = part-of g k plan ready of top cut t c.parts.part c.index-seat.result.now c.parts.at (omega (arith, c.parts.auto.part, c.requires.part.0)) c.parts-test.true c.index-seat.ensures w.0 in
           let same : c.index.result.now ≡ x.seat = c.index.ensures ∙ get_or_from_slice_get plan.seats.items c.index-seat.result.now x.seat c.index.result.now x.there in
-          let next = to-next g k plan ready of top cut t c.parts.part c.index-seat.result.now c.parts.at c.index.result.now.width c.parts.auto.part x w.0 (ap (λ (s : Seat). s.width) same) (one_way c.parts.way c.parts.count) (one_way c.in-One.next c.in-One.to) w.1 (subst (LeadsOver g k plan c.index-seat.result.now c.parts.at c.parts.way c.parts.count) c.in-One.is c.in_ok-lead.ensures.lead).1 in
+          let next = to-next g k plan ready of top cut t c.parts.part c.index-seat.result.now c.parts.at c.index.result.now.width (omega (arith, c.parts.auto.part, c.requires.part.0)) x w.0 (ap (λ (s : Seat). s.width) same) (one_way c.parts.way c.parts.count) (one_way c.in-One.next c.in-One.to) w.1 (subst (LeadsOver g k plan c.index-seat.result.now c.parts.at c.parts.way c.parts.count) c.in-One.is c.in_ok-lead.ensures.lead).1 in
           next;
     }
 
-pub offer_cut-offer_way-requires : goal.offer_cut-offer_way-requires
-offer_cut-offer_way-requires t c =
+pub offer_along-offer_way-requires : goal.offer_along-offer_way-requires
+offer_along-offer_way-requires t c =
     let g = c.args.search.now.grammar.now in
     let k = c.args.search.now.input.now in
     let plan = c.args.search.now.plan.now in
@@ -352,12 +368,13 @@ offer_cut-offer_way-requires t c =
     let cut = c.args.cut.now in
     let ways = (c.parts.invariant.ways c.requires.top).1 in
     let upto = c.parts.auto.part-end in
-    let order = c.requires.top.is.order in
+    let order = c.requires.part.1 in
     let end : c.parts.part ≤ cut.end = upto order in
-    record { short = one-short c.parts.way c.parts.count c.parts.invariant.few (to-short g k plan ready of top cut c.requires.top (c.parts.part - cut.first) (few-parts g k plan ready of top cut c.requires.top c.parts.part end) (one_way c.parts.way c.parts.count) ways) }
+    let short = one-short c.parts.way c.parts.count c.parts.invariant.few (to-short g k plan ready of top cut c.requires.top (c.parts.part - cut.first) (few-parts g k plan ready of top cut c.requires.top c.parts.part end) (one_way c.parts.way c.parts.count) ways) in
+    record { fits = (omega (arith, short.0), short.1) }
 
-pub offer_cut-returns-clause-best : goal.offer_cut-returns-clause-best
-offer_cut-returns-clause-best t c =
+pub offer_along-returns-clause-best : goal.offer_along-returns-clause-best
+offer_along-returns-clause-best t c =
     let g = c.args.search.now.grammar.now in
     let k = c.args.search.now.input.now in
     let plan = c.args.search.now.plan.now in
@@ -365,19 +382,19 @@ offer_cut-returns-clause-best t c =
     let of = c.requires.search.plan_of in
     let top = c.args.top in
     let cut = c.args.cut.now in
-    let before : AreChoicesOf g k plan top.seat top.place top.from (λ s. RulesBefore g plan s top.number) c.parts.best = subst (AreChoicesOf g k plan top.seat top.place top.from (λ s. RulesBefore g plan s top.number)) (sym c.parts.invariant.same) c.requires.best in
     let ways = (c.parts.invariant.ways c.requires.top).1 in
     let upto = c.parts.auto.part-end in
-    let order = c.requires.top.is.order in
+    let order = c.requires.part.1 in
     let end : c.parts.part ≤ cut.end = upto order in
     let past = c.parts-test.false in
     let last : c.parts.part ≡ cut.end = omega (arith, past, end) in
     let long : length c.parts.best ≡ 5 = search rules in
     let few = c.parts.invariant.few in
-    choices-offered g k plan ready of top cut c.requires.top c.parts.best before _ (λ t. (
+    inl (λ t. (
       one_way c.parts.way c.parts.count,
       to-whole g k plan ready of top cut t c.parts.part last (one_way c.parts.way c.parts.count) (c.parts.invariant.ways t).1,
-      λ b lb. one-offered c.parts.best c.parts.count (omega (arith, few, long)) _ cut top.number c.parts.way c.offer_way.ensures b,
+      λ b lb. one-offered c.parts.best c.parts.count (omega (arith, few, long)) _ cut top.number c.parts.way c.offer_way.ensures b
+          ∙ ap (λ l. nearer_choice (choice_in l b) (topped_choice cut top.number (one_way c.parts.way c.parts.count b))) c.parts.invariant.same,
     ))
 
 -- ---- a fork
@@ -450,14 +467,14 @@ offer_fork-overflow_add-at t c =
     let units = ready.units in
     omega (arith, width, within, most, units)
 
-pub offer_fork-overflow_step-part : goal.offer_fork-overflow_step-part
-offer_fork-overflow_step-part t c =
+pub offer_fork-overflow_add-part : goal.offer_fork-overflow_add-part
+offer_fork-overflow_add-part t c =
     let high = c.requires.part.1 in
     let fits = c.requires.part.2 in
     omega (arith, high, fits)
 
-pub offer_fork-parts-init : goal.offer_fork-parts-init
-offer_fork-parts-init t c =
+pub offer_fork-offer_last-requires : goal.offer_fork-offer_last-requires
+offer_fork-offer_last-requires t c =
     let g = c.args.search.now.grammar.now in
     let k = c.args.search.now.input.now in
     let plan = c.args.search.now.plan.now in
@@ -465,18 +482,13 @@ offer_fork-parts-init t c =
     let of = c.requires.search.plan_of in
     let top = c.args.top in
     let cut = c.args.cut.now in
-    record {
-      known = c.in_ok-join_fork.ensures.known;
-      grows = grows-none c.join_fork.new.self;
-      ways = λ t.
-          let v = c.requires.ways t in
-          let y = part-of g k plan ready of top cut t c.args.fork.part c.index-own.result.now c.args.fork.at c.requires.part.0 c.requires.part.1 c.index-own.ensures v.0 in
-          let same : c.index.result.now ≡ y.seat = c.index.ensures ∙ get_or_from_slice_get plan.seats.items c.index-own.result.now y.seat c.index.result.now y.there in
-          to-next g k plan ready of top cut t c.args.fork.part c.index-own.result.now c.args.fork.at c.index.result.now.width c.requires.part.0 y v.0 (ap (λ (s : Seat). s.width) same) (one_way c.args.fork.way c.args.fork.count) (way_in c.join_fork.new.ways) v.1 c.in_ok-join_fork.ensures.ways;
-    }
+    let v = c.requires.ways c.requires.top in
+    let low = to-low g k plan ready of top cut c.requires.top c.args.fork.part c.requires.part.1 (one_way c.args.fork.way c.args.fork.count) v.1 in
+    and_then (omega (arith, c.decreases)) (and_then c.requires.search (and_then c.requires.top (and_then (c.requires.part.0, c.requires.part.1) (and_then (λ t. (c.requires.ways t).0)
+    (and_then (one-low c.args.fork.way c.args.fork.count c.requires.count low) (and_then c.requires.count c.requires.known))))))
 
-pub offer_fork-over-requires : goal.offer_fork-over-requires
-offer_fork-over-requires t c =
+pub offer_fork-returns-then-part-cut-clause-best : goal.offer_fork-returns-then-part-cut-clause-best
+offer_fork-returns-then-part-cut-clause-best t c =
     let g = c.args.search.now.grammar.now in
     let k = c.args.search.now.input.now in
     let plan = c.args.search.now.plan.now in
@@ -484,14 +496,16 @@ offer_fork-over-requires t c =
     let of = c.requires.search.plan_of in
     let top = c.args.top in
     let cut = c.args.cut.now in
-    let w = c.parts.invariant.ways c.requires.top in
-    let x = part-of g k plan ready of top cut c.requires.top c.parts.part c.index-seat.result.now c.parts.at (omega (arith, c.parts.auto.part, c.requires.part.0)) c.parts-test.true c.index-seat.ensures w.0 in
-    let short = to-short g k plan ready of top cut c.requires.top (c.parts.part - cut.first) x.few (way_in c.parts.ways) w.1 in
-    let less = part-less g k plan ready of top cut c.requires.top c.parts.part c.index-seat.result.now c.parts.at x in
-    and_then (omega (arith, c.decreases, less)) (and_then c.requires.search (and_then (part-place g k plan ready of top cut c.requires.top c.parts.part c.index-seat.result.now c.parts.at x) (and_then nones (and_then short c.parts.invariant.known))))
+    on_ok c.offer_last.result (λ h t.
+    let m = h t in
+    let q = part_at g k plan top cut t c.args.fork.part in
+    let next : ℕ → Option Way = λ b. way_on (Some c.args.fork.way) c.args.fork.count (m.0 b) in
+    let on = one-on (ground_of g k) c.args.fork.at q c.args.fork.way c.args.fork.count c.requires.count m.0 m.1 next (λ b lb. refl) in
+    let v = c.requires.ways t in
+    (next, to-last g k plan ready of top cut t c.args.fork.part c.args.fork.at c.requires.part.0 (omega arith) v.0 (one_way c.args.fork.way c.args.fork.count) next v.1 on, m.2)) c.offer_last.ensures.best
 
-pub offer_fork-index-requires-in-parts : goal.offer_fork-index-requires-in-parts
-offer_fork-index-requires-in-parts t c =
+pub offer_fork-offer_rest-requires : goal.offer_fork-offer_rest-requires
+offer_fork-offer_rest-requires t c =
     let g = c.args.search.now.grammar.now in
     let k = c.args.search.now.input.now in
     let plan = c.args.search.now.plan.now in
@@ -499,13 +513,191 @@ offer_fork-index-requires-in-parts t c =
     let of = c.requires.search.plan_of in
     let top = c.args.top in
     let cut = c.args.cut.now in
-    let w = c.parts.invariant.ways c.requires.top in
-    let x = part-of g k plan ready of top cut c.requires.top c.parts.part c.index-seat.result.now c.parts.at (omega (arith, c.parts.auto.part, c.requires.part.0)) c.parts-test.true c.index-seat.ensures w.0 in
-    let low = slice_get_within plan.seats.items c.index-seat.result.now x.seat x.there in
+    let high = c.requires.part.1 in
+    let first = c.requires.part.0 in
+    let ways : AreWaysTo g k plan top cut (c.args.fork.part + 1) (c.args.fork.at + c.index.result.now.width) (way_in c.join_fork.new.ways) = λ t.
+    let v = c.requires.ways t in
+    let y = part-of g k plan ready of top cut t c.args.fork.part c.index-own.result.now c.args.fork.at c.requires.part.0 c.requires.part.1 c.index-own.ensures v.0 in
+    let same : c.index.result.now ≡ y.seat = c.index.ensures ∙ get_or_from_slice_get plan.seats.items c.index-own.result.now y.seat c.index.result.now y.there in
+    to-next g k plan ready of top cut t c.args.fork.part c.index-own.result.now c.args.fork.at c.index.result.now.width c.requires.part.0 y v.0 (ap (λ (s : Seat). s.width) same) (one_way c.args.fork.way c.args.fork.count) (way_in c.join_fork.new.ways) v.1 c.in_ok-join_fork.ensures.ways in
+    and_then (omega (arith, c.decreases, high)) (and_then c.requires.search (and_then c.requires.top (and_then (omega (arith, first), omega (arith, high), c.requires.part.2) (and_then ways c.in_ok-join_fork.ensures.known))))
+
+pub offer_fork-returns-clause-grows : goal.offer_fork-returns-clause-grows
+offer_fork-returns-clause-grows t c = on_ok c.offer_rest.result (λ more. grows-then c.args.self.now c.join_fork.new.self c.offer_rest.new.self c.in_ok-join_fork.ensures.grows more) c.offer_rest.ensures.grows
+
+-- ---- the last part
+
+pub offer_last-row-requires : goal.offer_last-row-requires
+offer_last-row-requires t c =
+    let g = c.args.search.now.grammar.now in
+    let k = c.args.search.now.input.now in
+    let plan = c.args.search.now.plan.now in
+    let ready = c.requires.search.ready in
+    let of = c.requires.search.plan_of in
+    let top = c.args.top in
+    let cut = c.args.cut.now in
+    let at = c.args.fork.at in
+    let own = c.index-own.result.now in
+    let y = part-of g k plan ready of top cut c.requires.top c.args.fork.part own at c.requires.part.0 c.requires.part.1 c.index-own.ensures (c.requires.begin c.requires.top) in
+    let less = part-less g k plan ready of top cut c.requires.top c.args.fork.part own at y in
+    and_then (omega (arith, c.decreases, less)) (and_then c.requires.search (and_then (slice_get_within plan.seats.items own y.seat y.there)
+    (and_then (λ s there. subst (λ (s : Seat). at + s.width ≤ k.resolution) (seat-same plan own own y.seat s refl y.there there) y.within) (and_then c.requires.count c.requires.known))))
+
+pub offer_last-entries_of-requires : goal.offer_last-entries_of-requires
+offer_last-entries_of-requires t c =
+    let g = c.args.search.now.grammar.now in
+    let k = c.args.search.now.input.now in
+    let plan = c.args.search.now.plan.now in
+    let ready = c.requires.search.ready in
+    let of = c.requires.search.plan_of in
+    let top = c.args.top in
+    let cut = c.args.cut.now in
+    let y = part-of g k plan ready of top cut c.requires.top c.args.fork.part c.index-own.result.now c.args.fork.at c.requires.part.0 c.requires.part.1 c.index-own.ensures (c.requires.begin c.requires.top) in
+    record { within = (c.in_ok-span.ensures.row y.seat y.there).within }
+
+pub offer_last-offer_entries-requires-clause-entries : goal.offer_last-offer_entries-requires-clause-entries
+offer_last-offer_entries-requires-clause-entries t c =
+    let g = c.args.search.now.grammar.now in
+    let k = c.args.search.now.input.now in
+    let plan = c.args.search.now.plan.now in
+    let ready = c.requires.search.ready in
+    let of = c.requires.search.plan_of in
+    let top = c.args.top in
+    let cut = c.args.cut.now in
+    let y = part-of g k plan ready of top cut c.requires.top c.args.fork.part c.index-own.result.now c.args.fork.at c.requires.part.0 c.requires.part.1 c.index-own.ensures (c.requires.begin c.requires.top) in
+    span-entries g k plan ready of c.index-own.result.now y.seat y.there c.row.new.self.entries.items c.args.fork.at c.args.fork.count c.in_ok-span.span
+    (c.in_ok-span.ensures.row y.seat y.there) c.entries_of.result.now c.entries_of.ensures
+
+pub offer_last-returns-clause-best : goal.offer_last-returns-clause-best
+offer_last-returns-clause-best t c = λ t.
+    let g = c.args.search.now.grammar.now in
+    let k = c.args.search.now.input.now in
+    let plan = c.args.search.now.plan.now in
+    let ready = c.requires.search.ready in
+    let of = c.requires.search.plan_of in
+    let top = c.args.top in
+    let cut = c.args.cut.now in
+    let y = part-of g k plan ready of top cut t c.args.fork.part c.index-own.result.now c.args.fork.at c.requires.part.0 c.requires.part.1 c.index-own.ensures (c.requires.begin t) in
+    let ranks = rank_in c.entries_of.result.now 0 in
+    let ranked = span-ranked g k plan ready of c.index-own.result.now y.seat y.there c.row.new.self.entries.items c.args.fork.at c.args.fork.count c.in_ok-span.span
+    (c.in_ok-span.ensures.row y.seat y.there) c.entries_of.result.now c.entries_of.ensures in
+    (ranks, subst (λ q. IsRanked (ground_of g k) c.args.fork.at q c.args.fork.count ranks) y.pair ranked, c.offer_entries.ensures)
+
+-- ---- several ways up to the last part
+
+pub offer_several-counts-init : goal.offer_several-counts-init
+offer_several-counts-init t c = record {
+  known = c.requires.known;
+  grows = grows-none c.args.self.now;
+  offered = λ t.
+      let g = c.args.search.now.grammar.now in
+      let k = c.args.search.now.input.now in
+      let plan = c.args.search.now.plan.now in
+      ((λ b. None), below-none (ground_of g k) c.args.last.at (part_at g k plan c.args.top c.args.cut.now t c.args.last.part) (way_in c.args.ways.now) (λ b. None) (λ b lb. refl), λ b lb. refl);
+}
+
+pub offer_several-offer_last-requires : goal.offer_several-offer_last-requires
+offer_several-offer_last-requires t c =
+    let g = c.args.search.now.grammar.now in
+    let k = c.args.search.now.input.now in
+    let plan = c.args.search.now.plan.now in
+    let ready = c.requires.search.ready in
+    let of = c.requires.search.plan_of in
+    let top = c.args.top in
+    let cut = c.args.cut.now in
+    let last = c.requires.part.1 in
+    let v = c.requires.ways c.requires.top in
+    let count = c.counts-test.true in
+    let high : c.args.last.part < cut.end = omega (arith, last) in
+    let low = to-low g k plan ready of top cut c.requires.top c.args.last.part high (way_in c.args.ways.now) v.1 c.counts.count c.in-Some.way count c.in-Some.is in
+    and_then (omega (arith, c.decreases)) (and_then c.requires.search (and_then c.requires.top (and_then (c.requires.part.0, high) (and_then (λ t. (c.requires.ways t).0)
+    (and_then low (and_then count c.counts.invariant.known))))))
+
+pub offer_several-counts-preserved-in_default : goal.offer_several-counts-preserved-in_default
+offer_several-counts-preserved-in_default t c = record {
+  known = c.counts.invariant.known;
+  grows = c.counts.invariant.grows;
+  offered = λ t.
+      let g = c.args.search.now.grammar.now in
+      let k = c.args.search.now.input.now in
+      let plan = c.args.search.now.plan.now in
+      let d = ground_of g k in
+      let q = part_at g k plan c.args.top c.args.cut.now t c.args.last.part in
+      let m = c.counts.invariant.offered t in (
+        m.0,
+        next-one (λ n. AreWaysBelow d c.args.last.at q (way_in c.args.ways.now) n m.0) c.counts.count
+            (below-skip d c.args.last.at q (way_in c.args.ways.now) c.counts.count m.0 m.0 m.1 (no-way _ c.in_default.not-Some) (λ b lb. refl)),
+        m.2,
+      );
+}
+
+pub offer_several-counts-preserved : goal.offer_several-counts-preserved
+offer_several-counts-preserved t c = record {
+  known = c.in_ok-offer_last.ensures.known;
+  grows = grows-then c.args.self.now c.counts.self c.offer_last.new.self c.counts.invariant.grows c.in_ok-offer_last.ensures.grows;
+  offered = λ t.
+      let g = c.args.search.now.grammar.now in
+      let k = c.args.search.now.input.now in
+      let plan = c.args.search.now.plan.now in
+      let cut = c.args.cut.now in
+      let d = ground_of g k in
+      let q = part_at g k plan c.args.top cut t c.args.last.part in
+      let m = c.counts.invariant.offered t in
+      let h = c.in_ok-offer_last.ensures.best t in
+      let n = c.counts.count in
+      let ways = way_in c.args.ways.now in
+      let next : ℕ → Option Way = λ b. nearer_way (m.0 b) (way_on (ways n) n (h.0 b)) in (
+        next,
+        next-one (λ n. AreWaysBelow d c.args.last.at q ways n next) n (below-more d c.args.last.at q ways n m.0 next m.1 h.0 h.1 (λ b lb. refl)),
+        λ b lb.
+            h.2 b lb ∙ ap (λ o. nearer_choice o (topped_choice cut c.args.top.number (way_on (Some c.in-Some.way) n (h.0 b)))) (m.2 b lb)
+            ∙ nearer-topped cut c.args.top.number (choice_in c.args.best.now b) (m.0 b) (way_on (Some c.in-Some.way) n (h.0 b))
+            ∙ ap (λ o. nearer_choice (choice_in c.args.best.now b) (topped_choice cut c.args.top.number (nearer_way (m.0 b) (way_on o n (h.0 b))))) (sym c.in-Some.is),
+      );
+}
+
+pub offer_several-returns-clause-best : goal.offer_several-returns-clause-best
+offer_several-returns-clause-best t c = λ t.
+    let g = c.args.search.now.grammar.now in
+    let k = c.args.search.now.input.now in
+    let plan = c.args.search.now.plan.now in
+    let ready = c.requires.search.ready in
+    let of = c.requires.search.plan_of in
+    let top = c.args.top in
+    let cut = c.args.cut.now in
+    let d = ground_of g k in
+    let q = part_at g k plan top cut t c.args.last.part in
+    let five : c.counts.count ≡ 5 = omega arith in
+    let m = c.counts.invariant.offered t in
+    let v = c.requires.ways t in
+    let on = below-all d c.args.last.at q (way_in c.args.ways.now) m.0 (subst (λ n. AreWaysBelow d c.args.last.at q (way_in c.args.ways.now) n m.0) five m.1) in
+    (m.0, to-last g k plan ready of top cut t c.args.last.part c.args.last.at c.requires.part.0 c.requires.part.1 v.0 (way_in c.args.ways.now) m.0 v.1 on, m.2)
+
+-- ---- several ways up to a part
+
+pub offer_rest-index-requires : goal.offer_rest-index-requires
+offer_rest-index-requires t c =
+    let g = c.args.search.now.grammar.now in
+    let k = c.args.search.now.input.now in
+    let plan = c.args.search.now.plan.now in
+    let ready = c.requires.search.ready in
+    let of = c.requires.search.plan_of in
+    let top = c.args.top in
+    let cut = c.args.cut.now in
+    let v = c.requires.ways c.requires.top in
+    let own = c.index-seat.result.now in
+    let y = part-of g k plan ready of top cut c.requires.top c.args.next.part own c.args.next.at c.requires.part.0 c.requires.part.1 c.index-seat.ensures v.0 in
+    let low = slice_get_within plan.seats.items own y.seat y.there in
     omega (arith, low)
 
-pub offer_fork-overflow_add-at-in-parts : goal.offer_fork-overflow_add-at-in-parts
-offer_fork-overflow_add-at-in-parts t c =
+pub offer_rest-overflow_add-part : goal.offer_rest-overflow_add-part
+offer_rest-overflow_add-part t c =
+    let high = c.requires.part.1 in
+    let fits = c.requires.part.2 in
+    omega (arith, high, fits)
+
+pub offer_rest-overflow_add-at : goal.offer_rest-overflow_add-at
+offer_rest-overflow_add-at t c =
     let g = c.args.search.now.grammar.now in
     let k = c.args.search.now.input.now in
     let plan = c.args.search.now.plan.now in
@@ -513,17 +705,31 @@ offer_fork-overflow_add-at-in-parts t c =
     let of = c.requires.search.plan_of in
     let top = c.args.top in
     let cut = c.args.cut.now in
-    let w = c.parts.invariant.ways c.requires.top in
-    let x = part-of g k plan ready of top cut c.requires.top c.parts.part c.index-seat.result.now c.parts.at (omega (arith, c.parts.auto.part, c.requires.part.0)) c.parts-test.true c.index-seat.ensures w.0 in
-    let same : c.index-in-parts.result.now ≡ x.seat = c.index-in-parts.ensures ∙ get_or_from_slice_get plan.seats.items c.index-seat.result.now x.seat c.index-in-parts.result.now x.there in
+    let v = c.requires.ways c.requires.top in
+    let own = c.index-seat.result.now in
+    let y = part-of g k plan ready of top cut c.requires.top c.args.next.part own c.args.next.at c.requires.part.0 c.requires.part.1 c.index-seat.ensures v.0 in
+    let same : c.index.result.now ≡ y.seat = c.index.ensures ∙ get_or_from_slice_get plan.seats.items own y.seat c.index.result.now y.there in
     let width = ap (λ (s : Seat). s.width) same in
-    let within = x.within in
+    let within = y.within in
     let most = ready.readable.ranges.few_units in
     let units = ready.units in
     omega (arith, width, within, most, units)
 
-pub offer_fork-parts-preserved : goal.offer_fork-parts-preserved
-offer_fork-parts-preserved t c =
+pub offer_rest-quiet-requires-clause-within : goal.offer_rest-quiet-requires-clause-within
+offer_rest-quiet-requires-clause-within t c =
+    let g = c.args.search.now.grammar.now in
+    let k = c.args.search.now.input.now in
+    let plan = c.args.search.now.plan.now in
+    let own = c.index-seat.result.now in
+    let v = c.requires.ways c.requires.top in
+    let y = part-of g k plan c.requires.search.ready c.requires.search.plan_of c.args.top c.args.cut.now c.requires.top c.args.next.part own c.args.next.at c.requires.part.0 c.requires.part.1 c.index-seat.ensures v.0 in
+    let same : c.index.result.now ≡ y.seat = c.index.ensures ∙ get_or_from_slice_get plan.seats.items own y.seat c.index.result.now y.there in
+    let width = ap (λ (s : Seat). s.width) same in
+    let within = y.within in
+    omega (arith, width, within)
+
+pub offer_rest-rest_of_several-way-requires : goal.offer_rest-rest_of_several-way-requires
+offer_rest-rest_of_several-way-requires t c =
     let g = c.args.search.now.grammar.now in
     let k = c.args.search.now.input.now in
     let plan = c.args.search.now.plan.now in
@@ -531,18 +737,14 @@ offer_fork-parts-preserved t c =
     let of = c.requires.search.plan_of in
     let top = c.args.top in
     let cut = c.args.cut.now in
-    record {
-      known = c.in_ok-over.ensures.known;
-      grows = grows-then c.join_fork.new.self c.parts.self c.over.new.self c.parts.invariant.grows c.in_ok-over.ensures.grows;
-      ways = λ t.
-          let w = c.parts.invariant.ways t in
-          let x = part-of g k plan ready of top cut t c.parts.part c.index-seat.result.now c.parts.at (omega (arith, c.parts.auto.part, c.requires.part.0)) c.parts-test.true c.index-seat.ensures w.0 in
-          let same : c.index-in-parts.result.now ≡ x.seat = c.index-in-parts.ensures ∙ get_or_from_slice_get plan.seats.items c.index-seat.result.now x.seat c.index-in-parts.result.now x.there in
-          to-next g k plan ready of top cut t c.parts.part c.index-seat.result.now c.parts.at c.index-in-parts.result.now.width (omega (arith, c.parts.auto.part, c.requires.part.0)) x w.0 (ap (λ (s : Seat). s.width) same) (way_in c.parts.ways) (way_in c.over.new.next) w.1 c.in_ok-over.ensures.ways;
-    }
+    let v = c.requires.ways c.requires.top in
+    let own = c.index-seat.result.now in
+    let y = part-of g k plan ready of top cut c.requires.top c.args.next.part own c.args.next.at c.requires.part.0 c.requires.part.1 c.index-seat.ensures v.0 in
+    let short = to-short g k plan ready of top cut c.requires.top (c.args.next.part - cut.first) y.few (way_in c.args.ways.now) v.1 in
+    record { search = c.requires.search; seat = slice_get_within plan.seats.items own y.seat y.there; short = short }
 
-pub offer_fork-offer_ways-requires : goal.offer_fork-offer_ways-requires
-offer_fork-offer_ways-requires t c =
+pub offer_rest-offer_alone-requires : goal.offer_rest-offer_alone-requires
+offer_rest-offer_alone-requires t c =
     let g = c.args.search.now.grammar.now in
     let k = c.args.search.now.input.now in
     let plan = c.args.search.now.plan.now in
@@ -550,23 +752,100 @@ offer_fork-offer_ways-requires t c =
     let of = c.requires.search.plan_of in
     let top = c.args.top in
     let cut = c.args.cut.now in
-    let ways = (c.parts.invariant.ways c.requires.top).1 in
+    let own = c.index-seat.result.now in
     let high = c.requires.part.1 in
-    let end : c.parts.part ≤ cut.end = c.parts.auto.part-end (omega (arith, high)) in
-    record { short = to-short g k plan ready of top cut c.requires.top (c.parts.part - cut.first) (few-parts g k plan ready of top cut c.requires.top c.parts.part end) (way_in c.parts.ways) ways }
+    let first = c.requires.part.0 in
+    let next = way_to_none c.rest_of_several-way.result in
+    let ways : AreWaysTo g k plan top cut (c.args.next.part + 1) (c.args.next.at + c.index.result.now.width) next = (λ t.
+    let v = c.requires.ways t in
+    let y = part-of g k plan ready of top cut t c.args.next.part own c.args.next.at c.requires.part.0 c.requires.part.1 c.index-seat.ensures v.0 in
+    let same : c.index.result.now ≡ y.seat = c.index.ensures ∙ get_or_from_slice_get plan.seats.items own y.seat c.index.result.now y.there in
+    to-next g k plan ready of top cut t c.args.next.part own c.args.next.at c.index.result.now.width c.requires.part.0 y v.0 (ap (λ (s : Seat). s.width) same) (way_in c.args.ways.now) (next) v.1 (λ s at.
+    let one : c.index.result.now ≡ s = c.index.ensures ∙ get_or_from_slice_get plan.seats.items own s c.index.result.now at in
+    let calm = subst (λ (s : Seat). IsQuiet c.in-Some.quiet (ground_of g k) c.args.next.at s.width) one (c.in-Some.ensures g ready.units) in
+    c.rest_of_several-way.ensures c.args.next.at s at calm)) in
+    and_then (omega (arith, c.decreases, high)) (and_then c.requires.search (and_then c.requires.top (and_then (omega (arith, first), omega (arith, high)) (and_then ways c.requires.known))))
 
-pub offer_fork-returns-clause-grows : goal.offer_fork-returns-clause-grows
-offer_fork-returns-clause-grows t c = grows-then c.args.self.now c.join_fork.new.self c.parts.self c.in_ok-join_fork.ensures.grows c.parts.invariant.grows
+pub offer_rest-offer_several-requires : goal.offer_rest-offer_several-requires
+offer_rest-offer_several-requires t c =
+    and_then (omega (arith, c.decreases)) (and_then c.requires.search (and_then c.requires.top (and_then (c.requires.part.0, omega arith) (and_then c.requires.ways c.requires.known))))
 
-pub offer_fork-returns-clause-best : goal.offer_fork-returns-clause-best
-offer_fork-returns-clause-best t c = λ t.
+pub offer_rest-over_rows-requires : goal.offer_rest-over_rows-requires
+offer_rest-over_rows-requires t c =
     let g = c.args.search.now.grammar.now in
     let k = c.args.search.now.input.now in
     let plan = c.args.search.now.plan.now in
+    let ready = c.requires.search.ready in
+    let of = c.requires.search.plan_of in
+    let top = c.args.top in
+    let cut = c.args.cut.now in
+    let v = c.requires.ways c.requires.top in
+    let own = c.index-seat.result.now in
+    let y = part-of g k plan ready of top cut c.requires.top c.args.next.part own c.args.next.at c.requires.part.0 c.requires.part.1 c.index-seat.ensures v.0 in
+    let short = to-short g k plan ready of top cut c.requires.top (c.args.next.part - cut.first) y.few (way_in c.args.ways.now) v.1 in
+    let less = part-less g k plan ready of top cut c.requires.top c.args.next.part own c.args.next.at y in
+    and_then (omega (arith, c.decreases, less)) (and_then c.requires.search (and_then (part-place g k plan ready of top cut c.requires.top c.args.next.part own c.args.next.at y) (and_then nones (and_then short c.requires.known))))
+
+pub offer_rest-offer_rest-requires : goal.offer_rest-offer_rest-requires
+offer_rest-offer_rest-requires t c =
+    let g = c.args.search.now.grammar.now in
+    let k = c.args.search.now.input.now in
+    let plan = c.args.search.now.plan.now in
+    let ready = c.requires.search.ready in
+    let of = c.requires.search.plan_of in
+    let top = c.args.top in
+    let cut = c.args.cut.now in
+    let own = c.index-seat.result.now in
     let high = c.requires.part.1 in
-    let end : c.parts.part ≤ c.args.cut.now.end = c.parts.auto.part-end (omega (arith, high)) in
-    let past = c.parts-test.false in
-    (way_in c.parts.ways, to-whole g k plan c.requires.search.ready c.requires.search.plan_of c.args.top c.args.cut.now t c.parts.part (omega (arith, past, end)) (way_in c.parts.ways) (c.parts.invariant.ways t).1, c.offer_ways.ensures)
+    let first = c.requires.part.0 in
+    let next = way_in c.over_rows.new.next in
+    let ways : AreWaysTo g k plan top cut (c.args.next.part + 1) (c.args.next.at + c.index.result.now.width) next = (λ t.
+    let v = c.requires.ways t in
+    let y = part-of g k plan ready of top cut t c.args.next.part own c.args.next.at c.requires.part.0 c.requires.part.1 c.index-seat.ensures v.0 in
+    let same : c.index.result.now ≡ y.seat = c.index.ensures ∙ get_or_from_slice_get plan.seats.items own y.seat c.index.result.now y.there in
+    to-next g k plan ready of top cut t c.args.next.part own c.args.next.at c.index.result.now.width c.requires.part.0 y v.0 (ap (λ (s : Seat). s.width) same) (way_in c.args.ways.now) (next) v.1 (c.in_ok-over_rows-in-None.ensures.ways)) in
+    and_then (omega (arith, c.decreases, high)) (and_then c.requires.search (and_then c.requires.top (and_then (omega (arith, first), omega (arith, high), c.requires.part.2) (and_then ways c.in_ok-over_rows-in-None.ensures.known))))
+
+pub offer_rest-returns-in_ok-over_rows-in-None-clause-grows : goal.offer_rest-returns-in_ok-over_rows-in-None-clause-grows
+offer_rest-returns-in_ok-over_rows-in-None-clause-grows t c = on_ok c.offer_rest.result (λ more. grows-then c.args.self.now c.over_rows.new.self c.offer_rest.new.self c.in_ok-over_rows-in-None.ensures.grows more) c.offer_rest.ensures.grows
+
+-- ---- one way alone, where there is one
+
+pub offer_alone-returns-in_default-clause-best : goal.offer_alone-returns-in_default-clause-best
+offer_alone-returns-in_default-clause-best t c = λ t.
+    let g = c.args.search.now.grammar.now in
+    let k = c.args.search.now.input.now in
+    let plan = c.args.search.now.plan.now in
+    let ready = c.requires.search.ready in
+    let of = c.requires.search.plan_of in
+    let top = c.args.top in
+    let cut = c.args.cut.now in
+    let v = c.requires.ways t in
+    let none = ways-same (ground_of g k) top.place (parts_of g k plan top cut t) top.from (c.args.next.part - cut.first) (way_to_none None) (λ b. None) (λ b lb. refl)
+    (subst (λ o. AreWays (ground_of g k) top.place (parts_of g k plan top cut t) top.from (c.args.next.part - cut.first) (way_to_none o)) (no-way c.args.way c.in_default.not-Some) v.1) in
+    ((λ b. None), to-nowhere g k plan ready of top cut t c.args.next.part c.requires.part.1 none, λ b lb. refl)
+
+pub offer_alone-offer_along-requires : goal.offer_alone-offer_along-requires
+offer_alone-offer_along-requires t c =
+    let g = c.args.search.now.grammar.now in
+    let k = c.args.search.now.input.now in
+    let plan = c.args.search.now.plan.now in
+    let ready = c.requires.search.ready in
+    let of = c.requires.search.plan_of in
+    let top = c.args.top in
+    let cut = c.args.cut.now in
+    let ways : AreWaysTo g k plan top cut c.args.next.part c.args.next.at (one_way c.in-Some.way 0) = λ t. (
+      (c.requires.ways t).0,
+      ways-same (ground_of g k) top.place (parts_of g k plan top cut t) top.from (c.args.next.part - cut.first) (way_to_none (Some c.in-Some.way)) (one_way c.in-Some.way 0) (λ b lb. refl)
+          (subst (λ o. AreWays (ground_of g k) top.place (parts_of g k plan top cut t) top.from (c.args.next.part - cut.first) (way_to_none o)) c.in-Some.is (c.requires.ways t).1),
+    ) in
+    and_then (omega (arith, c.decreases)) (and_then c.requires.search (and_then c.requires.top (and_then c.requires.part (and_then (omega arith) (and_then ways c.requires.known)))))
+
+pub offer_alone-returns-clause-best : goal.offer_alone-returns-clause-best
+offer_alone-returns-clause-best t c = on_ok c.offer_along.result (λ h. elim h [
+  | inl offered ↦ offered
+  | inr passed ↦ λ t. let over = (passed.1 t).4 in absurd (cc over)
+]) c.offer_along.ensures.best
 
 -- ---- the cuts of a seat
 

@@ -1,41 +1,53 @@
-use Rattle.std.proofs.Common.{◌≡◌, ◌+◌, ◌*◌, ◌<◌}
+use Rattle.std.proofs.Common.{◌≡◌, ◌+◌, ◌-◌, ◌*◌, ◌<◌}
 use Rattle.least_rows.specs.Choices.{RulesBefore}
 use Rattle.least_rows.specs.Ways.{one_way, way_in}
 use Rattle.least_rows.specs.Places.{width_at}
 use Rattle.least_rows.specs.States.{AreKnown, Grows}
 use Rattle.least_rows.specs.Steps.{AreChoicesOf, AreWaysOverBelow}
-use Rattle.least_rows.specs.Tops.{AreWaysTo}
+use Rattle.least_rows.specs.Tops.{AreOfferedBelow, AreWaysTo}
 use Rattle.least_rows.proofs.rows.Rows.+rows.Given as goal
 
 abbrev pub decreases-find_row : goal.decreases-find_row
-decreases-find_row l = 16 * width_at l.search.now.plan.now l.seat + 3
+decreases-find_row l = 64 * width_at l.search.now.plan.now l.seat + 57
 
 abbrev pub decreases-join_row : goal.decreases-join_row
-decreases-join_row l = 16 * width_at l.search.now.plan.now l.seat + 5
+decreases-join_row l = 64 * width_at l.search.now.plan.now l.seat + 59
 
 abbrev pub decreases-join_fork : goal.decreases-join_fork
-decreases-join_fork l = 16 * width_at l.search.now.plan.now l.seat + 5
+decreases-join_fork l = 64 * width_at l.search.now.plan.now l.seat + 59
 
 abbrev pub decreases-lead : goal.decreases-lead
-decreases-lead l = 16 * width_at l.search.now.plan.now l.seat + 5
+decreases-lead l = 64 * width_at l.search.now.plan.now l.seat + 59
 
 abbrev pub decreases-offer_cut : goal.decreases-offer_cut
-decreases-offer_cut l = 16 * width_at l.search.now.plan.now l.top.seat + 1
+decreases-offer_cut l = 64 * width_at l.search.now.plan.now l.top.seat + 55
 
 abbrev pub decreases-offer_cuts : goal.decreases-offer_cuts
-decreases-offer_cuts l = 16 * width_at l.search.now.plan.now l.seat + 2
+decreases-offer_cuts l = 64 * width_at l.search.now.plan.now l.seat + 56
 
 abbrev pub decreases-offer_fork : goal.decreases-offer_fork
-decreases-offer_fork l = 16 * width_at l.search.now.plan.now l.top.seat
+decreases-offer_fork l = 64 * width_at l.search.now.plan.now l.top.seat + 3 * (l.cut.now.end - l.fork.part) + 1
 
-abbrev pub decreases-over : goal.decreases-over
-decreases-over l = 16 * width_at l.search.now.plan.now l.seat + 7
+abbrev pub decreases-offer_along : goal.decreases-offer_along
+decreases-offer_along l = 64 * width_at l.search.now.plan.now l.top.seat + 3 * (l.cut.now.end - l.start.part) + 2
+
+abbrev pub decreases-offer_rest : goal.decreases-offer_rest
+decreases-offer_rest l = 64 * width_at l.search.now.plan.now l.top.seat + 3 * (l.cut.now.end - l.next.part) + 3
+
+abbrev pub decreases-offer_alone : goal.decreases-offer_alone
+decreases-offer_alone l = 64 * width_at l.search.now.plan.now l.top.seat + 3 * (l.cut.now.end - l.next.part) + 3
+
+abbrev pub decreases-offer_several : goal.decreases-offer_several
+decreases-offer_several l = 64 * width_at l.search.now.plan.now l.top.seat + 1
+
+abbrev pub decreases-offer_last : goal.decreases-offer_last
+decreases-offer_last l = 64 * width_at l.search.now.plan.now l.top.seat
 
 abbrev pub decreases-over_rows : goal.decreases-over_rows
-decreases-over_rows l = 16 * width_at l.search.now.plan.now l.seat + 6
+decreases-over_rows l = 64 * width_at l.search.now.plan.now l.seat + 60
 
 abbrev pub decreases-row : goal.decreases-row
-decreases-row l = 16 * width_at l.search.now.plan.now l.seat + 4
+decreases-row l = 64 * width_at l.search.now.plan.now l.seat + 58
 
 abbrev pub invariant-offer_cuts-cuts : goal.invariant-offer_cuts-cuts
 invariant-offer_cuts-cuts l = record {
@@ -44,8 +56,8 @@ invariant-offer_cuts-cuts l = record {
   best : AreChoicesOf l.search.grammar.now l.search.input.now l.search.plan.now l.seat l.place l.from (λ s. RulesBefore l.search.grammar.now l.search.plan.now s l.number) l.best;
 }
 
-abbrev pub invariant-offer_cut-parts : goal.invariant-offer_cut-parts
-invariant-offer_cut-parts l = record {
+abbrev pub invariant-offer_along-parts : goal.invariant-offer_along-parts
+invariant-offer_along-parts l = record {
   known : AreKnown l.search.grammar.now l.search.input.now l.search.plan.now l.self;
   grows : Grows l.initial.self l.self;
   same : l.best ≡ l.initial.best;
@@ -53,11 +65,11 @@ invariant-offer_cut-parts l = record {
   ways : AreWaysTo l.search.grammar.now l.search.input.now l.search.plan.now l.top l.cut l.part l.at (one_way l.way l.count);
 }
 
-abbrev pub invariant-offer_fork-parts : goal.invariant-offer_fork-parts
-invariant-offer_fork-parts l = record {
+abbrev pub invariant-offer_several-counts : goal.invariant-offer_several-counts
+invariant-offer_several-counts l = record {
   known : AreKnown l.search.grammar.now l.search.input.now l.search.plan.now l.self;
   grows : Grows l.initial.self l.self;
-  ways : AreWaysTo l.search.grammar.now l.search.input.now l.search.plan.now l.top l.cut l.part l.at (way_in l.ways);
+  offered : AreOfferedBelow l.search.grammar.now l.search.input.now l.search.plan.now l.top l.cut l.last.part l.last.at (way_in l.ways) l.count l.initial.best l.best;
 }
 
 abbrev pub invariant-over_rows-counts : goal.invariant-over_rows-counts
