@@ -19,3 +19,4 @@ pub mod RootRows
 pub mod Limits
 pub mod Tops
 pub mod NextCut
+pub mod ListCopies
