@@ -20,3 +20,4 @@ pub mod Limits
 pub mod Tops
 pub mod NextCut
 pub mod ToppedWays
+pub mod ListCopies

@@ -6,12 +6,12 @@ use Rattle.std.proofs.lemmas.List.{drop-append-le, get_or-set_other, get_or-set_
 use Rattle.grammar_plan.specs.Plans.{between}
 use Rattle.least_rows.specs.WrittenLists.{AreWritten, IsPlaced, end_of, first_of, list_of}
 
-between-more : (rules more : List ℕ) (a b : ℕ) → a ≤ b → b ≤ length rules → between (rules ++ more) a b ≡ between rules a b
+pub between-more : (rules more : List ℕ) (a b : ℕ) → a ≤ b → b ≤ length rules → between (rules ++ more) a b ≡ between rules a b
 between-more rules more a b order within =
     let rest = length-drop a rules in
     ap (take (b - a)) (drop-append-le a rules more (omega (arith, order, within))) ∙ take-append-le (b - a) (drop a rules) more (omega (arith, rest, within))
 
-between-new : (rules more : List ℕ) → between (rules ++ more) (length rules) (length (rules ++ more)) ≡ more
+pub between-new : (rules more : List ℕ) → between (rules ++ more) (length rules) (length (rules ++ more)) ≡ more
 between-new rules more =
     let long = length-append rules more in
     let count : length (rules ++ more) - length rules ≡ length more = omega (arith, long) in

@@ -8,5 +8,6 @@ pub mod Roots
 pub mod Searches
 pub mod States
 pub mod Steps
+pub mod Texts
 pub mod Tops
 pub mod WrittenLists

@@ -20,6 +20,7 @@ mod rows;
 mod search;
 mod settled;
 mod state;
+mod texts;
 mod top;
 mod tree_at;
 mod way;

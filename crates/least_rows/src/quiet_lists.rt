@@ -1,5 +1,6 @@
 ghost use Rattle.grammar_plan.specs.Plans.{IsPlan, pair_of};
 ghost use Rattle.grammar_plan.specs.declared.seat.Seat.{Seat};
+ghost use Rattle.least_rows.specs.Texts.{IsLonger};
 ghost use Rattle.rhythm_base.specs.Ranked.{Key};
 ghost use Rattle.row_laws.specs.QuietTrees.{IsQuietLeast};
 ghost use Rattle.std.specs.Prelude.{◌≡◌, ◌<◌, ◌++◌, OnOk, Some, length, slice_get};
@@ -22,7 +23,8 @@ pub fn write_quiet(
     requires plan { IsPlan grammar.now plan.now }
     requires seat { seat < length plan.now.seats.items }
     requires from { from < 5 }
-    ensures { OnOk result ((s : Seat) (k : Key) → slice_get plan.now.seats.items seat ≡ Some s → IsQuietLeast grammar.now quiet (pair_of s) from (Some k)
+    ensures grows { OnOk result (IsLonger list.old.items list.new.items) }
+    ensures list { OnOk result ((s : Seat) (k : Key) → slice_get plan.now.seats.items seat ≡ Some s → IsQuietLeast grammar.now quiet (pair_of s) from (Some k)
         → list.new.items ≡ list.old.items ++ k.1) }
 {
     let Some(tree) = plan.quiet_tree(grammar, seat, quiet, from) else {

@@ -8,6 +8,7 @@ use crate::quiet_bar::quiet_bar;
 use crate::roots::{quiet_trees_of, trees_of};
 use crate::rows::Rows;
 use crate::search::Search;
+use crate::texts::Texts;
 use crate::written_lists::WrittenLists;
 use bar_view::View;
 use grammar_plan::Plan;
@@ -19,6 +20,7 @@ use std::alloc::{AllocError, Global};
 pub struct Room {
     view: View,
     rows: Rows,
+    texts: Texts,
     /// The least trees of the last bar.
     pub trees: BarTrees,
 }
@@ -29,6 +31,7 @@ impl Room {
         Room {
             view: View::new(alloc),
             rows: Rows::new(alloc),
+            texts: Texts::new(alloc),
             trees: BarTrees {
                 bests: BarBests::none(),
                 lists: WrittenLists::new(alloc),
@@ -60,7 +63,13 @@ impl Room {
             input,
             view: &self.view,
         };
-        trees_of(&mut self.rows, &search, root, &mut self.trees)
+        trees_of(
+            &mut self.rows,
+            &search,
+            root,
+            &mut self.texts,
+            &mut self.trees,
+        )
     }
 }
 

@@ -1,8 +1,9 @@
 ghost use Rattle.grammar_plan.specs.Plans.{HasSeat, IsPlan};
 ghost use Rattle.least_rows.specs.BarTrees.{AreBarTrees};
-ghost use Rattle.least_rows.specs.Roots.{AreRootBests, IsBestIn, IsOnlyTree, IsRootBest, IsRootList, IsRootListAt};
+ghost use Rattle.least_rows.specs.Roots.{AreRootBests, AreRootRows, IsBestIn, IsOnlyTree, IsRootBest, IsRootList, IsRootListAt};
 ghost use Rattle.least_rows.specs.Searches.{IsSearch};
 ghost use Rattle.least_rows.specs.States.{AreKnown};
+ghost use Rattle.least_rows.specs.Texts.{AreTexts};
 ghost use Rattle.least_rows.specs.WrittenLists.{AreWritten, number_of};
 ghost use Rattle.row_laws.specs.Grounds.{IsReady, ground_of};
 ghost use Rattle.row_laws.specs.QuietTrees.{IsQuiet};
@@ -13,6 +14,7 @@ use crate::entry::Entry;
 use crate::quiet_lists::write_quiet;
 use crate::rows::Rows;
 use crate::search::Search;
+use crate::texts::Texts;
 use crate::tree_at::TreeAt;
 use crate::write::{entries_of, place_in, write};
 use crate::written_lists::WrittenLists;
@@ -26,6 +28,7 @@ pub fn trees_of(
     rows: &mut Rows,
     search: &Search<'_>,
     root: u32,
+    texts: &mut Texts,
     trees: &mut BarTrees,
 ) -> Result<(), AllocError>
     requires search { IsSearch search.now.grammar.now search.now.input.now search.now.plan.now search.now.view.now }
@@ -35,10 +38,54 @@ pub fn trees_of(
 {
     trees.bests = BarBests::none();
     trees.lists.clear();
+    find_bests(rows, search, root, &mut trees.bests)?;
+    texts.clear(rows.entries.len())?;
+    write_rows(rows, search, root, &trees.bests, texts, &mut trees.lists)
+}
+
+/// The costs and the ranks of the root's rows.
+fn find_bests(
+    rows: &mut Rows,
+    search: &Search<'_>,
+    root: u32,
+    bests: &mut BarBests,
+) -> Result<(), AllocError>
+    requires search { IsSearch search.now.grammar.now search.now.input.now search.now.plan.now search.now.view.now }
+    requires root { HasSeat search.now.plan.now root (search.now.input.now.resolution, search.now.input.now.symbol) }
+    requires known { AreKnown search.now.grammar.now search.now.input.now search.now.plan.now rows.old }
+    requires long { length bests.old.rows ≡ 5 }
+    ensures known { OnOk result (AreKnown search.now.grammar.now search.now.input.now search.now.plan.now rows.new) }
+    ensures long { OnOk result (length bests.new.rows ≡ 5) }
+    ensures bests { OnOk result (AreRootRows search.now.grammar.now search.now.input.now 5 bests.new.rows) }
+{
     'counts: for from in 0..5u8 {
         let row = root_bests(rows, search, root, from)?;
-        write_lists(rows, search, root, from, &row, &mut trees.lists)?;
-        trees.bests.rows[from as usize] = row;
+        bests.rows[from as usize] = row;
+    }
+    Ok(())
+}
+
+/// Writes the rule lists of the root's rows.
+fn write_rows(
+    rows: &mut Rows,
+    search: &Search<'_>,
+    root: u32,
+    bests: &BarBests,
+    texts: &mut Texts,
+    lists: &mut WrittenLists,
+) -> Result<(), AllocError>
+    requires search { IsSearch search.now.grammar.now search.now.input.now search.now.plan.now search.now.view.now }
+    requires root { HasSeat search.now.plan.now root (search.now.input.now.resolution, search.now.input.now.symbol) }
+    requires long { length bests.now.rows ≡ 5 }
+    requires bests { AreRootRows search.now.grammar.now search.now.input.now 5 bests.now.rows }
+    requires known { AreKnown search.now.grammar.now search.now.input.now search.now.plan.now rows.old }
+    requires texts { AreTexts search.now.grammar.now search.now.input.now search.now.plan.now lists.old.rules.items texts.old }
+    requires written { AreWritten (IsRootListAt search.now.grammar.now search.now.input.now) lists.old.rules.items lists.old.ends 0 }
+    ensures { OnOk result (AreWritten (IsRootListAt search.now.grammar.now search.now.input.now) lists.new.rules.items lists.new.ends 25) }
+{
+    'counts: for from in 0..5u8 {
+        let row = bests.rows[from as usize];
+        write_lists(rows, search, root, from, &row, texts, lists)?;
     }
     Ok(())
 }
@@ -175,6 +222,7 @@ fn write_lists(
     root: u32,
     from: u8,
     bests: &[Option<Best>; 5],
+    texts: &mut Texts,
     lists: &mut WrittenLists,
 ) -> Result<(), AllocError>
     requires search { IsSearch search.now.grammar.now search.now.input.now search.now.plan.now search.now.view.now }
@@ -182,7 +230,9 @@ fn write_lists(
     requires from { from < 5 }
     requires bests { AreRootBests search.now.grammar.now search.now.input.now from bests.now }
     requires known { AreKnown search.now.grammar.now search.now.input.now search.now.plan.now rows.old }
+    requires texts { AreTexts search.now.grammar.now search.now.input.now search.now.plan.now lists.old.rules.items texts.old }
     requires written { AreWritten (IsRootListAt search.now.grammar.now search.now.input.now) lists.old.rules.items lists.old.ends (number_of from 0) }
+    ensures texts { OnOk result (AreTexts search.now.grammar.now search.now.input.now search.now.plan.now lists.new.rules.items texts.new) }
     ensures known { OnOk result (AreKnown search.now.grammar.now search.now.input.now search.now.plan.now rows.new) }
     ensures written { OnOk result (AreWritten (IsRootListAt search.now.grammar.now search.now.input.now) lists.new.rules.items lists.new.ends (number_of from 5)) }
 {
@@ -193,7 +243,14 @@ fn write_lists(
             from,
             to,
         };
-        write_list(rows, search, tree, bests[to as usize], &mut lists.rules)?;
+        write_list(
+            rows,
+            search,
+            tree,
+            bests[to as usize],
+            texts,
+            &mut lists.rules,
+        )?;
         lists.end(from, to)?;
     }
     Ok(())
@@ -205,6 +262,7 @@ fn write_list(
     search: &Search<'_>,
     tree: TreeAt,
     best: Option<Best>,
+    texts: &mut Texts,
     rules: &mut Vec<u16>,
 ) -> Result<(), AllocError>
     requires search { IsSearch search.now.grammar.now search.now.input.now search.now.plan.now search.now.view.now }
@@ -214,11 +272,13 @@ fn write_list(
     requires to { tree.to < 5 }
     requires best { IsRootBest search.now.grammar.now search.now.input.now tree.from tree.to best }
     requires known { AreKnown search.now.grammar.now search.now.input.now search.now.plan.now rows.old }
+    requires texts { AreTexts search.now.grammar.now search.now.input.now search.now.plan.now rules.old.items texts.old }
     ensures known { OnOk result (AreKnown search.now.grammar.now search.now.input.now search.now.plan.now rows.new) }
+    ensures texts { OnOk result (AreTexts search.now.grammar.now search.now.input.now search.now.plan.now rules.new.items texts.new) }
     ensures list { OnOk result ((more : List ℕ) × (rules.new.items ≡ rules.old.items ++ more) × IsRootList search.now.grammar.now search.now.input.now tree.from tree.to more) }
 {
     let Some(_best) = best else {
         return Ok(());
     };
-    write(rows, search, tree, rules)
+    write(rows, search, tree, texts, rules)
 }

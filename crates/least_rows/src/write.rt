@@ -3,6 +3,7 @@ ghost use Rattle.grammar_plan.specs.declared.seat.Seat.{Seat};
 ghost use Rattle.least_rows.specs.Parts.{ArePartsOf, AreSeatsOf, IsLeg};
 ghost use Rattle.least_rows.specs.Searches.{IsSearch};
 ghost use Rattle.least_rows.specs.States.{AreKnown};
+ghost use Rattle.least_rows.specs.Texts.{AreTexts, IsLonger};
 ghost use Rattle.rhythm_base.specs.Bodies.{sizes};
 ghost use Rattle.rhythm_base.specs.Ranked.{Key};
 ghost use Rattle.rhythm_laws.specs.Forests.{IsForestKey};
@@ -17,6 +18,7 @@ use crate::quiet_lists::write_quiet;
 use crate::rows::Rows;
 use crate::search::Search;
 use crate::state::RowSpan;
+use crate::texts::Texts;
 use crate::tree_at::TreeAt;
 use std::alloc::{AllocError, Global};
 
@@ -36,22 +38,31 @@ pub fn place_in(row: &[Entry], to: u8) -> Option<usize>
     row.iter().position(|entry| entry.to == to)
 }
 
-/// The entry of a row for a number carried out.
-fn entry_in(row: &[Entry], to: u8) -> Option<Entry>
-    ensures { MatchOption result (position (λ e. e.to == to) row.now ≡ None) (λ e. (i : ℕ) × (position (λ e. e.to == to) row.now ≡ Some i) × (e ≡ slice_index_or row.now i e)) }
-{
-    match place_in(row, to) {
-        None => None,
-        Some(at) => Some(row[at]),
-    }
+/// An entry of a row, and its place there.
+#[derive(Clone, Copy)]
+struct Found {
+    place: usize,
+    entry: Entry,
 }
 
-/// Writes the rules of a least tree.
+/// The entry of a row for a number carried out.
+fn entry_in(row: &[Entry], to: u8) -> Option<Found>
+    ensures { MatchOption result (position (λ e. e.to == to) row.now ≡ None) (λ x. (position (λ e. e.to == to) row.now ≡ Some x.place) × (x.entry ≡ slice_index_or row.now x.place x.entry)) }
+{
+    let place = place_in(row, to)?;
+    Some(Found {
+        place,
+        entry: row[place],
+    })
+}
+
+/// Writes the rules of a least tree. Those of a tree that was written before are copied.
 #[cycle(lists)]
 pub fn write(
     rows: &mut Rows,
     search: &Search<'_>,
     tree: TreeAt,
+    texts: &mut Texts,
     list: &mut Vec<u16>,
 ) -> Result<(), AllocError>
     requires search { IsSearch search.now.grammar.now search.now.input.now search.now.plan.now search.now.view.now }
@@ -59,7 +70,10 @@ pub fn write(
     requires within { (s : Seat) → slice_get search.now.plan.now.seats.items tree.seat ≡ Some s → tree.place + s.width ≤ search.now.input.now.resolution }
     requires from { tree.from < 5 }
     requires known { AreKnown search.now.grammar.now search.now.input.now search.now.plan.now rows.old }
+    requires texts { AreTexts search.now.grammar.now search.now.input.now search.now.plan.now list.old.items texts.old }
     ensures known { OnOk result (AreKnown search.now.grammar.now search.now.input.now search.now.plan.now rows.new) }
+    ensures texts { OnOk result (AreTexts search.now.grammar.now search.now.input.now search.now.plan.now list.new.items texts.new) }
+    ensures grows { OnOk result (IsLonger list.old.items list.new.items) }
     ensures list { OnOk result ((s : Seat) (k : Key) → slice_get search.now.plan.now.seats.items tree.seat ≡ Some s
         → IsLeastKey (IsForestKey (ground_of search.now.grammar.now search.now.input.now) None tree.place (pair_of s ∷ []) tree.from tree.to) (Some k)
         → list.new.items ≡ list.old.items ++ k.1) }
@@ -70,13 +84,20 @@ pub fn write(
         return write_quiet(search.grammar, plan, quiet, tree.seat, tree.from, list);
     }
     let span = rows.row(search, tree.seat, tree.place, tree.from)?;
-    let Some(entry) = entry_in(entries_of(rows, span), tree.to) else {
+    let Some(found) = entry_in(entries_of(rows, span), tree.to) else {
         return Ok(());
     };
-    list.push(entry.rule)?;
+    let entry = found.entry;
     let Some(number) = entry.cut else {
+        list.push(entry.rule)?;
         return Ok(());
     };
+    let slot = span.first as usize + found.place;
+    if let Some(text) = texts.find(slot, tree) {
+        return list.extend_from_within(text.first as usize..text.end as usize);
+    }
+    let first = list.as_slice().len();
+    list.push(entry.rule)?;
     let cut = &plan.cuts[number as usize];
     let parts = Parts {
         first: cut.first,
@@ -90,7 +111,9 @@ pub fn write(
         way: entry.way,
         to: entry.to,
     };
-    write_parts(rows, search, parts, leg, list)?;
+    write_parts(rows, search, parts, leg, texts, list)?;
+    let end = list.as_slice().len();
+    texts.keep(slot, tree, first, end);
     Ok(())
 }
 
@@ -101,13 +124,17 @@ fn write_parts(
     search: &Search<'_>,
     parts: Parts,
     leg: Leg,
+    texts: &mut Texts,
     list: &mut Vec<u16>,
 ) -> Result<u16, AllocError>
     requires search { IsSearch search.now.grammar.now search.now.input.now search.now.plan.now search.now.view.now }
     requires parts { ArePartsOf search.now.plan.now parts }
     requires leg { IsLeg search.now.grammar.now search.now.input.now search.now.plan.now parts leg }
     requires known { AreKnown search.now.grammar.now search.now.input.now search.now.plan.now rows.old }
+    requires texts { AreTexts search.now.grammar.now search.now.input.now search.now.plan.now list.old.items texts.old }
     ensures known { OnOk result (AreKnown search.now.grammar.now search.now.input.now search.now.plan.now rows.new) }
+    ensures texts { OnOk result (AreTexts search.now.grammar.now search.now.input.now search.now.plan.now list.new.items texts.new) }
+    ensures grows { OnOk result (IsLonger list.old.items list.new.items) }
     ensures place { IfOk result (λ p. (qs : List (ℕ × ℕ)) → AreSeatsOf search.now.plan.now parts qs → p ≡ leg.place + sizes (take (leg.end - parts.first) qs)) }
     ensures list { OnOk result ((qs : List (ℕ × ℕ)) (xs : List ℕ) → AreSeatsOf search.now.plan.now parts qs
         → IsWayList (ground_of search.now.grammar.now search.now.input.now) leg.place qs leg.from (leg.end - parts.first) leg.way leg.to xs
@@ -124,7 +151,7 @@ fn write_parts(
         to: from,
         ..leg
     };
-    let place = write_parts(rows, search, parts, earlier, list)?;
+    let place = write_parts(rows, search, parts, earlier, texts, list)?;
     let seat = search.plan.parts[part as usize];
     let tree = TreeAt {
         seat,
@@ -132,6 +159,6 @@ fn write_parts(
         from,
         to: leg.to,
     };
-    write(rows, search, tree, list)?;
+    write(rows, search, tree, texts, list)?;
     Ok(place + search.plan.seats[seat as usize].width)
 }

@@ -8,6 +8,7 @@ use Rattle.row_laws.specs.QuietTrees.{IsQuietLeast, IsQuietList}
 use Rattle.row_laws.specs.declared.quiet.Quiet.{Quiet}
 use Rattle.least_rows.proofs.PlanSeats.{parts-first}
 use Rattle.least_rows.proofs.QuietLists.{quiet_cut, quiet_cut_of, quiet_leaf, quiet_none, quiet_part, quiet_parts}
+use Rattle.least_rows.proofs.ListCopies.{longer-later, longer-same}
 use Rattle.least_rows.proofs.quiet_lists.+quiet_lists.Goals as goal
 
 and_then : {A B : Type 0} → A → B → A × B
@@ -20,12 +21,20 @@ nothing_left plan g quiet a b from (r ∷ rs) ys list over seats made =
     let none : b - a ≡ 0 = omega (arith, over) in
     absurd (subst (λ ns. HaveSeats plan ns (r ∷ rs)) (ap (λ n. take n (drop a plan.parts.items)) none) seats)
 
-pub returns-in_default : goal.returns-in_default
-returns-in_default t c s k at least =
+pub returns-in_default-clause-grows : goal.returns-in_default-clause-grows
+returns-in_default-clause-grows t c = longer-same c.args.list.now.items
+
+pub returns-in_default-clause-list : goal.returns-in_default-clause-list
+returns-in_default-clause-list t c s k at least =
     absurd (quiet_none c.args.grammar.now c.args.plan.now c.requires.plan c.args.quiet c.args.seat c.args.from s at c.in_default.ensures k least)
 
-pub returns-in_default-cut : goal.returns-in_default-cut
-returns-in_default-cut t c s k at least =
+pub returns-in_default-cut-clause-grows : goal.returns-in_default-cut-clause-grows
+returns-in_default-cut-clause-grows t c =
+    let pushed : c.push.new.self.items ≡ c.args.list.now.items ++ c.in-Some.tree.rule ∷ [] = search rules in
+    (c.in-Some.tree.rule ∷ [], pushed)
+
+pub returns-in_default-cut-clause-list : goal.returns-in_default-cut-clause-list
+returns-in_default-cut-clause-list t c s k at least =
     let pushed : c.push.new.self.items ≡ c.args.list.now.items ++ c.in-Some.tree.rule ∷ [] = search rules in
     pushed ∙ ap (λ l. c.args.list.now.items ++ l) (sym (quiet_leaf c.args.grammar.now c.args.plan.now c.requires.plan c.args.quiet c.args.seat c.args.from s at c.in-Some.tree c.in-Some.ensures c.in_default-cut.is k least))
 
@@ -41,7 +50,7 @@ index-cut-requires t c =
     ]
 
 pub parts-init : goal.parts-init
-parts-init t c = record { order = omega arith; carried = c.requires.from; rest = λ qs xs seats list. (qs, xs, seats, list, refl) }
+parts-init t c = record { order = omega arith; carried = c.requires.from; grows = longer-same c.push.new.self.items; rest = λ qs xs seats list. (qs, xs, seats, list, refl) }
 
 pub index-requires : goal.index-requires
 index-requires t c =
@@ -64,10 +73,11 @@ parts-preserved t c =
     let old = c.parts.invariant in
     let low = old.order in
     let own = quiet_cut_of g plan c.requires.plan c.args.quiet c.args.seat c.args.from c.requires.seat c.in-Some.tree c.in-Some.ensures c.in-Some-cut.number c.in-Some-cut.is c.index-cut.result.now c.index-cut.ensures in
-    let first = c.in_ok-write_quiet.ensures in
+    let first = c.in_ok-write_quiet.ensures.list in
     record {
       order = omega (arith, low);
       carried = omega arith;
+      grows = longer-later c.push.new.self.items c.parts.list.items c.write_quiet.new.list.items old.grows c.in_ok-write_quiet.ensures.grows;
       rest = λ qs xs seats list.
           let left = old.rest qs xs seats list in
           let one = parts-first plan (record { first = c.parts.part; end = c.index-cut.result.now.end; width = 0 }) left.0 c.index.result.now c.parts-test.true own.2.within left.2 in
@@ -77,8 +87,13 @@ parts-preserved t c =
           (one.1, made.1, one.4, made.3, ap (λ l. l ++ made.1) here ∙ append_assoc c.parts.list.items made.0.1 made.1 ∙ ap (λ l. c.parts.list.items ++ l) (sym made.4) ∙ left.4);
     }
 
-pub returns : goal.returns
-returns t c s k at least =
+pub returns-clause-grows : goal.returns-clause-grows
+returns-clause-grows t c =
+    let pushed : c.push.new.self.items ≡ c.args.list.now.items ++ c.in-Some.tree.rule ∷ [] = search rules in
+    longer-later c.args.list.now.items c.push.new.self.items c.parts.list.items (c.in-Some.tree.rule ∷ [], pushed) c.parts.invariant.grows
+
+pub returns-clause-list : goal.returns-clause-list
+returns-clause-list t c s k at least =
     let g = c.args.grammar.now in
     let plan = c.args.plan.now in
     let cut = c.index-cut.result.now in

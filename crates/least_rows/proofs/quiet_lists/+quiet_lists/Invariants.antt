@@ -1,6 +1,7 @@
 use Rattle.std.proofs.Common.{◌≡◌, ◌<◌, ◌≤◌, ◌++◌, ℕ, List}
 use Rattle.row_laws.specs.QuietTrees.{IsQuietList}
 use Rattle.grammar_plan.specs.Plans.{HaveSeats, between}
+use Rattle.least_rows.specs.Texts.{IsLonger}
 use Rattle.least_rows.proofs.PlanSeats.{seat_measure}
 use Rattle.least_rows.proofs.quiet_lists.+quiet_lists.Given as goal
 
@@ -9,6 +10,7 @@ abbrev pub invariant-parts : goal.invariant-parts
 invariant-parts l = record {
   order : l.initial.part ≤ l.part;
   carried : l.carried < 5;
+  grows : IsLonger l.initial.list.items l.list.items;
   rest : (qs : List (ℕ × ℕ)) (xs : List ℕ) → HaveSeats l.plan (between l.plan.parts.items l.initial.part l.part-end) qs → IsQuietList l.grammar l.quiet qs l.fn.from xs
       → (rs : List (ℕ × ℕ)) × (ys : List ℕ) × HaveSeats l.plan (between l.plan.parts.items l.part l.part-end) rs × IsQuietList l.grammar l.quiet rs l.carried ys × (l.list.items ++ ys ≡ l.initial.list.items ++ xs);
 }

@@ -21,4 +21,4 @@ returns c =
     only-some c.args.grammar.now c.args.input.now c.requires.ready c.args.plan.now c.args.quiet c.args.from c.requires.quiet c.in-Some.tree
     (subst (λ q. IsQuietTree c.args.grammar.now c.args.plan.now c.args.quiet q c.args.from (Some c.in-Some.tree)) seat.2 (c.in-Some.ensures seat.0 seat.1))
     c.args.rules.now.items c.write_quiet.new.list.items
-    (λ key least. c.in_ok-write_quiet.ensures seat.0 key seat.1 (subst (λ q. IsQuietLeast c.args.grammar.now c.args.quiet q c.args.from (Some key)) (sym seat.2) least))
+    (λ key least. c.in_ok-write_quiet.ensures.list seat.0 key seat.1 (subst (λ q. IsQuietLeast c.args.grammar.now c.args.quiet q c.args.from (Some key)) (sym seat.2) least))

@@ -1,31 +1,13 @@
-use Rattle.std.proofs.Common.{rules, ◌≡◌, ◌+◌, refl, ◌∙◌, subst, arith}
-use Rattle.std.proofs.lemmas.List.{length-set}
-use Rattle.least_rows.specs.Roots.{AreRootRows, IsRootListAt}
-use Rattle.least_rows.specs.WrittenLists.{AreWritten, number_of}
-use Rattle.least_rows.proofs.RootRows.{bar-trees, rows-next}
+use Rattle.std.proofs.Common.{refl}
+use Rattle.least_rows.proofs.PlanSeats.{on_ok}
+use Rattle.least_rows.proofs.RootRows.{bar-trees}
 use Rattle.least_rows.proofs.roots.trees_of.Goals as goal
 
-pub counts-preserved : goal.counts-preserved
-counts-preserved c =
-    let g = c.args.search.now.grammar.now in
-    let k = c.args.search.now.input.now in
-    let from = c.counts.from in
-    let old = c.counts.invariant in
-    let row = c.in_ok-row.row in
-    let next : number_of from 5 ≡ number_of (from + 1) 0 = omega arith in
-    record {
-      known = c.in_ok-write_lists.ensures.known;
-      long = length-set c.counts.trees.bests.rows from row ∙ old.long;
-      rows = rows-next g k from c.counts.trees.bests.rows row old.long c.counts-test.true old.rows c.in_ok-row.ensures.bests;
-      written = subst (AreWritten (IsRootListAt g k) c.write_lists.new.lists.rules.items c.write_lists.new.lists.ends) next c.in_ok-write_lists.ensures.written;
-    }
+pub write_rows-requires-clause-texts : goal.write_rows-requires-clause-texts
+write_rows-requires-clause-texts c t has = absurd (c.in_ok-clear.ensures t has)
 
 pub returns : goal.returns
 returns c =
-    let g = c.args.search.now.grammar.now in
-    let k = c.args.search.now.input.now in
-    let own = c.counts.invariant in
-    let trees = c.counts.trees in
-    let all : c.counts.from ≡ 5 = search rules in
-    bar-trees g k trees.bests.rows (subst (λ n. AreRootRows g k n trees.bests.rows) all own.rows) trees own.long refl
-    (subst (λ n. AreWritten (IsRootListAt g k) trees.lists.rules.items trees.lists.ends (number_of n 0)) all own.written)
+    on_ok c.write_rows.result
+    (λ h. bar-trees c.args.search.now.grammar.now c.args.search.now.input.now c.find_bests.new.bests.rows c.in_ok-find_bests.ensures.bests (record { bests = c.find_bests.new.bests; lists = c.write_rows.new.lists }) c.in_ok-find_bests.ensures.long refl h)
+    c.write_rows.ensures

@@ -1,5 +1,6 @@
 use Rattle.std.proofs.Common.{◌≡◌, ◌+◌, suc, refl, sym, subst, arith}
 use Rattle.least_rows.specs.Roots.{IsRootListAt}
+use Rattle.least_rows.specs.Texts.{AreTexts}
 use Rattle.least_rows.specs.WrittenLists.{AreWritten, number_of}
 use Rattle.least_rows.proofs.ListEnds.{written-next}
 use Rattle.least_rows.proofs.RootRows.{root-list-of, row-best}
@@ -22,6 +23,7 @@ counts-preserved c =
     (root-list-of g k from to (number_of from to) more.0 c.counts-test.true more.2 refl) next in
     record {
       known = c.in_ok-write_list.ensures.known;
+      texts = subst (λ l. AreTexts g k c.args.search.now.plan.now l c.write_list.new.texts) (sym c.in_ok-end.ensures.rules) c.in_ok-write_list.ensures.texts;
       written = subst (λ l. AreWritten (IsRootListAt g k) l c.end.new.self.ends (number_of from (to + 1))) (sym c.in_ok-end.ensures.rules)
           (subst (λ e. AreWritten (IsRootListAt g k) later e (number_of from (to + 1))) (sym c.in_ok-end.ensures.ends) here);
     }

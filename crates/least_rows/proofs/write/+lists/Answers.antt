@@ -1,11 +1,12 @@
-use Rattle.std.proofs.Common.{rules, ◌≡◌, ◌==◌, ◌+◌, ◌-◌, ◌<◌, ◌≤◌, ◌++◌, [], ◌∷◌, ℕ, suc, length, position, slice_get, take, ◌%◌, arith, refl, sym, ap, ◌∙◌, subst, get_or, append_assoc}
-use Rattle.std.specs.Prelude.{Some, None}
+use Rattle.std.proofs.Common.{rules, ◌≡◌, ◌==◌, ◌+◌, ◌-◌, ◌<◌, ◌≤◌, ◌++◌, [], ◌∷◌, ℕ, suc, length, position, slice_get, take, ◌%◌, arith, refl, sym, ap, ◌∙◌, subst, get_or, drop, append_assoc, List}
+use Rattle.std.specs.Prelude.{Some, None, vec_len}
+use Rattle.std.proofs.lemmas.List.{length-take}
 use Rattle.std.proofs.lemmas.Option.{get_or_from_slice_get, slice_get_within, slice_get_read}
 use Rattle.rhythm_base.specs.Bodies.{children, sizes}
 use Rattle.rhythm_laws.specs.Forests.{IsForestKey}
 use Rattle.rhythm_laws.specs.Tables.{IsLeastKey}
 use Rattle.row_laws.specs.Grounds.{ground_of}
-use Rattle.grammar_plan.specs.Plans.{HasSeat, pair_of}
+use Rattle.grammar_plan.specs.Plans.{HasSeat, between, pair_of}
 use Rattle.grammar_plan.specs.declared.seat.Seat.{Seat}
 use Rattle.least_rows.specs.Entries.{IsRow}
 use Rattle.least_rows.specs.States.{IsRowAt}
@@ -15,6 +16,8 @@ use Rattle.rhythm_base.proofs.Positions.{position-within}
 use Rattle.row_laws.specs.QuietTrees.{IsQuiet}
 use Rattle.least_rows.proofs.PlanSeats.{has_seat-pair, has_seat-within, on_ok, one_at, parts_lower, seat_lower, seat_of}
 use Rattle.least_rows.proofs.WayLists.{cut_along, cut_leg, cut_parts, entry_list, entry_made, entry_there, last_narrow, last_seat, last_sizes, made_cut, made_leaf, made_there, quiet-key, way_step}
+use Rattle.least_rows.specs.Texts.{IsLonger}
+use Rattle.least_rows.proofs.ListCopies.{longer-later, longer-same, on_appended, text-list, texts-kept, texts-longer}
 use Rattle.least_rows.proofs.write.+lists.Goals as goal
 
 and_then : {A B : Type 0} → A → B → A × B
@@ -32,7 +35,11 @@ write-returns-in-Some-clause-list t c =
     let same : c.index.result.now ≡ s = one_at plan.seats.items c.args.tree.seat c.index.result.now s at at_s in
     let here : IsQuiet c.in-Some.quiet (ground_of g k) c.args.tree.place s.width = subst (λ (s : Seat). IsQuiet c.in-Some.quiet (ground_of g k) c.args.tree.place s.width) same (calm g c.requires.search.ready.units) in
     h s key at_s (quiet-key g k plan c.requires.search.ready c.requires.search.plan_of c.in-Some.quiet c.args.tree.seat s at_s c.requires.seat c.args.tree.place c.args.tree.from c.args.tree.to c.requires.from here key least))
-    c.write_quiet.ensures
+    c.write_quiet.ensures.list
+
+pub write-returns-in-Some-clause-texts : goal.write-returns-in-Some-clause-texts
+write-returns-in-Some-clause-texts t c =
+    on_ok c.write_quiet.result (texts-longer c.args.search.now.grammar.now c.args.search.now.input.now c.args.search.now.plan.now c.args.list.now.items c.write_quiet.new.list.items c.args.texts.now c.requires.texts) c.write_quiet.ensures.grows
 
 pub write-entries_of-requires : goal.write-entries_of-requires
 write-entries_of-requires t c =
@@ -53,30 +60,86 @@ write-returns-in_default-entry_in-clause-list t c s key at least =
     let none : position (λ (e : Entry). e.to == c.args.tree.to) c.entries_of.result.now ≡ None = c.in_default-entry_in.ensures in
     absurd (entry_there (ground_of g k) plan c.args.tree.place (pair_of s) c.args.tree.from c.entries_of.result.now own c.args.tree.to key least none)
 
+pub write-returns-in_default-entry_in-clause-grows : goal.write-returns-in_default-entry_in-clause-grows
+write-returns-in_default-entry_in-clause-grows t c = longer-same c.args.list.now.items
+
+pub write-returns-in_default-cut-clause-texts : goal.write-returns-in_default-cut-clause-texts
+write-returns-in_default-cut-clause-texts t c =
+    let pushed : c.push.new.self.items ≡ c.args.list.now.items ++ c.in-Some-entry_in.found.entry.rule ∷ [] = search rules in
+    texts-longer c.args.search.now.grammar.now c.args.search.now.input.now c.args.search.now.plan.now c.args.list.now.items c.push.new.self.items c.args.texts.now c.requires.texts (c.in-Some-entry_in.found.entry.rule ∷ [], pushed)
+
+pub write-returns-in_default-cut-clause-grows : goal.write-returns-in_default-cut-clause-grows
+write-returns-in_default-cut-clause-grows t c =
+    let pushed : c.push.new.self.items ≡ c.args.list.now.items ++ c.in-Some-entry_in.found.entry.rule ∷ [] = search rules in
+    (c.in-Some-entry_in.found.entry.rule ∷ [], pushed)
+
 pub write-returns-in_default-cut-clause-list : goal.write-returns-in_default-cut-clause-list
 write-returns-in_default-cut-clause-list t c s key at least =
     let g = c.args.search.now.grammar.now in
     let k = c.args.search.now.input.now in
     let plan = c.args.search.now.plan.now in
-    let e = c.in-Some-entry_in.entry in
+    let e = c.in-Some-entry_in.found.entry in
     let row : (s : Seat) → slice_get plan.seats.items c.args.tree.seat ≡ Some s → IsRowAt g k plan c.row.new.self.entries.items c.args.tree.place (pair_of s) c.args.tree.from c.in_ok-span.span = c.in_ok-span.ensures.row in
     let own = subst (IsRow (ground_of g k) plan c.args.tree.place (pair_of s) c.args.tree.from) (sym c.entries_of.ensures) (row s at).row in
-    let found : (i : ℕ) × (position (λ (e : Entry). e.to == c.args.tree.to) c.entries_of.result.now ≡ Some i) × (e ≡ get_or c.entries_of.result.now i e) = c.in-Some-entry_in.ensures in
+    let found : (i : ℕ) × (position (λ (e : Entry). e.to == c.args.tree.to) c.entries_of.result.now ≡ Some i) × (e ≡ get_or c.entries_of.result.now i e) = (c.in-Some-entry_in.found.place, c.in-Some-entry_in.ensures.0, c.in-Some-entry_in.ensures.1) in
     let made = entry_made (ground_of g k) plan c.args.tree.place (pair_of s) c.args.tree.from c.entries_of.result.now own c.args.tree.to key least found.0 e found.1 found.2 in
     let pushed : c.push.new.self.items ≡ c.args.list.now.items ++ e.rule ∷ [] = search rules in
     pushed ∙ ap (λ l. c.args.list.now.items ++ l) (sym (made_leaf (ground_of g k) plan c.args.tree.place (pair_of s) c.args.tree.from e.rule e.cut e.way e.to key.1 made c.in_default-cut.is))
+
+pub write-overflow_add-slot : goal.write-overflow_add-slot
+write-overflow_add-slot t c =
+    let g = c.args.search.now.grammar.now in
+    let k = c.args.search.now.input.now in
+    let plan = c.args.search.now.plan.now in
+    let at : slice_get plan.seats.items c.args.tree.seat ≡ Some c.index.result.now = slice_get_read plan.seats.items (length plan.seats.items) c.args.tree.seat c.index.result.now refl c.requires.seat c.index.ensures in
+    let row : (s : Seat) → slice_get plan.seats.items c.args.tree.seat ≡ Some s → IsRowAt g k plan c.row.new.self.entries.items c.args.tree.place (pair_of s) c.args.tree.from c.in_ok-span.span = c.in_ok-span.ensures.row in
+    let few = (row c.index.result.now at).few in
+    let low = position-within (λ (e : Entry). e.to == c.args.tree.to) c.entries_of.result.now c.in-Some-entry_in.found.place c.in-Some-entry_in.ensures.0 in
+    let long : length c.entries_of.result.now ≡ length (between c.row.new.self.entries.items c.in_ok-span.span.first (c.in_ok-span.span.first + c.in_ok-span.span.count)) = ap length c.entries_of.ensures in
+    let short = length-take (c.in_ok-span.span.first + c.in_ok-span.span.count - c.in_ok-span.span.first) (drop c.in_ok-span.span.first c.row.new.self.entries.items) in
+    omega (arith, few, low, long, short)
+
+pub write-extend_from_within-requires : goal.write-extend_from_within-requires
+write-extend_from_within-requires t c =
+    let own = c.requires.texts c.in-Some-find.text c.in-Some-find.ensures.0 in
+    let order = own.order in
+    let within = own.within in
+    let long : vec_len c.args.list.now ≡ length c.args.list.now.items = search rules in
+    record { start_le_end = order; in_bounds = omega (arith, within, long); not_exhausted = tt }
+
+pub write-returns-in-Some-find-clause-texts : goal.write-returns-in-Some-find-clause-texts
+write-returns-in-Some-find-clause-texts t c =
+    let old = c.args.list.now.items in
+    let more = between old c.in-Some-find.text.first c.in-Some-find.text.end in
+    on_ok c.extend_from_within.result
+    (λ h. texts-longer c.args.search.now.grammar.now c.args.search.now.input.now c.args.search.now.plan.now old c.extend_from_within.new.self.items c.args.texts.now c.requires.texts (more, h))
+    (on_appended c.extend_from_within.result old c.extend_from_within.new.self.items more c.extend_from_within.ensures.items)
+
+pub write-returns-in-Some-find-clause-grows : goal.write-returns-in-Some-find-clause-grows
+write-returns-in-Some-find-clause-grows t c =
+    let old = c.args.list.now.items in
+    let more = between old c.in-Some-find.text.first c.in-Some-find.text.end in
+    on_ok c.extend_from_within.result (λ h. (more, h)) (on_appended c.extend_from_within.result old c.extend_from_within.new.self.items more c.extend_from_within.ensures.items)
+
+pub write-returns-in-Some-find-clause-list : goal.write-returns-in-Some-find-clause-list
+write-returns-in-Some-find-clause-list t c =
+    let old = c.args.list.now.items in
+    let text = c.in-Some-find.text in
+    let more = between old text.first text.end in
+    let is = text-list c.args.search.now.grammar.now c.args.search.now.input.now c.args.search.now.plan.now old c.args.texts.now c.args.tree text c.requires.texts c.in-Some-find.ensures.0 c.in-Some-find.ensures.1 in
+    on_ok c.extend_from_within.result (λ h s key at least. h ∙ ap (λ l. old ++ l) (is s key at least)) (on_appended c.extend_from_within.result old c.extend_from_within.new.self.items more c.extend_from_within.ensures.items)
 
 pub write-index-cut-requires : goal.write-index-cut-requires
 write-index-cut-requires t c =
     let g = c.args.search.now.grammar.now in
     let k = c.args.search.now.input.now in
     let plan = c.args.search.now.plan.now in
-    let e = c.in-Some-entry_in.entry in
+    let e = c.in-Some-entry_in.found.entry in
     let s = c.index.result.now in
     let at : slice_get plan.seats.items c.args.tree.seat ≡ Some s = slice_get_read plan.seats.items (length plan.seats.items) c.args.tree.seat s refl c.requires.seat c.index.ensures in
     let row : (s : Seat) → slice_get plan.seats.items c.args.tree.seat ≡ Some s → IsRowAt g k plan c.row.new.self.entries.items c.args.tree.place (pair_of s) c.args.tree.from c.in_ok-span.span = c.in_ok-span.ensures.row in
     let own = subst (IsRow (ground_of g k) plan c.args.tree.place (pair_of s) c.args.tree.from) (sym c.entries_of.ensures) (row s at).row in
-    let found : (i : ℕ) × (position (λ (e : Entry). e.to == c.args.tree.to) c.entries_of.result.now ≡ Some i) × (e ≡ get_or c.entries_of.result.now i e) = c.in-Some-entry_in.ensures in
+    let found : (i : ℕ) × (position (λ (e : Entry). e.to == c.args.tree.to) c.entries_of.result.now ≡ Some i) × (e ≡ get_or c.entries_of.result.now i e) = (c.in-Some-entry_in.found.place, c.in-Some-entry_in.ensures.0, c.in-Some-entry_in.ensures.1) in
     let low = position-within (λ (e : Entry). e.to == c.args.tree.to) c.entries_of.result.now found.0 found.1 in
     let made = entry_list (ground_of g k) plan c.args.tree.place (pair_of s) c.args.tree.from c.entries_of.result.now own found.0 e low found.2 in
     let cut = made_there (ground_of g k) plan c.args.tree.place (pair_of s) c.args.tree.from e.rule e.cut c.in-Some-cut.number e.way e.to made.0 made.1 c.in-Some-cut.is in
@@ -88,12 +151,12 @@ write-write_parts-requires t c =
     let g = c.args.search.now.grammar.now in
     let k = c.args.search.now.input.now in
     let plan = c.args.search.now.plan.now in
-    let e = c.in-Some-entry_in.entry in
+    let e = c.in-Some-entry_in.found.entry in
     let s = c.index.result.now in
     let at : slice_get plan.seats.items c.args.tree.seat ≡ Some s = slice_get_read plan.seats.items (length plan.seats.items) c.args.tree.seat s refl c.requires.seat c.index.ensures in
     let row : (s : Seat) → slice_get plan.seats.items c.args.tree.seat ≡ Some s → IsRowAt g k plan c.row.new.self.entries.items c.args.tree.place (pair_of s) c.args.tree.from c.in_ok-span.span = c.in_ok-span.ensures.row in
     let own = subst (IsRow (ground_of g k) plan c.args.tree.place (pair_of s) c.args.tree.from) (sym c.entries_of.ensures) (row s at).row in
-    let found : (i : ℕ) × (position (λ (e : Entry). e.to == c.args.tree.to) c.entries_of.result.now ≡ Some i) × (e ≡ get_or c.entries_of.result.now i e) = c.in-Some-entry_in.ensures in
+    let found : (i : ℕ) × (position (λ (e : Entry). e.to == c.args.tree.to) c.entries_of.result.now ≡ Some i) × (e ≡ get_or c.entries_of.result.now i e) = (c.in-Some-entry_in.found.place, c.in-Some-entry_in.ensures.0, c.in-Some-entry_in.ensures.1) in
     let low = position-within (λ (e : Entry). e.to == c.args.tree.to) c.entries_of.result.now found.0 found.1 in
     let list = entry_list (ground_of g k) plan c.args.tree.place (pair_of s) c.args.tree.from c.entries_of.result.now own found.0 e low found.2 in
     let there = made_there (ground_of g k) plan c.args.tree.place (pair_of s) c.args.tree.from e.rule e.cut c.in-Some-cut.number e.way e.to list.0 list.1 c.in-Some-cut.is in
@@ -103,30 +166,48 @@ write-write_parts-requires t c =
     let within = c.requires.within s at in
     let few : c.index-cut.result.now.end ≤ length plan.parts.items = made.cut.within in
     let lower = parts_lower plan c.args.tree.seat s.width (c.index-cut.result.now.end - c.index-cut.result.now.first) s at refl (omega (arith, few)) in
+    let pushed : c.push-2.new.self.items ≡ c.args.list.now.items ++ e.rule ∷ [] = search rules in
     and_then (omega (arith, lower, c.decreases))
     (and_then c.requires.search
     (and_then (cut_parts g k plan s c.args.tree.place c.args.tree.from e.rule e.way e.to list.0 c.index-cut.result.now wide within made)
-    (and_then (cut_leg g k plan s c.args.tree.place c.args.tree.from e.rule e.way e.to list.0 c.index-cut.result.now wide within made) c.in_ok-span.ensures.known)))
+    (and_then (cut_leg g k plan s c.args.tree.place c.args.tree.from e.rule e.way e.to list.0 c.index-cut.result.now wide within made)
+    (and_then c.in_ok-span.ensures.known (texts-longer g k plan c.args.list.now.items c.push-2.new.self.items c.args.texts.now c.requires.texts (e.rule ∷ [], pushed))))))
+
+longer : (old mid new : List ℕ) (rule : ℕ) → mid ≡ old ++ rule ∷ [] → IsLonger mid new → IsLonger old new
+longer old mid new rule pushed later = longer-later old mid new (rule ∷ [], pushed) later
 
 pub write-returns-clause-list : goal.write-returns-clause-list
 write-returns-clause-list t c s key at least =
     let g = c.args.search.now.grammar.now in
     let k = c.args.search.now.input.now in
     let plan = c.args.search.now.plan.now in
-    let e = c.in-Some-entry_in.entry in
+    let e = c.in-Some-entry_in.found.entry in
     let cut = c.index-cut.result.now in
     let row : (s : Seat) → slice_get plan.seats.items c.args.tree.seat ≡ Some s → IsRowAt g k plan c.row.new.self.entries.items c.args.tree.place (pair_of s) c.args.tree.from c.in_ok-span.span = c.in_ok-span.ensures.row in
     let own = subst (IsRow (ground_of g k) plan c.args.tree.place (pair_of s) c.args.tree.from) (sym c.entries_of.ensures) (row s at).row in
-    let found : (i : ℕ) × (position (λ (e : Entry). e.to == c.args.tree.to) c.entries_of.result.now ≡ Some i) × (e ≡ get_or c.entries_of.result.now i e) = c.in-Some-entry_in.ensures in
+    let found : (i : ℕ) × (position (λ (e : Entry). e.to == c.args.tree.to) c.entries_of.result.now ≡ Some i) × (e ≡ get_or c.entries_of.result.now i e) = (c.in-Some-entry_in.found.place, c.in-Some-entry_in.ensures.0, c.in-Some-entry_in.ensures.1) in
     let made = entry_made (ground_of g k) plan c.args.tree.place (pair_of s) c.args.tree.from c.entries_of.result.now own c.args.tree.to key least found.0 e found.1 found.2 in
     let there = made_there (ground_of g k) plan c.args.tree.place (pair_of s) c.args.tree.from e.rule e.cut c.in-Some-cut.number e.way e.to key.1 made c.in-Some-cut.is in
     let cut_at : slice_get plan.cuts.items c.in-Some-cut.number ≡ Some cut = there.1 ∙ ap Some (sym (get_or_from_slice_get plan.cuts.items c.in-Some-cut.number there.0 cut there.1) ∙ sym c.index-cut.ensures) in
     let made_so = made_cut (ground_of g k) plan c.args.tree.place (pair_of s) c.args.tree.from e.rule e.cut c.in-Some-cut.number e.way e.to key.1 cut made c.in-Some-cut.is cut_at in
     let wide = (seat_of g plan c.requires.search.plan_of c.args.tree.seat s at).wide in
     let along = cut_along g k plan s c.args.tree.place c.args.tree.from e.rule e.way e.to key.1 cut wide (c.requires.within s at) made_so in
-    let pushed : c.push.new.self.items ≡ c.args.list.now.items ++ e.rule ∷ [] = search rules in
-    let below : c.write_parts.new.list.items ≡ c.push.new.self.items ++ made_so.below = c.in_ok-write_parts.ensures.list (children made_so.cut.rule.body s.width) made_so.below made_so.cut.parts along in
+    let pushed : c.push-2.new.self.items ≡ c.args.list.now.items ++ e.rule ∷ [] = search rules in
+    let below : c.write_parts.new.list.items ≡ c.push-2.new.self.items ++ made_so.below = c.in_ok-write_parts.ensures.list (children made_so.cut.rule.body s.width) made_so.below made_so.cut.parts along in
     below ∙ ap (λ l. l ++ made_so.below) pushed ∙ append_assoc c.args.list.now.items (e.rule ∷ []) made_so.below ∙ ap (λ l. c.args.list.now.items ++ l) (sym made_so.whole)
+
+pub write-returns-clause-texts : goal.write-returns-clause-texts
+write-returns-clause-texts t c =
+    let before = c.args.list.now.items in
+    let rules = c.write_parts.new.list.items in
+    let pushed : c.push-2.new.self.items ≡ before ++ c.in-Some-entry_in.found.entry.rule ∷ [] = c.in_ok-push-2.ensures.items in
+    let grown = longer before c.push-2.new.self.items rules c.in-Some-entry_in.found.entry.rule pushed c.in_ok-write_parts.ensures.grows in
+    texts-kept c.args.search.now.grammar.now c.args.search.now.input.now c.args.search.now.plan.now before rules (length c.as_slice-first.result.now) (length c.as_slice-end.result.now) c.args.tree c.write_parts.new.texts c.keep.new.self (ap length c.as_slice-first.ensures.value) (ap length c.as_slice-end.ensures.value) grown (write-returns-clause-list t c) c.in_ok-write_parts.ensures.texts c.keep.ensures
+
+pub write-returns-clause-grows : goal.write-returns-clause-grows
+write-returns-clause-grows t c =
+    let pushed : c.push-2.new.self.items ≡ c.args.list.now.items ++ c.in-Some-entry_in.found.entry.rule ∷ [] = c.in_ok-push-2.ensures.items in
+    longer c.args.list.now.items c.push-2.new.self.items c.write_parts.new.list.items c.in-Some-entry_in.found.entry.rule pushed c.in_ok-write_parts.ensures.grows
 
 pub write_parts-write_parts-requires : goal.write_parts-write_parts-requires
 write_parts-write_parts-requires t c =
@@ -148,7 +229,7 @@ write_parts-write_parts-requires t c =
       within = omega (arith, within, more);
       list = step.earlier;
       way = step.before;
-    }) c.requires.known)))
+    }) (and_then c.requires.known c.requires.texts))))
 
 pub write_parts-write-requires : goal.write_parts-write-requires
 write_parts-write-requires t c =
@@ -173,7 +254,7 @@ write_parts-write-requires t c =
     let lower = seat_lower plan n c.args.parts.width (c.args.leg.end - c.args.parts.first) q seat narrow in
     and_then (omega (arith, lower, c.decreases)) (and_then c.requires.search (and_then (has_seat-within plan n q seat)
     (and_then (λ s at. let wide : s.width ≡ q.0 = ap (λ (q : ℕ × ℕ). q.0) (has_seat-pair plan n q s seat at) in omega (arith, wide, place, within, more))
-    (and_then step.digit c.in_ok-place.ensures.known))))
+    (and_then step.digit (and_then c.in_ok-place.ensures.known c.in_ok-place.ensures.texts)))))
 
 pub write_parts-index-requires : goal.write_parts-index-requires
 write_parts-index-requires t c =
@@ -212,6 +293,9 @@ write_parts-overflow_add-result t c =
     let place : c.in_ok-place.place ≡ c.args.leg.place + sizes (take (c.args.leg.end - 1 - c.args.parts.first) leg.seats) = c.in_ok-place.ensures.place leg.seats leg.are in
     let few : k.resolution ≤ 960 = c.requires.search.ready.cell.few_units in
     omega (arith, wide, more, within, place, few)
+
+pub write_parts-returns-clause-grows : goal.write_parts-returns-clause-grows
+write_parts-returns-clause-grows t c = longer-later c.args.list.now.items c.write_parts.new.list.items c.write.new.list.items c.in_ok-place.ensures.grows c.in_ok-write.ensures.grows
 
 pub write_parts-returns-clause-place : goal.write_parts-returns-clause-place
 write_parts-returns-clause-place t c qs are =
