@@ -61,21 +61,28 @@ fn are_within(length: u64, chords: &[Inner]) -> bool
     true
 }
 
-/// A bar of 4/4 with so many chords, with nothing carried into it.
-pub fn bar_of(alloc: Global, resolution: u16, count: u32) -> Result<Option<BarInput>, AllocError>
-    ensures { IfOk result (λ o. IfSome o (λ b. b.resolution ≡ resolution)) }
+/// A bar of 4/4 with these chords, with nothing carried into it; none where they are not in order or do not lie in it.
+pub fn bar_with(resolution: u16, chords: Vec<Inner>) -> Option<BarInput>
+    ensures { IfSome result (λ b. b.resolution ≡ resolution) }
 {
-    let chords = chords_of(alloc, count)?;
     let length = LENGTH as u64;
     if resolution >= 1
         && resolution <= 960
         && are_rising(0, chords.as_slice())
         && are_within(length, chords.as_slice())
     {
-        Ok(Some(BarInput::make(0, resolution, 4, 4, length, chords, 0, None)))
+        Some(BarInput::make(0, resolution, 4, 4, length, chords, 0, None))
     } else {
-        Ok(None)
+        None
     }
+}
+
+/// A bar of 4/4 with so many chords, with nothing carried into it.
+pub fn bar_of(alloc: Global, resolution: u16, count: u32) -> Result<Option<BarInput>, AllocError>
+    ensures { IfOk result (λ o. IfSome o (λ b. b.resolution ≡ resolution)) }
+{
+    let chords = chords_of(alloc, count)?;
+    Ok(bar_with(resolution, chords))
 }
 
 /// So many bars like that.

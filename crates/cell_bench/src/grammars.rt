@@ -4,6 +4,7 @@ ghost use Rattle.std.specs.Prelude.{◌<◌, IfOk};
 use grammar_file::{GrammarWhat, read_grammar};
 use rhythm_base::Grammar;
 use std::alloc::{AllocError, Global};
+use std::fs;
 use std::io::{self, ErrorKind};
 
 /// The grammars of the benchmark.
@@ -187,13 +188,31 @@ impl Group {
         ensures { IfOk result IsReadable }
     {
         let text = self.text(alloc)?;
-        if text.len() > 1_000_000 {
-            return Err(io::Error::from(ErrorKind::InvalidData));
-        }
-        match read_grammar(alloc, &text) {
-            Ok(grammar) => Ok(grammar),
-            Err(fault) => Err(io::Error::from(kind_of(fault.what))),
-        }
+        grammar_in(alloc, &text)
+    }
+}
+
+/// The grammar that a text says.
+fn grammar_in(alloc: Global, text: &[u8]) -> io::Result<Grammar>
+    ensures { IfOk result IsReadable }
+{
+    if text.len() > 1_000_000 {
+        return Err(io::Error::from(ErrorKind::InvalidData));
+    }
+    match read_grammar(alloc, text) {
+        Ok(grammar) => Ok(grammar),
+        Err(fault) => Err(io::Error::from(kind_of(fault.what))),
+    }
+}
+
+/// The grammar of the group of that name, or else of the file at that path.
+pub fn grammar_named(rt: &HostRuntime, name: &str) -> io::Result<Grammar>
+    ensures { IfOk result IsReadable }
+{
+    let alloc = rt.alloc();
+    match Group::named(name) {
+        Some(group) => group.grammar(alloc),
+        None => grammar_in(alloc, &fs::read(rt, name)?),
     }
 }
 

@@ -4,19 +4,31 @@
 //! tables are those of so many equal bars, and are built by so many workers, 1 to 16. With the word `alternatives` before the
 //! three the 16 best trees of the bar are listed so often in place of its table, with nothing round it, and with the word
 //! `carried` between bars to which chords may be carried.
+//!
+//! The words DRAW GRAMMAR CELLS WORKERS build the tables of so many bars whose chords are drawn, by `beats` or `sixteenths`, with
+//! the grammar of a group or of a file, and print the sum of their costs. The words DRAW GRAMMAR CELLS WORK TIMES make the chain
+//! over such tables, up to 4,096, and then so often a `new` one, or `replace` a cell so often.
 #![tactic(auto)]
 
+ghost use Rattle.chain_bars.specs.Laws.{matrices};
+ghost use Rattle.rhythm_base.specs.Paths.{AreCheap};
+ghost use Rattle.rhythm_base.specs.Readable.{IsReadable};
+ghost use Rattle.rhythm_base.specs.declared.limits.TheConstants.{DEAREST_CELL};
 ghost use Rattle.std.specs.Prelude.{◌≡◌, IfOk};
 
 mod bars;
 mod best_trees;
+mod chains;
+mod drawn;
 mod grammars;
 
 use bar_alternatives::Alternative;
 use bar_pool::{MOST_WORKERS, build_cells};
 use bars::{bar_of, bars_of};
 use best_trees::{Around, best_trees, print_trees};
-use grammars::Group;
+use chains::{ChainWork, chained, matrices_of};
+use drawn::{Draw, drawn_bars};
+use grammars::{Group, grammar_named};
 use least_cost::{BarTable, Steps, build_cell};
 use rhythm_base::{BarInput, Grammar, Tag};
 use rhythm_ports::OpenGate;
@@ -65,6 +77,22 @@ enum Work {
     BestTrees(Around),
 }
 
+/// The tables of so many drawn bars, with the grammar of that name.
+#[derive(Clone, Copy)]
+struct DrawnTask<'a> {
+    draw: Draw,
+    grammar: &'a str,
+    cells: u32,
+}
+
+/// What the words ask for.
+#[derive(Clone, Copy)]
+enum Asked<'a> {
+    Stated(Work, Task),
+    Drawn(DrawnTask<'a>, u32),
+    Chained(DrawnTask<'a>, ChainWork, u32),
+}
+
 /// The task of these words.
 fn task_of(group: &str, onsets: &str, times: &str) -> Option<Task> {
     Some(Task {
@@ -74,24 +102,47 @@ fn task_of(group: &str, onsets: &str, times: &str) -> Option<Task> {
     })
 }
 
-/// The words after the program's name, where they are a task, and what is done.
-fn asked_of(words: &[String]) -> Option<(Work, Task)> {
+/// The task of these words, where the first says how bars are drawn.
+fn drawn_of<'a>(draw: &str, grammar: &'a str, cells: &str) -> Option<DrawnTask<'a>> {
+    Some(DrawnTask {
+        draw: Draw::named(draw)?,
+        grammar,
+        cells: cells.parse::<u32>().ok()?,
+    })
+}
+
+/// What four words ask for.
+fn asked_by_four<'a>(first: &str, second: &'a str, third: &str, fourth: &str) -> Option<Asked<'a>> {
+    if let Some(around) = Around::named(first) {
+        let task = task_of(second, third, fourth)?;
+        return Some(Asked::Stated(Work::BestTrees(around), task));
+    }
+    let workers = fourth.parse::<u32>().ok()?;
+    if let Some(task) = drawn_of(first, second, third) {
+        return Some(Asked::Drawn(task, workers));
+    }
+    let task = task_of(first, second, third)?;
+    Some(Asked::Stated(Work::Tables(workers), task))
+}
+
+/// What the words after the program's name ask for.
+fn asked_of<'a>(words: &'a [String]) -> Option<Asked<'a>> {
     match words {
         [group, onsets, times] => {
             let task = task_of(group.as_str(), onsets.as_str(), times.as_str())?;
-            Some((Work::Table, task))
+            Some(Asked::Stated(Work::Table, task))
         }
-        [first, second, third, fourth] => match Around::named(first.as_str()) {
-            Some(around) => {
-                let task = task_of(second.as_str(), third.as_str(), fourth.as_str())?;
-                Some((Work::BestTrees(around), task))
-            }
-            None => {
-                let task = task_of(first.as_str(), second.as_str(), third.as_str())?;
-                let workers = fourth.as_str().parse::<u32>().ok()?;
-                Some((Work::Tables(workers), task))
-            }
-        },
+        [first, second, third, fourth] => asked_by_four(
+            first.as_str(),
+            second.as_str(),
+            third.as_str(),
+            fourth.as_str(),
+        ),
+        [draw, grammar, cells, work, times] => {
+            let task = drawn_of(draw.as_str(), grammar.as_str(), cells.as_str())?;
+            let work = ChainWork::named(work.as_str())?;
+            Some(Asked::Chained(task, work, times.as_str().parse::<u32>().ok()?))
+        }
         _ => None,
     }
 }
@@ -145,6 +196,36 @@ fn build_by<R: Threads + Sync>(
     Ok(tables.pop())
 }
 
+/// The tables of so many drawn bars, by the workers.
+fn build_drawn<R: Threads + Sync>(
+    rt: &R,
+    alloc: Global,
+    grammar: &Grammar,
+    task: DrawnTask<'_>,
+    workers: u32,
+) -> io::Result<Vec<BarTable>>
+    requires { IsReadable grammar.now }
+    ensures { IfOk result (λ v. AreCheap DEAREST_CELL (matrices v.items)) }
+{
+    if workers < 1 || workers > MOST_WORKERS {
+        return Err(io::Error::from(ErrorKind::InvalidInput));
+    }
+    let Some(bars) = drawn_bars(alloc, grammar.resolution, task.draw, task.cells)? else {
+        return Err(io::Error::from(ErrorKind::InvalidInput));
+    };
+    let mut builds = Steps::<Benchmark>::zero();
+    let tables = build_cells(
+        rt,
+        alloc,
+        grammar,
+        bars.as_slice(),
+        workers,
+        &OpenGate,
+        &mut builds,
+    )?;
+    Ok(tables)
+}
+
 /// Lists the best trees so often and keeps the last list.
 fn list_trees(alloc: Global, task: Task, around: Around) -> io::Result<Vec<Alternative>> {
     let grammar = task.group.grammar(alloc)?;
@@ -193,14 +274,74 @@ fn run<R: Print + Threads + Sync>(rt: &R, alloc: Global, work: Work, task: Task)
     }
 }
 
+/// Builds the tables of drawn bars, and prints how many there are, how many of them have a tree with nothing carried in or out,
+/// and what these cost in all.
+fn run_drawn<R: Print + Threads + Sync>(
+    rt: &R,
+    alloc: Global,
+    grammar: &Grammar,
+    task: DrawnTask<'_>,
+    workers: u32,
+) -> io::Result<()>
+    requires { IsReadable grammar.now }
+{
+    let tables = build_drawn(rt, alloc, grammar, task, workers)?;
+    let mut some = 0u64;
+    let mut sum = 0u64;
+    for table in &tables {
+        if let Some(best) = table.matrix().get(0, 0) {
+            some = some.saturating_add(1);
+            sum = sum.saturating_add(best.cost);
+        }
+    }
+    println!(rt;
+        "{} {}: {some} with a tree, cost {sum}",
+        task.grammar,
+        tables.len()
+    )
+}
+
+/// Makes the chain over the tables of drawn bars, works on it so often, and prints its least cost.
+fn run_chained<R: Print + Threads + Sync>(
+    rt: &R,
+    alloc: Global,
+    grammar: &Grammar,
+    task: DrawnTask<'_>,
+    work: ChainWork,
+    times: u32,
+) -> io::Result<()>
+    requires { IsReadable grammar.now }
+{
+    let tables = build_drawn(rt, alloc, grammar, task, 1)?;
+    let cells = matrices_of(alloc, tables.as_slice())?;
+    if cells.is_empty() || cells.len() > 4096 {
+        return Err(io::Error::from(ErrorKind::InvalidInput));
+    }
+    let (cost, products) = chained(alloc, cells.as_slice(), work, times)?;
+    print!(rt; "{} {}:", task.grammar, cells.len())?;
+    match cost {
+        Some(cost) => println!(rt; " cost {cost}, {products} products"),
+        None => println!(rt; " no path, {products} products"),
+    }
+}
+
 fn main(rt: HostRuntime) -> io::Result<()> {
     let alloc = rt.alloc();
     let mut words = Vec::new(alloc);
     for word in env::args(&rt)?.skip(1) {
         words.push(word)?;
     }
-    if let Some((work, task)) = asked_of(words.as_slice()) {
-        return run(&rt, alloc, work, task);
+    match asked_of(words.as_slice()) {
+        Some(Asked::Stated(work, task)) => return run(&rt, alloc, work, task),
+        Some(Asked::Drawn(task, workers)) => {
+            let grammar = grammar_named(&rt, task.grammar)?;
+            return run_drawn(&rt, alloc, &grammar, task, workers);
+        }
+        Some(Asked::Chained(task, work, times)) => {
+            let grammar = grammar_named(&rt, task.grammar)?;
+            return run_chained(&rt, alloc, &grammar, task, work, times);
+        }
+        None => {}
     }
     if !words.is_empty() {
         return Err(io::Error::from(ErrorKind::InvalidInput));
