@@ -1,5 +1,5 @@
 -- Rule lists along a way, and of the entries of a row.
-use Rattle.std.proofs.Common.{◌≡◌, ℕ, zero, suc, ◌<◌, ◌≤◌, ◌+◌, ◌-◌, ◌/◌, ◌%◌, ◌==◌, Bool, true, false, cond, not, List, [], ◌∷◌, ◌++◌, length, take, get_or, map, refl, sym, ap, ◌∙◌, subst, arith, add-zero}
+use Rattle.std.proofs.Common.{◌≡◌, ℕ, zero, suc, ◌<◌, ◌≤◌, ◌+◌, ◌-◌, ◌*◌, ◌^◌, ◌/◌, ◌%◌, ◌==◌, Bool, true, false, cond, not, List, [], ◌∷◌, ◌++◌, length, take, get_or, map, refl, sym, ap, ◌∙◌, subst, arith, add-zero}
 use Rattle.std.specs.Prelude.{Option, Some, None, slice_get, position}
 use Rattle.std.specs.List.{position_or_len}
 use Rattle.rhythm_base.proofs.Positions.{position-missing}
@@ -35,11 +35,10 @@ use Rattle.grammar_plan.specs.declared.quiet_tree.QuietTree.{QuietTree}
 use Rattle.grammar_plan.specs.declared.seat.Seat.{Seat}
 use Rattle.least_rows.specs.Entries.{IsEntry, IsMade, IsRow}
 use Rattle.least_rows.specs.declared.entry.Entry.{Entry}
-use Rattle.least_rows.specs.Parts.{ArePartsOf, AreSeatsOf, IsLeg}
-use Rattle.least_rows.specs.declared.parts.Leg.{Leg}
+use Rattle.least_rows.specs.Parts.{ArePartsOf, AreSeatsOf, IsLeg, count_after}
 use Rattle.least_rows.specs.declared.parts.Parts.{Parts}
-use Rattle.std.proofs.Math.Seq.{take-length}
-use Rattle.least_rows.proofs.PlanSeats.{All-at, below-at, cut_below, cut_whole, has_seat-width, one_at, parts-at, parts-length, seat_of, sizes-more, width_of}
+use Rattle.std.proofs.lemmas.Nat.{shr-shr}
+use Rattle.least_rows.proofs.PlanSeats.{All-at, below-at, cut_below, cut_whole, has_seat-width, one_at, parts-at, parts-length, seat_of, width_of}
 
 -- ---- the ground of a cell
 
@@ -200,28 +199,53 @@ made_there d plan p q a rule o n way to list made is = let own = subst (λ o. Is
 pub made_leaf : (d : Ground) (plan : Plan) (p : ℕ) (q : ℕ × ℕ) (a rule : ℕ) (o : Option ℕ) (way to : ℕ) (list : List ℕ) → IsMade d plan p q a rule o way to list → o ≡ None → list ≡ rule ∷ []
 made_leaf d plan p q a rule o way to list made is = subst (λ o. IsMade d plan p q a rule o way to list) is made
 
--- ---- the last part of a leg
+-- ---- a way from its first part on
 
-module _ (g : Grammar) (k : BarInput) (plan : Plan) (x : Parts) (leg : Leg) (parts : ArePartsOf plan x) (some : x.first < leg.end) (d : ℕ) where
+-- the way over the first n parts, where r come after
+pub way_first : (d : Ground) (p : ℕ) (qs : List (ℕ × ℕ)) (a n r c way m : ℕ) (ys : List ℕ) → c ≡ n + r → IsWayList d p qs a c way m ys
+    → (xs : List ℕ) × IsWayList d p qs a n (way / 2 ^ (3 * r)) (count_after way m r) xs
+way_first d p qs a n zero c way m ys e h =
+    let count : c ≡ n = omega (arith, e) in
+    let whole : way ≡ way / 2 ^ (3 * 0) = omega arith in
+    (ys, subst (λ w. IsWayList d p qs a n w m ys) whole (subst (λ c. IsWayList d p qs a c way m ys) count h))
+way_first d p qs a n (suc r) c way m ys e h =
+    let step = way_step d p qs a (n + r) c way m ys (omega (arith, e)) h in
+    let more = way_first d p qs a n r (n + r) (way / 8) (way % 8) step.earlier refl step.before in
+    (more.0, subst (λ l. IsWayList d p qs a n (way / 2 ^ (3 * suc r)) l more.0) (digit r) (subst (λ w. IsWayList d p qs a n w (count_after (way / 8) (way % 8) r) more.0) (deeper r) more.1))
+  where
+    deeper : (r : ℕ) → way / 8 / 2 ^ (3 * r) ≡ way / 2 ^ (3 * suc r)
+    deeper r = let three : 3 + 3 * r ≡ 3 * suc r = omega arith in shr-shr way 3 (3 * r) ∙ ap (λ j. way / 2 ^ j) three
+
+    digit : (r : ℕ) → count_after (way / 8) (way % 8) r ≡ way / 2 ^ (3 * r) % 8
+    digit zero = omega arith
+    digit (suc r) = ap (λ w. w % 8) (deeper r)
+
+-- one part less
+pub way_less : (way r : ℕ) → way / 2 ^ (3 * r) / 8 ≡ way / 2 ^ (3 * suc r)
+way_less way r = let three : 3 * r + 3 ≡ 3 * suc r = omega arith in shr-shr way (3 * r) 3 ∙ ap (λ j. way / 2 ^ j) three
+
+pub sizes_upto : (qs : List (ℕ × ℕ)) (n : ℕ) → n < length qs → sizes (take n qs) + (get_or qs n (0, 0)).0 ≤ sizes qs
+sizes_upto [] n low = absurd (omega arith)
+sizes_upto (q ∷ qs) zero low = omega arith
+sizes_upto (q ∷ qs) (suc n) low = let more = sizes_upto qs n (omega arith) in omega (arith, more)
+
+-- one of the parts
+module _ (plan : Plan) (x : Parts) (parts : ArePartsOf plan x) (part d : ℕ) (low : x.first ≤ part) (high : part < x.end) where
   -- of whatever parts have these seats
-  pub last_seat : (qs : List (ℕ × ℕ)) → leg.end ≤ x.end → AreSeatsOf plan x qs → HasSeat plan (get_or plan.parts.items (leg.end - 1) d) (get_or qs (leg.end - 1 - x.first) (0, 0))
-  last_seat qs high are = parts-at plan x qs (leg.end - 1) d (omega (arith, some)) (omega (arith, some, high)) parts.within are
+  pub part_seat : (qs : List (ℕ × ℕ)) → AreSeatsOf plan x qs → HasSeat plan (get_or plan.parts.items part d) (get_or qs (part - x.first) (0, 0))
+  part_seat qs are = parts-at plan x qs part d low high parts.within are
 
-  pub last_sizes : (qs : List (ℕ × ℕ)) → leg.end ≤ x.end → AreSeatsOf plan x qs
-      → sizes (take (leg.end - x.first) qs) ≡ sizes (take (leg.end - 1 - x.first) qs) + (get_or qs (leg.end - 1 - x.first) (0, 0)).0
-  last_sizes qs high are =
+  pub part_there : (qs : List (ℕ × ℕ)) → AreSeatsOf plan x qs → part - x.first < length qs
+  part_there qs are =
       let order : x.first ≤ x.end = parts.order in
       let long = parts-length plan x qs order parts.within are in
-      let count : leg.end - x.first ≡ suc (leg.end - 1 - x.first) = omega (arith, some) in
-      ap (λ n. sizes (take n qs)) count ∙ sizes-more qs (leg.end - 1 - x.first) (omega (arith, long, some, high))
+      omega (arith, long, low, high)
 
-  pub last_narrow : leg.end ≤ x.end → (q : ℕ × ℕ) → HasSeat plan (get_or plan.parts.items (leg.end - 1) d) q → q.0 < x.width
-  last_narrow high q h =
-      let n : ℕ = get_or plan.parts.items (leg.end - 1) d in
-      let order : x.first ≤ x.end = parts.order in
-      let long = parts-length plan x parts.seats order parts.within parts.are in
-      let below = below-at x.width parts.seats (leg.end - 1 - x.first) parts.below (omega (arith, long, some, high)) in
-      let own : width_of (slice_get plan.seats.items n) ≡ (get_or parts.seats (leg.end - 1 - x.first) (0, 0)).0 = has_seat-width plan n (get_or parts.seats (leg.end - 1 - x.first) (0, 0)) (last_seat parts.seats high parts.are) in
+  pub part_narrow : (q : ℕ × ℕ) → HasSeat plan (get_or plan.parts.items part d) q → q.0 < x.width
+  part_narrow q h =
+      let n : ℕ = get_or plan.parts.items part d in
+      let below = below-at x.width parts.seats (part - x.first) parts.below (part_there parts.seats parts.are) in
+      let own : width_of (slice_get plan.seats.items n) ≡ (get_or parts.seats (part - x.first) (0, 0)).0 = has_seat-width plan n (get_or parts.seats (part - x.first) (0, 0)) (part_seat parts.seats parts.are) in
       let same : width_of (slice_get plan.seats.items n) ≡ q.0 = has_seat-width plan n q h in
       omega (arith, below.1, own, same)
 
@@ -246,13 +270,10 @@ module _ (g : Grammar) (k : BarInput) (plan : Plan) (s : Seat) (p a rule way to 
   pub cut_along : IsWayList (ground_of g k) p (children made.cut.rule.body s.width) a (c.end - c.first) way to made.below
   cut_along = subst (λ n. IsWayList (ground_of g k) p (children made.cut.rule.body s.width) a n way to made.below) (sym cut_count) made.along
 
-  pub cut_leg : IsLeg g k plan (record { first = c.first; end = c.end; width = s.width }) (record { place = p; from = a; end = c.end; way = way; to = to })
+  pub cut_leg : IsLeg g k plan (record { first = c.first; end = c.end; width = s.width }) (record { place = p; from = a; way = way; to = to })
   cut_leg =
-      let every : take (c.end - c.first) (children made.cut.rule.body s.width) ≡ children made.cut.rule.body s.width = ap (λ n. take n (children made.cut.rule.body s.width)) cut_count ∙ take-length (children made.cut.rule.body s.width) in
-      let whole : sizes (take (c.end - c.first) (children made.cut.rule.body s.width)) ≡ s.width = ap sizes every ∙ cut_whole g plan (pair_of s) c wide made.cut in
+      let whole : sizes (children made.cut.rule.body s.width) ≡ s.width = cut_whole g plan (pair_of s) c wide made.cut in
       record {
-        first = made.cut.order;
-        end = let same : c.end ≤ c.end = omega arith in same;
         seats = children made.cut.rule.body s.width;
         are = made.cut.parts;
         within = omega (arith, whole, within);

@@ -1,5 +1,5 @@
 -- The parts of a cut.
-use Rattle.std.specs.Prelude.{ℕ, ◌+◌, ◌-◌, ◌≤◌, List, length, take}
+use Rattle.std.specs.Prelude.{ℕ, zero, suc, ◌+◌, ◌-◌, ◌*◌, ◌/◌, ◌%◌, ◌^◌, ◌≤◌, List, length}
 use Rattle.rhythm_base.specs.BarInput.{BarInput}
 use Rattle.rhythm_base.specs.Bodies.{sizes}
 use Rattle.rhythm_base.specs.Grammar.{Grammar}
@@ -23,12 +23,15 @@ pub record ArePartsOf (plan : Plan) (x : Parts) : Type 0 where
   pub are : AreSeatsOf plan x seats
   pub below : AreBelow x.width seats
 
--- the first parts, up to the end of the leg, lie in the bar, and the way leads over them
+-- the number of chords carried out of a part that r parts come after, by the digits of the way
+abbrev pub count_after : (way m r : ℕ) → ℕ
+count_after way m zero = m
+count_after way m (suc r) = way / 2 ^ (3 * r) % 8
+
+-- the parts lie in the bar, and the way leads over them
 pub record IsLeg (g : Grammar) (k : BarInput) (plan : Plan) (x : Parts) (leg : Leg) : Type 0 where
-  pub first : x.first ≤ leg.end
-  pub end : leg.end ≤ x.end
   pub seats : List (ℕ × ℕ)
   pub are : AreSeatsOf plan x seats
-  pub within : leg.place + sizes (take (leg.end - x.first) seats) ≤ k.resolution
+  pub within : leg.place + sizes seats ≤ k.resolution
   pub list : List ℕ
-  pub way : IsWayList (ground_of g k) leg.place seats leg.from (leg.end - x.first) leg.way leg.to list
+  pub way : IsWayList (ground_of g k) leg.place seats leg.from (x.end - x.first) leg.way leg.to list

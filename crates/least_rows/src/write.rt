@@ -107,7 +107,6 @@ pub fn write(
     let leg = Leg {
         place: tree.place,
         from: tree.from,
-        end: cut.end,
         way: entry.way,
         to: entry.to,
     };
@@ -117,7 +116,7 @@ pub fn write(
     Ok(())
 }
 
-/// Writes the rules of the least trees of the first parts of a cut along a way, and says at which unit the next part begins.
+/// Writes the rules of the least trees of the parts of a cut along a way, from left to right.
 #[cycle(lists)]
 fn write_parts(
     rows: &mut Rows,
@@ -126,39 +125,34 @@ fn write_parts(
     leg: Leg,
     texts: &mut Texts,
     list: &mut Vec<u16>,
-) -> Result<u16, AllocError>
+) -> Result<(), AllocError>
     requires search { IsSearch search.now.grammar.now search.now.input.now search.now.plan.now search.now.view.now }
     requires parts { ArePartsOf search.now.plan.now parts }
+    requires few { parts.end - parts.first ≤ 16 }
     requires leg { IsLeg search.now.grammar.now search.now.input.now search.now.plan.now parts leg }
     requires known { AreKnown search.now.grammar.now search.now.input.now search.now.plan.now rows.old }
     requires texts { AreTexts search.now.grammar.now search.now.input.now search.now.plan.now list.old.items texts.old }
     ensures known { OnOk result (AreKnown search.now.grammar.now search.now.input.now search.now.plan.now rows.new) }
     ensures texts { OnOk result (AreTexts search.now.grammar.now search.now.input.now search.now.plan.now list.new.items texts.new) }
     ensures grows { OnOk result (IsLonger list.old.items list.new.items) }
-    ensures place { IfOk result (λ p. (qs : List (ℕ × ℕ)) → AreSeatsOf search.now.plan.now parts qs → p ≡ leg.place + sizes (take (leg.end - parts.first) qs)) }
     ensures list { OnOk result ((qs : List (ℕ × ℕ)) (xs : List ℕ) → AreSeatsOf search.now.plan.now parts qs
-        → IsWayList (ground_of search.now.grammar.now search.now.input.now) leg.place qs leg.from (leg.end - parts.first) leg.way leg.to xs
+        → IsWayList (ground_of search.now.grammar.now search.now.input.now) leg.place qs leg.from (parts.end - parts.first) leg.way leg.to xs
         → list.new.items ≡ list.old.items ++ xs) }
 {
-    if leg.end == parts.first {
-        return Ok(leg.place);
+    let mut place = leg.place;
+    let mut from = leg.from;
+    'parts: for part in parts.first..parts.end {
+        let seat = search.plan.parts[part as usize];
+        let to = leg.count_after(parts.end - 1 - part);
+        let tree = TreeAt {
+            seat,
+            place,
+            from,
+            to,
+        };
+        write(rows, search, tree, texts, list)?;
+        place += search.plan.seats[seat as usize].width;
+        from = to;
     }
-    let part = leg.end - 1;
-    let from = (leg.way % 8) as u8;
-    let earlier = Leg {
-        end: part,
-        way: leg.way / 8,
-        to: from,
-        ..leg
-    };
-    let place = write_parts(rows, search, parts, earlier, texts, list)?;
-    let seat = search.plan.parts[part as usize];
-    let tree = TreeAt {
-        seat,
-        place,
-        from,
-        to: leg.to,
-    };
-    write(rows, search, tree, texts, list)?;
-    Ok(place + search.plan.seats[seat as usize].width)
+    Ok(())
 }

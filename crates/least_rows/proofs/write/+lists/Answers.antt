@@ -1,9 +1,9 @@
-use Rattle.std.proofs.Common.{rules, ◌≡◌, ◌==◌, ◌+◌, ◌-◌, ◌<◌, ◌≤◌, ◌++◌, [], ◌∷◌, ℕ, suc, length, position, slice_get, take, ◌%◌, arith, refl, sym, ap, ◌∙◌, subst, get_or, drop, append_assoc, List}
+use Rattle.std.proofs.Common.{rules, ◌≡◌, ◌==◌, ◌+◌, ◌-◌, ◌*◌, ◌/◌, ◌^◌, ◌%◌, ◌<◌, ◌≤◌, ◌++◌, [], ◌∷◌, ℕ, suc, length, position, slice_get, take, arith, refl, sym, ap, ◌∙◌, subst, get_or, drop, append_assoc, append-nil, List}
 use Rattle.std.specs.Prelude.{Some, None, vec_len}
 use Rattle.std.proofs.lemmas.List.{length-take}
 use Rattle.std.proofs.lemmas.Option.{get_or_from_slice_get, slice_get_within, slice_get_read}
 use Rattle.rhythm_base.specs.Bodies.{children, sizes}
-use Rattle.rhythm_laws.specs.Forests.{IsForestKey}
+use Rattle.rhythm_laws.specs.Forests.{Ground, IsForestKey}
 use Rattle.rhythm_laws.specs.Tables.{IsLeastKey}
 use Rattle.row_laws.specs.Grounds.{ground_of}
 use Rattle.grammar_plan.specs.Plans.{HasSeat, between, pair_of}
@@ -14,9 +14,13 @@ use Rattle.least_rows.specs.declared.entry.Entry.{Entry}
 use Rattle.rhythm_base.specs.Grammar.{Grammar}
 use Rattle.rhythm_base.proofs.Positions.{position-within}
 use Rattle.row_laws.specs.QuietTrees.{IsQuiet}
-use Rattle.least_rows.proofs.PlanSeats.{has_seat-pair, has_seat-within, on_ok, one_at, parts_lower, seat_lower, seat_of}
-use Rattle.least_rows.proofs.WayLists.{cut_along, cut_leg, cut_parts, entry_list, entry_made, entry_there, last_narrow, last_seat, last_sizes, made_cut, made_leaf, made_there, quiet-key, way_step}
+use Rattle.grammar_plan.specs.declared.plan.Plan.{Plan}
+use Rattle.least_rows.proofs.PlanSeats.{has_seat-pair, has_seat-within, on_ok, one_at, parts_lower, seat_lower, seat_of, sizes-more}
+use Rattle.least_rows.proofs.WayLists.{cut_along, cut_leg, cut_parts, entry_list, entry_made, cut_count, entry_there, made_cut, made_leaf, made_there, part_narrow, part_seat, part_there, quiet-key, sizes_upto, way_first, way_less, way_step}
+use Rattle.least_rows.proofs.Cutting.{cut-few}
+use Rattle.least_rows.specs.Parts.{AreSeatsOf, count_after}
 use Rattle.least_rows.specs.Texts.{IsLonger}
+use Rattle.row_laws.specs.Ways.{IsWayList}
 use Rattle.least_rows.proofs.ListCopies.{longer-later, longer-same, on_appended, text-list, texts-kept, texts-longer}
 use Rattle.least_rows.proofs.write.+lists.Goals as goal
 
@@ -167,11 +171,14 @@ write-write_parts-requires t c =
     let few : c.index-cut.result.now.end ≤ length plan.parts.items = made.cut.within in
     let lower = parts_lower plan c.args.tree.seat s.width (c.index-cut.result.now.end - c.index-cut.result.now.first) s at refl (omega (arith, few)) in
     let pushed : c.push-2.new.self.items ≡ c.args.list.now.items ++ e.rule ∷ [] = search rules in
+    let count = cut_count g k plan s c.args.tree.place c.args.tree.from e.rule e.way e.to list.0 c.index-cut.result.now wide within made in
+    let most = cut-few g k plan c.requires.search.ready s (seat_of g plan c.requires.search.plan_of c.args.tree.seat s at) c.index-cut.result.now made.cut in
     and_then (omega (arith, lower, c.decreases))
     (and_then c.requires.search
     (and_then (cut_parts g k plan s c.args.tree.place c.args.tree.from e.rule e.way e.to list.0 c.index-cut.result.now wide within made)
+    (and_then (omega (arith, count, most))
     (and_then (cut_leg g k plan s c.args.tree.place c.args.tree.from e.rule e.way e.to list.0 c.index-cut.result.now wide within made)
-    (and_then c.in_ok-span.ensures.known (texts-longer g k plan c.args.list.now.items c.push-2.new.self.items c.args.texts.now c.requires.texts (e.rule ∷ [], pushed))))))
+    (and_then c.in_ok-span.ensures.known (texts-longer g k plan c.args.list.now.items c.push-2.new.self.items c.args.texts.now c.requires.texts (e.rule ∷ [], pushed)))))))
 
 longer : (old mid new : List ℕ) (rule : ℕ) → mid ≡ old ++ rule ∷ [] → IsLonger mid new → IsLonger old new
 longer old mid new rule pushed later = longer-later old mid new (rule ∷ [], pushed) later
@@ -209,27 +216,32 @@ write-returns-clause-grows t c =
     let pushed : c.push-2.new.self.items ≡ c.args.list.now.items ++ c.in-Some-entry_in.found.entry.rule ∷ [] = c.in_ok-push-2.ensures.items in
     longer c.args.list.now.items c.push-2.new.self.items c.write_parts.new.list.items c.in-Some-entry_in.found.entry.rule pushed c.in_ok-write_parts.ensures.grows
 
-pub write_parts-write_parts-requires : goal.write_parts-write_parts-requires
-write_parts-write_parts-requires t c =
+-- no part is written before the first
+write_parts_none : (d : Ground) (p : ℕ) (qs : List (ℕ × ℕ)) (a n way m : ℕ) (list xs : List ℕ) → n ≡ 0 → IsWayList d p qs a n way m xs → list ≡ list ++ xs
+write_parts_none d p qs a n way m list xs none h =
+    let empty : IsWayList d p qs a 0 way m xs = subst (λ n. IsWayList d p qs a n way m xs) none h in
+    sym (ap (λ l. list ++ l) empty.2 ∙ append-nil list)
+
+pub write_parts-parts-init : goal.write_parts-parts-init
+write_parts-parts-init t c =
+    let g = c.args.search.now.grammar.now in
+    let k = c.args.search.now.input.now in
     let plan = c.args.search.now.plan.now in
-    let d = ground_of c.args.search.now.grammar.now c.args.search.now.input.now in
+    let d = ground_of g k in
     let leg = c.requires.leg in
-    let start : c.args.parts.first ≤ c.args.leg.end = leg.first in
-    let low : c.args.parts.first < c.args.leg.end = omega (arith, start, c.if-leg-parts.false) in
-    let high : c.args.leg.end ≤ c.args.parts.end = leg.end in
-    let count : c.args.leg.end - c.args.parts.first ≡ suc (c.args.leg.end - 1 - c.args.parts.first) = omega (arith, low) in
-    let step = way_step d c.args.leg.place leg.seats c.args.leg.from (c.args.leg.end - 1 - c.args.parts.first) (c.args.leg.end - c.args.parts.first) c.args.leg.way c.args.leg.to leg.list count leg.way in
-    let more = last_sizes c.args.search.now.grammar.now c.args.search.now.input.now plan c.args.parts c.args.leg c.requires.parts low 0 leg.seats high leg.are in
-    let within : c.args.leg.place + sizes (take (c.args.leg.end - c.args.parts.first) leg.seats) ≤ c.args.search.now.input.now.resolution = leg.within in
-    and_then (omega (arith, c.decreases, low)) (and_then c.requires.search (and_then c.requires.parts (and_then (record {
-      first = omega (arith, low);
-      end = omega (arith, high);
-      seats = leg.seats;
-      are = leg.are;
-      within = omega (arith, within, more);
-      list = step.earlier;
-      way = step.before;
-    }) (and_then c.requires.known c.requires.texts))))
+    let order : c.args.parts.first ≤ c.args.parts.end = c.requires.parts.order in
+    let none : c.args.parts.first - c.args.parts.first ≡ 0 = omega arith in
+    let first = way_first d c.args.leg.place leg.seats c.args.leg.from 0 (c.args.parts.end - c.args.parts.first) (c.args.parts.end - c.args.parts.first) c.args.leg.way c.args.leg.to leg.list (omega arith) leg.way in
+    record {
+      low = let same : c.args.parts.first ≤ c.args.parts.first = omega arith in same;
+      high = order;
+      known = c.requires.known;
+      texts = c.requires.texts;
+      grows = longer-same c.args.list.now.items;
+      place = λ qs are. let start : c.args.leg.place ≡ c.args.leg.place + sizes (take 0 qs) = omega arith in start ∙ ap (λ n. c.args.leg.place + sizes (take n qs)) (sym none);
+      from = sym first.1.1;
+      written = λ qs xs are way. write_parts_none d c.args.leg.place qs c.args.leg.from (c.args.parts.first - c.args.parts.first) (c.args.leg.way / 2 ^ (3 * (c.args.parts.end - c.args.parts.first))) c.args.leg.from c.args.list.now.items xs none way;
+    }
 
 pub write_parts-write-requires : goal.write_parts-write-requires
 write_parts-write-requires t c =
@@ -238,108 +250,125 @@ write_parts-write-requires t c =
     let plan = c.args.search.now.plan.now in
     let d = ground_of g k in
     let leg = c.requires.leg in
+    let old = c.parts.invariant in
+    let low : c.args.parts.first ≤ c.parts.part = old.low in
+    let high : c.parts.part < c.args.parts.end = c.parts-test.true in
     let n = c.index-seat.result.now in
-    let start : c.args.parts.first ≤ c.args.leg.end = leg.first in
-    let low : c.args.parts.first < c.args.leg.end = omega (arith, start, c.if-leg-parts.false) in
-    let high : c.args.leg.end ≤ c.args.parts.end = leg.end in
-    let count : c.args.leg.end - c.args.parts.first ≡ suc (c.args.leg.end - 1 - c.args.parts.first) = omega (arith, low) in
-    let step = way_step d c.args.leg.place leg.seats c.args.leg.from (c.args.leg.end - 1 - c.args.parts.first) (c.args.leg.end - c.args.parts.first) c.args.leg.way c.args.leg.to leg.list count leg.way in
-    let q = get_or leg.seats (c.args.leg.end - 1 - c.args.parts.first) (0, 0) in
-    let first = last_seat g k plan c.args.parts c.args.leg c.requires.parts low n leg.seats high leg.are in
+    let q = get_or leg.seats (c.parts.part - c.args.parts.first) (0, 0) in
+    let first = part_seat plan c.args.parts c.requires.parts c.parts.part n low high leg.seats leg.are in
     let seat : HasSeat plan n q = subst (λ n. HasSeat plan n q) (sym c.index-seat.ensures) first in
-    let narrow = last_narrow g k plan c.args.parts c.args.leg c.requires.parts low n high q first in
-    let more = last_sizes g k plan c.args.parts c.args.leg c.requires.parts low 0 leg.seats high leg.are in
-    let within : c.args.leg.place + sizes (take (c.args.leg.end - c.args.parts.first) leg.seats) ≤ k.resolution = leg.within in
-    let place : c.in_ok-place.place ≡ c.args.leg.place + sizes (take (c.args.leg.end - 1 - c.args.parts.first) leg.seats) = c.in_ok-place.ensures.place leg.seats leg.are in
-    let lower = seat_lower plan n c.args.parts.width (c.args.leg.end - c.args.parts.first) q seat narrow in
+    let narrow = part_narrow plan c.args.parts c.requires.parts c.parts.part n low high q first in
+    let upto = sizes_upto leg.seats (c.parts.part - c.args.parts.first) (part_there plan c.args.parts c.requires.parts c.parts.part n low high leg.seats leg.are) in
+    let within : c.args.leg.place + sizes leg.seats ≤ k.resolution = leg.within in
+    let place : c.parts.place ≡ c.args.leg.place + sizes (take (c.parts.part - c.args.parts.first) leg.seats) = old.place leg.seats leg.are in
+    let lower = seat_lower plan n c.args.parts.width (c.args.parts.end - c.args.parts.first) q seat narrow in
+    let count : c.args.parts.end - c.args.parts.first ≡ suc (c.parts.part - c.args.parts.first) + (c.args.parts.end - 1 - c.parts.part) = omega (arith, low, high) in
+    let some = way_first d c.args.leg.place leg.seats c.args.leg.from (suc (c.parts.part - c.args.parts.first)) (c.args.parts.end - 1 - c.parts.part) (c.args.parts.end - c.args.parts.first) c.args.leg.way c.args.leg.to leg.list count leg.way in
+    let step = way_step d c.args.leg.place leg.seats c.args.leg.from (c.parts.part - c.args.parts.first) (suc (c.parts.part - c.args.parts.first)) (c.args.leg.way / 2 ^ (3 * (c.args.parts.end - 1 - c.parts.part))) (count_after c.args.leg.way c.args.leg.to (c.args.parts.end - 1 - c.parts.part)) some.0 refl some.1 in
+    let left : c.args.parts.end - c.parts.part ≡ suc (c.args.parts.end - 1 - c.parts.part) = omega (arith, high) in
+    let carried : c.parts.from ≡ c.args.leg.way / 2 ^ (3 * (c.args.parts.end - 1 - c.parts.part)) % 8 = old.from ∙ ap (λ r. count_after c.args.leg.way c.args.leg.to r) left in
+    let few : c.parts.from < 5 = subst (λ m. m < 5) (sym carried) step.digit in
     and_then (omega (arith, lower, c.decreases)) (and_then c.requires.search (and_then (has_seat-within plan n q seat)
-    (and_then (λ s at. let wide : s.width ≡ q.0 = ap (λ (q : ℕ × ℕ). q.0) (has_seat-pair plan n q s seat at) in omega (arith, wide, place, within, more))
-    (and_then step.digit (and_then c.in_ok-place.ensures.known c.in_ok-place.ensures.texts)))))
+    (and_then (λ s at. let wide : s.width ≡ q.0 = ap (λ (q : ℕ × ℕ). q.0) (has_seat-pair plan n q s seat at) in omega (arith, wide, place, within, upto))
+    (and_then few (and_then old.known old.texts)))))
 
 pub write_parts-index-requires : goal.write_parts-index-requires
 write_parts-index-requires t c =
-    let g = c.args.search.now.grammar.now in
-    let k = c.args.search.now.input.now in
     let plan = c.args.search.now.plan.now in
     let leg = c.requires.leg in
     let n = c.index-seat.result.now in
-    let start : c.args.parts.first ≤ c.args.leg.end = leg.first in
-    let low : c.args.parts.first < c.args.leg.end = omega (arith, start, c.if-leg-parts.false) in
-    let high : c.args.leg.end ≤ c.args.parts.end = leg.end in
-    let q = get_or leg.seats (c.args.leg.end - 1 - c.args.parts.first) (0, 0) in
-    let first = last_seat g k plan c.args.parts c.args.leg c.requires.parts low n leg.seats high leg.are in
+    let q = get_or leg.seats (c.parts.part - c.args.parts.first) (0, 0) in
+    let first = part_seat plan c.args.parts c.requires.parts c.parts.part n c.parts.invariant.low c.parts-test.true leg.seats leg.are in
     let seat : HasSeat plan n q = subst (λ n. HasSeat plan n q) (sym c.index-seat.ensures) first in
     let there = has_seat-within plan n q seat in
     omega (arith, there)
 
-pub write_parts-overflow_add-result : goal.write_parts-overflow_add-result
-write_parts-overflow_add-result t c =
-    let g = c.args.search.now.grammar.now in
+-- the seat of a part, as it is read
+part_read : (plan : Plan) (n : ℕ) (q : ℕ × ℕ) (s : Seat) → HasSeat plan n q → s ≡ get_or plan.seats.items n s → slice_get plan.seats.items n ≡ Some s
+part_read plan n q s seat is = slice_get_read plan.seats.items (length plan.seats.items) n s refl (has_seat-within plan n q seat) is
+
+pub write_parts-overflow_add-place : goal.write_parts-overflow_add-place
+write_parts-overflow_add-place t c =
     let k = c.args.search.now.input.now in
     let plan = c.args.search.now.plan.now in
     let leg = c.requires.leg in
+    let old = c.parts.invariant in
+    let low : c.args.parts.first ≤ c.parts.part = old.low in
+    let high : c.parts.part < c.args.parts.end = c.parts-test.true in
     let n = c.index-seat.result.now in
-    let start : c.args.parts.first ≤ c.args.leg.end = leg.first in
-    let low : c.args.parts.first < c.args.leg.end = omega (arith, start, c.if-leg-parts.false) in
-    let high : c.args.leg.end ≤ c.args.parts.end = leg.end in
-    let q = get_or leg.seats (c.args.leg.end - 1 - c.args.parts.first) (0, 0) in
-    let first = last_seat g k plan c.args.parts c.args.leg c.requires.parts low n leg.seats high leg.are in
+    let q = get_or leg.seats (c.parts.part - c.args.parts.first) (0, 0) in
+    let first = part_seat plan c.args.parts c.requires.parts c.parts.part n low high leg.seats leg.are in
     let seat : HasSeat plan n q = subst (λ n. HasSeat plan n q) (sym c.index-seat.ensures) first in
-    let there = has_seat-within plan n q seat in
-    let at : slice_get plan.seats.items n ≡ Some c.index.result.now = slice_get_read plan.seats.items (length plan.seats.items) n c.index.result.now refl there c.index.ensures in
+    let at = part_read plan n q c.index.result.now seat c.index.ensures in
     let wide : c.index.result.now.width ≡ q.0 = ap (λ (q : ℕ × ℕ). q.0) (has_seat-pair plan n q c.index.result.now seat at) in
-    let more = last_sizes g k plan c.args.parts c.args.leg c.requires.parts low 0 leg.seats high leg.are in
-    let within : c.args.leg.place + sizes (take (c.args.leg.end - c.args.parts.first) leg.seats) ≤ k.resolution = leg.within in
-    let place : c.in_ok-place.place ≡ c.args.leg.place + sizes (take (c.args.leg.end - 1 - c.args.parts.first) leg.seats) = c.in_ok-place.ensures.place leg.seats leg.are in
+    let upto = sizes_upto leg.seats (c.parts.part - c.args.parts.first) (part_there plan c.args.parts c.requires.parts c.parts.part n low high leg.seats leg.are) in
+    let within : c.args.leg.place + sizes leg.seats ≤ k.resolution = leg.within in
+    let place : c.parts.place ≡ c.args.leg.place + sizes (take (c.parts.part - c.args.parts.first) leg.seats) = old.place leg.seats leg.are in
     let few : k.resolution ≤ 960 = c.requires.search.ready.cell.few_units in
-    omega (arith, wide, more, within, place, few)
+    omega (arith, wide, upto, within, place, few)
 
-pub write_parts-returns-clause-grows : goal.write_parts-returns-clause-grows
-write_parts-returns-clause-grows t c = longer-later c.args.list.now.items c.write_parts.new.list.items c.write.new.list.items c.in_ok-place.ensures.grows c.in_ok-write.ensures.grows
-
-pub write_parts-returns-clause-place : goal.write_parts-returns-clause-place
-write_parts-returns-clause-place t c qs are =
-    let g = c.args.search.now.grammar.now in
-    let k = c.args.search.now.input.now in
-    let plan = c.args.search.now.plan.now in
-    let leg = c.requires.leg in
-    let n = c.index-seat.result.now in
-    let start : c.args.parts.first ≤ c.args.leg.end = leg.first in
-    let low : c.args.parts.first < c.args.leg.end = omega (arith, start, c.if-leg-parts.false) in
-    let high : c.args.leg.end ≤ c.args.parts.end = leg.end in
-    let q = get_or qs (c.args.leg.end - 1 - c.args.parts.first) (0, 0) in
-    let first = last_seat g k plan c.args.parts c.args.leg c.requires.parts low n qs high are in
-    let seat : HasSeat plan n q = subst (λ n. HasSeat plan n q) (sym c.index-seat.ensures) first in
-    let there = has_seat-within plan n q seat in
-    let at : slice_get plan.seats.items n ≡ Some c.index.result.now = slice_get_read plan.seats.items (length plan.seats.items) n c.index.result.now refl there c.index.ensures in
-    let wide : c.index.result.now.width ≡ q.0 = ap (λ (q : ℕ × ℕ). q.0) (has_seat-pair plan n q c.index.result.now seat at) in
-    let more = last_sizes g k plan c.args.parts c.args.leg c.requires.parts low 0 qs high are in
-    let place : c.in_ok-place.place ≡ c.args.leg.place + sizes (take (c.args.leg.end - 1 - c.args.parts.first) qs) = c.in_ok-place.ensures.place qs are in
-    omega (arith, wide, more, place)
-
-pub write_parts-returns-clause-list : goal.write_parts-returns-clause-list
-write_parts-returns-clause-list t c qs xs are way =
+pub write_parts-parts-preserved : goal.write_parts-parts-preserved
+write_parts-parts-preserved t c =
     let g = c.args.search.now.grammar.now in
     let k = c.args.search.now.input.now in
     let plan = c.args.search.now.plan.now in
     let d = ground_of g k in
-    let leg = c.requires.leg in
+    let old = c.parts.invariant in
+    let low : c.args.parts.first ≤ c.parts.part = old.low in
+    let high : c.parts.part < c.args.parts.end = c.parts-test.true in
     let n = c.index-seat.result.now in
-    let start : c.args.parts.first ≤ c.args.leg.end = leg.first in
-    let low : c.args.parts.first < c.args.leg.end = omega (arith, start, c.if-leg-parts.false) in
-    let high : c.args.leg.end ≤ c.args.parts.end = leg.end in
-    let count : c.args.leg.end - c.args.parts.first ≡ suc (c.args.leg.end - 1 - c.args.parts.first) = omega (arith, low) in
-    let step = way_step d c.args.leg.place qs c.args.leg.from (c.args.leg.end - 1 - c.args.parts.first) (c.args.leg.end - c.args.parts.first) c.args.leg.way c.args.leg.to xs count way in
-    let q = get_or qs (c.args.leg.end - 1 - c.args.parts.first) (0, 0) in
-    let first = last_seat g k plan c.args.parts c.args.leg c.requires.parts low n qs high are in
-    let seat : HasSeat plan n q = subst (λ n. HasSeat plan n q) (sym c.index-seat.ensures) first in
-    let there = has_seat-within plan n q seat in
-    let at : slice_get plan.seats.items n ≡ Some c.index.result.now = slice_get_read plan.seats.items (length plan.seats.items) n c.index.result.now refl there c.index.ensures in
-    let pair : pair_of c.index.result.now ≡ q = has_seat-pair plan n q c.index.result.now seat at in
-    let place : c.in_ok-place.place ≡ c.args.leg.place + sizes (take (c.args.leg.end - 1 - c.args.parts.first) qs) = c.in_ok-place.ensures.place qs are in
-    let earlier : c.write_parts.new.list.items ≡ c.args.list.now.items ++ step.earlier = c.in_ok-place.ensures.list qs step.earlier are step.before in
-    let least : IsLeastKey (IsForestKey d None c.in_ok-place.place (pair_of c.index.result.now ∷ []) (c.args.leg.way % 8) c.args.leg.to) (Some step.key) =
-    subst (λ p. IsLeastKey (IsForestKey d None p (pair_of c.index.result.now ∷ []) (c.args.leg.way % 8) c.args.leg.to) (Some step.key)) (sym place)
-    (subst (λ q. IsLeastKey (IsForestKey d None (c.args.leg.place + sizes (take (c.args.leg.end - 1 - c.args.parts.first) qs)) (q ∷ []) (c.args.leg.way % 8) c.args.leg.to) (Some step.key)) (sym pair) step.least) in
-    let last : c.write.new.list.items ≡ c.write_parts.new.list.items ++ step.key.1 = c.in_ok-write.ensures.list c.index.result.now step.key at least in
-    last ∙ ap (λ l. l ++ step.key.1) earlier ∙ append_assoc c.args.list.now.items step.earlier step.key.1 ∙ ap (λ l. c.args.list.now.items ++ l) (sym step.whole)
+    let s = c.index.result.now in
+    let count : c.parts.part + 1 - c.args.parts.first ≡ suc (c.parts.part - c.args.parts.first) = omega (arith, low) in
+    let left : c.args.parts.end - c.parts.part ≡ suc (c.args.parts.end - (c.parts.part + 1)) = omega (arith, high) in
+    let rest : c.args.parts.end - 1 - c.parts.part ≡ c.args.parts.end - (c.parts.part + 1) = omega arith in
+    let seat : (qs : List (ℕ × ℕ)) → AreSeatsOf plan c.args.parts qs → HasSeat plan n (get_or qs (c.parts.part - c.args.parts.first) (0, 0))
+    = λ qs are. subst (λ n. HasSeat plan n (get_or qs (c.parts.part - c.args.parts.first) (0, 0))) (sym c.index-seat.ensures) (part_seat plan c.args.parts c.requires.parts c.parts.part n low high qs are) in
+    let at = part_read plan n (get_or c.requires.parts.seats (c.parts.part - c.args.parts.first) (0, 0)) s (seat c.requires.parts.seats c.requires.parts.are) c.index.ensures in
+    let pair : (qs : List (ℕ × ℕ)) → AreSeatsOf plan c.args.parts qs → pair_of s ≡ get_or qs (c.parts.part - c.args.parts.first) (0, 0)
+    = λ qs are. has_seat-pair plan n (get_or qs (c.parts.part - c.args.parts.first) (0, 0)) s (seat qs are) at in
+    record {
+      low = omega (arith, low);
+      high = omega (arith, high);
+      known = c.in_ok-write.ensures.known;
+      texts = c.in_ok-write.ensures.texts;
+      grows = longer-later c.args.list.now.items c.parts.list.items c.write.new.list.items old.grows c.in_ok-write.ensures.grows;
+      place = λ qs are.
+          let before = old.place qs are in
+          let wide : s.width ≡ (get_or qs (c.parts.part - c.args.parts.first) (0, 0)).0 = ap (λ (q : ℕ × ℕ). q.0) (pair qs are) in
+          let more : sizes (take (c.parts.part + 1 - c.args.parts.first) qs) ≡ sizes (take (c.parts.part - c.args.parts.first) qs) + (get_or qs (c.parts.part - c.args.parts.first) (0, 0)).0
+          = ap (λ n. sizes (take n qs)) count ∙ sizes-more qs (c.parts.part - c.args.parts.first) (part_there plan c.args.parts c.requires.parts c.parts.part n low high qs are) in
+          omega (arith, before, wide, more);
+      from = c.count_after-to.ensures ∙ ap (λ r. count_after c.args.leg.way c.args.leg.to r) rest;
+      written = λ qs xs are way.
+          let p = c.args.leg.place in
+          let a = c.args.leg.from in
+          let i : ℕ = c.parts.part - c.args.parts.first in
+          let w : ℕ = c.args.leg.way / 2 ^ (3 * (c.args.parts.end - (c.parts.part + 1))) in
+          let step = way_step d p qs a (c.parts.part - c.args.parts.first) (c.parts.part + 1 - c.args.parts.first) (c.args.leg.way / 2 ^ (3 * (c.args.parts.end - (c.parts.part + 1)))) c.count_after-to.result xs count way in
+          let less : w / 8 ≡ c.args.leg.way / 2 ^ (3 * (c.args.parts.end - c.parts.part)) = way_less c.args.leg.way (c.args.parts.end - (c.parts.part + 1)) ∙ ap (λ r. c.args.leg.way / 2 ^ (3 * r)) (sym left) in
+          let carried : w % 8 ≡ c.parts.from = sym (old.from ∙ ap (λ r. count_after c.args.leg.way c.args.leg.to r) left) in
+          let before : IsWayList d p qs a i (c.args.leg.way / 2 ^ (3 * (c.args.parts.end - c.parts.part))) c.parts.from step.earlier
+          = subst (λ v. IsWayList d p qs a i v c.parts.from step.earlier) less (subst (λ m. IsWayList d p qs a i (w / 8) m step.earlier) carried step.before) in
+          let earlier : c.parts.list.items ≡ c.args.list.now.items ++ step.earlier = old.written qs step.earlier are before in
+          let least : IsLeastKey (IsForestKey d None c.parts.place (pair_of s ∷ []) c.parts.from c.count_after-to.result) (Some step.key)
+          = subst (λ v. IsLeastKey (IsForestKey d None v (pair_of s ∷ []) c.parts.from c.count_after-to.result) (Some step.key)) (sym (old.place qs are))
+          (subst (λ q. IsLeastKey (IsForestKey d None (p + sizes (take i qs)) (q ∷ []) c.parts.from c.count_after-to.result) (Some step.key)) (sym (pair qs are))
+          (subst (λ m. IsLeastKey (IsForestKey d None (p + sizes (take i qs)) (get_or qs i (0, 0) ∷ []) m c.count_after-to.result) (Some step.key)) carried step.least)) in
+          let last : c.write.new.list.items ≡ c.parts.list.items ++ step.key.1 = c.in_ok-write.ensures.list s step.key at least in
+          last ∙ ap (λ l. l ++ step.key.1) earlier ∙ append_assoc c.args.list.now.items step.earlier step.key.1 ∙ ap (λ l. c.args.list.now.items ++ l) (sym step.whole);
+    }
+
+pub write_parts-returns-clause-list : goal.write_parts-returns-clause-list
+write_parts-returns-clause-list t c = λ qs xs are way.
+    let d = ground_of c.args.search.now.grammar.now c.args.search.now.input.now in
+    let old = c.parts.invariant in
+    let high : c.parts.part ≤ c.args.parts.end = old.high in
+    let over : c.args.parts.end ≤ c.parts.part = c.parts-test.false in
+    let none : c.args.parts.end - c.parts.part ≡ 0 = omega (arith, over) in
+    let all : c.args.parts.end - c.args.parts.first ≡ c.parts.part - c.args.parts.first = omega (arith, high, over) in
+    let base : c.args.leg.way ≡ c.args.leg.way / 2 ^ (3 * 0) = omega arith in
+    let whole : c.args.leg.way ≡ c.args.leg.way / 2 ^ (3 * (c.args.parts.end - c.parts.part)) = base ∙ ap (λ r. c.args.leg.way / 2 ^ (3 * r)) (sym none) in
+    let carried : c.args.leg.to ≡ c.parts.from = sym (old.from ∙ ap (λ r. count_after c.args.leg.way c.args.leg.to r) none) in
+    old.written qs xs are (subst (λ n. IsWayList d c.args.leg.place qs c.args.leg.from n (c.args.leg.way / 2 ^ (3 * (c.args.parts.end - c.parts.part))) c.parts.from xs) all
+    (subst (λ w. IsWayList d c.args.leg.place qs c.args.leg.from (c.args.parts.end - c.args.parts.first) w c.parts.from xs) whole
+    (subst (λ m. IsWayList d c.args.leg.place qs c.args.leg.from (c.args.parts.end - c.args.parts.first) c.args.leg.way m xs) carried way)))

@@ -1,4 +1,10 @@
-use Rattle.std.proofs.Common.{◌-◌}
+use Rattle.std.proofs.Common.{◌≡◌, ◌+◌, ◌-◌, ◌*◌, ◌/◌, ◌^◌, ◌≤◌, ◌++◌, ℕ, List, take}
+use Rattle.rhythm_base.specs.Bodies.{sizes}
+use Rattle.row_laws.specs.Grounds.{ground_of}
+use Rattle.row_laws.specs.Ways.{IsWayList}
+use Rattle.least_rows.specs.Parts.{AreSeatsOf, count_after}
+use Rattle.least_rows.specs.States.{AreKnown}
+use Rattle.least_rows.specs.Texts.{AreTexts, IsLonger}
 use Rattle.least_rows.proofs.PlanSeats.{parts_measure, seat_measure}
 use Rattle.least_rows.proofs.write.+lists.Given as goal
 
@@ -6,4 +12,19 @@ abbrev pub decreases-write : goal.decreases-write
 decreases-write l = seat_measure l.search.now.plan.now l.tree.seat
 
 abbrev pub decreases-write_parts : goal.decreases-write_parts
-decreases-write_parts l = parts_measure l.search.now.plan.now l.parts.width (l.leg.end - l.parts.first)
+decreases-write_parts l = parts_measure l.search.now.plan.now l.parts.width (l.parts.end - l.parts.first)
+
+-- the first parts are written, along the first digits of the way
+abbrev pub invariant-write_parts-parts : goal.invariant-write_parts-parts
+invariant-write_parts-parts l = record {
+  low : l.parts.first ≤ l.part;
+  high : l.part ≤ l.parts.end;
+  known : AreKnown l.search.grammar.now l.search.input.now l.search.plan.now l.rows;
+  texts : AreTexts l.search.grammar.now l.search.input.now l.search.plan.now l.list.items l.texts;
+  grows : IsLonger l.initial.list.items l.list.items;
+  place : (qs : List (ℕ × ℕ)) → AreSeatsOf l.search.plan.now l.parts qs → l.place ≡ l.leg.place + sizes (take (l.part - l.parts.first) qs);
+  from : l.from ≡ count_after l.leg.way l.leg.to (l.parts.end - l.part);
+  written : (qs : List (ℕ × ℕ)) (xs : List ℕ) → AreSeatsOf l.search.plan.now l.parts qs
+      → IsWayList (ground_of l.search.grammar.now l.search.input.now) l.leg.place qs l.leg.from (l.part - l.parts.first) (l.leg.way / 2 ^ (3 * (l.parts.end - l.part))) l.from xs
+      → l.list.items ≡ l.initial.list.items ++ xs;
+}
