@@ -1,6 +1,6 @@
 use crate::way::Way;
 
-/// Where a way over the first parts of a cut leads on to several.
+/// One way over the first parts of a cut, up to a part, from which it is followed or parts into several.
 #[derive(Clone, Copy)]
 pub struct Fork {
     /// The way up to the part before, and the number of chords carried out of it.
