@@ -17,7 +17,7 @@ use Rattle.row_laws.proofs.Bounds.{IsBounded}
 use Rattle.row_laws.proofs.Folds.{fold-alike, fold-via}
 use Rattle.row_laws.proofs.RowProducts.{row-apart, row-cheap, row-next, row-none, row-parse}
 use Rattle.least_rows.specs.declared.way.Way.{Way}
-use Rattle.least_rows.specs.Ways.{AreShort, AreWays, AreWaysOn, IsLow, IsWayMade, nearer_way, nearest_below, nearest_way, one_way, sum_of_way, way_on}
+use Rattle.least_rows.specs.Ways.{AreShort, AreWays, AreWaysOn, IsSmallWay, IsWayMade, nearer_way, nearest_below, nearest_way, one_way, sum_of_way, way_on}
 
 -- ---- which count between is taken
 
@@ -255,7 +255,7 @@ ways-short d ground bounds p a qs wide within n few front ways m w lm e =
     (cost, omega (arith, small.0, power), omega (arith, small.1, power))
 
 pub ways-low : (d : Ground) (p a : ℕ) (qs : List (ℕ × ℕ)) (n : ℕ) → n ≤ 15 → (front : ℕ → Option Way) → AreWays d p qs a n front → AreShort front
-    → (m : ℕ) (w : Way) → m < 5 → front m ≡ Some w → IsLow w
+    → (m : ℕ) (w : Way) → m < 5 → front m ≡ Some w → IsSmallWay w
 ways-low d p a qs n few front ways short m w lm e =
     let small = ways.short m w lm e in
     let power = small-power-less n few in

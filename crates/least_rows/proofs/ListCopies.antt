@@ -10,7 +10,8 @@ use Rattle.row_laws.specs.Grounds.{ground_of}
 use Rattle.grammar_plan.specs.Plans.{between, pair_of}
 use Rattle.grammar_plan.specs.declared.plan.Plan.{Plan}
 use Rattle.grammar_plan.specs.declared.seat.Seat.{Seat}
-use Rattle.least_rows.specs.Texts.{AreTexts, HasText, IsListOfTree, IsLonger, IsTextOf}
+use Rattle.least_rows.specs.Texts.{AreTexts, HasKept, IsListOfTree, StandsAt}
+use Rattle.grammar_plan.specs.Drafts.{IsLonger}
 use Rattle.least_rows.specs.declared.texts.Text.{Text}
 use Rattle.least_rows.specs.declared.texts.Texts.{Texts}
 use Rattle.least_rows.specs.declared.tree_at.TreeAt.{TreeAt}
@@ -49,14 +50,14 @@ module _ (g : Grammar) (k : BarInput) (plan : Plan) where
       record { order = order; within = omega (arith, within, long); list = λ s key at least. same ∙ own.list s key at least }
 
   -- the list of a tree, out of the text that is of it
-  pub text-list : (rules : List ℕ) (texts : Texts) (tree : TreeAt) (t : Text) → AreTexts g k plan rules texts → HasText texts t → t.tree ≡ tree → IsListOfTree g k plan tree (between rules t.first t.end)
+  pub text-list : (rules : List ℕ) (texts : Texts) (tree : TreeAt) (t : Text) → AreTexts g k plan rules texts → HasKept texts t → t.tree ≡ tree → IsListOfTree g k plan tree (between rules t.first t.end)
   text-list rules texts tree t h has same = subst (λ tree. IsListOfTree g k plan tree (between rules t.first t.end)) same (h t has).list
 
   -- one list more
   pub texts-kept : (before rules : List ℕ) (first end : ℕ) (tree : TreeAt) (old new : Texts) → first ≡ length before → end ≡ length rules → IsLonger before rules
       → ((s : Seat) (key : Key) → slice_get plan.seats.items tree.seat ≡ Some s → IsLeastKey (IsForestKey (ground_of g k) None tree.place (pair_of s ∷ []) tree.from tree.to) (Some key) → rules ≡ before ++ key.1)
       → AreTexts g k plan rules old
-      → ((t : Text) → HasText new t → HasText old t ⊎ IsTextOf tree first end t) → AreTexts g k plan rules new
+      → ((t : Text) → HasKept new t → HasKept old t ⊎ StandsAt tree first end t) → AreTexts g k plan rules new
   texts-kept before rules from to tree old new starts ends longer list texts kept t has = elim (kept t has) [
     | inl stood ↦ texts t stood
     | inr is ↦

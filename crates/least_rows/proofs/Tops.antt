@@ -12,7 +12,7 @@ use Rattle.grammar_plan.specs.Plans.{IsPlan, IsSeat, pair_of}
 use Rattle.grammar_plan.specs.declared.cut.Cut.{Cut}
 use Rattle.grammar_plan.specs.declared.plan.Plan.{Plan}
 use Rattle.grammar_plan.specs.declared.seat.Seat.{Seat}
-use Rattle.least_rows.specs.Ways.{AreShort, AreWays, AreWaysOn, IsLow, one_way}
+use Rattle.least_rows.specs.Ways.{AreShort, AreWays, AreWaysOn, IsSmallWay, one_way}
 use Rattle.least_rows.specs.Places.{HasPlace, width_at, width_of}
 use Rattle.least_rows.specs.Steps.{AreWaysOver}
 use Rattle.least_rows.specs.Tops.{IsTop, parts_of}
@@ -95,7 +95,7 @@ module _ (g : Grammar) (k : BarInput) (plan : Plan) (ready : IsReady g k) (of : 
       let wide = zone.within in
       ways-short d (grounded g k ready) (bounds g k ready) top.place top.from qs (cut-wide g k plan ready t.seat zone cut t.is) (omega (arith, all, wide)) n few ways h
 
-  pub to-low : (part : ℕ) → part < cut.end → (ways : ℕ → Option Way) → AreWays d top.place qs top.from (part - cut.first) ways → (m : ℕ) (w : Way) → m < 5 → ways m ≡ Some w → IsLow w
+  pub to-low : (part : ℕ) → part < cut.end → (ways : ℕ → Option Way) → AreWays d top.place qs top.from (part - cut.first) ways → (m : ℕ) (w : Way) → m < 5 → ways m ≡ Some w → IsSmallWay w
   to-low part high ways h =
       let few = cut-few g k plan ready t.seat zone cut t.is in
       let long = cut-long g plan t.seat cut t.is in

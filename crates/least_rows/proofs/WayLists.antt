@@ -35,7 +35,7 @@ use Rattle.grammar_plan.specs.declared.quiet_tree.QuietTree.{QuietTree}
 use Rattle.grammar_plan.specs.declared.seat.Seat.{Seat}
 use Rattle.least_rows.specs.Entries.{IsEntry, IsMade, IsRow}
 use Rattle.least_rows.specs.declared.entry.Entry.{Entry}
-use Rattle.least_rows.specs.Parts.{ArePartsOf, AreSeatsOf, IsLeg, count_after}
+use Rattle.least_rows.specs.Parts.{ArePartsOf, AreSeatsOf, IsLeg, carried_after}
 use Rattle.least_rows.specs.declared.parts.Parts.{Parts}
 use Rattle.std.proofs.lemmas.Nat.{shr-shr}
 use Rattle.least_rows.proofs.PlanSeats.{All-at, below-at, cut_below, cut_whole, has_seat-width, one_at, parts-at, parts-length, seat_of, width_of}
@@ -203,7 +203,7 @@ made_leaf d plan p q a rule o way to list made is = subst (λ o. IsMade d plan p
 
 -- the way over the first n parts, where r come after
 pub way_first : (d : Ground) (p : ℕ) (qs : List (ℕ × ℕ)) (a n r c way m : ℕ) (ys : List ℕ) → c ≡ n + r → IsWayList d p qs a c way m ys
-    → (xs : List ℕ) × IsWayList d p qs a n (way / 2 ^ (3 * r)) (count_after way m r) xs
+    → (xs : List ℕ) × IsWayList d p qs a n (way / 2 ^ (3 * r)) (carried_after way m r) xs
 way_first d p qs a n zero c way m ys e h =
     let count : c ≡ n = omega (arith, e) in
     let whole : way ≡ way / 2 ^ (3 * 0) = omega arith in
@@ -211,12 +211,12 @@ way_first d p qs a n zero c way m ys e h =
 way_first d p qs a n (suc r) c way m ys e h =
     let step = way_step d p qs a (n + r) c way m ys (omega (arith, e)) h in
     let more = way_first d p qs a n r (n + r) (way / 8) (way % 8) step.earlier refl step.before in
-    (more.0, subst (λ l. IsWayList d p qs a n (way / 2 ^ (3 * suc r)) l more.0) (digit r) (subst (λ w. IsWayList d p qs a n w (count_after (way / 8) (way % 8) r) more.0) (deeper r) more.1))
+    (more.0, subst (λ l. IsWayList d p qs a n (way / 2 ^ (3 * suc r)) l more.0) (digit r) (subst (λ w. IsWayList d p qs a n w (carried_after (way / 8) (way % 8) r) more.0) (deeper r) more.1))
   where
     deeper : (r : ℕ) → way / 8 / 2 ^ (3 * r) ≡ way / 2 ^ (3 * suc r)
     deeper r = let three : 3 + 3 * r ≡ 3 * suc r = omega arith in shr-shr way 3 (3 * r) ∙ ap (λ j. way / 2 ^ j) three
 
-    digit : (r : ℕ) → count_after (way / 8) (way % 8) r ≡ way / 2 ^ (3 * r) % 8
+    digit : (r : ℕ) → carried_after (way / 8) (way % 8) r ≡ way / 2 ^ (3 * r) % 8
     digit zero = omega arith
     digit (suc r) = ap (λ w. w % 8) (deeper r)
 

@@ -24,9 +24,9 @@ pub record ArePartsOf (plan : Plan) (x : Parts) : Type 0 where
   pub below : AreBelow x.width seats
 
 -- the number of chords carried out of a part that r parts come after, by the digits of the way
-abbrev pub count_after : (way m r : ℕ) → ℕ
-count_after way m zero = m
-count_after way m (suc r) = way / 2 ^ (3 * r) % 8
+abbrev pub carried_after : (way m r : ℕ) → ℕ
+carried_after way m zero = m
+carried_after way m (suc r) = way / 2 ^ (3 * r) % 8
 
 -- the parts lie in the bar, and the way leads over them
 pub record IsLeg (g : Grammar) (k : BarInput) (plan : Plan) (x : Parts) (leg : Leg) : Type 0 where

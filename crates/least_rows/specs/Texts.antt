@@ -1,5 +1,5 @@
 -- Rule lists that were written already, and where they stand.
-use Rattle.std.specs.Prelude.{◌≡◌, ◌⊎◌, ℕ, ◌≤◌, List, [], ◌∷◌, ◌++◌, length, slice_get, Some, None}
+use Rattle.std.specs.Prelude.{◌≡◌, ◌⊎◌, ℕ, ◌≤◌, List, [], ◌∷◌, length, slice_get, Some, None}
 use Rattle.rhythm_base.specs.BarInput.{BarInput}
 use Rattle.rhythm_base.specs.Grammar.{Grammar}
 use Rattle.rhythm_base.specs.Ranked.{Key}
@@ -14,19 +14,19 @@ use Rattle.least_rows.specs.declared.texts.Texts.{Texts}
 use Rattle.least_rows.specs.declared.tree_at.TreeAt.{TreeAt}
 
 -- one of the slots says so
-abbrev pub HasText : Texts → Text → Type 0
-HasText texts t = (i : ℕ) × (slice_get texts.slots.items i ≡ Some (Some t))
+abbrev pub HasKept : Texts → Text → Type 0
+HasKept texts t = (i : ℕ) × (slice_get texts.slots.items i ≡ Some (Some t))
 
-abbrev pub HasNoText : Texts → Type 0
-HasNoText texts = (t : Text) → HasText texts t → ⊥
+abbrev pub HasKeptNone : Texts → Type 0
+HasKeptNone texts = (t : Text) → HasKept texts t → ⊥
 
 -- the list of this tree, from the first place on, and before the end
-abbrev pub IsTextOf : TreeAt → (first end : ℕ) → Text → Type 0
-IsTextOf tree first end t = (t.tree ≡ tree) × (t.first ≡ first) × (t.end ≡ end)
+abbrev pub StandsAt : TreeAt → (first end : ℕ) → Text → Type 0
+StandsAt tree first end t = (t.tree ≡ tree) × (t.first ≡ first) × (t.end ≡ end)
 
 -- nothing stands that did not stand before, but for that list
 abbrev pub KeepsText : (old new : Texts) → TreeAt → (first end : ℕ) → Type 0
-KeepsText old new tree first end = (t : Text) → HasText new t → HasText old t ⊎ IsTextOf tree first end t
+KeepsText old new tree first end = (t : Text) → HasKept new t → HasKept old t ⊎ StandsAt tree first end t
 
 -- the rule list of a tree is that of its least key, where there is one
 abbrev pub IsListOfTree : Grammar → BarInput → Plan → TreeAt → List ℕ → Type 0
@@ -41,8 +41,4 @@ pub record IsText (g : Grammar) (k : BarInput) (plan : Plan) (rules : List ℕ) 
 
 -- and so for each
 abbrev pub AreTexts : Grammar → BarInput → Plan → List ℕ → Texts → Type 0
-AreTexts g k plan rules texts = (t : Text) → HasText texts t → IsText g k plan rules t
-
--- rules were written after those that stood
-abbrev pub IsLonger : List ℕ → List ℕ → Type 0
-IsLonger old new = (more : List ℕ) × (new ≡ old ++ more)
+AreTexts g k plan rules texts = (t : Text) → HasKept texts t → IsText g k plan rules t

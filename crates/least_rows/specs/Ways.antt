@@ -92,8 +92,8 @@ abbrev pub AreShort : (ℕ → Option Way) → Type 0
 AreShort ways = (m : ℕ) (w : Way) → m < 5 → ways m ≡ Some w → IsShort w
 
 -- so that the way with one part more does not overflow under a cut
-abbrev pub IsLow : Way → Type 0
-IsLow w = (w.cost ≤ 3000000000) × (w.order < 2 ^ 45) × (w.way < 2 ^ 45)
+abbrev pub IsSmallWay : Way → Type 0
+IsSmallWay w = (w.cost ≤ 3000000000) × (w.order < 2 ^ 45) × (w.way < 2 ^ 45)
 
 -- ---- one part more
 

@@ -8,7 +8,7 @@ ghost use Rattle.least_rows.specs.Choices.{
   nearer_choice,
   topped_choice,
 };
-ghost use Rattle.least_rows.specs.Ways.{AreEntries, IsLow, rank_in, way_on};
+ghost use Rattle.least_rows.specs.Ways.{AreEntries, IsSmallWay, rank_in, way_on};
 ghost use Rattle.least_rows.specs.declared.way.Way.{Way};
 ghost use Rattle.least_rows.specs.declared.choice.Choice.{Choice};
 ghost use Rattle.row_laws.specs.BestRules.{is_nearer};
@@ -97,7 +97,7 @@ pub fn offer_entries(
     count: u8,
     entries: &[Entry],
 )
-    requires low { IsLow way }
+    requires low { IsSmallWay way }
     requires count { count < 5 }
     requires entries { AreEntries entries.now }
     ensures { (b : ℕ) → b < 5 → choice_in best.new b ≡ nearer_choice (choice_in best.old b) (topped_choice cut.now number (way_on (Some way) count (rank_in entries.now 0 b))) }

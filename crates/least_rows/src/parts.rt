@@ -1,4 +1,4 @@
-ghost use Rattle.least_rows.specs.Parts.{count_after};
+ghost use Rattle.least_rows.specs.Parts.{carried_after};
 ghost use Rattle.std.specs.Prelude.{◌≡◌, ◌≤◌};
 
 /// The parts of a cut, in an interval of `width` units.
@@ -25,9 +25,9 @@ pub struct Leg {
 impl Leg {
     /// The number of chords carried out of a part that so many parts come after.
     #[inline(always)]
-    pub fn count_after(self, rest: u32) -> u8
+    pub fn carried_after(self, rest: u32) -> u8
         requires { rest ≤ 16 }
-        ensures { result ≡ count_after self.way self.to rest }
+        ensures { result ≡ carried_after self.way self.to rest }
     {
         if rest == 0 {
             self.to

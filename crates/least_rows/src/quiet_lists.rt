@@ -1,6 +1,6 @@
 ghost use Rattle.grammar_plan.specs.Plans.{IsPlan, pair_of};
 ghost use Rattle.grammar_plan.specs.declared.seat.Seat.{Seat};
-ghost use Rattle.least_rows.specs.Texts.{IsLonger};
+ghost use Rattle.grammar_plan.specs.Drafts.{IsLonger};
 ghost use Rattle.rhythm_base.specs.Ranked.{Key};
 ghost use Rattle.row_laws.specs.QuietTrees.{IsQuietLeast};
 ghost use Rattle.std.specs.Prelude.{◌≡◌, ◌<◌, ◌++◌, OnOk, Some, length, slice_get};

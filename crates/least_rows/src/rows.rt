@@ -1,7 +1,7 @@
 ghost use Rattle.grammar_plan.specs.Plans.{pair_of};
 ghost use Rattle.grammar_plan.specs.declared.seat.Seat.{Seat};
 ghost use Rattle.least_rows.specs.Choices.{RulesBefore};
-ghost use Rattle.least_rows.specs.Ways.{AreShort, IsLow, IsShort, one_way, way_in};
+ghost use Rattle.least_rows.specs.Ways.{AreShort, IsSmallWay, IsShort, one_way, way_in};
 ghost use Rattle.least_rows.specs.Places.{HasPlace};
 ghost use Rattle.least_rows.specs.Searches.{IsSearch};
 ghost use Rattle.least_rows.specs.States.{AreKnown, Grows, HasState, IsRowAt};
@@ -449,7 +449,7 @@ impl Rows {
         requires top { IsTop search.now.grammar.now search.now.input.now search.now.plan.now top cut.now }
         requires part { (cut.now.first ≤ fork.part) × (fork.part < cut.now.end) }
         requires begin { BeginsAt search.now.grammar.now search.now.input.now search.now.plan.now top cut.now fork.part fork.at }
-        requires low { IsLow fork.way }
+        requires low { IsSmallWay fork.way }
         requires count { fork.count < 5 }
         requires known { AreKnown search.now.grammar.now search.now.input.now search.now.plan.now self.old }
         ensures known { OnOk result (AreKnown search.now.grammar.now search.now.input.now search.now.plan.now self.new) }

@@ -1,4 +1,4 @@
-ghost use Rattle.least_rows.specs.Texts.{HasNoText, HasText, IsTextOf, KeepsText};
+ghost use Rattle.least_rows.specs.Texts.{HasKeptNone, HasKept, StandsAt, KeepsText};
 ghost use Rattle.std.specs.Prelude.{◌≡◌, IfSome, OnOk};
 
 use crate::tree_at::TreeAt;
@@ -30,7 +30,7 @@ impl Texts {
 
     /// Forgets all lists, and makes room for so many.
     pub fn clear(&mut self, count: usize) -> Result<(), AllocError>
-        ensures { OnOk result (HasNoText self.new) }
+        ensures { OnOk result (HasKeptNone self.new) }
     {
         self.slots.clear();
         self.slots.resize(count, None)
@@ -39,7 +39,7 @@ impl Texts {
     /// Where the list of a tree stands, if its slot has it.
     #[inline(always)]
     pub fn find(&self, slot: usize, tree: TreeAt) -> Option<Text>
-        ensures { IfSome result (λ t. HasText self.now t × (t.tree ≡ tree)) }
+        ensures { IfSome result (λ t. HasKept self.now t × (t.tree ≡ tree)) }
     {
         let text = (*self.slots.get(slot)?)?;
         let own = text.tree;
@@ -70,7 +70,7 @@ impl Texts {
 /// The list of a tree at these places, where they are small enough.
 #[inline(always)]
 fn text_at(tree: TreeAt, first: usize, end: usize) -> Option<Text>
-    ensures { IfSome result (IsTextOf tree first end) }
+    ensures { IfSome result (StandsAt tree first end) }
 {
     let first = u32::try_from(first).ok()?;
     let end = u32::try_from(end).ok()?;

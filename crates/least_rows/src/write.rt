@@ -3,7 +3,8 @@ ghost use Rattle.grammar_plan.specs.declared.seat.Seat.{Seat};
 ghost use Rattle.least_rows.specs.Parts.{ArePartsOf, AreSeatsOf, IsLeg};
 ghost use Rattle.least_rows.specs.Searches.{IsSearch};
 ghost use Rattle.least_rows.specs.States.{AreKnown};
-ghost use Rattle.least_rows.specs.Texts.{AreTexts, IsLonger};
+ghost use Rattle.least_rows.specs.Texts.{AreTexts};
+ghost use Rattle.grammar_plan.specs.Drafts.{IsLonger};
 ghost use Rattle.rhythm_base.specs.Bodies.{sizes};
 ghost use Rattle.rhythm_base.specs.Ranked.{Key};
 ghost use Rattle.rhythm_laws.specs.Forests.{IsForestKey};
@@ -143,7 +144,7 @@ fn write_parts(
     let mut from = leg.from;
     'parts: for part in parts.first..parts.end {
         let seat = search.plan.parts[part as usize];
-        let to = leg.count_after(parts.end - 1 - part);
+        let to = leg.carried_after(parts.end - 1 - part);
         let tree = TreeAt {
             seat,
             place,

@@ -1,7 +1,7 @@
 use Rattle.std.proofs.Common.{◌≡◌, ◌<◌, ◌≤◌, ◌++◌, ℕ, List}
 use Rattle.row_laws.specs.QuietTrees.{IsQuietList}
 use Rattle.grammar_plan.specs.Plans.{HaveSeats, between}
-use Rattle.least_rows.specs.Texts.{IsLonger}
+use Rattle.grammar_plan.specs.Drafts.{IsLonger}
 use Rattle.least_rows.proofs.PlanSeats.{seat_measure}
 use Rattle.least_rows.proofs.quiet_lists.+quiet_lists.Given as goal
 

@@ -18,8 +18,8 @@ use Rattle.grammar_plan.specs.declared.plan.Plan.{Plan}
 use Rattle.least_rows.proofs.PlanSeats.{has_seat-pair, has_seat-within, on_ok, one_at, parts_lower, seat_lower, seat_of, sizes-more}
 use Rattle.least_rows.proofs.WayLists.{cut_along, cut_leg, cut_parts, entry_list, entry_made, cut_count, entry_there, made_cut, made_leaf, made_there, part_narrow, part_seat, part_there, quiet-key, sizes_upto, way_first, way_less, way_step}
 use Rattle.least_rows.proofs.Cutting.{cut-few}
-use Rattle.least_rows.specs.Parts.{AreSeatsOf, count_after}
-use Rattle.least_rows.specs.Texts.{IsLonger}
+use Rattle.least_rows.specs.Parts.{AreSeatsOf, carried_after}
+use Rattle.grammar_plan.specs.Drafts.{IsLonger}
 use Rattle.row_laws.specs.Ways.{IsWayList}
 use Rattle.least_rows.proofs.ListCopies.{longer-later, longer-same, on_appended, text-list, texts-kept, texts-longer}
 use Rattle.least_rows.proofs.write.+lists.Goals as goal
@@ -264,9 +264,9 @@ write_parts-write-requires t c =
     let lower = seat_lower plan n c.args.parts.width (c.args.parts.end - c.args.parts.first) q seat narrow in
     let count : c.args.parts.end - c.args.parts.first ≡ suc (c.parts.part - c.args.parts.first) + (c.args.parts.end - 1 - c.parts.part) = omega (arith, low, high) in
     let some = way_first d c.args.leg.place leg.seats c.args.leg.from (suc (c.parts.part - c.args.parts.first)) (c.args.parts.end - 1 - c.parts.part) (c.args.parts.end - c.args.parts.first) c.args.leg.way c.args.leg.to leg.list count leg.way in
-    let step = way_step d c.args.leg.place leg.seats c.args.leg.from (c.parts.part - c.args.parts.first) (suc (c.parts.part - c.args.parts.first)) (c.args.leg.way / 2 ^ (3 * (c.args.parts.end - 1 - c.parts.part))) (count_after c.args.leg.way c.args.leg.to (c.args.parts.end - 1 - c.parts.part)) some.0 refl some.1 in
+    let step = way_step d c.args.leg.place leg.seats c.args.leg.from (c.parts.part - c.args.parts.first) (suc (c.parts.part - c.args.parts.first)) (c.args.leg.way / 2 ^ (3 * (c.args.parts.end - 1 - c.parts.part))) (carried_after c.args.leg.way c.args.leg.to (c.args.parts.end - 1 - c.parts.part)) some.0 refl some.1 in
     let left : c.args.parts.end - c.parts.part ≡ suc (c.args.parts.end - 1 - c.parts.part) = omega (arith, high) in
-    let carried : c.parts.from ≡ c.args.leg.way / 2 ^ (3 * (c.args.parts.end - 1 - c.parts.part)) % 8 = old.from ∙ ap (λ r. count_after c.args.leg.way c.args.leg.to r) left in
+    let carried : c.parts.from ≡ c.args.leg.way / 2 ^ (3 * (c.args.parts.end - 1 - c.parts.part)) % 8 = old.from ∙ ap (λ r. carried_after c.args.leg.way c.args.leg.to r) left in
     let few : c.parts.from < 5 = subst (λ m. m < 5) (sym carried) step.digit in
     and_then (omega (arith, lower, c.decreases)) (and_then c.requires.search (and_then (has_seat-within plan n q seat)
     (and_then (λ s at. let wide : s.width ≡ q.0 = ap (λ (q : ℕ × ℕ). q.0) (has_seat-pair plan n q s seat at) in omega (arith, wide, place, within, upto))
@@ -338,22 +338,22 @@ write_parts-parts-preserved t c =
           let more : sizes (take (c.parts.part + 1 - c.args.parts.first) qs) ≡ sizes (take (c.parts.part - c.args.parts.first) qs) + (get_or qs (c.parts.part - c.args.parts.first) (0, 0)).0
           = ap (λ n. sizes (take n qs)) count ∙ sizes-more qs (c.parts.part - c.args.parts.first) (part_there plan c.args.parts c.requires.parts c.parts.part n low high qs are) in
           omega (arith, before, wide, more);
-      from = c.count_after-to.ensures ∙ ap (λ r. count_after c.args.leg.way c.args.leg.to r) rest;
+      from = c.carried_after-to.ensures ∙ ap (λ r. carried_after c.args.leg.way c.args.leg.to r) rest;
       written = λ qs xs are way.
           let p = c.args.leg.place in
           let a = c.args.leg.from in
           let i : ℕ = c.parts.part - c.args.parts.first in
           let w : ℕ = c.args.leg.way / 2 ^ (3 * (c.args.parts.end - (c.parts.part + 1))) in
-          let step = way_step d p qs a (c.parts.part - c.args.parts.first) (c.parts.part + 1 - c.args.parts.first) (c.args.leg.way / 2 ^ (3 * (c.args.parts.end - (c.parts.part + 1)))) c.count_after-to.result xs count way in
+          let step = way_step d p qs a (c.parts.part - c.args.parts.first) (c.parts.part + 1 - c.args.parts.first) (c.args.leg.way / 2 ^ (3 * (c.args.parts.end - (c.parts.part + 1)))) c.carried_after-to.result xs count way in
           let less : w / 8 ≡ c.args.leg.way / 2 ^ (3 * (c.args.parts.end - c.parts.part)) = way_less c.args.leg.way (c.args.parts.end - (c.parts.part + 1)) ∙ ap (λ r. c.args.leg.way / 2 ^ (3 * r)) (sym left) in
-          let carried : w % 8 ≡ c.parts.from = sym (old.from ∙ ap (λ r. count_after c.args.leg.way c.args.leg.to r) left) in
+          let carried : w % 8 ≡ c.parts.from = sym (old.from ∙ ap (λ r. carried_after c.args.leg.way c.args.leg.to r) left) in
           let before : IsWayList d p qs a i (c.args.leg.way / 2 ^ (3 * (c.args.parts.end - c.parts.part))) c.parts.from step.earlier
           = subst (λ v. IsWayList d p qs a i v c.parts.from step.earlier) less (subst (λ m. IsWayList d p qs a i (w / 8) m step.earlier) carried step.before) in
           let earlier : c.parts.list.items ≡ c.args.list.now.items ++ step.earlier = old.written qs step.earlier are before in
-          let least : IsLeastKey (IsForestKey d None c.parts.place (pair_of s ∷ []) c.parts.from c.count_after-to.result) (Some step.key)
-          = subst (λ v. IsLeastKey (IsForestKey d None v (pair_of s ∷ []) c.parts.from c.count_after-to.result) (Some step.key)) (sym (old.place qs are))
-          (subst (λ q. IsLeastKey (IsForestKey d None (p + sizes (take i qs)) (q ∷ []) c.parts.from c.count_after-to.result) (Some step.key)) (sym (pair qs are))
-          (subst (λ m. IsLeastKey (IsForestKey d None (p + sizes (take i qs)) (get_or qs i (0, 0) ∷ []) m c.count_after-to.result) (Some step.key)) carried step.least)) in
+          let least : IsLeastKey (IsForestKey d None c.parts.place (pair_of s ∷ []) c.parts.from c.carried_after-to.result) (Some step.key)
+          = subst (λ v. IsLeastKey (IsForestKey d None v (pair_of s ∷ []) c.parts.from c.carried_after-to.result) (Some step.key)) (sym (old.place qs are))
+          (subst (λ q. IsLeastKey (IsForestKey d None (p + sizes (take i qs)) (q ∷ []) c.parts.from c.carried_after-to.result) (Some step.key)) (sym (pair qs are))
+          (subst (λ m. IsLeastKey (IsForestKey d None (p + sizes (take i qs)) (get_or qs i (0, 0) ∷ []) m c.carried_after-to.result) (Some step.key)) carried step.least)) in
           let last : c.write.new.list.items ≡ c.parts.list.items ++ step.key.1 = c.in_ok-write.ensures.list s step.key at least in
           last ∙ ap (λ l. l ++ step.key.1) earlier ∙ append_assoc c.args.list.now.items step.earlier step.key.1 ∙ ap (λ l. c.args.list.now.items ++ l) (sym step.whole);
     }
@@ -368,7 +368,7 @@ write_parts-returns-clause-list t c = λ qs xs are way.
     let all : c.args.parts.end - c.args.parts.first ≡ c.parts.part - c.args.parts.first = omega (arith, high, over) in
     let base : c.args.leg.way ≡ c.args.leg.way / 2 ^ (3 * 0) = omega arith in
     let whole : c.args.leg.way ≡ c.args.leg.way / 2 ^ (3 * (c.args.parts.end - c.parts.part)) = base ∙ ap (λ r. c.args.leg.way / 2 ^ (3 * r)) (sym none) in
-    let carried : c.args.leg.to ≡ c.parts.from = sym (old.from ∙ ap (λ r. count_after c.args.leg.way c.args.leg.to r) none) in
+    let carried : c.args.leg.to ≡ c.parts.from = sym (old.from ∙ ap (λ r. carried_after c.args.leg.way c.args.leg.to r) none) in
     old.written qs xs are (subst (λ n. IsWayList d c.args.leg.place qs c.args.leg.from n (c.args.leg.way / 2 ^ (3 * (c.args.parts.end - c.parts.part))) c.parts.from xs) all
     (subst (λ w. IsWayList d c.args.leg.place qs c.args.leg.from (c.args.parts.end - c.args.parts.first) w c.parts.from xs) whole
     (subst (λ m. IsWayList d c.args.leg.place qs c.args.leg.from (c.args.parts.end - c.args.parts.first) c.args.leg.way m xs) carried way)))

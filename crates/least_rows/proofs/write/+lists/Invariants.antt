@@ -2,9 +2,10 @@ use Rattle.std.proofs.Common.{◌≡◌, ◌+◌, ◌-◌, ◌*◌, ◌/◌, ◌
 use Rattle.rhythm_base.specs.Bodies.{sizes}
 use Rattle.row_laws.specs.Grounds.{ground_of}
 use Rattle.row_laws.specs.Ways.{IsWayList}
-use Rattle.least_rows.specs.Parts.{AreSeatsOf, count_after}
+use Rattle.least_rows.specs.Parts.{AreSeatsOf, carried_after}
 use Rattle.least_rows.specs.States.{AreKnown}
-use Rattle.least_rows.specs.Texts.{AreTexts, IsLonger}
+use Rattle.least_rows.specs.Texts.{AreTexts}
+use Rattle.grammar_plan.specs.Drafts.{IsLonger}
 use Rattle.least_rows.proofs.PlanSeats.{parts_measure, seat_measure}
 use Rattle.least_rows.proofs.write.+lists.Given as goal
 
@@ -23,7 +24,7 @@ invariant-write_parts-parts l = record {
   texts : AreTexts l.search.grammar.now l.search.input.now l.search.plan.now l.list.items l.texts;
   grows : IsLonger l.initial.list.items l.list.items;
   place : (qs : List (ℕ × ℕ)) → AreSeatsOf l.search.plan.now l.parts qs → l.place ≡ l.leg.place + sizes (take (l.part - l.parts.first) qs);
-  from : l.from ≡ count_after l.leg.way l.leg.to (l.parts.end - l.part);
+  from : l.from ≡ carried_after l.leg.way l.leg.to (l.parts.end - l.part);
   written : (qs : List (ℕ × ℕ)) (xs : List ℕ) → AreSeatsOf l.search.plan.now l.parts qs
       → IsWayList (ground_of l.search.grammar.now l.search.input.now) l.leg.place qs l.leg.from (l.part - l.parts.first) (l.leg.way / 2 ^ (3 * (l.parts.end - l.part))) l.from xs
       → l.list.items ≡ l.initial.list.items ++ xs;

@@ -8,7 +8,7 @@ use Rattle.row_laws.specs.LeafRules.{EndsInterval}
 use Rattle.grammar_plan.specs.Plans.{IsSeat, pair_of}
 use Rattle.grammar_plan.specs.declared.seat.Seat.{Seat}
 use Rattle.least_rows.specs.Choices.{AreBestChoices, RulesBefore, choice_in, is_over, limit_of, nearer_choice, topped_choice}
-use Rattle.least_rows.specs.Ways.{AreShort, AreWays, AreWaysBelow, IsLow, IsRanked, IsShort, nearer_way, one_way, quiet_rank, rank_in, way_in, way_on}
+use Rattle.least_rows.specs.Ways.{AreShort, AreWays, AreWaysBelow, IsSmallWay, IsRanked, IsShort, nearer_way, one_way, quiet_rank, rank_in, way_in, way_on}
 use Rattle.least_rows.specs.Steps.{AreChoicesOf, EndsThere, IsLeafAt, LeadsOver, way_to_none}
 use Rattle.least_rows.specs.Tops.{AreWaysTo, IsOffered, IsTop, part_at, parts_of}
 use Rattle.least_rows.specs.declared.choice.Choice.{Choice}
@@ -51,7 +51,7 @@ no-way : (o : Option Way) → ((w : Way) → o ≡ Some w → ⊥) → o ≡ Non
 no-way None h = refl
 no-way (Some w) h = absurd (h w refl)
 
-one-low : (w : Way) (m : ℕ) → m < 5 → ((n : ℕ) (v : Way) → n < 5 → one_way w m n ≡ Some v → IsLow v) → IsLow w
+one-low : (w : Way) (m : ℕ) → m < 5 → ((n : ℕ) (v : Way) → n < 5 → one_way w m n ≡ Some v → IsSmallWay v) → IsSmallWay w
 one-low w m low h = h m w low (own (m == m) (grind (arith, nat_tests)))
   where
     own : (t : Bool) → t ≡ true → (if t then Some w else None) ≡ Some w
