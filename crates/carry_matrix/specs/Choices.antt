@@ -1,16 +1,19 @@
--- What the code's choices stand for.
-use Rattle.std.specs.Prelude.{ℕ, List, slice_index_or, map, Option, Some, None}
-use Rattle.rhythm_base.specs.declared.best.Best.{Best}
+-- How the counts in the middle, and their sums, stand as choices.
+use Rattle.std.specs.Prelude.{ℕ, ◌+◌, ◌*◌, ◌<◌, ◌≤◌, ◌^◌, List, Option, Some, None}
+use Rattle.rhythm_base.specs.Ranked.{Sum, five}
 use Rattle.carry_matrix.specs.declared.choice.Choice.{Choice}
-use Rattle.rhythm_base.specs.Ranked.{Sum, sum_key, ranked}
 
-abbrev pub taken : Option Choice → Option (ℕ × Sum)
-taken None = None
-taken (Some c) = Some (c.middle, (c.cost, c.left, c.right))
+abbrev pub choice_code : Option (ℕ × Sum) → Choice
+choice_code None = record { cost = 2 ^ 62; order = 0; middle = 0 }
+choice_code (Some x) = record { cost = x.1.0; order = 8 * x.1.1 + x.1.2; middle = x.0 }
 
-abbrev pub taken_all : List (Option Choice) → List (Option (ℕ × Sum))
-taken_all row = map taken row
+abbrev pub choices_code : (ℕ → Option (ℕ × Sum)) → List Choice
+choices_code o = five (λ to. choice_code (o to))
 
--- the entry of a row of choices
-abbrev pub entry_of : List (Option (ℕ × Sum)) → ℕ → Option Best
-entry_of row to = ranked (λ n. sum_key (slice_index_or row n None)) (sum_key (slice_index_or row to None))
+-- a cost below 2 ^ 62 and a rank on the right of at most 5, where there is a sum
+abbrev pub IsLowSum : Option (ℕ × Sum) → Type 0
+IsLowSum None = Unit {0}
+IsLowSum (Some x) = (x.1.0 < 2 ^ 62) × (x.1.2 ≤ 5)
+
+abbrev pub AreLowSums : (ℕ → Option (ℕ × Sum)) → Type 0
+AreLowSums o = (to : ℕ) → to < 5 → IsLowSum (o to)

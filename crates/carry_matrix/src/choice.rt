@@ -1,147 +1,137 @@
-ghost use Rattle.carry_matrix.specs.Choices.{entry_of, taken, taken_all};
-ghost use Rattle.rhythm_base.specs.Ranked.{better, is_under, sum_before, sum_key, summed};
+ghost use Rattle.carry_matrix.specs.Choices.{AreLowSums, IsLowSum, choice_code, choices_code};
+ghost use Rattle.carry_matrix.specs.Rows.{IsWithin, cost_code, rank_code, row_code};
+ghost use Rattle.rhythm_base.specs.Ranked.{Sum, better, is_under, ranked, sum_before, sum_key, summed};
 ghost use Rattle.rhythm_base.specs.declared.best.Best.{Best};
 ghost use Rattle.std.specs.Prelude.{
   ◌≡◌,
   ◌+◌,
   ◌<◌,
+  ◌≤◌,
   ◌∷◌,
-  ◌||◌,
-  ◌&&◌,
-  ◌==◌,
   ◌^◌,
   ℕ,
   [],
-  nat_lt,
   if◌then◌else◌,
-  slice_index_or,
+  ◌*◌,
+  Option,
   None,
   Some,
 };
 
+use crate::row::{ABSENT, Row};
 use rhythm_base::Best;
 
-/// A count in the middle, with the sum of the two costs there and the ranks on both sides.
+/// A count in the middle, with the sum of the two costs there, and the ranks on both sides as one number, its order: eight
+/// times the rank on the left, and the rank on the right. Where no count has both entries, the cost is `ABSENT`.
 #[derive(Clone, Copy)]
 pub struct Choice {
     pub cost: u64,
-    pub left: u8,
-    pub right: u8,
+    pub order: u8,
     pub middle: u8,
 }
 
 /// Choices by the number of chords carried out.
-pub type Choices = [Option<Choice>; 5];
+pub type Choices = [Choice; 5];
 
+/// No count in the middle.
 #[inline(always)]
-fn is_nearer(x: &Choice, best: &Choice) -> bool
-    ensures { result ≡ nat_lt x.now.cost best.now.cost || ((x.now.cost == best.now.cost) && nat_lt x.now.left best.now.left) }
+pub fn none() -> Choice
+    ensures { result ≡ choice_code None }
 {
-    x.cost < best.cost || (x.cost == best.cost && x.left < best.left)
+    Choice {
+        cost: ABSENT,
+        order: 0,
+        middle: 0,
+    }
 }
 
-/// Offers the sum of two entries round a count in the middle: it is taken where it is nearer than what stands there.
+/// What is nearer: the choice, or the sum of two entries round a count in the middle, the right of which stands as a cost
+/// and a rank. Ranks are below 8, so an order above `order + 7` is one of a higher rank on the left.
 #[inline(always)]
-fn offer(place: &mut Option<Choice>, left: Best, right: Option<Best>, middle: u8)
-    requires small { (y : Best) → right ≡ Some y → left.cost + y.cost < 2 ^ 62 }
-    ensures { taken place.new ≡ better sum_before (taken place.old) middle (summed (Some left) right) }
+pub fn nearer(best: Choice, left: Best, cost: u64, rank: u8, middle: u8) -> Choice
+    requires left { (left.cost < 2 ^ 62) × (left.rank ≤ 5) }
+    requires right { (cost ≤ 2 ^ 62) × (rank ≤ 5) }
+    ensures { (o : Option (ℕ × Sum)) (right : Option Best) → IsLowSum o → best ≡ choice_code o → cost ≡ cost_code right → rank ≡ rank_code right
+        → ((y : Best) → right ≡ Some y → left.cost + y.cost < 2 ^ 62) → result ≡ choice_code (better sum_before o middle (summed (Some left) right)) }
 {
-    let Some(right) = right else {
-        return;
-    };
-    let next = Choice {
-        cost: left.cost + right.cost,
-        left: left.rank,
-        right: right.rank,
-        middle,
-    };
-    match place {
-        Some(best) => {
-            if is_nearer(&next, best) {
-                *best = next;
-            }
+    let sum = left.cost + cost;
+    let order = 8 * left.rank;
+    if sum < best.cost || (sum == best.cost && order + 7 < best.order) {
+        Choice {
+            cost: sum,
+            order: order + rank,
+            middle,
         }
-        None => *place = Some(next),
+    } else {
+        best
     }
 }
 
-/// Offers the sum of two entries, where both are there.
-pub fn offer_over(place: &mut Option<Choice>, left: Option<Best>, right: Option<Best>, middle: u8)
-    requires small { (x y : Best) → left ≡ Some x → right ≡ Some y → x.cost + y.cost < 2 ^ 62 }
-    ensures { taken place.new ≡ better sum_before (taken place.old) middle (summed left right) }
+/// What is nearer for each number carried out: the choice, or the sum of an entry and that of a row.
+#[inline(always)]
+pub fn nearer_row(choices: &Choices, left: Best, row: &Row, middle: u8) -> Choices
+    requires left { (left.cost < 2 ^ 62) × (left.rank ≤ 5) }
+    requires right { IsWithin row.now }
+    ensures { (o : ℕ → Option (ℕ × Sum)) (right : ℕ → Option Best) → AreLowSums o → choices.now ≡ choices_code o → row.now ≡ row_code right
+        → ((to : ℕ) (y : Best) → to < 5 → right to ≡ Some y → left.cost + y.cost < 2 ^ 62) → result ≡ choices_code (λ to. better sum_before (o to) middle (summed (Some left) (right to))) }
 {
-    if let Some(left) = left {
-        offer(place, left, right, middle);
-    }
+    [
+        nearer(choices[0], left, row.costs[0], row.ranks[0], middle),
+        nearer(choices[1], left, row.costs[1], row.ranks[1], middle),
+        nearer(choices[2], left, row.costs[2], row.ranks[2], middle),
+        nearer(choices[3], left, row.costs[3], row.ranks[3], middle),
+        nearer(choices[4], left, row.costs[4], row.ranks[4], middle),
+    ]
 }
 
-/// Offers the sums of an entry, where it is there, and those of a row.
+/// 1 where the choice is there and its order is lower, and else 0.
 #[inline(always)]
-pub fn offer_row_over(
-    choices: &mut Choices,
-    left: Option<Best>,
-    row: &[Option<Best>; 5],
-    middle: u8,
-)
-    requires small { (x y : Best) (to : ℕ) → left ≡ Some x → to < 5 → slice_index_or row.now to None ≡ Some y → x.cost + y.cost < 2 ^ 62 }
-    ensures { (to : ℕ) → to < 5
-        → taken (slice_index_or choices.new to None) ≡ better sum_before (taken (slice_index_or choices.old to None)) middle (summed left (slice_index_or row.now to None)) }
-{
-    if let Some(left) = left {
-        offer_row(choices, left, row, middle);
-    }
-}
-
-/// Offers the sums of an entry and those of a row.
-#[inline(always)]
-fn offer_row(choices: &mut Choices, left: Best, row: &[Option<Best>; 5], middle: u8)
-    requires small { (to : ℕ) (y : Best) → to < 5 → slice_index_or row.now to None ≡ Some y → left.cost + y.cost < 2 ^ 62 }
-    ensures { (to : ℕ) → to < 5
-        → taken (slice_index_or choices.new to None) ≡ better sum_before (taken (slice_index_or choices.old to None)) middle (summed (Some left) (slice_index_or row.now to None)) }
-{
-    offer(&mut choices[0], left, row[0], middle);
-    offer(&mut choices[1], left, row[1], middle);
-    offer(&mut choices[2], left, row[2], middle);
-    offer(&mut choices[3], left, row[3], middle);
-    offer(&mut choices[4], left, row[4], middle);
-}
-
-/// 1 where the choice is there and its ranks are lower, and else 0.
-#[inline(always)]
-fn lower(choice: &Option<Choice>, left: u8, right: u8) -> u8
-    ensures is { result ≡ (if is_under (sum_key (taken choice.now)) (left ∷ right ∷ []) then 1 else 0) }
+fn lower(choice: Choice, order: u8) -> u8
     ensures small { result < 2 }
+    ensures is { (o : Option (ℕ × Sum)) (l r : ℕ) → IsLowSum o → choice ≡ choice_code o → r ≤ 5 → order ≡ 8 * l + r → result ≡ (if is_under (sum_key o) (l ∷ r ∷ []) then 1 else 0) }
 {
-    match choice {
-        None => 0,
-        Some(choice) => {
-            if choice.left < left || (choice.left == left && choice.right < right) {
-                1
-            } else {
-                0
-            }
-        }
+    if choice.cost < ABSENT && choice.order < order {
+        1
+    } else {
+        0
     }
 }
 
-/// The entry of a row: its cost, and how many of the row have lower ranks.
+/// How many of the choices have a lower order than one of them, 0 where that is none.
 #[inline(always)]
-pub fn entry(row: &Choices, to: usize) -> Option<Best>
-    requires { to < 5 }
-    ensures { result ≡ entry_of (taken_all row.now) to }
+fn rank(choices: &Choices, own: Choice) -> u8
+    ensures { (o : ℕ → Option (ℕ × Sum)) (u : Option (ℕ × Sum)) → AreLowSums o → IsLowSum u → choices.now ≡ choices_code o → own ≡ choice_code u
+        → result ≡ rank_code (ranked (λ n. sum_key (o n)) (sum_key u)) }
 {
-    match &row[to] {
-        None => None,
-        Some(own) => {
-            let rank = lower(&row[4], own.left, own.right)
-                + (lower(&row[3], own.left, own.right)
-                    + (lower(&row[2], own.left, own.right)
-                        + (lower(&row[1], own.left, own.right)
-                            + lower(&row[0], own.left, own.right))));
-            Some(Best {
-                cost: own.cost,
-                rank,
-            })
-        }
+    if own.cost < ABSENT {
+        lower(choices[4], own.order)
+            + (lower(choices[3], own.order)
+                + (lower(choices[2], own.order)
+                    + (lower(choices[1], own.order) + lower(choices[0], own.order))))
+    } else {
+        0
+    }
+}
+
+/// The row of the choices.
+#[inline(always)]
+pub fn row_chosen(choices: &Choices) -> Row
+    ensures { (o : ℕ → Option (ℕ × Sum)) → AreLowSums o → choices.now ≡ choices_code o → result ≡ row_code (λ to. ranked (λ n. sum_key (o n)) (sum_key (o to))) }
+{
+    Row {
+        costs: [
+            choices[0].cost,
+            choices[1].cost,
+            choices[2].cost,
+            choices[3].cost,
+            choices[4].cost,
+        ],
+        ranks: [
+            rank(choices, choices[0]),
+            rank(choices, choices[1]),
+            rank(choices, choices[2]),
+            rank(choices, choices[3]),
+            rank(choices, choices[4]),
+        ],
     }
 }

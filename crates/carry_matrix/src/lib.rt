@@ -8,6 +8,7 @@ mod choice;
 mod laws;
 mod matrix;
 mod products;
+mod row;
 mod steps;
 
 pub use laws::{identity_is_neutral, products_associate};

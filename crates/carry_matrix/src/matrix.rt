@@ -1,7 +1,9 @@
+ghost use Rattle.carry_matrix.specs.Rows.{AreRows, IsWithin, entries_of, row_code};
 ghost use Rattle.rhythm_base.specs.Paths.{AreLow, IsLow, IsRanked};
 ghost use Rattle.rhythm_base.specs.Ranked.{at, identity_entries};
-ghost use Rattle.std.specs.Prelude.{◌≡◌, ◌<◌, [], slice_index_or};
+ghost use Rattle.std.specs.Prelude.{◌≡◌, ◌<◌};
 
+use crate::row::{Row, entry, row_of};
 use rhythm_base::Best;
 use std::marker::Model;
 
@@ -9,20 +11,24 @@ use std::marker::Model;
 /// from 0, each once; a cost is below 2 to the power 62.
 #[derive(Clone, Copy)]
 pub struct CarryMatrix {
-    entries: [[Option<Best>; 5]; 5],
+    rows: [Row; 5],
 }
 
 impl Model for CarryMatrix {
-    ghost use Rattle.rhythm_base.specs.Paths.{AreLow, IsRanked};
     ghost use Rattle.rhythm_base.specs.Ranked.{CarryMatrix};
 
     ghost Value = { CarryMatrix };
 
-    ghost view = { λ m. m.entries };
+    ghost use Rattle.carry_matrix.specs.Rows.{AreRows, entries_of, rows_of};
+    ghost use Rattle.std.proofs.Common.{sym};
 
-    ghost invariant = { λ m. IsRanked m.entries × AreLow m.entries };
+    ghost view = { λ m. entries_of m.rows };
 
-    ghost inverse = { λ v. record { entries = v } };
+    ghost invariant = { λ m. AreRows m.rows };
+
+    ghost inverse = { λ v. record { rows = rows_of v } };
+
+    ghost inverse_ok = { λ a h. λ i. record { rows = sym h.coded i } };
 }
 
 impl CarryMatrix {
@@ -32,7 +38,21 @@ impl CarryMatrix {
         requires costs { AreLow entries }
         ensures { result ≡ entries }
     {
-        CarryMatrix { entries }
+        let first = row_of(&entries[0]);
+        let second = row_of(&entries[1]);
+        let third = row_of(&entries[2]);
+        let fourth = row_of(&entries[3]);
+        let fifth = row_of(&entries[4]);
+        CarryMatrix::of([first, second, third, fourth, fifth])
+    }
+
+    /// The matrix of these rows.
+    #[inline(always)]
+    pub(crate) fn of(rows: [Row; 5]) -> CarryMatrix
+        requires { AreRows rows }
+        ensures { result ≡ entries_of rows }
+    {
+        CarryMatrix { rows }
     }
 
     /// Cost 0 and rank 0 on the diagonal and nothing else: no product with it changes a matrix.
@@ -40,18 +60,17 @@ impl CarryMatrix {
         ensures { result ≡ identity_entries }
     {
         let own = Some(Best { cost: 0, rank: 0 });
-        CarryMatrix {
-            entries: [
-                [own, None, None, None, None],
-                [None, own, None, None, None],
-                [None, None, own, None, None],
-                [None, None, None, own, None],
-                [None, None, None, None, own],
-            ],
-        }
+        CarryMatrix::make([
+            [own, None, None, None, None],
+            [None, own, None, None, None],
+            [None, None, own, None, None],
+            [None, None, None, own, None],
+            [None, None, None, None, own],
+        ])
     }
 
     /// The entry for these numbers carried in and out.
+    #[inline(always)]
     pub fn get(&self, from: u8, to: u8) -> Option<Best>
         requires from { from < 5 }
         requires to { to < 5 }
@@ -59,21 +78,24 @@ impl CarryMatrix {
         ensures sound { IsRanked self.now }
         ensures low { IsLow result }
     {
-        self.entries[from as usize][to as usize]
+        let row = &self.rows[from as usize];
+        entry(row.costs[to as usize], row.ranks[to as usize])
     }
 
-    /// The entries for this number carried in, by the number carried out.
-    pub(crate) fn row(&self, from: u8) -> &[Option<Best>; 5]
+    /// The entries for this number carried in.
+    #[inline(always)]
+    pub(crate) fn row(&self, from: u8) -> &Row
         requires { from < 5 }
-        ensures { result.now ≡ slice_index_or self.now from [] }
+        ensures is { result.now ≡ row_code (at self.now from) }
+        ensures within { IsWithin result.now }
     {
-        &self.entries[from as usize]
+        &self.rows[from as usize]
     }
 
     /// What every matrix keeps.
     pub(crate) fn see(&self)
         ensures { IsRanked self.now }
     {
-        let _ = &self.entries;
+        let _ = &self.rows;
     }
 }

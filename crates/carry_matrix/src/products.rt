@@ -1,24 +1,37 @@
-ghost use Rattle.carry_matrix.specs.Choices.{taken};
+ghost use Rattle.carry_matrix.specs.Choices.{choice_code, choices_code};
 ghost use Rattle.carry_matrix.specs.LowSums.{HaveLowSums};
+ghost use Rattle.carry_matrix.specs.Rows.{row_code};
 ghost use Rattle.rhythm_base.specs.Counter.{risen};
-ghost use Rattle.rhythm_base.specs.Ranked.{choice, middle_of, product_of};
-ghost use Rattle.std.specs.Prelude.{◌≡◌, ◌<◌, ℕ, None, [], slice_index_or};
+ghost use Rattle.rhythm_base.specs.Paths.{IsRanked};
+ghost use Rattle.rhythm_base.specs.Ranked.{at, choice, middle_of, product_of};
+ghost use Rattle.std.specs.Prelude.{◌≡◌, ◌<◌};
 
-use crate::choice::{Choice, Choices, entry, offer_over, offer_row_over};
+use crate::choice::{Choice, Choices, nearer, nearer_row, none, row_chosen};
 use crate::matrix::CarryMatrix;
+use crate::row::{ABSENT, Row};
 use crate::steps::Steps;
-use rhythm_base::{Best, Tag};
+use rhythm_base::Tag;
 
-/// The count in the middle and its sum, none where no count has both entries.
-fn chosen(a: &CarryMatrix, b: &CarryMatrix, from: u8, to: u8) -> Option<Choice>
+/// The count in the middle and its sum.
+fn chosen(a: &CarryMatrix, b: &CarryMatrix, from: u8, to: u8) -> Choice
     requires from { from < 5 }
     requires to { to < 5 }
+    requires ranked { IsRanked b.now }
     requires small { HaveLowSums a.now b.now }
-    ensures { taken result ≡ choice a.now b.now from to }
+    ensures { result ≡ choice_code (choice a.now b.now from to) }
 {
-    let mut best = None;
+    let mut best = none();
     'counts: for middle in 0..5u8 {
-        offer_over(&mut best, a.get(from, middle), b.get(middle, to), middle);
+        if let Some(left) = a.get(from, middle) {
+            let row = b.row(middle);
+            best = nearer(
+                best,
+                left,
+                row.costs[to as usize],
+                row.ranks[to as usize],
+                middle,
+            );
+        }
     }
     best
 }
@@ -27,31 +40,28 @@ fn chosen(a: &CarryMatrix, b: &CarryMatrix, from: u8, to: u8) -> Option<Choice>
 #[inline(always)]
 fn chosen_row(a: &CarryMatrix, b: &CarryMatrix, from: u8) -> Choices
     requires from { from < 5 }
+    requires ranked { IsRanked b.now }
     requires small { HaveLowSums a.now b.now }
-    ensures { (to : ℕ) → to < 5 → taken (slice_index_or result to None) ≡ choice a.now b.now from to }
+    ensures { result ≡ choices_code (choice a.now b.now from) }
 {
-    let mut choices = [None; 5];
+    let mut choices = [none(); 5];
     'middles: for middle in 0..5u8 {
-        offer_row_over(&mut choices, a.get(from, middle), b.row(middle), middle);
+        if let Some(left) = a.get(from, middle) {
+            choices = nearer_row(&choices, left, b.row(middle), middle);
+        }
     }
     choices
 }
 
 /// The row of the product for a number carried in.
 #[inline(always)]
-fn row_of(a: &CarryMatrix, b: &CarryMatrix, from: u8) -> [Option<Best>; 5]
+fn product_row(a: &CarryMatrix, b: &CarryMatrix, from: u8) -> Row
     requires from { from < 5 }
+    requires ranked { IsRanked b.now }
     requires small { HaveLowSums a.now b.now }
-    ensures { result ≡ slice_index_or (product_of a.now b.now) from [] }
+    ensures { result ≡ row_code (at (product_of a.now b.now) from) }
 {
-    let row = chosen_row(a, b, from);
-    [
-        entry(&row, 0),
-        entry(&row, 1),
-        entry(&row, 2),
-        entry(&row, 3),
-        entry(&row, 4),
-    ]
+    row_chosen(&chosen_row(a, b, from))
 }
 
 /// The table of the bars of `a` and then those of `b`: for each number carried in and out the least sum over the count in
@@ -65,12 +75,12 @@ pub fn product<P: Tag>(a: &CarryMatrix, b: &CarryMatrix, products: &mut Steps<P>
     products.tick();
     a.see();
     b.see();
-    let first = row_of(a, b, 0);
-    let second = row_of(a, b, 1);
-    let third = row_of(a, b, 2);
-    let fourth = row_of(a, b, 3);
-    let fifth = row_of(a, b, 4);
-    CarryMatrix::make([first, second, third, fourth, fifth])
+    let first = product_row(a, b, 0);
+    let second = product_row(a, b, 1);
+    let third = product_row(a, b, 2);
+    let fourth = product_row(a, b, 3);
+    let fifth = product_row(a, b, 4);
+    CarryMatrix::of([first, second, third, fourth, fifth])
 }
 
 /// The count in the middle that `product` takes, none where no count has both entries.
@@ -80,8 +90,11 @@ pub fn middle(a: &CarryMatrix, b: &CarryMatrix, from: u8, to: u8) -> Option<u8>
     requires small { HaveLowSums a.now b.now }
     ensures { result ≡ middle_of a.now b.now from to }
 {
-    match chosen(a, b, from, to) {
-        None => None,
-        Some(choice) => Some(choice.middle),
+    b.see();
+    let choice = chosen(a, b, from, to);
+    if choice.cost < ABSENT {
+        Some(choice.middle)
+    } else {
+        None
     }
 }

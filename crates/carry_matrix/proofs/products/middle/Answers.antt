@@ -1,12 +1,13 @@
-use Rattle.std.proofs.Common.{◌∙◌, sym, ap}
-use Rattle.rhythm_base.specs.Ranked.{middle_of, number_of}
-use Rattle.carry_matrix.specs.Choices.{taken}
+use Rattle.std.proofs.Common.{arith}
+use Rattle.rhythm_base.specs.Ranked.{middle_of}
+use Rattle.carry_matrix.proofs.Choices.{choice_low, middle_none, middle_there}
 use Rattle.carry_matrix.proofs.products.middle.Goals as goal
 
-pub returns-in-None : goal.returns-in-None
+pub returns-then-choice-lt-ABSENT : goal.returns-then-choice-lt-ABSENT
 unfolding middle_of
-returns-in-None c = ap number_of (sym (ap taken c.in-None.is) ∙ c.chosen.ensures)
+returns-then-choice-lt-ABSENT c = middle_there _ c.chosen-choice.result c.chosen-choice.ensures c.if-choice-lt-ABSENT.true
 
-pub returns-in-Some : goal.returns-in-Some
+pub returns-else-choice-lt-ABSENT : goal.returns-else-choice-lt-ABSENT
 unfolding middle_of
-returns-in-Some c = ap number_of (sym (ap taken c.in-Some.is) ∙ c.chosen.ensures)
+returns-else-choice-lt-ABSENT c =
+    middle_none _ c.chosen-choice.result (choice_low c.args.a.now c.args.b.now c.requires.small c.see.ensures c.args.from c.args.to c.requires.to) c.chosen-choice.ensures (omega (arith, c.if-choice-lt-ABSENT.false))

@@ -1,21 +1,18 @@
-use Rattle.std.proofs.Common.{◌∙◌, sym, subst}
-use Rattle.rhythm_base.specs.Paths.{IsRanked, AreLow}
-use Rattle.carry_matrix.proofs.Codes.{rows_are}
+use Rattle.std.proofs.Common.{◌∙◌, sym, ap, subst}
+use Rattle.rhythm_base.specs.Ranked.{product_of}
+use Rattle.carry_matrix.specs.Rows.{AreRows, entries_of}
+use Rattle.carry_matrix.proofs.Rows.{each_row, entries_back, matrix_rows}
 use Rattle.rhythm_laws.proofs.ProductCosts.{product_low}
 use Rattle.rhythm_laws.proofs.PathTables.{product_ranked}
 use Rattle.carry_matrix.proofs.products.product.Goals as goal
 
-pub make-requires-clause-ranks : goal.make-requires-clause-ranks
-make-requires-clause-ranks g c =
-    subst IsRanked (sym (rows_are c.args.a.now c.args.b.now _ _ _ _ _ c.row_of-first.ensures c.row_of-second.ensures c.row_of-third.ensures c.row_of-fourth.ensures c.row_of-fifth.ensures))
-    (product_ranked c.args.a.now c.args.b.now c.see.ensures c.see-2.ensures)
-
-pub make-requires-clause-costs : goal.make-requires-clause-costs
-make-requires-clause-costs g c =
-    subst AreLow (sym (rows_are c.args.a.now c.args.b.now _ _ _ _ _ c.row_of-first.ensures c.row_of-second.ensures c.row_of-third.ensures c.row_of-fourth.ensures c.row_of-fifth.ensures))
-    (product_low c.args.a.now c.args.b.now c.requires.small)
+pub of-requires : goal.of-requires
+of-requires g c =
+    subst AreRows (sym (each_row (product_of c.args.a.now c.args.b.now) _ _ _ _ _ c.product_row-first.ensures c.product_row-second.ensures c.product_row-third.ensures c.product_row-fourth.ensures c.product_row-fifth.ensures))
+    (matrix_rows (product_of c.args.a.now c.args.b.now) (product_ranked c.args.a.now c.args.b.now c.see.ensures c.see-2.ensures) (product_low c.args.a.now c.args.b.now c.requires.small))
 
 pub returns-clause-result : goal.returns-clause-result
 returns-clause-result g c =
-    c.make.ensures
-    ∙ rows_are c.args.a.now c.args.b.now _ _ _ _ _ c.row_of-first.ensures c.row_of-second.ensures c.row_of-third.ensures c.row_of-fourth.ensures c.row_of-fifth.ensures
+    c.of.ensures
+    ∙ ap entries_of (each_row (product_of c.args.a.now c.args.b.now) _ _ _ _ _ c.product_row-first.ensures c.product_row-second.ensures c.product_row-third.ensures c.product_row-fourth.ensures c.product_row-fifth.ensures)
+    ∙ entries_back (product_of c.args.a.now c.args.b.now) (product_ranked c.args.a.now c.args.b.now c.see.ensures c.see-2.ensures) (product_low c.args.a.now c.args.b.now c.requires.small)

@@ -1,7 +1,6 @@
-use Rattle.std.proofs.Common.{refl}
 use Rattle.rhythm_base.specs.Ranked.{identity_entries}
 use Rattle.carry_matrix.proofs.matrix.CarryMatrix.identity.Goals as goal
 
 pub returns : goal.returns
 unfolding identity_entries
-returns c = refl
+returns c = c.make.ensures
