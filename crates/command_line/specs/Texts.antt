@@ -1,7 +1,59 @@
 -- Texts for the program's user.
-use Rattle.std.specs.Prelude.{ℕ, ◌==◌, Bool, List, length, nat_le}
+use Rattle.std.specs.Prelude.{ℕ, ◌==◌, Bool, List, [], ◌∷◌, ◌++◌, codes, length, nat_le}
 use Rattle.std.specs.List.{list_all, slice_split}
 
 -- no line of the text is longer than 80 bytes
 abbrev pub has_narrow_lines : List ℕ → Bool
 has_narrow_lines text = list_all (λ line. nat_le (length line) 80) (slice_split (λ byte. byte == 10) text)
+
+-- lines one after another, each with its newline
+abbrev pub text_of_lines : List (List ℕ) → List ℕ
+text_of_lines [] = []
+text_of_lines (line ∷ lines) = line ++ 10 ∷ text_of_lines lines
+
+-- how the program is called: the commands with what each reads and writes, the options, and the statuses
+abbrev pub help_lines : List (List ℕ)
+help_lines =
+    codes "Usage: rhythm [--workers N] COMMAND ARGUMENT..."
+    ∷ []
+    ∷ codes "Turns a performance, a Standard MIDI File, into notation in Humdrum **kern, by"
+    ∷ codes "a file of weighted rhythm rules."
+    ∷ []
+    ∷ codes "Commands:"
+    ∷ codes "  transcribe MIDI GRAMMAR   Reads a MIDI file and a grammar file, and writes the"
+    ∷ codes "                            score."
+    ∷ codes "  edit MIDI GRAMMAR         Reads the two files and then, on standard input, an"
+    ∷ codes "                            edit script; writes a reply to each line."
+    ∷ codes "  events KERN               Reads a **kern file, and writes each note and chord"
+    ∷ codes "                            on a line of its own."
+    ∷ codes "  generate NUMBER BARS      Reads nothing, and writes a MIDI file that is made"
+    ∷ codes "                            from NUMBER, 0 to 65534, with BARS bars, 1 to 2000."
+    ∷ codes "  drill NUMBER GRAMMAR      Reads a grammar file, edits a large piece that is"
+    ∷ codes "                            made from NUMBER, 0 to 65534, and writes a summary."
+    ∷ []
+    ∷ codes "Answers are written on standard output. With a status other than 0 there is one"
+    ∷ codes "line on standard error that says why."
+    ∷ []
+    ∷ codes "Options:"
+    ∷ codes "  --workers N     Works with N threads, 1 to 16; 1 where it is not given. The"
+    ∷ codes "                  output is the same for every number."
+    ∷ codes "  -h, --help      Writes this text."
+    ∷ codes "  -V, --version   Writes the version."
+    ∷ []
+    ∷ codes "Status:"
+    ∷ codes "  0   done"
+    ∷ codes "  1   the words are no command"
+    ∷ codes "  2   a file is refused"
+    ∷ codes "  3   a voice has no derivation that fits"
+    ∷ codes "  4   something is above its limit"
+    ∷ codes "  5   a file or the script could not be read"
+    ∷ codes "  6   standard output could not be written"
+    ∷ codes "  7   not enough memory"
+    ∷ []
+
+unfoldable pub help_text : List ℕ
+help_text = text_of_lines help_lines
+
+-- the name of the program and its version
+unfoldable pub version_text : List ℕ
+version_text = text_of_lines (codes "rhythm 0.1" ∷ [])

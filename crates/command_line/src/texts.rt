@@ -1,9 +1,10 @@
-ghost use Rattle.command_line.specs.Texts.{has_narrow_lines};
-ghost use Rattle.std.specs.Prelude.{IsTrue, ◌≡◌, ◌∷◌, ◌++◌, [], codes};
+ghost use Rattle.command_line.specs.Texts.{has_narrow_lines, help_text, version_text};
+ghost use Rattle.std.specs.Prelude.{IsTrue, ◌≡◌};
 
 /// How the program is called, for its user: lines of at most 80 characters.
 pub fn help_text() -> &'static str
-    ensures { IsTrue (has_narrow_lines result.now) }
+    ensures text { result.now ≡ help_text }
+    ensures narrow { IsTrue (has_narrow_lines result.now) }
 {
     "\
 Usage: rhythm [--workers N] COMMAND ARGUMENT...
@@ -46,7 +47,7 @@ Status:
 
 /// The name of the program and its version.
 pub fn version_text() -> &'static str
-    ensures { result.now ≡ codes "rhythm 0.1" ++ 10 ∷ [] }
+    ensures { result.now ≡ version_text }
 {
     "rhythm 0.1\n"
 }

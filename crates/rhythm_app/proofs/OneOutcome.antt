@@ -24,7 +24,7 @@ use Rattle.performance_load.specs.declared.load_fault.LoadFault.{LoadFault}
 use Rattle.rhythm_app.proofs.InTurn.{IsOne, in_turn_one}
 use Rattle.rhythm_app.specs.Asked.{Asked, help, version, transcribe, edit, events, generate, drill, asked_by, file_content}
 use Rattle.rhythm_app.specs.Laws.{OutcomesAreOne}
-use Rattle.rhythm_app.specs.Outcome.{AreInTurn, AreInputs, AreRead, HasOutcomeOf, IsEditing, IsListing, IsLoading, IsRead, IsScoreRead, IsScoring, IsDrilling, IsMade, IsPieceOf, IsTooLongDrill, Ready, say, serve, IsUnderstood, IsUnopened, explain, grammar_tests, kern_tests, limit_of, load_stop, open_stop, passed, stopped}
+use Rattle.rhythm_app.specs.Outcome.{AreInTurn, AreInputs, AreRead, HasOutcomeOf, IsEditing, IsListing, IsLoading, IsRead, IsScoreRead, IsScoring, IsDrilling, IsMade, IsPieceOf, IsTooLongDrill, Ready, say, serve, IsUnderstood, IsUnopened, grammar_tests, kern_tests, limit_of, load_stop, open_stop, passed, stopped}
 use Rattle.rhythm_app.specs.declared.stop.Kind.TheVariants as kind
 use Rattle.rhythm_app.specs.declared.stop.Stop.{Stop}
 use Rattle.rhythm_app.specs.declared.stop.Stop.TheVariants as stop
@@ -89,14 +89,11 @@ module _ (g : Grammar) (p : Performance) (read : IsReadable g) (formed : IsWellF
   opened s can (fault, is, other, same) = fault_or_open g p fault read formed other can is
 
   one_scoring : IsOne (IsScoring g p)
-  one_scoring (Ok explain) s h k = absurd h
-  one_scoring (Ok (say a)) (Ok explain) h k = absurd k
   one_scoring (Ok (say a)) (Ok (say b)) h k = ap (λ text. Ok (say text)) (one_text a b h.1 k.1)
   one_scoring (Ok (say a)) (Ok (serve e q)) h k = absurd k
   one_scoring (Ok (serve e q)) s h k = absurd h
   one_scoring (Ok (say a)) (Err t) h (inl k) = absurd (opened t h.0 k)
   one_scoring (Ok (say a)) (Err t) h (inr k) = absurd (not_too_long a k.0 h.1 h.2 k.2)
-  one_scoring (Err s) (Ok explain) h k = absurd k
   one_scoring (Err s) (Ok (say b)) (inl h) k = absurd (opened s k.0 h)
   one_scoring (Err s) (Ok (say b)) (inr h) k = absurd (not_too_long b h.0 k.1 k.2 h.2)
   one_scoring (Err s) (Ok (serve e q)) h k = absurd k
@@ -106,13 +103,10 @@ module _ (g : Grammar) (p : Performance) (read : IsReadable g) (formed : IsWellF
   one_scoring (Err s) (Err t) (inr h) (inr k) = ap Err (h.3 ∙ ap stop.ScoreTooLong (one_line h.0 k.0 h.2 k.2) ∙ sym k.3)
 
   one_editing : IsOne (IsEditing g p)
-  one_editing (Ok explain) s h k = absurd h
   one_editing (Ok (say a)) s h k = absurd h
-  one_editing (Ok (serve e q)) (Ok explain) h k = absurd k
   one_editing (Ok (serve e q)) (Ok (say b)) h k = absurd k
   one_editing (Ok (serve e q)) (Ok (serve f r)) h k = ap (λ x. Ok x) (ap₂ serve (h.1 ∙ sym k.1) (h.2 ∙ sym k.2))
   one_editing (Ok (serve e q)) (Err t) h k = absurd (opened t h.0 k)
-  one_editing (Err s) (Ok explain) h k = absurd k
   one_editing (Err s) (Ok (say b)) h k = absurd k
   one_editing (Err s) (Ok (serve f r)) h k = absurd (opened s k.0 h)
   one_editing (Err s) (Err t) h k = ap Err (h.3 ∙ ap open_stop (one_fault g p h.0 k.0 read formed h.2 k.2 h.1 k.1) ∙ sym k.3)
@@ -135,14 +129,11 @@ module _ (g : Grammar) (p : Performance) (read : IsReadable g) (formed : IsWellF
   same_line a b e = cc
 
   one_drilling : (number : ℕ) → IsOne (IsDrilling g number p)
-  one_drilling number (Ok explain) s h k = absurd h
   one_drilling number (Ok (serve e q)) s h k = absurd h
-  one_drilling number (Ok (say a)) (Ok explain) h k = absurd k
   one_drilling number (Ok (say a)) (Ok (say b)) h k = ap (λ text. Ok (say text)) (same_text a b (drills_one.said g number p (Ok a) (Ok b) read formed h.1 k.1))
   one_drilling number (Ok (say a)) (Ok (serve e q)) h k = absurd k
   one_drilling number (Ok (say a)) (Err t) h (inl k) = absurd (opened t h.0 k)
   one_drilling number (Ok (say a)) (Err t) h (inr k) = absurd (drills_apart number a t h.1 k)
-  one_drilling number (Err s) (Ok explain) h k = absurd k
   one_drilling number (Err s) (Ok (say b)) (inl h) k = absurd (opened s k.0 h)
   one_drilling number (Err s) (Ok (say b)) (inr h) k = absurd (drills_apart number b s k.1 h)
   one_drilling number (Err s) (Ok (serve e q)) h k = absurd k
@@ -196,8 +187,6 @@ in_ranges bytes score = go (nat_le (length bytes) (limit_of kind.Kern)) refl
     go false short e = absurd (cc)
 
 one_listing : (score : KernColumns) → IsKernScore score → IsOne (IsListing score)
-one_listing score well (Ok explain) s h k = absurd h
-one_listing score well (Ok (say a)) (Ok explain) h k = absurd k
 one_listing score well (Ok (say a)) (Ok (say b)) (list, are, text) (same, others, equal) =
     ap (λ x. Ok (say x)) (text ∙ ap events_text (one_list score list same well are others) ∙ sym equal)
 one_listing score well (Ok (say a)) (Ok (serve g p)) h k = absurd k

@@ -3,7 +3,7 @@ use Rattle.std.proofs.Common.{◌≡◌, ℕ, List, inl, inr, refl, subst, Resul
 use Rattle.std.specs.Prelude.{⊤, Option, Some, None}
 use Rattle.rhythm_app.specs.Asked.{Asked, help, version, transcribe, edit, events, generate, drill, asked_by}
 use Rattle.rhythm_app.specs.Ends.{HasRisen, HasStatus, IsAnswered, IsCause, IsComplete, IsCompleteFor, IsFailureOf, MayEnd, Reached}
-use Rattle.rhythm_app.specs.Outcome.{HasOutcome, HasOutcomeOf, Ready, explain, say, serve}
+use Rattle.rhythm_app.specs.Outcome.{HasOutcome, HasOutcomeOf, Ready, say, serve}
 use Rattle.rhythm_app.specs.declared.stop.Kind.TheVariants as kind
 use Rattle.rhythm_base.specs.Grammar.{Grammar}
 use Rattle.rhythm_base.specs.Performance.{Performance}
@@ -14,24 +14,20 @@ use Rattle.rhythm_app.proofs.OneOutcome.{one_outcome}
 use Rattle.rhythm_ports.specs.Files.{File}
 
 may_end_5 : (r : Result Ready Stop) → MayEnd r 5
-may_end_5 (Ok explain) = inr (inl refl)
 may_end_5 (Ok (say text)) = inr (inl refl)
 may_end_5 (Ok (serve g p)) = inr (inr (inl refl))
 may_end_5 (Err s) = inr (inl refl)
 
 may_end_7 : (r : Result Ready Stop) → MayEnd r 7
-may_end_7 (Ok explain) = inr (inr (inr refl))
 may_end_7 (Ok (say text)) = inr (inr (inr refl))
 may_end_7 (Ok (serve g p)) = inr (inr (inr (inr refl)))
 may_end_7 (Err s) = inr (inr refl)
 
 may_end_0 : (ready : Ready) → MayEnd (Ok ready) 0
-may_end_0 explain = inl refl
 may_end_0 (say text) = inl refl
 may_end_0 (serve g p) = inl refl
 
 may_end_6 : (ready : Ready) → MayEnd (Ok ready) 6
-may_end_6 explain = inr (inr (inl refl))
 may_end_6 (say text) = inr (inr (inl refl))
 may_end_6 (serve g p) = inr (inr (inr (inl refl)))
 
@@ -39,7 +35,6 @@ same_ready : (a b : Ready) → ◌≡◌ {A = Result Ready Stop} (Ok a) (Ok b) �
 same_ready a b h = cc
 
 abbrev Serves : Ready → Type 0
-Serves explain = ⊥
 Serves (say text) = ⊥
 Serves (serve g p) = ⊤
 
@@ -52,7 +47,6 @@ reached_ready None files reached = absurd reached
 reached_ready (Some help) files reached = absurd reached
 reached_ready (Some version) files reached = absurd reached
 reached_ready (Some (transcribe midi grammar)) files reached = absurd reached
-reached_ready (Some (edit midi grammar)) files (explain, h) = absurd h.2
 reached_ready (Some (edit midi grammar)) files (say text, h) = absurd h.2
 reached_ready (Some (edit midi grammar)) files (serve g p, h) = (serve g p, h, tt)
 reached_ready (Some (events kern)) files reached = absurd reached
@@ -60,7 +54,6 @@ reached_ready (Some (generate number bars)) files reached = absurd reached
 reached_ready (Some (drill number grammar)) files reached = absurd reached
 
 may_end_4 : (ready : Ready) → Serves ready → MayEnd (Ok ready) 4
-may_end_4 explain serves = absurd serves
 may_end_4 (say text) serves = absurd serves
 may_end_4 (serve g p) serves = inr (inl refl)
 
@@ -69,8 +62,7 @@ module _ (words : List (List ℕ)) (files : List File) where
   ready_status ready h r k = subst (λ (r : Result Ready Stop). MayEnd r 0) (one_outcome words files (Ok ready) r h k) (may_end_0 ready)
 
   pub answered_status : (rest rest' taken taken' : Option (List ℕ)) (built built' : ℕ) → IsAnswered (asked_by words) files rest rest' taken taken' built built' → HasStatus words files 0
-  answered_status rest rest' taken taken' built built' (inl (text, inl outcome, took, builds)) = ready_status (say text) outcome
-  answered_status rest rest' taken taken' built built' (inl (text, inr outcome, took, builds)) = ready_status explain outcome.0
+  answered_status rest rest' taken taken' built built' (inl (text, outcome, took, builds)) = ready_status (say text) outcome
   answered_status rest rest' taken taken' built built' (inr (g, p, last, outcome, done, builds)) = ready_status (serve g p) outcome
 
   script_status : Reached (asked_by words) files kind.Script → HasStatus words files 4
@@ -107,7 +99,6 @@ module _ (words : List (List ℕ)) (files : List File) where
 
   module _ (shelf script out : Type 0) where
     complete_0 : (ready : Ready) → IsCompleteFor ready (shelf → ⊥) (script → ⊥) (out → ⊥) 0
-    complete_0 explain = λ read written. inl refl
     complete_0 (say text) = λ read written. inl refl
     complete_0 (serve g p) = λ read heard written. inl refl
 
@@ -115,18 +106,15 @@ module _ (words : List (List ℕ)) (files : List File) where
     ready_complete ready k = complete_0 ready
 
     complete_7 : (ready : Ready) → IsCompleteFor ready (shelf → ⊥) (script → ⊥) (out → ⊥) 7
-    complete_7 explain = λ read written. inr refl
     complete_7 (say text) = λ read written. inr refl
     complete_7 (serve g p) = λ read heard written. inr (inr refl)
 
     -- a failed read of a file
     complete_read : (ready : Ready) → shelf → IsCompleteFor ready (shelf → ⊥) (script → ⊥) (out → ⊥) 5
-    complete_read explain risen = λ read written. absurd (read risen)
     complete_read (say text) risen = λ read written. absurd (read risen)
     complete_read (serve g p) risen = λ read heard written. absurd (read risen)
 
     complete_write : (ready : Ready) → out → IsCompleteFor ready (shelf → ⊥) (script → ⊥) (out → ⊥) 6
-    complete_write explain risen = λ read written. absurd (written risen)
     complete_write (say text) risen = λ read written. absurd (written risen)
     complete_write (serve g p) risen = λ read heard written. absurd (written risen)
 
@@ -139,7 +127,6 @@ module _ (words : List (List ℕ)) (files : List File) where
         subst (λ (x : Ready). IsCompleteFor x (shelf → ⊥) (script → ⊥) (out → ⊥) status) same (go served.0 served.2)
       where
         go : (x : Ready) → Serves x → IsCompleteFor x (shelf → ⊥) (script → ⊥) (out → ⊥) status
-        go explain serves = absurd serves
         go (say text) serves = absurd serves
         go (serve g p) serves = all g p
 

@@ -59,9 +59,9 @@ reported a b before now t (Err e) all part cause = inr (cause.failed, part)
 -- the text that is the outcome was taken whole, or a first part of it
 pub text_taken : (a b : Option (List ℕ)) (asked : Option Asked) (files : List File) (text taken : List ℕ) (built built' : ℕ) → taken ≡ text → Appends a b taken
     → HasOutcomeOf asked files (Ok (say text)) → HasBuiltAll asked built built' files → IsSaid asked files (Appends a b) built built'
-text_taken a b asked files text taken built built' same all outcome builds = (text, inl outcome, subst (Appends a b) same all, builds)
+text_taken a b asked files text taken built built' same all outcome builds = (text, outcome, subst (Appends a b) same all, builds)
 
 pub part_taken : (a b : Option (List ℕ)) (asked : Option Asked) (files : List File) (text taken : List ℕ) (n built built' : ℕ) → taken ≡ text → n < length taken
     → Appends a b (take n taken) → HasOutcomeOf asked files (Ok (say text)) → HasBuiltAll asked built built' files → IsSaid asked files (AppendsPart a b) built built'
 part_taken a b asked files text taken n built built' same within cut outcome builds =
-    (text, inl outcome, (n, subst (λ (t : List ℕ). n < length t) same within, subst (λ (t : List ℕ). Appends a b (take n t)) same cut), builds)
+    (text, outcome, (n, subst (λ (t : List ℕ). n < length t) same within, subst (λ (t : List ℕ). Appends a b (take n t)) same cut), builds)

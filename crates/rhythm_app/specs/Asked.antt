@@ -58,6 +58,12 @@ asked_of invocation.Help = Some help
 asked_of invocation.Version = Some version
 asked_of (invocation.Command line) = command_by line.words
 
+-- the number of workers that the words say, 1 to 16: that of the option, and 1 without it
+abbrev pub workers_asked : Invocation → ℕ
+workers_asked invocation.Help = 1
+workers_asked invocation.Version = 1
+workers_asked (invocation.Command line) = line.workers
+
 -- what the words ask for. Where they are plain they are never refused by `clap`, so nothing is asked for exactly where the number of
 -- workers is none of 1 to 16 or the words without the option are no command
 unfoldable pub asked_by : List (List ℕ) → Option Asked

@@ -1,12 +1,11 @@
 -- How a run may end. `rest` and `rest'` are what was left of the script before and after, `taken` and `taken'` what out had taken, and
 -- `built` and `built'` the counter of builds.
-use Rattle.std.specs.Prelude.{◌≡◌, ◌≢◌, ℕ, ◌+◌, ◌⊎◌, ◌<◌, List, All, length, take, Result, Ok, Err, Option, Some, None, IsOk, IsTrue, ⊤}
+use Rattle.std.specs.Prelude.{◌≡◌, ◌≢◌, ℕ, ◌+◌, ◌⊎◌, ◌<◌, List, All, length, take, Result, Ok, Err, Option, Some, None, IsOk, ⊤}
 use Rattle.std.specs.Io.KnownBytes.{Appends}
-use Rattle.command_line.specs.Texts.{has_narrow_lines}
 use Rattle.edit_session.specs.Opening.{cells_of}
 use Rattle.rhythm_app.specs.Asked.{Asked, help, version, transcribe, edit, events, generate, drill, asked_by, file_names, file_content}
 use Rattle.rhythm_app.specs.Builds.{HasBuiltAll}
-use Rattle.rhythm_app.specs.Outcome.{HasOutcome, HasOutcomeOf, Ready, explain, say, serve, midi_tests}
+use Rattle.rhythm_app.specs.Outcome.{HasOutcome, HasOutcomeOf, Ready, say, serve, midi_tests}
 use Rattle.rhythm_app.specs.Stops.{status_of, script_stop}
 use Rattle.rhythm_app.specs.declared.stop.Kind.{Kind}
 use Rattle.rhythm_app.specs.declared.stop.Kind.TheVariants as kind
@@ -26,7 +25,6 @@ use Rattle.script_run.specs.declared.script_stop.ScriptStop.{ScriptStop}
 -- the statuses that an outcome allows: 0 and 6 of a command that is ready, and 4 where it answers a script; that of a stop; and 5 and
 -- 7 always
 abbrev pub MayEnd : Result Ready Stop → ℕ → Type 0
-MayEnd (Ok explain) status = (status ≡ 0) ⊎ (status ≡ 5) ⊎ (status ≡ 6) ⊎ (status ≡ 7)
 MayEnd (Ok (say text)) status = (status ≡ 0) ⊎ (status ≡ 5) ⊎ (status ≡ 6) ⊎ (status ≡ 7)
 MayEnd (Ok (serve g p)) status = (status ≡ 0) ⊎ (status ≡ 4) ⊎ (status ≡ 5) ⊎ (status ≡ 6) ⊎ (status ≡ 7)
 MayEnd (Err stop) status = (status ≡ status_of stop) ⊎ (status ≡ 5) ⊎ (status ≡ 7)
@@ -41,13 +39,9 @@ HasStatus words files status = (r : Result Ready Stop) → HasOutcome words file
 abbrev pub AppendsPart : Option (List ℕ) → Option (List ℕ) → List ℕ → Type 0
 AppendsPart old new text = (n : ℕ) × (n < length text) × Appends old new (take n text)
 
--- a text is the outcome. Of the help it is only said that its lines are narrow
-abbrev pub IsOutcomeText : Option Asked → List File → List ℕ → Type 0
-IsOutcomeText asked files text = HasOutcomeOf asked files (Ok (say text)) ⊎ (HasOutcomeOf asked files (Ok explain) × IsTrue (has_narrow_lines text))
-
 -- a text is the outcome; out took what W says of it, and all cells were built, where there are any
 abbrev pub IsSaid : Option Asked → List File → (List ℕ → Type 0) → ℕ → ℕ → Type 0
-IsSaid asked files W built built' = (text : List ℕ) × IsOutcomeText asked files text × W text × HasBuiltAll asked built built' files
+IsSaid asked files W built built' = (text : List ℕ) × HasOutcomeOf asked files (Ok (say text)) × W text × HasBuiltAll asked built built' files
 
 -- a script is answered as W says, from the performance that was loaded on. All its cells were built, and then those for the edits
 abbrev pub IsServed : Option Asked → List File → (Grammar → Performance → Editing → Type 0) → ℕ → ℕ → Type 0
@@ -144,7 +138,6 @@ Stood before now = Rose before now → ⊥
 
 -- where no call failed, a text is written, or memory was wanted; a script is answered, or is over a limit, or memory was wanted
 abbrev pub IsCompleteFor : Ready → Type 0 → Type 0 → Type 0 → ℕ → Type 0
-IsCompleteFor explain shelf script out status = shelf → out → (status ≡ 0) ⊎ (status ≡ 7)
 IsCompleteFor (say text) shelf script out status = shelf → out → (status ≡ 0) ⊎ (status ≡ 7)
 IsCompleteFor (serve g p) shelf script out status = shelf → script → out → (status ≡ 0) ⊎ (status ≡ 4) ⊎ (status ≡ 7)
 

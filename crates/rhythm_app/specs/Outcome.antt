@@ -5,6 +5,7 @@
 -- of its piece, and the size of its last score; `generate`, the help and the version read no file. A failed read, a failed write and
 -- want of memory are no outcomes: they may end any run.
 use Rattle.std.specs.Prelude.{◌≡◌, ◌≢◌, ℕ, ◌+◌, ◌≤◌, ◌⊎◌, nat_le, List, [], ◌∷◌, ◌++◌, codes, length, IfOk, if◌then◌else◌, Result, Ok, Err, Option, Some, None}
+use Rattle.command_line.specs.Texts.{help_text, version_text}
 use Rattle.drill_run.specs.Ends.{IsDrillOf}
 use Rattle.drill_run.specs.declared.piece.TheConstants.{DRILL_BARS}
 use Rattle.edit_session.specs.Opening.{CanOpen, IsOpenFault}
@@ -115,23 +116,20 @@ IsUnopened g p s = (fault : OpenFault) × IsOpenFault g p fault × (fault ≢ op
 abbrev pub IsTooLongToWrite : Grammar → Performance → Stop → Type 0
 IsTooLongToWrite g p s = (line : ℕ) × CanOpen g p × HasTooLongText g p line × (s ≡ stop.ScoreTooLong line)
 
--- what a command is ready for where its tests pass: to write how the program is called; to write a text; or to answer the lines of a
--- script by a grammar, from a performance on
+-- what a command is ready for where its tests pass: to write a text, or to answer the lines of a script by a grammar, from a performance
+-- on
 pub data Ready : Type 0 where
-  explain : Ready
   say : List ℕ → Ready
   serve : Grammar → Performance → Ready
 
 -- what the score of a performance and a grammar comes to
 abbrev pub IsScoring : Grammar → Performance → Result Ready Stop → Type 0
-IsScoring g p (Ok explain) = ⊥
 IsScoring g p (Ok (say text)) = CanOpen g p × IsTextOf g p text × (length text ≤ LONGEST_SCORE)
 IsScoring g p (Ok (serve h q)) = ⊥
 IsScoring g p (Err s) = IsUnopened g p s ⊎ IsTooLongToWrite g p s
 
 -- what an editing session on a performance and a grammar comes to
 abbrev pub IsEditing : Grammar → Performance → Result Ready Stop → Type 0
-IsEditing g p (Ok explain) = ⊥
 IsEditing g p (Ok (say text)) = ⊥
 IsEditing g p (Ok (serve h q)) = CanOpen g p × (h ≡ g) × (q ≡ p)
 IsEditing g p (Err s) = IsUnopened g p s
@@ -140,7 +138,6 @@ IsEditing g p (Err s) = IsUnopened g p s
 
 -- what the score of a **kern file comes to: the text of its events
 abbrev pub IsListing : KernColumns → Result Ready Stop → Type 0
-IsListing score (Ok explain) = ⊥
 IsListing score (Ok (say text)) = (list : List KernEvent) × AreEvents score list × (text ≡ events_text list)
 IsListing score (Ok (serve g p)) = ⊥
 IsListing score (Err s) = ⊥
@@ -161,7 +158,6 @@ IsTooLongDrill g number p s = (line : ℕ) × CanOpen g p × IsDrillOf g number 
 
 -- what the drill of a number on a performance comes to by a grammar: its summary
 abbrev pub IsDrilling : Grammar → ℕ → Performance → Result Ready Stop → Type 0
-IsDrilling g number p (Ok explain) = ⊥
 IsDrilling g number p (Ok (say text)) = CanOpen g p × IsDrillOf g number p (Ok text)
 IsDrilling g number p (Ok (serve h q)) = ⊥
 IsDrilling g number p (Err s) = IsUnopened g p s ⊎ IsTooLongDrill g number p s
@@ -182,14 +178,10 @@ AreInputs midi grammar =
 abbrev pub AreRead : List ℕ → List ℕ → (Grammar → Performance → Result Ready Stop → Type 0) → Result Ready Stop → Type 0
 AreRead midi grammar last = AreInTurn (AreInputs midi grammar) (λ inputs. last inputs.0 inputs.1)
 
--- the text of the version: one line
-abbrev pub version_line : List ℕ
-version_line = codes "rhythm 0.1" ++ 10 ∷ []
-
 abbrev pub HasOutcomeOf : Option Asked → List File → Result Ready Stop → Type 0
 HasOutcomeOf None files r = r ≡ Err stop.Usage
-HasOutcomeOf (Some help) files r = r ≡ Ok explain
-HasOutcomeOf (Some version) files r = r ≡ Ok (say version_line)
+HasOutcomeOf (Some help) files r = r ≡ Ok (say help_text)
+HasOutcomeOf (Some version) files r = r ≡ Ok (say version_text)
 HasOutcomeOf (Some (transcribe midi grammar)) files r = AreRead (file_content files midi) (file_content files grammar) IsScoring r
 HasOutcomeOf (Some (edit midi grammar)) files r = AreRead (file_content files midi) (file_content files grammar) IsEditing r
 HasOutcomeOf (Some (events kern)) files r = AreInTurn (IsScoreRead (file_content files kern)) IsListing r

@@ -1,5 +1,5 @@
 ghost use Rattle.command_line.specs.CommandLines.{HasWorkers};
-ghost use Rattle.rhythm_app.specs.Asked.{IsInRange, asked_of, command_by, drill_by, generate_by, shown_request};
+ghost use Rattle.rhythm_app.specs.Asked.{IsInRange, asked_of, command_by, drill_by, generate_by, shown_request, workers_asked};
 ghost use Rattle.std.specs.Prelude.{◌≡◌, ◌≤◌, ◌∷◌, [], IfSome, option_map};
 
 use command_line::{Invocation, number_in};
@@ -116,6 +116,7 @@ pub fn request_of<'a>(said: &'a Invocation) -> Option<Request<'a>>
 /// The number of workers that build cells.
 pub fn workers_of(said: &Invocation) -> u32
     requires { HasWorkers said.now }
+    ensures asked { result ≡ workers_asked said.now }
     ensures some_worker { 1 ≤ result }
     ensures few_workers { result ≤ 16 }
 {

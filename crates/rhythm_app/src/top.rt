@@ -151,7 +151,7 @@ pub fn run<R: Threads + Sync, F: Shelf, S: Source, O: Sink, E: Sink, G: Gate + S
     ensures status { ForSome (F.files shelf.old) (λ files. HasStatus words.now files result) }
 
     // With 0 out took the text that is the outcome, or the replies to all lines of the script; and all cells of the performance were
-    // built once, and then those for the edits. The other commands build none. Of the help it is only said that its lines are narrow.
+    // built once, and then those for the edits. The other commands build none.
     ensures done { result ≡ 0 → ForSome (F.files shelf.old) (λ files.
         IsAnswered (asked_by words.now) files (S.rest script.old) (S.rest script.new) (O.taken out.old) (O.taken out.new) builds.old builds.new) }
 
