@@ -1,9 +1,9 @@
 //! Builds the tables of stated bars, over and over where that is asked for, and prints what the least trees cost. With no
 //! words it builds each stated bar once. The words GROUP ONSETS TIMES name the grammar, the number of chords of the bar and
 //! how often its table is built: a longer run less a shorter one gives the time of a table. With a fourth word, WORKERS, the
-//! tables are those of so many equal bars, and are built by so many workers, 1 to 16. With the word `alternatives` before the
-//! three the 16 best trees of the bar are listed so often in place of its table, with nothing round it, and with the word
-//! `carried` between bars to which chords may be carried.
+//! tables are those of so many equal bars, and are built by so many workers, 1 to 16. With the word `planned` before the three the
+//! tables are built one after another by one plan of the grammar and in one room; with `alternatives` the 16 best trees of the bar are
+//! listed so often in place of its table, with nothing round it, and with `carried` between bars to which chords may be carried.
 //!
 //! The words DRAW GRAMMAR CELLS WORKERS build the tables of so many bars whose chords are drawn, by `beats` or `sixteenths`, with
 //! the grammar of a group or of a file, and print the sum of their costs. The words DRAW GRAMMAR CELLS WORK TIMES make the chain
@@ -21,6 +21,7 @@ mod best_trees;
 mod chains;
 mod drawn;
 mod grammars;
+mod in_turn;
 
 use bar_alternatives::Alternative;
 use bar_pool::{MOST_WORKERS, build_cells};
@@ -29,6 +30,7 @@ use best_trees::{Around, best_trees, print_trees};
 use chains::{ChainWork, chained, matrices_of};
 use drawn::{Draw, drawn_bars};
 use grammars::{Group, grammar_named};
+use in_turn::build_in_turn;
 use least_cost::{BarTable, Steps, build_cell};
 use rhythm_base::{BarInput, Grammar, Tag};
 use rhythm_ports::OpenGate;
@@ -68,11 +70,12 @@ struct Task {
     times: u32,
 }
 
-/// What is done over and over: the table of the bar is built, by one call after another or by so many workers, or its best
-/// trees are listed.
+/// What is done over and over: the table of the bar is built, by itself or one after another by one plan of the grammar or by so many
+/// workers, or its best trees are listed.
 #[derive(Clone, Copy)]
 enum Work {
     Table,
+    InTurn,
     Tables(u32),
     BestTrees(Around),
 }
@@ -113,6 +116,9 @@ fn drawn_of<'a>(draw: &str, grammar: &'a str, cells: &str) -> Option<DrawnTask<'
 
 /// What four words ask for.
 fn asked_by_four<'a>(first: &str, second: &'a str, third: &str, fourth: &str) -> Option<Asked<'a>> {
+    if first == "planned" {
+        return Some(Asked::Stated(Work::InTurn, task_of(second, third, fourth)?));
+    }
     if let Some(around) = Around::named(first) {
         let task = task_of(second, third, fourth)?;
         return Some(Asked::Stated(Work::BestTrees(around), task));
@@ -167,6 +173,13 @@ fn build(alloc: Global, task: Task) -> io::Result<Option<BarTable>> {
         last = Some(build_cell(alloc, &grammar, &bar, &mut builds)?);
     }
     Ok(last)
+}
+
+/// Builds the table so often by one plan of the grammar, and keeps the last.
+fn build_one_after_another(alloc: Global, task: Task) -> io::Result<Option<BarTable>> {
+    let grammar = task.group.grammar(alloc)?;
+    let bar = bar_for(alloc, &grammar, task)?;
+    Ok(build_in_turn(alloc, &grammar, &bar, task.times)?)
 }
 
 /// Builds the tables of so many equal bars by the workers, and keeps the last.
@@ -266,6 +279,7 @@ fn run<R: Print + Threads + Sync>(rt: &R, alloc: Global, work: Work, task: Task)
     print!(rt; "{} {}:", task.group.name(), task.onsets)?;
     match work {
         Work::Table => print_built(rt, build(alloc, task)?),
+        Work::InTurn => print_built(rt, build_one_after_another(alloc, task)?),
         Work::Tables(workers) => print_built(rt, build_by(rt, alloc, task, workers)?),
         Work::BestTrees(around) => {
             let list = list_trees(alloc, task, around)?;
