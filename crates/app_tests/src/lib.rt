@@ -1,6 +1,6 @@
 //! Tests of the top call, from the bytes of files to what out and err take: the scores of small pieces, with ties, grace notes,
 //! several voices and changes; the events of scores; pieces and drills of numbers; words that are answered or refused; what
-//! refuses a file, notes, bars or a grammar; and calls that fail.
+//! refuses a file, notes, bars or a grammar; calls that fail; and the workers that are asked for.
 #![tactic(auto)]
 
 #[cfg(test)]
@@ -25,3 +25,5 @@ mod refusals;
 mod scores;
 #[cfg(test)]
 mod words;
+#[cfg(test)]
+mod workers;
