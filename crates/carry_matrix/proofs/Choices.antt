@@ -9,7 +9,8 @@ use Rattle.carry_matrix.specs.declared.choice.Choice.{Choice}
 use Rattle.carry_matrix.specs.Choices.{IsLowSum, AreLowSums, choice_code}
 use Rattle.carry_matrix.specs.LowSums.{HaveLowSums}
 use Rattle.carry_matrix.specs.Rows.{cost_code, rank_code, row_code}
-use Rattle.rhythm_laws.proofs.Picks.{Held, pick_held}
+use Rattle.rhythm_laws.proofs.Alike.{IsCount}
+use Rattle.rhythm_laws.proofs.Picks.{Held, pick_count, pick_held}
 use Rattle.rhythm_laws.proofs.ProductCosts.{sum_parts}
 use Rattle.rhythm_laws.proofs.Products.{five_same, grid_at}
 use Rattle.carry_matrix.proofs.Rows.{low_rank}
@@ -63,3 +64,12 @@ product_row a b from lf = λ i. record {
   where
     same : (to : ℕ) → to < 5 → ranked (λ n. sum_key (choice a b from n)) (sum_key (choice a b from to)) ≡ at (table_of (λ from to. sum_key (choice a b from to))) from to
     same to lt = sym (grid_at (λ from to. ranked (λ n. sum_key (choice a b from n)) (sum_key (choice a b from to))) from to lf lt)
+
+low_middle : (o : Option (ℕ × Sum)) → IsCount (number_of o) → (choice_code o).middle < 5
+low_middle None low = omega arith
+low_middle (Some x) low = low
+
+pub middle_low : (a b : CarryMatrix) (from to : ℕ) (c : Choice) → c ≡ choice_code (choice a b from to) → c.middle < 5
+unfolding choice
+middle_low a b from to c is =
+    subst (λ n. n < 5) (sym (ap (λ (c : Choice). c.middle) is)) (low_middle _ (pick_count sum_before (λ m. summed (at a from m) (at b m to))))

@@ -65,9 +65,9 @@ pub row_within : (m : CarryMatrix) → IsRanked m → AreLow m → (from : ℕ) 
 row_within m ranked low from lf = λ to lt.
     let cost = five_at (λ to. cost_code (at m from to)) 0 to lt in
     let rank = five_at (λ to. rank_code (at m from to)) 0 to lt in
-    (subst (λ n. n ≤ 2 ^ 62) (sym cost) (cost_within to (at m from to) refl), subst (λ n. n ≤ 5) (sym rank) (rank_within to lt (at m from to) refl))
+    (subst (λ n. n ≤ 2 ^ 63) (sym cost) (cost_within to (at m from to) refl), subst (λ n. n ≤ 5) (sym rank) (rank_within to lt (at m from to) refl))
   where
-    cost_within : (to : ℕ) (o : Option Best) → at m from to ≡ o → cost_code o ≤ 2 ^ 62
+    cost_within : (to : ℕ) (o : Option Best) → at m from to ≡ o → cost_code o ≤ 2 ^ 63
     cost_within to None s = omega arith
     cost_within to (Some e) s = let under : e.cost < 2 ^ 62 = low from to e s in omega (arith, under)
 

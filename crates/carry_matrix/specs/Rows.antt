@@ -6,7 +6,7 @@ use Rattle.rhythm_base.specs.Ranked.{CarryMatrix, at, five, grid}
 use Rattle.carry_matrix.specs.declared.row.Row.{Row}
 
 abbrev pub cost_code : Option Best → ℕ
-cost_code None = 2 ^ 62
+cost_code None = 2 ^ 63
 cost_code (Some e) = e.cost
 
 abbrev pub rank_code : Option Best → ℕ
@@ -41,4 +41,4 @@ pub record AreRows (rows : List Row) : Type 0 where
 
 -- costs and ranks that may be added up
 abbrev pub IsWithin : Row → Type 0
-IsWithin row = (to : ℕ) → to < 5 → (slice_index_or row.costs to 0 ≤ 2 ^ 62) × (slice_index_or row.ranks to 0 ≤ 5)
+IsWithin row = (to : ℕ) → to < 5 → (slice_index_or row.costs to 0 ≤ 2 ^ 63) × (slice_index_or row.ranks to 0 ≤ 5)

@@ -1,6 +1,6 @@
 ghost use Rattle.carry_matrix.specs.Choices.{AreLowSums, IsLowSum, choice_code, choices_code};
 ghost use Rattle.carry_matrix.specs.Rows.{IsWithin, cost_code, rank_code, row_code};
-ghost use Rattle.rhythm_base.specs.Ranked.{Sum, better, is_under, ranked, sum_before, sum_key, summed};
+ghost use Rattle.rhythm_base.specs.Ranked.{Key, Sum, better, is_under, ranked, sum_before, sum_key, summed};
 ghost use Rattle.rhythm_base.specs.declared.best.Best.{Best};
 ghost use Rattle.std.specs.Prelude.{
   ◌≡◌,
@@ -18,16 +18,17 @@ ghost use Rattle.std.specs.Prelude.{
   Some,
 };
 
-use crate::row::{ABSENT, Row};
+use crate::row::{ABOVE_COSTS, ABSENT, Row};
 use rhythm_base::Best;
 
 /// A count in the middle, with the sum of the two costs there, and the ranks on both sides as one number, its order: eight
-/// times the rank on the left, and the rank on the right. Where no count has both entries, the cost is `ABSENT`.
+/// times the rank on the left, and the rank on the right. Where no count has both entries, the cost is `ABOVE_COSTS`, and the
+/// order is above all others. The numbers are as wide as leaves no bytes between them, which would be copied with them.
 #[derive(Clone, Copy)]
 pub struct Choice {
     pub cost: u64,
-    pub order: u8,
-    pub middle: u8,
+    pub order: u32,
+    pub middle: u32,
 }
 
 /// Choices by the number of chords carried out.
@@ -39,8 +40,8 @@ pub fn none() -> Choice
     ensures { result ≡ choice_code None }
 {
     Choice {
-        cost: ABSENT,
-        order: 0,
+        cost: ABOVE_COSTS,
+        order: u32::MAX,
         middle: 0,
     }
 }
@@ -50,17 +51,18 @@ pub fn none() -> Choice
 #[inline(always)]
 pub fn nearer(best: Choice, left: Best, cost: u64, rank: u8, middle: u8) -> Choice
     requires left { (left.cost < 2 ^ 62) × (left.rank ≤ 5) }
-    requires right { (cost ≤ 2 ^ 62) × (rank ≤ 5) }
+    requires right { (cost ≤ 2 ^ 63) × (rank ≤ 5) }
     ensures { (o : Option (ℕ × Sum)) (right : Option Best) → IsLowSum o → best ≡ choice_code o → cost ≡ cost_code right → rank ≡ rank_code right
         → ((y : Best) → right ≡ Some y → left.cost + y.cost < 2 ^ 62) → result ≡ choice_code (better sum_before o middle (summed (Some left) right)) }
 {
     let sum = left.cost + cost;
-    let order = 8 * left.rank;
-    if sum < best.cost || (sum == best.cost && order + 7 < best.order) {
+    let order = 8 * u32::from(left.rank);
+    let is_nearer = sum < best.cost || (sum == best.cost && order + 7 < best.order);
+    if is_nearer {
         Choice {
             cost: sum,
-            order: order + rank,
-            middle,
+            order: order + u32::from(rank),
+            middle: u32::from(middle),
         }
     } else {
         best
@@ -84,17 +86,13 @@ pub fn nearer_row(choices: &Choices, left: Best, row: &Row, middle: u8) -> Choic
     ]
 }
 
-/// 1 where the choice is there and its order is lower, and else 0.
+/// 1 where the choice has a lower order, and else 0.
 #[inline(always)]
-fn lower(choice: Choice, order: u8) -> u8
+fn lower(choice: Choice, order: u32) -> u8
     ensures small { result < 2 }
     ensures is { (o : Option (ℕ × Sum)) (l r : ℕ) → IsLowSum o → choice ≡ choice_code o → r ≤ 5 → order ≡ 8 * l + r → result ≡ (if is_under (sum_key o) (l ∷ r ∷ []) then 1 else 0) }
 {
-    if choice.cost < ABSENT && choice.order < order {
-        1
-    } else {
-        0
-    }
+    if choice.order < order { 1 } else { 0 }
 }
 
 /// How many of the choices have a lower order than one of them, 0 where that is none.
@@ -103,13 +101,25 @@ fn rank(choices: &Choices, own: Choice) -> u8
     ensures { (o : ℕ → Option (ℕ × Sum)) (u : Option (ℕ × Sum)) → AreLowSums o → IsLowSum u → choices.now ≡ choices_code o → own ≡ choice_code u
         → result ≡ rank_code (ranked (λ n. sum_key (o n)) (sum_key u)) }
 {
-    if own.cost < ABSENT {
+    if own.cost < ABOVE_COSTS {
         lower(choices[4], own.order)
             + (lower(choices[3], own.order)
                 + (lower(choices[2], own.order)
                     + (lower(choices[1], own.order) + lower(choices[0], own.order))))
     } else {
         0
+    }
+}
+
+/// What stands for the cost of the entry of a choice.
+#[inline(always)]
+fn cost(own: Choice) -> u64
+    ensures { (u : Option (ℕ × Sum)) → IsLowSum u → own ≡ choice_code u → (row : ℕ → Option Key) → result ≡ cost_code (ranked row (sum_key u)) }
+{
+    if own.cost < ABOVE_COSTS {
+        own.cost
+    } else {
+        ABSENT
     }
 }
 
@@ -120,11 +130,11 @@ pub fn row_chosen(choices: &Choices) -> Row
 {
     Row {
         costs: [
-            choices[0].cost,
-            choices[1].cost,
-            choices[2].cost,
-            choices[3].cost,
-            choices[4].cost,
+            cost(choices[0]),
+            cost(choices[1]),
+            cost(choices[2]),
+            cost(choices[3]),
+            cost(choices[4]),
         ],
         ranks: [
             rank(choices, choices[0]),

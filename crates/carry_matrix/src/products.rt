@@ -1,14 +1,14 @@
-ghost use Rattle.carry_matrix.specs.Choices.{choice_code, choices_code};
+ghost use Rattle.carry_matrix.specs.Choices.{choice_code, choices_below, choices_code};
 ghost use Rattle.carry_matrix.specs.LowSums.{HaveLowSums};
 ghost use Rattle.carry_matrix.specs.Rows.{row_code};
 ghost use Rattle.rhythm_base.specs.Counter.{risen};
 ghost use Rattle.rhythm_base.specs.Paths.{IsRanked};
 ghost use Rattle.rhythm_base.specs.Ranked.{at, choice, middle_of, product_of};
-ghost use Rattle.std.specs.Prelude.{◌≡◌, ◌<◌};
+ghost use Rattle.std.specs.Prelude.{◌≡◌, ◌+◌, ◌<◌};
 
 use crate::choice::{Choice, Choices, nearer, nearer_row, none, row_chosen};
 use crate::matrix::CarryMatrix;
-use crate::row::{ABSENT, Row};
+use crate::row::{ABOVE_COSTS, Row};
 use crate::steps::Steps;
 use rhythm_base::Tag;
 
@@ -36,7 +36,25 @@ fn chosen(a: &CarryMatrix, b: &CarryMatrix, from: u8, to: u8) -> Choice
     best
 }
 
-/// The counts in the middle and their sums, for each number carried out.
+/// The counts in the middle and their sums, for each number carried out, where those below a count are known.
+#[inline(always)]
+fn with_middle(choices: &Choices, a: &CarryMatrix, b: &CarryMatrix, from: u8, middle: u8) -> Choices
+    requires from { from < 5 }
+    requires middle { middle < 5 }
+    requires ranked { IsRanked b.now }
+    requires small { HaveLowSums a.now b.now }
+    requires known { choices.now ≡ choices_below a.now b.now from middle }
+    ensures { result ≡ choices_below a.now b.now from (middle + 1) }
+{
+    if let Some(left) = a.get(from, middle) {
+        nearer_row(choices, left, b.row(middle), middle)
+    } else {
+        *choices
+    }
+}
+
+/// The counts in the middle and their sums, for each number carried out. Written without a loop, so that the choices stay
+/// in registers.
 #[inline(always)]
 fn chosen_row(a: &CarryMatrix, b: &CarryMatrix, from: u8) -> Choices
     requires from { from < 5 }
@@ -44,13 +62,11 @@ fn chosen_row(a: &CarryMatrix, b: &CarryMatrix, from: u8) -> Choices
     requires small { HaveLowSums a.now b.now }
     ensures { result ≡ choices_code (choice a.now b.now from) }
 {
-    let mut choices = [none(); 5];
-    'middles: for middle in 0..5u8 {
-        if let Some(left) = a.get(from, middle) {
-            choices = nearer_row(&choices, left, b.row(middle), middle);
-        }
-    }
-    choices
+    let first = with_middle(&[none(); 5], a, b, from, 0);
+    let second = with_middle(&first, a, b, from, 1);
+    let third = with_middle(&second, a, b, from, 2);
+    let fourth = with_middle(&third, a, b, from, 3);
+    with_middle(&fourth, a, b, from, 4)
 }
 
 /// The row of the product for a number carried in.
@@ -92,8 +108,8 @@ pub fn middle(a: &CarryMatrix, b: &CarryMatrix, from: u8, to: u8) -> Option<u8>
 {
     b.see();
     let choice = chosen(a, b, from, to);
-    if choice.cost < ABSENT {
-        Some(choice.middle)
+    if choice.cost < ABOVE_COSTS {
+        Some(choice.middle as u8)
     } else {
         None
     }

@@ -3,9 +3,12 @@ ghost use Rattle.std.specs.Prelude.{◌≡◌, None, slice_index_or};
 
 use rhythm_base::Best;
 
-/// What stands for the cost of an entry that is not there: 2 to the power 62, above every cost. So no sum with it is taken
-/// in a product, which need not ask; and a row is 48 bytes, where five options are 120.
-pub const ABSENT: u64 = 4_611_686_018_427_387_904;
+/// 2 to the power 62: every cost is below it.
+pub const ABOVE_COSTS: u64 = 4_611_686_018_427_387_904;
+
+/// What stands for the cost of an entry that is not there: 2 to the power 63, so that a sum with it is above
+/// `ABOVE_COSTS`, and is not taken in a product, which need not ask. With it a row is 48 bytes, where five options are 120.
+pub const ABSENT: u64 = 9_223_372_036_854_775_808;
 
 /// The entries for one number of chords carried in, by the number carried out. Where an entry is not there, its cost is
 /// `ABSENT` and its rank 0.
@@ -65,7 +68,7 @@ pub fn row_of(entries: &[Option<Best>; 5]) -> Row
 pub fn entry(cost: u64, rank: u8) -> Option<Best>
     ensures { result ≡ entry_of cost rank }
 {
-    if cost < ABSENT {
+    if cost < ABOVE_COSTS {
         Some(Best { cost, rank })
     } else {
         None

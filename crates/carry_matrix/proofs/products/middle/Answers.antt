@@ -1,13 +1,18 @@
-use Rattle.std.proofs.Common.{arith}
+use Rattle.std.proofs.Common.{◌<◌, arith}
 use Rattle.rhythm_base.specs.Ranked.{middle_of}
-use Rattle.carry_matrix.proofs.Choices.{choice_low, middle_none, middle_there}
+use Rattle.carry_matrix.proofs.Choices.{choice_low, middle_low, middle_none, middle_there}
 use Rattle.carry_matrix.proofs.products.middle.Goals as goal
 
-pub returns-then-choice-lt-ABSENT : goal.returns-then-choice-lt-ABSENT
+pub returns-then-choice-lt-ABOVE_COSTS : goal.returns-then-choice-lt-ABOVE_COSTS
 unfolding middle_of
-returns-then-choice-lt-ABSENT c = middle_there _ c.chosen-choice.result c.chosen-choice.ensures c.if-choice-lt-ABSENT.true
+returns-then-choice-lt-ABOVE_COSTS c = middle_there _ c.chosen-choice.result c.chosen-choice.ensures c.if-choice-lt-ABOVE_COSTS.true
 
-pub returns-else-choice-lt-ABSENT : goal.returns-else-choice-lt-ABSENT
+pub returns-else-choice-lt-ABOVE_COSTS : goal.returns-else-choice-lt-ABOVE_COSTS
 unfolding middle_of
-returns-else-choice-lt-ABSENT c =
-    middle_none _ c.chosen-choice.result (choice_low c.args.a.now c.args.b.now c.requires.small c.see.ensures c.args.from c.args.to c.requires.to) c.chosen-choice.ensures (omega (arith, c.if-choice-lt-ABSENT.false))
+returns-else-choice-lt-ABOVE_COSTS c =
+    middle_none _ c.chosen-choice.result (choice_low c.args.a.now c.args.b.now c.requires.small c.see.ensures c.args.from c.args.to c.requires.to) c.chosen-choice.ensures (omega (arith, c.if-choice-lt-ABOVE_COSTS.false))
+
+pub overflow_cast-result : goal.overflow_cast-result
+overflow_cast-result c =
+    let low : c.chosen-choice.result.middle < 5 = middle_low c.args.a.now c.args.b.now c.args.from c.args.to c.chosen-choice.result c.chosen-choice.ensures in
+    omega (arith, low)
