@@ -1,2 +1,3 @@
 pub mod TableCode
 pub mod Tables
+pub mod KeptRules

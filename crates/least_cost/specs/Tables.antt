@@ -1,8 +1,12 @@
 -- The rule lists of a table.
-use Rattle.std.specs.Prelude.{ℕ, ◌<◌, List, Option, Some, None}
-use Rattle.rhythm_base.specs.Ranked.{CarryMatrix, at, five}
+use Rattle.std.specs.Prelude.{◌≡◌, ℕ, ◌<◌, List, [], ◌∷◌, Option, Some, None}
+use Rattle.rhythm_base.specs.BarInput.{BarInput}
+use Rattle.rhythm_base.specs.Grammar.{Grammar}
+use Rattle.rhythm_base.specs.Ranked.{CarryMatrix, Keys, at, five, table_of}
 use Rattle.rhythm_base.specs.declared.best.Best.{Best}
-use Rattle.least_rows.specs.WrittenLists.{IsPlaced, list_of, number_of}
+use Rattle.rhythm_laws.specs.Forests.{AreLeast, one_shape}
+use Rattle.row_laws.specs.Grounds.{ground_of}
+use Rattle.least_rows.specs.WrittenLists.{AreWritten, IsListAt, IsPlaced, list_of, number_of}
 
 -- the list where there is an entry
 abbrev pub list_where : Option Best → List ℕ → Option (List ℕ)
@@ -16,3 +20,11 @@ lists_of m rules ends = five (λ a. five (λ b. list_where (at m a b) (list_of r
 -- all lists lie in the rules
 abbrev pub AreAllPlaced : List ℕ → List ℕ → Type 0
 AreAllPlaced rules ends = (n : ℕ) → n < 25 → IsPlaced rules ends n
+
+-- these are the least trees of the cell's root symbol over the whole bar, of the shape of its pin where it has one: the cost of
+-- each, the number of lower rule lists in its row, and its rule list
+pub record AreCellTrees (g : Grammar) (k : BarInput) (bests : CarryMatrix) (rules ends : List ℕ) : Type 0 where
+  pub keys : Keys
+  pub least : AreLeast (ground_of g k) (one_shape k.pin) 0 ((k.resolution, k.symbol) ∷ []) keys
+  pub matrix : bests ≡ table_of keys
+  pub lists : AreWritten (IsListAt keys) rules ends 25

@@ -1,18 +1,22 @@
 ghost use Rattle.grammar_plan.specs.Plans.{HasSeat, IsPlan};
+ghost use Rattle.least_cost.specs.Tables.{AreCellTrees};
 ghost use Rattle.rhythm_base.specs.BarInput.{IsBarInput};
 ghost use Rattle.rhythm_base.specs.BarTables.{IsTable};
 ghost use Rattle.rhythm_base.specs.Counter.{risen};
 ghost use Rattle.rhythm_base.specs.Readable.{IsReadable};
-ghost use Rattle.row_laws.specs.Grounds.{IsReady};
+ghost use Rattle.row_laws.specs.Grounds.{IsReady, ground_of};
+ghost use Rattle.row_laws.specs.QuietTrees.{IsQuiet};
 ghost use Rattle.std.specs.Prelude.{◌≡◌, None, IfOk, option_map};
 
+use crate::kept_rules::KeptRules;
 use crate::steps::Steps;
 use crate::table::BarTable;
 use carry_matrix::CarryMatrix;
 use grammar_plan::Plan;
-use least_rows::Room;
+use least_rows::{BarBests, Room, quiet_of};
 use pinned_trees::pinned_trees;
 use rhythm_base::{BarInput, Grammar, Shape, Tag};
+use row_laws::Quiet;
 use std::alloc::{AllocError, Global};
 
 /// Builds the table of the least trees of one bar of one voice. It takes one step.
@@ -36,6 +40,7 @@ pub fn build_cell<B: Tag>(
 
 /// The same by a plan of the grammar, in a room that is kept from bar to bar. A bar with a pin, or whose root symbol the plan
 /// does not know, is built as without them.
+#[inline(always)]
 pub fn build_planned<B: Tag>(
     alloc: Global,
     grammar: &Grammar,
@@ -97,12 +102,44 @@ fn build_by_rows(
     ensures input { IfOk result (λ t. t.input ≡ input.now) }
     ensures table { IfOk result (IsTable grammar.now) }
 {
+    if let Some(quiet) = quiet_of(input) {
+        return build_quiet(alloc, grammar, plan, room, input, quiet, root);
+    }
     room.search(grammar, plan, input, root)?;
     let trees = &room.trees;
-    let lists = trees.lists.copy(alloc)?;
-    let kept = copy_of(alloc, input)?;
-    let matrix = CarryMatrix::make(trees.bests.rows);
-    Ok(BarTable::of(matrix, lists, kept))
+    let lists = &trees.lists;
+    table_of(
+        alloc,
+        grammar,
+        input,
+        &trees.bests,
+        lists.rules.as_slice(),
+        lists.ends,
+    )
+}
+
+/// The table of a bar that is quiet so as a whole, without a pin, whose root symbol has this seat in the plan.
+#[inline(always)]
+fn build_quiet(
+    alloc: Global,
+    grammar: &Grammar,
+    plan: &Plan,
+    room: &mut Room,
+    input: &BarInput,
+    quiet: Quiet,
+    root: u32,
+) -> Result<BarTable, AllocError>
+    requires ready { IsReady grammar.now input.now }
+    requires plan { IsPlan grammar.now plan.now }
+    requires root { HasSeat plan.now root (input.now.resolution, input.now.symbol) }
+    requires quiet { IsQuiet quiet (ground_of grammar.now input.now) 0 input.now.resolution }
+    requires pin { input.now.pin ≡ None }
+    ensures input { IfOk result (λ t. t.input ≡ input.now) }
+    ensures table { IfOk result (IsTable grammar.now) }
+{
+    let trees = room.quiet_trees(grammar, plan, input, quiet, root)?;
+    let rules = room.trees.lists.rules.as_slice();
+    table_of(alloc, grammar, input, &trees.bests, rules, trees.ends)
 }
 
 /// The table of a bar, with a pin or without.
@@ -112,9 +149,36 @@ fn build_pinned(alloc: Global, grammar: &Grammar, input: &BarInput) -> Result<Ba
     ensures table { IfOk result (IsTable grammar.now) }
 {
     let trees = pinned_trees(alloc, grammar, input)?;
+    let lists = &trees.lists;
+    table_of(
+        alloc,
+        grammar,
+        input,
+        &trees.bests,
+        lists.rules.as_slice(),
+        lists.ends,
+    )
+}
+
+/// The table of these least trees of a bar, whose rule lists end there.
+#[inline(always)]
+fn table_of(
+    alloc: Global,
+    grammar: &Grammar,
+    input: &BarInput,
+    bests: &BarBests,
+    rules: &[u16],
+    ends: [u16; 25],
+) -> Result<BarTable, AllocError>
+    requires ready { IsReady grammar.now input.now }
+    requires trees { AreCellTrees grammar.now input.now bests.now.rows rules.now ends }
+    ensures input { IfOk result (λ t. t.input ≡ input.now) }
+    ensures table { IfOk result (IsTable grammar.now) }
+{
+    let own = KeptRules::keep(alloc, rules)?;
     let kept = copy_of(alloc, input)?;
-    let matrix = CarryMatrix::make(trees.bests.rows);
-    Ok(BarTable::of(matrix, trees.lists, kept))
+    let matrix = CarryMatrix::make(bests.rows);
+    Ok(BarTable::of(matrix, own, ends, kept))
 }
 
 /// An equal input.

@@ -6,6 +6,7 @@
 #![tactic(auto)]
 
 mod build;
+mod kept_rules;
 mod steps;
 mod table;
 

@@ -1,9 +1,11 @@
+ghost use Rattle.least_cost.specs.KeptRules.{rules_of};
 ghost use Rattle.least_cost.specs.Tables.{AreAllPlaced, lists_of};
+ghost use Rattle.least_rows.specs.WrittenLists.{IsPlaced, list_of, number_of};
 ghost use Rattle.rhythm_base.specs.BarTables.{list_at};
 ghost use Rattle.std.specs.Prelude.{◌≡◌, ◌<◌, option_map};
 
+use crate::kept_rules::KeptRules;
 use carry_matrix::CarryMatrix;
-use least_rows::WrittenLists;
 use rhythm_base::BarInput;
 use std::marker::Model;
 
@@ -12,13 +14,17 @@ use std::marker::Model;
 #[derive(Drop)]
 pub struct BarTable {
     matrix: CarryMatrix,
-    /// Where the matrix has no entry the list is not looked at.
-    lists: WrittenLists,
+    /// Rule lists one after another: for each number of chords carried in one for each number carried out.
+    rules: KeptRules,
+    /// Where each list ends. The first begins at 0, and each other where the one before it ends. Where the matrix has no entry the
+    /// list is not looked at.
+    ends: [u16; 25],
     input: BarInput,
 }
 
 impl Model for BarTable {
     ghost use Rattle.rhythm_base.specs.BarTables.{BarTable};
+    ghost use Rattle.least_cost.specs.KeptRules.{rules_of};
     ghost use Rattle.least_cost.specs.TableCode.{table_code};
     ghost use Rattle.least_cost.specs.Tables.{AreAllPlaced, lists_of};
 
@@ -26,20 +32,27 @@ impl Model for BarTable {
 
     ghost coded = { table_code };
 
-    ghost view = { λ t. record { matrix = t.matrix; lists = lists_of t.matrix t.lists.rules.items t.lists.ends; input = t.input } };
+    ghost view = { λ t. record { matrix = t.matrix; lists = lists_of t.matrix (rules_of t.rules) t.ends; input = t.input } };
 
-    ghost invariant = { λ t. AreAllPlaced t.lists.rules.items t.lists.ends };
+    ghost invariant = { λ t. AreAllPlaced (rules_of t.rules) t.ends };
 }
 
 impl BarTable {
     /// The table of these costs and rule lists.
-    pub(crate) fn of(matrix: CarryMatrix, lists: WrittenLists, input: BarInput) -> BarTable
-        requires { AreAllPlaced lists.rules.items lists.ends }
-        ensures { result ≡ record { matrix = matrix; lists = lists_of matrix lists.rules.items lists.ends; input = input } }
+    #[inline(always)]
+    pub(crate) fn of(
+        matrix: CarryMatrix,
+        rules: KeptRules,
+        ends: [u16; 25],
+        input: BarInput,
+    ) -> BarTable
+        requires { AreAllPlaced (rules_of rules) ends }
+        ensures { result ≡ record { matrix = matrix; lists = lists_of matrix (rules_of rules) ends; input = input } }
     {
         BarTable {
             matrix,
-            lists,
+            rules,
+            ends,
             input,
         }
     }
@@ -59,7 +72,7 @@ impl BarTable {
     {
         match self.matrix.get(from, to) {
             None => None,
-            Some(_best) => Some(self.lists.list(from, to)),
+            Some(_best) => Some(list_in(self.rules.as_slice(), &self.ends, from, to)),
         }
     }
 
@@ -69,4 +82,21 @@ impl BarTable {
     {
         &self.input
     }
+}
+
+/// The list for these numbers carried in and out.
+fn list_in<'a>(rules: &'a [u16], ends: &[u16; 25], from: u8, to: u8) -> &'a [u16]
+    requires from { from < 5 }
+    requires to { to < 5 }
+    requires placed { IsPlaced rules.now ends.now (number_of from to) }
+    ensures { result.now ≡ list_of rules.now ends.now (number_of from to) }
+{
+    let number = 5 * from as usize + to as usize;
+    let end = ends[number] as usize;
+    let first = if number == 0 {
+        0
+    } else {
+        ends[number - 1] as usize
+    };
+    &rules[first..end]
 }

@@ -34,7 +34,7 @@ use Rattle.least_rows.proofs.Fives.{list-five}
 use Rattle.least_rows.proofs.PlanSeats.{All-at}
 use Rattle.least_rows.proofs.RowRanks.{place-rank}
 use Rattle.least_rows.proofs.WayLists.{grounded, position-none, quiet-nothing}
-use Rattle.least_rows.proofs.ListEnds.{written-so}
+use Rattle.least_rows.proofs.ListEnds.{written-next, written-none, written-so}
 
 -- ---- a bar that is quiet as a whole
 
@@ -59,6 +59,9 @@ pub only-some : (g : Grammar) (k : BarInput) → IsReady g k → (plan : Plan) (
 only-some g k ready plan quiet a calm t (key, least, cost, cheap, made) rules later written = (Some key, only_least g k ready quiet a calm (Some key) least, λ i. Some (record { cost = cost i; rank = 0 }), written key least)
 
 -- the whole row of that tree
+abbrev pub quiet_row : Option Best → List (Option Best)
+quiet_row o = o ∷ None ∷ None ∷ None ∷ None ∷ []
+
 pub only-bests : (g : Grammar) (k : BarInput) (a : ℕ) (best : Option Best) (rules later : List ℕ) → IsOnlyTree g k a best rules later → AreRootBests g k a (best ∷ None ∷ None ∷ None ∷ None ∷ [])
 only-bests g k a best rules later (o, least, is, grown) = record { keys = only_key o; least = least; each = ap (λ (o : Option Best). o ∷ None ∷ None ∷ None ∷ None ∷ []) (is ∙ ranked_only o) }
   where
@@ -196,3 +199,46 @@ module _ (g : Grammar) (k : BarInput) (bests : List (List (Option Best))) (h : A
     bests = sym is ∙ list-five bests [] (λ a. five (λ b. ranked (five_keys a) (five_keys a b))) long (λ a low. (five_known a low).1);
     lists = written-so (IsRootListAt g k) (IsListAt five_keys) trees.lists.rules.items trees.lists.ends 25 listed written;
   }
+
+-- ---- the rows of a bar that is quiet as a whole
+
+pub quiet-rows : (g : Grammar) (k : BarInput) (o p q r s : Option Best) (r0 r1 r2 r3 r4 r5 : List ℕ)
+    → IsOnlyTree g k 0 o r0 r1 → IsOnlyTree g k 1 p r1 r2 → IsOnlyTree g k 2 q r2 r3 → IsOnlyTree g k 3 r r3 r4 → IsOnlyTree g k 4 s r4 r5
+    → AreRootRows g k 5 (quiet_row o ∷ quiet_row p ∷ quiet_row q ∷ quiet_row r ∷ quiet_row s ∷ [])
+quiet-rows g k o p q r s r0 r1 r2 r3 r4 r5 ho hp hq hr hs zero low = only-bests g k 0 o r0 r1 ho
+quiet-rows g k o p q r s r0 r1 r2 r3 r4 r5 ho hp hq hr hs (suc zero) low = only-bests g k 1 p r1 r2 hp
+quiet-rows g k o p q r s r0 r1 r2 r3 r4 r5 ho hp hq hr hs (suc (suc zero)) low = only-bests g k 2 q r2 r3 hq
+quiet-rows g k o p q r s r0 r1 r2 r3 r4 r5 ho hp hq hr hs (suc (suc (suc zero))) low = only-bests g k 3 r r3 r4 hr
+quiet-rows g k o p q r s r0 r1 r2 r3 r4 r5 ho hp hq hr hs (suc (suc (suc (suc zero)))) low = only-bests g k 4 s r4 r5 hs
+quiet-rows g k o p q r s r0 r1 r2 r3 r4 r5 ho hp hq hr hs (suc (suc (suc (suc (suc a))))) low = absurd (omega arith)
+
+-- the lists of one row more end where that of its only tree does
+abbrev ended : List ℕ → ℕ → ℕ → List ℕ
+ended ends n e = set (set (set (set (set ends n e) (n + 1) e) (n + 2) e) (n + 3) e) (n + 4) e
+
+quiet-ended : (g : Grammar) (k : BarInput) (a n m : ℕ) (best : Option Best) (rules later ends : List ℕ) → a < 5 → n ≡ number_of a 0 → n + 5 ≡ m → IsOnlyTree g k a best rules later
+    → AreWritten (IsRootListAt g k) rules ends n → AreWritten (IsRootListAt g k) later (ended ends n (length later)) m
+quiet-ended g k a n m best rules later ends low here next h written =
+    let P = IsRootListAt g k in
+    let e = length later in
+    let same = sym (append-nil later) in
+    let l0 = written-next P rules (only_list h.0) later ends n (n + 1) (omega (arith, low, here)) written h.3 (only-list g k a n best rules later h here) (omega arith) in
+    let l1 = written-next P later [] later (set ends n e) (n + 1) (n + 2) (omega (arith, low, here)) l0 same (only-empty g k a 0 (n + 1) best rules later h (omega arith) (omega (arith, here))) (omega arith) in
+    let l2 = written-next P later [] later (set (set ends n e) (n + 1) e) (n + 2) (n + 3) (omega (arith, low, here)) l1 same (only-empty g k a 1 (n + 2) best rules later h (omega arith) (omega (arith, here))) (omega arith) in
+    let l3 = written-next P later [] later (set (set (set ends n e) (n + 1) e) (n + 2) e) (n + 3) (n + 4) (omega (arith, low, here)) l2 same (only-empty g k a 2 (n + 3) best rules later h (omega arith) (omega (arith, here))) (omega arith) in
+    written-next P later [] later (set (set (set (set ends n e) (n + 1) e) (n + 2) e) (n + 3) e) (n + 4) m (omega (arith, low, here)) l3 same (only-empty g k a 3 (n + 4) best rules later h (omega arith) (omega (arith, here))) (omega (arith, next))
+
+abbrev pub quiet_ends : (a b c d e : ℕ) → List ℕ
+quiet_ends a b c d e =
+    a ∷ a ∷ a ∷ a ∷ a ∷ b ∷ b ∷ b ∷ b ∷ b ∷ c ∷ c ∷ c ∷ c ∷ c ∷ d ∷ d ∷ d ∷ d ∷ d ∷ e ∷ e ∷ e ∷ e ∷ e ∷ []
+
+pub quiet-written : (g : Grammar) (k : BarInput) (o p q r s : Option Best) (r1 r2 r3 r4 r5 : List ℕ)
+    → IsOnlyTree g k 0 o [] r1 → IsOnlyTree g k 1 p r1 r2 → IsOnlyTree g k 2 q r2 r3 → IsOnlyTree g k 3 r r3 r4 → IsOnlyTree g k 4 s r4 r5
+    → AreWritten (IsRootListAt g k) r5 (quiet_ends (length r1) (length r2) (length r3) (length r4) (length r5)) 25
+quiet-written g k o p q r s r1 r2 r3 r4 r5 ho hp hq hr hs =
+    let w0 = written-none (IsRootListAt g k) [] (quiet_ends 0 0 0 0 0) refl refl in
+    let w1 = quiet-ended g k 0 0 5 o [] r1 (quiet_ends 0 0 0 0 0) (omega arith) refl refl ho w0 in
+    let w2 = quiet-ended g k 1 5 10 p r1 r2 (quiet_ends (length r1) 0 0 0 0) (omega arith) refl refl hp w1 in
+    let w3 = quiet-ended g k 2 10 15 q r2 r3 (quiet_ends (length r1) (length r2) 0 0 0) (omega arith) refl refl hq w2 in
+    let w4 = quiet-ended g k 3 15 20 r r3 r4 (quiet_ends (length r1) (length r2) (length r3) 0 0) (omega arith) refl refl hr w3 in
+    quiet-ended g k 4 20 25 s r4 r5 (quiet_ends (length r1) (length r2) (length r3) (length r4) 0) (omega arith) refl refl hs w4

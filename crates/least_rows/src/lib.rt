@@ -13,6 +13,7 @@ mod leaf_choices;
 mod parts;
 mod quiet_bar;
 mod quiet_lists;
+mod quiet_trees;
 mod quiet_ways;
 mod room;
 mod roots;
@@ -29,5 +30,7 @@ mod write;
 mod written_lists;
 
 pub use bar_trees::{BarBests, BarTrees};
+pub use quiet_bar::quiet_of;
+pub use quiet_trees::QuietTrees;
 pub use room::Room;
 pub use written_lists::WrittenLists;

@@ -8,7 +8,7 @@ use rhythm_base::BarInput;
 use row_laws::Quiet;
 
 /// How a bar sounds in which no chord begins, where the chord before it sounds throughout or not at all.
-pub fn quiet_bar(input: &BarInput) -> Option<Quiet>
+pub fn quiet_of(input: &BarInput) -> Option<Quiet>
     requires { IsBarInput input.now }
     ensures { (g : Grammar) → g.resolution ≡ input.now.resolution → IfSome result (λ q. IsQuiet q (ground_of g input.now) 0 input.now.resolution) }
 {

@@ -1,11 +1,13 @@
 ghost use Rattle.grammar_plan.specs.Plans.{HasSeat, IsPlan};
-ghost use Rattle.least_rows.specs.BarTrees.{AreBarTrees};
-ghost use Rattle.row_laws.specs.Grounds.{IsReady};
-ghost use Rattle.std.specs.Prelude.{◌≡◌, [], OnOk};
+ghost use Rattle.least_rows.specs.BarTrees.{AreBarTrees, bar_trees};
+ghost use Rattle.row_laws.specs.Grounds.{IsReady, ground_of};
+ghost use Rattle.row_laws.specs.QuietTrees.{IsQuiet};
+ghost use Rattle.std.specs.Prelude.{◌≡◌, [], IfOk, OnOk};
 
 use crate::bar_trees::{BarBests, BarTrees};
-use crate::quiet_bar::quiet_bar;
-use crate::roots::{quiet_trees_of, trees_of};
+use crate::quiet_bar::quiet_of;
+use crate::quiet_trees::{QuietTrees, quiet_trees};
+use crate::roots::trees_of;
 use crate::rows::Rows;
 use crate::search::Search;
 use crate::texts::Texts;
@@ -13,6 +15,7 @@ use crate::written_lists::WrittenLists;
 use bar_view::View;
 use grammar_plan::Plan;
 use rhythm_base::{BarInput, Grammar};
+use row_laws::Quiet;
 use std::alloc::{AllocError, Global};
 
 /// Room for the search of one worker, kept from bar to bar.
@@ -39,6 +42,33 @@ impl Room {
         }
     }
 
+    /// The least trees of a bar that is quiet so as a whole, whose root symbol has this seat in the plan of the grammar. Only
+    /// their rule lists are written to the room. The bar's pin is not looked at.
+    #[inline(always)]
+    pub fn quiet_trees(
+        &mut self,
+        grammar: &Grammar,
+        plan: &Plan,
+        input: &BarInput,
+        quiet: Quiet,
+        root: u32,
+    ) -> Result<QuietTrees, AllocError>
+        requires ready { IsReady grammar.now input.now }
+        requires plan { IsPlan grammar.now plan.now }
+        requires root { HasSeat plan.now root (input.now.resolution, input.now.symbol) }
+        requires quiet { IsQuiet quiet (ground_of grammar.now input.now) 0 input.now.resolution }
+        ensures { IfOk result (λ q. AreBarTrees grammar.now input.now (bar_trees q self.new.trees)) }
+    {
+        quiet_trees(
+            grammar,
+            plan,
+            input,
+            quiet,
+            root,
+            &mut self.trees.lists.rules,
+        )
+    }
+
     /// The least trees of a bar whose root symbol has this seat in the plan of the grammar. The bar's pin is not looked at.
     pub fn search(
         &mut self,
@@ -52,8 +82,8 @@ impl Room {
         requires root { HasSeat plan.now root (input.now.resolution, input.now.symbol) }
         ensures { OnOk result (AreBarTrees grammar.now input.now self.new.trees) }
     {
-        if let Some(quiet) = quiet_bar(input) {
-            return quiet_trees_of(grammar, plan, input, quiet, root, &mut self.trees);
+        if let Some(quiet) = quiet_of(input) {
+            return keep_quiet(grammar, plan, input, quiet, root, &mut self.trees);
         }
         self.view.set(grammar, input)?;
         clear(&mut self.rows, plan)?;
@@ -83,5 +113,28 @@ fn clear(rows: &mut Rows, plan: &Plan) -> Result<(), AllocError>
     if rows.table.len() < places {
         rows.table.resize(places, 0)?;
     }
+    Ok(())
+}
+
+/// The least trees of a bar that is quiet so as a whole, with their lists.
+#[inline(never)]
+fn keep_quiet(
+    grammar: &Grammar,
+    plan: &Plan,
+    input: &BarInput,
+    quiet: Quiet,
+    root: u32,
+    trees: &mut BarTrees,
+) -> Result<(), AllocError>
+    requires ready { IsReady grammar.now input.now }
+    requires plan { IsPlan grammar.now plan.now }
+    requires root { HasSeat plan.now root (input.now.resolution, input.now.symbol) }
+    requires quiet { IsQuiet quiet (ground_of grammar.now input.now) 0 input.now.resolution }
+    ensures { OnOk result (AreBarTrees grammar.now input.now trees.new) }
+{
+    let found = quiet_trees(grammar, plan, input, quiet, root, &mut trees.lists.rules)?;
+    let ends = found.ends;
+    trees.bests = found.bests;
+    trees.lists.ends = ends;
     Ok(())
 }

@@ -1,27 +1,22 @@
-ghost use Rattle.grammar_plan.specs.Plans.{HasSeat, IsPlan};
+ghost use Rattle.grammar_plan.specs.Plans.{HasSeat};
 ghost use Rattle.least_rows.specs.BarTrees.{AreBarTrees};
-ghost use Rattle.least_rows.specs.Roots.{AreRootBests, AreRootRows, IsBestIn, IsOnlyTree, IsRootBest, IsRootList, IsRootListAt};
+ghost use Rattle.least_rows.specs.Roots.{AreRootBests, AreRootRows, IsBestIn, IsRootBest, IsRootList, IsRootListAt};
 ghost use Rattle.least_rows.specs.Searches.{IsSearch};
 ghost use Rattle.least_rows.specs.States.{AreKnown};
 ghost use Rattle.least_rows.specs.Texts.{AreTexts};
 ghost use Rattle.least_rows.specs.WrittenLists.{AreWritten, number_of};
-ghost use Rattle.row_laws.specs.Grounds.{IsReady, ground_of};
-ghost use Rattle.row_laws.specs.QuietTrees.{IsQuiet};
-ghost use Rattle.std.specs.Prelude.{◌≡◌, ◌<◌, ◌++◌, [], ◌∷◌, ℕ, List, IfOk, OnOk, None, length, slice_index_or};
+ghost use Rattle.std.specs.Prelude.{◌≡◌, ◌<◌, ◌++◌, ℕ, List, IfOk, OnOk, None, length, slice_index_or};
 
 use crate::bar_trees::{BarBests, BarTrees};
 use crate::entry::Entry;
-use crate::quiet_lists::write_quiet;
 use crate::rows::Rows;
 use crate::search::Search;
 use crate::texts::Texts;
 use crate::tree_at::TreeAt;
 use crate::write::{entries_of, place_in, write};
 use crate::written_lists::WrittenLists;
-use grammar_plan::Plan;
-use rhythm_base::{BarInput, Best, Grammar};
-use row_laws::Quiet;
-use std::alloc::{AllocError, Global};
+use rhythm_base::Best;
+use std::alloc::AllocError;
 
 /// Finds the least trees of a bar, whose root symbol has this seat.
 pub fn trees_of(
@@ -88,84 +83,6 @@ fn write_rows(
         write_lists(rows, search, root, from, &row, texts, lists)?;
     }
     Ok(())
-}
-
-/// The same of a bar that is quiet as a whole: no tree carries a chord out of it.
-pub fn quiet_trees_of(
-    grammar: &Grammar,
-    plan: &Plan,
-    input: &BarInput,
-    quiet: Quiet,
-    root: u32,
-    trees: &mut BarTrees,
-) -> Result<(), AllocError>
-    requires ready { IsReady grammar.now input.now }
-    requires plan { IsPlan grammar.now plan.now }
-    requires root { HasSeat plan.now root (input.now.resolution, input.now.symbol) }
-    requires quiet { IsQuiet quiet (ground_of grammar.now input.now) 0 input.now.resolution }
-    ensures { OnOk result (AreBarTrees grammar.now input.now trees.new) }
-{
-    trees.bests = BarBests::none();
-    trees.lists.clear();
-    'counts: for from in 0..5u8 {
-        let best = quiet_row(grammar, plan, input, quiet, root, from, &mut trees.lists)?;
-        trees.bests.rows[from as usize] = [best, None, None, None, None];
-    }
-    Ok(())
-}
-
-/// Writes the rule list of the only tree of a row over a quiet bar, and says what the tree costs. The other lists of the row
-/// are empty.
-fn quiet_row(
-    grammar: &Grammar,
-    plan: &Plan,
-    input: &BarInput,
-    quiet: Quiet,
-    root: u32,
-    from: u8,
-    lists: &mut WrittenLists,
-) -> Result<Option<Best>, AllocError>
-    requires ready { IsReady grammar.now input.now }
-    requires plan { IsPlan grammar.now plan.now }
-    requires root { HasSeat plan.now root (input.now.resolution, input.now.symbol) }
-    requires quiet { IsQuiet quiet (ground_of grammar.now input.now) 0 input.now.resolution }
-    requires from { from < 5 }
-    requires written { AreWritten (IsRootListAt grammar.now input.now) lists.old.rules.items lists.old.ends (number_of from 0) }
-    ensures best { IfOk result (λ best. AreRootBests grammar.now input.now from (best ∷ None ∷ None ∷ None ∷ None ∷ [])) }
-    ensures written { OnOk result (AreWritten (IsRootListAt grammar.now input.now) lists.new.rules.items lists.new.ends (number_of from 5)) }
-{
-    let best = only_tree(grammar, plan, input, quiet, root, from, &mut lists.rules)?;
-    'ends: for to in 0..5u8 {
-        lists.end(from, to)?;
-    }
-    Ok(best)
-}
-
-/// Writes the rule list of that tree, where there is one.
-fn only_tree(
-    grammar: &Grammar,
-    plan: &Plan,
-    input: &BarInput,
-    quiet: Quiet,
-    root: u32,
-    from: u8,
-    rules: &mut Vec<u16>,
-) -> Result<Option<Best>, AllocError>
-    requires ready { IsReady grammar.now input.now }
-    requires plan { IsPlan grammar.now plan.now }
-    requires root { HasSeat plan.now root (input.now.resolution, input.now.symbol) }
-    requires quiet { IsQuiet quiet (ground_of grammar.now input.now) 0 input.now.resolution }
-    requires from { from < 5 }
-    ensures { IfOk result (λ best. IsOnlyTree grammar.now input.now from best rules.old.items rules.new.items) }
-{
-    let Some(tree) = plan.quiet_tree(grammar, root, quiet, from) else {
-        return Ok(None);
-    };
-    write_quiet(grammar, plan, quiet, root, from, rules)?;
-    Ok(Some(Best {
-        cost: tree.cost,
-        rank: 0,
-    }))
 }
 
 /// The costs and the ranks of the root's row for a number carried in.

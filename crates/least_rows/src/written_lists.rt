@@ -1,5 +1,5 @@
-ghost use Rattle.least_rows.specs.WrittenLists.{IsPlaced, list_of, number_of};
-ghost use Rattle.std.specs.Prelude.{◌≡◌, ◌<◌, [], IfOk, OnOk, length, slice_set};
+ghost use Rattle.least_rows.specs.WrittenLists.{number_of};
+ghost use Rattle.std.specs.Prelude.{◌≡◌, ◌<◌, [], OnOk, length, slice_set};
 
 use std::alloc::{AllocError, Global};
 
@@ -8,7 +8,7 @@ use std::alloc::{AllocError, Global};
 pub struct WrittenLists {
     pub rules: Vec<u16>,
     /// Where each list ends. The first begins at 0, and each other where the one before it ends.
-    pub ends: [u32; 25],
+    pub ends: [u16; 25],
 }
 
 impl WrittenLists {
@@ -33,7 +33,7 @@ impl WrittenLists {
     }
 
     /// Ends the list for these numbers carried in and out. Where the numbers of places have run out, the answer is that there
-    /// is no memory.
+    /// is no memory: they do not, as a list has a rule for each node of a tree of up to 960 leaves.
     #[inline(always)]
     pub fn end(&mut self, from: u8, to: u8) -> Result<(), AllocError>
         requires from { from < 5 }
@@ -41,36 +41,8 @@ impl WrittenLists {
         ensures rules { self.new.rules.items ≡ self.old.rules.items }
         ensures ends { OnOk result (self.new.ends ≡ slice_set self.old.ends (number_of from to) (length self.old.rules.items)) }
     {
-        let end = u32::try_from(self.rules.len()).ok().ok_or(AllocError)?;
+        let end = u16::try_from(self.rules.len()).ok().ok_or(AllocError)?;
         self.ends[5 * from as usize + to as usize] = end;
         Ok(())
-    }
-
-    /// The list for these numbers carried in and out.
-    pub fn list(&self, from: u8, to: u8) -> &[u16]
-        requires from { from < 5 }
-        requires to { to < 5 }
-        requires placed { IsPlaced self.now.rules.items self.now.ends (number_of from to) }
-        ensures { result.now ≡ list_of self.now.rules.items self.now.ends (number_of from to) }
-    {
-        let number = 5 * from as usize + to as usize;
-        let end = self.ends[number] as usize;
-        let first = if number == 0 {
-            0
-        } else {
-            self.ends[number - 1] as usize
-        };
-        &self.rules[first..end]
-    }
-
-    /// Equal lists, in a room that is no longer than they are.
-    pub fn copy(&self, alloc: Global) -> Result<WrittenLists, AllocError>
-        ensures rules { IfOk result (λ x. x.rules.items ≡ self.now.rules.items) }
-        ensures ends { IfOk result (λ x. x.ends ≡ self.now.ends) }
-    {
-        Ok(WrittenLists {
-            rules: self.rules.as_slice().to_vec(alloc)?,
-            ends: self.ends,
-        })
     }
 }

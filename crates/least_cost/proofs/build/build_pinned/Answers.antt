@@ -1,33 +1,12 @@
-use Rattle.std.proofs.Common.{◌∙◌, ap, subst, sym}
-use Rattle.rhythm_base.specs.BarTables.{BarTable, IsTable}
-use Rattle.rhythm_base.specs.Paths.{AreLow, IsRanked}
-use Rattle.least_cost.specs.Tables.{lists_of}
-use Rattle.least_cost.proofs.Roots.{root-low, root-ranked, root-table}
-use Rattle.least_cost.proofs.TableLists.{lists-are}
+use Rattle.std.proofs.Common.{subst, sym}
+use Rattle.least_cost.specs.Tables.{AreCellTrees}
 use Rattle.least_cost.proofs.build.build_pinned.Goals as goal
 
-pub make-matrix-requires-clause-ranks : goal.make-matrix-requires-clause-ranks
-make-matrix-requires-clause-ranks c =
-    let h = c.in_ok-trees.ensures in
-    subst IsRanked (sym h.bests) (root-ranked c.args.grammar.now c.args.input.now c.requires.ready h.keys h.least)
-
-pub make-matrix-requires-clause-costs : goal.make-matrix-requires-clause-costs
-make-matrix-requires-clause-costs c =
-    let h = c.in_ok-trees.ensures in
-    subst AreLow (sym h.bests) (root-low c.args.grammar.now c.args.input.now c.requires.ready h.keys h.least)
-
-pub of-requires : goal.of-requires
-of-requires c = let h = c.in_ok-trees.ensures in h.lists.placed
-
-pub returns-clause-table : goal.returns-clause-table
-returns-clause-table c =
+pub table_of-requires-clause-trees : goal.table_of-requires-clause-trees
+table_of-requires-clause-trees c =
     let g = c.args.grammar.now in
     let k = c.args.input.now in
+    let trees = c.in_ok-trees.trees in
     let h = c.in_ok-trees.ensures in
-    let rules = c.in_ok-trees.trees.lists.rules.items in
-    let ends = c.in_ok-trees.trees.lists.ends in
-    let matrix = c.make-matrix.result in
-    let is = c.make-matrix.ensures ∙ h.bests in
-    let made : BarTable = record { matrix = matrix; lists = lists_of matrix rules ends; input = c.in_ok-kept.kept } in
-    let table : IsTable g (record { matrix = matrix; lists = lists_of matrix rules ends; input = k }) = root-table g k c.requires.ready h.keys h.least made is (lists-are matrix h.keys rules ends is h.lists) in
-    subst (IsTable g) (ap (λ i. record { matrix = matrix; lists = lists_of matrix rules ends; input = i }) (sym c.in_ok-kept.ensures) ∙ sym c.of.ensures) table
+    let own : AreCellTrees g k trees.bests.rows trees.lists.rules.items trees.lists.ends = record { keys = h.keys; least = h.least; matrix = h.bests; lists = h.lists } in
+    subst (λ rules. AreCellTrees g k trees.bests.rows rules trees.lists.ends) (sym c.as_slice.ensures.value) own
