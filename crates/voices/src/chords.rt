@@ -1,4 +1,4 @@
-ghost use Rattle.std.specs.Prelude.{◌≡◌, ◌<◌, ◌^◌, [], ◌∷◌, IfOk, bit_or, max};
+ghost use Rattle.std.specs.Prelude.{◌≡◌, ◌<◌, ◌^◌, [], ◌∷◌, IfOk, bit_or, length, max, vec_capacity};
 ghost use Rattle.rhythm_base.specs.Chords as chords;
 ghost use Rattle.voices.specs.Voice.{AreNotesOfVoice};
 
@@ -34,34 +34,35 @@ fn joined(chord: Chord, note: &Note) -> Chord
     }
 }
 
-/// The chords of a voice of one note and others after it.
+/// The chords of a voice of one note and others after it, put into a list that has room for a chord of each.
 fn gathered(
-    alloc: Global,
+    mut list: Vec<Chord>,
     first: &Note,
     others: &[Note],
     map: &TempoMap,
     division: u16,
     window: u32,
-) -> Result<Vec<Chord>, AllocError>
-    requires { AreNotesOfVoice (first.now ∷ others.now) }
-    ensures { IfOk result (λ v. chords.AreChords map.now.tempos division window (first.now ∷ others.now) v.items) }
+) -> Vec<Chord>
+    requires none { list.items ≡ [] }
+    requires room { length others.now < vec_capacity list }
+    requires notes { AreNotesOfVoice (first.now ∷ others.now) }
+    ensures { chords.AreChords map.now.tempos division window (first.now ∷ others.now) result.items }
 {
     let window = u64::from(window) * u64::from(division);
-    let mut chords = Vec::new(alloc);
     let mut chord = chord_of(first);
     let mut begin = map.time(first.onset);
     'notes: for note in others {
         let time = map.time(note.onset);
         if time - begin > window {
-            chords.push(chord)?;
+            list.push_reserved(chord);
             chord = chord_of(note);
             begin = time;
         } else {
             chord = joined(chord, note);
         }
     }
-    chords.push(chord)?;
-    Ok(chords)
+    list.push_reserved(chord);
+    list
 }
 
 /// The chords of a voice. A note joins the chord before it where its time is at most `window` microseconds after that of
@@ -76,8 +77,9 @@ pub fn chords_of(
     requires { AreNotesOfVoice notes.now }
     ensures { IfOk result (λ v. chords.AreChords map.now.tempos division window notes.now v.items) }
 {
+    let chords = Vec::with_capacity(alloc, notes.len())?;
     match notes {
-        [] => Ok(Vec::new(alloc)),
-        [first, others @ ..] => gathered(alloc, first, others, map, division, window),
+        [] => Ok(chords),
+        [first, others @ ..] => Ok(gathered(chords, first, others, map, division, window)),
     }
 }
