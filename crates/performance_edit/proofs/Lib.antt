@@ -1,4 +1,5 @@
 pub mod Formed
+pub mod OnlyPlaces
 pub mod OtherBarlines
 pub mod Places
 pub mod Searches

@@ -3,9 +3,10 @@ ghost use Rattle.rhythm_base.specs.declared.limits.TheConstants.{LATEST_TICK};
 ghost use Rattle.rhythm_base.specs.Lists.{AreInOrder, list_with};
 ghost use Rattle.rhythm_base.specs.Performance.{place_of_note};
 ghost use Rattle.std.specs.Prelude.{◌≡◌, ◌≤◌, All, IfOk, min, option_map};
+ghost use Rattle.performance_edit.specs.OnlyPlaces.{IsOnlyPlace};
 ghost use Rattle.std.specs.List.{reduce};
 
-use crate::order::put;
+use crate::order::count_before;
 use rhythm_base::{Edit, Note, Performance};
 use std::alloc::{AllocError, Global};
 
@@ -16,25 +17,49 @@ pub fn is_note(note: &Note, channel: u8, key: u8, onset: u64) -> bool
     note.channel == channel && note.key == key && note.onset == onset
 }
 
+/// The place of the note of that channel, key and onset.
+fn place_of(notes: &[Note], channel: u8, key: u8, onset: u64) -> Option<usize>
+    requires { AreInOrder place_of_note notes.now }
+    ensures { IsOnlyPlace (edits.is_note channel key onset) notes.now result }
+{
+    let sought = Note {
+        channel,
+        key,
+        onset,
+        end: onset,
+    };
+    let place = count_before(notes, &sought);
+    match notes.get(place) {
+        Some(note) if is_note(note, channel, key, onset) => Some(place),
+        _ => None,
+    }
+}
+
 /// A note has that channel, key and onset.
 pub fn has_note(notes: &[Note], channel: u8, key: u8, onset: u64) -> bool
+    requires { AreInOrder place_of_note notes.now }
     ensures { result ≡ edits.has_note notes.now channel key onset }
 {
-    notes.iter().any(|note| is_note(note, channel, key, onset))
+    place_of(notes, channel, key, onset).is_some()
 }
 
 /// A note besides that of this channel, key and onset has the onset `to`.
 pub fn has_other(notes: &[Note], channel: u8, key: u8, onset: u64, to: u64) -> bool
+    requires { AreInOrder place_of_note notes.now }
     ensures { result ≡ edits.has_note (edits.without_note channel key onset notes.now) channel key to }
 {
-    notes.iter().any(|note| is_note(note, channel, key, to) && !is_note(note, channel, key, onset))
+    to != onset && has_note(notes, channel, key, to)
 }
 
 /// The note of that channel, key and onset.
 pub fn note_at(notes: &[Note], channel: u8, key: u8, onset: u64) -> Option<&Note>
+    requires { AreInOrder place_of_note notes.now }
     ensures { option_map (λ n. n.now) result ≡ edits.note_at notes.now channel key onset }
 {
-    notes.iter().find(|note| is_note(note, channel, key, onset))
+    match place_of(notes, channel, key, onset) {
+        None => None,
+        Some(place) => Some(&notes[place]),
+    }
 }
 
 /// The note at another onset, of its old length.
@@ -73,8 +98,11 @@ fn with_note(alloc: Global, notes: &[Note], note: Note) -> Result<Vec<Note>, All
     requires { AreInOrder place_of_note notes.now }
     ensures { IfOk result (λ v. v.items ≡ list_with place_of_note note notes.now) }
 {
-    let mut longer = notes.to_vec(alloc)?;
-    put(&mut longer, note)?;
+    let (front, back) = notes.split_at(count_before(notes, &note));
+    let mut longer = Vec::with_capacity(alloc, notes.len().saturating_add(1))?;
+    longer.extend_from_slice(front)?;
+    longer.push(note)?;
+    longer.extend_from_slice(back)?;
     Ok(longer)
 }
 
@@ -86,11 +114,23 @@ fn without_note(
     key: u8,
     onset: u64,
 ) -> Result<Vec<Note>, AllocError>
+    requires { AreInOrder place_of_note notes.now }
     ensures { IfOk result (λ v. v.items ≡ edits.without_note channel key onset notes.now) }
 {
-    let mut others = notes.to_vec(alloc)?;
-    others.retain(|note| !is_note(note, channel, key, onset));
-    Ok(others)
+    match place_of(notes, channel, key, onset) {
+        None => {
+            let others = notes.to_vec(alloc)?;
+            Ok(others)
+        }
+        Some(place) => {
+            let (front, _from) = notes.split_at(place);
+            let (_up_to, back) = notes.split_at(place + 1);
+            let mut others = Vec::with_capacity(alloc, notes.len())?;
+            others.extend_from_slice(front)?;
+            others.extend_from_slice(back)?;
+            Ok(others)
+        }
+    }
 }
 
 /// The notes with another onset of one of them.
@@ -109,13 +149,10 @@ fn with_moved(
         edits.put_moved to (edits.note_at notes.now channel key onset)
         (edits.without_note channel key onset notes.now)) }
 {
-    let mut others = without_note(alloc, notes, channel, key, onset)?;
+    let others = without_note(alloc, notes, channel, key, onset)?;
     match note_at(notes, channel, key, onset) {
         None => Ok(others),
-        Some(note) => {
-            put(&mut others, moved_to(note, to))?;
-            Ok(others)
-        }
+        Some(note) => with_note(alloc, others.as_slice(), moved_to(note, to)),
     }
 }
 

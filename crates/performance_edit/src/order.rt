@@ -2,7 +2,8 @@ ghost use Rattle.rhythm_base.specs.Lists.{AreInOrder, list_with};
 ghost use Rattle.rhythm_base.specs.Performance.{place_of_note, place_of_pin};
 ghost use Rattle.std.specs.Cmp.Lexicographic.{slice_cmp};
 ghost use Rattle.std.specs.Ordering.{is_lt, nat_cmp};
-ghost use Rattle.std.specs.Prelude.{◌≡◌, ℕ, List, OnOk};
+ghost use Rattle.std.specs.List.{AllWithin};
+ghost use Rattle.std.specs.Prelude.{◌≡◌, ◌≤◌, ℕ, List, OnOk, false, length, true};
 
 use rhythm_base::{Note, Pin};
 use std::alloc::AllocError;
@@ -32,12 +33,22 @@ impl Placed for Pin {
     }
 }
 
+/// How many of a list stand before an item.
+pub fn count_before<T: Placed>(list: &[T], item: &T) -> usize
+    requires { AreInOrder T.place list.now }
+    ensures within { result ≤ length list.now }
+    ensures front { AllWithin (λ other. is_lt (slice_cmp nat_cmp (T.place other) (T.place item.now)) ≡ true) list.now 0 result }
+    ensures back { AllWithin (λ other. is_lt (slice_cmp nat_cmp (T.place other) (T.place item.now)) ≡ false) list.now result (length list.now) }
+{
+    list.partition_point(|other| other.is_before(item))
+}
+
 /// Puts one more into a list, at its place.
 pub fn put<T: Placed + Drop>(list: &mut Vec<T>, item: T) -> Result<(), AllocError>
     requires { AreInOrder T.place list.old.items }
     ensures { OnOk result (list.new.items ≡ list_with T.place item list.old.items) }
 {
-    let place = list.partition_point(|other| other.is_before(&item));
+    let place = count_before(list.as_slice(), &item);
     list.insert(place, item)?;
     Ok(())
 }
