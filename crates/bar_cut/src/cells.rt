@@ -4,13 +4,59 @@ ghost use Rattle.rhythm_base.specs.Readable.{IsInRange};
 ghost use Rattle.rhythm_base.specs.Voices.{HasStarts};
 ghost use Rattle.std.specs.Prelude.{◌≡◌, Err, IfOk, ℕ};
 
-use crate::cell::cell_of;
 use crate::fault::CutFault;
 use crate::inner::{count_before, last_end};
 use crate::lookup::{barline_after, pin_of, root_of};
+use crate::section::Section;
 use crate::starts::check_starts;
 use rhythm_base::{Bar, BarInput, Chord, Grammar, Pin};
-use std::alloc::Global;
+use std::alloc::{AllocError, Global};
+
+/// The sections of a voice, bar after bar. The bars are side by side from tick 0 to the last barline, at `last`;
+/// the chords are those of the voice `channel`, whose pins alone are looked at.
+pub fn sections<'a>(
+    alloc: Global,
+    voice: &'a [Chord],
+    bars: &[Bar],
+    last: u64,
+    grammar: &Grammar,
+    pins: &'a [Pin],
+    channel: u8,
+) -> Result<Vec<Section<'a>>, CutFault>
+    requires voice { AreBarsAndChords bars.now last voice.now }
+    requires grammar { IsInRange grammar.now }
+    ensures inputs { IfOk result (λ v. v.items ≡ inputs grammar.now pins.entry.now channel last bars.now voice.entry.now) }
+    ensures starts { IfOk result (λ _. HasStarts grammar.now bars.now) }
+    ensures no_start { (bar num den : ℕ) → result ≡ Err (NoStart bar num den) → IsFirstWithoutStart grammar.now bars.now bar num den }
+    ensures memory { result ≡ Err Memory → HasStarts grammar.now bars.now }
+{
+    check_starts(grammar, bars)?;
+    let mut sections = Vec::with_capacity(alloc, bars.len())?;
+    let mut later = voice;
+    let mut before = 0;
+    'bars: for number in 0..bars.len() {
+        let bar = bars[number];
+        let end = barline_after(bars, last, number);
+        let symbol = root_of(grammar, bar.num, bar.den).unwrap();
+        let (own, rest) = later.split_at(count_before(later, end));
+        let pin = pin_of(pins, channel, number);
+        sections.push(Section::of(grammar, symbol, bar, end, own, before, pin))?;
+        before = last_end(own, before);
+        later = rest;
+    }
+    Ok(sections)
+}
+
+/// The input of each section.
+fn inputs_of(alloc: Global, sections: &[Section]) -> Result<Vec<BarInput>, AllocError>
+    ensures { IfOk result (λ v. v.items ≡ sections.now) }
+{
+    let mut inputs = Vec::with_capacity(alloc, sections.len())?;
+    'sections: for section in sections {
+        inputs.push(section.input(alloc)?)?;
+    }
+    Ok(inputs)
+}
 
 /// The input of each cell of a voice, bar after bar. The bars are side by side from tick 0 to the last barline, at `last`;
 /// the chords are those of the voice `channel`, whose pins alone are looked at.
@@ -30,19 +76,6 @@ pub fn cut(
     ensures no_start { (bar num den : ℕ) → result ≡ Err (NoStart bar num den) → IsFirstWithoutStart grammar.now bars.now bar num den }
     ensures memory { result ≡ Err Memory → HasStarts grammar.now bars.now }
 {
-    check_starts(grammar, bars)?;
-    let mut inputs = Vec::with_capacity(alloc, bars.len())?;
-    let mut later = voice;
-    let mut before = 0;
-    'bars: for number in 0..bars.len() {
-        let bar = bars[number];
-        let end = barline_after(bars, last, number);
-        let symbol = root_of(grammar, bar.num, bar.den).unwrap();
-        let (own, rest) = later.split_at(count_before(later, end));
-        let pin = pin_of(pins, channel, number);
-        inputs.push(cell_of(alloc, grammar, symbol, bar, end, own, before, pin)?)?;
-        before = last_end(own, before);
-        later = rest;
-    }
-    Ok(inputs)
+    let sections = sections(alloc, voice, bars, last, grammar, pins, channel)?;
+    Ok(inputs_of(alloc, sections.as_slice())?)
 }

@@ -1,5 +1,6 @@
+ghost use Rattle.bar_cut.specs.Cuts.{moved_all};
 ghost use Rattle.rhythm_base.specs.Lists.{last_end};
-ghost use Rattle.std.specs.Prelude.{◌≡◌, ◌≤◌, unwrap_or, length, map, min, ◌-◌, nat_le};
+ghost use Rattle.std.specs.Prelude.{◌≡◌, ◌↔◌, IfOk, IsTrue, unwrap_or, length, map, min, ◌-◌, nat_le};
 ghost use Rattle.std.specs.List.{position};
 
 use rhythm_base::{Chord, Inner};
@@ -10,6 +11,47 @@ pub fn cut_end(start: u64, length: u64, end: u64) -> u64
     ensures { result ≡ min (end - start) length }
 {
     end.saturating_sub(start).min(length)
+}
+
+/// A chord of a bar as the bar sees it.
+fn inner_chord(chord: &Chord, start: u64, length: u64) -> Inner
+    ensures { result ≡ record { onset = chord.now.onset - start; end = min (chord.now.end - start) length } }
+{
+    Inner {
+        onset: chord.onset.saturating_sub(start),
+        end: cut_end(start, length, chord.end),
+    }
+}
+
+/// The chords of a bar as the bar sees them.
+pub fn inner_of(
+    alloc: Global,
+    own: &[Chord],
+    start: u64,
+    length: u64,
+) -> Result<Vec<Inner>, AllocError>
+    ensures { IfOk result (λ v. v.items ≡ moved_all start length own.now) }
+{
+    let mut inner = Vec::with_capacity(alloc, own.len())?;
+    for chord in own {
+        inner.push(inner_chord(chord, start, length))?;
+    }
+    Ok(inner)
+}
+
+/// The chords of a bar are these as the bar sees them.
+pub fn same_inner(start: u64, length: u64, own: &[Chord], inner: &[Inner]) -> bool
+    ensures { IsTrue result ↔ (inner.now ≡ moved_all start length own.now) }
+{
+    if own.len() != inner.len() {
+        return false;
+    }
+    'chords: for number in 0..own.len() {
+        if inner_chord(&own[number], start, length) != inner[number] {
+            return false;
+        }
+    }
+    true
 }
 
 /// How many chords begin before a tick, before the first that does not.

@@ -1,15 +1,16 @@
 //! Cuts a voice at the barlines: for each bar the input of its cell, which is all that the least trees of that bar depend
-//! on. One pass over the chords.
+//! on. One pass over the chords. Where most inputs are known already, the sections tell which are not, and take no memory for each bar.
 #![tactic(auto)]
 
-mod cell;
 mod cells;
 mod fault;
 mod inner;
 mod laws;
 mod lookup;
+mod section;
 mod starts;
 
-pub use cells::cut;
+pub use cells::{cut, sections};
 pub use fault::CutFault;
 pub use laws::performances_can_be_cut;
+pub use section::Section;

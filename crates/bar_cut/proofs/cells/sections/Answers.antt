@@ -8,7 +8,7 @@ use Rattle.rhythm_laws.proofs.EditedBars.{barline_is}
 use Rattle.bar_cut.specs.Cuts.{AreInside, Rises, inputs}
 use Rattle.bar_cut.proofs.Passes.{all_from_start, end_before, is_from}
 use Rattle.bar_cut.proofs.Turns as turn
-use Rattle.bar_cut.proofs.cells.cut.Goals as goal
+use Rattle.bar_cut.proofs.cells.sections.Goals as goal
 
 abbrev no_bar : Bar
 no_bar = record { start = 0; num = 0; den = 0 }
@@ -18,34 +18,34 @@ bars-init c =
     let zero : barline c.args.bars.now c.args.last 0 ≡ 0 = barline_is c.args.bars.now c.args.last 0 (omega (arith, c.requires.voice.some_bar)) ∙ c.requires.voice.first_bar in
     let all = all_from_start 0 c.args.voice.now c.requires.voice.chords_rise in
     record {
-      made = ap (λ l. l ++ inputs c.args.grammar.now c.args.pins.now c.args.channel c.args.last c.args.bars.now c.args.voice.now) c.in_ok-inputs.ensures.items;
+      made = ap (λ l. l ++ inputs c.args.grammar.now c.args.pins.now c.args.channel c.args.last c.args.bars.now c.args.voice.now) c.in_ok-sections.ensures.items;
       later = sym all.1 ∙ ap (λ t. filter (is_from t) c.args.voice.now) (sym zero);
       before = ap (λ cs. last_end 0 (map (λ c. c.end) cs)) (sym all.0) ∙ ap (λ t. end_before t c.args.voice.now) (sym zero);
     }
 
-pub cell_of-requires-clause-some_tick : goal.cell_of-requires-clause-some_tick
-cell_of-requires-clause-some_tick c =
+pub of-requires-clause-some_tick : goal.of-requires-clause-some_tick
+of-requires-clause-some_tick c =
     let lt : c.bars.number < length c.args.bars.now = search rules in
     let rise = turn.rise c.args.grammar.now c.args.pins.now c.args.channel c.args.last c.bars.number c.args.bars.now c.args.voice.now no_bar c.requires.voice lt in
     let start = turn.start_is c.args.grammar.now c.args.pins.now c.args.channel c.args.last c.bars.number c.args.bars.now c.args.voice.now no_bar c.requires.voice lt in
     omega (arith, rise.0, start, c.barline_after-end.ensures)
 
-pub cell_of-requires-clause-few_ticks : goal.cell_of-requires-clause-few_ticks
-cell_of-requires-clause-few_ticks c =
+pub of-requires-clause-few_ticks : goal.of-requires-clause-few_ticks
+of-requires-clause-few_ticks c =
     let lt : c.bars.number < length c.args.bars.now = search rules in
     let rise = turn.rise c.args.grammar.now c.args.pins.now c.args.channel c.args.last c.bars.number c.args.bars.now c.args.voice.now no_bar c.requires.voice lt in
     omega (arith, rise.1, c.requires.voice.last_barline, c.barline_after-end.ensures)
 
-pub cell_of-requires-clause-rise : goal.cell_of-requires-clause-rise
-cell_of-requires-clause-rise c =
+pub of-requires-clause-rise : goal.of-requires-clause-rise
+of-requires-clause-rise c =
     let lt : c.bars.number < length c.args.bars.now = search rules in
     let front = turn.front_is c.args.grammar.now c.args.pins.now c.args.channel c.args.last c.bars.number c.args.bars.now c.args.voice.now no_bar c.requires.voice lt
     c.split_at.result.0.now c.bars.later.now c.count_before.result c.barline_after-end.result c.split_at.ensures.front c.count_before.ensures c.barline_after-end.ensures c.bars.invariant.later in
     subst (λ cs. Rises (get_or c.args.bars.now c.bars.number no_bar).start cs) (sym front)
     (turn.own_rises c.args.grammar.now c.args.pins.now c.args.channel c.args.last c.bars.number c.args.bars.now c.args.voice.now no_bar c.requires.voice lt)
 
-pub cell_of-requires-clause-inside : goal.cell_of-requires-clause-inside
-cell_of-requires-clause-inside c =
+pub of-requires-clause-inside : goal.of-requires-clause-inside
+of-requires-clause-inside c =
     let lt : c.bars.number < length c.args.bars.now = search rules in
     let front = turn.front_is c.args.grammar.now c.args.pins.now c.args.channel c.args.last c.bars.number c.args.bars.now c.args.voice.now no_bar c.requires.voice lt
     c.split_at.result.0.now c.bars.later.now c.count_before.result c.barline_after-end.result c.split_at.ensures.front c.count_before.ensures c.barline_after-end.ensures c.bars.invariant.later in
@@ -62,12 +62,12 @@ bars-preserved c =
     c.split_at.result.1.now c.bars.later.now c.count_before.result c.barline_after-end.result c.split_at.ensures.back c.count_before.ensures c.barline_after-end.ensures c.bars.invariant.later in
     let b : Bar = get_or c.args.bars.now c.bars.number no_bar in
     let root : Some c.unwrap-symbol.result ≡ root_of c.args.grammar.now.starts b.num b.den = sym c.unwrap-symbol.ensures ∙ c.root_of.ensures in
-    let is = c.in_ok-cell_of.ensures
+    let is = c.of.ensures
     ∙ turn.cell_is c.args.grammar.now c.args.pins.now c.args.channel c.args.last c.bars.number c.args.bars.now c.args.voice.now no_bar c.requires.voice lt c.unwrap-symbol.result c.bars.before c.barline_after-end.result c.split_at.result.0.now _ c.barline_after-end.ensures front c.pin_of-pin.ensures
     ∙ turn.input_is c.args.grammar.now c.args.pins.now c.args.channel c.args.last c.bars.number c.args.bars.now c.args.voice.now no_bar c.requires.voice lt c.unwrap-symbol.result c.bars.before root c.bars.invariant.before in
-    let pushed : c.push.new.self.items ≡ c.bars.inputs.items ++ c.in_ok-cell_of.field-0 ∷ [] = search rules in
+    let pushed : c.push.new.self.items ≡ c.bars.sections.items ++ c.of.result ∷ [] = search rules in
     record {
-      made = rw pushed (turn.made_next c.args.grammar.now c.args.pins.now c.args.channel c.args.last c.bars.number c.args.bars.now c.args.voice.now no_bar c.requires.voice lt c.bars.inputs.items c.in_ok-cell_of.field-0 _ is c.bars.invariant.made);
+      made = rw pushed (turn.made_next c.args.grammar.now c.args.pins.now c.args.channel c.args.last c.bars.number c.args.bars.now c.args.voice.now no_bar c.requires.voice lt c.bars.sections.items c.of.result _ is c.bars.invariant.made);
       later = back ∙ turn.rest_is c.args.grammar.now c.args.pins.now c.args.channel c.args.last c.bars.number c.args.bars.now c.args.voice.now no_bar c.requires.voice lt;
       before = c.last_end-before.ensures ∙ ap (λ l. last_end c.bars.before (map (λ c. c.end) l)) front ∙ turn.before_is c.args.grammar.now c.args.pins.now c.args.channel c.args.last c.bars.number c.args.bars.now c.args.voice.now no_bar c.requires.voice lt c.bars.before c.bars.invariant.before;
     }

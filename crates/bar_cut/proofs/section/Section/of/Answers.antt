@@ -1,16 +1,14 @@
-use Rattle.std.proofs.Common.{rules, arith, subst, sym, ◌≡◌, ◌-◌, ◌+◌, All}
-use Rattle.rhythm_base.specs.BarInput.{IsInner}
+use Rattle.std.proofs.Common.{rules, arith, subst, ◌≡◌, ◌-◌, ◌+◌}
 use Rattle.rhythm_base.specs.Line.{Rising}
 use Rattle.bar_cut.specs.Cuts.{AreInside, moved_all}
 use Rattle.bar_cut.proofs.Passes.{inner-moved, rises-moved}
-use Rattle.bar_cut.proofs.cell.cell_of.Goals as goal
+use Rattle.bar_cut.proofs.section.Section.of.Goals as goal
 
-pub make-requires : goal.make-requires
-make-requires c =
+pub invariant_of-result : goal.invariant_of-result
+invariant_of-result c =
     let start = c.args.bar.start in
     let length = c.args.end - start in
     let whole : c.args.end ≡ start + length = omega (arith, c.requires.some_tick) in
-    let items : c.in_ok-inner.inner.items ≡ moved_all start length c.args.own.now = c.in_ok-inner.ensures in
     let units : c.grammar.inside.resolution ≡ c.args.grammar.now.resolution = search rules in
     let zero : start - start ≡ 0 = omega arith in
     record {
@@ -19,7 +17,7 @@ make-requires c =
       signature = c.requires.signature;
       some_tick = omega (arith, c.requires.some_tick);
       few_ticks = omega (arith, c.requires.few_ticks);
-      rising = subst (Rising 0) (sym items) (subst (λ n. Rising n (moved_all start length c.args.own.now)) zero (rises-moved start length start c.args.own.now (omega arith) c.requires.rise));
-      chords = subst (All (IsInner length)) (sym items) (inner-moved start length c.args.own.now (subst (λ e. AreInside start e c.args.own.now) whole c.requires.inside));
+      rising = subst (λ n. Rising n (moved_all start length c.args.own.now)) zero (rises-moved start length start c.args.own.now (omega arith) c.requires.rise);
+      chords = inner-moved start length c.args.own.now (subst (λ e. AreInside start e c.args.own.now) whole c.requires.inside);
       before = omega (arith, c.cut_end.ensures);
     }
