@@ -1,7 +1,8 @@
 ghost use Rattle.edit_session.specs.Inputs.{AreInputsOf, AreInputsOfVoice};
 ghost use Rattle.edit_session.specs.Opening.{IsInputFault};
 ghost use Rattle.bar_cut.specs.Cuts.{IsFirstWithoutStart};
-ghost use Rattle.rhythm_base.specs.Performance.{IsWellFormed};
+ghost use Rattle.rhythm_base.specs.Lists.{AreInOrder};
+ghost use Rattle.rhythm_base.specs.Performance.{IsWellFormed, place_of_note};
 ghost use Rattle.rhythm_base.specs.Readable.{IsReadable};
 ghost use Rattle.rhythm_base.specs.Voices.{AreChordsOf, HasStarts};
 ghost use Rattle.std.specs.Prelude.{◌≡◌, ◌==◌, Err, IfErr, IfOk, filter, ℕ};
@@ -14,14 +15,14 @@ use tempo_map::TempoMap;
 use voices::chords_of;
 
 /// The notes of the voice of a channel.
-fn voice_notes(alloc: Global, notes: &[Note], channel: u8) -> Result<Vec<Note>, AllocError>
-    ensures { IfOk result (λ v. v.items ≡ filter (λ n. n.channel == channel) notes.now) }
+fn voice_notes(notes: &[Note], channel: u8) -> &[Note]
+    requires { AreInOrder place_of_note notes.now }
+    ensures { result.now ≡ filter (λ n. n.channel == channel) notes.now }
 {
-    notes
-        .iter()
-        .filter(|note| note.channel == channel)
-        .copied()
-        .collect(alloc)
+    let first = notes.partition_point(|note| note.channel < channel);
+    let (_before, later) = notes.split_at(first);
+    let count = later.partition_point(|note| note.channel <= channel);
+    &later[..count]
 }
 
 /// The tempos and keys of the performance.
@@ -43,9 +44,9 @@ pub fn voice_chords(
     requires { tempo_map.now.tempos ≡ performance.now.tempos }
     ensures { IfOk result (λ v. AreChordsOf grammar.now performance.now channel v.items) }
 {
-    let notes = voice_notes(alloc, performance.notes(), channel)?;
+    let notes = voice_notes(performance.notes(), channel);
     let division = performance.division();
-    chords_of(alloc, notes.as_slice(), tempo_map, division, grammar.window)
+    chords_of(alloc, notes, tempo_map, division, grammar.window)
 }
 
 /// The inputs of the cells of the voice of a channel, bar after bar.

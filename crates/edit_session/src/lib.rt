@@ -16,7 +16,6 @@ mod opening;
 mod prepared;
 mod preparing;
 mod reached;
-mod same_input;
 mod score;
 mod session;
 mod voice_tables;

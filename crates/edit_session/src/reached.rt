@@ -6,16 +6,15 @@ ghost use Rattle.rhythm_base.specs.BarInput.{BarInput};
 ghost use Rattle.rhythm_base.specs.Lists.{Each};
 ghost use Rattle.rhythm_base.specs.Performance.{IsWellFormed};
 ghost use Rattle.rhythm_base.specs.Readable.{IsReadable};
-ghost use Rattle.rhythm_base.specs.Voices.{HasStarts};
 ghost use Rattle.rhythm_base.specs.declared.limits.TheConstants.{MOST_BARS};
-ghost use Rattle.std.specs.Prelude.{◌≡◌, ◌↔◌, ◌<◌, ◌≤◌, IfOk, IsTrue, List, length, map, option_map};
+ghost use Rattle.std.specs.Prelude.{◌≡◌, ◌↔◌, ◌<◌, ◌≤◌, IfOk, IsTrue, List, length, map};
 
 use crate::changed_voice::may_change;
-use crate::inputs::{tempo_map_of, voice_inputs};
-use crate::same_input::same_input;
+use crate::inputs::{tempo_map_of, voice_chords};
 use crate::voice_tables::VoiceTables;
+use bar_cut::{Section, sections};
 use least_cost::BarTable;
-use rhythm_base::{BarInput, Grammar, Performance, Shape};
+use rhythm_base::{BarInput, Grammar, Performance};
 use std::alloc::{AllocError, Global};
 use tempo_map::TempoMap;
 
@@ -33,43 +32,14 @@ pub struct ReachedCells {
     pub inputs: Vec<BarInput>,
 }
 
-/// An equal pin.
-fn copied_pin(alloc: Global, pin: Option<&Shape>) -> Result<Option<Shape>, AllocError>
-    ensures { IfOk result (λ o. o ≡ option_map (λ s. s.now) pin.entry) }
-{
-    match pin {
-        None => Ok(None),
-        Some(shape) => Ok(Some(shape.copy(alloc)?)),
-    }
-}
-
-/// An equal input.
-fn copied_input(alloc: Global, input: &BarInput) -> Result<BarInput, AllocError>
-    ensures { IfOk result (λ k. k ≡ input.now) }
-{
-    let start = input.start();
-    let chords = input.onsets().to_vec(alloc)?;
-    let pin = copied_pin(alloc, input.pin())?;
-    Ok(BarInput::make(
-        start,
-        input.resolution(),
-        input.num(),
-        input.den(),
-        input.length(),
-        chords,
-        input.before(),
-        pin,
-    ))
-}
-
 /// There is no table for the bar, or it has another input.
-fn has_other_input(tables: &[BarTable], inputs: &[BarInput], bar: usize) -> bool
-    requires { bar < length inputs.now }
-    ensures { IsTrue result ↔ HasOtherInput tables.now inputs.now bar }
+fn has_other_input(tables: &[BarTable], sections: &[Section], bar: usize) -> bool
+    requires { bar < length sections.now }
+    ensures { IsTrue result ↔ HasOtherInput tables.now sections.now bar }
 {
     match tables.get(bar) {
         None => true,
-        Some(table) => !same_input(table.input(), &inputs[bar]),
+        Some(table) => !sections[bar].has_input(table.input()),
     }
 }
 
@@ -77,17 +47,17 @@ fn has_other_input(tables: &[BarTable], inputs: &[BarInput], bar: usize) -> bool
 fn other_inputs(
     alloc: Global,
     channel: u8,
-    inputs: &[BarInput],
+    sections: &[Section],
     tables: &[BarTable],
 ) -> Result<ReachedCells, AllocError>
-    requires { length inputs.now ≤ MOST_BARS }
-    ensures { IfOk result (λ r. AreOtherInputs channel inputs.now tables.now (length inputs.now) (map place_pair r.cells.items) r.inputs.items) }
+    requires { length sections.now ≤ MOST_BARS }
+    ensures { IfOk result (λ r. AreOtherInputs channel sections.now tables.now (length sections.now) (map place_pair r.cells.items) r.inputs.items) }
 {
     let mut cells = Vec::new(alloc);
     let mut others = Vec::new(alloc);
-    'bars: for number in 0..inputs.len() {
-        if has_other_input(tables, inputs, number) {
-            others.push(copied_input(alloc, &inputs[number])?)?;
+    'bars: for number in 0..sections.len() {
+        if has_other_input(tables, sections, number) {
+            others.push(sections[number].input(alloc)?)?;
             cells.push(CellPlace {
                 channel,
                 bar: number as u32,
@@ -115,9 +85,23 @@ fn voice_reached(
     ensures { IfOk result (λ r. (inputs : List BarInput) × AreInputsOfVoice grammar.now performance.now channel inputs
         × AreOtherInputs channel inputs tables.now (length inputs) (map place_pair r.cells.items) r.inputs.items) }
 {
-    match voice_inputs(alloc, grammar, performance, tempo_map, channel) {
+    let chords = voice_chords(alloc, grammar, performance, tempo_map, channel)?;
+    let bars = performance.bars();
+    let pins = performance.pins();
+    match sections(
+        alloc,
+        chords.as_slice(),
+        bars,
+        performance.last(),
+        grammar,
+        pins,
+        channel,
+    ) {
         Err(_fault) => Err(AllocError),
-        Ok(inputs) => other_inputs(alloc, channel, inputs.as_slice(), tables),
+        Ok(sections) => {
+            let reached = other_inputs(alloc, channel, sections.as_slice(), tables)?;
+            Ok(reached)
+        }
     }
 }
 

@@ -1,10 +1,15 @@
 use Rattle.std.proofs.Common.{subst, sym, ap, ◌∙◌}
 use Rattle.std.specs.Prelude.{◌==◌, filter}
+use Rattle.rhythm_base.specs.Lists.{AreInOrder}
+use Rattle.rhythm_base.specs.Performance.{place_of_note}
 use Rattle.voices.specs.Voice.{AreNotesOfVoice}
 use Rattle.edit_session.proofs.VoiceNotes.{notes_are_voice}
 use Rattle.edit_session.proofs.inputs.voice_chords.Goals as goal
 
+pub voice_notes-notes-requires : goal.voice_notes-notes-requires
+voice_notes-notes-requires c = subst (AreInOrder place_of_note) (sym c.notes.ensures.value) c.notes.ensures.formed.notes_in_order
+
 pub chords_of-requires : goal.chords_of-requires
 chords_of-requires c =
-    let is = c.as_slice.ensures.value ∙ c.in_ok-notes.ensures ∙ ap (λ l. filter (λ n. n.channel == c.args.channel) l) c.notes.ensures.value in
+    let is = c.voice_notes-notes.ensures ∙ ap (λ l. filter (λ n. n.channel == c.args.channel) l) c.notes.ensures.value in
     subst AreNotesOfVoice (sym is) (notes_are_voice c.args.performance.now c.args.channel c.notes.ensures.formed)
