@@ -76,13 +76,12 @@ state-more g k plan es more x h = record {
 -- ---- what grows
 
 pub grows-none : (rows : Rows) → Grows rows rows
-grows-none rows = record { entries = ([], sym (append-nil rows.entries.items)); states = λ n seat place h. h; rows = λ n a span h. h }
+grows-none rows = record { entries = ([], sym (append-nil rows.entries.items)); states = λ n seat place h. h }
 
 pub grows-then : (x y z : Rows) → Grows x y → Grows y z → Grows x z
 grows-then x y z h g = record {
   entries = (h.entries.0 ++ g.entries.0, g.entries.1 ∙ ap (λ l. l ++ g.entries.0) h.entries.1 ∙ append_assoc x.entries.items h.entries.0 g.entries.0);
   states = λ n seat place s. g.states n seat place (h.states n seat place s);
-  rows = λ n a span r. g.rows n a span (h.rows n a span r);
 }
 
 -- ---- one state more
@@ -92,7 +91,6 @@ module _ (old new : Rows) (x : State) (states : new.states.items ≡ old.states.
   add-grows = record {
     entries = ([], entries ∙ sym (append-nil old.entries.items));
     states = λ n seat place h. (h.0, ap (λ l. slice_get l n) states ∙ append-get old.states.items (x ∷ []) h.0 n h.1, h.2, h.3);
-    rows = λ n a span h. (h.0, ap (λ l. slice_get l n) states ∙ append-get old.states.items (x ∷ []) h.0 n h.1, h.2);
   }
 
   pub add-known : (g : Grammar) (k : BarInput) (plan : Plan) → AreKnown g k plan old → IsState g k plan old.entries.items x → AreKnown g k plan new
@@ -171,20 +169,19 @@ module _ (g : Grammar) (k : BarInput) (plan : Plan) (old new : Rows) (number sea
       }
 
   pub keep-known : KeepsRow old new number from best span → AreKnown g k plan new
-  keep-known (inl t) = subst (λ es. All (IsState g k plan es) new.states.items) (sym t.1) (subst (All (IsState g k plan old.entries.items)) (sym t.0) known)
-  keep-known (inr t) =
+  keep-known t =
       let P : State → Type 0 = IsState g k plan new.entries.items in
-      let es = t.4.es in
+      let es = t.3.es in
       let longer : All (IsState g k plan (old.entries.items ++ es)) old.states.items = All-weaker (IsState g k plan old.entries.items) (IsState g k plan (old.entries.items ++ es)) (λ x s. state-more g k plan old.entries.items es x s) old.states.items known in
-      let all : All P old.states.items = subst (λ l. All (IsState g k plan l) old.states.items) (sym t.4.added) longer in
+      let all : All P old.states.items = subst (λ l. All (IsState g k plan l) old.states.items) (sym t.3.added) longer in
       let x = all-at P old.states.items number t.0 all t.1 in
       let both : Some h.0 ≡ Some t.0 = sym h.1 ∙ t.1 in
       let one : h.0 ≡ t.0 = cc in
       let own : t.0.seat ≡ seat = ap (λ (x : State). x.seat) (sym one) ∙ h.2 in
       let there : t.0.place ≡ place = ap (λ (x : State). x.place) (sym one) ∙ h.3 in
       let row : IsRowAt g k plan new.entries.items t.0.place (pair_of x.seat) from span
-      = subst (λ p. IsRowAt g k plan new.entries.items p (pair_of x.seat) from span) (sym there) (settled-row new.entries.items t.4 x.seat (ap (slice_get plan.seats.items) (sym own) ∙ x.at)) in
-      subst (All P) (sym t.3) (all-set P old.states.items number _ all (record {
+      = subst (λ p. IsRowAt g k plan new.entries.items p (pair_of x.seat) from span) (sym there) (settled-row new.entries.items t.3 x.seat (ap (slice_get plan.seats.items) (sym own) ∙ x.at)) in
+      subst (All P) (sym t.2) (all-set P old.states.items number _ all (record {
         seat = x.seat;
         at = x.at;
         within = x.within;
@@ -196,19 +193,12 @@ module _ (g : Grammar) (k : BarInput) (plan : Plan) (old new : Rows) (number sea
       }))
 
   pub keep-row : KeepsRow old new number from best span → IsRowOf g k plan new seat place from span
-  keep-row (inl t) s at = subst (λ es. IsRowAt g k plan es place (pair_of s) from span) (sym t.1) (row-of g k plan old number seat place from span known h low t.2 s at)
-  keep-row (inr t) s at = settled-row new.entries.items t.4 s at
+  keep-row t s at = settled-row new.entries.items t.3 s at
 
   pub keep-grows : KeepsRow old new number from best span → Grows old new
-  keep-grows (inl t) = record {
-    entries = ([], t.1 ∙ sym (append-nil old.entries.items));
-    states = λ n seat place s. (s.0, ap (λ l. slice_get l n) t.0 ∙ s.1, s.2, s.3);
-    rows = λ n a sp r. (r.0, ap (λ l. slice_get l n) t.0 ∙ r.1, r.2);
-  }
-  keep-grows (inr t) = record {
-    entries = (t.4.es, t.4.added);
+  keep-grows t = record {
+    entries = (t.3.es, t.3.added);
     states = λ n s p x. state n s p x (n == number) refl;
-    rows = λ n a sp r. row n a sp r (n == number) refl;
   }
     where
       state : (n s p : ℕ) → HasState old n s p → (u : Bool) → (n == number) ≡ u → HasState new n s p
@@ -216,22 +206,10 @@ module _ (g : Grammar) (k : BarInput) (plan : Plan) (old new : Rows) (number sea
           let is : n ≡ number = grind (arith, nat_tests) in
           let both : Some x.0 ≡ Some t.0 = sym x.1 ∙ ap (slice_get old.states.items) is ∙ t.1 in
           let one : x.0 ≡ t.0 = cc in
-          (_, (λ i. slice_get (t.3 i) (is i)) ∙ set-here old.states.items number t.0 _ t.1, ap (λ (x : State). x.seat) (sym one) ∙ x.2, ap (λ (x : State). x.place) (sym one) ∙ x.3)
+          (_, (λ i. slice_get (t.2 i) (is i)) ∙ set-here old.states.items number t.0 _ t.1, ap (λ (x : State). x.seat) (sym one) ∙ x.2, ap (λ (x : State). x.place) (sym one) ∙ x.3)
       state n s p x false e =
           let other : n ≢ number = λ w. grind (arith, nat_tests) in
-          (x.0, ap (λ l. slice_get l n) t.3 ∙ set-other old.states.items number n _ other ∙ x.1, x.2, x.3)
-
-      row : (n a : ℕ) (sp : RowSpan) → HasRow old n a sp → (u : Bool) → (n == number) ≡ u → HasRow new n a sp
-      row n a sp x true e =
-          let is : n ≡ number = grind (arith, nat_tests) in
-          let both : Some x.0 ≡ Some t.0 = sym x.1 ∙ ap (slice_get old.states.items) is ∙ t.1 in
-          let one : x.0 ≡ t.0 = cc in
-          let kept : slice_index_or t.0.rows a None ≡ Some sp = ap (λ (x : State). slice_index_or x.rows a None) (sym one) ∙ x.2 in
-          let other : a ≢ from = λ w. let no : None ≡ Some sp = sym t.2 ∙ ap (λ a. slice_index_or t.0.rows a None) (sym w) ∙ kept in absurd (cc) in
-          (_, (λ i. slice_get (t.3 i) (is i)) ∙ set-here old.states.items number t.0 _ t.1, get_or-set_other t.0.rows from a (Some span) None other ∙ kept)
-      row n a sp x false e =
-          let other : n ≢ number = λ w. grind (arith, nat_tests) in
-          (x.0, ap (λ l. slice_get l n) t.3 ∙ set-other old.states.items number n _ other ∙ x.1, x.2)
+          (x.0, ap (λ l. slice_get l n) t.2 ∙ set-other old.states.items number n _ other ∙ x.1, x.2, x.3)
 
 -- ---- the row of a span
 

@@ -1,6 +1,6 @@
 -- The choices of a seat with one cut more, and when a cut is passed over.
-use Rattle.std.proofs.Common.{◌⊎◌, ◌≡◌, ◌≢◌, ℕ, ◌+◌, ◌<◌, ◌≤◌, ◌==◌, Bool, true, false, List, [], ◌∷◌, length, refl, sym, ◌∙◌, subst, arith}
-use Rattle.std.specs.Prelude.{Option, Some, None, if◌then◌else◌, slice_set}
+use Rattle.std.proofs.Common.{◌⊎◌, ◌≡◌, ◌≢◌, ℕ, ◌+◌, ◌-◌, ◌^◌, ◌<◌, ◌≤◌, ◌==◌, Bool, true, false, List, [], ◌∷◌, length, refl, sym, ◌∙◌, subst, arith}
+use Rattle.std.specs.Prelude.{Option, Some, None, if◌then◌else◌, nat_le, slice_set}
 use Rattle.std.proofs.lemmas.Bool.Decides.{nat_tests}
 use Rattle.std.proofs.lemmas.Grind.{get_or-set_at}
 use Rattle.std.proofs.lemmas.List.{get_or-set_other}
@@ -16,7 +16,7 @@ use Rattle.grammar_plan.specs.Plans.{IsPlan, IsSeat, pair_of}
 use Rattle.grammar_plan.specs.declared.cut.Cut.{Cut}
 use Rattle.grammar_plan.specs.declared.plan.Plan.{Plan}
 use Rattle.grammar_plan.specs.declared.seat.Seat.{Seat}
-use Rattle.least_rows.specs.Choices.{AreBestChoices, RulesBefore, choice_in, cost_of, is_over, limit_of, nearer_choice, topped_choice}
+use Rattle.least_rows.specs.Choices.{AreBestChoices, RulesBefore, choice_in, left_of, limit_below, nearer_choice, topped_choice}
 use Rattle.least_rows.specs.Ways.{AreWays, one_way}
 use Rattle.least_rows.specs.Steps.{AreChoicesOf, EndsThere, IsLeafAt, ends_there}
 use Rattle.least_rows.specs.Tops.{IsOffered, IsTop, parts_of}
@@ -40,14 +40,29 @@ one-offered best count low v cut number way is b = go (count == b) refl
         subst (λ b. choice_in (slice_set best count v) b ≡ nearer_choice (choice_in best b) (topped_choice cut number (Some way))) same (get_or-set_at best count count v None refl low ∙ is)
     go false e = let other : b ≢ count = λ s. grind (arith, nat_tests) in get_or-set_other best count b v None other
 
--- a cost over the limit
-pub over-limit : (best : List (Option Choice)) (ends : Bool) (cost : ℕ) → is_over cost (limit_of best ends) ≡ true → (ends ≡ true) × (c : Choice) × (choice_in best 0 ≡ Some c) × (c.cost < cost)
-over-limit best false cost e = absurd (cc)
-over-limit best true cost e = go (choice_in best 0) refl e
+-- the limit is what is left of the cost of the choice for none
+limit-left : (best : List (Option Choice)) (ends : Bool) (weight : ℕ) (o : Option ℕ) → limit_below best ends weight ≡ o → ((cost : ℕ) → cost < 2 ^ 64 → (limit : ℕ) → o ≡ Some limit → limit < cost → (ends ≡ true) × (c : Choice) × (choice_in best 0 ≡ Some c) × (c.cost < weight + cost))
+    × (o ≡ None → (ends ≡ true) × (c : Choice) × (choice_in best 0 ≡ Some c) × (c.cost < weight))
+limit-left best false weight o e = (λ cost small limit is over. absurd (grind (arith, nat_tests)), λ none. absurd (cc))
+limit-left best true weight o e = go (choice_in best 0) refl e
   where
-    go : (o : Option Choice) → choice_in best 0 ≡ o → is_over cost (cost_of o) ≡ true → (true ≡ true) × (c : Choice) × (choice_in best 0 ≡ Some c) × (c.cost < cost)
-    go None f e = absurd (cc)
-    go (Some c) f e = (refl, c, f, grind (arith, nat_tests))
+    go : (v : Option Choice) → choice_in best 0 ≡ v → left_of v weight ≡ o → ((cost : ℕ) → cost < 2 ^ 64 → (limit : ℕ) → o ≡ Some limit → limit < cost → (true ≡ true) × (c : Choice) × (choice_in best 0 ≡ Some c) × (c.cost < weight + cost))
+        × (o ≡ None → (true ≡ true) × (c : Choice) × (choice_in best 0 ≡ Some c) × (c.cost < weight))
+    go None f e = (λ cost small limit is over. absurd (grind (arith, nat_tests)), λ none. absurd (cc))
+    go (Some c) f e = cut (nat_le weight c.cost) refl e
+      where
+        cut : (t : Bool) → nat_le weight c.cost ≡ t → (if t then Some (c.cost - weight) else None) ≡ o → ((cost : ℕ) → cost < 2 ^ 64 → (limit : ℕ) → o ≡ Some limit → limit < cost → (true ≡ true) × (c : Choice) × (choice_in best 0 ≡ Some c) × (c.cost < weight + cost))
+            × (o ≡ None → (true ≡ true) × (c : Choice) × (choice_in best 0 ≡ Some c) × (c.cost < weight))
+        cut true t e = (λ cost small limit is over. let left : Some (c.cost - weight) ≡ Some limit = e ∙ is in let same : c.cost - weight ≡ limit = cc in (refl, c, f, omega (arith, same, over)), λ none. absurd (cc))
+        cut false t e = (λ cost small limit is over. absurd (cc), λ none. (refl, c, f, grind (arith, nat_tests)))
+
+-- a way that costs more than the limit
+pub over-limit : (best : List (Option Choice)) (ends : Bool) (weight limit cost : ℕ) → Some limit ≡ limit_below best ends weight → limit < cost → cost < 2 ^ 64 → (ends ≡ true) × (c : Choice) × (choice_in best 0 ≡ Some c) × (c.cost < weight + cost)
+over-limit best ends weight limit cost is over small = (limit-left best ends weight (Some limit) (sym is)).0 cost small limit refl over
+
+-- a cut that costs more than the limit by itself
+pub none-left : (best : List (Option Choice)) (ends : Bool) (weight : ℕ) → None ≡ limit_below best ends weight → (ends ≡ true) × (c : Choice) × (choice_in best 0 ≡ Some c) × (c.cost < weight)
+none-left best ends weight is = (limit-left best ends weight None (sym is)).1 refl
 
 -- where the leaf has no chord for the next, no tree carries one out
 pub ends-so : (g : Grammar) (k : BarInput) → IsReady g k → (place w symbol : ℕ) → 1 ≤ w → (leaf : Option Leaf) → IsLeafAt g k place w leaf → ends_there leaf ≡ true

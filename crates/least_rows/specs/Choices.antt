@@ -1,5 +1,5 @@
 -- What the entries of a row may become: the nearest choice for each number of chords carried out.
-use Rattle.std.specs.Prelude.{⊤, ◌≡◌, ◌≢◌, ◌⊎◌, ℕ, suc, ◌+◌, ◌*◌, ◌/◌, ◌<◌, ◌≤◌, ◌^◌, Bool, true, false, nat_lt, if◌then◌else◌, List, [], ◌∷◌, ◌++◌, length, slice_get, slice_index_or, Option, Some, None}
+use Rattle.std.specs.Prelude.{⊤, ◌≡◌, ◌≢◌, ◌⊎◌, ℕ, suc, ◌+◌, ◌-◌, ◌*◌, ◌/◌, ◌<◌, ◌≤◌, ◌^◌, Bool, true, false, nat_le, if◌then◌else◌, List, [], ◌∷◌, ◌++◌, length, slice_get, slice_index_or, Option, Some, None}
 use Rattle.rhythm_base.specs.Grammar.{Grammar}
 use Rattle.rhythm_base.specs.Ranked.{Key}
 use Rattle.rhythm_laws.specs.Forests.{Ground}
@@ -34,18 +34,16 @@ abbrev pub topped_choice : Cut → ℕ → Option Way → Option Choice
 topped_choice cut number None = None
 topped_choice cut number (Some w) = Some (record { cost = cut.weight + w.cost; order = cut.rule * 2 ^ 48 + w.order; cut = Some number; way = w.way })
 
-abbrev pub cost_of : Option Choice → Option ℕ
-cost_of None = None
-cost_of (Some c) = Some c.cost
+-- what is left of the cost of a choice under a cut of this weight, where it is not less; without a choice, more than any way costs
+abbrev pub left_of : Option Choice → ℕ → Option ℕ
+left_of None weight = Some (2 ^ 64 - 1)
+left_of (Some c) weight = if nat_le weight c.cost then Some (c.cost - weight) else None
 
--- what a tree may cost at most to be offered, where no chord is carried out of any
-abbrev pub limit_of : List (Option Choice) → Bool → Option ℕ
-limit_of choices true = cost_of (choice_in choices 0)
-limit_of choices false = None
-
-abbrev pub is_over : ℕ → Option ℕ → Bool
-is_over cost None = false
-is_over cost (Some limit) = nat_lt limit cost
+-- what the ways over the parts of a cut of this weight may cost at most for the cut to be offered: a limit where no chord is
+-- carried out of any tree
+abbrev pub limit_below : List (Option Choice) → Bool → ℕ → Option ℕ
+limit_below choices true weight = left_of (choice_in choices 0) weight
+limit_below choices false weight = left_of None weight
 
 -- the list of the key is made as the choice says
 abbrev pub IsChoiceMade : Ground → Plan → ℕ → ℕ × ℕ → ℕ → ℕ → Option Choice → Option Key → Type 0

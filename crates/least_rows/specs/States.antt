@@ -40,8 +40,7 @@ HasState rows n seat place = (x : State) × (slice_get rows.states.items n ≡ S
 abbrev pub HasRow : Rows → ℕ → ℕ → RowSpan → Type 0
 HasRow rows n a span = (x : State) × (slice_get rows.states.items n ≡ Some x) × (slice_index_or x.rows a None ≡ Some span)
 
--- nothing that was found is lost, and no number is given anew
+-- no entry and no state is lost, and no number is given anew
 pub record Grows (old new : Rows) : Type 0 where
   pub entries : (more : List Entry) × (new.entries.items ≡ old.entries.items ++ more)
   pub states : (n seat place : ℕ) → HasState old n seat place → HasState new n seat place
-  pub rows : (n a : ℕ) (span : RowSpan) → HasRow old n a span → HasRow new n a span

@@ -1,5 +1,5 @@
 -- What one step of the search finds, of the seat of a number.
-use Rattle.std.specs.Prelude.{⊤, ◌≡◌, ◌⊎◌, ℕ, ◌<◌, ◌^◌, ◌==◌, if◌then◌else◌, Bool, false, List, [], ◌∷◌, slice_get, slice_set, slice_index_or, MatchOption, Option, Some, None}
+use Rattle.std.specs.Prelude.{⊤, ◌≡◌, ℕ, ◌<◌, ◌^◌, ◌==◌, if◌then◌else◌, Bool, false, List, [], ◌∷◌, slice_get, slice_set, MatchOption, Option, Some, None}
 use Rattle.rhythm_base.specs.BarInput.{BarInput}
 use Rattle.rhythm_base.specs.Grammar.{Grammar}
 use Rattle.rhythm_base.specs.Ranked.{Key}
@@ -14,7 +14,7 @@ use Rattle.grammar_plan.specs.declared.plan.Plan.{Plan}
 use Rattle.grammar_plan.specs.declared.seat.Seat.{Seat}
 use Rattle.least_rows.specs.Choices.{AreBestChoices, AreSettled}
 use Rattle.least_rows.specs.Ways.{AreWaysBelow, AreWaysOn, one_way}
-use Rattle.least_rows.specs.States.{HasRow, IsRowAt}
+use Rattle.least_rows.specs.States.{IsRowAt}
 use Rattle.least_rows.specs.declared.choice.Choice.{Choice}
 use Rattle.least_rows.specs.declared.lead.Lead.{Lead}
 use Rattle.least_rows.specs.declared.lead.Lead.TheVariants.{Nowhere, One, Several}
@@ -73,10 +73,9 @@ abbrev pub way_to_none : Option Way → ℕ → Option Way
 way_to_none None b = None
 way_to_none (Some way) b = if 0 == b then Some way else None
 
--- the row of a state was known, or was added
+-- the entries were added as the row of a state
 abbrev pub KeepsRow : Rows → Rows → (number from : ℕ) → List (Option Choice) → RowSpan → Type 0
 KeepsRow old new number from best span =
-    ((new.states.items ≡ old.states.items) × (new.entries.items ≡ old.entries.items) × HasRow old number from span)
-    ⊎ ((x : State) × (slice_get old.states.items number ≡ Some x) × (slice_index_or x.rows from None ≡ None)
+    (x : State) × (slice_get old.states.items number ≡ Some x)
     × (new.states.items ≡ slice_set old.states.items number (record { seat = x.seat; place = x.place; leaf = x.leaf; rows = slice_set x.rows from (Some span) }))
-    × AreSettled best old.entries.items new.entries.items span)
+    × AreSettled best old.entries.items new.entries.items span

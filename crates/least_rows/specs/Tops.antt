@@ -1,5 +1,5 @@
 -- A cut of a seat on top, and the ways over its parts.
-use Rattle.std.specs.Prelude.{◌≡◌, ℕ, ◌+◌, ◌-◌, ◌<◌, ◌≤◌, true, List, length, take, slice_get, slice_index_or, Option, Some}
+use Rattle.std.specs.Prelude.{◌≡◌, ℕ, ◌+◌, ◌-◌, ◌<◌, ◌≤◌, ◌^◌, List, length, take, slice_get, slice_index_or, Option, Some}
 use Rattle.rhythm_base.specs.BarInput.{BarInput}
 use Rattle.rhythm_base.specs.Bodies.{children, sizes}
 use Rattle.rhythm_base.specs.Grammar.{Grammar}
@@ -9,10 +9,13 @@ use Rattle.grammar_plan.specs.Plans.{IsCutOf, pair_of}
 use Rattle.grammar_plan.specs.declared.cut.Cut.{Cut}
 use Rattle.grammar_plan.specs.declared.plan.Plan.{Plan}
 use Rattle.grammar_plan.specs.declared.seat.Seat.{Seat}
-use Rattle.least_rows.specs.Choices.{choice_in, is_over, nearer_choice, topped_choice}
+use Rattle.least_rows.specs.Choices.{choice_in, nearer_choice, topped_choice}
 use Rattle.least_rows.specs.Ways.{AreWays, AreWaysBelow, IsRanked, one_way, way_on}
 use Rattle.least_rows.specs.declared.choice.Choice.{Choice}
 use Rattle.least_rows.specs.declared.fork.Fork.{Fork}
+use Rattle.least_rows.specs.States.{IsRowAt}
+use Rattle.least_rows.specs.declared.rows.Rows.{Rows}
+use Rattle.least_rows.specs.declared.state.RowSpan.{RowSpan}
 use Rattle.least_rows.specs.declared.top.Top.{Top}
 use Rattle.least_rows.specs.declared.way.Way.{Way}
 
@@ -52,11 +55,15 @@ BeginsAt g k plan top cut part at = (t : IsTop g k plan top cut) → at ≡ top.
 abbrev pub part_at : (g : Grammar) (k : BarInput) (plan : Plan) (top : Top) (cut : Cut) → IsTop g k plan top cut → ℕ → ℕ × ℕ
 part_at g k plan top cut t part = slice_index_or (parts_of g k plan top cut t) (part - cut.first) (0, 0)
 
--- nothing was offered, since a way that leads alone over the first parts costs more than the limit with the cut on top
-abbrev pub IsPassed : Grammar → BarInput → Plan → Top → Cut → Option ℕ → (old new : List (Option Choice)) → Type 0
+-- the span is the row of the part at which the fork is
+abbrev pub IsRowOfPart : Grammar → BarInput → Plan → Rows → Top → Cut → Fork → RowSpan → Type 0
+IsRowOfPart g k plan rows top cut fork span = (t : IsTop g k plan top cut) → IsRowAt g k plan rows.entries.items fork.at (part_at g k plan top cut t fork.part) fork.count span
+
+-- nothing was offered, since a way that leads alone over the first parts costs more than the limit
+abbrev pub IsPassed : Grammar → BarInput → Plan → Top → Cut → ℕ → (old new : List (Option Choice)) → Type 0
 IsPassed g k plan top cut limit old new =
     (new ≡ old) × ((t : IsTop g k plan top cut) → (n : ℕ) × (w : Way) × (m : ℕ)
-    × AreWays (ground_of g k) top.place (parts_of g k plan top cut t) top.from n (one_way w m) × (is_over (cut.weight + w.cost) limit ≡ true))
+    × AreWays (ground_of g k) top.place (parts_of g k plan top cut t) top.from n (one_way w m) × (limit < w.cost) × (w.cost < 2 ^ 64))
 
 -- the way up to the part was offered with each entry over it, with the cut on top
 abbrev pub AreEntriesOffered : Grammar → BarInput → Plan → Top → Cut → Fork → (old new : List (Option Choice)) → Type 0

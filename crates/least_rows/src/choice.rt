@@ -3,8 +3,7 @@ ghost use Rattle.least_rows.specs.Choices.{
   IsEntryOf,
   IsFirst,
   choice_in,
-  is_over,
-  limit_of,
+  limit_below,
   nearer_choice,
   topped_choice,
 };
@@ -110,25 +109,16 @@ pub fn offer_entries(
     }
 }
 
-/// What a tree may cost at most to be offered, where no chord is carried out of any: what the choice for none costs.
+/// What the ways over the parts of a cut of this weight may cost at most for the cut to be offered, where no chord is carried out
+/// of any tree: what is left of the cost of the choice for none, and none where the cut alone costs more. Without such a choice
+/// it is more than any way costs.
 #[inline(always)]
-pub fn limit_of(best: &Choices, ends: bool) -> Option<u64>
-    ensures { result ≡ limit_of best.now ends }
+pub fn limit_below(best: &Choices, ends: bool, weight: u32) -> Option<u64>
+    ensures { result ≡ limit_below best.now ends weight }
 {
     match &best[0] {
-        Some(choice) if ends => Some(choice.cost),
-        _ => None,
-    }
-}
-
-/// A cost is over the limit, where there is one.
-#[inline(always)]
-pub fn is_over(cost: u64, limit: Option<u64>) -> bool
-    ensures { result ≡ is_over cost limit }
-{
-    match limit {
-        None => false,
-        Some(limit) => limit < cost,
+        Some(choice) if ends => choice.cost.checked_sub(u64::from(weight)),
+        _ => Some(u64::MAX),
     }
 }
 

@@ -1,8 +1,10 @@
 ghost use Rattle.least_rows.specs.Ways.{AreEntries, IsLead, IsShort, quiet_rank, rank_in};
+ghost use Rattle.least_rows.specs.declared.lead.Lead.TheVariants.{Several};
 ghost use Rattle.grammar_plan.specs.declared.quiet_tree.QuietTree.{QuietTree};
-ghost use Rattle.std.specs.Prelude.{◌≡◌, ◌<◌, ◌≤◌, Some};
+ghost use Rattle.std.specs.Prelude.{◌≡◌, ◌≢◌, ◌<◌, ◌≤◌, Some};
 
 use crate::entry::Entry;
+use crate::state::RowSpan;
 use crate::way::Way;
 use grammar_plan::QuietTree;
 
@@ -15,6 +17,13 @@ pub enum Lead {
     One(Way, u8),
     /// To several ways, which the row of the part tells.
     Several,
+}
+
+/// Where one way leads over the next part of a cut, with the part's row, which tells it where it is to several ways.
+#[derive(Clone, Copy)]
+pub struct RowLead {
+    pub lead: Lead,
+    pub row: RowSpan,
 }
 
 /// One way with the entries of a row after it.
@@ -38,7 +47,8 @@ pub fn lead_by_quiet(way: Way, count: u8, tree: Option<QuietTree>) -> Lead
     requires short { IsShort way }
     requires count { count < 5 }
     requires tree { (t : QuietTree) → tree ≡ Some t → t.cost ≤ 3000000000 }
-    ensures { IsLead (quiet_rank tree) way count result }
+    ensures lead { IsLead (quiet_rank tree) way count result }
+    ensures one { result ≢ Several }
 {
     match tree {
         None => Lead::Nowhere,

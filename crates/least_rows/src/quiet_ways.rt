@@ -49,7 +49,7 @@ fn offer_quiet(
 }
 
 /// Several ways with the tree over a quiet interval after them.
-#[inline(never)]
+#[inline(always)]
 pub fn rest_of_several(
     search: &Search<'_>,
     ways: &[Option<Way>; 5],

@@ -15,7 +15,8 @@ ghost use Rattle.least_rows.specs.Steps.{
   LeadsOver,
   way_to_none,
 };
-ghost use Rattle.least_rows.specs.Tops.{AreEntriesOffered, AreWaysTo, BeginsAt, IsOffered, IsPassed, IsTop};
+ghost use Rattle.least_rows.specs.declared.lead.Lead.TheVariants.{Several};
+ghost use Rattle.least_rows.specs.Tops.{AreEntriesOffered, AreWaysTo, BeginsAt, IsOffered, IsPassed, IsRowOfPart, IsTop};
 ghost use Rattle.grammar_plan.specs.Plans.{between};
 ghost use Rattle.row_laws.specs.LeafRules.{EndsInterval};
 ghost use Rattle.std.specs.Prelude.{
@@ -36,10 +37,10 @@ ghost use Rattle.std.specs.Prelude.{
   slice_get,
 };
 
-use crate::choice::{Choices, is_over, limit_of, offer_entries, offer_way};
+use crate::choice::{Choices, limit_below, offer_entries, offer_way};
 use crate::entry::Entry;
 use crate::fork::{Fork, PartAt};
-use crate::lead::{Lead, lead_by_quiet, lead_by_row};
+use crate::lead::{Lead, RowLead, lead_by_quiet, lead_by_row};
 use crate::leaf_choices::{ends_there, offer_leaf};
 use crate::quiet_ways::rest_of_several;
 use crate::search::Search;
@@ -157,7 +158,7 @@ impl Rows {
         }
     }
 
-    /// Keeps the row of a state, where it has none.
+    /// Keeps the row of a state.
     fn keep_row(
         &mut self,
         number: usize,
@@ -168,14 +169,9 @@ impl Rows {
         requires from { from < 5 }
         ensures { IfOk result (KeepsRow self.old self.new number from best.old) }
     {
-        match self.states[number].rows[from as usize] {
-            Some(span) => Ok(span),
-            None => {
-                let span = settle(&mut self.entries, best)?;
-                self.states[number].rows[from as usize] = Some(span);
-                Ok(span)
-            }
-        }
+        let span = settle(&mut self.entries, best)?;
+        self.states[number].rows[from as usize] = Some(span);
+        Ok(span)
     }
 
     /// The row of a seat from the unit `place` on, with `from` chords carried in.
@@ -300,7 +296,9 @@ impl Rows {
         ensures best { OnOk result (AreChoicesOf search.now.grammar.now search.now.input.now search.now.plan.now top.seat top.place top.from
             (λ s. RulesBefore search.now.grammar.now search.now.plan.now s (top.number + 1)) best.new) }
     {
-        let limit = limit_of(best, ends);
+        let Some(limit) = limit_below(best, ends, cut.weight) else {
+            return Ok(());
+        };
         let way = Way {
             cost: 0,
             order: 0,
@@ -325,7 +323,7 @@ impl Rows {
         top: Top,
         cut: &Cut,
         start: Fork,
-        limit: Option<u64>,
+        limit: u64,
         best: &mut Choices,
     ) -> Result<(), AllocError>
         requires search { IsSearch search.now.grammar.now search.now.input.now search.now.plan.now search.now.view.now }
@@ -342,11 +340,12 @@ impl Rows {
         let mut count = start.count;
         let mut at = start.at;
         'parts: for part in start.part..cut.end {
-            if is_over(u64::from(cut.weight) + way.cost, limit) {
+            if limit < way.cost {
                 return Ok(());
             }
             let seat = search.plan.parts[part as usize];
-            match self.lead(search, way, count, seat, at)? {
+            let led = self.lead(search, way, count, seat, at)?;
+            match led.lead {
                 Lead::Nowhere => return Ok(()),
                 Lead::One(next, to) => {
                     way = next;
@@ -359,7 +358,9 @@ impl Rows {
                         part,
                         at,
                     };
-                    return self.offer_fork(search, top, cut, fork, best);
+                    // A copy, so that it is not stored where no way parts.
+                    let own = top;
+                    return self.offer_fork(search, own, cut, fork, led.row, best);
                 }
             }
             at += search.plan.seats[seat as usize].width;
@@ -368,7 +369,7 @@ impl Rows {
         Ok(())
     }
 
-    /// Where one way leads over the tree of a seat from the unit `place` on.
+    /// Where one way leads over the tree of a seat from the unit `place` on, and the row that tells it.
     #[cycle(rows)]
     #[inline(always)]
     fn lead(
@@ -378,7 +379,7 @@ impl Rows {
         count: u8,
         seat: u32,
         place: u16,
-    ) -> Result<Lead, AllocError>
+    ) -> Result<RowLead, AllocError>
         requires search { IsSearch search.now.grammar.now search.now.input.now search.now.plan.now search.now.view.now }
         requires place { HasPlace search.now.input.now search.now.plan.now seat place }
         requires short { IsShort way }
@@ -386,23 +387,30 @@ impl Rows {
         requires known { AreKnown search.now.grammar.now search.now.input.now search.now.plan.now self.old }
         ensures known { OnOk result (AreKnown search.now.grammar.now search.now.input.now search.now.plan.now self.new) }
         ensures grows { OnOk result (Grows self.old self.new) }
-        ensures lead { IfOk result (LeadsOver search.now.grammar.now search.now.input.now search.now.plan.now seat place way count) }
+        ensures lead { IfOk result (λ l. LeadsOver search.now.grammar.now search.now.input.now search.now.plan.now seat place way count l.lead) }
+        ensures row { IfOk result (λ l. l.lead ≡ Several → IsRowOf search.now.grammar.now search.now.input.now search.now.plan.now self.new seat place count l.row) }
     {
         let plan = search.plan;
         let width = plan.seats[seat as usize].width;
         match search.view.quiet(search.input, place, width) {
             Some(quiet) => {
                 let tree = plan.quiet_tree(search.grammar, seat, quiet, count);
-                Ok(lead_by_quiet(way, count, tree))
+                Ok(RowLead {
+                    lead: lead_by_quiet(way, count, tree),
+                    row: RowSpan { first: 0, count: 0 },
+                })
             }
             None => {
                 let span = self.row(search, seat, place, count)?;
-                Ok(lead_by_row(way, count, self.entries_of(span)))
+                Ok(RowLead {
+                    lead: lead_by_row(way, count, self.entries_of(span)),
+                    row: span,
+                })
             }
         }
     }
 
-    /// Offers the trees with this cut on top whose ways go through a fork.
+    /// Offers the trees with this cut on top whose ways go through a fork, by the row of the part at which it is.
     #[cycle(rows)]
     #[inline(never)]
     fn offer_fork(
@@ -411,6 +419,7 @@ impl Rows {
         top: Top,
         cut: &Cut,
         fork: Fork,
+        row: RowSpan,
         best: &mut Choices,
     ) -> Result<(), AllocError>
         requires search { IsSearch search.now.grammar.now search.now.input.now search.now.plan.now search.now.view.now }
@@ -418,18 +427,21 @@ impl Rows {
         requires part { (cut.now.first ≤ fork.part) × (fork.part < cut.now.end) × (cut.now.end < 2 ^ 32) }
         requires count { fork.count < 5 }
         requires ways { AreWaysTo search.now.grammar.now search.now.input.now search.now.plan.now top cut.now fork.part fork.at (one_way fork.way fork.count) }
+        requires row { IsRowOfPart search.now.grammar.now search.now.input.now search.now.plan.now self.old top cut.now fork row }
         requires known { AreKnown search.now.grammar.now search.now.input.now search.now.plan.now self.old }
         ensures known { OnOk result (AreKnown search.now.grammar.now search.now.input.now search.now.plan.now self.new) }
         ensures grows { OnOk result (Grows self.old self.new) }
         ensures best { OnOk result (IsOffered search.now.grammar.now search.now.input.now search.now.plan.now top cut.now best.old best.new) }
     {
+        let own = search.plan.parts[fork.part as usize];
+        let entries = self.entries_of(row);
         let part = fork.part + 1;
         if part == cut.end {
-            return self.offer_last(search, top, cut, fork, best);
+            offer_entries(best, cut, top.number, fork.way, fork.count, entries);
+            return Ok(());
         }
-        let own = search.plan.parts[fork.part as usize];
         let mut ways = [None; 5];
-        self.join_fork(search, &mut ways, fork, own)?;
+        join(&mut ways, fork.way, fork.count, entries);
         let at = fork.at + search.plan.seats[own as usize].width;
         self.offer_rest(search, top, cut, PartAt { part, at }, &ways, best)
     }
@@ -469,31 +481,6 @@ impl Rows {
         Ok(())
     }
 
-    /// The ways over the part at which one way parts, a tree of this seat.
-    #[cycle(rows)]
-    #[inline(always)]
-    fn join_fork(
-        &mut self,
-        search: &Search<'_>,
-        ways: &mut [Option<Way>; 5],
-        fork: Fork,
-        seat: u32,
-    ) -> Result<(), AllocError>
-        requires search { IsSearch search.now.grammar.now search.now.input.now search.now.plan.now search.now.view.now }
-        requires place { HasPlace search.now.input.now search.now.plan.now seat fork.at }
-        requires none { (b : ℕ) → b < 5 → way_in ways.old b ≡ None }
-        requires short { IsShort fork.way }
-        requires count { fork.count < 5 }
-        requires known { AreKnown search.now.grammar.now search.now.input.now search.now.plan.now self.old }
-        ensures known { OnOk result (AreKnown search.now.grammar.now search.now.input.now search.now.plan.now self.new) }
-        ensures grows { OnOk result (Grows self.old self.new) }
-        ensures ways { OnOk result (AreWaysOver search.now.grammar.now search.now.input.now search.now.plan.now seat fork.at (one_way fork.way fork.count) (way_in ways.new)) }
-    {
-        let span = self.row(search, seat, fork.at, fork.count)?;
-        join(ways, fork.way, fork.count, self.entries_of(span));
-        Ok(())
-    }
-
     /// Offers the trees with this cut on top that go these ways up to a part.
     #[cycle(rows)]
     #[inline(never)]
@@ -528,11 +515,38 @@ impl Rows {
                 if part == cut.end {
                     return self.offer_several(search, top, cut, next, ways, best);
                 }
-                let mut over = [None; 5];
-                self.over_rows(search, &mut over, ways, seat, next.at)?;
-                self.offer_rest(search, top, cut, PartAt { part, at }, &over, best)
+                self.offer_over(search, top, cut, next, ways, best)
             }
         }
+    }
+
+    /// The same over a part that others come after, by the rows of its seat.
+    #[cycle(rows)]
+    #[inline(never)]
+    fn offer_over(
+        &mut self,
+        search: &Search<'_>,
+        top: Top,
+        cut: &Cut,
+        next: PartAt,
+        ways: &[Option<Way>; 5],
+        best: &mut Choices,
+    ) -> Result<(), AllocError>
+        requires search { IsSearch search.now.grammar.now search.now.input.now search.now.plan.now search.now.view.now }
+        requires top { IsTop search.now.grammar.now search.now.input.now search.now.plan.now top cut.now }
+        requires part { (cut.now.first ≤ next.part) × (next.part + 1 < cut.now.end) × (cut.now.end < 2 ^ 32) }
+        requires ways { AreWaysTo search.now.grammar.now search.now.input.now search.now.plan.now top cut.now next.part next.at (way_in ways.now) }
+        requires known { AreKnown search.now.grammar.now search.now.input.now search.now.plan.now self.old }
+        ensures known { OnOk result (AreKnown search.now.grammar.now search.now.input.now search.now.plan.now self.new) }
+        ensures grows { OnOk result (Grows self.old self.new) }
+        ensures best { OnOk result (IsOffered search.now.grammar.now search.now.input.now search.now.plan.now top cut.now best.old best.new) }
+    {
+        let seat = search.plan.parts[next.part as usize];
+        let part = next.part + 1;
+        let at = next.at + search.plan.seats[seat as usize].width;
+        let mut over = [None; 5];
+        self.over_rows(search, &mut over, ways, seat, next.at)?;
+        self.offer_rest(search, top, cut, PartAt { part, at }, &over, best)
     }
 
     /// Offers the trees with this cut on top that go one way, out of which no chord is carried, up to a part, where there is one.
@@ -565,7 +579,7 @@ impl Rows {
             part: next.part,
             at: next.at,
         };
-        self.offer_along(search, top, cut, start, None, best)
+        self.offer_along(search, top, cut, start, u64::MAX, best)
     }
 
     /// Offers the trees with this cut on top that go these ways up to the last part.

@@ -7,14 +7,15 @@ use Rattle.row_laws.specs.QuietTrees.{IsQuiet}
 use Rattle.row_laws.specs.LeafRules.{EndsInterval}
 use Rattle.grammar_plan.specs.Plans.{IsSeat, pair_of}
 use Rattle.grammar_plan.specs.declared.seat.Seat.{Seat}
-use Rattle.least_rows.specs.Choices.{AreBestChoices, RulesBefore, choice_in, is_over, limit_of, nearer_choice, topped_choice}
+use Rattle.least_rows.specs.Choices.{AreBestChoices, RulesBefore, choice_in, nearer_choice, topped_choice}
 use Rattle.least_rows.specs.Ways.{AreShort, AreWays, AreWaysBelow, IsSmallWay, IsRanked, IsShort, nearer_way, one_way, quiet_rank, rank_in, way_in, way_on}
-use Rattle.least_rows.specs.Steps.{AreChoicesOf, EndsThere, IsLeafAt, LeadsOver, way_to_none}
-use Rattle.least_rows.specs.Tops.{AreWaysTo, IsOffered, IsTop, part_at, parts_of}
+use Rattle.least_rows.specs.States.{IsRowAt}
+use Rattle.least_rows.specs.Steps.{AreChoicesOf, AreWaysOver, EndsThere, IsLeafAt, LeadsOver, way_to_none}
+use Rattle.least_rows.specs.Tops.{AreWaysTo, IsOffered, IsRowOfPart, IsTop, part_at, parts_of}
 use Rattle.least_rows.specs.declared.choice.Choice.{Choice}
 use Rattle.least_rows.specs.declared.way.Way.{Way}
 use Rattle.least_rows.proofs.Asked.{next-one, quiet-row, seat-of}
-use Rattle.least_rows.proofs.NextCut.{choices-offered, choices-passed, ends-so, one-offered, over-limit}
+use Rattle.least_rows.proofs.NextCut.{choices-offered, choices-passed, ends-so, none-left, one-offered, over-limit}
 use Rattle.least_rows.proofs.FirstWays.{ways-same}
 use Rattle.least_rows.proofs.PlanSeats.{on_ok}
 use Rattle.least_rows.proofs.Choices.{all-rules, choices-rules, no_cut-yet}
@@ -50,6 +51,10 @@ first-way (Some w) = refl
 no-way : (o : Option Way) → ((w : Way) → o ≡ Some w → ⊥) → o ≡ None
 no-way None h = refl
 no-way (Some w) h = absurd (h w refl)
+
+no-limit : (o : Option ℕ) → ((n : ℕ) → o ≡ Some n → ⊥) → o ≡ None
+no-limit None h = refl
+no-limit (Some n) h = absurd (h n refl)
 
 one-low : (w : Way) (m : ℕ) → m < 5 → ((n : ℕ) (v : Way) → n < 5 → one_way w m n ≡ Some v → IsSmallWay v) → IsSmallWay w
 one-low w m low h = h m w low (own (m == m) (grind (arith, nat_tests)))
@@ -165,7 +170,13 @@ lead-returns-in-Some-clause-lead t c =
     let one : c.index.result.now ≡ s = c.index.ensures ∙ get_or_from_slice_get plan.seats.items c.args.seat s c.index.result.now at in
     let calm = subst (λ (s : Seat). IsQuiet c.in-Some.quiet d c.args.place s.width) one (c.in-Some.ensures g c.requires.search.ready.units) in
     quiet-row g k plan c.requires.search.ready c.requires.search.plan_of c.args.seat c.in-Some.quiet c.args.count c.quiet_tree-tree.result c.quiet_tree-tree.ensures c.args.place s at calm)
-    c.lead_by_quiet.result c.lead_by_quiet.ensures
+    c.lead_by_quiet.result c.lead_by_quiet.ensures.lead
+
+pub lead-returns-in-Some-clause-row : goal.lead-returns-in-Some-clause-row
+lead-returns-in-Some-clause-row t c = λ several. absurd (c.lead_by_quiet.ensures.one several)
+
+pub lead-returns-in_ok-span-in-None-clause-row : goal.lead-returns-in_ok-span-in-None-clause-row
+lead-returns-in_ok-span-in-None-clause-row t c = λ several. c.in_ok-span-in-None.ensures.row
 
 pub lead-returns-in_ok-span-in-None-clause-lead : goal.lead-returns-in_ok-span-in-None-clause-lead
 lead-returns-in_ok-span-in-None-clause-lead t c =
@@ -192,6 +203,21 @@ offer_cut-offer_along-requires t c =
     and_then (omega (arith, c.decreases, long)) (and_then c.requires.search (and_then c.requires.top (and_then (omega arith, c.requires.top.is.order) (and_then c.requires.top.few
     (and_then (λ t. to-first g k plan ready of top cut t) c.requires.known)))))
 
+pub offer_cut-returns-in_default-clause-best : goal.offer_cut-returns-in_default-clause-best
+offer_cut-returns-in_default-clause-best t c =
+    let g = c.args.search.now.grammar.now in
+    let k = c.args.search.now.input.now in
+    let plan = c.args.search.now.plan.now in
+    let ready = c.requires.search.ready in
+    let of = c.requires.search.plan_of in
+    let top = c.args.top in
+    let cut = c.args.cut.now in
+    let old = c.args.best.now in
+    let over = none-left old c.args.ends cut.weight (sym (no-limit c.limit_below.result c.in_default.not-Some) ∙ c.limit_below.ensures) in
+    let dear = over.3 in
+    choices-passed g k plan ready of top cut c.requires.top old c.requires.best (c.requires.ends over.0) over.1 over.2 (cut.first - cut.first) (record { cost = 0; order = 0; way = 0 }) top.from
+    (to-first g k plan ready of top cut c.requires.top).1 (omega (arith, dear))
+
 pub offer_cut-returns-clause-best : goal.offer_cut-returns-clause-best
 offer_cut-returns-clause-best t c =
     let g = c.args.search.now.grammar.now in
@@ -208,8 +234,7 @@ offer_cut-returns-clause-best t c =
       | inl offered ↦ choices-offered g k plan ready of top cut c.requires.top old c.requires.best new offered
       | inr passed ↦
           let dear = passed.1 c.requires.top in
-          let tested : is_over (cut.weight + dear.1.cost) (limit_of old c.args.ends) ≡ true = ap (is_over (cut.weight + dear.1.cost)) (sym c.limit_of-limit.ensures) ∙ dear.4 in
-          let over = over-limit old c.args.ends (cut.weight + dear.1.cost) tested in
+          let over = over-limit old c.args.ends cut.weight c.in-Some.limit dear.1.cost (sym c.in-Some.is ∙ c.limit_below.ensures) dear.4 dear.5 in
           subst after (sym passed.0) (choices-passed g k plan ready of top cut c.requires.top old c.requires.best (c.requires.ends over.0) over.1 over.2 dear.0 dear.1 dear.2 dear.3 over.3)
     ]) c.offer_along.ensures.best
 
@@ -224,8 +249,8 @@ offer_along-parts-init t c = record {
   ways = c.requires.ways;
 }
 
-pub offer_along-overflow_add-from : goal.offer_along-overflow_add-from
-offer_along-overflow_add-from t c =
+pub offer_along-returns-then-limit-way-clause-best : goal.offer_along-returns-then-limit-way-clause-best
+offer_along-returns-then-limit-way-clause-best t c =
     let g = c.args.search.now.grammar.now in
     let k = c.args.search.now.input.now in
     let plan = c.args.search.now.plan.now in
@@ -236,16 +261,8 @@ offer_along-overflow_add-from t c =
     let ways = (c.parts.invariant.ways c.requires.top).1 in
     let end = c.parts-test.true in
     let short = one-short c.parts.way c.parts.count c.parts.invariant.few (to-short g k plan ready of top cut c.requires.top (c.parts.part - cut.first) (few-parts g k plan ready of top cut c.requires.top c.parts.part (omega (arith, end))) (one_way c.parts.way c.parts.count) ways) in
-    let weight = c.from.ensures in
-    let small = c.fits-cut.1.0.1 in
-    omega (arith, short.0, weight, small)
-
-pub offer_along-returns-then-is_over-clause-best : goal.offer_along-returns-then-is_over-clause-best
-offer_along-returns-then-is_over-clause-best t c =
-    let cut = c.args.cut.now in
-    let tested : is_over (c.from.result + c.parts.way.cost) c.args.limit ≡ true = sym c.is_over.ensures ∙ c.if-is_over.true in
-    let dear : is_over (cut.weight + c.parts.way.cost) c.args.limit ≡ true = subst (λ n. is_over (n + c.parts.way.cost) c.args.limit ≡ true) c.from.ensures tested in
-    inr (c.parts.invariant.same, λ t. (c.parts.part - cut.first, c.parts.way, c.parts.count, (c.parts.invariant.ways t).1, dear))
+    let low = short.0 in
+    inr (c.parts.invariant.same, λ t. (c.parts.part - cut.first, c.parts.way, c.parts.count, (c.parts.invariant.ways t).1, omega arith, omega (arith, low)))
 
 pub offer_along-lead-requires : goal.offer_along-lead-requires
 offer_along-lead-requires t c =
@@ -297,7 +314,7 @@ offer_along-overflow_add-at t c =
     omega (arith, width, within, most, units)
 
 pub offer_along-returns-in-Nowhere-clause-grows : goal.offer_along-returns-in-Nowhere-clause-grows
-offer_along-returns-in-Nowhere-clause-grows t c = grows-then c.args.self.now c.parts.self c.lead.new.self c.parts.invariant.grows c.in_ok-lead.ensures.grows
+offer_along-returns-in-Nowhere-clause-grows t c = grows-then c.args.self.now c.parts.self c.lead.new.self c.parts.invariant.grows c.in_ok-led.ensures.grows
 
 pub offer_along-returns-in-Nowhere-clause-best : goal.offer_along-returns-in-Nowhere-clause-best
 offer_along-returns-in-Nowhere-clause-best t c =
@@ -312,7 +329,7 @@ offer_along-returns-in-Nowhere-clause-best t c =
     inl (λ t.
     let w = c.parts.invariant.ways t in
     let x = part-of g k plan ready of top cut t c.parts.part c.index-seat.result.now c.parts.at (omega (arith, c.parts.auto.part, c.requires.part.0)) c.parts-test.true c.index-seat.ensures w.0 in
-    let next = to-next g k plan ready of top cut t c.parts.part c.index-seat.result.now c.parts.at x.seat.width (omega (arith, c.parts.auto.part, c.requires.part.0)) x w.0 refl (one_way c.parts.way c.parts.count) (λ b. None) w.1 (subst (LeadsOver g k plan c.index-seat.result.now c.parts.at c.parts.way c.parts.count) c.in-Nowhere.is c.in_ok-lead.ensures.lead) in
+    let next = to-next g k plan ready of top cut t c.parts.part c.index-seat.result.now c.parts.at x.seat.width (omega (arith, c.parts.auto.part, c.requires.part.0)) x w.0 refl (one_way c.parts.way c.parts.count) (λ b. None) w.1 (subst (LeadsOver g k plan c.index-seat.result.now c.parts.at c.parts.way c.parts.count) c.in-Nowhere.is c.in_ok-led.ensures.lead) in
     ((λ b. None), to-nowhere g k plan ready of top cut t (c.parts.part + 1) (omega (arith, end)) next.1, λ b lb. ap (λ l. choice_in l b) c.parts.invariant.same))
 
 pub offer_along-offer_fork-requires : goal.offer_along-offer_fork-requires
@@ -320,11 +337,19 @@ offer_along-offer_fork-requires t c =
     let from = c.requires.part.0 in
     let first = c.parts.auto.part in
     let end = c.parts-test.true in
-    and_then (omega (arith, c.decreases, first, end)) (and_then c.requires.search (and_then c.requires.top (and_then (omega (arith, first, from), end, c.fits-cut.1.1.1.0.1) (and_then c.parts.invariant.few (and_then c.parts.invariant.ways c.in_ok-lead.ensures.known)))))
+    let g = c.args.search.now.grammar.now in
+    let k = c.args.search.now.input.now in
+    let plan = c.args.search.now.plan.now in
+    let top = c.args.top in
+    let cut = c.args.cut.now in
+    let row : IsRowOfPart g k plan c.lead.new.self top cut (record { way = c.parts.way; count = c.parts.count; part = c.parts.part; at = c.parts.at }) c.in_ok-led.led.row = λ t.
+    let x = part-of g k plan c.requires.search.ready c.requires.search.plan_of top cut t c.parts.part c.index-seat.result.now c.parts.at (omega (arith, first, from)) end c.index-seat.ensures (c.parts.invariant.ways t).0 in
+    subst (λ q. IsRowAt g k plan c.lead.new.self.entries.items c.parts.at q c.parts.count c.in_ok-led.led.row) x.pair (c.in_ok-led.ensures.row c.in-Several.is x.seat x.there) in
+    and_then (omega (arith, c.decreases, first, end)) (and_then c.requires.search (and_then c.requires.top (and_then (omega (arith, first, from), end, omega arith) (and_then c.parts.invariant.few (and_then c.parts.invariant.ways (and_then row c.in_ok-led.ensures.known))))))
 
 pub offer_along-returns-in-Several-clause-grows : goal.offer_along-returns-in-Several-clause-grows
 offer_along-returns-in-Several-clause-grows t c =
-    on_ok c.offer_fork.result (λ more. grows-then c.args.self.now c.lead.new.self c.offer_fork.new.self (grows-then c.args.self.now c.parts.self c.lead.new.self c.parts.invariant.grows c.in_ok-lead.ensures.grows) more) c.offer_fork.ensures.grows
+    on_ok c.offer_fork.result (λ more. grows-then c.args.self.now c.lead.new.self c.offer_fork.new.self (grows-then c.args.self.now c.parts.self c.lead.new.self c.parts.invariant.grows c.in_ok-led.ensures.grows) more) c.offer_fork.ensures.grows
 
 pub offer_along-returns-in-Several-clause-best : goal.offer_along-returns-in-Several-clause-best
 offer_along-returns-in-Several-clause-best t c =
@@ -345,15 +370,15 @@ offer_along-parts-preserved t c =
     let top = c.args.top in
     let cut = c.args.cut.now in
     record {
-      known = c.in_ok-lead.ensures.known;
-      grows = grows-then c.args.self.now c.parts.self c.lead.new.self c.parts.invariant.grows c.in_ok-lead.ensures.grows;
+      known = c.in_ok-led.ensures.known;
+      grows = grows-then c.args.self.now c.parts.self c.lead.new.self c.parts.invariant.grows c.in_ok-led.ensures.grows;
       same = c.parts.invariant.same;
-      few = (subst (LeadsOver g k plan c.index-seat.result.now c.parts.at c.parts.way c.parts.count) c.in-One.is c.in_ok-lead.ensures.lead).0;
+      few = (subst (LeadsOver g k plan c.index-seat.result.now c.parts.at c.parts.way c.parts.count) c.in-One.is c.in_ok-led.ensures.lead).0;
       ways = λ t.
           let w = c.parts.invariant.ways t in
           let x = part-of g k plan ready of top cut t c.parts.part c.index-seat.result.now c.parts.at (omega (arith, c.parts.auto.part, c.requires.part.0)) c.parts-test.true c.index-seat.ensures w.0 in
           let same : c.index.result.now ≡ x.seat = c.index.ensures ∙ get_or_from_slice_get plan.seats.items c.index-seat.result.now x.seat c.index.result.now x.there in
-          let next = to-next g k plan ready of top cut t c.parts.part c.index-seat.result.now c.parts.at c.index.result.now.width (omega (arith, c.parts.auto.part, c.requires.part.0)) x w.0 (ap (λ (s : Seat). s.width) same) (one_way c.parts.way c.parts.count) (one_way c.in-One.next c.in-One.to) w.1 (subst (LeadsOver g k plan c.index-seat.result.now c.parts.at c.parts.way c.parts.count) c.in-One.is c.in_ok-lead.ensures.lead).1 in
+          let next = to-next g k plan ready of top cut t c.parts.part c.index-seat.result.now c.parts.at c.index.result.now.width (omega (arith, c.parts.auto.part, c.requires.part.0)) x w.0 (ap (λ (s : Seat). s.width) same) (one_way c.parts.way c.parts.count) (one_way c.in-One.next c.in-One.to) w.1 (subst (LeadsOver g k plan c.index-seat.result.now c.parts.at c.parts.way c.parts.count) c.in-One.is c.in_ok-led.ensures.lead).1 in
           next;
     }
 
@@ -399,41 +424,9 @@ offer_along-returns-clause-best t c =
 
 -- ---- a fork
 
-pub join_fork-entries_of-requires : goal.join_fork-entries_of-requires
-join_fork-entries_of-requires t c = record { within = (c.in_ok-span.ensures.row c.requires.place.0 c.requires.place.1).within }
-
-pub join_fork-join-requires-clause-entries : goal.join_fork-join-requires-clause-entries
-join_fork-join-requires-clause-entries t c =
-    let s = c.requires.place.0 in
-    let at = c.requires.place.1 in
-    span-entries c.args.search.now.grammar.now c.args.search.now.input.now c.args.search.now.plan.now c.requires.search.ready c.requires.search.plan_of c.args.seat s at c.row.new.self.entries.items c.args.fork.at c.args.fork.count c.in_ok-span.span
-    (c.in_ok-span.ensures.row s at) c.entries_of.result.now c.entries_of.ensures
-
-pub join_fork-returns-clause-ways : goal.join_fork-returns-clause-ways
-join_fork-returns-clause-ways t c = λ s at.
-    let g = c.args.search.now.grammar.now in
-    let k = c.args.search.now.input.now in
-    let ranks = rank_in c.entries_of.result.now 0 in
-    one-on (ground_of g k) c.args.fork.at (pair_of s) c.args.fork.way c.args.fork.count c.requires.count ranks
-    (span-ranked g k c.args.search.now.plan.now c.requires.search.ready c.requires.search.plan_of c.args.seat s at c.row.new.self.entries.items c.args.fork.at c.args.fork.count c.in_ok-span.span
-    (c.in_ok-span.ensures.row s at) c.entries_of.result.now c.entries_of.ensures)
-    (way_in c.join.new.next)
-    (λ b lb. c.join.ensures b lb ∙ ap (λ o. nearer_way o (way_on (Some c.args.fork.way) c.args.fork.count (ranks b))) (c.requires.none b lb) ∙ first-way (way_on (Some c.args.fork.way) c.args.fork.count (ranks b)))
-
-pub offer_fork-join_fork-requires : goal.offer_fork-join_fork-requires
-offer_fork-join_fork-requires t c =
-    let g = c.args.search.now.grammar.now in
-    let k = c.args.search.now.input.now in
-    let plan = c.args.search.now.plan.now in
-    let ready = c.requires.search.ready in
-    let of = c.requires.search.plan_of in
-    let top = c.args.top in
-    let cut = c.args.cut.now in
-    let v = c.requires.ways c.requires.top in
-    let y = part-of g k plan ready of top cut c.requires.top c.args.fork.part c.index-own.result.now c.args.fork.at c.requires.part.0 c.requires.part.1 c.index-own.ensures v.0 in
-    let short = one-short c.args.fork.way c.args.fork.count c.requires.count (to-short g k plan ready of top cut c.requires.top (c.args.fork.part - cut.first) y.few (one_way c.args.fork.way c.args.fork.count) v.1) in
-    let less = part-less g k plan ready of top cut c.requires.top c.args.fork.part c.index-own.result.now c.args.fork.at y in
-    and_then (omega (arith, c.decreases, less)) (and_then c.requires.search (and_then (part-place g k plan ready of top cut c.requires.top c.args.fork.part c.index-own.result.now c.args.fork.at y) (and_then nones (and_then short (and_then c.requires.count c.requires.known)))))
+pub offer_fork-entries_of-entries-requires : goal.offer_fork-entries_of-entries-requires
+offer_fork-entries_of-entries-requires t c =
+    record { within = (c.requires.row c.requires.top).within }
 
 pub offer_fork-index-requires : goal.offer_fork-index-requires
 offer_fork-index-requires t c =
@@ -473,8 +466,8 @@ offer_fork-overflow_add-part t c =
     let fits = c.requires.part.2 in
     omega (arith, high, fits)
 
-pub offer_fork-offer_last-requires : goal.offer_fork-offer_last-requires
-offer_fork-offer_last-requires t c =
+pub offer_fork-join-requires-clause-short : goal.offer_fork-join-requires-clause-short
+offer_fork-join-requires-clause-short t c =
     let g = c.args.search.now.grammar.now in
     let k = c.args.search.now.input.now in
     let plan = c.args.search.now.plan.now in
@@ -483,12 +476,22 @@ offer_fork-offer_last-requires t c =
     let top = c.args.top in
     let cut = c.args.cut.now in
     let v = c.requires.ways c.requires.top in
-    let low = to-low g k plan ready of top cut c.requires.top c.args.fork.part c.requires.part.1 (one_way c.args.fork.way c.args.fork.count) v.1 in
-    and_then (omega (arith, c.decreases)) (and_then c.requires.search (and_then c.requires.top (and_then (c.requires.part.0, c.requires.part.1) (and_then (λ t. (c.requires.ways t).0)
-    (and_then (one-low c.args.fork.way c.args.fork.count c.requires.count low) (and_then c.requires.count c.requires.known))))))
+    let y = part-of g k plan ready of top cut c.requires.top c.args.fork.part c.index-own.result.now c.args.fork.at c.requires.part.0 c.requires.part.1 c.index-own.ensures v.0 in
+    one-short c.args.fork.way c.args.fork.count c.requires.count (to-short g k plan ready of top cut c.requires.top (c.args.fork.part - cut.first) y.few (one_way c.args.fork.way c.args.fork.count) v.1)
 
-pub offer_fork-returns-then-part-cut-clause-best : goal.offer_fork-returns-then-part-cut-clause-best
-offer_fork-returns-then-part-cut-clause-best t c =
+pub offer_fork-join-requires-clause-entries : goal.offer_fork-join-requires-clause-entries
+offer_fork-join-requires-clause-entries t c =
+    let g = c.args.search.now.grammar.now in
+    let k = c.args.search.now.input.now in
+    let plan = c.args.search.now.plan.now in
+    let ready = c.requires.search.ready in
+    let of = c.requires.search.plan_of in
+    let v = c.requires.ways c.requires.top in
+    let y = part-of g k plan ready of c.args.top c.args.cut.now c.requires.top c.args.fork.part c.index-own.result.now c.args.fork.at c.requires.part.0 c.requires.part.1 c.index-own.ensures v.0 in
+    span-entries g k plan ready of c.index-own.result.now y.seat y.there c.args.self.now.entries.items c.args.fork.at c.args.fork.count c.args.row (subst (λ q. IsRowAt g k plan c.args.self.now.entries.items c.args.fork.at q c.args.fork.count c.args.row) (sym y.pair) (c.requires.row c.requires.top)) c.entries_of-entries.result.now c.entries_of-entries.ensures
+
+pub offer_fork-offer_entries-requires : goal.offer_fork-offer_entries-requires
+offer_fork-offer_entries-requires t c =
     let g = c.args.search.now.grammar.now in
     let k = c.args.search.now.input.now in
     let plan = c.args.search.now.plan.now in
@@ -496,13 +499,32 @@ offer_fork-returns-then-part-cut-clause-best t c =
     let of = c.requires.search.plan_of in
     let top = c.args.top in
     let cut = c.args.cut.now in
-    on_ok c.offer_last.result (λ h t.
-    let m = h t in
-    let q = part_at g k plan top cut t c.args.fork.part in
-    let next : ℕ → Option Way = λ b. way_on (Some c.args.fork.way) c.args.fork.count (m.0 b) in
-    let on = one-on (ground_of g k) c.args.fork.at q c.args.fork.way c.args.fork.count c.requires.count m.0 m.1 next (λ b lb. refl) in
+    let v = c.requires.ways c.requires.top in
+    let y = part-of g k plan ready of top cut c.requires.top c.args.fork.part c.index-own.result.now c.args.fork.at c.requires.part.0 c.requires.part.1 c.index-own.ensures v.0 in
+    let low = to-low g k plan ready of top cut c.requires.top c.args.fork.part c.requires.part.1 (one_way c.args.fork.way c.args.fork.count) v.1 in
+    record {
+      low = one-low c.args.fork.way c.args.fork.count c.requires.count low;
+      count = c.requires.count;
+      entries = span-entries g k plan ready of c.index-own.result.now y.seat y.there c.args.self.now.entries.items c.args.fork.at c.args.fork.count c.args.row (subst (λ q. IsRowAt g k plan c.args.self.now.entries.items c.args.fork.at q c.args.fork.count c.args.row) (sym y.pair) (c.requires.row c.requires.top)) c.entries_of-entries.result.now c.entries_of-entries.ensures;
+    }
+
+pub offer_fork-returns-then-part-cut-clause-best : goal.offer_fork-returns-then-part-cut-clause-best
+offer_fork-returns-then-part-cut-clause-best t c = λ t.
+    let g = c.args.search.now.grammar.now in
+    let k = c.args.search.now.input.now in
+    let plan = c.args.search.now.plan.now in
+    let ready = c.requires.search.ready in
+    let of = c.requires.search.plan_of in
+    let top = c.args.top in
+    let cut = c.args.cut.now in
     let v = c.requires.ways t in
-    (next, to-last g k plan ready of top cut t c.args.fork.part c.args.fork.at c.requires.part.0 (omega arith) v.0 (one_way c.args.fork.way c.args.fork.count) next v.1 on, m.2)) c.offer_last.ensures.best
+    let y = part-of g k plan ready of top cut t c.args.fork.part c.index-own.result.now c.args.fork.at c.requires.part.0 c.requires.part.1 c.index-own.ensures v.0 in
+    let ranks = rank_in c.entries_of-entries.result.now 0 in
+    let ranked = span-ranked g k plan ready of c.index-own.result.now y.seat y.there c.args.self.now.entries.items c.args.fork.at c.args.fork.count c.args.row (subst (λ q. IsRowAt g k plan c.args.self.now.entries.items c.args.fork.at q c.args.fork.count c.args.row) (sym y.pair) (c.requires.row t)) c.entries_of-entries.result.now c.entries_of-entries.ensures in
+    let q = part_at g k plan top cut t c.args.fork.part in
+    let next : ℕ → Option Way = λ b. way_on (Some c.args.fork.way) c.args.fork.count (ranks b) in
+    let on = one-on (ground_of g k) c.args.fork.at q c.args.fork.way c.args.fork.count c.requires.count ranks (subst (λ q. IsRanked (ground_of g k) c.args.fork.at q c.args.fork.count ranks) y.pair ranked) next (λ b lb. refl) in
+    (next, to-last g k plan ready of top cut t c.args.fork.part c.args.fork.at c.requires.part.0 (omega arith) v.0 (one_way c.args.fork.way c.args.fork.count) next v.1 on, c.offer_entries.ensures)
 
 pub offer_fork-offer_rest-requires : goal.offer_fork-offer_rest-requires
 offer_fork-offer_rest-requires t c =
@@ -515,15 +537,22 @@ offer_fork-offer_rest-requires t c =
     let cut = c.args.cut.now in
     let high = c.requires.part.1 in
     let first = c.requires.part.0 in
-    let ways : AreWaysTo g k plan top cut (c.args.fork.part + 1) (c.args.fork.at + c.index.result.now.width) (way_in c.join_fork.new.ways) = λ t.
+    let own = c.index-own.result.now in
+    let v = c.requires.ways c.requires.top in
+    let y = part-of g k plan ready of top cut c.requires.top c.args.fork.part own c.args.fork.at c.requires.part.0 c.requires.part.1 c.index-own.ensures v.0 in
+    let row : IsRowAt g k plan c.args.self.now.entries.items c.args.fork.at (pair_of y.seat) c.args.fork.count c.args.row = subst (λ q. IsRowAt g k plan c.args.self.now.entries.items c.args.fork.at q c.args.fork.count c.args.row) (sym y.pair) (c.requires.row c.requires.top) in
+    let ranks = rank_in c.entries_of-entries.result.now 0 in
+    let over : AreWaysOver g k plan own c.args.fork.at (one_way c.args.fork.way c.args.fork.count) (way_in c.join.new.next) = λ s at.
+    one-on (ground_of g k) c.args.fork.at (pair_of s) c.args.fork.way c.args.fork.count c.requires.count ranks
+    (span-ranked g k plan ready of own s at c.args.self.now.entries.items c.args.fork.at c.args.fork.count c.args.row (subst (λ (s : Seat). IsRowAt g k plan c.args.self.now.entries.items c.args.fork.at (pair_of s) c.args.fork.count c.args.row) (seat-same plan own own y.seat s refl y.there at) row) c.entries_of-entries.result.now c.entries_of-entries.ensures)
+    (way_in c.join.new.next)
+    (λ b lb. c.join.ensures b lb ∙ ap (λ o. nearer_way o (way_on (Some c.args.fork.way) c.args.fork.count (ranks b))) (nones b lb) ∙ first-way (way_on (Some c.args.fork.way) c.args.fork.count (ranks b))) in
+    let ways : AreWaysTo g k plan top cut (c.args.fork.part + 1) (c.args.fork.at + c.index.result.now.width) (way_in c.join.new.next) = λ t.
     let v = c.requires.ways t in
-    let y = part-of g k plan ready of top cut t c.args.fork.part c.index-own.result.now c.args.fork.at c.requires.part.0 c.requires.part.1 c.index-own.ensures v.0 in
-    let same : c.index.result.now ≡ y.seat = c.index.ensures ∙ get_or_from_slice_get plan.seats.items c.index-own.result.now y.seat c.index.result.now y.there in
-    to-next g k plan ready of top cut t c.args.fork.part c.index-own.result.now c.args.fork.at c.index.result.now.width c.requires.part.0 y v.0 (ap (λ (s : Seat). s.width) same) (one_way c.args.fork.way c.args.fork.count) (way_in c.join_fork.new.ways) v.1 c.in_ok-join_fork.ensures.ways in
-    and_then (omega (arith, c.decreases, high)) (and_then c.requires.search (and_then c.requires.top (and_then (omega (arith, first), omega (arith, high), c.requires.part.2) (and_then ways c.in_ok-join_fork.ensures.known))))
-
-pub offer_fork-returns-clause-grows : goal.offer_fork-returns-clause-grows
-offer_fork-returns-clause-grows t c = on_ok c.offer_rest.result (λ more. grows-then c.args.self.now c.join_fork.new.self c.offer_rest.new.self c.in_ok-join_fork.ensures.grows more) c.offer_rest.ensures.grows
+    let y = part-of g k plan ready of top cut t c.args.fork.part own c.args.fork.at c.requires.part.0 c.requires.part.1 c.index-own.ensures v.0 in
+    let same : c.index.result.now ≡ y.seat = c.index.ensures ∙ get_or_from_slice_get plan.seats.items own y.seat c.index.result.now y.there in
+    to-next g k plan ready of top cut t c.args.fork.part own c.args.fork.at c.index.result.now.width c.requires.part.0 y v.0 (ap (λ (s : Seat). s.width) same) (one_way c.args.fork.way c.args.fork.count) (way_in c.join.new.next) v.1 over in
+    and_then (omega (arith, c.decreases, high)) (and_then c.requires.search (and_then c.requires.top (and_then (omega (arith, first), omega (arith, high), c.requires.part.2) (and_then ways c.requires.known))))
 
 -- ---- the last part
 
@@ -770,8 +799,16 @@ pub offer_rest-offer_several-requires : goal.offer_rest-offer_several-requires
 offer_rest-offer_several-requires t c =
     and_then (omega (arith, c.decreases)) (and_then c.requires.search (and_then c.requires.top (and_then (c.requires.part.0, omega arith) (and_then c.requires.ways c.requires.known))))
 
-pub offer_rest-over_rows-requires : goal.offer_rest-over_rows-requires
-offer_rest-over_rows-requires t c =
+pub offer_rest-offer_over-requires : goal.offer_rest-offer_over-requires
+offer_rest-offer_over-requires t c =
+    let high = c.requires.part.1 in
+    let other = c.if-part-cut.false in
+    and_then (omega (arith, c.decreases)) (and_then c.requires.search (and_then c.requires.top (and_then (c.requires.part.0, omega (arith, high, other), c.requires.part.2) (and_then c.requires.ways c.requires.known))))
+
+-- ---- several ways over a part that others come after
+
+pub offer_over-index-requires : goal.offer_over-index-requires
+offer_over-index-requires t c =
     let g = c.args.search.now.grammar.now in
     let k = c.args.search.now.input.now in
     let plan = c.args.search.now.plan.now in
@@ -779,15 +816,55 @@ offer_rest-over_rows-requires t c =
     let of = c.requires.search.plan_of in
     let top = c.args.top in
     let cut = c.args.cut.now in
+    let more = c.requires.part.1 in
+    let high : c.args.next.part < cut.end = omega (arith, more) in
     let v = c.requires.ways c.requires.top in
     let own = c.index-seat.result.now in
-    let y = part-of g k plan ready of top cut c.requires.top c.args.next.part own c.args.next.at c.requires.part.0 c.requires.part.1 c.index-seat.ensures v.0 in
+    let y = part-of g k plan ready of top cut c.requires.top c.args.next.part own c.args.next.at c.requires.part.0 high c.index-seat.ensures v.0 in
+    let low = slice_get_within plan.seats.items own y.seat y.there in
+    omega (arith, low)
+
+pub offer_over-overflow_add-at : goal.offer_over-overflow_add-at
+offer_over-overflow_add-at t c =
+    let g = c.args.search.now.grammar.now in
+    let k = c.args.search.now.input.now in
+    let plan = c.args.search.now.plan.now in
+    let ready = c.requires.search.ready in
+    let of = c.requires.search.plan_of in
+    let top = c.args.top in
+    let cut = c.args.cut.now in
+    let more = c.requires.part.1 in
+    let high : c.args.next.part < cut.end = omega (arith, more) in
+    let v = c.requires.ways c.requires.top in
+    let own = c.index-seat.result.now in
+    let y = part-of g k plan ready of top cut c.requires.top c.args.next.part own c.args.next.at c.requires.part.0 high c.index-seat.ensures v.0 in
+    let same : c.index.result.now ≡ y.seat = c.index.ensures ∙ get_or_from_slice_get plan.seats.items own y.seat c.index.result.now y.there in
+    let width = ap (λ (s : Seat). s.width) same in
+    let within = y.within in
+    let most = ready.readable.ranges.few_units in
+    let units = ready.units in
+    omega (arith, width, within, most, units)
+
+pub offer_over-over_rows-requires : goal.offer_over-over_rows-requires
+offer_over-over_rows-requires t c =
+    let g = c.args.search.now.grammar.now in
+    let k = c.args.search.now.input.now in
+    let plan = c.args.search.now.plan.now in
+    let ready = c.requires.search.ready in
+    let of = c.requires.search.plan_of in
+    let top = c.args.top in
+    let cut = c.args.cut.now in
+    let more = c.requires.part.1 in
+    let high : c.args.next.part < cut.end = omega (arith, more) in
+    let v = c.requires.ways c.requires.top in
+    let own = c.index-seat.result.now in
+    let y = part-of g k plan ready of top cut c.requires.top c.args.next.part own c.args.next.at c.requires.part.0 high c.index-seat.ensures v.0 in
     let short = to-short g k plan ready of top cut c.requires.top (c.args.next.part - cut.first) y.few (way_in c.args.ways.now) v.1 in
     let less = part-less g k plan ready of top cut c.requires.top c.args.next.part own c.args.next.at y in
     and_then (omega (arith, c.decreases, less)) (and_then c.requires.search (and_then (part-place g k plan ready of top cut c.requires.top c.args.next.part own c.args.next.at y) (and_then nones (and_then short c.requires.known))))
 
-pub offer_rest-offer_rest-requires : goal.offer_rest-offer_rest-requires
-offer_rest-offer_rest-requires t c =
+pub offer_over-offer_rest-requires : goal.offer_over-offer_rest-requires
+offer_over-offer_rest-requires t c =
     let g = c.args.search.now.grammar.now in
     let k = c.args.search.now.input.now in
     let plan = c.args.search.now.plan.now in
@@ -795,19 +872,20 @@ offer_rest-offer_rest-requires t c =
     let of = c.requires.search.plan_of in
     let top = c.args.top in
     let cut = c.args.cut.now in
+    let more = c.requires.part.1 in
+    let high : c.args.next.part < cut.end = omega (arith, more) in
     let own = c.index-seat.result.now in
-    let high = c.requires.part.1 in
     let first = c.requires.part.0 in
     let next = way_in c.over_rows.new.next in
     let ways : AreWaysTo g k plan top cut (c.args.next.part + 1) (c.args.next.at + c.index.result.now.width) next = (λ t.
     let v = c.requires.ways t in
-    let y = part-of g k plan ready of top cut t c.args.next.part own c.args.next.at c.requires.part.0 c.requires.part.1 c.index-seat.ensures v.0 in
+    let y = part-of g k plan ready of top cut t c.args.next.part own c.args.next.at c.requires.part.0 high c.index-seat.ensures v.0 in
     let same : c.index.result.now ≡ y.seat = c.index.ensures ∙ get_or_from_slice_get plan.seats.items own y.seat c.index.result.now y.there in
-    to-next g k plan ready of top cut t c.args.next.part own c.args.next.at c.index.result.now.width c.requires.part.0 y v.0 (ap (λ (s : Seat). s.width) same) (way_in c.args.ways.now) (next) v.1 (c.in_ok-over_rows-in-None.ensures.ways)) in
-    and_then (omega (arith, c.decreases, high)) (and_then c.requires.search (and_then c.requires.top (and_then (omega (arith, first), omega (arith, high), c.requires.part.2) (and_then ways c.in_ok-over_rows-in-None.ensures.known))))
+    to-next g k plan ready of top cut t c.args.next.part own c.args.next.at c.index.result.now.width c.requires.part.0 y v.0 (ap (λ (s : Seat). s.width) same) (way_in c.args.ways.now) (next) v.1 (c.in_ok-over_rows.ensures.ways)) in
+    and_then (omega (arith, c.decreases, more)) (and_then c.requires.search (and_then c.requires.top (and_then (omega (arith, first), omega (arith, more), c.requires.part.2) (and_then ways c.in_ok-over_rows.ensures.known))))
 
-pub offer_rest-returns-in_ok-over_rows-in-None-clause-grows : goal.offer_rest-returns-in_ok-over_rows-in-None-clause-grows
-offer_rest-returns-in_ok-over_rows-in-None-clause-grows t c = on_ok c.offer_rest.result (λ more. grows-then c.args.self.now c.over_rows.new.self c.offer_rest.new.self c.in_ok-over_rows-in-None.ensures.grows more) c.offer_rest.ensures.grows
+pub offer_over-returns-clause-grows : goal.offer_over-returns-clause-grows
+offer_over-returns-clause-grows t c = on_ok c.offer_rest.result (λ more. grows-then c.args.self.now c.over_rows.new.self c.offer_rest.new.self c.in_ok-over_rows.ensures.grows more) c.offer_rest.ensures.grows
 
 -- ---- one way alone, where there is one
 
@@ -844,7 +922,7 @@ offer_alone-offer_along-requires t c =
 pub offer_alone-returns-clause-best : goal.offer_alone-returns-clause-best
 offer_alone-returns-clause-best t c = on_ok c.offer_along.result (λ h. elim h [
   | inl offered ↦ offered
-  | inr passed ↦ λ t. let over = (passed.1 t).4 in absurd (cc over)
+  | inr passed ↦ λ t. let over = (passed.1 t).4 in let small = (passed.1 t).5 in absurd (omega (arith, over, small))
 ]) c.offer_along.ensures.best
 
 -- ---- the cuts of a seat

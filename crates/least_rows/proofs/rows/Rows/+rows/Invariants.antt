@@ -13,9 +13,6 @@ decreases-find_row l = 64 * width_at l.search.now.plan.now l.seat + 57
 abbrev pub decreases-join_row : goal.decreases-join_row
 decreases-join_row l = 64 * width_at l.search.now.plan.now l.seat + 59
 
-abbrev pub decreases-join_fork : goal.decreases-join_fork
-decreases-join_fork l = 64 * width_at l.search.now.plan.now l.seat + 59
-
 abbrev pub decreases-lead : goal.decreases-lead
 decreases-lead l = 64 * width_at l.search.now.plan.now l.seat + 59
 
@@ -33,6 +30,9 @@ decreases-offer_along l = 64 * width_at l.search.now.plan.now l.top.seat + 3 * (
 
 abbrev pub decreases-offer_rest : goal.decreases-offer_rest
 decreases-offer_rest l = 64 * width_at l.search.now.plan.now l.top.seat + 3 * (l.cut.now.end - l.next.part) + 3
+
+abbrev pub decreases-offer_over : goal.decreases-offer_over
+decreases-offer_over l = 64 * width_at l.search.now.plan.now l.top.seat + 3 * (l.cut.now.end - l.next.part) + 2
 
 abbrev pub decreases-offer_alone : goal.decreases-offer_alone
 decreases-offer_alone l = 64 * width_at l.search.now.plan.now l.top.seat + 3 * (l.cut.now.end - l.next.part) + 3
