@@ -3,14 +3,13 @@ use Rattle.std.specs.Prelude.{◌≡◌, ℕ, ◌+◌, ◌-◌, ◌<◌, ◌≤�
 use Rattle.rhythm_base.specs.BarInput.{BarInput}
 use Rattle.rhythm_base.specs.Bodies.{children, sizes}
 use Rattle.rhythm_base.specs.Grammar.{Grammar}
-use Rattle.row_laws.specs.BestRules as best
 use Rattle.row_laws.specs.Grounds.{ground_of}
 use Rattle.grammar_plan.specs.Plans.{IsCutOf, pair_of}
 use Rattle.grammar_plan.specs.declared.cut.Cut.{Cut}
 use Rattle.grammar_plan.specs.declared.plan.Plan.{Plan}
 use Rattle.grammar_plan.specs.declared.seat.Seat.{Seat}
 use Rattle.least_rows.specs.Choices.{choice_in, nearer_choice, topped_choice}
-use Rattle.least_rows.specs.Ways.{AreWays, AreWaysBelow, IsRanked, one_way, way_on}
+use Rattle.least_rows.specs.Ways.{AreWays, AreWaysBelow, one_way}
 use Rattle.least_rows.specs.declared.choice.Choice.{Choice}
 use Rattle.least_rows.specs.declared.fork.Fork.{Fork}
 use Rattle.least_rows.specs.States.{IsRowAt}
@@ -47,10 +46,6 @@ IsOffered g k plan top cut old new =
     × AreWays (ground_of g k) top.place (parts_of g k plan top cut t) top.from (length (parts_of g k plan top cut t)) ways
     × ((b : ℕ) → b < 5 → choice_in new b ≡ nearer_choice (choice_in old b) (topped_choice cut top.number (ways b)))
 
--- a part of the cut begins at this unit
-abbrev pub BeginsAt : Grammar → BarInput → Plan → Top → Cut → (part at : ℕ) → Type 0
-BeginsAt g k plan top cut part at = (t : IsTop g k plan top cut) → at ≡ top.place + sizes (take (part - cut.first) (parts_of g k plan top cut t))
-
 -- the width and symbol of a part
 abbrev pub part_at : (g : Grammar) (k : BarInput) (plan : Plan) (top : Top) (cut : Cut) → IsTop g k plan top cut → ℕ → ℕ × ℕ
 part_at g k plan top cut t part = slice_index_or (parts_of g k plan top cut t) (part - cut.first) (0, 0)
@@ -65,14 +60,7 @@ IsPassed g k plan top cut limit old new =
     (new ≡ old) × ((t : IsTop g k plan top cut) → (n : ℕ) × (w : Way) × (m : ℕ)
     × AreWays (ground_of g k) top.place (parts_of g k plan top cut t) top.from n (one_way w m) × (limit < w.cost) × (w.cost < 2 ^ 64))
 
--- the way up to the part was offered with each entry over it, with the cut on top
-abbrev pub AreEntriesOffered : Grammar → BarInput → Plan → Top → Cut → Fork → (old new : List (Option Choice)) → Type 0
-AreEntriesOffered g k plan top cut fork old new =
-    (t : IsTop g k plan top cut) → (ranks : ℕ → Option best.Choice)
-    × IsRanked (ground_of g k) fork.at (part_at g k plan top cut t fork.part) fork.count ranks
-    × ((b : ℕ) → b < 5 → choice_in new b ≡ nearer_choice (choice_in old b) (topped_choice cut top.number (way_on (Some fork.way) fork.count (ranks b))))
-
--- the same of the ways out of which fewer than n chords are carried
+-- the ways out of which fewer than n chords are carried up to the part were offered with each entry after them, with the cut on top
 abbrev pub AreOfferedBelow : Grammar → BarInput → Plan → Top → Cut → (part at : ℕ) → (ℕ → Option Way) → ℕ → (old new : List (Option Choice)) → Type 0
 AreOfferedBelow g k plan top cut part at ways n old new =
     (t : IsTop g k plan top cut) → (next : ℕ → Option Way)

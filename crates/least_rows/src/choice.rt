@@ -101,10 +101,11 @@ pub fn offer_entries(
     requires entries { AreEntries entries.now }
     ensures { (b : ℕ) → b < 5 → choice_in best.new b ≡ nearer_choice (choice_in best.old b) (topped_choice cut.now number (way_on (Some way) count (rank_in entries.now 0 b))) }
 {
+    let cut = *cut;
     let mut rank = 0u8;
     'entries: for entry in entries {
         let whole = way.then(count, entry.cost, rank);
-        offer_way(&mut best[entry.to as usize], whole, cut, number);
+        offer_way(&mut best[entry.to as usize], whole, &cut, number);
         rank += 1;
     }
 }

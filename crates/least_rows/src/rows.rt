@@ -1,14 +1,13 @@
 ghost use Rattle.grammar_plan.specs.Plans.{pair_of};
 ghost use Rattle.grammar_plan.specs.declared.seat.Seat.{Seat};
 ghost use Rattle.least_rows.specs.Choices.{RulesBefore};
-ghost use Rattle.least_rows.specs.Ways.{AreShort, IsSmallWay, IsShort, one_way, way_in};
+ghost use Rattle.least_rows.specs.Ways.{AreShort, IsShort, one_way, way_in};
 ghost use Rattle.least_rows.specs.Places.{HasPlace};
 ghost use Rattle.least_rows.specs.Searches.{IsSearch};
 ghost use Rattle.least_rows.specs.States.{AreKnown, Grows, HasState, IsRowAt};
 ghost use Rattle.least_rows.specs.Steps.{
   AreChoicesOf,
   AreWaysOver,
-  AreWaysOverBelow,
   EndsThere,
   IsRowOf,
   KeepsRow,
@@ -16,7 +15,7 @@ ghost use Rattle.least_rows.specs.Steps.{
   way_to_none,
 };
 ghost use Rattle.least_rows.specs.declared.lead.Lead.TheVariants.{Several};
-ghost use Rattle.least_rows.specs.Tops.{AreEntriesOffered, AreWaysTo, BeginsAt, IsOffered, IsPassed, IsRowOfPart, IsTop};
+ghost use Rattle.least_rows.specs.Tops.{AreWaysTo, IsOffered, IsPassed, IsRowOfPart, IsTop};
 ghost use Rattle.grammar_plan.specs.Plans.{between};
 ghost use Rattle.row_laws.specs.LeafRules.{EndsInterval};
 ghost use Rattle.std.specs.Prelude.{
@@ -195,6 +194,29 @@ impl Rows {
             → IsRowAt search.now.grammar.now search.now.input.now search.now.plan.now self.new.entries.items place (pair_of s) from span) }
     {
         let number = self.state(search, seat, place)?;
+        self.row_of(search, number, seat, place, from)
+    }
+
+    /// The row of a state.
+    #[cycle(rows)]
+    #[inline(always)]
+    fn row_of(
+        &mut self,
+        search: &Search<'_>,
+        number: usize,
+        seat: u32,
+        place: u16,
+        from: u8,
+    ) -> Result<RowSpan, AllocError>
+        requires search { IsSearch search.now.grammar.now search.now.input.now search.now.plan.now search.now.view.now }
+        requires place { HasPlace search.now.input.now search.now.plan.now seat place }
+        requires from { from < 5 }
+        requires known { AreKnown search.now.grammar.now search.now.input.now search.now.plan.now self.old }
+        requires state { HasState self.old number seat place }
+        ensures known { OnOk result (AreKnown search.now.grammar.now search.now.input.now search.now.plan.now self.new) }
+        ensures grows { OnOk result (Grows self.old self.new) }
+        ensures row { IfOk result (IsRowOf search.now.grammar.now search.now.input.now search.now.plan.now self.new seat place from) }
+    {
         match self.states[number].rows[from as usize] {
             Some(span) => Ok(span),
             None => {
@@ -446,41 +468,6 @@ impl Rows {
         self.offer_rest(search, top, cut, PartAt { part, at }, &ways, best)
     }
 
-    /// Offers the trees with this cut on top that go one way up to the last part.
-    #[cycle(rows)]
-    #[inline(always)]
-    fn offer_last(
-        &mut self,
-        search: &Search<'_>,
-        top: Top,
-        cut: &Cut,
-        fork: Fork,
-        best: &mut Choices,
-    ) -> Result<(), AllocError>
-        requires search { IsSearch search.now.grammar.now search.now.input.now search.now.plan.now search.now.view.now }
-        requires top { IsTop search.now.grammar.now search.now.input.now search.now.plan.now top cut.now }
-        requires part { (cut.now.first ≤ fork.part) × (fork.part < cut.now.end) }
-        requires begin { BeginsAt search.now.grammar.now search.now.input.now search.now.plan.now top cut.now fork.part fork.at }
-        requires low { IsSmallWay fork.way }
-        requires count { fork.count < 5 }
-        requires known { AreKnown search.now.grammar.now search.now.input.now search.now.plan.now self.old }
-        ensures known { OnOk result (AreKnown search.now.grammar.now search.now.input.now search.now.plan.now self.new) }
-        ensures grows { OnOk result (Grows self.old self.new) }
-        ensures best { OnOk result (AreEntriesOffered search.now.grammar.now search.now.input.now search.now.plan.now top cut.now fork best.old best.new) }
-    {
-        let own = search.plan.parts[fork.part as usize];
-        let span = self.row(search, own, fork.at, fork.count)?;
-        offer_entries(
-            best,
-            cut,
-            top.number,
-            fork.way,
-            fork.count,
-            self.entries_of(span),
-        );
-        Ok(())
-    }
-
     /// Offers the trees with this cut on top that go these ways up to a part.
     #[cycle(rows)]
     #[inline(never)]
@@ -603,22 +590,19 @@ impl Rows {
         ensures grows { OnOk result (Grows self.old self.new) }
         ensures best { OnOk result (IsOffered search.now.grammar.now search.now.input.now search.now.plan.now top cut.now best.old best.new) }
     {
+        let own = search.plan.parts[last.part as usize];
+        let number = self.state(search, own, last.at)?;
         'counts: for count in 0..5u8 {
             let Some(way) = ways[count as usize] else {
                 continue;
             };
-            let fork = Fork {
-                way,
-                count,
-                part: last.part,
-                at: last.at,
-            };
-            self.offer_last(search, top, cut, fork, best)?;
+            let span = self.row_of(search, number, own, last.at, count)?;
+            offer_entries(best, cut, top.number, way, count, self.entries_of(span));
         }
         Ok(())
     }
 
-    /// The same by the rows of the seat.
+    /// The ways with a tree of the seat after them, by its rows.
     #[cycle(rows)]
     #[inline(always)]
     fn over_rows(
@@ -638,41 +622,14 @@ impl Rows {
         ensures grows { OnOk result (Grows self.old self.new) }
         ensures ways { OnOk result (AreWaysOver search.now.grammar.now search.now.input.now search.now.plan.now seat place (way_in ways.now) (way_in next.new)) }
     {
+        let number = self.state(search, seat, place)?;
         'counts: for count in 0..5u8 {
-            self.join_row(search, next, ways, count, seat, place)?;
+            let Some(way) = ways[count as usize] else {
+                continue;
+            };
+            let span = self.row_of(search, number, seat, place, count)?;
+            join(next, way, count, self.entries_of(span));
         }
         Ok(())
-    }
-
-    /// Offers the way out of which `count` chords are carried with the entries after it of the seat's row for that count.
-    #[cycle(rows)]
-    #[inline(always)]
-    fn join_row(
-        &mut self,
-        search: &Search<'_>,
-        next: &mut [Option<Way>; 5],
-        ways: &[Option<Way>; 5],
-        count: u8,
-        seat: u32,
-        place: u16,
-    ) -> Result<(), AllocError>
-        requires search { IsSearch search.now.grammar.now search.now.input.now search.now.plan.now search.now.view.now }
-        requires place { HasPlace search.now.input.now search.now.plan.now seat place }
-        requires count { count < 5 }
-        requires short { AreShort (way_in ways.now) }
-        requires known { AreKnown search.now.grammar.now search.now.input.now search.now.plan.now self.old }
-        requires below { AreWaysOverBelow search.now.grammar.now search.now.input.now search.now.plan.now seat place (way_in ways.now) count (way_in next.old) }
-        ensures known { OnOk result (AreKnown search.now.grammar.now search.now.input.now search.now.plan.now self.new) }
-        ensures grows { OnOk result (Grows self.old self.new) }
-        ensures below { OnOk result (AreWaysOverBelow search.now.grammar.now search.now.input.now search.now.plan.now seat place (way_in ways.now) (count + 1) (way_in next.new)) }
-    {
-        match ways[count as usize] {
-            None => Ok(()),
-            Some(way) => {
-                let span = self.row(search, seat, place, count)?;
-                join(next, way, count, self.entries_of(span));
-                Ok(())
-            }
-        }
     }
 }

@@ -65,13 +65,16 @@ one-low w m low h = h m w low (own (m == m) (grind (arith, nat_tests)))
 
 -- ---- a row
 
-pub row-returns-in-Some-clause-row : goal.row-returns-in-Some-clause-row
-row-returns-in-Some-clause-row t c =
-    let rows = c.state.new.self in
-    let h = c.in_ok-number.ensures.state in
-    let low = slice_get_within rows.states.items c.in_ok-number.number h.0 h.1 in
-    let at : slice_get rows.states.items c.in_ok-number.number ≡ Some c.index.result.now = slice_get_read rows.states.items (length rows.states.items) c.in_ok-number.number c.index.result.now refl low c.index.ensures in
-    row-of c.args.search.now.grammar.now c.args.search.now.input.now c.args.search.now.plan.now rows c.in_ok-number.number c.args.seat c.args.place c.args.from c.in-Some.span c.in_ok-number.ensures.known h c.requires.from (c.index.result.now, at, c.in-Some.is)
+pub row-returns-clause-grows : goal.row-returns-clause-grows
+row-returns-clause-grows t c = on_ok c.row_of.result (λ more. grows-then c.args.self.now c.state.new.self c.row_of.new.self c.in_ok-number.ensures.grows more) c.row_of.ensures.grows
+
+pub row_of-returns-in-Some-clause-row : goal.row_of-returns-in-Some-clause-row
+row_of-returns-in-Some-clause-row t c =
+    let rows = c.args.self.now in
+    let h = c.requires.state in
+    let low = slice_get_within rows.states.items c.args.number h.0 h.1 in
+    let at : slice_get rows.states.items c.args.number ≡ Some c.index.result.now = slice_get_read rows.states.items (length rows.states.items) c.args.number c.index.result.now refl low c.index.ensures in
+    row-of c.args.search.now.grammar.now c.args.search.now.input.now c.args.search.now.plan.now rows c.args.number c.args.seat c.args.place c.args.from c.in-Some.span c.requires.known h c.requires.from (c.index.result.now, at, c.in-Some.is)
 
 -- ---- the row of a state
 
@@ -107,40 +110,55 @@ find_row-returns-clause-row t c =
 
 -- ---- several ways
 
-pub join_row-entries_of-requires : goal.join_row-entries_of-requires
-join_row-entries_of-requires t c = record { within = (c.in_ok-span-in-Some.ensures.row c.requires.place.0 c.requires.place.1).within }
+pub over_rows-entries_of-requires : goal.over_rows-entries_of-requires
+over_rows-entries_of-requires t c = record { within = (c.in_ok-span.ensures.row c.requires.place.0 c.requires.place.1).within }
 
-pub join_row-join-requires-clause-entries : goal.join_row-join-requires-clause-entries
-join_row-join-requires-clause-entries t c =
+pub over_rows-join-requires-clause-entries : goal.over_rows-join-requires-clause-entries
+over_rows-join-requires-clause-entries t c =
     let s = c.requires.place.0 in
     let at = c.requires.place.1 in
-    span-entries c.args.search.now.grammar.now c.args.search.now.input.now c.args.search.now.plan.now c.requires.search.ready c.requires.search.plan_of c.args.seat s at c.row.new.self.entries.items c.args.place c.args.count c.in_ok-span-in-Some.span
-    (c.in_ok-span-in-Some.ensures.row s at) c.entries_of.result.now c.entries_of.ensures
+    span-entries c.args.search.now.grammar.now c.args.search.now.input.now c.args.search.now.plan.now c.requires.search.ready c.requires.search.plan_of c.args.seat s at c.row_of.new.self.entries.items c.args.place c.counts.count c.in_ok-span.span
+    (c.in_ok-span.ensures.row s at) c.entries_of.result.now c.entries_of.ensures
 
-pub join_row-returns-in-None-clause-below : goal.join_row-returns-in-None-clause-below
-join_row-returns-in-None-clause-below t c = λ s at.
-    let d = ground_of c.args.search.now.grammar.now c.args.search.now.input.now in
-    next-one (λ n. AreWaysBelow d c.args.place (pair_of s) (way_in c.args.ways.now) n (way_in c.args.next.now)) c.args.count
-    (below-skip d c.args.place (pair_of s) (way_in c.args.ways.now) c.args.count (way_in c.args.next.now) (way_in c.args.next.now) (c.requires.below s at) c.in-None.is (λ b lb. refl))
+pub over_rows-counts-preserved-in_default : goal.over_rows-counts-preserved-in_default
+over_rows-counts-preserved-in_default t c = record {
+  known = c.counts.invariant.known;
+  grows = c.counts.invariant.grows;
+  state = c.counts.invariant.state;
+  below = λ s at.
+      let d = ground_of c.args.search.now.grammar.now c.args.search.now.input.now in
+      next-one (λ n. AreWaysBelow d c.args.place (pair_of s) (way_in c.args.ways.now) n (way_in c.counts.next)) c.counts.count
+      (below-skip d c.args.place (pair_of s) (way_in c.args.ways.now) c.counts.count (way_in c.counts.next) (way_in c.counts.next) (c.counts.invariant.below s at) (no-way _ c.in_default.not-Some) (λ b lb. refl));
+}
 
-pub join_row-returns-in_ok-span-in-Some-clause-below : goal.join_row-returns-in_ok-span-in-Some-clause-below
-join_row-returns-in_ok-span-in-Some-clause-below t c = λ s at.
-    let g = c.args.search.now.grammar.now in
-    let k = c.args.search.now.input.now in
-    let d = ground_of g k in
-    let ranks = rank_in c.entries_of.result.now 0 in
-    next-one (λ n. AreWaysBelow d c.args.place (pair_of s) (way_in c.args.ways.now) n (way_in c.join.new.next)) c.args.count
-    (below-more d c.args.place (pair_of s) (way_in c.args.ways.now) c.args.count (way_in c.args.next.now) (way_in c.join.new.next) (c.requires.below s at) ranks
-    (span-ranked g k c.args.search.now.plan.now c.requires.search.ready c.requires.search.plan_of c.args.seat s at c.row.new.self.entries.items c.args.place c.args.count c.in_ok-span-in-Some.span
-    (c.in_ok-span-in-Some.ensures.row s at) c.entries_of.result.now c.entries_of.ensures)
-    (λ b lb. c.join.ensures b lb ∙ ap (λ o. nearer_way (way_in c.args.next.now b) (way_on o c.args.count (ranks b))) (sym c.in-Some.is)))
+pub over_rows-counts-preserved : goal.over_rows-counts-preserved
+over_rows-counts-preserved t c = record {
+  known = c.in_ok-span.ensures.known;
+  grows = grows-then c.state.new.self c.counts.self c.row_of.new.self c.counts.invariant.grows c.in_ok-span.ensures.grows;
+  state = c.in_ok-span.ensures.grows.states _ _ _ c.counts.invariant.state;
+  below = λ s at.
+      let g = c.args.search.now.grammar.now in
+      let k = c.args.search.now.input.now in
+      let d = ground_of g k in
+      let n = c.counts.count in
+      let ranks = rank_in c.entries_of.result.now 0 in
+      next-one (λ n. AreWaysBelow d c.args.place (pair_of s) (way_in c.args.ways.now) n (way_in c.join.new.next)) n
+      (below-more d c.args.place (pair_of s) (way_in c.args.ways.now) n (way_in c.counts.next) (way_in c.join.new.next) (c.counts.invariant.below s at) ranks
+      (span-ranked g k c.args.search.now.plan.now c.requires.search.ready c.requires.search.plan_of c.args.seat s at c.row_of.new.self.entries.items c.args.place n c.in_ok-span.span
+      (c.in_ok-span.ensures.row s at) c.entries_of.result.now c.entries_of.ensures)
+      (λ b lb. c.join.ensures b lb ∙ ap (λ o. nearer_way (way_in c.counts.next b) (way_on o n (ranks b))) (sym c.in-Some.is)));
+}
 
 pub over_rows-counts-init : goal.over_rows-counts-init
 over_rows-counts-init t c = record {
-  known = c.requires.known;
-  grows = grows-none c.args.self.now;
+  known = c.in_ok-number.ensures.known;
+  grows = grows-none c.state.new.self;
+  state = c.in_ok-number.ensures.state;
   below = λ s at. below-none (ground_of c.args.search.now.grammar.now c.args.search.now.input.now) c.args.place (pair_of s) (way_in c.args.ways.now) (way_in c.args.next.now) c.requires.none;
 }
+
+pub over_rows-returns-clause-grows : goal.over_rows-returns-clause-grows
+over_rows-returns-clause-grows t c = grows-then c.args.self.now c.state.new.self c.counts.self c.in_ok-number.ensures.grows c.counts.invariant.grows
 
 pub over_rows-returns-clause-ways : goal.over_rows-returns-clause-ways
 over_rows-returns-clause-ways t c = λ s at.
@@ -554,70 +572,13 @@ offer_fork-offer_rest-requires t c =
     to-next g k plan ready of top cut t c.args.fork.part own c.args.fork.at c.index.result.now.width c.requires.part.0 y v.0 (ap (λ (s : Seat). s.width) same) (one_way c.args.fork.way c.args.fork.count) (way_in c.join.new.next) v.1 over in
     and_then (omega (arith, c.decreases, high)) (and_then c.requires.search (and_then c.requires.top (and_then (omega (arith, first), omega (arith, high), c.requires.part.2) (and_then ways c.requires.known))))
 
--- ---- the last part
-
-pub offer_last-row-requires : goal.offer_last-row-requires
-offer_last-row-requires t c =
-    let g = c.args.search.now.grammar.now in
-    let k = c.args.search.now.input.now in
-    let plan = c.args.search.now.plan.now in
-    let ready = c.requires.search.ready in
-    let of = c.requires.search.plan_of in
-    let top = c.args.top in
-    let cut = c.args.cut.now in
-    let at = c.args.fork.at in
-    let own = c.index-own.result.now in
-    let y = part-of g k plan ready of top cut c.requires.top c.args.fork.part own at c.requires.part.0 c.requires.part.1 c.index-own.ensures (c.requires.begin c.requires.top) in
-    let less = part-less g k plan ready of top cut c.requires.top c.args.fork.part own at y in
-    and_then (omega (arith, c.decreases, less)) (and_then c.requires.search (and_then (slice_get_within plan.seats.items own y.seat y.there)
-    (and_then (λ s there. subst (λ (s : Seat). at + s.width ≤ k.resolution) (seat-same plan own own y.seat s refl y.there there) y.within) (and_then c.requires.count c.requires.known))))
-
-pub offer_last-entries_of-requires : goal.offer_last-entries_of-requires
-offer_last-entries_of-requires t c =
-    let g = c.args.search.now.grammar.now in
-    let k = c.args.search.now.input.now in
-    let plan = c.args.search.now.plan.now in
-    let ready = c.requires.search.ready in
-    let of = c.requires.search.plan_of in
-    let top = c.args.top in
-    let cut = c.args.cut.now in
-    let y = part-of g k plan ready of top cut c.requires.top c.args.fork.part c.index-own.result.now c.args.fork.at c.requires.part.0 c.requires.part.1 c.index-own.ensures (c.requires.begin c.requires.top) in
-    record { within = (c.in_ok-span.ensures.row y.seat y.there).within }
-
-pub offer_last-offer_entries-requires-clause-entries : goal.offer_last-offer_entries-requires-clause-entries
-offer_last-offer_entries-requires-clause-entries t c =
-    let g = c.args.search.now.grammar.now in
-    let k = c.args.search.now.input.now in
-    let plan = c.args.search.now.plan.now in
-    let ready = c.requires.search.ready in
-    let of = c.requires.search.plan_of in
-    let top = c.args.top in
-    let cut = c.args.cut.now in
-    let y = part-of g k plan ready of top cut c.requires.top c.args.fork.part c.index-own.result.now c.args.fork.at c.requires.part.0 c.requires.part.1 c.index-own.ensures (c.requires.begin c.requires.top) in
-    span-entries g k plan ready of c.index-own.result.now y.seat y.there c.row.new.self.entries.items c.args.fork.at c.args.fork.count c.in_ok-span.span
-    (c.in_ok-span.ensures.row y.seat y.there) c.entries_of.result.now c.entries_of.ensures
-
-pub offer_last-returns-clause-best : goal.offer_last-returns-clause-best
-offer_last-returns-clause-best t c = λ t.
-    let g = c.args.search.now.grammar.now in
-    let k = c.args.search.now.input.now in
-    let plan = c.args.search.now.plan.now in
-    let ready = c.requires.search.ready in
-    let of = c.requires.search.plan_of in
-    let top = c.args.top in
-    let cut = c.args.cut.now in
-    let y = part-of g k plan ready of top cut t c.args.fork.part c.index-own.result.now c.args.fork.at c.requires.part.0 c.requires.part.1 c.index-own.ensures (c.requires.begin t) in
-    let ranks = rank_in c.entries_of.result.now 0 in
-    let ranked = span-ranked g k plan ready of c.index-own.result.now y.seat y.there c.row.new.self.entries.items c.args.fork.at c.args.fork.count c.in_ok-span.span
-    (c.in_ok-span.ensures.row y.seat y.there) c.entries_of.result.now c.entries_of.ensures in
-    (ranks, subst (λ q. IsRanked (ground_of g k) c.args.fork.at q c.args.fork.count ranks) y.pair ranked, c.offer_entries.ensures)
-
 -- ---- several ways up to the last part
 
 pub offer_several-counts-init : goal.offer_several-counts-init
 offer_several-counts-init t c = record {
-  known = c.requires.known;
-  grows = grows-none c.args.self.now;
+  known = c.in_ok-number.ensures.known;
+  grows = grows-none c.state.new.self;
+  state = c.in_ok-number.ensures.state;
   offered = λ t.
       let g = c.args.search.now.grammar.now in
       let k = c.args.search.now.input.now in
@@ -625,8 +586,8 @@ offer_several-counts-init t c = record {
       ((λ b. None), below-none (ground_of g k) c.args.last.at (part_at g k plan c.args.top c.args.cut.now t c.args.last.part) (way_in c.args.ways.now) (λ b. None) (λ b lb. refl), λ b lb. refl);
 }
 
-pub offer_several-offer_last-requires : goal.offer_several-offer_last-requires
-offer_several-offer_last-requires t c =
+pub offer_several-state-requires : goal.offer_several-state-requires
+offer_several-state-requires t c =
     let g = c.args.search.now.grammar.now in
     let k = c.args.search.now.input.now in
     let plan = c.args.search.now.plan.now in
@@ -635,17 +596,68 @@ offer_several-offer_last-requires t c =
     let top = c.args.top in
     let cut = c.args.cut.now in
     let last = c.requires.part.1 in
-    let v = c.requires.ways c.requires.top in
-    let count = c.counts-test.true in
     let high : c.args.last.part < cut.end = omega (arith, last) in
-    let low = to-low g k plan ready of top cut c.requires.top c.args.last.part high (way_in c.args.ways.now) v.1 c.counts.count c.in-Some.way count c.in-Some.is in
-    and_then (omega (arith, c.decreases)) (and_then c.requires.search (and_then c.requires.top (and_then (c.requires.part.0, high) (and_then (λ t. (c.requires.ways t).0)
-    (and_then low (and_then count c.counts.invariant.known))))))
+    let own = c.index-own.result.now in
+    let y = part-of g k plan ready of top cut c.requires.top c.args.last.part own c.args.last.at c.requires.part.0 high c.index-own.ensures (c.requires.ways c.requires.top).0 in
+    record { search = c.requires.search; place = part-place g k plan ready of top cut c.requires.top c.args.last.part own c.args.last.at y; known = c.requires.known }
+
+pub offer_several-row_of-requires : goal.offer_several-row_of-requires
+offer_several-row_of-requires t c =
+    let g = c.args.search.now.grammar.now in
+    let k = c.args.search.now.input.now in
+    let plan = c.args.search.now.plan.now in
+    let ready = c.requires.search.ready in
+    let of = c.requires.search.plan_of in
+    let top = c.args.top in
+    let cut = c.args.cut.now in
+    let last = c.requires.part.1 in
+    let high : c.args.last.part < cut.end = omega (arith, last) in
+    let own = c.index-own.result.now in
+    let y = part-of g k plan ready of top cut c.requires.top c.args.last.part own c.args.last.at c.requires.part.0 high c.index-own.ensures (c.requires.ways c.requires.top).0 in
+    let less = part-less g k plan ready of top cut c.requires.top c.args.last.part own c.args.last.at y in
+    and_then (omega (arith, c.decreases, less)) (and_then c.requires.search (and_then (part-place g k plan ready of top cut c.requires.top c.args.last.part own c.args.last.at y)
+    (and_then c.counts-test.true (and_then c.counts.invariant.known c.counts.invariant.state))))
+
+pub offer_several-entries_of-requires : goal.offer_several-entries_of-requires
+offer_several-entries_of-requires t c =
+    let g = c.args.search.now.grammar.now in
+    let k = c.args.search.now.input.now in
+    let plan = c.args.search.now.plan.now in
+    let ready = c.requires.search.ready in
+    let of = c.requires.search.plan_of in
+    let top = c.args.top in
+    let cut = c.args.cut.now in
+    let last = c.requires.part.1 in
+    let high : c.args.last.part < cut.end = omega (arith, last) in
+    let own = c.index-own.result.now in
+    let y = part-of g k plan ready of top cut c.requires.top c.args.last.part own c.args.last.at c.requires.part.0 high c.index-own.ensures (c.requires.ways c.requires.top).0 in
+    record { within = (c.in_ok-span.ensures.row y.seat y.there).within }
+
+pub offer_several-offer_entries-requires : goal.offer_several-offer_entries-requires
+offer_several-offer_entries-requires t c =
+    let g = c.args.search.now.grammar.now in
+    let k = c.args.search.now.input.now in
+    let plan = c.args.search.now.plan.now in
+    let ready = c.requires.search.ready in
+    let of = c.requires.search.plan_of in
+    let top = c.args.top in
+    let cut = c.args.cut.now in
+    let last = c.requires.part.1 in
+    let high : c.args.last.part < cut.end = omega (arith, last) in
+    let own = c.index-own.result.now in
+    let y = part-of g k plan ready of top cut c.requires.top c.args.last.part own c.args.last.at c.requires.part.0 high c.index-own.ensures (c.requires.ways c.requires.top).0 in
+    let count = c.counts-test.true in
+    record {
+      low = to-low g k plan ready of top cut c.requires.top c.args.last.part high (way_in c.args.ways.now) (c.requires.ways c.requires.top).1 c.counts.count c.in-Some.way count c.in-Some.is;
+      count = count;
+      entries = span-entries g k plan ready of own y.seat y.there c.row_of.new.self.entries.items c.args.last.at c.counts.count c.in_ok-span.span (c.in_ok-span.ensures.row y.seat y.there) c.entries_of.result.now c.entries_of.ensures;
+    }
 
 pub offer_several-counts-preserved-in_default : goal.offer_several-counts-preserved-in_default
 offer_several-counts-preserved-in_default t c = record {
   known = c.counts.invariant.known;
   grows = c.counts.invariant.grows;
+  state = c.counts.invariant.state;
   offered = λ t.
       let g = c.args.search.now.grammar.now in
       let k = c.args.search.now.input.now in
@@ -662,28 +674,36 @@ offer_several-counts-preserved-in_default t c = record {
 
 pub offer_several-counts-preserved : goal.offer_several-counts-preserved
 offer_several-counts-preserved t c = record {
-  known = c.in_ok-offer_last.ensures.known;
-  grows = grows-then c.args.self.now c.counts.self c.offer_last.new.self c.counts.invariant.grows c.in_ok-offer_last.ensures.grows;
+  known = c.in_ok-span.ensures.known;
+  grows = grows-then c.state.new.self c.counts.self c.row_of.new.self c.counts.invariant.grows c.in_ok-span.ensures.grows;
+  state = c.in_ok-span.ensures.grows.states _ _ _ c.counts.invariant.state;
   offered = λ t.
       let g = c.args.search.now.grammar.now in
       let k = c.args.search.now.input.now in
       let plan = c.args.search.now.plan.now in
       let cut = c.args.cut.now in
       let d = ground_of g k in
+      let last = c.requires.part.1 in
+      let own = c.index-own.result.now in
+      let y = part-of g k plan c.requires.search.ready c.requires.search.plan_of c.args.top cut t c.args.last.part own c.args.last.at c.requires.part.0 (omega (arith, last)) c.index-own.ensures (c.requires.ways t).0 in
       let q = part_at g k plan c.args.top cut t c.args.last.part in
       let m = c.counts.invariant.offered t in
-      let h = c.in_ok-offer_last.ensures.best t in
       let n = c.counts.count in
+      let ranks = rank_in c.entries_of.result.now 0 in
+      let ranked = span-ranked g k plan c.requires.search.ready c.requires.search.plan_of own y.seat y.there c.row_of.new.self.entries.items c.args.last.at n c.in_ok-span.span (c.in_ok-span.ensures.row y.seat y.there) c.entries_of.result.now c.entries_of.ensures in
       let ways = way_in c.args.ways.now in
-      let next : ℕ → Option Way = λ b. nearer_way (m.0 b) (way_on (ways n) n (h.0 b)) in (
+      let next : ℕ → Option Way = λ b. nearer_way (m.0 b) (way_on (ways n) n (ranks b)) in (
         next,
-        next-one (λ n. AreWaysBelow d c.args.last.at q ways n next) n (below-more d c.args.last.at q ways n m.0 next m.1 h.0 h.1 (λ b lb. refl)),
+        next-one (λ n. AreWaysBelow d c.args.last.at q ways n next) n (below-more d c.args.last.at q ways n m.0 next m.1 ranks (subst (λ q. IsRanked d c.args.last.at q n ranks) y.pair ranked) (λ b lb. refl)),
         λ b lb.
-            h.2 b lb ∙ ap (λ o. nearer_choice o (topped_choice cut c.args.top.number (way_on (Some c.in-Some.way) n (h.0 b)))) (m.2 b lb)
-            ∙ nearer-topped cut c.args.top.number (choice_in c.args.best.now b) (m.0 b) (way_on (Some c.in-Some.way) n (h.0 b))
-            ∙ ap (λ o. nearer_choice (choice_in c.args.best.now b) (topped_choice cut c.args.top.number (nearer_way (m.0 b) (way_on o n (h.0 b))))) (sym c.in-Some.is),
+            c.offer_entries.ensures b lb ∙ ap (λ o. nearer_choice o (topped_choice cut c.args.top.number (way_on (Some c.in-Some.way) n (ranks b)))) (m.2 b lb)
+            ∙ nearer-topped cut c.args.top.number (choice_in c.args.best.now b) (m.0 b) (way_on (Some c.in-Some.way) n (ranks b))
+            ∙ ap (λ o. nearer_choice (choice_in c.args.best.now b) (topped_choice cut c.args.top.number (nearer_way (m.0 b) (way_on o n (ranks b))))) (sym c.in-Some.is),
       );
 }
+
+pub offer_several-returns-clause-grows : goal.offer_several-returns-clause-grows
+offer_several-returns-clause-grows t c = grows-then c.args.self.now c.state.new.self c.counts.self c.in_ok-number.ensures.grows c.counts.invariant.grows
 
 pub offer_several-returns-clause-best : goal.offer_several-returns-clause-best
 offer_several-returns-clause-best t c = λ t.

@@ -2,7 +2,7 @@ use Rattle.std.proofs.Common.{◌≡◌, ◌+◌, ◌-◌, ◌*◌, ◌<◌}
 use Rattle.least_rows.specs.Choices.{RulesBefore}
 use Rattle.least_rows.specs.Ways.{one_way, way_in}
 use Rattle.least_rows.specs.Places.{width_at}
-use Rattle.least_rows.specs.States.{AreKnown, Grows}
+use Rattle.least_rows.specs.States.{AreKnown, Grows, HasState}
 use Rattle.least_rows.specs.Steps.{AreChoicesOf, AreWaysOverBelow}
 use Rattle.least_rows.specs.Tops.{AreOfferedBelow, AreWaysTo}
 use Rattle.least_rows.proofs.rows.Rows.+rows.Given as goal
@@ -10,11 +10,8 @@ use Rattle.least_rows.proofs.rows.Rows.+rows.Given as goal
 abbrev pub decreases-find_row : goal.decreases-find_row
 decreases-find_row l = 64 * width_at l.search.now.plan.now l.seat + 57
 
-abbrev pub decreases-join_row : goal.decreases-join_row
-decreases-join_row l = 64 * width_at l.search.now.plan.now l.seat + 59
-
 abbrev pub decreases-lead : goal.decreases-lead
-decreases-lead l = 64 * width_at l.search.now.plan.now l.seat + 59
+decreases-lead l = 64 * width_at l.search.now.plan.now l.seat + 60
 
 abbrev pub decreases-offer_cut : goal.decreases-offer_cut
 decreases-offer_cut l = 64 * width_at l.search.now.plan.now l.top.seat + 55
@@ -40,14 +37,14 @@ decreases-offer_alone l = 64 * width_at l.search.now.plan.now l.top.seat + 3 * (
 abbrev pub decreases-offer_several : goal.decreases-offer_several
 decreases-offer_several l = 64 * width_at l.search.now.plan.now l.top.seat + 1
 
-abbrev pub decreases-offer_last : goal.decreases-offer_last
-decreases-offer_last l = 64 * width_at l.search.now.plan.now l.top.seat
-
 abbrev pub decreases-over_rows : goal.decreases-over_rows
 decreases-over_rows l = 64 * width_at l.search.now.plan.now l.seat + 60
 
 abbrev pub decreases-row : goal.decreases-row
-decreases-row l = 64 * width_at l.search.now.plan.now l.seat + 58
+decreases-row l = 64 * width_at l.search.now.plan.now l.seat + 59
+
+abbrev pub decreases-row_of : goal.decreases-row_of
+decreases-row_of l = 64 * width_at l.search.now.plan.now l.seat + 58
 
 abbrev pub invariant-offer_cuts-cuts : goal.invariant-offer_cuts-cuts
 invariant-offer_cuts-cuts l = record {
@@ -69,6 +66,7 @@ abbrev pub invariant-offer_several-counts : goal.invariant-offer_several-counts
 invariant-offer_several-counts l = record {
   known : AreKnown l.search.grammar.now l.search.input.now l.search.plan.now l.self;
   grows : Grows l.initial.self l.self;
+  state : HasState l.self l.number l.own l.last.at;
   offered : AreOfferedBelow l.search.grammar.now l.search.input.now l.search.plan.now l.top l.cut l.last.part l.last.at (way_in l.ways) l.count l.initial.best l.best;
 }
 
@@ -76,5 +74,6 @@ abbrev pub invariant-over_rows-counts : goal.invariant-over_rows-counts
 invariant-over_rows-counts l = record {
   known : AreKnown l.search.grammar.now l.search.input.now l.search.plan.now l.self;
   grows : Grows l.initial.self l.self;
+  state : HasState l.self l.number l.seat l.place;
   below : AreWaysOverBelow l.search.grammar.now l.search.input.now l.search.plan.now l.seat l.place (way_in l.ways) l.count (way_in l.next);
 }
