@@ -335,8 +335,8 @@ impl Rows {
         self.offer_along(search, top, cut, start, limit, best)
     }
 
-    /// Offers the trees with this cut on top that go one way up to a part, but for those that cost more than the limit. As long as
-    /// one way alone leads on, it is followed alone.
+    /// Offers the trees with this cut on top that go one way up to a part, but for those whose way over the parts costs more than
+    /// the limit. As long as one way alone leads on, it is followed alone.
     #[cycle(rows)]
     #[inline(always)]
     fn offer_along(
@@ -380,7 +380,7 @@ impl Rows {
                         part,
                         at,
                     };
-                    // A copy, so that it is not stored where no way parts.
+                    // A copy, so that it is stored only where a way parts.
                     let own = top;
                     return self.offer_fork(search, own, cut, fork, led.row, best);
                 }
