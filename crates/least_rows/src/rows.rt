@@ -366,6 +366,7 @@ impl Rows {
                 return Ok(());
             }
             let seat = search.plan.parts[part as usize];
+            let width = search.plan.seats[seat as usize].width;
             let led = self.lead(search, way, count, seat, at)?;
             match led.lead {
                 Lead::Nowhere => return Ok(()),
@@ -385,7 +386,7 @@ impl Rows {
                     return self.offer_fork(search, own, cut, fork, led.row, best);
                 }
             }
-            at += search.plan.seats[seat as usize].width;
+            at += width;
         }
         offer_way(&mut best[count as usize], way, cut, top.number);
         Ok(())
