@@ -1,10 +1,12 @@
 ghost use Rattle.std.specs.Prelude.{◌≤◌};
 
 use crate::files::{Change, Played, midi_file};
-use least_cost::Steps;
-use rhythm_app::run;
+use crate::lending::Lending;
+use carry_matrix::Steps as Products;
+use least_cost::Steps as Builds;
+use rhythm_app::{Lent, run};
 use rhythm_base::{Tag, Words};
-use rhythm_ports::{Gate, MemShelf, MemSink, MemSource, OpenGate};
+use rhythm_ports::{Gate, MemShelf, MemSink, MemSource, OpenGate, Shelf, Sink, Source};
 use std::alloc::{AllocError, Global};
 use std::sync::atomic::{AtomicU64, Ordering};
 use std::thread::Threads;
@@ -65,11 +67,51 @@ pub fn shelf_with(
     Ok(shelf)
 }
 
-/// What a run took and left behind.
+/// How a run ended, and how many tables it built.
 #[derive(Clone, Copy)]
 pub struct Ran {
     pub status: u8,
     pub builds: u64,
+}
+
+/// What a run reads from and writes to.
+pub struct Ports<'a, F, S, O, E> {
+    pub shelf: &'a mut F,
+    pub script: &'a mut S,
+    pub out: &'a mut O,
+    pub err: &'a mut E,
+}
+
+/// Runs the program. No other function of these tests makes the top call.
+pub fn run_over<R: Threads + Sync, F: Shelf, S: Source, O: Sink, E: Sink, G: Gate + Sync>(
+    rt: &R,
+    alloc: Global,
+    words: &Words,
+    ports: Ports<'_, F, S, O, E>,
+    gate: &G,
+) -> Ran {
+    let Ports {
+        shelf,
+        script,
+        out,
+        err,
+    } = ports;
+    let mut lent = Lent {
+        rt,
+        alloc,
+        shelf: Lending { to: shelf },
+        script: Lending { to: script },
+        out: Lending { to: out },
+        err: Lending { to: err },
+        gate,
+        builds: Builds::<InTests>::zero(),
+        products: Products::<InTests>::zero(),
+    };
+    let status = run(&mut lent, words);
+    Ran {
+        status,
+        builds: lent.builds.count(),
+    }
 }
 
 /// Counts the cells that are passed to be built.
@@ -123,22 +165,13 @@ pub fn edit_by<R: Threads + Sync>(
     gate: &CountingGate,
 ) -> Result<Ran, AllocError> {
     let words = words_of(alloc, &["edit", "--workers", workers, "a.mid", "a.grammar"])?;
-    let mut builds = Steps::<InTests>::zero();
-    let status = run(
-        rt,
-        alloc,
-        &words,
+    let ports = Ports {
         shelf,
         script,
         out,
         err,
-        gate,
-        &mut builds,
-    );
-    Ok(Ran {
-        status,
-        builds: builds.count(),
-    })
+    };
+    Ok(run_over(rt, alloc, &words, ports, gate))
 }
 
 /// Runs a command that reads no script, over the shelf, with these sinks.
@@ -151,22 +184,13 @@ pub fn unscripted<R: Threads + Sync>(
     err: &mut MemSink,
 ) -> Ran {
     let mut script = MemSource::new(Vec::new(alloc), 1, Vec::new(alloc));
-    let mut builds = Steps::<InTests>::zero();
-    let status = run(
-        rt,
-        alloc,
-        words,
+    let ports = Ports {
         shelf,
-        &mut script,
+        script: &mut script,
         out,
         err,
-        &OpenGate,
-        &mut builds,
-    );
-    Ran {
-        status,
-        builds: builds.count(),
-    }
+    };
+    run_over(rt, alloc, words, ports, &OpenGate)
 }
 
 /// Whether the case ends as it should where each call moves at most so many bytes.

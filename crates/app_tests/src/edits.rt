@@ -98,6 +98,40 @@ const CASES: &[ScriptCase] = &[
         builds: 9,
     },
     ScriptCase {
+        shows: "a note of a grace chord is dropped",
+        piece: Piece::Built(
+            480,
+            &[],
+            &[(0, 60, 0, 960), (0, 62, 20, 960), (0, 64, 40, 960)],
+        ),
+        script: b"unpin 0 0\nscore\ndrop 0 60 0\nscore\n",
+        out: b"\
+            ok 0 250\n\
+            score 50\n\
+            **kern\n\
+            *M4/4\n\
+            *MM120\n\
+            =1\n\
+            qc qd\n\
+            [8e\n\
+            8e_\n\
+            4e]\n\
+            2r\n\
+            ==\n\
+            *-\n\
+            ok 1 50\n\
+            score 35\n\
+            **kern\n\
+            *M4/4\n\
+            *MM120\n\
+            =1\n\
+            1d 1e\n\
+            ==\n\
+            *-\n\
+        ",
+        builds: 2,
+    },
+    ScriptCase {
         shows: "a pin that leaves no derivation, one that fits, and none",
         piece: Piece::Bytes(FOUR_QUARTERS),
         script: b"\

@@ -30,7 +30,52 @@ fn words_that_are_no_command_are_refused(rt: HostRuntime) -> Result<(), Fail> {
         let mut err = MemSink::new(alloc, 1, Vec::new(alloc));
         let ran = unscripted(&rt, alloc, &words, &mut shelf, &mut out, &mut err);
         assert!(rt; ran.status == 1 && ran.builds == 0);
-        assert!(rt; out.bytes().is_empty() && err.bytes() == b"usage\n".as_slice());
+        assert!(rt; out.bytes().is_empty() && err.bytes().starts_with(b"usage\n"));
+        assert!(rt;
+            err.bytes()
+                .ends_with(b"\nfor the commands: rhythm --help\n")
+        );
+    }
+    Ok(())
+}
+
+/// Words that are no command, and what is wrong with them.
+const REASONS: &[(&[&str], &str)] = &[
+    (&[], "there is no command"),
+    (&["--workers", "2"], "there is no command"),
+    (
+        &["transcribe", "a.mid"],
+        "the command is called as: rhythm transcribe MIDI GRAMMAR",
+    ),
+    (
+        &["drill", "65535", "a.grammar"],
+        "the command is called as: rhythm drill NUMBER GRAMMAR, with NUMBER from 0 to 65534",
+    ),
+    (&["compose", "a.mid"], "there is no command compose"),
+    (
+        &["events", "a.krn", "--workers", "17"],
+        "--workers takes a number from 1 to 16",
+    ),
+    (
+        &["events", "a.krn", "--fast"],
+        "unexpected argument '--fast' found",
+    ),
+];
+
+#[test]
+fn what_is_wrong_with_the_words_is_said(rt: HostRuntime) -> Result<(), Fail> {
+    let alloc = rt.alloc();
+    for (words, reason) in REASONS {
+        let words = words_of(alloc, words)?;
+        let mut shelf = shelf_with(alloc, 4096, Piece::Bytes(FOUR_QUARTERS), QUARTERS)?;
+        let mut out = MemSink::new(alloc, 4096, Vec::new(alloc));
+        let mut err = MemSink::new(alloc, 4096, Vec::new(alloc));
+        let ran = unscripted(&rt, alloc, &words, &mut shelf, &mut out, &mut err);
+        let text = format!(in alloc; "usage\n{reason}\nfor the commands: rhythm --help\n")?;
+        assert!(rt;
+            ran.status == 1 && err.bytes() == text.as_bytes(),
+            "{reason}"
+        );
     }
     Ok(())
 }

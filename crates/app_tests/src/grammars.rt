@@ -258,3 +258,17 @@ pub const NO_PART: &[u8] = b"\
     B 0 parts 0 H 1 H\n\
     H 0 note\n\
 ";
+
+/// A bar of 1/64 is 960 leaves, each a note or tied to the one before.
+pub const SMALLEST_LEAVES: &[u8] = b"\
+    rhythm 1\n\
+    resolution 960\n\
+    window 0\n\
+    onset 0\n\
+    start 1/64 B\n\
+    B 0 split A A A A A A A A A A A A A A A A\n\
+    A 0 split C C C C C C C C C C C C C C C\n\
+    C 0 split D D D D\n\
+    D 0 note\n\
+    D 0 tie\n\
+";

@@ -5,6 +5,24 @@ pub const FOUR_QUARTERS: &[u8] = b"\
     \x83`\x80A\0\0\xff/\0\
 ";
 
+/// A whole note, with 480 ticks to a quarter note.
+pub const WHOLE_NOTE: &[u8] = b"\
+    MThd\0\0\0\x06\0\0\0\x01\x01\xe0\
+    MTrk\0\0\0\x0d\0\x90<@\x8f\0\x80<\0\0\xff/\0\
+";
+
+/// A note of sixteen bars, with a tick to a quarter note.
+pub const SIXTEEN_BARS: &[u8] = b"\
+    MThd\0\0\0\x06\0\0\0\x01\0\x01\
+    MTrk\0\0\0\x0c\0\x90<@@\x80<\0\0\xff/\0\
+";
+
+/// A note that sounds a tick into one bar too many, with a tick to a quarter note.
+pub const TOO_MANY_BARS: &[u8] = b"\
+    MThd\0\0\0\x06\0\0\0\x01\0\x01\
+    MTrk\0\0\0\x0e\0\x90<@\x81\x80\x01\x80<\0\0\xff/\0\
+";
+
 /// Two voices in a key of two flats, with two tempos; in the first, running status goes on over a lyric, and notes end
 /// by onsets of velocity 0. A program change is skipped.
 pub const TWO_VOICES: &[u8] = b"\

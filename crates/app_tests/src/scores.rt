@@ -11,7 +11,7 @@ use std::test::Fail;
 pub const FOUR_QUARTERS_SCORE: &[u8] = b"**kern\n*M4/4\n*MM120\n=1\n4c\n4d\n4e\n4f\n==\n*-\n";
 
 /// The score of two voices, a key and two tempos.
-const TWO_VOICES_SCORE: &[u8] = b"\
+pub const TWO_VOICES_SCORE: &[u8] = b"\
     **kern\t**kern\n\
     *k[b-e-]\t*k[b-e-]\n\
     *M4/4\t*M4/4\n\

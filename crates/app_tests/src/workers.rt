@@ -1,81 +1,175 @@
-use crate::case::{InTests, Piece, shelf_with, words_of};
-use crate::grammars::USUAL;
-use crate::midi::TWO_VOICES;
-use least_cost::Steps;
-use rhythm_app::run;
+use crate::case::{Ports, run_over, words_of};
+use crate::given::{Given, shelf_of};
+use crate::grammars::{USUAL, WHOLE};
+use crate::midi::{SIXTEEN_BARS, TWO_VOICES, WHOLE_NOTE};
 use rhythm_ports::{Gate, MemSink, MemSource};
 use std::alloc::{AllocError, Global};
-use std::sync::atomic::{AtomicBool, Ordering};
+use std::sync::atomic::{AtomicBool, AtomicU64, Ordering};
 use std::test::Fail;
 use std::thread::Threads;
 
-/// Holds the first cell until another has passed, for at most 100,000,000 turns.
+/// Holds workers until so many are held at one time, each for so many turns at most. Then it holds none.
 #[derive(Drop)]
-struct HoldingFirst {
-    other_passed: AtomicBool,
-    gave_up: AtomicBool,
+struct Meeting {
+    /// So many cells pass before any is held.
+    free: u64,
+    wanted: u64,
+    turns: u32,
+    passed: AtomicU64,
+    held: AtomicU64,
+    met: AtomicBool,
 }
 
-impl HoldingFirst {
-    fn new() -> HoldingFirst {
-        HoldingFirst {
-            other_passed: AtomicBool::new(false),
-            gave_up: AtomicBool::new(false),
+impl Meeting {
+    fn new(free: u64, wanted: u64, turns: u32) -> Meeting {
+        Meeting {
+            free,
+            wanted,
+            turns,
+            passed: AtomicU64::new(0),
+            held: AtomicU64::new(0),
+            met: AtomicBool::new(false),
         }
+    }
+
+    /// Whether so many were held at one time.
+    fn has_met(&self) -> bool {
+        self.met.load(Ordering::SeqCst)
     }
 }
 
-impl Gate for HoldingFirst {
-    fn pass(&self, index: u64) {
-        if index != 0 {
-            self.other_passed.store(true, Ordering::SeqCst);
+impl Gate for Meeting {
+    fn pass(&self, _index: u64) {
+        if self.passed.fetch_add(1, Ordering::SeqCst) < self.free || self.has_met() {
             return;
         }
-        for _ in 0..100_000_000u32 {
-            if self.other_passed.load(Ordering::SeqCst) {
+        self.held.fetch_add(1, Ordering::SeqCst);
+        for _ in 0..self.turns {
+            if self.held.load(Ordering::SeqCst) >= self.wanted || self.has_met() {
+                self.met.store(true, Ordering::SeqCst);
                 return;
             }
         }
-        self.gave_up.store(true, Ordering::SeqCst);
+        self.held.fetch_sub(1, Ordering::SeqCst);
     }
 }
 
-/// Whether another cell passes while the first is held, where two voices are transcribed by so many workers.
-fn passes_beside<R: Threads + Sync>(
+/// The turns for which workers wait for others that come.
+const LONG: u32 = 100_000_000;
+
+/// The turns for which they wait where others may not come.
+const SHORT: u32 = 5_000_000;
+
+/// Whether the workers meet in a run that ends with status 0.
+fn meet<R: Threads + Sync>(
+    rt: &R,
+    alloc: Global,
+    given: &Given<'_>,
+    gate: &Meeting,
+) -> Result<bool, AllocError> {
+    let words = words_of(alloc, given.words)?;
+    let script = Vec::from_slice(alloc, given.script)?;
+    let ports = Ports {
+        shelf: &mut shelf_of(alloc, 4096, Vec::new(alloc), given.files)?,
+        script: &mut MemSource::new(script, 4096, Vec::new(alloc)),
+        out: &mut MemSink::new(alloc, 4096, Vec::new(alloc)),
+        err: &mut MemSink::new(alloc, 4096, Vec::new(alloc)),
+    };
+    let ran = run_over(rt, alloc, &words, ports, gate);
+    Ok(ran.status == 0 && gate.has_met())
+}
+
+/// Whether they do in the transcription of two voices.
+fn meet_in_two_voices<R: Threads + Sync>(
     rt: &R,
     alloc: Global,
     workers: &str,
+    gate: &Meeting,
 ) -> Result<bool, AllocError> {
-    let words = words_of(
-        alloc,
-        &["transcribe", "--workers", workers, "a.mid", "a.grammar"],
-    )?;
-    let mut shelf = shelf_with(alloc, 4096, Piece::Bytes(TWO_VOICES), USUAL)?;
-    let mut script = MemSource::new(Vec::new(alloc), 1, Vec::new(alloc));
-    let mut out = MemSink::new(alloc, 4096, Vec::new(alloc));
-    let mut err = MemSink::new(alloc, 4096, Vec::new(alloc));
-    let gate = HoldingFirst::new();
-    let mut builds = Steps::<InTests>::zero();
-    let status = run(
-        rt,
-        alloc,
-        &words,
-        &mut shelf,
-        &mut script,
-        &mut out,
-        &mut err,
-        &gate,
-        &mut builds,
-    );
-    Ok(status == 0 && !gate.gave_up.load(Ordering::SeqCst))
+    let given = Given {
+        words: &["transcribe", "--workers", workers, "a.mid", "a.grammar"],
+        files: &[("a.mid", TWO_VOICES), ("a.grammar", USUAL)],
+        script: b"",
+    };
+    meet(rt, alloc, &given, gate)
+}
+
+/// Whether they do in that of sixteen bars.
+fn meet_in_sixteen_bars<R: Threads + Sync>(
+    rt: &R,
+    alloc: Global,
+    workers: &str,
+    gate: &Meeting,
+) -> Result<bool, AllocError> {
+    let given = Given {
+        words: &["transcribe", "--workers", workers, "a.mid", "a.grammar"],
+        files: &[("a.mid", SIXTEEN_BARS), ("a.grammar", WHOLE)],
+        script: b"",
+    };
+    meet(rt, alloc, &given, gate)
+}
+
+/// Whether they do in an edit that reaches three cells. Four cells are built before it.
+fn meet_in_edit<R: Threads + Sync>(
+    rt: &R,
+    alloc: Global,
+    workers: &str,
+    gate: &Meeting,
+) -> Result<bool, AllocError> {
+    let given = Given {
+        words: &["edit", "--workers", workers, "a.mid", "a.grammar"],
+        files: &[("a.mid", WHOLE_NOTE), ("a.grammar", USUAL)],
+        script: b"addbar\naddbar\ndrop 0 60 0\nadd 0 60 0 5760\n",
+    };
+    meet(rt, alloc, &given, gate)
+}
+
+/// Whether they do in a drill. A thousand cells are built before its edits.
+fn meet_in_drill<R: Threads + Sync>(
+    rt: &R,
+    alloc: Global,
+    workers: &str,
+    gate: &Meeting,
+) -> Result<bool, AllocError> {
+    let given = Given {
+        words: &["drill", "7", "a.grammar", "--workers", workers],
+        files: &[("a.grammar", USUAL)],
+        script: b"",
+    };
+    meet(rt, alloc, &given, gate)
 }
 
 /// The number of workers that the words say is that by which the cells are built.
 #[test]
 fn so_many_workers_draw_as_the_words_say(rt: HostRuntime) -> Result<(), Fail> {
     let alloc = rt.alloc();
-    assert!(rt; passes_beside(&rt, alloc, "2")?);
-    assert!(rt; passes_beside(&rt, alloc, "16")?);
-    assert!(rt; !passes_beside(&rt, alloc, "1")?);
+    assert!(rt; meet_in_two_voices(&rt, alloc, "2", &Meeting::new(0, 2, LONG))?);
+    assert!(rt; meet_in_two_voices(&rt, alloc, "16", &Meeting::new(0, 4, LONG))?);
+    assert!(rt; !meet_in_two_voices(&rt, alloc, "1", &Meeting::new(0, 2, SHORT))?);
+    Ok(())
+}
+
+#[test]
+fn sixteen_workers_are_more_than_fifteen(rt: HostRuntime) -> Result<(), Fail> {
+    let alloc = rt.alloc();
+    assert!(rt; meet_in_sixteen_bars(&rt, alloc, "16", &Meeting::new(0, 16, LONG))?);
+    assert!(rt; !meet_in_sixteen_bars(&rt, alloc, "15", &Meeting::new(0, 16, SHORT))?);
+    Ok(())
+}
+
+#[test]
+fn as_many_workers_draw_the_cells_of_an_edit(rt: HostRuntime) -> Result<(), Fail> {
+    let alloc = rt.alloc();
+    assert!(rt; meet_in_edit(&rt, alloc, "3", &Meeting::new(4, 3, LONG))?);
+    assert!(rt; !meet_in_edit(&rt, alloc, "2", &Meeting::new(4, 3, SHORT))?);
+    Ok(())
+}
+
+/// An edit of a drill may reach one cell, at which no other worker comes.
+#[test]
+fn as_many_workers_draw_the_cells_of_a_drill(rt: HostRuntime) -> Result<(), Fail> {
+    let alloc = rt.alloc();
+    assert!(rt; meet_in_drill(&rt, alloc, "2", &Meeting::new(0, 2, LONG))?);
+    assert!(rt; meet_in_drill(&rt, alloc, "2", &Meeting::new(1000, 2, SHORT))?);
     Ok(())
 }

@@ -17,12 +17,12 @@ use Rattle.rhythm_laws.proofs.FirstLists.{all_contained, contains_split, one_ear
 use Rattle.rhythm_laws.proofs.Ranks.{ranks_total}
 use Rattle.rhythm_laws.proofs.OrderedLists.{all_cons, all_head, all_tail, pairs_head, pairs_nil, pairs_tail}
 use Rattle.rhythm_laws.proofs.Parsing.{no_prefix}
-use Rattle.pinned_trees.specs.Nodes.{IsReady}
+use Rattle.row_laws.specs.Grounds.{IsReady}
 use Rattle.bar_alternatives.specs.BestTrees.{AreBestTrees, IsLookedAt}
-use Rattle.bar_alternatives.specs.Firsts.{AreFirst, IsBefore}
-use Rattle.bar_alternatives.specs.Nodes.{IsTotal}
+use Rattle.best_trees.specs.Firsts.{AreFirst, IsBefore}
+use Rattle.bar_alternatives.specs.Totals.{IsTotal}
 use Rattle.bar_alternatives.specs.Totals.{IsListed}
-use Rattle.bar_alternatives.proofs.Firsts.{contains_first, contains_later}
+use Rattle.best_trees.proofs.Firsts.{contains_first, contains_later}
 use Rattle.bar_alternatives.proofs.Roots.{looked_told, looked_total, total_looked}
 
 -- ---- listing one more

@@ -20,10 +20,10 @@ use Rattle.rhythm_laws.specs.Places.{FitsAt}
 use Rattle.rhythm_laws.specs.Voices.{HoldsChords}
 use Rattle.rhythm_laws.proofs.Places.{at-cell, cell-at}
 use Rattle.rhythm_laws.proofs.Ranks.{both}
-use Rattle.pinned_trees.specs.Nodes.{IsReady, ground_of}
-use Rattle.pinned_trees.proofs.RuleKeys.{single_tree}
+use Rattle.row_laws.specs.Grounds.{IsReady, ground_of}
+use Rattle.row_laws.proofs.RuleKeys.{single_tree}
 use Rattle.bar_alternatives.specs.BestTrees.{IsLookedAt}
-use Rattle.bar_alternatives.specs.Nodes.{IsTotal}
+use Rattle.bar_alternatives.specs.Totals.{IsTotal}
 
 -- all onsets lie in the bar
 inside : (l : ℕ) (cs : List Inner) → All (IsInner l) cs → list_all (λ c. nat_lt c.onset l) cs ≡ true

@@ -6,16 +6,17 @@ use Rattle.rhythm_base.specs.Grammar.{Grammar}
 use Rattle.rhythm_base.specs.Ranked.{Key, plus}
 use Rattle.rhythm_laws.specs.Forests.{IsForestKey}
 use Rattle.rhythm_laws.specs.Rows.{IsOneBelow}
-use Rattle.pinned_trees.specs.Nodes.{ground_of}
+use Rattle.row_laws.specs.Grounds.{ground_of}
 use Rattle.bar_alternatives.specs.BestTrees.{cost_at}
-use Rattle.bar_alternatives.specs.Firsts.{AreFirst, AreKept, all_offered}
-use Rattle.bar_alternatives.specs.Grids.{ranking_at}
-use Rattle.bar_alternatives.specs.Nodes.{AreBestForests, IsTotal, IsTotalAt}
+use Rattle.best_trees.specs.Firsts.{AreFirst, AreKept, all_offered}
+use Rattle.best_trees.specs.Grids.{ranking_at}
+use Rattle.best_trees.specs.BarTrees.{AreBestOfBar}
+use Rattle.bar_alternatives.specs.Totals.{IsTotal, IsTotalAt}
 use Rattle.bar_alternatives.specs.Totals.{totals, totals_below, totals_offered}
-use Rattle.bar_alternatives.proofs.Firsts.{first-same, first-topped}
-use Rattle.bar_alternatives.proofs.Grids.{pair_from, pair_to}
-use Rattle.bar_alternatives.proofs.Offers.{all-kept}
-use Rattle.bar_alternatives.proofs.Steps.{below-next, below-none}
+use Rattle.best_trees.proofs.Firsts.{first-same, first-topped}
+use Rattle.best_trees.proofs.Grids.{pair_from, pair_to}
+use Rattle.best_trees.proofs.Offers.{all-kept}
+use Rattle.best_trees.proofs.Steps.{below-next, below-none}
 
 -- ---- offers
 
@@ -38,7 +39,7 @@ totals-all count before after grid best n all is = is ∙ ap (totals_below count
 
 -- ---- the first totals
 
-module _ (g : Grammar) (k : BarInput) (before after : List (Option ℕ)) (count : ℕ) (grid : List (List Key)) (best : AreBestForests (ground_of g k) count 0 ((k.resolution, k.symbol) ∷ []) grid) where
+module _ (g : Grammar) (k : BarInput) (before after : List (Option ℕ)) (count : ℕ) (grid : List (List Key)) (best : AreBestOfBar g k None count grid) where
   abbrev At : ℕ → Key → Type 0
   At i = IsTotalAt g k before after (i / 5) (i % 5)
 

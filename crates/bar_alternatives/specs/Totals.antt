@@ -1,11 +1,14 @@
 -- What is offered for the whole bar: trees at their costs together with those before and after.
-use Rattle.std.specs.Prelude.{◌≡◌, ℕ, zero, suc, ◌+◌, ◌/◌, ◌%◌, List, [], map, slice_index_or, Option, Some, None}
+use Rattle.std.specs.Prelude.{◌≡◌, ℕ, zero, suc, ◌+◌, ◌/◌, ◌%◌, ◌<◌, List, [], ◌∷◌, map, slice_index_or, Option, Some, None}
+use Rattle.rhythm_base.specs.BarInput.{BarInput}
 use Rattle.rhythm_base.specs.Forest.{Tree}
 use Rattle.rhythm_base.specs.Grammar.{Grammar}
 use Rattle.rhythm_base.specs.Ranked.{Key, plus}
 use Rattle.rhythm_base.specs.RuleTrees.{IsTold}
+use Rattle.rhythm_laws.specs.Forests.{IsForestKey}
+use Rattle.row_laws.specs.Grounds.{ground_of}
 use Rattle.bar_alternatives.specs.BestTrees.{cost_at}
-use Rattle.bar_alternatives.specs.Firsts.{all_offered}
+use Rattle.best_trees.specs.Firsts.{all_offered}
 
 -- the keys after trees were offered, where both costs are there
 abbrev pub totals_offered : ℕ → Option ℕ → Option ℕ → List Key → List Key → List Key
@@ -21,6 +24,16 @@ totals_below count before after grid (suc n) =
 
 unfoldable pub totals : ℕ → List (Option ℕ) → List (Option ℕ) → List (List Key) → List Key
 totals count before after grid = totals_below count before after grid 25
+
+-- the total of a tree of the whole bar with these counts, and its rule list
+abbrev pub IsTotalAt : Grammar → BarInput → List (Option ℕ) → List (Option ℕ) → ℕ → ℕ → Key → Type 0
+IsTotalAt g k before after a b key =
+    (first : ℕ) × (last : ℕ) × (own : Key) × (cost_at before a ≡ Some first) × (cost_at after b ≡ Some last)
+    × IsForestKey (ground_of g k) None 0 ((k.resolution, k.symbol) ∷ []) a b own × (key ≡ plus (first + last, []) own)
+
+-- with some counts
+abbrev pub IsTotal : Grammar → BarInput → List (Option ℕ) → List (Option ℕ) → Key → Type 0
+IsTotal g k before after key = (a : ℕ) × (b : ℕ) × (a < 5) × (b < 5) × IsTotalAt g k before after a b key
 
 -- the total of a key with the tree that its rule list tells
 abbrev pub IsListed : Grammar → ℕ → Key → ℕ × Tree → Type 0

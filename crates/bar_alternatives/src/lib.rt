@@ -1,18 +1,11 @@
-//! The alternatives of a bar of a voice: its best trees, each with the least cost of a derivation of the voice that has it
-//! there. The search is that of the least trees, but keeps the first `count` trees for each number of chords carried in and
-//! out: the first of all trees side by side are among those of the first trees of each part.
+//! The best trees of one bar of one voice, its pin lifted, each with the least cost of a derivation of the voice that has it
+//! there. The first so many trees of the bar for each number of chords carried in and out (best_trees) are put between the
+//! least costs of what lies before the bar and after it (totals), and listed with their trees (listing).
 #![tactic(auto)]
 
 mod alternative;
-mod cut;
-mod grid;
 mod laws;
-mod leaf;
-mod leaf_offer;
 mod listing;
-mod memo;
-mod ranking;
-mod search;
 mod totals;
 
 pub use alternative::Alternative;

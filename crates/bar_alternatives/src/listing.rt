@@ -1,6 +1,5 @@
 ghost use Rattle.bar_alternatives.specs.BestTrees.{AreBestTrees, AreSmall, without_pin};
 ghost use Rattle.bar_alternatives.specs.Totals.{IsListed};
-ghost use Rattle.pinned_trees.specs.Nodes.{IsReady};
 ghost use Rattle.rhythm_base.specs.BarInput.{IsBarInput};
 ghost use Rattle.rhythm_base.specs.Lists.{Each};
 ghost use Rattle.rhythm_base.specs.Readable.{IsReadable};
@@ -8,10 +7,8 @@ ghost use Rattle.rhythm_base.specs.RuleTrees.{IsRuleList};
 ghost use Rattle.std.specs.Prelude.{◌≡◌, All, IfOk};
 
 use crate::alternative::Alternative;
-use crate::memo::{Asked, Memo};
-use crate::ranking::Ranking;
-use crate::search::best_trees;
 use crate::totals::best_totals;
+use best_trees::{Ranking, best_trees};
 use rhythm_base::{BarInput, Grammar, Tree};
 use std::alloc::{AllocError, Global};
 
@@ -57,8 +54,7 @@ fn listed(
 /// The best trees of a bar, its pin lifted, with what lies before it and after it: the first `count` of the trees that fit
 /// with counts for which a cost before, by the number of chords carried in, and a cost after, by the number carried out, are
 /// there. A total is the sum of these two costs and the tree's own. The least total comes first, and of equal totals the tree
-/// with the lower rule list. There are fewer only where there are no more such trees. The call keeps the best `count` trees of
-/// each symbol over each interval of the bar for as long as it works, and never lists all.
+/// with the lower rule list. There are fewer only where there are no more such trees.
 pub fn alternatives(
     alloc: Global,
     grammar: &Grammar,
@@ -76,14 +72,8 @@ pub fn alternatives(
     // An accessor's contract tells that the input is well formed.
     let start = input.start();
     let input = lifted(alloc, input)?;
-    let asked = Asked {
-        place: 0,
-        width: input.resolution(),
-        symbol: start,
-    };
     let count = count as usize;
-    let mut memo = Memo::new(alloc, input.resolution())?;
-    let number = best_trees(alloc, grammar, &input, count, &mut memo, asked)?;
-    let best = best_totals(alloc, count, memo.grid(number), before, after)?;
+    let grid = best_trees(alloc, grammar, &input, None, count)?;
+    let best = best_totals(alloc, count, &grid, before, after)?;
     listed(alloc, grammar, start, &best)
 }

@@ -1,11 +1,10 @@
 ghost use Rattle.bar_alternatives.specs.BestTrees.{AreSmall};
-ghost use Rattle.bar_alternatives.specs.Firsts.{AreKept, AreAddable};
-ghost use Rattle.bar_alternatives.specs.Grids.{AreAllAddable};
+ghost use Rattle.best_trees.specs.Firsts.{AreKept, AreAddable};
+ghost use Rattle.best_trees.specs.Grids.{AreAllAddable};
 ghost use Rattle.bar_alternatives.specs.Totals.{totals, totals_offered};
 ghost use Rattle.std.specs.Prelude.{◌≡◌, ◌<◌, ◌^◌, ℕ, IfOk, OnOk, Some};
 
-use crate::grid::Grid;
-use crate::ranking::Ranking;
+use best_trees::{Grid, Ranking};
 use std::alloc::{AllocError, Global};
 
 /// Offers the trees at their costs together with these two, where both are there.

@@ -14,3 +14,4 @@ pub use cells::{cut, sections};
 pub use fault::CutFault;
 pub use laws::performances_can_be_cut;
 pub use section::Section;
+pub use starts::check_starts;

@@ -2,7 +2,7 @@ ghost use Rattle.rhythm_base.specs.BarInput.{IsInner};
 ghost use Rattle.rhythm_base.specs.Line.{Rising};
 ghost use Rattle.std.specs.Prelude.{◌≡◌, ◌≤◌, ◌<◌, ℕ, All, IfOk, IfSome, IsTrue};
 
-use rhythm_base::{BarInput, Inner};
+use rhythm_base::{BarInput, Inner, Shape};
 use std::alloc::{AllocError, Global};
 
 /// The ticks of a bar of 4/4 at 480 to a quarter note.
@@ -61,8 +61,8 @@ fn are_within(length: u64, chords: &[Inner]) -> bool
     true
 }
 
-/// A bar of 4/4 with these chords, with nothing carried into it; none where they are not in order or do not lie in it.
-pub fn bar_with(resolution: u16, chords: Vec<Inner>) -> Option<BarInput>
+/// A bar of 4/4 with these chords and this pin, with nothing carried into it; none where they are not in order or do not lie in it.
+pub fn bar_with(resolution: u16, chords: Vec<Inner>, pin: Option<Shape>) -> Option<BarInput>
     ensures { IfSome result (λ b. b.resolution ≡ resolution) }
 {
     let length = LENGTH as u64;
@@ -71,21 +71,26 @@ pub fn bar_with(resolution: u16, chords: Vec<Inner>) -> Option<BarInput>
         && are_rising(0, chords.as_slice())
         && are_within(length, chords.as_slice())
     {
-        Some(BarInput::make(0, resolution, 4, 4, length, chords, 0, None))
+        Some(BarInput::make(0, resolution, 4, 4, length, chords, 0, pin))
     } else {
         None
     }
 }
 
-/// A bar of 4/4 with so many chords, with nothing carried into it.
-pub fn bar_of(alloc: Global, resolution: u16, count: u32) -> Result<Option<BarInput>, AllocError>
+/// A bar of 4/4 with so many chords and this pin, with nothing carried into it.
+pub fn bar_of(
+    alloc: Global,
+    resolution: u16,
+    count: u32,
+    pin: Option<Shape>,
+) -> Result<Option<BarInput>, AllocError>
     ensures { IfOk result (λ o. IfSome o (λ b. b.resolution ≡ resolution)) }
 {
     let chords = chords_of(alloc, count)?;
-    Ok(bar_with(resolution, chords))
+    Ok(bar_with(resolution, chords, pin))
 }
 
-/// So many bars like that.
+/// So many bars like that, without a pin.
 pub fn bars_of(
     alloc: Global,
     resolution: u16,
@@ -96,7 +101,7 @@ pub fn bars_of(
 {
     let mut bars = Vec::new(alloc);
     'bars: for _ in 0..count {
-        let Some(bar) = bar_of(alloc, resolution, chords)? else {
+        let Some(bar) = bar_of(alloc, resolution, chords, None)? else {
             return Ok(None);
         };
         bars.push(bar)?;

@@ -104,7 +104,7 @@ pub fn drawn_bars(
     let mut bars = Vec::new(alloc);
     'bars: for _ in 0..count {
         let chords = draw.chords(alloc, &mut draws)?;
-        let Some(bar) = bar_with(resolution, chords) else {
+        let Some(bar) = bar_with(resolution, chords, None) else {
             return Ok(None);
         };
         bars.push(bar)?;

@@ -17,21 +17,23 @@ ghost use Rattle.rhythm_base.specs.declared.limits.TheConstants.{DEAREST_CELL};
 ghost use Rattle.std.specs.Prelude.{◌≡◌, IfOk};
 
 mod bars;
-mod best_trees;
+mod best_lists;
 mod chains;
 mod drawn;
 mod grammars;
 mod in_turn;
+mod pins;
 
 use bar_alternatives::Alternative;
 use bar_pool::{MOST_WORKERS, build_cells};
 use bars::{bar_of, bars_of};
-use best_trees::{Around, best_trees, print_trees};
+use best_lists::{Around, best_trees, print_trees};
 use chains::{ChainWork, chained, matrices_of};
 use drawn::{Draw, drawn_bars};
 use grammars::{Group, grammar_named};
 use in_turn::build_in_turn;
 use least_cost::{BarTable, Steps, build_cell};
+use pins::{Cutting, shape_of};
 use rhythm_base::{BarInput, Grammar, Tag};
 use rhythm_ports::OpenGate;
 use std::alloc::Global;
@@ -88,12 +90,25 @@ struct DrawnTask<'a> {
     cells: u32,
 }
 
+/// The table of a bar with so many chords and a pin that is cut so, of so many leaves, with the grammar of that name.
+#[derive(Clone, Copy)]
+struct PinnedTask<'a> {
+    grammar: &'a str,
+    onsets: u32,
+    /// None is no pin.
+    cutting: Option<Cutting>,
+    leaves: u32,
+    /// Its best trees, the pin lifted, in place of its table.
+    is_lifted: bool,
+}
+
 /// What the words ask for.
 #[derive(Clone, Copy)]
 enum Asked<'a> {
     Stated(Work, Task),
     Drawn(DrawnTask<'a>, u32),
     Chained(DrawnTask<'a>, ChainWork, u32),
+    Pinned(PinnedTask<'a>, u32),
 }
 
 /// The task of these words.
@@ -149,6 +164,16 @@ fn asked_of<'a>(words: &'a [String]) -> Option<Asked<'a>> {
             let work = ChainWork::named(work.as_str())?;
             Some(Asked::Chained(task, work, times.as_str().parse::<u32>().ok()?))
         }
+        [word, grammar, onsets, cutting, leaves, times] => {
+            let task = PinnedTask {
+                grammar: grammar.as_str(),
+                onsets: onsets.as_str().parse::<u32>().ok()?,
+                cutting: Cutting::named(cutting.as_str()),
+                leaves: leaves.as_str().parse::<u32>().ok()?,
+                is_lifted: word.as_str() == "lifted",
+            };
+            Some(Asked::Pinned(task, times.as_str().parse::<u32>().ok()?))
+        }
         _ => None,
     }
 }
@@ -157,7 +182,7 @@ fn asked_of<'a>(words: &'a [String]) -> Option<Asked<'a>> {
 fn bar_for(alloc: Global, grammar: &Grammar, task: Task) -> io::Result<BarInput>
     ensures { IfOk result (λ b. b.resolution ≡ grammar.now.resolution) }
 {
-    let Some(bar) = bar_of(alloc, grammar.resolution, task.onsets)? else {
+    let Some(bar) = bar_of(alloc, grammar.resolution, task.onsets, None)? else {
         return Err(io::Error::from(ErrorKind::InvalidInput));
     };
     Ok(bar)
@@ -237,6 +262,39 @@ fn build_drawn<R: Threads + Sync>(
         &mut builds,
     )?;
     Ok(tables)
+}
+
+/// Builds the table of a bar with a pin, or lists its best trees, so often, and prints what they cost.
+fn run_pinned(
+    rt: &HostRuntime,
+    grammar: &Grammar,
+    task: PinnedTask<'_>,
+    times: u32,
+) -> io::Result<()>
+    requires { IsReadable grammar.now }
+{
+    let alloc = rt.alloc();
+    let pin = match task.cutting {
+        None => None,
+        Some(cutting) => Some(shape_of(alloc, cutting, task.leaves, 1)?),
+    };
+    let Some(bar) = bar_of(alloc, grammar.resolution, task.onsets, pin)? else {
+        return Err(io::Error::from(ErrorKind::InvalidInput));
+    };
+    print!(rt; "{} {}:", task.grammar, task.onsets)?;
+    if task.is_lifted {
+        let mut list = Vec::new(alloc);
+        for _ in 0..times {
+            list = best_trees(alloc, grammar, &bar, Around::Nothing)?;
+        }
+        return print_trees(rt, alloc, list.as_slice());
+    }
+    let mut builds = Steps::<Benchmark>::zero();
+    let mut last = None;
+    for _ in 0..times {
+        last = Some(build_cell(alloc, grammar, &bar, &mut builds)?);
+    }
+    print_built(rt, last)
 }
 
 /// Lists the best trees so often and keeps the last list.
@@ -354,6 +412,10 @@ fn main(rt: HostRuntime) -> io::Result<()> {
         Some(Asked::Chained(task, work, times)) => {
             let grammar = grammar_named(&rt, task.grammar)?;
             return run_chained(&rt, alloc, &grammar, task, work, times);
+        }
+        Some(Asked::Pinned(task, times)) => {
+            let grammar = grammar_named(&rt, task.grammar)?;
+            return run_pinned(&rt, &grammar, task, times);
         }
         None => {}
     }

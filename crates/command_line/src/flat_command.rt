@@ -7,7 +7,7 @@ ghost use Rattle.std.specs.Prelude.{◌≡◌, ◌≢◌, IfErr, IfOk, None, Som
 use crate::invocation::WordsFault;
 use clap::error::ErrorKind;
 use clap::{Arg, ArgAction, ArgMatches, Command, Error};
-use std::alloc::Global;
+use std::alloc::{AllocError, Global};
 
 /// What `clap` makes of the words, by the one flat command.
 fn parsed<'a>(alloc: Global, words: &'a [&'a str]) -> Result<ArgMatches<'a>, Error>
@@ -49,4 +49,15 @@ pub(crate) fn taken_matches<'a>(
         Ok(matches) => Ok(matches),
         Err(error) => Err(words_fault(&error)),
     }
+}
+
+/// What `clap` says of words that it refuses, in one line without the name of a level; nothing of words that it takes.
+pub(crate) fn refusal_of(alloc: Global, words: &[&str]) -> Result<Option<String>, AllocError> {
+    let Err(error) = parsed(alloc, words) else {
+        return Ok(None);
+    };
+    let text = format!(in alloc; "{error}")?;
+    let line = text.as_str().lines().next().unwrap_or("");
+    let said = line.strip_prefix("error: ").unwrap_or(line);
+    Ok(Some(String::from_str(alloc, said)?))
 }

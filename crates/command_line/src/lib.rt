@@ -13,5 +13,5 @@ mod texts;
 pub use invocation::{CommandLine, Invocation, WordsFault};
 pub use laws::{numbers_are_as_in_scripts, plain_words_are_taken};
 pub use number::number_in;
-pub use read::read_words;
+pub use read::{read_words, words_refusal};
 pub use texts::{help_text, version_text};

@@ -3,7 +3,7 @@ ghost use Rattle.command_line.specs.CommandLines.{HasWorkers, command_line_of, i
 ghost use Rattle.command_line.specs.declared.invocation.WordsFault.TheVariants.{Refused};
 ghost use Rattle.std.specs.Prelude.{◌≡◌, ◌≤◌, IfErr, IfOk, None, Some, map};
 
-use crate::flat_command::taken_matches;
+use crate::flat_command::{refusal_of, taken_matches};
 use crate::invocation::{CommandLine, Invocation, WordsFault};
 use crate::number::workers_in;
 use crate::requests::asks_by;
@@ -81,4 +81,21 @@ pub fn read_words(alloc: Global, words: &Words) -> Result<Invocation, WordsFault
     }
     let line = command_line(alloc, list.as_slice())?;
     Ok(Invocation::Command(line))
+}
+
+/// What is wrong with words that are refused, in one line: in the words of `clap` where it refuses them, and else that the number of workers
+/// is out of range. Nothing of words that are not refused.
+pub fn words_refusal(alloc: Global, words: &Words) -> Result<Option<String>, AllocError> {
+    let list = texts_of(alloc, words)?;
+    if let Some(said) = refusal_of(alloc, list.as_slice())? {
+        return Ok(Some(said));
+    }
+    match read_words(alloc, words) {
+        Err(WordsFault::Refused) => {
+            let said = String::from_str(alloc, "--workers takes a number from 1 to 16")?;
+            Ok(Some(said))
+        }
+        Err(WordsFault::Memory) => Err(AllocError),
+        Ok(_said) => Ok(None),
+    }
 }

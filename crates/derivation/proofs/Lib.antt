@@ -1,5 +1,5 @@
 pub mod Middles
-pub mod WalkedLeaves
+pub mod ListWalk
 pub mod AttachedChords
 pub mod NumberedLeaves
 pub mod SoundPlaces
@@ -13,4 +13,6 @@ pub mod Fractions
 pub mod OneSpans
 pub mod FilledBars
 pub mod SpansRead
+pub mod Pairs
+pub mod OneScore
 pub mod WorkedSounds

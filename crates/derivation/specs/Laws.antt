@@ -1,5 +1,5 @@
 -- The laws, each as one statement over the definitions.
-use Rattle.std.specs.Prelude.{◌≡◌, ℕ, ◌*◌, ◌≤◌, List, [], length, All, sum_by}
+use Rattle.std.specs.Prelude.{◌≡◌, ℕ, ◌*◌, ◌≤◌, List, length, All, sum_by}
 use Rattle.rhythm_base.specs.declared.chord.Chord.{Chord}
 use Rattle.rhythm_base.specs.declared.note.Bar.{Bar}
 use Rattle.rhythm_base.specs.declared.sound.Sound.{Sound}
@@ -8,10 +8,13 @@ use Rattle.rhythm_base.specs.Forest.{Tree}
 use Rattle.rhythm_base.specs.Grammar.{Grammar}
 use Rattle.rhythm_base.specs.Leaves.{FitsVoice, VoiceBar, soundings}
 use Rattle.rhythm_base.specs.Performance.{IsWellFormed, Performance}
+use Rattle.rhythm_base.specs.Readable.{IsReadable}
 use Rattle.rhythm_base.specs.Spans.{AreSpans, parts_of_unit, sound_length}
-use Rattle.rhythm_base.specs.Voices.{AreChordsOf, voice_bars, voice_bars_from}
+use Rattle.rhythm_base.specs.Voices.{AreChordsOf, voice_bars}
 use Rattle.rhythm_laws.specs.Voices.{IsVoice}
-use Rattle.derivation.specs.Sounds.{derivation_sounds}
+use Rattle.derivation.specs.PerformanceScore.{IsScoreOf}
+use Rattle.derivation.specs.Score.{IsScore, Score}
+use Rattle.derivation.specs.Sounds.{derivation_sounds, plain_bars}
 use Rattle.derivation.specs.WellSounded.{AreKeys, AreWellSounded}
 
 -- the sounds of a derivation that fits are well sounded, where each chord has keys
@@ -29,7 +32,7 @@ ChordsHaveKeys =
 
 -- the bars of the voices of a performance, without pins
 abbrev pub unpinned_bars : Grammar → Performance → List VoiceBar
-unpinned_bars g p = voice_bars_from g [] 0 p.last 0 p.bars
+unpinned_bars g p = plain_bars g p.last p.bars
 
 -- What sounds does not depend on the pins: what fits with the pins of a performance fits without them and sounds the same,
 -- and what is a voice is one without them.
@@ -52,3 +55,8 @@ abbrev pub WellSoundedFillTheScore : Type 0
 WellSoundedFillTheScore =
     (resolution : ℕ) (bars : List Bar) (sounds : List Sound) → AreWellSounded resolution (length bars) sounds
     → sum_by (sound_length bars) sounds ≡ resolution * sum_by parts_of_unit bars
+
+-- a performance and a grammar have one score, which can be written
+pub record ScoresAreOne : Type 0 where
+  pub score : (g : Grammar) (p : Performance) (s t : Score) → IsReadable g → IsWellFormed p → IsScoreOf g p s → IsScoreOf g p t → s ≡ t
+  pub can_be_written : (g : Grammar) (p : Performance) (s : Score) → IsReadable g → IsWellFormed p → IsScoreOf g p s → IsScore s

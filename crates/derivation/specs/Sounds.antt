@@ -2,6 +2,7 @@
 use Rattle.std.specs.Prelude.{ℕ, ◌+◌, ◌-◌, ◌==◌, nat_le, if◌then◌else◌, List, [], ◌∷◌, ◌++◌, length, filter, map, take, Option, Some, None}
 use Rattle.std.proofs.Common.{suc}
 use Rattle.rhythm_base.specs.declared.chord.Chord.{Chord}
+use Rattle.rhythm_base.specs.declared.note.Bar.{Bar}
 use Rattle.rhythm_base.specs.declared.sound.Sound.{Sound}
 use Rattle.rhythm_base.specs.declared.sound.SoundKind.{SoundKind}
 use Rattle.rhythm_base.specs.Bodies.{sound_kind}
@@ -12,6 +13,7 @@ use Rattle.rhythm_base.specs.Line.{seat}
 use Rattle.rhythm_base.specs.Lists.{last_of}
 use Rattle.rhythm_base.specs.Spans.{is_rest}
 use Rattle.rhythm_base.specs.Trees.{leaves_of}
+use Rattle.rhythm_base.specs.Voices.{voice_bars_from}
 
 -- ---- what sounds in leaf i of a line of leaves, in a bar of r units
 
@@ -51,6 +53,10 @@ sound_of r xs cs n i x = record {
 }
 
 -- ---- a voice
+
+-- its bars up to the last barline, without pins, which do not sound
+abbrev pub plain_bars : Grammar → ℕ → List Bar → List VoiceBar
+plain_bars g last bars = voice_bars_from g [] 0 last 0 bars
 
 -- the sounds of leaves of bar n, which are those of the line from leaf i on
 abbrev pub bar_sounds : ℕ → List Leaf → List Chord → ℕ → ℕ → List Leaf → List Sound

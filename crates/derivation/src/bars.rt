@@ -1,35 +1,35 @@
-ghost use Rattle.derivation.specs.TimedLeaves.{timed_leaves};
+ghost use Rattle.derivation.specs.RuleLists.{AreToldLeaves};
+ghost use Rattle.derivation.specs.Sounds.{plain_bars};
 ghost use Rattle.rhythm_base.specs.Barlines.{barline};
 ghost use Rattle.rhythm_base.specs.DeadBars.{end_of_bars};
-ghost use Rattle.rhythm_base.specs.Voices.{voice_bars_from};
 ghost use Rattle.rhythm_base.specs.declared.limits.TheConstants.{LATEST_TICK, MOST_BARS};
 ghost use Rattle.rhythm_laws.specs.Voices.{Adjacent};
-ghost use Rattle.std.specs.Prelude.{[], ◌≡◌, ◌≤◌, IfOk, length};
+ghost use Rattle.std.specs.Prelude.{◌≡◌, ◌≤◌, IfOk, length, map};
 
 use crate::leaf::{TimedBar, TimedLeaf};
 use crate::walk::push_tree;
-use rhythm_base::{Bar, Grammar, Tree};
+use rhythm_base::{Bar, Grammar};
 use std::alloc::{AllocError, Global};
 
-/// The leaves of the trees of a voice, one tree for each bar, left to right.
+/// The leaves of the trees of a voice, left to right, off the rule list of each bar's tree.
 pub fn timed_leaves(
     alloc: Global,
     grammar: &Grammar,
-    trees: &[Tree],
+    lists: &[&[u16]],
     bars: &[Bar],
     last: u64,
 ) -> Result<Vec<TimedLeaf>, AllocError>
     requires some_unit { 1 ≤ grammar.now.resolution }
     requires few_bars { length bars.now ≤ MOST_BARS }
     requires last { last ≤ LATEST_TICK }
-    requires near { let all = voice_bars_from grammar.now [] 0 last 0 bars.now in Adjacent 0 all (end_of_bars 0 all) }
-    ensures { IfOk result (λ v. v.items
-        ≡ timed_leaves grammar.now 0 (voice_bars_from grammar.now [] 0 last 0 bars.now) trees.now) }
+    requires near { let all = plain_bars grammar.now last bars.now in Adjacent 0 all (end_of_bars 0 all) }
+    ensures { let all = plain_bars grammar.now last bars.now in
+        IfOk result (λ v. AreToldLeaves grammar.now all (map (λ l. l.now) lists.now) v.items) }
 {
     let mut leaves = Vec::new(alloc);
     let mut later = bars;
     let mut number = 0;
-    'trees: for tree in trees {
+    'lists: for list in lists {
         let [bar, after @ ..] = later else {
             return Ok(leaves);
         };
@@ -39,7 +39,14 @@ pub fn timed_leaves(
             length: first_barline(after, last) - bar.start,
             resolution: grammar.resolution,
         };
-        push_tree(alloc, grammar.rules.as_slice(), bar, tree, &mut leaves)?;
+        push_tree(
+            grammar.rules.as_slice(),
+            &bar,
+            0,
+            grammar.resolution,
+            list,
+            &mut leaves,
+        )?;
         later = after;
         number += 1;
     }

@@ -2,6 +2,7 @@ ghost use Rattle.derivation.specs.Laws.{
   ChordsHaveKeys,
   DerivationsAreWellSounded,
   PinsDoNotSound,
+  ScoresAreOne,
   SpansAreOne,
   WellSoundedFillTheScore,
 };
@@ -30,4 +31,9 @@ pub fn spans_are_one()
 /// Well-sounded sounds are together as long as all bars.
 pub fn well_sounded_fill_the_score()
     ensures { WellSoundedFillTheScore }
+{}
+
+/// A performance and a grammar have one score, and it can be written.
+pub fn scores_are_one()
+    ensures { ScoresAreOne }
 {}

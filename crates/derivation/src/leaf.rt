@@ -33,9 +33,9 @@ pub struct TimedLeaf {
 
 impl TimedBar {
     /// A leaf of the bar.
-    pub fn leaf(self, ending: Ending, place: u16, width: u16) -> TimedLeaf
-        requires { IsTimedBar self }
-        ensures { result ≡ timed_leaf self (record { ending = ending; place = place; width = width }) }
+    pub fn leaf(&self, ending: Ending, place: u16, width: u16) -> TimedLeaf
+        requires { IsTimedBar self.now }
+        ensures { result ≡ timed_leaf self.now (record { ending = ending; place = place; width = width }) }
     {
         let units = u64::from(self.resolution);
         let halves = 2 * u64::from(place) + u64::from(width);

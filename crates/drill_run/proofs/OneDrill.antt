@@ -1,9 +1,9 @@
 -- A drill comes to one end.
 use Rattle.std.proofs.Common.{◌≡◌, ℕ, zero, suc, ◌≤◌, List, length, sym, ap, ◌∙◌, subst, Result, Ok, Err}
-use Rattle.kern_writer.specs.PerformanceScore.{HasTooLongText, IsTextOf}
-use Rattle.kern_writer.specs.Score.{Score}
+use Rattle.kern_writer.specs.PerformanceText.{HasTooLongText, IsTextOf}
+use Rattle.derivation.specs.Score.{Score}
 use Rattle.kern_writer.specs.Text.{IsScoreText, IsTooLong}
-use Rattle.kern_writer.proofs.OneScore.{scores_one}
+use Rattle.derivation.proofs.OneScore.{scores_one}
 use Rattle.kern_writer.proofs.OneText.{texts_one}
 use Rattle.rhythm_base.specs.declared.limits.TheConstants.{LONGEST_SCORE}
 use Rattle.rhythm_base.specs.Grammar.{Grammar}

@@ -1,6 +1,6 @@
 -- How a drill ends.
 use Rattle.std.specs.Prelude.{◌≡◌, ℕ, ◌+◌, ◌≤◌, List, Result, Ok, Err, Some}
-use Rattle.kern_writer.specs.PerformanceScore.{HasTooLongText}
+use Rattle.kern_writer.specs.PerformanceText.{HasTooLongText}
 use Rattle.rhythm_base.specs.Counter.{risen}
 use Rattle.rhythm_base.specs.Grammar.{Grammar}
 use Rattle.rhythm_base.specs.Performance.{Performance}

@@ -1,6 +1,6 @@
 -- The summary of a drill.
 use Rattle.std.specs.Prelude.{◌≡◌, ℕ, ◌*◌, ◌≤◌, List, ◌++◌, length, codes, decimal}
-use Rattle.kern_writer.specs.PerformanceScore.{IsTextOf}
+use Rattle.kern_writer.specs.PerformanceText.{IsTextOf}
 use Rattle.rhythm_base.specs.Grammar.{Grammar}
 use Rattle.rhythm_base.specs.Voices.{IsCostOf}
 use Rattle.rhythm_base.specs.declared.limits.TheConstants.{LONGEST_SCORE}

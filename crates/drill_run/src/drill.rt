@@ -21,12 +21,6 @@ use std::thread::Threads;
 /// The number of edits of a drill.
 pub const DRILL_EDITS: u32 = 40;
 
-/// What the products of a drill are counted for.
-#[derive(Clone, Copy)]
-struct InDrill;
-
-impl Tag for InDrill {}
-
 /// A drill so far: its number, the session as edited, how many edits were accepted, and how many cells these reached.
 #[derive(Drop)]
 struct Drill {
@@ -38,13 +32,14 @@ struct Drill {
 
 impl Drill {
     /// Makes the edit of this index, or passes it over where it is refused.
-    fn step<R: Threads + Sync, G: Gate + Sync, B: Tag>(
+    fn step<R: Threads + Sync, G: Gate + Sync, B: Tag, P: Tag>(
         &mut self,
         rt: &R,
         alloc: Global,
         index: u32,
         gate: &G,
         builds: &mut Builds<B>,
+        products: &mut Products<P>,
     ) -> Result<(), AllocError>
         requires number { self.old.number ≤ 65534 }
         requires index { index < DRILL_EDITS }
@@ -65,13 +60,10 @@ impl Drill {
         ensures broken_off { OnErr result ((more : ℕ) × (builds.new ≡ risen builds.old more)
             × ((edit : Edit) → drill_edit self.old.number index self.old.session.performance ≡ Some edit
             → IsWithinReach self.old.session.grammar self.old.session.performance edit more)) }
+        ensures products { products.old ≤ products.new }
     {
         let edit = drill_edit(self.number, index, self.session.performance());
-        let mut products = Products::<InDrill>::zero();
-        match self
-            .session
-            .apply(rt, alloc, &edit, gate, builds, &mut products)
-        {
+        match self.session.apply(rt, alloc, &edit, gate, builds, products) {
             Ok(applied) => {
                 self.accepted += 1;
                 self.built += applied.built;
@@ -85,12 +77,13 @@ impl Drill {
     }
 
     /// Makes all edits, one after another.
-    fn make_edits<R: Threads + Sync, G: Gate + Sync, B: Tag>(
+    fn make_edits<R: Threads + Sync, G: Gate + Sync, B: Tag, P: Tag>(
         &mut self,
         rt: &R,
         alloc: Global,
         gate: &G,
         builds: &mut Builds<B>,
+        products: &mut Products<P>,
     ) -> Result<(), AllocError>
         requires number { self.old.number ≤ 65534 }
         requires some_notes { 11 ≤ length self.old.session.performance.notes }
@@ -103,9 +96,10 @@ impl Drill {
             record { performance = self.new.session.performance; accepted = self.new.accepted; built = self.new.built } besides
             × (builds.new ≡ risen builds.old (self.new.built + besides))) }
         ensures broken_off { OnErr result (IsBrokenOff self.old.session.grammar self.old.number self.old.session.performance builds.old builds.new) }
+        ensures products { products.old ≤ products.new }
     {
         'edits: for index in 0..DRILL_EDITS {
-            self.step(rt, alloc, index, gate, builds)?;
+            self.step(rt, alloc, index, gate, builds, products)?;
         }
         Ok(())
     }
@@ -113,13 +107,14 @@ impl Drill {
 
 /// Runs the drill of a number on a session: makes its forty edits, one after another, and passes over those that are refused. What
 /// it came to is said in six lines. Want of memory ends it.
-pub fn run_drill<R: Threads + Sync, G: Gate + Sync, B: Tag>(
+pub fn run_drill<R: Threads + Sync, G: Gate + Sync, B: Tag, P: Tag>(
     rt: &R,
     alloc: Global,
     session: Session,
     number: u32,
     gate: &G,
     builds: &mut Builds<B>,
+    products: &mut Products<P>,
 ) -> Result<Vec<u8>, DrillStop>
     requires number { number ≤ 65534 }
     requires some_notes { 11 ≤ length session.performance.notes }
@@ -129,6 +124,7 @@ pub fn run_drill<R: Threads + Sync, G: Gate + Sync, B: Tag>(
     ensures too_long { (line : ℕ) → result ≡ Err (stop.ScoreTooLong line) → HasDrilled session.grammar number session.performance (Err line) builds.old builds.new }
     ensures memory { result ≡ Err stop.Memory → IsBrokenOff session.grammar number session.performance builds.old builds.new }
     ensures rises { builds.old ≤ builds.new }
+    ensures products { products.old ≤ products.new }
 {
     let mut drill = Drill {
         number,
@@ -136,7 +132,7 @@ pub fn run_drill<R: Threads + Sync, G: Gate + Sync, B: Tag>(
         accepted: 0,
         built: 0,
     };
-    match drill.make_edits(rt, alloc, gate, builds) {
+    match drill.make_edits(rt, alloc, gate, builds, products) {
         Ok(()) => summary_of(alloc, &drill.session, drill.accepted, drill.built),
         Err(_error) => Err(DrillStop::Memory),
     }

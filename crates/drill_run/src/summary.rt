@@ -1,7 +1,7 @@
 ghost use Rattle.drill_run.specs.Drill.{Drilled};
 ghost use Rattle.drill_run.specs.Ends.{IsSaid};
 ghost use Rattle.drill_run.specs.declared.drill_stop.DrillStop.TheVariants as stop;
-ghost use Rattle.kern_writer.specs.PerformanceScore.{HasTooLongText, IsTextOf};
+ghost use Rattle.kern_writer.specs.PerformanceText.{HasTooLongText, IsTextOf};
 ghost use Rattle.rhythm_base.specs.declared.limits.TheConstants.{LONGEST_SCORE};
 ghost use Rattle.std.specs.Prelude.{◌≡◌, ◌≤◌, ℕ, Err, IfOk, List, Ok, length};
 

@@ -4,3 +4,4 @@ pub mod EditedCounts
 pub mod Lines
 pub mod OneAnswers
 pub mod Runs
+pub mod OneRuns

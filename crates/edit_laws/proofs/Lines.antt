@@ -14,11 +14,12 @@ use Rattle.rhythm_base.specs.Performance.{IsWellFormed, Performance}
 use Rattle.rhythm_base.specs.Reached.{AreReached}
 use Rattle.rhythm_base.specs.Replies.{alternatives_text, long_score_text, refused_text, score_text}
 use Rattle.rhythm_base.specs.Grammar.{Grammar}
-use Rattle.rhythm_base.specs.Script.{Answers, AreBestOfBar, EditOutcome, HasOneScore, IsMade, IsOutcome, IsRefused, Step, made, refused, outcome_text, shown_alternative}
+use Rattle.rhythm_base.specs.Script.{Answers, AreBestOfBar, EditOutcome, IsMade, IsOutcome, IsRefused, Step, made, refused, outcome_text, shown_alternative}
 use Rattle.rhythm_base.specs.ScriptLines.{SaysCommand, script_words}
 use Rattle.rhythm_base.specs.Voices.{HasDerivation, IsCostOf, IsDeadVoice, IsLeastCost, IsSumOfCosts, voice_bars, notes_of_voice}
 use Rattle.rhythm_base.proofs.CommandWords.{edit_in_range, one_command}
 use Rattle.rhythm_laws.proofs.Uniqueness.{one_chords}
+use Rattle.edit_laws.specs.Laws.{HasOneScoreAtMost}
 use Rattle.edit_laws.specs.OneAnswers.{AnswersOfEditsAreOne}
 use Rattle.edit_laws.proofs.Edited.{edited_formed}
 
@@ -85,18 +86,18 @@ module _ (g : Grammar) (p : Performance) (ones : AnswersOfEditsAreOne g) (formed
       (ap₂ made (count ∙ ap length reached ∙ sym count') costs, sym same)
 
 -- a command has one answer, and a line
-module _ (g : Grammar) (S : Performance → Result (List ℕ) ℕ → Type 0) (p : Performance) (ones : AnswersOfEditsAreOne g) (score : HasOneScore g S)
+module _ (g : Grammar) (S : Performance → Result (List ℕ) ℕ → Type 0) (p : Performance) (ones : AnswersOfEditsAreOne g) (score : HasOneScoreAtMost S)
     (formed : IsWellFormed p) where
   abbrev Scored : List ℕ → Type 0
   Scored reply = ((text : List ℕ) × S p (Ok text) × (reply ≡ score_text text)) ⊎ ((number : ℕ) × S p (Err number) × (reply ≡ long_score_text number))
 
   one_score : (reply reply' : List ℕ) → Scored reply → Scored reply' → reply ≡ reply'
   one_score reply reply' (inl (text, is, said)) (inl (text', is', said')) =
-      let one = score.one p (Ok text) (Ok text') formed is is' in let same : text ≡ text' = cc in said ∙ ap score_text same ∙ sym said'
-  one_score reply reply' (inl (text, is, said)) (inr (number', is', said')) = let one = score.one p (Ok text) (Err number') formed is is' in absurd (cc)
-  one_score reply reply' (inr (number, is, said)) (inl (text', is', said')) = let one = score.one p (Err number) (Ok text') formed is is' in absurd (cc)
+      let one = score p (Ok text) (Ok text') formed is is' in let same : text ≡ text' = cc in said ∙ ap score_text same ∙ sym said'
+  one_score reply reply' (inl (text, is, said)) (inr (number', is', said')) = let one = score p (Ok text) (Err number') formed is is' in absurd (cc)
+  one_score reply reply' (inr (number, is, said)) (inl (text', is', said')) = let one = score p (Err number) (Ok text') formed is is' in absurd (cc)
   one_score reply reply' (inr (number, is, said)) (inr (number', is', said')) =
-      let one = score.one p (Err number) (Err number') formed is is' in let same : number ≡ number' = cc in said ∙ ap long_score_text same ∙ sym said'
+      let one = score p (Err number) (Err number') formed is is' in let same : number ≡ number' = cc in said ∙ ap long_score_text same ∙ sym said'
 
   one_list : (channel bar count : ℕ) (list list' : List (ℕ × Tree)) → AreBestOfBar g p channel bar count list → AreBestOfBar g p channel bar count list' → list ≡ list'
   one_list channel bar count list list' is is' =

@@ -9,7 +9,7 @@ use Rattle.rhythm_base.specs.Edits.{IsEditInRange, edited}
 use Rattle.rhythm_base.specs.Performance.{IsWellFormed, Performance}
 use Rattle.rhythm_base.specs.Replies.{refused_text}
 use Rattle.rhythm_base.specs.Grammar.{Grammar}
-use Rattle.rhythm_base.specs.Script.{HasOneScore, Run, ScriptRun, Step}
+use Rattle.rhythm_base.specs.Script.{Run, ScriptRun, Step}
 use Rattle.rhythm_base.specs.ScriptLines.{SaysCommand}
 use Rattle.rhythm_base.specs.Voices.{HasStarts}
 
@@ -27,22 +27,29 @@ pub record EditsKeepPerformances : Type 0 where
 abbrev pub LinesSayOneCommand : Type 0
 LinesSayOneCommand = (line : List ℕ) (command other : Command) → SaysCommand line command → SaysCommand line other → command ≡ other
 
--- Let S say what the score of a performance is. Of one well-formed performance a line has one reply, and leaves one performance,
--- but for want of memory, which may come instead. A performance that it leaves is well formed.
-pub record LinesHaveOneAnswer (S : Performance → Result (List ℕ) ℕ → Type 0) : Type 0 where
-  pub one : (g : Grammar) (p next next' : Performance) (line reply reply' : List ℕ) → 1 ≤ g.resolution → HasOneScore g S → IsWellFormed p
-      → Step S g p line reply next → Step S g p line reply' next' → reply ≢ refused_text Memory → reply' ≢ refused_text Memory
-      → (reply ≡ reply') × (next ≡ next')
-  pub formed : (g : Grammar) (p next : Performance) (line reply : List ℕ) → IsWellFormed p → Step S g p line reply next → IsWellFormed next
+-- ---- What lines and scripts do, where S says what the score of a performance is: its text, or the number of the record that would
+-- pass its limit. Both hold by a grammar of a unit or more where a performance has one score at most, which is shown in proofs/OneRuns,
+-- and are laws where a crate says for which S they hold.
+
+-- a well-formed performance has one score at most
+abbrev pub HasOneScoreAtMost : (Performance → Result (List ℕ) ℕ → Type 0) → Type 0
+HasOneScoreAtMost S = (p : Performance) (r s : Result (List ℕ) ℕ) → IsWellFormed p → S p r → S p s → r ≡ s
+
+-- Of one well-formed performance a line has one reply, and leaves one performance, but for want of memory, which may come instead.
+-- A performance that it leaves is well formed.
+pub record LinesHaveOneAnswer (g : Grammar) (S : Performance → Result (List ℕ) ℕ → Type 0) : Type 0 where
+  pub one : (p next next' : Performance) (line reply reply' : List ℕ) → IsWellFormed p → Step S g p line reply next → Step S g p line reply' next'
+      → reply ≢ refused_text Memory → reply' ≢ refused_text Memory → (reply ≡ reply') × (next ≡ next')
+  pub formed : (p next : Performance) (line reply : List ℕ) → IsWellFormed p → Step S g p line reply next → IsWellFormed next
 
 -- what a line may do without want of memory
 abbrev pub AmpleStep : (Performance → Result (List ℕ) ℕ → Type 0) → Grammar → Performance → List ℕ → List ℕ → Performance → Type 0
 AmpleStep S g p line reply next = Step S g p line reply next × (reply ≢ refused_text Memory)
 
 -- so a script has one run without want of memory: the same replies, and the same performance at its end, which is well formed
-pub record ScriptsHaveOneRun (S : Performance → Result (List ℕ) ℕ → Type 0) : Type 0 where
-  pub one : (g : Grammar) (p last last' : Performance) (lines : List (List ℕ)) (replies replies' : List ℕ) → 1 ≤ g.resolution
-      → HasOneScore g S → IsWellFormed p → Run (AmpleStep S g) (λ line. SaysCommand line Quit) p lines replies last
+pub record ScriptsHaveOneRun (g : Grammar) (S : Performance → Result (List ℕ) ℕ → Type 0) : Type 0 where
+  pub one : (p last last' : Performance) (lines : List (List ℕ)) (replies replies' : List ℕ) → IsWellFormed p
+      → Run (AmpleStep S g) (λ line. SaysCommand line Quit) p lines replies last
       → Run (AmpleStep S g) (λ line. SaysCommand line Quit) p lines replies' last' → (replies ≡ replies') × (last ≡ last')
-  pub formed : (g : Grammar) (p last : Performance) (lines : List (List ℕ)) (replies : List ℕ) → IsWellFormed p → ScriptRun S g p lines replies last
+  pub formed : (p last : Performance) (lines : List (List ℕ)) (replies : List ℕ) → IsWellFormed p → ScriptRun S g p lines replies last
       → IsWellFormed last

@@ -5,4 +5,5 @@ pub mod After
 pub mod Reads
 pub mod Pieces
 pub mod ReplyText
+pub mod Gathered
 pub mod Sending

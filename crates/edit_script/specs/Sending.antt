@@ -1,20 +1,41 @@
--- How much of a text a sink took, and the count of its bytes.
-use Rattle.std.specs.Prelude.{◌≡◌, ℕ, ◌+◌, ◌-◌, ◌^◌, ◌<◌, min, List, length, take, Option}
+-- How much of a text a sink took, how much of it waits, and the count of the bytes.
+use Rattle.std.specs.Prelude.{◌≡◌, ℕ, ◌+◌, ◌-◌, ◌^◌, ◌<◌, ◌≤◌, min, List, [], ◌++◌, length, take, MatchResult, Option, Result}
 use Rattle.std.specs.Io.KnownBytes.{Appends}
+use Rattle.rhythm_ports.specs.declared.sink.Partial.{Partial}
+use Rattle.edit_script.specs.Gathered.{Gathered}
+use Rattle.edit_script.specs.declared.gathered.TheConstants.{MOST_GATHERED}
 
 -- a count of bytes, which stands still at its last value
 abbrev pub counted : ℕ → ℕ → ℕ
-counted before n = min (before + n) (2 ^ 64 - 1)
+counted before n = before + min n (2 ^ 64 - 1 - before)
 
--- the sink took the bytes, and they were counted
-pub record Sent (old new : Option (List ℕ)) (before after : ℕ) (bytes : List ℕ) : Type 0 where
-  pub taken : Appends old new bytes
-  pub count : after ≡ counted before (length bytes)
+-- The text was written: of the bytes that waited and the text, the sink took a first part, and the others wait. It is asked to take
+-- bytes only where they would be too many to wait.
+pub record Sent (old new : Option (List ℕ)) (before after : Gathered) (text : List ℕ) : Type 0 where
+  pub handed : List ℕ
+  pub taken : Appends old new handed
+  pub parts : before.bytes ++ text ≡ handed ++ after.bytes
+  pub count : after.sent ≡ counted before.sent (length handed)
+  pub waits : length before.bytes + length text ≤ MOST_GATHERED → handed ≡ []
 
--- the sink took a first part of the text, and not all of it
-abbrev pub SentPart : Option (List ℕ) → Option (List ℕ) → ℕ → ℕ → List ℕ → Type 0
-SentPart old new before after text = (n : ℕ) × (n < length text) × Sent old new before after (take n text)
+-- the sink took a first part of the bytes that waited and the text, and not all of them, since they were too many to wait
+pub record SentPart (old new : Option (List ℕ)) (before : Gathered) (sent : ℕ) (text : List ℕ) : Type 0 where
+  pub handed : List ℕ
+  pub lost : List ℕ
+  pub taken : Appends old new handed
+  pub parts : before.bytes ++ text ≡ handed ++ lost
+  pub some : 0 < length lost
+  pub count : sent ≡ counted before.sent (length handed)
+  pub many : MOST_GATHERED < length before.bytes + length text
+
+-- the text was written, or the sink failed
+abbrev pub Writes : {T : Type 0} → Option (List ℕ) → Option (List ℕ) → Gathered → Gathered → List ℕ → Result T Partial → Type 0
+Writes old new before after text result = MatchResult result (λ _. Sent old new before after text) (λ e. SentPart old new before e.sent text)
+
+-- after so many bytes the sink took a first part of the text, and not all of it
+abbrev pub TakesPartAfter : Option (List ℕ) → Option (List ℕ) → ℕ → ℕ → List ℕ → Type 0
+TakesPartAfter old new before sent text = (n : ℕ) × (n < length text) × (sent ≡ counted before n) × Appends old new (take n text)
 
 -- the sink took a first part of the text, and not all of it, and this is its length, up to the last value of a `usize`
 abbrev pub TakesPart : Option (List ℕ) → Option (List ℕ) → ℕ → List ℕ → Type 0
-TakesPart old new sent text = (n : ℕ) × (n < length text) × (sent ≡ min n (2 ^ 64 - 1)) × Appends old new (take n text)
+TakesPart old new sent text = TakesPartAfter old new 0 sent text

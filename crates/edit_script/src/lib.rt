@@ -2,6 +2,7 @@
 #![tactic(auto)]
 
 mod command_words;
+mod gathered;
 mod keyword;
 mod line_fault;
 mod line_words;

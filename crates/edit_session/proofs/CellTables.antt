@@ -14,7 +14,7 @@ use Rattle.rhythm_base.specs.Performance.{Performance}
 use Rattle.rhythm_base.specs.Reached.{IsInputOf, IsReached}
 use Rattle.rhythm_base.specs.Voices.{AreChordsOf, notes_of_voice, voice_bars}
 use Rattle.rhythm_laws.proofs.Uniqueness.{one_chords}
-use Rattle.kern_writer.proofs.OneScore.{bars_length}
+use Rattle.derivation.proofs.OneScore.{bars_length}
 use Rattle.edit_session.specs.Exchange.{Change, IsChange}
 use Rattle.edit_session.specs.Kept.{AreTablesOfVoice}
 use Rattle.edit_session.specs.Prepared.{IsTableOfCell}

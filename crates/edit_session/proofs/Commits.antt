@@ -18,7 +18,7 @@ use Rattle.rhythm_laws.proofs.CheapTables.{table_cheap}
 use Rattle.rhythm_laws.proofs.OrderedLists.{all_cons, all_head, all_tail}
 use Rattle.rhythm_laws.proofs.PerformedVoices.{performed_voice}
 use Rattle.rhythm_laws.proofs.Uniqueness.{one_chords}
-use Rattle.kern_writer.proofs.Pairs.{each_length}
+use Rattle.derivation.proofs.Pairs.{each_length}
 use Rattle.edit_session.specs.Exchange.{AreVoicesAfter, AreVoicesBefore, Change, HasPlace, IsChange, IsCheapTable, tables_below}
 use Rattle.edit_session.specs.Kept.{AreTablesOfVoice, AreTablesOfVoices, IsKeptVoice, IsSession}
 use Rattle.edit_session.specs.Opening.{cells_of}

@@ -6,13 +6,15 @@ use Rattle.std.proofs.lemmas.List.{get_or-take, length-take-le}
 use Rattle.std.proofs.lemmas.List.Elements.{All-contains}
 use Rattle.std.proofs.lemmas.Option.{get_or_from_slice_get, slice_get_within}
 use Rattle.bar_cut.specs.Cuts.{IsFirstWithoutStart}
+use Rattle.bar_cut.specs.declared.fault.CutFault.{CutFault}
+use Rattle.bar_cut.specs.declared.fault.CutFault.TheVariants as cut
 use Rattle.rhythm_base.specs.declared.note.Bar.{Bar}
 use Rattle.rhythm_base.specs.Grammar.{Grammar, root_of}
 use Rattle.rhythm_base.specs.Performance.{IsWellFormed, Performance}
 use Rattle.rhythm_base.specs.Readable.{IsReadable}
 use Rattle.rhythm_base.specs.Voices.{HasDerivation, HasStarts}
 use Rattle.rhythm_laws.proofs.OneAnswers.{dead_has_none, one_dead_voice}
-use Rattle.edit_session.specs.Opening.{CanOpen, IsOpenFault}
+use Rattle.edit_session.specs.Opening.{CanOpen, IsInputFault, IsOpenFault, fault_of_cut}
 use Rattle.edit_session.specs.declared.open_fault.OpenFault.{OpenFault}
 use Rattle.edit_session.specs.declared.open_fault.OpenFault.TheVariants.{Cells, NoStart, NoDerivation, Memory}
 
@@ -70,3 +72,9 @@ fault_or_open g p (NoStart bar num den) r w x can h = wanting g p.bars bar num d
 fault_or_open g p (NoDerivation channel bar) r w x can h =
     dead_has_none g p r.ranges.some_unit w channel bar h.1 (All-contains (HasDerivation g p) p.channels channel can.derivations h.1.voice)
 fault_or_open g p Memory r w x can h = x refl
+
+-- what is wrong where a voice is not cut, in bars that all have a root symbol or of which one is the first without
+pub input_fault : (g : Grammar) (p : Performance) (fault : CutFault) → HasStarts g p.bars → ((bar num den : ℕ) → fault ≡ cut.NoStart bar num den → IsFirstWithoutStart g p.bars bar num den)
+    → IsInputFault g p (fault_of_cut fault)
+input_fault g p (cut.NoStart bar num den) starts first = first bar num den refl
+input_fault g p cut.Memory starts first = starts

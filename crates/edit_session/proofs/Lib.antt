@@ -10,7 +10,7 @@ pub mod PathCosts
 pub mod AskedBars
 pub mod AskedCells
 pub mod Faults
-pub mod PickedTrees
+pub mod ListedTrees
 pub mod LeastSounds
 pub mod CellPlaces
 pub mod OtherInputs

@@ -23,7 +23,7 @@ use Rattle.edit_session.specs.Prepared.{IsTableOfCell}
 use Rattle.edit_session.specs.ReachedCells.{AreOtherInputs, HasOtherInput, place_pair}
 use Rattle.edit_session.proofs.CellPlaces.{cells_append, cells_same, lower_bar, no_cells, one_cell}
 use Rattle.edit_session.proofs.Tables.{voice_long}
-use Rattle.kern_writer.proofs.OneScore.{bars_length}
+use Rattle.derivation.proofs.OneScore.{bars_length}
 
 -- ---- one bar more
 

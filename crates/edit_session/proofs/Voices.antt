@@ -19,7 +19,7 @@ use Rattle.rhythm_base.specs.Voices.{HasDerivation, HasStarts, IsDeadVoice, IsLe
 use Rattle.rhythm_laws.proofs.OrderedLists.{all_cons, all_head, all_tail}
 use Rattle.rhythm_laws.proofs.PerformedVoices.{performed_voice}
 use Rattle.rhythm_laws.specs.Voices.{IsVoice}
-use Rattle.kern_writer.proofs.Pairs.{each_length}
+use Rattle.derivation.proofs.Pairs.{each_length}
 use Rattle.edit_session.specs.Kept.{AreTablesOfVoice, IsKeptVoice}
 use Rattle.edit_session.specs.VoiceTables.{HasPath, HasTables, IsFirstDead, VoiceTables, voice_cost}
 use Rattle.edit_session.proofs.Channels.{place_before}

@@ -1,5 +1,5 @@
 -- What is asked of a cell, and why it is not answered.
-use Rattle.std.specs.Prelude.{◌≡◌, ℕ, ⊤, IsTrue, Some}
+use Rattle.std.specs.Prelude.{◌≡◌, ℕ, IsTrue, None, Some}
 use Rattle.edit_session.specs.declared.ask_fault.AskFault.{AskFault}
 use Rattle.edit_session.specs.declared.ask_fault.AskFault.TheVariants.{NoVoice, NoBar, Memory}
 use Rattle.rhythm_base.specs.declared.edit_fault.EditFault.TheVariants as refusal
@@ -9,11 +9,11 @@ use Rattle.rhythm_base.specs.Performance.{Performance}
 use Rattle.rhythm_base.specs.Shapes.{is_shape}
 use Rattle.rhythm_base.specs.Trees.{shape_of}
 
--- the first that is wrong: the channel has no voice; else there is no such bar. Want of memory says nothing
+-- the first that is wrong: the channel has no voice; else there is no such bar. There may not be enough memory where both are there
 abbrev pub IsAskFault : Performance → ℕ → ℕ → AskFault → Type 0
 IsAskFault p channel bar (NoVoice c) = first_refusal (cell_tests p channel bar) ≡ Some (refusal.NoVoice c)
 IsAskFault p channel bar (NoBar b) = first_refusal (cell_tests p channel bar) ≡ Some (refusal.NoBar b)
-IsAskFault p channel bar Memory = ⊤
+IsAskFault p channel bar Memory = first_refusal (cell_tests p channel bar) ≡ None
 
 -- the bar can be pinned to the tree of an alternative: an edit can have its shape
 abbrev pub CanBePinned : ℕ × Tree → Type 0

@@ -1,6 +1,6 @@
 -- Which performances a session can be opened on, and why not on the others.
 use Rattle.rhythm_base.specs.declared.limits.TheConstants.{MOST_CELLS}
-use Rattle.std.specs.Prelude.{◌≡◌, ℕ, ◌*◌, ◌<◌, ◌≤◌, All, length, ⊤}
+use Rattle.std.specs.Prelude.{◌≡◌, ℕ, ◌*◌, ◌<◌, ◌≤◌, All, length}
 use Rattle.bar_cut.specs.Cuts.{IsFirstWithoutStart}
 use Rattle.bar_cut.specs.declared.fault.CutFault.{CutFault}
 use Rattle.bar_cut.specs.declared.fault.CutFault.TheVariants as cut
@@ -21,19 +21,19 @@ pub record CanOpen (g : Grammar) (p : Performance) : Type 0 where
   pub derivations : All (HasDerivation g p) p.channels
 
 -- the first that is wrong: too many cells; else the first bar without a root symbol; else the first voice without a fitting
--- derivation, and its dead bar. Want of memory says nothing
+-- derivation, and its dead bar. There may not be enough memory where neither of the first two is wrong
 abbrev pub IsOpenFault : Grammar → Performance → OpenFault → Type 0
 IsOpenFault g p (Cells count) = (count ≡ cells_of p) × (MOST_CELLS < cells_of p)
 IsOpenFault g p (NoStart bar num den) = (cells_of p ≤ MOST_CELLS) × IsFirstWithoutStart g p.bars bar num den
 IsOpenFault g p (NoDerivation channel bar) = (cells_of p ≤ MOST_CELLS) × IsDeadVoice g p channel bar
-IsOpenFault g p Memory = ⊤
+IsOpenFault g p Memory = (cells_of p ≤ MOST_CELLS) × HasStarts g p.bars
 
--- what is wrong where the inputs of the cells are not had: a bar has no root symbol, or there is not enough memory
+-- what is wrong where the inputs of the cells are not had: a bar has no root symbol; or each has one, and there is not enough memory
 abbrev pub IsInputFault : Grammar → Performance → OpenFault → Type 0
 IsInputFault g p (Cells count) = ⊥
 IsInputFault g p (NoStart bar num den) = IsFirstWithoutStart g p.bars bar num den
 IsInputFault g p (NoDerivation channel bar) = ⊥
-IsInputFault g p Memory = ⊤
+IsInputFault g p Memory = HasStarts g p.bars
 
 -- a voice that is not cut
 abbrev pub fault_of_cut : CutFault → OpenFault

@@ -8,7 +8,7 @@ ghost use Rattle.rhythm_base.specs.Voices.{AreChordsOf, HasStarts};
 ghost use Rattle.std.specs.Prelude.{◌≡◌, ◌==◌, Err, IfErr, IfOk, filter, ℕ};
 
 use crate::open_fault::OpenFault;
-use bar_cut::{CutFault, cut};
+use bar_cut::{CutFault, check_starts, cut};
 use rhythm_base::{BarInput, Chord, Grammar, Note, Performance};
 use std::alloc::{AllocError, Global};
 use tempo_map::TempoMap;
@@ -87,6 +87,7 @@ pub fn cell_inputs(
     ensures starts { IfOk result (λ _. HasStarts grammar.now performance.now.bars) }
     ensures fault { IfErr result (IsInputFault grammar.now performance.now) }
 {
+    check_starts(grammar, performance.bars())?;
     let tempo_map = tempo_map_of(alloc, performance)?;
     let mut inputs = Vec::new(alloc);
     'voices: for channel in performance.channels() {

@@ -1,7 +1,7 @@
 ghost use Rattle.edit_session.specs.Kept.{AreTablesOfVoice, AreTablesOfVoices};
 ghost use Rattle.edit_session.specs.VoiceTables.{HasPath};
-ghost use Rattle.kern_writer.specs.PerformanceScore as performed;
-ghost use Rattle.kern_writer.specs.PerformanceScore.{AreLeastSounds, IsScoreOf};
+ghost use Rattle.derivation.specs.PerformanceScore as performed;
+ghost use Rattle.derivation.specs.PerformanceScore.{AreLeastSounds, IsScoreOf};
 ghost use Rattle.rhythm_base.specs.Lists.{Each};
 ghost use Rattle.rhythm_base.specs.Performance.{IsWellFormed};
 ghost use Rattle.rhythm_base.specs.Readable.{IsReadable};
@@ -11,10 +11,9 @@ ghost use Rattle.rhythm_base.specs.declared.limits.TheConstants.{LATEST_TICK};
 ghost use Rattle.std.specs.Prelude.{◌≡◌, ◌≤◌, All, IfOk, map};
 
 use crate::inputs::{tempo_map_of, voice_chords};
-use crate::least_trees::least_trees;
+use crate::least_trees::least_lists;
 use crate::voice_tables::VoiceTables;
-use derivation::sounds_of;
-use kern_writer::{Score, ScoreBar, VoiceSounds};
+use derivation::{Score, ScoreBar, VoiceSounds, sounds_of};
 use rhythm_base::{Bar, Grammar, Performance};
 use std::alloc::{AllocError, Global};
 use tempo_map::TempoMap;
@@ -71,11 +70,11 @@ fn least_sounds(
     ensures { IfOk result (λ v. AreLeastSounds grammar.now performance.now channel v) }
 {
     let chords = voice_chords(alloc, grammar, performance, tempo_map, channel)?;
-    let trees = least_trees(alloc, grammar, voice)?;
+    let lists = least_lists(alloc, voice)?;
     let sounds = sounds_of(
         alloc,
         grammar,
-        trees.as_slice(),
+        lists.as_slice(),
         performance.bars(),
         performance.last(),
         chords.as_slice(),

@@ -3,7 +3,8 @@ ghost use Rattle.edit_session.specs.Asking.{CanBePinned, IsAskFault};
 ghost use Rattle.edit_session.specs.ChangedVoices.{LeavesOthers};
 ghost use Rattle.edit_session.specs.Opening.{CanOpen, IsBuilt, IsOpenFault, cells_of};
 ghost use Rattle.edit_session.specs.declared.open_fault.OpenFault.TheVariants.{Cells, Memory, NoDerivation, NoStart};
-ghost use Rattle.kern_writer.specs.PerformanceScore.{HasTooLongText, IsTextOf};
+ghost use Rattle.derivation.specs.PerformanceScore.{score_bar};
+ghost use Rattle.kern_writer.specs.PerformanceText.{HasTooLongText, IsTextOf};
 ghost use Rattle.kern_writer.specs.declared.fault.ScoreFault.TheVariants.{TooLong};
 ghost use Rattle.rhythm_base.specs.Counter.{risen};
 ghost use Rattle.rhythm_base.specs.Performance.{IsWellFormed};
@@ -17,23 +18,25 @@ ghost use Rattle.rhythm_base.specs.Reached.{AreReached, WouldReach};
 ghost use Rattle.rhythm_base.specs.Voices.{HasStarts};
 ghost use Rattle.rhythm_base.specs.declared.edit_fault.EditFault.TheVariants as faults;
 ghost use Rattle.rhythm_base.specs.declared.edit_fault.EditFault.{EditFault};
-ghost use Rattle.std.specs.Prelude.{◌≡◌, ◌≢◌, ◌≤◌, ◌<◌, ◌*◌, ◌^◌, ℕ, All, Err, IfErr, IfOk, List, None, Ok, OnErr, OnOk, length};
+ghost use Rattle.std.specs.Prelude.{◌≡◌, ◌≢◌, ◌≤◌, ◌<◌, ◌*◌, ◌^◌, ℕ, All, Err, IfErr, IfOk, IsOk, List, None, Ok, OnErr, OnOk, length, map};
 
 use crate::ask_fault::AskFault;
 use crate::asking::{alternatives_of, place_of};
 use crate::changed_voice::changed_channel;
 use crate::committed::{Applied, Committed, Dead};
 use crate::exchange::{Exchanged, exchange};
+use crate::inputs::tempo_map_of;
 use crate::kept_voices::{first_dead_voice, reserve_all, total_of, voices_of};
 use crate::open_fault::OpenFault;
 use crate::opening::cell_tables;
 use crate::prepared::Prepared;
 use crate::preparing::{place_for, reached_tables};
 use crate::reached::reached_cells;
-use crate::score::whole_score;
+use crate::score::{score_bars, whole_score};
 use crate::voice_tables::VoiceTables;
 use bar_alternatives::Alternative;
 use carry_matrix::Steps as Products;
+use derivation::ScoreBar;
 use kern_writer::{ScoreFault, write_kern};
 use least_cost::Steps as Builds;
 use performance_edit::edited;
@@ -163,12 +166,25 @@ impl Session {
         Ok(list)
     }
 
-    /// The performance as edited so far.
+    /// The performance as edited so far. Each of its voices has a derivation.
     pub fn performance(&self) -> &Performance
         ensures value { result.now ≡ self.now.performance }
         ensures formed { IsWellFormed self.now.performance }
+        ensures derivations { All (HasDerivation self.now.grammar self.now.performance) self.now.performance.channels }
+        ensures starts { HasStarts self.now.grammar self.now.performance.bars }
+        ensures few_notes { length self.now.performance.notes ≤ MOST_NOTES }
+        ensures few_cells { cells_of self.now.performance ≤ MOST_CELLS }
+        ensures room { length self.now.performance.bars ≤ self.now.room }
     {
         &self.performance
+    }
+
+    /// The bars as they are written, with the tempo and the key in force at the start of each.
+    pub fn score_bars(&self, alloc: Global) -> Result<Vec<ScoreBar>, AllocError>
+        ensures { IfOk result (λ v. v.items ≡ map (score_bar self.now.performance) self.now.performance.bars) }
+    {
+        let tempo_map = tempo_map_of(alloc, &self.performance)?;
+        score_bars(alloc, &self.performance, &tempo_map)
     }
 
     /// Takes memory, so that the session grows up to so many bars without taking more.
@@ -232,6 +248,7 @@ impl Session {
         ensures suits { IfOk result (λ x. Suits self.now.grammar self.now.performance x) }
         ensures builds { IfOk result (λ x. builds.new ≡ risen builds.old (length x.tables)) }
         ensures refused { (fault : EditFault) → result ≡ Err fault → fault ≢ faults.Memory → edits.edited self.now.performance edit.now ≡ Err fault }
+        ensures memory { result ≡ Err faults.Memory → IsOk (edits.edited self.now.performance edit.now) }
         ensures unbuilt { (fault : EditFault) → result ≡ Err fault → fault ≢ faults.Memory → builds.new ≡ builds.old }
         ensures most { RisesBy builds.old builds.new (λ n. (cells : List (ℕ × ℕ)) → WouldReach self.now.grammar self.now.performance edit.now cells → n ≤ length cells) }
         ensures rises { builds.old ≤ builds.new }
@@ -268,6 +285,7 @@ impl Session {
         ensures suits_back { IfOk result (λ c. Suits self.new.grammar self.new.performance c.back) }
         ensures room_back { IfOk result (λ c. length c.back.next.bars ≤ self.new.room) }
         ensures dead { IfErr result (λ dead. IsDeadVoice self.old.grammar prepared.next dead.channel dead.bar) }
+        ensures lives { OnErr result (All (HasDerivation self.old.grammar prepared.next) prepared.next.channels → ⊥) }
         ensures unchanged { OnErr result (self.new.performance ≡ self.old.performance) }
         ensures products { (d : ℕ) → length prepared.next.bars ≡ length self.old.performance.bars → length prepared.next.bars ≤ 2 ^ d
             → OnOk result (products.new ≤ risen products.old (length prepared.tables * d)) }
@@ -295,6 +313,30 @@ impl Session {
         Ok(Committed { applied, back })
     }
 
+    /// Puts the session back on what it was taken off: as `commit`, but each voice of what comes back is known to have a derivation.
+    pub fn take_back<P: Tag>(&mut self, back: Prepared, products: &mut Products<P>) -> Committed
+        requires suits { Suits self.old.grammar self.old.performance back }
+        requires formed { IsWellFormed back.next }
+        requires derivations { All (HasDerivation self.old.grammar back.next) back.next.channels }
+        requires room { length back.next.bars ≤ self.old.room }
+        ensures grammar { self.new.grammar ≡ self.old.grammar }
+        ensures room { self.new.room ≡ self.old.room }
+        ensures performance { self.new.performance ≡ back.next }
+        ensures built { result.applied.built ≡ length back.tables }
+        ensures cost { IsCostOf self.new.grammar self.new.performance result.applied.cost }
+        ensures back { result.back.next ≡ self.old.performance }
+        ensures suits_back { Suits self.new.grammar self.new.performance result.back }
+        ensures room_back { length result.back.next.bars ≤ self.new.room }
+        ensures products { (d : ℕ) → length back.next.bars ≡ length self.old.performance.bars → length back.next.bars ≤ 2 ^ d
+            → products.new ≤ risen products.old (length back.tables * d) }
+        ensures rises { products.old ≤ products.new }
+    {
+        match self.commit(back, products) {
+            Ok(committed) => committed,
+            Err(_dead) => unreachable!(),
+        }
+    }
+
     /// Makes an edit, or says why it is refused: `prepare`, `reserve` and `commit`. All memory is taken before the session
     /// changes, and after each refusal it is as before. An edit of notes, barlines or pins makes at most `d` products for each
     /// cell that it reaches, where there are at most `2 ^ d` bars.
@@ -314,6 +356,7 @@ impl Session {
         ensures derivations { OnOk result (All (HasDerivation self.new.grammar self.new.performance) self.new.performance.channels) }
         ensures refused { (fault : EditFault) → result ≡ Err fault → fault ≢ faults.Memory
             → IsOutcome self.old.grammar self.old.performance edit.now (refused fault) self.new.performance }
+        ensures memory { result ≡ Err faults.Memory → IsOk (edits.edited self.old.performance edit.now) }
         ensures unchanged { OnErr result (self.new.performance ≡ self.old.performance) }
         ensures builds { IfOk result (λ a. builds.new ≡ risen builds.old a.built) }
         ensures most { RisesBy builds.old builds.new (λ n. (cells : List (ℕ × ℕ)) → WouldReach self.old.grammar self.old.performance edit.now cells → n ≤ length cells) }

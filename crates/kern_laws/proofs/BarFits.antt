@@ -17,8 +17,8 @@ use Rattle.durations.specs.declared.value.Recip.TheVariants.{Of, Breve, Long}
 use Rattle.durations.specs.declared.value.Value.{Value}
 use Rattle.durations.specs.Value.{IsWide, parts, plain_parts, value_grid, width}
 use Rattle.durations.proofs.Wide.{some_product}
-use Rattle.kern_writer.specs.declared.score.ScoreBar.{ScoreBar}
-use Rattle.kern_writer.specs.Score.{IsScoreBar}
+use Rattle.derivation.specs.declared.score.ScoreBar.{ScoreBar}
+use Rattle.derivation.specs.Score.{IsScoreBar}
 use Rattle.kern_writer.specs.Tokens.{goes_on, next_goes_on}
 use Rattle.kern_writer.specs.Values.{VoiceValue}
 use Rattle.kern_writer.proofs.TimedSounds.{some_whole}

@@ -16,8 +16,8 @@ use Rattle.durations.specs.Value.{IsWide, value_grid, width}
 use Rattle.durations.proofs.Beats.{value_part}
 use Rattle.durations.proofs.Groups.{group_dots, group_grid, group_summing, leaf_joins, lengths}
 use Rattle.durations.proofs.Sums.{sums}
-use Rattle.kern_writer.specs.declared.score.ScoreBar.{ScoreBar}
-use Rattle.kern_writer.specs.Score.{IsScoreBar}
+use Rattle.derivation.specs.declared.score.ScoreBar.{ScoreBar}
+use Rattle.derivation.specs.Score.{IsScoreBar}
 use Rattle.kern_writer.specs.Values.{AreBarValues, VoiceValue, is_first, timed, value_of_sound, values_of_sounds}
 
 -- ---- leaves in parts of the bar

@@ -8,8 +8,8 @@ use Rattle.std.proofs.lemmas.List.Sums.{sum_by-cons}
 use Rattle.rhythm_base.specs.declared.sound.Sound.{Sound}
 use Rattle.derivation.specs.WellSounded.{StandInBars}
 use Rattle.durations.proofs.Wide.{some_product}
-use Rattle.kern_writer.specs.declared.score.ScoreBar.{ScoreBar}
-use Rattle.kern_writer.specs.Score.{IsScoreBar}
+use Rattle.derivation.specs.declared.score.ScoreBar.{ScoreBar}
+use Rattle.derivation.specs.Score.{IsScoreBar}
 use Rattle.kern_writer.specs.Values.{AreBarValues, AreVoiceValues, VoiceValue, sounds_in_bar}
 use Rattle.kern_writer.proofs.TimedSounds.{some_whole}
 use Rattle.kern_laws.proofs.BarSounded.{AreSounded, sound_len, sound_lens, sounded}

@@ -7,8 +7,8 @@ use Rattle.std.specs.List.{join_with_byte, list_any}
 use Rattle.std.proofs.Math.Nat.{one-dvd}
 use Rattle.std.proofs.lemmas.List.Elements.{All-cons, All-nil}
 use Rattle.rhythm_base.specs.Lists.{Each}
-use Rattle.kern_writer.specs.declared.score.ScoreBar.{ScoreBar}
-use Rattle.kern_writer.specs.Score.{IsScoreBar}
+use Rattle.derivation.specs.declared.score.ScoreBar.{ScoreBar}
+use Rattle.derivation.specs.Score.{IsScoreBar}
 use Rattle.kern_reader.specs.declared.token.TimeSignature.{TimeSignature}
 use Rattle.kern_reader.specs.declared.token.Token.{Token}
 use Rattle.kern_reader.specs.Columns.{announced, columns_of, current_bar, grid_of, grid_with, line_values, spine_at, spines_of, stage_after, stage_of}

@@ -7,8 +7,8 @@ use Rattle.rhythm_base.specs.declared.limits.TheConstants.{MOST_UNITS}
 use Rattle.rhythm_base.specs.declared.sound.Sound.{Sound}
 use Rattle.rhythm_base.specs.Lists.{Each}
 use Rattle.derivation.specs.WellSounded.{AreWellSounded}
-use Rattle.kern_writer.specs.declared.score.ScoreBar.{ScoreBar}
-use Rattle.kern_writer.specs.Score.{IsScore, IsScoreBar, Score}
+use Rattle.derivation.specs.declared.score.ScoreBar.{ScoreBar}
+use Rattle.derivation.specs.Score.{IsScore, IsScoreBar, Score}
 use Rattle.kern_writer.specs.Values.{AreVoiceValues, VoiceValue}
 use Rattle.kern_laws.specs.ScoreLines.{AreScoreLines, Ending, Heading, KernLine, LastBarline, StandFrom, voice_said}
 use Rattle.kern_laws.proofs.BarFits.{voice_fits}

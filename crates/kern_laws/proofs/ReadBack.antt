@@ -2,9 +2,9 @@
 use Rattle.std.proofs.Common.{List, [], ◌∷◌, map, reverse, refl, sym, ap, subst}
 use Rattle.rhythm_base.specs.declared.note.Bar.{Bar}
 use Rattle.rhythm_base.specs.Performance.{Performance}
-use Rattle.kern_writer.proofs.OneScore.{scores_one}
-use Rattle.kern_writer.specs.declared.score.ScoreBar.{ScoreBar}
-use Rattle.kern_writer.specs.PerformanceScore.{score_bar}
+use Rattle.derivation.proofs.OneScore.{scores_one}
+use Rattle.derivation.specs.declared.score.ScoreBar.{ScoreBar}
+use Rattle.derivation.specs.PerformanceScore.{score_bar}
 use Rattle.kern_reader.specs.Outcome.{scored}
 use Rattle.kern_reader.specs.Score.{score_columns}
 use Rattle.kern_laws.specs.Laws.{ReadsBack, ScoresReadBack, TextsReadBack}

@@ -6,7 +6,7 @@ use Rattle.std.proofs.lemmas.Bool.Decides.{nat_tests}
 use Rattle.std.proofs.lemmas.List.{reverse-append}
 use Rattle.rhythm_base.specs.Lists.{Each}
 use Rattle.kern_writer.specs.Records.{Record, alike, head, tail}
-use Rattle.kern_writer.specs.Score.{IsScore, Score}
+use Rattle.derivation.specs.Score.{IsScore, Score}
 use Rattle.kern_writer.specs.Text.{IsScoreText, records_text}
 use Rattle.kern_reader.specs.Columns.{announced, columns_of, current_bar, grid_of, spines_of, stage_after, stage_of}
 use Rattle.kern_reader.specs.Faults.{first_fault, has_no_head, has_wrong_width, is_head_stage, is_out_of_turn, line_fault, said_tests}

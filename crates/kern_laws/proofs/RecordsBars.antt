@@ -5,10 +5,10 @@ use Rattle.std.specs.List.{flat_map}
 use Rattle.std.proofs.lemmas.List.{length-map, map-append}
 use Rattle.std.proofs.lemmas.List.Elements.{All-head, All-tail}
 use Rattle.rhythm_base.specs.Lists.{Each}
-use Rattle.kern_writer.specs.declared.score.ScoreBar.{ScoreBar}
+use Rattle.derivation.specs.declared.score.ScoreBar.{ScoreBar}
 use Rattle.kern_writer.specs.Changes.{changes, key_before, key_change, key_text, same_key, same_signature, same_tempo, signature_change, signature_text, tempo_change, tempo_text}
 use Rattle.kern_writer.specs.Records.{AreBarRecords, AreBarsRecords, Record, alike, barline_record, records_at, tokens_in_bar}
-use Rattle.kern_writer.specs.Score.{IsScoreBar}
+use Rattle.derivation.specs.Score.{IsScoreBar}
 use Rattle.kern_writer.specs.Tokens.{Token}
 use Rattle.kern_laws.specs.ScoreLines.{AreBarLines, AreBarsLines, Barline, KernLine, Other, Said, Signature, change_lines, lines_at, said_in_bar}
 use Rattle.kern_laws.proofs.RecordsLines.{SaysInside}

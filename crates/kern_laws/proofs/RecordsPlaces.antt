@@ -6,7 +6,7 @@ use Rattle.std.proofs.lemmas.List.{length-map}
 use Rattle.rhythm_base.specs.Lists.{Each}
 use Rattle.kern_writer.specs.Records.{ArePlaces, grace_column, grace_record, grace_records, grace_records_at, grace_tokens, main_column, main_record, records_at, token_at}
 use Rattle.kern_writer.specs.Tokens.{Token}
-use Rattle.kern_writer.proofs.Pairs.{each_length}
+use Rattle.derivation.proofs.Pairs.{each_length}
 use Rattle.kern_reader.specs.declared.token.Token.TheVariants as reads
 use Rattle.kern_laws.specs.ScoreLines.{AreSaidPlaces, Said, grace_line, grace_lines, grace_lines_at, grace_or_null, graces_or_none, lines_at, main_line, main_or_null, said_at}
 use Rattle.kern_laws.proofs.RecordsLines.{SaysInside, data_says}

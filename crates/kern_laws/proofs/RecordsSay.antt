@@ -6,10 +6,10 @@ use Rattle.std.proofs.lemmas.Bool.{and_from}
 use Rattle.std.proofs.lemmas.List.{length-map}
 use Rattle.rhythm_base.specs.Lists.{Each}
 use Rattle.kern_writer.specs.Records.{AreRecords, Record, head, tail}
-use Rattle.kern_writer.specs.Score.{IsScore, Score}
+use Rattle.derivation.specs.Score.{IsScore, Score}
 use Rattle.kern_writer.specs.Tokens.{voice_tokens}
 use Rattle.kern_writer.specs.Values.{AreVoiceValues}
-use Rattle.kern_writer.proofs.Pairs.{each_length}
+use Rattle.derivation.proofs.Pairs.{each_length}
 use Rattle.kern_laws.specs.ScoreLines.{AreScoreLines, Ending, Heading, KernLine, LastBarline, voice_said}
 use Rattle.kern_laws.proofs.RecordsBars.{bars_say}
 use Rattle.kern_laws.proofs.RecordsLines.{SaysInside, SaysLine}

@@ -16,8 +16,8 @@ use Rattle.durations.specs.declared.value.Value.{Value}
 use Rattle.durations.specs.Value.{plain_grid, value_grid}
 use Rattle.durations.proofs.Bars.{written_dots}
 use Rattle.durations.proofs.Beats.{written_part}
-use Rattle.kern_writer.specs.declared.score.ScoreBar.{ScoreBar}
-use Rattle.kern_writer.specs.Score.{IsScoreBar}
+use Rattle.derivation.specs.declared.score.ScoreBar.{ScoreBar}
+use Rattle.derivation.specs.Score.{IsScoreBar}
 use Rattle.kern_writer.specs.Tokens.{Token, bar_tokens, grace_text, has_flats, next_goes_on, token, voice_tokens}
 use Rattle.kern_writer.specs.Values.{AreBarValues, AreVoiceValues, VoiceValue, is_first, sounds_in_bar, timed, value_of_sound, values_of_sounds}
 use Rattle.kern_writer.proofs.BarValues.{sounds_of_values}

@@ -16,8 +16,8 @@ use Rattle.derivation.proofs.FilledBars.{parts_at}
 use Rattle.derivation.proofs.SpansRead.{ties_of}
 use Rattle.durations.specs.declared.value.Value.{Value}
 use Rattle.durations.specs.Value.{width}
-use Rattle.kern_writer.specs.declared.score.ScoreBar.{ScoreBar}
-use Rattle.kern_writer.specs.Score.{IsScoreBar}
+use Rattle.derivation.specs.declared.score.ScoreBar.{ScoreBar}
+use Rattle.derivation.specs.Score.{IsScoreBar}
 use Rattle.kern_writer.specs.Tokens.{next_goes_on}
 use Rattle.kern_writer.specs.Values.{VoiceValue}
 use Rattle.kern_reader.specs.declared.token.Token.{Token}

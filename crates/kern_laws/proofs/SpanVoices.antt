@@ -13,8 +13,8 @@ use Rattle.rhythm_base.specs.Lists.{Each}
 use Rattle.rhythm_base.specs.Spans.{chord_runs, parts_of_unit}
 use Rattle.derivation.proofs.FilledBars.{parts_at, place_next}
 use Rattle.durations.specs.Value.{width}
-use Rattle.kern_writer.specs.declared.score.ScoreBar.{ScoreBar}
-use Rattle.kern_writer.specs.Score.{IsScoreBar}
+use Rattle.derivation.specs.declared.score.ScoreBar.{ScoreBar}
+use Rattle.derivation.specs.Score.{IsScoreBar}
 use Rattle.kern_writer.specs.Values.{VoiceValue}
 use Rattle.kern_reader.specs.declared.token.Token.{Token}
 use Rattle.kern_reader.specs.declared.token.Token.TheVariants as token

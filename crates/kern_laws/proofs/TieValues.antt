@@ -11,7 +11,7 @@ use Rattle.derivation.specs.WellSounded.{TiesGoOn}
 use Rattle.derivation.specs.WellSounded as sounded
 use Rattle.durations.specs.declared.value.Value.{Value}
 use Rattle.durations.specs.Value.{width}
-use Rattle.kern_writer.specs.declared.score.ScoreBar.{ScoreBar}
+use Rattle.derivation.specs.declared.score.ScoreBar.{ScoreBar}
 use Rattle.kern_writer.specs.Tokens.{goes_on}
 use Rattle.kern_writer.specs.Values.{VoiceValue}
 use Rattle.kern_laws.proofs.BarSounded.{AreSounded, leaf_values, sound_len}

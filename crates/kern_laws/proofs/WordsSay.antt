@@ -9,7 +9,7 @@ use Rattle.std.proofs.lemmas.Bool.Decides.{nat_tests}
 use Rattle.std.proofs.lemmas.Fmt.{decimal_nonempty}
 use Rattle.std.proofs.lemmas.List.{length-replicate}
 use Rattle.rhythm_base.specs.Signatures.{IsSignature, is_den}
-use Rattle.kern_writer.specs.declared.score.ScoreBar.{ScoreBar}
+use Rattle.derivation.specs.declared.score.ScoreBar.{ScoreBar}
 use Rattle.kern_writer.specs.Changes.{accidentals, key_text, quarters_of_minute, signature_text, tempo_text}
 use Rattle.kern_writer.specs.Records.{alike, barline_record, head}
 use Rattle.kern_reader.specs.declared.token.TimeSignature.{TimeSignature}

@@ -7,8 +7,9 @@ use Rattle.rhythm_base.specs.Performance.{IsWellFormed, Performance}
 use Rattle.rhythm_base.specs.Pitch.{pitch}
 use Rattle.rhythm_base.specs.Readable.{IsReadable}
 use Rattle.durations.specs.declared.value.Value.{Value}
-use Rattle.kern_writer.specs.PerformanceScore.{IsScoreOf, IsTextOf}
-use Rattle.kern_writer.specs.Score.{IsScore, Score}
+use Rattle.derivation.specs.PerformanceScore.{IsScoreOf}
+use Rattle.kern_writer.specs.PerformanceText.{IsTextOf}
+use Rattle.derivation.specs.Score.{IsScore, Score}
 use Rattle.kern_writer.specs.Text.{IsScoreText}
 use Rattle.kern_writer.specs.Tokens.{value_text}
 use Rattle.kern_reader.specs.declared.event.KernEvent.{KernEvent}

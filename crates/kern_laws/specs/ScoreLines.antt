@@ -6,9 +6,9 @@ use Rattle.std.specs.List.{flat_map, join_with_byte}
 use Rattle.std.specs.List.Sorted.{IsStrictlyIncreasing}
 use Rattle.rhythm_base.specs.Lists.{Each}
 use Rattle.rhythm_base.specs.Spans.{is_rest, is_short}
-use Rattle.kern_writer.specs.declared.score.ScoreBar.{ScoreBar}
+use Rattle.derivation.specs.declared.score.ScoreBar.{ScoreBar}
 use Rattle.kern_writer.specs.Changes.{key_before, key_change, signature_change, tempo_change}
-use Rattle.kern_writer.specs.Score.{Score}
+use Rattle.derivation.specs.Score.{Score}
 use Rattle.kern_writer.specs.Tokens.{goes_on, next_goes_on}
 use Rattle.kern_writer.specs.Values.{AreVoiceValues, VoiceValue}
 use Rattle.kern_reader.specs.declared.token.TieMark.{TieMark}

@@ -4,6 +4,7 @@ pub mod EventLemmas
 pub mod FractionLemmas
 pub mod GridLemmas
 pub mod GridWalk
+pub mod KeyFloors
 pub mod KeyLemmas
 pub mod LineLemmas
 pub mod NumberLemmas

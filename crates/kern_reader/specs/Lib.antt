@@ -8,4 +8,5 @@ pub mod Outcome
 pub mod Reading
 pub mod Events
 pub mod EventText
+pub mod LowestKey
 pub mod FaultName

@@ -1,9 +1,11 @@
 ghost use Rattle.kern_reader.specs.EventText as definitions;
-ghost use Rattle.kern_reader.specs.EventText.{event_text, events_text, frac_text, keys_from, keys_text, kind_text, listed_on};
+ghost use Rattle.kern_reader.specs.EventText.{event_text, events_text, frac_text, keys_text, kind_text};
+ghost use Rattle.kern_reader.specs.LowestKey.{IsFloor};
 ghost use Rattle.std.specs.List.{flat_map};
-ghost use Rattle.std.specs.Prelude.{◌≡◌, ◌<◌, ◌+◌, ◌-◌, ◌++◌, IfOk, OnOk, decimal};
+ghost use Rattle.std.specs.Prelude.{◌≡◌, ◌++◌, IfOk, IsTrue, OnOk, decimal};
 
 use crate::event::KernEvent;
+use crate::lowest_key::lowest_key;
 use rhythm_base::{Frac, Keys, Span};
 use std::alloc::{AllocError, Global};
 
@@ -34,27 +36,29 @@ fn push_key(text: &mut Vec<u8>, first: bool, key: u8) -> Result<(), AllocError>
     push_number(text, u64::from(key))
 }
 
-/// Appends a key where it is in the set, of which the first keys are there or none; whether still none is.
-fn push_key_of(text: &mut Vec<u8>, keys: Keys, first: bool, key: u8) -> Result<bool, AllocError>
-    requires { key < 128 }
-    ensures { IfOk result (λ still. text.new.items ++ listed_on still (keys_from keys (key + 1) (128 - (key + 1)))
-        ≡ text.old.items ++ listed_on first (keys_from keys key (128 - key))) }
+/// Whether two sets of keys are one.
+fn are_same(keys: Keys, other: Keys) -> bool
+    ensures { IsTrue result → keys ≡ other }
 {
-    if keys.has(key) {
-        push_key(text, first, key)?;
-        Ok(false)
-    } else {
-        Ok(first)
-    }
+    keys == other
 }
 
-/// Appends the keys of a chord.
-fn push_keys(text: &mut Vec<u8>, keys: Keys) -> Result<(), AllocError>
+/// Appends the keys of a chord, none of which is below `low`. It looks no further once all are found.
+fn push_keys(text: &mut Vec<u8>, low: u8, keys: Keys) -> Result<(), AllocError>
+    requires { IsFloor low keys }
     ensures { OnOk result (text.new.items ≡ text.old.items ++ keys_text keys) }
 {
     let mut first = true;
-    'keys: for key in 0..128 {
-        first = push_key_of(text, keys, first, key)?;
+    let mut found = Keys::none();
+    'keys: for key in low..128 {
+        if keys.has(key) {
+            push_key(text, first, key)?;
+            first = false;
+            found = found.join(Keys::one(key));
+            if are_same(found, keys) {
+                return Ok(());
+            }
+        }
     }
     Ok(())
 }
@@ -65,7 +69,7 @@ fn push_graces(text: &mut Vec<u8>, graces: &[Keys]) -> Result<(), AllocError>
 {
     'graces: for keys in graces {
         text.extend_from_slice(b" q")?;
-        push_keys(text, *keys)?;
+        push_keys(text, 0, *keys)?;
     }
     Ok(())
 }
@@ -93,21 +97,23 @@ fn push_place(text: &mut Vec<u8>, event: &KernEvent) -> Result<(), AllocError>
 }
 
 /// Appends the kind and the keys of a span.
-fn push_sound(text: &mut Vec<u8>, span: &Span) -> Result<(), AllocError>
+fn push_sound(text: &mut Vec<u8>, low: u8, span: &Span) -> Result<(), AllocError>
+    requires { IsFloor low span.now.keys }
     ensures { OnOk result (text.new.items ≡ text.old.items ++ definitions.sound_text span.now) }
 {
     text.extend_from_slice(b" ")?;
     push_kind(text, span.short)?;
     text.extend_from_slice(b" ")?;
-    push_keys(text, span.keys)
+    push_keys(text, low, span.keys)
 }
 
 /// Appends the line of an event.
-fn push_event(text: &mut Vec<u8>, event: &KernEvent) -> Result<(), AllocError>
+fn push_event(text: &mut Vec<u8>, low: u8, event: &KernEvent) -> Result<(), AllocError>
+    requires { IsFloor low event.now.span.keys }
     ensures { OnOk result (text.new.items ≡ text.old.items ++ event_text event.now) }
 {
     push_place(text, event)?;
-    push_sound(text, &event.span)?;
+    push_sound(text, low, &event.span)?;
     push_graces(text, event.span.graces.as_slice())?;
     text.extend_from_slice(b"\n")
 }
@@ -118,8 +124,9 @@ pub fn write_events(alloc: Global, events: &[KernEvent]) -> Result<Vec<u8>, Allo
     ensures { IfOk result (λ v. v.items ≡ events_text events.now) }
 {
     let mut text = Vec::new(alloc);
+    let low = lowest_key(events);
     'events: for event in events {
-        push_event(&mut text, event)?;
+        push_event(&mut text, low, event)?;
     }
     Ok(text)
 }

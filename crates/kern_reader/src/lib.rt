@@ -13,6 +13,7 @@ mod grid;
 mod line;
 mod line_reading;
 mod line_words;
+mod lowest_key;
 mod note;
 mod number;
 mod piece;

@@ -19,7 +19,7 @@ use Rattle.durations.specs.Value.{IsWide, parts, plain_parts, value_grid, width}
 use Rattle.durations.specs.Values.{AreValues}
 use Rattle.durations.proofs.Bars.{values_in, written_fills, written_one}
 use Rattle.durations.proofs.Wide.{some_product}
-use Rattle.kern_writer.specs.declared.score.ScoreBar.{ScoreBar}
+use Rattle.derivation.specs.declared.score.ScoreBar.{ScoreBar}
 use Rattle.kern_writer.specs.Columns.{AreTokens, RiseFrom, column_tokens, next_in_column}
 use Rattle.kern_writer.specs.Tokens.{Token, bar_tokens, goes_on, has_flats, next_goes_on, token}
 use Rattle.kern_writer.specs.Values.{AreBarValues, VoiceValue, is_first, timed, value_of_sound, values_of_sounds}

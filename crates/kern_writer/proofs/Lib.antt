@@ -5,9 +5,7 @@ pub mod BarValues
 pub mod ColumnLemmas
 pub mod KeySets
 pub mod Merging
-pub mod OneScore
 pub mod OneText
-pub mod Pairs
 pub mod Rising
 pub mod RisingKeys
 pub mod RisingPlaces

@@ -7,7 +7,7 @@ use Rattle.std.proofs.lemmas.Bool.{cases_eq, cases_lt, false≢true}
 use Rattle.std.proofs.lemmas.Bool.Decides.{nat_tests}
 use Rattle.std.proofs.lemmas.List.Elements.{All-cons, All-head, All-nil, All-tail}
 use Rattle.std.proofs.lemmas.List.Sums.{sum_by-cons}
-use Rattle.kern_writer.specs.declared.score.ScoreBar.{ScoreBar}
+use Rattle.derivation.specs.declared.score.ScoreBar.{ScoreBar}
 use Rattle.kern_writer.specs.Changes.{changes}
 use Rattle.kern_writer.specs.Columns.{AreDataRecords, RiseFrom, earlier_place, first_place, next_place, tokens_after}
 use Rattle.kern_writer.specs.Records.{AreBarRecords, ArePlaces, Record, alike, barline_record, grace_column, grace_record, grace_records, grace_records_at, grace_tokens, main_column, main_record, records_at, token_at}

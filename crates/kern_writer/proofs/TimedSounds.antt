@@ -9,8 +9,8 @@ use Rattle.rhythm_base.specs.declared.sound.Sound.{Sound}
 use Rattle.rhythm_base.proofs.Beats.{some_beat}
 use Rattle.durations.specs.declared.joined.Timed.{Timed}
 use Rattle.durations.specs.Joined.{IsTimedLeaf}
-use Rattle.kern_writer.specs.declared.score.ScoreBar.{ScoreBar}
-use Rattle.kern_writer.specs.Score.{IsScoreBar}
+use Rattle.derivation.specs.declared.score.ScoreBar.{ScoreBar}
+use Rattle.derivation.specs.Score.{IsScoreBar}
 use Rattle.kern_writer.specs.Values.{timed}
 
 abbrev pub width_of : Sound → ℕ

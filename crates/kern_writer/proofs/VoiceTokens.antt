@@ -7,10 +7,10 @@ use Rattle.rhythm_base.specs.declared.sound.Sound.{Sound}
 use Rattle.rhythm_base.specs.Spans.{is_tie}
 use Rattle.derivation.specs.WellSounded.{StandInBars}
 use Rattle.durations.proofs.Wide.{some_product}
-use Rattle.kern_writer.specs.declared.score.ScoreBar.{ScoreBar}
+use Rattle.derivation.specs.declared.score.ScoreBar.{ScoreBar}
 use Rattle.kern_writer.specs.Ahead.{AreTokensAhead, begins_with_tie, later_sounds, own_sounds}
 use Rattle.kern_writer.specs.Columns.{column_tokens}
-use Rattle.kern_writer.specs.Score.{IsScoreBar}
+use Rattle.derivation.specs.Score.{IsScoreBar}
 use Rattle.kern_writer.specs.Tokens.{Token, bar_tokens, has_flats, next_goes_on, voice_tokens}
 use Rattle.kern_writer.specs.Values.{AreBarValues, AreVoiceValues, VoiceValue, sounds_in_bar}
 use Rattle.kern_writer.proofs.BarSounds.{first_in_bar, in_bar_own, in_later, stand_later}

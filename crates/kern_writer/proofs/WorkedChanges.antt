@@ -1,7 +1,7 @@
 -- The texts of changes, computed by the definition.
 use Rattle.std.specs.Prelude.{◌≡◌, ℕ, ℤ, pos, negsuc, List, [], ◌∷◌, codes, refl, Option, Some, None}
 use Rattle.std.specs.Fmt.{digits}
-use Rattle.kern_writer.specs.declared.score.ScoreBar.{ScoreBar}
+use Rattle.derivation.specs.declared.score.ScoreBar.{ScoreBar}
 use Rattle.kern_writer.specs.Changes.{changes, key_text}
 
 abbrev bar : ℕ → ℕ → ℕ → Option ℤ → ScoreBar

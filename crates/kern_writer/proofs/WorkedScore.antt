@@ -15,9 +15,9 @@ use Rattle.std.specs.Prelude.{All}
 use Rattle.std.proofs.lemmas.List.Elements.{All-from_recursion}
 use Rattle.kern_writer.specs.Columns.{AreDataRecords, RiseFrom, tokens_after}
 use Rattle.kern_writer.proofs.Merging.{are_records, bar_records, data_next, data_none}
-use Rattle.kern_writer.specs.declared.score.ScoreBar.{ScoreBar}
+use Rattle.derivation.specs.declared.score.ScoreBar.{ScoreBar}
 use Rattle.kern_writer.specs.Records.{Record, records_at, tokens_in_bar}
-use Rattle.kern_writer.specs.Score.{Score}
+use Rattle.derivation.specs.Score.{Score}
 use Rattle.kern_writer.specs.Text.{IsScoreText}
 use Rattle.kern_writer.specs.Tokens.{Token, rising_keys, voice_tokens}
 use Rattle.kern_writer.specs.Values.{AreBarValues, VoiceValue}

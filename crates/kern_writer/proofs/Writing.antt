@@ -9,7 +9,7 @@ use Rattle.kern_writer.specs.declared.fault.ScoreFault.{ScoreFault}
 use Rattle.kern_writer.specs.declared.fault.ScoreFault.TheVariants.{TooLong, Memory}
 use Rattle.kern_writer.specs.declared.kern_text.KernText.{KernText}
 use Rattle.kern_writer.specs.Records.{AreRecords, Record}
-use Rattle.kern_writer.specs.Score.{Score}
+use Rattle.derivation.specs.Score.{Score}
 use Rattle.kern_writer.specs.Text.{IsTooLong, record_text, records_text}
 use Rattle.kern_writer.specs.Writing.{EndsPast, HasEnded, HasWritten, IfTooLong, IsBounded, IsPast, Writes}
 

@@ -3,7 +3,7 @@ use Rattle.std.specs.Prelude.{◌≡◌, ℕ, ◌≤◌, nat_lt, min, Bool, List
 use Rattle.std.proofs.Common.{suc}
 use Rattle.std.specs.List.{flat_map}
 use Rattle.rhythm_base.specs.declared.sound.Sound.{Sound}
-use Rattle.kern_writer.specs.declared.score.ScoreBar.{ScoreBar}
+use Rattle.derivation.specs.declared.score.ScoreBar.{ScoreBar}
 use Rattle.kern_writer.specs.Records.{ArePlaces, Record, records_at}
 use Rattle.kern_writer.specs.Tokens.{Token, goes_on, has_flats, token}
 use Rattle.kern_writer.specs.Values.{AreBarValues, VoiceValue}

@@ -1,11 +1,7 @@
 -- The laws, each as one statement over the definitions.
 use Rattle.rhythm_base.specs.declared.limits.TheConstants.{LONGEST_SCORE}
 use Rattle.std.specs.Prelude.{◌≡◌, ℕ, ◌≤◌, List, length}
-use Rattle.rhythm_base.specs.Grammar.{Grammar}
-use Rattle.rhythm_base.specs.Performance.{IsWellFormed, Performance}
-use Rattle.rhythm_base.specs.Readable.{IsReadable}
-use Rattle.kern_writer.specs.PerformanceScore.{IsScoreOf}
-use Rattle.kern_writer.specs.Score.{IsScore, Score}
+use Rattle.derivation.specs.Score.{IsScore, Score}
 use Rattle.kern_writer.specs.Text.{IsScoreText, IsTooLong}
 
 -- a score has one text, and one first record past the longest text where that is longer
@@ -13,8 +9,3 @@ pub record TextsAreOne : Type 0 where
   pub text : (s : Score) (a b : List ℕ) → IsScore s → IsScoreText s a → IsScoreText s b → a ≡ b
   pub too_long : (s : Score) (a b : ℕ) → IsScore s → IsTooLong s a → IsTooLong s b → a ≡ b
   pub either : (s : Score) (text : List ℕ) (line : ℕ) → IsScore s → IsScoreText s text → length text ≤ LONGEST_SCORE → IsTooLong s line → ⊥
-
--- a performance and a grammar have one score, which can be written
-pub record ScoresAreOne : Type 0 where
-  pub score : (g : Grammar) (p : Performance) (s t : Score) → IsReadable g → IsWellFormed p → IsScoreOf g p s → IsScoreOf g p t → s ≡ t
-  pub can_be_written : (g : Grammar) (p : Performance) (s : Score) → IsReadable g → IsWellFormed p → IsScoreOf g p s → IsScore s

@@ -1,10 +1,9 @@
-pub mod Score
 pub mod Values
 pub mod Tokens
 pub mod Changes
 pub mod Records
 pub mod Text
-pub mod PerformanceScore
+pub mod PerformanceText
 pub mod Laws
 pub mod Columns
 pub mod Ahead

@@ -4,9 +4,9 @@ use Rattle.std.proofs.Common.{suc, zero}
 use Rattle.std.specs.List.{flat_map}
 use Rattle.std.specs.List.Sorted.{IsStrictlyIncreasing}
 use Rattle.rhythm_base.specs.Lists.{Each}
-use Rattle.kern_writer.specs.declared.score.ScoreBar.{ScoreBar}
+use Rattle.derivation.specs.declared.score.ScoreBar.{ScoreBar}
 use Rattle.kern_writer.specs.Changes.{changes}
-use Rattle.kern_writer.specs.Score.{Score}
+use Rattle.derivation.specs.Score.{Score}
 use Rattle.kern_writer.specs.Tokens.{Token, voice_tokens}
 use Rattle.kern_writer.specs.Values.{AreVoiceValues, VoiceValue}
 

@@ -3,7 +3,7 @@ use Rattle.rhythm_base.specs.declared.limits.TheConstants.{LONGEST_SCORE}
 use Rattle.std.specs.Prelude.{◌≡◌, ℕ, ◌-◌, ◌<◌, ◌≤◌, List, [], ◌∷◌, ◌++◌, length, take}
 use Rattle.std.specs.List.{flat_map, join_with_byte}
 use Rattle.kern_writer.specs.Records.{AreRecords, Record}
-use Rattle.kern_writer.specs.Score.{Score}
+use Rattle.derivation.specs.Score.{Score}
 
 -- the columns with a tab between two, and a newline
 abbrev pub record_text : Record → List ℕ

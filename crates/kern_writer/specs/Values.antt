@@ -6,7 +6,7 @@ use Rattle.durations.specs.declared.joined.Timed.{Timed}
 use Rattle.durations.specs.declared.joined.Written.{Written}
 use Rattle.durations.specs.declared.value.Value.{Value}
 use Rattle.durations.specs.Joined.{AreWritten}
-use Rattle.kern_writer.specs.declared.score.ScoreBar.{ScoreBar}
+use Rattle.derivation.specs.declared.score.ScoreBar.{ScoreBar}
 
 -- A value of a voice: the place in its bar at which it begins, in parts of 1/(resolution * den) of a whole note; the value; the
 -- leaf that it is a value of, the first one where several are joined; and whether it is that leaf's first

@@ -1,6 +1,6 @@
 ghost use Rattle.kern_writer.specs.Ahead as definitions;
 ghost use Rattle.kern_writer.specs.Ahead.{AreTokensAhead, FillBar, later_sounds, own_sounds};
-ghost use Rattle.kern_writer.specs.Score.{IsScoreBar};
+ghost use Rattle.derivation.specs.Score.{IsScoreBar};
 ghost use Rattle.rhythm_base.specs.Lists.{Each};
 ghost use Rattle.rhythm_base.specs.declared.limits.TheConstants.{MOST_UNITS};
 ghost use Rattle.std.specs.Prelude.{◌≡◌, ◌≤◌, ◌==◌, All, IfOk, OnOk, map};
@@ -8,7 +8,7 @@ ghost use Rattle.std.specs.List.{prefix_len};
 
 use crate::column::Column;
 use crate::key_range::KeyRange;
-use crate::score::ScoreBar;
+use derivation::ScoreBar;
 use rhythm_base::{Sound, SoundKind};
 use std::alloc::{AllocError, Global};
 use std::marker::Model;

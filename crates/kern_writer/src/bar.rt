@@ -1,6 +1,6 @@
 ghost use Rattle.kern_writer.specs.Columns.{RiseFrom};
 ghost use Rattle.kern_writer.specs.Records.{AreBarRecords, Record};
-ghost use Rattle.kern_writer.specs.Score.{IsScoreBar};
+ghost use Rattle.derivation.specs.Score.{IsScoreBar};
 ghost use Rattle.kern_writer.specs.Writing.{IsBounded, Writes};
 ghost use Rattle.kern_writer.specs.Ahead.{AreTokensAhead, FillBar, later_sounds};
 ghost use Rattle.kern_writer.specs.Tokens.{Token};
@@ -14,8 +14,8 @@ use crate::column::Column;
 use crate::data::write_data;
 use crate::fault::ScoreFault;
 use crate::kern_text::KernText;
-use crate::score::ScoreBar;
 use crate::shared::{SharedToken, write_shared};
+use derivation::ScoreBar;
 use std::alloc::Global;
 
 /// Writes the records of the bar of this number, counted from 0, with these columns.

@@ -1,14 +1,14 @@
 ghost use Rattle.kern_writer.specs.Changes as definitions;
 ghost use Rattle.kern_writer.specs.Changes.{changes, key_before, key_change, quarters_of_minute, signature_change, tempo_change};
 ghost use Rattle.kern_writer.specs.Records.{alike};
-ghost use Rattle.kern_writer.specs.Score.{IsScoreBar};
+ghost use Rattle.derivation.specs.Score.{IsScoreBar};
 ghost use Rattle.kern_writer.specs.Writing.{IsBounded, Writes};
 ghost use Rattle.std.specs.Prelude.{◌≡◌, ◌≤◌, IfSome, map};
 
 use crate::fault::ScoreFault;
 use crate::kern_text::KernText;
-use crate::score::ScoreBar;
 use crate::shared::{SharedToken, write_shared};
+use derivation::ScoreBar;
 
 /// The quarter notes of a minute, rounded, halves up.
 fn quarters(bar: &ScoreBar) -> u64

@@ -1,15 +1,15 @@
 ghost use Rattle.kern_writer.specs.Columns.{AreTokens, RiseFrom, first_place, tokens_after};
 ghost use Rattle.kern_writer.specs.KeyRange.{HasKeysIn};
 ghost use Rattle.kern_writer.specs.Records.{grace_column, grace_tokens, main_column, token_at};
-ghost use Rattle.kern_writer.specs.Score.{IsScoreBar};
+ghost use Rattle.derivation.specs.Score.{IsScoreBar};
 ghost use Rattle.kern_writer.specs.Tokens as tokens;
 ghost use Rattle.rhythm_base.specs.declared.limits.TheConstants.{MOST_UNITS};
 ghost use Rattle.std.specs.Prelude.{◌≡◌, is_some, ◌≤◌, ◌++◌, All, IfOk, OnOk, length, map, slice_get, sum};
 
 use crate::key_range::KeyRange;
-use crate::score::ScoreBar;
 use crate::token::{Token, TokenStyle};
 use crate::voice_value::{VoiceValue, bar_values};
+use derivation::ScoreBar;
 use rhythm_base::Sound;
 use std::alloc::{AllocError, Global};
 use std::marker::Model;

@@ -3,7 +3,7 @@ ghost use Rattle.rhythm_base.specs.declared.limits.TheConstants.{LONGEST_SCORE, 
 ghost use Rattle.kern_writer.specs.declared.fault.ScoreFault.TheVariants.{TooLong};
 ghost use Rattle.std.specs.Prelude.{Err};
 ghost use Rattle.kern_writer.specs.Records.{AreBarsRecords, AreRecords, Record};
-ghost use Rattle.kern_writer.specs.Score.{IsScore, IsScoreBar};
+ghost use Rattle.derivation.specs.Score.{IsScore, IsScoreBar};
 ghost use Rattle.derivation.specs.WellSounded.{AreWellSounded};
 ghost use Rattle.kern_writer.specs.Text.{IsScoreText, IsTooLong};
 ghost use Rattle.kern_writer.specs.Tokens.{voice_tokens};
@@ -15,8 +15,8 @@ use crate::ahead::SoundsAhead;
 use crate::bar::write_bar;
 use crate::fault::ScoreFault;
 use crate::kern_text::KernText;
-use crate::score::{Score, ScoreBar, VoiceSounds};
 use crate::shared::{SharedToken, write_shared};
+use derivation::{Score, ScoreBar, VoiceSounds};
 use std::alloc::{AllocError, Global};
 
 /// The sounds of each voice from the first bar on.

@@ -59,17 +59,3 @@ pub(crate) fn push_between(text: &mut Vec<u8>, byte: u8, number: usize) -> Resul
     }
     Ok(())
 }
-
-#[cfg(test)]
-mod tests {
-    use super::*;
-    use std::test::Fail;
-
-    /// A text of 67,108,864 bytes is not too long, and one of one byte more is.
-    #[test]
-    fn ends_at_the_longest_text(rt: HostRuntime) -> Result<(), Fail> {
-        assert!(rt; next_line(6, 67_108_864) == Ok(7));
-        assert!(rt; next_line(6, 67_108_865) == Err(ScoreFault::TooLong { line: 7 }));
-        Ok(())
-    }
-}

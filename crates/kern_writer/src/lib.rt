@@ -14,7 +14,6 @@ mod kern_text;
 mod key_range;
 mod laws;
 mod pitch;
-mod score;
 mod shared;
 mod token;
 mod value_text;
@@ -22,5 +21,4 @@ mod voice_value;
 
 pub use fault::ScoreFault;
 pub use kern::write_kern;
-pub use laws::{scores_are_one, texts_are_one};
-pub use score::{Score, ScoreBar, VoiceSounds};
+pub use laws::texts_are_one;

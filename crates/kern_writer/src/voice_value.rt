@@ -1,13 +1,13 @@
 ghost use Rattle.kern_writer.specs.Tokens as tokens;
 ghost use Rattle.kern_writer.specs.Values as values;
-ghost use Rattle.kern_writer.specs.Score.{IsScoreBar};
+ghost use Rattle.derivation.specs.Score.{IsScoreBar};
 ghost use Rattle.rhythm_base.specs.declared.limits.TheConstants.{MOST_UNITS};
 ghost use Rattle.kern_writer.specs.Values.{AreBarValues, timed, values_of_sounds};
 ghost use Rattle.rhythm_base.specs.Spans.{is_rest, is_short};
 ghost use Rattle.std.specs.Prelude.{◌≡◌, ◌*◌, ◌≤◌, ◌<◌, ◌++◌, All, IfOk, OnOk, None, if◌then◌else◌, [], length, map, sum};
 ghost use Rattle.durations.specs.declared.joined.Written.{Written};
 
-use crate::score::ScoreBar;
+use derivation::ScoreBar;
 use durations::{Timed, Value, Written, values_of};
 use rhythm_base::{Keys, Sound, SoundKind};
 use std::alloc::{AllocError, Global};

@@ -11,10 +11,10 @@ ghost use Rattle.std.specs.Prelude.{◌≡◌, None, IfOk, option_map};
 use crate::kept_rules::KeptRules;
 use crate::steps::Steps;
 use crate::table::BarTable;
+use best_trees::least_trees;
 use carry_matrix::CarryMatrix;
 use grammar_plan::Plan;
 use least_rows::{BarBests, Room, quiet_of};
-use pinned_trees::pinned_trees;
 use rhythm_base::{BarInput, Grammar, Shape, Tag};
 use row_laws::Quiet;
 use std::alloc::{AllocError, Global};
@@ -148,7 +148,7 @@ fn build_pinned(alloc: Global, grammar: &Grammar, input: &BarInput) -> Result<Ba
     ensures input { IfOk result (λ t. t.input ≡ input.now) }
     ensures table { IfOk result (IsTable grammar.now) }
 {
-    let trees = pinned_trees(alloc, grammar, input)?;
+    let trees = least_trees(alloc, grammar, input)?;
     let lists = &trees.lists;
     table_of(
         alloc,

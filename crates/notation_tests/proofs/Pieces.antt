@@ -5,7 +5,8 @@ use Rattle.std.specs.Prelude.{All, bit_or, codes, length}
 use Rattle.std.proofs.lemmas.Nat.{le_or_l, or_lt}
 use Rattle.std.proofs.lemmas.List.Elements.{All-from_recursion}
 use Rattle.derivation.proofs.WellSounding.{well_sounded}
-use Rattle.derivation.specs.Sounds.{derivation_sounds}
+use Rattle.derivation.specs.RuleLists.{IsToldBy}
+use Rattle.derivation.specs.Sounds.{derivation_sounds, plain_bars}
 use Rattle.derivation.specs.WellSounded.{AreKeys, AreWellSounded}
 use Rattle.std.proofs.Math.Nat.{one-le-pow}
 use Rattle.std.proofs.Math.Pow.{pow-lt}
@@ -25,8 +26,7 @@ use Rattle.rhythm_base.specs.declared.rule.Rule.{Rule}
 use Rattle.rhythm_base.specs.declared.sound.Sound.{Sound}
 use Rattle.rhythm_base.specs.Forest.{Tree, forest_of, none}
 use Rattle.rhythm_base.specs.Grammar.{Grammar}
-use Rattle.rhythm_base.specs.Leaves.{FitsVoice, soundings}
-use Rattle.rhythm_base.specs.Voices.{voice_bars_from}
+use Rattle.rhythm_base.specs.Leaves.{soundings}
 
 abbrev text : List (List ℕ) → List ℕ
 text lines = flat_map (λ line. line ++ 10 ∷ []) lines
@@ -99,11 +99,17 @@ two_bars = record { start = 0; num = 4; den = 4 } ∷ record { start = 1920; num
 abbrev pub upper_trees : List Tree
 upper_trees = record { rule = 3; kids = forest_of (record { rule = 7; kids = forest_of (leaf 8 ∷ leaf 8 ∷ []) } ∷ leaf 5 ∷ []) } ∷ leaf 0 ∷ []
 
+abbrev pub upper_lists : List (List ℕ)
+upper_lists = (3 ∷ 7 ∷ 8 ∷ 8 ∷ 5 ∷ []) ∷ (0 ∷ []) ∷ []
+
 abbrev pub upper_chords : List Chord
 upper_chords = chord 5 470 (bit_or (2 ^ 70) (2 ^ 74)) ∷ chord 485 1900 (2 ^ 72) ∷ chord 1910 3800 (2 ^ 70) ∷ []
 
 abbrev pub lower_trees : List Tree
 lower_trees = leaf 0 ∷ leaf 1 ∷ []
+
+abbrev pub lower_lists : List (List ℕ)
+lower_lists = (0 ∷ []) ∷ (1 ∷ []) ∷ []
 
 abbrev pub lower_chords : List Chord
 lower_chords = chord 0 3840 (2 ^ 46) ∷ []
@@ -111,20 +117,23 @@ lower_chords = chord 0 3840 (2 ^ 46) ∷ []
 abbrev pub graced_trees : List Tree
 graced_trees = record { rule = 0; kids = forest_of (leaf 2 ∷ leaf 5 ∷ leaf 2 ∷ leaf 2 ∷ []) } ∷ []
 
+abbrev pub graced_lists : List (List ℕ)
+graced_lists = (0 ∷ 2 ∷ 5 ∷ 2 ∷ 2 ∷ []) ∷ []
+
 abbrev pub graced_chords : List Chord
 graced_chords = chord 400 440 (2 ^ 62) ∷ chord 440 480 (2 ^ 64) ∷ chord 480 960 (2 ^ 60) ∷ []
 
-abbrev FitsAll : Grammar → List Bar → ℕ → List Chord → List Tree → Type 0
-FitsAll g bars last cs ts = FitsVoice g (voice_bars_from g [] 0 last 0 bars) (soundings cs) ts
+abbrev AreTold : Grammar → List Bar → ℕ → List Chord → List (List ℕ) → List Tree → Type 0
+AreTold g bars last cs lists ts = IsToldBy g (plain_bars g last bars) (soundings cs) lists ts
 
-pub upper_fits : FitsAll eighths two_bars 3840 upper_chords upper_trees
-upper_fits = record { trees = refl; leaves = refl; leave = refl }
+pub upper_told : AreTold eighths two_bars 3840 upper_chords upper_lists upper_trees
+upper_told = record { fits = record { trees = refl; leaves = refl; leave = refl }; preorders = refl }
 
-pub lower_fits : FitsAll eighths two_bars 3840 lower_chords lower_trees
-lower_fits = record { trees = refl; leaves = refl; leave = refl }
+pub lower_told : AreTold eighths two_bars 3840 lower_chords lower_lists lower_trees
+lower_told = record { fits = record { trees = refl; leaves = refl; leave = refl }; preorders = refl }
 
-pub graced_fits : FitsAll quarters one_bar 1920 graced_chords graced_trees
-graced_fits = record { trees = refl; leaves = refl; leave = refl }
+pub graced_told : AreTold quarters one_bar 1920 graced_chords graced_lists graced_trees
+graced_told = record { fits = record { trees = refl; leaves = refl; leave = refl }; preorders = refl }
 
 some_keys : (k : ℕ) → k < 128 → AreKeys (2 ^ k)
 some_keys k lt = (one-le-pow k 2 (omega arith), pow-lt lt)
@@ -136,40 +145,40 @@ abbrev HaveKeys : List Chord → Type 0
 HaveKeys cs = All (λ c. AreKeys c.keys) cs
 
 abbrev AreSounded : Grammar → List Bar → ℕ → List Chord → List Tree → Type 0
-AreSounded g bars last cs ts = AreWellSounded g.resolution (length (voice_bars_from g [] 0 last 0 bars)) (derivation_sounds g (voice_bars_from g [] 0 last 0 bars) cs ts)
+AreSounded g bars last cs ts = AreWellSounded g.resolution (length (plain_bars g last bars)) (derivation_sounds g (plain_bars g last bars) cs ts)
 
 pub upper_sounded : AreSounded eighths two_bars 3840 upper_chords upper_trees
 upper_sounded =
     let both = two_keys (2 ^ 70) (2 ^ 74) (some_keys 70 (omega arith)) (some_keys 74 (omega arith)) in
     let keys : HaveKeys upper_chords = All-from_recursion (λ c. AreKeys c.keys) upper_chords (both, (some_keys 72 (omega arith), (some_keys 70 (omega arith), tt))) in
-    well_sounded eighths (voice_bars_from eighths [] 0 3840 0 two_bars) upper_chords upper_trees
-    (record { some = omega arith; near = (refl, omega arith, (refl, omega arith, refl)); rise = (omega arith, (omega arith, (omega arith, tt))); below = refl }) keys upper_fits
+    well_sounded eighths (plain_bars eighths 3840 two_bars) upper_chords upper_trees
+    (record { some = omega arith; near = (refl, omega arith, (refl, omega arith, refl)); rise = (omega arith, (omega arith, (omega arith, tt))); below = refl }) keys upper_told.fits
 
 pub lower_sounded : AreSounded eighths two_bars 3840 lower_chords lower_trees
 lower_sounded =
     let keys : HaveKeys lower_chords = All-from_recursion (λ c. AreKeys c.keys) lower_chords (some_keys 46 (omega arith), tt) in
-    well_sounded eighths (voice_bars_from eighths [] 0 3840 0 two_bars) lower_chords lower_trees
-    (record { some = omega arith; near = (refl, omega arith, (refl, omega arith, refl)); rise = (omega arith, tt); below = refl }) keys lower_fits
+    well_sounded eighths (plain_bars eighths 3840 two_bars) lower_chords lower_trees
+    (record { some = omega arith; near = (refl, omega arith, (refl, omega arith, refl)); rise = (omega arith, tt); below = refl }) keys lower_told.fits
 
 pub graced_sounded : AreSounded quarters one_bar 1920 graced_chords graced_trees
 graced_sounded =
     let keys : HaveKeys graced_chords =
     All-from_recursion (λ c. AreKeys c.keys) graced_chords (some_keys 62 (omega arith), (some_keys 64 (omega arith), (some_keys 60 (omega arith), tt))) in
-    well_sounded quarters (voice_bars_from quarters [] 0 1920 0 one_bar) graced_chords graced_trees
-    (record { some = omega arith; near = (refl, omega arith, refl); rise = (omega arith, (omega arith, (omega arith, tt))); below = refl }) keys graced_fits
+    well_sounded quarters (plain_bars quarters 1920 one_bar) graced_chords graced_trees
+    (record { some = omega arith; near = (refl, omega arith, refl); rise = (omega arith, (omega arith, (omega arith, tt))); below = refl }) keys graced_told.fits
 
 -- ---- a piece as the code has it
 
-module _ (words : List ℕ) (g h : Grammar) (bars bars' : List Bar) (last : ℕ) (cs cs' : List Chord) (ts ts' : List Tree)
-    (said : grammar_of words ≡ Ok g) (known : grammar_of words ≡ Ok h) (same_bars : bars ≡ bars') (same_chords : cs ≡ cs') (same_trees : ts ≡ ts') where
+module _ (words : List ℕ) (g h : Grammar) (bars bars' : List Bar) (last : ℕ) (cs cs' : List Chord) (ts : List Tree)
+    (said : grammar_of words ≡ Ok g) (known : grammar_of words ≡ Ok h) (same_bars : bars ≡ bars') (same_chords : cs ≡ cs') where
   same : g ≡ h
   same = let both : ◌≡◌ {A = Result Grammar GrammarFault} (Ok g) (Ok h) = sym said ∙ known in (cc)
 
-  pub fits_too : FitsAll h bars' last cs' ts' → FitsAll g bars last cs ts
-  fits_too fits = subst (λ x. x) (λ i. FitsAll (sym same i) (sym same_bars i) last (sym same_chords i) (sym same_trees i)) fits
+  pub told_too : (lists lists' : List (List ℕ)) → lists ≡ lists' → AreTold h bars' last cs' lists' ts → AreTold g bars last cs lists ts
+  told_too lists lists' same_lists told = subst (λ x. x) (λ i. AreTold (sym same i) (sym same_bars i) last (sym same_chords i) (sym same_lists i) ts) told
 
-  pub sounded_too : (r : ℕ) (sounds : List Sound) → r ≡ g.resolution → sounds ≡ derivation_sounds g (voice_bars_from g [] 0 last 0 bars) cs ts → AreSounded h bars' last cs' ts'
-      → AreWellSounded r (length (voice_bars_from g [] 0 last 0 bars)) sounds
+  pub sounded_too : (r : ℕ) (sounds : List Sound) → r ≡ g.resolution → sounds ≡ derivation_sounds g (plain_bars g last bars) cs ts → AreSounded h bars' last cs' ts
+      → AreWellSounded r (length (plain_bars g last bars)) sounds
   sounded_too r sounds units found sounded =
-      let own : AreSounded g bars last cs ts = subst (λ x. x) (λ i. AreSounded (sym same i) (sym same_bars i) last (sym same_chords i) (sym same_trees i)) sounded in
-      subst (λ x. x) (λ i. AreWellSounded (sym units i) (length (voice_bars_from g [] 0 last 0 bars)) (sym found i)) own
+      let own : AreSounded g bars last cs ts = subst (λ x. x) (λ i. AreSounded (sym same i) (sym same_bars i) last (sym same_chords i) ts) sounded in
+      subst (λ x. x) (λ i. AreWellSounded (sym units i) (length (plain_bars g last bars)) (sym found i)) own

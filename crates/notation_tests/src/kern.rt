@@ -1,10 +1,11 @@
 ghost use Rattle.derivation.specs.WellSounded.{AreKeys, AreWellSounded, IsWellSounding, StandInBars, TiesGoOn};
-ghost use Rattle.kern_writer.specs.Score.{IsKeySignature, IsScore, IsScoreBar};
+ghost use Rattle.derivation.specs.Score.{IsKeySignature, IsScore, IsScoreBar};
 ghost use Rattle.rhythm_base.specs.Signatures.{is_den};
 ghost use Rattle.rhythm_base.specs.Spans.{is_rest};
 ghost use Rattle.std.specs.Prelude.{[], ◌∷◌, ◌≡◌, ◌≢◌, ◌≤◌, ◌<◌, ◌^◌, All, IfOk, IfSome, IsTrue, None, Some, false, length, true};
 
-use kern_writer::{Score, ScoreBar, VoiceSounds, write_kern};
+use derivation::{Score, ScoreBar, VoiceSounds};
+use kern_writer::write_kern;
 use rhythm_base::SoundKind::{Begin, Rest, Short, Tie};
 use rhythm_base::{Graces, Keys, MOST_UNITS, MOST_VOICES, SLOWEST_TEMPO, Sound, SoundKind};
 use std::alloc::Global;

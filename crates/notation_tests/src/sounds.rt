@@ -1,13 +1,12 @@
 ghost use Rattle.grammar_file.specs.Grammar.{grammar_of};
-ghost use Rattle.rhythm_base.specs.Forest.{forest_of};
 ghost use Rattle.rhythm_base.specs.Readable.{IsReadable};
-ghost use Rattle.std.specs.Prelude.{[], ◌≡◌, ◌≤◌, IfOk, Ok, length};
+ghost use Rattle.std.specs.Prelude.{◌≡◌, ◌≤◌, IfOk, Ok, length};
 
 use derivation::{derivations_are_well_sounded, sounds_of, spans_of};
 use grammar_file::read_grammar;
 use kern_reader::{KernEvent, read_kern};
 use rhythm_base::SoundKind::{Begin, Rest, Tie};
-use rhythm_base::{Bar, Chord, Graces, Grammar, Keys, Sound, SoundKind, Span, Tree};
+use rhythm_base::{Bar, Chord, Graces, Grammar, Keys, Sound, SoundKind, Span};
 use std::alloc::Global;
 use std::test::Fail;
 
@@ -61,21 +60,6 @@ fn read(alloc: Global, text: &[u8]) -> Result<Grammar, Fail>
     Ok(read_grammar(alloc, text)?)
 }
 
-fn leaf(alloc: Global, rule: u16) -> Tree
-    ensures { result ≡ record { rule = rule; kids = forest_of [] } }
-{
-    Tree {
-        rule,
-        kids: Vec::new(alloc),
-    }
-}
-
-fn node(rule: u16, kids: Vec<Tree>) -> Tree
-    ensures { result ≡ record { rule = rule; kids = forest_of kids.items } }
-{
-    Tree { rule, kids }
-}
-
 /// A bar of 4/4, 1,920 ticks long.
 const fn bar(start: u64) -> Bar
     ensures { result ≡ record { start = start; num = 4; den = 4 } }
@@ -104,16 +88,14 @@ struct Heard {
 fn upper_voice(alloc: Global) -> Result<Heard, Fail> {
     derivations_are_well_sounded();
     let grammar = read(alloc, EIGHTHS)?;
-    let quarters = node(7, vec![in alloc; leaf(alloc, 8), leaf(alloc, 8)]?);
-    let halves = node(3, vec![in alloc; quarters, leaf(alloc, 5)]?);
-    let trees = vec![in alloc; halves, leaf(alloc, 0)]?;
+    let lists: [&[u16]; 2] = [&[3, 7, 8, 8, 5], &[0]];
     let bars = [bar(0), bar(1920)];
     let chords = [
         chord(5, 470, Keys::one(70).join(Keys::one(74))),
         chord(485, 1900, Keys::one(72)),
         chord(1910, 3800, Keys::one(70)),
     ];
-    let sounds = sounds_of(alloc, &grammar, trees.as_slice(), &bars, 3840, &chords)?;
+    let sounds = sounds_of(alloc, &grammar, &lists, &bars, 3840, &chords)?;
     let spans = spans_of(alloc, sounds.as_slice(), &bars, grammar.resolution)?;
     Ok(Heard { sounds, spans })
 }
@@ -122,10 +104,10 @@ fn upper_voice(alloc: Global) -> Result<Heard, Fail> {
 fn lower_voice(alloc: Global) -> Result<Heard, Fail> {
     derivations_are_well_sounded();
     let grammar = read(alloc, EIGHTHS)?;
-    let trees = vec![in alloc; leaf(alloc, 0), leaf(alloc, 1)]?;
+    let lists: [&[u16]; 2] = [&[0], &[1]];
     let bars = [bar(0), bar(1920)];
     let chords = [chord(0, 3840, Keys::one(46))];
-    let sounds = sounds_of(alloc, &grammar, trees.as_slice(), &bars, 3840, &chords)?;
+    let sounds = sounds_of(alloc, &grammar, &lists, &bars, 3840, &chords)?;
     let spans = spans_of(alloc, sounds.as_slice(), &bars, grammar.resolution)?;
     Ok(Heard { sounds, spans })
 }
@@ -134,20 +116,14 @@ fn lower_voice(alloc: Global) -> Result<Heard, Fail> {
 fn graced_voice(alloc: Global) -> Result<Heard, Fail> {
     derivations_are_well_sounded();
     let grammar = read(alloc, QUARTERS)?;
-    let kids = vec![in alloc;
-        leaf(alloc, 2),
-        leaf(alloc, 5),
-        leaf(alloc, 2),
-        leaf(alloc, 2),
-    ]?;
-    let trees = vec![in alloc; node(0, kids)]?;
+    let lists: [&[u16]; 1] = [&[0, 2, 5, 2, 2]];
     let bars = [bar(0)];
     let chords = [
         chord(400, 440, Keys::one(62)),
         chord(440, 480, Keys::one(64)),
         chord(480, 960, Keys::one(60)),
     ];
-    let sounds = sounds_of(alloc, &grammar, trees.as_slice(), &bars, 1920, &chords)?;
+    let sounds = sounds_of(alloc, &grammar, &lists, &bars, 1920, &chords)?;
     let spans = spans_of(alloc, sounds.as_slice(), &bars, grammar.resolution)?;
     Ok(Heard { sounds, spans })
 }

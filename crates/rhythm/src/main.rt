@@ -5,15 +5,16 @@
 ghost use Rattle.rhythm_app.specs.Stops.{status_of};
 ghost use Rattle.std.specs.Prelude.{◌≡◌, ◌⊎◌};
 
-use least_cost::Steps;
-use rhythm_app::{Stop, run, write_line};
+use carry_matrix::Steps as Products;
+use least_cost::Steps as Builds;
+use rhythm_app::{Lent, Stop, run, write_line};
 use rhythm_base::{Tag, Words};
 use rhythm_ports::{OpenGate, RealInput, RealOutput, RealShelf};
 use std::io::ErrorKind;
 use std::process::ExitCode;
 use std::{env, io};
 
-/// What the tables of a run are counted for.
+/// What the tables of a run and their products are counted for.
 #[derive(Clone, Copy)]
 struct InRun;
 
@@ -48,19 +49,16 @@ fn main(rt: HostRuntime) -> ExitCode {
             return ExitCode::from(stop.status());
         }
     };
-    let mut shelf = RealShelf::new(&rt);
-    let mut script = RealInput::new(rt.stdin());
-    let mut out = RealOutput::new(rt.stdout());
-    let mut builds = Steps::<InRun>::zero();
-    ExitCode::from(run(
-        &rt,
-        rt.alloc(),
-        &words,
-        &mut shelf,
-        &mut script,
-        &mut out,
-        &mut err,
-        &OpenGate,
-        &mut builds,
-    ))
+    let mut lent = Lent {
+        rt: &rt,
+        alloc: rt.alloc(),
+        shelf: RealShelf::new(&rt),
+        script: RealInput::new(rt.stdin()),
+        out: RealOutput::new(rt.stdout()),
+        err,
+        gate: &OpenGate,
+        builds: Builds::<InRun>::zero(),
+        products: Products::<InRun>::zero(),
+    };
+    ExitCode::from(run(&mut lent, &words))
 }

@@ -3,8 +3,9 @@ use Rattle.std.proofs.Common.{◌≡◌, ℕ, List, ap, inl, refl, sym, Option, 
 use Rattle.std.specs.Prelude.{option_and_then}
 use Rattle.command_line.specs.CommandLines.{invocation_of}
 use Rattle.command_line.specs.declared.invocation.Invocation.{Invocation}
-use Rattle.rhythm_app.specs.Asked.{Asked, help, version, transcribe, edit, events, generate, drill, asked_by, asked_of}
+use Rattle.rhythm_app.specs.Asked.{asked_by, asked_of}
 use Rattle.rhythm_app.specs.Builds.{HasBuilt}
+use Rattle.rhythm_app.specs.Commands.{Cells, no_cells, cells_in, cells_drilled}
 use Rattle.rhythm_app.specs.declared.stop.Stop.TheVariants as stop
 use Rattle.rhythm_ports.specs.Files.{File}
 
@@ -19,12 +20,13 @@ unfolding asked_by
 asked_nothing words e = ap (option_and_then asked_of) e
 
 -- nothing is built where there is not enough memory to read the words
-pub unread_built : (files : Option (List File)) (asked : Option Asked) (built : ℕ) → HasBuilt files asked built built stop.Memory
-unread_built files None built = refl
-unread_built files (Some help) built = refl
-unread_built files (Some version) built = refl
-unread_built files (Some (transcribe midi grammar)) built = inl refl
-unread_built files (Some (edit midi grammar)) built = inl refl
-unread_built files (Some (events kern)) built = refl
-unread_built files (Some (generate number bars)) built = refl
-unread_built files (Some (drill number grammar)) built = inl refl
+pub unread_built : (cells : Cells) (files : Option (List File)) (built : ℕ) → HasBuilt cells files built built stop.Memory
+unread_built no_cells files built = refl
+unread_built (cells_in midi) files built = inl refl
+unread_built (cells_drilled number grammar) files built = inl refl
+
+-- nor where the words are no command
+pub nothing_built : (cells : Cells) (files : Option (List File)) (built : ℕ) → HasBuilt cells files built built stop.Usage
+nothing_built no_cells files built = refl
+nothing_built (cells_in midi) files built = refl
+nothing_built (cells_drilled number grammar) files built = refl

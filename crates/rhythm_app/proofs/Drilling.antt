@@ -1,21 +1,27 @@
 -- What the stages of a drill come to together.
-use Rattle.std.proofs.Common.{◌≡◌, ◌⊎◌, ℕ, List, Vec, inl, inr, refl, sym, subst, IfErr, IfOk, OnOk, Option, Some, Result, Ok, Err}
+use Rattle.std.proofs.Common.{◌≡◌, ◌≢◌, ◌≤◌, ◌⊎◌, ◌∙◌, ℕ, List, Vec, ap, arith, inl, inr, refl, sym, subst, IfErr, IfOk, OnOk, Option, Some, None, Result, Ok, Err}
 use Rattle.std.specs.Option.{ForSome}
 use Rattle.drill_run.specs.Ends.{HasDrilled, IsBrokenOff, IsDrillOf}
 use Rattle.edit_session.specs.Opening.{CanOpen, cells_of}
 use Rattle.edit_session.specs.declared.open_fault.OpenFault.{OpenFault}
 use Rattle.edit_session.specs.declared.open_fault.OpenFault.TheVariants as opening
 use Rattle.rhythm_app.proofs.InTurn.{next_follows}
-use Rattle.rhythm_app.specs.Asked.{drill, file_content}
+use Rattle.rhythm_app.specs.Asked.{drill}
+use Rattle.rhythm_app.specs.Commands.{HasNames, HasOutcomeOf, cells_drilled, file_content, named, no_cells}
 use Rattle.rhythm_app.specs.Builds.{AreDrilled, AreSomeDrilled, ForPiece, HasBuilt, HasBuiltAll, MatchBuilds, MatchDrilled}
-use Rattle.rhythm_app.specs.Outcome.{AreInTurn, HasOutcomeOf, IsDrilling, IsMade, IsPieceOf, IsUnderstood, IsUnopened, Ready, open_stop, say}
-use Rattle.rhythm_app.specs.Stages.{Follows, IsEarly}
+use Rattle.rhythm_app.specs.Outcome.{AreInTurn, IsDrilling, IsMade, IsPieceOf, IsUnderstood, IsUnopened, Ready, open_stop, say}
+use Rattle.rhythm_app.specs.Lent.{Lent}
+use Rattle.rhythm_app.specs.Stages.{CountsAlone, EndsBy, Follows, HasRules, HasText, IsEarly, IsOfContent, ReadsShelf, said_of}
+use Rattle.rhythm_app.specs.declared.stop.Kind.TheVariants as kind
+use Rattle.rhythm_app.proofs.Performing.{content_ends, counted_alone, read_cause, read_end}
+use Rattle.rhythm_app.proofs.Reading.{ends_early}
+use Rattle.rhythm_app.proofs.Sessions.{said_follow, stage_cause, stage_ready}
 use Rattle.rhythm_app.specs.declared.stop.Stop.{Stop}
 use Rattle.rhythm_app.specs.declared.stop.Stop.TheVariants as stop
 use Rattle.rhythm_base.specs.Counter.{risen}
 use Rattle.rhythm_base.specs.Grammar.{Grammar}
 use Rattle.rhythm_base.specs.Performance.{Performance}
-use Rattle.rhythm_ports.specs.Files.{File}
+use Rattle.rhythm_ports.specs.Files.{File, file_of}
 
 -- ---- the session
 
@@ -122,15 +128,92 @@ module _ (fs : Option (List File)) (number : ℕ) (grammar : List ℕ) (g : Gram
       (next_follows (IsMade number) (λ p. IsDrilling g number p) p r (inl (p, piece, refl)) h)
 
   pub all_drilled : {A : Type 0} (old new : ℕ) (r : Result (Vec ℕ A) Stop) → IfOk r (λ text. HasDrilled g number p (Ok text.items) (risen old (cells_of p)) new)
-      → OnOk r (ForSome fs (HasBuiltAll (Some (drill number grammar)) old new))
+      → OnOk r (ForSome fs (λ files. HasBuiltAll (cells_drilled number grammar) files old new))
   all_drilled old new (Ok text) h = λ files are. (text.items, for_piece (λ g p. HasDrilled g number p (Ok text.items) (risen old (cells_of p)) new) h files are)
   all_drilled old new (Err s) h = tt
 
   pub piece_built : {T : Type 0} (old new : ℕ) (r : Result T Stop)
       → IfErr r (MatchDrilled (new ≡ risen old (cells_of p)) (λ line. HasDrilled g number p (Err line) (risen old (cells_of p)) new) (AreSomeDrilled g number p old new) (new ≡ old))
-      → IfErr r (HasBuilt fs (Some (drill number grammar)) old new)
+      → IfErr r (HasBuilt (cells_drilled number grammar) fs old new)
   piece_built old new (Ok x) h = tt
   piece_built old new (Err s) h =
       drilled_more (λ line. HasDrilled g number p (Err line) (risen old (cells_of p)) new) (λ line. ForSome fs (λ files. AreDrilled (file_content files grammar) number (Err line) old new))
       (for_piece (λ g p. new ≡ risen old (cells_of p))) (λ line. for_piece (λ g p. HasDrilled g number p (Err line) (risen old (cells_of p)) new))
       (λ some. inr (for_piece (λ g p. AreSomeDrilled g number p old new) some)) (λ none. none) s h
+
+-- ---- the text of a drill
+
+not_script : kind.Grammar ≢ kind.Script
+not_script e = cc
+
+some_cells : (number : ℕ) (grammar : List ℕ) → cells_drilled number grammar ≡ no_cells → ⊥
+some_cells number grammar e = cc
+
+module _ {S O E : Type 0} (number : ℕ) (grammar : List ℕ) (old mid : Lent S O E) where
+  same_strays : (strays : ForSome old.files (λ files. file_of files grammar ≢ None → mid.strays ≡ old.strays))
+      → ForSome old.files (λ files. HasNames files (Some (drill number grammar)) → mid.strays ≡ old.strays)
+  same_strays strays files are names = strays files are (names 0 (named kind.Grammar grammar) (omega arith))
+
+  same_built : ReadsShelf old mid → mid.built ≡ old.built
+  same_built alone = ap (λ (l : Lent S O E). l.built) alone
+
+  early_end : (s : Stop) → EndsBy kind.Grammar old.shelf_faults mid.shelf_faults s → IsEarly s
+  early_end s end = ends_early kind.Grammar old.shelf_faults mid.shelf_faults s end
+
+module _ {S O E A : Type 0} (number : ℕ) (grammar : List ℕ) (old mid : Lent S O E) where
+  -- the grammar is not had
+  pub unruled : (s : Stop) → HasRules grammar old mid (Err s) → HasText {A = A} (Some (drill number grammar)) old mid (Err s)
+  unruled s h = record {
+    text = tt;
+    all = tt;
+    before = record {
+      cause = λ files are. read_cause (drill number grammar) kind.Grammar grammar files (IsUnderstood (file_content files grammar)) refl (λ s h. inl h) old.shelf_faults mid.shelf_faults s (h.tests files are) h.end not_script;
+      end = read_end kind.Grammar old.shelf_faults mid.shelf_faults s h.end not_script;
+      built = subst (λ n. HasBuilt (cells_drilled number grammar) old.files old.built n s) (sym (same_built number grammar old mid h.reads)) (early_drilled _ _ _ old.built s (early_end number grammar old mid s h.end));
+      strays = same_strays number grammar old mid h.strays;
+      rises = (omega (arith, same_built number grammar old mid h.reads), omega (arith, ap (λ (l : Lent S O E). l.multiplied) h.reads));
+      no_cells = λ e. absurd (some_cells number grammar e);
+      alone = counted_alone old mid mid h.reads refl;
+    };
+  }
+
+  module _ (g : Grammar) (h : HasRules grammar old mid (Ok g)) where
+    -- there is not enough memory for the piece
+    pub unmade : (s : Stop) → s ≡ stop.Memory → HasText {A = A} (Some (drill number grammar)) old mid (Err s)
+    unmade s is = subst (λ (x : Stop). HasText {A = A} (Some (drill number grammar)) old mid (Err x)) (sym is) (record {
+      text = tt;
+      all = tt;
+      before = record {
+        cause = λ files are. inr tt;
+        end = tt;
+        built = inl (same_built number grammar old mid h.reads);
+        strays = same_strays number grammar old mid h.strays;
+        rises = (omega (arith, same_built number grammar old mid h.reads), omega (arith, ap (λ (l : Lent S O E). l.multiplied) h.reads));
+        no_cells = λ e. absurd (some_cells number grammar e);
+        alone = counted_alone old mid mid h.reads refl;
+      };
+    })
+
+    -- the piece is drilled
+    pub drill_had : (p : Performance) (new : Lent S O E) (r : Result (Vec ℕ A) Stop) → IsPieceOf number p → Follows (IsDrilling g number p) (said_of r) → IfErr r IsOfContent
+        → IfOk r (λ text. HasDrilled g number p (Ok text.items) (risen mid.built (cells_of p)) new.built)
+        → IfErr r (MatchDrilled (new.built ≡ risen mid.built (cells_of p)) (λ line. HasDrilled g number p (Err line) (risen mid.built (cells_of p)) new.built)
+        (AreSomeDrilled g number p mid.built new.built) (new.built ≡ mid.built)) → mid.built ≤ new.built → mid.multiplied ≤ new.multiplied → CountsAlone mid new
+        → HasText (Some (drill number grammar)) old new r
+    drill_had p new r piece tests content all built rises multiplies counts =
+        let follow = said_follow old.files (drill number grammar) r (λ files are. drill_follows old.files number grammar g p h.tests piece files are (said_of r) tests) in
+        record {
+          text = stage_ready old.files (drill number grammar) (λ v. say v.items) r follow;
+          all = subst (λ n. OnOk r (ForSome old.files (λ files. HasBuiltAll (cells_drilled number grammar) files n new.built))) (same_built number grammar old mid h.reads)
+              (all_drilled old.files number grammar g p h.tests piece mid.built new.built r all);
+          before = record {
+            cause = stage_cause old.files (drill number grammar) (λ v. say v.items) r follow content;
+            end = content_ends old.shelf_faults new.shelf_faults r content;
+            built = subst (λ n. IfErr r (HasBuilt (cells_drilled number grammar) old.files n new.built)) (same_built number grammar old mid h.reads)
+                (piece_built old.files number grammar g p h.tests piece mid.built new.built r built);
+            strays = λ files are names. ap (λ (l : Lent S O E). l.strays) counts ∙ same_strays number grammar old mid h.strays files are names;
+            rises = (omega (arith, rises, same_built number grammar old mid h.reads), omega (arith, multiplies, ap (λ (l : Lent S O E). l.multiplied) h.reads));
+            no_cells = λ e. absurd (some_cells number grammar e);
+            alone = counted_alone old mid new h.reads counts;
+          };
+        }

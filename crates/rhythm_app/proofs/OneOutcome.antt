@@ -14,17 +14,21 @@ use Rattle.kern_reader.specs.EventText.{events_text}
 use Rattle.kern_reader.specs.Outcome.{score_of}
 use Rattle.kern_reader.specs.Score.{IsKernScore, KernColumns}
 use Rattle.kern_reader.specs.declared.fault.KernFault.{KernFault}
-use Rattle.kern_writer.proofs.OneScore.{scores_one}
+use Rattle.derivation.proofs.OneScore.{scores_one}
 use Rattle.kern_writer.proofs.OneText.{texts_one}
-use Rattle.kern_writer.specs.PerformanceScore.{HasTooLongText, IsTextOf}
+use Rattle.kern_writer.specs.PerformanceText.{HasTooLongText, IsTextOf}
 use Rattle.kern_writer.specs.Text.{IsScoreText, IsTooLong}
 use Rattle.performance_load.proofs.OneLoading.{one_loading}
 use Rattle.performance_load.specs.Loading.{Loads}
 use Rattle.performance_load.specs.declared.load_fault.LoadFault.{LoadFault}
 use Rattle.rhythm_app.proofs.InTurn.{IsOne, in_turn_one}
-use Rattle.rhythm_app.specs.Asked.{Asked, help, version, transcribe, edit, events, generate, drill, asked_by, file_content}
+use Rattle.rhythm_app.specs.Asked.{Asked, help, version, write, answer, events, generate, drill, asked_by}
+use Rattle.rhythm_app.specs.Commands.{HasOutcomeOf, file_content}
 use Rattle.rhythm_app.specs.Laws.{OutcomesAreOne}
-use Rattle.rhythm_app.specs.Outcome.{AreInTurn, AreInputs, AreRead, HasOutcomeOf, IsEditing, IsListing, IsLoading, IsRead, IsScoreRead, IsScoring, IsDrilling, IsMade, IsPieceOf, IsTooLongDrill, Ready, say, serve, IsUnderstood, IsUnopened, grammar_tests, kern_tests, limit_of, load_stop, open_stop, passed, stopped}
+use Rattle.rhythm_app.specs.Outcome.{AreInTurn, AreInputs, AreRead, IsAnswering, IsListing, IsLoading, IsRead, IsScoreRead, IsScoring, IsWriting, IsDrilling, IsMade, IsPieceOf, IsTooLongDrill, Ready, say, serve, IsUnderstood, IsUnopened, grammar_tests, kern_tests, limit_of, load_stop, open_stop, passed, stopped}
+use Rattle.rhythm_app.specs.declared.request.Form.{Form}
+use Rattle.rhythm_app.specs.declared.request.Form.TheVariants as form
+use Rattle.rhythm_app.specs.declared.request.Talk.{Talk}
 use Rattle.rhythm_app.specs.declared.stop.Kind.TheVariants as kind
 use Rattle.rhythm_app.specs.declared.stop.Stop.{Stop}
 use Rattle.rhythm_app.specs.declared.stop.Stop.TheVariants as stop
@@ -90,26 +94,29 @@ module _ (g : Grammar) (p : Performance) (read : IsReadable g) (formed : IsWellF
 
   one_scoring : IsOne (IsScoring g p)
   one_scoring (Ok (say a)) (Ok (say b)) h k = ap (λ text. Ok (say text)) (one_text a b h.1 k.1)
-  one_scoring (Ok (say a)) (Ok (serve e q)) h k = absurd k
-  one_scoring (Ok (serve e q)) s h k = absurd h
+  one_scoring (Ok (say a)) (Ok (serve t e q)) h k = absurd k
+  one_scoring (Ok (serve t e q)) s h k = absurd h
   one_scoring (Ok (say a)) (Err t) h (inl k) = absurd (opened t h.0 k)
   one_scoring (Ok (say a)) (Err t) h (inr k) = absurd (not_too_long a k.0 h.1 h.2 k.2)
   one_scoring (Err s) (Ok (say b)) (inl h) k = absurd (opened s k.0 h)
   one_scoring (Err s) (Ok (say b)) (inr h) k = absurd (not_too_long b h.0 k.1 k.2 h.2)
-  one_scoring (Err s) (Ok (serve e q)) h k = absurd k
+  one_scoring (Err s) (Ok (serve t e q)) h k = absurd k
   one_scoring (Err s) (Err t) (inl h) (inl k) = ap Err (h.3 ∙ ap open_stop (one_fault g p h.0 k.0 read formed h.2 k.2 h.1 k.1) ∙ sym k.3)
   one_scoring (Err s) (Err t) (inl h) (inr k) = absurd (opened s k.1 h)
   one_scoring (Err s) (Err t) (inr h) (inl k) = absurd (opened t h.1 k)
   one_scoring (Err s) (Err t) (inr h) (inr k) = ap Err (h.3 ∙ ap stop.ScoreTooLong (one_line h.0 k.0 h.2 k.2) ∙ sym k.3)
 
-  one_editing : IsOne (IsEditing g p)
-  one_editing (Ok (say a)) s h k = absurd h
-  one_editing (Ok (serve e q)) (Ok (say b)) h k = absurd k
-  one_editing (Ok (serve e q)) (Ok (serve f r)) h k = ap (λ x. Ok x) (ap₂ serve (h.1 ∙ sym k.1) (h.2 ∙ sym k.2))
-  one_editing (Ok (serve e q)) (Err t) h k = absurd (opened t h.0 k)
-  one_editing (Err s) (Ok (say b)) h k = absurd k
-  one_editing (Err s) (Ok (serve f r)) h k = absurd (opened s k.0 h)
-  one_editing (Err s) (Err t) h k = ap Err (h.3 ∙ ap open_stop (one_fault g p h.0 k.0 read formed h.2 k.2 h.1 k.1) ∙ sym k.3)
+  one_writing : (f : Form) → IsOne (IsWriting f g p)
+  one_writing form.Score = one_scoring
+
+  one_answering : (talk : Talk) → IsOne (IsAnswering talk g p)
+  one_answering talk (Ok (say a)) s h k = absurd h
+  one_answering talk (Ok (serve t e q)) (Ok (say b)) h k = absurd k
+  one_answering talk (Ok (serve t e q)) (Ok (serve u f r)) h k = λ i. Ok (serve ((h.1 ∙ sym k.1) i) ((h.2 ∙ sym k.2) i) ((h.3 ∙ sym k.3) i))
+  one_answering talk (Ok (serve t e q)) (Err s) h k = absurd (opened s h.0 k)
+  one_answering talk (Err s) (Ok (say b)) h k = absurd k
+  one_answering talk (Err s) (Ok (serve u f r)) h k = absurd (opened s k.0 h)
+  one_answering talk (Err s) (Err t) h k = ap Err (h.3 ∙ ap open_stop (one_fault g p h.0 k.0 read formed h.2 k.2 h.1 k.1) ∙ sym k.3)
 
   -- ---- the drill
 
@@ -129,14 +136,14 @@ module _ (g : Grammar) (p : Performance) (read : IsReadable g) (formed : IsWellF
   same_line a b e = cc
 
   one_drilling : (number : ℕ) → IsOne (IsDrilling g number p)
-  one_drilling number (Ok (serve e q)) s h k = absurd h
+  one_drilling number (Ok (serve t e q)) s h k = absurd h
   one_drilling number (Ok (say a)) (Ok (say b)) h k = ap (λ text. Ok (say text)) (same_text a b (drills_one.said g number p (Ok a) (Ok b) read formed h.1 k.1))
-  one_drilling number (Ok (say a)) (Ok (serve e q)) h k = absurd k
+  one_drilling number (Ok (say a)) (Ok (serve t e q)) h k = absurd k
   one_drilling number (Ok (say a)) (Err t) h (inl k) = absurd (opened t h.0 k)
   one_drilling number (Ok (say a)) (Err t) h (inr k) = absurd (drills_apart number a t h.1 k)
   one_drilling number (Err s) (Ok (say b)) (inl h) k = absurd (opened s k.0 h)
   one_drilling number (Err s) (Ok (say b)) (inr h) k = absurd (drills_apart number b s k.1 h)
-  one_drilling number (Err s) (Ok (serve e q)) h k = absurd k
+  one_drilling number (Err s) (Ok (serve t e q)) h k = absurd k
   one_drilling number (Err s) (Err t) (inl h) (inl k) = ap Err (h.3 ∙ ap open_stop (one_fault g p h.0 k.0 read formed h.2 k.2 h.1 k.1) ∙ sym k.3)
   one_drilling number (Err s) (Err t) (inl h) (inr k) = absurd (opened s k.1 h)
   one_drilling number (Err s) (Err t) (inr h) (inl k) = absurd (opened t h.1 k)
@@ -189,10 +196,10 @@ in_ranges bytes score = go (nat_le (length bytes) (limit_of kind.Kern)) refl
 one_listing : (score : KernColumns) → IsKernScore score → IsOne (IsListing score)
 one_listing score well (Ok (say a)) (Ok (say b)) (list, are, text) (same, others, equal) =
     ap (λ x. Ok (say x)) (text ∙ ap events_text (one_list score list same well are others) ∙ sym equal)
-one_listing score well (Ok (say a)) (Ok (serve g p)) h k = absurd k
+one_listing score well (Ok (say a)) (Ok (serve t g p)) h k = absurd k
 one_listing score well (Ok (say a)) (Err s) h k = absurd k
-one_listing score well (Ok (serve g p)) s h k = absurd h
-one_listing score well (Err s) t h k = absurd h
+one_listing score well (Ok (serve t g p)) s h k = absurd h
+one_listing score well (Err s) r h k = absurd h
 
 -- ---- the run
 
@@ -223,8 +230,10 @@ one_of : (asked : Option Asked) (files : List File) → IsOne (HasOutcomeOf aske
 one_of None files r s h k = h ∙ sym k
 one_of (Some help) files r s h k = h ∙ sym k
 one_of (Some version) files r s h k = h ∙ sym k
-one_of (Some (transcribe midi grammar)) files r s h k = one_of_files IsScoring one_scoring (file_content files midi) (file_content files grammar) r s h k
-one_of (Some (edit midi grammar)) files r s h k = one_of_files IsEditing one_editing (file_content files midi) (file_content files grammar) r s h k
+one_of (Some (write f midi grammar)) files r s h k =
+    one_of_files (IsWriting f) (λ g p read formed. one_writing g p read formed f) (file_content files midi) (file_content files grammar) r s h k
+one_of (Some (answer talk midi grammar)) files r s h k =
+    one_of_files (IsAnswering talk) (λ g p read formed. one_answering g p read formed talk) (file_content files midi) (file_content files grammar) r s h k
 one_of (Some (events kern)) files r s h k =
     in_turn_one (IsScoreRead (file_content files kern)) IsListing (one_score_read (file_content files kern))
     (λ score read. one_listing score (in_ranges (file_content files kern) score read)) r s h k

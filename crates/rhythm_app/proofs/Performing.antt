@@ -1,164 +1,268 @@
--- What a command comes to is what the words come to.
-use Rattle.std.proofs.Common.{◌≡◌, ◌≢◌, ℕ, List, inl, inr, refl, sym, subst, ◌⊎◌, IfErr, OnOk, Option, Result, Ok, Err}
+-- What the stages of a command come to together.
+use Rattle.std.proofs.Common.{◌≡◌, ◌≢◌, ◌≤◌, ◌<◌, ◌⊎◌, ◌∷◌, [], ℕ, List, Vec, arith, length, take, inl, inr, refl, sym, ap, ◌∙◌, subst, IfErr, IfOk, OnOk, Option, Some, Result, Ok, Err}
 use Rattle.std.specs.Option.{ForSome}
 use Rattle.std.specs.Io.KnownBytes.{Appends}
 use Rattle.rhythm_app.specs.Asked.{Asked}
-use Rattle.rhythm_app.specs.Ends.{AppendsPart, HasNames, HasRisen, HasStopped, IsAnswered, IsCauseOf, IsCutShort, IsSaid, IsServed, MatchStop}
-use Rattle.rhythm_app.specs.Stages.{EndsReading}
+use Rattle.rhythm_app.specs.Builds.{HasBuilt, HasBuiltAll}
+use Rattle.rhythm_app.specs.Commands.{Cells, HasNames, HasOutcomeOf, Named, cells_drilled, cells_in, cells_of_asked, command, named, no_cells}
+use Rattle.rhythm_app.specs.Ends.{AppendsPart, ComesTo, IsAnswered, IsCauseOf, IsFailureOf, IsPerformed, IsSaid, IsSilent, IsStopped, IsUntouched, KeepsRest}
+use Rattle.rhythm_app.specs.Lent.{Lent}
+use Rattle.rhythm_app.specs.Outcome.{Ready, say}
+use Rattle.rhythm_app.specs.Stages.{EndsBy, EndsReading, Follows, HasText, IsBefore, IsFailure, IsOfContent, IsWritten, ReadsAlone}
+use Rattle.rhythm_app.specs.declared.stop.Kind.{Kind}
 use Rattle.rhythm_app.specs.declared.stop.Kind.TheVariants as kind
 use Rattle.rhythm_app.specs.declared.stop.Stop.{Stop}
 use Rattle.rhythm_app.specs.declared.stop.Stop.TheVariants as stop
-use Rattle.rhythm_app.proofs.Stops.{reading_took}
-use Rattle.rhythm_base.specs.Grammar.{Grammar}
-use Rattle.rhythm_base.specs.Performance.{Performance}
+use Rattle.rhythm_app.proofs.Stops.{reading_known, reading_risen, reading_taken}
+use Rattle.rhythm_ports.specs.Causes.{Rose}
 use Rattle.rhythm_ports.specs.Files.{File}
-use Rattle.script_run.specs.Answers.{Editing}
-use Rattle.script_run.specs.Ends.{IsDone}
 
--- by whether a write failed
-took_of : (before now : ℕ) (W P N : Type 0) (s : Stop) → (s ≡ stop.Write → W) → (s ≢ stop.Write → N × EndsReading before now s) → MatchStop s W P N
-took_of before now W P N stop.Usage write other = let ended = other (λ e. cc) in reading_took before now W P N stop.Usage ended.1 ended.0
-took_of before now W P N (stop.FileTooLong kind.Midi n) write other = let ended = other (λ e. cc) in reading_took before now W P N (stop.FileTooLong kind.Midi n) ended.1 ended.0
-took_of before now W P N (stop.FileTooLong kind.Grammar n) write other = let ended = other (λ e. cc) in reading_took before now W P N (stop.FileTooLong kind.Grammar n) ended.1 ended.0
-took_of before now W P N (stop.FileTooLong kind.Kern n) write other = let ended = other (λ e. cc) in reading_took before now W P N (stop.FileTooLong kind.Kern n) ended.1 ended.0
-took_of before now W P N (stop.FileTooLong kind.Script n) write other = let ended = other (λ e. cc) in reading_took before now W P N (stop.FileTooLong kind.Script n) ended.1 ended.0
-took_of before now W P N (stop.LineTooLong n) write other = let ended = other (λ e. cc) in reading_took before now W P N (stop.LineTooLong n) ended.1 ended.0
-took_of before now W P N (stop.Smf x) write other = let ended = other (λ e. cc) in reading_took before now W P N (stop.Smf x) ended.1 ended.0
-took_of before now W P N (stop.Grammar x) write other = let ended = other (λ e. cc) in reading_took before now W P N (stop.Grammar x) ended.1 ended.0
-took_of before now W P N (stop.Kern x) write other = let ended = other (λ e. cc) in reading_took before now W P N (stop.Kern x) ended.1 ended.0
-took_of before now W P N stop.NoNotes write other = let ended = other (λ e. cc) in reading_took before now W P N stop.NoNotes ended.1 ended.0
-took_of before now W P N (stop.TooManyNotes n) write other = let ended = other (λ e. cc) in reading_took before now W P N (stop.TooManyNotes n) ended.1 ended.0
-took_of before now W P N (stop.BadSignature m n) write other = let ended = other (λ e. cc) in reading_took before now W P N (stop.BadSignature m n) ended.1 ended.0
-took_of before now W P N (stop.UnevenBar l m n) write other = let ended = other (λ e. cc) in reading_took before now W P N (stop.UnevenBar l m n) ended.1 ended.0
-took_of before now W P N (stop.TooManyBars n) write other = let ended = other (λ e. cc) in reading_took before now W P N (stop.TooManyBars n) ended.1 ended.0
-took_of before now W P N (stop.TooManyCells n) write other = let ended = other (λ e. cc) in reading_took before now W P N (stop.TooManyCells n) ended.1 ended.0
-took_of before now W P N (stop.NoStart l m n) write other = let ended = other (λ e. cc) in reading_took before now W P N (stop.NoStart l m n) ended.1 ended.0
-took_of before now W P N (stop.NoDerivation m n) write other = let ended = other (λ e. cc) in reading_took before now W P N (stop.NoDerivation m n) ended.1 ended.0
-took_of before now W P N (stop.ScoreTooLong n) write other = let ended = other (λ e. cc) in reading_took before now W P N (stop.ScoreTooLong n) ended.1 ended.0
-took_of before now W P N (stop.Read kind.Midi) write other = let ended = other (λ e. cc) in reading_took before now W P N (stop.Read kind.Midi) ended.1 ended.0
-took_of before now W P N (stop.Read kind.Grammar) write other = let ended = other (λ e. cc) in reading_took before now W P N (stop.Read kind.Grammar) ended.1 ended.0
-took_of before now W P N (stop.Read kind.Kern) write other = let ended = other (λ e. cc) in reading_took before now W P N (stop.Read kind.Kern) ended.1 ended.0
-took_of before now W P N (stop.Read kind.Script) write other = let ended = other (λ e. cc) in reading_took before now W P N (stop.Read kind.Script) ended.1 ended.0
-took_of before now W P N stop.Write write other = write refl
-took_of before now W P N stop.Memory write other = let ended = other (λ e. cc) in reading_took before now W P N stop.Memory ended.1 ended.0
+-- ---- the one file of a command
 
-module _ (fs : Option (List File)) (asked words : Option Asked) (same : asked ≡ words) (rest rest' taken taken' : Option (List ℕ)) (built built' : ℕ) where
-  pub said_answered : (r : Result (Unit {0}) Stop) → OnOk r (ForSome fs (λ files. IsSaid asked files (Appends taken taken') built built'))
-      → OnOk r (ForSome fs (λ files. IsAnswered words files rest rest' taken taken' built built'))
-  said_answered (Ok x) h = λ files are. inl (subst (λ (a : Option Asked). IsSaid a files (Appends taken taken') built built') same (h files are))
-  said_answered (Err s) h = tt
+module _ (asked : Asked) (k : Kind) (name : List ℕ) (files : List File) {T : Type 0} (first : Result T Stop → Type 0)
+    (reads : (command asked).reads ≡ named k name ∷ []) (outcome : (s : Stop) → first (Err s) → HasOutcomeOf (Some asked) files (Err s)) (before now : ℕ) where
+  read_at : (j : Kind) → j ≡ k → k ≢ kind.Script → IsFailureOf (Some asked) files (stop.Read j)
+  read_at kind.Midi same other = subst (ComesTo files kind.Midi) (sym reads) (inl (sym same))
+  read_at kind.Grammar same other = subst (ComesTo files kind.Grammar) (sym reads) (inl (sym same))
+  read_at kind.Kern same other = subst (ComesTo files kind.Kern) (sym reads) (inl (sym same))
+  read_at kind.Script same other = absurd (other (sym same))
 
-  pub served_answered : (r : Result (Unit {0}) Stop) → OnOk r (ForSome fs (λ files. IsServed asked files (λ g p last. IsDone g p rest rest' taken taken' last) built built'))
-      → OnOk r (ForSome fs (λ files. IsAnswered words files rest rest' taken taken' built built'))
-  served_answered (Ok x) h = λ files are.
-      inr (subst (λ (a : Option Asked). IsServed a files (λ (g : Grammar) (p : Performance) (last : Editing). IsDone g p rest rest' taken taken' last) built built') same (h files are))
-  served_answered (Err s) h = tt
+  read_fails : (s : Stop) → IsFailure s → EndsBy k before now s → k ≢ kind.Script → IsFailureOf (Some asked) files s
+  read_fails stop.Usage failed end other = absurd failed
+  read_fails (stop.FileTooLong kind.Midi n) failed end other = absurd failed
+  read_fails (stop.FileTooLong kind.Grammar n) failed end other = absurd failed
+  read_fails (stop.FileTooLong kind.Kern n) failed end other = absurd failed
+  read_fails (stop.FileTooLong kind.Script n) failed end other = absurd failed
+  read_fails (stop.LineTooLong n) failed end other = absurd failed
+  read_fails (stop.Smf e) failed end other = absurd failed
+  read_fails (stop.Grammar e) failed end other = absurd failed
+  read_fails (stop.Kern e) failed end other = absurd failed
+  read_fails stop.NoNotes failed end other = absurd failed
+  read_fails (stop.TooManyNotes n) failed end other = absurd failed
+  read_fails (stop.BadSignature m n) failed end other = absurd failed
+  read_fails (stop.UnevenBar l m n) failed end other = absurd failed
+  read_fails (stop.TooManyBars n) failed end other = absurd failed
+  read_fails (stop.TooManyCells n) failed end other = absurd failed
+  read_fails (stop.NoStart l m n) failed end other = absurd failed
+  read_fails (stop.NoDerivation m n) failed end other = absurd failed
+  read_fails (stop.ScoreTooLong n) failed end other = absurd failed
+  read_fails (stop.Read kind.Midi) failed end other = read_at kind.Midi end.0 other
+  read_fails (stop.Read kind.Grammar) failed end other = read_at kind.Grammar end.0 other
+  read_fails (stop.Read kind.Kern) failed end other = read_at kind.Kern end.0 other
+  read_fails (stop.Read kind.Script) failed end other = read_at kind.Script end.0 other
+  read_fails stop.Write failed end other = absurd end
+  read_fails stop.Memory failed end other = tt
 
-  pub same_cause : (r : Result (Unit {0}) Stop) → IfErr r (λ s. ForSome fs (λ files. IsCauseOf asked files s)) → IfErr r (λ s. ForSome fs (λ files. IsCauseOf words files s))
-  same_cause (Ok x) h = tt
-  same_cause (Err s) h = λ files are. subst (λ (a : Option Asked). IsCauseOf a files s) same (h files are)
+  -- it is not had
+  pub read_cause : (s : Stop) → Follows first (Err s) → EndsBy k before now s → k ≢ kind.Script → IsCauseOf (Some asked) files s
+  read_cause s (inl h) end other = inl (outcome s h)
+  read_cause s (inr failed) end other = inr (read_fails s failed end other)
 
-  pub said_took : (before now : ℕ) (N : Type 0) (r : Result (Unit {0}) Stop)
-      → (r ≡ Err stop.Write → ForSome fs (λ files. IsSaid asked files (AppendsPart taken taken') built built'))
-      → IfErr r (λ end. end ≢ stop.Write → N × EndsReading before now end)
-      → IfErr r (λ end. MatchStop end (ForSome fs (λ files. IsCutShort words files rest rest' taken taken' built built'))
-      (ForSome fs (λ files. HasStopped words files rest rest' taken taken' built built' end)) N)
-  said_took before now N (Ok x) part other = tt
-  said_took before now N (Err s) part other =
-      took_of before now (ForSome fs (λ files. IsCutShort words files rest rest' taken taken' built built'))
-      (ForSome fs (λ files. HasStopped words files rest rest' taken taken' built built' s)) N s
-      (λ e files are. inl (subst (λ (a : Option Asked). IsSaid a files (AppendsPart taken taken') built built') same (part (ap_err s e) files are))) other
+-- a stage that reads a file ends before anything is written
+pub read_end : (k : Kind) (before now : ℕ) (s : Stop) → EndsBy k before now s → k ≢ kind.Script → EndsReading before now s
+read_end k before now stop.Usage end other = absurd end
+read_end k before now (stop.FileTooLong kind.Midi n) end other = tt
+read_end k before now (stop.FileTooLong kind.Grammar n) end other = tt
+read_end k before now (stop.FileTooLong kind.Kern n) end other = tt
+read_end k before now (stop.FileTooLong kind.Script n) end other = absurd (other (sym end))
+read_end k before now (stop.LineTooLong n) end other = absurd end
+read_end k before now (stop.Smf e) end other = tt
+read_end k before now (stop.Grammar e) end other = tt
+read_end k before now (stop.Kern e) end other = tt
+read_end k before now stop.NoNotes end other = tt
+read_end k before now (stop.TooManyNotes n) end other = tt
+read_end k before now (stop.BadSignature m n) end other = tt
+read_end k before now (stop.UnevenBar l m n) end other = tt
+read_end k before now (stop.TooManyBars n) end other = tt
+read_end k before now (stop.TooManyCells n) end other = tt
+read_end k before now (stop.NoStart l m n) end other = tt
+read_end k before now (stop.NoDerivation m n) end other = tt
+read_end k before now (stop.ScoreTooLong n) end other = tt
+read_end k before now (stop.Read kind.Midi) end other = end.1
+read_end k before now (stop.Read kind.Grammar) end other = end.1
+read_end k before now (stop.Read kind.Kern) end other = end.1
+read_end k before now (stop.Read kind.Script) end other = absurd (other (sym end.0))
+read_end k before now stop.Write end other = absurd end
+read_end k before now stop.Memory end other = tt
+
+-- ---- writing
+
+-- out alone took the text, or a first part of it
+wrote_seen : {S O E T : Type 0} (text : List ℕ) (old new : Lent S O E) (r : Result T Stop) → new ≡ record old { out = new.out; taken = new.taken; out_faults = new.out_faults }
+    → OnOk r (Appends old.taken new.taken text) → IfErr r (λ end. (end ≡ stop.Write) × Rose old.out_faults new.out_faults × AppendsPart old.taken new.taken text) → IsWritten text old new r
+wrote_seen text old new (Ok x) rest all part = record { all = all; part = tt; rest = rest }
+wrote_seen text old new (Err s) rest all part = record { all = tt; part = part; rest = rest }
+
+pub wrote : {S O E T : Type 0} (text : List ℕ) (seen old new : Lent S O E) (r : Result T Stop) → seen ≡ old → new ≡ record seen { out = new.out; taken = new.taken; out_faults = new.out_faults }
+    → OnOk r (Appends seen.taken new.taken text) → IfErr r (λ end. (end ≡ stop.Write) × Rose seen.out_faults new.out_faults × AppendsPart seen.taken new.taken text) → IsWritten text old new r
+wrote {S} {O} {E} text seen old new r same rest all part = subst (λ (l : Lent S O E). IsWritten text l new r) same (wrote_seen text seen new r rest all part)
+
+-- ---- a text
+
+same_stop : {T : Type 0} (s t : Stop) → ◌≡◌ {A = Result T Stop} (Err s) (Err t) → s ≡ t
+same_stop s t e = cc
+
+not_stopped : {T : Type 0} (x : T) (s : Stop) → ◌≡◌ {A = Result T Stop} (Ok x) (Err s) → ⊥
+not_stopped x s e = cc
+
+other_stop : {T : Type 0} → ◌≡◌ {A = Result T Stop} (Err stop.Write) (Err stop.Usage) → ⊥
+other_stop e = cc
+
+-- after a failed write more is known by what was written
+write_built : (cells : Cells) (fs : Option (List File)) (old new : ℕ) → (cells ≡ no_cells → new ≡ old) → HasBuilt cells fs old new stop.Write
+write_built no_cells fs old new none = none refl
+write_built (cells_in midi) fs old new none = tt
+write_built (cells_drilled number grammar) fs old new none = tt
+
+module _ {S O E : Type 0} where
+  -- what the reading of files and the counting leave as it was
+  pub kept_rest : (asked : Option Asked) (old new : Lent S O E) {T : Type 0} (r : Result T Stop) → IsBefore asked old new r → KeepsRest asked old new
+  kept_rest asked old new r h = record {
+    files = ap (λ (l : Lent S O E). l.files) h.alone;
+    strays = h.strays;
+    script = λ _. ap (λ (l : Lent S O E). l.script) h.alone;
+    built = h.rises.0;
+    multiplied = h.rises.1;
+  }
+
+  pub untouched : (old new : Lent S O E) → ReadsAlone old new → IsUntouched old new
+  untouched old new alone = (ap (λ (l : Lent S O E). l.out) alone, ap (λ (l : Lent S O E). l.script) alone)
+
+  pub silent_alone : (old new : Lent S O E) → ReadsAlone old new → IsSilent old new
+  silent_alone old new alone = (ap (λ (l : Lent S O E). l.err) alone, ap (λ (l : Lent S O E). l.told) alone, ap (λ (l : Lent S O E). l.err_faults) alone)
+
+  -- nothing is written where the run stops before
+  pub stopped_before : {T U : Type 0} (asked : Option Asked) (old new : Lent S O E) (s : Stop) → IsBefore asked old new {T = T} (Err s) → IsPerformed asked old new {T = U} (Err s)
+  stopped_before {T} {U} asked old new s h = record {
+    known = λ e. absurd (reading_known old.shelf_faults new.shelf_faults s h.end (same_stop {T = U} s stop.Usage e));
+    done = tt;
+    stopped = record {
+      cause = h.cause;
+      risen = reading_risen old new s h.end;
+      took = reading_taken old new asked old.shelf_faults new.shelf_faults s h.end (untouched old new h.alone);
+      nothing = λ _ _. (untouched old new h.alone).0;
+      built = h.built;
+    };
+    rest = kept_rest asked old new {T = T} (Err s) h;
+    err = silent_alone old new h.alone;
+  }
+
+  module _ {A : Type 0} (asked : Option Asked) (old mid new : Lent S O E) (v : Vec ℕ A) (had : HasText asked old mid (Ok v)) where
+    taken_same : mid.taken ≡ old.taken
+    taken_same = ap (λ (l : Lent S O E). l.taken) had.before.alone
+
+    written_silent : new ≡ record mid { out = new.out; taken = new.taken; out_faults = new.out_faults } → IsSilent old new
+    written_silent is =
+        let none = silent_alone old mid had.before.alone in
+        (ap (λ (l : Lent S O E). l.err) is ∙ none.0, ap (λ (l : Lent S O E). l.told) is ∙ none.1, ap (λ (l : Lent S O E). l.err_faults) is ∙ none.2)
+
+    written_rest : new ≡ record mid { out = new.out; taken = new.taken; out_faults = new.out_faults } → KeepsRest asked old new
+    written_rest is =
+        let kept = kept_rest asked old mid (Ok v) had.before in
+        record {
+          files = ap (λ (l : Lent S O E). l.files) is ∙ kept.files;
+          strays = λ files are names. ap (λ (l : Lent S O E). l.strays) is ∙ kept.strays files are names;
+          script = λ none. ap (λ (l : Lent S O E). l.script) is ∙ kept.script none;
+          built = subst (λ n. old.built ≤ n) (sym (ap (λ (l : Lent S O E). l.built) is)) kept.built;
+          multiplied = subst (λ n. old.multiplied ≤ n) (sym (ap (λ (l : Lent S O E). l.multiplied) is)) kept.multiplied;
+        }
+
+    said : (W : List ℕ → Type 0) → new ≡ record mid { out = new.out; taken = new.taken; out_faults = new.out_faults } → W v.items → (files : List File) → old.files ≡ Some files
+        → IsSaid asked files W old new
+    said W is took files are =
+        (v.items, had.text files are, took, subst (λ n. HasBuiltAll (cells_of_asked asked) files old.built n) (sym (ap (λ (l : Lent S O E). l.built) is)) (had.all files are))
+
+    -- a text that was had is written
+    pub written : {T : Type 0} (r : Result T Stop) → IsWritten v.items mid new r → IsPerformed asked old new r
+    written (Ok x) w = record {
+      known = λ e. absurd (not_stopped x stop.Usage e);
+      done = λ files are. inl (said (Appends old.taken new.taken) w.rest (subst (λ (t : Option (List ℕ)). Appends t new.taken v.items) taken_same w.all) files are);
+      stopped = tt;
+      rest = written_rest w.rest;
+      err = written_silent w.rest;
+    }
+    written {T} (Err s) w = subst (λ (x : Stop). IsPerformed asked old new {T = T} (Err x)) (sym w.part.0) (record {
+      known = λ e. absurd (other_stop {T = T} e);
+      done = tt;
+      stopped = record {
+        cause = λ files are. inr (say v.items, had.text files are);
+        risen = subst (λ n. Rose n new.out_faults) (ap (λ (l : Lent S O E). l.out_faults) had.before.alone) w.part.1;
+        took = λ files are. inl (said (AppendsPart old.taken new.taken) w.rest (subst (λ (t : Option (List ℕ)). AppendsPart t new.taken v.items) taken_same w.part.2) files are);
+        nothing = λ _ other. absurd (other refl);
+        built = all_said;
+      };
+      rest = written_rest w.rest;
+      err = written_silent w.rest;
+    })
+      where
+        all_said : HasBuilt (cells_of_asked asked) old.files old.built new.built stop.Write
+        all_said = write_built (cells_of_asked asked) old.files old.built new.built (λ e. ap (λ (l : Lent S O E). l.built) w.rest ∙ had.before.no_cells e)
+
+-- ---- before anything is written
+
+-- a stop by what the files hold, or by want of memory
+content_end : (before now : ℕ) (s : Stop) → IsOfContent s → EndsReading before now s
+content_end before now stop.Usage content = absurd content
+content_end before now (stop.FileTooLong k n) content = absurd content
+content_end before now (stop.LineTooLong n) content = absurd content
+content_end before now (stop.Smf e) content = tt
+content_end before now (stop.Grammar e) content = tt
+content_end before now (stop.Kern e) content = tt
+content_end before now stop.NoNotes content = tt
+content_end before now (stop.TooManyNotes n) content = tt
+content_end before now (stop.BadSignature m n) content = tt
+content_end before now (stop.UnevenBar l m n) content = tt
+content_end before now (stop.TooManyBars n) content = tt
+content_end before now (stop.TooManyCells n) content = tt
+content_end before now (stop.NoStart l m n) content = tt
+content_end before now (stop.NoDerivation m n) content = tt
+content_end before now (stop.ScoreTooLong n) content = tt
+content_end before now (stop.Read k) content = absurd content
+content_end before now stop.Write content = absurd content
+content_end before now stop.Memory content = tt
+
+pub content_ends : {T : Type 0} (before now : ℕ) (r : Result T Stop) → IfErr r IsOfContent → IfErr r (EndsReading before now)
+content_ends before now (Ok x) content = tt
+content_ends before now (Err s) content = content_end before now s content
+
+module _ {S O E : Type 0} where
+  -- the shelf was read, and then the counters were raised
+  pub counted_alone : (old mid new : Lent S O E) → mid ≡ record old { strays = mid.strays; shelf_faults = mid.shelf_faults } → new ≡ record mid { built = new.built; multiplied = new.multiplied }
+      → ReadsAlone old new
+  counted_alone old mid new reads counts =
+      let strays = sym (ap (λ (l : Lent S O E). l.strays) counts) in
+      let faults = sym (ap (λ (l : Lent S O E). l.shelf_faults) counts) in
+      counts ∙ ap (λ (l : Lent S O E). record l { built = new.built; multiplied = new.multiplied }) reads
+      ∙ (λ i. record old { strays = strays i; shelf_faults = faults i; built = new.built; multiplied = new.multiplied })
+
+  -- the shelf alone was read
+  pub shelf_alone : {T : Type 0} (asked : Option Asked) (old new : Lent S O E) (r : Result T Stop) → new ≡ record old { files = new.files; strays = new.strays; shelf_faults = new.shelf_faults } → new.files ≡ old.files
+      → IfErr r (λ stop. ForSome old.files (λ files. IsCauseOf asked files stop)) → IfErr r (EndsReading old.shelf_faults new.shelf_faults) → IfErr r (HasBuilt (cells_of_asked asked) old.files old.built old.built)
+      → ForSome old.files (λ files. HasNames files asked → new.strays ≡ old.strays) → IsBefore asked old new r
+  shelf_alone asked old new r reads files cause end built strays = record {
+    cause = cause;
+    end = end;
+    built = unbuilt r built;
+    strays = strays;
+    rises = (omega (arith, same), omega (arith, ap (λ (l : Lent S O E). l.multiplied) reads));
+    no_cells = λ _. same;
+    alone = counted_alone old new new (reads ∙ (λ i. record old { files = files i; strays = new.strays; shelf_faults = new.shelf_faults })) refl;
+  }
     where
-      ap_err : (s : Stop) → s ≡ stop.Write → ◌≡◌ {A = Result (Unit {0}) Stop} (Err s) (Err stop.Write)
-      ap_err s e = cc
+      same : new.built ≡ old.built
+      same = ap (λ (l : Lent S O E). l.built) reads
 
-  moved : (s : Stop) → ForSome fs (λ files. HasStopped asked files rest rest' taken taken' built built' s)
-      → ForSome fs (λ files. HasStopped words files rest rest' taken taken' built built' s)
-  moved s h = λ files are. subst (λ (a : Option Asked). HasStopped a files rest rest' taken taken' built built' s) same (h files are)
+      unbuilt : {U : Type 0} (x : Result U Stop) → IfErr x (HasBuilt (cells_of_asked asked) old.files old.built old.built) → IfErr x (HasBuilt (cells_of_asked asked) old.files old.built new.built)
+      unbuilt (Ok u) h = tt
+      unbuilt (Err s) h = subst (λ n. HasBuilt (cells_of_asked asked) old.files old.built n s) (sym same) h
 
-  stopped_took : (N : Type 0) (s : Stop)
-      → MatchStop s (ForSome fs (λ files. HasStopped asked files rest rest' taken taken' built built' s)) (ForSome fs (λ files. HasStopped asked files rest rest' taken taken' built built' s)) N
-      → MatchStop s (ForSome fs (λ files. IsCutShort words files rest rest' taken taken' built built'))
-      (ForSome fs (λ files. HasStopped words files rest rest' taken taken' built built' s)) N
-  stopped_took N stop.Usage h = h
-  stopped_took N (stop.FileTooLong kind.Midi n) h = h
-  stopped_took N (stop.FileTooLong kind.Grammar n) h = h
-  stopped_took N (stop.FileTooLong kind.Kern n) h = h
-  stopped_took N (stop.FileTooLong kind.Script n) h = moved (stop.FileTooLong kind.Script n) h
-  stopped_took N (stop.LineTooLong n) h = moved (stop.LineTooLong n) h
-  stopped_took N (stop.Smf x) h = h
-  stopped_took N (stop.Grammar x) h = h
-  stopped_took N (stop.Kern x) h = h
-  stopped_took N stop.NoNotes h = h
-  stopped_took N (stop.TooManyNotes n) h = h
-  stopped_took N (stop.BadSignature m n) h = h
-  stopped_took N (stop.UnevenBar l m n) h = h
-  stopped_took N (stop.TooManyBars n) h = h
-  stopped_took N (stop.TooManyCells n) h = h
-  stopped_took N (stop.NoStart l m n) h = h
-  stopped_took N (stop.NoDerivation m n) h = h
-  stopped_took N (stop.ScoreTooLong n) h = h
-  stopped_took N (stop.Read kind.Midi) h = h
-  stopped_took N (stop.Read kind.Grammar) h = h
-  stopped_took N (stop.Read kind.Kern) h = h
-  stopped_took N (stop.Read kind.Script) h = moved (stop.Read kind.Script) h
-  stopped_took N stop.Write h = λ files are. inr (moved stop.Write h files are)
-  stopped_took N stop.Memory h = h
-
-  pub served_took : (N : Type 0) (r : Result (Unit {0}) Stop)
-      → IfErr r (λ end. MatchStop end (ForSome fs (λ files. HasStopped asked files rest rest' taken taken' built built' end))
-      (ForSome fs (λ files. HasStopped asked files rest rest' taken taken' built built' end)) N)
-      → IfErr r (λ end. MatchStop end (ForSome fs (λ files. IsCutShort words files rest rest' taken taken' built built'))
-      (ForSome fs (λ files. HasStopped words files rest rest' taken taken' built built' end)) N)
-  served_took N (Ok x) h = tt
-  served_took N (Err s) h = stopped_took N s h
-
-  pub same_names : (files : List File) → HasNames files words → HasNames files asked
-  same_names files names = subst (HasNames files) (sym same) names
-
--- a command that reads no script leaves it as it was
-pub untouched : {X : Type 0} (x : X) (O : Type 0) (End : Stop → Type 0) (r : Result (Unit {0}) Stop) → IfErr r (λ end. end ≢ stop.Write → O × End end)
-    → IfErr r (λ end. end ≢ stop.Write → (O × (x ≡ x)) × End end)
-untouched x O End (Ok y) h = tt
-untouched x O End (Err s) h = λ other. let ended = h other in ((ended.0, refl), ended.1)
-
--- ---- a command that reads no file and builds nothing
-
--- it ends by want of memory, or by a failed write
-abbrev IsFreeEnd : Type 0 → Stop → Type 0
-IsFreeEnd rose end = (end ≡ stop.Memory) ⊎ ((end ≡ stop.Write) × rose)
-
-free_ending : (O X : Type 0) (before now : ℕ) (s : Stop) → IsFreeEnd O s → (s ≢ stop.Write → X) → s ≢ stop.Write → X × EndsReading before now s
-free_ending O X before now s (inl e) nothing other = (nothing other, subst (EndsReading before now) (sym e) tt)
-free_ending O X before now s (inr e) nothing other = absurd (other e.0)
-
-free_ends : {A : Type 0} (x : A) (O X : Type 0) (before now : ℕ) (r : Result (Unit {0}) Stop) → IfErr r (IsFreeEnd O) → IfErr r (λ end. end ≢ stop.Write → X)
-    → IfErr r (λ end. end ≢ stop.Write → (X × (x ≡ x)) × EndsReading before now end)
-free_ends x O X before now (Ok y) ends h = tt
-free_ends x O X before now (Err s) ends h = free_ending O (X × (x ≡ x)) before now s ends (λ other. (h other, refl))
-
-risen_at : (F S O : Type 0) (s : Stop) → IsFreeEnd O s → HasRisen F S O s
-risen_at F S O s (inl e) = subst (HasRisen F S O) (sym e) tt
-risen_at F S O s (inr e) = subst (HasRisen F S O) (sym e.0) e.1
-
-pub free_risen : (F S O : Type 0) (r : Result (Unit {0}) Stop) → IfErr r (IsFreeEnd O) → IfErr r (HasRisen F S O)
-free_risen F S O (Ok y) ends = tt
-free_risen F S O (Err s) ends = risen_at F S O s ends
-
-module _ (fs : Option (List File)) (asked words : Option Asked) (same : asked ≡ words) (rest taken taken' : Option (List ℕ)) (built : ℕ) where
-  pub free_answered : (r : Result (Unit {0}) Stop) → ((files : List File) (built : ℕ) → OnOk r (IsSaid asked files (Appends taken taken') built built))
-      → OnOk r (ForSome fs (λ files. IsAnswered words files rest rest taken taken' built built))
-  free_answered (Ok x) done = λ files are. inl (subst (λ (a : Option Asked). IsSaid a files (Appends taken taken') built built) same (done files built))
-  free_answered (Err s) done = tt
-
-  pub free_cause : (r : Result (Unit {0}) Stop) → ((files : List File) → IfErr r (λ s. IsCauseOf asked files s)) → IfErr r (λ s. ForSome fs (λ files. IsCauseOf words files s))
-  free_cause (Ok x) cause = tt
-  free_cause (Err s) cause = λ files are. subst (λ (a : Option Asked). IsCauseOf a files s) same (cause files)
-
-  pub free_took : {A : Type 0} (x : A) (O X : Type 0) (before now : ℕ) (r : Result (Unit {0}) Stop)
-      → ((files : List File) (built : ℕ) → r ≡ Err stop.Write → IsSaid asked files (AppendsPart taken taken') built built)
-      → IfErr r (IsFreeEnd O) → IfErr r (λ end. end ≢ stop.Write → X)
-      → IfErr r (λ end. MatchStop end (ForSome fs (λ files. IsCutShort words files rest rest taken taken' built built))
-      (ForSome fs (λ files. HasStopped words files rest rest taken taken' built built end)) (X × (x ≡ x)))
-  free_took x O X before now r part ends nothing =
-      said_took fs asked words same rest rest taken taken' built built before now (X × (x ≡ x)) r (λ e files are. part files built e) (free_ends x O X before now r ends nothing)
+  -- no text is had
+  pub not_had : {A : Type 0} (asked : Option Asked) (seen old new : Lent S O E) (s : Stop) (r : Result (Vec ℕ A) Stop) → r ≡ Err s → seen ≡ old → new ≡ record seen { files = new.files; strays = new.strays; shelf_faults = new.shelf_faults } → new.files ≡ seen.files
+      → ForSome seen.files (λ files. IsCauseOf asked files s) → EndsReading seen.shelf_faults new.shelf_faults s → HasBuilt (cells_of_asked asked) seen.files seen.built seen.built s
+      → ForSome seen.files (λ files. HasNames files asked → new.strays ≡ seen.strays) → HasText asked old new r
+  not_had {A} asked seen old new s r is same reads files cause end built strays =
+      subst (λ (x : Result (Vec ℕ A) Stop). HasText asked old new x) (sym is) (subst (λ (l : Lent S O E). HasText {A = A} asked l new (Err s)) same (record {
+        text = tt;
+        all = tt;
+        before = shelf_alone asked seen new (Err s) reads files cause end built strays;
+      }))

@@ -1,11 +1,15 @@
 -- What the score of a performance and a grammar comes to, and a session on it.
-use Rattle.std.proofs.Common.{◌≡◌, ◌⊎◌, ℕ, refl, inl, inr, subst, sym, Err}
-use Rattle.edit_session.specs.Opening.{CanOpen, IsOpenFault}
+use Rattle.std.proofs.Common.{◌≡◌, ◌≤◌, ◌⊎◌, ℕ, refl, inl, inr, subst, sym, Err}
+use Rattle.edit_session.specs.Opening.{CanOpen, IsBuilt, IsOpenFault}
 use Rattle.edit_session.specs.declared.open_fault.OpenFault.{OpenFault}
 use Rattle.edit_session.specs.declared.open_fault.OpenFault.TheVariants as opening
-use Rattle.kern_writer.specs.PerformanceScore.{HasTooLongText}
-use Rattle.rhythm_app.specs.Outcome.{IsEditing, IsScoring, IsUnopened, open_stop}
-use Rattle.rhythm_app.specs.Stages.{Follows}
+use Rattle.kern_writer.specs.PerformanceText.{HasTooLongText}
+use Rattle.rhythm_app.specs.Outcome.{IsAnswering, IsScoring, IsUnopened, IsWriting, open_stop}
+use Rattle.rhythm_app.specs.declared.request.Form.{Form}
+use Rattle.rhythm_app.specs.declared.request.Form.TheVariants as form
+use Rattle.rhythm_app.specs.declared.request.Talk.{Talk}
+use Rattle.rhythm_app.specs.Builds.{MatchBuilds}
+use Rattle.rhythm_app.specs.Stages.{Follows, IsOfContent}
 use Rattle.rhythm_app.specs.declared.stop.Stop.{Stop}
 use Rattle.rhythm_app.specs.declared.stop.Stop.TheVariants as stop
 use Rattle.rhythm_base.specs.Grammar.{Grammar}
@@ -18,13 +22,30 @@ module _ (g : Grammar) (p : Performance) where
   unopened (opening.NoDerivation channel bar) h = inl (opening.NoDerivation channel bar, h, (λ e. cc), refl)
   unopened opening.Memory h = inr refl
 
-  pub unopened_scoring : (s : Stop) → IsUnopened g p s ⊎ (s ≡ stop.Memory) → Follows (IsScoring g p) (Err s)
-  unopened_scoring s (inl h) = inl (inl h)
-  unopened_scoring s (inr e) = subst (λ (x : Stop). Follows (IsScoring g p) (Err x)) (sym e) (inr tt)
+  unopened_stops : (f : Form) (s : Stop) → IsUnopened g p s → IsWriting f g p (Err s)
+  unopened_stops form.Score s h = inl h
 
-  pub unopened_editing : (s : Stop) → IsUnopened g p s ⊎ (s ≡ stop.Memory) → Follows (IsEditing g p) (Err s)
-  unopened_editing s (inl h) = inl h
-  unopened_editing s (inr e) = subst (λ (x : Stop). Follows (IsEditing g p) (Err x)) (sym e) (inr tt)
+  -- no session is opened, so nothing is written of it
+  pub unopened_writing : (f : Form) (s : Stop) → IsUnopened g p s ⊎ (s ≡ stop.Memory) → Follows (IsWriting f g p) (Err s)
+  unopened_writing f s (inl h) = inl (unopened_stops f s h)
+  unopened_writing f s (inr e) = subst (λ (x : Stop). Follows (IsWriting f g p) (Err x)) (sym e) (inr tt)
+
+  -- nor does it answer a script
+  pub unopened_answering : (talk : Talk) (s : Stop) → IsUnopened g p s ⊎ (s ≡ stop.Memory) → Follows (IsAnswering talk g p) (Err s)
+  unopened_answering talk s (inl h) = inl h
+  unopened_answering talk s (inr e) = subst (λ (x : Stop). Follows (IsAnswering talk g p) (Err x)) (sym e) (inr tt)
 
   pub too_long_follows : (line : ℕ) → CanOpen g p → HasTooLongText g p line → Follows (IsScoring g p) (Err (stop.ScoreTooLong line))
   too_long_follows line can long = inl (inr (line, can, long, refl))
+
+pub open_content : (fault : OpenFault) → IsOfContent (open_stop fault)
+open_content (opening.Cells count) = tt
+open_content (opening.NoStart bar num den) = tt
+open_content (opening.NoDerivation channel bar) = tt
+open_content opening.Memory = tt
+
+pub open_built : (old new cells : ℕ) (fault : OpenFault) → IsBuilt old new cells fault → MatchBuilds (new ≡ cells) (new ≤ cells) (new ≡ old) (open_stop fault)
+open_built old new cells (opening.Cells count) h = h
+open_built old new cells (opening.NoStart bar num den) h = h
+open_built old new cells (opening.NoDerivation channel bar) h = h
+open_built old new cells opening.Memory h = h

@@ -2,11 +2,14 @@
 use Rattle.std.proofs.Common.{◌≡◌, ◌≢◌, ◌⊎◌, ◌+◌, ℕ, arith, List, inl, inr, refl, sym, ap, subst, ◌∙◌, IfOk, OnOk, Option, Some, Result, Ok, Err}
 use Rattle.std.specs.Option.{ForSome}
 use Rattle.edit_session.specs.Opening.{cells_of}
-use Rattle.edit_session.specs.Session.{Session}
-use Rattle.rhythm_app.specs.Asked.{edit, file_content}
-use Rattle.rhythm_app.specs.Builds.{HasBuilt, IsPerformanceIn, MatchBuilds}
-use Rattle.rhythm_app.specs.Ends.{HasRisen, IsCauseOf, MatchStop}
-use Rattle.rhythm_app.specs.Outcome.{HasOutcomeOf, Ready}
+use Rattle.rhythm_app.specs.Asked.{Asked}
+use Rattle.rhythm_app.specs.Builds.{HasBuilt, HasBuiltAll, MatchBuilds}
+use Rattle.rhythm_app.specs.Commands.{HasOutcomeOf, cells_in}
+use Rattle.rhythm_app.specs.Ends.{HasRisen, HasStopped, HasTaken, IsBrokenOff, IsCauseOf, IsUntouched}
+use Rattle.rhythm_app.specs.Lent.{Lent}
+use Rattle.rhythm_app.specs.Outcome.{Ready, serve}
+use Rattle.rhythm_app.specs.declared.request.Talk.{Talk}
+use Rattle.rhythm_app.specs.declared.request.Talk.TheVariants as talk
 use Rattle.rhythm_app.specs.Stages.{EndsReading, IsEarly}
 use Rattle.rhythm_app.specs.Stops.{script_stop}
 use Rattle.rhythm_app.specs.declared.stop.Kind.TheVariants as kind
@@ -18,7 +21,6 @@ use Rattle.rhythm_base.specs.Performance.{Performance}
 use Rattle.rhythm_ports.specs.Causes.{Rose}
 use Rattle.rhythm_ports.specs.Files.{File}
 use Rattle.script_run.specs.Answers.{Editing}
-use Rattle.script_run.specs.Ends.{IsStopped}
 use Rattle.script_run.specs.declared.script_stop.ScriptStop.{ScriptStop}
 use Rattle.script_run.specs.declared.script_stop.ScriptStop.TheVariants as script
 
@@ -51,54 +53,56 @@ early_built A B old (stop.Read kind.Script) early = tt
 early_built A B old stop.Write early = tt
 early_built A B old stop.Memory early = inl refl
 
-pub reading_risen : (before now : ℕ) (S O : Type 0) (s : Stop) → EndsReading before now s → HasRisen (Rose before now) S O s
-reading_risen before now S O stop.Usage end = absurd end
-reading_risen before now S O (stop.FileTooLong k n) end = tt
-reading_risen before now S O (stop.LineTooLong n) end = absurd end
-reading_risen before now S O (stop.Smf e) end = tt
-reading_risen before now S O (stop.Grammar e) end = tt
-reading_risen before now S O (stop.Kern e) end = tt
-reading_risen before now S O stop.NoNotes end = tt
-reading_risen before now S O (stop.TooManyNotes n) end = tt
-reading_risen before now S O (stop.BadSignature m n) end = tt
-reading_risen before now S O (stop.UnevenBar l m n) end = tt
-reading_risen before now S O (stop.TooManyBars n) end = tt
-reading_risen before now S O (stop.TooManyCells n) end = tt
-reading_risen before now S O (stop.NoStart l m n) end = tt
-reading_risen before now S O (stop.NoDerivation m n) end = tt
-reading_risen before now S O (stop.ScoreTooLong n) end = tt
-reading_risen before now S O (stop.Read kind.Midi) end = end
-reading_risen before now S O (stop.Read kind.Grammar) end = end
-reading_risen before now S O (stop.Read kind.Kern) end = end
-reading_risen before now S O (stop.Read kind.Script) end = absurd end
-reading_risen before now S O stop.Write end = absurd end
-reading_risen before now S O stop.Memory end = tt
+module _ {S O E : Type 0} (old new : Lent S O E) where
+  pub reading_risen : (s : Stop) → EndsReading old.shelf_faults new.shelf_faults s → HasRisen old new s
+  reading_risen stop.Usage end = absurd end
+  reading_risen (stop.FileTooLong k n) end = tt
+  reading_risen (stop.LineTooLong n) end = absurd end
+  reading_risen (stop.Smf e) end = tt
+  reading_risen (stop.Grammar e) end = tt
+  reading_risen (stop.Kern e) end = tt
+  reading_risen stop.NoNotes end = tt
+  reading_risen (stop.TooManyNotes n) end = tt
+  reading_risen (stop.BadSignature m n) end = tt
+  reading_risen (stop.UnevenBar l m n) end = tt
+  reading_risen (stop.TooManyBars n) end = tt
+  reading_risen (stop.TooManyCells n) end = tt
+  reading_risen (stop.NoStart l m n) end = tt
+  reading_risen (stop.NoDerivation m n) end = tt
+  reading_risen (stop.ScoreTooLong n) end = tt
+  reading_risen (stop.Read kind.Midi) end = end
+  reading_risen (stop.Read kind.Grammar) end = end
+  reading_risen (stop.Read kind.Kern) end = end
+  reading_risen (stop.Read kind.Script) end = absurd end
+  reading_risen stop.Write end = absurd end
+  reading_risen stop.Memory end = tt
 
-pub reading_took : (before now : ℕ) (W P N : Type 0) (s : Stop) → EndsReading before now s → N → MatchStop s W P N
-reading_took before now W P N stop.Usage end none = absurd end
-reading_took before now W P N (stop.FileTooLong kind.Midi n) end none = none
-reading_took before now W P N (stop.FileTooLong kind.Grammar n) end none = none
-reading_took before now W P N (stop.FileTooLong kind.Kern n) end none = none
-reading_took before now W P N (stop.FileTooLong kind.Script n) end none = absurd end
-reading_took before now W P N (stop.LineTooLong n) end none = absurd end
-reading_took before now W P N (stop.Smf e) end none = none
-reading_took before now W P N (stop.Grammar e) end none = none
-reading_took before now W P N (stop.Kern e) end none = none
-reading_took before now W P N stop.NoNotes end none = none
-reading_took before now W P N (stop.TooManyNotes n) end none = none
-reading_took before now W P N (stop.BadSignature m n) end none = none
-reading_took before now W P N (stop.UnevenBar l m n) end none = none
-reading_took before now W P N (stop.TooManyBars n) end none = none
-reading_took before now W P N (stop.TooManyCells n) end none = none
-reading_took before now W P N (stop.NoStart l m n) end none = none
-reading_took before now W P N (stop.NoDerivation m n) end none = none
-reading_took before now W P N (stop.ScoreTooLong n) end none = none
-reading_took before now W P N (stop.Read kind.Midi) end none = none
-reading_took before now W P N (stop.Read kind.Grammar) end none = none
-reading_took before now W P N (stop.Read kind.Kern) end none = none
-reading_took before now W P N (stop.Read kind.Script) end none = absurd end
-reading_took before now W P N stop.Write end none = absurd end
-reading_took before now W P N stop.Memory end none = none
+  -- out took nothing by then
+  pub reading_taken : (asked : Option Asked) (before now : ℕ) (s : Stop) → EndsReading before now s → IsUntouched old new → HasTaken asked old new s
+  reading_taken asked before now stop.Usage end none = absurd end
+  reading_taken asked before now (stop.FileTooLong kind.Midi n) end none = none
+  reading_taken asked before now (stop.FileTooLong kind.Grammar n) end none = none
+  reading_taken asked before now (stop.FileTooLong kind.Kern n) end none = none
+  reading_taken asked before now (stop.FileTooLong kind.Script n) end none = absurd end
+  reading_taken asked before now (stop.LineTooLong n) end none = absurd end
+  reading_taken asked before now (stop.Smf e) end none = none
+  reading_taken asked before now (stop.Grammar e) end none = none
+  reading_taken asked before now (stop.Kern e) end none = none
+  reading_taken asked before now stop.NoNotes end none = none
+  reading_taken asked before now (stop.TooManyNotes n) end none = none
+  reading_taken asked before now (stop.BadSignature m n) end none = none
+  reading_taken asked before now (stop.UnevenBar l m n) end none = none
+  reading_taken asked before now (stop.TooManyBars n) end none = none
+  reading_taken asked before now (stop.TooManyCells n) end none = none
+  reading_taken asked before now (stop.NoStart l m n) end none = none
+  reading_taken asked before now (stop.NoDerivation m n) end none = none
+  reading_taken asked before now (stop.ScoreTooLong n) end none = none
+  reading_taken asked before now (stop.Read kind.Midi) end none = none
+  reading_taken asked before now (stop.Read kind.Grammar) end none = none
+  reading_taken asked before now (stop.Read kind.Kern) end none = none
+  reading_taken asked before now (stop.Read kind.Script) end none = absurd end
+  reading_taken asked before now stop.Write end none = absurd end
+  reading_taken asked before now stop.Memory end none = none
 
 pub reading_known : (before now : ℕ) (s : Stop) → EndsReading before now s → s ≢ stop.Usage
 reading_known before now stop.Usage end e = absurd end
@@ -129,27 +133,30 @@ script_known (script.LineTooLong n) e = absurd (cc)
 script_known script.Write e = absurd (cc)
 script_known script.Memory e = absurd (cc)
 
-pub script_cause : (midi grammar : List ℕ) (files : List File) (ready : Ready) (s : ScriptStop) → HasOutcomeOf (Some (edit midi grammar)) files (Ok ready)
-    → IsCauseOf (Some (edit midi grammar)) files (script_stop s)
-script_cause midi grammar files ready script.Read h = inr (ready, h)
-script_cause midi grammar files ready (script.TooLong n) h = inr (ready, h)
-script_cause midi grammar files ready (script.LineTooLong n) h = inr (ready, h)
-script_cause midi grammar files ready script.Write h = inr (ready, h)
-script_cause midi grammar files ready script.Memory h = inr tt
+pub script_cause : (asked : Asked) (files : List File) (t : Talk) (g : Grammar) (p : Performance) (s : ScriptStop) → HasOutcomeOf (Some asked) files (Ok (serve t g p))
+    → IsCauseOf (Some asked) files (script_stop s)
+script_cause asked files t g p script.Read h = inr (t, g, p, h)
+script_cause asked files t g p (script.TooLong n) h = inr (t, g, p, h)
+script_cause asked files t g p (script.LineTooLong n) h = inr (t, g, p, h)
+script_cause asked files t g p script.Write h = inr (serve t g p, h)
+script_cause asked files t g p script.Memory h = inr tt
 
-pub script_risen : (F S O : Type 0) (s : ScriptStop) → (s ≡ script.Read → S) → (s ≡ script.Write → O) → HasRisen F S O (script_stop s)
-script_risen F S O script.Read read write = read refl
-script_risen F S O (script.TooLong n) read write = tt
-script_risen F S O (script.LineTooLong n) read write = tt
-script_risen F S O script.Write read write = write refl
-script_risen F S O script.Memory read write = tt
+module _ {S O E : Type 0} (old new : Lent S O E) where
+  pub script_risen : (s : ScriptStop) → (s ≡ script.Read → Rose old.script_faults new.script_faults) → (s ≡ script.Write → Rose old.out_faults new.out_faults)
+      → HasRisen old new (script_stop s)
+  script_risen script.Read read write = read refl
+  script_risen (script.TooLong n) read write = tt
+  script_risen (script.LineTooLong n) read write = tt
+  script_risen script.Write read write = write refl
+  script_risen script.Memory read write = tt
 
-pub script_took : (N : Type 0) (P : Stop → Type 0) (s : ScriptStop) → P (script_stop s) → (s ≡ script.Memory → N) → MatchStop (script_stop s) (P (script_stop s)) (P (script_stop s)) N
-script_took N P script.Read part none = part
-script_took N P (script.TooLong n) part none = part
-script_took N P (script.LineTooLong n) part none = part
-script_took N P script.Write part none = part
-script_took N P script.Memory part none = none refl
+  pub script_taken : (asked : Option Asked) (s : ScriptStop) → ForSome old.files (λ files. HasStopped asked files (script_stop s) old new) → (s ≡ script.Memory → IsUntouched old new)
+      → HasTaken asked old new (script_stop s)
+  script_taken asked script.Read part none = part
+  script_taken asked (script.TooLong n) part none = part
+  script_taken asked (script.LineTooLong n) part none = part
+  script_taken asked script.Write part none = λ files are. inr (part files are)
+  script_taken asked script.Memory part none = none refl
 
 risen_more : (x k n : ℕ) → risen (risen x k) n ≡ risen x (k + n)
 risen_more x k n = omega arith
@@ -157,25 +164,17 @@ risen_more x k n = omega arith
 pub served_builds : (old mid new cells built : ℕ) → mid ≡ risen old cells → new ≡ risen mid built → new ≡ risen old (cells + built)
 served_builds old mid new cells built opened more = more ∙ ap (λ m. risen m built) opened ∙ risen_more old cells built
 
-pub script_built : (fs : Option (List File)) (midi grammar : List ℕ) (g : Grammar) (p : Performance) (rest rest' taken taken' : Option (List ℕ)) (old mid new : ℕ) (s : ScriptStop) (last : Editing)
-    → mid ≡ risen old (cells_of p) → new ≡ risen mid last.built → IsStopped s g p rest rest' taken taken' last
-    → ((files : List File) → fs ≡ Some files → IsPerformanceIn (file_content files midi) p) → HasBuilt fs (Some (edit midi grammar)) old new (script_stop s)
-script_built fs midi grammar g p rest rest' taken taken' old mid new script.Read last opened more stopped loaded = tt
-script_built fs midi grammar g p rest rest' taken taken' old mid new (script.TooLong n) last opened more stopped loaded = tt
-script_built fs midi grammar g p rest rest' taken taken' old mid new (script.LineTooLong n) last opened more stopped loaded = tt
-script_built fs midi grammar g p rest rest' taken taken' old mid new script.Write last opened more stopped loaded = tt
-script_built fs midi grammar g p rest rest' taken taken' old mid new script.Memory last opened more stopped loaded =
-    let none : last.built ≡ 0 = ap (λ (e : Editing). e.built) stopped.0 in
-    inr (λ files are. (p, loaded files are, omega (arith, opened, more, none)))
+-- the script is not begun, so the cells of the performance alone are built
+no_edits : {S O E : Type 0} (old new : Lent S O E) (t : Talk) (g : Grammar) (p : Performance) (last : Editing) → IsBrokenOff script.Memory old new t g p last → last.built ≡ 0
+no_edits old new talk.Editing g p last broken = ap (λ (e : Editing). e.built) broken.0
 
--- ---- a session
-
-pub all_cells : (r : Result Session Stop) (p : Performance) (old new : ℕ) → IfOk r (λ s. s.performance ≡ p) → OnOk r (new ≡ risen old (cells_of p))
-    → IfOk r (λ s. new ≡ risen old (cells_of s.performance))
-all_cells (Ok s) p old new same built = built ∙ ap (λ (q : Performance). risen old (cells_of q)) (sym same)
-all_cells (Err s) p old new same built = tt
-
-pub all_loaded : (fs : Option (List File)) (r : Result Session Stop) (p : Performance) (midi : List ℕ) → IfOk r (λ s. s.performance ≡ p)
-    → ForSome fs (λ files. IsPerformanceIn (file_content files midi) p) → IfOk r (λ s. ForSome fs (λ files. IsPerformanceIn (file_content files midi) s.performance))
-all_loaded fs (Ok s) p midi same loaded = λ files are. subst (λ (q : Performance). IsPerformanceIn (file_content files midi) q) (sym same) (loaded files are)
-all_loaded fs (Err s) p midi same loaded = tt
+pub script_built : {S O E : Type 0} (from : ℕ) (old new : Lent S O E) (fs : Option (List File)) (midi : List ℕ) (t : Talk) (g : Grammar) (p : Performance) (s : ScriptStop) (last : Editing)
+    → new.built ≡ risen old.built last.built → IsBrokenOff s old new t g p last → ForSome fs (λ files. HasBuiltAll (cells_in midi) files from old.built)
+    → HasBuilt (cells_in midi) fs from new.built (script_stop s)
+script_built from old new fs midi t g p script.Read last more broken all = tt
+script_built from old new fs midi t g p (script.TooLong n) last more broken all = tt
+script_built from old new fs midi t g p (script.LineTooLong n) last more broken all = tt
+script_built from old new fs midi t g p script.Write last more broken all = tt
+script_built from old new fs midi t g p script.Memory last more broken all =
+    let none = no_edits old new t g p last broken in
+    inr (λ files are. let it = all files are in (it.0, it.1, omega (arith, it.2, more, none)))

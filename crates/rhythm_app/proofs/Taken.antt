@@ -5,11 +5,7 @@ use Rattle.std.proofs.Math.Seq.{take-append-add}
 use Rattle.std.proofs.KnownBytes.{Appends-trans}
 use Rattle.std.specs.Io.KnownBytes.{Appends}
 use Rattle.rhythm_ports.specs.Causes.{HasCause}
-use Rattle.rhythm_app.specs.Asked.{Asked}
-use Rattle.rhythm_app.specs.Ends.{AppendsPart, Reports, IsSaid}
-use Rattle.rhythm_app.specs.Builds.{HasBuiltAll}
-use Rattle.rhythm_app.specs.Outcome.{HasOutcomeOf, say}
-use Rattle.rhythm_ports.specs.Files.{File}
+use Rattle.rhythm_app.specs.Ends.{AppendsPart, Reports}
 use Rattle.rhythm_app.specs.Stops.{joined_words}
 use Rattle.rhythm_app.specs.Parts.{part_text, part_texts}
 use Rattle.rhythm_app.specs.declared.line.Part.{Part}
@@ -55,13 +51,3 @@ pub reported : {T E : Type 0} (a b : Option (List ℕ)) (before now : ℕ) (t : 
     → Reports a b before now t
 reported a b before now t (Ok x) all part cause = inl all
 reported a b before now t (Err e) all part cause = inr (cause.failed, part)
-
--- the text that is the outcome was taken whole, or a first part of it
-pub text_taken : (a b : Option (List ℕ)) (asked : Option Asked) (files : List File) (text taken : List ℕ) (built built' : ℕ) → taken ≡ text → Appends a b taken
-    → HasOutcomeOf asked files (Ok (say text)) → HasBuiltAll asked built built' files → IsSaid asked files (Appends a b) built built'
-text_taken a b asked files text taken built built' same all outcome builds = (text, outcome, subst (Appends a b) same all, builds)
-
-pub part_taken : (a b : Option (List ℕ)) (asked : Option Asked) (files : List File) (text taken : List ℕ) (n built built' : ℕ) → taken ≡ text → n < length taken
-    → Appends a b (take n taken) → HasOutcomeOf asked files (Ok (say text)) → HasBuiltAll asked built built' files → IsSaid asked files (AppendsPart a b) built built'
-part_taken a b asked files text taken n built built' same within cut outcome builds =
-    (text, outcome, (n, subst (λ (t : List ℕ). n < length t) same within, subst (λ (t : List ℕ). Appends a b (take n t)) same cut), builds)

@@ -1,21 +1,24 @@
 -- What the words of a command line ask for.
-use Rattle.std.specs.Prelude.{ℕ, nat_eq, List, [], ◌∷◌, codes, if◌then◌else◌, Option, Some, None, option_and_then, option_map, unwrap_or, ◌≤◌, ⊤}
+use Rattle.std.specs.Prelude.{ℕ, nat_eq, List, [], ◌∷◌, codes, if◌then◌else◌, Option, Some, None, option_and_then, option_map, ◌≤◌, ⊤}
 use Rattle.std.specs.Cmp.Lexicographic.{pointwise}
 use Rattle.command_line.specs.CommandLines.{invocation_of}
 use Rattle.command_line.specs.Numbers.{number_in}
 use Rattle.command_line.specs.declared.invocation.Invocation.{Invocation}
 use Rattle.command_line.specs.declared.invocation.Invocation.TheVariants as invocation
-use Rattle.rhythm_ports.specs.Files.{File, file_of}
+use Rattle.rhythm_app.specs.declared.request.Form.{Form}
+use Rattle.rhythm_app.specs.declared.request.Form.TheVariants as form
 use Rattle.rhythm_app.specs.declared.request.Request.{Request}
 use Rattle.rhythm_app.specs.declared.request.Request.TheVariants as request
+use Rattle.rhythm_app.specs.declared.request.Talk.{Talk}
+use Rattle.rhythm_app.specs.declared.request.Talk.TheVariants as talk
 
--- the help, the version, or a command with the names of its files and its numbers: `transcribe MIDI GRAMMAR`, `edit MIDI GRAMMAR`,
--- `events KERN`, `generate NUMBER BARS` or `drill NUMBER GRAMMAR`
+-- the help, the version, or a command with the names of its files and its numbers: one that writes a text of the session on MIDI and
+-- GRAMMAR, one that answers a script over it, `events KERN`, `generate NUMBER BARS` or `drill NUMBER GRAMMAR`
 pub data Asked : Type 0 where
   help : Asked
   version : Asked
-  transcribe : List ℕ → List ℕ → Asked
-  edit : List ℕ → List ℕ → Asked
+  write : Form → List ℕ → List ℕ → Asked
+  answer : Talk → List ℕ → List ℕ → Asked
   events : List ℕ → Asked
   generate : ℕ → ℕ → Asked
   drill : ℕ → List ℕ → Asked
@@ -45,8 +48,8 @@ drill_by number grammar = option_map (λ (n : ℕ). drill n grammar) (number_in 
 abbrev pub command_by : List (List ℕ) → Option Asked
 command_by [] = None
 command_by (word ∷ more) =
-    if pointwise nat_eq word (codes "transcribe") then of_two (λ a b. Some (transcribe a b)) more
-    else if pointwise nat_eq word (codes "edit") then of_two (λ a b. Some (edit a b)) more
+    if pointwise nat_eq word (codes "transcribe") then of_two (λ a b. Some (write form.Score a b)) more
+    else if pointwise nat_eq word (codes "edit") then of_two (λ a b. Some (answer talk.Editing a b)) more
     else if pointwise nat_eq word (codes "events") then of_one (λ a. Some (events a)) more
     else if pointwise nat_eq word (codes "generate") then of_two generate_by more
     else if pointwise nat_eq word (codes "drill") then of_two drill_by more
@@ -69,47 +72,18 @@ workers_asked (invocation.Command line) = line.workers
 unfoldable pub asked_by : List (List ℕ) → Option Asked
 asked_by words = option_and_then asked_of (invocation_of words)
 
--- the files that a command names
-abbrev pub file_names : Asked → List (List ℕ)
-file_names help = []
-file_names version = []
-file_names (transcribe midi grammar) = midi ∷ grammar ∷ []
-file_names (edit midi grammar) = midi ∷ grammar ∷ []
-file_names (events kern) = kern ∷ []
-file_names (generate number bars) = []
-file_names (drill number grammar) = grammar ∷ []
-
--- the bytes under a name, none where there is no such file
-abbrev pub file_content : List File → List ℕ → List ℕ
-file_content files name = unwrap_or (file_of files name) []
-
 -- a request as contracts see it
 abbrev pub shown_request : Request → Asked
 shown_request request.Help = help
 shown_request request.Version = version
-shown_request (request.Transcribe files) = transcribe files.midi.now files.grammar.now
-shown_request (request.Edit files) = edit files.midi.now files.grammar.now
+shown_request (request.Write form files) = write form files.midi.now files.grammar.now
+shown_request (request.Answer talk files) = answer talk files.midi.now files.grammar.now
 shown_request (request.Events kern) = events kern.now
 shown_request (request.Generate number bars) = generate number bars
 shown_request (request.Drill number grammar) = drill number grammar.now
 
 -- the numbers of a request lie in their ranges
 abbrev pub IsInRange : Request → Type 0
-IsInRange request.Help = ⊤
-IsInRange request.Version = ⊤
-IsInRange (request.Transcribe files) = ⊤
-IsInRange (request.Edit files) = ⊤
-IsInRange (request.Events kern) = ⊤
 IsInRange (request.Generate number bars) = (number ≤ 65534) × (1 ≤ bars) × (bars ≤ 2000)
 IsInRange (request.Drill number grammar) = number ≤ 65534
-
--- no script is read for the command
-abbrev pub ReadsNoScript : Option Asked → Type 0
-ReadsNoScript None = ⊤
-ReadsNoScript (Some help) = ⊤
-ReadsNoScript (Some version) = ⊤
-ReadsNoScript (Some (transcribe midi grammar)) = ⊤
-ReadsNoScript (Some (edit midi grammar)) = ⊥
-ReadsNoScript (Some (events kern)) = ⊤
-ReadsNoScript (Some (generate number bars)) = ⊤
-ReadsNoScript (Some (drill number grammar)) = ⊤
+IsInRange _ = ⊤

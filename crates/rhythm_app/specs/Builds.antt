@@ -4,7 +4,7 @@ use Rattle.std.specs.Option.{ForSome}
 use Rattle.drill_run.specs.Ends.{HasDrilled, IsBrokenOff}
 use Rattle.edit_session.specs.Opening.{cells_of}
 use Rattle.performance_load.specs.Loading.{IsLoaded}
-use Rattle.rhythm_app.specs.Asked.{Asked, help, version, transcribe, edit, events, generate, drill, file_content}
+use Rattle.rhythm_app.specs.Commands.{Cells, no_cells, cells_in, cells_drilled, file_content}
 use Rattle.rhythm_app.specs.Outcome.{IsPieceOf, IsUnderstood, midi_tests}
 use Rattle.rhythm_app.specs.declared.stop.Kind.TheVariants as kind
 use Rattle.rhythm_app.specs.declared.stop.Stop.{Stop}
@@ -35,17 +35,12 @@ ForPiece bytes number P = (g : Grammar) × (p : Performance) × IsUnderstood byt
 abbrev pub AreDrilled : List ℕ → ℕ → Result (List ℕ) ℕ → ℕ → ℕ → Type 0
 AreDrilled bytes number said old new = ForPiece bytes number (λ g p. HasDrilled g number p said (risen old (cells_of p)) new)
 
--- all cells of the command's performance were built. A drill builds, besides, those for its edits. A command
--- that has no cells leaves the counter as it was
-abbrev pub HasBuiltAll : Option Asked → ℕ → ℕ → List File → Type 0
-HasBuiltAll None old new files = ⊥
-HasBuiltAll (Some help) old new files = new ≡ old
-HasBuiltAll (Some version) old new files = new ≡ old
-HasBuiltAll (Some (transcribe midi grammar)) old new files = AreAllBuilt (file_content files midi) old new
-HasBuiltAll (Some (edit midi grammar)) old new files = AreAllBuilt (file_content files midi) old new
-HasBuiltAll (Some (events kern)) old new files = new ≡ old
-HasBuiltAll (Some (generate number bars)) old new files = new ≡ old
-HasBuiltAll (Some (drill number grammar)) old new files = (text : List ℕ) × AreDrilled (file_content files grammar) number (Ok text) old new
+-- all cells of the command's performance were built. A drill builds, besides, those for its edits. A command that has no cells leaves the
+-- counter as it was
+abbrev pub HasBuiltAll : Cells → List File → ℕ → ℕ → Type 0
+HasBuiltAll no_cells files old new = new ≡ old
+HasBuiltAll (cells_in midi) files old new = AreAllBuilt (file_content files midi) old new
+HasBuiltAll (cells_drilled number grammar) files old new = (text : List ℕ) × AreDrilled (file_content files grammar) number (Ok text) old new
 
 -- what holds of the cells by the stop: all of them are built where only a derivation or room for the score is wanting, some of them
 -- may be where memory is, and none before any other stop. Where something was written before, more is known by what was written
@@ -85,13 +80,8 @@ HasDrilledOf files number grammar old new =
     (λ line. ForSome files (λ files. AreDrilled (file_content files grammar) number (Err line) old new))
     ((new ≡ old) ⊎ ForSome files (λ files. ForPiece (file_content files grammar) number (λ g p. AreSomeDrilled g number p old new))) (new ≡ old)
 
--- how many cells had been built when a run stopped: none where no performance is asked for
-abbrev pub HasBuilt : Option (List File) → Option Asked → ℕ → ℕ → Stop → Type 0
-HasBuilt files None old new = λ stop. new ≡ old
-HasBuilt files (Some help) old new = λ stop. new ≡ old
-HasBuilt files (Some version) old new = λ stop. new ≡ old
-HasBuilt files (Some (transcribe midi grammar)) old new = HasBuiltOf files midi old new
-HasBuilt files (Some (edit midi grammar)) old new = HasBuiltOf files midi old new
-HasBuilt files (Some (events kern)) old new = λ stop. new ≡ old
-HasBuilt files (Some (generate number bars)) old new = λ stop. new ≡ old
-HasBuilt files (Some (drill number grammar)) old new = HasDrilledOf files number grammar old new
+-- how many cells had been built when a run stopped: none by a command that has none
+abbrev pub HasBuilt : Cells → Option (List File) → ℕ → ℕ → Stop → Type 0
+HasBuilt no_cells files old new = λ stop. new ≡ old
+HasBuilt (cells_in midi) files old new = HasBuiltOf files midi old new
+HasBuilt (cells_drilled number grammar) files old new = HasDrilledOf files number grammar old new

@@ -1,23 +1,27 @@
--- How a run may end. `rest` and `rest'` are what was left of the script before and after, `taken` and `taken'` what out had taken, and
--- `built` and `built'` the counter of builds.
-use Rattle.std.specs.Prelude.{◌≡◌, ◌≢◌, ℕ, ◌+◌, ◌⊎◌, ◌<◌, List, All, length, take, Result, Ok, Err, Option, Some, None, IsOk, ⊤}
+-- How a run may end, by what stood before it, `old`, and after it, `new`.
+use Rattle.std.specs.Prelude.{◌≡◌, ◌≢◌, ℕ, ◌+◌, ◌⊎◌, ◌<◌, ◌≤◌, List, [], ◌∷◌, ◌++◌, length, take, IfErr, OnOk, Result, Ok, Err, Option, Some, None, IsOk, ⊤}
 use Rattle.std.specs.Io.KnownBytes.{Appends}
+use Rattle.std.specs.Option.{ForSome}
 use Rattle.edit_session.specs.Opening.{cells_of}
-use Rattle.rhythm_app.specs.Asked.{Asked, help, version, transcribe, edit, events, generate, drill, asked_by, file_names, file_content}
-use Rattle.rhythm_app.specs.Builds.{HasBuiltAll}
-use Rattle.rhythm_app.specs.Outcome.{HasOutcome, HasOutcomeOf, Ready, say, serve, midi_tests}
-use Rattle.rhythm_app.specs.Stops.{status_of, script_stop}
+use Rattle.rhythm_app.specs.Asked.{Asked, asked_by}
+use Rattle.rhythm_app.specs.Builds.{HasBuilt, HasBuiltAll}
+use Rattle.rhythm_app.specs.Commands.{HasNames, HasOutcome, HasOutcomeOf, Named, ReadsNoScript, cells_of_asked, command, file_content}
+use Rattle.rhythm_app.specs.Lent.{Lent}
+use Rattle.rhythm_app.specs.Outcome.{Ready, say, serve, grammar_tests, kern_tests, midi_tests}
+use Rattle.rhythm_app.specs.Stops.{status_of, stop_line, script_stop}
+use Rattle.rhythm_app.specs.declared.request.Talk.{Talk}
+use Rattle.rhythm_app.specs.declared.request.Talk.TheVariants as talk
 use Rattle.rhythm_app.specs.declared.stop.Kind.{Kind}
 use Rattle.rhythm_app.specs.declared.stop.Kind.TheVariants as kind
 use Rattle.rhythm_app.specs.declared.stop.Stop.{Stop}
-use Rattle.rhythm_app.specs.declared.stop.Stop.TheVariants.{FileTooLong, LineTooLong, Read, Write, Memory}
+use Rattle.rhythm_app.specs.declared.stop.Stop.TheVariants.{Usage, FileTooLong, LineTooLong, Read, Write, Memory}
 use Rattle.rhythm_base.specs.Counter.{risen}
 use Rattle.rhythm_base.specs.Grammar.{Grammar}
 use Rattle.rhythm_base.specs.Performance.{Performance}
 use Rattle.rhythm_ports.specs.Causes.{Rose}
-use Rattle.rhythm_ports.specs.Files.{File, file_of}
+use Rattle.rhythm_ports.specs.Files.{File}
 use Rattle.script_run.specs.Answers.{Editing}
-use Rattle.script_run.specs.Ends.{IsDone, IsStopped}
+use Rattle.script_run.specs.Ends as script
 use Rattle.script_run.specs.declared.script_stop.ScriptStop.{ScriptStop}
 
 -- ---- statuses
@@ -26,7 +30,7 @@ use Rattle.script_run.specs.declared.script_stop.ScriptStop.{ScriptStop}
 -- 7 always
 abbrev pub MayEnd : Result Ready Stop → ℕ → Type 0
 MayEnd (Ok (say text)) status = (status ≡ 0) ⊎ (status ≡ 5) ⊎ (status ≡ 6) ⊎ (status ≡ 7)
-MayEnd (Ok (serve g p)) status = (status ≡ 0) ⊎ (status ≡ 4) ⊎ (status ≡ 5) ⊎ (status ≡ 6) ⊎ (status ≡ 7)
+MayEnd (Ok (serve t g p)) status = (status ≡ 0) ⊎ (status ≡ 4) ⊎ (status ≡ 5) ⊎ (status ≡ 6) ⊎ (status ≡ 7)
 MayEnd (Err stop) status = (status ≡ status_of stop) ⊎ (status ≡ 5) ⊎ (status ≡ 7)
 
 -- the status is one that the outcome allows
@@ -40,62 +44,67 @@ abbrev pub AppendsPart : Option (List ℕ) → Option (List ℕ) → List ℕ �
 AppendsPart old new text = (n : ℕ) × (n < length text) × Appends old new (take n text)
 
 -- a text is the outcome; out took what W says of it, and all cells were built, where there are any
-abbrev pub IsSaid : Option Asked → List File → (List ℕ → Type 0) → ℕ → ℕ → Type 0
-IsSaid asked files W built built' = (text : List ℕ) × HasOutcomeOf asked files (Ok (say text)) × W text × HasBuiltAll asked built built' files
+abbrev pub IsSaid : {S O E : Type 0} → Option Asked → List File → (List ℕ → Type 0) → Lent S O E → Lent S O E → Type 0
+IsSaid asked files W old new = (text : List ℕ) × HasOutcomeOf asked files (Ok (say text)) × W text × HasBuiltAll (cells_of_asked asked) files old.built new.built
 
 -- a script is answered as W says, from the performance that was loaded on. All its cells were built, and then those for the edits
-abbrev pub IsServed : Option Asked → List File → (Grammar → Performance → Editing → Type 0) → ℕ → ℕ → Type 0
-IsServed asked files W built built' =
-    (g : Grammar) × (p : Performance) × (last : Editing) × HasOutcomeOf asked files (Ok (serve g p)) × W g p last × (built' ≡ risen built (cells_of p + last.built))
+abbrev pub IsServed : {S O E : Type 0} → Option Asked → List File → (Talk → Grammar → Performance → Editing → Type 0) → Lent S O E → Lent S O E → Type 0
+IsServed asked files W old new =
+    (t : Talk) × (g : Grammar) × (p : Performance) × (last : Editing) × HasOutcomeOf asked files (Ok (serve t g p)) × W t g p last
+    × (new.built ≡ risen old.built (cells_of p + last.built))
 
--- all is written: the text, or the replies to the script
-abbrev pub IsAnswered : Option Asked → List File → Option (List ℕ) → Option (List ℕ) → Option (List ℕ) → Option (List ℕ) → ℕ → ℕ → Type 0
-IsAnswered asked files rest rest' taken taken' built built' =
-    IsSaid asked files (Appends taken taken') built built'
-    ⊎ IsServed asked files (λ g p last. IsDone g p rest rest' taken taken' last) built built'
+-- a script was answered to its end, or to `quit`
+abbrev pub IsDone : {S O E : Type 0} → Lent S O E → Lent S O E → Talk → Grammar → Performance → Editing → Type 0
+IsDone old new talk.Editing g p last = script.IsDone g p old.rest new.rest old.taken new.taken last
 
 -- the answering of a script stopped
-abbrev pub HasStopped : Option Asked → List File → Option (List ℕ) → Option (List ℕ) → Option (List ℕ) → Option (List ℕ) → ℕ → ℕ → Stop → Type 0
-HasStopped asked files rest rest' taken taken' built built' stop =
-    (s : ScriptStop) × (stop ≡ script_stop s) × IsServed asked files (λ g p last. IsStopped s g p rest rest' taken taken' last) built built'
+abbrev pub IsBrokenOff : {S O E : Type 0} → ScriptStop → Lent S O E → Lent S O E → Talk → Grammar → Performance → Editing → Type 0
+IsBrokenOff s old new talk.Editing g p last = script.IsStopped s g p old.rest new.rest old.taken new.taken last
+
+-- all is written: the text, or the replies to the script
+abbrev pub IsAnswered : {S O E : Type 0} → Option Asked → List File → Lent S O E → Lent S O E → Type 0
+IsAnswered asked files old new = IsSaid asked files (Appends old.taken new.taken) old new ⊎ IsServed asked files (IsDone old new) old new
+
+-- the answering of a script stopped, and so the run
+abbrev pub HasStopped : {S O E : Type 0} → Option Asked → List File → Stop → Lent S O E → Lent S O E → Type 0
+HasStopped asked files stop old new = (s : ScriptStop) × (stop ≡ script_stop s) × IsServed asked files (IsBrokenOff s old new) old new
 
 -- a write failed: out took a first part of the text, or of the replies to the script
-abbrev pub IsCutShort : Option Asked → List File → Option (List ℕ) → Option (List ℕ) → Option (List ℕ) → Option (List ℕ) → ℕ → ℕ → Type 0
-IsCutShort asked files rest rest' taken taken' built built' =
-    IsSaid asked files (AppendsPart taken taken') built built' ⊎ HasStopped asked files rest rest' taken taken' built built' Write
+abbrev pub IsCutShort : {S O E : Type 0} → Option Asked → List File → Lent S O E → Lent S O E → Type 0
+IsCutShort asked files old new = IsSaid asked files (AppendsPart old.taken new.taken) old new ⊎ HasStopped asked files Write old new
 
--- what holds by the stop: `cut` where a write failed; `part` where the script could not be read or is over a limit; else `none`
-abbrev pub MatchStop : Stop → Type 0 → Type 0 → Type 0 → Type 0
-MatchStop Write cut part none = cut
-MatchStop (Read kind.Script) cut part none = part
-MatchStop (FileTooLong kind.Script read) cut part none = part
-MatchStop (LineTooLong read) cut part none = part
-MatchStop _ cut part none = none
+-- out took nothing, and no byte of the script was read
+abbrev pub IsUntouched : {S O E : Type 0} → Lent S O E → Lent S O E → Type 0
+IsUntouched old new = (new.out ≡ old.out) × (new.script ≡ old.script)
+
+-- what out took, by the stop: after a failed write a first part; where the script could not be read or is over a limit, the replies to
+-- the lines before; and else nothing
+abbrev pub HasTaken : {S O E : Type 0} → Option Asked → Lent S O E → Lent S O E → Stop → Type 0
+HasTaken asked old new Write = ForSome old.files (λ files. IsCutShort asked files old new)
+HasTaken asked old new (Read kind.Script) = ForSome old.files (λ files. HasStopped asked files (Read kind.Script) old new)
+HasTaken asked old new (FileTooLong kind.Script read) = ForSome old.files (λ files. HasStopped asked files (FileTooLong kind.Script read) old new)
+HasTaken asked old new (LineTooLong read) = ForSome old.files (λ files. HasStopped asked files (LineTooLong read) old new)
+HasTaken asked old new _ = IsUntouched old new
 
 -- ---- causes
+
+-- the tests of a file pass
+abbrev pub Passes : Kind → List ℕ → Type 0
+Passes kind.Midi bytes = IsOk (midi_tests bytes)
+Passes kind.Grammar bytes = IsOk (grammar_tests bytes)
+Passes kind.Kern bytes = IsOk (kern_tests bytes)
+Passes kind.Script bytes = ⊤
+
+-- one of the files that are read is this input, and all files before it pass their tests
+abbrev pub ComesTo : List File → Kind → List Named → Type 0
+ComesTo files kind [] = ⊥
+ComesTo files kind (it ∷ more) = (it.kind ≡ kind) ⊎ (Passes it.kind (file_content files it.name) × ComesTo files kind more)
 
 -- the tests that come before the reading of a file, or of the script, pass
 abbrev pub Reached : Option Asked → List File → Kind → Type 0
 Reached None files kind = ⊥
-Reached (Some help) files kind = ⊥
-Reached (Some version) files kind = ⊥
-Reached (Some (transcribe midi grammar)) files kind.Midi = ⊤
-Reached (Some (transcribe midi grammar)) files kind.Grammar = IsOk (midi_tests (file_content files midi))
-Reached (Some (transcribe midi grammar)) files kind.Kern = ⊥
-Reached (Some (transcribe midi grammar)) files kind.Script = ⊥
-Reached (Some (edit midi grammar)) files kind.Midi = ⊤
-Reached (Some (edit midi grammar)) files kind.Grammar = IsOk (midi_tests (file_content files midi))
-Reached (Some (edit midi grammar)) files kind.Kern = ⊥
-Reached (Some (edit midi grammar)) files kind.Script = (ready : Ready) × HasOutcomeOf (Some (edit midi grammar)) files (Ok ready)
-Reached (Some (events kern)) files kind.Midi = ⊥
-Reached (Some (events kern)) files kind.Grammar = ⊥
-Reached (Some (events kern)) files kind.Kern = ⊤
-Reached (Some (events kern)) files kind.Script = ⊥
-Reached (Some (generate number bars)) files kind = ⊥
-Reached (Some (drill number grammar)) files kind.Midi = ⊥
-Reached (Some (drill number grammar)) files kind.Grammar = ⊤
-Reached (Some (drill number grammar)) files kind.Kern = ⊥
-Reached (Some (drill number grammar)) files kind.Script = ⊥
+Reached (Some asked) files kind.Script = (t : Talk) × (g : Grammar) × (p : Performance) × HasOutcomeOf (Some asked) files (Ok (serve t g p))
+Reached (Some asked) files kind = ComesTo files kind (command asked).reads
 
 -- what the command and the files are where a call fails, the script is over a limit, or memory is wanted: the tests before a failed
 -- read pass, and all of them before the script is read or anything is written. Memory may be wanted before the words are read
@@ -111,35 +120,73 @@ IsFailureOf asked files _ = ⊥
 abbrev pub IsCauseOf : Option Asked → List File → Stop → Type 0
 IsCauseOf asked files stop = HasOutcomeOf asked files (Err stop) ⊎ IsFailureOf asked files stop
 
-abbrev pub IsCause : List (List ℕ) → List File → Stop → Type 0
-IsCause words files stop = IsCauseOf (asked_by words) files stop
-
 -- a stop by a failed call comes only where the count of that object rose: the shelf's, the script's, or out's
-abbrev pub HasRisen : Type 0 → Type 0 → Type 0 → Stop → Type 0
-HasRisen shelf script out (Read kind.Script) = script
-HasRisen shelf script out (Read _) = shelf
-HasRisen shelf script out Write = out
-HasRisen shelf script out _ = ⊤
+abbrev pub HasRisen : {S O E : Type 0} → Lent S O E → Lent S O E → Stop → Type 0
+HasRisen old new (Read kind.Script) = Rose old.script_faults new.script_faults
+HasRisen old new (Read _) = Rose old.shelf_faults new.shelf_faults
+HasRisen old new Write = Rose old.out_faults new.out_faults
+HasRisen old new _ = ⊤
+
+-- ---- ends
+
+-- a run stopped: for a cause, which is named only where it came; what out took by then, where no script is read nothing but after a failed
+-- write; and how many cells had been built
+pub record IsStopped {S O E : Type 0} (asked : Option Asked) (old new : Lent S O E) (stop : Stop) : Type 0 where
+  pub cause : ForSome old.files (λ files. IsCauseOf asked files stop)
+  pub risen : HasRisen old new stop
+  pub took : HasTaken asked old new stop
+  pub nothing : ReadsNoScript asked → stop ≢ Write → new.out ≡ old.out
+  pub built : HasBuilt (cells_of_asked asked) old.files old.built new.built stop
+
+-- whatever the end: no name is opened but the command's, the script is read only by a command that answers it, and no counter falls
+pub record KeepsRest {S O E : Type 0} (asked : Option Asked) (old new : Lent S O E) : Type 0 where
+  pub files : new.files ≡ old.files
+  pub strays : ForSome old.files (λ files. HasNames files asked → new.strays ≡ old.strays)
+  pub script : ReadsNoScript asked → new.script ≡ old.script
+  pub built : old.built ≤ new.built
+  pub multiplied : old.multiplied ≤ new.multiplied
+
+-- err took nothing
+abbrev pub IsSilent : {S O E : Type 0} → Lent S O E → Lent S O E → Type 0
+IsSilent old new = (new.err ≡ old.err) × (new.told ≡ old.told) × (new.err_faults ≡ old.err_faults)
+
+-- what a run does before err is told: all is written, or it stopped
+pub record IsPerformed {S O E : Type 0} (asked : Option Asked) (old new : Lent S O E) {T : Type 0} (result : Result T Stop) : Type 0 where
+  pub known : result ≡ Err Usage → asked ≡ None
+  pub done : OnOk result (ForSome old.files (λ files. IsAnswered asked files old new))
+  pub stopped : IfErr result (IsStopped asked old new)
+  pub rest : KeepsRest asked old new
+  pub err : IsSilent old new
 
 -- a line was taken whole, or a first part of it where a call failed
 abbrev pub Reports : Option (List ℕ) → Option (List ℕ) → ℕ → ℕ → List ℕ → Type 0
 Reports old new before now line = Appends old new line ⊎ (Rose before now × AppendsPart old new line)
 
--- ---- names and completeness
+-- the same of a line and more lines after it, whatever they say
+abbrev pub ReportsMore : Option (List ℕ) → Option (List ℕ) → ℕ → ℕ → List ℕ → Type 0
+ReportsMore old new before now line = (more : List ℕ) × Reports old new before now (line ++ more)
 
--- the files have every name of the command
-abbrev pub HasNames : List File → Option Asked → Type 0
-HasNames files None = ⊤
-HasNames files (Some asked) = All (λ name. file_of files name ≢ None) (file_names asked)
+-- the line of a stop was taken, or a first part of it. Where the words are no command, more lines say why
+abbrev pub Tells : Option (List ℕ) → Option (List ℕ) → ℕ → ℕ → Stop → Type 0
+Tells old new before now Usage = ReportsMore old new before now (stop_line Usage)
+Tells old new before now stop = Reports old new before now (stop_line stop)
+
+-- err took it
+abbrev pub IsTold : {S O E : Type 0} → Lent S O E → Lent S O E → Stop → Type 0
+IsTold old new stop = Tells old.told new.told old.err_faults new.err_faults stop
+
+-- ---- completeness
 
 -- a count neither rose nor stands at its last value
 abbrev pub Stood : ℕ → ℕ → Type 0
 Stood before now = Rose before now → ⊥
 
 -- where no call failed, a text is written, or memory was wanted; a script is answered, or is over a limit, or memory was wanted
-abbrev pub IsCompleteFor : Ready → Type 0 → Type 0 → Type 0 → ℕ → Type 0
-IsCompleteFor (say text) shelf script out status = shelf → out → (status ≡ 0) ⊎ (status ≡ 7)
-IsCompleteFor (serve g p) shelf script out status = shelf → script → out → (status ≡ 0) ⊎ (status ≡ 4) ⊎ (status ≡ 7)
+abbrev pub IsCompleteFor : {S O E : Type 0} → Ready → Lent S O E → Lent S O E → ℕ → Type 0
+IsCompleteFor (say text) old new status = Stood old.shelf_faults new.shelf_faults → Stood old.out_faults new.out_faults → (status ≡ 0) ⊎ (status ≡ 7)
+IsCompleteFor (serve t g p) old new status =
+    Stood old.shelf_faults new.shelf_faults → Stood old.script_faults new.script_faults → Stood old.out_faults new.out_faults
+    → (status ≡ 0) ⊎ (status ≡ 4) ⊎ (status ≡ 7)
 
-abbrev pub IsComplete : List (List ℕ) → List File → Type 0 → Type 0 → Type 0 → ℕ → Type 0
-IsComplete words files shelf script out status = (ready : Ready) → HasOutcome words files (Ok ready) → IsCompleteFor ready shelf script out status
+abbrev pub IsComplete : {S O E : Type 0} → List (List ℕ) → List File → Lent S O E → Lent S O E → ℕ → Type 0
+IsComplete words files old new status = (ready : Ready) → HasOutcome words files (Ok ready) → IsCompleteFor ready old new status

@@ -1,6 +1,7 @@
 -- The laws, each as one statement over the definitions.
 use Rattle.std.specs.Prelude.{◌≡◌, ℕ, List, Result}
-use Rattle.rhythm_app.specs.Outcome.{HasOutcome, Ready}
+use Rattle.rhythm_app.specs.Commands.{HasOutcome}
+use Rattle.rhythm_app.specs.Outcome.{Ready}
 use Rattle.rhythm_app.specs.declared.stop.Stop.{Stop}
 use Rattle.rhythm_ports.specs.Files.{File}
 

@@ -1,7 +1,9 @@
 pub mod Asked
 pub mod Builds
+pub mod Commands
 pub mod Ends
 pub mod Laws
+pub mod Lent
 pub mod Outcome
 pub mod Parts
 pub mod Stages

@@ -1,11 +1,9 @@
--- What the words of a command line and the bytes of the files come to: what the command is ready to write, or the first test that
--- fails, as a stop. The tests come in this order: the words; the MIDI file's size and its faults; the grammar file's size and its
+-- What the bytes of a command's files come to: what the command is ready to write, or the first test that fails, as a stop. The tests come in this order: the words; the MIDI file's size and its faults; the grammar file's size and its
 -- faults; the notes and the bars; the cells, the root symbols and the derivations; the size of a score. Where the command has a
 -- **kern file, after the words come its size and its faults. `drill` has a grammar file, the cells, the root symbols and the derivations
 -- of its piece, and the size of its last score; `generate`, the help and the version read no file. A failed read, a failed write and
 -- want of memory are no outcomes: they may end any run.
 use Rattle.std.specs.Prelude.{◌≡◌, ◌≢◌, ℕ, ◌+◌, ◌≤◌, ◌⊎◌, nat_le, List, [], ◌∷◌, ◌++◌, codes, length, IfOk, if◌then◌else◌, Result, Ok, Err, Option, Some, None}
-use Rattle.command_line.specs.Texts.{help_text, version_text}
 use Rattle.drill_run.specs.Ends.{IsDrillOf}
 use Rattle.drill_run.specs.declared.piece.TheConstants.{DRILL_BARS}
 use Rattle.edit_session.specs.Opening.{CanOpen, IsOpenFault}
@@ -17,13 +15,15 @@ use Rattle.kern_reader.specs.Events.{AreEvents}
 use Rattle.kern_reader.specs.Outcome.{score_of}
 use Rattle.kern_reader.specs.Score.{KernColumns}
 use Rattle.kern_reader.specs.declared.event.KernEvent.{KernEvent}
-use Rattle.kern_writer.specs.PerformanceScore.{HasTooLongText, IsTextOf}
+use Rattle.kern_writer.specs.PerformanceText.{HasTooLongText, IsTextOf}
 use Rattle.note_list.specs.declared.fault.NoteFault.TheVariants as note
 use Rattle.performance_load.specs.Loading.{Loads}
 use Rattle.performance_load.specs.declared.load_fault.LoadFault.{LoadFault}
 use Rattle.performance_load.specs.declared.load_fault.LoadFault.TheVariants as loading
 use Rattle.piece_laws.specs.Laws.{IsLoadingOf}
-use Rattle.rhythm_app.specs.Asked.{Asked, help, version, transcribe, edit, events, generate, drill, asked_by, file_content}
+use Rattle.rhythm_app.specs.declared.request.Form.{Form}
+use Rattle.rhythm_app.specs.declared.request.Form.TheVariants as form
+use Rattle.rhythm_app.specs.declared.request.Talk.{Talk}
 use Rattle.rhythm_app.specs.declared.stop.Kind.{Kind}
 use Rattle.rhythm_app.specs.declared.stop.Kind.TheVariants as kind
 use Rattle.rhythm_app.specs.declared.stop.Stop.{Stop}
@@ -32,8 +32,6 @@ use Rattle.rhythm_base.specs.Grammar.{Grammar}
 use Rattle.rhythm_base.specs.Performance.{IsWellFormed, Performance}
 use Rattle.rhythm_base.specs.declared.bar_fault.BarFault.TheVariants as laying
 use Rattle.rhythm_base.specs.declared.limits.TheConstants.{LONGEST_GRAMMAR, LONGEST_MIDI, LONGEST_SCORE, LONGEST_SCRIPT}
-use Rattle.rhythm_gen.specs.MidiFile.{generated}
-use Rattle.rhythm_ports.specs.Files.{File}
 use Rattle.smf_reader.specs.Played.{Smf}
 use Rattle.smf_reader.specs.SmfFile.{smf}
 
@@ -120,26 +118,30 @@ IsTooLongToWrite g p s = (line : ℕ) × CanOpen g p × HasTooLongText g p line 
 -- on
 pub data Ready : Type 0 where
   say : List ℕ → Ready
-  serve : Grammar → Performance → Ready
+  serve : Talk → Grammar → Performance → Ready
 
 -- what the score of a performance and a grammar comes to
 abbrev pub IsScoring : Grammar → Performance → Result Ready Stop → Type 0
 IsScoring g p (Ok (say text)) = CanOpen g p × IsTextOf g p text × (length text ≤ LONGEST_SCORE)
-IsScoring g p (Ok (serve h q)) = ⊥
+IsScoring g p (Ok (serve t h q)) = ⊥
 IsScoring g p (Err s) = IsUnopened g p s ⊎ IsTooLongToWrite g p s
 
--- what an editing session on a performance and a grammar comes to
-abbrev pub IsEditing : Grammar → Performance → Result Ready Stop → Type 0
-IsEditing g p (Ok (say text)) = ⊥
-IsEditing g p (Ok (serve h q)) = CanOpen g p × (h ≡ g) × (q ≡ p)
-IsEditing g p (Err s) = IsUnopened g p s
+-- what is written of a session in this form
+abbrev pub IsWriting : Form → Grammar → Performance → Result Ready Stop → Type 0
+IsWriting form.Score g p r = IsScoring g p r
+
+-- what a session that answers a script comes to
+abbrev pub IsAnswering : Talk → Grammar → Performance → Result Ready Stop → Type 0
+IsAnswering talk g p (Ok (say text)) = ⊥
+IsAnswering talk g p (Ok (serve t h q)) = CanOpen g p × (t ≡ talk) × (h ≡ g) × (q ≡ p)
+IsAnswering talk g p (Err s) = IsUnopened g p s
 
 -- ---- the events
 
 -- what the score of a **kern file comes to: the text of its events
 abbrev pub IsListing : KernColumns → Result Ready Stop → Type 0
 IsListing score (Ok (say text)) = (list : List KernEvent) × AreEvents score list × (text ≡ events_text list)
-IsListing score (Ok (serve g p)) = ⊥
+IsListing score (Ok (serve t g p)) = ⊥
 IsListing score (Err s) = ⊥
 
 -- ---- the drill
@@ -159,7 +161,7 @@ IsTooLongDrill g number p s = (line : ℕ) × CanOpen g p × IsDrillOf g number 
 -- what the drill of a number on a performance comes to by a grammar: its summary
 abbrev pub IsDrilling : Grammar → ℕ → Performance → Result Ready Stop → Type 0
 IsDrilling g number p (Ok (say text)) = CanOpen g p × IsDrillOf g number p (Ok text)
-IsDrilling g number p (Ok (serve h q)) = ⊥
+IsDrilling g number p (Ok (serve t h q)) = ⊥
 IsDrilling g number p (Err s) = IsUnopened g p s ⊎ IsTooLongDrill g number p s
 
 -- ---- the run
@@ -177,18 +179,3 @@ AreInputs midi grammar =
 -- what they come to by what is asked of the grammar and the performance
 abbrev pub AreRead : List ℕ → List ℕ → (Grammar → Performance → Result Ready Stop → Type 0) → Result Ready Stop → Type 0
 AreRead midi grammar last = AreInTurn (AreInputs midi grammar) (λ inputs. last inputs.0 inputs.1)
-
-abbrev pub HasOutcomeOf : Option Asked → List File → Result Ready Stop → Type 0
-HasOutcomeOf None files r = r ≡ Err stop.Usage
-HasOutcomeOf (Some help) files r = r ≡ Ok (say help_text)
-HasOutcomeOf (Some version) files r = r ≡ Ok (say version_text)
-HasOutcomeOf (Some (transcribe midi grammar)) files r = AreRead (file_content files midi) (file_content files grammar) IsScoring r
-HasOutcomeOf (Some (edit midi grammar)) files r = AreRead (file_content files midi) (file_content files grammar) IsEditing r
-HasOutcomeOf (Some (events kern)) files r = AreInTurn (IsScoreRead (file_content files kern)) IsListing r
-HasOutcomeOf (Some (generate number bars)) files r = r ≡ Ok (say (generated number bars))
-HasOutcomeOf (Some (drill number grammar)) files r =
-    AreInTurn (IsUnderstood (file_content files grammar)) (λ g. AreInTurn (IsMade number) (λ p. IsDrilling g number p)) r
-
--- what a command line comes to
-abbrev pub HasOutcome : List (List ℕ) → List File → Result Ready Stop → Type 0
-HasOutcome words files r = HasOutcomeOf (asked_by words) files r

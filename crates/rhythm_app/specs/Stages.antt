@@ -1,7 +1,23 @@
 -- How one stage of a command may end.
-use Rattle.std.specs.Prelude.{◌≡◌, ℕ, ◌⊎◌, List, Result, Ok, Err, IsOk, Vec, ⊤}
+use Rattle.std.specs.Prelude.{◌≡◌, ◌≢◌, ℕ, ◌≤◌, ◌⊎◌, List, length, IfErr, IfOk, Option, None, Result, Ok, Err, IsOk, Vec, ⊤}
+use Rattle.std.specs.Io.KnownBytes.{Appends}
+use Rattle.std.specs.Option.{ForSome}
+use Rattle.edit_session.specs.Opening.{cells_of}
+use Rattle.edit_session.specs.Session.{Session}
 use Rattle.rhythm_ports.specs.Causes.{Rose}
-use Rattle.rhythm_app.specs.Outcome.{Ready, say, midi_tests}
+use Rattle.rhythm_base.specs.Counter.{risen}
+use Rattle.rhythm_base.specs.Grammar.{Grammar}
+use Rattle.rhythm_base.specs.Performance.{Performance}
+use Rattle.rhythm_base.specs.Readable.{IsReadable}
+use Rattle.rhythm_base.specs.declared.limits.TheConstants.{MOST_NOTES}
+use Rattle.rhythm_ports.specs.Files.{file_of}
+use Rattle.rhythm_app.specs.Asked.{Asked}
+use Rattle.rhythm_app.specs.Builds.{HasBuilt, HasBuiltAll, IsPerformanceIn}
+use Rattle.rhythm_app.specs.Commands.{HasNames, HasOutcomeOf, cells_of_asked, file_content, no_cells}
+use Rattle.rhythm_app.specs.Ends.{AppendsPart, IsCauseOf}
+use Rattle.rhythm_app.specs.Lent.{Lent}
+use Rattle.rhythm_app.specs.Outcome.{AreInputs, IsUnderstood, Ready, say, serve, midi_tests}
+use Rattle.rhythm_app.specs.declared.request.Talk.{Talk}
 use Rattle.rhythm_app.specs.declared.stop.Kind.{Kind}
 use Rattle.rhythm_app.specs.declared.stop.Kind.TheVariants as kind
 use Rattle.rhythm_app.specs.declared.stop.Stop.{Stop}
@@ -41,6 +57,12 @@ IsOfContent Write = ⊥
 IsOfContent Usage = ⊥
 IsOfContent _ = ⊤
 
+-- a stop by the size of what would be written, or by want of memory
+abbrev pub IsOfWriting : Stop → Type 0
+IsOfWriting (ScoreTooLong _) = ⊤
+IsOfWriting Memory = ⊤
+IsOfWriting _ = ⊥
+
 -- a stage that reads ends by a read or a limit only of its own kind, and by a read only where the shelf's count rose
 abbrev pub EndsBy : Kind → ℕ → ℕ → Stop → Type 0
 EndsBy kind before now (Read k) = (k ≡ kind) × Rose before now
@@ -73,3 +95,67 @@ EndsReading before now (Read _) = Rose before now
 EndsReading before now Write = ⊥
 EndsReading before now Usage = ⊥
 EndsReading before now _ = ⊤
+
+-- ---- stages of a command
+
+-- the counters alone were raised
+abbrev pub CountsAlone : {S O E : Type 0} → Lent S O E → Lent S O E → Type 0
+CountsAlone old new = new ≡ record old { built = new.built; multiplied = new.multiplied }
+
+-- nothing but the shelf was read, and the counters were raised
+abbrev pub ReadsAlone : {S O E : Type 0} → Lent S O E → Lent S O E → Type 0
+ReadsAlone old new = new ≡ record old { strays = new.strays; shelf_faults = new.shelf_faults; built = new.built; multiplied = new.multiplied }
+
+-- before anything is written: where no text and no session is had the run stops
+pub record IsBefore {S O E : Type 0} (asked : Option Asked) (old new : Lent S O E) {T : Type 0} (result : Result T Stop) : Type 0 where
+  pub cause : IfErr result (λ stop. ForSome old.files (λ files. IsCauseOf asked files stop))
+  pub end : IfErr result (EndsReading old.shelf_faults new.shelf_faults)
+  pub built : IfErr result (HasBuilt (cells_of_asked asked) old.files old.built new.built)
+  pub strays : ForSome old.files (λ files. HasNames files asked → new.strays ≡ old.strays)
+  pub rises : (old.built ≤ new.built) × (old.multiplied ≤ new.multiplied)
+  pub no_cells : cells_of_asked asked ≡ no_cells → new.built ≡ old.built
+  pub alone : ReadsAlone old new
+
+-- the shelf alone was read
+abbrev pub ReadsShelf : {S O E : Type 0} → Lent S O E → Lent S O E → Type 0
+ReadsShelf old new = new ≡ record old { strays = new.strays; shelf_faults = new.shelf_faults }
+
+-- what the files of these names say is had: a grammar and a performance
+pub record HasInputs {S O E : Type 0} (midi grammar : List ℕ) (old new : Lent S O E) (result : Result (Grammar × Performance) Stop) : Type 0 where
+  pub tests : ForSome old.files (λ files. Follows (AreInputs (file_content files midi) (file_content files grammar)) result)
+  pub cause : IfErr result (λ stop. ForSome old.files (λ files.
+      AreInputs (file_content files midi) (file_content files grammar) (Err stop) ⊎ IsReadFailure (file_content files midi) stop))
+  pub readable : IfOk result (λ inputs. IsReadable inputs.0)
+  pub few_notes : IfOk result (λ inputs. length inputs.1.notes ≤ MOST_NOTES)
+  pub loaded : IfOk result (λ inputs. ForSome old.files (λ files. IsPerformanceIn (file_content files midi) inputs.1))
+  pub end : IfErr result (EndsReading old.shelf_faults new.shelf_faults)
+  pub early : IfErr result IsEarly
+  pub strays : ForSome old.files (λ files. file_of files midi ≢ None → file_of files grammar ≢ None → new.strays ≡ old.strays)
+  pub reads : ReadsShelf old new
+
+-- what the grammar file of this name says is had
+pub record HasRules {S O E : Type 0} (grammar : List ℕ) (old new : Lent S O E) (result : Result Grammar Stop) : Type 0 where
+  pub tests : ForSome old.files (λ files. Follows (IsUnderstood (file_content files grammar)) result)
+  pub readable : IfOk result IsReadable
+  pub end : IfErr result (EndsBy kind.Grammar old.shelf_faults new.shelf_faults)
+  pub strays : ForSome old.files (λ files. file_of files grammar ≢ None → new.strays ≡ old.strays)
+  pub reads : ReadsShelf old new
+
+-- the text that is the outcome is had, and all cells are built
+pub record HasText {S O E A : Type 0} (asked : Option Asked) (old new : Lent S O E) (result : Result (Vec ℕ A) Stop) : Type 0 where
+  pub text : IfOk result (λ v. ForSome old.files (λ files. HasOutcomeOf asked files (Ok (say v.items))))
+  pub all : IfOk result (λ _. ForSome old.files (λ files. HasBuiltAll (cells_of_asked asked) files old.built new.built))
+  pub before : IsBefore asked old new result
+
+-- the session that answers a script is had, and all its cells are built
+pub record HasSession {S O E : Type 0} (asked : Option Asked) (talk : Talk) (old new : Lent S O E) (result : Result Session Stop) : Type 0 where
+  pub ready : IfOk result (λ s. ForSome old.files (λ files. HasOutcomeOf asked files (Ok (serve talk s.grammar s.performance))))
+  pub cells : IfOk result (λ s. new.built ≡ risen old.built (cells_of s.performance))
+  pub all : IfOk result (λ _. ForSome old.files (λ files. HasBuiltAll (cells_of_asked asked) files old.built new.built))
+  pub before : IsBefore asked old new result
+
+-- a text was written, or a first part of it where a call failed; nothing but out was touched
+pub record IsWritten {S O E T : Type 0} (text : List ℕ) (old new : Lent S O E) (result : Result T Stop) : Type 0 where
+  pub all : IfOk result (λ _. Appends old.taken new.taken text)
+  pub part : IfErr result (λ stop. (stop ≡ Write) × Rose old.out_faults new.out_faults × AppendsPart old.taken new.taken text)
+  pub rest : new ≡ record old { out = new.out; taken = new.taken; out_faults = new.out_faults }

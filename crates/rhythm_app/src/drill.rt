@@ -1,26 +1,24 @@
-ghost use Rattle.drill_run.specs.Ends.{HasDrilled};
+ghost use Rattle.drill_run.specs.Ends.{HasDrilled, IsBrokenOff};
 ghost use Rattle.edit_session.specs.Opening.{cells_of};
-ghost use Rattle.rhythm_app.specs.Asked.{drill};
-ghost use Rattle.rhythm_app.specs.Builds.{AreSomeDrilled, HasBuilt, HasBuiltAll, MatchDrilled};
-ghost use Rattle.rhythm_app.specs.Ends.{AppendsPart, HasNames, HasRisen, IsCauseOf, IsSaid};
-ghost use Rattle.rhythm_app.specs.Outcome.{HasOutcomeOf, IsDrilling, IsPieceOf, say};
-ghost use Rattle.rhythm_app.specs.Stages.{EndsReading, Follows, IsOfContent, said_of};
+ghost use Rattle.drill_run.specs.declared.drill_stop.DrillStop.TheVariants as drill;
+ghost use Rattle.rhythm_app.specs.Asked as asked;
+ghost use Rattle.rhythm_app.specs.Builds.{AreSomeDrilled, MatchDrilled};
+ghost use Rattle.rhythm_app.specs.Outcome.{IsDrilling, IsPieceOf};
+ghost use Rattle.rhythm_app.specs.Stages.{CountsAlone, Follows, HasText, IsOfContent, said_of};
 ghost use Rattle.rhythm_app.specs.declared.stop.Stop.TheVariants as stop;
 ghost use Rattle.rhythm_base.specs.Counter.{risen};
 ghost use Rattle.rhythm_base.specs.Readable.{IsReadable};
 ghost use Rattle.rhythm_base.specs.declared.limits.TheConstants.{MOST_NOTES};
-ghost use Rattle.rhythm_ports.specs.Causes.{Rose};
-ghost use Rattle.std.specs.Io.KnownBytes.{Appends};
-ghost use Rattle.std.specs.Option.{ForSome};
-ghost use Rattle.std.specs.Prelude.{◌≡◌, ◌≢◌, ◌≤◌, Err, IfErr, IfOk, Ok, OnOk, Some, length, ⊤};
+ghost use Rattle.std.specs.Prelude.{◌≡◌, ◌≤◌, ℕ, Err, IfErr, IfOk, Ok, Some, length};
 
-use crate::files::grammar_of;
+use crate::inputs::read_rules;
+use crate::lent::Lent;
 use crate::session::open_session;
 use crate::stop::Stop;
 use drill_run::{DrillStop, made_performance, run_drill};
-use least_cost::Steps as Builds;
+use edit_session::Session;
 use rhythm_base::{Grammar, Performance, Tag};
-use rhythm_ports::{Gate, Shelf, Sink, write_all};
+use rhythm_ports::{Gate, Shelf, Sink, Source};
 use std::alloc::Global;
 use std::thread::Threads;
 
@@ -40,17 +38,42 @@ fn piece_of(alloc: Global, number: u32) -> Result<Performance, Stop>
     }
 }
 
+/// The summary of the drill of a number over a session.
+fn drill_over<R: Threads + Sync, F: Shelf, S: Source, O: Sink, E: Sink, G: Gate + Sync, B: Tag>(
+    lent: &mut Lent<R, F, S, O, E, G, B>,
+    session: Session,
+    number: u32,
+) -> Result<Vec<u8>, DrillStop>
+    requires number { number ≤ 65534 }
+    requires some_notes { 11 ≤ length session.performance.notes }
+    requires two_bars { 2 ≤ length session.performance.bars }
+    requires last { session.performance.last ≤ 1999999000 }
+    ensures summary { IfOk result (λ text. HasDrilled session.grammar number session.performance (Ok text.items) lent.old.built lent.new.built) }
+    ensures too_long { (line : ℕ) → result ≡ Err (drill.ScoreTooLong line) → HasDrilled session.grammar number session.performance (Err line) lent.old.built lent.new.built }
+    ensures memory { result ≡ Err drill.Memory → IsBrokenOff session.grammar number session.performance lent.old.built lent.new.built }
+    ensures rises { lent.old.built ≤ lent.new.built }
+    ensures multiplies { lent.old.multiplied ≤ lent.new.multiplied }
+    ensures counts { CountsAlone lent.old lent.new }
+{
+    run_drill(
+        lent.rt,
+        lent.alloc,
+        session,
+        number,
+        lent.gate,
+        &mut lent.builds,
+        &mut lent.products,
+    )
+}
+
 /// The summary of the drill of a number on a performance. Each of its cells is built once, by one of the workers, and then those for
 /// the edits.
-fn drilled<R: Threads + Sync, G: Gate + Sync, B: Tag>(
-    rt: &R,
-    alloc: Global,
+fn drilled<R: Threads + Sync, F: Shelf, S: Source, O: Sink, E: Sink, G: Gate + Sync, B: Tag>(
+    lent: &mut Lent<R, F, S, O, E, G, B>,
     workers: u32,
     number: u32,
     grammar: Grammar,
     performance: Performance,
-    gate: &G,
-    builds: &mut Builds<B>,
 ) -> Result<Vec<u8>, Stop>
     requires some_worker { 1 ≤ workers }
     requires few_workers { workers ≤ 16 }
@@ -62,14 +85,16 @@ fn drilled<R: Threads + Sync, G: Gate + Sync, B: Tag>(
     requires last { performance.last ≤ 1999999000 }
     ensures tests { Follows (IsDrilling grammar number performance) (said_of result) }
     ensures content { IfErr result IsOfContent }
-    ensures all { IfOk result (λ text. HasDrilled grammar number performance (Ok text.items) (risen builds.old (cells_of performance)) builds.new) }
-    ensures built { IfErr result (MatchDrilled (builds.new ≡ risen builds.old (cells_of performance))
-        (λ line. HasDrilled grammar number performance (Err line) (risen builds.old (cells_of performance)) builds.new)
-        (AreSomeDrilled grammar number performance builds.old builds.new) (builds.new ≡ builds.old)) }
-    ensures rises { builds.old ≤ builds.new }
+    ensures all { IfOk result (λ text. HasDrilled grammar number performance (Ok text.items) (risen lent.old.built (cells_of performance)) lent.new.built) }
+    ensures built { IfErr result (MatchDrilled (lent.new.built ≡ risen lent.old.built (cells_of performance))
+        (λ line. HasDrilled grammar number performance (Err line) (risen lent.old.built (cells_of performance)) lent.new.built)
+        (AreSomeDrilled grammar number performance lent.old.built lent.new.built) (lent.new.built ≡ lent.old.built)) }
+    ensures rises { lent.old.built ≤ lent.new.built }
+    ensures multiplies { lent.old.multiplied ≤ lent.new.multiplied }
+    ensures counts { CountsAlone lent.old lent.new }
 {
-    match open_session(rt, alloc, workers, grammar, performance, gate, builds) {
-        Ok(session) => match run_drill(rt, alloc, session, number, gate, builds) {
+    match open_session(lent, workers, grammar, performance) {
+        Ok(session) => match drill_over(lent, session, number) {
             Ok(text) => Ok(text),
             Err(DrillStop::ScoreTooLong { line }) => Err(Stop::ScoreTooLong { line }),
             Err(DrillStop::Memory) => Err(Stop::Memory),
@@ -78,70 +103,22 @@ fn drilled<R: Threads + Sync, G: Gate + Sync, B: Tag>(
     }
 }
 
-/// The summary of `drill`.
-fn summary_text<R: Threads + Sync, F: Shelf, G: Gate + Sync, B: Tag>(
-    rt: &R,
-    alloc: Global,
+/// The summary of the drill of a number by a grammar file.
+pub fn drill_text<R: Threads + Sync, F: Shelf, S: Source, O: Sink, E: Sink, G: Gate + Sync, B: Tag>(
+    lent: &mut Lent<R, F, S, O, E, G, B>,
     workers: u32,
     number: u32,
     grammar: &str,
-    shelf: &mut F,
-    gate: &G,
-    builds: &mut Builds<B>,
 ) -> Result<Vec<u8>, Stop>
     requires some_worker { 1 ≤ workers }
     requires few_workers { workers ≤ 16 }
     requires number { number ≤ 65534 }
-    ensures text { IfOk result (λ text. ForSome (F.files shelf.old) (λ files. HasOutcomeOf (Some (drill number grammar.now)) files (Ok (say text.items)))) }
-    ensures cause { IfErr result (λ end. ForSome (F.files shelf.old) (λ files. IsCauseOf (Some (drill number grammar.now)) files end)) }
-    ensures end { IfErr result (EndsReading (F.faults shelf.old) (F.faults shelf.new)) }
-    ensures files { F.files shelf.new ≡ F.files shelf.old }
-    ensures strays { ForSome (F.files shelf.old) (λ files. HasNames files (Some (drill number grammar.now)) → F.strays shelf.new ≡ F.strays shelf.old) }
-    ensures all { OnOk result (ForSome (F.files shelf.old) (HasBuiltAll (Some (drill number grammar.now)) builds.old builds.new)) }
-    ensures built { IfErr result (HasBuilt (F.files shelf.old) (Some (drill number grammar.now)) builds.old builds.new) }
-    ensures rises { builds.old ≤ builds.new }
+    ensures { HasText (Some (asked.drill number grammar.now)) lent.old lent.new result }
 {
-    match grammar_of(alloc, shelf, grammar) {
-        Ok(rules) => match piece_of(alloc, number) {
-            Ok(piece) => drilled(rt, alloc, workers, number, rules, piece, gate, builds),
+    match read_rules(lent, grammar) {
+        Ok(rules) => match piece_of(lent.alloc, number) {
+            Ok(piece) => drilled(lent, workers, number, rules, piece),
             Err(stop) => Err(stop),
-        },
-        Err(stop) => Err(stop),
-    }
-}
-
-/// Writes the summary of the drill of a number by a grammar file: nothing before it is whole.
-pub fn drill<R: Threads + Sync, F: Shelf, O: Sink, G: Gate + Sync, B: Tag>(
-    rt: &R,
-    alloc: Global,
-    workers: u32,
-    number: u32,
-    grammar: &str,
-    shelf: &mut F,
-    out: &mut O,
-    gate: &G,
-    builds: &mut Builds<B>,
-) -> Result<(), Stop>
-    requires some_worker { 1 ≤ workers }
-    requires few_workers { workers ≤ 16 }
-    requires number { number ≤ 65534 }
-    ensures done { OnOk result (ForSome (F.files shelf.old) (λ files.
-        IsSaid (Some (drill number grammar.now)) files (Appends (O.taken out.old) (O.taken out.new)) builds.old builds.new)) }
-    ensures cause { IfErr result (λ end. ForSome (F.files shelf.old) (λ files. IsCauseOf (Some (drill number grammar.now)) files end)) }
-    ensures risen { IfErr result (HasRisen (Rose (F.faults shelf.old) (F.faults shelf.new)) ⊤ (Rose (O.faults out.old) (O.faults out.new))) }
-    ensures part { result ≡ Err stop.Write → ForSome (F.files shelf.old) (λ files.
-        IsSaid (Some (drill number grammar.now)) files (AppendsPart (O.taken out.old) (O.taken out.new)) builds.old builds.new) }
-    ensures nothing { IfErr result (λ end. end ≢ stop.Write → (out.new ≡ out.old) × EndsReading (F.faults shelf.old) (F.faults shelf.new) end) }
-    ensures files { F.files shelf.new ≡ F.files shelf.old }
-    ensures strays { ForSome (F.files shelf.old) (λ files. HasNames files (Some (drill number grammar.now)) → F.strays shelf.new ≡ F.strays shelf.old) }
-    ensures built { IfErr result (HasBuilt (F.files shelf.old) (Some (drill number grammar.now)) builds.old builds.new) }
-    ensures known { IfErr result (λ end. end ≢ stop.Usage) }
-    ensures rises { builds.old ≤ builds.new }
-{
-    match summary_text(rt, alloc, workers, number, grammar, shelf, gate, builds) {
-        Ok(text) => match write_all(out, text.as_slice()) {
-            Ok(()) => Ok(()),
-            Err(_partial) => Err(Stop::Write),
         },
         Err(stop) => Err(stop),
     }

@@ -1,4 +1,4 @@
-ghost use Rattle.rhythm_app.specs.Asked.{file_content};
+ghost use Rattle.rhythm_app.specs.Commands.{file_content};
 ghost use Rattle.rhythm_app.specs.Outcome.{IsRead, IsScoreRead, IsUnderstood, limit_of, sized, stopped};
 ghost use Rattle.rhythm_app.specs.Stages.{EndsBy, Follows, IsEarly, IsOfContent, items_of};
 ghost use Rattle.rhythm_app.specs.declared.stop.Kind.TheVariants as kind;
@@ -30,7 +30,7 @@ fn limit(kind: Kind) -> u64
     }
 }
 
-/// The bytes of a file, within the limit of its kind.
+/// The bytes of a file, within the limit of its kind. It is closed when it is read.
 fn read_file<F: Shelf>(
     alloc: Global,
     shelf: &mut F,
@@ -47,7 +47,9 @@ fn read_file<F: Shelf>(
     if shelf.open(name).is_err() {
         return Err(Stop::Read(kind));
     }
-    match read_shelf(alloc, shelf, limit(kind)) {
+    let read = read_shelf(alloc, shelf, limit(kind));
+    shelf.close();
+    match read {
         Ok(bytes) => Ok(bytes),
         Err(ReadEnd::Fault) => Err(Stop::Read(kind)),
         Err(ReadEnd::TooLong { read }) => Err(Stop::FileTooLong { kind, read }),

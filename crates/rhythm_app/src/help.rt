@@ -1,41 +1,42 @@
 ghost use Rattle.rhythm_app.specs.Asked.{help, version};
-ghost use Rattle.rhythm_app.specs.Ends.{AppendsPart, IsCauseOf, IsSaid};
-ghost use Rattle.rhythm_app.specs.declared.stop.Stop.TheVariants as stop;
-ghost use Rattle.rhythm_ports.specs.Causes.{Rose};
-ghost use Rattle.rhythm_ports.specs.Files.{File};
-ghost use Rattle.std.specs.Io.KnownBytes.{Appends};
-ghost use Rattle.std.specs.Prelude.{◌≡◌, ◌≢◌, ◌⊎◌, ℕ, Err, IfErr, List, OnOk, Some};
+ghost use Rattle.rhythm_app.specs.Stages.{HasText};
+ghost use Rattle.std.specs.Prelude.{◌≡◌, IfOk, Some};
 
+use crate::lent::Lent;
 use crate::stop::Stop;
 use command_line::{help_text, version_text};
-use rhythm_ports::{Sink, write_all};
+use rhythm_base::Tag;
+use rhythm_ports::{Gate, Shelf, Sink, Source};
+use std::alloc::{AllocError, Global};
+use std::thread::Threads;
 
-/// Writes how the program is called. It builds nothing, so what is said of the counter holds of any that stays as it is.
-pub fn write_help<O: Sink>(out: &mut O) -> Result<(), Stop>
-    ensures done { (files : List File) (built : ℕ) → OnOk result (IsSaid (Some help) files (Appends (O.taken out.old) (O.taken out.new)) built built) }
-    ensures cause { (files : List File) → IfErr result (λ end. IsCauseOf (Some help) files end) }
-    ensures ends { IfErr result (λ end. (end ≡ stop.Memory) ⊎ ((end ≡ stop.Write) × Rose (O.faults out.old) (O.faults out.new))) }
-    ensures part { (files : List File) (built : ℕ) → result ≡ Err stop.Write → IsSaid (Some help) files (AppendsPart (O.taken out.old) (O.taken out.new)) built built }
-    ensures nothing { IfErr result (λ end. end ≢ stop.Write → out.new ≡ out.old) }
-    ensures known { IfErr result (λ end. end ≢ stop.Usage) }
+/// The bytes of a text.
+fn bytes_of(alloc: Global, text: &str) -> Result<Vec<u8>, AllocError>
+    ensures { IfOk result (λ v. v.items ≡ text.now) }
 {
-    match write_all(out, help_text().as_bytes()) {
-        Ok(()) => Ok(()),
-        Err(_partial) => Err(Stop::Write),
+    Vec::from_slice(alloc, text.as_bytes())
+}
+
+/// How the program is called.
+pub fn help<R: Threads + Sync, F: Shelf, S: Source, O: Sink, E: Sink, G: Gate + Sync, B: Tag>(
+    lent: &mut Lent<R, F, S, O, E, G, B>,
+) -> Result<Vec<u8>, Stop>
+    ensures { HasText (Some help) lent.old lent.new result }
+{
+    match bytes_of(lent.alloc, help_text()) {
+        Ok(text) => Ok(text),
+        Err(_error) => Err(Stop::Memory),
     }
 }
 
-/// Writes the name of the program and its version. It builds nothing.
-pub fn write_version<O: Sink>(out: &mut O) -> Result<(), Stop>
-    ensures done { (files : List File) (built : ℕ) → OnOk result (IsSaid (Some version) files (Appends (O.taken out.old) (O.taken out.new)) built built) }
-    ensures cause { (files : List File) → IfErr result (λ end. IsCauseOf (Some version) files end) }
-    ensures ends { IfErr result (λ end. (end ≡ stop.Memory) ⊎ ((end ≡ stop.Write) × Rose (O.faults out.old) (O.faults out.new))) }
-    ensures part { (files : List File) (built : ℕ) → result ≡ Err stop.Write → IsSaid (Some version) files (AppendsPart (O.taken out.old) (O.taken out.new)) built built }
-    ensures nothing { IfErr result (λ end. end ≢ stop.Write → out.new ≡ out.old) }
-    ensures known { IfErr result (λ end. end ≢ stop.Usage) }
+/// The name of the program and its version.
+pub fn version<R: Threads + Sync, F: Shelf, S: Source, O: Sink, E: Sink, G: Gate + Sync, B: Tag>(
+    lent: &mut Lent<R, F, S, O, E, G, B>,
+) -> Result<Vec<u8>, Stop>
+    ensures { HasText (Some version) lent.old lent.new result }
 {
-    match write_all(out, version_text().as_bytes()) {
-        Ok(()) => Ok(()),
-        Err(_partial) => Err(Stop::Write),
+    match bytes_of(lent.alloc, version_text()) {
+        Ok(text) => Ok(text),
+        Err(_error) => Err(Stop::Memory),
     }
 }

@@ -1,7 +1,7 @@
-ghost use Rattle.rhythm_app.specs.Asked.{file_content};
+ghost use Rattle.rhythm_app.specs.Commands.{file_content};
 ghost use Rattle.rhythm_app.specs.Builds.{IsPerformanceIn};
 ghost use Rattle.rhythm_app.specs.Outcome.{AreInputs};
-ghost use Rattle.rhythm_app.specs.Stages.{EndsReading, Follows, IsEarly, IsReadFailure};
+ghost use Rattle.rhythm_app.specs.Stages.{EndsReading, Follows, HasInputs, HasRules, IsEarly, IsReadFailure};
 ghost use Rattle.rhythm_base.specs.Readable.{IsReadable};
 ghost use Rattle.rhythm_base.specs.declared.limits.TheConstants.{MOST_NOTES};
 ghost use Rattle.rhythm_ports.specs.Files.{file_of};
@@ -9,17 +9,19 @@ ghost use Rattle.std.specs.Option.{ForSome};
 ghost use Rattle.std.specs.Prelude.{◌≡◌, ◌≢◌, ◌≤◌, ◌⊎◌, Err, IfErr, IfOk, None, length};
 
 use crate::files::{grammar_of, midi_of};
+use crate::lent::Lent;
 use crate::performance::performance_of;
 use crate::request::FileNames;
 use crate::stop::Stop;
-use rhythm_base::{Grammar, Performance};
-use rhythm_ports::Shelf;
+use rhythm_base::{Grammar, Performance, Tag};
+use rhythm_ports::{Gate, Shelf, Sink, Source};
 use std::alloc::Global;
+use std::thread::Threads;
 
 /// The grammar and the performance that a command's files say. The grammar file is opened only where the MIDI file passed its
 /// tests.
 #[tactic(auto, using(crate::proofs::Reading::ends_early))]
-pub fn inputs_of<F: Shelf>(
+fn inputs_of<F: Shelf>(
     alloc: Global,
     names: FileNames,
     shelf: &mut F,
@@ -43,4 +45,29 @@ pub fn inputs_of<F: Shelf>(
         Ok(performance) => Ok((grammar, performance)),
         Err(stop) => Err(stop),
     }
+}
+
+/// The grammar and the performance that the files of these names say.
+pub fn read_inputs<
+    R: Threads + Sync,
+    F: Shelf,
+    S: Source,
+    O: Sink,
+    E: Sink,
+    G: Gate + Sync,
+    B: Tag,
+>(lent: &mut Lent<R, F, S, O, E, G, B>, names: FileNames) -> Result<(Grammar, Performance), Stop>
+    ensures { HasInputs names.entry.midi.now names.entry.grammar.now lent.old lent.new result }
+{
+    inputs_of(lent.alloc, names, &mut lent.shelf)
+}
+
+/// The grammar that the file of this name says.
+pub fn read_rules<R: Threads + Sync, F: Shelf, S: Source, O: Sink, E: Sink, G: Gate + Sync, B: Tag>(
+    lent: &mut Lent<R, F, S, O, E, G, B>,
+    name: &str,
+) -> Result<Grammar, Stop>
+    ensures { HasRules name.now lent.old lent.new result }
+{
+    grammar_of(lent.alloc, &mut lent.shelf, name)
 }

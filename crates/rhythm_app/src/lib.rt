@@ -3,14 +3,15 @@
 //! is a function whose contract says what its tests come to, and `run` puts them together.
 #![tactic(auto)]
 
+mod answering;
 mod drill;
-mod edit;
 mod events;
 mod files;
 mod generate;
 mod help;
 mod inputs;
 mod laws;
+mod lent;
 mod line;
 mod names;
 mod performance;
@@ -18,9 +19,11 @@ mod request;
 mod session;
 mod stop;
 mod top;
-mod transcribe;
+mod usage;
+mod writing;
 
 pub use laws::outcomes_are_one;
+pub use lent::Lent;
 pub use line::write_line;
 pub use performance_load::{LoadFault, load};
 pub use stop::{Kind, Stop};

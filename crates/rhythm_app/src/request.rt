@@ -12,6 +12,20 @@ pub struct FileNames<'a> {
     pub grammar: &'a str,
 }
 
+/// What is written of a session on a performance.
+#[derive(Clone, Copy, Debug, PartialEq, Eq)]
+pub enum Form {
+    /// The **kern text of its score.
+    Score,
+}
+
+/// What answers a script over a session.
+#[derive(Clone, Copy, Debug, PartialEq, Eq)]
+pub enum Talk {
+    /// An editor.
+    Editing,
+}
+
 /// What the words ask for.
 #[derive(Clone, Copy)]
 pub enum Request<'a> {
@@ -19,16 +33,30 @@ pub enum Request<'a> {
     Help,
     /// The name of the program and its version.
     Version,
-    /// The score of a MIDI file.
-    Transcribe(FileNames<'a>),
-    /// The replies to an edit script on the performance of a MIDI file.
-    Edit(FileNames<'a>),
+    /// A text of the session on a MIDI file and a grammar.
+    Write(Form, FileNames<'a>),
+    /// The replies to a script over the session on a MIDI file and a grammar.
+    Answer(Talk, FileNames<'a>),
     /// The events of a **kern file.
     Events(&'a str),
     /// The MIDI file of the piece of a number.
     Generate { number: u32, bars: u32 },
     /// The summary of the drill of a number by a grammar.
     Drill { number: u32, grammar: &'a str },
+}
+
+/// How the command of this word is called, where it is one.
+pub fn called_as(word: &str) -> Option<&'static str> {
+    match word {
+        "transcribe" => Some("transcribe MIDI GRAMMAR"),
+        "edit" => Some("edit MIDI GRAMMAR"),
+        "events" => Some("events KERN"),
+        "generate" => Some(
+            "generate NUMBER BARS, with NUMBER from 0 to 65534 and BARS from 1 to 2000",
+        ),
+        "drill" => Some("drill NUMBER GRAMMAR, with NUMBER from 0 to 65534"),
+        _ => None,
+    }
 }
 
 /// The command of a word and the name of one file.
@@ -72,9 +100,9 @@ fn request_of_two<'a>(word: &'a str, first: &'a str, second: &'a str) -> Option<
         grammar: second,
     };
     if word == "transcribe" {
-        Some(Request::Transcribe(files))
+        Some(Request::Write(Form::Score, files))
     } else if word == "edit" {
-        Some(Request::Edit(files))
+        Some(Request::Answer(Talk::Editing, files))
     } else if word == "generate" {
         generate_request(first, second)
     } else if word == "drill" {

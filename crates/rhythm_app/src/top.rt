@@ -1,144 +1,131 @@
 ghost use Rattle.command_line.specs.CommandLines.{HasWorkers};
-ghost use Rattle.rhythm_app.specs.Asked.{ReadsNoScript, asked_by, asked_of};
-ghost use Rattle.rhythm_app.specs.Builds.{HasBuilt};
-ghost use Rattle.rhythm_app.specs.Ends.{
-  HasNames,
-  HasRisen,
-  HasStatus,
-  HasStopped,
-  IsAnswered,
-  IsCause,
-  IsCauseOf,
-  IsComplete,
-  IsCutShort,
-  MatchStop,
-  Reports,
-  Stood,
-};
-ghost use Rattle.rhythm_app.specs.Stops.{stop_line, status_of};
+ghost use Rattle.rhythm_app.specs.Asked.{asked_by, asked_of};
+ghost use Rattle.rhythm_app.specs.Ends.{AppendsPart, HasStatus, IsAnswered, IsComplete, IsPerformed, IsSilent, IsStopped, IsTold, KeepsRest};
+ghost use Rattle.rhythm_app.specs.Lent.{Lent as Stood};
+ghost use Rattle.rhythm_app.specs.Stages.{HasText, IsWritten};
+ghost use Rattle.rhythm_app.specs.Asked.{Asked};
+ghost use Rattle.rhythm_app.specs.Stops.{status_of};
 ghost use Rattle.rhythm_app.specs.declared.stop.Stop.TheVariants as stop;
 ghost use Rattle.rhythm_app.specs.declared.stop.Stop.{Stop};
 ghost use Rattle.rhythm_ports.specs.Causes.{Rose};
+ghost use Rattle.std.specs.Io.KnownBytes.{Appends};
 ghost use Rattle.std.specs.Option.{ForSome};
-ghost use Rattle.std.specs.Prelude.{◌≡◌, ◌≢◌, ◌≤◌, ◌↔◌, ◌⊎◌, Err, IfErr, None, OnOk};
+ghost use Rattle.std.specs.Prelude.{◌≡◌, ◌≢◌, ◌≤◌, ◌↔◌, ◌⊎◌, Err, IfErr, None, OnOk, Option};
 
-use crate::drill::drill;
-use crate::edit::edit;
-use crate::events::events;
-use crate::generate::write_piece;
-use crate::help::{write_help, write_version};
-use crate::line::write_line;
+use crate::answering::answer;
+use crate::drill::drill_text;
+use crate::events::events_text;
+use crate::generate::piece_bytes;
+use crate::help::{help, version};
+use crate::lent::Lent;
 use crate::request::{Request, request_of, workers_of};
 use crate::stop::Stop;
-use crate::transcribe::transcribe;
+use crate::usage::tell;
+use crate::writing::session_text;
 use command_line::{Invocation, WordsFault, read_words};
-use least_cost::Steps;
 use rhythm_base::{Tag, Words};
-use rhythm_ports::{Gate, Shelf, Sink, Source};
-use std::alloc::Global;
+use rhythm_ports::{Gate, Shelf, Sink, Source, write_all};
 use std::thread::Threads;
 
+/// Writes a text by one `write_all`.
+fn put<K: Sink>(sink: &mut K, text: &[u8]) -> Result<(), Stop>
+    ensures all { OnOk result (Appends (K.taken sink.old) (K.taken sink.new) text.now) }
+    ensures part { IfErr result (λ end. (end ≡ stop.Write) × Rose (K.faults sink.old) (K.faults sink.new)
+        × AppendsPart (K.taken sink.old) (K.taken sink.new) text.now) }
+{
+    match write_all(sink, text) {
+        Ok(()) => Ok(()),
+        Err(_partial) => Err(Stop::Write),
+    }
+}
+
+/// Writes a text to out.
+fn write_text<R: Threads + Sync, F: Shelf, S: Source, O: Sink, E: Sink, G: Gate + Sync, B: Tag>(
+    lent: &mut Lent<R, F, S, O, E, G, B>,
+    text: &[u8],
+) -> Result<(), Stop>
+    ensures { IsWritten text.now lent.old lent.new result }
+{
+    put(&mut lent.out, text)
+}
+
+/// Writes the text of a command, where it is had: nothing before it is whole.
+fn finish<R: Threads + Sync, F: Shelf, S: Source, O: Sink, E: Sink, G: Gate + Sync, B: Tag>(
+    lent: &mut Lent<R, F, S, O, E, G, B>,
+    text: Result<Vec<u8>, Stop>,
+) -> Result<(), Stop>
+    ensures { (asked : Option Asked) (before : Stood S O E) → HasText asked before lent.old text → IsPerformed asked before lent.new result }
+{
+    match text {
+        Ok(text) => write_text(lent, text.as_slice()),
+        Err(stop) => Err(stop),
+    }
+}
+
 /// Does what is asked for, up to the first stop.
-fn perform<R: Threads + Sync, F: Shelf, S: Source, O: Sink, G: Gate + Sync, B: Tag>(
-    rt: &R,
-    alloc: Global,
+fn perform<R: Threads + Sync, F: Shelf, S: Source, O: Sink, E: Sink, G: Gate + Sync, B: Tag>(
+    lent: &mut Lent<R, F, S, O, E, G, B>,
     said: &Invocation,
-    shelf: &mut F,
-    script: &mut S,
-    out: &mut O,
-    gate: &G,
-    builds: &mut Steps<B>,
 ) -> Result<(), Stop>
     requires { HasWorkers said.now }
     ensures usage { (result ≡ Err stop.Usage) ↔ (asked_of said.now ≡ None) }
-    ensures done { OnOk result (ForSome (F.files shelf.old) (λ files.
-        IsAnswered (asked_of said.now) files (S.rest script.old) (S.rest script.new) (O.taken out.old) (O.taken out.new) builds.old builds.new)) }
-    ensures cause { IfErr result (λ end. ForSome (F.files shelf.old) (λ files. IsCauseOf (asked_of said.now) files end)) }
-    ensures risen { IfErr result (HasRisen (Rose (F.faults shelf.old) (F.faults shelf.new)) (Rose (S.faults script.old) (S.faults script.new)) (Rose (O.faults out.old) (O.faults out.new))) }
-    ensures took { IfErr result (λ end. MatchStop end
-        (ForSome (F.files shelf.old) (λ files. IsCutShort (asked_of said.now) files (S.rest script.old) (S.rest script.new) (O.taken out.old) (O.taken out.new) builds.old builds.new))
-        (ForSome (F.files shelf.old) (λ files. HasStopped (asked_of said.now) files (S.rest script.old) (S.rest script.new) (O.taken out.old) (O.taken out.new) builds.old builds.new end))
-        ((out.new ≡ out.old) × (script.new ≡ script.old))) }
-    ensures nothing { ReadsNoScript (asked_of said.now) → IfErr result (λ end. end ≢ stop.Write → out.new ≡ out.old) }
-    ensures script { ReadsNoScript (asked_of said.now) → script.new ≡ script.old }
-    ensures files { F.files shelf.new ≡ F.files shelf.old }
-    ensures strays { ForSome (F.files shelf.old) (λ files.
-        HasNames files (asked_of said.now) → F.strays shelf.new ≡ F.strays shelf.old) }
-    ensures built { IfErr result (HasBuilt (F.files shelf.old) (asked_of said.now) builds.old builds.new) }
-    ensures rises { builds.old ≤ builds.new }
+    ensures performed { IsPerformed (asked_of said.now) lent.old lent.new result }
 {
     let workers = workers_of(said);
     match request_of(said) {
         None => Err(Stop::Usage),
-        Some(Request::Help) => write_help(out),
-        Some(Request::Version) => write_version(out),
-        Some(Request::Transcribe(names)) => {
-            transcribe(rt, alloc, workers, names, shelf, out, gate, builds)
+        Some(Request::Help) => {
+            let text = help(lent);
+            finish(lent, text)
         }
-        Some(Request::Edit(names)) => {
-            edit(rt, alloc, workers, names, shelf, script, out, gate, builds)
+        Some(Request::Version) => {
+            let text = version(lent);
+            finish(lent, text)
         }
-        Some(Request::Events(kern)) => events(alloc, kern, shelf, out),
-        Some(Request::Generate { number, bars }) => write_piece(alloc, number, bars, out),
+        Some(Request::Write(form, names)) => {
+            let text = session_text(lent, workers, form, names);
+            finish(lent, text)
+        }
+        Some(Request::Answer(talk, names)) => answer(lent, workers, talk, names),
+        Some(Request::Events(kern)) => {
+            let text = events_text(lent, kern);
+            finish(lent, text)
+        }
+        Some(Request::Generate { number, bars }) => {
+            let text = piece_bytes(lent, number, bars);
+            finish(lent, text)
+        }
         Some(Request::Drill { number, grammar }) => {
-            drill(
-                rt, alloc, workers, number, grammar, shelf, out, gate, builds,
-            )
+            let text = drill_text(lent, workers, number, grammar);
+            finish(lent, text)
         }
     }
 }
 
 /// Does what the words ask for, up to the first stop.
-fn perform_words<R: Threads + Sync, F: Shelf, S: Source, O: Sink, G: Gate + Sync, B: Tag>(
-    rt: &R,
-    alloc: Global,
+fn perform_words<R: Threads + Sync, F: Shelf, S: Source, O: Sink, E: Sink, G: Gate + Sync, B: Tag>(
+    lent: &mut Lent<R, F, S, O, E, G, B>,
     words: &Words,
-    shelf: &mut F,
-    script: &mut S,
-    out: &mut O,
-    gate: &G,
-    builds: &mut Steps<B>,
 ) -> Result<(), Stop>
     ensures usage { result ≡ Err stop.Usage → asked_by words.now ≡ None }
     ensures unusable { asked_by words.now ≡ None → (result ≡ Err stop.Usage) ⊎ (result ≡ Err stop.Memory) }
-    ensures done { OnOk result (ForSome (F.files shelf.old) (λ files.
-        IsAnswered (asked_by words.now) files (S.rest script.old) (S.rest script.new) (O.taken out.old) (O.taken out.new) builds.old builds.new)) }
-    ensures cause { IfErr result (λ end. ForSome (F.files shelf.old) (λ files. IsCause words.now files end)) }
-    ensures risen { IfErr result (HasRisen (Rose (F.faults shelf.old) (F.faults shelf.new)) (Rose (S.faults script.old) (S.faults script.new)) (Rose (O.faults out.old) (O.faults out.new))) }
-    ensures took { IfErr result (λ end. MatchStop end
-        (ForSome (F.files shelf.old) (λ files. IsCutShort (asked_by words.now) files (S.rest script.old) (S.rest script.new) (O.taken out.old) (O.taken out.new) builds.old builds.new))
-        (ForSome (F.files shelf.old) (λ files. HasStopped (asked_by words.now) files (S.rest script.old) (S.rest script.new) (O.taken out.old) (O.taken out.new) builds.old builds.new end))
-        ((out.new ≡ out.old) × (script.new ≡ script.old))) }
-    ensures nothing { ReadsNoScript (asked_by words.now) → IfErr result (λ end. end ≢ stop.Write → out.new ≡ out.old) }
-    ensures script { ReadsNoScript (asked_by words.now) → script.new ≡ script.old }
-    ensures files { F.files shelf.new ≡ F.files shelf.old }
-    ensures strays { ForSome (F.files shelf.old) (λ files.
-        HasNames files (asked_by words.now) → F.strays shelf.new ≡ F.strays shelf.old) }
-    ensures built { IfErr result (HasBuilt (F.files shelf.old) (asked_by words.now) builds.old builds.new) }
-    ensures rises { builds.old ≤ builds.new }
+    ensures performed { IsPerformed (asked_by words.now) lent.old lent.new result }
 {
-    match read_words(alloc, words) {
-        Ok(said) => perform(rt, alloc, &said, shelf, script, out, gate, builds),
+    match read_words(lent.alloc, words) {
+        Ok(said) => perform(lent, &said),
         Err(WordsFault::Refused) => Err(Stop::Usage),
         Err(WordsFault::Memory) => Err(Stop::Memory),
     }
 }
 
-/// Does what the words ask for, and answers how it ended.
+/// Does what the words ask for with what is lent, and answers how it ended.
 ///
 /// 0: a text is written, or the script is answered. 1: the words are no command. 2: a file is refused, or has no
 /// bars of notes that the grammar has root symbols for. 3: no derivation fits. 4: a quantity is above its limit. 5: a read failed.
 /// 6: a write failed. 7: there was not enough memory; in a script this comes only before its first line is answered.
 pub fn run<R: Threads + Sync, F: Shelf, S: Source, O: Sink, E: Sink, G: Gate + Sync, B: Tag>(
-    rt: &R,
-    alloc: Global,
+    lent: &mut Lent<R, F, S, O, E, G, B>,
     words: &Words,
-    shelf: &mut F,
-    script: &mut S,
-    out: &mut O,
-    err: &mut E,
-    gate: &G,
-    builds: &mut Steps<B>,
 ) -> u8
     // 1 comes only where nothing is asked for: `clap` refuses the words, the number of workers is none of 1 to 16, or the words without
     // the option are no command. There no other status comes but 7, where there was not enough memory to read the words. Plain words are
@@ -148,44 +135,27 @@ pub fn run<R: Threads + Sync, F: Shelf, S: Source, O: Sink, E: Sink, G: Gate + S
 
     // The status is that of the outcome of the words and the files: 0 of a text or a script, and 6 where a write fails; that of a
     // stop. A failed read and want of memory end any run, and a script ends at its limits.
-    ensures status { ForSome (F.files shelf.old) (λ files. HasStatus words.now files result) }
+    ensures status { ForSome lent.old.files (λ files. HasStatus words.now files result) }
 
-    // With 0 out took the text that is the outcome, or the replies to all lines of the script; and all cells of the performance were
-    // built once, and then those for the edits. The other commands build none.
-    ensures done { result ≡ 0 → ForSome (F.files shelf.old) (λ files.
-        IsAnswered (asked_by words.now) files (S.rest script.old) (S.rest script.new) (O.taken out.old) (O.taken out.new) builds.old builds.new) }
+    // With 0 out took the text that is the outcome, or the replies to all lines of the script; all cells of the performance were built
+    // once, and then those for the edits; and err took nothing.
+    ensures done { result ≡ 0 → ForSome lent.old.files (λ files. IsAnswered (asked_by words.now) files lent.old lent.new) }
+    ensures silent { result ≡ 0 → IsSilent lent.old lent.new }
 
-    // With 0 err took nothing. Else it took the line of the stop, or a first part of it where a call of err failed. That stop is the
-    // outcome or a failure, which is named only where it came. After a failed write out took a first part of what it takes with 0;
-    // where the script could not be read or is over a limit, the replies to the lines before; and else nothing, and no byte of
-    // the script is read. It says how many cells had been built: none by a command that has no cells, however it ends.
-    ensures silent { result ≡ 0 → err.new ≡ err.old }
-    ensures line { result ≢ 0 → (stop : Stop) × (status_of stop ≡ result)
-        × Reports (E.taken err.old) (E.taken err.new) (E.faults err.old) (E.faults err.new) (stop_line stop)
-        × ForSome (F.files shelf.old) (λ files. IsCause words.now files stop)
-        × HasRisen (Rose (F.faults shelf.old) (F.faults shelf.new)) (Rose (S.faults script.old) (S.faults script.new)) (Rose (O.faults out.old) (O.faults out.new)) stop
-        × MatchStop stop
-        (ForSome (F.files shelf.old) (λ files. IsCutShort (asked_by words.now) files (S.rest script.old) (S.rest script.new) (O.taken out.old) (O.taken out.new) builds.old builds.new))
-        (ForSome (F.files shelf.old) (λ files. HasStopped (asked_by words.now) files (S.rest script.old) (S.rest script.new) (O.taken out.old) (O.taken out.new) builds.old builds.new stop))
-        ((out.new ≡ out.old) × (script.new ≡ script.old))
-        × HasBuilt (F.files shelf.old) (asked_by words.now) builds.old builds.new stop }
-    ensures nothing { ReadsNoScript (asked_by words.now) → result ≢ 0 → result ≢ 6 → out.new ≡ out.old }
-    ensures rises { builds.old ≤ builds.new }
+    // Else err took the line of the stop, which is the outcome or a failure that came, and out what was written by then. After `usage`
+    // more lines say what is wrong with the words.
+    ensures stop { result ≢ 0 → (stop : Stop) × (status_of stop ≡ result) × IsStopped (asked_by words.now) lent.old lent.new stop × IsTold lent.old lent.new stop }
 
-    // No name is opened but the command's, and the script is read only by `edit`.
-    ensures files { F.files shelf.new ≡ F.files shelf.old }
-    ensures strays { ForSome (F.files shelf.old) (λ files.
-        HasNames files (asked_by words.now) → F.strays shelf.new ≡ F.strays shelf.old) }
-    ensures script { ReadsNoScript (asked_by words.now) → script.new ≡ script.old }
+    // Whatever the end: no name is opened but the command's, the script is read only by `edit`, and no counter falls.
+    ensures rest { KeepsRest (asked_by words.now) lent.old lent.new }
 
     // Where the tests pass and no count rose, all is written, a script is over a limit, or there was not enough memory.
-    ensures complete { ForSome (F.files shelf.old) (λ files.
-        IsComplete words.now files (Stood (F.faults shelf.old) (F.faults shelf.new)) (Stood (S.faults script.old) (S.faults script.new)) (Stood (O.faults out.old) (O.faults out.new)) result) }
+    ensures complete { ForSome lent.old.files (λ files. IsComplete words.now files lent.old lent.new result) }
 {
-    match perform_words(rt, alloc, words, shelf, script, out, gate, builds) {
+    match perform_words(lent, words) {
         Ok(()) => 0,
         Err(stop) => {
-            write_line(err, &stop);
+            tell(lent.alloc, &mut lent.err, words, &stop);
             stop.status()
         }
     }

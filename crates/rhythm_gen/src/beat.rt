@@ -45,7 +45,10 @@ pub(crate) fn push_beat(
     };
     match figure_of(beat % 4, draw) {
         Figure::Rest => Ok(()),
-        Figure::One => notes.extend_from_slice(&[note(begin, 400)]),
-        Figure::Two => notes.extend_from_slice(&[note(begin, 180), note(begin + 240, 180)]),
+        Figure::One => Ok(notes.push(note(begin, 400))?),
+        Figure::Two => {
+            notes.push(note(begin, 180))?;
+            Ok(notes.push(note(begin + 240, 180))?)
+        }
     }
 }

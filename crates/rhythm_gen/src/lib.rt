@@ -9,7 +9,7 @@ mod drill;
 mod figure;
 mod file;
 mod laws;
-mod quantity;
+mod timed_message;
 mod track;
 mod voice;
 

@@ -140,4 +140,17 @@ impl Shelf for MemShelf {
         }
         Ok(self.stock.read(buf, self.calls.most()))
     }
+
+    fn close(&mut self)
+        // As of every shelf.
+        ensures closed { IsAtEnd (Some self.new.rest) }
+        ensures files { Some self.new.files ≡ Some self.old.files }
+        ensures faults { self.new.calls.faults ≡ self.old.calls.faults }
+        ensures strays { self.new.strays ≡ self.old.strays }
+
+        // It is no call that could fail, and has no number.
+        ensures calls { self.new.calls ≡ self.old.calls }
+    {
+        self.stock.close();
+    }
 }

@@ -96,4 +96,15 @@ impl<R: Files + Drop> Shelf for RealShelf<R> {
         }
         result
     }
+
+    fn close(&mut self)
+        // As of every shelf.
+        ensures faults { self.new.faults ≡ self.old.faults }
+
+        // The system has its file back.
+        ensures chosen { self.new.is_open ≡ false }
+        ensures known { self.new.known ≡ Some [] }
+    {
+        self.chosen = None;
+    }
 }

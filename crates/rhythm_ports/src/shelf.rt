@@ -46,6 +46,13 @@ pub trait Shelf {
         ensures files { files self.new ≡ files self.old }
         ensures cause { HasCause (faults self.old) (faults self.new) result }
         ensures strays { strays self.new ≡ strays self.old };
+
+    /// Lets go of the chosen file, so that none is chosen.
+    fn close(&mut self)
+        ensures closed { IsAtEnd (rest self.new) }
+        ensures files { files self.new ≡ files self.old }
+        ensures faults { faults self.new ≡ faults self.old }
+        ensures strays { strays self.new ≡ strays self.old };
 }
 
 /// All bytes of the chosen file's rest, up to `limit` of them.

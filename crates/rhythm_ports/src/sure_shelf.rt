@@ -126,4 +126,14 @@ impl Shelf for SureShelf {
     {
         Ok(self.stock.read(buf, self.most))
     }
+
+    fn close(&mut self)
+        // As of every shelf.
+        ensures closed { IsAtEnd (Some self.new.rest) }
+        ensures files { Some self.new.files ≡ Some self.old.files }
+        ensures strays { self.new.strays ≡ self.old.strays }
+        ensures most { self.new.most ≡ self.old.most }
+    {
+        self.stock.close();
+    }
 }

@@ -7,12 +7,12 @@ use Rattle.std.proofs.lemmas.Bool.Decides.{nat_tests}
 use Rattle.std.proofs.lemmas.List.Elements.{All-append}
 use Rattle.rhythm_base.specs.Grammar.{Grammar}
 use Rattle.rhythm_base.specs.Performance.{Performance}
-use Rattle.rhythm_base.specs.Script.{Step}
 use Rattle.rhythm_base.specs.ScriptLines.{between_newlines, open_line, script_lines}
 use Rattle.rhythm_base.specs.declared.limits.TheConstants.{LONGEST_SCRIPT, LONGEST_SCRIPT_LINE}
-use Rattle.script_run.specs.Answers.{AreAnswers, IsBuiltFor, Editing, IsAnswer, IsScore, Quits, begun_on}
+use Rattle.script_run.specs.Answers.{AnswersLine, AreAnswers, Editing, IsAnswer, Quits, begun_on}
 use Rattle.script_run.specs.Bytes.{IsWithinLimits, begun_line, whole_lines}
-use Rattle.script_run.specs.Ends.{AreAnswered, IsBroken, IsCut, IsOverLimit, IsOverLine, IsOverScript, IsQuit, IsReadOut, IsStopped}
+use Rattle.script_run.specs.Ends.{IsStopped}
+use Rattle.script_run.specs.Machine.{AreAnswered, IsBroken, IsCut, IsOverLimit, IsOverLine, IsOverScript, IsQuit, IsReadOut}
 use Rattle.script_run.specs.Hearing.{Closes, Heard, Hears, HearsAll, HearsUpTo, IsCutThere, IsLineTooLongThere, IsTooLongThere, QuitsThere, Replies, StopsThere}
 use Rattle.script_run.specs.declared.script.TheConstants.{ONE_READ}
 use Rattle.script_run.specs.declared.script_stop.ScriptStop.{ScriptStop}
@@ -59,9 +59,7 @@ module _ (g : Grammar) (p : Performance) where
   answer_of : (bytes replies : List ℕ) (n : ℕ) (h : Heard) → IsAt g p bytes replies n h → (reply : List ℕ) (k : ℕ) (next : Performance) → Replies h reply k next
       → IsAnswer g (edited_to h.performance n) h.begun reply (edited_to next (n + k))
   answer_of bytes replies n h at reply k next said =
-      let P : Grammar → Type 0 = λ x. Step (IsScore x) x h.performance h.begun reply next in
-      let B : Grammar → Type 0 = λ x. IsBuiltFor x h.performance h.begun reply k in
-      (subst P at.grammar said.0, (k, subst B at.grammar said.1, refl))
+      (k, subst (λ (x : Grammar). AnswersLine x h.performance h.begun reply k next) at.grammar said, refl)
 
   all_one : (P : List ℕ → Type 0) (line : List ℕ) → P line → All P (line ∷ [])
   all_one P line h zero d l = h
@@ -140,7 +138,7 @@ module _ (g : Grammar) (p : Performance) where
       record { lines = subst (All (λ line. length line ≤ LONGEST_SCRIPT_LINE)) (sym at.split) all; script = at.few }
 
   -- the whole lines are answered
-  pub answered_at : (bytes replies : List ℕ) (n : ℕ) (h : Heard) → IsAt g p bytes replies n h → AreAnswered g p bytes replies (edited_to h.performance n)
+  pub answered_at : (bytes replies : List ℕ) (n : ℕ) (h : Heard) → IsAt g p bytes replies n h → AreAnswered (IsAnswer g) Quits (begun_on p) bytes replies (edited_to h.performance n)
   answered_at bytes replies n h at =
       let e : whole_lines bytes ≡ at.lines = whole_are bytes at.lines h.begun at.split in
       record {
@@ -160,7 +158,7 @@ module _ (g : Grammar) (p : Performance) where
   -- the script is read to its end
   pub read_out : (bytes replies : List ℕ) (n : ℕ) (h : Heard) (reply : List ℕ) (k : ℕ) (next : Performance) (rest rest' taken mid taken' : Option (List ℕ))
       → IsAt g p bytes replies n h → Closes h reply k next → Consumes rest rest' bytes → IsAtEnd rest' → Appends taken mid replies → Appends mid taken' reply
-      → IsReadOut g p rest rest' taken taken' (edited_to next (n + k))
+      → IsReadOut (IsAnswer g) Quits (begun_on p) rest rest' taken taken' (edited_to next (n + k))
   read_out bytes replies n h reply k next rest rest' taken mid taken' at closes read end before after =
       let e : script_lines bytes ≡ at.lines ++ open_line (Some h.begun) = lines_are bytes at.lines h.begun at.split in
       let told = answered_at bytes replies n h at in
@@ -198,7 +196,7 @@ module _ (g : Grammar) (p : Performance) where
   -- the reply at the end of the script is cut
   pub cut_at_end : (bytes replies : List ℕ) (n : ℕ) (h : Heard) (reply : List ℕ) (k sent : ℕ) (next : Performance) (rest rest' taken mid taken' : Option (List ℕ))
       → IsAt g p bytes replies n h → h.begun ≢ [] → Replies h reply k next → sent < length reply → Consumes rest rest' bytes → IsAtEnd rest' → Appends taken mid replies
-      → Appends mid taken' (take sent reply) → IsCut g p rest rest' taken taken' (edited_to next (n + k))
+      → Appends mid taken' (take sent reply) → IsCut (IsAnswer g) Quits (begun_on p) rest rest' taken taken' (edited_to next (n + k))
   cut_at_end bytes replies n h reply k sent next rest rest' taken mid taken' at some said part read end before after =
       record {
         bytes = bytes;
@@ -217,7 +215,7 @@ module _ (g : Grammar) (p : Performance) where
 
   -- a read fails
   pub broken_at : (bytes replies : List ℕ) (n : ℕ) (h : Heard) (rest rest' taken taken' : Option (List ℕ))
-      → IsAt g p bytes replies n h → Consumes rest rest' bytes → Appends taken taken' replies → IsBroken g p rest rest' taken taken' (edited_to h.performance n)
+      → IsAt g p bytes replies n h → Consumes rest rest' bytes → Appends taken taken' replies → IsBroken (IsAnswer g) Quits (begun_on p) rest rest' taken taken' (edited_to h.performance n)
   broken_at bytes replies n h rest rest' taken taken' at read written =
       record { bytes = bytes; read = read; replies = replies; answered = answered_at bytes replies n h at; written = written }
 
@@ -244,7 +242,7 @@ module _ (g : Grammar) (p : Performance) where
       count : (q : Performance) → edited_to q (n + up.k + up.m) ≡ edited_to q (n + m)
       count q = let sum = up.sum in ap (λ x. edited_to q x) (omega (arith, sum))
 
-    pub quit_of : (next : Performance) → HearsUpTo h piece mid_taken taken' m (QuitsThere next) → IsQuit g p a c taken taken' (edited_to next (n + m))
+    pub quit_of : (next : Performance) → HearsUpTo h piece mid_taken taken' m (QuitsThere next) → IsQuit (IsAnswer g) Quits (begun_on p) a c taken taken' (edited_to next (n + m))
     quit_of next up =
         let at = at_mid (QuitsThere next) up in
         let said = up.at in
@@ -267,16 +265,18 @@ module _ (g : Grammar) (p : Performance) where
           written = written_mid (QuitsThere next) up;
         }
 
-    cut_of : (next : Performance) → HearsUpTo h piece mid_taken taken' m (IsCutThere next) → IsCut g p a c taken taken' (edited_to next (n + m))
+    cut_of : (next : Performance) → HearsUpTo h piece mid_taken taken' m (IsCutThere next) → IsCut (IsAnswer g) Quits (begun_on p) a c taken taken' (edited_to next (n + m))
     cut_of next up =
         let at = at_mid (IsCutThere next) up in
         let said = up.at in
+        let read_before = at.read in
+        let room = said.1 in
         let cut = said.2 in
         record {
           bytes = bytes ++ up.front;
           more = up.byte ∷ up.back;
           read = read_mid (IsCutThere next) up;
-          ends = (said.0, few_after (IsCutThere next) up);
+          ends = (said.0, few_after (IsCutThere next) up, omega (arith, read_before, room));
           before = replies ++ up.before;
           state = edited_to up.mid.performance (n + up.k);
           answered = answered_at (bytes ++ up.front) (replies ++ up.before) (n + up.k) up.mid at;
@@ -290,7 +290,7 @@ module _ (g : Grammar) (p : Performance) where
 
     -- nothing comes of the byte that is one too many
     over_of : (next : Performance) (Q : Heard → ℕ → List ℕ → ℕ → Type 0) (IsOver : List ℕ → ℕ → Type 0) (up : HearsUpTo h piece mid_taken taken' m Q)
-        → up.after ≡ [] → up.m ≡ 0 → next ≡ up.mid.performance → IsOver (bytes ++ up.front) up.byte → IsOverLimit g p a c taken taken' (edited_to next (n + m)) IsOver
+        → up.after ≡ [] → up.m ≡ 0 → next ≡ up.mid.performance → IsOver (bytes ++ up.front) up.byte → IsOverLimit (IsAnswer g) Quits (begun_on p) a c taken taken' (edited_to next (n + m)) IsOver
     over_of next Q IsOver up quiet nothing stays over =
         let at = at_mid Q up in
         let sum = up.sum in
@@ -304,18 +304,18 @@ module _ (g : Grammar) (p : Performance) where
           read = read_mid Q up;
           few = few_after Q up;
           replies = replies ++ up.before;
-          answered = subst (AreAnswered g p (bytes ++ up.front) (replies ++ up.before)) state (answered_at (bytes ++ up.front) (replies ++ up.before) (n + up.k) up.mid at);
+          answered = subst (AreAnswered (IsAnswer g) Quits (begun_on p) (bytes ++ up.front) (replies ++ up.before)) state (answered_at (bytes ++ up.front) (replies ++ up.before) (n + up.k) up.mid at);
           over = over;
           written = subst (Appends taken taken') (append-nil (replies ++ up.before)) written;
         }
 
-    too_long_of : (next : Performance) → HearsUpTo h piece mid_taken taken' m (IsTooLongThere next) → IsOverLimit g p a c taken taken' (edited_to next (n + m)) IsOverScript
+    too_long_of : (next : Performance) → HearsUpTo h piece mid_taken taken' m (IsTooLongThere next) → IsOverLimit (IsAnswer g) Quits (begun_on p) a c taken taken' (edited_to next (n + m)) IsOverScript
     too_long_of next up =
         let at = at_mid (IsTooLongThere next) up in
         let said = up.at in
         over_of next (IsTooLongThere next) IsOverScript up said.1 said.2 said.3 (sym at.read ∙ said.0)
 
-    line_too_long_of : (next : Performance) → HearsUpTo h piece mid_taken taken' m (IsLineTooLongThere next) → IsOverLimit g p a c taken taken' (edited_to next (n + m)) IsOverLine
+    line_too_long_of : (next : Performance) → HearsUpTo h piece mid_taken taken' m (IsLineTooLongThere next) → IsOverLimit (IsAnswer g) Quits (begun_on p) a c taken taken' (edited_to next (n + m)) IsOverLine
     line_too_long_of next up =
         let at = at_mid (IsLineTooLongThere next) up in
         let said = up.at in

@@ -4,3 +4,6 @@ pub mod Answering
 pub mod Replies
 pub mod Hearings
 pub mod Scripts
+pub mod OneScores
+pub mod OneOutputs
+pub mod OneBeginnings

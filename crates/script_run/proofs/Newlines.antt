@@ -1,5 +1,6 @@
 -- The lines of bytes with one byte more.
-use Rattle.std.proofs.Common.{◌≡◌, ℕ, ◌-◌, ◌<◌, arith, List, [], ◌∷◌, ◌++◌, length, take, refl, ap, ◌∙◌, Bool, true, false, length-append, Some}
+use Rattle.std.proofs.Common.{◌≡◌, ℕ, ◌-◌, ◌<◌, arith, List, [], ◌∷◌, ◌++◌, length, take, refl, sym, ap, ap₂, ◌∙◌, Bool, true, false, append_assoc, append-nil, length-append, Some}
+use Rattle.std.proofs.lemmas.Bool.Decides.{nat_tests}
 use Rattle.std.specs.Prelude.{◌==◌, cond, slice_get, unwrap_or}
 use Rattle.std.specs.List.{onto_first, slice_split}
 use Rattle.std.proofs.lemmas.List.Splits.{slice_split-cons_yes, length-slice_split}
@@ -87,3 +88,53 @@ pub lines_are : (bytes : List ℕ) (lines : List (List ℕ)) (begun : List ℕ) 
 lines_are bytes lines begun e =
     ap (λ l. take (length l - 1) l ++ open_line (last_of l)) e ∙ ap (λ l. l ++ open_line (last_of (lines ++ begun ∷ []))) (take_front lines begun)
     ∙ ap (λ o. lines ++ open_line o) (last_end lines begun)
+
+-- ---- the lines of bytes with more bytes after them
+
+-- the lines before the one that was begun stay, and that one begins as it did
+pub record GoesOn (bytes : List ℕ) (lines : List (List ℕ)) (begun : List ℕ) : Type 0 where
+  pub joined : List ℕ
+  pub later : List (List ℕ)
+  pub split : between_newlines bytes ≡ lines ++ (begun ++ joined) ∷ later
+
+pub goes_on : (bytes : List ℕ) (lines : List (List ℕ)) (begun more : List ℕ) → between_newlines bytes ≡ lines ++ begun ∷ [] → GoesOn (bytes ++ more) lines begun
+goes_on bytes lines begun [] split =
+    record { joined = []; later = []; split = ap between_newlines (append-nil bytes) ∙ split ∙ ap (λ l. lines ++ l ∷ []) (sym (append-nil begun)) }
+goes_on bytes lines begun (byte ∷ more) split =
+    go (byte == 10) refl (λ after. goes_on (bytes ++ byte ∷ []) (lines ++ begun ∷ []) [] more after) (λ after. goes_on (bytes ++ byte ∷ []) lines (begun ++ byte ∷ []) more after)
+  where
+    moved : (bytes ++ byte ∷ []) ++ more ≡ bytes ++ byte ∷ more
+    moved = append_assoc bytes (byte ∷ []) more
+
+    go : (b : Bool) → (byte == 10) ≡ b
+        → (between_newlines (bytes ++ byte ∷ []) ≡ (lines ++ begun ∷ []) ++ [] ∷ [] → GoesOn ((bytes ++ byte ∷ []) ++ more) (lines ++ begun ∷ []) [])
+        → (between_newlines (bytes ++ byte ∷ []) ≡ lines ++ (begun ++ byte ∷ []) ∷ [] → GoesOn ((bytes ++ byte ∷ []) ++ more) lines (begun ++ byte ∷ []))
+        → GoesOn (bytes ++ byte ∷ more) lines begun
+    go true is ended joins =
+        let newline : byte ≡ 10 = grind (arith, nat_tests, is) in
+        let next = ended (ap (λ b. between_newlines (bytes ++ b ∷ [])) newline ∙ newline_more bytes lines begun split) in
+        record {
+          joined = [];
+          later = next.joined ∷ next.later;
+          split = ap between_newlines (sym moved) ∙ next.split ∙ append_assoc lines (begun ∷ []) (next.joined ∷ next.later)
+              ∙ ap (λ l. lines ++ l ∷ (next.joined ∷ next.later)) (sym (append-nil begun));
+        }
+    go false is ended joins =
+        let next = joins (byte_more bytes lines begun byte is split) in
+        record {
+          joined = byte ∷ next.joined;
+          later = next.later;
+          split = ap between_newlines (sym moved) ∙ next.split ∙ ap (λ l. lines ++ l ∷ next.later) (append_assoc begun (byte ∷ []) next.joined);
+        }
+
+-- whole lines, and the one that was begun
+pub lines_split : (bytes : List ℕ) → between_newlines bytes ≡ whole_lines bytes ++ begun_line bytes ∷ []
+lines_split bytes =
+    let apart = last_apart (between_newlines bytes) (some_part (λ b. b == 10) bytes) in
+    apart.2 ∙ ap₂ (λ l b. l ++ b ∷ []) (sym (whole_are bytes apart.0 apart.1 apart.2)) (sym (begun_is bytes apart.0 apart.1 apart.2))
+  where
+    last_apart : (parts : List (List ℕ)) → 0 < length parts → (front : List (List ℕ)) × (last : List ℕ) × (parts ≡ front ++ last ∷ [])
+    last_apart [] some = absurd (omega (arith, some))
+    last_apart (part ∷ []) some = ([], part, refl)
+    last_apart (part ∷ next ∷ parts) some =
+        let later = last_apart (next ∷ parts) (omega arith) in (part ∷ later.0, later.1, ap (λ l. part ∷ l) later.2)

@@ -1,13 +1,20 @@
 -- What the replies to lines say.
-use Rattle.std.proofs.Common.{◌≡◌, ◌≢◌, ℕ, arith, inl, inr, List, [], ◌∷◌, refl, subst, codes}
-use Rattle.std.specs.Prelude.{IsTrue, nat_eq}
+use Rattle.std.proofs.Common.{◌≡◌, ◌≢◌, ◌≤◌, ◌∙◌, ℕ, arith, inl, inr, List, [], ◌∷◌, get_or, length, map, refl, sym, ap, subst, codes, Result, Ok, Err, IfOk, OnErr, None}
+use Rattle.std.specs.Prelude.{IsOk, IsTrue, MatchResult, nat_eq}
 use Rattle.std.specs.List.{starts_with}
+use Rattle.edit_script.specs.ReplyText.{reply_text, shown_by}
 use Rattle.edit_script.specs.declared.reply.Refusal.TheVariants as refusals
+use Rattle.edit_script.specs.declared.reply.Reply.{Reply}
 use Rattle.edit_script.specs.declared.reply.Reply.TheVariants as replies
+use Rattle.edit_session.specs.Prepared.{RisesBy}
+use Rattle.edit_session.specs.declared.committed.Applied.{Applied}
 use Rattle.rhythm_base.proofs.CommandWords.{one_command}
+use Rattle.rhythm_base.specs.Counter.{risen}
+use Rattle.rhythm_base.specs.Edits.{cell_tests, edited, first_refusal}
 use Rattle.rhythm_base.specs.Grammar.{Grammar}
 use Rattle.rhythm_base.specs.Performance.{Performance}
-use Rattle.rhythm_base.specs.Replies.{bad_line_text, bye_text, done_text, refused_text}
+use Rattle.rhythm_base.specs.Replies.{alternatives_text, bad_line_text, bye_text, done_text, long_score_text, refused_text, score_text}
+use Rattle.rhythm_base.specs.Reached.{WouldReach}
 use Rattle.rhythm_base.specs.Script.{IsOutcome, Step, made, refused}
 use Rattle.rhythm_base.specs.ScriptLines.{Are, ArePinWords, BeginsPin, Is, SaysCommand, SaysNothing, script_words}
 use Rattle.rhythm_base.specs.declared.command.Command.{Command}
@@ -15,8 +22,37 @@ use Rattle.rhythm_base.specs.declared.command.Command.TheVariants.{Change, Score
 use Rattle.rhythm_base.specs.declared.edit.Edit.{Edit}
 use Rattle.rhythm_base.specs.declared.edit_fault.EditFault.{EditFault}
 use Rattle.rhythm_base.specs.declared.edit_fault.EditFault.TheVariants.{NoVoice, NoBar, BadSpan, NoNote, SameNote, PastEnd, BarlineOrder, NoteOutside, NotEmpty, OneBar, Limit, NoDerivation, Memory}
-use Rattle.script_run.specs.Answers.{IsBuiltFor, IsBuiltForEdit, IsScore, Quits}
+use Rattle.script_run.specs.Answers.{AnswersLine, IsBuiltFor, IsBuiltForEdit, IsScore, Quits, TakesMemory}
 use Rattle.script_run.specs.Hearing.{MayAnswer}
+
+-- ---- a refusal for want of memory is the one reply with its text
+
+differs : (a b : List ℕ) (n : ℕ) → a ≡ b → get_or a n 0 ≡ get_or b n 0
+differs a b n e = ap (λ l. get_or l n 0) e
+
+memory_fault : (fault : EditFault) → refused_text fault ≡ refused_text Memory → fault ≡ Memory
+memory_fault (NoVoice channel) e = let h : 78 ≡ 77 = differs (refused_text (NoVoice channel)) (refused_text Memory) 8 e in absurd (omega (arith, h))
+memory_fault (NoBar bar) e = let h : 78 ≡ 77 = differs (refused_text (NoBar bar)) (refused_text Memory) 8 e in absurd (omega (arith, h))
+memory_fault BadSpan e = let h : 66 ≡ 77 = differs (refused_text BadSpan) (refused_text Memory) 8 e in absurd (omega (arith, h))
+memory_fault NoNote e = let h : 78 ≡ 77 = differs (refused_text NoNote) (refused_text Memory) 8 e in absurd (omega (arith, h))
+memory_fault SameNote e = let h : 83 ≡ 77 = differs (refused_text SameNote) (refused_text Memory) 8 e in absurd (omega (arith, h))
+memory_fault (PastEnd last) e = let h : 80 ≡ 77 = differs (refused_text (PastEnd last)) (refused_text Memory) 8 e in absurd (omega (arith, h))
+memory_fault (BarlineOrder low high) e = let h : 66 ≡ 77 = differs (refused_text (BarlineOrder low high)) (refused_text Memory) 8 e in absurd (omega (arith, h))
+memory_fault (NoteOutside onset) e = let h : 78 ≡ 77 = differs (refused_text (NoteOutside onset)) (refused_text Memory) 8 e in absurd (omega (arith, h))
+memory_fault (NotEmpty onset) e = let h : 78 ≡ 77 = differs (refused_text (NotEmpty onset)) (refused_text Memory) 8 e in absurd (omega (arith, h))
+memory_fault OneBar e = let h : 79 ≡ 77 = differs (refused_text OneBar) (refused_text Memory) 8 e in absurd (omega (arith, h))
+memory_fault (Limit what count) e = let h : 76 ≡ 77 = differs (refused_text (Limit what count)) (refused_text Memory) 8 e in absurd (omega (arith, h))
+memory_fault (NoDerivation channel bar) e = let h : 78 ≡ 77 = differs (refused_text (NoDerivation channel bar)) (refused_text Memory) 8 e in absurd (omega (arith, h))
+memory_fault Memory e = refl
+
+pub memory_reply : (r : Reply) → reply_text r ≡ refused_text Memory → r ≡ replies.Refused (refusals.Edit Memory)
+memory_reply (replies.Done built cost) e = let h : 111 ≡ 114 = differs (done_text built cost) (refused_text Memory) 0 e in absurd (omega (arith, h))
+memory_reply (replies.Refused (refusals.Edit fault)) e = ap (λ (f : EditFault). replies.Refused (refusals.Edit f)) (memory_fault fault e)
+memory_reply (replies.Refused refusals.Line) e = let h : 76 ≡ 77 = differs bad_line_text (refused_text Memory) 8 e in absurd (omega (arith, h))
+memory_reply (replies.Refused (refusals.ScoreTooLong line)) e = let h : 76 ≡ 77 = differs (long_score_text line) (refused_text Memory) 8 e in absurd (omega (arith, h))
+memory_reply (replies.Text text) e = let h : 115 ≡ 114 = differs (score_text text.items) (refused_text Memory) 0 e in absurd (omega (arith, h))
+memory_reply (replies.List alts) e = let h : 97 ≡ 114 = differs (alternatives_text (map shown_by alts.items)) (refused_text Memory) 0 e in absurd (omega (arith, h))
+memory_reply replies.Bye e = let h : 98 ≡ 114 = differs bye_text (refused_text Memory) 0 e in absurd (omega (arith, h))
 
 module _ (g : Grammar) (p : Performance) where
   pub made_answers : (edit : Edit) (built cost : ℕ) (next : Performance) → IsOutcome g p edit (made built cost) next
@@ -39,36 +75,9 @@ module _ (g : Grammar) (p : Performance) where
   refused_answers edit (NoDerivation channel bar) next h same = inl (refused (NoDerivation channel bar), h (λ e. cc), refl)
   refused_answers edit Memory next h same = inr (refl, same)
 
-  -- ---- lines
-
-  command_replies : (line : List ℕ) (command : Command) (reply : List ℕ) (next : Performance) → SaysCommand line command → command ≢ Quit → MayAnswer g p command reply next
-      → Step (IsScore g) g p line reply next
-  command_replies line command reply next says goes (inl answers) = inl (command, says, answers)
-  command_replies line command reply next says goes (inr (text, same)) = inr (inr (inr (command, says, goes), text, same))
-
-  pub change_replies : (line : List ℕ) (edit : Edit) (reply : List ℕ) (next : Performance) → SaysCommand line (Change edit)
-      → MayAnswer g p (Change edit) reply next → Step (IsScore g) g p line reply next
-  change_replies line edit reply next says h = command_replies line (Change edit) reply next says (λ e. cc) h
-
-  pub score_replies : (line : List ℕ) (reply : List ℕ) → SaysCommand line Score → MayAnswer g p Score reply p → Step (IsScore g) g p line reply p
-  score_replies line reply says h = command_replies line Score reply p says (λ e. cc) h
-
-  pub alternatives_replies : (line : List ℕ) (channel bar count : ℕ) (reply : List ℕ) → SaysCommand line (Alternatives channel bar count)
-      → MayAnswer g p (Alternatives channel bar count) reply p → Step (IsScore g) g p line reply p
-  alternatives_replies line channel bar count reply says h = command_replies line (Alternatives channel bar count) reply p says (λ e. cc) h
-
-  pub quit_replies : (line : List ℕ) → SaysCommand line Quit → Step (IsScore g) g p line bye_text p
-  quit_replies line says = inl (Quit, says, (refl, refl))
-
-  pub nothing_replies : (line : List ℕ) → SaysNothing line → Step (IsScore g) g p line bad_line_text p
-  nothing_replies line none = inr (inl (none, refl, refl))
-
-  pub memory_replies : (line : List ℕ) → IsTrue (starts_with nat_eq line (codes "pin ")) → Step (IsScore g) g p line (refused_text Memory) p
-  memory_replies line begins = inr (inr (inl begins, refl, refl))
-
   -- ---- builds
 
-  pub change_builds : (line : List ℕ) (edit : Edit) (reply : List ℕ) (n : ℕ) → SaysCommand line (Change edit) → IsBuiltForEdit g p edit reply n
+  change_builds : (line : List ℕ) (edit : Edit) (reply : List ℕ) (n : ℕ) → SaysCommand line (Change edit) → IsBuiltForEdit g p edit reply n
       → IsBuiltFor g p line reply n
   change_builds line edit reply n says h = record {
     edit = λ other is.
@@ -79,21 +88,94 @@ module _ (g : Grammar) (p : Performance) where
   }
 
   -- a line that says another command, or none
-  pub other_builds : (line : List ℕ) (command : Command) (reply : List ℕ) → SaysCommand line command → ((edit : Edit) → command ≢ Change edit)
+  other_builds : (line : List ℕ) (command : Command) (reply : List ℕ) → SaysCommand line command → ((edit : Edit) → command ≢ Change edit)
       → IsBuiltFor g p line reply 0
   other_builds line command reply says other = record {
     edit = λ edit is. absurd (other edit (one_command line command (Change edit) says is));
     other = λ none. refl;
   }
 
-  pub alternatives_builds : (line : List ℕ) (channel bar count : ℕ) (reply : List ℕ) → SaysCommand line (Alternatives channel bar count) → IsBuiltFor g p line reply 0
-  alternatives_builds line channel bar count reply says = other_builds line (Alternatives channel bar count) reply says (λ edit e. cc)
+  -- what became of an edit
+  abbrev EditReplies : Reply → Result Applied EditFault → Type 0
+  EditReplies reply outcome = MatchResult outcome (λ a. reply ≡ replies.Done a.built a.cost) (λ fault. reply ≡ replies.Refused (refusals.Edit fault))
 
-  pub nothing_builds : (line : List ℕ) (reply : List ℕ) → SaysNothing line → IsBuiltFor g p line reply 0
-  nothing_builds line reply none = record { edit = λ edit is. absurd (none (Change edit) is); other = λ _. refl }
+  pub edit_answers : (edit : Edit) (outcome : Result Applied EditFault) (reply : Reply) (next : Performance) → EditReplies reply outcome
+      → IfOk outcome (λ a. IsOutcome g p edit (made a.built a.cost) next) → ((fault : EditFault) → outcome ≡ Err fault → fault ≢ Memory → IsOutcome g p edit (refused fault) next)
+      → OnErr outcome (next ≡ p) → MayAnswer g p (Change edit) (reply_text reply) next
+  edit_answers edit (Ok a) reply next is done refuses stays =
+      subst (λ (r : Reply). MayAnswer g p (Change edit) (reply_text r) next) (sym is) (made_answers edit a.built a.cost next done)
+  edit_answers edit (Err fault) reply next is done refuses stays =
+      subst (λ (r : Reply). MayAnswer g p (Change edit) (reply_text r) next) (sym is) (refused_answers edit fault next (λ other. refuses fault refl other) stays)
 
-  pub memory_builds : (line : List ℕ) → IsBuiltFor g p line (refused_text Memory) 0
-  memory_builds line = record { edit = λ edit is. inr ((Memory, refl), λ cells would. omega arith); other = λ _. refl }
+  pub edit_lacks_memory : (edit : Edit) (outcome : Result Applied EditFault) (reply : Reply) → EditReplies reply outcome
+      → (outcome ≡ Err Memory → IsOk (edited p edit)) → reply ≡ replies.Refused (refusals.Edit Memory) → IsOk (edited p edit)
+  edit_lacks_memory edit (Ok a) reply is may e = let both : replies.Done a.built a.cost ≡ replies.Refused (refusals.Edit Memory) = sym is ∙ e in absurd (cc)
+  edit_lacks_memory edit (Err fault) reply is may e =
+      let both : replies.Refused (refusals.Edit fault) ≡ replies.Refused (refusals.Edit Memory) = sym is ∙ e in
+      let same : fault ≡ Memory = cc in
+      may (ap (λ (f : EditFault). Err f) same)
+
+  pub edit_builds : (edit : Edit) (outcome : Result Applied EditFault) (reply : Reply) (old new : ℕ) → EditReplies reply outcome
+      → IfOk outcome (λ a. new ≡ risen old a.built) → RisesBy old new (λ n. (cells : List (ℕ × ℕ)) → WouldReach g p edit cells → n ≤ length cells)
+      → (n : ℕ) × IsBuiltForEdit g p edit (reply_text reply) n × (new ≡ risen old n)
+  edit_builds edit (Ok a) reply old new is done most =
+      (a.built, subst (λ (r : Reply). IsBuiltForEdit g p edit (reply_text r) a.built) (sym is) (inl (a.cost, refl)), done)
+  edit_builds edit (Err fault) reply old new is done most =
+      (most.0, subst (λ (r : Reply). IsBuiltForEdit g p edit (reply_text r) most.0) (sym is) (inr ((fault, refl), most.2)), most.1)
+
+  -- ---- lines
+
+  command_replies : (line : List ℕ) (command : Command) (reply : List ℕ) (next : Performance) → SaysCommand line command → command ≢ Quit → MayAnswer g p command reply next
+      → Step (IsScore g) g p line reply next
+  command_replies line command reply next says goes (inl answers) = inl (command, says, answers)
+  command_replies line command reply next says goes (inr (text, same)) = inr (inr (inr (command, says, goes), text, same))
+
+  -- a line that says a command is answered
+  command_line : (line : List ℕ) (command : Command) (reply : Reply) (n : ℕ) (next : Performance) → SaysCommand line command → command ≢ Quit
+      → MayAnswer g p command (reply_text reply) next → (reply ≡ replies.Refused (refusals.Edit Memory) → TakesMemory p command) → IsBuiltFor g p line (reply_text reply) n
+      → AnswersLine g p line (reply_text reply) n next
+  command_line line command reply n next says goes answers may built = record {
+    step = command_replies line command (reply_text reply) next says goes answers;
+    memory = λ e. inr (command, says, may (memory_reply reply e));
+    built = built;
+  }
+
+  pub change_line : (line : List ℕ) (edit : Edit) (reply : Reply) (n : ℕ) (next : Performance) → SaysCommand line (Change edit)
+      → MayAnswer g p (Change edit) (reply_text reply) next → (reply ≡ replies.Refused (refusals.Edit Memory) → IsOk (edited p edit))
+      → IsBuiltForEdit g p edit (reply_text reply) n → AnswersLine g p line (reply_text reply) n next
+  change_line line edit reply n next says answers may built =
+      command_line line (Change edit) reply n next says (λ e. cc) answers may (change_builds line edit (reply_text reply) n says built)
+
+  pub score_line : (line : List ℕ) (reply : Reply) → SaysCommand line Score → MayAnswer g p Score (reply_text reply) p → AnswersLine g p line (reply_text reply) 0 p
+  score_line line reply says answers = command_line line Score reply 0 p says (λ e. cc) answers (λ e. tt) (other_builds line Score (reply_text reply) says (λ edit e. cc))
+
+  pub alternatives_line : (line : List ℕ) (channel bar count : ℕ) (reply : Reply) → SaysCommand line (Alternatives channel bar count)
+      → MayAnswer g p (Alternatives channel bar count) (reply_text reply) p → (reply ≡ replies.Refused (refusals.Edit Memory) → first_refusal (cell_tests p channel bar) ≡ None)
+      → AnswersLine g p line (reply_text reply) 0 p
+  alternatives_line line channel bar count reply says answers may =
+      command_line line (Alternatives channel bar count) reply 0 p says (λ e. cc) answers may
+      (other_builds line (Alternatives channel bar count) (reply_text reply) says (λ edit e. cc))
+
+  pub quit_line : (line : List ℕ) → SaysCommand line Quit → AnswersLine g p line bye_text 0 p
+  quit_line line says = record {
+    step = inl (Quit, says, (refl, refl));
+    memory = λ e. absurd (let wrong : replies.Bye ≡ replies.Refused (refusals.Edit Memory) = memory_reply replies.Bye e in cc);
+    built = other_builds line Quit bye_text says (λ edit e. cc);
+  }
+
+  pub nothing_line : (line : List ℕ) → SaysNothing line → AnswersLine g p line bad_line_text 0 p
+  nothing_line line none = record {
+    step = inr (inl (none, refl, refl));
+    memory = λ e. absurd (let wrong : replies.Refused refusals.Line ≡ replies.Refused (refusals.Edit Memory) = memory_reply (replies.Refused refusals.Line) e in cc);
+    built = record { edit = λ edit is. absurd (none (Change edit) is); other = λ _. refl };
+  }
+
+  pub memory_line : (line : List ℕ) → BeginsPin line → IsTrue (starts_with nat_eq line (codes "pin ")) → AnswersLine g p line (refused_text Memory) 0 p
+  memory_line line pin begins = record {
+    step = inr (inr (inl begins, refl, refl));
+    memory = λ e. inl pin;
+    built = record { edit = λ edit is. inr ((Memory, refl), λ cells would. omega arith); other = λ _. refl };
+  }
 
 -- a line that says no command, or another one, does not say `quit`
 pub quits_not : (line : List ℕ) (command : Command) → SaysCommand line command → command ≢ Quit → Quits line → ⊥

@@ -9,8 +9,9 @@ use Rattle.rhythm_ports.specs.Causes.{Rose}
 use Rattle.rhythm_base.specs.Grammar.{Grammar}
 use Rattle.rhythm_base.specs.Performance.{Performance}
 use Rattle.rhythm_base.specs.declared.limits.TheConstants.{LONGEST_SCRIPT}
-use Rattle.script_run.specs.Answers.{Editing}
-use Rattle.script_run.specs.Ends.{IsBroken, IsDone, IsStopped}
+use Rattle.script_run.specs.Answers.{Editing, IsAnswer, Quits, begun_on}
+use Rattle.script_run.specs.Ends.{IsDone, IsStopped}
+use Rattle.script_run.specs.Machine.{IsBroken}
 use Rattle.script_run.specs.Hearing.{Closes, Heard, HearsAll, HearsUpTo, QuitsThere, Replies, StopsThere, Took}
 use Rattle.script_run.specs.declared.script.TheConstants.{ONE_READ}
 use Rattle.script_run.specs.declared.script_stop.ScriptStop.{ScriptStop}
@@ -56,11 +57,11 @@ module _ (g : Grammar) (p : Performance) (start h : Heard) (is : start ≡ heari
     counted k new rises,
   )
 
-  broken : Ends (λ last. IsBroken g p a b taken mid last) old built
+  broken : Ends (λ last. IsBroken (IsAnswer g) Quits (begun_on p) a b taken mid last) old built
   broken = (edited_to h.performance n, broken_at g p bytes replies n h a b taken mid now read took.0, took.1)
 
   -- a read fails
-  pub broken_off : (d : Option (List ℕ)) → Keeps b d → Ends (λ last. IsBroken g p a d taken mid last) old built
+  pub broken_off : (d : Option (List ℕ)) → Keeps b d → Ends (λ last. IsBroken (IsAnswer g) Quits (begun_on p) a d taken mid last) old built
   broken_off d kept =
       (edited_to h.performance n, broken_at g p bytes replies n h a d taken mid now (Consumes-kept a b d bytes read kept) took.0, took.1)
 

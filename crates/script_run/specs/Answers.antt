@@ -1,16 +1,19 @@
 -- What the lines of a script do while a session is edited: the reply to each line, the performance after it, and how many cells
 -- are built for it.
-use Rattle.std.specs.Prelude.{◌≡◌, ℕ, ◌+◌, ◌≤◌, ◌⊎◌, List, length, Result, Ok, Err}
-use Rattle.kern_writer.specs.PerformanceScore.{HasTooLongText, IsTextOf}
+use Rattle.std.specs.Prelude.{◌≡◌, ℕ, ◌+◌, ◌≤◌, ◌⊎◌, List, IsOk, None, length, Result, Ok, Err, ⊤}
+use Rattle.kern_writer.specs.PerformanceText.{HasTooLongText, IsTextOf}
+use Rattle.rhythm_base.specs.Edits.{cell_tests, edited, first_refusal}
 use Rattle.rhythm_base.specs.Grammar.{Grammar}
 use Rattle.rhythm_base.specs.Performance.{Performance}
 use Rattle.rhythm_base.specs.Reached.{WouldReach}
 use Rattle.rhythm_base.specs.Replies.{done_text, refused_text}
 use Rattle.rhythm_base.specs.Script.{Run, Step}
-use Rattle.rhythm_base.specs.ScriptLines.{SaysCommand}
-use Rattle.rhythm_base.specs.declared.command.Command.TheVariants.{Change, Quit}
+use Rattle.rhythm_base.specs.ScriptLines.{BeginsPin, SaysCommand}
+use Rattle.rhythm_base.specs.declared.command.Command.{Command}
+use Rattle.rhythm_base.specs.declared.command.Command.TheVariants.{Alternatives, Change, Quit, Score}
 use Rattle.rhythm_base.specs.declared.edit.Edit.{Edit}
 use Rattle.rhythm_base.specs.declared.edit_fault.EditFault.{EditFault}
+use Rattle.rhythm_base.specs.declared.edit_fault.EditFault.TheVariants.{Memory}
 use Rattle.rhythm_base.specs.declared.limits.TheConstants.{LONGEST_SCORE}
 
 -- the score of a performance: its text, or the number of the record that would pass the limit of a score
@@ -32,6 +35,25 @@ pub record IsBuiltFor (g : Grammar) (p : Performance) (line reply : List ℕ) (n
   pub edit : (edit : Edit) → SaysCommand line (Change edit) → IsBuiltForEdit g p edit reply n
   pub other : ((edit : Edit) → SaysCommand line (Change edit) → ⊥) → n ≡ 0
 
+-- a command that takes memory: an edit that the performance alone does not refuse, the score, the alternatives of a bar of a voice
+-- that are there
+abbrev pub TakesMemory : Performance → Command → Type 0
+TakesMemory p (Change edit) = IsOk (edited p edit)
+TakesMemory p Score = ⊤
+TakesMemory p (Alternatives channel bar count) = first_refusal (cell_tests p channel bar) ≡ None
+TakesMemory p Quit = ⊥
+
+-- where memory may be wanting: at the shape of a pin, which is read when its channel and bar are, and before they are looked for; and at
+-- a command that takes memory
+abbrev pub MayLackMemory : Performance → List ℕ → Type 0
+MayLackMemory p line = BeginsPin line ⊎ ((command : Command) × SaysCommand line command × TakesMemory p command)
+
+-- what a line may do: its reply, the performance after it, and how many cells are built for it
+pub record AnswersLine (g : Grammar) (p : Performance) (line reply : List ℕ) (n : ℕ) (next : Performance) : Type 0 where
+  pub step : Step (IsScore g) g p line reply next
+  pub memory : reply ≡ refused_text Memory → MayLackMemory p line
+  pub built : IsBuiltFor g p line reply n
+
 -- the performance as edited so far, and how many cells were built for the edits
 pub record Editing : Type 0 where
   pub performance : Performance
@@ -40,10 +62,9 @@ pub record Editing : Type 0 where
 abbrev pub begun_on : Performance → Editing
 begun_on p = record { performance = p; built = 0 }
 
--- what a line may do, with the cells that are built for it
+-- what a line may do while a performance is edited
 abbrev pub IsAnswer : Grammar → Editing → List ℕ → List ℕ → Editing → Type 0
-IsAnswer g old line reply new =
-    Step (IsScore g) g old.performance line reply new.performance × ((n : ℕ) × IsBuiltFor g old.performance line reply n × (new.built ≡ old.built + n))
+IsAnswer g old line reply new = (n : ℕ) × AnswersLine g old.performance line reply n new.performance × (new.built ≡ old.built + n)
 
 -- the replies to lines, up to one that says `quit`
 abbrev pub AreAnswers : Grammar → Editing → List (List ℕ) → List ℕ → Editing → Type 0

@@ -5,11 +5,11 @@ use Rattle.rhythm_base.specs.Counter.{risen}
 use Rattle.rhythm_base.specs.Grammar.{Grammar}
 use Rattle.rhythm_base.specs.Performance.{Performance}
 use Rattle.rhythm_base.specs.Replies.{refused_text}
-use Rattle.rhythm_base.specs.Script.{Answers, Step}
+use Rattle.rhythm_base.specs.Script.{Answers}
 use Rattle.rhythm_base.specs.declared.command.Command.{Command}
 use Rattle.rhythm_base.specs.declared.edit_fault.EditFault.TheVariants.{Memory}
 use Rattle.rhythm_base.specs.declared.limits.TheConstants.{LONGEST_SCRIPT, LONGEST_SCRIPT_LINE}
-use Rattle.script_run.specs.Answers.{IsBuiltFor, IsScore, Quits}
+use Rattle.script_run.specs.Answers.{AnswersLine, IsScore, Quits}
 use Rattle.script_run.specs.declared.script_stop.ScriptStop.{ScriptStop}
 use Rattle.script_run.specs.declared.script_stop.ScriptStop.TheVariants as stop
 
@@ -26,8 +26,7 @@ pub record Heard : Type 0 where
 
 -- a line is answered, and so many cells are built for it
 abbrev pub Replies : Heard → List ℕ → ℕ → Performance → Type 0
-Replies old reply n next =
-    Step (IsScore old.grammar) old.grammar old.performance old.begun reply next × IsBuiltFor old.grammar old.performance old.begun reply n
+Replies old reply n next = AnswersLine old.grammar old.performance old.begun reply n next
 
 -- a byte is heard, and no line that says `quit` ends there
 abbrev pub Hears : Heard → ℕ → List ℕ → ℕ → Heard → Type 0

@@ -5,22 +5,22 @@ ghost use Rattle.script_run.specs.declared.script_stop.ScriptStop.TheVariants as
 ghost use Rattle.std.specs.Prelude.{◌≡◌, ◌≤◌, ℕ, List, Err, IfErr, Ok, false, true};
 
 use crate::listener::Listener;
+use crate::means::Means;
 use crate::script_stop::ScriptStop;
+use carry_matrix::Steps as Products;
 use least_cost::Steps as Builds;
 use rhythm_base::{LONGEST_SCRIPT, LONGEST_SCRIPT_LINE, Tag};
-use rhythm_ports::{Gate, Sink};
-use std::alloc::Global;
+use rhythm_ports::{Failed, Gate, Sink};
 use std::thread::Threads;
 
 /// Hears a byte of the script. Says whether the script ends there, by a line that says so.
-fn hear<R: Threads + Sync, O: Sink, G: Gate + Sync, B: Tag>(
-    rt: &R,
-    alloc: Global,
+fn hear<R: Threads + Sync, O: Sink, G: Gate + Sync, B: Tag, P: Tag>(
+    means: &Means<R, G>,
     listener: &mut Listener,
     byte: u8,
     out: &mut O,
-    gate: &G,
     builds: &mut Builds<B>,
+    products: &mut Products<P>,
 ) -> Result<bool, ScriptStop>
     ensures on { result ≡ Ok false → (reply : List ℕ) × (n : ℕ) × Hears listener.old byte reply n listener.new
         × Took (O.taken out.old) (O.taken out.new) builds.old builds.new reply n }
@@ -31,6 +31,7 @@ fn hear<R: Threads + Sync, O: Sink, G: Gate + Sync, B: Tag>(
     ensures grammar { listener.new.grammar ≡ listener.old.grammar }
     ensures cause { result ≡ Err stop.Write → Rose (O.faults out.old) (O.faults out.new) }
     ensures later { O.faults out.old ≤ O.faults out.new }
+    ensures products { products.old ≤ products.new }
 {
     if listener.is_full() {
         return Err(ScriptStop::TooLong {
@@ -38,12 +39,12 @@ fn hear<R: Threads + Sync, O: Sink, G: Gate + Sync, B: Tag>(
         });
     }
     if byte == b'\n' {
-        return match listener.answer(rt, alloc, out, gate, builds) {
+        return match listener.answer(means, out, builds, products) {
             Ok(ends) => {
                 listener.pass_newline();
                 Ok(ends)
             }
-            Err(_partial) => Err(ScriptStop::Write),
+            Err(Failed) => Err(ScriptStop::Write),
         };
     }
     if listener.has_long_line() {
@@ -56,14 +57,13 @@ fn hear<R: Threads + Sync, O: Sink, G: Gate + Sync, B: Tag>(
 }
 
 /// Hears bytes of the script, one after another. Says whether the script ends among them, by a line that says so.
-pub fn hear_all<R: Threads + Sync, O: Sink, G: Gate + Sync, B: Tag>(
-    rt: &R,
-    alloc: Global,
+pub fn hear_all<R: Threads + Sync, O: Sink, G: Gate + Sync, B: Tag, P: Tag>(
+    means: &Means<R, G>,
     listener: &mut Listener,
     piece: &[u8],
     out: &mut O,
-    gate: &G,
     builds: &mut Builds<B>,
+    products: &mut Products<P>,
 ) -> Result<bool, ScriptStop>
     ensures on { result ≡ Ok false → (replies : List ℕ) × (n : ℕ) × HearsAll listener.old piece.now replies n listener.new
         × Took (O.taken out.old) (O.taken out.new) builds.old builds.new replies n }
@@ -74,9 +74,10 @@ pub fn hear_all<R: Threads + Sync, O: Sink, G: Gate + Sync, B: Tag>(
     ensures grammar { listener.new.grammar ≡ listener.old.grammar }
     ensures cause { result ≡ Err stop.Write → Rose (O.faults out.old) (O.faults out.new) }
     ensures later { O.faults out.old ≤ O.faults out.new }
+    ensures products { products.old ≤ products.new }
 {
     'bytes: for byte in piece {
-        match hear(rt, alloc, listener, *byte, out, gate, builds) {
+        match hear(means, listener, *byte, out, builds, products) {
             Ok(false) => {}
             Ok(true) => return Ok(true),
             Err(stop) => return Err(stop),

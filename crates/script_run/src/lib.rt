@@ -2,11 +2,15 @@
 #![tactic(auto)]
 
 mod hearing;
+mod laws;
 mod listener;
+mod means;
 mod reply;
 mod script;
 mod script_stop;
 mod shown;
 
+pub use laws::{lines_have_one_answer, scripts_have_one_output};
+pub use means::Means;
 pub use script::{ONE_READ, run_script};
 pub use script_stop::ScriptStop;

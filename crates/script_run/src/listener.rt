@@ -7,22 +7,17 @@ ghost use Rattle.script_run.specs.Hearing.{Heard, Replies};
 ghost use Rattle.std.specs.Io.KnownBytes.{Appends};
 ghost use Rattle.std.specs.Prelude.{◌≡◌, ◌≤◌, ◌<◌, ◌+◌, ◌↔◌, ◌++◌, ◌∷◌, [], ℕ, List, IfOk, IsTrue, MatchBool, OnErr, length, take};
 
+use crate::means::Means;
 use crate::reply::reply_to;
 use carry_matrix::Steps as Products;
 use edit_script::{Reply, write_reply};
 use edit_session::Session;
 use least_cost::Steps as Builds;
 use rhythm_base::{LONGEST_SCRIPT, LONGEST_SCRIPT_LINE, Tag};
-use rhythm_ports::{Gate, Partial, Sink};
+use rhythm_ports::{Failed, Gate, Sink};
 use std::alloc::{AllocError, Global};
 use std::marker::Model;
 use std::thread::Threads;
-
-/// What the products of a script are counted for.
-#[derive(Clone, Copy)]
-struct InScript;
-
-impl Tag for InScript {}
 
 /// A session, the line that was begun, and how many bytes of the script were read.
 #[derive(Drop)]
@@ -30,7 +25,6 @@ pub struct Listener {
     session: Session,
     line: Vec<u8>,
     read: u64,
-    products: Products<InScript>,
 }
 
 impl Model for Listener {
@@ -73,7 +67,6 @@ impl Listener {
             session,
             line,
             read: 0,
-            products: Products::zero(),
         })
     }
 
@@ -89,14 +82,13 @@ impl Listener {
 
     /// Answers the line that was begun, at its newline or at the end of the script, and forgets it. Says whether it is a line that
     /// ends the script.
-    pub fn answer<R: Threads + Sync, O: Sink, G: Gate + Sync, B: Tag>(
+    pub fn answer<R: Threads + Sync, O: Sink, G: Gate + Sync, B: Tag, P: Tag>(
         &mut self,
-        rt: &R,
-        alloc: Global,
+        means: &Means<R, G>,
         out: &mut O,
-        gate: &G,
         builds: &mut Builds<B>,
-    ) -> Result<bool, Partial>
+        products: &mut Products<P>,
+    ) -> Result<bool, Failed>
         ensures same { (self.new.grammar ≡ self.old.grammar) × (self.new.read ≡ self.old.read) × (self.new.begun ≡ []) }
         ensures ok { IfOk result (λ ends. (IsTrue ends ↔ Quits self.old.begun)
             × ((reply : List ℕ) × (n : ℕ) × Replies self.old reply n self.new.performance
@@ -104,14 +96,14 @@ impl Listener {
         ensures cut { OnErr result ((reply : List ℕ) × (n sent : ℕ) × Replies self.old reply n self.new.performance
             × (sent < length reply) × Appends (O.taken out.old) (O.taken out.new) (take sent reply) × (builds.new ≡ risen builds.old n)) }
         ensures cause { HasCause (O.faults out.old) (O.faults out.new) result }
+        ensures products { products.old ≤ products.new }
     {
         let line = self.line.as_slice();
-        let products = &mut self.products;
-        let reply = reply_to(rt, alloc, &mut self.session, line, gate, builds, products);
+        let reply = reply_to(means, &mut self.session, line, builds, products);
         self.line.clear();
         match write_reply(out, &reply) {
             Ok(()) => Ok(is_bye(&reply)),
-            Err(partial) => Err(partial),
+            Err(_partial) => Err(Failed),
         }
     }
 

@@ -1,40 +1,34 @@
 ghost use Rattle.edit_script.specs.ReplyText.{reply_text};
+ghost use Rattle.edit_script.specs.declared.reply.Refusal.TheVariants as refusals;
 ghost use Rattle.edit_script.specs.declared.reply.Reply.TheVariants as replies;
+ghost use Rattle.edit_session.specs.Asking.{CanBePinned};
 ghost use Rattle.rhythm_base.specs.Counter.{risen};
-ghost use Rattle.rhythm_base.specs.Edits.{IsEditInRange};
-ghost use Rattle.rhythm_base.specs.Script.{Step};
+ghost use Rattle.rhythm_base.specs.Edits.{IsEditInRange, cell_tests, edited, first_refusal};
+ghost use Rattle.rhythm_base.specs.Replies.{alternatives_text};
+ghost use Rattle.rhythm_base.specs.Script.{shown_alternative};
 ghost use Rattle.rhythm_base.specs.declared.command.Command.TheVariants as command;
-ghost use Rattle.script_run.specs.Answers.{IsBuiltFor, IsBuiltForEdit, IsScore, Quits};
+ghost use Rattle.rhythm_base.specs.declared.edit_fault.EditFault.TheVariants as faults;
+ghost use Rattle.script_run.specs.Answers.{AnswersLine, IsBuiltForEdit, Quits};
+ghost use Rattle.script_run.specs.Faults.{refusal_of_asking, refusal_of_score};
 ghost use Rattle.script_run.specs.Hearing.{MayAnswer};
-ghost use Rattle.std.specs.Prelude.{◌≡◌, ◌≢◌, ◌↔◌, ℕ};
+ghost use Rattle.std.specs.Prelude.{◌≡◌, ◌≢◌, ◌≤◌, ◌↔◌, ◌⊎◌, ℕ, All, IfOk, IsOk, MatchResult, None, map};
 
+use crate::means::Means;
 use crate::shown::all_shown;
 use carry_matrix::Steps as Products;
 use edit_script::{LineFault, Refusal, Reply, read_line};
-use edit_session::{AskFault, ScoreFault, Session};
+use edit_session::{Alternative, Applied, AskFault, ScoreFault, Session};
 use least_cost::Steps as Builds;
 use rhythm_base::{Command, Edit, EditFault, Tag};
 use rhythm_ports::Gate;
 use std::alloc::Global;
 use std::thread::Threads;
 
-/// The reply to an edit.
-fn reply_to_edit<R: Threads + Sync, G: Gate + Sync, B: Tag, P: Tag>(
-    rt: &R,
-    alloc: Global,
-    session: &mut Session,
-    edit: &Edit,
-    gate: &G,
-    builds: &mut Builds<B>,
-    products: &mut Products<P>,
-) -> Reply
-    requires { IsEditInRange edit.now }
-    ensures grammar { session.new.grammar ≡ session.old.grammar }
-    ensures answer { MayAnswer session.old.grammar session.old.performance (command.Change edit.now) (reply_text result) session.new.performance }
-    ensures built { (n : ℕ) × IsBuiltForEdit session.old.grammar session.old.performance edit.now (reply_text result) n × (builds.new ≡ risen builds.old n) }
-    ensures goes_on { result ≢ replies.Bye }
+/// The reply to an edit, by what became of it.
+fn edit_reply(outcome: Result<Applied, EditFault>) -> Reply
+    ensures { MatchResult outcome (λ a. result ≡ replies.Done a.built a.cost) (λ fault. result ≡ replies.Refused (refusals.Edit fault)) }
 {
-    match session.apply(rt, alloc, edit, gate, builds, products) {
+    match outcome {
         Ok(applied) => Reply::Done {
             built: applied.built,
             cost: applied.cost,
@@ -43,20 +37,92 @@ fn reply_to_edit<R: Threads + Sync, G: Gate + Sync, B: Tag, P: Tag>(
     }
 }
 
+/// The reply to an edit, which changes the session where it is accepted.
+fn reply_to_edit<R: Threads + Sync, G: Gate + Sync, B: Tag, P: Tag>(
+    means: &Means<R, G>,
+    session: &mut Session,
+    edit: &Edit,
+    builds: &mut Builds<B>,
+    products: &mut Products<P>,
+) -> Reply
+    requires { IsEditInRange edit.now }
+    ensures grammar { session.new.grammar ≡ session.old.grammar }
+    ensures answer { MayAnswer session.old.grammar session.old.performance (command.Change edit.now) (reply_text result) session.new.performance }
+    ensures memory { result ≡ replies.Refused (refusals.Edit faults.Memory) → IsOk (edited session.old.performance edit.now) }
+    ensures built { (n : ℕ) × IsBuiltForEdit session.old.grammar session.old.performance edit.now (reply_text result) n × (builds.new ≡ risen builds.old n) }
+    ensures goes_on { result ≢ replies.Bye }
+    ensures products { products.old ≤ products.new }
+{
+    edit_reply(session.apply(means.rt, means.alloc, edit, means.gate, builds, products))
+}
+
+/// Why there is no score, as a reply says it.
+fn score_refusal(fault: ScoreFault) -> Refusal
+    ensures { result ≡ refusal_of_score fault }
+{
+    match fault {
+        ScoreFault::TooLong { line } => Refusal::ScoreTooLong { line },
+        ScoreFault::Memory => Refusal::Edit(EditFault::Memory),
+    }
+}
+
+/// The reply to a line that asks for the score, by what became of it.
+fn score_reply(score: Result<Vec<u8>, ScoreFault>) -> Reply
+    ensures { MatchResult score (λ text. result ≡ replies.Text text) (λ fault. result ≡ replies.Refused (refusal_of_score fault)) }
+{
+    match score {
+        Ok(text) => Reply::Text(text),
+        Err(fault) => Reply::Refused(score_refusal(fault)),
+    }
+}
+
 /// The reply to a line that asks for the score.
-fn score_reply(alloc: Global, session: &Session) -> Reply
+fn reply_with_score(alloc: Global, session: &Session) -> Reply
     ensures answer { MayAnswer session.now.grammar session.now.performance command.Score (reply_text result) session.now.performance }
     ensures goes_on { result ≢ replies.Bye }
 {
-    match session.score(alloc) {
-        Ok(text) => Reply::Text(text),
-        Err(ScoreFault::TooLong { line }) => Reply::Refused(Refusal::ScoreTooLong { line }),
-        Err(ScoreFault::Memory) => Reply::Refused(Refusal::Edit(EditFault::Memory)),
+    score_reply(session.score(alloc))
+}
+
+/// Why no alternatives are given, as a reply says it.
+fn ask_refusal(fault: AskFault) -> Refusal
+    ensures { result ≡ refusal_of_asking fault }
+{
+    match fault {
+        AskFault::NoVoice(channel) => Refusal::Edit(EditFault::NoVoice(channel)),
+        AskFault::NoBar(bar) => Refusal::Edit(EditFault::NoBar(bar)),
+        AskFault::Memory => Refusal::Edit(EditFault::Memory),
+    }
+}
+
+/// The reply that shows alternatives.
+fn list_reply(alloc: Global, list: &[Alternative]) -> Reply
+    requires { All CanBePinned list.now }
+    ensures text { (reply_text result ≡ alternatives_text (map shown_alternative list.now)) ⊎ (result ≡ replies.Refused (refusals.Edit faults.Memory)) }
+    ensures goes_on { result ≢ replies.Bye }
+{
+    match all_shown(alloc, list) {
+        Ok(alts) => Reply::List(alts),
+        Err(_error) => Reply::Refused(Refusal::Edit(EditFault::Memory)),
+    }
+}
+
+/// The reply to a line that asks for alternatives, by what became of it.
+fn alternatives_reply(alloc: Global, list: Result<Vec<Alternative>, AskFault>) -> Reply
+    requires { IfOk list (λ v. All CanBePinned v.items) }
+    ensures reply { MatchResult list
+        (λ v. (reply_text result ≡ alternatives_text (map shown_alternative v.items)) ⊎ (result ≡ replies.Refused (refusals.Edit faults.Memory)))
+        (λ fault. result ≡ replies.Refused (refusal_of_asking fault)) }
+    ensures goes_on { result ≢ replies.Bye }
+{
+    match list {
+        Ok(list) => list_reply(alloc, list.as_slice()),
+        Err(fault) => Reply::Refused(ask_refusal(fault)),
     }
 }
 
 /// The reply to a line that asks for the alternatives of a bar of a voice.
-fn alternatives_reply<P: Tag>(
+fn reply_with_alternatives<P: Tag>(
     alloc: Global,
     session: &Session,
     channel: u8,
@@ -65,46 +131,40 @@ fn alternatives_reply<P: Tag>(
     products: &mut Products<P>,
 ) -> Reply
     ensures answer { MayAnswer session.now.grammar session.now.performance (command.Alternatives channel bar count) (reply_text result) session.now.performance }
+    ensures memory { result ≡ replies.Refused (refusals.Edit faults.Memory) → first_refusal (cell_tests session.now.performance channel bar) ≡ None }
     ensures goes_on { result ≢ replies.Bye }
+    ensures products { products.old ≤ products.new }
 {
-    match session.alternatives(alloc, channel, bar, count, products) {
-        Ok(list) => match all_shown(alloc, list.as_slice()) {
-            Ok(alts) => Reply::List(alts),
-            Err(_error) => Reply::Refused(Refusal::Edit(EditFault::Memory)),
-        },
-        Err(AskFault::NoVoice(voice)) => Reply::Refused(Refusal::Edit(EditFault::NoVoice(voice))),
-        Err(AskFault::NoBar(number)) => Reply::Refused(Refusal::Edit(EditFault::NoBar(number))),
-        Err(AskFault::Memory) => Reply::Refused(Refusal::Edit(EditFault::Memory)),
-    }
+    alternatives_reply(
+        alloc,
+        session.alternatives(alloc, channel, bar, count, products),
+    )
 }
 
 /// The reply to a line, which changes the session where the line says an edit that is accepted.
 pub fn reply_to<R: Threads + Sync, G: Gate + Sync, B: Tag, P: Tag>(
-    rt: &R,
-    alloc: Global,
+    means: &Means<R, G>,
     session: &mut Session,
     line: &[u8],
-    gate: &G,
     builds: &mut Builds<B>,
     products: &mut Products<P>,
 ) -> Reply
     ensures grammar { session.new.grammar ≡ session.old.grammar }
-    ensures answer { Step (IsScore session.old.grammar) session.old.grammar session.old.performance line.now (reply_text result) session.new.performance }
-    ensures built { (n : ℕ) × IsBuiltFor session.old.grammar session.old.performance line.now (reply_text result) n × (builds.new ≡ risen builds.old n) }
+    ensures answer { (n : ℕ) × AnswersLine session.old.grammar session.old.performance line.now (reply_text result) n session.new.performance
+        × (builds.new ≡ risen builds.old n) }
     ensures ends { (result ≡ replies.Bye) ↔ Quits line.now }
+    ensures products { products.old ≤ products.new }
 {
-    match read_line(alloc, line) {
-        Ok(Command::Change(edit)) => {
-            reply_to_edit(rt, alloc, session, &edit, gate, builds, products)
-        }
-        Ok(Command::Score) => score_reply(alloc, session),
+    match read_line(means.alloc, line) {
+        Ok(Command::Change(edit)) => reply_to_edit(means, session, &edit, builds, products),
+        Ok(Command::Score) => reply_with_score(means.alloc, session),
         Ok(
             Command::Alternatives {
                 channel,
                 bar,
                 count,
             },
-        ) => alternatives_reply(alloc, session, channel, bar, count, products),
+        ) => reply_with_alternatives(means.alloc, session, channel, bar, count, products),
         Ok(Command::Quit) => Reply::Bye,
         Err(LineFault::BadLine) => Reply::Refused(Refusal::Line),
         Err(LineFault::Memory) => Reply::Refused(Refusal::Edit(EditFault::Memory)),

@@ -4,29 +4,29 @@ ghost use Rattle.script_run.specs.Answers.{Editing};
 ghost use Rattle.script_run.specs.Ends.{IsDone, IsStopped};
 ghost use Rattle.script_run.specs.Hearing.{Closes, Replies, Took};
 ghost use Rattle.script_run.specs.declared.script_stop.ScriptStop.TheVariants as stop;
-ghost use Rattle.std.specs.Prelude.{◌≡◌, ◌≢◌, ◌<◌, ℕ, List, [], Err, IfErr, OnOk, length, take};
+ghost use Rattle.std.specs.Prelude.{◌≡◌, ◌≢◌, ◌<◌, ◌≤◌, ℕ, List, [], Err, IfErr, OnOk, length, take};
 
 use crate::hearing::hear_all;
 use crate::listener::Listener;
+use crate::means::Means;
 use crate::script_stop::ScriptStop;
+use carry_matrix::Steps as Products;
 use edit_session::Session;
 use least_cost::Steps as Builds;
 use rhythm_base::Tag;
 use rhythm_ports::{Failed, Gate, Sink, Source};
-use std::alloc::Global;
 use std::thread::Threads;
 
 /// The most bytes that one read of a script asks for.
 pub const ONE_READ: usize = 4_096;
 
 /// Answers a line that was begun, at the end of the script.
-fn close<R: Threads + Sync, O: Sink, G: Gate + Sync, B: Tag>(
-    rt: &R,
-    alloc: Global,
+fn close<R: Threads + Sync, O: Sink, G: Gate + Sync, B: Tag, P: Tag>(
+    means: &Means<R, G>,
     listener: &mut Listener,
     out: &mut O,
-    gate: &G,
     builds: &mut Builds<B>,
+    products: &mut Products<P>,
 ) -> Result<(), ScriptStop>
     ensures grammar { listener.new.grammar ≡ listener.old.grammar }
     ensures ok { OnOk result ((reply : List ℕ) × (n : ℕ) × Closes listener.old reply n listener.new.performance
@@ -34,27 +34,27 @@ fn close<R: Threads + Sync, O: Sink, G: Gate + Sync, B: Tag>(
     ensures cut { IfErr result (λ end. (end ≡ stop.Write) × Rose (O.faults out.old) (O.faults out.new)
         × ((reply : List ℕ) × (n sent : ℕ) × (listener.old.begun ≢ []) × Replies listener.old reply n listener.new.performance
         × (sent < length reply) × Took (O.taken out.old) (O.taken out.new) builds.old builds.new (take sent reply) n)) }
+    ensures products { products.old ≤ products.new }
 {
     if listener.has_no_line() {
         return Ok(());
     }
-    match listener.answer(rt, alloc, out, gate, builds) {
+    match listener.answer(means, out, builds, products) {
         Ok(_ends) => Ok(()),
-        Err(_partial) => Err(ScriptStop::Write),
+        Err(Failed) => Err(ScriptStop::Write),
     }
 }
 
 /// Runs an edit script over a session: answers each of its lines when the newline after it, or the end of the script, is read,
 /// and before the next line is. One read asks for at most 4,096 bytes, and comes only when all whole lines are answered. The
 /// memory for a line is taken before the first read.
-pub fn run_script<R: Threads + Sync, S: Source, O: Sink, G: Gate + Sync, B: Tag>(
-    rt: &R,
-    alloc: Global,
+pub fn run_script<R: Threads + Sync, S: Source, O: Sink, G: Gate + Sync, B: Tag, P: Tag>(
+    means: &Means<R, G>,
     session: Session,
     script: &mut S,
     out: &mut O,
-    gate: &G,
     builds: &mut Builds<B>,
+    products: &mut Products<P>,
 ) -> Result<(), ScriptStop>
     ensures done { OnOk result ((last : Editing)
         × IsDone session.grammar session.performance (S.rest script.old) (S.rest script.new) (O.taken out.old) (O.taken out.new) last
@@ -65,16 +65,17 @@ pub fn run_script<R: Threads + Sync, S: Source, O: Sink, G: Gate + Sync, B: Tag>
     ensures read { result ≡ Err stop.Read → Rose (S.faults script.old) (S.faults script.new) }
     ensures write { result ≡ Err stop.Write → Rose (O.faults out.old) (O.faults out.new) }
     ensures memory { result ≡ Err stop.Memory → (script.new ≡ script.old) × (out.new ≡ out.old) }
+    ensures products { products.old ≤ products.new }
 {
-    let Ok(mut listener) = Listener::new(alloc, session) else {
+    let Ok(mut listener) = Listener::new(means.alloc, session) else {
         return Err(ScriptStop::Memory);
     };
     let mut piece = [0u8; ONE_READ];
     'pieces: loop {
         match script.read(&mut piece) {
-            Ok(0) => return close(rt, alloc, &mut listener, out, gate, builds),
+            Ok(0) => return close(means, &mut listener, out, builds, products),
             Ok(count) => {
-                match hear_all(rt, alloc, &mut listener, &piece[..count], out, gate, builds) {
+                match hear_all(means, &mut listener, &piece[..count], out, builds, products) {
                     Ok(false) => {}
                     Ok(true) => return Ok(()),
                     Err(stop) => return Err(stop),

@@ -56,7 +56,15 @@ fn summary_of<R: Threads + Sync>(
         &mut products,
     );
     match opened {
-        Ok(session) => match run_drill(rt, alloc, session, number, &OpenGate, builds) {
+        Ok(session) => match run_drill(
+            rt,
+            alloc,
+            session,
+            number,
+            &OpenGate,
+            builds,
+            &mut products,
+        ) {
             Ok(text) => Some(text),
             Err(_) => None,
         },

@@ -7,28 +7,21 @@ use Rattle.rhythm_base.specs.Lists.{Each}
 use Rattle.rhythm_base.specs.Ranked.{Key}
 use Rattle.rhythm_base.specs.Readable.{IsReadable}
 use Rattle.rhythm_base.specs.RuleTrees.{IsRuleList}
-use Rattle.pinned_trees.specs.Nodes.{IsReady, ground_of}
+use Rattle.row_laws.specs.Grounds.{IsReady, ground_of}
 use Rattle.row_laws.proofs.Grounds.{bounds, grounded}
+use Rattle.best_trees.specs.BarTrees.{AreBestOfBar}
+use Rattle.best_trees.specs.Firsts.{AreFirst}
+use Rattle.best_trees.specs.Grids.{AreAllAddable}
+use Rattle.best_trees.proofs.Steps.{forests-addable}
 use Rattle.bar_alternatives.specs.BestTrees.{AreBestTrees, without_pin}
-use Rattle.bar_alternatives.specs.Firsts.{AreFirst}
-use Rattle.bar_alternatives.specs.Grids.{AreAllAddable}
-use Rattle.bar_alternatives.specs.Nodes.{AreBestForests, IsTotal}
-use Rattle.bar_alternatives.specs.Totals.{IsListed}
-use Rattle.bar_alternatives.proofs.Families.{answered}
+use Rattle.bar_alternatives.specs.Totals.{IsListed, IsTotal}
 use Rattle.bar_alternatives.proofs.Listed.{all_listable, listed-best}
-use Rattle.bar_alternatives.proofs.Steps.{forests-addable}
 use Rattle.bar_alternatives.proofs.WholeBars.{totals-first}
 use Rattle.bar_alternatives.proofs.listing.alternatives.Goals as goal
 
--- the answer for the whole bar
-whole : (g : Grammar) (k : BarInput) (count width symbol : ℕ) (grid : List (List Key)) → width ≡ k.resolution → symbol ≡ k.symbol
-    → AreBestForests (ground_of g k) count 0 ((width, symbol) ∷ []) grid → AreBestForests (ground_of g k) count 0 ((k.resolution, k.symbol) ∷ []) grid
-whole g k count width symbol grid w s h =
-    subst (λ n. AreBestForests (ground_of g k) count 0 ((n, k.symbol) ∷ []) grid) w (subst (λ n. AreBestForests (ground_of g k) count 0 ((width, n) ∷ []) grid) s h)
-
-low : (g : Grammar) (k : BarInput) (count : ℕ) (grid : List (List Key)) → IsReady g k → AreBestForests (ground_of g k) count 0 ((k.resolution, k.symbol) ∷ []) grid → AreAllAddable grid
+low : (g : Grammar) (k : BarInput) (count : ℕ) (grid : List (List Key)) → IsReady g k → AreBestOfBar g k None count grid → AreAllAddable grid
 low g k count grid ready h =
-    forests-addable (ground_of g k) (grounded g k ready) (bounds g k ready) count 0 ((k.resolution, k.symbol) ∷ []) grid (ready.cell.some_unit, tt) (let units : g.resolution ≡ k.resolution = ready.units in omega (arith, units)) h
+    forests-addable (ground_of g k) (grounded g k ready) (bounds g k ready) None count 0 ((k.resolution, k.symbol) ∷ []) grid (ready.cell.some_unit, tt) (let units : g.resolution ≡ k.resolution = ready.units in omega (arith, units)) h
 
 lifted_ready : (g : Grammar) (k lifted : BarInput) → IsReadable g → IsBarInput k → k.resolution ≡ g.resolution → lifted ≡ without_pin k → IsReady g lifted
 lifted_ready g k lifted readable cell units is = subst (IsReady g) (sym is) (record {
@@ -46,15 +39,15 @@ lifted_ready g k lifted readable cell units is = subst (IsReady g) (sym is) (rec
   units = sym units;
 })
 
+pub best_trees-requires : goal.best_trees-requires
+best_trees-requires c = record { ready = lifted_ready c.args.grammar.now c.args.input.now c.in_ok-input.input c.requires.readable c.start-start.ensures.formed c.requires.units c.in_ok-input.ensures }
+
 pub best_totals-requires-clause-grid : goal.best_totals-requires-clause-grid
 best_totals-requires-clause-grid c =
     let g = c.args.grammar.now in
     let k = c.in_ok-input.input in
     let ready = lifted_ready g c.args.input.now k c.requires.readable c.start-start.ensures.formed c.requires.units c.in_ok-input.ensures in
-    let symbol : c.start-start.result ≡ k.symbol = c.start-start.ensures.value ∙ ap (λ (b : BarInput). b.symbol) (sym c.in_ok-input.ensures) in
-    low g k c.args.count c.grid.result.now ready
-    (whole g k c.args.count c.resolution.result c.start-start.result c.grid.result.now c.resolution.ensures symbol
-    (answered g k c.args.count c.best_trees.new.memo.found.items (record { place = 0; width = c.resolution.result; symbol = c.start-start.result }) c.in_ok-number.number c.grid.result.now c.in_ok-number.ensures.answer c.grid.ensures))
+    low g k c.args.count c.in_ok-grid.grid ready c.in_ok-grid.ensures
 
 pub listed-requires : goal.listed-requires
 listed-requires c =
@@ -64,10 +57,8 @@ listed-requires c =
     let ready = lifted_ready g c.args.input.now k c.requires.readable c.start-start.ensures.formed c.requires.units c.in_ok-input.ensures in
     let free : k.pin ≡ None = ap (λ (b : BarInput). b.pin) c.in_ok-input.ensures in
     let symbol : c.start-start.result ≡ k.symbol = c.start-start.ensures.value ∙ ap (λ (b : BarInput). b.symbol) (sym c.in_ok-input.ensures) in
-    let best = whole g k n c.resolution.result c.start-start.result c.grid.result.now c.resolution.ensures symbol
-    (answered g k n c.best_trees.new.memo.found.items (record { place = 0; width = c.resolution.result; symbol = c.start-start.result }) c.in_ok-number.number c.grid.result.now c.in_ok-number.ensures.answer c.grid.ensures) in
     let first : AreFirst (IsTotal g k c.args.before.now c.args.after.now) n c.in_ok-best.best
-    = subst (AreFirst (IsTotal g k c.args.before.now c.args.after.now) n) (sym c.in_ok-best.ensures) (totals-first g k c.args.before.now c.args.after.now n c.grid.result.now best) in
+    = subst (AreFirst (IsTotal g k c.args.before.now c.args.after.now) n) (sym c.in_ok-best.ensures) (totals-first g k c.args.before.now c.args.after.now n c.in_ok-grid.grid c.in_ok-grid.ensures) in
     subst (λ s. All (λ key. IsRuleList g s key.1) c.in_ok-best.best) (sym symbol) (all_listable g k ready free c.args.before.now c.args.after.now n c.in_ok-best.best first)
 
 pub returns : goal.returns
@@ -78,10 +69,8 @@ returns c =
     let ready = lifted_ready g c.args.input.now k c.requires.readable c.start-start.ensures.formed c.requires.units c.in_ok-input.ensures in
     let free : k.pin ≡ None = ap (λ (b : BarInput). b.pin) c.in_ok-input.ensures in
     let symbol : c.start-start.result ≡ k.symbol = c.start-start.ensures.value ∙ ap (λ (b : BarInput). b.symbol) (sym c.in_ok-input.ensures) in
-    let best = whole g k n c.resolution.result c.start-start.result c.grid.result.now c.resolution.ensures symbol
-    (answered g k n c.best_trees.new.memo.found.items (record { place = 0; width = c.resolution.result; symbol = c.start-start.result }) c.in_ok-number.number c.grid.result.now c.in_ok-number.ensures.answer c.grid.ensures) in
     let first : AreFirst (IsTotal g k c.args.before.now c.args.after.now) n c.in_ok-best.best
-    = subst (AreFirst (IsTotal g k c.args.before.now c.args.after.now) n) (sym c.in_ok-best.ensures) (totals-first g k c.args.before.now c.args.after.now n c.grid.result.now best) in
+    = subst (AreFirst (IsTotal g k c.args.before.now c.args.after.now) n) (sym c.in_ok-best.ensures) (totals-first g k c.args.before.now c.args.after.now n c.in_ok-grid.grid c.in_ok-grid.ensures) in
     IfOk-weaker c.listed.result _ _
     (λ list each. subst (λ b. AreBestTrees g b c.args.before.now c.args.after.now n list.items) c.in_ok-input.ensures
     (listed-best g k ready free c.args.before.now c.args.after.now n c.in_ok-best.best list.items first (subst (λ s. Each (IsListed g s) c.in_ok-best.best list.items) symbol each)))

@@ -1,7 +1,7 @@
 use Rattle.std.proofs.Common.{rules, ◌≡◌, ◌/◌, ◌%◌, ◌<◌, subst, sym, arith}
 use Rattle.std.specs.Prelude.{None}
 use Rattle.std.proofs.lemmas.List.{get_or_default}
-use Rattle.bar_alternatives.specs.Firsts.{AreAddable, AreKept}
+use Rattle.best_trees.specs.Firsts.{AreAddable, AreKept}
 use Rattle.bar_alternatives.proofs.WholeBars.{totals-all, totals-kept, totals-next}
 use Rattle.bar_alternatives.proofs.totals.best_totals.Goals as goal
 

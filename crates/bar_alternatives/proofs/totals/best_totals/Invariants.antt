@@ -1,5 +1,5 @@
 use Rattle.std.proofs.Common.{◌≡◌}
-use Rattle.bar_alternatives.specs.Firsts.{AreKept}
+use Rattle.best_trees.specs.Firsts.{AreKept}
 use Rattle.bar_alternatives.specs.Totals.{totals_below}
 use Rattle.bar_alternatives.proofs.totals.best_totals.Given as goal
 

@@ -1,22 +1,24 @@
-use Rattle.std.proofs.Common.{◌∷◌, ◌-◌, List, ℕ, IfErr, IfOk, length, take, drop, subst}
+use Rattle.std.proofs.Common.{◌∷◌, ◌-◌, List, ℕ, length, take, drop, subst}
 use Rattle.std.specs.List.{flat_map}
 use Rattle.std.specs.Prelude.{decimal}
-use Rattle.edit_script.specs.Sending.{Sent, SentPart}
-use Rattle.edit_script.proofs.SendingLemmas.{all_after, joined_list, part_after}
+use Rattle.edit_script.specs.Sending.{Sent, SentPart, Writes}
+use Rattle.edit_script.proofs.SendingLemmas.{SentPart-first, fails, joined_list, writes_after}
 use Rattle.edit_script.proofs.word.write_numbers.Goals as goal
 
-pub returns-in_ok-sent-in-len1-up-clause-all : goal.returns-in_ok-sent-in-len1-up-clause-all
-returns-in_ok-sent-in-len1-up-clause-all g c =
-    let Taken : List ℕ → Type 0 = λ t. IfOk c.write_later_numbers.result (λ k. Sent (g.K.Sink.taken c.args.sink.now) (g.K.Sink.taken c.write_later_numbers.new.sink) c.args.sent k t) in
-    let front = subst (λ n. Sent (g.K.Sink.taken c.args.sink.now) (g.K.Sink.taken c.write_word.new.sink) c.args.sent c.in_ok-sent-in-len1-up.sent (decimal n)) c.from.ensures c.in_ok-sent-in-len1-up.ensures.all in
-    subst Taken (joined_list 44 decimal c.args.numbers.now _ c.in-len1-up.len_at_least)
-    (all_after _ _ _ c.args.sent c.in_ok-sent-in-len1-up.sent _ (flat_map (λ y. 44 ∷ decimal y) (take (length c.args.numbers.now - 1) (drop 1 c.args.numbers.now)))
-    c.write_later_numbers.result front c.write_later_numbers.ensures.all)
+pub returns-in_err-write_word-in-len1-up-clause-written : goal.returns-in_err-write_word-in-len1-up-clause-written
+returns-in_err-write_word-in-len1-up-clause-written g c =
+    let P : List ℕ → Type 0 = λ t. Writes (g.K.Sink.taken c.args.sink.now) (g.K.Sink.taken c.write_word.new.sink) c.args.gathered.now c.write_word.new.gathered t c.from_residual.result in
+    let Q : ℕ → Type 0 = λ n. SentPart (g.K.Sink.taken c.args.sink.now) (g.K.Sink.taken c.write_word.new.sink) c.args.gathered.now c.in_err-write_word-in-len1-up.field-0.0.sent (decimal n) in
+    subst P (joined_list 44 decimal c.args.numbers.now _ c.in-len1-up.len_at_least)
+    (fails _ _ _ _ _ c.from_residual.result c.in_err-write_word-in-len1-up.field-0.0 (c.from_residual.ensures.0, c.from_residual.ensures.1)
+    (SentPart-first _ _ _ _ _ (flat_map (λ y. 44 ∷ decimal y) (take (length c.args.numbers.now - 1) (drop 1 c.args.numbers.now)))
+    (subst Q c.from.ensures c.in_err-write_word-in-len1-up.ensures.written)))
 
-pub returns-in_ok-sent-in-len1-up-clause-part : goal.returns-in_ok-sent-in-len1-up-clause-part
-returns-in_ok-sent-in-len1-up-clause-part g c =
-    let Cut : List ℕ → Type 0 = λ t. IfErr c.write_later_numbers.result (λ e. SentPart (g.K.Sink.taken c.args.sink.now) (g.K.Sink.taken c.write_later_numbers.new.sink) c.args.sent e.sent t) in
-    let front = subst (λ n. Sent (g.K.Sink.taken c.args.sink.now) (g.K.Sink.taken c.write_word.new.sink) c.args.sent c.in_ok-sent-in-len1-up.sent (decimal n)) c.from.ensures c.in_ok-sent-in-len1-up.ensures.all in
-    subst Cut (joined_list 44 decimal c.args.numbers.now _ c.in-len1-up.len_at_least)
-    (part_after _ _ _ c.args.sent c.in_ok-sent-in-len1-up.sent _ (flat_map (λ y. 44 ∷ decimal y) (take (length c.args.numbers.now - 1) (drop 1 c.args.numbers.now)))
-    c.write_later_numbers.result front c.write_later_numbers.ensures.part)
+pub returns-in_ok-write_word-in-len1-up-clause-written : goal.returns-in_ok-write_word-in-len1-up-clause-written
+returns-in_ok-write_word-in-len1-up-clause-written g c =
+    let P : List ℕ → Type 0 = λ t. Writes (g.K.Sink.taken c.args.sink.now) (g.K.Sink.taken c.write_later_numbers.new.sink) c.args.gathered.now c.write_later_numbers.new.gathered t
+    c.write_later_numbers.result in
+    let Q : ℕ → Type 0 = λ n. Sent (g.K.Sink.taken c.args.sink.now) (g.K.Sink.taken c.write_word.new.sink) c.args.gathered.now c.write_word.new.gathered (decimal n) in
+    subst P (joined_list 44 decimal c.args.numbers.now _ c.in-len1-up.len_at_least)
+    (writes_after _ _ _ _ _ _ _ (flat_map (λ y. 44 ∷ decimal y) (take (length c.args.numbers.now - 1) (drop 1 c.args.numbers.now))) c.write_later_numbers.result
+    (subst Q c.from.ensures c.in_ok-write_word-in-len1-up.ensures.written) c.write_later_numbers.ensures.written)

@@ -1,5 +1,8 @@
-use Rattle.std.proofs.Common.{rules, ◌≡◌, ◌<◌, ◌++◌, length, subst, sym, ap, take, ◌+◌, arith}
+use Rattle.std.proofs.Common.{rules, ◌≡◌, ◌<◌, ◌++◌, length, subst, sym, ap, take, ◌+◌, arith, Err}
+use Rattle.std.proofs.lemmas.Result.{err_from_is_err_and}
+use Rattle.rhythm_base.specs.Voices.{HasStarts}
 use Rattle.edit_session.specs.Inputs.{AreInputsOf}
+use Rattle.edit_session.proofs.Faults.{input_fault}
 use Rattle.edit_session.proofs.VoiceInputs.{inputs_more}
 use Rattle.edit_session.proofs.inputs.cell_inputs.Goals as goal
 
@@ -20,3 +23,9 @@ returns-clause-starts c =
     let some = c.requires.formed.some_voice in
     let same = ap length c.channels-channel-items.ensures in
     c.voices.invariant.starts (omega (arith, some, same, c.voices-test.false))
+
+pub returns-in_err-own-clause-fault : goal.returns-in_err-own-clause-fault
+returns-in_err-own-clause-fault c =
+    let p = err_from_is_err_and c.from_residual-in_err-own.result c.from_residual-in_err-own.ensures.1 in
+    rw (p.1, p.2) (input_fault c.args.grammar.now c.args.performance.now c.in_err-own.field-0.0 (subst (HasStarts c.args.grammar.now) c.bars.ensures.value c.in_ok-check_starts.ensures.starts)
+    (λ bar num den e. c.in_err-own.ensures.no_start bar num den (ap Err e)))

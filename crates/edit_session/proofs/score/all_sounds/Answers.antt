@@ -1,9 +1,9 @@
 use Rattle.std.proofs.Common.{rules, ◌≡◌, ◌<◌, ◌≤◌, ◌+◌, ◌++◌, ◌∷◌, [], ℕ, List, length, get_or, take, subst, sym, ap, ◌∙◌, arith}
 use Rattle.std.proofs.lemmas.List.{take_all}
 use Rattle.bar_pool.proofs.EachLemmas.{Each-more}
-use Rattle.kern_writer.specs.PerformanceScore.{AreLeastSounds}
+use Rattle.derivation.specs.PerformanceScore.{AreLeastSounds}
 use Rattle.rhythm_base.specs.Lists.{Each}
-use Rattle.kern_writer.proofs.Pairs.{each_length}
+use Rattle.derivation.proofs.Pairs.{each_length}
 use Rattle.edit_session.specs.Kept.{AreTablesOfVoice}
 use Rattle.edit_session.specs.VoiceTables.{HasPath, VoiceTables}
 use Rattle.edit_session.proofs.EachRuns.{Each-at}

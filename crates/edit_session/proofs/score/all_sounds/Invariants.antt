@@ -1,5 +1,5 @@
 use Rattle.std.specs.Prelude.{take}
-use Rattle.kern_writer.specs.PerformanceScore.{AreLeastSounds}
+use Rattle.derivation.specs.PerformanceScore.{AreLeastSounds}
 use Rattle.rhythm_base.specs.Lists.{Each}
 use Rattle.edit_session.proofs.score.all_sounds.Given as goal
 

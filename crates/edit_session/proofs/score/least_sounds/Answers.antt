@@ -1,40 +1,38 @@
-use Rattle.std.proofs.Common.{◌≡◌, [], subst, sym, ◌∙◌}
-use Rattle.derivation.specs.Sounds.{derivation_sounds}
-use Rattle.rhythm_base.specs.Leaves.{FitsVoice, soundings}
-use Rattle.rhythm_base.specs.Voices.{voice_bars_from}
+use Rattle.std.proofs.Common.{◌≡◌, ap, map, subst, sym, ◌∙◌}
+use Rattle.derivation.specs.Sounds.{derivation_sounds, plain_bars}
+use Rattle.rhythm_base.specs.Leaves.{soundings}
 use Rattle.rhythm_laws.specs.Voices.{IsVoice}
-use Rattle.edit_session.proofs.LeastSounds.{least_sounds, tables_in, unpinned_fits, unpinned_voice}
+use Rattle.edit_session.proofs.LeastSounds.{least_sounds, tables_in, told_too, unpinned_told, unpinned_voice}
 use Rattle.edit_session.proofs.score.least_sounds.Goals as goal
 use Rattle.edit_session.proofs.score.least_sounds.Goals.{After-as_slice-2}
 
 -- the bars that are handed over are those of the performance
-bars_are : (c : After-as_slice-2) → voice_bars_from c.args.grammar.now [] 0 c.last.result 0 c.bars.result.now ≡ voice_bars_from c.args.grammar.now [] 0 c.args.performance.now.last 0 c.args.performance.now.bars
-bars_are c = λ i. voice_bars_from c.args.grammar.now [] 0 (c.last.ensures i) 0 (c.bars.ensures.value i)
+bars_are : (c : After-as_slice-2) → plain_bars c.args.grammar.now c.last.result c.bars.result.now ≡ plain_bars c.args.grammar.now c.args.performance.now.last c.args.performance.now.bars
+bars_are c = λ i. plain_bars c.args.grammar.now (c.last.ensures i) (c.bars.ensures.value i)
 
-pub least_trees-requires-clause-tables : goal.least_trees-requires-clause-tables
-least_trees-requires-clause-tables c = tables_in c.args.grammar.now c.args.performance.now c.args.channel c.args.voice.now.tables c.requires.tables
+pub least_lists-requires-clause-tables : goal.least_lists-requires-clause-tables
+least_lists-requires-clause-tables c = (c.args.grammar.now, tables_in c.args.grammar.now c.args.performance.now c.args.channel c.args.voice.now.tables c.requires.tables)
 
 pub sounds_of-requires-clause-voice : goal.sounds_of-requires-clause-voice
 sounds_of-requires-clause-voice c =
     subst (λ bs. IsVoice c.args.grammar.now bs (soundings c.as_slice-2.result.now)) (sym (bars_are c))
-    (subst (λ cs. IsVoice c.args.grammar.now (voice_bars_from c.args.grammar.now [] 0 c.args.performance.now.last 0 c.args.performance.now.bars) (soundings cs)) (sym c.as_slice-2.ensures.value)
+    (subst (λ cs. IsVoice c.args.grammar.now (plain_bars c.args.grammar.now c.args.performance.now.last c.args.performance.now.bars) (soundings cs)) (sym c.as_slice-2.ensures.value)
     (unpinned_voice c.args.grammar.now c.args.performance.now c.args.channel c.args.voice.now.tables c.requires.tables c.requires.readable c.bars.ensures.formed c.in_ok-chords.chords.items c.in_ok-chords.ensures))
 
 pub sounds_of-requires-clause-fits : goal.sounds_of-requires-clause-fits
 sounds_of-requires-clause-fits c =
     let g = c.args.grammar.now in
     let p = c.args.performance.now in
-    let fits = unpinned_fits g p c.args.channel c.args.voice.now.tables c.requires.tables c.requires.readable c.bars.ensures.formed c.in_ok-chords.chords.items c.in_ok-chords.ensures c.in_ok-trees.trees.items c.in_ok-trees.ensures in
-    subst (λ bs. FitsVoice g bs (soundings c.as_slice-2.result.now) c.as_slice.result.now) (sym (bars_are c))
-    (subst (λ cs. FitsVoice g (voice_bars_from g [] 0 p.last 0 p.bars) (soundings cs) c.as_slice.result.now) (sym c.as_slice-2.ensures.value)
-    (subst (λ ts. FitsVoice g (voice_bars_from g [] 0 p.last 0 p.bars) (soundings c.in_ok-chords.chords.items) ts) (sym c.as_slice.ensures.value) fits))
+    let told = unpinned_told g p c.args.channel c.args.voice.now.tables c.requires.tables c.requires.readable c.bars.ensures.formed c.in_ok-chords.chords.items c.in_ok-chords.ensures
+    (map (λ l. l.now) c.in_ok-lists.lists.items) c.in_ok-lists.ensures in
+    (told.0, told_too g told.0 p.last _ p.bars _ c.in_ok-chords.chords.items _ _ _ c.last.ensures c.bars.ensures.value c.as_slice-2.ensures.value (ap (map (λ l. l.now)) c.as_slice.ensures.value) told.1)
 
 pub returns : goal.returns
 returns c =
     let g = c.args.grammar.now in
     let p = c.args.performance.now in
-    let is : c.of.result ≡ derivation_sounds g (voice_bars_from g [] 0 p.last 0 p.bars) c.in_ok-chords.chords.items c.in_ok-trees.trees.items =
-    c.of.ensures ∙ c.in_ok-sounds.ensures.sounds
-    ∙ (λ i. derivation_sounds g (voice_bars_from g [] 0 (c.last.ensures i) 0 (c.bars.ensures.value i)) (c.as_slice-2.ensures.value i) (c.as_slice.ensures.value i)) in
-    least_sounds g p c.args.channel c.args.voice.now.tables c.requires.tables c.requires.readable c.bars.ensures.formed c.in_ok-chords.chords.items c.in_ok-chords.ensures c.in_ok-trees.trees.items c.of.result
-    c.requires.starts c.in_ok-trees.ensures is
+    least_sounds g p c.args.channel c.args.voice.now.tables c.requires.tables c.requires.readable c.bars.ensures.formed c.in_ok-chords.chords.items c.in_ok-chords.ensures
+    (map (λ l. l.now) c.in_ok-lists.lists.items) c.of.result c.requires.starts c.in_ok-lists.ensures
+    (λ trees told. c.of.ensures
+    ∙ c.in_ok-sounds.ensures.sounds trees (told_too g trees p.last _ p.bars _ c.in_ok-chords.chords.items _ _ _ c.last.ensures c.bars.ensures.value c.as_slice-2.ensures.value (ap (map (λ l. l.now)) c.as_slice.ensures.value) told)
+    ∙ (λ i. derivation_sounds g (plain_bars g (c.last.ensures i) (c.bars.ensures.value i)) (c.as_slice-2.ensures.value i) trees))

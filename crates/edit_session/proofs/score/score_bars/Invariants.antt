@@ -1,5 +1,5 @@
 use Rattle.std.specs.Prelude.{◌≡◌, map, take}
-use Rattle.kern_writer.specs.PerformanceScore.{score_bar}
+use Rattle.derivation.specs.PerformanceScore.{score_bar}
 use Rattle.edit_session.proofs.score.score_bars.Given as goal
 
 abbrev pub invariant-bars : goal.invariant-bars

@@ -4,7 +4,7 @@ use Rattle.std.proofs.lemmas.List.Edits.{map_over_more}
 use Rattle.rhythm_base.specs.Lists.{Each}
 use Rattle.kern_writer.specs.Ahead.{AreTokensAhead, later_sounds}
 use Rattle.kern_writer.specs.Tokens.{Token}
-use Rattle.kern_writer.proofs.Pairs.{each_more}
+use Rattle.derivation.proofs.Pairs.{each_more}
 use Rattle.kern_writer.proofs.ahead.next_columns.Goals as goal
 
 -- in a list that is changed from the front on, the next element is as it was

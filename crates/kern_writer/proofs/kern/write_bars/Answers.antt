@@ -5,10 +5,10 @@ use Rattle.std.proofs.lemmas.List.Elements.{All-drop, All-weaker}
 use Rattle.rhythm_base.specs.declared.sound.Sound.{Sound}
 use Rattle.rhythm_base.specs.Lists.{Each}
 use Rattle.derivation.specs.WellSounded.{AreWellSounded, StandInBars}
-use Rattle.kern_writer.specs.declared.score.ScoreBar.{ScoreBar}
+use Rattle.derivation.specs.declared.score.ScoreBar.{ScoreBar}
 use Rattle.kern_writer.specs.Ahead.{AreTokensAhead, FillBar, later_sounds}
 use Rattle.kern_writer.specs.Records.{AreBarRecords, Record}
-use Rattle.kern_writer.specs.Score.{IsScoreBar}
+use Rattle.derivation.specs.Score.{IsScoreBar}
 use Rattle.kern_writer.specs.Tokens.{Token}
 use Rattle.kern_writer.proofs.AllRecords.{AreRecordsAhead, ahead_are, ahead_end, ahead_exist, ahead_next, stand_each}
 use Rattle.kern_writer.proofs.BarSounds.{stand_fill, stand_later}

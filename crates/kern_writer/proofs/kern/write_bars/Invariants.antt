@@ -2,7 +2,7 @@ use Rattle.std.proofs.Common.{◌++◌, None, List, length, drop}
 use Rattle.std.specs.Prelude.{All, IfSome}
 use Rattle.derivation.specs.WellSounded.{StandInBars}
 use Rattle.kern_writer.specs.Records.{Record}
-use Rattle.kern_writer.specs.Score.{IsScoreBar}
+use Rattle.derivation.specs.Score.{IsScoreBar}
 use Rattle.kern_writer.specs.Writing.{HasWritten}
 use Rattle.kern_writer.proofs.AllRecords.{AreRecordsAhead}
 use Rattle.kern_writer.proofs.kern.write_bars.Given as goal

@@ -1,8 +1,8 @@
 use Rattle.std.proofs.Common.{◌≡◌, ℕ, List, ◌∙◌, subst}
 use Rattle.rhythm_base.specs.declared.sound.Sound.{Sound}
-use Rattle.kern_writer.specs.declared.score.ScoreBar.{ScoreBar}
+use Rattle.derivation.specs.declared.score.ScoreBar.{ScoreBar}
 use Rattle.kern_writer.specs.Records.{AreRecords}
-use Rattle.kern_writer.specs.Score.{Score}
+use Rattle.derivation.specs.Score.{Score}
 use Rattle.kern_writer.specs.Text.{IsTooLong}
 use Rattle.kern_writer.specs.Writing.{EndsPast}
 use Rattle.kern_writer.proofs.Writing.{fault_is, too_long}

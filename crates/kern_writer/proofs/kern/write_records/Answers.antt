@@ -2,7 +2,7 @@ use Rattle.std.proofs.Common.{◌≡◌, ℕ, List, [], ◌∷◌, ◌++◌, len
 use Rattle.std.proofs.lemmas.List.{append_assoc}
 use Rattle.std.specs.Prelude.{codes}
 use Rattle.kern_writer.specs.Records.{Record, alike, head, tail}
-use Rattle.kern_writer.specs.Score.{Score}
+use Rattle.derivation.specs.Score.{Score}
 use Rattle.kern_writer.specs.Writing.{HasWritten, Writes}
 use Rattle.kern_writer.proofs.AllRecords.{bars_exist, score_records}
 use Rattle.kern_writer.proofs.Writing.{fault_handed, nothing_written, past_among, writes_after, written_after}

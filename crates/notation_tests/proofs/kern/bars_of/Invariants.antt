@@ -1,5 +1,5 @@
 use Rattle.std.specs.Prelude.{All}
-use Rattle.kern_writer.specs.Score.{IsScoreBar}
+use Rattle.derivation.specs.Score.{IsScoreBar}
 use Rattle.notation_tests.proofs.kern.bars_of.Given as goal
 
 abbrev pub invariant-heads : goal.invariant-heads

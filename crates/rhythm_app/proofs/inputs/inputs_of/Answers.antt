@@ -1,6 +1,6 @@
 use Rattle.std.proofs.Common.{◌∙◌}
-use Rattle.rhythm_app.specs.Asked.{file_content}
-use Rattle.rhythm_app.proofs.Transcribing.{inputs_cause, unloaded_follows}
+use Rattle.rhythm_app.specs.Commands.{file_content}
+use Rattle.rhythm_app.proofs.Sessions.{inputs_cause, unloaded_follows}
 use Rattle.rhythm_app.proofs.inputs.inputs_of.Goals as goal
 
 pub returns-clause-tests : goal.returns-clause-tests

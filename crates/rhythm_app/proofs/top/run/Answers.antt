@@ -1,27 +1,68 @@
-use Rattle.std.proofs.Common.{sym, subst, ℕ}
-use Rattle.rhythm_app.specs.Ends.{HasStatus, IsComplete}
-use Rattle.rhythm_ports.specs.Causes.{Rose}
-use Rattle.rhythm_app.proofs.Statuses.{answered_status, ready_complete, stop_complete, stop_status}
+use Rattle.std.proofs.Common.{refl, subst, sym}
+use Rattle.rhythm_app.specs.Asked.{asked_by}
+use Rattle.rhythm_app.specs.Ends.{HasStatus}
+use Rattle.rhythm_app.specs.Lent.{Lent}
+use Rattle.rhythm_app.proofs.Statuses.{answered_status, ready_complete, stop_completes, stop_status}
+use Rattle.rhythm_app.proofs.Telling.{stop_told, told_of}
 use Rattle.rhythm_app.proofs.top.run.Goals as goal
 
 pub returns-in-Ok-clause-status : goal.returns-in-Ok-clause-status
 returns-in-Ok-clause-status g c = λ files are.
-    answered_status c.args.words.now files (g.S.Source.rest c.args.script.now) (g.S.Source.rest c.perform_words.new.script) (g.O.Sink.taken c.args.out.now) (g.O.Sink.taken c.perform_words.new.out)
-    c.args.builds.now c.perform_words.new.builds (c.in-Ok.ensures.done files are)
+    answered_status c.args.words.now files c.args.lent.now c.perform_words.new.lent (c.in-Ok.ensures.performed.done files are)
 
 pub returns-in-Ok-clause-complete : goal.returns-in-Ok-clause-complete
-returns-in-Ok-clause-complete g c = λ files are.
-    ready_complete c.args.words.now files (Rose (g.F.Shelf.faults c.args.shelf.now) (g.F.Shelf.faults c.perform_words.new.shelf))
-    (Rose (g.S.Source.faults c.args.script.now) (g.S.Source.faults c.perform_words.new.script)) (Rose (g.O.Sink.faults c.args.out.now) (g.O.Sink.faults c.perform_words.new.out))
+returns-in-Ok-clause-complete g c = λ files are. ready_complete c.args.words.now files c.args.lent.now c.perform_words.new.lent
 
 pub returns-in-Err-clause-status : goal.returns-in-Err-clause-status
 returns-in-Err-clause-status g c = λ files are.
-    subst (HasStatus c.args.words.now files) (sym c.status.ensures) (stop_status c.args.words.now files c.in-Err.stop (c.in-Err.ensures.cause files are))
+    subst (HasStatus c.args.words.now files) (sym c.status.ensures) (stop_status c.args.words.now files c.in-Err.stop (c.in-Err.ensures.performed.stopped.cause files are))
+
+pub returns-in-Err-clause-stop : goal.returns-in-Err-clause-stop
+returns-in-Err-clause-stop g c = λ _.
+    let inside = c.lent.inside in
+    let seen : Lent g.row.S.Denot g.row.O.Denot g.row.E.Denot = record {
+      files = g.F.Shelf.files inside.shelf;
+      strays = g.F.Shelf.strays inside.shelf;
+      shelf_faults = g.F.Shelf.faults inside.shelf;
+      script = inside.script;
+      rest = g.S.Source.rest inside.script;
+      script_faults = g.S.Source.faults inside.script;
+      out = inside.out;
+      taken = g.O.Sink.taken inside.out;
+      out_faults = g.O.Sink.faults inside.out;
+      err = inside.err;
+      told = g.E.Sink.taken inside.err;
+      err_faults = g.E.Sink.faults inside.err;
+      built = inside.builds;
+      multiplied = inside.products;
+    } in
+    let now = record seen { err = c.tell.new.sink; told = g.E.Sink.taken c.tell.new.sink; err_faults = g.E.Sink.faults c.tell.new.sink } in
+    let performed = c.in-Err.ensures.performed in (
+      c.in-Err.stop,
+      sym c.status.ensures,
+      stop_told (asked_by c.args.words.now) c.args.lent.now seen c.perform_words.new.lent now c.lent.view_is refl c.in-Err.stop performed.stopped,
+      told_of c.args.lent.now c.perform_words.new.lent seen now c.in-Err.stop c.lent.view_is performed.err c.tell.ensures,
+    )
 
 pub returns-in-Err-clause-complete : goal.returns-in-Err-clause-complete
-returns-in-Err-clause-complete g c = λ files are.
-    let F : Type 0 = Rose (g.F.Shelf.faults c.args.shelf.now) (g.F.Shelf.faults c.perform_words.new.shelf) in
-    let S : Type 0 = Rose (g.S.Source.faults c.args.script.now) (g.S.Source.faults c.perform_words.new.script) in
-    let O : Type 0 = Rose (g.O.Sink.faults c.args.out.now) (g.O.Sink.faults c.perform_words.new.out) in
-    subst (λ (status : ℕ). IsComplete c.args.words.now files (F → ⊥) (S → ⊥) (O → ⊥) status) (sym c.status.ensures)
-    (stop_complete c.args.words.now files F S O c.in-Err.stop (c.in-Err.ensures.cause files are) c.in-Err.ensures.risen)
+returns-in-Err-clause-complete g c =
+    let inside = c.lent.inside in
+    let seen : Lent g.row.S.Denot g.row.O.Denot g.row.E.Denot = record {
+      files = g.F.Shelf.files inside.shelf;
+      strays = g.F.Shelf.strays inside.shelf;
+      shelf_faults = g.F.Shelf.faults inside.shelf;
+      script = inside.script;
+      rest = g.S.Source.rest inside.script;
+      script_faults = g.S.Source.faults inside.script;
+      out = inside.out;
+      taken = g.O.Sink.taken inside.out;
+      out_faults = g.O.Sink.faults inside.out;
+      err = inside.err;
+      told = g.E.Sink.taken inside.err;
+      err_faults = g.E.Sink.faults inside.err;
+      built = inside.builds;
+      multiplied = inside.products;
+    } in
+    let now = record seen { err = c.tell.new.sink; told = g.E.Sink.taken c.tell.new.sink; err_faults = g.E.Sink.faults c.tell.new.sink } in
+    let stopped = stop_told (asked_by c.args.words.now) c.args.lent.now seen c.perform_words.new.lent now c.lent.view_is refl c.in-Err.stop c.in-Err.ensures.performed.stopped in
+    stop_completes c.args.words.now c.args.lent.now now c.in-Err.stop c.status.result c.status.ensures stopped

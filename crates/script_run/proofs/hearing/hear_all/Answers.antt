@@ -17,6 +17,7 @@ bytes-preserved g c =
       ),
       c.hear.ensures.grammar ∙ c.bytes.invariant.1,
       omega (arith, c.bytes.invariant.2, c.hear.ensures.later),
+      omega (arith, c.bytes.invariant.3, c.hear.ensures.products),
     )
 
 pub returns-in-Ok-true-clause-end : goal.returns-in-Ok-true-clause-end

@@ -1,15 +1,16 @@
-use Rattle.std.proofs.Common.{inr, refl}
-use Rattle.script_run.proofs.Replies.{made_answers, refused_answers}
+use Rattle.script_run.proofs.Replies.{edit_answers, edit_builds, edit_lacks_memory}
 use Rattle.script_run.proofs.reply.reply_to_edit.Goals as goal
 
-pub returns-in-Ok-clause-answer : goal.returns-in-Ok-clause-answer
-returns-in-Ok-clause-answer g c =
-    made_answers c.args.session.now.grammar c.args.session.now.performance c.args.edit.now c.in-Ok.applied.built c.in-Ok.applied.cost c.apply.new.self.performance c.in-Ok.ensures.made
+pub returns-clause-answer : goal.returns-clause-answer
+returns-clause-answer g c =
+    edit_answers c.args.session.now.grammar c.args.session.now.performance c.args.edit.now c.apply.result c.edit_reply.result c.apply.new.self.performance c.edit_reply.ensures
+    c.apply.ensures.made c.apply.ensures.refused c.apply.ensures.unchanged
 
-pub returns-in-Err-clause-answer : goal.returns-in-Err-clause-answer
-returns-in-Err-clause-answer g c =
-    refused_answers c.args.session.now.grammar c.args.session.now.performance c.args.edit.now c.in-Err.fault c.apply.new.self.performance
-    (λ other. c.in-Err.ensures.refused c.in-Err.fault refl other) c.in-Err.ensures.unchanged
+pub returns-clause-memory : goal.returns-clause-memory
+returns-clause-memory g c =
+    edit_lacks_memory c.args.session.now.grammar c.args.session.now.performance c.args.edit.now c.apply.result c.edit_reply.result c.edit_reply.ensures c.apply.ensures.memory
 
-pub returns-in-Err-clause-built : goal.returns-in-Err-clause-built
-returns-in-Err-clause-built g c = let most = c.in-Err.ensures.most in (most.0, inr ((c.in-Err.fault, refl), most.2), most.1)
+pub returns-clause-built : goal.returns-clause-built
+returns-clause-built g c =
+    edit_builds c.args.session.now.grammar c.args.session.now.performance c.args.edit.now c.apply.result c.edit_reply.result c.args.builds.now c.apply.new.builds c.edit_reply.ensures
+    c.apply.ensures.builds c.apply.ensures.most

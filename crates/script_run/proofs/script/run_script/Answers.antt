@@ -77,6 +77,7 @@ pieces-preserved g c =
       ),
       omega (arith, c.pieces.invariant.1, c.read.ensures.cause.later),
       omega (arith, c.pieces.invariant.2, c.hear_all.ensures.later),
+      omega (arith, c.pieces.invariant.3, c.hear_all.ensures.products),
     )
 
 pub pieces-smaller : goal.pieces-smaller

@@ -13,6 +13,7 @@ edits-init g c =
       record { bars = c.requires.two_bars; last = c.requires.last; dropped = 0; few_dropped = omega arith; notes = omega (arith, c.requires.some_notes) },
       omega (arith, c.requires.accepted),
       omega (arith, c.requires.built),
+      omega arith,
     )
 
 pub edits-preserved : goal.edits-preserved
@@ -31,4 +32,5 @@ edits-preserved g c =
       keeps_enough c.edits.index old.session.performance new.session.performance inv.3 kept,
       c.in_ok-step.ensures.accepted,
       c.in_ok-step.ensures.built,
+      omega (arith, inv.6, c.step.ensures.products),
     )

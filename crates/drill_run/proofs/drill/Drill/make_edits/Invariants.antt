@@ -12,3 +12,4 @@ invariant-edits g l =
     × HasEnough l.index l.self.session.performance
     × (l.self.accepted ≤ l.index)
     × (l.self.built ≤ 65536 * l.index)
+    × (l.initial.products ≤ l.products)

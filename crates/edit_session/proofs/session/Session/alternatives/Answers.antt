@@ -1,4 +1,5 @@
 use Rattle.std.proofs.Common.{◌≡◌, ◌==◌, None, Some, ap, arith, length, subst, sym, ◌∙◌}
+use Rattle.std.proofs.lemmas.Result.{err_from_is_err_and}
 use Rattle.std.specs.List.{position}
 use Rattle.rhythm_base.specs.declared.edit_fault.EditFault.TheVariants.{NoBar, NoVoice}
 use Rattle.rhythm_base.specs.Edits.{cell_tests, first_refusal}
@@ -22,6 +23,14 @@ returns-then-number-bars-clause-fault g c =
     let found = place_found c.self.inside.grammar c.self.inside.performance c.self.inside.room c.self.inside.voices.items c.self.invariant.each c.args.channel c.in-Some.place c.channels.result.now c.channels.ensures c.in-Some.ensures in
     subst (λ (s : Session). first_refusal (cell_tests s.performance c.args.channel c.args.bar) ≡ Some (NoBar c.args.bar)) c.self.view_is
     (no_bar c.self.inside.performance c.args.channel c.args.bar c.in-Some.place found (omega (arith, c.if-number-bars.true, ap length c.bars.ensures.value)))
+
+pub returns-in_err-list-clause-fault : goal.returns-in_err-list-clause-fault
+returns-in_err-list-clause-fault g c =
+    let found = place_found c.self.inside.grammar c.self.inside.performance c.self.inside.room c.self.inside.voices.items c.self.invariant.each c.args.channel c.in-Some.place c.channels.result.now c.channels.ensures c.in-Some.ensures in
+    let there = subst (λ (s : Session). first_refusal (cell_tests s.performance c.args.channel c.args.bar) ≡ None) c.self.view_is
+    (no_refusal c.self.inside.performance c.args.channel c.args.bar c.in-Some.place found (omega (arith, c.if-number-bars.false, ap length c.bars.ensures.value))) in
+    let p = err_from_is_err_and c.from_residual.result c.from_residual.ensures.1 in
+    rw (p.1, p.2) there
 
 pub returns-clause-there : goal.returns-clause-there
 returns-clause-there g c =

@@ -1,6 +1,8 @@
 use Rattle.std.proofs.Common.{◌≡◌, ◌≤◌, ◌<◌, ◌*◌, ◌^◌, ◌++◌, ℕ, List, length, get_or, take, drop, sym, ap, ◌∙◌, subst, arith}
 use Rattle.std.specs.Prelude.{All, sum_by, vec_capacity}
+use Rattle.std.proofs.lemmas.List.Elements.{All-contains}
 use Rattle.std.proofs.lemmas.Option.{slice_get_within}
+use Rattle.rhythm_laws.proofs.OneAnswers.{dead_has_none}
 use Rattle.rhythm_base.specs.Counter.{risen}
 use Rattle.rhythm_base.specs.Performance.{Performance}
 use Rattle.rhythm_base.specs.Voices.{HasDerivation, IsCostOf, IsDeadVoice}
@@ -10,7 +12,7 @@ use Rattle.edit_session.specs.Prepared.{Prepared, Suits}
 use Rattle.edit_session.specs.Session.{Session}
 use Rattle.edit_session.specs.VoiceTables.{HasPath, IsFirstDead, VoiceTables, voice_cost}
 use Rattle.edit_session.proofs.Commits.{all_cheap, all_long, all_rooms, dead_after, exchanged_for, place_back, place_for_next, session_back, session_next, suits_kept, suits_next}
-use Rattle.kern_writer.proofs.Pairs.{each_length}
+use Rattle.derivation.proofs.Pairs.{each_length}
 use Rattle.edit_session.proofs.GrownVoices.{written_back}
 use Rattle.edit_session.proofs.PathCosts.{costs_fit}
 use Rattle.edit_session.proofs.Voices.{all_costs, all_derivations, all_tables}
@@ -138,6 +140,27 @@ returns-in-Some-clause-dead g c =
     subst (λ (cs : List ℕ). IsDeadVoice c.args.self.now.grammar c.args.prepared.next (get_or cs k 0) c.in-Some.dead.bar) (sym c.channels-in-Some-2.ensures)
     (subst (λ (p : Performance). IsDeadVoice c.args.self.now.grammar p (get_or next.channels k 0) c.in-Some.dead.bar) c.parts-next.ensures.next
     (subst (λ (s : Session). IsDeadVoice s.grammar next (get_or next.channels k 0) c.in-Some.dead.bar) c.self.view_is dead))
+
+pub returns-in-Some-clause-lives : goal.returns-in-Some-clause-lives
+returns-in-Some-clause-lives g c =
+    let facts = exchanged_for c.self.inside.grammar c.self.inside.performance c.self.inside.workers c.self.inside.room c.self.inside.voices.items c.args.self.now c.args.prepared c.parts-next.result.0
+    c.parts-next.result.1.items (vec_capacity c.parts-next.result.2) c.self.invariant c.self.view_is c.parts-next.ensures.next c.parts-next.ensures.tables c.parts-next.ensures.place c.requires.suits
+    c.bars-bars.ensures.formed c.as_mut_slice-voices.result.now c.exchange-exchanged.new.voices c.channels.result.now (length c.bars-bars.result.now) c.exchange-exchanged.result.tables.items
+    (vec_capacity c.exchange-exchanged.result.place) c.as_mut_slice-voices.ensures.value c.channels.ensures (ap length c.bars-bars.ensures.value) c.exchange-exchanged.ensures.exchanged
+    c.exchange-exchanged.ensures.voices c.exchange-exchanged.ensures.room in
+    let written = written_back c.self.inside.voices.len c.self.inside.voices.items c.exchange-exchanged.new.voices
+    (omega (arith, c.as_mut_slice-voices.ensures.len, ap length c.as_mut_slice-voices.ensures.value)) facts.long in
+    let kept = c.self.inside in
+    let next : Performance = c.parts-next.result.0 in
+    let k : ℕ = c.in-Some.dead.voice in
+    let first : IsFirstDead c.exchange-exchanged.new.voices k c.in-Some.dead.bar = subst (λ vs. IsFirstDead vs k c.in-Some.dead.bar) (c.as_slice.ensures.value ∙ written) c.in-Some.ensures.dead in
+    let dead = dead_after kept.grammar kept.performance next kept.workers kept.room kept.voices.items c.exchange-exchanged.new.voices c.exchange-exchanged.result.tables.items
+    (vec_capacity c.exchange-exchanged.result.place) c.self.invariant facts k c.in-Some.dead.bar 0 first in
+    λ derivations.
+    let inside = subst (λ (s : Session). All (HasDerivation s.grammar c.args.prepared.next) c.args.prepared.next.channels) (sym c.self.view_is) derivations in
+    let of_next : All (HasDerivation kept.grammar next) next.channels = subst (λ (p : Performance). All (HasDerivation kept.grammar p) p.channels) (sym c.parts-next.ensures.next) inside in
+    dead_has_none kept.grammar next c.self.invariant.readable.ranges.some_unit c.bars-bars.ensures.formed (get_or next.channels k 0) c.in-Some.dead.bar dead
+    (All-contains (HasDerivation kept.grammar next) next.channels (get_or next.channels k 0) of_next dead.voice)
 
 pub invariant_of-self : goal.invariant_of-self
 invariant_of-self g c =

@@ -1,6 +1,6 @@
 use Rattle.std.proofs.Common.{subst, sym}
 use Rattle.std.specs.Prelude.{All}
-use Rattle.kern_writer.proofs.OneScore.{scores_one}
+use Rattle.derivation.proofs.OneScore.{scores_one}
 use Rattle.rhythm_base.specs.Lists.{Each}
 use Rattle.edit_session.specs.Kept.{AreTablesOfVoice}
 use Rattle.edit_session.specs.VoiceTables.{HasPath, VoiceTables}

@@ -1,0 +1,143 @@
+ghost use Rattle.std.specs.Prelude.{None};
+
+use crate::case::{Ports, run_over, words_of};
+use crate::given::shelf_of;
+use crate::grammars::USUAL;
+use crate::midi::FOUR_QUARTERS;
+use crate::scores::TWO_VOICES_SCORE;
+use rhythm_base::Words;
+use rhythm_ports::{Failed, MemShelf, MemSink, MemSource, OpenGate, Shelf};
+use std::alloc::{AllocError, Global};
+use std::test::Fail;
+use std::thread::Threads;
+
+/// Files that can be read once, as pipes are, with the names that were opened. A second open of a name fails.
+#[derive(Drop)]
+struct Pipes {
+    files: MemShelf,
+    opened: Words,
+    faults: u64,
+}
+
+/// Whether the word is one of the words.
+fn has_word(words: &Words, word: &str) -> bool {
+    'words: for at in 0..words.count() {
+        if words.get(at) == Some(word) {
+            return true;
+        }
+    }
+    false
+}
+
+impl Shelf for Pipes {
+    ghost files = { λ _. None };
+
+    ghost rest = { λ _. None };
+
+    ghost faults = { λ s. s.faults };
+
+    ghost strays = { λ _. 0 };
+
+    fn open(&mut self, name: &str) -> Result<(), Failed> {
+        let again = has_word(&self.opened, name);
+        let noted = self.opened.push(name);
+        if again || noted.is_err() || self.files.open(name).is_err() {
+            self.faults = self.faults.saturating_add(1);
+            return Err(Failed);
+        }
+        Ok(())
+    }
+
+    fn read(&mut self, buf: &mut [u8]) -> Result<usize, Failed> {
+        let result = self.files.read(buf);
+        if result.is_err() {
+            self.faults = self.faults.saturating_add(1);
+        }
+        result
+    }
+
+    fn close(&mut self) {
+        self.files.close();
+    }
+}
+
+/// Whether the words are these.
+fn are_words(words: &Words, wanted: &[&str]) -> bool {
+    'wanted: for at in 0..wanted.len() {
+        if words.get(at) != Some(wanted[at]) {
+            return false;
+        }
+    }
+    words.count() == wanted.len()
+}
+
+/// Whether exactly these names are opened, in this order and each once, and the run ends with the status.
+fn opens<R: Threads + Sync>(
+    rt: &R,
+    alloc: Global,
+    words: &[&str],
+    status: u8,
+    names: &[&str],
+) -> Result<bool, AllocError> {
+    let words = words_of(alloc, words)?;
+    let files = [
+        ("a.mid", FOUR_QUARTERS),
+        ("a.grammar", USUAL),
+        ("a.krn", TWO_VOICES_SCORE),
+    ];
+    let mut shelf = Pipes {
+        files: shelf_of(alloc, 10, Vec::new(alloc), &files)?,
+        opened: Words::new(alloc),
+        faults: 0,
+    };
+    let ports = Ports {
+        shelf: &mut shelf,
+        script: &mut MemSource::new(
+            Vec::from_slice(alloc, b"addbar\nscore\n")?,
+            4,
+            Vec::new(alloc),
+        ),
+        out: &mut MemSink::new(alloc, 4096, Vec::new(alloc)),
+        err: &mut MemSink::new(alloc, 4096, Vec::new(alloc)),
+    };
+    let ran = run_over(rt, alloc, &words, ports, &OpenGate);
+    Ok(ran.status == status && are_words(&shelf.opened, names))
+}
+
+/// Words, the status, and the names that are opened.
+const OPENS: &[(&[&str], u8, &[&str])] = &[
+    (
+        &["transcribe", "a.mid", "a.grammar"],
+        0,
+        &["a.mid", "a.grammar"],
+    ),
+    (
+        &["edit", "a.mid", "a.grammar", "--workers", "2"],
+        0,
+        &["a.mid", "a.grammar"],
+    ),
+    (&["events", "a.krn"], 0, &["a.krn"]),
+    (&["drill", "7", "a.grammar"], 0, &["a.grammar"]),
+    (&["generate", "7", "1"], 0, &[]),
+    (&["--help"], 0, &[]),
+    (&["--version"], 0, &[]),
+    (&["transcribe", "a.mid"], 1, &[]),
+    (&["transcribe", "a.krn", "a.grammar"], 2, &["a.krn"]),
+    (&["transcribe", "a.mid", "a.krn"], 2, &["a.mid", "a.krn"]),
+    (&["transcribe", "b.mid", "a.grammar"], 5, &["b.mid"]),
+    (&["edit", "a.mid", "b.grammar"], 5, &["a.mid", "b.grammar"]),
+    // one pipe for both is at its end when it is opened again
+    (&["transcribe", "a.mid", "a.mid"], 5, &["a.mid", "a.mid"]),
+];
+
+#[test]
+fn each_file_is_opened_once(rt: HostRuntime) -> Result<(), Fail> {
+    for (words, status, names) in OPENS {
+        let last = words[words.len() - 1];
+        assert!(rt;
+            opens(&rt, rt.alloc(), words, *status, names)?,
+            "words that end with {last}"
+        );
+    }
+    Ok(())
+}

@@ -1,5 +1,0 @@
-use Rattle.std.proofs.Common.{length}
-use Rattle.bar_alternatives.proofs.ranking.+order_of_lists.Given as goal
-
-abbrev pub decreases-order_of_lists : goal.decreases-order_of_lists
-decreases-order_of_lists l = length l.first.now

@@ -1,5 +1,0 @@
-use Rattle.std.proofs.Common.{length}
-use Rattle.bar_alternatives.proofs.ranking.+order_of_pieces.Given as goal
-
-abbrev pub decreases-order_of_pieces : goal.decreases-order_of_pieces
-decreases-order_of_pieces l = length l.top.now

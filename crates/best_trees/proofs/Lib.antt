@@ -1,0 +1,15 @@
+pub mod Crowds
+pub mod Families
+pub mod FirstTrees
+pub mod Firsts
+pub mod Grids
+pub mod LeafFits
+pub mod LeafOffers
+pub mod Offers
+pub mod Outlines
+pub mod Parts
+pub mod Rules
+pub mod Searches
+pub mod Steps
+pub mod SuitedRules
+pub mod Writing

@@ -1,0 +1,9 @@
+pub mod BarTrees
+pub mod Firsts
+pub mod Grids
+pub mod Memos
+pub mod Nodes
+pub mod Pieces
+pub mod Pins
+pub mod Searches
+pub mod Suited

@@ -1,0 +1,7 @@
+-- The parts of a cut as the code holds them.
+use Rattle.std.specs.Prelude.{ℕ}
+use Rattle.best_trees.specs.declared.cut.Piece.{Piece}
+
+-- a part as its width and its symbol
+abbrev pub pair_of : Piece → ℕ × ℕ
+pair_of p = (p.width, p.symbol)

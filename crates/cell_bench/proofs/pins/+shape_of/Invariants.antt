@@ -1,0 +1,4 @@
+use Rattle.cell_bench.proofs.pins.+shape_of.Given as goal
+
+abbrev pub decreases-shape_of : goal.decreases-shape_of
+decreases-shape_of l = l.leaves

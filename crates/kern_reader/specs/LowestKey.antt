@@ -1,0 +1,12 @@
+-- The lowest key of events.
+use Rattle.std.specs.Prelude.{◌≡◌, ℕ, ◌<◌, ◌≤◌}
+use Rattle.std.specs.Int.{bit_at}
+
+-- no key of the set is below this one
+pub record IsFloor (low keys : ℕ) : Type 0 where
+  pub few : low ≤ 128
+  pub none : (k : ℕ) → k < low → bit_at keys k ≡ 0
+
+-- a key that is not in the first set is not in the second
+abbrev pub AreKeysOf : ℕ → ℕ → Type 0
+AreKeysOf all keys = (k : ℕ) → bit_at all k ≡ 0 → bit_at keys k ≡ 0

@@ -1,6 +1,0 @@
-use Rattle.std.proofs.Common.{◌≡◌, map, take}
-use Rattle.pinned_trees.specs.Pieces.{pair_of}
-use Rattle.pinned_trees.proofs.cut.equal_pieces.Given as goal
-
-abbrev pub invariant-loop-symbol : goal.invariant-loop-symbol
-invariant-loop-symbol l = map pair_of l.pieces.items ≡ map (λ s. (l.share, s)) (take l.symbol-index l.symbols)

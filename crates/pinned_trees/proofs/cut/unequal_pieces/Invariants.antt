@@ -1,6 +1,0 @@
-use Rattle.std.proofs.Common.{◌≡◌, ◌*◌, map, take}
-use Rattle.pinned_trees.specs.Pieces.{pair_of}
-use Rattle.pinned_trees.proofs.cut.unequal_pieces.Given as goal
-
-abbrev pub invariant-loop-part : goal.invariant-loop-part
-invariant-loop-part l = map pair_of l.pieces.items ≡ map (λ q. (q.0 * l.share, q.1)) (take l.part-index l.parts)

@@ -1,0 +1,31 @@
+-- What a request comes to is what the words come to.
+use Rattle.std.proofs.Common.{◌≡◌, subst, sym, ◌∙◌, Option, Some, None, Result, Err}
+use Rattle.rhythm_app.specs.Asked.{Asked}
+use Rattle.rhythm_app.specs.Commands.{cells_of_asked}
+use Rattle.rhythm_app.specs.Ends.{IsPerformed}
+use Rattle.rhythm_app.specs.Lent.{Lent}
+use Rattle.rhythm_app.specs.declared.stop.Stop.{Stop}
+use Rattle.rhythm_app.specs.declared.stop.Stop.TheVariants as stop
+use Rattle.std.proofs.Common.{refl, inl, ◌≤◌, ap, arith}
+use Rattle.rhythm_app.proofs.Asking.{nothing_built, unread_built}
+
+some_is_none : (a : Asked) → ◌≡◌ {A = Option Asked} (Some a) None → ⊥
+some_is_none a e = cc
+
+module _ {S O E T : Type 0} (old new : Lent S O E) (r : Result T Stop) where
+  pub performed_as : (asked said : Option Asked) → asked ≡ said → IsPerformed asked old new r → IsPerformed said old new r
+  performed_as asked said same h = subst (λ (a : Option Asked). IsPerformed a old new r) same h
+
+  -- where something is asked for the words are a command
+  pub usage_as : (a : Asked) (said : Option Asked) → Some a ≡ said → IsPerformed (Some a) old new r → (r ≡ Err stop.Usage → said ≡ None) × (said ≡ None → r ≡ Err stop.Usage)
+  usage_as a said same h = (λ e. absurd (some_is_none a (h.known e)), λ e. absurd (some_is_none a (same ∙ e)))
+
+-- the words ask for nothing
+pub nothing_asked : {S O E T : Type 0} (asked : Option Asked) (old : Lent S O E) → asked ≡ None → IsPerformed asked old old {T = T} (Err stop.Usage)
+nothing_asked {S} {O} {E} {T} asked old none = subst (λ (a : Option Asked). IsPerformed a old old {T = T} (Err stop.Usage)) (sym none) (record {
+  known = λ _. refl;
+  done = tt;
+  stopped = record { cause = λ files are. inl refl; risen = tt; took = (refl, refl); nothing = λ _ _. refl; built = refl };
+  rest = record { files = refl; strays = λ files are names. refl; script = λ _. refl; built = omega arith; multiplied = omega arith };
+  err = (refl, refl, refl);
+})

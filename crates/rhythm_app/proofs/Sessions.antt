@@ -1,0 +1,264 @@
+-- What the stages of a command come to together.
+use Rattle.std.proofs.Common.{◌≡◌, ◌≤◌, ◌⊎◌, ◌∷◌, [], ℕ, List, Vec, arith, inl, inr, refl, sym, subst, IfErr, IfOk, OnOk, Option, Some, Result, Ok, Err}
+use Rattle.std.specs.Option.{ForSome}
+use Rattle.performance_load.specs.Loading.{IsLoaded, Loads}
+use Rattle.performance_load.specs.declared.load_fault.LoadFault.{LoadFault}
+use Rattle.edit_session.specs.Opening.{CanOpen}
+use Rattle.edit_session.specs.Session.{Session}
+use Rattle.rhythm_app.proofs.InTurn.{next_follows, stop_follows}
+use Rattle.rhythm_app.proofs.Scoring.{unopened_answering}
+use Rattle.rhythm_app.specs.Asked.{Asked}
+use Rattle.rhythm_app.specs.Builds.{IsPerformanceIn, MatchBuilds}
+use Rattle.rhythm_app.specs.Commands.{HasOutcomeOf, Named, command, file_content, named}
+use Rattle.rhythm_app.specs.Ends.{ComesTo, IsCauseOf, IsFailureOf}
+use Rattle.rhythm_app.specs.Outcome.{AreInTurn, AreInputs, AreRead, IsAnswering, IsLoading, IsRead, IsUnderstood, IsUnopened, Ready, load_stop, say, serve, stopped}
+use Rattle.rhythm_app.specs.Stages.{Follows, IsFailure, IsOfContent, IsOfWriting, IsReadFailure, said_of}
+use Rattle.rhythm_app.specs.declared.request.Talk.{Talk}
+use Rattle.rhythm_app.specs.declared.stop.Kind.TheVariants as kind
+use Rattle.rhythm_app.specs.declared.stop.Stop.{Stop}
+use Rattle.rhythm_app.specs.declared.stop.Stop.TheVariants as stop
+use Rattle.rhythm_base.specs.Counter.{risen}
+use Rattle.rhythm_base.specs.Grammar.{Grammar}
+use Rattle.rhythm_base.specs.Performance.{Performance}
+use Rattle.rhythm_ports.specs.Files.{File}
+use Rattle.smf_reader.specs.Played.{Smf}
+
+-- ---- stops
+
+-- where the files hold no reason, memory was wanted
+content_fails : (asked : Asked) (files : List File) (s : Stop) → IsFailure s → IsOfContent s → IsFailureOf (Some asked) files s
+content_fails asked files stop.Usage failed content = absurd content
+content_fails asked files (stop.FileTooLong k n) failed content = absurd failed
+content_fails asked files (stop.LineTooLong n) failed content = absurd failed
+content_fails asked files (stop.Smf e) failed content = absurd failed
+content_fails asked files (stop.Grammar e) failed content = absurd failed
+content_fails asked files (stop.Kern e) failed content = absurd failed
+content_fails asked files stop.NoNotes failed content = absurd failed
+content_fails asked files (stop.TooManyNotes n) failed content = absurd failed
+content_fails asked files (stop.BadSignature m n) failed content = absurd failed
+content_fails asked files (stop.UnevenBar l m n) failed content = absurd failed
+content_fails asked files (stop.TooManyBars n) failed content = absurd failed
+content_fails asked files (stop.TooManyCells n) failed content = absurd failed
+content_fails asked files (stop.NoStart l m n) failed content = absurd failed
+content_fails asked files (stop.NoDerivation m n) failed content = absurd failed
+content_fails asked files (stop.ScoreTooLong n) failed content = absurd failed
+content_fails asked files (stop.Read k) failed content = absurd content
+content_fails asked files stop.Write failed content = absurd content
+content_fails asked files stop.Memory failed content = tt
+
+pub stop_cause : (asked : Asked) (files : List File) (s : Stop) → Follows (HasOutcomeOf (Some asked) files) (Err s) → IsOfContent s → IsCauseOf (Some asked) files s
+stop_cause asked files s (inl outcome) content = inl outcome
+stop_cause asked files s (inr failed) content = inr (content_fails asked files s failed content)
+
+-- what is known of the cells by the stop gives what follows from it
+match_more : {A B C D E F : Type 0} → (A → D) → (B → E) → (C → F) → (s : Stop) → MatchBuilds A B C s → MatchBuilds D E F s
+match_more a b d stop.Usage h = d h
+match_more a b d (stop.FileTooLong kind.Midi n) h = d h
+match_more a b d (stop.FileTooLong kind.Grammar n) h = d h
+match_more a b d (stop.FileTooLong kind.Kern n) h = d h
+match_more a b d (stop.FileTooLong kind.Script n) h = tt
+match_more a b d (stop.LineTooLong n) h = tt
+match_more a b d (stop.Smf e) h = d h
+match_more a b d (stop.Grammar e) h = d h
+match_more a b d (stop.Kern e) h = d h
+match_more a b d stop.NoNotes h = d h
+match_more a b d (stop.TooManyNotes n) h = d h
+match_more a b d (stop.BadSignature m n) h = d h
+match_more a b d (stop.UnevenBar l m n) h = d h
+match_more a b d (stop.TooManyBars n) h = d h
+match_more a b d (stop.TooManyCells n) h = d h
+match_more a b d (stop.NoStart l m n) h = d h
+match_more a b d (stop.NoDerivation m n) h = a h
+match_more a b d (stop.ScoreTooLong n) h = a h
+match_more a b d (stop.Read kind.Midi) h = d h
+match_more a b d (stop.Read kind.Grammar) h = d h
+match_more a b d (stop.Read kind.Kern) h = d h
+match_more a b d (stop.Read kind.Script) h = tt
+match_more a b d stop.Write h = tt
+match_more a b d stop.Memory h = b h
+
+pub built_more : {T A B C D E F : Type 0} → (r : Result T Stop) → (A → D) → (B → E) → (C → F) → IfErr r (MatchBuilds A B C) → IfErr r (MatchBuilds D E F)
+built_more (Ok x) a b d h = tt
+built_more (Err s) a b d h = match_more a b d s h
+
+pub all_more : {T E A B : Type 0} → (r : Result T E) → (A → B) → OnOk r A → OnOk r B
+all_more (Ok x) a h = a h
+all_more (Err e) a h = tt
+
+-- ---- the inputs
+
+module _ (midi grammar : List ℕ) (f : Smf) (g : Grammar) (read : Follows (IsRead midi) (Ok f)) (understood : Follows (IsUnderstood grammar) (Ok g)) where
+  loading_follows : (r : Result (Grammar × Performance) Stop) → Follows (AreInTurn (IsLoading f) (λ p s. s ≡ Ok (g, p))) r → Follows (AreInputs midi grammar) r
+  loading_follows r h =
+      next_follows (IsRead midi) (λ f. AreInTurn (IsUnderstood grammar) (λ g. AreInTurn (IsLoading f) (λ p s. s ≡ Ok (g, p)))) f r read
+      (next_follows (IsUnderstood grammar) (λ g. AreInTurn (IsLoading f) (λ p s. s ≡ Ok (g, p))) g r understood h)
+
+  -- the performance could not be loaded
+  pub unloaded_follows : (s : Stop) → Follows (IsLoading f) (Err s) → Follows (AreInputs midi grammar) (Err s)
+  unloaded_follows s h = loading_follows (Err s) (stop_follows (IsLoading f) (λ p s. s ≡ Ok (g, p)) s h)
+
+  -- it was
+  pub loaded_follows : (p : Performance) → Follows (IsLoading f) (Ok p) → Follows (AreInputs midi grammar) (Ok (g, p))
+  loaded_follows p h = loading_follows (Ok (g, p)) (next_follows (IsLoading f) (λ p s. s ≡ Ok (g, p)) p (Ok (g, p)) h (inl refl))
+
+-- where the files hold no reason, memory was wanted
+content_read : (midi : List ℕ) (s : Stop) → IsFailure s → IsOfContent s → IsReadFailure midi s
+content_read midi stop.Usage failed content = absurd content
+content_read midi (stop.FileTooLong k n) failed content = absurd failed
+content_read midi (stop.LineTooLong n) failed content = absurd failed
+content_read midi (stop.Smf e) failed content = absurd failed
+content_read midi (stop.Grammar e) failed content = absurd failed
+content_read midi (stop.Kern e) failed content = absurd failed
+content_read midi stop.NoNotes failed content = absurd failed
+content_read midi (stop.TooManyNotes n) failed content = absurd failed
+content_read midi (stop.BadSignature m n) failed content = absurd failed
+content_read midi (stop.UnevenBar l m n) failed content = absurd failed
+content_read midi (stop.TooManyBars n) failed content = absurd failed
+content_read midi (stop.TooManyCells n) failed content = absurd failed
+content_read midi (stop.NoStart l m n) failed content = absurd failed
+content_read midi (stop.NoDerivation m n) failed content = absurd failed
+content_read midi (stop.ScoreTooLong n) failed content = absurd failed
+content_read midi (stop.Read k) failed content = absurd content
+content_read midi stop.Write failed content = absurd content
+content_read midi stop.Memory failed content = tt
+
+pub inputs_cause : (midi grammar : List ℕ) (s : Stop) → Follows (AreInputs midi grammar) (Err s) → IsOfContent s → AreInputs midi grammar (Err s) ⊎ IsReadFailure midi s
+inputs_cause midi grammar s (inl are) content = inl are
+inputs_cause midi grammar s (inr failed) content = inr (content_read midi s failed content)
+
+-- the performance that was loaded is that of the MIDI file
+loaded_is : (f : Smf) (p : Performance) (loaded : Result Performance LoadFault) → Loads f loaded → ◌≡◌ {A = Result Performance Stop} (Ok p) (stopped load_stop loaded) → IsLoaded f p
+loaded_is f p (Ok q) h is = let same : q ≡ p = cc in subst (IsLoaded f) same h
+loaded_is f p (Err fault) h is = absurd (cc)
+
+pub is_performance : (midi : List ℕ) (f : Smf) (p : Performance) → Follows (IsRead midi) (Ok f) → Follows (IsLoading f) (Ok p) → IsPerformanceIn midi p
+is_performance midi f p (inl read) (inl loading) = (f, read, loaded_is f p loading.0 loading.1 loading.4)
+is_performance midi f p (inr failed) loading = absurd failed
+is_performance midi f p (inl read) (inr failed) = absurd failed
+
+-- ---- a command on its inputs
+
+module _ (asked : Asked) (midi grammar : List ℕ) (files : List File) (last : Grammar → Performance → Result Ready Stop → Type 0)
+    (reads : (command asked).reads ≡ named kind.Midi midi ∷ named kind.Grammar grammar ∷ [])
+    (outcome : (r : Result Ready Stop) → AreRead (file_content files midi) (file_content files grammar) last r → HasOutcomeOf (Some asked) files r) where
+  reads_fail : (s : Stop) → IsReadFailure (file_content files midi) s → IsFailureOf (Some asked) files s
+  reads_fail (stop.Read kind.Midi) failed = subst (ComesTo files kind.Midi) (sym reads) (inl refl)
+  reads_fail (stop.Read kind.Grammar) failed = subst (ComesTo files kind.Grammar) (sym reads) (inr (failed, inl refl))
+  reads_fail (stop.Read kind.Kern) failed = absurd failed
+  reads_fail (stop.Read kind.Script) failed = absurd failed
+  reads_fail stop.Memory failed = tt
+  reads_fail stop.Write failed = absurd failed
+  reads_fail stop.Usage failed = absurd failed
+  reads_fail (stop.FileTooLong k n) failed = absurd failed
+  reads_fail (stop.LineTooLong n) failed = absurd failed
+  reads_fail (stop.Smf e) failed = absurd failed
+  reads_fail (stop.Grammar e) failed = absurd failed
+  reads_fail (stop.Kern e) failed = absurd failed
+  reads_fail stop.NoNotes failed = absurd failed
+  reads_fail (stop.TooManyNotes n) failed = absurd failed
+  reads_fail (stop.BadSignature m n) failed = absurd failed
+  reads_fail (stop.UnevenBar l m n) failed = absurd failed
+  reads_fail (stop.TooManyBars n) failed = absurd failed
+  reads_fail (stop.TooManyCells n) failed = absurd failed
+  reads_fail (stop.NoStart l m n) failed = absurd failed
+  reads_fail (stop.NoDerivation m n) failed = absurd failed
+  reads_fail (stop.ScoreTooLong n) failed = absurd failed
+
+  -- the inputs are not had
+  pub inputs_stop : (s : Stop) → AreInputs (file_content files midi) (file_content files grammar) (Err s) ⊎ IsReadFailure (file_content files midi) s → IsCauseOf (Some asked) files s
+  inputs_stop s (inl are) = inl (outcome (Err s) (inl are))
+  inputs_stop s (inr failed) = inr (reads_fail s failed)
+
+  -- they are
+  pub then_follows : (g : Grammar) (p : Performance) → Follows (AreInputs (file_content files midi) (file_content files grammar)) (Ok (g, p))
+      → (r : Result Ready Stop) → Follows (last g p) r → Follows (HasOutcomeOf (Some asked) files) r
+  then_follows g p are r h = elim (next_follows (AreInputs (file_content files midi) (file_content files grammar)) (λ i. last i.0 i.1) (g, p) r are h) [ inl it ↦ inl (outcome r it) | inr failed ↦ inr failed ]
+
+pub no_failure : {T : Type 0} (outcome : Result T Stop → Type 0) (x : T) → Follows outcome (Ok x) → outcome (Ok x)
+no_failure outcome x (inl h) = h
+no_failure outcome x (inr failed) = absurd failed
+
+-- ---- a stage and what it is ready for
+
+module _ {T : Type 0} (fs : Option (List File)) (asked : Asked) (ready : T → Ready) where
+  abbrev pub Follow : Result T Stop → Type 0
+  Follow (Ok x) = (files : List File) → fs ≡ Some files → Follows (HasOutcomeOf (Some asked) files) (Ok (ready x))
+  Follow (Err s) = (files : List File) → fs ≡ Some files → Follows (HasOutcomeOf (Some asked) files) (Err s)
+
+  pub stage_ready : (r : Result T Stop) → Follow r → IfOk r (λ x. ForSome fs (λ files. HasOutcomeOf (Some asked) files (Ok (ready x))))
+  stage_ready (Ok x) h = λ files are. no_failure (HasOutcomeOf (Some asked) files) (ready x) (h files are)
+  stage_ready (Err s) h = tt
+
+  pub stage_cause : (r : Result T Stop) → Follow r → IfErr r IsOfContent → IfErr r (λ s. ForSome fs (λ files. IsCauseOf (Some asked) files s))
+  stage_cause (Ok x) h content = tt
+  stage_cause (Err s) h content = λ files are. stop_cause asked files s (h files are) content
+
+-- a text that is ready
+pub said_follow : {A : Type 0} (fs : Option (List File)) (asked : Asked) (r : Result (Vec ℕ A) Stop)
+    → ((files : List File) → fs ≡ Some files → Follows (HasOutcomeOf (Some asked) files) (said_of r)) → Follow fs asked (λ v. say v.items) r
+said_follow fs asked (Ok x) h = h
+said_follow fs asked (Err s) h = h
+
+-- a session that is ready
+pub opened_follow : (fs : Option (List File)) (asked : Asked) (talk : Talk) (r : Result Session Stop) (g : Grammar) (p : Performance) → IfOk r (λ s. s.grammar ≡ g) → IfOk r (λ s. s.performance ≡ p)
+    → OnOk r (CanOpen g p) → IfErr r (λ s. IsUnopened g p s ⊎ (s ≡ stop.Memory))
+    → ((files : List File) → fs ≡ Some files → (x : Result Ready Stop) → Follows (IsAnswering talk g p) x → Follows (HasOutcomeOf (Some asked) files) x)
+    → Follow fs asked (λ s. serve talk s.grammar s.performance) r
+opened_follow fs asked talk (Ok s) g p grammar performance can unopened all = λ files are. all files are (Ok (serve talk s.grammar s.performance)) (inl (can, refl, grammar, performance))
+opened_follow fs asked talk (Err s) g p grammar performance can unopened all = λ files are. all files are (Err s) (unopened_answering g p talk s unopened)
+
+-- ---- what is written of a session that is open
+
+writing_content : (s : Stop) → IsOfWriting s → IsOfContent s
+writing_content (stop.ScoreTooLong n) end = tt
+writing_content stop.Memory end = tt
+writing_content stop.Usage end = absurd end
+writing_content (stop.FileTooLong k n) end = absurd end
+writing_content (stop.LineTooLong n) end = absurd end
+writing_content (stop.Smf e) end = tt
+writing_content (stop.Grammar e) end = tt
+writing_content (stop.Kern e) end = tt
+writing_content stop.NoNotes end = tt
+writing_content (stop.TooManyNotes n) end = tt
+writing_content (stop.BadSignature m n) end = tt
+writing_content (stop.UnevenBar l m n) end = tt
+writing_content (stop.TooManyBars n) end = tt
+writing_content (stop.TooManyCells n) end = tt
+writing_content (stop.NoStart l m n) end = tt
+writing_content (stop.NoDerivation m n) end = tt
+writing_content (stop.Read k) end = absurd end
+writing_content stop.Write end = absurd end
+
+pub of_content : {T : Type 0} (r : Result T Stop) → IfErr r IsOfWriting → IfErr r IsOfContent
+of_content (Ok x) end = tt
+of_content (Err s) end = writing_content s end
+
+-- all cells are built by then
+writing_built : (old cells new : ℕ) (s : Stop) → IsOfWriting s → new ≡ risen old cells → MatchBuilds (new ≡ risen old cells) (new ≤ risen old cells) (new ≡ old) s
+writing_built old cells new (stop.ScoreTooLong n) end all = all
+writing_built old cells new stop.Memory end all = omega (arith, all)
+writing_built old cells new stop.Usage end all = absurd end
+writing_built old cells new (stop.FileTooLong k n) end all = absurd end
+writing_built old cells new (stop.LineTooLong n) end all = absurd end
+writing_built old cells new (stop.Smf e) end all = absurd end
+writing_built old cells new (stop.Grammar e) end all = absurd end
+writing_built old cells new (stop.Kern e) end all = absurd end
+writing_built old cells new stop.NoNotes end all = absurd end
+writing_built old cells new (stop.TooManyNotes n) end all = absurd end
+writing_built old cells new (stop.BadSignature m n) end all = absurd end
+writing_built old cells new (stop.UnevenBar l m n) end all = absurd end
+writing_built old cells new (stop.TooManyBars n) end all = absurd end
+writing_built old cells new (stop.TooManyCells n) end all = absurd end
+writing_built old cells new (stop.NoStart l m n) end all = absurd end
+writing_built old cells new (stop.NoDerivation m n) end all = absurd end
+writing_built old cells new (stop.Read k) end all = absurd end
+writing_built old cells new stop.Write end all = absurd end
+
+pub all_built : {T : Type 0} (old cells new : ℕ) (r : Result T Stop) → IfErr r IsOfWriting → new ≡ risen old cells
+    → IfErr r (MatchBuilds (new ≡ risen old cells) (new ≤ risen old cells) (new ≡ old))
+all_built old cells new (Ok x) end all = tt
+all_built old cells new (Err s) end all = writing_built old cells new s end all
+
+pub always : {T E P : Type 0} (r : Result T E) → P → OnOk r P
+always (Ok x) p = p
+always (Err e) p = tt

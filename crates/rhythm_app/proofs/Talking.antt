@@ -1,0 +1,135 @@
+-- The answering of a script over what is lent.
+use Rattle.std.proofs.Common.{◌≡◌, ◌≢◌, ◌≤◌, ◌∙◌, ℕ, List, ap, arith, inl, inr, refl, sym, subst, IfErr, IfOk, OnOk, Option, Some, Result, Ok, Err}
+use Rattle.std.specs.Option.{ForSome}
+use Rattle.edit_session.specs.Opening.{cells_of}
+use Rattle.edit_session.specs.Session.{Session}
+use Rattle.rhythm_app.specs.Asked.{Asked, answer}
+use Rattle.rhythm_app.specs.Builds.{HasBuiltAll}
+use Rattle.rhythm_app.specs.Commands.{HasNames, HasOutcomeOf, cells_in}
+use Rattle.rhythm_app.specs.Ends.{HasStopped, IsAnswered, IsBrokenOff, IsDone, IsPerformed, IsSilent, IsUntouched, KeepsRest}
+use Rattle.rhythm_app.specs.Lent.{Lent}
+use Rattle.rhythm_app.specs.Outcome.{serve}
+use Rattle.rhythm_app.specs.Stages.{HasSession}
+use Rattle.rhythm_app.specs.Stops.{script_stop}
+use Rattle.rhythm_app.specs.declared.request.Talk.{Talk}
+use Rattle.rhythm_app.specs.declared.request.Talk.TheVariants as talk
+use Rattle.rhythm_app.specs.declared.stop.Stop.{Stop}
+use Rattle.rhythm_app.specs.declared.stop.Stop.TheVariants as stop
+use Rattle.rhythm_app.proofs.Performing.{kept_rest, silent_alone, untouched}
+use Rattle.rhythm_app.proofs.Stops.{script_built, script_cause, script_known, script_risen, script_taken, served_builds}
+use Rattle.rhythm_base.specs.Counter.{risen}
+use Rattle.rhythm_base.specs.Grammar.{Grammar}
+use Rattle.rhythm_base.specs.Performance.{Performance}
+use Rattle.rhythm_ports.specs.Causes.{Rose}
+use Rattle.rhythm_ports.specs.Files.{File}
+use Rattle.script_run.specs.Answers.{Editing}
+use Rattle.script_run.specs.Ends as script
+use Rattle.script_run.specs.declared.script_stop.ScriptStop.{ScriptStop}
+use Rattle.script_run.specs.declared.script_stop.ScriptStop.TheVariants as stops
+
+not_stopped : {T : Type 0} (x : T) → ◌≡◌ {A = Result T Stop} (Ok x) (Err stop.Usage) → ⊥
+not_stopped x e = cc
+
+same_stop : {T : Type 0} (s : Stop) → ◌≡◌ {A = Result T Stop} (Err s) (Err stop.Usage) → s ≡ stop.Usage
+same_stop s e = cc
+
+module _ {S O E : Type 0} where
+  pub done_seen : {T F : Type 0} (seen old new : Lent S O E) (t : Talk) (g : Grammar) (p : Performance) (r : Result T F) → seen ≡ old
+      → OnOk r ((last : Editing) × script.IsDone g p seen.rest new.rest seen.taken new.taken last × (new.built ≡ risen seen.built last.built))
+      → OnOk r ((last : Editing) × IsDone old new t g p last × (new.built ≡ risen old.built last.built))
+  done_seen seen old new talk.Editing g p (Ok x) same h =
+      subst (λ (l : Lent S O E). (last : Editing) × IsDone l new talk.Editing g p last × (new.built ≡ risen l.built last.built)) same h
+  done_seen seen old new t g p (Err e) same h = tt
+
+  -- after the session is had, a script is answered: what holds of the files, the counters and err
+  module _ (t : Talk) (midi grammar : List ℕ) (old mid new : Lent S O E) (s : Session) (h : HasSession (Some (answer t midi grammar)) t old mid (Ok s)) where
+    abbrev asked : Asked
+    asked = answer t midi grammar
+
+    answered_rest : (new.files ≡ mid.files) × (new.strays ≡ mid.strays) × (new.shelf_faults ≡ mid.shelf_faults) → mid.built ≤ new.built → mid.multiplied ≤ new.multiplied
+        → KeepsRest (Some asked) old new
+    answered_rest files built multiplied =
+        let kept = kept_rest (Some asked) old mid (Ok s) h.before in
+        record {
+          files = files.0 ∙ kept.files;
+          strays = λ fs are names. files.1 ∙ kept.strays fs are names;
+          script = λ none. absurd none;
+          built = omega (arith, built, kept.built);
+          multiplied = omega (arith, multiplied, kept.multiplied);
+        }
+
+    -- the script and what out has taken are as they were when the session was had
+    abbrev mid_told : Type 0
+    mid_told = (mid.rest ≡ old.rest) × (mid.taken ≡ old.taken)
+
+    told : mid_told
+    told = (ap (λ (l : Lent S O E). l.rest) h.before.alone, ap (λ (l : Lent S O E). l.taken) h.before.alone)
+
+    from_old : (P : Lent S O E → Type 0) → P mid → P (record old { strays = mid.strays; shelf_faults = mid.shelf_faults; built = mid.built; multiplied = mid.multiplied })
+    from_old P x = subst P h.before.alone x
+
+    done_old : (last : Editing) → IsDone mid new t s.grammar s.performance last → IsDone old new t s.grammar s.performance last
+    done_old last done = is_done t (from_old (λ l. IsDone l new t s.grammar s.performance last) done)
+      where
+        is_done : (u : Talk) → IsDone (record old { strays = mid.strays; shelf_faults = mid.shelf_faults; built = mid.built; multiplied = mid.multiplied }) new u s.grammar s.performance last
+            → IsDone old new u s.grammar s.performance last
+        is_done talk.Editing x = x
+
+    broken_old : (e : ScriptStop) (last : Editing) → IsBrokenOff e mid new t s.grammar s.performance last → IsBrokenOff e old new t s.grammar s.performance last
+    broken_old e last broken = is_broken t (from_old (λ l. IsBrokenOff e l new t s.grammar s.performance last) broken)
+      where
+        is_broken : (u : Talk) → IsBrokenOff e (record old { strays = mid.strays; shelf_faults = mid.shelf_faults; built = mid.built; multiplied = mid.multiplied }) new u s.grammar s.performance last
+            → IsBrokenOff e old new u s.grammar s.performance last
+        is_broken talk.Editing x = x
+
+    -- the script is answered to its end, or to `quit`
+    pub answered : {T : Type 0} (x : T) → ((last : Editing) × IsDone mid new t s.grammar s.performance last × (new.built ≡ risen mid.built last.built))
+        → (new.files ≡ mid.files) × (new.strays ≡ mid.strays) × (new.shelf_faults ≡ mid.shelf_faults) → mid.built ≤ new.built → mid.multiplied ≤ new.multiplied → IsSilent mid new
+        → IsPerformed (Some asked) old new {T = T} (Ok x)
+    answered {T} x (last, done, more) files built multiplied err = record {
+      known = λ e. absurd (not_stopped {T = T} x e);
+      done = λ fs are. inr (
+        t,
+        s.grammar,
+        s.performance,
+        last,
+        h.ready fs are,
+        done_old last done,
+        served_builds old.built mid.built new.built (cells_of s.performance) last.built h.cells more,
+      );
+      stopped = tt;
+      rest = answered_rest files built multiplied;
+      err = let none = silent_alone old mid h.before.alone in (err.0 ∙ none.0, err.1 ∙ none.1, err.2 ∙ none.2);
+    }
+
+    -- the answering stopped
+    pub broken_off : {T : Type 0} (e : ScriptStop) → ((last : Editing) × IsBrokenOff e mid new t s.grammar s.performance last × (new.built ≡ risen mid.built last.built))
+        → (e ≡ stops.Read → Rose mid.script_faults new.script_faults) → (e ≡ stops.Write → Rose mid.out_faults new.out_faults) → (e ≡ stops.Memory → IsUntouched mid new)
+        → (new.files ≡ mid.files) × (new.strays ≡ mid.strays) × (new.shelf_faults ≡ mid.shelf_faults) → mid.built ≤ new.built → mid.multiplied ≤ new.multiplied → IsSilent mid new
+        → IsPerformed (Some asked) old new {T = T} (Err (script_stop e))
+    broken_off {T} e (last, broken, more) read write memory files built multiplied err = record {
+      known = λ is. absurd (script_known e (same_stop {T = T} (script_stop e) is));
+      done = tt;
+      stopped = record {
+        cause = λ fs are. script_cause asked fs t s.grammar s.performance e (h.ready fs are);
+        risen = script_risen old new e (λ is. subst (λ n. Rose n new.script_faults) (ap (λ (l : Lent S O E). l.script_faults) h.before.alone) (read is))
+            (λ is. subst (λ n. Rose n new.out_faults) (ap (λ (l : Lent S O E). l.out_faults) h.before.alone) (write is));
+        took = script_taken old new (Some asked) e (λ fs are. (
+          e,
+          refl,
+          (
+            t,
+            s.grammar,
+            s.performance,
+            last,
+            h.ready fs are,
+            broken_old e last broken,
+            served_builds old.built mid.built new.built (cells_of s.performance) last.built h.cells more,
+          ),
+        )) (λ is. let none = memory is in let first = untouched old mid h.before.alone in (none.0 ∙ first.0, none.1 ∙ first.1));
+        nothing = λ none _. absurd none;
+        built = script_built old.built mid new old.files midi t s.grammar s.performance e last more broken h.all;
+      };
+      rest = answered_rest files built multiplied;
+      err = let none = silent_alone old mid h.before.alone in (err.0 ∙ none.0, err.1 ∙ none.1, err.2 ∙ none.2);
+    }

@@ -1,0 +1,106 @@
+ghost use Rattle.rhythm_app.specs.Asked.{answer};
+ghost use Rattle.rhythm_app.specs.Ends.{IsBrokenOff, IsDone, IsPerformed, IsSilent, IsUntouched};
+ghost use Rattle.rhythm_app.specs.Stages.{HasSession};
+ghost use Rattle.rhythm_app.specs.Stops.{script_stop};
+ghost use Rattle.rhythm_base.specs.Counter.{risen};
+ghost use Rattle.rhythm_ports.specs.Causes.{Rose};
+ghost use Rattle.script_run.specs.Answers.{Editing};
+ghost use Rattle.script_run.specs.declared.script_stop.ScriptStop.TheVariants as stops;
+ghost use Rattle.std.specs.Prelude.{◌≡◌, ◌≤◌, Err, IfErr, OnOk, Some};
+
+use crate::inputs::read_inputs;
+use crate::lent::Lent;
+use crate::request::{FileNames, Talk};
+use crate::session::open_session;
+use crate::stop::{Kind, Stop};
+use edit_session::Session;
+use rhythm_base::Tag;
+use rhythm_ports::{Gate, Shelf, Sink, Source};
+use script_run::{Means, ScriptStop, run_script};
+use std::thread::Threads;
+
+/// Why the answering of a script ends, as a stop of the run.
+fn script_stop(stop: ScriptStop) -> Stop
+    ensures { result ≡ script_stop stop }
+{
+    match stop {
+        ScriptStop::Read => Stop::Read(Kind::Script),
+        ScriptStop::TooLong { read } => Stop::FileTooLong {
+            kind: Kind::Script,
+            read,
+        },
+        ScriptStop::LineTooLong { read } => Stop::LineTooLong { read },
+        ScriptStop::Write => Stop::Write,
+        ScriptStop::Memory => Stop::Memory,
+    }
+}
+
+/// The session that answers a script, before any line of it is read.
+fn session_of<R: Threads + Sync, F: Shelf, S: Source, O: Sink, E: Sink, G: Gate + Sync, B: Tag>(
+    lent: &mut Lent<R, F, S, O, E, G, B>,
+    workers: u32,
+    talk: Talk,
+    names: FileNames,
+) -> Result<Session, Stop>
+    requires some_worker { 1 ≤ workers }
+    requires few_workers { workers ≤ 16 }
+    ensures { HasSession (Some (answer talk names.entry.midi.now names.entry.grammar.now)) talk lent.old lent.new result }
+{
+    match read_inputs(lent, names) {
+        Ok((grammar, performance)) => open_session(lent, workers, grammar, performance),
+        Err(stop) => Err(stop),
+    }
+}
+
+/// Answers the lines of a script over a session.
+fn talk_over<R: Threads + Sync, F: Shelf, S: Source, O: Sink, E: Sink, G: Gate + Sync, B: Tag>(
+    lent: &mut Lent<R, F, S, O, E, G, B>,
+    talk: Talk,
+    session: Session,
+) -> Result<(), ScriptStop>
+    ensures done { OnOk result ((last : Editing) × IsDone lent.old lent.new talk session.grammar session.performance last × (lent.new.built ≡ risen lent.old.built last.built)) }
+    ensures broken { IfErr result (λ end. (last : Editing) × IsBrokenOff end lent.old lent.new talk session.grammar session.performance last × (lent.new.built ≡ risen lent.old.built last.built)) }
+    ensures read { result ≡ Err stops.Read → Rose lent.old.script_faults lent.new.script_faults }
+    ensures write { result ≡ Err stops.Write → Rose lent.old.out_faults lent.new.out_faults }
+    ensures memory { result ≡ Err stops.Memory → IsUntouched lent.old lent.new }
+    ensures rises { lent.old.built ≤ lent.new.built }
+    ensures multiplies { lent.old.multiplied ≤ lent.new.multiplied }
+    ensures files { (lent.new.files ≡ lent.old.files) × (lent.new.strays ≡ lent.old.strays) × (lent.new.shelf_faults ≡ lent.old.shelf_faults) }
+    ensures err { IsSilent lent.old lent.new }
+{
+    let means = Means {
+        rt: lent.rt,
+        alloc: lent.alloc,
+        gate: lent.gate,
+    };
+    match talk {
+        Talk::Editing => run_script(
+            &means,
+            session,
+            &mut lent.script,
+            &mut lent.out,
+            &mut lent.builds,
+            &mut lent.products,
+        ),
+    }
+}
+
+/// Answers a script over the session on a MIDI file and a grammar.
+pub fn answer<R: Threads + Sync, F: Shelf, S: Source, O: Sink, E: Sink, G: Gate + Sync, B: Tag>(
+    lent: &mut Lent<R, F, S, O, E, G, B>,
+    workers: u32,
+    talk: Talk,
+    names: FileNames,
+) -> Result<(), Stop>
+    requires some_worker { 1 ≤ workers }
+    requires few_workers { workers ≤ 16 }
+    ensures { IsPerformed (Some (answer talk names.entry.midi.now names.entry.grammar.now)) lent.old lent.new result }
+{
+    match session_of(lent, workers, talk, names) {
+        Ok(session) => match talk_over(lent, talk, session) {
+            Ok(()) => Ok(()),
+            Err(stop) => Err(script_stop(stop)),
+        },
+        Err(stop) => Err(stop),
+    }
+}

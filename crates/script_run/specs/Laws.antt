@@ -1,0 +1,43 @@
+-- The laws, each as one statement over the definitions.
+use Rattle.std.specs.Prelude.{◌≡◌, ◌≢◌, ◌⊎◌, ◌++◌, ℕ, List, Option, Some, Result, Ok, Err}
+use Rattle.edit_laws.specs.Laws.{LinesHaveOneAnswer as HasOneAnswers, ScriptsHaveOneRun}
+use Rattle.rhythm_base.specs.Grammar.{Grammar}
+use Rattle.rhythm_base.specs.Performance.{IsWellFormed, Performance}
+use Rattle.rhythm_base.specs.Readable.{IsReadable}
+use Rattle.rhythm_base.specs.Replies.{refused_text}
+use Rattle.rhythm_base.specs.declared.edit_fault.EditFault.TheVariants.{Memory}
+use Rattle.script_run.specs.Answers.{Editing, IsAnswer, IsScore, Quits, begun_on}
+use Rattle.script_run.specs.Machine.{IsAnswered, IsStoppedBy}
+use Rattle.script_run.specs.declared.script_stop.ScriptStop.{ScriptStop}
+use Rattle.script_run.specs.declared.script_stop.ScriptStop.TheVariants as stop
+
+-- by a readable grammar a line has one answer, but for want of memory, and a script one run
+abbrev pub LinesHaveOneAnswer : Type 0
+LinesHaveOneAnswer = (g : Grammar) → IsReadable g → HasOneAnswers g (IsScore g) × ScriptsHaveOneRun g (IsScore g)
+
+-- what a line may do without want of memory
+abbrev pub IsAmpleAnswer : Grammar → Editing → List ℕ → List ℕ → Editing → Type 0
+IsAmpleAnswer g old line reply new = IsAnswer g old line reply new × (reply ≢ refused_text Memory)
+
+-- the bytes of a script decide its end: no read and no write fails, and there is memory for a line
+abbrev pub IsByBytes : Result (Unit {0}) ScriptStop → Type 0
+IsByBytes result = (result ≢ Err stop.Read) × (result ≢ Err stop.Write) × (result ≢ Err stop.Memory)
+
+-- the answering of a script ends so, and no reply to a line is want of memory
+abbrev pub EndsAmply : Result (Unit {0}) ScriptStop → Grammar → Performance → Option (List ℕ) → Option (List ℕ) → Option (List ℕ) → Option (List ℕ) → Editing → Type 0
+EndsAmply (Ok done) g p rest rest' taken taken' last = IsAnswered (IsAmpleAnswer g) Quits (begun_on p) rest rest' taken taken' last
+EndsAmply (Err end) g p rest rest' taken taken' last = IsStoppedBy (IsAmpleAnswer g) Quits (begun_on p) end rest rest' taken taken' last
+
+-- one text begins with the other
+abbrev pub BeginsWith : List ℕ → List ℕ → Type 0
+BeginsWith text front = (more : List ℕ) × (text ≡ front ++ more)
+
+-- Of two ways to answer the same script on the same performance: where the bytes decide both ends, they are one, and out took the same and
+-- the performance is the same; and however both end, what out took in one of them begins as in the other
+pub record ScriptsHaveOneOutput : Type 0 where
+  pub one : (g : Grammar) (p : Performance) (script written : List ℕ) (end end' : Result (Unit {0}) ScriptStop) (rest rest' out out' : Option (List ℕ)) (last last' : Editing)
+      → IsReadable g → IsWellFormed p → IsByBytes end → IsByBytes end' → EndsAmply end g p (Some script) rest (Some written) out last
+      → EndsAmply end' g p (Some script) rest' (Some written) out' last' → (end ≡ end') × (out ≡ out') × (last.performance ≡ last'.performance)
+  pub beginning : (g : Grammar) (p : Performance) (script written out out' : List ℕ) (end end' : Result (Unit {0}) ScriptStop) (rest rest' : Option (List ℕ)) (last last' : Editing)
+      → IsReadable g → IsWellFormed p → EndsAmply end g p (Some script) rest (Some written) (Some out) last
+      → EndsAmply end' g p (Some script) rest' (Some written) (Some out') last' → BeginsWith out out' ⊎ BeginsWith out' out
