@@ -289,3 +289,21 @@ fn a_score_has_a_greatest_length(rt: HostRuntime) -> Result<(), Fail> {
     assert!(rt; transcribes(&rt, alloc, 4096, &midi, SMALLEST_LEAVES, &above)?);
     Ok(())
 }
+
+#[test]
+fn a_script_goes_on_after_a_score_that_is_too_long(rt: HostRuntime) -> Result<(), Fail> {
+    let alloc = rt.alloc();
+    let midi = all_keys(alloc, 52)?;
+    let given = Given {
+        words: &["edit", "a.mid", "a.grammar"],
+        files: &[("a.mid", &midi), ("a.grammar", SMALLEST_LEAVES)],
+        script: b"score\nunpin 0 0\n",
+    };
+    let answered = Ending {
+        status: 0,
+        out: b"refused Limit score 49509\nok 0 0\n",
+        err: b"",
+    };
+    assert!(rt; ends(&rt, alloc, 4096, &given, &answered)?);
+    Ok(())
+}

@@ -5,6 +5,7 @@ use crate::grammars::{
     USUAL, USUAL_IN_VERSION_2, WHOLE_OF_FIVE,
 };
 use crate::midi::{ENDED_BY_ONSETS, FOUR_QUARTERS, OTHER_CHUNK, OTHER_META, TWO_VOICES};
+use crate::words::PIECE_7;
 use std::test::Fail;
 
 /// The score of four quarters from C to F.
@@ -239,6 +240,14 @@ const CASES: &[Case] = &[
         grammar: UNEQUAL,
         status: 0,
         out: b"**kern\n*M4/4\n*MM120\n=1\n2.c\n4d\n==\n*-\n",
+        err: b"",
+    },
+    Case {
+        shows: "a piece of two voices that is made from a number",
+        piece: Piece::Bytes(PIECE_7),
+        grammar: USUAL,
+        status: 0,
+        out: b"**kern\t**kern\n*M4/4\t*M4/4\n*MM120\t*MM120\n=1\t=1\n8g\t4B\n8g\t.\n8g\t4F\n8g\t.\n4r\t4B\n4b\t4C#\n==\t==\n*-\t*-\n",
         err: b"",
     },
 ];
