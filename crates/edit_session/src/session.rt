@@ -179,6 +179,22 @@ impl Session {
         &self.performance
     }
 
+    /// The grammar that the session was opened with.
+    pub fn grammar(&self) -> &Grammar
+        ensures value { result.now ≡ self.now.grammar }
+        ensures readable { IsReadable self.now.grammar }
+    {
+        &self.grammar
+    }
+
+    /// By up to how many workers its cells are built, 1 to 16.
+    pub fn workers(&self) -> u32
+        ensures some_worker { 1 ≤ result }
+        ensures few_workers { result ≤ MOST_WORKERS }
+    {
+        self.workers
+    }
+
     /// The bars as they are written, with the tempo and the key in force at the start of each.
     pub fn score_bars(&self, alloc: Global) -> Result<Vec<ScoreBar>, AllocError>
         ensures { IfOk result (λ v. v.items ≡ map (score_bar self.now.performance) self.now.performance.bars) }

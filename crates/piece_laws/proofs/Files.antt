@@ -1,95 +1,79 @@
--- The file of a piece, read chunk after chunk.
-use Rattle.std.proofs.Common.{◌≡◌, ℕ, suc, ◌+◌, ◌*◌, ◌/◌, ◌%◌, ◌<◌, ◌≤◌, List, [], ◌∷◌, ◌++◌, length, drop, refl, sym, ap, ◌∙◌, None, Ok, Result, arith, append-nil}
-use Rattle.rhythm_base.specs.declared.event.What.TheVariants.{Tempo, Signature}
+-- The file of a piece says what the piece was made of: it is written of that.
+use Rattle.std.proofs.Common.{◌≡◌, ℕ, ◌+◌, ◌*◌, ◌<◌, ◌≤◌, List, [], ◌∷◌, ◌++◌, length, map, refl, sym, ap, ◌∙◌, subst, arith, append-nil}
+use Rattle.std.specs.List.{flat_map}
+use Rattle.std.proofs.lemmas.List.Elements.{All-from_recursion}
+use Rattle.rhythm_base.specs.declared.note.Note.{Note}
 use Rattle.rhythm_gen.specs.Draws.{draw}
-use Rattle.rhythm_gen.specs.MidiFile.{conductor, header_bytes, track_chunk_bytes}
-use Rattle.rhythm_gen.specs.Track.{bytes_from, track_bytes}
+use Rattle.rhythm_gen.specs.MidiFile.{conductor, generated}
+use Rattle.rhythm_gen.specs.Track.{events_of, track_bytes}
 use Rattle.rhythm_gen.specs.Voice.{voice_notes}
-use Rattle.rhythm_gen.proofs.Sung.{voice_sung}
+use Rattle.rhythm_gen.proofs.Sung.{AreSung, voice_sung}
 use Rattle.rhythm_gen.proofs.Tracks.{track_short}
 use Rattle.rhythm_gen.proofs.Voices.{beats_few}
-use Rattle.smf_reader.specs.Chunk.{tracks}
-use Rattle.smf_reader.specs.Outcome.{◌>>=◌}
-use Rattle.smf_reader.specs.Played.{Track}
-use Rattle.smf_reader.specs.SmfFile.{smf}
-use Rattle.smf_reader.specs.Track.{begun_by, track}
-use Rattle.smf_reader.proofs.ReadToTheLastTrack.{is_read_to_its_last_track}
-use Rattle.smf_reader.proofs.StandingBytes.{stands_after, stands_after_one, short_read, bytes_are_at}
-use Rattle.smf_reader.proofs.StandingChunks.{content_stands, header_read, rest_stands, track_read}
-use Rattle.smf_reader.proofs.StandingEvents.{end_read, meta_event_read}
-use Rattle.piece_laws.specs.Events.{played_conductor, played_voice}
+use Rattle.smf_bytes.specs.Chunk.{header_bytes, track_chunk_bytes}
+use Rattle.smf_bytes.specs.Track.{bytes_from, end_of_track_bytes, timed_message}
+use Rattle.smf_reader.specs.Outcomes.{SaysFile}
+use Rattle.smf_laws.specs.Written.{AreLater, IsWritable, written_file, written_track}
+use Rattle.smf_laws.proofs.Files.{files_read}
+use Rattle.piece_laws.specs.Events.{meant_file, played_conductor, played_note, played_voice}
 use Rattle.piece_laws.specs.Laws.{PiecesAreRead}
-use Rattle.piece_laws.proofs.VoiceTracks.{voice_read}
 
--- a content that is read as a track wherever it ends the bytes
-abbrev IsTrackOf : List ℕ → Track → Type 0
-IsTrackOf content t = (bytes : List ℕ) (p : ℕ) → drop p bytes ≡ content → track bytes p ≡ Ok t
+-- ---- what the tracks are written of
 
--- a track's chunk, and the tracks after it
-one_track : (bytes : List ℕ) (p count : ℕ) (content rest : List ℕ) (t : Track) (others : List Track) → length content < 4294967296 → drop p bytes ≡ track_chunk_bytes content ++ rest → IsTrackOf content t
-    → ((q : ℕ) → drop q bytes ≡ rest → tracks (length bytes) count bytes q ≡ Ok others) → tracks (length bytes) (suc count) bytes p ≡ Ok (t ∷ others)
-one_track bytes p count content rest t others short at reads more =
-    let a = length content / 16777216 % 256 in
-    let b = length content / 65536 % 256 in
-    let c = length content / 256 % 256 in
-    let d = length content % 256 in
-    let size : a * 16777216 + b * 65536 + c * 256 + d ≡ length content = omega arith in
-    track_read bytes p a b c d content rest at size count
-    ∙ ap (λ (r : Result Track _). r >>= λ first. tracks (length bytes) count bytes (p + 8 + length content) >>= λ later. Ok (first ∷ later)) (reads _ _ (content_stands bytes p a b c d content rest at size))
-    ∙ ap (λ (r : Result (List Track) _). r >>= λ later. Ok (t ∷ later)) (more _ (rest_stands bytes p a b c d content rest at size))
+voice_messages : (notes : List Note) → flat_map events_of notes ≡ map timed_message (flat_map played_note notes)
+voice_messages [] = refl
+voice_messages (n ∷ ns) =
+    ap (λ (messages : List (ℕ × List ℕ)). (n.onset, (144 + n.channel) ∷ n.key ∷ 64 ∷ []) ∷ (n.end, (128 + n.channel) ∷ n.key ∷ 0 ∷ []) ∷ messages) (voice_messages ns)
 
--- three tracks after the header
-three_read : (first second third : List ℕ) (s t u : Track) → length first < 4294967296 → length second < 4294967296 → length third < 4294967296 → IsTrackOf first s → IsTrackOf second t → IsTrackOf third u
-    → smf (header_bytes ++ (track_chunk_bytes first ++ (track_chunk_bytes second ++ track_chunk_bytes third))) ≡ Ok (record { division = 480; tracks = s ∷ t ∷ u ∷ [] })
-three_read first second third s t u short1 short2 short3 reads1 reads2 reads3 =
-    let rest2 : List ℕ = track_chunk_bytes second ++ track_chunk_bytes third in
-    let rest1 : List ℕ = track_chunk_bytes first ++ rest2 in
-    let bytes : List ℕ = header_bytes ++ rest1 in
-    header_read bytes rest1 refl
-    ∙ ap (λ (r : Result (List Track) _). r >>= λ played. Ok (record { division = 480; tracks = played }))
-    (one_track bytes 14 2 first rest2 s (t ∷ u ∷ []) short1 refl reads1
-    (λ p at. one_track bytes p 1 second (track_chunk_bytes third) t (u ∷ []) short2 at reads2
-    (λ q here. one_track bytes q 0 third [] u [] short3 (here ∙ sym (append-nil (track_chunk_bytes third))) reads3 (λ r there. (is_read_to_its_last_track bytes).over r))))
+voice_written : (notes : List Note) (end : ℕ) → track_bytes notes end ≡ written_track (played_voice notes end)
+voice_written notes end = ap (λ (messages : List (ℕ × List ℕ)). bytes_from 0 (messages ++ (end, end_of_track_bytes) ∷ [])) (voice_messages notes)
 
-after_meta : (bytes : List ℕ) (p type : ℕ) (said rest : List ℕ) → drop p bytes ≡ 255 ∷ type ∷ length said ∷ (said ++ rest) → drop (p + 2 + 1 + length said) bytes ≡ rest
-after_meta bytes p type said rest at =
-    stands_after bytes (p + 2 + 1) said rest (stands_after_one bytes (p + 2) (length said) (said ++ rest) (stands_after bytes p (255 ∷ type ∷ []) (length said ∷ (said ++ rest)) at))
-
--- the tempo, the signature and the end of the first track
-conductor_read : IsTrackOf conductor played_conductor
+conductor_written : conductor ≡ written_track played_conductor
 unfolding bytes_from
-conductor_read bytes p at =
-    let end : List ℕ = 255 ∷ 47 ∷ 0 ∷ [] in
-    let two : List ℕ = 255 ∷ 88 ∷ 4 ∷ 4 ∷ 2 ∷ 24 ∷ 8 ∷ 0 ∷ end in
-    let one : List ℕ = 255 ∷ 81 ∷ 3 ∷ 7 ∷ 161 ∷ 32 ∷ 0 ∷ two in
-    let here : drop (p + 1) bytes ≡ one = stands_after_one bytes p 0 one at in
-    let p1 = p + 1 + 2 + 1 + 3 in
-    let at1 : drop p1 bytes ≡ 0 ∷ two = after_meta bytes (p + 1) 81 (7 ∷ 161 ∷ 32 ∷ []) (0 ∷ two) here in
-    let here1 : drop (p1 + 1) bytes ≡ two = stands_after_one bytes p1 0 two at1 in
-    let p2 = p1 + 1 + 2 + 1 + 4 in
-    let at2 : drop p2 bytes ≡ 0 ∷ end = after_meta bytes (p1 + 1) 88 (4 ∷ 2 ∷ 24 ∷ 8 ∷ []) (0 ∷ end) here1 in
-    let here2 : drop (p2 + 1) bytes ≡ end = stands_after_one bytes p2 0 end at2 in
-    let size = bytes_are_at bytes p 0 one at in
-    let size1 = bytes_are_at bytes p1 0 two at1 in
-    let size2 = bytes_are_at bytes p2 0 end at2 in
-    let tempo = meta_event_read bytes 0 p 0 (p + 1) None (short_read bytes p 0 one (omega arith) at) (omega arith) (omega arith) 81 (7 ∷ 161 ∷ 32 ∷ []) (0 ∷ two) (Tempo 500000) (omega arith) refl here in
-    let signature = meta_event_read bytes 0 p1 0 (p1 + 1) None (short_read bytes p1 0 two (omega arith) at1) (omega arith) (omega arith) 88 (4 ∷ 2 ∷ 24 ∷ 8 ∷ []) (0 ∷ end) (Signature 4 2) (omega arith) refl here1 in
-    let last = end_read bytes 0 p2 0 (p2 + 1) None (short_read bytes p2 0 end (omega arith) at2) (omega arith) (omega arith) [] here2 in
-    tempo
-    ∙ ap (λ (r : Result Track _). r >>= λ later. Ok (begun_by 0 (Tempo 500000) later)) (signature ∙ ap (λ (r : Result Track _). r >>= λ later. Ok (begun_by 0 (Signature 4 2) later)) last)
+conductor_written = refl
 
-short_conductor : length conductor < 4294967296
+-- ---- they can be written
+
+voice_later : (voice t : ℕ) (notes : List Note) (end : ℕ) → voice < 16 → AreSung voice t notes end → AreLater t (flat_map played_note notes) end
+voice_later voice t [] end few sung = sung
+voice_later voice t (n ∷ ns) end few sung =
+    let channel : n.channel < 16 = omega (arith, sung.0.of_voice) in
+    (sung.0.after, (channel, sung.0.key), (omega (arith, sung.0.order), (channel, sung.0.key), voice_later voice n.end ns end few sung.1))
+
+voice_writable : (start bars channel : ℕ) → bars ≤ 2000 → channel < 16 → IsWritable (played_voice (voice_notes start bars channel) (1920 * bars))
+voice_writable start bars channel few small =
+    let notes = voice_notes start bars channel in
+    record {
+      later = voice_later channel 0 notes (1920 * bars) small (voice_sung start bars channel);
+      early = omega arith;
+      short = omega (arith, ap length (voice_written notes (1920 * bars)), track_short notes (1920 * bars), beats_few start channel (4 * bars));
+    }
+
+conductor_writable : IsWritable played_conductor
 unfolding bytes_from
-short_conductor = omega arith
+conductor_writable = record { later = (omega arith, (omega arith, omega arith), (omega arith, tt, omega arith)); early = omega arith; short = omega arith }
 
-short_voice : (start bars channel : ℕ) → bars ≤ 2000 → length (track_bytes (voice_notes start bars channel) (1920 * bars)) < 4294967296
-short_voice start bars channel few = omega (arith, track_short (voice_notes start bars channel) (1920 * bars), beats_few start channel (4 * bars))
+-- ---- the file
+
+file_written : (number bars : ℕ) → generated number bars ≡ written_file (meant_file number bars)
+file_written number bars =
+    let start = draw number (4 * bars) in
+    let end = 1920 * bars in
+    let upper = voice_notes number bars 0 in
+    let lower = voice_notes start bars 1 in
+    ap (λ (c : List ℕ). header_bytes 3 480 ++ (track_chunk_bytes c ++ (track_chunk_bytes (track_bytes upper end) ++ track_chunk_bytes (track_bytes lower end)))) conductor_written
+    ∙ ap (λ (c : List ℕ). header_bytes 3 480 ++ (track_chunk_bytes (written_track played_conductor) ++ (track_chunk_bytes c ++ track_chunk_bytes (track_bytes lower end)))) (voice_written upper end)
+    ∙ ap (λ (c : List ℕ). header_bytes 3 480 ++ (track_chunk_bytes (written_track played_conductor) ++ (track_chunk_bytes (written_track (played_voice upper end)) ++ track_chunk_bytes c))) (voice_written lower end)
+    ∙ ap (λ (c : List ℕ). header_bytes 3 480 ++ (track_chunk_bytes (written_track played_conductor) ++ (track_chunk_bytes (written_track (played_voice upper end)) ++ c)))
+    (sym (append-nil (track_chunk_bytes (written_track (played_voice lower end)))))
 
 pub pieces_read : PiecesAreRead
 pieces_read number bars few =
     let start = draw number (4 * bars) in
-    three_read conductor (track_bytes (voice_notes number bars 0) (1920 * bars)) (track_bytes (voice_notes start bars 1) (1920 * bars))
-    played_conductor (played_voice (voice_notes number bars 0) (1920 * bars)) (played_voice (voice_notes start bars 1) (1920 * bars))
-    short_conductor (short_voice number bars 0 few) (short_voice start bars 1 few)
-    conductor_read (voice_read 0 (voice_notes number bars 0) (1920 * bars) (omega arith) (omega arith) (voice_sung number bars 0))
-    (voice_read 1 (voice_notes start bars 1) (1920 * bars) (omega arith) (omega arith) (voice_sung start bars 1))
+    let P : List ℕ → Type 0 = λ bytes. SaysFile bytes (meant_file number bars) in
+    subst P (sym (file_written number bars)) (files_read (meant_file number bars) record {
+      some_tick = omega arith;
+      few_ticks = omega arith;
+      few_tracks = omega arith;
+      tracks = All-from_recursion IsWritable (meant_file number bars).tracks (conductor_writable, (voice_writable number bars 0 few (omega arith), (voice_writable start bars 1 few (omega arith), tt)));
+    })

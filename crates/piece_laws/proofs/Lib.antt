@@ -1,5 +1,3 @@
-pub mod Quantities
-pub mod VoiceTracks
 pub mod Files
 pub mod EvenBars
 pub mod NoteEvents

@@ -1,5 +1,4 @@
 pub mod OneMoreDraw
-pub mod ShortForms
 pub mod Tracks
 pub mod Voices
 pub mod Opening

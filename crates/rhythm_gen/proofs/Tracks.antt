@@ -3,9 +3,10 @@ use Rattle.std.proofs.Common.{◌≡◌, ℕ, ◌+◌, ◌-◌, ◌*◌, ◌≤�
 use Rattle.std.specs.List.{flat_map}
 use Rattle.std.proofs.lemmas.Grind.{flat_map-append}
 use Rattle.rhythm_base.specs.declared.note.Note.{Note}
-use Rattle.rhythm_gen.specs.Quantity.{quantity_bytes}
-use Rattle.rhythm_gen.specs.Track.{bytes_from, end_of_track_bytes, events_of, track_bytes}
-use Rattle.rhythm_gen.proofs.ShortForms.{quantity_short}
+use Rattle.smf_bytes.specs.Quantity.{quantity_bytes}
+use Rattle.rhythm_gen.specs.Track.{events_of, track_bytes}
+use Rattle.smf_bytes.specs.Track.{bytes_from, end_of_track_bytes}
+use Rattle.smf_bytes.proofs.ShortForms.{quantity_short}
 
 -- the tick at which the last note ends, or t where there is none
 abbrev pub last_end : ℕ → List Note → ℕ

@@ -1,17 +1,10 @@
 -- The generated file.
-use Rattle.std.specs.Prelude.{ℕ, ◌*◌, List, [], ◌∷◌, ◌++◌, length, codes}
-use Rattle.std.specs.Int.{w16, w32, to_be_bytes}
+use Rattle.std.specs.Prelude.{ℕ, ◌*◌, List, [], ◌∷◌, ◌++◌}
 use Rattle.rhythm_gen.specs.Draws.{draw}
-use Rattle.rhythm_gen.specs.Track.{bytes_from, end_of_track_bytes, track_bytes}
+use Rattle.rhythm_gen.specs.Track.{track_bytes}
 use Rattle.rhythm_gen.specs.Voice.{voice_notes}
-
--- a chunk: its name, its length and its content
-abbrev pub chunk_bytes : List ℕ → List ℕ → List ℕ
-chunk_bytes name content = name ++ (to_be_bytes w32 (length content) ++ content)
-
--- format 1, three tracks, 480 ticks to a quarter note
-abbrev pub header_bytes : List ℕ
-header_bytes = chunk_bytes (codes "MThd") (to_be_bytes w16 1 ++ (to_be_bytes w16 3 ++ to_be_bytes w16 480))
+use Rattle.smf_bytes.specs.Chunk.{header_bytes, track_chunk_bytes}
+use Rattle.smf_bytes.specs.Track.{bytes_from, end_of_track_bytes}
 
 -- 500,000 microseconds to a quarter note
 abbrev pub tempo_bytes : List ℕ
@@ -25,14 +18,12 @@ signature_bytes = 255 ∷ 88 ∷ 4 ∷ 4 ∷ 2 ∷ 24 ∷ 8 ∷ []
 abbrev pub conductor : List ℕ
 conductor = bytes_from 0 ((0, tempo_bytes) ∷ (0, signature_bytes) ∷ (0, end_of_track_bytes) ∷ [])
 
-abbrev pub track_chunk_bytes : List ℕ → List ℕ
-track_chunk_bytes content = chunk_bytes (codes "MTrk") content
-
 -- The track of a voice, where the stream has come to `start`. Each bar has 1920 ticks.
 abbrev pub voice_track : ℕ → ℕ → ℕ → List ℕ
 voice_track start bars channel = track_chunk_bytes (track_bytes (voice_notes start bars channel) (1920 * bars))
 
--- The file of a number and a count of bars. Channel 1 goes on in the stream after the draws of channel 0.
+-- The file of a number and a count of bars: three tracks, and 480 ticks to a quarter note. Channel 1 goes on in the stream
+-- after the draws of channel 0.
 abbrev pub generated : ℕ → ℕ → List ℕ
 generated number bars =
-    header_bytes ++ (track_chunk_bytes conductor ++ (voice_track number bars 0 ++ voice_track (draw number (4 * bars)) bars 1))
+    header_bytes 3 480 ++ (track_chunk_bytes conductor ++ (voice_track number bars 0 ++ voice_track (draw number (4 * bars)) bars 1))

@@ -1,25 +1,16 @@
 ghost use Rattle.rhythm_gen.specs.Draws.{draw};
-ghost use Rattle.rhythm_gen.specs.MidiFile.{generated, track_chunk_bytes, voice_track};
-ghost use Rattle.std.specs.Prelude.{◌≡◌, ◌++◌, ◌<◌, ◌≤◌, ◌*◌, ◌^◌, IfOk, OnOk, length};
+ghost use Rattle.rhythm_gen.specs.MidiFile.{generated, voice_track};
+ghost use Rattle.std.specs.Prelude.{◌≡◌, ◌++◌, ◌<◌, ◌≤◌, ◌*◌, IfOk, OnOk};
 
 use crate::draws::Draws;
 use crate::track::track_content;
 use crate::voice::voice_notes;
+use smf_bytes::push_track;
 use std::alloc::{AllocError, Global};
 
 /// The header of format 1 with three tracks and 480 ticks to a quarter note, and the track of the tempo and the signature.
 const OPENING: [u8; 41] = *b"MThd\0\0\0\x06\0\x01\0\x03\x01\xe0\
     MTrk\0\0\0\x13\0\xff\x51\x03\x07\xa1\x20\0\xff\x58\x04\x04\x02\x18\x08\0\xff\x2f\0";
-
-/// Appends a track of this content.
-fn push_track(bytes: &mut Vec<u8>, content: &[u8]) -> Result<(), AllocError>
-    requires { length content.now < 2 ^ 32 }
-    ensures { OnOk result (bytes.new.items ≡ bytes.old.items ++ track_chunk_bytes content.now) }
-{
-    bytes.extend_from_slice(b"MTrk")?;
-    bytes.extend_from_slice(&(content.len() as u32).to_be_bytes())?;
-    bytes.extend_from_slice(content)
-}
 
 /// Appends the track of a voice.
 fn push_voice(

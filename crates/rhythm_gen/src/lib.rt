@@ -8,11 +8,8 @@ mod draws;
 mod drill;
 mod figure;
 mod file;
-mod laws;
-mod timed_message;
 mod track;
 mod voice;
 
 pub use drill::drill_edit;
 pub use file::generate;
-pub use laws::quantities_are_shortest;

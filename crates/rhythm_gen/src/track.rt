@@ -1,9 +1,10 @@
-ghost use Rattle.rhythm_gen.specs.Track.{bytes_from, events_of, track_bytes};
+ghost use Rattle.rhythm_gen.specs.Track.{events_of, track_bytes};
 ghost use Rattle.rhythm_gen.specs.Voice.{CanBeWritten};
+ghost use Rattle.smf_bytes.specs.Track.{bytes_from};
 ghost use Rattle.std.specs.Prelude.{◌≡◌, ◌++◌, ◌<◌, ◌≤◌, ◌+◌, ◌*◌, ◌-◌, All, IfOk, OnOk, length};
 
-use crate::timed_message::push_event;
-use rhythm_base::Note;
+use rhythm_base::{Note, What};
+use smf_bytes::{push_end, push_event};
 use std::alloc::{AllocError, Global};
 
 /// Appends the note on and the note off of a note after the tick.
@@ -11,10 +12,22 @@ fn push_note(content: &mut Vec<u8>, tick: u64, note: &Note) -> Result<(), AllocE
     requires { CanBeWritten note.now }
     ensures { OnOk result (content.new.items ≡ content.old.items ++ bytes_from tick (events_of note.now)) }
 {
-    let before = note.onset.saturating_sub(tick);
-    let length = note.end.saturating_sub(note.onset);
-    push_event(content, before, 0x90 + note.channel, note.key, 0x40)?;
-    push_event(content, length, 0x80 + note.channel, note.key, 0)
+    let Note {
+        channel,
+        key,
+        onset,
+        end,
+    } = *note;
+    push_event(
+        content,
+        onset.saturating_sub(tick),
+        What::On { channel, key },
+    )?;
+    push_event(
+        content,
+        end.saturating_sub(onset),
+        What::Off { channel, key },
+    )
 }
 
 /// The content of a track of these notes that ends at a tick.
@@ -30,6 +43,6 @@ pub(crate) fn track_content(alloc: Global, notes: &[Note], end: u64) -> Result<V
         push_note(&mut content, tick, note)?;
         tick = note.end;
     }
-    push_event(&mut content, end.saturating_sub(tick), 0xff, 0x2f, 0)?;
+    push_end(&mut content, end.saturating_sub(tick))?;
     Ok(content)
 }

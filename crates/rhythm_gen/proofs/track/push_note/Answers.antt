@@ -1,6 +1,6 @@
 use Rattle.std.proofs.Common.{rules, ◌≡◌, ◌++◌, ◌+◌, ◌-◌, IfOk, ℕ, List, [], ◌∷◌, ap, ◌∙◌}
 use Rattle.std.proofs.lemmas.Result.{IfOk-equal}
-use Rattle.rhythm_gen.specs.Quantity.{quantity_bytes}
+use Rattle.smf_bytes.specs.Quantity.{quantity_bytes}
 use Rattle.rhythm_gen.proofs.Tracks.{note_bytes}
 use Rattle.rhythm_gen.proofs.track.push_note.Goals as goal
 

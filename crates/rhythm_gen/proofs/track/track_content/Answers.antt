@@ -4,8 +4,9 @@ use Rattle.std.proofs.Math.Numerals.{add-one}
 use Rattle.std.proofs.Math.Seq.{take-suc}
 use Rattle.std.proofs.lemmas.List.{take_all}
 use Rattle.rhythm_base.specs.declared.note.Note.{Note}
-use Rattle.rhythm_gen.specs.Quantity.{quantity_bytes}
-use Rattle.rhythm_gen.specs.Track.{bytes_from, end_of_track_bytes, events_of, track_bytes}
+use Rattle.smf_bytes.specs.Quantity.{quantity_bytes}
+use Rattle.rhythm_gen.specs.Track.{events_of, track_bytes}
+use Rattle.smf_bytes.specs.Track.{bytes_from, end_of_track_bytes}
 use Rattle.rhythm_gen.proofs.Tracks.{bytes_end, bytes_push, last_end, last_end_push, no_bytes}
 use Rattle.rhythm_gen.proofs.track.track_content.Goals as goal
 
@@ -37,7 +38,7 @@ returns c =
     let notes = c.args.notes.now in
     let i = c.loop-note.note-index in
     let all : take i notes ≡ notes = take_all i notes (search rules) in
-    let ended : c.push_event.new.content.items ≡ c.loop-note.content.items ++ (quantity_bytes (c.args.end - c.loop-note.tick) ++ end_of_track_bytes) = search rules in
+    let ended : c.push_end.new.content.items ≡ c.loop-note.content.items ++ (quantity_bytes (c.args.end - c.loop-note.tick) ++ end_of_track_bytes) = search rules in
     ended
     ∙ ap (λ (xs : List ℕ). xs ++ (quantity_bytes (c.args.end - c.loop-note.tick) ++ end_of_track_bytes)) c.loop-note.invariant.so_far
     ∙ ap (λ t. bytes_from 0 (flat_map events_of (take i notes)) ++ (quantity_bytes (c.args.end - t) ++ end_of_track_bytes)) c.loop-note.invariant.tick

@@ -1,6 +1,7 @@
 use Rattle.std.proofs.Common.{◌≡◌, take}
 use Rattle.std.specs.List.{flat_map}
-use Rattle.rhythm_gen.specs.Track.{bytes_from, events_of}
+use Rattle.rhythm_gen.specs.Track.{events_of}
+use Rattle.smf_bytes.specs.Track.{bytes_from}
 use Rattle.rhythm_gen.proofs.Tracks.{last_end}
 use Rattle.rhythm_gen.proofs.track.track_content.Given as goal
 

@@ -1,0 +1,3 @@
+pub mod ScoreParts
+pub mod SpansFollow
+pub mod VoiceEvents

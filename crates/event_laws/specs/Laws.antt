@@ -1,0 +1,30 @@
+-- The laws, each as one statement over the definitions.
+use Rattle.std.specs.Prelude.{◌≡◌, ℕ, List, length, map, Ok}
+use Rattle.rhythm_base.specs.declared.note.Bar.{Bar}
+use Rattle.rhythm_base.specs.Grammar.{Grammar}
+use Rattle.rhythm_base.specs.Performance.{IsWellFormed, Performance}
+use Rattle.rhythm_base.specs.Readable.{IsReadable}
+use Rattle.derivation.specs.PerformanceScore.{score_bar}
+use Rattle.derivation.specs.Score.{IsScore, Score}
+use Rattle.kern_writer.specs.PerformanceText.{IsTextOf}
+use Rattle.kern_reader.specs.declared.event.KernEvent.{KernEvent}
+use Rattle.kern_reader.specs.Events.{AreEvents}
+use Rattle.kern_reader.specs.Outcome.{score_of}
+use Rattle.kern_reader.specs.Score.{KernColumns}
+use Rattle.kern_laws.specs.ReadBack.{AreVoiceSpans, HaveSignatures}
+use Rattle.voice_events.specs.VoiceEvents.{AreVoiceEvents}
+use Rattle.voice_events.specs.Writable.{IsWritable}
+
+-- the spans of the voices of a score that can be written
+abbrev pub SpansAreVoiceEvents : Type 0
+SpansAreVoiceEvents =
+    (s : Score) (bars : List Bar) (events : List KernEvent) → IsScore s → HaveSignatures s.bars bars
+    → AreVoiceSpans s.resolution bars 1 s.voices events → AreVoiceEvents s.resolution s.bars (length s.voices) events
+
+-- what is read of the score of a performance: its events, over these bars and voices, can be handed to a writer
+pub record TextsHaveVoiceEvents : Type 0 where
+  pub events : (g : Grammar) (p : Performance) (text : List ℕ) (k : KernColumns) (events : List KernEvent)
+      → IsReadable g → IsWellFormed p → IsTextOf g p text → score_of text ≡ Ok k → AreEvents k events
+      → AreVoiceEvents g.resolution (map (score_bar p) p.bars) (length p.channels) events
+  pub writable : (g : Grammar) (p : Performance) (text : List ℕ) → IsReadable g → IsWellFormed p → IsTextOf g p text
+      → IsWritable g.resolution (map (score_bar p) p.bars) (length p.channels)

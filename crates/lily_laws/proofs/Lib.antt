@@ -1,0 +1,16 @@
+pub mod BarWords
+pub mod BarsHeard
+pub mod ChordsHeard
+pub mod ElementWords
+pub mod ElementsHeard
+pub mod Fractions
+pub mod KeySums
+pub mod LineStarts
+pub mod PageLines
+pub mod Pages
+pub mod Pitches
+pub mod Reached
+pub mod StavesRead
+pub mod ValueTexts
+pub mod ValuesHeard
+pub mod WrittenParts

@@ -1,0 +1,114 @@
+-- The lines of a page are cut where they were joined: none has a newline in it.
+use Rattle.rhythm_base.specs.declared.limits.TheConstants.{MOST_UNITS}
+use Rattle.std.proofs.Common.{◌≡◌, ℕ, zero, suc, ◌+◌, ◌≤◌, ◌==◌, not, Bool, true, false, List, [], ◌∷◌, ◌++◌, length, get_or, refl, ap, ◌∙◌, arith, append_assoc, Option, Some, None}
+use Rattle.std.specs.Prelude.{ℤ, All, codes, decimal, if◌then◌else◌}
+use Rattle.std.specs.Char.{is_ascii_digit}
+use Rattle.std.specs.List.{list_all, slice_split}
+use Rattle.std.proofs.lemmas.Bool.{and_from, and_parts}
+use Rattle.std.proofs.lemmas.List.Splits.{length-slice_split}
+use Rattle.rhythm_base.specs.declared.span.Span.{Span}
+use Rattle.derivation.specs.declared.score.ScoreBar.{ScoreBar}
+use Rattle.kern_writer.specs.Changes.{key_before, quarters_of_minute, same_key, same_signature, same_tempo}
+use Rattle.kern_writer.specs.Tokens.{has_flats}
+use Rattle.kern_reader.specs.Text.{kern_lines, lines_among}
+use Rattle.kern_laws.proofs.TextSplits.{split_first}
+use Rattle.kern_laws.proofs.TextTests.{all_append, all_weaker, decimal_digits, digit_graphic, graphic_prints, lacks, printing_no_newline}
+use Rattle.voice_events.specs.Parts.{bar_parts, score_parts}
+use Rattle.voice_events.specs.VoiceEvents.{IsVoiceSpan}
+use Rattle.lily_writer.specs.Changes.{changes, key_change, key_line, key_name, key_names, key_number, tempo_change, tempo_line, time_change, time_line}
+use Rattle.lily_writer.specs.Pieces.{stretches}
+use Rattle.lily_writer.specs.Staves.{AreBarLines, AreStaffLines, bar_line}
+use Rattle.lily_writer.specs.Text.{lines_text}
+use Rattle.lily_laws.proofs.BarWords.{bar_in_line, bar_sounds}
+
+-- ---- lines that were joined
+
+lines_more : (line : List ℕ) (pieces : List (List ℕ)) → 1 ≤ length pieces → lines_among (line ∷ pieces) ≡ line ∷ lines_among pieces
+lines_more [] [] some = absurd (omega (arith, some))
+lines_more (b ∷ line) [] some = absurd (omega (arith, some))
+lines_more [] (next ∷ more) some = refl
+lines_more (b ∷ line) (next ∷ more) some = refl
+
+abbrev pub are_lines : List (List ℕ) → Bool
+are_lines lines = list_all (lacks 10) lines
+
+pub lines_split : (lines : List (List ℕ)) → are_lines lines ≡ true → kern_lines (lines_text lines) ≡ lines
+lines_split [] h = refl
+lines_split (line ∷ lines) h =
+    let parts = and_parts (lacks 10 line) (are_lines lines) h in
+    let rest = lines_text lines in
+    ap kern_lines (append_assoc line (10 ∷ []) rest) ∙ ap lines_among (split_first 10 line rest parts.0)
+    ∙ lines_more line (slice_split (λ b. b == 10) rest) (omega (arith, length-slice_split (λ b. b == 10) rest))
+    ∙ ap (λ ls. line ∷ ls) (lines_split lines parts.1)
+
+-- ---- the lines of a staff
+
+free : ℕ → Bool
+free b = not (b == 10)
+
+digit_free : (b : ℕ) → is_ascii_digit b ≡ true → not (b == 10) ≡ true
+digit_free b h = printing_no_newline b (graphic_prints b (digit_graphic b h))
+
+number_free : (n : ℕ) → lacks 10 (decimal n) ≡ true
+number_free n = all_weaker is_ascii_digit (λ b. not (b == 10)) (decimal n) digit_free (decimal_digits n)
+
+-- any one of some texts, or none
+one_free : (texts : List (List ℕ)) (i : ℕ) → are_lines texts ≡ true → lacks 10 (get_or texts i []) ≡ true
+one_free [] i h = refl
+one_free (t ∷ texts) zero h = (and_parts (lacks 10 t) (are_lines texts) h).0
+one_free (t ∷ texts) (suc i) h = one_free texts i (and_parts (lacks 10 t) (are_lines texts) h).1
+
+key_free : (sf : ℤ) → lacks 10 (key_line sf) ≡ true
+key_free sf =
+    all_append (λ b. not (b == 10)) (codes "\\key " ++ key_name sf) (codes " \\major")
+    (all_append (λ b. not (b == 10)) (codes "\\key ") (key_name sf) refl (one_free key_names (key_number sf) refl)) refl
+
+time_free : (bar : ScoreBar) → lacks 10 (time_line bar) ≡ true
+time_free bar =
+    all_append (λ b. not (b == 10)) (codes "\\time " ++ decimal bar.num ++ codes "/") (decimal bar.den)
+    (all_append (λ b. not (b == 10)) (codes "\\time " ++ decimal bar.num) (codes "/")
+    (all_append (λ b. not (b == 10)) (codes "\\time ") (decimal bar.num) refl (number_free bar.num)) refl) (number_free bar.den)
+
+tempo_free : (bar : ScoreBar) → lacks 10 (tempo_line bar) ≡ true
+tempo_free bar = all_append (λ b. not (b == 10)) (codes "\\tempo 4 = ") (decimal (quarters_of_minute bar.tempo)) refl
+    (number_free (quarters_of_minute bar.tempo))
+
+one_line : (line : List ℕ) → lacks 10 line ≡ true → (b : Bool) → are_lines (if b then [] else line ∷ []) ≡ true
+one_line line h true = refl
+one_line line h false = and_from (lacks 10 line) true h refl
+
+key_lines : (old sf : Option ℤ) → are_lines (key_change old sf) ≡ true
+key_lines old None = refl
+key_lines old (Some sf) = one_line (key_line sf) (key_free sf) (same_key old sf)
+
+tempo_lines : (first : Bool) (old : Option ScoreBar) (bar : ScoreBar) → are_lines (if first then tempo_change old bar else []) ≡ true
+tempo_lines true old bar = one_line (tempo_line bar) (tempo_free bar) (same_tempo old bar)
+tempo_lines false old bar = refl
+
+changes_lines : (first : Bool) (old : Option ScoreBar) (bar : ScoreBar) → are_lines (changes first old bar) ≡ true
+changes_lines first old bar =
+    let key = key_change (key_before old) bar.sf in
+    let time = time_change old bar in
+    let tempo = if first then tempo_change old bar else [] in
+    all_append (lacks 10) (key ++ time) tempo
+    (all_append (lacks 10) key time (key_lines (key_before old) bar.sf)
+    (one_line (time_line bar) (time_free bar) (same_signature old bar))) (tempo_lines first old bar)
+
+bars_lines : (r end : ℕ) (first : Bool) (spans : List Span) (old : Option ScoreBar) (from : ℕ) (bars : List ScoreBar)
+    (lines : List (List ℕ)) → 1 ≤ r → r ≤ MOST_UNITS
+    → All (IsVoiceSpan r) spans → AreBarLines r first (stretches r 0 end spans) old from bars lines → are_lines lines ≡ true
+bars_lines r end first spans old from [] lines some few are all = ap are_lines all
+bars_lines r end first spans old from (bar ∷ bars) lines some few are (elements, others, own, rest, all) =
+    let line = bar_line (has_flats bar.sf) elements in
+    ap are_lines all
+    ∙ all_append (lacks 10) (changes first old bar) (line ∷ others) (changes_lines first old bar)
+    (and_from (lacks 10 line) (are_lines others) (bar_in_line (has_flats bar.sf) elements
+    (bar_sounds r some few from (from + bar_parts r bar) end spans elements are own))
+    (bars_lines r end first spans (Some bar) (from + bar_parts r bar) bars others some few are rest))
+
+pub staff_lines : (r : ℕ) (bars : List ScoreBar) (first : Bool) (spans : List Span) (lines : List (List ℕ)) → 1 ≤ r → r ≤ MOST_UNITS
+    → All (IsVoiceSpan r) spans
+    → AreStaffLines r bars first spans lines → are_lines lines ≡ true
+staff_lines r bars first spans lines some few are (own, all, is) =
+    ap are_lines is ∙ all_append (lacks 10) own (codes "}" ∷ [])
+    (bars_lines r (score_parts r bars) first spans None 0 bars own some few are all) refl

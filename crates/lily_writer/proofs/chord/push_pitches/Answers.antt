@@ -1,0 +1,41 @@
+use Rattle.std.proofs.Common.{◌≡◌, ℕ, ◌+◌, ◌++◌, List, length, map, sym, ap, ◌∙◌, arith}
+use Rattle.std.specs.List.{join_with_byte}
+use Rattle.kern_writer.specs.Tokens.{keys_from}
+use Rattle.kern_writer.proofs.RisingKeys.{chord_step, had, keys_all, keys_count, keys_skip, not_had}
+use Rattle.lily_writer.specs.Pitches.{pitch}
+use Rattle.lily_writer.proofs.chord.push_pitches.Goals as goal
+use Rattle.lily_writer.proofs.chord.push_pitches.Goals.{then-has+in_ok-push_between+in_ok-push_pitch, else-has}
+
+pub keys-preserved : goal.keys-preserved
+keys-preserved c =
+    let keys = c.args.keys in
+    let k = c.keys.key in
+    let note : ℕ → List ℕ = pitch c.args.flats in
+    let h = c.keys.invariant in
+    elim c.if-has.branch [
+      | then-has+in_ok-push_between+in_ok-push_pitch w ↦
+          let set = had c.has.result keys k c.has.ensures w.if-has.true in
+          let text = chord_step note keys k c.keys.number c.args.text.now.items c.keys.text.items w.push_between.new.text.items
+          w.push_pitch.new.text.items set h.text h.number w.in_ok-push_between.ensures w.in_ok-push_pitch.ensures in
+          record {
+            text = ap (λ v. v.items) w.text-is ∙ text;
+            number = w.number-is ∙ ap (λ n. n + 1) h.number ∙ sym (keys_count keys k set);
+            few = omega (arith, w.number-is, h.few);
+          }
+      | else-has w ↦
+          let same = keys_skip keys k (not_had c.has.result keys k c.has.ensures w.if-has.false) in
+          record {
+            text = ap (λ v. v.items) w.text-is ∙ h.text ∙ ap (λ ks. c.args.text.now.items ++ join_with_byte 32 (map note ks)) (sym same);
+            number = w.number-is ∙ h.number ∙ ap length (sym same);
+            few = omega (arith, w.number-is, h.few);
+          }
+    ]
+
+pub returns : goal.returns
+returns c =
+    let keys = c.args.keys in
+    let note : ℕ → List ℕ = pitch c.args.flats in
+    let all : c.keys.key ≡ 128 = omega (arith, c.keys-test.false, c.keys.auto.key-end) in
+    c.keys.invariant.text ∙ ap (λ n. c.args.text.now.items ++ join_with_byte 32 (map note (keys_from keys 0 n))) all
+    ∙ ap (λ ks. c.args.text.now.items ++ join_with_byte 32 (map note ks))
+    (keys_all keys 128 (omega arith) (λ i le lt. omega (arith, le, lt)))

@@ -1,0 +1,32 @@
+-- The elements of a bar: what stands between its spaces, grace chords and their braces as one.
+use Rattle.std.specs.Prelude.{ℕ, Bool, if◌then◌else◌, List, [], ◌++◌, codes}
+use Rattle.std.specs.List.{flat_map}
+use Rattle.durations.specs.declared.value.Value.{Value}
+use Rattle.lily_writer.specs.Pitches.{chord_text}
+use Rattle.lily_writer.specs.Values.{value_text}
+
+-- grace chords before a note; a value of a chord, of which the first one of a short chord is marked, and which is tied where
+-- another value of the chord follows; and a value of a rest
+pub data Element : Type 0 where
+  grace_group : List ℕ → Element
+  note_value : (keys : ℕ) (value : Value) (short : Bool) (tied : Bool) → Element
+  rest_value : Value → Element
+
+abbrev pub short_mark : Bool → List ℕ
+short_mark short = if short then codes "-." else []
+
+abbrev pub tie_mark : Bool → List ℕ
+tie_mark tied = if tied then codes "~" else []
+
+-- a grace chord is an eighth
+abbrev pub grace_text : Bool → ℕ → List ℕ
+grace_text flats keys = chord_text flats keys ++ codes "8 "
+
+abbrev pub element_text : Bool → Element → List ℕ
+element_text flats (grace_group chords) = codes "\\grace { " ++ flat_map (grace_text flats) chords ++ codes "}"
+element_text flats (note_value keys value short tied) = chord_text flats keys ++ value_text value ++ short_mark short ++ tie_mark tied
+element_text flats (rest_value value) = codes "r" ++ value_text value
+
+-- elements with a space after each
+abbrev pub elements_text : Bool → List Element → List ℕ
+elements_text flats elements = flat_map (λ e. element_text flats e ++ codes " ") elements

@@ -1,0 +1,19 @@
+-- Numbers of whole notes, in lowest terms.
+use Rattle.std.specs.Prelude.{ℕ, ◌+◌, ◌*◌, ◌/◌, ◌==◌, ◌&&◌, Bool}
+use Rattle.rhythm_base.specs.declared.span.Frac.{Frac}
+use Rattle.kern_reader.specs.Columns.{gcd}
+
+abbrev pub frac : ℕ → ℕ → Frac
+frac n d = record { num = n / gcd n d; den = d / gcd n d }
+
+abbrev pub nothing : Frac
+nothing = record { num = 0; den = 1 }
+
+abbrev pub plus : Frac → Frac → Frac
+plus f g = frac (f.num * g.den + g.num * f.den) (f.den * g.den)
+
+abbrev pub times : Frac → Frac → Frac
+times f g = frac (f.num * g.num) (f.den * g.den)
+
+abbrev pub same_frac : Frac → Frac → Bool
+same_frac f g = (f.num == g.num) && (f.den == g.den)

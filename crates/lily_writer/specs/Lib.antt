@@ -1,0 +1,13 @@
+pub mod Pitches
+pub mod Values
+pub mod Elements
+pub mod Pieces
+pub mod Changes
+pub mod Staves
+pub mod Text
+pub mod Laws
+pub mod Fractions
+pub mod Words
+pub mod Hearing
+pub mod Reading
+pub mod Writing

@@ -1,0 +1,26 @@
+-- The LilyPond text of a score: its staves, voice after voice.
+use Rattle.std.specs.Prelude.{◌≡◌, ℕ, ◌==◌, List, [], ◌∷◌, ◌++◌, codes}
+use Rattle.std.specs.List.{flat_map, range_with_len}
+use Rattle.rhythm_base.specs.Lists.{Each}
+use Rattle.derivation.specs.declared.score.ScoreBar.{ScoreBar}
+use Rattle.kern_reader.specs.declared.event.KernEvent.{KernEvent}
+use Rattle.lily_writer.specs.Staves.{AreStaffLines, voice_spans}
+
+abbrev pub lines_text : List (List ℕ) → List ℕ
+lines_text lines = flat_map (λ line. line ++ (10 ∷ [])) lines
+
+abbrev pub head : List (List ℕ)
+head = codes "\\version \"2.24.0\"" ∷ codes "\\score {" ∷ codes "<<" ∷ []
+
+abbrev pub tail : List (List ℕ)
+tail = codes ">>" ∷ codes "}" ∷ []
+
+-- the lines of the staff of a spine; the first one says the tempos
+abbrev pub IsStaff : ℕ → List ScoreBar → List KernEvent → ℕ → List (List ℕ) → Type 0
+IsStaff resolution bars events spine lines = AreStaffLines resolution bars (spine == 1) (voice_spans spine events) lines
+
+-- the text of events of so many voices over these bars
+abbrev pub IsLilyText : ℕ → List ScoreBar → ℕ → List KernEvent → List ℕ → Type 0
+IsLilyText resolution bars voices events text =
+    (staves : List (List (List ℕ))) × Each (IsStaff resolution bars events) (range_with_len 1 voices) staves
+    × (text ≡ lines_text (head ++ flat_map (λ lines. lines) staves ++ tail))

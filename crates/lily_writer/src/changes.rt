@@ -1,0 +1,167 @@
+ghost use Rattle.derivation.specs.Score.{IsKeySignature, IsScoreBar};
+ghost use Rattle.kern_writer.specs.Changes as kern;
+ghost use Rattle.kern_writer.specs.Changes.{key_before, quarters_of_minute};
+ghost use Rattle.lily_writer.specs.Changes as definitions;
+ghost use Rattle.lily_writer.specs.Changes.{changes, key_change, key_line, key_names, tempo_change, tempo_line, time_change, time_line};
+ghost use Rattle.lily_writer.specs.Text.{lines_text};
+ghost use Rattle.std.specs.Prelude.{◌≡◌, ◌∷◌, ◌<◌, ◌++◌, [], IfSome, OnOk, slice_index_or};
+
+use crate::value_text::push_number;
+use derivation::ScoreBar;
+use std::alloc::AllocError;
+
+/// The letters of the major keys from seven flats to seven sharps, each a fifth above the one before.
+const KEY_LETTERS: [u8; 15] = *b"cgdaebfcgdaebfc";
+
+/// The quarter notes of a minute, rounded, halves up.
+fn quarters(bar: &ScoreBar) -> u64
+    requires { IsScoreBar bar.now }
+    ensures { result ≡ quarters_of_minute bar.now.tempo }
+{
+    let tempo = u64::from(bar.tempo);
+    (120_000_000 + tempo) / (2 * tempo)
+}
+
+/// Whether a key is the one before.
+fn is_same_key(before: Option<i8>, sf: i8) -> bool
+    ensures { result ≡ kern.same_key before sf }
+{
+    match before {
+        None => false,
+        Some(other) => other == sf,
+    }
+}
+
+/// Whether the signature of a bar is the one before.
+fn is_same_signature(before: Option<ScoreBar>, bar: &ScoreBar) -> bool
+    ensures { result ≡ kern.same_signature before bar.now }
+{
+    match before {
+        None => false,
+        Some(other) => other.num == bar.num && other.den == bar.den,
+    }
+}
+
+/// Whether the tempo of a bar is rounded to the same number as the one before.
+fn is_same_tempo(before: Option<ScoreBar>, bar: &ScoreBar) -> bool
+    requires before { IfSome before IsScoreBar }
+    requires bar { IsScoreBar bar.now }
+    ensures { result ≡ kern.same_tempo before bar.now }
+{
+    match before {
+        None => false,
+        Some(other) => quarters(&other) == quarters(bar),
+    }
+}
+
+/// The key before.
+fn key_of(before: Option<ScoreBar>) -> Option<i8>
+    ensures { result ≡ key_before before }
+{
+    match before {
+        None => None,
+        Some(other) => other.sf,
+    }
+}
+
+/// The number of a key signature among those from seven flats to seven sharps.
+fn key_number(sf: i8) -> u8
+    requires { IsKeySignature sf }
+    ensures number { result ≡ definitions.key_number sf }
+    ensures few { result < 15 }
+{
+    let count = sf.unsigned_abs();
+    if sf < 0 { 7 - count } else { 7 + count }
+}
+
+/// Appends the name of the major key of this number.
+fn push_key_name(text: &mut Vec<u8>, number: u8) -> Result<(), AllocError>
+    requires { number < 15 }
+    ensures { OnOk result (text.new.items ≡ text.old.items ++ slice_index_or key_names number []) }
+{
+    text.push(KEY_LETTERS[usize::from(number)])?;
+    if number < 6 {
+        text.extend_from_slice(b"es")?;
+    } else if number > 12 {
+        text.extend_from_slice(b"is")?;
+    }
+    Ok(())
+}
+
+/// Writes the line of a key.
+fn write_key_line(text: &mut Vec<u8>, sf: i8) -> Result<(), AllocError>
+    requires { IsKeySignature sf }
+    ensures { OnOk result (text.new.items ≡ text.old.items ++ lines_text (key_line sf ∷ [])) }
+{
+    text.extend_from_slice(b"\\key ")?;
+    push_key_name(text, key_number(sf))?;
+    text.extend_from_slice(b" \\major\n")
+}
+
+/// Writes the key of a bar, where it has one and it is not the one before.
+fn write_key(text: &mut Vec<u8>, before: Option<i8>, key: Option<i8>) -> Result<(), AllocError>
+    requires { IfSome key IsKeySignature }
+    ensures { OnOk result (text.new.items ≡ text.old.items ++ lines_text (key_change before key)) }
+{
+    match key {
+        Some(sf) if !is_same_key(before, sf) => write_key_line(text, sf),
+        _ => Ok(()),
+    }
+}
+
+/// Writes the signature of a bar, where it is not the one before.
+fn write_time(
+    text: &mut Vec<u8>,
+    before: Option<ScoreBar>,
+    bar: &ScoreBar,
+) -> Result<(), AllocError>
+    ensures { OnOk result (text.new.items ≡ text.old.items ++ lines_text (time_change before bar.now)) }
+{
+    if is_same_signature(before, bar) {
+        return Ok(());
+    }
+    text.extend_from_slice(b"\\time ")?;
+    push_number(text, u64::from(bar.num))?;
+    text.push(b'/')?;
+    push_number(text, u64::from(bar.den))?;
+    text.push(b'\n')?;
+    Ok(())
+}
+
+/// Writes the tempo of a bar, where it is not the one before.
+fn write_tempo(
+    text: &mut Vec<u8>,
+    before: Option<ScoreBar>,
+    bar: &ScoreBar,
+) -> Result<(), AllocError>
+    requires before { IfSome before IsScoreBar }
+    requires bar { IsScoreBar bar.now }
+    ensures { OnOk result (text.new.items ≡ text.old.items ++ lines_text (tempo_change before bar.now)) }
+{
+    if is_same_tempo(before, bar) {
+        return Ok(());
+    }
+    text.extend_from_slice(b"\\tempo 4 = ")?;
+    push_number(text, quarters(bar))?;
+    text.push(b'\n')?;
+    Ok(())
+}
+
+/// Writes the changes before a bar, the tempo in the first staff alone.
+pub(crate) fn write_changes(
+    text: &mut Vec<u8>,
+    first: bool,
+    before: Option<ScoreBar>,
+    bar: &ScoreBar,
+) -> Result<(), AllocError>
+    requires before { IfSome before IsScoreBar }
+    requires bar { IsScoreBar bar.now }
+    ensures { OnOk result (text.new.items ≡ text.old.items ++ lines_text (changes first before bar.now)) }
+{
+    write_key(text, key_of(before), bar.sf)?;
+    write_time(text, before, bar)?;
+    if first {
+        write_tempo(text, before, bar)?;
+    }
+    Ok(())
+}

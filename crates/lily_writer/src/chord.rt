@@ -1,0 +1,60 @@
+ghost use Rattle.kern_writer.specs.Tokens.{rising_keys};
+ghost use Rattle.lily_writer.specs.Pitches.{chord_text, pitch};
+ghost use Rattle.kern_writer.specs.Shared.{between};
+ghost use Rattle.std.specs.List.{join_with_byte};
+ghost use Rattle.std.specs.Prelude.{◌≡◌, ◌++◌, OnOk, length, map};
+
+use crate::pitch::push_pitch;
+use rhythm_base::Keys;
+use std::alloc::AllocError;
+
+/// How many keys are in a set.
+fn key_count(keys: Keys) -> usize
+    ensures { result ≡ length (rising_keys keys) }
+{
+    let mut count = 0;
+    'keys: for key in 0..128 {
+        if keys.has(key) {
+            count += 1;
+        }
+    }
+    count
+}
+
+/// Appends a byte, but before what is the first.
+fn push_between(text: &mut Vec<u8>, byte: u8, number: usize) -> Result<(), AllocError>
+    ensures { OnOk result (text.new.items ≡ text.old.items ++ between byte number) }
+{
+    if number > 0 {
+        text.push(byte)?;
+    }
+    Ok(())
+}
+
+/// Appends the pitches of a chord by rising key, with a space between two.
+fn push_pitches(text: &mut Vec<u8>, flats: bool, keys: Keys) -> Result<(), AllocError>
+    ensures { OnOk result (text.new.items ≡ text.old.items ++ join_with_byte 32 (map (pitch flats) (rising_keys keys))) }
+{
+    let mut number = 0;
+    'keys: for key in 0..128 {
+        if keys.has(key) {
+            push_between(text, b' ', number)?;
+            push_pitch(text, flats, key)?;
+            number += 1;
+        }
+    }
+    Ok(())
+}
+
+/// Appends a chord: the pitch of its key, or those of several between angles.
+pub(crate) fn push_chord(text: &mut Vec<u8>, flats: bool, keys: Keys) -> Result<(), AllocError>
+    ensures { OnOk result (text.new.items ≡ text.old.items ++ chord_text flats keys) }
+{
+    if key_count(keys) == 1 {
+        return push_pitches(text, flats, keys);
+    }
+    text.push(b'<')?;
+    push_pitches(text, flats, keys)?;
+    text.push(b'>')?;
+    Ok(())
+}

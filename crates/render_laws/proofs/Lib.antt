@@ -1,0 +1,5 @@
+pub mod PlayedNotes
+pub mod VoiceTracks
+pub mod AllVoices
+pub mod ReadChanges
+pub mod ReadFile

@@ -1,0 +1,44 @@
+-- What is read of the MIDI file of a score.
+use Rattle.std.specs.Prelude.{◌≡◌, ℕ, ◌*◌, Bool, true, false, List, [], ◌∷◌, ◌++◌, filter}
+use Rattle.std.proofs.Common.{suc}
+use Rattle.rhythm_base.specs.declared.event.Event.{Event}
+use Rattle.rhythm_base.specs.declared.event.What.{What}
+use Rattle.rhythm_base.specs.declared.event.What.TheVariants.{On, Off, Tempo, Signature, KeySig}
+use Rattle.rhythm_base.specs.declared.note.Note.{Note}
+use Rattle.rhythm_base.specs.Notes.{AreNotes}
+use Rattle.derivation.specs.declared.score.ScoreBar.{ScoreBar}
+use Rattle.kern_reader.specs.declared.event.KernEvent.{KernEvent}
+use Rattle.performance_load.specs.Loading.{AreMergedOf, last_tick}
+use Rattle.smf_reader.specs.Outcomes.{SaysFile}
+use Rattle.smf_reader.specs.Played.{Smf}
+use Rattle.smf_writer.specs.Changes.{conductor}
+use Rattle.smf_writer.specs.EventNotes.{AreKept}
+use Rattle.smf_writer.specs.RenderedFile.{spine_notes}
+use Rattle.voice_events.specs.Parts.{score_parts}
+
+-- the kept notes of the spines from this number on, a channel each, spine after spine
+abbrev pub AreSpineNotesFrom : ℕ → List KernEvent → ℕ → List ℕ → List Note → Type 0
+AreSpineNotesFrom resolution events spine [] notes = notes ≡ []
+AreSpineNotesFrom resolution events spine (channel ∷ channels) notes =
+    (own : List Note) × (others : List Note) × AreKept (spine_notes resolution channel spine events) own
+    × AreSpineNotesFrom resolution events (suc spine) channels others × (notes ≡ own ++ others)
+
+-- it changes the tempo, the signature or the key
+abbrev pub is_change : What → Bool
+is_change (On channel key) = false
+is_change (Off channel key) = false
+is_change (Tempo micros) = true
+is_change (Signature num dd) = true
+is_change (KeySig sf) = true
+
+-- The bytes say a file. It has 16 * R ticks to the quarter note, and its last tick is the last barline's. Of its events in one
+-- list the notes are the kept notes, and the changes are those of the bars.
+pub record ReadsBack (resolution : ℕ) (bars : List ScoreBar) (channels : List ℕ) (events : List KernEvent) (bytes : List ℕ) : Type 0 where
+  pub file : Smf
+  pub says : SaysFile bytes file
+  pub division : file.division ≡ 16 * resolution
+  pub last : last_tick file ≡ score_parts resolution bars
+  pub notes : List Note
+  pub are_notes : AreSpineNotesFrom resolution events 1 channels notes
+  pub played : (merged : List Event) → AreMergedOf file merged → AreNotes (last_tick file) merged notes
+  pub changed : (merged : List Event) → AreMergedOf file merged → filter (λ e. is_change e.what) merged ≡ conductor resolution bars

@@ -1,0 +1,14 @@
+pub mod Histories
+pub mod TakenBack
+pub mod FewReached
+pub mod LastSteps
+pub mod StudioWords
+pub mod OneStudioAnswers
+pub mod NoStepText
+pub mod Ends
+pub mod Keeping
+pub mod Leads
+pub mod Moves
+pub mod Views
+pub mod Outcomes
+pub mod WorkedStudios

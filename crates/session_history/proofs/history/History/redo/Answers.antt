@@ -1,0 +1,49 @@
+use Rattle.std.proofs.Common.{subst, sym}
+use Rattle.session_history.specs.Changes.{IsRedone}
+use Rattle.session_history.specs.Ways.{KeepsWays}
+use Rattle.session_history.proofs.Moves.{gone_there, next_way, lives_derived, lives_formed, redone_keeps}
+use Rattle.session_history.proofs.Views.{seen, redone_is}
+use Rattle.session_history.proofs.history.History.redo.Goals as goal
+
+pub take_back-committed-requires-clause-suits : goal.take_back-committed-requires-clause-suits
+take_back-committed-requires-clause-suits g c κs within =
+    let kept = c.self.inside in (next_way kept.session kept.past kept.future c.self.invariant c.take_first.new.self c.in-Some.step c.in-Some.ensures).0
+
+pub take_back-committed-requires-clause-formed : goal.take_back-committed-requires-clause-formed
+take_back-committed-requires-clause-formed g c κs within =
+    let kept = c.self.inside in
+    let way = next_way kept.session kept.past kept.future c.self.invariant c.take_first.new.self c.in-Some.step c.in-Some.ensures in
+    lives_formed kept.session.grammar c.in-Some.step.next way.1.lives
+
+pub take_back-committed-requires-clause-derivations : goal.take_back-committed-requires-clause-derivations
+take_back-committed-requires-clause-derivations g c κs within =
+    let kept = c.self.inside in
+    let way = next_way kept.session kept.past kept.future c.self.invariant c.take_first.new.self c.in-Some.step c.in-Some.ensures in
+    lives_derived kept.session.grammar c.in-Some.step.next way.1.lives
+
+pub take_back-committed-requires-clause-room : goal.take_back-committed-requires-clause-room
+take_back-committed-requires-clause-room g c κs within =
+    let kept = c.self.inside in (next_way kept.session kept.past kept.future c.self.invariant c.take_first.new.self c.in-Some.step c.in-Some.ensures).1.short
+
+pub invariant_of-self-in-Some : goal.invariant_of-self-in-Some
+invariant_of-self-in-Some g c =
+    let kept = c.self.inside in
+    let back = c.take_back-committed.result.back in
+    let now = c.take_back-committed.new.self in
+    let is = c.take_back-committed.ensures in
+    let way = next_way kept.session kept.past kept.future c.self.invariant c.take_first.new.self c.in-Some.step c.in-Some.ensures in
+    let moved = gone_there kept.session now c.in-Some.step back way.1 is.grammar is.performance is.room is.back is.suits_back in
+    subst (λ past. KeepsWays now past c.take_first.new.self) (sym c.put_behind.ensures)
+    (redone_keeps kept.session now kept.past kept.future c.in-Some.step back c.self.invariant moved c.take_first.new.self c.in-Some.ensures)
+
+pub returns-in-Some-clause-redone : goal.returns-in-Some-clause-redone
+returns-in-Some-clause-redone g c =
+    let kept = c.self.inside in
+    let back = c.take_back-committed.result.back in
+    let now = c.take_back-committed.new.self in
+    let is = c.take_back-committed.ensures in
+    let way = next_way kept.session kept.past kept.future c.self.invariant c.take_first.new.self c.in-Some.step c.in-Some.ensures in
+    let moved = gone_there kept.session now c.in-Some.step back way.1 is.grammar is.performance is.room is.back is.suits_back in
+    subst (λ h. IsRedone h (seen now c.put_behind.new.self c.take_first.new.self)) c.self.view_is
+    (subst (λ past. IsRedone (seen kept.session kept.past kept.future) (seen now past c.take_first.new.self)) (sym c.put_behind.ensures)
+    (redone_is kept.session now kept.past kept.future c.in-Some.step back moved c.take_first.new.self c.in-Some.ensures))

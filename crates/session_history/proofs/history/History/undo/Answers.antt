@@ -1,0 +1,49 @@
+use Rattle.std.proofs.Common.{subst, sym}
+use Rattle.session_history.specs.Changes.{IsUndone}
+use Rattle.session_history.specs.Ways.{KeepsWays}
+use Rattle.session_history.proofs.Moves.{gone_there, last_way, lives_derived, lives_formed, undone_keeps}
+use Rattle.session_history.proofs.Views.{seen, undone_is}
+use Rattle.session_history.proofs.history.History.undo.Goals as goal
+
+pub take_back-committed-requires-clause-suits : goal.take_back-committed-requires-clause-suits
+take_back-committed-requires-clause-suits g c κs within =
+    let kept = c.self.inside in (last_way kept.session kept.past kept.future c.self.invariant c.take_last.new.self c.in-Some.step c.in-Some.ensures).0
+
+pub take_back-committed-requires-clause-formed : goal.take_back-committed-requires-clause-formed
+take_back-committed-requires-clause-formed g c κs within =
+    let kept = c.self.inside in
+    let way = last_way kept.session kept.past kept.future c.self.invariant c.take_last.new.self c.in-Some.step c.in-Some.ensures in
+    lives_formed kept.session.grammar c.in-Some.step.next way.1.lives
+
+pub take_back-committed-requires-clause-derivations : goal.take_back-committed-requires-clause-derivations
+take_back-committed-requires-clause-derivations g c κs within =
+    let kept = c.self.inside in
+    let way = last_way kept.session kept.past kept.future c.self.invariant c.take_last.new.self c.in-Some.step c.in-Some.ensures in
+    lives_derived kept.session.grammar c.in-Some.step.next way.1.lives
+
+pub take_back-committed-requires-clause-room : goal.take_back-committed-requires-clause-room
+take_back-committed-requires-clause-room g c κs within =
+    let kept = c.self.inside in (last_way kept.session kept.past kept.future c.self.invariant c.take_last.new.self c.in-Some.step c.in-Some.ensures).1.short
+
+pub invariant_of-self-in-Some : goal.invariant_of-self-in-Some
+invariant_of-self-in-Some g c =
+    let kept = c.self.inside in
+    let back = c.take_back-committed.result.back in
+    let now = c.take_back-committed.new.self in
+    let is = c.take_back-committed.ensures in
+    let way = last_way kept.session kept.past kept.future c.self.invariant c.take_last.new.self c.in-Some.step c.in-Some.ensures in
+    let moved = gone_there kept.session now c.in-Some.step back way.1 is.grammar is.performance is.room is.back is.suits_back in
+    subst (KeepsWays now c.take_last.new.self) (sym c.put_first.ensures)
+    (undone_keeps kept.session now kept.past kept.future c.in-Some.step back c.self.invariant moved c.take_last.new.self c.in-Some.ensures)
+
+pub returns-in-Some-clause-undone : goal.returns-in-Some-clause-undone
+returns-in-Some-clause-undone g c =
+    let kept = c.self.inside in
+    let back = c.take_back-committed.result.back in
+    let now = c.take_back-committed.new.self in
+    let is = c.take_back-committed.ensures in
+    let way = last_way kept.session kept.past kept.future c.self.invariant c.take_last.new.self c.in-Some.step c.in-Some.ensures in
+    let moved = gone_there kept.session now c.in-Some.step back way.1 is.grammar is.performance is.room is.back is.suits_back in
+    subst (λ h. IsUndone h (seen now c.take_last.new.self c.put_first.new.self)) c.self.view_is
+    (subst (λ future. IsUndone (seen kept.session kept.past kept.future) (seen now c.take_last.new.self future)) (sym c.put_first.ensures)
+    (undone_is kept.session now kept.past kept.future c.in-Some.step back moved c.take_last.new.self c.in-Some.ensures))

@@ -1,0 +1,10 @@
+pub mod History
+pub mod HistoryCode
+pub mod Kept
+pub mod Changes
+pub mod StudioLines
+pub mod StudioReplies
+pub mod Studio
+pub mod Steps
+pub mod Ways
+pub mod Laws

@@ -1,0 +1,183 @@
+ghost use Rattle.edit_session.specs.Prepared.{RisesBy};
+ghost use Rattle.rhythm_base.specs.Counter.{risen};
+ghost use Rattle.rhythm_base.specs.Edits as edits;
+ghost use Rattle.rhythm_base.specs.Reached.{WouldReach};
+ghost use Rattle.rhythm_base.specs.Script.{IsOutcome, made, refused};
+ghost use Rattle.rhythm_base.specs.Voices.{HasDerivation, IsCostOf};
+ghost use Rattle.rhythm_base.specs.declared.edit_fault.EditFault.TheVariants as faults;
+ghost use Rattle.rhythm_base.specs.declared.edit_fault.EditFault.{EditFault};
+ghost use Rattle.session_history.specs.Changes.{IsEdited, IsHistory, IsRedone, IsUndone};
+ghost use Rattle.session_history.specs.History.{begun_with};
+ghost use Rattle.std.specs.Prelude.{◌≡◌, ◌≢◌, ◌≤◌, ◌*◌, ◌^◌, ℕ, [], All, Err, IfErr, IfOk, IsOk, List, OnErr, OnOk, length};
+
+use crate::steps::Steps;
+use carry_matrix::Steps as Products;
+use edit_session::{Applied, Session};
+use least_cost::Steps as Builds;
+use rhythm_base::{Edit, EditFault, Tag};
+use rhythm_ports::Gate;
+use std::alloc::Global;
+use std::marker::Model;
+use std::thread::Threads;
+
+/// A session, the steps back from it and the steps forward: at most 64 of them. The steps back reach at most 16,384 cells together.
+#[derive(Drop)]
+pub struct History {
+    session: Session,
+    past: Steps,
+    future: Steps,
+}
+
+impl Model for History {
+    ghost use Rattle.rhythm_base.specs.PerformanceCode.{performance_code};
+    ghost use Rattle.session_history.specs.History.{History};
+    ghost use Rattle.session_history.specs.HistoryCode.{step_code};
+    ghost use Rattle.session_history.specs.Steps.{next_of, step_of};
+    ghost use Rattle.session_history.specs.Ways.{KeepsWays};
+    ghost use Rattle.std.specs.Coded.{codes};
+    ghost use Rattle.std.specs.Prelude.{map};
+
+    ghost Value = { History };
+
+    ghost coded = { Prim.hlevel (codes, performance_code, step_code) };
+
+    ghost view = { λ h. record {
+      grammar = h.session.grammar;
+      past = map step_of h.past;
+      present = h.session.performance;
+      future = map next_of h.future;
+    } };
+
+    ghost invariant = { λ h. KeepsWays h.session h.past h.future };
+}
+
+/// There was not enough memory for a history. The session is handed back.
+#[derive(Drop)]
+pub struct NoHistory {
+    pub session: Session,
+}
+
+/// There is no step that way.
+#[derive(Clone, Copy, Debug, PartialEq, Eq)]
+pub struct NoStep;
+
+impl History {
+    /// A history without steps. The memory for the places of all steps is taken here.
+    pub fn new(alloc: Global, session: Session) -> Result<History, NoHistory>
+        ensures history { IfOk result (λ h. h ≡ begun_with session.grammar session.performance) }
+        ensures session { IfErr result (λ e. e.session ≡ session) }
+    {
+        // Its clauses tell that each voice of the performance has a derivation, which a history keeps of all its performances.
+        let _present = session.performance();
+        let Ok(past) = Steps::new(alloc) else {
+            return Err(NoHistory { session });
+        };
+        match Steps::new(alloc) {
+            Ok(future) => Ok(History {
+                session,
+                past,
+                future,
+            }),
+            Err(_error) => Err(NoHistory { session }),
+        }
+    }
+
+    /// The session on the performance as edited so far.
+    pub fn session(&self) -> &Session
+        ensures grammar { result.now.grammar ≡ self.now.grammar }
+        ensures performance { result.now.performance ≡ self.now.present }
+        ensures history { IsHistory self.now }
+    {
+        &self.session
+    }
+
+    /// Makes an edit, which becomes the last step, or says why it is refused, as `Session::apply` does. All memory is taken before anything
+    /// changes, and after each refusal all is as before, the steps forward too.
+    pub fn apply<R: Threads + Sync, G: Gate + Sync, B: Tag, P: Tag>(
+        &mut self,
+        rt: &R,
+        alloc: Global,
+        edit: &Edit,
+        gate: &G,
+        builds: &mut Builds<B>,
+        products: &mut Products<P>,
+    ) -> Result<Applied, EditFault>
+        requires { edits.IsEditInRange edit.now }
+        ensures grammar { self.new.grammar ≡ self.old.grammar }
+        ensures made { IfOk result (λ a. IsOutcome self.old.grammar self.old.present edit.now (made a.built a.cost) self.new.present) }
+        ensures derivations { OnOk result (All (HasDerivation self.new.grammar self.new.present) self.new.present.channels) }
+        ensures step { OnOk result (IsEdited self.old self.new.present self.new) }
+        ensures refused { (fault : EditFault) → result ≡ Err fault → fault ≢ faults.Memory
+            → IsOutcome self.old.grammar self.old.present edit.now (refused fault) self.new.present }
+        ensures memory { result ≡ Err faults.Memory → IsOk (edits.edited self.old.present edit.now) }
+        ensures unchanged { OnErr result (self.new ≡ self.old) }
+        ensures builds { IfOk result (λ a. builds.new ≡ risen builds.old a.built) }
+        ensures most { RisesBy builds.old builds.new (λ n. (cells : List (ℕ × ℕ))
+            → WouldReach self.old.grammar self.old.present edit.now cells → n ≤ length cells) }
+        ensures rises { builds.old ≤ builds.new }
+        ensures products { (d : ℕ) → length self.new.present.bars ≡ length self.old.present.bars → length self.new.present.bars ≤ 2 ^ d
+            → IfOk result (λ a. products.new ≤ risen products.old (a.built * d)) }
+        ensures products_rise { products.old ≤ products.new }
+    {
+        let prepared = self.session.prepare(rt, alloc, edit, gate, builds)?;
+        let bars = prepared.next().bars().len() as u32;
+        if let Err(_error) = self.session.reserve(bars) {
+            return Err(EditFault::Memory);
+        }
+        match self.session.commit(prepared, products) {
+            Err(dead) => Err(EditFault::NoDerivation {
+                channel: dead.channel,
+                bar: dead.bar,
+            }),
+            Ok(committed) => {
+                self.future.clear();
+                self.past.put_last(committed.back);
+                Ok(committed.applied)
+            }
+        }
+    }
+
+    /// Takes the last edit back. It builds no cell and takes no memory.
+    pub fn undo<P: Tag>(&mut self, products: &mut Products<P>) -> Result<Applied, NoStep>
+        ensures undone { OnOk result (IsUndone self.old self.new) }
+        ensures built { IfOk result (λ a. a.built ≡ 0) }
+        ensures cost { IfOk result (λ a. IsCostOf self.new.grammar self.new.present a.cost) }
+        ensures none { OnErr result (self.old.past ≡ []) }
+        ensures unchanged { OnErr result (self.new ≡ self.old) }
+        ensures rises { products.old ≤ products.new }
+    {
+        match self.past.take_last() {
+            None => Err(NoStep),
+            Some(step) => {
+                let committed = self.session.take_back(step, products);
+                self.future.put_first(committed.back);
+                Ok(Applied {
+                    built: 0,
+                    cost: committed.applied.cost,
+                })
+            }
+        }
+    }
+
+    /// Makes the next edit again that was taken back. It builds no cell and takes no memory.
+    pub fn redo<P: Tag>(&mut self, products: &mut Products<P>) -> Result<Applied, NoStep>
+        ensures redone { OnOk result (IsRedone self.old self.new) }
+        ensures built { IfOk result (λ a. a.built ≡ 0) }
+        ensures cost { IfOk result (λ a. IsCostOf self.new.grammar self.new.present a.cost) }
+        ensures none { OnErr result (self.old.future ≡ []) }
+        ensures unchanged { OnErr result (self.new ≡ self.old) }
+        ensures rises { products.old ≤ products.new }
+    {
+        match self.future.take_first() {
+            None => Err(NoStep),
+            Some(step) => {
+                let committed = self.session.take_back(step, products);
+                self.past.put_behind(committed.back);
+                Ok(Applied {
+                    built: 0,
+                    cost: committed.applied.cost,
+                })
+            }
+        }
+    }
+}

@@ -1,0 +1,4 @@
+pub mod Quantity
+pub mod Message
+pub mod Track
+pub mod Chunk

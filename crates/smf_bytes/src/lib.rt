@@ -1,0 +1,14 @@
+//! Standard MIDI Files as they are written, byte after byte: quantities, messages, the contents of tracks, and chunks. What a
+//! file says is made elsewhere; here it gets its bytes.
+#![tactic(auto)]
+
+mod chunk;
+mod laws;
+mod message;
+mod quantity;
+mod track;
+
+pub use chunk::{push_header, push_track};
+pub use laws::quantities_are_shortest;
+pub use quantity::GREATEST_QUANTITY;
+pub use track::{push_end, push_event, track_content};

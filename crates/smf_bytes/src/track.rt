@@ -1,0 +1,46 @@
+ghost use Rattle.smf_bytes.specs.Message.{HasChannel, message_bytes};
+ghost use Rattle.smf_bytes.specs.Quantity.{quantity_bytes};
+ghost use Rattle.smf_bytes.specs.Track.{content_bytes, end_of_track_bytes};
+ghost use Rattle.smf_bytes.specs.declared.quantity.TheConstants.{GREATEST_QUANTITY};
+ghost use Rattle.std.specs.Prelude.{◌≡◌, ◌++◌, ◌≤◌, All, IfOk, OnOk};
+
+use crate::message::push_message;
+use crate::quantity::push_quantity;
+use rhythm_base::{Event, What};
+use std::alloc::{AllocError, Global};
+
+/// Appends the message of what an event says, after the number of ticks since the event before it.
+pub fn push_event(content: &mut Vec<u8>, ticks: u64, what: What) -> Result<(), AllocError>
+    requires early { ticks ≤ GREATEST_QUANTITY }
+    requires channel { HasChannel what }
+    ensures { OnOk result (content.new.items ≡ content.old.items ++ (quantity_bytes ticks ++ message_bytes what)) }
+{
+    push_quantity(content, ticks)?;
+    push_message(content, what)
+}
+
+/// Appends the end of the track, after the number of ticks since the last event.
+pub fn push_end(content: &mut Vec<u8>, ticks: u64) -> Result<(), AllocError>
+    requires { ticks ≤ GREATEST_QUANTITY }
+    ensures { OnOk result (content.new.items ≡ content.old.items ++ (quantity_bytes ticks ++ end_of_track_bytes)) }
+{
+    push_quantity(content, ticks)?;
+    content.extend_from_slice(&[0xff, 0x2f, 0])
+}
+
+/// The content of a track of these events, which stand in the order of their ticks, and of its end at a tick.
+pub fn track_content(alloc: Global, events: &[Event], last: u64) -> Result<Vec<u8>, AllocError>
+    requires ticks { All (λ e. e.tick ≤ GREATEST_QUANTITY) events.now }
+    requires channels { All (λ e. HasChannel e.what) events.now }
+    requires last { last ≤ GREATEST_QUANTITY }
+    ensures { IfOk result (λ content. content.items ≡ content_bytes events.now last) }
+{
+    let mut content = Vec::new(alloc);
+    let mut tick = 0;
+    'events: for event in events {
+        push_event(&mut content, event.tick.saturating_sub(tick), event.what)?;
+        tick = event.tick;
+    }
+    push_end(&mut content, last.saturating_sub(tick))?;
+    Ok(content)
+}

@@ -1,0 +1,4 @@
+pub mod Quantities
+pub mod Messages
+pub mod Tracks
+pub mod Files

@@ -1,0 +1,12 @@
+pub mod Members
+pub mod KeyBits
+pub mod EventStrokes
+pub mod MessageOrder
+pub mod StrokeOrder
+pub mod Covering
+pub mod Voices
+pub mod Spines
+pub mod OneFile
+pub mod ConductorEvents
+pub mod Tracks
+pub mod Worked

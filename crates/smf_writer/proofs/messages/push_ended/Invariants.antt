@@ -1,0 +1,8 @@
+use Rattle.std.proofs.Common.{◌≡◌, ◌++◌, map, take}
+use Rattle.std.specs.List.{flat_map}
+use Rattle.smf_writer.specs.NoteMessages.{event_of}
+use Rattle.smf_writer.specs.Strokes.{ended}
+use Rattle.smf_writer.proofs.messages.push_ended.Given as goal
+
+abbrev pub invariant-notes : goal.invariant-notes
+invariant-notes l = l.events.items ≡ l.initial.events.items ++ map event_of (flat_map ended (take l.note-index l.notes))

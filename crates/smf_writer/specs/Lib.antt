@@ -1,0 +1,6 @@
+pub mod EventNotes
+pub mod NoteMessages
+pub mod Changes
+pub mod RenderedFile
+pub mod Strokes
+pub mod Laws

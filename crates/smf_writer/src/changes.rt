@@ -1,0 +1,99 @@
+ghost use Rattle.derivation.specs.Score.{IsScoreBar};
+ghost use Rattle.rhythm_base.specs.declared.limits.TheConstants.{MOST_UNITS};
+ghost use Rattle.smf_writer.specs.Changes as definitions;
+ghost use Rattle.smf_writer.specs.Changes.{changes_at, key_before, key_change, signature_change, tempo_change};
+ghost use Rattle.voice_events.specs.Parts.{score_parts};
+ghost use Rattle.std.specs.Prelude.{◌≡◌, ◌++◌, ◌<◌, ◌≤◌, ◌^◌, All, IfOk, OnOk, length};
+
+use crate::barlines::bar_ticks;
+use derivation::ScoreBar;
+use rhythm_base::{Event, What};
+use std::alloc::{AllocError, Global};
+
+/// The tempo of a bar, where it differs.
+fn tempo_change(before: Option<ScoreBar>, bar: &ScoreBar) -> Option<What>
+    ensures { result ≡ tempo_change before bar.now }
+{
+    match before {
+        Some(other) if other.tempo == bar.tempo => None,
+        _ => Some(What::Tempo(bar.tempo)),
+    }
+}
+
+/// The signature of a bar, where it differs. A file writes it with the power of two that its beat is.
+fn signature_change(before: Option<ScoreBar>, bar: &ScoreBar) -> Option<What>
+    ensures { result ≡ signature_change before bar.now }
+{
+    match before {
+        Some(other) if other.num == bar.num && other.den == bar.den => None,
+        _ => Some(What::Signature {
+            num: bar.num,
+            dd: bar.den.trailing_zeros() as u8,
+        }),
+    }
+}
+
+/// The key before.
+fn key_before(before: Option<ScoreBar>) -> Option<i8>
+    ensures { result ≡ key_before before }
+{
+    match before {
+        None => None,
+        Some(other) => other.sf,
+    }
+}
+
+/// The key of a bar, where it has one and that differs.
+fn key_change(before: Option<i8>, key: Option<i8>) -> Option<What>
+    ensures { result ≡ key_change before key }
+{
+    match (before, key) {
+        (_, None) => None,
+        (Some(other), Some(sf)) if other == sf => None,
+        (_, Some(sf)) => Some(What::KeySig(sf)),
+    }
+}
+
+/// Appends what changes at the barline at a tick.
+fn push_changes(
+    events: &mut Vec<Event>,
+    tick: u64,
+    before: Option<ScoreBar>,
+    bar: &ScoreBar,
+) -> Result<(), AllocError>
+    ensures { OnOk result (events.new.items ≡ events.old.items ++ changes_at tick before bar.now) }
+{
+    let changes = [
+        tempo_change(before, bar),
+        signature_change(before, bar),
+        key_change(key_before(before), bar.sf),
+    ];
+    'changes: for change in changes {
+        if let Some(what) = change {
+            events.push(Event { tick, what })?;
+        }
+    }
+    Ok(())
+}
+
+/// The changes at all barlines.
+pub(crate) fn conductor(
+    alloc: Global,
+    bars: &[ScoreBar],
+    resolution: u16,
+) -> Result<Vec<Event>, AllocError>
+    requires bars { All IsScoreBar bars.now }
+    requires few_bars { length bars.now ≤ 2 ^ 32 }
+    requires few_units { resolution ≤ MOST_UNITS }
+    ensures { IfOk result (λ events. events.items ≡ definitions.conductor resolution bars.now) }
+{
+    let mut events = Vec::new(alloc);
+    let mut before = None;
+    let mut tick = 0;
+    'bars: for bar in bars {
+        push_changes(&mut events, tick, before, bar)?;
+        before = Some(*bar);
+        tick += bar_ticks(bar, resolution);
+    }
+    Ok(events)
+}

@@ -1,0 +1,101 @@
+ghost use Rattle.rhythm_base.specs.Spans.{IsFrac};
+ghost use Rattle.smf_bytes.specs.declared.quantity.TheConstants.{GREATEST_QUANTITY};
+ghost use Rattle.smf_writer.specs.EventNotes.{main_end, main_onset};
+ghost use Rattle.smf_writer.specs.Strokes.{event_strokes, grace_strokes, joined, strokes_events};
+ghost use Rattle.voice_events.specs.Parts.{end_parts, len_parts, parts_of, start_parts};
+ghost use Rattle.voice_events.specs.VoiceEvents.{IsVoiceSpan};
+ghost use Rattle.std.specs.Prelude.{◌≡◌, ◌++◌, ◌+◌, ◌*◌, ◌≤◌, ◌-◌, ◌/◌, if◌then◌else◌, IfOk, OnOk, length};
+
+use crate::messages::push_stroke;
+use crate::stroke::Stroke;
+use rhythm_base::{Event, Frac, Keys, Span};
+use std::alloc::{AllocError, Global};
+
+/// A number of whole notes in ticks.
+fn ticks_of(fraction: Frac, resolution: u16) -> u64
+    requires some { 1 ≤ fraction.den }
+    requires early { parts_of (64 * resolution) fraction ≤ GREATEST_QUANTITY }
+    ensures { result ≡ parts_of (64 * resolution) fraction }
+{
+    fraction.num * (64 * u64::from(resolution) / fraction.den)
+}
+
+/// The keys of all grace chords.
+fn joined(graces: &[Keys]) -> Keys
+    ensures { result ≡ joined graces.now }
+{
+    let mut all = Keys::none();
+    'graces: for keys in graces {
+        all = all.join(*keys);
+    }
+    all
+}
+
+/// Appends the messages of grace chords of a tick each, from a tick on, and gives the tick after them.
+fn push_graces(
+    alloc: Global,
+    events: &mut Vec<Event>,
+    channel: u8,
+    onset: u64,
+    graces: &[Keys],
+) -> Result<u64, AllocError>
+    requires few { length graces.now ≤ 3 }
+    requires early { onset ≤ GREATEST_QUANTITY }
+    ensures events { OnOk result (events.new.items ≡ events.old.items ++ strokes_events channel (grace_strokes onset graces.now)) }
+    ensures after { IfOk result (λ tick. tick ≡ onset + length graces.now) }
+{
+    let mut tick = onset;
+    'graces: for keys in graces {
+        let stroke = Stroke {
+            onset: tick,
+            end: tick + 1,
+            held: *keys,
+            passing: Keys::none(),
+        };
+        push_stroke(alloc, events, channel, &stroke)?;
+        tick += 1;
+    }
+    Ok(tick)
+}
+
+/// The tick at which the chord of a span ends that begins at a tick.
+fn end_of(span: &Span, onset: u64, end: u64) -> u64
+    requires { onset ≤ end }
+    ensures { result ≡ (if span.now.short then onset + (end - onset) / 2 else end) }
+{
+    if span.short {
+        onset + (end - onset) / 2
+    } else {
+        end
+    }
+}
+
+/// Appends the messages of an event.
+pub(crate) fn push_event(
+    alloc: Global,
+    events: &mut Vec<Event>,
+    channel: u8,
+    resolution: u16,
+    span: &Span,
+) -> Result<(), AllocError>
+    requires span { IsVoiceSpan resolution span.now }
+    requires early { end_parts resolution span.now ≤ GREATEST_QUANTITY }
+    ensures { OnOk result (events.new.items ≡ events.old.items ++ strokes_events channel (event_strokes resolution span.now)) }
+{
+    let start = ticks_of(span.start, resolution);
+    let length = ticks_of(span.len, resolution);
+    let graces = span.graces.as_slice();
+    let (onset, passing) = if (graces.len() as u64) < length {
+        let onset = push_graces(alloc, events, channel, start, graces)?;
+        (onset, Keys::none())
+    } else {
+        (start, joined(graces))
+    };
+    let stroke = Stroke {
+        onset,
+        end: end_of(span, onset, start + length),
+        held: span.keys,
+        passing,
+    };
+    push_stroke(alloc, events, channel, &stroke)
+}

@@ -1,0 +1,48 @@
+-- A fraction in lowest terms is counted in parts.
+use Rattle.std.proofs.Common.{◌≡◌, ℕ, zero, suc, ◌*◌, ◌/◌, ◌≤◌, sym, ap, ◌∙◌, subst, arith}
+use Rattle.std.specs.Int.{◌∣◌}
+use Rattle.std.proofs.Math.Nat.{div-mul_cancel, dvd-mul_right, eq_of_mul-eq-mul_right}
+use Rattle.std.proofs.lemmas.Nat.Gcd.{dvd-zero}
+use Rattle.rhythm_base.specs.declared.span.Frac.{Frac}
+use Rattle.rhythm_base.specs.Spans.{IsFrac}
+use Rattle.durations.proofs.LowestTerms.{divided}
+use Rattle.derivation.proofs.Fractions.{frac_of_lowest, frac_one}
+use Rattle.kern_reader.proofs.GridLemmas.{gcd_is}
+use Rattle.kern_reader.specs.Columns.{gcd}
+use Rattle.voice_events.specs.Laws.{PartsAreCounted}
+use Rattle.voice_events.specs.Parts.{IsWhole, parts_of}
+
+-- n / d in lowest terms is n / g over d / g
+reduced : (n d : ℕ) (f : Frac) → 1 ≤ d → IsFrac n d f → d / gcd n d ≡ f.den
+reduced n d f some is =
+    let g = gcd n d in
+    let own : Frac = record { num = n / g; den = d / g } in
+    let same : own ≡ f = frac_one n d own f some (frac_of_lowest n d (n / g) (d / g) some (divided n d g some (gcd_is n d))) is in
+    ap (λ (x : Frac). x.den) same
+
+divides : (n d : ℕ) (f : Frac) → 1 ≤ d → IsFrac n d f → f.den ∣ d
+divides n d f some is =
+    let g = gcd n d in
+    let is_gcd = gcd_is n d in
+    let own : d / g ∣ d = subst (λ x. d / g ∣ x) (div-mul_cancel g is_gcd.1) (dvd-mul_right (d / g) g) in
+    subst (λ x. x ∣ d) (reduced n d f some is) own
+
+-- its denominator divides d
+pub den_divides : (n d : ℕ) (f : Frac) → IsFrac n d f → f.den ∣ d
+den_divides n zero f is = dvd-zero f.den
+den_divides n (suc d) f is = divides n (suc d) f (omega arith) is
+
+-- and it is n parts
+pub parts_counted : (n d : ℕ) (f : Frac) → IsFrac n d f → parts_of d f ≡ n
+parts_counted n d f is =
+    let whole : d / f.den * f.den ≡ d = div-mul_cancel f.den (den_divides n d f is) in
+    eq_of_mul-eq-mul_right f.den is.some (f.num * (d / f.den)) n (turned f.num (d / f.den) f.den ∙ ap (λ x. f.num * x) whole ∙ is.value)
+  where
+    turned : (a b c : ℕ) → a * b * c ≡ a * (b * c)
+    turned a b c = grind arith
+
+pub counted : PartsAreCounted
+counted n d f is = (den_divides n d f is, parts_counted n d f is)
+
+pub is_whole : (n d : ℕ) (f : Frac) → IsFrac n d f → IsWhole d f
+is_whole n d f is = subst (λ k. IsFrac k d f) (sym (parts_counted n d f is)) is
