@@ -3,11 +3,11 @@ ghost use Rattle.std.specs.Prelude.{◌≤◌};
 use crate::case::{Ports, run_over, words_of};
 use crate::given::{Ending, Failing, Given, NONE_FAILS, Port, Taken, end_of};
 use crate::grammars::{QUARTERS, QUARTERS_OF_RESTS, USUAL, WHOLE};
-use crate::midi::{FOUR_QUARTERS, NO_BYTES, TOO_MANY_BARS, WHOLE_NOTE};
+use crate::midi::{EARLY_NOTE, FOUR_QUARTERS, NO_BYTES, TOO_MANY_BARS, WHOLE_NOTE};
 use crate::scores::TWO_VOICES_SCORE;
 use crate::talks::{
-    Exchange, NOTE_JOINS_A_CHORD, NOTE_OVER_THREE_BARS, RHYTHMS_OF_A_BAR, lines_within, replies_to,
-    script_of,
+    CHORD_COMES_AND_GOES, Exchange, NOTE_JOINS_A_CHORD, NOTE_OVER_THREE_BARS, RHYTHMS_OF_A_BAR,
+    lines_within, replies_to, script_of,
 };
 use rhythm_ports::{OpenGate, SureShelf, SureSink, SureSource};
 use std::alloc::{AllocError, Global};
@@ -51,6 +51,30 @@ const USES: &[Use] = &[
         words: &["edit", "a.mid", "a.grammar"],
         files: &[("a.mid", FOUR_QUARTERS), ("a.grammar", USUAL)],
         talk: RHYTHMS_OF_A_BAR,
+        fewest: 1,
+    },
+    Use {
+        words: &["studio", "a.mid", "a.grammar"],
+        files: &[("a.mid", FOUR_QUARTERS), ("a.grammar", USUAL)],
+        talk: CHORD_COMES_AND_GOES,
+        fewest: 1,
+    },
+    Use {
+        words: &["lily", "a.mid", "a.grammar"],
+        files: &[("a.mid", FOUR_QUARTERS), ("a.grammar", QUARTERS)],
+        talk: &[],
+        fewest: 1,
+    },
+    Use {
+        words: &["render", "a.mid", "a.grammar"],
+        files: &[("a.mid", FOUR_QUARTERS), ("a.grammar", QUARTERS)],
+        talk: &[],
+        fewest: 1,
+    },
+    Use {
+        words: &["fit", "a.mid", "a.grammar", "1", "1880", "1920", "20"],
+        files: &[("a.mid", EARLY_NOTE), ("a.grammar", USUAL)],
+        talk: &[],
         fewest: 1,
     },
     Use {
@@ -311,6 +335,18 @@ const STOPS: &[(Given<'static>, Ending<'static>)] = &[
             status: 4,
             out: b"",
             err: b"limit bars 16384\n",
+        },
+    ),
+    (
+        Given {
+            words: &["fit", "a.mid", "a.grammar", "1", "0", "0", "1"],
+            files: &[("a.mid", EARLY_NOTE), ("a.grammar", USUAL)],
+            script: b"",
+        },
+        Ending {
+            status: 9,
+            out: b"",
+            err: b"fit NoCandidate\n",
         },
     ),
     (

@@ -150,21 +150,7 @@ pub fn edit<R: Threads + Sync>(
     err: &mut MemSink,
     gate: &CountingGate,
 ) -> Result<Ran, AllocError> {
-    edit_by(rt, alloc, "1", shelf, script, out, err, gate)
-}
-
-/// Runs `edit` over the shelf and the script, with these sinks, by so many workers.
-pub fn edit_by<R: Threads + Sync>(
-    rt: &R,
-    alloc: Global,
-    workers: &str,
-    shelf: &mut MemShelf,
-    script: &mut MemSource,
-    out: &mut MemSink,
-    err: &mut MemSink,
-    gate: &CountingGate,
-) -> Result<Ran, AllocError> {
-    let words = words_of(alloc, &["edit", "--workers", workers, "a.mid", "a.grammar"])?;
+    let words = words_of(alloc, &["edit", "a.mid", "a.grammar"])?;
     let ports = Ports {
         shelf,
         script,
@@ -193,16 +179,17 @@ pub fn unscripted<R: Threads + Sync>(
     run_over(rt, alloc, words, ports, &OpenGate)
 }
 
-/// Whether the case ends as it should where each call moves at most so many bytes.
+/// Whether the case ends as it should by these words, where each call moves at most so many bytes.
 pub fn holds<R: Threads + Sync>(
     rt: &R,
     alloc: Global,
+    words: &[&str],
     most: usize,
     case: &Case,
 ) -> Result<bool, AllocError>
     requires { 1 ≤ most }
 {
-    let words = words_of(alloc, &["transcribe", "a.mid", "a.grammar"])?;
+    let words = words_of(alloc, words)?;
     let mut shelf = shelf_with(alloc, most, case.piece, case.grammar)?;
     let mut out = MemSink::new(alloc, most, Vec::new(alloc));
     let mut err = MemSink::new(alloc, most, Vec::new(alloc));

@@ -1,27 +1,15 @@
-ghost use Rattle.std.specs.Prelude.{◌≤◌};
-
-use crate::case::{CountingGate, Piece, edit, edit_by, shelf_with};
+use crate::case::{CountingGate, Piece, edit, shelf_with};
 use crate::grammars::USUAL;
 use crate::midi::FOUR_QUARTERS;
+use crate::scripts::{ScriptCase, replies_hold};
 use rhythm_ports::{MemSink, MemSource};
-use std::alloc::{AllocError, Global};
 use std::test::Fail;
-use std::thread::Threads;
 
-/// A script, the replies to it, and how many cells are built: those of the piece, and those that the edits reach.
-#[derive(Clone, Copy)]
-struct ScriptCase {
-    shows: &'static str,
-    piece: Piece,
-    script: &'static [u8],
-    out: &'static [u8],
-    builds: u64,
-}
-
-const CASES: &[ScriptCase] = &[
+const CASES: &[ScriptCase<'static>] = &[
     ScriptCase {
         shows: "a note joins a chord, and no cell is built for it",
         piece: Piece::Bytes(FOUR_QUARTERS),
+        grammar: USUAL,
         script: b"add 0 64 10 480\nscore\n",
         out: b"\
             ok 0 100\n\
@@ -42,6 +30,7 @@ const CASES: &[ScriptCase] = &[
     ScriptCase {
         shows: "a note over three bars",
         piece: Piece::Built(480, &[], &[(0, 60, 0, 1920)]),
+        grammar: USUAL,
         script: b"addbar\naddbar\ndrop 0 60 0\nadd 0 60 0 5760\nscore\n",
         out: b"\
             ok 1 15\n\
@@ -66,6 +55,7 @@ const CASES: &[ScriptCase] = &[
     ScriptCase {
         shows: "a barline that is refused, and one that is moved",
         piece: Piece::Built(480, &[], &[(0, 60, 0, 1920)]),
+        grammar: USUAL,
         script: b"\
             addbar\n\
             addbar\n\
@@ -104,6 +94,7 @@ const CASES: &[ScriptCase] = &[
             &[],
             &[(0, 60, 0, 960), (0, 62, 20, 960), (0, 64, 40, 960)],
         ),
+        grammar: USUAL,
         script: b"unpin 0 0\nscore\ndrop 0 60 0\nscore\n",
         out: b"\
             ok 0 250\n\
@@ -134,6 +125,7 @@ const CASES: &[ScriptCase] = &[
     ScriptCase {
         shows: "a pin that leaves no derivation, one that fits, and none",
         piece: Piece::Bytes(FOUR_QUARTERS),
+        grammar: USUAL,
         script: b"\
             pin 0 0 2(. .)\n\
             pin 0 0 2(2(. .) 2(. 2(. .)))\n\
@@ -174,6 +166,7 @@ const CASES: &[ScriptCase] = &[
     ScriptCase {
         shows: "a dotted note by a pin",
         piece: Piece::Built(480, &[], &[(0, 60, 0, 720)]),
+        grammar: USUAL,
         script: b"score\npin 0 0 2(2(. 2(. .)) .)\nscore\n",
         out: b"\
             score 35\n\
@@ -202,6 +195,7 @@ const CASES: &[ScriptCase] = &[
     ScriptCase {
         shows: "no line",
         piece: Piece::Bytes(FOUR_QUARTERS),
+        grammar: USUAL,
         script: b"",
         out: b"",
         builds: 1,
@@ -209,6 +203,7 @@ const CASES: &[ScriptCase] = &[
     ScriptCase {
         shows: "an empty line, and nothing after the end",
         piece: Piece::Bytes(FOUR_QUARTERS),
+        grammar: USUAL,
         script: b"dropbar\n\nquit\naddbar\n",
         out: b"refused OneBar\nrefused Line\nbye\n",
         builds: 1,
@@ -216,6 +211,7 @@ const CASES: &[ScriptCase] = &[
     ScriptCase {
         shows: "a last line without a newline, and carriage returns",
         piece: Piece::Bytes(FOUR_QUARTERS),
+        grammar: USUAL,
         script: b"addbar\r\nquit\r",
         out: b"ok 1 105\nbye\n",
         builds: 2,
@@ -223,6 +219,7 @@ const CASES: &[ScriptCase] = &[
     ScriptCase {
         shows: "each refusal",
         piece: Piece::Bytes(FOUR_QUARTERS),
+        grammar: USUAL,
         script: b"\
             add 1 60 0 10\n\
             add 0 60 10 5\n\
@@ -260,6 +257,7 @@ const CASES: &[ScriptCase] = &[
     ScriptCase {
         shows: "the best rhythms of a bar, pinned and not",
         piece: Piece::Bytes(FOUR_QUARTERS),
+        grammar: USUAL,
         script: b"\
             pin 0 0 2(. .)\n\
             alt 0 0 2\n\
@@ -316,6 +314,7 @@ const CASES: &[ScriptCase] = &[
     ScriptCase {
         shows: "each rhythm of four quarters can be pinned, and then costs what was said",
         piece: Piece::Bytes(FOUR_QUARTERS),
+        grammar: USUAL,
         script: b"\
             alt 0 0 16\n\
             pin 0 0 2(2(. .) 2(. .))\n\
@@ -379,6 +378,7 @@ const CASES: &[ScriptCase] = &[
             &[],
             &[(0, 60, 0, 960), (0, 62, 20, 960), (0, 64, 40, 960)],
         ),
+        grammar: USUAL,
         script: b"\
             alt 0 0 16\n\
             pin 0 0 2(2(2(. .) .) .)\n\
@@ -420,6 +420,7 @@ const CASES: &[ScriptCase] = &[
     ScriptCase {
         shows: "and so of a dotted note",
         piece: Piece::Built(480, &[], &[(0, 60, 0, 720)]),
+        grammar: USUAL,
         script: b"\
             alt 0 0 16\n\
             pin 0 0 2(. .)\n\
@@ -478,50 +479,19 @@ const CASES: &[ScriptCase] = &[
     },
 ];
 
-/// Whether the replies and the builds are those of the case where each call moves at most so many bytes.
-fn replies_hold<R: Threads + Sync>(
-    rt: &R,
-    alloc: Global,
-    most: usize,
-    workers: &str,
-    case: &ScriptCase,
-) -> Result<bool, AllocError>
-    requires { 1 ≤ most }
-{
-    let mut shelf = shelf_with(alloc, most, case.piece, USUAL)?;
-    let mut script = MemSource::new(Vec::from_slice(alloc, case.script)?, most, Vec::new(alloc));
-    let mut out = MemSink::new(alloc, most, Vec::new(alloc));
-    let mut err = MemSink::new(alloc, most, Vec::new(alloc));
-    let gate = CountingGate::new();
-    let ran = edit_by(
-        rt,
-        alloc,
-        workers,
-        &mut shelf,
-        &mut script,
-        &mut out,
-        &mut err,
-        &gate,
-    )?;
-    Ok(
-        ran.status == 0
-            && ran.builds == case.builds
-            && gate.passed() == case.builds
-            && out.bytes() == case.out
-            && err.bytes().is_empty(),
-    )
-}
-
+/// A studio answers the lines of an editor as the editor does.
 #[test]
 fn each_line_has_its_reply(rt: HostRuntime) -> Result<(), Fail> {
     let alloc = rt.alloc();
     for case in CASES {
-        for most in [1, 2, 3, 4096] {
-            assert!(rt;
-                replies_hold(&rt, alloc, most, "1", case)?,
-                "{} by {most}",
-                case.shows
-            );
+        for command in ["edit", "studio"] {
+            for most in [1, 2, 3, 4096] {
+                assert!(rt;
+                    replies_hold(&rt, alloc, command, "1", most, case)?,
+                    "{}: {command} by {most}",
+                    case.shows
+                );
+            }
         }
     }
     Ok(())
@@ -531,12 +501,14 @@ fn each_line_has_its_reply(rt: HostRuntime) -> Result<(), Fail> {
 fn the_replies_are_the_same_by_many_workers(rt: HostRuntime) -> Result<(), Fail> {
     let alloc = rt.alloc();
     for case in CASES {
-        for workers in ["2", "16"] {
-            assert!(rt;
-                replies_hold(&rt, alloc, 4096, workers, case)?,
-                "{} by {workers} workers",
-                case.shows
-            );
+        for command in ["edit", "studio"] {
+            for workers in ["2", "16"] {
+                assert!(rt;
+                    replies_hold(&rt, alloc, command, workers, 4096, case)?,
+                    "{}: {command} by {workers} workers",
+                    case.shows
+                );
+            }
         }
     }
     Ok(())

@@ -16,7 +16,14 @@ const NO_COMMANDS: &[&[&str]] = &[
     &["events", "a.mid", "a.grammar", "more"],
     &["transcribe", "a.mid", "a.grammar", "more", "more"],
     &["edit", "a.mid", "a.grammar", "more"],
-    &["studio", "a.mid", "a.grammar"],
+    &["write", "a.mid", "a.grammar"],
+    &["lily", "a.mid"],
+    &["lily", "a.mid", "a.grammar", "more"],
+    &["render", "a.mid"],
+    &["render", "a.mid", "a.grammar", "more"],
+    &["studio", "a.mid"],
+    &["studio", "a.mid", "a.grammar", "more"],
+    &["fit", "a.mid", "a.grammar"],
     &["transcribe", "a.mid", "a.grammar", "more"],
 ];
 
@@ -50,6 +57,23 @@ const REASONS: &[(&[&str], &str)] = &[
     (
         &["drill", "65535", "a.grammar"],
         "the command is called as: rhythm drill NUMBER GRAMMAR, with NUMBER from 0 to 65534",
+    ),
+    (
+        &["lily", "a.mid"],
+        "the command is called as: rhythm lily MIDI GRAMMAR",
+    ),
+    (
+        &["render", "a.mid"],
+        "the command is called as: rhythm render MIDI GRAMMAR",
+    ),
+    (
+        &["studio"],
+        "the command is called as: rhythm studio MIDI GRAMMAR",
+    ),
+    (
+        &["fit", "a.mid", "a.grammar", "1", "20", "10", "1"],
+        "the command is called as: rhythm fit MIDI GRAMMAR BAR LOW HIGH STEP, with BAR from 0 to 4096, \
+        LOW and HIGH from 0 to 2000000000, LOW no more than HIGH, and STEP from 1 to 2000000000",
     ),
     (&["compose", "a.mid"], "there is no command compose"),
     (
@@ -132,12 +156,14 @@ fn each_cell_is_built_once(rt: HostRuntime) -> Result<(), Fail> {
         (Piece::Bytes(TWO_VOICES), USUAL, 4),
         (Piece::Built(1, &[], &[(0, 60, 0, 16_384)]), WHOLE, 4096),
     ] {
-        let words = words_of(alloc, &["transcribe", "a.mid", "a.grammar"])?;
-        let mut shelf = shelf_with(alloc, 4096, piece, grammar)?;
-        let mut out = MemSink::new(alloc, 4096, Vec::new(alloc));
-        let mut err = MemSink::new(alloc, 4096, Vec::new(alloc));
-        let ran = unscripted(&rt, alloc, &words, &mut shelf, &mut out, &mut err);
-        assert!(rt; ran.status == 0 && ran.builds == cells);
+        for command in ["transcribe", "lily", "render"] {
+            let words = words_of(alloc, &[command, "a.mid", "a.grammar"])?;
+            let mut shelf = shelf_with(alloc, 4096, piece, grammar)?;
+            let mut out = MemSink::new(alloc, 4096, Vec::new(alloc));
+            let mut err = MemSink::new(alloc, 4096, Vec::new(alloc));
+            let ran = unscripted(&rt, alloc, &words, &mut shelf, &mut out, &mut err);
+            assert!(rt; ran.status == 0 && ran.builds == cells, "{command}");
+        }
     }
     Ok(())
 }

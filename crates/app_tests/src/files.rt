@@ -10,6 +10,8 @@ pub type Played = (u8, u8, u64, u64);
 pub enum Change {
     /// The beats, and the power of two that is the value of a beat.
     Signature(u64, u8, u8),
+    /// The sharps of a key; where it has flats, 256 less their number.
+    Key(u64, u8),
     /// Microseconds of a quarter note.
     Tempo(u64, u32),
 }
@@ -18,6 +20,7 @@ pub enum Change {
 #[derive(Clone, Copy)]
 enum Said {
     Signature(u8, u8),
+    Key(u8),
     Tempo(u32),
     On(u8, u8),
     Off(u8, u8),
@@ -31,7 +34,7 @@ struct Message {
     said: Said,
 }
 
-/// Appends the messages of changes: signatures before tempos.
+/// Appends the messages of changes: signatures and keys before tempos.
 fn push_changes(messages: &mut Vec<Message>, changes: &[Change]) -> Result<(), AllocError> {
     'changes: for change in changes {
         let message = match *change {
@@ -39,6 +42,11 @@ fn push_changes(messages: &mut Vec<Message>, changes: &[Change]) -> Result<(), A
                 tick,
                 turn: 0,
                 said: Said::Signature(num, dd),
+            },
+            Change::Key(tick, sharps) => Message {
+                tick,
+                turn: 0,
+                said: Said::Key(sharps),
             },
             Change::Tempo(tick, micros) => Message {
                 tick,
@@ -87,6 +95,7 @@ fn push_quantity(bytes: &mut Vec<u8>, number: u64) -> Result<(), AllocError> {
 fn push_said(bytes: &mut Vec<u8>, said: Said) -> Result<(), AllocError> {
     match said {
         Said::Signature(num, dd) => bytes.extend_from_slice(&[0xff, 0x58, 4, num, dd, 24, 8]),
+        Said::Key(sharps) => bytes.extend_from_slice(&[0xff, 0x59, 2, sharps, 0]),
         Said::Tempo(micros) => {
             bytes.extend_from_slice(&[0xff, 0x51, 3])?;
             bytes.extend_from_slice(&micros.to_be_bytes()[1..])

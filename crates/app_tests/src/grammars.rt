@@ -73,6 +73,33 @@ pub const USUAL: &[u8] = b"\
     E 60 grace 1\n\
 ";
 
+/// The same where onsets cost nothing, wherever they are.
+pub const USUAL_AT_ANY_PLACE: &[u8] = b"\
+    rhythm 1\n\
+    resolution 8\n\
+    window 30000\n\
+    onset 0\n\
+    start 4/4 B\n\
+    B 10 note\n\
+    B 10 tie\n\
+    B 5 rest\n\
+    B 20 split H H\n\
+    H 10 note\n\
+    H 10 tie\n\
+    H 10 rest\n\
+    H 20 split Q Q\n\
+    Q 10 note\n\
+    Q 15 short\n\
+    Q 10 tie\n\
+    Q 10 rest\n\
+    Q 40 split E E\n\
+    E 10 note\n\
+    E 20 short\n\
+    E 10 tie\n\
+    E 10 rest\n\
+    E 60 grace 1\n\
+";
+
 /// The same in version 2.
 pub const USUAL_IN_VERSION_2: &[u8] = b"\
     rhythm 2\n\
@@ -259,6 +286,52 @@ pub const NO_PART: &[u8] = b"\
     H 0 note\n\
 ";
 
+/// Whole bars of two, three and four whole notes.
+pub const LONG_BARS: &[u8] = b"\
+    rhythm 1\n\
+    resolution 1\n\
+    window 0\n\
+    onset 1\n\
+    start 8/4 B\n\
+    start 12/4 B\n\
+    start 16/4 B\n\
+    B 0 note\n\
+";
+
+/// A bar of 4/4 in three, five, six or twelve parts, and one of 1/64 in two or fifteen.
+pub const SMALL_PARTS: &[u8] = b"\
+    rhythm 1\n\
+    resolution 60\n\
+    window 0\n\
+    onset 1\n\
+    start 4/4 B\n\
+    start 1/64 S\n\
+    B 0 split N N N\n\
+    B 0 split N N N N N\n\
+    B 0 split N N N N N N\n\
+    B 0 split N N N N N N N N N N N N\n\
+    S 0 split N N\n\
+    S 0 split N N N N N N N N N N N N N N N\n\
+    N 0 note\n\
+    N 0 rest\n\
+";
+
+/// A bar of 7/4 in three parts, and one of 5/4 in six.
+pub const UNUSUAL_PARTS: &[u8] = b"\
+    rhythm 1\n\
+    resolution 6\n\
+    window 0\n\
+    onset 1\n\
+    start 7/4 S\n\
+    start 5/4 F\n\
+    S 0 split L L L\n\
+    F 0 split L L L L L L\n\
+    L 0 note\n\
+    L 0 rest\n\
+    L 0 tie\n\
+    L 0 short\n\
+";
+
 /// A bar of 1/64 is 960 leaves, each a note or tied to the one before.
 pub const SMALLEST_LEAVES: &[u8] = b"\
     rhythm 1\n\
@@ -271,4 +344,25 @@ pub const SMALLEST_LEAVES: &[u8] = b"\
     C 0 split D D D D\n\
     D 0 note\n\
     D 0 tie\n\
+";
+
+/// A bar that is one short note.
+pub const SHORT: &[u8] = b"\
+    rhythm 1\n\
+    resolution 1\n\
+    window 0\n\
+    onset 1\n\
+    start 4/4 B\n\
+    B 0 short\n\
+";
+
+/// Bars of 64 whole notes, of as many units as there can be.
+pub const LONGEST_BARS: &[u8] = b"\
+    rhythm 1\n\
+    resolution 960\n\
+    window 0\n\
+    onset 1\n\
+    start 64/1 B\n\
+    B 0 note\n\
+    B 0 tie\n\
 ";

@@ -98,10 +98,11 @@ fn transcribes<R: Threads + Sync>(
     ends(rt, alloc, most, &given, ending)
 }
 
-/// Whether the editing of the four quarters by the script ends so.
-fn edits<R: Threads + Sync>(
+/// Whether the script over the four quarters ends so by the command of this word.
+fn answers<R: Threads + Sync>(
     rt: &R,
     alloc: Global,
+    command: &str,
     most: usize,
     script: &[u8],
     ending: &Ending<'_>,
@@ -109,7 +110,7 @@ fn edits<R: Threads + Sync>(
     requires { 1 ≤ most }
 {
     let given = Given {
-        words: &["edit", "a.mid", "a.grammar"],
+        words: &[command, "a.mid", "a.grammar"],
         files: &[("a.mid", FOUR_QUARTERS), ("a.grammar", USUAL)],
         script,
     };
@@ -124,7 +125,7 @@ fn filled(alloc: Global, bytes: &[u8], with: u8, length: usize) -> Result<Vec<u8
 }
 
 /// So many times the bytes.
-fn repeated(alloc: Global, bytes: &[u8], times: usize) -> Result<Vec<u8>, AllocError> {
+pub fn repeated(alloc: Global, bytes: &[u8], times: usize) -> Result<Vec<u8>, AllocError> {
     let mut all = Vec::new(alloc);
     'times: for _ in 0..times {
         all.extend_from_slice(bytes)?;
@@ -144,7 +145,13 @@ fn a_file_has_a_last_tick(rt: HostRuntime) -> Result<(), Fail> {
     for case in CASES {
         for most in [1, 2, 3, 4096] {
             assert!(rt;
-                holds(&rt, rt.alloc(), most, case)?,
+                holds(
+                    &rt,
+                    rt.alloc(),
+                    &["transcribe", "a.mid", "a.grammar"],
+                    most,
+                    case
+                )?,
                 "{} by {most}",
                 case.shows
             );
@@ -223,14 +230,14 @@ fn a_script_has_a_greatest_length(rt: HostRuntime) -> Result<(), Fail> {
         out: &replies,
         err: b"",
     };
-    assert!(rt; edits(&rt, alloc, 4096, &script, &answered)?);
+    assert!(rt; answers(&rt, alloc, "edit", 4096, &script, &answered)?);
     script.push(b'x')?;
     let above = Ending {
         status: 4,
         out: &replies,
         err: b"limit script 16777217\n",
     };
-    assert!(rt; edits(&rt, alloc, 4096, &script, &above)?);
+    assert!(rt; answers(&rt, alloc, "edit", 4096, &script, &above)?);
     Ok(())
 }
 
@@ -243,8 +250,13 @@ fn the_longest_line_is_answered(rt: HostRuntime) -> Result<(), Fail> {
         out: b"refused Line\n",
         err: b"",
     };
-    for most in [1, 2, 3, 4096] {
-        assert!(rt; edits(&rt, alloc, most, &line, &answered)?, "by {most}");
+    for command in ["edit", "studio"] {
+        for most in [1, 2, 3, 4096] {
+            assert!(rt;
+                answers(&rt, alloc, command, most, &line, &answered)?,
+                "{command} by {most}"
+            );
+        }
     }
     Ok(())
 }

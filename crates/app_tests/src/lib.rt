@@ -1,7 +1,7 @@
-//! Tests of the top call, from the bytes of files to what out and err take: the scores of small pieces and their costs; the events of
-//! scores; pieces and drills of numbers; words that are answered or refused; what refuses a file, notes, bars or a grammar; files at
-//! their limits; each call of a port that fails; the turns of a script and its replies; what is opened; and the workers that are asked
-//! for.
+//! Tests of the top call, from the bytes of files to what out and err take: the scores of small pieces, their costs, pages and MIDI files;
+//! barlines that are fitted; the scripts of editors and studios; the events of scores; pieces and drills of numbers; words that are
+//! answered or refused; what refuses a file, notes, bars or a grammar; files at their limits; each call of a port that fails; the turns
+//! of a script and its replies; what is opened; and the workers that are asked for.
 #![tactic(auto)]
 
 #[cfg(test)]
@@ -21,6 +21,8 @@ mod failures;
 #[cfg(test)]
 mod files;
 #[cfg(test)]
+mod fits;
+#[cfg(test)]
 mod given;
 #[cfg(test)]
 mod grammars;
@@ -33,11 +35,19 @@ mod midi;
 #[cfg(test)]
 mod one_call;
 #[cfg(test)]
+mod pages;
+#[cfg(test)]
 mod pipes;
 #[cfg(test)]
 mod refusals;
 #[cfg(test)]
+mod renders;
+#[cfg(test)]
 mod scores;
+#[cfg(test)]
+mod scripts;
+#[cfg(test)]
+mod studios;
 #[cfg(test)]
 mod talks;
 #[cfg(test)]

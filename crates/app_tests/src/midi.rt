@@ -11,6 +11,12 @@ pub const WHOLE_NOTE: &[u8] = b"\
     MTrk\0\0\0\x0d\0\x90<@\x8f\0\x80<\0\0\xff/\0\
 ";
 
+/// Two notes: the second begins 20 ticks before the barline between them, with 480 ticks to a quarter note.
+pub const EARLY_NOTE: &[u8] = b"\
+    MThd\0\0\0\x06\0\0\0\x01\x01\xe0\
+    MTrk\0\0\0\x16\0\x90<@\x8el\x80<\0\0\x90>@\x8f\x14\x80>\0\0\xff/\0\
+";
+
 /// A note of sixteen bars, with a tick to a quarter note.
 pub const SIXTEEN_BARS: &[u8] = b"\
     MThd\0\0\0\x06\0\0\0\x01\0\x01\

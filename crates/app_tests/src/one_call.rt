@@ -4,7 +4,9 @@ use crate::case::{Ports, run_over, words_of};
 use crate::given::{Given, shelf_of};
 use crate::grammars::USUAL;
 use crate::midi::{FOUR_QUARTERS, WHOLE_NOTE};
-use crate::talks::{NOTE_JOINS_A_CHORD, NOTE_OVER_THREE_BARS, RHYTHMS_OF_A_BAR, script_of};
+use crate::talks::{
+    CHORD_COMES_AND_GOES, NOTE_JOINS_A_CHORD, NOTE_OVER_THREE_BARS, RHYTHMS_OF_A_BAR, script_of,
+};
 use rhythm_ports::{Failed, MemSink, MemSource, OpenGate, Sink};
 use std::alloc::{AllocError, Global};
 use std::test::Fail;
@@ -50,14 +52,15 @@ fn calls_out<R: Threads + Sync>(
 #[test]
 fn a_reply_is_written_at_once(rt: HostRuntime) -> Result<(), Fail> {
     let alloc = rt.alloc();
-    for (midi, talk) in [
-        (FOUR_QUARTERS, NOTE_JOINS_A_CHORD),
-        (WHOLE_NOTE, NOTE_OVER_THREE_BARS),
-        (FOUR_QUARTERS, RHYTHMS_OF_A_BAR),
+    for (command, midi, talk) in [
+        ("edit", FOUR_QUARTERS, NOTE_JOINS_A_CHORD),
+        ("edit", WHOLE_NOTE, NOTE_OVER_THREE_BARS),
+        ("edit", FOUR_QUARTERS, RHYTHMS_OF_A_BAR),
+        ("studio", FOUR_QUARTERS, CHORD_COMES_AND_GOES),
     ] {
         let script = script_of(alloc, talk)?;
         let given = Given {
-            words: &["edit", "a.mid", "a.grammar"],
+            words: &[command, "a.mid", "a.grammar"],
             files: &[("a.mid", midi), ("a.grammar", USUAL)],
             script: &script,
         };
@@ -66,13 +69,23 @@ fn a_reply_is_written_at_once(rt: HostRuntime) -> Result<(), Fail> {
     Ok(())
 }
 
+/// Commands that write a text.
+const WRITING: &[&[&str]] = &[
+    &["drill", "7", "a.grammar"],
+    &["lily", "a.mid", "a.grammar"],
+    &["render", "a.mid", "a.grammar"],
+    &["fit", "a.mid", "a.grammar", "1", "1920", "1920", "1"],
+];
+
 #[test]
-fn a_summary_is_written_at_once(rt: HostRuntime) -> Result<(), Fail> {
-    let given = Given {
-        words: &["drill", "7", "a.grammar"],
-        files: &[("a.grammar", USUAL)],
-        script: b"",
-    };
-    assert!(rt; calls_out(&rt, rt.alloc(), &given, 1)?);
+fn a_text_is_written_at_once(rt: HostRuntime) -> Result<(), Fail> {
+    for words in WRITING {
+        let given = Given {
+            words: *words,
+            files: &[("a.mid", FOUR_QUARTERS), ("a.grammar", USUAL)],
+            script: b"",
+        };
+        assert!(rt; calls_out(&rt, rt.alloc(), &given, 1)?);
+    }
     Ok(())
 }

@@ -257,7 +257,13 @@ fn pieces_have_their_scores(rt: HostRuntime) -> Result<(), Fail> {
     for case in CASES {
         for most in [1, 2, 3, 4096] {
             assert!(rt;
-                holds(&rt, rt.alloc(), most, case)?,
+                holds(
+                    &rt,
+                    rt.alloc(),
+                    &["transcribe", "a.mid", "a.grammar"],
+                    most,
+                    case
+                )?,
                 "{}, {most} bytes a call",
                 case.shows
             );

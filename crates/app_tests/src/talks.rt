@@ -46,6 +46,24 @@ pub const RHYTHMS_OF_A_BAR: &[Exchange] = &[
     (b"quit\n", b"bye\n"),
 ];
 
+/// The four quarters: an edit is taken back and made again, until another edit comes.
+pub const CHORD_COMES_AND_GOES: &[Exchange] = &[
+    (b"undo\n", b"refused NoStep\n"),
+    (b"add 0 64 10 480\n", b"ok 0 100\n"),
+    (b"undo\n", b"ok 0 100\n"),
+    (
+        b"score\n",
+        b"score 41\n**kern\n*M4/4\n*MM120\n=1\n4c\n4d\n4e\n4f\n==\n*-\n",
+    ),
+    (b"redo\n", b"ok 0 100\n"),
+    (
+        b"score\n",
+        b"score 44\n**kern\n*M4/4\n*MM120\n=1\n4c 4e\n4d\n4e\n4f\n==\n*-\n",
+    ),
+    (b"drop 0 64 10\n", b"ok 0 100\n"),
+    (b"redo\n", b"refused NoStep\n"),
+];
+
 /// The lines of the talk, one after another.
 pub fn script_of(alloc: Global, talk: &[Exchange]) -> Result<Vec<u8>, AllocError> {
     let mut script = Vec::new(alloc);

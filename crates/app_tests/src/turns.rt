@@ -5,8 +5,8 @@ use crate::given::shelf_of;
 use crate::grammars::USUAL;
 use crate::midi::{FOUR_QUARTERS, WHOLE_NOTE};
 use crate::talks::{
-    Exchange, NOTE_JOINS_A_CHORD, NOTE_OVER_THREE_BARS, RHYTHMS_OF_A_BAR, lines_within, replies_to,
-    script_of,
+    CHORD_COMES_AND_GOES, Exchange, NOTE_JOINS_A_CHORD, NOTE_OVER_THREE_BARS, RHYTHMS_OF_A_BAR,
+    lines_within, replies_to, script_of,
 };
 use rhythm_ports::{Failed, MemSink, MemSource, OpenGate, Sink, Source};
 use std::alloc::{AllocError, Global};
@@ -154,10 +154,12 @@ impl Sink for Answered<'_> {
     }
 }
 
-/// Whether each line of the talk over the MIDI file is answered when it is whole, and before the next part is read.
+/// Whether each line of the talk over the MIDI file is answered when it is whole, and before the next part is read, by the command of
+/// this word.
 fn takes_turns<R: Threads + Sync>(
     rt: &R,
     alloc: Global,
+    command: &str,
     most: usize,
     midi: &[u8],
     talk: &'static [Exchange],
@@ -165,7 +167,7 @@ fn takes_turns<R: Threads + Sync>(
 ) -> Result<bool, AllocError>
     requires { 1 ≤ most }
 {
-    let words = words_of(alloc, &["edit", "a.mid", "a.grammar"])?;
+    let words = words_of(alloc, &[command, "a.mid", "a.grammar"])?;
     let turns = Turns {
         due: AtomicU64::new(0),
         taken: AtomicU64::new(0),
@@ -197,16 +199,17 @@ fn takes_turns<R: Threads + Sync>(
 
 #[test]
 fn a_line_is_answered_before_the_next_is_read(rt: HostRuntime) -> Result<(), Fail> {
-    for (midi, talk) in [
-        (FOUR_QUARTERS, NOTE_JOINS_A_CHORD),
-        (WHOLE_NOTE, NOTE_OVER_THREE_BARS),
-        (FOUR_QUARTERS, RHYTHMS_OF_A_BAR),
+    for (command, midi, talk) in [
+        ("edit", FOUR_QUARTERS, NOTE_JOINS_A_CHORD),
+        ("edit", WHOLE_NOTE, NOTE_OVER_THREE_BARS),
+        ("edit", FOUR_QUARTERS, RHYTHMS_OF_A_BAR),
+        ("studio", FOUR_QUARTERS, CHORD_COMES_AND_GOES),
     ] {
         for parts in [Parts::HalfLines, Parts::Lines, Parts::PairsOfLines] {
             for most in [1, 2, 3, 4096] {
                 assert!(rt;
-                    takes_turns(&rt, rt.alloc(), most, midi, talk, parts)?,
-                    "by {most}"
+                    takes_turns(&rt, rt.alloc(), command, most, midi, talk, parts)?,
+                    "{command} by {most}"
                 );
             }
         }

@@ -56,6 +56,46 @@ const REFUSED: &[&[&str]] = &[
     &["--workers", "2"],
 ];
 
+/// Words of `fit` that are refused: for their count, their order, or a number that is out of its range or is no number.
+const REFUSED_FITS: &[&[&str]] = &[
+    &["fit", "a.mid", "a.grammar", "1", "20", "10", "1"],
+    &["fit", "a.mid", "a.grammar", "1", "1900", "1900"],
+    &["fit", "a.mid", "a.grammar", "1", "1900", "1900", "1", "1"],
+    &["fit", "a.mid", "a.grammar", "4097", "1900", "1900", "1"],
+    &["fit", "a.mid", "a.grammar", "1", "1900", "2000000001", "1"],
+    &[
+        "fit",
+        "a.mid",
+        "a.grammar",
+        "1",
+        "2000000001",
+        "2000000001",
+        "1",
+    ],
+    &["fit", "a.mid", "a.grammar", "1", "1900", "1900", "0"],
+    &[
+        "fit",
+        "a.mid",
+        "a.grammar",
+        "1",
+        "1900",
+        "1900",
+        "2000000001",
+    ],
+    &[
+        "fit",
+        "a.mid",
+        "a.grammar",
+        "00000000001",
+        "1900",
+        "1900",
+        "1",
+    ],
+    &["fit", "a.mid", "a.grammar", "1", "00000001900", "1900", "1"],
+    &["fit", "a.mid", "a.grammar", "1", "+1900", "1900", "1"],
+    &["fit", "a.mid", "a.grammar", "1", "1900", "", "1"],
+];
+
 /// Whether the words end with this status, and out and err take these texts.
 fn comes_to<R: Threads + Sync>(
     rt: &R,
@@ -104,6 +144,19 @@ fn words_are_answered(rt: HostRuntime) -> Result<(), Fail> {
 fn words_are_refused(rt: HostRuntime) -> Result<(), Fail> {
     let alloc = rt.alloc();
     for words in REFUSED {
+        let last = words[words.len() - 1];
+        assert!(rt;
+            is_refused(&rt, alloc, words)?,
+            "words that end with {last}"
+        );
+    }
+    Ok(())
+}
+
+#[test]
+fn words_of_fit_are_refused(rt: HostRuntime) -> Result<(), Fail> {
+    let alloc = rt.alloc();
+    for words in REFUSED_FITS {
         let last = words[words.len() - 1];
         assert!(rt;
             is_refused(&rt, alloc, words)?,

@@ -1,7 +1,7 @@
 use crate::case::{Ports, run_over, words_of};
 use crate::given::{Given, shelf_of};
 use crate::grammars::{USUAL, WHOLE};
-use crate::midi::{SIXTEEN_BARS, TWO_VOICES, WHOLE_NOTE};
+use crate::midi::{EARLY_NOTE, SIXTEEN_BARS, TWO_VOICES, WHOLE_NOTE};
 use rhythm_ports::{Gate, MemSink, MemSource};
 use std::alloc::{AllocError, Global};
 use std::sync::atomic::{AtomicBool, AtomicU64, Ordering};
@@ -124,6 +124,31 @@ fn meet_in_edit<R: Threads + Sync>(
     meet(rt, alloc, &given, gate)
 }
 
+/// Whether they do in a fit, at whose tick two cells are reached. Two cells are built before it.
+fn meet_in_fit<R: Threads + Sync>(
+    rt: &R,
+    alloc: Global,
+    workers: &str,
+    gate: &Meeting,
+) -> Result<bool, AllocError> {
+    let given = Given {
+        words: &[
+            "fit",
+            "--workers",
+            workers,
+            "a.mid",
+            "a.grammar",
+            "1",
+            "1900",
+            "1900",
+            "1",
+        ],
+        files: &[("a.mid", EARLY_NOTE), ("a.grammar", USUAL)],
+        script: b"",
+    };
+    meet(rt, alloc, &given, gate)
+}
+
 /// Whether they do in a drill. A thousand cells are built before its edits.
 fn meet_in_drill<R: Threads + Sync>(
     rt: &R,
@@ -162,6 +187,14 @@ fn as_many_workers_draw_the_cells_of_an_edit(rt: HostRuntime) -> Result<(), Fail
     let alloc = rt.alloc();
     assert!(rt; meet_in_edit(&rt, alloc, "3", &Meeting::new(4, 3, LONG))?);
     assert!(rt; !meet_in_edit(&rt, alloc, "2", &Meeting::new(4, 3, SHORT))?);
+    Ok(())
+}
+
+#[test]
+fn as_many_workers_draw_the_cells_of_a_fit(rt: HostRuntime) -> Result<(), Fail> {
+    let alloc = rt.alloc();
+    assert!(rt; meet_in_fit(&rt, alloc, "2", &Meeting::new(2, 2, LONG))?);
+    assert!(rt; !meet_in_fit(&rt, alloc, "1", &Meeting::new(2, 2, SHORT))?);
     Ok(())
 }
 

@@ -22,8 +22,19 @@ help_lines =
     ∷ codes "Commands:"
     ∷ codes "  transcribe MIDI GRAMMAR   Reads a MIDI file and a grammar file, and writes the"
     ∷ codes "                            score."
+    ∷ codes "  lily MIDI GRAMMAR         Reads the two files, and writes the score as a text"
+    ∷ codes "                            from which LilyPond makes a page."
+    ∷ codes "  render MIDI GRAMMAR       Reads the two files, and writes the score as a MIDI"
+    ∷ codes "                            file: each note where it is notated."
     ∷ codes "  edit MIDI GRAMMAR         Reads the two files and then, on standard input, an"
     ∷ codes "                            edit script; writes a reply to each line."
+    ∷ codes "  studio MIDI GRAMMAR       The same, where the script can take edits back, and"
+    ∷ codes "                            make them again: with the lines undo and redo."
+    ∷ codes "  fit MIDI GRAMMAR BAR LOW HIGH STEP"
+    ∷ codes "                            Reads the two files, tries ticks from LOW to HIGH"
+    ∷ codes "                            for the barline BAR, and writes the best one, its"
+    ∷ codes "                            cost and the score. BAR is 0 to 4096, the ticks are"
+    ∷ codes "                            0 to 2000000000, and so is STEP, but at least 1."
     ∷ codes "  events KERN               Reads a **kern file, and writes each note and chord"
     ∷ codes "                            on a line of its own."
     ∷ codes "  generate NUMBER BARS      Reads nothing, and writes a MIDI file that is made"
@@ -49,6 +60,7 @@ help_lines =
     ∷ codes "  5   a file or the script could not be read"
     ∷ codes "  6   standard output could not be written"
     ∷ codes "  7   not enough memory"
+    ∷ codes "  9   the barline can be fitted to none of its ticks"
     ∷ []
 
 unfoldable pub help_text : List ℕ

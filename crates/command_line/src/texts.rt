@@ -15,8 +15,19 @@ a file of weighted rhythm rules.
 Commands:
   transcribe MIDI GRAMMAR   Reads a MIDI file and a grammar file, and writes the
                             score.
+  lily MIDI GRAMMAR         Reads the two files, and writes the score as a text
+                            from which LilyPond makes a page.
+  render MIDI GRAMMAR       Reads the two files, and writes the score as a MIDI
+                            file: each note where it is notated.
   edit MIDI GRAMMAR         Reads the two files and then, on standard input, an
                             edit script; writes a reply to each line.
+  studio MIDI GRAMMAR       The same, where the script can take edits back, and
+                            make them again: with the lines undo and redo.
+  fit MIDI GRAMMAR BAR LOW HIGH STEP
+                            Reads the two files, tries ticks from LOW to HIGH
+                            for the barline BAR, and writes the best one, its
+                            cost and the score. BAR is 0 to 4096, the ticks are
+                            0 to 2000000000, and so is STEP, but at least 1.
   events KERN               Reads a **kern file, and writes each note and chord
                             on a line of its own.
   generate NUMBER BARS      Reads nothing, and writes a MIDI file that is made
@@ -42,6 +53,7 @@ Status:
   5   a file or the script could not be read
   6   standard output could not be written
   7   not enough memory
+  9   the barline can be fitted to none of its ticks
 "
 }
 

@@ -5,7 +5,7 @@ use Rattle.command_line.specs.CommandLines.{invocation_of}
 use Rattle.command_line.specs.declared.invocation.Invocation.{Invocation}
 use Rattle.rhythm_app.specs.Asked.{asked_by, asked_of}
 use Rattle.rhythm_app.specs.Builds.{HasBuilt}
-use Rattle.rhythm_app.specs.Commands.{Cells, no_cells, cells_in, cells_drilled}
+use Rattle.rhythm_app.specs.Commands.{Cells, no_cells, cells_in, cells_fitted, cells_drilled}
 use Rattle.rhythm_app.specs.declared.stop.Stop.TheVariants as stop
 use Rattle.rhythm_ports.specs.Files.{File}
 
@@ -23,10 +23,12 @@ asked_nothing words e = ap (option_and_then asked_of) e
 pub unread_built : (cells : Cells) (files : Option (List File)) (built : ℕ) → HasBuilt cells files built built stop.Memory
 unread_built no_cells files built = refl
 unread_built (cells_in midi) files built = inl refl
+unread_built (cells_fitted midi grammar c) files built = inl refl
 unread_built (cells_drilled number grammar) files built = inl refl
 
 -- nor where the words are no command
 pub nothing_built : (cells : Cells) (files : Option (List File)) (built : ℕ) → HasBuilt cells files built built stop.Usage
 nothing_built no_cells files built = refl
 nothing_built (cells_in midi) files built = refl
+nothing_built (cells_fitted midi grammar c) files built = refl
 nothing_built (cells_drilled number grammar) files built = refl

@@ -1,7 +1,10 @@
 pub mod Asking
+pub mod Candidates
 pub mod Drilling
+pub mod Fitting
 pub mod InTurn
 pub mod Listing
+pub mod Notating
 pub mod OneOutcome
 pub mod Opened
 pub mod Performing
@@ -10,6 +13,7 @@ pub mod Reading
 pub mod Requests
 pub mod Scoring
 pub mod Sessions
+pub mod CountedWords
 pub mod Statuses
 pub mod Stops
 pub mod Taken

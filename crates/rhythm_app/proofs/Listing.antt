@@ -1,9 +1,9 @@
 -- What the events of a **kern file come to.
-use Rattle.std.proofs.Common.{◌≡◌, ◌≢◌, ℕ, List, Vec, inl, inr, refl, subst, sym, IfErr, IfOk, Option, Some, None, Result, Ok, Err}
+use Rattle.std.proofs.Common.{◌≡◌, ℕ, List, Vec, inr, refl, subst, sym, IfErr, IfOk, Some, Result, Ok, Err}
 use Rattle.std.specs.Option.{ForSome}
 use Rattle.kern_reader.specs.Score.{KernColumns}
 use Rattle.rhythm_app.specs.Asked.{events}
-use Rattle.rhythm_app.specs.Commands.{HasNames, HasOutcomeOf, file_content}
+use Rattle.rhythm_app.specs.Commands.{HasNames, file_content}
 use Rattle.rhythm_app.specs.Lent.{Lent}
 use Rattle.rhythm_app.specs.Outcome.{IsListing, IsScoreRead, say}
 use Rattle.rhythm_app.specs.Stages.{Follows, HasText}
@@ -11,7 +11,6 @@ use Rattle.rhythm_app.specs.declared.stop.Stop.{Stop}
 use Rattle.rhythm_app.specs.declared.stop.Stop.TheVariants as stop
 use Rattle.rhythm_app.proofs.Performing.{not_had, shelf_alone}
 use Rattle.rhythm_app.proofs.Sessions.{no_failure}
-use Rattle.rhythm_ports.specs.Files.{File}
 
 -- the score was read, and its events are listed, or there was not enough memory
 pub listed : {S O E A : Type 0} (kern : List ℕ) (seen old new : Lent S O E) (score : KernColumns) (r : Result (Vec ℕ A) Stop) → seen ≡ old

@@ -1,7 +1,12 @@
 -- What words and files come to is one.
 use Rattle.std.proofs.Common.{◌≡◌, ◌≤◌, ◌+◌, ℕ, List, Option, Some, None, ap, ap₂, inl, inr, refl, sym, subst, ◌∙◌, Bool, true, false, Result, Ok, Err, arith}
 use Rattle.std.proofs.lemmas.Bool.{leb-true}
-use Rattle.std.specs.Prelude.{IfOk, if◌then◌else◌, nat_le, length}
+use Rattle.std.specs.Prelude.{IfOk, if◌then◌else◌, nat_le, length, map}
+use Rattle.barline_fit.proofs.OneFit.{ticks_one}
+use Rattle.barline_fit.proofs.OneWritten.{scores_with_barline_one}
+use Rattle.barline_fit.specs.FittedScore.{IsFittedScore}
+use Rattle.barline_fit.specs.declared.candidates.Candidates.{Candidates}
+use Rattle.barline_fit.specs.declared.fitted.Fitted.{Fitted}
 use Rattle.drill_run.proofs.OneDrill.{drills_one}
 use Rattle.drill_run.specs.Ends.{IsDrillOf}
 use Rattle.edit_session.proofs.Faults.{fault_or_open, one_fault}
@@ -11,21 +16,26 @@ use Rattle.grammar_file.specs.Grammar.{grammar_of}
 use Rattle.kern_laws.proofs.OneList.{one_list}
 use Rattle.kern_reader.proofs.ScoreLemmas.{well_score}
 use Rattle.kern_reader.specs.EventText.{events_text}
+use Rattle.kern_reader.specs.Events.{AreEvents}
 use Rattle.kern_reader.specs.Outcome.{score_of}
 use Rattle.kern_reader.specs.Score.{IsKernScore, KernColumns}
+use Rattle.kern_reader.specs.declared.event.KernEvent.{KernEvent}
 use Rattle.kern_reader.specs.declared.fault.KernFault.{KernFault}
 use Rattle.derivation.proofs.OneScore.{scores_one}
+use Rattle.derivation.specs.PerformanceScore.{score_bar}
 use Rattle.kern_writer.proofs.OneText.{texts_one}
 use Rattle.kern_writer.specs.PerformanceText.{HasTooLongText, IsTextOf}
 use Rattle.kern_writer.specs.Text.{IsScoreText, IsTooLong}
+use Rattle.lily_writer.proofs.OnePage.{pages_one}
+use Rattle.lily_writer.specs.Text.{IsLilyText}
 use Rattle.performance_load.proofs.OneLoading.{one_loading}
 use Rattle.performance_load.specs.Loading.{Loads}
 use Rattle.performance_load.specs.declared.load_fault.LoadFault.{LoadFault}
 use Rattle.rhythm_app.proofs.InTurn.{IsOne, in_turn_one}
-use Rattle.rhythm_app.specs.Asked.{Asked, help, version, write, answer, events, generate, drill, asked_by}
+use Rattle.rhythm_app.specs.Asked.{Asked, help, version, write, answer, fit, too_many_candidates, events, generate, drill, asked_by}
 use Rattle.rhythm_app.specs.Commands.{HasOutcomeOf, file_content}
 use Rattle.rhythm_app.specs.Laws.{OutcomesAreOne}
-use Rattle.rhythm_app.specs.Outcome.{AreInTurn, AreInputs, AreRead, IsAnswering, IsListing, IsLoading, IsRead, IsScoreRead, IsScoring, IsWriting, IsDrilling, IsMade, IsPieceOf, IsTooLongDrill, Ready, say, serve, IsUnderstood, IsUnopened, grammar_tests, kern_tests, limit_of, load_stop, open_stop, passed, stopped}
+use Rattle.rhythm_app.specs.Outcome.{AreEventsOf, AreInTurn, AreInputs, AreRead, FitsScore, IsAnswering, IsFitting, IsFormOf, IsListing, IsLoading, IsRead, IsScoreRead, IsTooLongToWrite, IsUnfitted, IsUnwritten, IsWriting, fit_stop, fit_text, IsDrilling, IsMade, IsPieceOf, IsTooLongDrill, Ready, say, serve, IsUnderstood, IsUnopened, grammar_tests, kern_tests, limit_of, load_stop, open_stop, passed, stopped}
 use Rattle.rhythm_app.specs.declared.request.Form.{Form}
 use Rattle.rhythm_app.specs.declared.request.Form.TheVariants as form
 use Rattle.rhythm_app.specs.declared.request.Talk.{Talk}
@@ -39,6 +49,8 @@ use Rattle.rhythm_base.specs.declared.limits.TheConstants.{LONGEST_SCORE}
 use Rattle.rhythm_ports.specs.Files.{File}
 use Rattle.smf_reader.specs.Played.{Smf}
 use Rattle.smf_reader.specs.declared.fault.SmfFault.{SmfFault}
+use Rattle.smf_writer.proofs.OneFile.{files_one}
+use Rattle.smf_writer.specs.RenderedFile.{IsRendered}
 
 -- ---- the files and the performance
 
@@ -92,22 +104,124 @@ module _ (g : Grammar) (p : Performance) (read : IsReadable g) (formed : IsWellF
   opened : (s : Stop) → CanOpen g p → IsUnopened g p s → ⊥
   opened s can (fault, is, other, same) = fault_or_open g p fault read formed other can is
 
-  one_scoring : IsOne (IsScoring g p)
-  one_scoring (Ok (say a)) (Ok (say b)) h k = ap (λ text. Ok (say text)) (one_text a b h.1 k.1)
-  one_scoring (Ok (say a)) (Ok (serve t e q)) h k = absurd k
-  one_scoring (Ok (serve t e q)) s h k = absurd h
-  one_scoring (Ok (say a)) (Err t) h (inl k) = absurd (opened t h.0 k)
-  one_scoring (Ok (say a)) (Err t) h (inr k) = absurd (not_too_long a k.0 h.1 h.2 k.2)
-  one_scoring (Err s) (Ok (say b)) (inl h) k = absurd (opened s k.0 h)
-  one_scoring (Err s) (Ok (say b)) (inr h) k = absurd (not_too_long b h.0 k.1 k.2 h.2)
-  one_scoring (Err s) (Ok (serve t e q)) h k = absurd k
-  one_scoring (Err s) (Err t) (inl h) (inl k) = ap Err (h.3 ∙ ap open_stop (one_fault g p h.0 k.0 read formed h.2 k.2 h.1 k.1) ∙ sym k.3)
-  one_scoring (Err s) (Err t) (inl h) (inr k) = absurd (opened s k.1 h)
-  one_scoring (Err s) (Err t) (inr h) (inl k) = absurd (opened t h.1 k)
-  one_scoring (Err s) (Err t) (inr h) (inr k) = ap Err (h.3 ∙ ap stop.ScoreTooLong (one_line h.0 k.0 h.2 k.2) ∙ sym k.3)
+  same_columns : (a b : KernColumns) → ◌≡◌ {A = Result KernColumns KernFault} (Ok a) (Ok b) → a ≡ b
+  same_columns a b e = cc
+
+  one_events : (a b : List KernEvent) → AreEventsOf g p a → AreEventsOf g p b → a ≡ b
+  one_events a b h k =
+      let short = k.written.1 in
+      let same = one_text h.text k.text h.written.0 k.written.0 in
+      let score = same_columns h.score k.score (sym h.read ∙ ap score_of same ∙ k.read) in
+      one_list k.score a b (well_score k.text k.score (omega (arith, short)) k.read) (subst (λ (s : KernColumns). AreEvents s a) score h.are) k.are
+
+  one_of_form : (f : Form) (a b : List ℕ) → IsFormOf f g p a → IsFormOf f g p b → a ≡ b
+  one_of_form form.Score a b h k = one_text a b h.0 k.0
+  one_of_form form.Page a b (list, are, page) (other, others, page') =
+      pages_one g.resolution (map (score_bar p) p.bars) (length p.channels) other a b read.ranges.some_unit
+      (subst (λ (l : List KernEvent). IsLilyText g.resolution (map (score_bar p) p.bars) (length p.channels) l a) (one_events list other are others) page) page'
+  one_of_form form.Rendered a b (list, are, file) (other, others, file') =
+      files_one g.resolution (map (score_bar p) p.bars) p.channels other a b
+      (subst (λ (l : List KernEvent). IsRendered g.resolution (map (score_bar p) p.bars) p.channels l a) (one_events list other are others) file) file'
+
+  -- no form is written of a score that is too long
+  form_short : (f : Form) (text : List ℕ) (line : ℕ) → IsFormOf f g p text → HasTooLongText g p line → ⊥
+  form_short form.Score text line h k = not_too_long text line h.0 h.1 k
+  form_short form.Page text line (list, are, page) k = not_too_long are.text line are.written.0 are.written.1 k
+  form_short form.Rendered text line (list, are, file) k = not_too_long are.text line are.written.0 are.written.1 k
+
+  -- what is written in a form is not unwritten
+  form_written : (f : Form) (text : List ℕ) (s : Stop) → IsFormOf f g p text → IsUnwritten f g p s → ⊥
+  form_written form.Score text s h k = absurd k
+  form_written form.Page text s h k = absurd k
+  form_written form.Rendered bytes s (list, are, file) (text, tick, can, written, fault, same) = omega (arith, file.early, fault.0, fault.1)
+
+  -- where a score is not written in its form a session is opened, and the score is not too long
+  apart : (f : Form) (s t : Stop) → IsUnopened g p s → IsUnwritten f g p t → ⊥
+  apart form.Score s t h k = absurd k
+  apart form.Page s t h k = absurd k
+  apart form.Rendered s t h (text, tick, can, written, fault, same) = opened s can h
+
+  too_long_apart : (f : Form) (s t : Stop) → IsTooLongToWrite g p s → IsUnwritten f g p t → ⊥
+  too_long_apart form.Score s t h k = absurd k
+  too_long_apart form.Page s t h k = absurd k
+  too_long_apart form.Rendered s t h (text, tick, can, written, fault, same) = not_too_long text h.0 written.0 written.1 h.2
+
+  one_unwritten : (f : Form) (s t : Stop) → IsUnwritten f g p s → IsUnwritten f g p t → s ≡ t
+  one_unwritten form.Score s t h k = absurd h
+  one_unwritten form.Page s t h k = absurd h
+  one_unwritten form.Rendered s t (text, tick, can, written, fault, same) (text', tick', can', written', fault', same') =
+      same ∙ ap stop.RenderTooLong (fault.0 ∙ sym fault'.0) ∙ sym same'
 
   one_writing : (f : Form) → IsOne (IsWriting f g p)
-  one_writing form.Score = one_scoring
+  one_writing f (Ok (say a)) (Ok (say b)) h k = ap (λ text. Ok (say text)) (one_of_form f a b h.1 k.1)
+  one_writing f (Ok (say a)) (Ok (serve t e q)) h k = absurd k
+  one_writing f (Ok (serve t e q)) s h k = absurd h
+  one_writing f (Ok (say a)) (Err t) h (inl k) = absurd (opened t h.0 k)
+  one_writing f (Ok (say a)) (Err t) h (inr (inl k)) = absurd (form_short f a k.0 h.1 k.2)
+  one_writing f (Ok (say a)) (Err t) h (inr (inr k)) = absurd (form_written f a t h.1 k)
+  one_writing f (Err s) (Ok (say b)) (inl h) k = absurd (opened s k.0 h)
+  one_writing f (Err s) (Ok (say b)) (inr (inl h)) k = absurd (form_short f b h.0 k.1 h.2)
+  one_writing f (Err s) (Ok (say b)) (inr (inr h)) k = absurd (form_written f b s k.1 h)
+  one_writing f (Err s) (Ok (serve t e q)) h k = absurd k
+  one_writing f (Err s) (Err t) (inl h) (inl k) = ap Err (h.3 ∙ ap open_stop (one_fault g p h.0 k.0 read formed h.2 k.2 h.1 k.1) ∙ sym k.3)
+  one_writing f (Err s) (Err t) (inl h) (inr (inl k)) = absurd (opened s k.1 h)
+  one_writing f (Err s) (Err t) (inl h) (inr (inr k)) = absurd (apart f s t h k)
+  one_writing f (Err s) (Err t) (inr (inl h)) (inl k) = absurd (opened t h.1 k)
+  one_writing f (Err s) (Err t) (inr (inl h)) (inr (inl k)) = ap Err (h.3 ∙ ap stop.ScoreTooLong (one_line h.0 k.0 h.2 k.2) ∙ sym k.3)
+  one_writing f (Err s) (Err t) (inr (inl h)) (inr (inr k)) = absurd (too_long_apart f s t h k)
+  one_writing f (Err s) (Err t) (inr (inr h)) (inl k) = absurd (apart f t s k h)
+  one_writing f (Err s) (Err t) (inr (inr h)) (inr (inl k)) = absurd (too_long_apart f t s k h)
+  one_writing f (Err s) (Err t) (inr (inr h)) (inr (inr k)) = ap Err (one_unwritten f s t h k)
+
+  -- ---- the fitted barline
+
+  same_score : (a b : List ℕ) → ◌≡◌ {A = Result (List ℕ) ℕ} (Ok a) (Ok b) → a ≡ b
+  same_score a b e = cc
+
+  same_record : (a b : ℕ) → ◌≡◌ {A = Result (List ℕ) ℕ} (Err a) (Err b) → a ≡ b
+  same_record a b e = cc
+
+  not_score : (a : List ℕ) (b : ℕ) → ◌≡◌ {A = Result (List ℕ) ℕ} (Ok a) (Err b) → ⊥
+  not_score a b e = cc
+
+  module _ (c : Candidates) where
+    one_tick : (x y : Fitted) (a b : Result (List ℕ) ℕ) → FitsScore c g p x a → FitsScore c g p y b → x ≡ y
+    one_tick x y a b h k = ticks_one.tick g p c.bar _ x y h.fitted k.fitted
+
+    one_fit_score : (x y : Fitted) (a b : Result (List ℕ) ℕ) → FitsScore c g p x a → FitsScore c g p y b → a ≡ b
+    one_fit_score x y a b h k =
+        scores_with_barline_one.one g p c.bar y.tick a b read formed
+        (subst (λ (z : Fitted). IsFittedScore g p c.bar z.tick a) (one_tick x y a b h k) h.scored) k.scored
+
+    unfitted : (x : Fitted) (a : Result (List ℕ) ℕ) (s : Stop) → FitsScore c g p x a → IsUnfitted c g p s → ⊥
+    unfitted x a s h (fault, can, is, other, same) = ticks_one.either g p c.bar _ x fault read formed other h.fitted is
+
+    one_unfitted : (s t : Stop) → IsUnfitted c g p s → IsUnfitted c g p t → s ≡ t
+    one_unfitted s t (a, can, is, other, same) (b, can', is', other', same') =
+        same ∙ ap fit_stop (ticks_one.fault g p c.bar _ a b other other' is is') ∙ sym same'
+
+    one_fitting : IsOne (IsFitting c g p)
+    one_fitting (Ok (say a)) (Ok (say b)) (x, score, h, text) (y, score', k, text') =
+        ap (λ t. Ok (say t)) (text ∙ ap₂ fit_text (one_tick x y (Ok score) (Ok score') h k) (same_score score score' (one_fit_score x y (Ok score) (Ok score') h k)) ∙ sym text')
+    one_fitting (Ok (say a)) (Ok (serve t e q)) h k = absurd k
+    one_fitting (Ok (serve t e q)) s h k = absurd h
+    one_fitting (Ok (say a)) (Err t) (x, score, h, text) (inl k) = absurd (opened t h.can k)
+    one_fitting (Ok (say a)) (Err t) (x, score, h, text) (inr (inl k)) = absurd (unfitted x (Ok score) t h k)
+    one_fitting (Ok (say a)) (Err t) (x, score, h, text) (inr (inr (y, line, k, e))) = absurd (not_score score line (one_fit_score x y (Ok score) (Err line) h k))
+    one_fitting (Err s) (Ok (serve t e q)) h k = absurd k
+    one_fitting (Err s) (Ok (say b)) (inl h) (x, score, k, text) = absurd (opened s k.can h)
+    one_fitting (Err s) (Ok (say b)) (inr (inl h)) (x, score, k, text) = absurd (unfitted x (Ok score) s k h)
+    one_fitting (Err s) (Ok (say b)) (inr (inr (y, line, h, e))) (x, score, k, text) = absurd (not_score score line (one_fit_score x y (Ok score) (Err line) k h))
+    one_fitting (Err s) (Err t) (inl h) (inl k) = ap Err (h.3 ∙ ap open_stop (one_fault g p h.0 k.0 read formed h.2 k.2 h.1 k.1) ∙ sym k.3)
+    one_fitting (Err s) (Err t) (inl h) (inr (inl k)) = absurd (opened s k.1 h)
+    one_fitting (Err s) (Err t) (inl h) (inr (inr (x, line, k, e))) = absurd (opened s k.can h)
+    one_fitting (Err s) (Err t) (inr (inl h)) (inl k) = absurd (opened t h.1 k)
+    one_fitting (Err s) (Err t) (inr (inl h)) (inr (inl k)) = ap Err (one_unfitted s t h k)
+    one_fitting (Err s) (Err t) (inr (inl h)) (inr (inr (x, line, k, e))) = absurd (unfitted x (Err line) s k h)
+    one_fitting (Err s) (Err t) (inr (inr (x, line, h, e))) (inl k) = absurd (opened t h.can k)
+    one_fitting (Err s) (Err t) (inr (inr (x, line, h, e))) (inr (inl k)) = absurd (unfitted x (Err line) t h k)
+    one_fitting (Err s) (Err t) (inr (inr (x, line, h, e))) (inr (inr (y, line', k, e'))) =
+        ap Err (e ∙ ap stop.ScoreTooLong (same_record line line' (one_fit_score x y (Err line) (Err line') h k)) ∙ sym e')
 
   one_answering : (talk : Talk) → IsOne (IsAnswering talk g p)
   one_answering talk (Ok (say a)) s h k = absurd h
@@ -234,6 +348,9 @@ one_of (Some (write f midi grammar)) files r s h k =
     one_of_files (IsWriting f) (λ g p read formed. one_writing g p read formed f) (file_content files midi) (file_content files grammar) r s h k
 one_of (Some (answer talk midi grammar)) files r s h k =
     one_of_files (IsAnswering talk) (λ g p read formed. one_answering g p read formed talk) (file_content files midi) (file_content files grammar) r s h k
+one_of (Some (fit midi grammar c)) files r s h k =
+    one_of_files (IsFitting c) (λ g p read formed. one_fitting g p read formed c) (file_content files midi) (file_content files grammar) r s h k
+one_of (Some (too_many_candidates count)) files r s h k = h ∙ sym k
 one_of (Some (events kern)) files r s h k =
     in_turn_one (IsScoreRead (file_content files kern)) IsListing (one_score_read (file_content files kern))
     (λ score read. one_listing score (in_ranges (file_content files kern) score read)) r s h k

@@ -1,19 +1,19 @@
 -- A command on a MIDI file and a grammar file, by its stages: the files are read, and then a session is opened.
-use Rattle.std.proofs.Common.{◌≡◌, ◌≢◌, ◌≤◌, ◌⊎◌, ◌∷◌, [], ◌∙◌, ℕ, List, arith, ap, inl, inr, refl, sym, subst, IfErr, IfOk, OnOk, Option, Some, None, Result, Ok, Err}
-use Rattle.std.specs.Prelude.{All, length}
+use Rattle.std.proofs.Common.{◌≡◌, ◌≢◌, ◌≤◌, ◌∷◌, [], ◌∙◌, ℕ, List, arith, ap, inr, refl, sym, subst, IfErr, IfOk, OnOk, Some, None, Result, Ok, Err}
+use Rattle.std.specs.Prelude.{All}
 use Rattle.std.specs.Option.{ForSome}
 use Rattle.edit_session.specs.Opening.{cells_of}
 use Rattle.edit_session.specs.Session.{Session}
 use Rattle.rhythm_app.specs.Asked.{Asked}
-use Rattle.rhythm_app.specs.Builds.{AreAllBuilt, AreSomeBuilt, HasBuilt, HasBuiltAll, MatchBuilds}
-use Rattle.rhythm_app.specs.Commands.{Cells, HasNames, Named, cells_in, cells_of_asked, command, file_content, named, no_cells}
+use Rattle.rhythm_app.specs.Builds.{HasBuilt, HasBuiltAll, MatchBuilds}
+use Rattle.rhythm_app.specs.Commands.{HasNames, Named, cells_in, cells_of_asked, command, named, no_cells}
 use Rattle.rhythm_app.specs.Ends.{IsCauseOf}
 use Rattle.rhythm_app.specs.Lent.{Lent}
-use Rattle.rhythm_app.specs.Stages.{CountsAlone, EndsReading, HasInputs, IsBefore, IsOfContent, ReadsShelf}
+use Rattle.rhythm_app.specs.Stages.{CountsAlone, HasInputs, IsBefore, IsOfContent, ReadsShelf}
 use Rattle.rhythm_app.specs.declared.stop.Kind.TheVariants as kind
 use Rattle.rhythm_app.specs.declared.stop.Stop.{Stop}
 use Rattle.rhythm_app.proofs.Performing.{content_ends, counted_alone}
-use Rattle.rhythm_app.proofs.Sessions.{all_more, built_more}
+use Rattle.rhythm_app.proofs.Sessions.{built_more}
 use Rattle.rhythm_app.proofs.Stops.{early_built}
 use Rattle.rhythm_base.specs.Counter.{risen}
 use Rattle.rhythm_base.specs.Grammar.{Grammar}

@@ -1,13 +1,13 @@
 -- What the stages of a command come to together.
-use Rattle.std.proofs.Common.{◌≡◌, ◌≢◌, ◌≤◌, ◌<◌, ◌⊎◌, ◌∷◌, [], ℕ, List, Vec, arith, length, take, inl, inr, refl, sym, ap, ◌∙◌, subst, IfErr, IfOk, OnOk, Option, Some, Result, Ok, Err}
+use Rattle.std.proofs.Common.{◌≡◌, ◌≢◌, ◌≤◌, ◌∷◌, [], ℕ, List, Vec, arith, inl, inr, refl, sym, ap, ◌∙◌, subst, IfErr, OnOk, Option, Some, Result, Ok, Err}
 use Rattle.std.specs.Option.{ForSome}
 use Rattle.std.specs.Io.KnownBytes.{Appends}
 use Rattle.rhythm_app.specs.Asked.{Asked}
 use Rattle.rhythm_app.specs.Builds.{HasBuilt, HasBuiltAll}
-use Rattle.rhythm_app.specs.Commands.{Cells, HasNames, HasOutcomeOf, Named, cells_drilled, cells_in, cells_of_asked, command, named, no_cells}
-use Rattle.rhythm_app.specs.Ends.{AppendsPart, ComesTo, IsAnswered, IsCauseOf, IsFailureOf, IsPerformed, IsSaid, IsSilent, IsStopped, IsUntouched, KeepsRest}
+use Rattle.rhythm_app.specs.Commands.{Cells, HasNames, HasOutcomeOf, cells_drilled, cells_fitted, cells_in, cells_of_asked, command, named, no_cells}
+use Rattle.rhythm_app.specs.Ends.{AppendsPart, ComesTo, IsCauseOf, IsFailureOf, IsPerformed, IsSaid, IsSilent, IsUntouched, KeepsRest}
 use Rattle.rhythm_app.specs.Lent.{Lent}
-use Rattle.rhythm_app.specs.Outcome.{Ready, say}
+use Rattle.rhythm_app.specs.Outcome.{say}
 use Rattle.rhythm_app.specs.Stages.{EndsBy, EndsReading, Follows, HasText, IsBefore, IsFailure, IsOfContent, IsWritten, ReadsAlone}
 use Rattle.rhythm_app.specs.declared.stop.Kind.{Kind}
 use Rattle.rhythm_app.specs.declared.stop.Kind.TheVariants as kind
@@ -46,6 +46,10 @@ module _ (asked : Asked) (k : Kind) (name : List ℕ) (files : List File) {T : T
   read_fails (stop.NoStart l m n) failed end other = absurd failed
   read_fails (stop.NoDerivation m n) failed end other = absurd failed
   read_fails (stop.ScoreTooLong n) failed end other = absurd failed
+  read_fails (stop.RenderTooLong n) failed end other = absurd failed
+  read_fails (stop.TooManyCandidates n) failed end other = absurd failed
+  read_fails (stop.NoBarline n) failed end other = absurd failed
+  read_fails stop.NoCandidate failed end other = absurd failed
   read_fails (stop.Read kind.Midi) failed end other = read_at kind.Midi end.0 other
   read_fails (stop.Read kind.Grammar) failed end other = read_at kind.Grammar end.0 other
   read_fails (stop.Read kind.Kern) failed end other = read_at kind.Kern end.0 other
@@ -78,6 +82,10 @@ read_end k before now (stop.TooManyCells n) end other = tt
 read_end k before now (stop.NoStart l m n) end other = tt
 read_end k before now (stop.NoDerivation m n) end other = tt
 read_end k before now (stop.ScoreTooLong n) end other = tt
+read_end k before now (stop.RenderTooLong n) end other = tt
+read_end k before now (stop.TooManyCandidates n) end other = tt
+read_end k before now (stop.NoBarline n) end other = tt
+read_end k before now stop.NoCandidate end other = tt
 read_end k before now (stop.Read kind.Midi) end other = end.1
 read_end k before now (stop.Read kind.Grammar) end other = end.1
 read_end k before now (stop.Read kind.Kern) end other = end.1
@@ -112,6 +120,7 @@ other_stop e = cc
 write_built : (cells : Cells) (fs : Option (List File)) (old new : ℕ) → (cells ≡ no_cells → new ≡ old) → HasBuilt cells fs old new stop.Write
 write_built no_cells fs old new none = none refl
 write_built (cells_in midi) fs old new none = tt
+write_built (cells_fitted midi grammar c) fs old new none = tt
 write_built (cells_drilled number grammar) fs old new none = tt
 
 module _ {S O E : Type 0} where
@@ -217,6 +226,10 @@ content_end before now (stop.TooManyCells n) content = tt
 content_end before now (stop.NoStart l m n) content = tt
 content_end before now (stop.NoDerivation m n) content = tt
 content_end before now (stop.ScoreTooLong n) content = tt
+content_end before now (stop.RenderTooLong n) content = tt
+content_end before now (stop.TooManyCandidates n) content = tt
+content_end before now (stop.NoBarline n) content = tt
+content_end before now stop.NoCandidate content = tt
 content_end before now (stop.Read k) content = absurd content
 content_end before now stop.Write content = absurd content
 content_end before now stop.Memory content = tt

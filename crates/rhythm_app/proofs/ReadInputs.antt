@@ -1,5 +1,5 @@
 -- What the files say, of what is lent.
-use Rattle.std.proofs.Common.{◌≡◌, ◌≢◌, ◌≤◌, ◌⊎◌, ◌∙◌, ℕ, List, length, subst, IfErr, IfOk, Option, None, Result, Err}
+use Rattle.std.proofs.Common.{◌≡◌, ◌≢◌, ◌≤◌, ◌⊎◌, ◌∙◌, ℕ, List, length, subst, IfErr, IfOk, None, Result, Err}
 use Rattle.std.specs.Option.{ForSome}
 use Rattle.rhythm_app.specs.Builds.{IsPerformanceIn}
 use Rattle.rhythm_app.specs.Commands.{file_content}

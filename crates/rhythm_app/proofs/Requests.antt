@@ -1,13 +1,11 @@
 -- What a request comes to is what the words come to.
-use Rattle.std.proofs.Common.{◌≡◌, subst, sym, ◌∙◌, Option, Some, None, Result, Err}
-use Rattle.rhythm_app.specs.Asked.{Asked}
-use Rattle.rhythm_app.specs.Commands.{cells_of_asked}
+use Rattle.std.proofs.Common.{◌≡◌, ℕ, subst, sym, ◌∙◌, Option, Some, None, Result, Err}
+use Rattle.rhythm_app.specs.Asked.{Asked, too_many_candidates}
 use Rattle.rhythm_app.specs.Ends.{IsPerformed}
 use Rattle.rhythm_app.specs.Lent.{Lent}
 use Rattle.rhythm_app.specs.declared.stop.Stop.{Stop}
 use Rattle.rhythm_app.specs.declared.stop.Stop.TheVariants as stop
-use Rattle.std.proofs.Common.{refl, inl, ◌≤◌, ap, arith}
-use Rattle.rhythm_app.proofs.Asking.{nothing_built, unread_built}
+use Rattle.std.proofs.Common.{refl, inl, arith}
 
 some_is_none : (a : Asked) → ◌≡◌ {A = Option Asked} (Some a) None → ⊥
 some_is_none a e = cc
@@ -29,3 +27,16 @@ nothing_asked {S} {O} {E} {T} asked old none = subst (λ (a : Option Asked). IsP
   rest = record { files = refl; strays = λ files are names. refl; script = λ _. refl; built = omega arith; multiplied = omega arith };
   err = (refl, refl, refl);
 })
+
+-- the words ask for too many candidates
+pub too_many_asked : {S O E T : Type 0} (count : ℕ) (old : Lent S O E) → IsPerformed (Some (too_many_candidates count)) old old {T = T} (Err (stop.TooManyCandidates count))
+too_many_asked {S} {O} {E} {T} count old = record {
+  known = λ e. absurd (other_stop e);
+  done = tt;
+  stopped = record { cause = λ files are. inl refl; risen = tt; took = (refl, refl); nothing = λ _ _. refl; built = refl };
+  rest = record { files = refl; strays = λ files are names. refl; script = λ _. refl; built = omega arith; multiplied = omega arith };
+  err = (refl, refl, refl);
+}
+  where
+    other_stop : ◌≡◌ {A = Result T Stop} (Err (stop.TooManyCandidates count)) (Err stop.Usage) → ⊥
+    other_stop e = cc

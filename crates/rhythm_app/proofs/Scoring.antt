@@ -3,10 +3,10 @@ use Rattle.std.proofs.Common.{◌≡◌, ◌≤◌, ◌⊎◌, ℕ, refl, inl, i
 use Rattle.edit_session.specs.Opening.{CanOpen, IsBuilt, IsOpenFault}
 use Rattle.edit_session.specs.declared.open_fault.OpenFault.{OpenFault}
 use Rattle.edit_session.specs.declared.open_fault.OpenFault.TheVariants as opening
+use Rattle.barline_fit.specs.declared.candidates.Candidates.{Candidates}
 use Rattle.kern_writer.specs.PerformanceText.{HasTooLongText}
-use Rattle.rhythm_app.specs.Outcome.{IsAnswering, IsScoring, IsUnopened, IsWriting, open_stop}
+use Rattle.rhythm_app.specs.Outcome.{IsAnswering, IsFitting, IsTooLongToWrite, IsUnopened, IsWriting, open_stop}
 use Rattle.rhythm_app.specs.declared.request.Form.{Form}
-use Rattle.rhythm_app.specs.declared.request.Form.TheVariants as form
 use Rattle.rhythm_app.specs.declared.request.Talk.{Talk}
 use Rattle.rhythm_app.specs.Builds.{MatchBuilds}
 use Rattle.rhythm_app.specs.Stages.{Follows, IsOfContent}
@@ -22,12 +22,9 @@ module _ (g : Grammar) (p : Performance) where
   unopened (opening.NoDerivation channel bar) h = inl (opening.NoDerivation channel bar, h, (λ e. cc), refl)
   unopened opening.Memory h = inr refl
 
-  unopened_stops : (f : Form) (s : Stop) → IsUnopened g p s → IsWriting f g p (Err s)
-  unopened_stops form.Score s h = inl h
-
   -- no session is opened, so nothing is written of it
   pub unopened_writing : (f : Form) (s : Stop) → IsUnopened g p s ⊎ (s ≡ stop.Memory) → Follows (IsWriting f g p) (Err s)
-  unopened_writing f s (inl h) = inl (unopened_stops f s h)
+  unopened_writing f s (inl h) = inl (inl h)
   unopened_writing f s (inr e) = subst (λ (x : Stop). Follows (IsWriting f g p) (Err x)) (sym e) (inr tt)
 
   -- nor does it answer a script
@@ -35,8 +32,13 @@ module _ (g : Grammar) (p : Performance) where
   unopened_answering talk s (inl h) = inl h
   unopened_answering talk s (inr e) = subst (λ (x : Stop). Follows (IsAnswering talk g p) (Err x)) (sym e) (inr tt)
 
-  pub too_long_follows : (line : ℕ) → CanOpen g p → HasTooLongText g p line → Follows (IsScoring g p) (Err (stop.ScoreTooLong line))
-  too_long_follows line can long = inl (inr (line, can, long, refl))
+  -- nor is a barline fitted
+  pub unopened_fitting : (c : Candidates) (s : Stop) → IsUnopened g p s ⊎ (s ≡ stop.Memory) → Follows (IsFitting c g p) (Err s)
+  unopened_fitting c s (inl h) = inl (inl h)
+  unopened_fitting c s (inr e) = subst (λ (x : Stop). Follows (IsFitting c g p) (Err x)) (sym e) (inr tt)
+
+  pub too_long_to_write : (line : ℕ) → CanOpen g p → HasTooLongText g p line → IsTooLongToWrite g p (stop.ScoreTooLong line)
+  too_long_to_write line can long = (line, can, long, refl)
 
 pub open_content : (fault : OpenFault) → IsOfContent (open_stop fault)
 open_content (opening.Cells count) = tt

@@ -9,7 +9,7 @@ use Rattle.rhythm_app.proofs.InTurn.{next_follows, stop_follows}
 use Rattle.rhythm_app.proofs.Scoring.{unopened_answering}
 use Rattle.rhythm_app.specs.Asked.{Asked}
 use Rattle.rhythm_app.specs.Builds.{IsPerformanceIn, MatchBuilds}
-use Rattle.rhythm_app.specs.Commands.{HasOutcomeOf, Named, command, file_content, named}
+use Rattle.rhythm_app.specs.Commands.{HasOutcomeOf, command, file_content, named}
 use Rattle.rhythm_app.specs.Ends.{ComesTo, IsCauseOf, IsFailureOf}
 use Rattle.rhythm_app.specs.Outcome.{AreInTurn, AreInputs, AreRead, IsAnswering, IsLoading, IsRead, IsUnderstood, IsUnopened, Ready, load_stop, say, serve, stopped}
 use Rattle.rhythm_app.specs.Stages.{Follows, IsFailure, IsOfContent, IsOfWriting, IsReadFailure, said_of}
@@ -42,6 +42,10 @@ content_fails asked files (stop.TooManyCells n) failed content = absurd failed
 content_fails asked files (stop.NoStart l m n) failed content = absurd failed
 content_fails asked files (stop.NoDerivation m n) failed content = absurd failed
 content_fails asked files (stop.ScoreTooLong n) failed content = absurd failed
+content_fails asked files (stop.RenderTooLong n) failed content = absurd failed
+content_fails asked files (stop.TooManyCandidates n) failed content = absurd failed
+content_fails asked files (stop.NoBarline n) failed content = absurd failed
+content_fails asked files stop.NoCandidate failed content = absurd failed
 content_fails asked files (stop.Read k) failed content = absurd content
 content_fails asked files stop.Write failed content = absurd content
 content_fails asked files stop.Memory failed content = tt
@@ -70,6 +74,10 @@ match_more a b d (stop.TooManyCells n) h = d h
 match_more a b d (stop.NoStart l m n) h = d h
 match_more a b d (stop.NoDerivation m n) h = a h
 match_more a b d (stop.ScoreTooLong n) h = a h
+match_more a b d (stop.RenderTooLong n) h = a h
+match_more a b d (stop.TooManyCandidates n) h = d h
+match_more a b d (stop.NoBarline n) h = d h
+match_more a b d stop.NoCandidate h = d h
 match_more a b d (stop.Read kind.Midi) h = d h
 match_more a b d (stop.Read kind.Grammar) h = d h
 match_more a b d (stop.Read kind.Kern) h = d h
@@ -118,6 +126,10 @@ content_read midi (stop.TooManyCells n) failed content = absurd failed
 content_read midi (stop.NoStart l m n) failed content = absurd failed
 content_read midi (stop.NoDerivation m n) failed content = absurd failed
 content_read midi (stop.ScoreTooLong n) failed content = absurd failed
+content_read midi (stop.RenderTooLong n) failed content = absurd failed
+content_read midi (stop.TooManyCandidates n) failed content = absurd failed
+content_read midi (stop.NoBarline n) failed content = absurd failed
+content_read midi stop.NoCandidate failed content = absurd failed
 content_read midi (stop.Read k) failed content = absurd content
 content_read midi stop.Write failed content = absurd content
 content_read midi stop.Memory failed content = tt
@@ -163,6 +175,10 @@ module _ (asked : Asked) (midi grammar : List ℕ) (files : List File) (last : G
   reads_fail (stop.NoStart l m n) failed = absurd failed
   reads_fail (stop.NoDerivation m n) failed = absurd failed
   reads_fail (stop.ScoreTooLong n) failed = absurd failed
+  reads_fail (stop.RenderTooLong n) failed = absurd failed
+  reads_fail (stop.TooManyCandidates n) failed = absurd failed
+  reads_fail (stop.NoBarline n) failed = absurd failed
+  reads_fail stop.NoCandidate failed = absurd failed
 
   -- the inputs are not had
   pub inputs_stop : (s : Stop) → AreInputs (file_content files midi) (file_content files grammar) (Err s) ⊎ IsReadFailure (file_content files midi) s → IsCauseOf (Some asked) files s
@@ -211,6 +227,10 @@ opened_follow fs asked talk (Err s) g p grammar performance can unopened all = �
 
 writing_content : (s : Stop) → IsOfWriting s → IsOfContent s
 writing_content (stop.ScoreTooLong n) end = tt
+writing_content (stop.RenderTooLong n) end = tt
+writing_content (stop.TooManyCandidates n) end = absurd end
+writing_content (stop.NoBarline n) end = absurd end
+writing_content stop.NoCandidate end = absurd end
 writing_content stop.Memory end = tt
 writing_content stop.Usage end = absurd end
 writing_content (stop.FileTooLong k n) end = absurd end
@@ -236,6 +256,10 @@ of_content (Err s) end = writing_content s end
 -- all cells are built by then
 writing_built : (old cells new : ℕ) (s : Stop) → IsOfWriting s → new ≡ risen old cells → MatchBuilds (new ≡ risen old cells) (new ≤ risen old cells) (new ≡ old) s
 writing_built old cells new (stop.ScoreTooLong n) end all = all
+writing_built old cells new (stop.RenderTooLong n) end all = all
+writing_built old cells new (stop.TooManyCandidates n) end all = absurd end
+writing_built old cells new (stop.NoBarline n) end all = absurd end
+writing_built old cells new stop.NoCandidate end all = absurd end
 writing_built old cells new stop.Memory end all = omega (arith, all)
 writing_built old cells new stop.Usage end all = absurd end
 writing_built old cells new (stop.FileTooLong k n) end all = absurd end

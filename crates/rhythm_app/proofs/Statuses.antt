@@ -1,6 +1,6 @@
 -- The status of a run, by what its words and files come to.
 use Rattle.std.proofs.Common.{◌≡◌, ℕ, List, inl, inr, refl, subst, sym, Result, Ok, Err}
-use Rattle.std.specs.Prelude.{⊤, Option, Some, None}
+use Rattle.std.specs.Prelude.{Option, Some, None}
 use Rattle.rhythm_app.specs.Asked.{Asked, asked_by}
 use Rattle.rhythm_app.specs.Commands.{HasOutcome, HasOutcomeOf}
 use Rattle.rhythm_app.specs.Ends.{HasRisen, HasStatus, IsAnswered, IsCauseOf, IsComplete, IsCompleteFor, IsFailureOf, IsStopped, MayEnd, Reached}
@@ -81,6 +81,10 @@ module _ (words : List (List ℕ)) (files : List File) where
   failure_status (stop.NoStart l m n) failed r outcome = absurd failed
   failure_status (stop.NoDerivation m n) failed r outcome = absurd failed
   failure_status (stop.ScoreTooLong n) failed r outcome = absurd failed
+  failure_status (stop.RenderTooLong n) failed r outcome = absurd failed
+  failure_status (stop.TooManyCandidates n) failed r outcome = absurd failed
+  failure_status (stop.NoBarline n) failed r outcome = absurd failed
+  failure_status stop.NoCandidate failed r outcome = absurd failed
   failure_status (stop.Read k) failed r outcome = may_end_5 r
   failure_status stop.Write failed r outcome = subst (λ (r : Result Ready Stop). MayEnd r 6) (one_outcome words files (Ok failed.0) r failed.1 outcome) (may_end_6 failed.0)
   failure_status stop.Memory failed r outcome = may_end_7 r
@@ -137,6 +141,10 @@ module _ (words : List (List ℕ)) (files : List File) where
     failure_complete (stop.NoStart l m n) failed risen ready k = absurd failed
     failure_complete (stop.NoDerivation m n) failed risen ready k = absurd failed
     failure_complete (stop.ScoreTooLong n) failed risen ready k = absurd failed
+    failure_complete (stop.RenderTooLong n) failed risen ready k = absurd failed
+    failure_complete (stop.TooManyCandidates n) failed risen ready k = absurd failed
+    failure_complete (stop.NoBarline n) failed risen ready k = absurd failed
+    failure_complete stop.NoCandidate failed risen ready k = absurd failed
     failure_complete (stop.Read kind.Midi) failed risen ready k = complete_read ready risen
     failure_complete (stop.Read kind.Grammar) failed risen ready k = complete_read ready risen
     failure_complete (stop.Read kind.Kern) failed risen ready k = complete_read ready risen

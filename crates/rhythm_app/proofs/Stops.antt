@@ -1,15 +1,13 @@
 -- What follows of a stop.
-use Rattle.std.proofs.Common.{◌≡◌, ◌≢◌, ◌⊎◌, ◌+◌, ℕ, arith, List, inl, inr, refl, sym, ap, subst, ◌∙◌, IfOk, OnOk, Option, Some, Result, Ok, Err}
+use Rattle.std.proofs.Common.{◌≡◌, ◌≢◌, ◌⊎◌, ◌+◌, ℕ, arith, List, inl, inr, refl, ap, ◌∙◌, Option, Some, Ok}
 use Rattle.std.specs.Option.{ForSome}
-use Rattle.edit_session.specs.Opening.{cells_of}
 use Rattle.rhythm_app.specs.Asked.{Asked}
 use Rattle.rhythm_app.specs.Builds.{HasBuilt, HasBuiltAll, MatchBuilds}
 use Rattle.rhythm_app.specs.Commands.{HasOutcomeOf, cells_in}
 use Rattle.rhythm_app.specs.Ends.{HasRisen, HasStopped, HasTaken, IsBrokenOff, IsCauseOf, IsUntouched}
 use Rattle.rhythm_app.specs.Lent.{Lent}
-use Rattle.rhythm_app.specs.Outcome.{Ready, serve}
+use Rattle.rhythm_app.specs.Outcome.{serve}
 use Rattle.rhythm_app.specs.declared.request.Talk.{Talk}
-use Rattle.rhythm_app.specs.declared.request.Talk.TheVariants as talk
 use Rattle.rhythm_app.specs.Stages.{EndsReading, IsEarly}
 use Rattle.rhythm_app.specs.Stops.{script_stop}
 use Rattle.rhythm_app.specs.declared.stop.Kind.TheVariants as kind
@@ -20,7 +18,7 @@ use Rattle.rhythm_base.specs.Grammar.{Grammar}
 use Rattle.rhythm_base.specs.Performance.{Performance}
 use Rattle.rhythm_ports.specs.Causes.{Rose}
 use Rattle.rhythm_ports.specs.Files.{File}
-use Rattle.script_run.specs.Answers.{Editing}
+use Rattle.script_run.specs.Editing.{Editing}
 use Rattle.script_run.specs.declared.script_stop.ScriptStop.{ScriptStop}
 use Rattle.script_run.specs.declared.script_stop.ScriptStop.TheVariants as script
 
@@ -46,6 +44,10 @@ early_built A B old (stop.TooManyCells n) early = refl
 early_built A B old (stop.NoStart l m n) early = refl
 early_built A B old (stop.NoDerivation m n) early = absurd early
 early_built A B old (stop.ScoreTooLong n) early = absurd early
+early_built A B old (stop.RenderTooLong n) early = absurd early
+early_built A B old (stop.TooManyCandidates n) early = absurd early
+early_built A B old (stop.NoBarline n) early = absurd early
+early_built A B old stop.NoCandidate early = absurd early
 early_built A B old (stop.Read kind.Midi) early = refl
 early_built A B old (stop.Read kind.Grammar) early = refl
 early_built A B old (stop.Read kind.Kern) early = refl
@@ -70,6 +72,10 @@ module _ {S O E : Type 0} (old new : Lent S O E) where
   reading_risen (stop.NoStart l m n) end = tt
   reading_risen (stop.NoDerivation m n) end = tt
   reading_risen (stop.ScoreTooLong n) end = tt
+  reading_risen (stop.RenderTooLong n) end = tt
+  reading_risen (stop.TooManyCandidates n) end = tt
+  reading_risen (stop.NoBarline n) end = tt
+  reading_risen stop.NoCandidate end = tt
   reading_risen (stop.Read kind.Midi) end = end
   reading_risen (stop.Read kind.Grammar) end = end
   reading_risen (stop.Read kind.Kern) end = end
@@ -97,6 +103,10 @@ module _ {S O E : Type 0} (old new : Lent S O E) where
   reading_taken asked before now (stop.NoStart l m n) end none = none
   reading_taken asked before now (stop.NoDerivation m n) end none = none
   reading_taken asked before now (stop.ScoreTooLong n) end none = none
+  reading_taken asked before now (stop.RenderTooLong n) end none = none
+  reading_taken asked before now (stop.TooManyCandidates n) end none = none
+  reading_taken asked before now (stop.NoBarline n) end none = none
+  reading_taken asked before now stop.NoCandidate end none = none
   reading_taken asked before now (stop.Read kind.Midi) end none = none
   reading_taken asked before now (stop.Read kind.Grammar) end none = none
   reading_taken asked before now (stop.Read kind.Kern) end none = none
@@ -120,6 +130,10 @@ reading_known before now (stop.TooManyCells n) end e = absurd (cc)
 reading_known before now (stop.NoStart l m n) end e = absurd (cc)
 reading_known before now (stop.NoDerivation m n) end e = absurd (cc)
 reading_known before now (stop.ScoreTooLong n) end e = absurd (cc)
+reading_known before now (stop.RenderTooLong n) end e = absurd (cc)
+reading_known before now (stop.TooManyCandidates n) end e = absurd (cc)
+reading_known before now (stop.NoBarline n) end e = absurd (cc)
+reading_known before now stop.NoCandidate end e = absurd (cc)
 reading_known before now (stop.Read k) end e = absurd (cc)
 reading_known before now stop.Write end e = absurd (cc)
 reading_known before now stop.Memory end e = absurd (cc)
@@ -166,7 +180,7 @@ served_builds old mid new cells built opened more = more ∙ ap (λ m. risen m b
 
 -- the script is not begun, so the cells of the performance alone are built
 no_edits : {S O E : Type 0} (old new : Lent S O E) (t : Talk) (g : Grammar) (p : Performance) (last : Editing) → IsBrokenOff script.Memory old new t g p last → last.built ≡ 0
-no_edits old new talk.Editing g p last broken = ap (λ (e : Editing). e.built) broken.0
+no_edits old new t g p last broken = ap (λ (e : Editing). e.built) broken.0
 
 pub script_built : {S O E : Type 0} (from : ℕ) (old new : Lent S O E) (fs : Option (List File)) (midi : List ℕ) (t : Talk) (g : Grammar) (p : Performance) (s : ScriptStop) (last : Editing)
     → new.built ≡ risen old.built last.built → IsBrokenOff s old new t g p last → ForSome fs (λ files. HasBuiltAll (cells_in midi) files from old.built)

@@ -1,18 +1,13 @@
 -- The answering of a script over what is lent.
-use Rattle.std.proofs.Common.{◌≡◌, ◌≢◌, ◌≤◌, ◌∙◌, ℕ, List, ap, arith, inl, inr, refl, sym, subst, IfErr, IfOk, OnOk, Option, Some, Result, Ok, Err}
-use Rattle.std.specs.Option.{ForSome}
+use Rattle.std.proofs.Common.{◌≡◌, ◌≤◌, ◌∙◌, ℕ, List, ap, arith, inr, refl, sym, subst, IfErr, OnOk, Some, Result, Ok, Err}
 use Rattle.edit_session.specs.Opening.{cells_of}
 use Rattle.edit_session.specs.Session.{Session}
 use Rattle.rhythm_app.specs.Asked.{Asked, answer}
-use Rattle.rhythm_app.specs.Builds.{HasBuiltAll}
-use Rattle.rhythm_app.specs.Commands.{HasNames, HasOutcomeOf, cells_in}
-use Rattle.rhythm_app.specs.Ends.{HasStopped, IsAnswered, IsBrokenOff, IsDone, IsPerformed, IsSilent, IsUntouched, KeepsRest}
+use Rattle.rhythm_app.specs.Ends.{IsBrokenOff, IsDone, IsPerformed, IsSilent, IsUntouched, KeepsRest, desk_of}
 use Rattle.rhythm_app.specs.Lent.{Lent}
-use Rattle.rhythm_app.specs.Outcome.{serve}
 use Rattle.rhythm_app.specs.Stages.{HasSession}
 use Rattle.rhythm_app.specs.Stops.{script_stop}
 use Rattle.rhythm_app.specs.declared.request.Talk.{Talk}
-use Rattle.rhythm_app.specs.declared.request.Talk.TheVariants as talk
 use Rattle.rhythm_app.specs.declared.stop.Stop.{Stop}
 use Rattle.rhythm_app.specs.declared.stop.Stop.TheVariants as stop
 use Rattle.rhythm_app.proofs.Performing.{kept_rest, silent_alone, untouched}
@@ -21,8 +16,8 @@ use Rattle.rhythm_base.specs.Counter.{risen}
 use Rattle.rhythm_base.specs.Grammar.{Grammar}
 use Rattle.rhythm_base.specs.Performance.{Performance}
 use Rattle.rhythm_ports.specs.Causes.{Rose}
-use Rattle.rhythm_ports.specs.Files.{File}
-use Rattle.script_run.specs.Answers.{Editing}
+use Rattle.script_run.specs.Desk.{Desk}
+use Rattle.script_run.specs.Editing.{Editing, begun_on}
 use Rattle.script_run.specs.Ends as script
 use Rattle.script_run.specs.declared.script_stop.ScriptStop.{ScriptStop}
 use Rattle.script_run.specs.declared.script_stop.ScriptStop.TheVariants as stops
@@ -34,12 +29,29 @@ same_stop : {T : Type 0} (s : Stop) → ◌≡◌ {A = Result T Stop} (Err s) (E
 same_stop s e = cc
 
 module _ {S O E : Type 0} where
-  pub done_seen : {T F : Type 0} (seen old new : Lent S O E) (t : Talk) (g : Grammar) (p : Performance) (r : Result T F) → seen ≡ old
-      → OnOk r ((last : Editing) × script.IsDone g p seen.rest new.rest seen.taken new.taken last × (new.built ≡ risen seen.built last.built))
-      → OnOk r ((last : Editing) × IsDone old new t g p last × (new.built ≡ risen old.built last.built))
-  done_seen seen old new talk.Editing g p (Ok x) same h =
-      subst (λ (l : Lent S O E). (last : Editing) × IsDone l new talk.Editing g p last × (new.built ≡ risen l.built last.built)) same h
-  done_seen seen old new t g p (Err e) same h = tt
+  module _ (seen old new : Lent S O E) (t : Talk) (g : Grammar) (p : Performance) (desk : Desk) (same : seen ≡ old) (is : desk ≡ desk_of t g p) where
+    pub done_seen : {T F : Type 0} (r : Result T F)
+        → OnOk r ((last : Editing) × script.IsDone desk seen.rest new.rest seen.taken new.taken last × (new.built ≡ risen seen.built last.built))
+        → OnOk r ((last : Editing) × IsDone old new t g p last × (new.built ≡ risen old.built last.built))
+    done_seen (Ok x) h =
+        subst (λ (l : Lent S O E). (last : Editing) × IsDone l new t g p last × (new.built ≡ risen l.built last.built)) same
+        (subst (λ (d : Desk). (last : Editing) × script.IsDone d seen.rest new.rest seen.taken new.taken last × (new.built ≡ risen seen.built last.built)) is h)
+    done_seen (Err e) h = tt
+
+    pub broken_seen : {T : Type 0} (r : Result T ScriptStop)
+        → IfErr r (λ end. (last : Editing) × script.IsStopped end desk seen.rest new.rest seen.taken new.taken last × (new.built ≡ risen seen.built last.built))
+        → IfErr r (λ end. (last : Editing) × IsBrokenOff end old new t g p last × (new.built ≡ risen old.built last.built))
+    broken_seen (Ok x) h = tt
+    broken_seen (Err end) h =
+        subst (λ (l : Lent S O E). (last : Editing) × IsBrokenOff end l new t g p last × (new.built ≡ risen l.built last.built)) same
+        (subst (λ (d : Desk). (last : Editing) × script.IsStopped end d seen.rest new.rest seen.taken new.taken last × (new.built ≡ risen seen.built last.built)) is h)
+
+  -- there is not enough memory for what answers the script
+  pub no_desk : (l : Lent S O E) (t : Talk) (g : Grammar) (p : Performance) (end : ScriptStop) → end ≡ stops.Memory
+      → (last : Editing) × IsBrokenOff end l l t g p last × (l.built ≡ risen l.built last.built)
+  no_desk l t g p end is =
+      subst (λ (x : ScriptStop). (last : Editing) × IsBrokenOff x l l t g p last × (l.built ≡ risen l.built last.built)) (sym is)
+      (begun_on (desk_of t g p), (refl, refl, refl), omega arith)
 
   -- after the session is had, a script is answered: what holds of the files, the counters and err
   module _ (t : Talk) (midi grammar : List ℕ) (old mid new : Lent S O E) (s : Session) (h : HasSession (Some (answer t midi grammar)) t old mid (Ok s)) where
@@ -69,18 +81,10 @@ module _ {S O E : Type 0} where
     from_old P x = subst P h.before.alone x
 
     done_old : (last : Editing) → IsDone mid new t s.grammar s.performance last → IsDone old new t s.grammar s.performance last
-    done_old last done = is_done t (from_old (λ l. IsDone l new t s.grammar s.performance last) done)
-      where
-        is_done : (u : Talk) → IsDone (record old { strays = mid.strays; shelf_faults = mid.shelf_faults; built = mid.built; multiplied = mid.multiplied }) new u s.grammar s.performance last
-            → IsDone old new u s.grammar s.performance last
-        is_done talk.Editing x = x
+    done_old last done = from_old (λ l. IsDone l new t s.grammar s.performance last) done
 
     broken_old : (e : ScriptStop) (last : Editing) → IsBrokenOff e mid new t s.grammar s.performance last → IsBrokenOff e old new t s.grammar s.performance last
-    broken_old e last broken = is_broken t (from_old (λ l. IsBrokenOff e l new t s.grammar s.performance last) broken)
-      where
-        is_broken : (u : Talk) → IsBrokenOff e (record old { strays = mid.strays; shelf_faults = mid.shelf_faults; built = mid.built; multiplied = mid.multiplied }) new u s.grammar s.performance last
-            → IsBrokenOff e old new u s.grammar s.performance last
-        is_broken talk.Editing x = x
+    broken_old e last broken = from_old (λ l. IsBrokenOff e l new t s.grammar s.performance last) broken
 
     -- the script is answered to its end, or to `quit`
     pub answered : {T : Type 0} (x : T) → ((last : Editing) × IsDone mid new t s.grammar s.performance last × (new.built ≡ risen mid.built last.built))

@@ -1,18 +1,16 @@
 -- After err was told of a stop, what held of the rest still holds.
-use Rattle.std.proofs.Common.{◌≡◌, ◌≢◌, ◌∙◌, ℕ, List, ap, inl, inr, subst, sym, Option, Some}
-use Rattle.std.specs.Option.{ForSome}
+use Rattle.std.proofs.Common.{◌≡◌, ◌∙◌, ℕ, List, ap, inl, inr, subst, sym, Option}
 use Rattle.rhythm_app.specs.Asked.{Asked}
 use Rattle.rhythm_app.specs.Ends.{HasRisen, HasStopped, HasTaken, IsBrokenOff, IsCutShort, IsSilent, IsStopped, IsTold, Tells}
 use Rattle.rhythm_app.specs.Lent.{Lent}
 use Rattle.rhythm_app.specs.declared.request.Talk.{Talk}
-use Rattle.rhythm_app.specs.declared.request.Talk.TheVariants as talk
 use Rattle.rhythm_app.specs.declared.stop.Kind.TheVariants as kind
 use Rattle.rhythm_app.specs.declared.stop.Stop.{Stop}
 use Rattle.rhythm_app.specs.declared.stop.Stop.TheVariants as stop
 use Rattle.rhythm_base.specs.Grammar.{Grammar}
 use Rattle.rhythm_base.specs.Performance.{Performance}
 use Rattle.rhythm_ports.specs.Files.{File}
-use Rattle.script_run.specs.Answers.{Editing}
+use Rattle.script_run.specs.Editing.{Editing}
 use Rattle.script_run.specs.declared.script_stop.ScriptStop.{ScriptStop}
 
 module _ {S O E : Type 0} (asked : Option Asked) (old mid : Lent S O E) (err : E) (told : Option (List ℕ)) (faults : ℕ) where
@@ -38,6 +36,10 @@ module _ {S O E : Type 0} (asked : Option Asked) (old mid : Lent S O E) (err : E
   risen_after (stop.NoStart l m n) h = h
   risen_after (stop.NoDerivation m n) h = h
   risen_after (stop.ScoreTooLong n) h = h
+  risen_after (stop.RenderTooLong n) h = h
+  risen_after (stop.TooManyCandidates n) h = h
+  risen_after (stop.NoBarline n) h = h
+  risen_after stop.NoCandidate h = h
   risen_after (stop.Read kind.Midi) h = h
   risen_after (stop.Read kind.Grammar) h = h
   risen_after (stop.Read kind.Kern) h = h
@@ -46,7 +48,7 @@ module _ {S O E : Type 0} (asked : Option Asked) (old mid : Lent S O E) (err : E
   risen_after stop.Memory h = h
 
   broken_after : (e : ScriptStop) (t : Talk) (g : Grammar) (p : Performance) (last : Editing) → IsBrokenOff e old mid t g p last → IsBrokenOff e old after t g p last
-  broken_after e talk.Editing g p last h = h
+  broken_after e t g p last h = h
 
   stopped_after : (files : List File) (s : Stop) → HasStopped asked files s old mid → HasStopped asked files s old after
   stopped_after files s (e, is, (t, g, p, last, outcome, broken, built)) = (e, is, (t, g, p, last, outcome, broken_after e t g p last broken, built))
@@ -74,6 +76,10 @@ module _ {S O E : Type 0} (asked : Option Asked) (old mid : Lent S O E) (err : E
   taken_after (stop.NoStart l m n) h = h
   taken_after (stop.NoDerivation m n) h = h
   taken_after (stop.ScoreTooLong n) h = h
+  taken_after (stop.RenderTooLong n) h = h
+  taken_after (stop.TooManyCandidates n) h = h
+  taken_after (stop.NoBarline n) h = h
+  taken_after stop.NoCandidate h = h
   taken_after (stop.Read kind.Midi) h = h
   taken_after (stop.Read kind.Grammar) h = h
   taken_after (stop.Read kind.Kern) h = h

@@ -1,6 +1,9 @@
 -- What the words of a command line ask for.
-use Rattle.std.specs.Prelude.{ℕ, nat_eq, List, [], ◌∷◌, codes, if◌then◌else◌, Option, Some, None, option_and_then, option_map, ◌≤◌, ⊤}
+use Rattle.rhythm_base.specs.declared.limits.TheConstants.{LATEST_TICK, MOST_BARS}
+use Rattle.std.specs.Prelude.{ℕ, ◌+◌, ◌-◌, ◌/◌, ◌<◌, nat_eq, nat_le, List, [], ◌∷◌, codes, if◌then◌else◌, Option, Some, None, option_and_then, option_map, ◌≤◌, ⊤}
 use Rattle.std.specs.Cmp.Lexicographic.{pointwise}
+use Rattle.barline_fit.specs.declared.candidates.Candidates.{Candidates}
+use Rattle.barline_fit.specs.declared.candidates.TheConstants.{MOST_CANDIDATES}
 use Rattle.command_line.specs.CommandLines.{invocation_of}
 use Rattle.command_line.specs.Numbers.{number_in}
 use Rattle.command_line.specs.declared.invocation.Invocation.{Invocation}
@@ -13,12 +16,15 @@ use Rattle.rhythm_app.specs.declared.request.Talk.{Talk}
 use Rattle.rhythm_app.specs.declared.request.Talk.TheVariants as talk
 
 -- the help, the version, or a command with the names of its files and its numbers: one that writes a text of the session on MIDI and
--- GRAMMAR, one that answers a script over it, `events KERN`, `generate NUMBER BARS` or `drill NUMBER GRAMMAR`
+-- GRAMMAR, one that answers a script over it, `fit MIDI GRAMMAR BAR LOW HIGH STEP`, `events KERN`, `generate NUMBER BARS` or
+-- `drill NUMBER GRAMMAR`. A fit of too many candidates asks for no file
 pub data Asked : Type 0 where
   help : Asked
   version : Asked
   write : Form → List ℕ → List ℕ → Asked
   answer : Talk → List ℕ → List ℕ → Asked
+  fit : List ℕ → List ℕ → Candidates → Asked
+  too_many_candidates : ℕ → Asked
   events : List ℕ → Asked
   generate : ℕ → ℕ → Asked
   drill : ℕ → List ℕ → Asked
@@ -36,6 +42,11 @@ of_two make (a ∷ []) = None
 of_two make (a ∷ b ∷ []) = make a b
 of_two make (a ∷ b ∷ c ∷ more) = None
 
+-- a word and six more
+abbrev pub of_six : (List ℕ → List ℕ → List ℕ → List ℕ → List ℕ → List ℕ → Option Asked) → List (List ℕ) → Option Asked
+of_six make (a ∷ b ∷ c ∷ d ∷ e ∷ f ∷ []) = make a b c d e f
+of_six make _ = None
+
 -- the number of a piece, 0 to 65,534, and how many bars it has, 1 to 2,000
 abbrev pub generate_by : List ℕ → List ℕ → Option Asked
 generate_by number bars = option_and_then (λ (n : ℕ). option_map (λ (b : ℕ). generate n b) (number_in 1 2000 bars)) (number_in 0 65534 number)
@@ -44,12 +55,39 @@ generate_by number bars = option_and_then (λ (n : ℕ). option_map (λ (b : ℕ
 abbrev pub drill_by : List ℕ → List ℕ → Option Asked
 drill_by number grammar = option_map (λ (n : ℕ). drill n grammar) (number_in 0 65534 number)
 
+-- so many ticks are tried: one more than whole steps from the lowest to the highest
+abbrev pub candidate_count : Candidates → ℕ
+candidate_count c = (c.high - c.low) / c.step + 1
+
+-- the candidates, where the lowest tick is no later than the highest
+abbrev pub in_order : Candidates → Option Candidates
+in_order c = if nat_le c.low c.high then Some c else None
+
+-- the number of a barline, 0 to 4,096, the lowest and the highest tick, 0 to 2,000,000,000, and the step, 1 to 2,000,000,000
+abbrev pub candidates_by : List ℕ → List ℕ → List ℕ → List ℕ → Option Candidates
+candidates_by bar low high step =
+    option_and_then (λ (b : ℕ). option_and_then (λ (l : ℕ). option_and_then (λ (h : ℕ). option_and_then (λ (s : ℕ).
+    in_order (record { bar = b; low = l; high = h; step = s })) (number_in 1 LATEST_TICK step)) (number_in 0 LATEST_TICK high))
+    (number_in 0 LATEST_TICK low)) (number_in 0 MOST_BARS bar)
+
+-- at most 256 candidates are tried
+abbrev pub fit_of : List ℕ → List ℕ → Candidates → Asked
+fit_of midi grammar c = if nat_le (candidate_count c) MOST_CANDIDATES then fit midi grammar c else too_many_candidates (candidate_count c)
+
+-- two files, and the candidates of a barline
+abbrev pub fit_by : List ℕ → List ℕ → List ℕ → List ℕ → List ℕ → List ℕ → Option Asked
+fit_by midi grammar bar low high step = option_map (λ (c : Candidates). fit_of midi grammar c) (candidates_by bar low high step)
+
 -- the command of the words that are no option
 abbrev pub command_by : List (List ℕ) → Option Asked
 command_by [] = None
 command_by (word ∷ more) =
     if pointwise nat_eq word (codes "transcribe") then of_two (λ a b. Some (write form.Score a b)) more
+    else if pointwise nat_eq word (codes "lily") then of_two (λ a b. Some (write form.Page a b)) more
+    else if pointwise nat_eq word (codes "render") then of_two (λ a b. Some (write form.Rendered a b)) more
     else if pointwise nat_eq word (codes "edit") then of_two (λ a b. Some (answer talk.Editing a b)) more
+    else if pointwise nat_eq word (codes "studio") then of_two (λ a b. Some (answer talk.Studio a b)) more
+    else if pointwise nat_eq word (codes "fit") then of_six fit_by more
     else if pointwise nat_eq word (codes "events") then of_one (λ a. Some (events a)) more
     else if pointwise nat_eq word (codes "generate") then of_two generate_by more
     else if pointwise nat_eq word (codes "drill") then of_two drill_by more
@@ -78,12 +116,22 @@ shown_request request.Help = help
 shown_request request.Version = version
 shown_request (request.Write form files) = write form files.midi.now files.grammar.now
 shown_request (request.Answer talk files) = answer talk files.midi.now files.grammar.now
+shown_request (request.Fit files among) = fit files.midi.now files.grammar.now among
+shown_request (request.TooManyCandidates count) = too_many_candidates count
 shown_request (request.Events kern) = events kern.now
 shown_request (request.Generate number bars) = generate number bars
 shown_request (request.Drill number grammar) = drill number grammar.now
 
+-- the candidates of a barline that are tried
+pub record AreTried (c : Candidates) : Type 0 where
+  pub order : c.low ≤ c.high
+  pub high : c.high ≤ LATEST_TICK
+  pub step : 1 ≤ c.step
+  pub few : (c.high - c.low) / c.step < MOST_CANDIDATES
+
 -- the numbers of a request lie in their ranges
 abbrev pub IsInRange : Request → Type 0
+IsInRange (request.Fit files among) = AreTried among
 IsInRange (request.Generate number bars) = (number ≤ 65534) × (1 ≤ bars) × (bars ≤ 2000)
 IsInRange (request.Drill number grammar) = number ≤ 65534
 IsInRange _ = ⊤

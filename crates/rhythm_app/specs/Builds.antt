@@ -1,14 +1,20 @@
 -- By how much a run raises the counter of builds.
-use Rattle.std.specs.Prelude.{◌≡◌, ℕ, ◌≤◌, ◌⊎◌, List, Result, Ok, Err, Option, Some, None, ⊤}
+use Rattle.std.specs.Prelude.{◌≡◌, ℕ, ◌≤◌, ◌⊎◌, List, [], ◌∷◌, Result, Ok, Err, Option, ⊤}
 use Rattle.std.specs.Option.{ForSome}
+use Rattle.barline_fit.specs.Builds.{AreReachedAt, AreWithinReach}
+use Rattle.barline_fit.specs.Candidates.{ticks_of}
+use Rattle.barline_fit.specs.Fitted.{IsFitted}
+use Rattle.barline_fit.specs.declared.candidates.Candidates.{Candidates}
+use Rattle.barline_fit.specs.declared.fitted.Fitted.{Fitted}
 use Rattle.drill_run.specs.Ends.{HasDrilled, IsBrokenOff}
 use Rattle.edit_session.specs.Opening.{cells_of}
+use Rattle.edit_session.specs.Prepared.{RisesBy}
 use Rattle.performance_load.specs.Loading.{IsLoaded}
-use Rattle.rhythm_app.specs.Commands.{Cells, no_cells, cells_in, cells_drilled, file_content}
+use Rattle.rhythm_app.specs.Commands.{Cells, no_cells, cells_in, cells_fitted, cells_drilled, file_content}
 use Rattle.rhythm_app.specs.Outcome.{IsPieceOf, IsUnderstood, midi_tests}
 use Rattle.rhythm_app.specs.declared.stop.Kind.TheVariants as kind
 use Rattle.rhythm_app.specs.declared.stop.Stop.{Stop}
-use Rattle.rhythm_app.specs.declared.stop.Stop.TheVariants.{FileTooLong, LineTooLong, NoDerivation, Read, ScoreTooLong, Write, Memory}
+use Rattle.rhythm_app.specs.declared.stop.Stop.TheVariants.{FileTooLong, LineTooLong, NoDerivation, Read, ScoreTooLong, RenderTooLong, NoBarline, NoCandidate, Write, Memory}
 use Rattle.rhythm_base.specs.Counter.{risen}
 use Rattle.rhythm_base.specs.Grammar.{Grammar}
 use Rattle.rhythm_base.specs.Performance.{Performance}
@@ -27,6 +33,29 @@ AreAllBuilt bytes old new = (p : Performance) × IsPerformanceIn bytes p × (new
 abbrev pub AreSomeBuilt : List ℕ → ℕ → ℕ → Type 0
 AreSomeBuilt bytes old new = (p : Performance) × IsPerformanceIn bytes p × (new ≤ risen old (cells_of p))
 
+-- a MIDI file and a grammar file say this grammar and this performance, and P holds of them
+abbrev pub ForInputs : List ℕ → List ℕ → (Grammar → Performance → Type 0) → Type 0
+ForInputs midi bytes P = (g : Grammar) × (p : Performance) × IsUnderstood bytes (Ok g) × IsPerformanceIn midi p × P g p
+
+-- the cells that a barline reaches at its candidates were built, one candidate after another
+abbrev pub HasTried : Candidates → Grammar → Performance → ℕ → ℕ → Type 0
+HasTried c g p old new = RisesBy old new (AreReachedAt g p c.bar (ticks_of c))
+
+-- and then, for the score, those that it reaches at the fitted tick
+abbrev pub HasFitted : Candidates → Grammar → Performance → ℕ → ℕ → Type 0
+HasFitted c g p old new =
+    (x : Fitted) × (mid : ℕ) × IsFitted g p c.bar (ticks_of c) x × HasTried c g p old mid × RisesBy mid new (AreReachedAt g p c.bar (x.tick ∷ []))
+
+-- no more of these were built
+abbrev pub HasPartlyFitted : Candidates → Grammar → Performance → ℕ → ℕ → Type 0
+HasPartlyFitted c g p old new =
+    RisesBy old new (AreWithinReach g p c.bar (ticks_of c))
+    ⊎ ((x : Fitted) × (mid : ℕ) × IsFitted g p c.bar (ticks_of c) x × HasTried c g p old mid × RisesBy mid new (AreWithinReach g p c.bar (x.tick ∷ [])))
+
+-- some of the cells of a performance were built, or all of them and some of those for the fit
+abbrev pub AreSomeFitted : Candidates → Grammar → Performance → ℕ → ℕ → Type 0
+AreSomeFitted c g p old new = (new ≤ risen old (cells_of p)) ⊎ HasPartlyFitted c g p (risen old (cells_of p)) new
+
 -- a grammar file and the number of a piece say this grammar and this performance, and P holds of them
 abbrev pub ForPiece : List ℕ → ℕ → (Grammar → Performance → Type 0) → Type 0
 ForPiece bytes number P = (g : Grammar) × (p : Performance) × IsUnderstood bytes (Ok g) × IsPieceOf number p × P g p
@@ -35,18 +64,21 @@ ForPiece bytes number P = (g : Grammar) × (p : Performance) × IsUnderstood byt
 abbrev pub AreDrilled : List ℕ → ℕ → Result (List ℕ) ℕ → ℕ → ℕ → Type 0
 AreDrilled bytes number said old new = ForPiece bytes number (λ g p. HasDrilled g number p said (risen old (cells_of p)) new)
 
--- all cells of the command's performance were built. A drill builds, besides, those for its edits. A command that has no cells leaves the
--- counter as it was
+-- all cells of the command's performance were built. A fit builds, besides, those for its candidates, and a drill those for its edits.
+-- A command that has no cells leaves the counter as it was
 abbrev pub HasBuiltAll : Cells → List File → ℕ → ℕ → Type 0
 HasBuiltAll no_cells files old new = new ≡ old
 HasBuiltAll (cells_in midi) files old new = AreAllBuilt (file_content files midi) old new
+HasBuiltAll (cells_fitted midi grammar c) files old new = ForInputs (file_content files midi) (file_content files grammar) (λ g p. HasFitted c g p (risen old (cells_of p)) new)
 HasBuiltAll (cells_drilled number grammar) files old new = (text : List ℕ) × AreDrilled (file_content files grammar) number (Ok text) old new
 
--- what holds of the cells by the stop: all of them are built where only a derivation or room for the score is wanting, some of them
--- may be where memory is, and none before any other stop. Where something was written before, more is known by what was written
+-- what holds of the cells by the stop: all of them are built where only a derivation is wanting, or the score or its MIDI file is too
+-- long; some of them may be where memory is wanting; and none before any other stop. Where something was written before, more is known
+-- by what was written
 abbrev pub MatchBuilds : Type 0 → Type 0 → Type 0 → Stop → Type 0
 MatchBuilds all some none (NoDerivation _ _) = all
 MatchBuilds all some none (ScoreTooLong _) = all
+MatchBuilds all some none (RenderTooLong _) = all
 MatchBuilds all some none Memory = some
 MatchBuilds all some none Write = ⊤
 MatchBuilds all some none (Read kind.Script) = ⊤
@@ -59,6 +91,25 @@ abbrev pub HasBuiltOf : Option (List File) → List ℕ → ℕ → ℕ → Stop
 HasBuiltOf files midi old new =
     MatchBuilds (ForSome files (λ files. AreAllBuilt (file_content files midi) old new))
     ((new ≡ old) ⊎ ForSome files (λ files. AreSomeBuilt (file_content files midi) old new)) (new ≡ old)
+
+-- what holds of the cells of a fit by the stop: all of the performance are built where a derivation or the barline is wanting, and those
+-- for the candidates too where no candidate is fitted; where the score is too long, those for it, too; some where memory is wanting
+abbrev pub MatchFitted : Type 0 → Type 0 → Type 0 → Type 0 → Type 0 → Stop → Type 0
+MatchFitted all tried fitted some none (NoDerivation _ _) = all
+MatchFitted all tried fitted some none (NoBarline _) = all
+MatchFitted all tried fitted some none NoCandidate = tried
+MatchFitted all tried fitted some none (ScoreTooLong _) = fitted
+MatchFitted all tried fitted some none Memory = some
+MatchFitted all tried fitted some none Write = ⊤
+MatchFitted all tried fitted some none _ = none
+
+-- the same of the fit of a barline of a MIDI file, by a grammar file
+abbrev pub HasFittedOf : Option (List File) → List ℕ → List ℕ → Candidates → ℕ → ℕ → Stop → Type 0
+HasFittedOf files midi grammar c old new =
+    MatchFitted (ForSome files (λ files. AreAllBuilt (file_content files midi) old new))
+    (ForSome files (λ files. ForInputs (file_content files midi) (file_content files grammar) (λ g p. HasTried c g p (risen old (cells_of p)) new)))
+    (ForSome files (λ files. ForInputs (file_content files midi) (file_content files grammar) (λ g p. HasFitted c g p (risen old (cells_of p)) new)))
+    ((new ≡ old) ⊎ ForSome files (λ files. ForInputs (file_content files midi) (file_content files grammar) (λ g p. AreSomeFitted c g p old new))) (new ≡ old)
 
 -- what holds of the cells of a drill by the stop: as of those of a file, but where the last score is too long, those for the edits are
 -- built, too; and where memory is wanting, some of these may be
@@ -84,4 +135,5 @@ HasDrilledOf files number grammar old new =
 abbrev pub HasBuilt : Cells → Option (List File) → ℕ → ℕ → Stop → Type 0
 HasBuilt no_cells files old new = λ stop. new ≡ old
 HasBuilt (cells_in midi) files old new = HasBuiltOf files midi old new
+HasBuilt (cells_fitted midi grammar c) files old new = HasFittedOf files midi grammar c old new
 HasBuilt (cells_drilled number grammar) files old new = HasDrilledOf files number grammar old new

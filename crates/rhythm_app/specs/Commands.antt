@@ -1,12 +1,13 @@
 -- The commands, a row each: the files that it reads, what it comes to by their bytes, and which cells it builds.
 use Rattle.std.specs.Prelude.{◌≡◌, ◌≢◌, ℕ, List, [], ◌∷◌, All, Result, Ok, Err, Option, Some, None, unwrap_or, ⊤}
 use Rattle.command_line.specs.Texts.{help_text, version_text}
-use Rattle.rhythm_app.specs.Asked.{Asked, help, version, write, answer, events, generate, drill, asked_by}
-use Rattle.rhythm_app.specs.Outcome.{AreInTurn, AreRead, IsAnswering, IsDrilling, IsListing, IsMade, IsScoreRead, IsUnderstood, IsWriting, Ready, say}
+use Rattle.barline_fit.specs.declared.candidates.Candidates.{Candidates}
+use Rattle.rhythm_app.specs.Asked.{Asked, help, version, write, answer, fit, too_many_candidates, events, generate, drill, asked_by}
+use Rattle.rhythm_app.specs.Outcome.{AreInTurn, AreRead, IsAnswering, IsDrilling, IsFitting, IsListing, IsMade, IsScoreRead, IsUnderstood, IsWriting, Ready, say}
 use Rattle.rhythm_app.specs.declared.stop.Kind.{Kind}
 use Rattle.rhythm_app.specs.declared.stop.Kind.TheVariants as kind
 use Rattle.rhythm_app.specs.declared.stop.Stop.{Stop}
-use Rattle.rhythm_app.specs.declared.stop.Stop.TheVariants.{Usage}
+use Rattle.rhythm_app.specs.declared.stop.Stop.TheVariants.{TooManyCandidates, Usage}
 use Rattle.rhythm_gen.specs.MidiFile.{generated}
 use Rattle.rhythm_ports.specs.Files.{File, file_of}
 
@@ -14,11 +15,12 @@ use Rattle.rhythm_ports.specs.Files.{File, file_of}
 abbrev pub file_content : List File → List ℕ → List ℕ
 file_content files name = unwrap_or (file_of files name) []
 
--- which cells a command builds: none; those of the performance in a MIDI file; or those of the piece of a number, by the grammar in a file,
--- and those that its drill reaches
+-- which cells a command builds: none; those of the performance in a MIDI file; these, and by the grammar in a file those that a barline
+-- reaches at its candidates; or those of the piece of a number, by the grammar in a file, and those that its drill reaches
 pub data Cells : Type 0 where
   no_cells : Cells
   cells_in : List ℕ → Cells
+  cells_fitted : List ℕ → List ℕ → Candidates → Cells
   cells_drilled : ℕ → List ℕ → Cells
 
 -- a file that a command reads: which input it is, and its name
@@ -52,6 +54,12 @@ command (answer talk midi grammar) = record {
   outcome = λ files. AreRead (file_content files midi) (file_content files grammar) (IsAnswering talk);
   cells = cells_in midi;
 }
+command (fit midi grammar c) = record {
+  reads = named kind.Midi midi ∷ named kind.Grammar grammar ∷ [];
+  outcome = λ files. AreRead (file_content files midi) (file_content files grammar) (IsFitting c);
+  cells = cells_fitted midi grammar c;
+}
+command (too_many_candidates count) = record { reads = []; outcome = λ files r. r ≡ Err (TooManyCandidates count); cells = no_cells }
 command (events kern) = record {
   reads = named kind.Kern kern ∷ [];
   outcome = λ files. AreInTurn (IsScoreRead (file_content files kern)) IsListing;

@@ -3,7 +3,7 @@ use Rattle.std.specs.Prelude.{◌≡◌, ◌≢◌, ℕ, ◌+◌, ◌⊎◌, ◌
 use Rattle.std.specs.Io.KnownBytes.{Appends}
 use Rattle.std.specs.Option.{ForSome}
 use Rattle.edit_session.specs.Opening.{cells_of}
-use Rattle.rhythm_app.specs.Asked.{Asked, asked_by}
+use Rattle.rhythm_app.specs.Asked.{Asked}
 use Rattle.rhythm_app.specs.Builds.{HasBuilt, HasBuiltAll}
 use Rattle.rhythm_app.specs.Commands.{HasNames, HasOutcome, HasOutcomeOf, Named, ReadsNoScript, cells_of_asked, command, file_content}
 use Rattle.rhythm_app.specs.Lent.{Lent}
@@ -20,8 +20,10 @@ use Rattle.rhythm_base.specs.Grammar.{Grammar}
 use Rattle.rhythm_base.specs.Performance.{Performance}
 use Rattle.rhythm_ports.specs.Causes.{Rose}
 use Rattle.rhythm_ports.specs.Files.{File}
-use Rattle.script_run.specs.Answers.{Editing}
+use Rattle.script_run.specs.Desk.{Desk, editor, studio}
+use Rattle.script_run.specs.Editing.{Editing}
 use Rattle.script_run.specs.Ends as script
+use Rattle.session_history.specs.History.{begun_with}
 use Rattle.script_run.specs.declared.script_stop.ScriptStop.{ScriptStop}
 
 -- ---- statuses
@@ -53,13 +55,18 @@ IsServed asked files W old new =
     (t : Talk) × (g : Grammar) × (p : Performance) × (last : Editing) × HasOutcomeOf asked files (Ok (serve t g p)) × W t g p last
     × (new.built ≡ risen old.built (cells_of p + last.built))
 
+-- what answers a script, before its first line
+abbrev pub desk_of : Talk → Grammar → Performance → Desk
+desk_of talk.Editing g p = editor g p
+desk_of talk.Studio g p = studio (begun_with g p)
+
 -- a script was answered to its end, or to `quit`
 abbrev pub IsDone : {S O E : Type 0} → Lent S O E → Lent S O E → Talk → Grammar → Performance → Editing → Type 0
-IsDone old new talk.Editing g p last = script.IsDone g p old.rest new.rest old.taken new.taken last
+IsDone old new t g p last = script.IsDone (desk_of t g p) old.rest new.rest old.taken new.taken last
 
 -- the answering of a script stopped
 abbrev pub IsBrokenOff : {S O E : Type 0} → ScriptStop → Lent S O E → Lent S O E → Talk → Grammar → Performance → Editing → Type 0
-IsBrokenOff s old new talk.Editing g p last = script.IsStopped s g p old.rest new.rest old.taken new.taken last
+IsBrokenOff s old new t g p last = script.IsStopped s (desk_of t g p) old.rest new.rest old.taken new.taken last
 
 -- all is written: the text, or the replies to the script
 abbrev pub IsAnswered : {S O E : Type 0} → Option Asked → List File → Lent S O E → Lent S O E → Type 0

@@ -1,9 +1,18 @@
 -- What the bytes of a command's files come to: what the command is ready to write, or the first test that fails, as a stop. The tests come in this order: the words; the MIDI file's size and its faults; the grammar file's size and its
--- faults; the notes and the bars; the cells, the root symbols and the derivations; the size of a score. Where the command has a
+-- faults; the notes and the bars; the cells, the root symbols and the derivations; the fit of a barline, where one is asked for; the size
+-- of a score, and of its MIDI file. Too many candidates for a barline are told before any file is read. Where the command has a
 -- **kern file, after the words come its size and its faults. `drill` has a grammar file, the cells, the root symbols and the derivations
 -- of its piece, and the size of its last score; `generate`, the help and the version read no file. A failed read, a failed write and
 -- want of memory are no outcomes: they may end any run.
-use Rattle.std.specs.Prelude.{◌≡◌, ◌≢◌, ℕ, ◌+◌, ◌≤◌, ◌⊎◌, nat_le, List, [], ◌∷◌, ◌++◌, codes, length, IfOk, if◌then◌else◌, Result, Ok, Err, Option, Some, None}
+use Rattle.std.specs.Prelude.{◌≡◌, ◌≢◌, ℕ, ◌+◌, ◌≤◌, ◌⊎◌, nat_le, List, [], ◌∷◌, ◌++◌, codes, length, IfOk, map, decimal, if◌then◌else◌, Result, Ok, Err}
+use Rattle.barline_fit.specs.Candidates.{ticks_of}
+use Rattle.barline_fit.specs.Fitted.{IsFitFault, IsFitted}
+use Rattle.barline_fit.specs.FittedScore.{IsFittedScore}
+use Rattle.barline_fit.specs.declared.candidates.Candidates.{Candidates}
+use Rattle.barline_fit.specs.declared.fit_fault.FitFault.{FitFault}
+use Rattle.barline_fit.specs.declared.fit_fault.FitFault.TheVariants as fitting
+use Rattle.barline_fit.specs.declared.fitted.Fitted.{Fitted}
+use Rattle.derivation.specs.PerformanceScore.{score_bar}
 use Rattle.drill_run.specs.Ends.{IsDrillOf}
 use Rattle.drill_run.specs.declared.piece.TheConstants.{DRILL_BARS}
 use Rattle.edit_session.specs.Opening.{CanOpen, IsOpenFault}
@@ -16,6 +25,7 @@ use Rattle.kern_reader.specs.Outcome.{score_of}
 use Rattle.kern_reader.specs.Score.{KernColumns}
 use Rattle.kern_reader.specs.declared.event.KernEvent.{KernEvent}
 use Rattle.kern_writer.specs.PerformanceText.{HasTooLongText, IsTextOf}
+use Rattle.lily_writer.specs.Text.{IsLilyText}
 use Rattle.note_list.specs.declared.fault.NoteFault.TheVariants as note
 use Rattle.performance_load.specs.Loading.{Loads}
 use Rattle.performance_load.specs.declared.load_fault.LoadFault.{LoadFault}
@@ -28,12 +38,16 @@ use Rattle.rhythm_app.specs.declared.stop.Kind.{Kind}
 use Rattle.rhythm_app.specs.declared.stop.Kind.TheVariants as kind
 use Rattle.rhythm_app.specs.declared.stop.Stop.{Stop}
 use Rattle.rhythm_app.specs.declared.stop.Stop.TheVariants as stop
+use Rattle.rhythm_app.specs.Stops.{joined_words}
 use Rattle.rhythm_base.specs.Grammar.{Grammar}
 use Rattle.rhythm_base.specs.Performance.{IsWellFormed, Performance}
 use Rattle.rhythm_base.specs.declared.bar_fault.BarFault.TheVariants as laying
 use Rattle.rhythm_base.specs.declared.limits.TheConstants.{LONGEST_GRAMMAR, LONGEST_MIDI, LONGEST_SCORE, LONGEST_SCRIPT}
 use Rattle.smf_reader.specs.Played.{Smf}
 use Rattle.smf_reader.specs.SmfFile.{smf}
+use Rattle.smf_writer.specs.RenderedFile.{HasFault, IsRendered}
+use Rattle.smf_writer.specs.declared.fault.RenderFault.{RenderFault}
+use Rattle.smf_writer.specs.declared.fault.RenderFault.TheVariants as rendering
 
 -- ---- the files
 
@@ -120,21 +134,95 @@ pub data Ready : Type 0 where
   say : List ℕ → Ready
   serve : Talk → Grammar → Performance → Ready
 
--- what the score of a performance and a grammar comes to
-abbrev pub IsScoring : Grammar → Performance → Result Ready Stop → Type 0
-IsScoring g p (Ok (say text)) = CanOpen g p × IsTextOf g p text × (length text ≤ LONGEST_SCORE)
-IsScoring g p (Ok (serve t h q)) = ⊥
-IsScoring g p (Err s) = IsUnopened g p s ⊎ IsTooLongToWrite g p s
+-- the text of the score of a performance by a grammar
+abbrev pub IsKernTextOf : Grammar → Performance → List ℕ → Type 0
+IsKernTextOf g p text = IsTextOf g p text × (length text ≤ LONGEST_SCORE)
 
--- what is written of a session in this form
+-- the events of that score: of its text, as it is read
+pub record AreEventsOf (g : Grammar) (p : Performance) (list : List KernEvent) : Type 0 where
+  pub text : List ℕ
+  pub written : IsKernTextOf g p text
+  pub score : KernColumns
+  pub read : score_of text ≡ Ok score
+  pub are : AreEvents score list
+
+-- the LilyPond text of the score: that of its events
+abbrev pub IsPageOf : Grammar → Performance → List ℕ → Type 0
+IsPageOf g p text = (list : List KernEvent) × AreEventsOf g p list × IsLilyText g.resolution (map (score_bar p) p.bars) (length p.channels) list text
+
+-- the MIDI file of the score: that of its events
+abbrev pub IsRenderingOf : Grammar → Performance → List ℕ → Type 0
+IsRenderingOf g p bytes = (list : List KernEvent) × AreEventsOf g p list × IsRendered g.resolution (map (score_bar p) p.bars) p.channels list bytes
+
+-- what is written of a performance by a grammar in this form
+abbrev pub IsFormOf : Form → Grammar → Performance → List ℕ → Type 0
+IsFormOf form.Score = IsKernTextOf
+IsFormOf form.Page = IsPageOf
+IsFormOf form.Rendered = IsRenderingOf
+
+-- a fault of rendering as a stop
+abbrev pub render_stop : RenderFault → Stop
+render_stop (rendering.TooLong tick) = stop.RenderTooLong tick
+render_stop rendering.Memory = stop.Memory
+
+-- a session is opened, and its score is within its limit, but ends too late for a MIDI file
+abbrev pub IsTooLongToRender : Grammar → Performance → Stop → Type 0
+IsTooLongToRender g p s =
+    (text : List ℕ) × (tick : ℕ) × CanOpen g p × IsKernTextOf g p text × HasFault g.resolution (map (score_bar p) p.bars) (rendering.TooLong tick) × (s ≡ stop.RenderTooLong tick)
+
+-- a session is opened, and its score is within its limit, but is not written in this form
+abbrev pub IsUnwritten : Form → Grammar → Performance → Stop → Type 0
+IsUnwritten form.Score g p s = ⊥
+IsUnwritten form.Page g p s = ⊥
+IsUnwritten form.Rendered g p s = IsTooLongToRender g p s
+
+-- what is written of a session in this form: a text, whose score is within its limit
 abbrev pub IsWriting : Form → Grammar → Performance → Result Ready Stop → Type 0
-IsWriting form.Score g p r = IsScoring g p r
+IsWriting form g p (Ok (say text)) = CanOpen g p × IsFormOf form g p text
+IsWriting form g p (Ok (serve t h q)) = ⊥
+IsWriting form g p (Err s) = IsUnopened g p s ⊎ IsTooLongToWrite g p s ⊎ IsUnwritten form g p s
 
 -- what a session that answers a script comes to
 abbrev pub IsAnswering : Talk → Grammar → Performance → Result Ready Stop → Type 0
 IsAnswering talk g p (Ok (say text)) = ⊥
 IsAnswering talk g p (Ok (serve t h q)) = CanOpen g p × (t ≡ talk) × (h ≡ g) × (q ≡ p)
 IsAnswering talk g p (Err s) = IsUnopened g p s
+
+-- ---- the fitted barline
+
+-- a fault of fitting a barline as a stop
+abbrev pub fit_stop : FitFault → Stop
+fit_stop (fitting.NoBar bar) = stop.NoBarline bar
+fit_stop fitting.NoCandidate = stop.NoCandidate
+fit_stop fitting.Memory = stop.Memory
+
+-- the fitted tick and its cost
+abbrev pub fit_line : Fitted → List ℕ
+fit_line x = joined_words (codes "fit " ∷ decimal x.tick ∷ codes " " ∷ decimal x.cost ∷ codes "\n" ∷ [])
+
+-- that line, and the score with the barline there
+abbrev pub fit_text : Fitted → List ℕ → List ℕ
+fit_text x score = fit_line x ++ score
+
+-- a tick is fitted, and the score with the barline there is this, or is too long
+pub record FitsScore (c : Candidates) (g : Grammar) (p : Performance) (x : Fitted) (score : Result (List ℕ) ℕ) : Type 0 where
+  pub can : CanOpen g p
+  pub fitted : IsFitted g p c.bar (ticks_of c) x
+  pub scored : IsFittedScore g p c.bar x.tick score
+
+-- no tick is fitted
+abbrev pub IsUnfitted : Candidates → Grammar → Performance → Stop → Type 0
+IsUnfitted c g p s = (fault : FitFault) × CanOpen g p × IsFitFault g p c.bar (ticks_of c) fault × (fault ≢ fitting.Memory) × (s ≡ fit_stop fault)
+
+-- the score with the barline at the fitted tick is too long
+abbrev pub IsTooLongFit : Candidates → Grammar → Performance → Stop → Type 0
+IsTooLongFit c g p s = (x : Fitted) × (line : ℕ) × FitsScore c g p x (Err line) × (s ≡ stop.ScoreTooLong line)
+
+-- what the fit of a barline of a performance comes to by a grammar
+abbrev pub IsFitting : Candidates → Grammar → Performance → Result Ready Stop → Type 0
+IsFitting c g p (Ok (say text)) = (x : Fitted) × (score : List ℕ) × FitsScore c g p x (Ok score) × (text ≡ fit_text x score)
+IsFitting c g p (Ok (serve t h q)) = ⊥
+IsFitting c g p (Err s) = IsUnopened g p s ⊎ IsUnfitted c g p s ⊎ IsTooLongFit c g p s
 
 -- ---- the events
 

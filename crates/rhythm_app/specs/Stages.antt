@@ -21,7 +21,7 @@ use Rattle.rhythm_app.specs.declared.request.Talk.{Talk}
 use Rattle.rhythm_app.specs.declared.stop.Kind.{Kind}
 use Rattle.rhythm_app.specs.declared.stop.Kind.TheVariants as kind
 use Rattle.rhythm_app.specs.declared.stop.Stop.{Stop}
-use Rattle.rhythm_app.specs.declared.stop.Stop.TheVariants.{FileTooLong, LineTooLong, Usage, NoDerivation, ScoreTooLong, Read, Write, Memory}
+use Rattle.rhythm_app.specs.declared.stop.Stop.TheVariants.{FileTooLong, LineTooLong, Usage, NoDerivation, ScoreTooLong, RenderTooLong, TooManyCandidates, NoBarline, NoCandidate, Read, Write, Memory}
 
 -- a failed call, or want of memory
 abbrev pub IsFailure : Stop → Type 0
@@ -38,13 +38,17 @@ EndsByFailure (Err stop) = IsFailure stop
 abbrev pub Follows : {T : Type 0} → (Result T Stop → Type 0) → Result T Stop → Type 0
 Follows outcome r = outcome r ⊎ EndsByFailure r
 
--- a stage before a session is opened ends neither by the words nor by what comes later: the derivations, the size of the score
--- and the writing, or the script
+-- a stage before a session is opened ends neither by the words nor by what comes later: the derivations, the fit of a barline, the size of
+-- the score and the writing, or the script
 abbrev pub IsEarly : Stop → Type 0
 IsEarly Usage = ⊥
 IsEarly (LineTooLong _) = ⊥
 IsEarly (NoDerivation _ _) = ⊥
 IsEarly (ScoreTooLong _) = ⊥
+IsEarly (RenderTooLong _) = ⊥
+IsEarly (TooManyCandidates _) = ⊥
+IsEarly (NoBarline _) = ⊥
+IsEarly NoCandidate = ⊥
 IsEarly Write = ⊥
 IsEarly _ = ⊤
 
@@ -55,11 +59,13 @@ IsOfContent (FileTooLong _ _) = ⊥
 IsOfContent (LineTooLong _) = ⊥
 IsOfContent Write = ⊥
 IsOfContent Usage = ⊥
+IsOfContent (TooManyCandidates _) = ⊥
 IsOfContent _ = ⊤
 
 -- a stop by the size of what would be written, or by want of memory
 abbrev pub IsOfWriting : Stop → Type 0
 IsOfWriting (ScoreTooLong _) = ⊤
+IsOfWriting (RenderTooLong _) = ⊤
 IsOfWriting Memory = ⊤
 IsOfWriting _ = ⊥
 

@@ -6,7 +6,7 @@ use Rattle.kern_reader.specs.FaultName.{fault_name}
 use Rattle.rhythm_app.specs.declared.stop.Kind.{Kind}
 use Rattle.rhythm_app.specs.declared.stop.Kind.TheVariants as kind
 use Rattle.rhythm_app.specs.declared.stop.Stop.{Stop}
-use Rattle.rhythm_app.specs.declared.stop.Stop.TheVariants.{Usage, FileTooLong, LineTooLong, Smf, Grammar, Kern, NoNotes, TooManyNotes, BadSignature, UnevenBar, TooManyBars, TooManyCells, NoStart, NoDerivation, ScoreTooLong, Read, Write, Memory}
+use Rattle.rhythm_app.specs.declared.stop.Stop.TheVariants.{Usage, FileTooLong, LineTooLong, Smf, Grammar, Kern, NoNotes, TooManyNotes, BadSignature, UnevenBar, TooManyBars, TooManyCells, NoStart, NoDerivation, ScoreTooLong, RenderTooLong, TooManyCandidates, NoBarline, NoCandidate, Read, Write, Memory}
 use Rattle.script_run.specs.declared.script_stop.ScriptStop.{ScriptStop}
 use Rattle.script_run.specs.declared.script_stop.ScriptStop.TheVariants as script
 use Rattle.smf_reader.specs.declared.fault.SmfFault.{SmfFault}
@@ -28,6 +28,10 @@ status_of (TooManyCells _) = 4
 status_of (NoStart _ _ _) = 2
 status_of (NoDerivation _ _) = 3
 status_of (ScoreTooLong _) = 4
+status_of (RenderTooLong _) = 4
+status_of (TooManyCandidates _) = 4
+status_of (NoBarline _) = 9
+status_of NoCandidate = 9
 status_of (Read _) = 5
 status_of Write = 6
 status_of Memory = 7
@@ -149,6 +153,10 @@ stop_line (TooManyCells count) = limit_line (codes "cells") count
 stop_line (NoStart bar num den) = signature_line (codes "start ") bar num den
 stop_line (NoDerivation channel bar) = pair_line (codes "no derivation ") channel bar
 stop_line (ScoreTooLong line) = limit_line (codes "score") line
+stop_line (RenderTooLong tick) = limit_line (codes "render") tick
+stop_line (TooManyCandidates count) = limit_line (codes "candidates") count
+stop_line (NoBarline bar) = named_line (codes "fit ") (codes "NoBar") (Some bar)
+stop_line NoCandidate = named_line (codes "fit ") (codes "NoCandidate") None
 stop_line (Read kind) = named_line (codes "read ") (kind_name kind) None
 stop_line Write = joined_words (codes "write\n" ∷ [])
 stop_line Memory = joined_words (codes "memory\n" ∷ [])

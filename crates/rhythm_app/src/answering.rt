@@ -1,12 +1,13 @@
 ghost use Rattle.rhythm_app.specs.Asked.{answer};
-ghost use Rattle.rhythm_app.specs.Ends.{IsBrokenOff, IsDone, IsPerformed, IsSilent, IsUntouched};
+ghost use Rattle.rhythm_app.specs.Ends.{IsBrokenOff, IsDone, IsPerformed, IsSilent, IsUntouched, desk_of};
 ghost use Rattle.rhythm_app.specs.Stages.{HasSession};
 ghost use Rattle.rhythm_app.specs.Stops.{script_stop};
 ghost use Rattle.rhythm_base.specs.Counter.{risen};
 ghost use Rattle.rhythm_ports.specs.Causes.{Rose};
-ghost use Rattle.script_run.specs.Answers.{Editing};
+ghost use Rattle.script_run.specs.Desk.{shown};
+ghost use Rattle.script_run.specs.Editing.{Editing};
 ghost use Rattle.script_run.specs.declared.script_stop.ScriptStop.TheVariants as stops;
-ghost use Rattle.std.specs.Prelude.{◌≡◌, ◌≤◌, Err, IfErr, OnOk, Some};
+ghost use Rattle.std.specs.Prelude.{◌≡◌, ◌≤◌, Err, IfErr, IfOk, OnOk, Some};
 
 use crate::inputs::read_inputs;
 use crate::lent::Lent;
@@ -16,7 +17,9 @@ use crate::stop::{Kind, Stop};
 use edit_session::Session;
 use rhythm_base::Tag;
 use rhythm_ports::{Gate, Shelf, Sink, Source};
-use script_run::{Means, ScriptStop, run_script};
+use script_run::{Desk, Means, ScriptStop, run_script};
+use session_history::History;
+use std::alloc::Global;
 use std::thread::Threads;
 
 /// Why the answering of a script ends, as a stop of the run.
@@ -52,6 +55,20 @@ fn session_of<R: Threads + Sync, F: Shelf, S: Source, O: Sink, E: Sink, G: Gate 
     }
 }
 
+/// What answers a script over a session. The places for the steps of a studio are taken here.
+fn desk_of(alloc: Global, talk: Talk, session: Session) -> Result<Desk, ScriptStop>
+    ensures desk { IfOk result (λ desk. shown desk ≡ desk_of talk session.grammar session.performance) }
+    ensures memory { IfErr result (λ end. end ≡ stops.Memory) }
+{
+    match talk {
+        Talk::Editing => Ok(Desk::Editor(session)),
+        Talk::Studio => match History::new(alloc, session) {
+            Ok(history) => Ok(Desk::Studio(history)),
+            Err(_session) => Err(ScriptStop::Memory),
+        },
+    }
+}
+
 /// Answers the lines of a script over a session.
 fn talk_over<R: Threads + Sync, F: Shelf, S: Source, O: Sink, E: Sink, G: Gate + Sync, B: Tag>(
     lent: &mut Lent<R, F, S, O, E, G, B>,
@@ -73,15 +90,16 @@ fn talk_over<R: Threads + Sync, F: Shelf, S: Source, O: Sink, E: Sink, G: Gate +
         alloc: lent.alloc,
         gate: lent.gate,
     };
-    match talk {
-        Talk::Editing => run_script(
+    match desk_of(lent.alloc, talk, session) {
+        Ok(desk) => run_script(
             &means,
-            session,
+            desk,
             &mut lent.script,
             &mut lent.out,
             &mut lent.builds,
             &mut lent.products,
         ),
+        Err(stop) => Err(stop),
     }
 }
 

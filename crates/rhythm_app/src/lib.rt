@@ -7,6 +7,7 @@ mod answering;
 mod drill;
 mod events;
 mod files;
+mod fit;
 mod generate;
 mod help;
 mod inputs;

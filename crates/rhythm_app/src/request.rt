@@ -1,9 +1,11 @@
 ghost use Rattle.command_line.specs.CommandLines.{HasWorkers};
-ghost use Rattle.rhythm_app.specs.Asked.{IsInRange, asked_of, command_by, drill_by, generate_by, shown_request, workers_asked};
-ghost use Rattle.std.specs.Prelude.{◌≡◌, ◌≤◌, ◌∷◌, [], IfSome, option_map};
+ghost use Rattle.rhythm_app.specs.Asked.{AreTried, IsInRange, asked_of, candidate_count, candidates_by, command_by, drill_by, fit_by, fit_of, generate_by, in_order, shown_request, workers_asked};
+ghost use Rattle.rhythm_base.specs.declared.limits.TheConstants.{LATEST_TICK};
+ghost use Rattle.std.specs.Prelude.{◌≡◌, ◌≤◌, ◌∷◌, [], IfSome, Some, option_map};
 
+use barline_fit::{Candidates, MOST_CANDIDATES};
 use command_line::{Invocation, number_in};
-use rhythm_base::Words;
+use rhythm_base::{LATEST_TICK, MOST_BARS, Words};
 
 /// The names of the two files of a command.
 #[derive(Clone, Copy)]
@@ -17,6 +19,10 @@ pub struct FileNames<'a> {
 pub enum Form {
     /// The **kern text of its score.
     Score,
+    /// The LilyPond text of its score.
+    Page,
+    /// The MIDI file of its score.
+    Rendered,
 }
 
 /// What answers a script over a session.
@@ -24,6 +30,8 @@ pub enum Form {
 pub enum Talk {
     /// An editor.
     Editing,
+    /// A studio, which takes edits back, and makes them again.
+    Studio,
 }
 
 /// What the words ask for.
@@ -37,19 +45,40 @@ pub enum Request<'a> {
     Write(Form, FileNames<'a>),
     /// The replies to a script over the session on a MIDI file and a grammar.
     Answer(Talk, FileNames<'a>),
+    /// The best tick for a barline of the session on a MIDI file and a grammar, and the score with the barline there.
+    Fit {
+        files: FileNames<'a>,
+        among: Candidates,
+    },
+    /// The same, of too many ticks: this many.
+    TooManyCandidates {
+        count: u64,
+    },
     /// The events of a **kern file.
     Events(&'a str),
     /// The MIDI file of the piece of a number.
-    Generate { number: u32, bars: u32 },
+    Generate {
+        number: u32,
+        bars: u32,
+    },
     /// The summary of the drill of a number by a grammar.
-    Drill { number: u32, grammar: &'a str },
+    Drill {
+        number: u32,
+        grammar: &'a str,
+    },
 }
 
 /// How the command of this word is called, where it is one.
 pub fn called_as(word: &str) -> Option<&'static str> {
     match word {
         "transcribe" => Some("transcribe MIDI GRAMMAR"),
+        "lily" => Some("lily MIDI GRAMMAR"),
+        "render" => Some("render MIDI GRAMMAR"),
         "edit" => Some("edit MIDI GRAMMAR"),
+        "studio" => Some("studio MIDI GRAMMAR"),
+        "fit" => Some(
+            "fit MIDI GRAMMAR BAR LOW HIGH STEP, with BAR from 0 to 4096, LOW and HIGH from 0 to 2000000000, LOW no more than HIGH, and STEP from 1 to 2000000000",
+        ),
         "events" => Some("events KERN"),
         "generate" => Some(
             "generate NUMBER BARS, with NUMBER from 0 to 65534 and BARS from 1 to 2000",
@@ -101,12 +130,89 @@ fn request_of_two<'a>(word: &'a str, first: &'a str, second: &'a str) -> Option<
     };
     if word == "transcribe" {
         Some(Request::Write(Form::Score, files))
+    } else if word == "lily" {
+        Some(Request::Write(Form::Page, files))
+    } else if word == "render" {
+        Some(Request::Write(Form::Rendered, files))
     } else if word == "edit" {
         Some(Request::Answer(Talk::Editing, files))
+    } else if word == "studio" {
+        Some(Request::Answer(Talk::Studio, files))
     } else if word == "generate" {
         generate_request(first, second)
     } else if word == "drill" {
         drill_request(first, second)
+    } else {
+        None
+    }
+}
+
+/// The candidates, where the lowest tick is no later than the highest.
+fn in_order(among: Candidates) -> Option<Candidates>
+    ensures asked { result ≡ in_order among }
+    ensures order { IfSome result (λ c. c.low ≤ c.high) }
+    ensures same { IfSome result (λ c. c ≡ among) }
+{
+    if among.low <= among.high {
+        Some(among)
+    } else {
+        None
+    }
+}
+
+/// The candidates of a barline that four words say.
+fn candidates_of(bar: &str, low: &str, high: &str, step: &str) -> Option<Candidates>
+    ensures asked { result ≡ candidates_by bar.now low.now high.now step.now }
+    ensures order { IfSome result (λ c. c.low ≤ c.high) }
+    ensures high { IfSome result (λ c. c.high ≤ LATEST_TICK) }
+    ensures step { IfSome result (λ c. 1 ≤ c.step) }
+{
+    let bar = number_in(bar, 0, u64::from(MOST_BARS))? as u32;
+    let low = number_in(low, 0, LATEST_TICK)?;
+    let high = number_in(high, 0, LATEST_TICK)?;
+    let step = number_in(step, 1, LATEST_TICK)?;
+    in_order(Candidates {
+        bar,
+        low,
+        high,
+        step,
+    })
+}
+
+/// The fit of a barline, where there are not too many candidates.
+fn fit_request<'a>(files: FileNames<'a>, among: Candidates) -> Request<'a>
+    requires order { among.low ≤ among.high }
+    requires high { among.high ≤ LATEST_TICK }
+    requires step { 1 ≤ among.step }
+    ensures asked { shown_request result ≡ fit_of files.entry.midi.now files.entry.grammar.now among }
+    ensures range { IsInRange result }
+{
+    let count = among.count();
+    if count <= MOST_CANDIDATES {
+        Request::Fit { files, among }
+    } else {
+        Request::TooManyCandidates { count }
+    }
+}
+
+/// The command of a word, two files and four numbers.
+fn request_of_six<'a>(
+    word: &'a str,
+    files: FileNames<'a>,
+    bar: &'a str,
+    low: &'a str,
+    high: &'a str,
+    step: &'a str,
+) -> Option<Request<'a>>
+    ensures asked { option_map shown_request result
+        ≡ command_by (word.entry.now ∷ files.entry.midi.now ∷ files.entry.grammar.now ∷ bar.entry.now ∷ low.entry.now ∷ high.entry.now ∷ step.entry.now ∷ []) }
+    ensures range { IfSome result IsInRange }
+{
+    if word == "fit" {
+        match candidates_of(bar, low, high, step) {
+            Some(among) => Some(fit_request(files, among)),
+            None => None,
+        }
     } else {
         None
     }
@@ -124,6 +230,17 @@ fn command_of<'a>(words: &'a Words) -> Option<Request<'a>>
         3 => {
             let second = words.get(2)?;
             request_of_two(word, first, second)
+        }
+        7 => {
+            let files = FileNames {
+                midi: first,
+                grammar: words.get(2)?,
+            };
+            let bar = words.get(3)?;
+            let low = words.get(4)?;
+            let high = words.get(5)?;
+            let step = words.get(6)?;
+            request_of_six(word, files, bar, low, high, step)
         }
         _ => None,
     }

@@ -51,6 +51,14 @@ pub enum Stop {
     NoDerivation { channel: u8, bar: u32 },
     /// The score is longer than 67,108,864 bytes; the number, from 1, of the first line that ends past them.
     ScoreTooLong { line: u32 },
+    /// The last barline of the score is too late for a MIDI file: its tick there, which is above 268,435,455.
+    RenderTooLong { tick: u64 },
+    /// There are more than 256 candidates for a barline: this many.
+    TooManyCandidates { count: u64 },
+    /// There is no such barline to be set: its number.
+    NoBarline { bar: u32 },
+    /// A barline can be set to none of its candidates.
+    NoCandidate,
     /// A file or the script was not read.
     Read(Kind),
     /// The output was not written.
@@ -79,10 +87,13 @@ impl Stop {
             | Stop::TooManyNotes { .. }
             | Stop::TooManyBars { .. }
             | Stop::TooManyCells { .. }
-            | Stop::ScoreTooLong { .. } => 4,
+            | Stop::ScoreTooLong { .. }
+            | Stop::RenderTooLong { .. }
+            | Stop::TooManyCandidates { .. } => 4,
             Stop::Read(_) => 5,
             Stop::Write => 6,
             Stop::Memory => 7,
+            Stop::NoBarline { .. } | Stop::NoCandidate => 9,
         }
     }
 }

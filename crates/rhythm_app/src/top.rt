@@ -15,6 +15,7 @@ ghost use Rattle.std.specs.Prelude.{◌≡◌, ◌≢◌, ◌≤◌, ◌↔◌, 
 use crate::answering::answer;
 use crate::drill::drill_text;
 use crate::events::events_text;
+use crate::fit::fit_text_of;
 use crate::generate::piece_bytes;
 use crate::help::{help, version};
 use crate::lent::Lent;
@@ -87,6 +88,11 @@ fn perform<R: Threads + Sync, F: Shelf, S: Source, O: Sink, E: Sink, G: Gate + S
             finish(lent, text)
         }
         Some(Request::Answer(talk, names)) => answer(lent, workers, talk, names),
+        Some(Request::Fit { files, among }) => {
+            let text = fit_text_of(lent, workers, files, among);
+            finish(lent, text)
+        }
+        Some(Request::TooManyCandidates { count }) => Err(Stop::TooManyCandidates { count }),
         Some(Request::Events(kern)) => {
             let text = events_text(lent, kern);
             finish(lent, text)
@@ -122,7 +128,8 @@ fn perform_words<R: Threads + Sync, F: Shelf, S: Source, O: Sink, E: Sink, G: Ga
 ///
 /// 0: a text is written, or the script is answered. 1: the words are no command. 2: a file is refused, or has no
 /// bars of notes that the grammar has root symbols for. 3: no derivation fits. 4: a quantity is above its limit. 5: a read failed.
-/// 6: a write failed. 7: there was not enough memory; in a script this comes only before its first line is answered.
+/// 6: a write failed. 7: there was not enough memory; in a script this comes only before its first line is answered. 9: no tick is
+/// fitted to the barline.
 pub fn run<R: Threads + Sync, F: Shelf, S: Source, O: Sink, E: Sink, G: Gate + Sync, B: Tag>(
     lent: &mut Lent<R, F, S, O, E, G, B>,
     words: &Words,
@@ -146,7 +153,7 @@ pub fn run<R: Threads + Sync, F: Shelf, S: Source, O: Sink, E: Sink, G: Gate + S
     // more lines say what is wrong with the words.
     ensures stop { result ≢ 0 → (stop : Stop) × (status_of stop ≡ result) × IsStopped (asked_by words.now) lent.old lent.new stop × IsTold lent.old lent.new stop }
 
-    // Whatever the end: no name is opened but the command's, the script is read only by `edit`, and no counter falls.
+    // Whatever the end: no name is opened but the command's, the script is read only by `edit` and `studio`, and no counter falls.
     ensures rest { KeepsRest (asked_by words.now) lent.old lent.new }
 
     // Where the tests pass and no count rose, all is written, a script is over a limit, or there was not enough memory.

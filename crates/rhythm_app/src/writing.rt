@@ -1,12 +1,17 @@
 ghost use Rattle.edit_session.specs.Opening.{CanOpen, cells_of};
+ghost use Rattle.kern_reader.specs.Outcome.{score_of};
+ghost use Rattle.kern_reader.specs.Score.{KernColumns};
 ghost use Rattle.rhythm_app.specs.Asked.{write};
 ghost use Rattle.rhythm_app.specs.Builds.{MatchBuilds};
-ghost use Rattle.rhythm_app.specs.Outcome.{IsScoring, IsWriting};
+ghost use Rattle.rhythm_app.specs.Outcome.{AreEventsOf, IsKernTextOf, IsTooLongToWrite, IsWriting, render_stop};
 ghost use Rattle.rhythm_app.specs.Stages.{CountsAlone, Follows, HasText, IsOfContent, IsOfWriting, said_of};
+ghost use Rattle.rhythm_app.specs.declared.request.Form.TheVariants as form;
+ghost use Rattle.rhythm_app.specs.declared.stop.Stop.TheVariants as stop;
 ghost use Rattle.rhythm_base.specs.Counter.{risen};
+ghost use Rattle.rhythm_base.specs.Performance.{IsWellFormed};
 ghost use Rattle.rhythm_base.specs.Readable.{IsReadable};
-ghost use Rattle.rhythm_base.specs.declared.limits.TheConstants.{MOST_NOTES};
-ghost use Rattle.std.specs.Prelude.{◌≡◌, ◌≤◌, IfErr, OnOk, Some, length};
+ghost use Rattle.rhythm_base.specs.declared.limits.TheConstants.{LONGEST_SCORE, MOST_NOTES, MOST_VOICES};
+ghost use Rattle.std.specs.Prelude.{◌≡◌, ◌≤◌, ◌⊎◌, IfErr, IfOk, Ok, OnOk, Some, length};
 
 use crate::inputs::read_inputs;
 use crate::lent::Lent;
@@ -14,16 +19,19 @@ use crate::request::{FileNames, Form};
 use crate::session::open_session;
 use crate::stop::Stop;
 use edit_session::{ScoreFault, Session};
+use kern_reader::{KernEvent, KernScore, KernWhat, read_kern};
+use lily_writer::write_lily;
 use rhythm_base::{Grammar, Performance, Tag};
 use rhythm_ports::{Gate, Shelf, Sink, Source};
+use smf_writer::{RenderFault, render};
 use std::alloc::Global;
 use std::thread::Threads;
 
-/// The score of a session.
-fn score_of(alloc: Global, session: &Session) -> Result<Vec<u8>, Stop>
+/// The **kern text of the score of a session.
+fn kern_text_of(alloc: Global, session: &Session) -> Result<Vec<u8>, Stop>
     requires { CanOpen session.now.grammar session.now.performance }
-    ensures tests { Follows (IsScoring session.now.grammar session.now.performance) (said_of result) }
-    ensures end { IfErr result IsOfWriting }
+    ensures text { IfOk result (λ v. IsKernTextOf session.now.grammar session.now.performance v.items) }
+    ensures stop { IfErr result (λ s. IsTooLongToWrite session.now.grammar session.now.performance s ⊎ (s ≡ stop.Memory)) }
 {
     match session.score(alloc) {
         Ok(text) => Ok(text),
@@ -32,14 +40,120 @@ fn score_of(alloc: Global, session: &Session) -> Result<Vec<u8>, Stop>
     }
 }
 
-/// What is written of a session in this form.
-fn text_of(alloc: Global, form: Form, session: &Session) -> Result<Vec<u8>, Stop>
-    requires { CanOpen session.now.grammar session.now.performance }
+/// The score of a **kern text that was written. It has no fault.
+fn score_in(alloc: Global, text: &[u8]) -> Result<KernScore, Stop>
+    requires read { (score : KernColumns) × (score_of text.now ≡ Ok score) }
+    requires short { length text.now ≤ LONGEST_SCORE }
+    ensures score { IfOk result (λ score. score_of text.now ≡ Ok score) }
+    ensures stop { IfErr result (λ s. s ≡ stop.Memory) }
+{
+    match read_kern(alloc, text) {
+        Ok(score) => Ok(score),
+        Err(fault) => match fault.what {
+            KernWhat::Memory => Err(Stop::Memory),
+            _ => unreachable!(),
+        },
+    }
+}
+
+/// The events of the score of a session, as its **kern text is read.
+fn events_of(alloc: Global, session: &Session) -> Result<Vec<KernEvent>, Stop>
+    requires can { CanOpen session.now.grammar session.now.performance }
+    requires readable { IsReadable session.now.grammar }
+    requires formed { IsWellFormed session.now.performance }
+    ensures events { IfOk result (λ v. AreEventsOf session.now.grammar session.now.performance v.items) }
+    ensures stop { IfErr result (λ s. IsTooLongToWrite session.now.grammar session.now.performance s ⊎ (s ≡ stop.Memory)) }
+{
+    let text = kern_text_of(alloc, session)?;
+    let score = score_in(alloc, text.as_slice())?;
+    match score.events(alloc) {
+        Ok(events) => Ok(events),
+        Err(_error) => Err(Stop::Memory),
+    }
+}
+
+/// How many voices a performance has.
+fn voice_count(performance: &Performance) -> u8
+    requires { length performance.now.channels ≤ MOST_VOICES }
+    ensures { result ≡ length performance.now.channels }
+{
+    performance.channels().len() as u8
+}
+
+/// The LilyPond text of the score of a session.
+fn page_of(alloc: Global, session: &Session, resolution: u16) -> Result<Vec<u8>, Stop>
+    requires can { CanOpen session.now.grammar session.now.performance }
+    requires readable { IsReadable session.now.grammar }
+    requires resolution { resolution ≡ session.now.grammar.resolution }
+    ensures tests { Follows (IsWriting form.Page session.now.grammar session.now.performance) (said_of result) }
+    ensures end { IfErr result IsOfWriting }
+{
+    let performance = session.performance();
+    let events = events_of(alloc, session)?;
+    let voices = voice_count(performance);
+    match session.score_bars(alloc) {
+        Ok(bars) => match write_lily(
+            alloc,
+            events.as_slice(),
+            bars.as_slice(),
+            voices,
+            resolution,
+        ) {
+            Ok(text) => Ok(text),
+            Err(_error) => Err(Stop::Memory),
+        },
+        Err(_error) => Err(Stop::Memory),
+    }
+}
+
+/// A fault of rendering as a stop.
+fn render_stop(fault: RenderFault) -> Stop
+    ensures { result ≡ render_stop fault }
+{
+    match fault {
+        RenderFault::TooLong { tick } => Stop::RenderTooLong { tick },
+        RenderFault::Memory => Stop::Memory,
+    }
+}
+
+/// The MIDI file of the score of a session.
+fn rendering_of(alloc: Global, session: &Session, resolution: u16) -> Result<Vec<u8>, Stop>
+    requires can { CanOpen session.now.grammar session.now.performance }
+    requires readable { IsReadable session.now.grammar }
+    requires resolution { resolution ≡ session.now.grammar.resolution }
+    ensures tests { Follows (IsWriting form.Rendered session.now.grammar session.now.performance) (said_of result) }
+    ensures end { IfErr result IsOfWriting }
+{
+    let performance = session.performance();
+    let events = events_of(alloc, session)?;
+    let channels = performance.channels();
+    match session.score_bars(alloc) {
+        Ok(bars) => match render(
+            alloc,
+            events.as_slice(),
+            bars.as_slice(),
+            channels,
+            resolution,
+        ) {
+            Ok(bytes) => Ok(bytes),
+            Err(fault) => Err(render_stop(fault)),
+        },
+        Err(_error) => Err(Stop::Memory),
+    }
+}
+
+/// What is written of a session in this form. The resolution is that of its grammar.
+fn text_of(alloc: Global, form: Form, session: &Session, resolution: u16) -> Result<Vec<u8>, Stop>
+    requires can { CanOpen session.now.grammar session.now.performance }
+    requires readable { IsReadable session.now.grammar }
+    requires resolution { resolution ≡ session.now.grammar.resolution }
     ensures tests { Follows (IsWriting form session.now.grammar session.now.performance) (said_of result) }
     ensures end { IfErr result IsOfWriting }
 {
     match form {
-        Form::Score => score_of(alloc, session),
+        Form::Score => kern_text_of(alloc, session),
+        Form::Page => page_of(alloc, session, resolution),
+        Form::Rendered => rendering_of(alloc, session, resolution),
     }
 }
 
@@ -63,8 +177,9 @@ fn text_by<R: Threads + Sync, F: Shelf, S: Source, O: Sink, E: Sink, G: Gate + S
     ensures multiplies { lent.old.multiplied ≤ lent.new.multiplied }
     ensures counts { CountsAlone lent.old lent.new }
 {
+    let resolution = grammar.resolution;
     match open_session(lent, workers, grammar, performance) {
-        Ok(session) => text_of(lent.alloc, form, &session),
+        Ok(session) => text_of(lent.alloc, form, &session, resolution),
         Err(stop) => Err(stop),
     }
 }

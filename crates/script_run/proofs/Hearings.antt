@@ -13,14 +13,14 @@ pub same_bool : (a b : Bool) → ◌≡◌ {A = Result Bool ScriptStop} (Ok a) (
 same_bool a b e = cc
 
 -- a line is answered that does not say `quit`
-pub newline_heard : (old answered new : Heard) (byte : ℕ) (ends : Bool) (reply : List ℕ) (n : ℕ) → answered.grammar ≡ old.grammar → answered.read ≡ old.read
+pub newline_heard : (old answered new : Heard) (byte : ℕ) (ends : Bool) (reply : List ℕ) (n : ℕ) → answered.read ≡ old.read
     → answered.begun ≡ [] → new ≡ record answered { read = answered.read + 1 } → byte ≡ 10 → old.read < LONGEST_SCRIPT → (IsTrue ends ↔ Quits old.begun) → ends ≡ false
-    → Replies old reply n answered.performance → Hears old byte reply n new
-newline_heard old answered new byte ends reply n grammar read none is newline room decides goes said =
+    → Replies old reply n answered.desk → Hears old byte reply n new
+newline_heard old answered new byte ends reply n read none is newline room decides goes said =
     let counted : new.read ≡ old.read + 1 = ap (λ (h : Heard). h.read) is ∙ ap (λ m. m + 1) read in
     let not_true : Quits old.begun → ⊥ = λ q. not_both (decides.1 q) in
-    let said_new = subst (Replies old reply n) (sym (ap (λ (h : Heard). h.performance) is)) said in
-    (ap (λ (h : Heard). h.grammar) is ∙ grammar, room, counted, inl (newline, said_new, not_true, ap (λ (h : Heard). h.begun) is ∙ none))
+    let said_new = subst (Replies old reply n) (sym (ap (λ (h : Heard). h.desk) is)) said in
+    (room, counted, inl (newline, said_new, not_true, ap (λ (h : Heard). h.begun) is ∙ none))
   where
     not_both : ends ≡ true → ⊥
     not_both h = let both : false ≡ true = sym goes ∙ h in absurd (cc)
@@ -29,10 +29,9 @@ newline_heard old answered new byte ends reply n grammar read none is newline ro
 pub byte_heard : (old new : Heard) (byte : ℕ) → new ≡ record old { begun = old.begun ++ byte ∷ []; read = old.read + 1 } → (byte ≡ 10 → ⊥) → old.read < LONGEST_SCRIPT
     → length old.begun < LONGEST_SCRIPT_LINE → Hears old byte [] 0 new
 byte_heard old new byte is other room short = (
-  ap (λ (h : Heard). h.grammar) is,
   room,
   ap (λ (h : Heard). h.read) is,
-  inr (other, refl, refl, ap (λ (h : Heard). h.performance) is, short, ap (λ (h : Heard). h.begun) is),
+  inr (other, refl, refl, ap (λ (h : Heard). h.desk) is, short, ap (λ (h : Heard). h.begun) is),
 )
 
 -- ---- one after another

@@ -2,8 +2,10 @@ pub mod Newlines
 pub mod Runs
 pub mod Answering
 pub mod Replies
+pub mod Studios
 pub mod Hearings
 pub mod Scripts
 pub mod OneScores
+pub mod OneDesks
 pub mod OneOutputs
 pub mod OneBeginnings

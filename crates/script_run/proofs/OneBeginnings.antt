@@ -5,14 +5,12 @@ use Rattle.std.specs.Io.KnownBytes.{IsAtEnd}
 use Rattle.std.specs.Str.{bytes_eq}
 use Rattle.std.proofs.Math.Seq.{take-append-add}
 use Rattle.std.proofs.lemmas.Slice.Eq.{bytes_eq-Decides}
-use Rattle.edit_laws.proofs.OneRuns.{one_run_of_script}
-use Rattle.rhythm_base.specs.Grammar.{Grammar}
 use Rattle.rhythm_base.specs.Lists.{last_of}
-use Rattle.rhythm_base.specs.Performance.{IsWellFormed, Performance}
-use Rattle.rhythm_base.specs.Readable.{IsReadable}
 use Rattle.rhythm_base.specs.Script.{Run}
 use Rattle.rhythm_base.specs.ScriptLines.{Are, Is, between_newlines, open_line, script_lines, script_words}
-use Rattle.script_run.specs.Answers.{Editing, IsScore, Quits, begun_on}
+use Rattle.script_run.specs.Answers.{Quits}
+use Rattle.script_run.specs.Desk.{Desk, IsSound}
+use Rattle.script_run.specs.Editing.{Editing, begun_on}
 use Rattle.script_run.specs.Bytes.{begun_line, whole_lines}
 use Rattle.script_run.specs.Laws.{BeginsWith, EndsAmply, IsAmpleAnswer}
 use Rattle.script_run.specs.Machine.{AreAnswered, EndsLine, IsCut, IsOverLimit, IsQuit, IsReadOut}
@@ -20,8 +18,8 @@ use Rattle.script_run.specs.declared.script_stop.ScriptStop.{ScriptStop}
 use Rattle.script_run.specs.declared.script_stop.ScriptStop.TheVariants as stop
 use Rattle.script_run.proofs.Hearings.{decided}
 use Rattle.script_run.proofs.Newlines.{goes_on, lines_are, lines_split, newline_more}
-use Rattle.script_run.proofs.OneOutputs.{AmpleRun, consumed, on_performances}
-use Rattle.script_run.proofs.OneScores.{one_score}
+use Rattle.script_run.proofs.OneDesks.{AmpleRun, on_desks, one_desk_run}
+use Rattle.script_run.proofs.OneOutputs.{consumed}
 use Rattle.script_run.proofs.Runs.{run_append, run_end, run_one}
 
 -- ---- lists that begin alike
@@ -102,21 +100,21 @@ quits_or_not line = go (script_words line)
 
 -- ---- what out took
 
-record HasBegun (g : Grammar) (p : Performance) (script written out : List ℕ) : Type 0 where
+record HasBegun (desk : Desk) (script written out : List ℕ) : Type 0 where
   lines : List (List ℕ)
   later : List (List ℕ)
   first : script_lines script ≡ lines ++ later
   replies : List ℕ
-  last : Performance
-  run : AmpleRun g p lines replies last
+  last : Desk
+  run : AmpleRun desk lines replies last
   text : List ℕ
   lost : List ℕ
   part : replies ≡ text ++ lost
   took : out ≡ written ++ text
 
-module _ (g : Grammar) (p : Performance) (script written : List ℕ) (rest : Option (List ℕ)) (out : List ℕ) (last : Editing) where
-  whole_begun : (bytes replies left : List ℕ) → script ≡ bytes ++ left → AreAnswered (IsAmpleAnswer g) Quits (begun_on p) bytes replies last → out ≡ written ++ replies
-      → HasBegun g p script written out
+module _ (desk : Desk) (script written : List ℕ) (rest : Option (List ℕ)) (out : List ℕ) (last : Editing) where
+  whole_begun : (bytes replies left : List ℕ) → script ≡ bytes ++ left → AreAnswered IsAmpleAnswer Quits (begun_on desk) bytes replies last → out ≡ written ++ replies
+      → HasBegun desk script written out
   whole_begun bytes replies left are answered took =
       let front = whole_front script bytes left are in
       record {
@@ -124,8 +122,8 @@ module _ (g : Grammar) (p : Performance) (script written : List ℕ) (rest : Opt
         later = front.0;
         first = front.1;
         replies = replies;
-        last = last.performance;
-        run = on_performances g (begun_on p) last (whole_lines bytes) replies answered.answers;
+        last = last.desk;
+        run = on_desks (begun_on desk) last (whole_lines bytes) replies answered.answers;
         text = replies;
         lost = [];
         part = sym (append-nil replies);
@@ -134,27 +132,27 @@ module _ (g : Grammar) (p : Performance) (script written : List ℕ) (rest : Opt
 
   -- and of the reply to the next line a first part
   next_begun : (bytes before reply : List ℕ) (sent : ℕ) (state : Editing) → (tail : List (List ℕ)) × (script_lines script ≡ next_lines bytes ++ tail)
-      → AreAnswered (IsAmpleAnswer g) Quits (begun_on p) bytes before state → IsAmpleAnswer g state (begun_line bytes) reply last → out ≡ written ++ (before ++ take sent reply)
-      → HasBegun g p script written out
+      → AreAnswered IsAmpleAnswer Quits (begun_on desk) bytes before state → IsAmpleAnswer state (begun_line bytes) reply last → out ≡ written ++ (before ++ take sent reply)
+      → HasBegun desk script written out
   next_begun bytes before reply sent state front answered answer took = record {
     lines = next_lines bytes;
     later = front.0;
     first = front.1;
     replies = before ++ reply;
-    last = last.performance;
-    run = on_performances g (begun_on p) last (next_lines bytes) (before ++ reply)
-        (run_append (IsAmpleAnswer g) Quits (begun_on p) state last (whole_lines bytes) (begun_line bytes ∷ []) before reply answered.unended answered.answers (one_line (quits_or_not (begun_line bytes))));
+    last = last.desk;
+    run = on_desks (begun_on desk) last (next_lines bytes) (before ++ reply)
+        (run_append IsAmpleAnswer Quits (begun_on desk) state last (whole_lines bytes) (begun_line bytes ∷ []) before reply answered.unended answered.answers (one_line (quits_or_not (begun_line bytes))));
     text = before ++ take sent reply;
     lost = drop sent reply;
     part = ap (λ l. before ++ l) (sym (take-append-drop sent reply)) ∙ sym (append_assoc before (take sent reply) (drop sent reply));
     took = took;
   }
     where
-      one_line : Quits (begun_line bytes) ⊎ (Quits (begun_line bytes) → ⊥) → Run (IsAmpleAnswer g) Quits state (begun_line bytes ∷ []) reply last
-      one_line (inl quits) = run_end (IsAmpleAnswer g) Quits state last (begun_line bytes) reply answer quits
-      one_line (inr goes) = run_one (IsAmpleAnswer g) Quits state last (begun_line bytes) reply answer goes
+      one_line : Quits (begun_line bytes) ⊎ (Quits (begun_line bytes) → ⊥) → Run IsAmpleAnswer Quits state (begun_line bytes ∷ []) reply last
+      one_line (inl quits) = run_end IsAmpleAnswer Quits state last (begun_line bytes) reply answer quits
+      one_line (inr goes) = run_one IsAmpleAnswer Quits state last (begun_line bytes) reply answer goes
 
-  read_out_begun : IsReadOut (IsAmpleAnswer g) Quits (begun_on p) (Some script) rest (Some written) (Some out) last → HasBegun g p script written out
+  read_out_begun : IsReadOut IsAmpleAnswer Quits (begun_on desk) (Some script) rest (Some written) (Some out) last → HasBegun desk script written out
   read_out_begun r =
       let read = consumed script r.bytes rest r.read in
       let none : read.0 ≡ [] = subst IsAtEnd read.1 r.end in
@@ -164,15 +162,15 @@ module _ (g : Grammar) (p : Performance) (script written : List ℕ) (rest : Opt
         later = [];
         first = ap script_lines same ∙ sym (append-nil (script_lines r.bytes));
         replies = r.replies;
-        last = last.performance;
-        run = on_performances g (begun_on p) last (script_lines r.bytes) r.replies r.answers;
+        last = last.desk;
+        run = on_desks (begun_on desk) last (script_lines r.bytes) r.replies r.answers;
         text = r.replies;
         lost = [];
         part = sym (append-nil r.replies);
         took = r.written;
       }
 
-  quit_begun : IsQuit (IsAmpleAnswer g) Quits (begun_on p) (Some script) rest (Some written) (Some out) last → HasBegun g p script written out
+  quit_begun : IsQuit IsAmpleAnswer Quits (begun_on desk) (Some script) rest (Some written) (Some out) last → HasBegun desk script written out
   quit_begun q =
       let read = consumed script (q.bytes ++ 10 ∷ q.more) rest q.read in
       let are : script ≡ q.bytes ++ 10 ∷ (q.more ++ read.0) = read.2 ∙ append_assoc q.bytes (10 ∷ q.more) read.0 in
@@ -183,7 +181,7 @@ module _ (g : Grammar) (p : Performance) (script written : List ℕ) (rest : Opt
       take_whole [] = refl
       take_whole (x ∷ xs) = ap (λ l. x ∷ l) (take_whole xs)
 
-  cut_begun : IsCut (IsAmpleAnswer g) Quits (begun_on p) (Some script) rest (Some written) (Some out) last → HasBegun g p script written out
+  cut_begun : IsCut IsAmpleAnswer Quits (begun_on desk) (Some script) rest (Some written) (Some out) last → HasBegun desk script written out
   cut_begun c =
       let read = consumed script (c.bytes ++ c.more) rest c.read in
       next_begun c.bytes c.before c.reply c.sent c.state (front c.more c.ends read.0 read.1 read.2) c.answered c.answer c.written
@@ -196,12 +194,12 @@ module _ (g : Grammar) (p : Performance) (script written : List ℕ) (rest : Opt
       front (byte ∷ more) (newline, few, room) left is are =
           newline_front script c.bytes (more ++ left) (are ∙ append_assoc c.bytes (byte ∷ more) left ∙ ap (λ b. c.bytes ++ b ∷ (more ++ left)) newline)
 
-  over_begun : (IsOver : List ℕ → ℕ → Type 0) → IsOverLimit (IsAmpleAnswer g) Quits (begun_on p) (Some script) rest (Some written) (Some out) last IsOver → HasBegun g p script written out
+  over_begun : (IsOver : List ℕ → ℕ → Type 0) → IsOverLimit IsAmpleAnswer Quits (begun_on desk) (Some script) rest (Some written) (Some out) last IsOver → HasBegun desk script written out
   over_begun IsOver o =
       let read = consumed script (o.bytes ++ o.byte ∷ o.more) rest o.read in
       whole_begun o.bytes o.replies ((o.byte ∷ o.more) ++ read.0) (read.2 ∙ append_assoc o.bytes (o.byte ∷ o.more) read.0) o.answered o.written
 
-  has_begun : (end : Result (Unit {0}) ScriptStop) → EndsAmply end g p (Some script) rest (Some written) (Some out) last → HasBegun g p script written out
+  has_begun : (end : Result (Unit {0}) ScriptStop) → EndsAmply end desk (Some script) rest (Some written) (Some out) last → HasBegun desk script written out
   has_begun (Ok done) (inl r) = read_out_begun r
   has_begun (Ok done) (inr q) = quit_begun q
   has_begun (Err stop.Read) b = let read = consumed script b.bytes rest b.read in whole_begun b.bytes b.replies read.0 read.2 b.answered b.written
@@ -213,7 +211,7 @@ module _ (g : Grammar) (p : Performance) (script written : List ℕ) (rest : Opt
     later = script_lines script;
     first = refl;
     replies = [];
-    last = p;
+    last = desk;
     run = (refl, refl);
     text = [];
     lost = [];
@@ -222,12 +220,12 @@ module _ (g : Grammar) (p : Performance) (script written : List ℕ) (rest : Opt
   }
 
 -- of two beginnings one begins with the other
-longer_begins : (g : Grammar) (p : Performance) (script written out out' : List ℕ) → IsReadable g → IsWellFormed p → (b : HasBegun g p script written out) (b' : HasBegun g p script written out')
+longer_begins : (desk : Desk) (script written out out' : List ℕ) → IsSound desk → (b : HasBegun desk script written out) (b' : HasBegun desk script written out')
     → (more : List (List ℕ)) → b'.lines ≡ b.lines ++ more → BeginsWith out out' ⊎ BeginsWith out' out
-longer_begins g p script written out out' readable formed b b' more longer =
-    let run = subst (λ (l : List (List ℕ)). AmpleRun g p l b'.replies b'.last) longer b'.run in
-    let front = run_front _ Quits p b'.last b.lines more b'.replies run in
-    let one = (one_run_of_script g (IsScore g) readable.ranges.some_unit (one_score g readable)).one p b.last front.0 b.lines b.replies front.1 formed b.run front.3 in
+longer_begins desk script written out out' sound b b' more longer =
+    let run = subst (λ (l : List (List ℕ)). AmpleRun desk l b'.replies b'.last) longer b'.run in
+    let front = run_front _ Quits desk b'.last b.lines more b'.replies run in
+    let one = one_desk_run desk b.last front.0 b.lines b.replies front.1 sound b.run front.3 in
     let all : b.text ++ (b.lost ++ front.2) ≡ b'.text ++ b'.lost =
     sym (append_assoc b.text b.lost front.2) ∙ ap (λ l. l ++ front.2) (sym b.part ∙ one.0) ∙ sym front.4 ∙ b'.part in
     elim (either_longer b.text (b.lost ++ front.2) b'.text b'.lost all) [
@@ -239,13 +237,13 @@ other_way : {P Q : Type 0} → P ⊎ Q → Q ⊎ P
 other_way (inl p) = inr p
 other_way (inr q) = inl q
 
-pub one_beginning : (g : Grammar) (p : Performance) (script written out out' : List ℕ) (end end' : Result (Unit {0}) ScriptStop) (rest rest' : Option (List ℕ)) (last last' : Editing)
-    → IsReadable g → IsWellFormed p → EndsAmply end g p (Some script) rest (Some written) (Some out) last → EndsAmply end' g p (Some script) rest' (Some written) (Some out') last'
+pub one_beginning : (desk : Desk) (script written out out' : List ℕ) (end end' : Result (Unit {0}) ScriptStop) (rest rest' : Option (List ℕ)) (last last' : Editing)
+    → IsSound desk → EndsAmply end desk (Some script) rest (Some written) (Some out) last → EndsAmply end' desk (Some script) rest' (Some written) (Some out') last'
     → BeginsWith out out' ⊎ BeginsWith out' out
-one_beginning g p script written out out' end end' rest rest' last last' readable formed ends ends' =
-    let b = has_begun g p script written rest out last end ends in
-    let b' = has_begun g p script written rest' out' last' end' ends' in
+one_beginning desk script written out out' end end' rest rest' last last' sound ends ends' =
+    let b = has_begun desk script written rest out last end ends in
+    let b' = has_begun desk script written rest' out' last' end' ends' in
     elim (either_longer b.lines b.later b'.lines b'.later (sym b.first ∙ b'.first)) [
-      | inl longer ↦ longer_begins g p script written out out' readable formed b b' longer.0 longer.1
-      | inr longer ↦ other_way (longer_begins g p script written out' out readable formed b' b longer.0 longer.1)
+      | inl longer ↦ longer_begins desk script written out out' sound b b' longer.0 longer.1
+      | inr longer ↦ other_way (longer_begins desk script written out' out sound b' b longer.0 longer.1)
     ]

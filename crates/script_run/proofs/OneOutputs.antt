@@ -5,22 +5,18 @@ use Rattle.std.specs.Io.KnownBytes.{Appends, Consumes, IsAtEnd}
 use Rattle.std.proofs.Math.Seq.{get_or-append_seam, take-append-add}
 use Rattle.std.proofs.lemmas.Bool.{cases_order}
 use Rattle.std.proofs.lemmas.Bool.Decides.{nat_tests}
-use Rattle.edit_laws.proofs.OneRuns.{one_run_of_script}
-use Rattle.edit_laws.specs.Laws.{AmpleStep}
-use Rattle.rhythm_base.specs.Grammar.{Grammar}
-use Rattle.rhythm_base.specs.Performance.{IsWellFormed, Performance}
-use Rattle.rhythm_base.specs.Readable.{IsReadable}
-use Rattle.rhythm_base.specs.Script.{Run}
 use Rattle.rhythm_base.specs.ScriptLines.{between_newlines, script_lines}
 use Rattle.rhythm_base.specs.declared.limits.TheConstants.{LONGEST_SCRIPT, LONGEST_SCRIPT_LINE}
-use Rattle.script_run.specs.Answers.{Editing, IsScore, Quits, begun_on}
+use Rattle.script_run.specs.Answers.{Quits}
+use Rattle.script_run.specs.Desk.{Desk, IsSound}
+use Rattle.script_run.specs.Editing.{Editing, begun_on}
 use Rattle.script_run.specs.Bytes.{IsWithinLimits, begun_line, whole_lines}
 use Rattle.script_run.specs.Laws.{EndsAmply, IsAmpleAnswer, IsByBytes}
 use Rattle.script_run.specs.Machine.{IsOverLimit, IsOverLine, IsOverScript, IsQuit, IsReadOut}
 use Rattle.script_run.specs.declared.script_stop.ScriptStop.{ScriptStop}
 use Rattle.script_run.specs.declared.script_stop.ScriptStop.TheVariants as stop
 use Rattle.script_run.proofs.Newlines.{goes_on, lines_split, newline_more, byte_more}
-use Rattle.script_run.proofs.OneScores.{one_score}
+use Rattle.script_run.proofs.OneDesks.{AmpleRun, on_desks, one_desk_run}
 use Rattle.script_run.proofs.Runs.{run_append, run_end}
 
 -- ---- how the bytes end
@@ -180,15 +176,12 @@ result_of at_quit = Ok tt
 result_of over_script = Err (stop.TooLong (LONGEST_SCRIPT + 1))
 result_of over_line = Err (stop.LineTooLong (LONGEST_SCRIPT_LINE + 1))
 
-abbrev pub AmpleRun : Grammar → Performance → List (List ℕ) → List ℕ → Performance → Type 0
-AmpleRun g p lines replies last = Run (AmpleStep (IsScore g) g) Quits p lines replies last
-
-record IsDecided (g : Grammar) (p : Performance) (script written : List ℕ) (result : Result (Unit {0}) ScriptStop) (out : Option (List ℕ)) (last : Performance) : Type 0 where
+record IsDecided (desk : Desk) (script written : List ℕ) (result : Result (Unit {0}) ScriptStop) (out : Option (List ℕ)) (last : Desk) : Type 0 where
   end : End
   bytes : List ℕ
   at : EndsAt script end bytes
   replies : List ℕ
-  run : AmpleRun g p (lines_to end bytes) replies last
+  run : AmpleRun desk (lines_to end bytes) replies last
   took : out ≡ Some (written ++ replies)
   is : result ≡ result_of end
 
@@ -200,17 +193,8 @@ appended : (written replies : List ℕ) (out : Option (List ℕ)) → Appends (S
 appended written replies None took = absurd took
 appended written replies (Some all) took = ap (λ (l : List ℕ). Some l) took
 
--- what the replies do to the performance alone
-pub on_performances : (g : Grammar) (s last : Editing) (lines : List (List ℕ)) (replies : List ℕ) → Run (IsAmpleAnswer g) Quits s lines replies last
-    → AmpleRun g s.performance lines replies last.performance
-on_performances g s last [] replies (quiet, stays) = (quiet, ap (λ (e : Editing). e.performance) stays)
-on_performances g s last (line ∷ lines) replies (reply, next, ((n, answer, count), some), inl (ends, all, stays)) =
-    (reply, next.performance, (answer.step, some), inl (ends, all, ap (λ (e : Editing). e.performance) stays))
-on_performances g s last (line ∷ lines) replies (reply, next, ((n, answer, count), some), inr (goes, (more, run, all))) =
-    (reply, next.performance, (answer.step, some), inr (goes, (more, on_performances g next last lines more run, all)))
-
-module _ (g : Grammar) (p : Performance) (script written : List ℕ) (rest out : Option (List ℕ)) (last : Editing) where
-  read_out : IsReadOut (IsAmpleAnswer g) Quits (begun_on p) (Some script) rest (Some written) out last → IsDecided g p script written (Ok tt) out last.performance
+module _ (desk : Desk) (script written : List ℕ) (rest out : Option (List ℕ)) (last : Editing) where
+  read_out : IsReadOut IsAmpleAnswer Quits (begun_on desk) (Some script) rest (Some written) out last → IsDecided desk script written (Ok tt) out last.desk
   read_out r =
       let read = consumed script r.bytes rest r.read in
       record {
@@ -218,16 +202,16 @@ module _ (g : Grammar) (p : Performance) (script written : List ℕ) (rest out :
         bytes = r.bytes;
         at = record { rest = read.0; are = read.2; stops = subst IsAtEnd read.1 r.end; further = record { within = r.within; unended = r.unended } };
         replies = r.replies;
-        run = on_performances g (begun_on p) last (script_lines r.bytes) r.replies r.answers;
+        run = on_desks (begun_on desk) last (script_lines r.bytes) r.replies r.answers;
         took = appended written r.replies out r.written;
         is = refl;
       }
 
-  quit : IsQuit (IsAmpleAnswer g) Quits (begun_on p) (Some script) rest (Some written) out last → IsDecided g p script written (Ok tt) out last.performance
+  quit : IsQuit IsAmpleAnswer Quits (begun_on desk) (Some script) rest (Some written) out last → IsDecided desk script written (Ok tt) out last.desk
   quit q =
       let read = consumed script (q.bytes ++ 10 ∷ q.more) rest q.read in
-      let all = run_append (IsAmpleAnswer g) Quits (begun_on p) q.state last (whole_lines q.bytes) (begun_line q.bytes ∷ []) q.before q.reply q.answered.unended q.answered.answers
-      (run_end (IsAmpleAnswer g) Quits q.state last (begun_line q.bytes) q.reply q.answer q.quits) in
+      let all = run_append IsAmpleAnswer Quits (begun_on desk) q.state last (whole_lines q.bytes) (begun_line q.bytes ∷ []) q.before q.reply q.answered.unended q.answered.answers
+      (run_end IsAmpleAnswer Quits q.state last (begun_line q.bytes) q.reply q.answer q.quits) in
       record {
         end = at_quit;
         bytes = q.bytes;
@@ -238,13 +222,13 @@ module _ (g : Grammar) (p : Performance) (script written : List ℕ) (rest out :
           further = record { within = q.answered.within; unended = q.answered.unended };
         };
         replies = q.before ++ q.reply;
-        run = on_performances g (begun_on p) last (whole_lines q.bytes ++ begun_line q.bytes ∷ []) (q.before ++ q.reply) all;
+        run = on_desks (begun_on desk) last (whole_lines q.bytes ++ begun_line q.bytes ∷ []) (q.before ++ q.reply) all;
         took = appended written (q.before ++ q.reply) out q.written;
         is = refl;
       }
 
-  too_long : (read : ℕ) → read ≡ LONGEST_SCRIPT + 1 → IsOverLimit (IsAmpleAnswer g) Quits (begun_on p) (Some script) rest (Some written) out last IsOverScript
-      → IsDecided g p script written (Err (stop.TooLong read)) out last.performance
+  too_long : (read : ℕ) → read ≡ LONGEST_SCRIPT + 1 → IsOverLimit IsAmpleAnswer Quits (begun_on desk) (Some script) rest (Some written) out last IsOverScript
+      → IsDecided desk script written (Err (stop.TooLong read)) out last.desk
   too_long read count o =
       let left = consumed script (o.bytes ++ o.byte ∷ o.more) rest o.read in
       record {
@@ -257,13 +241,13 @@ module _ (g : Grammar) (p : Performance) (script written : List ℕ) (rest out :
           further = record { within = o.answered.within; unended = o.answered.unended };
         };
         replies = o.replies;
-        run = on_performances g (begun_on p) last (whole_lines o.bytes) o.replies o.answered.answers;
+        run = on_desks (begun_on desk) last (whole_lines o.bytes) o.replies o.answered.answers;
         took = appended written o.replies out o.written;
         is = ap (λ (n : ℕ). Err (stop.TooLong n)) count;
       }
 
-  line_too_long : (read : ℕ) → read ≡ LONGEST_SCRIPT_LINE + 1 → IsOverLimit (IsAmpleAnswer g) Quits (begun_on p) (Some script) rest (Some written) out last IsOverLine
-      → IsDecided g p script written (Err (stop.LineTooLong read)) out last.performance
+  line_too_long : (read : ℕ) → read ≡ LONGEST_SCRIPT_LINE + 1 → IsOverLimit IsAmpleAnswer Quits (begun_on desk) (Some script) rest (Some written) out last IsOverLine
+      → IsDecided desk script written (Err (stop.LineTooLong read)) out last.desk
   line_too_long read count o =
       let left = consumed script (o.bytes ++ o.byte ∷ o.more) rest o.read in
       record {
@@ -276,13 +260,13 @@ module _ (g : Grammar) (p : Performance) (script written : List ℕ) (rest out :
           further = record { within = o.answered.within; unended = o.answered.unended };
         };
         replies = o.replies;
-        run = on_performances g (begun_on p) last (whole_lines o.bytes) o.replies o.answered.answers;
+        run = on_desks (begun_on desk) last (whole_lines o.bytes) o.replies o.answered.answers;
         took = appended written o.replies out o.written;
         is = ap (λ (n : ℕ). Err (stop.LineTooLong n)) count;
       }
 
-  decided : (result : Result (Unit {0}) ScriptStop) → IsByBytes result → EndsAmply result g p (Some script) rest (Some written) out last
-      → IsDecided g p script written result out last.performance
+  decided : (result : Result (Unit {0}) ScriptStop) → IsByBytes result → EndsAmply result desk (Some script) rest (Some written) out last
+      → IsDecided desk script written result out last.desk
   decided (Ok done) by (inl r) = read_out r
   decided (Ok done) by (inr q) = quit q
   decided (Err stop.Read) by ends = absurd (by.0 refl)
@@ -291,15 +275,15 @@ module _ (g : Grammar) (p : Performance) (script written : List ℕ) (rest out :
   decided (Err stop.Write) by ends = absurd (by.1 refl)
   decided (Err stop.Memory) by ends = absurd (by.2 refl)
 
-pub one_output : (g : Grammar) (p : Performance) (script written : List ℕ) (end end' : Result (Unit {0}) ScriptStop) (rest rest' out out' : Option (List ℕ)) (last last' : Editing)
-    → IsReadable g → IsWellFormed p → IsByBytes end → IsByBytes end' → EndsAmply end g p (Some script) rest (Some written) out last
-    → EndsAmply end' g p (Some script) rest' (Some written) out' last' → (end ≡ end') × (out ≡ out') × (last.performance ≡ last'.performance)
-one_output g p script written end end' rest rest' out out' last last' readable formed by by' ends ends' =
-    let d = decided g p script written rest out last end by ends in
-    let d' = decided g p script written rest' out' last' end' by' ends' in
+pub one_output : (desk : Desk) (script written : List ℕ) (end end' : Result (Unit {0}) ScriptStop) (rest rest' out out' : Option (List ℕ)) (last last' : Editing)
+    → IsSound desk → IsByBytes end → IsByBytes end' → EndsAmply end desk (Some script) rest (Some written) out last
+    → EndsAmply end' desk (Some script) rest' (Some written) out' last' → (end ≡ end') × (out ≡ out') × (last.desk ≡ last'.desk)
+one_output desk script written end end' rest rest' out out' last last' sound by by' ends ends' =
+    let d = decided desk script written rest out last end by ends in
+    let d' = decided desk script written rest' out' last' end' by' ends' in
     let place = one_place script d.end d'.end d.bytes d'.bytes d.at d'.at in
-    let other : AmpleRun g p (lines_to d.end d.bytes) d'.replies last'.performance =
-    subst (λ (e : End). AmpleRun g p (lines_to e d.bytes) d'.replies last'.performance) (sym place.0)
-    (subst (λ (b : List ℕ). AmpleRun g p (lines_to d'.end b) d'.replies last'.performance) (sym place.1) d'.run) in
-    let one = (one_run_of_script g (IsScore g) readable.ranges.some_unit (one_score g readable)).one p last.performance last'.performance (lines_to d.end d.bytes) d.replies d'.replies formed d.run other in
+    let other : AmpleRun desk (lines_to d.end d.bytes) d'.replies last'.desk =
+    subst (λ (e : End). AmpleRun desk (lines_to e d.bytes) d'.replies last'.desk) (sym place.0)
+    (subst (λ (b : List ℕ). AmpleRun desk (lines_to d'.end b) d'.replies last'.desk) (sym place.1) d'.run) in
+    let one = one_desk_run desk last.desk last'.desk (lines_to d.end d.bytes) d.replies d'.replies sound d.run other in
     (d.is ∙ ap result_of place.0 ∙ sym d'.is, d.took ∙ ap (λ (l : List ℕ). Some (written ++ l)) one.0 ∙ sym d'.took, one.1)

@@ -77,7 +77,7 @@ module _ (g : Grammar) (p : Performance) where
 
   -- ---- builds
 
-  change_builds : (line : List ℕ) (edit : Edit) (reply : List ℕ) (n : ℕ) → SaysCommand line (Change edit) → IsBuiltForEdit g p edit reply n
+  pub change_builds : (line : List ℕ) (edit : Edit) (reply : List ℕ) (n : ℕ) → SaysCommand line (Change edit) → IsBuiltForEdit g p edit reply n
       → IsBuiltFor g p line reply n
   change_builds line edit reply n says h = record {
     edit = λ other is.
@@ -88,7 +88,7 @@ module _ (g : Grammar) (p : Performance) where
   }
 
   -- a line that says another command, or none
-  other_builds : (line : List ℕ) (command : Command) (reply : List ℕ) → SaysCommand line command → ((edit : Edit) → command ≢ Change edit)
+  pub other_builds : (line : List ℕ) (command : Command) (reply : List ℕ) → SaysCommand line command → ((edit : Edit) → command ≢ Change edit)
       → IsBuiltFor g p line reply 0
   other_builds line command reply says other = record {
     edit = λ edit is. absurd (other edit (one_command line command (Change edit) says is));
@@ -96,7 +96,7 @@ module _ (g : Grammar) (p : Performance) where
   }
 
   -- what became of an edit
-  abbrev EditReplies : Reply → Result Applied EditFault → Type 0
+  abbrev pub EditReplies : Reply → Result Applied EditFault → Type 0
   EditReplies reply outcome = MatchResult outcome (λ a. reply ≡ replies.Done a.built a.cost) (λ fault. reply ≡ replies.Refused (refusals.Edit fault))
 
   pub edit_answers : (edit : Edit) (outcome : Result Applied EditFault) (reply : Reply) (next : Performance) → EditReplies reply outcome

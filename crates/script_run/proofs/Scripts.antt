@@ -6,10 +6,10 @@ use Rattle.std.proofs.KnownBytes.{Consumes-kept, Consumes-trans}
 use Rattle.std.proofs.lemmas.List.{length-take}
 use Rattle.rhythm_base.specs.Counter.{risen}
 use Rattle.rhythm_ports.specs.Causes.{Rose}
-use Rattle.rhythm_base.specs.Grammar.{Grammar}
-use Rattle.rhythm_base.specs.Performance.{Performance}
 use Rattle.rhythm_base.specs.declared.limits.TheConstants.{LONGEST_SCRIPT}
-use Rattle.script_run.specs.Answers.{Editing, IsAnswer, Quits, begun_on}
+use Rattle.script_run.specs.Answers.{Quits}
+use Rattle.script_run.specs.Desk.{Desk}
+use Rattle.script_run.specs.Editing.{Editing, IsAnswer, begun_on}
 use Rattle.script_run.specs.Ends.{IsDone, IsStopped}
 use Rattle.script_run.specs.Machine.{IsBroken}
 use Rattle.script_run.specs.Hearing.{Closes, Heard, HearsAll, HearsUpTo, QuitsThere, Replies, StopsThere, Took}
@@ -23,13 +23,13 @@ use Rattle.script_run.proofs.Hearings.{read_after, risen_more}
 abbrev pub Ends : (Editing → Type 0) → ℕ → ℕ → Type 0
 Ends P old new = (last : Editing) × P last × (new ≡ risen old last.built)
 
-module _ (g : Grammar) (p : Performance) (start h : Heard) (is : start ≡ hearing_start g p) (bytes replies : List ℕ) (n : ℕ) (heard : HearsAll start bytes replies n h)
+module _ (opening : Desk) (start h : Heard) (is : start ≡ hearing_start opening) (bytes replies : List ℕ) (n : ℕ) (heard : HearsAll start bytes replies n h)
     (a b taken mid : Option (List ℕ)) (old built : ℕ) (read : Consumes a b bytes) (took : Took taken mid old built replies n) where
-  now : IsAt g p bytes replies n h
+  now : IsAt opening bytes replies n h
   now =
-      let from : HearsAll (hearing_start g p) bytes replies n h = subst (λ (x : Heard). HearsAll x bytes replies n h) is heard in
-      let all : IsAt g p bytes replies (0 + n) h = at_all g p [] [] 0 (hearing_start g p) bytes replies n h (at_start g p) from in
-      subst (λ (m : ℕ). IsAt g p bytes replies m h) (omega arith) all
+      let from : HearsAll (hearing_start opening) bytes replies n h = subst (λ (x : Heard). HearsAll x bytes replies n h) is heard in
+      let all : IsAt opening bytes replies (0 + n) h = at_all opening [] [] 0 (hearing_start opening) bytes replies n h (at_start opening) from in
+      subst (λ (m : ℕ). IsAt opening bytes replies m h) (omega arith) all
 
   counted : (k new : ℕ) → new ≡ risen built k → new ≡ risen old (n + k)
   counted k new e = e ∙ ap (λ m. risen m k) took.1 ∙ risen_more old n k
@@ -40,58 +40,58 @@ module _ (g : Grammar) (p : Performance) (start h : Heard) (is : start ≡ heari
       subst (Consumes a d) (append-nil bytes) (Consumes-trans a b d bytes [] read last)
 
   -- the script is at its end
-  pub done_at_end : (reply : List ℕ) (k : ℕ) (next : Performance) (d taken' : Option (List ℕ)) (new count : ℕ) (buffer : List ℕ) → Closes h reply k next → count ≡ 0
-      → Consumes b d (take count buffer) → IsAtEnd d → Took mid taken' built new reply k → Ends (λ last. IsDone g p a d taken taken' last) old new
+  pub done_at_end : (reply : List ℕ) (k : ℕ) (next : Desk) (d taken' : Option (List ℕ)) (new count : ℕ) (buffer : List ℕ) → Closes h reply k next → count ≡ 0
+      → Consumes b d (take count buffer) → IsAtEnd d → Took mid taken' built new reply k → Ends (λ last. IsDone opening a d taken taken' last) old new
   done_at_end reply k next d taken' new count buffer closes none more end (after, rises) = (
     edited_to next (n + k),
-    inl (read_out g p bytes replies n h reply k next a d taken mid taken' now closes (nothing_more d buffer count none more) end took.0 after),
+    inl (read_out opening bytes replies n h reply k next a d taken mid taken' now closes (nothing_more d buffer count none more) end took.0 after),
     counted k new rises,
   )
 
-  pub cut_at_the_end : (reply : List ℕ) (k sent : ℕ) (next : Performance) (d taken' : Option (List ℕ)) (new count : ℕ) (buffer : List ℕ) → h.begun ≢ [] → Replies h reply k next
+  pub cut_at_the_end : (reply : List ℕ) (k sent : ℕ) (next : Desk) (d taken' : Option (List ℕ)) (new count : ℕ) (buffer : List ℕ) → h.begun ≢ [] → Replies h reply k next
       → sent < length reply → count ≡ 0 → Consumes b d (take count buffer) → IsAtEnd d → Took mid taken' built new (take sent reply) k
-      → Ends (λ last. IsStopped stop.Write g p a d taken taken' last) old new
+      → Ends (λ last. IsStopped stop.Write opening a d taken taken' last) old new
   cut_at_the_end reply k sent next d taken' new count buffer some said part none more end (after, rises) = (
     edited_to next (n + k),
-    cut_at_end g p bytes replies n h reply k sent next a d taken mid taken' now some said part (nothing_more d buffer count none more) end took.0 after,
+    cut_at_end opening bytes replies n h reply k sent next a d taken mid taken' now some said part (nothing_more d buffer count none more) end took.0 after,
     counted k new rises,
   )
 
-  broken : Ends (λ last. IsBroken (IsAnswer g) Quits (begun_on p) a b taken mid last) old built
-  broken = (edited_to h.performance n, broken_at g p bytes replies n h a b taken mid now read took.0, took.1)
+  broken : Ends (λ last. IsBroken IsAnswer Quits (begun_on opening) a b taken mid last) old built
+  broken = (edited_to h.desk n, broken_at opening bytes replies n h a b taken mid now read took.0, took.1)
 
   -- a read fails
-  pub broken_off : (d : Option (List ℕ)) → Keeps b d → Ends (λ last. IsBroken (IsAnswer g) Quits (begun_on p) a d taken mid last) old built
+  pub broken_off : (d : Option (List ℕ)) → Keeps b d → Ends (λ last. IsBroken IsAnswer Quits (begun_on opening) a d taken mid last) old built
   broken_off d kept =
-      (edited_to h.performance n, broken_at g p bytes replies n h a d taken mid now (Consumes-kept a b d bytes read kept) took.0, took.1)
+      (edited_to h.desk n, broken_at opening bytes replies n h a d taken mid now (Consumes-kept a b d bytes read kept) took.0, took.1)
 
   -- the line that was begun is answered at the end
   pub closed : (d : Option (List ℕ)) (count : ℕ) (buffer : List ℕ) → count ≡ 0 → Consumes b d (take count buffer) → IsAtEnd d → {E : Type 0} (r : Result (Unit {0}) E)
-      (taken' : Option (List ℕ)) (new : ℕ) (next : Performance) → OnOk r ((reply : List ℕ) × (k : ℕ) × Closes h reply k next × Took mid taken' built new reply k)
-      → OnOk r (Ends (λ last. IsDone g p a d taken taken' last) old new)
+      (taken' : Option (List ℕ)) (new : ℕ) (next : Desk) → OnOk r ((reply : List ℕ) × (k : ℕ) × Closes h reply k next × Took mid taken' built new reply k)
+      → OnOk r (Ends (λ last. IsDone opening a d taken taken' last) old new)
   closed d count buffer none more end (Ok x) taken' new next (reply, k, closes, took') = done_at_end reply k next d taken' new count buffer closes none more end took'
   closed d count buffer none more end (Err e) taken' new next h = tt
 
   pub write_closed : (d : Option (List ℕ)) (count : ℕ) (buffer : List ℕ) → count ≡ 0 → Consumes b d (take count buffer) → IsAtEnd d → (r : Result (Unit {0}) ScriptStop)
-      (taken' : Option (List ℕ)) (new : ℕ) (next : Performance) (R : Type 0)
+      (taken' : Option (List ℕ)) (new : ℕ) (next : Desk) (R : Type 0)
       → IfErr r (λ end. (end ≡ stop.Write) × R × ((reply : List ℕ) × (k sent : ℕ) × (h.begun ≢ []) × Replies h reply k next × (sent < length reply) × Took mid taken' built new (take sent reply) k))
-      → IfErr r (λ end. Ends (λ last. IsStopped end g p a d taken taken' last) old new)
+      → IfErr r (λ end. Ends (λ last. IsStopped end opening a d taken taken' last) old new)
   write_closed d count buffer none more end (Ok x) taken' new next R h = tt
   write_closed d count buffer none more end (Err s) taken' new next R (is, rose, (reply, k, sent, some, said, part, took')) =
-      subst (λ (x : ScriptStop). Ends (λ last. IsStopped x g p a d taken taken' last) old new) (sym is)
+      subst (λ (x : ScriptStop). Ends (λ last. IsStopped x opening a d taken taken' last) old new) (sym is)
       (cut_at_the_end reply k sent next d taken' new count buffer some said part none more end took')
 
   module _ (buffer : List ℕ) (count : ℕ) (d taken' : Option (List ℕ)) (new m : ℕ) (more : Consumes b d (take count buffer)) (few : length buffer ≤ ONE_READ) (rises : new ≡ risen built m) where
     few_taken : length (take count buffer) ≤ ONE_READ
     few_taken = let e = length-take count buffer in omega (arith, e, few)
 
-    pub quit_among : (next : Performance) → HearsUpTo h (take count buffer) mid taken' m (QuitsThere next) → Ends (λ last. IsDone g p a d taken taken' last) old new
+    pub quit_among : (next : Desk) → HearsUpTo h (take count buffer) mid taken' m (QuitsThere next) → Ends (λ last. IsDone opening a d taken taken' last) old new
     quit_among next up =
-        (edited_to next (n + m), inr (quit_of g p bytes replies n h now (take count buffer) m a b d taken mid taken' read more few_taken took.0 next up), counted m new rises)
+        (edited_to next (n + m), inr (quit_of opening bytes replies n h now (take count buffer) m a b d taken mid taken' read more few_taken took.0 next up), counted m new rises)
 
-    pub stopped_among : (next : Performance) (s : ScriptStop) → HearsUpTo h (take count buffer) mid taken' m (StopsThere s next) → Ends (λ last. IsStopped s g p a d taken taken' last) old new
+    pub stopped_among : (next : Desk) (s : ScriptStop) → HearsUpTo h (take count buffer) mid taken' m (StopsThere s next) → Ends (λ last. IsStopped s opening a d taken taken' last) old new
     stopped_among next s up =
-        (edited_to next (n + m), stopped_of g p bytes replies n h now (take count buffer) m a b d taken mid taken' read more few_taken took.0 next s up, counted m new rises)
+        (edited_to next (n + m), stopped_of opening bytes replies n h now (take count buffer) m a b d taken mid taken' read more few_taken took.0 next s up, counted m new rises)
 
 -- each turn reads on
 pub reads_on : (start h new : Heard) (bytes replies more out : List ℕ) (n k : ℕ) → start.read ≤ LONGEST_SCRIPT → HearsAll start bytes replies n h → HearsAll h more out k new → 1 ≤ length more

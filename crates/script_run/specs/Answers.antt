@@ -1,13 +1,13 @@
 -- What the lines of a script do while a session is edited: the reply to each line, the performance after it, and how many cells
 -- are built for it.
-use Rattle.std.specs.Prelude.{◌≡◌, ℕ, ◌+◌, ◌≤◌, ◌⊎◌, List, IsOk, None, length, Result, Ok, Err, ⊤}
+use Rattle.std.specs.Prelude.{◌≡◌, ℕ, ◌≤◌, ◌⊎◌, List, IsOk, None, length, Result, Ok, Err, ⊤}
 use Rattle.kern_writer.specs.PerformanceText.{HasTooLongText, IsTextOf}
 use Rattle.rhythm_base.specs.Edits.{cell_tests, edited, first_refusal}
 use Rattle.rhythm_base.specs.Grammar.{Grammar}
 use Rattle.rhythm_base.specs.Performance.{Performance}
 use Rattle.rhythm_base.specs.Reached.{WouldReach}
 use Rattle.rhythm_base.specs.Replies.{done_text, refused_text}
-use Rattle.rhythm_base.specs.Script.{Run, Step}
+use Rattle.rhythm_base.specs.Script.{Step}
 use Rattle.rhythm_base.specs.ScriptLines.{BeginsPin, SaysCommand}
 use Rattle.rhythm_base.specs.declared.command.Command.{Command}
 use Rattle.rhythm_base.specs.declared.command.Command.TheVariants.{Alternatives, Change, Quit, Score}
@@ -53,19 +53,3 @@ pub record AnswersLine (g : Grammar) (p : Performance) (line reply : List ℕ) (
   pub step : Step (IsScore g) g p line reply next
   pub memory : reply ≡ refused_text Memory → MayLackMemory p line
   pub built : IsBuiltFor g p line reply n
-
--- the performance as edited so far, and how many cells were built for the edits
-pub record Editing : Type 0 where
-  pub performance : Performance
-  pub built : ℕ
-
-abbrev pub begun_on : Performance → Editing
-begun_on p = record { performance = p; built = 0 }
-
--- what a line may do while a performance is edited
-abbrev pub IsAnswer : Grammar → Editing → List ℕ → List ℕ → Editing → Type 0
-IsAnswer g old line reply new = (n : ℕ) × AnswersLine g old.performance line reply n new.performance × (new.built ≡ old.built + n)
-
--- the replies to lines, up to one that says `quit`
-abbrev pub AreAnswers : Grammar → Editing → List (List ℕ) → List ℕ → Editing → Type 0
-AreAnswers g old lines replies last = Run (IsAnswer g) Quits old lines replies last

@@ -9,7 +9,8 @@ use Rattle.rhythm_base.specs.Script.{Answers}
 use Rattle.rhythm_base.specs.declared.command.Command.{Command}
 use Rattle.rhythm_base.specs.declared.edit_fault.EditFault.TheVariants.{Memory}
 use Rattle.rhythm_base.specs.declared.limits.TheConstants.{LONGEST_SCRIPT, LONGEST_SCRIPT_LINE}
-use Rattle.script_run.specs.Answers.{AnswersLine, IsScore, Quits}
+use Rattle.script_run.specs.Answers.{IsScore, Quits}
+use Rattle.script_run.specs.Desk.{AnswersOn, Desk}
 use Rattle.script_run.specs.declared.script_stop.ScriptStop.{ScriptStop}
 use Rattle.script_run.specs.declared.script_stop.ScriptStop.TheVariants as stop
 
@@ -17,27 +18,26 @@ use Rattle.script_run.specs.declared.script_stop.ScriptStop.TheVariants as stop
 abbrev pub MayAnswer : Grammar → Performance → Command → List ℕ → Performance → Type 0
 MayAnswer g p command reply next = Answers (IsScore g) g p command reply next ⊎ ((reply ≡ refused_text Memory) × (next ≡ p))
 
--- the performance as edited so far, the line that was begun, and how many bytes were read
+-- the desk, the line that was begun, and how many bytes were read
 pub record Heard : Type 0 where
-  pub grammar : Grammar
-  pub performance : Performance
+  pub desk : Desk
   pub begun : List ℕ
   pub read : ℕ
 
 -- a line is answered, and so many cells are built for it
-abbrev pub Replies : Heard → List ℕ → ℕ → Performance → Type 0
-Replies old reply n next = AnswersLine old.grammar old.performance old.begun reply n next
+abbrev pub Replies : Heard → List ℕ → ℕ → Desk → Type 0
+Replies old reply n next = AnswersOn old.desk old.begun reply n next
 
 -- a byte is heard, and no line that says `quit` ends there
 abbrev pub Hears : Heard → ℕ → List ℕ → ℕ → Heard → Type 0
 Hears old byte reply n new =
-    (new.grammar ≡ old.grammar) × (old.read < LONGEST_SCRIPT) × (new.read ≡ old.read + 1)
-    × (((byte ≡ 10) × Replies old reply n new.performance × (Quits old.begun → ⊥) × (new.begun ≡ []))
-    ⊎ ((byte ≢ 10) × (reply ≡ []) × (n ≡ 0) × (new.performance ≡ old.performance) × (length old.begun < LONGEST_SCRIPT_LINE) × (new.begun ≡ old.begun ++ byte ∷ [])))
+    (old.read < LONGEST_SCRIPT) × (new.read ≡ old.read + 1)
+    × (((byte ≡ 10) × Replies old reply n new.desk × (Quits old.begun → ⊥) × (new.begun ≡ []))
+    ⊎ ((byte ≢ 10) × (reply ≡ []) × (n ≡ 0) × (new.desk ≡ old.desk) × (length old.begun < LONGEST_SCRIPT_LINE) × (new.begun ≡ old.begun ++ byte ∷ [])))
 
 -- at the end of the script the line that was begun is answered, where it is not empty
-abbrev pub Closes : Heard → List ℕ → ℕ → Performance → Type 0
-Closes old reply n next = ((old.begun ≡ []) × (reply ≡ []) × (n ≡ 0) × (next ≡ old.performance)) ⊎ ((old.begun ≢ []) × Replies old reply n next × (Quits old.begun ⊎ (Quits old.begun → ⊥)))
+abbrev pub Closes : Heard → List ℕ → ℕ → Desk → Type 0
+Closes old reply n next = ((old.begun ≡ []) × (reply ≡ []) × (n ≡ 0) × (next ≡ old.desk)) ⊎ ((old.begun ≢ []) × Replies old reply n next × (Quits old.begun ⊎ (Quits old.begun → ⊥)))
 
 -- bytes are heard one after another: all replies, and how many cells are built
 abbrev pub HearsAll : Heard → List ℕ → List ℕ → ℕ → Heard → Type 0
@@ -66,25 +66,25 @@ abbrev pub Took : Option (List ℕ) → Option (List ℕ) → ℕ → ℕ → Li
 Took taken taken' built built' text n = Appends taken taken' text × (built' ≡ risen built n)
 
 -- there the line that was begun is answered whole, and it says `quit`
-abbrev pub QuitsThere : Performance → Heard → ℕ → List ℕ → ℕ → Type 0
+abbrev pub QuitsThere : Desk → Heard → ℕ → List ℕ → ℕ → Type 0
 QuitsThere next mid byte after m = (byte ≡ 10) × (mid.read < LONGEST_SCRIPT) × Quits mid.begun × Replies mid after m next
 
 -- there a first part of the reply is written, and not all
-abbrev pub IsCutThere : Performance → Heard → ℕ → List ℕ → ℕ → Type 0
+abbrev pub IsCutThere : Desk → Heard → ℕ → List ℕ → ℕ → Type 0
 IsCutThere next mid byte after m =
     (byte ≡ 10) × (mid.read < LONGEST_SCRIPT) × ((reply : List ℕ) × (sent : ℕ) × Replies mid reply m next × (sent < length reply) × (after ≡ take sent reply))
 
 -- there the script is too long
-abbrev pub IsTooLongThere : Performance → Heard → ℕ → List ℕ → ℕ → Type 0
-IsTooLongThere next mid byte after m = (mid.read ≡ LONGEST_SCRIPT) × (after ≡ []) × (m ≡ 0) × (next ≡ mid.performance)
+abbrev pub IsTooLongThere : Desk → Heard → ℕ → List ℕ → ℕ → Type 0
+IsTooLongThere next mid byte after m = (mid.read ≡ LONGEST_SCRIPT) × (after ≡ []) × (m ≡ 0) × (next ≡ mid.desk)
 
 -- there the line is too long
-abbrev pub IsLineTooLongThere : Performance → Heard → ℕ → List ℕ → ℕ → Type 0
+abbrev pub IsLineTooLongThere : Desk → Heard → ℕ → List ℕ → ℕ → Type 0
 IsLineTooLongThere next mid byte after m =
-    (mid.read < LONGEST_SCRIPT) × (byte ≢ 10) × (length mid.begun ≡ LONGEST_SCRIPT_LINE) × (after ≡ []) × (m ≡ 0) × (next ≡ mid.performance)
+    (mid.read < LONGEST_SCRIPT) × (byte ≢ 10) × (length mid.begun ≡ LONGEST_SCRIPT_LINE) × (after ≡ []) × (m ≡ 0) × (next ≡ mid.desk)
 
 -- what happens there by why the answering stops
-abbrev pub StopsThere : ScriptStop → Performance → Heard → ℕ → List ℕ → ℕ → Type 0
+abbrev pub StopsThere : ScriptStop → Desk → Heard → ℕ → List ℕ → ℕ → Type 0
 StopsThere stop.Read next mid byte after m = ⊥
 StopsThere (stop.TooLong read) next mid byte after m = (read ≡ LONGEST_SCRIPT + 1) × IsTooLongThere next mid byte after m
 StopsThere (stop.LineTooLong read) next mid byte after m = (read ≡ LONGEST_SCRIPT_LINE + 1) × IsLineTooLongThere next mid byte after m

@@ -2,11 +2,12 @@
 use Rattle.std.specs.Prelude.{◌≡◌, ◌≢◌, ◌⊎◌, ◌++◌, ℕ, List, Option, Some, Result, Ok, Err}
 use Rattle.edit_laws.specs.Laws.{LinesHaveOneAnswer as HasOneAnswers, ScriptsHaveOneRun}
 use Rattle.rhythm_base.specs.Grammar.{Grammar}
-use Rattle.rhythm_base.specs.Performance.{IsWellFormed, Performance}
 use Rattle.rhythm_base.specs.Readable.{IsReadable}
 use Rattle.rhythm_base.specs.Replies.{refused_text}
 use Rattle.rhythm_base.specs.declared.edit_fault.EditFault.TheVariants.{Memory}
-use Rattle.script_run.specs.Answers.{Editing, IsAnswer, IsScore, Quits, begun_on}
+use Rattle.script_run.specs.Answers.{IsScore, Quits}
+use Rattle.script_run.specs.Desk.{AnswersOn, Desk, IsSound}
+use Rattle.script_run.specs.Editing.{Editing, IsAnswer, begun_on}
 use Rattle.script_run.specs.Machine.{IsAnswered, IsStoppedBy}
 use Rattle.script_run.specs.declared.script_stop.ScriptStop.{ScriptStop}
 use Rattle.script_run.specs.declared.script_stop.ScriptStop.TheVariants as stop
@@ -15,29 +16,35 @@ use Rattle.script_run.specs.declared.script_stop.ScriptStop.TheVariants as stop
 abbrev pub LinesHaveOneAnswer : Type 0
 LinesHaveOneAnswer = (g : Grammar) → IsReadable g → HasOneAnswers g (IsScore g) × ScriptsHaveOneRun g (IsScore g)
 
+-- a line has one reply on a desk, and leaves one desk, but for want of memory; and it leaves what is edited well formed
+pub record DesksHaveOneAnswer : Type 0 where
+  pub one : (desk next next' : Desk) (line reply reply' : List ℕ) (n n' : ℕ) → IsSound desk → AnswersOn desk line reply n next → AnswersOn desk line reply' n' next'
+      → reply ≢ refused_text Memory → reply' ≢ refused_text Memory → (reply ≡ reply') × (next ≡ next')
+  pub sound : (desk next : Desk) (line reply : List ℕ) (n : ℕ) → IsSound desk → AnswersOn desk line reply n next → IsSound next
+
 -- what a line may do without want of memory
-abbrev pub IsAmpleAnswer : Grammar → Editing → List ℕ → List ℕ → Editing → Type 0
-IsAmpleAnswer g old line reply new = IsAnswer g old line reply new × (reply ≢ refused_text Memory)
+abbrev pub IsAmpleAnswer : Editing → List ℕ → List ℕ → Editing → Type 0
+IsAmpleAnswer old line reply new = IsAnswer old line reply new × (reply ≢ refused_text Memory)
 
 -- the bytes of a script decide its end: no read and no write fails, and there is memory for a line
 abbrev pub IsByBytes : Result (Unit {0}) ScriptStop → Type 0
 IsByBytes result = (result ≢ Err stop.Read) × (result ≢ Err stop.Write) × (result ≢ Err stop.Memory)
 
 -- the answering of a script ends so, and no reply to a line is want of memory
-abbrev pub EndsAmply : Result (Unit {0}) ScriptStop → Grammar → Performance → Option (List ℕ) → Option (List ℕ) → Option (List ℕ) → Option (List ℕ) → Editing → Type 0
-EndsAmply (Ok done) g p rest rest' taken taken' last = IsAnswered (IsAmpleAnswer g) Quits (begun_on p) rest rest' taken taken' last
-EndsAmply (Err end) g p rest rest' taken taken' last = IsStoppedBy (IsAmpleAnswer g) Quits (begun_on p) end rest rest' taken taken' last
+abbrev pub EndsAmply : Result (Unit {0}) ScriptStop → Desk → Option (List ℕ) → Option (List ℕ) → Option (List ℕ) → Option (List ℕ) → Editing → Type 0
+EndsAmply (Ok done) desk rest rest' taken taken' last = IsAnswered IsAmpleAnswer Quits (begun_on desk) rest rest' taken taken' last
+EndsAmply (Err end) desk rest rest' taken taken' last = IsStoppedBy IsAmpleAnswer Quits (begun_on desk) end rest rest' taken taken' last
 
 -- one text begins with the other
 abbrev pub BeginsWith : List ℕ → List ℕ → Type 0
 BeginsWith text front = (more : List ℕ) × (text ≡ front ++ more)
 
--- Of two ways to answer the same script on the same performance: where the bytes decide both ends, they are one, and out took the same and
--- the performance is the same; and however both end, what out took in one of them begins as in the other
+-- Of two ways to answer the same script on the same desk: where the bytes decide both ends, they are one, and out took the same and
+-- the desk is the same; and however both end, what out took in one of them begins as in the other
 pub record ScriptsHaveOneOutput : Type 0 where
-  pub one : (g : Grammar) (p : Performance) (script written : List ℕ) (end end' : Result (Unit {0}) ScriptStop) (rest rest' out out' : Option (List ℕ)) (last last' : Editing)
-      → IsReadable g → IsWellFormed p → IsByBytes end → IsByBytes end' → EndsAmply end g p (Some script) rest (Some written) out last
-      → EndsAmply end' g p (Some script) rest' (Some written) out' last' → (end ≡ end') × (out ≡ out') × (last.performance ≡ last'.performance)
-  pub beginning : (g : Grammar) (p : Performance) (script written out out' : List ℕ) (end end' : Result (Unit {0}) ScriptStop) (rest rest' : Option (List ℕ)) (last last' : Editing)
-      → IsReadable g → IsWellFormed p → EndsAmply end g p (Some script) rest (Some written) (Some out) last
-      → EndsAmply end' g p (Some script) rest' (Some written) (Some out') last' → BeginsWith out out' ⊎ BeginsWith out' out
+  pub one : (desk : Desk) (script written : List ℕ) (end end' : Result (Unit {0}) ScriptStop) (rest rest' out out' : Option (List ℕ)) (last last' : Editing)
+      → IsSound desk → IsByBytes end → IsByBytes end' → EndsAmply end desk (Some script) rest (Some written) out last
+      → EndsAmply end' desk (Some script) rest' (Some written) out' last' → (end ≡ end') × (out ≡ out') × (last.desk ≡ last'.desk)
+  pub beginning : (desk : Desk) (script written out out' : List ℕ) (end end' : Result (Unit {0}) ScriptStop) (rest rest' : Option (List ℕ)) (last last' : Editing)
+      → IsSound desk → EndsAmply end desk (Some script) rest (Some written) (Some out) last
+      → EndsAmply end' desk (Some script) rest' (Some written) (Some out') last' → BeginsWith out out' ⊎ BeginsWith out' out

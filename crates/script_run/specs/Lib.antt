@@ -1,6 +1,10 @@
 pub mod Answers
+pub mod Studio
+pub mod Desk
+pub mod Editing
 pub mod Bytes
 pub mod Hearing
+pub mod DeskCode
 pub mod Machine
 pub mod Ends
 pub mod Faults

@@ -24,11 +24,10 @@ fn hear<R: Threads + Sync, O: Sink, G: Gate + Sync, B: Tag, P: Tag>(
 ) -> Result<bool, ScriptStop>
     ensures on { result ≡ Ok false → (reply : List ℕ) × (n : ℕ) × Hears listener.old byte reply n listener.new
         × Took (O.taken out.old) (O.taken out.new) builds.old builds.new reply n }
-    ensures end { result ≡ Ok true → (reply : List ℕ) × (n : ℕ) × QuitsThere listener.new.performance listener.old byte reply n
+    ensures end { result ≡ Ok true → (reply : List ℕ) × (n : ℕ) × QuitsThere listener.new.desk listener.old byte reply n
         × Took (O.taken out.old) (O.taken out.new) builds.old builds.new reply n }
-    ensures stop { IfErr result (λ end. (after : List ℕ) × (n : ℕ) × StopsThere end listener.new.performance listener.old byte after n
+    ensures stop { IfErr result (λ end. (after : List ℕ) × (n : ℕ) × StopsThere end listener.new.desk listener.old byte after n
         × Took (O.taken out.old) (O.taken out.new) builds.old builds.new after n) }
-    ensures grammar { listener.new.grammar ≡ listener.old.grammar }
     ensures cause { result ≡ Err stop.Write → Rose (O.faults out.old) (O.faults out.new) }
     ensures later { O.faults out.old ≤ O.faults out.new }
     ensures products { products.old ≤ products.new }
@@ -67,11 +66,10 @@ pub fn hear_all<R: Threads + Sync, O: Sink, G: Gate + Sync, B: Tag, P: Tag>(
 ) -> Result<bool, ScriptStop>
     ensures on { result ≡ Ok false → (replies : List ℕ) × (n : ℕ) × HearsAll listener.old piece.now replies n listener.new
         × Took (O.taken out.old) (O.taken out.new) builds.old builds.new replies n }
-    ensures end { result ≡ Ok true → (n : ℕ) × HearsUpTo listener.old piece.now (O.taken out.old) (O.taken out.new) n (QuitsThere listener.new.performance)
+    ensures end { result ≡ Ok true → (n : ℕ) × HearsUpTo listener.old piece.now (O.taken out.old) (O.taken out.new) n (QuitsThere listener.new.desk)
         × (builds.new ≡ risen builds.old n) }
-    ensures stop { IfErr result (λ end. (n : ℕ) × HearsUpTo listener.old piece.now (O.taken out.old) (O.taken out.new) n (StopsThere end listener.new.performance)
+    ensures stop { IfErr result (λ end. (n : ℕ) × HearsUpTo listener.old piece.now (O.taken out.old) (O.taken out.new) n (StopsThere end listener.new.desk)
         × (builds.new ≡ risen builds.old n)) }
-    ensures grammar { listener.new.grammar ≡ listener.old.grammar }
     ensures cause { result ≡ Err stop.Write → Rose (O.faults out.old) (O.faults out.new) }
     ensures later { O.faults out.old ≤ O.faults out.new }
     ensures products { products.old ≤ products.new }

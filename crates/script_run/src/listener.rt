@@ -1,28 +1,27 @@
-ghost use Rattle.edit_script.specs.declared.reply.Reply.TheVariants as replies;
 ghost use Rattle.rhythm_base.specs.Counter.{risen};
 ghost use Rattle.rhythm_base.specs.declared.limits.TheConstants.{LONGEST_SCRIPT, LONGEST_SCRIPT_LINE};
 ghost use Rattle.rhythm_ports.specs.Causes.{HasCause};
 ghost use Rattle.script_run.specs.Answers.{Quits};
+ghost use Rattle.script_run.specs.Desk.{shown};
 ghost use Rattle.script_run.specs.Hearing.{Heard, Replies};
 ghost use Rattle.std.specs.Io.KnownBytes.{Appends};
 ghost use Rattle.std.specs.Prelude.{◌≡◌, ◌≤◌, ◌<◌, ◌+◌, ◌↔◌, ◌++◌, ◌∷◌, [], ℕ, List, IfOk, IsTrue, MatchBool, OnErr, length, take};
 
+use crate::desk::{Desk, is_bye};
 use crate::means::Means;
-use crate::reply::reply_to;
 use carry_matrix::Steps as Products;
-use edit_script::{Reply, write_reply};
-use edit_session::Session;
 use least_cost::Steps as Builds;
 use rhythm_base::{LONGEST_SCRIPT, LONGEST_SCRIPT_LINE, Tag};
 use rhythm_ports::{Failed, Gate, Sink};
+use session_history::write_studio_reply;
 use std::alloc::{AllocError, Global};
 use std::marker::Model;
 use std::thread::Threads;
 
-/// A session, the line that was begun, and how many bytes of the script were read.
+/// A desk, the line that was begun, and how many bytes of the script were read.
 #[derive(Drop)]
 pub struct Listener {
-    session: Session,
+    desk: Desk,
     line: Vec<u8>,
     read: u64,
 }
@@ -30,18 +29,20 @@ pub struct Listener {
 impl Model for Listener {
     ghost use Rattle.std.specs.Coded.{codes};
     ghost use Rattle.rhythm_base.specs.PerformanceCode.{performance_code};
+    ghost use Rattle.session_history.specs.HistoryCode.{step_code};
+    ghost use Rattle.script_run.specs.DeskCode.{heard_code};
     ghost use Rattle.script_run.specs.Hearing.{Heard};
 
     ghost Value = { Heard };
 
-    ghost coded = { Prim.hlevel (codes, performance_code) };
+    ghost coded = { heard_code (Prim.hlevel (codes)) performance_code (Prim.hlevel (codes, performance_code, step_code)) };
 
+    ghost use Rattle.script_run.specs.Desk.{shown};
     ghost use Rattle.rhythm_base.specs.declared.limits.TheConstants.{LONGEST_SCRIPT, LONGEST_SCRIPT_LINE};
     ghost use Rattle.std.specs.Prelude.{◌≤◌, length, vec_capacity};
 
     ghost view = { λ l. record {
-      grammar = l.session.grammar;
-      performance = l.session.performance;
+      desk = shown l.desk;
       begun = l.line.items;
       read = l.read;
     } };
@@ -50,21 +51,14 @@ impl Model for Listener {
         (length l.line.items ≤ LONGEST_SCRIPT_LINE) × (LONGEST_SCRIPT_LINE ≤ vec_capacity l.line) × (l.read ≤ LONGEST_SCRIPT) };
 }
 
-/// Whether the reply is that to a line that ends the script.
-fn is_bye(reply: &Reply) -> bool
-    ensures { IsTrue result ↔ (reply.now ≡ replies.Bye) }
-{
-    matches!(reply, Reply::Bye)
-}
-
 impl Listener {
     /// Nothing was heard yet.
-    pub fn new(alloc: Global, session: Session) -> Result<Listener, AllocError>
-        ensures { IfOk result (λ l. l ≡ record { grammar = session.grammar; performance = session.performance; begun = []; read = 0 }) }
+    pub fn new(alloc: Global, desk: Desk) -> Result<Listener, AllocError>
+        ensures { IfOk result (λ l. l ≡ record { desk = shown desk; begun = []; read = 0 }) }
     {
         let line = Vec::with_capacity(alloc, LONGEST_SCRIPT_LINE as usize)?;
         Ok(Listener {
-            session,
+            desk,
             line,
             read: 0,
         })
@@ -89,19 +83,19 @@ impl Listener {
         builds: &mut Builds<B>,
         products: &mut Products<P>,
     ) -> Result<bool, Failed>
-        ensures same { (self.new.grammar ≡ self.old.grammar) × (self.new.read ≡ self.old.read) × (self.new.begun ≡ []) }
+        ensures same { (self.new.read ≡ self.old.read) × (self.new.begun ≡ []) }
         ensures ok { IfOk result (λ ends. (IsTrue ends ↔ Quits self.old.begun)
-            × ((reply : List ℕ) × (n : ℕ) × Replies self.old reply n self.new.performance
+            × ((reply : List ℕ) × (n : ℕ) × Replies self.old reply n self.new.desk
             × Appends (O.taken out.old) (O.taken out.new) reply × (builds.new ≡ risen builds.old n))) }
-        ensures cut { OnErr result ((reply : List ℕ) × (n sent : ℕ) × Replies self.old reply n self.new.performance
+        ensures cut { OnErr result ((reply : List ℕ) × (n sent : ℕ) × Replies self.old reply n self.new.desk
             × (sent < length reply) × Appends (O.taken out.old) (O.taken out.new) (take sent reply) × (builds.new ≡ risen builds.old n)) }
         ensures cause { HasCause (O.faults out.old) (O.faults out.new) result }
         ensures products { products.old ≤ products.new }
     {
         let line = self.line.as_slice();
-        let reply = reply_to(means, &mut self.session, line, builds, products);
+        let reply = self.desk.reply_to(means, line, builds, products);
         self.line.clear();
-        match write_reply(out, &reply) {
+        match write_studio_reply(out, &reply) {
             Ok(()) => Ok(is_bye(&reply)),
             Err(_partial) => Err(Failed),
         }

@@ -25,7 +25,7 @@ use std::alloc::Global;
 use std::thread::Threads;
 
 /// The reply to an edit, by what became of it.
-fn edit_reply(outcome: Result<Applied, EditFault>) -> Reply
+pub fn edit_reply(outcome: Result<Applied, EditFault>) -> Reply
     ensures { MatchResult outcome (λ a. result ≡ replies.Done a.built a.cost) (λ fault. result ≡ replies.Refused (refusals.Edit fault)) }
 {
     match outcome {
@@ -77,7 +77,7 @@ fn score_reply(score: Result<Vec<u8>, ScoreFault>) -> Reply
 }
 
 /// The reply to a line that asks for the score.
-fn reply_with_score(alloc: Global, session: &Session) -> Reply
+pub fn reply_with_score(alloc: Global, session: &Session) -> Reply
     ensures answer { MayAnswer session.now.grammar session.now.performance command.Score (reply_text result) session.now.performance }
     ensures goes_on { result ≢ replies.Bye }
 {
@@ -122,7 +122,7 @@ fn alternatives_reply(alloc: Global, list: Result<Vec<Alternative>, AskFault>) -
 }
 
 /// The reply to a line that asks for the alternatives of a bar of a voice.
-fn reply_with_alternatives<P: Tag>(
+pub fn reply_with_alternatives<P: Tag>(
     alloc: Global,
     session: &Session,
     channel: u8,

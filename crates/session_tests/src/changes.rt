@@ -1,4 +1,4 @@
-use crate::edits::{edit, has_score};
+use crate::edits::{QUARTERS, edit, has_score};
 use crate::pieces::{FOUR_QUARTERS, InTests, opened};
 use carry_matrix::Steps as Products;
 use edit_script::read_line;
@@ -10,9 +10,7 @@ use std::alloc::{AllocError, Global};
 use std::test::Fail;
 use std::thread::Threads;
 
-/// The score of the four quarters, and that with an empty bar after them.
-const QUARTERS: &[u8] = b"**kern\n*M4/4\n*MM120\n=1\n4c\n4d\n4e\n4f\n==\n*-\n";
-
+/// The score of the four quarters with an empty bar after them.
 const QUARTERS_AND_A_BAR: &[u8] = b"**kern\n*M4/4\n*MM120\n=1\n4c\n4d\n4e\n4f\n=2\n1r\n==\n*-\n";
 
 /// Makes the edit of a line ready, commits it, and commits the way back: what the two commits were. None where the line is

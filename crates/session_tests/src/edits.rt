@@ -26,7 +26,7 @@ struct Script {
 }
 
 /// The score of the four quarters.
-const QUARTERS: &[u8] = b"**kern\n*M4/4\n*MM120\n=1\n4c\n4d\n4e\n4f\n==\n*-\n";
+pub const QUARTERS: &[u8] = b"**kern\n*M4/4\n*MM120\n=1\n4c\n4d\n4e\n4f\n==\n*-\n";
 
 const SCRIPTS: [Script; 8] = [
     Script {

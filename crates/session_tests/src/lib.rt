@@ -1,5 +1,5 @@
 // The tests of an editing session: edits one after another, with the cells that they reach, the costs and the scores, and
-// changes that are made, refused and taken back; and whole drills.
+// changes that are made, refused and taken back; its history; barlines that are fitted; and whole drills.
 #![tactic(auto)]
 
 #[cfg(test)]
@@ -8,5 +8,9 @@ mod changes;
 mod drills;
 #[cfg(test)]
 mod edits;
+#[cfg(test)]
+mod fits;
+#[cfg(test)]
+mod histories;
 #[cfg(test)]
 mod pieces;

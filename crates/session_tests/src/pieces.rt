@@ -45,6 +45,12 @@ pub const THREE_EIGHTHS: &[u8] = b"\
     MTrk\0\0\0\x0d\0\x90<@\x85P\x80<\0\0\xff/\0\
 ";
 
+/// Two notes: the second begins 20 ticks before the barline between them.
+pub const EARLY_NOTE: &[u8] = b"\
+    MThd\0\0\0\x06\0\0\0\x01\x01\xe0\
+    MTrk\0\0\0\x16\0\x90<@\x8el\x80<\0\0\x90>@\x8f\x14\x80>\0\0\xff/\0\
+";
+
 /// A bar down to eighths.
 const USUAL: &[u8] = b"\
     rhythm 1\n\

@@ -142,12 +142,18 @@ fn numbers_have_one_to_ten_digits(rt: HostRuntime) -> Result<(), Fail> {
 fn help_names_each_command_and_status(rt: HostRuntime) -> Result<(), Fail> {
     for part in [
         "transcribe MIDI GRAMMAR",
+        "lily MIDI GRAMMAR",
+        "render MIDI GRAMMAR",
         "edit MIDI GRAMMAR",
+        "studio MIDI GRAMMAR",
+        "fit MIDI GRAMMAR BAR LOW HIGH STEP",
         "events KERN",
         "generate NUMBER BARS",
         "drill NUMBER GRAMMAR",
         "0 to 65534",
         "1 to 2000",
+        "0 to 4096",
+        "0 to 2000000000",
         "--workers N",
         "1 to 16",
         "--help",
@@ -160,6 +166,7 @@ fn help_names_each_command_and_status(rt: HostRuntime) -> Result<(), Fail> {
         "\n  5 ",
         "\n  6 ",
         "\n  7 ",
+        "\n  9 ",
     ] {
         assert!(rt; help_text().contains(part), "{part}");
     }

@@ -1,4 +1,4 @@
-use Rattle.std.proofs.Common.{refl, Err}
+use Rattle.std.proofs.Common.{refl}
 use Rattle.rhythm_app.specs.Asked.{answer}
 use Rattle.rhythm_app.specs.Outcome.{IsAnswering, serve}
 use Rattle.rhythm_app.proofs.Opened.{opened_all, opened_before, opened_cells, unread_before}

@@ -1,9 +1,10 @@
 use Rattle.rhythm_app.specs.Lent.{Lent}
-use Rattle.rhythm_app.proofs.Talking.{done_seen}
+use Rattle.script_run.specs.Desk.{shown}
+use Rattle.rhythm_app.proofs.Talking.{broken_seen, done_seen, no_desk}
 use Rattle.rhythm_app.proofs.answering.talk_over.Goals as goal
 
-pub returns-clause-done : goal.returns-clause-done
-returns-clause-done g c =
+pub returns-in-Ok-clause-done : goal.returns-in-Ok-clause-done
+returns-in-Ok-clause-done g c =
     let inside = c.lent.inside in
     let made = c.run_script.new in
     let seen : Lent g.row.S.Denot g.row.O.Denot g.row.E.Denot = record {
@@ -32,4 +33,39 @@ returns-clause-done g c =
       built = made.builds;
       multiplied = made.products;
     } in
-    done_seen seen c.args.lent.now now c.args.talk c.args.session.grammar c.args.session.performance c.run_script.result c.lent.view_is c.run_script.ensures.done
+    done_seen seen c.args.lent.now now c.args.talk c.args.session.grammar c.args.session.performance (shown c.in-Ok.desk) c.lent.view_is c.in-Ok.ensures.desk c.run_script.result c.run_script.ensures.done
+
+pub returns-in-Ok-clause-broken : goal.returns-in-Ok-clause-broken
+returns-in-Ok-clause-broken g c =
+    let inside = c.lent.inside in
+    let made = c.run_script.new in
+    let seen : Lent g.row.S.Denot g.row.O.Denot g.row.E.Denot = record {
+      files = g.F.Shelf.files inside.shelf;
+      strays = g.F.Shelf.strays inside.shelf;
+      shelf_faults = g.F.Shelf.faults inside.shelf;
+      script = inside.script;
+      rest = g.S.Source.rest inside.script;
+      script_faults = g.S.Source.faults inside.script;
+      out = inside.out;
+      taken = g.O.Sink.taken inside.out;
+      out_faults = g.O.Sink.faults inside.out;
+      err = inside.err;
+      told = g.E.Sink.taken inside.err;
+      err_faults = g.E.Sink.faults inside.err;
+      built = inside.builds;
+      multiplied = inside.products;
+    } in
+    let now = record seen {
+      script = made.script;
+      rest = g.S.Source.rest made.script;
+      script_faults = g.S.Source.faults made.script;
+      out = made.out;
+      taken = g.O.Sink.taken made.out;
+      out_faults = g.O.Sink.faults made.out;
+      built = made.builds;
+      multiplied = made.products;
+    } in
+    broken_seen seen c.args.lent.now now c.args.talk c.args.session.grammar c.args.session.performance (shown c.in-Ok.desk) c.lent.view_is c.in-Ok.ensures.desk c.run_script.result c.run_script.ensures.stopped
+
+pub returns-in-Err-clause-broken : goal.returns-in-Err-clause-broken
+returns-in-Err-clause-broken g c = no_desk c.args.lent.now c.args.talk c.args.session.grammar c.args.session.performance c.in-Err.stop c.in-Err.ensures.memory

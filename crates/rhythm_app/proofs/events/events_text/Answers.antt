@@ -2,9 +2,7 @@ use Rattle.std.proofs.Common.{◌≢◌, ◌∙◌, ap, arith, inl, refl, Err, S
 use Rattle.std.proofs.lemmas.Result.{err_from_is_err_and}
 use Rattle.rhythm_app.specs.Asked.{events}
 use Rattle.rhythm_app.specs.Commands.{file_content, named}
-use Rattle.rhythm_app.specs.Lent.{Lent}
 use Rattle.rhythm_app.specs.Outcome.{IsScoreRead}
-use Rattle.rhythm_app.specs.Stages.{HasText}
 use Rattle.rhythm_app.specs.declared.stop.Kind.TheVariants as kind
 use Rattle.rhythm_app.proofs.Listing.{listed}
 use Rattle.rhythm_app.proofs.Performing.{not_had, read_cause, read_end}

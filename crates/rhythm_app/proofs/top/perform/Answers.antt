@@ -1,7 +1,7 @@
-use Rattle.std.proofs.Common.{◌≡◌, ap, sym, Some, ◌∙◌}
-use Rattle.rhythm_app.specs.Asked.{asked_of, answer, drill, events, generate, help, shown_request, version, write}
+use Rattle.std.proofs.Common.{ap, sym, Some, ◌∙◌}
+use Rattle.rhythm_app.specs.Asked.{asked_of, answer, drill, events, fit, generate, help, shown_request, too_many_candidates, version, write}
 use Rattle.rhythm_app.specs.declared.request.Request.{Request}
-use Rattle.rhythm_app.proofs.Requests.{performed_as, usage_as}
+use Rattle.rhythm_app.proofs.Requests.{performed_as, too_many_asked, usage_as}
 use Rattle.rhythm_app.proofs.top.perform.Goals as goal
 
 pub returns-in-Some-Help-clause-usage : goal.returns-in-Some-Help-clause-usage
@@ -71,3 +71,23 @@ returns-in-Some-Answer-clause-usage g c =
 pub returns-in-Some-Answer-clause-performed : goal.returns-in-Some-Answer-clause-performed
 returns-in-Some-Answer-clause-performed g c =
     performed_as c.args.lent.now c.answer.new.lent c.answer.result (Some (answer c.in-Some-Answer.talk c.in-Some-Answer.names.midi.now c.in-Some-Answer.names.grammar.now)) (asked_of c.args.said.now) (ap (λ (r : Request). Some (shown_request r)) (sym c.in-Some-Answer.field-0-is) ∙ c.in-Some-Answer.ensures.asked) c.answer.ensures
+
+pub returns-in-Some-Fit-clause-usage : goal.returns-in-Some-Fit-clause-usage
+returns-in-Some-Fit-clause-usage g c =
+    usage_as c.args.lent.now c.finish-in-Some-Fit.new.lent c.finish-in-Some-Fit.result (fit c.in-Some-Fit.files.midi.now c.in-Some-Fit.files.grammar.now c.in-Some-Fit.among) (asked_of c.args.said.now) (ap (λ (r : Request). Some (shown_request r)) (sym c.in-Some-Fit.field-0-is) ∙ c.in-Some-Fit.ensures.asked)
+    (c.finish-in-Some-Fit.ensures (Some (fit c.in-Some-Fit.files.midi.now c.in-Some-Fit.files.grammar.now c.in-Some-Fit.among)) c.args.lent.now c.fit_text_of-text.ensures)
+
+pub returns-in-Some-TooManyCandidates-clause-usage : goal.returns-in-Some-TooManyCandidates-clause-usage
+returns-in-Some-TooManyCandidates-clause-usage g c =
+    usage_as c.args.lent.now c.args.lent.now _ (too_many_candidates c.in-Some-TooManyCandidates.count) (asked_of c.args.said.now) (ap (λ (r : Request). Some (shown_request r)) (sym c.in-Some-TooManyCandidates.field-0-is) ∙ c.in-Some-TooManyCandidates.ensures.asked)
+    (too_many_asked c.in-Some-TooManyCandidates.count c.args.lent.now)
+
+pub returns-in-Some-Fit-clause-performed : goal.returns-in-Some-Fit-clause-performed
+returns-in-Some-Fit-clause-performed g c =
+    performed_as c.args.lent.now c.finish-in-Some-Fit.new.lent c.finish-in-Some-Fit.result (Some (fit c.in-Some-Fit.files.midi.now c.in-Some-Fit.files.grammar.now c.in-Some-Fit.among)) (asked_of c.args.said.now) (ap (λ (r : Request). Some (shown_request r)) (sym c.in-Some-Fit.field-0-is) ∙ c.in-Some-Fit.ensures.asked)
+    (c.finish-in-Some-Fit.ensures (Some (fit c.in-Some-Fit.files.midi.now c.in-Some-Fit.files.grammar.now c.in-Some-Fit.among)) c.args.lent.now c.fit_text_of-text.ensures)
+
+pub returns-in-Some-TooManyCandidates-clause-performed : goal.returns-in-Some-TooManyCandidates-clause-performed
+returns-in-Some-TooManyCandidates-clause-performed g c =
+    performed_as c.args.lent.now c.args.lent.now _ (Some (too_many_candidates c.in-Some-TooManyCandidates.count)) (asked_of c.args.said.now) (ap (λ (r : Request). Some (shown_request r)) (sym c.in-Some-TooManyCandidates.field-0-is) ∙ c.in-Some-TooManyCandidates.ensures.asked)
+    (too_many_asked c.in-Some-TooManyCandidates.count c.args.lent.now)

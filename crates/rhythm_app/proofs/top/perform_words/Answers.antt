@@ -1,4 +1,4 @@
-use Rattle.std.proofs.Common.{◌∙◌, ap, inl, sym, Err}
+use Rattle.std.proofs.Common.{◌∙◌, inl, sym}
 use Rattle.rhythm_app.specs.Asked.{asked_by, asked_of}
 use Rattle.rhythm_app.proofs.Asking.{asked_as, asked_nothing}
 use Rattle.rhythm_app.proofs.Requests.{nothing_asked, performed_as}

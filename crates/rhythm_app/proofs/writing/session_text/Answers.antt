@@ -1,4 +1,4 @@
-use Rattle.std.proofs.Common.{refl, Err}
+use Rattle.std.proofs.Common.{refl}
 use Rattle.rhythm_app.specs.Asked.{write}
 use Rattle.rhythm_app.specs.Outcome.{IsWriting, say}
 use Rattle.rhythm_app.specs.Stages.{said_of}

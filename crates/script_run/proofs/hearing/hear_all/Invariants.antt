@@ -6,4 +6,4 @@ abbrev pub invariant-bytes : goal.invariant-bytes
 invariant-bytes g l =
     ((replies : List ℕ) × (n : ℕ) × HearsAll l.initial.listener (take l.byte-index l.piece) replies n l.listener
     × Took (g.O.Sink.taken l.initial.out) (g.O.Sink.taken l.out) l.initial.builds l.builds replies n)
-    × (l.listener.grammar ≡ l.initial.listener.grammar) × (g.O.Sink.faults l.initial.out ≤ g.O.Sink.faults l.out) × (l.initial.products ≤ l.products)
+    × (g.O.Sink.faults l.initial.out ≤ g.O.Sink.faults l.out) × (l.initial.products ≤ l.products)

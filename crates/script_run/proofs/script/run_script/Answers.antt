@@ -1,6 +1,7 @@
 use Rattle.std.proofs.Common.{rules, ◌≤◌, ◌++◌, ◌+◌, arith, ap, Ok, sym, subst}
 use Rattle.rhythm_base.specs.declared.limits.TheConstants.{LONGEST_SCRIPT}
 use Rattle.rhythm_ports.specs.Causes.{Rose}
+use Rattle.script_run.specs.Desk.{shown}
 use Rattle.script_run.specs.Hearing.{Heard}
 use Rattle.std.specs.Io.KnownBytes.{IsAtEnd}
 use Rattle.std.proofs.KnownBytes.{Consumes-trans}
@@ -12,19 +13,19 @@ pub returns-in-Ok-eq0-clause-done : goal.returns-in-Ok-eq0-clause-done
 returns-in-Ok-eq0-clause-done g c =
     let inv = c.pieces.invariant.0 in
     let end : IsAtEnd (g.S.Source.rest c.read.new.self) = c.in-Ok-eq0.ensures.bytes.1 c.in-Ok-eq0.field-0-test (search rules) in
-    closed c.args.session.grammar c.args.session.performance c.in-Ok.listener c.pieces.listener c.in-Ok.ensures inv.0 inv.1 inv.2 inv.3 (g.S.Source.rest c.args.script.now)
+    closed (shown c.args.desk) c.in-Ok.listener c.pieces.listener c.in-Ok.ensures inv.0 inv.1 inv.2 inv.3 (g.S.Source.rest c.args.script.now)
     (g.S.Source.rest c.pieces.script) (g.O.Sink.taken c.args.out.now) (g.O.Sink.taken c.pieces.out) c.args.builds.now c.pieces.builds inv.4 inv.5 (g.S.Source.rest c.read.new.self)
     c.in-Ok-eq0.field-0 c.read.new.buf c.in-Ok-eq0.field-0-test c.in-Ok-eq0.ensures.bytes.0 end c.close.result (g.O.Sink.taken c.close.new.out) c.close.new.builds
-    c.close.new.listener.performance c.close.ensures.ok
+    c.close.new.listener.desk c.close.ensures.ok
 
 pub returns-in-Ok-eq0-clause-stopped : goal.returns-in-Ok-eq0-clause-stopped
 returns-in-Ok-eq0-clause-stopped g c =
     let inv = c.pieces.invariant.0 in
     let end : IsAtEnd (g.S.Source.rest c.read.new.self) = c.in-Ok-eq0.ensures.bytes.1 c.in-Ok-eq0.field-0-test (search rules) in
-    write_closed c.args.session.grammar c.args.session.performance c.in-Ok.listener c.pieces.listener c.in-Ok.ensures inv.0 inv.1 inv.2 inv.3 (g.S.Source.rest c.args.script.now)
+    write_closed (shown c.args.desk) c.in-Ok.listener c.pieces.listener c.in-Ok.ensures inv.0 inv.1 inv.2 inv.3 (g.S.Source.rest c.args.script.now)
     (g.S.Source.rest c.pieces.script) (g.O.Sink.taken c.args.out.now) (g.O.Sink.taken c.pieces.out) c.args.builds.now c.pieces.builds inv.4 inv.5 (g.S.Source.rest c.read.new.self)
     c.in-Ok-eq0.field-0 c.read.new.buf c.in-Ok-eq0.field-0-test c.in-Ok-eq0.ensures.bytes.0 end c.close.result (g.O.Sink.taken c.close.new.out) c.close.new.builds
-    c.close.new.listener.performance (Rose (g.O.Sink.faults c.pieces.out) (g.O.Sink.faults c.close.new.out)) c.close.ensures.cut
+    c.close.new.listener.desk (Rose (g.O.Sink.faults c.pieces.out) (g.O.Sink.faults c.close.new.out)) c.close.ensures.cut
 
 pub returns-in-Ok-eq0-clause-write : goal.returns-in-Ok-eq0-clause-write
 returns-in-Ok-eq0-clause-write g c = λ e.
@@ -35,17 +36,17 @@ pub returns-in-Ok-true-clause-done : goal.returns-in-Ok-true-clause-done
 returns-in-Ok-true-clause-done g c =
     let inv = c.pieces.invariant.0 in
     let end = c.in-Ok-true.ensures.end (ap Ok c.in-Ok-true.field-0-test) in
-    quit_among c.args.session.grammar c.args.session.performance c.in-Ok.listener c.pieces.listener c.in-Ok.ensures inv.0 inv.1 inv.2 inv.3 (g.S.Source.rest c.args.script.now)
+    quit_among (shown c.args.desk) c.in-Ok.listener c.pieces.listener c.in-Ok.ensures inv.0 inv.1 inv.2 inv.3 (g.S.Source.rest c.args.script.now)
     (g.S.Source.rest c.pieces.script) (g.O.Sink.taken c.args.out.now) (g.O.Sink.taken c.pieces.out) c.args.builds.now c.pieces.builds inv.4 inv.5 c.read.new.buf c.in-Ok-read.count
-    (g.S.Source.rest c.read.new.self) (g.O.Sink.taken c.hear_all.new.out) c.hear_all.new.builds end.0 c.in-Ok-read.ensures.bytes.0 (search rules) end.2 c.hear_all.new.listener.performance end.1
+    (g.S.Source.rest c.read.new.self) (g.O.Sink.taken c.hear_all.new.out) c.hear_all.new.builds end.0 c.in-Ok-read.ensures.bytes.0 (search rules) end.2 c.hear_all.new.listener.desk end.1
 
 pub returns-in-Err-hear_all-clause-stopped : goal.returns-in-Err-hear_all-clause-stopped
 returns-in-Err-hear_all-clause-stopped g c =
     let inv = c.pieces.invariant.0 in
     let end = c.in-Err-hear_all.ensures.stop in
-    stopped_among c.args.session.grammar c.args.session.performance c.in-Ok.listener c.pieces.listener c.in-Ok.ensures inv.0 inv.1 inv.2 inv.3 (g.S.Source.rest c.args.script.now)
+    stopped_among (shown c.args.desk) c.in-Ok.listener c.pieces.listener c.in-Ok.ensures inv.0 inv.1 inv.2 inv.3 (g.S.Source.rest c.args.script.now)
     (g.S.Source.rest c.pieces.script) (g.O.Sink.taken c.args.out.now) (g.O.Sink.taken c.pieces.out) c.args.builds.now c.pieces.builds inv.4 inv.5 c.read.new.buf c.in-Ok-read.count
-    (g.S.Source.rest c.read.new.self) (g.O.Sink.taken c.hear_all.new.out) c.hear_all.new.builds end.0 c.in-Ok-read.ensures.bytes.0 (search rules) end.2 c.hear_all.new.listener.performance
+    (g.S.Source.rest c.read.new.self) (g.O.Sink.taken c.hear_all.new.out) c.hear_all.new.builds end.0 c.in-Ok-read.ensures.bytes.0 (search rules) end.2 c.hear_all.new.listener.desk
     c.in-Err-hear_all.stop end.1
 
 pub returns-in-Err-hear_all-clause-write : goal.returns-in-Err-hear_all-clause-write
@@ -55,7 +56,7 @@ returns-in-Err-hear_all-clause-write g c = λ e.
 pub returns-in-Err-clause-stopped : goal.returns-in-Err-clause-stopped
 returns-in-Err-clause-stopped g c =
     let inv = c.pieces.invariant.0 in
-    broken_off c.args.session.grammar c.args.session.performance c.in-Ok.listener c.pieces.listener c.in-Ok.ensures inv.0 inv.1 inv.2 inv.3 (g.S.Source.rest c.args.script.now)
+    broken_off (shown c.args.desk) c.in-Ok.listener c.pieces.listener c.in-Ok.ensures inv.0 inv.1 inv.2 inv.3 (g.S.Source.rest c.args.script.now)
     (g.S.Source.rest c.pieces.script) (g.O.Sink.taken c.args.out.now) (g.O.Sink.taken c.pieces.out) c.args.builds.now c.pieces.builds inv.4 inv.5 (g.S.Source.rest c.read.new.self) c.in-Err.ensures.bytes
 
 pub returns-in-Err-clause-read : goal.returns-in-Err-clause-read

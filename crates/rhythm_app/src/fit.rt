@@ -1,0 +1,231 @@
+ghost use Rattle.barline_fit.specs.Builds.{AreReachedAt, AreWithinReach};
+ghost use Rattle.barline_fit.specs.Candidates.{ticks_of};
+ghost use Rattle.barline_fit.specs.Fitted.{IsAcceptedAt, IsFitFault, IsFitted};
+ghost use Rattle.barline_fit.specs.FittedScore.{IsFittedScore};
+ghost use Rattle.barline_fit.specs.declared.fit_fault.FitFault.TheVariants as fitting;
+ghost use Rattle.edit_session.specs.Opening.{CanOpen, cells_of};
+ghost use Rattle.edit_session.specs.Prepared.{RisesBy};
+ghost use Rattle.rhythm_app.specs.Asked.{AreTried, fit};
+ghost use Rattle.rhythm_app.specs.Builds.{AreSomeFitted, HasFitted, HasPartlyFitted, HasTried, MatchFitted};
+ghost use Rattle.rhythm_app.specs.Outcome.{IsFitting, fit_line, fit_stop, fit_text};
+ghost use Rattle.rhythm_app.specs.Stages.{CountsAlone, Follows, HasText, IsOfContent, said_of};
+ghost use Rattle.rhythm_app.specs.declared.stop.Stop.TheVariants as stop;
+ghost use Rattle.rhythm_base.specs.Counter.{risen};
+ghost use Rattle.rhythm_base.specs.Readable.{IsReadable};
+ghost use Rattle.rhythm_base.specs.declared.limits.TheConstants.{MOST_NOTES};
+ghost use Rattle.std.specs.Prelude.{◌≡◌, ◌≢◌, ◌≤◌, ◌⊎◌, ◌∷◌, [], ℕ, List, Err, IfErr, IfOk, Ok, OnOk, Some, length};
+
+use crate::inputs::read_inputs;
+use crate::lent::Lent;
+use crate::request::FileNames;
+use crate::session::open_session;
+use crate::stop::Stop;
+use barline_fit::{
+    Candidate, Candidates, FitFault, Fitted, ScoreFault, best_barline, fitted_score,
+};
+use edit_session::Session;
+use rhythm_base::{Grammar, Performance, Tag};
+use rhythm_ports::{Gate, Shelf, Sink, Source};
+use std::alloc::{AllocError, Global};
+use std::thread::Threads;
+
+/// A fault of fitting a barline as a stop.
+fn fit_stop(fault: FitFault) -> Stop
+    ensures { result ≡ fit_stop fault }
+{
+    match fault {
+        FitFault::NoBar(bar) => Stop::NoBarline { bar },
+        FitFault::NoCandidate => Stop::NoCandidate,
+        FitFault::Memory => Stop::Memory,
+    }
+}
+
+/// The line of a fitted tick, and the score after it.
+fn text_with(alloc: Global, fitted: Fitted, score: &[u8]) -> Result<Vec<u8>, AllocError>
+    ensures { IfOk result (λ text. text.items ≡ fit_text fitted score.now) }
+{
+    let mut tick = itoa::Buffer::new();
+    let mut cost = itoa::Buffer::new();
+    let mut text = Vec::new(alloc);
+    text.extend_from_slice(b"fit ")?;
+    text.extend_from_slice(tick.format(fitted.tick).as_bytes())?;
+    text.extend_from_slice(b" ")?;
+    text.extend_from_slice(cost.format(fitted.cost).as_bytes())?;
+    text.extend_from_slice(b"\n")?;
+    text.extend_from_slice(score)?;
+    Ok(text)
+}
+
+/// The best tick among the candidates for a barline of a session.
+fn tick_among<R: Threads + Sync, F: Shelf, S: Source, O: Sink, E: Sink, G: Gate + Sync, B: Tag>(
+    lent: &mut Lent<R, F, S, O, E, G, B>,
+    session: &mut Session,
+    among: Candidates,
+) -> Result<Fitted, FitFault>
+    requires { AreTried among }
+    ensures fitted { IfOk result (IsFitted session.old.grammar session.old.performance among.bar (ticks_of among)) }
+    ensures fault { IfErr result (IsFitFault session.old.grammar session.old.performance among.bar (ticks_of among)) }
+    ensures same { session.new ≡ session.old }
+    ensures builds { result ≢ Err fitting.Memory → HasTried among session.old.grammar session.old.performance lent.old.built lent.new.built }
+    ensures unbuilt { result ≡ Err (fitting.NoBar among.bar) → lent.new.built ≡ lent.old.built }
+    ensures most { RisesBy lent.old.built lent.new.built (AreWithinReach session.old.grammar session.old.performance among.bar (ticks_of among)) }
+    ensures rises { lent.old.built ≤ lent.new.built }
+    ensures multiplies { lent.old.multiplied ≤ lent.new.multiplied }
+    ensures counts { CountsAlone lent.old lent.new }
+{
+    best_barline(
+        lent.rt,
+        lent.alloc,
+        session,
+        among,
+        lent.gate,
+        &mut lent.builds,
+        &mut lent.products,
+    )
+}
+
+/// The score of a session with a barline at a tick where it can be set.
+fn score_at<R: Threads + Sync, F: Shelf, S: Source, O: Sink, E: Sink, G: Gate + Sync, B: Tag>(
+    lent: &mut Lent<R, F, S, O, E, G, B>,
+    session: &mut Session,
+    candidate: Candidate,
+) -> Result<Vec<u8>, Stop>
+    requires { (cost : ℕ) × IsAcceptedAt session.old.grammar session.old.performance candidate.bar candidate.tick cost }
+    ensures text { IfOk result (λ v. IsFittedScore session.old.grammar session.old.performance candidate.bar candidate.tick (Ok v.items)) }
+    ensures stop { IfErr result (λ s. (s ≡ stop.Memory)
+        ⊎ ((line : ℕ) × IsFittedScore session.old.grammar session.old.performance candidate.bar candidate.tick (Err line) × (s ≡ stop.ScoreTooLong line))) }
+    ensures builds { result ≢ Err stop.Memory
+        → RisesBy lent.old.built lent.new.built (AreReachedAt session.old.grammar session.old.performance candidate.bar (candidate.tick ∷ [])) }
+    ensures most { RisesBy lent.old.built lent.new.built (AreWithinReach session.old.grammar session.old.performance candidate.bar (candidate.tick ∷ [])) }
+    ensures rises { lent.old.built ≤ lent.new.built }
+    ensures multiplies { lent.old.multiplied ≤ lent.new.multiplied }
+    ensures counts { CountsAlone lent.old lent.new }
+{
+    let score = fitted_score(
+        lent.rt,
+        lent.alloc,
+        session,
+        candidate,
+        lent.gate,
+        &mut lent.builds,
+        &mut lent.products,
+    );
+    match score {
+        Ok(score) => Ok(score),
+        Err(ScoreFault::TooLong { line }) => Err(Stop::ScoreTooLong { line }),
+        Err(ScoreFault::Memory) => Err(Stop::Memory),
+    }
+}
+
+/// The text of a fit, where a tick is fitted.
+fn fitted_text<R: Threads + Sync, F: Shelf, S: Source, O: Sink, E: Sink, G: Gate + Sync, B: Tag>(
+    lent: &mut Lent<R, F, S, O, E, G, B>,
+    session: &mut Session,
+    bar: u32,
+    fitted: Fitted,
+) -> Result<Vec<u8>, Stop>
+    requires { (cost : ℕ) × IsAcceptedAt session.old.grammar session.old.performance bar fitted.tick cost }
+    ensures text { IfOk result (λ v. (score : List ℕ) × IsFittedScore session.old.grammar session.old.performance bar fitted.tick (Ok score)
+        × (v.items ≡ fit_text fitted score)) }
+    ensures stop { IfErr result (λ s. (s ≡ stop.Memory)
+        ⊎ ((line : ℕ) × IsFittedScore session.old.grammar session.old.performance bar fitted.tick (Err line) × (s ≡ stop.ScoreTooLong line))) }
+    ensures builds { result ≢ Err stop.Memory
+        → RisesBy lent.old.built lent.new.built (AreReachedAt session.old.grammar session.old.performance bar (fitted.tick ∷ [])) }
+    ensures most { RisesBy lent.old.built lent.new.built (AreWithinReach session.old.grammar session.old.performance bar (fitted.tick ∷ [])) }
+    ensures rises { lent.old.built ≤ lent.new.built }
+    ensures multiplies { lent.old.multiplied ≤ lent.new.multiplied }
+    ensures counts { CountsAlone lent.old lent.new }
+{
+    let candidate = Candidate {
+        bar,
+        tick: fitted.tick,
+    };
+    match score_at(lent, session, candidate) {
+        Ok(score) => match text_with(lent.alloc, fitted, score.as_slice()) {
+            Ok(text) => Ok(text),
+            Err(_error) => Err(Stop::Memory),
+        },
+        Err(stop) => Err(stop),
+    }
+}
+
+/// The text of the fit of a barline of a session.
+fn fit_over<R: Threads + Sync, F: Shelf, S: Source, O: Sink, E: Sink, G: Gate + Sync, B: Tag>(
+    lent: &mut Lent<R, F, S, O, E, G, B>,
+    session: &mut Session,
+    among: Candidates,
+) -> Result<Vec<u8>, Stop>
+    requires tried { AreTried among }
+    requires can { CanOpen session.old.grammar session.old.performance }
+    ensures tests { Follows (IsFitting among session.old.grammar session.old.performance) (said_of result) }
+    ensures content { IfErr result IsOfContent }
+    ensures all { OnOk result (HasFitted among session.old.grammar session.old.performance lent.old.built lent.new.built) }
+    ensures built { IfErr result (MatchFitted (lent.new.built ≡ lent.old.built) (HasTried among session.old.grammar session.old.performance lent.old.built lent.new.built)
+        (HasFitted among session.old.grammar session.old.performance lent.old.built lent.new.built)
+        (HasPartlyFitted among session.old.grammar session.old.performance lent.old.built lent.new.built) ⊥) }
+    ensures rises { lent.old.built ≤ lent.new.built }
+    ensures multiplies { lent.old.multiplied ≤ lent.new.multiplied }
+    ensures counts { CountsAlone lent.old lent.new }
+{
+    match tick_among(lent, session, among) {
+        Ok(fitted) => fitted_text(lent, session, among.bar, fitted),
+        Err(fault) => Err(fit_stop(fault)),
+    }
+}
+
+/// The text of the fit of a barline of a performance. Each of its cells is built once, by one of the workers, and then those that the
+/// barline reaches at its candidates.
+fn fitted_by<R: Threads + Sync, F: Shelf, S: Source, O: Sink, E: Sink, G: Gate + Sync, B: Tag>(
+    lent: &mut Lent<R, F, S, O, E, G, B>,
+    workers: u32,
+    among: Candidates,
+    grammar: Grammar,
+    performance: Performance,
+) -> Result<Vec<u8>, Stop>
+    requires some_worker { 1 ≤ workers }
+    requires few_workers { workers ≤ 16 }
+    requires tried { AreTried among }
+    requires readable { IsReadable grammar }
+    requires few_notes { length performance.notes ≤ MOST_NOTES }
+    ensures tests { Follows (IsFitting among grammar performance) (said_of result) }
+    ensures content { IfErr result IsOfContent }
+    ensures all { OnOk result (HasFitted among grammar performance (risen lent.old.built (cells_of performance)) lent.new.built) }
+    ensures built { IfErr result (MatchFitted (lent.new.built ≡ risen lent.old.built (cells_of performance))
+        (HasTried among grammar performance (risen lent.old.built (cells_of performance)) lent.new.built)
+        (HasFitted among grammar performance (risen lent.old.built (cells_of performance)) lent.new.built)
+        (AreSomeFitted among grammar performance lent.old.built lent.new.built) (lent.new.built ≡ lent.old.built)) }
+    ensures rises { lent.old.built ≤ lent.new.built }
+    ensures multiplies { lent.old.multiplied ≤ lent.new.multiplied }
+    ensures counts { CountsAlone lent.old lent.new }
+{
+    match open_session(lent, workers, grammar, performance) {
+        Ok(mut session) => fit_over(lent, &mut session, among),
+        Err(stop) => Err(stop),
+    }
+}
+
+/// The text of the fit of a barline of the performance of a MIDI file, by a grammar file.
+pub fn fit_text_of<
+    R: Threads + Sync,
+    F: Shelf,
+    S: Source,
+    O: Sink,
+    E: Sink,
+    G: Gate + Sync,
+    B: Tag,
+>(
+    lent: &mut Lent<R, F, S, O, E, G, B>,
+    workers: u32,
+    names: FileNames,
+    among: Candidates,
+) -> Result<Vec<u8>, Stop>
+    requires some_worker { 1 ≤ workers }
+    requires few_workers { workers ≤ 16 }
+    requires tried { AreTried among }
+    ensures { HasText (Some (fit names.entry.midi.now names.entry.grammar.now among)) lent.old lent.new result }
+{
+    match read_inputs(lent, names) {
+        Ok((grammar, performance)) => fitted_by(lent, workers, among, grammar, performance),
+        Err(stop) => Err(stop),
+    }
+}

@@ -1,0 +1,100 @@
+ghost use Rattle.edit_script.specs.ReplyText.{reply_text};
+ghost use Rattle.edit_script.specs.declared.reply.Refusal.TheVariants as refusals;
+ghost use Rattle.edit_script.specs.declared.reply.Reply.TheVariants as replies;
+ghost use Rattle.rhythm_base.specs.Counter.{risen};
+ghost use Rattle.rhythm_base.specs.Edits.{IsEditInRange, edited};
+ghost use Rattle.rhythm_base.specs.declared.command.Command.TheVariants as command;
+ghost use Rattle.rhythm_base.specs.declared.edit_fault.EditFault.TheVariants as faults;
+ghost use Rattle.script_run.specs.Answers.{IsBuiltForEdit, Quits};
+ghost use Rattle.script_run.specs.Studio.{AnswersStudioLine, MayAnswerInStudio};
+ghost use Rattle.session_history.specs.StudioReplies.{studio_reply_text};
+ghost use Rattle.session_history.specs.declared.studio_command.StudioCommand.TheVariants as studio_command;
+ghost use Rattle.session_history.specs.declared.studio_reply.StudioReply.TheVariants as studio;
+ghost use Rattle.std.specs.Prelude.{◌≡◌, ◌≢◌, ◌≤◌, ◌↔◌, ℕ, IsOk, MatchResult};
+
+use crate::means::Means;
+use crate::reply::{edit_reply, reply_with_alternatives, reply_with_score};
+use carry_matrix::Steps as Products;
+use edit_script::{LineFault, Refusal, Reply};
+use edit_session::Applied;
+use least_cost::Steps as Builds;
+use rhythm_base::{Command, Edit, EditFault, Tag};
+use rhythm_ports::Gate;
+use session_history::{History, NoStep, StudioCommand, StudioReply, read_studio_line};
+use std::thread::Threads;
+
+/// The reply to a line that asks for a step back or on.
+fn step_reply(outcome: Result<Applied, NoStep>) -> StudioReply
+    ensures { MatchResult outcome (λ a. result ≡ studio.Plain (replies.Done a.built a.cost)) (λ _. result ≡ studio.NoStep) }
+{
+    match outcome {
+        Ok(applied) => StudioReply::Plain(Reply::Done {
+            built: applied.built,
+            cost: applied.cost,
+        }),
+        Err(NoStep) => StudioReply::NoStep,
+    }
+}
+
+/// The reply to an edit, which becomes the last step where it is accepted.
+fn reply_to_edit<R: Threads + Sync, G: Gate + Sync, B: Tag, P: Tag>(
+    means: &Means<R, G>,
+    history: &mut History,
+    edit: &Edit,
+    builds: &mut Builds<B>,
+    products: &mut Products<P>,
+) -> Reply
+    requires { IsEditInRange edit.now }
+    ensures answer { MayAnswerInStudio history.old (studio_command.Plain (command.Change edit.now)) (reply_text result) history.new }
+    ensures memory { result ≡ replies.Refused (refusals.Edit faults.Memory) → IsOk (edited history.old.present edit.now) }
+    ensures built { (n : ℕ) × IsBuiltForEdit history.old.grammar history.old.present edit.now (reply_text result) n × (builds.new ≡ risen builds.old n) }
+    ensures goes_on { result ≢ replies.Bye }
+    ensures products { products.old ≤ products.new }
+{
+    edit_reply(history.apply(means.rt, means.alloc, edit, means.gate, builds, products))
+}
+
+/// The reply to a line of a studio, which changes the history where the line says an edit that is accepted, or a step that is there.
+pub fn studio_reply_to<R: Threads + Sync, G: Gate + Sync, B: Tag, P: Tag>(
+    means: &Means<R, G>,
+    history: &mut History,
+    line: &[u8],
+    builds: &mut Builds<B>,
+    products: &mut Products<P>,
+) -> StudioReply
+    ensures answer { (n : ℕ) × AnswersStudioLine history.old line.now (studio_reply_text result) n history.new × (builds.new ≡ risen builds.old n) }
+    ensures ends { (result ≡ studio.Plain replies.Bye) ↔ Quits line.now }
+    ensures products { products.old ≤ products.new }
+{
+    match read_studio_line(means.alloc, line) {
+        Ok(StudioCommand::Undo) => step_reply(history.undo(products)),
+        Ok(StudioCommand::Redo) => step_reply(history.redo(products)),
+        Ok(StudioCommand::Plain(Command::Change(edit))) => {
+            StudioReply::Plain(reply_to_edit(means, history, &edit, builds, products))
+        }
+        Ok(StudioCommand::Plain(Command::Score)) => {
+            StudioReply::Plain(reply_with_score(means.alloc, history.session()))
+        }
+        Ok(
+            StudioCommand::Plain(
+                Command::Alternatives {
+                    channel,
+                    bar,
+                    count,
+                },
+            ),
+        ) => StudioReply::Plain(reply_with_alternatives(
+            means.alloc,
+            history.session(),
+            channel,
+            bar,
+            count,
+            products,
+        )),
+        Ok(StudioCommand::Plain(Command::Quit)) => StudioReply::Plain(Reply::Bye),
+        Err(LineFault::BadLine) => StudioReply::Plain(Reply::Refused(Refusal::Line)),
+        Err(LineFault::Memory) => StudioReply::Plain(Reply::Refused(Refusal::Edit(
+            EditFault::Memory,
+        ))),
+    }
+}
