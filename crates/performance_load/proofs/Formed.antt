@@ -1,5 +1,5 @@
 -- The performance of a file is well formed.
-use Rattle.std.proofs.Common.{◌≡◌, ℕ, zero, suc, ◌<◌, ◌≤◌, List, [], ◌∷◌, length, map, get_or, subst, refl, ap, ◌∙◌, arith, Some, Err}
+use Rattle.std.proofs.Common.{◌≡◌, ℕ, zero, suc, ◌<◌, ◌≤◌, List, [], ◌∷◌, length, map, get_or, subst, refl, sym, ap, ◌∙◌, arith, Some, Err}
 use Rattle.std.specs.Prelude.{All, ◌≤ℤ◌, pos, negsuc}
 use Rattle.std.specs.List.Sorted.{IsNonDecreasing}
 use Rattle.std.proofs.lemmas.List.Elements.{All-nil}
@@ -20,8 +20,10 @@ use Rattle.smf_reader.specs.Ranges.{IsPlayedFile, IsPlayedTrack, IsSaid}
 use Rattle.rhythm_base.specs.declared.bar_fault.BarFault.{BarFault}
 use Rattle.rhythm_base.specs.declared.bar_fault.BarFault.TheVariants as laying
 use Rattle.tempo_map.specs.Laying.{AreBars, Lays}
-use Rattle.performance_load.specs.Loading.{AreMergedOf, AreVoicesOf, Loads, bar_fault_gives, greatest_end, greatest_onset, last_tick}
+use Rattle.performance_load.specs.Loading.{AreMergedOf, AreVoicesOf, LoadedPerformancesAreWellFormed, Loads, bar_fault_gives, greatest_end, greatest_onset, last_tick}
 use Rattle.performance_load.proofs.EventLemmas.{all_merged, all_tracks, below_greatest, chosen_all, chosen_in_order, greatest_low}
+use Rattle.performance_load.proofs.LaidBars.{laid_are_bars}
+use Rattle.performance_load.proofs.PlayedNotes.{notes_are_played}
 use Rattle.performance_load.proofs.SomeNote.{some_note}
 
 -- ---- the events
@@ -109,7 +111,10 @@ module _ (f : Smf) (events : List Event) (played : IsPlayedFile f) (merged : Are
 
   -- ---- the notes and the bars
 
-  module _ (notes : List Note) (paired : ArePaired (last_tick f) events notes) (sounded : All (IsPlayed (last_tick f)) notes) where
+  module _ (notes : List Note) (paired : ArePaired (last_tick f) events notes) where
+    sounded : All (IsPlayed (last_tick f)) notes
+    sounded = notes_are_played (last_tick f) events notes merged.in_order are_events paired.notes
+
     pub onset_low : greatest_onset notes ≤ greatest_end notes
     onset_low =
         greatest_low (λ n. n.onset) notes (greatest_end notes) (λ k d lt.
@@ -190,6 +195,36 @@ module _ (f : Smf) (events : List Event) (played : IsPlayedFile f) (merged : Are
         pins = All-nil (IsPinOf channels (length bars));
         pins_in_order = λ i j d less within. absurd (omega (arith, within));
       }
+
+-- so is any that the file says
+pub loaded_formed : LoadedPerformancesAreWellFormed
+loaded_formed f p played h =
+    let low = onset_low f h.events played h.merged p.notes h.notes in
+    let near = end_low f h.events played h.merged p.notes h.notes in
+    let laid =
+    laid_are_bars f.division (signatures_of h.events) (greatest_onset p.notes) (greatest_end p.notes) played.few_ticks low near p.bars p.last
+    played.some_tick h.bars in
+    let well = formed f h.events played h.merged p.notes h.notes p.bars p.last p.channels laid h.bars.1 h.voices in
+    let same : record {
+      division = f.division;
+      tempos = tempos_of h.events;
+      key_marks = keys_of h.events;
+      bars = p.bars;
+      last = p.last;
+      channels = p.channels;
+      notes = p.notes;
+      pins = [];
+    } ≡ p = λ i. record {
+      division = sym h.division i;
+      tempos = sym h.tempos i;
+      key_marks = sym h.key_marks i;
+      bars = p.bars;
+      last = p.last;
+      channels = p.channels;
+      notes = p.notes;
+      pins = sym h.pins i;
+    } in
+    subst IsWellFormed same well
 
 -- a fault of the bars is one of loading
 pub bars_at_fault : (f : Smf) (events : List Event) (notes : List Note) (fault : BarFault) → AreMergedOf f events → ArePaired (last_tick f) events notes

@@ -10,10 +10,11 @@ use Rattle.rhythm_base.specs.declared.event.Event.{Event}
 use Rattle.rhythm_base.specs.declared.note.Note.{Note}
 use Rattle.rhythm_base.specs.Bars.{IsLaying}
 use Rattle.rhythm_base.specs.Events.{IsMerged}
-use Rattle.rhythm_base.specs.Performance.{Performance}
+use Rattle.rhythm_base.specs.Performance.{IsWellFormed, Performance}
 use Rattle.rhythm_base.specs.Time.{keys_of, signatures_of, tempos_of}
 use Rattle.rhythm_base.specs.Lists.{greatest}
 use Rattle.smf_reader.specs.Played.{Smf}
+use Rattle.smf_reader.specs.Ranges.{IsPlayedFile}
 use Rattle.performance_load.specs.declared.load_fault.LoadFault.{LoadFault}
 use Rattle.performance_load.specs.declared.load_fault.LoadFault.TheVariants.{Notes, Bars, Memory}
 
@@ -62,6 +63,10 @@ Loads f (Err Memory) = ⊤
 -- a file loads to one performance, or has one fault, but for want of memory
 abbrev pub LoadingsAreOne : Type 0
 LoadingsAreOne = (f : Smf) (r s : Result Performance LoadFault) → Loads f r → Loads f s → r ≢ Err Memory → s ≢ Err Memory → r ≡ s
+
+-- the performance of a file that is in the ranges of what a file can say is well formed
+abbrev pub LoadedPerformancesAreWellFormed : Type 0
+LoadedPerformancesAreWellFormed = (f : Smf) (p : Performance) → IsPlayedFile f → IsLoaded f p → IsWellFormed p
 
 -- a fault of the layer below as one of loading
 abbrev pub note_fault_gives : NoteFault → LoadFault

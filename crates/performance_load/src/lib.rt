@@ -7,6 +7,6 @@ mod laws;
 mod load_fault;
 mod loading;
 
-pub use laws::loadings_are_one;
+pub use laws::{loaded_performances_are_well_formed, loadings_are_one};
 pub use load_fault::LoadFault;
 pub use loading::load;

@@ -13,7 +13,7 @@ use Rattle.rhythm_gen.proofs.Voices.{beats_few}
 use Rattle.smf_bytes.specs.Chunk.{header_bytes, track_chunk_bytes}
 use Rattle.smf_bytes.specs.Track.{bytes_from, end_of_track_bytes, timed_message}
 use Rattle.smf_reader.specs.Outcomes.{SaysFile}
-use Rattle.smf_laws.specs.Written.{AreLater, IsWritable, written_file, written_track}
+use Rattle.smf_laws.specs.Written.{AreLater, IsWritable, IsWritableFile, written_file, written_track}
 use Rattle.smf_laws.proofs.Files.{files_read}
 use Rattle.piece_laws.specs.Events.{meant_file, played_conductor, played_note, played_voice}
 use Rattle.piece_laws.specs.Laws.{PiecesAreRead}
@@ -67,13 +67,17 @@ file_written number bars =
     ∙ ap (λ (c : List ℕ). header_bytes 3 480 ++ (track_chunk_bytes (written_track played_conductor) ++ (track_chunk_bytes (written_track (played_voice upper end)) ++ c)))
     (sym (append-nil (track_chunk_bytes (written_track (played_voice lower end)))))
 
-pub pieces_read : PiecesAreRead
-pieces_read number bars few =
+pub piece_writable : (number bars : ℕ) → bars ≤ 2000 → IsWritableFile (meant_file number bars)
+piece_writable number bars few =
     let start = draw number (4 * bars) in
-    let P : List ℕ → Type 0 = λ bytes. SaysFile bytes (meant_file number bars) in
-    subst P (sym (file_written number bars)) (files_read (meant_file number bars) record {
+    record {
       some_tick = omega arith;
       few_ticks = omega arith;
       few_tracks = omega arith;
       tracks = All-from_recursion IsWritable (meant_file number bars).tracks (conductor_writable, (voice_writable number bars 0 few (omega arith), (voice_writable start bars 1 few (omega arith), tt)));
-    })
+    }
+
+pub pieces_read : PiecesAreRead
+pieces_read number bars few =
+    let P : List ℕ → Type 0 = λ bytes. SaysFile bytes (meant_file number bars) in
+    subst P (sym (file_written number bars)) (files_read (meant_file number bars) (piece_writable number bars few))

@@ -5,3 +5,4 @@ pub mod ChannelNotes
 pub mod PieceEvents
 pub mod PieceNotes
 pub mod PieceBars
+pub mod FormedPieces

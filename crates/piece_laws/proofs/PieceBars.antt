@@ -83,7 +83,7 @@ module _ (number bars : ℕ) where
         (subst P loaded_notes h.bars)
 
 -- a file of a piece says the piece
-says_piece : (number bars : ℕ) (f : Smf) → bars ≤ 2000 → SaysFile (generated number bars) f → f ≡ meant_file number bars
+pub says_piece : (number bars : ℕ) (f : Smf) → bars ≤ 2000 → SaysFile (generated number bars) f → f ≡ meant_file number bars
 says_piece number bars f few says = (one_outcome (generated number bars)).one_reading f (meant_file number bars) says (pieces_read number bars few)
 
 pub pieces_bars : PiecesHaveTheirBars

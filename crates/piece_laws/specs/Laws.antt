@@ -1,6 +1,6 @@
 -- The laws, each as one statement over the definitions.
 use Rattle.std.specs.Prelude.{◌≡◌, ℕ, ◌*◌, ◌≤◌, length, Result, Ok, Err}
-use Rattle.rhythm_base.specs.Performance.{Performance}
+use Rattle.rhythm_base.specs.Performance.{IsWellFormed, Performance}
 use Rattle.rhythm_gen.specs.MidiFile.{generated}
 use Rattle.smf_reader.specs.Outcomes.{SaysFile}
 use Rattle.smf_reader.specs.Played.{Smf}
@@ -35,3 +35,7 @@ pub record PiecesHaveTheirBars : Type 0 where
 pub record PiecesKeepTheirNotes : Type 0 where
   pub notes : (number bars : ℕ) (p : Performance) → IsLoadingOf number bars (Ok p) → p.notes ≡ meant_notes number bars
   pub many : (number bars : ℕ) (p : Performance) → IsLoadingOf number bars (Ok p) → 2 * bars ≤ length p.notes
+
+-- it is well formed
+abbrev pub PiecesAreWellFormed : Type 0
+PiecesAreWellFormed = (number bars : ℕ) (p : Performance) → IsLoadingOf number bars (Ok p) → IsWellFormed p

@@ -1,4 +1,4 @@
-ghost use Rattle.piece_laws.specs.Laws.{PiecesAreLoaded, PiecesAreRead, PiecesHaveTheirBars, PiecesKeepTheirNotes};
+ghost use Rattle.piece_laws.specs.Laws.{PiecesAreLoaded, PiecesAreRead, PiecesAreWellFormed, PiecesHaveTheirBars, PiecesKeepTheirNotes};
 
 /// The reader of MIDI files reads of a piece the events that it was made of.
 pub fn pieces_are_read()
@@ -18,4 +18,9 @@ pub fn pieces_have_their_bars()
 /// A piece has the notes that it was made of when it is loaded, at least twice as many as bars.
 pub fn pieces_keep_their_notes()
     ensures { PiecesKeepTheirNotes }
+{}
+
+/// The performance of a piece is well formed.
+pub fn pieces_are_well_formed()
+    ensures { PiecesAreWellFormed }
 {}

@@ -5,5 +5,6 @@
 mod laws;
 
 pub use laws::{
-    pieces_are_loaded, pieces_are_read, pieces_have_their_bars, pieces_keep_their_notes,
+    pieces_are_loaded, pieces_are_read, pieces_are_well_formed, pieces_have_their_bars,
+    pieces_keep_their_notes,
 };

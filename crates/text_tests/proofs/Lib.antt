@@ -1,1 +1,2 @@
 pub mod FourQuarters
+pub mod TwoVoices

@@ -1,5 +1,6 @@
 //! Tests of what is read and written as text: the words of command lines, grammar files, and the lines of edit scripts
-//! with the replies to them; and of what such lines make of a performance. They call public functions alone.
+//! with the replies to them; of what such lines make of a performance; and of the text that a session starts from. They
+//! call public functions alone.
 #![tactic(auto)]
 
 #[cfg(test)]
@@ -9,4 +10,8 @@ mod edits;
 #[cfg(test)]
 mod grammars;
 #[cfg(test)]
+mod notes;
+#[cfg(test)]
 mod scripts;
+#[cfg(test)]
+mod written_scripts;

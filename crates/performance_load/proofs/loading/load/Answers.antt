@@ -6,7 +6,7 @@ use Rattle.rhythm_base.specs.declared.note.Note.{Note}
 use Rattle.rhythm_base.specs.Bars.{AreEnough}
 use Rattle.rhythm_base.specs.Performance.{IsWellFormed}
 use Rattle.rhythm_base.specs.Time.{keys_of, signatures_of, tempos_of}
-use Rattle.note_list.specs.Pairing.{ArePaired, IsEventOf, IsPlayed}
+use Rattle.note_list.specs.Pairing.{ArePaired, IsEventOf}
 use Rattle.smf_reader.specs.Played.{Smf}
 use Rattle.tempo_map.specs.Laying.{AreBars, Lays}
 use Rattle.performance_load.specs.Loading.{AreVoicesOf, Loads, bar_fault_gives, greatest_end, greatest_onset, last_tick}
@@ -25,18 +25,16 @@ lay_bars-requires-clause-signatures c =
 
 pub lay_bars-requires-clause-onset : goal.lay_bars-requires-clause-onset
 lay_bars-requires-clause-onset c =
-    let sounded : All (IsPlayed (last_tick c.args.smf.now)) c.in_ok-notes.notes.items = subst (λ t. All (IsPlayed t) c.in_ok-notes.notes.items) c.last.ensures c.in_ok-notes.ensures.played in
     let paired : ArePaired (last_tick c.args.smf.now) c.in_ok-events.events.items c.in_ok-notes.notes.items =
     subst (λ t. ArePaired t c.in_ok-events.events.items c.in_ok-notes.notes.items) c.last.ensures (subst (λ es. ArePaired c.last.result es c.in_ok-notes.notes.items) c.deref.ensures.value c.in_ok-notes.ensures.notes) in
-    let low = onset_low c.args.smf.now c.in_ok-events.events.items c.requires c.in_ok-events.ensures c.in_ok-notes.notes.items paired sounded in
+    let low = onset_low c.args.smf.now c.in_ok-events.events.items c.requires c.in_ok-events.ensures c.in_ok-notes.notes.items paired in
     omega (arith, low, c.last_onset.ensures ∙ ap greatest_onset c.deref-4.ensures.value, c.last_end.ensures ∙ ap greatest_end c.deref-5.ensures.value)
 
 pub lay_bars-requires-clause-end : goal.lay_bars-requires-clause-end
 lay_bars-requires-clause-end c =
-    let sounded : All (IsPlayed (last_tick c.args.smf.now)) c.in_ok-notes.notes.items = subst (λ t. All (IsPlayed t) c.in_ok-notes.notes.items) c.last.ensures c.in_ok-notes.ensures.played in
     let paired : ArePaired (last_tick c.args.smf.now) c.in_ok-events.events.items c.in_ok-notes.notes.items =
     subst (λ t. ArePaired t c.in_ok-events.events.items c.in_ok-notes.notes.items) c.last.ensures (subst (λ es. ArePaired c.last.result es c.in_ok-notes.notes.items) c.deref.ensures.value c.in_ok-notes.ensures.notes) in
-    let low = end_low c.args.smf.now c.in_ok-events.events.items c.requires c.in_ok-events.ensures c.in_ok-notes.notes.items paired sounded in
+    let low = end_low c.args.smf.now c.in_ok-events.events.items c.requires c.in_ok-events.ensures c.in_ok-notes.notes.items paired in
     omega (arith, low, c.last_end.ensures ∙ ap greatest_end c.deref-5.ensures.value)
 
 pub returns-in_err-laid : goal.returns-in_err-laid
@@ -62,7 +60,6 @@ make-requires c =
     let f : Smf = c.args.smf.now in
     let events : List Event = c.in_ok-events.events.items in
     let notes : List Note = c.in_ok-notes.notes.items in
-    let sounded : All (IsPlayed (last_tick f)) notes = subst (λ t. All (IsPlayed t) notes) c.last.ensures c.in_ok-notes.ensures.played in
     let paired : ArePaired (last_tick f) events notes =
     subst (λ t. ArePaired t events notes) c.last.ensures (subst (λ es. ArePaired c.last.result es notes) c.deref.ensures.value c.in_ok-notes.ensures.notes) in
     let onset : c.last_onset.result ≡ greatest_onset notes = c.last_onset.ensures ∙ ap greatest_onset c.deref-4.ensures.value in
@@ -78,7 +75,7 @@ make-requires c =
     (subst (λ e. AreEnough c.last_onset.result e c.in_ok-laid.laid.bars c.in_ok-laid.laid.last) end c.in_ok-laid.ensures.laid.1) in
     let laid : AreBars f.division c.in_ok-laid.laid.bars c.in_ok-laid.laid.last = subst (λ d. AreBars d c.in_ok-laid.laid.bars c.in_ok-laid.laid.last) division c.in_ok-laid.ensures.formed in
     let voices : AreVoicesOf notes c.in_ok-channels.channels.items = subst (λ ns. AreVoicesOf ns c.in_ok-channels.channels.items) c.deref-6.ensures.value c.in_ok-channels.ensures in
-    let well = formed f events c.requires c.in_ok-events.ensures notes paired sounded c.in_ok-laid.laid.bars c.in_ok-laid.laid.last c.in_ok-channels.channels.items laid enough voices in
+    let well = formed f events c.requires c.in_ok-events.ensures notes paired c.in_ok-laid.laid.bars c.in_ok-laid.laid.last c.in_ok-channels.channels.items laid enough voices in
     let same : record {
       division = f.division;
       tempos = tempos_of events;

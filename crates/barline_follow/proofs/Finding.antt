@@ -1,0 +1,254 @@
+-- What a list comes to with a bar more, by the heads of its voices.
+use Rattle.std.proofs.Common.{◌≡◌, ◌≢◌, inl, inr, ℕ, zero, suc, ◌+◌, ◌-◌, ◌*◌, ◌^◌, ◌<◌, ◌≤◌, Bool, true, false, not, List, [], ◌∷◌, ◌++◌, length, map, refl, ap, sym, ◌∙◌, subst, arith}
+use Rattle.std.specs.Prelude.{All, Option, Some, None, nat_le, slice_index_or}
+use Rattle.std.specs.List.{list_any, zip}
+use Rattle.std.proofs.Math.Nat.{mul-le-mul_right}
+use Rattle.std.proofs.lemmas.Bool.{cases_lt, false≢true, true≢false}
+use Rattle.std.proofs.lemmas.List.{length-append}
+use Rattle.std.proofs.lemmas.List.Elements.{All-append, All-nil}
+use Rattle.bar_pool.specs.Pool.{AreTablesOf}
+use Rattle.chain_bars.specs.Laws.{AreTables, matrices}
+use Rattle.chain_bars.specs.Tower.{cost_of}
+use Rattle.chain_bars.proofs.Voices.{tables_long}
+use Rattle.edit_session.proofs.Channels.{few_channels}
+use Rattle.edit_session.proofs.PathCosts.{least_cheap}
+use Rattle.rhythm_base.specs.declared.chord.Chord.{Chord}
+use Rattle.rhythm_base.specs.declared.inner.Inner.{Inner}
+use Rattle.rhythm_base.specs.declared.limits.TheConstants.{DEAREST_CELL, LATEST_TICK}
+use Rattle.rhythm_base.specs.declared.note.Bar.{Bar}
+use Rattle.rhythm_base.specs.declared.pin.Pin.{Pin}
+use Rattle.rhythm_base.specs.BarTables.{BarTable}
+use Rattle.rhythm_base.specs.Edits.{is_past, next_bar, with_start}
+use Rattle.rhythm_base.specs.Grammar.{Grammar, root_of}
+use Rattle.rhythm_base.specs.Leaves.{VoiceBar, soundings}
+use Rattle.rhythm_base.specs.Lists.{Each, last_end}
+use Rattle.rhythm_base.specs.Paths.{AreCheap}
+use Rattle.rhythm_base.specs.Performance.{Performance}
+use Rattle.rhythm_base.specs.Ranked.{Key, five, least_key}
+use Rattle.rhythm_base.specs.Voices.{AreChordsOf, HasStarts, voice_bars_from}
+use Rattle.rhythm_laws.specs.Voices.{Adjacent}
+use Rattle.rhythm_laws.proofs.CheapTables.{table_cheap}
+use Rattle.rhythm_laws.proofs.OrderedLists.{all_cons}
+use Rattle.rhythm_laws.proofs.Products.{five_at}
+use Rattle.barline_follow.specs.declared.heads.Heads.{Heads}
+use Rattle.barline_follow.specs.declared.next_bar.NextBar.{NextBar}
+use Rattle.barline_follow.specs.declared.offers.Offer.{Offer}
+use Rattle.barline_follow.specs.Bars.{bars_on, is_closed, pattern_of, with_barlines}
+use Rattle.barline_follow.specs.Barring.{Track, end_of}
+use Rattle.barline_follow.specs.Costs.{AreLow, cost_at, costs_with, total}
+use Rattle.barline_follow.specs.NextBars.{IsNextBar, IsTrackOf, IsTried, cells}
+use Rattle.barline_follow.specs.Rounds.{Draft, GoesOn, IsFound, IsWhole, at_cost, going, lost, whole, with_bar}
+use Rattle.barline_follow.specs.Tracks.{AreHeads, bars_of, cell}
+use Rattle.barline_follow.proofs.CostLemmas.{cost_key}
+use Rattle.barline_follow.proofs.Further.{last_pushed}
+use Rattle.barline_follow.proofs.HeadCosts.{head_cost, no_head_cost, no_whole_cost, whole_cost}
+use Rattle.barline_follow.proofs.LongerBars.{bars_more, heads_more, near_more}
+use Rattle.barline_follow.proofs.Searching.{each_long}
+
+-- ---- heads are low
+
+one_at_most : (tick : ℕ) (o : Option Bar) → length (next_bar tick o) ≤ 1
+one_at_most tick None = omega arith
+one_at_most tick (Some b) = omega arith
+
+bars_short : (p : Performance) (i : ℕ) (ticks : List ℕ) → length (bars_on p i ticks) ≤ length ticks - 1
+bars_short p i [] = omega arith
+bars_short p i (t ∷ []) = omega arith
+bars_short p i (t ∷ u ∷ ticks) =
+    let rest = bars_short p (suc i) (u ∷ ticks) in
+    let one = one_at_most t (pattern_of p i) in
+    let both = length-append (next_bar t (pattern_of p i)) (bars_on p (suc i) (u ∷ ticks)) in
+    omega (arith, rest, one, both)
+
+bars_long : (g : Grammar) (pins : List Pin) (channel last i : ℕ) (bars : List Bar) → length (voice_bars_from g pins channel last i bars) ≡ length bars
+bars_long g pins channel last i [] = refl
+bars_long g pins channel last i (b ∷ bars) = ap suc (bars_long g pins channel last (suc i) bars)
+
+cheap : (g : Grammar) (cs : List Inner) (bars : List VoiceBar) (tables : List BarTable) → AreTables g cs bars tables → AreCheap DEAREST_CELL (matrices tables)
+cheap g cs [] [] h = tt
+cheap g cs [] (x ∷ tables) h = absurd h
+cheap g cs (bar ∷ bars) [] h = absurd h
+cheap g cs (bar ∷ bars) (x ∷ tables) h = (table_cheap g x h.0, cheap g cs bars tables h.2)
+
+past_five : (f : ℕ → Option ℕ) (n : ℕ) → 5 ≤ n → slice_index_or (five f) n None ≡ None
+past_five f zero h = absurd (omega (arith, h))
+past_five f (suc zero) h = absurd (omega (arith, h))
+past_five f (suc (suc zero)) h = absurd (omega (arith, h))
+past_five f (suc (suc (suc zero))) h = absurd (omega (arith, h))
+past_five f (suc (suc (suc (suc zero)))) h = absurd (omega (arith, h))
+past_five f (suc (suc (suc (suc (suc n))))) h = refl
+
+low_heads : (g : Grammar) (p : Performance) (ticks : List ℕ) (voice : List Chord) (heads : Heads) → length ticks ≤ 8193 → AreHeads g p ticks voice heads → AreLow heads
+low_heads g p ticks voice heads few h n c is = elim (cases_lt n 5) [
+  | inl lt ↦
+      let at : cost_of (keys n) ≡ Some c = sym (ap (λ l. cost_at l n) h.are ∙ five_at (λ to. cost_of (keys to)) None n lt) ∙ is in
+      let key = cost_key (keys n) c at in
+      let least = least_cheap DEAREST_CELL (matrices h.tables) 0 n key.0 (cheap g (soundings voice) (bars_of g p ticks) h.tables h.each) key.1 in
+      let long : length (matrices h.tables) ≤ 8192 =
+      omega (arith, tables_long g (soundings voice) (bars_of g p ticks) h.tables h.each, bars_long g [] 0 (last_end 0 ticks) 0 (bars_on p 0 ticks), bars_short p 0 ticks, few) in
+      let most : length (matrices h.tables) * DEAREST_CELL ≤ 8192 * DEAREST_CELL = mul-le-mul_right DEAREST_CELL long in
+      omega (arith, least, most, key.2)
+  | inr past ↦
+      let none : None ≡ Some c = sym (ap (λ l. cost_at l n) h.are ∙ past_five (λ to. cost_of (keys to)) n past) ∙ is in
+      absurd (cc)
+]
+  where
+    keys : ℕ → Option Key
+    keys = least_key (matrices h.tables) 0
+
+pub all_low : (g : Grammar) (p : Performance) (ticks : List ℕ) (voices : List (List Chord)) (heads : List Heads) → length ticks ≤ 8193
+    → Each (AreHeads g p ticks) voices heads → All AreLow heads
+all_low g p ticks [] heads few h = subst (All AreLow) (sym h) (All-nil AreLow)
+all_low g p ticks (v ∷ voices) [] few h = absurd h
+all_low g p ticks (v ∷ voices) (x ∷ heads) few h = all_cons AreLow x heads (low_heads g p ticks v x few h.0) (all_low g p ticks voices heads few h.1)
+
+-- ---- a bar more
+
+abbrev costs_of : Heads → List (Option ℕ)
+costs_of h = h.costs
+
+abbrev longer_costs : Heads × BarTable → List (Option ℕ)
+longer_costs pair = costs_with pair.0.costs pair.1.matrix
+
+module _ (next : NextBar) (n : IsNextBar next) (t : Track) (is : IsTrackOf next next.number t) (o : Offer) (tried : IsTried next (end_of t.barring) o) where
+  abbrev g : Grammar
+  g = next.grammar.now
+
+  abbrev p : Performance
+  p = next.performance.now
+
+  abbrev ticks : List ℕ
+  ticks = t.barring.ticks
+
+  abbrev x : ℕ
+  x = end_of t.barring + o.ticks
+
+  abbrev longer : List ℕ
+  longer = ticks ++ (x ∷ [])
+
+  some : 1 ≤ length ticks
+  some = omega (arith, is.long)
+
+  like_is : pattern_of p (length ticks - 1) ≡ Some next.like
+  like_is = let at : length ticks - 1 ≡ next.number = omega (arith, is.long) in ap (pattern_of p) at ∙ n.like
+
+  rises : end_of t.barring < x
+  rises = omega (arith, tried.some)
+
+  last_is : last_end 0 longer ≡ x
+  last_is = last_pushed 0 x ticks
+
+  longer_few : length longer ≤ 8193
+  longer_few = omega (arith, length-append ticks (x ∷ []), is.long, n.few)
+
+  pub heads_low : All AreLow t.heads
+  heads_low = all_low g p ticks next.voices.now t.heads (omega (arith, is.long, n.few)) is.heads
+
+  near : Adjacent 0 (bars_of g p longer) (last_end 0 longer)
+  near = subst (Adjacent 0 (bars_of g p longer)) (sym last_is) (near_more g p ticks next.like x some like_is is.near rises)
+
+  starts : HasStarts g (with_barlines p longer).bars
+  starts =
+      let Rooted : Bar → Type 0 = λ b. root_of g.starts b.num b.den ≢ None in
+      subst (All Rooted) (sym (bars_more g p ticks next.like x some like_is))
+      (All-append Rooted (bars_on p 0 ticks) (with_start (end_of t.barring) next.like ∷ []) is.starts
+      (all_cons Rooted (with_start (end_of t.barring) next.like) [] (n.rooted tried.rooted) (All-nil Rooted)))
+
+  all_heads : (voices : List (List Chord)) (before : List Heads) (tables : List BarTable) (after : List Heads) → Each (AreHeads g p ticks) voices before
+      → AreTablesOf g (map (cell g next.like (end_of t.barring) x) voices) tables → map costs_of after ≡ map longer_costs (zip before tables)
+      → Each (AreHeads g p longer) voices after
+  all_heads [] [] tables [] h k are = refl
+  all_heads [] [] tables (a ∷ after) h k are = absurd (cc)
+  all_heads [] (b ∷ before) tables after h k are = absurd (cc)
+  all_heads (v ∷ voices) [] tables after h k are = absurd h
+  all_heads (v ∷ voices) (b ∷ before) [] after h k are = absurd k
+  all_heads (v ∷ voices) (b ∷ before) (y ∷ tables) [] h k are = absurd (cc)
+  all_heads (v ∷ voices) (b ∷ before) (y ∷ tables) (a ∷ after) h k are =
+      let own : a.costs ≡ costs_with b.costs y.matrix = cc in
+      let rest : map costs_of after ≡ map longer_costs (zip before tables) = cc in
+      (heads_more g p ticks next.like x some like_is v b a y h.0 k.0 own, all_heads voices before tables after h.1 k.1 rest)
+
+  module _ (tables : List BarTable) (heads : List Heads) (are_tables : AreTablesOf g (cells next (end_of t.barring) o) tables)
+      (are : map costs_of heads ≡ map longer_costs (zip t.heads tables)) where
+    are_heads : Each (AreHeads g p longer) next.voices.now heads
+    are_heads = all_heads next.voices.now t.heads tables heads is.heads are_tables are
+
+    pub longer_low : All AreLow heads
+    longer_low = all_low g p longer next.voices.now heads longer_few are_heads
+
+    pub few_heads : length heads ≤ 16
+    few_heads =
+        let first : length p.channels ≡ length next.voices.now = each_long (AreChordsOf g p) p.channels next.voices.now n.chords in
+        let second : length next.voices.now ≡ length heads = each_long (AreHeads g p longer) next.voices.now heads are_heads in
+        let most : length p.channels ≤ 16 = few_channels p n.formed in
+        omega (arith, first, second, most)
+
+    pub fits : (c : ℕ) → c ≤ 2 ^ 56 → c + (t.barring.prices + o.price) < 2 ^ 64
+    fits c low =
+        let prices : t.barring.prices ≤ next.number * 864000 = is.prices in
+        let few : next.number < 8192 = n.few in
+        let own : o.price ≤ 864000 = tried.price in
+        let below : next.number ≤ 8192 = omega (arith, few) in
+        let most : next.number * 864000 ≤ 8192 * 864000 = mul-le-mul_right 864000 below in
+        omega (arith, low, prices, most, own)
+
+    -- ---- what is found
+
+    abbrev draft : Draft
+    draft = with_bar t.barring o
+
+    early : last_end 0 longer ≤ LATEST_TICK
+    early = omega (arith, last_is, tried.early)
+
+    closed_is : is_closed p longer ≡ nat_le next.closing x
+    closed_is = ap (λ e. not (list_any (is_past e) p.notes)) last_is ∙ n.closing x
+
+    pub is_lost : total (nat_le next.closing x) heads ≡ None → IsFound g p draft lost
+    is_lost none c = by (nat_le next.closing x) refl
+      where
+        by : (b : Bool) → nat_le next.closing x ≡ b → (GoesOn g p longer c → ⊥) × (IsWhole g p longer c → ⊥)
+        by true at = (
+          λ h. true≢false (sym (closed_is ∙ at) ∙ h.open_end),
+          λ h. no_whole_cost g p longer n.formed n.readable.ranges.some_unit starts near (closed_is ∙ at) next.voices.now heads n.chords are_heads
+              (ap (λ b. total b heads) (sym at) ∙ none) c h.cost,
+        )
+        by false at = (
+          λ h. no_head_cost g p longer n.formed n.readable.ranges.some_unit starts near next.voices.now heads n.chords are_heads
+              (ap (λ b. total b heads) (sym at) ∙ none) c h.cost,
+          λ h. false≢true (sym (closed_is ∙ at) ∙ h.closed_end),
+        )
+
+    pub is_whole : (c : ℕ) → nat_le next.closing x ≡ true → total true heads ≡ Some c → IsFound g p draft (whole (at_cost draft c))
+    is_whole c at is_cost = (
+      c,
+      record {
+        closed_end = closed_is ∙ at;
+        early = early;
+        cost = whole_cost g p longer n.formed n.readable.ranges.some_unit starts near (closed_is ∙ at) next.voices.now heads n.chords are_heads c is_cost;
+      },
+      refl,
+    )
+
+    pub is_going : (c : ℕ) → nat_le next.closing x ≡ false → total false heads ≡ Some c → IsFound g p draft (going (at_cost draft c))
+    is_going c at is_cost = (
+      c,
+      record {
+        open_end = closed_is ∙ at;
+        early = early;
+        cost = head_cost g p longer n.formed n.readable.ranges.some_unit starts near next.voices.now heads n.chords are_heads c is_cost;
+      },
+      refl,
+    )
+
+    pub is_track : (c : ℕ) → IsTrackOf next (next.number + 1) (record { barring = at_cost draft c; heads = heads })
+    is_track c = record {
+      long = omega (arith, length-append ticks (x ∷ []), is.long);
+      starts = starts;
+      near = near;
+      early = early;
+      heads = are_heads;
+      prices =
+          let prices : t.barring.prices ≤ next.number * 864000 = is.prices in
+          let own : o.price ≤ 864000 = tried.price in
+          omega (arith, prices, own);
+    }

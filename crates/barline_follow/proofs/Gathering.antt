@@ -1,0 +1,179 @@
+-- Gathering the lists of a round.
+use Rattle.std.proofs.Common.{◌≡◌, ℕ, zero, suc, ◌<◌, ◌≤◌, List, [], ◌∷◌, ◌++◌, length, map, take, get_or, refl, ap, sym, ◌∙◌, subst, arith}
+use Rattle.std.specs.Prelude.{AllPairs, Contains, Option, Some, None, filter, slice_get, if◌then◌else◌, Bool, true, false}
+use Rattle.std.specs.List.{cons_option, filter_map, fold}
+use Rattle.std.specs.Cmp.Lexicographic.{slice_cmp}
+use Rattle.std.specs.Ordering.{nat_cmp}
+use Rattle.std.specs.declared.cmp.Ordering.TheVariants.{Less}
+use Rattle.std.proofs.lemmas.List.{append-nil, get_or-map, length-map, length-take, map-append, take-map}
+use Rattle.barline_follow.specs.Barring.{Barring, Track, best_of, better, end_of, is_below, track_end, track_value, value_of}
+use Rattle.barline_follow.specs.Gathered.{IsGathered, Round, barring_of}
+use Rattle.barline_follow.specs.Least.{AreFirstLeast, IsFirstLeast}
+use Rattle.barline_follow.specs.Rounds.{Found, IsNextFront, going, going_on, lost, whole, whole_one}
+use Rattle.barline_follow.proofs.FirstLeast.{from_filtered, got_contained, later}
+
+-- ---- lists of what an element gives
+
+module _ {X Y : Type 0} (f : X → Y) where
+  contains_map : (xs : List X) (x : X) → Contains xs x → Contains (map f xs) (f x)
+  contains_map xs x c =
+      (c.0, subst (λ n. c.0 < n) (sym (length-map xs f)) c.1, get_or-map f xs c.0 x (f x) c.1 ∙ ap f c.2)
+
+  pub contained_map : (xs : List X) (y : Y) → Contains (map f xs) y → (x : X) × Contains xs x × (f x ≡ y)
+  contained_map [] y c = absurd (omega (arith, c.1))
+  contained_map (x ∷ xs) y (zero, lt, is) = (x, (zero, omega arith, refl), is)
+  contained_map (x ∷ xs) y (suc k, lt, is) =
+      let rest = contained_map xs y (k, omega (arith, lt), is) in
+      (rest.0, (suc rest.1.0, omega (arith, rest.1.1), rest.1.2), rest.2)
+
+  got_map : (xs : List X) (i : ℕ) (x : X) → slice_get xs i ≡ Some x → slice_get (map f xs) i ≡ Some (f x)
+  got_map [] i x h = absurd (cc)
+  got_map (y ∷ xs) zero x h = let same : y ≡ x = cc in ap (λ z. Some (f z)) same
+  got_map (y ∷ xs) (suc i) x h = got_map xs i x h
+
+  got_mapped : (xs : List X) (i : ℕ) (y : Y) → slice_get (map f xs) i ≡ Some y → (x : X) × (slice_get xs i ≡ Some x) × (f x ≡ y)
+  got_mapped [] i y h = absurd (cc)
+  got_mapped (x ∷ xs) zero y h = (x, refl, cc)
+  got_mapped (x ∷ xs) (suc i) y h = got_mapped xs i y h
+
+  module _ (value tick : Y → ℕ) where
+    abbrev Before : Y → Y → Type 0
+    Before a b = slice_cmp nat_cmp (value a ∷ tick a ∷ []) (value b ∷ tick b ∷ []) ≡ Less
+
+    pairs_map : (xs : List X) → AllPairs (λ a b. Before (f a) (f b)) xs → AllPairs Before (map f xs)
+    pairs_map [] up i j d lt within = absurd (omega (arith, within))
+    pairs_map (x ∷ xs) up i j d lt within =
+        let long : length (map f (x ∷ xs)) ≡ length (x ∷ xs) = length-map (x ∷ xs) f in
+        let one : get_or (map f (x ∷ xs)) i d ≡ f (get_or (x ∷ xs) i x) = get_or-map f (x ∷ xs) i x d (omega (arith, lt, within, long)) in
+        let other : get_or (map f (x ∷ xs)) j d ≡ f (get_or (x ∷ xs) j x) = get_or-map f (x ∷ xs) j x d (omega (arith, within, long)) in
+        subst (λ b. Before (get_or (map f (x ∷ xs)) i d) b) (sym other)
+        (subst (λ a. Before a (f (get_or (x ∷ xs) j x))) (sym one) (up i j x lt (omega (arith, within, long))))
+
+    -- what is kept of these, as what is kept of what they give
+    pub kept_map : (xs kept : List X) → AreFirstLeast (λ x. value (f x)) (λ x. tick (f x)) xs kept
+        → AreFirstLeast value tick (map f xs) (map f kept)
+    kept_map xs kept h = record {
+      in_order = pairs_map kept h.in_order;
+      exactly = λ y. (
+        λ c.
+            let x = contained_map kept y c in
+            let is = (h.exactly x.0).0 x.1 in
+            subst (IsFirstLeast value tick (map f xs)) x.2 (record {
+              place = is.place;
+              there = got_map xs is.place x.0 is.there;
+              first = λ i a lt got same. let b = got_mapped xs i a got in
+                  subst (λ a. value (f x.0) < value a) b.2 (is.first i b.0 lt b.1 (ap tick b.2 ∙ same));
+              least = λ a there same. let b = contained_map xs a there in
+                  subst (λ a. value (f x.0) ≤ value a) b.2 (is.least b.0 b.1 (ap tick b.2 ∙ same));
+            }),
+        λ is.
+            let x = got_mapped xs is.place y is.there in
+            subst (Contains (map f kept)) x.2 (contains_map kept x.0 ((h.exactly x.0).1 (record {
+              place = is.place;
+              there = x.1;
+              first = λ i a lt got same. subst (λ y. value y < value (f a)) (sym x.2) (is.first i (f a) lt (got_map xs i a got) (same ∙ ap tick x.2));
+              least = λ a there same. subst (λ y. value y ≤ value (f a)) (sym x.2) (is.least (f a) (contains_map xs a there) (same ∙ ap tick x.2));
+            }))),
+      );
+    }
+
+  pub map_filter : (p : Y → Bool) (xs : List X) → map f (filter (λ x. p (f x)) xs) ≡ filter p (map f xs)
+  map_filter p [] = refl
+  map_filter p (x ∷ xs) = at (p (f x)) (map_filter p xs)
+    where
+      at : (b : Bool) → map f (filter (λ x. p (f x)) xs) ≡ filter p (map f xs)
+          → map f (if b then x ∷ filter (λ x. p (f x)) xs else filter (λ x. p (f x)) xs) ≡ (if b then f x ∷ filter p (map f xs) else filter p (map f xs))
+      at true rest = ap (λ l. f x ∷ l) rest
+      at false rest = rest
+
+pub all_pass : {X : Type 0} (xs : List X) → xs ≡ filter (λ x. true) xs
+all_pass [] = refl
+all_pass (x ∷ xs) = ap (λ l. x ∷ l) (all_pass xs)
+
+pub none_above : (best : Option Barring) (xs : List Track) → ((b : Barring) → best ≡ Some b → ⊥) → xs ≡ filter (λ t. is_below best t.barring) xs
+none_above None xs none = all_pass xs
+none_above (Some b) xs none = absurd (none b refl)
+
+module _ {X Y : Type 0} (h : X → Option Y) where
+  given_more : (xs : List X) (x : X) → filter_map h (xs ++ (x ∷ [])) ≡ filter_map h xs ++ cons_option (h x) []
+  given_more [] x = refl
+  given_more (y ∷ xs) x = at (h y) (given_more xs x)
+    where
+      at : (o : Option Y) → filter_map h (xs ++ (x ∷ [])) ≡ filter_map h xs ++ cons_option (h x) []
+          → cons_option o (filter_map h (xs ++ (x ∷ []))) ≡ cons_option o (filter_map h xs) ++ cons_option (h x) []
+      at None rest = rest
+      at (Some z) rest = ap (λ l. z ∷ l) rest
+
+  pub given_none : (xs : List X) (x : X) → h x ≡ None → filter_map h (xs ++ (x ∷ [])) ≡ filter_map h xs
+  given_none xs x is = given_more xs x ∙ ap (λ o. filter_map h xs ++ cons_option o []) is ∙ append-nil (filter_map h xs)
+
+  pub given_some : (xs : List X) (x : X) (y : Y) → h x ≡ Some y → filter_map h (xs ++ (x ∷ [])) ≡ filter_map h xs ++ (y ∷ [])
+  given_some xs x y is = given_more xs x ∙ ap (λ o. filter_map h xs ++ cons_option o []) is
+
+-- ---- one more
+
+module _ (best : Option Barring) (found : List Found) (tracks : List Track) (r : Round) (h : IsGathered best found tracks r) where
+  pub lost_more : IsGathered best (found ++ (lost ∷ [])) (tracks ++ []) r
+  lost_more = record {
+    best_is = h.best_is ∙ ap (best_of best) (sym (given_none whole_one found lost refl));
+    are = ap (map barring_of) (append-nil tracks) ∙ h.are ∙ sym (given_none going_on found lost refl);
+    kept = subst (λ (l : List Track). AreFirstLeast track_value track_end l r.kept) (sym (append-nil tracks)) h.kept;
+  }
+
+  pub going_more : (track : Track) (kept : List Track) → AreFirstLeast track_value track_end (tracks ++ (track ∷ [])) kept
+      → IsGathered best (found ++ (going track.barring ∷ [])) (tracks ++ (track ∷ [])) (record { kept = kept; best = r.best })
+  going_more track kept are = record {
+    best_is = h.best_is ∙ ap (best_of best) (sym (given_none whole_one found (going track.barring) refl));
+    are = map-append barring_of tracks (track ∷ []) ∙ ap (λ l. l ++ (track.barring ∷ [])) h.are
+        ∙ sym (given_some going_on found (going track.barring) track.barring refl);
+    kept = are;
+  }
+
+  folded : (xs : List Barring) (b : Barring) (o : Option Barring) → fold better o (xs ++ (b ∷ [])) ≡ better (fold better o xs) b
+  folded [] b o = refl
+  folded (x ∷ xs) b o = folded xs b (better o x)
+
+  pub whole_more : (barring : Barring) → IsGathered best (found ++ (whole barring ∷ [])) (tracks ++ []) (record { kept = r.kept; best = better r.best barring })
+  whole_more barring = record {
+    best_is = ap (λ o. better o barring) h.best_is ∙ sym (folded (filter_map whole_one found) barring best)
+        ∙ ap (best_of best) (sym (given_some whole_one found (whole barring) barring refl));
+    are = ap (map barring_of) (append-nil tracks) ∙ h.are ∙ sym (given_none going_on found (whole barring) refl);
+    kept = subst (λ (l : List Track). AreFirstLeast track_value track_end l r.kept) (sym (append-nil tracks)) h.kept;
+  }
+
+-- the first 24 of what is kept, without what is not below the best
+pub next_front : (best : Option Barring) (found : List Found) (tracks : List Track) (r : Round) (front : List Track) → IsGathered best found tracks r
+    → front ≡ filter (λ t. is_below r.best t.barring) (take 24 r.kept) → IsNextFront r.best (filter_map going_on found) (map barring_of front)
+next_front best found tracks r front h is = (
+  map barring_of r.kept,
+  subst (λ l. AreFirstLeast value_of end_of l (map barring_of r.kept)) h.are (kept_map barring_of value_of end_of tracks r.kept h.kept),
+  ap (map barring_of) is ∙ map_filter barring_of (is_below r.best) (take 24 r.kept) ∙ ap (filter (is_below r.best)) (sym (take-map barring_of 24 r.kept)),
+)
+
+taken : {X : Type 0} (n : ℕ) (xs : List X) (x : X) → Contains (take n xs) x → Contains xs x
+taken zero xs x c = absurd (omega (arith, c.1))
+taken (suc n) [] x c = c
+taken (suc n) (y ∷ xs) x (zero, lt, is) = (zero, omega arith, is)
+taken (suc n) (y ∷ xs) x (suc k, lt, is) = later y x xs (taken n xs x (k, omega (arith, lt), is))
+
+-- they are lists that go on, and no more than 24
+pub among : (best : Option Barring) (found : List Found) (tracks : List Track) (r : Round) (front : List Track) → IsGathered best found tracks r
+    → front ≡ filter (λ t. is_below r.best t.barring) (take 24 r.kept) → (track : Track) → Contains front track → Contains tracks track
+among best found tracks r front h is track c =
+    let there : Contains (take 24 r.kept) track = from_filtered (λ t. is_below r.best t.barring) (take 24 r.kept) track (subst (λ (l : List Track). Contains l track) is c) in
+    let first = (h.kept.exactly track).0 (taken 24 r.kept track there) in
+    got_contained tracks first.place track first.there
+
+filter_short : {X : Type 0} (p : X → Bool) (xs : List X) → length (filter p xs) ≤ length xs
+filter_short p [] = omega arith
+filter_short p (x ∷ xs) = by (p x) (filter_short p xs)
+  where
+    by : (b : Bool) → length (filter p xs) ≤ length xs → length (if b then x ∷ filter p xs else filter p xs) ≤ suc (length xs)
+    by true le = omega (arith, le)
+    by false le = omega (arith, le)
+
+pub few_kept : (best : Option Barring) (kept front : List Track) → front ≡ filter (λ t. is_below best t.barring) (take 24 kept) → length front ≤ 24
+few_kept best kept front is =
+    let short = filter_short (λ (t : Track). is_below best t.barring) (take 24 kept) in
+    let taken_short = length-take 24 kept in
+    omega (arith, ap length is, short, taken_short)

@@ -1,0 +1,25 @@
+pub mod CostLemmas
+pub mod Totals
+pub mod LongerBars
+pub mod NextBarLemmas
+pub mod HeadCosts
+pub mod Finding
+pub mod WholeRounds
+pub mod Bounds
+pub mod BarlinesSet
+pub mod BestBounds
+pub mod CutBars
+pub mod FirstLeast
+pub mod Further
+pub mod Gathering
+pub mod LaidBars
+pub mod Offered
+pub mod OneAnswers
+pub mod Paired
+pub mod Ranges
+pub mod Searching
+pub mod Shifted
+pub mod WayBack
+pub mod Answering
+pub mod OneBest
+mod Worked

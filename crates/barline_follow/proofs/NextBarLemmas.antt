@@ -1,0 +1,100 @@
+-- The bar that lists get in a round: its signature, and the bars that are tried.
+use Rattle.std.proofs.Common.{◌≡◌, ◌≢◌, ℕ, zero, suc, ◌+◌, ◌-◌, ◌<◌, ◌≤◌, Bool, true, false, refl, arith, List, [], ◌∷◌, ◌++◌, Vec, Global, length, map, take, drop, get_or, ap, ap₂, sym, subst, ◌∙◌, Result, Ok, Err}
+use Rattle.std.specs.Prelude.{All, IfOk, Some, None, min, not, slice_get, filter, nat_le, ◌&&◌}
+use Rattle.std.specs.List.{flat_map, list_any, zip}
+use Rattle.std.specs.Result.{is_ok}
+use Rattle.std.proofs.lemmas.Bool.{false≢true, true≢false}
+use Rattle.bar_cut.specs.Cuts.{IsFirstWithoutStart}
+use Rattle.bar_cut.specs.declared.fault.CutFault.{CutFault}
+use Rattle.bar_cut.specs.declared.fault.CutFault.TheVariants.{Memory, NoStart}
+use Rattle.std.proofs.lemmas.Bool.Decides.{nat_tests}
+use Rattle.std.proofs.lemmas.Grind.{flat_map-append}
+use Rattle.std.proofs.lemmas.List.{append-nil, drop_more}
+use Rattle.std.proofs.lemmas.List.Elements.{All-append, All-map, All-nil}
+use Rattle.std.proofs.lemmas.Option.{get_or_from_slice_get, slice_get_within}
+use Rattle.barline_follow.specs.declared.next_bar.NextBar.{NextBar}
+use Rattle.barline_follow.specs.declared.offers.Offer.{Offer}
+use Rattle.rhythm_base.specs.declared.limits.TheConstants.{LATEST_TICK}
+use Rattle.rhythm_base.specs.declared.note.Bar.{Bar}
+use Rattle.rhythm_base.specs.declared.note.Note.{Note}
+use Rattle.rhythm_base.specs.BarInput.{BarInput}
+use Rattle.rhythm_base.specs.Edits.{is_past}
+use Rattle.rhythm_base.specs.Grammar.{Grammar, root_of}
+use Rattle.rhythm_base.specs.Performance.{IsWellFormed, Performance}
+use Rattle.rhythm_base.specs.Signatures.{IsSignature}
+use Rattle.rhythm_base.specs.Voices.{HasStarts}
+use Rattle.rhythm_laws.proofs.OrderedLists.{all_head}
+use Rattle.barline_follow.specs.Bars.{pattern_of}
+use Rattle.barline_follow.specs.Barring.{Track, end_of}
+use Rattle.barline_follow.specs.NextBars.{all_cells, can_be, cells}
+use Rattle.barline_follow.specs.Tracks.{cell}
+use Rattle.barline_follow.proofs.Searching.{zip_more}
+
+pub like_signature : (p : Performance) (i : ℕ) (b : Bar) → IsWellFormed p → pattern_of p i ≡ Some b → IsSignature b.num b.den
+like_signature p i b formed is =
+    let k : ℕ = min i (length p.bars - 1) in
+    let within = slice_get_within p.bars k b is in
+    subst (λ (x : Bar). IsSignature x.num x.den) (get_or_from_slice_get p.bars k b b is) (formed.bars k b within).signature
+
+-- the inputs of one list more
+pub all_cells_more : (next : NextBar) (front : List Track) (tried : List (Vec Offer Global)) (n : ℕ) (d : Track) (e : Vec Offer Global) → n < length front
+    → n < length tried → all_cells next (take (n + 1) front) (map (λ own. own.items) (take (n + 1) tried))
+    ≡ all_cells next (take n front) (map (λ own. own.items) (take n tried)) ++ flat_map (cells next (end_of (get_or front n d).barring)) (get_or tried n e).items
+all_cells_more next front tried n d e low high =
+    let G : Track × List Offer → List BarInput = λ pair. flat_map (cells next (end_of pair.0.barring)) pair.1 in
+    let own : List BarInput = flat_map (cells next (end_of (get_or front n d).barring)) (get_or tried n e).items in
+    ap (flat_map G) (zip_more (λ (own : Vec Offer Global). own.items) front tried n d e low high)
+    ∙ flat_map-append G (zip (take n front) (map (λ own. own.items) (take n tried))) ((get_or front n d, (get_or tried n e).items) ∷ [])
+    ∙ ap (λ l. all_cells next (take n front) (map (λ own. own.items) (take n tried)) ++ l) (append-nil own)
+
+-- those that are left, list after list
+pub all_cells_next : (next : NextBar) (front : List Track) (tried : List (Vec Offer Global)) (n : ℕ) (d : Track) (e : Vec Offer Global) → n < length front
+    → n < length tried → all_cells next (drop n front) (map (λ own. own.items) (drop n tried))
+    ≡ flat_map (cells next (end_of (get_or front n d).barring)) (get_or tried n e).items ++ all_cells next (drop (n + 1) front) (map (λ own. own.items) (drop (n + 1) tried))
+all_cells_next next front tried n d e low high =
+    ap₂ (λ (f : List Track) (t : List (Vec Offer Global)). all_cells next f (map (λ own. own.items) t)) (drop_more front n d low) (drop_more tried n e high)
+
+-- a bar that ends by a tick is no longer than what is left up to there
+le_moved : (a b m : ℕ) → a ≤ m → nat_le b (m - a) ≡ nat_le (a + b) m
+le_moved a b m le = by (nat_le (a + b) m) refl
+  where
+    by : (t : Bool) → nat_le (a + b) m ≡ t → nat_le b (m - a) ≡ t
+    by true is = grind (arith, nat_tests, le, is)
+    by false is = grind (arith, nat_tests, le, is)
+
+pub left_is : (next : NextBar) (start most : ℕ) (offers : List Offer) → start ≤ LATEST_TICK → most ≡ LATEST_TICK - start
+    → filter (λ o. next.is_rooted && nat_le o.ticks most) offers ≡ filter (can_be next start) offers
+left_is next start most offers le is =
+    let same : (o : Offer) → (next.is_rooted && nat_le o.ticks most) ≡ can_be next start o =
+    λ o. ap (λ n. next.is_rooted && nat_le o.ticks n) is ∙ ap (λ b. next.is_rooted && b) (le_moved start o.ticks LATEST_TICK le) in
+    ap (λ (f : Offer → Bool). filter f offers) (λ i o. same o i)
+
+-- all inputs have the units of the grammar
+all_rows : {X Y : Type 0} (P : Y → Type 0) (f : X → List Y) (xs : List X) → ((x : X) → All P (f x)) → All P (flat_map f xs)
+all_rows P f [] h = All-nil P
+all_rows P f (x ∷ xs) h = All-append P (f x) (flat_map f xs) (h x) (all_rows P f xs h)
+
+pub units_are : (next : NextBar) (front : List Track) (tried : List (List Offer)) → All (λ k. k.resolution ≡ next.grammar.now.resolution) (all_cells next front tried)
+units_are next front tried =
+    let Units : BarInput → Type 0 = λ k. k.resolution ≡ next.grammar.now.resolution in
+    all_rows Units (λ (pair : Track × List Offer). flat_map (cells next (end_of pair.0.barring)) pair.1) (zip front tried)
+    (λ pair. all_rows Units (cells next (end_of pair.0.barring)) pair.1
+    (λ o. All-map Units (cell next.grammar.now next.like (end_of pair.0.barring) (end_of pair.0.barring + o.ticks)) next.voices.now (λ k d lt. refl)))
+
+-- whether the bar has a root symbol is what the look-up says
+pub rooted_is : (g : Grammar) (b : Bar) (r : Result (Unit {0}) CutFault) → IfOk r (λ _. HasStarts g (b ∷ []))
+    → ((bar num den : ℕ) → r ≡ Err (NoStart bar num den) → IsFirstWithoutStart g (b ∷ []) bar num den) → (r ≡ Err Memory → ⊥)
+    → (is_ok r ≡ true → root_of g.starts b.num b.den ≢ None) × (is_ok r ≡ false → root_of g.starts b.num b.den ≡ None)
+rooted_is g b (Ok u) starts first never = ((λ is. all_head (λ (b : Bar). root_of g.starts b.num b.den ≢ None) b [] starts), (λ is. absurd (true≢false is)))
+rooted_is g b (Err Memory) starts first never = absurd (never refl)
+rooted_is g b (Err (NoStart bar num den)) starts first never =
+    let h = first bar num den refl in
+    let only : h.it ≡ b = one_only bar h.it h.there in
+    ((λ is. absurd (false≢true is)), (λ is. (λ i. root_of g.starts (sym (h.signature.0 ∙ ap (λ (x : Bar). x.num) only) i) (sym (h.signature.1 ∙ ap (λ (x : Bar). x.den) only) i)) ∙ h.none))
+  where
+    one_only : (k : ℕ) (x : Bar) → slice_get (b ∷ []) k ≡ Some x → x ≡ b
+    one_only zero x is = let same : b ≡ x = cc in sym same
+    one_only (suc k) x is = absurd (cc)
+
+pub closed_from : (end tick : ℕ) (notes all : List Note) → notes ≡ all → not (list_any (is_past end) notes) ≡ nat_le tick end → not (list_any (is_past end) all) ≡ nat_le tick end
+closed_from end tick notes all same is = ap (λ (l : List Note). not (list_any (is_past end) l)) (sym same) ∙ is

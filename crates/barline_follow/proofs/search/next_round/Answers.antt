@@ -1,0 +1,58 @@
+use Rattle.std.proofs.Common.{◌≡◌, ◌+◌, List, Vec, Global, map, sym, subst, ◌∙◌}
+use Rattle.std.specs.Prelude.{All, Option}
+use Rattle.std.specs.List.{filter_map}
+use Rattle.bar_pool.specs.Pool.{AreTablesOf}
+use Rattle.rhythm_base.specs.BarInput.{BarInput}
+use Rattle.rhythm_base.specs.BarTables.{BarTable}
+use Rattle.rhythm_base.specs.Lists.{Each}
+use Rattle.barline_follow.specs.declared.offers.Offer.{Offer}
+use Rattle.barline_follow.specs.Barring.{Barring}
+use Rattle.barline_follow.specs.Gathered.{barring_of}
+use Rattle.barline_follow.specs.NextBars.{AreTried, IsTrackOf, all_cells}
+use Rattle.barline_follow.specs.Rounds.{IsNextFront, going_on}
+use Rattle.barline_follow.proofs.NextBarLemmas.{units_are}
+use Rattle.barline_follow.proofs.WholeRounds.{all_among, all_tried, whole_round}
+use Rattle.barline_follow.proofs.search.next_round.Goals as goal
+
+abbrev items_of : List (Vec Offer Global) → List (List Offer)
+items_of all = map (λ own. own.items) all
+
+pub round_inputs-requires-clause-tried : goal.round_inputs-requires-clause-tried
+round_inputs-requires-clause-tried g c =
+    let next = c.args.next.now in
+    let tried = subst (λ (l : List (Vec Offer Global)). Each (AreTried next) c.args.front.now (items_of l)) (sym c.as_slice-tried.ensures.value) c.in_ok-all.ensures in
+    all_tried next c.requires.next c.args.front.now (items_of c.as_slice-tried.result.now) tried
+
+pub build_cells-requires-clause-units : goal.build_cells-requires-clause-units
+build_cells-requires-clause-units g c κs within =
+    let next = c.args.next.now in
+    subst (λ (l : List BarInput). All (λ (k : BarInput). k.resolution ≡ next.grammar.now.resolution) l) (sym (c.as_slice-inputs.ensures.value ∙ c.in_ok-cells.ensures))
+    (units_are next c.args.front.now (items_of c.as_slice-tried.result.now))
+
+pub gather-requires-clause-tried : goal.gather-requires-clause-tried
+gather-requires-clause-tried g c =
+    let next = c.args.next.now in
+    let tried = subst (λ (l : List (Vec Offer Global)). Each (AreTried next) c.args.front.now (items_of l)) (sym c.as_slice-tried.ensures.value) c.in_ok-all.ensures in
+    all_tried next c.requires.next c.args.front.now (items_of c.as_slice-tried.result.now) tried
+
+pub gather-requires-clause-tables : goal.gather-requires-clause-tables
+gather-requires-clause-tables g c =
+    let next = c.args.next.now in
+    subst (λ (l : List BarTable). AreTablesOf next.grammar.now (all_cells next c.args.front.now (items_of c.as_slice-tried.result.now)) l) (sym c.as_slice.ensures.value)
+    (subst (λ (l : List BarInput). AreTablesOf next.grammar.now l c.in_ok-tables.tables.items) (c.as_slice-inputs.ensures.value ∙ c.in_ok-cells.ensures) c.in_ok-tables.ensures.tables)
+
+pub returns-clause-round : goal.returns-clause-round
+returns-clause-round g c =
+    let next = c.args.next.now in
+    let tried = subst (λ (l : List (Vec Offer Global)). Each (AreTried next) c.args.front.now (items_of l)) (sym c.as_slice-tried.ensures.value) c.in_ok-all.ensures in
+    let was = c.in_ok-round.ensures in
+    whole_round next c.requires.next c.args.front.now c.close.result.0.items (items_of c.as_slice-tried.result.now) was.0 c.args.best c.close.result.1
+    c.requires.front tried was.2 (c.close.ensures.best ∙ was.4.best_is)
+    (subst (λ (o : Option Barring). IsNextFront o (filter_map going_on was.0) (map barring_of c.close.result.0.items)) (sym c.close.ensures.best)
+    (c.close.ensures.front c.args.best was.0 was.1 was.4))
+
+pub returns-clause-tracks : goal.returns-clause-tracks
+returns-clause-tracks g c =
+    let next = c.args.next.now in
+    let was = c.in_ok-round.ensures in
+    all_among (IsTrackOf next (next.number + 1)) c.close.result.0.items was.1 was.3 (c.close.ensures.among c.args.best was.0 was.1 was.4)

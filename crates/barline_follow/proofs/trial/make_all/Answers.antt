@@ -1,0 +1,76 @@
+use Rattle.std.proofs.Common.{rules, ◌≡◌, ℕ, ◌≤◌, ◌+◌, ◌++◌, ◌∷◌, [], ◌∙◌, List, sym, ap, subst, drop, take, get_or, Ok, arith}
+use Rattle.std.specs.Prelude.{All, IfSome, OnSome, Option, reverse}
+use Rattle.std.proofs.lemmas.List.{take_more}
+use Rattle.edit_session.specs.Prepared.{Prepared}
+use Rattle.rhythm_base.specs.declared.edit.Edit.{Edit}
+use Rattle.rhythm_base.specs.Edits.{IsEditInRange, edited}
+use Rattle.rhythm_base.specs.Grammar.{Grammar}
+use Rattle.rhythm_base.specs.Performance.{Performance}
+use Rattle.rhythm_base.specs.Voices.{HasDerivation}
+use Rattle.barline_follow.specs.Script.{Accepts, IsOfBars, Leads}
+use Rattle.barline_follow.specs.Trial.{IsStepBack, LeadBack}
+use Rattle.barline_follow.proofs.Searching.{in_parts}
+use Rattle.barline_follow.proofs.WayBack.{back_grown, back_more, leads_more, next_accepted}
+use Rattle.barline_follow.proofs.trial.make_all.Goals as goal
+
+-- nothing was made: the ways back are those that there were
+unmade : (g : Grammar) (a b : ℕ) (p q start : Performance) (backs same : List Prepared) → a ≤ b → LeadBack g a p (reverse backs) start
+    → same ≡ backs → q ≡ p → LeadBack g b q (reverse same) start
+unmade g a b p q start backs same le h is stays =
+    subst (λ (r : Performance). LeadBack g b r (reverse same) start) (sym stays)
+    (subst (λ (l : List Prepared). LeadBack g b p (reverse l) start) (sym is) (back_grown g a b p (reverse backs) start le h))
+
+pub returns-in_err-make-clause-back : goal.returns-in_err-make-clause-back
+returns-in_err-make-clause-back g c =
+    unmade c.args.session.now.grammar c.edits.session.room c.make.new.session.room c.edits.session.performance c.make.new.session.performance c.args.session.now.performance
+    c.edits.backs.items c.reserve.new.self.items c.make.ensures.room c.edits.invariant.2 c.reserve.ensures.items c.in_err-make.ensures.memory
+
+pub returns-in-None-clause-back : goal.returns-in-None-clause-back
+returns-in-None-clause-back g c =
+    unmade c.args.session.now.grammar c.edits.session.room c.make.new.session.room c.edits.session.performance c.make.new.session.performance c.args.session.now.performance
+    c.edits.backs.items c.reserve.new.self.items c.make.ensures.room c.edits.invariant.2 c.reserve.ensures.items (c.in_ok-make.ensures.refused c.in-None.is)
+
+pub edits-preserved : goal.edits-preserved
+edits-preserved g c =
+    let grammar : Grammar = c.args.session.now.grammar in
+    let start : Performance = c.args.session.now.performance in
+    let was : Performance = c.edits.session.performance in
+    let now : Performance = c.make.new.session.performance in
+    let back : Prepared = c.in-Some.back in
+    let grammar_is = c.edits.invariant.0 in
+    let edit : Edit = c.edit-item.result in
+    let range = subst (λ (o : Option Prepared). OnSome o (IsEditInRange edit)) c.in-Some.is c.in_ok-make.ensures.range in
+    let made = subst (λ (o : Option Prepared). OnSome o (edited was edit ≡ Ok now)) c.in-Some.is c.in_ok-make.ensures.edited in
+    let derivations = subst (λ (h : Grammar). All (HasDerivation h now) now.channels) grammar_is
+    (subst (λ (o : Option Prepared). OnSome o (All (HasDerivation c.edits.session.grammar now) now.channels)) c.in-Some.is c.in_ok-make.ensures.derivations) in
+    let step = subst (λ (o : Option Prepared). IfSome o (λ (x : Prepared). IsStepBack c.edits.session.grammar now c.make.new.session.room x × (x.next ≡ was))) c.in-Some.is c.in_ok-make.ensures.back in
+    let step_is : IsStepBack grammar now c.make.new.session.room back =
+    subst (λ (h : Grammar). IsStepBack h now c.make.new.session.room back) grammar_is step.0 in
+    let it : get_or c.args.script.now c.edits.edit-index edit ≡ edit = search rules in
+    let taken : take (c.edits.edit-index + 1) c.args.script.now ≡ take c.edits.edit-index c.args.script.now ++ (edit ∷ []) =
+    take_more c.args.script.now c.edits.edit-index edit c.edits-test.true ∙ ap (λ x. take c.edits.edit-index c.args.script.now ++ (x ∷ [])) it in
+    let pushed : c.push.new.self.items ≡ c.edits.backs.items ++ (back ∷ []) = search rules in (
+      c.make.ensures.grammar ∙ grammar_is,
+      omega (arith, c.edits.invariant.1, c.make.ensures.room),
+      subst (λ (l : List Prepared). LeadBack grammar c.make.new.session.room now (reverse l) start) (sym pushed)
+          (back_more grammar c.edits.session.room c.make.new.session.room was now c.edits.backs.items back start c.make.ensures.room c.edits.invariant.2 step_is step.1),
+      subst (λ (l : List Edit). Leads grammar start l now) (sym taken)
+          (leads_more grammar start was (take c.edits.edit-index c.args.script.now) edit now c.edits.invariant.3 range made derivations),
+      omega (arith, c.edits.invariant.4, c.make.ensures.builds),
+      omega (arith, c.edits.invariant.5, c.make.ensures.products),
+    )
+
+pub returns-in-None-clause-refused : goal.returns-in-None-clause-refused
+returns-in-None-clause-refused g c false_is bars after leads =
+    let grammar : Grammar = c.args.session.now.grammar in
+    let start : Performance = c.args.session.now.performance in
+    let was : Performance = c.edits.session.performance in
+    let i : ℕ = c.edits.edit-index in
+    let edit : Edit = c.edit-item.result in
+    let it : get_or c.args.script.now i edit ≡ edit = search rules in
+    let parts : c.args.script.now ≡ take i c.args.script.now ++ (edit ∷ drop (i + 1) c.args.script.now) =
+    in_parts c.args.script.now i edit c.edits-test.true ∙ ap (λ x. take i c.args.script.now ++ (x ∷ drop (i + 1) c.args.script.now)) it in
+    let next = next_accepted grammar start was after (take i c.args.script.now) edit (drop (i + 1) c.args.script.now) c.edits.invariant.3
+    (subst (λ (l : List Edit). Leads grammar start l after) parts leads) in
+    c.in_ok-make.ensures.never c.in-None.is (subst IsOfBars it (bars i edit c.edits-test.true)) next.0
+    (subst (λ (h : Grammar). Accepts h was edit next.0) (sym c.edits.invariant.0) next.1)

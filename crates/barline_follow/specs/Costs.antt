@@ -1,0 +1,44 @@
+-- Costs, where there are any: the lower of two, the sum of two, and the least of several; and what they are with a bar more.
+use Rattle.std.specs.Prelude.{◌≡◌, ℕ, ◌+◌, ◌≤◌, ◌^◌, Bool, List, [], ◌∷◌, min, slice_index_or, Option, Some, None, if◌then◌else◌}
+use Rattle.std.proofs.Common.{zero, suc}
+use Rattle.barline_follow.specs.declared.heads.Heads.{Heads}
+use Rattle.chain_bars.specs.Tower.{best_cost}
+use Rattle.rhythm_base.specs.Ranked.{CarryMatrix, at, five}
+
+abbrev pub lower : Option ℕ → Option ℕ → Option ℕ
+lower None b = b
+lower (Some a) None = Some a
+lower (Some a) (Some b) = Some (min a b)
+
+abbrev pub sum : Option ℕ → Option ℕ → Option ℕ
+sum None b = None
+sum (Some a) None = None
+sum (Some a) (Some b) = Some (a + b)
+
+-- the least of the first n
+abbrev pub least_below : (ℕ → Option ℕ) → ℕ → Option ℕ
+least_below costs zero = None
+least_below costs (suc n) = lower (least_below costs n) (costs n)
+
+unfoldable pub least_of_five : (ℕ → Option ℕ) → Option ℕ
+least_of_five costs = least_below costs 5
+
+abbrev pub cost_at : List (Option ℕ) → ℕ → Option ℕ
+cost_at costs n = slice_index_or costs n None
+
+-- the costs with a bar more, by the number of chords that leave it: the least over the numbers that enter it
+abbrev pub costs_with : List (Option ℕ) → CarryMatrix → List (Option ℕ)
+costs_with costs m = five (λ to. least_of_five (λ from. sum (cost_at costs from) (best_cost (at m from to))))
+
+-- what a voice costs: in a closed list where no chord leaves, and else the least
+abbrev pub own_cost : Bool → Heads → Option ℕ
+own_cost is_closed heads = if is_closed then cost_at heads.costs 0 else least_of_five (cost_at heads.costs)
+
+-- what the voices cost together, where each has a cost
+abbrev pub total : Bool → List Heads → Option ℕ
+total is_closed [] = Some 0
+total is_closed (heads ∷ voices) = sum (own_cost is_closed heads) (total is_closed voices)
+
+-- low enough that those of 16 voices have a sum
+abbrev pub AreLow : Heads → Type 0
+AreLow heads = (n c : ℕ) → cost_at heads.costs n ≡ Some c → c ≤ 2 ^ 52

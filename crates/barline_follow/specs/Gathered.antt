@@ -1,0 +1,34 @@
+-- A round as far as its longer lists are gathered.
+use Rattle.std.specs.Prelude.{◌≡◌, List, [], ◌∷◌, map, Option}
+use Rattle.std.specs.List.{filter_map}
+use Rattle.barline_follow.specs.declared.round.Outcome.{Outcome}
+use Rattle.barline_follow.specs.declared.round.Outcome.TheVariants.{Lost, Going, Whole}
+use Rattle.barline_follow.specs.Barring.{Barring, Track, best_of, track_end, track_value}
+use Rattle.barline_follow.specs.Least.{AreFirstLeast}
+use Rattle.barline_follow.specs.Rounds.{Found, going, going_on, lost, whole, whole_one}
+
+abbrev pub barring_of : Track → Barring
+barring_of t = t.barring
+
+-- what is found, without the costs of each voice
+abbrev pub found_of : Outcome → Found
+found_of Lost = lost
+found_of (Going track) = going track.barring
+found_of (Whole barring) = whole barring
+
+-- those that are kept of the lists that go on, and the best
+pub record Round : Type 0 where
+  pub kept : List Track
+  pub best : Option Barring
+
+-- these are gathered, with these lists that go on, where there was a best before
+pub record IsGathered (best : Option Barring) (found : List Found) (tracks : List Track) (r : Round) : Type 0 where
+  pub best_is : r.best ≡ best_of best (filter_map whole_one found)
+  pub are : map barring_of tracks ≡ filter_map going_on found
+  pub kept : AreFirstLeast track_value track_end tracks r.kept
+
+-- the list that goes on, where what is found is one
+abbrev pub going_in : Outcome → List Track
+going_in Lost = []
+going_in (Going track) = track ∷ []
+going_in (Whole barring) = []

@@ -1,0 +1,16 @@
+-- The first of least value at each tick.
+use Rattle.std.specs.Prelude.{◌≡◌, ◌↔◌, ℕ, ◌<◌, ◌≤◌, List, [], ◌∷◌, Contains, slice_get, Some}
+use Rattle.rhythm_base.specs.Lists.{AreInOrder}
+
+module _ {X : Type 0} (value tick : X → ℕ) where
+  -- of those with its tick none has a lower value, and each earlier one has a greater value
+  pub record IsFirstLeast (xs : List X) (x : X) : Type 0 where
+    pub place : ℕ
+    pub there : slice_get xs place ≡ Some x
+    pub first : (i : ℕ) (y : X) → i < place → slice_get xs i ≡ Some y → tick y ≡ tick x → value x < value y
+    pub least : (y : X) → Contains xs y → tick y ≡ tick x → value x ≤ value y
+
+  -- these, by value and then by tick
+  pub record AreFirstLeast (xs kept : List X) : Type 0 where
+    pub in_order : AreInOrder (λ x. value x ∷ tick x ∷ []) kept
+    pub exactly : (x : X) → Contains kept x ↔ IsFirstLeast xs x

@@ -1,0 +1,17 @@
+pub mod Bars
+pub mod HeadCost
+pub mod Least
+pub mod Offers
+pub mod Barring
+pub mod Rounds
+pub mod Stages
+pub mod Script
+pub mod Answer
+pub mod Gain
+pub mod Laws
+pub mod Costs
+pub mod Tracks
+pub mod NextBars
+pub mod Gathered
+pub mod Sounded
+pub mod Trial

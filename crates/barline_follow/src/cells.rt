@@ -1,0 +1,123 @@
+ghost use Rattle.bar_cut.specs.Cuts.{AreBarsAndChords, inputs};
+ghost use Rattle.barline_follow.specs.Barring.{end_of};
+ghost use Rattle.barline_follow.specs.NextBars.{IsNextBar, IsTried, all_cells, cells};
+ghost use Rattle.barline_follow.specs.Sounded.{AreSounded};
+ghost use Rattle.rhythm_base.specs.BarInput as inputs_of_bars;
+ghost use Rattle.rhythm_base.specs.Cells.{input};
+ghost use Rattle.rhythm_base.specs.Leaves.{soundings};
+ghost use Rattle.rhythm_base.specs.Lists.{Each};
+ghost use Rattle.rhythm_base.specs.Readable.{IsInRange};
+ghost use Rattle.rhythm_base.specs.Signatures.{IsSignature};
+ghost use Rattle.rhythm_base.specs.Voices.{voice_bar};
+ghost use Rattle.rhythm_base.specs.declared.limits.TheConstants.{LATEST_TICK};
+ghost use Rattle.std.specs.List.{flat_map};
+ghost use Rattle.std.specs.Prelude.{◌≡◌, ◌≤◌, ◌<◌, ◌++◌, List, [], ◌∷◌, All, IfOk, OnOk, map};
+
+use crate::barring::Track;
+use crate::next_bar::NextBar;
+use crate::offers::Offer;
+use bar_cut::sections;
+use rhythm_base::{Bar, BarInput, Chord, Grammar, Pin};
+use std::alloc::{AllocError, Global};
+
+/// The input of the last of these bars.
+fn last_input(
+    alloc: Global,
+    grammar: &Grammar,
+    voice: &[Chord],
+    bars: &[Bar],
+    end: u64,
+    pins: &[Pin],
+) -> Result<BarInput, AllocError>
+    requires voice { AreBarsAndChords bars.now end voice.now }
+    requires grammar { IsInRange grammar.now }
+    ensures { IfOk result (λ k. (others : List inputs_of_bars.BarInput) × (inputs grammar.now pins.now 0 end bars.now voice.now ≡ others ++ k ∷ [])) }
+{
+    match sections(alloc, voice, bars, end, grammar, pins, 0) {
+        Err(_fault) => Err(AllocError),
+        Ok(mut sections) => match sections.pop() {
+            None => Err(AllocError),
+            Some(section) => section.input(alloc),
+        },
+    }
+}
+
+/// The input of a bar of a voice that runs to `end`.
+fn cell_input(
+    alloc: Global,
+    grammar: &Grammar,
+    voice: &[Chord],
+    bar: Bar,
+    end: u64,
+) -> Result<BarInput, AllocError>
+    requires sounded { AreSounded voice.now }
+    requires grammar { IsInRange grammar.now }
+    requires signature { IsSignature bar.num bar.den }
+    requires some_tick { bar.start < end }
+    requires few_ticks { end ≤ LATEST_TICK }
+    ensures { IfOk result (λ k. k ≡ input grammar.now (voice_bar grammar.now [] 0 0 bar end) (soundings voice.now)) }
+{
+    if bar.start == 0 {
+        last_input(alloc, grammar, voice, &[bar], end, &[])
+    } else {
+        let earlier = Bar { start: 0, ..bar };
+        last_input(alloc, grammar, voice, &[earlier, bar], end, &[])
+    }
+}
+
+/// Appends the input of a bar of each voice, behind a barline.
+fn push_cells(
+    alloc: Global,
+    next: &NextBar,
+    start: u64,
+    offer: Offer,
+    inputs: &mut Vec<BarInput>,
+) -> Result<(), AllocError>
+    requires next { IsNextBar next.now }
+    requires tried { IsTried next.now start offer }
+    ensures { OnOk result (inputs.new.items ≡ inputs.old.items ++ cells next.now start offer) }
+{
+    let end = start + offer.ticks;
+    let bar = Bar { start, ..next.like };
+    'voices: for voice in next.voices {
+        inputs.push(cell_input(alloc, next.grammar, voice.chords(), bar, end)?)?;
+    }
+    Ok(())
+}
+
+/// Appends the inputs of the bars that are tried behind a barline.
+fn push_tried(
+    alloc: Global,
+    next: &NextBar,
+    start: u64,
+    tried: &[Offer],
+    inputs: &mut Vec<BarInput>,
+) -> Result<(), AllocError>
+    requires next { IsNextBar next.now }
+    requires tried { All (IsTried next.now start) tried.now }
+    ensures { OnOk result (inputs.new.items ≡ inputs.old.items ++ flat_map (cells next.now start) tried.now) }
+{
+    'offers: for offer in tried {
+        push_cells(alloc, next, start, *offer, inputs)?;
+    }
+    Ok(())
+}
+
+/// The inputs of all bars that are tried in a round.
+pub fn round_inputs(
+    alloc: Global,
+    next: &NextBar,
+    front: &[Track],
+    tried: &[Vec<Offer>],
+) -> Result<Vec<BarInput>, AllocError>
+    requires next { IsNextBar next.now }
+    requires tried { Each (λ t own. All (IsTried next.now (end_of t.barring)) own) front.now (map (λ own. own.items) tried.now) }
+    ensures { IfOk result (λ v. v.items ≡ all_cells next.now front.now (map (λ own. own.items) tried.now)) }
+{
+    let mut inputs = Vec::new(alloc);
+    'lists: for place in 0..front.len().min(tried.len()) {
+        let start = front[place].barring().end();
+        push_tried(alloc, next, start, tried[place].as_slice(), &mut inputs)?;
+    }
+    Ok(inputs)
+}

@@ -1,0 +1,90 @@
+ghost use Rattle.barline_follow.specs.Barring as barrings;
+ghost use Rattle.barline_follow.specs.Barring.{Barring, is_below};
+ghost use Rattle.barline_follow.specs.Gathered.{IsGathered, barring_of, found_of, going_in};
+ghost use Rattle.barline_follow.specs.Rounds.{Found, IsNextFront, going_on};
+ghost use Rattle.std.specs.List.{filter_map};
+ghost use Rattle.std.specs.Prelude.{◌≡◌, ◌≤◌, ◌++◌, List, Option, [], ◌∷◌, Contains, OnOk, filter, length, map, take};
+
+use crate::barring::{Barring, Track, better};
+use crate::least::{Valued, keep};
+use std::alloc::{AllocError, Global};
+use std::marker::Model;
+
+/// How many lists go on to the next round.
+const MOST_KEPT: usize = 24;
+
+/// What a longer list comes to: it has no trees, it goes on, or it is whole.
+#[derive(Drop)]
+pub enum Outcome {
+    Lost,
+    Going(Track),
+    Whole(Barring),
+}
+
+/// A round as far as its longer lists are gathered.
+#[derive(Drop)]
+pub struct Round {
+    kept: Vec<Track>,
+    best: Option<Barring>,
+}
+
+impl Model for Round {
+    ghost use Rattle.barline_follow.specs.Gathered.{Round};
+
+    ghost Value = { Round };
+
+    ghost view = { λ r. record { kept = r.kept.items; best = r.best } };
+}
+
+/// Takes out what is not below the best.
+fn clear_above(kept: &mut Vec<Track>, best: &Option<Barring>)
+    ensures { kept.new.items ≡ filter (λ t. is_below best.now t.barring) kept.old.items }
+{
+    if let Some(best) = best {
+        let most = best.value();
+        kept.retain(|track| track.value() < most);
+    }
+}
+
+impl Round {
+    /// A round with no list yet, where there may be a best from the rounds before.
+    pub fn begin(alloc: Global, best: Option<Barring>) -> Round
+        ensures { IsGathered best [] [] result }
+    {
+        Round {
+            kept: Vec::new(alloc),
+            best,
+        }
+    }
+
+    /// Gathers one more list.
+    pub fn add(&mut self, outcome: Outcome) -> Result<(), AllocError>
+        requires { (best : Option Barring) × (found : List Found) × (tracks : List barrings.Track) × IsGathered best found tracks self.old }
+        ensures { (best : Option Barring) (found : List Found) (tracks : List barrings.Track) → IsGathered best found tracks self.old
+            → OnOk result (IsGathered best (found ++ found_of outcome ∷ []) (tracks ++ going_in outcome) self.new) }
+    {
+        match outcome {
+            Outcome::Lost => Ok(()),
+            Outcome::Going(track) => keep(&mut self.kept, track),
+            Outcome::Whole(barring) => {
+                self.best = better(self.best.take(), barring);
+                Ok(())
+            }
+        }
+    }
+
+    /// The next front and the best.
+    pub fn close(self) -> (Vec<Track>, Option<Barring>)
+        ensures best { result.1 ≡ self.best }
+        ensures front { (best : Option Barring) (found : List Found) (tracks : List barrings.Track) → IsGathered best found tracks self
+            → IsNextFront self.best (filter_map going_on found) (map barring_of result.0.items) }
+        ensures among { (best : Option Barring) (found : List Found) (tracks : List barrings.Track) → IsGathered best found tracks self
+            → (track : barrings.Track) → Contains result.0.items track → Contains tracks track }
+        ensures few { length result.0.items ≤ 24 }
+    {
+        let Round { mut kept, best } = self;
+        kept.truncate(MOST_KEPT);
+        clear_above(&mut kept, &best);
+        (kept, best)
+    }
+}

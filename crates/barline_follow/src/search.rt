@@ -1,0 +1,134 @@
+ghost use Rattle.bar_pool.specs.declared.limits.TheConstants.{MOST_WORKERS};
+ghost use Rattle.barline_follow.specs.Gathered.{barring_of};
+ghost use Rattle.barline_follow.specs.NextBars.{IsNextBar, IsTrackOf};
+ghost use Rattle.barline_follow.specs.Rounds.{IsBest, IsRound};
+ghost use Rattle.barline_follow.specs.Tracks.{first_track};
+ghost use Rattle.rhythm_base.specs.Readable.{IsReadable};
+ghost use Rattle.std.specs.Prelude.{◌≡◌, ◌+◌, ◌≤◌, [], ◌∷◌, All, IfOk, length, map};
+
+use crate::barring::{Barring, Track};
+use crate::cells::round_inputs;
+use crate::gather::gather;
+use crate::heads::Heads;
+use crate::next_bar::{NextBar, bar_like, closing_tick};
+use crate::tried::front_tried;
+use crate::voice::voices_of;
+use bar_cut::check_starts;
+use bar_pool::build_cells;
+use least_cost::Steps as Builds;
+use rhythm_base::{Grammar, Performance, Tag};
+use rhythm_ports::Gate;
+use std::alloc::{AllocError, Global};
+use std::thread::Threads;
+
+/// By up to how many workers tables are built, and the gate before each.
+#[derive(Drop)]
+struct Crew<'a, G> {
+    workers: u32,
+    gate: &'a G,
+}
+
+/// The front of no bar, for so many voices.
+fn first_front(alloc: Global, voices: usize) -> Result<Vec<Track>, AllocError>
+    ensures { IfOk result (λ v. v.items ≡ first_track voices ∷ []) }
+{
+    let ticks = Vec::from_array(alloc, [0u64])?;
+    let start = Heads {
+        costs: [Some(0), None, None, None, None],
+    };
+    let mut heads = Vec::with_capacity(alloc, voices)?;
+    'voices: for _voice in 0..voices {
+        heads.push(start)?;
+    }
+    let barring = Barring::of(ticks, 0, 0);
+    let mut front = Vec::new(alloc);
+    front.push(Track::of(barring, heads))?;
+    Ok(front)
+}
+
+/// The next front and the best.
+fn next_round<R: Threads + Sync, G: Gate + Sync, B: Tag>(
+    rt: &R,
+    alloc: Global,
+    next: &NextBar,
+    front: &[Track],
+    best: Option<Barring>,
+    crew: &Crew<'_, G>,
+    builds: &mut Builds<B>,
+) -> Result<(Vec<Track>, Option<Barring>), AllocError>
+    requires next { IsNextBar next.now }
+    requires front { All (IsTrackOf next.now next.now.number) front.now }
+    requires some_worker { 1 ≤ crew.now.workers }
+    requires few_workers { crew.now.workers ≤ MOST_WORKERS }
+    ensures round { IfOk result (λ r. IsRound next.now.grammar.now next.now.performance.now next.now.number
+        (map barring_of front.now) best (map barring_of r.0.items) r.1) }
+    ensures tracks { IfOk result (λ r. All (IsTrackOf next.now (next.now.number + 1)) r.0.items) }
+    ensures builds { builds.old ≤ builds.new }
+{
+    let all = front_tried(alloc, next, front)?;
+    let tried = all.as_slice();
+    let cells = round_inputs(alloc, next, front, tried)?;
+    let inputs = cells.as_slice();
+    let tables = build_cells(
+        rt,
+        alloc,
+        next.grammar,
+        inputs,
+        crew.workers,
+        crew.gate,
+        builds,
+    )?;
+    let round = gather(alloc, next, front, tried, tables.as_slice(), best)?;
+    Ok(round.close())
+}
+
+/// The best barlines for a performance by a grammar; none where no list is whole. All tables of a round are built by up to so many
+/// workers, 1 to 16, each once.
+pub fn best_barlines<R: Threads + Sync, G: Gate + Sync, B: Tag>(
+    rt: &R,
+    alloc: Global,
+    grammar: &Grammar,
+    performance: &Performance,
+    workers: u32,
+    gate: &G,
+    builds: &mut Builds<B>,
+) -> Result<Option<Barring>, AllocError>
+    requires some_worker { 1 ≤ workers }
+    requires few_workers { workers ≤ MOST_WORKERS }
+    requires readable { IsReadable grammar.now }
+    ensures best { IfOk result (λ best. IsBest grammar.now performance.now best) }
+    ensures builds { builds.old ≤ builds.new }
+{
+    let crew = Crew { workers, gate };
+    let closing = closing_tick(performance.notes());
+    let voices = voices_of(alloc, grammar, performance)?;
+    let mut front = first_front(alloc, voices.len())?;
+    let mut best = None;
+    'rounds: for number in 0..2 * performance.bars().len() {
+        if front.is_empty() {
+            return Ok(best);
+        }
+        let like = bar_like(performance, number);
+        let next = NextBar {
+            grammar,
+            performance,
+            voices: voices.as_slice(),
+            number,
+            like,
+            is_rooted: check_starts(grammar, &[like]).is_ok(),
+            closing,
+        };
+        let (longer, longer_best) = next_round(
+            rt,
+            alloc,
+            &next,
+            front.as_slice(),
+            best,
+            &crew,
+            builds,
+        )?;
+        front = longer;
+        best = longer_best;
+    }
+    Ok(best)
+}

@@ -1,0 +1,13 @@
+pub mod Joined
+pub mod Numbered
+pub mod OnsetOrder
+pub mod WorkedText
+pub mod WordsApart
+pub mod RunsApart
+pub mod Graphic
+pub mod LineKinds
+pub mod TextsApart
+pub mod OneOrder
+pub mod SmallNumbers
+pub mod OneDivision
+pub mod ToldAlike

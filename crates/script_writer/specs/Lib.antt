@@ -1,0 +1,2 @@
+pub mod EditText
+pub mod Laws
