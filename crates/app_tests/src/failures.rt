@@ -24,6 +24,10 @@ const NO_COMMANDS: &[&[&str]] = &[
     &["studio", "a.mid"],
     &["studio", "a.mid", "a.grammar", "more"],
     &["fit", "a.mid", "a.grammar"],
+    &["follow", "a.mid"],
+    &["follow", "a.mid", "a.grammar", "more"],
+    &["notes"],
+    &["notes", "a.mid", "a.grammar"],
     &["transcribe", "a.mid", "a.grammar", "more"],
 ];
 

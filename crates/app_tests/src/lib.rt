@@ -1,7 +1,7 @@
 //! Tests of the top call, from the bytes of files to what out and err take: the scores of small pieces, their costs, pages and MIDI files;
-//! barlines that are fitted; the scripts of editors and studios; the events of scores; pieces and drills of numbers; words that are
-//! answered or refused; what refuses a file, notes, bars or a grammar; files at their limits; each call of a port that fails; the turns
-//! of a script and its replies; what is opened; and the workers that are asked for.
+//! barlines that are fitted, and those that follow the player; the scripts of editors and studios; the notes of files and the events of
+//! scores; pieces and drills of numbers; words that are answered or refused; what refuses a file, notes, bars or a grammar; files at
+//! their limits; each call of a port that fails; the turns of a script and its replies; what is opened; and the workers that are asked for.
 #![tactic(auto)]
 
 #[cfg(test)]
@@ -23,6 +23,8 @@ mod files;
 #[cfg(test)]
 mod fits;
 #[cfg(test)]
+mod follows;
+#[cfg(test)]
 mod given;
 #[cfg(test)]
 mod grammars;
@@ -32,6 +34,8 @@ mod hostile;
 mod lending;
 #[cfg(test)]
 mod midi;
+#[cfg(test)]
+mod notes;
 #[cfg(test)]
 mod one_call;
 #[cfg(test)]

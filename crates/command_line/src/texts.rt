@@ -28,6 +28,10 @@ Commands:
                             for the barline BAR, and writes the best one, its
                             cost and the score. BAR is 0 to 4096, the ticks are
                             0 to 2000000000, and so is STEP, but at least 1.
+  follow MIDI GRAMMAR       Reads the two files, and writes the edit script that
+                            moves the barlines to where the player has them.
+  notes MIDI                Reads a MIDI file, and writes its bars, tempos, keys
+                            and notes, each on a line of its own.
   events KERN               Reads a **kern file, and writes each note and chord
                             on a line of its own.
   generate NUMBER BARS      Reads nothing, and writes a MIDI file that is made

@@ -1,11 +1,11 @@
 -- What the words ask for.
-use Rattle.std.proofs.Common.{◌≡◌, ℕ, List, ap, inl, refl, sym, Option, Some, None}
+use Rattle.std.proofs.Common.{◌≡◌, ℕ, List, ap, arith, inl, refl, sym, Option, Some, None}
 use Rattle.std.specs.Prelude.{option_and_then}
 use Rattle.command_line.specs.CommandLines.{invocation_of}
 use Rattle.command_line.specs.declared.invocation.Invocation.{Invocation}
 use Rattle.rhythm_app.specs.Asked.{asked_by, asked_of}
 use Rattle.rhythm_app.specs.Builds.{HasBuilt}
-use Rattle.rhythm_app.specs.Commands.{Cells, no_cells, cells_in, cells_fitted, cells_drilled}
+use Rattle.rhythm_app.specs.Commands.{Cells, no_cells, cells_in, cells_fitted, cells_followed, cells_drilled}
 use Rattle.rhythm_app.specs.declared.stop.Stop.TheVariants as stop
 use Rattle.rhythm_ports.specs.Files.{File}
 
@@ -24,6 +24,7 @@ pub unread_built : (cells : Cells) (files : Option (List File)) (built : ℕ) �
 unread_built no_cells files built = refl
 unread_built (cells_in midi) files built = inl refl
 unread_built (cells_fitted midi grammar c) files built = inl refl
+unread_built (cells_followed midi) files built = omega arith
 unread_built (cells_drilled number grammar) files built = inl refl
 
 -- nor where the words are no command
@@ -31,4 +32,5 @@ pub nothing_built : (cells : Cells) (files : Option (List File)) (built : ℕ) �
 nothing_built no_cells files built = refl
 nothing_built (cells_in midi) files built = refl
 nothing_built (cells_fitted midi grammar c) files built = refl
+nothing_built (cells_followed midi) files built = refl
 nothing_built (cells_drilled number grammar) files built = refl

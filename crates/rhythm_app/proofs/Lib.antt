@@ -2,9 +2,11 @@ pub mod Asking
 pub mod Candidates
 pub mod Drilling
 pub mod Fitting
+pub mod Following
 pub mod InTurn
 pub mod Listing
 pub mod Notating
+pub mod Noting
 pub mod OneOutcome
 pub mod Opened
 pub mod Performing

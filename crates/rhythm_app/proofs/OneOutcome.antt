@@ -7,8 +7,10 @@ use Rattle.barline_fit.proofs.OneWritten.{scores_with_barline_one}
 use Rattle.barline_fit.specs.FittedScore.{IsFittedScore}
 use Rattle.barline_fit.specs.declared.candidates.Candidates.{Candidates}
 use Rattle.barline_fit.specs.declared.fitted.Fitted.{Fitted}
+use Rattle.barline_follow.proofs.OneBest.{one_answer}
 use Rattle.drill_run.proofs.OneDrill.{drills_one}
 use Rattle.drill_run.specs.Ends.{IsDrillOf}
+use Rattle.drill_run.specs.declared.piece.TheConstants.{DRILL_BARS}
 use Rattle.edit_session.proofs.Faults.{fault_or_open, one_fault}
 use Rattle.edit_session.specs.Opening.{CanOpen}
 use Rattle.grammar_file.proofs.SayableLemmas.{is_sayable}
@@ -28,14 +30,16 @@ use Rattle.kern_writer.specs.PerformanceText.{HasTooLongText, IsTextOf}
 use Rattle.kern_writer.specs.Text.{IsScoreText, IsTooLong}
 use Rattle.lily_writer.proofs.OnePage.{pages_one}
 use Rattle.lily_writer.specs.Text.{IsLilyText}
+use Rattle.notes_writer.proofs.OneOrder as noting
 use Rattle.performance_load.proofs.OneLoading.{one_loading}
 use Rattle.performance_load.specs.Loading.{Loads}
 use Rattle.performance_load.specs.declared.load_fault.LoadFault.{LoadFault}
+use Rattle.piece_laws.proofs.FormedPieces.{pieces_formed}
 use Rattle.rhythm_app.proofs.InTurn.{IsOne, in_turn_one}
-use Rattle.rhythm_app.specs.Asked.{Asked, help, version, write, answer, fit, too_many_candidates, events, generate, drill, asked_by}
+use Rattle.rhythm_app.specs.Asked.{Asked, help, version, write, answer, fit, too_many_candidates, follow, notes, events, generate, drill, asked_by}
 use Rattle.rhythm_app.specs.Commands.{HasOutcomeOf, file_content}
 use Rattle.rhythm_app.specs.Laws.{OutcomesAreOne}
-use Rattle.rhythm_app.specs.Outcome.{AreEventsOf, AreInTurn, AreInputs, AreRead, FitsScore, IsAnswering, IsFitting, IsFormOf, IsListing, IsLoading, IsRead, IsScoreRead, IsTooLongToWrite, IsUnfitted, IsUnwritten, IsWriting, fit_stop, fit_text, IsDrilling, IsMade, IsPieceOf, IsTooLongDrill, Ready, say, serve, IsUnderstood, IsUnopened, grammar_tests, kern_tests, limit_of, load_stop, open_stop, passed, stopped}
+use Rattle.rhythm_app.specs.Outcome.{AreEventsOf, AreInTurn, AreInputs, AreRead, FitsScore, IsAnswering, IsFitting, IsFormOf, IsListing, IsLoading, IsNoting, IsRead, IsScoreRead, IsTooLongToWrite, IsUnfitted, IsUnwritten, IsWriting, fit_stop, fit_text, IsDrilling, IsFollowing, IsMade, IsPieceOf, IsTooLongDrill, Ready, say, serve, IsUnderstood, IsUnopened, grammar_tests, kern_tests, limit_of, load_stop, open_stop, passed, stopped}
 use Rattle.rhythm_app.specs.declared.request.Form.{Form}
 use Rattle.rhythm_app.specs.declared.request.Form.TheVariants as form
 use Rattle.rhythm_app.specs.declared.request.Talk.{Talk}
@@ -47,6 +51,7 @@ use Rattle.rhythm_base.specs.Performance.{IsWellFormed, Performance}
 use Rattle.rhythm_base.specs.Readable.{IsReadable}
 use Rattle.rhythm_base.specs.declared.limits.TheConstants.{LONGEST_SCORE}
 use Rattle.rhythm_ports.specs.Files.{File}
+use Rattle.script_writer.specs.EditText.{script_text}
 use Rattle.smf_reader.specs.Played.{Smf}
 use Rattle.smf_reader.specs.declared.fault.SmfFault.{SmfFault}
 use Rattle.smf_writer.proofs.OneFile.{files_one}
@@ -232,6 +237,18 @@ module _ (g : Grammar) (p : Performance) (read : IsReadable g) (formed : IsWellF
   one_answering talk (Err s) (Ok (serve u f r)) h k = absurd (opened s k.0 h)
   one_answering talk (Err s) (Err t) h k = ap Err (h.3 ∙ ap open_stop (one_fault g p h.0 k.0 read formed h.2 k.2 h.1 k.1) ∙ sym k.3)
 
+  -- ---- the barlines that follow the player
+
+  one_following : IsOne (IsFollowing g p)
+  one_following (Ok (say a)) (Ok (say b)) (can, (edits, are, text)) (can', (others, are', text')) =
+      ap (λ t. Ok (say t)) (text ∙ ap script_text (one_answer g p edits others are are') ∙ sym text')
+  one_following (Ok (say a)) (Ok (serve t e q)) h k = absurd k
+  one_following (Ok (serve t e q)) s h k = absurd h
+  one_following (Ok (say a)) (Err s) h k = absurd (opened s h.0 k)
+  one_following (Err s) (Ok (say b)) h k = absurd (opened s k.0 h)
+  one_following (Err s) (Ok (serve t e q)) h k = absurd k
+  one_following (Err s) (Err t) h k = ap Err (h.3 ∙ ap open_stop (one_fault g p h.0 k.0 read formed h.2 k.2 h.1 k.1) ∙ sym k.3)
+
   -- ---- the drill
 
   drill_or_open : (number : ℕ) (s : Stop) → IsTooLongDrill g number p s → IsUnopened g p s → ⊥
@@ -273,20 +290,27 @@ same_file f h e = cc
 -- the piece of a number is one
 one_piece : (number : ℕ) (p q : Performance) → IsPieceOf number p → IsPieceOf number q → p ≡ q
 one_piece number p q h k =
-    let loading = h.0 in
-    let other = k.0 in
-    let same : loading.file ≡ other.file = same_file loading.file other.file (sym loading.says ∙ other.says) in
+    let same : h.file ≡ k.file = same_file h.file k.file (sym h.says ∙ k.says) in
     same_performance p q
-    (one_loading other.file (Ok p) (Ok q) (subst (λ f. Loads f (Ok p)) same loading.loads) other.loads (λ e. cc) (λ e. cc))
+    (one_loading k.file (Ok p) (Ok q) (subst (λ f. Loads f (Ok p)) same h.loads) k.loads (λ e. cc) (λ e. cc))
 
 one_made : (number : ℕ) → IsOne (IsMade number)
 one_made number r s h k = h.2 ∙ ap (λ p. Ok p) (one_piece number h.0 k.0 h.1 k.1) ∙ sym k.2
 
 made_formed : (number : ℕ) (p : Performance) → IsMade number (Ok p) → IsWellFormed p
-made_formed number p (q, piece, e) = let same : q ≡ p = back p q e in subst IsWellFormed same piece.1
+made_formed number p (q, piece, e) = let same : q ≡ p = back p q e in subst IsWellFormed same (pieces_formed number DRILL_BARS q piece)
   where
     back : (p q : Performance) → ◌≡◌ {A = Result Performance Stop} (Ok p) (Ok q) → q ≡ p
     back p q e = cc
+
+-- ---- the notes
+
+one_noting : (p : Performance) → IsOne (IsNoting p)
+one_noting p (Ok (say a)) (Ok (say b)) h k = ap (λ text. Ok (say text)) (noting.one_text p a b h k)
+one_noting p (Ok (say a)) (Ok (serve t g q)) h k = absurd k
+one_noting p (Ok (say a)) (Err s) h k = absurd k
+one_noting p (Ok (serve t g q)) s h k = absurd h
+one_noting p (Err s) r h k = absurd h
 
 -- ---- the events
 
@@ -351,6 +375,11 @@ one_of (Some (answer talk midi grammar)) files r s h k =
 one_of (Some (fit midi grammar c)) files r s h k =
     one_of_files (IsFitting c) (λ g p read formed. one_fitting g p read formed c) (file_content files midi) (file_content files grammar) r s h k
 one_of (Some (too_many_candidates count)) files r s h k = h ∙ sym k
+one_of (Some (follow midi grammar)) files r s h k =
+    one_of_files IsFollowing (λ g p read formed. one_following g p read formed) (file_content files midi) (file_content files grammar) r s h k
+one_of (Some (notes midi)) files r s h k =
+    in_turn_one (IsRead (file_content files midi)) (λ f. AreInTurn (IsLoading f) IsNoting) (one_read (file_content files midi))
+    (λ f _. in_turn_one (IsLoading f) IsNoting (one_loaded f) (λ p _. one_noting p)) r s h k
 one_of (Some (events kern)) files r s h k =
     in_turn_one (IsScoreRead (file_content files kern)) IsListing (one_score_read (file_content files kern))
     (λ score read. one_listing score (in_ranges (file_content files kern) score read)) r s h k

@@ -4,7 +4,7 @@ use Rattle.std.specs.Option.{ForSome}
 use Rattle.std.specs.Io.KnownBytes.{Appends}
 use Rattle.rhythm_app.specs.Asked.{Asked}
 use Rattle.rhythm_app.specs.Builds.{HasBuilt, HasBuiltAll}
-use Rattle.rhythm_app.specs.Commands.{Cells, HasNames, HasOutcomeOf, cells_drilled, cells_fitted, cells_in, cells_of_asked, command, named, no_cells}
+use Rattle.rhythm_app.specs.Commands.{Cells, HasNames, HasOutcomeOf, cells_drilled, cells_fitted, cells_followed, cells_in, cells_of_asked, command, named, no_cells}
 use Rattle.rhythm_app.specs.Ends.{AppendsPart, ComesTo, IsCauseOf, IsFailureOf, IsPerformed, IsSaid, IsSilent, IsUntouched, KeepsRest}
 use Rattle.rhythm_app.specs.Lent.{Lent}
 use Rattle.rhythm_app.specs.Outcome.{say}
@@ -121,6 +121,7 @@ write_built : (cells : Cells) (fs : Option (List File)) (old new : ℕ) → (cel
 write_built no_cells fs old new none = none refl
 write_built (cells_in midi) fs old new none = tt
 write_built (cells_fitted midi grammar c) fs old new none = tt
+write_built (cells_followed midi) fs old new none = tt
 write_built (cells_drilled number grammar) fs old new none = tt
 
 module _ {S O E : Type 0} where

@@ -16,8 +16,8 @@ use Rattle.rhythm_app.specs.declared.request.Talk.{Talk}
 use Rattle.rhythm_app.specs.declared.request.Talk.TheVariants as talk
 
 -- the help, the version, or a command with the names of its files and its numbers: one that writes a text of the session on MIDI and
--- GRAMMAR, one that answers a script over it, `fit MIDI GRAMMAR BAR LOW HIGH STEP`, `events KERN`, `generate NUMBER BARS` or
--- `drill NUMBER GRAMMAR`. A fit of too many candidates asks for no file
+-- GRAMMAR, one that answers a script over it, `fit MIDI GRAMMAR BAR LOW HIGH STEP`, `follow MIDI GRAMMAR`, `notes MIDI`, `events KERN`,
+-- `generate NUMBER BARS` or `drill NUMBER GRAMMAR`. A fit of too many candidates asks for no file
 pub data Asked : Type 0 where
   help : Asked
   version : Asked
@@ -25,6 +25,8 @@ pub data Asked : Type 0 where
   answer : Talk → List ℕ → List ℕ → Asked
   fit : List ℕ → List ℕ → Candidates → Asked
   too_many_candidates : ℕ → Asked
+  follow : List ℕ → List ℕ → Asked
+  notes : List ℕ → Asked
   events : List ℕ → Asked
   generate : ℕ → ℕ → Asked
   drill : ℕ → List ℕ → Asked
@@ -88,6 +90,8 @@ command_by (word ∷ more) =
     else if pointwise nat_eq word (codes "edit") then of_two (λ a b. Some (answer talk.Editing a b)) more
     else if pointwise nat_eq word (codes "studio") then of_two (λ a b. Some (answer talk.Studio a b)) more
     else if pointwise nat_eq word (codes "fit") then of_six fit_by more
+    else if pointwise nat_eq word (codes "follow") then of_two (λ a b. Some (follow a b)) more
+    else if pointwise nat_eq word (codes "notes") then of_one (λ a. Some (notes a)) more
     else if pointwise nat_eq word (codes "events") then of_one (λ a. Some (events a)) more
     else if pointwise nat_eq word (codes "generate") then of_two generate_by more
     else if pointwise nat_eq word (codes "drill") then of_two drill_by more
@@ -118,6 +122,8 @@ shown_request (request.Write form files) = write form files.midi.now files.gramm
 shown_request (request.Answer talk files) = answer talk files.midi.now files.grammar.now
 shown_request (request.Fit files among) = fit files.midi.now files.grammar.now among
 shown_request (request.TooManyCandidates count) = too_many_candidates count
+shown_request (request.Follow files) = follow files.midi.now files.grammar.now
+shown_request (request.Notes midi) = notes midi.now
 shown_request (request.Events kern) = events kern.now
 shown_request (request.Generate number bars) = generate number bars
 shown_request (request.Drill number grammar) = drill number grammar.now

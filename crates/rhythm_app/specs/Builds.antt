@@ -10,7 +10,7 @@ use Rattle.drill_run.specs.Ends.{HasDrilled, IsBrokenOff}
 use Rattle.edit_session.specs.Opening.{cells_of}
 use Rattle.edit_session.specs.Prepared.{RisesBy}
 use Rattle.performance_load.specs.Loading.{IsLoaded}
-use Rattle.rhythm_app.specs.Commands.{Cells, no_cells, cells_in, cells_fitted, cells_drilled, file_content}
+use Rattle.rhythm_app.specs.Commands.{Cells, no_cells, cells_in, cells_fitted, cells_followed, cells_drilled, file_content}
 use Rattle.rhythm_app.specs.Outcome.{IsPieceOf, IsUnderstood, midi_tests}
 use Rattle.rhythm_app.specs.declared.stop.Kind.TheVariants as kind
 use Rattle.rhythm_app.specs.declared.stop.Stop.{Stop}
@@ -32,6 +32,10 @@ AreAllBuilt bytes old new = (p : Performance) × IsPerformanceIn bytes p × (new
 -- no more of them were built
 abbrev pub AreSomeBuilt : List ℕ → ℕ → ℕ → Type 0
 AreSomeBuilt bytes old new = (p : Performance) × IsPerformanceIn bytes p × (new ≤ risen old (cells_of p))
+
+-- at least all of them were built
+abbrev pub AreAllOrMoreBuilt : List ℕ → ℕ → ℕ → Type 0
+AreAllOrMoreBuilt bytes old new = (p : Performance) × IsPerformanceIn bytes p × (risen old (cells_of p) ≤ new)
 
 -- a MIDI file and a grammar file say this grammar and this performance, and P holds of them
 abbrev pub ForInputs : List ℕ → List ℕ → (Grammar → Performance → Type 0) → Type 0
@@ -64,12 +68,13 @@ ForPiece bytes number P = (g : Grammar) × (p : Performance) × IsUnderstood byt
 abbrev pub AreDrilled : List ℕ → ℕ → Result (List ℕ) ℕ → ℕ → ℕ → Type 0
 AreDrilled bytes number said old new = ForPiece bytes number (λ g p. HasDrilled g number p said (risen old (cells_of p)) new)
 
--- all cells of the command's performance were built. A fit builds, besides, those for its candidates, and a drill those for its edits.
--- A command that has no cells leaves the counter as it was
+-- all cells of the command's performance were built. A fit builds, besides, those for its candidates, barlines that follow the player those
+-- between them, and a drill those for its edits. A command that has no cells leaves the counter as it was
 abbrev pub HasBuiltAll : Cells → List File → ℕ → ℕ → Type 0
 HasBuiltAll no_cells files old new = new ≡ old
 HasBuiltAll (cells_in midi) files old new = AreAllBuilt (file_content files midi) old new
 HasBuiltAll (cells_fitted midi grammar c) files old new = ForInputs (file_content files midi) (file_content files grammar) (λ g p. HasFitted c g p (risen old (cells_of p)) new)
+HasBuiltAll (cells_followed midi) files old new = AreAllOrMoreBuilt (file_content files midi) old new
 HasBuiltAll (cells_drilled number grammar) files old new = (text : List ℕ) × AreDrilled (file_content files grammar) number (Ok text) old new
 
 -- what holds of the cells by the stop: all of them are built where only a derivation is wanting, or the score or its MIDI file is too
@@ -111,6 +116,11 @@ HasFittedOf files midi grammar c old new =
     (ForSome files (λ files. ForInputs (file_content files midi) (file_content files grammar) (λ g p. HasFitted c g p (risen old (cells_of p)) new)))
     ((new ≡ old) ⊎ ForSome files (λ files. ForInputs (file_content files midi) (file_content files grammar) (λ g p. AreSomeFitted c g p old new))) (new ≡ old)
 
+-- the same of barlines that follow the player: where memory is wanting, no more is said than that some are built
+abbrev pub HasFollowedOf : Option (List File) → List ℕ → ℕ → ℕ → Stop → Type 0
+HasFollowedOf files midi old new =
+    MatchBuilds (ForSome files (λ files. AreAllBuilt (file_content files midi) old new)) (old ≤ new) (new ≡ old)
+
 -- what holds of the cells of a drill by the stop: as of those of a file, but where the last score is too long, those for the edits are
 -- built, too; and where memory is wanting, some of these may be
 abbrev pub MatchDrilled : Type 0 → (ℕ → Type 0) → Type 0 → Type 0 → Stop → Type 0
@@ -136,4 +146,5 @@ abbrev pub HasBuilt : Cells → Option (List File) → ℕ → ℕ → Stop → 
 HasBuilt no_cells files old new = λ stop. new ≡ old
 HasBuilt (cells_in midi) files old new = HasBuiltOf files midi old new
 HasBuilt (cells_fitted midi grammar c) files old new = HasFittedOf files midi grammar c old new
+HasBuilt (cells_followed midi) files old new = HasFollowedOf files midi old new
 HasBuilt (cells_drilled number grammar) files old new = HasDrilledOf files number grammar old new

@@ -2,8 +2,8 @@
 use Rattle.std.specs.Prelude.{◌≡◌, ◌≢◌, ℕ, List, [], ◌∷◌, All, Result, Ok, Err, Option, Some, None, unwrap_or, ⊤}
 use Rattle.command_line.specs.Texts.{help_text, version_text}
 use Rattle.barline_fit.specs.declared.candidates.Candidates.{Candidates}
-use Rattle.rhythm_app.specs.Asked.{Asked, help, version, write, answer, fit, too_many_candidates, events, generate, drill, asked_by}
-use Rattle.rhythm_app.specs.Outcome.{AreInTurn, AreRead, IsAnswering, IsDrilling, IsFitting, IsListing, IsMade, IsScoreRead, IsUnderstood, IsWriting, Ready, say}
+use Rattle.rhythm_app.specs.Asked.{Asked, help, version, write, answer, fit, too_many_candidates, follow, notes, events, generate, drill, asked_by}
+use Rattle.rhythm_app.specs.Outcome.{AreInTurn, AreRead, IsAnswering, IsDrilling, IsFitting, IsFollowing, IsListing, IsLoading, IsMade, IsNoting, IsRead, IsScoreRead, IsUnderstood, IsWriting, Ready, say}
 use Rattle.rhythm_app.specs.declared.stop.Kind.{Kind}
 use Rattle.rhythm_app.specs.declared.stop.Kind.TheVariants as kind
 use Rattle.rhythm_app.specs.declared.stop.Stop.{Stop}
@@ -16,11 +16,13 @@ abbrev pub file_content : List File → List ℕ → List ℕ
 file_content files name = unwrap_or (file_of files name) []
 
 -- which cells a command builds: none; those of the performance in a MIDI file; these, and by the grammar in a file those that a barline
--- reaches at its candidates; or those of the piece of a number, by the grammar in a file, and those that its drill reaches
+-- reaches at its candidates; these, and those of the bars between other barlines; or those of the piece of a number, by the grammar in a
+-- file, and those that its drill reaches
 pub data Cells : Type 0 where
   no_cells : Cells
   cells_in : List ℕ → Cells
   cells_fitted : List ℕ → List ℕ → Candidates → Cells
+  cells_followed : List ℕ → Cells
   cells_drilled : ℕ → List ℕ → Cells
 
 -- a file that a command reads: which input it is, and its name
@@ -60,6 +62,16 @@ command (fit midi grammar c) = record {
   cells = cells_fitted midi grammar c;
 }
 command (too_many_candidates count) = record { reads = []; outcome = λ files r. r ≡ Err (TooManyCandidates count); cells = no_cells }
+command (follow midi grammar) = record {
+  reads = named kind.Midi midi ∷ named kind.Grammar grammar ∷ [];
+  outcome = λ files. AreRead (file_content files midi) (file_content files grammar) IsFollowing;
+  cells = cells_followed midi;
+}
+command (notes midi) = record {
+  reads = named kind.Midi midi ∷ [];
+  outcome = λ files. AreInTurn (IsRead (file_content files midi)) (λ f. AreInTurn (IsLoading f) IsNoting);
+  cells = no_cells;
+}
 command (events kern) = record {
   reads = named kind.Kern kern ∷ [];
   outcome = λ files. AreInTurn (IsScoreRead (file_content files kern)) IsListing;

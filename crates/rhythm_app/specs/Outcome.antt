@@ -1,7 +1,7 @@
 -- What the bytes of a command's files come to: what the command is ready to write, or the first test that fails, as a stop. The tests come in this order: the words; the MIDI file's size and its faults; the grammar file's size and its
 -- faults; the notes and the bars; the cells, the root symbols and the derivations; the fit of a barline, where one is asked for; the size
--- of a score, and of its MIDI file. Too many candidates for a barline are told before any file is read. Where the command has a
--- **kern file, after the words come its size and its faults. `drill` has a grammar file, the cells, the root symbols and the derivations
+-- of a score, and of its MIDI file. Too many candidates for a barline are told before any file is read. Where the command has a MIDI file
+-- alone, there is no grammar file between its faults and the notes; where it has a **kern file, after the words come its size and its faults. `drill` has a grammar file, the cells, the root symbols and the derivations
 -- of its piece, and the size of its last score; `generate`, the help and the version read no file. A failed read, a failed write and
 -- want of memory are no outcomes: they may end any run.
 use Rattle.std.specs.Prelude.{◌≡◌, ◌≢◌, ℕ, ◌+◌, ◌≤◌, ◌⊎◌, nat_le, List, [], ◌∷◌, ◌++◌, codes, length, IfOk, map, decimal, if◌then◌else◌, Result, Ok, Err}
@@ -12,6 +12,7 @@ use Rattle.barline_fit.specs.declared.candidates.Candidates.{Candidates}
 use Rattle.barline_fit.specs.declared.fit_fault.FitFault.{FitFault}
 use Rattle.barline_fit.specs.declared.fit_fault.FitFault.TheVariants as fitting
 use Rattle.barline_fit.specs.declared.fitted.Fitted.{Fitted}
+use Rattle.barline_follow.specs.Answer.{IsAnswer}
 use Rattle.derivation.specs.PerformanceScore.{score_bar}
 use Rattle.drill_run.specs.Ends.{IsDrillOf}
 use Rattle.drill_run.specs.declared.piece.TheConstants.{DRILL_BARS}
@@ -27,6 +28,7 @@ use Rattle.kern_reader.specs.declared.event.KernEvent.{KernEvent}
 use Rattle.kern_writer.specs.PerformanceText.{HasTooLongText, IsTextOf}
 use Rattle.lily_writer.specs.Text.{IsLilyText}
 use Rattle.note_list.specs.declared.fault.NoteFault.TheVariants as note
+use Rattle.notes_writer.specs.NotesText.{IsNotesText}
 use Rattle.performance_load.specs.Loading.{Loads}
 use Rattle.performance_load.specs.declared.load_fault.LoadFault.{LoadFault}
 use Rattle.performance_load.specs.declared.load_fault.LoadFault.TheVariants as loading
@@ -42,7 +44,9 @@ use Rattle.rhythm_app.specs.Stops.{joined_words}
 use Rattle.rhythm_base.specs.Grammar.{Grammar}
 use Rattle.rhythm_base.specs.Performance.{IsWellFormed, Performance}
 use Rattle.rhythm_base.specs.declared.bar_fault.BarFault.TheVariants as laying
+use Rattle.rhythm_base.specs.declared.edit.Edit.{Edit}
 use Rattle.rhythm_base.specs.declared.limits.TheConstants.{LONGEST_GRAMMAR, LONGEST_MIDI, LONGEST_SCORE, LONGEST_SCRIPT}
+use Rattle.script_writer.specs.EditText.{script_text}
 use Rattle.smf_reader.specs.Played.{Smf}
 use Rattle.smf_reader.specs.SmfFile.{smf}
 use Rattle.smf_writer.specs.RenderedFile.{HasFault, IsRendered}
@@ -224,6 +228,22 @@ IsFitting c g p (Ok (say text)) = (x : Fitted) × (score : List ℕ) × FitsScor
 IsFitting c g p (Ok (serve t h q)) = ⊥
 IsFitting c g p (Err s) = IsUnopened g p s ⊎ IsUnfitted c g p s ⊎ IsTooLongFit c g p s
 
+-- ---- the barlines that follow the player
+
+-- what barlines that follow the player come to by a grammar: the script that moves those of the performance there
+abbrev pub IsFollowing : Grammar → Performance → Result Ready Stop → Type 0
+IsFollowing g p (Ok (say text)) = CanOpen g p × ((edits : List Edit) × IsAnswer g p edits × (text ≡ script_text edits))
+IsFollowing g p (Ok (serve t h q)) = ⊥
+IsFollowing g p (Err s) = IsUnopened g p s
+
+-- ---- the notes
+
+-- what a performance comes to: the text of its bars, tempos, keys and notes
+abbrev pub IsNoting : Performance → Result Ready Stop → Type 0
+IsNoting p (Ok (say text)) = IsNotesText p text
+IsNoting p (Ok (serve t g q)) = ⊥
+IsNoting p (Err s) = ⊥
+
 -- ---- the events
 
 -- what the score of a **kern file comes to: the text of its events
@@ -234,9 +254,9 @@ IsListing score (Err s) = ⊥
 
 -- ---- the drill
 
--- the performance of the piece of a number, as its file is read and loaded. It is always well formed
+-- the performance of the piece of a number, as its file is read and loaded
 abbrev pub IsPieceOf : ℕ → Performance → Type 0
-IsPieceOf number p = IsLoadingOf number DRILL_BARS (Ok p) × IsWellFormed p
+IsPieceOf number p = IsLoadingOf number DRILL_BARS (Ok p)
 
 -- a piece is always made
 abbrev pub IsMade : ℕ → Result Performance Stop → Type 0

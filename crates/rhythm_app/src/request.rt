@@ -54,6 +54,10 @@ pub enum Request<'a> {
     TooManyCandidates {
         count: u64,
     },
+    /// The script that moves the barlines of a MIDI file to those that follow the player, by a grammar.
+    Follow(FileNames<'a>),
+    /// The bars, tempos, keys and notes of a MIDI file.
+    Notes(&'a str),
     /// The events of a **kern file.
     Events(&'a str),
     /// The MIDI file of the piece of a number.
@@ -79,6 +83,8 @@ pub fn called_as(word: &str) -> Option<&'static str> {
         "fit" => Some(
             "fit MIDI GRAMMAR BAR LOW HIGH STEP, with BAR from 0 to 4096, LOW and HIGH from 0 to 2000000000, LOW no more than HIGH, and STEP from 1 to 2000000000",
         ),
+        "follow" => Some("follow MIDI GRAMMAR"),
+        "notes" => Some("notes MIDI"),
         "events" => Some("events KERN"),
         "generate" => Some(
             "generate NUMBER BARS, with NUMBER from 0 to 65534 and BARS from 1 to 2000",
@@ -93,7 +99,9 @@ fn request_of_one<'a>(word: &'a str, file: &'a str) -> Option<Request<'a>>
     ensures asked { option_map shown_request result ≡ command_by (word.entry.now ∷ file.entry.now ∷ []) }
     ensures range { IfSome result IsInRange }
 {
-    if word == "events" {
+    if word == "notes" {
+        Some(Request::Notes(file))
+    } else if word == "events" {
         Some(Request::Events(file))
     } else {
         None
@@ -138,6 +146,8 @@ fn request_of_two<'a>(word: &'a str, first: &'a str, second: &'a str) -> Option<
         Some(Request::Answer(Talk::Editing, files))
     } else if word == "studio" {
         Some(Request::Answer(Talk::Studio, files))
+    } else if word == "follow" {
+        Some(Request::Follow(files))
     } else if word == "generate" {
         generate_request(first, second)
     } else if word == "drill" {

@@ -16,9 +16,11 @@ use crate::answering::answer;
 use crate::drill::drill_text;
 use crate::events::events_text;
 use crate::fit::fit_text_of;
+use crate::follow::follow_text;
 use crate::generate::piece_bytes;
 use crate::help::{help, version};
 use crate::lent::Lent;
+use crate::notes::notes_text_of;
 use crate::request::{Request, request_of, workers_of};
 use crate::stop::Stop;
 use crate::usage::tell;
@@ -93,6 +95,14 @@ fn perform<R: Threads + Sync, F: Shelf, S: Source, O: Sink, E: Sink, G: Gate + S
             finish(lent, text)
         }
         Some(Request::TooManyCandidates { count }) => Err(Stop::TooManyCandidates { count }),
+        Some(Request::Follow(names)) => {
+            let text = follow_text(lent, workers, names);
+            finish(lent, text)
+        }
+        Some(Request::Notes(midi)) => {
+            let text = notes_text_of(lent, midi);
+            finish(lent, text)
+        }
         Some(Request::Events(kern)) => {
             let text = events_text(lent, kern);
             finish(lent, text)

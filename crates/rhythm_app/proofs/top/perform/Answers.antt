@@ -1,5 +1,5 @@
 use Rattle.std.proofs.Common.{ap, sym, Some, ◌∙◌}
-use Rattle.rhythm_app.specs.Asked.{asked_of, answer, drill, events, fit, generate, help, shown_request, too_many_candidates, version, write}
+use Rattle.rhythm_app.specs.Asked.{asked_of, answer, drill, events, fit, follow, generate, help, notes, shown_request, too_many_candidates, version, write}
 use Rattle.rhythm_app.specs.declared.request.Request.{Request}
 use Rattle.rhythm_app.proofs.Requests.{performed_as, too_many_asked, usage_as}
 use Rattle.rhythm_app.proofs.top.perform.Goals as goal
@@ -33,6 +33,26 @@ pub returns-in-Some-Write-clause-performed : goal.returns-in-Some-Write-clause-p
 returns-in-Some-Write-clause-performed g c =
     performed_as c.args.lent.now c.finish-in-Some-Write.new.lent c.finish-in-Some-Write.result (Some (write c.in-Some-Write.form c.in-Some-Write.names.midi.now c.in-Some-Write.names.grammar.now)) (asked_of c.args.said.now) (ap (λ (r : Request). Some (shown_request r)) (sym c.in-Some-Write.field-0-is) ∙ c.in-Some-Write.ensures.asked)
     (c.finish-in-Some-Write.ensures (Some (write c.in-Some-Write.form c.in-Some-Write.names.midi.now c.in-Some-Write.names.grammar.now)) c.args.lent.now c.session_text-text.ensures)
+
+pub returns-in-Some-Follow-clause-usage : goal.returns-in-Some-Follow-clause-usage
+returns-in-Some-Follow-clause-usage g c =
+    usage_as c.args.lent.now c.finish-in-Some-Follow.new.lent c.finish-in-Some-Follow.result (follow c.in-Some-Follow.names.midi.now c.in-Some-Follow.names.grammar.now) (asked_of c.args.said.now) (ap (λ (r : Request). Some (shown_request r)) (sym c.in-Some-Follow.field-0-is) ∙ c.in-Some-Follow.ensures.asked)
+    (c.finish-in-Some-Follow.ensures (Some (follow c.in-Some-Follow.names.midi.now c.in-Some-Follow.names.grammar.now)) c.args.lent.now c.follow_text-text.ensures)
+
+pub returns-in-Some-Follow-clause-performed : goal.returns-in-Some-Follow-clause-performed
+returns-in-Some-Follow-clause-performed g c =
+    performed_as c.args.lent.now c.finish-in-Some-Follow.new.lent c.finish-in-Some-Follow.result (Some (follow c.in-Some-Follow.names.midi.now c.in-Some-Follow.names.grammar.now)) (asked_of c.args.said.now) (ap (λ (r : Request). Some (shown_request r)) (sym c.in-Some-Follow.field-0-is) ∙ c.in-Some-Follow.ensures.asked)
+    (c.finish-in-Some-Follow.ensures (Some (follow c.in-Some-Follow.names.midi.now c.in-Some-Follow.names.grammar.now)) c.args.lent.now c.follow_text-text.ensures)
+
+pub returns-in-Some-Notes-clause-usage : goal.returns-in-Some-Notes-clause-usage
+returns-in-Some-Notes-clause-usage g c =
+    usage_as c.args.lent.now c.finish-in-Some-Notes.new.lent c.finish-in-Some-Notes.result (notes c.in-Some-Notes.midi.now) (asked_of c.args.said.now) (ap (λ (r : Request). Some (shown_request r)) (sym c.in-Some-Notes.field-0-is) ∙ c.in-Some-Notes.ensures.asked)
+    (c.finish-in-Some-Notes.ensures (Some (notes c.in-Some-Notes.midi.now)) c.args.lent.now c.notes_text_of-text.ensures)
+
+pub returns-in-Some-Notes-clause-performed : goal.returns-in-Some-Notes-clause-performed
+returns-in-Some-Notes-clause-performed g c =
+    performed_as c.args.lent.now c.finish-in-Some-Notes.new.lent c.finish-in-Some-Notes.result (Some (notes c.in-Some-Notes.midi.now)) (asked_of c.args.said.now) (ap (λ (r : Request). Some (shown_request r)) (sym c.in-Some-Notes.field-0-is) ∙ c.in-Some-Notes.ensures.asked)
+    (c.finish-in-Some-Notes.ensures (Some (notes c.in-Some-Notes.midi.now)) c.args.lent.now c.notes_text_of-text.ensures)
 
 pub returns-in-Some-Events-clause-usage : goal.returns-in-Some-Events-clause-usage
 returns-in-Some-Events-clause-usage g c =

@@ -1,0 +1,97 @@
+ghost use Rattle.edit_session.specs.Opening.{CanOpen, cells_of};
+ghost use Rattle.rhythm_app.specs.Asked.{follow};
+ghost use Rattle.rhythm_app.specs.Builds.{MatchBuilds};
+ghost use Rattle.rhythm_app.specs.Outcome.{IsFollowing};
+ghost use Rattle.rhythm_app.specs.Stages.{CountsAlone, Follows, HasText, IsOfContent, said_of};
+ghost use Rattle.rhythm_app.specs.declared.stop.Stop.TheVariants as stop;
+ghost use Rattle.rhythm_base.specs.Counter.{risen};
+ghost use Rattle.rhythm_base.specs.Readable.{IsReadable};
+ghost use Rattle.rhythm_base.specs.declared.limits.TheConstants.{MOST_NOTES};
+ghost use Rattle.std.specs.Prelude.{◌≡◌, ◌≤◌, IfErr, OnOk, Some, length};
+
+use crate::inputs::read_inputs;
+use crate::lent::Lent;
+use crate::request::FileNames;
+use crate::session::open_session;
+use crate::stop::Stop;
+use barline_follow::follow;
+use edit_session::Session;
+use rhythm_base::{Grammar, Performance, Tag};
+use rhythm_ports::{Gate, Shelf, Sink, Source};
+use script_writer::write_edits;
+use std::thread::Threads;
+
+/// The text of the script that moves the barlines of a session to those that follow the player.
+fn script_over<R: Threads + Sync, F: Shelf, S: Source, O: Sink, E: Sink, G: Gate + Sync, B: Tag>(
+    lent: &mut Lent<R, F, S, O, E, G, B>,
+    session: &mut Session,
+) -> Result<Vec<u8>, Stop>
+    requires { CanOpen session.old.grammar session.old.performance }
+    ensures tests { Follows (IsFollowing session.old.grammar session.old.performance) (said_of result) }
+    ensures memory { IfErr result (λ s. s ≡ stop.Memory) }
+    ensures rises { lent.old.built ≤ lent.new.built }
+    ensures multiplies { lent.old.multiplied ≤ lent.new.multiplied }
+    ensures counts { CountsAlone lent.old lent.new }
+{
+    let script = follow(
+        lent.rt,
+        lent.alloc,
+        session,
+        lent.gate,
+        &mut lent.builds,
+        &mut lent.products,
+    );
+    match script {
+        Ok(edits) => match write_edits(lent.alloc, edits.as_slice()) {
+            Ok(text) => Ok(text),
+            Err(_error) => Err(Stop::Memory),
+        },
+        Err(_error) => Err(Stop::Memory),
+    }
+}
+
+/// The same of a performance by a grammar. Each of its cells is built once, by one of the workers, and then those of the bars between
+/// other barlines.
+fn followed_by<R: Threads + Sync, F: Shelf, S: Source, O: Sink, E: Sink, G: Gate + Sync, B: Tag>(
+    lent: &mut Lent<R, F, S, O, E, G, B>,
+    workers: u32,
+    grammar: Grammar,
+    performance: Performance,
+) -> Result<Vec<u8>, Stop>
+    requires some_worker { 1 ≤ workers }
+    requires few_workers { workers ≤ 16 }
+    requires readable { IsReadable grammar }
+    requires few_notes { length performance.notes ≤ MOST_NOTES }
+    ensures tests { Follows (IsFollowing grammar performance) (said_of result) }
+    ensures content { IfErr result IsOfContent }
+    ensures all { OnOk result (risen lent.old.built (cells_of performance) ≤ lent.new.built) }
+    ensures built { IfErr result (MatchBuilds (lent.new.built ≡ risen lent.old.built (cells_of performance)) (lent.old.built ≤ lent.new.built) (lent.new.built ≡ lent.old.built)) }
+    ensures rises { lent.old.built ≤ lent.new.built }
+    ensures multiplies { lent.old.multiplied ≤ lent.new.multiplied }
+    ensures counts { CountsAlone lent.old lent.new }
+{
+    match open_session(lent, workers, grammar, performance) {
+        Ok(mut session) => script_over(lent, &mut session),
+        Err(stop) => Err(stop),
+    }
+}
+
+/// The text of the script that moves the barlines of a MIDI file to those that follow the player, by a grammar file.
+pub fn follow_text<
+    R: Threads + Sync,
+    F: Shelf,
+    S: Source,
+    O: Sink,
+    E: Sink,
+    G: Gate + Sync,
+    B: Tag,
+>(lent: &mut Lent<R, F, S, O, E, G, B>, workers: u32, names: FileNames) -> Result<Vec<u8>, Stop>
+    requires some_worker { 1 ≤ workers }
+    requires few_workers { workers ≤ 16 }
+    ensures { HasText (Some (follow names.entry.midi.now names.entry.grammar.now)) lent.old lent.new result }
+{
+    match read_inputs(lent, names) {
+        Ok((grammar, performance)) => followed_by(lent, workers, grammar, performance),
+        Err(stop) => Err(stop),
+    }
+}
