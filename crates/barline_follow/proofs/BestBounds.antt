@@ -1,4 +1,4 @@
--- The best has at most two barlines for each bar of the performance and one more, and none is past the latest tick.
+-- The best is whole, and has at most two barlines for each bar of the performance and one more, none of them past the latest tick.
 use Rattle.std.proofs.Common.{◌≡◌, ℕ, zero, suc, ◌+◌, ◌*◌, ◌≤◌, Bool, true, false, List, [], ◌∷◌, ◌++◌, length, map, take, get_or, sym, subst, arith}
 use Rattle.std.specs.Prelude.{All, Option, Some, None, IfSome, nat_lt, ⊤, if◌then◌else◌}
 use Rattle.std.specs.List.{filter_map}
@@ -12,12 +12,13 @@ use Rattle.rhythm_laws.proofs.FirstLists.{all_contained}
 use Rattle.rhythm_laws.proofs.OrderedLists.{all_cons, all_head, all_tail}
 use Rattle.barline_follow.specs.declared.offers.Offer.{Offer}
 use Rattle.barline_follow.specs.Barring.{Barring, best_of, better, end_of, is_below, value_of}
-use Rattle.barline_follow.specs.Rounds.{ComeTo, Draft, Found, IsBest, IsFound, IsNextFront, going, going_on, lost, no_bars, rows, whole, whole_one, with_bar}
+use Rattle.barline_follow.specs.Rounds.{ComeTo, Draft, Found, IsBest, IsFound, IsNextFront, IsWhole, going, going_on, lost, no_bars, rows, whole, whole_one, with_bar}
 use Rattle.barline_follow.proofs.FirstLeast.{got_contained}
 use Rattle.barline_follow.proofs.Further.{last_pushed}
 
--- so many bars, none past the latest tick
+-- so many bars at most, none past the latest tick
 pub record IsShort (bars : ℕ) (ticks : List ℕ) : Type 0 where
+  pub some : 1 ≤ length ticks
   pub few : length ticks ≤ bars + 1
   pub early : All (λ tick. tick ≤ LATEST_TICK) ticks
 
@@ -26,16 +27,23 @@ Are bars bs = All (λ b. IsShort bars b.ticks) bs
 
 longer_short : (i tick : ℕ) (ticks : List ℕ) → IsShort i ticks → tick ≤ LATEST_TICK → IsShort (suc i) (ticks ++ (tick ∷ []))
 longer_short i tick ticks h early = record {
+  some = omega (arith, length-append ticks (tick ∷ []));
   few = omega (arith, length-append ticks (tick ∷ []), h.few);
   early = All-append (λ t. t ≤ LATEST_TICK) ticks (tick ∷ []) h.early (all_cons (λ t. t ≤ LATEST_TICK) tick [] early (All-nil (λ (t : ℕ). t ≤ LATEST_TICK)));
 }
 
 module _ (g : Grammar) (p : Performance) where
+  -- the same of whole barlines
+  pub record IsGood (bars : ℕ) (b : Barring) : Type 0 where
+    pub short : IsShort bars b.ticks
+    pub is_whole : IsWhole g p b.ticks b.cost
+    pub some_bar : 2 ≤ length b.ticks
+
   -- what is found of a list with a bar more
   abbrev FoundShort : ℕ → Found → Type 0
   FoundShort bars lost = ⊤
   FoundShort bars (going b) = IsShort bars b.ticks
-  FoundShort bars (whole b) = IsShort bars b.ticks
+  FoundShort bars (whole b) = IsGood bars b
 
   found_short : (i : ℕ) (b : Barring) (o : Offer) (f : Found) → IsShort i b.ticks → IsFound g p (with_bar b o) f → FoundShort (suc i) f
   found_short i b o lost short h = tt
@@ -44,7 +52,11 @@ module _ (g : Grammar) (p : Performance) where
       subst (λ (y : Barring). IsShort (suc i) y.ticks) (sym is) (longer_short i (end_of b + o.ticks) b.ticks short (omega (arith, last, goes.early)))
   found_short i b o (whole x) short (c, is_whole, is) =
       let last : last_end 0 (b.ticks ++ ((end_of b + o.ticks) ∷ [])) ≡ end_of b + o.ticks = last_pushed 0 (end_of b + o.ticks) b.ticks in
-      subst (λ (y : Barring). IsShort (suc i) y.ticks) (sym is) (longer_short i (end_of b + o.ticks) b.ticks short (omega (arith, last, is_whole.early)))
+      subst (IsGood (suc i)) (sym is) (record {
+        short = longer_short i (end_of b + o.ticks) b.ticks short (omega (arith, last, is_whole.early));
+        is_whole = is_whole;
+        some_bar = omega (arith, length-append b.ticks ((end_of b + o.ticks) ∷ []), short.some);
+      })
 
   row_short : (i : ℕ) (b : Barring) (own : List Offer) (rest : List Draft) (found : List Found) → IsShort i b.ticks
       → ((others : List Found) → Each (IsFound g p) rest others → All (FoundShort (suc i)) others)
@@ -70,21 +82,22 @@ module _ (g : Grammar) (p : Performance) where
       (going_short i found (all_tail (FoundShort i) (going b) found all))
   going_short i (whole b ∷ found) all = going_short i found (all_tail (FoundShort i) (whole b) found all)
 
-  wholes_short : (i : ℕ) (found : List Found) → All (FoundShort i) found → Are i (filter_map whole_one found)
-  wholes_short i [] all = All-nil (λ (b : Barring). IsShort i b.ticks)
+  wholes_short : (i : ℕ) (found : List Found) → All (FoundShort i) found → All (IsGood i) (filter_map whole_one found)
+  wholes_short i [] all = All-nil (IsGood i)
   wholes_short i (lost ∷ found) all = wholes_short i found (all_tail (FoundShort i) lost found all)
   wholes_short i (going b ∷ found) all = wholes_short i found (all_tail (FoundShort i) (going b) found all)
   wholes_short i (whole b ∷ found) all =
-      all_cons (λ (b : Barring). IsShort i b.ticks) b (filter_map whole_one found) (all_head (FoundShort i) (whole b) found all)
+      all_cons (IsGood i) b (filter_map whole_one found) (all_head (FoundShort i) (whole b) found all)
       (wholes_short i found (all_tail (FoundShort i) (whole b) found all))
 
   abbrev BestShort : ℕ → Option Barring → Type 0
-  BestShort most best = IfSome best (λ b. IsShort most b.ticks)
+  BestShort most best = IfSome best (IsGood most)
 
-  shorter : (i most : ℕ) (ticks : List ℕ) → i ≤ most → IsShort i ticks → IsShort most ticks
-  shorter i most ticks le h = record { few = omega (arith, le, h.few); early = h.early }
+  shorter : (i most : ℕ) (b : Barring) → i ≤ most → IsGood i b → IsGood most b
+  shorter i most b le h =
+      record { short = record { some = h.short.some; few = omega (arith, le, h.short.few); early = h.short.early }; is_whole = h.is_whole; some_bar = h.some_bar }
 
-  better_short : (most : ℕ) (best : Option Barring) (b : Barring) → BestShort most best → IsShort most b.ticks → BestShort most (better best b)
+  better_short : (most : ℕ) (best : Option Barring) (b : Barring) → BestShort most best → IsGood most b → BestShort most (better best b)
   better_short most None b h short = short
   better_short most (Some x) b h short = by (nat_lt (value_of b) (value_of x))
     where
@@ -92,12 +105,12 @@ module _ (g : Grammar) (p : Performance) where
       by true = short
       by false = h
 
-  bests_short : (i most : ℕ) (best : Option Barring) (bs : List Barring) → i ≤ most → BestShort most best → Are i bs → BestShort most (best_of best bs)
+  bests_short : (i most : ℕ) (best : Option Barring) (bs : List Barring) → i ≤ most → BestShort most best → All (IsGood i) bs → BestShort most (best_of best bs)
   bests_short i most best [] le h all = h
   bests_short i most best (b ∷ bs) le h all =
       bests_short i most (better best b) bs le
-      (better_short most best b h (shorter i most b.ticks le (all_head (λ (b : Barring). IsShort i b.ticks) b bs all)))
-      (all_tail (λ (b : Barring). IsShort i b.ticks) b bs all)
+      (better_short most best b h (shorter i most b le (all_head (IsGood i) b bs all)))
+      (all_tail (IsGood i) b bs all)
 
   taken_all : (P : Barring → Type 0) (n : ℕ) (xs : List Barring) → All P xs → All P (take n xs)
   taken_all P zero xs all = All-nil P
@@ -128,5 +141,5 @@ module _ (g : Grammar) (p : Performance) where
       let none : All (λ (tick : ℕ). tick ≤ LATEST_TICK) [] = All-nil (λ (tick : ℕ). tick ≤ LATEST_TICK) in
       come_short (2 * length p.bars) 0 (2 * length p.bars) (no_bars ∷ []) None best (omega arith)
       (all_cons (λ (b : Barring). IsShort 0 b.ticks) no_bars []
-      (record { few = omega arith; early = all_cons (λ tick. tick ≤ LATEST_TICK) 0 [] (omega arith) none }) (All-nil (λ (b : Barring). IsShort 0 b.ticks)))
+      (record { some = omega arith; few = omega arith; early = all_cons (λ tick. tick ≤ LATEST_TICK) 0 [] (omega arith) none }) (All-nil (λ (b : Barring). IsShort 0 b.ticks)))
       tt h

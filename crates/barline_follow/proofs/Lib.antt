@@ -11,6 +11,7 @@ pub mod BestBounds
 pub mod CutBars
 pub mod FirstLeast
 pub mod Further
+pub mod Gaining
 pub mod Gathering
 pub mod LaidBars
 pub mod Offered

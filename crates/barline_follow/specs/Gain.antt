@@ -1,11 +1,10 @@
 -- What a script gains.
-use Rattle.std.specs.Prelude.{◌≡◌, ◌⊎◌, ℕ, ◌+◌, ◌*◌, ◌≤◌, List, [], Option, Some, None}
+use Rattle.std.specs.Prelude.{ℕ, ◌+◌, ◌*◌, ◌≤◌, List}
 use Rattle.rhythm_base.specs.declared.edit.Edit.{Edit}
 use Rattle.rhythm_base.specs.Grammar.{Grammar}
 use Rattle.rhythm_base.specs.Performance.{Performance}
 use Rattle.rhythm_base.specs.Voices.{IsCostOf}
-use Rattle.barline_follow.specs.Barring.{Barring}
-use Rattle.barline_follow.specs.Script.{Leads, script}
+use Rattle.barline_follow.specs.Script.{Leads}
 
 -- the edits are accepted in turn, and the cost after them and the prices are at most seven tenths of the cost before them
 pub record Gains (g : Grammar) (p : Performance) (prices : ℕ) (edits : List Edit) : Type 0 where
@@ -16,8 +15,3 @@ pub record Gains (g : Grammar) (p : Performance) (prices : ℕ) (edits : List Ed
   pub before : ℕ
   pub before_is : IsCostOf g p before
   pub gain : 10 * (cost + prices) ≤ 7 * before
-
--- nothing, or the script to the barlines of the best, which gains
-abbrev pub FollowsBest : Grammar → Performance → Option Barring → List Edit → Type 0
-FollowsBest g p None edits = edits ≡ []
-FollowsBest g p (Some best) edits = (edits ≡ []) ⊎ ((edits ≡ script p best.ticks) × Gains g p best.prices edits)

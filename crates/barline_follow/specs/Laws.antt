@@ -1,5 +1,5 @@
 -- The laws, each as one statement over the definitions.
-use Rattle.std.specs.Prelude.{◌≡◌, ℕ, ◌+◌, ◌≤◌, List, [], All, Option, length}
+use Rattle.std.specs.Prelude.{◌≡◌, ◌⊎◌, ℕ, ◌+◌, ◌≤◌, List, [], All, Option, Some, length}
 use Rattle.rhythm_base.specs.declared.edit.Edit.{Edit}
 use Rattle.rhythm_base.specs.declared.limits.TheConstants.{LATEST_TICK, MOST_BARS}
 use Rattle.rhythm_base.specs.Edits.{IsEditInRange}
@@ -9,6 +9,7 @@ use Rattle.barline_follow.specs.declared.offers.Offer.{Offer}
 use Rattle.barline_follow.specs.Answer.{IsAnswer}
 use Rattle.barline_follow.specs.Bars.{with_barlines}
 use Rattle.barline_follow.specs.Barring.{Barring}
+use Rattle.barline_follow.specs.Gain.{Gains}
 use Rattle.barline_follow.specs.HeadCost.{IsHeadCost}
 use Rattle.barline_follow.specs.Offers.{AreOffers}
 use Rattle.barline_follow.specs.Rounds.{Draft, Found, IsBest, IsFound, IsNextFront}
@@ -38,6 +39,13 @@ BestsAreOne = (g : Grammar) (p : Performance) (a b : Option Barring) → IsBest 
 -- and one answer
 abbrev pub AnswersAreOne : Type 0
 AnswersAreOne = (g : Grammar) (p : Performance) (a b : List Edit) → IsAnswer g p a → IsAnswer g p b → a ≡ b
+
+-- on a performance without pins an answer is nothing, or gains: what it costs after the script, with the prices of the best's bars, is at
+-- most seven tenths of what it costs before
+abbrev pub AnswersGain : Type 0
+AnswersGain =
+    (g : Grammar) (p : Performance) (edits : List Edit) → IsWellFormed p → p.pins ≡ [] → IsAnswer g p edits
+    → (edits ≡ []) ⊎ ((best : Barring) × IsBest g p (Some best) × Gains g p best.prices edits)
 
 -- edits that are accepted in turn lead to one performance
 abbrev pub EditsLeadToOne : Type 0

@@ -1,5 +1,6 @@
 ghost use Rattle.barline_follow.specs.Laws.{
   AnswersAreOne,
+  AnswersGain,
   BestsAreOne,
   EditsLeadToOne,
   FoundAreOne,
@@ -38,6 +39,11 @@ pub fn bests_are_one()
 /// A performance has one answer.
 pub fn answers_are_one()
     ensures { AnswersAreOne }
+{}
+
+/// An answer on a performance without pins is nothing, or gains three tenths, prices and all.
+pub fn answers_gain()
+    ensures { AnswersGain }
 {}
 
 /// Edits that are accepted in turn lead to one performance.

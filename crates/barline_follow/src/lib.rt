@@ -1,7 +1,6 @@
 //! Barlines that follow the player: where the barlines of a performance do not fit how it was played, the edit script that moves them
 //! to where they do. `follow` gives it for a session. `best_barlines` looks for barlines round after round, each list of them valued by
-//! the least cost of its trees and the prices of its bars. `follow_player` gives the script to barlines that are handed in: that it leads
-//! to them and gains three tenths holds whatever they are.
+//! the least cost of its trees and the prices of its bars; `follow_script` is the script to barlines.
 #![tactic(auto)]
 
 mod barlines;
@@ -25,9 +24,9 @@ mod tried;
 mod voice;
 
 pub use barring::Barring;
-pub use following::{follow, follow_player};
+pub use following::follow;
 pub use laws::{
-    answers_are_one, bests_are_one, edits_lead_to_one, found_are_one, fronts_are_one,
+    answers_are_one, answers_gain, bests_are_one, edits_lead_to_one, found_are_one, fronts_are_one,
     head_costs_are_one, offers_are_one, scripts_are_in_range, scripts_set_barlines,
 };
 pub use script::follow_script;

@@ -34,7 +34,7 @@ follow_script-requires-clause-few world c =
     let best : Barring = c.in-Some.best in
     let is_best : IsBest g p (Some best) =
     subst (IsBest g p) c.in-Some.is (best_of_session g _ p _ c.in_ok-best.best c.grammar-grammar.ensures.value c.performance-performance.ensures.value c.in_ok-best.ensures.best) in
-    let short : IsShort (2 * length p.bars) best.ticks = best_short g p (Some best) is_best in
+    let short : IsShort (2 * length p.bars) best.ticks = (best_short g p (Some best) is_best).short in
     let formed = c.performance-performance.ensures.formed in
     let few : length p.bars ≤ 4096 = formed.few_bars in
     omega (arith, short.few, few, ap length c.ticks.ensures)
@@ -47,7 +47,7 @@ follow_script-requires-clause-ticks world c =
     let best : Barring = c.in-Some.best in
     let is_best : IsBest g p (Some best) =
     subst (IsBest g p) c.in-Some.is (best_of_session g _ p _ c.in_ok-best.best c.grammar-grammar.ensures.value c.performance-performance.ensures.value c.in_ok-best.ensures.best) in
-    let short : IsShort (2 * length p.bars) best.ticks = best_short g p (Some best) is_best in
+    let short : IsShort (2 * length p.bars) best.ticks = (best_short g p (Some best) is_best).short in
     subst (λ (l : List ℕ). All (λ (tick : ℕ). tick ≤ 2 ^ 32) l) (sym c.ticks.ensures) (λ k d lt. let early = short.early k d lt in omega (arith, early))
 
 pub returns-in_default-clause-answer : goal.returns-in_default-clause-answer
@@ -68,7 +68,7 @@ returns-then-not-gains-clause-answer world c =
     let is_best : IsBest g p (Some best) =
     subst (IsBest g p) c.in-Some.is (best_of_session g _ p _ c.in_ok-best.best c.grammar-grammar.ensures.value c.performance-performance.ensures.value c.in_ok-best.ensures.best) in
     let value : c.gains.result ≡ nat_le (10 * (best.cost + best.prices)) (7 * c.cost-before.result) =
-    c.gains.ensures.value ∙ (λ i. nat_le (10 * (c.cost.ensures i + c.prices.ensures i)) (7 * c.cost-before.result)) in
+    c.gains.ensures ∙ (λ i. nat_le (10 * (c.cost.ensures i + c.prices.ensures i)) (7 * c.cost-before.result)) in
     let old : chosen p c.cost-before.result (Some best) ≡ barlines_of p =
     chosen_old p c.cost-before.result best (sym value ∙ c.if-not-gains.true) in
     subst (λ (l : List Edit). IsAnswer g p l) (sym c.new-then-not-gains.ensures.items) (kept g p (Some best) c.cost-before.result is_best c.cost-before.ensures old)
@@ -82,7 +82,7 @@ returns-then-is_none-clause-answer world c =
     let is_best : IsBest g p (Some best) =
     subst (IsBest g p) c.in-Some.is (best_of_session g _ p _ c.in_ok-best.best c.grammar-grammar.ensures.value c.performance-performance.ensures.value c.in_ok-best.ensures.best) in
     let value : c.gains.result ≡ nat_le (10 * (best.cost + best.prices)) (7 * c.cost-before.result) =
-    c.gains.ensures.value ∙ (λ i. nat_le (10 * (c.cost.ensures i + c.prices.ensures i)) (7 * c.cost-before.result)) in
+    c.gains.ensures ∙ (λ i. nat_le (10 * (c.cost.ensures i + c.prices.ensures i)) (7 * c.cost-before.result)) in
     let wanted : chosen p c.cost-before.result (Some best) ≡ best.ticks =
     chosen_best p c.cost-before.result best (sym value ∙ c.if-not-gains.false) in
     let script_is : c.in_ok-script.script.items ≡ script p best.ticks = c.in_ok-script.ensures ∙ (λ i. script (c.performance.ensures.value i) (c.ticks.ensures i)) in
@@ -102,7 +102,7 @@ returns-clause-answer world c =
     let is_best : IsBest g p (Some best) =
     subst (IsBest g p) c.in-Some.is (best_of_session g _ p _ c.in_ok-best.best c.grammar-grammar.ensures.value c.performance-performance.ensures.value c.in_ok-best.ensures.best) in
     let value : c.gains.result ≡ nat_le (10 * (best.cost + best.prices)) (7 * c.cost-before.result) =
-    c.gains.ensures.value ∙ (λ i. nat_le (10 * (c.cost.ensures i + c.prices.ensures i)) (7 * c.cost-before.result)) in
+    c.gains.ensures ∙ (λ i. nat_le (10 * (c.cost.ensures i + c.prices.ensures i)) (7 * c.cost-before.result)) in
     let wanted : chosen p c.cost-before.result (Some best) ≡ best.ticks =
     chosen_best p c.cost-before.result best (sym value ∙ c.if-not-gains.false) in
     let script_is : c.in_ok-script.script.items ≡ script p best.ticks = c.in_ok-script.ensures ∙ (λ i. script (c.performance.ensures.value i) (c.ticks.ensures i)) in
