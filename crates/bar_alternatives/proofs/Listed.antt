@@ -6,22 +6,21 @@ use Rattle.std.specs.declared.cmp.Ordering.{Ordering}
 use Rattle.std.specs.declared.cmp.Ordering.TheVariants.{Less, Equal, Greater}
 use Rattle.std.proofs.lemmas.List.{length-map, take_more}
 use Rattle.std.proofs.lemmas.List.Kept.{AllPairs-cons}
-use Rattle.rhythm_base.specs.Alternatives.{IsEarlier}
+use Rattle.tree_laws.specs.Alternatives.{IsEarlier}
 use Rattle.rhythm_base.specs.BarInput.{BarInput}
 use Rattle.rhythm_base.specs.Forest.{Tree, preorder_of}
 use Rattle.rhythm_base.specs.Grammar.{Grammar}
 use Rattle.rhythm_base.specs.Lists.{Each}
 use Rattle.rhythm_base.specs.Ranked.{Key, key_cmp}
 use Rattle.rhythm_base.specs.RuleTrees.{IsRuleList, IsTold}
-use Rattle.rhythm_laws.proofs.FirstLists.{all_contained, contains_split, one_earlier, one_first}
-use Rattle.rhythm_laws.proofs.Ranks.{ranks_total}
-use Rattle.rhythm_laws.proofs.OrderedLists.{all_cons, all_head, all_tail, pairs_head, pairs_nil, pairs_tail}
-use Rattle.rhythm_laws.proofs.Parsing.{no_prefix}
+use Rattle.rhythm_base.proofs.FirstLists.{all_contained, contains_split, one_earlier, one_first}
+use Rattle.tree_laws.proofs.Ranks.{ranks_total}
+use Rattle.rhythm_base.proofs.OrderedLists.{all_cons, all_head, all_tail, pairs_head, pairs_nil, pairs_tail}
+use Rattle.tree_laws.proofs.Parsing.{no_prefix}
 use Rattle.row_laws.specs.Grounds.{IsReady}
 use Rattle.bar_alternatives.specs.BestTrees.{AreBestTrees, IsLookedAt}
-use Rattle.best_trees.specs.Firsts.{AreFirst, IsBefore}
-use Rattle.bar_alternatives.specs.Totals.{IsTotal}
-use Rattle.bar_alternatives.specs.Totals.{IsListed}
+use Rattle.best_trees.specs.Firsts.{AreFirstKeys, IsBefore}
+use Rattle.bar_alternatives.specs.Totals.{IsTotal, IsListed}
 use Rattle.best_trees.proofs.Firsts.{contains_first, contains_later}
 use Rattle.bar_alternatives.proofs.Roots.{looked_told, looked_total, total_looked}
 
@@ -105,10 +104,10 @@ module _ (g : Grammar) (k : BarInput) (ready : IsReady g k) (free : k.pin ≡ No
   all_told (key ∷ keys) (a ∷ list) e = all_cons (λ a. IsTold g k.symbol (preorder_of a.1) a.1) a list (e.0.1.0, refl) (all_told keys list e.1)
 
   -- each total is of a tree that its rule list tells
-  pub all_listable : (keys : List Key) → AreFirst (IsTotal g k before after) count keys → All (λ key. IsRuleList g k.symbol key.1) keys
+  pub all_listable : (keys : List Key) → AreFirstKeys (IsTotal g k before after) count keys → All (λ key. IsRuleList g k.symbol key.1) keys
   all_listable keys h = λ i d lt. let found = total_looked g k ready free before after _ (h.are i d lt) in (found.0, found.1)
 
-  pub listed-best : (keys : List Key) (list : List (ℕ × Tree)) → AreFirst (IsTotal g k before after) count keys → Each (IsListed g k.symbol) keys list → AreBestTrees g k before after count list
+  pub listed-best : (keys : List Key) (list : List (ℕ × Tree)) → AreFirstKeys (IsTotal g k before after) count keys → Each (IsListed g k.symbol) keys list → AreBestTrees g k before after count list
   listed-best keys list h e = record {
     are = all_looked keys list h.are e;
     in_order = mapped_pairs list (subst (AllPairs IsBefore) (sym ranks) h.in_order);

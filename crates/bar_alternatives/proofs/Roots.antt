@@ -15,11 +15,11 @@ use Rattle.rhythm_base.specs.Leaves.{in_bar}
 use Rattle.rhythm_base.specs.Ranked.{Key}
 use Rattle.rhythm_base.specs.RuleTrees.{IsTold}
 use Rattle.rhythm_base.specs.Trees.{are_trees, has_pin, leaves, leaves_of}
-use Rattle.rhythm_laws.specs.Forests.{IsForestKey, StandsInBar}
-use Rattle.rhythm_laws.specs.Places.{FitsAt}
-use Rattle.rhythm_laws.specs.Voices.{HoldsChords}
-use Rattle.rhythm_laws.proofs.Places.{at-cell, cell-at}
-use Rattle.rhythm_laws.proofs.Ranks.{both}
+use Rattle.tree_laws.specs.Forests.{IsForestKey, StandsInBar}
+use Rattle.tree_laws.specs.Places.{FitsAt}
+use Rattle.tree_laws.specs.Voices.{HoldsChords}
+use Rattle.tree_laws.proofs.Places.{at-cell, cell-at}
+use Rattle.tree_laws.proofs.Ranks.{both}
 use Rattle.row_laws.specs.Grounds.{IsReady, ground_of}
 use Rattle.row_laws.proofs.RuleKeys.{single_tree}
 use Rattle.bar_alternatives.specs.BestTrees.{IsLookedAt}

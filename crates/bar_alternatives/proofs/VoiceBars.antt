@@ -6,7 +6,7 @@ use Rattle.std.specs.declared.cmp.Ordering.{Ordering}
 use Rattle.std.specs.declared.cmp.Ordering.TheVariants.{Less}
 use Rattle.std.specs.List.{list_all}
 use Rattle.std.proofs.lemmas.List.{drop-map, take-map}
-use Rattle.rhythm_base.specs.Alternatives.{AreAlternatives, IsAlternative, without_pin_at}
+use Rattle.tree_laws.specs.Alternatives.{AreAlternatives, IsAlternative, without_pin_at}
 use Rattle.rhythm_base.specs.BarInput.{BarInput}
 use Rattle.rhythm_base.specs.BarTables.{BarTable}
 use Rattle.rhythm_base.specs.Cells.{CellFits, cell_cost, input}
@@ -18,18 +18,18 @@ use Rattle.rhythm_base.specs.Leaves.{FitsVoice, VoiceBar}
 use Rattle.rhythm_base.specs.Paths.{IsPathKey}
 use Rattle.rhythm_base.specs.Ranked.{Key, key_cmp, least_key}
 use Rattle.rhythm_base.specs.declared.inner.Inner.{Inner}
-use Rattle.rhythm_laws.specs.Tables.{IsLeastKey}
-use Rattle.rhythm_laws.specs.Voices.{Adjacent, CellsFit, IsVoice, cell_costs}
-use Rattle.rhythm_laws.proofs.Cells.{input-cell, one_pair}
-use Rattle.rhythm_laws.proofs.KeyOrders.{never_less}
-use Rattle.rhythm_laws.proofs.Locality.{cells-counts, counts-cells, locality, locality-back, locality-cost}
-use Rattle.rhythm_laws.proofs.PathTables.{keys-least_path}
-use Rattle.rhythm_laws.proofs.Products.{five_at}
-use Rattle.rhythm_laws.proofs.Ranks.{not_less-means}
+use Rattle.path_laws.specs.Tables.{IsLeastKey}
+use Rattle.tree_laws.specs.Voices.{Adjacent, CellsFit, IsVoice, cell_costs}
+use Rattle.tree_laws.proofs.Cells.{input-cell, one_pair}
+use Rattle.rhythm_base.proofs.TotalOrders.{never_less}
+use Rattle.tree_laws.proofs.Locality.{cells-counts, counts-cells, locality, locality-back, locality-cost}
+use Rattle.path_laws.proofs.PathTables.{keys-least_path}
+use Rattle.path_laws.proofs.Products.{five_at}
+use Rattle.tree_laws.proofs.Ranks.{not_less-means}
 use Rattle.chain_bars.specs.Laws.{AreTables, matrices}
 use Rattle.chain_bars.specs.Tower.{cost_of}
 use Rattle.chain_bars.proofs.Voices.{along_fits, along_key, beaten, path_trees}
-use Rattle.bar_alternatives.specs.BestTrees.{AreBestTrees, IsLookedAt, cost_at, without_pin}
+use Rattle.bar_alternatives.specs.BestTrees.{AreBestTrees, IsLookedAt, cost_at, unpinned}
 use Rattle.bar_alternatives.specs.Laws.{costs_after, costs_before}
 
 -- ---- the bars without the pin
@@ -59,7 +59,7 @@ bar_near (x ∷ bars) b e (suc i) bar h at = bar_near bars (b + x.length) e i ba
 
 module _ (g : Grammar) (cs : List Inner) where
   abbrev free_input : VoiceBar → BarInput
-  free_input bar = without_pin (input g bar cs)
+  free_input bar = unpinned (input g bar cs)
 
   pub record AreRound (i : ℕ) (bars : List VoiceBar) (us : List Tree) (bar : VoiceBar) (t : Tree) (f to : ℕ) : Type 0 where
     pub from : ℕ

@@ -4,15 +4,14 @@ use Rattle.std.specs.Prelude.{Option, Some, None}
 use Rattle.rhythm_base.specs.BarInput.{BarInput}
 use Rattle.rhythm_base.specs.Grammar.{Grammar}
 use Rattle.rhythm_base.specs.Ranked.{Key, plus}
-use Rattle.rhythm_laws.specs.Forests.{IsForestKey}
-use Rattle.rhythm_laws.specs.Rows.{IsOneBelow}
+use Rattle.tree_laws.specs.Forests.{IsForestKey}
+use Rattle.path_laws.specs.Rows.{IsOneBelow}
 use Rattle.row_laws.specs.Grounds.{ground_of}
 use Rattle.bar_alternatives.specs.BestTrees.{cost_at}
-use Rattle.best_trees.specs.Firsts.{AreFirst, AreKept, all_offered}
+use Rattle.best_trees.specs.Firsts.{AreFirstKeys, AreKeptKeys, all_offered}
 use Rattle.best_trees.specs.Grids.{ranking_at}
-use Rattle.best_trees.specs.BarTrees.{AreBestOfBar}
-use Rattle.bar_alternatives.specs.Totals.{IsTotal, IsTotalAt}
-use Rattle.bar_alternatives.specs.Totals.{totals, totals_below, totals_offered}
+use Rattle.best_trees.specs.BarTrees.{AreBestBarTrees}
+use Rattle.bar_alternatives.specs.Totals.{IsTotal, IsTotalAt, totals, totals_below, totals_offered}
 use Rattle.best_trees.proofs.Firsts.{first-same, first-topped}
 use Rattle.best_trees.proofs.Grids.{pair_from, pair_to}
 use Rattle.best_trees.proofs.Offers.{all-kept}
@@ -20,7 +19,7 @@ use Rattle.best_trees.proofs.Steps.{below-next, below-none}
 
 -- ---- offers
 
-pub totals-kept : (count : ℕ) (first last : Option ℕ) (trees xs : List Key) → AreKept count xs → AreKept count (totals_offered count first last trees xs)
+pub totals-kept : (count : ℕ) (first last : Option ℕ) (trees xs : List Key) → AreKeptKeys count xs → AreKeptKeys count (totals_offered count first last trees xs)
 totals-kept count None last trees xs h = h
 totals-kept count (Some f) None trees xs h = h
 totals-kept count (Some f) (Some l) trees xs h = all-kept count (map (plus (f + l, [])) trees) xs h
@@ -39,20 +38,20 @@ totals-all count before after grid best n all is = is ∙ ap (totals_below count
 
 -- ---- the first totals
 
-module _ (g : Grammar) (k : BarInput) (before after : List (Option ℕ)) (count : ℕ) (grid : List (List Key)) (best : AreBestOfBar g k None count grid) where
+module _ (g : Grammar) (k : BarInput) (before after : List (Option ℕ)) (count : ℕ) (grid : List (List Key)) (best : AreBestBarTrees g k None count grid) where
   abbrev At : ℕ → Key → Type 0
   At i = IsTotalAt g k before after (i / 5) (i % 5)
 
   abbrev Own : ℕ → Key → Type 0
   Own i = IsForestKey (ground_of g k) None 0 ((k.resolution, k.symbol) ∷ []) (i / 5) (i % 5)
 
-  own_best : (i : ℕ) → i < 25 → AreFirst (Own i) count (get_or grid i [])
+  own_best : (i : ℕ) → i < 25 → AreFirstKeys (Own i) count (get_or grid i [])
   own_best i low =
       let whole : 5 * (i / 5) + i % 5 ≡ i = omega arith in
-      subst (λ n. AreFirst (Own i) count (get_or grid n [])) whole (best (i / 5) (i % 5) (omega (arith, low)) (omega (arith, low)))
+      subst (λ n. AreFirstKeys (Own i) count (get_or grid n [])) whole (best (i / 5) (i % 5) (omega (arith, low)) (omega (arith, low)))
 
-  step : (i : ℕ) (first last : Option ℕ) (xs : List Key) → i < 25 → cost_at before (i / 5) ≡ first → cost_at after (i % 5) ≡ last → AreFirst (IsOneBelow At i) count xs
-      → AreFirst (λ key. IsOneBelow At i key ⊎ At i key) count (totals_offered count first last (get_or grid i []) xs)
+  step : (i : ℕ) (first last : Option ℕ) (xs : List Key) → i < 25 → cost_at before (i / 5) ≡ first → cost_at after (i % 5) ≡ last → AreFirstKeys (IsOneBelow At i) count xs
+      → AreFirstKeys (λ key. IsOneBelow At i key ⊎ At i key) count (totals_offered count first last (get_or grid i []) xs)
   step i None last xs low one two h =
       first-same (IsOneBelow At i) (λ key. IsOneBelow At i key ⊎ At i key) count xs (λ key x. inl x)
       (λ key s. elim s [ inl x ↦ x | inr w ↦ let wrong : None ≡ Some w.0 = sym one ∙ w.3 in absurd (cc) ]) h
@@ -73,15 +72,15 @@ module _ (g : Grammar) (k : BarInput) (before after : List (Option ℕ)) (count 
           let same' : last ≡ l = cc in
           (own, tree, is ∙ (λ j. plus (same j + same' j, []) own))
 
-  below : (n : ℕ) → n ≤ 25 → AreFirst (IsOneBelow At n) count (totals_below count before after grid n)
+  below : (n : ℕ) → n ≤ 25 → AreFirstKeys (IsOneBelow At n) count (totals_below count before after grid n)
   below zero low = below-none At count
   below (suc n) low =
       let next : n + 1 ≡ suc n = omega arith in
-      subst (λ j. AreFirst (IsOneBelow At j) count (totals_below count before after grid (suc n))) next
+      subst (λ j. AreFirstKeys (IsOneBelow At j) count (totals_below count before after grid (suc n))) next
       (below-next At count n (totals_below count before after grid (suc n))
       (step n (cost_at before (n / 5)) (cost_at after (n % 5)) (totals_below count before after grid n) (omega (arith, low)) refl refl (below n (omega (arith, low)))))
 
-  pub totals-first : AreFirst (IsTotal g k before after) count (totals count before after grid)
+  pub totals-first : AreFirstKeys (IsTotal g k before after) count (totals count before after grid)
   unfolding totals
   totals-first = first-same (IsOneBelow At 25) (IsTotal g k before after) count (totals_below count before after grid 25) there back (below 25 (omega arith))
     where

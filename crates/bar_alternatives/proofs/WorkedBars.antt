@@ -4,12 +4,12 @@ use Rattle.std.specs.Prelude.{None, Option, Some}
 use Rattle.rhythm_base.specs.declared.rule.Body.{Body}
 use Rattle.rhythm_base.specs.declared.rule.Body.TheVariants.{Split, Note, Short, Tie, Rest, Grace}
 use Rattle.rhythm_base.specs.declared.rule.Rule.{Rule}
-use Rattle.rhythm_base.specs.Alternatives.{IsEarlier}
+use Rattle.tree_laws.specs.Alternatives.{IsEarlier}
 use Rattle.rhythm_base.specs.BarInput.{BarInput}
 use Rattle.rhythm_base.specs.Forest.{Forest, Tree, none, more}
 use Rattle.rhythm_base.specs.Grammar.{Grammar}
 use Rattle.rhythm_base.specs.Shape.{end, part}
-use Rattle.bar_alternatives.specs.BestTrees.{IsLookedAt, without_pin}
+use Rattle.bar_alternatives.specs.BestTrees.{IsLookedAt, unpinned}
 
 abbrev rule : ℕ → ℕ → Body → Rule
 rule lhs weight body = record { lhs = lhs; weight = weight; body = body }
@@ -55,7 +55,7 @@ plain = record { rule = 3; kids = half (more 8 none none) (half (more 8 none non
 abbrev tied : Tree
 tied = record { rule = 3; kids = half (more 8 none none) (half (more 12 (more 13 none (more 15 none none)) none) none) }
 
-plain-is : IsLookedAt quarters (without_pin four) alone alone (100, plain)
+plain-is : IsLookedAt quarters (unpinned four) alone alone (100, plain)
 plain-is = record {
   from = 0;
   to = 0;
@@ -67,7 +67,7 @@ plain-is = record {
   total = refl;
 }
 
-tied-is : IsLookedAt quarters (without_pin four) alone alone (150, tied)
+tied-is : IsLookedAt quarters (unpinned four) alone alone (150, tied)
 tied-is = record {
   from = 0;
   to = 0;

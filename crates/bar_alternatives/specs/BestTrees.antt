@@ -1,14 +1,14 @@
 -- The best trees of a bar between the costs of what lies before it and after it.
 use Rattle.std.specs.Prelude.{◌≡◌, ◌⊎◌, ℕ, ◌+◌, ◌^◌, ◌<◌, ◌≤◌, List, length, slice_index_or, Option, Some, None, All, AllPairs, Contains}
-use Rattle.rhythm_base.specs.Alternatives.{IsEarlier}
+use Rattle.tree_laws.specs.Alternatives.{IsEarlier}
 use Rattle.rhythm_base.specs.BarInput.{BarInput}
 use Rattle.rhythm_base.specs.Cells.{CellFits, cell_cost}
 use Rattle.rhythm_base.specs.Forest.{Tree}
 use Rattle.rhythm_base.specs.Grammar.{Grammar}
 
 -- the bar with its pin lifted
-abbrev pub without_pin : BarInput → BarInput
-without_pin k = record k { pin = None }
+abbrev pub unpinned : BarInput → BarInput
+unpinned k = record k { pin = None }
 
 -- the cost for a number of chords carried, where there is one
 abbrev pub cost_at : List (Option ℕ) → ℕ → Option ℕ

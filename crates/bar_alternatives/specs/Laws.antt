@@ -1,6 +1,6 @@
 -- The laws of alternatives, each as one statement over the definitions.
 use Rattle.std.specs.Prelude.{◌≡◌, ◌↔◌, ℕ, ◌+◌, List, drop, take, slice_get, Option, Some}
-use Rattle.rhythm_base.specs.Alternatives.{AreAlternatives, IsAlternative, without_pin_at}
+use Rattle.tree_laws.specs.Alternatives.{AreAlternatives, IsAlternative, without_pin_at}
 use Rattle.rhythm_base.specs.BarInput.{BarInput}
 use Rattle.rhythm_base.specs.BarTables.{BarTable}
 use Rattle.rhythm_base.specs.Cells.{input}
@@ -9,10 +9,10 @@ use Rattle.rhythm_base.specs.Grammar.{Grammar}
 use Rattle.rhythm_base.specs.Leaves.{VoiceBar}
 use Rattle.rhythm_base.specs.Ranked.{five, least_key}
 use Rattle.rhythm_base.specs.declared.inner.Inner.{Inner}
-use Rattle.rhythm_laws.specs.Voices.{IsVoice}
+use Rattle.tree_laws.specs.Voices.{IsVoice}
 use Rattle.chain_bars.specs.Laws.{AreTables, matrices}
 use Rattle.chain_bars.specs.Tower.{cost_of}
-use Rattle.bar_alternatives.specs.BestTrees.{AreBestTrees, IsLookedAt, without_pin}
+use Rattle.bar_alternatives.specs.BestTrees.{AreBestTrees, IsLookedAt, unpinned}
 
 -- the least costs of the cells before cell i, by the number of chords carried into it, and of those after it, by the number
 -- carried out of it
@@ -28,14 +28,14 @@ abbrev pub TotalsAreLeast : Type 0
 TotalsAreLeast =
     (g : Grammar) (bars : List VoiceBar) (cs : List Inner) (tables : List BarTable) (i : ℕ) (bar : VoiceBar) (a : ℕ × Tree)
     → IsVoice g bars cs → AreTables g cs bars tables → slice_get bars i ≡ Some bar
-    → IsLookedAt g (without_pin (input g bar cs)) (costs_before tables i) (costs_after tables i) a ↔ IsAlternative g (without_pin_at i bars) cs i a
+    → IsLookedAt g (unpinned (input g bar cs)) (costs_before tables i) (costs_after tables i) a ↔ IsAlternative g (without_pin_at i bars) cs i a
 
 -- so the best trees of the bar between these costs are the alternatives of the bar of the voice
 abbrev pub BestTreesAreAlternatives : Type 0
 BestTreesAreAlternatives =
     (g : Grammar) (bars : List VoiceBar) (cs : List Inner) (tables : List BarTable) (i count : ℕ) (bar : VoiceBar) (list : List (ℕ × Tree))
     → IsVoice g bars cs → AreTables g cs bars tables → slice_get bars i ≡ Some bar
-    → AreBestTrees g (without_pin (input g bar cs)) (costs_before tables i) (costs_after tables i) count list → AreAlternatives g bars cs i count list
+    → AreBestTrees g (unpinned (input g bar cs)) (costs_before tables i) (costs_after tables i) count list → AreAlternatives g bars cs i count list
 
 -- the best trees of a bar between given costs are one list
 abbrev pub BestTreesAreOne : Type 0

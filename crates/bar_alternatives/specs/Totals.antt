@@ -5,7 +5,7 @@ use Rattle.rhythm_base.specs.Forest.{Tree}
 use Rattle.rhythm_base.specs.Grammar.{Grammar}
 use Rattle.rhythm_base.specs.Ranked.{Key, plus}
 use Rattle.rhythm_base.specs.RuleTrees.{IsTold}
-use Rattle.rhythm_laws.specs.Forests.{IsForestKey}
+use Rattle.tree_laws.specs.Forests.{IsForestKey}
 use Rattle.row_laws.specs.Grounds.{ground_of}
 use Rattle.bar_alternatives.specs.BestTrees.{cost_at}
 use Rattle.best_trees.specs.Firsts.{all_offered}

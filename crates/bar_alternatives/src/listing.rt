@@ -1,4 +1,4 @@
-ghost use Rattle.bar_alternatives.specs.BestTrees.{AreBestTrees, AreSmall, without_pin};
+ghost use Rattle.bar_alternatives.specs.BestTrees.{AreBestTrees, AreSmall, unpinned};
 ghost use Rattle.bar_alternatives.specs.Totals.{IsListed};
 ghost use Rattle.rhythm_base.specs.BarInput.{IsBarInput};
 ghost use Rattle.rhythm_base.specs.Lists.{Each};
@@ -15,7 +15,7 @@ use std::alloc::{AllocError, Global};
 /// The input with its pin lifted.
 fn lifted(alloc: Global, input: &BarInput) -> Result<BarInput, AllocError>
     requires { IsBarInput input.now }
-    ensures { IfOk result (λ b. b ≡ without_pin input.now) }
+    ensures { IfOk result (λ b. b ≡ unpinned input.now) }
 {
     let onsets = input.onsets().to_vec(alloc)?;
     Ok(BarInput::make(
@@ -67,7 +67,7 @@ pub fn alternatives(
     requires units { input.now.resolution ≡ grammar.now.resolution }
     requires before { AreSmall before.now }
     requires after { AreSmall after.now }
-    ensures { IfOk result (λ list. AreBestTrees grammar.now (without_pin input.now) before.now after.now count list.items) }
+    ensures { IfOk result (λ list. AreBestTrees grammar.now (unpinned input.now) before.now after.now count list.items) }
 {
     // An accessor's contract tells that the input is well formed.
     let start = input.start();

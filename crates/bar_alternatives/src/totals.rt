@@ -1,5 +1,5 @@
 ghost use Rattle.bar_alternatives.specs.BestTrees.{AreSmall};
-ghost use Rattle.best_trees.specs.Firsts.{AreKept, AreAddable};
+ghost use Rattle.best_trees.specs.Firsts.{AreKeptKeys, AreAddable};
 ghost use Rattle.best_trees.specs.Grids.{AreAllAddable};
 ghost use Rattle.bar_alternatives.specs.Totals.{totals, totals_offered};
 ghost use Rattle.std.specs.Prelude.{◌≡◌, ◌<◌, ◌^◌, ℕ, IfOk, OnOk, Some};
@@ -19,7 +19,7 @@ fn offer_totals(
     requires first { (c : ℕ) → first ≡ Some c → c < 2 ^ 60 }
     requires last { (c : ℕ) → last ≡ Some c → c < 2 ^ 60 }
     requires trees { AreAddable trees.now }
-    requires kept { AreKept count best.old }
+    requires kept { AreKeptKeys count best.old }
     ensures { OnOk result (best.new ≡ totals_offered count first last trees.now best.old) }
 {
     let Some(first) = first else {

@@ -7,7 +7,7 @@ use Rattle.rhythm_base.specs.Barlines.{barline}
 use Rattle.rhythm_base.specs.Grammar.{Grammar}
 use Rattle.rhythm_base.specs.Voices.{voice_bar, voice_bars_from}
 use Rattle.std.proofs.lemmas.List.Elements.{All-nil}
-use Rattle.rhythm_laws.proofs.OrderedLists.{all_cons, all_head, all_tail}
+use Rattle.rhythm_base.proofs.OrderedLists.{all_cons, all_head, all_tail}
 
 pub barline-drop : (bars : List Bar) (last n : ℕ) → barline (drop n bars) last 0 ≡ barline bars last n
 barline-drop [] last zero = refl

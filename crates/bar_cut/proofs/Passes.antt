@@ -13,8 +13,8 @@ use Rattle.rhythm_base.specs.Lists.{last_end}
 use Rattle.rhythm_base.specs.Cells.{has_onset, within_bar}
 use Rattle.rhythm_base.specs.Leaves.{VoiceBar, soundings}
 use Rattle.rhythm_base.specs.Line.{Rising}
-use Rattle.rhythm_laws.proofs.OrderedLists.{all_cons, all_head, all_tail}
-use Rattle.rhythm_laws.proofs.Reading.{last_end-append}
+use Rattle.rhythm_base.proofs.OrderedLists.{all_cons, all_head, all_tail}
+use Rattle.rhythm_base.proofs.LastEnds.{last_end-append}
 use Rattle.bar_cut.specs.Cuts.{AreInside, Rises, moved_all}
 
 abbrev pub is_before : ℕ → Chord → Bool

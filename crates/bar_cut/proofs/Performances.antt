@@ -4,7 +4,7 @@ use Rattle.rhythm_base.specs.declared.chord.Chord.{Chord}
 use Rattle.rhythm_base.specs.Grammar.{Grammar}
 use Rattle.rhythm_base.specs.Performance.{IsWellFormed, Performance}
 use Rattle.rhythm_base.specs.Voices.{AreChordsOf}
-use Rattle.rhythm_laws.proofs.PerformedVoices.{ends_after, rising}
+use Rattle.performance_laws.proofs.PerformedVoices.{ends_after, rising}
 use Rattle.bar_cut.specs.Cuts.{AreBarsAndChords}
 
 pub can_be_cut : (g : Grammar) (p : Performance) (channel : ℕ) (cs : List Chord) → IsWellFormed p → AreChordsOf g p channel cs → AreBarsAndChords p.bars p.last cs

@@ -18,7 +18,7 @@ use Rattle.rhythm_base.specs.Pins.{pin_of}
 use Rattle.rhythm_base.specs.Voices.{voice_bar, voice_bars_from}
 use Rattle.bar_cut.specs.Cuts.{AreBarsAndChords, AreInside, Rises, moved_all}
 use Rattle.bar_cut.proofs.Barlines.{measures-next, starts_at}
-use Rattle.rhythm_laws.proofs.EditedBars.{barlines_rise}
+use Rattle.performance_laws.proofs.EditedBars.{barlines_rise}
 use Rattle.bar_cut.proofs.Passes.{before-soundings, end_before, end_before-next, from-from, is_before, is_from, own, parted, rises-filter}
 
 rises_on : (s low : ℕ) (cs : List Chord) → Rises low cs → Rises s (filter (is_from s) cs)

@@ -6,7 +6,7 @@ use Rattle.std.proofs.lemmas.List.Concat.{length-flat_map}
 use Rattle.std.proofs.lemmas.List.Elements.{All-head, All-tail}
 use Rattle.std.proofs.lemmas.Option.{slice_get_within}
 use Rattle.atomic_table.specs.Table.{Final, Me, Seen, State}
-use Rattle.bar_pool.specs.Draws.{AreLawful, Draws, HasEachBelow, Seat, drawn_by_all, times}
+use Rattle.bar_pool.specs.Draws.{AreLawful, Draws, HasEachBelow, Seat, drawn_by_all, occurrences}
 use Rattle.bar_pool.specs.DrawTable.{IsDrawTable, draws_of, seat_of}
 use Rattle.bar_pool.specs.Workers.{HasShare, IsNumbered, numbers}
 use Rattle.bar_pool.specs.Places.{StandIn}
@@ -48,8 +48,8 @@ alone f (x ∷ xs) (suc i) s h e whole =
 -- the seat with the whole share, which drew past the inputs, has each number below them once
 pub closing : (inputs workers : ℕ) (d : Draws) (i : ℕ) (s : Seat) → AreLawful inputs workers d → slice_get d.seats i ≡ Some s → s.share ≡ workers → 0 < s.past → HasEachBelow inputs s.drawn
 closing inputs workers d i s h e whole past x =
-    let idle : All (λ s. s.share ≡ 0 → times x s.drawn ≡ 0) d.seats = λ k u l z. rw ((h.seats k u l).idle z) refl in
-    let all = alone (λ (s : Seat). times x s.drawn) d.seats i s idle e (omega (arith, h.shares)) in
+    let idle : All (λ s. s.share ≡ 0 → occurrences x s.drawn ≡ 0) d.seats = λ k u l z. rw ((h.seats k u l).idle z) refl in
+    let all = alone (λ (s : Seat). occurrences x s.drawn) d.seats i s idle e (omega (arith, h.shares)) in
     let pasts = sum_by-most (λ (s : Seat). s.past) d.seats i s e in
     let over : min d.next inputs ≡ inputs = omega (arith, pasts, h.next, together-length inputs workers d h) in
     let each : HasEachBelow inputs (drawn_by_all d.seats) = subst (λ n. HasEachBelow n (drawn_by_all d.seats)) over h.once in

@@ -6,7 +6,7 @@ use Rattle.std.proofs.lemmas.Bool.{cases_lt}
 use Rattle.std.proofs.lemmas.List.Sums.{sum_by-cons, sum_by-append, sum_by-set, get_or-le-sum_by}
 use Rattle.std.proofs.lemmas.List.Elements.{All-head, All-tail}
 use Rattle.std.proofs.lemmas.Option.{get_or_from_slice_get, slice_get_within}
-use Rattle.bar_pool.specs.Draws.{times, HasEachBelow}
+use Rattle.bar_pool.specs.Draws.{occurrences, HasEachBelow}
 
 module _ {X : Type 0} (f : X → ℕ) where
   -- the sum after one member became another
@@ -34,28 +34,28 @@ module _ {X : Type 0} (f g : X → ℕ) where
       let P : X → Type 0 = λ x. f x ≤ g x in
       omega (arith, sum_by-cons f x xs, sum_by-cons g x xs, All-head P x xs h, sum_by-below xs i v (All-tail P x xs h) e l)
 
-pub times-cons : (x y : ℕ) (ys : List ℕ) → times x (y ∷ ys) ≡ (if y == x then 1 else 0) + times x ys
+pub times-cons : (x y : ℕ) (ys : List ℕ) → occurrences x (y ∷ ys) ≡ (if y == x then 1 else 0) + occurrences x ys
 times-cons x y ys = sum_by-cons (λ y. cond (y == x) 1 0) y ys
 
-pub times-append : (x : ℕ) (xs ys : List ℕ) → times x (xs ++ ys) ≡ times x xs + times x ys
+pub times-append : (x : ℕ) (xs ys : List ℕ) → occurrences x (xs ++ ys) ≡ occurrences x xs + occurrences x ys
 times-append x xs ys = sum_by-append (λ y. cond (y == x) 1 0) xs ys
 
 -- a number that stands in the list is counted
-pub times-at : (xs : List ℕ) (k d : ℕ) → k < length xs → 1 ≤ times (get_or xs k d) xs
+pub times-at : (xs : List ℕ) (k d : ℕ) → k < length xs → 1 ≤ occurrences (get_or xs k d) xs
 times-at [] k d h = absurd (omega arith)
 times-at (y ∷ xs) zero d h = let c = times-cons y y xs in grind (arith, nat_tests, c)
 times-at (y ∷ xs) (suc k) d h = omega (arith, times-at xs k d (omega arith), times-cons (get_or xs k d) y xs)
 
 module _ {X : Type 0} (f : X → List ℕ) where
   -- how often a number stands in several lists
-  pub times-flat_map : (x : ℕ) (xs : List X) → times x (flat_map f xs) ≡ sum_by (λ u. times x (f u)) xs
+  pub times-flat_map : (x : ℕ) (xs : List X) → occurrences x (flat_map f xs) ≡ sum_by (λ u. occurrences x (f u)) xs
   times-flat_map x [] = refl
-  times-flat_map x (y ∷ ys) = omega (arith, times-append x (f y) (flat_map f ys), times-flat_map x ys, sum_by-cons (λ u. times x (f u)) y ys)
+  times-flat_map x (y ∷ ys) = omega (arith, times-append x (f y) (flat_map f ys), times-flat_map x ys, sum_by-cons (λ u. occurrences x (f u)) y ys)
 
 -- how many numbers below n there are in the list
 spread : ℕ → List ℕ → ℕ
 spread zero xs = 0
-spread (suc n) xs = spread n xs + times n xs
+spread (suc n) xs = spread n xs + occurrences n xs
 
 one_more : (y n : ℕ) → (if nat_lt y n then 1 else 0) + (if y == n then 1 else 0) ≡ (if nat_lt y (suc n) then 1 else 0)
 one_more y n = grind (arith, nat_tests)
@@ -85,10 +85,10 @@ unfolding spread
 spread-nil zero = refl
 spread-nil (suc n) = omega (arith, spread-nil n)
 
-spread-length : (n : ℕ) (xs : List ℕ) → ((x : ℕ) → n ≤ x → times x xs ≡ 0) → spread n xs ≡ length xs
+spread-length : (n : ℕ) (xs : List ℕ) → ((x : ℕ) → n ≤ x → occurrences x xs ≡ 0) → spread n xs ≡ length xs
 spread-length n [] h = spread-nil n
 spread-length n (y ∷ ys) h =
-    let low : y < n = ⊎_elim (λ (l : y < n). l) (λ (g : n ≤ y). absurd (omega (arith, h y g, self_once y (times y ys), times-cons y y ys))) (cases_lt y n) in
+    let low : y < n = ⊎_elim (λ (l : y < n). l) (λ (g : n ≤ y). absurd (omega (arith, h y g, self_once y (occurrences y ys), times-cons y y ys))) (cases_lt y n) in
     omega (arith, spread-cons n y ys, below_one y n low, spread-length n ys (λ x g. omega (arith, h x g, times-cons x y ys)))
 
 spread-each : (n m : ℕ) (xs : List ℕ) → n ≤ m → HasEachBelow m xs → spread n xs ≡ n

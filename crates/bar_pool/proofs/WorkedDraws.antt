@@ -1,6 +1,6 @@
 -- Draws worked by hand.
 use Rattle.std.proofs.Common.{List, [], ◌∷◌, refl, arith}
-use Rattle.bar_pool.specs.Draws.{Draws, Event, IsRun, Seat, draw, join, new_seat, split, start}
+use Rattle.bar_pool.specs.Draws.{Draws, Event, IsRun, Seat, draw, join, new_seat, split, first_draws}
 
 -- Two workers and two inputs: the seat is split, each seat draws one number and then one past the inputs, and they are joined.
 two_by_two : List Event
@@ -9,7 +9,7 @@ two_by_two = split 0 1 ∷ draw 1 ∷ draw 0 ∷ draw 0 ∷ draw 1 ∷ join 0 1 
 after_two : Draws
 after_two = record { next = 4; seats = record { share = 2; drawn = 1 ∷ 0 ∷ []; past = 2 } ∷ new_seat 0 ∷ [] }
 
-worked : IsRun 2 two_by_two (start 2) after_two
+worked : IsRun 2 two_by_two (first_draws 2) after_two
 unfolding two_by_two after_two
 worked =
     let whole : Seat = new_seat 2 in
@@ -40,5 +40,5 @@ worked =
     )
 
 -- no inputs: every draw is past them
-none : IsRun 0 (draw 0 ∷ []) (start 1) record { next = 1; seats = record { share = 1; drawn = []; past = 1 } ∷ [] }
+none : IsRun 0 (draw 0 ∷ []) (first_draws 1) record { next = 1; seats = record { share = 1; drawn = []; past = 1 } ∷ [] }
 none = (record { next = 1; seats = record { share = 1; drawn = []; past = 1 } ∷ [] }, (new_seat 1, refl, omega arith, refl), refl)

@@ -19,15 +19,15 @@ abbrev pub drawn_by_all : List Seat → List ℕ
 drawn_by_all seats = flat_map (λ s. s.drawn) seats
 
 -- how often the number stands in the list
-abbrev pub times : ℕ → List ℕ → ℕ
-times x xs = count_by (λ y. y == x) xs
+abbrev pub occurrences : ℕ → List ℕ → ℕ
+occurrences x xs = count_by (λ y. y == x) xs
 
 -- the list has each number below n once, and no other
 abbrev pub HasEachBelow : ℕ → List ℕ → Type 0
-HasEachBelow n xs = (x : ℕ) → times x xs ≡ (if nat_lt x n then 1 else 0)
+HasEachBelow n xs = (x : ℕ) → occurrences x xs ≡ (if nat_lt x n then 1 else 0)
 
 -- the seat drew past the inputs at most as often as it stands for workers, and it has no number where it stands for none
-pub record IsSeat (s : Seat) : Type 0 where
+pub record IsDrawSeat (s : Seat) : Type 0 where
   pub past : s.past ≤ s.share
   pub idle : s.share ≡ 0 → s.drawn ≡ []
 
@@ -36,7 +36,7 @@ pub record IsSeat (s : Seat) : Type 0 where
 -- numbers and of the draws past the inputs.
 pub record AreLawful (inputs workers : ℕ) (draws : Draws) : Type 0 where
   pub shares : sum_by (λ s. s.share) draws.seats ≡ workers
-  pub seats : All IsSeat draws.seats
+  pub seats : All IsDrawSeat draws.seats
   pub once : HasEachBelow (min draws.next inputs) (drawn_by_all draws.seats)
   pub next : draws.next ≡ length (drawn_by_all draws.seats) + sum_by (λ s. s.past) draws.seats
 
@@ -45,8 +45,8 @@ abbrev pub new_seat : ℕ → Seat
 new_seat share = record { share = share; drawn = []; past = 0 }
 
 -- the start: one seat, which stands for all workers
-abbrev pub start : ℕ → Draws
-start workers = record { next = 0; seats = new_seat workers ∷ [] }
+abbrev pub first_draws : ℕ → Draws
+first_draws workers = record { next = 0; seats = new_seat workers ∷ [] }
 
 -- a seat after it drew the number
 abbrev pub seat_after : ℕ → ℕ → Seat → Seat

@@ -5,7 +5,6 @@ mod draws;
 mod laws;
 mod limits;
 mod places;
-mod plans;
 mod pool;
 mod workers;
 

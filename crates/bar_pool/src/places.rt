@@ -1,4 +1,4 @@
-ghost use Rattle.bar_pool.specs.Draws.{HasEachBelow, times};
+ghost use Rattle.bar_pool.specs.Draws.{HasEachBelow, occurrences};
 ghost use Rattle.bar_pool.specs.Places.{AreFilled, StandAt, StandIn};
 ghost use Rattle.bar_pool.specs.Workers.{numbers};
 ghost use Rattle.std.specs.Prelude.{◌≡◌, ◌<◌, ◌≤◌, ℕ, IfOk, Some, None, length, map};
@@ -32,8 +32,8 @@ fn empty_places<T: Drop>(alloc: Global, count: usize) -> Result<Vec<Option<T>>, 
 
 /// Moves each thing to its place.
 fn fill<T: Drop>(numbered: Vec<(usize, T)>, places: &mut Vec<Option<T>>)
-    requires once { (x : ℕ) → times x (numbers numbered.items) ≤ 1 }
-    requires within { (x : ℕ) → 1 ≤ times x (numbers numbered.items) → x < length places.old.items }
+    requires once { (x : ℕ) → occurrences x (numbers numbered.items) ≤ 1 }
+    requires within { (x : ℕ) → 1 ≤ occurrences x (numbers numbered.items) → x < length places.old.items }
     ensures length { length places.new.items ≡ length places.old.items }
     ensures stand { StandAt numbered.items places.new.items }
 {

@@ -5,8 +5,8 @@ ghost use Rattle.rhythm_base.specs.Readable.{IsReadable};
 ghost use Rattle.bar_pool.specs.declared.limits.TheConstants.{MOST_WORKERS};
 ghost use Rattle.std.specs.Prelude.{◌≡◌, ◌≤◌, All, IfOk, OnOk, length};
 
-use crate::plans::plan_of;
 use crate::workers::{Order, build_by_workers};
+use grammar_plan::Plan;
 use least_cost::{BarTable, Steps, build_planned};
 use least_rows::Room;
 use rhythm_base::{BarInput, Grammar, Tag};
@@ -16,11 +16,12 @@ use std::thread::Threads;
 
 /// The table of each input, in the order of the inputs. Before a cell is built, `gate` is passed with the number of its input.
 /// There are `workers` of them, but no more than inputs, and each draws the number of the cell that it builds next. One worker
-/// is the calling thread, which takes the numbers in turn. With no inputs there is nothing to draw.
+/// is the calling thread, which takes the numbers in turn. With no inputs there is nothing to draw. All workers read the one plan.
 pub fn build_cells<R: Threads + Sync, G: Gate + Sync, B: Tag>(
     rt: &R,
     alloc: Global,
     grammar: &Grammar,
+    plan: &Plan,
     inputs: &[BarInput],
     workers: u32,
     gate: &G,
@@ -29,6 +30,7 @@ pub fn build_cells<R: Threads + Sync, G: Gate + Sync, B: Tag>(
     requires some_worker { 1 ≤ workers }
     requires few_workers { workers ≤ MOST_WORKERS }
     requires readable { IsReadable grammar.now }
+    requires plan { IsPlan grammar.now plan.now }
     requires units { All (λ k. k.resolution ≡ grammar.now.resolution) inputs.now }
     ensures tables { IfOk result (λ v. AreTablesOf grammar.now inputs.now v.items) }
     ensures builds { OnOk result (builds.new ≡ risen builds.old (length inputs.now)) }
@@ -39,10 +41,9 @@ pub fn build_cells<R: Threads + Sync, G: Gate + Sync, B: Tag>(
         return Ok(Vec::new(alloc));
     }
     let workers = inputs.len().min(workers as usize);
-    let plan = plan_of(alloc, grammar)?;
     let order = Order {
         grammar,
-        plan: &plan,
+        plan,
         inputs,
         gate,
     };

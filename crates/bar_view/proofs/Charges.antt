@@ -10,7 +10,7 @@ use Rattle.rhythm_base.specs.Grammar.{Grammar}
 use Rattle.rhythm_base.specs.Leaves.{goes_left, lies_in}
 use Rattle.rhythm_base.specs.Lists.{gap}
 use Rattle.rhythm_base.proofs.Booleans.{and_left, and_right}
-use Rattle.rhythm_laws.proofs.Ticks.{le_from, le_tells, lt_not_le, take_zero}
+use Rattle.tree_laws.proofs.Ticks.{le_from, le_tells, lt_not_le, take_zero}
 use Rattle.row_laws.specs.Leaves.{leaf_of_cell}
 use Rattle.bar_view.specs.Displaced.{displacements}
 use Rattle.bar_view.proofs.Filters.{sum-split, sum-times}

@@ -10,8 +10,8 @@ use Rattle.rhythm_base.specs.Cells.{bar_of}
 use Rattle.rhythm_base.specs.Leaves.{goes_left, lies_in, sounds}
 use Rattle.rhythm_base.specs.Line.{Rising}
 use Rattle.rhythm_base.specs.Lists.{last_end}
-use Rattle.rhythm_laws.specs.Places.{end_before}
-use Rattle.rhythm_laws.proofs.Ticks.{le_from, le_not, lt_not_le, take_zero}
+use Rattle.tree_laws.specs.Places.{end_before}
+use Rattle.tree_laws.proofs.Ticks.{le_from, le_not, lt_not_le, take_zero}
 use Rattle.row_laws.specs.Leaves.{IsCrowded, leaf_of_cell, next_ends, own_ends}
 use Rattle.bar_view.specs.Units.{SplitsAt, end_of_earlier}
 use Rattle.bar_view.proofs.Filters.{ends-taken, filter-range}

@@ -7,9 +7,9 @@ use Rattle.rhythm_base.proofs.Booleans.{and_left, and_right}
 use Rattle.rhythm_base.specs.BarInput.{BarInput}
 use Rattle.rhythm_base.specs.Grammar.{Grammar}
 use Rattle.rhythm_base.specs.declared.inner.Inner.{Inner}
-use Rattle.rhythm_laws.specs.Forests.{Ground}
-use Rattle.rhythm_laws.specs.Places.{reach}
-use Rattle.rhythm_laws.proofs.Ticks.{le_from, le_tells}
+use Rattle.tree_laws.specs.Forests.{Ground}
+use Rattle.tree_laws.specs.Places.{reach}
+use Rattle.tree_laws.proofs.Ticks.{le_from, le_tells}
 use Rattle.row_laws.specs.Grounds.{ground_of}
 use Rattle.row_laws.specs.QuietTrees.{IsQuiet}
 use Rattle.row_laws.specs.declared.quiet.Quiet.{Quiet}

@@ -8,14 +8,14 @@ use Rattle.rhythm_base.specs.BarInput.{BarInput}
 use Rattle.rhythm_base.specs.Cells.{bar_of}
 use Rattle.rhythm_base.specs.Grammar.{Grammar}
 use Rattle.rhythm_base.specs.Lists.{last_end}
-use Rattle.rhythm_laws.specs.Places.{end_before, reach}
-use Rattle.rhythm_laws.specs.Quiet.{end_at, is_quiet}
-use Rattle.rhythm_laws.proofs.Ticks.{le_from, le_not, take_zero}
+use Rattle.tree_laws.specs.Places.{end_before, reach}
+use Rattle.tree_laws.specs.Quiet.{end_at, is_quiet}
+use Rattle.tree_laws.proofs.Ticks.{le_from, le_not, take_zero}
 use Rattle.row_laws.specs.Grounds.{ground_of}
 use Rattle.row_laws.specs.QuietTrees.{IsQuiet}
 use Rattle.row_laws.specs.declared.quiet.Quiet.{Quiet}
 use Rattle.row_laws.specs.declared.quiet.Quiet.TheVariants.{Sounding, Silent}
-use Rattle.bar_view.specs.Units.{IsPart, IsQuietFrom, SoundsSo, SplitsAt, end_of_earlier}
+use Rattle.bar_view.specs.Units.{IsUnitPart, IsQuietFrom, SoundsSo, SplitsAt, end_of_earlier}
 use Rattle.bar_view.specs.declared.stretch.Stretch.{Stretch}
 use Rattle.bar_view.proofs.Filters.{ends-taken, filter-range}
 
@@ -80,7 +80,7 @@ module _ (k : BarInput) (p w n : ℕ) (first : SplitsAt k p n) (last : SplitsAt 
 
 -- up to the unit in which the next chord begins
 pub part-quiet : (k : BarInput) (u next n at : ℕ) (d : Inner) → ((v : ℕ) → u ≤ v → v ≤ next → SplitsAt k v n) → end_of_earlier k n d * k.resolution ≡ at → next ≤ k.resolution
-    → (s : Stretch) → IsPart k.length at next u s → IsQuietFrom k u s
+    → (s : Stretch) → IsUnitPart k.length at next u s → IsQuietFrom k u s
 part-quiet k u next n at d splits is within s h some =
     let near : s.until ≤ next = (h some).0 in
     let whole : s.until ≡ u + (s.until - u) = omega (arith, some) in

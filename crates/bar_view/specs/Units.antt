@@ -42,5 +42,5 @@ abbrev pub SoundsSo : Quiet → ℕ → ℕ → ℕ → ℕ → Type 0
 SoundsSo Sounding length at u until = until * length ≤ at
 SoundsSo Silent length at u until = at ≤ u * length
 
-abbrev pub IsPart : ℕ → ℕ → ℕ → ℕ → Stretch → Type 0
-IsPart length at next u s = u < s.until → (s.until ≤ next) × SoundsSo s.quiet length at u s.until
+abbrev pub IsUnitPart : ℕ → ℕ → ℕ → ℕ → Stretch → Type 0
+IsUnitPart length at next u s = u < s.until → (s.until ≤ next) × SoundsSo s.quiet length at u s.until

@@ -1,5 +1,5 @@
 ghost use Rattle.bar_view.specs.Points.{IsPoint};
-ghost use Rattle.bar_view.specs.Units.{AreUnits, IsPart, SplitsAt, end_of_earlier};
+ghost use Rattle.bar_view.specs.Units.{AreUnits, IsUnitPart, SplitsAt, end_of_earlier};
 ghost use Rattle.rhythm_base.specs.BarInput.{BarInput, IsBarInput};
 ghost use Rattle.rhythm_base.specs.declared.inner.Inner.{Inner};
 ghost use Rattle.rhythm_base.specs.declared.limits.TheConstants.{LATEST_TICK, MOST_UNITS};
@@ -75,7 +75,7 @@ fn fill(quiet: &mut Vec<Stretch>, ticks: u64, end: Point, next: u16) -> Result<(
     requires few { end.unit ≤ MOST_UNITS }
     ensures long { OnOk result (length quiet.new.items ≡ max (length quiet.old.items) next) }
     ensures same { OnOk result ((unit : ℕ) (d : Stretch) → unit < length quiet.old.items → slice_index_or quiet.new.items unit d ≡ slice_index_or quiet.old.items unit d) }
-    ensures part { OnOk result ((at unit : ℕ) (d : Stretch) → IsPoint ticks at end → length quiet.old.items ≤ unit → unit < next → IsPart ticks at next unit (slice_index_or quiet.new.items unit d)) }
+    ensures part { OnOk result ((at unit : ℕ) (d : Stretch) → IsPoint ticks at end → length quiet.old.items ≤ unit → unit < next → IsUnitPart ticks at next unit (slice_index_or quiet.new.items unit d)) }
 {
     let full = end.unit.min(next);
     let over = end.after().min(next);

@@ -8,8 +8,8 @@ use Rattle.barline_fit.specs.declared.fitted.Fitted.{Fitted}
 use Rattle.rhythm_base.specs.Grammar.{Grammar}
 use Rattle.rhythm_base.specs.Performance.{Performance}
 use Rattle.rhythm_base.specs.Voices.{IsCostOf}
-use Rattle.rhythm_laws.proofs.OneAnswers.{one_cost_of}
-use Rattle.rhythm_laws.proofs.OrderedLists.{all_cons}
+use Rattle.performance_laws.proofs.OneVoices.{one_cost_of}
+use Rattle.rhythm_base.proofs.OrderedLists.{all_cons}
 
 -- the edit is refused at each of these ticks, and accepted at none
 pub record AreRefused (g : Grammar) (p : Performance) (bar : ℕ) (ticks : List ℕ) : Type 0 where

@@ -9,15 +9,15 @@ use Rattle.barline_fit.specs.declared.fit_fault.FitFault.TheVariants.{Memory, No
 use Rattle.barline_fit.specs.declared.fitted.Fitted.{Fitted}
 use Rattle.barline_fit.proofs.Settable.{set_has_barline, set_in_range}
 use Rattle.edit_laws.proofs.Edited.{edited_formed}
-use Rattle.rhythm_base.specs.Edits.{edited}
+use Rattle.edit_laws.specs.Edits.{edited}
 use Rattle.rhythm_base.specs.Grammar.{Grammar}
 use Rattle.rhythm_base.specs.Performance.{IsWellFormed, Performance}
 use Rattle.rhythm_base.specs.Readable.{IsReadable}
-use Rattle.rhythm_base.specs.Script.{EditOutcome, IsOutcome, IsRefused, made, refused}
+use Rattle.edit_laws.specs.EditOutcomes.{EditOutcome, IsOutcome, IsRefused, made, refused}
 use Rattle.rhythm_base.specs.Voices.{HasDerivation, IsCostOf}
 use Rattle.rhythm_base.specs.declared.edit.Edit.TheVariants.{Barline}
 use Rattle.rhythm_base.specs.declared.edit_fault.EditFault.{EditFault}
-use Rattle.rhythm_laws.proofs.OneAnswers.{dead_has_none, one_cost_of}
+use Rattle.performance_laws.proofs.OneVoices.{dead_has_none, one_cost_of}
 
 -- ---- one tick
 

@@ -11,8 +11,8 @@ use Rattle.kern_writer.specs.Text.{IsScoreText, IsTooLong}
 use Rattle.rhythm_base.specs.Grammar.{Grammar}
 use Rattle.rhythm_base.specs.Performance.{IsWellFormed, Performance}
 use Rattle.rhythm_base.specs.Readable.{IsReadable}
-use Rattle.rhythm_base.specs.Script.{Answers}
-use Rattle.rhythm_base.specs.declared.command.Command.TheVariants as command
+use Rattle.script_laws.specs.Script.{Answers}
+use Rattle.edit_script.specs.declared.command.Command.TheVariants as command
 use Rattle.rhythm_base.specs.declared.edit.Edit.TheVariants.{Barline}
 
 module _ (g : Grammar) (readable : IsReadable g) where

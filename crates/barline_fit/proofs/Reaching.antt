@@ -3,14 +3,14 @@ use Rattle.std.proofs.Common.{◌≡◌, ℕ, ◌+◌, ◌≤◌, List, [], ◌�
 use Rattle.std.specs.Prelude.{MatchResult}
 use Rattle.barline_fit.specs.Builds.{AreReachedAt, AreWithinReach}
 use Rattle.barline_fit.specs.Laws.{ReachedSumsAreOne}
-use Rattle.rhythm_base.specs.Edits.{edited}
+use Rattle.edit_laws.specs.Edits.{edited}
 use Rattle.rhythm_base.specs.Grammar.{Grammar}
 use Rattle.rhythm_base.specs.Performance.{Performance}
-use Rattle.rhythm_base.specs.Reached.{AreReached, WouldReach}
+use Rattle.edit_laws.specs.Reached.{AreReached, WouldReach}
 use Rattle.rhythm_base.specs.declared.edit.Edit.{Edit}
 use Rattle.rhythm_base.specs.declared.edit.Edit.TheVariants.{Barline}
 use Rattle.rhythm_base.specs.declared.edit_fault.EditFault.{EditFault}
-use Rattle.rhythm_laws.proofs.OneAnswers.{one_reached}
+use Rattle.edit_laws.proofs.OneReached.{one_reached}
 
 -- ---- one edit
 

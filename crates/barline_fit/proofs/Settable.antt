@@ -6,14 +6,15 @@ use Rattle.barline_fit.specs.Fitted.{HasBarline}
 use Rattle.edit_laws.proofs.BarEdits.{length-with_barline}
 use Rattle.edit_laws.proofs.Edited.{all_pass, made, not_false}
 use Rattle.rhythm_base.specs.Barlines.{barline, barline_after}
-use Rattle.rhythm_base.specs.Edits.{IsEditInRange, edit_tests, edited, first_refusal, performance_after}
+use Rattle.rhythm_base.specs.EditRanges.{IsEditInRange}
+use Rattle.edit_laws.specs.Edits.{edit_tests, edited, first_refusal, performance_after}
 use Rattle.rhythm_base.specs.Performance.{IsBarOf, IsWellFormed, Performance}
 use Rattle.rhythm_base.specs.declared.edit.Edit.TheVariants.{Barline}
 use Rattle.rhythm_base.specs.declared.edit_fault.EditFault.{EditFault}
 use Rattle.rhythm_base.specs.declared.edit_fault.EditFault.TheVariants.{NoBar}
 use Rattle.rhythm_base.specs.declared.limits.TheConstants.{LATEST_TICK}
 use Rattle.rhythm_base.specs.declared.note.Bar.{Bar}
-use Rattle.rhythm_laws.proofs.OrderedLists.{all_head, all_tail}
+use Rattle.rhythm_base.proofs.OrderedLists.{all_head, all_tail}
 
 -- no barline is after the last one
 no_later : (division last : ℕ) (bars : List Bar) (k : ℕ) → All (IsBarOf division last) bars → barline bars last k ≤ last

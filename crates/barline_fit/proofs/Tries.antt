@@ -7,10 +7,10 @@ use Rattle.barline_fit.specs.Fitted.{IsAcceptedAt, IsRefusedAt}
 use Rattle.barline_fit.proofs.Reaching.{reached_one, within_all, within_one, would_reach, would_reach_none}
 use Rattle.edit_session.specs.Prepared.{Prepared, RisesBy, Suits, cell_of}
 use Rattle.rhythm_base.specs.Counter.{risen}
-use Rattle.rhythm_base.specs.Edits.{edited}
+use Rattle.edit_laws.specs.Edits.{edited}
 use Rattle.rhythm_base.specs.Grammar.{Grammar}
 use Rattle.rhythm_base.specs.Performance.{Performance}
-use Rattle.rhythm_base.specs.Reached.{WouldReach}
+use Rattle.edit_laws.specs.Reached.{WouldReach}
 use Rattle.rhythm_base.specs.Voices.{HasDerivation, IsCostOf, IsDeadVoice}
 use Rattle.rhythm_base.specs.declared.edit.Edit.TheVariants.{Barline}
 use Rattle.rhythm_base.specs.declared.edit_fault.EditFault.{EditFault}

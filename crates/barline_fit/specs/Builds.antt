@@ -2,7 +2,7 @@
 use Rattle.std.specs.Prelude.{◌≡◌, ℕ, ◌+◌, ◌≤◌, List, [], ◌∷◌, length}
 use Rattle.rhythm_base.specs.Grammar.{Grammar}
 use Rattle.rhythm_base.specs.Performance.{Performance}
-use Rattle.rhythm_base.specs.Reached.{WouldReach}
+use Rattle.edit_laws.specs.Reached.{WouldReach}
 use Rattle.rhythm_base.specs.declared.edit.Edit.TheVariants.{Barline}
 
 -- How many cells the barline reaches at all these ticks together. At a tick where the edit is refused for a voice without a derivation,

@@ -1,7 +1,7 @@
 -- The score of a performance after one of its barlines is set to a tick.
 use Rattle.std.specs.Prelude.{◌≡◌, ℕ, ◌≤◌, List, length, Result, Ok, Err}
 use Rattle.kern_writer.specs.PerformanceText.{HasTooLongText, IsTextOf}
-use Rattle.rhythm_base.specs.Edits.{edited}
+use Rattle.edit_laws.specs.Edits.{edited}
 use Rattle.rhythm_base.specs.Grammar.{Grammar}
 use Rattle.rhythm_base.specs.Performance.{Performance}
 use Rattle.rhythm_base.specs.declared.edit.Edit.TheVariants.{Barline}

@@ -11,10 +11,11 @@ use Rattle.barline_fit.specs.declared.fitted.Fitted.{Fitted}
 use Rattle.rhythm_base.specs.Grammar.{Grammar}
 use Rattle.rhythm_base.specs.Performance.{IsWellFormed, Performance}
 use Rattle.rhythm_base.specs.Readable.{IsReadable}
-use Rattle.rhythm_base.specs.Replies.{long_score_text, score_text}
-use Rattle.rhythm_base.specs.Script.{Answers, EditOutcome, IsOutcome, made}
+use Rattle.edit_script.specs.Replies.{long_score_text, score_text}
+use Rattle.script_laws.specs.Script.{Answers}
+use Rattle.edit_laws.specs.EditOutcomes.{EditOutcome, IsOutcome, made}
 use Rattle.rhythm_base.specs.Voices.{HasDerivation}
-use Rattle.rhythm_base.specs.declared.command.Command.TheVariants.{Change, Score}
+use Rattle.edit_script.specs.declared.command.Command.TheVariants.{Change, Score}
 use Rattle.rhythm_base.specs.declared.edit.Edit.TheVariants.{Barline}
 
 -- a tick is a candidate exactly where whole steps lead to it from the lowest, and it is no later than the highest; they rise, and there

@@ -1,7 +1,8 @@
 ghost use Rattle.barline_fit.specs.Builds.{AreReachedAt, AreWithinReach};
 ghost use Rattle.barline_fit.specs.Fitted.{IsAcceptedAt, IsRefusedAt};
 ghost use Rattle.edit_session.specs.Prepared.{RisesBy, Suits};
-ghost use Rattle.rhythm_base.specs.Edits.{IsEditInRange, edited};
+ghost use Rattle.rhythm_base.specs.EditRanges.{IsEditInRange};
+ghost use Rattle.edit_laws.specs.Edits.{edited};
 ghost use Rattle.rhythm_base.specs.Performance.{IsWellFormed};
 ghost use Rattle.rhythm_base.specs.Voices.{HasDerivation};
 ghost use Rattle.rhythm_base.specs.declared.edit.Edit.TheVariants.{Barline};

@@ -14,23 +14,23 @@ use Rattle.rhythm_base.specs.Performance.{Performance}
 use Rattle.rhythm_base.specs.Voices.{IsCostOf}
 use Rattle.barline_follow.specs.Answer.{IsAnswer, chosen}
 use Rattle.barline_follow.specs.Bars.{barlines_of}
-use Rattle.barline_follow.specs.Barring.{Barring, value_of}
+use Rattle.barline_follow.specs.Barring.{Barring, barring_value}
 use Rattle.barline_follow.specs.Rounds.{IsBest}
 use Rattle.barline_follow.specs.Script.{IsOfBars, Leads, first_barlines, further, last_bar, last_barlines, lengthened, pace, script}
-use Rattle.barline_follow.specs.Stages.{Shift, aims, all_stages, farthest, is_earlier, is_later, line_of, paired, shifts, stage, stage_count, stage_of}
+use Rattle.barline_follow.specs.Stages.{Shift, aims, all_stages, farthest, is_earlier, is_later, shift_line, paired, shifts, stage, stage_count, stage_lines}
 
 -- ---- the lines of a script are edits of bars
 
-lines_of_bars : (ss : List Shift) → All IsOfBars (map line_of ss)
-lines_of_bars ss = All-map IsOfBars line_of ss (λ k d lt. tt)
+lines_of_bars : (ss : List Shift) → All IsOfBars (map shift_line ss)
+lines_of_bars ss = All-map IsOfBars shift_line ss (λ k d lt. tt)
 
-stages_of_bars : (stages : ℕ) (ticks goal : List ℕ) (ks : List ℕ) → All IsOfBars (flat_map (stage_of stages ticks goal) ks)
+stages_of_bars : (stages : ℕ) (ticks goal : List ℕ) (ks : List ℕ) → All IsOfBars (flat_map (stage_lines stages ticks goal) ks)
 stages_of_bars stages ticks goal [] = All-nil IsOfBars
 stages_of_bars stages ticks goal (k ∷ ks) =
     let from : List ℕ = aims stages k ticks goal in
     let to : List ℕ = aims stages (k + 1) ticks goal in
-    All-append IsOfBars (stage from to) (flat_map (stage_of stages ticks goal) ks)
-    (All-append IsOfBars (map line_of (reverse (filter is_later (shifts 0 from to)))) (map line_of (filter is_earlier (shifts 0 from to)))
+    All-append IsOfBars (stage from to) (flat_map (stage_lines stages ticks goal) ks)
+    (All-append IsOfBars (map shift_line (reverse (filter is_later (shifts 0 from to)))) (map shift_line (filter is_earlier (shifts 0 from to)))
     (lines_of_bars (reverse (filter is_later (shifts 0 from to)))) (lines_of_bars (filter is_earlier (shifts 0 from to))))
     (stages_of_bars stages ticks goal ks)
 
@@ -95,10 +95,10 @@ module _ (g : Grammar) (p : Performance) (best : Option Barring) (cost : ℕ) (i
 
 pub chosen_best : (p : Performance) (before : ℕ) (b : Barring) → nat_le (10 * (b.cost + b.prices)) (7 * before) ≡ true → chosen p before (Some b) ≡ b.ticks
 chosen_best p before b is =
-    let test : nat_lt (7 * before) (10 * value_of b) ≡ false = grind (arith, nat_tests, is) in
+    let test : nat_lt (7 * before) (10 * barring_value b) ≡ false = grind (arith, nat_tests, is) in
     ap (λ t. if t then barlines_of p else b.ticks) test
 
 pub chosen_old : (p : Performance) (before : ℕ) (b : Barring) → nat_le (10 * (b.cost + b.prices)) (7 * before) ≡ false → chosen p before (Some b) ≡ barlines_of p
 chosen_old p before b is =
-    let test : nat_lt (7 * before) (10 * value_of b) ≡ true = grind (arith, nat_tests, is) in
+    let test : nat_lt (7 * before) (10 * barring_value b) ≡ true = grind (arith, nat_tests, is) in
     ap (λ t. if t then barlines_of p else b.ticks) test

@@ -11,14 +11,14 @@ use Rattle.rhythm_base.specs.declared.edit.Edit.TheVariants.{AddBar, DropBar}
 use Rattle.rhythm_base.specs.declared.edit_fault.EditFault.{EditFault}
 use Rattle.rhythm_base.specs.declared.note.Bar.{Bar}
 use Rattle.rhythm_base.specs.Barlines.{nominal, nominal_of}
-use Rattle.rhythm_base.specs.Edits.{edit_tests, first_refusal, next_bar, performance_after, unless_refused, with_start}
+use Rattle.edit_laws.specs.Edits.{edit_tests, first_refusal, next_bar, performance_after, unless_refused, with_start}
 use Rattle.rhythm_base.specs.Grammar.{Grammar}
 use Rattle.rhythm_base.specs.Lists.{last_end}
 use Rattle.rhythm_base.specs.Performance.{IsWellFormed, Performance}
-use Rattle.rhythm_laws.proofs.OrderedLists.{all_cons, all_head, all_tail}
+use Rattle.rhythm_base.proofs.OrderedLists.{all_cons, all_head, all_tail}
 use Rattle.barline_follow.specs.Bars.{barlines_of, bars_on, pattern_of, with_barlines}
 use Rattle.barline_follow.specs.Script.{Leads, first_barlines, further, last_bar, last_barlines, pace, script}
-use Rattle.barline_follow.specs.Stages.{Shift, aim, aims, all_stages, is_earlier, is_later, line_of, shifts, stage, stage_count, stage_of}
+use Rattle.barline_follow.specs.Stages.{Shift, aim, aims, all_stages, is_earlier, is_later, shift_line, shifts, stage, stage_count, stage_lines}
 use Rattle.barline_follow.proofs.Further.{last_of_all, last_pushed, length-barlines, length-lengthened}
 use Rattle.barline_follow.proofs.LaidBars.{after_added, after_barline, after_dropped, laid, on}
 use Rattle.barline_follow.proofs.Ranges.{all_reversed}
@@ -50,12 +50,12 @@ module _ (p : Performance) (pat : ℕ → Bar) where
 
   -- ---- stages
 
-  after_shifts : (ss : List Shift) (ticks : List ℕ) → All (λ s. s.bar < length ticks) ss → after_all (at ticks) (map line_of ss) ≡ at (shifted ticks ss)
+  after_shifts : (ss : List Shift) (ticks : List ℕ) → All (λ s. s.bar < length ticks) ss → after_all (at ticks) (map shift_line ss) ≡ at (shifted ticks ss)
   after_shifts [] ticks all = refl
   after_shifts (s ∷ ss) ticks all =
       let within : s.bar < length ticks = all_head (λ s. s.bar < length ticks) s ss all in
       let long : length (set ticks s.bar s.to) ≡ length ticks = length-set ticks s.bar s.to in
-      ap (λ q. after_all q (map line_of ss)) (after_barline pat p s.bar s.to ticks within)
+      ap (λ q. after_all q (map shift_line ss)) (after_barline pat p s.bar s.to ticks within)
       ∙ after_shifts ss (set ticks s.bar s.to)
       (subst (λ n. All (λ s. s.bar < n) ss) (sym long) (all_tail (λ s. s.bar < length ticks) s ss all))
 
@@ -71,7 +71,7 @@ module _ (p : Performance) (pat : ℕ → Bar) where
       let below : All (λ s. s.bar < length ticks) (shifts 0 ticks to) = shifts_below (length ticks) 0 ticks to (omega arith) in
       let later : List Shift = reverse (filter is_later (shifts 0 ticks to)) in
       let earlier : List Shift = filter is_earlier (shifts 0 ticks to) in
-      ap (after_all (at ticks)) (sym (map-append line_of later earlier))
+      ap (after_all (at ticks)) (sym (map-append shift_line later earlier))
       ∙ after_shifts (later ++ earlier) ticks
       (All-append (λ s. s.bar < length ticks) later earlier
       (all_reversed (λ s. s.bar < length ticks) (filter is_later (shifts 0 ticks to)) (All-filter is_later (λ s. s.bar < length ticks) (shifts 0 ticks to) below))
@@ -79,14 +79,14 @@ module _ (p : Performance) (pat : ℕ → Bar) where
       ∙ ap at (stage_shifted ticks to long)
 
   after_stages : (stages : ℕ) (ticks goal : List ℕ) → length ticks ≡ length goal → (a n : ℕ)
-      → after_all (at (aims stages a ticks goal)) (flat_map (stage_of stages ticks goal) (range_with_len a n)) ≡ at (aims stages (a + n) ticks goal)
+      → after_all (at (aims stages a ticks goal)) (flat_map (stage_lines stages ticks goal) (range_with_len a n)) ≡ at (aims stages (a + n) ticks goal)
   after_stages stages ticks goal long a zero = let same : a ≡ a + 0 = omega arith in ap (λ s. at (aims stages s ticks goal)) same
   after_stages stages ticks goal long a (suc n) =
       let first = length-paired (aim stages a) ticks goal long in
       let second = length-paired (aim stages (a + 1)) ticks goal long in
       let next : (a + 1) + n ≡ a + suc n = omega arith in
-      after-append (at (aims stages a ticks goal)) (stage_of stages ticks goal a) (flat_map (stage_of stages ticks goal) (range_with_len (a + 1) n))
-      ∙ ap (λ q. after_all q (flat_map (stage_of stages ticks goal) (range_with_len (a + 1) n)))
+      after-append (at (aims stages a ticks goal)) (stage_lines stages ticks goal a) (flat_map (stage_lines stages ticks goal) (range_with_len (a + 1) n))
+      ∙ ap (λ q. after_all q (flat_map (stage_lines stages ticks goal) (range_with_len (a + 1) n)))
       (after_stage (aims stages a ticks goal) (aims stages (a + 1) ticks goal) (first ∙ sym second))
       ∙ after_stages stages ticks goal long (a + 1) n
       ∙ ap (λ s. at (aims stages s ticks goal)) next

@@ -8,11 +8,11 @@ use Rattle.rhythm_base.specs.declared.limits.TheConstants.{LATEST_TICK}
 use Rattle.rhythm_base.specs.Grammar.{Grammar}
 use Rattle.rhythm_base.specs.Lists.{Each, last_end}
 use Rattle.rhythm_base.specs.Performance.{Performance}
-use Rattle.rhythm_laws.proofs.FirstLists.{all_contained}
-use Rattle.rhythm_laws.proofs.OrderedLists.{all_cons, all_head, all_tail}
+use Rattle.rhythm_base.proofs.FirstLists.{all_contained}
+use Rattle.rhythm_base.proofs.OrderedLists.{all_cons, all_head, all_tail}
 use Rattle.barline_follow.specs.declared.offers.Offer.{Offer}
-use Rattle.barline_follow.specs.Barring.{Barring, best_of, better, end_of, is_below, value_of}
-use Rattle.barline_follow.specs.Rounds.{ComeTo, Draft, Found, IsBest, IsFound, IsNextFront, IsWhole, going, going_on, lost, no_bars, rows, whole, whole_one, with_bar}
+use Rattle.barline_follow.specs.Barring.{Barring, best_of, better, barring_end, is_below, barring_value}
+use Rattle.barline_follow.specs.Rounds.{ComeTo, Draft, Found, IsBest, IsFound, IsNextFront, IsWholeAt, going, going_on, lost, no_bars, rows, whole, whole_one, with_bar}
 use Rattle.barline_follow.proofs.FirstLeast.{got_contained}
 use Rattle.barline_follow.proofs.Further.{last_pushed}
 
@@ -36,7 +36,7 @@ module _ (g : Grammar) (p : Performance) where
   -- the same of whole barlines
   pub record IsGood (bars : ℕ) (b : Barring) : Type 0 where
     pub short : IsShort bars b.ticks
-    pub is_whole : IsWhole g p b.ticks b.cost
+    pub is_whole : IsWholeAt g p b.ticks b.cost
     pub some_bar : 2 ≤ length b.ticks
 
   -- what is found of a list with a bar more
@@ -48,14 +48,14 @@ module _ (g : Grammar) (p : Performance) where
   found_short : (i : ℕ) (b : Barring) (o : Offer) (f : Found) → IsShort i b.ticks → IsFound g p (with_bar b o) f → FoundShort (suc i) f
   found_short i b o lost short h = tt
   found_short i b o (going x) short (c, goes, is) =
-      let last : last_end 0 (b.ticks ++ ((end_of b + o.ticks) ∷ [])) ≡ end_of b + o.ticks = last_pushed 0 (end_of b + o.ticks) b.ticks in
-      subst (λ (y : Barring). IsShort (suc i) y.ticks) (sym is) (longer_short i (end_of b + o.ticks) b.ticks short (omega (arith, last, goes.early)))
+      let last : last_end 0 (b.ticks ++ ((barring_end b + o.ticks) ∷ [])) ≡ barring_end b + o.ticks = last_pushed 0 (barring_end b + o.ticks) b.ticks in
+      subst (λ (y : Barring). IsShort (suc i) y.ticks) (sym is) (longer_short i (barring_end b + o.ticks) b.ticks short (omega (arith, last, goes.early)))
   found_short i b o (whole x) short (c, is_whole, is) =
-      let last : last_end 0 (b.ticks ++ ((end_of b + o.ticks) ∷ [])) ≡ end_of b + o.ticks = last_pushed 0 (end_of b + o.ticks) b.ticks in
+      let last : last_end 0 (b.ticks ++ ((barring_end b + o.ticks) ∷ [])) ≡ barring_end b + o.ticks = last_pushed 0 (barring_end b + o.ticks) b.ticks in
       subst (IsGood (suc i)) (sym is) (record {
-        short = longer_short i (end_of b + o.ticks) b.ticks short (omega (arith, last, is_whole.early));
+        short = longer_short i (barring_end b + o.ticks) b.ticks short (omega (arith, last, is_whole.early));
         is_whole = is_whole;
-        some_bar = omega (arith, length-append b.ticks ((end_of b + o.ticks) ∷ []), short.some);
+        some_bar = omega (arith, length-append b.ticks ((barring_end b + o.ticks) ∷ []), short.some);
       })
 
   row_short : (i : ℕ) (b : Barring) (own : List Offer) (rest : List Draft) (found : List Found) → IsShort i b.ticks
@@ -99,7 +99,7 @@ module _ (g : Grammar) (p : Performance) where
 
   better_short : (most : ℕ) (best : Option Barring) (b : Barring) → BestShort most best → IsGood most b → BestShort most (better best b)
   better_short most None b h short = short
-  better_short most (Some x) b h short = by (nat_lt (value_of b) (value_of x))
+  better_short most (Some x) b h short = by (nat_lt (barring_value b) (barring_value x))
     where
       by : (t : Bool) → BestShort most (if t then Some b else Some x)
       by true = short

@@ -12,11 +12,11 @@ use Rattle.rhythm_base.specs.Barlines.{nominal, nominal_of}
 use Rattle.rhythm_base.specs.Grammar.{Grammar}
 use Rattle.rhythm_base.specs.Performance.{IsBarOf, IsWellFormed, Performance}
 use Rattle.rhythm_base.specs.Readable.{IsInRange}
-use Rattle.rhythm_laws.proofs.Bars.{times_wide}
+use Rattle.tree_laws.proofs.Bars.{times_wide}
 use Rattle.barline_follow.specs.declared.offers.Offer.{Offer}
 use Rattle.barline_follow.specs.Bars.{bar_step, pattern_of, whole_bar}
-use Rattle.barline_follow.specs.Offers.{AreOffers, in_tempo, is_offered, onset_weight, proposals, proposals_at, proposed, reach}
-use Rattle.barline_follow.specs.Tracks.{dearest_bar}
+use Rattle.barline_follow.specs.Offers.{AreOffers, in_tempo, is_offered, onset_weight, proposals, proposals_at, proposed, most_steps}
+use Rattle.barline_follow.specs.Courses.{dearest_bar}
 use Rattle.barline_follow.proofs.FirstLeast.{from_filtered, got_contained, none_contained, passes_filtered}
 use Rattle.barline_follow.proofs.Gathering.{contained_map}
 
@@ -59,7 +59,7 @@ some_tick p i formed =
 -- ---- what is offered
 
 module _ (g : Grammar) (p : Performance) (ranges : IsInRange g) (formed : IsWellFormed p) (i before : ℕ) where
-  few_steps : (i : ℕ) → reach i ≤ 12
+  few_steps : (i : ℕ) → most_steps i ≤ 12
   few_steps zero = omega arith
   few_steps (suc i) = omega arith
 
@@ -71,13 +71,13 @@ module _ (g : Grammar) (p : Performance) (ranges : IsInRange g) (formed : IsWell
   pub offer_bounded : (o : Offer) → Contains (proposals g p i before) o → (1 ≤ o.ticks) × (o.price ≤ dearest_bar)
   offer_bounded o c =
       let w : ℕ = whole_bar p i in
-      let rows : List Offer = flat_map (proposals_at g p i before) (range_with_len 0 (reach i + 1)) in
+      let rows : List Offer = flat_map (proposals_at g p i before) (range_with_len 0 (most_steps i + 1)) in
       let passes : is_offered w o ≡ true = passes_filtered (is_offered w) rows o c in
       let long : nat_le w (2 * o.ticks) ≡ true = and_left (nat_le w (2 * o.ticks)) _ passes in
       let some = some_tick p i formed in
-      let row = from_rows (proposals_at g p i before) (range_with_len 0 (reach i + 1)) o (from_filtered (is_offered w) rows o c) in
+      let row = from_rows (proposals_at g p i before) (range_with_len 0 (most_steps i + 1)) o (from_filtered (is_offered w) rows o c) in
       let k : ℕ = row.0 in
-      let steps = in_range 0 (reach i + 1) k row.1 in
+      let steps = in_range 0 (most_steps i + 1) k row.1 in
       let few : k ≤ 12 = omega (arith, steps, few_steps i) in
       let price = price_is (onset_weight g) w (in_tempo p i before) (bar_step p i) k o row.2 in
       let light : onset_weight g ≤ 1000 = omega (arith, ranges.early, ranges.late) in

@@ -19,7 +19,7 @@ not_less_cost a c o h = elim (cases_lt a c) [
   | inr ge ↦ ge
 ]
 
-less_cost : (a c : ℕ) (o : Ordering) → is_lt (ordering_then (nat_cmp a c) o) ≡ true → a ≤ c
+pub less_cost : (a c : ℕ) (o : Ordering) → is_lt (ordering_then (nat_cmp a c) o) ≡ true → a ≤ c
 less_cost a c o h = elim (cases_lt c a) [
   | inl more ↦ let wrong : false ≡ true = ap (λ r. is_lt (ordering_then r o)) (nat_cmp_is a c Greater more) ∙ h in absurd (false≢true wrong)
   | inr le ↦ le

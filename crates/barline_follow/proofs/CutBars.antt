@@ -8,12 +8,12 @@ use Rattle.rhythm_base.specs.declared.limits.TheConstants.{LATEST_TICK}
 use Rattle.rhythm_base.specs.declared.note.Bar.{Bar}
 use Rattle.rhythm_base.specs.declared.pin.Pin.{Pin}
 use Rattle.rhythm_base.specs.Cells.{input}
-use Rattle.rhythm_base.specs.Edits.{with_start}
+use Rattle.edit_laws.specs.Edits.{with_start}
 use Rattle.rhythm_base.specs.Grammar.{Grammar}
 use Rattle.rhythm_base.specs.Leaves.{soundings}
 use Rattle.rhythm_base.specs.Signatures.{IsSignature}
 use Rattle.rhythm_base.specs.Voices.{voice_bars_from}
-use Rattle.rhythm_laws.proofs.OrderedLists.{all_cons}
+use Rattle.rhythm_base.proofs.OrderedLists.{all_cons}
 use Rattle.barline_follow.specs.Sounded.{AreSounded}
 
 none : (P : Bar → Type 0) → All P []

@@ -18,7 +18,7 @@ use Rattle.rhythm_base.specs.declared.limits.TheConstants.{DEAREST_CELL, LATEST_
 use Rattle.rhythm_base.specs.declared.note.Bar.{Bar}
 use Rattle.rhythm_base.specs.declared.pin.Pin.{Pin}
 use Rattle.rhythm_base.specs.BarTables.{BarTable}
-use Rattle.rhythm_base.specs.Edits.{is_past, next_bar, with_start}
+use Rattle.edit_laws.specs.Edits.{is_past, next_bar, with_start}
 use Rattle.rhythm_base.specs.Grammar.{Grammar, root_of}
 use Rattle.rhythm_base.specs.Leaves.{VoiceBar, soundings}
 use Rattle.rhythm_base.specs.Lists.{Each, last_end}
@@ -26,19 +26,19 @@ use Rattle.rhythm_base.specs.Paths.{AreCheap}
 use Rattle.rhythm_base.specs.Performance.{Performance}
 use Rattle.rhythm_base.specs.Ranked.{Key, five, least_key}
 use Rattle.rhythm_base.specs.Voices.{AreChordsOf, HasStarts, voice_bars_from}
-use Rattle.rhythm_laws.specs.Voices.{Adjacent}
-use Rattle.rhythm_laws.proofs.CheapTables.{table_cheap}
-use Rattle.rhythm_laws.proofs.OrderedLists.{all_cons}
-use Rattle.rhythm_laws.proofs.Products.{five_at}
+use Rattle.tree_laws.specs.Voices.{Adjacent}
+use Rattle.tree_laws.proofs.CheapTables.{table_cheap}
+use Rattle.rhythm_base.proofs.OrderedLists.{all_cons}
+use Rattle.path_laws.proofs.Products.{five_at}
 use Rattle.barline_follow.specs.declared.heads.Heads.{Heads}
 use Rattle.barline_follow.specs.declared.next_bar.NextBar.{NextBar}
 use Rattle.barline_follow.specs.declared.offers.Offer.{Offer}
 use Rattle.barline_follow.specs.Bars.{bars_on, is_closed, pattern_of, with_barlines}
-use Rattle.barline_follow.specs.Barring.{Track, end_of}
-use Rattle.barline_follow.specs.Costs.{AreLow, cost_at, costs_with, total}
-use Rattle.barline_follow.specs.NextBars.{IsNextBar, IsTrackOf, IsTried, cells}
-use Rattle.barline_follow.specs.Rounds.{Draft, GoesOn, IsFound, IsWhole, at_cost, going, lost, whole, with_bar}
-use Rattle.barline_follow.specs.Tracks.{AreHeads, bars_of, cell}
+use Rattle.barline_follow.specs.Barring.{Course, barring_end}
+use Rattle.barline_follow.specs.Costs.{AreLowHeads, head_cost_at, costs_with, total}
+use Rattle.barline_follow.specs.NextBars.{IsNextBar, IsCourseOf, IsTried, cells}
+use Rattle.barline_follow.specs.Rounds.{Draft, IsOpenAt, IsFound, IsWholeAt, at_cost, going, lost, whole, with_bar}
+use Rattle.barline_follow.specs.Courses.{AreHeads, bars_of, cell}
 use Rattle.barline_follow.proofs.CostLemmas.{cost_key}
 use Rattle.barline_follow.proofs.Further.{last_pushed}
 use Rattle.barline_follow.proofs.HeadCosts.{head_cost, no_head_cost, no_whole_cost, whole_cost}
@@ -78,10 +78,10 @@ past_five f (suc (suc (suc zero))) h = absurd (omega (arith, h))
 past_five f (suc (suc (suc (suc zero)))) h = absurd (omega (arith, h))
 past_five f (suc (suc (suc (suc (suc n))))) h = refl
 
-low_heads : (g : Grammar) (p : Performance) (ticks : List ℕ) (voice : List Chord) (heads : Heads) → length ticks ≤ 8193 → AreHeads g p ticks voice heads → AreLow heads
+low_heads : (g : Grammar) (p : Performance) (ticks : List ℕ) (voice : List Chord) (heads : Heads) → length ticks ≤ 8193 → AreHeads g p ticks voice heads → AreLowHeads heads
 low_heads g p ticks voice heads few h n c is = elim (cases_lt n 5) [
   | inl lt ↦
-      let at : cost_of (keys n) ≡ Some c = sym (ap (λ l. cost_at l n) h.are ∙ five_at (λ to. cost_of (keys to)) None n lt) ∙ is in
+      let at : cost_of (keys n) ≡ Some c = sym (ap (λ l. head_cost_at l n) h.are ∙ five_at (λ to. cost_of (keys to)) None n lt) ∙ is in
       let key = cost_key (keys n) c at in
       let least = least_cheap DEAREST_CELL (matrices h.tables) 0 n key.0 (cheap g (soundings voice) (bars_of g p ticks) h.tables h.each) key.1 in
       let long : length (matrices h.tables) ≤ 8192 =
@@ -89,7 +89,7 @@ low_heads g p ticks voice heads few h n c is = elim (cases_lt n 5) [
       let most : length (matrices h.tables) * DEAREST_CELL ≤ 8192 * DEAREST_CELL = mul-le-mul_right DEAREST_CELL long in
       omega (arith, least, most, key.2)
   | inr past ↦
-      let none : None ≡ Some c = sym (ap (λ l. cost_at l n) h.are ∙ past_five (λ to. cost_of (keys to)) n past) ∙ is in
+      let none : None ≡ Some c = sym (ap (λ l. head_cost_at l n) h.are ∙ past_five (λ to. cost_of (keys to)) n past) ∙ is in
       absurd (cc)
 ]
   where
@@ -97,10 +97,10 @@ low_heads g p ticks voice heads few h n c is = elim (cases_lt n 5) [
     keys = least_key (matrices h.tables) 0
 
 pub all_low : (g : Grammar) (p : Performance) (ticks : List ℕ) (voices : List (List Chord)) (heads : List Heads) → length ticks ≤ 8193
-    → Each (AreHeads g p ticks) voices heads → All AreLow heads
-all_low g p ticks [] heads few h = subst (All AreLow) (sym h) (All-nil AreLow)
+    → Each (AreHeads g p ticks) voices heads → All AreLowHeads heads
+all_low g p ticks [] heads few h = subst (All AreLowHeads) (sym h) (All-nil AreLowHeads)
 all_low g p ticks (v ∷ voices) [] few h = absurd h
-all_low g p ticks (v ∷ voices) (x ∷ heads) few h = all_cons AreLow x heads (low_heads g p ticks v x few h.0) (all_low g p ticks voices heads few h.1)
+all_low g p ticks (v ∷ voices) (x ∷ heads) few h = all_cons AreLowHeads x heads (low_heads g p ticks v x few h.0) (all_low g p ticks voices heads few h.1)
 
 -- ---- a bar more
 
@@ -110,7 +110,7 @@ costs_of h = h.costs
 abbrev longer_costs : Heads × BarTable → List (Option ℕ)
 longer_costs pair = costs_with pair.0.costs pair.1.matrix
 
-module _ (next : NextBar) (n : IsNextBar next) (t : Track) (is : IsTrackOf next next.number t) (o : Offer) (tried : IsTried next (end_of t.barring) o) where
+module _ (next : NextBar) (n : IsNextBar next) (t : Course) (is : IsCourseOf next next.number t) (o : Offer) (tried : IsTried next (barring_end t.barring) o) where
   abbrev g : Grammar
   g = next.grammar.now
 
@@ -121,7 +121,7 @@ module _ (next : NextBar) (n : IsNextBar next) (t : Track) (is : IsTrackOf next 
   ticks = t.barring.ticks
 
   abbrev x : ℕ
-  x = end_of t.barring + o.ticks
+  x = barring_end t.barring + o.ticks
 
   abbrev longer : List ℕ
   longer = ticks ++ (x ∷ [])
@@ -132,7 +132,7 @@ module _ (next : NextBar) (n : IsNextBar next) (t : Track) (is : IsTrackOf next 
   like_is : pattern_of p (length ticks - 1) ≡ Some next.like
   like_is = let at : length ticks - 1 ≡ next.number = omega (arith, is.long) in ap (pattern_of p) at ∙ n.like
 
-  rises : end_of t.barring < x
+  rises : barring_end t.barring < x
   rises = omega (arith, tried.some)
 
   last_is : last_end 0 longer ≡ x
@@ -141,7 +141,7 @@ module _ (next : NextBar) (n : IsNextBar next) (t : Track) (is : IsTrackOf next 
   longer_few : length longer ≤ 8193
   longer_few = omega (arith, length-append ticks (x ∷ []), is.long, n.few)
 
-  pub heads_low : All AreLow t.heads
+  pub heads_low : All AreLowHeads t.heads
   heads_low = all_low g p ticks next.voices.now t.heads (omega (arith, is.long, n.few)) is.heads
 
   near : Adjacent 0 (bars_of g p longer) (last_end 0 longer)
@@ -151,11 +151,11 @@ module _ (next : NextBar) (n : IsNextBar next) (t : Track) (is : IsTrackOf next 
   starts =
       let Rooted : Bar → Type 0 = λ b. root_of g.starts b.num b.den ≢ None in
       subst (All Rooted) (sym (bars_more g p ticks next.like x some like_is))
-      (All-append Rooted (bars_on p 0 ticks) (with_start (end_of t.barring) next.like ∷ []) is.starts
-      (all_cons Rooted (with_start (end_of t.barring) next.like) [] (n.rooted tried.rooted) (All-nil Rooted)))
+      (All-append Rooted (bars_on p 0 ticks) (with_start (barring_end t.barring) next.like ∷ []) is.starts
+      (all_cons Rooted (with_start (barring_end t.barring) next.like) [] (n.rooted tried.rooted) (All-nil Rooted)))
 
   all_heads : (voices : List (List Chord)) (before : List Heads) (tables : List BarTable) (after : List Heads) → Each (AreHeads g p ticks) voices before
-      → AreTablesOf g (map (cell g next.like (end_of t.barring) x) voices) tables → map costs_of after ≡ map longer_costs (zip before tables)
+      → AreTablesOf g (map (cell g next.like (barring_end t.barring) x) voices) tables → map costs_of after ≡ map longer_costs (zip before tables)
       → Each (AreHeads g p longer) voices after
   all_heads [] [] tables [] h k are = refl
   all_heads [] [] tables (a ∷ after) h k are = absurd (cc)
@@ -168,12 +168,12 @@ module _ (next : NextBar) (n : IsNextBar next) (t : Track) (is : IsTrackOf next 
       let rest : map costs_of after ≡ map longer_costs (zip before tables) = cc in
       (heads_more g p ticks next.like x some like_is v b a y h.0 k.0 own, all_heads voices before tables after h.1 k.1 rest)
 
-  module _ (tables : List BarTable) (heads : List Heads) (are_tables : AreTablesOf g (cells next (end_of t.barring) o) tables)
+  module _ (tables : List BarTable) (heads : List Heads) (are_tables : AreTablesOf g (cells next (barring_end t.barring) o) tables)
       (are : map costs_of heads ≡ map longer_costs (zip t.heads tables)) where
     are_heads : Each (AreHeads g p longer) next.voices.now heads
     are_heads = all_heads next.voices.now t.heads tables heads is.heads are_tables are
 
-    pub longer_low : All AreLow heads
+    pub longer_low : All AreLowHeads heads
     longer_low = all_low g p longer next.voices.now heads longer_few are_heads
 
     pub few_heads : length heads ≤ 16
@@ -206,7 +206,7 @@ module _ (next : NextBar) (n : IsNextBar next) (t : Track) (is : IsTrackOf next 
     pub is_lost : total (nat_le next.closing x) heads ≡ None → IsFound g p draft lost
     is_lost none c = by (nat_le next.closing x) refl
       where
-        by : (b : Bool) → nat_le next.closing x ≡ b → (GoesOn g p longer c → ⊥) × (IsWhole g p longer c → ⊥)
+        by : (b : Bool) → nat_le next.closing x ≡ b → (IsOpenAt g p longer c → ⊥) × (IsWholeAt g p longer c → ⊥)
         by true at = (
           λ h. true≢false (sym (closed_is ∙ at) ∙ h.open_end),
           λ h. no_whole_cost g p longer n.formed n.readable.ranges.some_unit starts near (closed_is ∙ at) next.voices.now heads n.chords are_heads
@@ -240,8 +240,8 @@ module _ (next : NextBar) (n : IsNextBar next) (t : Track) (is : IsTrackOf next 
       refl,
     )
 
-    pub is_track : (c : ℕ) → IsTrackOf next (next.number + 1) (record { barring = at_cost draft c; heads = heads })
-    is_track c = record {
+    pub is_course : (c : ℕ) → IsCourseOf next (next.number + 1) (record { barring = at_cost draft c; heads = heads })
+    is_course c = record {
       long = omega (arith, length-append ticks (x ∷ []), is.long);
       starts = starts;
       near = near;

@@ -9,8 +9,8 @@ use Rattle.std.proofs.lemmas.List.Elements.{Contains-append_cases, Contains-appe
 use Rattle.std.proofs.lemmas.List.{length_push}
 use Rattle.std.proofs.lemmas.List.Kept.{AllPairs-filter}
 use Rattle.rhythm_base.specs.Lists.{list_with}
-use Rattle.rhythm_laws.proofs.FirstLists.{contains_split}
-use Rattle.rhythm_laws.proofs.OrderedLists.{earlier, put_in_order}
+use Rattle.rhythm_base.proofs.FirstLists.{contains_split}
+use Rattle.rhythm_base.proofs.OrderedLists.{earlier, put_in_order}
 use Rattle.barline_follow.specs.Least.{AreFirstLeast, IsFirstLeast}
 
 -- ---- members

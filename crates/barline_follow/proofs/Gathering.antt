@@ -6,9 +6,9 @@ use Rattle.std.specs.Cmp.Lexicographic.{slice_cmp}
 use Rattle.std.specs.Ordering.{nat_cmp}
 use Rattle.std.specs.declared.cmp.Ordering.TheVariants.{Less}
 use Rattle.std.proofs.lemmas.List.{append-nil, get_or-map, length-map, length-take, map-append, take-map}
-use Rattle.barline_follow.specs.Barring.{Barring, Track, best_of, better, end_of, is_below, track_end, track_value, value_of}
+use Rattle.barline_follow.specs.Barring.{Barring, Course, best_of, better, barring_end, is_below, course_end, course_value, barring_value}
 use Rattle.barline_follow.specs.Gathered.{IsGathered, Round, barring_of}
-use Rattle.barline_follow.specs.Least.{AreFirstLeast, IsFirstLeast}
+use Rattle.barline_follow.specs.Least.{AreFewLeast, AreFirstLeast, IsFirstLeast}
 use Rattle.barline_follow.specs.Rounds.{Found, IsNextFront, going, going_on, lost, whole, whole_one}
 use Rattle.barline_follow.proofs.FirstLeast.{from_filtered, got_contained, later}
 
@@ -90,7 +90,7 @@ pub all_pass : {X : Type 0} (xs : List X) → xs ≡ filter (λ x. true) xs
 all_pass [] = refl
 all_pass (x ∷ xs) = ap (λ l. x ∷ l) (all_pass xs)
 
-pub none_above : (best : Option Barring) (xs : List Track) → ((b : Barring) → best ≡ Some b → ⊥) → xs ≡ filter (λ t. is_below best t.barring) xs
+pub none_above : (best : Option Barring) (xs : List Course) → ((b : Barring) → best ≡ Some b → ⊥) → xs ≡ filter (λ t. is_below best t.barring) xs
 none_above None xs none = all_pass xs
 none_above (Some b) xs none = absurd (none b refl)
 
@@ -112,20 +112,20 @@ module _ {X Y : Type 0} (h : X → Option Y) where
 
 -- ---- one more
 
-module _ (best : Option Barring) (found : List Found) (tracks : List Track) (r : Round) (h : IsGathered best found tracks r) where
-  pub lost_more : IsGathered best (found ++ (lost ∷ [])) (tracks ++ []) r
+module _ (best : Option Barring) (found : List Found) (courses : List Course) (r : Round) (h : IsGathered best found courses r) where
+  pub lost_more : IsGathered best (found ++ (lost ∷ [])) (courses ++ []) r
   lost_more = record {
     best_is = h.best_is ∙ ap (best_of best) (sym (given_none whole_one found lost refl));
-    are = ap (map barring_of) (append-nil tracks) ∙ h.are ∙ sym (given_none going_on found lost refl);
-    kept = subst (λ (l : List Track). AreFirstLeast track_value track_end l r.kept) (sym (append-nil tracks)) h.kept;
+    are = ap (map barring_of) (append-nil courses) ∙ h.are ∙ sym (given_none going_on found lost refl);
+    kept = subst (λ (l : List Course). AreFewLeast course_value course_end 24 l r.kept) (sym (append-nil courses)) h.kept;
   }
 
-  pub going_more : (track : Track) (kept : List Track) → AreFirstLeast track_value track_end (tracks ++ (track ∷ [])) kept
-      → IsGathered best (found ++ (going track.barring ∷ [])) (tracks ++ (track ∷ [])) (record { kept = kept; best = r.best })
-  going_more track kept are = record {
-    best_is = h.best_is ∙ ap (best_of best) (sym (given_none whole_one found (going track.barring) refl));
-    are = map-append barring_of tracks (track ∷ []) ∙ ap (λ l. l ++ (track.barring ∷ [])) h.are
-        ∙ sym (given_some going_on found (going track.barring) track.barring refl);
+  pub going_more : (course : Course) (kept : List Course) → AreFewLeast course_value course_end 24 (courses ++ (course ∷ [])) kept
+      → IsGathered best (found ++ (going course.barring ∷ [])) (courses ++ (course ∷ [])) (record { kept = kept; best = r.best })
+  going_more course kept are = record {
+    best_is = h.best_is ∙ ap (best_of best) (sym (given_none whole_one found (going course.barring) refl));
+    are = map-append barring_of courses (course ∷ []) ∙ ap (λ l. l ++ (course.barring ∷ [])) h.are
+        ∙ sym (given_some going_on found (going course.barring) course.barring refl);
     kept = are;
   }
 
@@ -133,38 +133,40 @@ module _ (best : Option Barring) (found : List Found) (tracks : List Track) (r :
   folded [] b o = refl
   folded (x ∷ xs) b o = folded xs b (better o x)
 
-  pub whole_more : (barring : Barring) → IsGathered best (found ++ (whole barring ∷ [])) (tracks ++ []) (record { kept = r.kept; best = better r.best barring })
+  pub whole_more : (barring : Barring) → IsGathered best (found ++ (whole barring ∷ [])) (courses ++ []) (record { kept = r.kept; best = better r.best barring })
   whole_more barring = record {
     best_is = ap (λ o. better o barring) h.best_is ∙ sym (folded (filter_map whole_one found) barring best)
         ∙ ap (best_of best) (sym (given_some whole_one found (whole barring) barring refl));
-    are = ap (map barring_of) (append-nil tracks) ∙ h.are ∙ sym (given_none going_on found (whole barring) refl);
-    kept = subst (λ (l : List Track). AreFirstLeast track_value track_end l r.kept) (sym (append-nil tracks)) h.kept;
+    are = ap (map barring_of) (append-nil courses) ∙ h.are ∙ sym (given_none going_on found (whole barring) refl);
+    kept = subst (λ (l : List Course). AreFewLeast course_value course_end 24 l r.kept) (sym (append-nil courses)) h.kept;
   }
 
--- the first 24 of what is kept, without what is not below the best
-pub next_front : (best : Option Barring) (found : List Found) (tracks : List Track) (r : Round) (front : List Track) → IsGathered best found tracks r
-    → front ≡ filter (λ t. is_below r.best t.barring) (take 24 r.kept) → IsNextFront r.best (filter_map going_on found) (map barring_of front)
-next_front best found tracks r front h is = (
-  map barring_of r.kept,
-  subst (λ l. AreFirstLeast value_of end_of l (map barring_of r.kept)) h.are (kept_map barring_of value_of end_of tracks r.kept h.kept),
-  ap (map barring_of) is ∙ map_filter barring_of (is_below r.best) (take 24 r.kept) ∙ ap (filter (is_below r.best)) (sym (take-map barring_of 24 r.kept)),
-)
+-- what is kept, without what is not below the best
+pub next_front : (best : Option Barring) (found : List Found) (courses : List Course) (r : Round) (front : List Course) → IsGathered best found courses r
+    → front ≡ filter (λ t. is_below r.best t.barring) r.kept → IsNextFront r.best (filter_map going_on found) (map barring_of front)
+next_front best found courses r front h is =
+    let all : List Course = h.kept.0 in (
+      map barring_of all,
+      subst (λ l. AreFirstLeast barring_value barring_end l (map barring_of all)) h.are (kept_map barring_of barring_value barring_end courses all h.kept.1),
+      ap (map barring_of) (is ∙ ap (filter (λ (t : Course). is_below r.best t.barring)) h.kept.2)
+          ∙ map_filter barring_of (is_below r.best) (take 24 all) ∙ ap (filter (is_below r.best)) (sym (take-map barring_of 24 all)),
+    )
 
-taken : {X : Type 0} (n : ℕ) (xs : List X) (x : X) → Contains (take n xs) x → Contains xs x
+pub taken : {X : Type 0} (n : ℕ) (xs : List X) (x : X) → Contains (take n xs) x → Contains xs x
 taken zero xs x c = absurd (omega (arith, c.1))
 taken (suc n) [] x c = c
 taken (suc n) (y ∷ xs) x (zero, lt, is) = (zero, omega arith, is)
 taken (suc n) (y ∷ xs) x (suc k, lt, is) = later y x xs (taken n xs x (k, omega (arith, lt), is))
 
 -- they are lists that go on, and no more than 24
-pub among : (best : Option Barring) (found : List Found) (tracks : List Track) (r : Round) (front : List Track) → IsGathered best found tracks r
-    → front ≡ filter (λ t. is_below r.best t.barring) (take 24 r.kept) → (track : Track) → Contains front track → Contains tracks track
-among best found tracks r front h is track c =
-    let there : Contains (take 24 r.kept) track = from_filtered (λ t. is_below r.best t.barring) (take 24 r.kept) track (subst (λ (l : List Track). Contains l track) is c) in
-    let first = (h.kept.exactly track).0 (taken 24 r.kept track there) in
-    got_contained tracks first.place track first.there
+pub among : (best : Option Barring) (found : List Found) (courses : List Course) (r : Round) (front : List Course) → IsGathered best found courses r
+    → front ≡ filter (λ t. is_below r.best t.barring) r.kept → (course : Course) → Contains front course → Contains courses course
+among best found courses r front h is course c =
+    let there : Contains r.kept course = from_filtered (λ t. is_below r.best t.barring) r.kept course (subst (λ (l : List Course). Contains l course) is c) in
+    let first = (h.kept.1.exactly course).0 (taken 24 h.kept.0 course (subst (λ (l : List Course). Contains l course) h.kept.2 there)) in
+    got_contained courses first.place course first.there
 
-filter_short : {X : Type 0} (p : X → Bool) (xs : List X) → length (filter p xs) ≤ length xs
+pub filter_short : {X : Type 0} (p : X → Bool) (xs : List X) → length (filter p xs) ≤ length xs
 filter_short p [] = omega arith
 filter_short p (x ∷ xs) = by (p x) (filter_short p xs)
   where
@@ -172,8 +174,9 @@ filter_short p (x ∷ xs) = by (p x) (filter_short p xs)
     by true le = omega (arith, le)
     by false le = omega (arith, le)
 
-pub few_kept : (best : Option Barring) (kept front : List Track) → front ≡ filter (λ t. is_below best t.barring) (take 24 kept) → length front ≤ 24
-few_kept best kept front is =
-    let short = filter_short (λ (t : Track). is_below best t.barring) (take 24 kept) in
-    let taken_short = length-take 24 kept in
-    omega (arith, ap length is, short, taken_short)
+pub few_kept : (best : Option Barring) (found : List Found) (courses : List Course) (r : Round) (front : List Course) → IsGathered best found courses r
+    → front ≡ filter (λ t. is_below r.best t.barring) r.kept → length front ≤ 24
+few_kept best found courses r front h is =
+    let short = filter_short (λ (t : Course). is_below r.best t.barring) r.kept in
+    let few = length-take 24 h.kept.0 in
+    omega (arith, ap length is, short, ap length h.kept.2, few)

@@ -14,7 +14,7 @@ use Rattle.rhythm_base.specs.declared.note.Note.{Note}
 use Rattle.rhythm_base.specs.BarTables.{BarTable}
 use Rattle.rhythm_base.specs.Cost.{cost}
 use Rattle.rhythm_base.specs.DeadBars.{end_of_bars}
-use Rattle.rhythm_base.specs.Edits.{is_past}
+use Rattle.edit_laws.specs.Edits.{is_past}
 use Rattle.rhythm_base.specs.Forest.{Tree}
 use Rattle.rhythm_base.specs.Grammar.{Grammar}
 use Rattle.rhythm_base.specs.Least.{IsLeast}
@@ -25,21 +25,22 @@ use Rattle.rhythm_base.specs.Paths.{IsPathKey}
 use Rattle.rhythm_base.specs.Performance.{IsWellFormed, Performance}
 use Rattle.rhythm_base.specs.Ranked.{Key, five, least_key}
 use Rattle.rhythm_base.specs.Voices.{AreChordsOf, HasStarts, IsCostOf, IsLeastCost, IsSumOfCosts, notes_of_voice, voice_bars}
-use Rattle.rhythm_laws.specs.Tables.{IsLeastKey}
-use Rattle.rhythm_laws.specs.Voices.{Adjacent, CellsFit, IsVoice, cell_costs}
-use Rattle.rhythm_laws.proofs.ChordLemmas.{onsets_keep}
-use Rattle.rhythm_laws.proofs.Costs.{cost-cells}
-use Rattle.rhythm_laws.proofs.Local.{cells-fit, fits-cells}
-use Rattle.rhythm_laws.proofs.OrderedLists.{all_cons, all_head, all_tail}
-use Rattle.rhythm_laws.proofs.PathTables.{keys-least_path}
-use Rattle.rhythm_laws.proofs.PerformedVoices.{rising}
-use Rattle.rhythm_laws.proofs.Products.{five_at}
-use Rattle.rhythm_laws.proofs.Uniqueness.{not_less, one_chords}
+use Rattle.path_laws.specs.Tables.{IsLeastKey}
+use Rattle.tree_laws.specs.Voices.{Adjacent, CellsFit, IsVoice, cell_costs}
+use Rattle.performance_laws.proofs.ChordLemmas.{onsets_keep}
+use Rattle.tree_laws.proofs.Costs.{cost-cells}
+use Rattle.tree_laws.proofs.Local.{cells-fit, fits-cells}
+use Rattle.rhythm_base.proofs.OrderedLists.{all_cons, all_head, all_tail}
+use Rattle.path_laws.proofs.PathTables.{keys-least_path}
+use Rattle.performance_laws.proofs.PerformedVoices.{rising}
+use Rattle.path_laws.proofs.Products.{five_at}
+use Rattle.tree_laws.proofs.OneDerivations.{not_less}
+use Rattle.performance_laws.proofs.OneChords.{one_chords}
 use Rattle.barline_follow.specs.declared.heads.Heads.{Heads}
 use Rattle.barline_follow.specs.Bars.{bars_on, is_closed, with_barlines}
-use Rattle.barline_follow.specs.Costs.{cost_at, least_of_five, own_cost, sum, total}
-use Rattle.barline_follow.specs.HeadCost.{IsHeadCost, IsHeadOfVoice, IsRun, IsSum, chords_in, run_cost}
-use Rattle.barline_follow.specs.Tracks.{AreHeads, bars_of}
+use Rattle.barline_follow.specs.Costs.{head_cost_at, least_of_five, own_cost, sum, total}
+use Rattle.barline_follow.specs.HeadCost.{IsHeadCost, IsHeadOfVoice, IsHeadRun, IsSum, chords_in, run_cost}
+use Rattle.barline_follow.specs.Courses.{AreHeads, bars_of}
 use Rattle.barline_follow.proofs.CostLemmas.{cost_key, least_is, least_low, not_less_cost}
 use Rattle.barline_follow.proofs.LongerBars.{one_voice}
 
@@ -147,8 +148,8 @@ module _ (g : Grammar) (p : Performance) (ticks : List ℕ) (formed : IsWellForm
   near_end : Adjacent 0 bars (end_of_bars 0 bars)
   near_end = subst (Adjacent 0 bars) (sym end_is) near
 
-  at_five : (heads : Heads) (keys : ℕ → Option Key) (n : ℕ) → n < 5 → heads.costs ≡ five (λ to. cost_of (keys to)) → cost_at heads.costs n ≡ cost_of (keys n)
-  at_five heads keys n lt are = ap (λ l. cost_at l n) are ∙ five_at (λ to. cost_of (keys to)) None n lt
+  at_five : (heads : Heads) (keys : ℕ → Option Key) (n : ℕ) → n < 5 → heads.costs ≡ five (λ to. cost_of (keys to)) → head_cost_at heads.costs n ≡ cost_of (keys n)
+  at_five heads keys n lt are = ap (λ l. head_cost_at l n) are ∙ five_at (λ to. cost_of (keys to)) None n lt
 
   head_of : (channel : ℕ) (voice : List Chord) (heads : Heads) → AreChordsOf g p channel voice → AreHeads g p ticks voice heads
       → (c : ℕ) → own_cost false heads ≡ Some c → IsHeadOfVoice g p ticks channel c
@@ -156,21 +157,21 @@ module _ (g : Grammar) (p : Performance) (ticks : List ℕ) (formed : IsWellForm
   head_of channel voice heads chords h c is =
       let rise : Rising 0 (soundings voice) = rising g p channel voice formed chords in
       let keys : ℕ → Option Key = least_key (matrices h.tables) 0 in
-      let own = least_is (cost_at heads.costs) 5 c is in
+      let own = least_is (head_cost_at heads.costs) 5 c is in
       let at : cost_of (keys own.0) ≡ Some c = sym (at_five heads keys own.0 own.1 h.are) ∙ own.2 in
       let run = path_run g bars (soundings voice) h.tables some near_end rise h.each own.0 c at in
-      let first : (others : List Tree) → IsRun g bars (soundings voice) others → c ≤ run_cost g bars (soundings voice) others =
+      let first : (others : List Tree) → IsHeadRun g bars (soundings voice) others → c ≤ run_cost g bars (soundings voice) others =
       λ others r.
       let low = run_path g bars (soundings voice) h.tables some near_end rise h.each r.to others r.few r.fits in
-      let least = least_low (cost_at heads.costs) 5 r.to low.0 (omega (arith, r.few)) (at_five heads keys r.to (omega (arith, r.few)) h.are ∙ low.1) in
+      let least = least_low (head_cost_at heads.costs) 5 r.to low.0 (omega (arith, r.few)) (at_five heads keys r.to (omega (arith, r.few)) h.are ∙ low.1) in
       let same : Some least.0 ≡ Some c = sym least.1 ∙ is in
       let same_cost : least.0 ≡ c = cc in
       omega (arith, same_cost, least.2, low.2) in
-      let it : (trees : List Tree) × IsRun g bars (soundings voice) trees × (c ≡ run_cost g bars (soundings voice) trees)
-      × ((others : List Tree) → IsRun g bars (soundings voice) others → c ≤ run_cost g bars (soundings voice) others) =
+      let it : (trees : List Tree) × IsHeadRun g bars (soundings voice) trees × (c ≡ run_cost g bars (soundings voice) trees)
+      × ((others : List Tree) → IsHeadRun g bars (soundings voice) others → c ≤ run_cost g bars (soundings voice) others) =
       (run.0, record { to = own.0; fits = run.1; few = omega (arith, own.1) }, run.2, first) in
-      let there = subst (λ (bs : List VoiceBar). (trees : List Tree) × IsRun g bs (soundings voice) trees × (c ≡ run_cost g bs (soundings voice) trees)
-      × ((others : List Tree) → IsRun g bs (soundings voice) others → c ≤ run_cost g bs (soundings voice) others)) (bars_are channel) it in
+      let there = subst (λ (bs : List VoiceBar). (trees : List Tree) × IsHeadRun g bs (soundings voice) trees × (c ≡ run_cost g bs (soundings voice) trees)
+      × ((others : List Tree) → IsHeadRun g bs (soundings voice) others → c ≤ run_cost g bs (soundings voice) others)) (bars_are channel) it in
       record { starts = starts; chords = voice; are_chords = chords; trees = there.0; run = there.1; is = there.2; least = there.3 }
 
   no_head : (channel : ℕ) (voice : List Chord) (heads : Heads) → AreChordsOf g p channel voice → AreHeads g p ticks voice heads
@@ -180,11 +181,11 @@ module _ (g : Grammar) (p : Performance) (ticks : List ℕ) (formed : IsWellForm
       let rise : Rising 0 (soundings voice) = rising g p channel voice formed chords in
       let keys : ℕ → Option Key = least_key (matrices h.tables) 0 in
       let same : head.chords ≡ voice = one_chords p.tempos p.division g.window (notes_of_voice p channel) head.chords voice head.are_chords chords in
-      let r : IsRun g bars (soundings voice) head.trees =
-      subst (λ (bs : List VoiceBar). IsRun g bs (soundings voice) head.trees) (sym (bars_are channel))
-      (subst (λ (cs : List Chord). IsRun g (voice_bars g (with_barlines p ticks) channel) (soundings cs) head.trees) same head.run) in
+      let r : IsHeadRun g bars (soundings voice) head.trees =
+      subst (λ (bs : List VoiceBar). IsHeadRun g bs (soundings voice) head.trees) (sym (bars_are channel))
+      (subst (λ (cs : List Chord). IsHeadRun g (voice_bars g (with_barlines p ticks) channel) (soundings cs) head.trees) same head.run) in
       let low = run_path g bars (soundings voice) h.tables some near_end rise h.each r.to head.trees r.few r.fits in
-      let least = least_low (cost_at heads.costs) 5 r.to low.0 (omega (arith, r.few)) (at_five heads keys r.to (omega (arith, r.few)) h.are ∙ low.1) in
+      let least = least_low (head_cost_at heads.costs) 5 r.to low.0 (omega (arith, r.few)) (at_five heads keys r.to (omega (arith, r.few)) h.are ∙ low.1) in
       let wrong : Some least.0 ≡ None = sym least.1 ∙ is in
       absurd (cc)
 

@@ -6,7 +6,7 @@ use Rattle.rhythm_base.specs.declared.edit.Edit.TheVariants.{AddBar, Barline, Dr
 use Rattle.rhythm_base.specs.declared.note.Bar.{Bar}
 use Rattle.rhythm_base.specs.declared.pin.Pin as pin
 use Rattle.rhythm_base.specs.Barlines.{barline, nominal, nominal_of}
-use Rattle.rhythm_base.specs.Edits.{next_bar, performance_after, with_barline, with_start}
+use Rattle.edit_laws.specs.Edits.{next_bar, performance_after, with_barline, with_start}
 use Rattle.rhythm_base.specs.Lists.{last_end, last_of}
 use Rattle.rhythm_base.specs.Performance.{Performance}
 use Rattle.barline_follow.proofs.Further.{last_pushed}

@@ -12,7 +12,7 @@ use Rattle.rhythm_base.specs.declared.note.Bar.{Bar}
 use Rattle.rhythm_base.specs.Barlines.{barline}
 use Rattle.rhythm_base.specs.BarTables.{BarTable, IsTable}
 use Rattle.rhythm_base.specs.Cells.{input}
-use Rattle.rhythm_base.specs.Edits.{next_bar, with_start}
+use Rattle.edit_laws.specs.Edits.{next_bar, with_start}
 use Rattle.rhythm_base.specs.Grammar.{Grammar}
 use Rattle.rhythm_base.specs.Leaves.{VoiceBar, soundings}
 use Rattle.rhythm_base.specs.Lists.{last_end}
@@ -20,13 +20,13 @@ use Rattle.rhythm_base.specs.Paths.{IsRanked}
 use Rattle.rhythm_base.specs.Performance.{Performance}
 use Rattle.rhythm_base.specs.Ranked.{CarryMatrix, at, five, least_key}
 use Rattle.rhythm_base.specs.Voices.{voice_bar, voice_bars_from}
-use Rattle.rhythm_laws.specs.Voices.{Adjacent}
-use Rattle.rhythm_laws.proofs.PathTables.{keys_append, table_single}
-use Rattle.rhythm_laws.proofs.Products.{five_at, five_same}
+use Rattle.tree_laws.specs.Voices.{Adjacent}
+use Rattle.path_laws.proofs.PathTables.{keys_append, table_single}
+use Rattle.path_laws.proofs.Products.{five_at, five_same}
 use Rattle.barline_follow.specs.declared.heads.Heads.{Heads}
 use Rattle.barline_follow.specs.Bars.{bars_on, pattern_of}
-use Rattle.barline_follow.specs.Costs.{cost_at, costs_with, least_below, least_of_five, sum}
-use Rattle.barline_follow.specs.Tracks.{AreHeads, bars_of, cell}
+use Rattle.barline_follow.specs.Costs.{head_cost_at, costs_with, least_below, least_of_five, sum}
+use Rattle.barline_follow.specs.Courses.{AreHeads, bars_of, cell}
 use Rattle.barline_follow.proofs.CostLemmas.{least_same, times_cost}
 use Rattle.barline_follow.proofs.Further.{last_pushed}
 
@@ -105,10 +105,10 @@ module _ (g : Grammar) (p : Performance) (ticks : List ℕ) (like : Bar) (x : �
       → costs_with costs m ≡ five (λ to. cost_of (least_key (es ++ (m ∷ [])) 0 to))
   unfolding least_of_five
   costs_more costs es m ranked are =
-      five_same (λ to. least_below (λ from. sum (cost_at costs from) (best_cost (at m from to))) 5) (λ to. cost_of (least_key (es ++ (m ∷ [])) 0 to))
+      five_same (λ to. least_below (λ from. sum (head_cost_at costs from) (best_cost (at m from to))) 5) (λ to. cost_of (least_key (es ++ (m ∷ [])) 0 to))
       (λ to lt. sym (ap cost_of (keys_append es (m ∷ []) 0 to (omega arith)) ∙ times_cost (least_key es) (least_key (m ∷ [])) 0 to
-      ∙ least_same (λ f. sum (cost_of (least_key es 0 f)) (cost_of (least_key (m ∷ []) f to))) (λ f. sum (cost_at costs f) (best_cost (at m f to))) 5
-      (λ f lf. ap₂ sum (sym (ap (λ c. cost_at c f) are ∙ five_at (λ t. cost_of (least_key es 0 t)) None f lf)) (one_table m f to ranked lf lt))))
+      ∙ least_same (λ f. sum (cost_of (least_key es 0 f)) (cost_of (least_key (m ∷ []) f to))) (λ f. sum (head_cost_at costs f) (best_cost (at m f to))) 5
+      (λ f lf. ap₂ sum (sym (ap (λ c. head_cost_at c f) are ∙ five_at (λ t. cost_of (least_key es 0 t)) None f lf)) (one_table m f to ranked lf lt))))
 
   -- the heads with a bar more
   pub heads_more : (voice : List Chord) (before after : Heads) (t : BarTable) → AreHeads g p ticks voice before

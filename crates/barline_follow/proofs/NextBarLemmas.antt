@@ -18,16 +18,16 @@ use Rattle.rhythm_base.specs.declared.limits.TheConstants.{LATEST_TICK}
 use Rattle.rhythm_base.specs.declared.note.Bar.{Bar}
 use Rattle.rhythm_base.specs.declared.note.Note.{Note}
 use Rattle.rhythm_base.specs.BarInput.{BarInput}
-use Rattle.rhythm_base.specs.Edits.{is_past}
+use Rattle.edit_laws.specs.Edits.{is_past}
 use Rattle.rhythm_base.specs.Grammar.{Grammar, root_of}
 use Rattle.rhythm_base.specs.Performance.{IsWellFormed, Performance}
 use Rattle.rhythm_base.specs.Signatures.{IsSignature}
 use Rattle.rhythm_base.specs.Voices.{HasStarts}
-use Rattle.rhythm_laws.proofs.OrderedLists.{all_head}
+use Rattle.rhythm_base.proofs.OrderedLists.{all_head}
 use Rattle.barline_follow.specs.Bars.{pattern_of}
-use Rattle.barline_follow.specs.Barring.{Track, end_of}
+use Rattle.barline_follow.specs.Barring.{Course, barring_end}
 use Rattle.barline_follow.specs.NextBars.{all_cells, can_be, cells}
-use Rattle.barline_follow.specs.Tracks.{cell}
+use Rattle.barline_follow.specs.Courses.{cell}
 use Rattle.barline_follow.proofs.Searching.{zip_more}
 
 pub like_signature : (p : Performance) (i : ℕ) (b : Bar) → IsWellFormed p → pattern_of p i ≡ Some b → IsSignature b.num b.den
@@ -37,22 +37,22 @@ like_signature p i b formed is =
     subst (λ (x : Bar). IsSignature x.num x.den) (get_or_from_slice_get p.bars k b b is) (formed.bars k b within).signature
 
 -- the inputs of one list more
-pub all_cells_more : (next : NextBar) (front : List Track) (tried : List (Vec Offer Global)) (n : ℕ) (d : Track) (e : Vec Offer Global) → n < length front
+pub all_cells_more : (next : NextBar) (front : List Course) (tried : List (Vec Offer Global)) (n : ℕ) (d : Course) (e : Vec Offer Global) → n < length front
     → n < length tried → all_cells next (take (n + 1) front) (map (λ own. own.items) (take (n + 1) tried))
-    ≡ all_cells next (take n front) (map (λ own. own.items) (take n tried)) ++ flat_map (cells next (end_of (get_or front n d).barring)) (get_or tried n e).items
+    ≡ all_cells next (take n front) (map (λ own. own.items) (take n tried)) ++ flat_map (cells next (barring_end (get_or front n d).barring)) (get_or tried n e).items
 all_cells_more next front tried n d e low high =
-    let G : Track × List Offer → List BarInput = λ pair. flat_map (cells next (end_of pair.0.barring)) pair.1 in
-    let own : List BarInput = flat_map (cells next (end_of (get_or front n d).barring)) (get_or tried n e).items in
+    let G : Course × List Offer → List BarInput = λ pair. flat_map (cells next (barring_end pair.0.barring)) pair.1 in
+    let own : List BarInput = flat_map (cells next (barring_end (get_or front n d).barring)) (get_or tried n e).items in
     ap (flat_map G) (zip_more (λ (own : Vec Offer Global). own.items) front tried n d e low high)
     ∙ flat_map-append G (zip (take n front) (map (λ own. own.items) (take n tried))) ((get_or front n d, (get_or tried n e).items) ∷ [])
     ∙ ap (λ l. all_cells next (take n front) (map (λ own. own.items) (take n tried)) ++ l) (append-nil own)
 
 -- those that are left, list after list
-pub all_cells_next : (next : NextBar) (front : List Track) (tried : List (Vec Offer Global)) (n : ℕ) (d : Track) (e : Vec Offer Global) → n < length front
+pub all_cells_next : (next : NextBar) (front : List Course) (tried : List (Vec Offer Global)) (n : ℕ) (d : Course) (e : Vec Offer Global) → n < length front
     → n < length tried → all_cells next (drop n front) (map (λ own. own.items) (drop n tried))
-    ≡ flat_map (cells next (end_of (get_or front n d).barring)) (get_or tried n e).items ++ all_cells next (drop (n + 1) front) (map (λ own. own.items) (drop (n + 1) tried))
+    ≡ flat_map (cells next (barring_end (get_or front n d).barring)) (get_or tried n e).items ++ all_cells next (drop (n + 1) front) (map (λ own. own.items) (drop (n + 1) tried))
 all_cells_next next front tried n d e low high =
-    ap₂ (λ (f : List Track) (t : List (Vec Offer Global)). all_cells next f (map (λ own. own.items) t)) (drop_more front n d low) (drop_more tried n e high)
+    ap₂ (λ (f : List Course) (t : List (Vec Offer Global)). all_cells next f (map (λ own. own.items) t)) (drop_more front n d low) (drop_more tried n e high)
 
 -- a bar that ends by a tick is no longer than what is left up to there
 le_moved : (a b m : ℕ) → a ≤ m → nat_le b (m - a) ≡ nat_le (a + b) m
@@ -74,12 +74,12 @@ all_rows : {X Y : Type 0} (P : Y → Type 0) (f : X → List Y) (xs : List X) �
 all_rows P f [] h = All-nil P
 all_rows P f (x ∷ xs) h = All-append P (f x) (flat_map f xs) (h x) (all_rows P f xs h)
 
-pub units_are : (next : NextBar) (front : List Track) (tried : List (List Offer)) → All (λ k. k.resolution ≡ next.grammar.now.resolution) (all_cells next front tried)
+pub units_are : (next : NextBar) (front : List Course) (tried : List (List Offer)) → All (λ k. k.resolution ≡ next.grammar.now.resolution) (all_cells next front tried)
 units_are next front tried =
     let Units : BarInput → Type 0 = λ k. k.resolution ≡ next.grammar.now.resolution in
-    all_rows Units (λ (pair : Track × List Offer). flat_map (cells next (end_of pair.0.barring)) pair.1) (zip front tried)
-    (λ pair. all_rows Units (cells next (end_of pair.0.barring)) pair.1
-    (λ o. All-map Units (cell next.grammar.now next.like (end_of pair.0.barring) (end_of pair.0.barring + o.ticks)) next.voices.now (λ k d lt. refl)))
+    all_rows Units (λ (pair : Course × List Offer). flat_map (cells next (barring_end pair.0.barring)) pair.1) (zip front tried)
+    (λ pair. all_rows Units (cells next (barring_end pair.0.barring)) pair.1
+    (λ o. All-map Units (cell next.grammar.now next.like (barring_end pair.0.barring) (barring_end pair.0.barring + o.ticks)) next.voices.now (λ k d lt. refl)))
 
 -- whether the bar has a root symbol is what the look-up says
 pub rooted_is : (g : Grammar) (b : Bar) (r : Result (Unit {0}) CutFault) → IfOk r (λ _. HasStarts g (b ∷ []))

@@ -2,14 +2,14 @@
 use Rattle.std.proofs.Common.{◌≡◌, ℕ, List, [], ◌∷◌, sym, ap, ◌∙◌, subst, Result, Ok}
 use Rattle.std.specs.Prelude.{filter, take, Option}
 use Rattle.std.specs.Cmp.Lexicographic.{nat_list_cmp_total}
-use Rattle.rhythm_laws.proofs.FirstLists.{one_earlier, one_order}
+use Rattle.rhythm_base.proofs.FirstLists.{one_earlier, one_order}
 use Rattle.rhythm_base.specs.declared.edit.Edit.{Edit}
 use Rattle.rhythm_base.specs.declared.edit_fault.EditFault.{EditFault}
-use Rattle.rhythm_base.specs.Edits.{edited}
+use Rattle.edit_laws.specs.Edits.{edited}
 use Rattle.rhythm_base.specs.Grammar.{Grammar}
 use Rattle.rhythm_base.specs.Performance.{Performance}
 use Rattle.barline_follow.specs.declared.offers.Offer.{Offer}
-use Rattle.barline_follow.specs.Barring.{Barring, end_of, is_below, value_of}
+use Rattle.barline_follow.specs.Barring.{Barring, barring_end, is_below, barring_value}
 use Rattle.barline_follow.specs.Least.{AreFirstLeast}
 use Rattle.barline_follow.specs.Offers.{AreOffers, proposals}
 use Rattle.barline_follow.specs.Rounds.{IsNextFront}
@@ -30,7 +30,7 @@ one_offers g p i before a b h k = one_first_least (λ o. o.price) (λ o. o.ticks
 
 pub one_front : (best : Option Barring) (bs a b : List Barring) → IsNextFront best bs a → IsNextFront best bs b → a ≡ b
 one_front best bs a b h k =
-    h.2 ∙ ap (λ (kept : List Barring). filter (is_below best) (take 24 kept)) (one_first_least value_of end_of bs h.0 k.0 h.1 k.1) ∙ sym k.2
+    h.2 ∙ ap (λ (kept : List Barring). filter (is_below best) (take 24 kept)) (one_first_least barring_value barring_end bs h.0 k.0 h.1 k.1) ∙ sym k.2
 
 pub same_next : (r : Result Performance EditFault) (a b : Performance) → r ≡ Ok a → r ≡ Ok b → a ≡ b
 same_next r a b h k = let both : Ok a ≡ Ok b = sym h ∙ k in cc

@@ -10,13 +10,13 @@ use Rattle.rhythm_base.specs.Leaves.{soundings}
 use Rattle.rhythm_base.specs.Lists.{Each}
 use Rattle.rhythm_base.specs.Performance.{Performance}
 use Rattle.rhythm_base.specs.Voices.{notes_of_voice, voice_bars}
-use Rattle.rhythm_laws.proofs.OneAnswers.{one_cost_of}
-use Rattle.rhythm_laws.proofs.Uniqueness.{one_chords}
+use Rattle.performance_laws.proofs.OneVoices.{one_cost_of}
+use Rattle.performance_laws.proofs.OneChords.{one_chords}
 use Rattle.barline_follow.specs.declared.offers.Offer.{Offer}
 use Rattle.barline_follow.specs.Answer.{IsAnswer, chosen}
 use Rattle.barline_follow.specs.Bars.{with_barlines}
 use Rattle.barline_follow.specs.Barring.{Barring, best_of, last_length}
-use Rattle.barline_follow.specs.HeadCost.{IsHeadCost, IsHeadOfVoice, IsRun, IsSum, run_cost}
+use Rattle.barline_follow.specs.HeadCost.{IsHeadCost, IsHeadOfVoice, IsHeadRun, IsSum, run_cost}
 use Rattle.barline_follow.specs.Offers.{AreOffers}
 use Rattle.barline_follow.specs.Rounds.{ComeTo, Draft, Found, IsBest, IsFound, IsNextFront, IsRound, at_cost, going, going_on, lost, no_bars, rows, whole, whole_one}
 use Rattle.barline_follow.specs.Script.{Leads, script}
@@ -34,7 +34,7 @@ module _ (g : Grammar) (p : Performance) where
   no_less : (ticks : List ℕ) (channel a b : ℕ) → IsHeadOfVoice g p ticks channel a → IsHeadOfVoice g p ticks channel b → a ≤ b
   no_less ticks channel a b h k =
       let same : k.chords ≡ h.chords = one_chords p.tempos p.division g.window (notes_of_voice p channel) k.chords h.chords k.are_chords h.are_chords in
-      let there = subst (λ (cs : List Chord). IsRun g (voice_bars g (with_barlines p ticks) channel) (soundings cs) k.trees
+      let there = subst (λ (cs : List Chord). IsHeadRun g (voice_bars g (with_barlines p ticks) channel) (soundings cs) k.trees
       × (b ≡ run_cost g (voice_bars g (with_barlines p ticks) channel) (soundings cs) k.trees)) same (k.run, k.is) in
       let low = h.least k.trees there.0 in
       omega (arith, low, there.1)

@@ -7,12 +7,12 @@ use Rattle.std.proofs.lemmas.List.{get_or-reverse, length-reverse}
 use Rattle.std.proofs.lemmas.List.Elements.{All-append, All-filter, All-map, All-replicate}
 use Rattle.rhythm_base.specs.declared.edit.Edit.TheVariants.{AddBar, DropBar}
 use Rattle.rhythm_base.specs.declared.limits.TheConstants.{LATEST_TICK, MOST_BARS}
-use Rattle.rhythm_base.specs.Edits.{IsEditInRange}
+use Rattle.rhythm_base.specs.EditRanges.{IsEditInRange}
 use Rattle.rhythm_base.specs.Performance.{IsWellFormed, Performance}
-use Rattle.rhythm_laws.proofs.OrderedLists.{all_cons, all_head, all_tail}
+use Rattle.rhythm_base.proofs.OrderedLists.{all_cons, all_head, all_tail}
 use Rattle.barline_follow.specs.Bars.{barlines_of}
 use Rattle.barline_follow.specs.Script.{first_barlines, last_bar, last_barlines, pace, script}
-use Rattle.barline_follow.specs.Stages.{Shift, aim, aims, all_stages, is_earlier, is_later, line_of, paired, shifts, stage, stage_count, stage_of}
+use Rattle.barline_follow.specs.Stages.{Shift, aim, aims, all_stages, is_earlier, is_later, shift_line, paired, shifts, stage, stage_count, stage_lines}
 use Rattle.barline_follow.proofs.Further.{length-barlines, length-lengthened}
 use Rattle.barline_follow.proofs.Paired.{paired_short}
 
@@ -50,7 +50,7 @@ aims_early stages s ticks goal within h k =
     all_paired (aim stages s) LATEST_TICK (aim_below LATEST_TICK stages s within) ticks goal h k
 
 abbrev IsInRange : Shift → Type 0
-IsInRange s = IsEditInRange (line_of s)
+IsInRange s = IsEditInRange (shift_line s)
 
 shifts_in_range : (j : ℕ) (ticks to : List ℕ) → j + length ticks ≤ MOST_BARS + 1 → AreEarly to → All IsInRange (shifts j ticks to)
 shifts_in_range j [] to few h = λ i d lt. absurd (omega (arith, lt))
@@ -65,16 +65,16 @@ stage_in_range ticks to few h =
     let all : All IsInRange (shifts 0 ticks to) = shifts_in_range 0 ticks to (omega (arith, few)) h in
     let later = all_reversed IsInRange (filter is_later (shifts 0 ticks to)) (All-filter is_later IsInRange (shifts 0 ticks to) all) in
     let earlier = All-filter is_earlier IsInRange (shifts 0 ticks to) all in
-    All-append IsEditInRange (map line_of (reverse (filter is_later (shifts 0 ticks to)))) (map line_of (filter is_earlier (shifts 0 ticks to)))
-    (All-map IsEditInRange line_of (reverse (filter is_later (shifts 0 ticks to))) later)
-    (All-map IsEditInRange line_of (filter is_earlier (shifts 0 ticks to)) earlier)
+    All-append IsEditInRange (map shift_line (reverse (filter is_later (shifts 0 ticks to)))) (map shift_line (filter is_earlier (shifts 0 ticks to)))
+    (All-map IsEditInRange shift_line (reverse (filter is_later (shifts 0 ticks to))) later)
+    (All-map IsEditInRange shift_line (filter is_earlier (shifts 0 ticks to)) earlier)
 
 stages_in_range : (stages : ℕ) (ticks goal : List ℕ) → length ticks ≤ MOST_BARS + 1 → AreEarly ticks → AreEarly goal
-    → (a n : ℕ) → a + n ≤ stages → All IsEditInRange (flat_map (stage_of stages ticks goal) (range_with_len a n))
+    → (a n : ℕ) → a + n ≤ stages → All IsEditInRange (flat_map (stage_lines stages ticks goal) (range_with_len a n))
 stages_in_range stages ticks goal few h k a zero within = λ i d lt. absurd (omega (arith, lt))
 stages_in_range stages ticks goal few h k a (suc n) within =
     let short = paired_short (aim stages a) ticks goal in
-    All-append IsEditInRange (stage_of stages ticks goal a) (flat_map (stage_of stages ticks goal) (range_with_len (a + 1) n))
+    All-append IsEditInRange (stage_lines stages ticks goal a) (flat_map (stage_lines stages ticks goal) (range_with_len (a + 1) n))
     (stage_in_range (aims stages a ticks goal) (aims stages (a + 1) ticks goal) (omega (arith, short, few))
     (aims_early stages (a + 1) ticks goal (omega (arith, within)) h k))
     (stages_in_range stages ticks goal few h k (a + 1) n (omega (arith, within)))

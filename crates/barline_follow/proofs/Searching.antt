@@ -8,7 +8,7 @@ use Rattle.rhythm_base.specs.Grammar.{Grammar}
 use Rattle.rhythm_base.specs.Lists.{Each}
 use Rattle.rhythm_base.specs.Performance.{Performance}
 use Rattle.barline_follow.specs.declared.offers.Offer.{Offer}
-use Rattle.barline_follow.specs.Barring.{Barring, Track}
+use Rattle.barline_follow.specs.Barring.{Barring, Course}
 use Rattle.barline_follow.specs.Gathered.{barring_of}
 use Rattle.barline_follow.specs.Rounds.{ComeTo, IsRound, rows, with_bar}
 
@@ -134,7 +134,7 @@ run_next f xs i d rest lt =
     ap (λ l. flat_map f l ++ rest) (drop_more xs i d lt) ∙ append_assoc (f (get_or xs i d)) (flat_map f (drop (i + 1) xs)) rest
 
 -- the lists of one list of the front more
-pub rows_more : (front : List Track) (tried : List (Vec Offer Global)) (n : ℕ) (d : Track) (e : Vec Offer Global) → n < length front → n < length tried
+pub rows_more : (front : List Course) (tried : List (Vec Offer Global)) (n : ℕ) (d : Course) (e : Vec Offer Global) → n < length front → n < length tried
     → rows (map barring_of (take (n + 1) front)) (map (λ own. own.items) (take (n + 1) tried))
     ≡ rows (map barring_of (take n front)) (map (λ own. own.items) (take n tried)) ++ map (with_bar (get_or front n d).barring) (get_or tried n e).items
 rows_more front tried n d e low high =

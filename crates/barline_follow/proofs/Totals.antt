@@ -3,13 +3,13 @@ use Rattle.std.proofs.Common.{◌≡◌, ℕ, ◌+◌, ◌<◌, ◌≤◌, ◌^�
 use Rattle.std.specs.Prelude.{Option, Some, None}
 use Rattle.std.proofs.lemmas.List.{drop_more}
 use Rattle.barline_follow.specs.declared.heads.Heads.{Heads}
-use Rattle.barline_follow.specs.Costs.{AreLow, cost_at, least_of_five, own_cost, sum, total}
+use Rattle.barline_follow.specs.Costs.{AreLowHeads, head_cost_at, least_of_five, own_cost, sum, total}
 use Rattle.barline_follow.proofs.CostLemmas.{least_is}
 
-pub own_low : (is_closed : Bool) (heads : Heads) (c : ℕ) → AreLow heads → own_cost is_closed heads ≡ Some c → c ≤ 2 ^ 52
+pub own_low : (is_closed : Bool) (heads : Heads) (c : ℕ) → AreLowHeads heads → own_cost is_closed heads ≡ Some c → c ≤ 2 ^ 52
 unfolding least_of_five
 own_low true heads c low is = low 0 c is
-own_low false heads c low is = let found = least_is (cost_at heads.costs) 5 c is in low found.0 c found.2
+own_low false heads c low is = let found = least_is (head_cost_at heads.costs) 5 c is in low found.0 c found.2
 
 sum_on : (s c : ℕ) (o p : Option ℕ) → p ≡ Some c → sum (Some s) (sum p o) ≡ sum (Some (s + c)) o
 sum_on s c o p is = ap (λ q. sum (Some s) (sum q o)) is ∙ by o

@@ -4,7 +4,8 @@ use Rattle.std.specs.Prelude.{All, reverse}
 use Rattle.std.proofs.lemmas.List.{reverse-append}
 use Rattle.edit_session.specs.Prepared.{Prepared}
 use Rattle.rhythm_base.specs.declared.edit.Edit.{Edit}
-use Rattle.rhythm_base.specs.Edits.{IsEditInRange, edited}
+use Rattle.rhythm_base.specs.EditRanges.{IsEditInRange}
+use Rattle.edit_laws.specs.Edits.{edited}
 use Rattle.rhythm_base.specs.Grammar.{Grammar}
 use Rattle.rhythm_base.specs.Performance.{Performance}
 use Rattle.rhythm_base.specs.Voices.{HasDerivation}

@@ -5,14 +5,14 @@ use Rattle.rhythm_base.specs.Grammar.{Grammar}
 use Rattle.rhythm_base.specs.Performance.{Performance}
 use Rattle.rhythm_base.specs.Voices.{IsCostOf}
 use Rattle.barline_follow.specs.Bars.{barlines_of}
-use Rattle.barline_follow.specs.Barring.{Barring, value_of}
+use Rattle.barline_follow.specs.Barring.{Barring, barring_value}
 use Rattle.barline_follow.specs.Rounds.{IsBest}
 use Rattle.barline_follow.specs.Script.{Leads, script}
 
 -- the best's barlines where its value is at most seven tenths of the performance's cost, else those that are there
 abbrev pub chosen : Performance → ℕ → Option Barring → List ℕ
 chosen p cost None = barlines_of p
-chosen p cost (Some best) = if nat_lt (7 * cost) (10 * value_of best) then barlines_of p else best.ticks
+chosen p cost (Some best) = if nat_lt (7 * cost) (10 * barring_value best) then barlines_of p else best.ticks
 
 abbrev pub AreChosen : Grammar → Performance → List ℕ → Type 0
 AreChosen g p ticks =

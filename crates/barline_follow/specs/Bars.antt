@@ -3,7 +3,7 @@ use Rattle.std.specs.Prelude.{ℕ, suc, ◌-◌, ◌/◌, Bool, not, List, [], �
 use Rattle.std.specs.List.{list_any}
 use Rattle.rhythm_base.specs.declared.note.Bar.{Bar}
 use Rattle.rhythm_base.specs.Barlines.{nominal_of}
-use Rattle.rhythm_base.specs.Edits.{is_past, next_bar}
+use Rattle.edit_laws.specs.Edits.{is_past, next_bar}
 use Rattle.rhythm_base.specs.Lists.{last_end}
 use Rattle.rhythm_base.specs.Performance.{Performance}
 

@@ -23,16 +23,16 @@ least_below costs (suc n) = lower (least_below costs n) (costs n)
 unfoldable pub least_of_five : (ℕ → Option ℕ) → Option ℕ
 least_of_five costs = least_below costs 5
 
-abbrev pub cost_at : List (Option ℕ) → ℕ → Option ℕ
-cost_at costs n = slice_index_or costs n None
+abbrev pub head_cost_at : List (Option ℕ) → ℕ → Option ℕ
+head_cost_at costs n = slice_index_or costs n None
 
 -- the costs with a bar more, by the number of chords that leave it: the least over the numbers that enter it
 abbrev pub costs_with : List (Option ℕ) → CarryMatrix → List (Option ℕ)
-costs_with costs m = five (λ to. least_of_five (λ from. sum (cost_at costs from) (best_cost (at m from to))))
+costs_with costs m = five (λ to. least_of_five (λ from. sum (head_cost_at costs from) (best_cost (at m from to))))
 
 -- what a voice costs: in a closed list where no chord leaves, and else the least
 abbrev pub own_cost : Bool → Heads → Option ℕ
-own_cost is_closed heads = if is_closed then cost_at heads.costs 0 else least_of_five (cost_at heads.costs)
+own_cost is_closed heads = if is_closed then head_cost_at heads.costs 0 else least_of_five (head_cost_at heads.costs)
 
 -- what the voices cost together, where each has a cost
 abbrev pub total : Bool → List Heads → Option ℕ
@@ -40,5 +40,5 @@ total is_closed [] = Some 0
 total is_closed (heads ∷ voices) = sum (own_cost is_closed heads) (total is_closed voices)
 
 -- low enough that those of 16 voices have a sum
-abbrev pub AreLow : Heads → Type 0
-AreLow heads = (n c : ℕ) → cost_at heads.costs n ≡ Some c → c ≤ 2 ^ 52
+abbrev pub AreLowHeads : Heads → Type 0
+AreLowHeads heads = (n c : ℕ) → head_cost_at heads.costs n ≡ Some c → c ≤ 2 ^ 52

@@ -3,32 +3,32 @@ use Rattle.std.specs.Prelude.{◌≡◌, List, [], ◌∷◌, map, Option}
 use Rattle.std.specs.List.{filter_map}
 use Rattle.barline_follow.specs.declared.round.Outcome.{Outcome}
 use Rattle.barline_follow.specs.declared.round.Outcome.TheVariants.{Lost, Going, Whole}
-use Rattle.barline_follow.specs.Barring.{Barring, Track, best_of, track_end, track_value}
-use Rattle.barline_follow.specs.Least.{AreFirstLeast}
+use Rattle.barline_follow.specs.Barring.{Barring, Course, best_of, course_end, course_value}
+use Rattle.barline_follow.specs.Least.{AreFewLeast}
 use Rattle.barline_follow.specs.Rounds.{Found, going, going_on, lost, whole, whole_one}
 
-abbrev pub barring_of : Track → Barring
+abbrev pub barring_of : Course → Barring
 barring_of t = t.barring
 
 -- what is found, without the costs of each voice
 abbrev pub found_of : Outcome → Found
 found_of Lost = lost
-found_of (Going track) = going track.barring
+found_of (Going course) = going course.barring
 found_of (Whole barring) = whole barring
 
--- those that are kept of the lists that go on, and the best
+-- those that are kept of the lists that go on, at most 24, and the best
 pub record Round : Type 0 where
-  pub kept : List Track
+  pub kept : List Course
   pub best : Option Barring
 
 -- these are gathered, with these lists that go on, where there was a best before
-pub record IsGathered (best : Option Barring) (found : List Found) (tracks : List Track) (r : Round) : Type 0 where
+pub record IsGathered (best : Option Barring) (found : List Found) (courses : List Course) (r : Round) : Type 0 where
   pub best_is : r.best ≡ best_of best (filter_map whole_one found)
-  pub are : map barring_of tracks ≡ filter_map going_on found
-  pub kept : AreFirstLeast track_value track_end tracks r.kept
+  pub are : map barring_of courses ≡ filter_map going_on found
+  pub kept : AreFewLeast course_value course_end 24 courses r.kept
 
 -- the list that goes on, where what is found is one
-abbrev pub going_in : Outcome → List Track
+abbrev pub going_in : Outcome → List Course
 going_in Lost = []
-going_in (Going track) = track ∷ []
+going_in (Going course) = course ∷ []
 going_in (Whole barring) = []

@@ -16,7 +16,7 @@ abbrev pub chords_in : List VoiceBar → List Inner → List Inner
 chords_in bars cs = chords_before (end_of_bars 0 bars) cs
 
 -- the trees of the bars fit, and at most four chords leave the last of them
-pub record IsRun (g : Grammar) (bars : List VoiceBar) (cs : List Inner) (trees : List Tree) : Type 0 where
+pub record IsHeadRun (g : Grammar) (bars : List VoiceBar) (cs : List Inner) (trees : List Tree) : Type 0 where
   pub to : ℕ
   pub fits : Fits g bars (chords_in bars cs) trees to
   pub few : to ≤ 4
@@ -30,9 +30,9 @@ pub record IsHeadOfVoice (g : Grammar) (p : Performance) (ticks : List ℕ) (cha
   pub chords : List Chord
   pub are_chords : AreChordsOf g p channel chords
   pub trees : List Tree
-  pub run : IsRun g (voice_bars g (with_barlines p ticks) channel) (soundings chords) trees
+  pub run : IsHeadRun g (voice_bars g (with_barlines p ticks) channel) (soundings chords) trees
   pub is : cost_of_voice ≡ run_cost g (voice_bars g (with_barlines p ticks) channel) (soundings chords) trees
-  pub least : (others : List Tree) → IsRun g (voice_bars g (with_barlines p ticks) channel) (soundings chords) others
+  pub least : (others : List Tree) → IsHeadRun g (voice_bars g (with_barlines p ticks) channel) (soundings chords) others
       → cost_of_voice ≤ run_cost g (voice_bars g (with_barlines p ticks) channel) (soundings chords) others
 
 -- the sum of what these voices cost, each by itself

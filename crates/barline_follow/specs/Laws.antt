@@ -2,13 +2,14 @@
 use Rattle.std.specs.Prelude.{◌≡◌, ◌⊎◌, ℕ, ◌+◌, ◌≤◌, List, [], All, Option, Some, length}
 use Rattle.rhythm_base.specs.declared.edit.Edit.{Edit}
 use Rattle.rhythm_base.specs.declared.limits.TheConstants.{LATEST_TICK, MOST_BARS}
-use Rattle.rhythm_base.specs.Edits.{IsEditInRange}
+use Rattle.rhythm_base.specs.EditRanges.{IsEditInRange}
 use Rattle.rhythm_base.specs.Grammar.{Grammar}
 use Rattle.rhythm_base.specs.Performance.{IsWellFormed, Performance}
 use Rattle.barline_follow.specs.declared.offers.Offer.{Offer}
 use Rattle.barline_follow.specs.Answer.{IsAnswer}
 use Rattle.barline_follow.specs.Bars.{with_barlines}
 use Rattle.barline_follow.specs.Barring.{Barring}
+use Rattle.barline_follow.specs.Builds.{most_lengths}
 use Rattle.barline_follow.specs.Gain.{Gains}
 use Rattle.barline_follow.specs.HeadCost.{IsHeadCost}
 use Rattle.barline_follow.specs.Offers.{AreOffers}
@@ -19,6 +20,10 @@ use Rattle.barline_follow.specs.Script.{Leads, first_barlines, last_barlines, sc
 abbrev pub OffersAreOne : Type 0
 OffersAreOne =
     (g : Grammar) (p : Performance) (i before : ℕ) (a b : List Offer) → AreOffers g p i before a → AreOffers g p i before b → a ≡ b
+
+-- and few of them
+abbrev pub OffersAreFew : Type 0
+OffersAreFew = (g : Grammar) (p : Performance) (i before : ℕ) (offers : List Offer) → AreOffers g p i before offers → length offers ≤ most_lengths i
 
 -- those that go on have one next front
 abbrev pub FrontsAreOne : Type 0
@@ -37,8 +42,8 @@ abbrev pub BestsAreOne : Type 0
 BestsAreOne = (g : Grammar) (p : Performance) (a b : Option Barring) → IsBest g p a → IsBest g p b → a ≡ b
 
 -- and one answer
-abbrev pub AnswersAreOne : Type 0
-AnswersAreOne = (g : Grammar) (p : Performance) (a b : List Edit) → IsAnswer g p a → IsAnswer g p b → a ≡ b
+abbrev pub BarlinesAreOne : Type 0
+BarlinesAreOne = (g : Grammar) (p : Performance) (a b : List Edit) → IsAnswer g p a → IsAnswer g p b → a ≡ b
 
 -- on a performance without pins an answer is nothing, or gains: what it costs after the script, with the prices of the best's bars, is at
 -- most seven tenths of what it costs before

@@ -1,5 +1,5 @@
 -- The first of least value at each tick.
-use Rattle.std.specs.Prelude.{◌≡◌, ◌↔◌, ℕ, ◌<◌, ◌≤◌, List, [], ◌∷◌, Contains, slice_get, Some}
+use Rattle.std.specs.Prelude.{◌≡◌, ◌↔◌, ℕ, ◌<◌, ◌≤◌, List, [], ◌∷◌, Contains, slice_get, Some, take}
 use Rattle.rhythm_base.specs.Lists.{AreInOrder}
 
 module _ {X : Type 0} (value tick : X → ℕ) where
@@ -14,3 +14,7 @@ module _ {X : Type 0} (value tick : X → ℕ) where
   pub record AreFirstLeast (xs kept : List X) : Type 0 where
     pub in_order : AreInOrder (λ x. value x ∷ tick x ∷ []) kept
     pub exactly : (x : X) → Contains kept x ↔ IsFirstLeast xs x
+
+  -- the first n of these
+  abbrev pub AreFewLeast : ℕ → List X → List X → Type 0
+  AreFewLeast n xs kept = (all : List X) × AreFirstLeast xs all × (kept ≡ take n all)

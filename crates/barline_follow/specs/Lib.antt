@@ -4,13 +4,14 @@ pub mod Least
 pub mod Offers
 pub mod Barring
 pub mod Rounds
+pub mod Builds
 pub mod Stages
 pub mod Script
 pub mod Answer
 pub mod Gain
 pub mod Laws
 pub mod Costs
-pub mod Tracks
+pub mod Courses
 pub mod NextBars
 pub mod Gathered
 pub mod Sounded

@@ -5,16 +5,16 @@ use Rattle.barline_follow.specs.declared.next_bar.NextBar.{NextBar}
 use Rattle.barline_follow.specs.declared.offers.Offer.{Offer}
 use Rattle.rhythm_base.specs.declared.limits.TheConstants.{LATEST_TICK, MOST_BARS}
 use Rattle.rhythm_base.specs.BarInput.{BarInput}
-use Rattle.rhythm_base.specs.Edits.{is_past}
+use Rattle.edit_laws.specs.Edits.{is_past}
 use Rattle.rhythm_base.specs.Grammar.{root_of}
 use Rattle.rhythm_base.specs.Lists.{Each}
 use Rattle.rhythm_base.specs.Performance.{IsWellFormed}
 use Rattle.rhythm_base.specs.Readable.{IsReadable}
 use Rattle.rhythm_base.specs.Voices.{AreChordsOf}
 use Rattle.barline_follow.specs.Bars.{pattern_of}
-use Rattle.barline_follow.specs.Barring.{Track, end_of, last_length}
+use Rattle.barline_follow.specs.Barring.{Course, barring_end, last_length}
 use Rattle.barline_follow.specs.Offers.{AreOffers}
-use Rattle.barline_follow.specs.Tracks.{IsTrack, cell, dearest_bar}
+use Rattle.barline_follow.specs.Courses.{IsCourse, cell, dearest_bar}
 
 -- what it says of itself holds: these are the voices; the bar is like this one, and may have a root symbol; and a list is closed from this
 -- tick on
@@ -28,18 +28,18 @@ pub record IsNextBar (next : NextBar) : Type 0 where
   pub rootless : next.is_rooted ≡ false → root_of next.grammar.now.starts next.like.num next.like.den ≡ None
   pub closing : (end : ℕ) → not (list_any (is_past end) next.performance.now.notes) ≡ nat_le next.closing end
 
-abbrev pub IsTrackOf : NextBar → ℕ → Track → Type 0
-IsTrackOf next bars t = IsTrack next.grammar.now next.performance.now next.voices.now bars t
+abbrev pub IsCourseOf : NextBar → ℕ → Course → Type 0
+IsCourseOf next bars t = IsCourse next.grammar.now next.performance.now next.voices.now bars t
 
 -- a bar of this length behind a barline can be: it has a root symbol, and ends by the latest tick
 abbrev pub can_be : NextBar → ℕ → Offer → Bool
 can_be next start o = next.is_rooted && nat_le (start + o.ticks) LATEST_TICK
 
 -- what is tried of a list: those bars of its offers that can be
-abbrev pub AreTried : NextBar → Track → List Offer → Type 0
-AreTried next track tried =
-    (offers : List Offer) × AreOffers next.grammar.now next.performance.now next.number (last_length track.barring.ticks) offers
-    × (tried ≡ filter (can_be next (end_of track.barring)) offers)
+abbrev pub AreTriedOffers : NextBar → Course → List Offer → Type 0
+AreTriedOffers next course tried =
+    (offers : List Offer) × AreOffers next.grammar.now next.performance.now next.number (last_length course.barring.ticks) offers
+    × (tried ≡ filter (can_be next (barring_end course.barring)) offers)
 
 -- such a bar
 pub record IsTried (next : NextBar) (start : ℕ) (o : Offer) : Type 0 where
@@ -53,5 +53,5 @@ abbrev pub cells : NextBar → ℕ → Offer → List BarInput
 cells next start o = map (cell next.grammar.now next.like start (start + o.ticks)) next.voices.now
 
 -- the inputs of all bars that are tried, of each list of the front in its order
-abbrev pub all_cells : NextBar → List Track → List (List Offer) → List BarInput
-all_cells next front tried = flat_map (λ pair. flat_map (cells next (end_of pair.0.barring)) pair.1) (zip front tried)
+abbrev pub all_cells : NextBar → List Course → List (List Offer) → List BarInput
+all_cells next front tried = flat_map (λ pair. flat_map (cells next (barring_end pair.0.barring)) pair.1) (zip front tried)

@@ -17,9 +17,9 @@ in_tempo p zero before = whole_bar p 0
 in_tempo p (suc i) before = (whole_bar p (suc i) * before) / whole_bar p i
 
 -- how many steps a length is varied by: the first bar finds the tempo
-abbrev pub reach : ℕ → ℕ
-reach zero = 12
-reach (suc i) = 3
+abbrev pub most_steps : ℕ → ℕ
+most_steps zero = 12
+most_steps (suc i) = 3
 
 -- a whole bar, and one in the tempo of the bar before, each k steps shorter and k steps longer. A length of 0 is never offered
 abbrev pub proposed : ℕ → ℕ → ℕ → ℕ → ℕ → List Offer
@@ -34,7 +34,7 @@ abbrev pub is_offered : ℕ → Offer → Bool
 is_offered whole o = nat_le whole (2 * o.ticks) && nat_le (2 * o.ticks) (3 * whole)
 
 abbrev pub proposals : Grammar → Performance → ℕ → ℕ → List Offer
-proposals g p i before = filter (is_offered (whole_bar p i)) (flat_map (proposals_at g p i before) (range_with_len 0 (reach i + 1)))
+proposals g p i before = filter (is_offered (whole_bar p i)) (flat_map (proposals_at g p i before) (range_with_len 0 (most_steps i + 1)))
 
 -- each length at its least price, by price and then by length
 abbrev pub AreOffers : Grammar → Performance → ℕ → ℕ → List Offer → Type 0

@@ -9,7 +9,7 @@ use Rattle.rhythm_base.specs.Voices.{IsCostOf}
 use Rattle.barline_follow.specs.declared.offers.Offer.{Offer}
 use Rattle.barline_follow.specs.Bars.{is_closed, with_barlines}
 use Rattle.barline_follow.specs.HeadCost.{IsHeadCost}
-use Rattle.barline_follow.specs.Barring.{Barring, best_of, end_of, is_below, last_length, value_of}
+use Rattle.barline_follow.specs.Barring.{Barring, best_of, barring_end, is_below, last_length, barring_value}
 use Rattle.barline_follow.specs.Least.{AreFirstLeast}
 use Rattle.barline_follow.specs.Offers.{AreOffers}
 
@@ -22,7 +22,7 @@ pub record Draft : Type 0 where
 
 -- a bar of the offer's length behind the others
 abbrev pub with_bar : Barring → Offer → Draft
-with_bar b o = record { ticks = b.ticks ++ ((end_of b + o.ticks) ∷ []); prices = b.prices + o.price }
+with_bar b o = record { ticks = b.ticks ++ ((barring_end b + o.ticks) ∷ []); prices = b.prices + o.price }
 
 -- each of these lists in its order, with a bar by each of its offers in their order
 abbrev pub rows : List Barring → List (List Offer) → List Draft
@@ -41,14 +41,14 @@ pub data Found : Type 0 where
   whole : Barring → Found
 
 -- a list that is not closed goes on at this cost, where it is not past the latest tick: it is the head cost
-pub record GoesOn (g : Grammar) (p : Performance) (ticks : List ℕ) (c : ℕ) : Type 0 where
+pub record IsOpenAt (g : Grammar) (p : Performance) (ticks : List ℕ) (c : ℕ) : Type 0 where
   pub open_end : is_closed p ticks ≡ false
   pub early : last_end 0 ticks ≤ LATEST_TICK
   pub cost : IsHeadCost g p ticks c
 
 -- a closed list is whole at this cost, where it is not past the latest tick: it is what the performance with its barlines costs, so the
 -- cost of trees that no chord leaves
-pub record IsWhole (g : Grammar) (p : Performance) (ticks : List ℕ) (c : ℕ) : Type 0 where
+pub record IsWholeAt (g : Grammar) (p : Performance) (ticks : List ℕ) (c : ℕ) : Type 0 where
   pub closed_end : is_closed p ticks ≡ true
   pub early : last_end 0 ticks ≤ LATEST_TICK
   pub cost : IsCostOf g (with_barlines p ticks) c
@@ -57,9 +57,9 @@ abbrev pub at_cost : Draft → ℕ → Barring
 at_cost d c = record { ticks = d.ticks; prices = d.prices; cost = c }
 
 abbrev pub IsFound : Grammar → Performance → Draft → Found → Type 0
-IsFound g p d lost = (c : ℕ) → (GoesOn g p d.ticks c → ⊥) × (IsWhole g p d.ticks c → ⊥)
-IsFound g p d (going b) = (c : ℕ) × GoesOn g p d.ticks c × (b ≡ at_cost d c)
-IsFound g p d (whole b) = (c : ℕ) × IsWhole g p d.ticks c × (b ≡ at_cost d c)
+IsFound g p d lost = (c : ℕ) → (IsOpenAt g p d.ticks c → ⊥) × (IsWholeAt g p d.ticks c → ⊥)
+IsFound g p d (going b) = (c : ℕ) × IsOpenAt g p d.ticks c × (b ≡ at_cost d c)
+IsFound g p d (whole b) = (c : ℕ) × IsWholeAt g p d.ticks c × (b ≡ at_cost d c)
 
 abbrev pub going_on : Found → Option Barring
 going_on lost = None
@@ -76,7 +76,7 @@ whole_one (whole b) = Some b
 -- of those that go on the first of least value at each last barline; of these the first 24, without those whose value is not below
 -- the best's
 abbrev pub IsNextFront : Option Barring → List Barring → List Barring → Type 0
-IsNextFront best bs front = (kept : List Barring) × AreFirstLeast value_of end_of bs kept × (front ≡ filter (is_below best) (take 24 kept))
+IsNextFront best bs front = (kept : List Barring) × AreFirstLeast barring_value barring_end bs kept × (front ≡ filter (is_below best) (take 24 kept))
 
 -- ---- rounds
 

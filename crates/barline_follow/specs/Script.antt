@@ -3,7 +3,8 @@ use Rattle.std.specs.Prelude.{◌≡◌, ℕ, zero, suc, ◌+◌, ◌-◌, ◌/�
 use Rattle.rhythm_base.specs.declared.edit.Edit.{Edit}
 use Rattle.rhythm_base.specs.declared.edit.Edit.TheVariants.{Add, AddBar, Barline, Drop, DropBar, Move, Pin, Unpin}
 use Rattle.rhythm_base.specs.Barlines.{nominal}
-use Rattle.rhythm_base.specs.Edits.{IsEditInRange, edited}
+use Rattle.rhythm_base.specs.EditRanges.{IsEditInRange}
+use Rattle.edit_laws.specs.Edits.{edited}
 use Rattle.rhythm_base.specs.Grammar.{Grammar}
 use Rattle.rhythm_base.specs.Lists.{last_end, least_of}
 use Rattle.rhythm_base.specs.Performance.{Performance}

@@ -45,19 +45,19 @@ is_later s = nat_lt s.tick s.to
 abbrev pub is_earlier : Shift → Bool
 is_earlier s = nat_lt s.to s.tick
 
-abbrev pub line_of : Shift → Edit
-line_of s = Barline s.bar s.to
+abbrev pub shift_line : Shift → Edit
+shift_line s = Barline s.bar s.to
 
 -- a stage: first those that move later, from the last barline down, and then those that move earlier, from the first one up
 abbrev pub stage : List ℕ → List ℕ → List Edit
 stage ticks to =
-    map line_of (reverse (filter is_later (shifts 0 ticks to)))
-    ++ map line_of (filter is_earlier (shifts 0 ticks to))
+    map shift_line (reverse (filter is_later (shifts 0 ticks to)))
+    ++ map shift_line (filter is_earlier (shifts 0 ticks to))
 
 -- stage s, from the aims of the stage before to its own
-abbrev pub stage_of : ℕ → List ℕ → List ℕ → ℕ → List Edit
-stage_of stages ticks goal s = stage (aims stages s ticks goal) (aims stages (s + 1) ticks goal)
+abbrev pub stage_lines : ℕ → List ℕ → List ℕ → ℕ → List Edit
+stage_lines stages ticks goal s = stage (aims stages s ticks goal) (aims stages (s + 1) ticks goal)
 
 -- all stages one after another
 abbrev pub all_stages : ℕ → List ℕ → List ℕ → List Edit
-all_stages stages ticks goal = flat_map (stage_of stages ticks goal) (range_with_len 0 stages)
+all_stages stages ticks goal = flat_map (stage_lines stages ticks goal) (range_with_len 0 stages)

@@ -1,4 +1,4 @@
-ghost use Rattle.barline_follow.specs.Barring.{better, end_of, last_length, track_end, track_value, value_of};
+ghost use Rattle.barline_follow.specs.Barring.{better, barring_end, last_length, course_end, course_value, barring_value};
 ghost use Rattle.rhythm_base.specs.Lists.{last_end};
 ghost use Rattle.std.specs.Prelude.{◌≡◌, ◌+◌, ◌<◌, ◌^◌, List};
 
@@ -65,7 +65,7 @@ impl Barring {
 
     /// What the trees cost and the prices together.
     pub fn value(&self) -> u64
-        ensures { result ≡ value_of self.now }
+        ensures { result ≡ barring_value self.now }
     {
         self.cost + self.prices
     }
@@ -85,7 +85,7 @@ impl Barring {
 
     /// The last barline.
     pub fn end(&self) -> u64
-        ensures value { result ≡ end_of self.now }
+        ensures value { result ≡ barring_end self.now }
         ensures early { result < 2 ^ 33 }
     {
         last_barline(self.ticks.as_slice())
@@ -104,25 +104,25 @@ pub fn better(best: Option<Barring>, barring: Barring) -> Option<Barring>
 
 /// Barlines that go on, with the least costs of each voice up to there.
 #[derive(Drop)]
-pub struct Track {
+pub struct Course {
     barring: Barring,
     heads: Vec<Heads>,
 }
 
-impl Model for Track {
-    ghost use Rattle.barline_follow.specs.Barring.{Track};
+impl Model for Course {
+    ghost use Rattle.barline_follow.specs.Barring.{Course};
 
-    ghost Value = { Track };
+    ghost Value = { Course };
 
     ghost view = { λ t. record { barring = t.barring; heads = t.heads.items } };
 }
 
-impl Track {
+impl Course {
     /// These barlines, with these costs of the voices.
-    pub fn of(barring: Barring, heads: Vec<Heads>) -> Track
+    pub fn of(barring: Barring, heads: Vec<Heads>) -> Course
         ensures { result ≡ record { barring = barring; heads = heads.items } }
     {
-        Track { barring, heads }
+        Course { barring, heads }
     }
 
     /// The barlines and what they cost.
@@ -140,10 +140,10 @@ impl Track {
     }
 }
 
-impl Valued for Track {
-    ghost value = { track_value };
+impl Valued for Course {
+    ghost value = { course_value };
 
-    ghost tick = { track_end };
+    ghost tick = { course_end };
 
     fn value(&self) -> u64 {
         self.barring.value()

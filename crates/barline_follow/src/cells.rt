@@ -1,10 +1,11 @@
 ghost use Rattle.bar_cut.specs.Cuts.{AreBarsAndChords, inputs};
-ghost use Rattle.barline_follow.specs.Barring.{end_of};
+ghost use Rattle.barline_follow.specs.Barring.{barring_end};
 ghost use Rattle.barline_follow.specs.NextBars.{IsNextBar, IsTried, all_cells, cells};
 ghost use Rattle.barline_follow.specs.Sounded.{AreSounded};
 ghost use Rattle.rhythm_base.specs.BarInput as inputs_of_bars;
 ghost use Rattle.rhythm_base.specs.Cells.{input};
-ghost use Rattle.rhythm_base.specs.Leaves.{soundings};
+ghost use Rattle.rhythm_base.specs.Grammar.{Grammar};
+ghost use Rattle.rhythm_base.specs.Leaves.{VoiceBar, soundings};
 ghost use Rattle.rhythm_base.specs.Lists.{Each};
 ghost use Rattle.rhythm_base.specs.Readable.{IsInRange};
 ghost use Rattle.rhythm_base.specs.Signatures.{IsSignature};
@@ -13,12 +14,24 @@ ghost use Rattle.rhythm_base.specs.declared.limits.TheConstants.{LATEST_TICK};
 ghost use Rattle.std.specs.List.{flat_map};
 ghost use Rattle.std.specs.Prelude.{◌≡◌, ◌≤◌, ◌<◌, ◌++◌, List, [], ◌∷◌, All, IfOk, OnOk, map};
 
-use crate::barring::Track;
+use crate::barring::Course;
 use crate::next_bar::NextBar;
 use crate::offers::Offer;
 use bar_cut::sections;
 use rhythm_base::{Bar, BarInput, Chord, Grammar, Pin};
 use std::alloc::{AllocError, Global};
+
+/// The chords from the last one before a tick on. A bar that begins there depends on no other.
+fn chords_near(voice: &[Chord], start: u64) -> &[Chord]
+    requires { AreSounded voice.now }
+    ensures sounded { AreSounded result.now }
+    ensures near { (grammar : Grammar) (bar : VoiceBar) → bar.start ≡ start
+        → input grammar bar (soundings result.now) ≡ input grammar bar (soundings voice.now) }
+{
+    let before = voice.partition_point(|chord| chord.onset < start);
+    let (_earlier, near) = voice.split_at(before.saturating_sub(1));
+    near
+}
 
 /// The input of the last of these bars.
 fn last_input(
@@ -61,7 +74,8 @@ fn cell_input(
         last_input(alloc, grammar, voice, &[bar], end, &[])
     } else {
         let earlier = Bar { start: 0, ..bar };
-        last_input(alloc, grammar, voice, &[earlier, bar], end, &[])
+        let near = chords_near(voice, bar.start);
+        last_input(alloc, grammar, near, &[earlier, bar], end, &[])
     }
 }
 
@@ -107,11 +121,11 @@ fn push_tried(
 pub fn round_inputs(
     alloc: Global,
     next: &NextBar,
-    front: &[Track],
+    front: &[Course],
     tried: &[Vec<Offer>],
 ) -> Result<Vec<BarInput>, AllocError>
     requires next { IsNextBar next.now }
-    requires tried { Each (λ t own. All (IsTried next.now (end_of t.barring)) own) front.now (map (λ own. own.items) tried.now) }
+    requires tried { Each (λ t own. All (IsTried next.now (barring_end t.barring)) own) front.now (map (λ own. own.items) tried.now) }
     ensures { IfOk result (λ v. v.items ≡ all_cells next.now front.now (map (λ own. own.items) tried.now)) }
 {
     let mut inputs = Vec::new(alloc);

@@ -43,8 +43,8 @@ fn cost_of(entry: Option<Best>) -> Option<u64>
 /// The least cost with a bar more, where so many chords leave it.
 fn least_to(heads: &Heads, matrix: &CarryMatrix, to: u8) -> Option<u64>
     requires few { to < 5 }
-    requires low { costs.AreLow heads.now }
-    ensures { result ≡ costs.least_of_five (λ from. costs.sum (costs.cost_at heads.now.costs from) (best_cost (at matrix.now from to))) }
+    requires low { costs.AreLowHeads heads.now }
+    ensures { result ≡ costs.least_of_five (λ from. costs.sum (costs.head_cost_at heads.now.costs from) (best_cost (at matrix.now from to))) }
 {
     let mut least = None;
     'counts: for from in 0..5u8 {
@@ -56,7 +56,7 @@ fn least_to(heads: &Heads, matrix: &CarryMatrix, to: u8) -> Option<u64>
 
 /// The costs with a bar more, of this table.
 pub fn with_bar(heads: &Heads, matrix: &CarryMatrix) -> Heads
-    requires low { costs.AreLow heads.now }
+    requires low { costs.AreLowHeads heads.now }
     ensures { result.costs ≡ costs.costs_with heads.now.costs matrix.now }
 {
     let first = least_to(heads, matrix, 0);
@@ -71,7 +71,7 @@ pub fn with_bar(heads: &Heads, matrix: &CarryMatrix) -> Heads
 
 /// The least of the costs.
 fn least_of(heads: &Heads) -> Option<u64>
-    ensures { result ≡ costs.least_of_five (costs.cost_at heads.now.costs) }
+    ensures { result ≡ costs.least_of_five (costs.head_cost_at heads.now.costs) }
 {
     let mut least = None;
     'counts: for count in 0..5usize {
@@ -94,7 +94,7 @@ fn own_cost(is_closed: bool, heads: &Heads) -> Option<u64>
 /// What the voices cost together, where each has a cost.
 pub fn total(is_closed: bool, voices: &[Heads]) -> Option<u64>
     requires few { length voices.now ≤ 16 }
-    requires low { All costs.AreLow voices.now }
+    requires low { All costs.AreLowHeads voices.now }
     ensures value { result ≡ costs.total is_closed voices.now }
     ensures low { (c : ℕ) → result ≡ Some c → c ≤ 2 ^ 56 }
 {

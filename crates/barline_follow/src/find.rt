@@ -1,8 +1,8 @@
 ghost use Rattle.bar_pool.specs.Pool.{IsTableOf};
-ghost use Rattle.barline_follow.specs.Barring.{end_of};
-ghost use Rattle.barline_follow.specs.Costs.{AreLow, costs_with};
+ghost use Rattle.barline_follow.specs.Barring.{barring_end};
+ghost use Rattle.barline_follow.specs.Costs.{AreLowHeads, costs_with};
 ghost use Rattle.barline_follow.specs.Gathered.{found_of, going_in};
-ghost use Rattle.barline_follow.specs.NextBars.{IsNextBar, IsTrackOf, IsTried, cells};
+ghost use Rattle.barline_follow.specs.NextBars.{IsNextBar, IsCourseOf, IsTried, cells};
 ghost use Rattle.barline_follow.specs.Rounds.{IsFound, at_cost, with_bar};
 ghost use Rattle.barline_follow.specs.declared.heads.Heads.{Heads};
 ghost use Rattle.rhythm_base.specs.Lists.{Each};
@@ -10,7 +10,7 @@ ghost use Rattle.rhythm_base.specs.declared.limits.TheConstants.{LATEST_TICK};
 ghost use Rattle.std.specs.List.{zip};
 ghost use Rattle.std.specs.Prelude.{◌≡◌, ◌+◌, ◌<◌, ◌≤◌, ◌^◌, All, IfOk, map};
 
-use crate::barring::{Barring, Track};
+use crate::barring::{Barring, Course};
 use crate::costs::{total, with_bar};
 use crate::heads::Heads;
 use crate::next_bar::NextBar;
@@ -21,7 +21,7 @@ use std::alloc::{AllocError, Global};
 
 /// The heads of each voice with a bar more, of these tables.
 fn heads_with(alloc: Global, heads: &[Heads], tables: &[BarTable]) -> Result<Vec<Heads>, AllocError>
-    requires { All AreLow heads.now }
+    requires { All AreLowHeads heads.now }
     ensures { IfOk result (λ v. map (λ h. h.costs) v.items ≡ map (λ pair. costs_with pair.0.costs pair.1.matrix) (zip heads.now tables.now)) }
 {
     let count = heads.len().min(tables.len());
@@ -34,7 +34,7 @@ fn heads_with(alloc: Global, heads: &[Heads], tables: &[BarTable]) -> Result<Vec
 
 /// The barlines with one more.
 fn longer(alloc: Global, barring: &Barring, offer: Offer, cost: u64) -> Result<Barring, AllocError>
-    requires early { end_of barring.now + offer.ticks ≤ LATEST_TICK }
+    requires early { barring_end barring.now + offer.ticks ≤ LATEST_TICK }
     requires low { cost + (barring.now.prices + offer.price) < 2 ^ 64 }
     ensures { IfOk result (λ b. b ≡ at_cost (with_bar barring.now offer) cost) }
 {
@@ -47,26 +47,26 @@ fn longer(alloc: Global, barring: &Barring, offer: Offer, cost: u64) -> Result<B
 pub fn find(
     alloc: Global,
     next: &NextBar,
-    track: &Track,
+    course: &Course,
     offer: Offer,
     tables: &[BarTable],
 ) -> Result<Outcome, AllocError>
     requires next { IsNextBar next.now }
-    requires track { IsTrackOf next.now next.now.number track.now }
-    requires tried { IsTried next.now (end_of track.now.barring) offer }
-    requires tables { Each (IsTableOf next.now.grammar.now) (cells next.now (end_of track.now.barring) offer) tables.now }
-    ensures found { IfOk result (λ o. IsFound next.now.grammar.now next.now.performance.now (with_bar track.now.barring offer) (found_of o)) }
-    ensures going { IfOk result (λ o. All (IsTrackOf next.now (next.now.number + 1)) (going_in o)) }
+    requires course { IsCourseOf next.now next.now.number course.now }
+    requires tried { IsTried next.now (barring_end course.now.barring) offer }
+    requires tables { Each (IsTableOf next.now.grammar.now) (cells next.now (barring_end course.now.barring) offer) tables.now }
+    ensures found { IfOk result (λ o. IsFound next.now.grammar.now next.now.performance.now (with_bar course.now.barring offer) (found_of o)) }
+    ensures going { IfOk result (λ o. All (IsCourseOf next.now (next.now.number + 1)) (going_in o)) }
 {
-    let heads = heads_with(alloc, track.heads(), tables)?;
-    let is_closed = next.closing <= track.barring().end() + offer.ticks;
+    let heads = heads_with(alloc, course.heads(), tables)?;
+    let is_closed = next.closing <= course.barring().end() + offer.ticks;
     let Some(cost) = total(is_closed, heads.as_slice()) else {
         return Ok(Outcome::Lost);
     };
-    let barring = longer(alloc, track.barring(), offer, cost)?;
+    let barring = longer(alloc, course.barring(), offer, cost)?;
     if is_closed {
         Ok(Outcome::Whole(barring))
     } else {
-        Ok(Outcome::Going(Track::of(barring, heads)))
+        Ok(Outcome::Going(Course::of(barring, heads)))
     }
 }

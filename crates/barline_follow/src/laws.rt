@@ -1,11 +1,12 @@
 ghost use Rattle.barline_follow.specs.Laws.{
-  AnswersAreOne,
+  BarlinesAreOne,
   AnswersGain,
   BestsAreOne,
   EditsLeadToOne,
   FoundAreOne,
   FrontsAreOne,
   HeadCostsAreOne,
+  OffersAreFew,
   OffersAreOne,
   ScriptsAreInRange,
   ScriptsSetBarlines,
@@ -14,6 +15,11 @@ ghost use Rattle.barline_follow.specs.Laws.{
 /// A bar has one list of offers.
 pub fn offers_are_one()
     ensures { OffersAreOne }
+{}
+
+/// A bar has at most 14 offers, and the first one 25.
+pub fn offers_are_few()
+    ensures { OffersAreFew }
 {}
 
 /// Those that go on have one next front.
@@ -38,7 +44,7 @@ pub fn bests_are_one()
 
 /// A performance has one answer.
 pub fn answers_are_one()
-    ensures { AnswersAreOne }
+    ensures { BarlinesAreOne }
 {}
 
 /// An answer on a performance without pins is nothing, or gains three tenths, prices and all.

@@ -1,5 +1,5 @@
 ghost use Rattle.barline_follow.specs.Bars.{pattern_of};
-ghost use Rattle.rhythm_base.specs.Edits.{is_past};
+ghost use Rattle.edit_laws.specs.Edits.{is_past};
 ghost use Rattle.rhythm_base.specs.Signatures.{IsSignature};
 ghost use Rattle.std.specs.List.{list_any};
 ghost use Rattle.std.specs.Prelude.{◌≡◌, ◌<◌, ◌^◌, All, Some, nat_le, not, ℕ};

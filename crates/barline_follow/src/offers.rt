@@ -55,7 +55,7 @@ fn bar_step(performance: &Performance, number: usize) -> u64
 
 /// How many steps a bar's length is varied by.
 fn reach(number: usize) -> u64
-    ensures value { result ≡ prices.reach number }
+    ensures value { result ≡ prices.most_steps number }
     ensures few { result ≤ 12 }
 {
     if number == 0 { 12 } else { 3 }

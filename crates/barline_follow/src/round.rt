@@ -5,7 +5,7 @@ ghost use Rattle.barline_follow.specs.Rounds.{Found, IsNextFront, going_on};
 ghost use Rattle.std.specs.List.{filter_map};
 ghost use Rattle.std.specs.Prelude.{◌≡◌, ◌≤◌, ◌++◌, List, Option, [], ◌∷◌, Contains, OnOk, filter, length, map, take};
 
-use crate::barring::{Barring, Track, better};
+use crate::barring::{Barring, Course, better};
 use crate::least::{Valued, keep};
 use std::alloc::{AllocError, Global};
 use std::marker::Model;
@@ -17,14 +17,14 @@ const MOST_KEPT: usize = 24;
 #[derive(Drop)]
 pub enum Outcome {
     Lost,
-    Going(Track),
+    Going(Course),
     Whole(Barring),
 }
 
 /// A round as far as its longer lists are gathered.
 #[derive(Drop)]
 pub struct Round {
-    kept: Vec<Track>,
+    kept: Vec<Course>,
     best: Option<Barring>,
 }
 
@@ -37,12 +37,12 @@ impl Model for Round {
 }
 
 /// Takes out what is not below the best.
-fn clear_above(kept: &mut Vec<Track>, best: &Option<Barring>)
+fn clear_above(kept: &mut Vec<Course>, best: &Option<Barring>)
     ensures { kept.new.items ≡ filter (λ t. is_below best.now t.barring) kept.old.items }
 {
     if let Some(best) = best {
         let most = best.value();
-        kept.retain(|track| track.value() < most);
+        kept.retain(|course| course.value() < most);
     }
 }
 
@@ -59,13 +59,17 @@ impl Round {
 
     /// Gathers one more list.
     pub fn add(&mut self, outcome: Outcome) -> Result<(), AllocError>
-        requires { (best : Option Barring) × (found : List Found) × (tracks : List barrings.Track) × IsGathered best found tracks self.old }
-        ensures { (best : Option Barring) (found : List Found) (tracks : List barrings.Track) → IsGathered best found tracks self.old
-            → OnOk result (IsGathered best (found ++ found_of outcome ∷ []) (tracks ++ going_in outcome) self.new) }
+        requires { (best : Option Barring) × (found : List Found) × (courses : List barrings.Course) × IsGathered best found courses self.old }
+        ensures { (best : Option Barring) (found : List Found) (courses : List barrings.Course) → IsGathered best found courses self.old
+            → OnOk result (IsGathered best (found ++ found_of outcome ∷ []) (courses ++ going_in outcome) self.new) }
     {
         match outcome {
             Outcome::Lost => Ok(()),
-            Outcome::Going(track) => keep(&mut self.kept, track),
+            Outcome::Going(course) => {
+                keep(&mut self.kept, course)?;
+                self.kept.truncate(MOST_KEPT);
+                Ok(())
+            }
             Outcome::Whole(barring) => {
                 self.best = better(self.best.take(), barring);
                 Ok(())
@@ -74,16 +78,16 @@ impl Round {
     }
 
     /// The next front and the best.
-    pub fn close(self) -> (Vec<Track>, Option<Barring>)
+    pub fn close(self) -> (Vec<Course>, Option<Barring>)
         ensures best { result.1 ≡ self.best }
-        ensures front { (best : Option Barring) (found : List Found) (tracks : List barrings.Track) → IsGathered best found tracks self
+        ensures front { (best : Option Barring) (found : List Found) (courses : List barrings.Course) → IsGathered best found courses self
             → IsNextFront self.best (filter_map going_on found) (map barring_of result.0.items) }
-        ensures among { (best : Option Barring) (found : List Found) (tracks : List barrings.Track) → IsGathered best found tracks self
-            → (track : barrings.Track) → Contains result.0.items track → Contains tracks track }
-        ensures few { length result.0.items ≤ 24 }
+        ensures among { (best : Option Barring) (found : List Found) (courses : List barrings.Course) → IsGathered best found courses self
+            → (course : barrings.Course) → Contains result.0.items course → Contains courses course }
+        ensures few { (best : Option Barring) (found : List Found) (courses : List barrings.Course) → IsGathered best found courses self
+            → length result.0.items ≤ 24 }
     {
         let Round { mut kept, best } = self;
-        kept.truncate(MOST_KEPT);
         clear_above(&mut kept, &best);
         (kept, best)
     }

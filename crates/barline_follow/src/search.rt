@@ -1,12 +1,15 @@
 ghost use Rattle.bar_pool.specs.declared.limits.TheConstants.{MOST_WORKERS};
+ghost use Rattle.barline_follow.specs.Builds.{most_lists, most_tables};
 ghost use Rattle.barline_follow.specs.Gathered.{barring_of};
-ghost use Rattle.barline_follow.specs.NextBars.{IsNextBar, IsTrackOf};
+ghost use Rattle.barline_follow.specs.NextBars.{IsNextBar, IsCourseOf};
 ghost use Rattle.barline_follow.specs.Rounds.{IsBest, IsRound};
-ghost use Rattle.barline_follow.specs.Tracks.{first_track};
+ghost use Rattle.barline_follow.specs.Courses.{first_course};
+ghost use Rattle.grammar_plan.specs.Plans.{IsPlan};
+ghost use Rattle.rhythm_base.specs.Counter.{risen};
 ghost use Rattle.rhythm_base.specs.Readable.{IsReadable};
-ghost use Rattle.std.specs.Prelude.{◌≡◌, ◌+◌, ◌≤◌, [], ◌∷◌, All, IfOk, length, map};
+ghost use Rattle.std.specs.Prelude.{◌≡◌, ◌+◌, ◌*◌, ◌≤◌, [], ◌∷◌, All, IfOk, length, map};
 
-use crate::barring::{Barring, Track};
+use crate::barring::{Barring, Course};
 use crate::cells::round_inputs;
 use crate::gather::gather;
 use crate::heads::Heads;
@@ -15,22 +18,24 @@ use crate::tried::front_tried;
 use crate::voice::voices_of;
 use bar_cut::check_starts;
 use bar_pool::build_cells;
+use grammar_plan::Plan;
 use least_cost::Steps as Builds;
 use rhythm_base::{Grammar, Performance, Tag};
 use rhythm_ports::Gate;
 use std::alloc::{AllocError, Global};
 use std::thread::Threads;
 
-/// By up to how many workers tables are built, and the gate before each.
+/// By which plan and by up to how many workers tables are built, and the gate before each.
 #[derive(Drop)]
 struct Crew<'a, G> {
+    plan: &'a Plan,
     workers: u32,
     gate: &'a G,
 }
 
 /// The front of no bar, for so many voices.
-fn first_front(alloc: Global, voices: usize) -> Result<Vec<Track>, AllocError>
-    ensures { IfOk result (λ v. v.items ≡ first_track voices ∷ []) }
+fn first_front(alloc: Global, voices: usize) -> Result<Vec<Course>, AllocError>
+    ensures { IfOk result (λ v. v.items ≡ first_course voices ∷ []) }
 {
     let ticks = Vec::from_array(alloc, [0u64])?;
     let start = Heads {
@@ -42,7 +47,7 @@ fn first_front(alloc: Global, voices: usize) -> Result<Vec<Track>, AllocError>
     }
     let barring = Barring::of(ticks, 0, 0);
     let mut front = Vec::new(alloc);
-    front.push(Track::of(barring, heads))?;
+    front.push(Course::of(barring, heads))?;
     Ok(front)
 }
 
@@ -51,33 +56,30 @@ fn next_round<R: Threads + Sync, G: Gate + Sync, B: Tag>(
     rt: &R,
     alloc: Global,
     next: &NextBar,
-    front: &[Track],
+    front: &[Course],
     best: Option<Barring>,
     crew: &Crew<'_, G>,
     builds: &mut Builds<B>,
-) -> Result<(Vec<Track>, Option<Barring>), AllocError>
+) -> Result<(Vec<Course>, Option<Barring>), AllocError>
     requires next { IsNextBar next.now }
-    requires front { All (IsTrackOf next.now next.now.number) front.now }
+    requires front { All (IsCourseOf next.now next.now.number) front.now }
+    requires few_lists { length front.now ≤ most_lists next.now.number }
+    requires plan { IsPlan next.now.grammar.now crew.now.plan.now }
     requires some_worker { 1 ≤ crew.now.workers }
     requires few_workers { crew.now.workers ≤ MOST_WORKERS }
     ensures round { IfOk result (λ r. IsRound next.now.grammar.now next.now.performance.now next.now.number
         (map barring_of front.now) best (map barring_of r.0.items) r.1) }
-    ensures tracks { IfOk result (λ r. All (IsTrackOf next.now (next.now.number + 1)) r.0.items) }
+    ensures courses { IfOk result (λ r. All (IsCourseOf next.now (next.now.number + 1)) r.0.items) }
+    ensures lists { IfOk result (λ r. length r.0.items ≤ 24) }
+    ensures most { builds.new ≤ risen builds.old (24 * 14 * length next.now.voices.now) }
     ensures builds { builds.old ≤ builds.new }
 {
     let all = front_tried(alloc, next, front)?;
     let tried = all.as_slice();
     let cells = round_inputs(alloc, next, front, tried)?;
     let inputs = cells.as_slice();
-    let tables = build_cells(
-        rt,
-        alloc,
-        next.grammar,
-        inputs,
-        crew.workers,
-        crew.gate,
-        builds,
-    )?;
+    let (grammar, plan, workers) = (next.grammar, crew.plan, crew.workers);
+    let tables = build_cells(rt, alloc, grammar, plan, inputs, workers, crew.gate, builds)?;
     let round = gather(alloc, next, front, tried, tables.as_slice(), best)?;
     Ok(round.close())
 }
@@ -97,9 +99,15 @@ pub fn best_barlines<R: Threads + Sync, G: Gate + Sync, B: Tag>(
     requires few_workers { workers ≤ MOST_WORKERS }
     requires readable { IsReadable grammar.now }
     ensures best { IfOk result (λ best. IsBest grammar.now performance.now best) }
+    ensures most { builds.new ≤ risen builds.old (most_tables performance.now) }
     ensures builds { builds.old ≤ builds.new }
 {
-    let crew = Crew { workers, gate };
+    let plan = Plan::of(alloc, grammar)?;
+    let crew = Crew {
+        plan: &plan,
+        workers,
+        gate,
+    };
     let closing = closing_tick(performance.notes());
     let voices = voices_of(alloc, grammar, performance)?;
     let mut front = first_front(alloc, voices.len())?;
@@ -118,15 +126,8 @@ pub fn best_barlines<R: Threads + Sync, G: Gate + Sync, B: Tag>(
             is_rooted: check_starts(grammar, &[like]).is_ok(),
             closing,
         };
-        let (longer, longer_best) = next_round(
-            rt,
-            alloc,
-            &next,
-            front.as_slice(),
-            best,
-            &crew,
-            builds,
-        )?;
+        let lists = front.as_slice();
+        let (longer, longer_best) = next_round(rt, alloc, &next, lists, best, &crew, builds)?;
         front = longer;
         best = longer_best;
     }

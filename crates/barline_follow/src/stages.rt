@@ -59,7 +59,7 @@ fn aims(
 fn push_later(script: &mut Vec<Edit>, ticks: &[u64], aims: &[u64]) -> Result<(), AllocError>
     requires { length ticks.now < 2 ^ 32 }
     ensures { OnOk result (script.new.items ≡ script.old.items
-        ++ map steps.line_of (reverse (filter steps.is_later (steps.shifts 0 ticks.now aims.now)))) }
+        ++ map steps.shift_line (reverse (filter steps.is_later (steps.shifts 0 ticks.now aims.now)))) }
 {
     let count = ticks.len().min(aims.len());
     'barlines: for number in (0..count).rev() {
@@ -77,7 +77,7 @@ fn push_later(script: &mut Vec<Edit>, ticks: &[u64], aims: &[u64]) -> Result<(),
 fn push_earlier(script: &mut Vec<Edit>, ticks: &[u64], aims: &[u64]) -> Result<(), AllocError>
     requires { length ticks.now < 2 ^ 32 }
     ensures { OnOk result (script.new.items ≡ script.old.items
-        ++ map steps.line_of (filter steps.is_earlier (steps.shifts 0 ticks.now aims.now))) }
+        ++ map steps.shift_line (filter steps.is_earlier (steps.shifts 0 ticks.now aims.now))) }
 {
     let count = ticks.len().min(aims.len());
     'barlines: for number in 0..count {

@@ -1,6 +1,7 @@
 ghost use Rattle.barline_follow.specs.Script.{Accepts, IsOfBars, Leads};
 ghost use Rattle.barline_follow.specs.Trial.{IsStepBack, LeadBack};
-ghost use Rattle.rhythm_base.specs.Edits as edits;
+ghost use Rattle.rhythm_base.specs.EditRanges as edits;
+ghost use Rattle.edit_laws.specs.Edits.{edited};
 ghost use Rattle.rhythm_base.specs.Performance.{IsWellFormed, Performance};
 ghost use Rattle.rhythm_base.specs.Voices.{HasDerivation, IsCostOf};
 ghost use Rattle.std.specs.Prelude.{◌≡◌, ◌≤◌, ℕ, [], All, IfErr, IfOk, IfSome, None, Ok, OnOk, OnSome, false, length, reverse, true};
@@ -12,6 +13,13 @@ use rhythm_base::{Edit, EditFault, LATEST_TICK, MOST_BARS, Tag};
 use rhythm_ports::Gate;
 use std::alloc::{AllocError, Global};
 use std::thread::Threads;
+
+/// The threads that build tables, and the gate before each.
+#[derive(Drop)]
+struct Ports<'a, R, G> {
+    threads: &'a R,
+    gate: &'a G,
+}
 
 /// An edit of bars is in range.
 fn is_in_range(edit: &Edit) -> bool
@@ -27,18 +35,17 @@ fn is_in_range(edit: &Edit) -> bool
 
 /// Makes an edit and says the way back; none where it is refused, and the session is as before.
 fn make<R: Threads + Sync, G: Gate + Sync, B: Tag, P: Tag>(
-    rt: &R,
+    ports: &Ports<'_, R, G>,
     alloc: Global,
     session: &mut Session,
     edit: &Edit,
-    gate: &G,
     builds: &mut Builds<B>,
     products: &mut Products<P>,
 ) -> Result<Option<Prepared>, AllocError>
     ensures grammar { session.new.grammar ≡ session.old.grammar }
     ensures room { session.old.room ≤ session.new.room }
     ensures range { IfOk result (λ made. OnSome made (edits.IsEditInRange edit.now)) }
-    ensures edited { IfOk result (λ made. OnSome made (edits.edited session.old.performance edit.now ≡ Ok session.new.performance)) }
+    ensures edited { IfOk result (λ made. OnSome made (edited session.old.performance edit.now ≡ Ok session.new.performance)) }
     ensures derivations { IfOk result (λ made. OnSome made (All (HasDerivation session.old.grammar session.new.performance) session.new.performance.channels)) }
     ensures back { IfOk result (λ made. IfSome made (λ back. IsStepBack session.old.grammar session.new.performance session.new.room back × (back.next ≡ session.old.performance))) }
     ensures refused { IfOk result (λ made. made ≡ None → session.new.performance ≡ session.old.performance) }
@@ -51,7 +58,7 @@ fn make<R: Threads + Sync, G: Gate + Sync, B: Tag, P: Tag>(
     if !is_in_range(edit) {
         return Ok(None);
     }
-    match session.prepare(rt, alloc, edit, gate, builds) {
+    match session.prepare(ports.threads, alloc, edit, ports.gate, builds) {
         Err(EditFault::Memory) => Err(AllocError),
         Err(_fault) => Ok(None),
         Ok(prepared) => {
@@ -68,12 +75,11 @@ fn make<R: Threads + Sync, G: Gate + Sync, B: Tag, P: Tag>(
 
 /// Makes the edits in turn up to one that is refused, and says whether all are made. The ways back are kept, the last one last.
 fn make_all<R: Threads + Sync, G: Gate + Sync, B: Tag, P: Tag>(
-    rt: &R,
+    ports: &Ports<'_, R, G>,
     alloc: Global,
     session: &mut Session,
     script: &[Edit],
     backs: &mut Vec<Prepared>,
-    gate: &G,
     builds: &mut Builds<B>,
     products: &mut Products<P>,
 ) -> Result<bool, AllocError>
@@ -89,7 +95,7 @@ fn make_all<R: Threads + Sync, G: Gate + Sync, B: Tag, P: Tag>(
 {
     'edits: for edit in script {
         backs.reserve(1)?;
-        match make(rt, alloc, session, edit, gate, builds, products)? {
+        match make(ports, alloc, session, edit, builds, products)? {
             None => return Ok(false),
             Some(back) => backs.push(back).unwrap(),
         }
@@ -135,10 +141,9 @@ pub fn try_edits<R: Threads + Sync, G: Gate + Sync, B: Tag, P: Tag>(
     ensures builds { builds.old ≤ builds.new }
     ensures products { products.old ≤ products.new }
 {
+    let ports = Ports { threads: rt, gate };
     let mut backs = Vec::new(alloc);
-    let made = make_all(
-        rt, alloc, session, script, &mut backs, gate, builds, products,
-    );
+    let made = make_all(&ports, alloc, session, script, &mut backs, builds, products);
     let cost = session.cost();
     take_all_back(session, backs, products);
     Ok(if made? { Some(cost) } else { None })

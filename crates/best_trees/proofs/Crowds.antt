@@ -6,9 +6,9 @@ use Rattle.rhythm_base.specs.Forest.{Forest, none, more}
 use Rattle.rhythm_base.specs.Shape.{Shape, end, part}
 use Rattle.rhythm_base.specs.Trees.{are_shaped, are_trees, children_of, leaf_of_ending, suits}
 use Rattle.rhythm_base.specs.declared.rule.Rule.{Rule}
-use Rattle.rhythm_laws.specs.Forests.{AreWide, first_shape, has_shapes, one_shape, other_shapes}
-use Rattle.rhythm_laws.proofs.Ranks.{both}
-use Rattle.rhythm_laws.proofs.Shares.{below-wide, children-below, children-whole}
+use Rattle.tree_laws.specs.Forests.{AreWide, first_shape, has_shapes, one_shape, other_shapes}
+use Rattle.tree_laws.proofs.Ranks.{both}
+use Rattle.tree_laws.proofs.Shares.{below-wide, children-below, children-whole}
 use Rattle.best_trees.specs.Pins.{NoneFit, leaf_count, least_leaves}
 
 -- the parts of a node are some units wide, and together no wider than the node

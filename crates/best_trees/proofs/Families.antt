@@ -11,9 +11,9 @@ use Rattle.rhythm_base.specs.Bodies.{sizes}
 use Rattle.rhythm_base.specs.Grammar.{Grammar}
 use Rattle.rhythm_base.specs.Ranked.{Key}
 use Rattle.rhythm_base.specs.Shape.{Shape}
-use Rattle.rhythm_laws.specs.Forests.{AreWide, Ground, IsForestKey, IsGround, one_shape}
-use Rattle.rhythm_laws.specs.Quiet.{SoundAlike}
-use Rattle.rhythm_laws.proofs.Quiet.{alike-key, alike-turned}
+use Rattle.tree_laws.specs.Forests.{AreWide, Ground, IsForestKey, IsGround, one_shape}
+use Rattle.tree_laws.specs.Quiet.{SoundAlike}
+use Rattle.tree_laws.proofs.Quiet.{alike-key, alike-turned}
 use Rattle.best_trees.specs.declared.memo.Asked.{Asked}
 use Rattle.best_trees.specs.declared.memo.Family.{Family}
 use Rattle.best_trees.specs.declared.memo.Found.{Found}
@@ -28,7 +28,7 @@ use Rattle.row_laws.specs.declared.quiet.Quiet.{Quiet}
 use Rattle.row_laws.specs.declared.quiet.Quiet.TheVariants.{Silent, Sounding}
 use Rattle.best_trees.specs.Grids.{ranking_at}
 use Rattle.best_trees.specs.Memos.{AddsFound, AreThere, HasFound, IsGridOf, KeepsFound, LiesAt}
-use Rattle.best_trees.specs.Nodes.{AreBestForests, AreBestLast, AreFound, IsAnswer, IsAnswerAt, IsAnswerOf, IsOf, IsWithin}
+use Rattle.best_trees.specs.Nodes.{AreBestForests, AreBestLast, AreFound, AreDemanded, IsAnswerAt, IsAnswerOf, IsOf, IsInBar}
 use Rattle.best_trees.specs.Pins.{demanded}
 use Rattle.best_trees.proofs.Firsts.{first-same}
 
@@ -54,7 +54,7 @@ module _ (d : Ground) (ground : IsGround d) (s : Option Shape) (n w symbol : ℕ
 -- ---- what was found
 
 module _ (g : Grammar) (k : BarInput) (os : List Shape) (ground : IsGround (ground_of g k)) (count : ℕ) where
-  answer-of : (family : Family) (asked : Asked) (grid : List (List Key)) → IsWithin k asked → IsOf g k family asked → IsAnswer g k os count asked grid → IsAnswerOf g k os count family grid
+  answer-of : (family : Family) (asked : Asked) (grid : List (List Key)) → IsInBar k asked → IsOf g k family asked → AreDemanded g k os count asked grid → IsAnswerOf g k os count family grid
   answer-of family asked grid within is own p there =
       let d = ground_of g k in
       let P : ℕ → ℕ → Demand → Type 0 = λ w s o. AreBestForests d (one_shape (demanded os o)) count p ((w, s) ∷ []) grid in
@@ -62,15 +62,15 @@ module _ (g : Grammar) (k : BarInput) (os : List Shape) (ground : IsGround (grou
       let best = forests-there d ground (one_shape (demanded os asked.demand)) count asked.width asked.symbol within.wide asked.place p grid family.site is.site here own in
       subst (P family.width family.symbol) (sym is.demand) (subst (λ s. P family.width s asked.demand) (sym is.symbol) (subst (λ w. P w asked.symbol asked.demand) (sym is.width) best))
 
-  answer-from : (family : Family) (asked : Asked) (grid : List (List Key)) → IsOf g k family asked → IsAnswerOf g k os count family grid → IsAnswer g k os count asked grid
+  answer-from : (family : Family) (asked : Asked) (grid : List (List Key)) → IsOf g k family asked → IsAnswerOf g k os count family grid → AreDemanded g k os count asked grid
   answer-from family asked grid is all =
       let d = ground_of g k in
       let P : ℕ → ℕ → Demand → Type 0 = λ w s o. AreBestForests d (one_shape (demanded os o)) count asked.place ((w, s) ∷ []) grid in
       let best = all asked.place (subst (LiesAt d family.site asked.place) (sym is.width) is.site) in
       subst (P asked.width asked.symbol) is.demand (subst (λ s. P asked.width s family.demand) is.symbol (subst (λ w. P w family.symbol family.demand) is.width best))
 
-  pub found-add : (xs ys : List Found) (family : Family) (asked : Asked) (grid : List (List Key)) → IsWithin k asked → IsOf g k family asked → AddsFound xs ys family grid
-      → AreFound g k os count xs → IsAnswer g k os count asked grid → AreFound g k os count ys
+  pub found-add : (xs ys : List Found) (family : Family) (asked : Asked) (grid : List (List Key)) → IsInBar k asked → IsOf g k family asked → AddsFound xs ys family grid
+      → AreFound g k os count xs → AreDemanded g k os count asked grid → AreFound g k os count ys
   found-add xs ys family asked grid within is new h own =
       let all = answer-of family asked grid within is own in
       let P : Found → Type 0 = λ x. IsAnswerOf g k os count x.family x.grid in
@@ -86,13 +86,13 @@ module _ (g : Grammar) (k : BarInput) (os : List Shape) (ground : IsGround (grou
       (f.0, f.1, answer-from family asked f.0.grid is (subst Q f.2 here))
 
   -- what is kept last has the last number
-  pub found-last : (xs ys : List Found) (family : Family) (asked : Asked) (grid : List (List Key)) (n : ℕ) → AddsFound xs ys family grid → n ≡ length xs → IsAnswer g k os count asked grid
+  pub found-last : (xs ys : List Found) (family : Family) (asked : Asked) (grid : List (List Key)) (n : ℕ) → AddsFound xs ys family grid → n ≡ length xs → AreDemanded g k os count asked grid
       → IsAnswerAt g k os count ys asked n
   found-last xs ys family asked grid n new last own =
       let x : Found = new.0 in
       let at : slice_get ys n ≡ Some x =
       (λ i. slice_get (new.1 i) (last i)) ∙ slice_get-get_or (xs ++ x ∷ []) (length xs) x (longer xs x) ∙ ap (λ (y : Found). Some y) (get_or-append_seam xs x [] x) in
-      (x, at, subst (IsAnswer g k os count asked) (sym new.3) own)
+      (x, at, subst (AreDemanded g k os count asked) (sym new.3) own)
     where
       longer : (xs : List Found) (x : Found) → length xs < length (xs ++ x ∷ [])
       longer xs x = let long = length-append xs (x ∷ []) in omega (arith, long)
@@ -103,8 +103,8 @@ pub answer-low : (g : Grammar) (k : BarInput) (os : List Shape) (count : ℕ) (x
 answer-low g k os count xs asked n a = slice_get_within xs n a.0 a.1
 
 pub answered : (g : Grammar) (k : BarInput) (os : List Shape) (count : ℕ) (xs : List Found) (asked : Asked) (n : ℕ) (grid : List (List Key)) → IsAnswerAt g k os count xs asked n
-    → ((x : Found) → slice_get xs n ≡ Some x → x.grid ≡ grid) → IsAnswer g k os count asked grid
-answered g k os count xs asked n grid a is = subst (IsAnswer g k os count asked) (is a.0 a.1) a.2
+    → ((x : Found) → slice_get xs n ≡ Some x → x.grid ≡ grid) → AreDemanded g k os count asked grid
+answered g k os count xs asked n grid a is = subst (AreDemanded g k os count asked) (is a.0 a.1) a.2
 
 -- ---- what stays found
 

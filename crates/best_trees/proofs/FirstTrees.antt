@@ -5,20 +5,21 @@ use Rattle.rhythm_base.specs.BarInput.{BarInput}
 use Rattle.rhythm_base.specs.Grammar.{Grammar}
 use Rattle.rhythm_base.specs.Ranked.{Key, is_before, table_of}
 use Rattle.rhythm_base.specs.Shape.{Shape}
-use Rattle.rhythm_laws.specs.Forests.{IsForestKey, one_shape}
-use Rattle.rhythm_laws.specs.Tables.{IsLeastKey}
-use Rattle.rhythm_laws.proofs.FirstLists.{contains_split}
-use Rattle.rhythm_laws.proofs.KeyOrders.{before_above, itself, keys_total}
-use Rattle.rhythm_laws.proofs.OrderedLists.{all_head}
+use Rattle.tree_laws.specs.Forests.{IsForestKey, one_shape}
+use Rattle.path_laws.specs.Tables.{IsLeastKey}
+use Rattle.rhythm_base.proofs.FirstLists.{contains_split}
+use Rattle.rhythm_base.proofs.TotalOrders.{before_above, itself}
+use Rattle.path_laws.proofs.KeyOrders.{keys_total}
+use Rattle.rhythm_base.proofs.OrderedLists.{all_head}
 use Rattle.row_laws.specs.Grounds.{ground_of}
-use Rattle.least_rows.specs.WrittenLists.{AreWritten, IsListAt}
-use Rattle.least_rows.specs.declared.bar_trees.BarTrees.{BarTrees}
-use Rattle.best_trees.specs.BarTrees.{AreBestOfBar, ArePinnedTrees}
-use Rattle.best_trees.specs.Firsts.{AreFirst, IsBefore, first_key}
+use Rattle.bar_trees.specs.WrittenLists.{AreListsWritten, IsListAt}
+use Rattle.bar_trees.specs.declared.trees.BarTrees.{BarTrees}
+use Rattle.best_trees.specs.BarTrees.{AreBestBarTrees, ArePinnedTrees}
+use Rattle.best_trees.specs.Firsts.{AreFirstKeys, IsBefore, first_key}
 use Rattle.best_trees.specs.Grids.{first_keys, ranking_at}
 
 -- the first one of a set is its least
-pub first-least : (S : Key → Type 0) (xs : List Key) → AreFirst S 1 xs → IsLeastKey S (first_key xs)
+pub first-least : (S : Key → Type 0) (xs : List Key) → AreFirstKeys S 1 xs → IsLeastKey S (first_key xs)
 first-least S [] h = none
   where
     none : (k : Key) → S k → ⊥
@@ -34,10 +35,10 @@ first-least S (x ∷ xs) h = (h.are 0 x (omega arith), first)
       | inr full ↦ before_above keys_total x k (all_head (λ y. IsBefore y k) x xs full.1)
     ]
 
-pub least-trees : (g : Grammar) (k : BarInput) (shape : Option Shape) (grid : List (List Key)) (trees : BarTrees) → shape ≡ k.pin → AreBestOfBar g k shape 1 grid → trees.bests.rows ≡ table_of (first_keys grid)
-    → AreWritten (IsListAt (first_keys grid)) trees.lists.rules.items trees.lists.ends 25 → ArePinnedTrees g k trees
+pub least-trees : (g : Grammar) (k : BarInput) (shape : Option Shape) (grid : List (List Key)) (trees : BarTrees) → shape ≡ k.pin → AreBestBarTrees g k shape 1 grid → trees.bests.rows ≡ table_of (first_keys grid)
+    → AreListsWritten (IsListAt (first_keys grid)) trees.lists.rules.items trees.lists.ends 25 → ArePinnedTrees g k trees
 least-trees g k shape grid trees is best bests lists =
-    let P : Option Shape → Type 0 = λ s. AreBestOfBar g k s 1 grid in
+    let P : Option Shape → Type 0 = λ s. AreBestBarTrees g k s 1 grid in
     let own = subst P is best in
     record {
       keys = first_keys grid;

@@ -11,11 +11,12 @@ use Rattle.std.proofs.lemmas.List.{append_assoc, length-map, length-take}
 use Rattle.std.proofs.lemmas.List.Elements.{All-take, All-weaker}
 use Rattle.std.proofs.lemmas.List.Kept.{AllPairs-cons}
 use Rattle.rhythm_base.specs.Ranked.{Key, is_before, list_cmp, plus}
-use Rattle.rhythm_laws.proofs.FirstLists.{all_contained, contains_split}
-use Rattle.rhythm_laws.proofs.KeyOrders.{Parse, above, before_above, both_above, itself, key_equal, keys_total, long_parse}
-use Rattle.rhythm_laws.proofs.LeastKeys.{Both}
-use Rattle.rhythm_laws.proofs.OrderedLists.{all_cons, all_head, all_tail, pairs_head, pairs_nil, pairs_tail}
-use Rattle.best_trees.specs.Firsts.{AreFirst, IsBefore, all_offered, offered, sums_offered, with_key}
+use Rattle.rhythm_base.proofs.FirstLists.{all_contained, contains_split}
+use Rattle.path_laws.proofs.KeyOrders.{Parse, key_equal, keys_total, long_parse}
+use Rattle.rhythm_base.proofs.TotalOrders.{above, before_above, both_above, itself}
+use Rattle.path_laws.proofs.LeastKeys.{Both}
+use Rattle.rhythm_base.proofs.OrderedLists.{all_cons, all_head, all_tail, pairs_head, pairs_nil, pairs_tail}
+use Rattle.best_trees.specs.Firsts.{AreFirstKeys, IsBefore, all_offered, offered, sums_offered, with_key}
 
 -- ---- members of a list
 
@@ -138,7 +139,7 @@ take_left zero (x ∷ xs) ys e = absurd (omega (arith, e))
 take_left (suc n) [] ys e = absurd (omega (arith, e))
 take_left (suc n) (x ∷ xs) ys e = ap (λ l. x ∷ l) (take_left n xs ys (omega (arith, e)))
 
-pub first-same : (S T : Key → Type 0) (n : ℕ) (xs : List Key) → ((k : Key) → S k → T k) → ((k : Key) → T k → S k) → AreFirst S n xs → AreFirst T n xs
+pub first-same : (S T : Key → Type 0) (n : ℕ) (xs : List Key) → ((k : Key) → S k → T k) → ((k : Key) → T k → S k) → AreFirstKeys S n xs → AreFirstKeys T n xs
 first-same S T n xs f g h = record {
   are = All-weaker S T f xs h.are;
   in_order = h.in_order;
@@ -146,10 +147,10 @@ first-same S T n xs f g h = record {
   first = λ k t. h.first k (g k t);
 }
 
-pub first-none : (S : Key → Type 0) (n : ℕ) → ((k : Key) → S k → ⊥) → AreFirst S n []
+pub first-none : (S : Key → Type 0) (n : ℕ) → ((k : Key) → S k → ⊥) → AreFirstKeys S n []
 first-none S n h = record { are = λ i d lt. absurd (omega (arith, lt)); in_order = pairs_nil IsBefore; few = omega arith; first = λ k s. absurd (h k s) }
 
-pub first-offered : (U : Key → Type 0) (n : ℕ) (xs : List Key) (k : Key) → AreFirst U n xs → AreFirst (λ y. U y ⊎ (y ≡ k)) n (offered n k xs)
+pub first-offered : (U : Key → Type 0) (n : ℕ) (xs : List Key) (k : Key) → AreFirstKeys U n xs → AreFirstKeys (λ y. U y ⊎ (y ≡ k)) n (offered n k xs)
 first-offered U n xs k h = record {
   are = All-take (λ y. U y ⊎ (y ≡ k)) n (with_key k xs) (with-all (λ y. U y ⊎ (y ≡ k)) k xs (inr refl) (All-weaker U (λ y. U y ⊎ (y ≡ k)) (λ y u. inl u) xs h.are));
   in_order = pairs_take n (with_key k xs) order;
@@ -189,7 +190,7 @@ first-offered U n xs k h = record {
 abbrev IsImage : (Key → Key) → List Key → Key → Type 0
 IsImage f ys k = (y : Key) × Contains ys y × (k ≡ f y)
 
-pub first-all : (f : Key → Key) (ys : List Key) (U : Key → Type 0) (n : ℕ) (xs : List Key) → AreFirst U n xs → AreFirst (λ k. U k ⊎ IsImage f ys k) n (all_offered n (map f ys) xs)
+pub first-all : (f : Key → Key) (ys : List Key) (U : Key → Type 0) (n : ℕ) (xs : List Key) → AreFirstKeys U n xs → AreFirstKeys (λ k. U k ⊎ IsImage f ys k) n (all_offered n (map f ys) xs)
 first-all f [] U n xs h = first-same U (λ k. U k ⊎ IsImage f [] k) n xs (λ k u. inl u) (λ k s. elim s [ inl u ↦ u | inr i ↦ absurd (omega (arith, i.1.1)) ]) h
 first-all f (y ∷ ys) U n xs h =
     first-same (λ k. (U k ⊎ (k ≡ f y)) ⊎ IsImage f ys k) (λ k. U k ⊎ IsImage f (y ∷ ys) k) n (all_offered n (map f ys) (offered n (f y) xs)) there back
@@ -257,7 +258,7 @@ pub record HasEnough (Q : Key → Type 0) (n : ℕ) (k : Key) : Type 0 where
   pub are : All Q keys
   pub before : All (λ z. IsBefore z k) keys
 
-module _ (Q : Key → Type 0) (n : ℕ) (acc : List Key) (h : AreFirst Q n acc) (k : Key) where
+module _ (Q : Key → Type 0) (n : ℕ) (acc : List Key) (h : AreFirstKeys Q n acc) (k : Key) where
   abbrev Full : Type 0
   Full = (length acc ≡ n) × All (λ x. IsBefore x k) acc
 
@@ -281,7 +282,7 @@ module _ (Q : Key → Type 0) (n : ℕ) (acc : List Key) (h : AreFirst Q n acc) 
   ]
 
 -- the first of a set are the first of a greater one whose other members have enough before them
-pub first-enough : (Q P : Key → Type 0) (n : ℕ) (acc : List Key) → ((k : Key) → Q k → P k) → ((k : Key) → P k → Q k ⊎ HasEnough Q n k) → AreFirst Q n acc → AreFirst P n acc
+pub first-enough : (Q P : Key → Type 0) (n : ℕ) (acc : List Key) → ((k : Key) → Q k → P k) → ((k : Key) → P k → Q k ⊎ HasEnough Q n k) → AreFirstKeys Q n acc → AreFirstKeys P n acc
 first-enough Q P n acc within enough h = record {
   are = All-weaker Q P within acc h.are;
   in_order = h.in_order;
@@ -361,7 +362,7 @@ abbrev pub IsTopped : (Key → Type 0) → Key → Key → Type 0
 IsTopped T x k = (y : Key) × T y × (k ≡ plus x y)
 
 -- the first of a set are the first with a key before each
-pub first-mapped : (T : Key → Type 0) (n : ℕ) (top : Key) (xs : List Key) → AreFirst T n xs → AreFirst (IsTopped T top) n (map (plus top) xs)
+pub first-mapped : (T : Key → Type 0) (n : ℕ) (top : Key) (xs : List Key) → AreFirstKeys T n xs → AreFirstKeys (IsTopped T top) n (map (plus top) xs)
 first-mapped T n top xs h = record {
   are = mapped_all (IsTopped T top) (plus top) xs (All-weaker T (λ x. IsTopped T top (plus top x)) (λ x t. (x, t, refl)) xs h.are);
   in_order = mapped_order (plus top) xs (λ y z c d less. plus_right top y z less) h.in_order;
@@ -398,7 +399,7 @@ plus_nothing x =
     λ i. (same i, x.1)
 
 -- one key before all of a set
-pub first-topped : (U T : Key → Type 0) (n : ℕ) (x : Key) (ys acc : List Key) → AreFirst T n ys → AreFirst U n acc → AreFirst (λ k. U k ⊎ ((y : Key) × T y × (k ≡ plus x y))) n (all_offered n (map (plus x) ys) acc)
+pub first-topped : (U T : Key → Type 0) (n : ℕ) (x : Key) (ys acc : List Key) → AreFirstKeys T n ys → AreFirstKeys U n acc → AreFirstKeys (λ k. U k ⊎ ((y : Key) × T y × (k ≡ plus x y))) n (all_offered n (map (plus x) ys) acc)
 first-topped U T n x ys acc right h =
     first-enough (λ k. U k ⊎ IsImage (plus x) ys k) (λ k. U k ⊎ ((y : Key) × T y × (k ≡ plus x y))) n (all_offered n (map (plus x) ys) acc) within enough (first-all (plus x) ys U n acc h)
   where
@@ -423,7 +424,7 @@ first-topped U T n x ys acc right h =
 abbrev IsHalf : (Key → Type 0) → List Key → Key → Type 0
 IsHalf T xs k = (x : Key) × Contains xs x × ((y : Key) × T y × (k ≡ plus x y))
 
-first-half : (T : Key → Type 0) (n : ℕ) (ys : List Key) → AreFirst T n ys → (xs : List Key) (U : Key → Type 0) (acc : List Key) → AreFirst U n acc → AreFirst (λ k. U k ⊎ IsHalf T xs k) n (sums_offered n xs ys acc)
+first-half : (T : Key → Type 0) (n : ℕ) (ys : List Key) → AreFirstKeys T n ys → (xs : List Key) (U : Key → Type 0) (acc : List Key) → AreFirstKeys U n acc → AreFirstKeys (λ k. U k ⊎ IsHalf T xs k) n (sums_offered n xs ys acc)
 first-half T n ys right [] U acc h = first-same U (λ k. U k ⊎ IsHalf T [] k) n acc (λ k u. inl u) (λ k s. elim s [ inl u ↦ u | inr i ↦ absurd (omega (arith, i.1.1)) ]) h
 first-half T n ys right (x ∷ xs) U acc h =
     first-same (λ k. (U k ⊎ IsTopped T x k) ⊎ IsHalf T xs k) (λ k. U k ⊎ IsHalf T (x ∷ xs) k) n (sums_offered n xs ys (all_offered n (map (plus x) ys) acc)) there back
@@ -441,7 +442,7 @@ first-half T n ys right (x ∷ xs) U acc h =
       | inr later ↦ inr (i.0, later, i.2)
     ]
 
-module _ (U S T : Key → Type 0) (n : ℕ) (xs ys : List Key) (left : AreFirst S n xs) (right : AreFirst T n ys) (parse : (k l : Key) → S k → S l → Parse k.1 l.1) where
+module _ (U S T : Key → Type 0) (n : ℕ) (xs ys : List Key) (left : AreFirstKeys S n xs) (right : AreFirstKeys T n ys) (parse : (k l : Key) → S k → S l → Parse k.1 l.1) where
   abbrev Half : Key → Type 0
   Half k = U k ⊎ IsHalf T xs k
 
@@ -463,5 +464,5 @@ module _ (U S T : Key → Type 0) (n : ℕ) (xs ys : List Key) (left : AreFirst 
   ]
 
   -- the first of all sums are the first of the sums of the first
-  pub first-joined : (acc : List Key) → AreFirst U n acc → AreFirst (λ k. U k ⊎ Both S T k) n (sums_offered n xs ys acc)
+  pub first-joined : (acc : List Key) → AreFirstKeys U n acc → AreFirstKeys (λ k. U k ⊎ Both S T k) n (sums_offered n xs ys acc)
   first-joined acc h = first-enough Half (λ k. U k ⊎ Both S T k) n (sums_offered n xs ys acc) within enough (first-half T n ys right xs U acc h)

@@ -1,8 +1,8 @@
 -- Lists for pairs of counts, by the numbers of the pairs.
 use Rattle.std.proofs.Common.{◌≡◌, ℕ, suc, ◌+◌, ◌*◌, ◌/◌, ◌%◌, ◌<◌, List, [], get_or, map, refl, sym, ap, ap₂, ◌∙◌, subst, arith}
 use Rattle.rhythm_base.specs.Ranked.{Key, plus}
-use Rattle.best_trees.specs.Grids.{HasLists, joined, joined_below, ranking_at}
-use Rattle.best_trees.specs.Firsts.{AreKept, sums_offered}
+use Rattle.best_trees.specs.Grids.{HasLists, joined_row, joined_below, ranking_at}
+use Rattle.best_trees.specs.Firsts.{AreKeptKeys, sums_offered}
 use Rattle.best_trees.proofs.Offers.{sums-kept, sums-none}
 
 -- the numbers of a pair
@@ -34,11 +34,11 @@ module _ (count : ℕ) (top : Key) (left right : List (List Key)) (a b : ℕ) (o
       let all = map (plus top) (ranking_at left a m) in
       joined-next m now now (ranking_at left a m) others refl two so_far (sym (ap (λ l. sums_offered count all l now) bare ∙ sums-none count all now))
 
-  pub joined-kept : (now new first others : List Key) → AreKept count now → new ≡ sums_offered count (map (plus top) first) others now → AreKept count new
-  joined-kept now new first others kept is = subst (AreKept count) (sym is) (sums-kept count (map (plus top) first) others now kept)
+  pub joined-kept : (now new first others : List Key) → AreKeptKeys count now → new ≡ sums_offered count (map (plus top) first) others now → AreKeptKeys count new
+  joined-kept now new first others kept is = subst (AreKeptKeys count) (sym is) (sums-kept count (map (plus top) first) others now kept)
 
-  pub joined-all : (best : List Key) (m : ℕ) → m ≡ 5 → best ≡ joined_below count top left right a b old m → best ≡ joined count top left right a b old
-  unfolding joined
+  pub joined-all : (best : List Key) (m : ℕ) → m ≡ 5 → best ≡ joined_below count top left right a b old m → best ≡ joined_row count top left right a b old
+  unfolding joined_row
   joined-all best m all is = is ∙ ap (joined_below count top left right a b old) all
 
 -- ---- a list by the number of its pair

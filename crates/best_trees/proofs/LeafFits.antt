@@ -7,16 +7,16 @@ use Rattle.rhythm_base.specs.Grammar.{Grammar}
 use Rattle.rhythm_base.specs.Leaves.{looks}
 use Rattle.rhythm_base.specs.Line.{agrees}
 use Rattle.rhythm_base.specs.Lists.{last_end}
-use Rattle.rhythm_laws.specs.Places.{FitsAt, end_before}
-use Rattle.rhythm_laws.proofs.Ranks.{both}
-use Rattle.rhythm_laws.proofs.Runs.{agrees-few}
+use Rattle.tree_laws.specs.Places.{FitsAt, end_before}
+use Rattle.tree_laws.proofs.Ranks.{both}
+use Rattle.tree_laws.proofs.Runs.{agrees-few}
 use Rattle.row_laws.specs.Leaves.{HasLeaf, IsCrowded, leaf_of_cell, next_ends, own_ends}
 use Rattle.best_trees.specs.declared.memo.Asked.{Asked}
 use Rattle.best_trees.specs.Nodes.{HasNoLeaf}
 use Rattle.best_trees.specs.Pins.{demanded}
 use Rattle.rhythm_base.specs.Shape.{Shape}
 use Rattle.rhythm_base.specs.Forest.{none}
-use Rattle.rhythm_laws.specs.Forests.{has_shapes}
+use Rattle.tree_laws.specs.Forests.{has_shapes}
 
 module _ (k : BarInput) (p w : ℕ) (ending : Ending) where
   abbrev Fits : ℕ → ℕ → ℕ → Type 0

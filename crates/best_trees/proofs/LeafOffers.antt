@@ -4,8 +4,8 @@ use Rattle.std.specs.Prelude.{if◌then◌else◌}
 use Rattle.std.proofs.lemmas.Bool.{cases_lt}
 use Rattle.std.proofs.lemmas.Bool.Decides.{nat_tests}
 use Rattle.rhythm_base.specs.Ranked.{Key}
-use Rattle.rhythm_laws.proofs.OrderedLists.{pairs_nil}
-use Rattle.best_trees.specs.Firsts.{AreKept, IsBefore, offered}
+use Rattle.rhythm_base.proofs.OrderedLists.{pairs_nil}
+use Rattle.best_trees.specs.Firsts.{AreKeptKeys, IsBefore, offered}
 use Rattle.best_trees.specs.Grids.{HasLists, ranking_at}
 
 module _ (count : ℕ) (key : Key) (fit : ℕ → Bool) (next : ℕ) (old : List (List Key)) where
@@ -24,8 +24,8 @@ module _ (count : ℕ) (key : Key) (fit : ℕ → Bool) (next : ℕ) (old : List
   pub all-offered : (n : ℕ) (grid : List (List Key)) → n ≡ 5 → IsOfferedBelow n grid → HasLists taken grid
   all-offered n grid all h = λ a b la lb. h.done a b la lb (omega (arith, la, all))
 
-  pub kept-still : (n : ℕ) (grid : List (List Key)) → n < 5 → next < 5 → ((a b : ℕ) → a < 5 → b < 5 → AreKept count (ranking_at old a b)) → IsOfferedBelow n grid → AreKept count (ranking_at grid n next)
-  kept-still n grid low few kept h = subst (AreKept count) (sym (h.rest n next low few (omega arith))) (kept n next low few)
+  pub kept-still : (n : ℕ) (grid : List (List Key)) → n < 5 → next < 5 → ((a b : ℕ) → a < 5 → b < 5 → AreKeptKeys count (ranking_at old a b)) → IsOfferedBelow n grid → AreKeptKeys count (ranking_at grid n next)
+  kept-still n grid low few kept h = subst (AreKeptKeys count) (sym (h.rest n next low few (omega arith))) (kept n next low few)
 
   off : (n a b : ℕ) → fit n ≡ false → a ≡ n → ranking_at old a b ≡ taken a b
   off n a b e same = go (fit a) (ap fit same ∙ e)
@@ -77,8 +77,8 @@ no-diagonal count grid h = record { done = λ a b la lb low. absurd (omega (arit
 pub all-diagonal : (count n : ℕ) (grid : List (List Key)) → n ≡ 5 → IsDiagonalBelow count n grid → HasLists (λ a b. if a == b then offered count (0, []) [] else []) grid
 all-diagonal count n grid all h = λ a b la lb. h.done a b la lb (omega (arith, la, all))
 
-pub diagonal-kept : (count n : ℕ) (grid : List (List Key)) → n < 5 → IsDiagonalBelow count n grid → AreKept count (ranking_at grid n n)
-diagonal-kept count n grid low h = subst (AreKept count) (sym (h.rest n n low low (omega arith))) (record { in_order = pairs_nil IsBefore; few = omega arith })
+pub diagonal-kept : (count n : ℕ) (grid : List (List Key)) → n < 5 → IsDiagonalBelow count n grid → AreKeptKeys count (ranking_at grid n n)
+diagonal-kept count n grid low h = subst (AreKeptKeys count) (sym (h.rest n n low low (omega arith))) (record { in_order = pairs_nil IsBefore; few = omega arith })
 
 pub next-diagonal : (count n : ℕ) (grid new : List (List Key)) → IsDiagonalBelow count n grid
     → HasLists (λ a b. if (a == n) && (b == n) then offered count (0, []) (ranking_at grid a b) else ranking_at grid a b) new → IsDiagonalBelow count (n + 1) new

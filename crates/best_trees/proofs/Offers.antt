@@ -8,10 +8,11 @@ use Rattle.std.proofs.lemmas.Bool.Decides.{nat_tests}
 use Rattle.std.proofs.lemmas.List.{drop_more, length-append, length-take, take_all}
 use Rattle.std.proofs.lemmas.Option.{get_or_from_slice_get, slice_get_within}
 use Rattle.rhythm_base.specs.Ranked.{Key, is_before, key_cmp, plus}
-use Rattle.rhythm_laws.proofs.FirstLists.{all_contained, contains_split}
-use Rattle.rhythm_laws.proofs.KeyOrders.{before_above, flip, itself, key_equal, keys_total}
-use Rattle.rhythm_laws.proofs.OrderedLists.{all_cons, all_head, all_tail, pairs_head, pairs_tail}
-use Rattle.best_trees.specs.Firsts.{AreCheaper, AreKept, IsBefore, IsPast, IsPlace, all_offered, offered, sums_offered, with_key}
+use Rattle.rhythm_base.proofs.FirstLists.{all_contained, contains_split}
+use Rattle.rhythm_base.proofs.TotalOrders.{before_above, flip, itself}
+use Rattle.path_laws.proofs.KeyOrders.{key_equal, keys_total}
+use Rattle.rhythm_base.proofs.OrderedLists.{all_cons, all_head, all_tail, pairs_head, pairs_tail}
+use Rattle.best_trees.specs.Firsts.{AreCheaper, AreKeptKeys, IsBefore, IsPast, IsPlace, all_offered, offered, sums_offered, with_key}
 use Rattle.best_trees.proofs.Firsts.{before_cost, before_through, cheap_before, pairs_take, plus_right, take_left, with-last, with-order}
 
 -- ---- places
@@ -88,7 +89,7 @@ without_last n xs ys x e long =
     let same : length ys ≡ length (xs ++ x ∷ []) = ap length e in
     sym (ap (take (n - 1)) e ∙ take_left (n - 1) xs (x ∷ []) (omega (arith, more, same, long)))
 
-module _ (count : ℕ) (k : Key) (xs : List Key) (kept : AreKept count xs) where
+module _ (count : ℕ) (k : Key) (xs : List Key) (kept : AreKeptKeys count xs) where
   -- one that is there changes nothing
   pub offered-there : Contains xs k → xs ≡ offered count k xs
   offered-there c = sym (ap (take count) (with-there k xs kept.in_order c) ∙ take_all count xs kept.few)
@@ -121,13 +122,13 @@ module _ (count : ℕ) (k : Key) (xs : List Key) (kept : AreKept count xs) where
   pub offered-past : IsPast count k xs → offered count k xs ≡ xs
   offered-past h = ap (take count) (with-last k xs h.before) ∙ take_left count xs (k ∷ []) h.full
 
-  pub offered-kept : AreKept count (offered count k xs)
+  pub offered-kept : AreKeptKeys count (offered count k xs)
   offered-kept = record { in_order = pairs_take count (with_key k xs) (with-order k xs kept.in_order); few = let long = length-take count (with_key k xs) in omega (arith, long) }
 
 -- ---- offers one after the other
 
 -- nor do those behind it
-past-all : (count : ℕ) (k : Key) (ks xs : List Key) → AreKept count xs → IsPast count k xs → All (IsBefore k) ks → all_offered count ks xs ≡ xs
+past-all : (count : ℕ) (k : Key) (ks xs : List Key) → AreKeptKeys count xs → IsPast count k xs → All (IsBefore k) ks → all_offered count ks xs ≡ xs
 past-all count k [] xs kept h after = refl
 past-all count k (y ∷ ks) xs kept h after =
     let first : IsBefore k y = all_head (IsBefore k) y ks after in
@@ -139,7 +140,7 @@ pairs_drop zero xs h = h
 pairs_drop (suc i) [] h = h
 pairs_drop (suc i) (x ∷ xs) h = pairs_drop i xs (pairs_tail IsBefore x xs h)
 
-pub each-past : (count : ℕ) (k x : Key) (xs old : List Key) (i : ℕ) → i < length xs → x ≡ get_or xs i x → AllPairs IsBefore xs → AreKept count old → IsPast count (plus k x) old
+pub each-past : (count : ℕ) (k x : Key) (xs old : List Key) (i : ℕ) → i < length xs → x ≡ get_or xs i x → AllPairs IsBefore xs → AreKeptKeys count old → IsPast count (plus k x) old
     → all_offered count (map (plus k) (drop i xs)) old ≡ old
 each-past count k x xs old i low is order kept past =
     let split : drop i xs ≡ x ∷ drop (i + 1) xs = drop_more xs i x low ∙ ap (λ y. y ∷ drop (i + 1) xs) (sym is) in
@@ -152,11 +153,11 @@ each-past count k x xs old i low is order kept past =
     mapped_after [] h = λ i d lt. absurd (omega (arith, lt))
     mapped_after (y ∷ ys) h = all_cons (IsBefore (plus k x)) (plus k y) (map (plus k) ys) (plus_right k x y (all_head (IsBefore x) y ys h)) (mapped_after ys (all_tail (IsBefore x) y ys h))
 
-pub all-kept : (count : ℕ) (ks xs : List Key) → AreKept count xs → AreKept count (all_offered count ks xs)
+pub all-kept : (count : ℕ) (ks xs : List Key) → AreKeptKeys count xs → AreKeptKeys count (all_offered count ks xs)
 all-kept count [] xs h = h
 all-kept count (k ∷ ks) xs h = all-kept count ks (offered count k xs) (offered-kept count k xs h)
 
-pub sums-kept : (count : ℕ) (left right xs : List Key) → AreKept count xs → AreKept count (sums_offered count left right xs)
+pub sums-kept : (count : ℕ) (left right xs : List Key) → AreKeptKeys count xs → AreKeptKeys count (sums_offered count left right xs)
 sums-kept count [] right xs h = h
 sums-kept count (x ∷ left) right xs h = sums-kept count left right (all_offered count (map (plus x) right) xs) (all-kept count (map (plus x) right) xs h)
 
@@ -186,13 +187,13 @@ cheaper-last count c n xs x order long last at low = record { full = long; low =
 cheaper-past : (count c : ℕ) (k : Key) (xs : List Key) → AreCheaper count c xs → c ≤ k.0 → IsPast count k xs
 cheaper-past count c k xs h dear = record { full = h.full; before = λ i d lt. let low = h.low i d lt in cheap_before _ k (omega (arith, low, dear)) }
 
-each-dear : (count c : ℕ) (x : Key) (ys xs : List Key) → AreKept count xs → AreCheaper count c xs → All (λ y. c ≤ x.0 + y.0) ys → all_offered count (map (plus x) ys) xs ≡ xs
+each-dear : (count c : ℕ) (x : Key) (ys xs : List Key) → AreKeptKeys count xs → AreCheaper count c xs → All (λ y. c ≤ x.0 + y.0) ys → all_offered count (map (plus x) ys) xs ≡ xs
 each-dear count c x [] xs kept h dear = refl
 each-dear count c x (y ∷ ys) xs kept h dear =
     ap (all_offered count (map (plus x) ys)) (offered-past count (plus x y) xs kept (cheaper-past count c (plus x y) xs h (all_head (λ y. c ≤ x.0 + y.0) y ys dear)))
     ∙ each-dear count c x ys xs kept h (all_tail (λ y. c ≤ x.0 + y.0) y ys dear)
 
-sums-dear : (count c : ℕ) (left right xs : List Key) → AreKept count xs → AreCheaper count c xs → All (λ x. All (λ y. c ≤ x.0 + y.0) right) left → sums_offered count left right xs ≡ xs
+sums-dear : (count c : ℕ) (left right xs : List Key) → AreKeptKeys count xs → AreCheaper count c xs → All (λ x. All (λ y. c ≤ x.0 + y.0) right) left → sums_offered count left right xs ≡ xs
 sums-dear count c [] right xs kept h dear = refl
 sums-dear count c (x ∷ left) right xs kept h dear =
     ap (sums_offered count left right) (each-dear count c x right xs kept h (all_head (λ x. All (λ y. c ≤ x.0 + y.0) right) x left dear))
@@ -228,7 +229,7 @@ module _ (count : ℕ) (xs : List Key) (i : ℕ) (x : Key) (low : i < length xs)
   sums-next top right old new e = ap (sums_offered count (map (plus top) (drop (i + 1) xs)) right) e ∙ ap (λ l. sums_offered count (map (plus top) l) right old) (sym split)
 
   -- where the sum with the least on the right costs more than what is there, so do all that come after
-  pub sums-past : (top y : Key) (right old : List Key) → AllPairs IsBefore xs → AllPairs IsBefore right → slice_get right 0 ≡ Some y → AreKept count old
+  pub sums-past : (top y : Key) (right old : List Key) → AllPairs IsBefore xs → AllPairs IsBefore right → slice_get right 0 ≡ Some y → AreKeptKeys count old
       → AreCheaper count ((top.0 + x.0) + y.0) old → sums_offered count (map (plus top) (drop i xs)) right old ≡ old
   sums-past top y right old order rights first kept cheap =
       sums-dear count ((top.0 + x.0) + y.0) (map (plus top) (drop i xs)) right old kept cheap (subst (λ l. All P (map (plus top) l)) (sym split) (dear (x ∷ drop (i + 1) xs) from))

@@ -6,15 +6,15 @@ use Rattle.std.proofs.lemmas.Bool.Decides.{nat_tests}
 use Rattle.std.proofs.lemmas.List.{length-append, get_or_append_left, get_or_at, get_or_past, length_push, length-take-le, take-append-drop, drop_more, take_rest}
 use Rattle.rhythm_base.specs.Shape.{Shape, end, shape_of_parts, part}
 use Rattle.best_trees.specs.declared.pins.PinPart.{PinPart}
-use Rattle.best_trees.specs.Pins.{AreCounted, Grows, HasOutline, leaf_count, outline_at, outline_before, outlines, part_outline}
+use Rattle.best_trees.specs.Pins.{AreCounted, GrowsOutlines, HasOutline, leaf_count, outline_at, outline_before, outlines, part_outline}
 
-pub Grows-same : (os : List Shape) → Grows os os
+pub Grows-same : (os : List Shape) → GrowsOutlines os os
 Grows-same os = ([], sym (append-nil os))
 
-pub Grows-then : (os ps qs : List Shape) → Grows os ps → Grows ps qs → Grows os qs
+pub Grows-then : (os ps qs : List Shape) → GrowsOutlines os ps → GrowsOutlines ps qs → GrowsOutlines os qs
 Grows-then os ps qs h k = (h.0 ++ k.0, k.1 ∙ ap (λ l. l ++ k.0) h.1 ∙ append_assoc os h.0 k.0)
 
-pub HasOutline-more : (os ps : List Shape) (o : Option ℕ) (x : Shape) → Grows os ps → HasOutline os o x → HasOutline ps o x
+pub HasOutline-more : (os ps : List Shape) (o : Option ℕ) (x : Shape) → GrowsOutlines os ps → HasOutline os o x → HasOutline ps o x
 HasOutline-more os ps None x longer h = h
 HasOutline-more os ps (Some i) x longer h =
     let more_long = length-append os longer.0 in

@@ -12,13 +12,13 @@ use Rattle.rhythm_base.specs.declared.rule.Body.{Body}
 use Rattle.rhythm_base.specs.declared.rule.Ending.{Ending}
 use Rattle.rhythm_base.specs.declared.rule.Rule.{Rule}
 use Rattle.rhythm_base.proofs.Booleans.{and_right}
-use Rattle.rhythm_laws.specs.Shares.{AreBelow}
-use Rattle.rhythm_laws.proofs.Shares.{children-below, children-whole}
+use Rattle.tree_laws.specs.Shares.{AreBelow}
+use Rattle.tree_laws.proofs.Shares.{children-below, children-whole}
 use Rattle.row_laws.specs.Grounds.{IsReady}
 use Rattle.best_trees.specs.declared.cut.Piece.{Piece}
 use Rattle.best_trees.specs.declared.memo.Asked.{Asked}
-use Rattle.best_trees.specs.Nodes.{IsWithin, ending_at, rule_ending}
-use Rattle.best_trees.specs.Pieces.{pair_of}
+use Rattle.best_trees.specs.Nodes.{IsInBar, ending_at, rule_ending}
+use Rattle.best_trees.specs.Pieces.{piece_pair}
 
 pub cut_body : (b : Body) (p w : ℕ) → ending_of b ≡ None → leaf_of b p w ≡ []
 cut_body b p w is = ap (λ o. leaf_of_ending o p w) is
@@ -37,7 +37,7 @@ many version names (Some (equal ks)) e w h = let few : length ks ≤ 16 = h.1 in
 many version names (Some (unequal ps)) e w h = let few : length ps ≤ 16 = h.2 in omega (arith, few, length-map {B = ℕ × ℕ} ps (λ q. (q.0 * (w / max 1 (sizes ps)), q.1)))
 many version names None e w h = omega arith
 
-module _ (g : Grammar) (k : BarInput) (ready : IsReady g k) (asked : Asked) (within : IsWithin k asked) (number : ℕ) (rule : Rule) (at : slice_get g.rules number ≡ Some rule)
+module _ (g : Grammar) (k : BarInput) (ready : IsReady g k) (asked : Asked) (within : IsInBar k asked) (number : ℕ) (rule : Rule) (at : slice_get g.rules number ≡ Some rule)
     (suit : suits (slice_get g.rules number) (asked.width, asked.symbol) ≡ true) (cuts : ending_at g.rules number ≡ None) where
   can : can_cut rule.body asked.width ≡ true
   can = and_right (rule.lhs == asked.symbol) _ (ap (λ o. suits o (asked.width, asked.symbol)) (sym at) ∙ suit)
@@ -61,7 +61,7 @@ module _ (g : Grammar) (k : BarInput) (ready : IsReady g k) (asked : Asked) (wit
       (subst P (get_or_from_slice_get g.rules number rule rule at) (ready.readable.bodies number rule (slice_get_within g.rules number rule at)))
 
   -- the first of them and the others, as pieces
-  module _ (xs : List Piece) (pieces : map pair_of xs ≡ children rule.body asked.width) where
+  module _ (xs : List Piece) (pieces : map piece_pair xs ≡ children rule.body asked.width) where
     abbrev first : Piece
     first = get_or xs 0 (record { width = 0; symbol = 0 })
 
@@ -69,18 +69,18 @@ module _ (g : Grammar) (k : BarInput) (ready : IsReady g k) (asked : Asked) (wit
     rest = take (length xs - 1) (drop 1 xs)
 
     pub pieces_long : length xs ≡ length (children rule.body asked.width)
-    pieces_long = sym (length-map xs pair_of) ∙ ap length pieces
+    pieces_long = sym (length-map xs piece_pair) ∙ ap length pieces
 
     pieces_are : xs ≡ first ∷ rest
     pieces_are = let some = parts_some in let long = pieces_long in pieces-split xs (record { width = 0; symbol = 0 }) (omega (arith, some, long))
 
-    pub kids_are : children rule.body asked.width ≡ pair_of first ∷ map pair_of rest
-    kids_are = sym pieces ∙ ap (map pair_of) pieces_are
+    pub kids_are : children rule.body asked.width ≡ piece_pair first ∷ map piece_pair rest
+    kids_are = sym pieces ∙ ap (map piece_pair) pieces_are
 
-    pub kids_below : AreBelow asked.width (pair_of first ∷ map pair_of rest)
+    pub kids_below : AreBelow asked.width (piece_pair first ∷ map piece_pair rest)
     kids_below = subst (AreBelow asked.width) kids_are parts_below
 
-    pub kids_within : asked.place + sizes (pair_of first ∷ map pair_of rest) ≤ k.resolution
+    pub kids_within : asked.place + sizes (piece_pair first ∷ map piece_pair rest) ≤ k.resolution
     kids_within = subst (λ qs. asked.place + sizes qs ≤ k.resolution) kids_are parts_within
 
     pub others_few : suc (length rest) ≤ 16

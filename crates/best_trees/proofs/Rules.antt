@@ -10,10 +10,10 @@ use Rattle.rhythm_base.specs.Ranked.{Key, plus}
 use Rattle.rhythm_base.specs.Shape.{Shape}
 use Rattle.rhythm_base.specs.Bodies.{children}
 use Rattle.rhythm_base.specs.Trees.{BarLeaf, are_trees, children_of, leaf_of, leaves, leaves_at, suits}
-use Rattle.rhythm_laws.specs.Forests.{Ground, IsForestKey, StandsInBar, forest_cost, has_shapes, one_shape}
-use Rattle.rhythm_laws.specs.Places.{FitsAt}
-use Rattle.rhythm_laws.specs.Rows.{IsOneBelow}
-use Rattle.rhythm_laws.proofs.Ranks.{both}
+use Rattle.tree_laws.specs.Forests.{Ground, IsForestKey, StandsInBar, forest_cost, has_shapes, one_shape}
+use Rattle.tree_laws.specs.Places.{FitsAt}
+use Rattle.path_laws.specs.Rows.{IsOneBelow}
+use Rattle.tree_laws.proofs.Ranks.{both}
 use Rattle.row_laws.specs.RuleKeys.{IsRuleKey}
 use Rattle.row_laws.proofs.RuleKeys.{single_tree, top_cost, top_shape}
 

@@ -17,21 +17,21 @@ use Rattle.rhythm_base.specs.Line.{agrees}
 use Rattle.rhythm_base.specs.Ranked.{Key}
 use Rattle.rhythm_base.specs.Shape.{Shape, end, part}
 use Rattle.rhythm_base.specs.Trees.{BarLeaf, suits}
-use Rattle.rhythm_laws.specs.Forests.{IsForestKey, first_shape, has_shapes, one_shape, other_shapes}
-use Rattle.rhythm_laws.specs.Places.{FitsAt}
-use Rattle.rhythm_laws.specs.Rows.{IsOneBelow}
-use Rattle.rhythm_laws.specs.Shares.{AreBelow}
-use Rattle.rhythm_laws.proofs.Ranks.{both}
-use Rattle.rhythm_laws.proofs.ShapesOfTrees.{one_shape_of}
-use Rattle.rhythm_laws.proofs.Shares.{below-wide}
+use Rattle.tree_laws.specs.Forests.{IsForestKey, first_shape, has_shapes, one_shape, other_shapes}
+use Rattle.tree_laws.specs.Places.{FitsAt}
+use Rattle.path_laws.specs.Rows.{IsOneBelow}
+use Rattle.tree_laws.specs.Shares.{AreBelow}
+use Rattle.tree_laws.proofs.Ranks.{both}
+use Rattle.tree_laws.proofs.ShapesOfTrees.{one_shape_of}
+use Rattle.tree_laws.proofs.Shares.{below-wide}
 use Rattle.row_laws.specs.Grounds.{IsReady, ground_of}
 use Rattle.row_laws.proofs.Grounds.{bounds, grounded}
 use Rattle.row_laws.proofs.LeafKeys.{leaf_body}
 use Rattle.row_laws.proofs.RuleKeys.{cut-key}
 use Rattle.best_trees.specs.declared.memo.Asked.{Asked}
-use Rattle.best_trees.specs.Firsts.{AreFirst, AreKept, offered}
-use Rattle.best_trees.specs.Grids.{AreAllAddable, HasLists, joined, ranking_at}
-use Rattle.best_trees.specs.Nodes.{AreBestBelow, AreBestForests, HasNoLeaf, IsAnswer, IsAskedKey, IsLeafHere, is_leaf_at}
+use Rattle.best_trees.specs.Firsts.{AreFirstKeys, AreKeptKeys, offered}
+use Rattle.best_trees.specs.Grids.{AreAllAddable, HasLists, joined_row, ranking_at}
+use Rattle.best_trees.specs.Nodes.{AreBestBelow, AreBestForests, HasNoLeaf, AreDemanded, IsAskedKey, IsLeafHere, is_leaf_at}
 use Rattle.best_trees.specs.Pins.{NoneFit, demanded}
 use Rattle.best_trees.proofs.Firsts.{IsTopped}
 use Rattle.best_trees.proofs.LeafFits.{agrees-fits, fits-agrees}
@@ -43,12 +43,12 @@ module _ (g : Grammar) (k : BarInput) (os : List Shape) (count : ℕ) (asked : A
   -- ---- before any rule, and after all
 
   pub best-none : (grid : List (List Key)) → HasLists (λ a b. []) grid → AreBestBelow g k os count asked 0 grid
-  best-none grid is a b la lb = subst (AreFirst (IsOneBelow (IsAskedKey g k os asked a b) 0) count) (sym (is a b la lb)) (below-none (IsAskedKey g k os asked a b) count)
+  best-none grid is a b la lb = subst (AreFirstKeys (IsOneBelow (IsAskedKey g k os asked a b) 0) count) (sym (is a b la lb)) (below-none (IsAskedKey g k os asked a b) count)
 
-  pub best-all : (grid : List (List Key)) → AreBestBelow g k os count asked (length g.rules) grid → IsAnswer g k os count asked grid
+  pub best-all : (grid : List (List Key)) → AreBestBelow g k os count asked (length g.rules) grid → AreDemanded g k os count asked grid
   best-all grid h a b la lb = rules-all (ground_of g k) (demanded os asked.demand) asked.place (asked.width, asked.symbol) count 0 a b (ranking_at grid a b) (h a b la lb)
 
-  pub best-kept : (i : ℕ) (grid : List (List Key)) → AreBestBelow g k os count asked i grid → (a b : ℕ) → a < 5 → b < 5 → AreKept count (ranking_at grid a b)
+  pub best-kept : (i : ℕ) (grid : List (List Key)) → AreBestBelow g k os count asked i grid → (a b : ℕ) → a < 5 → b < 5 → AreKeptKeys count (ranking_at grid a b)
   best-kept i grid h a b la lb = first-kept (IsOneBelow (IsAskedKey g k os asked a b) i) count (ranking_at grid a b) (h a b la lb)
 
   -- ---- rules without trees
@@ -60,7 +60,7 @@ module _ (g : Grammar) (k : BarInput) (os : List Shape) (count : ℕ) (asked : A
   pub best-jump : (from to : ℕ) (grid : List (List Key)) → from ≤ to → NoneSuit g.rules (asked.width, asked.symbol) from to → AreBestBelow g k os count asked from grid → AreBestBelow g k os count asked to grid
   best-jump from to grid order apart h a b la lb =
       let whole : (to - from) + from ≡ to = omega (arith, order) in
-      subst (λ n. AreFirst (IsOneBelow (IsAskedKey g k os asked a b) n) count (ranking_at grid a b)) whole
+      subst (λ n. AreFirstKeys (IsOneBelow (IsAskedKey g k os asked a b) n) count (ranking_at grid a b)) whole
       (below-jump (IsAskedKey g k os asked a b) count (to - from) from (ranking_at grid a b)
       (λ j low high. unsuited_none (ground_of g k) (demanded os asked.demand) asked.place (asked.width, asked.symbol) j a b (apart j low (omega (arith, high, whole)))) (h a b la lb))
 
@@ -90,7 +90,7 @@ module _ (g : Grammar) (k : BarInput) (os : List Shape) (count : ℕ) (asked : A
           → HasLists (λ a b. if is_leaf_at ending l a b then offered count (rule.weight + l.charges, i ∷ []) (ranking_at old a b) else ranking_at old a b) new
           → AreBestBelow g k os count asked i old → AreBestBelow g k os count asked (i + 1) new
       best-leaf l here old new is h a b la lb =
-          subst (AreFirst (IsOneBelow W (i + 1)) count) (sym (is a b la lb)) (go (is_leaf_at ending l a b) refl)
+          subst (AreFirstKeys (IsOneBelow W (i + 1)) count) (sym (is a b la lb)) (go (is_leaf_at ending l a b) refl)
         where
           W : ℕ → Key → Type 0
           W = IsAskedKey g k os asked a b
@@ -110,7 +110,7 @@ module _ (g : Grammar) (k : BarInput) (os : List Shape) (count : ℕ) (asked : A
               let yes_fit : is_leaf_at ending l a b ≡ true = ap₂ ◌&&◌ t.0 on in
               absurd (cc)
 
-          go : (t : Bool) → is_leaf_at ending l a b ≡ t → AreFirst (IsOneBelow W (i + 1)) count (if t then offered count (rule.weight + l.charges, i ∷ []) (ranking_at old a b) else ranking_at old a b)
+          go : (t : Bool) → is_leaf_at ending l a b ≡ t → AreFirstKeys (IsOneBelow W (i + 1)) count (if t then offered count (rule.weight + l.charges, i ∷ []) (ranking_at old a b) else ranking_at old a b)
           go true e =
               one-next (ground_of g k) (demanded os asked.demand) asked.place (asked.width, asked.symbol) count i a b (rule.weight + l.charges, i ∷ []) (ranking_at old a b)
               (λ key w. (own_fits a b key w).2 ∙ (λ j. (cost j, i ∷ [])))
@@ -133,17 +133,17 @@ module _ (g : Grammar) (k : BarInput) (os : List Shape) (count : ℕ) (asked : A
       pub best-cut : (q : ℕ × ℕ) (qs : List (ℕ × ℕ)) (one rest : Option Shape) → first_shape (demanded os asked.demand) ≡ one_shape one → other_shapes (demanded os asked.demand) ≡ rest
           → children rule.body asked.width ≡ q ∷ qs → AreBelow asked.width (q ∷ qs) → (left right old new : List (List Key))
           → AreBestForests (ground_of g k) (one_shape one) count asked.place (q ∷ []) left → AreBestForests (ground_of g k) rest count (asked.place + q.0) qs right
-          → HasLists (λ a b. joined count (rule.weight, i ∷ []) left right a b (ranking_at old a b)) new → AreBestBelow g k os count asked i old → AreBestBelow g k os count asked (i + 1) new
+          → HasLists (λ a b. joined_row count (rule.weight, i ∷ []) left right a b (ranking_at old a b)) new → AreBestBelow g k os count asked i old → AreBestBelow g k os count asked (i + 1) new
       best-cut q qs one rest first others kids below left right old new own after is h a b la lb =
           let d = ground_of g k in
           let s = demanded os asked.demand in
           let Below : Key → Type 0 = IsOneBelow (IsAskedKey g k os asked a b) i in
-          let all = joined count (rule.weight, i ∷ []) left right a b (ranking_at old a b) in
+          let all = joined_row count (rule.weight, i ∷ []) left right a b (ranking_at old a b) in
           let P : Option Shape → Type 0 = λ s. AreBestForests d s count asked.place (q ∷ []) left in
           let Q : Option Shape → Type 0 = λ s. AreBestForests d s count (asked.place + q.0) qs right in
-          subst (AreFirst (IsOneBelow (IsAskedKey g k os asked a b) (i + 1)) count) (sym (is a b la lb))
+          subst (AreFirstKeys (IsOneBelow (IsAskedKey g k os asked a b) (i + 1)) count) (sym (is a b la lb))
           (cut-next d s asked.place (asked.width, asked.symbol) count i a b rule at suit (cut_body rule.body asked.place asked.width cuts) all
-          (subst (λ qs. AreFirst (λ key. Below key ⊎ IsTopped (IsForestKey d s asked.place qs a b) (rule.weight, i ∷ []) key) count all) (sym kids)
+          (subst (λ qs. AreFirstKeys (λ key. Below key ⊎ IsTopped (IsForestKey d s asked.place qs a b) (rule.weight, i ∷ []) key) count all) (sym kids)
           (forests-topped d (grounded g k ready) count asked.place q qs (below-wide asked.width (q ∷ qs) below) left right s (subst P (sym first) own) (subst Q (sym others) after) (rule.weight, i ∷ []) Below (ranking_at old a b)
           (h a b la lb) a b la lb)))
 
@@ -162,7 +162,7 @@ module _ (g : Grammar) (k : BarInput) (ready : IsReady g k) (s : Option Shape) (
 
   pub beside-joined : (w : ℕ) (q : ℕ × ℕ) (qs : List (ℕ × ℕ)) (one rest : Option Shape) → first_shape s ≡ one_shape one → other_shapes s ≡ rest → (left right all : List (List Key)) → AreBelow w (q ∷ qs)
       → AreBestForests (ground_of g k) (one_shape one) count p (q ∷ []) left → AreBestForests (ground_of g k) rest count (p + q.0) qs right
-      → HasLists (λ a b. joined count (0, []) left right a b []) all → AreBestForests (ground_of g k) s count p (q ∷ qs) all
+      → HasLists (λ a b. joined_row count (0, []) left right a b []) all → AreBestForests (ground_of g k) s count p (q ∷ qs) all
   beside-joined w q qs one rest first others left right all below own after is =
       let d = ground_of g k in
       let P : Option Shape → Type 0 = λ s. AreBestForests d s count p (q ∷ []) left in

@@ -12,15 +12,15 @@ use Rattle.rhythm_base.specs.Ranked.{Key, plus}
 use Rattle.rhythm_base.specs.Bodies.{children, sizes}
 use Rattle.rhythm_base.specs.Shape.{Shape}
 use Rattle.rhythm_base.specs.Trees.{are_trees, leaf_of, suits}
-use Rattle.rhythm_laws.specs.Forests.{AreWide, Ground, IsForestKey, IsGround, first_shape, forest_cost, has_shapes, one_shape, other_shapes}
-use Rattle.rhythm_laws.specs.Rows.{IsOneBelow}
-use Rattle.rhythm_laws.proofs.ForestLemmas.{join_key, keys-parse, split_key}
-use Rattle.rhythm_laws.proofs.LeastKeys.{Both, last}
+use Rattle.tree_laws.specs.Forests.{AreWide, Ground, IsForestKey, IsGround, first_shape, forest_cost, has_shapes, one_shape, other_shapes}
+use Rattle.path_laws.specs.Rows.{IsOneBelow}
+use Rattle.tree_laws.proofs.ForestLemmas.{join_key, keys-parse, split_key}
+use Rattle.path_laws.proofs.LeastKeys.{Both, last}
 use Rattle.row_laws.specs.RuleKeys.{IsRuleKey}
 use Rattle.row_laws.proofs.Bounds.{IsBounded, stands-cheap}
 use Rattle.row_laws.proofs.RuleKeys.{cut-key}
-use Rattle.best_trees.specs.Firsts.{AreFirst, AreKept, offered, sums_offered}
-use Rattle.best_trees.specs.Grids.{AreAllAddable, HasLists, joined, joined_below, ranking_at}
+use Rattle.best_trees.specs.Firsts.{AreFirstKeys, AreKeptKeys, offered, sums_offered}
+use Rattle.best_trees.specs.Grids.{AreAllAddable, HasLists, joined_row, joined_below, ranking_at}
 use Rattle.best_trees.specs.Nodes.{AreBestForests}
 use Rattle.best_trees.proofs.Firsts.{IsTopped, first-joined, first-mapped, first-none, first-offered, first-same, plus_assoc, plus_nothing, topped-parse}
 use Rattle.best_trees.proofs.Rules.{cut_back, rule_back, rule_there}
@@ -28,7 +28,7 @@ use Rattle.best_trees.proofs.Rules.{cut_back, rule_back, rule_there}
 -- ---- one set more
 
 module _ (W : ℕ → Key → Type 0) (n i : ℕ) (xs : List Key) where
-  pub below-next : AreFirst (λ k. IsOneBelow W i k ⊎ W i k) n xs → AreFirst (IsOneBelow W (i + 1)) n xs
+  pub below-next : AreFirstKeys (λ k. IsOneBelow W i k ⊎ W i k) n xs → AreFirstKeys (IsOneBelow W (i + 1)) n xs
   below-next h = first-same (λ k. IsOneBelow W i k ⊎ W i k) (IsOneBelow W (i + 1)) n xs there back h
     where
       there : (k : Key) → IsOneBelow W i k ⊎ W i k → IsOneBelow W (i + 1) k
@@ -38,21 +38,21 @@ module _ (W : ℕ → Key → Type 0) (n i : ℕ) (xs : List Key) where
       back : (k : Key) → IsOneBelow W (i + 1) k → IsOneBelow W i k ⊎ W i k
       back k x = elim (last x.0 i (omega (arith, x.1))) [ inl low ↦ inl (x.0, low, x.2) | inr same ↦ inr (subst (λ m. W m k) same x.2) ]
 
-  pub below-skip : ((k : Key) → W i k → ⊥) → AreFirst (IsOneBelow W i) n xs → AreFirst (IsOneBelow W (i + 1)) n xs
+  pub below-skip : ((k : Key) → W i k → ⊥) → AreFirstKeys (IsOneBelow W i) n xs → AreFirstKeys (IsOneBelow W (i + 1)) n xs
   below-skip bare h = below-next (first-same (IsOneBelow W i) (λ k. IsOneBelow W i k ⊎ W i k) n xs (λ k x. inl x) (λ k s. elim s [ inl x ↦ x | inr w ↦ absurd (bare k w) ]) h)
 
 -- none of the next sets has a key
-pub below-jump : (W : ℕ → Key → Type 0) (n m i : ℕ) (xs : List Key) → ((j : ℕ) → i ≤ j → j < m + i → (k : Key) → W j k → ⊥) → AreFirst (IsOneBelow W i) n xs → AreFirst (IsOneBelow W (m + i)) n xs
-below-jump W n zero i xs bare h = let same : i ≡ 0 + i = omega arith in subst (λ j. AreFirst (IsOneBelow W j) n xs) same h
+pub below-jump : (W : ℕ → Key → Type 0) (n m i : ℕ) (xs : List Key) → ((j : ℕ) → i ≤ j → j < m + i → (k : Key) → W j k → ⊥) → AreFirstKeys (IsOneBelow W i) n xs → AreFirstKeys (IsOneBelow W (m + i)) n xs
+below-jump W n zero i xs bare h = let same : i ≡ 0 + i = omega arith in subst (λ j. AreFirstKeys (IsOneBelow W j) n xs) same h
 below-jump W n (suc m) i xs bare h =
     let next : m + (i + 1) ≡ suc m + i = omega arith in
-    subst (λ j. AreFirst (IsOneBelow W j) n xs) next
+    subst (λ j. AreFirstKeys (IsOneBelow W j) n xs) next
     (below-jump W n m (i + 1) xs (λ j from below. bare j (omega (arith, from)) (omega (arith, below))) (below-skip W n i xs (bare i (omega arith) (omega arith)) h))
 
-pub below-none : (W : ℕ → Key → Type 0) (n : ℕ) → AreFirst (IsOneBelow W 0) n []
+pub below-none : (W : ℕ → Key → Type 0) (n : ℕ) → AreFirstKeys (IsOneBelow W 0) n []
 below-none W n = first-none (IsOneBelow W 0) n (λ k x. absurd (omega (arith, x.1)))
 
-pub first-kept : (S : Key → Type 0) (n : ℕ) (xs : List Key) → AreFirst S n xs → AreKept n xs
+pub first-kept : (S : Key → Type 0) (n : ℕ) (xs : List Key) → AreFirstKeys S n xs → AreKeptKeys n xs
 first-kept S n xs h = record { in_order = h.in_order; few = h.few }
 
 -- ---- one rule more
@@ -62,7 +62,7 @@ module _ (d : Ground) (pin : Option Shape) (p : ℕ) (q : ℕ × ℕ) (n i a b :
   Below = IsOneBelow (λ r. IsRuleKey d pin p q r a b)
 
   pub cut-next : (rule : Rule) → slice_get d.book.rules i ≡ Some rule → suits (Some rule) q ≡ true → leaf_of rule.body p q.0 ≡ [] → (xs : List Key)
-      → AreFirst (λ k. Below i k ⊎ IsTopped (IsForestKey d pin p (children rule.body q.0) a b) (rule.weight, i ∷ []) k) n xs → AreFirst (Below (i + 1)) n xs
+      → AreFirstKeys (λ k. Below i k ⊎ IsTopped (IsForestKey d pin p (children rule.body q.0) a b) (rule.weight, i ∷ []) k) n xs → AreFirstKeys (Below (i + 1)) n xs
   cut-next rule at suit cut xs h =
       below-next (λ r. IsRuleKey d pin p q r a b) n i xs
       (first-same (λ k. Below i k ⊎ IsTopped (IsForestKey d pin p (children rule.body q.0) a b) (rule.weight, i ∷ []) k) (λ k. Below i k ⊎ IsRuleKey d pin p q i a b k) n xs
@@ -71,7 +71,7 @@ module _ (d : Ground) (pin : Option Shape) (p : ℕ) (q : ℕ × ℕ) (n i a b :
       h)
 
   -- the rule of one tree alone
-  pub one-next : (key : Key) (xs : List Key) → ((k : Key) → IsRuleKey d pin p q i a b k → k ≡ key) → IsRuleKey d pin p q i a b key → AreFirst (Below i) n xs → AreFirst (Below (i + 1)) n (offered n key xs)
+  pub one-next : (key : Key) (xs : List Key) → ((k : Key) → IsRuleKey d pin p q i a b k → k ≡ key) → IsRuleKey d pin p q i a b key → AreFirstKeys (Below i) n xs → AreFirstKeys (Below (i + 1)) n (offered n key xs)
   one-next key xs only own h =
       below-next (λ r. IsRuleKey d pin p q r a b) n i (offered n key xs)
       (first-same (λ k. Below i k ⊎ (k ≡ key)) (λ k. Below i k ⊎ IsRuleKey d pin p q i a b k) n (offered n key xs)
@@ -79,13 +79,13 @@ module _ (d : Ground) (pin : Option Shape) (p : ℕ) (q : ℕ × ℕ) (n i a b :
       (λ k s. elim s [ inl x ↦ inl x | inr w ↦ inr (only k w) ])
       (first-offered (Below i) n xs key h))
 
-  pub rules-all : (xs : List Key) → AreFirst (Below (length d.book.rules)) n xs → AreFirst (IsForestKey d (one_shape pin) p (q ∷ []) a b) n xs
+  pub rules-all : (xs : List Key) → AreFirstKeys (Below (length d.book.rules)) n xs → AreFirstKeys (IsForestKey d (one_shape pin) p (q ∷ []) a b) n xs
   rules-all xs h = first-same (Below (length d.book.rules)) (IsForestKey d (one_shape pin) p (q ∷ []) a b) n xs (rule_there d pin p q a b) (rule_back d pin p q a b) h
 
 -- ---- trees side by side
 
 -- one set more in a union
-union-next : (W : ℕ → Key → Type 0) (U : Key → Type 0) (n i : ℕ) (xs : List Key) → AreFirst (λ k. (U k ⊎ IsOneBelow W i k) ⊎ W i k) n xs → AreFirst (λ k. U k ⊎ IsOneBelow W (i + 1) k) n xs
+union-next : (W : ℕ → Key → Type 0) (U : Key → Type 0) (n i : ℕ) (xs : List Key) → AreFirstKeys (λ k. (U k ⊎ IsOneBelow W i k) ⊎ W i k) n xs → AreFirstKeys (λ k. U k ⊎ IsOneBelow W (i + 1) k) n xs
 union-next W U n i xs h = first-same (λ k. (U k ⊎ IsOneBelow W i k) ⊎ W i k) (λ k. U k ⊎ IsOneBelow W (i + 1) k) n xs there back h
   where
     there : (k : Key) → (U k ⊎ IsOneBelow W i k) ⊎ W i k → U k ⊎ IsOneBelow W (i + 1) k
@@ -100,19 +100,19 @@ union-next W U n i xs h = first-same (λ k. (U k ⊎ IsOneBelow W i k) ⊎ W i k
 module _ (d : Ground) (ground : IsGround d) (n p : ℕ) (q : ℕ × ℕ) (qs : List (ℕ × ℕ)) (wide : AreWide (q ∷ qs)) (left right : List (List Key))
     (s : Option Shape)
     (own : AreBestForests d (first_shape s) n p (q ∷ []) left) (others : AreBestForests d (other_shapes s) n (p + q.0) qs right) where
-  module _ (top : Key) (U : Key → Type 0) (old : List Key) (before : AreFirst U n old) (a b : ℕ) (la : a < 5) (lb : b < 5) where
+  module _ (top : Key) (U : Key → Type 0) (old : List Key) (before : AreFirstKeys U n old) (a b : ℕ) (la : a < 5) (lb : b < 5) where
     -- a tree on the left, with the top before it, and others on the right, with m chords between them
     abbrev Meets : ℕ → Key → Type 0
     Meets m = Both (IsTopped (IsForestKey d (first_shape s) p (q ∷ []) a m) top) (IsForestKey d (other_shapes s) (p + q.0) qs m b)
 
-    below : (m : ℕ) → m ≤ 5 → AreFirst (λ k. U k ⊎ IsOneBelow Meets m k) n (joined_below n top left right a b old m)
+    below : (m : ℕ) → m ≤ 5 → AreFirstKeys (λ k. U k ⊎ IsOneBelow Meets m k) n (joined_below n top left right a b old m)
     below zero lm = first-same U (λ k. U k ⊎ IsOneBelow Meets 0 k) n old (λ k u. inl u) (λ k t. elim t [ inl u ↦ u | inr x ↦ absurd (omega (arith, x.1)) ]) before
     below (suc m) lm =
         let next : m + 1 ≡ suc m = omega arith in
         let low : m < 5 = omega (arith, lm) in
         let all = joined_below n top left right a b old m in
         let firsts = map (plus top) (ranking_at left a m) in
-        subst (λ j. AreFirst (λ k. U k ⊎ IsOneBelow Meets j k) n (sums_offered n firsts (ranking_at right m b) all)) next
+        subst (λ j. AreFirstKeys (λ k. U k ⊎ IsOneBelow Meets j k) n (sums_offered n firsts (ranking_at right m b) all)) next
         (union-next Meets U n m (sums_offered n firsts (ranking_at right m b) all)
         (first-joined (λ k. U k ⊎ IsOneBelow Meets m k) (IsTopped (IsForestKey d (first_shape s) p (q ∷ []) a m) top) (IsForestKey d (other_shapes s) (p + q.0) qs m b) n firsts (ranking_at right m b)
         (first-mapped (IsForestKey d (first_shape s) p (q ∷ []) a m) n top (ranking_at left a m) (own a m la low)) (others m b low lb)
@@ -129,16 +129,16 @@ module _ (d : Ground) (ground : IsGround d) (n p : ℕ) (q : ℕ × ℕ) (qs : L
         go (m, low, (x, y, one, rest, sum)) = (m, low, (plus top x, y, (x, one, refl), rest, is ∙ ap (plus top) sum ∙ sym (plus_assoc top x y)))
 
     -- what was there, and the trees side by side with the top before them
-    pub forests-topped : AreFirst (λ k. U k ⊎ IsTopped (IsForestKey d s p (q ∷ qs) a b) top k) n (joined n top left right a b old)
-    unfolding joined
+    pub forests-topped : AreFirstKeys (λ k. U k ⊎ IsTopped (IsForestKey d s p (q ∷ qs) a b) top k) n (joined_row n top left right a b old)
+    unfolding joined_row
     forests-topped =
         first-same (λ k. U k ⊎ IsOneBelow Meets 5 k) (λ k. U k ⊎ IsTopped (IsForestKey d s p (q ∷ qs) a b) top k) n (joined_below n top left right a b old 5)
         (λ k t. elim t [ inl u ↦ inl u | inr x ↦ inr (there k x) ]) (λ k t. elim t [ inl u ↦ inl u | inr x ↦ inr (back k x) ]) (below 5 (omega arith))
 
-  pub forests-joined : (all : List (List Key)) → HasLists (λ a b. joined n (0, []) left right a b []) all → AreBestForests d s n p (q ∷ qs) all
+  pub forests-joined : (all : List (List Key)) → HasLists (λ a b. joined_row n (0, []) left right a b []) all → AreBestForests d s n p (q ∷ qs) all
   forests-joined all is a b la lb =
-      subst (AreFirst (IsForestKey d s p (q ∷ qs) a b) n) (sym (is a b la lb))
-      (first-same (λ k. ⊥ ⊎ IsTopped (IsForestKey d s p (q ∷ qs) a b) (0, []) k) (IsForestKey d s p (q ∷ qs) a b) n (joined n (0, []) left right a b [])
+      subst (AreFirstKeys (IsForestKey d s p (q ∷ qs) a b) n) (sym (is a b la lb))
+      (first-same (λ k. ⊥ ⊎ IsTopped (IsForestKey d s p (q ∷ qs) a b) (0, []) k) (IsForestKey d s p (q ∷ qs) a b) n (joined_row n (0, []) left right a b [])
       (λ k t. elim t [ inl x ↦ absurd x | inr x ↦ subst (IsForestKey d s p (q ∷ qs) a b) (sym (x.2 ∙ plus_nothing x.0)) x.1 ])
       (λ k x. inr (k, x, sym (plus_nothing k)))
       (forests-topped (0, []) (λ k. ⊥) [] (first-none (λ k. ⊥) n (λ k x. x)) a b la lb))
@@ -161,12 +161,12 @@ nothing_back d s p a b k allowed la same is = (
 
 pub forests-nothing : (d : Ground) (s : Option Shape) (n p : ℕ) (grid : List (List Key)) → has_shapes s none ≡ true → HasLists (λ a b. if a == b then offered n (0, []) [] else []) grid
     → AreBestForests d s n p [] grid
-forests-nothing d s n p grid allowed is a b la lb = subst (AreFirst (IsForestKey d s p [] a b) n) (sym (is a b la lb)) (go (a == b) refl)
+forests-nothing d s n p grid allowed is a b la lb = subst (AreFirstKeys (IsForestKey d s p [] a b) n) (sym (is a b la lb)) (go (a == b) refl)
   where
     apart : (a == b) ≡ false → a ≡ b → ⊥
     apart e same = let on : (a == b) ≡ true = grind (arith, nat_tests, same) in absurd (cc)
 
-    go : (t : Bool) → (a == b) ≡ t → AreFirst (IsForestKey d s p [] a b) n (if t then offered n (0, []) [] else [])
+    go : (t : Bool) → (a == b) ≡ t → AreFirstKeys (IsForestKey d s p [] a b) n (if t then offered n (0, []) [] else [])
     go true e =
         let same : a ≡ b = grind (arith, nat_tests) in
         first-same (λ k. ⊥ ⊎ (k ≡ (0, []))) (IsForestKey d s p [] a b) n (offered n (0, []) [])
@@ -178,7 +178,7 @@ forests-nothing d s n p grid allowed is a b la lb = subst (AreFirst (IsForestKey
 pub forests-none : (d : Ground) (s : Option Shape) (n p : ℕ) (qs : List (ℕ × ℕ)) (grid : List (List Key)) → ((f : Forest) → are_trees d.book.rules qs f ≡ true → has_shapes s f ≡ true → ⊥) → HasLists (λ a b. []) grid
     → AreBestForests d s n p qs grid
 forests-none d s n p qs grid bare is a b la lb =
-    subst (AreFirst (IsForestKey d s p qs a b) n) (sym (is a b la lb)) (first-none (IsForestKey d s p qs a b) n (λ k x. bare x.0 x.1.trees x.1.shaped))
+    subst (AreFirstKeys (IsForestKey d s p qs a b) n) (sym (is a b la lb)) (first-none (IsForestKey d s p qs a b) n (λ k x. bare x.0 x.1.trees x.1.shaped))
 
 -- ---- costs
 

@@ -6,7 +6,7 @@ abbrev pub IsBefore : Key → Key → Type 0
 IsBefore x y = is_before x y ≡ true
 
 -- the first `count` keys of the set, each once and in order; fewer where there are no more
-pub record AreFirst (S : Key → Type 0) (count : ℕ) (keys : List Key) : Type 0 where
+pub record AreFirstKeys (S : Key → Type 0) (count : ℕ) (keys : List Key) : Type 0 where
   pub are : All S keys
   pub in_order : AllPairs IsBefore keys
   pub few : length keys ≤ count
@@ -41,7 +41,7 @@ sums_offered count (x ∷ left) right xs = sums_offered count left right (all_of
 -- ---- lists that are offered to
 
 -- keys in order, and no more than so many
-pub record AreKept (count : ℕ) (keys : List Key) : Type 0 where
+pub record AreKeptKeys (count : ℕ) (keys : List Key) : Type 0 where
   pub in_order : AllPairs IsBefore keys
   pub few : length keys ≤ count
 

@@ -24,5 +24,5 @@ joined_below count top left right from to old zero = old
 joined_below count top left right from to old (suc n) =
     sums_offered count (map (plus top) (ranking_at left from n)) (ranking_at right n to) (joined_below count top left right from to old n)
 
-unfoldable pub joined : ℕ → Key → List (List Key) → List (List Key) → ℕ → ℕ → List Key → List Key
-joined count top left right from to old = joined_below count top left right from to old 5
+unfoldable pub joined_row : ℕ → Key → List (List Key) → List (List Key) → ℕ → ℕ → List Key → List Key
+joined_row count top left right from to old = joined_below count top left right from to old 5

@@ -1,7 +1,7 @@
 -- What was found so far, and for which intervals.
 use Rattle.std.specs.Prelude.{⊤, ◌≡◌, ◌<◌, ℕ, List, [], ◌∷◌, ◌++◌, length, slice_get, Some}
 use Rattle.rhythm_base.specs.Ranked.{Key}
-use Rattle.rhythm_laws.specs.Forests.{Ground}
+use Rattle.tree_laws.specs.Forests.{Ground}
 use Rattle.row_laws.specs.QuietTrees.{IsQuiet}
 use Rattle.best_trees.specs.declared.memo.Family.{Family}
 use Rattle.best_trees.specs.declared.memo.Found.{Found}

@@ -10,9 +10,9 @@ use Rattle.rhythm_base.specs.Ranked.{Key}
 use Rattle.rhythm_base.specs.Shape.{Shape}
 use Rattle.rhythm_base.specs.declared.rule.Ending.{Ending}
 use Rattle.rhythm_base.specs.declared.rule.Rule.{Rule}
-use Rattle.rhythm_laws.specs.Forests.{Ground, IsForestKey, has_shapes, one_shape}
-use Rattle.rhythm_laws.specs.Places.{FitsAt}
-use Rattle.rhythm_laws.specs.Rows.{IsOneBelow}
+use Rattle.tree_laws.specs.Forests.{Ground, IsForestKey, has_shapes, one_shape}
+use Rattle.tree_laws.specs.Places.{FitsAt}
+use Rattle.path_laws.specs.Rows.{IsOneBelow}
 use Rattle.bar_view.specs.declared.leaf.Leaf.{Leaf}
 use Rattle.row_laws.specs.Grounds.{ground_of}
 use Rattle.row_laws.specs.Leaves.{HasLeaf}
@@ -22,23 +22,23 @@ use Rattle.best_trees.specs.declared.memo.Family.{Family}
 use Rattle.best_trees.specs.declared.memo.Found.{Found}
 use Rattle.best_trees.specs.declared.memo.LastParts.{LastParts}
 use Rattle.best_trees.specs.declared.memo.LastParts.TheVariants.{One, Several}
-use Rattle.best_trees.specs.Firsts.{AreFirst}
+use Rattle.best_trees.specs.Firsts.{AreFirstKeys}
 use Rattle.best_trees.specs.Grids.{ranking_at}
 use Rattle.best_trees.specs.Memos.{LiesAt}
 use Rattle.best_trees.specs.Pins.{demanded}
 
 -- an interval of the bar's units
-pub record IsWithin (k : BarInput) (asked : Asked) : Type 0 where
+pub record IsInBar (k : BarInput) (asked : Asked) : Type 0 where
   pub wide : 1 ≤ asked.width
   pub within : asked.place + asked.width ≤ k.resolution
 
 -- for each pair of counts, the first `count` of the trees side by side of these shapes, widths and symbols from the unit p on
 abbrev pub AreBestForests : Ground → Option Shape → ℕ → ℕ → List (ℕ × ℕ) → List (List Key) → Type 0
-AreBestForests d shapes count p qs grid = (a b : ℕ) → a < 5 → b < 5 → AreFirst (IsForestKey d shapes p qs a b) count (ranking_at grid a b)
+AreBestForests d shapes count p qs grid = (a b : ℕ) → a < 5 → b < 5 → AreFirstKeys (IsForestKey d shapes p qs a b) count (ranking_at grid a b)
 
 -- the first `count` of the trees that are asked for, by the shapes of a pin
-abbrev pub IsAnswer : Grammar → BarInput → List Shape → ℕ → Asked → List (List Key) → Type 0
-IsAnswer g k os count asked grid = AreBestForests (ground_of g k) (one_shape (demanded os asked.demand)) count asked.place ((asked.width, asked.symbol) ∷ []) grid
+abbrev pub AreDemanded : Grammar → BarInput → List Shape → ℕ → Asked → List (List Key) → Type 0
+AreDemanded g k os count asked grid = AreBestForests (ground_of g k) (one_shape (demanded os asked.demand)) count asked.place ((asked.width, asked.symbol) ∷ []) grid
 
 -- the key of one of them with the rule r on top
 abbrev pub IsAskedKey : Grammar → BarInput → List Shape → Asked → ℕ → ℕ → ℕ → Key → Type 0
@@ -46,7 +46,7 @@ IsAskedKey g k os asked a b r = IsRuleKey (ground_of g k) (demanded os asked.dem
 
 -- the first `count` of those with a rule before i on top
 abbrev pub AreBestBelow : Grammar → BarInput → List Shape → ℕ → Asked → ℕ → List (List Key) → Type 0
-AreBestBelow g k os count asked i grid = (a b : ℕ) → a < 5 → b < 5 → AreFirst (IsOneBelow (IsAskedKey g k os asked a b) i) count (ranking_at grid a b)
+AreBestBelow g k os count asked i grid = (a b : ℕ) → a < 5 → b < 5 → AreFirstKeys (IsOneBelow (IsAskedKey g k os asked a b) i) count (ranking_at grid a b)
 
 -- how a rule ends its interval, none where it cuts it
 abbrev pub rule_ending : Option Rule → Option Ending
@@ -77,7 +77,7 @@ is_leaf_at ending l a b = agrees ending (a + l.own) l.sounds && (l.next == b)
 
 -- what was found under this number is that
 abbrev pub IsAnswerAt : Grammar → BarInput → List Shape → ℕ → List Found → Asked → ℕ → Type 0
-IsAnswerAt g k os count xs asked n = (x : Found) × (slice_get xs n ≡ Some x) × IsAnswer g k os count asked x.grid
+IsAnswerAt g k os count xs asked n = (x : Found) × (slice_get xs n ≡ Some x) × AreDemanded g k os count asked x.grid
 
 -- the best trees over these parts, the last of a cut
 abbrev pub AreBestLast : Ground → Option Shape → ℕ → List Found → ℕ → List (ℕ × ℕ) → LastParts → Type 0

@@ -3,5 +3,5 @@ use Rattle.std.specs.Prelude.{ℕ}
 use Rattle.best_trees.specs.declared.cut.Piece.{Piece}
 
 -- a part as its width and its symbol
-abbrev pub pair_of : Piece → ℕ × ℕ
-pair_of p = (p.width, p.symbol)
+abbrev pub piece_pair : Piece → ℕ × ℕ
+piece_pair p = (p.width, p.symbol)

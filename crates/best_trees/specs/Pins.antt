@@ -4,7 +4,7 @@ use Rattle.rhythm_base.specs.Forest.{Forest}
 use Rattle.rhythm_base.specs.Shape.{Shape, end, part}
 use Rattle.rhythm_base.specs.Trees.{are_trees}
 use Rattle.rhythm_base.specs.declared.rule.Rule.{Rule}
-use Rattle.rhythm_laws.specs.Forests.{has_shapes}
+use Rattle.tree_laws.specs.Forests.{has_shapes}
 use Rattle.best_trees.specs.declared.pins.PinPart.{PinPart}
 use Rattle.best_trees.specs.declared.pins.Demand.{Demand}
 use Rattle.best_trees.specs.declared.pins.Demand.TheVariants.{Any, Nothing, Shapes}
@@ -34,8 +34,8 @@ demanded os Nothing = Some end
 demanded os (Shapes i) = Some (slice_index_or os i end)
 
 -- nothing was lost, and outlines were added after
-abbrev pub Grows : List Shape → List Shape → Type 0
-Grows os ps = (xs : List Shape) × (ps ≡ os ++ xs)
+abbrev pub GrowsOutlines : List Shape → List Shape → Type 0
+GrowsOutlines os ps = (xs : List Shape) × (ps ≡ os ++ xs)
 
 -- this outline is kept under this number
 abbrev pub HasOutline : List Shape → Option ℕ → Shape → Type 0

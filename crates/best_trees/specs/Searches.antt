@@ -8,7 +8,7 @@ use Rattle.best_trees.specs.Suited.{AreAllSuited}
 use Rattle.best_trees.specs.declared.suited.Suited.{Suited}
 
 -- a bar, its view, and the rules of the grammar that suit
-pub record IsSearch (g : Grammar) (k : BarInput) (view : View) (suited : Suited) : Type 0 where
+pub record IsTreeSearch (g : Grammar) (k : BarInput) (view : View) (suited : Suited) : Type 0 where
   pub ready : IsReady g k
   pub view_of : IsViewOf k view
   pub suited_of : AreAllSuited g.rules suited

@@ -1,5 +1,5 @@
-ghost use Rattle.best_trees.specs.Nodes.{AreFound, IsWithin};
-ghost use Rattle.best_trees.specs.Searches.{IsSearch};
+ghost use Rattle.best_trees.specs.Nodes.{AreFound, IsInBar};
+ghost use Rattle.best_trees.specs.Searches.{IsTreeSearch};
 ghost use Rattle.best_trees.specs.Suited.{AreAllSuited};
 ghost use Rattle.std.specs.Prelude.{◌≡◌, [], IfOk, IsTrue, OnOk};
 
@@ -25,7 +25,7 @@ pub struct Agenda {
 
 /// Whether the interval lies in the bar.
 fn is_within(input: &BarInput, asked: Asked) -> bool
-    ensures { IsTrue result → IsWithin input.now asked }
+    ensures { IsTrue result → IsInBar input.now asked }
 {
     asked.width >= 1
         && u32::from(asked.place) + u32::from(asked.width) <= u32::from(input.resolution())
@@ -49,7 +49,7 @@ impl Agenda {
 
     /// All that a search for this comes to ask.
     pub fn of(bar: &SearchedBar<'_>, root: Asked) -> Result<Agenda, AllocError>
-        requires { IsSearch bar.now.grammar.now bar.now.input.now bar.now.view.now bar.now.suited.now }
+        requires { IsTreeSearch bar.now.grammar.now bar.now.input.now bar.now.view.now bar.now.suited.now }
         ensures { IfOk result (λ a. AreAllSuited bar.now.grammar.now.rules a.suited) }
     {
         let mut agenda = Agenda::none(bar.alloc, root.width)?;
@@ -62,7 +62,7 @@ impl Agenda {
 
     /// Adds what is asked for, where its family is not there yet.
     fn ask(&mut self, bar: &SearchedBar<'_>, asked: Asked) -> Result<(), AllocError>
-        requires search { IsSearch bar.now.grammar.now bar.now.input.now bar.now.view.now bar.now.suited.now }
+        requires search { IsTreeSearch bar.now.grammar.now bar.now.input.now bar.now.view.now bar.now.suited.now }
         requires suited { AreAllSuited bar.now.grammar.now.rules self.old.suited }
         ensures { OnOk result (AreAllSuited bar.now.grammar.now.rules self.new.suited) }
     {
@@ -90,7 +90,7 @@ impl Agenda {
 
     /// Adds the parts of all that is asked for with a width.
     fn go_down(&mut self, bar: &SearchedBar<'_>, width: u16) -> Result<(), AllocError>
-        requires search { IsSearch bar.now.grammar.now bar.now.input.now bar.now.view.now bar.now.suited.now }
+        requires search { IsTreeSearch bar.now.grammar.now bar.now.input.now bar.now.view.now bar.now.suited.now }
         requires suited { AreAllSuited bar.now.grammar.now.rules self.old.suited }
         ensures { OnOk result (AreAllSuited bar.now.grammar.now.rules self.new.suited) }
     {
@@ -107,7 +107,7 @@ impl Agenda {
 
     /// Adds the parts of what is asked for, by all rules.
     fn ask_parts(&mut self, bar: &SearchedBar<'_>, asked: Asked) -> Result<(), AllocError>
-        requires search { IsSearch bar.now.grammar.now bar.now.input.now bar.now.view.now bar.now.suited.now }
+        requires search { IsTreeSearch bar.now.grammar.now bar.now.input.now bar.now.view.now bar.now.suited.now }
         requires suited { AreAllSuited bar.now.grammar.now.rules self.old.suited }
         ensures { OnOk result (AreAllSuited bar.now.grammar.now.rules self.new.suited) }
     {
@@ -133,7 +133,7 @@ impl Agenda {
         asked: Asked,
         pieces: &[Piece],
     ) -> Result<(), AllocError>
-        requires search { IsSearch bar.now.grammar.now bar.now.input.now bar.now.view.now bar.now.suited.now }
+        requires search { IsTreeSearch bar.now.grammar.now bar.now.input.now bar.now.view.now bar.now.suited.now }
         requires suited { AreAllSuited bar.now.grammar.now.rules self.old.suited }
         ensures { OnOk result (AreAllSuited bar.now.grammar.now.rules self.new.suited) }
     {
@@ -166,7 +166,7 @@ impl Agenda {
         width: u16,
         memo: &mut Memo,
     ) -> Result<(), AllocError>
-        requires search { IsSearch bar.now.grammar.now bar.now.input.now bar.now.view.now bar.now.suited.now }
+        requires search { IsTreeSearch bar.now.grammar.now bar.now.input.now bar.now.view.now bar.now.suited.now }
         requires found { AreFound bar.now.grammar.now bar.now.input.now bar.now.pins.now bar.now.count memo.old.found.items }
         ensures found { OnOk result (AreFound bar.now.grammar.now bar.now.input.now bar.now.pins.now bar.now.count memo.new.found.items) }
     {

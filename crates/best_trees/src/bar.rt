@@ -1,4 +1,4 @@
-ghost use Rattle.best_trees.specs.BarTrees.{AreBestOfBar};
+ghost use Rattle.best_trees.specs.BarTrees.{AreBestBarTrees};
 ghost use Rattle.row_laws.specs.Grounds.{IsReady};
 ghost use Rattle.std.specs.Prelude.{IfOk, option_map};
 
@@ -23,7 +23,7 @@ pub fn best_trees(
     count: usize,
 ) -> Result<Grid, AllocError>
     requires ready { IsReady grammar.now input.now }
-    ensures { IfOk result (AreBestOfBar grammar.now input.now (option_map (λ s. s.now) shape.entry) count) }
+    ensures { IfOk result (AreBestBarTrees grammar.now input.now (option_map (λ s. s.now) shape.entry) count) }
 {
     let mut pins = Pins::new(alloc);
     let demand = pins.take(shape)?;

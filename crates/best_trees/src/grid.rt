@@ -1,5 +1,5 @@
-ghost use Rattle.best_trees.specs.Firsts.{AreKept, offered};
-ghost use Rattle.best_trees.specs.Grids.{AreAllAddable, HasLists, joined, ranking_at};
+ghost use Rattle.best_trees.specs.Firsts.{AreKeptKeys, offered};
+ghost use Rattle.best_trees.specs.Grids.{AreAllAddable, HasLists, joined_row, ranking_at};
 ghost use Rattle.std.specs.Prelude.{
   ◌≡◌,
   ◌&&◌,
@@ -76,7 +76,7 @@ impl Grid {
     ) -> Result<(), AllocError>
         requires from { from < 5 }
         requires to { to < 5 }
-        requires kept { AreKept count (ranking_at self.old from to) }
+        requires kept { AreKeptKeys count (ranking_at self.old from to) }
         ensures { OnOk result (HasLists (λ a b. if (a == from) && (b == to) then offered count (cost, rules.now) (ranking_at self.old a b)
             else ranking_at self.old a b) self.new) }
     {
@@ -91,11 +91,11 @@ impl Grid {
         count: usize,
         sides: &Sides<'_>,
     ) -> Result<(), AllocError>
-        requires kept { (a b : ℕ) → a < 5 → b < 5 → AreKept count (ranking_at self.old a b) }
+        requires kept { (a b : ℕ) → a < 5 → b < 5 → AreKeptKeys count (ranking_at self.old a b) }
         requires cost { sides.now.cost < 2 ^ 62 }
         requires left { AreAllAddable sides.now.left.now }
         requires right { AreAllAddable sides.now.right.now }
-        ensures { OnOk result (HasLists (λ a b. joined count (sides.now.cost, sides.now.top.now) sides.now.left.now sides.now.right.now a b (ranking_at self.old a b)) self.new) }
+        ensures { OnOk result (HasLists (λ a b. joined_row count (sides.now.cost, sides.now.top.now) sides.now.left.now sides.now.right.now a b (ranking_at self.old a b)) self.new) }
     {
         'pairs: for pair in 0..25 {
             let best = &mut self.rankings[pair];
@@ -116,11 +116,11 @@ fn offer_at(
 ) -> Result<(), AllocError>
     requires from { from < 5 }
     requires to { to < 5 }
-    requires kept { AreKept count best.old }
+    requires kept { AreKeptKeys count best.old }
     requires cost { sides.now.cost < 2 ^ 62 }
     requires left { AreAllAddable sides.now.left.now }
     requires right { AreAllAddable sides.now.right.now }
-    ensures { OnOk result (best.new ≡ joined count (sides.now.cost, sides.now.top.now) sides.now.left.now sides.now.right.now from to best.old) }
+    ensures { OnOk result (best.new ≡ joined_row count (sides.now.cost, sides.now.top.now) sides.now.left.now sides.now.right.now from to best.old) }
 {
     'counts: for middle in 0..5 {
         let first = sides.left.at(from, middle);
@@ -140,7 +140,7 @@ fn offer_at(
 pub fn join(alloc: Global, count: usize, left: &Grid, right: &Grid) -> Result<Grid, AllocError>
     requires left { AreAllAddable left.now }
     requires right { AreAllAddable right.now }
-    ensures { IfOk result (HasLists (λ a b. joined count (0, []) left.now right.now a b [])) }
+    ensures { IfOk result (HasLists (λ a b. joined_row count (0, []) left.now right.now a b [])) }
 {
     let mut grid = Grid::none(alloc)?;
     let sides = Sides {

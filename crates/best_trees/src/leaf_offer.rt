@@ -1,5 +1,5 @@
 ghost use Rattle.bar_view.specs.declared.leaf.Leaf.{Leaf};
-ghost use Rattle.best_trees.specs.Firsts.{AreKept, offered};
+ghost use Rattle.best_trees.specs.Firsts.{AreKeptKeys, offered};
 ghost use Rattle.best_trees.specs.Grids.{HasLists, ranking_at};
 ghost use Rattle.best_trees.specs.Nodes.{is_leaf_at};
 ghost use Rattle.rhythm_base.specs.Line.{agrees};
@@ -37,7 +37,7 @@ pub fn offer_leaf(
     requires own { leaf.own ≤ 4 }
     requires next { leaf.next ≤ 4 }
     requires small { leaf.charges < 2 ^ 60 }
-    requires kept { (a b : ℕ) → a < 5 → b < 5 → AreKept count (ranking_at best.old a b) }
+    requires kept { (a b : ℕ) → a < 5 → b < 5 → AreKeptKeys count (ranking_at best.old a b) }
     ensures { OnOk result (HasLists (λ a b. if is_leaf_at ending leaf a b then offered count (weight + leaf.charges, number ∷ []) (ranking_at best.old a b)
         else ranking_at best.old a b) best.new) }
 {

@@ -1,6 +1,6 @@
 ghost use Rattle.best_trees.specs.BarTrees.{ArePinnedTrees};
 ghost use Rattle.best_trees.specs.Grids.{first_keys};
-ghost use Rattle.least_rows.specs.WrittenLists.{AreWritten, IsListAt, IsListOf, number_of};
+ghost use Rattle.bar_trees.specs.WrittenLists.{AreListsWritten, IsListAt, IsListOf, list_number};
 ghost use Rattle.rhythm_base.specs.Ranked.{count_under, five, is_under, ranked, table_of};
 ghost use Rattle.row_laws.specs.Grounds.{IsReady};
 ghost use Rattle.std.specs.Prelude.{◌≡◌, ◌<◌, ◌++◌, ℕ, List, if◌then◌else◌, IfOk, OnOk, option_map};
@@ -8,7 +8,7 @@ ghost use Rattle.std.specs.Prelude.{◌≡◌, ◌<◌, ◌++◌, ℕ, List, if�
 use crate::bar::best_trees;
 use crate::grid::Grid;
 use crate::ranking::Entry;
-use least_rows::{BarBests, BarTrees, WrittenLists};
+use bar_trees::{BarBests, BarTrees, WrittenLists};
 use rhythm_base::{BarInput, Best, Grammar};
 use std::alloc::{AllocError, Global};
 use std::cmp::Ordering;
@@ -120,8 +120,8 @@ fn write_list(entry: Option<&Entry>, rules: &mut Vec<u16>) -> Result<(), AllocEr
 /// Writes the rule lists of the first trees for a number carried in.
 fn write_row(grid: &Grid, from: u8, written: &mut WrittenLists) -> Result<(), AllocError>
     requires from { from < 5 }
-    requires written { AreWritten (IsListAt (first_keys grid.now)) written.old.rules.items written.old.ends (number_of from 0) }
-    ensures { OnOk result (AreWritten (IsListAt (first_keys grid.now)) written.new.rules.items written.new.ends (number_of from 5)) }
+    requires written { AreListsWritten (IsListAt (first_keys grid.now)) written.old.rules.items written.old.ends (list_number from 0) }
+    ensures { OnOk result (AreListsWritten (IsListAt (first_keys grid.now)) written.new.rules.items written.new.ends (list_number from 5)) }
 {
     'counts: for to in 0..5u8 {
         let entry = first(grid, usize::from(from), usize::from(to));
@@ -133,7 +133,7 @@ fn write_row(grid: &Grid, from: u8, written: &mut WrittenLists) -> Result<(), Al
 
 /// The rule lists of the first trees.
 fn lists_of(alloc: Global, grid: &Grid) -> Result<WrittenLists, AllocError>
-    ensures { IfOk result (λ x. AreWritten (IsListAt (first_keys grid.now)) x.rules.items x.ends 25) }
+    ensures { IfOk result (λ x. AreListsWritten (IsListAt (first_keys grid.now)) x.rules.items x.ends 25) }
 {
     let mut written = WrittenLists::new(alloc);
     'counts: for from in 0..5u8 {

@@ -1,6 +1,6 @@
-ghost use Rattle.best_trees.specs.Pieces.{pair_of};
+ghost use Rattle.best_trees.specs.Pieces.{piece_pair};
 ghost use Rattle.best_trees.specs.Pins.{
-  Grows,
+  GrowsOutlines,
   HasOutline,
   NoneFit,
   demanded,
@@ -11,7 +11,7 @@ ghost use Rattle.best_trees.specs.Pins.{
 };
 ghost use Rattle.rhythm_base.specs.Forest.{none};
 ghost use Rattle.rhythm_base.specs.Shape.{Shape, end, shape_of_parts, part};
-ghost use Rattle.rhythm_laws.specs.Forests.{AreWide, first_shape, has_shapes, one_shape, other_shapes};
+ghost use Rattle.tree_laws.specs.Forests.{AreWide, first_shape, has_shapes, one_shape, other_shapes};
 ghost use Rattle.std.specs.Prelude.{
   ◌≡◌,
   ◌≤◌,
@@ -125,7 +125,7 @@ impl Pins {
 
     /// Keeps a part, and the shapes after it.
     fn keep(&mut self, parts: Option<usize>, others: Option<usize>) -> Result<usize, AllocError>
-        ensures more { OnOk result (Grows self.old self.new) }
+        ensures more { OnOk result (GrowsOutlines self.old self.new) }
         ensures outline { IfOk result (λ n. (x y : Shape) → HasOutline self.old parts x → HasOutline self.old others y
             → HasOutline self.new (Some n) (part x y)) }
     {
@@ -144,7 +144,7 @@ impl Pins {
 
     #[cycle(keeping)]
     fn keep_all(&mut self, shapes: &[Shape]) -> Result<Option<usize>, AllocError>
-        ensures more { OnOk result (Grows self.old self.new) }
+        ensures more { OnOk result (GrowsOutlines self.old self.new) }
         ensures outline { IfOk result (λ n. HasOutline self.new n (shape_of_parts shapes.now)) }
     {
         match shapes {
@@ -202,7 +202,7 @@ impl Pins {
     /// Whether trees over these pieces may be as demanded: there are as many, and none is to have more leaves than units.
     #[cycle(room)]
     pub fn have_room(&self, demand: Demand, pieces: &[Piece]) -> bool
-        ensures { IsFalse result → AreWide (map pair_of pieces.now) → NoneFit (map pair_of pieces.now) (demanded self.now demand) }
+        ensures { IsFalse result → AreWide (map piece_pair pieces.now) → NoneFit (map piece_pair pieces.now) (demanded self.now demand) }
     {
         match pieces {
             [] => self.allows_none(demand),

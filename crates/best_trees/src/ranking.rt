@@ -1,5 +1,5 @@
 ghost use Rattle.best_trees.specs.Firsts.{
-  AreKept,
+  AreKeptKeys,
   AreAddable,
   IsBefore,
   AreCheaper,
@@ -197,7 +197,7 @@ impl Ranking {
         first: &[u16],
         second: &[u16],
     ) -> Result<bool, AllocError>
-        requires { AreKept count self.old }
+        requires { AreKeptKeys count self.old }
         ensures kept { OnOk result (self.new ≡ offered count (cost, (top.now ++ first.now) ++ second.now) self.old) }
         ensures past { IfOk result (λ near. IsFalse near → IsPast count (cost, (top.now ++ first.now) ++ second.now) self.old) }
     {
@@ -230,7 +230,7 @@ impl Ranking {
         rules: &[u16],
         others: &Ranking,
     ) -> Result<(), AllocError>
-        requires kept { AreKept count self.old }
+        requires kept { AreKeptKeys count self.old }
         requires cost { cost < 2 ^ 63 }
         requires others { AreAddable others.now }
         ensures { OnOk result (self.new ≡ all_offered count (map (plus (cost, top.now ++ rules.now)) others.now) self.old) }
@@ -245,7 +245,7 @@ impl Ranking {
 
     /// Whether there are `count` entries, each of a lower cost.
     fn are_cheaper(&self, count: usize, cost: u64) -> bool
-        requires { AreKept count self.now }
+        requires { AreKeptKeys count self.now }
         ensures { IsTrue result → AreCheaper count cost self.now }
     {
         match self.entries.last() {
@@ -265,7 +265,7 @@ impl Ranking {
         left: &Ranking,
         right: &Ranking,
     ) -> Result<(), AllocError>
-        requires kept { AreKept count self.old }
+        requires kept { AreKeptKeys count self.old }
         requires cost { cost < 2 ^ 62 }
         requires left { AreAddable left.now }
         requires right { AreAddable right.now }

@@ -9,17 +9,17 @@ ghost use Rattle.best_trees.specs.Nodes.{
   IsAnswerAt,
   IsLeafHere,
   IsOf,
-  IsWithin,
+  IsInBar,
   ending_at,
 };
-ghost use Rattle.best_trees.specs.Pieces.{pair_of};
+ghost use Rattle.best_trees.specs.Pieces.{piece_pair};
 ghost use Rattle.best_trees.specs.Pins.{demanded};
-ghost use Rattle.best_trees.specs.Searches.{IsSearch};
+ghost use Rattle.best_trees.specs.Searches.{IsTreeSearch};
 ghost use Rattle.best_trees.specs.Suited.{AreSuiting};
 ghost use Rattle.bar_view.specs.declared.leaf.Leaf.{Leaf};
 ghost use Rattle.rhythm_base.specs.Bodies.{sizes};
 ghost use Rattle.rhythm_base.specs.Trees.{suits};
-ghost use Rattle.rhythm_laws.specs.Shares.{AreBelow};
+ghost use Rattle.tree_laws.specs.Shares.{AreBelow};
 ghost use Rattle.row_laws.specs.Grounds.{ground_of};
 ghost use Rattle.std.specs.Prelude.{
   ◌≡◌,
@@ -76,8 +76,8 @@ fn nothing(alloc: Global, count: usize) -> Result<Grid, AllocError>
 
 /// The family of the trees that are asked for.
 pub fn family_of(bar: &SearchedBar<'_>, asked: Asked) -> Family
-    requires search { IsSearch bar.now.grammar.now bar.now.input.now bar.now.view.now bar.now.suited.now }
-    requires within { IsWithin bar.now.input.now asked }
+    requires search { IsTreeSearch bar.now.grammar.now bar.now.input.now bar.now.view.now bar.now.suited.now }
+    requires within { IsInBar bar.now.input.now asked }
     ensures { IsOf bar.now.grammar.now bar.now.input.now result asked }
 {
     let site = match bar.view.quiet(bar.input, asked.place, asked.width) {
@@ -94,8 +94,8 @@ pub fn family_of(bar: &SearchedBar<'_>, asked: Asked) -> Family
 
 /// The leaf over the interval, where no other shape is demanded, and no more than four chords are attached to it or to the next.
 fn leaf_here(bar: &SearchedBar<'_>, asked: Asked) -> Option<Leaf>
-    requires search { IsSearch bar.now.grammar.now bar.now.input.now bar.now.view.now bar.now.suited.now }
-    requires within { IsWithin bar.now.input.now asked }
+    requires search { IsTreeSearch bar.now.grammar.now bar.now.input.now bar.now.view.now bar.now.suited.now }
+    requires within { IsInBar bar.now.input.now asked }
     ensures leaf { MatchOption result (HasNoLeaf bar.now.grammar.now bar.now.input.now bar.now.pins.now asked)
         (IsLeafHere bar.now.grammar.now bar.now.input.now bar.now.pins.now asked) }
     ensures small { (l : Leaf) → result ≡ Some l → l.charges < 2 ^ 60 }
@@ -111,8 +111,8 @@ fn leaf_here(bar: &SearchedBar<'_>, asked: Asked) -> Option<Leaf>
 /// The number of the best trees that are asked for, found once for all intervals that are answered alike.
 #[cycle(search)]
 pub fn search(bar: &SearchedBar<'_>, memo: &mut Memo, asked: Asked) -> Result<usize, AllocError>
-    requires search { IsSearch bar.now.grammar.now bar.now.input.now bar.now.view.now bar.now.suited.now }
-    requires within { IsWithin bar.now.input.now asked }
+    requires search { IsTreeSearch bar.now.grammar.now bar.now.input.now bar.now.view.now bar.now.suited.now }
+    requires within { IsInBar bar.now.input.now asked }
     requires found { AreFound bar.now.grammar.now bar.now.input.now bar.now.pins.now bar.now.count memo.old.found.items }
     ensures more { OnOk result (KeepsFound memo.old.found.items memo.new.found.items) }
     ensures found { OnOk result (AreFound bar.now.grammar.now bar.now.input.now bar.now.pins.now bar.now.count memo.new.found.items) }
@@ -136,8 +136,8 @@ fn by_rules(
     asked: Asked,
     best: &mut Grid,
 ) -> Result<(), AllocError>
-    requires search { IsSearch bar.now.grammar.now bar.now.input.now bar.now.view.now bar.now.suited.now }
-    requires within { IsWithin bar.now.input.now asked }
+    requires search { IsTreeSearch bar.now.grammar.now bar.now.input.now bar.now.view.now bar.now.suited.now }
+    requires within { IsInBar bar.now.input.now asked }
     requires found { AreFound bar.now.grammar.now bar.now.input.now bar.now.pins.now bar.now.count memo.old.found.items }
     requires best { AreBestBelow bar.now.grammar.now bar.now.input.now bar.now.pins.now bar.now.count asked 0 best.old }
     ensures more { OnOk result (KeepsFound memo.old.found.items memo.new.found.items) }
@@ -162,8 +162,8 @@ fn by_each(
     numbers: &[u16],
     best: &mut Grid,
 ) -> Result<(), AllocError>
-    requires search { IsSearch bar.now.grammar.now bar.now.input.now bar.now.view.now bar.now.suited.now }
-    requires within { IsWithin bar.now.input.now asked }
+    requires search { IsTreeSearch bar.now.grammar.now bar.now.input.now bar.now.view.now bar.now.suited.now }
+    requires within { IsInBar bar.now.input.now asked }
     requires numbers { AreSuiting bar.now.grammar.now.rules (asked.width, asked.symbol) numbers.now 0 (length bar.now.grammar.now.rules) }
     requires found { AreFound bar.now.grammar.now bar.now.input.now bar.now.pins.now bar.now.count memo.old.found.items }
     requires best { AreBestBelow bar.now.grammar.now bar.now.input.now bar.now.pins.now bar.now.count asked 0 best.old }
@@ -186,8 +186,8 @@ fn by_rule(
     number: u16,
     best: &mut Grid,
 ) -> Result<(), AllocError>
-    requires search { IsSearch bar.now.grammar.now bar.now.input.now bar.now.view.now bar.now.suited.now }
-    requires within { IsWithin bar.now.input.now asked }
+    requires search { IsTreeSearch bar.now.grammar.now bar.now.input.now bar.now.view.now bar.now.suited.now }
+    requires within { IsInBar bar.now.input.now asked }
     requires number { number < length bar.now.grammar.now.rules }
     requires suits { suits (slice_get bar.now.grammar.now.rules number) (asked.width, asked.symbol) ≡ true }
     requires found { AreFound bar.now.grammar.now bar.now.input.now bar.now.pins.now bar.now.count memo.old.found.items }
@@ -224,8 +224,8 @@ fn by_cut(
     number: u16,
     best: &mut Grid,
 ) -> Result<(), AllocError>
-    requires search { IsSearch bar.now.grammar.now bar.now.input.now bar.now.view.now bar.now.suited.now }
-    requires within { IsWithin bar.now.input.now asked }
+    requires search { IsTreeSearch bar.now.grammar.now bar.now.input.now bar.now.view.now bar.now.suited.now }
+    requires within { IsInBar bar.now.input.now asked }
     requires number { number < length bar.now.grammar.now.rules }
     requires suits { suits (slice_get bar.now.grammar.now.rules number) (asked.width, asked.symbol) ≡ true }
     requires cut { ending_at bar.now.grammar.now.rules number ≡ None }
@@ -276,13 +276,13 @@ fn beside(
     demand: Demand,
     below: u16,
 ) -> Result<LastParts, AllocError>
-    requires search { IsSearch bar.now.grammar.now bar.now.input.now bar.now.view.now bar.now.suited.now }
-    requires below { AreBelow below (map pair_of pieces.now) }
-    requires within { place + sizes (map pair_of pieces.now) ≤ bar.now.input.now.resolution }
+    requires search { IsTreeSearch bar.now.grammar.now bar.now.input.now bar.now.view.now bar.now.suited.now }
+    requires below { AreBelow below (map piece_pair pieces.now) }
+    requires within { place + sizes (map piece_pair pieces.now) ≤ bar.now.input.now.resolution }
     requires found { AreFound bar.now.grammar.now bar.now.input.now bar.now.pins.now bar.now.count memo.old.found.items }
     ensures more { OnOk result (KeepsFound memo.old.found.items memo.new.found.items) }
     ensures found { OnOk result (AreFound bar.now.grammar.now bar.now.input.now bar.now.pins.now bar.now.count memo.new.found.items) }
-    ensures best { IfOk result (AreBestLast (ground_of bar.now.grammar.now bar.now.input.now) (demanded bar.now.pins.now demand) bar.now.count memo.new.found.items place (map pair_of pieces.now)) }
+    ensures best { IfOk result (AreBestLast (ground_of bar.now.grammar.now bar.now.input.now) (demanded bar.now.pins.now demand) bar.now.count memo.new.found.items place (map piece_pair pieces.now)) }
 {
     let [piece, rest @ ..] = pieces else {
         return Ok(LastParts::Several(if bar.pins.allows_none(demand) {

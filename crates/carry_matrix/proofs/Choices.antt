@@ -9,10 +9,10 @@ use Rattle.carry_matrix.specs.declared.choice.Choice.{Choice}
 use Rattle.carry_matrix.specs.Choices.{IsLowSum, AreLowSums, choice_code}
 use Rattle.carry_matrix.specs.LowSums.{HaveLowSums}
 use Rattle.carry_matrix.specs.Rows.{cost_code, rank_code, row_code}
-use Rattle.rhythm_laws.proofs.Alike.{IsCount}
-use Rattle.rhythm_laws.proofs.Picks.{Held, pick_count, pick_held}
-use Rattle.rhythm_laws.proofs.ProductCosts.{sum_parts}
-use Rattle.rhythm_laws.proofs.Products.{five_same, grid_at}
+use Rattle.path_laws.proofs.Alike.{IsCount}
+use Rattle.path_laws.proofs.Picks.{Held, pick_count, pick_held}
+use Rattle.path_laws.proofs.ProductCosts.{sum_parts}
+use Rattle.path_laws.proofs.Products.{five_same, grid_at}
 use Rattle.carry_matrix.proofs.Rows.{low_rank}
 
 -- what a sum leaves as it is

@@ -7,7 +7,7 @@ use Rattle.rhythm_base.specs.Paths.{AreLow, IsLow, IsRanked}
 use Rattle.rhythm_base.specs.Ranked.{CarryMatrix, Key, at, count_under, is_under, one}
 use Rattle.carry_matrix.specs.declared.row.Row.{Row}
 use Rattle.carry_matrix.specs.Rows.{AreRows, IsWithin, cost_code, entries_of, entry_at, entry_of, rank_code, row_at, row_code, rows_of}
-use Rattle.rhythm_laws.proofs.Products.{five_at, grid_same}
+use Rattle.path_laws.proofs.Products.{five_at, grid_same}
 
 pub entry_back : (o : Option Best) → IsLow o → entry_of (cost_code o) (rank_code o) ≡ o
 entry_back None low = refl

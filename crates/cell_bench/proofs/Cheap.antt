@@ -7,7 +7,7 @@ use Rattle.rhythm_base.specs.BarInput.{BarInput}
 use Rattle.rhythm_base.specs.BarTables.{BarTable}
 use Rattle.rhythm_base.specs.Grammar.{Grammar}
 use Rattle.rhythm_base.specs.Paths.{AreCheap}
-use Rattle.rhythm_laws.proofs.CheapTables.{table_cheap}
+use Rattle.tree_laws.proofs.CheapTables.{table_cheap}
 
 pub tables_cheap : (g : Grammar) (inputs : List BarInput) (tables : List BarTable) → AreTablesOf g inputs tables → AreCheap DEAREST_CELL (matrices tables)
 tables_cheap g [] tables h = subst (λ ts. AreCheap DEAREST_CELL (matrices ts)) (sym h) tt

@@ -19,7 +19,7 @@ pub fn build_in_turn(
     requires units { bar.now.resolution ≡ grammar.now.resolution }
 {
     let mut builds = Steps::<Benchmark>::zero();
-    let plan = Plan::of(alloc, grammar, &[bar.start()])?;
+    let plan = Plan::of(alloc, grammar)?;
     let mut room = Room::new(alloc);
     let mut last = None;
     for _ in 0..times {

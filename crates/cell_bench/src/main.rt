@@ -30,6 +30,7 @@ use bars::{bar_of, bars_of};
 use best_lists::{Around, best_trees, print_trees};
 use chains::{ChainWork, chained, matrices_of};
 use drawn::{Draw, drawn_bars};
+use grammar_plan::Plan;
 use grammars::{Group, grammar_named};
 use in_turn::build_in_turn;
 use least_cost::{BarTable, Steps, build_cell};
@@ -221,11 +222,13 @@ fn build_by<R: Threads + Sync>(
     let Some(bars) = bars_of(alloc, grammar.resolution, task.onsets, task.times)? else {
         return Err(io::Error::from(ErrorKind::InvalidInput));
     };
+    let plan = Plan::of(alloc, &grammar)?;
     let mut builds = Steps::<Benchmark>::zero();
     let mut tables = build_cells(
         rt,
         alloc,
         &grammar,
+        &plan,
         bars.as_slice(),
         workers,
         &OpenGate,
@@ -251,11 +254,13 @@ fn build_drawn<R: Threads + Sync>(
     let Some(bars) = drawn_bars(alloc, grammar.resolution, task.draw, task.cells)? else {
         return Err(io::Error::from(ErrorKind::InvalidInput));
     };
+    let plan = Plan::of(alloc, grammar)?;
     let mut builds = Steps::<Benchmark>::zero();
     let tables = build_cells(
         rt,
         alloc,
         grammar,
+        &plan,
         bars.as_slice(),
         workers,
         &OpenGate,

@@ -6,9 +6,9 @@ use Rattle.rhythm_base.specs.declared.best.Best.{Best}
 use Rattle.rhythm_base.specs.Ranked.{CarryMatrix, at, Key, least_key, one, key_of, key_sum}
 use Rattle.rhythm_base.specs.Lists.{last_end}
 use Rattle.rhythm_base.specs.Paths.{path_key, AreCarried, IsPathKey, HasWay, IsDeadCell}
-use Rattle.rhythm_laws.proofs.LeastKeys.{IsLeast}
-use Rattle.rhythm_laws.proofs.PathTables.{keys-least_path}
-use Rattle.rhythm_laws.proofs.Reading.{last_end-append}
+use Rattle.path_laws.proofs.LeastKeys.{IsLeast}
+use Rattle.path_laws.proofs.PathTables.{keys-least_path}
+use Rattle.rhythm_base.proofs.LastEnds.{last_end-append}
 use Rattle.chain_bars.specs.Tower.{cost_of}
 use Rattle.chain_bars.specs.Reaches.{IsReachedCount, AreReachedCounts, IsAnyReached, CanStep}
 

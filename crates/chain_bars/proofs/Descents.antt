@@ -5,12 +5,13 @@ use Rattle.std.proofs.lemmas.Bool.{cases_lt}
 use Rattle.rhythm_base.specs.declared.best.Best.{Best}
 use Rattle.rhythm_base.specs.Ranked.{CarryMatrix, at, Key, is_before, plus, key_sum, key_of, one, least_key, table, middle_of, choice, number_of, product_of, sum_before, summed, Sum}
 use Rattle.rhythm_base.specs.Paths.{path_key, AreCarried, IsPathKey, IsLeastPath, IsRanked, AreCheap}
-use Rattle.rhythm_laws.proofs.KeyOrders.{keys_total, itself}
-use Rattle.rhythm_laws.proofs.LeastKeys.{IsLeast, IsLeast-one}
-use Rattle.rhythm_laws.proofs.Alike.{via}
-use Rattle.rhythm_laws.proofs.Picks.{Held, pick_held}
-use Rattle.rhythm_laws.proofs.PathTables.{joined_parts, keys-least_path, least_path_key, no_path_before, middle_on_path, least_append, two, table_single, product_ranked}
-use Rattle.rhythm_laws.specs.Tables.{AllRanked}
+use Rattle.path_laws.proofs.KeyOrders.{keys_total}
+use Rattle.rhythm_base.proofs.TotalOrders.{itself}
+use Rattle.path_laws.proofs.LeastKeys.{IsLeast, IsLeast-one}
+use Rattle.path_laws.proofs.Alike.{via}
+use Rattle.path_laws.proofs.Picks.{Held, pick_held}
+use Rattle.path_laws.proofs.PathTables.{joined_parts, keys-least_path, least_path_key, no_path_before, middle_on_path, least_append, two, table_single, product_ranked}
+use Rattle.path_laws.specs.Tables.{AllRanked}
 use Rattle.chain_bars.specs.Tower.{Level, level_above, level_of, level, AreCells, IsTower, best_cost, cost_of}
 use Rattle.chain_bars.specs.Walks.{number_or, refined, descended, AreCarries}
 use Rattle.chain_bars.proofs.Towers.{table_paired, table_cost, root_cost, root_one, paired_length, raised_ranked, raised_upto, level_cheap}

@@ -6,7 +6,7 @@ use Rattle.std.proofs.lemmas.List.{length_push}
 use Rattle.rhythm_base.specs.Counter.{risen}
 use Rattle.rhythm_base.specs.Ranked.{CarryMatrix, at, least_key}
 use Rattle.rhythm_base.specs.Paths.{IsRanked}
-use Rattle.rhythm_laws.specs.Tables.{AllRanked}
+use Rattle.path_laws.specs.Tables.{AllRanked}
 use Rattle.chain_bars.specs.Tower.{Level, level_above, node_at, level_of, halved, AreCells, IsTower, level, room_at, tier, cost_of, best_cost}
 use Rattle.chain_bars.proofs.Changes.{Asked, tower_asks}
 use Rattle.chain_bars.proofs.Lists.{index_same, tier_read}

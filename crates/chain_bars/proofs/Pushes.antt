@@ -3,7 +3,7 @@ use Rattle.std.proofs.Common.{◌≡◌, ℕ, ◌+◌, ◌<◌, List, [], ◌∷
 use Rattle.std.proofs.lemmas.List.{length_push}
 use Rattle.rhythm_base.specs.Paths.{IsRanked, IsCheap, AreCheap}
 use Rattle.rhythm_base.specs.Ranked.{CarryMatrix}
-use Rattle.rhythm_laws.specs.Tables.{AllRanked}
+use Rattle.path_laws.specs.Tables.{AllRanked}
 use Rattle.chain_bars.specs.Tower.{AreCells}
 
 ranked_push : (es : List CarryMatrix) (e : CarryMatrix) → AllRanked es → IsRanked e → AllRanked (es ++ e ∷ [])

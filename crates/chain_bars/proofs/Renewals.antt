@@ -4,7 +4,7 @@ use Rattle.std.specs.Prelude.{slice_set}
 use Rattle.rhythm_base.specs.Ranked.{CarryMatrix}
 use Rattle.rhythm_base.specs.Paths.{IsRanked, IsCheap, AreCheap}
 use Rattle.chain_bars.proofs.Changes.{IsRenewing, change_step}
-use Rattle.rhythm_laws.specs.Tables.{AllRanked}
+use Rattle.path_laws.specs.Tables.{AllRanked}
 use Rattle.chain_bars.specs.Tower.{Level, node_at, level_of, AreCells, level, room_at}
 use Rattle.chain_bars.proofs.Lists.{set_length}
 use Rattle.chain_bars.proofs.Towers.{half, half_is, paired_length, raised_set}

@@ -4,12 +4,12 @@ use Rattle.std.specs.Prelude.{Some, None, Bool, true, false, ◌==◌, if◌then
 use Rattle.std.proofs.lemmas.Bool.{cases_lt}
 use Rattle.rhythm_base.specs.Counter.{risen}
 use Rattle.rhythm_base.specs.declared.best.Best.{Best}
-use Rattle.rhythm_laws.proofs.ProductCosts.{grid_entry}
+use Rattle.path_laws.proofs.ProductCosts.{grid_entry}
 use Rattle.rhythm_base.specs.Ranked.{CarryMatrix, at, five, least_key, table, product_of, identity_entries}
 use Rattle.rhythm_base.specs.Paths.{IsRanked, IsCheap, AreCheap}
-use Rattle.rhythm_laws.proofs.Products.{five_same}
-use Rattle.rhythm_laws.proofs.PathTables.{table_append, table_single, table_nil, table_ranked, product_assoc, product_ranked, identity_left, identity_right, identity_ranked}
-use Rattle.rhythm_laws.specs.Tables.{AllRanked}
+use Rattle.path_laws.proofs.Products.{five_same}
+use Rattle.path_laws.proofs.PathTables.{table_append, table_single, table_nil, table_ranked, product_assoc, product_ranked, identity_left, identity_right, identity_ranked}
+use Rattle.path_laws.specs.Tables.{AllRanked}
 use Rattle.chain_bars.specs.Tower.{Level, level_above, level_of, level, AreCells, IsTower, best_cost, cost_of}
 use Rattle.chain_bars.proofs.Towers.{to_all, table_paired, table_cost, doubled, doubled_low, raised_cheap, raised_ranked, raised_short, raised_upto, root_one, cheap_at, product_cheap, paired_length, level_cheap}
 use Rattle.chain_bars.proofs.Deaths.{take_snoc}

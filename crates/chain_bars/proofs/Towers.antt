@@ -4,13 +4,13 @@ use Rattle.std.specs.Prelude.{Option, Some, None, slice_index_or, slice_set, dro
 use Rattle.rhythm_base.specs.Ranked.{CarryMatrix, at, Key, ranked, least_key, table, product_of}
 use Rattle.rhythm_base.specs.Counter.{risen}
 use Rattle.rhythm_base.specs.Paths.{IsRanked, IsCheap, AreCheap}
-use Rattle.rhythm_laws.proofs.Products.{grid_at}
-use Rattle.rhythm_laws.proofs.ProductCosts.{product_cost}
+use Rattle.path_laws.proofs.Products.{grid_at}
+use Rattle.path_laws.proofs.ProductCosts.{product_cost}
 use Rattle.std.proofs.lemmas.Bool.{cases_lt}
 use Rattle.std.proofs.Math.Nat.{pow-suc}
-use Rattle.rhythm_laws.proofs.PathTables.{table_append, table_single, two, product_ranked}
+use Rattle.path_laws.proofs.PathTables.{table_append, table_single, two, product_ranked}
 use Rattle.chain_bars.specs.Tower.{level_above, node_at, level_of, halved, AreCells, cost_of, best_cost}
-use Rattle.rhythm_laws.specs.Tables.{AllRanked, AllRanked}
+use Rattle.path_laws.specs.Tables.{AllRanked, AllRanked}
 
 -- ---- one level above another
 

@@ -20,19 +20,19 @@ use Rattle.rhythm_base.specs.Ranked as Ranked
 use Rattle.rhythm_base.specs.Ranked.{CarryMatrix, Key, at, count_under, is_before, is_under, key_sum, key_of, least_key, list_cmp, one, plus}
 use Rattle.rhythm_base.specs.Grammar.{Grammar}
 use Rattle.rhythm_base.specs.Trees.{are_trees, is_tree}
-use Rattle.rhythm_laws.specs.Tables.{IsLeastKey}
-use Rattle.rhythm_laws.specs.Voices.{CellsFit, IsVoice, cell_costs}
-use Rattle.rhythm_laws.specs.Rows.{lists_cmp}
-use Rattle.rhythm_laws.proofs.Alike.{ranks_alike}
-use Rattle.rhythm_laws.proofs.KeyOrders.{never_less, above}
-use Rattle.rhythm_laws.proofs.Locality.{cells-counts, counts-cells, locality, locality-back, locality-cost, dead-pass, pass-dead}
-use Rattle.rhythm_laws.proofs.Parsing.{no_prefix}
-use Rattle.rhythm_laws.proofs.PathTables.{joined_parts, keys-least_path}
-use Rattle.rhythm_laws.proofs.Uniqueness.{not_less}
-use Rattle.rhythm_laws.proofs.Ranks.{both, preorders-cmp, ranks_total, sums_not_less}
+use Rattle.path_laws.specs.Tables.{IsLeastKey}
+use Rattle.tree_laws.specs.Voices.{CellsFit, IsVoice, cell_costs}
+use Rattle.path_laws.specs.Rows.{lists_cmp}
+use Rattle.path_laws.proofs.Alike.{ranks_alike}
+use Rattle.rhythm_base.proofs.TotalOrders.{never_less, above}
+use Rattle.tree_laws.proofs.Locality.{cells-counts, counts-cells, locality, locality-back, locality-cost, dead-pass, pass-dead}
+use Rattle.tree_laws.proofs.Parsing.{no_prefix}
+use Rattle.path_laws.proofs.PathTables.{joined_parts, keys-least_path}
+use Rattle.tree_laws.proofs.OneDerivations.{not_less}
+use Rattle.tree_laws.proofs.Ranks.{both, preorders-cmp, ranks_total, sums_not_less}
 use Rattle.chain_bars.specs.Laws.{AreTables, ArePicked, matrices}
 use Rattle.rhythm_base.specs.DeadBars.{IsDead}
-use Rattle.rhythm_laws.specs.Passes.{CanPass, HasPass}
+use Rattle.tree_laws.specs.Passes.{CanPass, HasPass}
 use Rattle.chain_bars.proofs.Deaths.{end_low, is_some, joined_some, some_is, some_joined}
 use Rattle.chain_bars.proofs.Descents.{key_parts}
 

@@ -12,8 +12,8 @@ use Rattle.rhythm_base.specs.Paths.{IsDeadCell, IsLeastPath, IsPathKey}
 use Rattle.rhythm_base.specs.Ranked.{CarryMatrix, Key, least_key}
 use Rattle.rhythm_base.specs.Grammar.{Grammar}
 use Rattle.rhythm_base.specs.Trees.{is_tree}
-use Rattle.rhythm_laws.specs.Tables.{IsLeastKey}
-use Rattle.rhythm_laws.specs.Voices.{IsVoice}
+use Rattle.path_laws.specs.Tables.{IsLeastKey}
+use Rattle.tree_laws.specs.Voices.{IsVoice}
 
 -- one table for each bar: that of the bar's cell
 abbrev pub AreTables : Grammar → List Inner → List VoiceBar → List BarTable → Type 0

@@ -5,7 +5,7 @@ use Rattle.std.proofs.Common.{zero, suc}
 use Rattle.rhythm_base.specs.declared.best.Best.{Best}
 use Rattle.rhythm_base.specs.Paths.{AreCheap}
 use Rattle.rhythm_base.specs.Ranked.{CarryMatrix, Key, product_of}
-use Rattle.rhythm_laws.specs.Tables.{AllRanked}
+use Rattle.path_laws.specs.Tables.{AllRanked}
 
 -- ---- what stands above the cells
 

@@ -1,10 +1,9 @@
 ghost use Rattle.rhythm_base.specs.declared.limits.TheConstants.{MOST_BARS, DEAREST_CELL};
 ghost use Rattle.rhythm_base.specs.Counter.{risen};
 ghost use Rattle.chain_bars.specs.Endings.{HasNewEnd};
-ghost use Rattle.rhythm_base.specs.Paths.{AreCheap, IsCheap};
+ghost use Rattle.rhythm_base.specs.Paths.{AreCheap, IsCheap, IsRanked};
 ghost use Rattle.chain_bars.specs.Tower.{AreCells, HasRoom, IsTower, best_cost, cost_of, halved, level, node_at, level_above, level_of, room_at};
-ghost use Rattle.rhythm_base.specs.Paths.{IsRanked};
-ghost use Rattle.rhythm_laws.specs.Tables.{AllRanked};
+ghost use Rattle.path_laws.specs.Tables.{AllRanked};
 ghost use Rattle.rhythm_base.specs.Ranked.{CarryMatrix, at, least_key};
 ghost use Rattle.std.specs.Prelude.{
   ◌≡◌,

@@ -1,7 +1,8 @@
 -- The search for a word that asks.
-use Rattle.std.proofs.Common.{◌≡◌, ◌∙◌, ℕ, suc, ◌<◌, ◌+◌, Bool, ◌⊎◌, inl, inr, ◌||◌, ◌&&◌, not, true, false, refl, arith, List, ◌∷◌, get_or, length, drop, map, add-one, drop-cons, Bor}
-use Rattle.std.specs.List.{before_first, position_or_len}
-use Rattle.command_line.specs.Requests.{has_free, is_dashes, is_workers}
+use Rattle.std.proofs.Common.{◌≡◌, ◌∙◌, ℕ, suc, ◌<◌, ◌+◌, Bool, ◌⊎◌, inl, inr, ◌||◌, ◌&&◌, not, true, false, refl, ap, arith, List, [], ◌∷◌, ◌≤◌, ◌-◌, get_or, length, take, drop, map, add-one, drop-cons, Bor}
+use Rattle.std.specs.List.{before_first, list_all, position_or_len}
+use Rattle.std.proofs.lemmas.List.{take_rest}
+use Rattle.command_line.specs.Requests.{has_free, has_short_names, is_dashes, is_short_name, is_workers}
 use Rattle.command_line.proofs.Rows.{Text}
 
 -- the search over the words from a place on
@@ -43,3 +44,9 @@ pub goes_on : (test : Text → Bool) (follows : Bool) (words : List (Bor Text)) 
     → asked_from test follows words i ≡ asked_from test (is_workers (get_or words i d).now) words (i + 1)
 goes_on test follows words i d lt other (inl both) = asked_more test follows words i d lt other ∙ rw (both.0, both.1) refl
 goes_on test follows words i d lt other (inr fails) = asked_more test follows words i d lt other ∙ rw fails refl
+
+-- ---- short names
+
+pub names_after : (word : Text) → 1 ≤ length word → get_or word 0 0 ≡ 45 → list_all is_short_name (take (length word - 1) (drop 1 word)) ≡ has_short_names word
+names_after [] some first = absurd (omega (arith, some))
+names_after (byte ∷ letters) some first = ap (list_all is_short_name) (take_rest (byte ∷ letters) 1) ∙ rw first refl

@@ -6,7 +6,7 @@ use Rattle.std.specs.List.{list_all}
 use Rattle.std.specs.Str.Parse.{digits_value}
 use Rattle.std.proofs.lemmas.Bool.{and_parts}
 use Rattle.std.proofs.lemmas.Bool.Decides.{nat_tests}
-use Rattle.rhythm_base.specs.ScriptLines.{IsNumber}
+use Rattle.rhythm_base.specs.Numerals.{IsNumber}
 use Rattle.command_line.specs.Numbers.{is_number, number_in}
 use Rattle.command_line.proofs.Rows.{Text}
 

@@ -1,6 +1,6 @@
 -- The laws, each as one statement over the definitions.
 use Rattle.std.specs.Prelude.{◌≡◌, ◌≤◌, ◌↔◌, ℕ, List, Some, option_map}
-use Rattle.rhythm_base.specs.ScriptLines.{IsNumber}
+use Rattle.rhythm_base.specs.Numerals.{IsNumber}
 use Rattle.command_line.specs.CommandLines.{invocation_of}
 use Rattle.command_line.specs.Numbers.{number_in, workers_of}
 use Rattle.command_line.specs.PlainWords.{ArePlainWords, other_words, word_of_workers}

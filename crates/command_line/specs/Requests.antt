@@ -1,6 +1,6 @@
 -- Words that ask for help or for the version.
-use Rattle.std.specs.Prelude.{ℕ, ◌&&◌, ◌||◌, Bool, false, not, List, [], ◌∷◌, codes}
-use Rattle.std.specs.List.{before_first}
+use Rattle.std.specs.Prelude.{ℕ, ◌==◌, ◌&&◌, ◌||◌, Bool, false, not, List, [], ◌∷◌, codes}
+use Rattle.std.specs.List.{before_first, list_all, list_any}
 use Rattle.std.specs.Str.{bytes_eq}
 
 -- the word is the option
@@ -11,15 +11,26 @@ is_workers word = bytes_eq word (codes "--workers")
 abbrev pub is_dashes : List ℕ → Bool
 is_dashes word = bytes_eq word (codes "--")
 
--- the word is one of two names
-abbrev pub is_named : List ℕ → List ℕ → List ℕ → Bool
-is_named long short word = bytes_eq word long || bytes_eq word short
+-- a short name is a letter: h or V
+abbrev pub is_short_name : ℕ → Bool
+is_short_name letter = (letter == 104) || (letter == 86)
 
+-- the word is `-` and short names
+abbrev pub has_short_names : List ℕ → Bool
+has_short_names [] = false
+has_short_names (byte ∷ letters) = (byte == 45) && list_all is_short_name letters
+
+-- the word is the long name, or has short names with this letter among them
+abbrev pub is_named : List ℕ → ℕ → List ℕ → Bool
+is_named long letter word = bytes_eq word long || (has_short_names word && list_any (λ byte. byte == letter) word)
+
+-- `--help`, or h among the short names
 abbrev pub is_help : List ℕ → Bool
-is_help = is_named (codes "--help") (codes "-h")
+is_help = is_named (codes "--help") 104
 
+-- `--version`, or V among them
 abbrev pub is_version : List ℕ → Bool
-is_version = is_named (codes "--version") (codes "-V")
+is_version = is_named (codes "--version") 86
 
 -- some word passes the test and does not follow the option; `follows` says whether the first one does
 abbrev pub has_free : (List ℕ → Bool) → Bool → List (List ℕ) → Bool

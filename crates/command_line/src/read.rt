@@ -73,10 +73,10 @@ pub fn read_words(alloc: Global, words: &Words) -> Result<Invocation, WordsFault
     ensures workers { IfOk result HasWorkers }
 {
     let list = texts_of(alloc, words)?;
-    if asks_by(list.as_slice(), "--help", "-h") {
+    if asks_by(list.as_slice(), "--help", b'h') {
         return Ok(Invocation::Help);
     }
-    if asks_by(list.as_slice(), "--version", "-V") {
+    if asks_by(list.as_slice(), "--version", b'V') {
         return Ok(Invocation::Version);
     }
     let line = command_line(alloc, list.as_slice())?;

@@ -8,7 +8,7 @@ use Rattle.rhythm_base.specs.declared.rule.Ending.{Ending}
 use Rattle.rhythm_base.specs.Leaves.{Leaf, looks, soundings}
 use Rattle.rhythm_base.specs.Line.{Rising, agrees, agrees_with, ends_at, ends_before, last_sounds, placements, seat}
 use Rattle.rhythm_base.specs.Lists.{last_of}
-use Rattle.rhythm_laws.proofs.OrderedLists.{all_head, all_tail}
+use Rattle.rhythm_base.proofs.OrderedLists.{all_head, all_tail}
 use Rattle.derivation.specs.Sounds.{attached_to, latest_chord}
 
 -- before the next number

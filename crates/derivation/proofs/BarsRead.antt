@@ -8,8 +8,8 @@ use Rattle.rhythm_base.specs.Grammar.{Grammar}
 use Rattle.rhythm_base.specs.Leaves.{VoiceBar, are_bars}
 use Rattle.rhythm_base.specs.Trees.{are_trees, is_tree, leaves_of}
 use Rattle.rhythm_base.specs.Voices.{voice_bar, voice_bars_from}
-use Rattle.rhythm_laws.proofs.Ranks.{both}
-use Rattle.rhythm_laws.specs.Voices.{Adjacent}
+use Rattle.tree_laws.proofs.Ranks.{both}
+use Rattle.tree_laws.specs.Voices.{Adjacent}
 use Rattle.derivation.specs.declared.leaf.TimedLeaf.{TimedLeaf}
 use Rattle.derivation.specs.RuleLists.{AreRead, HaveLists}
 use Rattle.derivation.specs.TimedLeaves.{timed_bar, timed_leaf, timed_leaves}

@@ -11,7 +11,7 @@ use Rattle.rhythm_base.specs.declared.event.Tempo.{Tempo}
 use Rattle.rhythm_base.specs.declared.note.Note.{Note}
 use Rattle.rhythm_base.specs.Chords.{AreChords}
 use Rattle.rhythm_base.specs.Performance.{IsNoteOf}
-use Rattle.rhythm_laws.proofs.OrderedLists.{all_cons, all_head, all_tail}
+use Rattle.rhythm_base.proofs.OrderedLists.{all_cons, all_head, all_tail}
 use Rattle.derivation.specs.Laws.{ChordsHaveKeys}
 use Rattle.derivation.specs.WellSounded.{AreKeys}
 

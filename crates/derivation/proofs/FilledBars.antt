@@ -10,7 +10,7 @@ use Rattle.std.proofs.lemmas.List.Elements.{All-weaker}
 use Rattle.rhythm_base.specs.declared.note.Bar.{Bar}
 use Rattle.rhythm_base.specs.declared.sound.Sound.{Sound}
 use Rattle.rhythm_base.specs.Signatures.{IsSignature}
-use Rattle.rhythm_base.specs.Spans.{parts_of_unit, sound_length}
+use Rattle.durations.specs.Spans.{parts_of_unit, sound_length}
 use Rattle.derivation.specs.Laws.{WellSoundedFillTheScore}
 use Rattle.derivation.specs.WellSounded.{StandInBars}
 

@@ -5,9 +5,10 @@ use Rattle.std.proofs.Math.Nat.{dvd-mul_left, dvd-sub, dvd_of_mul-dvd-mul_right,
 use Rattle.std.proofs.lemmas.Bool.{cases_lt}
 use Rattle.std.proofs.lemmas.Nat.Gcd.{IsGcd-from_sub, IsGcd-from_zero, IsGcd-swap, dvd_antisymm, same_from_IsGcd}
 use Rattle.durations.proofs.LowestTerms.{divisor_of, lowest_some}
+use Rattle.durations.proofs.ValuesExist.{lowest_exist}
 use Rattle.durations.specs.Values.{IsLowest}
 use Rattle.rhythm_base.specs.declared.span.Frac.{Frac}
-use Rattle.rhythm_base.specs.Spans.{IsFrac}
+use Rattle.durations.specs.Spans.{IsFrac}
 
 -- what divides the same multiple of two numbers divides that multiple of their greatest common divisor
 abbrev IsShared : ℕ → ℕ → ℕ → Type 0
@@ -84,3 +85,7 @@ frac_of_lowest n d a b some (g, gcd, parts, whole) = record {
         let second : e * g ∣ d = subst (λ x. e * g ∣ x) (sym whole) (mul-dvd-mul_right e k g) in
         let both : e * g ∣ 1 * g = subst (λ x. e * g ∣ x) (omega arith) (gcd.2 (e * g) first second) in
         dvd_of_mul-dvd-mul_right {k = g} e {n = 1} (divisor_of n d g some gcd) both
+
+-- and each fraction has lowest terms
+pub frac_exist : (n d : ℕ) → 1 ≤ d → (f : Frac) × IsFrac n d f
+frac_exist n d some = let low = lowest_exist n d some in (record { num = low.0; den = low.1 }, frac_of_lowest n d low.0 low.1 some low.2)

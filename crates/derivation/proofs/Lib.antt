@@ -11,6 +11,7 @@ pub mod ChordKeys
 pub mod WithoutPins
 pub mod Fractions
 pub mod OneSpans
+pub mod SpansExist
 pub mod FilledBars
 pub mod SpansRead
 pub mod Pairs

@@ -11,8 +11,8 @@ use Rattle.rhythm_base.specs.declared.rule.Rule.{Rule}
 use Rattle.rhythm_base.specs.Bodies.{Cut, children, cut_of, cuts_or_ends, ending_of, equal, parts_of_cut, sizes, unequal}
 use Rattle.rhythm_base.specs.Forest.{Forest, more, none, preorder}
 use Rattle.rhythm_base.specs.Trees.{BarLeaf, are_trees, children_of, leaf_of, leaf_of_ending, leaves, leaves_at, suits}
-use Rattle.rhythm_laws.proofs.Bars.{equal_sizes, unequal_sizes}
-use Rattle.rhythm_laws.proofs.Ranks.{both}
+use Rattle.tree_laws.proofs.Bars.{equal_sizes, unequal_sizes}
+use Rattle.tree_laws.proofs.Ranks.{both}
 use Rattle.derivation.specs.declared.leaf.TimedBar.{TimedBar}
 use Rattle.derivation.specs.declared.leaf.TimedLeaf.{TimedLeaf}
 use Rattle.derivation.specs.RuleLists.{AreRead}

@@ -11,9 +11,9 @@ use Rattle.rhythm_base.specs.Grammar.{Grammar}
 use Rattle.rhythm_base.specs.Leaves.{Leaf, VoiceBar, are_bars, goes_left, in_bar, lies_in, looks, voice_leaves}
 use Rattle.rhythm_base.specs.Line.{seat}
 use Rattle.rhythm_base.specs.Trees.{BarLeaf, is_tree, leaves_of}
-use Rattle.rhythm_laws.proofs.Bars.{SideBySide, times_wide}
-use Rattle.rhythm_laws.proofs.Ticks.{le_from, le_not, le_tells, parts-fill}
-use Rattle.rhythm_laws.specs.Voices.{Adjacent}
+use Rattle.tree_laws.proofs.Bars.{SideBySide, times_wide}
+use Rattle.tree_laws.proofs.Ticks.{le_from, le_not, le_tells, parts-fill}
+use Rattle.tree_laws.specs.Voices.{Adjacent}
 
 -- ---- one leaf
 

@@ -19,8 +19,9 @@ use Rattle.rhythm_base.specs.Performance.{IsBarOf, IsKeyMark, IsTempo, IsWellFor
 use Rattle.rhythm_base.specs.Readable.{IsReadable}
 use Rattle.rhythm_base.specs.Time.{in_force, micros_or, sf_of}
 use Rattle.rhythm_base.specs.Voices.{notes_of_voice, voice_bars, voice_bars_from}
-use Rattle.rhythm_laws.proofs.PerformedVoices.{performed_voice}
-use Rattle.rhythm_laws.proofs.Uniqueness.{one_chords, one_least}
+use Rattle.performance_laws.proofs.PerformedVoices.{performed_voice}
+use Rattle.performance_laws.proofs.OneChords.{one_chords}
+use Rattle.tree_laws.proofs.OneDerivations.{one_least}
 use Rattle.derivation.specs.Sounds.{derivation_sounds}
 use Rattle.derivation.specs.WellSounded.{AreWellSounded}
 use Rattle.derivation.proofs.AttachedChords.{last_holds}

@@ -4,7 +4,7 @@ use Rattle.rhythm_base.specs.declared.note.Bar.{Bar}
 use Rattle.rhythm_base.specs.declared.sound.Sound.{Sound}
 use Rattle.rhythm_base.specs.declared.span.Span.{Span}
 use Rattle.rhythm_base.specs.Lists.{Each}
-use Rattle.rhythm_base.specs.Spans.{IsSpan, chord_runs}
+use Rattle.durations.specs.Spans.{IsSpan, chord_runs}
 use Rattle.derivation.proofs.Fractions.{frac_one}
 use Rattle.derivation.specs.Laws.{SpansAreOne}
 

@@ -9,8 +9,8 @@ use Rattle.rhythm_base.specs.Forest.{Tree}
 use Rattle.rhythm_base.specs.Grammar.{Grammar}
 use Rattle.rhythm_base.specs.Leaves.{Leaf, VoiceBar, are_bars, in_bar}
 use Rattle.rhythm_base.specs.Trees.{BarLeaf, is_tree, leaves_of}
-use Rattle.rhythm_laws.proofs.Bars.{SideBySide}
-use Rattle.rhythm_laws.proofs.Ticks.{before_end, parts-fill}
+use Rattle.tree_laws.proofs.Bars.{SideBySide}
+use Rattle.tree_laws.proofs.Ticks.{before_end, parts-fill}
 use Rattle.derivation.specs.Sounds.{bar_sounds, sounds_from, tree_leaves}
 use Rattle.derivation.specs.WellSounded.{StandInBars}
 

@@ -14,10 +14,10 @@ use Rattle.rhythm_base.specs.Leaves.{Leaf, VoiceBar, are_bars, looks, soundings,
 use Rattle.rhythm_base.specs.Line.{Rising, seat}
 use Rattle.rhythm_base.specs.Lists.{last_of}
 use Rattle.rhythm_base.specs.Trees.{BarLeaf, leaves_of}
-use Rattle.rhythm_laws.proofs.Attachments.{onsets_attached}
-use Rattle.rhythm_laws.proofs.Lists.{map_twice}
-use Rattle.rhythm_laws.proofs.Ticks.{le_from, le_not, le_tells, lt_not_le}
-use Rattle.rhythm_laws.specs.Voices.{IsVoice}
+use Rattle.tree_laws.proofs.Attachments.{onsets_attached}
+use Rattle.tree_laws.proofs.Lists.{map_twice}
+use Rattle.tree_laws.proofs.Ticks.{le_from, le_not, le_tells, lt_not_le}
+use Rattle.tree_laws.specs.Voices.{IsVoice}
 use Rattle.derivation.proofs.AttachedChords.{attached_before, attached_by_is, last_more, lt_next}
 use Rattle.derivation.proofs.Middles.{Touch, middle_of, seat_by_middle, voice_touch}
 use Rattle.derivation.proofs.NumberedLeaves.{in_number, line_sounds, numbered, plain_leaves, plain_voice, voice_along}

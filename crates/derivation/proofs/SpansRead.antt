@@ -10,7 +10,8 @@ use Rattle.rhythm_base.specs.declared.span.Frac.{Frac}
 use Rattle.rhythm_base.specs.declared.span.Span.{Span}
 use Rattle.rhythm_base.specs.Lists.{Each}
 use Rattle.rhythm_base.specs.Signatures.{IsSignature}
-use Rattle.rhythm_base.specs.Spans.{AreSpans, IsFrac, IsSpan, begins_chord, chord_runs, is_short, is_tie, place_of, sound_length}
+use Rattle.durations.specs.Spans.{AreSpans, IsFrac, IsSpan, chord_runs, place_of, sound_length}
+use Rattle.rhythm_base.specs.SoundKinds.{begins_chord, is_short, is_tie}
 use Rattle.derivation.proofs.FilledBars.{few_parts, filled, parts_at, place_at, place_next}
 use Rattle.derivation.specs.WellSounded.{StandInBars}
 

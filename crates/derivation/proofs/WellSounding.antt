@@ -14,10 +14,10 @@ use Rattle.rhythm_base.specs.DeadBars.{end_of_bars}
 use Rattle.rhythm_base.specs.Leaves.{Leaf, looks, soundings, sounds, voice_leaves}
 use Rattle.rhythm_base.specs.Line.{Rising, agree_from, agrees, agrees_with, ends_at, ends_before, placements, seat}
 use Rattle.rhythm_base.specs.Lists.{last_of}
-use Rattle.rhythm_base.specs.Spans.{begins_chord, is_rest, is_short, is_tie}
-use Rattle.rhythm_laws.proofs.Attachments.{onsets_attached}
-use Rattle.rhythm_laws.proofs.Runs.{agrees-begins, agrees-few, agrees-one_short, agrees-rest, agrees-short, agrees-silent, agrees-tied}
-use Rattle.rhythm_laws.proofs.Ticks.{le_from, le_tells}
+use Rattle.rhythm_base.specs.SoundKinds.{begins_chord, is_rest, is_short, is_tie}
+use Rattle.tree_laws.proofs.Attachments.{onsets_attached}
+use Rattle.tree_laws.proofs.Runs.{agrees-begins, agrees-few, agrees-one_short, agrees-rest, agrees-short, agrees-silent, agrees-tied}
+use Rattle.tree_laws.proofs.Ticks.{le_from, le_tells}
 use Rattle.derivation.proofs.AttachedChords.{agrees_by_chords, attached_before, attached_by, attached_by_is, last_holds, last_some, lt_next, sounds_of_chord}
 use Rattle.derivation.proofs.Middles.{Touch, end_of, middle_of, voice_touch}
 use Rattle.derivation.proofs.NumberedLeaves.{line_sounds, numbered, plain_leaves, plain_voice, voice_along}

@@ -17,11 +17,11 @@ use Rattle.rhythm_base.specs.Grammar.{Grammar}
 use Rattle.rhythm_base.specs.Leaves.{FitsVoice, Leaf, VoiceBar, are_bars, goes_left, lies_in, looks, soundings, sounds, voice_leaves}
 use Rattle.rhythm_base.specs.Line.{agree_from, agrees_with, ends_at, ends_before, past, placements, seat}
 use Rattle.rhythm_base.specs.Lists.{last_of}
-use Rattle.rhythm_base.specs.Spans.{is_rest}
+use Rattle.rhythm_base.specs.SoundKinds.{is_rest}
 use Rattle.rhythm_base.specs.Trees.{are_trees, is_tree, leaves_of}
 use Rattle.rhythm_base.specs.Voices.{voice_bar, voice_bars_from}
-use Rattle.rhythm_laws.proofs.Lists.{map_twice}
-use Rattle.rhythm_laws.specs.Voices.{Adjacent, IsVoice}
+use Rattle.tree_laws.proofs.Lists.{map_twice}
+use Rattle.tree_laws.specs.Voices.{Adjacent, IsVoice}
 use Rattle.derivation.specs.Laws.{PinsDoNotSound}
 use Rattle.derivation.specs.Sounds.{bar_sounds, but_last, derivation_sounds, keys_or_none, sound_of, sounds_from, tree_leaves}
 

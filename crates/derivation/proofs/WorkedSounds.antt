@@ -11,7 +11,7 @@ use Rattle.rhythm_base.specs.declared.sound.SoundKind.TheVariants.{Begin, Tie, R
 use Rattle.rhythm_base.specs.Forest.{Tree, forest_of, none}
 use Rattle.rhythm_base.specs.Grammar.{Grammar}
 use Rattle.rhythm_base.specs.Leaves.{FitsVoice, VoiceBar, soundings}
-use Rattle.rhythm_base.specs.Spans.{chord_runs}
+use Rattle.durations.specs.Spans.{chord_runs}
 use Rattle.rhythm_base.specs.Voices.{voice_bars_from}
 use Rattle.derivation.specs.Sounds.{derivation_sounds}
 

@@ -9,9 +9,9 @@ use Rattle.rhythm_base.specs.Grammar.{Grammar}
 use Rattle.rhythm_base.specs.Leaves.{FitsVoice, VoiceBar, soundings}
 use Rattle.rhythm_base.specs.Performance.{IsWellFormed, Performance}
 use Rattle.rhythm_base.specs.Readable.{IsReadable}
-use Rattle.rhythm_base.specs.Spans.{AreSpans, parts_of_unit, sound_length}
+use Rattle.durations.specs.Spans.{AreSpans, parts_of_unit, sound_length}
 use Rattle.rhythm_base.specs.Voices.{AreChordsOf, voice_bars}
-use Rattle.rhythm_laws.specs.Voices.{IsVoice}
+use Rattle.tree_laws.specs.Voices.{IsVoice}
 use Rattle.derivation.specs.PerformanceScore.{IsScoreOf}
 use Rattle.derivation.specs.Score.{IsScore, Score}
 use Rattle.derivation.specs.Sounds.{derivation_sounds, plain_bars}
@@ -44,11 +44,15 @@ pub record PinsDoNotSound : Type 0 where
   pub sounds : (g : Grammar) (p : Performance) (channel : ℕ) (cs : List Chord) (ts : List Tree)
       → derivation_sounds g (voice_bars g p channel) cs ts ≡ derivation_sounds g (unpinned_bars g p) cs ts
 
--- the sounds of a voice have one list of spans
+-- the sounds of a voice have at most one list of spans
 abbrev pub SpansAreOne : Type 0
 SpansAreOne =
     (resolution : ℕ) (bars : List Bar) (sounds : List Sound) (xs ys : List Span) → 1 ≤ resolution
     → AreSpans resolution bars sounds xs → AreSpans resolution bars sounds ys → xs ≡ ys
+
+-- and at least one
+abbrev pub SpansExist : Type 0
+SpansExist = (resolution : ℕ) (bars : List Bar) (sounds : List Sound) → 1 ≤ resolution → (xs : List Span) × AreSpans resolution bars sounds xs
 
 -- well-sounded sounds are together as long as all bars, in parts of a whole note
 abbrev pub WellSoundedFillTheScore : Type 0

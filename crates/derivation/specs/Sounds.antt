@@ -11,7 +11,7 @@ use Rattle.rhythm_base.specs.Grammar.{Grammar}
 use Rattle.rhythm_base.specs.Leaves.{Leaf, VoiceBar, in_bar, looks, voice_leaves}
 use Rattle.rhythm_base.specs.Line.{seat}
 use Rattle.rhythm_base.specs.Lists.{last_of}
-use Rattle.rhythm_base.specs.Spans.{is_rest}
+use Rattle.rhythm_base.specs.SoundKinds.{is_rest}
 use Rattle.rhythm_base.specs.Trees.{leaves_of}
 use Rattle.rhythm_base.specs.Voices.{voice_bars_from}
 

@@ -8,7 +8,7 @@ use Rattle.rhythm_base.specs.Forest.{Tree}
 use Rattle.rhythm_base.specs.Grammar.{Grammar}
 use Rattle.rhythm_base.specs.Leaves.{VoiceBar}
 use Rattle.rhythm_base.specs.Lists.{last_of}
-use Rattle.rhythm_base.specs.Spans.{is_rest}
+use Rattle.rhythm_base.specs.SoundKinds.{is_rest}
 use Rattle.rhythm_base.specs.Trees.{BarLeaf, leaves_of}
 use Rattle.derivation.specs.declared.leaf.TimedBar.{TimedBar}
 use Rattle.derivation.specs.declared.leaf.TimedLeaf.{TimedLeaf}

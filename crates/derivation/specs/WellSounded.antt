@@ -3,7 +3,7 @@ use Rattle.std.specs.Prelude.{◌≡◌, ◌≢◌, ℕ, ◌+◌, ◌^◌, ◌<�
 use Rattle.std.proofs.Common.{suc}
 use Rattle.rhythm_base.specs.declared.sound.Sound.{Sound}
 use Rattle.rhythm_base.specs.declared.sound.SoundKind.TheVariants.{Begin}
-use Rattle.rhythm_base.specs.Spans.{is_rest, is_short, is_tie}
+use Rattle.rhythm_base.specs.SoundKinds.{is_rest, is_short, is_tie}
 
 -- Sounds stand side by side from unit p of bar n on, in bars of r units, up to the end of the last of so many bars.
 abbrev pub StandInBars : ℕ → ℕ → ℕ → ℕ → List Sound → Type 0

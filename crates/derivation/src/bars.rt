@@ -3,7 +3,7 @@ ghost use Rattle.derivation.specs.Sounds.{plain_bars};
 ghost use Rattle.rhythm_base.specs.Barlines.{barline};
 ghost use Rattle.rhythm_base.specs.DeadBars.{end_of_bars};
 ghost use Rattle.rhythm_base.specs.declared.limits.TheConstants.{LATEST_TICK, MOST_BARS};
-ghost use Rattle.rhythm_laws.specs.Voices.{Adjacent};
+ghost use Rattle.tree_laws.specs.Voices.{Adjacent};
 ghost use Rattle.std.specs.Prelude.{◌≡◌, ◌≤◌, IfOk, length, map};
 
 use crate::leaf::{TimedBar, TimedLeaf};

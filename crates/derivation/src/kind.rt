@@ -1,4 +1,4 @@
-ghost use Rattle.rhythm_base.specs.Spans as spans;
+ghost use Rattle.rhythm_base.specs.SoundKinds as spans;
 ghost use Rattle.std.specs.Prelude.{◌≡◌};
 
 use rhythm_base::SoundKind;

@@ -4,6 +4,7 @@ ghost use Rattle.derivation.specs.Laws.{
   PinsDoNotSound,
   ScoresAreOne,
   SpansAreOne,
+  SpansExist,
   WellSoundedFillTheScore,
 };
 
@@ -23,9 +24,14 @@ pub fn pins_do_not_sound()
     ensures { PinsDoNotSound }
 {}
 
-/// The sounds of a voice have one list of spans.
+/// The sounds of a voice have at most one list of spans.
 pub fn spans_are_one()
     ensures { SpansAreOne }
+{}
+
+/// The sounds of each voice have a list of spans.
+pub fn spans_exist()
+    ensures { SpansExist }
 {}
 
 /// Well-sounded sounds are together as long as all bars.

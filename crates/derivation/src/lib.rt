@@ -16,7 +16,7 @@ mod walk;
 
 pub use laws::{
     chords_have_keys, derivations_are_well_sounded, pins_do_not_sound, scores_are_one,
-    spans_are_one, well_sounded_fill_the_score,
+    spans_are_one, spans_exist, well_sounded_fill_the_score,
 };
 pub use score::{Score, ScoreBar, VoiceSounds};
 pub use sounds::sounds_of;

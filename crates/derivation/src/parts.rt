@@ -1,5 +1,6 @@
 ghost use Rattle.rhythm_base.specs.Signatures.{IsSignature};
-ghost use Rattle.rhythm_base.specs.Spans.{IsFrac, is_tie, parts_of_unit, sound_length};
+ghost use Rattle.durations.specs.Spans.{IsFrac, parts_of_unit, sound_length};
+ghost use Rattle.rhythm_base.specs.SoundKinds.{is_tie};
 ghost use Rattle.std.specs.Prelude.{◌≡◌, ◌^◌, ◌*◌, ◌<◌, ◌≤◌, All, option_map, slice_get, sum_by, take_while};
 
 use crate::kind::is_tie;

@@ -3,7 +3,7 @@ ghost use Rattle.derivation.specs.TimedLeaves.{chords_after, chords_until, keys_
 ghost use Rattle.rhythm_base.specs.Leaves.{soundings};
 ghost use Rattle.rhythm_base.specs.Line.{Rising};
 ghost use Rattle.rhythm_base.specs.Lists.{last_of};
-ghost use Rattle.rhythm_base.specs.Spans.{is_rest};
+ghost use Rattle.rhythm_base.specs.SoundKinds.{is_rest};
 ghost use Rattle.std.specs.List.{position};
 ghost use Rattle.std.specs.Prelude.{◌≡◌, IfOk, if◌then◌else◌, length, map, nat_lt, unwrap_or};
 

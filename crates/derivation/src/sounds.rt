@@ -3,7 +3,7 @@ ghost use Rattle.derivation.specs.Sounds.{plain_bars};
 ghost use Rattle.rhythm_base.specs.Leaves.{soundings};
 ghost use Rattle.rhythm_base.specs.Readable.{IsReadable};
 ghost use Rattle.rhythm_base.specs.declared.limits.TheConstants.{LATEST_TICK, MOST_BARS};
-ghost use Rattle.rhythm_laws.specs.Voices.{IsVoice};
+ghost use Rattle.tree_laws.specs.Voices.{IsVoice};
 ghost use Rattle.std.specs.Prelude.{◌≤◌, IfOk, length, map};
 
 use crate::bars::timed_leaves;

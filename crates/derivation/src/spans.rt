@@ -1,6 +1,7 @@
 ghost use Rattle.derivation.specs.WellSounded.{AreWellSounded};
 ghost use Rattle.rhythm_base.specs.Signatures.{IsSignature};
-ghost use Rattle.rhythm_base.specs.Spans.{AreSpans, is_short, place_of, sound_length};
+ghost use Rattle.durations.specs.Spans.{AreSpans, place_of, sound_length};
+ghost use Rattle.rhythm_base.specs.SoundKinds.{is_short};
 ghost use Rattle.rhythm_base.specs.declared.limits.TheConstants.{MOST_BARS, MOST_UNITS};
 ghost use Rattle.rhythm_base.specs.declared.span.Span.{Span};
 ghost use Rattle.std.specs.Prelude.{List, ◌∷◌, ◌≡◌, ◌+◌, ◌++◌, ◌^◌, ◌<◌, ◌≤◌, All, IfOk, OnOk, length, sum_by};

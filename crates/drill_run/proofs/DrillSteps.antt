@@ -3,16 +3,17 @@ use Rattle.std.proofs.Common.{◌≡◌, ℕ, zero, suc, ◌+◌, ◌≤◌, inl
 use Rattle.std.specs.Prelude.{Contains}
 use Rattle.rhythm_base.specs.declared.edit.Edit.{Edit}
 use Rattle.rhythm_base.specs.declared.edit_fault.EditFault.{EditFault}
-use Rattle.rhythm_base.specs.Edits.{edited}
+use Rattle.edit_laws.specs.Edits.{edited}
 use Rattle.rhythm_base.specs.Grammar.{Grammar}
 use Rattle.rhythm_base.specs.Performance.{IsWellFormed, Performance}
-use Rattle.rhythm_base.specs.Reached.{AreReached}
-use Rattle.rhythm_base.specs.Script.{EditOutcome, IsMade, IsOutcome, IsRefused, made, refused}
+use Rattle.edit_laws.specs.Reached.{AreReached}
+use Rattle.edit_laws.specs.EditOutcomes.{EditOutcome, IsMade, IsOutcome, IsRefused, made, refused}
 use Rattle.rhythm_base.specs.Voices.{HasDerivation, IsCostOf, IsSumOfCosts}
-use Rattle.rhythm_laws.proofs.OneAnswers.{dead_has_none, one_reached}
+use Rattle.performance_laws.proofs.OneVoices.{dead_has_none}
+use Rattle.edit_laws.proofs.OneReached.{one_reached}
 use Rattle.edit_laws.proofs.Edited.{edited_formed}
 use Rattle.rhythm_gen.specs.DrillEdit.{drill_edit}
-use Rattle.drill_run.specs.Drill.{Drilled, IsCounted, IsDrilledTo, IsStep}
+use Rattle.drill_run.specs.Drill.{Drilled, IsCounted, IsDrilledTo, IsDrillStep}
 use Rattle.drill_run.proofs.EditKinds.{drill_range, kind_of}
 
 -- ---- well formed
@@ -21,7 +22,7 @@ use Rattle.drill_run.proofs.EditKinds.{drill_range, kind_of}
 pub kept_formed : (number e : ℕ) (p q : Performance) (edit : Edit) → IsWellFormed p → drill_edit number e p ≡ Some edit → edited p edit ≡ Ok q → IsWellFormed q
 kept_formed number e p q edit formed is done = edited_formed p q edit formed (drill_range e p q edit formed (kind_of e p edit number is) done) done
 
-pub step_formed : (g : Grammar) (number e : ℕ) (old new : Drilled) (besides : ℕ) → IsWellFormed old.performance → IsStep g number e old new besides → IsWellFormed new.performance
+pub step_formed : (g : Grammar) (number e : ℕ) (old new : Drilled) (besides : ℕ) → IsWellFormed old.performance → IsDrillStep g number e old new besides → IsWellFormed new.performance
 step_formed g number e old new besides formed step = by step.outcome step.comes
   where
     by : (outcome : EditOutcome) → IsOutcome g old.performance step.edit outcome new.performance → IsWellFormed new.performance
@@ -84,7 +85,7 @@ some_same a b h = cc
 
 -- an edit of a drill leaves one thing
 pub one_step : (g : Grammar) (number e : ℕ) (old new new' : Drilled) (besides besides' : ℕ) → 1 ≤ g.resolution → IsWellFormed old.performance
-    → IsStep g number e old new besides → IsStep g number e old new' besides' → new ≡ new'
+    → IsDrillStep g number e old new besides → IsDrillStep g number e old new' besides' → new ≡ new'
 one_step g number e old new new' besides besides' some formed h k =
     let edit : k.edit ≡ h.edit = some_same k.edit h.edit (sym k.is ∙ h.is) in
     let other = subst (λ (x : Edit). IsOutcome g old.performance x k.outcome new'.performance) edit k.comes in

@@ -10,12 +10,13 @@ use Rattle.rhythm_base.specs.declared.edit.Edit.{Edit}
 use Rattle.rhythm_base.specs.declared.note.Bar.{Bar}
 use Rattle.rhythm_base.specs.declared.note.Note.{Note}
 use Rattle.rhythm_base.specs.Barlines.{barline, barline_after}
-use Rattle.rhythm_base.specs.Edits.{IsEditInRange, edit_tests, edited, first_refusal, is_moved_past, is_note, is_past, moved_to, note_at, performance_after}
+use Rattle.rhythm_base.specs.EditRanges.{IsEditInRange}
+use Rattle.edit_laws.specs.Edits.{edit_tests, edited, first_refusal, is_moved_past, is_note, is_past, moved_to, note_at, performance_after}
 use Rattle.rhythm_base.specs.Performance.{IsBarOf, IsNoteOf, IsWellFormed, Performance}
 use Rattle.rhythm_gen.specs.Draws.{draw}
 use Rattle.rhythm_gen.specs.DrillEdit.{added_note, delayed, drill_edit, dropped, moved_note}
 use Rattle.edit_laws.proofs.Edited.{all_pass, made, not_false}
-use Rattle.rhythm_laws.proofs.OrderedLists.{all_head, all_tail}
+use Rattle.rhythm_base.proofs.OrderedLists.{all_head, all_tail}
 
 -- the edits of a drill: a note is added; one is dropped, by the edits whose number leaves 1 over fours; one is moved; a barline
 -- between two bars is moved

@@ -10,14 +10,14 @@ use Rattle.std.proofs.lemmas.List.Filters.{length-filter_both}
 use Rattle.std.proofs.lemmas.List.Kept.{AllPairs-filter}
 use Rattle.rhythm_base.specs.declared.edit.Edit.{Edit}
 use Rattle.rhythm_base.specs.declared.note.Note.{Note}
-use Rattle.rhythm_base.specs.Edits.{edit_tests, first_refusal, is_note, moved_to, note_at, performance_after, put_moved, without_note}
+use Rattle.edit_laws.specs.Edits.{edit_tests, first_refusal, is_note, moved_to, note_at, performance_after, put_moved, without_note}
 use Rattle.rhythm_base.specs.Grammar.{Grammar}
 use Rattle.rhythm_base.specs.Performance.{IsWellFormed, Performance, place_of_note}
-use Rattle.rhythm_base.specs.Script.{EditOutcome, IsOutcome, made, refused}
+use Rattle.edit_laws.specs.EditOutcomes.{EditOutcome, IsOutcome, made, refused}
 use Rattle.edit_laws.proofs.BarEdits.{length-with_barline}
 use Rattle.edit_laws.proofs.Edited.{made as made_passes}
 use Rattle.edit_laws.proofs.EditedCounts.{length-put}
-use Rattle.drill_run.specs.Drill.{Drilled, IsStep}
+use Rattle.drill_run.specs.Drill.{Drilled, IsDrillStep}
 use Rattle.drill_run.proofs.EditKinds.{IsKind, kind_of, moved_inside}
 
 -- ---- one note fewer
@@ -78,7 +78,7 @@ module _ (e : ℕ) (p : Performance) (w : IsWellFormed p) where
       kept (inl is) = absurd (omega (arith, few, is.1))
       kept (inr other) = ap (λ b. if b then tick else p.last) other.0
 
-pub step_keeps : (g : Grammar) (number e : ℕ) (old new : Drilled) (besides : ℕ) → IsWellFormed old.performance → IsStep g number e old new besides
+pub step_keeps : (g : Grammar) (number e : ℕ) (old new : Drilled) (besides : ℕ) → IsWellFormed old.performance → IsDrillStep g number e old new besides
     → Keeps e old.performance new.performance
 step_keeps g number e old new besides w step = by step.outcome step.comes
   where

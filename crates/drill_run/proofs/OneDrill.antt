@@ -9,11 +9,11 @@ use Rattle.rhythm_base.specs.declared.limits.TheConstants.{LONGEST_SCORE}
 use Rattle.rhythm_base.specs.Grammar.{Grammar}
 use Rattle.rhythm_base.specs.Performance.{IsWellFormed, Performance}
 use Rattle.rhythm_base.specs.Readable.{IsReadable}
-use Rattle.rhythm_laws.proofs.OneAnswers.{one_cost_of}
+use Rattle.performance_laws.proofs.OneVoices.{one_cost_of}
 use Rattle.drill_run.specs.declared.drill.TheConstants.{DRILL_EDITS}
 use Rattle.drill_run.specs.declared.figures.Figures.{Figures}
-use Rattle.drill_run.specs.Drill.{Drilled, IsDrilledTo, IsStep}
-use Rattle.drill_run.specs.Ends.{IsDrillOf, IsSaid}
+use Rattle.drill_run.specs.Drill.{Drilled, IsDrilledTo, IsDrillStep}
+use Rattle.drill_run.specs.Ends.{IsDrillOf, IsSummarySaid}
 use Rattle.drill_run.specs.Laws.{DrillsAreOne}
 use Rattle.drill_run.specs.Summary.{AreFigures, summary_text}
 use Rattle.drill_run.proofs.DrillSteps.{drilled_formed, one_step}
@@ -27,7 +27,7 @@ module _ (g : Grammar) (number : ℕ) (p : Performance) (some : 1 ≤ g.resoluti
   one_drilled (suc e) last last' besides besides' (before, m, n, first, step, sum) (before', m', n', first', step', sum') =
       let same = one_drilled e before before' m m' first first' in
       one_step g number e before last last' n n' some (drilled_formed g number p formed e before m first) step
-      (subst (λ (d : Drilled). IsStep g number e d last' n') (sym same) step')
+      (subst (λ (d : Drilled). IsDrillStep g number e d last' n') (sym same) step')
 
 -- ---- the end
 
@@ -59,7 +59,7 @@ module _ (g : Grammar) (last : Drilled) (readable : IsReadable g) (formed : IsWe
       let bytes : a.bytes ≡ b.bytes = h.bytes ∙ ap length score ∙ sym k.bytes in
       λ i. record { bars = bars i; cells = cells i; accepted = accepted i; built = built i; cost = cost i; bytes = bytes i }
 
-  one_said : (a b : Result (List ℕ) ℕ) → IsSaid g last a → IsSaid g last b → a ≡ b
+  one_said : (a b : Result (List ℕ) ℕ) → IsSummarySaid g last a → IsSummarySaid g last b → a ≡ b
   one_said (Ok a) (Ok b) (f, are, text) (f', are', text') =
       let same : a ≡ b = text ∙ ap summary_text (one_figures f f' are are') ∙ sym text' in
       ap (λ x. Ok x) same
@@ -78,4 +78,4 @@ drills_one = record {
     said g number p a b readable formed (last, besides, to, end) (last', besides', to', end') =
         let same = one_drilled g number p readable.ranges.some_unit formed DRILL_EDITS last last' besides besides' to to' in
         one_said g last readable (drilled_formed g number p formed DRILL_EDITS last besides to) a b end
-        (subst (λ (d : Drilled). IsSaid g d b) (sym same) end')
+        (subst (λ (d : Drilled). IsSummarySaid g d b) (sym same) end')

@@ -28,11 +28,6 @@ use Rattle.smf_reader.proofs.ReadInRange.{AreBytes, in_range}
 
 -- ---- no fault
 
--- what is read of bytes is in range
-pub range_of : (bytes : List ℕ) (outcome : Result Smf SmfFault) → AreBytes bytes → GivesFile outcome (smf bytes) → IfOk outcome IsPlayedFile
-range_of bytes (Ok played) are gives = in_range bytes are played gives
-range_of bytes (Err fault) are gives = tt
-
 -- no fault stands in the file of a piece
 pub read_without_fault : (number bars : ℕ) (fault : SmfFault) → bars ≤ 2000 → FaultStands (generated number bars) fault → ⊥
 read_without_fault number bars fault few stands =

@@ -8,8 +8,8 @@ use Rattle.std.proofs.lemmas.Bool.Decides.{nat_tests}
 use Rattle.std.proofs.lemmas.List.Elements.{Contains-get_or}
 use Rattle.rhythm_base.specs.Grammar.{Grammar}
 use Rattle.rhythm_base.specs.Performance.{IsWellFormed, Performance}
-use Rattle.rhythm_base.specs.Reached.{AreReached}
-use Rattle.rhythm_laws.proofs.OrderedLists.{all_head, all_tail, pairs_head, pairs_tail}
+use Rattle.edit_laws.specs.Reached.{AreReached}
+use Rattle.rhythm_base.proofs.OrderedLists.{all_head, all_tail, pairs_head, pairs_tail}
 
 abbrev IsEarlierCell : ℕ × ℕ → ℕ × ℕ → Type 0
 IsEarlierCell c d = slice_cmp nat_cmp (c.0 ∷ c.1 ∷ []) (d.0 ∷ d.1 ∷ []) ≡ Less

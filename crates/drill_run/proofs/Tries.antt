@@ -4,9 +4,9 @@ use Rattle.rhythm_base.specs.declared.edit.Edit.{Edit}
 use Rattle.rhythm_base.specs.declared.edit_fault.EditFault.{EditFault}
 use Rattle.rhythm_base.specs.Grammar.{Grammar}
 use Rattle.rhythm_base.specs.Performance.{IsWellFormed, Performance}
-use Rattle.rhythm_base.specs.Script.{IsOutcome, made, refused}
+use Rattle.edit_laws.specs.EditOutcomes.{IsOutcome, made, refused}
 use Rattle.rhythm_gen.specs.DrillEdit.{drill_edit}
-use Rattle.drill_run.specs.Drill.{Drilled, IsStep, IsWithinReach}
+use Rattle.drill_run.specs.Drill.{Drilled, IsDrillStep, IsWithinReach}
 use Rattle.drill_run.proofs.DrillSteps.{kept_formed}
 use Rattle.drill_run.proofs.Reach.{few_reached}
 
@@ -14,11 +14,11 @@ abbrev pub standing : Performance → ℕ → ℕ → Drilled
 standing p accepted built = record { performance = p; accepted = accepted; built = built }
 
 module _ (g : Grammar) (number e : ℕ) (p next : Performance) (edit : Edit) (is : Some edit ≡ drill_edit number e p) (accepted built : ℕ) where
-  pub accepted_step : (reached cost : ℕ) → IsOutcome g p edit (made reached cost) next → IsStep g number e (standing p accepted built) (standing next (accepted + 1) (built + reached)) 0
+  pub accepted_step : (reached cost : ℕ) → IsOutcome g p edit (made reached cost) next → IsDrillStep g number e (standing p accepted built) (standing next (accepted + 1) (built + reached)) 0
   accepted_step reached cost comes = record { edit = edit; is = sym is; outcome = made reached cost; comes = comes; counts = (refl, refl); builds = refl }
 
   pub refused_step : (fault : EditFault) (besides : ℕ) → IsOutcome g p edit (refused fault) next → IsWithinReach g p edit besides
-      → IsStep g number e (standing p accepted built) (standing next accepted built) besides
+      → IsDrillStep g number e (standing p accepted built) (standing next accepted built) besides
   refused_step fault besides comes within = record { edit = edit; is = sym is; outcome = refused fault; comes = comes; counts = (refl, refl); builds = within }
 
   -- an edit that is made reaches no more cells than there can be

@@ -2,8 +2,8 @@
 use Rattle.std.specs.Prelude.{◌≡◌, ℕ, zero, suc, ◌+◌, ◌≤◌, List, length, Some}
 use Rattle.rhythm_base.specs.Grammar.{Grammar}
 use Rattle.rhythm_base.specs.Performance.{Performance}
-use Rattle.rhythm_base.specs.Reached.{WouldReach}
-use Rattle.rhythm_base.specs.Script.{EditOutcome, IsOutcome, made, refused}
+use Rattle.edit_laws.specs.Reached.{WouldReach}
+use Rattle.edit_laws.specs.EditOutcomes.{EditOutcome, IsOutcome, made, refused}
 use Rattle.rhythm_base.specs.declared.edit.Edit.{Edit}
 use Rattle.rhythm_gen.specs.DrillEdit.{drill_edit}
 
@@ -32,7 +32,7 @@ IsBuiltBesides g p edit (refused fault) besides = IsWithinReach g p edit besides
 IsBuiltBesides g p edit (made reached cost) besides = besides ≡ 0
 
 -- the edit of number e
-pub record IsStep (g : Grammar) (number e : ℕ) (old new : Drilled) (besides : ℕ) : Type 0 where
+pub record IsDrillStep (g : Grammar) (number e : ℕ) (old new : Drilled) (besides : ℕ) : Type 0 where
   pub edit : Edit
   pub is : drill_edit number e old.performance ≡ Some edit
   pub outcome : EditOutcome
@@ -44,4 +44,4 @@ pub record IsStep (g : Grammar) (number e : ℕ) (old new : Drilled) (besides : 
 unfoldable pub IsDrilledTo : Grammar → ℕ → Performance → ℕ → Drilled → ℕ → Type 0
 IsDrilledTo g number p zero last besides = (last ≡ undrilled p) × (besides ≡ 0)
 IsDrilledTo g number p (suc e) last besides =
-    (before : Drilled) × (earlier : ℕ) × (own : ℕ) × IsDrilledTo g number p e before earlier × IsStep g number e before last own × (besides ≡ earlier + own)
+    (before : Drilled) × (earlier : ℕ) × (own : ℕ) × IsDrilledTo g number p e before earlier × IsDrillStep g number e before last own × (besides ≡ earlier + own)

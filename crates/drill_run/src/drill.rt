@@ -1,11 +1,12 @@
-ghost use Rattle.drill_run.specs.Drill.{Drilled, IsDrilledTo, IsStep, IsWithinReach};
-ghost use Rattle.drill_run.specs.Ends.{HasDrilled, IsBrokenOff};
+ghost use Rattle.drill_run.specs.Drill.{Drilled, IsDrilledTo, IsDrillStep, IsWithinReach};
+ghost use Rattle.drill_run.specs.Ends.{HasDrilled, IsDrillBrokenOff};
 ghost use Rattle.drill_run.specs.declared.drill_stop.DrillStop.TheVariants as stop;
 ghost use Rattle.rhythm_base.specs.Counter.{risen};
+ghost use Rattle.edit_laws.specs.Edits.{edited};
 ghost use Rattle.rhythm_base.specs.Performance.{IsWellFormed};
 ghost use Rattle.rhythm_base.specs.declared.edit.Edit.{Edit};
 ghost use Rattle.rhythm_gen.specs.DrillEdit.{drill_edit};
-ghost use Rattle.std.specs.Prelude.{◌≡◌, ◌+◌, ◌*◌, ◌<◌, ◌≤◌, ℕ, Err, IfOk, Ok, OnErr, OnOk, Some, length};
+ghost use Rattle.std.specs.Prelude.{◌≡◌, ◌+◌, ◌*◌, ◌<◌, ◌≤◌, ℕ, Err, IfOk, IsOk, Ok, OnErr, OnOk, Some, length};
 
 use crate::drill_stop::DrillStop;
 use crate::summary::summary_of;
@@ -51,7 +52,7 @@ impl Drill {
         ensures formed { IsWellFormed self.old.session.performance }
         ensures grammar { self.new.session.grammar ≡ self.old.session.grammar }
         ensures number { self.new.number ≡ self.old.number }
-        ensures step { OnOk result ((reached besides : ℕ) × IsStep self.old.session.grammar self.old.number index
+        ensures step { OnOk result ((reached besides : ℕ) × IsDrillStep self.old.session.grammar self.old.number index
             record { performance = self.old.session.performance; accepted = self.old.accepted; built = self.old.built }
             record { performance = self.new.session.performance; accepted = self.new.accepted; built = self.new.built } besides
             × (self.new.built ≡ self.old.built + reached) × (builds.new ≡ risen builds.old (reached + besides))) }
@@ -60,6 +61,8 @@ impl Drill {
         ensures broken_off { OnErr result ((more : ℕ) × (builds.new ≡ risen builds.old more)
             × ((edit : Edit) → drill_edit self.old.number index self.old.session.performance ≡ Some edit
             → IsWithinReach self.old.session.grammar self.old.session.performance edit more)) }
+        ensures allowed { OnErr result ((edit : Edit) → drill_edit self.old.number index self.old.session.performance ≡ Some edit
+            → IsOk (edited self.old.session.performance edit)) }
         ensures products { products.old ≤ products.new }
     {
         let edit = drill_edit(self.number, index, self.session.performance());
@@ -95,7 +98,7 @@ impl Drill {
         ensures drilled { OnOk result ((besides : ℕ) × IsDrilledTo self.old.session.grammar self.old.number self.old.session.performance DRILL_EDITS
             record { performance = self.new.session.performance; accepted = self.new.accepted; built = self.new.built } besides
             × (builds.new ≡ risen builds.old (self.new.built + besides))) }
-        ensures broken_off { OnErr result (IsBrokenOff self.old.session.grammar self.old.number self.old.session.performance builds.old builds.new) }
+        ensures broken_off { OnErr result (IsDrillBrokenOff self.old.session.grammar self.old.number self.old.session.performance builds.old builds.new) }
         ensures products { products.old ≤ products.new }
     {
         'edits: for index in 0..DRILL_EDITS {
@@ -122,7 +125,7 @@ pub fn run_drill<R: Threads + Sync, G: Gate + Sync, B: Tag, P: Tag>(
     requires last { session.performance.last ≤ 1999999000 }
     ensures summary { IfOk result (λ text. HasDrilled session.grammar number session.performance (Ok text.items) builds.old builds.new) }
     ensures too_long { (line : ℕ) → result ≡ Err (stop.ScoreTooLong line) → HasDrilled session.grammar number session.performance (Err line) builds.old builds.new }
-    ensures memory { result ≡ Err stop.Memory → IsBrokenOff session.grammar number session.performance builds.old builds.new }
+    ensures memory { result ≡ Err stop.Memory → IsDrillBrokenOff session.grammar number session.performance builds.old builds.new }
     ensures rises { builds.old ≤ builds.new }
     ensures products { products.old ≤ products.new }
 {

@@ -1,10 +1,8 @@
 ghost use Rattle.piece_laws.specs.Laws.{IsLoadingOf};
 ghost use Rattle.rhythm_base.specs.declared.limits.TheConstants.{MOST_NOTES};
 ghost use Rattle.rhythm_gen.specs.MidiFile.{generated};
-ghost use Rattle.smf_reader.specs.Outcome.{GivesFile};
 ghost use Rattle.smf_reader.specs.Outcomes.{SaysFile};
 ghost use Rattle.smf_reader.specs.Ranges.{IsPlayedFile};
-ghost use Rattle.smf_reader.specs.SmfFile.{smf};
 ghost use Rattle.std.specs.Prelude.{◌≡◌, ◌≤◌, ◌*◌, ◌∷◌, [], IfOk, Ok, length};
 
 use performance_load::{LoadFault, load};
@@ -16,14 +14,6 @@ use std::alloc::{AllocError, Global};
 /// The number of bars of the piece of a drill.
 pub const DRILL_BARS: u32 = 500;
 
-/// What a file says, or the first fault in it.
-fn played_in(alloc: Global, file: &[u8]) -> Result<Smf, SmfFault>
-    ensures gives { GivesFile result (smf file.now) }
-    ensures range { IfOk result IsPlayedFile }
-{
-    read_smf(alloc, file)
-}
-
 /// What the file of the piece of a number says. It has no fault.
 fn played_piece(alloc: Global, number: u32) -> Result<Smf, AllocError>
     requires { number ≤ 65534 }
@@ -31,7 +21,7 @@ fn played_piece(alloc: Global, number: u32) -> Result<Smf, AllocError>
     ensures range { IfOk result IsPlayedFile }
 {
     let bytes = generate(alloc, number, DRILL_BARS)?;
-    match played_in(alloc, bytes.as_slice()) {
+    match read_smf(alloc, bytes.as_slice()) {
         Ok(played) => Ok(played),
         Err(fault) => match fault {
             SmfFault::Memory => Err(AllocError),

@@ -1,5 +1,6 @@
 ghost use Rattle.drill_run.specs.Drill.{Drilled};
-ghost use Rattle.drill_run.specs.Ends.{IsSaid};
+ghost use Rattle.drill_run.specs.Ends as ends;
+ghost use Rattle.drill_run.specs.Ends.{IsSummarySaid};
 ghost use Rattle.drill_run.specs.declared.drill_stop.DrillStop.TheVariants as stop;
 ghost use Rattle.kern_writer.specs.PerformanceText.{HasTooLongText, IsTextOf};
 ghost use Rattle.rhythm_base.specs.declared.limits.TheConstants.{LONGEST_SCORE};
@@ -10,6 +11,16 @@ use crate::figures::{Figures, text_of};
 use edit_session::{ScoreFault, Session};
 use std::alloc::Global;
 
+/// What stops a drill whose score is not written.
+fn score_stop(fault: ScoreFault) -> DrillStop
+    ensures { result ≡ ends.score_stop fault }
+{
+    match fault {
+        ScoreFault::TooLong { line } => DrillStop::ScoreTooLong { line },
+        ScoreFault::Memory => DrillStop::Memory,
+    }
+}
+
 /// The length of the score.
 fn score_length(alloc: Global, session: &Session) -> Result<u64, DrillStop>
     ensures length { IfOk result (λ n. (score : List ℕ) × IsTextOf session.now.grammar session.now.performance score
@@ -18,8 +29,7 @@ fn score_length(alloc: Global, session: &Session) -> Result<u64, DrillStop>
 {
     match session.score(alloc) {
         Ok(text) => Ok(text.len() as u64),
-        Err(ScoreFault::TooLong { line }) => Err(DrillStop::ScoreTooLong { line }),
-        Err(ScoreFault::Memory) => Err(DrillStop::Memory),
+        Err(fault) => Err(score_stop(fault)),
     }
 }
 
@@ -30,9 +40,9 @@ pub fn summary_of(
     accepted: u32,
     built: u64,
 ) -> Result<Vec<u8>, DrillStop>
-    ensures summary { IfOk result (λ text. IsSaid session.now.grammar record { performance = session.now.performance; accepted = accepted; built = built } (Ok text.items)) }
+    ensures summary { IfOk result (λ text. IsSummarySaid session.now.grammar record { performance = session.now.performance; accepted = accepted; built = built } (Ok text.items)) }
     ensures too_long { (line : ℕ) → result ≡ Err (stop.ScoreTooLong line)
-        → IsSaid session.now.grammar record { performance = session.now.performance; accepted = accepted; built = built } (Err line) }
+        → IsSummarySaid session.now.grammar record { performance = session.now.performance; accepted = accepted; built = built } (Err line) }
 {
     let performance = session.performance();
     let bars = performance.bars().len() as u64;

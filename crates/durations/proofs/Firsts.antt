@@ -5,7 +5,7 @@ use Rattle.std.proofs.lemmas.List.Elements.{All-cons}
 use Rattle.durations.specs.declared.value.Recip.{Recip}
 use Rattle.durations.specs.declared.value.Recip.TheVariants.{Of, Breve, Long}
 use Rattle.durations.specs.declared.value.Value.{Value}
-use Rattle.durations.specs.Value.{IsRow, IsSingle}
+use Rattle.durations.specs.Value.{IsValueRow, IsSingle}
 use Rattle.durations.specs.Values.{AreValues, HasSingle, IsTaken}
 use Rattle.durations.proofs.LowestTerms.{lowest_within}
 use Rattle.durations.proofs.Powers.{power_some}
@@ -14,7 +14,7 @@ use Rattle.durations.proofs.Powers.{power_some}
 abbrev pub Ways : ℕ → ℕ → Value → List Value → Type 0
 Ways a b v more = (IsSingle a b v × (more ≡ [])) ⊎ ((HasSingle a b → ⊥) × (v.dots ≡ 0) × (c : ℕ) × IsTaken a b c v.recip × AreValues (a - c) b more)
 
-row_some : (a b : ℕ) (r : Recip) (j : ℕ) → IsRow a b r j → 1 ≤ a
+row_some : (a b : ℕ) (r : Recip) (j : ℕ) → IsValueRow a b r j → 1 ≤ a
 row_some a b (Of n) zero h = omega (arith, h.0)
 row_some a b (Of n) (suc zero) h = omega (arith, h.0)
 row_some a b (Of n) (suc (suc zero)) h = omega (arith, h.0)
@@ -34,7 +34,7 @@ none_left whole (v ∷ more) some (a, b, lowest, rest) = absurd (go (lowest_with
     go le (inl (single, last)) = let e = row_some a b v.recip v.dots single in omega (arith, e, le)
     go le (inr (none, plain, c, taken, h)) = let e = power_some c taken.power in omega (arith, e, le, taken.within)
 
-row_dots : (a b : ℕ) (r : Recip) (j : ℕ) → IsRow a b r j → j ≤ 2
+row_dots : (a b : ℕ) (r : Recip) (j : ℕ) → IsValueRow a b r j → j ≤ 2
 row_dots a b r zero h = omega arith
 row_dots a b r (suc zero) h = omega arith
 row_dots a b r (suc (suc zero)) h = omega arith

@@ -8,7 +8,7 @@ use Rattle.std.proofs.lemmas.List.Elements.{All-cons}
 use Rattle.durations.specs.declared.value.Recip.{Recip}
 use Rattle.durations.specs.declared.value.Recip.TheVariants.{Of, Breve, Long}
 use Rattle.durations.specs.declared.value.Value.{Value}
-use Rattle.durations.specs.Value.{IsRow, plain_grid}
+use Rattle.durations.specs.Value.{IsValueRow, plain_grid}
 use Rattle.durations.specs.Values.{AreValues, IsPlain}
 use Rattle.durations.specs.Laws.{CountsIn}
 use Rattle.durations.proofs.Firsts.{Ways}
@@ -16,7 +16,7 @@ use Rattle.durations.proofs.Firsts.{Ways}
 turned : (b k n all : ℕ) → b ≡ k * n → b ∣ all → n * k ∣ all
 turned b k n all e h = let f : n * k ≡ k * n = grind arith in subst (λ x. x ∣ all) (e ∙ sym f) h
 
-row_grid : (a b : ℕ) (r : Recip) (j all : ℕ) → IsRow a b r j → b ∣ all → 2 ∣ all → plain_grid r * 2 ^ j ∣ all
+row_grid : (a b : ℕ) (r : Recip) (j all : ℕ) → IsValueRow a b r j → b ∣ all → 2 ∣ all → plain_grid r * 2 ^ j ∣ all
 row_grid a b (Of n) zero all h part even = turned b 1 n all (omega (arith, h.1)) part
 row_grid a b (Of n) (suc zero) all h part even = turned b 2 n all h.1 part
 row_grid a b (Of n) (suc (suc zero)) all h part even = turned b 4 n all h.1 part

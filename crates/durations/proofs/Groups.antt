@@ -12,7 +12,7 @@ use Rattle.durations.specs.declared.value.Recip.TheVariants.{Of}
 use Rattle.durations.specs.declared.value.Value.{Value}
 use Rattle.durations.specs.declared.joined.Timed.{Timed}
 use Rattle.durations.specs.Joined.{AreValuesOf, dots, is_tie_of, dots_after, may_join}
-use Rattle.rhythm_base.specs.Spans.{is_tie}
+use Rattle.rhythm_base.specs.SoundKinds.{is_tie}
 use Rattle.durations.specs.Laws.{CountsIn, SumTo}
 use Rattle.durations.proofs.Firsts.{values_dots}
 use Rattle.durations.proofs.Grids.{values_grid}

@@ -1,12 +1,15 @@
-pub mod LowestTerms
-pub mod Powers
-pub mod Plain
-pub mod Firsts
-pub mod Sums
-pub mod Grids
-pub mod OneList
-pub mod Wide
-pub mod Groups
 pub mod Bars
-pub mod Steps
 pub mod Beats
+pub mod Firsts
+pub mod Grids
+pub mod Groups
+pub mod LowestTerms
+pub mod OneList
+pub mod Plain
+pub mod Powers
+pub mod Steps
+pub mod Sums
+pub mod ValuesExist
+pub mod Wide
+mod WorkedPitches
+mod WorkedSpans

@@ -4,7 +4,7 @@ use Rattle.std.proofs.lemmas.Bool.Decides.{nat_tests}
 use Rattle.durations.specs.declared.value.Recip.{Recip}
 use Rattle.durations.specs.declared.value.Recip.TheVariants.{Of, Breve, Long}
 use Rattle.durations.specs.declared.value.Value.{Value}
-use Rattle.durations.specs.Value.{IsRow, IsSingle}
+use Rattle.durations.specs.Value.{IsValueRow, IsSingle}
 use Rattle.durations.specs.Values.{AreValues, IsPlain, IsTaken}
 use Rattle.durations.proofs.Firsts.{Ways, none_left}
 use Rattle.durations.proofs.LowestTerms.{lowest_one, lowest_some}
@@ -28,7 +28,7 @@ dots_of (suc (suc (suc zero))) = 1
 dots_of (suc (suc (suc (suc zero)))) = 0
 dots_of (suc (suc (suc (suc (suc a))))) = 2
 
-row_is : (a b : ℕ) (r : Recip) (j : ℕ) → IsRow a b r j → (recip_of a b ≡ r) × (dots_of a ≡ j)
+row_is : (a b : ℕ) (r : Recip) (j : ℕ) → IsValueRow a b r j → (recip_of a b ≡ r) × (dots_of a ≡ j)
 row_is a b (Of n) zero h = (ap (λ x. recip_of x b) h.0 ∙ ap Of h.1, ap dots_of h.0)
 row_is a b (Of n) (suc zero) h =
     let even : nat_eq b 1 ≡ false = grind (arith, nat_tests, h.1) in

@@ -7,7 +7,7 @@ use Rattle.std.proofs.lemmas.List.Sums.{sum-map, sum_by-cons}
 use Rattle.durations.specs.declared.value.Recip.{Recip}
 use Rattle.durations.specs.declared.value.Recip.TheVariants.{Of, Breve, Long}
 use Rattle.durations.specs.declared.value.Value.{Value}
-use Rattle.durations.specs.Value.{IsRow, IsWide, value_grid, parts, plain_grid, plain_parts, width}
+use Rattle.durations.specs.Value.{IsValueRow, IsWide, value_grid, parts, plain_grid, plain_parts, width}
 use Rattle.durations.specs.Values.{AreValues, IsPlain}
 use Rattle.durations.specs.Laws.{SumTo}
 use Rattle.durations.proofs.Firsts.{Ways}
@@ -26,7 +26,7 @@ one_long a b k l n some e f = (omega (arith, some, f, turned), ap (λ x. x * (n 
     turned : n * k ≡ k * n
     turned = grind arith
 
-row_long : (a b : ℕ) (r : Recip) (j : ℕ) → 1 ≤ b → IsRow a b r j → IsLongAs a b r j
+row_long : (a b : ℕ) (r : Recip) (j : ℕ) → 1 ≤ b → IsValueRow a b r j → IsLongAs a b r j
 row_long a b (Of n) zero some h = one_long a b 1 1 n some h.0 (omega (arith, h.1))
 row_long a b (Of n) (suc zero) some h = one_long a b 2 3 n some h.0 h.1
 row_long a b (Of n) (suc (suc zero)) some h = one_long a b 4 7 n some h.0 h.1

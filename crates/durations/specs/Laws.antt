@@ -24,9 +24,13 @@ value_length leaves = sum (map (λ x. x.len) leaves)
 abbrev pub ValuesSumToTheLength : Type 0
 ValuesSumToTheLength = (len whole : ℕ) (vs : List Value) → 1 ≤ whole → AreValues len whole vs → SumTo len whole vs
 
--- a length has one list of values
+-- a length has at most one list of values
 abbrev pub ValuesAreOne : Type 0
 ValuesAreOne = (len whole : ℕ) (vs ws : List Value) → 1 ≤ whole → AreValues len whole vs → AreValues len whole ws → vs ≡ ws
+
+-- and at least one
+abbrev pub ValuesExist : Type 0
+ValuesExist = (len whole : ℕ) → 1 ≤ whole → (vs : List Value) × AreValues len whole vs
 
 -- the values of a leaf sum to its length and those of the leaves that are joined to it
 abbrev pub DotsSumToTheLeaves : Type 0
@@ -34,9 +38,13 @@ DotsSumToTheLeaves =
     (whole : ℕ) (leaf : Timed) (more : List Timed) (vs : List Value)
     → 1 ≤ whole → AreValuesOf whole leaf (dots whole leaf more) vs → SumTo (leaf.len + value_length (take (dots whole leaf more) more)) whole vs
 
--- the leaves of a bar have one list of written values
+-- the leaves of a bar have at most one list of written values
 abbrev pub WrittenAreOne : Type 0
 WrittenAreOne = (whole : ℕ) (leaves : List Timed) (some other : List Written) → 1 ≤ whole → AreWritten whole leaves some → AreWritten whole leaves other → some ≡ other
+
+-- and at least one
+abbrev pub WrittenExist : Type 0
+WrittenExist = (whole : ℕ) (leaves : List Timed) → 1 ≤ whole → (ws : List Written) × AreWritten whole leaves ws
 
 -- the written values of a bar stand without a gap from its start to its end, and none goes over the barline
 pub record FillTheBar (whole : ℕ) (leaves : List Timed) (ws : List Written) : Type 0 where

@@ -1,4 +1,6 @@
-pub mod Value
-pub mod Values
 pub mod Joined
 pub mod Laws
+pub mod Pitch
+pub mod Spans
+pub mod Value
+pub mod Values

@@ -37,16 +37,16 @@ width whole v = parts v * whole / value_grid v
 
 -- ---- the lengths that are one value: a/b in lowest terms, by the value and its number of dots
 
-abbrev pub IsRow : ℕ → ℕ → Recip → ℕ → Type 0
-IsRow a b (Of n) zero = (a ≡ 1) × (b ≡ n)
-IsRow a b (Of n) (suc zero) = (a ≡ 3) × (b ≡ 2 * n)
-IsRow a b (Of n) (suc (suc zero)) = (a ≡ 7) × (b ≡ 4 * n)
-IsRow a b (Of n) (suc (suc (suc j))) = ⊥
-IsRow a b Breve zero = (a ≡ 2) × (b ≡ 1)
-IsRow a b Breve (suc zero) = (a ≡ 3) × (b ≡ 1)
-IsRow a b Breve (suc (suc j)) = ⊥
-IsRow a b Long zero = (a ≡ 4) × (b ≡ 1)
-IsRow a b Long (suc j) = ⊥
+abbrev pub IsValueRow : ℕ → ℕ → Recip → ℕ → Type 0
+IsValueRow a b (Of n) zero = (a ≡ 1) × (b ≡ n)
+IsValueRow a b (Of n) (suc zero) = (a ≡ 3) × (b ≡ 2 * n)
+IsValueRow a b (Of n) (suc (suc zero)) = (a ≡ 7) × (b ≡ 4 * n)
+IsValueRow a b (Of n) (suc (suc (suc j))) = ⊥
+IsValueRow a b Breve zero = (a ≡ 2) × (b ≡ 1)
+IsValueRow a b Breve (suc zero) = (a ≡ 3) × (b ≡ 1)
+IsValueRow a b Breve (suc (suc j)) = ⊥
+IsValueRow a b Long zero = (a ≡ 4) × (b ≡ 1)
+IsValueRow a b Long (suc j) = ⊥
 
 abbrev pub IsSingle : ℕ → ℕ → Value → Type 0
-IsSingle a b v = IsRow a b v.recip v.dots
+IsSingle a b v = IsValueRow a b v.recip v.dots

@@ -1,13 +1,18 @@
-ghost use Rattle.durations.specs.Laws.{BarsCountInTheGrid, DotsSumToTheLeaves, ValuesAreOne, ValuesCountInTheGrid, ValuesSumToTheLength, WrittenAreOne, WrittenCountInTheGrid, WrittenFillTheBar};
+ghost use Rattle.durations.specs.Laws.{BarsCountInTheGrid, DotsSumToTheLeaves, ValuesAreOne, ValuesCountInTheGrid, ValuesExist, ValuesSumToTheLength, WrittenAreOne, WrittenCountInTheGrid, WrittenExist, WrittenFillTheBar};
 
 /// The values of a length sum to it.
 pub fn values_sum_to_the_length()
     ensures { ValuesSumToTheLength }
 {}
 
-/// A length has one list of values.
+/// A length has at most one list of values.
 pub fn values_are_one()
     ensures { ValuesAreOne }
+{}
+
+/// Each length has a list of values.
+pub fn values_exist()
+    ensures { ValuesExist }
 {}
 
 /// A value with dots is as long as the leaves that are joined in it.
@@ -15,9 +20,14 @@ pub fn dots_sum_to_the_leaves()
     ensures { DotsSumToTheLeaves }
 {}
 
-/// The leaves of a bar have one list of written values.
+/// The leaves of a bar have at most one list of written values.
 pub fn written_are_one()
     ensures { WrittenAreOne }
+{}
+
+/// The leaves of each bar have a list of written values.
+pub fn written_exist()
+    ensures { WrittenExist }
 {}
 
 /// The written values of a bar fill it, and none goes over the barline.

@@ -12,9 +12,9 @@ use Rattle.std.proofs.lemmas.List.Kept.{AllPairs-from_increasing}
 use Rattle.std.proofs.lemmas.List.{length-map, length-take-le, map-append}
 use Rattle.rhythm_base.specs.declared.note.Bar.{Bar}
 use Rattle.rhythm_base.specs.Barlines.{barline}
-use Rattle.rhythm_base.specs.Edits.{with_barline, with_start}
-use Rattle.rhythm_laws.proofs.OrderedLists.{all_cons, all_head, all_tail}
-use Rattle.rhythm_laws.proofs.EditedBars.{barline_is, start_all, starts}
+use Rattle.edit_laws.specs.Edits.{with_barline, with_start}
+use Rattle.rhythm_base.proofs.OrderedLists.{all_cons, all_head, all_tail}
+use Rattle.performance_laws.proofs.EditedBars.{barline_is, start_all, starts}
 
 -- ---- another start of one bar
 

@@ -23,12 +23,13 @@ use Rattle.rhythm_base.specs.declared.pin.Pin as pin
 use Rattle.rhythm_base.specs.Lists.{list_with, AreInOrder, last_of}
 use Rattle.rhythm_base.specs.Barlines.{barline, barline_after, last_start, next_barline, nominal, nominal_of}
 use Rattle.rhythm_base.specs.Pins.{is_pin, without_pin}
-use Rattle.rhythm_base.specs.Edits.{IsEditInRange, performance_after, next_bar, with_barline, with_start, edited, first_refusal, has_note, is_moved_past, is_note, is_past, moved_to, note_at, put_moved, lacks_voice, edit_tests, unless_refused, without_note}
+use Rattle.rhythm_base.specs.EditRanges.{IsEditInRange}
+use Rattle.edit_laws.specs.Edits.{performance_after, next_bar, with_barline, with_start, edited, first_refusal, has_note, is_moved_past, is_note, is_past, moved_to, note_at, put_moved, lacks_voice, edit_tests, unless_refused, without_note}
 use Rattle.rhythm_base.specs.Shape.{Shape}
 use Rattle.rhythm_base.specs.Performance.{IsBarOf, IsNoteOf, IsPinOf, IsWellFormed, Performance, place_of_note, place_of_pin}
-use Rattle.rhythm_laws.proofs.EditedBars.{barline_is, barline_last, start_all, starts}
+use Rattle.performance_laws.proofs.EditedBars.{barline_is, barline_last, start_all, starts}
 use Rattle.edit_laws.proofs.BarEdits.{All-get, All-with_barline, all_starts, below_start, elsewhere, length-with_barline, ne_lt, rises, rises-push, rises-take, some_tick, start-take, unchanged}
-use Rattle.rhythm_laws.proofs.OrderedLists.{All-put, all_cons, all_head, all_tail, put_in_order}
+use Rattle.rhythm_base.proofs.OrderedLists.{All-put, all_cons, all_head, all_tail, put_in_order}
 
 -- ---- the tests
 

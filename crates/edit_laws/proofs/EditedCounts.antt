@@ -13,11 +13,11 @@ use Rattle.rhythm_base.specs.declared.edit.Edit.{Edit}
 use Rattle.rhythm_base.specs.declared.note.Bar.{Bar}
 use Rattle.rhythm_base.specs.declared.note.Note.{Note}
 use Rattle.rhythm_base.specs.Lists.{list_with, last_of}
-use Rattle.rhythm_base.specs.Edits.{performance_after, edited, first_refusal, is_note, moved_to, next_bar, note_at, put_moved, edit_tests, without_note, with_start}
+use Rattle.edit_laws.specs.Edits.{performance_after, edited, first_refusal, is_note, moved_to, next_bar, note_at, put_moved, edit_tests, without_note, with_start}
 use Rattle.rhythm_base.specs.Performance.{Performance, place_of_note}
 use Rattle.rhythm_base.specs.Grammar.{Grammar, root_of}
 use Rattle.rhythm_base.specs.Voices.{HasStarts}
-use Rattle.rhythm_laws.proofs.OrderedLists.{all_cons}
+use Rattle.rhythm_base.proofs.OrderedLists.{all_cons}
 use Rattle.edit_laws.proofs.BarEdits.{All-get, All-with_barline, length-with_barline}
 use Rattle.edit_laws.proofs.Edited.{all_pass, made, not_above, not_false}
 

@@ -1,2 +1,4 @@
+pub mod EditOutcomes
+pub mod Edits
 pub mod Laws
-pub mod OneAnswers
+pub mod Reached

@@ -1,6 +1,7 @@
 -- The words of commands.
 use Rattle.std.proofs.Common.{◌≡◌, ℕ, ◌≤◌, List, [], ◌∷◌, length, refl, sym, ap₂, ◌∙◌, arith}
-use Rattle.rhythm_base.specs.ScriptLines.{Are, IsBarWord, IsChannelWord, IsCountWord, IsNumber}
+use Rattle.edit_script.specs.ScriptLines.{Are, IsBarWord, IsChannelWord, IsCountWord}
+use Rattle.rhythm_base.specs.Numerals.{IsNumber}
 
 -- a number of alternatives is not 0
 pub asked_count : (channel bar n : ℕ) (words : List (List ℕ)) → Are (IsChannelWord channel ∷ IsBarWord bar ∷ IsNumber 16 n ∷ []) words → 1 ≤ n

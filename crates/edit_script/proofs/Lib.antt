@@ -1,9 +1,10 @@
-mod NumberLemmas
-mod WordLemmas
-mod KeywordLemmas
 mod CommandLemmas
+pub mod CommandWords
+mod KeywordLemmas
 mod LineLemmas
+mod NumberLemmas
+mod ReplyLemmas
 mod SaidLemmas
 mod SendingLemmas
-mod ReplyLemmas
 mod ShapeLemmas
+mod WordLemmas

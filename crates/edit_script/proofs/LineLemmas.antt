@@ -3,7 +3,7 @@ use Rattle.std.proofs.Common.{◌≡◌, ℕ, ◌-◌, Bool, true, false, if◌t
 use Rattle.std.proofs.lemmas.List.Splits.{join_with_byte-slice_split}
 use Rattle.std.specs.List.{join_with_byte, starts_with}
 use Rattle.std.specs.Prelude.{codes, nat_eq}
-use Rattle.rhythm_base.specs.ScriptLines.{trimmed, script_words}
+use Rattle.edit_script.specs.ScriptLines.{trimmed, script_words}
 
 -- a text of `pin`, a space and more
 abbrev BeginsPin : List ℕ → Type 0

@@ -10,7 +10,7 @@ use Rattle.std.specs.Char.{is_ascii_digit}
 use Rattle.std.specs.List.{list_all}
 use Rattle.std.specs.Str.{IsUtf8}
 use Rattle.std.specs.Str.Parse.{IsNumeral, digits_value, without_leading_plus}
-use Rattle.rhythm_base.specs.ScriptLines.{IsNumber}
+use Rattle.rhythm_base.specs.Numerals.{IsNumber}
 use Rattle.rhythm_base.proofs.Numerals.{numerals}
 
 -- bytes that are no text, and the bytes of a text

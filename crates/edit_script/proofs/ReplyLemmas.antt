@@ -3,7 +3,7 @@ use Rattle.std.proofs.Common.{◌≡◌, ℕ, List, [], ◌∷◌, ◌++◌, len
 use Rattle.std.proofs.lemmas.List.{length-map}
 use Rattle.std.specs.Prelude.{Option, codes}
 use Rattle.std.specs.List.{flat_map, join_with_byte}
-use Rattle.rhythm_base.specs.Replies.{reply_line}
+use Rattle.edit_script.specs.Replies.{reply_line}
 use Rattle.rhythm_ports.specs.declared.sink.Partial.{Partial}
 use Rattle.edit_script.specs.Gathered.{Gathered}
 use Rattle.edit_script.specs.Sending.{Sent, SentPart, Writes}

@@ -2,11 +2,11 @@
 use Rattle.std.proofs.Common.{◌≡◌, ℕ, true, false, List, [], ◌∷◌, Some, None, Result, Ok, Err, IfOk, IfErr, drop, refl, sym, ap, ap₂, ◌∙◌, subst, IsTrue}
 use Rattle.std.specs.Prelude.{Option, IsErr, IsErrAnd, codes, nat_eq, slice_get, ok_or}
 use Rattle.std.specs.List.{starts_with}
-use Rattle.rhythm_base.specs.declared.command.Command.{Command}
-use Rattle.rhythm_base.specs.declared.command.Command.TheVariants.{Change, Score, Alternatives, Quit}
+use Rattle.edit_script.specs.declared.command.Command.{Command}
+use Rattle.edit_script.specs.declared.command.Command.TheVariants.{Change, Score, Alternatives, Quit}
 use Rattle.rhythm_base.specs.declared.edit.Edit.TheVariants.{Add, Drop, Move, Barline, Pin, Unpin, AddBar, DropBar}
-use Rattle.rhythm_base.specs.ScriptLines.{AreCommand, ArePinWords, IsCommandInRange, script_words}
-use Rattle.rhythm_base.proofs.CommandWords.{command_in_range}
+use Rattle.edit_script.specs.ScriptLines.{AreCommand, ArePinWords, IsCommandInRange, script_words}
+use Rattle.edit_script.proofs.CommandWords.{command_in_range}
 use Rattle.edit_script.specs.After.{BeginsPinned, SaysAfter, SaysPin}
 use Rattle.edit_script.specs.Finds.{Finds}
 use Rattle.edit_script.specs.Keywords.{spelling}

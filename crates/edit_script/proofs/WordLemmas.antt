@@ -5,7 +5,7 @@ use Rattle.std.specs.List.{slice_split}
 use Rattle.std.specs.Prelude.{Option, is_none, option_map}
 use Rattle.edit_script.specs.Finds.{Finds}
 use Rattle.edit_script.specs.LineWords.{Begins, words_in}
-use Rattle.rhythm_base.specs.ScriptLines.{Are}
+use Rattle.edit_script.specs.ScriptLines.{Are}
 
 -- the parts of what is asked of words
 pub first_is : (Is : List ℕ → Type 0) (more : List (List ℕ → Type 0)) (words : List (List ℕ)) → Are (Is ∷ more) words → Begins Is words

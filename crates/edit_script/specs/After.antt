@@ -1,11 +1,11 @@
 -- What the words after a keyword say: the numbers that they are, and the command of these numbers.
 use Rattle.std.specs.Prelude.{◌≡◌, ℕ, List, [], ◌∷◌, drop}
 use Rattle.std.specs.List.{join_with_byte}
-use Rattle.rhythm_base.specs.declared.command.Command.{Command}
-use Rattle.rhythm_base.specs.declared.command.Command.TheVariants.{Change, Score, Alternatives, Quit}
+use Rattle.edit_script.specs.declared.command.Command.{Command}
+use Rattle.edit_script.specs.declared.command.Command.TheVariants.{Change, Score, Alternatives, Quit}
 use Rattle.rhythm_base.specs.declared.edit.Edit.TheVariants.{Add, Drop, Move, Barline, Pin, Unpin, AddBar, DropBar}
 use Rattle.rhythm_base.specs.Shape.{Shape}
-use Rattle.rhythm_base.specs.ScriptLines.{Are, IsBarWord, IsChannelWord, IsCountWord, IsKeyWord, IsTickWord}
+use Rattle.edit_script.specs.ScriptLines.{Are, IsBarWord, IsChannelWord, IsCountWord, IsKeyWord, IsTickWord}
 use Rattle.rhythm_base.specs.ShapeText.{IsShapeText}
 use Rattle.edit_script.specs.LineWords.{Begins}
 use Rattle.edit_script.specs.declared.keyword.Keyword.{Keyword}

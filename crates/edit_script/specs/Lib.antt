@@ -1,9 +1,11 @@
-pub mod Finds
-pub mod LineWords
-pub mod Keywords
 pub mod After
-pub mod Reads
-pub mod Pieces
-pub mod ReplyText
+pub mod Finds
 pub mod Gathered
+pub mod Keywords
+pub mod LineWords
+pub mod Pieces
+pub mod Reads
+pub mod Replies
+pub mod ReplyText
+pub mod ScriptLines
 pub mod Sending

@@ -1,6 +1,6 @@
 -- The text of each reply.
 use Rattle.std.specs.Prelude.{ℕ, List, map, string_bytes}
-use Rattle.rhythm_base.specs.Replies.{Shown, alternatives_text, bad_line_text, bye_text, done_text, long_score_text, refused_text, score_text}
+use Rattle.edit_script.specs.Replies.{Shown, alternatives_text, bad_line_text, bye_text, done_text, long_score_text, refused_text, score_text}
 use Rattle.edit_script.specs.declared.reply.Alt.{Alt}
 use Rattle.edit_script.specs.declared.reply.Refusal.{Refusal}
 use Rattle.edit_script.specs.declared.reply.Refusal.TheVariants as refusal

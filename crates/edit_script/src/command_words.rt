@@ -2,8 +2,9 @@ ghost use Rattle.edit_script.specs.After.{SaysAlone, SaysAfter};
 ghost use Rattle.edit_script.specs.Finds.{Finds};
 ghost use Rattle.edit_script.specs.declared.keyword.Keyword.TheVariants as keyword;
 
+use crate::command::Command;
 use crate::line_words::LineWords;
-use rhythm_base::{Command, Edit};
+use rhythm_base::Edit;
 
 /// The greatest channel of a line.
 pub(crate) const LAST_CHANNEL: u32 = 15;

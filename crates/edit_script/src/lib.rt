@@ -1,6 +1,7 @@
 //! The lines of an edit script and the replies to them: what a line says, and the text that a reply is written with.
 #![tactic(auto)]
 
+mod command;
 mod command_words;
 mod gathered;
 mod keyword;
@@ -13,6 +14,7 @@ mod reply;
 mod reply_lines;
 mod word;
 
+pub use command::Command;
 pub use line_fault::LineFault;
 pub use read::read_line;
 pub use reply::{Alt, Refusal, Reply};

@@ -1,6 +1,7 @@
 ghost use Rattle.edit_script.specs.Finds.{Finds};
 ghost use Rattle.edit_script.specs.LineWords.{Begins, words_in};
-ghost use Rattle.rhythm_base.specs.ScriptLines.{Are, IsNumber};
+ghost use Rattle.edit_script.specs.ScriptLines.{Are};
+ghost use Rattle.rhythm_base.specs.Numerals.{IsNumber};
 ghost use Rattle.std.specs.List.{join_with_byte, slice_split};
 ghost use Rattle.std.specs.Prelude.{◌≡◌, ◌≤◌, ◌==◌, ◌∷◌, [], ℕ, ◌↔◌, IfSome, IsTrue, drop, length, option_map, slice_get};
 

@@ -1,5 +1,5 @@
 ghost use Rattle.edit_script.specs.Finds.{Finds};
-ghost use Rattle.rhythm_base.specs.ScriptLines.{IsNumber};
+ghost use Rattle.rhythm_base.specs.Numerals.{IsNumber};
 ghost use Rattle.std.specs.Char.{is_ascii_digit};
 ghost use Rattle.std.specs.List.{list_all};
 ghost use Rattle.std.specs.Prelude.{◌≡◌};

@@ -2,18 +2,19 @@ ghost use Rattle.edit_script.specs.After.{BeginsPinned, SaysAfter, SaysPin};
 ghost use Rattle.edit_script.specs.Reads.{Reads};
 ghost use Rattle.edit_script.specs.declared.keyword.Keyword.TheVariants.{Pin};
 ghost use Rattle.edit_script.specs.declared.line_fault.LineFault.TheVariants.{BadLine, Memory};
-ghost use Rattle.rhythm_base.specs.ScriptLines.{BeginsPin, IsCommandInRange, SaysCommand, SaysNothing, trimmed};
+ghost use Rattle.edit_script.specs.ScriptLines.{BeginsPin, IsCommandInRange, SaysCommand, SaysNothing, trimmed};
 ghost use Rattle.rhythm_base.specs.ShapeText.{IsShapeText};
 ghost use Rattle.std.specs.List.{starts_with};
 ghost use Rattle.std.specs.Prelude.{◌≡◌, ⊤, IfErr, IfOk, IsTrue, codes, nat_eq};
 
+use crate::command::Command;
 use crate::command_words::{
     LAST_BAR, LAST_CHANNEL, add_note, alone, alternatives, barline, drop_note, move_note, unpin,
 };
 use crate::keyword::{Keyword, keyword_of};
 use crate::line_fault::LineFault;
 use crate::line_words::LineWords;
-use rhythm_base::{Command, Edit, Shape, ShapeFault};
+use rhythm_base::{Edit, Shape, ShapeFault};
 use std::alloc::Global;
 
 /// The line without one carriage return at its end.

@@ -1,5 +1,5 @@
 ghost use Rattle.edit_script.specs.Pieces.{details_texts};
-ghost use Rattle.rhythm_base.specs.Replies.{fault_words, limit_word};
+ghost use Rattle.edit_script.specs.Replies.{fault_words, limit_word};
 ghost use Rattle.std.specs.Prelude.{◌≡◌, Some, drop, slice_get};
 
 use crate::word::Word;

@@ -1,6 +1,6 @@
 ghost use Rattle.edit_script.specs.ReplyText.{refusal_text, reply_text, shown_by};
 ghost use Rattle.edit_script.specs.Sending.{TakesPart, Writes};
-ghost use Rattle.rhythm_base.specs.Replies.{alternatives_text, refused_text, score_text, shown_text};
+ghost use Rattle.edit_script.specs.Replies.{alternatives_text, refused_text, score_text, shown_text};
 ghost use Rattle.rhythm_ports.specs.Causes.{HasCause};
 ghost use Rattle.std.specs.List.{flat_map};
 ghost use Rattle.std.specs.Prelude.{◌∷◌, IfErr, OnOk, map};

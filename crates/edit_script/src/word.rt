@@ -1,6 +1,6 @@
 ghost use Rattle.edit_script.specs.Pieces.{word_text};
 ghost use Rattle.edit_script.specs.Sending.{Writes};
-ghost use Rattle.rhythm_base.specs.Replies.{reply_line};
+ghost use Rattle.edit_script.specs.Replies.{reply_line};
 ghost use Rattle.rhythm_ports.specs.Causes.{HasCause};
 ghost use Rattle.std.specs.List.{flat_map, join_with_byte};
 ghost use Rattle.std.specs.Prelude.{◌∷◌, decimal, map};

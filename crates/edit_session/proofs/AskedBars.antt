@@ -4,7 +4,7 @@ use Rattle.std.specs.Prelude.{All, Option, Some, None, slice_get}
 use Rattle.std.proofs.Math.Nat.{mul-le-mul_right}
 use Rattle.std.proofs.lemmas.List.{length-drop, length-map, length-take}
 use Rattle.bar_alternatives.proofs.VoiceBars.{best_alternatives}
-use Rattle.bar_alternatives.specs.BestTrees.{AreBestTrees, AreSmall, without_pin}
+use Rattle.bar_alternatives.specs.BestTrees.{AreBestTrees, AreSmall, unpinned}
 use Rattle.bar_alternatives.specs.Laws.{costs_after, costs_before}
 use Rattle.chain_bars.specs.Laws.{matrices}
 use Rattle.chain_bars.specs.Tower.{cost_of}
@@ -18,13 +18,13 @@ use Rattle.rhythm_base.specs.Paths.{AreCheap}
 use Rattle.rhythm_base.specs.Performance.{IsWellFormed, Performance}
 use Rattle.rhythm_base.specs.Ranked.{CarryMatrix, Key, five, least_key}
 use Rattle.rhythm_base.specs.Readable.{IsReadable}
-use Rattle.rhythm_base.specs.Script.{AreBestOfBar}
+use Rattle.tree_laws.specs.Alternatives.{AreBestOfBar}
 use Rattle.rhythm_base.specs.Trees.{is_tree}
 use Rattle.rhythm_base.specs.Voices.{voice_bars}
-use Rattle.rhythm_laws.proofs.CheapTables.{table_cheap}
-use Rattle.rhythm_laws.proofs.OrderedLists.{all_head, all_tail}
-use Rattle.rhythm_laws.proofs.PerformedVoices.{performed_voice}
-use Rattle.rhythm_laws.proofs.ShapesOfTrees.{tree-has_shape}
+use Rattle.tree_laws.proofs.CheapTables.{table_cheap}
+use Rattle.rhythm_base.proofs.OrderedLists.{all_head, all_tail}
+use Rattle.performance_laws.proofs.PerformedVoices.{performed_voice}
+use Rattle.tree_laws.proofs.ShapesOfTrees.{tree-has_shape}
 use Rattle.edit_session.specs.Asking.{CanBePinned}
 use Rattle.edit_session.specs.Kept.{AreTablesOfVoice}
 use Rattle.edit_session.specs.LeastTrees.{IsTableIn}
@@ -87,7 +87,7 @@ module _ (g : Grammar) (tables : List BarTable) (h : All (IsTableIn g) tables) (
 module _ (g : Grammar) (readable : IsReadable g) where
   -- the alternatives of a voice of which these are the tables
   pub best_of_bar : (p : Performance) (channel i count : ℕ) (tables : List BarTable) (x : BarTable) (list : List (ℕ × Tree)) → IsWellFormed p → AreTablesOfVoice g p channel tables → slice_get tables i ≡ Some x
-      → i < length tables → AreBestTrees g (without_pin x.input) (costs_before tables i) (costs_after tables i) count list → AreBestOfBar g p channel i count list
+      → i < length tables → AreBestTrees g (unpinned x.input) (costs_before tables i) (costs_after tables i) count list → AreBestOfBar g p channel i count list
   best_of_bar p channel i count tables x list formed h there lt best =
       let bar = bar_there g p channel i (omega (arith, lt, voice_long g p channel tables h)) in
       let is = each_table g (soundings h.chords) (voice_bars g p channel) tables i x bar.0 h.each there bar.1 in
@@ -95,7 +95,7 @@ module _ (g : Grammar) (readable : IsReadable g) where
         chords = h.chords;
         are_chords = h.are_chords;
         best = best_alternatives g (soundings h.chords) (voice_bars g p channel) tables (performed_voice g p channel h.chords formed h.are_chords readable.ranges.some_unit) h.each i bar.0 bar.1 count list
-            (subst (λ (k : BarInput). AreBestTrees g (without_pin k) (costs_before tables i) (costs_after tables i) count list) is.1 best);
+            (subst (λ (k : BarInput). AreBestTrees g (unpinned k) (costs_before tables i) (costs_after tables i) count list) is.1 best);
       }
 
   -- each has the shape of a tree over a whole bar

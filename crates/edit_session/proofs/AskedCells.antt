@@ -6,7 +6,7 @@ use Rattle.std.proofs.lemmas.Bool.Decides.{nat_tests}
 use Rattle.std.proofs.lemmas.List.Quantifiers.{position-Some}
 use Rattle.rhythm_base.proofs.Positions.{position-missing, position-within}
 use Rattle.rhythm_base.specs.declared.edit_fault.EditFault.TheVariants.{NoVoice, NoBar}
-use Rattle.rhythm_base.specs.Edits.{cell_tests, first_refusal, lacks_bar}
+use Rattle.edit_laws.specs.Edits.{cell_tests, first_refusal, lacks_bar}
 use Rattle.rhythm_base.specs.Grammar.{Grammar}
 use Rattle.rhythm_base.specs.Lists.{Each}
 use Rattle.rhythm_base.specs.Performance.{Performance}

@@ -3,8 +3,8 @@ use Rattle.std.proofs.Common.{◌≡◌, ℕ, zero, suc, List, [], ◌∷◌, re
 use Rattle.std.specs.Prelude.{Contains}
 use Rattle.std.proofs.lemmas.Bool.{cases_order}
 use Rattle.std.proofs.lemmas.Bool.Decides.{nat_tests}
-use Rattle.rhythm_laws.proofs.OrderedLists.{pairs_tail}
-use Rattle.edit_session.specs.Exchange.{IsBefore}
+use Rattle.rhythm_base.proofs.OrderedLists.{pairs_tail}
+use Rattle.edit_session.specs.Exchange.{IsCellBefore}
 use Rattle.edit_session.specs.ReachedCells.{AreCellsWhere}
 use Rattle.edit_session.proofs.CellPlaces.{IsEarlierCell, lower_bar, lower_voice}
 
@@ -15,7 +15,7 @@ one_way c i d j h k = grind (arith, nat_tests)
 not_itself : (c i : ℕ) → IsEarlierCell (c, i) (c, i) → ⊥
 not_itself c i h = one_way c i c i h h
 
-pub earlier_before : (a b c i : ℕ) → IsEarlierCell (c, i) (a, b) → IsBefore a b c i
+pub earlier_before : (a b c i : ℕ) → IsEarlierCell (c, i) (a, b) → IsCellBefore a b c i
 earlier_before a b c i less = elim (cases_order c a) [
   | inl same ↦ elim (cases_order i b) [
     | inl here ↦ absurd (not_itself a b (subst (λ d. IsEarlierCell (d, b) (a, b)) same (subst (λ j. IsEarlierCell (c, j) (a, b)) here less)))
@@ -25,7 +25,7 @@ earlier_before a b c i less = elim (cases_order c a) [
 ]
 
 module _ (P : ℕ → ℕ → Type 0) (a b : ℕ) where
-  found : (xs : List (ℕ × ℕ)) → AreCellsWhere P xs → ((c i : ℕ) → P c i → IsBefore a b c i → ⊥) → Contains xs (a, b) → (rest : List (ℕ × ℕ)) × (xs ≡ (a, b) ∷ rest)
+  found : (xs : List (ℕ × ℕ)) → AreCellsWhere P xs → ((c i : ℕ) → P c i → IsCellBefore a b c i → ⊥) → Contains xs (a, b) → (rest : List (ℕ × ℕ)) × (xs ≡ (a, b) ∷ rest)
   found [] h none (k, lt, is) = absurd (omega (arith, lt))
   found (x ∷ xs) h none (zero, lt, is) = (xs, ap (λ c. c ∷ xs) is)
   found (x ∷ xs) h none (suc k, lt, is) =
@@ -33,7 +33,7 @@ module _ (P : ℕ → ℕ → Type 0) (a b : ℕ) where
       absurd (none x.0 x.1 ((h.exactly x.0 x.1).0 (0, omega arith, refl)) (earlier_before a b x.0 x.1 (subst (λ c. IsEarlierCell x c) is earlier)))
 
   -- a cell before all others is the first
-  pub first_cell : (xs : List (ℕ × ℕ)) → AreCellsWhere P xs → P a b → ((c i : ℕ) → P c i → IsBefore a b c i → ⊥) → (rest : List (ℕ × ℕ)) × (xs ≡ (a, b) ∷ rest)
+  pub first_cell : (xs : List (ℕ × ℕ)) → AreCellsWhere P xs → P a b → ((c i : ℕ) → P c i → IsCellBefore a b c i → ⊥) → (rest : List (ℕ × ℕ)) × (xs ≡ (a, b) ∷ rest)
   first_cell xs h there none = found xs h none ((h.exactly a b).1 there)
 
   -- those after the first are the others

@@ -6,7 +6,7 @@ use Rattle.std.specs.Ordering.{nat_cmp}
 use Rattle.std.specs.declared.cmp.Ordering.TheVariants.{Less}
 use Rattle.std.proofs.lemmas.Bool.Decides.{nat_tests}
 use Rattle.std.proofs.lemmas.List.Elements.{Contains-append_cases, Contains-append_left, Contains-append_right, Contains-get_or}
-use Rattle.rhythm_laws.proofs.OrderedLists.{pairs_append, pairs_nil}
+use Rattle.rhythm_base.proofs.OrderedLists.{pairs_append, pairs_nil}
 use Rattle.edit_session.specs.ReachedCells.{AreCellsWhere}
 
 abbrev pub IsEarlierCell : ℕ × ℕ → ℕ × ℕ → Type 0

@@ -11,9 +11,9 @@ use Rattle.rhythm_base.specs.Cells.{input}
 use Rattle.rhythm_base.specs.Grammar.{Grammar}
 use Rattle.rhythm_base.specs.Leaves.{VoiceBar, soundings}
 use Rattle.rhythm_base.specs.Performance.{Performance}
-use Rattle.rhythm_base.specs.Reached.{IsInputOf, IsReached}
+use Rattle.edit_laws.specs.Reached.{IsInputOf, IsReached}
 use Rattle.rhythm_base.specs.Voices.{AreChordsOf, notes_of_voice, voice_bars}
-use Rattle.rhythm_laws.proofs.Uniqueness.{one_chords}
+use Rattle.performance_laws.proofs.OneChords.{one_chords}
 use Rattle.derivation.proofs.OneScore.{bars_length}
 use Rattle.edit_session.specs.Exchange.{Change, IsChange}
 use Rattle.edit_session.specs.Kept.{AreTablesOfVoice}

@@ -14,12 +14,13 @@ use Rattle.rhythm_base.specs.Performance.{IsWellFormed, Performance}
 use Rattle.rhythm_base.specs.Ranked.{Key, least_key}
 use Rattle.rhythm_base.specs.Readable.{IsReadable}
 use Rattle.rhythm_base.specs.Voices.{HasDerivation, HasStarts, IsDeadVoice, notes_of_voice, voice_bars}
-use Rattle.rhythm_laws.proofs.CheapTables.{table_cheap}
-use Rattle.rhythm_laws.proofs.OrderedLists.{all_cons, all_head, all_tail}
-use Rattle.rhythm_laws.proofs.PerformedVoices.{performed_voice}
-use Rattle.rhythm_laws.proofs.Uniqueness.{one_chords}
+use Rattle.tree_laws.proofs.CheapTables.{table_cheap}
+use Rattle.rhythm_base.proofs.OrderedLists.{all_cons, all_head, all_tail}
+use Rattle.performance_laws.proofs.PerformedVoices.{performed_voice}
+use Rattle.performance_laws.proofs.OneChords.{one_chords}
 use Rattle.derivation.proofs.Pairs.{each_length}
 use Rattle.edit_session.specs.Exchange.{AreVoicesAfter, AreVoicesBefore, Change, HasPlace, IsChange, IsCheapTable, tables_below}
+use Rattle.grammar_plan.specs.declared.plan.Plan.{Plan}
 use Rattle.edit_session.specs.Kept.{AreTablesOfVoice, AreTablesOfVoices, IsKeptVoice, IsSession}
 use Rattle.edit_session.specs.Opening.{cells_of}
 use Rattle.edit_session.specs.Prepared.{CellTable, IsCellTable, Prepared, Suits}
@@ -130,7 +131,8 @@ suits_kept g p room s x next tables place view next_is tables_is place_is suitin
     (subst (Suits s.grammar s.performance) (λ i. record { next = sym next_is i; tables = sym tables_is i; place = sym place_is i }) suiting)
 
 -- there is place for what goes out
-pub place_for_next : (g : Grammar) (p : Performance) (workers room : ℕ) (voices slice : List VoiceTables) (x : Prepared) (bars : ℕ) → IsSession g p workers voices room → Suits g p x → slice ≡ voices
+pub place_for_next : {plan : Plan} (g : Grammar) (p : Performance) (workers room : ℕ) (voices slice : List VoiceTables) (x : Prepared) (bars : ℕ)
+    → IsSession g plan p workers voices room → Suits g p x → slice ≡ voices
     → bars ≡ length x.next.bars → HasPlace slice bars x.tables x.place
 place_for_next g p workers room voices slice x bars session suits slice_is bars_is =
     subst (λ vs. HasPlace vs bars x.tables x.place) (sym slice_is)
@@ -150,8 +152,8 @@ pub record IsExchanged (g : Grammar) (p q : Performance) (room : ℕ) (voices no
   pub number : length now ≡ length q.channels
   pub rooms : (n : ℕ) → n ≤ room → All (λ v. n ≤ v.room) now
 
-pub exchanged_for : (g : Grammar) (p : Performance) (workers room : ℕ) (voices : List VoiceTables) (s : Session) (x : Prepared) (next : Performance) (tables : List CellTable) (place : ℕ)
-    → IsSession g p workers voices room → record { grammar = g; performance = p; room = room } ≡ s → next ≡ x.next → tables ≡ x.tables → place ≡ x.place → Suits s.grammar s.performance x → IsWellFormed next
+pub exchanged_for : {plan : Plan} (g : Grammar) (p : Performance) (workers room : ℕ) (voices : List VoiceTables) (s : Session) (x : Prepared) (next : Performance) (tables : List CellTable) (place : ℕ)
+    → IsSession g plan p workers voices room → record { grammar = g; performance = p; room = room } ≡ s → next ≡ x.next → tables ≡ x.tables → place ≡ x.place → Suits s.grammar s.performance x → IsWellFormed next
     → (slice now : List VoiceTables) (channels : List ℕ) (bars : ℕ) (gone : List CellTable) (capacity : ℕ) → slice ≡ voices → channels ≡ next.channels → bars ≡ length next.bars
     → ((y : Change) → AreVoicesBefore y slice tables → channels ≡ y.before.channels → bars ≡ length y.after.bars → AreVoicesAfter y now gone capacity)
     → length now ≡ length slice → ((n : ℕ) → All (λ v. n ≤ v.room) slice → All (λ v. n ≤ v.room) now)
@@ -175,7 +177,8 @@ exchanged_for g p workers room voices s x next tables place session view next_is
     suits : Suits g p (record { next = next; tables = tables; place = place })
     suits = suits_kept g p room s x next tables place view next_is tables_is place_is suiting
 
-module _ (g : Grammar) (p q : Performance) (workers room : ℕ) (voices now : List VoiceTables) (gone : List CellTable) (place : ℕ) (session : IsSession g p workers voices room)
+module _ {plan : Plan} (g : Grammar) (p q : Performance) (workers room : ℕ) (voices now : List VoiceTables) (gone : List CellTable) (place : ℕ)
+    (session : IsSession g plan p workers voices room)
     (h : IsExchanged g p q room voices now gone place) where
   -- what the way back asks for
   pub place_back : HasPlace now (length p.bars) gone place
@@ -190,7 +193,7 @@ module _ (g : Grammar) (p q : Performance) (workers room : ℕ) (voices now : Li
   -- the session after the way back
   pub session_back : (slice back : List VoiceTables) (channels : List ℕ) (bars : ℕ) (out : List CellTable) (capacity : ℕ) → slice ≡ now → channels ≡ q.channels → bars ≡ length p.bars
       → ((y : Change) → AreVoicesBefore y slice gone → channels ≡ y.before.channels → bars ≡ length y.after.bars → AreVoicesAfter y back out capacity)
-      → ((n : ℕ) → All (λ v. n ≤ v.room) slice → All (λ v. n ≤ v.room) back) → IsSession g p workers back room
+      → ((n : ℕ) → All (λ v. n ≤ v.room) slice → All (λ v. n ≤ v.room) back) → IsSession g plan p workers back room
   session_back slice back channels bars out capacity slice_is channels_is bars_is exchange rooms =
       let before = subst (λ vs. AreVoicesBefore (change g q p) vs gone) (sym slice_is) (turned g p q now gone place h.is h.after) in
       let after = exchange (change g q p) before channels_is bars_is in
@@ -199,6 +202,7 @@ module _ (g : Grammar) (p q : Performance) (workers room : ℕ) (voices now : Li
       let memory = rooms room (subst (All (λ v. room ≤ v.room)) (sym slice_is) (h.rooms room (omega arith))) in
       record {
         readable = session.readable;
+        planned = session.planned;
         formed = session.formed;
         few_notes = session.few_notes;
         few_cells = session.few_cells;
@@ -210,9 +214,10 @@ module _ (g : Grammar) (p q : Performance) (workers room : ℕ) (voices now : Li
       }
 
   -- the session where a path leads over the tables of each voice
-  pub session_next : length q.bars ≤ room → All HasPath now → IsSession g q workers now room
+  pub session_next : length q.bars ≤ room → All HasPath now → IsSession g plan q workers now room
   session_next few paths = record {
     readable = session.readable;
+    planned = session.planned;
     formed = h.is.formed_after;
     few_notes = h.few_notes;
     few_cells = h.few_cells;

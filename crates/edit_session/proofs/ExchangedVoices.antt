@@ -8,8 +8,8 @@ use Rattle.std.proofs.lemmas.List.Elements.{All-contains, All-nil, Contains-get_
 use Rattle.std.proofs.lemmas.List.Kept.{AllPairs-from_increasing}
 use Rattle.bar_pool.proofs.EachLemmas.{Each-more}
 use Rattle.rhythm_base.specs.Lists.{Each}
-use Rattle.rhythm_base.specs.Reached.{IsReached}
-use Rattle.edit_session.specs.Exchange.{AreExchangedUpTo, AreVoicesAfter, AreVoicesBefore, Change, IsBefore, IsChange, IsVoiceAfter, IsVoiceBefore, tables_below}
+use Rattle.edit_laws.specs.Reached.{IsReached}
+use Rattle.edit_session.specs.Exchange.{AreExchangedUpTo, AreVoicesAfter, AreVoicesBefore, Change, IsCellBefore, IsChange, IsVoiceAfter, IsVoiceBefore, tables_below}
 use Rattle.edit_session.specs.Kept.{AreTablesOfVoice}
 use Rattle.edit_session.specs.Prepared.{CellTable, IsCellTable, cell_of}
 use Rattle.edit_session.specs.VoiceTables.{VoiceTables}
@@ -85,7 +85,7 @@ module _ (x : Change) where
         let early : j < 0 = place_before channels j 0 16 16 is.formed.voices_rise within (omega (arith, within)) (omega (arith, less, here)) in
         omega (arith, early)
 
-    none_before : (c i a b : ℕ) → (a < c → ⊥) → IsBefore c 0 a b → ⊥
+    none_before : (c i a b : ℕ) → (a < c → ⊥) → IsCellBefore c 0 a b → ⊥
     none_before c i a b not (inl lt) = not lt
     none_before c i a b not (inr here) = let lt = here.1 in omega (arith, lt)
 
@@ -94,13 +94,13 @@ module _ (x : Change) where
     after = refl;
     exchanged = record {
       cells_coming =
-          cells_same (λ a b. IsReached x.grammar x.before x.after a b) (λ a b. IsReached x.grammar x.before x.after a b × (IsBefore (get_or channels 0 16) 0 a b → ⊥)) (map cell_of coming)
+          cells_same (λ a b. IsReached x.grammar x.before x.after a b) (λ a b. IsReached x.grammar x.before x.after a b × (IsCellBefore (get_or channels 0 16) 0 a b → ⊥)) (map cell_of coming)
           (λ a b. (
             λ r. (r, none_before h.is (get_or channels 0 16) 0 a b (none_lower h.is a (subst (λ cs. Contains cs a) h.is.channels r.0))),
             λ u. u.0,
           )) (record { in_order = h.reached.in_order; exactly = h.reached.exactly });
       tables_coming = h.tables_coming;
-      cells_gone = no_cells (λ a b. IsReached x.grammar x.after x.before a b × IsBefore (get_or channels 0 16) 0 a b)
+      cells_gone = no_cells (λ a b. IsReached x.grammar x.after x.before a b × IsCellBefore (get_or channels 0 16) 0 a b)
           (λ a b u. none_before h.is (get_or channels 0 16) 0 a b (none_lower h.is a u.0.0) u.1);
       tables_gone = All-nil (IsCellTable x.grammar x.before);
     };
@@ -148,7 +148,7 @@ module _ (x : Change) where
         subst (λ cs. Each Of cs voices) (sym is.channels)
         (subst (λ cs. Each Of cs voices) (take_all number channels all)
         (subst (λ vs. Each Of (take number channels) vs) (take_all number voices (omega (arith, all, long))) h.after));
-    reached = let cells = cells_same (λ a b. IsReached x.grammar x.after x.before a b × IsBefore (get_or channels number 16) 0 a b) (λ a b. IsReached x.grammar x.after x.before a b) (map cell_of gone)
+    reached = let cells = cells_same (λ a b. IsReached x.grammar x.after x.before a b × IsCellBefore (get_or channels number 16) 0 a b) (λ a b. IsReached x.grammar x.after x.before a b) (map cell_of gone)
         (λ a b. (λ u. u.0, λ r. (r, inl (let few = low is a r.0 in omega (arith, few, past))))) h.exchanged.cells_gone in record { in_order = cells.in_order; exactly = cells.exactly };
     tables_gone = h.exchanged.tables_gone;
     enough =

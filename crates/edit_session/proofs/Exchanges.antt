@@ -7,9 +7,9 @@ use Rattle.std.proofs.lemmas.List.Elements.{All-push}
 use Rattle.rhythm_base.specs.BarTables.{BarTable}
 use Rattle.rhythm_base.specs.Grammar.{Grammar}
 use Rattle.rhythm_base.specs.Performance.{Performance}
-use Rattle.rhythm_base.specs.Reached.{IsReached}
-use Rattle.rhythm_laws.proofs.OrderedLists.{all_head, all_tail}
-use Rattle.edit_session.specs.Exchange.{AreChangedUpTo, AreExchangedUpTo, Change, IsBefore, IsChange}
+use Rattle.edit_laws.specs.Reached.{IsReached}
+use Rattle.rhythm_base.proofs.OrderedLists.{all_head, all_tail}
+use Rattle.edit_session.specs.Exchange.{AreChangedUpTo, AreExchangedUpTo, Change, IsCellBefore, IsChange}
 use Rattle.edit_session.specs.Prepared.{CellTable, IsCellTable, IsTableOfCell, cell_of}
 use Rattle.edit_session.specs.ReachedCells.{AreCellsWhere}
 use Rattle.edit_session.proofs.CellHeads.{first_cell, rest_cells}
@@ -19,15 +19,15 @@ use Rattle.edit_session.proofs.CellTables.{reached_back, reached_forth, unreache
 at_cell : (g : Grammar) (p : Performance) (channel n : ℕ) (t : CellTable) → cell_of t ≡ (channel, n) → IsCellTable g p t → IsTableOfCell g p channel n t.table
 at_cell g p channel n t e h = subst (λ (c : ℕ × ℕ). IsTableOfCell g p c.0 c.1 t.table) e h
 
-not_before_itself : (channel n : ℕ) → IsBefore channel n channel n → ⊥
+not_before_itself : (channel n : ℕ) → IsCellBefore channel n channel n → ⊥
 not_before_itself channel n (inl lt) = omega (arith, lt)
 not_before_itself channel n (inr here) = let lt = here.1 in omega (arith, lt)
 
-before_more : (channel n c i : ℕ) → IsBefore channel n c i → IsBefore channel (n + 1) c i
+before_more : (channel n c i : ℕ) → IsCellBefore channel n c i → IsCellBefore channel (n + 1) c i
 before_more channel n c i (inl lt) = inl lt
 before_more channel n c i (inr here) = let lt = here.1 in inr (here.0, omega (arith, lt))
 
-before_or_here : (channel n c i : ℕ) → IsBefore channel (n + 1) c i → IsBefore channel n c i ⊎ ((c ≡ channel) × (i ≡ n))
+before_or_here : (channel n c i : ℕ) → IsCellBefore channel (n + 1) c i → IsCellBefore channel n c i ⊎ ((c ≡ channel) × (i ≡ n))
 before_or_here channel n c i (inl lt) = inl (inl lt)
 before_or_here channel n c i (inr here) = elim (cases_lt i n) [
   | inl lt ↦ inl (inr (here.0, lt))
@@ -36,10 +36,10 @@ before_or_here channel n c i (inr here) = elim (cases_lt i n) [
 
 module _ (x : Change) (is : IsChange x) (channel : ℕ) (voice : Contains x.before.channels channel) where
   abbrev Coming : ℕ → ℕ → ℕ → Type 0
-  Coming n c i = IsReached x.grammar x.before x.after c i × (IsBefore channel n c i → ⊥)
+  Coming n c i = IsReached x.grammar x.before x.after c i × (IsCellBefore channel n c i → ⊥)
 
   abbrev Gone : ℕ → ℕ → ℕ → Type 0
-  Gone n c i = IsReached x.grammar x.after x.before c i × IsBefore channel n c i
+  Gone n c i = IsReached x.grammar x.after x.before c i × IsCellBefore channel n c i
 
   -- ---- cells
 

@@ -13,7 +13,7 @@ use Rattle.rhythm_base.specs.Grammar.{Grammar, root_of}
 use Rattle.rhythm_base.specs.Performance.{IsWellFormed, Performance}
 use Rattle.rhythm_base.specs.Readable.{IsReadable}
 use Rattle.rhythm_base.specs.Voices.{HasDerivation, HasStarts}
-use Rattle.rhythm_laws.proofs.OneAnswers.{dead_has_none, one_dead_voice}
+use Rattle.performance_laws.proofs.OneVoices.{dead_has_none, one_dead_voice}
 use Rattle.edit_session.specs.Opening.{CanOpen, IsInputFault, IsOpenFault, fault_of_cut}
 use Rattle.edit_session.specs.declared.open_fault.OpenFault.{OpenFault}
 use Rattle.edit_session.specs.declared.open_fault.OpenFault.TheVariants.{Cells, NoStart, NoDerivation, Memory}

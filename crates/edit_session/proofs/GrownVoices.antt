@@ -6,7 +6,7 @@ use Rattle.rhythm_base.specs.BarTables.{BarTable}
 use Rattle.rhythm_base.specs.Grammar.{Grammar}
 use Rattle.rhythm_base.specs.Lists.{Each}
 use Rattle.rhythm_base.specs.Performance.{Performance}
-use Rattle.rhythm_laws.proofs.OrderedLists.{all_head, all_tail}
+use Rattle.rhythm_base.proofs.OrderedLists.{all_head, all_tail}
 use Rattle.edit_session.specs.Kept.{AreTablesOfVoice, IsKeptVoice}
 use Rattle.edit_session.specs.VoiceTables.{IsGrown, VoiceTables, path_cost}
 

@@ -22,10 +22,10 @@ use Rattle.rhythm_base.specs.Leaves.{VoiceBar, soundings}
 use Rattle.rhythm_base.specs.Performance.{IsWellFormed, Performance}
 use Rattle.rhythm_base.specs.Readable.{IsReadable}
 use Rattle.rhythm_base.specs.Voices.{AreChordsOf, HasStarts, notes_of_voice, voice_bars}
-use Rattle.rhythm_laws.proofs.OrderedLists.{all_cons}
-use Rattle.rhythm_laws.proofs.PerformedVoices.{performed_voice}
-use Rattle.rhythm_laws.proofs.Uniqueness.{one_chords}
-use Rattle.rhythm_laws.specs.Voices.{IsVoice}
+use Rattle.rhythm_base.proofs.OrderedLists.{all_cons}
+use Rattle.performance_laws.proofs.PerformedVoices.{performed_voice}
+use Rattle.performance_laws.proofs.OneChords.{one_chords}
+use Rattle.tree_laws.specs.Voices.{IsVoice}
 use Rattle.edit_session.specs.Kept.{AreTablesOfVoice}
 use Rattle.edit_session.proofs.ListedTrees.{told_picked}
 use Rattle.edit_session.specs.LeastTrees.{AreOfLeastPath, IsTableIn}

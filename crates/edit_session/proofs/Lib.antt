@@ -25,7 +25,9 @@ pub mod CellTables
 pub mod Exchanges
 pub mod TablesBelow
 pub mod LostTables
+pub mod WaysBack
 pub mod ExchangedVoices
 pub mod Commits
+pub mod SessionProducts
 pub mod Risen
 pub mod ExchangedBars

@@ -16,7 +16,7 @@ use Rattle.rhythm_base.specs.Grammar.{Grammar}
 use Rattle.rhythm_base.specs.Paths.{AreCarried, path_key}
 use Rattle.rhythm_base.specs.Ranked.{CarryMatrix, Key, at, one}
 use Rattle.rhythm_base.specs.Trees.{is_tree}
-use Rattle.rhythm_laws.proofs.PathTables.{joined_parts}
+use Rattle.path_laws.proofs.PathTables.{joined_parts}
 use Rattle.edit_session.specs.LeastTrees.{AreListed, AreOfLeastPath, IsTableIn}
 
 -- all but the first of a list

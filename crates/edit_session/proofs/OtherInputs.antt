@@ -13,9 +13,9 @@ use Rattle.rhythm_base.specs.Cells.{input}
 use Rattle.rhythm_base.specs.Grammar.{Grammar}
 use Rattle.rhythm_base.specs.Leaves.{VoiceBar, soundings}
 use Rattle.rhythm_base.specs.Performance.{Performance}
-use Rattle.rhythm_base.specs.Reached.{HasNewInput, IsInputOf}
+use Rattle.edit_laws.specs.Reached.{HasNewInput, IsInputOf}
 use Rattle.rhythm_base.specs.Voices.{notes_of_voice, voice_bars}
-use Rattle.rhythm_laws.proofs.Uniqueness.{one_chords}
+use Rattle.performance_laws.proofs.OneChords.{one_chords}
 use Rattle.edit_session.specs.declared.reached.CellPlace.{CellPlace}
 use Rattle.edit_session.specs.Inputs.{AreInputsOfVoice}
 use Rattle.edit_session.specs.Kept.{AreTablesOfVoice}

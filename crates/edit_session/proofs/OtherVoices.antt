@@ -16,14 +16,14 @@ use Rattle.rhythm_base.specs.declared.chord.Chord.{Chord}
 use Rattle.rhythm_base.specs.Barlines.{barline}
 use Rattle.rhythm_base.specs.BarInput.{BarInput}
 use Rattle.rhythm_base.specs.Chords.{AreChords}
-use Rattle.rhythm_base.specs.Edits.{edited, edit_tests, first_refusal, is_note, moved_to, note_at, performance_after, put_moved, without_note}
+use Rattle.edit_laws.specs.Edits.{edited, edit_tests, first_refusal, is_note, moved_to, note_at, performance_after, put_moved, without_note}
 use Rattle.rhythm_base.specs.Grammar.{Grammar, root_of}
 use Rattle.rhythm_base.specs.Lists.{AreInOrder, list_with}
 use Rattle.rhythm_base.specs.Performance.{IsWellFormed, Performance, place_of_note, place_of_pin}
 use Rattle.rhythm_base.specs.Pins.{is_pin, pin_of, without_pin}
-use Rattle.rhythm_base.specs.Reached.{HasNewInput, IsInputOf, IsReached}
+use Rattle.edit_laws.specs.Reached.{HasNewInput, IsInputOf, IsReached}
 use Rattle.rhythm_base.specs.Voices.{AreChordsOf, notes_of_voice, voice_bars, voice_bars_from}
-use Rattle.rhythm_laws.proofs.OrderedLists.{goes_through, pairs_head, pairs_tail}
+use Rattle.rhythm_base.proofs.OrderedLists.{goes_through, pairs_head, pairs_tail}
 use Rattle.edit_laws.proofs.Edited.{made}
 use Rattle.edit_session.specs.ChangedVoices.{IsUnchangedVoice, LeavesOthers, MayChange, changed_channel}
 use Rattle.edit_session.proofs.OtherInputs.{one_input}

@@ -17,9 +17,9 @@ use Rattle.rhythm_base.specs.Paths.{AreCheap, IsPathKey, path_key}
 use Rattle.rhythm_base.specs.Performance.{Performance}
 use Rattle.rhythm_base.specs.Ranked.{CarryMatrix, Key, at, least_key, one}
 use Rattle.rhythm_base.specs.Voices.{voice_bars}
-use Rattle.rhythm_laws.proofs.CheapTables.{table_cheap}
-use Rattle.rhythm_laws.proofs.PathTables.{joined_parts, keys-least_path}
-use Rattle.rhythm_laws.specs.Tables.{IsLeastKey}
+use Rattle.tree_laws.proofs.CheapTables.{table_cheap}
+use Rattle.path_laws.proofs.PathTables.{joined_parts, keys-least_path}
+use Rattle.path_laws.specs.Tables.{IsLeastKey}
 use Rattle.edit_session.specs.Kept.{AreTablesOfVoice, IsKeptVoice}
 use Rattle.edit_session.specs.Opening.{cells_of}
 use Rattle.edit_session.specs.VoiceTables.{VoiceTables, voice_cost}

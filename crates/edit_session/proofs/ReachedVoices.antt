@@ -10,7 +10,7 @@ use Rattle.rhythm_base.specs.BarTables.{BarTable}
 use Rattle.rhythm_base.specs.Grammar.{Grammar}
 use Rattle.rhythm_base.specs.Lists.{Each}
 use Rattle.rhythm_base.specs.Performance.{IsWellFormed, Performance}
-use Rattle.rhythm_base.specs.Reached.{AreReached, HasNewInput, IsInputOf, IsReached}
+use Rattle.edit_laws.specs.Reached.{AreReached, HasNewInput, IsInputOf, IsReached}
 use Rattle.edit_session.specs.declared.reached.CellPlace.{CellPlace}
 use Rattle.edit_session.specs.Inputs.{AreInputsOfVoice}
 use Rattle.edit_session.specs.Kept.{AreTablesOfVoice}

@@ -12,7 +12,7 @@ use Rattle.rhythm_base.specs.Grammar.{Grammar}
 use Rattle.rhythm_base.specs.Performance.{Performance}
 use Rattle.rhythm_base.specs.Time.{time}
 use Rattle.rhythm_base.specs.Voices.{AreChordsOf, notes_of_voice}
-use Rattle.rhythm_laws.proofs.OrderedLists.{all_cons}
+use Rattle.rhythm_base.proofs.OrderedLists.{all_cons}
 
 module _ (tempos : List Tempo) (division window : ℕ) where
   -- the notes that join the chord of a first note, up to one that does not

@@ -10,10 +10,10 @@ use Rattle.rhythm_base.specs.BarInput.{BarInput}
 use Rattle.rhythm_base.specs.Grammar.{Grammar}
 use Rattle.rhythm_base.specs.Lists.{Each}
 use Rattle.rhythm_base.specs.Performance.{Performance}
-use Rattle.rhythm_base.specs.Reached.{AreReached, IsInputOf}
+use Rattle.edit_laws.specs.Reached.{AreReached, IsInputOf}
 use Rattle.rhythm_base.specs.Voices.{HasStarts}
-use Rattle.rhythm_laws.proofs.OneAnswers.{one_reached}
-use Rattle.rhythm_laws.proofs.OrderedLists.{all_cons}
+use Rattle.edit_laws.proofs.OneReached.{one_reached}
+use Rattle.rhythm_base.proofs.OrderedLists.{all_cons}
 use Rattle.edit_session.specs.declared.reached.CellPlace.{CellPlace}
 use Rattle.edit_session.specs.Opening.{cells_of}
 use Rattle.edit_session.specs.Prepared.{CellTable, IsCellTable, IsTableOfCell, Suits, cell_of, bar_table_of}
@@ -44,7 +44,7 @@ of_cells : (g : Grammar) (q : Performance) (tables : List CellTable) → Each (�
 of_cells g q [] h = All-nil (IsCellTable g q)
 of_cells g q (x ∷ tables) h = all_cons (IsCellTable g q) x tables h.0 (of_cells g q tables h.1)
 
-filter_few : {X : Type 0} (p : X → Bool) (xs : List X) → length (filter p xs) ≤ length xs
+pub filter_few : {X : Type 0} (p : X → Bool) (xs : List X) → length (filter p xs) ≤ length xs
 filter_few p xs = omega (arith, length-filter_both p (λ x. not (p x)) (λ x. refl) xs)
 
 pub suits : (g : Grammar) (p q : Performance) (cells : List CellPlace) (inputs : List BarInput) (tables : List CellTable) (room lost voices count : ℕ) → AreReachedInputs g p q cells inputs

@@ -20,8 +20,8 @@ use Rattle.rhythm_base.specs.Performance.{Performance}
 use Rattle.rhythm_base.specs.Voices.{voice_bars}
 use Rattle.derivation.proofs.OneScore.{bars_length}
 use Rattle.derivation.proofs.Pairs.{each_length}
-use Rattle.rhythm_laws.proofs.CheapTables.{table_cheap}
-use Rattle.rhythm_laws.proofs.OrderedLists.{all_head, all_tail}
+use Rattle.tree_laws.proofs.CheapTables.{table_cheap}
+use Rattle.rhythm_base.proofs.OrderedLists.{all_head, all_tail}
 use Rattle.edit_session.specs.Inputs.{AreCellTables, AreInputsOf, AreInputsOfVoice}
 use Rattle.edit_session.specs.Kept.{AreTablesOfVoice}
 use Rattle.edit_session.specs.VoiceTables.{HasTables, VoiceTables}

@@ -1,10 +1,11 @@
 -- How many of a list of tables are of the first bars.
 use Rattle.std.proofs.Common.{◌≡◌, ℕ, ◌+◌, ◌<◌, ◌≤◌, List, [], ◌∷◌, ◌++◌, Bool, true, false, length, refl, ap, ◌∙◌, arith}
-use Rattle.std.specs.Prelude.{cond, filter, nat_lt, reverse}
+use Rattle.std.specs.Prelude.{All, cond, filter, nat_lt, reverse}
 use Rattle.std.proofs.lemmas.Bool.Decides.{nat_tests}
 use Rattle.std.proofs.lemmas.List.{length-append, reverse-append}
 use Rattle.std.proofs.lemmas.List.Elements.{filter-append}
-use Rattle.edit_session.specs.Exchange.{numbered, tables_below}
+use Rattle.rhythm_base.proofs.OrderedLists.{all_head, all_tail}
+use Rattle.edit_session.specs.Exchange.{tables_of_bars, tables_below}
 use Rattle.edit_session.specs.Prepared.{CellTable}
 use Rattle.rhythm_base.specs.BarTables.{BarTable}
 
@@ -37,9 +38,15 @@ below_reverse bars (t ∷ ts) =
     let front : tables_below bars (t ∷ ts) ≡ tables_below bars (t ∷ []) + tables_below bars ts = below_append bars (t ∷ []) ts in
     omega (arith, ap (tables_below bars) turned, below_append bars (reverse ts) (t ∷ []), below_reverse bars ts, front)
 
-pub numbered_not_below : (bars channel n : ℕ) (tables : List BarTable) → bars ≤ n → tables_below bars (numbered channel n tables) ≡ 0
+pub numbered_not_below : (bars channel n : ℕ) (tables : List BarTable) → bars ≤ n → tables_below bars (tables_of_bars channel n tables) ≡ 0
 numbered_not_below bars channel n [] le = refl
 numbered_not_below bars channel n (table ∷ tables) le =
     let t : CellTable = record { channel = channel; bar = n; table = table } in
     let none : tables_below bars (t ∷ []) ≡ 0 = one_below bars t false (is_not_below bars t le) in
-    omega (arith, below_append bars (t ∷ []) (numbered channel (n + 1) tables), none, numbered_not_below bars channel (n + 1) tables (omega (arith, le)))
+    omega (arith, below_append bars (t ∷ []) (tables_of_bars channel (n + 1) tables), none, numbered_not_below bars channel (n + 1) tables (omega (arith, le)))
+
+pub all_below : (bars : ℕ) (ts : List CellTable) → All (λ t. t.bar < bars) ts → tables_below bars ts ≡ length ts
+all_below bars [] h = refl
+all_below bars (t ∷ ts) h =
+    let one : tables_below bars (t ∷ []) ≡ 1 = one_below bars t true (is_below bars t (all_head (λ (u : CellTable). u.bar < bars) t ts h)) in
+    omega (arith, below_append bars (t ∷ []) ts, one, all_below bars ts (all_tail (λ (u : CellTable). u.bar < bars) t ts h))

@@ -16,9 +16,9 @@ use Rattle.rhythm_base.specs.Performance.{IsWellFormed, Performance}
 use Rattle.rhythm_base.specs.Ranked.{Key, least_key}
 use Rattle.rhythm_base.specs.Readable.{IsReadable}
 use Rattle.rhythm_base.specs.Voices.{HasDerivation, HasStarts, IsDeadVoice, IsLeastCost, IsSumOfCosts, voice_bars}
-use Rattle.rhythm_laws.proofs.OrderedLists.{all_cons, all_head, all_tail}
-use Rattle.rhythm_laws.proofs.PerformedVoices.{performed_voice}
-use Rattle.rhythm_laws.specs.Voices.{IsVoice}
+use Rattle.rhythm_base.proofs.OrderedLists.{all_cons, all_head, all_tail}
+use Rattle.performance_laws.proofs.PerformedVoices.{performed_voice}
+use Rattle.tree_laws.specs.Voices.{IsVoice}
 use Rattle.derivation.proofs.Pairs.{each_length}
 use Rattle.edit_session.specs.Kept.{AreTablesOfVoice, IsKeptVoice}
 use Rattle.edit_session.specs.VoiceTables.{HasPath, HasTables, IsFirstDead, VoiceTables, voice_cost}

@@ -3,7 +3,7 @@ use Rattle.std.specs.Prelude.{◌≡◌, ℕ, IsTrue, None, Some}
 use Rattle.edit_session.specs.declared.ask_fault.AskFault.{AskFault}
 use Rattle.edit_session.specs.declared.ask_fault.AskFault.TheVariants.{NoVoice, NoBar, Memory}
 use Rattle.rhythm_base.specs.declared.edit_fault.EditFault.TheVariants as refusal
-use Rattle.rhythm_base.specs.Edits.{cell_tests, first_refusal}
+use Rattle.edit_laws.specs.Edits.{cell_tests, first_refusal}
 use Rattle.rhythm_base.specs.Forest.{Tree}
 use Rattle.rhythm_base.specs.Performance.{Performance}
 use Rattle.rhythm_base.specs.Shapes.{is_shape}

@@ -9,7 +9,7 @@ use Rattle.rhythm_base.specs.BarTables.{BarTable}
 use Rattle.rhythm_base.specs.Grammar.{Grammar}
 use Rattle.rhythm_base.specs.Performance.{IsWellFormed, Performance}
 use Rattle.rhythm_base.specs.Paths.{IsCheap}
-use Rattle.rhythm_base.specs.Reached.{AreReached, IsReached}
+use Rattle.edit_laws.specs.Reached.{AreReached, IsReached}
 
 -- the performance before and that afterwards, under a grammar
 pub record Change : Type 0 where
@@ -24,8 +24,8 @@ pub record IsChange (x : Change) : Type 0 where
   pub channels : x.after.channels ≡ x.before.channels
 
 -- the cell of the voice c and the bar i comes before that of this channel and bar
-abbrev pub IsBefore : ℕ → ℕ → ℕ → ℕ → Type 0
-IsBefore channel bar c i = (c < channel) ⊎ ((c ≡ channel) × (i < bar))
+abbrev pub IsCellBefore : ℕ → ℕ → ℕ → ℕ → Type 0
+IsCellBefore channel bar c i = (c < channel) ⊎ ((c ≡ channel) × (i < bar))
 
 -- the tables of a voice that is changed up to a bar: those before it are of the performance afterwards, and the others still of
 -- the one before
@@ -37,9 +37,9 @@ pub record AreChangedUpTo (x : Change) (channel bar : ℕ) (tables : List BarTab
 -- up to a cell the tables are exchanged: of it and the reached cells after it they have still to come, and those of the cells
 -- before it that the way back would reach are gone
 pub record AreExchangedUpTo (x : Change) (channel bar : ℕ) (coming gone : List CellTable) : Type 0 where
-  pub cells_coming : AreCellsWhere (λ c i. IsReached x.grammar x.before x.after c i × (IsBefore channel bar c i → ⊥)) (map cell_of coming)
+  pub cells_coming : AreCellsWhere (λ c i. IsReached x.grammar x.before x.after c i × (IsCellBefore channel bar c i → ⊥)) (map cell_of coming)
   pub tables_coming : All (IsCellTable x.grammar x.after) coming
-  pub cells_gone : AreCellsWhere (λ c i. IsReached x.grammar x.after x.before c i × IsBefore channel bar c i) (map cell_of gone)
+  pub cells_gone : AreCellsWhere (λ c i. IsReached x.grammar x.after x.before c i × IsCellBefore channel bar c i) (map cell_of gone)
   pub tables_gone : All (IsCellTable x.grammar x.before) gone
 
 -- how many of the tables are of the first bars
@@ -47,9 +47,9 @@ abbrev pub tables_below : ℕ → List CellTable → ℕ
 tables_below bars tables = length (filter (λ t. nat_lt t.bar bars) tables)
 
 -- the tables of the bars of a voice, from a number on
-abbrev pub numbered : ℕ → ℕ → List BarTable → List CellTable
-numbered channel bar [] = []
-numbered channel bar (table ∷ tables) = record { channel = channel; bar = bar; table = table } ∷ numbered channel (bar + 1) tables
+abbrev pub tables_of_bars : ℕ → ℕ → List BarTable → List CellTable
+tables_of_bars channel bar [] = []
+tables_of_bars channel bar (table ∷ tables) = record { channel = channel; bar = bar; table = table } ∷ tables_of_bars channel (bar + 1) tables
 
 -- the last of the tables is that of this cell
 abbrev pub IsLastOf : List CellTable → ℕ → ℕ → Type 0

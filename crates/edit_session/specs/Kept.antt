@@ -5,6 +5,8 @@ use Rattle.std.specs.Prelude.{ℕ, ◌≤◌, List, length}
 use Rattle.chain_bars.specs.Laws.{AreTables}
 use Rattle.edit_session.specs.Opening.{cells_of}
 use Rattle.edit_session.specs.VoiceTables.{HasPath, VoiceTables}
+use Rattle.grammar_plan.specs.Plans.{IsPlan}
+use Rattle.grammar_plan.specs.declared.plan.Plan.{Plan}
 use Rattle.rhythm_base.specs.declared.chord.Chord.{Chord}
 use Rattle.rhythm_base.specs.BarTables.{BarTable}
 use Rattle.rhythm_base.specs.Grammar.{Grammar}
@@ -30,9 +32,10 @@ pub record IsKeptVoice (g : Grammar) (p : Performance) (room channel : ℕ) (voi
   pub path : HasPath voice
   pub memory : room ≤ voice.room
 
--- what a session on a performance keeps: the voices, by rising channel, and for how many bars it has memory
-pub record IsSession (g : Grammar) (p : Performance) (workers : ℕ) (voices : List VoiceTables) (room : ℕ) : Type 0 where
+-- what a session on a performance keeps: the plan of its grammar, the voices, by rising channel, and for how many bars it has memory
+pub record IsSession (g : Grammar) (plan : Plan) (p : Performance) (workers : ℕ) (voices : List VoiceTables) (room : ℕ) : Type 0 where
   pub readable : IsReadable g
+  pub planned : IsPlan g plan
   pub formed : IsWellFormed p
   pub few_notes : length p.notes ≤ MOST_NOTES
   pub few_cells : cells_of p ≤ MOST_CELLS

@@ -11,3 +11,4 @@ pub mod PreparedCode
 pub mod ReachedCells
 pub mod ChangedVoices
 pub mod Exchange
+pub mod Products

@@ -6,7 +6,7 @@ use Rattle.rhythm_base.specs.BarTables.{BarTable, IsTable}
 use Rattle.rhythm_base.specs.Counter.{risen}
 use Rattle.rhythm_base.specs.Grammar.{Grammar}
 use Rattle.rhythm_base.specs.Performance.{Performance}
-use Rattle.rhythm_base.specs.Reached.{AreReached, IsInputOf}
+use Rattle.edit_laws.specs.Reached.{AreReached, IsInputOf}
 use Rattle.rhythm_base.specs.Voices.{HasStarts}
 
 -- the table of the cell of that voice and bar

@@ -6,7 +6,7 @@ use Rattle.rhythm_base.specs.BarTables.{BarTable}
 use Rattle.rhythm_base.specs.Grammar.{Grammar}
 use Rattle.rhythm_base.specs.Lists.{AreInOrder, Each}
 use Rattle.rhythm_base.specs.Performance.{Performance}
-use Rattle.rhythm_base.specs.Reached.{AreReached, IsInputOf}
+use Rattle.edit_laws.specs.Reached.{AreReached, IsInputOf}
 
 -- the voice and the bar of a cell
 abbrev pub place_pair : CellPlace → ℕ × ℕ

@@ -3,7 +3,7 @@ ghost use Rattle.edit_session.specs.Kept.{AreTablesOfVoice};
 ghost use Rattle.rhythm_base.specs.Counter.{risen};
 ghost use Rattle.rhythm_base.specs.Performance.{IsWellFormed, Performance};
 ghost use Rattle.rhythm_base.specs.Readable.{IsReadable};
-ghost use Rattle.rhythm_base.specs.Script.{AreBestOfBar};
+ghost use Rattle.tree_laws.specs.Alternatives.{AreBestOfBar};
 ghost use Rattle.rhythm_base.specs.declared.limits.TheConstants.{MOST_BARS};
 ghost use Rattle.edit_session.specs.LeastTrees.{IsTableIn};
 ghost use Rattle.std.specs.List.{position};

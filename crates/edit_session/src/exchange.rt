@@ -9,11 +9,12 @@ ghost use Rattle.edit_session.specs.Exchange.{
   IsVoiceAfter,
   IsVoiceBefore,
   IsVoiceUpTo,
-  numbered,
+  tables_of_bars,
   table_out,
   tables_below,
 };
 ghost use Rattle.edit_session.specs.Prepared.{CellTable as SpecCellTable};
+ghost use Rattle.edit_session.specs.Products.{moved_tables};
 ghost use Rattle.rhythm_base.specs.Counter.{risen};
 ghost use Rattle.rhythm_base.specs.declared.limits.TheConstants.{MOST_BARS};
 ghost use Rattle.std.specs.Prelude.{
@@ -173,7 +174,7 @@ fn pop_lost<P: Tag>(
     requires few { length voice.old.tables ≤ MOST_BARS }
     requires memory { length gone.old.items + (length voice.old.tables - bars) ≤ vec_capacity gone.old }
     ensures tables { voice.new.tables ≡ take bars voice.old.tables }
-    ensures gone { gone.new.items ≡ gone.old.items ++ reverse (numbered channel bars (drop bars voice.old.tables)) }
+    ensures gone { gone.new.items ≡ gone.old.items ++ reverse (tables_of_bars channel bars (drop bars voice.old.tables)) }
     ensures room { voice.new.room ≡ voice.old.room }
     ensures capacity { vec_capacity gone.new ≡ vec_capacity gone.old }
     ensures products { (d : ℕ) → length voice.old.tables ≤ 2 ^ d → products.new ≤ risen products.old ((length voice.old.tables - bars) * d) }
@@ -210,7 +211,7 @@ fn give_lost<P: Tag>(
     requires few { length voice.old.tables ≤ MOST_BARS }
     requires memory { length gone.old.items + (length voice.old.tables - bars) ≤ vec_capacity gone.old }
     ensures tables { voice.new.tables ≡ take bars voice.old.tables }
-    ensures gone { gone.new.items ≡ gone.old.items ++ numbered channel bars (drop bars voice.old.tables) }
+    ensures gone { gone.new.items ≡ gone.old.items ++ tables_of_bars channel bars (drop bars voice.old.tables) }
     ensures room { voice.new.room ≡ voice.old.room }
     ensures capacity { vec_capacity gone.new ≡ vec_capacity gone.old }
     ensures products { (d : ℕ) → length voice.old.tables ≤ 2 ^ d → products.new ≤ risen products.old ((length voice.old.tables - bars) * d) }
@@ -244,7 +245,8 @@ fn exchange_voice<P: Tag>(
         ≡ length gone.old.items + tables_below (length voice.old.tables) coming.old.items + (length voice.old.tables - bars) }
     ensures capacity { vec_capacity gone.new ≡ vec_capacity gone.old }
     ensures capacity_coming { vec_capacity coming.new ≡ vec_capacity coming.old }
-    ensures products { (d m : ℕ) → length voice.old.tables ≡ bars → bars ≤ 2 ^ d → length coming.old.items ≡ length coming.new.items + m → products.new ≤ risen products.old (m * d) }
+    ensures products { (d m : ℕ) → length voice.old.tables ≤ 2 ^ d → bars ≤ 2 ^ d → length coming.old.items ≡ length coming.new.items + m
+        → products.new ≤ risen products.old ((m + (length voice.old.tables - bars)) * d) }
     ensures less { length coming.new.items ≤ length coming.old.items }
     ensures rises { products.old ≤ products.new }
 {
@@ -272,7 +274,9 @@ fn exchange_voices<P: Tag>(
         → AreVoicesAfter x voices.new gone.new.items (length coming.old.items) }
     ensures voices { length voices.new ≡ length voices.old }
     ensures room { (n : ℕ) → All (λ v. n ≤ v.room) voices.old → All (λ v. n ≤ v.room) voices.new }
-    ensures products { (d : ℕ) → All (λ v. length v.tables ≡ bars) voices.old → bars ≤ 2 ^ d → products.new ≤ risen products.old (length coming.old.items * d) }
+    ensures count { (n : ℕ) → All (λ v. length v.tables ≡ n) voices.old → length gone.new.items ≤ length coming.old.items + length voices.old * (n - bars) }
+    ensures products { (d n : ℕ) → All (λ v. length v.tables ≡ n) voices.old → n ≤ 2 ^ d → bars ≤ 2 ^ d
+        → products.new ≤ risen products.old ((length coming.old.items + length voices.old * (n - bars)) * d) }
     ensures capacity { vec_capacity coming.new ≡ vec_capacity coming.old }
     ensures rises { products.old ≤ products.new }
 {
@@ -304,7 +308,10 @@ pub fn exchange<P: Tag>(
     ensures voices { length voices.new ≡ length voices.old }
     ensures room { (n : ℕ) → All (λ v. n ≤ v.room) voices.old → All (λ v. n ≤ v.room) voices.new }
     ensures none { result.place.items ≡ [] }
-    ensures products { (d : ℕ) → All (λ v. length v.tables ≡ bars) voices.old → bars ≤ 2 ^ d → products.new ≤ risen products.old (length tables.items * d) }
+    ensures way_back { (x : Change) → AreVoicesBefore x voices.old tables.items → channels.now ≡ x.before.channels → bars ≡ length x.after.bars
+        → moved_tables x.after x.before (length result.tables.items) ≤ moved_tables x.before x.after (length tables.items) }
+    ensures products { (d n : ℕ) → All (λ v. length v.tables ≡ n) voices.old → n ≤ 2 ^ d → bars ≤ 2 ^ d
+        → products.new ≤ risen products.old ((length tables.items + length voices.old * (n - bars)) * d) }
     ensures rises { products.old ≤ products.new }
 {
     let mut coming = tables;

@@ -2,6 +2,7 @@ ghost use Rattle.bar_pool.specs.declared.limits.TheConstants.{MOST_WORKERS};
 ghost use Rattle.edit_session.specs.Inputs.{AreCellTables};
 ghost use Rattle.edit_session.specs.Opening.{IsBuilt, IsOpenFault, cells_of};
 ghost use Rattle.edit_session.specs.declared.open_fault.OpenFault.TheVariants.{Cells};
+ghost use Rattle.grammar_plan.specs.Plans.{IsPlan};
 ghost use Rattle.rhythm_base.specs.Counter.{risen};
 ghost use Rattle.rhythm_base.specs.Performance.{IsWellFormed};
 ghost use Rattle.rhythm_base.specs.Readable.{IsReadable};
@@ -12,6 +13,7 @@ ghost use Rattle.std.specs.Prelude.{◌≡◌, ◌≤◌, ◌<◌, IfErr, IfOk, 
 use crate::inputs::cell_inputs;
 use crate::open_fault::OpenFault;
 use bar_pool::build_cells;
+use grammar_plan::Plan;
 use least_cost::{BarTable, Steps};
 use rhythm_base::{Grammar, MOST_CELLS, Performance, Tag};
 use rhythm_ports::Gate;
@@ -32,8 +34,15 @@ fn check_cells(performance: &Performance) -> Result<(), OpenFault>
     Ok(())
 }
 
-/// The table of each cell, voice after voice and bar after bar: each is built once, and none where there are too many cells or
-/// where a root symbol is wanting.
+/// The plan of a grammar, and by it the table of each cell, voice after voice and bar after bar.
+#[derive(Drop)]
+pub struct PlannedTables {
+    pub plan: Plan,
+    pub tables: Vec<BarTable>,
+}
+
+/// The plan and the tables of the cells: each table is built once, and none where there are too many cells or where a root symbol
+/// is wanting.
 pub fn cell_tables<R: Threads + Sync, G: Gate + Sync, B: Tag>(
     rt: &R,
     alloc: Global,
@@ -42,14 +51,15 @@ pub fn cell_tables<R: Threads + Sync, G: Gate + Sync, B: Tag>(
     workers: u32,
     gate: &G,
     builds: &mut Steps<B>,
-) -> Result<Vec<BarTable>, OpenFault>
+) -> Result<PlannedTables, OpenFault>
     requires some_worker { 1 ≤ workers }
     requires few_workers { workers ≤ MOST_WORKERS }
     requires readable { IsReadable grammar.now }
     ensures formed { IsWellFormed performance.now }
     ensures few { IfOk result (λ _. cells_of performance.now ≤ MOST_CELLS) }
     ensures starts { IfOk result (λ _. HasStarts grammar.now performance.now.bars) }
-    ensures tables { IfOk result (λ v. AreCellTables grammar.now performance.now v.items) }
+    ensures plan { IfOk result (λ opening. IsPlan grammar.now opening.plan) }
+    ensures tables { IfOk result (λ opening. AreCellTables grammar.now performance.now opening.tables.items) }
     ensures fault { IfErr result (IsOpenFault grammar.now performance.now) }
     ensures builds { OnOk result (builds.new ≡ risen builds.old (cells_of performance.now)) }
     ensures built { IfErr result (IsBuilt builds.old builds.new (risen builds.old (cells_of performance.now))) }
@@ -58,6 +68,7 @@ pub fn cell_tables<R: Threads + Sync, G: Gate + Sync, B: Tag>(
     check_cells(performance)?;
     let inputs = cell_inputs(alloc, grammar, performance)?;
     let cells = inputs.as_slice();
-    let tables = build_cells(rt, alloc, grammar, cells, workers, gate, builds)?;
-    Ok(tables)
+    let plan = Plan::of(alloc, grammar)?;
+    let tables = build_cells(rt, alloc, grammar, &plan, cells, workers, gate, builds)?;
+    Ok(PlannedTables { plan, tables })
 }

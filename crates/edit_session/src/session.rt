@@ -1,3 +1,4 @@
+ghost use Rattle.bar_pool.specs.Pool.{AreTablesOf};
 ghost use Rattle.bar_pool.specs.declared.limits.TheConstants.{MOST_WORKERS};
 ghost use Rattle.edit_session.specs.Asking.{CanBePinned, IsAskFault};
 ghost use Rattle.edit_session.specs.ChangedVoices.{LeavesOthers};
@@ -9,13 +10,16 @@ ghost use Rattle.kern_writer.specs.declared.fault.ScoreFault.TheVariants.{TooLon
 ghost use Rattle.rhythm_base.specs.Counter.{risen};
 ghost use Rattle.rhythm_base.specs.Performance.{IsWellFormed};
 ghost use Rattle.rhythm_base.specs.Readable.{IsReadable};
-ghost use Rattle.rhythm_base.specs.Script.{AreBestOfBar, IsOutcome, made, refused};
-ghost use Rattle.rhythm_base.specs.Voices.{HasDerivation, IsCostOf, IsDeadVoice};
+ghost use Rattle.tree_laws.specs.Alternatives.{AreBestOfBar};
+ghost use Rattle.edit_laws.specs.EditOutcomes.{IsOutcome, made, refused};
+ghost use Rattle.rhythm_base.specs.Voices.{HasDerivation, IsCostOf, IsDeadVoice, HasStarts};
 ghost use Rattle.rhythm_base.specs.declared.limits.TheConstants.{LONGEST_SCORE, MOST_BARS, MOST_CELLS, MOST_NOTES};
-ghost use Rattle.edit_session.specs.Prepared.{RisesBy, Suits};
-ghost use Rattle.rhythm_base.specs.Edits as edits;
-ghost use Rattle.rhythm_base.specs.Reached.{AreReached, WouldReach};
-ghost use Rattle.rhythm_base.specs.Voices.{HasStarts};
+ghost use Rattle.edit_session.specs.Prepared.{RisesBy, Suits, bar_table_of, cell_of};
+ghost use Rattle.edit_session.specs.Products.{AreProductsOf, AreProductsOfEdit, changes_made};
+ghost use Rattle.edit_session.specs.ReachedCells.{place_pair};
+ghost use Rattle.edit_laws.specs.Edits as edits;
+ghost use Rattle.rhythm_base.specs.EditRanges.{IsEditInRange};
+ghost use Rattle.edit_laws.specs.Reached.{AreReached, WouldReach};
 ghost use Rattle.rhythm_base.specs.declared.edit_fault.EditFault.TheVariants as faults;
 ghost use Rattle.rhythm_base.specs.declared.edit_fault.EditFault.{EditFault};
 ghost use Rattle.std.specs.Prelude.{◌≡◌, ◌≢◌, ◌≤◌, ◌<◌, ◌*◌, ◌^◌, ℕ, All, Err, IfErr, IfOk, IsOk, List, None, Ok, OnErr, OnOk, length, map};
@@ -28,15 +32,17 @@ use crate::exchange::{Exchanged, exchange};
 use crate::inputs::tempo_map_of;
 use crate::kept_voices::{first_dead_voice, reserve_all, total_of, voices_of};
 use crate::open_fault::OpenFault;
-use crate::opening::cell_tables;
-use crate::prepared::Prepared;
-use crate::preparing::{place_for, reached_tables};
-use crate::reached::reached_cells;
+use crate::opening::{PlannedTables, cell_tables};
+use crate::prepared::{CellTable, Prepared, placed_tables};
+use crate::preparing::place_for;
+use crate::reached::{ReachedCells, reached_cells};
 use crate::score::{score_bars, whole_score};
 use crate::voice_tables::VoiceTables;
 use bar_alternatives::Alternative;
+use bar_pool::build_cells;
 use carry_matrix::Steps as Products;
 use derivation::ScoreBar;
+use grammar_plan::Plan;
 use kern_writer::{ScoreFault, write_kern};
 use least_cost::Steps as Builds;
 use performance_edit::edited;
@@ -47,10 +53,11 @@ use std::marker::Model;
 use std::mem;
 use std::thread::Threads;
 
-/// A performance and a grammar, with the table of each cell and the chain of each voice.
+/// A performance and a grammar, with the plan of the grammar, the table of each cell and the chain of each voice.
 #[derive(Drop)]
 pub struct Session {
     grammar: Grammar,
+    plan: Plan,
     performance: Performance,
     workers: u32,
     voices: Vec<VoiceTables>,
@@ -70,7 +77,7 @@ impl Model for Session {
 
     ghost view = { λ s. record { grammar = s.grammar; performance = s.performance; room = s.room } };
 
-    ghost invariant = { λ s. IsSession s.grammar s.performance s.workers s.voices.items s.room };
+    ghost invariant = { λ s. IsSession s.grammar s.plan s.performance s.workers s.voices.items s.room };
 }
 
 impl Session {
@@ -98,7 +105,8 @@ impl Session {
         ensures rises { builds.old ≤ builds.new }
         ensures products { products.old ≤ products.new }
     {
-        let tables = cell_tables(rt, alloc, &grammar, &performance, workers, gate, builds)?;
+        let opening = cell_tables(rt, alloc, &grammar, &performance, workers, gate, builds)?;
+        let PlannedTables { plan, tables } = opening;
         let bars = performance.bars().len();
         let count = performance.channels().len();
         let voices = voices_of(alloc, tables, count, bars, products)?;
@@ -110,6 +118,7 @@ impl Session {
         }
         Ok(Session {
             grammar,
+            plan,
             performance,
             workers,
             voices,
@@ -216,6 +225,30 @@ impl Session {
         Ok(())
     }
 
+    /// The table of each of these cells: each is built once.
+    fn reached_tables<R: Threads + Sync, G: Gate + Sync, B: Tag>(
+        &self,
+        rt: &R,
+        alloc: Global,
+        reached: &ReachedCells,
+        gate: &G,
+        builds: &mut Builds<B>,
+    ) -> Result<Vec<CellTable>, AllocError>
+        requires units { All (λ k. k.resolution ≡ self.now.grammar.resolution) reached.now.inputs.items }
+        requires inputs { length reached.now.inputs.items ≡ length reached.now.cells.items }
+        ensures cells { IfOk result (λ v. map cell_of v.items ≡ map place_pair reached.now.cells.items) }
+        ensures tables { IfOk result (λ v. AreTablesOf self.now.grammar reached.now.inputs.items (map bar_table_of v.items)) }
+        ensures builds { OnOk result (builds.new ≡ risen builds.old (length reached.now.cells.items)) }
+        ensures most { builds.new ≤ risen builds.old (length reached.now.cells.items) }
+        ensures rises { builds.old ≤ builds.new }
+    {
+        let (grammar, plan) = (&self.grammar, &self.plan);
+        let inputs = reached.inputs.as_slice();
+        let workers = self.workers;
+        let tables = build_cells(rt, alloc, grammar, plan, inputs, workers, gate, builds)?;
+        placed_tables(alloc, reached.cells.as_slice(), tables)
+    }
+
     /// The tables of the cells that the change to another performance reaches, and memory for those that they replace.
     fn prepare_next<R: Threads + Sync, G: Gate + Sync, B: Tag>(
         &self,
@@ -242,7 +275,7 @@ impl Session {
         let grammar = &self.grammar;
         let before = &self.performance;
         let reached = reached_cells(alloc, grammar, before, &next, changed, voices)?;
-        let tables = reached_tables(rt, alloc, grammar, &reached, self.workers, gate, builds)?;
+        let tables = self.reached_tables(rt, alloc, &reached, gate, builds)?;
         let bars = self.performance.bars().len();
         let lost = bars.saturating_sub(next.bars().len());
         let place = place_for(alloc, tables.len(), voices.len(), lost)?;
@@ -259,7 +292,7 @@ impl Session {
         gate: &G,
         builds: &mut Builds<B>,
     ) -> Result<Prepared, EditFault>
-        requires { edits.IsEditInRange edit.now }
+        requires { IsEditInRange edit.now }
         ensures next { IfOk result (λ x. edits.edited self.now.performance edit.now ≡ Ok x.next) }
         ensures suits { IfOk result (λ x. Suits self.now.grammar self.now.performance x) }
         ensures builds { IfOk result (λ x. builds.new ≡ risen builds.old (length x.tables)) }
@@ -282,8 +315,9 @@ impl Session {
     }
 
     /// Puts the session on what is prepared, and takes no memory for it. Where some voice of it has no derivation, the session
-    /// stays as it was, and what was prepared is given up. A change of notes, barlines or pins makes at most `d` products for
-    /// each cell that it reaches, where there are at most `2 ^ d` bars.
+    /// stays as it was, and what was prepared is given up. A change makes at most `d` products for each cell that it reaches,
+    /// and in each voice for each bar that it loses, where there are at most `2 ^ d` bars before and afterwards; twice as many
+    /// where the session then goes back.
     pub fn commit<P: Tag>(
         &mut self,
         prepared: Prepared,
@@ -303,8 +337,7 @@ impl Session {
         ensures dead { IfErr result (λ dead. IsDeadVoice self.old.grammar prepared.next dead.channel dead.bar) }
         ensures lives { OnErr result (All (HasDerivation self.old.grammar prepared.next) prepared.next.channels → ⊥) }
         ensures unchanged { OnErr result (self.new.performance ≡ self.old.performance) }
-        ensures products { (d : ℕ) → length prepared.next.bars ≡ length self.old.performance.bars → length prepared.next.bars ≤ 2 ^ d
-            → OnOk result (products.new ≤ risen products.old (length prepared.tables * d)) }
+        ensures products { AreProductsOf (changes_made result) self.old.grammar self.old.performance prepared.next products.old products.new }
         ensures rises { products.old ≤ products.new }
     {
         let built = prepared.tables();
@@ -343,8 +376,7 @@ impl Session {
         ensures back { result.back.next ≡ self.old.performance }
         ensures suits_back { Suits self.new.grammar self.new.performance result.back }
         ensures room_back { length result.back.next.bars ≤ self.new.room }
-        ensures products { (d : ℕ) → length back.next.bars ≡ length self.old.performance.bars → length back.next.bars ≤ 2 ^ d
-            → products.new ≤ risen products.old (length back.tables * d) }
+        ensures products { AreProductsOf 1 self.old.grammar self.old.performance back.next products.old products.new }
         ensures rises { products.old ≤ products.new }
     {
         match self.commit(back, products) {
@@ -354,8 +386,8 @@ impl Session {
     }
 
     /// Makes an edit, or says why it is refused: `prepare`, `reserve` and `commit`. All memory is taken before the session
-    /// changes, and after each refusal it is as before. An edit of notes, barlines or pins makes at most `d` products for each
-    /// cell that it reaches, where there are at most `2 ^ d` bars.
+    /// changes, and after each refusal it is as before. The products are those of `commit`, and none where the edit is refused
+    /// for anything but a voice that would have no derivation.
     pub fn apply<R: Threads + Sync, G: Gate + Sync, B: Tag, P: Tag>(
         &mut self,
         rt: &R,
@@ -365,7 +397,7 @@ impl Session {
         builds: &mut Builds<B>,
         products: &mut Products<P>,
     ) -> Result<Applied, EditFault>
-        requires { edits.IsEditInRange edit.now }
+        requires { IsEditInRange edit.now }
         ensures grammar { self.new.grammar ≡ self.old.grammar }
         ensures room { self.old.room ≤ self.new.room }
         ensures made { IfOk result (λ a. IsOutcome self.old.grammar self.old.performance edit.now (made a.built a.cost) self.new.performance) }
@@ -377,8 +409,7 @@ impl Session {
         ensures builds { IfOk result (λ a. builds.new ≡ risen builds.old a.built) }
         ensures most { RisesBy builds.old builds.new (λ n. (cells : List (ℕ × ℕ)) → WouldReach self.old.grammar self.old.performance edit.now cells → n ≤ length cells) }
         ensures rises { builds.old ≤ builds.new }
-        ensures products { (d : ℕ) → length self.new.performance.bars ≡ length self.old.performance.bars → length self.new.performance.bars ≤ 2 ^ d
-            → IfOk result (λ a. products.new ≤ risen products.old (a.built * d)) }
+        ensures products { AreProductsOfEdit self.old.grammar self.old.performance edit.now result products.old products.new }
         ensures products_rise { products.old ≤ products.new }
     {
         let prepared = self.prepare(rt, alloc, edit, gate, builds)?;

@@ -6,13 +6,13 @@ use Rattle.std.proofs.lemmas.List.Elements.{All-cons, All-head, All-nil, All-tai
 use Rattle.std.proofs.lemmas.List.Sums.{sum_by-cons}
 use Rattle.rhythm_base.specs.declared.note.Bar.{Bar}
 use Rattle.rhythm_base.specs.Signatures.{IsSignature}
-use Rattle.rhythm_base.specs.Spans.{parts_of_unit}
+use Rattle.durations.specs.Spans.{parts_of_unit}
 use Rattle.derivation.proofs.FilledBars.{parts_at}
 use Rattle.derivation.specs.declared.score.ScoreBar.{ScoreBar}
 use Rattle.derivation.specs.Score.{IsScoreBar}
 use Rattle.kern_laws.specs.ReadBack.{HaveSignatures}
 use Rattle.kern_laws.proofs.GridParts.{parts_finer}
-use Rattle.voice_events.specs.Parts.{bar_parts, score_parts}
+use Rattle.voice_events.specs.Parts.{score_bar_parts, score_parts}
 
 none_left : (b : ℕ × ℕ) (bs : List (ℕ × ℕ)) → [] ≡ b ∷ bs → ⊥
 none_left b bs e = cc
@@ -32,7 +32,7 @@ same_parts r (sbar ∷ sbars) (bar ∷ bars) have =
     let (one, others) = first_same _ _ _ _ have in
     let own : parts_of_unit bar ≡ sbar.num * (64 / sbar.den) = ap (λ p. p.0 * (64 / p.1)) one in
     ap (λ n. r * n) (sum_by-cons parts_of_unit bar bars) ∙ spread r (parts_of_unit bar) (sum_by parts_of_unit bars)
-    ∙ ap₂ (λ a b. r * a + b) own (same_parts r sbars bars others) ∙ sym (sum_by-cons (bar_parts r) sbar sbars)
+    ∙ ap₂ (λ a b. r * a + b) own (same_parts r sbars bars others) ∙ sym (sum_by-cons (score_bar_parts r) sbar sbars)
   where
     spread : (r a b : ℕ) → r * (a + b) ≡ r * a + r * b
     spread r a b = grind arith

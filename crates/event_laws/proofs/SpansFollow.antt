@@ -12,7 +12,8 @@ use Rattle.rhythm_base.specs.declared.sound.SoundKind.TheVariants.{Begin, Short,
 use Rattle.rhythm_base.specs.declared.span.Span.{Span}
 use Rattle.rhythm_base.specs.Lists.{Each}
 use Rattle.rhythm_base.specs.Signatures.{IsSignature}
-use Rattle.rhythm_base.specs.Spans.{IsSpan, begins_chord, chord_runs, is_rest, is_tie, parts_of_unit, place_of, sound_length}
+use Rattle.durations.specs.Spans.{IsSpan, chord_runs, parts_of_unit, place_of, sound_length}
+use Rattle.rhythm_base.specs.SoundKinds.{begins_chord, is_rest, is_tie}
 use Rattle.derivation.proofs.FilledBars.{filled, parts_at, place_at, place_next}
 use Rattle.derivation.proofs.SpansRead.{ties_of}
 use Rattle.derivation.specs.WellSounded.{AreKeys, AreWellSounded, IsWellSounding, StandInBars}

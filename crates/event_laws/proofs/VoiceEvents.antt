@@ -10,7 +10,7 @@ use Rattle.rhythm_base.specs.Lists.{Each}
 use Rattle.rhythm_base.specs.Performance.{IsWellFormed, Performance}
 use Rattle.rhythm_base.specs.Readable.{IsReadable}
 use Rattle.rhythm_base.specs.Signatures.{IsSignature}
-use Rattle.rhythm_base.specs.Spans.{parts_of_unit}
+use Rattle.durations.specs.Spans.{parts_of_unit}
 use Rattle.derivation.proofs.OneScore.{scores_one}
 use Rattle.derivation.specs.declared.score.ScoreBar.{ScoreBar}
 use Rattle.derivation.specs.PerformanceScore.{score_bar}
@@ -21,6 +21,7 @@ use Rattle.kern_reader.specs.declared.event.KernEvent.{KernEvent}
 use Rattle.kern_reader.specs.Events.{AreEvents}
 use Rattle.kern_reader.specs.Outcome.{score_of}
 use Rattle.kern_reader.specs.Score.{KernColumns}
+use Rattle.kern_laws.proofs.EventsExist.{voice_spans_exist}
 use Rattle.kern_laws.proofs.ReadBack.{texts_read_back}
 use Rattle.kern_laws.specs.ReadBack.{AreVoiceSpans, HaveSignatures}
 use Rattle.voice_events.specs.VoiceEvents.{AreVoiceEvents, AreVoiceEventsFrom}
@@ -62,6 +63,15 @@ as_many Of (x ∷ xs) (y ∷ ys) each = ap suc (as_many Of xs ys each.1)
 same_value : {A E : Type 0} (x : Result A E) (a b : A) → x ≡ Ok a → x ≡ Ok b → a ≡ b
 same_value x a b e f = let both : Ok a ≡ Ok b = sym e ∙ f in cc
 
+some_events : (g : Grammar) (p : Performance) (text : List ℕ) → IsReadable g → IsWellFormed p → IsTextOf g p text
+    → (k : KernColumns) × (score_of text ≡ Ok k) × (events : List KernEvent) × AreEvents k events
+some_events g p text readable formed of_text =
+    let (s, of, reads) = texts_read_back g p text readable formed of_text in
+    let is : IsScore s = scores_one.can_be_written g p s readable formed of in
+    let spans = voice_spans_exist s p.bars is in
+    let own = subst (λ r. AreVoiceSpans r p.bars 1 s.voices spans.0) of.resolution spans.1 in
+    (reads.score, reads.read, spans.0, (reads.events spans.0).1 own)
+
 pub text_events : (g : Grammar) (p : Performance) (text : List ℕ) (k : KernColumns) (events : List KernEvent) → IsReadable g
     → IsWellFormed p → IsTextOf g p text
     → score_of text ≡ Ok k → AreEvents k events → AreVoiceEvents g.resolution (map (score_bar p) p.bars) (length p.channels) events
@@ -93,4 +103,4 @@ writable g p text readable formed (s, of, written) =
     }
 
 pub texts_have : TextsHaveVoiceEvents
-texts_have = record { events = text_events; writable = writable }
+texts_have = record { some = some_events; events = text_events; writable = writable }

@@ -21,8 +21,10 @@ SpansAreVoiceEvents =
     (s : Score) (bars : List Bar) (events : List KernEvent) → IsScore s → HaveSignatures s.bars bars
     → AreVoiceSpans s.resolution bars 1 s.voices events → AreVoiceEvents s.resolution s.bars (length s.voices) events
 
--- what is read of the score of a performance: its events, over these bars and voices, can be handed to a writer
+-- what is read of the score of a performance: it has events, and over these bars and voices they can be handed to a writer
 pub record TextsHaveVoiceEvents : Type 0 where
+  pub some : (g : Grammar) (p : Performance) (text : List ℕ) → IsReadable g → IsWellFormed p → IsTextOf g p text
+      → (k : KernColumns) × (score_of text ≡ Ok k) × (events : List KernEvent) × AreEvents k events
   pub events : (g : Grammar) (p : Performance) (text : List ℕ) (k : KernColumns) (events : List KernEvent)
       → IsReadable g → IsWellFormed p → IsTextOf g p text → score_of text ≡ Ok k → AreEvents k events
       → AreVoiceEvents g.resolution (map (score_bar p) p.bars) (length p.channels) events

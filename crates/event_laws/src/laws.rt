@@ -5,7 +5,7 @@ pub fn spans_are_voice_events()
     ensures { SpansAreVoiceEvents }
 {}
 
-/// So are the events that are read of the score of a performance and a grammar.
+/// So are the events that are read of the score of a performance and a grammar; and there are some.
 pub fn texts_have_voice_events()
     ensures { TextsHaveVoiceEvents }
 {}

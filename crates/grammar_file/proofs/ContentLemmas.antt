@@ -1,12 +1,12 @@
 -- The lines that say something, one after the other.
 use Rattle.std.proofs.Common.{◌≡◌, ℕ, ◌+◌, ◌≤◌, true, false, List, [], ◌∷◌, length, filter, refl, sym, ap, ◌∙◌, arith}
-use Rattle.grammar_file.specs.Content.{Content, IsLineNumber, content_after_first, content_from, line_with, next_statement, numbered, says_something}
+use Rattle.grammar_file.specs.Content.{Content, IsLineNumber, content_after_first, content_from, line_with, next_statement, numbered_lines, says_something}
 use Rattle.grammar_file.specs.Lines.{grammar_lines, grammar_words}
 use Rattle.grammar_file.specs.declared.line.Line.{Line}
 use Rattle.grammar_file.specs.declared.line.Next.TheVariants.{End}
 
 abbrev said_of : ℕ → List (List ℕ) → List Line
-said_of n lines = filter (λ line. says_something line.words) (numbered n lines)
+said_of n lines = filter (λ line. says_something line.words) (numbered_lines n lines)
 
 abbrev content : List Line → ℕ → Content
 content lines end = record { lines = lines; end = end }

@@ -3,7 +3,7 @@ use Rattle.std.proofs.Common.{◌≡◌, ℕ, ◌+◌, List, [], ◌∷◌, drop
 use Rattle.std.proofs.lemmas.List.{drop-drop}
 use Rattle.std.specs.Prelude.{codes}
 use Rattle.grammar_file.specs.Content.{Content, content_after_first}
-use Rattle.grammar_file.specs.Header.{header_of, line_says, most_units, number_of, version_of, weights_of}
+use Rattle.grammar_file.specs.Header.{header_of, line_says, most_units, said_number, version_of, weights_of}
 use Rattle.grammar_file.specs.declared.fault.GrammarFault.{GrammarFault}
 use Rattle.grammar_file.specs.declared.fault.GrammarWhat.{GrammarWhat}
 
@@ -35,10 +35,10 @@ abbrev pub version_line : Content → Result ℕ GrammarFault
 version_line content = line_says content.end version_of (slice_get content.lines 0)
 
 abbrev pub resolution_line : Content → ℕ → Result ℕ GrammarFault
-resolution_line content version = line_says content.end (number_of (codes "resolution") 1 (most_units version)) (slice_get content.lines 1)
+resolution_line content version = line_says content.end (said_number (codes "resolution") 1 (most_units version)) (slice_get content.lines 1)
 
 abbrev pub window_line : Content → Result ℕ GrammarFault
-window_line content = line_says content.end (number_of (codes "window") 0 1000000) (slice_get content.lines 2)
+window_line content = line_says content.end (said_number (codes "window") 0 1000000) (slice_get content.lines 2)
 
 abbrev pub weights_line : Content → ℕ → Result (ℕ × ℕ) GrammarFault
 weights_line content version = line_says content.end (weights_of version) (slice_get content.lines 3)

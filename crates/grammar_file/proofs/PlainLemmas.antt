@@ -14,7 +14,7 @@ use Rattle.std.specs.Prelude.{codes}
 use Rattle.std.specs.Str.{bytes_eq}
 use Rattle.grammar_file.proofs.LineLemmas.{lines_among_more, without_return-none}
 use Rattle.rhythm_base.proofs.Numerals.{numerals}
-use Rattle.grammar_file.specs.Content.{content_from, numbered, says_something}
+use Rattle.grammar_file.specs.Content.{content_from, numbered_lines, says_something}
 use Rattle.grammar_file.specs.Lines.{is_blank, lines_among, grammar_lines, newline, without_return, grammar_words}
 use Rattle.grammar_file.specs.Names.{is_name, is_name_byte}
 use Rattle.grammar_file.specs.Printed.{line_text}
@@ -134,7 +134,7 @@ says ((b ∷ bytes) ∷ words) plain =
     grind (arith, nat_tests, other)
 
 said_lines : (n : ℕ) (lines : List (List (List ℕ))) → AllByRecursion ArePlain lines
-    → filter (λ line. says_something line.words) (numbered n (map (join_with_byte 32) lines)) ≡ lines_from n lines
+    → filter (λ line. says_something line.words) (numbered_lines n (map (join_with_byte 32) lines)) ≡ lines_from n lines
 said_lines n [] plain = refl
 said_lines n (words ∷ lines) plain =
     rw (words_of_line words plain.0, says words plain.0) (ap (λ more. record { number = n; words = words } ∷ more) (said_lines (n + 1) lines plain.1))
@@ -142,7 +142,7 @@ said_lines n (words ∷ lines) plain =
 pub content_of_text : (lines : List (List (List ℕ))) → AllByRecursion ArePlain lines → (content_from 1 (grammar_lines (flat_map line_text lines))).lines ≡ lines_from 1 lines
 unfolding content_from
 content_of_text lines plain =
-    ap (λ ls. filter (λ line. says_something line.words) (numbered 1 ls)) (lines_of_text lines plain) ∙ said_lines 1 lines plain
+    ap (λ ls. filter (λ line. says_something line.words) (numbered_lines 1 ls)) (lines_of_text lines plain) ∙ said_lines 1 lines plain
 
 -- plain words: numbers and names
 digits_plain : (b : ℕ) → is_ascii_digit b ≡ true → is_plain b ≡ true

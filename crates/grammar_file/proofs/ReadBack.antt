@@ -23,7 +23,7 @@ use Rattle.grammar_file.proofs.ReadBackLemmas.{IsFront, IsRule, name_known, read
 use Rattle.grammar_file.proofs.SpokenLemmas.{beat_bound, named, named_from, number_line, version_line, weights_line}
 use Rattle.grammar_file.specs.Content.{Content, content_of}
 use Rattle.grammar_file.specs.Grammar.{grammar_of, grammar_of_lines, understood}
-use Rattle.grammar_file.specs.Header.{header_of, line_says, most_units, number_of, version_of, weights_of}
+use Rattle.grammar_file.specs.Header.{header_of, line_says, most_units, said_number, version_of, weights_of}
 use Rattle.grammar_file.specs.Names.{first_appearances, is_known, symbol_of}
 use Rattle.grammar_file.specs.Outcome.{on_line}
 use Rattle.grammar_file.specs.declared.fault.GrammarFault.{GrammarFault}
@@ -145,9 +145,9 @@ module _ (g : Grammar) (can : IsSayable g) where
       let content : Content = content_of (printed g) in
       header_5 content g.version g.resolution g.window (g.early, g.late)
       (ap (λ lines. line_says content.end version_of (slice_get lines 0)) text_lines ∙ ap (on_line_number 1) (version_line g.version readable.version))
-      (ap (λ lines. line_says content.end (number_of (codes "resolution") 1 (most_units g.version)) (slice_get lines 1)) text_lines
+      (ap (λ lines. line_says content.end (said_number (codes "resolution") 1 (most_units g.version)) (slice_get lines 1)) text_lines
       ∙ ap (on_line_number 2) (number_line (codes "resolution") 1 (most_units g.version) g.resolution refl readable.ranges.some_unit few_units (omega (arith, readable.ranges.few_units))))
-      (ap (λ lines. line_says content.end (number_of (codes "window") 0 1000000) (slice_get lines 2)) text_lines
+      (ap (λ lines. line_says content.end (said_number (codes "window") 0 1000000) (slice_get lines 2)) text_lines
       ∙ ap (on_line_number 3) (number_line (codes "window") 0 1000000 g.window refl (omega arith) readable.ranges.window (omega (arith, readable.ranges.window))))
       (ap (λ lines. line_says content.end (weights_of g.version) (slice_get lines 3)) text_lines
       ∙ ap (on_line_number 4) (weights_line g.version g.early g.late readable.version readable.one_weight readable.ranges.early readable.ranges.late))

@@ -6,7 +6,7 @@ use Rattle.std.specs.Prelude.{codes}
 use Rattle.std.specs.Str.{bytes_eq}
 use Rattle.grammar_file.specs.Numbers.{number_within}
 use Rattle.grammar_file.specs.Outcome.{◌>>=◌}
-use Rattle.grammar_file.specs.Said.{are_parts, kind_of, parts_of, rule_of_kind, said_by, start_of}
+use Rattle.grammar_file.specs.Said.{are_parts, kind_of, said_parts, rule_of_kind, said_by, start_of}
 use Rattle.grammar_file.specs.declared.fault.GrammarWhat.{GrammarWhat}
 use Rattle.grammar_file.specs.declared.fault.GrammarWhat.TheVariants.{Line}
 
@@ -22,10 +22,10 @@ after_one parts part (Err what) = refl
 -- a size and a name more
 pub parts_more : {X : Type 0} (text : X → List ℕ) (rest : List X) (d : X) (n : ℕ) (parts : List (ℕ × List ℕ))
     → 2 ≤ length rest → number_within 1 96 (text (get_or rest 0 d)) ≡ Ok n
-    → after (parts ++ (n, text (get_or rest 1 d)) ∷ []) (parts_of (map text (drop 2 rest))) ≡ after parts (parts_of (map text rest))
+    → after (parts ++ (n, text (get_or rest 1 d)) ∷ []) (said_parts (map text (drop 2 rest))) ≡ after parts (said_parts (map text rest))
 parts_more text [] d n parts some e = absurd (omega arith)
 parts_more text (x ∷ []) d n parts some e = absurd (omega arith)
-parts_more text (x ∷ y ∷ rest) d n parts some e = after_one parts (n, text y) (parts_of (map text rest)) ∙ ap (after parts) (rw e refl)
+parts_more text (x ∷ y ∷ rest) d n parts some e = after_one parts (n, text y) (said_parts (map text rest)) ∙ ap (after parts) (rw e refl)
 
 -- the form of what is after a size and a name
 pub parts_form : {X : Type 0} (text : X → List ℕ) (rest : List X) → 2 ≤ length rest → are_parts (map text rest) ≡ true → are_parts (map text (drop 2 rest)) ≡ true
@@ -35,7 +35,7 @@ parts_form text (x ∷ y ∷ rest) some form = (and_parts _ _ form).1
 
 -- nothing is left where no pair is
 pub parts_end : {X : Type 0} (text : X → List ℕ) (rest : List X) (parts : List (ℕ × List ℕ)) → length rest < 2 → are_parts (map text rest) ≡ true
-    → after parts (parts_of (map text rest)) ≡ Ok parts
+    → after parts (said_parts (map text rest)) ≡ Ok parts
 parts_end text [] parts few form = ap Ok (append-nil parts)
 parts_end text (x ∷ []) parts few form = cc
 parts_end text (x ∷ y ∷ rest) parts few form = absurd (omega arith)

@@ -14,11 +14,11 @@ use Rattle.grammar_file.proofs.NumberLemmas.{IsWithin, number_sound}
 use Rattle.grammar_file.proofs.OutcomeLemmas.{test_ok, then_ok}
 use Rattle.grammar_file.specs.Content.{Content}
 use Rattle.grammar_file.specs.Endings.{ending_of_words}
-use Rattle.grammar_file.specs.Header.{header_of, line_says, most_units, number_of, numbers_of, version_of, weights_of}
+use Rattle.grammar_file.specs.Header.{header_of, line_says, most_units, said_number, numbers_of, version_of, weights_of}
 use Rattle.grammar_file.specs.Names.{is_name}
 use Rattle.grammar_file.specs.Numbers.{beat_of, is_numeral, number_within}
 use Rattle.grammar_file.specs.Outcome.{◌>>=◌, on_line}
-use Rattle.grammar_file.specs.Said.{body_of, has_form, kind_of, parts_of, rule_of_kind, said_by, start_of}
+use Rattle.grammar_file.specs.Said.{body_of, has_form, kind_of, said_parts, rule_of_kind, said_by, start_of}
 use Rattle.grammar_file.specs.declared.fault.GrammarWhat.{GrammarWhat}
 use Rattle.grammar_file.specs.declared.fault.GrammarWhat.TheVariants.{Header as header, Line as no_form}
 use Rattle.grammar_file.specs.declared.header.Header.{Header}
@@ -64,12 +64,12 @@ start_sound version signature name =
 abbrev AreHalf : ℕ → List (ℕ × List ℕ) → Type 0
 AreHalf words parts = All (λ part. IsWithin 1 96 part.0) parts × (2 * length parts ≤ words) × (words ≤ 2 * length parts + 1)
 
-parts_sound : (words : List (List ℕ)) → IfOk (parts_of words) (AreHalf (length words))
+parts_sound : (words : List (List ℕ)) → IfOk (said_parts words) (AreHalf (length words))
 parts_sound [] = (All-nil _, omega arith, omega arith)
 parts_sound (size ∷ []) = (All-nil _, omega arith, omega arith)
 parts_sound (size ∷ name ∷ more) =
     then_ok (IsWithin 1 96) (AreHalf (length (size ∷ name ∷ more))) (number_within 1 96 size) _ (number_sound 1 96 size)
-    (λ first within. then_ok (AreHalf (length more)) (AreHalf (length (size ∷ name ∷ more))) (parts_of more) _ (parts_sound more)
+    (λ first within. then_ok (AreHalf (length more)) (AreHalf (length (size ∷ name ∷ more))) (said_parts more) _ (parts_sound more)
     (λ others half. (All-cons (λ part. IsWithin 1 96 part.0) (first, name) others within half.0, omega (arith, half.1), omega (arith, half.2))))
 
 body_sound : (version : ℕ) (k : Kind) (words : List (List ℕ)) → has_form version k words ≡ true → IfOk (body_of k words) (IsSoundBody version)
@@ -84,7 +84,7 @@ body_sound version kind.Parts words form =
     let is : version ≡ 2 = grind (arith, nat_tests, d.0) in
     let some = leb-true _ _ d.1 in
     let few = leb-true _ _ b.1 in
-    then_ok (AreHalf (length words)) (IsSoundBody version) (parts_of words) _ (parts_sound words)
+    then_ok (AreHalf (length words)) (IsSoundBody version) (said_parts words) _ (parts_sound words)
     (λ parts half. (is, omega (arith, half.2, some), omega (arith, half.1, few), half.0))
 body_sound version (kind.Ending word) words form =
     then_ok IsLeafEnding (IsSoundBody version) (ending_of_words word words) _ (ending_sound word words) (λ ending is. is)
@@ -131,7 +131,7 @@ version_sound (a ∷ b ∷ []) = at (bytes_eq a (codes "rhythm") && bytes_eq b (
     at false false = tt
 version_sound (a ∷ b ∷ c ∷ words) = tt
 
-number_of_sound : (key : List ℕ) (low high : ℕ) (words : List (List ℕ)) → IfOk (number_of key low high words) (IsWithin low high)
+number_of_sound : (key : List ℕ) (low high : ℕ) (words : List (List ℕ)) → IfOk (said_number key low high words) (IsWithin low high)
 number_of_sound key low high [] = tt
 number_of_sound key low high (a ∷ []) = tt
 number_of_sound key low high (a ∷ b ∷ []) =
@@ -157,9 +157,9 @@ weights_sound : (version : ℕ) (words : List (List ℕ)) → IfOk (weights_of v
 weights_sound version words = at (version == 2) refl
   where
     at : (t : Bool) → (version == 2) ≡ t
-        → IfOk (if t then numbers_of (codes "onset") 0 1000 words else (number_of (codes "onset") 0 1000 words >>= λ weight. Ok (weight, weight))) (AreWeights version)
+        → IfOk (if t then numbers_of (codes "onset") 0 1000 words else (said_number (codes "onset") 0 1000 words >>= λ weight. Ok (weight, weight))) (AreWeights version)
     at true e = let is : 2 ≡ version = grind (arith, nat_tests, e) in subst (λ v. IfOk (numbers_of (codes "onset") 0 1000 words) (AreWeights v)) is (numbers_of_sound words)
-    at false e = then_ok (IsWithin 0 1000) (AreWeights version) (number_of (codes "onset") 0 1000 words) _ (number_of_sound (codes "onset") 0 1000 words)
+    at false e = then_ok (IsWithin 0 1000) (AreWeights version) (said_number (codes "onset") 0 1000 words) _ (number_of_sound (codes "onset") 0 1000 words)
         (λ weight few. (few.1, few.1, λ _. refl))
 
 line_sound : {A : Type 0} (P : A → Type 0) (end : ℕ) (say : List (List ℕ) → Result A GrammarWhat) (o : Option Line)
@@ -176,9 +176,9 @@ unfolding header_of
 header_sound content =
     then_ok (λ v. (v ≡ 1) ⊎ (v ≡ 2)) IsSoundHeader _ _ (line_sound _ content.end version_of (slice_get content.lines 0) version_sound)
     (λ v version. then_ok (IsWithin 1 (most_units v)) IsSoundHeader _ _
-    (line_sound _ content.end (number_of (codes "resolution") 1 (most_units v)) (slice_get content.lines 1) (number_of_sound _ 1 (most_units v)))
+    (line_sound _ content.end (said_number (codes "resolution") 1 (most_units v)) (slice_get content.lines 1) (number_of_sound _ 1 (most_units v)))
     (λ r units. then_ok (IsWithin 0 1000000) IsSoundHeader _ _
-    (line_sound _ content.end (number_of (codes "window") 0 1000000) (slice_get content.lines 2) (number_of_sound _ 0 1000000))
+    (line_sound _ content.end (said_number (codes "window") 0 1000000) (slice_get content.lines 2) (number_of_sound _ 0 1000000))
     (λ w window. then_ok (AreWeights v) IsSoundHeader _ _
     (line_sound _ content.end (weights_of v) (slice_get content.lines 3) (weights_sound v))
     (λ weights are. sound v r w weights version units window are))))

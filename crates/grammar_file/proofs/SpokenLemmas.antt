@@ -19,11 +19,11 @@ use Rattle.rhythm_base.specs.declared.rule.Ending.{Ending}
 use Rattle.rhythm_base.proofs.Numerals.{numerals}
 use Rattle.grammar_file.proofs.EndingLemmas.{ending_said}
 use Rattle.grammar_file.proofs.NumberLemmas.{numeral_decimal, within_decimal}
-use Rattle.grammar_file.specs.Header.{number_of, version_of, weights_of}
+use Rattle.grammar_file.specs.Header.{said_number, version_of, weights_of}
 use Rattle.grammar_file.specs.Names.{is_name}
 use Rattle.grammar_file.specs.Numbers.{beat_of}
 use Rattle.grammar_file.specs.Printed.{body_words, symbol_name, words_of_body}
-use Rattle.grammar_file.specs.Said.{are_parts, kind_of, parts_of, said_by}
+use Rattle.grammar_file.specs.Said.{are_parts, kind_of, said_parts, said_by}
 use Rattle.grammar_file.specs.declared.fault.GrammarWhat.{GrammarWhat}
 use Rattle.grammar_file.specs.declared.said.NamedBody.{NamedBody}
 use Rattle.grammar_file.specs.declared.said.NamedBody.TheVariants as named_bodies
@@ -34,7 +34,7 @@ pub version_line : (version : ℕ) → (version ≡ 1) ⊎ (version ≡ 2) → v
 version_line version (inl is) = rw is (rw (decimal_digit 1 (omega arith)) refl)
 version_line version (inr is) = rw is (rw (decimal_digit 2 (omega arith)) refl)
 
-pub number_line : (key : List ℕ) (low high n : ℕ) → bytes_eq key key ≡ true → low ≤ n → n ≤ high → n < 2 ^ 64 → number_of key low high (key ∷ decimal n ∷ []) ≡ Ok n
+pub number_line : (key : List ℕ) (low high n : ℕ) → bytes_eq key key ≡ true → low ≤ n → n ≤ high → n < 2 ^ 64 → said_number key low high (key ∷ decimal n ∷ []) ≡ Ok n
 number_line key low high n same least most small = rw (same, numeral_decimal n small) (within_decimal low high n least most small)
 
 pub weights_line : (version early late : ℕ) → (version ≡ 1) ⊎ (version ≡ 2) → (version ≡ 1 → early ≡ late) → early ≤ 1000 → late ≤ 1000
@@ -134,7 +134,7 @@ module _ (version : ℕ) (names : List (List ℕ)) (spelled : All (λ n. IsTrue 
   parts_long [] = refl
   parts_long (part ∷ parts) = let more = parts_long parts in omega (arith, more)
 
-  parts_said : (parts : List (ℕ × ℕ)) → All IsPart parts → parts_of (flat_map part_words parts) ≡ Ok (map (λ part. (part.0, symbol_name names part.1)) parts)
+  parts_said : (parts : List (ℕ × ℕ)) → All IsPart parts → said_parts (flat_map part_words parts) ≡ Ok (map (λ part. (part.0, symbol_name names part.1)) parts)
   parts_said [] bound = refl
   parts_said (part ∷ parts) bound =
       let here = All-head IsPart part parts bound in

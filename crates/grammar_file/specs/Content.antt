@@ -17,13 +17,13 @@ says_something [] = false
 says_something (first ∷ more) = not (starts_with nat_eq first (codes "#"))
 
 -- the lines with their numbers, which begin at n
-abbrev pub numbered : ℕ → List (List ℕ) → List Line
-numbered n [] = []
-numbered n (line ∷ lines) = record { number = n; words = grammar_words line } ∷ numbered (n + 1) lines
+abbrev pub numbered_lines : ℕ → List (List ℕ) → List Line
+numbered_lines n [] = []
+numbered_lines n (line ∷ lines) = record { number = n; words = grammar_words line } ∷ numbered_lines (n + 1) lines
 
 -- what these lines hold, whose numbers begin at n
 unfoldable pub content_from : ℕ → List (List ℕ) → Content
-content_from n lines = record { lines = filter (λ line. says_something line.words) (numbered n lines); end = n + length lines }
+content_from n lines = record { lines = filter (λ line. says_something line.words) (numbered_lines n lines); end = n + length lines }
 
 abbrev pub content_of : List ℕ → Content
 content_of text = content_from 1 (grammar_lines text)

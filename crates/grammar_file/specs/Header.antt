@@ -20,10 +20,10 @@ version_of (key ∷ version ∷ []) =
 version_of _ = Err what.Header
 
 -- the number after this word, in its range
-abbrev pub number_of : List ℕ → ℕ → ℕ → List (List ℕ) → Result ℕ GrammarWhat
-number_of key low high (first ∷ digits ∷ []) =
+abbrev pub said_number : List ℕ → ℕ → ℕ → List (List ℕ) → Result ℕ GrammarWhat
+said_number key low high (first ∷ digits ∷ []) =
     if bytes_eq first key then (if is_numeral digits then number_within low high digits else Err what.Line) else Err what.Header
-number_of key low high _ = Err what.Header
+said_number key low high _ = Err what.Header
 
 -- both numbers after this word, each in the range
 abbrev pub numbers_of : List ℕ → ℕ → ℕ → List (List ℕ) → Result (ℕ × ℕ) GrammarWhat
@@ -38,7 +38,7 @@ numbers_of key low high _ = Err what.Header
 abbrev pub weights_of : ℕ → List (List ℕ) → Result (ℕ × ℕ) GrammarWhat
 weights_of version words =
     if version == 2 then numbers_of (codes "onset") 0 HEAVIEST_ONSET words
-    else (number_of (codes "onset") 0 HEAVIEST_ONSET words >>= λ weight. Ok (weight, weight))
+    else (said_number (codes "onset") 0 HEAVIEST_ONSET words >>= λ weight. Ok (weight, weight))
 
 -- the most units of a bar
 abbrev pub most_units : ℕ → ℕ
@@ -57,7 +57,7 @@ line_says end say None = Err (missing end)
 unfoldable pub header_of : Content → Result Header GrammarFault
 header_of content = do
   version ← line_says content.end version_of (slice_get content.lines 0)
-  resolution ← line_says content.end (number_of (codes "resolution") 1 (most_units version)) (slice_get content.lines 1)
-  window ← line_says content.end (number_of (codes "window") 0 WIDEST_WINDOW) (slice_get content.lines 2)
+  resolution ← line_says content.end (said_number (codes "resolution") 1 (most_units version)) (slice_get content.lines 1)
+  window ← line_says content.end (said_number (codes "window") 0 WIDEST_WINDOW) (slice_get content.lines 2)
   weights ← line_says content.end (weights_of version) (slice_get content.lines 3)
   Ok (record { version = version; resolution = resolution; window = window; early = weights.0; late = weights.1 })

@@ -47,17 +47,17 @@ has_form version kind.Parts words = (version == 2) && nat_le 4 (length words) &&
 has_form version (kind.Ending word) words = has_ending_form word words
 
 -- the sizes, each in its range, and the names
-abbrev pub parts_of : List (List ℕ) → Result (List (ℕ × List ℕ)) GrammarWhat
-parts_of (size ∷ name ∷ more) = do
+abbrev pub said_parts : List (List ℕ) → Result (List (ℕ × List ℕ)) GrammarWhat
+said_parts (size ∷ name ∷ more) = do
   first ← number_within 1 MOST_UNEQUAL_UNITS size
-  others ← parts_of more
+  others ← said_parts more
   Ok ((first, name) ∷ others)
-parts_of _ = Ok []
+said_parts _ = Ok []
 
 -- the body with these words after its first, where they have its form
 abbrev pub body_of : Kind → List (List ℕ) → Result NamedBody GrammarWhat
 body_of kind.Split words = Ok (body.Split words)
-body_of kind.Parts words = parts_of words >>= λ parts. Ok (body.Parts parts)
+body_of kind.Parts words = said_parts words >>= λ parts. Ok (body.Parts parts)
 body_of (kind.Ending word) words = ending_of_words word words >>= λ ending. Ok (body.Ending ending)
 
 -- `NAME WEIGHT` and a body of this kind

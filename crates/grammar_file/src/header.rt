@@ -1,6 +1,6 @@
 ghost use Rattle.rhythm_base.specs.declared.limits.TheConstants.{MOST_UNITS};
 ghost use Rattle.grammar_file.specs.Content.{IsLineNumber, content_after_first};
-ghost use Rattle.grammar_file.specs.Header.{header_of, line_says, missing, most_units, number_of, numbers_of, version_of, weights_of};
+ghost use Rattle.grammar_file.specs.Header.{header_of, line_says, missing, most_units, said_number, numbers_of, version_of, weights_of};
 ghost use Rattle.grammar_file.specs.Outcome.{GivesAt};
 ghost use Rattle.grammar_file.specs.declared.fault.GrammarWhat.TheVariants.{Memory};
 ghost use Rattle.std.specs.Prelude.{◌<◌, ◌≡◌, ◌≢◌, ◌≤◌, IfErr, IfOk, None, OnOk, Some, drop, map, slice_get};
@@ -39,7 +39,7 @@ fn version(words: &[&[u8]]) -> Result<u8, GrammarWhat>
 /// The number of a line that begins with this word.
 fn number(key: &[u8], low: u32, high: u32, words: &[&[u8]]) -> Result<u32, GrammarWhat>
     requires { high < 4294967295 }
-    ensures value { result ≡ number_of key.now low high (map (λ x. x.now) words.now) }
+    ensures value { result ≡ said_number key.now low high (map (λ x. x.now) words.now) }
     ensures within { IfOk result (λ n. n ≤ high) }
 {
     match words {
@@ -119,7 +119,7 @@ fn read_number(
 ) -> Result<u32, GrammarFault>
     requires { high < 4294967295 }
     ensures at { IfErr result (λ fault. IsLineNumber lines.old.end fault.line) }
-    ensures value { GivesAt result (line_says lines.old.end (number_of key.now low high) (slice_get lines.old.lines 0)) }
+    ensures value { GivesAt result (line_says lines.old.end (said_number key.now low high) (slice_get lines.old.lines 0)) }
     ensures within { IfOk result (λ n. n ≤ high) }
     ensures after { OnOk result (lines.new ≡ content_after_first lines.old) }
 {

@@ -1,5 +1,5 @@
 ghost use Rattle.grammar_file.specs.Outcome.{GivesGrammar};
-ghost use Rattle.grammar_file.specs.Said.{are_parts, body_of, has_form, kind_of, parts_of, rule_of_kind, said_by, start_of};
+ghost use Rattle.grammar_file.specs.Said.{are_parts, body_of, has_form, kind_of, said_parts, rule_of_kind, said_by, start_of};
 ghost use Rattle.std.specs.List.{after_first, before_first};
 ghost use Rattle.std.specs.Prelude.{◌≡◌, ◌==◌, ℕ, IsTrue, map};
 
@@ -68,7 +68,7 @@ fn start<'a>(signature: &[u8], name: &'a [u8]) -> Result<Said<'a>, GrammarWhat>
 /// The parts of these sizes and names.
 fn parts<'a>(alloc: Global, words: &[&'a [u8]]) -> Result<Sizes<'a>, GrammarWhat>
     requires { IsTrue (are_parts (map (λ x. x.now) words.now)) }
-    ensures { GivesGrammar result (parts_of (map (λ x. x.now) words.now)) }
+    ensures { GivesGrammar result (said_parts (map (λ x. x.now) words.now)) }
 {
     let mut parts = Vec::with_capacity(alloc, words.len() / 2)?;
     let mut rest = words;

@@ -10,8 +10,8 @@ use Rattle.rhythm_base.specs.Trees.{suits}
 use Rattle.rhythm_base.specs.declared.rule.Ending.{Ending}
 use Rattle.rhythm_base.specs.declared.rule.Rule.{Rule}
 use Rattle.rhythm_base.proofs.Booleans.{and_left, and_right}
-use Rattle.rhythm_laws.specs.Shares.{AreBelow}
-use Rattle.rhythm_laws.proofs.Shares.{children-below}
+use Rattle.tree_laws.specs.Shares.{AreBelow}
+use Rattle.tree_laws.proofs.Shares.{children-below}
 use Rattle.row_laws.specs.RuleKeys.{IsCutRule}
 use Rattle.grammar_plan.specs.Drafts.{ArePairs, ArePushed, HasMoreCuts, HavePairs, IsCutIn, IsLonger, cuts_pair, is_no_ending}
 use Rattle.grammar_plan.specs.Plans.{between}

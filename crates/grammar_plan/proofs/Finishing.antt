@@ -6,7 +6,7 @@ use Rattle.rhythm_base.specs.Bodies.{children}
 use Rattle.rhythm_base.specs.Grammar.{Grammar}
 use Rattle.row_laws.specs.declared.quiet.Quiet.{Quiet}
 use Rattle.grammar_plan.specs.Frames.{IsFrame}
-use Rattle.grammar_plan.specs.Plans.{HasLeafRule, HasQuietTree, HasSeat, HaveSeats, IsCutOf, IsPlan, IsQuietMade, IsQuietTree, IsSeat, between, pair_of, place_of_leaf, rows_of}
+use Rattle.grammar_plan.specs.Plans.{HasLeafRule, HasQuietTree, HasSeat, HaveSeats, HaveSeatsOverBars, IsCutOf, IsPlan, IsQuietMade, IsQuietTree, IsSeat, between, pair_of, place_of_leaf, quiet_rows_of}
 use Rattle.grammar_plan.specs.declared.cut.Cut.{Cut}
 use Rattle.grammar_plan.specs.declared.plan.Plan.{Plan}
 use Rattle.grammar_plan.specs.declared.quiet_tree.QuietTree.{QuietTree}
@@ -61,19 +61,20 @@ module _ (g : Grammar) (plan new : Plan) (seats : new.seats.items ≡ plan.seats
   tree-moved quiet q from None h = h
   tree-moved quiet q from (Some t) h = (h.0, h.1, h.2, h.3, made-moved quiet q from t.rule t.cut h.0.1 h.4)
 
-  pub plan-is : IsFrame g plan → ((quiet : Quiet) → length (rows_of new quiet) ≡ length plan.seats.items)
-      → ((quiet : Quiet) (n from : ℕ) → n < length plan.seats.items → from < 5 → HasQuietTree g plan n quiet from (slice_index_or (slice_index_or (rows_of new quiet) n []) from None)) → IsPlan g new
+  pub plan-is : IsFrame g plan → ((quiet : Quiet) → length (quiet_rows_of new quiet) ≡ length plan.seats.items)
+      → ((quiet : Quiet) (n from : ℕ) → n < length plan.seats.items → from < 5 → HasQuietTree g plan n quiet from (slice_index_or (slice_index_or (quiet_rows_of new quiet) n []) from None)) → IsPlan g new
   plan-is frame long least = record {
     seats = λ n d low.
         let at = slice_get-get_or new.seats.items n d low in
         seat-moved (get_or new.seats.items n d) (seat-at g plan frame n (get_or new.seats.items n d) (ap (λ l. slice_get l n) (sym seats) ∙ at));
     roots = λ symbol n e. has-moved n (g.resolution, symbol) (frame.roots symbol n (ap (λ l. slice_get l symbol) (sym roots) ∙ e));
+    starts = subst (λ l. HaveSeatsOverBars l g.starts) (sym roots) frame.starts;
     leaves = λ symbol n sounds low few.
         subst (λ l. HasLeafRule g symbol n sounds (slice_index_or (slice_index_or l symbol []) (place_of_leaf n sounds) None)) (sym leaves)
         (frame.leaves symbol n sounds (subst (λ l. symbol < length l) leaves low) few);
     rows_long = λ quiet. long quiet ∙ sym (ap length seats);
     quiet = λ n from quiet low few s e.
-        tree-moved quiet (pair_of s) from (slice_index_or (slice_index_or (rows_of new quiet) n []) from None)
+        tree-moved quiet (pair_of s) from (slice_index_or (slice_index_or (quiet_rows_of new quiet) n []) from None)
         (least quiet n from (subst (λ l. n < length l) seats low) few s (ap (λ l. slice_get l n) (sym seats) ∙ e));
   }
 

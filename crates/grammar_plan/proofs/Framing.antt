@@ -7,7 +7,7 @@ use Rattle.rhythm_base.specs.Grammar.{Grammar}
 use Rattle.grammar_plan.specs.Drafts.{HasPair, HavePairs, IsCutIn, IsDraft}
 use Rattle.grammar_plan.specs.Frames.{IsFrame}
 use Rattle.grammar_plan.specs.LeafTables.{AreAllFirst}
-use Rattle.grammar_plan.specs.Plans.{HasSeat, HaveSeats, IsCutOf, IsSeat, between, pair_of, place_of_leaf}
+use Rattle.grammar_plan.specs.Plans.{HasSeat, HaveSeats, HaveSeatsOverBars, IsCutOf, IsSeat, between, pair_of, place_of_leaf}
 use Rattle.grammar_plan.specs.declared.cut.Cut.{Cut}
 use Rattle.grammar_plan.specs.declared.plan.Plan.{Plan}
 use Rattle.grammar_plan.specs.declared.seat.Seat.{Seat}
@@ -54,10 +54,12 @@ module _ (g : Grammar) (plan : Plan) (pairs : List (ℕ × ℕ)) (draft : IsDraf
         whole = own.1.whole;
       }
 
-  pub frame-is : length plan.leaves.items ≡ length g.names → AreAllFirst g plan.leaves.items → HaveRoots g.resolution pairs plan.roots.items → IsFrame g plan
-  frame-is long first roots = record {
+  pub frame-is : length plan.leaves.items ≡ length g.names → AreAllFirst g plan.leaves.items
+      → HaveRoots g.resolution pairs plan.roots.items → HaveSeatsOverBars plan.roots.items g.starts → IsFrame g plan
+  frame-is long first roots starts = record {
     seats = λ i d low. seat-of long i (get_or plan.seats.items i d) (slice_get-get_or plan.seats.items i d low);
     roots = λ symbol n e. has-seat n (g.resolution, symbol) (roots symbol n e);
+    starts = starts;
     leaves = λ symbol n sounds low few.
         leaf-first g symbol n sounds (slice_index_or (slice_index_or plan.leaves.items symbol []) (place_of_leaf n sounds) None) (first symbol low (place_of_leaf n sounds) (place_of_leaf-low n sounds few));
   }

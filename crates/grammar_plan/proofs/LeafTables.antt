@@ -12,9 +12,9 @@ use Rattle.rhythm_base.specs.Line.{agrees}
 use Rattle.rhythm_base.specs.declared.rule.Ending.{Ending}
 use Rattle.rhythm_base.specs.declared.rule.Ending.TheVariants.{Note, Short, Tie, Rest, Grace}
 use Rattle.rhythm_base.specs.declared.rule.Rule.{Rule}
-use Rattle.rhythm_laws.proofs.Runs.{agrees-few}
+use Rattle.tree_laws.proofs.Runs.{agrees-few}
 use Rattle.row_laws.specs.LeafRules.{IsLeafRule}
-use Rattle.grammar_plan.specs.LeafTables.{AreFirstBelow, HasPlace, IsFirstBelow, lighter_of, place_in, place_of, place_of_ending}
+use Rattle.grammar_plan.specs.LeafTables.{AreFirstBelow, HasLeafPlace, IsFirstBelow, lighter_of, place_in, leaf_place, place_of_ending}
 use Rattle.grammar_plan.specs.Plans.{HasLeafRule, place_of_leaf}
 use Rattle.grammar_plan.specs.declared.leaf_rule.LeafRule.{LeafRule}
 
@@ -135,11 +135,11 @@ place-low (Grace m) place e = go (nat_lt 0 m && nat_lt m 4) refl e
 pub place_in-low : (rule : Rule) (symbol place : ℕ) → place_in rule symbol ≡ Some place → place < 7
 place_in-low rule symbol place e = go (rule.lhs == symbol) e
   where
-    by_ending : (o : Option Ending) → place_of o ≡ Some place → place < 7
+    by_ending : (o : Option Ending) → leaf_place o ≡ Some place → place < 7
     by_ending None e = absurd (cc)
     by_ending (Some ending) e = place-low ending place e
 
-    go : (b : Bool) → (if b then place_of (ending_of rule.body) else None) ≡ Some place → place < 7
+    go : (b : Bool) → (if b then leaf_place (ending_of rule.body) else None) ≡ Some place → place < 7
     go true e = by_ending (ending_of rule.body) e
     go false e = absurd (cc)
 
@@ -214,17 +214,17 @@ asked-place ending n sounds e = by_place ending (place_of_leaf n sounds) e n sou
         go true on h (suc (suc n)) sounds e = let no = some_one _ _ h in let same : suc (suc n) ≡ m + 1 = omega (arith, no, e) in grind (arith, nat_tests)
 
 module _ (g : Grammar) (symbol n : ℕ) (sounds : Bool) where
-  has_place : (r : ℕ) (rule : Rule) → IsLeafRule g symbol n sounds r rule → HasPlace g symbol (place_of_leaf n sounds) r rule
+  has_place : (r : ℕ) (rule : Rule) → IsLeafRule g symbol n sounds r rule → HasLeafPlace g symbol (place_of_leaf n sounds) r rule
   has_place r rule h = (h.at, go (rule.lhs == symbol) refl)
     where
-      go : (b : Bool) → rule.lhs == symbol ≡ b → (if b then place_of (ending_of rule.body) else None) ≡ Some (place_of_leaf n sounds)
-      go true e = ap place_of h.ends ∙ place-asked h.ending n sounds h.agree
+      go : (b : Bool) → rule.lhs == symbol ≡ b → (if b then leaf_place (ending_of rule.body) else None) ≡ Some (place_of_leaf n sounds)
+      go true e = ap leaf_place h.ends ∙ place-asked h.ending n sounds h.agree
       go false e = let same = h.own in absurd (grind (arith, nat_tests))
 
-  is_leaf : (r : ℕ) (rule : Rule) → HasPlace g symbol (place_of_leaf n sounds) r rule → IsLeafRule g symbol n sounds r rule
+  is_leaf : (r : ℕ) (rule : Rule) → HasLeafPlace g symbol (place_of_leaf n sounds) r rule → IsLeafRule g symbol n sounds r rule
   is_leaf r rule h = go (rule.lhs == symbol) refl (ending_of rule.body) refl h.1
     where
-      go : (b : Bool) → rule.lhs == symbol ≡ b → (o : Option Ending) → ending_of rule.body ≡ o → (if b then place_of o else None) ≡ Some (place_of_leaf n sounds) → IsLeafRule g symbol n sounds r rule
+      go : (b : Bool) → rule.lhs == symbol ≡ b → (o : Option Ending) → ending_of rule.body ≡ o → (if b then leaf_place o else None) ≡ Some (place_of_leaf n sounds) → IsLeafRule g symbol n sounds r rule
       go false e o is place = absurd (cc)
       go true e None is place = absurd (cc)
       go true e (Some ending) is place = record { at = h.0; own = grind (arith, nat_tests); ending = ending; ends = is; agree = asked-place ending n sounds place }

@@ -9,9 +9,9 @@ use Rattle.rhythm_base.specs.Readable.{IsReadable}
 use Rattle.rhythm_base.specs.Trees.{leaf_of_ending, suits}
 use Rattle.rhythm_base.specs.declared.rule.Rule.{Rule}
 use Rattle.rhythm_base.proofs.Booleans.{and_right}
-use Rattle.rhythm_laws.specs.Forests.{AreWide}
-use Rattle.rhythm_laws.specs.Shares.{AreBelow}
-use Rattle.rhythm_laws.proofs.Shares.{below-wide, children-below, children-whole}
+use Rattle.tree_laws.specs.Forests.{AreWide}
+use Rattle.tree_laws.specs.Shares.{AreBelow}
+use Rattle.tree_laws.proofs.Shares.{below-wide, children-below, children-whole}
 use Rattle.row_laws.specs.BestRules.{is_nearer}
 use Rattle.row_laws.specs.LeafRules.{EndsInterval}
 use Rattle.row_laws.specs.QuietTrees.{AreQuietLeast, IsQuietBest, IsQuietList, sounds_so}

@@ -9,7 +9,7 @@ use Rattle.rhythm_base.specs.Grammar.{Grammar}
 use Rattle.row_laws.specs.declared.quiet.Quiet.{Quiet}
 use Rattle.grammar_plan.specs.Frames.{IsFrame}
 use Rattle.grammar_plan.specs.Plans.{HasQuietTree, IsQuietTree, IsSeat, pair_of}
-use Rattle.grammar_plan.specs.QuietRows.{AreMarked, AreQuietRows, IsBefore, entry}
+use Rattle.grammar_plan.specs.QuietRows.{AreMarked, AreQuietRows, IsSeatBefore, entry}
 use Rattle.grammar_plan.specs.declared.plan.Plan.{Plan}
 use Rattle.grammar_plan.specs.declared.quiet_tree.QuietTree.{QuietTree}
 use Rattle.grammar_plan.specs.declared.seat.Seat.{Seat}
@@ -69,7 +69,7 @@ module _ (g : Grammar) (plan : Plan) (quiet : Quiet) (rows : List (List (Option 
         there : (n from : ℕ) → n ≢ m → entry (slice_set rows m row) n from ≡ entry rows n from
         there n from other = ap (λ l. slice_index_or l from None) (get_or-set_other rows m n row [] other)
 
-        earlier : (n : ℕ) (x : Seat) → n ≢ m → IsBefore w (m + 1) n x → IsBefore w m n x
+        earlier : (n : ℕ) (x : Seat) → n ≢ m → IsSeatBefore w (m + 1) n x → IsSeatBefore w m n x
         earlier n x other (inl low) = inl low
         earlier n x other (inr same) = elim (last_of n m same.1) [
           | inl below ↦ inr (same.0, below)
@@ -80,7 +80,7 @@ module _ (g : Grammar) (plan : Plan) (quiet : Quiet) (rows : List (List (Option 
     pub rows-skip : (s : Seat) → slice_get plan.seats.items m ≡ Some s → s.width ≢ w → AreQuietRows g plan quiet rows w (m + 1)
     rows-skip s at other = record { long = h.long; cheap = h.cheap; least = λ n x from e before few. h.least n x from e (earlier n x e before) few }
       where
-        earlier : (n : ℕ) (x : Seat) → slice_get plan.seats.items n ≡ Some x → IsBefore w (m + 1) n x → IsBefore w m n x
+        earlier : (n : ℕ) (x : Seat) → slice_get plan.seats.items n ≡ Some x → IsSeatBefore w (m + 1) n x → IsSeatBefore w m n x
         earlier n x e (inl low) = inl low
         earlier n x e (inr same) = elim (last_of n m same.1) [
           | inl below ↦ inr (same.0, below)
@@ -93,7 +93,7 @@ module _ (g : Grammar) (plan : Plan) (quiet : Quiet) (rows : List (List (Option 
     pub rows-width : length plan.seats.items ≤ m → AreQuietRows g plan quiet rows (w + 1) 0
     rows-width past = record { long = h.long; cheap = h.cheap; least = λ n x from e before few. h.least n x from e (earlier n x e before) few }
       where
-        earlier : (n : ℕ) (x : Seat) → slice_get plan.seats.items n ≡ Some x → IsBefore (w + 1) 0 n x → IsBefore w m n x
+        earlier : (n : ℕ) (x : Seat) → slice_get plan.seats.items n ≡ Some x → IsSeatBefore (w + 1) 0 n x → IsSeatBefore w m n x
         earlier n x e (inl low) = elim (last_of x.width w low) [
           | inl below ↦ inl below
           | inr same ↦ let within = slice_get_within plan.seats.items n x e in inr (same, omega (arith, within, past))
@@ -123,7 +123,7 @@ pub rows-absent : (g : Grammar) (plan : Plan) (quiet : Quiet) (rows : List (List
     → slice_index_or widths w false ≡ false → AreQuietRows g plan quiet rows w 0 → AreQuietRows g plan quiet rows (w + 1) 0
 rows-absent g plan quiet rows w widths marked low off h = record { long = h.long; cheap = h.cheap; least = λ n x from e before few. h.least n x from e (earlier n x e before) few }
   where
-    earlier : (n : ℕ) (x : Seat) → slice_get plan.seats.items n ≡ Some x → IsBefore (w + 1) 0 n x → IsBefore w 0 n x
+    earlier : (n : ℕ) (x : Seat) → slice_get plan.seats.items n ≡ Some x → IsSeatBefore (w + 1) 0 n x → IsSeatBefore w 0 n x
     earlier n x e (inl less) = elim (last_of x.width w less) [
       | inl below ↦ inl below
       | inr same ↦

@@ -1,11 +1,14 @@
 -- Seats, one by one.
-use Rattle.std.proofs.Common.{◌≡◌, ℕ, zero, suc, ◌<◌, ◌≤◌, ◌⊎◌, inl, inr, List, [], ◌∷◌, ◌++◌, length, refl, sym, ap, subst, arith}
+use Rattle.std.proofs.Common.{◌≡◌, ℕ, zero, suc, ◌<◌, ◌≤◌, ◌⊎◌, inl, inr, List, [], ◌∷◌, ◌++◌, length, get_or, map, refl, sym, ap, subst, arith}
 use Rattle.std.specs.Prelude.{Option, Some, slice_get, slice_set}
 use Rattle.std.proofs.lemmas.Bool.{cases_lt}
 use Rattle.std.proofs.lemmas.Option.{slice_get_within}
+use Rattle.std.proofs.lemmas.List.Elements.{All-append, All-cons, All-contains, All-map, All-nil}
 use Rattle.rhythm_base.specs.Grammar.{Grammar}
+use Rattle.rhythm_base.specs.Readable.{IsReadable}
+use Rattle.rhythm_base.specs.declared.grammar.Start.{Start}
 use Rattle.grammar_plan.specs.Drafts.{ArePairs, AreSeatsIn, HasMoreCuts, HasPair, IsDraft, IsLonger, IsSeatIn}
-use Rattle.grammar_plan.specs.Plans.{pair_of}
+use Rattle.grammar_plan.specs.Plans.{HaveSeatsOverBars, IsRoot, pair_of}
 use Rattle.grammar_plan.specs.declared.cut.Cut.{Cut}
 use Rattle.grammar_plan.specs.declared.seat.Seat.{Seat}
 use Rattle.grammar_plan.proofs.Cutting.{cut-longer}
@@ -95,6 +98,41 @@ lawful-next most names root old pairs h some low step = elim step [
     | inr last ↦ subst (λ (p : ℕ × ℕ). (1 ≤ p.0) × (p.0 ≤ most) × (p.1 < names)) (sym last.1) (some, omega arith, low)
   ])
 ]
+
+-- the root of a start is a name
+pub start-low : (g : Grammar) (starts : List Start) (i : ℕ) (none : Start) → IsReadable g → starts ≡ g.starts → i < length g.starts
+    → (get_or starts i none).symbol < length g.names
+start-low g starts i none readable is low = subst (λ xs. (get_or xs i none).symbol < length g.names) (sym is) (readable.starts i none low).symbol
+
+get-put : {X : Type 0} (xs : List X) (i : ℕ) (x : X) → i < length xs → slice_get (slice_set xs i x) i ≡ Some x
+get-put [] i x low = absurd (omega (arith, low))
+get-put (z ∷ xs) zero x low = refl
+get-put (z ∷ xs) (suc i) x low = get-put xs i x (omega (arith, low))
+
+get-kept : (xs : List (Option ℕ)) (i n seat : ℕ) → (m : ℕ) × (slice_get xs n ≡ Some (Some m))
+    → (m : ℕ) × (slice_get (slice_set xs i (Some seat)) n ≡ Some (Some m))
+get-kept [] i n seat h = h
+get-kept (z ∷ xs) zero zero seat h = (seat, refl)
+get-kept (z ∷ xs) zero (suc n) seat h = h
+get-kept (z ∷ xs) (suc i) zero seat h = h
+get-kept (z ∷ xs) (suc i) (suc n) seat h = get-kept xs i n seat h
+
+abbrev HasSeatOverBars : List (Option ℕ) → ℕ → Type 0
+HasSeatOverBars roots symbol = (n : ℕ) × (slice_get roots symbol ≡ Some (Some n))
+
+-- the next start has its seat
+pub starts-next : (seat : ℕ) (seats : List (Option ℕ)) (starts : List Start) (start : Start)
+    → start.symbol < length seats → HaveSeatsOverBars seats starts → HaveSeatsOverBars (slice_set seats start.symbol (Some seat)) (starts ++ start ∷ [])
+starts-next seat seats starts start low h =
+    let P : Start → Type 0 = λ s. HasSeatOverBars (slice_set seats start.symbol (Some seat)) s.symbol in
+    All-append P starts (start ∷ []) (λ i d within. get-kept seats start.symbol (get_or starts i d).symbol seat (h i d within))
+    (All-cons P start [] (seat, get-put seats start.symbol (Some seat) low) (All-nil P))
+
+-- the root of a start has a seat
+pub root-had : (g : Grammar) (roots : List (Option ℕ)) (symbol : ℕ) → HaveSeatsOverBars roots g.starts → IsRoot g symbol → HasSeatOverBars roots symbol
+root-had g roots symbol h is =
+    let root : Start → ℕ = λ start. start.symbol in
+    All-contains (HasSeatOverBars roots) (map root g.starts) symbol (All-map (HasSeatOverBars roots) root g.starts h) is
 
 -- no seat is without its pair
 pub draft-few : (g : Grammar) (pairs : List (ℕ × ℕ)) (parts : List ℕ) (cuts : List Cut) (seats : List Seat) → IsDraft g pairs parts cuts seats → length seats ≤ length pairs

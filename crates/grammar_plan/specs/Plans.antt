@@ -1,8 +1,9 @@
 -- When a plan is that of a grammar.
-use Rattle.std.specs.Prelude.{⊤, ◌≡◌, ℕ, ◌+◌, ◌-◌, ◌<◌, ◌≤◌, All, Bool, true, false, zero, suc, List, [], ◌∷◌, length, take, drop, slice_get, slice_index_or, Option, Some, None}
+use Rattle.std.specs.Prelude.{⊤, ◌≡◌, ℕ, ◌+◌, ◌-◌, ◌<◌, ◌≤◌, All, Bool, Contains, true, false, zero, suc, List, [], ◌∷◌, length, map, take, drop, slice_get, slice_index_or, Option, Some, None}
 use Rattle.rhythm_base.specs.Bodies.{children}
 use Rattle.rhythm_base.specs.Grammar.{Grammar}
 use Rattle.rhythm_base.specs.Ranked.{Key}
+use Rattle.rhythm_base.specs.declared.grammar.Start.{Start}
 use Rattle.rhythm_base.specs.declared.rule.Rule.{Rule}
 use Rattle.row_laws.specs.LeafRules.{HasNoLeafRule, IsFirstLeafRule}
 use Rattle.row_laws.specs.QuietTrees.{IsQuietLeast, IsQuietList}
@@ -80,9 +81,19 @@ IsQuietTree g plan quiet q from (Some t) =
 abbrev pub HasQuietTree : Grammar → Plan → ℕ → Quiet → ℕ → Option QuietTree → Type 0
 HasQuietTree g plan n quiet from t = (s : Seat) → slice_get plan.seats.items n ≡ Some s → IsQuietTree g plan quiet (pair_of s) from t
 
-abbrev pub rows_of : Plan → Quiet → List (List (Option QuietTree))
-rows_of plan Sounding = plan.sounding.items
-rows_of plan Silent = plan.silent.items
+abbrev pub quiet_rows_of : Plan → Quiet → List (List (Option QuietTree))
+quiet_rows_of plan Sounding = plan.sounding.items
+quiet_rows_of plan Silent = plan.silent.items
+
+-- ---- roots
+
+-- the symbol is the root of a start of the grammar
+abbrev pub IsRoot : Grammar → ℕ → Type 0
+IsRoot g symbol = Contains (map (λ start. start.symbol) g.starts) symbol
+
+-- the root of each of the starts has a seat
+abbrev pub HaveSeatsOverBars : List (Option ℕ) → List Start → Type 0
+HaveSeatsOverBars roots starts = All (λ start. (n : ℕ) × (slice_get roots start.symbol ≡ Some (Some n))) starts
 
 -- ---- the plan
 
@@ -97,8 +108,9 @@ place_of_leaf (suc (suc n)) sounds = n + 4
 pub record IsPlan (g : Grammar) (plan : Plan) : Type 0 where
   pub seats : All (IsSeat g plan) plan.seats.items
   pub roots : (symbol n : ℕ) → slice_get plan.roots.items symbol ≡ Some (Some n) → HasSeat plan n (g.resolution, symbol)
+  pub starts : HaveSeatsOverBars plan.roots.items g.starts
   pub leaves : (symbol n : ℕ) (sounds : Bool) → symbol < length plan.leaves.items → n ≤ 4
       → HasLeafRule g symbol n sounds (slice_index_or (slice_index_or plan.leaves.items symbol []) (place_of_leaf n sounds) None)
-  pub rows_long : (quiet : Quiet) → length (rows_of plan quiet) ≡ length plan.seats.items
+  pub rows_long : (quiet : Quiet) → length (quiet_rows_of plan quiet) ≡ length plan.seats.items
   pub quiet : (n from : ℕ) (quiet : Quiet) → n < length plan.seats.items → from < 5
-      → HasQuietTree g plan n quiet from (slice_index_or (slice_index_or (rows_of plan quiet) n []) from None)
+      → HasQuietTree g plan n quiet from (slice_index_or (slice_index_or (quiet_rows_of plan quiet) n []) from None)

@@ -48,17 +48,17 @@ nearer_tree (Some x) (Some y) = if is_nearer (y.cost, y.rule) (x.cost, x.rule) t
 
 -- ---- rows
 
-abbrev pub AreCheap : List (List (Option QuietTree)) → Type 0
-AreCheap rows = (n from : ℕ) (t : QuietTree) → entry rows n from ≡ Some t → t.cost ≤ 3000000000
+abbrev pub AreCheapRows : List (List (Option QuietTree)) → Type 0
+AreCheapRows rows = (n from : ℕ) (t : QuietTree) → entry rows n from ≡ Some t → t.cost ≤ 3000000000
 
 -- narrower than w, or as wide and before the number m
-abbrev pub IsBefore : ℕ → ℕ → ℕ → Seat → Type 0
-IsBefore w m n s = (s.width < w) ⊎ ((s.width ≡ w) × (n < m))
+abbrev pub IsSeatBefore : ℕ → ℕ → ℕ → Seat → Type 0
+IsSeatBefore w m n s = (s.width < w) ⊎ ((s.width ≡ w) × (n < m))
 
 pub record AreQuietRows (g : Grammar) (plan : Plan) (quiet : Quiet) (rows : List (List (Option QuietTree))) (w m : ℕ) : Type 0 where
   pub long : length rows ≡ length plan.seats.items
-  pub cheap : AreCheap rows
-  pub least : (n : ℕ) (s : Seat) (from : ℕ) → slice_get plan.seats.items n ≡ Some s → IsBefore w m n s → from < 5 → IsQuietTree g plan quiet (pair_of s) from (entry rows n from)
+  pub cheap : AreCheapRows rows
+  pub least : (n : ℕ) (s : Seat) (from : ℕ) → slice_get plan.seats.items n ≡ Some s → IsSeatBefore w m n s → from < 5 → IsQuietTree g plan quiet (pair_of s) from (entry rows n from)
 
 -- the widths of the seats before n are marked
 abbrev pub AreMarked : List Seat → ℕ → List Bool → Type 0

@@ -13,12 +13,12 @@ use rhythm_base::Grammar;
 use std::alloc::{AllocError, Global};
 
 /// The plan of a grammar, without the quiet trees.
-pub fn frame(alloc: Global, grammar: &Grammar, roots: &[u8]) -> Result<Plan, AllocError>
+pub fn frame(alloc: Global, grammar: &Grammar) -> Result<Plan, AllocError>
     requires readable { IsReadable grammar.now }
     ensures { IfOk result (IsFrame grammar.now) }
 {
     let mut pairs = Pairs::new(alloc, grammar.resolution)?;
-    let roots = root_seats(alloc, &mut pairs, grammar, roots)?;
+    let roots = root_seats(alloc, &mut pairs, grammar)?;
     let mut draft = Draft {
         pairs,
         cuts: Vec::new(alloc),

@@ -1,6 +1,6 @@
-ghost use Rattle.grammar_plan.specs.Plans.{HasLeafRule, HasQuietTree, HasSeat, IsPlan};
+ghost use Rattle.grammar_plan.specs.Plans.{HasLeafRule, HasQuietTree, HasSeat, IsPlan, IsRoot};
 ghost use Rattle.rhythm_base.specs.Readable.{IsReadable};
-ghost use Rattle.std.specs.Prelude.{◌≡◌, ◌<◌, ◌≤◌, IfOk, IfSome, length};
+ghost use Rattle.std.specs.Prelude.{◌≡◌, ◌<◌, ◌≤◌, IfOk, IfSome, IsSome, length};
 
 use crate::cut::Cut;
 use crate::frame::frame;
@@ -16,7 +16,7 @@ use std::alloc::{AllocError, Global};
 /// What is known of a grammar's trees before any bar is.
 #[derive(Drop)]
 pub struct Plan {
-    /// By symbol: its seat over the whole bar, where it is one of the roots.
+    /// By symbol: its seat over the whole bar, where it is the root of a start.
     pub roots: Vec<Option<u32>>,
     pub seats: Vec<Seat>,
     pub cuts: Vec<Cut>,
@@ -33,12 +33,12 @@ pub struct Plan {
 }
 
 impl Plan {
-    /// The plan of a grammar, for bars of these root symbols.
-    pub fn of(alloc: Global, grammar: &Grammar, roots: &[u8]) -> Result<Plan, AllocError>
+    /// The plan of a grammar, for bars of the roots of all its starts.
+    pub fn of(alloc: Global, grammar: &Grammar) -> Result<Plan, AllocError>
         requires readable { IsReadable grammar.now }
         ensures { IfOk result (IsPlan grammar.now) }
     {
-        let mut plan = frame(alloc, grammar, roots)?;
+        let mut plan = frame(alloc, grammar)?;
         let sounding = quiet_trees(alloc, grammar, &plan, Quiet::Sounding)?;
         let silent = quiet_trees(alloc, grammar, &plan, Quiet::Silent)?;
         plan.sounding = sounding;
@@ -46,10 +46,11 @@ impl Plan {
         Ok(plan)
     }
 
-    /// The seat of a root symbol over the whole bar, where it is one of the plan's roots.
+    /// The seat of a symbol over the whole bar. The plan is made for the roots of the starts; another symbol may have none.
     pub fn root(&self, grammar: &Grammar, symbol: u8) -> Option<u32>
         requires plan { IsPlan grammar.now self.now }
-        ensures { IfSome result (λ n. HasSeat self.now n (grammar.now.resolution, symbol)) }
+        ensures seat { IfSome result (λ n. HasSeat self.now n (grammar.now.resolution, symbol)) }
+        ensures root { IsRoot grammar.now symbol → IsSome result }
     {
         if (symbol as usize) < self.roots.len() {
             self.roots[symbol as usize]

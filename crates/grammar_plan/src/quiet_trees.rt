@@ -1,6 +1,6 @@
 ghost use Rattle.grammar_plan.specs.Frames.{IsFrame};
 ghost use Rattle.grammar_plan.specs.Plans.{HasQuietTree, IsQuietTree, IsSeat, between, pair_of};
-ghost use Rattle.grammar_plan.specs.QuietRows.{AreCheap, AreMarked, AreQuietRows, added, cut_tree, entry, leaf_tree, nearer_tree, others_cost, parts_cost};
+ghost use Rattle.grammar_plan.specs.QuietRows.{AreCheapRows, AreMarked, AreQuietRows, added, cut_tree, entry, leaf_tree, nearer_tree, others_cost, parts_cost};
 ghost use Rattle.grammar_plan.specs.Plans as plans;
 ghost use Rattle.rhythm_base.specs.Ranked.{five};
 ghost use Rattle.rhythm_base.specs.Readable.{IsReadable};
@@ -151,7 +151,7 @@ fn leaf_tree(rule: Option<LeafRule>) -> Option<QuietTree>
 fn cut_row(row: &Row, cut: Cut, number: u32, parts: &[u32], rows: &[Row]) -> Row
     requires parts { All (λ n. n < length rows.now) parts.now }
     requires few { length parts.now < 2 ^ 32 }
-    requires cheap { AreCheap rows.now }
+    requires cheap { AreCheapRows rows.now }
     ensures { result ≡ five (λ from. nearer_tree (slice_index_or row.now from None) (cut_tree cut number (parts_cost rows.now from parts.now))) }
 {
     match parts {
@@ -174,7 +174,7 @@ fn cut_row(row: &Row, cut: Cut, number: u32, parts: &[u32], rows: &[Row]) -> Row
 fn others_cost(parts: &[u32], rows: &[Row]) -> Option<u64>
     requires parts { All (λ n. n < length rows.now) parts.now }
     requires few { length parts.now < 2 ^ 32 }
-    requires cheap { AreCheap rows.now }
+    requires cheap { AreCheapRows rows.now }
     ensures cost { result ≡ others_cost rows.now parts.now }
     ensures low { IfSome result (λ cost. cost ≤ 3000000000 * 4294967296) }
 {

@@ -1,4 +1,5 @@
 ghost use Rattle.grammar_plan.specs.Drafts.{ArePairs, HasPair, IsDraft, IsLonger};
+ghost use Rattle.grammar_plan.specs.Plans.{HaveSeatsOverBars};
 ghost use Rattle.grammar_plan.specs.Spans.{AreRuleSpans};
 ghost use Rattle.rhythm_base.specs.Readable.{IsReadable};
 ghost use Rattle.std.specs.Prelude.{◌≡◌, ◌<◌, ◌+◌, [], ℕ, IfOk, length, slice_get, Some};
@@ -11,24 +12,22 @@ use crate::spans::Spans;
 use rhythm_base::Grammar;
 use std::alloc::{AllocError, Global};
 
-/// By symbol: its seat over the whole bar, where it is one of these roots. Roots that are no names have none.
+/// By symbol: its seat over the whole bar, where it is the root of a start of the grammar.
 pub fn root_seats(
     alloc: Global,
     pairs: &mut Pairs,
     grammar: &Grammar,
-    roots: &[u8],
 ) -> Result<Vec<Option<u32>>, AllocError>
     requires readable { IsReadable grammar.now }
     requires lawful { ArePairs grammar.now.resolution (length grammar.now.names) pairs.old.found.items }
     ensures lawful { IfOk result (λ seats. ArePairs grammar.now.resolution (length grammar.now.names) pairs.new.found.items) }
     ensures roots { IfOk result (λ seats. (symbol n : ℕ) → slice_get seats.items symbol ≡ Some (Some n) → HasPair pairs.new.found.items n (grammar.now.resolution, symbol)) }
+    ensures starts { IfOk result (λ seats. HaveSeatsOverBars seats.items grammar.now.starts) }
 {
     let mut seats = vec![in alloc; None; grammar.names.len()]?;
-    'roots: for root in roots {
-        if (*root as usize) < seats.len() {
-            let seat = pairs.seat(grammar.resolution, *root)?;
-            seats[*root as usize] = Some(seat);
-        }
+    'starts: for start in &grammar.starts {
+        let seat = pairs.seat(grammar.resolution, start.symbol)?;
+        seats[start.symbol as usize] = Some(seat);
     }
     Ok(seats)
 }

@@ -10,7 +10,7 @@ use Rattle.std.proofs.lemmas.Nat.{pow_pos}
 use Rattle.rhythm_base.specs.declared.sound.Sound.{Sound}
 use Rattle.rhythm_base.specs.declared.sound.SoundKind.{SoundKind}
 use Rattle.rhythm_base.specs.declared.sound.SoundKind.TheVariants.{Begin}
-use Rattle.rhythm_base.specs.Spans.{is_rest, is_tie}
+use Rattle.rhythm_base.specs.SoundKinds.{is_rest, is_tie}
 use Rattle.derivation.specs.WellSounded.{IsWellSounding}
 use Rattle.durations.specs.declared.value.Recip.{Recip}
 use Rattle.durations.specs.declared.value.Recip.TheVariants.{Of, Breve, Long}

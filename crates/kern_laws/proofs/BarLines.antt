@@ -22,7 +22,7 @@ use Rattle.kern_reader.specs.Lines.{IsWellLine, line_of}
 use Rattle.kern_reader.specs.Score.{IsColumnOn}
 use Rattle.kern_reader.proofs.ColumnLemmas.{columns_on}
 use Rattle.kern_reader.proofs.SpineLemmas.{spine_next, spine_scaled}
-use Rattle.kern_laws.specs.ScoreLines.{AreBarLines, AreBarsLines, AreSaidPlaces, Barline, Ending, KernLine, Other, Said, Signature, change_lines, lines_at, said_in_bar}
+use Rattle.kern_laws.specs.ScoreLines.{AreBarLines, AreBarsLines, AreSaidPlaces, Barline, ending_line, KernLine, Other, Said, Signature, change_lines, lines_at, said_in_bar}
 use Rattle.kern_laws.proofs.GridParts.{beat_part}
 use Rattle.kern_laws.proofs.LineTests.{IsBody, IsInside, body_turn, finest, said_right}
 use Rattle.kern_laws.proofs.LineWalk.{IsGood, Walk, walk_append}
@@ -77,11 +77,11 @@ small_grid grid most some few h = le-ltb 61440 grid (omega (arith, le_of_dvd {m 
 
 -- ---- changes before a bar
 
-other_ending : Other ≡ Ending → ⊥
+other_ending : Other ≡ ending_line → ⊥
 unfolding line_of
 other_ending e = cc
 
-signature_ending : (signature : TimeSignature) → Signature signature ≡ Ending → ⊥
+signature_ending : (signature : TimeSignature) → Signature signature ≡ ending_line → ⊥
 unfolding line_of
 signature_ending signature e = cc
 
@@ -190,7 +190,7 @@ no_waiting r n g bars (p ∷ parts) [] each = absurd each
 no_waiting r n g bars (p ∷ parts) (c ∷ columns) (own, rest) =
     ap₂ ◌||◌ (ap (nat_lt 0) own.waits) (no_waiting r n g bars parts columns rest)
 
-barline_ending : Barline ≡ Ending → ⊥
+barline_ending : Barline ≡ ending_line → ⊥
 unfolding line_of
 barline_ending e = cc
 

@@ -7,7 +7,7 @@ use Rattle.std.proofs.lemmas.Bool.Decides.{nat_tests}
 use Rattle.std.proofs.lemmas.List.Elements.{All-head, All-tail}
 use Rattle.std.proofs.lemmas.List.Sums.{sum-map, sum_by-cons}
 use Rattle.rhythm_base.specs.declared.sound.Sound.{Sound}
-use Rattle.rhythm_base.specs.Spans.{is_tie}
+use Rattle.rhythm_base.specs.SoundKinds.{is_tie}
 use Rattle.durations.specs.declared.joined.Timed.{Timed}
 use Rattle.durations.specs.declared.joined.Written.{Written}
 use Rattle.durations.specs.declared.value.Value.{Value}

@@ -15,7 +15,7 @@ use Rattle.kern_reader.specs.Columns.{announced, columns_of, current_bar, grid_o
 use Rattle.kern_reader.specs.Faults.{has_no_grid, has_wrong_grace, has_wrong_tie, is_head_stage, is_misplaced, is_unfilled, is_unread, is_wrong_bar}
 use Rattle.kern_reader.specs.Lines.{IsWellLine, all_are, is_heading, line_of}
 use Rattle.kern_reader.specs.Text.{columns}
-use Rattle.kern_laws.specs.ScoreLines.{AreBarsLines, Body, Ending, HasTurn, Head, Heading, KernLine, Last, LastBarline, Over, Said}
+use Rattle.kern_laws.specs.ScoreLines.{AreBarsLines, Body, ending_line, HasTurn, Head, Heading, KernLine, Last, LastBarline, Over, Said}
 use Rattle.kern_laws.proofs.BarLines.{FitsBars, IsBetween, IsRested, bars_walk, small_grid, spelled_bars, no_waiting}
 use Rattle.kern_laws.proofs.LineLists.{Every}
 use Rattle.kern_laws.proofs.LineTests.{body_turn, said_right}
@@ -150,11 +150,11 @@ no_open r n g [] (c ∷ columns) each = absurd (none (ap length each))
 no_open r n g (p ∷ parts) [] each = absurd each
 no_open r n g (p ∷ parts) (c ∷ columns) (own, rest) = ap₂ ◌||◌ (ap is_some own.later.0) (no_open r n g parts columns rest)
 
-last_ending : LastBarline ≡ Ending → ⊥
+last_ending : LastBarline ≡ ending_line → ⊥
 unfolding line_of
 last_ending e = cc
 
-last_turn : HasTurn Last Ending
+last_turn : HasTurn Last ending_line
 unfolding line_of
 last_turn = record { head = λ e. absurd (no_head e); body = λ e. absurd (no_body e); last = λ e. refl; over = λ e. no_over e }
   where
@@ -177,25 +177,25 @@ module _ (width r : ℕ) (some : 1 ≤ 64 * r) (few : 64 * r ≤ 61440) (next : 
         (no_waiting r n (grid_of before) [] parts (columns_of before) is.each) is.full (no_open r n (grid_of before) parts (columns_of before) is.each);
   }
 
-  end_good : IsGood width (LastBarline ∷ before) Ending
+  end_good : IsGood width (LastBarline ∷ before) ending_line
   unfolding line_of is_unread has_no_grid is_wrong_bar is_misplaced has_wrong_grace has_wrong_tie
   end_good = record {
     turn = last_turn;
     wide = λ h. is.body.wide;
-    faultless = said_right (LastBarline ∷ before) Ending refl (small_grid (grid_of before) (64 * r) some few is.body.divides) refl refl refl refl;
+    faultless = said_right (LastBarline ∷ before) ending_line refl (small_grid (grid_of before) (64 * r) some few is.body.divides) refl refl refl refl;
   }
 
-  end_columns : columns_of (Ending ∷ LastBarline ∷ before) ≡ columns_of before
+  end_columns : columns_of (ending_line ∷ LastBarline ∷ before) ≡ columns_of before
   unfolding line_of
   end_columns = refl
 
-  end_grid : grid_of (Ending ∷ LastBarline ∷ before) ≡ grid_of before
+  end_grid : grid_of (ending_line ∷ LastBarline ∷ before) ≡ grid_of before
   unfolding line_of
   end_grid = refl
 
-  end_well : All IsWellLine (Ending ∷ LastBarline ∷ before)
+  end_well : All IsWellLine (ending_line ∷ LastBarline ∷ before)
   unfolding line_of
-  end_well = All-cons IsWellLine Ending (LastBarline ∷ before) tt (All-cons IsWellLine LastBarline before tt is.body.well)
+  end_well = All-cons IsWellLine ending_line (LastBarline ∷ before) tt (All-cons IsWellLine LastBarline before tt is.body.well)
 
 -- ---- the score
 
@@ -216,7 +216,7 @@ spelt_each r end bars (voice ∷ voices) [] each = absurd each
 spelt_each r end bars (voice ∷ voices) (c ∷ columns) (own, rest) = (own.later.1, spelt_each r end bars voices columns rest)
 
 pub score_walk : (r : ℕ) (bars : List ScoreBar) (voices : List (List (List Said))) (lines bar_lines : List KernLine) → 1 ≤ 64 * r → 64 * r ≤ 61440 → 1 ≤ length voices → All IsScoreBar bars
-    → Every (FitsBars r 0 bars None) voices → AreBarsLines voices None 0 bars bar_lines → lines ≡ Heading (length voices) ∷ (bar_lines ++ LastBarline ∷ Ending ∷ [])
+    → Every (FitsBars r 0 bars None) voices → AreBarsLines voices None 0 bars bar_lines → lines ≡ Heading (length voices) ∷ (bar_lines ++ LastBarline ∷ ending_line ∷ [])
     → (after : List KernLine) × IsDone r bars voices lines after
 score_walk r bars voices lines bar_lines some few voiced well all are same =
     let width = length voices in
@@ -224,10 +224,10 @@ score_walk r bars voices lines bar_lines some few voiced well all are same =
     let head = Heading width ∷ [] in
     let bars_are : AreBarsLines (map (λ p. p.voice) parts) None 0 bars bar_lines = subst (λ vs. AreBarsLines vs None 0 bars bar_lines) (sym (voices_of bars voices)) are in
     let (mid, end, next, walk, state) = bars_walk width r some few 0 None bars parts head bar_lines well bars_are (begins r some few bars voices voiced all) in
-    let after = Ending ∷ LastBarline ∷ mid in
-    let last : Walk width mid (LastBarline ∷ Ending ∷ []) after = (last_good width r some few next end parts mid state, (end_good width r some few next end parts mid state, refl)) in
-    let whole : Walk width [] (Heading width ∷ (bar_lines ++ LastBarline ∷ Ending ∷ [])) after =
-    (head_good r some few bars voices voiced, walk_append width head bar_lines mid (LastBarline ∷ Ending ∷ []) after walk last) in (
+    let after = ending_line ∷ LastBarline ∷ mid in
+    let last : Walk width mid (LastBarline ∷ ending_line ∷ []) after = (last_good width r some few next end parts mid state, (end_good width r some few next end parts mid state, refl)) in
+    let whole : Walk width [] (Heading width ∷ (bar_lines ++ LastBarline ∷ ending_line ∷ [])) after =
+    (head_good r some few bars voices voiced, walk_append width head bar_lines mid (LastBarline ∷ ending_line ∷ []) after walk last) in (
       after,
       record {
         walk = subst (λ ls. Walk width [] ls after) (sym same) whole;

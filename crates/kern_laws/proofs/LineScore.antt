@@ -10,7 +10,7 @@ use Rattle.derivation.specs.WellSounded.{AreWellSounded}
 use Rattle.derivation.specs.declared.score.ScoreBar.{ScoreBar}
 use Rattle.derivation.specs.Score.{IsScore, IsScoreBar, Score}
 use Rattle.kern_writer.specs.Values.{AreVoiceValues, VoiceValue}
-use Rattle.kern_laws.specs.ScoreLines.{AreScoreLines, Ending, Heading, KernLine, LastBarline, StandFrom, voice_said}
+use Rattle.kern_laws.specs.ScoreLines.{AreScoreLines, ending_line, Heading, KernLine, LastBarline, StandFrom, voice_said}
 use Rattle.kern_laws.proofs.BarFits.{voice_fits}
 use Rattle.kern_laws.proofs.BarLines.{FitsBars}
 use Rattle.kern_laws.proofs.BarVoice.{AreVoice, are_voice}
@@ -49,7 +49,7 @@ score_done s lines is are =
     let few = few_parts s.resolution is.few_units in
     let some : 1 ≤ 64 * s.resolution = let h = is.some_unit in omega (arith, h) in
     let voiced : 1 ≤ length (map voice_said are.values) = let h = is.some_voice in omega (arith, width, h) in
-    let same = are.are ∙ ap (λ n. Heading n ∷ (are.bars ++ LastBarline ∷ Ending ∷ [])) (sym width) in
+    let same = are.are ∙ ap (λ n. Heading n ∷ (are.bars ++ LastBarline ∷ ending_line ∷ [])) (sym width) in
     score_walk s.resolution s.bars (map voice_said are.values) lines are.bars some few voiced is.bars
     (all_fit s.resolution s.bars s.voices are.values is.some_unit is.few_units is.bars is.voices are.are_values) are.are_bars same
 

@@ -19,7 +19,7 @@ use Rattle.kern_reader.specs.Score.{Counts, IsColumnOn}
 use Rattle.kern_reader.specs.Tokens.{IsWellToken}
 use Rattle.kern_reader.proofs.ColumnLemmas.{columns_on}
 use Rattle.kern_reader.proofs.SpineLemmas.{spine_scaled}
-use Rattle.kern_laws.specs.ScoreLines.{Body, Data, Ending, HasTurn, Head, KernLine, Last, Over, Stage}
+use Rattle.kern_laws.specs.ScoreLines.{Body, Data, ending_line, HasTurn, Head, KernLine, Last, Over, Stage}
 use Rattle.kern_laws.proofs.GridParts.{grid_divides, finer_times}
 use Rattle.kern_laws.proofs.LineLists.{Every, HasOne, each_lengths, least_from}
 use Rattle.kern_laws.proofs.LineWalk.{IsGood}
@@ -183,7 +183,7 @@ body_over : Body ≡ Over → ⊥
 unfolding line_of
 body_over e = cc
 
-pub body_turn : (at : Stage) (line : KernLine) → at ≡ Body → (line ≡ Ending → ⊥) → HasTurn at line
+pub body_turn : (at : Stage) (line : KernLine) → at ≡ Body → (line ≡ ending_line → ⊥) → HasTurn at line
 body_turn at line e other = record {
   head = λ h. absurd (body_head (sym e ∙ h));
   body = λ h. other;
@@ -191,7 +191,7 @@ body_turn at line e other = record {
   over = λ h. body_over (sym e ∙ h);
 }
 
-pub data_other : (ts : List Token) → Data ts ≡ Ending → ⊥
+pub data_other : (ts : List Token) → Data ts ≡ ending_line → ⊥
 unfolding line_of
 data_other ts e = cc
 

@@ -5,7 +5,7 @@ use Rattle.rhythm_base.specs.Lists.{Each}
 use Rattle.derivation.proofs.Fractions.{frac_one}
 use Rattle.kern_reader.specs.declared.event.KernEvent.{KernEvent}
 use Rattle.kern_reader.specs.declared.token.Token.{Token}
-use Rattle.kern_reader.specs.Events.{AreEventsFrom, Beginning, IsKernSpan, beginnings, event}
+use Rattle.kern_reader.specs.Events.{AreEventsFrom, Beginning, IsKernSpan, beginnings, span_event}
 use Rattle.kern_laws.specs.Laws.{EventsAreOne}
 
 span_one : (grid : ℕ) (b : Beginning) (x y : Span) → 1 ≤ grid → IsKernSpan grid b x → IsKernSpan grid b y → x ≡ y
@@ -29,7 +29,7 @@ each_one grid (b ∷ bs) (x ∷ xs) (y ∷ ys) some h k = ap₂ ◌∷◌ (span_
 from_one : (grid spine : ℕ) (columns : List (List Token)) (a b : List KernEvent) → 1 ≤ grid → AreEventsFrom grid spine columns a → AreEventsFrom grid spine columns b → a ≡ b
 from_one grid spine [] a b some h k = h ∙ sym k
 from_one grid spine (column ∷ columns) a b some (xs, more, are, rest, is) (ys, other, same, others, equal) =
-    is ∙ ap₂ (λ spans events. map (event spine) spans ++ events) (each_one grid (beginnings [] column) xs ys some are same) (from_one grid (suc spine) columns more other some rest others)
+    is ∙ ap₂ (λ spans events. map (span_event spine) spans ++ events) (each_one grid (beginnings [] column) xs ys some are same) (from_one grid (suc spine) columns more other some rest others)
     ∙ sym equal
 
 pub one_list : EventsAreOne

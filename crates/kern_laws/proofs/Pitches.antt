@@ -3,8 +3,8 @@ use Rattle.std.proofs.Common.{◌≡◌, ℕ, zero, suc, ◌<◌, ◌==◌, ◌&
 use Rattle.std.specs.Prelude.{Option}
 use Rattle.std.proofs.lemmas.Bool.{and_parts}
 use Rattle.std.proofs.lemmas.Bool.Decides.{nat_tests}
-use Rattle.rhythm_base.specs.Pitch.{pitch}
-use Rattle.kern_reader.specs.Tokens.{key_of, white_key}
+use Rattle.durations.specs.Pitch.{pitch}
+use Rattle.kern_reader.specs.Tokens.{pitch_key, white_key}
 use Rattle.kern_laws.specs.Laws.{PitchesReadBack}
 
 is_key : ℕ → Option ℕ → Bool
@@ -12,7 +12,7 @@ is_key k None = false
 is_key k (Some n) = n == k
 
 abbrev is_read : Bool → ℕ → Bool
-is_read flats k = is_key k (key_of (pitch flats k))
+is_read flats k = is_key k (pitch_key (pitch flats k))
 
 -- the first n keys are
 abbrev all_read : Bool → ℕ → Bool
@@ -28,11 +28,11 @@ one_of flats (suc n) k all within = at (k == n) refl (and_parts (is_read flats n
     at false e parts rest = let less : k < n = grind (arith, nat_tests) in rest parts.1 less
 
 with_sharps : all_read false 128 ≡ true
-unfolding key_of white_key is_key
+unfolding pitch_key white_key is_key
 with_sharps = refl
 
 with_flats : all_read true 128 ≡ true
-unfolding key_of white_key is_key
+unfolding pitch_key white_key is_key
 with_flats = refl
 
 read_key : (k : ℕ) (o : Option ℕ) → is_key k o ≡ true → o ≡ Some k
@@ -41,5 +41,5 @@ read_key k None e = cc
 read_key k (Some n) e = let same : n ≡ k = grind (arith, nat_tests) in ap Some same
 
 pub pitches : PitchesReadBack
-pitches true k within = read_key k (key_of (pitch true k)) (one_of true 128 k with_flats within)
-pitches false k within = read_key k (key_of (pitch false k)) (one_of false 128 k with_sharps within)
+pitches true k within = read_key k (pitch_key (pitch true k)) (one_of true 128 k with_flats within)
+pitches false k within = read_key k (pitch_key (pitch false k)) (one_of false 128 k with_sharps within)

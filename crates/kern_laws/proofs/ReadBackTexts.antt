@@ -14,7 +14,7 @@ use Rattle.kern_reader.specs.Lines.{is_ending, is_heading, line_of}
 use Rattle.kern_reader.specs.Outcome.{at_end, read_from, read_text}
 use Rattle.kern_reader.specs.Text.{columns, kern_lines}
 use Rattle.kern_reader.proofs.TextLemmas.{read_next}
-use Rattle.kern_laws.specs.ScoreLines.{AreScoreLines, Body, Ending, Head, Heading, KernLine, Last, LastBarline, Stage, StandFrom}
+use Rattle.kern_laws.specs.ScoreLines.{AreScoreLines, Body, ending_line, Head, Heading, KernLine, Last, LastBarline, Stage, StandFrom}
 use Rattle.kern_laws.proofs.RecordsLines.{SaysInside, SaysLine, row_text}
 use Rattle.kern_laws.proofs.RecordsSay.{SayScore, records_apart, score_rows}
 use Rattle.kern_laws.proofs.TextSplits.{lines_of_records}
@@ -84,14 +84,14 @@ lines_turned before (line ∷ lines) =
     lines_turned (line ∷ before) lines ∙ sym (append_assoc (reverse lines) (line ∷ []) before) ∙ ap (λ ls. ls ++ before)
     (sym (reverse-append (line ∷ []) lines))
 
-over : (number : ℕ) (lines : List KernLine) → at_end (stage_after Ending) number lines ≡ Ok lines
+over : (number : ℕ) (lines : List KernLine) → at_end (stage_after ending_line) number lines ≡ Ok lines
 unfolding line_of
 over number lines = refl
 
 -- after the head: the bars, the last barline, and the end
 rest_read : (m : ℕ) (rows : List Record) (lines before : List KernLine) (number : ℕ) → Each (SaysInside (suc m)) rows lines → stage_of before ≡ Body
-    → StandFrom (suc m) before (lines ++ LastBarline ∷ Ending ∷ [])
-    → read_from before number (map row_text (rows ++ tail (suc m))) ≡ Ok (lines_on before (lines ++ LastBarline ∷ Ending ∷ []))
+    → StandFrom (suc m) before (lines ++ LastBarline ∷ ending_line ∷ [])
+    → read_from before number (map row_text (rows ++ tail (suc m))) ≡ Ok (lines_on before (lines ++ LastBarline ∷ ending_line ∷ []))
 rest_read m [] [] before number each at stand =
     let last_row = alike (suc m) (codes "==") in
     let end_row = alike (suc m) (codes "*-") in
@@ -102,8 +102,8 @@ rest_read m [] [] before number each at stand =
     (body_passes (length (columns_of before)) (suc m) (row_text last_row) (last_ending m) last.wide (stand.1 (ap is_head_stage at))) in
     let second = last_passes (length (columns_of (LastBarline ∷ before))) (suc m) (row_text end_row) (end_ending m) end.wide (stand.3.1 refl) in
     step (suc m) before number last_row LastBarline (row_text end_row ∷ []) last first stand.2
-    ∙ step (suc m) (LastBarline ∷ before) (number + 1) end_row Ending [] end second stand.3.2
-    ∙ over (number + 1 + 1) (Ending ∷ LastBarline ∷ before)
+    ∙ step (suc m) (LastBarline ∷ before) (number + 1) end_row ending_line [] end second stand.3.2
+    ∙ over (number + 1 + 1) (ending_line ∷ LastBarline ∷ before)
 rest_read m [] (line ∷ lines) before number each at stand = cc
 rest_read m (row ∷ rows) [] before number each at stand = absurd each
 rest_read m (row ∷ rows) (line ∷ lines) before number each at stand =
@@ -118,10 +118,10 @@ unfolding line_of
 head_body text heading = rw heading refl
 
 lines_read : (m : ℕ) (rows : List Record) (lines : List KernLine) → suc m ≤ 16 → Each (SaysInside (suc m)) rows lines
-    → StandFrom (suc m) [] (Heading (suc m) ∷ (lines ++ LastBarline ∷ Ending ∷ []))
-    → read_from [] 1 (map row_text (head (suc m) ∷ (rows ++ tail (suc m)))) ≡ Ok (reverse (Heading (suc m) ∷ (lines ++ LastBarline ∷ Ending ∷ [])))
+    → StandFrom (suc m) [] (Heading (suc m) ∷ (lines ++ LastBarline ∷ ending_line ∷ []))
+    → read_from [] 1 (map row_text (head (suc m) ∷ (rows ++ tail (suc m)))) ≡ Ok (reverse (Heading (suc m) ∷ (lines ++ LastBarline ∷ ending_line ∷ [])))
 lines_read m rows lines few each stand =
-    let all = Heading (suc m) ∷ (lines ++ LastBarline ∷ Ending ∷ []) in
+    let all = Heading (suc m) ∷ (lines ++ LastBarline ∷ ending_line ∷ []) in
     let says = head_says m in
     let body : stage_after (Heading (suc m)) ≡ Body = head_body (row_text (head (suc m))) (head_heading m) in
     step (suc m) [] 1 (head (suc m)) (Heading (suc m)) (map row_text (rows ++ tail (suc m))) says
@@ -132,7 +132,7 @@ lines_read m rows lines few each stand =
 
 -- the lines of a score, by those of its bars
 abbrev with_ends : ℕ → List KernLine → List KernLine
-with_ends n bars = Heading n ∷ (bars ++ LastBarline ∷ Ending ∷ [])
+with_ends n bars = Heading n ∷ (bars ++ LastBarline ∷ ending_line ∷ [])
 
 score_read : (m : ℕ) (s : Score) (records : List Record) (text : List ℕ) → text ≡ records_text records → SayScore m s records
     → (lines : List KernLine) × AreScoreLines s lines × (StandFrom (length s.voices) [] lines → read_text text ≡ Ok (reverse lines))

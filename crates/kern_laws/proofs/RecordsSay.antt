@@ -10,7 +10,7 @@ use Rattle.derivation.specs.Score.{IsScore, Score}
 use Rattle.kern_writer.specs.Tokens.{voice_tokens}
 use Rattle.kern_writer.specs.Values.{AreVoiceValues}
 use Rattle.derivation.proofs.Pairs.{each_length}
-use Rattle.kern_laws.specs.ScoreLines.{AreScoreLines, Ending, Heading, KernLine, LastBarline, voice_said}
+use Rattle.kern_laws.specs.ScoreLines.{AreScoreLines, ending_line, Heading, KernLine, LastBarline, voice_said}
 use Rattle.kern_laws.proofs.RecordsBars.{bars_say}
 use Rattle.kern_laws.proofs.RecordsLines.{SaysInside, SaysLine}
 use Rattle.kern_laws.proofs.RecordsPairs.{each_append}
@@ -25,7 +25,7 @@ pub record SayScore (m : ℕ) (s : Score) (records : List Record) : Type 0 where
   pub rows : List Record
   pub are_rows : records ≡ head (suc m) ∷ (rows ++ tail (suc m))
   pub bars : List KernLine
-  pub are_bars : AreScoreLines s (Heading (length s.voices) ∷ (bars ++ LastBarline ∷ Ending ∷ []))
+  pub are_bars : AreScoreLines s (Heading (length s.voices) ∷ (bars ++ LastBarline ∷ ending_line ∷ []))
   pub say : Each (SaysInside (suc m)) rows bars
 
 score_says : (m : ℕ) (s : Score) (records : List Record) → length s.voices ≡ suc m → IsScore s → AreRecords s records → SayScore m s records
@@ -61,14 +61,14 @@ inside_lines n (row ∷ rows) (line ∷ lines) h = (h.0.says, inside_lines n row
 lines_say : (m : ℕ) (s : Score) (records : List Record) → SayScore m s records
     → (lines : List KernLine) × AreScoreLines s lines × Each (SaysLine (length s.voices)) records lines
 lines_say m s records h =
-    let inside = each_append (SaysLine (suc m)) h.rows (tail (suc m)) h.bars (LastBarline ∷ Ending ∷ [])
+    let inside = each_append (SaysLine (suc m)) h.rows (tail (suc m)) h.bars (LastBarline ∷ ending_line ∷ [])
     (inside_lines (suc m) h.rows h.bars h.say) (last_says m, (end_says m, refl)) in
-    let all : Each (SaysLine (suc m)) (head (suc m) ∷ (h.rows ++ tail (suc m))) (Heading (suc m) ∷ (h.bars ++ LastBarline ∷ Ending ∷ [])) =
+    let all : Each (SaysLine (suc m)) (head (suc m) ∷ (h.rows ++ tail (suc m))) (Heading (suc m) ∷ (h.bars ++ LastBarline ∷ ending_line ∷ [])) =
     (head_says m, inside) in (
-      Heading (length s.voices) ∷ (h.bars ++ LastBarline ∷ Ending ∷ []),
+      Heading (length s.voices) ∷ (h.bars ++ LastBarline ∷ ending_line ∷ []),
       h.are_bars,
-      subst (λ rs. Each (SaysLine (length s.voices)) rs (Heading (length s.voices) ∷ (h.bars ++ LastBarline ∷ Ending ∷ []))) (sym h.are_rows)
-          (subst (λ n. Each (SaysLine n) (head (suc m) ∷ (h.rows ++ tail (suc m))) (Heading n ∷ (h.bars ++ LastBarline ∷ Ending ∷ []))) (sym h.count) all),
+      subst (λ rs. Each (SaysLine (length s.voices)) rs (Heading (length s.voices) ∷ (h.bars ++ LastBarline ∷ ending_line ∷ []))) (sym h.are_rows)
+          (subst (λ n. Each (SaysLine n) (head (suc m) ∷ (h.rows ++ tail (suc m))) (Heading n ∷ (h.bars ++ LastBarline ∷ ending_line ∷ []))) (sym h.count) all),
     )
 
 rows_apart : (n : ℕ) (rows : List Record) (lines : List KernLine) → Each (SaysLine n) rows lines → list_all in_line rows ≡ true

@@ -9,15 +9,15 @@ use Rattle.std.proofs.lemmas.List.Sums.{sum_by-cons}
 use Rattle.rhythm_base.specs.declared.note.Bar.{Bar}
 use Rattle.rhythm_base.specs.declared.sound.Sound.{Sound}
 use Rattle.rhythm_base.specs.Lists.{Each}
-use Rattle.rhythm_base.specs.Spans.{sound_length}
-use Rattle.rhythm_base.specs.Spans as sounds
+use Rattle.durations.specs.Spans.{sound_length}
+use Rattle.durations.specs.Spans as sounds
 use Rattle.durations.specs.declared.value.Value.{Value}
 use Rattle.durations.specs.Value.{parts, value_grid, width}
 use Rattle.kern_reader.specs.declared.token.Token.{Token}
 use Rattle.kern_reader.specs.declared.token.Token.TheVariants as token
 use Rattle.kern_reader.specs.declared.token.Writing.{Writing}
 use Rattle.kern_reader.specs.Columns.{continues, place, spine_after, spine_at, token_values, waiting}
-use Rattle.kern_reader.specs.Events.{Beginning, bar_start, bars, beginnings, holds_tie, place_of, tied_values, token_bars}
+use Rattle.kern_reader.specs.Events.{Beginning, bar_start, bars, beginnings, holds_tie, token_place, tied_values, token_bars}
 use Rattle.kern_reader.specs.Score.{Counts, IsColumnOn, IsTokenOn}
 use Rattle.kern_reader.proofs.SpineLemmas.{IsOn, spine_next, spine_scaled, take_while-goes, take_while-stops, values_on, waiting_chord, waiting_grace, waiting_null, waiting_rest}
 use Rattle.kern_reader.proofs.GridLemmas.{counted}
@@ -55,7 +55,7 @@ bars_clean (token.Rest value ∷ column) = bars_clean column
 bars_clean (token.Grace keys ∷ column) = bars_clean column
 bars_clean (token.Chord writing keys ∷ column) = bars_clean column
 
-place_clean : (grid : ℕ) (before : List Token) → place_of grid (clean before) ≡ place_of grid before
+place_clean : (grid : ℕ) (before : List Token) → token_place grid (clean before) ≡ token_place grid before
 place_clean grid before = ap₂ (λ xs s. grid * sum (drop 1 xs) + 64 * s.place) (bars_clean before) (spine_clean grid before)
 
 -- the values that continue a tie, one token more
@@ -93,7 +93,7 @@ module _ (g t : ℕ) where
   width_more v (well, divides) = width_finer g t (g * t) v (counted v well).0 refl (dvd_trans (value_grid v) divides (dvd-mul_left g (parts v))) ∙ mul_comm t (width g v)
 
   module _ (positive : 1 ≤ t) where
-    place_more : (before : List Token) → IsColumnOn g before → place_of (g * t) before ≡ place_of g before * t
+    place_more : (before : List Token) → IsColumnOn g before → token_place (g * t) before ≡ token_place g before * t
     place_more before on = ap (λ s. g * t * bar_start before + 64 * s.place) (spine_scaled g t before on) ∙ joined g t (bar_start before) (place g before)
       where
         joined : (g t s p : ℕ) → g * t * s + 64 * (p * t) ≡ (g * s + 64 * p) * t
@@ -108,8 +108,8 @@ module _ (g t : ℕ) where
         → IsMatch (g * t) r all (record { before = clean before; writing = writing; keys = keys; after = clean after }) run
         → IsMatch g r all (record { before = before; writing = writing; keys = keys; after = after }) run
     match_original r all before after writing keys run on_before on_after on match = record {
-      start = eq_of_mul-eq-mul_right t positive (place_of g before * (64 * r)) (sounds.place_of r all run.0 * (64 * g))
-          (first (place_of g before) (64 * r) t ∙ ap (λ x. x * (64 * r)) (sym (place_clean (g * t) before ∙ place_more before on_before)) ∙ match.start ∙ second (sounds.place_of r all run.0) g t);
+      start = eq_of_mul-eq-mul_right t positive (token_place g before * (64 * r)) (sounds.place_of r all run.0 * (64 * g))
+          (first (token_place g before) (64 * r) t ∙ ap (λ x. x * (64 * r)) (sym (place_clean (g * t) before ∙ place_more before on_before)) ∙ match.start ∙ second (sounds.place_of r all run.0) g t);
       len = eq_of_mul-eq-mul_right t positive ((width g writing.value + sum_by (width g) (tied_values after)) * (64 * r)) (sum_by (sound_length all) (run.0 ∷ run.1) * g)
           (first (width g writing.value + sum_by (width g) (tied_values after)) (64 * r) t ∙ ap (λ x. x * (64 * r)) (sym long) ∙ match.len ∙ third (sum_by (sound_length all) (run.0 ∷ run.1)) g t);
       keys = match.keys;

@@ -7,7 +7,7 @@ use Rattle.std.proofs.lemmas.List.Elements.{All-head, All-nil, All-tail}
 use Rattle.rhythm_base.specs.declared.note.Bar.{Bar}
 use Rattle.rhythm_base.specs.declared.sound.Sound.{Sound}
 use Rattle.rhythm_base.specs.Lists.{Each}
-use Rattle.rhythm_base.specs.Spans.{chord_runs}
+use Rattle.durations.specs.Spans.{chord_runs}
 use Rattle.derivation.specs.WellSounded.{AreWellSounded}
 use Rattle.derivation.specs.declared.score.ScoreBar.{ScoreBar}
 use Rattle.derivation.specs.Score.{IsScore, IsScoreBar, Score}

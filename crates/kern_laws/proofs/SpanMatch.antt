@@ -7,11 +7,12 @@ use Rattle.rhythm_base.specs.declared.sound.Sound.{Sound}
 use Rattle.rhythm_base.specs.declared.span.Frac.{Frac}
 use Rattle.rhythm_base.specs.declared.span.Span.{Span}
 use Rattle.rhythm_base.specs.Lists.{Each}
-use Rattle.rhythm_base.specs.Spans.{IsFrac, IsSpan, is_short, sound_length}
-use Rattle.rhythm_base.specs.Spans as sounds
+use Rattle.durations.specs.Spans.{IsFrac, IsSpan, sound_length}
+use Rattle.rhythm_base.specs.SoundKinds.{is_short}
+use Rattle.durations.specs.Spans as sounds
 use Rattle.durations.specs.Value.{width}
 use Rattle.kern_reader.specs.Columns.{waiting}
-use Rattle.kern_reader.specs.Events.{Beginning, IsKernSpan, place_of, tied_values}
+use Rattle.kern_reader.specs.Events.{Beginning, IsKernSpan, token_place, tied_values}
 
 -- a fraction is one of all equal quotients
 pub frac_same : (a b c d : ℕ) (f : Frac) → 1 ≤ b → a * d ≡ c * b → IsFrac a b f → IsFrac c d f
@@ -29,7 +30,7 @@ frac_same a b c d f some same is = record {
 
 -- the same place, length, keys, grace chords and mark
 pub record IsMatch (grid resolution : ℕ) (bars : List Bar) (b : Beginning) (run : Sound × List Sound) : Type 0 where
-  pub start : place_of grid b.before * (64 * resolution) ≡ sounds.place_of resolution bars run.0 * (64 * grid)
+  pub start : token_place grid b.before * (64 * resolution) ≡ sounds.place_of resolution bars run.0 * (64 * grid)
   pub len : (width grid b.writing.value + sum_by (width grid) (tied_values b.after)) * (64 * resolution) ≡ sum_by (sound_length bars) (run.0 ∷ run.1) * grid
   pub keys : b.keys ≡ run.0.keys
   pub graces : reverse (waiting b.before) ≡ run.0.graces
@@ -38,7 +39,7 @@ pub record IsMatch (grid resolution : ℕ) (bars : List Bar) (b : Beginning) (ru
 module _ (grid resolution : ℕ) (bars : List Bar) (fine : 1 ≤ grid) (some : 1 ≤ resolution) where
   kern_span : (b : Beginning) (run : Sound × List Sound) (x : Span) → IsMatch grid resolution bars b run → IsKernSpan grid b x → IsSpan resolution bars run x
   kern_span b run x match is = record {
-    start = frac_same (place_of grid b.before) (64 * grid) (sounds.place_of resolution bars run.0) (64 * resolution) x.start (omega (arith, fine)) match.start is.start;
+    start = frac_same (token_place grid b.before) (64 * grid) (sounds.place_of resolution bars run.0) (64 * resolution) x.start (omega (arith, fine)) match.start is.start;
     len = frac_same (width grid b.writing.value + sum_by (width grid) (tied_values b.after)) grid (sum_by (sound_length bars) (run.0 ∷ run.1)) (64 * resolution) x.len fine match.len is.len;
     keys = is.keys ∙ match.keys;
     graces = is.graces ∙ match.graces;
@@ -47,7 +48,7 @@ module _ (grid resolution : ℕ) (bars : List Bar) (fine : 1 ≤ grid) (some : 1
 
   sound_span : (b : Beginning) (run : Sound × List Sound) (x : Span) → IsMatch grid resolution bars b run → IsSpan resolution bars run x → IsKernSpan grid b x
   sound_span b run x match is = record {
-    start = frac_same (sounds.place_of resolution bars run.0) (64 * resolution) (place_of grid b.before) (64 * grid) x.start (omega (arith, some)) (sym match.start) is.start;
+    start = frac_same (sounds.place_of resolution bars run.0) (64 * resolution) (token_place grid b.before) (64 * grid) x.start (omega (arith, some)) (sym match.start) is.start;
     len = frac_same (sum_by (sound_length bars) (run.0 ∷ run.1)) (64 * resolution) (width grid b.writing.value + sum_by (width grid) (tied_values b.after)) grid x.len (omega (arith, some)) (sym match.len) is.len;
     keys = is.keys ∙ sym match.keys;
     graces = is.graces ∙ sym match.graces;

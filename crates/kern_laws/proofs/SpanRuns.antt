@@ -11,7 +11,8 @@ use Rattle.rhythm_base.specs.declared.sound.Sound.{Sound}
 use Rattle.rhythm_base.specs.declared.sound.SoundKind.{SoundKind}
 use Rattle.rhythm_base.specs.declared.sound.SoundKind.TheVariants.{Begin, Short, Tie, Rest}
 use Rattle.rhythm_base.specs.Lists.{Each}
-use Rattle.rhythm_base.specs.Spans.{begins_chord, chord_runs, is_rest, is_short, is_tie, parts_of_unit, sound_length}
+use Rattle.rhythm_base.specs.SoundKinds.{begins_chord, is_rest, is_short, is_tie}
+use Rattle.durations.specs.Spans.{chord_runs, parts_of_unit, sound_length}
 use Rattle.derivation.proofs.FilledBars.{parts_at}
 use Rattle.derivation.proofs.SpansRead.{ties_of}
 use Rattle.durations.specs.declared.value.Value.{Value}

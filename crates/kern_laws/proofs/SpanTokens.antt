@@ -7,7 +7,7 @@ use Rattle.std.proofs.lemmas.List.{reverse-append}
 use Rattle.std.proofs.lemmas.List.Elements.{filter-append}
 use Rattle.rhythm_base.specs.declared.note.Bar.{Bar}
 use Rattle.rhythm_base.specs.declared.sound.Sound.{Sound}
-use Rattle.rhythm_base.specs.Spans.{parts_of_unit}
+use Rattle.durations.specs.Spans.{parts_of_unit}
 use Rattle.derivation.specs.declared.score.ScoreBar.{ScoreBar}
 use Rattle.kern_writer.specs.Tokens.{next_goes_on}
 use Rattle.kern_writer.specs.Values.{VoiceValue}

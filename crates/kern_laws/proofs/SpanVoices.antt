@@ -10,7 +10,7 @@ use Rattle.std.proofs.lemmas.Option.{slice_get_within}
 use Rattle.rhythm_base.specs.declared.note.Bar.{Bar}
 use Rattle.rhythm_base.specs.declared.sound.Sound.{Sound}
 use Rattle.rhythm_base.specs.Lists.{Each}
-use Rattle.rhythm_base.specs.Spans.{chord_runs, parts_of_unit}
+use Rattle.durations.specs.Spans.{chord_runs, parts_of_unit}
 use Rattle.derivation.proofs.FilledBars.{parts_at, place_next}
 use Rattle.durations.specs.Value.{width}
 use Rattle.derivation.specs.declared.score.ScoreBar.{ScoreBar}

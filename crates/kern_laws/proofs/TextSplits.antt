@@ -6,7 +6,7 @@ use Rattle.std.proofs.lemmas.Bool.Decides.{nat_tests}
 use Rattle.std.proofs.lemmas.List.Splits.{length-slice_split, slice_split-cons_no, slice_split-cons_yes}
 use Rattle.kern_writer.specs.Records.{Record}
 use Rattle.kern_writer.specs.Text.{records_text}
-use Rattle.kern_reader.specs.Text.{kern_lines, lines_among}
+use Rattle.kern_reader.specs.Text.{kern_lines, lines_of_pieces}
 use Rattle.kern_laws.proofs.TextTests.{lacks}
 
 pub false_of_not : (b : Bool) → not b ≡ true → b ≡ false
@@ -40,7 +40,7 @@ split_joined byte first (next ∷ rest) h =
 
 -- ---- lines
 
-lines_more : (line : List ℕ) (pieces : List (List ℕ)) → 1 ≤ length pieces → lines_among (line ∷ pieces) ≡ line ∷ lines_among pieces
+lines_more : (line : List ℕ) (pieces : List (List ℕ)) → 1 ≤ length pieces → lines_of_pieces (line ∷ pieces) ≡ line ∷ lines_of_pieces pieces
 lines_more [] [] some = absurd (omega (arith, some))
 lines_more (b ∷ line) [] some = absurd (omega (arith, some))
 lines_more [] (next ∷ more) some = refl
@@ -56,6 +56,6 @@ lines_of_records [] h = refl
 lines_of_records (r ∷ records) h =
     let parts = and_parts (in_line r) (list_all in_line records) h in
     let rest = records_text records in
-    ap kern_lines (append_assoc (join_with_byte 9 r) (10 ∷ []) rest) ∙ ap lines_among (split_first 10 (join_with_byte 9 r) rest parts.0)
+    ap kern_lines (append_assoc (join_with_byte 9 r) (10 ∷ []) rest) ∙ ap lines_of_pieces (split_first 10 (join_with_byte 9 r) rest parts.0)
     ∙ lines_more (join_with_byte 9 r) (slice_split (λ b. b == 10) rest) (omega (arith, length-slice_split (λ b. b == 10) rest))
     ∙ ap (λ lines. join_with_byte 9 r ∷ lines) (lines_of_records records parts.1)

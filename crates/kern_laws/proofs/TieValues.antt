@@ -6,7 +6,7 @@ use Rattle.std.proofs.lemmas.Bool.{false≢true}
 use Rattle.rhythm_base.specs.declared.sound.Sound.{Sound}
 use Rattle.rhythm_base.specs.declared.sound.SoundKind.{SoundKind}
 use Rattle.rhythm_base.specs.declared.sound.SoundKind.TheVariants.{Begin, Short, Tie, Rest}
-use Rattle.rhythm_base.specs.Spans.{is_rest, is_tie}
+use Rattle.rhythm_base.specs.SoundKinds.{is_rest, is_tie}
 use Rattle.derivation.specs.WellSounded.{TiesGoOn}
 use Rattle.derivation.specs.WellSounded as sounded
 use Rattle.durations.specs.declared.value.Value.{Value}

@@ -7,7 +7,7 @@ use Rattle.std.proofs.lemmas.Bool.{and_from}
 use Rattle.std.proofs.lemmas.Bool.Decides.{nat_tests}
 use Rattle.derivation.specs.WellSounded.{AreKeys}
 use Rattle.kern_writer.specs.Tokens.{chord_text, rising_keys}
-use Rattle.kern_reader.specs.Tokens.{◌>>=◌, all_notes, chord_of, chord_of_notes, chord_token, follows, keys_with, note_of, rise, same_style}
+use Rattle.kern_reader.specs.Tokens.{◌>>=◌, all_notes, token_chord, chord_of_notes, chord_token, follows, keys_with, note_of, rising_notes, same_style}
 use Rattle.kern_laws.proofs.TextSplits.{split_joined}
 use Rattle.kern_laws.proofs.TextTests.{all_joined, all_weaker, graphic_no_space, graphic_prints, is_graphic, is_printing, lacks}
 use Rattle.kern_laws.proofs.TokenKeys.{KeysRise, keys_rise, keys_set, or_none, set_with}
@@ -27,11 +27,11 @@ notes_read s text low (k ∷ ks) read h =
     ap (λ o. o >>= λ note. option_map (λ notes. note ∷ notes) (all_notes (map text ks))) (read k h.1)
     ∙ ap (λ o. option_map (λ notes. note_at s k ∷ notes) o) (notes_read s text (suc k) ks read h.2)
 
-notes_rise : (s : Style) (k : ℕ) (ks : List ℕ) → same_style s s ≡ true → KeysRise (suc k) ks → rise (note_at s k) (map (note_at s) ks) ≡ true
+notes_rise : (s : Style) (k : ℕ) (ks : List ℕ) → same_style s s ≡ true → KeysRise (suc k) ks → rising_notes (note_at s k) (map (note_at s) ks) ≡ true
 notes_rise s k [] same h = refl
 notes_rise s k (j ∷ ks) same h =
     let above : nat_lt k j ≡ true = let lt : k < j = omega (arith, h.0) in grind (arith, nat_tests) in
-    and_from (follows (note_at s k) (note_at s j)) (rise (note_at s j) (map (note_at s) ks))
+    and_from (follows (note_at s k) (note_at s j)) (rising_notes (note_at s j) (map (note_at s) ks))
     (and_from (same_style s s) (nat_lt k j) same above) (notes_rise s j ks same h.2)
 
 notes_set : (s : Style) (keys : ℕ) (ks : List ℕ) → keys_with keys (map (note_at s) ks) ≡ set_with keys ks
@@ -52,11 +52,11 @@ all_print text h = all_weaker is_graphic is_printing text graphic_prints h
 -- ---- a chord of rising keys
 
 keys_read : (s : Style) (text : ℕ → List ℕ) (k : ℕ) (ks : List ℕ) → same_style s s ≡ true → AreRead s text → AreGraphic text → KeysRise 0 (k ∷ ks)
-    → chord_of (join_with_byte 32 (map text (k ∷ ks))) ≡ Some (chord_token s (set_with 0 (k ∷ ks)))
-unfolding chord_of
+    → token_chord (join_with_byte 32 (map text (k ∷ ks))) ≡ Some (chord_token s (set_with 0 (k ∷ ks)))
+unfolding token_chord
 keys_read s text k ks same read graphic h =
     let apart = all_weaker (list_all is_graphic) (lacks 32) (map text (k ∷ ks)) no_spaces (texts_graphic text 0 (k ∷ ks) graphic h) in
-    let up : rise (note_at s k) (map (note_at s) ks) ≡ true = notes_rise s k ks same h.2 in
+    let up : rising_notes (note_at s k) (map (note_at s) ks) ≡ true = notes_rise s k ks same h.2 in
     let set : keys_with (2 ^ k) (map (note_at s) ks) ≡ set_with 0 (k ∷ ks) = notes_set s (2 ^ k) ks ∙ ap (λ a. set_with a ks)
     (sym (or_none (2 ^ k))) in
     ap (λ pieces. all_notes pieces >>= chord_of_notes) (split_joined 32 (text k) (map text ks) apart)
@@ -80,7 +80,7 @@ joined_first first (next ∷ rest) = (32 ∷ join_with_byte 32 (next ∷ rest), 
 pub record ReadsChord (s : Style) (text : ℕ → List ℕ) (keys : ℕ) : Type 0 where
   pub printing : list_all is_printing (chord_text text keys) ≡ true
   pub first : IsChordText text (chord_text text keys)
-  pub is : chord_of (chord_text text keys) ≡ Some (chord_token s keys)
+  pub is : token_chord (chord_text text keys) ≡ Some (chord_token s keys)
 
 pub chord_read : (s : Style) (text : ℕ → List ℕ) (keys : ℕ) → same_style s s ≡ true → AreRead s text → AreGraphic text → AreKeys keys
     → ReadsChord s text keys
@@ -96,5 +96,5 @@ chord_read s text keys same read graphic are = at (rising_keys keys) refl (keys_
         record {
           printing = ap (list_all is_printing) whole ∙ prints;
           first = record { key = k; within = h.1; more = front.0; is = whole ∙ front.1 };
-          is = ap chord_of whole ∙ keys_read s text k ks same read graphic h ∙ ap (λ j. Some (chord_token s j)) set;
+          is = ap token_chord whole ∙ keys_read s text k ks same read graphic h ∙ ap (λ j. Some (chord_token s j)) set;
         }

@@ -5,12 +5,12 @@ use Rattle.std.specs.List.{list_all, prefix_len}
 use Rattle.std.proofs.lemmas.Bool.Decides.{nat_tests}
 use Rattle.rhythm_base.specs.declared.sound.SoundKind.{SoundKind}
 use Rattle.rhythm_base.specs.declared.sound.SoundKind.TheVariants.{Begin, Short, Tie, Rest}
-use Rattle.rhythm_base.specs.Pitch.{pitch}
-use Rattle.rhythm_base.specs.Spans.{is_rest, is_short, is_tie}
+use Rattle.durations.specs.Pitch.{pitch}
+use Rattle.rhythm_base.specs.SoundKinds.{is_rest, is_short, is_tie}
 use Rattle.kern_writer.specs.Tokens.{closing, goes_on, note_text, opening, short_mark, value_text}
 use Rattle.kern_writer.specs.Values.{VoiceValue}
 use Rattle.kern_reader.specs.Lines.{digit_first}
-use Rattle.kern_reader.specs.Tokens.{IsWellValue, after_value, is_pitch_byte, is_value_byte, key_of, marks_of, marks_part, note_of, pitch_part, value_of, value_part, valued_note}
+use Rattle.kern_reader.specs.Tokens.{IsWellValue, after_value, is_pitch_byte, is_value_byte, pitch_key, marks_of, marks_part, note_of, pitch_part, value_of, value_part, valued_note}
 use Rattle.kern_laws.specs.ScoreLines.{tie_mark, writing_of}
 use Rattle.kern_laws.proofs.Pitches.{pitches}
 use Rattle.kern_laws.proofs.TextRuns.{run_dropped, run_taken}
@@ -101,7 +101,7 @@ plain_read flats v next key well within =
     (pitch_bytes flats key within) over in
     let third : marks_part text ≡ marks = ap (λ t. drop (prefix_len is_pitch_byte t) t) rest ∙ run_dropped is_pitch_byte letters marks
     (pitch_bytes flats key within) over in
-    (valued_style (writing_of v next)).1.read text key (ap value_of first ∙ values v.value well) (ap key_of second ∙ pitches flats key within)
+    (valued_style (writing_of v next)).1.read text key (ap value_of first ∙ values v.value well) (ap pitch_key second ∙ pitches flats key within)
     (ap marks_of third ∙ marks_read (goes_on v) next (is_marked_short v) (short_begins v))
 
 -- a note that begins with a digit has no bracket

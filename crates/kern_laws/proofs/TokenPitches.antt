@@ -3,7 +3,7 @@ use Rattle.std.proofs.Common.{◌≡◌, ℕ, zero, suc, ◌<◌, ◌==◌, ◌&
 use Rattle.std.specs.List.{list_all, prefix_len}
 use Rattle.std.proofs.lemmas.Bool.{and_parts}
 use Rattle.std.proofs.lemmas.Bool.Decides.{nat_tests}
-use Rattle.rhythm_base.specs.Pitch.{pitch}
+use Rattle.durations.specs.Pitch.{pitch}
 use Rattle.kern_reader.specs.Tokens.{is_pitch_byte, is_value_byte}
 use Rattle.kern_laws.proofs.TextTests.{all_weaker, is_graphic}
 

@@ -10,7 +10,7 @@ use Rattle.kern_reader.specs.declared.token.TieMark.{TieMark}
 use Rattle.kern_reader.specs.declared.token.TieMark.TheVariants.{Absent, GoesOn, Ends}
 use Rattle.kern_reader.specs.declared.token.Token.TheVariants as token
 use Rattle.kern_reader.specs.declared.token.Writing.{Writing}
-use Rattle.kern_reader.specs.Tokens.{◌>>=◌, chord_token, follows, grace_note, key_of, marks_of, marks_part, pitch_part, same_bool, same_recip, same_style, same_tie, same_writing, value_of, value_part, valued_note}
+use Rattle.kern_reader.specs.Tokens.{◌>>=◌, chord_token, follows, grace_note, pitch_key, marks_of, marks_part, pitch_part, same_bool, same_recip, same_style, same_tie, same_writing, value_of, value_part, valued_note}
 
 -- ---- the reader's notes and their styles, each called by what it is given to
 
@@ -29,7 +29,7 @@ note_at s key = record { style = s; key = key }
 -- ---- the style of grace notes
 
 pub record IsGraceStyle (s : Style) : Type 0 where
-  pub read : (text : List ℕ) (key : ℕ) → key_of text ≡ Some key → grace_note text ≡ Some (note_at s key)
+  pub read : (text : List ℕ) (key : ℕ) → pitch_key text ≡ Some key → grace_note text ≡ Some (note_at s key)
   pub token : (keys : ℕ) → chord_token s keys ≡ token.Grace keys
   pub same : same_style s s ≡ true
 
@@ -61,7 +61,7 @@ writing_same w =
     (and_from _ _ (same_number w.value.dots) (and_from _ _ (bool_same w.opens) (and_from _ _ (tie_same w.tie) (bool_same w.short))))
 
 pub record IsValuedStyle (w : Writing) (s : Style) : Type 0 where
-  pub read : (text : List ℕ) (key : ℕ) → value_of (value_part text) ≡ Some w.value → key_of (pitch_part text) ≡ Some key
+  pub read : (text : List ℕ) (key : ℕ) → value_of (value_part text) ≡ Some w.value → pitch_key (pitch_part text) ≡ Some key
       → marks_of (marks_part text) ≡ Some (w.tie, w.short) → valued_note w.opens text ≡ Some (note_at s key)
   pub token : (keys : ℕ) → chord_token s keys ≡ token.Chord w keys
   pub same : same_style s s ≡ true

@@ -5,8 +5,8 @@ use Rattle.std.specs.List.{list_all}
 use Rattle.std.specs.Str.{bytes_eq}
 use Rattle.std.proofs.lemmas.Bool.{and_left}
 use Rattle.std.proofs.lemmas.Bool.Decides.{nat_tests}
-use Rattle.rhythm_base.specs.Pitch.{pitch}
-use Rattle.rhythm_base.specs.Spans.{is_rest}
+use Rattle.durations.specs.Pitch.{pitch}
+use Rattle.rhythm_base.specs.SoundKinds.{is_rest}
 use Rattle.derivation.specs.WellSounded.{AreKeys, IsWellSounding}
 use Rattle.durations.specs.declared.value.Value.{Value}
 use Rattle.kern_writer.specs.Tokens.{chord_text, goes_on, grace_text, main_text, note_text, value_text}
@@ -14,7 +14,7 @@ use Rattle.kern_writer.specs.Values.{VoiceValue}
 use Rattle.kern_reader.specs.declared.token.Token.{Token}
 use Rattle.kern_reader.specs.declared.token.Token.TheVariants as token
 use Rattle.kern_reader.specs.Lines.{digit_first}
-use Rattle.kern_reader.specs.Tokens.{IsWellValue, after_value, chord_of, is_value_byte, rest_of, token_of, value_part}
+use Rattle.kern_reader.specs.Tokens.{IsWellValue, after_value, token_chord, is_value_byte, rest_of, token_of, value_part}
 use Rattle.kern_laws.specs.ScoreLines.{value_token, writing_of}
 use Rattle.kern_laws.proofs.TextRuns.{run_dropped, run_taken}
 use Rattle.kern_laws.proofs.TextTests.{all_append, all_weaker, graphic_prints, is_graphic, is_printing}
@@ -68,8 +68,8 @@ rest_read v well =
     let after : after_value text ≡ codes "r" = run_dropped is_value_byte (value_text v) (codes "r") (value_bytes v) refl in
     let front : value_part text ≡ value_text v = run_taken is_value_byte (value_text v) (codes "r") (value_bytes v) refl in
     let value : rest_of (value_part text) ≡ Some (token.Rest v) = ap rest_of front ∙ rw (values v well) refl in
-    ap (λ b. if b then Some token.Null else if bytes_eq (after_value text) (codes "r") then rest_of (value_part text) else chord_of text) no_dot
-    ∙ ap (λ t. if bytes_eq t (codes "r") then rest_of (value_part text) else chord_of text) after ∙ value
+    ap (λ b. if b then Some token.Null else if bytes_eq (after_value text) (codes "r") then rest_of (value_part text) else token_chord text) no_dot
+    ∙ ap (λ t. if bytes_eq t (codes "r") then rest_of (value_part text) else token_chord text) after ∙ value
 
 rest_said : (v : Value) → IsWellValue v → SaysToken (value_text v ++ codes "r") (token.Rest v)
 rest_said v well = record {
@@ -81,7 +81,7 @@ rest_said v well = record {
 -- ---- what is read as a chord, by its first bytes
 
 abbrev IsChordFront : List ℕ → Type 0
-IsChordFront text = (begins_data text ≡ true) × (token_of text ≡ chord_of text)
+IsChordFront text = (begins_data text ≡ true) × (token_of text ≡ token_chord text)
 
 bracket_front : (more : List ℕ) → IsChordFront (91 ∷ more)
 unfolding token_of
@@ -111,9 +111,9 @@ value_front v flats key more well within =
     let no : bytes_eq (after_value text) (codes "r") ≡ false = ap (λ t. bytes_eq t (codes "r")) after ∙ no_rest rest
     (begins_append (pitch flats key) more (pitch_begins flats key within)) in (
       digit_data text digit,
-      ap (λ b. if b then Some token.Null else if bytes_eq (after_value text) (codes "r") then rest_of (value_part text) else chord_of text)
+      ap (λ b. if b then Some token.Null else if bytes_eq (after_value text) (codes "r") then rest_of (value_part text) else token_chord text)
           (digit_no_dot text digit)
-          ∙ ap (λ b. if b then rest_of (value_part text) else chord_of text) no,
+          ∙ ap (λ b. if b then rest_of (value_part text) else token_chord text) no,
     )
 
 -- the text of a note begins a chord
@@ -136,7 +136,7 @@ note_front flats v next key more well within =
 -- a chord whose notes begin chords
 chord_said : (text : ℕ → List ℕ) (keys : ℕ) (t : Token) → ((k : ℕ) (more : List ℕ) → k < 128 → IsChordFront (text k ++ more))
     → list_all is_printing (chord_text text keys) ≡ true → (k : ℕ) (more : List ℕ) → k < 128 → chord_text text keys ≡ text k ++ more
-    → chord_of (chord_text text keys) ≡ Some t → SaysToken (chord_text text keys) t
+    → token_chord (chord_text text keys) ≡ Some t → SaysToken (chord_text text keys) t
 chord_said text keys t fronts printing k more within parts is =
     let front = subst IsChordFront (sym parts) (fronts k more within) in
     record { printing = printing; first = front.0; is = front.1 ∙ is }

@@ -16,7 +16,7 @@ use Rattle.kern_reader.specs.declared.token.TimeSignature.{TimeSignature}
 use Rattle.kern_reader.specs.Lines.{all_are, begins_signature, is_ending, is_heading, is_refused_word, line_of, other_line, signature_of, signature_of_numbers, signature_of_parts}
 use Rattle.kern_reader.specs.Text.{begins_with, columns}
 use Rattle.kern_reader.specs.Tokens.{◌>>=◌, number_of}
-use Rattle.kern_laws.specs.ScoreLines.{Barline, Ending, Heading, KernLine, LastBarline, Other, Signature}
+use Rattle.kern_laws.specs.ScoreLines.{Barline, ending_line, Heading, KernLine, LastBarline, Other, Signature}
 use Rattle.kern_laws.proofs.RecordsLines.{SaysInside, SaysLine, not_all, other_said, row_columns, row_says, row_text}
 use Rattle.kern_laws.proofs.TextNumbers.{number_back}
 use Rattle.kern_laws.proofs.TextSplits.{split_first, split_last}
@@ -71,15 +71,15 @@ head_says m = word_says m (codes "**kern") (Heading (suc m)) refl refl refl
 pub end_ending : (m : ℕ) → is_ending (row_text (alike (suc m) (codes "*-"))) ≡ true
 end_ending m = ap (all_are (codes "*-")) (word_columns m (codes "*-") refl) ∙ all_alike (λ text. bytes_eq text (codes "*-")) (suc m) (codes "*-") refl
 
-end_line : (text : List ℕ) → is_heading text ≡ false → is_ending text ≡ true → line_of text ≡ Ending
+end_line : (text : List ℕ) → is_heading text ≡ false → is_ending text ≡ true → line_of text ≡ ending_line
 unfolding line_of
 end_line text no_head end = rw (no_head, end) refl
 
-pub end_says : (m : ℕ) → SaysLine (suc m) (alike (suc m) (codes "*-")) Ending
+pub end_says : (m : ℕ) → SaysLine (suc m) (alike (suc m) (codes "*-")) ending_line
 end_says m =
     let no_head = not_all (codes "**kern") (codes "*-") (replicate m (codes "*-"))
     (all_alike (list_all is_printing) (suc m) (codes "*-") refl) refl in
-    word_says m (codes "*-") Ending refl refl (end_line (row_text (alike (suc m) (codes "*-"))) no_head (end_ending m))
+    word_says m (codes "*-") ending_line refl refl (end_line (row_text (alike (suc m) (codes "*-"))) no_head (end_ending m))
 
 -- ---- barlines
 

@@ -4,10 +4,10 @@ use Rattle.std.proofs.Common.{suc}
 use Rattle.rhythm_base.specs.declared.note.Bar.{Bar}
 use Rattle.rhythm_base.specs.declared.sound.Sound.{Sound}
 use Rattle.rhythm_base.specs.declared.span.Span.{Span}
-use Rattle.rhythm_base.specs.Spans.{AreSpans}
+use Rattle.durations.specs.Spans.{AreSpans}
 use Rattle.derivation.specs.declared.score.ScoreBar.{ScoreBar}
 use Rattle.kern_reader.specs.declared.event.KernEvent.{KernEvent}
-use Rattle.kern_reader.specs.Events.{event}
+use Rattle.kern_reader.specs.Events.{span_event}
 
 -- the bars of a performance have the signatures of those of a score
 abbrev pub HaveSignatures : List ScoreBar → List Bar → Type 0
@@ -18,4 +18,4 @@ abbrev pub AreVoiceSpans : ℕ → List Bar → ℕ → List (List Sound) → Li
 AreVoiceSpans resolution bars spine [] events = events ≡ []
 AreVoiceSpans resolution bars spine (sounds ∷ voices) events =
     (spans : List Span) × (others : List KernEvent) × AreSpans resolution bars sounds spans × AreVoiceSpans resolution bars (suc spine) voices others
-    × (events ≡ map (event spine) spans ++ others)
+    × (events ≡ map (span_event spine) spans ++ others)

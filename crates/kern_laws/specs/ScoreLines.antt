@@ -5,7 +5,7 @@ use Rattle.std.proofs.Common.{suc, zero}
 use Rattle.std.specs.List.{flat_map, join_with_byte}
 use Rattle.std.specs.List.Sorted.{IsStrictlyIncreasing}
 use Rattle.rhythm_base.specs.Lists.{Each}
-use Rattle.rhythm_base.specs.Spans.{is_rest, is_short}
+use Rattle.rhythm_base.specs.SoundKinds.{is_rest, is_short}
 use Rattle.derivation.specs.declared.score.ScoreBar.{ScoreBar}
 use Rattle.kern_writer.specs.Changes.{key_before, key_change, signature_change, tempo_change}
 use Rattle.derivation.specs.Score.{Score}
@@ -19,7 +19,7 @@ use Rattle.kern_reader.specs.declared.token.Writing.{Writing}
 use Rattle.kern_reader.specs.declared.token.TimeSignature.{TimeSignature}
 use Rattle.kern_reader.specs.Columns.{announced, columns_of, current_bar, grid_of, spines_of, stage_after, stage_of}
 use Rattle.kern_reader.specs.Faults.{first_fault, is_head_stage, said_tests}
-use Rattle.kern_reader.specs.Lines.{barline, data_line, interpretation, line_of, signature_line}
+use Rattle.kern_reader.specs.Lines.{barline_said, data_line, interpretation, line_of, signature_line}
 
 -- ---- what the reader's lines are called here, each by what says it
 
@@ -38,14 +38,14 @@ Signature signature = signature_line (Some signature)
 abbrev pub Other : KernLine
 Other = interpretation [] []
 
-abbrev pub Ending : KernLine
-Ending = line_of (codes "*-")
+abbrev pub ending_line : KernLine
+ending_line = line_of (codes "*-")
 
 abbrev pub Barline : KernLine
-Barline = barline (codes "=") []
+Barline = barline_said (codes "=") []
 
 abbrev pub LastBarline : KernLine
-LastBarline = barline (codes "==") []
+LastBarline = barline_said (codes "==") []
 
 abbrev pub Data : List Token → KernLine
 Data tokens = data_line (Some tokens)
@@ -64,7 +64,7 @@ abbrev pub Last : Stage
 Last = stage_after LastBarline
 
 abbrev pub Over : Stage
-Over = stage_after Ending
+Over = stage_after ending_line
 
 -- ---- tokens
 
@@ -178,15 +178,15 @@ pub record AreScoreLines (s : Score) (lines : List KernLine) : Type 0 where
   pub are_values : Each (AreVoiceValues s.resolution 0 s.bars) s.voices values
   pub bars : List KernLine
   pub are_bars : AreBarsLines (map voice_said values) None 0 s.bars bars
-  pub are : lines ≡ Heading (length s.voices) ∷ (bars ++ LastBarline ∷ Ending ∷ [])
+  pub are : lines ≡ Heading (length s.voices) ∷ (bars ++ LastBarline ∷ ending_line ∷ [])
 
 -- ---- lines in which the reader finds no fault
 
 -- the head stands first, the end after the last barline and nowhere before it, and nothing after the end
 pub record HasTurn (at : Stage) (line : KernLine) : Type 0 where
   pub head : at ≡ Head → (n : ℕ) × (line ≡ Heading n)
-  pub body : at ≡ Body → line ≢ Ending
-  pub last : at ≡ Last → line ≡ Ending
+  pub body : at ≡ Body → line ≢ ending_line
+  pub last : at ≡ Last → line ≡ ending_line
   pub over : at ≢ Over
 
 -- After those before them, last first, no line has a fault of what it says, up to the end of all spines; and after the head

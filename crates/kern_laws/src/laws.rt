@@ -1,14 +1,35 @@
 ghost use Rattle.kern_laws.specs.Laws.{
   EventsAreOne,
+  EventsExist,
+  GridsAreLeast,
+  OnlyPitchesAreRead,
+  OnlyValueTextsAreRead,
   PitchesReadBack,
+  ScoresAreInRange,
   ScoresReadBack,
   TextsReadBack,
   ValuesReadBack,
+  VoiceSpansExist,
 };
 
-/// A score that was read has one list of events.
+/// A score that is read of a text is in its ranges.
+pub fn scores_are_in_range()
+    ensures { ScoresAreInRange }
+{}
+
+/// The grid of lines is the least common multiple of the parts in which their values count.
+pub fn grids_are_least()
+    ensures { GridsAreLeast }
+{}
+
+/// A score that was read has at most one list of events.
 pub fn events_are_one()
     ensures { EventsAreOne }
+{}
+
+/// Each score that was read has a list of events.
+pub fn events_exist()
+    ensures { EventsExist }
 {}
 
 /// The pitch that is written of a key, with flats or with sharps, is read as this key.
@@ -16,9 +37,24 @@ pub fn pitches_read_back()
     ensures { PitchesReadBack }
 {}
 
+/// A text is read as a key only where it is a pitch that is written of this key.
+pub fn only_pitches_are_read()
+    ensures { OnlyPitchesAreRead }
+{}
+
 /// The text that is written of a value is read as this value.
 pub fn values_read_back()
     ensures { ValuesReadBack }
+{}
+
+/// A text is read as a value only where it is the text that is written of this value.
+pub fn only_value_texts_are_read()
+    ensures { OnlyValueTextsAreRead }
+{}
+
+/// The voices of each score that can be written have spans.
+pub fn voice_spans_exist()
+    ensures { VoiceSpansExist }
 {}
 
 /// The text of every score that can be written has no line with a fault, and its events are the spans of the score's sounds.

@@ -37,7 +37,7 @@ grid_some (line ∷ before) well =
     omega (arith, grid_some before (All-tail IsWellLine line before well), grid_grows (grid_of before) (line_values line) (line_values_well line (All-head IsWellLine line before well)))
 
 -- new values count in the grid with them
-grid_counts : (grid : ℕ) (vs : List Value) → All (Counts (grid_with grid vs)) vs
+pub grid_counts : (grid : ℕ) (vs : List Value) → All (Counts (grid_with grid vs)) vs
 grid_counts grid [] = All-nil (Counts grid)
 grid_counts grid (v ∷ vs) =
     All-cons (Counts (grid_with grid (v ∷ vs))) v vs (dvd_trans (value_grid v) (lcm_second grid (value_grid v)) (grid_multiple (lcm grid (value_grid v)) vs))
@@ -52,7 +52,7 @@ finer grid more divides columns on =
     token_finer : (t : Token) → IsTokenOn grid t → IsTokenOn more t
     token_finer t (well, counts) = (well, All-weaker (Counts grid) (Counts more) (λ v d. dvd_trans (value_grid v) d divides) (token_values t) counts)
 
-split : (P : Value → Type 0) (xs ys : List Value) → All P (xs ++ ys) → All P xs × All P ys
+pub split : (P : Value → Type 0) (xs ys : List Value) → All P (xs ++ ys) → All P xs × All P ys
 split P [] ys all = (All-nil P, all)
 split P (x ∷ xs) ys all =
     let rest = split P xs ys (All-tail P x (xs ++ ys) all) in

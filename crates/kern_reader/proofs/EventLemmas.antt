@@ -18,7 +18,7 @@ use Rattle.kern_reader.specs.declared.token.Token.{Token}
 use Rattle.kern_reader.specs.declared.token.Token.TheVariants as token
 use Rattle.kern_reader.specs.declared.token.Writing.{Writing}
 use Rattle.kern_reader.specs.Columns.{place, spine_after, spine_at, token_values, waiting}
-use Rattle.kern_reader.specs.Events.{AreColumnSpans, AreEventsFrom, IsKernSpan, IsWalk, bar_parts, bars, beginning, beginnings, event, holds_tie, tied_values, token_bars}
+use Rattle.kern_reader.specs.Events.{AreColumnSpans, AreEventsFrom, IsKernSpan, IsWalk, bar_parts, bars, beginning, beginnings, span_event, holds_tie, tied_values, token_bars}
 use Rattle.kern_reader.specs.Score.{IsColumnOn, IsTokenOn}
 use Rattle.kern_reader.proofs.GridWalk.{next_of}
 use Rattle.kern_reader.proofs.SpineLemmas.{place_few, spine_next, take_while-goes, waiting_chord, waiting_grace, waiting_null, waiting_rest}
@@ -146,10 +146,10 @@ start_small grid before w fine short on is =
 
 pub events_next : (grid spine : ℕ) (columns : List (List Token)) (column : List Token) (i : ℕ) (spans : List Span) (more : List KernEvent) → i < length columns
     → column ≡ get_or columns i column → AreColumnSpans grid column spans → AreEventsFrom grid (spine + 1) (drop (i + 1) columns) more
-    → AreEventsFrom grid spine (drop i columns) (map (event spine) spans ++ more)
+    → AreEventsFrom grid spine (drop i columns) (map (span_event spine) spans ++ more)
 events_next grid spine columns column i spans more within is are rest =
     let next : spine + 1 ≡ suc spine = omega arith in
-    subst (λ cs. AreEventsFrom grid spine cs (map (event spine) spans ++ more)) (sym (next_of columns i column within is))
+    subst (λ cs. AreEventsFrom grid spine cs (map (span_event spine) spans ++ more)) (sym (next_of columns i column within is))
     (spans, more, are, subst (λ n. AreEventsFrom grid n (drop (i + 1) columns) more) next rest, refl)
 
 -- ---- a list taken apart
@@ -165,15 +165,15 @@ pub first_on : (grid : ℕ) (later : List Token) (t : Token) → 1 ≤ length la
 first_on grid [] t some is on = absurd (omega (arith, some))
 first_on grid (x ∷ later) t some is on = subst (IsTokenOn grid) (sym is) (All-head (IsTokenOn grid) x later on)
 
-pub pushed_events : (spine : ℕ) (first now new : List KernEvent) (spans own : List Span) → now ≡ first ++ map (event spine) spans → new ≡ now ++ map (event spine) own
-    → new ≡ first ++ map (event spine) (spans ++ own)
+pub pushed_events : (spine : ℕ) (first now new : List KernEvent) (spans own : List Span) → now ≡ first ++ map (span_event spine) spans → new ≡ now ++ map (span_event spine) own
+    → new ≡ first ++ map (span_event spine) (spans ++ own)
 pushed_events spine first now new spans own before pushed =
-    pushed ∙ ap (λ xs. xs ++ map (event spine) own) before ∙ append_assoc first (map (event spine) spans) (map (event spine) own)
+    pushed ∙ ap (λ xs. xs ++ map (span_event spine) own) before ∙ append_assoc first (map (span_event spine) spans) (map (span_event spine) own)
     ∙ ap (λ xs. first ++ xs) (sym (mapped spans))
   where
-    mapped : (spans : List Span) → map (event spine) (spans ++ own) ≡ map (event spine) spans ++ map (event spine) own
+    mapped : (spans : List Span) → map (span_event spine) (spans ++ own) ≡ map (span_event spine) spans ++ map (span_event spine) own
     mapped [] = refl
-    mapped (x ∷ spans) = ap (λ xs. event spine x ∷ xs) (mapped spans)
+    mapped (x ∷ spans) = ap (λ xs. span_event spine x ∷ xs) (mapped spans)
 
 -- at the end of a column
 pub spans_end : (grid : ℕ) (column before later : List Token) (spans : List Span) → length later < 1

@@ -4,7 +4,7 @@ use Rattle.std.specs.Int.{◌∣◌}
 use Rattle.std.proofs.Math.Nat.{dvd_of_mul-dvd-mul_right, mul-dvd-mul_right, one-dvd}
 use Rattle.durations.proofs.LowestTerms.{divisor_of, lowest_some}
 use Rattle.durations.specs.Values.{IsLowest}
-use Rattle.rhythm_base.specs.Spans.{IsFrac}
+use Rattle.durations.specs.Spans.{IsFrac}
 
 pub frac_of_lowest : (n d a b : ℕ) → 1 ≤ d → IsLowest n d a b → IsFrac n d (record { num = a; den = b })
 frac_of_lowest n d a b some (g, gcd, parts, whole) = record {

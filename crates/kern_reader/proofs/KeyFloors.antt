@@ -7,23 +7,23 @@ use Rattle.std.proofs.lemmas.Bool.Decides.{nat_tests}
 use Rattle.std.proofs.lemmas.Nat.Bits.{bit_at-lt, bit_at_above, bit_at_or}
 use Rattle.kern_reader.proofs.KeyLemmas.{bit_clear}
 use Rattle.std.proofs.Math.Pow.{pow-lt}
-use Rattle.kern_reader.specs.EventText.{keys_from, keys_text, listed_text, set_keys}
-use Rattle.kern_reader.specs.LowestKey.{AreKeysOf, IsFloor}
+use Rattle.kern_reader.specs.EventText.{event_keys, keys_text, listed_text, set_keys}
+use Rattle.kern_reader.specs.LowestKey.{AreAmongKeys, IsFloor}
 
 -- ---- from a floor on
 
-skipped : (keys k n : ℕ) → bit_at keys k ≡ 0 → keys_from keys k (suc n) ≡ keys_from keys (k + 1) n
-skipped keys k n none = ap (λ b. (if b == 1 then k ∷ [] else []) ++ keys_from keys (k + 1) n) none
+skipped : (keys k n : ℕ) → bit_at keys k ≡ 0 → event_keys keys k (suc n) ≡ event_keys keys (k + 1) n
+skipped keys k n none = ap (λ b. (if b == 1 then k ∷ [] else []) ++ event_keys keys (k + 1) n) none
 
-from_floor : (keys low : ℕ) → low ≤ 128 → ((k : ℕ) → k < low → bit_at keys k ≡ 0) → keys_from keys 0 128 ≡ keys_from keys low (128 - low)
+from_floor : (keys low : ℕ) → low ≤ 128 → ((k : ℕ) → k < low → bit_at keys k ≡ 0) → event_keys keys 0 128 ≡ event_keys keys low (128 - low)
 from_floor keys zero few none = refl
 from_floor keys (suc low) few none =
     let e : 128 - low ≡ suc (128 - suc low) = omega (arith, few) in
     let next : low + 1 ≡ suc low = omega arith in
-    from_floor keys low (omega (arith, few)) (λ k lt. none k (omega (arith, lt))) ∙ ap (keys_from keys low) e ∙ skipped keys low (128 - suc low) (none low (omega arith))
-    ∙ ap (λ k. keys_from keys k (128 - suc low)) next
+    from_floor keys low (omega (arith, few)) (λ k lt. none k (omega (arith, lt))) ∙ ap (event_keys keys low) e ∙ skipped keys low (128 - suc low) (none low (omega arith))
+    ∙ ap (λ k. event_keys keys k (128 - suc low)) next
 
-pub text_from : (keys low : ℕ) → IsFloor low keys → listed_text (keys_from keys low (128 - low)) ≡ keys_text keys
+pub text_from : (keys low : ℕ) → IsFloor low keys → listed_text (event_keys keys low (128 - low)) ≡ keys_text keys
 unfolding set_keys
 text_from keys low floor = ap listed_text (sym (from_floor keys low floor.few floor.none))
 
@@ -38,19 +38,19 @@ found_more found key all one is own none k le =
 pub nothing_found : (found k : ℕ) → found ≡ 0 → bit_at found k ≡ 0
 nothing_found found k none = bit_at_above found 0 k (omega (arith, none)) (omega arith)
 
-pub none_after : (keys k n : ℕ) → ((i : ℕ) → k ≤ i → bit_at keys i ≡ 0) → keys_from keys k n ≡ []
+pub none_after : (keys k n : ℕ) → ((i : ℕ) → k ≤ i → bit_at keys i ≡ 0) → event_keys keys k n ≡ []
 none_after keys k zero none = refl
 none_after keys k (suc n) none = skipped keys k n (none k (omega arith)) ∙ none_after keys (k + 1) n (λ i le. none i (omega (arith, le)))
 
 -- ---- sets in others
 
-pub keys_left : (a b all keys : ℕ) → all ≡ bit_or a b → AreKeysOf a keys → AreKeysOf all keys
+pub keys_left : (a b all keys : ℕ) → all ≡ bit_or a b → AreAmongKeys a keys → AreAmongKeys all keys
 keys_left a b all keys e h k none = h k (omega (arith, bit_at_or a b k, ap (λ x. bit_at x k) e, none))
 
-pub keys_right : (a b all : ℕ) → all ≡ bit_or a b → AreKeysOf all b
+pub keys_right : (a b all : ℕ) → all ≡ bit_or a b → AreAmongKeys all b
 keys_right a b all e k none = omega (arith, bit_at_or a b k, ap (λ x. bit_at x k) e, none)
 
-pub floor_of : (low all keys : ℕ) → IsFloor low all → AreKeysOf all keys → IsFloor low keys
+pub floor_of : (low all keys : ℕ) → IsFloor low all → AreAmongKeys all keys → IsFloor low keys
 floor_of low all keys h of = record { few = h.few; none = λ k lt. of k (h.none k lt) }
 
 pub floor_zero : (keys : ℕ) → IsFloor 0 keys

@@ -4,33 +4,33 @@ use Rattle.std.specs.Prelude.{if◌then◌else◌}
 use Rattle.std.specs.Int.{IsBitSet, bit_at}
 use Rattle.std.proofs.lemmas.Nat.{pow_pos}
 use Rattle.std.proofs.lemmas.Nat.Bits.{and_pow, bit_at-lt}
-use Rattle.kern_reader.specs.EventText.{key_text, keys_from, keys_text, listed_on, set_keys}
+use Rattle.kern_reader.specs.EventText.{event_key, event_keys, keys_text, listed_on, set_keys}
 
-listed_next : (first : Bool) (key : ℕ) (keys : List ℕ) → listed_on first (key ∷ keys) ≡ key_text first key ++ listed_on false keys
+listed_next : (first : Bool) (key : ℕ) (keys : List ℕ) → listed_on first (key ∷ keys) ≡ event_key first key ++ listed_on false keys
 listed_next true key keys = refl
 listed_next false key keys = refl
 
-pub keys_begin : (keys : ℕ) → listed_on true (keys_from keys 0 (128 - 0)) ≡ keys_text keys
+pub keys_begin : (keys : ℕ) → listed_on true (event_keys keys 0 (128 - 0)) ≡ keys_text keys
 unfolding set_keys
 keys_begin keys = refl
 
-from_next : (keys k : ℕ) → k < 128 → keys_from keys k (128 - k) ≡ (if (keys / 2 ^ k) % 2 == 1 then k ∷ [] else []) ++ keys_from keys (k + 1) (128 - (k + 1))
+from_next : (keys k : ℕ) → k < 128 → event_keys keys k (128 - k) ≡ (if (keys / 2 ^ k) % 2 == 1 then k ∷ [] else []) ++ event_keys keys (k + 1) (128 - (k + 1))
 from_next keys k within = let e : 128 - k ≡ suc (128 - (k + 1)) = omega arith in rw e refl
 
 pub key_there : (keys k : ℕ) (first : Bool) (text : List ℕ) → k < 128 → ((keys / 2 ^ k) % 2 == 1) ≡ true
-    → (text ++ key_text first k) ++ listed_on false (keys_from keys (k + 1) (128 - (k + 1))) ≡ text ++ listed_on first (keys_from keys k (128 - k))
+    → (text ++ event_key first k) ++ listed_on false (event_keys keys (k + 1) (128 - (k + 1))) ≡ text ++ listed_on first (event_keys keys k (128 - k))
 key_there keys k first text within there =
-    let rest = keys_from keys (k + 1) (128 - (k + 1)) in
-    let next : keys_from keys k (128 - k) ≡ k ∷ rest = from_next keys k within ∙ rw there refl in
-    append_assoc text (key_text first k) (listed_on false rest) ∙ ap (λ t. text ++ t) (sym (ap (listed_on first) next ∙ listed_next first k rest))
+    let rest = event_keys keys (k + 1) (128 - (k + 1)) in
+    let next : event_keys keys k (128 - k) ≡ k ∷ rest = from_next keys k within ∙ rw there refl in
+    append_assoc text (event_key first k) (listed_on false rest) ∙ ap (λ t. text ++ t) (sym (ap (listed_on first) next ∙ listed_next first k rest))
 
 pub key_absent : (keys k : ℕ) (first : Bool) (text : List ℕ) → k < 128 → ((keys / 2 ^ k) % 2 == 1) ≡ false
-    → text ++ listed_on first (keys_from keys (k + 1) (128 - (k + 1))) ≡ text ++ listed_on first (keys_from keys k (128 - k))
+    → text ++ listed_on first (event_keys keys (k + 1) (128 - (k + 1))) ≡ text ++ listed_on first (event_keys keys k (128 - k))
 key_absent keys k first text within absent =
-    let next : keys_from keys k (128 - k) ≡ keys_from keys (k + 1) (128 - (k + 1)) = from_next keys k within ∙ rw absent refl in
+    let next : event_keys keys k (128 - k) ≡ event_keys keys (k + 1) (128 - (k + 1)) = from_next keys k within ∙ rw absent refl in
     ap (λ ks. text ++ listed_on first ks) (sym next)
 
-pub keys_end : (keys k : ℕ) (first : Bool) → k ≡ 128 → listed_on first (keys_from keys k (128 - k)) ≡ []
+pub keys_end : (keys k : ℕ) (first : Bool) → k ≡ 128 → listed_on first (event_keys keys k (128 - k)) ≡ []
 keys_end keys k first end = let e : 128 - k ≡ 0 = omega arith in rw e (none first)
   where
     none : (first : Bool) → listed_on first [] ≡ []

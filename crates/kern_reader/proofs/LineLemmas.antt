@@ -3,10 +3,10 @@ use Rattle.std.proofs.Common.{◌≡◌, ℕ, ◌<◌, ◌≤◌, ◌==◌, List
 use Rattle.std.proofs.lemmas.List.Splits.{slice_split_first, length-slice_split}
 use Rattle.std.specs.List.{after_first, before_first, position_or_len}
 use Rattle.rhythm_base.proofs.Positions.{slice_split-missing}
-use Rattle.kern_reader.specs.Text.{kern_lines, lines_among}
+use Rattle.kern_reader.specs.Text.{kern_lines, lines_of_pieces}
 
 -- pieces follow one another
-lines_among_more : (line : List ℕ) (pieces : List (List ℕ)) → 1 ≤ length pieces → lines_among (line ∷ pieces) ≡ line ∷ lines_among pieces
+lines_among_more : (line : List ℕ) (pieces : List (List ℕ)) → 1 ≤ length pieces → lines_of_pieces (line ∷ pieces) ≡ line ∷ lines_of_pieces pieces
 lines_among_more [] [] some = absurd (omega (arith, some))
 lines_among_more (b ∷ line) [] some = absurd (omega (arith, some))
 lines_among_more [] (next ∷ more) some = refl
@@ -16,13 +16,13 @@ lines_among_more (b ∷ line) (next ∷ more) some = refl
 pub lines_first : (text : List ℕ) → position_or_len (λ b. b == 10) text < length text
     → kern_lines text ≡ before_first (λ b. b == 10) text ∷ kern_lines (after_first (λ b. b == 10) text)
 lines_first text within =
-    ap lines_among (slice_split_first (λ b. b == 10) text 0 within)
+    ap lines_of_pieces (slice_split_first (λ b. b == 10) text 0 within)
     ∙ lines_among_more _ _ (omega (arith, length-slice_split (λ b. b == 10) (after_first (λ b. b == 10) text)))
 
 -- a text without a newline is one line
 pub lines_last : (text : List ℕ) → 0 < length text → length text ≤ position_or_len (λ b. b == 10) text → kern_lines text ≡ text ∷ []
-lines_last text some none = ap lines_among (slice_split-missing (λ b. b == 10) text none) ∙ one text some
+lines_last text some none = ap lines_of_pieces (slice_split-missing (λ b. b == 10) text none) ∙ one text some
   where
-    one : (text : List ℕ) → 0 < length text → lines_among (text ∷ []) ≡ text ∷ []
+    one : (text : List ℕ) → 0 < length text → lines_of_pieces (text ∷ []) ≡ text ∷ []
     one [] some = absurd (omega (arith, some))
     one (b ∷ bs) some = refl

@@ -32,12 +32,12 @@ use Rattle.kern_reader.specs.declared.token.Token.{Token}
 use Rattle.kern_reader.specs.declared.token.Token.TheVariants as token
 use Rattle.kern_reader.specs.Columns.{add_bar, add_token, announced, columns_of, current_bar, grid_of, grid_with, line_values, spines_of, stage_of}
 use Rattle.kern_reader.specs.Faults.{first_fault, has_no_grid, has_wrong_grace, has_wrong_tie, is_misplaced, is_unread, is_wrong_bar, line_fault, said_tests, text_tests}
-use Rattle.kern_reader.specs.Lines.{IsWellLine, all_are, barline, begins_signature, data_line, interpretation, is_ending, is_heading, is_refused_word, line_of, other_line, signature_line, signature_of, signature_of_numbers, signature_of_parts}
+use Rattle.kern_reader.specs.Lines.{IsWellLine, all_are, barline_said, begins_signature, data_line, interpretation, is_ending, is_heading, is_refused_word, line_of, other_line, signature_line, signature_of, signature_of_numbers, signature_of_parts}
 use Rattle.kern_reader.specs.Outcome.{at_end, or_fault, read_from, read_text, score_of, scored}
 use Rattle.kern_reader.specs.Reading.{HasWidth}
 use Rattle.kern_reader.specs.Score.{IsColumnOn, IsKernScore, IsTokenOn, KernColumns, score_columns}
-use Rattle.kern_reader.specs.Text.{begins_with, columns, is_skipped, kern_lines, lines_among}
-use Rattle.kern_reader.specs.Tokens.{◌>>=◌, IsWellSignature, IsWellStyle, IsWellToken, IsWellValue, all_notes, all_tokens, are_dots, chord_of, chord_of_notes, chord_token, digits_part, dots_part, grace_note, is_plain, key_of, keys_with, marks_of, marks_part, note_of, number_of, pitch_part, recip_of, rest_of, rise, token_of, value_of, value_part, valued_note}
+use Rattle.kern_reader.specs.Text.{begins_with, columns, is_skipped, kern_lines, lines_of_pieces}
+use Rattle.kern_reader.specs.Tokens.{◌>>=◌, IsWellSignature, IsWellStyle, IsWellToken, IsWellValue, all_notes, all_tokens, are_dots, token_chord, chord_of_notes, chord_token, digits_part, dots_part, grace_note, is_plain, pitch_key, keys_with, marks_of, marks_part, note_of, number_of, pitch_part, recip_of, rest_of, rising_notes, token_of, value_of, value_part, valued_note}
 use Rattle.kern_reader.proofs.ColumnLemmas.{IsShort, columns_on, columns_short, grid_some}
 use Rattle.kern_reader.proofs.NumberLemmas.{plain_some}
 use Rattle.kern_reader.proofs.TextLemmas.{All_reverse}
@@ -84,7 +84,7 @@ recip_within text =
     (either (bytes_eq text (codes "00")) (λ r. IsWithin 61440 (plain_grid r)) (Some Long) _ (omega arith, omega arith)
     (map_some (λ n. Of n) (IsWithin 61440) (λ r. IsWithin 61440 (plain_grid r)) (λ n h. h) (number_of 61440 text) (number_within 61440 text)))
 
-value_well : (text : List ℕ) → IfSome (value_of text) IsWellValue
+pub value_well : (text : List ℕ) → IfSome (value_of text) IsWellValue
 unfolding value_of
 value_well text = at (are_dots (dots_part text)) refl
   where
@@ -102,7 +102,7 @@ IsWellWritten n = IsWellStyle n.style
 
 valued_well : (opens : Bool) (text : List ℕ) → IfSome (valued_note opens text) IsWellWritten
 unfolding valued_note
-valued_well opens text = at (value_of (value_part text)) (value_well (value_part text)) (key_of (pitch_part text)) (marks_of (marks_part text))
+valued_well opens text = at (value_of (value_part text)) (value_well (value_part text)) (pitch_key (pitch_part text)) (marks_of (marks_part text))
   where
     at : (v : Option Value) → IfSome v IsWellValue → (k : Option ℕ) (m : Option (TieMark × Bool))
         → IfSome (v >>= λ value. k >>= λ key. m >>= λ marks. Some (record { style = style.Valued (record { value = value; opens = opens; tie = marks.0; short = marks.1 }); key = key })) IsWellWritten
@@ -112,7 +112,7 @@ valued_well opens text = at (value_of (value_part text)) (value_well (value_part
     at (Some value) well (Some key) (Some marks) = well
 
 grace_well : (text : List ℕ) → IfSome (grace_note text) IsWellWritten
-grace_well text = at (key_of text)
+grace_well text = at (pitch_key text)
   where
     at : (o : Option ℕ) → IfSome (option_map (λ key. record { style = style.Grace; key = key }) o) IsWellWritten
     at None = tt
@@ -144,10 +144,10 @@ styled_well (style.Valued w) keys well = well
 notes_well : (notes : List Note) → IsWellFirst notes → IfSome (chord_of_notes notes) IsWellToken
 notes_well [] well = tt
 notes_well (note ∷ notes) well =
-    either (rise note notes) IsWellToken (Some (chord_token note.style (keys_with (2 ^ note.key) notes))) None (styled_well note.style (keys_with (2 ^ note.key) notes) well) tt
+    either (rising_notes note notes) IsWellToken (Some (chord_token note.style (keys_with (2 ^ note.key) notes))) None (styled_well note.style (keys_with (2 ^ note.key) notes) well) tt
 
-chord_well : (text : List ℕ) → IfSome (chord_of text) IsWellToken
-unfolding chord_of
+chord_well : (text : List ℕ) → IfSome (token_chord text) IsWellToken
+unfolding token_chord
 chord_well text =
     let texts = slice_split (λ b. b == 32) text in
     then_some (all_notes texts) chord_of_notes IsWellFirst IsWellToken (first_well texts) notes_well
@@ -156,7 +156,7 @@ token_well : (text : List ℕ) → IfSome (token_of text) IsWellToken
 unfolding token_of
 token_well text =
     either (bytes_eq text (codes ".")) IsWellToken (Some token.Null) _ tt
-    (either _ IsWellToken (rest_of (value_part text)) (chord_of text)
+    (either _ IsWellToken (rest_of (value_part text)) (token_chord text)
     (map_some (λ value. token.Rest value) IsWellValue IsWellToken (λ value well. well) (value_of (value_part text)) (value_well (value_part text))) (chord_well text))
 
 tokens_well : (texts : List (List ℕ)) → IfSome (all_tokens texts) (All IsWellToken)
@@ -200,7 +200,7 @@ interpretation_well first texts =
     (either_line (list_any begins_signature texts) (if all_are first texts then signature_line (signature_of first) else Unread) Other
     (either_line (all_are first texts) (signature_line (signature_of first)) Unread (said_signature_well first) tt) tt)
 
-barline_well : (first : List ℕ) (texts : List (List ℕ)) → IsWellLine (barline first texts)
+barline_well : (first : List ℕ) (texts : List (List ℕ)) → IsWellLine (barline_said first texts)
 barline_well first texts =
     either_line (all_are first texts) (if bytes_eq first (codes "==") then LastBarline else if list_all is_ascii_digit (drop 1 first) then Barline else Unread) Unread
     (either_line (bytes_eq first (codes "==")) LastBarline (if list_all is_ascii_digit (drop 1 first) then Barline else Unread) tt
@@ -215,7 +215,7 @@ unfolding other_line
 other_well [] = tt
 other_well (first ∷ more) =
     either_line (begins_with 42 first) (interpretation first (first ∷ more)) _ (interpretation_well first (first ∷ more))
-    (either_line (begins_with 61 first) (barline first (first ∷ more)) (data_line (all_tokens (first ∷ more))) (barline_well first (first ∷ more))
+    (either_line (begins_with 61 first) (barline_said first (first ∷ more)) (data_line (all_tokens (first ∷ more))) (barline_well first (first ∷ more))
     (data_well (all_tokens (first ∷ more)) (tokens_well (first ∷ more))))
 
 line_well : (text : List ℕ) → IsWellLine (line_of text)
@@ -298,7 +298,7 @@ read_sound before number most (text ∷ texts) lines sound few e =
 
 -- ---- the score
 
-lines_few : (pieces : List (List ℕ)) → length (lines_among pieces) ≤ length pieces
+lines_few : (pieces : List (List ℕ)) → length (lines_of_pieces pieces) ≤ length pieces
 lines_few [] = omega arith
 lines_few ([] ∷ []) = omega arith
 lines_few ((b ∷ bs) ∷ []) = omega arith

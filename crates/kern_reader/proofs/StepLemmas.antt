@@ -17,7 +17,7 @@ use Rattle.kern_reader.specs.declared.token.Token.TheVariants as token
 use Rattle.kern_reader.specs.Columns.{add_bar, add_token, announced, columns_of, current_bar, grid_of, grid_with, line_values, place, rescaled, spine_after, spine_at, spines_of, stage_of, token_values}
 use Rattle.kern_reader.specs.Faults.{first_fault, line_fault, said_tests, text_tests}
 use Rattle.kern_reader.specs.Lines.{IsWellLine, line_of}
-use Rattle.kern_reader.specs.Reading.{Adds, HasWidth, IsCountable, IsReading, barred_columns, barred_spines, start}
+use Rattle.kern_reader.specs.Reading.{Adds, HasWidth, IsCountable, IsReading, barred_columns, barred_spines, first_spine}
 use Rattle.kern_reader.specs.Score.{IsColumnOn}
 use Rattle.kern_reader.specs.Text.{columns}
 use Rattle.kern_reader.proofs.ColumnLemmas.{IsShort, columns_on, columns_short, grid_some}
@@ -157,9 +157,9 @@ bar_appended None (column ∷ columns) = ap (λ xs. reverse column ∷ xs) (bar_
 bar_appended (Some signature) [] = refl
 bar_appended (Some signature) (column ∷ columns) = ap₂ ◌∷◌ (reversed (token.Bar signature) column) (bar_appended (Some signature) columns)
 
-begun_spines : (grid count : ℕ) → replicate count start ≡ map (spine_at grid) (replicate count [])
+begun_spines : (grid count : ℕ) → replicate count first_spine ≡ map (spine_at grid) (replicate count [])
 begun_spines grid zero = refl
-begun_spines grid (suc count) = ap (λ xs. start ∷ xs) (begun_spines grid count)
+begun_spines grid (suc count) = ap (λ xs. first_spine ∷ xs) (begun_spines grid count)
 
 begun_columns : (count : ℕ) → replicate count [] ≡ map reverse (replicate count (let column : List Token = [] in column))
 begun_columns zero = refl

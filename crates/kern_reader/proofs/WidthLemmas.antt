@@ -18,10 +18,10 @@ use Rattle.kern_reader.specs.declared.spine.Spine.{Spine}
 use Rattle.kern_reader.specs.declared.token.TimeSignature.{TimeSignature}
 use Rattle.kern_reader.specs.declared.token.Token.{Token}
 use Rattle.kern_reader.specs.Faults.{first_fault, has_no_grid, has_no_head, has_wrong_grace, has_wrong_tie, has_wrong_width, is_misplaced, is_wrong_bar, is_out_of_turn, is_unread, said_tests, text_tests}
-use Rattle.kern_reader.specs.Lines.{all_are, barline, begins_signature, data_line, interpretation, is_ending, is_heading, is_refused_word, line_of, other_line, signature_line, signature_of}
+use Rattle.kern_reader.specs.Lines.{all_are, barline_said, begins_signature, data_line, interpretation, is_ending, is_heading, is_refused_word, line_of, other_line, signature_line, signature_of}
 use Rattle.kern_reader.specs.Reading.{HasWidth}
 use Rattle.kern_reader.specs.Text.{begins_with, columns}
-use Rattle.kern_reader.specs.Tokens.{◌>>=◌, all_tokens, chord_of, note_of, token_of, value_of}
+use Rattle.kern_reader.specs.Tokens.{◌>>=◌, all_tokens, token_chord, note_of, token_of, value_of}
 
 -- a test before the others does not hold
 pub passes : (x : Bool × KernWhat) (xs : List (Bool × KernWhat)) → first_fault (x ∷ xs) ≡ None → (x.0 ≡ false) × (first_fault xs ≡ None)
@@ -45,7 +45,7 @@ interpretation_wide first texts n =
     (if_wide (list_any begins_signature texts) (if all_are first texts then signature_line (signature_of first) else Unread) Other n
     (if_wide (all_are first texts) (signature_line (signature_of first)) Unread n (signature_wide (signature_of first) n) tt) tt)
 
-barline_wide : (first : List ℕ) (texts : List (List ℕ)) (n : ℕ) → HasWidth (barline first texts) n
+barline_wide : (first : List ℕ) (texts : List (List ℕ)) (n : ℕ) → HasWidth (barline_said first texts) n
 barline_wide first texts n =
     if_wide (all_are first texts) (if bytes_eq first (codes "==") then LastBarline else if list_all is_ascii_digit (drop 1 first) then Barline else Unread) Unread n
     (if_wide (bytes_eq first (codes "==")) LastBarline (if list_all is_ascii_digit (drop 1 first) then Barline else Unread) n tt
@@ -76,10 +76,10 @@ unfolding other_line
 other_wide [] n count = tt
 other_wide (first ∷ more) n count =
     if_wide (begins_with 42 first) (interpretation first (first ∷ more)) _ n (interpretation_wide first (first ∷ more) n)
-    (if_wide (begins_with 61 first) (barline first (first ∷ more)) (data_line (all_tokens (first ∷ more))) n (barline_wide first (first ∷ more) n) (as_many (first ∷ more) n count))
+    (if_wide (begins_with 61 first) (barline_said first (first ∷ more)) (data_line (all_tokens (first ∷ more))) n (barline_wide first (first ∷ more) n) (as_many (first ∷ more) n count))
 
 empty_wide : (n : ℕ) → HasWidth (other_line (columns [])) n
-unfolding other_line token_of chord_of note_of value_of
+unfolding other_line token_of token_chord note_of value_of
 empty_wide n = tt
 
 heading_few : (at : Stage) (text : List ℕ) → is_heading text ≡ true → has_no_head at text ≡ false → is_unread at (Heading (length (columns text))) ≡ false

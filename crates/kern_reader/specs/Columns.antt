@@ -118,10 +118,10 @@ marks_tie Absent = false
 marks_tie GoesOn = true
 marks_tie Ends = true
 
-abbrev pub goes_on : TieMark → Bool
-goes_on Absent = false
-goes_on GoesOn = true
-goes_on Ends = false
+abbrev pub tie_goes_on : TieMark → Bool
+tie_goes_on Absent = false
+tie_goes_on GoesOn = true
+tie_goes_on Ends = false
 
 -- a value continues a tie where it has an underscore or a closing bracket
 abbrev pub continues : Writing → Bool
@@ -129,7 +129,7 @@ continues writing = marks_tie writing.tie
 
 -- and leaves one open where it has an opening bracket or an underscore
 abbrev pub is_left_open : Writing → Bool
-is_left_open writing = writing.opens || goes_on writing.tie
+is_left_open writing = writing.opens || tie_goes_on writing.tie
 
 -- the keys of the tie that the last value left open
 abbrev pub open_keys : List Token → Option ℕ

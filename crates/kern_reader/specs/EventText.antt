@@ -6,25 +6,25 @@ use Rattle.rhythm_base.specs.declared.span.Span.{Span}
 use Rattle.kern_reader.specs.declared.event.KernEvent.{KernEvent}
 
 -- the keys of a set from a key on, among so many, rising
-abbrev pub keys_from : ℕ → ℕ → ℕ → List ℕ
-keys_from keys k zero = []
-keys_from keys k (suc n) = (if (keys / 2 ^ k) % 2 == 1 then k ∷ [] else []) ++ keys_from keys (k + 1) n
+abbrev pub event_keys : ℕ → ℕ → ℕ → List ℕ
+event_keys keys k zero = []
+event_keys keys k (suc n) = (if (keys / 2 ^ k) % 2 == 1 then k ∷ [] else []) ++ event_keys keys (k + 1) n
 
 unfoldable pub set_keys : ℕ → List ℕ
-set_keys keys = keys_from keys 0 128
+set_keys keys = event_keys keys 0 128
 
 -- a key, after a comma where it is not the first
-abbrev pub key_text : Bool → ℕ → List ℕ
-key_text true key = decimal key
-key_text false key = codes "," ++ decimal key
+abbrev pub event_key : Bool → ℕ → List ℕ
+event_key true key = decimal key
+event_key false key = codes "," ++ decimal key
 
 abbrev pub later_keys_text : List ℕ → List ℕ
-later_keys_text keys = flat_map (key_text false) keys
+later_keys_text keys = flat_map (event_key false) keys
 
 -- the keys of a chord, with a comma between two
 abbrev pub listed_text : List ℕ → List ℕ
 listed_text [] = []
-listed_text (key ∷ keys) = key_text true key ++ later_keys_text keys
+listed_text (key ∷ keys) = event_key true key ++ later_keys_text keys
 
 -- the same after other keys, or none
 abbrev pub listed_on : Bool → List ℕ → List ℕ
@@ -42,8 +42,8 @@ kind_text true = codes "short"
 kind_text false = codes "note"
 
 -- a q and the keys of each grace chord
-abbrev pub grace_text : ℕ → List ℕ
-grace_text keys = codes " q" ++ keys_text keys
+abbrev pub event_graces : ℕ → List ℕ
+event_graces keys = codes " q" ++ keys_text keys
 
 -- the spine, the start and the length ..
 abbrev pub place_text : KernEvent → List ℕ
@@ -55,7 +55,7 @@ sound_text x = codes " " ++ kind_text x.short ++ codes " " ++ keys_text x.keys
 
 -- .. and the grace chords
 abbrev pub event_text : KernEvent → List ℕ
-event_text e = place_text e ++ sound_text e.span ++ flat_map grace_text e.span.graces ++ (10 ∷ [])
+event_text e = place_text e ++ sound_text e.span ++ flat_map event_graces e.span.graces ++ (10 ∷ [])
 
 abbrev pub events_text : List KernEvent → List ℕ
 events_text events = flat_map event_text events

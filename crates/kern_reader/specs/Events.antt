@@ -3,7 +3,7 @@ use Rattle.std.specs.Prelude.{◌≡◌, ℕ, suc, ◌+◌, ◌*◌, ◌/◌, Bo
 use Rattle.std.specs.List.{flat_map}
 use Rattle.rhythm_base.specs.declared.span.Span.{Span}
 use Rattle.rhythm_base.specs.Lists.{Each}
-use Rattle.rhythm_base.specs.Spans.{IsFrac}
+use Rattle.durations.specs.Spans.{IsFrac}
 use Rattle.durations.specs.declared.value.Value.{Value}
 use Rattle.durations.specs.Value.{width}
 use Rattle.kern_reader.specs.declared.event.KernEvent.{KernEvent}
@@ -34,8 +34,8 @@ abbrev pub bar_start : List Token → ℕ
 bar_start before = sum (drop 1 (bars before))
 
 -- in parts of 1/(64 * grid) of a whole note
-abbrev pub place_of : ℕ → List Token → ℕ
-place_of grid before = grid * bar_start before + 64 * place grid before
+abbrev pub token_place : ℕ → List Token → ℕ
+token_place grid before = grid * bar_start before + 64 * place grid before
 
 -- ---- spans
 
@@ -69,7 +69,7 @@ tied_values after = flat_map token_values (take_while holds_tie after)
 
 -- the span has the keys, the grace chords and the mark of its first chord, and sounds as long as all of it
 pub record IsKernSpan (grid : ℕ) (b : Beginning) (x : Span) : Type 0 where
-  pub start : IsFrac (place_of grid b.before) (64 * grid) x.start
+  pub start : IsFrac (token_place grid b.before) (64 * grid) x.start
   pub len : IsFrac (width grid b.writing.value + sum_by (width grid) (tied_values b.after)) grid x.len
   pub keys : x.keys ≡ b.keys
   pub graces : x.graces ≡ reverse (waiting b.before)
@@ -80,15 +80,15 @@ AreColumnSpans grid column spans = Each (IsKernSpan grid) (beginnings [] column)
 
 -- ---- events
 
-abbrev pub event : ℕ → Span → KernEvent
-event spine span = record { spine = spine; span = span }
+abbrev pub span_event : ℕ → Span → KernEvent
+span_event spine span = record { spine = spine; span = span }
 
 -- the spans of the spines from this number on, spine after spine
 abbrev pub AreEventsFrom : ℕ → ℕ → List (List Token) → List KernEvent → Type 0
 AreEventsFrom grid spine [] events = events ≡ []
 AreEventsFrom grid spine (column ∷ columns) events =
     (spans : List Span) × (others : List KernEvent) × AreColumnSpans grid column spans
-    × AreEventsFrom grid (suc spine) columns others × (events ≡ map (event spine) spans ++ others)
+    × AreEventsFrom grid (suc spine) columns others × (events ≡ map (span_event spine) spans ++ others)
 
 -- spines are numbered from 1
 abbrev pub AreEvents : KernColumns → List KernEvent → Type 0

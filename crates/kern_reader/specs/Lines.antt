@@ -59,8 +59,8 @@ interpretation first texts =
     else Other
 
 -- a barline is the same in all columns: `==`, or `=` and digits or none
-abbrev pub barline : List ℕ → List (List ℕ) → KernLine
-barline first texts =
+abbrev pub barline_said : List ℕ → List (List ℕ) → KernLine
+barline_said first texts =
     if all_are first texts
     then (if bytes_eq first (codes "==") then LastBarline else if list_all is_ascii_digit (drop 1 first) then Barline else Unread)
     else Unread
@@ -73,7 +73,7 @@ unfoldable pub other_line : List (List ℕ) → KernLine
 other_line [] = Unread
 other_line (first ∷ more) =
     if begins_with 42 first then interpretation first (first ∷ more)
-    else if begins_with 61 first then barline first (first ∷ more)
+    else if begins_with 61 first then barline_said first (first ∷ more)
     else data_line (all_tokens (first ∷ more))
 
 abbrev pub is_heading : List ℕ → Bool

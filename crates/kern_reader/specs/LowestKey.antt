@@ -8,5 +8,5 @@ pub record IsFloor (low keys : ℕ) : Type 0 where
   pub none : (k : ℕ) → k < low → bit_at keys k ≡ 0
 
 -- a key that is not in the first set is not in the second
-abbrev pub AreKeysOf : ℕ → ℕ → Type 0
-AreKeysOf all keys = (k : ℕ) → bit_at all k ≡ 0 → bit_at keys k ≡ 0
+abbrev pub AreAmongKeys : ℕ → ℕ → Type 0
+AreAmongKeys all keys = (k : ℕ) → bit_at all k ≡ 0 → bit_at keys k ≡ 0

@@ -1,5 +1,5 @@
 -- What a text comes to: its lines, or its first line with a fault.
-use Rattle.std.specs.Prelude.{◌≡◌, ◌≢◌, ℕ, suc, if◌then◌else◌, List, [], ◌∷◌, Option, Some, None, Result, Ok, Err}
+use Rattle.std.specs.Prelude.{◌≡◌, ◌≢◌, ◌≤◌, ℕ, suc, ◌-◌, false, slice_index_or, length, if◌then◌else◌, List, [], ◌∷◌, Option, Some, None, Result, Ok, Err}
 use Rattle.kern_reader.specs.declared.fault.KernFault.{KernFault}
 use Rattle.kern_reader.specs.declared.fault.KernWhat.{KernWhat}
 use Rattle.kern_reader.specs.declared.fault.KernWhat.TheVariants as what
@@ -45,3 +45,10 @@ score_of text = scored (read_text text)
 abbrev pub GivesKern : Result KernColumns KernFault → Result KernColumns KernFault → Type 0
 GivesKern (Ok score) outcome = outcome ≡ Ok score
 GivesKern (Err fault) outcome = fault.what ≢ what.Memory → outcome ≡ Err fault
+
+-- a line, counted from 1, that can be the one that is read: it is no comment, and no line before it has a fault
+pub record IsLineToRead (text : List ℕ) (line : ℕ) : Type 0 where
+  pub some : 1 ≤ line
+  pub there : line ≤ length (kern_lines text)
+  pub said : is_skipped (slice_index_or (kern_lines text) (line - 1) []) ≡ false
+  pub first : (fault : KernFault) → read_text text ≡ Err fault → line ≤ fault.line

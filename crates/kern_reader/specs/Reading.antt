@@ -34,11 +34,11 @@ abbrev pub barred_columns : Option TimeSignature → List (List Token) → List 
 barred_columns None columns = columns
 barred_columns (Some signature) columns = map (λ c. c ++ token.Bar signature ∷ []) columns
 
-abbrev pub start : Spine
-start = record { place = 0; tied = None; graces = 0 }
+abbrev pub first_spine : Spine
+first_spine = record { place = 0; tied = None; graces = 0 }
 
 abbrev pub added_spines : KernLine → ℕ → Reading → List Spine
-added_spines (Heading count) grid r = replicate count start
+added_spines (Heading count) grid r = replicate count first_spine
 added_spines (Data tokens) grid r = map (λ p. spine_after grid (rescaled (grid / r.grid) p.1) p.0) (zip tokens r.spines.items)
 added_spines Barline grid r = barred_spines r.announced r.spines.items
 added_spines _ grid r = r.spines.items

@@ -3,14 +3,14 @@ use Rattle.std.specs.Prelude.{ℕ, suc, length, ◌==◌, Bool, false, List, [],
 use Rattle.std.specs.List.{slice_split}
 
 -- The lines among the pieces between newlines. A newline ends each piece but the last; that one is a line where it has a byte
-abbrev pub lines_among : List (List ℕ) → List (List ℕ)
-lines_among [] = []
-lines_among ([] ∷ []) = []
-lines_among ((byte ∷ bytes) ∷ []) = (byte ∷ bytes) ∷ []
-lines_among (line ∷ next ∷ more) = line ∷ lines_among (next ∷ more)
+abbrev pub lines_of_pieces : List (List ℕ) → List (List ℕ)
+lines_of_pieces [] = []
+lines_of_pieces ([] ∷ []) = []
+lines_of_pieces ((byte ∷ bytes) ∷ []) = (byte ∷ bytes) ∷ []
+lines_of_pieces (line ∷ next ∷ more) = line ∷ lines_of_pieces (next ∷ more)
 
 abbrev pub kern_lines : List ℕ → List (List ℕ)
-kern_lines text = lines_among (slice_split (λ b. b == 10) text)
+kern_lines text = lines_of_pieces (slice_split (λ b. b == 10) text)
 
 -- tabs stand between the columns
 abbrev pub columns : List ℕ → List (List ℕ)

@@ -5,7 +5,7 @@ use Rattle.std.specs.List.{list_all, prefix_len, slice_split}
 use Rattle.std.specs.Option.{option_map}
 use Rattle.std.specs.Str.{bytes_eq}
 use Rattle.std.specs.Str.Parse.{digits_value}
-use Rattle.rhythm_base.specs.Pitch.{is_black}
+use Rattle.durations.specs.Pitch.{is_black}
 use Rattle.rhythm_base.specs.Signatures.{IsSignature}
 use Rattle.durations.specs.declared.value.Recip.{Recip}
 use Rattle.durations.specs.declared.value.Recip.TheVariants.{Of, Breve, Long}
@@ -63,8 +63,8 @@ value_of text =
 
 -- ---- pitches: a letter once or more, and an accidental
 
-abbrev pub is_lower : ℕ → Bool
-is_lower letter = nat_le 97 letter && nat_le letter 103
+abbrev pub is_lower_case : ℕ → Bool
+is_lower_case letter = nat_le 97 letter && nat_le letter 103
 
 abbrev pub is_upper : ℕ → Bool
 is_upper letter = nat_le 65 letter && nat_le letter 71
@@ -72,7 +72,7 @@ is_upper letter = nat_le 65 letter && nat_le letter 71
 -- the octave of so many lower or upper case letters: 5 of one lower case letter, 4 of one upper case letter
 abbrev pub octave_of : ℕ → ℕ → Option ℕ
 octave_of letter count =
-    if is_lower letter && nat_le count 6 then Some (count + 4)
+    if is_lower_case letter && nat_le count 6 then Some (count + 4)
     else if is_upper letter && nat_le count 5 then Some (5 - count)
     else None
 
@@ -101,9 +101,9 @@ key_of_letters letter count accidental = do
   key ← altered accidental white
   within_keys (12 * octave + key)
 
-unfoldable pub key_of : List ℕ → Option ℕ
-key_of [] = None
-key_of (letter ∷ text) = key_of_letters letter (suc (prefix_len (λ b. b == letter) text)) (drop (prefix_len (λ b. b == letter) text) text)
+unfoldable pub pitch_key : List ℕ → Option ℕ
+pitch_key [] = None
+pitch_key (letter ∷ text) = key_of_letters letter (suc (prefix_len (λ b. b == letter) text)) (drop (prefix_len (λ b. b == letter) text) text)
 
 -- ---- notes
 
@@ -113,7 +113,7 @@ is_value_byte b = is_ascii_digit b || (b == 46)
 
 -- and a pitch with letters and an accidental
 abbrev pub is_pitch_byte : ℕ → Bool
-is_pitch_byte b = is_lower b || (is_upper b || ((b == 35) || (b == 45)))
+is_pitch_byte b = is_lower_case b || (is_upper b || ((b == 35) || (b == 45)))
 
 abbrev pub value_part : List ℕ → List ℕ
 value_part text = take_while is_value_byte text
@@ -140,12 +140,12 @@ marks_of text =
 unfoldable pub valued_note : Bool → List ℕ → Option Note
 valued_note opens text = do
   value ← value_of (value_part text)
-  key ← key_of (pitch_part text)
+  key ← pitch_key (pitch_part text)
   marks ← marks_of (marks_part text)
   Some (record { style = style.Valued (record { value = value; opens = opens; tie = marks.0; short = marks.1 }); key = key })
 
 abbrev pub grace_note : List ℕ → Option Note
-grace_note text = option_map (λ key. record { style = style.Grace; key = key }) (key_of text)
+grace_note text = option_map (λ key. record { style = style.Grace; key = key }) (pitch_key text)
 
 -- a grace note is a q and a pitch
 unfoldable pub note_of : List ℕ → Option Note
@@ -186,9 +186,9 @@ same_style _ _ = false
 abbrev pub follows : Note → Note → Bool
 follows before note = same_style before.style note.style && nat_lt before.key note.key
 
-abbrev pub rise : Note → List Note → Bool
-rise before [] = true
-rise before (note ∷ notes) = follows before note && rise note notes
+abbrev pub rising_notes : Note → List Note → Bool
+rising_notes before [] = true
+rising_notes before (note ∷ notes) = follows before note && rising_notes note notes
 
 abbrev pub keys_with : ℕ → List Note → ℕ
 keys_with keys notes = fold (λ keys note. bit_or keys (2 ^ note.key)) keys notes
@@ -203,10 +203,10 @@ all_notes (text ∷ texts) = note_of text >>= λ note. option_map (λ notes. not
 
 abbrev pub chord_of_notes : List Note → Option Token
 chord_of_notes [] = None
-chord_of_notes (note ∷ notes) = if rise note notes then Some (chord_token note.style (keys_with (2 ^ note.key) notes)) else None
+chord_of_notes (note ∷ notes) = if rising_notes note notes then Some (chord_token note.style (keys_with (2 ^ note.key) notes)) else None
 
-unfoldable pub chord_of : List ℕ → Option Token
-chord_of text = all_notes (slice_split (λ b. b == 32) text) >>= chord_of_notes
+unfoldable pub token_chord : List ℕ → Option Token
+token_chord text = all_notes (slice_split (λ b. b == 32) text) >>= chord_of_notes
 
 -- ---- tokens
 
@@ -218,7 +218,7 @@ unfoldable pub token_of : List ℕ → Option Token
 token_of text =
     if bytes_eq text (codes ".") then Some token.Null
     else if bytes_eq (after_value text) (codes "r") then rest_of (value_part text)
-    else chord_of text
+    else token_chord text
 
 -- all columns of a line
 abbrev pub all_tokens : List (List ℕ) → Option (List Token)

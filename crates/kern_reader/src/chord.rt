@@ -1,5 +1,5 @@
 ghost use Rattle.kern_reader.specs.Tokens as definitions;
-ghost use Rattle.kern_reader.specs.Tokens.{IsWellStyle, IsWellToken, chord_of};
+ghost use Rattle.kern_reader.specs.Tokens.{IsWellStyle, IsWellToken, token_chord};
 ghost use Rattle.std.specs.Prelude.{◌≡◌, ◌<◌, IfSome};
 
 use crate::note::note;
@@ -82,7 +82,7 @@ fn chord_token(style: Style, keys: Keys) -> Token
 
 /// The chord that a text says.
 pub(crate) fn chord(text: &[u8]) -> Option<Token>
-    ensures token { result ≡ chord_of text.now }
+    ensures token { result ≡ token_chord text.now }
     ensures well { IfSome result IsWellToken }
 {
     let (first_text, mut rest) = first_piece(text, b' ');

@@ -28,7 +28,7 @@ fn push_frac(text: &mut Vec<u8>, frac: Frac) -> Result<(), AllocError>
 
 /// Appends a key, after a comma where it is not the first.
 fn push_key(text: &mut Vec<u8>, first: bool, key: u8) -> Result<(), AllocError>
-    ensures { OnOk result (text.new.items ≡ text.old.items ++ definitions.key_text first key) }
+    ensures { OnOk result (text.new.items ≡ text.old.items ++ definitions.event_key first key) }
 {
     if !first {
         text.extend_from_slice(b",")?;
@@ -65,7 +65,7 @@ fn push_keys(text: &mut Vec<u8>, low: u8, keys: Keys) -> Result<(), AllocError>
 
 /// Appends the grace chords of an event.
 fn push_graces(text: &mut Vec<u8>, graces: &[Keys]) -> Result<(), AllocError>
-    ensures { OnOk result (text.new.items ≡ text.old.items ++ flat_map definitions.grace_text graces.now) }
+    ensures { OnOk result (text.new.items ≡ text.old.items ++ flat_map definitions.event_graces graces.now) }
 {
     'graces: for keys in graces {
         text.extend_from_slice(b" q")?;

@@ -1,7 +1,7 @@
 ghost use Rattle.durations.specs.Value as lengths;
 ghost use Rattle.kern_reader.specs.Columns.{has_value, token_values};
 ghost use Rattle.kern_reader.specs.Events as definitions;
-ghost use Rattle.kern_reader.specs.Events.{AreColumnSpans, IsKernSpan, IsWalk, beginning, event, tied_values};
+ghost use Rattle.kern_reader.specs.Events.{AreColumnSpans, IsKernSpan, IsWalk, beginning, span_event, tied_values};
 ghost use Rattle.kern_reader.specs.Score.{IsColumnOn, IsTokenOn};
 ghost use Rattle.kern_reader.specs.Tokens.{IsWellToken, IsWellValue};
 ghost use Rattle.rhythm_base.specs.Lists.{Each};
@@ -171,7 +171,7 @@ fn push_beginning(
     requires short { length after.now < 2 ^ 32 }
     requires small { grid * walk.now.start + 64 * walk.now.place < 2 ^ 63 }
     ensures { OnOk result ((before : List Token) → IsWalk grid before walk.now
-        → (own : List Span) × (events.new.items ≡ events.old.items ++ map (event spine) own) × Each (IsKernSpan grid) (beginning before token after.now) own) }
+        → (own : List Span) × (events.new.items ≡ events.old.items ++ map (span_event spine) own) × Each (IsKernSpan grid) (beginning before token after.now) own) }
 {
     match token {
         Token::Chord(writing, keys) => {
@@ -198,7 +198,7 @@ fn push_events(
     requires fine { grid ≤ 61440 }
     requires on { IsColumnOn grid tokens.now }
     requires short { length tokens.now < 2 ^ 32 }
-    ensures { OnOk result ((spans : List Span) × AreColumnSpans grid tokens.now spans × (events.new.items ≡ events.old.items ++ map (event spine) spans)) }
+    ensures { OnOk result ((spans : List Span) × AreColumnSpans grid tokens.now spans × (events.new.items ≡ events.old.items ++ map (span_event spine) spans)) }
 {
     let mut walk = Walk::new(alloc);
     let mut later = tokens;

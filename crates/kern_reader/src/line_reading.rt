@@ -46,7 +46,7 @@ fn interpretation(first: &[u8], line: &[u8]) -> KernLine
 
 /// What a line that begins like a barline says.
 fn barline(first: &[u8], line: &[u8]) -> KernLine
-    ensures line { result ≡ definitions.barline first.now (columns line.now) }
+    ensures line { result ≡ definitions.barline_said first.now (columns line.now) }
     ensures well { IsWellLine result }
 {
     if !all_are(first, line) {

@@ -1,4 +1,4 @@
-ghost use Rattle.kern_reader.specs.LowestKey.{AreKeysOf, IsFloor};
+ghost use Rattle.kern_reader.specs.LowestKey.{AreAmongKeys, IsFloor};
 ghost use Rattle.std.specs.Prelude.{All};
 
 use crate::event::KernEvent;
@@ -6,7 +6,7 @@ use rhythm_base::Keys;
 
 /// All keys of events, but for those of their grace chords.
 fn keys_of(events: &[KernEvent]) -> Keys
-    ensures { All (λ e. AreKeysOf result e.span.keys) events.now }
+    ensures { All (λ e. AreAmongKeys result e.span.keys) events.now }
 {
     let mut all = Keys::none();
     'events: for event in events {

@@ -1,6 +1,6 @@
 ghost use Rattle.kern_reader.specs.Tokens as definitions;
-ghost use Rattle.kern_reader.specs.Tokens.{altered, key_of, octave_of};
-ghost use Rattle.rhythm_base.specs.Pitch as pitches;
+ghost use Rattle.kern_reader.specs.Tokens.{altered, pitch_key, octave_of};
+ghost use Rattle.durations.specs.Pitch as pitches;
 ghost use Rattle.std.specs.List.{prefix_len};
 ghost use Rattle.std.specs.Prelude.{◌≡◌, ◌<◌, ◌≤◌, ◌==◌, IfSome, length, position};
 
@@ -99,10 +99,10 @@ fn key_of_letters(letter: u8, count: usize, accidental: &[u8]) -> Option<u8>
     (key < 128).then_some(key)
 }
 
-#[tactic(auto, unfolding(crate::specs::Tokens::key_of))]
+#[tactic(auto, unfolding(crate::specs::Tokens::pitch_key))]
 /// The key of a pitch.
 pub(crate) fn key(text: &[u8]) -> Option<u8>
-    ensures key { result ≡ key_of text.now }
+    ensures key { result ≡ pitch_key text.now }
     ensures few { IfSome result (λ n. n < 128) }
 {
     match text {

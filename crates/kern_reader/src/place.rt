@@ -1,6 +1,6 @@
 ghost use Rattle.kern_reader.specs.Events as definitions;
 ghost use Rattle.kern_reader.specs.Tokens.{IsWellSignature};
-ghost use Rattle.rhythm_base.specs.Spans.{IsFrac};
+ghost use Rattle.durations.specs.Spans.{IsFrac};
 ghost use Rattle.std.specs.Prelude.{◌≡◌, ◌≤◌};
 
 use crate::token::TimeSignature;

@@ -1,10 +1,10 @@
 ghost use Rattle.kern_reader.specs.Columns.{stage_of};
-ghost use Rattle.kern_reader.specs.Outcome.{GivesKern, at_end, read_from, score_of, scored};
+ghost use Rattle.kern_reader.specs.Outcome.{GivesKern, IsLineToRead, at_end, read_from, score_of, scored};
 ghost use Rattle.kern_reader.specs.Reading.{IsReading};
 ghost use Rattle.kern_reader.specs.Text.{is_skipped, kern_lines};
 ghost use Rattle.kern_reader.specs.declared.fault.KernWhat.TheVariants.{Memory};
 ghost use Rattle.kern_reader.specs.declared.line.KernLine.{KernLine};
-ghost use Rattle.std.specs.Prelude.{◌≡◌, ◌≢◌, ◌≤◌, ◌<◌, ◌+◌, ◌^◌, ◌∷◌, ℕ, List, Err, IfErr, OnOk, length};
+ghost use Rattle.std.specs.Prelude.{◌≡◌, ◌≢◌, ◌≤◌, ◌<◌, ◌+◌, ◌^◌, ◌∷◌, ℕ, List, Err, IfErr, OnErr, OnOk, false, length};
 
 use crate::fault::{KernFault, KernWhat};
 use crate::line::Stage;
@@ -38,6 +38,7 @@ fn read_line(
     ensures fault { IfErr result (λ fault. fault.what ≢ Memory → (before : List KernLine) (texts : List (List ℕ)) → IsReading number before reading.old
         → read_from before number (text.now ∷ texts) ≡ Err fault) }
     ensures line { IfErr result (λ fault. fault.line ≡ number) }
+    ensures said { OnErr result (is_skipped text.now ≡ false) }
 {
     if begins_with(b'!', text) {
         return Ok(());
@@ -53,6 +54,7 @@ fn score(reading: Reading, number: u32) -> Result<KernScore, KernFault>
     requires { (before : List KernLine) × IsReading number before reading }
     ensures score { (before : List KernLine) → IsReading number before reading → GivesKern result (scored (at_end (stage_of before) number before)) }
     ensures line { IfErr result (λ fault. (1 ≤ number → 1 ≤ fault.line) × (1 ≤ number → fault.line ≤ number)) }
+    ensures no_memory { IfErr result (λ fault. fault.what ≢ Memory) }
 {
     match reading.stage {
         Stage::Head => Err(KernFault {
@@ -82,6 +84,7 @@ pub fn read_kern(alloc: Global, bytes: &[u8]) -> Result<KernScore, KernFault>
     ensures score { GivesKern result (score_of bytes.now) }
     // a line of the text, or the one after the last
     ensures line { IfErr result (λ fault. (1 ≤ fault.line) × (fault.line ≤ length (kern_lines bytes.now) + 1)) }
+    ensures memory { IfErr result (λ fault. fault.what ≡ Memory → IsLineToRead bytes.now fault.line) }
 {
     let mut reading = Reading::new(alloc);
     let mut rest = bytes;

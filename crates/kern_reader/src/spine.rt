@@ -76,7 +76,7 @@ pub(crate) fn marks_tie(tie: TieMark) -> bool
 
 /// Whether the mark leaves a tie open.
 fn goes_on(tie: TieMark) -> bool
-    ensures { result ≡ definitions.goes_on tie }
+    ensures { result ≡ definitions.tie_goes_on tie }
 {
     match tie {
         TieMark::Absent => false,

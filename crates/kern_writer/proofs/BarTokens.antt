@@ -8,7 +8,7 @@ use Rattle.std.proofs.lemmas.Nat.{pow_pos}
 use Rattle.rhythm_base.specs.declared.sound.Sound.{Sound}
 use Rattle.rhythm_base.specs.declared.sound.SoundKind.{SoundKind}
 use Rattle.rhythm_base.specs.declared.sound.SoundKind.TheVariants.{Begin, Short, Tie, Rest}
-use Rattle.rhythm_base.specs.Spans.{is_rest, is_tie}
+use Rattle.rhythm_base.specs.SoundKinds.{is_rest, is_tie}
 use Rattle.durations.specs.declared.joined.Timed.{Timed}
 use Rattle.durations.specs.declared.joined.Written.{Written}
 use Rattle.durations.specs.declared.value.Recip.{Recip}
@@ -24,7 +24,7 @@ use Rattle.kern_writer.specs.Columns.{AreTokens, RiseFrom, column_tokens, next_i
 use Rattle.kern_writer.specs.Tokens.{Token, bar_tokens, goes_on, has_flats, next_goes_on, token}
 use Rattle.kern_writer.specs.Values.{AreBarValues, VoiceValue, is_first, timed, value_of_sound, values_of_sounds}
 use Rattle.kern_writer.proofs.Rising.{rise_weaker}
-use Rattle.kern_writer.proofs.ValuesExist.{written_exist}
+use Rattle.durations.proofs.ValuesExist.{written_exist}
 
 -- ---- their places rise
 

@@ -10,9 +10,9 @@ pub mod Rising
 pub mod RisingKeys
 pub mod RisingPlaces
 pub mod Separators
+pub mod TextsExist
 pub mod TimedSounds
 pub mod VoiceTokens
-pub mod ValuesExist
 pub mod Writing
 mod WorkedChanges
 mod WorkedRecords

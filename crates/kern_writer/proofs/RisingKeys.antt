@@ -10,7 +10,7 @@ use Rattle.std.proofs.lemmas.Nat.Bits.{and_pow, bit_at-lt, bit_at_above}
 use Rattle.std.specs.Int.Bits.{or_add_and}
 use Rattle.std.proofs.Math.Arith.{mod-mul}
 use Rattle.std.proofs.Math.Nat.{mod-lt, mod-one, mul_comm, pow-suc}
-use Rattle.kern_writer.specs.Shared.{between}
+use Rattle.kern_writer.specs.Shared.{separator_text}
 use Rattle.kern_writer.specs.Tokens.{keys_from, rising_keys}
 use Rattle.kern_writer.proofs.Separators.{join_push}
 
@@ -90,12 +90,12 @@ keys_push keys k set = keys_more keys k ∙ ap (λ b. keys_from keys 0 k ++ (if 
 
 -- a chord's text with one more of its keys
 pub chord_push : (note : ℕ → List ℕ) (keys k : ℕ) → IsBitSet keys k
-    → join_with_byte 32 (map note (keys_from keys 0 (k + 1))) ≡ join_with_byte 32 (map note (keys_from keys 0 k)) ++ (between 32 (length (keys_from keys 0 k)) ++ note k)
+    → join_with_byte 32 (map note (keys_from keys 0 (k + 1))) ≡ join_with_byte 32 (map note (keys_from keys 0 k)) ++ (separator_text 32 (length (keys_from keys 0 k)) ++ note k)
 chord_push note keys k set =
     ap (λ xs. join_with_byte 32 (map note xs)) (keys_push keys k set) ∙ ap (join_with_byte 32) (map_push note (keys_from keys 0 k) k)
     ∙ join_push 32 (map note (keys_from keys 0 k)) (note k)
-    ∙ ap (λ n. join_with_byte 32 (map note (keys_from keys 0 k)) ++ between 32 n ++ note k) (length-map (keys_from keys 0 k) note)
-    ∙ append_assoc (join_with_byte 32 (map note (keys_from keys 0 k))) (between 32 (length (keys_from keys 0 k))) (note k)
+    ∙ ap (λ n. join_with_byte 32 (map note (keys_from keys 0 k)) ++ separator_text 32 n ++ note k) (length-map (keys_from keys 0 k) note)
+    ∙ append_assoc (join_with_byte 32 (map note (keys_from keys 0 k))) (separator_text 32 (length (keys_from keys 0 k))) (note k)
 
 pub keys_count : (keys k : ℕ) → IsBitSet keys k → length (keys_from keys 0 (k + 1)) ≡ length (keys_from keys 0 k) + 1
 keys_count keys k set = ap length (keys_push keys k set) ∙ length_push (keys_from keys 0 k) k
@@ -104,13 +104,13 @@ keys_count keys k set = ap length (keys_push keys k set) ∙ length_push (keys_f
 pub chord_step :
     (note : ℕ → List ℕ) (keys k number : ℕ) (start items middle new : List ℕ)
     → IsBitSet keys k → items ≡ start ++ join_with_byte 32 (map note (keys_from keys 0 k)) → number ≡ length (keys_from keys 0 k)
-    → middle ≡ items ++ between 32 number → new ≡ middle ++ note k
+    → middle ≡ items ++ separator_text 32 number → new ≡ middle ++ note k
     → new ≡ start ++ join_with_byte 32 (map note (keys_from keys 0 (k + 1)))
 chord_step note keys k number start items middle new set so_far count separator last =
     let chord = join_with_byte 32 (map note (keys_from keys 0 k)) in
-    last ∙ ap (λ t. t ++ note k) (separator ∙ ap (λ n. items ++ between 32 n) count ∙ ap (λ t. t ++ between 32 (length (keys_from keys 0 k))) so_far)
-    ∙ append_assoc (start ++ chord) (between 32 (length (keys_from keys 0 k))) (note k)
-    ∙ append_assoc start chord (between 32 (length (keys_from keys 0 k)) ++ note k)
+    last ∙ ap (λ t. t ++ note k) (separator ∙ ap (λ n. items ++ separator_text 32 n) count ∙ ap (λ t. t ++ separator_text 32 (length (keys_from keys 0 k))) so_far)
+    ∙ append_assoc (start ++ chord) (separator_text 32 (length (keys_from keys 0 k))) (note k)
+    ∙ append_assoc start chord (separator_text 32 (length (keys_from keys 0 k)) ++ note k)
     ∙ ap (λ t. start ++ t) (sym (chord_push note keys k set))
 
 -- ---- what a test for a key says

@@ -4,7 +4,7 @@ use Rattle.std.specs.Prelude.{All}
 use Rattle.std.specs.List.{flat_map}
 use Rattle.std.proofs.lemmas.List.Elements.{All-head, All-tail}
 use Rattle.rhythm_base.specs.declared.sound.Sound.{Sound}
-use Rattle.rhythm_base.specs.Spans.{is_tie}
+use Rattle.rhythm_base.specs.SoundKinds.{is_tie}
 use Rattle.derivation.specs.WellSounded.{StandInBars}
 use Rattle.durations.proofs.Wide.{some_product}
 use Rattle.derivation.specs.declared.score.ScoreBar.{ScoreBar}

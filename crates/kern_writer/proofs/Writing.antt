@@ -11,7 +11,7 @@ use Rattle.kern_writer.specs.declared.kern_text.KernText.{KernText}
 use Rattle.kern_writer.specs.Records.{AreRecords, Record}
 use Rattle.derivation.specs.Score.{Score}
 use Rattle.kern_writer.specs.Text.{IsTooLong, record_text, records_text}
-use Rattle.kern_writer.specs.Writing.{EndsPast, HasEnded, HasWritten, IfTooLong, IsBounded, IsPast, Writes}
+use Rattle.kern_writer.specs.Writing.{EndsPast, HasEnded, HasWritten, IfTooLong, IsBounded, IsPastLongest, WritesRecords}
 
 pub nothing_written : (t : KernText) → IsBounded t → HasWritten t t []
 nothing_written t bounded = record { bytes = sym (append-nil t.bytes.items); lines = omega arith; bounded = bounded }
@@ -62,7 +62,7 @@ if_too_long : (e : ScoreFault) (P Q : ℕ → Type 0) → ((line : ℕ) → P li
 if_too_long (TooLong line) P Q f h = f line h
 if_too_long Memory P Q f h = h
 
-pub writes_after : {X : Type 0} (a b c : KernText) (rs ss : List Record) (result : Result X ScoreFault) → HasWritten a b rs → Writes ss b result c → Writes (rs ++ ss) a result c
+pub writes_after : {X : Type 0} (a b c : KernText) (rs ss : List Record) (result : Result X ScoreFault) → HasWritten a b rs → WritesRecords ss b result c → WritesRecords (rs ++ ss) a result c
 writes_after a b c rs ss (Ok x) first h = written_after a b c rs ss first h
 writes_after a b c rs ss (Err e) first h = if_too_long e (EndsPast b ss) (EndsPast a (rs ++ ss)) (λ line. past_after a b rs ss line first) h
 
@@ -73,13 +73,13 @@ one_text row = append-nil (join_with_byte 9 row ++ 10 ∷ [])
 pub record_written :
     {X : Type 0} (a b c : KernText) (row : Record) (result : Result X ScoreFault)
     → IsBounded a → b.lines ≡ a.lines → b.bytes.items ≡ a.bytes.items ++ join_with_byte 9 row
-    → MatchResult result (λ _. HasEnded b c) (λ e. IfTooLong e (IsPast b)) → Writes (row ∷ []) a result c
+    → MatchResult result (λ _. HasEnded b c) (λ e. IfTooLong e (IsPastLongest b)) → WritesRecords (row ∷ []) a result c
 record_written {X} a b c row result bounded lines bytes h = go result h
   where
     longer : a.bytes.items ++ records_text (row ∷ []) ≡ b.bytes.items ++ 10 ∷ []
     longer = ap (λ t. a.bytes.items ++ t) (one_text row) ∙ sym (append_assoc a.bytes.items (join_with_byte 9 row) (10 ∷ [])) ∙ ap (λ t. t ++ 10 ∷ []) (sym bytes)
 
-    past : (line : ℕ) → IsPast b line → EndsPast a (row ∷ []) line
+    past : (line : ℕ) → IsPastLongest b line → EndsPast a (row ∷ []) line
     past line k = record {
       count = 0;
       number = omega (arith, k.number, lines);
@@ -88,13 +88,13 @@ record_written {X} a b c row result bounded lines bytes h = go result h
       past = subst (λ t. LONGEST_SCORE < length t) (sym longer) (omega (arith, k.past, length-append b.bytes.items (10 ∷ [])));
     }
 
-    go : (r : Result X ScoreFault) → MatchResult r (λ _. HasEnded b c) (λ e. IfTooLong e (IsPast b)) → Writes (row ∷ []) a r c
+    go : (r : Result X ScoreFault) → MatchResult r (λ _. HasEnded b c) (λ e. IfTooLong e (IsPastLongest b)) → WritesRecords (row ∷ []) a r c
     go (Ok x) k = record {
       bytes = k.bytes ∙ sym longer;
       lines = omega (arith, k.lines, lines);
       bounded = record { lines = omega (arith, k.lines, lines, bounded.lines, ap length bytes, ap length k.bytes, length-append b.bytes.items (10 ∷ []), length-append a.bytes.items (join_with_byte 9 row)); short = k.short };
     }
-    go (Err e) k = if_too_long e (IsPast b) (EndsPast a (row ∷ [])) past k
+    go (Err e) k = if_too_long e (IsPastLongest b) (EndsPast a (row ∷ [])) past k
 
 -- ---- records of which some are done
 
@@ -105,12 +105,12 @@ past_among a b done next rest all e first same h =
     (if_too_long e (EndsPast b next) (EndsPast a (done ++ (next ++ rest))) (λ line k. past_after a b done (next ++ rest) line first (past_before b next rest line k)) h)
 
 -- a fault that a call handed on
-pub fault_handed : {X : Type 0} (a b : KernText) (rs : List Record) (result : Result X ScoreFault) (e : ScoreFault) → IsErr result × IsErrAnd result (λ y. y ≡ e) → IfTooLong e (EndsPast a rs) → Writes rs a result b
+pub fault_handed : {X : Type 0} (a b : KernText) (rs : List Record) (result : Result X ScoreFault) (e : ScoreFault) → IsErr result × IsErrAnd result (λ y. y ≡ e) → IfTooLong e (EndsPast a rs) → WritesRecords rs a result b
 fault_handed a b rs (Ok x) e is h = absurd (false≢true is.0)
 fault_handed a b rs (Err y) e is h = subst (λ z. IfTooLong z (EndsPast a rs)) (sym is.1) h
 
 -- the same where the call was for other work, and so its fault is want of memory
-pub memory_handed : {X : Type 0} (a b : KernText) (rs : List Record) (result : Result X ScoreFault) → IsErr result × IsErrAnd result (λ y. y ≡ Memory) → Writes rs a result b
+pub memory_handed : {X : Type 0} (a b : KernText) (rs : List Record) (result : Result X ScoreFault) → IsErr result × IsErrAnd result (λ y. y ≡ Memory) → WritesRecords rs a result b
 memory_handed a b rs result is = fault_handed a b rs result Memory is tt
 
 pub fault_is : {X : Type 0} (P : ℕ → Type 0) (result : Result X ScoreFault) (e : ScoreFault) (line : ℕ) → IsErr result × IsErrAnd result (λ y. y ≡ e) → result ≡ Err (TooLong line) → IfTooLong e P → P line

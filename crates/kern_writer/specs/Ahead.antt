@@ -2,7 +2,7 @@
 use Rattle.std.specs.Prelude.{◌≡◌, ℕ, ◌≤◌, ◌==◌, Bool, false, List, [], ◌∷◌, All, drop, map, sum}
 use Rattle.std.specs.List.{prefix_len, take_while}
 use Rattle.rhythm_base.specs.declared.sound.Sound.{Sound}
-use Rattle.rhythm_base.specs.Spans.{is_tie}
+use Rattle.rhythm_base.specs.SoundKinds.{is_tie}
 use Rattle.derivation.specs.declared.score.ScoreBar.{ScoreBar}
 use Rattle.kern_writer.specs.Columns.{AreTokens}
 use Rattle.kern_writer.specs.Tokens.{Token}

@@ -15,6 +15,6 @@ shared_text variants.LastBarline = codes "=="
 shared_text variants.End = codes "*-"
 
 -- the separator before the column of this number: none before the first
-abbrev pub between : ℕ → ℕ → List ℕ
-between byte zero = []
-between byte (suc number) = byte ∷ []
+abbrev pub separator_text : ℕ → ℕ → List ℕ
+separator_text byte zero = []
+separator_text byte (suc number) = byte ∷ []

@@ -1,9 +1,8 @@
 -- Tokens: what stands in the column of a voice at a place at which it has a value.
-use Rattle.std.specs.Prelude.{ℕ, ℤ, pos, negsuc, Bool, true, false, ◌&&◌, ◌||◌, not, ◌%◌, ◌/◌, ◌^◌, ◌==◌, if◌then◌else◌, List, [], ◌∷◌, ◌++◌, codes, decimal, filter, map, replicate, Option, Some, None}
+use Rattle.std.specs.Prelude.{ℕ, ℤ, pos, negsuc, Bool, true, false, ◌&&◌, ◌||◌, not, ◌%◌, ◌/◌, ◌^◌, ◌==◌, if◌then◌else◌, List, [], ◌∷◌, ◌++◌, codes, decimal, filter, map, replicate, Option, Some, None, zero, suc}
 use Rattle.std.specs.List.{flat_map, join_with_byte}
-use Rattle.std.specs.Prelude.{zero, suc}
-use Rattle.rhythm_base.specs.Pitch.{pitch}
-use Rattle.rhythm_base.specs.Spans.{is_rest, is_short, is_tie}
+use Rattle.durations.specs.Pitch.{pitch}
+use Rattle.rhythm_base.specs.SoundKinds.{is_rest, is_short, is_tie}
 use Rattle.durations.specs.declared.value.Recip.{Recip}
 use Rattle.durations.specs.declared.value.Recip.TheVariants.{Of, Breve, Long}
 use Rattle.durations.specs.declared.value.Value.{Value}

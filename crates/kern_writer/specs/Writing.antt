@@ -32,8 +32,8 @@ IfTooLong (TooLong line) P = P line
 IfTooLong Memory P = ⊤
 
 -- all of the records are written after a text, or one of them ends past the longest, or there was not enough memory
-abbrev pub Writes : {X : Type 0} → List Record → KernText → Result X ScoreFault → KernText → Type 0
-Writes records before result after = MatchResult result (λ _. HasWritten before after records) (λ e. IfTooLong e (EndsPast before records))
+abbrev pub WritesRecords : {X : Type 0} → List Record → KernText → Result X ScoreFault → KernText → Type 0
+WritesRecords records before result after = MatchResult result (λ _. HasWritten before after records) (λ e. IfTooLong e (EndsPast before records))
 
 -- the pieces of a record that were appended to a text are ended
 pub record HasEnded (before after : KernText) : Type 0 where
@@ -42,6 +42,6 @@ pub record HasEnded (before after : KernText) : Type 0 where
   pub short : length after.bytes.items ≤ LONGEST_SCORE
 
 -- or they end past the longest text
-pub record IsPast (before : KernText) (line : ℕ) : Type 0 where
+pub record IsPastLongest (before : KernText) (line : ℕ) : Type 0 where
   pub number : line ≡ before.lines + 1
   pub past : LONGEST_SCORE ≤ length before.bytes.items

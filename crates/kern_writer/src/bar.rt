@@ -1,7 +1,7 @@
 ghost use Rattle.kern_writer.specs.Columns.{RiseFrom};
 ghost use Rattle.kern_writer.specs.Records.{AreBarRecords, Record};
 ghost use Rattle.derivation.specs.Score.{IsScoreBar};
-ghost use Rattle.kern_writer.specs.Writing.{IsBounded, Writes};
+ghost use Rattle.kern_writer.specs.Writing.{IsBounded, WritesRecords};
 ghost use Rattle.kern_writer.specs.Ahead.{AreTokensAhead, FillBar, later_sounds};
 ghost use Rattle.kern_writer.specs.Tokens.{Token};
 ghost use Rattle.rhythm_base.specs.Lists.{Each};
@@ -31,7 +31,7 @@ fn write_columns(
     requires bar { IsScoreBar bar.now }
     requires number { number < 2 ^ 63 }
     requires columns { All (RiseFrom 0) columns.old }
-    ensures { (records : List Record) × AreBarRecords before bar.now number columns.old records × Writes records text.old result text.new }
+    ensures { (records : List Record) × AreBarRecords before bar.now number columns.old records × WritesRecords records text.old result text.new }
 {
     let voices = columns.len();
     write_changes(text, voices, before, bar)?;
@@ -57,7 +57,7 @@ pub(crate) fn write_bar(
     requires number { number < 2 ^ 63 }
     requires full { All (FillBar resolution number) ahead.old }
     ensures records { (columns : List (List Token)) × (records : List Record) × Each (AreTokensAhead resolution bar.now number) ahead.old columns
-        × AreBarRecords before bar.now number columns records × Writes records text.old result text.new }
+        × AreBarRecords before bar.now number columns records × WritesRecords records text.old result text.new }
     ensures rest { OnOk result (ahead.new ≡ map (later_sounds number) ahead.old) }
 {
     let mut columns = next_columns(alloc, resolution, bar, number, ahead)?;

@@ -2,7 +2,7 @@ ghost use Rattle.kern_writer.specs.Changes as definitions;
 ghost use Rattle.kern_writer.specs.Changes.{changes, key_before, key_change, quarters_of_minute, signature_change, tempo_change};
 ghost use Rattle.kern_writer.specs.Records.{alike};
 ghost use Rattle.derivation.specs.Score.{IsScoreBar};
-ghost use Rattle.kern_writer.specs.Writing.{IsBounded, Writes};
+ghost use Rattle.kern_writer.specs.Writing.{IsBounded, WritesRecords};
 ghost use Rattle.std.specs.Prelude.{◌≡◌, ◌≤◌, IfSome, map};
 
 use crate::fault::ScoreFault;
@@ -69,7 +69,7 @@ fn write_key(
     key: Option<i8>,
 ) -> Result<(), ScoreFault>
     requires { IsBounded text.old }
-    ensures { Writes (map (alike voices) (key_change before key)) text.old result text.new }
+    ensures { WritesRecords (map (alike voices) (key_change before key)) text.old result text.new }
 {
     match key {
         Some(sf) if !is_same_key(before, sf) => write_shared(text, voices, SharedToken::Key(sf)),
@@ -85,7 +85,7 @@ fn write_signature(
     bar: &ScoreBar,
 ) -> Result<(), ScoreFault>
     requires { IsBounded text.old }
-    ensures { Writes (map (alike voices) (signature_change before bar.now)) text.old result text.new }
+    ensures { WritesRecords (map (alike voices) (signature_change before bar.now)) text.old result text.new }
 {
     if is_same_signature(before, bar) {
         return Ok(());
@@ -104,7 +104,7 @@ fn write_tempo(
     requires text { IsBounded text.old }
     requires before { IfSome before IsScoreBar }
     requires bar { IsScoreBar bar.now }
-    ensures { Writes (map (alike voices) (tempo_change before bar.now)) text.old result text.new }
+    ensures { WritesRecords (map (alike voices) (tempo_change before bar.now)) text.old result text.new }
 {
     if is_same_tempo(before, bar) {
         return Ok(());
@@ -122,7 +122,7 @@ pub(crate) fn write_changes(
     requires text { IsBounded text.old }
     requires before { IfSome before IsScoreBar }
     requires bar { IsScoreBar bar.now }
-    ensures { Writes (map (alike voices) (changes before bar.now)) text.old result text.new }
+    ensures { WritesRecords (map (alike voices) (changes before bar.now)) text.old result text.new }
 {
     write_key(text, voices, key_of(before), bar.sf)?;
     write_signature(text, voices, before, bar)?;

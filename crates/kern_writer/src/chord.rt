@@ -1,6 +1,6 @@
 ghost use Rattle.kern_writer.specs.KeyRange.{AreKeysIn};
 ghost use Rattle.kern_writer.specs.Tokens.{chord_text, closing, goes_on, grace_text, main_text, note_text, opening, short_mark};
-ghost use Rattle.rhythm_base.specs.Pitch.{pitch};
+ghost use Rattle.durations.specs.Pitch.{pitch};
 ghost use Rattle.std.specs.Prelude.{◌≡◌, ◌++◌, IsTrue, OnOk, codes};
 
 use crate::kern_text::push_between;

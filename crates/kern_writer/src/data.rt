@@ -1,7 +1,7 @@
 ghost use Rattle.kern_writer.specs.Columns as definitions;
 ghost use Rattle.kern_writer.specs.Columns.{AreDataRecords, RiseFrom, earlier_place, tokens_after};
 ghost use Rattle.kern_writer.specs.Records.{Record, grace_record, grace_records_at, main_record, records_at};
-ghost use Rattle.kern_writer.specs.Writing.{IsBounded, Writes};
+ghost use Rattle.kern_writer.specs.Writing.{IsBounded, WritesRecords};
 ghost use Rattle.std.specs.Prelude.{◌≡◌, ◌≤◌, ◌∷◌, [], All, List, map};
 
 use crate::column::Column;
@@ -52,7 +52,7 @@ fn write_graces(
     requires text { IsBounded text.old }
     requires place { All (RiseFrom place) columns.now }
     requires some { 1 ≤ left }
-    ensures { Writes (grace_record place columns.now left ∷ []) text.old result text.new }
+    ensures { WritesRecords (grace_record place columns.now left ∷ []) text.old result text.new }
 {
     'columns: for (number, column) in columns.iter().enumerate() {
         push_between(&mut text.bytes, b'\t', number)?;
@@ -65,7 +65,7 @@ fn write_graces(
 fn write_main(text: &mut KernText, columns: &[Column], place: u64) -> Result<(), ScoreFault>
     requires text { IsBounded text.old }
     requires place { All (RiseFrom place) columns.now }
-    ensures { Writes (main_record place columns.now ∷ []) text.old result text.new }
+    ensures { WritesRecords (main_record place columns.now ∷ []) text.old result text.new }
 {
     'columns: for (number, column) in columns.iter().enumerate() {
         push_between(&mut text.bytes, b'\t', number)?;
@@ -78,7 +78,7 @@ fn write_main(text: &mut KernText, columns: &[Column], place: u64) -> Result<(),
 fn write_place(text: &mut KernText, columns: &[Column], place: u64) -> Result<(), ScoreFault>
     requires text { IsBounded text.old }
     requires place { All (RiseFrom place) columns.now }
-    ensures { Writes (records_at columns.now place) text.old result text.new }
+    ensures { WritesRecords (records_at columns.now place) text.old result text.new }
 {
     let mut left = most_graces(columns, place);
     'graces: while left > 0 {
@@ -102,7 +102,7 @@ fn pass(columns: &mut [Column], place: u64)
 pub(crate) fn write_data(text: &mut KernText, columns: &mut [Column]) -> Result<(), ScoreFault>
     requires text { IsBounded text.old }
     requires place { All (RiseFrom 0) columns.old }
-    ensures { (records : List Record) × AreDataRecords columns.old records × Writes records text.old result text.new }
+    ensures { (records : List Record) × AreDataRecords columns.old records × WritesRecords records text.old result text.new }
 {
     'places: while let Some(place) = next_place(columns) {
         write_place(text, columns, place)?;

@@ -8,7 +8,7 @@ ghost use Rattle.derivation.specs.WellSounded.{AreWellSounded};
 ghost use Rattle.kern_writer.specs.Text.{IsScoreText, IsTooLong};
 ghost use Rattle.kern_writer.specs.Tokens.{voice_tokens};
 ghost use Rattle.kern_writer.specs.Values.{AreVoiceValues, VoiceValue};
-ghost use Rattle.kern_writer.specs.Writing.{IsBounded, Writes};
+ghost use Rattle.kern_writer.specs.Writing.{IsBounded, WritesRecords};
 ghost use Rattle.std.specs.Prelude.{◌≡◌, ◌≤◌, ℕ, All, IfOk, List, None, length, map};
 
 use crate::ahead::SoundsAhead;
@@ -47,7 +47,7 @@ fn write_bars(
     requires bars { All IsScoreBar bars.now }
     requires voices { All (AreWellSounded resolution (length bars.now)) voices.now }
     ensures { (values : List (List (List VoiceValue))) × (records : List Record) × Each (AreVoiceValues resolution 0 bars.now) voices.now values
-        × AreBarsRecords (map (voice_tokens bars.now) values) None 0 bars.now records × Writes records text.old result text.new }
+        × AreBarsRecords (map (voice_tokens bars.now) values) None 0 bars.now records × WritesRecords records text.old result text.new }
 {
     let mut ahead = sounds_ahead(alloc, voices)?;
     let mut before = None;
@@ -69,7 +69,7 @@ fn write_records(
     requires text { IsBounded text.old }
     requires score { IsScore (record { resolution = resolution; bars = bars.now; voices = voices.now }) }
     ensures { (records : List Record) × AreRecords (record { resolution = resolution; bars = bars.now; voices = voices.now }) records
-        × Writes records text.old result text.new }
+        × WritesRecords records text.old result text.new }
 {
     let columns = voices.len();
     write_shared(text, columns, SharedToken::Kern)?;

@@ -1,5 +1,6 @@
-ghost use Rattle.kern_writer.specs.Shared.{between};
-ghost use Rattle.kern_writer.specs.Writing.{HasEnded, IfTooLong, IsPast};
+ghost use Rattle.kern_writer.specs.Shared.{separator_text};
+ghost use Rattle.kern_writer.specs.declared.fault.ScoreFault.TheVariants.{TooLong};
+ghost use Rattle.kern_writer.specs.Writing.{HasEnded, IfTooLong, IsPastLongest};
 ghost use Rattle.std.specs.Prelude.{◌≡◌, ◌+◌, ◌<◌, ◌≤◌, MatchResult, OnOk, ◌++◌, [], length};
 
 use crate::fault::ScoreFault;
@@ -14,10 +15,10 @@ pub(crate) struct KernText {
     pub(crate) lines: u32,
 }
 
-/// The number of one more record, with which the text has so many bytes.
+/// The number of one more record, with which the text has so many bytes, or that it ends past the longest text.
 fn next_line(lines: u32, bytes: usize) -> Result<u32, ScoreFault>
     requires { lines ≤ LONGEST_SCORE }
-    ensures { MatchResult result (λ line. (line ≡ lines + 1) × (bytes ≤ LONGEST_SCORE)) (λ e. IfTooLong e (λ line. (line ≡ lines + 1) × (LONGEST_SCORE < bytes))) }
+    ensures { MatchResult result (λ line. (line ≡ lines + 1) × (bytes ≤ LONGEST_SCORE)) (λ e. (e ≡ TooLong (lines + 1)) × (LONGEST_SCORE < bytes)) }
 {
     let line = lines + 1;
     if bytes as u64 > LONGEST_SCORE {
@@ -42,7 +43,7 @@ impl KernText {
     /// Ends the record whose pieces were appended.
     pub(crate) fn end_record(&mut self) -> Result<(), ScoreFault>
         requires { self.old.lines ≤ LONGEST_SCORE }
-        ensures { MatchResult result (λ _. HasEnded self.old self.new) (λ e. IfTooLong e (IsPast self.old)) }
+        ensures { MatchResult result (λ _. HasEnded self.old self.new) (λ e. IfTooLong e (IsPastLongest self.old)) }
     {
         self.bytes.push(b'\n')?;
         self.lines = next_line(self.lines, self.bytes.len())?;
@@ -52,7 +53,7 @@ impl KernText {
 
 /// Appends the separator before the column of this number, where it is not the first.
 pub(crate) fn push_between(text: &mut Vec<u8>, byte: u8, number: usize) -> Result<(), AllocError>
-    ensures { OnOk result (text.new.items ≡ text.old.items ++ between byte number) }
+    ensures { OnOk result (text.new.items ≡ text.old.items ++ separator_text byte number) }
 {
     if number > 0 {
         text.push(byte)?;

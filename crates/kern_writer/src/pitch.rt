@@ -1,5 +1,5 @@
-ghost use Rattle.rhythm_base.specs.Pitch as pitches;
-ghost use Rattle.rhythm_base.specs.Pitch.{letters, octave_letters};
+ghost use Rattle.durations.specs.Pitch as pitches;
+ghost use Rattle.durations.specs.Pitch.{letters, octave_letters};
 ghost use Rattle.std.specs.Prelude.{◌≡◌, ◌++◌, ◌<◌, ◌%◌, OnOk, replicate, slice_index};
 
 use std::alloc::AllocError;

@@ -1,7 +1,7 @@
 ghost use Rattle.kern_writer.specs.Changes.{accidentals, key_text};
 ghost use Rattle.kern_writer.specs.Records.{alike};
 ghost use Rattle.kern_writer.specs.Shared.{shared_text};
-ghost use Rattle.kern_writer.specs.Writing.{IsBounded, Writes};
+ghost use Rattle.kern_writer.specs.Writing.{IsBounded, WritesRecords};
 ghost use Rattle.std.specs.Prelude.{◌≡◌, ◌++◌, ◌∷◌, [], OnOk, codes, decimal};
 
 use crate::fault::ScoreFault;
@@ -92,7 +92,7 @@ pub(crate) fn write_shared(
     token: SharedToken,
 ) -> Result<(), ScoreFault>
     requires { IsBounded text.old }
-    ensures { Writes (alike voices (shared_text token) ∷ []) text.old result text.new }
+    ensures { WritesRecords (alike voices (shared_text token) ∷ []) text.old result text.new }
 {
     'columns: for number in 0..voices {
         push_between(&mut text.bytes, b'\t', number)?;

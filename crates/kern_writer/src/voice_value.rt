@@ -3,7 +3,7 @@ ghost use Rattle.kern_writer.specs.Values as values;
 ghost use Rattle.derivation.specs.Score.{IsScoreBar};
 ghost use Rattle.rhythm_base.specs.declared.limits.TheConstants.{MOST_UNITS};
 ghost use Rattle.kern_writer.specs.Values.{AreBarValues, timed, values_of_sounds};
-ghost use Rattle.rhythm_base.specs.Spans.{is_rest, is_short};
+ghost use Rattle.rhythm_base.specs.SoundKinds.{is_rest, is_short};
 ghost use Rattle.std.specs.Prelude.{◌≡◌, ◌*◌, ◌≤◌, ◌<◌, ◌++◌, All, IfOk, OnOk, None, if◌then◌else◌, [], length, map, sum};
 ghost use Rattle.durations.specs.declared.joined.Written.{Written};
 

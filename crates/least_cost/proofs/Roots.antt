@@ -20,17 +20,17 @@ use Rattle.rhythm_base.specs.Ranked.{Key, Keys, at, count_under, five, is_before
 use Rattle.rhythm_base.specs.Grammar.{Grammar}
 use Rattle.rhythm_base.specs.Leaves.{in_bar}
 use Rattle.rhythm_base.specs.Trees.{are_trees, has_pin, leaves, leaves_of}
-use Rattle.rhythm_laws.specs.Forests.{AreLeast, IsForestKey, StandsInBar, forest_cost, has_shapes, one_shape}
-use Rattle.rhythm_laws.specs.Places.{FitsAt}
-use Rattle.rhythm_laws.specs.Tables.{IsLeastKey}
-use Rattle.rhythm_laws.specs.Voices.{HoldsChords}
-use Rattle.rhythm_laws.proofs.KeyOrders.{never_less}
-use Rattle.rhythm_laws.proofs.ForestLemmas.{least-rows_apart}
-use Rattle.rhythm_laws.proofs.PathTables.{table_of_ranked}
-use Rattle.rhythm_laws.proofs.Places.{at-cell, cell-at}
-use Rattle.rhythm_laws.proofs.ProductCosts.{grid_entry}
-use Rattle.rhythm_laws.proofs.Products.{five_at, grid_at}
-use Rattle.rhythm_laws.proofs.Ranks.{both}
+use Rattle.tree_laws.specs.Forests.{AreLeast, IsForestKey, StandsInBar, forest_cost, has_shapes, one_shape}
+use Rattle.tree_laws.specs.Places.{FitsAt}
+use Rattle.path_laws.specs.Tables.{IsLeastKey}
+use Rattle.tree_laws.specs.Voices.{HoldsChords}
+use Rattle.rhythm_base.proofs.TotalOrders.{never_less}
+use Rattle.tree_laws.proofs.ForestLemmas.{least-rows_apart}
+use Rattle.path_laws.proofs.PathTables.{table_of_ranked}
+use Rattle.tree_laws.proofs.Places.{at-cell, cell-at}
+use Rattle.path_laws.proofs.ProductCosts.{grid_entry}
+use Rattle.path_laws.proofs.Products.{five_at, grid_at}
+use Rattle.tree_laws.proofs.Ranks.{both}
 use Rattle.row_laws.specs.Grounds.{IsReady, ground_of}
 use Rattle.row_laws.proofs.Bounds.{stands-cheap}
 use Rattle.row_laws.proofs.Grounds.{bounds, grounded}

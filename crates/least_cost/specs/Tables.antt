@@ -4,9 +4,9 @@ use Rattle.rhythm_base.specs.BarInput.{BarInput}
 use Rattle.rhythm_base.specs.Grammar.{Grammar}
 use Rattle.rhythm_base.specs.Ranked.{CarryMatrix, Keys, at, five, table_of}
 use Rattle.rhythm_base.specs.declared.best.Best.{Best}
-use Rattle.rhythm_laws.specs.Forests.{AreLeast, one_shape}
+use Rattle.tree_laws.specs.Forests.{AreLeast, one_shape}
 use Rattle.row_laws.specs.Grounds.{ground_of}
-use Rattle.least_rows.specs.WrittenLists.{AreWritten, IsListAt, IsPlaced, list_of, number_of}
+use Rattle.bar_trees.specs.WrittenLists.{AreListsWritten, IsListAt, IsPlaced, list_of, list_number}
 
 -- the list where there is an entry
 abbrev pub list_where : Option Best → List ℕ → Option (List ℕ)
@@ -15,7 +15,7 @@ list_where (Some e) xs = Some xs
 
 -- the lists of the entries that are there
 abbrev pub lists_of : CarryMatrix → List ℕ → List ℕ → List (List (Option (List ℕ)))
-lists_of m rules ends = five (λ a. five (λ b. list_where (at m a b) (list_of rules ends (number_of a b))))
+lists_of m rules ends = five (λ a. five (λ b. list_where (at m a b) (list_of rules ends (list_number a b))))
 
 -- all lists lie in the rules
 abbrev pub AreAllPlaced : List ℕ → List ℕ → Type 0
@@ -27,4 +27,4 @@ pub record AreCellTrees (g : Grammar) (k : BarInput) (bests : CarryMatrix) (rule
   pub keys : Keys
   pub least : AreLeast (ground_of g k) (one_shape k.pin) 0 ((k.resolution, k.symbol) ∷ []) keys
   pub matrix : bests ≡ table_of keys
-  pub lists : AreWritten (IsListAt keys) rules ends 25
+  pub lists : AreListsWritten (IsListAt keys) rules ends 25

@@ -11,10 +11,11 @@ ghost use Rattle.std.specs.Prelude.{◌≡◌, None, IfOk, option_map};
 use crate::kept_rules::KeptRules;
 use crate::steps::Steps;
 use crate::table::BarTable;
+use bar_trees::BarBests;
 use best_trees::least_trees;
 use carry_matrix::CarryMatrix;
 use grammar_plan::Plan;
-use least_rows::{BarBests, Room, quiet_of};
+use least_rows::{Room, quiet_of};
 use rhythm_base::{BarInput, Grammar, Shape, Tag};
 use row_laws::Quiet;
 use std::alloc::{AllocError, Global};
@@ -35,11 +36,14 @@ pub fn build_cell<B: Tag>(
     builds.tick();
     // An accessor's contract tells that the input is well formed.
     let _start = input.start();
-    build(alloc, grammar, input)
+    if input.pin().is_some() {
+        return build_pinned(alloc, grammar, input);
+    }
+    let plan = Plan::of(alloc, grammar)?;
+    build_by_plan(alloc, grammar, &plan, &mut Room::new(alloc), input)
 }
 
-/// The same by a plan of the grammar, in a room that is kept from bar to bar. A bar with a pin, or whose root symbol the plan
-/// does not know, is built as without them.
+/// The same by a plan of the grammar, in a room that is kept from bar to bar. A bar with a pin is built without them.
 #[inline(always)]
 pub fn build_planned<B: Tag>(
     alloc: Global,
@@ -57,31 +61,32 @@ pub fn build_planned<B: Tag>(
     ensures table { IfOk result (IsTable grammar.now) }
 {
     Steps::tick(builds);
-    let start = input.start();
+    // An accessor's contract tells that the input is well formed.
+    let _start = input.start();
     if input.pin().is_some() {
         return build_pinned(alloc, grammar, input);
     }
-    match plan.root(grammar, start) {
-        Some(root) => build_by_rows(alloc, grammar, plan, room, input, root),
-        None => build(alloc, grammar, input),
-    }
+    build_by_plan(alloc, grammar, plan, room, input)
 }
 
-fn build(alloc: Global, grammar: &Grammar, input: &BarInput) -> Result<BarTable, AllocError>
+/// The table of a bar without a pin. A symbol that is the root of no start may have no seat in the plan: such a bar is searched as
+/// one with a pin.
+#[inline(always)]
+fn build_by_plan(
+    alloc: Global,
+    grammar: &Grammar,
+    plan: &Plan,
+    room: &mut Room,
+    input: &BarInput,
+) -> Result<BarTable, AllocError>
     requires ready { IsReady grammar.now input.now }
+    requires plan { IsPlan grammar.now plan.now }
+    requires pin { input.now.pin ≡ None }
     ensures input { IfOk result (λ t. t.input ≡ input.now) }
     ensures table { IfOk result (IsTable grammar.now) }
 {
-    if input.pin().is_some() {
-        return build_pinned(alloc, grammar, input);
-    }
-    let start = input.start();
-    let plan = Plan::of(alloc, grammar, &[start])?;
-    match plan.root(grammar, start) {
-        Some(root) => {
-            let mut room = Room::new(alloc);
-            build_by_rows(alloc, grammar, &plan, &mut room, input, root)
-        }
+    match plan.root(grammar, input.start()) {
+        Some(root) => build_by_rows(alloc, grammar, plan, room, input, root),
         None => build_pinned(alloc, grammar, input),
     }
 }

@@ -1,6 +1,6 @@
 ghost use Rattle.least_cost.specs.KeptRules.{rules_of};
 ghost use Rattle.least_cost.specs.Tables.{AreAllPlaced, lists_of};
-ghost use Rattle.least_rows.specs.WrittenLists.{IsPlaced, list_of, number_of};
+ghost use Rattle.bar_trees.specs.WrittenLists.{IsPlaced, list_of, list_number};
 ghost use Rattle.rhythm_base.specs.BarTables.{list_at};
 ghost use Rattle.std.specs.Prelude.{◌≡◌, ◌<◌, option_map};
 
@@ -88,8 +88,8 @@ impl BarTable {
 fn list_in<'a>(rules: &'a [u16], ends: &[u16; 25], from: u8, to: u8) -> &'a [u16]
     requires from { from < 5 }
     requires to { to < 5 }
-    requires placed { IsPlaced rules.now ends.now (number_of from to) }
-    ensures { result.now ≡ list_of rules.now ends.now (number_of from to) }
+    requires placed { IsPlaced rules.now ends.now (list_number from to) }
+    ensures { result.now ≡ list_of rules.now ends.now (list_number from to) }
 {
     let number = 5 * from as usize + to as usize;
     let end = ends[number] as usize;

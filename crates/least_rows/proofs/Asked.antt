@@ -12,7 +12,7 @@ use Rattle.grammar_plan.specs.Plans.{HasQuietTree, IsPlan, IsSeat, pair_of}
 use Rattle.grammar_plan.specs.declared.plan.Plan.{Plan}
 use Rattle.grammar_plan.specs.declared.quiet_tree.QuietTree.{QuietTree}
 use Rattle.grammar_plan.specs.declared.seat.Seat.{Seat}
-use Rattle.least_rows.specs.Ways.{IsRanked, quiet_rank}
+use Rattle.least_rows.specs.Ways.{IsRankedRow, quiet_rank}
 use Rattle.least_rows.proofs.QuietRows.{quiet-ranked}
 use Rattle.least_rows.proofs.RowEntries.{all-at}
 
@@ -35,7 +35,7 @@ quiet-cheap g plan n quiet from (Some u) h low t e =
     subst (λ (t : QuietTree). t.cost ≤ 3000000000) is (h s.0 s.1).3
 
 pub quiet-row : (g : Grammar) (k : BarInput) (plan : Plan) → IsReady g k → IsPlan g plan → (n : ℕ) (quiet : Quiet) (from : ℕ) (o : Option QuietTree) → HasQuietTree g plan n quiet from o
-    → (place : ℕ) (s : Seat) → slice_get plan.seats.items n ≡ Some s → IsQuiet quiet (ground_of g k) place s.width → IsRanked (ground_of g k) place (pair_of s) from (quiet_rank o)
+    → (place : ℕ) (s : Seat) → slice_get plan.seats.items n ≡ Some s → IsQuiet quiet (ground_of g k) place s.width → IsRankedRow (ground_of g k) place (pair_of s) from (quiet_rank o)
 quiet-row g k plan ready is n quiet from o h place s at calm =
     let seat = seat-of g plan is n s at in
     quiet-ranked g (ground_of g k) plan (grounded g k ready) refl quiet place (pair_of s) from o seat.wide calm (h s at)

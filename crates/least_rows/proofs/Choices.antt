@@ -8,9 +8,9 @@ use Rattle.rhythm_base.specs.Grammar.{Grammar}
 use Rattle.rhythm_base.specs.Ranked.{Key}
 use Rattle.rhythm_base.specs.Trees.{suits}
 use Rattle.rhythm_base.specs.declared.rule.Rule.{Rule}
-use Rattle.rhythm_laws.specs.Forests.{Ground}
-use Rattle.rhythm_laws.specs.Rows.{lists_cmp, same}
-use Rattle.rhythm_laws.proofs.LeastKeys.{IsLeast-same}
+use Rattle.tree_laws.specs.Forests.{Ground}
+use Rattle.path_laws.specs.Rows.{lists_cmp, same}
+use Rattle.path_laws.proofs.LeastKeys.{IsLeast-same}
 use Rattle.row_laws.specs.BestRules.{AreBestOf, IsKeyOfRules, IsMarked, choice_key, is_nearer, nearer_of, topped_of}
 use Rattle.row_laws.specs.BestRules as best
 use Rattle.row_laws.specs.LeafRules.{EndsInterval}

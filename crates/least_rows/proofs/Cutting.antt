@@ -11,9 +11,9 @@ use Rattle.rhythm_base.specs.Trees.{leaf_of, leaf_of_ending}
 use Rattle.rhythm_base.specs.declared.rule.Ending.{Ending}
 use Rattle.rhythm_base.specs.declared.rule.Rule.{Rule}
 use Rattle.rhythm_base.proofs.Booleans.{and_right}
-use Rattle.rhythm_laws.specs.Forests.{AreWide}
-use Rattle.rhythm_laws.specs.Shares.{AreBelow}
-use Rattle.rhythm_laws.proofs.Shares.{below-wide, children-below, children-whole}
+use Rattle.tree_laws.specs.Forests.{AreWide}
+use Rattle.tree_laws.specs.Shares.{AreBelow}
+use Rattle.tree_laws.proofs.Shares.{below-wide, children-below, children-whole}
 use Rattle.row_laws.specs.Grounds.{IsReady}
 use Rattle.grammar_plan.specs.Plans.{HasSeat, HaveSeats, IsCutOf, IsSeat, between, pair_of}
 use Rattle.least_rows.proofs.Known.{between-long}

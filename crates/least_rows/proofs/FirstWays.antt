@@ -6,10 +6,10 @@ use Rattle.std.proofs.Math.Seq.{take-suc}
 use Rattle.std.proofs.lemmas.Bool.Decides.{nat_tests}
 use Rattle.rhythm_base.specs.Bodies.{sizes}
 use Rattle.rhythm_base.specs.Ranked.{Key, better, pick, key_sum, plus, number_of, value_of}
-use Rattle.rhythm_laws.specs.Rows.{AreAlike, lists_cmp, same}
-use Rattle.rhythm_laws.specs.Forests.{AreWide, Ground, IsForestKey, IsGround}
-use Rattle.rhythm_laws.specs.Tables.{IsLeastKey}
-use Rattle.rhythm_laws.proofs.Alike.{parse, via}
+use Rattle.path_laws.specs.Rows.{AreAlike, lists_cmp, same}
+use Rattle.tree_laws.specs.Forests.{AreWide, Ground, IsForestKey, IsGround}
+use Rattle.path_laws.specs.Tables.{IsLeastKey}
+use Rattle.path_laws.proofs.Alike.{parse, via}
 use Rattle.row_laws.specs.BestRules.{Choice, choice_key, is_nearer}
 use Rattle.row_laws.specs.Folds.{digit_sum, fold_pick}
 use Rattle.row_laws.specs.Rows.{AreLeastRow, row_times}

@@ -25,7 +25,7 @@ use Rattle.least_rows.specs.declared.state.State.{State}
 use Rattle.row_laws.specs.Grounds.{IsReady}
 use Rattle.row_laws.proofs.Grounds.{bounds, grounded}
 use Rattle.grammar_plan.specs.Plans.{IsPlan}
-use Rattle.least_rows.specs.Ways.{AreEntries, IsRanked, rank_in}
+use Rattle.least_rows.specs.Ways.{AreEntries, IsRankedRow, rank_in}
 use Rattle.least_rows.proofs.Asked.{seat-of}
 use Rattle.least_rows.proofs.RowEntries.{all-at, row-entries, row-ranked}
 use Rattle.least_rows.proofs.Settling.{append-get, last-get, split-row}
@@ -239,8 +239,8 @@ module _ (g : Grammar) (k : BarInput) (plan : Plan) (ready : IsReady g k) (is : 
       let seat = seat-of g plan is n s at in
       subst AreEntries (sym there) (row-entries (ground_of g k) plan place (pair_of s) from (between es span.first (span.first + span.count)) row.row (grounded g k ready) (bounds g k ready) few-entries seat.wide seat.within)
 
-  pub span-ranked : IsRanked (ground_of g k) place (pair_of s) from (rank_in xs 0)
-  span-ranked = subst (λ xs. IsRanked (ground_of g k) place (pair_of s) from (rank_in xs 0)) (sym there) (row-ranked (ground_of g k) plan place (pair_of s) from (between es span.first (span.first + span.count)) row.row few-entries)
+  pub span-ranked : IsRankedRow (ground_of g k) place (pair_of s) from (rank_in xs 0)
+  span-ranked = subst (λ xs. IsRankedRow (ground_of g k) place (pair_of s) from (rank_in xs 0)) (sym there) (row-ranked (ground_of g k) plan place (pair_of s) from (between es span.first (span.first + span.count)) row.row few-entries)
 
 -- the leaf of a state is that of its seat
 pub leaf-of : (g : Grammar) (k : BarInput) (plan : Plan) (rows : Rows) (number seat place : ℕ) (y : State) → AreKnown g k plan rows → HasState rows number seat place → y ≡ get_or rows.states.items number y

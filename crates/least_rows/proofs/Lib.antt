@@ -14,7 +14,6 @@ pub mod PlanSeats
 pub mod QuietLists
 pub mod WayLists
 pub mod RowRanks
-pub mod ListEnds
 pub mod RootRows
 pub mod Limits
 pub mod Tops

@@ -3,8 +3,8 @@ use Rattle.std.proofs.Common.{◌⊎◌, ◌≡◌, ℕ, ◌+◌, ◌<◌, ◌==
 use Rattle.std.specs.Prelude.{Option, Some, None, if◌then◌else◌}
 use Rattle.rhythm_base.specs.Bodies.{children}
 use Rattle.rhythm_base.specs.Ranked.{Key}
-use Rattle.rhythm_laws.specs.Forests.{AreWide, Ground, IsForestKey, IsGround}
-use Rattle.rhythm_laws.specs.Rows.{same}
+use Rattle.tree_laws.specs.Forests.{AreWide, Ground, IsForestKey, IsGround}
+use Rattle.path_laws.specs.Rows.{same}
 use Rattle.row_laws.specs.BestRules.{choice_key}
 use Rattle.row_laws.specs.RuleKeys.{IsRuleKey}
 use Rattle.row_laws.proofs.BestRules.{best-passed}

@@ -4,8 +4,8 @@ use Rattle.std.specs.Prelude.{◌⊎◌, Some, None, slice_get, Result, Ok, Err,
 use Rattle.rhythm_base.specs.BarInput.{BarInput}
 use Rattle.rhythm_base.specs.Grammar.{Grammar}
 use Rattle.rhythm_base.specs.Ranked.{Key}
-use Rattle.rhythm_laws.specs.Forests.{IsForestKey}
-use Rattle.rhythm_laws.specs.Tables.{IsLeastKey}
+use Rattle.tree_laws.specs.Forests.{IsForestKey}
+use Rattle.path_laws.specs.Tables.{IsLeastKey}
 use Rattle.row_laws.specs.Grounds.{ground_of}
 use Rattle.grammar_plan.specs.Plans.{between, pair_of}
 use Rattle.grammar_plan.specs.declared.plan.Plan.{Plan}
@@ -15,7 +15,7 @@ use Rattle.grammar_plan.specs.Drafts.{IsLonger}
 use Rattle.least_rows.specs.declared.texts.Text.{Text}
 use Rattle.least_rows.specs.declared.texts.Texts.{Texts}
 use Rattle.least_rows.specs.declared.tree_at.TreeAt.{TreeAt}
-use Rattle.least_rows.proofs.ListEnds.{between-more, between-new}
+use Rattle.bar_trees.proofs.ListEnds.{between-more, between-new}
 
 -- ---- rules after others
 

@@ -7,7 +7,7 @@ use Rattle.std.proofs.lemmas.List.{get_or-set_other}
 use Rattle.rhythm_base.specs.BarInput.{BarInput}
 use Rattle.rhythm_base.specs.Grammar.{Grammar}
 use Rattle.rhythm_base.specs.Ranked.{Key}
-use Rattle.rhythm_laws.specs.Forests.{Ground, IsForestKey}
+use Rattle.tree_laws.specs.Forests.{Ground, IsForestKey}
 use Rattle.bar_view.specs.declared.leaf.Leaf.{Leaf}
 use Rattle.row_laws.specs.Grounds.{IsReady, ground_of}
 use Rattle.row_laws.proofs.Grounds.{grounded}
@@ -19,7 +19,7 @@ use Rattle.grammar_plan.specs.declared.seat.Seat.{Seat}
 use Rattle.least_rows.specs.Choices.{AreBestChoices, RulesBefore, choice_in, left_of, limit_below, nearer_choice, topped_choice}
 use Rattle.least_rows.specs.Ways.{AreWays, one_way}
 use Rattle.least_rows.specs.Steps.{AreChoicesOf, EndsThere, IsLeafAt, ends_there}
-use Rattle.least_rows.specs.Tops.{IsOffered, IsTop, parts_of}
+use Rattle.least_rows.specs.Tops.{IsOffered, IsTop, parts_below}
 use Rattle.least_rows.specs.declared.choice.Choice.{Choice}
 use Rattle.least_rows.specs.declared.top.Top.{Top}
 use Rattle.least_rows.specs.declared.way.Way.{Way}
@@ -94,7 +94,7 @@ module _ (g : Grammar) (k : BarInput) (plan : Plan) (ready : IsReady g k) (of : 
       after new (choices-cut d plan top.place (pair_of t.seat) top.from (RulesBefore g plan t.seat top.number) old (before t.seat t.at) top.number cut t.there t.is
       (cut-new g plan t.seat zone top.number cut t.is.rule t.first t.end t.there t.is.is) own.0 (cut-few g k plan ready t.seat zone cut t.is) own.1 new own.2)
 
-  pub choices-passed : EndsThere g k plan top.seat top.place → (c : Choice) → choice_in old 0 ≡ Some c → (n : ℕ) (w : Way) (m : ℕ) → AreWays d top.place (parts_of g k plan top cut t) top.from n (one_way w m)
+  pub choices-passed : EndsThere g k plan top.seat top.place → (c : Choice) → choice_in old 0 ≡ Some c → (n : ℕ) (w : Way) (m : ℕ) → AreWays d top.place (parts_below g k plan top cut t) top.from n (one_way w m)
       → c.cost < cut.weight + w.cost → AreChoicesOf g k plan top.seat top.place top.from (λ s. RulesBefore g plan s (top.number + 1)) old
   choices-passed ends c first n w m ways over =
       after old (choices-over d (grounded g k ready) plan top.place (pair_of t.seat) top.from (RulesBefore g plan t.seat top.number) old (before t.seat t.at) cut t.is

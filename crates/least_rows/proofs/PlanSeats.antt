@@ -9,8 +9,8 @@ use Rattle.std.proofs.lemmas.Option.{slice_get_within, get_or_from_slice_get}
 use Rattle.rhythm_base.specs.Bodies.{children, sizes}
 use Rattle.rhythm_base.specs.Grammar.{Grammar}
 use Rattle.rhythm_base.proofs.Booleans.{and_right}
-use Rattle.rhythm_laws.specs.Shares.{AreBelow}
-use Rattle.rhythm_laws.proofs.Shares.{children-below, children-whole}
+use Rattle.tree_laws.specs.Shares.{AreBelow}
+use Rattle.tree_laws.proofs.Shares.{children-below, children-whole}
 use Rattle.rhythm_base.specs.Trees.{leaf_of_ending}
 use Rattle.grammar_plan.specs.Plans.{HasSeat, HaveSeats, IsCutOf, IsPlan, IsSeat, between, pair_of}
 use Rattle.grammar_plan.specs.declared.cut.Cut.{Cut}

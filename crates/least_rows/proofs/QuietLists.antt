@@ -6,8 +6,8 @@ use Rattle.std.proofs.lemmas.Option.{get_or_from_slice_get, slice_get_cases}
 use Rattle.rhythm_base.specs.Grammar.{Grammar}
 use Rattle.rhythm_base.specs.Leaves.{VoiceBar}
 use Rattle.rhythm_base.specs.Ranked.{Key}
-use Rattle.rhythm_laws.specs.Forests.{Ground, IsForestKey, IsGround}
-use Rattle.rhythm_laws.proofs.LeastKeys.{IsLeast-one}
+use Rattle.tree_laws.specs.Forests.{Ground, IsForestKey, IsGround}
+use Rattle.path_laws.proofs.LeastKeys.{IsLeast-one}
 use Rattle.row_laws.specs.QuietTrees.{IsQuiet, IsQuietLeast, IsQuietList}
 use Rattle.row_laws.specs.declared.quiet.Quiet.{Quiet}
 use Rattle.row_laws.specs.declared.quiet.Quiet.TheVariants.{Sounding, Silent}

@@ -10,14 +10,14 @@ use Rattle.rhythm_base.specs.Grammar.{Grammar}
 use Rattle.rhythm_base.specs.Leaves.{Leaf, in_bar, looks}
 use Rattle.rhythm_base.specs.Ranked.{Key}
 use Rattle.rhythm_base.specs.Trees.{BarLeaf, leaves}
-use Rattle.rhythm_laws.specs.Forests.{AreWide, Ground, IsForestKey, IsGround}
-use Rattle.rhythm_laws.specs.Places.{reach}
-use Rattle.rhythm_laws.specs.Quiet.{is_quiet}
-use Rattle.rhythm_laws.specs.Rows.{AreAlike, lists_cmp, same}
-use Rattle.rhythm_laws.specs.Tables.{IsLeastKey}
-use Rattle.rhythm_laws.proofs.Bars.{SideBySide, leaves-fill}
-use Rattle.rhythm_laws.proofs.Quiet.{carried_by, leaving-calm}
-use Rattle.rhythm_laws.proofs.Ticks.{parts-line}
+use Rattle.tree_laws.specs.Forests.{AreWide, Ground, IsForestKey, IsGround}
+use Rattle.tree_laws.specs.Places.{reach}
+use Rattle.tree_laws.specs.Quiet.{is_quiet}
+use Rattle.path_laws.specs.Rows.{AreAlike, lists_cmp, same}
+use Rattle.path_laws.specs.Tables.{IsLeastKey}
+use Rattle.tree_laws.proofs.Bars.{SideBySide, leaves-fill}
+use Rattle.tree_laws.proofs.Quiet.{carried_by, leaving-calm}
+use Rattle.tree_laws.proofs.Ticks.{parts-line}
 use Rattle.row_laws.specs.BestRules.{Choice, choice_key}
 use Rattle.row_laws.specs.QuietTrees.{IsQuiet, IsQuietLeast}
 use Rattle.row_laws.specs.Rows.{AreLeastRow}
@@ -26,7 +26,7 @@ use Rattle.row_laws.specs.declared.quiet.Quiet.TheVariants.{Sounding, Silent}
 use Rattle.grammar_plan.specs.Plans.{IsQuietTree}
 use Rattle.grammar_plan.specs.declared.plan.Plan.{Plan}
 use Rattle.grammar_plan.specs.declared.quiet_tree.QuietTree.{QuietTree}
-use Rattle.least_rows.specs.Ways.{IsRanked, quiet_rank}
+use Rattle.least_rows.specs.Ways.{IsRankedRow, quiet_rank}
 
 no_onset : (quiet : Quiet) (d : Ground) (p w : ℕ) → IsQuiet quiet d p w → is_quiet d p w ≡ true
 no_onset Sounding d p w h = h.quiet
@@ -81,7 +81,7 @@ quiet-alike k c e = record { costs = λ b lb. costs (0 == b); order = λ b c' lb
     order b c' false u f g = refl
 
 pub quiet-ranked : (g : Grammar) (d : Ground) (plan : Plan) → IsGround d → d.book ≡ g → (quiet : Quiet) (p : ℕ) (q : ℕ × ℕ) (a : ℕ) (o : Option QuietTree) → 1 ≤ q.0 → IsQuiet quiet d p q.0
-    → IsQuietTree g plan quiet q a o → IsRanked d p q a (quiet_rank o)
+    → IsQuietTree g plan quiet q a o → IsRankedRow d p q a (quiet_rank o)
 quiet-ranked g d plan ground e quiet p q a None wide h tree = record {
   keys = key_out None;
   least = quiet-least d ground quiet p q a None wide h (whole None tree);

@@ -14,27 +14,27 @@ use Rattle.rhythm_base.specs.Cells.{bar_of}
 use Rattle.rhythm_base.specs.Grammar.{Grammar}
 use Rattle.rhythm_base.specs.Ranked.{Key, Keys, count_under, five, ranked}
 use Rattle.rhythm_base.specs.declared.best.Best.{Best}
-use Rattle.rhythm_laws.specs.Forests.{IsForestKey}
-use Rattle.rhythm_laws.specs.Tables.{IsLeastKey}
-use Rattle.rhythm_laws.proofs.LeastKeys.{IsLeast-one}
-use Rattle.rhythm_laws.proofs.Products.{five_at}
+use Rattle.tree_laws.specs.Forests.{IsForestKey}
+use Rattle.path_laws.specs.Tables.{IsLeastKey}
+use Rattle.path_laws.proofs.LeastKeys.{IsLeast-one}
+use Rattle.path_laws.proofs.Products.{five_at}
 use Rattle.row_laws.specs.Grounds.{IsReady, ground_of}
 use Rattle.row_laws.specs.QuietTrees.{IsQuiet, IsQuietLeast}
 use Rattle.row_laws.specs.declared.quiet.Quiet.{Quiet}
 use Rattle.grammar_plan.specs.Plans.{IsQuietTree}
 use Rattle.grammar_plan.specs.declared.plan.Plan.{Plan}
 use Rattle.grammar_plan.specs.declared.quiet_tree.QuietTree.{QuietTree}
-use Rattle.least_rows.specs.BarTrees.{AreBarTrees}
-use Rattle.least_rows.specs.Entries.{IsEntry, IsRow}
+use Rattle.bar_trees.specs.BarTrees.{AreBarTrees}
+use Rattle.least_rows.specs.Entries.{IsRowEntry, IsRow}
 use Rattle.least_rows.specs.Roots.{AreRootBests, AreRootKeys, AreRootRows, IsBestIn, IsOnlyTree, IsRootBest, IsRootList, IsRootListAt, only_best, only_key, only_list}
-use Rattle.least_rows.specs.WrittenLists.{AreWritten, IsListAt, IsListOf, number_of}
-use Rattle.least_rows.specs.declared.bar_trees.BarTrees.{BarTrees}
+use Rattle.bar_trees.specs.WrittenLists.{AreListsWritten, IsListAt, IsListOf, list_number}
+use Rattle.bar_trees.specs.declared.trees.BarTrees.{BarTrees}
 use Rattle.least_rows.specs.declared.entry.Entry.{Entry}
 use Rattle.least_rows.proofs.Fives.{list-five}
 use Rattle.least_rows.proofs.PlanSeats.{All-at}
 use Rattle.least_rows.proofs.RowRanks.{place-rank}
 use Rattle.least_rows.proofs.WayLists.{grounded, position-none, quiet-nothing}
-use Rattle.least_rows.proofs.ListEnds.{written-next, written-none, written-so}
+use Rattle.bar_trees.proofs.ListEnds.{written-next, written-none, written-so}
 
 -- ---- a bar that is quiet as a whole
 
@@ -85,7 +85,7 @@ best_ranked g k plan a entries row b low None h = go (row.keys b) refl
 best_ranked g k plan a entries row b low (Some x) (e, at, own, cost) =
     let found = position-Some (λ (e : Entry). e.to == b) entries x.rank e at in
     let here : slice_get entries x.rank ≡ Some e = slice_get-get_or entries x.rank e found.0 ∙ ap Some (sym own) in
-    let entry : IsEntry (ground_of g k) plan 0 (k.resolution, k.symbol) a row.keys e = All-at (IsEntry (ground_of g k) plan 0 (k.resolution, k.symbol) a row.keys) entries x.rank e row.each here in
+    let entry : IsRowEntry (ground_of g k) plan 0 (k.resolution, k.symbol) a row.keys e = All-at (IsRowEntry (ground_of g k) plan 0 (k.resolution, k.symbol) a row.keys) entries x.rank e row.each here in
     let on : (e.to == b) ≡ true = ap (λ (e : Entry). e.to == b) own ∙ found.1 in
     let is : e.to ≡ b = grind (arith, nat_tests) in
     let rank = place-rank (ground_of g k) plan 0 (k.resolution, k.symbol) a entries row x.rank e here entry.1 entry.2 in
@@ -123,28 +123,28 @@ some_key g k a b best low (others, own, is) x some = go (others b) refl (sym som
     go (Some key) at e = (key, subst (IsLeastKey (IsForestKey (ground_of g k) None 0 ((k.resolution, k.symbol) ∷ []) a b)) at (own b low), λ keys h. keys_agree g k a b keys others low h own ∙ at)
 
 -- the list of keys is the list of all
-pub root-list : (g : Grammar) (k : BarInput) (a b n : ℕ) (keys : ℕ → Option Key) (xs : List ℕ) → b < 5 → AreRootKeys g k a keys → IsListOf (keys b) xs → n ≡ number_of a b → IsRootListAt g k n xs
+pub root-list : (g : Grammar) (k : BarInput) (a b n : ℕ) (keys : ℕ → Option Key) (xs : List ℕ) → b < 5 → AreRootKeys g k a keys → IsListOf (keys b) xs → n ≡ list_number a b → IsRootListAt g k n xs
 root-list g k a b n keys xs low own list is a' b' low' is' others h =
     let row : a ≡ a' = omega (arith, low, low', is, is') in
     let count : b ≡ b' = omega (arith, low, low', is, is') in
     let theirs : AreRootKeys g k a' keys = subst (λ a. AreRootKeys g k a keys) row own in
     subst (λ o. IsListOf o xs) (keys_agree g k a' b' keys others low' theirs h) (subst (λ b. IsListOf (keys b) xs) count list)
 
-pub root-list-of : (g : Grammar) (k : BarInput) (a b n : ℕ) (xs : List ℕ) → b < 5 → IsRootList g k a b xs → n ≡ number_of a b → IsRootListAt g k n xs
+pub root-list-of : (g : Grammar) (k : BarInput) (a b n : ℕ) (xs : List ℕ) → b < 5 → IsRootList g k a b xs → n ≡ list_number a b → IsRootListAt g k n xs
 root-list-of g k a b n xs low list is a' b' low' is' =
     let row : a ≡ a' = omega (arith, low, low', is, is') in
     let count : b ≡ b' = omega (arith, low, low', is, is') in
     subst (λ b. IsRootList g k a' b xs) count (subst (λ a. IsRootList g k a b xs) row list)
 
 -- the lists of the row of the only tree: that of the tree, and empty ones
-pub only-list : (g : Grammar) (k : BarInput) (a n : ℕ) (best : Option Best) (rules later : List ℕ) → (h : IsOnlyTree g k a best rules later) → n ≡ number_of a 0 → IsRootListAt g k n (only_list h.0)
+pub only-list : (g : Grammar) (k : BarInput) (a n : ℕ) (best : Option Best) (rules later : List ℕ) → (h : IsOnlyTree g k a best rules later) → n ≡ list_number a 0 → IsRootListAt g k n (only_list h.0)
 only-list g k a n best rules later (o, least, is, grown) here = root-list g k a 0 n (only_key o) (only_list o) (omega arith) least (own o) here
   where
     own : (o : Option Key) → IsListOf o (only_list o)
     own None = tt
     own (Some key) = refl
 
-pub only-empty : (g : Grammar) (k : BarInput) (a b n : ℕ) (best : Option Best) (rules later : List ℕ) → IsOnlyTree g k a best rules later → b < 4 → n ≡ number_of a (suc b) → IsRootListAt g k n []
+pub only-empty : (g : Grammar) (k : BarInput) (a b n : ℕ) (best : Option Best) (rules later : List ℕ) → IsOnlyTree g k a best rules later → b < 4 → n ≡ list_number a (suc b) → IsRootListAt g k n []
 only-empty g k a b n best rules later (o, least, is, grown) low here = root-list g k a (suc b) n (only_key o) [] (omega (arith, low)) least tt here
 
 -- ---- all rows
@@ -192,7 +192,7 @@ module _ (g : Grammar) (k : BarInput) (bests : List (List (Option Best))) (h : A
   listed : (n : ℕ) (xs : List ℕ) → n < 25 → IsRootListAt g k n xs → IsListAt five_keys n xs
   listed n xs low list a b lb is = list a b lb is (five_keys a) (five_known a (omega (arith, low, is))).0
 
-  pub bar-trees : (trees : BarTrees) → length bests ≡ 5 → bests ≡ trees.bests.rows → AreWritten (IsRootListAt g k) trees.lists.rules.items trees.lists.ends 25 → AreBarTrees g k trees
+  pub bar-trees : (trees : BarTrees) → length bests ≡ 5 → bests ≡ trees.bests.rows → AreListsWritten (IsRootListAt g k) trees.lists.rules.items trees.lists.ends 25 → AreBarTrees g k trees
   bar-trees trees long is written = record {
     keys = five_keys;
     least = λ a b la lb. (five_known a la).0 b lb;
@@ -216,8 +216,8 @@ quiet-rows g k o p q r s r0 r1 r2 r3 r4 r5 ho hp hq hr hs (suc (suc (suc (suc (s
 abbrev ended : List ℕ → ℕ → ℕ → List ℕ
 ended ends n e = set (set (set (set (set ends n e) (n + 1) e) (n + 2) e) (n + 3) e) (n + 4) e
 
-quiet-ended : (g : Grammar) (k : BarInput) (a n m : ℕ) (best : Option Best) (rules later ends : List ℕ) → a < 5 → n ≡ number_of a 0 → n + 5 ≡ m → IsOnlyTree g k a best rules later
-    → AreWritten (IsRootListAt g k) rules ends n → AreWritten (IsRootListAt g k) later (ended ends n (length later)) m
+quiet-ended : (g : Grammar) (k : BarInput) (a n m : ℕ) (best : Option Best) (rules later ends : List ℕ) → a < 5 → n ≡ list_number a 0 → n + 5 ≡ m → IsOnlyTree g k a best rules later
+    → AreListsWritten (IsRootListAt g k) rules ends n → AreListsWritten (IsRootListAt g k) later (ended ends n (length later)) m
 quiet-ended g k a n m best rules later ends low here next h written =
     let P = IsRootListAt g k in
     let e = length later in
@@ -234,7 +234,7 @@ quiet_ends a b c d e =
 
 pub quiet-written : (g : Grammar) (k : BarInput) (o p q r s : Option Best) (r1 r2 r3 r4 r5 : List ℕ)
     → IsOnlyTree g k 0 o [] r1 → IsOnlyTree g k 1 p r1 r2 → IsOnlyTree g k 2 q r2 r3 → IsOnlyTree g k 3 r r3 r4 → IsOnlyTree g k 4 s r4 r5
-    → AreWritten (IsRootListAt g k) r5 (quiet_ends (length r1) (length r2) (length r3) (length r4) (length r5)) 25
+    → AreListsWritten (IsRootListAt g k) r5 (quiet_ends (length r1) (length r2) (length r3) (length r4) (length r5)) 25
 quiet-written g k o p q r s r1 r2 r3 r4 r5 ho hp hq hr hs =
     let w0 = written-none (IsRootListAt g k) [] (quiet_ends 0 0 0 0 0) refl refl in
     let w1 = quiet-ended g k 0 0 5 o [] r1 (quiet_ends 0 0 0 0 0) (omega arith) refl refl ho w0 in

@@ -12,16 +12,16 @@ use Rattle.std.proofs.lemmas.Cmp.{tied_itself}
 use Rattle.std.proofs.lemmas.Option.{get_or_from_slice_get, slice_get_within}
 use Rattle.rhythm_base.specs.Bodies.{sizes}
 use Rattle.rhythm_base.specs.Ranked.{Key, list_cmp}
-use Rattle.rhythm_laws.specs.Forests.{Ground, IsGround}
-use Rattle.rhythm_laws.specs.Rows.{AreAlike, lists_cmp, same}
-use Rattle.rhythm_laws.proofs.KeyOrders.{flip}
+use Rattle.tree_laws.specs.Forests.{Ground, IsGround}
+use Rattle.path_laws.specs.Rows.{AreAlike, lists_cmp, same}
+use Rattle.rhythm_base.proofs.TotalOrders.{flip}
 use Rattle.row_laws.specs.BestRules.{Choice, choice_key}
 use Rattle.row_laws.proofs.Bounds.{IsBounded}
 use Rattle.row_laws.proofs.RowProducts.{row-cheap}
 use Rattle.grammar_plan.specs.declared.plan.Plan.{Plan}
 use Rattle.least_rows.specs.declared.entry.Entry.{Entry}
-use Rattle.least_rows.specs.Entries.{IsEntry, IsRow}
-use Rattle.least_rows.specs.Ways.{AreEntries, IsRanked, rank_in}
+use Rattle.least_rows.specs.Entries.{IsRowEntry, IsRow}
+use Rattle.least_rows.specs.Ways.{AreEntries, IsRankedRow, rank_in}
 
 pub all-at : {X : Type 0} (P : X → Type 0) (xs : List X) (i : ℕ) (x : X) → All P xs → slice_get xs i ≡ Some x → P x
 all-at P xs i x h e = subst P (get_or_from_slice_get xs i x x e) (h i x (slice_get_within xs i x e))
@@ -114,8 +114,8 @@ none_right None = refl
 none_right (Some x) = refl
 
 module _ (d : Ground) (plan : Plan) (p : ℕ) (q : ℕ × ℕ) (a : ℕ) (es : List Entry) (row : IsRow d plan p q a es) where
-  own : (i : ℕ) (e : Entry) → slice_get es i ≡ Some e → IsEntry d plan p q a row.keys e
-  own i e at = all-at (IsEntry d plan p q a row.keys) es i e row.each at
+  own : (i : ℕ) (e : Entry) → slice_get es i ≡ Some e → IsRowEntry d plan p q a row.keys e
+  own i e at = all-at (IsRowEntry d plan p q a row.keys) es i e row.each at
 
   absent : (b : ℕ) → b < 5 → HasNone es b → (o : Option Key) → row.keys b ≡ o → o ≡ None
   absent b lb none None e = refl
@@ -173,7 +173,7 @@ module _ (d : Ground) (plan : Plan) (p : ℕ) (q : ℕ × ℕ) (a : ℕ) (es : L
       let small : 0 + h.0 < 8 = omega (arith, low, few) in
       subst (λ (c : Choice). c.1 < 8) is small
 
-  pub row-ranked : length es ≤ 5 → IsRanked d p q a (rank_in es 0)
+  pub row-ranked : length es ≤ 5 → IsRankedRow d p q a (rank_in es 0)
   row-ranked few = record {
     keys = row.keys;
     least = row.least;

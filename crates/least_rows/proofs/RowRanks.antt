@@ -9,10 +9,10 @@ use Rattle.std.proofs.lemmas.Bool.Decides.{nat_tests}
 use Rattle.std.proofs.lemmas.Cmp.{nat_list_cmp_total, tied_itself}
 use Rattle.std.proofs.lemmas.Option.{slice_get_within}
 use Rattle.rhythm_base.specs.Ranked.{Key, count_under, is_under, list_cmp}
-use Rattle.rhythm_laws.specs.Forests.{Ground}
-use Rattle.rhythm_laws.specs.Rows.{lists_cmp}
+use Rattle.tree_laws.specs.Forests.{Ground}
+use Rattle.path_laws.specs.Rows.{lists_cmp}
 use Rattle.grammar_plan.specs.declared.plan.Plan.{Plan}
-use Rattle.least_rows.specs.Entries.{IsEntry, IsRow}
+use Rattle.least_rows.specs.Entries.{IsRowEntry, IsRow}
 use Rattle.least_rows.specs.declared.entry.Entry.{Entry}
 use Rattle.least_rows.proofs.PlanSeats.{All-at}
 
@@ -75,8 +75,8 @@ same_list : (x : List ℕ) → list_cmp x x ≡ Equal
 same_list x = tied_itself nat_list_cmp_total x
 
 module _ (d : Ground) (plan : Plan) (p : ℕ) (q : ℕ × ℕ) (a : ℕ) (entries : List Entry) (row : IsRow d plan p q a entries) where
-  entry_at : (i : ℕ) (e : Entry) → slice_get entries i ≡ Some e → IsEntry d plan p q a row.keys e
-  entry_at i e at = All-at (IsEntry d plan p q a row.keys) entries i e row.each at
+  entry_at : (i : ℕ) (e : Entry) → slice_get entries i ≡ Some e → IsRowEntry d plan p q a row.keys e
+  entry_at i e at = All-at (IsRowEntry d plan p q a row.keys) entries i e row.each at
 
   -- no two are for one number carried out
   later_differs : (i j : ℕ) (e f : Entry) → i < j → slice_get entries i ≡ Some e → slice_get entries j ≡ Some f → e.to ≡ f.to → ⊥

@@ -11,16 +11,16 @@ use Rattle.std.proofs.lemmas.List.{get_or-set_other, length-append, length-set}
 use Rattle.std.proofs.lemmas.Option.{slice_get-get_or, slice_get_within}
 use Rattle.rhythm_base.specs.Ranked.{Key}
 use Rattle.rhythm_base.specs.Trees.{suits}
-use Rattle.rhythm_laws.specs.Forests.{Ground}
-use Rattle.rhythm_laws.specs.Rows.{lists_cmp, same}
-use Rattle.rhythm_laws.proofs.KeyOrders.{list_equal}
+use Rattle.tree_laws.specs.Forests.{Ground}
+use Rattle.path_laws.specs.Rows.{lists_cmp, same}
+use Rattle.rhythm_base.proofs.TotalOrders.{list_equal}
 use Rattle.row_laws.specs.BestRules.{choice_key}
 use Rattle.row_laws.specs.Rows.{AreLeastRow}
 use Rattle.row_laws.proofs.BestRules.{best-whole}
 use Rattle.row_laws.proofs.RowProducts.{row-apart}
 use Rattle.grammar_plan.specs.declared.plan.Plan.{Plan}
 use Rattle.least_rows.specs.Choices.{AreBestChoices, AreSettled, IsAlone, IsChoiceMade, IsEntryOf, IsFirst, IsSplit, choice_in, count_some, sum_of_choice}
-use Rattle.least_rows.specs.Entries.{IsEntry, IsMade, IsRow}
+use Rattle.least_rows.specs.Entries.{IsRowEntry, IsListMade, IsRow}
 use Rattle.least_rows.specs.declared.choice.Choice.{Choice}
 use Rattle.least_rows.specs.declared.entry.Entry.{Entry}
 use Rattle.least_rows.specs.declared.state.RowSpan.{RowSpan}
@@ -223,7 +223,7 @@ module _ (d : Ground) (plan : Plan) (p : ℕ) (q : ℕ × ℕ) (a : ℕ) (rules 
   key-of : (b : ℕ) (c : Choice) → b < 5 → choice_in choices b ≡ Some c → (k : Key) × (best.keys b ≡ Some k) × (k.0 ≡ c.cost)
   key-of b c low e = same-key-of (best.keys b) c (subst (λ o. same (best.keys b) (choice_key (sum_of_choice o))) e (best.best_of.alike.costs b low))
 
-  entry-of : (i : ℕ) (e : Entry) → slice_get es i ≡ Some e → IsEntry d plan p q a best.keys e
+  entry-of : (i : ℕ) (e : Entry) → slice_get es i ≡ Some e → IsRowEntry d plan p q a best.keys e
   entry-of i e at =
       let m = h.made i e at in
       let c = m.1 in
@@ -232,9 +232,9 @@ module _ (d : Ground) (plan : Plan) (p : ℕ) (q : ℕ × ℕ) (a : ℕ) (rules 
       let made : IsChoiceMade d plan p q a e.to (Some c) (Some k.0) = subst (IsChoiceMade d plan p q a e.to (Some c)) k.1 (subst (λ o. IsChoiceMade d plan p q a e.to o (best.keys e.to)) m.2 (best.made e.to m.0)) in
       let rule : e.rule ≡ made.0 = own.2 ∙ divided made.0 made.1 c.order made.2 made.3 in
       let first = made.4 in
-      let second : IsMade d plan p q a e.rule c.cut c.way e.to k.0.1 = subst (λ r. IsMade d plan p q a r c.cut c.way e.to k.0.1) (sym rule) first in
-      let third : IsMade d plan p q a e.rule e.cut c.way e.to k.0.1 = subst (λ o. IsMade d plan p q a e.rule o c.way e.to k.0.1) (sym own.3) second in
-      let fourth : IsMade d plan p q a e.rule e.cut e.way e.to k.0.1 = subst (λ w. IsMade d plan p q a e.rule e.cut w e.to k.0.1) (sym own.4) third in
+      let second : IsListMade d plan p q a e.rule c.cut c.way e.to k.0.1 = subst (λ r. IsListMade d plan p q a r c.cut c.way e.to k.0.1) (sym rule) first in
+      let third : IsListMade d plan p q a e.rule e.cut c.way e.to k.0.1 = subst (λ o. IsListMade d plan p q a e.rule o c.way e.to k.0.1) (sym own.3) second in
+      let fourth : IsListMade d plan p q a e.rule e.cut e.way e.to k.0.1 = subst (λ w. IsListMade d plan p q a e.rule e.cut w e.to k.0.1) (sym own.4) third in
       (m.0, k.0, k.1, own.1 ∙ sym k.2, fourth)
 
   pub split-row : IsRow d plan p q a es

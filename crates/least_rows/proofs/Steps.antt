@@ -4,9 +4,9 @@ use Rattle.std.specs.Prelude.{Option, Some, None, if◌then◌else◌, slice_get
 use Rattle.std.proofs.lemmas.Bool.Decides.{nat_tests}
 use Rattle.rhythm_base.specs.BarInput.{BarInput}
 use Rattle.rhythm_base.specs.Grammar.{Grammar}
-use Rattle.rhythm_laws.specs.Forests.{Ground}
-use Rattle.rhythm_laws.specs.Rows.{AreAlike}
-use Rattle.rhythm_laws.proofs.LeastKeys.{last}
+use Rattle.tree_laws.specs.Forests.{Ground}
+use Rattle.path_laws.specs.Rows.{AreAlike}
+use Rattle.path_laws.proofs.LeastKeys.{last}
 use Rattle.row_laws.specs.BestRules.{Choice, choice_key}
 use Rattle.row_laws.specs.Rows.{AreLeastRow}
 use Rattle.row_laws.specs.Grounds.{ground_of}
@@ -17,7 +17,7 @@ use Rattle.least_rows.specs.Steps.{LeadsOver}
 use Rattle.least_rows.specs.declared.lead.Lead.{Lead}
 use Rattle.least_rows.specs.declared.lead.Lead.TheVariants.{Nowhere, One, Several}
 use Rattle.least_rows.specs.declared.way.Way.{Way}
-use Rattle.least_rows.specs.Ways.{IsLead, AreWaysBelow, AreWaysOn, IsRanked, nearer_way, nearest_below, nearest_way, one_way, way_on}
+use Rattle.least_rows.specs.Ways.{IsLead, AreWaysBelow, AreWaysOn, IsRankedRow, nearer_way, nearest_below, nearest_way, one_way, way_on}
 
 -- ---- one way alone
 
@@ -46,7 +46,7 @@ the-one w v m n e = go (m == n) refl e
     go true h e = grind (arith, nat_tests)
     go false h e = absurd (cc)
 
-pub one-on : (d : Ground) (p : ℕ) (q : ℕ × ℕ) (w : Way) (m : ℕ) → m < 5 → (ranks : ℕ → Option Choice) → IsRanked d p q m ranks → (next : ℕ → Option Way)
+pub one-on : (d : Ground) (p : ℕ) (q : ℕ × ℕ) (w : Way) (m : ℕ) → m < 5 → (ranks : ℕ → Option Choice) → IsRankedRow d p q m ranks → (next : ℕ → Option Way)
     → ((b : ℕ) → b < 5 → next b ≡ way_on (Some w) m (ranks b)) → AreWaysOn d p q (one_way w m) next
 one-on d p q w m low ranks row next is = record {
   keys = λ n. row.keys;
@@ -114,7 +114,7 @@ module _ (d : Ground) (p : ℕ) (q : ℕ × ℕ) (ways : ℕ → Option Way) (n 
       ]
 
   -- the row for this count stands behind its way
-  pub below-more : (ranks : ℕ → Option Choice) → IsRanked d p q n ranks → ((b : ℕ) → b < 5 → new b ≡ nearer_way (old b) (way_on (ways n) n (ranks b))) → AreWaysBelow d p q ways (suc n) new
+  pub below-more : (ranks : ℕ → Option Choice) → IsRankedRow d p q n ranks → ((b : ℕ) → b < 5 → new b ≡ nearer_way (old b) (way_on (ways n) n (ranks b))) → AreWaysBelow d p q ways (suc n) new
   below-more ranks row is = record {
     keys = changed below.keys n row.keys;
     ranks = changed below.ranks n ranks;
@@ -145,7 +145,7 @@ module _ (d : Ground) (p : ℕ) (q : ℕ × ℕ) (ways : ℕ → Option Way) (n 
 -- ---- where one way leads
 
 pub lead-over : (g : Grammar) (k : BarInput) (plan : Plan) (seat place : ℕ) (way : Way) (count : ℕ) → count < 5 → (ranks : ℕ → Option Choice)
-    → ((s : Seat) → slice_get plan.seats.items seat ≡ Some s → IsRanked (ground_of g k) place (pair_of s) count ranks) → (lead : Lead) → IsLead ranks way count lead → LeadsOver g k plan seat place way count lead
+    → ((s : Seat) → slice_get plan.seats.items seat ≡ Some s → IsRankedRow (ground_of g k) place (pair_of s) count ranks) → (lead : Lead) → IsLead ranks way count lead → LeadsOver g k plan seat place way count lead
 lead-over g k plan seat place way count low ranks row Nowhere h = λ s at. one-on (ground_of g k) place (pair_of s) way count low ranks (row s at) (λ b. None) h
 lead-over g k plan seat place way count low ranks row (One next to) h = (h.0, λ s at. one-on (ground_of g k) place (pair_of s) way count low ranks (row s at) (one_way next to) h.1)
 lead-over g k plan seat place way count low ranks row Several h = tt

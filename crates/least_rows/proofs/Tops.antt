@@ -5,7 +5,7 @@ use Rattle.std.proofs.lemmas.Option.{slice_get_read}
 use Rattle.rhythm_base.specs.BarInput.{BarInput}
 use Rattle.rhythm_base.specs.Bodies.{sizes}
 use Rattle.rhythm_base.specs.Grammar.{Grammar}
-use Rattle.rhythm_laws.specs.Forests.{Ground}
+use Rattle.tree_laws.specs.Forests.{Ground}
 use Rattle.row_laws.specs.Grounds.{IsReady, ground_of}
 use Rattle.row_laws.proofs.Grounds.{bounds, grounded}
 use Rattle.grammar_plan.specs.Plans.{IsPlan, IsSeat, pair_of}
@@ -13,9 +13,9 @@ use Rattle.grammar_plan.specs.declared.cut.Cut.{Cut}
 use Rattle.grammar_plan.specs.declared.plan.Plan.{Plan}
 use Rattle.grammar_plan.specs.declared.seat.Seat.{Seat}
 use Rattle.least_rows.specs.Ways.{AreShort, AreWays, AreWaysOn, IsSmallWay, one_way}
-use Rattle.least_rows.specs.Places.{HasPlace, width_at, width_of}
+use Rattle.least_rows.specs.Places.{IsSeatPlace, width_at, width_of}
 use Rattle.least_rows.specs.Steps.{AreWaysOver}
-use Rattle.least_rows.specs.Tops.{IsTop, parts_of}
+use Rattle.least_rows.specs.Tops.{IsTop, parts_below}
 use Rattle.least_rows.specs.declared.top.Top.{Top}
 use Rattle.least_rows.specs.declared.way.Way.{Way}
 use Rattle.least_rows.proofs.Asked.{seat-of}
@@ -26,16 +26,16 @@ use Rattle.least_rows.proofs.FirstWays.{ways-first, ways-low, ways-none, ways-sh
 pub record IsPart (g : Grammar) (k : BarInput) (plan : Plan) (top : Top) (cut : Cut) (t : IsTop g k plan top cut) (part own at : ℕ) : Type 0 where
   pub seat : Seat
   pub there : slice_get plan.seats.items own ≡ Some seat
-  pub inside : part - cut.first < length (parts_of g k plan top cut t)
-  pub pair : pair_of seat ≡ slice_index_or (parts_of g k plan top cut t) (part - cut.first) (0, 0)
+  pub inside : part - cut.first < length (parts_below g k plan top cut t)
+  pub pair : pair_of seat ≡ slice_index_or (parts_below g k plan top cut t) (part - cut.first) (0, 0)
   pub within : at + seat.width ≤ k.resolution
-  pub next : at + seat.width ≡ top.place + sizes (take (suc (part - cut.first)) (parts_of g k plan top cut t))
+  pub next : at + seat.width ≡ top.place + sizes (take (suc (part - cut.first)) (parts_below g k plan top cut t))
   pub less : seat.width < t.seat.width
   pub few : part - cut.first ≤ 16
 
 module _ (g : Grammar) (k : BarInput) (plan : Plan) (ready : IsReady g k) (of : IsPlan g plan) (top : Top) (cut : Cut) (t : IsTop g k plan top cut) where
   abbrev qs : List (ℕ × ℕ)
-  qs = parts_of g k plan top cut t
+  qs = parts_below g k plan top cut t
 
   abbrev d : Ground
   d = ground_of g k
@@ -67,7 +67,7 @@ module _ (g : Grammar) (k : BarInput) (plan : Plan) (ready : IsReady g k) (of : 
         few = omega (arith, few, some);
       }
 
-  pub part-place : (part own at : ℕ) → IsPart g k plan top cut t part own at → HasPlace k plan own at
+  pub part-place : (part own at : ℕ) → IsPart g k plan top cut t part own at → IsSeatPlace k plan own at
   part-place part own at x = (x.seat, x.there, x.within)
 
   pub part-less : (part own at : ℕ) → IsPart g k plan top cut t part own at → width_at plan own < width_at plan top.seat

@@ -15,25 +15,25 @@ use Rattle.rhythm_base.specs.Ranked.{Key}
 use Rattle.rhythm_base.specs.Trees.{BarLeaf, leaves}
 use Rattle.rhythm_base.specs.declared.rule.Ending.{Ending}
 use Rattle.rhythm_base.specs.declared.rule.Rule.{Rule}
-use Rattle.rhythm_laws.specs.Forests.{Ground, IsForestKey, IsGround}
-use Rattle.rhythm_laws.specs.Places.{reach}
-use Rattle.rhythm_laws.specs.Quiet.{is_quiet}
-use Rattle.rhythm_laws.specs.Tables.{IsLeastKey}
-use Rattle.rhythm_laws.proofs.Bars.{SideBySide, leaves-fill}
-use Rattle.rhythm_laws.proofs.LeastKeys.{IsLeast-one}
-use Rattle.rhythm_laws.proofs.Quiet.{carried_by, leaving-calm}
-use Rattle.rhythm_laws.proofs.Ticks.{parts-line}
+use Rattle.tree_laws.specs.Forests.{Ground, IsForestKey, IsGround}
+use Rattle.tree_laws.specs.Places.{reach}
+use Rattle.tree_laws.specs.Quiet.{is_quiet}
+use Rattle.path_laws.specs.Tables.{IsLeastKey}
+use Rattle.tree_laws.proofs.Bars.{SideBySide, leaves-fill}
+use Rattle.path_laws.proofs.LeastKeys.{IsLeast-one}
+use Rattle.tree_laws.proofs.Quiet.{carried_by, leaving-calm}
+use Rattle.tree_laws.proofs.Ticks.{parts-line}
 use Rattle.row_laws.specs.Grounds.{IsReady, ground_of}
 use Rattle.row_laws.specs.QuietTrees.{IsQuiet, IsQuietLeast}
 use Rattle.row_laws.specs.Ways.{IsWayList}
 use Rattle.row_laws.specs.declared.quiet.Quiet.{Quiet}
 use Rattle.row_laws.specs.declared.quiet.Quiet.TheVariants.{Sounding, Silent}
-use Rattle.grammar_plan.specs.Plans.{HasSeat, IsCutOf, IsPlan, IsQuietTree, pair_of, rows_of}
+use Rattle.grammar_plan.specs.Plans.{HasSeat, IsCutOf, IsPlan, IsQuietTree, pair_of, quiet_rows_of}
 use Rattle.grammar_plan.specs.declared.cut.Cut.{Cut}
 use Rattle.grammar_plan.specs.declared.plan.Plan.{Plan}
 use Rattle.grammar_plan.specs.declared.quiet_tree.QuietTree.{QuietTree}
 use Rattle.grammar_plan.specs.declared.seat.Seat.{Seat}
-use Rattle.least_rows.specs.Entries.{IsEntry, IsMade, IsRow}
+use Rattle.least_rows.specs.Entries.{IsRowEntry, IsListMade, IsRow}
 use Rattle.least_rows.specs.declared.entry.Entry.{Entry}
 use Rattle.least_rows.specs.Parts.{ArePartsOf, AreSeatsOf, IsLeg, carried_after}
 use Rattle.least_rows.specs.declared.parts.Parts.{Parts}
@@ -73,7 +73,7 @@ quiet-nothing d ground quiet p a b q k wide calm (f, stands, is) =
 pub quiet-key : (g : Grammar) (k : BarInput) (plan : Plan) → IsReady g k → IsPlan g plan → (quiet : Quiet) (n : ℕ) (s : Seat) → slice_get plan.seats.items n ≡ Some s → n < length plan.seats.items
     → (p a b : ℕ) → a < 5 → IsQuiet quiet (ground_of g k) p s.width → (key : Key) → IsLeastKey (IsForestKey (ground_of g k) None p (pair_of s ∷ []) a b) (Some key) → IsQuietLeast g quiet (pair_of s) a (Some key)
 quiet-key g k plan ready plan_of quiet n s at low p a b la calm key least =
-    go (get_or (get_or (rows_of plan quiet) n []) a None) (plan_of.quiet n a quiet low la s at)
+    go (get_or (get_or (quiet_rows_of plan quiet) n []) a None) (plan_of.quiet n a quiet low la s at)
   where
     wide : 1 ≤ s.width
     wide = (seat_of g plan plan_of n s at).wide
@@ -123,23 +123,23 @@ module _ (d : Ground) (plan : Plan) (p : ℕ) (q : ℕ × ℕ) (a : ℕ) (entrie
       absurd (grind (arith, nat_tests))
 
   -- and so its list is made
-  pub entry_made : (i : ℕ) (e : Entry) → position (λ e. e.to == to) entries ≡ Some i → e ≡ get_or entries i e → IsMade d plan p q a e.rule e.cut e.way e.to key.1
+  pub entry_made : (i : ℕ) (e : Entry) → position (λ e. e.to == to) entries ≡ Some i → e ≡ get_or entries i e → IsListMade d plan p q a e.rule e.cut e.way e.to key.1
   entry_made i e h at =
       let found = position-Some (λ (e : Entry). e.to == to) entries i e h in
       let here : slice_get entries i ≡ Some e = slice_get-get_or entries i e found.0 ∙ ap Some (sym at) in
-      let own : IsEntry d plan p q a row.keys e = All-at (IsEntry d plan p q a row.keys) entries i e row.each here in
+      let own : IsRowEntry d plan p q a row.keys e = All-at (IsRowEntry d plan p q a row.keys) entries i e row.each here in
       let on : e.to == to ≡ true = ap (λ (e : Entry). e.to == to) at ∙ found.1 in
       let is : e.to ≡ to = grind (arith, nat_tests) in
       let same : Some own.1 ≡ Some key = sym own.2 ∙ ap row.keys is ∙ own_key in
       let equal : own.1 ≡ key = cc in
-      subst (λ (k : Key). IsMade d plan p q a e.rule e.cut e.way e.to k.1) equal own.4
+      subst (λ (k : Key). IsListMade d plan p q a e.rule e.cut e.way e.to k.1) equal own.4
 
 -- how the list of any entry of a row is made
 pub entry_list : (d : Ground) (plan : Plan) (p : ℕ) (q : ℕ × ℕ) (a : ℕ) (entries : List Entry) → IsRow d plan p q a entries → (i : ℕ) (e : Entry) → i < length entries → e ≡ get_or entries i e
-    → (list : List ℕ) × IsMade d plan p q a e.rule e.cut e.way e.to list
+    → (list : List ℕ) × IsListMade d plan p q a e.rule e.cut e.way e.to list
 entry_list d plan p q a entries row i e low at =
     let here : slice_get entries i ≡ Some e = slice_get-get_or entries i e low ∙ ap Some (sym at) in
-    let own : IsEntry d plan p q a row.keys e = All-at (IsEntry d plan p q a row.keys) entries i e row.each here in
+    let own : IsRowEntry d plan p q a row.keys e = All-at (IsRowEntry d plan p q a row.keys) entries i e row.each here in
     (own.1.1, own.4)
 
 -- ---- a way
@@ -176,11 +176,11 @@ pub record IsMadeCut (d : Ground) (plan : Plan) (p : ℕ) (q : ℕ × ℕ) (a ru
   pub along : IsWayList d p (children cut.rule.body q.0) a (length (children cut.rule.body q.0)) way to below
   pub whole : list ≡ rule ∷ below
 
-pub made_cut : (d : Ground) (plan : Plan) (p : ℕ) (q : ℕ × ℕ) (a rule : ℕ) (o : Option ℕ) (n way to : ℕ) (list : List ℕ) (c : Cut) → IsMade d plan p q a rule o way to list → o ≡ Some n → slice_get plan.cuts.items n ≡ Some c
+pub made_cut : (d : Ground) (plan : Plan) (p : ℕ) (q : ℕ × ℕ) (a rule : ℕ) (o : Option ℕ) (n way to : ℕ) (list : List ℕ) (c : Cut) → IsListMade d plan p q a rule o way to list → o ≡ Some n → slice_get plan.cuts.items n ≡ Some c
     → IsMadeCut d plan p q a rule c way to list
-made_cut d plan p q a rule o n way to list c made is at = go (subst (λ o. IsMade d plan p q a rule o way to list) is made)
+made_cut d plan p q a rule o n way to list c made is at = go (subst (λ o. IsListMade d plan p q a rule o way to list) is made)
   where
-    go : IsMade d plan p q a rule (Some n) way to list → IsMadeCut d plan p q a rule c way to list
+    go : IsListMade d plan p q a rule (Some n) way to list → IsMadeCut d plan p q a rule c way to list
     go (x, body, xs, at_x, own, cut_of, cut_rule, along, whole) =
         let same : x ≡ c = one_at plan.cuts.items n x c at_x at in
         let equal : body ≡ cut_of.rule = one_at d.book.rules x.rule body cut_of.rule cut_rule.at cut_of.is.at in
@@ -193,11 +193,11 @@ made_cut d plan p q a rule o n way to list c made is at = go (subst (λ o. IsMad
         subst (λ c. IsMadeCut d plan p q a rule c way to list) same made
 
 -- it is one of the plan's cuts
-pub made_there : (d : Ground) (plan : Plan) (p : ℕ) (q : ℕ × ℕ) (a rule : ℕ) (o : Option ℕ) (n way to : ℕ) (list : List ℕ) → IsMade d plan p q a rule o way to list → o ≡ Some n → (c : Cut) × (slice_get plan.cuts.items n ≡ Some c)
-made_there d plan p q a rule o n way to list made is = let own = subst (λ o. IsMade d plan p q a rule o way to list) is made in (own.0, own.3)
+pub made_there : (d : Ground) (plan : Plan) (p : ℕ) (q : ℕ × ℕ) (a rule : ℕ) (o : Option ℕ) (n way to : ℕ) (list : List ℕ) → IsListMade d plan p q a rule o way to list → o ≡ Some n → (c : Cut) × (slice_get plan.cuts.items n ≡ Some c)
+made_there d plan p q a rule o n way to list made is = let own = subst (λ o. IsListMade d plan p q a rule o way to list) is made in (own.0, own.3)
 
-pub made_leaf : (d : Ground) (plan : Plan) (p : ℕ) (q : ℕ × ℕ) (a rule : ℕ) (o : Option ℕ) (way to : ℕ) (list : List ℕ) → IsMade d plan p q a rule o way to list → o ≡ None → list ≡ rule ∷ []
-made_leaf d plan p q a rule o way to list made is = subst (λ o. IsMade d plan p q a rule o way to list) is made
+pub made_leaf : (d : Ground) (plan : Plan) (p : ℕ) (q : ℕ × ℕ) (a rule : ℕ) (o : Option ℕ) (way to : ℕ) (list : List ℕ) → IsListMade d plan p q a rule o way to list → o ≡ None → list ≡ rule ∷ []
+made_leaf d plan p q a rule o way to list made is = subst (λ o. IsListMade d plan p q a rule o way to list) is made
 
 -- ---- a way from its first part on
 

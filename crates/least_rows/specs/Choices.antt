@@ -2,14 +2,14 @@
 use Rattle.std.specs.Prelude.{⊤, ◌≡◌, ◌≢◌, ◌⊎◌, ℕ, suc, ◌+◌, ◌-◌, ◌*◌, ◌/◌, ◌<◌, ◌≤◌, ◌^◌, Bool, true, false, nat_le, if◌then◌else◌, List, [], ◌∷◌, ◌++◌, length, slice_get, slice_index_or, Option, Some, None}
 use Rattle.rhythm_base.specs.Grammar.{Grammar}
 use Rattle.rhythm_base.specs.Ranked.{Key}
-use Rattle.rhythm_laws.specs.Forests.{Ground}
+use Rattle.tree_laws.specs.Forests.{Ground}
 use Rattle.row_laws.specs.BestRules.{AreBestOf, is_nearer}
 use Rattle.row_laws.specs.BestRules as best
 use Rattle.row_laws.specs.LeafRules.{EndsInterval}
 use Rattle.grammar_plan.specs.declared.cut.Cut.{Cut}
 use Rattle.grammar_plan.specs.declared.plan.Plan.{Plan}
 use Rattle.grammar_plan.specs.declared.seat.Seat.{Seat}
-use Rattle.least_rows.specs.Entries.{IsMade}
+use Rattle.least_rows.specs.Entries.{IsListMade}
 use Rattle.least_rows.specs.declared.choice.Choice.{Choice}
 use Rattle.least_rows.specs.declared.entry.Entry.{Entry}
 use Rattle.least_rows.specs.declared.state.RowSpan.{RowSpan}
@@ -50,7 +50,7 @@ abbrev pub IsChoiceMade : Ground → Plan → ℕ → ℕ × ℕ → ℕ → ℕ
 IsChoiceMade d plan p q a b None k = ⊤
 IsChoiceMade d plan p q a b (Some c) None = ⊤
 IsChoiceMade d plan p q a b (Some c) (Some k) =
-    (r : ℕ) × (low : ℕ) × (low < 2 ^ 48) × (c.order ≡ r * 2 ^ 48 + low) × IsMade d plan p q a r c.cut c.way b k.1
+    (r : ℕ) × (low : ℕ) × (low < 2 ^ 48) × (c.order ≡ r * 2 ^ 48 + low) × IsListMade d plan p q a r c.cut c.way b k.1
 
 -- these choices stand for the least trees with a rule of the set on top
 pub record AreBestChoices (d : Ground) (plan : Plan) (p : ℕ) (q : ℕ × ℕ) (a : ℕ) (rules : ℕ → Type 0) (choices : List (Option Choice)) : Type 0 where

@@ -1,13 +1,12 @@
-pub mod BarTrees
 pub mod Choices
 pub mod Entries
 pub mod Ways
 pub mod Parts
 pub mod Places
+pub mod QuietTrees
 pub mod Roots
 pub mod Searches
 pub mod States
 pub mod Steps
 pub mod Texts
 pub mod Tops
-pub mod WrittenLists

@@ -3,7 +3,7 @@ use Rattle.std.specs.Prelude.{ℕ, zero, suc, ◌+◌, ◌-◌, ◌*◌, ◌/◌
 use Rattle.rhythm_base.specs.BarInput.{BarInput}
 use Rattle.rhythm_base.specs.Bodies.{sizes}
 use Rattle.rhythm_base.specs.Grammar.{Grammar}
-use Rattle.rhythm_laws.specs.Shares.{AreBelow}
+use Rattle.tree_laws.specs.Shares.{AreBelow}
 use Rattle.row_laws.specs.Grounds.{ground_of}
 use Rattle.row_laws.specs.Ways.{IsWayList}
 use Rattle.grammar_plan.specs.Plans.{HaveSeats, between}

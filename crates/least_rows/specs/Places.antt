@@ -5,8 +5,8 @@ use Rattle.grammar_plan.specs.declared.plan.Plan.{Plan}
 use Rattle.grammar_plan.specs.declared.seat.Seat.{Seat}
 
 -- the seat of this number is there, and its interval from this unit on lies in the bar
-abbrev pub HasPlace : BarInput → Plan → ℕ → ℕ → Type 0
-HasPlace k plan seat place = (s : Seat) × (slice_get plan.seats.items seat ≡ Some s) × (place + s.width ≤ k.resolution)
+abbrev pub IsSeatPlace : BarInput → Plan → ℕ → ℕ → Type 0
+IsSeatPlace k plan seat place = (s : Seat) × (slice_get plan.seats.items seat ≡ Some s) × (place + s.width ≤ k.resolution)
 
 abbrev pub width_of : Option Seat → ℕ
 width_of None = 0

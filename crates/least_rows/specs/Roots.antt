@@ -6,7 +6,7 @@ use Rattle.rhythm_base.specs.Ranked.{Key, five, ranked}
 use Rattle.rhythm_base.specs.declared.best.Best.{Best}
 use Rattle.row_laws.specs.Grounds.{ground_of}
 use Rattle.row_laws.specs.Rows.{AreLeastRow}
-use Rattle.least_rows.specs.WrittenLists.{IsListOf, number_of}
+use Rattle.bar_trees.specs.WrittenLists.{IsListOf, list_number}
 use Rattle.least_rows.specs.declared.entry.Entry.{Entry}
 
 -- the cost of the first entry of a row for the number carried out, and its place
@@ -38,7 +38,7 @@ IsRootList g k a b xs = (keys : ℕ → Option Key) → AreRootKeys g k a keys �
 
 -- the list of a number is that for the same numbers carried in and out
 abbrev pub IsRootListAt : Grammar → BarInput → ℕ → List ℕ → Type 0
-IsRootListAt g k n xs = (a b : ℕ) → b < 5 → n ≡ number_of a b → IsRootList g k a b xs
+IsRootListAt g k n xs = (a b : ℕ) → b < 5 → n ≡ list_number a b → IsRootList g k a b xs
 
 -- ---- a bar that is quiet as a whole
 

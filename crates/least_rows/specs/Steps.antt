@@ -3,7 +3,7 @@ use Rattle.std.specs.Prelude.{⊤, ◌≡◌, ℕ, ◌<◌, ◌^◌, ◌==◌, i
 use Rattle.rhythm_base.specs.BarInput.{BarInput}
 use Rattle.rhythm_base.specs.Grammar.{Grammar}
 use Rattle.rhythm_base.specs.Ranked.{Key}
-use Rattle.rhythm_laws.specs.Forests.{IsForestKey}
+use Rattle.tree_laws.specs.Forests.{IsForestKey}
 use Rattle.row_laws.specs.Grounds.{ground_of}
 use Rattle.row_laws.specs.Leaves.{HasLeaf, IsCrowded}
 use Rattle.row_laws.specs.QuietTrees.{IsQuiet}

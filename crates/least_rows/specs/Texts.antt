@@ -3,8 +3,8 @@ use Rattle.std.specs.Prelude.{◌≡◌, ◌⊎◌, ℕ, ◌≤◌, List, [], �
 use Rattle.rhythm_base.specs.BarInput.{BarInput}
 use Rattle.rhythm_base.specs.Grammar.{Grammar}
 use Rattle.rhythm_base.specs.Ranked.{Key}
-use Rattle.rhythm_laws.specs.Forests.{IsForestKey}
-use Rattle.rhythm_laws.specs.Tables.{IsLeastKey}
+use Rattle.tree_laws.specs.Forests.{IsForestKey}
+use Rattle.path_laws.specs.Tables.{IsLeastKey}
 use Rattle.row_laws.specs.Grounds.{ground_of}
 use Rattle.grammar_plan.specs.Plans.{between, pair_of}
 use Rattle.grammar_plan.specs.declared.plan.Plan.{Plan}

@@ -30,25 +30,25 @@ pub record IsTop (g : Grammar) (k : BarInput) (plan : Plan) (top : Top) (cut : C
   pub is : IsCutOf g plan (pair_of seat) cut
 
 -- the widths and symbols of its parts
-abbrev pub parts_of : (g : Grammar) (k : BarInput) (plan : Plan) (top : Top) (cut : Cut) → IsTop g k plan top cut → List (ℕ × ℕ)
-parts_of g k plan top cut t = children t.is.rule.body t.seat.width
+abbrev pub parts_below : (g : Grammar) (k : BarInput) (plan : Plan) (top : Top) (cut : Cut) → IsTop g k plan top cut → List (ℕ × ℕ)
+parts_below g k plan top cut t = children t.is.rule.body t.seat.width
 
 -- these are the least ways over the parts before one of them, which begins at this unit
 abbrev pub AreWaysTo : Grammar → BarInput → Plan → Top → Cut → (part at : ℕ) → (ℕ → Option Way) → Type 0
 AreWaysTo g k plan top cut part at ways =
-    (t : IsTop g k plan top cut) → (at ≡ top.place + sizes (take (part - cut.first) (parts_of g k plan top cut t)))
-    × AreWays (ground_of g k) top.place (parts_of g k plan top cut t) top.from (part - cut.first) ways
+    (t : IsTop g k plan top cut) → (at ≡ top.place + sizes (take (part - cut.first) (parts_below g k plan top cut t)))
+    × AreWays (ground_of g k) top.place (parts_below g k plan top cut t) top.from (part - cut.first) ways
 
 -- the least trees with the cut on top were offered
 abbrev pub IsOffered : Grammar → BarInput → Plan → Top → Cut → (old new : List (Option Choice)) → Type 0
 IsOffered g k plan top cut old new =
     (t : IsTop g k plan top cut) → (ways : ℕ → Option Way)
-    × AreWays (ground_of g k) top.place (parts_of g k plan top cut t) top.from (length (parts_of g k plan top cut t)) ways
+    × AreWays (ground_of g k) top.place (parts_below g k plan top cut t) top.from (length (parts_below g k plan top cut t)) ways
     × ((b : ℕ) → b < 5 → choice_in new b ≡ nearer_choice (choice_in old b) (topped_choice cut top.number (ways b)))
 
 -- the width and symbol of a part
 abbrev pub part_at : (g : Grammar) (k : BarInput) (plan : Plan) (top : Top) (cut : Cut) → IsTop g k plan top cut → ℕ → ℕ × ℕ
-part_at g k plan top cut t part = slice_index_or (parts_of g k plan top cut t) (part - cut.first) (0, 0)
+part_at g k plan top cut t part = slice_index_or (parts_below g k plan top cut t) (part - cut.first) (0, 0)
 
 -- the span is the row of the part at which the fork is
 abbrev pub IsRowOfPart : Grammar → BarInput → Plan → Rows → Top → Cut → Fork → RowSpan → Type 0
@@ -58,7 +58,7 @@ IsRowOfPart g k plan rows top cut fork span = (t : IsTop g k plan top cut) → I
 abbrev pub IsPassed : Grammar → BarInput → Plan → Top → Cut → ℕ → (old new : List (Option Choice)) → Type 0
 IsPassed g k plan top cut limit old new =
     (new ≡ old) × ((t : IsTop g k plan top cut) → (n : ℕ) × (w : Way) × (m : ℕ)
-    × AreWays (ground_of g k) top.place (parts_of g k plan top cut t) top.from n (one_way w m) × (limit < w.cost) × (w.cost < 2 ^ 64))
+    × AreWays (ground_of g k) top.place (parts_below g k plan top cut t) top.from n (one_way w m) × (limit < w.cost) × (w.cost < 2 ^ 64))
 
 -- the ways out of which fewer than n chords are carried up to the part were offered with each entry after them, with the cut on top
 abbrev pub AreOfferedBelow : Grammar → BarInput → Plan → Top → Cut → (part at : ℕ) → (ℕ → Option Way) → ℕ → (old new : List (Option Choice)) → Type 0

@@ -1,8 +1,8 @@
 -- The least ways over the first parts of a cut, by the number of chords carried out of them.
 use Rattle.std.specs.Prelude.{⊤, ◌≡◌, ◌≢◌, ℕ, zero, suc, ◌+◌, ◌*◌, ◌<◌, ◌≤◌, ◌^◌, ◌==◌, if◌then◌else◌, List, [], ◌∷◌, take, length, slice_get, slice_index_or, Option, Some, None}
 use Rattle.rhythm_base.specs.Ranked.{Key, Keys}
-use Rattle.rhythm_laws.specs.Forests.{Ground}
-use Rattle.rhythm_laws.specs.Rows.{AreAlike}
+use Rattle.tree_laws.specs.Forests.{Ground}
+use Rattle.path_laws.specs.Rows.{AreAlike}
 use Rattle.row_laws.specs.BestRules.{Choice, choice_key, is_nearer}
 use Rattle.row_laws.specs.Rows.{AreLeastRow}
 use Rattle.row_laws.specs.Ways.{IsWayList}
@@ -122,7 +122,7 @@ pub record AreWaysBelow (d : Ground) (p : ℕ) (q : ℕ × ℕ) (ways : ℕ → 
   pub nearest : (b : ℕ) → b < 5 → next b ≡ nearest_below ways ranks b n
 
 -- these costs and ranks stand for the row of the width and symbol from unit p on, with a chords carried in
-pub record IsRanked (d : Ground) (p : ℕ) (q : ℕ × ℕ) (a : ℕ) (ranks : ℕ → Option Choice) : Type 0 where
+pub record IsRankedRow (d : Ground) (p : ℕ) (q : ℕ × ℕ) (a : ℕ) (ranks : ℕ → Option Choice) : Type 0 where
   pub keys : ℕ → Option Key
   pub least : AreLeastRow d p (q ∷ []) a keys
   pub alike : AreAlike keys (λ b. choice_key (ranks b))

@@ -4,7 +4,6 @@
 //! over the counts of chords between them, and no rule list is made before the end.
 #![tactic(auto)]
 
-mod bar_trees;
 mod choice;
 mod entry;
 mod fork;
@@ -27,10 +26,7 @@ mod tree_at;
 mod way;
 mod ways;
 mod write;
-mod written_lists;
 
-pub use bar_trees::{BarBests, BarTrees};
 pub use quiet_bar::quiet_of;
 pub use quiet_trees::QuietTrees;
 pub use room::Room;
-pub use written_lists::WrittenLists;

@@ -1,12 +1,12 @@
 ghost use Rattle.grammar_plan.specs.Plans.{HasSeat, IsPlan};
 ghost use Rattle.least_rows.specs.Roots.{AreRootRows, IsOnlyTree, IsRootListAt};
-ghost use Rattle.least_rows.specs.WrittenLists.{AreWritten};
+ghost use Rattle.bar_trees.specs.WrittenLists.{AreListsWritten};
 ghost use Rattle.row_laws.specs.Grounds.{IsReady, ground_of};
 ghost use Rattle.row_laws.specs.QuietTrees.{IsQuiet};
 ghost use Rattle.std.specs.Prelude.{◌≡◌, ◌<◌, IfOk, length};
 
-use crate::bar_trees::BarBests;
 use crate::quiet_lists::write_tree;
+use bar_trees::BarBests;
 use grammar_plan::Plan;
 use rhythm_base::{BarInput, Best, Grammar};
 use row_laws::Quiet;
@@ -44,7 +44,7 @@ pub fn quiet_trees(
     requires quiet { IsQuiet quiet (ground_of grammar.now input.now) 0 input.now.resolution }
     ensures long { IfOk result (λ q. length q.bests.rows ≡ 5) }
     ensures rows { IfOk result (λ q. AreRootRows grammar.now input.now 5 q.bests.rows) }
-    ensures written { IfOk result (λ q. AreWritten (IsRootListAt grammar.now input.now) rules.new.items q.ends 25) }
+    ensures written { IfOk result (λ q. AreListsWritten (IsRootListAt grammar.now input.now) rules.new.items q.ends 25) }
 {
     rules.clear();
     let a = only_tree(grammar, plan, input, quiet, root, 0, rules)?;

@@ -1,17 +1,17 @@
 ghost use Rattle.grammar_plan.specs.Plans.{HasSeat, IsPlan};
-ghost use Rattle.least_rows.specs.BarTrees.{AreBarTrees, bar_trees};
+ghost use Rattle.bar_trees.specs.BarTrees.{AreBarTrees};
+ghost use Rattle.least_rows.specs.QuietTrees.{bar_trees};
 ghost use Rattle.row_laws.specs.Grounds.{IsReady, ground_of};
 ghost use Rattle.row_laws.specs.QuietTrees.{IsQuiet};
 ghost use Rattle.std.specs.Prelude.{◌≡◌, [], IfOk, OnOk};
 
-use crate::bar_trees::{BarBests, BarTrees};
 use crate::quiet_bar::quiet_of;
 use crate::quiet_trees::{QuietTrees, quiet_trees};
 use crate::roots::trees_of;
 use crate::rows::Rows;
 use crate::search::Search;
 use crate::texts::Texts;
-use crate::written_lists::WrittenLists;
+use bar_trees::{BarBests, BarTrees, WrittenLists};
 use bar_view::View;
 use grammar_plan::Plan;
 use rhythm_base::{BarInput, Grammar};

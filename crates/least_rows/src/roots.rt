@@ -1,20 +1,19 @@
 ghost use Rattle.grammar_plan.specs.Plans.{HasSeat};
-ghost use Rattle.least_rows.specs.BarTrees.{AreBarTrees};
+ghost use Rattle.bar_trees.specs.BarTrees.{AreBarTrees};
 ghost use Rattle.least_rows.specs.Roots.{AreRootBests, AreRootRows, IsBestIn, IsRootBest, IsRootList, IsRootListAt};
 ghost use Rattle.least_rows.specs.Searches.{IsSearch};
 ghost use Rattle.least_rows.specs.States.{AreKnown};
 ghost use Rattle.least_rows.specs.Texts.{AreTexts};
-ghost use Rattle.least_rows.specs.WrittenLists.{AreWritten, number_of};
+ghost use Rattle.bar_trees.specs.WrittenLists.{AreListsWritten, list_number};
 ghost use Rattle.std.specs.Prelude.{◌≡◌, ◌<◌, ◌++◌, ℕ, List, IfOk, OnOk, None, length, slice_index_or};
 
-use crate::bar_trees::{BarBests, BarTrees};
 use crate::entry::Entry;
 use crate::rows::Rows;
 use crate::search::Search;
 use crate::texts::Texts;
 use crate::tree_at::TreeAt;
 use crate::write::{entries_of, place_in, write};
-use crate::written_lists::WrittenLists;
+use bar_trees::{BarBests, BarTrees, WrittenLists};
 use rhythm_base::Best;
 use std::alloc::AllocError;
 
@@ -75,8 +74,8 @@ fn write_rows(
     requires bests { AreRootRows search.now.grammar.now search.now.input.now 5 bests.now.rows }
     requires known { AreKnown search.now.grammar.now search.now.input.now search.now.plan.now rows.old }
     requires texts { AreTexts search.now.grammar.now search.now.input.now search.now.plan.now lists.old.rules.items texts.old }
-    requires written { AreWritten (IsRootListAt search.now.grammar.now search.now.input.now) lists.old.rules.items lists.old.ends 0 }
-    ensures { OnOk result (AreWritten (IsRootListAt search.now.grammar.now search.now.input.now) lists.new.rules.items lists.new.ends 25) }
+    requires written { AreListsWritten (IsRootListAt search.now.grammar.now search.now.input.now) lists.old.rules.items lists.old.ends 0 }
+    ensures { OnOk result (AreListsWritten (IsRootListAt search.now.grammar.now search.now.input.now) lists.new.rules.items lists.new.ends 25) }
 {
     'counts: for from in 0..5u8 {
         let row = bests.rows[from as usize];
@@ -148,10 +147,10 @@ fn write_lists(
     requires bests { AreRootBests search.now.grammar.now search.now.input.now from bests.now }
     requires known { AreKnown search.now.grammar.now search.now.input.now search.now.plan.now rows.old }
     requires texts { AreTexts search.now.grammar.now search.now.input.now search.now.plan.now lists.old.rules.items texts.old }
-    requires written { AreWritten (IsRootListAt search.now.grammar.now search.now.input.now) lists.old.rules.items lists.old.ends (number_of from 0) }
+    requires written { AreListsWritten (IsRootListAt search.now.grammar.now search.now.input.now) lists.old.rules.items lists.old.ends (list_number from 0) }
     ensures texts { OnOk result (AreTexts search.now.grammar.now search.now.input.now search.now.plan.now lists.new.rules.items texts.new) }
     ensures known { OnOk result (AreKnown search.now.grammar.now search.now.input.now search.now.plan.now rows.new) }
-    ensures written { OnOk result (AreWritten (IsRootListAt search.now.grammar.now search.now.input.now) lists.new.rules.items lists.new.ends (number_of from 5)) }
+    ensures written { OnOk result (AreListsWritten (IsRootListAt search.now.grammar.now search.now.input.now) lists.new.rules.items lists.new.ends (list_number from 5)) }
 {
     'counts: for to in 0..5u8 {
         let tree = TreeAt {

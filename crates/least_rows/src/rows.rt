@@ -2,7 +2,7 @@ ghost use Rattle.grammar_plan.specs.Plans.{pair_of};
 ghost use Rattle.grammar_plan.specs.declared.seat.Seat.{Seat};
 ghost use Rattle.least_rows.specs.Choices.{RulesBefore};
 ghost use Rattle.least_rows.specs.Ways.{AreShort, IsShort, one_way, way_in};
-ghost use Rattle.least_rows.specs.Places.{HasPlace};
+ghost use Rattle.least_rows.specs.Places.{IsSeatPlace};
 ghost use Rattle.least_rows.specs.Searches.{IsSearch};
 ghost use Rattle.least_rows.specs.States.{AreKnown, Grows, HasState, IsRowAt};
 ghost use Rattle.least_rows.specs.Steps.{
@@ -119,7 +119,7 @@ impl Rows {
         place: u16,
     ) -> Result<usize, AllocError>
         requires search { IsSearch search.now.grammar.now search.now.input.now search.now.plan.now search.now.view.now }
-        requires place { HasPlace search.now.input.now search.now.plan.now seat place }
+        requires place { IsSeatPlace search.now.input.now search.now.plan.now seat place }
         requires known { AreKnown search.now.grammar.now search.now.input.now search.now.plan.now self.old }
         ensures known { OnOk result (AreKnown search.now.grammar.now search.now.input.now search.now.plan.now self.new) }
         ensures grows { OnOk result (Grows self.old self.new) }
@@ -143,7 +143,7 @@ impl Rows {
     #[inline(always)]
     fn state(&mut self, search: &Search<'_>, seat: u32, place: u16) -> Result<usize, AllocError>
         requires search { IsSearch search.now.grammar.now search.now.input.now search.now.plan.now search.now.view.now }
-        requires place { HasPlace search.now.input.now search.now.plan.now seat place }
+        requires place { IsSeatPlace search.now.input.now search.now.plan.now seat place }
         requires known { AreKnown search.now.grammar.now search.now.input.now search.now.plan.now self.old }
         ensures known { OnOk result (AreKnown search.now.grammar.now search.now.input.now search.now.plan.now self.new) }
         ensures grows { OnOk result (Grows self.old self.new) }
@@ -209,7 +209,7 @@ impl Rows {
         from: u8,
     ) -> Result<RowSpan, AllocError>
         requires search { IsSearch search.now.grammar.now search.now.input.now search.now.plan.now search.now.view.now }
-        requires place { HasPlace search.now.input.now search.now.plan.now seat place }
+        requires place { IsSeatPlace search.now.input.now search.now.plan.now seat place }
         requires from { from < 5 }
         requires known { AreKnown search.now.grammar.now search.now.input.now search.now.plan.now self.old }
         requires state { HasState self.old number seat place }
@@ -238,7 +238,7 @@ impl Rows {
         from: u8,
     ) -> Result<RowSpan, AllocError>
         requires search { IsSearch search.now.grammar.now search.now.input.now search.now.plan.now search.now.view.now }
-        requires place { HasPlace search.now.input.now search.now.plan.now seat place }
+        requires place { IsSeatPlace search.now.input.now search.now.plan.now seat place }
         requires from { from < 5 }
         requires known { AreKnown search.now.grammar.now search.now.input.now search.now.plan.now self.old }
         requires state { HasState self.old number seat place }
@@ -269,7 +269,7 @@ impl Rows {
         best: &mut Choices,
     ) -> Result<(), AllocError>
         requires search { IsSearch search.now.grammar.now search.now.input.now search.now.plan.now search.now.view.now }
-        requires place { HasPlace search.now.input.now search.now.plan.now seat place }
+        requires place { IsSeatPlace search.now.input.now search.now.plan.now seat place }
         requires from { from < 5 }
         requires ends { ends ≡ true → EndsThere search.now.grammar.now search.now.input.now search.now.plan.now seat place }
         requires known { AreKnown search.now.grammar.now search.now.input.now search.now.plan.now self.old }
@@ -404,7 +404,7 @@ impl Rows {
         place: u16,
     ) -> Result<RowLead, AllocError>
         requires search { IsSearch search.now.grammar.now search.now.input.now search.now.plan.now search.now.view.now }
-        requires place { HasPlace search.now.input.now search.now.plan.now seat place }
+        requires place { IsSeatPlace search.now.input.now search.now.plan.now seat place }
         requires short { IsShort way }
         requires count { count < 5 }
         requires known { AreKnown search.now.grammar.now search.now.input.now search.now.plan.now self.old }
@@ -615,7 +615,7 @@ impl Rows {
         place: u16,
     ) -> Result<(), AllocError>
         requires search { IsSearch search.now.grammar.now search.now.input.now search.now.plan.now search.now.view.now }
-        requires place { HasPlace search.now.input.now search.now.plan.now seat place }
+        requires place { IsSeatPlace search.now.input.now search.now.plan.now seat place }
         requires none { (b : ℕ) → b < 5 → way_in next.old b ≡ None }
         requires short { AreShort (way_in ways.now) }
         requires known { AreKnown search.now.grammar.now search.now.input.now search.now.plan.now self.old }

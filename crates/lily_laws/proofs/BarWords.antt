@@ -18,15 +18,15 @@ use Rattle.derivation.specs.WellSounded.{AreKeys}
 use Rattle.kern_reader.specs.Tokens.{◌>>=◌}
 use Rattle.kern_laws.proofs.GridParts.{parts_finer}
 use Rattle.kern_laws.proofs.TextTests.{all_append, lacks}
-use Rattle.voice_events.specs.Parts.{bar_parts, end_parts, start_parts}
+use Rattle.voice_events.specs.Parts.{score_bar_parts, end_parts, start_parts}
 use Rattle.voice_events.specs.VoiceEvents.{FollowFrom, IsVoiceSpan}
 use Rattle.lily_writer.specs.Elements.{Element, grace_group, note_value, rest_value}
-use Rattle.lily_writer.specs.Fractions.{frac, plus, same_frac}
+use Rattle.lily_writer.specs.Fractions.{frac, frac_plus, same_frac}
 use Rattle.lily_writer.specs.Hearing.{hear_words, is_between}
-use Rattle.lily_writer.specs.Pieces.{AreElements, Stretch, cut, elements_of, first_graces, gap, grace_elements, has_length, notes, pieces_in, sounding, stretches, tied_before}
+use Rattle.lily_writer.specs.Pieces.{AreElements, Stretch, cut, elements_of, first_graces, bar_gap, grace_elements, has_length, notes, bar_pieces, sounding, stretches, tied_before}
 use Rattle.lily_writer.specs.Pitches.{words}
 use Rattle.lily_writer.specs.Reading.{after_bar, hear_bar, words_of_bar}
-use Rattle.lily_writer.specs.Staves.{AreBarElements, bar_line}
+use Rattle.lily_writer.specs.Staves.{AreBarElements, staff_bar}
 use Rattle.lily_laws.proofs.BarsHeard.{bar_heard}
 use Rattle.lily_laws.proofs.ElementWords.{IsSounding, element_words, elements_graphic, elements_spaced, spaced, spaced_in_line, words_split}
 use Rattle.lily_laws.proofs.Fractions.{plus_parts, same_value}
@@ -68,22 +68,22 @@ module _ (r : ℕ) (some : 1 ≤ r) (few : r ≤ MOST_UNITS) where
   IsStretch s = IfSome s.span (IsVoiceSpan r)
 
   voice_stretches : (s0 end : ℕ) (spans : List Span) → All (IsVoiceSpan r) spans → All IsStretch (stretches r s0 end spans)
-  voice_stretches s0 end [] are = All-cons IsStretch (gap s0 end) [] tt (All-nil IsStretch)
+  voice_stretches s0 end [] are = All-cons IsStretch (bar_gap s0 end) [] tt (All-nil IsStretch)
   voice_stretches s0 end (x ∷ spans) are =
-      All-cons IsStretch (gap s0 (start_parts r x)) (sounding r x ∷ stretches r (end_parts r x) end spans) tt
+      All-cons IsStretch (bar_gap s0 (start_parts r x)) (sounding r x ∷ stretches r (end_parts r x) end spans) tt
       (All-cons IsStretch (sounding r x) (stretches r (end_parts r x) end spans) (All-head (IsVoiceSpan r) x spans are)
       (voice_stretches (end_parts r x) end spans (All-tail (IsVoiceSpan r) x spans are)))
 
   pieces_sound : (from to : ℕ) (ss : List Stretch) (own : List (List Element)) → All IsStretch ss
-      → Each (AreElements r) (pieces_in from to ss) own
+      → Each (AreElements r) (bar_pieces from to ss) own
       → All IsSounding (flat_map (λ es. es) own)
   pieces_sound from to [] own are each = subst (λ list. All IsSounding (flat_map (λ es. es) list)) (sym each) (All-nil IsSounding)
   pieces_sound from to (s ∷ ss) own are each = go (has_length (cut from to s)) own each
       (λ own each. pieces_sound from to ss own (All-tail IsStretch s ss are) each)
     where
       go : (b : Bool) (own : List (List Element)) → Each (AreElements r)
-          (if b then cut from to s ∷ pieces_in from to ss else pieces_in from to ss) own
-          → ((own : List (List Element)) → Each (AreElements r) (pieces_in from to ss) own → All IsSounding (flat_map (λ es. es) own))
+          (if b then cut from to s ∷ bar_pieces from to ss else bar_pieces from to ss) own
+          → ((own : List (List Element)) → Each (AreElements r) (bar_pieces from to ss) own → All IsSounding (flat_map (λ es. es) own))
           → All IsSounding (flat_map (λ es. es) own)
       go false own each next = next own each
       go true [] each next = absurd each
@@ -107,13 +107,13 @@ line_words (w ∷ []) = refl
 line_words (w ∷ v ∷ ws) = ap (option_map (λ list. w ∷ list)) (line_words (v ∷ ws))
 
 bar_words : (flats : Bool) (elements : List Element) → All IsSounding elements
-    → words_of_bar (words (bar_line flats elements)) ≡ Some (flat_map (element_words flats) elements)
+    → words_of_bar (words (staff_bar flats elements)) ≡ Some (flat_map (element_words flats) elements)
 bar_words flats elements are =
     let all = flat_map (element_words flats) elements in
     ap (λ text. words_of_bar (words (text ++ codes "|"))) (elements_spaced flats elements are)
     ∙ ap words_of_bar (words_split all (codes "|") (elements_graphic flats elements) refl) ∙ line_words all
 
-pub bar_in_line : (flats : Bool) (elements : List Element) → All IsSounding elements → lacks 10 (bar_line flats elements) ≡ true
+pub bar_in_line : (flats : Bool) (elements : List Element) → All IsSounding elements → lacks 10 (staff_bar flats elements) ≡ true
 bar_in_line flats elements are =
     let all = flat_map (element_words flats) elements in
     ap (λ text. lacks 10 (text ++ codes "|")) (elements_spaced flats elements are)
@@ -121,7 +121,7 @@ bar_in_line flats elements are =
 
 -- ---- the length of a bar
 
-pub bar_some : (r : ℕ) (bar : ScoreBar) → 1 ≤ r → IsScoreBar bar → 1 ≤ bar_parts r bar
+pub bar_some : (r : ℕ) (bar : ScoreBar) → 1 ≤ r → IsScoreBar bar → 1 ≤ score_bar_parts r bar
 bar_some r bar some is =
     let part = part_some (64 / bar.den) (parts_finer 1 bar.den is.signature.power) in
     let unit : 1 ≤ bar.num * (64 / bar.den) = mul-le-mul {n₁ = 1} {m₁ = 1} {n₂ = bar.num} {m₂ = 64 / bar.den} is.signature.some part in
@@ -138,10 +138,10 @@ den_some : (den : ℕ) → 1 * den * (64 / den) ≡ 64 * 1 → 1 ≤ den
 den_some zero e = absurd (omega (arith, e))
 den_some (suc d) e = omega arith
 
-signature_parts : (r : ℕ) (bar : ScoreBar) → 1 ≤ r → IsScoreBar bar → signature bar ≡ frac (bar_parts r bar) (64 * r)
+signature_parts : (r : ℕ) (bar : ScoreBar) → 1 ≤ r → IsScoreBar bar → signature bar ≡ frac (score_bar_parts r bar) (64 * r)
 signature_parts r bar some is =
     let whole = parts_finer 1 bar.den is.signature.power in
-    same_value bar.num bar.den (bar_parts r bar) (64 * r) (den_some bar.den whole) (omega (arith, some))
+    same_value bar.num bar.den (score_bar_parts r bar) (64 * r) (den_some bar.den whole) (omega (arith, some))
     (ring bar.num r (64 / bar.den) bar.den (one bar.den (64 / bar.den) ∙ whole))
   where
     one : (d k : ℕ) → k * d ≡ 1 * d * k
@@ -161,23 +161,23 @@ same_frac_self f = and_from (f.num == f.num) (f.den == f.den) (same f.num) (same
 
 pub bar_read : (r end from : ℕ) (flats : Bool) (spans : List Span) (bar : ScoreBar) (elements : List Element) → 1 ≤ r → r ≤ MOST_UNITS
     → IsScoreBar bar
-    → from + bar_parts r bar ≤ end → FollowFrom r end 0 spans → All (IsVoiceSpan r) spans
-    → AreBarElements r from (from + bar_parts r bar) (stretches r 0 end spans) elements
-    → hear_bar (signature bar) (reached r [] from spans) (bar_line flats elements) ≡ Some (reached r [] (from + bar_parts r bar) spans)
+    → from + score_bar_parts r bar ≤ end → FollowFrom r end 0 spans → All (IsVoiceSpan r) spans
+    → AreBarElements r from (from + score_bar_parts r bar) (stretches r 0 end spans) elements
+    → hear_bar (signature bar) (reached r [] from spans) (staff_bar flats elements) ≡ Some (reached r [] (from + score_bar_parts r bar) spans)
 unfolding hear_bar
 bar_read r end from flats spans bar elements some few is within follow are all =
-    let to = from + bar_parts r bar in
+    let to = from + score_bar_parts r bar in
     let long = bar_some r bar some is in
     let read = bar_words flats elements (bar_sounds r some few from to end spans elements are all) in
     let heard = bar_heard r flats some few from to end (omega (arith, long)) within spans elements follow are all in
-    let there : plus (reached r [] from spans).at (signature bar) ≡ (reached r [] to spans).at =
-    ap₂ plus (reached_place r [] from spans) (signature_parts r bar some is)
-    ∙ plus_parts from (bar_parts r bar) (64 * r) (omega (arith, some)) ∙ sym (reached_place r [] to spans) in
-    let exact : same_frac (reached r [] to spans).at (plus (reached r [] from spans).at (signature bar)) ≡ true =
+    let there : frac_plus (reached r [] from spans).at (signature bar) ≡ (reached r [] to spans).at =
+    ap₂ frac_plus (reached_place r [] from spans) (signature_parts r bar some is)
+    ∙ plus_parts from (score_bar_parts r bar) (64 * r) (omega (arith, some)) ∙ sym (reached_place r [] to spans) in
+    let exact : same_frac (reached r [] to spans).at (frac_plus (reached r [] from spans).at (signature bar)) ≡ true =
     ap (same_frac (reached r [] to spans).at) there ∙ same_frac_self (reached r [] to spans).at in
     let over : after_bar (signature bar) (reached r [] from spans) (reached r [] to spans) ≡ Some (reached r [] to spans) =
     ap (λ b. if b then Some (reached r [] to spans) else None)
     (and_from (is_between (reached r [] to spans)) (same_frac (reached r [] to spans).at
-    (plus (reached r [] from spans).at (signature bar))) (reached_between r [] to spans) exact) in
+    (frac_plus (reached r [] from spans).at (signature bar))) (reached_between r [] to spans) exact) in
     ap (λ o. o >>= λ ws. hear_words (reached r [] from spans) ws >>= λ next. after_bar (signature bar) (reached r [] from spans) next) read
     ∙ ap (λ o. o >>= λ next. after_bar (signature bar) (reached r [] from spans) next) heard ∙ over

@@ -14,8 +14,8 @@ use Rattle.voice_events.specs.Parts.{end_parts, len_parts, start_parts}
 use Rattle.voice_events.specs.VoiceEvents.{FollowFrom, IsVoiceSpan}
 use Rattle.lily_writer.specs.Elements.{Element}
 use Rattle.lily_writer.specs.Fractions.{frac}
-use Rattle.lily_writer.specs.Hearing.{Heard, hear_words}
-use Rattle.lily_writer.specs.Pieces.{AreElements, Stretch, cut, elements_of, gap, pieces_in, sounding, stretches}
+use Rattle.lily_writer.specs.Hearing.{HeardVoice, hear_words}
+use Rattle.lily_writer.specs.Pieces.{AreElements, Stretch, cut, elements_of, bar_gap, bar_pieces, sounding, stretches}
 use Rattle.lily_writer.specs.Staves.{AreBarElements}
 use Rattle.lily_laws.proofs.ChordsHeard.{hear_more}
 use Rattle.lily_laws.proofs.ElementWords.{element_words}
@@ -33,19 +33,19 @@ ge_test : (a b : ℕ) → b ≤ a → nat_lt a b ≡ false
 ge_test a b h = grind (arith, nat_tests, h)
 
 no_length : (from to : ℕ) (s : Stretch) (ss : List Stretch) → min to s.to ≤ max from s.from
-    → pieces_in from to (s ∷ ss) ≡ pieces_in from to ss
+    → bar_pieces from to (s ∷ ss) ≡ bar_pieces from to ss
 no_length from to s ss le = let no : nat_lt (max from s.from) (min to s.to) ≡ false = grind (arith, nat_tests, le) in rw no refl
 
 some_length : (from to : ℕ) (s : Stretch) (ss : List Stretch) → max from s.from < min to s.to
-    → pieces_in from to (s ∷ ss) ≡ cut from to s ∷ pieces_in from to ss
+    → bar_pieces from to (s ∷ ss) ≡ cut from to s ∷ bar_pieces from to ss
 some_length from to s ss lt = let yes : nat_lt (max from s.from) (min to s.to) ≡ true = grind (arith, nat_tests, lt) in rw yes refl
 
 -- nothing of what begins after the bar is in it
 later_pieces : (r from to end s0 : ℕ) (spans : List Span) → FollowFrom r end s0 spans → to ≤ s0
-    → pieces_in from to (stretches r s0 end spans) ≡ []
-later_pieces r from to end s0 [] follow le = no_length from to (gap s0 end) [] (omega (arith, le))
+    → bar_pieces from to (stretches r s0 end spans) ≡ []
+later_pieces r from to end s0 [] follow le = no_length from to (bar_gap s0 end) [] (omega (arith, le))
 later_pieces r from to end s0 (x ∷ spans) (first, follow) le =
-    no_length from to (gap s0 (start_parts r x)) (sounding r x ∷ stretches r (end_parts r x) end spans) (omega (arith, le))
+    no_length from to (bar_gap s0 (start_parts r x)) (sounding r x ∷ stretches r (end_parts r x) end spans) (omega (arith, le))
     ∙ no_length from to (sounding r x) (stretches r (end_parts r x) end spans) (omega (arith, le, first))
     ∙ later_pieces r from to end (end_parts r x) spans follow (omega (arith, le, first))
 
@@ -53,11 +53,11 @@ module _ (r : ℕ) (flats : Bool) (some : 1 ≤ r) (few : r ≤ MOST_UNITS) wher
   abbrev words_in : List (List Element) → List (List ℕ)
   words_in own = flat_map (element_words flats) (flat_map (λ es. es) own)
 
-  abbrev state : List Span → ℕ → List Span → Heard
+  abbrev state : List Span → ℕ → List Span → HeardVoice
   state done n spans = reached r done n spans
 
   -- one piece more
-  piece_more : (h next : Heard) (es : List Element) (own : List (List Element)) (last : Option Heard)
+  piece_more : (h next : HeardVoice) (es : List Element) (own : List (List Element)) (last : Option HeardVoice)
       → hear_words h (flat_map (element_words flats) es) ≡ Some next
       → hear_words next (words_in own) ≡ last → hear_words h (words_in (es ∷ own)) ≡ last
   piece_more h next es own last first rest =
@@ -66,7 +66,7 @@ module _ (r : ℕ) (flats : Bool) (some : 1 ≤ r) (few : r ≤ MOST_UNITS) wher
 
   -- ---- a piece of a gap
 
-  gap_heard : (from to a b : ℕ) (done : List Span) (es : List Element) → max from a < min to b → AreElements r (cut from to (gap a b)) es
+  gap_heard : (from to a b : ℕ) (done : List Span) (es : List Element) → max from a < min to b → AreElements r (cut from to (bar_gap a b)) es
       → hear_words (resting done (frac (max from a) (64 * r))) (flat_map (element_words flats) es)
       ≡ Some (resting done (frac (min to b) (64 * r)))
   gap_heard from to a b done es long (vs, values, is) =
@@ -125,50 +125,50 @@ module _ (r : ℕ) (flats : Bool) (some : 1 ≤ r) (few : r ≤ MOST_UNITS) wher
 
   module _ (from to end : ℕ) (bar : from < to) (inside : to ≤ end) where
     -- whatever the elements of the pieces of these stretches are, they lead from one state to another
-    abbrev Leads : Heard → List Stretch → Heard → Type 0
-    Leads h ss last = (own : List (List Element)) → Each (AreElements r) (pieces_in from to ss) own
+    abbrev Leads : HeardVoice → List Stretch → HeardVoice → Type 0
+    Leads h ss last = (own : List (List Element)) → Each (AreElements r) (bar_pieces from to ss) own
         → hear_words h (words_in own) ≡ Some last
 
     -- nothing is left
-    none_heard : (h : Heard) (ss : List Stretch) → pieces_in from to ss ≡ [] → Leads h ss h
+    none_heard : (h : HeardVoice) (ss : List Stretch) → bar_pieces from to ss ≡ [] → Leads h ss h
     none_heard h ss none own each =
         let empty : own ≡ [] = subst (λ ps. Each (AreElements r) ps own) none each in
         ap (λ list. hear_words h (words_in list)) empty
 
     -- a piece of no length adds nothing
-    skipped : (s : Stretch) (ss : List Stretch) (h last : Heard) → min to s.to ≤ max from s.from → Leads h ss last → Leads h (s ∷ ss) last
+    skipped : (s : Stretch) (ss : List Stretch) (h last : HeardVoice) → min to s.to ≤ max from s.from → Leads h ss last → Leads h (s ∷ ss) last
     skipped s ss h last le rest own each = rest own (subst (λ ps. Each (AreElements r) ps own) (no_length from to s ss le) each)
 
     -- and any other one is heard first
-    heard : (s : Stretch) (ss : List Stretch) (h next last : Heard) → max from s.from < min to s.to
+    heard : (s : Stretch) (ss : List Stretch) (h next last : HeardVoice) → max from s.from < min to s.to
         → ((es : List Element) → AreElements r (cut from to s) es → hear_words h (flat_map (element_words flats) es) ≡ Some next)
         → Leads next ss last → Leads h (s ∷ ss) last
     heard s ss h next last lt first rest own each = go own (subst (λ ps. Each (AreElements r) ps own) (some_length from to s ss lt) each)
       where
-        go : (own : List (List Element)) → Each (AreElements r) (cut from to s ∷ pieces_in from to ss) own
+        go : (own : List (List Element)) → Each (AreElements r) (cut from to s ∷ bar_pieces from to ss) own
             → hear_words h (words_in own) ≡ Some last
         go [] each = absurd each
         go (es ∷ own) (is, each) = piece_more h next es own (Some last) (first es is) (rest own each)
 
     -- the gap before a place, and what follows it
-    gap_next : (a b : ℕ) (ss : List Stretch) (done : List Span) (last : Heard) → a ≤ b → a ≤ to
+    gap_next : (a b : ℕ) (ss : List Stretch) (done : List Span) (last : HeardVoice) → a ≤ b → a ≤ to
         → Leads (resting done (frac (min to (max from b)) (64 * r))) ss last
-        → Leads (resting done (frac (max from a) (64 * r))) (gap a b ∷ ss) last
+        → Leads (resting done (frac (max from a) (64 * r))) (bar_gap a b ∷ ss) last
     gap_next a b ss done last le few rest = go (cases_lt (max from a) (min to b))
       where
-        go : (max from a < min to b) ⊎ (min to b ≤ max from a) → Leads (resting done (frac (max from a) (64 * r))) (gap a b ∷ ss) last
+        go : (max from a < min to b) ⊎ (min to b ≤ max from a) → Leads (resting done (frac (max from a) (64 * r))) (bar_gap a b ∷ ss) last
         go (inl lt) =
             let there : min to b ≡ min to (max from b) = omega (arith, lt, le, bar) in
-            heard (gap a b) ss (resting done (frac (max from a) (64 * r))) (resting done (frac (min to (max from b)) (64 * r))) last lt
+            heard (bar_gap a b) ss (resting done (frac (max from a) (64 * r))) (resting done (frac (min to (max from b)) (64 * r))) last lt
             (λ es is. gap_heard from to a b done es lt is ∙ ap (λ n. Some (resting done (frac n (64 * r)))) there) rest
         go (inr ge) =
             let there : min to (max from b) ≡ max from a = omega (arith, ge, le, few, bar) in
-            skipped (gap a b) ss (resting done (frac (max from a) (64 * r))) last ge
+            skipped (bar_gap a b) ss (resting done (frac (max from a) (64 * r))) last ge
             (subst (λ n. Leads (resting done (frac n (64 * r))) ss last) there rest)
 
     -- what follows a span is not in the bar where the span ends with it or later
     past : (x : Span) (spans : List Span) → FollowFrom r end (end_parts r x) spans → to ≤ end_parts r x
-        → pieces_in from to (stretches r (end_parts r x) end spans) ≡ []
+        → bar_pieces from to (stretches r (end_parts r x) end spans) ≡ []
     past x spans follow le = later_pieces r from to end (end_parts r x) spans follow le
 
     -- a span, and what follows it
@@ -256,7 +256,7 @@ module _ (r : ℕ) (flats : Bool) (some : 1 ≤ r) (few : r ≤ MOST_UNITS) wher
         let before = reached_rest r done (max from s0) end [] (omega (arith, follow, bar, inside)) in
         let after = reached_rest r done to end [] inside in
         let there : to ≡ min to (max from end) = omega (arith, inside) in
-        subst (λ h. Leads h (gap s0 end ∷ []) (state done to [])) (sym before)
+        subst (λ h. Leads h (bar_gap s0 end ∷ []) (state done to [])) (sym before)
         (gap_next s0 end [] done (state done to []) follow le
         (subst (λ n. Leads (resting done (frac n (64 * r))) [] (state done to [])) there
         (subst (λ h. Leads h [] (state done to [])) after (none_heard (state done to []) [] refl))))
@@ -272,7 +272,7 @@ module _ (r : ℕ) (flats : Bool) (some : 1 ≤ r) (few : r ≤ MOST_UNITS) wher
             → Leads (state done (max from s0) (x ∷ spans)) (stretches r s0 end (x ∷ spans)) (state done to (x ∷ spans))
         go (inl less) other rest =
             let here : max from (start_parts r x) ≡ max from s0 = omega (arith, less, first) in
-            skipped (gap s0 (start_parts r x)) (sounding r x ∷ stretches r (end_parts r x) end spans)
+            skipped (bar_gap s0 (start_parts r x)) (sounding r x ∷ stretches r (end_parts r x) end spans)
             (state done (max from s0) (x ∷ spans)) (state done to (x ∷ spans)) (omega (arith, less))
             (subst (λ n. Leads (state done n (x ∷ spans)) (sounding r x ∷ stretches r (end_parts r x) end spans)
             (state done to (x ∷ spans))) here
@@ -291,7 +291,7 @@ module _ (r : ℕ) (flats : Bool) (some : 1 ≤ r) (few : r ≤ MOST_UNITS) wher
             let before = reached_before r done (max from s0) x spans (omega (arith, ge, first)) in
             let there : to ≡ min to (max from (start_parts r x)) = omega (arith, ge, later) in
             let last = reached_before r done to x spans later in
-            let none : pieces_in from to (sounding r x ∷ stretches r (end_parts r x) end spans) ≡ [] =
+            let none : bar_pieces from to (sounding r x ∷ stretches r (end_parts r x) end spans) ≡ [] =
             no_length from to (sounding r x) (stretches r (end_parts r x) end spans) (omega (arith, later))
             ∙ past x spans follow (omega (arith, later)) in
             subst (λ h. Leads h (stretches r s0 end (x ∷ spans)) (state done to (x ∷ spans))) (sym before)

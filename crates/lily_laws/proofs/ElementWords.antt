@@ -12,10 +12,10 @@ use Rattle.kern_reader.specs.Tokens.{IsWellValue}
 use Rattle.kern_laws.proofs.TextSplits.{split_first, split_last}
 use Rattle.kern_laws.proofs.TextTests.{all_append, all_weaker, graphic_no_space, graphic_prints, is_graphic, lacks, printing_no_newline}
 use Rattle.kern_laws.proofs.TokenKeys.{KeysRise, keys_rise, keys_set, set_with}
-use Rattle.lily_writer.specs.Elements.{Element, element_text, elements_text, grace_group, grace_text, note_value, rest_value, short_mark, tie_mark}
-use Rattle.lily_writer.specs.Pitches.{chord_of, chord_text, pitch, words}
-use Rattle.lily_writer.specs.Values.{value_text}
-use Rattle.lily_writer.specs.Words.{is_letter, is_pitch_byte}
+use Rattle.lily_writer.specs.Elements.{Element, element_text, elements_text, grace_group, lily_grace, note_value, rest_value, lily_short, lily_tie}
+use Rattle.lily_writer.specs.Pitches.{pitches_text, lily_chord, lily_pitch, words}
+use Rattle.lily_writer.specs.Values.{lily_value}
+use Rattle.lily_writer.specs.Words.{is_letter, is_lily_pitch_byte}
 use Rattle.lily_laws.proofs.Pitches.{is_pitch, pitch_is}
 use Rattle.lily_laws.proofs.ValueTexts.{ending_graphic, ending_text, marks}
 
@@ -39,7 +39,7 @@ pitch_words [] ending = []
 pitch_words (p ∷ ps) ending = first_words p ps ending
 
 abbrev pub chord_words : Bool → ℕ → List ℕ → List (List ℕ)
-chord_words flats keys ending = pitch_words (map (pitch flats) (rising_keys keys)) ending
+chord_words flats keys ending = pitch_words (map (lily_pitch flats) (rising_keys keys)) ending
 
 later_spaced : (p : List ℕ) (ps : List (List ℕ)) (ending : List ℕ)
     → join_with_byte 32 (p ∷ ps) ++ (62 ∷ ending) ++ 32 ∷ [] ≡ spaced (later_words p ps ending)
@@ -50,7 +50,7 @@ later_spaced p (q ∷ ps) ending =
     ∙ sym (append_assoc p (32 ∷ []) (spaced (later_words q ps ending)))
 
 pub pitches_spaced : (p : List ℕ) (ps : List (List ℕ)) (ending : List ℕ)
-    → chord_of (p ∷ ps) ++ ending ++ 32 ∷ [] ≡ spaced (first_words p ps ending)
+    → pitches_text (p ∷ ps) ++ ending ++ 32 ∷ [] ≡ spaced (first_words p ps ending)
 pitches_spaced p [] ending = sym (append-nil (p ++ ending ++ 32 ∷ []))
 pitches_spaced p (q ∷ ps) ending =
     ap (λ xs. 60 ∷ (xs ++ 32 ∷ [])) (append_assoc (join_with_byte 32 (p ∷ q ∷ ps)) (62 ∷ []) ending)
@@ -84,18 +84,18 @@ some_key keys is = go (rising_keys keys) refl
     go (k ∷ ks) e = (k, ks, e)
 
 chord_spaced : (flats : Bool) (keys : ℕ) (ending : List ℕ) → AreKeys keys
-    → chord_text flats keys ++ ending ++ 32 ∷ [] ≡ spaced (chord_words flats keys ending)
+    → lily_chord flats keys ++ ending ++ 32 ∷ [] ≡ spaced (chord_words flats keys ending)
 chord_spaced flats keys ending is =
     let (k, ks, all) = some_key keys is in
-    ap (λ list. chord_of (map (pitch flats) list) ++ ending ++ 32 ∷ []) all ∙ pitches_spaced (pitch flats k) (map (pitch flats) ks) ending
-    ∙ sym (ap (λ list. spaced (pitch_words (map (pitch flats) list) ending)) all)
+    ap (λ list. pitches_text (map (lily_pitch flats) list) ++ ending ++ 32 ∷ []) all ∙ pitches_spaced (lily_pitch flats k) (map (lily_pitch flats) ks) ending
+    ∙ sym (ap (λ list. spaced (pitch_words (map (lily_pitch flats) list) ending)) all)
 
 group_spaced : (flats : Bool) (chords : List ℕ) → All AreKeys chords
-    → flat_map (grace_text flats) chords ≡ spaced (group_words flats chords)
+    → flat_map (lily_grace flats) chords ≡ spaced (group_words flats chords)
 group_spaced flats [] are = refl
 group_spaced flats (keys ∷ chords) are =
     let eighth : List ℕ = codes "8" in
-    ap₂ ◌++◌ (sym (append_assoc (chord_text flats keys) eighth (32 ∷ []))
+    ap₂ ◌++◌ (sym (append_assoc (lily_chord flats keys) eighth (32 ∷ []))
     ∙ chord_spaced flats keys eighth (All-head AreKeys keys chords are))
     (group_spaced flats chords (All-tail AreKeys keys chords are))
     ∙ sym (flat_map-append (λ w. w ++ 32 ∷ []) (chord_words flats keys eighth) (group_words flats chords))
@@ -110,11 +110,11 @@ element_spaced flats (grace_group chords) are =
     ∙ ap (λ xs. opening ++ xs) (sym (flat_map-append (λ w. w ++ 32 ∷ []) (group_words flats chords) (closing ∷ [])))
 element_spaced flats (note_value keys value short tied) (are, well) =
     ap (λ xs. xs ++ 32 ∷ [])
-    (append_assoc (chord_text flats keys ++ value_text value) (short_mark short) (tie_mark tied)
-    ∙ append_assoc (chord_text flats keys) (value_text value) (marks short tied))
+    (append_assoc (lily_chord flats keys ++ lily_value value) (lily_short short) (lily_tie tied)
+    ∙ append_assoc (lily_chord flats keys) (lily_value value) (marks short tied))
     ∙ chord_spaced flats keys (ending_text value short tied) are
 element_spaced flats (rest_value value) well =
-    ap (λ xs. 114 ∷ (xs ++ 32 ∷ [])) (sym (append-nil (value_text value)))
+    ap (λ xs. 114 ∷ (xs ++ 32 ∷ [])) (sym (append-nil (lily_value value)))
     ∙ sym (append-nil (114 ∷ (ending_text value false false ++ 32 ∷ [])))
 
 pub elements_spaced : (flats : Bool) (es : List Element) → All IsSounding es
@@ -126,32 +126,32 @@ elements_spaced flats (e ∷ es) are =
 
 -- ---- bytes of words are printed
 
-pitch_byte_graphic : (b : ℕ) → is_pitch_byte b ≡ true → is_graphic b ≡ true
+pitch_byte_graphic : (b : ℕ) → is_lily_pitch_byte b ≡ true → is_graphic b ≡ true
 pitch_byte_graphic b h = grind (arith, nat_tests)
 
-pub pitch_bytes : (p : List ℕ) → is_pitch p ≡ true → list_all is_pitch_byte p ≡ true
+pub pitch_bytes : (p : List ℕ) → is_pitch p ≡ true → list_all is_lily_pitch_byte p ≡ true
 pitch_bytes [] h = refl
-pitch_bytes (b ∷ bs) h = (and_parts (is_letter b && not (b == 114)) (list_all is_pitch_byte (b ∷ bs)) h).1
+pitch_bytes (b ∷ bs) h = (and_parts (is_letter b && not (b == 114)) (list_all is_lily_pitch_byte (b ∷ bs)) h).1
 
-pitch_graphic : (flats : Bool) (k : ℕ) → k < 128 → list_all is_graphic (pitch flats k) ≡ true
+pitch_graphic : (flats : Bool) (k : ℕ) → k < 128 → list_all is_graphic (lily_pitch flats k) ≡ true
 pitch_graphic flats k within =
-    all_weaker is_pitch_byte is_graphic (pitch flats k) pitch_byte_graphic (pitch_bytes (pitch flats k) (pitch_is flats k within))
+    all_weaker is_lily_pitch_byte is_graphic (lily_pitch flats k) pitch_byte_graphic (pitch_bytes (lily_pitch flats k) (pitch_is flats k within))
 
 abbrev are_graphic : List (List ℕ) → Bool
 are_graphic ws = list_all (list_all is_graphic) ws
 
 later_graphic : (flats : Bool) (low k : ℕ) (ks : List ℕ) (ending : List ℕ) → KeysRise low (k ∷ ks) → list_all is_graphic ending ≡ true
-    → are_graphic (later_words (pitch flats k) (map (pitch flats) ks) ending) ≡ true
+    → are_graphic (later_words (lily_pitch flats k) (map (lily_pitch flats) ks) ending) ≡ true
 later_graphic flats low k [] ending (above, within, rise) all =
-    and_from _ true (all_append is_graphic (pitch flats k) (62 ∷ ending) (pitch_graphic flats k within) all) refl
+    and_from _ true (all_append is_graphic (lily_pitch flats k) (62 ∷ ending) (pitch_graphic flats k within) all) refl
 later_graphic flats low k (j ∷ ks) ending (above, within, rise) all =
     and_from _ _ (pitch_graphic flats k within) (later_graphic flats (suc k) j ks ending rise all)
 
 chord_graphic : (flats : Bool) (ks : List ℕ) (ending : List ℕ) → KeysRise 0 ks → list_all is_graphic ending ≡ true
-    → are_graphic (pitch_words (map (pitch flats) ks) ending) ≡ true
+    → are_graphic (pitch_words (map (lily_pitch flats) ks) ending) ≡ true
 chord_graphic flats [] ending rise all = refl
 chord_graphic flats (k ∷ []) ending (above, within, rise) all =
-    and_from _ true (all_append is_graphic (pitch flats k) ending (pitch_graphic flats k within) all) refl
+    and_from _ true (all_append is_graphic (lily_pitch flats k) ending (pitch_graphic flats k within) all) refl
 chord_graphic flats (k ∷ j ∷ ks) ending (above, within, rise) all =
     and_from _ _ (pitch_graphic flats k within) (later_graphic flats (suc k) j ks ending rise all)
 

@@ -11,16 +11,16 @@ use Rattle.std.proofs.lemmas.Nat.{pow_pos}
 use Rattle.std.proofs.lemmas.Nat.Bits.{bit_at-lt}
 use Rattle.kern_writer.specs.Tokens.{keys_from, rising_keys}
 use Rattle.kern_laws.proofs.TokenKeys.{KeysRise}
-use Rattle.lily_writer.specs.Hearing.{key_set, rise}
+use Rattle.lily_writer.specs.Hearing.{key_set, heard_rise}
 
 -- ---- they rise
 
-pub keys_up : (low : ℕ) (ks : List ℕ) → KeysRise low ks → rise ks ≡ true
+pub keys_up : (low : ℕ) (ks : List ℕ) → KeysRise low ks → heard_rise ks ≡ true
 keys_up low [] up = refl
 keys_up low (k ∷ []) up = refl
 keys_up low (k ∷ j ∷ ks) (above, few, up) =
     let less : nat_lt k j ≡ true = let next = up.0 in grind (arith, nat_tests, next) in
-    and_from (nat_lt k j) (rise (j ∷ ks)) less (keys_up (suc k) (j ∷ ks) up)
+    and_from (nat_lt k j) (heard_rise (j ∷ ks)) less (keys_up (suc k) (j ∷ ks) up)
 
 -- ---- their sum
 

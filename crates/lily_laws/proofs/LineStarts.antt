@@ -9,10 +9,10 @@ use Rattle.std.proofs.lemmas.List.Elements.{All-head}
 use Rattle.derivation.specs.WellSounded.{AreKeys}
 use Rattle.kern_reader.specs.Text.{begins_with}
 use Rattle.kern_laws.proofs.TokenKeys.{KeysRise, keys_rise}
-use Rattle.lily_writer.specs.Elements.{Element, element_text, elements_text, grace_group, note_value, rest_value, short_mark, tie_mark}
-use Rattle.lily_writer.specs.Pitches.{chord_of, chord_text, pitch}
-use Rattle.lily_writer.specs.Staves.{bar_line}
-use Rattle.lily_writer.specs.Values.{value_text}
+use Rattle.lily_writer.specs.Elements.{Element, element_text, elements_text, grace_group, note_value, rest_value, lily_short, lily_tie}
+use Rattle.lily_writer.specs.Pitches.{pitches_text, lily_chord, lily_pitch}
+use Rattle.lily_writer.specs.Staves.{staff_bar}
+use Rattle.lily_writer.specs.Values.{lily_value}
 use Rattle.lily_writer.specs.Words.{is_letter}
 use Rattle.lily_laws.proofs.ElementWords.{IsSounding, some_key}
 use Rattle.lily_laws.proofs.Pitches.{is_pitch, pitch_is}
@@ -42,24 +42,24 @@ pitch_begins (b ∷ bs) h = letter b bs (and_parts (is_letter b) (not (b == 114)
         let no_slash : (b == 92) ≡ false = grind (arith, nat_tests, h) in
         rw (no_brace, no_slash) refl
 
-chord_begins : (flats : Bool) (keys : ℕ) → AreKeys keys → begins_bar (chord_text flats keys) ≡ true
+chord_begins : (flats : Bool) (keys : ℕ) → AreKeys keys → begins_bar (lily_chord flats keys) ≡ true
 chord_begins flats keys are =
     let (k, ks, all) = some_key keys are in
-    ap (λ list. begins_bar (chord_of (map (pitch flats) list))) all ∙ go k ks (subst (KeysRise 0) all (keys_rise keys))
+    ap (λ list. begins_bar (pitches_text (map (lily_pitch flats) list))) all ∙ go k ks (subst (KeysRise 0) all (keys_rise keys))
   where
-    go : (k : ℕ) (ks : List ℕ) → KeysRise 0 (k ∷ ks) → begins_bar (chord_of (map (pitch flats) (k ∷ ks))) ≡ true
-    go k [] up = pitch_begins (pitch flats k) (pitch_is flats k up.1)
+    go : (k : ℕ) (ks : List ℕ) → KeysRise 0 (k ∷ ks) → begins_bar (pitches_text (map (lily_pitch flats) (k ∷ ks))) ≡ true
+    go k [] up = pitch_begins (lily_pitch flats k) (pitch_is flats k up.1)
     go k (j ∷ ks) up = refl
 
 element_begins : (flats : Bool) (e : Element) → IsSounding e → begins_bar (element_text flats e) ≡ true
 element_begins flats (grace_group chords) are = refl
 element_begins flats (note_value keys value short tied) (are, well) =
-    begins_more (chord_text flats keys ++ value_text value ++ short_mark short) (tie_mark tied)
-    (begins_more (chord_text flats keys ++ value_text value) (short_mark short)
-    (begins_more (chord_text flats keys) (value_text value) (chord_begins flats keys are)))
+    begins_more (lily_chord flats keys ++ lily_value value ++ lily_short short) (lily_tie tied)
+    (begins_more (lily_chord flats keys ++ lily_value value) (lily_short short)
+    (begins_more (lily_chord flats keys) (lily_value value) (chord_begins flats keys are)))
 element_begins flats (rest_value value) well = refl
 
-pub bar_begins : (flats : Bool) (elements : List Element) → All IsSounding elements → begins_bar (bar_line flats elements) ≡ true
+pub bar_begins : (flats : Bool) (elements : List Element) → All IsSounding elements → begins_bar (staff_bar flats elements) ≡ true
 bar_begins flats [] are = refl
 bar_begins flats (e ∷ es) are =
     begins_more (elements_text flats (e ∷ es)) (codes "|")

@@ -10,20 +10,20 @@ use Rattle.rhythm_base.specs.declared.span.Span.{Span}
 use Rattle.derivation.specs.declared.score.ScoreBar.{ScoreBar}
 use Rattle.kern_writer.specs.Changes.{key_before, quarters_of_minute, same_key, same_signature, same_tempo}
 use Rattle.kern_writer.specs.Tokens.{has_flats}
-use Rattle.kern_reader.specs.Text.{kern_lines, lines_among}
+use Rattle.kern_reader.specs.Text.{kern_lines, lines_of_pieces}
 use Rattle.kern_laws.proofs.TextSplits.{split_first}
 use Rattle.kern_laws.proofs.TextTests.{all_append, all_weaker, decimal_digits, digit_graphic, graphic_prints, lacks, printing_no_newline}
-use Rattle.voice_events.specs.Parts.{bar_parts, score_parts}
+use Rattle.voice_events.specs.Parts.{score_bar_parts, score_parts}
 use Rattle.voice_events.specs.VoiceEvents.{IsVoiceSpan}
-use Rattle.lily_writer.specs.Changes.{changes, key_change, key_line, key_name, key_names, key_number, tempo_change, tempo_line, time_change, time_line}
+use Rattle.lily_writer.specs.Changes.{lily_changes, lily_key_lines, lily_key, key_name, key_names, key_number, lily_tempo_lines, lily_tempo, time_change, time_line}
 use Rattle.lily_writer.specs.Pieces.{stretches}
-use Rattle.lily_writer.specs.Staves.{AreBarLines, AreStaffLines, bar_line}
+use Rattle.lily_writer.specs.Staves.{AreBarsOfStaff, AreStaffLines, staff_bar}
 use Rattle.lily_writer.specs.Text.{lines_text}
 use Rattle.lily_laws.proofs.BarWords.{bar_in_line, bar_sounds}
 
 -- ---- lines that were joined
 
-lines_more : (line : List ℕ) (pieces : List (List ℕ)) → 1 ≤ length pieces → lines_among (line ∷ pieces) ≡ line ∷ lines_among pieces
+lines_more : (line : List ℕ) (pieces : List (List ℕ)) → 1 ≤ length pieces → lines_of_pieces (line ∷ pieces) ≡ line ∷ lines_of_pieces pieces
 lines_more [] [] some = absurd (omega (arith, some))
 lines_more (b ∷ line) [] some = absurd (omega (arith, some))
 lines_more [] (next ∷ more) some = refl
@@ -37,7 +37,7 @@ lines_split [] h = refl
 lines_split (line ∷ lines) h =
     let parts = and_parts (lacks 10 line) (are_lines lines) h in
     let rest = lines_text lines in
-    ap kern_lines (append_assoc line (10 ∷ []) rest) ∙ ap lines_among (split_first 10 line rest parts.0)
+    ap kern_lines (append_assoc line (10 ∷ []) rest) ∙ ap lines_of_pieces (split_first 10 line rest parts.0)
     ∙ lines_more line (slice_split (λ b. b == 10) rest) (omega (arith, length-slice_split (λ b. b == 10) rest))
     ∙ ap (λ ls. line ∷ ls) (lines_split lines parts.1)
 
@@ -58,7 +58,7 @@ one_free [] i h = refl
 one_free (t ∷ texts) zero h = (and_parts (lacks 10 t) (are_lines texts) h).0
 one_free (t ∷ texts) (suc i) h = one_free texts i (and_parts (lacks 10 t) (are_lines texts) h).1
 
-key_free : (sf : ℤ) → lacks 10 (key_line sf) ≡ true
+key_free : (sf : ℤ) → lacks 10 (lily_key sf) ≡ true
 key_free sf =
     all_append (λ b. not (b == 10)) (codes "\\key " ++ key_name sf) (codes " \\major")
     (all_append (λ b. not (b == 10)) (codes "\\key ") (key_name sf) refl (one_free key_names (key_number sf) refl)) refl
@@ -69,7 +69,7 @@ time_free bar =
     (all_append (λ b. not (b == 10)) (codes "\\time " ++ decimal bar.num) (codes "/")
     (all_append (λ b. not (b == 10)) (codes "\\time ") (decimal bar.num) refl (number_free bar.num)) refl) (number_free bar.den)
 
-tempo_free : (bar : ScoreBar) → lacks 10 (tempo_line bar) ≡ true
+tempo_free : (bar : ScoreBar) → lacks 10 (lily_tempo bar) ≡ true
 tempo_free bar = all_append (λ b. not (b == 10)) (codes "\\tempo 4 = ") (decimal (quarters_of_minute bar.tempo)) refl
     (number_free (quarters_of_minute bar.tempo))
 
@@ -77,34 +77,34 @@ one_line : (line : List ℕ) → lacks 10 line ≡ true → (b : Bool) → are_l
 one_line line h true = refl
 one_line line h false = and_from (lacks 10 line) true h refl
 
-key_lines : (old sf : Option ℤ) → are_lines (key_change old sf) ≡ true
+key_lines : (old sf : Option ℤ) → are_lines (lily_key_lines old sf) ≡ true
 key_lines old None = refl
-key_lines old (Some sf) = one_line (key_line sf) (key_free sf) (same_key old sf)
+key_lines old (Some sf) = one_line (lily_key sf) (key_free sf) (same_key old sf)
 
-tempo_lines : (first : Bool) (old : Option ScoreBar) (bar : ScoreBar) → are_lines (if first then tempo_change old bar else []) ≡ true
-tempo_lines true old bar = one_line (tempo_line bar) (tempo_free bar) (same_tempo old bar)
+tempo_lines : (first : Bool) (old : Option ScoreBar) (bar : ScoreBar) → are_lines (if first then lily_tempo_lines old bar else []) ≡ true
+tempo_lines true old bar = one_line (lily_tempo bar) (tempo_free bar) (same_tempo old bar)
 tempo_lines false old bar = refl
 
-changes_lines : (first : Bool) (old : Option ScoreBar) (bar : ScoreBar) → are_lines (changes first old bar) ≡ true
+changes_lines : (first : Bool) (old : Option ScoreBar) (bar : ScoreBar) → are_lines (lily_changes first old bar) ≡ true
 changes_lines first old bar =
-    let key = key_change (key_before old) bar.sf in
+    let key = lily_key_lines (key_before old) bar.sf in
     let time = time_change old bar in
-    let tempo = if first then tempo_change old bar else [] in
+    let tempo = if first then lily_tempo_lines old bar else [] in
     all_append (lacks 10) (key ++ time) tempo
     (all_append (lacks 10) key time (key_lines (key_before old) bar.sf)
     (one_line (time_line bar) (time_free bar) (same_signature old bar))) (tempo_lines first old bar)
 
 bars_lines : (r end : ℕ) (first : Bool) (spans : List Span) (old : Option ScoreBar) (from : ℕ) (bars : List ScoreBar)
     (lines : List (List ℕ)) → 1 ≤ r → r ≤ MOST_UNITS
-    → All (IsVoiceSpan r) spans → AreBarLines r first (stretches r 0 end spans) old from bars lines → are_lines lines ≡ true
+    → All (IsVoiceSpan r) spans → AreBarsOfStaff r first (stretches r 0 end spans) old from bars lines → are_lines lines ≡ true
 bars_lines r end first spans old from [] lines some few are all = ap are_lines all
 bars_lines r end first spans old from (bar ∷ bars) lines some few are (elements, others, own, rest, all) =
-    let line = bar_line (has_flats bar.sf) elements in
+    let line = staff_bar (has_flats bar.sf) elements in
     ap are_lines all
-    ∙ all_append (lacks 10) (changes first old bar) (line ∷ others) (changes_lines first old bar)
+    ∙ all_append (lacks 10) (lily_changes first old bar) (line ∷ others) (changes_lines first old bar)
     (and_from (lacks 10 line) (are_lines others) (bar_in_line (has_flats bar.sf) elements
-    (bar_sounds r some few from (from + bar_parts r bar) end spans elements are own))
-    (bars_lines r end first spans (Some bar) (from + bar_parts r bar) bars others some few are rest))
+    (bar_sounds r some few from (from + score_bar_parts r bar) end spans elements are own))
+    (bars_lines r end first spans (Some bar) (from + score_bar_parts r bar) bars others some few are rest))
 
 pub staff_lines : (r : ℕ) (bars : List ScoreBar) (first : Bool) (spans : List Span) (lines : List (List ℕ)) → 1 ≤ r → r ≤ MOST_UNITS
     → All (IsVoiceSpan r) spans

@@ -4,20 +4,20 @@ use Rattle.std.specs.Prelude.{Option}
 use Rattle.std.specs.List.{list_all}
 use Rattle.std.proofs.lemmas.Bool.{and_parts}
 use Rattle.std.proofs.lemmas.Bool.Decides.{nat_tests}
-use Rattle.lily_writer.specs.Pitches.{pitch}
-use Rattle.lily_writer.specs.Words.{is_letter, is_pitch_byte, key_of}
+use Rattle.lily_writer.specs.Pitches.{lily_pitch}
+use Rattle.lily_writer.specs.Words.{is_letter, is_lily_pitch_byte, word_key}
 
 -- it is of the bytes of pitches, and its first one is a letter that begins no rest
 abbrev pub is_pitch : List ℕ → Bool
 is_pitch [] = false
-is_pitch (b ∷ bs) = (is_letter b && not (b == 114)) && list_all is_pitch_byte (b ∷ bs)
+is_pitch (b ∷ bs) = (is_letter b && not (b == 114)) && list_all is_lily_pitch_byte (b ∷ bs)
 
 is_key : ℕ → Option ℕ → Bool
 is_key k None = false
 is_key k (Some n) = n == k
 
 abbrev is_read : Bool → ℕ → Bool
-is_read flats k = is_key k (key_of (pitch flats k)) && is_pitch (pitch flats k)
+is_read flats k = is_key k (word_key (lily_pitch flats k)) && is_pitch (lily_pitch flats k)
 
 -- the first n keys are
 abbrev all_read : Bool → ℕ → Bool
@@ -34,11 +34,11 @@ one_of flats (suc n) k all within = at (k == n) refl (and_parts (is_read flats n
     at false e parts rest = let less : k < n = grind (arith, nat_tests) in rest parts.1 less
 
 with_sharps : all_read false 128 ≡ true
-unfolding key_of is_key
+unfolding word_key is_key
 with_sharps = refl
 
 with_flats : all_read true 128 ≡ true
-unfolding key_of is_key
+unfolding word_key is_key
 with_flats = refl
 
 all_of : (flats : Bool) (k : ℕ) → k < 128 → is_read flats k ≡ true
@@ -50,9 +50,9 @@ unfolding is_key
 read_key k None e = cc
 read_key k (Some n) e = let same : n ≡ k = grind (arith, nat_tests) in ap Some same
 
-pub pitch_read : (flats : Bool) (k : ℕ) → k < 128 → key_of (pitch flats k) ≡ Some k
+pub pitch_read : (flats : Bool) (k : ℕ) → k < 128 → word_key (lily_pitch flats k) ≡ Some k
 pitch_read flats k within =
-    read_key k (key_of (pitch flats k)) (and_parts (is_key k (key_of (pitch flats k))) (is_pitch (pitch flats k)) (all_of flats k within)).0
+    read_key k (word_key (lily_pitch flats k)) (and_parts (is_key k (word_key (lily_pitch flats k))) (is_pitch (lily_pitch flats k)) (all_of flats k within)).0
 
-pub pitch_is : (flats : Bool) (k : ℕ) → k < 128 → is_pitch (pitch flats k) ≡ true
-pitch_is flats k within = (and_parts (is_key k (key_of (pitch flats k))) (is_pitch (pitch flats k)) (all_of flats k within)).1
+pub pitch_is : (flats : Bool) (k : ℕ) → k < 128 → is_pitch (lily_pitch flats k) ≡ true
+pitch_is flats k within = (and_parts (is_key k (word_key (lily_pitch flats k))) (is_pitch (lily_pitch flats k)) (all_of flats k within)).1

@@ -8,13 +8,13 @@ use Rattle.voice_events.proofs.SpanEnds.{from_within}
 use Rattle.voice_events.specs.Parts.{end_parts, len_parts, start_parts}
 use Rattle.voice_events.specs.VoiceEvents.{FollowFrom, IsVoiceSpan}
 use Rattle.lily_writer.specs.Fractions.{frac}
-use Rattle.lily_writer.specs.Hearing.{Heard, is_between}
+use Rattle.lily_writer.specs.Hearing.{HeardVoice, is_between}
 use Rattle.lily_laws.proofs.ElementsHeard.{holding, resting}
 use Rattle.lily_laws.proofs.Fractions.{is_frac}
 use Rattle.lily_laws.proofs.ValuesHeard.{partial}
 
 module _ (r : ℕ) where
-  pub reached : List Span → ℕ → List Span → Heard
+  pub reached : List Span → ℕ → List Span → HeardVoice
   reached done n [] = resting done (frac n (64 * r))
   reached done n (x ∷ spans) =
       if nat_le n (start_parts r x) then resting done (frac n (64 * r))

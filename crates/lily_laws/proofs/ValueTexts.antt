@@ -16,17 +16,17 @@ use Rattle.kern_reader.specs.Tokens.{IsWellValue}
 use Rattle.kern_reader.specs.Columns.{gcd}
 use Rattle.kern_laws.proofs.TextRuns.{run_dropped, run_taken}
 use Rattle.kern_laws.proofs.TextTests.{all_alike, all_append, all_weaker, decimal_digits, is_graphic}
-use Rattle.lily_writer.specs.Elements.{short_mark, tie_mark}
-use Rattle.lily_writer.specs.Fractions.{frac, times}
-use Rattle.lily_writer.specs.Values.{base_text, scale_of_part, scale_text, value_text, written_part}
-use Rattle.lily_writer.specs.Words.{Ending, base_of, behind, dotted, ending_of, front, is_base_byte, is_dot, is_scale_byte, marks_of, scale_of}
+use Rattle.lily_writer.specs.Elements.{lily_short, lily_tie}
+use Rattle.lily_writer.specs.Fractions.{frac, frac_times}
+use Rattle.lily_writer.specs.Values.{base_text, scale_of_part, scale_text, lily_value, written_part}
+use Rattle.lily_writer.specs.Words.{WordEnding, base_of, behind, dotted, word_ending, front, is_base_byte, is_dot, is_scale_byte, word_marks, scale_of}
 use Rattle.lily_laws.proofs.Fractions.{product_some, same_value, times_parts}
 use Rattle.lily_laws.proofs.WrittenParts.{base_read, part_by, part_is, part_range, scale_read}
 
 abbrev pub marks : Bool → Bool → List ℕ
-marks short tied = short_mark short ++ tie_mark tied
+marks short tied = lily_short short ++ lily_tie tied
 
-marks_read : (short tied : Bool) → marks_of (marks short tied) ≡ Some (short, tied)
+marks_read : (short tied : Bool) → word_marks (marks short tied) ≡ Some (short, tied)
 marks_read true true = refl
 marks_read true false = refl
 marks_read false true = refl
@@ -138,26 +138,26 @@ scale_is Long some few = no_scale
 
 -- ---- and all of them are as long as the value
 
-grown : (r : Recip) (k e : ℕ) → 1 ≤ plain_grid r → 1 ≤ e → times (times (base_frac r) (frac k e)) (scale_frac r)
+grown : (r : Recip) (k e : ℕ) → 1 ≤ plain_grid r → 1 ≤ e → frac_times (frac_times (base_frac r) (frac k e)) (scale_frac r)
     ≡ frac (plain_parts r * k) (plain_grid r * e)
 grown (Of n) k e some other =
     let range = part_range (written_part n) (part_is n some).0 in
     let p = written_part n in
     let whole = product_some p e range.0 other in
-    ap (λ f. times f (frac p n)) (times_parts 1 p k e range.0 other) ∙ times_parts (1 * k) (p * e) p n whole some
+    ap (λ f. frac_times f (frac p n)) (times_parts 1 p k e range.0 other) ∙ times_parts (1 * k) (p * e) p n whole some
     ∙ same_value (1 * k * p) (p * e * n) (1 * k) (n * e) (product_some (p * e) n whole some) (product_some n e some other) (ring k p n e)
   where
     ring : (k p n e : ℕ) → 1 * k * p * (n * e) ≡ 1 * k * (p * e * n)
     ring k p n e = grind arith
 grown Breve k e some other =
-    ap (λ f. times f (frac 1 1)) (times_parts 2 1 k e (omega arith) other)
+    ap (λ f. frac_times f (frac 1 1)) (times_parts 2 1 k e (omega arith) other)
     ∙ times_parts (2 * k) (1 * e) 1 1 (omega (arith, other)) (omega arith)
     ∙ same_value (2 * k * 1) (1 * e * 1) (2 * k) (1 * e) (omega (arith, other)) (omega (arith, other)) (ring (2 * k) (1 * e))
   where
     ring : (a b : ℕ) → a * 1 * b ≡ a * (b * 1)
     ring a b = grind arith
 grown Long k e some other =
-    ap (λ f. times f (frac 1 1)) (times_parts 4 1 k e (omega arith) other)
+    ap (λ f. frac_times f (frac 1 1)) (times_parts 4 1 k e (omega arith) other)
     ∙ times_parts (4 * k) (1 * e) 1 1 (omega (arith, other)) (omega arith)
     ∙ same_value (4 * k * 1) (1 * e * 1) (4 * k) (1 * e) (omega (arith, other)) (omega (arith, other)) (ring (4 * k) (1 * e))
   where
@@ -167,17 +167,17 @@ grown Long k e some other =
 -- ---- the text
 
 abbrev pub ending_text : Value → Bool → Bool → List ℕ
-ending_text v short tied = value_text v ++ marks short tied
+ending_text v short tied = lily_value v ++ marks short tied
 
-abbrev pub ending : Value → Bool → Bool → Ending
+abbrev pub ending : Value → Bool → Bool → WordEnding
 ending v short tied = record { len = frac (parts v) (value_grid v); short = short; tied = tied }
 
 apart : (base dots scale rest : List ℕ) (b d s : Frac) (short tied : Bool) → list_all is_base_byte base ≡ true
     → list_all is_dot dots ≡ true → list_all is_scale_byte scale ≡ true
     → prefix_len is_base_byte (dots ++ (scale ++ rest)) ≡ 0 → prefix_len is_dot (scale ++ rest) ≡ 0 → prefix_len is_scale_byte rest ≡ 0
-    → base_of base ≡ Some b → dotted dots ≡ Some d → scale_of scale ≡ Some s → marks_of rest ≡ Some (short, tied)
-    → ending_of (base ++ (dots ++ (scale ++ rest))) ≡ Some (record { len = times (times b d) s; short = short; tied = tied })
-unfolding ending_of
+    → base_of base ≡ Some b → dotted dots ≡ Some d → scale_of scale ≡ Some s → word_marks rest ≡ Some (short, tied)
+    → word_ending (base ++ (dots ++ (scale ++ rest))) ≡ Some (record { len = frac_times (frac_times b d) s; short = short; tied = tied })
+unfolding word_ending
 apart base dots scale rest b d s short tied h k l base_ends dots_end scale_ends first second third fourth =
     let base_front : front is_base_byte (base ++ (dots ++ (scale ++ rest))) ≡ base =
     run_taken is_base_byte base (dots ++ (scale ++ rest)) h base_ends in
@@ -189,14 +189,14 @@ apart base dots scale rest b d s short tied h k l base_ends dots_end scale_ends 
     let scale_behind : behind is_scale_byte (scale ++ rest) ≡ rest = run_dropped is_scale_byte scale rest l scale_ends in
     rw (base_front, first, base_behind, dots_front, second, dots_behind, scale_front, third, scale_behind, fourth) refl
 
-pub ending_read : (v : Value) (short tied : Bool) → IsWellValue v → ending_of (ending_text v short tied) ≡ Some (ending v short tied)
+pub ending_read : (v : Value) (short tied : Bool) → IsWellValue v → word_ending (ending_text v short tied) ≡ Some (ending v short tied)
 ending_read v short tied well =
     let dots = replicate v.dots 46 in
     let scale = scale_text v.recip in
     let text : ending_text v short tied ≡ base_text v.recip ++ (dots ++ (scale ++ marks short tied)) =
     append_assoc (base_text v.recip ++ dots) scale (marks short tied) ∙ append_assoc (base_text v.recip) dots (scale ++ marks short tied) in
     let long = grown v.recip (2 * 2 ^ v.dots - 1) (2 ^ v.dots) well.some (pow_pos v.dots) in
-    ap ending_of text
+    ap word_ending text
     ∙ apart (base_text v.recip) dots scale (marks short tied) (base_frac v.recip) (frac (2 * 2 ^ v.dots - 1) (2 ^ v.dots))
     (scale_frac v.recip) short tied (base_bytes v.recip)
     (all_alike is_dot v.dots 46 refl) (scale_bytes v.recip) (no_base v.dots v.recip short tied)

@@ -20,7 +20,7 @@ use Rattle.durations.specs.Values.{AreValues}
 use Rattle.derivation.specs.WellSounded.{AreKeys}
 use Rattle.kern_reader.specs.Tokens.{IsWellValue}
 use Rattle.lily_writer.specs.Elements.{Element, grace_group, note_value, rest_value}
-use Rattle.lily_writer.specs.Fractions.{frac, plus}
+use Rattle.lily_writer.specs.Fractions.{frac, frac_plus}
 use Rattle.lily_writer.specs.Hearing.{hear_words}
 use Rattle.lily_writer.specs.Pieces.{elements_of, grace_elements, notes}
 use Rattle.lily_laws.proofs.ChordsHeard.{hear_more}
@@ -88,8 +88,8 @@ module _ (r : ℕ) (flats : Bool) (some : 1 ≤ r) where
   abbrev words_of : List Element → List (List ℕ)
   words_of es = flat_map (element_words flats) es
 
-  along : (n : ℕ) (v : Value) → IsCounted r v → plus (frac n (64 * r)) (value_frac v) ≡ frac (n + width (64 * r) v) (64 * r)
-  along n v is = ap (plus (frac n (64 * r))) is.long ∙ plus_parts n (width (64 * r) v) (64 * r) (omega (arith, some))
+  along : (n : ℕ) (v : Value) → IsCounted r v → frac_plus (frac n (64 * r)) (value_frac v) ≡ frac (n + width (64 * r) v) (64 * r)
+  along n v is = ap (frac_plus (frac n (64 * r))) is.long ∙ plus_parts n (width (64 * r) v) (64 * r) (omega (arith, some))
 
   further : (n w s t : ℕ) → t ≡ w + s → frac (n + w + s) (64 * r) ≡ frac (n + t) (64 * r)
   further n w s t e = let same : n + w + s ≡ n + t = omega (arith, e) in ap (λ k. frac k (64 * r)) same

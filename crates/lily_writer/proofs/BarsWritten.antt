@@ -12,13 +12,13 @@ use Rattle.rhythm_base.specs.Lists.{Each}
 use Rattle.derivation.specs.declared.score.ScoreBar.{ScoreBar}
 use Rattle.derivation.specs.Score.{IsScoreBar}
 use Rattle.kern_writer.specs.Tokens.{has_flats}
-use Rattle.voice_events.specs.Parts.{bar_parts, score_parts}
+use Rattle.voice_events.specs.Parts.{score_bar_parts, score_parts}
 use Rattle.voice_events.specs.VoiceEvents.{AreOfVoice}
 use Rattle.voice_events.proofs.SpanEnds.{score_few}
-use Rattle.lily_writer.specs.Changes.{changes}
+use Rattle.lily_writer.specs.Changes.{lily_changes}
 use Rattle.lily_writer.specs.Elements.{Element, elements_text}
-use Rattle.lily_writer.specs.Pieces.{AreElements, Stretch, pieces_in, stretches}
-use Rattle.lily_writer.specs.Staves.{AreBarElements, AreBarLines, AreStaffLines, bar_line}
+use Rattle.lily_writer.specs.Pieces.{AreElements, Stretch, bar_pieces, stretches}
+use Rattle.lily_writer.specs.Staves.{AreBarElements, AreBarsOfStaff, AreStaffLines, staff_bar}
 use Rattle.lily_writer.specs.Text.{lines_text}
 use Rattle.lily_writer.specs.Writing.{Ahead, HasWrittenBar, IsAhead, stretches_ahead}
 
@@ -28,9 +28,9 @@ pub record HasWrittenBars (resolution : ℕ) (first : Bool) (ss : List Stretch) 
     (from : ℕ) (a : Ahead) (text new : List ℕ) : Type 0 where
   pub lines : List (List ℕ)
   pub written : new ≡ text ++ lines_text lines
-  pub others : (more : List (List ℕ)) → AreBarLines resolution first ss before from (drop n bars) more
-      → AreBarLines resolution first ss None 0 bars (lines ++ more)
-  pub stands : (f t : ℕ) → from ≤ f → pieces_in f t (stretches_ahead resolution a) ≡ pieces_in f t ss
+  pub others : (more : List (List ℕ)) → AreBarsOfStaff resolution first ss before from (drop n bars) more
+      → AreBarsOfStaff resolution first ss None 0 bars (lines ++ more)
+  pub stands : (f t : ℕ) → from ≤ f → bar_pieces f t (stretches_ahead resolution a) ≡ bar_pieces f t ss
   pub ahead : IsAhead resolution a
   pub rest : from + score_parts resolution (drop n bars) ≡ score_parts resolution bars
   pub earlier : IfSome before IsScoreBar
@@ -54,7 +54,7 @@ bars_none resolution first bars spans a text is ahead = record {
   lines = [];
   written = sym (append-nil text);
   others = λ more are. are;
-  stands = λ f t after. ap (λ b. pieces_in f t (stretches_ahead resolution b)) is;
+  stands = λ f t after. ap (λ b. bar_pieces f t (stretches_ahead resolution b)) is;
   ahead = subst (IsAhead resolution) (sym is) ahead;
   rest = omega arith;
   earlier = tt;
@@ -63,58 +63,58 @@ bars_none resolution first bars spans a text is ahead = record {
 -- the lines of one bar
 bar_lines : (resolution : ℕ) (first : Bool) (ss : List Stretch) (before : Option ScoreBar) (from : ℕ) (bar : ScoreBar)
     (bars : List ScoreBar) (elements : List Element) (more : List (List ℕ))
-    → AreBarElements resolution from (from + bar_parts resolution bar) ss elements
-    → AreBarLines resolution first ss (Some bar) (from + bar_parts resolution bar) bars more
-    → AreBarLines resolution first ss before from (bar ∷ bars) (changes first before bar ++ bar_line (has_flats bar.sf) elements ∷ more)
+    → AreBarElements resolution from (from + score_bar_parts resolution bar) ss elements
+    → AreBarsOfStaff resolution first ss (Some bar) (from + score_bar_parts resolution bar) bars more
+    → AreBarsOfStaff resolution first ss before from (bar ∷ bars) (lily_changes first before bar ++ staff_bar (has_flats bar.sf) elements ∷ more)
 bar_lines resolution first ss before from bar bars elements more own others = (elements, more, own, others, refl)
 
 -- the text of one bar
 bar_text : (first : Bool) (before : Option ScoreBar) (bar : ScoreBar) (elements : List Element) (lines : List (List ℕ))
     (text one two three new : List ℕ)
-    → one ≡ text ++ lines_text lines → two ≡ one ++ lines_text (changes first before bar)
+    → one ≡ text ++ lines_text lines → two ≡ one ++ lines_text (lily_changes first before bar)
     → three ≡ two ++ elements_text (has_flats bar.sf) elements → new ≡ three ++ codes "|\n"
-    → new ≡ text ++ lines_text (lines ++ (changes first before bar ++ bar_line (has_flats bar.sf) elements ∷ []))
+    → new ≡ text ++ lines_text (lines ++ (lily_changes first before bar ++ staff_bar (has_flats bar.sf) elements ∷ []))
 bar_text first before bar elements lines text one two three new a b c d =
-    let said = changes first before bar in
+    let said = lily_changes first before bar in
     let es = elements_text (has_flats bar.sf) elements in
-    let line : es ++ codes "|\n" ≡ lines_text (bar_line (has_flats bar.sf) elements ∷ []) =
+    let line : es ++ codes "|\n" ≡ lines_text (staff_bar (has_flats bar.sf) elements ∷ []) =
     sym (append-nil ((es ++ codes "|") ++ 10 ∷ []) ∙ append_assoc es (codes "|") (10 ∷ [])) in
-    let all : lines_text (lines ++ (said ++ bar_line (has_flats bar.sf) elements ∷ [])) ≡ lines_text
+    let all : lines_text (lines ++ (said ++ staff_bar (has_flats bar.sf) elements ∷ [])) ≡ lines_text
     lines ++ (lines_text said ++ (es ++ codes "|\n")) =
-    lines_append lines (said ++ bar_line (has_flats bar.sf) elements ∷ [])
-    ∙ ap (λ t. lines_text lines ++ t) (lines_append said (bar_line (has_flats bar.sf) elements ∷ []) ∙ ap (λ t. lines_text said ++ t)
+    lines_append lines (said ++ staff_bar (has_flats bar.sf) elements ∷ [])
+    ∙ ap (λ t. lines_text lines ++ t) (lines_append said (staff_bar (has_flats bar.sf) elements ∷ []) ∙ ap (λ t. lines_text said ++ t)
     (sym line)) in
     let whole : new ≡ text ++ (lines_text lines ++ (lines_text said ++ (es ++ codes "|\n"))) = grind (arith, append_assoc) in
     whole ∙ ap (λ t. text ++ t) (sym all)
 
 pub bars_next : (resolution : ℕ) (first : Bool) (ss : List Stretch) (bars : List ScoreBar) (n : ℕ) (d : ScoreBar)
     (before : Option ScoreBar) (from to : ℕ) (a after : Ahead) (text one two three new : List ℕ)
-    → n < length bars → All IsScoreBar bars → to ≡ from + bar_parts resolution (get_or bars n d)
-    → HasWrittenBars resolution first ss bars n before from a text one → two ≡ one ++ lines_text (changes first before (get_or bars n d))
+    → n < length bars → All IsScoreBar bars → to ≡ from + score_bar_parts resolution (get_or bars n d)
+    → HasWrittenBars resolution first ss bars n before from a text one → two ≡ one ++ lines_text (lily_changes first before (get_or bars n d))
     → HasWrittenBar resolution from to (has_flats (get_or bars n d).sf) a after two three → new ≡ three ++ codes "|\n"
     → HasWrittenBars resolution first ss bars (n + 1) (Some (get_or bars n d)) to after text new
 bars_next resolution first ss bars n d before from to a after text one two three new within each ending h said here barline =
     let bar = get_or bars n d in
     let (own, is_own, written) = here.written in
     let elements : List Element = flat_map (λ es. es) own in
-    let there : AreBarElements resolution from (from + bar_parts resolution bar) ss elements = (
+    let there : AreBarElements resolution from (from + score_bar_parts resolution bar) ss elements = (
       own,
-      subst (λ t. Each (AreElements resolution) (pieces_in from t ss) own) ending
+      subst (λ t. Each (AreElements resolution) (bar_pieces from t ss) own) ending
           (subst (λ ps. Each (AreElements resolution) ps own) (h.stands from to (omega arith)) is_own),
       refl,
     ) in
     let next : drop n bars ≡ bar ∷ drop (n + 1) bars = drop-cons bars n d within ∙ ap (λ k. bar ∷ drop k bars) (sym (add-one n)) in
-    let rest = sum_by-drop_more (bar_parts resolution) bars n d within in
+    let rest = sum_by-drop_more (score_bar_parts resolution) bars n d within in
     record {
-      lines = h.lines ++ (changes first before bar ++ bar_line (has_flats bar.sf) elements ∷ []);
+      lines = h.lines ++ (lily_changes first before bar ++ staff_bar (has_flats bar.sf) elements ∷ []);
       written = bar_text first before bar elements h.lines text one two three new h.written said written barline;
       others = λ more are.
-          let own_lines = changes first before bar ++ bar_line (has_flats bar.sf) elements ∷ more in
+          let own_lines = lily_changes first before bar ++ staff_bar (has_flats bar.sf) elements ∷ more in
           let whole = bar_lines resolution first ss before from bar (drop (n + 1) bars) elements more there
-          (subst (λ t. AreBarLines resolution first ss (Some bar) t (drop (n + 1) bars) more) ending are) in
-          subst (AreBarLines resolution first ss None 0 bars) (joined h.lines (changes first before bar)
-          (bar_line (has_flats bar.sf) elements) more)
-          (h.others own_lines (subst (λ xs. AreBarLines resolution first ss before from xs own_lines) (sym next) whole));
+          (subst (λ t. AreBarsOfStaff resolution first ss (Some bar) t (drop (n + 1) bars) more) ending are) in
+          subst (AreBarsOfStaff resolution first ss None 0 bars) (joined h.lines (lily_changes first before bar)
+          (staff_bar (has_flats bar.sf) elements) more)
+          (h.others own_lines (subst (λ xs. AreBarsOfStaff resolution first ss before from xs own_lines) (sym next) whole));
       stands = λ f t le. here.later f t le ∙ h.stands f t (omega (arith, ending, le));
       ahead = here.ahead;
       rest = omega (arith, ending, rest, h.rest);
@@ -127,11 +127,11 @@ bars_next resolution first ss bars n d before from to a after text one two three
 pub bars_all : (resolution : ℕ) (first : Bool) (ss : List Stretch) (bars : List ScoreBar) (n : ℕ) (before : Option ScoreBar) (from : ℕ)
     (a : Ahead) (text new : List ℕ)
     → length bars ≤ n → HasWrittenBars resolution first ss bars n before from a text new
-    → (lines : List (List ℕ)) × AreBarLines resolution first ss None 0 bars lines × (new ≡ text ++ lines_text lines)
+    → (lines : List (List ℕ)) × AreBarsOfStaff resolution first ss None 0 bars lines × (new ≡ text ++ lines_text lines)
 bars_all resolution first ss bars n before from a text new all h = (
   h.lines,
-  subst (AreBarLines resolution first ss None 0 bars) (append-nil h.lines)
-      (h.others [] (subst (λ xs. AreBarLines resolution first ss before from xs []) (sym (drop_all n bars all)) refl)),
+  subst (AreBarsOfStaff resolution first ss None 0 bars) (append-nil h.lines)
+      (h.others [] (subst (λ xs. AreBarsOfStaff resolution first ss before from xs []) (sym (drop_all n bars all)) refl)),
   h.written,
 )
 
@@ -143,7 +143,7 @@ staff_text lines = ap (λ t. codes "\\new Staff {\n" ++ t) (sym (lines_append li
 
 pub staff_written : (resolution : ℕ) (bars : List ScoreBar) (first : Bool) (spans : List Span) (lines : List (List ℕ))
     (text one two new : List ℕ)
-    → AreBarLines resolution first (stretches resolution 0 (score_parts resolution bars) spans) None 0 bars lines
+    → AreBarsOfStaff resolution first (stretches resolution 0 (score_parts resolution bars) spans) None 0 bars lines
     → one ≡ text ++ codes "\\new Staff {\n" → two ≡ one ++ lines_text lines → new ≡ two ++ codes "}\n"
     → (all : List (List ℕ)) × AreStaffLines resolution bars first spans all × (new ≡ text ++ lines_text all)
 staff_written resolution bars first spans lines text one two new are a b c =

@@ -4,7 +4,7 @@ use Rattle.std.specs.Prelude.{ℤ, OnOk, Option, Result, Ok, Err, codes, decimal
 use Rattle.std.proofs.lemmas.List.{append-nil}
 use Rattle.derivation.specs.declared.score.ScoreBar.{ScoreBar}
 use Rattle.kern_writer.specs.Changes.{quarters_of_minute, same_tempo}
-use Rattle.lily_writer.specs.Changes.{key_line, key_name, tempo_change, tempo_line}
+use Rattle.lily_writer.specs.Changes.{lily_key, key_name, lily_tempo_lines, lily_tempo}
 use Rattle.lily_writer.specs.Text.{lines_text}
 
 -- a text with a line after it
@@ -13,17 +13,17 @@ line_after text line new is = is ∙ ap (λ t. text ++ t) (sym (append-nil (line
 
 pub tempo_after : (before : Option ScoreBar) (bar : ScoreBar) (text first second last : List ℕ) → same_tempo before bar ≡ false
     → first ≡ text ++ codes "\\tempo 4 = " → second ≡ first ++ decimal (quarters_of_minute bar.tempo) → last ≡ second ++ 10 ∷ []
-    → last ≡ text ++ lines_text (tempo_change before bar)
+    → last ≡ text ++ lines_text (lily_tempo_lines before bar)
 tempo_after before bar text first second last differs one two three =
-    let all : last ≡ text ++ (tempo_line bar ++ 10 ∷ []) = grind (arith, append_assoc) in
-    line_after text (tempo_line bar) last all ∙ ap (λ b. text ++ lines_text (if b then [] else tempo_line bar ∷ [])) (sym differs)
+    let all : last ≡ text ++ (lily_tempo bar ++ 10 ∷ []) = grind (arith, append_assoc) in
+    line_after text (lily_tempo bar) last all ∙ ap (λ b. text ++ lines_text (if b then [] else lily_tempo bar ∷ [])) (sym differs)
 
 pub key_after : (sf : ℤ) (text first second last : List ℕ)
     → first ≡ text ++ codes "\\key " → second ≡ first ++ key_name sf → last ≡ second ++ (codes " \\major" ++ 10 ∷ [])
-    → last ≡ text ++ lines_text (key_line sf ∷ [])
+    → last ≡ text ++ lines_text (lily_key sf ∷ [])
 key_after sf text first second last one two three =
-    let all : last ≡ text ++ (key_line sf ++ 10 ∷ []) = grind (arith, append_assoc) in
-    line_after text (key_line sf) last all
+    let all : last ≡ text ++ (lily_key sf ++ 10 ∷ []) = grind (arith, append_assoc) in
+    line_after text (lily_key sf) last all
 
 -- what a call appended where it gave no error
 pub on_ok_items : {X E : Type 0} (r : Result X E) (new long short : List ℕ) → new ≡ (if is_ok r then long else short) → OnOk r (new ≡ long)

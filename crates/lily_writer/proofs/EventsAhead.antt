@@ -5,9 +5,9 @@ use Rattle.kern_reader.specs.declared.event.KernEvent.{KernEvent}
 use Rattle.voice_events.specs.Parts.{end_parts, start_parts}
 use Rattle.voice_events.specs.VoiceEvents.{IsVoiceSpan}
 use Rattle.voice_events.proofs.SpanEnds.{from_within}
-use Rattle.lily_writer.specs.Pieces.{gap, pieces_in, sounding}
+use Rattle.lily_writer.specs.Pieces.{bar_gap, bar_pieces, sounding}
 use Rattle.lily_writer.specs.Staves.{spans_of}
-use Rattle.lily_writer.specs.Writing.{Ahead, EndsAfter, HasPassed, IsAhead, Writes, stretches_ahead}
+use Rattle.lily_writer.specs.Writing.{Ahead, EndsAfter, HasPassed, IsAhead, WritesPieces, stretches_ahead}
 use Rattle.lily_writer.proofs.Stretches.{front_written, passed_more}
 
 abbrev pub ahead_of : List KernEvent → ℕ → ℕ → Ahead
@@ -32,8 +32,8 @@ pub event_passed : (resolution from to : ℕ) (flats : Bool) (before : Ahead) (e
     (e : KernEvent) (text first second new : List ℕ)
     → 1 ≤ length events → more ≡ drop 1 events → e ≡ get_or events 0 e → next ≡ end_parts resolution e.span
     → HasPassed resolution from to flats before (ahead_of events at end) text first → next ≤ to
-    → Writes resolution flats (pieces_in from to (gap at (start_parts resolution e.span) ∷ [])) first second
-    → Writes resolution flats (pieces_in from to (sounding resolution e.span ∷ [])) second new
+    → WritesPieces resolution flats (bar_pieces from to (bar_gap at (start_parts resolution e.span) ∷ [])) first second
+    → WritesPieces resolution flats (bar_pieces from to (sounding resolution e.span ∷ [])) second new
     → HasPassed resolution from to flats before (ahead_of more next end) text new
 event_passed resolution from to flats before events more at next end e text first second new some rest is ending h ends one two =
     let same = spans_next events more e some rest is in
@@ -45,14 +45,14 @@ event_passed resolution from to flats before events more at next end e text firs
 pub front_of_events : (resolution from to : ℕ) (flats : Bool) (events : List KernEvent) (at end : ℕ) (e : KernEvent)
     (text middle new : List ℕ)
     → 1 ≤ length events → e ≡ get_or events 0 e → IsAhead resolution (ahead_of events at end) → EndsAfter resolution to (spans_of events)
-    → Writes resolution flats (pieces_in from to (gap at (start_parts resolution e.span) ∷ [])) text middle
-    → Writes resolution flats (pieces_in from to (sounding resolution e.span ∷ [])) middle new
-    → Writes resolution flats (pieces_in from to (stretches_ahead resolution (ahead_of events at end))) text new
+    → WritesPieces resolution flats (bar_pieces from to (bar_gap at (start_parts resolution e.span) ∷ [])) text middle
+    → WritesPieces resolution flats (bar_pieces from to (sounding resolution e.span ∷ [])) middle new
+    → WritesPieces resolution flats (bar_pieces from to (stretches_ahead resolution (ahead_of events at end))) text new
 front_of_events resolution from to flats events at end e text middle new some is ahead after one two =
     let same = spans_next events (drop 1 events) e some refl is in
     let there = subst (λ xs. IsAhead resolution (record { spans = xs; at = at; end = end })) same ahead in
     let ends = subst (EndsAfter resolution to) same after in
-    subst (λ xs. Writes resolution flats (pieces_in from to (stretches_ahead resolution (record { spans = xs; at = at; end = end }))) text
+    subst (λ xs. WritesPieces resolution flats (bar_pieces from to (stretches_ahead resolution (record { spans = xs; at = at; end = end }))) text
     new) (sym same)
     (front_written resolution from to flats at end e.span (spans_of (drop 1 events)) text middle new there ends one two)
 
@@ -64,7 +64,7 @@ ends_after resolution to events e some is after =
 
 -- after the last event
 pub end_of_events : (resolution from to : ℕ) (flats : Bool) (events : List KernEvent) (at end : ℕ) (text new : List ℕ) → length events < 1
-    → Writes resolution flats (pieces_in from to (gap at end ∷ [])) text new
-    → Writes resolution flats (pieces_in from to (stretches_ahead resolution (ahead_of events at end))) text new
+    → WritesPieces resolution flats (bar_pieces from to (bar_gap at end ∷ [])) text new
+    → WritesPieces resolution flats (bar_pieces from to (stretches_ahead resolution (ahead_of events at end))) text new
 end_of_events resolution from to flats [] at end text new none written = written
 end_of_events resolution from to flats (e ∷ events) at end text new none written = absurd (omega (arith, none))

@@ -6,7 +6,7 @@ use Rattle.std.proofs.lemmas.Bool.{and_parts}
 use Rattle.std.proofs.lemmas.Bool.Decides.{nat_tests}
 use Rattle.std.proofs.lemmas.List.{append-nil}
 use Rattle.std.proofs.lemmas.Slice.Eq.{bytes_eq-Decides}
-use Rattle.rhythm_base.specs.Pitch.{is_black, letters}
+use Rattle.durations.specs.Pitch.{is_black, letters}
 use Rattle.lily_writer.specs.Changes.{key_names}
 use Rattle.lily_writer.specs.Pitches.{names}
 

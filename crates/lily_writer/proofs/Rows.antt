@@ -8,23 +8,23 @@ use Rattle.durations.specs.declared.value.Value.{Value}
 use Rattle.derivation.specs.declared.score.ScoreBar.{ScoreBar}
 use Rattle.kern_reader.specs.declared.event.KernEvent.{KernEvent}
 use Rattle.kern_reader.specs.Columns.{gcd}
-use Rattle.kern_reader.specs.Events.{event}
+use Rattle.kern_reader.specs.Events.{span_event}
 use Rattle.kern_reader.specs.Tokens.{number_of}
 use Rattle.kern_writer.specs.Tokens.{rising_keys}
-use Rattle.lily_writer.specs.Changes.{changes}
+use Rattle.lily_writer.specs.Changes.{lily_changes}
 use Rattle.lily_writer.specs.Elements.{element_text, note_value}
 use Rattle.lily_writer.specs.Hearing.{hear}
-use Rattle.lily_writer.specs.Pieces.{begins, elements_of, goes_on, pieces_in, stretches}
+use Rattle.lily_writer.specs.Pieces.{piece_begins, elements_of, piece_goes_on, bar_pieces, stretches}
 use Rattle.lily_writer.specs.Reading.{hear_bar, hear_line, lily_events}
-use Rattle.lily_writer.specs.Staves.{bar_line}
-use Rattle.lily_writer.specs.Text.{head, lines_text, tail}
-use Rattle.lily_writer.specs.Values.{value_text}
-use Rattle.lily_writer.specs.Words.{base_of, ending_of, key_of, pitched_word, scale_of, word_of}
+use Rattle.lily_writer.specs.Staves.{staff_bar}
+use Rattle.lily_writer.specs.Text.{page_head, lines_text, page_tail}
+use Rattle.lily_writer.specs.Values.{lily_value}
+use Rattle.lily_writer.specs.Words.{base_of, word_ending, word_key, pitched_word, scale_of, word_of}
 
 abbrev value : ℕ → Value
 value n = record { recip = Of n; dots = 0 }
 
-scales : map (λ n. value_text (value n)) (3 ∷ 6 ∷ 5 ∷ 12 ∷ 128 ∷ 960 ∷ []) ≡ codes "2*2/3" ∷ codes "4*2/3" ∷ codes "4*4/5" ∷ codes
+scales : map (λ n. lily_value (value n)) (3 ∷ 6 ∷ 5 ∷ 12 ∷ 128 ∷ 960 ∷ []) ≡ codes "2*2/3" ∷ codes "4*2/3" ∷ codes "4*4/5" ∷ codes
     "8*2/3" ∷ codes "64*1/2" ∷ codes "64*1/15" ∷ []
 unfolding digits gcd
 scales = refl
@@ -42,16 +42,16 @@ span keys start len graces short = record { start = start; len = len; keys = key
 -- ---- the first worked text
 
 abbrev first_text : List ℕ
-first_text = lines_text (head ++ (codes "\\new Staff {" ∷ codes "\\time 4/4" ∷ codes "\\tempo 4 = 120" ∷ codes "c'4 d'4 e'4 f'4 |" ∷ codes
-    "}" ∷ []) ++ tail)
+first_text = lines_text (page_head ++ (codes "\\new Staff {" ∷ codes "\\time 4/4" ∷ codes "\\tempo 4 = 120" ∷ codes "c'4 d'4 e'4 f'4 |" ∷ codes
+    "}" ∷ []) ++ page_tail)
 
 abbrev quarters : List Span
 quarters =
     span (2 ^ 60) (whole_notes 0 1) (whole_notes 1 4) [] false ∷ span (2 ^ 62) (whole_notes 1 4) (whole_notes 1 4) [] false
     ∷ span (2 ^ 64) (whole_notes 1 2) (whole_notes 1 4) [] false ∷ span (2 ^ 65) (whole_notes 3 4) (whole_notes 1 4) [] false ∷ []
 
-reads_first : lily_events first_text ≡ Some (map (event 1) quarters)
-unfolding gcd number_of base_of ending_of key_of pitched_word scale_of word_of hear hear_bar hear_line lily_events
+reads_first : lily_events first_text ≡ Some (map (span_event 1) quarters)
+unfolding gcd number_of base_of word_ending word_key pitched_word scale_of word_of hear hear_bar hear_line lily_events
 reads_first = refl
 
 -- ---- the second
@@ -82,46 +82,46 @@ demo_text = lines_text (
 
 abbrev demo : List KernEvent
 demo =
-    event 1 (span (2 ^ 70 + 2 ^ 74) (whole_notes 0 1) (whole_notes 1 4) [] false) ∷ event 1
+    span_event 1 (span (2 ^ 70 + 2 ^ 74) (whole_notes 0 1) (whole_notes 1 4) [] false) ∷ span_event 1
     (span (2 ^ 72) (whole_notes 1 4) (whole_notes 3 4) [] false)
-    ∷ event 1 (span (2 ^ 70) (whole_notes 1 1) (whole_notes 1 1) [] false) ∷ event 2
+    ∷ span_event 1 (span (2 ^ 70) (whole_notes 1 1) (whole_notes 1 1) [] false) ∷ span_event 2
     (span (2 ^ 46) (whole_notes 0 1) (whole_notes 2 1) [] false) ∷ []
 
 reads_second : lily_events demo_text ≡ Some demo
-unfolding gcd number_of base_of ending_of key_of pitched_word scale_of word_of hear hear_bar hear_line lily_events
+unfolding gcd number_of base_of word_ending word_key pitched_word scale_of word_of hear hear_bar hear_line lily_events
 reads_second = refl
 
 -- ---- grace notes, short notes, scales
 
 abbrev one_staff : List (List ℕ) → List ℕ
-one_staff bars = lines_text (head ++ (codes "\\new Staff {" ∷ codes "\\time 4/4" ∷ bars) ++ codes "}" ∷ tail)
+one_staff bars = lines_text (page_head ++ (codes "\\new Staff {" ∷ codes "\\time 4/4" ∷ bars) ++ codes "}" ∷ page_tail)
 
 reads_graces : lily_events (one_staff (codes "r4 \\grace { d'8 <e' g'>8 } c'4 r2 |" ∷ []))
-    ≡ Some (event 1 (span (2 ^ 60) (whole_notes 1 4) (whole_notes 1 4) (2 ^ 62 ∷ (2 ^ 64 + 2 ^ 67) ∷ []) false) ∷ [])
-unfolding gcd number_of base_of ending_of key_of pitched_word scale_of word_of hear hear_bar hear_line lily_events
+    ≡ Some (span_event 1 (span (2 ^ 60) (whole_notes 1 4) (whole_notes 1 4) (2 ^ 62 ∷ (2 ^ 64 + 2 ^ 67) ∷ []) false) ∷ [])
+unfolding gcd number_of base_of word_ending word_key pitched_word scale_of word_of hear hear_bar hear_line lily_events
 reads_graces = refl
 
 reads_scales : lily_events (one_staff (codes "<c' e'>4*2/3-.~ <c' e'>4*2/3 r4*2/3 c'2 |" ∷ []))
-    ≡ Some (event 1 (span (2 ^ 60 + 2 ^ 64) (whole_notes 0 1) (whole_notes 1 3) [] true) ∷ event 1
+    ≡ Some (span_event 1 (span (2 ^ 60 + 2 ^ 64) (whole_notes 0 1) (whole_notes 1 3) [] true) ∷ span_event 1
     (span (2 ^ 60) (whole_notes 1 2) (whole_notes 1 2) [] false) ∷ [])
-unfolding gcd number_of base_of ending_of key_of pitched_word scale_of word_of hear hear_bar hear_line lily_events
+unfolding gcd number_of base_of word_ending word_key pitched_word scale_of word_of hear hear_bar hear_line lily_events
 reads_scales = refl
 
 -- what is no text of this kind: a bar that is not full, a tie to another key, a tie that does not end, a tied rest
 reads_no_short_bar : lily_events (one_staff (codes "c'4 r2 |" ∷ [])) ≡ None
-unfolding gcd number_of base_of ending_of key_of pitched_word scale_of word_of hear hear_bar hear_line lily_events
+unfolding gcd number_of base_of word_ending word_key pitched_word scale_of word_of hear hear_bar hear_line lily_events
 reads_no_short_bar = refl
 
 reads_no_other_key : lily_events (one_staff (codes "c'2~ d'2 |" ∷ [])) ≡ None
-unfolding gcd number_of base_of ending_of key_of pitched_word scale_of word_of hear hear_bar hear_line lily_events
+unfolding gcd number_of base_of word_ending word_key pitched_word scale_of word_of hear hear_bar hear_line lily_events
 reads_no_other_key = refl
 
 reads_no_open_tie : lily_events (one_staff (codes "c'1~ |" ∷ [])) ≡ None
-unfolding gcd number_of base_of ending_of key_of pitched_word scale_of word_of hear hear_bar hear_line lily_events
+unfolding gcd number_of base_of word_ending word_key pitched_word scale_of word_of hear hear_bar hear_line lily_events
 reads_no_open_tie = refl
 
 reads_no_tied_rest : lily_events (one_staff (codes "r2~ r2 |" ∷ [])) ≡ None
-unfolding gcd number_of base_of ending_of key_of pitched_word scale_of word_of hear hear_bar hear_line lily_events
+unfolding gcd number_of base_of word_ending word_key pitched_word scale_of word_of hear hear_bar hear_line lily_events
 reads_no_tied_rest = refl
 
 -- ---- pieces and their elements, by values that are given
@@ -129,7 +129,7 @@ reads_no_tied_rest = refl
 abbrev quarter_value : Value
 quarter_value = value 4
 
-graces_line : bar_line false (elements_of None true false (quarter_value ∷ []) ++ elements_of
+graces_line : staff_bar false (elements_of None true false (quarter_value ∷ []) ++ elements_of
     (Some (span (2 ^ 60) (whole_notes 1 4) (whole_notes 1 4) (2 ^ 62 ∷ 2 ^ 64 ∷ []) false)) true false (quarter_value ∷ []) ++ elements_of
     None true false (value 2 ∷ []))
     ≡ codes "r4 \\grace { d'8 e'8 } c'4 r2 |"
@@ -137,7 +137,7 @@ unfolding digits gcd rising_keys
 graces_line = refl
 
 -- a short span of 5/4 of a whole note
-short_line : bar_line false (elements_of (Some (span (2 ^ 60) (whole_notes 0 1) (whole_notes 5 4) [] true)) true false
+short_line : staff_bar false (elements_of (Some (span (2 ^ 60) (whole_notes 0 1) (whole_notes 5 4) [] true)) true false
     (value 1 ∷ value 4 ∷ [])) ≡ codes "c'1-.~ c'4 |"
 unfolding digits gcd rising_keys
 short_line = refl
@@ -145,21 +145,21 @@ short_line = refl
 abbrev long_note : List Span
 long_note = span (2 ^ 46) (whole_notes 1 4) (whole_notes 3 2) [] false ∷ []
 
-pieces_first : map {B = ℕ × ℕ × Bool × Bool} (λ p. (p.from, p.to, begins p, goes_on p))
-    (pieces_in 0 256 (stretches 4 0 512 long_note)) ≡ (0, 64, true, false) ∷ (64, 256, true, true) ∷ []
+pieces_first : map {B = ℕ × ℕ × Bool × Bool} (λ p. (p.from, p.to, piece_begins p, piece_goes_on p))
+    (bar_pieces 0 256 (stretches 4 0 512 long_note)) ≡ (0, 64, true, false) ∷ (64, 256, true, true) ∷ []
 pieces_first = refl
 
-pieces_second : map {B = ℕ × ℕ × Bool × Bool} (λ p. (p.from, p.to, begins p, goes_on p))
-    (pieces_in 256 512 (stretches 4 0 512 long_note)) ≡ (256, 448, false, false) ∷ (448, 512, true, false) ∷ []
+pieces_second : map {B = ℕ × ℕ × Bool × Bool} (λ p. (p.from, p.to, piece_begins p, piece_goes_on p))
+    (bar_pieces 256 512 (stretches 4 0 512 long_note)) ≡ (256, 448, false, false) ∷ (448, 512, true, false) ∷ []
 pieces_second = refl
 
 abbrev bar : ℤ → ℕ → ScoreBar
 bar sf tempo = record { num = 4; den = 4; tempo = tempo; sf = Some sf }
 
-changes_first : changes true None (bar (negsuc 1) 600000) ≡ codes "\\key bes \\major" ∷ codes "\\time 4/4" ∷ codes "\\tempo 4 = 100" ∷ []
+changes_first : lily_changes true None (bar (negsuc 1) 600000) ≡ codes "\\key bes \\major" ∷ codes "\\time 4/4" ∷ codes "\\tempo 4 = 100" ∷ []
 unfolding digits
 changes_first = refl
 
-same_number_of_quarters : changes true (Some (bar (negsuc 1) 500000)) (bar (pos 7) 500001) ≡ codes "\\key cis \\major" ∷ []
+same_number_of_quarters : lily_changes true (Some (bar (negsuc 1) 500000)) (bar (pos 7) 500001) ≡ codes "\\key cis \\major" ∷ []
 unfolding digits
 same_number_of_quarters = refl

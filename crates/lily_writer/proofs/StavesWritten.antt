@@ -10,7 +10,7 @@ use Rattle.kern_reader.specs.declared.event.KernEvent.{KernEvent}
 use Rattle.voice_events.specs.Parts.{score_parts}
 use Rattle.voice_events.specs.VoiceEvents.{AreOfVoice, AreVoiceEventsFrom}
 use Rattle.lily_writer.specs.Staves.{AreStaffLines, spans_of, voice_spans}
-use Rattle.lily_writer.specs.Text.{IsLilyText, IsStaff, head, lines_text, tail}
+use Rattle.lily_writer.specs.Text.{IsLilyText, IsStaff, page_head, lines_text, page_tail}
 use Rattle.lily_writer.proofs.BarsWritten.{lines_append}
 use Rattle.lily_writer.proofs.VoiceSplit.{IsSplit, voice_split}
 
@@ -114,6 +114,6 @@ staves_all resolution bars voices events n left one new all h end =
     let own = flat_map (λ (ls : List (List ℕ)). ls) h.staves in (
       h.staves,
       subst (Each (IsStaff resolution bars events) (range_with_len 1 voices)) (append-nil h.staves) each,
-      end ∙ ap (λ t. t ++ codes ">>\n}\n") h.written ∙ ap (λ t. t ++ lines_text tail) (sym (lines_append head own))
-          ∙ sym (lines_append (head ++ own) tail),
+      end ∙ ap (λ t. t ++ codes ">>\n}\n") h.written ∙ ap (λ t. t ++ lines_text page_tail) (sym (lines_append page_head own))
+          ∙ sym (lines_append (page_head ++ own) page_tail),
     )

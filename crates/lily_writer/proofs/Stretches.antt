@@ -6,52 +6,52 @@ use Rattle.std.proofs.lemmas.List.Elements.{All-tail}
 use Rattle.rhythm_base.specs.declared.span.Span.{Span}
 use Rattle.voice_events.specs.Parts.{end_parts, start_parts}
 use Rattle.voice_events.specs.VoiceEvents.{FollowFrom, IsVoiceSpan}
-use Rattle.lily_writer.specs.Pieces.{Stretch, cut, gap, has_length, pieces_in, sounding, stretches}
-use Rattle.lily_writer.specs.Writing.{Ahead, HasPassed, HasWrittenBar, IsAhead, Writes, stretches_ahead}
+use Rattle.lily_writer.specs.Pieces.{Stretch, cut, bar_gap, has_length, bar_pieces, sounding, stretches}
+use Rattle.lily_writer.specs.Writing.{Ahead, HasPassed, HasWrittenBar, IsAhead, WritesPieces, stretches_ahead}
 use Rattle.lily_writer.proofs.WrittenPieces.{pieces_none, writes_more, writes_none}
 
 -- those of the first stretch, and of the others
-pub pieces_cons : (from to : ℕ) (s : Stretch) (ss : List Stretch) → pieces_in from to (s ∷ ss) ≡ pieces_in from to (s ∷ []) ++ pieces_in
+pub pieces_cons : (from to : ℕ) (s : Stretch) (ss : List Stretch) → bar_pieces from to (s ∷ ss) ≡ bar_pieces from to (s ∷ []) ++ bar_pieces
     from to ss
 pieces_cons from to s ss = go (has_length (cut from to s))
   where
-    go : (b : Bool) → cond b (cut from to s ∷ pieces_in from to ss) (pieces_in from to ss) ≡ cond b (cut from to s ∷ []) [] ++ pieces_in
+    go : (b : Bool) → cond b (cut from to s ∷ bar_pieces from to ss) (bar_pieces from to ss) ≡ cond b (cut from to s ∷ []) [] ++ bar_pieces
         from to ss
     go true = refl
     go false = refl
 
 -- a span, the gap before it, and the others
 pub pieces_next : (resolution from to at end : ℕ) (x : Span) (spans : List Span)
-    → pieces_in from to (stretches resolution at end (x ∷ spans))
-    ≡ pieces_in from to (gap at (start_parts resolution x) ∷ []) ++ pieces_in from to (sounding resolution x ∷ [])
-    ++ pieces_in from to (stretches resolution (end_parts resolution x) end spans)
+    → bar_pieces from to (stretches resolution at end (x ∷ spans))
+    ≡ bar_pieces from to (bar_gap at (start_parts resolution x) ∷ []) ++ bar_pieces from to (sounding resolution x ∷ [])
+    ++ bar_pieces from to (stretches resolution (end_parts resolution x) end spans)
 pieces_next resolution from to at end x spans =
-    let s = gap at (start_parts resolution x) in
+    let s = bar_gap at (start_parts resolution x) in
     let t = sounding resolution x in
     let others = stretches resolution (end_parts resolution x) end spans in
-    pieces_cons from to s (t ∷ others) ∙ ap (λ ps. pieces_in from to (s ∷ []) ++ ps) (pieces_cons from to t others)
-    ∙ sym (append_assoc (pieces_in from to (s ∷ [])) (pieces_in from to (t ∷ [])) (pieces_in from to others))
+    pieces_cons from to s (t ∷ others) ∙ ap (λ ps. bar_pieces from to (s ∷ []) ++ ps) (pieces_cons from to t others)
+    ∙ sym (append_assoc (bar_pieces from to (s ∷ [])) (bar_pieces from to (t ∷ [])) (bar_pieces from to others))
 
 -- nothing is in a bar of what ends before it
 pub pieces_passed : (resolution from to at end : ℕ) (x : Span) (spans : List Span) → end_parts resolution x ≤ from
-    → pieces_in from to (stretches resolution at end (x ∷ spans)) ≡ pieces_in from to
+    → bar_pieces from to (stretches resolution at end (x ∷ spans)) ≡ bar_pieces from to
     (stretches resolution (end_parts resolution x) end spans)
 pieces_passed resolution from to at end x spans before =
-    let none : pieces_in from to (gap at (start_parts resolution x) ∷ []) ≡ [] =
-    pieces_none from to (gap at (start_parts resolution x)) (omega (arith, before)) in
-    let nothing : pieces_in from to (sounding resolution x ∷ []) ≡ [] =
+    let none : bar_pieces from to (bar_gap at (start_parts resolution x) ∷ []) ≡ [] =
+    pieces_none from to (bar_gap at (start_parts resolution x)) (omega (arith, before)) in
+    let nothing : bar_pieces from to (sounding resolution x ∷ []) ≡ [] =
     pieces_none from to (sounding resolution x) (omega (arith, before)) in
     pieces_next resolution from to at end x spans
-    ∙ (λ i. none i ++ nothing i ++ pieces_in from to (stretches resolution (end_parts resolution x) end spans))
+    ∙ (λ i. none i ++ nothing i ++ bar_pieces from to (stretches resolution (end_parts resolution x) end spans))
 
 -- nor of what begins after it
 pub pieces_later : (resolution from to at end : ℕ) (spans : List Span) → FollowFrom resolution end at spans → to ≤ at
-    → pieces_in from to (stretches resolution at end spans) ≡ []
-pieces_later resolution from to at end [] follow after = pieces_none from to (gap at end) (omega (arith, after))
+    → bar_pieces from to (stretches resolution at end spans) ≡ []
+pieces_later resolution from to at end [] follow after = pieces_none from to (bar_gap at end) (omega (arith, after))
 pieces_later resolution from to at end (x ∷ spans) (first, follow) after =
-    let none : pieces_in from to (gap at (start_parts resolution x) ∷ []) ≡ [] =
-    pieces_none from to (gap at (start_parts resolution x)) (omega (arith, after)) in
-    let nothing : pieces_in from to (sounding resolution x ∷ []) ≡ [] =
+    let none : bar_pieces from to (bar_gap at (start_parts resolution x) ∷ []) ≡ [] =
+    pieces_none from to (bar_gap at (start_parts resolution x)) (omega (arith, after)) in
+    let nothing : bar_pieces from to (sounding resolution x ∷ []) ≡ [] =
     pieces_none from to (sounding resolution x) (omega (arith, after, first)) in
     let rest = pieces_later resolution from to (end_parts resolution x) end spans follow (omega (arith, after, first)) in
     pieces_next resolution from to at end x spans ∙ (λ i. none i ++ nothing i ++ rest i)
@@ -81,13 +81,13 @@ ahead_next resolution at end x spans is = record {
 pub passed_more : (resolution from to : ℕ) (flats : Bool) (before : Ahead) (at end : ℕ) (x : Span) (spans : List Span)
     (text first second new : List ℕ)
     → HasPassed resolution from to flats before (record { spans = x ∷ spans; at = at; end = end }) text first → end_parts resolution x ≤ to
-    → Writes resolution flats (pieces_in from to (gap at (start_parts resolution x) ∷ [])) first second
-    → Writes resolution flats (pieces_in from to (sounding resolution x ∷ [])) second new
+    → WritesPieces resolution flats (bar_pieces from to (bar_gap at (start_parts resolution x) ∷ [])) first second
+    → WritesPieces resolution flats (bar_pieces from to (sounding resolution x ∷ [])) second new
     → HasPassed resolution from to flats before (record { spans = spans; at = end_parts resolution x; end = end }) text new
 passed_more resolution from to flats before at end x spans text first second new h ends one two =
-    let ps = pieces_in from to (gap at (start_parts resolution x) ∷ []) in
-    let qs = pieces_in from to (sounding resolution x ∷ []) in
-    let others = pieces_in from to (stretches resolution (end_parts resolution x) end spans) in
+    let ps = bar_pieces from to (bar_gap at (start_parts resolution x) ∷ []) in
+    let qs = bar_pieces from to (sounding resolution x ∷ []) in
+    let others = bar_pieces from to (stretches resolution (end_parts resolution x) end spans) in
     record {
       pieces = h.pieces ++ (ps ++ qs);
       written = writes_more resolution flats h.pieces (ps ++ qs) text first new h.written
@@ -101,24 +101,24 @@ passed_more resolution from to flats before at end x spans text first second new
 -- the front of a bar in which nothing ends
 pub front_written : (resolution from to : ℕ) (flats : Bool) (at end : ℕ) (x : Span) (spans : List Span) (text middle new : List ℕ)
     → IsAhead resolution (record { spans = x ∷ spans; at = at; end = end }) → to < end_parts resolution x
-    → Writes resolution flats (pieces_in from to (gap at (start_parts resolution x) ∷ [])) text middle
-    → Writes resolution flats (pieces_in from to (sounding resolution x ∷ [])) middle new
-    → Writes resolution flats (pieces_in from to (stretches resolution at end (x ∷ spans))) text new
+    → WritesPieces resolution flats (bar_pieces from to (bar_gap at (start_parts resolution x) ∷ [])) text middle
+    → WritesPieces resolution flats (bar_pieces from to (sounding resolution x ∷ [])) middle new
+    → WritesPieces resolution flats (bar_pieces from to (stretches resolution at end (x ∷ spans))) text new
 front_written resolution from to flats at end x spans text middle new is after one two =
-    let ps = pieces_in from to (gap at (start_parts resolution x) ∷ []) in
-    let qs = pieces_in from to (sounding resolution x ∷ []) in
+    let ps = bar_pieces from to (bar_gap at (start_parts resolution x) ∷ []) in
+    let qs = bar_pieces from to (sounding resolution x ∷ []) in
     let none = pieces_later resolution from to (end_parts resolution x) end spans is.follow.1 (omega (arith, after)) in
-    let all : ps ++ qs ≡ pieces_in from to (stretches resolution at end (x ∷ spans)) =
+    let all : ps ++ qs ≡ bar_pieces from to (stretches resolution at end (x ∷ spans)) =
     sym (append-nil (ps ++ qs)) ∙ ap (λ rs. ps ++ qs ++ rs) (sym none) ∙ sym (pieces_next resolution from to at end x spans) in
-    subst (λ rs. Writes resolution flats rs text new) all (writes_more resolution flats ps qs text middle new one two)
+    subst (λ rs. WritesPieces resolution flats rs text new) all (writes_more resolution flats ps qs text middle new one two)
 
 pub bar_written : (resolution from to : ℕ) (flats : Bool) (before after : Ahead) (text middle new : List ℕ)
     → HasPassed resolution from to flats before after text middle
-    → Writes resolution flats (pieces_in from to (stretches_ahead resolution after)) middle new
+    → WritesPieces resolution flats (bar_pieces from to (stretches_ahead resolution after)) middle new
     → HasWrittenBar resolution from to flats before after text new
 bar_written resolution from to flats before after text middle new h rest = record {
-  written = subst (λ rs. Writes resolution flats rs text new) h.others (writes_more resolution flats h.pieces
-      (pieces_in from to (stretches_ahead resolution after)) text middle new h.written rest);
+  written = subst (λ rs. WritesPieces resolution flats rs text new) h.others (writes_more resolution flats h.pieces
+      (bar_pieces from to (stretches_ahead resolution after)) text middle new h.written rest);
   later = h.later;
   ahead = h.ahead;
 }

@@ -8,12 +8,12 @@ use Rattle.std.proofs.lemmas.List.{map-append}
 use Rattle.std.proofs.lemmas.List.Elements.{All-append, All-cons, All-head, All-nil, All-tail, filter-append}
 use Rattle.rhythm_base.specs.declared.span.Span.{Span}
 use Rattle.kern_reader.specs.declared.event.KernEvent.{KernEvent}
-use Rattle.kern_reader.specs.Events.{event}
+use Rattle.kern_reader.specs.Events.{span_event}
 use Rattle.voice_events.specs.VoiceEvents.{AreOfVoice, AreVoiceEventsFrom}
 use Rattle.lily_writer.specs.Staves.{spans_of, voice_spans}
 
 abbrev own_events : ℕ → List Span → List KernEvent
-own_events spine spans = map (event spine) spans
+own_events spine spans = map (span_event spine) spans
 
 same_spine : (spine : ℕ) → (spine == spine) ≡ true
 same_spine spine = grind (arith, nat_tests)
@@ -23,7 +23,7 @@ other_spine n spine less = grind (arith, nat_tests)
 
 later_own : (spine n : ℕ) (spans : List Span) → n ≤ spine → All (λ e. n ≤ e.spine) (own_events spine spans)
 later_own spine n [] le = All-nil (λ e. n ≤ e.spine)
-later_own spine n (x ∷ spans) le = All-cons (λ e. n ≤ e.spine) (event spine x) (own_events spine spans) le (later_own spine n spans le)
+later_own spine n (x ∷ spans) le = All-cons (λ e. n ≤ e.spine) (span_event spine x) (own_events spine spans) le (later_own spine n spans le)
 
 -- no event is of an earlier spine
 later_spines : (resolution end spine voices n : ℕ) (events : List KernEvent) → n ≤ spine
@@ -47,7 +47,7 @@ front_length spine (x ∷ spans) others later =
 spans_own : (spine : ℕ) (spans : List Span) → voice_spans spine (own_events spine spans) ≡ spans
 spans_own spine [] = refl
 spans_own spine (x ∷ spans) =
-    ap (λ b. spans_of (cond b (event spine x ∷ filter (λ e. e.spine == spine) (own_events spine spans))
+    ap (λ b. spans_of (cond b (span_event spine x ∷ filter (λ e. e.spine == spine) (own_events spine spans))
     (filter (λ e. e.spine == spine) (own_events spine spans)))) (same_spine spine)
     ∙ ap (λ xs. x ∷ xs) (spans_own spine spans)
 
@@ -62,7 +62,7 @@ spans_before : (n spine : ℕ) (spans : List Span) → spine < n → voice_spans
 spans_before n spine [] less = refl
 spans_before n spine (x ∷ spans) less =
     let test : (spine == n) ≡ false = grind (arith, nat_tests) in
-    ap (λ b. map (λ d. d.span) (cond b (event spine x ∷ filter (λ d. d.spine == n) (own_events spine spans))
+    ap (λ b. map (λ d. d.span) (cond b (span_event spine x ∷ filter (λ d. d.spine == n) (own_events spine spans))
     (filter (λ d. d.spine == n) (own_events spine spans)))) test
     ∙ spans_before n spine spans less
 

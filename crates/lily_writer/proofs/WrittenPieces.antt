@@ -11,18 +11,18 @@ use Rattle.durations.specs.declared.value.Value.{Value}
 use Rattle.durations.specs.Values.{AreValues}
 use Rattle.voice_events.specs.Parts.{end_parts, start_parts}
 use Rattle.lily_writer.specs.Elements.{Element, element_text, elements_text, rest_value}
-use Rattle.lily_writer.specs.Pieces.{AreElements, Piece, Stretch, cut, first_graces, gap, notes, pieces_in, sounding}
-use Rattle.lily_writer.specs.Writing.{Writes}
+use Rattle.lily_writer.specs.Pieces.{AreElements, Piece, Stretch, cut, first_graces, bar_gap, notes, bar_pieces, sounding}
+use Rattle.lily_writer.specs.Writing.{WritesPieces}
 
 pub elements_append : (flats : Bool) (es fs : List Element) → elements_text flats (es ++ fs) ≡ elements_text flats es ++ elements_text
     flats fs
 elements_append flats es fs = flat_map-append (λ e. element_text flats e ++ codes " ") es fs
 
-pub writes_none : (resolution : ℕ) (flats : Bool) (text : List ℕ) → Writes resolution flats [] text text
+pub writes_none : (resolution : ℕ) (flats : Bool) (text : List ℕ) → WritesPieces resolution flats [] text text
 writes_none resolution flats text = ([], refl, sym (append-nil text))
 
 pub writes_one : (resolution : ℕ) (flats : Bool) (p : Piece) (es : List Element) (text new : List ℕ) → AreElements resolution p es
-    → new ≡ text ++ elements_text flats es → Writes resolution flats (p ∷ []) text new
+    → new ≡ text ++ elements_text flats es → WritesPieces resolution flats (p ∷ []) text new
 writes_one resolution flats p es text new are is =
     (es ∷ [], (are, refl), is ∙ ap (λ fs. text ++ elements_text flats fs) (sym (append-nil es)))
 
@@ -32,8 +32,8 @@ each_append {X} {Y} R [] us ys vs h k = subst (λ (zs : List Y). Each R us (zs +
 each_append R (x ∷ xs) us [] vs h k = absurd h
 each_append R (x ∷ xs) us (y ∷ ys) vs h k = (h.0, each_append R xs us ys vs h.1 k)
 
-pub writes_more : (resolution : ℕ) (flats : Bool) (ps qs : List Piece) (text middle new : List ℕ) → Writes resolution flats ps text middle
-    → Writes resolution flats qs middle new → Writes resolution flats (ps ++ qs) text new
+pub writes_more : (resolution : ℕ) (flats : Bool) (ps qs : List Piece) (text middle new : List ℕ) → WritesPieces resolution flats ps text middle
+    → WritesPieces resolution flats qs middle new → WritesPieces resolution flats (ps ++ qs) text new
 writes_more resolution flats ps qs text middle new (own, each, is) (others, too, same) =
     let all = flat_map-append (λ (es : List Element). es) own others in (
       own ++ others,
@@ -46,38 +46,38 @@ writes_more resolution flats ps qs text middle new (own, each, is) (others, too,
 
 -- ---- one stretch
 
-pub pieces_none : (from to : ℕ) (s : Stretch) → min to s.to ≤ max from s.from → pieces_in from to (s ∷ []) ≡ []
+pub pieces_none : (from to : ℕ) (s : Stretch) → min to s.to ≤ max from s.from → bar_pieces from to (s ∷ []) ≡ []
 pieces_none from to s none =
     let test : nat_lt (max from s.from) (min to s.to) ≡ false = grind (arith, nat_tests) in
     ap (λ b. cond b (cut from to s ∷ []) []) test
 
-pub pieces_one : (from to : ℕ) (s : Stretch) → max from s.from < min to s.to → pieces_in from to (s ∷ []) ≡ cut from to s ∷ []
+pub pieces_one : (from to : ℕ) (s : Stretch) → max from s.from < min to s.to → bar_pieces from to (s ∷ []) ≡ cut from to s ∷ []
 pieces_one from to s some =
     let test : nat_lt (max from s.from) (min to s.to) ≡ true = grind (arith, nat_tests) in
     ap (λ b. cond b (cut from to s ∷ []) []) test
 
 pub none_written : (resolution : ℕ) (flats : Bool) (from to first last : ℕ) (s : Stretch) (text : List ℕ) → first ≡ max from s.from
     → last ≡ min to s.to
-    → last ≤ first → Writes resolution flats (pieces_in from to (s ∷ [])) text text
+    → last ≤ first → WritesPieces resolution flats (bar_pieces from to (s ∷ [])) text text
 none_written resolution flats from to first last s text begin end none =
-    subst (λ ps. Writes resolution flats ps text text) (sym (pieces_none from to s (omega (arith, begin, end, none))))
+    subst (λ ps. WritesPieces resolution flats ps text text) (sym (pieces_none from to s (omega (arith, begin, end, none))))
     (writes_none resolution flats text)
 
 -- the elements of the piece that a stretch has in a bar
 one_written : (resolution : ℕ) (flats : Bool) (from to : ℕ) (s : Stretch) (es : List Element) (text new : List ℕ)
     → max from s.from < min to s.to
     → AreElements resolution (cut from to s) es → new ≡ text ++ elements_text flats es
-    → Writes resolution flats (pieces_in from to (s ∷ [])) text new
+    → WritesPieces resolution flats (bar_pieces from to (s ∷ [])) text new
 one_written resolution flats from to s es text new some are is =
-    subst (λ ps. Writes resolution flats ps text new) (sym (pieces_one from to s some))
+    subst (λ ps. WritesPieces resolution flats ps text new) (sym (pieces_one from to s some))
     (writes_one resolution flats (cut from to s) es text new are is)
 
 pub gap_written : (resolution : ℕ) (flats : Bool) (from to start end first last : ℕ) (values : List Value) (text new : List ℕ)
     → first ≡ max from start → last ≡ min to end → first < last → AreValues (last - first) (64 * resolution) values
-    → new ≡ text ++ elements_text flats (map rest_value values) → Writes resolution flats (pieces_in from to (gap start end ∷ [])) text new
+    → new ≡ text ++ elements_text flats (map rest_value values) → WritesPieces resolution flats (bar_pieces from to (bar_gap start end ∷ [])) text new
 gap_written resolution flats from to start end first last values text new begin finish some are is =
     let length : last - first ≡ min to end - max from start = omega (arith, begin, finish) in
-    one_written resolution flats from to (gap start end) (map rest_value values) text new (omega (arith, begin, finish, some))
+    one_written resolution flats from to (bar_gap start end) (map rest_value values) text new (omega (arith, begin, finish, some))
     (values, subst (λ n. AreValues n (64 * resolution) values) length are, refl) is
 
 pub span_written : (resolution : ℕ) (flats : Bool) (from to first last : ℕ) (x : Span) (begins goes : Bool) (values : List Value)
@@ -87,7 +87,7 @@ pub span_written : (resolution : ℕ) (flats : Bool) (from to first last : ℕ) 
     → AreValues (last - first) (64 * resolution) values
     → middle ≡ text ++ elements_text flats (first_graces begins x) → new ≡ middle ++ elements_text flats
     (notes x.keys (begins && x.short) goes values)
-    → Writes resolution flats (pieces_in from to (sounding resolution x ∷ [])) text new
+    → WritesPieces resolution flats (bar_pieces from to (sounding resolution x ∷ [])) text new
 span_written resolution flats from to first last x begins goes values text middle new begin finish some is_begin is_going are one two =
     let start = start_parts resolution x in
     let end = end_parts resolution x in

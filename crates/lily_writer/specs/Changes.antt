@@ -16,28 +16,28 @@ key_number (negsuc n) = 6 - n
 abbrev pub key_name : ℤ → List ℕ
 key_name sf = slice_index_or key_names (key_number sf) []
 
-abbrev pub key_line : ℤ → List ℕ
-key_line sf = codes "\\key " ++ key_name sf ++ codes " \\major"
+abbrev pub lily_key : ℤ → List ℕ
+lily_key sf = codes "\\key " ++ key_name sf ++ codes " \\major"
 
 abbrev pub time_line : ScoreBar → List ℕ
 time_line bar = codes "\\time " ++ decimal bar.num ++ codes "/" ++ decimal bar.den
 
-abbrev pub tempo_line : ScoreBar → List ℕ
-tempo_line bar = codes "\\tempo 4 = " ++ decimal (quarters_of_minute bar.tempo)
+abbrev pub lily_tempo : ScoreBar → List ℕ
+lily_tempo bar = codes "\\tempo 4 = " ++ decimal (quarters_of_minute bar.tempo)
 
 -- no key is said while there is none
-abbrev pub key_change : Option ℤ → Option ℤ → List (List ℕ)
-key_change before None = []
-key_change before (Some sf) = if same_key before sf then [] else key_line sf ∷ []
+abbrev pub lily_key_lines : Option ℤ → Option ℤ → List (List ℕ)
+lily_key_lines before None = []
+lily_key_lines before (Some sf) = if same_key before sf then [] else lily_key sf ∷ []
 
 abbrev pub time_change : Option ScoreBar → ScoreBar → List (List ℕ)
 time_change before bar = if same_signature before bar then [] else time_line bar ∷ []
 
 -- a tempo that is rounded to the same number has not changed
-abbrev pub tempo_change : Option ScoreBar → ScoreBar → List (List ℕ)
-tempo_change before bar = if same_tempo before bar then [] else tempo_line bar ∷ []
+abbrev pub lily_tempo_lines : Option ScoreBar → ScoreBar → List (List ℕ)
+lily_tempo_lines before bar = if same_tempo before bar then [] else lily_tempo bar ∷ []
 
 -- the lines before a bar, in their order. Tempos are said in the first staff alone
-abbrev pub changes : Bool → Option ScoreBar → ScoreBar → List (List ℕ)
-changes first before bar =
-    key_change (key_before before) bar.sf ++ time_change before bar ++ (if first then tempo_change before bar else [])
+abbrev pub lily_changes : Bool → Option ScoreBar → ScoreBar → List (List ℕ)
+lily_changes first before bar =
+    lily_key_lines (key_before before) bar.sf ++ time_change before bar ++ (if first then lily_tempo_lines before bar else [])

@@ -2,8 +2,8 @@
 use Rattle.std.specs.Prelude.{ℕ, Bool, if◌then◌else◌, List, [], ◌++◌, codes}
 use Rattle.std.specs.List.{flat_map}
 use Rattle.durations.specs.declared.value.Value.{Value}
-use Rattle.lily_writer.specs.Pitches.{chord_text}
-use Rattle.lily_writer.specs.Values.{value_text}
+use Rattle.lily_writer.specs.Pitches.{lily_chord}
+use Rattle.lily_writer.specs.Values.{lily_value}
 
 -- grace chords before a note; a value of a chord, of which the first one of a short chord is marked, and which is tied where
 -- another value of the chord follows; and a value of a rest
@@ -12,20 +12,20 @@ pub data Element : Type 0 where
   note_value : (keys : ℕ) (value : Value) (short : Bool) (tied : Bool) → Element
   rest_value : Value → Element
 
-abbrev pub short_mark : Bool → List ℕ
-short_mark short = if short then codes "-." else []
+abbrev pub lily_short : Bool → List ℕ
+lily_short short = if short then codes "-." else []
 
-abbrev pub tie_mark : Bool → List ℕ
-tie_mark tied = if tied then codes "~" else []
+abbrev pub lily_tie : Bool → List ℕ
+lily_tie tied = if tied then codes "~" else []
 
 -- a grace chord is an eighth
-abbrev pub grace_text : Bool → ℕ → List ℕ
-grace_text flats keys = chord_text flats keys ++ codes "8 "
+abbrev pub lily_grace : Bool → ℕ → List ℕ
+lily_grace flats keys = lily_chord flats keys ++ codes "8 "
 
 abbrev pub element_text : Bool → Element → List ℕ
-element_text flats (grace_group chords) = codes "\\grace { " ++ flat_map (grace_text flats) chords ++ codes "}"
-element_text flats (note_value keys value short tied) = chord_text flats keys ++ value_text value ++ short_mark short ++ tie_mark tied
-element_text flats (rest_value value) = codes "r" ++ value_text value
+element_text flats (grace_group chords) = codes "\\grace { " ++ flat_map (lily_grace flats) chords ++ codes "}"
+element_text flats (note_value keys value short tied) = lily_chord flats keys ++ lily_value value ++ lily_short short ++ lily_tie tied
+element_text flats (rest_value value) = codes "r" ++ lily_value value
 
 -- elements with a space after each
 abbrev pub elements_text : Bool → List Element → List ℕ

@@ -9,11 +9,11 @@ frac n d = record { num = n / gcd n d; den = d / gcd n d }
 abbrev pub nothing : Frac
 nothing = record { num = 0; den = 1 }
 
-abbrev pub plus : Frac → Frac → Frac
-plus f g = frac (f.num * g.den + g.num * f.den) (f.den * g.den)
+abbrev pub frac_plus : Frac → Frac → Frac
+frac_plus f g = frac (f.num * g.den + g.num * f.den) (f.den * g.den)
 
-abbrev pub times : Frac → Frac → Frac
-times f g = frac (f.num * g.num) (f.den * g.den)
+abbrev pub frac_times : Frac → Frac → Frac
+frac_times f g = frac (f.num * g.num) (f.den * g.den)
 
 abbrev pub same_frac : Frac → Frac → Bool
 same_frac f g = (f.num == g.num) && (f.den == g.den)

@@ -3,8 +3,8 @@ use Rattle.std.specs.Prelude.{ℕ, ◌^◌, Bool, true, false, ◌==◌, ◌&&�
 use Rattle.rhythm_base.specs.declared.span.Frac.{Frac}
 use Rattle.rhythm_base.specs.declared.span.Span.{Span}
 use Rattle.kern_reader.specs.Tokens.{◌>>=◌}
-use Rattle.lily_writer.specs.Fractions.{frac, nothing, plus, same_frac}
-use Rattle.lily_writer.specs.Words.{Ending, Word, closing_word, first_key, grace_word, last_key, middle_key, opening_word, rest_word, single_key, word_of}
+use Rattle.lily_writer.specs.Fractions.{frac, nothing, frac_plus, same_frac}
+use Rattle.lily_writer.specs.Words.{WordEnding, Word, closing_word, first_key, grace_word, last_key, middle_key, opening_word, rest_word, single_key, word_of}
 
 -- in a bar, after `\grace`, or within its braces
 pub data Side : Type 0 where
@@ -14,7 +14,7 @@ pub data Side : Type 0 where
 
 -- the spans that have ended; the place from the beginning of the score; the span that goes on by a tie; the side of the braces;
 -- the grace chords since the last note; and the keys since an opening angle
-pub record Heard : Type 0 where
+pub record HeardVoice : Type 0 where
   pub spans : List Span
   pub at : Frac
   pub going : Option Span
@@ -22,7 +22,7 @@ pub record Heard : Type 0 where
   pub graces : List ℕ
   pub keys : List ℕ
 
-abbrev pub unheard : Heard
+abbrev pub unheard : HeardVoice
 unheard = record { spans = []; at = nothing; going = None; side = outside; graces = []; keys = [] }
 
 abbrev pub is_none : {X : Type 0} → Option X → Bool
@@ -39,15 +39,15 @@ is_outside outside = true
 is_outside at_brace = false
 is_outside within = false
 
-abbrev pub is_between : Heard → Bool
+abbrev pub is_between : HeardVoice → Bool
 is_between h = is_outside h.side && (is_empty h.graces && is_empty h.keys)
 
 -- ---- chords
 
-abbrev pub rise : List ℕ → Bool
-rise [] = true
-rise (k ∷ []) = true
-rise (k ∷ j ∷ keys) = nat_lt k j && rise (j ∷ keys)
+abbrev pub heard_rise : List ℕ → Bool
+heard_rise [] = true
+heard_rise (k ∷ []) = true
+heard_rise (k ∷ j ∷ keys) = nat_lt k j && heard_rise (j ∷ keys)
 
 -- the number whose bits are the keys
 abbrev pub key_set : List ℕ → ℕ
@@ -55,36 +55,36 @@ key_set keys = sum (map (λ k. 2 ^ k) keys)
 
 -- the span of a chord with the value that was read: the one that goes on, longer by that value, where the keys are the same; else a
 -- new one
-abbrev pub span_with : Heard → Option Span → ℕ → Ending → Option Span
+abbrev pub span_with : HeardVoice → Option Span → ℕ → WordEnding → Option Span
 span_with h None keys e = Some (record { start = h.at; len = e.len; keys = keys; graces = h.graces; short = e.short })
 span_with h (Some x) keys e =
-    if (x.keys == keys) && (is_empty h.graces && not e.short) then Some (record x { len = plus x.len e.len }) else None
+    if (x.keys == keys) && (is_empty h.graces && not e.short) then Some (record x { len = frac_plus x.len e.len }) else None
 
 -- a span that is tied goes on, and another one has ended
-abbrev pub with_span : Heard → Ending → Span → Heard
+abbrev pub with_span : HeardVoice → WordEnding → Span → HeardVoice
 with_span h e x =
     if e.tied
-    then record h { at = plus h.at e.len; going = Some x; graces = []; keys = [] }
-    else record h { spans = h.spans ++ x ∷ []; at = plus h.at e.len; going = None; graces = []; keys = [] }
+    then record h { at = frac_plus h.at e.len; going = Some x; graces = []; keys = [] }
+    else record h { spans = h.spans ++ x ∷ []; at = frac_plus h.at e.len; going = None; graces = []; keys = [] }
 
-abbrev pub hear_note : Heard → ℕ → Ending → Option Heard
+abbrev pub hear_note : HeardVoice → ℕ → WordEnding → Option HeardVoice
 hear_note h keys e = span_with h h.going keys e >>= λ x. Some (with_span h e x)
 
 -- a grace chord is an eighth without a mark, and no note is tied to what follows it
-abbrev pub is_grace_value : Ending → Bool
+abbrev pub is_grace_value : WordEnding → Bool
 is_grace_value e = same_frac e.len (frac 1 8) && not (e.short || e.tied)
 
-abbrev pub hear_grace : Heard → ℕ → Ending → Option Heard
+abbrev pub hear_grace : HeardVoice → ℕ → WordEnding → Option HeardVoice
 hear_grace h keys e = if is_grace_value e then Some (record h { graces = h.graces ++ keys ∷ []; keys = [] }) else None
 
-abbrev pub hear_on_side : Side → Heard → ℕ → Ending → Option Heard
+abbrev pub hear_on_side : Side → HeardVoice → ℕ → WordEnding → Option HeardVoice
 hear_on_side outside h keys e = hear_note h keys e
 hear_on_side at_brace h keys e = None
 hear_on_side within h keys e = hear_grace h keys e
 
 -- keys with a value, by rising key
-abbrev pub hear_chord : Heard → List ℕ → Ending → Option Heard
-hear_chord h keys e = if rise keys then hear_on_side h.side h (key_set keys) e else None
+abbrev pub hear_chord : HeardVoice → List ℕ → WordEnding → Option HeardVoice
+hear_chord h keys e = if heard_rise keys then hear_on_side h.side h (key_set keys) e else None
 
 -- ---- words
 
@@ -95,25 +95,25 @@ hear_side within closing_word = Some outside
 hear_side _ _ = None
 
 -- a word of braces: they begin where nothing else is, and hold some grace chord
-abbrev pub hear_brace : Heard → Word → Option Heard
+abbrev pub hear_brace : HeardVoice → Word → Option HeardVoice
 hear_brace h word = hear_side h.side word >>= λ side. Some (record h { side = side })
 
-unfoldable pub hear : Heard → Word → Option Heard
+unfoldable pub hear : HeardVoice → Word → Option HeardVoice
 hear h grace_word = if is_between h && is_none h.going then hear_brace h grace_word else None
 hear h opening_word = hear_brace h opening_word
 hear h closing_word = if is_empty h.graces || not (is_empty h.keys) then None else hear_brace h closing_word
-hear h (rest_word len) = if is_between h && is_none h.going then Some (record h { at = plus h.at len }) else None
+hear h (rest_word len) = if is_between h && is_none h.going then Some (record h { at = frac_plus h.at len }) else None
 hear h (single_key key e) = if is_empty h.keys then hear_chord h (key ∷ []) e else None
 hear h (first_key key) = if is_empty h.keys then Some (record h { keys = key ∷ [] }) else None
 hear h (middle_key key) = if is_empty h.keys then None else Some (record h { keys = h.keys ++ key ∷ [] })
 hear h (last_key key e) = if is_empty h.keys then None else hear_chord h (h.keys ++ key ∷ []) e
 
-abbrev pub hear_word : Option Heard → List ℕ → Option Heard
+abbrev pub hear_word : Option HeardVoice → List ℕ → Option HeardVoice
 hear_word heard text = do
   h ← heard
   word ← word_of text
   hear h word
 
 -- after these words
-abbrev pub hear_words : Heard → List (List ℕ) → Option Heard
+abbrev pub hear_words : HeardVoice → List (List ℕ) → Option HeardVoice
 hear_words h texts = fold hear_word (Some h) texts

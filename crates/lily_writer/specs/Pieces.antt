@@ -15,17 +15,17 @@ pub record Stretch : Type 0 where
   pub to : ℕ
   pub span : Option Span
 
-abbrev pub gap : ℕ → ℕ → Stretch
-gap from to = record { from = from; to = to; span = None }
+abbrev pub bar_gap : ℕ → ℕ → Stretch
+bar_gap from to = record { from = from; to = to; span = None }
 
 abbrev pub sounding : ℕ → Span → Stretch
 sounding resolution x = record { from = start_parts resolution x; to = end_parts resolution x; span = Some x }
 
 -- those of a voice from a place on: the spans, a gap before each, and one after the last. A gap may be of no length
 abbrev pub stretches : ℕ → ℕ → ℕ → List Span → List Stretch
-stretches resolution from end [] = gap from end ∷ []
+stretches resolution from end [] = bar_gap from end ∷ []
 stretches resolution from end (x ∷ spans) =
-    gap from (start_parts resolution x) ∷ sounding resolution x ∷ stretches resolution (end_parts resolution x) end spans
+    bar_gap from (start_parts resolution x) ∷ sounding resolution x ∷ stretches resolution (end_parts resolution x) end spans
 
 -- ---- pieces
 
@@ -42,17 +42,17 @@ abbrev pub has_length : Piece → Bool
 has_length p = nat_lt p.from p.to
 
 -- the pieces in the bar from one place to another
-abbrev pub pieces_in : ℕ → ℕ → List Stretch → List Piece
-pieces_in from to ss = filter has_length (map (cut from to) ss)
+abbrev pub bar_pieces : ℕ → ℕ → List Stretch → List Piece
+bar_pieces from to ss = filter has_length (map (cut from to) ss)
 
 -- ---- the elements of a piece, by its values
 
-abbrev pub begins : Piece → Bool
-begins p = p.from == p.whole.from
+abbrev pub piece_begins : Piece → Bool
+piece_begins p = p.from == p.whole.from
 
 -- the span goes on after the bar
-abbrev pub goes_on : Piece → Bool
-goes_on p = nat_lt p.to p.whole.to
+abbrev pub piece_goes_on : Piece → Bool
+piece_goes_on p = nat_lt p.to p.whole.to
 
 abbrev pub grace_elements : List ℕ → List Element
 grace_elements [] = []
@@ -79,4 +79,4 @@ elements_of (Some x) first goes values = first_graces first x ++ notes x.keys (f
 abbrev pub AreElements : ℕ → Piece → List Element → Type 0
 AreElements resolution p es =
     (values : List Value) × AreValues (p.to - p.from) (64 * resolution) values
-    × (es ≡ elements_of p.whole.span (begins p) (goes_on p) values)
+    × (es ≡ elements_of p.whole.span (piece_begins p) (piece_goes_on p) values)

@@ -16,14 +16,14 @@ abbrev pub octave_marks : ℕ → List ℕ
 octave_marks octave = if nat_le 4 octave then replicate (octave - 4) 39 else replicate (4 - octave) 44
 
 -- the pitch of a key, with flats or with sharps
-abbrev pub pitch : Bool → ℕ → List ℕ
-pitch flats k = slice_index_or (names flats) (k % 12) [] ++ octave_marks (k / 12)
+abbrev pub lily_pitch : Bool → ℕ → List ℕ
+lily_pitch flats k = slice_index_or (names flats) (k % 12) [] ++ octave_marks (k / 12)
 
 -- one pitch stands alone, several between angles with a space between two
-abbrev pub chord_of : List (List ℕ) → List ℕ
-chord_of (pitch ∷ []) = pitch
-chord_of pitches = codes "<" ++ join_with_byte 32 pitches ++ codes ">"
+abbrev pub pitches_text : List (List ℕ) → List ℕ
+pitches_text (lily_pitch ∷ []) = lily_pitch
+pitches_text pitches = codes "<" ++ join_with_byte 32 pitches ++ codes ">"
 
 -- the pitches of a chord, by rising key
-abbrev pub chord_text : Bool → ℕ → List ℕ
-chord_text flats keys = chord_of (map (pitch flats) (rising_keys keys))
+abbrev pub lily_chord : Bool → ℕ → List ℕ
+lily_chord flats keys = pitches_text (map (lily_pitch flats) (rising_keys keys))

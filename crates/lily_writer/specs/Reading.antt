@@ -7,12 +7,12 @@ use Rattle.std.specs.Str.{bytes_eq}
 use Rattle.rhythm_base.specs.declared.span.Frac.{Frac}
 use Rattle.rhythm_base.specs.declared.span.Span.{Span}
 use Rattle.kern_reader.specs.declared.event.KernEvent.{KernEvent}
-use Rattle.kern_reader.specs.Events.{event}
+use Rattle.kern_reader.specs.Events.{span_event}
 use Rattle.kern_reader.specs.Lines.{signature_of_numbers}
 use Rattle.kern_reader.specs.Text.{kern_lines}
 use Rattle.kern_reader.specs.Tokens.{◌>>=◌}
-use Rattle.lily_writer.specs.Fractions.{frac, plus, same_frac}
-use Rattle.lily_writer.specs.Hearing.{Heard, hear_words, is_between, is_none, unheard}
+use Rattle.lily_writer.specs.Fractions.{frac, frac_plus, same_frac}
+use Rattle.lily_writer.specs.Hearing.{HeardVoice, hear_words, is_between, is_none, unheard}
 use Rattle.lily_writer.specs.Pitches.{words}
 
 -- ---- bars
@@ -24,10 +24,10 @@ words_of_bar (word ∷ []) = if bytes_eq word (codes "|") then Some [] else None
 words_of_bar (word ∷ next ∷ more) = option_map (λ ws. word ∷ ws) (words_of_bar (next ∷ more))
 
 -- after a bar: its values are as long as its signature says, and nothing but a tie goes on over the barline
-abbrev pub after_bar : Frac → Heard → Heard → Option Heard
-after_bar signature before h = if is_between h && same_frac h.at (plus before.at signature) then Some h else None
+abbrev pub after_bar : Frac → HeardVoice → HeardVoice → Option HeardVoice
+after_bar signature before h = if is_between h && same_frac h.at (frac_plus before.at signature) then Some h else None
 
-unfoldable pub hear_bar : Frac → Heard → List ℕ → Option Heard
+unfoldable pub hear_bar : Frac → HeardVoice → List ℕ → Option HeardVoice
 hear_bar signature h line = do
   ws ← words_of_bar (words line)
   next ← hear_words h ws
@@ -38,16 +38,16 @@ hear_bar signature h line = do
 -- what is known after some lines of a staff: the signature that was said last, and what was heard
 pub record Staff : Type 0 where
   pub signature : Option Frac
-  pub heard : Heard
+  pub heard : HeardVoice
 
 abbrev pub new_staff : Staff
 new_staff = record { signature = None; heard = unheard }
 
-abbrev pub with_heard : Staff → Heard → Staff
+abbrev pub with_heard : Staff → HeardVoice → Staff
 with_heard staff h = record { signature = staff.signature; heard = h }
 
-abbrev pub signature_of : List ℕ → Option Frac
-signature_of text = option_map (λ s. frac s.num s.den) (signature_of_numbers (slice_split (λ b. b == 47) text))
+abbrev pub bar_fraction : List ℕ → Option Frac
+bar_fraction text = option_map (λ s. frac s.num s.den) (signature_of_numbers (slice_split (λ b. b == 47) text))
 
 abbrev pub with_signature : Staff → Frac → Staff
 with_signature staff signature = record { signature = Some signature; heard = staff.heard }
@@ -56,7 +56,7 @@ with_signature staff signature = record { signature = Some signature; heard = st
 unfoldable pub hear_line : Staff → List ℕ → Option Staff
 hear_line staff line =
     if starts_with nat_eq line (codes "\\key ") || starts_with nat_eq line (codes "\\tempo ") then Some staff
-    else if starts_with nat_eq line (codes "\\time ") then option_map (with_signature staff) (signature_of (drop 6 line))
+    else if starts_with nat_eq line (codes "\\time ") then option_map (with_signature staff) (bar_fraction (drop 6 line))
     else (staff.signature >>= λ signature. option_map (with_heard staff) (hear_bar signature staff.heard line))
 
 -- the spans of a staff that ends: none of them goes on
@@ -78,7 +78,7 @@ events_of_lines spine None (line ∷ lines) =
     else None
 events_of_lines spine (Some staff) (line ∷ lines) =
     if bytes_eq line (codes "}")
-    then (staff_spans staff >>= λ spans. option_map (λ others. map (event spine) spans ++ others) (events_of_lines (suc spine) None lines))
+    then (staff_spans staff >>= λ spans. option_map (λ others. map (span_event spine) spans ++ others) (events_of_lines (suc spine) None lines))
     else (hear_line staff line >>= λ next. events_of_lines spine (Some next) lines)
 
 abbrev pub after_head : List (List ℕ) → Option (List (List ℕ))

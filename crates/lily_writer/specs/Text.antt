@@ -9,11 +9,11 @@ use Rattle.lily_writer.specs.Staves.{AreStaffLines, voice_spans}
 abbrev pub lines_text : List (List ℕ) → List ℕ
 lines_text lines = flat_map (λ line. line ++ (10 ∷ [])) lines
 
-abbrev pub head : List (List ℕ)
-head = codes "\\version \"2.24.0\"" ∷ codes "\\score {" ∷ codes "<<" ∷ []
+abbrev pub page_head : List (List ℕ)
+page_head = codes "\\version \"2.24.0\"" ∷ codes "\\score {" ∷ codes "<<" ∷ []
 
-abbrev pub tail : List (List ℕ)
-tail = codes ">>" ∷ codes "}" ∷ []
+abbrev pub page_tail : List (List ℕ)
+page_tail = codes ">>" ∷ codes "}" ∷ []
 
 -- the lines of the staff of a spine; the first one says the tempos
 abbrev pub IsStaff : ℕ → List ScoreBar → List KernEvent → ℕ → List (List ℕ) → Type 0
@@ -23,4 +23,4 @@ IsStaff resolution bars events spine lines = AreStaffLines resolution bars (spin
 abbrev pub IsLilyText : ℕ → List ScoreBar → ℕ → List KernEvent → List ℕ → Type 0
 IsLilyText resolution bars voices events text =
     (staves : List (List (List ℕ))) × Each (IsStaff resolution bars events) (range_with_len 1 voices) staves
-    × (text ≡ lines_text (head ++ flat_map (λ lines. lines) staves ++ tail))
+    × (text ≡ lines_text (page_head ++ flat_map (λ lines. lines) staves ++ page_tail))

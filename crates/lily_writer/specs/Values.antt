@@ -24,5 +24,5 @@ scale_text Breve = []
 scale_text Long = []
 
 -- dots stand before the scale
-abbrev pub value_text : Value → List ℕ
-value_text v = base_text v.recip ++ replicate v.dots 46 ++ scale_text v.recip
+abbrev pub lily_value : Value → List ℕ
+lily_value v = base_text v.recip ++ replicate v.dots 46 ++ scale_text v.recip

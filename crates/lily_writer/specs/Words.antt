@@ -8,7 +8,7 @@ use Rattle.rhythm_base.specs.declared.span.Frac.{Frac}
 use Rattle.rhythm_base.specs.Signatures.{is_den}
 use Rattle.kern_reader.specs.Text.{begins_with}
 use Rattle.kern_reader.specs.Tokens.{◌>>=◌, are_dots, number_of, within_keys}
-use Rattle.lily_writer.specs.Fractions.{frac, times}
+use Rattle.lily_writer.specs.Fractions.{frac, frac_times}
 use Rattle.lily_writer.specs.Pitches.{names}
 
 -- the longest front of bytes of a kind, and what stands behind it
@@ -37,8 +37,8 @@ marked_octave text =
     else if list_all (λ b. b == 44) text && nat_le (length text) 4 then Some (4 - length text)
     else None
 
-unfoldable pub key_of : List ℕ → Option ℕ
-key_of text = do
+unfoldable pub word_key : List ℕ → Option ℕ
+word_key text = do
   octave ← marked_octave (behind is_letter text)
   key ← named_key (front is_letter text)
   within_keys (12 * octave + key)
@@ -83,13 +83,13 @@ scale_of (b ∷ text) = if b == 42 then ratio_of (slice_split (λ b. b == 47) te
 -- ---- what stands after the pitches of a chord: a value, and marks
 
 -- how long a value is, whether it is marked short, and whether it is tied to the next one
-pub record Ending : Type 0 where
+pub record WordEnding : Type 0 where
   pub len : Frac
   pub short : Bool
   pub tied : Bool
 
-abbrev pub marks_of : List ℕ → Option (Bool × Bool)
-marks_of text =
+abbrev pub word_marks : List ℕ → Option (Bool × Bool)
+word_marks text =
     if bytes_eq text [] then Some (false, false)
     else if bytes_eq text (codes "-.") then Some (true, false)
     else if bytes_eq text (codes "~") then Some (false, true)
@@ -102,13 +102,13 @@ after_base text = behind is_base_byte text
 abbrev pub after_dots : List ℕ → List ℕ
 after_dots text = behind is_dot (after_base text)
 
-unfoldable pub ending_of : List ℕ → Option Ending
-ending_of text = do
+unfoldable pub word_ending : List ℕ → Option WordEnding
+word_ending text = do
   base ← base_of (front is_base_byte text)
   dots ← dotted (front is_dot (after_base text))
   scale ← scale_of (front is_scale_byte (after_dots text))
-  marks ← marks_of (behind is_scale_byte (after_dots text))
-  Some (record { len = times (times base dots) scale; short = marks.0; tied = marks.1 })
+  marks ← word_marks (behind is_scale_byte (after_dots text))
+  Some (record { len = frac_times (frac_times base dots) scale; short = marks.0; tied = marks.1 })
 
 -- ---- words
 
@@ -119,33 +119,33 @@ pub data Word : Type 0 where
   opening_word : Word
   closing_word : Word
   rest_word : Frac → Word
-  single_key : ℕ → Ending → Word
+  single_key : ℕ → WordEnding → Word
   first_key : ℕ → Word
   middle_key : ℕ → Word
-  last_key : ℕ → Ending → Word
+  last_key : ℕ → WordEnding → Word
 
 -- a rest has no marks
-abbrev pub rest_of : Ending → Option Word
-rest_of e = if e.short || e.tied then None else Some (rest_word e.len)
+abbrev pub word_rest : WordEnding → Option Word
+word_rest e = if e.short || e.tied then None else Some (rest_word e.len)
 
-abbrev pub is_pitch_byte : ℕ → Bool
-is_pitch_byte b = is_letter b || ((b == 39) || (b == 44))
+abbrev pub is_lily_pitch_byte : ℕ → Bool
+is_lily_pitch_byte b = is_letter b || ((b == 39) || (b == 44))
 
 -- a key, and what stands after its pitch
 abbrev pub word_of_key : ℕ → List ℕ → Option Word
 word_of_key key [] = Some (middle_key key)
 word_of_key key (b ∷ text) =
-    if b == 62 then option_map (λ e. last_key key e) (ending_of text)
-    else option_map (λ e. single_key key e) (ending_of (b ∷ text))
+    if b == 62 then option_map (λ e. last_key key e) (word_ending text)
+    else option_map (λ e. single_key key e) (word_ending (b ∷ text))
 
 unfoldable pub pitched_word : List ℕ → Option Word
-pitched_word text = key_of (front is_pitch_byte text) >>= λ key. word_of_key key (behind is_pitch_byte text)
+pitched_word text = word_key (front is_lily_pitch_byte text) >>= λ key. word_of_key key (behind is_lily_pitch_byte text)
 
 unfoldable pub word_of : List ℕ → Option Word
 word_of text =
     if bytes_eq text (codes "\\grace") then Some grace_word
     else if bytes_eq text (codes "{") then Some opening_word
     else if bytes_eq text (codes "}") then Some closing_word
-    else if begins_with 114 text then ending_of (drop 1 text) >>= rest_of
-    else if begins_with 60 text then option_map (λ key. first_key key) (key_of (drop 1 text))
+    else if begins_with 114 text then word_ending (drop 1 text) >>= word_rest
+    else if begins_with 60 text then option_map (λ key. first_key key) (word_key (drop 1 text))
     else pitched_word text

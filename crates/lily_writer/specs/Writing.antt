@@ -7,11 +7,11 @@ use Rattle.rhythm_base.specs.Lists.{Each}
 use Rattle.voice_events.specs.Parts.{end_parts}
 use Rattle.voice_events.specs.VoiceEvents.{FollowFrom, IsVoiceSpan}
 use Rattle.lily_writer.specs.Elements.{Element, elements_text}
-use Rattle.lily_writer.specs.Pieces.{AreElements, Piece, Stretch, pieces_in, stretches}
+use Rattle.lily_writer.specs.Pieces.{AreElements, Piece, Stretch, bar_pieces, stretches}
 
 -- the elements of these pieces are written after a text
-abbrev pub Writes : ℕ → Bool → List Piece → List ℕ → List ℕ → Type 0
-Writes resolution flats pieces before after =
+abbrev pub WritesPieces : ℕ → Bool → List Piece → List ℕ → List ℕ → Type 0
+WritesPieces resolution flats pieces before after =
     (own : List (List Element)) × Each (AreElements resolution) pieces own
     × (after ≡ before ++ elements_text flats (flat_map (λ es. es) own))
 
@@ -35,7 +35,7 @@ pub record IsAhead (resolution : ℕ) (a : Ahead) : Type 0 where
 abbrev pub StandsAhead : ℕ → ℕ → Ahead → Ahead → Type 0
 StandsAhead resolution to before after =
     (from' to' : ℕ) → to ≤ from'
-    → pieces_in from' to' (stretches_ahead resolution after) ≡ pieces_in from' to' (stretches_ahead resolution before)
+    → bar_pieces from' to' (stretches_ahead resolution after) ≡ bar_pieces from' to' (stretches_ahead resolution before)
 
 -- the first of the spans ends after a place
 abbrev pub EndsAfter : ℕ → ℕ → List Span → Type 0
@@ -45,13 +45,13 @@ EndsAfter resolution to (x ∷ spans) = to < end_parts resolution x
 -- what ends in the bar from one place to another is written after a text, and passed
 pub record HasPassed (resolution from to : ℕ) (flats : Bool) (before after : Ahead) (text new : List ℕ) : Type 0 where
   pub pieces : List Piece
-  pub written : Writes resolution flats pieces text new
-  pub others : pieces ++ pieces_in from to (stretches_ahead resolution after) ≡ pieces_in from to (stretches_ahead resolution before)
+  pub written : WritesPieces resolution flats pieces text new
+  pub others : pieces ++ bar_pieces from to (stretches_ahead resolution after) ≡ bar_pieces from to (stretches_ahead resolution before)
   pub later : StandsAhead resolution to before after
   pub ahead : IsAhead resolution after
 
 -- all of the bar is written, and what ends in it passed
 pub record HasWrittenBar (resolution from to : ℕ) (flats : Bool) (before after : Ahead) (text new : List ℕ) : Type 0 where
-  pub written : Writes resolution flats (pieces_in from to (stretches_ahead resolution before)) text new
+  pub written : WritesPieces resolution flats (bar_pieces from to (stretches_ahead resolution before)) text new
   pub later : StandsAhead resolution to before after
   pub ahead : IsAhead resolution after

@@ -1,5 +1,5 @@
-ghost use Rattle.lily_writer.specs.Pieces.{pieces_in};
-ghost use Rattle.lily_writer.specs.Writing.{EndsAfter, HasPassed, HasWrittenBar, IsAhead, Writes, stretches_ahead};
+ghost use Rattle.lily_writer.specs.Pieces.{bar_pieces};
+ghost use Rattle.lily_writer.specs.Writing.{EndsAfter, HasPassed, HasWrittenBar, IsAhead, WritesPieces, stretches_ahead};
 ghost use Rattle.std.specs.Prelude.{◌+◌, ◌*◌, ◌≤◌, IfOk, OnOk};
 
 use crate::extent::Extent;
@@ -76,7 +76,7 @@ fn write_front(
     requires ahead { IsAhead resolution ahead.now }
     requires next { EndsAfter resolution bar.to ahead.now.spans }
     requires few { bar.to ≤ bar.from + 64 * (64 * resolution) }
-    ensures { OnOk result (Writes resolution flats (pieces_in bar.from bar.to (stretches_ahead resolution ahead.now))
+    ensures { OnOk result (WritesPieces resolution flats (bar_pieces bar.from bar.to (stretches_ahead resolution ahead.now))
         text.old.items text.new.items) }
 {
     match ahead.events {

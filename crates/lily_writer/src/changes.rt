@@ -2,7 +2,7 @@ ghost use Rattle.derivation.specs.Score.{IsKeySignature, IsScoreBar};
 ghost use Rattle.kern_writer.specs.Changes as kern;
 ghost use Rattle.kern_writer.specs.Changes.{key_before, quarters_of_minute};
 ghost use Rattle.lily_writer.specs.Changes as definitions;
-ghost use Rattle.lily_writer.specs.Changes.{changes, key_change, key_line, key_names, tempo_change, tempo_line, time_change, time_line};
+ghost use Rattle.lily_writer.specs.Changes.{lily_changes, lily_key_lines, lily_key, key_names, lily_tempo_lines, lily_tempo, time_change, time_line};
 ghost use Rattle.lily_writer.specs.Text.{lines_text};
 ghost use Rattle.std.specs.Prelude.{◌≡◌, ◌∷◌, ◌<◌, ◌++◌, [], IfSome, OnOk, slice_index_or};
 
@@ -91,7 +91,7 @@ fn push_key_name(text: &mut Vec<u8>, number: u8) -> Result<(), AllocError>
 /// Writes the line of a key.
 fn write_key_line(text: &mut Vec<u8>, sf: i8) -> Result<(), AllocError>
     requires { IsKeySignature sf }
-    ensures { OnOk result (text.new.items ≡ text.old.items ++ lines_text (key_line sf ∷ [])) }
+    ensures { OnOk result (text.new.items ≡ text.old.items ++ lines_text (lily_key sf ∷ [])) }
 {
     text.extend_from_slice(b"\\key ")?;
     push_key_name(text, key_number(sf))?;
@@ -101,7 +101,7 @@ fn write_key_line(text: &mut Vec<u8>, sf: i8) -> Result<(), AllocError>
 /// Writes the key of a bar, where it has one and it is not the one before.
 fn write_key(text: &mut Vec<u8>, before: Option<i8>, key: Option<i8>) -> Result<(), AllocError>
     requires { IfSome key IsKeySignature }
-    ensures { OnOk result (text.new.items ≡ text.old.items ++ lines_text (key_change before key)) }
+    ensures { OnOk result (text.new.items ≡ text.old.items ++ lines_text (lily_key_lines before key)) }
 {
     match key {
         Some(sf) if !is_same_key(before, sf) => write_key_line(text, sf),
@@ -136,7 +136,7 @@ fn write_tempo(
 ) -> Result<(), AllocError>
     requires before { IfSome before IsScoreBar }
     requires bar { IsScoreBar bar.now }
-    ensures { OnOk result (text.new.items ≡ text.old.items ++ lines_text (tempo_change before bar.now)) }
+    ensures { OnOk result (text.new.items ≡ text.old.items ++ lines_text (lily_tempo_lines before bar.now)) }
 {
     if is_same_tempo(before, bar) {
         return Ok(());
@@ -156,7 +156,7 @@ pub(crate) fn write_changes(
 ) -> Result<(), AllocError>
     requires before { IfSome before IsScoreBar }
     requires bar { IsScoreBar bar.now }
-    ensures { OnOk result (text.new.items ≡ text.old.items ++ lines_text (changes first before bar.now)) }
+    ensures { OnOk result (text.new.items ≡ text.old.items ++ lines_text (lily_changes first before bar.now)) }
 {
     write_key(text, key_of(before), bar.sf)?;
     write_time(text, before, bar)?;

@@ -1,6 +1,6 @@
 ghost use Rattle.kern_writer.specs.Tokens.{rising_keys};
-ghost use Rattle.lily_writer.specs.Pitches.{chord_text, pitch};
-ghost use Rattle.kern_writer.specs.Shared.{between};
+ghost use Rattle.lily_writer.specs.Pitches.{lily_chord, lily_pitch};
+ghost use Rattle.kern_writer.specs.Shared.{separator_text};
 ghost use Rattle.std.specs.List.{join_with_byte};
 ghost use Rattle.std.specs.Prelude.{◌≡◌, ◌++◌, OnOk, length, map};
 
@@ -23,7 +23,7 @@ fn key_count(keys: Keys) -> usize
 
 /// Appends a byte, but before what is the first.
 fn push_between(text: &mut Vec<u8>, byte: u8, number: usize) -> Result<(), AllocError>
-    ensures { OnOk result (text.new.items ≡ text.old.items ++ between byte number) }
+    ensures { OnOk result (text.new.items ≡ text.old.items ++ separator_text byte number) }
 {
     if number > 0 {
         text.push(byte)?;
@@ -33,7 +33,7 @@ fn push_between(text: &mut Vec<u8>, byte: u8, number: usize) -> Result<(), Alloc
 
 /// Appends the pitches of a chord by rising key, with a space between two.
 fn push_pitches(text: &mut Vec<u8>, flats: bool, keys: Keys) -> Result<(), AllocError>
-    ensures { OnOk result (text.new.items ≡ text.old.items ++ join_with_byte 32 (map (pitch flats) (rising_keys keys))) }
+    ensures { OnOk result (text.new.items ≡ text.old.items ++ join_with_byte 32 (map (lily_pitch flats) (rising_keys keys))) }
 {
     let mut number = 0;
     'keys: for key in 0..128 {
@@ -48,7 +48,7 @@ fn push_pitches(text: &mut Vec<u8>, flats: bool, keys: Keys) -> Result<(), Alloc
 
 /// Appends a chord: the pitch of its key, or those of several between angles.
 pub(crate) fn push_chord(text: &mut Vec<u8>, flats: bool, keys: Keys) -> Result<(), AllocError>
-    ensures { OnOk result (text.new.items ≡ text.old.items ++ chord_text flats keys) }
+    ensures { OnOk result (text.new.items ≡ text.old.items ++ lily_chord flats keys) }
 {
     if key_count(keys) == 1 {
         return push_pitches(text, flats, keys);

@@ -1,4 +1,4 @@
-ghost use Rattle.lily_writer.specs.Elements.{element_text, elements_text, grace_text, note_value, rest_value, short_mark, tie_mark};
+ghost use Rattle.lily_writer.specs.Elements.{element_text, elements_text, lily_grace, note_value, rest_value, lily_short, lily_tie};
 ghost use Rattle.lily_writer.specs.Pieces as pieces;
 ghost use Rattle.lily_writer.specs.Pieces.{first_graces, grace_elements};
 ghost use Rattle.durations.specs.Value.{plain_grid};
@@ -13,7 +13,7 @@ use std::alloc::AllocError;
 
 /// Appends the marks of a value of a chord: of the first one of a short chord, and of one that is tied to the next.
 fn push_marks(text: &mut Vec<u8>, short: bool, tied: bool) -> Result<(), AllocError>
-    ensures { OnOk result (text.new.items ≡ text.old.items ++ (short_mark short ++ tie_mark tied)) }
+    ensures { OnOk result (text.new.items ≡ text.old.items ++ (lily_short short ++ lily_tie tied)) }
 {
     if short {
         text.extend_from_slice(b"-.")?;
@@ -90,7 +90,7 @@ pub(crate) fn push_rests(text: &mut Vec<u8>, values: &[Value]) -> Result<(), All
 
 /// Appends grace chords as eighths, with a space after each.
 fn push_grace_chords(text: &mut Vec<u8>, flats: bool, chords: &[Keys]) -> Result<(), AllocError>
-    ensures { OnOk result (text.new.items ≡ text.old.items ++ flat_map (grace_text flats) chords.now) }
+    ensures { OnOk result (text.new.items ≡ text.old.items ++ flat_map (lily_grace flats) chords.now) }
 {
     'chords: for keys in chords {
         push_chord(text, flats, *keys)?;

@@ -1,5 +1,5 @@
-ghost use Rattle.lily_writer.specs.Pieces.{gap, pieces_in, sounding};
-ghost use Rattle.lily_writer.specs.Writing.{Writes};
+ghost use Rattle.lily_writer.specs.Pieces.{bar_gap, bar_pieces, sounding};
+ghost use Rattle.lily_writer.specs.Writing.{WritesPieces};
 ghost use Rattle.rhythm_base.specs.declared.limits.TheConstants.{MOST_UNITS};
 ghost use Rattle.durations.specs.Value.{plain_grid};
 ghost use Rattle.durations.specs.Values.{AreValues};
@@ -37,7 +37,7 @@ pub(crate) fn write_gap(
     requires some_unit { 1 ≤ resolution }
     requires few_units { resolution ≤ MOST_UNITS }
     requires few { bar.to ≤ bar.from + 64 * (64 * resolution) }
-    ensures { OnOk result ((flats : Bool) → Writes resolution flats (pieces_in bar.from bar.to (gap whole.from whole.to ∷ []))
+    ensures { OnOk result ((flats : Bool) → WritesPieces resolution flats (bar_pieces bar.from bar.to (bar_gap whole.from whole.to ∷ []))
         text.old.items text.new.items) }
 {
     let piece = whole.cut(bar);
@@ -62,7 +62,7 @@ pub(crate) fn write_span(
     requires few { bar.to ≤ bar.from + 64 * (64 * resolution) }
     requires span { IsVoiceSpan resolution span.now }
     requires small { end_parts resolution span.now < 2 ^ 60 }
-    ensures { OnOk result (Writes resolution flats (pieces_in bar.from bar.to (sounding resolution span.now ∷ []))
+    ensures { OnOk result (WritesPieces resolution flats (bar_pieces bar.from bar.to (sounding resolution span.now ∷ []))
         text.old.items text.new.items) }
 {
     let whole = extent_of(span, resolution);

@@ -1,7 +1,7 @@
 ghost use Rattle.lily_writer.specs.Pitches as definitions;
 ghost use Rattle.lily_writer.specs.Pitches.{names, octave_marks};
-ghost use Rattle.rhythm_base.specs.Pitch as pitches;
-ghost use Rattle.rhythm_base.specs.Pitch.{letters};
+ghost use Rattle.durations.specs.Pitch as pitches;
+ghost use Rattle.durations.specs.Pitch.{letters};
 ghost use Rattle.std.specs.Prelude.{◌≡◌, ◌++◌, ◌<◌, ◌%◌, [], OnOk, replicate, slice_index, slice_index_or};
 
 use std::alloc::AllocError;
@@ -67,7 +67,7 @@ fn push_octave(text: &mut Vec<u8>, octave: u8) -> Result<(), AllocError>
 
 /// Appends the pitch of a key, with flats or with sharps.
 pub(crate) fn push_pitch(text: &mut Vec<u8>, flats: bool, key: u8) -> Result<(), AllocError>
-    ensures { OnOk result (text.new.items ≡ text.old.items ++ definitions.pitch flats key) }
+    ensures { OnOk result (text.new.items ≡ text.old.items ++ definitions.lily_pitch flats key) }
 {
     push_name(text, flats, key % 12)?;
     push_octave(text, key / 12)

@@ -12,8 +12,8 @@ use rhythm_base::{Frac, Span};
 /// How many parts of 1/`whole` a number of whole notes is.
 fn parts_of(number: Frac, whole: u64) -> u64
     requires whole { IsWhole whole number }
-    requires small { parts.parts_of whole number < 2 ^ 60 }
-    ensures { result ≡ parts.parts_of whole number }
+    requires small { parts.frac_parts whole number < 2 ^ 60 }
+    ensures { result ≡ parts.frac_parts whole number }
 {
     number.num * (whole / number.den)
 }
@@ -37,7 +37,7 @@ pub(crate) fn extent_of(span: &Span, resolution: u16) -> Extent
 pub(crate) fn bar_parts(bar: &ScoreBar, resolution: u16) -> u64
     requires bar { IsScoreBar bar.now }
     requires units { resolution ≤ MOST_UNITS }
-    ensures parts { result ≡ parts.bar_parts resolution bar.now }
+    ensures parts { result ≡ parts.score_bar_parts resolution bar.now }
     ensures few { result ≤ 64 * (64 * resolution) }
 {
     u64::from(resolution) * (u64::from(bar.num) * (64 / u64::from(bar.den)))

@@ -1,7 +1,7 @@
 ghost use Rattle.derivation.specs.Score.{IsScoreBar};
 ghost use Rattle.kern_writer.specs.Tokens as tokens;
 ghost use Rattle.lily_writer.specs.Pieces.{stretches};
-ghost use Rattle.lily_writer.specs.Staves.{AreBarLines, AreStaffLines, spans_of};
+ghost use Rattle.lily_writer.specs.Staves.{AreBarsOfStaff, AreStaffLines, spans_of};
 ghost use Rattle.lily_writer.specs.Text.{lines_text};
 ghost use Rattle.rhythm_base.specs.declared.limits.TheConstants.{MOST_UNITS};
 ghost use Rattle.std.specs.Prelude.{◌≡◌, ◌^◌, ◌≤◌, ◌++◌, ℕ, List, None, All, OnOk, length};
@@ -41,7 +41,7 @@ fn write_bars(
     requires few_bars { length bars.now ≤ 2 ^ 32 }
     requires events { AreOfVoice resolution (parts.score_parts resolution bars.now) (spans_of events.now) }
     ensures { OnOk result ((lines : List (List ℕ))
-        × AreBarLines resolution first (stretches resolution 0 (parts.score_parts resolution bars.now) (spans_of events.now))
+        × AreBarsOfStaff resolution first (stretches resolution 0 (parts.score_parts resolution bars.now) (spans_of events.now))
         None 0 bars.now lines
         × (text.new.items ≡ text.old.items ++ lines_text lines)) }
 {

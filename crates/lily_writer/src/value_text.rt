@@ -1,5 +1,5 @@
 ghost use Rattle.lily_writer.specs.Values as definitions;
-ghost use Rattle.lily_writer.specs.Values.{base_text, scale_of_part, scale_text, value_text};
+ghost use Rattle.lily_writer.specs.Values.{base_text, scale_of_part, scale_text, lily_value};
 ghost use Rattle.durations.specs.Value.{plain_grid};
 ghost use Rattle.std.specs.Prelude.{◌≡◌, ◌≤◌, ◌++◌, OnOk, decimal};
 
@@ -63,7 +63,7 @@ fn push_base(text: &mut Vec<u8>, recip: Recip) -> Result<(), AllocError>
 /// Appends a value.
 pub(crate) fn push_value(text: &mut Vec<u8>, value: Value) -> Result<(), AllocError>
     requires { 1 ≤ plain_grid value.recip }
-    ensures { OnOk result (text.new.items ≡ text.old.items ++ value_text value) }
+    ensures { OnOk result (text.new.items ≡ text.old.items ++ lily_value value) }
 {
     push_base(text, value.recip)?;
     push_times(text, b'.', value.dots)?;

@@ -1,7 +1,7 @@
 ghost use Rattle.derivation.specs.WellSounded.{AreKeys, AreWellSounded, IsWellSounding, StandInBars, TiesGoOn};
 ghost use Rattle.derivation.specs.Score.{IsKeySignature, IsScore, IsScoreBar};
 ghost use Rattle.rhythm_base.specs.Signatures.{is_den};
-ghost use Rattle.rhythm_base.specs.Spans.{is_rest};
+ghost use Rattle.rhythm_base.specs.SoundKinds.{is_rest};
 ghost use Rattle.std.specs.Prelude.{[], ◌∷◌, ◌≡◌, ◌≢◌, ◌≤◌, ◌<◌, ◌^◌, All, IfOk, IfSome, IsTrue, None, Some, false, length, true};
 
 use derivation::{Score, ScoreBar, VoiceSounds};

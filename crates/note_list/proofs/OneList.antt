@@ -11,7 +11,7 @@ use Rattle.std.proofs.lemmas.List.Sorted.{sorted_far, ranks_by, Contains-permuta
 use Rattle.rhythm_base.specs.declared.event.Event.{Event}
 use Rattle.rhythm_base.specs.declared.note.Note.{Note}
 use Rattle.rhythm_base.specs.Notes.{AreNotes, IsKept, begun}
-use Rattle.rhythm_laws.proofs.FirstLists.{one_order}
+use Rattle.rhythm_base.proofs.FirstLists.{one_order}
 use Rattle.note_list.specs.Pairing.{IsEventOf, IsPlayed, NotesAreOne, rank_of_note}
 use Rattle.note_list.proofs.Among.{Among, among_at, among_contained, place_among, all_among, all_from_among}
 use Rattle.note_list.proofs.Places.{IsBefore, Follows, follows, not_both}

@@ -10,7 +10,7 @@ use Rattle.std.proofs.lemmas.Bool.Decides.{nat_tests}
 use Rattle.std.proofs.lemmas.Fmt.{decimal_injective, digits_decimal}
 use Rattle.std.proofs.lemmas.List.Folds.{list_all-append}
 use Rattle.rhythm_base.proofs.Numerals.{numerals}
-use Rattle.notes_writer.specs.Line.{signature_text}
+use Rattle.notes_writer.specs.Line.{record_signature}
 use Rattle.notes_writer.proofs.WordsApart.{is_graphic, pieces_apart}
 
 digits_graphic : (ds : List ℕ) → list_all is_ascii_digit ds ≡ true → list_all is_graphic ds ≡ true
@@ -27,7 +27,7 @@ digits_are n h = digits_decimal numerals n h
 pub number_graphic : (n : ℕ) → n < 2 ^ 64 → list_all is_graphic (decimal n) ≡ true
 number_graphic n h = digits_graphic (decimal n) (digits_are n h)
 
-pub signature_graphic : (num den : ℕ) → num < 2 ^ 64 → den < 2 ^ 64 → list_all is_graphic (signature_text num den) ≡ true
+pub signature_graphic : (num den : ℕ) → num < 2 ^ 64 → den < 2 ^ 64 → list_all is_graphic (record_signature num den) ≡ true
 signature_graphic num den h k =
     let front : list_all is_graphic (decimal num ++ (47 ∷ [])) ≡ true =
     list_all-append is_graphic (decimal num) (47 ∷ []) ∙ and_from (list_all is_graphic (decimal num)) true (number_graphic num h) refl in
@@ -39,7 +39,7 @@ sharps_graphic (pos n) h = number_graphic n (omega (arith, h))
 sharps_graphic (negsuc n) h = number_graphic _ (omega (arith, h))
 
 pub signature_one : (num den some other : ℕ) → num < 2 ^ 64 → den < 2 ^ 64 → some < 2 ^ 64 → other < 2 ^ 64
-    → signature_text num den ≡ signature_text some other → (num ≡ some) × (den ≡ other)
+    → record_signature num den ≡ record_signature some other → (num ≡ some) × (den ≡ other)
 signature_one num den some other a b c d e =
     let split = pieces_apart is_ascii_digit (decimal num) (decimal some) 47 47 (decimal den) (decimal other)
     (digits_are num a) (digits_are some c) refl refl

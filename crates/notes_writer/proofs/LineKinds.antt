@@ -8,8 +8,8 @@ use Rattle.rhythm_base.specs.declared.event.KeyMark.{KeyMark}
 use Rattle.rhythm_base.specs.declared.event.Tempo.{Tempo}
 use Rattle.rhythm_base.specs.declared.note.Bar.{Bar}
 use Rattle.rhythm_base.specs.declared.note.Note.{Note}
-use Rattle.notes_writer.specs.Line.{signature_text}
-use Rattle.notes_writer.specs.NotesText.{bar_line, end_line, key_line, note_line, tempo_line}
+use Rattle.notes_writer.specs.Line.{record_signature}
+use Rattle.notes_writer.specs.NotesText.{bar_record, end_line, key_record, note_line, tempo_record}
 use Rattle.notes_writer.proofs.Graphic.{number_graphic, sharps_graphic, signature_graphic, signature_one}
 use Rattle.notes_writer.proofs.RunsApart.{IsKind}
 use Rattle.notes_writer.proofs.WordsApart.{AreGraphic}
@@ -51,23 +51,23 @@ pub record IsSmallNote (n : Note) : Type 0 where
   pub onset : n.onset < 2 ^ 64
   pub end : n.end < 2 ^ 64
 
-pub bars : IsKind bar_byte IsSmallBar bar_line
+pub bars : IsKind bar_byte IsSmallBar bar_record
 bars = record {
   name = codes "ar";
-  words = λ x. decimal x.0 ∷ decimal x.1.start ∷ signature_text x.1.num x.1.den ∷ [];
+  words = λ x. decimal x.0 ∷ decimal x.1.start ∷ record_signature x.1.num x.1.den ∷ [];
   is = λ x. refl;
   graphic = λ x h. (refl, (number_graphic x.0 h.number, (number_graphic x.1.start h.start, (signature_graphic x.1.num x.1.den h.num h.den, tt))));
   one = λ x y h k e.
       let first : decimal x.0 ≡ decimal y.0 = cc in
       let second : decimal x.1.start ≡ decimal y.1.start = cc in
-      let third : signature_text x.1.num x.1.den ≡ signature_text y.1.num y.1.den = cc in
+      let third : record_signature x.1.num x.1.den ≡ record_signature y.1.num y.1.den = cc in
       let number = decimal_injective x.0 y.0 h.number k.number first in
       let start = decimal_injective x.1.start y.1.start h.start k.start second in
       let signature = signature_one x.1.num x.1.den y.1.num y.1.den h.num h.den k.num k.den third in
       λ i. (number i, record { start = start i; num = signature.0 i; den = signature.1 i });
 }
 
-pub tempos : IsKind tempo_byte IsSmallTempo tempo_line
+pub tempos : IsKind tempo_byte IsSmallTempo tempo_record
 tempos = record {
   name = codes "empo";
   words = λ t. decimal t.tick ∷ decimal t.micros ∷ [];
@@ -81,7 +81,7 @@ tempos = record {
       λ i. record { tick = tick i; micros = micros i };
 }
 
-pub keys : IsKind key_byte IsSmallKey key_line
+pub keys : IsKind key_byte IsSmallKey key_record
 keys = record {
   name = codes "ey";
   words = λ t. decimal t.tick ∷ signed_decimal t.sf ∷ [];

@@ -6,7 +6,7 @@ use Rattle.rhythm_base.specs.declared.event.Signature.{Signature}
 use Rattle.rhythm_base.specs.declared.note.Bar.{Bar}
 use Rattle.rhythm_base.specs.Bars.{AreLaid, nominal_at}
 use Rattle.rhythm_base.specs.Performance.{IsBarOf, IsWellFormed, Performance}
-use Rattle.rhythm_laws.proofs.OrderedLists.{all_head}
+use Rattle.rhythm_base.proofs.OrderedLists.{all_head}
 use Rattle.notes_writer.specs.Told.{HasLaidBars}
 
 -- the barline before some bars

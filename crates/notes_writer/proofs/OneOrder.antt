@@ -8,10 +8,10 @@ use Rattle.std.proofs.lemmas.Cmp.{nat_list_cmp_total}
 use Rattle.std.proofs.lemmas.List.Sorted.{Contains-permutation, IsPermutation-sym, IsPermutation-trans}
 use Rattle.rhythm_base.specs.declared.note.Note.{Note}
 use Rattle.rhythm_base.specs.Lists.{AreInOrder}
-use Rattle.rhythm_laws.proofs.FirstLists.{one_earlier, one_order}
+use Rattle.rhythm_base.proofs.FirstLists.{one_earlier, one_order}
 use Rattle.notes_writer.specs.ByOnset.{AreByOnset, place_in_text}
-use Rattle.notes_writer.specs.Laws.{TextsAreOne}
-use Rattle.notes_writer.specs.NotesText.{records_text}
+use Rattle.notes_writer.specs.Laws.{NotesTextsAreOne}
+use Rattle.notes_writer.specs.NotesText.{notes_records}
 
 pub one_in_order : {X : Type 0} (place : X → List ℕ) (xs ys : List X) → AreInOrder place xs → AreInOrder place ys → IsPermutation xs ys → xs ≡ ys
 one_in_order {X} place xs ys h k same =
@@ -24,5 +24,5 @@ one_list notes some other h k =
     one_in_order place_in_text some other h.in_order k.in_order (IsPermutation-trans some notes other (IsPermutation-sym notes some h.same) k.same)
 
 -- a performance has one text
-pub one_text : TextsAreOne
-one_text p some other (xs, h, a) (ys, k, b) = a ∙ ap (records_text p) (one_list p.notes xs ys h k) ∙ sym b
+pub one_text : NotesTextsAreOne
+one_text p some other (xs, h, a) (ys, k, b) = a ∙ ap (notes_records p) (one_list p.notes xs ys h k) ∙ sym b

@@ -3,15 +3,15 @@ use Rattle.std.proofs.Common.{◌≡◌, ◌≢◌, ℕ, List, [], ◌∷◌, �
 use Rattle.std.specs.Prelude.{All}
 use Rattle.std.specs.List.{flat_map}
 use Rattle.std.proofs.lemmas.List.Elements.{All-nil}
-use Rattle.rhythm_laws.proofs.OrderedLists.{all_cons, all_head, all_tail}
-use Rattle.notes_writer.specs.Line.{line_text}
+use Rattle.rhythm_base.proofs.OrderedLists.{all_cons, all_head, all_tail}
+use Rattle.notes_writer.specs.Line.{words_line}
 use Rattle.notes_writer.proofs.WordsApart.{AreGraphic, after_word, line_begins, lines_apart}
 
 -- lines whose name begins with a byte, and whose later words say what they are of
 pub record IsKind {X : Type 0} (byte : ℕ) (P : X → Type 0) (line : X → List ℕ) : Type 0 where
   pub name : List ℕ
   pub words : X → List (List ℕ)
-  pub is : (x : X) → line x ≡ line_text ((byte ∷ name) ∷ words x)
+  pub is : (x : X) → line x ≡ words_line ((byte ∷ name) ∷ words x)
   pub graphic : (x : X) → P x → AreGraphic ((byte ∷ name) ∷ words x)
   pub one : (x y : X) → P x → P y → words x ≡ words y → x ≡ y
 
@@ -22,7 +22,7 @@ BeginsNot byte text = (rest : List ℕ) → text ≡ byte ∷ rest → ⊥
 module _ {X : Type 0} (byte : ℕ) (P : X → Type 0) (line : X → List ℕ) (kind : IsKind byte P line) where
   -- the first line of a run, and what is after it
   run_begins : (x : X) (xs : List X) (r : List ℕ)
-      → flat_map line (x ∷ xs) ++ r ≡ line_text ((byte ∷ kind.name) ∷ kind.words x) ++ (flat_map line xs ++ r)
+      → flat_map line (x ∷ xs) ++ r ≡ words_line ((byte ∷ kind.name) ∷ kind.words x) ++ (flat_map line xs ++ r)
   run_begins x xs r = append_assoc (line x) (flat_map line xs) r ∙ ap (λ t. t ++ (flat_map line xs ++ r)) (kind.is x)
 
   first_byte : (x : X) (xs : List X) (r : List ℕ)

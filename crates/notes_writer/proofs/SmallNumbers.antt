@@ -10,8 +10,8 @@ use Rattle.rhythm_base.specs.declared.note.Bar.{Bar}
 use Rattle.rhythm_base.specs.declared.note.Note.{Note}
 use Rattle.rhythm_base.specs.Performance.{IsBarOf, IsNoteOf, IsWellFormed, Performance}
 use Rattle.rhythm_base.specs.Signatures.{is_den}
-use Rattle.rhythm_laws.proofs.FirstLists.{all_contained}
-use Rattle.rhythm_laws.proofs.OrderedLists.{all_cons, all_head, all_tail}
+use Rattle.rhythm_base.proofs.FirstLists.{all_contained}
+use Rattle.rhythm_base.proofs.OrderedLists.{all_cons, all_head, all_tail}
 use Rattle.notes_writer.specs.Told.{HasTicksInRange}
 use Rattle.notes_writer.proofs.Graphic.{few_sharps}
 use Rattle.notes_writer.proofs.LineKinds.{IsSmallBar, IsSmallNote}

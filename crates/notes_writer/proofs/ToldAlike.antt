@@ -6,7 +6,7 @@ use Rattle.std.proofs.lemmas.List.Kept.{AllPairs-from_increasing}
 use Rattle.std.proofs.lemmas.List.Sorted.{IsPermutation-sym, IsPermutation-trans}
 use Rattle.rhythm_base.specs.declared.note.Note.{Note}
 use Rattle.rhythm_base.specs.Performance.{IsNoteOf, IsWellFormed, Performance, place_of_note}
-use Rattle.rhythm_laws.proofs.FirstLists.{all_contained, one_order}
+use Rattle.rhythm_base.proofs.FirstLists.{all_contained, one_order}
 use Rattle.notes_writer.specs.Laws.{TextsTellPerformances}
 use Rattle.notes_writer.specs.Told.{HasNoteOfEachVoice}
 use Rattle.notes_writer.proofs.Numbered.{unnumbered}

@@ -3,7 +3,7 @@ use Rattle.std.proofs.Common.{◌≡◌, ℕ, Bool, true, false, List, [], ◌�
 use Rattle.std.specs.Prelude.{⊤, nat_lt}
 use Rattle.std.specs.List.{join_with_byte, list_all}
 use Rattle.std.proofs.lemmas.Bool.{and_parts}
-use Rattle.notes_writer.specs.Line.{line_text}
+use Rattle.notes_writer.specs.Line.{words_line}
 
 -- of bytes that pass a test, what stands before one that fails it
 pub pieces_apart : (p : ℕ → Bool) (u v : List ℕ) (c d : ℕ) (r s : List ℕ) → list_all p u ≡ true → list_all p v ≡ true → p c ≡ false → p d ≡ false
@@ -38,11 +38,11 @@ abbrev pub after_word : List (List ℕ) → List ℕ → List ℕ
 after_word [] rest = 10 ∷ rest
 after_word (w ∷ words) rest = 32 ∷ (w ++ after_word words rest)
 
-pub line_begins : (w : List ℕ) (words : List (List ℕ)) (rest : List ℕ) → line_text (w ∷ words) ++ rest ≡ w ++ after_word words rest
+pub line_begins : (w : List ℕ) (words : List (List ℕ)) (rest : List ℕ) → words_line (w ∷ words) ++ rest ≡ w ++ after_word words rest
 line_begins w [] rest = append_assoc w (10 ∷ []) rest
 line_begins w (v ∷ words) rest =
     ap (λ t. t ++ rest) (append_assoc w (32 ∷ join_with_byte 32 (v ∷ words)) (10 ∷ []))
-    ∙ append_assoc w (32 ∷ line_text (v ∷ words)) rest ∙ ap (λ t. w ++ (32 ∷ t)) (line_begins v words rest)
+    ∙ append_assoc w (32 ∷ words_line (v ∷ words)) rest ∙ ap (λ t. w ++ (32 ∷ t)) (line_begins v words rest)
 
 -- a word ends where the next one, or the newline, is set off
 word_apart : (u v : List ℕ) (us vs : List (List ℕ)) (r s : List ℕ) → list_all is_graphic u ≡ true → list_all is_graphic v ≡ true
@@ -64,7 +64,7 @@ words_apart (u ∷ us) (v ∷ vs) r s h k e =
 
 -- lines with something after them
 pub lines_apart : (u v : List ℕ) (us vs : List (List ℕ)) (r s : List ℕ) → AreGraphic (u ∷ us) → AreGraphic (v ∷ vs)
-    → line_text (u ∷ us) ++ r ≡ line_text (v ∷ vs) ++ s → (us ≡ vs) × (r ≡ s)
+    → words_line (u ∷ us) ++ r ≡ words_line (v ∷ vs) ++ s → (us ≡ vs) × (r ≡ s)
 lines_apart u v us vs r s h k e =
     let here = word_apart u v us vs r s h.0 k.0 (sym (line_begins u us r) ∙ e ∙ line_begins v vs s) in
     words_apart us vs r s h.1 k.1 here.1

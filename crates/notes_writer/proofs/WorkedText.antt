@@ -9,7 +9,7 @@ use Rattle.std.proofs.lemmas.List.Elements.{All-cons, All-nil}
 use Rattle.std.proofs.lemmas.List.Kept.{AllPairs-cons}
 use Rattle.rhythm_base.specs.declared.note.Note.{Note}
 use Rattle.rhythm_base.specs.Performance.{Performance}
-use Rattle.rhythm_laws.proofs.OrderedLists.{pairs_nil}
+use Rattle.rhythm_base.proofs.OrderedLists.{pairs_nil}
 use Rattle.notes_writer.specs.ByOnset.{AreByOnset, place_in_text}
 use Rattle.notes_writer.specs.NotesText.{IsNotesText}
 

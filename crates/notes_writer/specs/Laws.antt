@@ -5,8 +5,8 @@ use Rattle.notes_writer.specs.NotesText.{IsNotesText}
 use Rattle.notes_writer.specs.Told.{AreToldAlike, HasTicksInRange}
 
 -- a performance has one text
-abbrev pub TextsAreOne : Type 0
-TextsAreOne = (p : Performance) (some other : List ℕ) → IsNotesText p some → IsNotesText p other → some ≡ other
+abbrev pub NotesTextsAreOne : Type 0
+NotesTextsAreOne = (p : Performance) (some other : List ℕ) → IsNotesText p some → IsNotesText p other → some ≡ other
 
 -- performances of one text are alike in all that it tells
 abbrev pub TextsTellPerformances : Type 0

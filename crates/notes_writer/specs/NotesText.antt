@@ -8,34 +8,34 @@ use Rattle.rhythm_base.specs.declared.note.Bar.{Bar}
 use Rattle.rhythm_base.specs.declared.note.Note.{Note}
 use Rattle.rhythm_base.specs.Performance.{Performance}
 use Rattle.notes_writer.specs.ByOnset.{AreByOnset}
-use Rattle.notes_writer.specs.Line.{line_text, signature_text}
+use Rattle.notes_writer.specs.Line.{words_line, record_signature}
 
 -- a bar: its number, the tick at which it begins, and its signature
-abbrev pub bar_line : ℕ × Bar → List ℕ
-bar_line (number, b) = line_text (codes "bar" ∷ decimal number ∷ decimal b.start ∷ signature_text b.num b.den ∷ [])
+abbrev pub bar_record : ℕ × Bar → List ℕ
+bar_record (number, b) = words_line (codes "bar" ∷ decimal number ∷ decimal b.start ∷ record_signature b.num b.den ∷ [])
 
 -- a change of tempo: its tick, and the microseconds of a quarter note
-abbrev pub tempo_line : Tempo → List ℕ
-tempo_line t = line_text (codes "tempo" ∷ decimal t.tick ∷ decimal t.micros ∷ [])
+abbrev pub tempo_record : Tempo → List ℕ
+tempo_record t = words_line (codes "tempo" ∷ decimal t.tick ∷ decimal t.micros ∷ [])
 
 -- a change of key: its tick, and the sharps, or after a minus sign the flats
-abbrev pub key_line : KeyMark → List ℕ
-key_line k = line_text (codes "key" ∷ decimal k.tick ∷ signed_decimal k.sf ∷ [])
+abbrev pub key_record : KeyMark → List ℕ
+key_record k = words_line (codes "key" ∷ decimal k.tick ∷ signed_decimal k.sf ∷ [])
 
 -- a note: its channel and key, and the ticks at which it begins and ends
 abbrev pub note_line : Note → List ℕ
-note_line n = line_text (codes "note" ∷ decimal n.channel ∷ decimal n.key ∷ decimal n.onset ∷ decimal n.end ∷ [])
+note_line n = words_line (codes "note" ∷ decimal n.channel ∷ decimal n.key ∷ decimal n.onset ∷ decimal n.end ∷ [])
 
 -- the tick of the last barline
 abbrev pub end_line : ℕ → List ℕ
-end_line last = line_text (codes "end" ∷ decimal last ∷ [])
+end_line last = words_line (codes "end" ∷ decimal last ∷ [])
 
 -- the bars, numbered from 0 as an edit script numbers them; the tempos, the keys, these notes, and the last barline
-abbrev pub records_text : Performance → List Note → List ℕ
-records_text p notes =
-    flat_map bar_line (enumerate_from 0 p.bars) ++ flat_map tempo_line p.tempos ++ flat_map key_line p.key_marks
+abbrev pub notes_records : Performance → List Note → List ℕ
+notes_records p notes =
+    flat_map bar_record (enumerate_from 0 p.bars) ++ flat_map tempo_record p.tempos ++ flat_map key_record p.key_marks
     ++ flat_map note_line notes ++ end_line p.last
 
 -- the text of a performance, with its notes by onset, channel and key
 abbrev pub IsNotesText : Performance → List ℕ → Type 0
-IsNotesText p text = (notes : List Note) × AreByOnset p.notes notes × (text ≡ records_text p notes)
+IsNotesText p text = (notes : List Note) × AreByOnset p.notes notes × (text ≡ notes_records p notes)

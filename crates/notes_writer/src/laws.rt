@@ -1,8 +1,8 @@
-ghost use Rattle.notes_writer.specs.Laws.{TextsAreOne, TextsTellPerformances};
+ghost use Rattle.notes_writer.specs.Laws.{NotesTextsAreOne, TextsTellPerformances};
 
 /// A performance has one text.
 pub fn texts_are_one()
-    ensures { TextsAreOne }
+    ensures { NotesTextsAreOne }
 {}
 
 /// Performances of one text have the same bars, tempos, keys, notes and last barline; the same voices where each voice has a note,

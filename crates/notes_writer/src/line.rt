@@ -1,4 +1,4 @@
-ghost use Rattle.notes_writer.specs.Line.{line_text, word_text};
+ghost use Rattle.notes_writer.specs.Line.{words_line, record_word};
 ghost use Rattle.std.specs.List.{flat_map};
 ghost use Rattle.std.specs.Prelude.{◌≡◌, ◌∷◌, ◌++◌, OnOk, codes, map};
 
@@ -16,7 +16,7 @@ pub(crate) enum Word {
 
 /// Appends a word.
 fn push_word(text: &mut Vec<u8>, word: Word) -> Result<(), AllocError>
-    ensures { OnOk result (text.new.items ≡ text.old.items ++ word_text word) }
+    ensures { OnOk result (text.new.items ≡ text.old.items ++ record_word word) }
 {
     let mut buffer = itoa::Buffer::new();
     match word {
@@ -32,7 +32,7 @@ fn push_word(text: &mut Vec<u8>, word: Word) -> Result<(), AllocError>
 
 /// Appends words with a space before each.
 fn push_words(text: &mut Vec<u8>, words: &[Word]) -> Result<(), AllocError>
-    ensures { OnOk result (text.new.items ≡ text.old.items ++ flat_map (λ w. codes " " ++ word_text w) words.now) }
+    ensures { OnOk result (text.new.items ≡ text.old.items ++ flat_map (λ w. codes " " ++ record_word w) words.now) }
 {
     'words: for word in words {
         text.extend_from_slice(b" ")?;
@@ -43,7 +43,7 @@ fn push_words(text: &mut Vec<u8>, words: &[Word]) -> Result<(), AllocError>
 
 /// Appends a line of a name and the words after it.
 pub(crate) fn push_line(text: &mut Vec<u8>, name: &[u8], words: &[Word]) -> Result<(), AllocError>
-    ensures { OnOk result (text.new.items ≡ text.old.items ++ line_text (name.now ∷ map word_text words.now)) }
+    ensures { OnOk result (text.new.items ≡ text.old.items ++ words_line (name.now ∷ map record_word words.now)) }
 {
     text.extend_from_slice(name)?;
     push_words(text, words)?;

@@ -1,4 +1,4 @@
-ghost use Rattle.notes_writer.specs.NotesText.{IsNotesText, bar_line, key_line, note_line, tempo_line};
+ghost use Rattle.notes_writer.specs.NotesText.{IsNotesText, bar_record, key_record, note_line, tempo_record};
 ghost use Rattle.std.specs.List.{enumerate_from, flat_map};
 ghost use Rattle.std.specs.Prelude.{◌≡◌, ◌++◌, IfOk, OnOk};
 
@@ -9,7 +9,7 @@ use std::alloc::{AllocError, Global};
 
 /// Appends the line of a bar.
 fn push_bar(text: &mut Vec<u8>, number: u64, bar: &Bar) -> Result<(), AllocError>
-    ensures { OnOk result (text.new.items ≡ text.old.items ++ bar_line (number, bar.now)) }
+    ensures { OnOk result (text.new.items ≡ text.old.items ++ bar_record (number, bar.now)) }
 {
     let signature = Word::Signature {
         num: bar.num,
@@ -24,7 +24,7 @@ fn push_bar(text: &mut Vec<u8>, number: u64, bar: &Bar) -> Result<(), AllocError
 
 /// Appends the lines of bars.
 fn push_bars(text: &mut Vec<u8>, bars: &[Bar]) -> Result<(), AllocError>
-    ensures { OnOk result (text.new.items ≡ text.old.items ++ flat_map bar_line (enumerate_from 0 bars.now)) }
+    ensures { OnOk result (text.new.items ≡ text.old.items ++ flat_map bar_record (enumerate_from 0 bars.now)) }
 {
     'bars: for (number, bar) in bars.iter().enumerate() {
         push_bar(text, number as u64, bar)?;
@@ -34,7 +34,7 @@ fn push_bars(text: &mut Vec<u8>, bars: &[Bar]) -> Result<(), AllocError>
 
 /// Appends the lines of tempos.
 fn push_tempos(text: &mut Vec<u8>, tempos: &[Tempo]) -> Result<(), AllocError>
-    ensures { OnOk result (text.new.items ≡ text.old.items ++ flat_map tempo_line tempos.now) }
+    ensures { OnOk result (text.new.items ≡ text.old.items ++ flat_map tempo_record tempos.now) }
 {
     'tempos: for tempo in tempos {
         let micros = Word::Number(u64::from(tempo.micros));
@@ -45,7 +45,7 @@ fn push_tempos(text: &mut Vec<u8>, tempos: &[Tempo]) -> Result<(), AllocError>
 
 /// Appends the lines of keys.
 fn push_key_marks(text: &mut Vec<u8>, key_marks: &[KeyMark]) -> Result<(), AllocError>
-    ensures { OnOk result (text.new.items ≡ text.old.items ++ flat_map key_line key_marks.now) }
+    ensures { OnOk result (text.new.items ≡ text.old.items ++ flat_map key_record key_marks.now) }
 {
     'marks: for mark in key_marks {
         push_line(

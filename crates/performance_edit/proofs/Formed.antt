@@ -2,7 +2,8 @@
 use Rattle.std.proofs.Common.{◌≡◌, refl, ap, None}
 use Rattle.rhythm_base.specs.declared.edit.Edit.TheVariants.{Add, Drop, Move, Barline, Pin, Unpin, AddBar, DropBar}
 use Rattle.rhythm_base.specs.declared.edit.Edit.{Edit}
-use Rattle.rhythm_base.specs.Edits.{IsEditInRange, edit_tests, first_refusal, performance_after, unless_refused}
+use Rattle.rhythm_base.specs.EditRanges.{IsEditInRange}
+use Rattle.edit_laws.specs.Edits.{edit_tests, first_refusal, performance_after, unless_refused}
 use Rattle.rhythm_base.specs.Performance.{IsWellFormed, Performance}
 use Rattle.edit_laws.proofs.Edited.{edited_formed}
 

@@ -2,7 +2,7 @@
 use Rattle.std.proofs.Common.{◌≡◌, ℕ, zero, suc, ◌<◌, List, [], ◌∷◌, length, get_or, slice_set, refl, ap, arith}
 use Rattle.rhythm_base.specs.declared.note.Bar.{Bar}
 use Rattle.rhythm_base.specs.Barlines.{barline}
-use Rattle.rhythm_base.specs.Edits.{with_barline, with_start}
+use Rattle.edit_laws.specs.Edits.{with_barline, with_start}
 
 -- the barline of a bar that is there
 pub barline_at : (bars : List Bar) (last k : ℕ) (d : Bar) → k < length bars → barline bars last k ≡ (get_or bars k d).start

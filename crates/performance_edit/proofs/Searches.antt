@@ -8,7 +8,7 @@ use Rattle.rhythm_base.specs.declared.edit_fault.EditFault.{EditFault}
 use Rattle.rhythm_base.specs.declared.edit_fault.EditFault.TheVariants.{NoNote, PastEnd, SameNote}
 use Rattle.rhythm_base.specs.declared.limits.TheConstants.{LATEST_TICK}
 use Rattle.rhythm_base.specs.declared.note.Note.{Note}
-use Rattle.rhythm_base.specs.Edits.{edit_tests, first_refusal, has_note, is_note, is_past, lacks_voice, moved_to, note_at, onsets_past, without_note}
+use Rattle.edit_laws.specs.Edits.{edit_tests, first_refusal, has_note, is_note, is_past, lacks_voice, moved_to, note_at, onsets_past, without_note}
 use Rattle.rhythm_base.specs.Lists.{least_of}
 use Rattle.rhythm_base.specs.Performance.{IsNoteOf, IsWellFormed, Performance}
 use Rattle.edit_laws.proofs.Edited.{is_found}

@@ -1,5 +1,5 @@
 ghost use Rattle.rhythm_base.specs.Barlines as barlines;
-ghost use Rattle.rhythm_base.specs.Edits as edits;
+ghost use Rattle.edit_laws.specs.Edits as edits;
 ghost use Rattle.rhythm_base.specs.Lists.{last_of};
 ghost use Rattle.rhythm_base.specs.Performance.{IsWellFormed};
 ghost use Rattle.std.specs.Prelude.{◌≡◌, ◌≤◌, ◌-◌, ◌++◌, IfOk, length, take};

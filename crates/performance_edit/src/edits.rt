@@ -1,4 +1,5 @@
-ghost use Rattle.rhythm_base.specs.Edits as edits;
+ghost use Rattle.edit_laws.specs.Edits as edits;
+ghost use Rattle.rhythm_base.specs.EditRanges.{IsEditInRange};
 ghost use Rattle.rhythm_base.specs.declared.edit_fault.EditFault.{EditFault};
 ghost use Rattle.rhythm_base.specs.declared.edit_fault.EditFault.TheVariants.{Memory};
 ghost use Rattle.std.specs.Prelude.{◌≡◌, ◌≢◌, Err, IfOk, IsOk, None, Ok};
@@ -17,7 +18,7 @@ fn performance_after(
     performance: &Performance,
     edit: &Edit,
 ) -> Result<Performance, AllocError>
-    requires range { edits.IsEditInRange edit.now }
+    requires range { IsEditInRange edit.now }
     requires made { edits.first_refusal (edits.edit_tests performance.now edit.now) ≡ None }
     ensures { IfOk result (λ q. q ≡ edits.performance_after performance.now edit.now) }
 {
@@ -35,7 +36,7 @@ pub fn edited(
     performance: &Performance,
     edit: &Edit,
 ) -> Result<Performance, EditFault>
-    requires { edits.IsEditInRange edit.now }
+    requires { IsEditInRange edit.now }
     ensures ok { IfOk result (λ q. edits.edited performance.now edit.now ≡ Ok q) }
     ensures refused { (fault : EditFault) → result ≡ Err fault → fault ≢ Memory
         → edits.edited performance.now edit.now ≡ Err fault }

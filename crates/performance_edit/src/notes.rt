@@ -1,4 +1,5 @@
-ghost use Rattle.rhythm_base.specs.Edits as edits;
+ghost use Rattle.edit_laws.specs.Edits as edits;
+ghost use Rattle.rhythm_base.specs.EditRanges.{IsEditInRange};
 ghost use Rattle.rhythm_base.specs.declared.limits.TheConstants.{LATEST_TICK};
 ghost use Rattle.rhythm_base.specs.Lists.{AreInOrder, list_with};
 ghost use Rattle.rhythm_base.specs.Performance.{place_of_note};
@@ -162,7 +163,7 @@ pub fn notes_after(
     performance: &Performance,
     edit: &Edit,
 ) -> Result<Vec<Note>, AllocError>
-    requires { edits.IsEditInRange edit.now }
+    requires { IsEditInRange edit.now }
     ensures { IfOk result (λ v. v.items ≡ (edits.performance_after performance.now edit.now).notes) }
 {
     let notes = performance.notes();

@@ -1,4 +1,4 @@
-ghost use Rattle.rhythm_base.specs.Edits as edits;
+ghost use Rattle.edit_laws.specs.Edits as edits;
 ghost use Rattle.rhythm_base.specs.Lists.{AreInOrder, list_with};
 ghost use Rattle.rhythm_base.specs.Performance.{place_of_pin};
 ghost use Rattle.rhythm_base.specs.Pins.{without_pin};

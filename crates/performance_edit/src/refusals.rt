@@ -1,5 +1,6 @@
 ghost use Rattle.rhythm_base.specs.Barlines as barlines;
-ghost use Rattle.rhythm_base.specs.Edits as edits;
+ghost use Rattle.edit_laws.specs.Edits as edits;
+ghost use Rattle.rhythm_base.specs.EditRanges.{IsEditInRange};
 ghost use Rattle.rhythm_base.specs.declared.limits.TheConstants.{LATEST_TICK};
 ghost use Rattle.rhythm_base.specs.Lists.{least_of};
 ghost use Rattle.rhythm_base.specs.declared.edit_fault.EditFault.TheVariants.{NotEmpty, NoteOutside};
@@ -187,7 +188,7 @@ fn refusal_of_drop_bar(performance: &Performance) -> Option<EditFault>
 
 /// The first refusal of an edit.
 pub fn refusal(performance: &Performance, edit: &Edit) -> Option<EditFault>
-    requires { edits.IsEditInRange edit.now }
+    requires { IsEditInRange edit.now }
     ensures { result ≡ edits.first_refusal (edits.edit_tests performance.now edit.now) }
 {
     match edit {

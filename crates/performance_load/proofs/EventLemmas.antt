@@ -8,7 +8,7 @@ use Rattle.std.proofs.lemmas.List.{get_or-map, length-map}
 use Rattle.std.proofs.lemmas.List.Elements.{All-append, All-cons, All-filter, All-nil}
 use Rattle.rhythm_base.specs.declared.event.Event.{Event}
 use Rattle.rhythm_base.specs.Events.{IsMerged, at_tick}
-use Rattle.rhythm_laws.proofs.FirstLists.{all_contained}
+use Rattle.rhythm_base.proofs.FirstLists.{all_contained}
 use Rattle.rhythm_base.specs.Lists.{greatest}
 use Rattle.smf_reader.specs.Played.{Track}
 

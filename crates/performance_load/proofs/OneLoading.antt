@@ -18,9 +18,9 @@ use Rattle.rhythm_base.specs.declared.bar_fault.BarFault.{BarFault}
 use Rattle.rhythm_base.specs.declared.event.Event.{Event}
 use Rattle.rhythm_base.specs.declared.note.Bar.{Bar}
 use Rattle.rhythm_base.specs.declared.note.Note.{Note}
-use Rattle.rhythm_laws.proofs.FirstLists.{one_order}
-use Rattle.rhythm_laws.proofs.OneAnswers.{one_merged}
-use Rattle.rhythm_laws.proofs.Uniqueness.{one_laying}
+use Rattle.rhythm_base.proofs.FirstLists.{one_order}
+use Rattle.performance_laws.proofs.OneEvents.{one_merged}
+use Rattle.performance_laws.proofs.OneBars.{one_laying}
 use Rattle.smf_reader.specs.Played.{Smf}
 
 -- ---- voices

@@ -12,7 +12,7 @@ use Rattle.rhythm_base.specs.declared.event.What.{What}
 use Rattle.rhythm_base.specs.declared.event.What.TheVariants.{On, Off, Tempo, Signature, KeySig}
 use Rattle.rhythm_base.specs.declared.note.Note.{Note}
 use Rattle.rhythm_gen.proofs.Sung.{AreSung}
-use Rattle.rhythm_laws.proofs.OneAnswers.{one_merged}
+use Rattle.performance_laws.proofs.OneEvents.{one_merged}
 use Rattle.piece_laws.specs.Events.{played_note}
 
 -- ---- filters

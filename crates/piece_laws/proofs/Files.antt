@@ -4,7 +4,7 @@ use Rattle.std.specs.List.{flat_map}
 use Rattle.std.proofs.lemmas.List.Elements.{All-from_recursion}
 use Rattle.rhythm_base.specs.declared.note.Note.{Note}
 use Rattle.rhythm_gen.specs.Draws.{draw}
-use Rattle.rhythm_gen.specs.MidiFile.{conductor, generated}
+use Rattle.rhythm_gen.specs.MidiFile.{piece_conductor, generated}
 use Rattle.rhythm_gen.specs.Track.{events_of, track_bytes}
 use Rattle.rhythm_gen.specs.Voice.{voice_notes}
 use Rattle.rhythm_gen.proofs.Sung.{AreSung, voice_sung}
@@ -13,7 +13,7 @@ use Rattle.rhythm_gen.proofs.Voices.{beats_few}
 use Rattle.smf_bytes.specs.Chunk.{header_bytes, track_chunk_bytes}
 use Rattle.smf_bytes.specs.Track.{bytes_from, end_of_track_bytes, timed_message}
 use Rattle.smf_reader.specs.Outcomes.{SaysFile}
-use Rattle.smf_laws.specs.Written.{AreLater, IsWritable, IsWritableFile, written_file, written_track}
+use Rattle.smf_laws.specs.Written.{AreLater, IsWritableTrack, IsWritableFile, written_file, written_track}
 use Rattle.smf_laws.proofs.Files.{files_read}
 use Rattle.piece_laws.specs.Events.{meant_file, played_conductor, played_note, played_voice}
 use Rattle.piece_laws.specs.Laws.{PiecesAreRead}
@@ -28,7 +28,7 @@ voice_messages (n ∷ ns) =
 voice_written : (notes : List Note) (end : ℕ) → track_bytes notes end ≡ written_track (played_voice notes end)
 voice_written notes end = ap (λ (messages : List (ℕ × List ℕ)). bytes_from 0 (messages ++ (end, end_of_track_bytes) ∷ [])) (voice_messages notes)
 
-conductor_written : conductor ≡ written_track played_conductor
+conductor_written : piece_conductor ≡ written_track played_conductor
 unfolding bytes_from
 conductor_written = refl
 
@@ -40,7 +40,7 @@ voice_later voice t (n ∷ ns) end few sung =
     let channel : n.channel < 16 = omega (arith, sung.0.of_voice) in
     (sung.0.after, (channel, sung.0.key), (omega (arith, sung.0.order), (channel, sung.0.key), voice_later voice n.end ns end few sung.1))
 
-voice_writable : (start bars channel : ℕ) → bars ≤ 2000 → channel < 16 → IsWritable (played_voice (voice_notes start bars channel) (1920 * bars))
+voice_writable : (start bars channel : ℕ) → bars ≤ 2000 → channel < 16 → IsWritableTrack (played_voice (voice_notes start bars channel) (1920 * bars))
 voice_writable start bars channel few small =
     let notes = voice_notes start bars channel in
     record {
@@ -49,7 +49,7 @@ voice_writable start bars channel few small =
       short = omega (arith, ap length (voice_written notes (1920 * bars)), track_short notes (1920 * bars), beats_few start channel (4 * bars));
     }
 
-conductor_writable : IsWritable played_conductor
+conductor_writable : IsWritableTrack played_conductor
 unfolding bytes_from
 conductor_writable = record { later = (omega arith, (omega arith, omega arith), (omega arith, tt, omega arith)); early = omega arith; short = omega arith }
 
@@ -74,7 +74,7 @@ piece_writable number bars few =
       some_tick = omega arith;
       few_ticks = omega arith;
       few_tracks = omega arith;
-      tracks = All-from_recursion IsWritable (meant_file number bars).tracks (conductor_writable, (voice_writable number bars 0 few (omega arith), (voice_writable start bars 1 few (omega arith), tt)));
+      tracks = All-from_recursion IsWritableTrack (meant_file number bars).tracks (conductor_writable, (voice_writable number bars 0 few (omega arith), (voice_writable start bars 1 few (omega arith), tt)));
     }
 
 pub pieces_read : PiecesAreRead

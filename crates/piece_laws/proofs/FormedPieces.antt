@@ -9,7 +9,7 @@ use Rattle.piece_laws.specs.Laws.{PiecesAreWellFormed}
 use Rattle.piece_laws.proofs.Files.{piece_writable}
 use Rattle.piece_laws.proofs.PieceBars.{says_piece}
 use Rattle.rhythm_base.specs.declared.event.Event.{Event}
-use Rattle.smf_laws.specs.Written.{AreLater, IsWritable, IsWritableFile}
+use Rattle.smf_laws.specs.Written.{AreLater, IsWritableTrack, IsWritableFile}
 use Rattle.smf_laws.proofs.Tracks.{later_within}
 use Rattle.smf_reader.specs.Played.{Smf, Track}
 use Rattle.smf_reader.specs.Ranges.{IsPlayedFile, IsPlayedTrack, IsSaid}
@@ -24,7 +24,7 @@ later_said t last (e ∷ events) later zero d lt = (later_within e.tick last eve
 later_said t last (e ∷ events) later (suc k) d lt = later_said e.tick last events later.2 k d (omega (arith, lt))
 
 -- what can be written is in these ranges
-track_played : (t : Track) → IsWritable t → IsPlayedTrack t
+track_played : (t : Track) → IsWritableTrack t → IsPlayedTrack t
 track_played t h = record {
   in_order = up_to 0 (map (λ e. e.tick) t.events) (later_up 0 t.last t.events h.later);
   within = λ k d lt. (later_said 0 t.last t.events h.later k d lt).0;

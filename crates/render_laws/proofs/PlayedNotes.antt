@@ -5,7 +5,7 @@ use Rattle.std.specs.List.{flat_map}
 use Rattle.std.specs.List.Sorted.{IsNonDecreasing}
 use Rattle.std.proofs.lemmas.Bool.Decides.{nat_tests}
 use Rattle.performance_load.proofs.EventLemmas.{Up, up_from, up_lower, up_to}
-use Rattle.rhythm_laws.proofs.OneAnswers.{one_merged}
+use Rattle.performance_laws.proofs.OneEvents.{one_merged}
 use Rattle.rhythm_base.specs.Events.{IsMerged, at_tick}
 use Rattle.rhythm_base.specs.Notes.{begun, begun_at, end_of_note, tick_or, touches}
 use Rattle.rhythm_base.specs.declared.event.Event.{Event}

@@ -4,7 +4,7 @@ use Rattle.std.specs.Prelude.{All, Option, IfSome, filter, if◌then◌else◌}
 use Rattle.std.specs.Int.{trailing_zeros, w8}
 use Rattle.std.proofs.lemmas.List.Elements.{All-append, All-cons, All-nil}
 use Rattle.std.proofs.lemmas.List.Sums.{sum_by-cons}
-use Rattle.rhythm_laws.proofs.OrderedLists.{all_head, all_tail}
+use Rattle.rhythm_base.proofs.OrderedLists.{all_head, all_tail}
 use Rattle.performance_load.proofs.EventLemmas.{Up}
 use Rattle.rhythm_base.specs.declared.event.Event.{Event}
 use Rattle.rhythm_base.specs.declared.event.What.{What}
@@ -14,8 +14,8 @@ use Rattle.derivation.specs.Score.{IsKeySignature, IsScoreBar}
 use Rattle.derivation.specs.declared.score.ScoreBar.{ScoreBar}
 use Rattle.smf_laws.specs.Written.{AreLater}
 use Rattle.smf_reader.specs.Ranges.{IsSaid}
-use Rattle.voice_events.specs.Parts.{bar_parts, score_parts}
-use Rattle.smf_writer.specs.Changes.{at_tick, changes_at, changes_from, conductor, is_key, key_before, key_change, same_signature, same_tempo, signature_change, tempo_change}
+use Rattle.voice_events.specs.Parts.{score_bar_parts, score_parts}
+use Rattle.smf_writer.specs.Changes.{change_at, changes_at, changes_from, conductor, is_key, midi_key_before, key_event, same_midi_signature, same_midi_tempo, signature_event, tempo_event}
 use Rattle.render_laws.specs.ReadBack.{is_change}
 use Rattle.render_laws.proofs.PlayedNotes.{touching}
 
@@ -31,16 +31,16 @@ maybe_said : (b : Bool) (what : What) → IsSaidChange what → WouldSay (if b t
 maybe_said true what is = tt
 maybe_said false what is = is
 
-tempo_said : (before : Option ScoreBar) (bar : ScoreBar) → IsScoreBar bar → WouldSay (tempo_change before bar)
-tempo_said before bar is = maybe_said (same_tempo before bar) (Tempo bar.tempo) (record { said = (is.some_tempo, is.few_tempo); change = refl })
+tempo_said : (before : Option ScoreBar) (bar : ScoreBar) → IsScoreBar bar → WouldSay (tempo_event before bar)
+tempo_said before bar is = maybe_said (same_midi_tempo before bar) (Tempo bar.tempo) (record { said = (is.some_tempo, is.few_tempo); change = refl })
 
-signature_said : (before : Option ScoreBar) (bar : ScoreBar) → WouldSay (signature_change before bar)
-signature_said before bar = maybe_said (same_signature before bar) (Signature bar.num (trailing_zeros w8 bar.den)) (record { said = tt; change = refl })
+signature_said : (before : Option ScoreBar) (bar : ScoreBar) → WouldSay (signature_event before bar)
+signature_said before bar = maybe_said (same_midi_signature before bar) (Signature bar.num (trailing_zeros w8 bar.den)) (record { said = tt; change = refl })
 
-key_said : (before : Option ℤ) (bar : ScoreBar) → IsScoreBar bar → WouldSay (key_change before bar.sf)
+key_said : (before : Option ℤ) (bar : ScoreBar) → IsScoreBar bar → WouldSay (key_event before bar.sf)
 key_said before bar is = go bar.sf is.key
   where
-    go : (sf : Option ℤ) → IfSome sf IsKeySignature → WouldSay (key_change before sf)
+    go : (sf : Option ℤ) → IfSome sf IsKeySignature → WouldSay (key_event before sf)
     go None h = tt
     go (Some sf) h = maybe_said (is_key before sf) (KeySig sf) (record { said = (h.low, h.high); change = refl })
 
@@ -50,7 +50,7 @@ later_lower : (low tick last : ℕ) (es : List Event) → low ≤ tick → AreLa
 later_lower low tick last [] le h = omega (arith, le, h)
 later_lower low tick last (e ∷ es) le h = (omega (arith, le, h.0), h.1, h.2)
 
-one_later : (low tick last : ℕ) (o : Option What) (es : List Event) → low ≤ tick → WouldSay o → AreLater tick es last → AreLater low (at_tick tick o ++ es) last
+one_later : (low tick last : ℕ) (o : Option What) (es : List Event) → low ≤ tick → WouldSay o → AreLater tick es last → AreLater low (change_at tick o ++ es) last
 one_later low tick last None es le is h = later_lower low tick last es le h
 one_later low tick last (Some what) es le is h = (le, is.said, h)
 
@@ -58,19 +58,19 @@ changes_later : (resolution low tick last : ℕ) (before : Option ScoreBar) (bar
 changes_later resolution low tick last before [] le within each = omega (arith, le, within)
 changes_later resolution low tick last before (bar ∷ bars) le within each =
     let is = all_head IsScoreBar bar bars each in
-    let all : tick + (bar_parts resolution bar + score_parts resolution bars) ≤ last = subst (λ s. tick + s ≤ last) (sum_by-cons (bar_parts resolution) bar bars) within in
-    let rest = changes_later resolution tick (tick + bar_parts resolution bar) last (Some bar) bars (omega arith) (next_part tick (bar_parts resolution bar) (score_parts resolution bars) all) (all_tail IsScoreBar bar bars each) in
-    let more : List Event = changes_from resolution (Some bar) (tick + bar_parts resolution bar) bars in
+    let all : tick + (score_bar_parts resolution bar + score_parts resolution bars) ≤ last = subst (λ s. tick + s ≤ last) (sum_by-cons (score_bar_parts resolution) bar bars) within in
+    let rest = changes_later resolution tick (tick + score_bar_parts resolution bar) last (Some bar) bars (omega arith) (next_part tick (score_bar_parts resolution bar) (score_parts resolution bars) all) (all_tail IsScoreBar bar bars each) in
+    let more : List Event = changes_from resolution (Some bar) (tick + score_bar_parts resolution bar) bars in
     let P : List Event → Type 0 = λ es. AreLater low es last in
-    subst P (regroup tick (tempo_change before bar) (signature_change before bar) (key_change (key_before before) bar.sf) more)
-    (one_later low tick last (tempo_change before bar) (at_tick tick (signature_change before bar) ++ (at_tick tick (key_change (key_before before) bar.sf) ++ more)) le (tempo_said before bar is)
-    (one_later tick tick last (signature_change before bar) (at_tick tick (key_change (key_before before) bar.sf) ++ more) (omega arith) (signature_said before bar)
-    (one_later tick tick last (key_change (key_before before) bar.sf) more (omega arith) (key_said (key_before before) bar is) rest)))
+    subst P (regroup tick (tempo_event before bar) (signature_event before bar) (key_event (midi_key_before before) bar.sf) more)
+    (one_later low tick last (tempo_event before bar) (change_at tick (signature_event before bar) ++ (change_at tick (key_event (midi_key_before before) bar.sf) ++ more)) le (tempo_said before bar is)
+    (one_later tick tick last (signature_event before bar) (change_at tick (key_event (midi_key_before before) bar.sf) ++ more) (omega arith) (signature_said before bar)
+    (one_later tick tick last (key_event (midi_key_before before) bar.sf) more (omega arith) (key_said (midi_key_before before) bar is) rest)))
   where
     next_part : (t b s : ℕ) → t + (b + s) ≤ last → t + b + s ≤ last
     next_part t b s le = omega (arith, le)
 
-    regroup : (tick : ℕ) (a b c : Option What) (more : List Event) → at_tick tick a ++ (at_tick tick b ++ (at_tick tick c ++ more)) ≡ (at_tick tick a ++ (at_tick tick b ++ (at_tick tick c ++ []))) ++ more
+    regroup : (tick : ℕ) (a b c : Option What) (more : List Event) → change_at tick a ++ (change_at tick b ++ (change_at tick c ++ more)) ≡ (change_at tick a ++ (change_at tick b ++ (change_at tick c ++ []))) ++ more
     regroup tick None None None more = refl
     regroup tick None None (Some c) more = refl
     regroup tick None (Some b) None more = refl
@@ -92,7 +92,7 @@ later_up low last (e ∷ es) h = (h.0, later_up e.tick last es h.2)
 abbrev IsChangeEvent : Event → Type 0
 IsChangeEvent e = is_change e.what ≡ true
 
-one_change : (tick : ℕ) (o : Option What) → WouldSay o → All IsChangeEvent (at_tick tick o)
+one_change : (tick : ℕ) (o : Option What) → WouldSay o → All IsChangeEvent (change_at tick o)
 one_change tick None is = All-nil IsChangeEvent
 one_change tick (Some what) is = All-cons IsChangeEvent (record { tick = tick; what = what }) [] is.change (All-nil IsChangeEvent)
 
@@ -100,12 +100,12 @@ all_changes : (resolution tick : ℕ) (before : Option ScoreBar) (bars : List Sc
 all_changes resolution tick before [] each = All-nil IsChangeEvent
 all_changes resolution tick before (bar ∷ bars) each =
     let is = all_head IsScoreBar bar bars each in
-    let keys : List Event = at_tick tick (key_change (key_before before) bar.sf) in
-    All-append IsChangeEvent (changes_at tick before bar) (changes_from resolution (Some bar) (tick + bar_parts resolution bar) bars)
-    (All-append IsChangeEvent (at_tick tick (tempo_change before bar)) (at_tick tick (signature_change before bar) ++ (keys ++ [])) (one_change tick (tempo_change before bar) (tempo_said before bar is))
-    (All-append IsChangeEvent (at_tick tick (signature_change before bar)) (keys ++ []) (one_change tick (signature_change before bar) (signature_said before bar))
-    (All-append IsChangeEvent keys [] (one_change tick (key_change (key_before before) bar.sf) (key_said (key_before before) bar is)) (All-nil IsChangeEvent))))
-    (all_changes resolution (tick + bar_parts resolution bar) (Some bar) bars (all_tail IsScoreBar bar bars each))
+    let keys : List Event = change_at tick (key_event (midi_key_before before) bar.sf) in
+    All-append IsChangeEvent (changes_at tick before bar) (changes_from resolution (Some bar) (tick + score_bar_parts resolution bar) bars)
+    (All-append IsChangeEvent (change_at tick (tempo_event before bar)) (change_at tick (signature_event before bar) ++ (keys ++ [])) (one_change tick (tempo_event before bar) (tempo_said before bar is))
+    (All-append IsChangeEvent (change_at tick (signature_event before bar)) (keys ++ []) (one_change tick (signature_event before bar) (signature_said before bar))
+    (All-append IsChangeEvent keys [] (one_change tick (key_event (midi_key_before before) bar.sf) (key_said (midi_key_before before) bar is)) (All-nil IsChangeEvent))))
+    (all_changes resolution (tick + score_bar_parts resolution bar) (Some bar) bars (all_tail IsScoreBar bar bars each))
 
 touches_none : (c k : ℕ) (what : What) → is_change what ≡ true → touches c k what ≡ false
 touches_none c k (On a b) is = absurd (cc)

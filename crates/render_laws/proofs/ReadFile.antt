@@ -6,7 +6,7 @@ use Rattle.std.proofs.lemmas.Bool.Decides.{nat_tests}
 use Rattle.std.proofs.lemmas.List.{length-map}
 use Rattle.std.proofs.lemmas.List.Elements.{filter-append}
 use Rattle.std.proofs.lemmas.List.Kept.{AllPairs-from_increasing}
-use Rattle.rhythm_laws.proofs.OrderedLists.{all_cons, all_head, all_tail}
+use Rattle.rhythm_base.proofs.OrderedLists.{all_cons, all_head, all_tail}
 use Rattle.performance_load.proofs.EventLemmas.{below_greatest, greatest_low}
 use Rattle.performance_load.specs.Loading.{AreMergedOf, last_tick}
 use Rattle.rhythm_base.specs.declared.event.Event.{Event}
@@ -19,7 +19,7 @@ use Rattle.kern_reader.specs.declared.event.KernEvent.{KernEvent}
 use Rattle.smf_bytes.specs.Chunk.{file_bytes}
 use Rattle.smf_bytes.specs.Track.{content_bytes}
 use Rattle.smf_bytes.specs.declared.quantity.TheConstants.{GREATEST_QUANTITY}
-use Rattle.smf_laws.specs.Written.{AreLater, IsWritable, written_track}
+use Rattle.smf_laws.specs.Written.{AreLater, IsWritableTrack, written_track}
 use Rattle.smf_laws.proofs.Files.{files_read}
 use Rattle.smf_reader.specs.Outcomes.{SaysFile}
 use Rattle.smf_reader.specs.Played.{Smf, Track}
@@ -35,7 +35,7 @@ use Rattle.smf_writer.proofs.OneFile.{voices_one}
 use Rattle.smf_writer.proofs.Spines.{are_voices}
 use Rattle.smf_writer.proofs.StrokeOrder.{IsEarlier}
 use Rattle.render_laws.specs.Laws.{RenderedFilesReadBack}
-use Rattle.render_laws.specs.ReadBack.{ReadsBack, is_change}
+use Rattle.render_laws.specs.ReadBack.{RendersBack, is_change}
 use Rattle.render_laws.proofs.AllVoices.{HasVoices, all_voices, key_up}
 use Rattle.render_laws.proofs.PlayedNotes.{at_key, key_begun, merged_passing, notes_begun, played_note, touching}
 use Rattle.render_laws.proofs.ReadChanges.{conductor_changes, conductor_later, conductor_silent, later_up}
@@ -101,10 +101,10 @@ one_last last first tracks =
     lasts (t ∷ tracks) = all_cons (λ (t : Track). t.last ≤ last) (track_up_to last t) (map (track_up_to last) tracks) (omega arith) (lasts tracks)
 
 can_be_written : (last : ℕ) (tracks : List (List Event)) → last ≤ GREATEST_QUANTITY → ((t : List Event) → Among t tracks → AreLater 0 t last)
-    → All (λ content. length content < 2 ^ 32) (map (λ track. content_bytes track last) tracks) → All IsWritable (map (track_up_to last) tracks)
+    → All (λ content. length content < 2 ^ 32) (map (λ track. content_bytes track last) tracks) → All IsWritableTrack (map (track_up_to last) tracks)
 can_be_written last [] early later short = λ k d lt. absurd (omega arith)
 can_be_written last (t ∷ tracks) early later short =
-    all_cons IsWritable (track_up_to last t) (map (track_up_to last) tracks)
+    all_cons IsWritableTrack (track_up_to last t) (map (track_up_to last) tracks)
     (record { later = later t (inl refl); early = early; short = all_head (λ content. length content < 2 ^ 32) (content_bytes t last) (map (λ track. content_bytes track last) tracks) short })
     (can_be_written last tracks early (λ u a. later u (inr a)) (all_tail (λ content. length content < 2 ^ 32) (content_bytes t last) (map (λ track. content_bytes track last) tracks) short))
 
@@ -180,7 +180,7 @@ module _ (resolution : ℕ) (bars : List ScoreBar) (channels : List ℕ) (events
         ∙ conductor_changes resolution bars can.each_bar in
         merged_passing (λ e. is_change e.what) (changes ∷ voices) merged changes is_merged only (later_up 0 last changes (conductor_later resolution last bars (omega arith) can.each_bar))
 
-  pub reads_back : ReadsBack resolution bars channels events bytes
+  pub reads_back : RendersBack resolution bars channels events bytes
   reads_back = record {
     file = file;
     says = said;

@@ -5,11 +5,11 @@ use Rattle.std.specs.List.{flat_map}
 use Rattle.std.specs.Cmp.Lexicographic.{nat_list_cmp_total}
 use Rattle.std.proofs.lemmas.Bool.{cases_lt}
 use Rattle.std.proofs.lemmas.Bool.Decides.{nat_tests}
-use Rattle.rhythm_laws.proofs.FirstLists.{one_earlier, one_order}
+use Rattle.rhythm_base.proofs.FirstLists.{one_earlier, one_order}
 use Rattle.rhythm_base.specs.declared.event.Event.{Event}
 use Rattle.rhythm_base.specs.declared.note.Note.{Note}
 use Rattle.smf_laws.specs.Written.{AreLater}
-use Rattle.smf_writer.specs.NoteMessages.{Message, begins, ends, event_of, note_of, place_of_message}
+use Rattle.smf_writer.specs.NoteMessages.{Message, begins, ends, event_of, message_note, place_of_message}
 use Rattle.smf_writer.proofs.Members.{Among, Pairwise, among_contained, among_flat, from_flat, kept_by, out_of, pairs_filter, pairs_from, pairs_join, place_among}
 use Rattle.smf_writer.proofs.MessageOrder.{IsBefore, IsLess, by_late, by_off, by_tick, late_of, place}
 use Rattle.smf_writer.proofs.StrokeOrder.{DoesNotOverlap, IsEarlier, IsWithin}
@@ -19,8 +19,8 @@ use Rattle.render_laws.proofs.PlayedNotes.{at_key, played_note, touching}
 pub record IsTrackOf (channel last : ℕ) (notes : List Note) (events : List Event) : Type 0 where
   pub messages : List Message
   pub order : Pairwise IsBefore messages
-  pub from : (m : Message) → Among m messages → Among (note_of m) notes
-  pub to : (m : Message) → Among (note_of m) notes → Among m messages
+  pub from : (m : Message) → Among m messages → Among (message_note m) notes
+  pub to : (m : Message) → Among (message_note m) notes → Among m messages
   pub are : events ≡ map event_of messages
   pub notes_order : Pairwise IsEarlier notes
   pub apart : Pairwise DoesNotOverlap notes
@@ -100,7 +100,7 @@ later_onset m n same alike less = grind (arith, nat_tests)
 module _ (channel last : ℕ) (notes : List Note) (events : List Event) (h : IsTrackOf channel last notes events) where
   module _ (c k : ℕ) where
     abbrev of_key : Message → Bool
-    of_key m = at_key c k (note_of m)
+    of_key m = at_key c k (message_note m)
 
     passing : (ms : List Message) → filter (touching c k) (map event_of ms) ≡ map event_of (filter of_key ms)
     passing [] = refl
@@ -149,13 +149,13 @@ module _ (channel last : ℕ) (notes : List Note) (events : List Event) (h : IsT
     own_order : Pairwise IsBefore (flat_map pair own)
     own_order = pairs_order own (λ n a. (h.each n (out_of (at_key c k) notes n a).0).order) own_past
 
-    among_pair : (m : Message) → Among m (pair (note_of m))
+    among_pair : (m : Message) → Among m (pair (message_note m))
     among_pair (begins n) = inl refl
     among_pair (ends n) = inr (inl refl)
 
-    of_pair : (n : Note) (m : Message) → Among m (pair n) → note_of m ≡ n
-    of_pair n m (inl e) = ap note_of e
-    of_pair n m (inr (inl e)) = ap note_of e
+    of_pair : (n : Note) (m : Message) → Among m (pair n) → message_note m ≡ n
+    of_pair n m (inl e) = ap message_note e
+    of_pair n m (inr (inl e)) = ap message_note e
     of_pair n m (inr (inr a)) = absurd a
 
     same_messages : filter of_key h.messages ≡ flat_map pair own
@@ -164,11 +164,11 @@ module _ (channel last : ℕ) (notes : List Note) (events : List Event) (h : IsT
         (pairs_from IsBefore (filter of_key h.messages) (pairs_filter IsBefore of_key h.messages h.order)) (pairs_from IsBefore (flat_map pair own) own_order)
         (λ m there.
         let r = out_of of_key h.messages m (among_contained (filter of_key h.messages) m there) in
-        place_among (flat_map pair own) m (among_flat pair own (note_of m) m (kept_by (at_key c k) notes (note_of m) (h.from m r.0) r.1) (among_pair m)))
+        place_among (flat_map pair own) m (among_flat pair own (message_note m) m (kept_by (at_key c k) notes (message_note m) (h.from m r.0) r.1) (among_pair m)))
         (λ m there.
         let r = from_flat pair own m (among_contained (flat_map pair own) m there) in
         let n : Note = r.0 in
-        let is : note_of m ≡ n = of_pair n m r.2 in
+        let is : message_note m ≡ n = of_pair n m r.2 in
         let kept = out_of (at_key c k) notes n r.1 in
         place_among (filter of_key h.messages) m (kept_by of_key h.messages m (h.to m (subst (λ x. Among x notes) (sym is) kept.0)) (ap (at_key c k) is ∙ kept.1)))
 
@@ -194,7 +194,7 @@ module _ (channel last : ℕ) (notes : List Note) (events : List Event) (h : IsT
       let b = tick_of y in
       not_later (event_of x).tick a.0 a.1 a.2 (event_of y).tick b.0 b.1 b.2 (subst (λ z. IsLess z (place (event_of y).tick b.0 b.1 b.2)) a.3 (subst (IsLess (place_of_message x)) b.3 before))
 
-  messages_later : (low : ℕ) (ms : List Message) → channel < 16 → low ≤ last → ((m : Message) → Among m ms → low ≤ (event_of m).tick) → ((m : Message) → Among m ms → IsWithin channel last (note_of m)) → Pairwise IsBefore ms
+  messages_later : (low : ℕ) (ms : List Message) → channel < 16 → low ≤ last → ((m : Message) → Among m ms → low ≤ (event_of m).tick) → ((m : Message) → Among m ms → IsWithin channel last (message_note m)) → Pairwise IsBefore ms
       → AreLater low (map event_of ms) last
   messages_later low [] small le above within order = le
   messages_later low (begins n ∷ ms) small le above within order =
@@ -213,4 +213,4 @@ module _ (channel last : ℕ) (notes : List Note) (events : List Event) (h : IsT
   pub track_later : channel < 16 → AreLater 0 events last
   track_later small =
       subst (λ (es : List Event). AreLater 0 es last) (sym h.are)
-      (messages_later 0 h.messages small (omega arith) (λ m a. omega arith) (λ m a. h.each (note_of m) (h.from m a)) h.order)
+      (messages_later 0 h.messages small (omega arith) (λ m a. omega arith) (λ m a. h.each (message_note m) (h.from m a)) h.order)

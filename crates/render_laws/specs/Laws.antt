@@ -5,11 +5,11 @@ use Rattle.kern_reader.specs.declared.event.KernEvent.{KernEvent}
 use Rattle.smf_writer.specs.RenderedFile.{AreChannels, IsRendered}
 use Rattle.voice_events.specs.VoiceEvents.{AreVoiceEvents}
 use Rattle.voice_events.specs.Writable.{IsWritable}
-use Rattle.render_laws.specs.ReadBack.{ReadsBack}
+use Rattle.render_laws.specs.ReadBack.{RendersBack}
 
 -- the file of all events that can be written reads back
 abbrev pub RenderedFilesReadBack : Type 0
 RenderedFilesReadBack =
     (resolution : ℕ) (bars : List ScoreBar) (channels : List ℕ) (events : List KernEvent) (bytes : List ℕ)
     → IsWritable resolution bars (length channels) → AreChannels channels → AreVoiceEvents resolution bars (length channels) events
-    → IsRendered resolution bars channels events bytes → ReadsBack resolution bars channels events bytes
+    → IsRendered resolution bars channels events bytes → RendersBack resolution bars channels events bytes

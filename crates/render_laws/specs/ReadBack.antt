@@ -33,7 +33,7 @@ is_change (KeySig sf) = true
 
 -- The bytes say a file. It has 16 * R ticks to the quarter note, and its last tick is the last barline's. Of its events in one
 -- list the notes are the kept notes, and the changes are those of the bars.
-pub record ReadsBack (resolution : ℕ) (bars : List ScoreBar) (channels : List ℕ) (events : List KernEvent) (bytes : List ℕ) : Type 0 where
+pub record RendersBack (resolution : ℕ) (bars : List ScoreBar) (channels : List ℕ) (events : List KernEvent) (bytes : List ℕ) : Type 0 where
   pub file : Smf
   pub says : SaysFile bytes file
   pub division : file.division ≡ 16 * resolution

@@ -6,7 +6,7 @@ use Rattle.std.specs.Prelude.{if◌then◌else◌, nat_le}
 use Rattle.std.proofs.lemmas.Bool.{le-leb}
 use Rattle.std.proofs.lemmas.Bool.Decides.{nat_tests}
 use Rattle.barline_fit.specs.declared.candidates.Candidates.{Candidates}
-use Rattle.rhythm_app.specs.Asked.{AreTried, candidate_count, fit, fit_of, too_many_candidates}
+use Rattle.rhythm_app.specs.Asked.{AreCandidates, candidate_count, fit, fit_of, too_many_candidates}
 
 module _ (midi grammar : List ℕ) (c : Candidates) (count : ℕ) (counts : count ≡ candidate_count c) where
   chosen : (b : Bool) → nat_le (candidate_count c) MOST_CANDIDATES ≡ b → fit_of midi grammar c ≡ (if b then fit midi grammar c else too_many_candidates (candidate_count c))
@@ -21,5 +21,5 @@ module _ (midi grammar : List ℕ) (c : Candidates) (count : ℕ) (counts : coun
       is_more : (n : ℕ) → MOST_CANDIDATES < n → nat_le n MOST_CANDIDATES ≡ false
       is_more n more = grind (arith, nat_tests)
 
-  pub few_tried : count ≤ MOST_CANDIDATES → c.low ≤ c.high → c.high ≤ LATEST_TICK → 1 ≤ c.step → AreTried c
+  pub few_tried : count ≤ MOST_CANDIDATES → c.low ≤ c.high → c.high ≤ LATEST_TICK → 1 ≤ c.step → AreCandidates c
   few_tried few order high step = record { order = order; high = high; step = step; few = omega (arith, counts, few) }

@@ -1,7 +1,7 @@
 -- What the stages of a drill come to together.
 use Rattle.std.proofs.Common.{◌≡◌, ◌≢◌, ◌≤◌, ◌⊎◌, ◌∙◌, ℕ, List, Vec, ap, arith, inl, inr, refl, sym, subst, IfErr, IfOk, OnOk, Option, Some, None, Result, Ok, Err}
 use Rattle.std.specs.Option.{ForSome}
-use Rattle.drill_run.specs.Ends.{HasDrilled, IsBrokenOff, IsDrillOf}
+use Rattle.drill_run.specs.Ends.{HasDrilled, IsDrillBrokenOff, IsDrillOf}
 use Rattle.edit_session.specs.Opening.{CanOpen, cells_of}
 use Rattle.edit_session.specs.declared.open_fault.OpenFault.{OpenFault}
 use Rattle.edit_session.specs.declared.open_fault.OpenFault.TheVariants as opening
@@ -9,7 +9,7 @@ use Rattle.rhythm_app.proofs.InTurn.{next_follows}
 use Rattle.rhythm_app.specs.Asked.{drill}
 use Rattle.rhythm_app.specs.Commands.{HasNames, HasOutcomeOf, cells_drilled, file_content, named, no_cells}
 use Rattle.rhythm_app.specs.Builds.{AreDrilled, AreSomeDrilled, ForPiece, HasBuilt, HasBuiltAll, MatchBuilds, MatchDrilled}
-use Rattle.rhythm_app.specs.Outcome.{AreInTurn, IsDrilling, IsMade, IsPieceOf, IsUnderstood, IsUnopened, Ready, open_stop, say}
+use Rattle.rhythm_app.specs.Outcome.{AreInTurn, IsDrilling, IsPieceMade, IsPieceOf, IsUnderstood, IsUnopened, Ready, open_stop, say}
 use Rattle.rhythm_app.specs.Lent.{Lent}
 use Rattle.rhythm_app.specs.Stages.{CountsAlone, EndsBy, Follows, HasRules, HasText, IsEarly, IsOfContent, ReadsShelf, said_of}
 use Rattle.rhythm_app.specs.declared.stop.Kind.TheVariants as kind
@@ -52,10 +52,10 @@ module _ (g : Grammar) (number : ℕ) (p : Performance) where
       (subst (λ (x : Performance). HasDrilled g number x said mid now) b (subst (λ (x : Grammar). HasDrilled x number q said mid now) a d))
 
   pub same_break : (h : Grammar) (q : Performance) (start mid now : ℕ) → h ≡ g → q ≡ p → mid ≡ start
-      → IsBrokenOff h number q mid now → IsBrokenOff g number p start now
+      → IsDrillBrokenOff h number q mid now → IsDrillBrokenOff g number p start now
   same_break h q start mid now a b e d =
-      subst (λ m. IsBrokenOff g number p m now) e
-      (subst (λ (x : Performance). IsBrokenOff g number x mid now) b (subst (λ (x : Grammar). IsBrokenOff x number q mid now) a d))
+      subst (λ m. IsDrillBrokenOff g number p m now) e
+      (subst (λ (x : Performance). IsDrillBrokenOff g number x mid now) b (subst (λ (x : Grammar). IsDrillBrokenOff x number q mid now) a d))
 
   -- what it comes to
   pub drill_of : (said : Result (List ℕ) ℕ) (start now : ℕ) → HasDrilled g number p said start now → IsDrillOf g number p said
@@ -132,8 +132,8 @@ module _ (fs : Option (List File)) (number : ℕ) (grammar : List ℕ) (g : Gram
   pub drill_follows : (files : List File) → fs ≡ Some files → (r : Result Ready Stop) → Follows (IsDrilling g number p) r
       → Follows (HasOutcomeOf (Some (drill number grammar)) files) r
   drill_follows files are r h =
-      next_follows (IsUnderstood (file_content files grammar)) (λ g. AreInTurn (IsMade number) (λ p. IsDrilling g number p)) g r (understood files are)
-      (next_follows (IsMade number) (λ p. IsDrilling g number p) p r (inl (p, piece, refl)) h)
+      next_follows (IsUnderstood (file_content files grammar)) (λ g. AreInTurn (IsPieceMade number) (λ p. IsDrilling g number p)) g r (understood files are)
+      (next_follows (IsPieceMade number) (λ p. IsDrilling g number p) p r (inl (p, piece, refl)) h)
 
   pub all_drilled : {A : Type 0} (old new : ℕ) (r : Result (Vec ℕ A) Stop) → IfOk r (λ text. HasDrilled g number p (Ok text.items) (risen old (cells_of p)) new)
       → OnOk r (ForSome fs (λ files. HasBuiltAll (cells_drilled number grammar) files old new))

@@ -5,7 +5,7 @@ use Rattle.rhythm_app.specs.Asked.{notes}
 use Rattle.rhythm_app.specs.Commands.{HasNames, file_content}
 use Rattle.rhythm_app.specs.Lent.{Lent}
 use Rattle.rhythm_app.specs.Outcome.{AreInTurn, IsLoading, IsNoting, IsRead, say}
-use Rattle.rhythm_app.specs.Stages.{Follows, HasText, IsBefore, IsOfContent, said_of}
+use Rattle.rhythm_app.specs.Stages.{Follows, HasText, IsStoppedBefore, IsOfContent, said_of}
 use Rattle.rhythm_app.specs.declared.stop.Stop.{Stop}
 use Rattle.rhythm_app.proofs.InTurn.{next_follows}
 use Rattle.rhythm_app.proofs.Performing.{content_ends, not_had, shelf_alone}
@@ -26,7 +26,7 @@ noted {S} {O} {E} {A} midi seen old new f (Ok v) same reads known read text cont
       before = before;
     })
   where
-    before : IsBefore (Some (notes midi)) seen new {T = Vec ℕ A} (Ok v)
+    before : IsStoppedBefore (Some (notes midi)) seen new {T = Vec ℕ A} (Ok v)
     before = shelf_alone (Some (notes midi)) seen new (Ok v) reads known tt tt tt strays
 noted {S} {O} {E} {A} midi seen old new f (Err s) same reads known read text content strays =
     not_had (Some (notes midi)) seen old new s (Err s) refl same reads known

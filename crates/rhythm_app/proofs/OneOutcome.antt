@@ -39,7 +39,7 @@ use Rattle.rhythm_app.proofs.InTurn.{IsOne, in_turn_one}
 use Rattle.rhythm_app.specs.Asked.{Asked, help, version, write, answer, fit, too_many_candidates, follow, notes, events, generate, drill, asked_by}
 use Rattle.rhythm_app.specs.Commands.{HasOutcomeOf, file_content}
 use Rattle.rhythm_app.specs.Laws.{OutcomesAreOne}
-use Rattle.rhythm_app.specs.Outcome.{AreEventsOf, AreInTurn, AreInputs, AreRead, FitsScore, IsAnswering, IsFitting, IsFormOf, IsListing, IsLoading, IsNoting, IsRead, IsScoreRead, IsTooLongToWrite, IsUnfitted, IsUnwritten, IsWriting, fit_stop, fit_text, IsDrilling, IsFollowing, IsMade, IsPieceOf, IsTooLongDrill, Ready, say, serve, IsUnderstood, IsUnopened, grammar_tests, kern_tests, limit_of, load_stop, open_stop, passed, stopped}
+use Rattle.rhythm_app.specs.Outcome.{AreEventsOf, AreInTurn, AreInputs, AreFilesRead, FitsScore, IsAnswering, IsFitting, IsFormOf, IsListing, IsLoading, IsNoting, IsRead, IsScoreRead, IsTooLongToWrite, IsUnfitted, IsUnwritten, IsWriting, fit_stop, fit_text, IsDrilling, IsFollowing, IsPieceMade, IsPieceOf, IsTooLongDrill, Ready, say, serve, IsUnderstood, IsUnopened, grammar_tests, kern_tests, limit_of, load_stop, open_stop, passed, stopped}
 use Rattle.rhythm_app.specs.declared.request.Form.{Form}
 use Rattle.rhythm_app.specs.declared.request.Form.TheVariants as form
 use Rattle.rhythm_app.specs.declared.request.Talk.{Talk}
@@ -294,10 +294,10 @@ one_piece number p q h k =
     same_performance p q
     (one_loading k.file (Ok p) (Ok q) (subst (λ f. Loads f (Ok p)) same h.loads) k.loads (λ e. cc) (λ e. cc))
 
-one_made : (number : ℕ) → IsOne (IsMade number)
+one_made : (number : ℕ) → IsOne (IsPieceMade number)
 one_made number r s h k = h.2 ∙ ap (λ p. Ok p) (one_piece number h.0 k.0 h.1 k.1) ∙ sym k.2
 
-made_formed : (number : ℕ) (p : Performance) → IsMade number (Ok p) → IsWellFormed p
+made_formed : (number : ℕ) (p : Performance) → IsPieceMade number (Ok p) → IsWellFormed p
 made_formed number p (q, piece, e) = let same : q ≡ p = back p q e in subst IsWellFormed same (pieces_formed number DRILL_BARS q piece)
   where
     back : (p q : Performance) → ◌≡◌ {A = Result Performance Stop} (Ok p) (Ok q) → q ≡ p
@@ -359,7 +359,7 @@ sound_inputs midi grammar i (f, read, (g, understood, (p, loaded, is))) =
     subst (λ (x : Grammar × Performance). IsReadable x.0 × IsWellFormed x.1) (same_inputs i g p is) (readable grammar g understood, well_formed f p loaded)
 
 one_of_files : (last : Grammar → Performance → Result Ready Stop → Type 0) → ((g : Grammar) (p : Performance) → IsReadable g → IsWellFormed p → IsOne (last g p))
-    → (midi grammar : List ℕ) → IsOne (AreRead midi grammar last)
+    → (midi grammar : List ℕ) → IsOne (AreFilesRead midi grammar last)
 one_of_files last one midi grammar =
     in_turn_one (AreInputs midi grammar) (λ i. last i.0 i.1) (one_inputs midi grammar)
     (λ i are. let sound = sound_inputs midi grammar i are in one i.0 i.1 sound.0 sound.1)
@@ -385,8 +385,8 @@ one_of (Some (events kern)) files r s h k =
     (λ score read. one_listing score (in_ranges (file_content files kern) score read)) r s h k
 one_of (Some (generate number bars)) files r s h k = h ∙ sym k
 one_of (Some (drill number grammar)) files r s h k =
-    in_turn_one (IsUnderstood (file_content files grammar)) (λ g. AreInTurn (IsMade number) (λ p. IsDrilling g number p)) (one_understood (file_content files grammar))
-    (λ g understood. in_turn_one (IsMade number) (λ p. IsDrilling g number p) (one_made number)
+    in_turn_one (IsUnderstood (file_content files grammar)) (λ g. AreInTurn (IsPieceMade number) (λ p. IsDrilling g number p)) (one_understood (file_content files grammar))
+    (λ g understood. in_turn_one (IsPieceMade number) (λ p. IsDrilling g number p) (one_made number)
     (λ p made. one_drilling g p (readable (file_content files grammar) g understood) (made_formed number p made) number)) r s h k
 
 pub one_outcome : OutcomesAreOne

@@ -9,7 +9,7 @@ use Rattle.rhythm_app.specs.Builds.{HasBuilt, HasBuiltAll, MatchBuilds}
 use Rattle.rhythm_app.specs.Commands.{HasNames, Named, cells_in, cells_of_asked, command, named, no_cells}
 use Rattle.rhythm_app.specs.Ends.{IsCauseOf}
 use Rattle.rhythm_app.specs.Lent.{Lent}
-use Rattle.rhythm_app.specs.Stages.{CountsAlone, HasInputs, IsBefore, IsOfContent, ReadsShelf}
+use Rattle.rhythm_app.specs.Stages.{CountsAlone, HasInputs, IsStoppedBefore, IsOfContent, ReadsShelf}
 use Rattle.rhythm_app.specs.declared.stop.Kind.TheVariants as kind
 use Rattle.rhythm_app.specs.declared.stop.Stop.{Stop}
 use Rattle.rhythm_app.proofs.Performing.{content_ends, counted_alone}
@@ -35,7 +35,7 @@ module _ {S O E : Type 0} (asked : Asked) (midi grammar : List ℕ) (cells : (co
   same_built alone = ap (λ (l : Lent S O E). l.built) alone
 
   -- the files are no inputs: nothing is built
-  pub unread_before : {T : Type 0} (s : Stop) (i : HasInputs midi grammar old mid (Err s)) → ForSome old.files (λ files. IsCauseOf (Some asked) files s) → IsBefore (Some asked) old mid {T = T} (Err s)
+  pub unread_before : {T : Type 0} (s : Stop) (i : HasInputs midi grammar old mid (Err s)) → ForSome old.files (λ files. IsCauseOf (Some asked) files s) → IsStoppedBefore (Some asked) old mid {T = T} (Err s)
   unread_before s i cause = record {
     cause = cause;
     end = i.end;
@@ -68,7 +68,7 @@ module _ {S O E : Type 0} (asked : Asked) (midi grammar : List ℕ) (cells : (co
 
     pub opened_before : {T : Type 0} (r : Result T Stop) → IfErr r (λ stop. ForSome old.files (λ files. IsCauseOf (Some asked) files stop)) → IfErr r IsOfContent
         → IfErr r (MatchBuilds (new.built ≡ risen mid.built (cells_of p)) (new.built ≤ risen mid.built (cells_of p)) (new.built ≡ mid.built)) → mid.built ≤ new.built → mid.multiplied ≤ new.multiplied
-        → IsBefore (Some asked) old new r
+        → IsStoppedBefore (Some asked) old new r
     opened_before r cause content built rises multiplies = record {
       cause = cause;
       end = content_ends old.shelf_faults new.shelf_faults r content;

@@ -5,10 +5,10 @@ use Rattle.std.specs.Io.KnownBytes.{Appends}
 use Rattle.rhythm_app.specs.Asked.{Asked}
 use Rattle.rhythm_app.specs.Builds.{HasBuilt, HasBuiltAll}
 use Rattle.rhythm_app.specs.Commands.{Cells, HasNames, HasOutcomeOf, cells_drilled, cells_fitted, cells_followed, cells_in, cells_of_asked, command, named, no_cells}
-use Rattle.rhythm_app.specs.Ends.{AppendsPart, ComesTo, IsCauseOf, IsFailureOf, IsPerformed, IsSaid, IsSilent, IsUntouched, KeepsRest}
+use Rattle.rhythm_app.specs.Ends.{AppendsPart, ComesTo, IsCauseOf, IsFailureOf, IsPerformed, IsTextSaid, IsErrUntouched, IsUntouched, KeepsRest}
 use Rattle.rhythm_app.specs.Lent.{Lent}
 use Rattle.rhythm_app.specs.Outcome.{say}
-use Rattle.rhythm_app.specs.Stages.{EndsBy, EndsReading, Follows, HasText, IsBefore, IsFailure, IsOfContent, IsWritten, ReadsAlone}
+use Rattle.rhythm_app.specs.Stages.{EndsBy, EndsReading, Follows, HasText, IsStoppedBefore, IsFailure, IsOfContent, IsTextWritten, ReadsAlone}
 use Rattle.rhythm_app.specs.declared.stop.Kind.{Kind}
 use Rattle.rhythm_app.specs.declared.stop.Kind.TheVariants as kind
 use Rattle.rhythm_app.specs.declared.stop.Stop.{Stop}
@@ -97,13 +97,13 @@ read_end k before now stop.Memory end other = tt
 
 -- out alone took the text, or a first part of it
 wrote_seen : {S O E T : Type 0} (text : List ℕ) (old new : Lent S O E) (r : Result T Stop) → new ≡ record old { out = new.out; taken = new.taken; out_faults = new.out_faults }
-    → OnOk r (Appends old.taken new.taken text) → IfErr r (λ end. (end ≡ stop.Write) × Rose old.out_faults new.out_faults × AppendsPart old.taken new.taken text) → IsWritten text old new r
+    → OnOk r (Appends old.taken new.taken text) → IfErr r (λ end. (end ≡ stop.Write) × Rose old.out_faults new.out_faults × AppendsPart old.taken new.taken text) → IsTextWritten text old new r
 wrote_seen text old new (Ok x) rest all part = record { all = all; part = tt; rest = rest }
 wrote_seen text old new (Err s) rest all part = record { all = tt; part = part; rest = rest }
 
 pub wrote : {S O E T : Type 0} (text : List ℕ) (seen old new : Lent S O E) (r : Result T Stop) → seen ≡ old → new ≡ record seen { out = new.out; taken = new.taken; out_faults = new.out_faults }
-    → OnOk r (Appends seen.taken new.taken text) → IfErr r (λ end. (end ≡ stop.Write) × Rose seen.out_faults new.out_faults × AppendsPart seen.taken new.taken text) → IsWritten text old new r
-wrote {S} {O} {E} text seen old new r same rest all part = subst (λ (l : Lent S O E). IsWritten text l new r) same (wrote_seen text seen new r rest all part)
+    → OnOk r (Appends seen.taken new.taken text) → IfErr r (λ end. (end ≡ stop.Write) × Rose seen.out_faults new.out_faults × AppendsPart seen.taken new.taken text) → IsTextWritten text old new r
+wrote {S} {O} {E} text seen old new r same rest all part = subst (λ (l : Lent S O E). IsTextWritten text l new r) same (wrote_seen text seen new r rest all part)
 
 -- ---- a text
 
@@ -126,7 +126,7 @@ write_built (cells_drilled number grammar) fs old new none = tt
 
 module _ {S O E : Type 0} where
   -- what the reading of files and the counting leave as it was
-  pub kept_rest : (asked : Option Asked) (old new : Lent S O E) {T : Type 0} (r : Result T Stop) → IsBefore asked old new r → KeepsRest asked old new
+  pub kept_rest : (asked : Option Asked) (old new : Lent S O E) {T : Type 0} (r : Result T Stop) → IsStoppedBefore asked old new r → KeepsRest asked old new
   kept_rest asked old new r h = record {
     files = ap (λ (l : Lent S O E). l.files) h.alone;
     strays = h.strays;
@@ -138,11 +138,11 @@ module _ {S O E : Type 0} where
   pub untouched : (old new : Lent S O E) → ReadsAlone old new → IsUntouched old new
   untouched old new alone = (ap (λ (l : Lent S O E). l.out) alone, ap (λ (l : Lent S O E). l.script) alone)
 
-  pub silent_alone : (old new : Lent S O E) → ReadsAlone old new → IsSilent old new
+  pub silent_alone : (old new : Lent S O E) → ReadsAlone old new → IsErrUntouched old new
   silent_alone old new alone = (ap (λ (l : Lent S O E). l.err) alone, ap (λ (l : Lent S O E). l.told) alone, ap (λ (l : Lent S O E). l.err_faults) alone)
 
   -- nothing is written where the run stops before
-  pub stopped_before : {T U : Type 0} (asked : Option Asked) (old new : Lent S O E) (s : Stop) → IsBefore asked old new {T = T} (Err s) → IsPerformed asked old new {T = U} (Err s)
+  pub stopped_before : {T U : Type 0} (asked : Option Asked) (old new : Lent S O E) (s : Stop) → IsStoppedBefore asked old new {T = T} (Err s) → IsPerformed asked old new {T = U} (Err s)
   stopped_before {T} {U} asked old new s h = record {
     known = λ e. absurd (reading_known old.shelf_faults new.shelf_faults s h.end (same_stop {T = U} s stop.Usage e));
     done = tt;
@@ -161,7 +161,7 @@ module _ {S O E : Type 0} where
     taken_same : mid.taken ≡ old.taken
     taken_same = ap (λ (l : Lent S O E). l.taken) had.before.alone
 
-    written_silent : new ≡ record mid { out = new.out; taken = new.taken; out_faults = new.out_faults } → IsSilent old new
+    written_silent : new ≡ record mid { out = new.out; taken = new.taken; out_faults = new.out_faults } → IsErrUntouched old new
     written_silent is =
         let none = silent_alone old mid had.before.alone in
         (ap (λ (l : Lent S O E). l.err) is ∙ none.0, ap (λ (l : Lent S O E). l.told) is ∙ none.1, ap (λ (l : Lent S O E). l.err_faults) is ∙ none.2)
@@ -178,12 +178,12 @@ module _ {S O E : Type 0} where
         }
 
     said : (W : List ℕ → Type 0) → new ≡ record mid { out = new.out; taken = new.taken; out_faults = new.out_faults } → W v.items → (files : List File) → old.files ≡ Some files
-        → IsSaid asked files W old new
+        → IsTextSaid asked files W old new
     said W is took files are =
         (v.items, had.text files are, took, subst (λ n. HasBuiltAll (cells_of_asked asked) files old.built n) (sym (ap (λ (l : Lent S O E). l.built) is)) (had.all files are))
 
     -- a text that was had is written
-    pub written : {T : Type 0} (r : Result T Stop) → IsWritten v.items mid new r → IsPerformed asked old new r
+    pub written : {T : Type 0} (r : Result T Stop) → IsTextWritten v.items mid new r → IsPerformed asked old new r
     written (Ok x) w = record {
       known = λ e. absurd (not_stopped x stop.Usage e);
       done = λ files are. inl (said (Appends old.taken new.taken) w.rest (subst (λ (t : Option (List ℕ)). Appends t new.taken v.items) taken_same w.all) files are);
@@ -252,7 +252,7 @@ module _ {S O E : Type 0} where
   -- the shelf alone was read
   pub shelf_alone : {T : Type 0} (asked : Option Asked) (old new : Lent S O E) (r : Result T Stop) → new ≡ record old { files = new.files; strays = new.strays; shelf_faults = new.shelf_faults } → new.files ≡ old.files
       → IfErr r (λ stop. ForSome old.files (λ files. IsCauseOf asked files stop)) → IfErr r (EndsReading old.shelf_faults new.shelf_faults) → IfErr r (HasBuilt (cells_of_asked asked) old.files old.built old.built)
-      → ForSome old.files (λ files. HasNames files asked → new.strays ≡ old.strays) → IsBefore asked old new r
+      → ForSome old.files (λ files. HasNames files asked → new.strays ≡ old.strays) → IsStoppedBefore asked old new r
   shelf_alone asked old new r reads files cause end built strays = record {
     cause = cause;
     end = end;

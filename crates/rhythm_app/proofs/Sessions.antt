@@ -11,7 +11,7 @@ use Rattle.rhythm_app.specs.Asked.{Asked}
 use Rattle.rhythm_app.specs.Builds.{IsPerformanceIn, MatchBuilds}
 use Rattle.rhythm_app.specs.Commands.{HasOutcomeOf, command, file_content, named}
 use Rattle.rhythm_app.specs.Ends.{ComesTo, IsCauseOf, IsFailureOf}
-use Rattle.rhythm_app.specs.Outcome.{AreInTurn, AreInputs, AreRead, IsAnswering, IsLoading, IsRead, IsUnderstood, IsUnopened, Ready, load_stop, say, serve, stopped}
+use Rattle.rhythm_app.specs.Outcome.{AreInTurn, AreInputs, AreFilesRead, IsAnswering, IsLoading, IsRead, IsUnderstood, IsUnopened, Ready, load_stop, say, serve, stopped}
 use Rattle.rhythm_app.specs.Stages.{Follows, IsFailure, IsOfContent, IsOfWriting, IsReadFailure, said_of}
 use Rattle.rhythm_app.specs.declared.request.Talk.{Talk}
 use Rattle.rhythm_app.specs.declared.stop.Kind.TheVariants as kind
@@ -152,7 +152,7 @@ is_performance midi f p (inl read) (inr failed) = absurd failed
 
 module _ (asked : Asked) (midi grammar : List ℕ) (files : List File) (last : Grammar → Performance → Result Ready Stop → Type 0)
     (reads : (command asked).reads ≡ named kind.Midi midi ∷ named kind.Grammar grammar ∷ [])
-    (outcome : (r : Result Ready Stop) → AreRead (file_content files midi) (file_content files grammar) last r → HasOutcomeOf (Some asked) files r) where
+    (outcome : (r : Result Ready Stop) → AreFilesRead (file_content files midi) (file_content files grammar) last r → HasOutcomeOf (Some asked) files r) where
   reads_fail : (s : Stop) → IsReadFailure (file_content files midi) s → IsFailureOf (Some asked) files s
   reads_fail (stop.Read kind.Midi) failed = subst (ComesTo files kind.Midi) (sym reads) (inl refl)
   reads_fail (stop.Read kind.Grammar) failed = subst (ComesTo files kind.Grammar) (sym reads) (inr (failed, inl refl))

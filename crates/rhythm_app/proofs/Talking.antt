@@ -3,7 +3,7 @@ use Rattle.std.proofs.Common.{◌≡◌, ◌≤◌, ◌∙◌, ℕ, List, ap, ar
 use Rattle.edit_session.specs.Opening.{cells_of}
 use Rattle.edit_session.specs.Session.{Session}
 use Rattle.rhythm_app.specs.Asked.{Asked, answer}
-use Rattle.rhythm_app.specs.Ends.{IsBrokenOff, IsDone, IsPerformed, IsSilent, IsUntouched, KeepsRest, desk_of}
+use Rattle.rhythm_app.specs.Ends.{IsBrokenOff, IsTalkDone, IsPerformed, IsErrUntouched, IsUntouched, KeepsRest, desk_of}
 use Rattle.rhythm_app.specs.Lent.{Lent}
 use Rattle.rhythm_app.specs.Stages.{HasSession}
 use Rattle.rhythm_app.specs.Stops.{script_stop}
@@ -32,19 +32,19 @@ module _ {S O E : Type 0} where
   module _ (seen old new : Lent S O E) (t : Talk) (g : Grammar) (p : Performance) (desk : Desk) (same : seen ≡ old) (is : desk ≡ desk_of t g p) where
     pub done_seen : {T F : Type 0} (r : Result T F)
         → OnOk r ((last : Editing) × script.IsDone desk seen.rest new.rest seen.taken new.taken last × (new.built ≡ risen seen.built last.built))
-        → OnOk r ((last : Editing) × IsDone old new t g p last × (new.built ≡ risen old.built last.built))
+        → OnOk r ((last : Editing) × IsTalkDone old new t g p last × (new.built ≡ risen old.built last.built))
     done_seen (Ok x) h =
-        subst (λ (l : Lent S O E). (last : Editing) × IsDone l new t g p last × (new.built ≡ risen l.built last.built)) same
+        subst (λ (l : Lent S O E). (last : Editing) × IsTalkDone l new t g p last × (new.built ≡ risen l.built last.built)) same
         (subst (λ (d : Desk). (last : Editing) × script.IsDone d seen.rest new.rest seen.taken new.taken last × (new.built ≡ risen seen.built last.built)) is h)
     done_seen (Err e) h = tt
 
     pub broken_seen : {T : Type 0} (r : Result T ScriptStop)
-        → IfErr r (λ end. (last : Editing) × script.IsStopped end desk seen.rest new.rest seen.taken new.taken last × (new.built ≡ risen seen.built last.built))
+        → IfErr r (λ end. (last : Editing) × script.IsScriptStopped end desk seen.rest new.rest seen.taken new.taken last × (new.built ≡ risen seen.built last.built))
         → IfErr r (λ end. (last : Editing) × IsBrokenOff end old new t g p last × (new.built ≡ risen old.built last.built))
     broken_seen (Ok x) h = tt
     broken_seen (Err end) h =
         subst (λ (l : Lent S O E). (last : Editing) × IsBrokenOff end l new t g p last × (new.built ≡ risen l.built last.built)) same
-        (subst (λ (d : Desk). (last : Editing) × script.IsStopped end d seen.rest new.rest seen.taken new.taken last × (new.built ≡ risen seen.built last.built)) is h)
+        (subst (λ (d : Desk). (last : Editing) × script.IsScriptStopped end d seen.rest new.rest seen.taken new.taken last × (new.built ≡ risen seen.built last.built)) is h)
 
   -- there is not enough memory for what answers the script
   pub no_desk : (l : Lent S O E) (t : Talk) (g : Grammar) (p : Performance) (end : ScriptStop) → end ≡ stops.Memory
@@ -80,15 +80,15 @@ module _ {S O E : Type 0} where
     from_old : (P : Lent S O E → Type 0) → P mid → P (record old { strays = mid.strays; shelf_faults = mid.shelf_faults; built = mid.built; multiplied = mid.multiplied })
     from_old P x = subst P h.before.alone x
 
-    done_old : (last : Editing) → IsDone mid new t s.grammar s.performance last → IsDone old new t s.grammar s.performance last
-    done_old last done = from_old (λ l. IsDone l new t s.grammar s.performance last) done
+    done_old : (last : Editing) → IsTalkDone mid new t s.grammar s.performance last → IsTalkDone old new t s.grammar s.performance last
+    done_old last done = from_old (λ l. IsTalkDone l new t s.grammar s.performance last) done
 
     broken_old : (e : ScriptStop) (last : Editing) → IsBrokenOff e mid new t s.grammar s.performance last → IsBrokenOff e old new t s.grammar s.performance last
     broken_old e last broken = from_old (λ l. IsBrokenOff e l new t s.grammar s.performance last) broken
 
     -- the script is answered to its end, or to `quit`
-    pub answered : {T : Type 0} (x : T) → ((last : Editing) × IsDone mid new t s.grammar s.performance last × (new.built ≡ risen mid.built last.built))
-        → (new.files ≡ mid.files) × (new.strays ≡ mid.strays) × (new.shelf_faults ≡ mid.shelf_faults) → mid.built ≤ new.built → mid.multiplied ≤ new.multiplied → IsSilent mid new
+    pub answered : {T : Type 0} (x : T) → ((last : Editing) × IsTalkDone mid new t s.grammar s.performance last × (new.built ≡ risen mid.built last.built))
+        → (new.files ≡ mid.files) × (new.strays ≡ mid.strays) × (new.shelf_faults ≡ mid.shelf_faults) → mid.built ≤ new.built → mid.multiplied ≤ new.multiplied → IsErrUntouched mid new
         → IsPerformed (Some asked) old new {T = T} (Ok x)
     answered {T} x (last, done, more) files built multiplied err = record {
       known = λ e. absurd (not_stopped {T = T} x e);
@@ -109,7 +109,7 @@ module _ {S O E : Type 0} where
     -- the answering stopped
     pub broken_off : {T : Type 0} (e : ScriptStop) → ((last : Editing) × IsBrokenOff e mid new t s.grammar s.performance last × (new.built ≡ risen mid.built last.built))
         → (e ≡ stops.Read → Rose mid.script_faults new.script_faults) → (e ≡ stops.Write → Rose mid.out_faults new.out_faults) → (e ≡ stops.Memory → IsUntouched mid new)
-        → (new.files ≡ mid.files) × (new.strays ≡ mid.strays) × (new.shelf_faults ≡ mid.shelf_faults) → mid.built ≤ new.built → mid.multiplied ≤ new.multiplied → IsSilent mid new
+        → (new.files ≡ mid.files) × (new.strays ≡ mid.strays) × (new.shelf_faults ≡ mid.shelf_faults) → mid.built ≤ new.built → mid.multiplied ≤ new.multiplied → IsErrUntouched mid new
         → IsPerformed (Some asked) old new {T = T} (Err (script_stop e))
     broken_off {T} e (last, broken, more) read write memory files built multiplied err = record {
       known = λ is. absurd (script_known e (same_stop {T = T} (script_stop e) is));

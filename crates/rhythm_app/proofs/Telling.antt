@@ -1,7 +1,7 @@
 -- After err was told of a stop, what held of the rest still holds.
 use Rattle.std.proofs.Common.{◌≡◌, ◌∙◌, ℕ, List, ap, inl, inr, subst, sym, Option}
 use Rattle.rhythm_app.specs.Asked.{Asked}
-use Rattle.rhythm_app.specs.Ends.{HasRisen, HasStopped, HasTaken, IsBrokenOff, IsCutShort, IsSilent, IsStopped, IsTold, Tells}
+use Rattle.rhythm_app.specs.Ends.{HasRisen, HasStopped, HasTaken, IsBrokenOff, IsOutputCut, IsErrUntouched, IsStopped, IsStopTold, Tells}
 use Rattle.rhythm_app.specs.Lent.{Lent}
 use Rattle.rhythm_app.specs.declared.request.Talk.{Talk}
 use Rattle.rhythm_app.specs.declared.stop.Kind.TheVariants as kind
@@ -53,7 +53,7 @@ module _ {S O E : Type 0} (asked : Option Asked) (old mid : Lent S O E) (err : E
   stopped_after : (files : List File) (s : Stop) → HasStopped asked files s old mid → HasStopped asked files s old after
   stopped_after files s (e, is, (t, g, p, last, outcome, broken, built)) = (e, is, (t, g, p, last, outcome, broken_after e t g p last broken, built))
 
-  cut_after : (files : List File) → IsCutShort asked files old mid → IsCutShort asked files old after
+  cut_after : (files : List File) → IsOutputCut asked files old mid → IsOutputCut asked files old after
   cut_after files (inl said) = inl said
   cut_after files (inr h) = inr (stopped_after files stop.Write h)
 
@@ -98,7 +98,7 @@ module _ {S O E : Type 0} (asked : Option Asked) (old seen mid new : Lent S O E)
   stop_told s h = subst (λ (l : Lent S O E). IsStopped asked old l s) (sym is_after) (stop_after asked old mid new.err new.told new.err_faults s h)
 
 -- err had taken nothing before
-pub told_of : {S O E : Type 0} (old mid seen new : Lent S O E) (s : Stop) → seen ≡ mid → IsSilent old mid → Tells seen.told new.told seen.err_faults new.err_faults s → IsTold old new s
+pub told_of : {S O E : Type 0} (old mid seen new : Lent S O E) (s : Stop) → seen ≡ mid → IsErrUntouched old mid → Tells seen.told new.told seen.err_faults new.err_faults s → IsStopTold old new s
 told_of {S} {O} {E} old mid seen new s same silent h =
     subst (λ (n : ℕ). Tells old.told new.told n new.err_faults s) (ap (λ (l : Lent S O E). l.err_faults) same ∙ silent.2)
     (subst (λ (t : Option (List ℕ)). Tells t new.told seen.err_faults new.err_faults s) (ap (λ (l : Lent S O E). l.told) same ∙ silent.1) h)

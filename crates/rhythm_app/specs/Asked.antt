@@ -129,15 +129,15 @@ shown_request (request.Generate number bars) = generate number bars
 shown_request (request.Drill number grammar) = drill number grammar.now
 
 -- the candidates of a barline that are tried
-pub record AreTried (c : Candidates) : Type 0 where
+pub record AreCandidates (c : Candidates) : Type 0 where
   pub order : c.low ≤ c.high
   pub high : c.high ≤ LATEST_TICK
   pub step : 1 ≤ c.step
   pub few : (c.high - c.low) / c.step < MOST_CANDIDATES
 
 -- the numbers of a request lie in their ranges
-abbrev pub IsInRange : Request → Type 0
-IsInRange (request.Fit files among) = AreTried among
-IsInRange (request.Generate number bars) = (number ≤ 65534) × (1 ≤ bars) × (bars ≤ 2000)
-IsInRange (request.Drill number grammar) = number ≤ 65534
-IsInRange _ = ⊤
+abbrev pub IsRequestInRange : Request → Type 0
+IsRequestInRange (request.Fit files among) = AreCandidates among
+IsRequestInRange (request.Generate number bars) = (number ≤ 65534) × (1 ≤ bars) × (bars ≤ 2000)
+IsRequestInRange (request.Drill number grammar) = number ≤ 65534
+IsRequestInRange _ = ⊤

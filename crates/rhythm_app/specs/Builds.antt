@@ -6,7 +6,7 @@ use Rattle.barline_fit.specs.Candidates.{ticks_of}
 use Rattle.barline_fit.specs.Fitted.{IsFitted}
 use Rattle.barline_fit.specs.declared.candidates.Candidates.{Candidates}
 use Rattle.barline_fit.specs.declared.fitted.Fitted.{Fitted}
-use Rattle.drill_run.specs.Ends.{HasDrilled, IsBrokenOff}
+use Rattle.drill_run.specs.Ends.{HasDrilled, IsDrillBrokenOff}
 use Rattle.edit_session.specs.Opening.{cells_of}
 use Rattle.edit_session.specs.Prepared.{RisesBy}
 use Rattle.performance_load.specs.Loading.{IsLoaded}
@@ -132,7 +132,7 @@ MatchDrilled all long some none _ = none
 
 -- some of the cells of a performance were built, or all of them and some of those for the edits of its drill
 abbrev pub AreSomeDrilled : Grammar → ℕ → Performance → ℕ → ℕ → Type 0
-AreSomeDrilled g number p old new = (new ≤ risen old (cells_of p)) ⊎ IsBrokenOff g number p (risen old (cells_of p)) new
+AreSomeDrilled g number p old new = (new ≤ risen old (cells_of p)) ⊎ IsDrillBrokenOff g number p (risen old (cells_of p)) new
 
 -- the same of the cells of a drill by a grammar file
 abbrev pub HasDrilledOf : Option (List File) → ℕ → List ℕ → ℕ → ℕ → Stop → Type 0

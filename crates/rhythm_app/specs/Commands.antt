@@ -3,7 +3,7 @@ use Rattle.std.specs.Prelude.{◌≡◌, ◌≢◌, ℕ, List, [], ◌∷◌, Al
 use Rattle.command_line.specs.Texts.{help_text, version_text}
 use Rattle.barline_fit.specs.declared.candidates.Candidates.{Candidates}
 use Rattle.rhythm_app.specs.Asked.{Asked, help, version, write, answer, fit, too_many_candidates, follow, notes, events, generate, drill, asked_by}
-use Rattle.rhythm_app.specs.Outcome.{AreInTurn, AreRead, IsAnswering, IsDrilling, IsFitting, IsFollowing, IsListing, IsLoading, IsMade, IsNoting, IsRead, IsScoreRead, IsUnderstood, IsWriting, Ready, say}
+use Rattle.rhythm_app.specs.Outcome.{AreInTurn, AreFilesRead, IsAnswering, IsDrilling, IsFitting, IsFollowing, IsListing, IsLoading, IsPieceMade, IsNoting, IsRead, IsScoreRead, IsUnderstood, IsWriting, Ready, say}
 use Rattle.rhythm_app.specs.declared.stop.Kind.{Kind}
 use Rattle.rhythm_app.specs.declared.stop.Kind.TheVariants as kind
 use Rattle.rhythm_app.specs.declared.stop.Stop.{Stop}
@@ -48,23 +48,23 @@ command help = record { reads = []; outcome = only help_text; cells = no_cells }
 command version = record { reads = []; outcome = only version_text; cells = no_cells }
 command (write form midi grammar) = record {
   reads = named kind.Midi midi ∷ named kind.Grammar grammar ∷ [];
-  outcome = λ files. AreRead (file_content files midi) (file_content files grammar) (IsWriting form);
+  outcome = λ files. AreFilesRead (file_content files midi) (file_content files grammar) (IsWriting form);
   cells = cells_in midi;
 }
 command (answer talk midi grammar) = record {
   reads = named kind.Midi midi ∷ named kind.Grammar grammar ∷ [];
-  outcome = λ files. AreRead (file_content files midi) (file_content files grammar) (IsAnswering talk);
+  outcome = λ files. AreFilesRead (file_content files midi) (file_content files grammar) (IsAnswering talk);
   cells = cells_in midi;
 }
 command (fit midi grammar c) = record {
   reads = named kind.Midi midi ∷ named kind.Grammar grammar ∷ [];
-  outcome = λ files. AreRead (file_content files midi) (file_content files grammar) (IsFitting c);
+  outcome = λ files. AreFilesRead (file_content files midi) (file_content files grammar) (IsFitting c);
   cells = cells_fitted midi grammar c;
 }
 command (too_many_candidates count) = record { reads = []; outcome = λ files r. r ≡ Err (TooManyCandidates count); cells = no_cells }
 command (follow midi grammar) = record {
   reads = named kind.Midi midi ∷ named kind.Grammar grammar ∷ [];
-  outcome = λ files. AreRead (file_content files midi) (file_content files grammar) IsFollowing;
+  outcome = λ files. AreFilesRead (file_content files midi) (file_content files grammar) IsFollowing;
   cells = cells_followed midi;
 }
 command (notes midi) = record {
@@ -80,7 +80,7 @@ command (events kern) = record {
 command (generate number bars) = record { reads = []; outcome = only (generated number bars); cells = no_cells }
 command (drill number grammar) = record {
   reads = named kind.Grammar grammar ∷ [];
-  outcome = λ files. AreInTurn (IsUnderstood (file_content files grammar)) (λ g. AreInTurn (IsMade number) (λ p. IsDrilling g number p));
+  outcome = λ files. AreInTurn (IsUnderstood (file_content files grammar)) (λ g. AreInTurn (IsPieceMade number) (λ p. IsDrilling g number p));
   cells = cells_drilled number grammar;
 }
 

@@ -46,8 +46,8 @@ abbrev pub AppendsPart : Option (List ℕ) → Option (List ℕ) → List ℕ �
 AppendsPart old new text = (n : ℕ) × (n < length text) × Appends old new (take n text)
 
 -- a text is the outcome; out took what W says of it, and all cells were built, where there are any
-abbrev pub IsSaid : {S O E : Type 0} → Option Asked → List File → (List ℕ → Type 0) → Lent S O E → Lent S O E → Type 0
-IsSaid asked files W old new = (text : List ℕ) × HasOutcomeOf asked files (Ok (say text)) × W text × HasBuiltAll (cells_of_asked asked) files old.built new.built
+abbrev pub IsTextSaid : {S O E : Type 0} → Option Asked → List File → (List ℕ → Type 0) → Lent S O E → Lent S O E → Type 0
+IsTextSaid asked files W old new = (text : List ℕ) × HasOutcomeOf asked files (Ok (say text)) × W text × HasBuiltAll (cells_of_asked asked) files old.built new.built
 
 -- a script is answered as W says, from the performance that was loaded on. All its cells were built, and then those for the edits
 abbrev pub IsServed : {S O E : Type 0} → Option Asked → List File → (Talk → Grammar → Performance → Editing → Type 0) → Lent S O E → Lent S O E → Type 0
@@ -61,24 +61,24 @@ desk_of talk.Editing g p = editor g p
 desk_of talk.Studio g p = studio (begun_with g p)
 
 -- a script was answered to its end, or to `quit`
-abbrev pub IsDone : {S O E : Type 0} → Lent S O E → Lent S O E → Talk → Grammar → Performance → Editing → Type 0
-IsDone old new t g p last = script.IsDone (desk_of t g p) old.rest new.rest old.taken new.taken last
+abbrev pub IsTalkDone : {S O E : Type 0} → Lent S O E → Lent S O E → Talk → Grammar → Performance → Editing → Type 0
+IsTalkDone old new t g p last = script.IsDone (desk_of t g p) old.rest new.rest old.taken new.taken last
 
 -- the answering of a script stopped
 abbrev pub IsBrokenOff : {S O E : Type 0} → ScriptStop → Lent S O E → Lent S O E → Talk → Grammar → Performance → Editing → Type 0
-IsBrokenOff s old new t g p last = script.IsStopped s (desk_of t g p) old.rest new.rest old.taken new.taken last
+IsBrokenOff s old new t g p last = script.IsScriptStopped s (desk_of t g p) old.rest new.rest old.taken new.taken last
 
 -- all is written: the text, or the replies to the script
 abbrev pub IsAnswered : {S O E : Type 0} → Option Asked → List File → Lent S O E → Lent S O E → Type 0
-IsAnswered asked files old new = IsSaid asked files (Appends old.taken new.taken) old new ⊎ IsServed asked files (IsDone old new) old new
+IsAnswered asked files old new = IsTextSaid asked files (Appends old.taken new.taken) old new ⊎ IsServed asked files (IsTalkDone old new) old new
 
 -- the answering of a script stopped, and so the run
 abbrev pub HasStopped : {S O E : Type 0} → Option Asked → List File → Stop → Lent S O E → Lent S O E → Type 0
 HasStopped asked files stop old new = (s : ScriptStop) × (stop ≡ script_stop s) × IsServed asked files (IsBrokenOff s old new) old new
 
 -- a write failed: out took a first part of the text, or of the replies to the script
-abbrev pub IsCutShort : {S O E : Type 0} → Option Asked → List File → Lent S O E → Lent S O E → Type 0
-IsCutShort asked files old new = IsSaid asked files (AppendsPart old.taken new.taken) old new ⊎ HasStopped asked files Write old new
+abbrev pub IsOutputCut : {S O E : Type 0} → Option Asked → List File → Lent S O E → Lent S O E → Type 0
+IsOutputCut asked files old new = IsTextSaid asked files (AppendsPart old.taken new.taken) old new ⊎ HasStopped asked files Write old new
 
 -- out took nothing, and no byte of the script was read
 abbrev pub IsUntouched : {S O E : Type 0} → Lent S O E → Lent S O E → Type 0
@@ -87,7 +87,7 @@ IsUntouched old new = (new.out ≡ old.out) × (new.script ≡ old.script)
 -- what out took, by the stop: after a failed write a first part; where the script could not be read or is over a limit, the replies to
 -- the lines before; and else nothing
 abbrev pub HasTaken : {S O E : Type 0} → Option Asked → Lent S O E → Lent S O E → Stop → Type 0
-HasTaken asked old new Write = ForSome old.files (λ files. IsCutShort asked files old new)
+HasTaken asked old new Write = ForSome old.files (λ files. IsOutputCut asked files old new)
 HasTaken asked old new (Read kind.Script) = ForSome old.files (λ files. HasStopped asked files (Read kind.Script) old new)
 HasTaken asked old new (FileTooLong kind.Script read) = ForSome old.files (λ files. HasStopped asked files (FileTooLong kind.Script read) old new)
 HasTaken asked old new (LineTooLong read) = ForSome old.files (λ files. HasStopped asked files (LineTooLong read) old new)
@@ -154,8 +154,8 @@ pub record KeepsRest {S O E : Type 0} (asked : Option Asked) (old new : Lent S O
   pub multiplied : old.multiplied ≤ new.multiplied
 
 -- err took nothing
-abbrev pub IsSilent : {S O E : Type 0} → Lent S O E → Lent S O E → Type 0
-IsSilent old new = (new.err ≡ old.err) × (new.told ≡ old.told) × (new.err_faults ≡ old.err_faults)
+abbrev pub IsErrUntouched : {S O E : Type 0} → Lent S O E → Lent S O E → Type 0
+IsErrUntouched old new = (new.err ≡ old.err) × (new.told ≡ old.told) × (new.err_faults ≡ old.err_faults)
 
 -- what a run does before err is told: all is written, or it stopped
 pub record IsPerformed {S O E : Type 0} (asked : Option Asked) (old new : Lent S O E) {T : Type 0} (result : Result T Stop) : Type 0 where
@@ -163,7 +163,7 @@ pub record IsPerformed {S O E : Type 0} (asked : Option Asked) (old new : Lent S
   pub done : OnOk result (ForSome old.files (λ files. IsAnswered asked files old new))
   pub stopped : IfErr result (IsStopped asked old new)
   pub rest : KeepsRest asked old new
-  pub err : IsSilent old new
+  pub err : IsErrUntouched old new
 
 -- a line was taken whole, or a first part of it where a call failed
 abbrev pub Reports : Option (List ℕ) → Option (List ℕ) → ℕ → ℕ → List ℕ → Type 0
@@ -179,8 +179,8 @@ Tells old new before now Usage = ReportsMore old new before now (stop_line Usage
 Tells old new before now stop = Reports old new before now (stop_line stop)
 
 -- err took it
-abbrev pub IsTold : {S O E : Type 0} → Lent S O E → Lent S O E → Stop → Type 0
-IsTold old new stop = Tells old.told new.told old.err_faults new.err_faults stop
+abbrev pub IsStopTold : {S O E : Type 0} → Lent S O E → Lent S O E → Stop → Type 0
+IsStopTold old new stop = Tells old.told new.told old.err_faults new.err_faults stop
 
 -- ---- completeness
 

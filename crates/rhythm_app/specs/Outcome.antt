@@ -49,7 +49,7 @@ use Rattle.rhythm_base.specs.declared.limits.TheConstants.{LONGEST_GRAMMAR, LONG
 use Rattle.script_writer.specs.EditText.{script_text}
 use Rattle.smf_reader.specs.Played.{Smf}
 use Rattle.smf_reader.specs.SmfFile.{smf}
-use Rattle.smf_writer.specs.RenderedFile.{HasFault, IsRendered}
+use Rattle.smf_writer.specs.RenderedFile.{HasRenderFault, IsRendered}
 use Rattle.smf_writer.specs.declared.fault.RenderFault.{RenderFault}
 use Rattle.smf_writer.specs.declared.fault.RenderFault.TheVariants as rendering
 
@@ -172,7 +172,7 @@ render_stop rendering.Memory = stop.Memory
 -- a session is opened, and its score is within its limit, but ends too late for a MIDI file
 abbrev pub IsTooLongToRender : Grammar → Performance → Stop → Type 0
 IsTooLongToRender g p s =
-    (text : List ℕ) × (tick : ℕ) × CanOpen g p × IsKernTextOf g p text × HasFault g.resolution (map (score_bar p) p.bars) (rendering.TooLong tick) × (s ≡ stop.RenderTooLong tick)
+    (text : List ℕ) × (tick : ℕ) × CanOpen g p × IsKernTextOf g p text × HasRenderFault g.resolution (map (score_bar p) p.bars) (rendering.TooLong tick) × (s ≡ stop.RenderTooLong tick)
 
 -- a session is opened, and its score is within its limit, but is not written in this form
 abbrev pub IsUnwritten : Form → Grammar → Performance → Stop → Type 0
@@ -259,8 +259,8 @@ abbrev pub IsPieceOf : ℕ → Performance → Type 0
 IsPieceOf number p = IsLoadingOf number DRILL_BARS (Ok p)
 
 -- a piece is always made
-abbrev pub IsMade : ℕ → Result Performance Stop → Type 0
-IsMade number r = (p : Performance) × IsPieceOf number p × (r ≡ Ok p)
+abbrev pub IsPieceMade : ℕ → Result Performance Stop → Type 0
+IsPieceMade number r = (p : Performance) × IsPieceOf number p × (r ≡ Ok p)
 
 -- a session is opened, and the score after the last edit of the drill is too long
 abbrev pub IsTooLongDrill : Grammar → ℕ → Performance → Stop → Type 0
@@ -285,5 +285,5 @@ AreInputs midi grammar =
     AreInTurn (IsRead midi) (λ f. AreInTurn (IsUnderstood grammar) (λ g. AreInTurn (IsLoading f) (λ p r. r ≡ Ok (g, p))))
 
 -- what they come to by what is asked of the grammar and the performance
-abbrev pub AreRead : List ℕ → List ℕ → (Grammar → Performance → Result Ready Stop → Type 0) → Result Ready Stop → Type 0
-AreRead midi grammar last = AreInTurn (AreInputs midi grammar) (λ inputs. last inputs.0 inputs.1)
+abbrev pub AreFilesRead : List ℕ → List ℕ → (Grammar → Performance → Result Ready Stop → Type 0) → Result Ready Stop → Type 0
+AreFilesRead midi grammar last = AreInTurn (AreInputs midi grammar) (λ inputs. last inputs.0 inputs.1)

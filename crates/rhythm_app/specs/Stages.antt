@@ -113,7 +113,7 @@ abbrev pub ReadsAlone : {S O E : Type 0} → Lent S O E → Lent S O E → Type 
 ReadsAlone old new = new ≡ record old { strays = new.strays; shelf_faults = new.shelf_faults; built = new.built; multiplied = new.multiplied }
 
 -- before anything is written: where no text and no session is had the run stops
-pub record IsBefore {S O E : Type 0} (asked : Option Asked) (old new : Lent S O E) {T : Type 0} (result : Result T Stop) : Type 0 where
+pub record IsStoppedBefore {S O E : Type 0} (asked : Option Asked) (old new : Lent S O E) {T : Type 0} (result : Result T Stop) : Type 0 where
   pub cause : IfErr result (λ stop. ForSome old.files (λ files. IsCauseOf asked files stop))
   pub end : IfErr result (EndsReading old.shelf_faults new.shelf_faults)
   pub built : IfErr result (HasBuilt (cells_of_asked asked) old.files old.built new.built)
@@ -151,17 +151,17 @@ pub record HasRules {S O E : Type 0} (grammar : List ℕ) (old new : Lent S O E)
 pub record HasText {S O E A : Type 0} (asked : Option Asked) (old new : Lent S O E) (result : Result (Vec ℕ A) Stop) : Type 0 where
   pub text : IfOk result (λ v. ForSome old.files (λ files. HasOutcomeOf asked files (Ok (say v.items))))
   pub all : IfOk result (λ _. ForSome old.files (λ files. HasBuiltAll (cells_of_asked asked) files old.built new.built))
-  pub before : IsBefore asked old new result
+  pub before : IsStoppedBefore asked old new result
 
 -- the session that answers a script is had, and all its cells are built
 pub record HasSession {S O E : Type 0} (asked : Option Asked) (talk : Talk) (old new : Lent S O E) (result : Result Session Stop) : Type 0 where
   pub ready : IfOk result (λ s. ForSome old.files (λ files. HasOutcomeOf asked files (Ok (serve talk s.grammar s.performance))))
   pub cells : IfOk result (λ s. new.built ≡ risen old.built (cells_of s.performance))
   pub all : IfOk result (λ _. ForSome old.files (λ files. HasBuiltAll (cells_of_asked asked) files old.built new.built))
-  pub before : IsBefore asked old new result
+  pub before : IsStoppedBefore asked old new result
 
 -- a text was written, or a first part of it where a call failed; nothing but out was touched
-pub record IsWritten {S O E T : Type 0} (text : List ℕ) (old new : Lent S O E) (result : Result T Stop) : Type 0 where
+pub record IsTextWritten {S O E T : Type 0} (text : List ℕ) (old new : Lent S O E) (result : Result T Stop) : Type 0 where
   pub all : IfOk result (λ _. Appends old.taken new.taken text)
   pub part : IfErr result (λ stop. (stop ≡ Write) × Rose old.out_faults new.out_faults × AppendsPart old.taken new.taken text)
   pub rest : new ≡ record old { out = new.out; taken = new.taken; out_faults = new.out_faults }

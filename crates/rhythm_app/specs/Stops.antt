@@ -129,8 +129,8 @@ abbrev pub pair_line : List ℕ → ℕ → ℕ → List ℕ
 pair_line head first second = joined_words (head ∷ decimal first ∷ codes " " ∷ decimal second ∷ codes "\n" ∷ [])
 
 -- a bar and its signature
-abbrev pub signature_line : List ℕ → ℕ → ℕ → ℕ → List ℕ
-signature_line head bar num den =
+abbrev pub bar_signature_line : List ℕ → ℕ → ℕ → ℕ → List ℕ
+bar_signature_line head bar num den =
     joined_words (head ∷ decimal bar ∷ codes " " ∷ decimal num ∷ codes "/" ∷ decimal den ∷ codes "\n" ∷ [])
 
 -- what is counted, and the number that is above its limit
@@ -147,10 +147,10 @@ stop_line (Kern fault) = kern_fault_line fault.line (fault_name fault.what)
 stop_line NoNotes = joined_words (codes "notes NoNotes\n" ∷ [])
 stop_line (TooManyNotes count) = limit_line (codes "notes") count
 stop_line (BadSignature num dd) = pair_line (codes "bars BadSignature ") num dd
-stop_line (UnevenBar bar num den) = signature_line (codes "bars UnevenBar ") bar num den
+stop_line (UnevenBar bar num den) = bar_signature_line (codes "bars UnevenBar ") bar num den
 stop_line (TooManyBars start) = limit_line (codes "bars") start
 stop_line (TooManyCells count) = limit_line (codes "cells") count
-stop_line (NoStart bar num den) = signature_line (codes "start ") bar num den
+stop_line (NoStart bar num den) = bar_signature_line (codes "start ") bar num den
 stop_line (NoDerivation channel bar) = pair_line (codes "no derivation ") channel bar
 stop_line (ScoreTooLong line) = limit_line (codes "score") line
 stop_line (RenderTooLong tick) = limit_line (codes "render") tick

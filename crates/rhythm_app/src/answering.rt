@@ -1,5 +1,5 @@
 ghost use Rattle.rhythm_app.specs.Asked.{answer};
-ghost use Rattle.rhythm_app.specs.Ends.{IsBrokenOff, IsDone, IsPerformed, IsSilent, IsUntouched, desk_of};
+ghost use Rattle.rhythm_app.specs.Ends.{IsBrokenOff, IsTalkDone, IsPerformed, IsErrUntouched, IsUntouched, desk_of};
 ghost use Rattle.rhythm_app.specs.Stages.{HasSession};
 ghost use Rattle.rhythm_app.specs.Stops.{script_stop};
 ghost use Rattle.rhythm_base.specs.Counter.{risen};
@@ -75,7 +75,7 @@ fn talk_over<R: Threads + Sync, F: Shelf, S: Source, O: Sink, E: Sink, G: Gate +
     talk: Talk,
     session: Session,
 ) -> Result<(), ScriptStop>
-    ensures done { OnOk result ((last : Editing) × IsDone lent.old lent.new talk session.grammar session.performance last × (lent.new.built ≡ risen lent.old.built last.built)) }
+    ensures done { OnOk result ((last : Editing) × IsTalkDone lent.old lent.new talk session.grammar session.performance last × (lent.new.built ≡ risen lent.old.built last.built)) }
     ensures broken { IfErr result (λ end. (last : Editing) × IsBrokenOff end lent.old lent.new talk session.grammar session.performance last × (lent.new.built ≡ risen lent.old.built last.built)) }
     ensures read { result ≡ Err stops.Read → Rose lent.old.script_faults lent.new.script_faults }
     ensures write { result ≡ Err stops.Write → Rose lent.old.out_faults lent.new.out_faults }
@@ -83,7 +83,7 @@ fn talk_over<R: Threads + Sync, F: Shelf, S: Source, O: Sink, E: Sink, G: Gate +
     ensures rises { lent.old.built ≤ lent.new.built }
     ensures multiplies { lent.old.multiplied ≤ lent.new.multiplied }
     ensures files { (lent.new.files ≡ lent.old.files) × (lent.new.strays ≡ lent.old.strays) × (lent.new.shelf_faults ≡ lent.old.shelf_faults) }
-    ensures err { IsSilent lent.old lent.new }
+    ensures err { IsErrUntouched lent.old lent.new }
 {
     let means = Means {
         rt: lent.rt,

@@ -1,4 +1,4 @@
-ghost use Rattle.drill_run.specs.Ends.{HasDrilled, IsBrokenOff};
+ghost use Rattle.drill_run.specs.Ends.{HasDrilled, IsDrillBrokenOff};
 ghost use Rattle.edit_session.specs.Opening.{cells_of};
 ghost use Rattle.drill_run.specs.declared.drill_stop.DrillStop.TheVariants as drill;
 ghost use Rattle.rhythm_app.specs.Asked as asked;
@@ -50,7 +50,7 @@ fn drill_over<R: Threads + Sync, F: Shelf, S: Source, O: Sink, E: Sink, G: Gate 
     requires last { session.performance.last ≤ 1999999000 }
     ensures summary { IfOk result (λ text. HasDrilled session.grammar number session.performance (Ok text.items) lent.old.built lent.new.built) }
     ensures too_long { (line : ℕ) → result ≡ Err (drill.ScoreTooLong line) → HasDrilled session.grammar number session.performance (Err line) lent.old.built lent.new.built }
-    ensures memory { result ≡ Err drill.Memory → IsBrokenOff session.grammar number session.performance lent.old.built lent.new.built }
+    ensures memory { result ≡ Err drill.Memory → IsDrillBrokenOff session.grammar number session.performance lent.old.built lent.new.built }
     ensures rises { lent.old.built ≤ lent.new.built }
     ensures multiplies { lent.old.multiplied ≤ lent.new.multiplied }
     ensures counts { CountsAlone lent.old lent.new }

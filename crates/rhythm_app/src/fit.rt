@@ -5,7 +5,7 @@ ghost use Rattle.barline_fit.specs.FittedScore.{IsFittedScore};
 ghost use Rattle.barline_fit.specs.declared.fit_fault.FitFault.TheVariants as fitting;
 ghost use Rattle.edit_session.specs.Opening.{CanOpen, cells_of};
 ghost use Rattle.edit_session.specs.Prepared.{RisesBy};
-ghost use Rattle.rhythm_app.specs.Asked.{AreTried, fit};
+ghost use Rattle.rhythm_app.specs.Asked.{AreCandidates, fit};
 ghost use Rattle.rhythm_app.specs.Builds.{AreSomeFitted, HasFitted, HasPartlyFitted, HasTried, MatchFitted};
 ghost use Rattle.rhythm_app.specs.Outcome.{IsFitting, fit_line, fit_stop, fit_text};
 ghost use Rattle.rhythm_app.specs.Stages.{CountsAlone, Follows, HasText, IsOfContent, said_of};
@@ -62,7 +62,7 @@ fn tick_among<R: Threads + Sync, F: Shelf, S: Source, O: Sink, E: Sink, G: Gate 
     session: &mut Session,
     among: Candidates,
 ) -> Result<Fitted, FitFault>
-    requires { AreTried among }
+    requires { AreCandidates among }
     ensures fitted { IfOk result (IsFitted session.old.grammar session.old.performance among.bar (ticks_of among)) }
     ensures fault { IfErr result (IsFitFault session.old.grammar session.old.performance among.bar (ticks_of among)) }
     ensures same { session.new ≡ session.old }
@@ -155,7 +155,7 @@ fn fit_over<R: Threads + Sync, F: Shelf, S: Source, O: Sink, E: Sink, G: Gate + 
     session: &mut Session,
     among: Candidates,
 ) -> Result<Vec<u8>, Stop>
-    requires tried { AreTried among }
+    requires tried { AreCandidates among }
     requires can { CanOpen session.old.grammar session.old.performance }
     ensures tests { Follows (IsFitting among session.old.grammar session.old.performance) (said_of result) }
     ensures content { IfErr result IsOfContent }
@@ -184,7 +184,7 @@ fn fitted_by<R: Threads + Sync, F: Shelf, S: Source, O: Sink, E: Sink, G: Gate +
 ) -> Result<Vec<u8>, Stop>
     requires some_worker { 1 ≤ workers }
     requires few_workers { workers ≤ 16 }
-    requires tried { AreTried among }
+    requires tried { AreCandidates among }
     requires readable { IsReadable grammar }
     requires few_notes { length performance.notes ≤ MOST_NOTES }
     ensures tests { Follows (IsFitting among grammar performance) (said_of result) }
@@ -221,7 +221,7 @@ pub fn fit_text_of<
 ) -> Result<Vec<u8>, Stop>
     requires some_worker { 1 ≤ workers }
     requires few_workers { workers ≤ 16 }
-    requires tried { AreTried among }
+    requires tried { AreCandidates among }
     ensures { HasText (Some (fit names.entry.midi.now names.entry.grammar.now among)) lent.old lent.new result }
 {
     match read_inputs(lent, names) {

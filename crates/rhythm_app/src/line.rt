@@ -6,7 +6,7 @@ ghost use Rattle.rhythm_app.specs.Stops.{
   limit_line,
   named_line,
   pair_line,
-  signature_line,
+  bar_signature_line,
   stop_line,
 };
 ghost use Rattle.rhythm_app.specs.declared.stop.Stop.TheVariants as stop;
@@ -188,8 +188,8 @@ fn write_no_derivation<K: Sink>(sink: &mut K, channel: u8, bar: u32) -> Result<(
 
 /// Writes a bar and its signature.
 fn write_bar<K: Sink>(sink: &mut K, head: &str, bar: u32, num: u8, den: u8) -> Result<(), Failed>
-    ensures all { OnOk result (Appends (K.taken sink.old) (K.taken sink.new) (signature_line head.now bar num den)) }
-    ensures part { OnErr result (AppendsPart (K.taken sink.old) (K.taken sink.new) (signature_line head.now bar num den)) }
+    ensures all { OnOk result (Appends (K.taken sink.old) (K.taken sink.new) (bar_signature_line head.now bar num den)) }
+    ensures part { OnErr result (AppendsPart (K.taken sink.old) (K.taken sink.new) (bar_signature_line head.now bar num den)) }
     ensures cause { HasCause (K.faults sink.old) (K.faults sink.new) result }
 {
     write_parts(

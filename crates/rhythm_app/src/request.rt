@@ -1,5 +1,5 @@
 ghost use Rattle.command_line.specs.CommandLines.{HasWorkers};
-ghost use Rattle.rhythm_app.specs.Asked.{AreTried, IsInRange, asked_of, candidate_count, candidates_by, command_by, drill_by, fit_by, fit_of, generate_by, in_order, shown_request, workers_asked};
+ghost use Rattle.rhythm_app.specs.Asked.{AreCandidates, IsRequestInRange, asked_of, candidate_count, candidates_by, command_by, drill_by, fit_by, fit_of, generate_by, in_order, shown_request, workers_asked};
 ghost use Rattle.rhythm_base.specs.declared.limits.TheConstants.{LATEST_TICK};
 ghost use Rattle.std.specs.Prelude.{◌≡◌, ◌≤◌, ◌∷◌, [], IfSome, Some, option_map};
 
@@ -97,7 +97,7 @@ pub fn called_as(word: &str) -> Option<&'static str> {
 /// The command of a word and the name of one file.
 fn request_of_one<'a>(word: &'a str, file: &'a str) -> Option<Request<'a>>
     ensures asked { option_map shown_request result ≡ command_by (word.entry.now ∷ file.entry.now ∷ []) }
-    ensures range { IfSome result IsInRange }
+    ensures range { IfSome result IsRequestInRange }
 {
     if word == "notes" {
         Some(Request::Notes(file))
@@ -111,7 +111,7 @@ fn request_of_one<'a>(word: &'a str, file: &'a str) -> Option<Request<'a>>
 /// `generate` with its two numbers.
 fn generate_request<'a>(number: &'a str, bars: &'a str) -> Option<Request<'a>>
     ensures asked { option_map shown_request result ≡ generate_by number.entry.now bars.entry.now }
-    ensures range { IfSome result IsInRange }
+    ensures range { IfSome result IsRequestInRange }
 {
     let number = number_in(number, 0, 65534)? as u32;
     let bars = number_in(bars, 1, 2000)? as u32;
@@ -121,7 +121,7 @@ fn generate_request<'a>(number: &'a str, bars: &'a str) -> Option<Request<'a>>
 /// `drill` with its number and the name of its file.
 fn drill_request<'a>(number: &'a str, grammar: &'a str) -> Option<Request<'a>>
     ensures asked { option_map shown_request result ≡ drill_by number.entry.now grammar.entry.now }
-    ensures range { IfSome result IsInRange }
+    ensures range { IfSome result IsRequestInRange }
 {
     let number = number_in(number, 0, 65534)? as u32;
     Some(Request::Drill { number, grammar })
@@ -130,7 +130,7 @@ fn drill_request<'a>(number: &'a str, grammar: &'a str) -> Option<Request<'a>>
 /// The command of a word and two more.
 fn request_of_two<'a>(word: &'a str, first: &'a str, second: &'a str) -> Option<Request<'a>>
     ensures asked { option_map shown_request result ≡ command_by (word.entry.now ∷ first.entry.now ∷ second.entry.now ∷ []) }
-    ensures range { IfSome result IsInRange }
+    ensures range { IfSome result IsRequestInRange }
 {
     let files = FileNames {
         midi: first,
@@ -195,7 +195,7 @@ fn fit_request<'a>(files: FileNames<'a>, among: Candidates) -> Request<'a>
     requires high { among.high ≤ LATEST_TICK }
     requires step { 1 ≤ among.step }
     ensures asked { shown_request result ≡ fit_of files.entry.midi.now files.entry.grammar.now among }
-    ensures range { IsInRange result }
+    ensures range { IsRequestInRange result }
 {
     let count = among.count();
     if count <= MOST_CANDIDATES {
@@ -216,7 +216,7 @@ fn request_of_six<'a>(
 ) -> Option<Request<'a>>
     ensures asked { option_map shown_request result
         ≡ command_by (word.entry.now ∷ files.entry.midi.now ∷ files.entry.grammar.now ∷ bar.entry.now ∷ low.entry.now ∷ high.entry.now ∷ step.entry.now ∷ []) }
-    ensures range { IfSome result IsInRange }
+    ensures range { IfSome result IsRequestInRange }
 {
     if word == "fit" {
         match candidates_of(bar, low, high, step) {
@@ -231,7 +231,7 @@ fn request_of_six<'a>(
 /// The command that the words are.
 fn command_of<'a>(words: &'a Words) -> Option<Request<'a>>
     ensures asked { option_map shown_request result ≡ command_by words.entry.now }
-    ensures range { IfSome result IsInRange }
+    ensures range { IfSome result IsRequestInRange }
 {
     let word = words.get(0)?;
     let first = words.get(1)?;
@@ -259,7 +259,7 @@ fn command_of<'a>(words: &'a Words) -> Option<Request<'a>>
 /// What is asked for.
 pub fn request_of<'a>(said: &'a Invocation) -> Option<Request<'a>>
     ensures asked { option_map shown_request result ≡ asked_of said.entry.now }
-    ensures range { IfSome result IsInRange }
+    ensures range { IfSome result IsRequestInRange }
 {
     match said {
         Invocation::Help => Some(Request::Help),

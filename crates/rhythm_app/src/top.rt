@@ -1,8 +1,8 @@
 ghost use Rattle.command_line.specs.CommandLines.{HasWorkers};
 ghost use Rattle.rhythm_app.specs.Asked.{asked_by, asked_of};
-ghost use Rattle.rhythm_app.specs.Ends.{AppendsPart, HasStatus, IsAnswered, IsComplete, IsPerformed, IsSilent, IsStopped, IsTold, KeepsRest};
+ghost use Rattle.rhythm_app.specs.Ends.{AppendsPart, HasStatus, IsAnswered, IsComplete, IsPerformed, IsErrUntouched, IsStopped, IsStopTold, KeepsRest};
 ghost use Rattle.rhythm_app.specs.Lent.{Lent as Stood};
-ghost use Rattle.rhythm_app.specs.Stages.{HasText, IsWritten};
+ghost use Rattle.rhythm_app.specs.Stages.{HasText, IsTextWritten};
 ghost use Rattle.rhythm_app.specs.Asked.{Asked};
 ghost use Rattle.rhythm_app.specs.Stops.{status_of};
 ghost use Rattle.rhythm_app.specs.declared.stop.Stop.TheVariants as stop;
@@ -47,7 +47,7 @@ fn write_text<R: Threads + Sync, F: Shelf, S: Source, O: Sink, E: Sink, G: Gate 
     lent: &mut Lent<R, F, S, O, E, G, B>,
     text: &[u8],
 ) -> Result<(), Stop>
-    ensures { IsWritten text.now lent.old lent.new result }
+    ensures { IsTextWritten text.now lent.old lent.new result }
 {
     put(&mut lent.out, text)
 }
@@ -157,11 +157,11 @@ pub fn run<R: Threads + Sync, F: Shelf, S: Source, O: Sink, E: Sink, G: Gate + S
     // With 0 out took the text that is the outcome, or the replies to all lines of the script; all cells of the performance were built
     // once, and then those for the edits; and err took nothing.
     ensures done { result ≡ 0 → ForSome lent.old.files (λ files. IsAnswered (asked_by words.now) files lent.old lent.new) }
-    ensures silent { result ≡ 0 → IsSilent lent.old lent.new }
+    ensures silent { result ≡ 0 → IsErrUntouched lent.old lent.new }
 
     // Else err took the line of the stop, which is the outcome or a failure that came, and out what was written by then. After `usage`
     // more lines say what is wrong with the words.
-    ensures stop { result ≢ 0 → (stop : Stop) × (status_of stop ≡ result) × IsStopped (asked_by words.now) lent.old lent.new stop × IsTold lent.old lent.new stop }
+    ensures stop { result ≢ 0 → (stop : Stop) × (status_of stop ≡ result) × IsStopped (asked_by words.now) lent.old lent.new stop × IsStopTold lent.old lent.new stop }
 
     // Whatever the end: no name is opened but the command's, the script is read only by `edit` and `studio`, and no counter falls.
     ensures rest { KeepsRest (asked_by words.now) lent.old lent.new }

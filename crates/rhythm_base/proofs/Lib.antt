@@ -1,9 +1,11 @@
 pub mod Beats
 pub mod Booleans
-pub mod CommandWords
 pub mod EventTicks
+pub mod FirstLists
+pub mod LastEnds
 pub mod Numerals
 pub mod OneShape
+pub mod OrderedLists
 pub mod PieceLemmas
 pub mod Positions
 pub mod RuleTrees
@@ -14,12 +16,7 @@ pub mod ShapeStops
 pub mod ShapeTexts
 pub mod Sizes
 pub mod Texts
-mod WorkedAnswers
+pub mod TotalOrders
 mod WorkedBars
-mod WorkedEdits
-mod WorkedPitches
 mod WorkedProducts
-mod WorkedReached
-mod WorkedScripts
-mod WorkedSpans
 pub mod WorkedTrees

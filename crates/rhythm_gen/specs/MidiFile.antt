@@ -15,8 +15,8 @@ abbrev pub signature_bytes : List ℕ
 signature_bytes = 255 ∷ 88 ∷ 4 ∷ 4 ∷ 2 ∷ 24 ∷ 8 ∷ []
 
 -- the tempo and the signature of the whole piece, all at tick 0
-abbrev pub conductor : List ℕ
-conductor = bytes_from 0 ((0, tempo_bytes) ∷ (0, signature_bytes) ∷ (0, end_of_track_bytes) ∷ [])
+abbrev pub piece_conductor : List ℕ
+piece_conductor = bytes_from 0 ((0, tempo_bytes) ∷ (0, signature_bytes) ∷ (0, end_of_track_bytes) ∷ [])
 
 -- The track of a voice, where the stream has come to `start`. Each bar has 1920 ticks.
 abbrev pub voice_track : ℕ → ℕ → ℕ → List ℕ
@@ -26,4 +26,4 @@ voice_track start bars channel = track_chunk_bytes (track_bytes (voice_notes sta
 -- after the draws of channel 0.
 abbrev pub generated : ℕ → ℕ → List ℕ
 generated number bars =
-    header_bytes 3 480 ++ (track_chunk_bytes conductor ++ (voice_track number bars 0 ++ voice_track (draw number (4 * bars)) bars 1))
+    header_bytes 3 480 ++ (track_chunk_bytes piece_conductor ++ (voice_track number bars 0 ++ voice_track (draw number (4 * bars)) bars 1))

@@ -1,4 +1,4 @@
-ghost use Rattle.rhythm_base.specs.Edits.{IsEditInRange};
+ghost use Rattle.rhythm_base.specs.EditRanges.{IsEditInRange};
 ghost use Rattle.rhythm_gen.specs.DrillEdit.{drill_edit};
 ghost use Rattle.std.specs.Prelude.{◌≡◌, ◌<◌, ◌≤◌, Some, length};
 

@@ -17,13 +17,13 @@ use Rattle.rhythm_base.specs.Ranked.{Key, is_before, list_cmp}
 use Rattle.rhythm_base.specs.Trees.{BarLeaf, suits}
 use Rattle.rhythm_base.specs.declared.rule.Ending.{Ending}
 use Rattle.rhythm_base.specs.declared.rule.Rule.{Rule}
-use Rattle.rhythm_laws.specs.Forests.{Ground}
-use Rattle.rhythm_laws.specs.Places.{FitsAt, end_before}
-use Rattle.rhythm_laws.specs.Rows.{AreAlike, lists_cmp, same}
-use Rattle.rhythm_laws.specs.Tables.{IsLeastKey}
-use Rattle.rhythm_laws.proofs.Picks.{decides}
-use Rattle.rhythm_laws.proofs.Ranks.{both}
-use Rattle.rhythm_laws.proofs.Runs.{agrees-few}
+use Rattle.tree_laws.specs.Forests.{Ground}
+use Rattle.tree_laws.specs.Places.{FitsAt, end_before}
+use Rattle.path_laws.specs.Rows.{AreAlike, lists_cmp, same}
+use Rattle.path_laws.specs.Tables.{IsLeastKey}
+use Rattle.path_laws.proofs.Picks.{decides}
+use Rattle.tree_laws.proofs.Ranks.{both}
+use Rattle.tree_laws.proofs.Runs.{agrees-few}
 use Rattle.row_laws.specs.BestRules.{AreBestOf, Choice, IsKeyOfRules, IsMarked, choice_key, is_nearer, leaf_choice, nearer_of, topped_of}
 use Rattle.row_laws.specs.Grounds.{IsReady, ground_of}
 use Rattle.row_laws.specs.LeafRules.{EndsInterval, HasNoLeafRule}

@@ -9,7 +9,7 @@ use Rattle.std.proofs.lemmas.List.Sums.{sum_by-cons}
 use Rattle.std.proofs.lemmas.Option.{slice_get_within, get_or_from_slice_get}
 use Rattle.rhythm_base.specs.declared.rule.Body.{Body}
 use Rattle.rhythm_base.specs.Bodies.{cuts_or_ends, can_cut, children, sizes, parts_of_cut}
-use Rattle.rhythm_laws.proofs.Runs.{agrees-few}
+use Rattle.tree_laws.proofs.Runs.{agrees-few}
 use Rattle.rhythm_base.specs.declared.rule.Rule.{Rule}
 use Rattle.rhythm_base.specs.Lists.{gap}
 use Rattle.rhythm_base.specs.Cost.{charge, charge_in, charges, displacement_in, is_late, attached_unit, weight_of, weights}
@@ -20,15 +20,15 @@ use Rattle.rhythm_base.specs.Readable.{IsInRange}
 use Rattle.rhythm_base.specs.Grammar.{Grammar}
 use Rattle.rhythm_base.specs.Trees.{BarLeaf, are_trees, children_of, leaf_of, leaves, leaves_at, suits, leaf_of_ending}
 use Rattle.rhythm_base.specs.Shape.{Shape}
-use Rattle.rhythm_laws.specs.Forests.{AreWide, Ground, IsGround, StandsInBar, forest_cost}
-use Rattle.rhythm_laws.specs.Places.{FitsAt}
-use Rattle.rhythm_laws.proofs.ForestLemmas.{forest_cost-first}
-use Rattle.rhythm_laws.proofs.Places.{trees-split}
-use Rattle.rhythm_laws.proofs.Ranks.{both}
+use Rattle.tree_laws.specs.Forests.{AreWide, Ground, IsGround, StandsInBar, forest_cost}
+use Rattle.tree_laws.specs.Places.{FitsAt}
+use Rattle.tree_laws.proofs.ForestLemmas.{forest_cost-first}
+use Rattle.tree_laws.proofs.Places.{trees-split}
+use Rattle.tree_laws.proofs.Ranks.{both}
 use Rattle.row_laws.proofs.RuleKeys.{top_cost}
-use Rattle.rhythm_laws.specs.Runs.{lefts, rights}
+use Rattle.tree_laws.specs.Runs.{lefts, rights}
 use Rattle.rhythm_base.specs.Line.{agrees}
-use Rattle.rhythm_laws.proofs.Shares.{below-wide, children-below, children-whole}
+use Rattle.tree_laws.proofs.Shares.{below-wide, children-below, children-whole}
 use Rattle.rhythm_base.proofs.Booleans.{and_left, and_right}
 
 -- ---- one onset

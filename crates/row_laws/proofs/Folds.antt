@@ -6,10 +6,11 @@ use Rattle.std.specs.Ordering.{nat_cmp, ordering_then, is_lt}
 use Rattle.std.specs.declared.cmp.Ordering.{Ordering}
 use Rattle.std.specs.declared.cmp.Ordering.TheVariants.{Less, Equal, Greater}
 use Rattle.rhythm_base.specs.Ranked.{Key, Keys, is_before, key_sum, list_cmp, number_of, plus, value_of}
-use Rattle.rhythm_laws.specs.Rows.{AreAlike, lists_cmp, same}
-use Rattle.rhythm_laws.proofs.Alike.{AreApart, IsCount, joined_cmp, parse, via}
-use Rattle.rhythm_laws.proofs.KeyOrders.{Parse, list_equal}
-use Rattle.rhythm_laws.proofs.Picks.{both_there, decides, found, pick_count, pick_found, pick_same, tested, times_via}
+use Rattle.path_laws.specs.Rows.{AreAlike, lists_cmp, same}
+use Rattle.path_laws.proofs.Alike.{AreApart, IsCount, joined_cmp, parse, via}
+use Rattle.path_laws.proofs.KeyOrders.{Parse}
+use Rattle.rhythm_base.proofs.TotalOrders.{list_equal}
+use Rattle.path_laws.proofs.Picks.{both_there, decides, found, pick_count, pick_found, pick_same, tested, times_via}
 use Rattle.row_laws.specs.BestRules.{Choice, choice_key, is_nearer}
 use Rattle.row_laws.specs.Folds.{digit_sum, fold_pick}
 use Rattle.row_laws.specs.Rows.{row_times}

@@ -2,7 +2,7 @@
 use Rattle.rhythm_base.specs.BarInput.{BarInput}
 use Rattle.rhythm_base.specs.Grammar.{Grammar}
 use Rattle.rhythm_base.proofs.Beats.{some_beat}
-use Rattle.rhythm_laws.specs.Forests.{IsGround}
+use Rattle.tree_laws.specs.Forests.{IsGround}
 use Rattle.row_laws.specs.Grounds.{IsReady, ground_of}
 use Rattle.row_laws.proofs.Bounds.{IsBounded}
 

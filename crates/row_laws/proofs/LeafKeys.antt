@@ -16,11 +16,12 @@ use Rattle.rhythm_base.specs.Trees.{BarLeaf, leaf_of, leaf_of_ending, suits}
 use Rattle.rhythm_base.specs.declared.rule.Body.{Body}
 use Rattle.rhythm_base.specs.declared.rule.Ending.{Ending}
 use Rattle.rhythm_base.specs.declared.rule.Rule.{Rule}
-use Rattle.rhythm_laws.specs.Forests.{Ground}
-use Rattle.rhythm_laws.specs.Places.{FitsAt}
-use Rattle.rhythm_laws.specs.Tables.{IsLeastKey}
-use Rattle.rhythm_laws.proofs.KeyOrders.{above, keys_total}
-use Rattle.rhythm_laws.proofs.Ranks.{both}
+use Rattle.tree_laws.specs.Forests.{Ground}
+use Rattle.tree_laws.specs.Places.{FitsAt}
+use Rattle.path_laws.specs.Tables.{IsLeastKey}
+use Rattle.rhythm_base.proofs.TotalOrders.{above}
+use Rattle.path_laws.proofs.KeyOrders.{keys_total}
+use Rattle.tree_laws.proofs.Ranks.{both}
 use Rattle.row_laws.specs.BestRules.{IsKeyOfRules}
 use Rattle.row_laws.specs.LeafRules.{EndsInterval, HasNoLeafRule, IsFirstLeafRule, IsLeafRule}
 use Rattle.row_laws.specs.RuleKeys.{IsRuleKey}

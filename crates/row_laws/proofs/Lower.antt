@@ -2,10 +2,11 @@
 use Rattle.std.proofs.Common.{◌≡◌, ℕ, suc, ◌+◌, inl, inr, Bool, true, false, ◌∷◌, refl, subst, arith}
 use Rattle.std.specs.Prelude.{Option, Some, None, if◌then◌else◌}
 use Rattle.rhythm_base.specs.Ranked.{Key, is_before}
-use Rattle.rhythm_laws.specs.Tables.{IsLeastKey}
-use Rattle.rhythm_laws.specs.Rows.{IsOneBelow}
-use Rattle.rhythm_laws.proofs.KeyOrders.{above, before_above, keys_total}
-use Rattle.rhythm_laws.proofs.LeastKeys.{last}
+use Rattle.path_laws.specs.Tables.{IsLeastKey}
+use Rattle.path_laws.specs.Rows.{IsOneBelow}
+use Rattle.rhythm_base.proofs.TotalOrders.{above, before_above}
+use Rattle.path_laws.proofs.KeyOrders.{keys_total}
+use Rattle.path_laws.proofs.LeastKeys.{last}
 
 -- ---- the lower of two keys
 

@@ -18,13 +18,13 @@ use Rattle.rhythm_base.specs.Trees.{BarLeaf, leaf_of_ending, leaves}
 use Rattle.rhythm_base.specs.declared.inner.Inner.{Inner}
 use Rattle.rhythm_base.specs.declared.rule.Ending.TheVariants.{Note}
 use Rattle.rhythm_base.specs.declared.rule.Rule.{Rule}
-use Rattle.rhythm_laws.specs.Forests.{AreWide, Ground, IsForestKey, IsGround}
-use Rattle.rhythm_laws.specs.Runs.{leaving, rights}
-use Rattle.rhythm_laws.specs.Tables.{IsLeastKey}
-use Rattle.rhythm_laws.proofs.Bars.{SideBySide, leaves-fill}
-use Rattle.rhythm_laws.proofs.ForestLemmas.{join_key, split_key}
-use Rattle.rhythm_laws.proofs.Ranks.{both}
-use Rattle.rhythm_laws.proofs.Ticks.{le_from, le_not}
+use Rattle.tree_laws.specs.Forests.{AreWide, Ground, IsForestKey, IsGround}
+use Rattle.tree_laws.specs.Runs.{leaving, rights}
+use Rattle.path_laws.specs.Tables.{IsLeastKey}
+use Rattle.tree_laws.proofs.Bars.{SideBySide, leaves-fill}
+use Rattle.tree_laws.proofs.ForestLemmas.{join_key, split_key}
+use Rattle.tree_laws.proofs.Ranks.{both}
+use Rattle.tree_laws.proofs.Ticks.{le_from, le_not}
 use Rattle.row_laws.specs.Grounds.{IsReady, ground_of}
 use Rattle.row_laws.specs.Leaves.{next_ends}
 use Rattle.row_laws.specs.Rows.{AreLeastRow}

@@ -18,14 +18,14 @@ use Rattle.rhythm_base.specs.Trees.{BarLeaf, leaves}
 use Rattle.rhythm_base.specs.declared.inner.Inner.{Inner}
 use Rattle.rhythm_base.specs.declared.rule.Ending.{Ending}
 use Rattle.rhythm_base.proofs.Booleans.{and_left, and_right}
-use Rattle.rhythm_laws.specs.Forests.{AreWide, Ground, IsGround, StandsInBar}
-use Rattle.rhythm_laws.specs.Places.{FitsAt, reach}
-use Rattle.rhythm_laws.specs.Quiet.{end_at, is_quiet}
-use Rattle.rhythm_laws.specs.Runs.{IsLine, leaving, runs}
-use Rattle.rhythm_laws.proofs.Bars.{SideBySide, leaves-fill}
-use Rattle.rhythm_laws.proofs.Quiet.{carried_by, leaving-calm, runs-calm}
-use Rattle.rhythm_laws.proofs.Ranks.{both}
-use Rattle.rhythm_laws.proofs.Ticks.{le_from, le_not, leaf-step, parts-line}
+use Rattle.tree_laws.specs.Forests.{AreWide, Ground, IsGround, StandsInBar}
+use Rattle.tree_laws.specs.Places.{FitsAt, reach}
+use Rattle.tree_laws.specs.Quiet.{end_at, is_quiet}
+use Rattle.tree_laws.specs.Runs.{IsLine, leaving, runs}
+use Rattle.tree_laws.proofs.Bars.{SideBySide, leaves-fill}
+use Rattle.tree_laws.proofs.Quiet.{carried_by, leaving-calm, runs-calm}
+use Rattle.tree_laws.proofs.Ranks.{both}
+use Rattle.tree_laws.proofs.Ticks.{le_from, le_not, leaf-step, parts-line}
 use Rattle.row_laws.specs.QuietTrees.{IsQuiet, sounds_so}
 use Rattle.row_laws.specs.declared.quiet.Quiet.{Quiet}
 use Rattle.row_laws.specs.declared.quiet.Quiet.TheVariants.{Sounding, Silent}

@@ -11,13 +11,13 @@ use Rattle.rhythm_base.specs.Ranked.{Key, is_before, key_sum, list_cmp}
 use Rattle.rhythm_base.specs.Readable.{IsInRange}
 use Rattle.rhythm_base.specs.Trees.{leaf_of_ending, suits}
 use Rattle.rhythm_base.specs.declared.rule.Rule.{Rule}
-use Rattle.rhythm_laws.specs.Forests.{AreWide, Ground, IsForestKey, IsGround, forest_cost}
-use Rattle.rhythm_laws.specs.Tables.{IsLeastKey}
-use Rattle.rhythm_laws.proofs.ForestLemmas.{join_key, keys-parse, nothing-least, split_key}
-use Rattle.rhythm_laws.proofs.LeastKeys.{Both, IsLeast-one, IsLeast-same, joined-least}
-use Rattle.rhythm_laws.proofs.Picks.{decides}
-use Rattle.rhythm_laws.proofs.Ranks.{both}
-use Rattle.rhythm_laws.proofs.Shares.{children-whole}
+use Rattle.tree_laws.specs.Forests.{AreWide, Ground, IsForestKey, IsGround, forest_cost}
+use Rattle.path_laws.specs.Tables.{IsLeastKey}
+use Rattle.tree_laws.proofs.ForestLemmas.{join_key, keys-parse, nothing-least, split_key}
+use Rattle.path_laws.proofs.LeastKeys.{Both, IsLeast-one, IsLeast-same, joined-least}
+use Rattle.path_laws.proofs.Picks.{decides}
+use Rattle.tree_laws.proofs.Ranks.{both}
+use Rattle.tree_laws.proofs.Shares.{children-whole}
 use Rattle.row_laws.specs.BestRules.{IsKeyOfRules, is_nearer}
 use Rattle.row_laws.specs.LeafRules.{EndsInterval}
 use Rattle.row_laws.specs.QuietTrees.{AreQuietLeast, IsQuiet, IsQuietBest, IsQuietLeast, IsQuietList, sounds_so}

@@ -9,12 +9,12 @@ use Rattle.rhythm_base.specs.Forest.{none, more}
 use Rattle.rhythm_base.specs.Grammar.{Grammar}
 use Rattle.rhythm_base.specs.declared.inner.Inner.{Inner}
 use Rattle.rhythm_base.specs.Ranked.{Key, Keys, key_sum, plus}
-use Rattle.rhythm_laws.specs.Forests.{AreWide, Ground, IsForestKey, IsGround, forest_cost}
-use Rattle.rhythm_laws.specs.Rows.{IsOneBelow}
-use Rattle.rhythm_laws.specs.Tables.{IsLeastKey}
-use Rattle.rhythm_laws.proofs.Alike.{AreApart, parse}
-use Rattle.rhythm_laws.proofs.ForestLemmas.{join_key, keys-apart, keys-parse, nothing-least, split_key}
-use Rattle.rhythm_laws.proofs.LeastKeys.{Both, IsLeast-one, IsLeast-same, joined-least, pick-least}
+use Rattle.tree_laws.specs.Forests.{AreWide, Ground, IsForestKey, IsGround, forest_cost}
+use Rattle.path_laws.specs.Rows.{IsOneBelow}
+use Rattle.path_laws.specs.Tables.{IsLeastKey}
+use Rattle.path_laws.proofs.Alike.{AreApart, parse}
+use Rattle.tree_laws.proofs.ForestLemmas.{join_key, keys-apart, keys-parse, nothing-least, split_key}
+use Rattle.path_laws.proofs.LeastKeys.{Both, IsLeast-one, IsLeast-same, joined-least, pick-least}
 use Rattle.row_laws.specs.Rows.{AreLeastRow, row_times}
 use Rattle.row_laws.proofs.Bounds.{IsBounded, stands-cheap}
 

@@ -12,14 +12,15 @@ use Rattle.rhythm_base.specs.Ranked.{Key, is_before, plus}
 use Rattle.rhythm_base.specs.Shapes.{parts_in}
 use Rattle.rhythm_base.specs.Bodies.{children}
 use Rattle.rhythm_base.specs.Trees.{BarLeaf, are_shaped, are_trees, children_of, leaf_of, leaves, leaves_at, suits}
-use Rattle.rhythm_laws.specs.Forests.{Ground, IsForestKey, StandsInBar, forest_cost, has_shapes, one_shape}
-use Rattle.rhythm_laws.specs.Places.{FitsAt}
-use Rattle.rhythm_laws.specs.Tables.{IsLeastKey}
-use Rattle.rhythm_laws.proofs.KeyOrders.{itself, keys_total, long_parse, plus_above}
-use Rattle.rhythm_laws.specs.Rows.{IsOneBelow}
-use Rattle.rhythm_laws.proofs.LeastKeys.{IsLeast-same}
-use Rattle.rhythm_laws.proofs.Ranks.{both}
-use Rattle.rhythm_laws.proofs.ShapesOfTrees.{one_shape_of, parts-many}
+use Rattle.tree_laws.specs.Forests.{Ground, IsForestKey, StandsInBar, forest_cost, has_shapes, one_shape}
+use Rattle.tree_laws.specs.Places.{FitsAt}
+use Rattle.path_laws.specs.Tables.{IsLeastKey}
+use Rattle.rhythm_base.proofs.TotalOrders.{itself}
+use Rattle.path_laws.proofs.KeyOrders.{keys_total, long_parse, plus_above}
+use Rattle.path_laws.specs.Rows.{IsOneBelow}
+use Rattle.path_laws.proofs.LeastKeys.{IsLeast-same}
+use Rattle.tree_laws.proofs.Ranks.{both}
+use Rattle.tree_laws.proofs.ShapesOfTrees.{one_shape_of, parts-many}
 use Rattle.row_laws.specs.RuleKeys.{IsRuleKey}
 use Rattle.row_laws.proofs.Lower.{on_top}
 

@@ -1,20 +1,20 @@
 -- Trees with a rule of a set on top: a rule more, and all rules.
 use Rattle.std.proofs.Common.{◌∙◌, sym, ◌≡◌, ℕ, ◌⊎◌, inl, inr, Bool, true, false, [], ◌∷◌, refl, ap, subst}
 use Rattle.std.specs.Prelude.{Option, Some, None, slice_get, if◌then◌else◌}
-use Rattle.rhythm_base.specs.Bodies.{children}
+use Rattle.rhythm_base.specs.Bodies.{children, ending_of}
 use Rattle.rhythm_base.specs.Forest.{none, more}
 use Rattle.rhythm_base.specs.Ranked.{Key, is_before}
 use Rattle.rhythm_base.specs.Trees.{are_trees, children_of, leaf_of_ending, suits}
 use Rattle.rhythm_base.specs.declared.rule.Ending.{Ending}
 use Rattle.rhythm_base.specs.declared.rule.Rule.{Rule}
-use Rattle.rhythm_base.specs.Bodies.{ending_of}
 use Rattle.rhythm_base.specs.Grammar.{Grammar}
 use Rattle.row_laws.specs.LeafRules.{EndsInterval}
-use Rattle.rhythm_laws.specs.Forests.{Ground, IsForestKey}
-use Rattle.rhythm_laws.specs.Tables.{IsLeastKey}
-use Rattle.rhythm_laws.proofs.KeyOrders.{above, before_above, keys_total}
-use Rattle.rhythm_laws.proofs.LeastKeys.{IsLeast-same}
-use Rattle.rhythm_laws.proofs.Ranks.{both}
+use Rattle.tree_laws.specs.Forests.{Ground, IsForestKey}
+use Rattle.path_laws.specs.Tables.{IsLeastKey}
+use Rattle.rhythm_base.proofs.TotalOrders.{above, before_above}
+use Rattle.path_laws.proofs.KeyOrders.{keys_total}
+use Rattle.path_laws.proofs.LeastKeys.{IsLeast-same}
+use Rattle.tree_laws.proofs.Ranks.{both}
 use Rattle.row_laws.specs.BestRules.{IsKeyOfRules}
 use Rattle.row_laws.specs.RuleKeys.{IsCutRule, IsRuleKey}
 use Rattle.row_laws.proofs.Lower.{lower_of, on_top}

@@ -2,9 +2,9 @@
 -- bits for what stands below.
 use Rattle.std.specs.Prelude.{⊤, ◌≡◌, ℕ, ◌+◌, ◌*◌, ◌<◌, ◌^◌, ◌==◌, ◌||◌, ◌&&◌, Bool, nat_lt, if◌then◌else◌, List, [], ◌∷◌, Option, Some, None}
 use Rattle.rhythm_base.specs.Ranked.{Key}
-use Rattle.rhythm_laws.specs.Forests.{Ground}
-use Rattle.rhythm_laws.specs.Rows.{AreAlike}
-use Rattle.rhythm_laws.specs.Tables.{IsLeastKey}
+use Rattle.tree_laws.specs.Forests.{Ground}
+use Rattle.path_laws.specs.Rows.{AreAlike}
+use Rattle.path_laws.specs.Tables.{IsLeastKey}
 use Rattle.row_laws.specs.RuleKeys.{IsRuleKey}
 
 -- a choice: its cost, and its order

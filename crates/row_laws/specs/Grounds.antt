@@ -4,7 +4,7 @@ use Rattle.rhythm_base.specs.BarInput.{BarInput, IsBarInput}
 use Rattle.rhythm_base.specs.Cells.{bar_of}
 use Rattle.rhythm_base.specs.Readable.{IsReadable}
 use Rattle.rhythm_base.specs.Grammar.{Grammar}
-use Rattle.rhythm_laws.specs.Forests.{Ground}
+use Rattle.tree_laws.specs.Forests.{Ground}
 
 abbrev pub ground_of : Grammar → BarInput → Ground
 ground_of g k = record { book = g; bar = bar_of k; chords = k.chords; before = k.before }

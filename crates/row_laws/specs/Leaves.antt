@@ -7,8 +7,8 @@ use Rattle.rhythm_base.specs.Cost.{charges}
 use Rattle.rhythm_base.specs.Grammar.{Grammar}
 use Rattle.rhythm_base.specs.Leaves.{Leaf, looks, sounds}
 use Rattle.rhythm_base.specs.Lists.{last_end}
-use Rattle.rhythm_laws.specs.Places.{end_before}
-use Rattle.rhythm_laws.specs.Runs.{lefts, rights}
+use Rattle.tree_laws.specs.Places.{end_before}
+use Rattle.tree_laws.specs.Runs.{lefts, rights}
 
 -- the leaf of w units from unit p on. Its rule makes no difference to its chords
 abbrev pub leaf_of_cell : BarInput → ℕ → ℕ → Leaf

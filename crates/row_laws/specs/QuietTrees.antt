@@ -5,9 +5,9 @@ use Rattle.rhythm_base.specs.Grammar.{Grammar}
 use Rattle.rhythm_base.specs.Leaves.{VoiceBar}
 use Rattle.rhythm_base.specs.Ranked.{Key}
 use Rattle.rhythm_base.specs.declared.inner.Inner.{Inner}
-use Rattle.rhythm_laws.specs.Forests.{Ground, IsForestKey, IsGround}
-use Rattle.rhythm_laws.specs.Quiet.{IsSilent, IsSounding}
-use Rattle.rhythm_laws.specs.Tables.{IsLeastKey}
+use Rattle.tree_laws.specs.Forests.{Ground, IsForestKey, IsGround}
+use Rattle.tree_laws.specs.Quiet.{IsSilent, IsSounding}
+use Rattle.path_laws.specs.Tables.{IsLeastKey}
 use Rattle.row_laws.specs.BestRules.{IsKeyOfRules}
 use Rattle.row_laws.specs.declared.quiet.Quiet.{Quiet}
 use Rattle.row_laws.specs.declared.quiet.Quiet.TheVariants.{Sounding, Silent}

@@ -1,8 +1,8 @@
 -- A row: the least trees side by side for one number of chords carried in, by the number carried out.
 use Rattle.std.specs.Prelude.{ℕ, ◌<◌, List, Option, None}
 use Rattle.rhythm_base.specs.Ranked.{Key, Keys, is_before, key_sum, pick, value_of}
-use Rattle.rhythm_laws.specs.Forests.{Ground, IsForestKey}
-use Rattle.rhythm_laws.specs.Tables.{IsLeastKey}
+use Rattle.tree_laws.specs.Forests.{Ground, IsForestKey}
+use Rattle.path_laws.specs.Tables.{IsLeastKey}
 
 -- the least key for each number carried out, of the trees of these widths and symbols from unit p on, with a chords carried in
 abbrev pub AreLeastRow : Ground → ℕ → List (ℕ × ℕ) → ℕ → (ℕ → Option Key) → Type 0

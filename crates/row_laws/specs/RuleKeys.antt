@@ -7,7 +7,7 @@ use Rattle.rhythm_base.specs.declared.rule.Rule.{Rule}
 use Rattle.rhythm_base.specs.Forest.{Forest, none, more, preorder}
 use Rattle.rhythm_base.specs.Shape.{Shape}
 use Rattle.rhythm_base.specs.Ranked.{Key}
-use Rattle.rhythm_laws.specs.Forests.{Ground, StandsInBar, forest_cost, one_shape}
+use Rattle.tree_laws.specs.Forests.{Ground, StandsInBar, forest_cost, one_shape}
 
 -- the key of a tree with the rule r on top
 abbrev pub IsRuleKey : Ground → Option Shape → ℕ → ℕ × ℕ → ℕ → ℕ → ℕ → Key → Type 0

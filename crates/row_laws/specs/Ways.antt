@@ -2,8 +2,8 @@
 use Rattle.std.specs.Prelude.{◌≡◌, ℕ, zero, suc, ◌+◌, ◌*◌, ◌<◌, List, [], ◌∷◌, ◌++◌, take, slice_index_or, Some, None}
 use Rattle.rhythm_base.specs.Bodies.{sizes}
 use Rattle.rhythm_base.specs.Ranked.{Key}
-use Rattle.rhythm_laws.specs.Forests.{Ground, IsForestKey}
-use Rattle.rhythm_laws.specs.Tables.{IsLeastKey}
+use Rattle.tree_laws.specs.Forests.{Ground, IsForestKey}
+use Rattle.path_laws.specs.Tables.{IsLeastKey}
 
 -- The rule list of the first n of the trees of these widths and symbols from unit p on, each the least for its counts. The
 -- counts of chords carried into them are the digits of the way to the base 8: a is the first, and m chords are carried out.

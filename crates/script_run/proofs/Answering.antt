@@ -5,13 +5,13 @@ use Rattle.std.specs.Io.KnownBytes.{Appends, Consumes, IsAtEnd}
 use Rattle.std.proofs.KnownBytes.{Appends-trans, Consumes-trans}
 use Rattle.std.proofs.lemmas.Bool.Decides.{nat_tests}
 use Rattle.std.proofs.lemmas.List.Elements.{All-append}
-use Rattle.rhythm_base.specs.ScriptLines.{between_newlines, open_line, script_lines}
+use Rattle.edit_script.specs.ScriptLines.{between_newlines, open_line, script_lines}
 use Rattle.rhythm_base.specs.declared.limits.TheConstants.{LONGEST_SCRIPT, LONGEST_SCRIPT_LINE}
 use Rattle.script_run.specs.Answers.{Quits}
 use Rattle.script_run.specs.Desk.{Desk}
 use Rattle.script_run.specs.Bytes.{IsWithinLimits, begun_line, whole_lines}
-use Rattle.script_run.specs.Editing.{AreAnswers, Editing, IsAnswer, begun_on}
-use Rattle.script_run.specs.Ends.{IsStopped}
+use Rattle.script_run.specs.Editing.{AreAnswers, Editing, IsLineAnswer, begun_on}
+use Rattle.script_run.specs.Ends.{IsScriptStopped}
 use Rattle.script_run.specs.Machine.{AreAnswered, IsBroken, IsCut, IsOverLimit, IsOverLine, IsOverScript, IsQuit, IsReadOut}
 use Rattle.script_run.specs.Hearing.{Closes, Heard, Hears, HearsAll, HearsUpTo, IsCutThere, IsLineTooLongThere, IsTooLongThere, QuitsThere, Replies, StopsThere}
 use Rattle.script_run.specs.declared.script.TheConstants.{ONE_READ}
@@ -55,7 +55,7 @@ module _ (opening : Desk) where
 
   -- an answer to the line that was begun
   answer_of : (bytes replies : List ℕ) (n : ℕ) (h : Heard) → IsAt opening bytes replies n h → (reply : List ℕ) (k : ℕ) (next : Desk) → Replies h reply k next
-      → IsAnswer (edited_to h.desk n) h.begun reply (edited_to next (n + k))
+      → IsLineAnswer (edited_to h.desk n) h.begun reply (edited_to next (n + k))
   answer_of bytes replies n h at reply k next said =
       (k, said, refl)
 
@@ -70,7 +70,7 @@ module _ (opening : Desk) where
       let more : between_newlines (bytes ++ 10 ∷ []) ≡ (lines ++ old.begun ∷ []) ++ [] ∷ [] = newline_more bytes lines old.begun at.split in
       let count = length-append bytes (byte ∷ []) in
       let read_before = at.read in
-      let one = run_one IsAnswer Quits (edited_to old.desk n) (edited_to new.desk (n + k)) old.begun reply
+      let one = run_one IsLineAnswer Quits (edited_to old.desk n) (edited_to new.desk (n + k)) old.begun reply
       (answer_of bytes replies n old at reply k new.desk said) goes in
       record {
         lines = lines ++ old.begun ∷ [];
@@ -80,7 +80,7 @@ module _ (opening : Desk) where
         short = All-append (λ line. length line ≤ LONGEST_SCRIPT_LINE) lines (old.begun ∷ []) at.short (all_one (λ line. length line ≤ LONGEST_SCRIPT_LINE) old.begun at.begun);
         begun = subst (λ (b : List ℕ). length b ≤ LONGEST_SCRIPT_LINE) (sym none) (omega arith);
         unended = All-append (λ line. Quits line → ⊥) lines (old.begun ∷ []) at.unended (all_one (λ line. Quits line → ⊥) old.begun goes);
-        answers = run_append IsAnswer Quits (begun_on opening) (edited_to old.desk n) (edited_to new.desk (n + k)) lines (old.begun ∷ []) replies reply at.unended at.answers one;
+        answers = run_append IsLineAnswer Quits (begun_on opening) (edited_to old.desk n) (edited_to new.desk (n + k)) lines (old.begun ∷ []) replies reply at.unended at.answers one;
       }
   at_more bytes replies n old byte reply k new at (room, read, inr (other, quiet, nothing, stays, short, joins)) =
       let lines = at.lines in
@@ -134,7 +134,7 @@ module _ (opening : Desk) where
       record { lines = subst (All (λ line. length line ≤ LONGEST_SCRIPT_LINE)) (sym at.split) all; script = at.few }
 
   -- the whole lines are answered
-  pub answered_at : (bytes replies : List ℕ) (n : ℕ) (h : Heard) → IsAt opening bytes replies n h → AreAnswered IsAnswer Quits (begun_on opening) bytes replies (edited_to h.desk n)
+  pub answered_at : (bytes replies : List ℕ) (n : ℕ) (h : Heard) → IsAt opening bytes replies n h → AreAnswered IsLineAnswer Quits (begun_on opening) bytes replies (edited_to h.desk n)
   answered_at bytes replies n h at =
       let e : whole_lines bytes ≡ at.lines = whole_are bytes at.lines h.begun at.split in
       record {
@@ -147,14 +147,14 @@ module _ (opening : Desk) where
   begun_at bytes replies n h at = begun_is bytes at.lines h.begun at.split
 
   answer_at : (bytes replies : List ℕ) (n : ℕ) (h : Heard) → IsAt opening bytes replies n h → (reply : List ℕ) (k : ℕ) (next : Desk) → Replies h reply k next
-      → IsAnswer (edited_to h.desk n) (begun_line bytes) reply (edited_to next (n + k))
+      → IsLineAnswer (edited_to h.desk n) (begun_line bytes) reply (edited_to next (n + k))
   answer_at bytes replies n h at reply k next said =
-      subst (λ (line : List ℕ). IsAnswer (edited_to h.desk n) line reply (edited_to next (n + k))) (sym (begun_at bytes replies n h at)) (answer_of bytes replies n h at reply k next said)
+      subst (λ (line : List ℕ). IsLineAnswer (edited_to h.desk n) line reply (edited_to next (n + k))) (sym (begun_at bytes replies n h at)) (answer_of bytes replies n h at reply k next said)
 
   -- the script is read to its end
   pub read_out : (bytes replies : List ℕ) (n : ℕ) (h : Heard) (reply : List ℕ) (k : ℕ) (next : Desk) (rest rest' taken mid taken' : Option (List ℕ))
       → IsAt opening bytes replies n h → Closes h reply k next → Consumes rest rest' bytes → IsAtEnd rest' → Appends taken mid replies → Appends mid taken' reply
-      → IsReadOut IsAnswer Quits (begun_on opening) rest rest' taken taken' (edited_to next (n + k))
+      → IsReadOut IsLineAnswer Quits (begun_on opening) rest rest' taken taken' (edited_to next (n + k))
   read_out bytes replies n h reply k next rest rest' taken mid taken' at closes read end before after =
       let e : script_lines bytes ≡ at.lines ++ open_line (Some h.begun) = lines_are bytes at.lines h.begun at.split in
       let told = answered_at bytes replies n h at in
@@ -180,19 +180,19 @@ module _ (opening : Desk) where
           go : Closes h reply k next → AreAnswers (edited_to h.desk n) ((b ∷ line) ∷ []) reply (edited_to next (n + k))
           go (inl (empty, quiet, nothing, stays)) = let both : b ∷ line ≡ [] = sym e ∙ empty in absurd (cc)
           go (inr (some, said, inl ends)) =
-              run_end IsAnswer Quits (edited_to h.desk n) (edited_to next (n + k)) (b ∷ line) reply
-              (subst (λ (l : List ℕ). IsAnswer (edited_to h.desk n) l reply (edited_to next (n + k))) e (answer_of bytes replies n h at reply k next said)) (subst Quits e ends)
+              run_end IsLineAnswer Quits (edited_to h.desk n) (edited_to next (n + k)) (b ∷ line) reply
+              (subst (λ (l : List ℕ). IsLineAnswer (edited_to h.desk n) l reply (edited_to next (n + k))) e (answer_of bytes replies n h at reply k next said)) (subst Quits e ends)
           go (inr (some, said, inr goes)) =
-              run_one IsAnswer Quits (edited_to h.desk n) (edited_to next (n + k)) (b ∷ line) reply
-              (subst (λ (l : List ℕ). IsAnswer (edited_to h.desk n) l reply (edited_to next (n + k))) e (answer_of bytes replies n h at reply k next said)) (λ q. goes (subst Quits (sym e) q))
+              run_one IsLineAnswer Quits (edited_to h.desk n) (edited_to next (n + k)) (b ∷ line) reply
+              (subst (λ (l : List ℕ). IsLineAnswer (edited_to h.desk n) l reply (edited_to next (n + k))) e (answer_of bytes replies n h at reply k next said)) (λ q. goes (subst Quits (sym e) q))
 
       all : AreAnswers (begun_on opening) (at.lines ++ open_line (Some h.begun)) (replies ++ reply) (edited_to next (n + k))
-      all = run_append IsAnswer Quits (begun_on opening) (edited_to h.desk n) (edited_to next (n + k)) at.lines (open_line (Some h.begun)) replies reply at.unended at.answers (last h.begun refl)
+      all = run_append IsLineAnswer Quits (begun_on opening) (edited_to h.desk n) (edited_to next (n + k)) at.lines (open_line (Some h.begun)) replies reply at.unended at.answers (last h.begun refl)
 
   -- the reply at the end of the script is cut
   pub cut_at_end : (bytes replies : List ℕ) (n : ℕ) (h : Heard) (reply : List ℕ) (k sent : ℕ) (next : Desk) (rest rest' taken mid taken' : Option (List ℕ))
       → IsAt opening bytes replies n h → h.begun ≢ [] → Replies h reply k next → sent < length reply → Consumes rest rest' bytes → IsAtEnd rest' → Appends taken mid replies
-      → Appends mid taken' (take sent reply) → IsCut IsAnswer Quits (begun_on opening) rest rest' taken taken' (edited_to next (n + k))
+      → Appends mid taken' (take sent reply) → IsCut IsLineAnswer Quits (begun_on opening) rest rest' taken taken' (edited_to next (n + k))
   cut_at_end bytes replies n h reply k sent next rest rest' taken mid taken' at some said part read end before after =
       record {
         bytes = bytes;
@@ -211,7 +211,7 @@ module _ (opening : Desk) where
 
   -- a read fails
   pub broken_at : (bytes replies : List ℕ) (n : ℕ) (h : Heard) (rest rest' taken taken' : Option (List ℕ))
-      → IsAt opening bytes replies n h → Consumes rest rest' bytes → Appends taken taken' replies → IsBroken IsAnswer Quits (begun_on opening) rest rest' taken taken' (edited_to h.desk n)
+      → IsAt opening bytes replies n h → Consumes rest rest' bytes → Appends taken taken' replies → IsBroken IsLineAnswer Quits (begun_on opening) rest rest' taken taken' (edited_to h.desk n)
   broken_at bytes replies n h rest rest' taken taken' at read written =
       record { bytes = bytes; read = read; replies = replies; answered = answered_at bytes replies n h at; written = written }
 
@@ -238,7 +238,7 @@ module _ (opening : Desk) where
       count : (q : Desk) → edited_to q (n + up.k + up.m) ≡ edited_to q (n + m)
       count q = let sum = up.sum in ap (λ x. edited_to q x) (omega (arith, sum))
 
-    pub quit_of : (next : Desk) → HearsUpTo h piece mid_taken taken' m (QuitsThere next) → IsQuit IsAnswer Quits (begun_on opening) a c taken taken' (edited_to next (n + m))
+    pub quit_of : (next : Desk) → HearsUpTo h piece mid_taken taken' m (QuitsThere next) → IsQuit IsLineAnswer Quits (begun_on opening) a c taken taken' (edited_to next (n + m))
     quit_of next up =
         let at = at_mid (QuitsThere next) up in
         let said = up.at in
@@ -255,13 +255,13 @@ module _ (opening : Desk) where
           state = edited_to up.mid.desk (n + up.k);
           answered = answered_at (bytes ++ up.front) (replies ++ up.before) (n + up.k) up.mid at;
           reply = up.after;
-          answer = subst (IsAnswer (edited_to up.mid.desk (n + up.k)) (begun_line (bytes ++ up.front)) up.after) (count (QuitsThere next) up next)
+          answer = subst (IsLineAnswer (edited_to up.mid.desk (n + up.k)) (begun_line (bytes ++ up.front)) up.after) (count (QuitsThere next) up next)
               (answer_at (bytes ++ up.front) (replies ++ up.before) (n + up.k) up.mid at up.after up.m next said.3);
           quits = subst Quits (sym (begun_at (bytes ++ up.front) (replies ++ up.before) (n + up.k) up.mid at)) said.2;
           written = written_mid (QuitsThere next) up;
         }
 
-    cut_of : (next : Desk) → HearsUpTo h piece mid_taken taken' m (IsCutThere next) → IsCut IsAnswer Quits (begun_on opening) a c taken taken' (edited_to next (n + m))
+    cut_of : (next : Desk) → HearsUpTo h piece mid_taken taken' m (IsCutThere next) → IsCut IsLineAnswer Quits (begun_on opening) a c taken taken' (edited_to next (n + m))
     cut_of next up =
         let at = at_mid (IsCutThere next) up in
         let said = up.at in
@@ -277,7 +277,7 @@ module _ (opening : Desk) where
           state = edited_to up.mid.desk (n + up.k);
           answered = answered_at (bytes ++ up.front) (replies ++ up.before) (n + up.k) up.mid at;
           reply = cut.0;
-          answer = subst (IsAnswer (edited_to up.mid.desk (n + up.k)) (begun_line (bytes ++ up.front)) cut.0) (count (IsCutThere next) up next)
+          answer = subst (IsLineAnswer (edited_to up.mid.desk (n + up.k)) (begun_line (bytes ++ up.front)) cut.0) (count (IsCutThere next) up next)
               (answer_at (bytes ++ up.front) (replies ++ up.before) (n + up.k) up.mid at cut.0 up.m next cut.2);
           sent = cut.1;
           part = cut.3;
@@ -286,7 +286,7 @@ module _ (opening : Desk) where
 
     -- nothing comes of the byte that is one too many
     over_of : (next : Desk) (Q : Heard → ℕ → List ℕ → ℕ → Type 0) (IsOver : List ℕ → ℕ → Type 0) (up : HearsUpTo h piece mid_taken taken' m Q)
-        → up.after ≡ [] → up.m ≡ 0 → next ≡ up.mid.desk → IsOver (bytes ++ up.front) up.byte → IsOverLimit IsAnswer Quits (begun_on opening) a c taken taken' (edited_to next (n + m)) IsOver
+        → up.after ≡ [] → up.m ≡ 0 → next ≡ up.mid.desk → IsOver (bytes ++ up.front) up.byte → IsOverLimit IsLineAnswer Quits (begun_on opening) a c taken taken' (edited_to next (n + m)) IsOver
     over_of next Q IsOver up quiet nothing stays over =
         let at = at_mid Q up in
         let sum = up.sum in
@@ -300,18 +300,18 @@ module _ (opening : Desk) where
           read = read_mid Q up;
           few = few_after Q up;
           replies = replies ++ up.before;
-          answered = subst (AreAnswered IsAnswer Quits (begun_on opening) (bytes ++ up.front) (replies ++ up.before)) state (answered_at (bytes ++ up.front) (replies ++ up.before) (n + up.k) up.mid at);
+          answered = subst (AreAnswered IsLineAnswer Quits (begun_on opening) (bytes ++ up.front) (replies ++ up.before)) state (answered_at (bytes ++ up.front) (replies ++ up.before) (n + up.k) up.mid at);
           over = over;
           written = subst (Appends taken taken') (append-nil (replies ++ up.before)) written;
         }
 
-    too_long_of : (next : Desk) → HearsUpTo h piece mid_taken taken' m (IsTooLongThere next) → IsOverLimit IsAnswer Quits (begun_on opening) a c taken taken' (edited_to next (n + m)) IsOverScript
+    too_long_of : (next : Desk) → HearsUpTo h piece mid_taken taken' m (IsTooLongThere next) → IsOverLimit IsLineAnswer Quits (begun_on opening) a c taken taken' (edited_to next (n + m)) IsOverScript
     too_long_of next up =
         let at = at_mid (IsTooLongThere next) up in
         let said = up.at in
         over_of next (IsTooLongThere next) IsOverScript up said.1 said.2 said.3 (sym at.read ∙ said.0)
 
-    line_too_long_of : (next : Desk) → HearsUpTo h piece mid_taken taken' m (IsLineTooLongThere next) → IsOverLimit IsAnswer Quits (begun_on opening) a c taken taken' (edited_to next (n + m)) IsOverLine
+    line_too_long_of : (next : Desk) → HearsUpTo h piece mid_taken taken' m (IsLineTooLongThere next) → IsOverLimit IsLineAnswer Quits (begun_on opening) a c taken taken' (edited_to next (n + m)) IsOverLine
     line_too_long_of next up =
         let at = at_mid (IsLineTooLongThere next) up in
         let said = up.at in
@@ -340,7 +340,7 @@ module _ (opening : Desk) where
     }
 
     -- the answering stops among the bytes of a piece
-    pub stopped_of : (next : Desk) (s : ScriptStop) → HearsUpTo h piece mid_taken taken' m (StopsThere s next) → IsStopped s opening a c taken taken' (edited_to next (n + m))
+    pub stopped_of : (next : Desk) (s : ScriptStop) → HearsUpTo h piece mid_taken taken' m (StopsThere s next) → IsScriptStopped s opening a c taken taken' (edited_to next (n + m))
     stopped_of next stop.Read up = absurd up.at
     stopped_of next (stop.TooLong read) up =
         (up.at.0, too_long_of next (with_at (StopsThere (stop.TooLong read) next) (IsTooLongThere next) (λ mid byte after k q. q.1) up))

@@ -7,7 +7,7 @@ use Rattle.std.proofs.lemmas.List.Splits.{slice_split-cons_yes, length-slice_spl
 use Rattle.std.proofs.Math.Seq.{take-append_seam, get_or-append_seam}
 use Rattle.std.proofs.lemmas.Option.{slice_get-get_or}
 use Rattle.rhythm_base.specs.Lists.{last_of}
-use Rattle.rhythm_base.specs.ScriptLines.{between_newlines, open_line, script_lines}
+use Rattle.edit_script.specs.ScriptLines.{between_newlines, open_line, script_lines}
 use Rattle.script_run.specs.Bytes.{begun_line, whole_lines}
 
 -- the last part with one byte more

@@ -6,8 +6,8 @@ use Rattle.std.specs.Str.{bytes_eq}
 use Rattle.std.proofs.Math.Seq.{take-append-add}
 use Rattle.std.proofs.lemmas.Slice.Eq.{bytes_eq-Decides}
 use Rattle.rhythm_base.specs.Lists.{last_of}
-use Rattle.rhythm_base.specs.Script.{Run}
-use Rattle.rhythm_base.specs.ScriptLines.{Are, Is, between_newlines, open_line, script_lines, script_words}
+use Rattle.script_laws.specs.Script.{Run}
+use Rattle.edit_script.specs.ScriptLines.{Are, Is, between_newlines, open_line, script_lines, script_words}
 use Rattle.script_run.specs.Answers.{Quits}
 use Rattle.script_run.specs.Desk.{Desk, IsSound}
 use Rattle.script_run.specs.Editing.{Editing, begun_on}

@@ -5,7 +5,7 @@ use Rattle.std.specs.Io.KnownBytes.{Appends, Consumes, IsAtEnd}
 use Rattle.std.proofs.Math.Seq.{get_or-append_seam, take-append-add}
 use Rattle.std.proofs.lemmas.Bool.{cases_order}
 use Rattle.std.proofs.lemmas.Bool.Decides.{nat_tests}
-use Rattle.rhythm_base.specs.ScriptLines.{between_newlines, script_lines}
+use Rattle.edit_script.specs.ScriptLines.{between_newlines, script_lines}
 use Rattle.rhythm_base.specs.declared.limits.TheConstants.{LONGEST_SCRIPT, LONGEST_SCRIPT_LINE}
 use Rattle.script_run.specs.Answers.{Quits}
 use Rattle.script_run.specs.Desk.{Desk, IsSound}

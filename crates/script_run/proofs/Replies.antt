@@ -8,21 +8,22 @@ use Rattle.edit_script.specs.declared.reply.Reply.{Reply}
 use Rattle.edit_script.specs.declared.reply.Reply.TheVariants as replies
 use Rattle.edit_session.specs.Prepared.{RisesBy}
 use Rattle.edit_session.specs.declared.committed.Applied.{Applied}
-use Rattle.rhythm_base.proofs.CommandWords.{one_command}
+use Rattle.edit_script.proofs.CommandWords.{one_command}
 use Rattle.rhythm_base.specs.Counter.{risen}
-use Rattle.rhythm_base.specs.Edits.{cell_tests, edited, first_refusal}
+use Rattle.edit_laws.specs.Edits.{cell_tests, edited, first_refusal}
 use Rattle.rhythm_base.specs.Grammar.{Grammar}
 use Rattle.rhythm_base.specs.Performance.{Performance}
-use Rattle.rhythm_base.specs.Replies.{alternatives_text, bad_line_text, bye_text, done_text, long_score_text, refused_text, score_text}
-use Rattle.rhythm_base.specs.Reached.{WouldReach}
-use Rattle.rhythm_base.specs.Script.{IsOutcome, Step, made, refused}
-use Rattle.rhythm_base.specs.ScriptLines.{Are, ArePinWords, BeginsPin, Is, SaysCommand, SaysNothing, script_words}
-use Rattle.rhythm_base.specs.declared.command.Command.{Command}
-use Rattle.rhythm_base.specs.declared.command.Command.TheVariants.{Change, Score, Alternatives, Quit}
+use Rattle.edit_script.specs.Replies.{alternatives_text, bad_line_text, bye_text, done_text, long_score_text, refused_text, score_text}
+use Rattle.edit_laws.specs.Reached.{WouldReach}
+use Rattle.edit_laws.specs.EditOutcomes.{IsOutcome, made, refused}
+use Rattle.script_laws.specs.Script.{IsLineStep}
+use Rattle.edit_script.specs.ScriptLines.{Are, ArePinWords, BeginsPin, Is, SaysCommand, SaysNothing, script_words}
+use Rattle.edit_script.specs.declared.command.Command.{Command}
+use Rattle.edit_script.specs.declared.command.Command.TheVariants.{Change, Score, Alternatives, Quit}
 use Rattle.rhythm_base.specs.declared.edit.Edit.{Edit}
 use Rattle.rhythm_base.specs.declared.edit_fault.EditFault.{EditFault}
 use Rattle.rhythm_base.specs.declared.edit_fault.EditFault.TheVariants.{NoVoice, NoBar, BadSpan, NoNote, SameNote, PastEnd, BarlineOrder, NoteOutside, NotEmpty, OneBar, Limit, NoDerivation, Memory}
-use Rattle.script_run.specs.Answers.{AnswersLine, IsBuiltFor, IsBuiltForEdit, IsScore, Quits, TakesMemory}
+use Rattle.script_run.specs.Answers.{AnswersLine, IsBuiltFor, IsBuiltForEdit, IsWrittenScore, Quits, TakesMemory}
 use Rattle.script_run.specs.Hearing.{MayAnswer}
 
 -- ---- a refusal for want of memory is the one reply with its text
@@ -126,7 +127,7 @@ module _ (g : Grammar) (p : Performance) where
   -- ---- lines
 
   command_replies : (line : List ℕ) (command : Command) (reply : List ℕ) (next : Performance) → SaysCommand line command → command ≢ Quit → MayAnswer g p command reply next
-      → Step (IsScore g) g p line reply next
+      → IsLineStep (IsWrittenScore g) g p line reply next
   command_replies line command reply next says goes (inl answers) = inl (command, says, answers)
   command_replies line command reply next says goes (inr (text, same)) = inr (inr (inr (command, says, goes), text, same))
 

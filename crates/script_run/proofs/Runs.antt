@@ -2,7 +2,7 @@
 use Rattle.std.proofs.Common.{ℕ, inl, inr, List, [], ◌∷◌, ◌++◌, refl, sym, ap, ◌∙◌, subst, append_assoc, append-nil}
 use Rattle.std.specs.Prelude.{All}
 use Rattle.std.proofs.lemmas.List.Elements.{All-head, All-tail}
-use Rattle.rhythm_base.specs.Script.{Run}
+use Rattle.script_laws.specs.Script.{Run}
 
 module _ {State : Type 0} (Steps : State → List ℕ → List ℕ → State → Type 0) (Ends : List ℕ → Type 0) where
   -- lines that do not end the run, and then more

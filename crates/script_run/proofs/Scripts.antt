@@ -9,8 +9,8 @@ use Rattle.rhythm_ports.specs.Causes.{Rose}
 use Rattle.rhythm_base.specs.declared.limits.TheConstants.{LONGEST_SCRIPT}
 use Rattle.script_run.specs.Answers.{Quits}
 use Rattle.script_run.specs.Desk.{Desk}
-use Rattle.script_run.specs.Editing.{Editing, IsAnswer, begun_on}
-use Rattle.script_run.specs.Ends.{IsDone, IsStopped}
+use Rattle.script_run.specs.Editing.{Editing, IsLineAnswer, begun_on}
+use Rattle.script_run.specs.Ends.{IsDone, IsScriptStopped}
 use Rattle.script_run.specs.Machine.{IsBroken}
 use Rattle.script_run.specs.Hearing.{Closes, Heard, HearsAll, HearsUpTo, QuitsThere, Replies, StopsThere, Took}
 use Rattle.script_run.specs.declared.script.TheConstants.{ONE_READ}
@@ -50,18 +50,18 @@ module _ (opening : Desk) (start h : Heard) (is : start ≡ hearing_start openin
 
   pub cut_at_the_end : (reply : List ℕ) (k sent : ℕ) (next : Desk) (d taken' : Option (List ℕ)) (new count : ℕ) (buffer : List ℕ) → h.begun ≢ [] → Replies h reply k next
       → sent < length reply → count ≡ 0 → Consumes b d (take count buffer) → IsAtEnd d → Took mid taken' built new (take sent reply) k
-      → Ends (λ last. IsStopped stop.Write opening a d taken taken' last) old new
+      → Ends (λ last. IsScriptStopped stop.Write opening a d taken taken' last) old new
   cut_at_the_end reply k sent next d taken' new count buffer some said part none more end (after, rises) = (
     edited_to next (n + k),
     cut_at_end opening bytes replies n h reply k sent next a d taken mid taken' now some said part (nothing_more d buffer count none more) end took.0 after,
     counted k new rises,
   )
 
-  broken : Ends (λ last. IsBroken IsAnswer Quits (begun_on opening) a b taken mid last) old built
+  broken : Ends (λ last. IsBroken IsLineAnswer Quits (begun_on opening) a b taken mid last) old built
   broken = (edited_to h.desk n, broken_at opening bytes replies n h a b taken mid now read took.0, took.1)
 
   -- a read fails
-  pub broken_off : (d : Option (List ℕ)) → Keeps b d → Ends (λ last. IsBroken IsAnswer Quits (begun_on opening) a d taken mid last) old built
+  pub broken_off : (d : Option (List ℕ)) → Keeps b d → Ends (λ last. IsBroken IsLineAnswer Quits (begun_on opening) a d taken mid last) old built
   broken_off d kept =
       (edited_to h.desk n, broken_at opening bytes replies n h a d taken mid now (Consumes-kept a b d bytes read kept) took.0, took.1)
 
@@ -75,10 +75,10 @@ module _ (opening : Desk) (start h : Heard) (is : start ≡ hearing_start openin
   pub write_closed : (d : Option (List ℕ)) (count : ℕ) (buffer : List ℕ) → count ≡ 0 → Consumes b d (take count buffer) → IsAtEnd d → (r : Result (Unit {0}) ScriptStop)
       (taken' : Option (List ℕ)) (new : ℕ) (next : Desk) (R : Type 0)
       → IfErr r (λ end. (end ≡ stop.Write) × R × ((reply : List ℕ) × (k sent : ℕ) × (h.begun ≢ []) × Replies h reply k next × (sent < length reply) × Took mid taken' built new (take sent reply) k))
-      → IfErr r (λ end. Ends (λ last. IsStopped end opening a d taken taken' last) old new)
+      → IfErr r (λ end. Ends (λ last. IsScriptStopped end opening a d taken taken' last) old new)
   write_closed d count buffer none more end (Ok x) taken' new next R h = tt
   write_closed d count buffer none more end (Err s) taken' new next R (is, rose, (reply, k, sent, some, said, part, took')) =
-      subst (λ (x : ScriptStop). Ends (λ last. IsStopped x opening a d taken taken' last) old new) (sym is)
+      subst (λ (x : ScriptStop). Ends (λ last. IsScriptStopped x opening a d taken taken' last) old new) (sym is)
       (cut_at_the_end reply k sent next d taken' new count buffer some said part none more end took')
 
   module _ (buffer : List ℕ) (count : ℕ) (d taken' : Option (List ℕ)) (new m : ℕ) (more : Consumes b d (take count buffer)) (few : length buffer ≤ ONE_READ) (rises : new ≡ risen built m) where
@@ -89,7 +89,7 @@ module _ (opening : Desk) (start h : Heard) (is : start ≡ hearing_start openin
     quit_among next up =
         (edited_to next (n + m), inr (quit_of opening bytes replies n h now (take count buffer) m a b d taken mid taken' read more few_taken took.0 next up), counted m new rises)
 
-    pub stopped_among : (next : Desk) (s : ScriptStop) → HearsUpTo h (take count buffer) mid taken' m (StopsThere s next) → Ends (λ last. IsStopped s opening a d taken taken' last) old new
+    pub stopped_among : (next : Desk) (s : ScriptStop) → HearsUpTo h (take count buffer) mid taken' m (StopsThere s next) → Ends (λ last. IsScriptStopped s opening a d taken taken' last) old new
     stopped_among next s up =
         (edited_to next (n + m), stopped_of opening bytes replies n h now (take count buffer) m a b d taken mid taken' read more few_taken took.0 next s up, counted m new rises)
 

@@ -9,13 +9,13 @@ use Rattle.edit_script.specs.declared.reply.Reply.TheVariants as replies
 use Rattle.edit_session.specs.declared.committed.Applied.{Applied}
 use Rattle.rhythm_base.specs.Grammar.{Grammar}
 use Rattle.rhythm_base.specs.Performance.{Performance}
-use Rattle.rhythm_base.specs.Edits.{cell_tests, edited, first_refusal}
-use Rattle.rhythm_base.specs.Replies.{bad_line_text, bye_text, done_text, refused_text}
-use Rattle.rhythm_base.specs.Script.{IsOutcome, made, refused}
-use Rattle.rhythm_base.specs.ScriptLines.{BeginsPin, SaysCommand, trimmed}
+use Rattle.edit_laws.specs.Edits.{cell_tests, edited, first_refusal}
+use Rattle.edit_script.specs.Replies.{bad_line_text, bye_text, done_text, refused_text}
+use Rattle.edit_laws.specs.EditOutcomes.{IsOutcome, made, refused}
+use Rattle.edit_script.specs.ScriptLines.{BeginsPin, SaysCommand, trimmed}
 use Rattle.rhythm_base.specs.Voices.{IsCostOf}
-use Rattle.rhythm_base.specs.declared.command.Command.{Command}
-use Rattle.rhythm_base.specs.declared.command.Command.TheVariants.{Change, Score, Alternatives, Quit}
+use Rattle.edit_script.specs.declared.command.Command.{Command}
+use Rattle.edit_script.specs.declared.command.Command.TheVariants.{Change, Score, Alternatives, Quit}
 use Rattle.rhythm_base.specs.declared.edit.Edit.{Edit}
 use Rattle.rhythm_base.specs.declared.edit_fault.EditFault.{EditFault}
 use Rattle.rhythm_base.specs.declared.edit_fault.EditFault.TheVariants.{NoVoice, NoBar, BadSpan, NoNote, SameNote, PastEnd, BarlineOrder, NoteOutside, NotEmpty, OneBar, Limit, NoDerivation, Memory}
@@ -30,7 +30,7 @@ use Rattle.session_history.specs.declared.studio_command.StudioCommand.TheVarian
 use Rattle.session_history.specs.declared.studio_reply.StudioReply.{StudioReply}
 use Rattle.session_history.specs.declared.studio_reply.StudioReply.TheVariants as studio
 use Rattle.session_history.proofs.StudioWords.{one_studio_command}
-use Rattle.script_run.specs.Answers.{AnswersLine, IsBuiltFor, IsBuiltForEdit, IsScore, Quits, TakesMemory}
+use Rattle.script_run.specs.Answers.{AnswersLine, IsBuiltFor, IsBuiltForEdit, IsWrittenScore, Quits, TakesMemory}
 use Rattle.script_run.specs.Hearing.{MayAnswer}
 use Rattle.script_run.specs.Studio.{AnswersStudioLine, MayAnswerInStudio}
 use Rattle.script_run.proofs.Replies.{EditReplies, change_builds, memory_reply, other_builds}
@@ -117,7 +117,7 @@ module _ (h : History) where
   -- ---- lines
 
   command_step : (line : List ℕ) (command : Command) (reply : List ℕ) (next : History) → SaysCommand line command → command ≢ Quit → MayAnswerInStudio h (Plain command) reply next
-      → StudioStep (IsScore h.grammar) h line reply next
+      → StudioStep (IsWrittenScore h.grammar) h line reply next
   command_step line command reply next says goes (inl answers) = inl (Plain command, says, answers)
   command_step line command reply next says goes (inr (text, same)) = inr (inr (inr (command, says, goes), text, same))
 

@@ -2,24 +2,24 @@
 -- are built for it.
 use Rattle.std.specs.Prelude.{◌≡◌, ℕ, ◌≤◌, ◌⊎◌, List, IsOk, None, length, Result, Ok, Err, ⊤}
 use Rattle.kern_writer.specs.PerformanceText.{HasTooLongText, IsTextOf}
-use Rattle.rhythm_base.specs.Edits.{cell_tests, edited, first_refusal}
+use Rattle.edit_laws.specs.Edits.{cell_tests, edited, first_refusal}
 use Rattle.rhythm_base.specs.Grammar.{Grammar}
 use Rattle.rhythm_base.specs.Performance.{Performance}
-use Rattle.rhythm_base.specs.Reached.{WouldReach}
-use Rattle.rhythm_base.specs.Replies.{done_text, refused_text}
-use Rattle.rhythm_base.specs.Script.{Step}
-use Rattle.rhythm_base.specs.ScriptLines.{BeginsPin, SaysCommand}
-use Rattle.rhythm_base.specs.declared.command.Command.{Command}
-use Rattle.rhythm_base.specs.declared.command.Command.TheVariants.{Alternatives, Change, Quit, Score}
+use Rattle.edit_laws.specs.Reached.{WouldReach}
+use Rattle.edit_script.specs.Replies.{done_text, refused_text}
+use Rattle.script_laws.specs.Script.{IsLineStep}
+use Rattle.edit_script.specs.ScriptLines.{BeginsPin, SaysCommand}
+use Rattle.edit_script.specs.declared.command.Command.{Command}
+use Rattle.edit_script.specs.declared.command.Command.TheVariants.{Alternatives, Change, Quit, Score}
 use Rattle.rhythm_base.specs.declared.edit.Edit.{Edit}
 use Rattle.rhythm_base.specs.declared.edit_fault.EditFault.{EditFault}
 use Rattle.rhythm_base.specs.declared.edit_fault.EditFault.TheVariants.{Memory}
 use Rattle.rhythm_base.specs.declared.limits.TheConstants.{LONGEST_SCORE}
 
 -- the score of a performance: its text, or the number of the record that would pass the limit of a score
-abbrev pub IsScore : Grammar → Performance → Result (List ℕ) ℕ → Type 0
-IsScore g p (Ok text) = IsTextOf g p text × (length text ≤ LONGEST_SCORE)
-IsScore g p (Err line) = HasTooLongText g p line
+abbrev pub IsWrittenScore : Grammar → Performance → Result (List ℕ) ℕ → Type 0
+IsWrittenScore g p (Ok text) = IsTextOf g p text × (length text ≤ LONGEST_SCORE)
+IsWrittenScore g p (Err line) = HasTooLongText g p line
 
 abbrev pub Quits : List ℕ → Type 0
 Quits line = SaysCommand line Quit
@@ -50,6 +50,6 @@ MayLackMemory p line = BeginsPin line ⊎ ((command : Command) × SaysCommand li
 
 -- what a line may do: its reply, the performance after it, and how many cells are built for it
 pub record AnswersLine (g : Grammar) (p : Performance) (line reply : List ℕ) (n : ℕ) (next : Performance) : Type 0 where
-  pub step : Step (IsScore g) g p line reply next
+  pub step : IsLineStep (IsWrittenScore g) g p line reply next
   pub memory : reply ≡ refused_text Memory → MayLackMemory p line
   pub built : IsBuiltFor g p line reply n

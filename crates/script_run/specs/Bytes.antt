@@ -1,7 +1,7 @@
 -- The lines of the bytes that were read of a script so far, and the limits that they keep.
 use Rattle.std.specs.Prelude.{ℕ, ◌-◌, ◌≤◌, List, [], All, length, take, unwrap_or}
 use Rattle.rhythm_base.specs.Lists.{last_of}
-use Rattle.rhythm_base.specs.ScriptLines.{between_newlines}
+use Rattle.edit_script.specs.ScriptLines.{between_newlines}
 use Rattle.rhythm_base.specs.declared.limits.TheConstants.{LONGEST_SCRIPT, LONGEST_SCRIPT_LINE}
 
 -- the lines that a newline ends

@@ -8,20 +8,20 @@ use Rattle.session_history.specs.History.{History}
 use Rattle.script_run.specs.Desk.{Desk, editor, studio}
 use Rattle.script_run.specs.Hearing.{Heard}
 
-abbrev pub parts_of : Desk → (Grammar × Performance) ⊎ History
-parts_of (editor g p) = inl (g, p)
-parts_of (studio h) = inr h
+abbrev pub desk_parts : Desk → (Grammar × Performance) ⊎ History
+desk_parts (editor g p) = inl (g, p)
+desk_parts (studio h) = inr h
 
-abbrev pub desk_of : (Grammar × Performance) ⊎ History → Desk
-desk_of (inl (g, p)) = editor g p
-desk_of (inr h) = studio h
+abbrev pub coded_desk : (Grammar × Performance) ⊎ History → Desk
+coded_desk (inl (g, p)) = editor g p
+coded_desk (inr h) = studio h
 
-pub parts_are : (desk : Desk) → desk_of (parts_of desk) ≡ desk
+pub parts_are : (desk : Desk) → coded_desk (desk_parts desk) ≡ desk
 parts_are (editor g p) = refl
 parts_are (studio h) = refl
 
 abbrev pub desk_code : Coded Grammar → Coded Performance → Coded History → Coded Desk
-desk_code grammar performance history = code_by ((Grammar × Performance) ⊎ History) (coded⊎ (coded× grammar performance) history) parts_of desk_of parts_are
+desk_code grammar performance history = code_by ((Grammar × Performance) ⊎ History) (coded⊎ (coded× grammar performance) history) desk_parts coded_desk parts_are
 
 abbrev pub heard_code : Coded Grammar → Coded Performance → Coded History → Coded Heard
 heard_code grammar performance history =

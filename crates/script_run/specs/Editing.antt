@@ -1,6 +1,6 @@
 -- A desk as its lines are answered one after another.
 use Rattle.std.specs.Prelude.{◌≡◌, ℕ, ◌+◌, List}
-use Rattle.rhythm_base.specs.Script.{Run}
+use Rattle.script_laws.specs.Script.{Run}
 use Rattle.script_run.specs.Answers.{Quits}
 use Rattle.script_run.specs.Desk.{AnswersOn, Desk}
 
@@ -13,9 +13,9 @@ abbrev pub begun_on : Desk → Editing
 begun_on desk = record { desk = desk; built = 0 }
 
 -- what a line may do
-abbrev pub IsAnswer : Editing → List ℕ → List ℕ → Editing → Type 0
-IsAnswer old line reply new = (n : ℕ) × AnswersOn old.desk line reply n new.desk × (new.built ≡ old.built + n)
+abbrev pub IsLineAnswer : Editing → List ℕ → List ℕ → Editing → Type 0
+IsLineAnswer old line reply new = (n : ℕ) × AnswersOn old.desk line reply n new.desk × (new.built ≡ old.built + n)
 
 -- the replies to lines, up to one that says `quit`
 abbrev pub AreAnswers : Editing → List (List ℕ) → List ℕ → Editing → Type 0
-AreAnswers old lines replies last = Run IsAnswer Quits old lines replies last
+AreAnswers old lines replies last = Run IsLineAnswer Quits old lines replies last

@@ -4,19 +4,19 @@ use Rattle.std.specs.Io.KnownBytes.{Appends}
 use Rattle.rhythm_base.specs.Counter.{risen}
 use Rattle.rhythm_base.specs.Grammar.{Grammar}
 use Rattle.rhythm_base.specs.Performance.{Performance}
-use Rattle.rhythm_base.specs.Replies.{refused_text}
-use Rattle.rhythm_base.specs.Script.{Answers}
-use Rattle.rhythm_base.specs.declared.command.Command.{Command}
+use Rattle.edit_script.specs.Replies.{refused_text}
+use Rattle.script_laws.specs.Script.{Answers}
+use Rattle.edit_script.specs.declared.command.Command.{Command}
 use Rattle.rhythm_base.specs.declared.edit_fault.EditFault.TheVariants.{Memory}
 use Rattle.rhythm_base.specs.declared.limits.TheConstants.{LONGEST_SCRIPT, LONGEST_SCRIPT_LINE}
-use Rattle.script_run.specs.Answers.{IsScore, Quits}
+use Rattle.script_run.specs.Answers.{IsWrittenScore, Quits}
 use Rattle.script_run.specs.Desk.{AnswersOn, Desk}
 use Rattle.script_run.specs.declared.script_stop.ScriptStop.{ScriptStop}
 use Rattle.script_run.specs.declared.script_stop.ScriptStop.TheVariants as stop
 
 -- a command is answered, or there was not enough memory
 abbrev pub MayAnswer : Grammar → Performance → Command → List ℕ → Performance → Type 0
-MayAnswer g p command reply next = Answers (IsScore g) g p command reply next ⊎ ((reply ≡ refused_text Memory) × (next ≡ p))
+MayAnswer g p command reply next = Answers (IsWrittenScore g) g p command reply next ⊎ ((reply ≡ refused_text Memory) × (next ≡ p))
 
 -- the desk, the line that was begun, and how many bytes were read
 pub record Heard : Type 0 where

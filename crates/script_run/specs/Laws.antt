@@ -1,20 +1,20 @@
 -- The laws, each as one statement over the definitions.
 use Rattle.std.specs.Prelude.{◌≡◌, ◌≢◌, ◌⊎◌, ◌++◌, ℕ, List, Option, Some, Result, Ok, Err}
-use Rattle.edit_laws.specs.Laws.{LinesHaveOneAnswer as HasOneAnswers, ScriptsHaveOneRun}
+use Rattle.script_laws.specs.Laws.{LinesHaveOneReply as HasOneAnswers, ScriptsHaveOneRun}
 use Rattle.rhythm_base.specs.Grammar.{Grammar}
 use Rattle.rhythm_base.specs.Readable.{IsReadable}
-use Rattle.rhythm_base.specs.Replies.{refused_text}
+use Rattle.edit_script.specs.Replies.{refused_text}
 use Rattle.rhythm_base.specs.declared.edit_fault.EditFault.TheVariants.{Memory}
-use Rattle.script_run.specs.Answers.{IsScore, Quits}
+use Rattle.script_run.specs.Answers.{IsWrittenScore, Quits}
 use Rattle.script_run.specs.Desk.{AnswersOn, Desk, IsSound}
-use Rattle.script_run.specs.Editing.{Editing, IsAnswer, begun_on}
+use Rattle.script_run.specs.Editing.{Editing, IsLineAnswer, begun_on}
 use Rattle.script_run.specs.Machine.{IsAnswered, IsStoppedBy}
 use Rattle.script_run.specs.declared.script_stop.ScriptStop.{ScriptStop}
 use Rattle.script_run.specs.declared.script_stop.ScriptStop.TheVariants as stop
 
 -- by a readable grammar a line has one answer, but for want of memory, and a script one run
 abbrev pub LinesHaveOneAnswer : Type 0
-LinesHaveOneAnswer = (g : Grammar) → IsReadable g → HasOneAnswers g (IsScore g) × ScriptsHaveOneRun g (IsScore g)
+LinesHaveOneAnswer = (g : Grammar) → IsReadable g → HasOneAnswers g (IsWrittenScore g) × ScriptsHaveOneRun g (IsWrittenScore g)
 
 -- a line has one reply on a desk, and leaves one desk, but for want of memory; and it leaves what is edited well formed
 pub record DesksHaveOneAnswer : Type 0 where
@@ -24,7 +24,7 @@ pub record DesksHaveOneAnswer : Type 0 where
 
 -- what a line may do without want of memory
 abbrev pub IsAmpleAnswer : Editing → List ℕ → List ℕ → Editing → Type 0
-IsAmpleAnswer old line reply new = IsAnswer old line reply new × (reply ≢ refused_text Memory)
+IsAmpleAnswer old line reply new = IsLineAnswer old line reply new × (reply ≢ refused_text Memory)
 
 -- the bytes of a script decide its end: no read and no write fails, and there is memory for a line
 abbrev pub IsByBytes : Result (Unit {0}) ScriptStop → Type 0

@@ -3,8 +3,8 @@
 -- left of the script before and after, and `taken` and `taken'` what out had taken, where they are told.
 use Rattle.std.specs.Prelude.{◌≡◌, ◌≢◌, ℕ, ◌+◌, ◌<◌, ◌⊎◌, List, [], ◌∷◌, ◌++◌, All, length, take, Option}
 use Rattle.std.specs.Io.KnownBytes.{Appends, Consumes, IsAtEnd}
-use Rattle.rhythm_base.specs.Script.{Run}
-use Rattle.rhythm_base.specs.ScriptLines.{script_lines}
+use Rattle.script_laws.specs.Script.{Run}
+use Rattle.edit_script.specs.ScriptLines.{script_lines}
 use Rattle.rhythm_base.specs.declared.limits.TheConstants.{LONGEST_SCRIPT, LONGEST_SCRIPT_LINE}
 use Rattle.script_run.specs.Bytes.{IsWithinLimits, begun_line, whole_lines}
 use Rattle.script_run.specs.declared.script.TheConstants.{ONE_READ}

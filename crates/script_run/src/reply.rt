@@ -3,10 +3,11 @@ ghost use Rattle.edit_script.specs.declared.reply.Refusal.TheVariants as refusal
 ghost use Rattle.edit_script.specs.declared.reply.Reply.TheVariants as replies;
 ghost use Rattle.edit_session.specs.Asking.{CanBePinned};
 ghost use Rattle.rhythm_base.specs.Counter.{risen};
-ghost use Rattle.rhythm_base.specs.Edits.{IsEditInRange, cell_tests, edited, first_refusal};
-ghost use Rattle.rhythm_base.specs.Replies.{alternatives_text};
-ghost use Rattle.rhythm_base.specs.Script.{shown_alternative};
-ghost use Rattle.rhythm_base.specs.declared.command.Command.TheVariants as command;
+ghost use Rattle.rhythm_base.specs.EditRanges.{IsEditInRange};
+ghost use Rattle.edit_laws.specs.Edits.{cell_tests, edited, first_refusal};
+ghost use Rattle.edit_script.specs.Replies.{alternatives_text};
+ghost use Rattle.script_laws.specs.Script.{shown_alternative};
+ghost use Rattle.edit_script.specs.declared.command.Command.TheVariants as command;
 ghost use Rattle.rhythm_base.specs.declared.edit_fault.EditFault.TheVariants as faults;
 ghost use Rattle.script_run.specs.Answers.{AnswersLine, IsBuiltForEdit, Quits};
 ghost use Rattle.script_run.specs.Faults.{refusal_of_asking, refusal_of_score};
@@ -16,10 +17,10 @@ ghost use Rattle.std.specs.Prelude.{◌≡◌, ◌≢◌, ◌≤◌, ◌↔◌, 
 use crate::means::Means;
 use crate::shown::all_shown;
 use carry_matrix::Steps as Products;
-use edit_script::{LineFault, Refusal, Reply, read_line};
+use edit_script::{Command, LineFault, Refusal, Reply, read_line};
 use edit_session::{Alternative, Applied, AskFault, ScoreFault, Session};
 use least_cost::Steps as Builds;
-use rhythm_base::{Command, Edit, EditFault, Tag};
+use rhythm_base::{Edit, EditFault, Tag};
 use rhythm_ports::Gate;
 use std::alloc::Global;
 use std::thread::Threads;

@@ -2,7 +2,7 @@ ghost use Rattle.rhythm_base.specs.Counter.{risen};
 ghost use Rattle.rhythm_ports.specs.Causes.{Rose};
 ghost use Rattle.script_run.specs.Desk.{shown};
 ghost use Rattle.script_run.specs.Editing.{Editing};
-ghost use Rattle.script_run.specs.Ends.{IsDone, IsStopped};
+ghost use Rattle.script_run.specs.Ends.{IsDone, IsScriptStopped};
 ghost use Rattle.script_run.specs.Hearing.{Closes, Replies, Took};
 ghost use Rattle.script_run.specs.declared.script_stop.ScriptStop.TheVariants as stop;
 ghost use Rattle.std.specs.Prelude.{◌≡◌, ◌≢◌, ◌<◌, ◌≤◌, ℕ, List, [], Err, IfErr, OnOk, length, take};
@@ -60,7 +60,7 @@ pub fn run_script<R: Threads + Sync, S: Source, O: Sink, G: Gate + Sync, B: Tag,
         × IsDone (shown desk) (S.rest script.old) (S.rest script.new) (O.taken out.old) (O.taken out.new) last
         × (builds.new ≡ risen builds.old last.built)) }
     ensures stopped { IfErr result (λ end. (last : Editing)
-        × IsStopped end (shown desk) (S.rest script.old) (S.rest script.new) (O.taken out.old) (O.taken out.new) last
+        × IsScriptStopped end (shown desk) (S.rest script.old) (S.rest script.new) (O.taken out.old) (O.taken out.new) last
         × (builds.new ≡ risen builds.old last.built)) }
     ensures read { result ≡ Err stop.Read → Rose (S.faults script.old) (S.faults script.new) }
     ensures write { result ≡ Err stop.Write → Rose (O.faults out.old) (O.faults out.new) }

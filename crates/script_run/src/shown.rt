@@ -1,6 +1,6 @@
 ghost use Rattle.edit_script.specs.ReplyText.{shown_by};
 ghost use Rattle.edit_session.specs.Asking.{CanBePinned};
-ghost use Rattle.rhythm_base.specs.Script.{shown_alternative};
+ghost use Rattle.script_laws.specs.Script.{shown_alternative};
 ghost use Rattle.std.specs.Prelude.{◌≡◌, All, IfOk, map};
 
 use edit_script::Alt;

@@ -7,13 +7,14 @@ use Rattle.std.proofs.lemmas.Fmt.{decimal_nonempty, digits_decimal, digits_value
 use Rattle.std.proofs.lemmas.List.Elements.{All-cons, All-from_recursion, All-map, All-weaker}
 use Rattle.std.proofs.lemmas.List.Splits.{join_with_byte-slice_split}
 use Rattle.std.proofs.lemmas.List.Sums.{AllPass-from_list_all}
-use Rattle.rhythm_base.specs.declared.command.Command.TheVariants.{Change}
+use Rattle.edit_script.specs.declared.command.Command.TheVariants.{Change}
 use Rattle.rhythm_base.specs.declared.edit.Edit.{Edit}
 use Rattle.rhythm_base.specs.declared.edit.Edit.TheVariants.{Add, Drop, Move, Barline, Pin, Unpin, AddBar, DropBar}
-use Rattle.rhythm_base.specs.Edits.{IsEditInRange}
+use Rattle.rhythm_base.specs.EditRanges.{IsEditInRange}
 use Rattle.rhythm_base.specs.Shape.{Shape}
 use Rattle.rhythm_base.specs.ShapeText.{shape_text}
-use Rattle.rhythm_base.specs.ScriptLines.{AreEdit, IsBarWord, IsChannelWord, IsKeyWord, IsNumber, IsTickWord, SaysCommand, script_words}
+use Rattle.edit_script.specs.ScriptLines.{AreEdit, IsBarWord, IsChannelWord, IsKeyWord, IsTickWord, SaysCommand, script_words}
+use Rattle.rhythm_base.specs.Numerals.{IsNumber}
 use Rattle.rhythm_base.proofs.Numerals.{numerals}
 use Rattle.script_writer.specs.EditText.{edit_line, edit_words}
 use Rattle.script_writer.proofs.PrintedBytes.{IsGraphic, IsPrinting, graphic_prints, joined_prints, number_graphic, shape_prints}

@@ -12,7 +12,7 @@ use Rattle.std.proofs.lemmas.List.Sums.{AllPass-from_list_all}
 use Rattle.rhythm_base.specs.Shape.{Shape, end, part}
 use Rattle.rhythm_base.specs.ShapeText.{around_parts, after_part, shape_text, texts_of_parts}
 use Rattle.rhythm_base.specs.Shapes.{are_cut, can_have, is_shape, parts_in}
-use Rattle.rhythm_base.specs.ScriptLines.{trimmed}
+use Rattle.edit_script.specs.ScriptLines.{trimmed}
 use Rattle.rhythm_base.proofs.Numerals.{numerals}
 
 -- each byte is printed

@@ -1,12 +1,12 @@
 -- A text of edits is read back as these edits.
 use Rattle.std.proofs.Common.{◌≡◌, ℕ, List, [], ◌∷◌, codes, refl, sym, ap, ap₂, ◌∙◌, subst, append_assoc}
 use Rattle.std.proofs.lemmas.List.Elements.{All-head, All-tail}
-use Rattle.rhythm_base.specs.declared.command.Command.TheVariants.{Change}
+use Rattle.edit_script.specs.declared.command.Command.TheVariants.{Change}
 use Rattle.rhythm_base.specs.declared.edit.Edit.{Edit}
-use Rattle.rhythm_base.specs.Edits.{IsEditInRange}
+use Rattle.rhythm_base.specs.EditRanges.{IsEditInRange}
 use Rattle.rhythm_base.specs.Lists.{Each}
-use Rattle.rhythm_base.specs.ScriptLines.{SaysCommand, script_lines}
-use Rattle.rhythm_base.proofs.CommandWords.{one_command}
+use Rattle.edit_script.specs.ScriptLines.{SaysCommand, script_lines}
+use Rattle.edit_script.proofs.CommandWords.{one_command}
 use Rattle.script_writer.specs.EditText.{edit_line, script_text}
 use Rattle.script_writer.specs.Laws.{EditsAreReadBack, TextsAreOfOneList}
 use Rattle.script_writer.proofs.EditWords.{edit_said}

@@ -3,7 +3,7 @@ use Rattle.std.proofs.Common.{◌≡◌, ℕ, suc, ◌-◌, ◌≤◌, ◌==◌,
 use Rattle.std.specs.Prelude.{slice_get}
 use Rattle.std.proofs.lemmas.List.Splits.{length-slice_split, slice_split_at}
 use Rattle.rhythm_base.specs.Lists.{last_of}
-use Rattle.rhythm_base.specs.ScriptLines.{between_newlines, open_line, script_lines}
+use Rattle.edit_script.specs.ScriptLines.{between_newlines, open_line, script_lines}
 use Rattle.script_writer.proofs.PrintedBytes.{IsPrinting, no_newline}
 
 -- the lines of what stands between newlines

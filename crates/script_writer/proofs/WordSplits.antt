@@ -3,7 +3,7 @@ use Rattle.std.proofs.Common.{◌≡◌, ℕ, ◌==◌, List, [], ◌∷◌, ◌
 use Rattle.std.specs.List.{All, flat_map, join_with_byte, slice_split}
 use Rattle.std.proofs.lemmas.List.Elements.{All-head, All-tail}
 use Rattle.std.proofs.lemmas.List.Splits.{slice_split_at, slice_split_none}
-use Rattle.rhythm_base.specs.ScriptLines.{script_words}
+use Rattle.edit_script.specs.ScriptLines.{script_words}
 use Rattle.script_writer.proofs.PrintedBytes.{IsGraphic, IsPrinting, no_space, nothing_trimmed}
 
 abbrev pub between_spaces : List ℕ → List (List ℕ)

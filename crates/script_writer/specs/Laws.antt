@@ -1,10 +1,10 @@
 -- The laws, each as one statement over the definitions.
 use Rattle.std.specs.Prelude.{◌≡◌, List, All}
-use Rattle.rhythm_base.specs.declared.command.Command.TheVariants.{Change}
+use Rattle.edit_script.specs.declared.command.Command.TheVariants.{Change}
 use Rattle.rhythm_base.specs.declared.edit.Edit.{Edit}
-use Rattle.rhythm_base.specs.Edits.{IsEditInRange}
+use Rattle.rhythm_base.specs.EditRanges.{IsEditInRange}
 use Rattle.rhythm_base.specs.Lists.{Each}
-use Rattle.rhythm_base.specs.ScriptLines.{SaysCommand, script_lines}
+use Rattle.edit_script.specs.ScriptLines.{SaysCommand, script_lines}
 use Rattle.script_writer.specs.EditText.{script_text}
 
 -- the lines of the text of edits in range say these edits, one each and in their order

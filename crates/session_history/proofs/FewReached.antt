@@ -8,8 +8,8 @@ use Rattle.std.proofs.Math.Nat.{eq-or-lt_of_le}
 use Rattle.std.proofs.lemmas.List.Elements.{Contains-append_left, Contains-append_right, All-contains}
 use Rattle.rhythm_base.specs.Grammar.{Grammar}
 use Rattle.rhythm_base.specs.Performance.{Performance}
-use Rattle.rhythm_base.specs.Reached.{AreReached, IsReached}
-use Rattle.rhythm_laws.proofs.OrderedLists.{pairs_head, pairs_tail}
+use Rattle.edit_laws.specs.Reached.{AreReached, IsReached}
+use Rattle.rhythm_base.proofs.OrderedLists.{pairs_head, pairs_tail}
 
 -- ---- lists without repetition
 

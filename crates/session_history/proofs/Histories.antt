@@ -3,12 +3,12 @@ use Rattle.std.proofs.Common.{◌≡◌, ℕ, List, [], ◌∷◌, ◌++◌, Boo
 use Rattle.std.specs.Prelude.{All}
 use Rattle.rhythm_base.specs.Grammar.{Grammar}
 use Rattle.rhythm_base.specs.Performance.{IsWellFormed, Performance}
-use Rattle.rhythm_laws.proofs.OneAnswers.{one_reached}
+use Rattle.edit_laws.proofs.OneReached.{one_reached}
 use Rattle.std.proofs.lemmas.List.Elements.{All-append, All-cons, All-drop, All-head, All-nil, All-take}
 use Rattle.std.proofs.Math.Seq.{take-append_seam}
-use Rattle.session_history.specs.Changes.{AreSteps, IsEdited, IsHistory, IsRedone, IsStep, IsUndone}
+use Rattle.session_history.specs.Changes.{AreSteps, IsEdited, IsHistory, IsRedone, IsHistoryStep, IsUndone}
 use Rattle.session_history.specs.History.{History, Step}
-use Rattle.session_history.specs.Kept.{kept_steps, sizes}
+use Rattle.session_history.specs.Kept.{kept_steps, step_sizes}
 use Rattle.session_history.specs.declared.steps.TheConstants.{MOST_KEPT_CELLS, MOST_STEPS}
 
 -- ---- the last element
@@ -28,7 +28,7 @@ one_last (z ∷ xs) (w ∷ ys) x y same =
 
 -- ---- changes are one
 
-pub one_step : (g : Grammar) (earlier later : Performance) (s t : Step) → IsStep g earlier later s → IsStep g earlier later t → s ≡ t
+pub one_step : (g : Grammar) (earlier later : Performance) (s t : Step) → IsHistoryStep g earlier later s → IsHistoryStep g earlier later t → s ≡ t
 one_step g earlier later s t (cells, reached, is) (cells', reached', is') =
     is ∙ ap (λ (cs : List (ℕ × ℕ)). record { performance = earlier; size = length cs }) (one_reached g later earlier cells cells' reached reached') ∙ sym is'
 
@@ -52,19 +52,19 @@ redone_one h new new' (next, later, s, is, step, at) (next', later', t, is', ste
     let same : next ∷ later ≡ next' ∷ later' = sym is ∙ is' in
     let heads : next ≡ next' = cc in
     let tails : later ≡ later' = cc in
-    let steps = one_step h.grammar h.present next s t step (subst (λ q. IsStep h.grammar h.present q t) (sym heads) step') in
+    let steps = one_step h.grammar h.present next s t step (subst (λ q. IsHistoryStep h.grammar h.present q t) (sym heads) step') in
     at ∙ (λ i. record { grammar = h.grammar; past = h.past ++ steps i ∷ []; present = heads i; future = tails i }) ∙ sym at'
 
 -- ---- steps stay steps
 
 -- the last of them leads to the present, and the others to where it stands
-pub steps_before : (g : Grammar) (steps : List Step) (s : Step) (p : Performance) → AreSteps g (steps ++ s ∷ []) p → AreSteps g steps s.performance × IsStep g s.performance p s
+pub steps_before : (g : Grammar) (steps : List Step) (s : Step) (p : Performance) → AreSteps g (steps ++ s ∷ []) p → AreSteps g steps s.performance × IsHistoryStep g s.performance p s
 steps_before g [] s p are = (tt, are.0)
 steps_before g (t ∷ []) s p are = ((are.0, tt), are.1.0)
 steps_before g (t ∷ u ∷ more) s p are = let more' = steps_before g (u ∷ more) s p are.1 in ((are.0, more'.0), more'.1)
 
 -- and so with one step more
-pub steps_with : (g : Grammar) (steps : List Step) (s : Step) (p : Performance) → AreSteps g steps s.performance → IsStep g s.performance p s → AreSteps g (steps ++ s ∷ []) p
+pub steps_with : (g : Grammar) (steps : List Step) (s : Step) (p : Performance) → AreSteps g steps s.performance → IsHistoryStep g s.performance p s → AreSteps g (steps ++ s ∷ []) p
 steps_with g [] s p are is = (is, tt)
 steps_with g (t ∷ []) s p are is = (are.0, (is, tt))
 steps_with g (t ∷ u ∷ more) s p are is = (are.0, steps_with g (u ∷ more) s p are.1 is)
@@ -74,7 +74,7 @@ steps_with g (t ∷ u ∷ more) s p are is = (are.0, steps_with g (u ∷ more) s
 -- of steps the first ones are let go
 pub kept_rest : (steps : List Step) → (cut : List Step) × (steps ≡ cut ++ kept_steps steps)
 kept_rest [] = ([], refl)
-kept_rest (s ∷ more) = go (nat_le (length (s ∷ more)) MOST_STEPS) (nat_le (sizes (s ∷ more)) MOST_KEPT_CELLS) (kept_rest more)
+kept_rest (s ∷ more) = go (nat_le (length (s ∷ more)) MOST_STEPS) (nat_le (step_sizes (s ∷ more)) MOST_KEPT_CELLS) (kept_rest more)
   where
     go : (few small : Bool) → (cut : List Step) × (more ≡ cut ++ kept_steps more)
         → (cut : List Step) × (s ∷ more ≡ cut ++ (if few then (if small then s ∷ more else kept_steps more) else kept_steps more))
@@ -102,19 +102,19 @@ kept_all_of P steps all = let rest = kept_rest steps in rest_all P rest.0 (kept_
 abbrev Formed : Step → Type 0
 Formed step = IsWellFormed step.performance
 
-pub step_leads : (g : Grammar) (earlier later : Performance) (s : Step) → IsStep g earlier later s → s.performance ≡ earlier
+pub step_leads : (g : Grammar) (earlier later : Performance) (s : Step) → IsHistoryStep g earlier later s → s.performance ≡ earlier
 step_leads g earlier later s (cells, reached, is) = ap (λ (x : Step). x.performance) is
 
 -- a step behind those that there are
-more_formed : (h : History) (s : Step) (next : Performance) → IsHistory h → IsStep h.grammar h.present next s → All Formed (h.past ++ s ∷ [])
+more_formed : (h : History) (s : Step) (next : Performance) → IsHistory h → IsHistoryStep h.grammar h.present next s → All Formed (h.past ++ s ∷ [])
 more_formed h s next is step =
     All-append Formed h.past (s ∷ []) is.past
     (All-cons Formed s [] (subst IsWellFormed (sym (step_leads h.grammar h.present next s step)) is.present) (All-nil Formed))
 
-more_steps : (h : History) (s : Step) (next : Performance) → IsHistory h → IsStep h.grammar h.present next s → AreSteps h.grammar (h.past ++ s ∷ []) next
+more_steps : (h : History) (s : Step) (next : Performance) → IsHistory h → IsHistoryStep h.grammar h.present next s → AreSteps h.grammar (h.past ++ s ∷ []) next
 more_steps h s next is step =
     let leads = sym (step_leads h.grammar h.present next s step) in
-    steps_with h.grammar h.past s next (subst (AreSteps h.grammar h.past) leads is.steps) (subst (λ q. IsStep h.grammar q next s) leads step)
+    steps_with h.grammar h.past s next (subst (AreSteps h.grammar h.past) leads is.steps) (subst (λ q. IsHistoryStep h.grammar q next s) leads step)
 
 pub edited_kept : (h new : History) (next : Performance) → IsHistory h → IsWellFormed next → IsEdited h next new → IsHistory new
 edited_kept h new next is formed (s, step, at) = subst IsHistory (sym at) (record {

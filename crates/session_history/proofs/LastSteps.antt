@@ -5,7 +5,7 @@ use Rattle.rhythm_base.specs.declared.limits.TheConstants.{MOST_CELLS}
 use Rattle.edit_session.specs.Opening.{cells_of}
 use Rattle.session_history.specs.Changes.{IsEdited}
 use Rattle.session_history.specs.History.{History, Step}
-use Rattle.session_history.specs.Kept.{kept_steps, sizes}
+use Rattle.session_history.specs.Kept.{kept_steps, step_sizes}
 use Rattle.session_history.specs.declared.steps.TheConstants.{MOST_KEPT_CELLS, MOST_STEPS}
 use Rattle.session_history.proofs.FewReached.{few_reached}
 use Rattle.session_history.proofs.Histories.{step_leads}
@@ -13,7 +13,7 @@ use Rattle.session_history.proofs.Histories.{step_leads}
 -- of steps the last is kept, where it is not too great
 last_kept : (steps : List Step) (s : Step) → s.size ≤ MOST_KEPT_CELLS → (before : List Step) × (kept_steps (steps ++ s ∷ []) ≡ before ++ s ∷ [])
 last_kept [] s small = ([], grind (arith, rules))
-last_kept (t ∷ more) s small = go (nat_le (length (t ∷ more ++ s ∷ [])) MOST_STEPS) (nat_le (sizes (t ∷ more ++ s ∷ [])) MOST_KEPT_CELLS) (last_kept more s small)
+last_kept (t ∷ more) s small = go (nat_le (length (t ∷ more ++ s ∷ [])) MOST_STEPS) (nat_le (step_sizes (t ∷ more ++ s ∷ [])) MOST_KEPT_CELLS) (last_kept more s small)
   where
     go : (few fits : Bool) → (before : List Step) × (kept_steps (more ++ s ∷ []) ≡ before ++ s ∷ [])
         → (before : List Step) × ((if few then (if fits then t ∷ more ++ s ∷ [] else kept_steps (more ++ s ∷ [])) else kept_steps (more ++ s ∷ [])) ≡ before ++ s ∷ [])

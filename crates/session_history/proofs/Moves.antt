@@ -8,7 +8,7 @@ use Rattle.edit_session.specs.Session.{Session}
 use Rattle.rhythm_base.specs.Grammar.{Grammar}
 use Rattle.rhythm_base.specs.Performance.{IsWellFormed, Performance}
 use Rattle.rhythm_base.specs.Voices.{HasDerivation}
-use Rattle.session_history.specs.Ways.{IsKept, KeepsWays, LeadsBack, LeadsOn, Lives}
+use Rattle.session_history.specs.Ways.{CanBeHeld, KeepsWays, LeadsBack, LeadsOn, Lives}
 use Rattle.session_history.specs.declared.steps.TheConstants.{MOST_STEPS}
 use Rattle.session_history.proofs.Leads.{before_last, from_rest, with_last}
 
@@ -35,7 +35,7 @@ pub record IsMoved (old new : Session) (x back : Prepared) : Type 0 where
   pub suits : Suits new.grammar new.performance back
 
 abbrev pub KeptAt : Session → Prepared → Type 0
-KeptAt session x = IsKept session.grammar session.room x.next
+KeptAt session x = CanBeHeld session.grammar session.room x.next
 
 -- ---- the steps at the ends
 
@@ -76,9 +76,9 @@ begun_keeps session back on no_back no_on formed derivations short =
       future = All-nil (KeptAt session);
     }))
 
-more_room : (g : Grammar) (room more : ℕ) → room ≤ more → (xs : List Prepared) → All (λ x. IsKept g room x.next) xs → All (λ x. IsKept g more x.next) xs
+more_room : (g : Grammar) (room more : ℕ) → room ≤ more → (xs : List Prepared) → All (λ x. CanBeHeld g room x.next) xs → All (λ x. CanBeHeld g more x.next) xs
 more_room g room more few xs kept =
-    All-weaker (λ x. IsKept g room x.next) (λ x. IsKept g more x.next) (λ x is. record { lives = is.lives; short = omega (arith, is.short, few) }) xs kept
+    All-weaker (λ x. CanBeHeld g room x.next) (λ x. CanBeHeld g more x.next) (λ x is. record { lives = is.lives; short = omega (arith, is.short, few) }) xs kept
 
 -- what is kept beside a session is kept beside one on the same performance that has more room
 pub rested_keeps : (old new : Session) (back on : List Prepared) → KeepsWays old back on → new.grammar ≡ old.grammar → new.performance ≡ old.performance → old.room ≤ new.room
@@ -122,7 +122,7 @@ module _ (old new : Session) (past future : List Prepared) (x back : Prepared) (
     short = subst (λ (p : Performance). length p.bars ≤ new.room) (sym moved.way_back) (omega (arith, keeps.present.short, moved.room));
   }
 
-  present_kept : IsKept new.grammar new.room new.performance
+  present_kept : CanBeHeld new.grammar new.room new.performance
   present_kept = record {
     lives = subst (λ g. Lives g new.performance) (sym moved.grammar) (subst (Lives old.grammar) (sym moved.performance) moved.lives);
     short = subst (λ (p : Performance). length p.bars ≤ new.room) (sym moved.performance) moved.short;

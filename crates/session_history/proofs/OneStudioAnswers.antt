@@ -1,19 +1,20 @@
 -- Where a performance has one score at most, a line of a studio has one answer.
 use Rattle.std.proofs.Common.{◌≡◌, ℕ, inl, inr, List, [], ◌∷◌, ◌++◌, get_or, refl, sym, ap, subst, ◌∙◌, arith, Result}
 use Rattle.std.specs.Prelude.{◌≢◌, codes}
-use Rattle.edit_laws.specs.Laws.{HasOneScoreAtMost}
-use Rattle.edit_laws.proofs.Lines.{one_step, step_formed}
-use Rattle.edit_laws.proofs.OneAnswers.{answers_are_one}
+use Rattle.script_laws.specs.Laws.{HasOneScoreAtMost}
+use Rattle.script_laws.proofs.Lines.{one_step, step_formed}
+use Rattle.script_laws.proofs.OneAnswers.{answers_are_one}
 use Rattle.rhythm_base.specs.Performance.{IsWellFormed, Performance}
 use Rattle.rhythm_base.specs.Readable.{IsReadable}
-use Rattle.rhythm_base.specs.Replies.{done_text, fault_words, refused_text, reply_line}
-use Rattle.rhythm_base.specs.Script.{EditOutcome, Step, made, outcome_text, refused}
-use Rattle.rhythm_base.specs.ScriptLines.{SaysCommand}
-use Rattle.rhythm_base.specs.declared.command.Command.{Command}
-use Rattle.rhythm_base.specs.declared.command.Command.TheVariants.{Alternatives, Change, Quit, Score}
+use Rattle.edit_script.specs.Replies.{done_text, fault_words, refused_text, reply_line}
+use Rattle.edit_laws.specs.EditOutcomes.{EditOutcome, made, refused}
+use Rattle.script_laws.specs.Script.{IsLineStep, outcome_text}
+use Rattle.edit_script.specs.ScriptLines.{SaysCommand}
+use Rattle.edit_script.specs.declared.command.Command.{Command}
+use Rattle.edit_script.specs.declared.command.Command.TheVariants.{Alternatives, Change, Quit, Score}
 use Rattle.rhythm_base.specs.declared.edit_fault.EditFault.{EditFault}
 use Rattle.rhythm_base.specs.declared.edit_fault.EditFault.TheVariants.{Memory}
-use Rattle.rhythm_laws.proofs.OneAnswers.{one_cost_of}
+use Rattle.performance_laws.proofs.OneVoices.{one_cost_of}
 use Rattle.session_history.specs.Changes.{IsEdited, IsHistory}
 use Rattle.session_history.specs.History.{History}
 use Rattle.session_history.specs.Laws.{StudioLinesHaveOneAnswer}
@@ -43,7 +44,7 @@ no_last (y ∷ ys) x none = absurd (cc)
 module _ (S : Performance → Result (List ℕ) ℕ → Type 0) (h : History) (is : IsHistory h) where
   -- where a line says a command of an edit script, it does what that command does to the present
   plain_step : (line reply : List ℕ) (command : Command) (next : History) → SaysCommand line command → StudioAnswers S h (Plain command) reply next
-      → Step S h.grammar h.present line reply next.present
+      → IsLineStep S h.grammar h.present line reply next.present
   plain_step line reply (Change edit) next says (outcome, becomes, after, text) = inl (Change edit, says, (outcome, becomes, text))
   plain_step line reply Score next says (answer, stays) = inl (Score, says, answer)
   plain_step line reply (Alternatives channel bar count) next says (answer, stays) = inl (Alternatives channel bar count, says, answer)

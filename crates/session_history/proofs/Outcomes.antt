@@ -2,10 +2,10 @@
 use Rattle.std.proofs.Common.{◌≡◌, ℕ, inr, Ok, length, map, refl, sym, subst, ◌∙◌}
 use Rattle.std.proofs.lemmas.List.{length-map}
 use Rattle.edit_session.specs.Prepared.{Prepared, Suits, cell_of}
-use Rattle.rhythm_base.specs.Edits.{edited}
+use Rattle.edit_laws.specs.Edits.{edited}
 use Rattle.rhythm_base.specs.Grammar.{Grammar}
 use Rattle.rhythm_base.specs.Performance.{Performance}
-use Rattle.rhythm_base.specs.Script.{IsOutcome, made, refused}
+use Rattle.edit_laws.specs.EditOutcomes.{IsOutcome, made, refused}
 use Rattle.rhythm_base.specs.Voices.{IsCostOf, IsDeadVoice}
 use Rattle.rhythm_base.specs.declared.edit.Edit.{Edit}
 use Rattle.rhythm_base.specs.declared.edit_fault.EditFault.TheVariants.{NoDerivation}

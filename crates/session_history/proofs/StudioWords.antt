@@ -3,11 +3,11 @@ use Rattle.std.proofs.Common.{◌≡◌, ◌==◌, ℕ, true, false, List, [], �
 use Rattle.std.specs.List.{slice_split}
 use Rattle.std.specs.Prelude.{codes}
 use Rattle.std.specs.Str.{bytes_eq}
-use Rattle.rhythm_base.specs.declared.command.Command.{Command}
-use Rattle.rhythm_base.specs.declared.command.Command.TheVariants.{Change, Score, Alternatives, Quit}
+use Rattle.edit_script.specs.declared.command.Command.{Command}
+use Rattle.edit_script.specs.declared.command.Command.TheVariants.{Change, Score, Alternatives, Quit}
 use Rattle.rhythm_base.specs.declared.edit.Edit.TheVariants.{Add, Drop, Move, Barline, Pin, Unpin, AddBar, DropBar}
-use Rattle.rhythm_base.specs.ScriptLines.{AreCommand, SaysCommand, script_words, trimmed}
-use Rattle.rhythm_base.proofs.CommandWords.{one_command}
+use Rattle.edit_script.specs.ScriptLines.{AreCommand, SaysCommand, script_words, trimmed}
+use Rattle.edit_script.proofs.CommandWords.{one_command}
 use Rattle.session_history.specs.StudioLines.{SaysStudio}
 use Rattle.session_history.specs.declared.studio_command.StudioCommand.{StudioCommand}
 use Rattle.session_history.specs.declared.studio_command.StudioCommand.TheVariants.{Plain, Redo, Undo}

@@ -1,7 +1,7 @@
 -- An undo takes an edit back, and a redo an undo.
 use Rattle.std.proofs.Common.{◌≡◌, List, [], ◌∷◌, ◌++◌, sym, ap, ap₂, subst, ◌∙◌, append_assoc}
 use Rattle.rhythm_base.specs.Performance.{Performance}
-use Rattle.session_history.specs.Changes.{AreSteps, IsEdited, IsHistory, IsRedone, IsStep, IsUndone}
+use Rattle.session_history.specs.Changes.{AreSteps, IsEdited, IsHistory, IsRedone, IsHistoryStep, IsUndone}
 use Rattle.session_history.specs.History.{History, Step}
 use Rattle.session_history.specs.Kept.{kept_steps}
 use Rattle.session_history.specs.Laws.{IsTakenBack}
@@ -30,8 +30,8 @@ made_again h back again kept (before, s, past, is) (next, later, t, future, step
     let seen : next ∷ later ≡ h.present ∷ h.future = sym future ∙ ap (λ (x : History). x.future) is in
     let heads : next ≡ h.present = cc in
     let tails : later ≡ h.future = cc in
-    let gone : IsStep h.grammar s.performance h.present t =
-    subst (λ q. IsStep h.grammar s.performance q t) heads (subst (λ (b : History). IsStep b.grammar b.present next t) is step) in
+    let gone : IsHistoryStep h.grammar s.performance h.present t =
+    subst (λ q. IsHistoryStep h.grammar s.performance q t) heads (subst (λ (b : History). IsHistoryStep b.grammar b.present next t) is step) in
     let same = one_step h.grammar s.performance h.present t s gone ends.1 in
     at ∙ (λ i. record {
       grammar = (is i).grammar;

@@ -7,11 +7,11 @@ use Rattle.edit_session.specs.Prepared.{Prepared, Suits, cell_of}
 use Rattle.edit_session.specs.Session.{Session}
 use Rattle.rhythm_base.specs.Grammar.{Grammar}
 use Rattle.rhythm_base.specs.Performance.{IsWellFormed, Performance}
-use Rattle.session_history.specs.Changes.{AreSteps, IsEdited, IsHistory, IsRedone, IsStep, IsUndone, performance_before}
+use Rattle.session_history.specs.Changes.{AreSteps, IsEdited, IsHistory, IsRedone, IsHistoryStep, IsUndone, performance_before}
 use Rattle.session_history.specs.History.{History}
-use Rattle.session_history.specs.Kept.{kept_steps, sizes}
+use Rattle.session_history.specs.Kept.{kept_steps, step_sizes}
 use Rattle.session_history.specs.Steps.{kept_of, next_of, step_of, tables_of}
-use Rattle.session_history.specs.Ways.{IsKept, KeepsWays, LeadsBack, first_of}
+use Rattle.session_history.specs.Ways.{CanBeHeld, KeepsWays, LeadsBack, first_of}
 use Rattle.session_history.specs.declared.steps.TheConstants.{MOST_KEPT_CELLS, MOST_STEPS}
 use Rattle.session_history.proofs.Moves.{IsMoved, lives_formed}
 
@@ -20,7 +20,7 @@ seen session past future = record { grammar = session.grammar; past = map step_o
 
 -- ---- the steps that are kept
 
-size_is : (steps : List Prepared) → sizes (map step_of steps) ≡ tables_of steps
+size_is : (steps : List Prepared) → step_sizes (map step_of steps) ≡ tables_of steps
 size_is [] = refl
 size_is (x ∷ more) = ap (λ n. length x.tables + n) (size_is more)
 
@@ -40,15 +40,15 @@ kept_same (x ∷ more) =
 -- ---- the step that is made
 
 -- the way back is the step from where it leads
-way_is_step : (g : Grammar) (p : Performance) (x : Prepared) → Suits g p x → IsStep g x.next p (step_of x)
+way_is_step : (g : Grammar) (p : Performance) (x : Prepared) → Suits g p x → IsHistoryStep g x.next p (step_of x)
 way_is_step g p x suits = (map cell_of x.tables, suits.reached, ap (λ (n : ℕ). record { performance = x.next; size = n }) (sym (length-map x.tables cell_of)))
 
 module _ (old new : Session) (past future : List Prepared) (x back : Prepared) (moved : IsMoved old new x back) where
-  step_back : IsStep old.grammar old.performance x.next (step_of back)
+  step_back : IsHistoryStep old.grammar old.performance x.next (step_of back)
   step_back =
-      subst (λ g. IsStep g old.performance x.next (step_of back)) moved.grammar
-      (subst (λ p. IsStep new.grammar old.performance p (step_of back)) moved.performance
-      (subst (λ p. IsStep new.grammar p new.performance (step_of back)) moved.way_back (way_is_step new.grammar new.performance back moved.suits)))
+      subst (λ g. IsHistoryStep g old.performance x.next (step_of back)) moved.grammar
+      (subst (λ p. IsHistoryStep new.grammar old.performance p (step_of back)) moved.performance
+      (subst (λ p. IsHistoryStep new.grammar p new.performance (step_of back)) moved.way_back (way_is_step new.grammar new.performance back moved.suits)))
 
   pub undone_is : (xs : List Prepared) → past ≡ xs ++ x ∷ [] → IsUndone (seen old past future) (seen new xs (back ∷ future))
   undone_is xs is = (
@@ -71,7 +71,7 @@ module _ (old new : Session) (past future : List Prepared) (x back : Prepared) (
   pub edited_is : (kept : List Prepared) → kept ≡ kept_of (past ++ back ∷ []) → IsEdited (seen old past future) new.performance (seen new kept [])
   edited_is kept is = (
     step_of back,
-    subst (λ p. IsStep old.grammar old.performance p (step_of back)) (sym moved.performance) step_back,
+    subst (λ p. IsHistoryStep old.grammar old.performance p (step_of back)) (sym moved.performance) step_back,
     λ i. record {
       grammar = moved.grammar i;
       past = (ap (map step_of) is ∙ sym (kept_same (past ++ back ∷ [])) ∙ ap kept_steps (map-append step_of past (back ∷ []))) i;
@@ -85,23 +85,23 @@ module _ (old new : Session) (past future : List Prepared) (x back : Prepared) (
 steps_are : (g : Grammar) (xs : List Prepared) (p : Performance) → LeadsBack g xs p → AreSteps g (map step_of xs) p
 steps_are g [] p leads = tt
 steps_are g (x ∷ more) p leads =
-    (subst (λ q. IsStep g x.next q (step_of x)) (first_is more) (way_is_step g (first_of more p) x leads.0), steps_are g more p leads.1)
+    (subst (λ q. IsHistoryStep g x.next q (step_of x)) (first_is more) (way_is_step g (first_of more p) x leads.0), steps_are g more p leads.1)
   where
     first_is : (more : List Prepared) → first_of more p ≡ performance_before (map step_of more) p
     first_is [] = refl
     first_is (y ∷ ys) = refl
 
-steps_formed : (g : Grammar) (room : ℕ) (xs : List Prepared) → All (λ x. IsKept g room x.next) xs → All (λ step. IsWellFormed step.performance) (map step_of xs)
+steps_formed : (g : Grammar) (room : ℕ) (xs : List Prepared) → All (λ x. CanBeHeld g room x.next) xs → All (λ step. IsWellFormed step.performance) (map step_of xs)
 steps_formed g room [] kept = All-nil (λ step. IsWellFormed step.performance)
 steps_formed g room (x ∷ xs) kept =
     All-cons (λ step. IsWellFormed step.performance) (step_of x) (map step_of xs)
-    (lives_formed g x.next (All-head (λ x. IsKept g room x.next) x xs kept).lives) (steps_formed g room xs (All-drop (λ x. IsKept g room x.next) 1 (x ∷ xs) kept))
+    (lives_formed g x.next (All-head (λ x. CanBeHeld g room x.next) x xs kept).lives) (steps_formed g room xs (All-drop (λ x. CanBeHeld g room x.next) 1 (x ∷ xs) kept))
 
-next_formed : (g : Grammar) (room : ℕ) (xs : List Prepared) → All (λ x. IsKept g room x.next) xs → All IsWellFormed (map next_of xs)
+next_formed : (g : Grammar) (room : ℕ) (xs : List Prepared) → All (λ x. CanBeHeld g room x.next) xs → All IsWellFormed (map next_of xs)
 next_formed g room [] kept = All-nil IsWellFormed
 next_formed g room (x ∷ xs) kept =
     All-cons IsWellFormed (next_of x) (map next_of xs)
-    (lives_formed g x.next (All-head (λ x. IsKept g room x.next) x xs kept).lives) (next_formed g room xs (All-drop (λ x. IsKept g room x.next) 1 (x ∷ xs) kept))
+    (lives_formed g x.next (All-head (λ x. CanBeHeld g room x.next) x xs kept).lives) (next_formed g room xs (All-drop (λ x. CanBeHeld g room x.next) 1 (x ∷ xs) kept))
 
 pub is_history : (session : Session) (past future : List Prepared) → KeepsWays session past future → IsHistory (seen session past future)
 is_history session past future keeps = record {

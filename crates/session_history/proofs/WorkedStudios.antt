@@ -3,7 +3,7 @@ use Rattle.std.specs.Prelude.{◌≡◌, ℕ, List, [], ◌∷◌, codes, refl, 
 use Rattle.std.proofs.Common.{inl, inr}
 use Rattle.rhythm_base.specs.Grammar.{Grammar}
 use Rattle.rhythm_base.specs.Performance.{Performance}
-use Rattle.rhythm_base.specs.Replies.{done_text}
+use Rattle.edit_script.specs.Replies.{done_text}
 use Rattle.rhythm_base.specs.Voices.{IsCostOf}
 use Rattle.session_history.specs.History.{History, Step}
 use Rattle.session_history.specs.Kept.{kept_steps}

@@ -4,7 +4,7 @@ use Rattle.std.specs.Prelude.{◌≡◌, ◌≢◌, ℕ, ◌≤◌, List, [], �
 use Rattle.edit_session.specs.Opening.{cells_of}
 use Rattle.rhythm_base.specs.Performance.{IsWellFormed, Performance}
 use Rattle.rhythm_base.specs.Readable.{IsReadable}
-use Rattle.rhythm_base.specs.Replies.{refused_text}
+use Rattle.edit_script.specs.Replies.{refused_text}
 use Rattle.rhythm_base.specs.declared.edit_fault.EditFault.TheVariants.{Memory}
 use Rattle.session_history.specs.Changes.{IsEdited, IsHistory, IsRedone, IsUndone}
 use Rattle.session_history.specs.History.{History, Step}

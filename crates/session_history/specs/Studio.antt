@@ -2,10 +2,11 @@
 -- number of the record that would pass its limit.
 use Rattle.std.specs.Prelude.{◌≡◌, ℕ, ◌⊎◌, List, [], Result}
 use Rattle.rhythm_base.specs.Performance.{Performance}
-use Rattle.rhythm_base.specs.Replies.{bad_line_text, done_text, refused_text}
-use Rattle.rhythm_base.specs.Script.{Answers, EditOutcome, IsOutcome, MayWantMemory, made, outcome_text, refused}
+use Rattle.edit_script.specs.Replies.{bad_line_text, done_text, refused_text}
+use Rattle.script_laws.specs.Script.{Answers, MayWantMemory, outcome_text}
+use Rattle.edit_laws.specs.EditOutcomes.{EditOutcome, IsOutcome, made, refused}
 use Rattle.rhythm_base.specs.Voices.{IsCostOf}
-use Rattle.rhythm_base.specs.declared.command.Command.TheVariants.{Alternatives, Change, Quit, Score}
+use Rattle.edit_script.specs.declared.command.Command.TheVariants.{Alternatives, Change, Quit, Score}
 use Rattle.rhythm_base.specs.declared.edit_fault.EditFault.TheVariants.{Memory}
 use Rattle.session_history.specs.Changes.{IsEdited, IsRedone, IsUndone}
 use Rattle.session_history.specs.History.{History}

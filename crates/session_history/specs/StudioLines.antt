@@ -1,7 +1,7 @@
 -- What a line of a studio says: one carriage return at its end is dropped, and `undo` and `redo` are then the whole line. All other lines
 -- are those of an edit script.
 use Rattle.std.specs.Prelude.{◌≡◌, ℕ, ⊤, List, codes}
-use Rattle.rhythm_base.specs.ScriptLines.{IsCommandInRange, SaysCommand, trimmed}
+use Rattle.edit_script.specs.ScriptLines.{IsCommandInRange, SaysCommand, trimmed}
 use Rattle.session_history.specs.declared.studio_command.StudioCommand.{StudioCommand}
 use Rattle.session_history.specs.declared.studio_command.StudioCommand.TheVariants.{Plain, Redo, Undo}
 

@@ -1,7 +1,7 @@
 -- The text of each reply of a studio.
 use Rattle.std.specs.Prelude.{ℕ, List, [], ◌∷◌, codes}
 use Rattle.edit_script.specs.ReplyText.{reply_text}
-use Rattle.rhythm_base.specs.Replies.{reply_line}
+use Rattle.edit_script.specs.Replies.{reply_line}
 use Rattle.session_history.specs.declared.studio_reply.StudioReply.{StudioReply}
 use Rattle.session_history.specs.declared.studio_reply.StudioReply.TheVariants.{NoStep, Plain}
 

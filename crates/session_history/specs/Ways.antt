@@ -12,7 +12,7 @@ unfoldable pub Lives : Grammar → Performance → Type 0
 Lives g p = IsWellFormed p × All (HasDerivation g p) p.channels
 
 -- a session with so much room can be put there
-pub record IsKept (g : Grammar) (room : ℕ) (p : Performance) : Type 0 where
+pub record CanBeHeld (g : Grammar) (room : ℕ) (p : Performance) : Type 0 where
   pub lives : Lives g p
   pub short : length p.bars ≤ room
 
@@ -36,6 +36,6 @@ pub record KeepsWays (session : Session) (back on : List Prepared) : Type 0 wher
   pub few : length back + length on ≤ MOST_STEPS
   pub leads_back : LeadsBack session.grammar back session.performance
   pub leads_on : LeadsOn session.grammar session.performance on
-  pub past : All (λ x. IsKept session.grammar session.room x.next) back
-  pub present : IsKept session.grammar session.room session.performance
-  pub future : All (λ x. IsKept session.grammar session.room x.next) on
+  pub past : All (λ x. CanBeHeld session.grammar session.room x.next) back
+  pub present : CanBeHeld session.grammar session.room session.performance
+  pub future : All (λ x. CanBeHeld session.grammar session.room x.next) on

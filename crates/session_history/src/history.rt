@@ -1,8 +1,10 @@
 ghost use Rattle.edit_session.specs.Prepared.{RisesBy};
+ghost use Rattle.edit_session.specs.Products.{AreProductsOf, AreProductsOfEdit};
 ghost use Rattle.rhythm_base.specs.Counter.{risen};
-ghost use Rattle.rhythm_base.specs.Edits as edits;
-ghost use Rattle.rhythm_base.specs.Reached.{WouldReach};
-ghost use Rattle.rhythm_base.specs.Script.{IsOutcome, made, refused};
+ghost use Rattle.rhythm_base.specs.EditRanges as edits;
+ghost use Rattle.edit_laws.specs.Edits.{edited};
+ghost use Rattle.edit_laws.specs.Reached.{WouldReach};
+ghost use Rattle.edit_laws.specs.EditOutcomes.{IsOutcome, made, refused};
 ghost use Rattle.rhythm_base.specs.Voices.{HasDerivation, IsCostOf};
 ghost use Rattle.rhythm_base.specs.declared.edit_fault.EditFault.TheVariants as faults;
 ghost use Rattle.rhythm_base.specs.declared.edit_fault.EditFault.{EditFault};
@@ -109,14 +111,13 @@ impl History {
         ensures step { OnOk result (IsEdited self.old self.new.present self.new) }
         ensures refused { (fault : EditFault) → result ≡ Err fault → fault ≢ faults.Memory
             → IsOutcome self.old.grammar self.old.present edit.now (refused fault) self.new.present }
-        ensures memory { result ≡ Err faults.Memory → IsOk (edits.edited self.old.present edit.now) }
+        ensures memory { result ≡ Err faults.Memory → IsOk (edited self.old.present edit.now) }
         ensures unchanged { OnErr result (self.new ≡ self.old) }
         ensures builds { IfOk result (λ a. builds.new ≡ risen builds.old a.built) }
         ensures most { RisesBy builds.old builds.new (λ n. (cells : List (ℕ × ℕ))
             → WouldReach self.old.grammar self.old.present edit.now cells → n ≤ length cells) }
         ensures rises { builds.old ≤ builds.new }
-        ensures products { (d : ℕ) → length self.new.present.bars ≡ length self.old.present.bars → length self.new.present.bars ≤ 2 ^ d
-            → IfOk result (λ a. products.new ≤ risen products.old (a.built * d)) }
+        ensures products { AreProductsOfEdit self.old.grammar self.old.present edit.now result products.old products.new }
         ensures products_rise { products.old ≤ products.new }
     {
         let prepared = self.session.prepare(rt, alloc, edit, gate, builds)?;
@@ -144,6 +145,8 @@ impl History {
         ensures cost { IfOk result (λ a. IsCostOf self.new.grammar self.new.present a.cost) }
         ensures none { OnErr result (self.old.past ≡ []) }
         ensures unchanged { OnErr result (self.new ≡ self.old) }
+        ensures products { OnOk result (AreProductsOf 1 self.old.grammar self.old.present self.new.present products.old products.new) }
+        ensures idle { OnErr result (products.new ≡ products.old) }
         ensures rises { products.old ≤ products.new }
     {
         match self.past.take_last() {
@@ -166,6 +169,8 @@ impl History {
         ensures cost { IfOk result (λ a. IsCostOf self.new.grammar self.new.present a.cost) }
         ensures none { OnErr result (self.old.future ≡ []) }
         ensures unchanged { OnErr result (self.new ≡ self.old) }
+        ensures products { OnOk result (AreProductsOf 1 self.old.grammar self.old.present self.new.present products.old products.new) }
+        ensures idle { OnErr result (products.new ≡ products.old) }
         ensures rises { products.old ≤ products.new }
     {
         match self.future.take_first() {

@@ -1,4 +1,4 @@
-use rhythm_base::Command;
+use edit_script::Command;
 
 /// What a line of a studio asks for.
 #[derive(Drop)]

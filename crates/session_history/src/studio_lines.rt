@@ -1,6 +1,6 @@
 ghost use Rattle.edit_script.specs.Sending.{TakesPart};
 ghost use Rattle.edit_script.specs.declared.line_fault.LineFault.TheVariants.{BadLine, Memory};
-ghost use Rattle.rhythm_base.specs.ScriptLines.{BeginsPin};
+ghost use Rattle.edit_script.specs.ScriptLines.{BeginsPin};
 ghost use Rattle.rhythm_ports.specs.Causes.{HasCause};
 ghost use Rattle.session_history.specs.StudioLines.{IsStudioCommandInRange, SaysNoStudio, SaysStudio};
 ghost use Rattle.session_history.specs.StudioReplies.{studio_reply_text};

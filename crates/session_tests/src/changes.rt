@@ -1,10 +1,9 @@
 use crate::edits::{QUARTERS, edit, has_score};
 use crate::pieces::{FOUR_QUARTERS, InTests, opened};
 use carry_matrix::Steps as Products;
-use edit_script::read_line;
+use edit_script::{Command, read_line};
 use edit_session::{Applied, Dead, Session};
 use least_cost::Steps as Builds;
-use rhythm_base::Command;
 use rhythm_ports::OpenGate;
 use std::alloc::{AllocError, Global};
 use std::test::Fail;

@@ -1,9 +1,9 @@
 use crate::pieces::{FOUR_QUARTERS, InTests, THREE_EIGHTHS, THREE_NEAR, WHOLE_NOTE, opened};
 use carry_matrix::Steps as Products;
-use edit_script::read_line;
+use edit_script::{Command, read_line};
 use edit_session::{Applied, Session};
 use least_cost::Steps as Builds;
-use rhythm_base::{Command, EditFault};
+use rhythm_base::EditFault;
 use rhythm_ports::OpenGate;
 use std::alloc::{AllocError, Global};
 use std::test::Fail;

@@ -1,9 +1,9 @@
 use crate::edits::{QUARTERS, has_score};
 use crate::pieces::{FOUR_QUARTERS, InTests, WHOLE_NOTE, opened};
 use carry_matrix::Steps as Products;
-use edit_script::Reply as Answer;
+use edit_script::{Command, Reply as Answer};
 use least_cost::Steps as Builds;
-use rhythm_base::{Command, EditFault};
+use rhythm_base::EditFault;
 use rhythm_ports::{MemSink, OpenGate};
 use session_history::{
     History, MOST_STEPS, NoStep, StudioCommand, StudioReply, read_studio_line, write_studio_reply,

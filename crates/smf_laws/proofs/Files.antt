@@ -15,7 +15,7 @@ use Rattle.smf_reader.specs.SmfFile.{smf}
 use Rattle.smf_reader.proofs.ReadToTheLastTrack.{is_read_to_its_last_track}
 use Rattle.smf_reader.proofs.StandingChunks.{content_stands, rest_stands, track_read}
 use Rattle.smf_laws.specs.Laws.{FilesReadBack}
-use Rattle.smf_laws.specs.Written.{IsWritable, written_track}
+use Rattle.smf_laws.specs.Written.{IsWritableTrack, written_track}
 use Rattle.smf_laws.proofs.Tracks.{tracks_read}
 
 -- the header
@@ -33,7 +33,7 @@ header_read bytes rest count division few some low is =
     rw (is, head, whole, counted, divided, frames, nothing) refl
 
 -- a track's chunk, and the tracks after it
-one_track : (bytes : List ℕ) (p count : ℕ) (rest : List ℕ) (t : Track) (others : List Track) → IsWritable t → drop p bytes ≡ track_chunk_bytes (written_track t) ++ rest
+one_track : (bytes : List ℕ) (p count : ℕ) (rest : List ℕ) (t : Track) (others : List Track) → IsWritableTrack t → drop p bytes ≡ track_chunk_bytes (written_track t) ++ rest
     → ((q : ℕ) → drop q bytes ≡ rest → tracks (length bytes) count bytes q ≡ Ok others) → tracks (length bytes) (suc count) bytes p ≡ Ok (t ∷ others)
 one_track bytes p count rest t others can at more =
     let content : List ℕ = written_track t in
@@ -47,10 +47,10 @@ one_track bytes p count rest t others can at more =
     ∙ ap (λ (r : Result Track _). r >>= λ first. tracks (length bytes) count bytes (p + 8 + length content) >>= λ later. Ok (first ∷ later)) (tracks_read t _ _ can (content_stands bytes p a b c d content rest at size))
     ∙ ap (λ (r : Result (List Track) _). r >>= λ later. Ok (t ∷ later)) (more _ (rest_stands bytes p a b c d content rest at size))
 
-all_tracks : (bytes : List ℕ) (p : ℕ) (ts : List Track) → All IsWritable ts → drop p bytes ≡ flat_map track_chunk_bytes (map written_track ts) → tracks (length bytes) (length ts) bytes p ≡ Ok ts
+all_tracks : (bytes : List ℕ) (p : ℕ) (ts : List Track) → All IsWritableTrack ts → drop p bytes ≡ flat_map track_chunk_bytes (map written_track ts) → tracks (length bytes) (length ts) bytes p ≡ Ok ts
 all_tracks bytes p [] can at = (is_read_to_its_last_track bytes).over p
 all_tracks bytes p (t ∷ ts) can at =
-    one_track bytes p (length ts) (flat_map track_chunk_bytes (map written_track ts)) t ts (All-head IsWritable t ts can) at (λ q here. all_tracks bytes q ts (All-tail IsWritable t ts can) here)
+    one_track bytes p (length ts) (flat_map track_chunk_bytes (map written_track ts)) t ts (All-head IsWritableTrack t ts can) at (λ q here. all_tracks bytes q ts (All-tail IsWritableTrack t ts can) here)
 
 pub files_read : FilesReadBack
 files_read f can =

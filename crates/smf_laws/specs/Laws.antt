@@ -6,7 +6,7 @@ use Rattle.smf_reader.specs.Outcomes.{SaysFile}
 use Rattle.smf_reader.specs.Played.{Smf, Track}
 use Rattle.smf_reader.specs.Quantity.{quantity}
 use Rattle.smf_reader.specs.Track.{track}
-use Rattle.smf_laws.specs.Written.{IsWritable, IsWritableFile, written_file, written_track}
+use Rattle.smf_laws.specs.Written.{IsWritableTrack, IsWritableFile, written_file, written_track}
 
 -- a quantity that stands at a place is read as its number, up to its end
 abbrev pub QuantitiesReadBack : Type 0
@@ -16,7 +16,7 @@ QuantitiesReadBack =
 
 -- a track's content that stands from a place to the end is read as the track
 abbrev pub TracksReadBack : Type 0
-TracksReadBack = (t : Track) (bytes : List ℕ) (p : ℕ) → IsWritable t → drop p bytes ≡ written_track t → track bytes p ≡ Ok t
+TracksReadBack = (t : Track) (bytes : List ℕ) (p : ℕ) → IsWritableTrack t → drop p bytes ≡ written_track t → track bytes p ≡ Ok t
 
 -- the bytes of a file say the file
 abbrev pub FilesReadBack : Type 0

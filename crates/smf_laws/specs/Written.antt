@@ -18,7 +18,7 @@ abbrev pub written_track : Track → List ℕ
 written_track t = content_bytes t.events t.last
 
 -- a track can be written: its events are in order, its last tick is a quantity, and the length of its content a number of four bytes
-pub record IsWritable (t : Track) : Type 0 where
+pub record IsWritableTrack (t : Track) : Type 0 where
   pub later : AreLater 0 t.events t.last
   pub early : t.last ≤ GREATEST_QUANTITY
   pub short : length (written_track t) < 4294967296
@@ -31,4 +31,4 @@ pub record IsWritableFile (f : Smf) : Type 0 where
   pub some_tick : 1 ≤ f.division
   pub few_ticks : f.division ≤ MOST_DIVISION
   pub few_tracks : length f.tracks < 65536
-  pub tracks : All IsWritable f.tracks
+  pub tracks : All IsWritableTrack f.tracks

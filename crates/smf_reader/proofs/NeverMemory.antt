@@ -6,7 +6,7 @@ use Rattle.smf_reader.specs.declared.fault.SmfFault.{SmfFault}
 use Rattle.smf_reader.specs.declared.fault.SmfFault.TheVariants.{NotSmf, Format, Smpte, ZeroDivision, Truncated, BadQuantity, NoStatus, BadMeta, Memory}
 use Rattle.smf_reader.specs.declared.meaning.Meaning.{Meaning}
 use Rattle.smf_reader.specs.declared.meaning.Meaning.TheVariants as meanings
-use Rattle.smf_reader.specs.Outcome.{◌>>=◌, or_fault}
+use Rattle.smf_reader.specs.Outcome.{◌>>=◌, or_smf_fault}
 use Rattle.smf_reader.specs.Played.{Track}
 use Rattle.smf_reader.specs.Bytes.{byte, data_byte, content}
 use Rattle.smf_reader.specs.Quantity.{last_place, endless, quantity}
@@ -37,7 +37,7 @@ chained {A} {B} {r} {next} first others = go r first where
   go (Ok x) h = others x
   go (Err fault) h = fault_of fault (λ e. h.never (ap (λ (f : SmfFault). Err f) e))
 
-found : {A : Type 0} (o : Option A) (fault : SmfFault) → fault ≢ Memory → IsOfBytes (or_fault o fault)
+found : {A : Type 0} (o : Option A) (fault : SmfFault) → fault ≢ Memory → IsOfBytes (or_smf_fault o fault)
 found None fault ne = fault_of fault ne
 found (Some x) fault ne = value
 

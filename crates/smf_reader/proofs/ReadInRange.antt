@@ -14,7 +14,7 @@ use Rattle.smf_reader.specs.declared.meaning.Meaning.{Meaning}
 use Rattle.smf_reader.specs.declared.meaning.Meaning.TheVariants as meanings
 use Rattle.smf_reader.specs.declared.event.Step.{Step}
 use Rattle.smf_reader.specs.declared.header.Header.{Header}
-use Rattle.smf_reader.specs.Outcome.{◌>>=◌, or_fault}
+use Rattle.smf_reader.specs.Outcome.{◌>>=◌, or_smf_fault}
 use Rattle.smf_reader.specs.Played.{Smf, Track}
 use Rattle.smf_reader.specs.Bytes.{byte, data_byte, content}
 use Rattle.smf_reader.specs.Quantity.{quantity}
@@ -64,7 +64,7 @@ read_exclusive bytes p = chained (any (quantity bytes p)) (λ size _. chained (a
 
 -- ---- meta events
 
-from_option : {A : Type 0} (P : A → Type 0) (o : Option A) (fault : SmfFault) → ((x : A) → o ≡ Some x → P x) → Finds P (or_fault o fault)
+from_option : {A : Type 0} (P : A → Type 0) (o : Option A) (fault : SmfFault) → ((x : A) → o ≡ Some x → P x) → Finds P (or_smf_fault o fault)
 from_option P None fault h = no_value
 from_option P (Some x) fault h = value (h x refl)
 

@@ -6,7 +6,7 @@ use Rattle.smf_reader.specs.declared.fault.SmfFault.TheVariants.{BadMeta, NoStat
 use Rattle.smf_reader.specs.declared.meaning.Meaning.{Meaning}
 use Rattle.smf_reader.specs.declared.meaning.Meaning.TheVariants as meanings
 use Rattle.smf_reader.specs.declared.event.Step.{Step}
-use Rattle.smf_reader.specs.Outcome.{◌>>=◌, or_fault}
+use Rattle.smf_reader.specs.Outcome.{◌>>=◌, or_smf_fault}
 use Rattle.smf_reader.specs.Played.{Track}
 use Rattle.smf_reader.specs.Bytes.{byte, data_byte, content}
 use Rattle.smf_reader.specs.Quantity.{last_place, endless, seven_bits, quantity}
@@ -45,7 +45,7 @@ chosen false x y first second = second
 
 later_quantity : (bytes : List ℕ) (p : ℕ) → Finds (λ q. p < q.1) (quantity bytes p)
 unfolding quantity
-later_quantity bytes p = chained (any (or_fault (last_place (drop p bytes)) (endless bytes p))) (λ last _. value {x = (seven_bits (take (last + 1) (drop p bytes)), p + last + 1)} (omega arith))
+later_quantity bytes p = chained (any (or_smf_fault (last_place (drop p bytes)) (endless bytes p))) (λ last _. value {x = (seven_bits (take (last + 1) (drop p bytes)), p + last + 1)} (omega arith))
 
 later_meta : (bytes : List ℕ) (p : ℕ) → Finds (λ m. p < m.1) (meta_event bytes p)
 unfolding meta_event
@@ -53,13 +53,13 @@ later_meta bytes p =
     chained (any (byte bytes (p + 1)))
     (λ type _. chained (later_quantity bytes (p + 2))
     (λ size more. chained (any (content bytes size.1 size.0))
-    (λ said _. chained (any (or_fault (meta_meaning type said) (BadMeta p))) (λ meaning _. value {x = (meaning, size.1 + size.0)} (omega arith)))))
+    (λ said _. chained (any (or_smf_fault (meta_meaning type said) (BadMeta p))) (λ meaning _. value {x = (meaning, size.1 + size.0)} (omega arith)))))
 
 later_status : (bytes : List ℕ) (running : Option ℕ) (p : ℕ) → Finds (λ s. p ≤ s.1) (status bytes running p)
 unfolding status
 later_status bytes running p =
     chained (any (byte bytes p))
-    (λ b _. chosen _ _ _ (chained (any (or_fault running (NoStatus p))) (λ last _. value {x = (last, p)} (omega arith))) (value {x = (b, p + 1)} (omega arith)))
+    (λ b _. chosen _ _ _ (chained (any (or_smf_fault running (NoStatus p))) (λ last _. value {x = (last, p)} (omega arith))) (value {x = (b, p + 1)} (omega arith)))
 
 later_channel : (bytes : List ℕ) (s p : ℕ) → Finds (λ m. p < m.1) (channel_message bytes s p)
 unfolding channel_message

@@ -3,11 +3,11 @@
 use Rattle.std.specs.Prelude.{ℕ, ◌+◌, nat_lt, if◌then◌else◌, List, length, take, drop, slice_get, Result, Ok, Err}
 use Rattle.smf_reader.specs.declared.fault.SmfFault.{SmfFault}
 use Rattle.smf_reader.specs.declared.fault.SmfFault.TheVariants.{Truncated, BadData}
-use Rattle.smf_reader.specs.Outcome.{◌>>=◌, or_fault}
+use Rattle.smf_reader.specs.Outcome.{◌>>=◌, or_smf_fault}
 
 -- the byte at the place p
 abbrev pub byte : List ℕ → ℕ → Result ℕ SmfFault
-byte bytes p = or_fault (slice_get bytes p) (Truncated (length bytes))
+byte bytes p = or_smf_fault (slice_get bytes p) (Truncated (length bytes))
 
 -- the data byte at the place p: seven bits
 unfoldable pub data_byte : List ℕ → ℕ → Result ℕ SmfFault

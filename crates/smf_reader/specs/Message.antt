@@ -6,7 +6,7 @@ use Rattle.smf_reader.specs.declared.fault.SmfFault.{SmfFault}
 use Rattle.smf_reader.specs.declared.fault.SmfFault.TheVariants.{NoStatus, BadStatus}
 use Rattle.smf_reader.specs.declared.meaning.Meaning.{Meaning}
 use Rattle.smf_reader.specs.declared.meaning.Meaning.TheVariants.{Event, Skipped}
-use Rattle.smf_reader.specs.Outcome.{◌>>=◌, or_fault}
+use Rattle.smf_reader.specs.Outcome.{◌>>=◌, or_smf_fault}
 use Rattle.smf_reader.specs.Bytes.{byte, data_byte, content}
 use Rattle.smf_reader.specs.Quantity.{quantity}
 use Rattle.smf_reader.specs.Meta.{meta_event}
@@ -17,7 +17,7 @@ unfoldable pub status : List ℕ → Option ℕ → ℕ → Result (ℕ × ℕ) 
 status bytes running p = do
   b ← byte bytes p
   if nat_lt b 128 then (do
-    last ← or_fault running (NoStatus p)
+    last ← or_smf_fault running (NoStatus p)
     Ok (last, p)) else Ok (b, p + 1)
 
 -- the last channel status after a message of this status: other messages leave it as it was

@@ -7,7 +7,7 @@ use Rattle.smf_reader.specs.declared.fault.SmfFault.{SmfFault}
 use Rattle.smf_reader.specs.declared.fault.SmfFault.TheVariants.{BadMeta}
 use Rattle.smf_reader.specs.declared.meaning.Meaning.{Meaning}
 use Rattle.smf_reader.specs.declared.meaning.Meaning.TheVariants.{Event, Skipped, EndOfTrack}
-use Rattle.smf_reader.specs.Outcome.{◌>>=◌, or_fault}
+use Rattle.smf_reader.specs.Outcome.{◌>>=◌, or_smf_fault}
 use Rattle.smf_reader.specs.Bytes.{byte, content}
 use Rattle.smf_reader.specs.Quantity.{quantity}
 
@@ -48,5 +48,5 @@ meta_event bytes p = do
   type ← byte bytes (p + 1)
   size ← quantity bytes (p + 2)
   said ← content bytes size.1 size.0
-  meaning ← or_fault (meta_meaning type said) (BadMeta p)
+  meaning ← or_smf_fault (meta_meaning type said) (BadMeta p)
   Ok (meaning, size.1 + size.0)

@@ -10,9 +10,9 @@ abbrev pub ◌>>=◌ : {A B : Type 0} → Result A SmfFault → (A → Result B 
 (Err fault) >>= next = Err fault
 
 -- what is there, or else the fault
-abbrev pub or_fault : {A : Type 0} → Option A → SmfFault → Result A SmfFault
-or_fault None fault = Err fault
-or_fault (Some x) fault = Ok x
+abbrev pub or_smf_fault : {A : Type 0} → Option A → SmfFault → Result A SmfFault
+or_smf_fault None fault = Err fault
+or_smf_fault (Some x) fault = Ok x
 
 -- what was read, seen as a contract sees it
 abbrev pub seen_file : {A B : Type 0} → (A → B) → Result A SmfFault → Result B SmfFault

@@ -3,7 +3,7 @@
 use Rattle.std.specs.Prelude.{ℕ, ◌+◌, ◌*◌, ◌%◌, nat_lt, if◌then◌else◌, List, length, take, drop, fold, position, Option, Result, Ok}
 use Rattle.smf_reader.specs.declared.fault.SmfFault.{SmfFault}
 use Rattle.smf_reader.specs.declared.fault.SmfFault.TheVariants.{Truncated, BadQuantity}
-use Rattle.smf_reader.specs.Outcome.{◌>>=◌, or_fault}
+use Rattle.smf_reader.specs.Outcome.{◌>>=◌, or_smf_fault}
 
 -- the number in the low seven bits of each byte, the most significant first
 abbrev pub seven_bits : List ℕ → ℕ
@@ -20,5 +20,5 @@ endless bytes p = if nat_lt (length bytes) (p + 4) then Truncated (length bytes)
 -- the quantity at the place p, and the place after it
 unfoldable pub quantity : List ℕ → ℕ → Result (ℕ × ℕ) SmfFault
 quantity bytes p = do
-  last ← or_fault (last_place (drop p bytes)) (endless bytes p)
+  last ← or_smf_fault (last_place (drop p bytes)) (endless bytes p)
   Ok (seven_bits (take (last + 1) (drop p bytes)), p + last + 1)

@@ -1,5 +1,7 @@
 ghost use Rattle.smf_reader.specs.Outcome.{GivesFile};
+ghost use Rattle.smf_reader.specs.Ranges.{IsPlayedFile};
 ghost use Rattle.smf_reader.specs.SmfFile.{smf};
+ghost use Rattle.std.specs.Prelude.{IfOk};
 
 use crate::chunk::read_tracks;
 use crate::fault::SmfFault;
@@ -12,7 +14,10 @@ use std::alloc::Global;
 #[tactic(auto, unfolding(crate::specs::SmfFile::smf))]
 pub fn read_smf(alloc: Global, bytes: &[u8]) -> Result<Smf, SmfFault>
     // The file's one reading, or the one fault that stands in it.
-    ensures { GivesFile result (smf bytes.now) }
+    ensures value { GivesFile result (smf bytes.now) }
+
+    // What `value` implies of every such file.
+    ensures played { IfOk result IsPlayedFile }
 {
     let header = read_header(bytes)?;
     let tracks = read_tracks(alloc, header.tracks, bytes, header.end)?;

@@ -9,28 +9,28 @@ use Rattle.rhythm_base.specs.declared.event.What.{What}
 use Rattle.rhythm_base.specs.declared.event.What.TheVariants.{Tempo, Signature, KeySig}
 use Rattle.derivation.specs.declared.score.ScoreBar.{ScoreBar}
 use Rattle.smf_bytes.specs.Message.{HasChannel}
-use Rattle.voice_events.specs.Parts.{bar_parts, score_parts}
-use Rattle.smf_writer.specs.Changes.{at_tick, changes_at, changes_from, conductor, is_key, key_before, key_change, same_signature, same_tempo, signature_change, tempo_change}
+use Rattle.voice_events.specs.Parts.{score_bar_parts, score_parts}
+use Rattle.smf_writer.specs.Changes.{change_at, changes_at, changes_from, conductor, is_key, midi_key_before, key_event, same_midi_signature, same_midi_tempo, signature_event, tempo_event}
 
 module _ (last : ℕ) where
   pub record IsChange (e : Event) : Type 0 where
     pub early : e.tick ≤ last
     pub no_channel : HasChannel e.what
 
-  one : (tick : ℕ) (b : Bool) (what : What) → tick ≤ last → HasChannel what → All IsChange (at_tick tick (if b then None else Some what))
+  one : (tick : ℕ) (b : Bool) (what : What) → tick ≤ last → HasChannel what → All IsChange (change_at tick (if b then None else Some what))
   one tick true what le has = All-nil IsChange
   one tick false what le has = All-cons IsChange (record { tick = tick; what = what }) [] (record { early = le; no_channel = has }) (All-nil IsChange)
 
-  key : (tick : ℕ) (before sf : Option ℤ) → tick ≤ last → All IsChange (at_tick tick (key_change before sf))
+  key : (tick : ℕ) (before sf : Option ℤ) → tick ≤ last → All IsChange (change_at tick (key_event before sf))
   key tick before None le = All-nil IsChange
   key tick before (Some sf) le = one tick (is_key before sf) (KeySig sf) le tt
 
   bar_changes : (tick : ℕ) (before : Option ScoreBar) (bar : ScoreBar) → tick ≤ last → All IsChange (changes_at tick before bar)
   bar_changes tick before bar le =
-      let keys : List Event = at_tick tick (key_change (key_before before) bar.sf) in
-      All-append IsChange (at_tick tick (tempo_change before bar)) (at_tick tick (signature_change before bar) ++ (keys ++ [])) (one tick (same_tempo before bar) (Tempo bar.tempo) le tt)
-      (All-append IsChange (at_tick tick (signature_change before bar)) (keys ++ []) (one tick (same_signature before bar) (Signature bar.num (trailing_zeros w8 bar.den)) le tt)
-      (All-append IsChange keys [] (key tick (key_before before) bar.sf le) (All-nil IsChange)))
+      let keys : List Event = change_at tick (key_event (midi_key_before before) bar.sf) in
+      All-append IsChange (change_at tick (tempo_event before bar)) (change_at tick (signature_event before bar) ++ (keys ++ [])) (one tick (same_midi_tempo before bar) (Tempo bar.tempo) le tt)
+      (All-append IsChange (change_at tick (signature_event before bar)) (keys ++ []) (one tick (same_midi_signature before bar) (Signature bar.num (trailing_zeros w8 bar.den)) le tt)
+      (All-append IsChange keys [] (key tick (midi_key_before before) bar.sf le) (All-nil IsChange)))
 
   first_part : (t b s : ℕ) → t + (b + s) ≤ last → t ≤ last
   first_part t b s le = omega (arith, le)
@@ -41,9 +41,9 @@ module _ (last : ℕ) where
   changes : (resolution tick : ℕ) (before : Option ScoreBar) (bars : List ScoreBar) → tick + score_parts resolution bars ≤ last → All IsChange (changes_from resolution before tick bars)
   changes resolution tick before [] le = All-nil IsChange
   changes resolution tick before (bar ∷ bars) le =
-      let all : tick + (bar_parts resolution bar + score_parts resolution bars) ≤ last = subst (λ s. tick + s ≤ last) (sum_by-cons (bar_parts resolution) bar bars) le in
-      All-append IsChange (changes_at tick before bar) (changes_from resolution (Some bar) (tick + bar_parts resolution bar) bars) (bar_changes tick before bar (first_part tick (bar_parts resolution bar) (score_parts resolution bars) all))
-      (changes resolution (tick + bar_parts resolution bar) (Some bar) bars (next_part tick (bar_parts resolution bar) (score_parts resolution bars) all))
+      let all : tick + (score_bar_parts resolution bar + score_parts resolution bars) ≤ last = subst (λ s. tick + s ≤ last) (sum_by-cons (score_bar_parts resolution) bar bars) le in
+      All-append IsChange (changes_at tick before bar) (changes_from resolution (Some bar) (tick + score_bar_parts resolution bar) bars) (bar_changes tick before bar (first_part tick (score_bar_parts resolution bar) (score_parts resolution bars) all))
+      (changes resolution (tick + score_bar_parts resolution bar) (Some bar) bars (next_part tick (score_bar_parts resolution bar) (score_parts resolution bars) all))
 
   pub conductor_changes : (resolution : ℕ) (bars : List ScoreBar) → score_parts resolution bars ≤ last → All IsChange (conductor resolution bars)
   conductor_changes resolution bars le = changes resolution 0 None bars (omega (arith, le))

@@ -9,7 +9,7 @@ use Rattle.kern_reader.specs.declared.event.KernEvent.{KernEvent}
 use Rattle.voice_events.specs.Parts.{end_parts, len_parts, start_parts}
 use Rattle.smf_writer.specs.EventNotes.{main_end, main_onset}
 use Rattle.smf_writer.specs.NoteMessages.{event_of}
-use Rattle.smf_writer.specs.Strokes.{event_strokes, grace_strokes, joined, main_stroke, own_events, stroke_messages, strokes_events}
+use Rattle.smf_writer.specs.Strokes.{event_strokes, grace_strokes, joined_keys, main_stroke, own_events, stroke_messages, strokes_events}
 use Rattle.smf_writer.specs.declared.stroke.Stroke.{Stroke}
 
 module _ (resolution : ℕ) (x : Span) where
@@ -53,10 +53,10 @@ module _ (resolution : ℕ) (x : Span) where
         ∙ ap (λ (es : List Event). old ++ es) (sym (flat_map-append (λ s. map event_of (stroke_messages channel s)) graces (main ∷ [])))
         ∙ ap (λ (ss : List Stroke). old ++ strokes_events channel ss) (sym strokes)
 
-    pub crowded : end ≡ half_way onset → len_parts resolution x ≤ length x.graces → now ≡ old → onset ≡ start_parts resolution x → passing ≡ joined x.graces → made ≡ meant
+    pub crowded : end ≡ half_way onset → len_parts resolution x ≤ length x.graces → now ≡ old → onset ≡ start_parts resolution x → passing ≡ joined_keys x.graces → made ≡ meant
     crowded ending more so_far at all =
         let many : nat_lt (length x.graces) (len_parts resolution x) ≡ false = grind (arith, nat_tests) in
-        let main : Stroke = main_stroke resolution x (joined x.graces) in
+        let main : Stroke = main_stroke resolution x (joined_keys x.graces) in
         let strokes : event_strokes resolution x ≡ main ∷ [] = rw many refl in
         let is = main_is onset end passing (at ∙ crowded_onset many) ending ∙ ap (main_stroke resolution x) all in
         ap (λ (s : Stroke). now ++ map event_of (stroke_messages channel s)) is

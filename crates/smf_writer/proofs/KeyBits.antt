@@ -7,7 +7,7 @@ use Rattle.std.proofs.lemmas.Nat.{pow_pos}
 use Rattle.std.proofs.lemmas.Bool.{cases_lt}
 use Rattle.std.proofs.lemmas.Bool.Decides.{nat_tests}
 use Rattle.std.proofs.lemmas.Nat.Bits.{and_pow, bit_at-lt, bit_at-zero, bit_at_or}
-use Rattle.smf_writer.specs.EventNotes.{keys_of}
+use Rattle.smf_writer.specs.EventNotes.{key_list}
 use Rattle.smf_writer.proofs.Members.{Among, Pairwise, kept_by, out_of, pairs_filter}
 
 bit_set : (keys k : ℕ) → IsBitSet keys k → (bit_at keys k == 1) ≡ true
@@ -51,7 +51,7 @@ keys_end keys k end = let e : 128 - k ≡ 0 = omega arith in rw e refl
 
 -- ---- members of a set
 
-pub keys_among : (keys k : ℕ) → k < 128 → bit_at keys k ≡ 1 → Among k (keys_of keys)
+pub keys_among : (keys k : ℕ) → k < 128 → bit_at keys k ≡ 1 → Among k (key_list keys)
 keys_among keys k within set = kept_by (λ j. bit_at keys j == 1) (range_with_len 0 128) k (in_range 0 128 k (omega arith) (omega arith)) (rw set refl)
   where
     in_range : (a n k : ℕ) → a ≤ k → k < a + n → Among k (range_with_len a n)
@@ -69,7 +69,7 @@ range_low a (suc n) k (inr h) = let r = range_low (a + 1) n k h in (omega (arith
 pub one_bit : (b : ℕ) → (b == 1) ≡ true → b ≡ 1
 one_bit b h = grind (arith, nat_tests, h)
 
-pub among_keys : (keys k : ℕ) → Among k (keys_of keys) → (k < 128) × (bit_at keys k ≡ 1)
+pub among_keys : (keys k : ℕ) → Among k (key_list keys) → (k < 128) × (bit_at keys k ≡ 1)
 among_keys keys k h =
     let r = out_of (λ j. bit_at keys j == 1) (range_with_len 0 128) k h in
     let w = range_low 0 128 k r.0 in
@@ -79,7 +79,7 @@ range_rises : (a n : ℕ) → Pairwise (λ (j : ℕ) k. j < k) (range_with_len a
 range_rises a zero = tt
 range_rises a (suc n) = ((λ k h. let r = range_low (a + 1) n k h in omega (arith, r.0)), range_rises (a + 1) n)
 
-pub keys_rise : (keys : ℕ) → Pairwise (λ (j : ℕ) k. j < k) (keys_of keys)
+pub keys_rise : (keys : ℕ) → Pairwise (λ (j : ℕ) k. j < k) (key_list keys)
 keys_rise keys = pairs_filter (λ (j : ℕ) k. j < k) (λ j. bit_at keys j == 1) (range_with_len 0 128) (range_rises 0 128)
 
 -- ---- joined sets

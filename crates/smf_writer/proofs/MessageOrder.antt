@@ -8,8 +8,8 @@ use Rattle.std.specs.declared.cmp.Ordering.TheVariants.{Less}
 use Rattle.std.proofs.lemmas.Bool.{cases_lt}
 use Rattle.std.proofs.lemmas.Bool.Decides.{nat_tests}
 use Rattle.rhythm_base.specs.declared.note.Note.{Note}
-use Rattle.smf_writer.specs.NoteMessages.{Message, begins, ends, note_of, place_of_message}
-use Rattle.smf_writer.specs.Strokes.{begun, ended, together}
+use Rattle.smf_writer.specs.NoteMessages.{Message, begins, ends, message_note, place_of_message}
+use Rattle.smf_writer.specs.Strokes.{begun_messages, ended, together}
 use Rattle.smf_writer.proofs.Members.{Among, Pairwise, among_both, among_flat, among_left, among_right, from_flat, pairs_join}
 
 -- ---- places
@@ -46,10 +46,10 @@ late_of n = if nat_lt n.onset n.end then 0 else 1
 pub record IsBegun (n : Note) (m : Message) : Type 0 where
   pub off : ℕ
   pub at : place_of_message m ≡ place n.onset 1 n.key off
-  pub of_note : note_of m ≡ n
+  pub of_note : message_note m ≡ n
 
-begun_stands : (n : Note) (m : Message) → n.onset ≤ n.end → Among m (begun n) → IsBegun n m
-begun_stands n m order (inl e) = record { off = 0; at = ap place_of_message e; of_note = ap note_of e }
+begun_stands : (n : Note) (m : Message) → n.onset ≤ n.end → Among m (begun_messages n) → IsBegun n m
+begun_stands n m order (inl e) = record { off = 0; at = ap place_of_message e; of_note = ap message_note e }
 begun_stands n m order (inr h) = go (nat_lt n.onset n.end) refl h
   where
     go : (b : Bool) → nat_lt n.onset n.end ≡ b → Among m (if b then [] else ends n ∷ []) → IsBegun n m
@@ -57,13 +57,13 @@ begun_stands n m order (inr h) = go (nat_lt n.onset n.end) refl h
     go false is (inl e) =
         let end : n.end ≡ n.onset = grind (arith, nat_tests, is) in
         let late : late_of n ≡ 1 = rw is refl in
-        record { off = 1; at = ap place_of_message e ∙ ap (λ t. place t (late_of n) n.key 1) end ∙ ap (λ l. place n.onset l n.key 1) late; of_note = ap note_of e }
+        record { off = 1; at = ap place_of_message e ∙ ap (λ t. place t (late_of n) n.key 1) end ∙ ap (λ l. place n.onset l n.key 1) late; of_note = ap message_note e }
     go false is (inr h) = absurd h
 
 -- at its end
 pub record IsEnded (n : Note) (m : Message) : Type 0 where
   pub at : place_of_message m ≡ place n.end 0 n.key 1
-  pub of_note : note_of m ≡ n
+  pub of_note : message_note m ≡ n
   pub long : n.onset < n.end
 
 ended_stands : (n : Note) (m : Message) → Among m (ended n) → IsEnded n m
@@ -72,11 +72,11 @@ ended_stands n m h = go (nat_lt n.onset n.end) refl h
     go : (b : Bool) → nat_lt n.onset n.end ≡ b → Among m (if b then ends n ∷ [] else []) → IsEnded n m
     go true is (inl e) =
         let late : late_of n ≡ 0 = rw is refl in
-        record { at = ap place_of_message e ∙ ap (λ l. place n.end l n.key 1) late; of_note = ap note_of e; long = grind (arith, nat_tests, is) }
+        record { at = ap place_of_message e ∙ ap (λ l. place n.end l n.key 1) late; of_note = ap message_note e; long = grind (arith, nat_tests, is) }
     go true is (inr h) = absurd h
     go false is h = absurd h
 
-begun_pair : (n : Note) → n.onset ≤ n.end → Pairwise IsBefore (begun n)
+begun_pair : (n : Note) → n.onset ≤ n.end → Pairwise IsBefore (begun_messages n)
 begun_pair n order = go (nat_lt n.onset n.end) refl
   where
     go : (b : Bool) → nat_lt n.onset n.end ≡ b → Pairwise IsBefore (begins n ∷ (if b then [] else ends n ∷ []))
@@ -112,12 +112,12 @@ struck_tail onset end n notes s = record { begin = λ m a. s.begin m (inr a); or
 moved : (m n : Message) (a b : List ℕ) → place_of_message m ≡ a → place_of_message n ≡ b → IsLess a b → IsBefore m n
 moved m n a b p q less = subst (λ x. IsLess x (place_of_message n)) (sym p) (subst (IsLess a) (sym q) less)
 
-begun_order : (onset end : ℕ) (notes : List Note) → AreStruck onset end notes → Pairwise IsBefore (flat_map begun notes)
+begun_order : (onset end : ℕ) (notes : List Note) → AreStruck onset end notes → Pairwise IsBefore (flat_map begun_messages notes)
 begun_order onset end [] s = tt
 begun_order onset end (n ∷ notes) s =
-    pairs_join IsBefore (begun n) (flat_map begun notes) (begun_pair n (s.order n (inl refl))) (begun_order onset end notes (struck_tail onset end n notes s))
+    pairs_join IsBefore (begun_messages n) (flat_map begun_messages notes) (begun_pair n (s.order n (inl refl))) (begun_order onset end notes (struck_tail onset end n notes s))
     (λ x y a b.
-    let r = from_flat begun notes y b in
+    let r = from_flat begun_messages notes y b in
     let later : Note = r.0 in
     let p = begun_stands n x (s.order n (inl refl)) a in
     let q = begun_stands later y (s.order later (inr r.1)) r.2 in
@@ -138,9 +138,9 @@ ended_order onset end (n ∷ notes) s =
 
 pub together_order : (onset end : ℕ) (notes : List Note) → AreStruck onset end notes → Pairwise IsBefore (together notes)
 together_order onset end notes s =
-    pairs_join IsBefore (flat_map begun notes) (flat_map ended notes) (begun_order onset end notes s) (ended_order onset end notes s)
+    pairs_join IsBefore (flat_map begun_messages notes) (flat_map ended notes) (begun_order onset end notes s) (ended_order onset end notes s)
     (λ x y a b.
-    let r = from_flat begun notes x a in
+    let r = from_flat begun_messages notes x a in
     let e = from_flat ended notes y b in
     let m : Note = r.0 in
     let n : Note = e.0 in
@@ -151,9 +151,9 @@ together_order onset end notes s =
 
 -- ---- their messages are those of the notes
 
-pub of_notes : (notes : List Note) (m : Message) → ((n : Note) → Among n notes → n.onset ≤ n.end) → Among m (together notes) → Among (note_of m) notes
-of_notes notes m order h = elim (among_both (flat_map begun notes) (flat_map ended notes) m h) [
-  | inl a ↦ (let r = from_flat begun notes m a in
+pub of_notes : (notes : List Note) (m : Message) → ((n : Note) → Among n notes → n.onset ≤ n.end) → Among m (together notes) → Among (message_note m) notes
+of_notes notes m order h = elim (among_both (flat_map begun_messages notes) (flat_map ended notes) m h) [
+  | inl a ↦ (let r = from_flat begun_messages notes m a in
       let p = begun_stands r.0 m (order r.0 r.1) r.2 in
       subst (λ n. Among n notes) (sym p.of_note) r.1)
   | inr b ↦ (let r = from_flat ended notes m b in
@@ -161,17 +161,17 @@ of_notes notes m order h = elim (among_both (flat_map begun notes) (flat_map end
       subst (λ n. Among n notes) (sym p.of_note) r.1)
 ]
 
-pub all_messages : (notes : List Note) (m : Message) → Among (note_of m) notes → Among m (together notes)
-all_messages notes (begins n) h = among_left (flat_map begun notes) (flat_map ended notes) (begins n) (among_flat begun notes n (begins n) h (inl refl))
+pub all_messages : (notes : List Note) (m : Message) → Among (message_note m) notes → Among m (together notes)
+all_messages notes (begins n) h = among_left (flat_map begun_messages notes) (flat_map ended notes) (begins n) (among_flat begun_messages notes n (begins n) h (inl refl))
 all_messages notes (ends n) h = go (nat_lt n.onset n.end) refl
   where
     go : (b : Bool) → nat_lt n.onset n.end ≡ b → Among (ends n) (together notes)
     go true is =
         let last : ended n ≡ ends n ∷ [] = rw is refl in
-        among_right (flat_map begun notes) (flat_map ended notes) (ends n) (among_flat ended notes n (ends n) h (subst (Among (ends n)) (sym last) (inl refl)))
+        among_right (flat_map begun_messages notes) (flat_map ended notes) (ends n) (among_flat ended notes n (ends n) h (subst (Among (ends n)) (sym last) (inl refl)))
     go false is =
-        let first : begun n ≡ begins n ∷ ends n ∷ [] = rw is refl in
-        among_left (flat_map begun notes) (flat_map ended notes) (ends n) (among_flat begun notes n (ends n) h (subst (Among (ends n)) (sym first) (inr (inl refl))))
+        let first : begun_messages n ≡ begins n ∷ ends n ∷ [] = rw is refl in
+        among_left (flat_map begun_messages notes) (flat_map ended notes) (ends n) (among_flat begun_messages notes n (ends n) h (subst (Among (ends n)) (sym first) (inr (inl refl))))
 
 -- ---- between strokes
 
@@ -204,8 +204,8 @@ parted tick m n u f = moved m n (place u.at u.late u.key u.off) (place f.at f.la
 
 -- the messages of notes that are struck together stand after what is before them and before what follows
 pub struck_up_to : (onset end next : ℕ) (notes : List Note) (m : Message) → AreStruck onset end notes → onset < next → end ≤ next → Among m (together notes) → IsUpTo next m
-struck_up_to onset end next notes m s less le h = elim (among_both (flat_map begun notes) (flat_map ended notes) m h) [
-  | inl a ↦ (let r = from_flat begun notes m a in
+struck_up_to onset end next notes m s less le h = elim (among_both (flat_map begun_messages notes) (flat_map ended notes) m h) [
+  | inl a ↦ (let r = from_flat begun_messages notes m a in
       let n : Note = r.0 in
       let p = begun_stands n m (s.order n r.1) r.2 in
       record { at = n.onset; late = 1; key = n.key; off = p.off; is = p.at; before = inl (omega (arith, s.begin n r.1, less)) })
@@ -223,8 +223,8 @@ struck_up_to onset end next notes m s less le h = elim (among_both (flat_map beg
     ]
 
 pub struck_from : (onset end low : ℕ) (notes : List Note) (m : Message) → AreStruck onset end notes → low ≤ onset → Among m (together notes) → IsFrom low m
-struck_from onset end low notes m s le h = elim (among_both (flat_map begun notes) (flat_map ended notes) m h) [
-  | inl a ↦ (let r = from_flat begun notes m a in
+struck_from onset end low notes m s le h = elim (among_both (flat_map begun_messages notes) (flat_map ended notes) m h) [
+  | inl a ↦ (let r = from_flat begun_messages notes m a in
       let n : Note = r.0 in
       let p = begun_stands n m (s.order n r.1) r.2 in
       record { at = n.onset; late = 1; key = n.key; off = p.off; is = p.at; after = from low n.onset 1 refl (omega (arith, s.begin n r.1, le)) })

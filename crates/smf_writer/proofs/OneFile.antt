@@ -3,7 +3,7 @@ use Rattle.std.proofs.Common.{◌≡◌, ℕ, suc, ◌*◌, List, [], ◌∷◌,
 use Rattle.std.specs.Ordering.{nat_cmp}
 use Rattle.std.specs.Cmp.Lexicographic.{slice_cmp, nat_list_cmp_total}
 use Rattle.std.specs.declared.cmp.Ordering.TheVariants.{Less}
-use Rattle.rhythm_laws.proofs.FirstLists.{one_earlier, one_order}
+use Rattle.rhythm_base.proofs.FirstLists.{one_earlier, one_order}
 use Rattle.rhythm_base.specs.declared.event.Event.{Event}
 use Rattle.rhythm_base.specs.declared.note.Note.{Note}
 use Rattle.rhythm_base.specs.Performance.{place_of_note}
@@ -15,7 +15,7 @@ use Rattle.smf_writer.specs.Changes.{conductor}
 use Rattle.smf_writer.specs.EventNotes.{AreKept}
 use Rattle.smf_writer.specs.Laws.{RenderedFilesAreOne}
 use Rattle.smf_writer.specs.NoteMessages.{AreMessages, Message, event_of, place_of_message}
-use Rattle.smf_writer.specs.RenderedFile.{AreVoicesFrom, IsVoice}
+use Rattle.smf_writer.specs.RenderedFile.{AreVoicesFrom, IsVoiceTrack}
 
 kept_one : (played a b : List Note) → AreKept played a → AreKept played b → a ≡ b
 kept_one played a b h k =
@@ -29,7 +29,7 @@ messages_one notes a b h k =
     h.messages k.messages h.in_order k.in_order (λ m there. (k.exactly m).1 ((h.exactly m).0 there)) (λ m there. (h.exactly m).1 ((k.exactly m).0 there)) in
     h.are ∙ ap (map event_of) same ∙ sym k.are
 
-voice_one : (resolution : ℕ) (events : List KernEvent) (spine channel : ℕ) (a b : List Event) → IsVoice resolution events spine channel a → IsVoice resolution events spine channel b → a ≡ b
+voice_one : (resolution : ℕ) (events : List KernEvent) (spine channel : ℕ) (a b : List Event) → IsVoiceTrack resolution events spine channel a → IsVoiceTrack resolution events spine channel b → a ≡ b
 voice_one resolution events spine channel a b (notes, kept, are) (others, kept2, are2) =
     messages_one notes a b are (subst (λ (ns : List Note). AreMessages ns b) (sym (kept_one _ notes others kept kept2)) are2)
 

@@ -5,17 +5,17 @@ use Rattle.std.specs.List.{flat_map}
 use Rattle.std.proofs.lemmas.Bool.{cases_lt}
 use Rattle.std.proofs.lemmas.Grind.{flat_map-append}
 use Rattle.std.proofs.lemmas.List.Elements.{All-append, filter-append}
-use Rattle.rhythm_laws.proofs.OrderedLists.{all_cons, all_head, all_tail}
+use Rattle.rhythm_base.proofs.OrderedLists.{all_cons, all_head, all_tail}
 use Rattle.rhythm_base.specs.declared.event.Event.{Event}
 use Rattle.rhythm_base.specs.declared.note.Note.{Note}
 use Rattle.rhythm_base.specs.declared.span.Span.{Span}
-use Rattle.kern_reader.specs.Events.{event}
+use Rattle.kern_reader.specs.Events.{span_event}
 use Rattle.kern_reader.specs.declared.event.KernEvent.{KernEvent}
 use Rattle.voice_events.specs.Parts.{end_parts}
 use Rattle.voice_events.specs.VoiceEvents.{AreOfVoice, AreVoiceEventsFrom, FollowFrom, IsVoiceSpan}
 use Rattle.smf_writer.specs.EventNotes.{AreKept, event_notes}
 use Rattle.smf_writer.specs.NoteMessages.{AreMessages, Message, event_of}
-use Rattle.smf_writer.specs.RenderedFile.{AreVoicesFrom, IsVoice, spine_notes}
+use Rattle.smf_writer.specs.RenderedFile.{AreVoicesFrom, IsVoiceTrack, spine_notes}
 use Rattle.smf_writer.specs.Strokes.{event_strokes, spine_events, stroke_messages, strokes_events, voices_from}
 use Rattle.smf_writer.specs.declared.stroke.Stroke.{Stroke}
 use Rattle.smf_writer.proofs.EventStrokes.{equal_true, other_false}
@@ -30,16 +30,16 @@ own spine events = filter (of_spine spine) events
 
 -- ---- the events of a spine among all
 
-own_all : (spine : ℕ) (spans : List Span) → own spine (map (event spine) spans) ≡ map (event spine) spans
+own_all : (spine : ℕ) (spans : List Span) → own spine (map (span_event spine) spans) ≡ map (span_event spine) spans
 own_all spine [] = refl
 own_all spine (x ∷ spans) =
-    ap (λ b. if b then event spine x ∷ own spine (map (event spine) spans) else own spine (map (event spine) spans)) (equal_true spine spine refl)
-    ∙ ap (λ (es : List KernEvent). event spine x ∷ es) (own_all spine spans)
+    ap (λ b. if b then span_event spine x ∷ own spine (map (span_event spine) spans) else own spine (map (span_event spine) spans)) (equal_true spine spine refl)
+    ∙ ap (λ (es : List KernEvent). span_event spine x ∷ es) (own_all spine spans)
 
-own_none : (spine other : ℕ) (spans : List Span) → other ≢ spine → own spine (map (event other) spans) ≡ []
+own_none : (spine other : ℕ) (spans : List Span) → other ≢ spine → own spine (map (span_event other) spans) ≡ []
 own_none spine other [] apart = refl
 own_none spine other (x ∷ spans) apart =
-    ap (λ b. if b then event other x ∷ own spine (map (event other) spans) else own spine (map (event other) spans)) (other_false other spine apart)
+    ap (λ b. if b then span_event other x ∷ own spine (map (span_event other) spans) else own spine (map (span_event other) spans)) (other_false other spine apart)
     ∙ own_none spine other spans apart
 
 own_later : (resolution last from voices spine : ℕ) (events : List KernEvent) → spine < from → AreVoiceEventsFrom resolution last from voices events → own spine events ≡ []
@@ -47,7 +47,7 @@ own_later resolution last from zero spine events less h = ap (own spine) h
 own_later resolution last from (suc voices) spine events less (spans, others, voice, later, is) =
     let apart : from ≢ spine = λ e. absurd (omega (arith, less, e)) in
     ap (own spine) is
-    ∙ filter-append (of_spine spine) (map (event from) spans) others
+    ∙ filter-append (of_spine spine) (map (span_event from) spans) others
     ∙ ap (λ (es : List KernEvent). es ++ own spine others) (own_none spine from spans apart)
     ∙ own_later resolution last (suc from) voices spine others (omega arith) later
 
@@ -55,7 +55,7 @@ own_later resolution last from (suc voices) spine events less (spans, others, vo
 pub record HasSpans (resolution last spine : ℕ) (events : List KernEvent) : Type 0 where
   pub spans : List Span
   pub voice : AreOfVoice resolution last spans
-  pub are : own spine events ≡ map (event spine) spans
+  pub are : own spine events ≡ map (span_event spine) spans
 
 pub spine_spans : (resolution last from voices spine : ℕ) (events : List KernEvent) → from ≤ spine → spine < from + voices → AreVoiceEventsFrom resolution last from voices events → HasSpans resolution last spine events
 spine_spans resolution last from zero spine events low high h = absurd (omega arith)
@@ -66,7 +66,7 @@ spine_spans resolution last from (suc voices) spine events low high (spans, othe
         spans = rest.spans;
         voice = rest.voice;
         are = ap (own spine) is
-            ∙ filter-append (of_spine spine) (map (event from) spans) others
+            ∙ filter-append (of_spine spine) (map (span_event from) spans) others
             ∙ ap (λ (es : List KernEvent). es ++ own spine others) (own_none spine from spans apart)
             ∙ rest.are;
       })
@@ -75,10 +75,10 @@ spine_spans resolution last from (suc voices) spine events low high (spans, othe
         spans = spans;
         voice = voice;
         are = ap (own spine) is
-            ∙ filter-append (of_spine spine) (map (event from) spans) others
-            ∙ ap (λ (es : List KernEvent). own spine (map (event from) spans) ++ es) (own_later resolution last (suc from) voices spine others (omega arith) later)
-            ∙ append-nil (own spine (map (event from) spans))
-            ∙ ap (λ s. own spine (map (event s) spans)) same
+            ∙ filter-append (of_spine spine) (map (span_event from) spans) others
+            ∙ ap (λ (es : List KernEvent). own spine (map (span_event from) spans) ++ es) (own_later resolution last (suc from) voices spine others (omega arith) later)
+            ∙ append-nil (own spine (map (span_event from) spans))
+            ∙ ap (λ s. own spine (map (span_event s) spans)) same
             ∙ own_all spine spans;
       })
 ]
@@ -98,7 +98,7 @@ module _ (resolution channel : ℕ) where
       go true rest = ap (λ (es : List Event). made_of e ++ es) rest
       go false rest = rest
 
-  of_spans : (spine : ℕ) (spans : List Span) → flat_map made_of (map (event spine) spans) ≡ strokes_events channel (voice_strokes resolution spans)
+  of_spans : (spine : ℕ) (spans : List Span) → flat_map made_of (map (span_event spine) spans) ≡ strokes_events channel (voice_strokes resolution spans)
   of_spans spine [] = refl
   of_spans spine (x ∷ spans) =
       ap (λ (es : List Event). strokes_events channel (event_strokes resolution x) ++ es) (of_spans spine spans)
@@ -113,7 +113,7 @@ module _ (resolution channel : ℕ) where
   all_events (s ∷ strokes) =
       ap (λ (es : List Event). map event_of (stroke_messages channel s) ++ es) (all_events strokes) ∙ sym (map_append (stroke_messages channel s) (all_of channel strokes))
 
-  notes_of_spans : (spine : ℕ) (spans : List Span) → flat_map (λ e. event_notes resolution channel e.span) (map (event spine) spans) ≡ flat_map (event_notes resolution channel) spans
+  notes_of_spans : (spine : ℕ) (spans : List Span) → flat_map (λ e. event_notes resolution channel e.span) (map (span_event spine) spans) ≡ flat_map (event_notes resolution channel) spans
   notes_of_spans spine [] = refl
   notes_of_spans spine (x ∷ spans) = ap (λ (ns : List Note). event_notes resolution channel x ++ ns) (notes_of_spans spine spans)
 
@@ -127,7 +127,7 @@ module _ (resolution channel : ℕ) where
     pub spine_kept : AreKept (spine_notes resolution channel spine events) (notes_of channel (voice_strokes resolution h.spans))
     spine_kept = subst (λ (ns : List Note). AreKept ns (notes_of channel (voice_strokes resolution h.spans))) (sym notes_are) (voice_kept resolution channel last h.spans h.voice)
 
-    pub is_voice : IsVoice resolution events spine channel (spine_events resolution events spine channel)
+    pub is_voice : IsVoiceTrack resolution events spine channel (spine_events resolution events spine channel)
     is_voice = (
       notes_of channel (voice_strokes resolution h.spans),
       spine_kept,
@@ -159,10 +159,10 @@ follow_within : (resolution last from : ℕ) (spans : List Span) → FollowFrom 
 follow_within resolution last from [] h = h
 follow_within resolution last from (x ∷ spans) h = omega (arith, h.0, follow_within resolution last (end_parts resolution x) spans h.1)
 
-spans_playable : (resolution last from spine : ℕ) (spans : List Span) → All (IsVoiceSpan resolution) spans → FollowFrom resolution last from spans → All (IsPlayable resolution last) (map (event spine) spans)
+spans_playable : (resolution last from spine : ℕ) (spans : List Span) → All (IsVoiceSpan resolution) spans → FollowFrom resolution last from spans → All (IsPlayable resolution last) (map (span_event spine) spans)
 spans_playable resolution last from spine [] each follow = λ k d lt. absurd (omega arith)
 spans_playable resolution last from spine (x ∷ spans) each follow =
-    all_cons (IsPlayable resolution last) (event spine x) (map (event spine) spans)
+    all_cons (IsPlayable resolution last) (span_event spine x) (map (span_event spine) spans)
     (record { span = all_head (IsVoiceSpan resolution) x spans each; early = follow_within resolution last (end_parts resolution x) spans follow.1 })
     (spans_playable resolution last (end_parts resolution x) spine spans (all_tail (IsVoiceSpan resolution) x spans each) follow.1)
 
@@ -170,5 +170,5 @@ pub all_playable : (resolution last from voices : ℕ) (events : List KernEvent)
 all_playable resolution last from zero events h = subst (All (IsPlayable resolution last)) (sym h) (λ k d lt. absurd (omega arith))
 all_playable resolution last from (suc voices) events (spans, others, voice, later, is) =
     subst (All (IsPlayable resolution last)) (sym is)
-    (All-append (IsPlayable resolution last) (map (event from) spans) others (spans_playable resolution last 0 from spans voice.each voice.follow)
+    (All-append (IsPlayable resolution last) (map (span_event from) spans) others (spans_playable resolution last 0 from spans voice.each voice.follow)
     (all_playable resolution last (suc from) voices others later))

@@ -9,8 +9,8 @@ use Rattle.std.specs.declared.cmp.Ordering.TheVariants.{Less}
 use Rattle.std.proofs.lemmas.Bool.Decides.{nat_tests}
 use Rattle.rhythm_base.specs.declared.note.Note.{Note}
 use Rattle.rhythm_base.specs.Performance.{place_of_note}
-use Rattle.smf_writer.specs.EventNotes.{keys_of}
-use Rattle.smf_writer.specs.NoteMessages.{Message, note_of}
+use Rattle.smf_writer.specs.EventNotes.{key_list}
+use Rattle.smf_writer.specs.NoteMessages.{Message, message_note}
 use Rattle.smf_writer.specs.Strokes.{stroke_messages, stroke_note, stroke_notes}
 use Rattle.smf_writer.specs.declared.stroke.Stroke.{Stroke}
 use Rattle.smf_writer.proofs.KeyBits.{among_keys, keys_rise}
@@ -44,7 +44,7 @@ module _ (channel : ℕ) where
 
   pub of_stroke : (s : Stroke) (n : Note) → Among n (stroke_notes channel s) → IsOfStroke s n
   of_stroke s n h =
-      let r = from_map (stroke_note channel s) (keys_of (bit_or s.held s.passing)) n h in
+      let r = from_map (stroke_note channel s) (key_list (bit_or s.held s.passing)) n h in
       let k : ℕ = r.0 in
       let low = among_keys (bit_or s.held s.passing) k r.1 in
       record {
@@ -60,7 +60,7 @@ module _ (channel : ℕ) where
 
   keys_in_order : (s : Stroke) → Pairwise (λ (m : Note) n. m.key < n.key) (stroke_notes channel s)
   keys_in_order s =
-      pairs_map (λ (j : ℕ) k. j < k) (λ (m : Note) n. m.key < n.key) (stroke_note channel s) (keys_of (bit_or s.held s.passing)) (λ j k less. less)
+      pairs_map (λ (j : ℕ) k. j < k) (λ (m : Note) n. m.key < n.key) (stroke_note channel s) (key_list (bit_or s.held s.passing)) (λ j k less. less)
       (keys_rise (bit_or s.held s.passing))
 
   note_order : (s : Stroke) (n : Note) → s.onset ≤ s.end → IsOfStroke s n → n.onset ≤ n.end
@@ -117,16 +117,16 @@ module _ (channel : ℕ) where
       let r = among_ordered next last strokes s later a in
       (omega (arith, le, less, r.0), r.1, r.2)
 
-  pub messages_of_notes : (low last : ℕ) (strokes : List Stroke) (m : Message) → Succeed low strokes last → Among m (all_of strokes) → Among (note_of m) (notes_of strokes)
+  pub messages_of_notes : (low last : ℕ) (strokes : List Stroke) (m : Message) → Succeed low strokes last → Among m (all_of strokes) → Among (message_note m) (notes_of strokes)
   messages_of_notes low last strokes m h a =
       let r = from_flat (stroke_messages channel) strokes m a in
       let s : Stroke = r.0 in
       let ordered = among_ordered low last strokes s h r.1 in
-      among_flat (stroke_notes channel) strokes s (note_of m) r.1 (of_notes (stroke_notes channel s) m (λ n b. note_order s n ordered.1 (of_stroke s n b)) r.2)
+      among_flat (stroke_notes channel) strokes s (message_note m) r.1 (of_notes (stroke_notes channel s) m (λ n b. note_order s n ordered.1 (of_stroke s n b)) r.2)
 
-  pub notes_have_messages : (strokes : List Stroke) (m : Message) → Among (note_of m) (notes_of strokes) → Among m (all_of strokes)
+  pub notes_have_messages : (strokes : List Stroke) (m : Message) → Among (message_note m) (notes_of strokes) → Among m (all_of strokes)
   notes_have_messages strokes m a =
-      let r = from_flat (stroke_notes channel) strokes (note_of m) a in
+      let r = from_flat (stroke_notes channel) strokes (message_note m) a in
       among_flat (stroke_messages channel) strokes r.0 m r.1 (all_messages (stroke_notes channel r.0) m r.2)
 
   -- ---- notes
@@ -139,7 +139,7 @@ module _ (channel : ℕ) where
 
   stroke_order : (s : Stroke) → Pairwise IsEarlier (stroke_notes channel s)
   stroke_order s =
-      pairs_map (λ (j : ℕ) k. j < k) IsEarlier (stroke_note channel s) (keys_of (bit_or s.held s.passing)) (λ j k less. by_note_key channel s.onset j channel s.onset k refl refl less)
+      pairs_map (λ (j : ℕ) k. j < k) IsEarlier (stroke_note channel s) (key_list (bit_or s.held s.passing)) (λ j k less. by_note_key channel s.onset j channel s.onset k refl refl less)
       (keys_rise (bit_or s.held s.passing))
 
   pub notes_order : (low last : ℕ) (strokes : List Stroke) → Succeed low strokes last → Pairwise IsEarlier (notes_of strokes)

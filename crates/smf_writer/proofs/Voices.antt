@@ -4,7 +4,7 @@ use Rattle.std.specs.Prelude.{All, if◌then◌else◌, nat_lt}
 use Rattle.std.specs.List.{flat_map}
 use Rattle.std.proofs.lemmas.Bool.Decides.{nat_tests}
 use Rattle.std.proofs.lemmas.Grind.{flat_map-append}
-use Rattle.rhythm_laws.proofs.OrderedLists.{all_head, all_tail}
+use Rattle.rhythm_base.proofs.OrderedLists.{all_head, all_tail}
 use Rattle.rhythm_base.specs.declared.event.Event.{Event}
 use Rattle.rhythm_base.specs.declared.note.Note.{Note}
 use Rattle.rhythm_base.specs.declared.span.Span.{Span}
@@ -12,8 +12,8 @@ use Rattle.smf_bytes.specs.Message.{HasChannel}
 use Rattle.voice_events.specs.Parts.{end_parts, len_parts, start_parts}
 use Rattle.voice_events.specs.VoiceEvents.{AreOfVoice, FollowFrom, IsVoiceSpan}
 use Rattle.smf_writer.specs.EventNotes.{AreKept, chord_notes, event_notes, grace_notes, grace_ticks, main_end, main_onset}
-use Rattle.smf_writer.specs.NoteMessages.{AreMessages, Message, begins, ends, event_of, note_of}
-use Rattle.smf_writer.specs.Strokes.{event_strokes, grace_strokes, joined, main_stroke, stroke_notes}
+use Rattle.smf_writer.specs.NoteMessages.{AreMessages, Message, begins, ends, event_of, message_note}
+use Rattle.smf_writer.specs.Strokes.{event_strokes, grace_strokes, joined_keys, main_stroke, stroke_notes}
 use Rattle.smf_writer.specs.declared.stroke.Stroke.{Stroke}
 use Rattle.smf_writer.proofs.Covering.{Cover, cover_both, cover_nothing, graces_cover, graces_passing, kept_notes, none_passing, stroke_cover, ArePassing}
 use Rattle.smf_writer.proofs.EventStrokes.{crowded_onset, graced_onset}
@@ -73,9 +73,9 @@ module _ (resolution : ℕ) (x : Span) (span : IsVoiceSpan resolution x) where
           subst P (sym all) (graces_succeed low (start_parts resolution x) last x.graces (main ∷ more) le
           (main_succeeds (start_parts resolution x + length x.graces) last 0 more (omega (arith, graced_onset resolution x few)) h))
       go false many =
-          let main : Stroke = main_stroke resolution x (joined x.graces) in
+          let main : Stroke = main_stroke resolution x (joined_keys x.graces) in
           let is : event_strokes resolution x ≡ main ∷ [] = rw many refl in
-          subst P (sym (ap (λ (ss : List Stroke). ss ++ more) is)) (main_succeeds low last (joined x.graces) more (omega (arith, le, crowded_onset resolution x many)) h)
+          subst P (sym (ap (λ (ss : List Stroke). ss ++ more) is)) (main_succeeds low last (joined_keys x.graces) more (omega (arith, le, crowded_onset resolution x many)) h)
 
   module _ (channel : ℕ) where
     abbrev notes_by : ℕ → List Note
@@ -105,13 +105,13 @@ module _ (resolution : ℕ) (x : Span) (span : IsVoiceSpan resolution x) where
             subst (λ (ns : List Note). Cover ns (flat_map (stroke_notes channel) (event_strokes resolution x))) (sym played)
             (subst (λ (ns : List Note). Cover (grace_notes channel (start_parts resolution x) 1 x.graces ++ chord) ns) (sym made) both)
         go false many =
-            let main : Stroke = main_stroke resolution x (joined x.graces) in
+            let main : Stroke = main_stroke resolution x (joined_keys x.graces) in
             let ticks : grace_ticks resolution x ≡ 0 = rw many refl in
             let played : event_notes resolution channel x ≡ grace_notes channel (start_parts resolution x) 0 x.graces ++ chord = ap notes_by ticks in
             let is : event_strokes resolution x ≡ main ∷ [] = rw many refl in
             let made : flat_map (stroke_notes channel) (event_strokes resolution x) ≡ stroke_notes channel main = ap (flat_map (stroke_notes channel)) is ∙ append-nil (stroke_notes channel main) in
-            let passing : ArePassing channel (main_onset resolution x) (joined x.graces) (grace_notes channel (start_parts resolution x) 0 x.graces) =
-            subst (λ t. ArePassing channel t (joined x.graces) (grace_notes channel (start_parts resolution x) 0 x.graces)) (crowded_onset resolution x many) (graces_passing channel (start_parts resolution x) x.graces) in
+            let passing : ArePassing channel (main_onset resolution x) (joined_keys x.graces) (grace_notes channel (start_parts resolution x) 0 x.graces) =
+            subst (λ t. ArePassing channel t (joined_keys x.graces) (grace_notes channel (start_parts resolution x) 0 x.graces)) (crowded_onset resolution x many) (graces_passing channel (start_parts resolution x) x.graces) in
             let own = stroke_cover channel main main_bounds.0 (grace_notes channel (start_parts resolution x) 0 x.graces) passing in
             subst (λ (ns : List Note). Cover ns (flat_map (stroke_notes channel) (event_strokes resolution x))) (sym played)
             (subst (λ (ns : List Note). Cover (grace_notes channel (start_parts resolution x) 0 x.graces ++ chord) ns) (sym made) own)
@@ -148,8 +148,8 @@ module _ (resolution channel : ℕ) where
         messages = all_of channel strokes;
         in_order = pairs_from IsBefore (all_of channel strokes) (messages_order channel 0 last strokes succeed);
         exactly = λ m. (
-          (λ c. place_among (notes_of channel strokes) (note_of m) (messages_of_notes channel 0 last strokes m succeed (among_contained (all_of channel strokes) m c))),
-          λ c. place_among (all_of channel strokes) m (notes_have_messages channel strokes m (among_contained (notes_of channel strokes) (note_of m) c)),
+          (λ c. place_among (notes_of channel strokes) (message_note m) (messages_of_notes channel 0 last strokes m succeed (among_contained (all_of channel strokes) m c))),
+          λ c. place_among (all_of channel strokes) m (notes_have_messages channel strokes m (among_contained (notes_of channel strokes) (message_note m) c)),
         );
         are = refl;
       }
@@ -159,7 +159,7 @@ module _ (resolution channel : ℕ) where
     pub early : e.tick ≤ last
     pub channel_fits : HasChannel e.what
 
-  can_stand : (last : ℕ) (m : Message) → channel < 16 → IsWithin channel last (note_of m) → CanStand last (event_of m)
+  can_stand : (last : ℕ) (m : Message) → channel < 16 → IsWithin channel last (message_note m) → CanStand last (event_of m)
   can_stand last (begins n) small is = record { early = is.onset; channel_fits = omega (arith, small, is.channel_is) }
   can_stand last (ends n) small is = record { early = is.end; channel_fits = omega (arith, small, is.channel_is) }
 
@@ -170,4 +170,4 @@ module _ (resolution channel : ℕ) where
       all_from_among (CanStand last) (map event_of (all_of channel strokes)) (λ e a.
       let r = from_map event_of (all_of channel strokes) e a in
       let m : Message = r.0 in
-      subst (CanStand last) (sym r.2) (can_stand last m small (notes_within channel 0 last strokes (note_of m) succeed (messages_of_notes channel 0 last strokes m succeed r.1))))
+      subst (CanStand last) (sym r.2) (can_stand last m small (notes_within channel 0 last strokes (message_note m) succeed (messages_of_notes channel 0 last strokes m succeed r.1))))

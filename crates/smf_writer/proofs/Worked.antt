@@ -4,7 +4,7 @@ use Rattle.std.specs.Int.Count.{count_trailing_zeros}
 use Rattle.rhythm_base.specs.declared.note.Note.{Note}
 use Rattle.rhythm_base.specs.declared.span.Span.{Span}
 use Rattle.derivation.specs.declared.score.ScoreBar.{ScoreBar}
-use Rattle.kern_reader.specs.Events.{event}
+use Rattle.kern_reader.specs.Events.{span_event}
 use Rattle.smf_bytes.specs.Chunk.{file_bytes}
 use Rattle.smf_bytes.specs.Track.{bytes_from, content_bytes}
 use Rattle.smf_writer.specs.Changes.{conductor}
@@ -39,7 +39,7 @@ quarters_written : file_bytes 64 (map (λ track. content_bytes track 256) (condu
 unfolding quarters bytes_from count_trailing_zeros
 quarters_written = refl
 
-quarters_played : spine_events 4 (map (event 1) (quarter 0 [] (2 ^ 60) ∷ quarter 1 [] (2 ^ 62) ∷ quarter 2 [] (2 ^ 64) ∷ quarter 3 [] (2 ^ 65) ∷ [])) 1 0 ≡ map event_of quarters
+quarters_played : spine_events 4 (map (span_event 1) (quarter 0 [] (2 ^ 60) ∷ quarter 1 [] (2 ^ 62) ∷ quarter 2 [] (2 ^ 64) ∷ quarter 3 [] (2 ^ 65) ∷ [])) 1 0 ≡ map event_of quarters
 unfolding quarters
 quarters_played = refl
 
@@ -57,7 +57,7 @@ graces_written : file_bytes 64 (map (λ track. content_bytes track 256) (conduct
 unfolding graces bytes_from count_trailing_zeros
 graces_written = refl
 
-graces_played : spine_events 4 (map (event 1) (quarter 1 (2 ^ 62 ∷ 2 ^ 64 ∷ []) (2 ^ 60) ∷ [])) 1 0 ≡ map event_of graces
+graces_played : spine_events 4 (map (span_event 1) (quarter 1 (2 ^ 62 ∷ 2 ^ 64 ∷ []) (2 ^ 60) ∷ [])) 1 0 ≡ map event_of graces
 unfolding graces
 graces_played = refl
 

@@ -6,59 +6,59 @@ use Rattle.rhythm_base.specs.declared.event.Event.{Event}
 use Rattle.rhythm_base.specs.declared.event.What.{What}
 use Rattle.rhythm_base.specs.declared.event.What.TheVariants.{Tempo, Signature, KeySig}
 use Rattle.derivation.specs.declared.score.ScoreBar.{ScoreBar}
-use Rattle.voice_events.specs.Parts.{bar_parts}
+use Rattle.voice_events.specs.Parts.{score_bar_parts}
 
 -- ---- what is as in the bar before; before the first bar there is nothing
 
-abbrev pub same_tempo : Option ScoreBar → ScoreBar → Bool
-same_tempo None bar = false
-same_tempo (Some before) bar = before.tempo == bar.tempo
+abbrev pub same_midi_tempo : Option ScoreBar → ScoreBar → Bool
+same_midi_tempo None bar = false
+same_midi_tempo (Some before) bar = before.tempo == bar.tempo
 
-abbrev pub same_signature : Option ScoreBar → ScoreBar → Bool
-same_signature None bar = false
-same_signature (Some before) bar = (before.num == bar.num) && (before.den == bar.den)
+abbrev pub same_midi_signature : Option ScoreBar → ScoreBar → Bool
+same_midi_signature None bar = false
+same_midi_signature (Some before) bar = (before.num == bar.num) && (before.den == bar.den)
 
-abbrev pub same_sf : ℤ → ℤ → Bool
-same_sf (pos m) (pos n) = m == n
-same_sf (negsuc m) (negsuc n) = m == n
-same_sf _ _ = false
+abbrev pub same_midi_key : ℤ → ℤ → Bool
+same_midi_key (pos m) (pos n) = m == n
+same_midi_key (negsuc m) (negsuc n) = m == n
+same_midi_key _ _ = false
 
 abbrev pub is_key : Option ℤ → ℤ → Bool
 is_key None sf = false
-is_key (Some before) sf = same_sf before sf
+is_key (Some before) sf = same_midi_key before sf
 
-abbrev pub key_before : Option ScoreBar → Option ℤ
-key_before None = None
-key_before (Some before) = before.sf
+abbrev pub midi_key_before : Option ScoreBar → Option ℤ
+midi_key_before None = None
+midi_key_before (Some before) = before.sf
 
 -- ---- changes
 
-abbrev pub tempo_change : Option ScoreBar → ScoreBar → Option What
-tempo_change before bar = if same_tempo before bar then None else Some (Tempo bar.tempo)
+abbrev pub tempo_event : Option ScoreBar → ScoreBar → Option What
+tempo_event before bar = if same_midi_tempo before bar then None else Some (Tempo bar.tempo)
 
 -- a file writes a signature with the power of two that its beat is
-abbrev pub signature_change : Option ScoreBar → ScoreBar → Option What
-signature_change before bar = if same_signature before bar then None else Some (Signature bar.num (trailing_zeros w8 bar.den))
+abbrev pub signature_event : Option ScoreBar → ScoreBar → Option What
+signature_event before bar = if same_midi_signature before bar then None else Some (Signature bar.num (trailing_zeros w8 bar.den))
 
 -- no key is said while there is none
-abbrev pub key_change : Option ℤ → Option ℤ → Option What
-key_change before None = None
-key_change before (Some sf) = if is_key before sf then None else Some (KeySig sf)
+abbrev pub key_event : Option ℤ → Option ℤ → Option What
+key_event before None = None
+key_event before (Some sf) = if is_key before sf then None else Some (KeySig sf)
 
-abbrev pub at_tick : ℕ → Option What → List Event
-at_tick tick None = []
-at_tick tick (Some what) = record { tick = tick; what = what } ∷ []
+abbrev pub change_at : ℕ → Option What → List Event
+change_at tick None = []
+change_at tick (Some what) = record { tick = tick; what = what } ∷ []
 
 -- the changes of a bar that begins at a tick, after another bar or at the beginning
 abbrev pub changes_at : ℕ → Option ScoreBar → ScoreBar → List Event
 changes_at tick before bar =
-    flat_map (at_tick tick) (tempo_change before bar ∷ signature_change before bar ∷ key_change (key_before before) bar.sf ∷ [])
+    flat_map (change_at tick) (tempo_event before bar ∷ signature_event before bar ∷ key_event (midi_key_before before) bar.sf ∷ [])
 
 -- those of all bars from a tick on
 abbrev pub changes_from : ℕ → Option ScoreBar → ℕ → List ScoreBar → List Event
 changes_from resolution before tick [] = []
 changes_from resolution before tick (bar ∷ bars) =
-    changes_at tick before bar ++ changes_from resolution (Some bar) (tick + bar_parts resolution bar) bars
+    changes_at tick before bar ++ changes_from resolution (Some bar) (tick + score_bar_parts resolution bar) bars
 
 abbrev pub conductor : ℕ → List ScoreBar → List Event
 conductor resolution bars = changes_from resolution None 0 bars

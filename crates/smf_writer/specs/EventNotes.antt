@@ -10,12 +10,12 @@ use Rattle.rhythm_base.specs.Performance.{place_of_note}
 use Rattle.voice_events.specs.Parts.{end_parts, len_parts, start_parts}
 
 -- the keys of a set, the lowest first
-abbrev pub keys_of : ℕ → List ℕ
-keys_of keys = filter (λ k. bit_at keys k == 1) (range_with_len 0 128)
+abbrev pub key_list : ℕ → List ℕ
+key_list keys = filter (λ k. bit_at keys k == 1) (range_with_len 0 128)
 
 -- a note of the channel for each key of a chord
 abbrev pub chord_notes : ℕ → ℕ → ℕ → ℕ → List Note
-chord_notes channel onset end keys = map (λ k. record { channel = channel; key = k; onset = onset; end = end }) (keys_of keys)
+chord_notes channel onset end keys = map (λ k. record { channel = channel; key = k; onset = onset; end = end }) (key_list keys)
 
 -- grace chords of so many ticks, one after another from a tick on
 abbrev pub grace_notes : ℕ → ℕ → ℕ → List ℕ → List Note

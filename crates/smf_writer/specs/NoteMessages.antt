@@ -9,9 +9,9 @@ use Rattle.rhythm_base.specs.Lists.{AreInOrder}
 pub data Message : Type 0 where
   begins ends : Note → Message
 
-abbrev pub note_of : Message → Note
-note_of (begins n) = n
-note_of (ends n) = n
+abbrev pub message_note : Message → Note
+message_note (begins n) = n
+message_note (ends n) = n
 
 abbrev pub event_of : Message → Event
 event_of (begins n) = record { tick = n.onset; what = On n.channel n.key }
@@ -27,5 +27,5 @@ place_of_message (ends n) = n.end ∷ (if nat_lt n.onset n.end then 0 else 1) �
 pub record AreMessages (notes : List Note) (events : List Event) : Type 0 where
   pub messages : List Message
   pub in_order : AreInOrder place_of_message messages
-  pub exactly : (m : Message) → Contains messages m ↔ Contains notes (note_of m)
+  pub exactly : (m : Message) → Contains messages m ↔ Contains notes (message_note m)
   pub are : events ≡ map event_of messages

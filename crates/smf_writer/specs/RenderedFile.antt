@@ -27,15 +27,15 @@ abbrev pub spine_notes : ℕ → ℕ → ℕ → List KernEvent → List Note
 spine_notes resolution channel spine events = flat_map (λ e. event_notes resolution channel e.span) (filter (λ e. e.spine == spine) events)
 
 -- the events of the track of a spine: the messages of its kept notes
-abbrev pub IsVoice : ℕ → List KernEvent → ℕ → ℕ → List Event → Type 0
-IsVoice resolution events spine channel voice =
+abbrev pub IsVoiceTrack : ℕ → List KernEvent → ℕ → ℕ → List Event → Type 0
+IsVoiceTrack resolution events spine channel voice =
     (notes : List Note) × AreKept (spine_notes resolution channel spine events) notes × AreMessages notes voice
 
 -- those of the spines from this number on, a channel each
 abbrev pub AreVoicesFrom : ℕ → List KernEvent → ℕ → List ℕ → List (List Event) → Type 0
 AreVoicesFrom resolution events spine [] voices = voices ≡ []
 AreVoicesFrom resolution events spine (channel ∷ channels) voices =
-    (voice : List Event) × (others : List (List Event)) × IsVoice resolution events spine channel voice
+    (voice : List Event) × (others : List (List Event)) × IsVoiceTrack resolution events spine channel voice
     × AreVoicesFrom resolution events (suc spine) channels others × (voices ≡ voice ∷ others)
 
 -- The bytes are a file of 16 * R ticks to the quarter note. Its first track has the changes, and each further one a voice; all
@@ -50,6 +50,6 @@ pub record IsRendered (resolution : ℕ) (bars : List ScoreBar) (channels : List
   pub are : bytes ≡ file_bytes (16 * resolution) contents
 
 -- there is no file where the last barline is too late, and the fault says its tick; else memory alone may be wanting
-abbrev pub HasFault : ℕ → List ScoreBar → RenderFault → Type 0
-HasFault resolution bars (TooLong tick) = (tick ≡ score_parts resolution bars) × (GREATEST_QUANTITY < tick)
-HasFault resolution bars Memory = score_parts resolution bars ≤ GREATEST_QUANTITY
+abbrev pub HasRenderFault : ℕ → List ScoreBar → RenderFault → Type 0
+HasRenderFault resolution bars (TooLong tick) = (tick ≡ score_parts resolution bars) × (GREATEST_QUANTITY < tick)
+HasRenderFault resolution bars Memory = score_parts resolution bars ≤ GREATEST_QUANTITY

@@ -9,7 +9,7 @@ use Rattle.rhythm_base.specs.declared.note.Note.{Note}
 use Rattle.rhythm_base.specs.declared.span.Span.{Span}
 use Rattle.kern_reader.specs.declared.event.KernEvent.{KernEvent}
 use Rattle.voice_events.specs.Parts.{len_parts, start_parts}
-use Rattle.smf_writer.specs.EventNotes.{keys_of, main_end, main_onset}
+use Rattle.smf_writer.specs.EventNotes.{key_list, main_end, main_onset}
 use Rattle.smf_writer.specs.NoteMessages.{Message, begins, ends, event_of}
 use Rattle.smf_writer.specs.declared.stroke.Stroke.{Stroke}
 
@@ -21,11 +21,11 @@ stroke_note channel s key =
     record { channel = channel; key = key; onset = s.onset; end = if bit_at s.held key == 1 then s.end else s.onset }
 
 abbrev pub stroke_notes : ℕ → Stroke → List Note
-stroke_notes channel s = map (stroke_note channel s) (keys_of (bit_or s.held s.passing))
+stroke_notes channel s = map (stroke_note channel s) (key_list (bit_or s.held s.passing))
 
 -- notes begin, and those of no length end at once
-abbrev pub begun : Note → List Message
-begun n = begins n ∷ (if nat_lt n.onset n.end then [] else ends n ∷ [])
+abbrev pub begun_messages : Note → List Message
+begun_messages n = begins n ∷ (if nat_lt n.onset n.end then [] else ends n ∷ [])
 
 -- those of some length end after that
 abbrev pub ended : Note → List Message
@@ -33,7 +33,7 @@ ended n = if nat_lt n.onset n.end then ends n ∷ [] else []
 
 -- the messages of notes that begin together, and end together where they have some length
 abbrev pub together : List Note → List Message
-together notes = flat_map begun notes ++ flat_map ended notes
+together notes = flat_map begun_messages notes ++ flat_map ended notes
 
 abbrev pub stroke_messages : ℕ → Stroke → List Message
 stroke_messages channel s = together (stroke_notes channel s)
@@ -45,8 +45,8 @@ abbrev pub grace_strokes : ℕ → List ℕ → List Stroke
 grace_strokes onset [] = []
 grace_strokes onset (keys ∷ graces) = record { onset = onset; end = onset + 1; held = keys; passing = 0 } ∷ grace_strokes (onset + 1) graces
 
-abbrev pub joined : List ℕ → ℕ
-joined graces = fold bit_or 0 graces
+abbrev pub joined_keys : List ℕ → ℕ
+joined_keys graces = fold bit_or 0 graces
 
 abbrev pub main_stroke : ℕ → Span → ℕ → Stroke
 main_stroke resolution x passing = record { onset = main_onset resolution x; end = main_end resolution x; held = x.keys; passing = passing }
@@ -55,7 +55,7 @@ abbrev pub event_strokes : ℕ → Span → List Stroke
 event_strokes resolution x =
     if nat_lt (length x.graces) (len_parts resolution x)
     then grace_strokes (start_parts resolution x) x.graces ++ main_stroke resolution x 0 ∷ []
-    else main_stroke resolution x (joined x.graces) ∷ []
+    else main_stroke resolution x (joined_keys x.graces) ∷ []
 
 -- ---- the tracks of voices
 

@@ -1,5 +1,5 @@
 ghost use Rattle.derivation.specs.Score.{IsScoreBar};
-ghost use Rattle.voice_events.specs.Parts.{bar_parts, score_parts};
+ghost use Rattle.voice_events.specs.Parts.{score_bar_parts, score_parts};
 ghost use Rattle.std.specs.Prelude.{◌≡◌, ◌≤◌, ◌*◌, ◌^◌, All, length};
 ghost use Rattle.rhythm_base.specs.declared.limits.TheConstants.{MOST_UNITS};
 
@@ -9,7 +9,7 @@ use derivation::ScoreBar;
 pub(crate) fn bar_ticks(bar: &ScoreBar, resolution: u16) -> u64
     requires bar { IsScoreBar bar.now }
     requires few_units { resolution ≤ MOST_UNITS }
-    ensures ticks { result ≡ bar_parts resolution bar.now }
+    ensures ticks { result ≡ score_bar_parts resolution bar.now }
     ensures few { result ≤ 4096 * MOST_UNITS }
 {
     u64::from(resolution) * (u64::from(bar.num) * (64 / u64::from(bar.den)))

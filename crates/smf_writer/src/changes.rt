@@ -1,7 +1,7 @@
 ghost use Rattle.derivation.specs.Score.{IsScoreBar};
 ghost use Rattle.rhythm_base.specs.declared.limits.TheConstants.{MOST_UNITS};
 ghost use Rattle.smf_writer.specs.Changes as definitions;
-ghost use Rattle.smf_writer.specs.Changes.{changes_at, key_before, key_change, signature_change, tempo_change};
+ghost use Rattle.smf_writer.specs.Changes.{changes_at, midi_key_before, key_event, signature_event, tempo_event};
 ghost use Rattle.voice_events.specs.Parts.{score_parts};
 ghost use Rattle.std.specs.Prelude.{◌≡◌, ◌++◌, ◌<◌, ◌≤◌, ◌^◌, All, IfOk, OnOk, length};
 
@@ -12,7 +12,7 @@ use std::alloc::{AllocError, Global};
 
 /// The tempo of a bar, where it differs.
 fn tempo_change(before: Option<ScoreBar>, bar: &ScoreBar) -> Option<What>
-    ensures { result ≡ tempo_change before bar.now }
+    ensures { result ≡ tempo_event before bar.now }
 {
     match before {
         Some(other) if other.tempo == bar.tempo => None,
@@ -22,7 +22,7 @@ fn tempo_change(before: Option<ScoreBar>, bar: &ScoreBar) -> Option<What>
 
 /// The signature of a bar, where it differs. A file writes it with the power of two that its beat is.
 fn signature_change(before: Option<ScoreBar>, bar: &ScoreBar) -> Option<What>
-    ensures { result ≡ signature_change before bar.now }
+    ensures { result ≡ signature_event before bar.now }
 {
     match before {
         Some(other) if other.num == bar.num && other.den == bar.den => None,
@@ -35,7 +35,7 @@ fn signature_change(before: Option<ScoreBar>, bar: &ScoreBar) -> Option<What>
 
 /// The key before.
 fn key_before(before: Option<ScoreBar>) -> Option<i8>
-    ensures { result ≡ key_before before }
+    ensures { result ≡ midi_key_before before }
 {
     match before {
         None => None,
@@ -45,7 +45,7 @@ fn key_before(before: Option<ScoreBar>) -> Option<i8>
 
 /// The key of a bar, where it has one and that differs.
 fn key_change(before: Option<i8>, key: Option<i8>) -> Option<What>
-    ensures { result ≡ key_change before key }
+    ensures { result ≡ key_event before key }
 {
     match (before, key) {
         (_, None) => None,

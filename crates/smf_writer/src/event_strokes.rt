@@ -1,8 +1,8 @@
-ghost use Rattle.rhythm_base.specs.Spans.{IsFrac};
+ghost use Rattle.durations.specs.Spans.{IsFrac};
 ghost use Rattle.smf_bytes.specs.declared.quantity.TheConstants.{GREATEST_QUANTITY};
 ghost use Rattle.smf_writer.specs.EventNotes.{main_end, main_onset};
-ghost use Rattle.smf_writer.specs.Strokes.{event_strokes, grace_strokes, joined, strokes_events};
-ghost use Rattle.voice_events.specs.Parts.{end_parts, len_parts, parts_of, start_parts};
+ghost use Rattle.smf_writer.specs.Strokes.{event_strokes, grace_strokes, joined_keys, strokes_events};
+ghost use Rattle.voice_events.specs.Parts.{end_parts, len_parts, frac_parts, start_parts};
 ghost use Rattle.voice_events.specs.VoiceEvents.{IsVoiceSpan};
 ghost use Rattle.std.specs.Prelude.{◌≡◌, ◌++◌, ◌+◌, ◌*◌, ◌≤◌, ◌-◌, ◌/◌, if◌then◌else◌, IfOk, OnOk, length};
 
@@ -14,15 +14,15 @@ use std::alloc::{AllocError, Global};
 /// A number of whole notes in ticks.
 fn ticks_of(fraction: Frac, resolution: u16) -> u64
     requires some { 1 ≤ fraction.den }
-    requires early { parts_of (64 * resolution) fraction ≤ GREATEST_QUANTITY }
-    ensures { result ≡ parts_of (64 * resolution) fraction }
+    requires early { frac_parts (64 * resolution) fraction ≤ GREATEST_QUANTITY }
+    ensures { result ≡ frac_parts (64 * resolution) fraction }
 {
     fraction.num * (64 * u64::from(resolution) / fraction.den)
 }
 
 /// The keys of all grace chords.
 fn joined(graces: &[Keys]) -> Keys
-    ensures { result ≡ joined graces.now }
+    ensures { result ≡ joined_keys graces.now }
 {
     let mut all = Keys::none();
     'graces: for keys in graces {

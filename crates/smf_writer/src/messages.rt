@@ -1,6 +1,6 @@
 ghost use Rattle.rhythm_base.specs.declared.event.What.TheVariants.{Off, On};
 ghost use Rattle.smf_writer.specs.NoteMessages.{event_of};
-ghost use Rattle.smf_writer.specs.Strokes.{begun, ended, stroke_messages};
+ghost use Rattle.smf_writer.specs.Strokes.{begun_messages, ended, stroke_messages};
 ghost use Rattle.std.specs.List.{flat_map};
 ghost use Rattle.std.specs.Prelude.{◌≡◌, ◌++◌, OnOk, map};
 
@@ -42,7 +42,7 @@ fn ending(note: &Note) -> Event
 
 /// Appends that notes begin; those of no length end at once.
 fn push_begun(events: &mut Vec<Event>, notes: &[Note]) -> Result<(), AllocError>
-    ensures { OnOk result (events.new.items ≡ events.old.items ++ map event_of (flat_map begun notes.now)) }
+    ensures { OnOk result (events.new.items ≡ events.old.items ++ map event_of (flat_map begun_messages notes.now)) }
 {
     'notes: for note in notes {
         events.push(beginning(note))?;

@@ -2,7 +2,7 @@ ghost use Rattle.smf_bytes.specs.Chunk.{track_chunk_bytes};
 ghost use Rattle.smf_bytes.specs.Message.{HasChannel};
 ghost use Rattle.smf_bytes.specs.Track.{content_bytes};
 ghost use Rattle.smf_bytes.specs.declared.quantity.TheConstants.{GREATEST_QUANTITY};
-ghost use Rattle.smf_writer.specs.RenderedFile.{AreChannels, HasFault, IsRendered};
+ghost use Rattle.smf_writer.specs.RenderedFile.{AreChannels, HasRenderFault, IsRendered};
 ghost use Rattle.smf_writer.specs.Strokes.{voices_from};
 ghost use Rattle.voice_events.specs.Parts.{score_parts};
 ghost use Rattle.voice_events.specs.VoiceEvents.{AreVoiceEvents};
@@ -78,7 +78,7 @@ pub fn render(
     requires channels { AreChannels channels.now }
     requires events { AreVoiceEvents resolution bars.now (length channels.now) events.now }
     ensures file { IfOk result (λ bytes. IsRendered resolution bars.now channels.now events.now bytes.items) }
-    ensures fault { IfErr result (HasFault resolution bars.now) }
+    ensures fault { IfErr result (HasRenderFault resolution bars.now) }
 {
     let last = last_barline(bars, resolution);
     if last > GREATEST_QUANTITY {

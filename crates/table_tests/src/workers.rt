@@ -4,6 +4,7 @@ ghost use Rattle.std.specs.Prelude.{◌≡◌, ◌≤◌, All, IfOk};
 use crate::bars::{bar_of, chords_of};
 use crate::grammars::{QUARTERS, read};
 use bar_pool::build_cells;
+use grammar_plan::Plan;
 use least_cost::{BarTable, Steps};
 use rhythm_base::{BarInput, Grammar, Tag};
 use rhythm_ports::{Gate, OpenGate};
@@ -73,6 +74,7 @@ impl Gate for Holding {
 fn a_worker_draws_what_a_held_one_leaves(rt: HostRuntime) -> Result<(), Fail> {
     let alloc = rt.alloc();
     let grammar = read(alloc, QUARTERS)?;
+    let plan = Plan::of(alloc, &grammar)?;
     let inputs = bars(alloc, &grammar, 4)?;
     for held in 0..3u64 {
         let gate = Holding::new(held);
@@ -81,6 +83,7 @@ fn a_worker_draws_what_a_held_one_leaves(rt: HostRuntime) -> Result<(), Fail> {
             &rt,
             alloc,
             &grammar,
+            &plan,
             inputs.as_slice(),
             2,
             &gate,
@@ -114,12 +117,14 @@ fn are_equal(one: &BarTable, other: &BarTable) -> bool {
 fn any_number_of_workers_gives_equal_tables(rt: HostRuntime) -> Result<(), Fail> {
     let alloc = rt.alloc();
     let grammar = read(alloc, QUARTERS)?;
+    let plan = Plan::of(alloc, &grammar)?;
     let inputs = bars(alloc, &grammar, 12)?;
     let mut builds = Steps::<ByWorkers>::zero();
     let alone = build_cells(
         &rt,
         alloc,
         &grammar,
+        &plan,
         inputs.as_slice(),
         1,
         &OpenGate,
@@ -131,6 +136,7 @@ fn any_number_of_workers_gives_equal_tables(rt: HostRuntime) -> Result<(), Fail>
             &rt,
             alloc,
             &grammar,
+            &plan,
             inputs.as_slice(),
             workers,
             &OpenGate,
@@ -150,12 +156,14 @@ fn any_number_of_workers_gives_equal_tables(rt: HostRuntime) -> Result<(), Fail>
 fn the_tables_differ(rt: HostRuntime) -> Result<(), Fail> {
     let alloc = rt.alloc();
     let grammar = read(alloc, QUARTERS)?;
+    let plan = Plan::of(alloc, &grammar)?;
     let inputs = bars(alloc, &grammar, 12)?;
     let mut builds = Steps::<ByWorkers>::zero();
     let tables = build_cells(
         &rt,
         alloc,
         &grammar,
+        &plan,
         inputs.as_slice(),
         16,
         &OpenGate,
@@ -171,8 +179,9 @@ fn the_tables_differ(rt: HostRuntime) -> Result<(), Fail> {
 fn no_cells_by_four_workers(rt: HostRuntime) -> Result<(), Fail> {
     let alloc = rt.alloc();
     let grammar = read(alloc, QUARTERS)?;
+    let plan = Plan::of(alloc, &grammar)?;
     let mut builds = Steps::<ByWorkers>::zero();
-    let tables = build_cells(&rt, alloc, &grammar, &[], 4, &OpenGate, &mut builds)?;
+    let tables = build_cells(&rt, alloc, &grammar, &plan, &[], 4, &OpenGate, &mut builds)?;
     assert!(rt; tables.is_empty() && builds.count() == 0);
     Ok(())
 }

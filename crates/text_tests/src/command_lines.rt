@@ -4,7 +4,7 @@ use std::alloc::{AllocError, Global};
 use std::test::Fail;
 
 /// Command lines, with `|` between two words, and what they say: the number of workers and the words of the command.
-const SAID: [(&str, &str); 53] = [
+const SAID: [(&str, &str); 57] = [
     // plain words
     (
         "transcribe|a.mid|b.grammar",
@@ -66,6 +66,9 @@ const SAID: [(&str, &str); 53] = [
     ("edit|-V", "version"),
     ("--version|--help", "help"),
     ("-V|edit|-h", "help"),
+    ("-Vh", "help"),
+    ("edit|-hV", "help"),
+    ("-VV|edit", "version"),
     ("--fast|--help", "help"),
     ("--workers|0|--help", "help"),
     ("--workers|--help", "refused"),
@@ -73,6 +76,7 @@ const SAID: [(&str, &str); 53] = [
     ("--workers|2|-V", "version"),
     ("help", "1: help"),
     ("-v", "refused"),
+    ("-hx", "refused"),
     ("--helping", "refused"),
 ];
 

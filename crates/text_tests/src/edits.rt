@@ -1,9 +1,9 @@
 ghost use Rattle.rhythm_base.specs.declared.limits.TheConstants.{LATEST_TICK};
 ghost use Rattle.std.specs.Prelude.{◌≡◌, ◌≤◌, ◌+◌};
 
-use edit_script::read_line;
+use edit_script::{Command, read_line};
 use performance_edit::{copied, edited};
-use rhythm_base::{Bar, Command, EditFault, LimitKind, Note, Performance};
+use rhythm_base::{Bar, EditFault, LimitKind, Note, Performance};
 use std::alloc::{AllocError, Global};
 use std::test::Fail;
 

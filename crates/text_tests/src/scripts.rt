@@ -1,5 +1,5 @@
-use edit_script::{Alt, LineFault, Refusal, Reply, read_line, write_reply};
-use rhythm_base::{Command, Edit, EditFault, LimitKind};
+use edit_script::{Alt, Command, LineFault, Refusal, Reply, read_line, write_reply};
+use rhythm_base::{Edit, EditFault, LimitKind};
 use rhythm_ports::MemSink;
 use std::alloc::{AllocError, Global};
 use std::test::Fail;

@@ -4,13 +4,13 @@ use Rattle.std.specs.Int.{◌∣◌}
 use Rattle.std.proofs.Math.Nat.{div-mul_cancel, dvd-mul_right, eq_of_mul-eq-mul_right}
 use Rattle.std.proofs.lemmas.Nat.Gcd.{dvd-zero}
 use Rattle.rhythm_base.specs.declared.span.Frac.{Frac}
-use Rattle.rhythm_base.specs.Spans.{IsFrac}
+use Rattle.durations.specs.Spans.{IsFrac}
 use Rattle.durations.proofs.LowestTerms.{divided}
 use Rattle.derivation.proofs.Fractions.{frac_of_lowest, frac_one}
 use Rattle.kern_reader.proofs.GridLemmas.{gcd_is}
 use Rattle.kern_reader.specs.Columns.{gcd}
 use Rattle.voice_events.specs.Laws.{PartsAreCounted}
-use Rattle.voice_events.specs.Parts.{IsWhole, parts_of}
+use Rattle.voice_events.specs.Parts.{IsWhole, frac_parts}
 
 -- n / d in lowest terms is n / g over d / g
 reduced : (n d : ℕ) (f : Frac) → 1 ≤ d → IsFrac n d f → d / gcd n d ≡ f.den
@@ -33,7 +33,7 @@ den_divides n zero f is = dvd-zero f.den
 den_divides n (suc d) f is = divides n (suc d) f (omega arith) is
 
 -- and it is n parts
-pub parts_counted : (n d : ℕ) (f : Frac) → IsFrac n d f → parts_of d f ≡ n
+pub parts_counted : (n d : ℕ) (f : Frac) → IsFrac n d f → frac_parts d f ≡ n
 parts_counted n d f is =
     let whole : d / f.den * f.den ≡ d = div-mul_cancel f.den (den_divides n d f is) in
     eq_of_mul-eq-mul_right f.den is.some (f.num * (d / f.den)) n (turned f.num (d / f.den) f.den ∙ ap (λ x. f.num * x) whole ∙ is.value)

@@ -8,7 +8,7 @@ use Rattle.std.proofs.lemmas.List.Sums.{sum_by-le}
 use Rattle.rhythm_base.specs.declared.span.Span.{Span}
 use Rattle.derivation.specs.declared.score.ScoreBar.{ScoreBar}
 use Rattle.derivation.specs.Score.{IsScoreBar}
-use Rattle.voice_events.specs.Parts.{bar_parts, end_parts, score_parts}
+use Rattle.voice_events.specs.Parts.{score_bar_parts, end_parts, score_parts}
 use Rattle.voice_events.specs.VoiceEvents.{FollowFrom}
 
 -- what follows from a place on does not begin before it
@@ -26,7 +26,7 @@ ends_within resolution end from (x ∷ spans) (first, follow) =
     (ends_within resolution end (end_parts resolution x) spans follow)
 
 -- a bar has at most 64 * 64 parts for each unit
-pub bar_few : (resolution : ℕ) (bar : ScoreBar) → resolution ≤ MOST_UNITS → IsScoreBar bar → bar_parts resolution bar ≤ 3932160
+pub bar_few : (resolution : ℕ) (bar : ScoreBar) → resolution ≤ MOST_UNITS → IsScoreBar bar → score_bar_parts resolution bar ≤ 3932160
 bar_few resolution bar units is =
     let unit : bar.num * (64 / bar.den) ≤ 4096 = mul-le-mul {n₁ = bar.num} {m₁ = 64 / bar.den} {n₂ = 64} {m₂ = 64} is.signature.few
     (div-le_self 64 bar.den) in
@@ -35,5 +35,5 @@ bar_few resolution bar units is =
 pub score_few : (resolution : ℕ) (bars : List ScoreBar) → resolution ≤ MOST_UNITS → All IsScoreBar bars
     → score_parts resolution bars ≤ length bars * 3932160
 score_few resolution bars units are =
-    sum_by-le (bar_parts resolution) 3932160 bars (All-weaker IsScoreBar (λ bar. bar_parts resolution bar ≤ 3932160)
+    sum_by-le (score_bar_parts resolution) 3932160 bars (All-weaker IsScoreBar (λ bar. score_bar_parts resolution bar ≤ 3932160)
     (λ bar is. bar_few resolution bar units is) bars are)

@@ -2,16 +2,16 @@
 use Rattle.std.specs.Prelude.{ℕ, ◌+◌, ◌*◌, ◌/◌, List, sum_by, take}
 use Rattle.rhythm_base.specs.declared.span.Frac.{Frac}
 use Rattle.rhythm_base.specs.declared.span.Span.{Span}
-use Rattle.rhythm_base.specs.Spans.{IsFrac}
+use Rattle.durations.specs.Spans.{IsFrac}
 use Rattle.derivation.specs.declared.score.ScoreBar.{ScoreBar}
 
 -- ---- bars
 
-abbrev pub bar_parts : ℕ → ScoreBar → ℕ
-bar_parts resolution bar = resolution * (bar.num * (64 / bar.den))
+abbrev pub score_bar_parts : ℕ → ScoreBar → ℕ
+score_bar_parts resolution bar = resolution * (bar.num * (64 / bar.den))
 
 abbrev pub score_parts : ℕ → List ScoreBar → ℕ
-score_parts resolution bars = sum_by (bar_parts resolution) bars
+score_parts resolution bars = sum_by (score_bar_parts resolution) bars
 
 -- where bar n begins, counted from 0, and with the number of bars the last barline
 abbrev pub barline_parts : ℕ → List ScoreBar → ℕ → ℕ
@@ -20,18 +20,18 @@ barline_parts resolution bars n = score_parts resolution (take n bars)
 -- ---- spans
 
 -- how many parts of 1/d a number of whole notes is, where it is a whole number of them
-abbrev pub parts_of : ℕ → Frac → ℕ
-parts_of d f = f.num * (d / f.den)
+abbrev pub frac_parts : ℕ → Frac → ℕ
+frac_parts d f = f.num * (d / f.den)
 
 -- it is a whole number of them, in lowest terms
 abbrev pub IsWhole : ℕ → Frac → Type 0
-IsWhole d f = IsFrac (parts_of d f) d f
+IsWhole d f = IsFrac (frac_parts d f) d f
 
 abbrev pub start_parts : ℕ → Span → ℕ
-start_parts resolution x = parts_of (64 * resolution) x.start
+start_parts resolution x = frac_parts (64 * resolution) x.start
 
 abbrev pub len_parts : ℕ → Span → ℕ
-len_parts resolution x = parts_of (64 * resolution) x.len
+len_parts resolution x = frac_parts (64 * resolution) x.len
 
 abbrev pub end_parts : ℕ → Span → ℕ
 end_parts resolution x = start_parts resolution x + len_parts resolution x

@@ -5,7 +5,7 @@ use Rattle.rhythm_base.specs.declared.span.Span.{Span}
 use Rattle.derivation.specs.declared.score.ScoreBar.{ScoreBar}
 use Rattle.derivation.specs.WellSounded.{AreKeys}
 use Rattle.kern_reader.specs.declared.event.KernEvent.{KernEvent}
-use Rattle.kern_reader.specs.Events.{event}
+use Rattle.kern_reader.specs.Events.{span_event}
 use Rattle.voice_events.specs.Parts.{IsWhole, end_parts, len_parts, score_parts, start_parts}
 
 -- a span of whole parts, one at least, has some keys and at most three grace chords, each of some keys
@@ -32,7 +32,7 @@ abbrev pub AreVoiceEventsFrom : ℕ → ℕ → ℕ → ℕ → List KernEvent �
 AreVoiceEventsFrom resolution end spine zero events = events ≡ []
 AreVoiceEventsFrom resolution end spine (suc voices) events =
     (spans : List Span) × (others : List KernEvent) × AreOfVoice resolution end spans
-    × AreVoiceEventsFrom resolution end (suc spine) voices others × (events ≡ map (event spine) spans ++ others)
+    × AreVoiceEventsFrom resolution end (suc spine) voices others × (events ≡ map (span_event spine) spans ++ others)
 
 -- spines are numbered from 1
 abbrev pub AreVoiceEvents : ℕ → List ScoreBar → ℕ → List KernEvent → Type 0

@@ -10,7 +10,7 @@ use Rattle.std.specs.Ordering.{nat_cmp}
 use Rattle.std.specs.declared.cmp.Ordering.TheVariants.{Less}
 use Rattle.std.specs.Cmp.Lexicographic.{slice_cmp}
 use Rattle.rhythm_base.specs.Performance.{place_of_note}
-use Rattle.rhythm_laws.proofs.ChordLemmas.{time_rises}
+use Rattle.performance_laws.proofs.ChordLemmas.{time_rises}
 use Rattle.voices.specs.Voice.{AreNotesOfVoice}
 use Rattle.rhythm_base.specs.declared.chord.Chord.{Chord}
 use Rattle.rhythm_base.specs.declared.event.Tempo.{Tempo}

@@ -1,7 +1,7 @@
 use Rattle.std.proofs.Common.{rules, ◌≡◌, ◌/◌, ◌%◌, ◌<◌, subst, sym, arith}
 use Rattle.std.specs.Prelude.{None}
 use Rattle.std.proofs.lemmas.List.{get_or_default}
-use Rattle.best_trees.specs.Firsts.{AreAddable, AreKept}
+use Rattle.best_trees.specs.Firsts.{AreAddable, AreKeptKeys}
 use Rattle.bar_alternatives.proofs.WholeBars.{totals-all, totals-kept, totals-next}
 use Rattle.bar_alternatives.proofs.totals.best_totals.Goals as goal
 
@@ -10,7 +10,7 @@ pairs-preserved c =
     let n = c.pairs.pair in
     let low : n < 25 = c.pairs-test.true in
     record {
-      kept = subst (AreKept c.args.count) (sym c.in_ok-offer_totals.ensures) (totals-kept c.args.count _ _ c.at.result.now c.pairs.best c.pairs.invariant.kept);
+      kept = subst (AreKeptKeys c.args.count) (sym c.in_ok-offer_totals.ensures) (totals-kept c.args.count _ _ c.at.result.now c.pairs.best c.pairs.invariant.kept);
       so_far = totals-next c.args.count c.args.before.now c.args.after.now c.args.grid.now n _ _ c.at.result.now c.pairs.best c.offer_totals.new.best
           (get_or_default c.args.before.now (n / 5) _ None (let long = c.told-before in omega (arith, low, long)))
           (get_or_default c.args.after.now (n % 5) _ None (let long = c.told-after in omega (arith, low, long)))

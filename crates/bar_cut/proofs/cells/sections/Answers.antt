@@ -4,7 +4,7 @@ use Rattle.rhythm_base.specs.declared.note.Bar.{Bar}
 use Rattle.rhythm_base.specs.Lists.{last_end}
 use Rattle.rhythm_base.specs.Barlines.{barline}
 use Rattle.rhythm_base.specs.Grammar.{root_of}
-use Rattle.rhythm_laws.proofs.EditedBars.{barline_is}
+use Rattle.performance_laws.proofs.EditedBars.{barline_is}
 use Rattle.bar_cut.specs.Cuts.{AreInside, Rises, inputs}
 use Rattle.bar_cut.proofs.Passes.{all_from_start, end_before, is_from}
 use Rattle.bar_cut.proofs.Turns as turn

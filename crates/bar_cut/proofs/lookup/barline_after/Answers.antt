@@ -1,5 +1,5 @@
 use Rattle.std.proofs.Common.{arith, sym, ◌+◌}
-use Rattle.rhythm_laws.proofs.EditedBars.{barline_last}
+use Rattle.performance_laws.proofs.EditedBars.{barline_last}
 use Rattle.bar_cut.proofs.Barlines.{starts_at}
 use Rattle.bar_cut.proofs.lookup.barline_after.Goals as goal
 

@@ -1,6 +1,6 @@
 use Rattle.std.proofs.Common.{◌≡◌, ap, Ok, subst}
 use Rattle.kern_writer.specs.PerformanceText.{HasTooLongText}
-use Rattle.rhythm_base.specs.Edits.{edited}
+use Rattle.edit_laws.specs.Edits.{edited}
 use Rattle.rhythm_base.specs.Grammar.{Grammar}
 use Rattle.rhythm_base.specs.declared.edit.Edit.TheVariants.{Barline}
 use Rattle.barline_fit.proofs.Settable.{set_in_range}

@@ -1,8 +1,8 @@
-use Rattle.std.proofs.Common.{◌≡◌, ◌++◌, ◌∷◌, [], List, Result, Ok, Err, sym}
+use Rattle.std.proofs.Common.{◌≡◌, ◌++◌, ◌∷◌, [], List, Result, Ok, Err, refl, sym, ◌∙◌}
 use Rattle.std.specs.Prelude.{IfOk}
 use Rattle.rhythm_base.specs.BarInput.{BarInput}
 use Rattle.rhythm_base.specs.Cells.{input}
-use Rattle.rhythm_base.specs.Edits.{with_start}
+use Rattle.edit_laws.specs.Edits.{with_start}
 use Rattle.rhythm_base.specs.Leaves.{soundings}
 use Rattle.rhythm_base.specs.Voices.{voice_bar}
 use Rattle.barline_follow.proofs.cells.cell_input.Goals as goal
@@ -24,4 +24,10 @@ pub returns-then-bar-eq0 : goal.returns-then-bar-eq0
 returns-then-bar-eq0 c = if_ok _ _ _ (λ k h. one_is (input c.args.grammar.now (voice_bar c.args.grammar.now [] 0 0 c.args.bar c.args.end) (soundings c.args.voice.now)) k h.0 h.1) c.last_input.ensures
 
 pub returns-else-bar-eq0 : goal.returns-else-bar-eq0
-returns-else-bar-eq0 c = if_ok _ _ _ (λ k h. second_is (input c.args.grammar.now (voice_bar c.args.grammar.now [] 0 0 (with_start 0 c.args.bar) c.args.bar.start) (soundings c.args.voice.now)) (input c.args.grammar.now (voice_bar c.args.grammar.now [] 0 0 c.args.bar c.args.end) (soundings c.args.voice.now)) k h.0 h.1) c.last_input-else-bar-eq0.ensures
+returns-else-bar-eq0 c =
+    let g = c.args.grammar.now in
+    let near = c.chords_near-near.result.now in
+    let own = voice_bar g [] 0 0 c.args.bar c.args.end in
+    if_ok _ _ _
+    (λ k h. second_is (input g (voice_bar g [] 0 0 (with_start 0 c.args.bar) c.args.bar.start) (soundings near)) (input g own (soundings near)) k h.0 h.1
+    ∙ c.chords_near-near.ensures.near g own refl) c.last_input-else-bar-eq0.ensures

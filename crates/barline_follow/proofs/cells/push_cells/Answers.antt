@@ -1,7 +1,7 @@
 use Rattle.std.proofs.Common.{◌+◌, ◌++◌, List, map, ap, sym, ◌∙◌}
 use Rattle.std.proofs.lemmas.List.{append-nil, take_all}
 use Rattle.rhythm_base.specs.declared.chord.Chord.{Chord}
-use Rattle.barline_follow.specs.Tracks.{cell}
+use Rattle.barline_follow.specs.Courses.{cell}
 use Rattle.barline_follow.proofs.NextBarLemmas.{like_signature}
 use Rattle.barline_follow.proofs.Searching.{grown_one}
 use Rattle.barline_follow.proofs.cells.push_cells.Goals as goal

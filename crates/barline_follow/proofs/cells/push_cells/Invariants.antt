@@ -1,5 +1,5 @@
 use Rattle.std.proofs.Common.{◌≡◌, ◌++◌, map, take}
-use Rattle.barline_follow.specs.Tracks.{cell}
+use Rattle.barline_follow.specs.Courses.{cell}
 use Rattle.barline_follow.proofs.cells.push_cells.Given as goal
 
 abbrev pub invariant-voices : goal.invariant-voices

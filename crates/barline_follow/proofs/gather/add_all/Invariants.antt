@@ -4,17 +4,17 @@ use Rattle.std.specs.List.{flat_map}
 use Rattle.bar_pool.specs.Pool.{AreTablesOf}
 use Rattle.rhythm_base.specs.BarInput.{BarInput}
 use Rattle.rhythm_base.specs.Lists.{Each}
-use Rattle.barline_follow.specs.Barring.{Barring, Track, end_of}
+use Rattle.barline_follow.specs.Barring.{Barring, Course, barring_end}
 use Rattle.barline_follow.specs.Gathered.{IsGathered}
-use Rattle.barline_follow.specs.NextBars.{IsTrackOf, cells}
+use Rattle.barline_follow.specs.NextBars.{IsCourseOf, cells}
 use Rattle.barline_follow.specs.Rounds.{Found, IsFound, with_bar}
 use Rattle.barline_follow.proofs.gather.add_all.Given as goal
 
 abbrev pub invariant-offers : goal.invariant-offers
 invariant-offers l =
-    ((rest : List BarInput) → AreTablesOf l.next.grammar.now (flat_map (cells l.next (end_of l.track.barring)) l.tried ++ rest) l.tables
-    → AreTablesOf l.next.grammar.now (flat_map (cells l.next (end_of l.track.barring)) (drop l.offer-index l.tried) ++ rest) l.left)
-    × ((best : Option Barring) (found : List Found) (tracks : List Track) → IsGathered best found tracks l.initial.round
-    → (more : List Found) × (others : List Track)
-    × Each (IsFound l.next.grammar.now l.next.performance.now) (map (with_bar l.track.barring) (take l.offer-index l.tried)) more
-    × All (IsTrackOf l.next (l.next.number + 1)) others × IsGathered best (found ++ more) (tracks ++ others) l.round)
+    ((rest : List BarInput) → AreTablesOf l.next.grammar.now (flat_map (cells l.next (barring_end l.course.barring)) l.tried ++ rest) l.tables
+    → AreTablesOf l.next.grammar.now (flat_map (cells l.next (barring_end l.course.barring)) (drop l.offer-index l.tried) ++ rest) l.left)
+    × ((best : Option Barring) (found : List Found) (courses : List Course) → IsGathered best found courses l.initial.round
+    → (more : List Found) × (others : List Course)
+    × Each (IsFound l.next.grammar.now l.next.performance.now) (map (with_bar l.course.barring) (take l.offer-index l.tried)) more
+    × All (IsCourseOf l.next (l.next.number + 1)) others × IsGathered best (found ++ more) (courses ++ others) l.round)

@@ -1,7 +1,7 @@
 use Rattle.std.proofs.Common.{◌≡◌, ℕ, take}
 use Rattle.std.specs.Prelude.{nat_le, not}
 use Rattle.std.specs.List.{list_any}
-use Rattle.rhythm_base.specs.Edits.{is_past}
+use Rattle.edit_laws.specs.Edits.{is_past}
 use Rattle.barline_follow.proofs.next_bar.closing_tick.Given as goal
 
 abbrev pub invariant-notes : goal.invariant-notes

@@ -4,7 +4,7 @@ use Rattle.std.specs.List.{flat_map, range_with_len}
 use Rattle.barline_follow.specs.Bars.{bar_step, whole_bar}
 use Rattle.barline_follow.specs.declared.offers.Offer.{Offer}
 use Rattle.barline_follow.specs.Least.{AreFirstLeast}
-use Rattle.barline_follow.specs.Offers.{in_tempo, is_offered, onset_weight, proposals, proposed, reach}
+use Rattle.barline_follow.specs.Offers.{in_tempo, is_offered, onset_weight, proposals, proposed, most_steps}
 use Rattle.barline_follow.proofs.Offered.{rows_more}
 use Rattle.barline_follow.proofs.offers.offers.Goals as goal
 
@@ -30,8 +30,8 @@ returns c =
     let whole_is : c.whole_bar-whole.result ≡ whole_bar c.args.performance.now c.args.number = c.whole_bar-whole.ensures.value in
     let tempo_is : c.in_tempo-tempo.result ≡ in_tempo c.args.performance.now c.args.number c.args.before = c.in_tempo-tempo.ensures.value in
     let step_is : c.bar_step-step.result ≡ bar_step c.args.performance.now c.args.number = c.bar_step-step.ensures.value in
-    let reach_is : c.reach-steps-end.result ≡ reach c.args.number = c.reach-steps-end.ensures.value in
-    let steps_are : c.steps.steps ≡ reach c.args.number + 1 = omega (arith, reach_is, c.steps-test.false, c.steps.auto.steps-end) in
+    let reach_is : c.reach-steps-end.result ≡ most_steps c.args.number = c.reach-steps-end.ensures.value in
+    let steps_are : c.steps.steps ≡ most_steps c.args.number + 1 = omega (arith, reach_is, c.steps-test.false, c.steps.auto.steps-end) in
     let all : rows c.from-weight.result c.whole_bar-whole.result c.in_tempo-tempo.result c.bar_step-step.result c.steps.steps
     ≡ proposals c.args.grammar.now c.args.performance.now c.args.number c.args.before =
     λ i. rows (weight_is i) (whole_is i) (tempo_is i) (step_is i) (steps_are i) in

@@ -1,5 +1,5 @@
 use Rattle.std.proofs.Common.{◌≡◌, replicate}
-use Rattle.barline_follow.specs.Tracks.{first_heads}
+use Rattle.barline_follow.specs.Courses.{first_heads}
 use Rattle.barline_follow.proofs.search.first_front.Given as goal
 
 abbrev pub invariant-voices : goal.invariant-voices

@@ -7,4 +7,4 @@ abbrev pub invariant-barlines : goal.invariant-barlines
 invariant-barlines l =
     l.script.items
     ≡ l.initial.script.items
-    ++ map steps.line_of (reverse (filter steps.is_later (steps.shifts l.number (drop l.number l.ticks) (drop l.number l.aims))))
+    ++ map steps.shift_line (reverse (filter steps.is_later (steps.shifts l.number (drop l.number l.ticks) (drop l.number l.aims))))

@@ -2,8 +2,8 @@ use Rattle.std.proofs.Common.{◌≡◌, ◌+◌, ◌++◌, ◌∷◌, [], List,
 use Rattle.std.proofs.lemmas.List.{map-append}
 use Rattle.rhythm_base.specs.Lists.{Each}
 use Rattle.barline_follow.specs.declared.offers.Offer.{Offer}
-use Rattle.barline_follow.specs.Barring.{Track}
-use Rattle.barline_follow.specs.NextBars.{AreTried}
+use Rattle.barline_follow.specs.Barring.{Course}
+use Rattle.barline_follow.specs.NextBars.{AreTriedOffers}
 use Rattle.barline_follow.proofs.Searching.{each_more}
 use Rattle.barline_follow.proofs.tried.front_tried.Goals as goal
 
@@ -13,10 +13,10 @@ items_of own = own.items
 pub lists-preserved : goal.lists-preserved
 lists-preserved c =
     let next = c.args.next.now in
-    let front : List Track = c.args.front.now in
+    let front : List Course = c.args.front.now in
     let own : Vec Offer Global = c.in_ok-tried_of.field-0 in
     let all_more : map items_of c.push.new.self.items ≡ map items_of c.lists.all.items ++ (own.items ∷ []) =
     ap (map items_of) c.in_ok-push.ensures.items ∙ map-append items_of c.lists.all.items (own ∷ []) in
-    let one = subst (λ (t : Track). AreTried next t own.items) c.track-item.is c.in_ok-tried_of.ensures in
-    subst (λ (l : List (List Offer)). Each (AreTried next) (take (c.lists.track-index + 1) front) l) (sym all_more)
-    (each_more (AreTried next) front (map items_of c.lists.all.items) c.lists.track-index c.track-item.result own.items c.lists-test.true c.lists.invariant one)
+    let one = subst (λ (t : Course). AreTriedOffers next t own.items) c.course-item.is c.in_ok-tried_of.ensures in
+    subst (λ (l : List (List Offer)). Each (AreTriedOffers next) (take (c.lists.course-index + 1) front) l) (sym all_more)
+    (each_more (AreTriedOffers next) front (map items_of c.lists.all.items) c.lists.course-index c.course-item.result own.items c.lists-test.true c.lists.invariant one)

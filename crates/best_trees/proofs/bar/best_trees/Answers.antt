@@ -2,7 +2,7 @@ use Rattle.std.proofs.Common.{◌≡◌, ◌<◌, ◌≤◌, arith, [], ◌∷�
 use Rattle.std.specs.Prelude.{Option, Some, None, option_map}
 use Rattle.std.proofs.lemmas.Result.{IfOk-weaker}
 use Rattle.rhythm_base.specs.Shape.{Shape}
-use Rattle.rhythm_laws.specs.Forests.{first_shape, one_shape}
+use Rattle.tree_laws.specs.Forests.{first_shape, one_shape}
 use Rattle.row_laws.specs.Grounds.{ground_of}
 use Rattle.best_trees.specs.Pins.{least_leaves}
 use Rattle.best_trees.specs.declared.memo.Asked.{Asked}

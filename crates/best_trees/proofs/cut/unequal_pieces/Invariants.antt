@@ -1,6 +1,6 @@
 use Rattle.std.proofs.Common.{◌≡◌, ◌*◌, map, take}
-use Rattle.best_trees.specs.Pieces.{pair_of}
+use Rattle.best_trees.specs.Pieces.{piece_pair}
 use Rattle.best_trees.proofs.cut.unequal_pieces.Given as goal
 
 abbrev pub invariant-loop-part : goal.invariant-loop-part
-invariant-loop-part l = map pair_of l.pieces.items ≡ map (λ q. (q.0 * l.share, q.1)) (take l.part-index l.parts)
+invariant-loop-part l = map piece_pair l.pieces.items ≡ map (λ q. (q.0 * l.share, q.1)) (take l.part-index l.parts)

@@ -6,16 +6,16 @@ use Rattle.std.proofs.lemmas.Result.{on_ok_weaker}
 use Rattle.rhythm_base.specs.Bodies.{children, sizes}
 use Rattle.rhythm_base.specs.Trees.{suits}
 use Rattle.rhythm_base.specs.declared.rule.Rule.{Rule}
-use Rattle.rhythm_laws.specs.Forests.{one_shape}
-use Rattle.rhythm_laws.specs.Shares.{AreBelow}
-use Rattle.rhythm_laws.proofs.Shares.{below-wide}
+use Rattle.tree_laws.specs.Forests.{one_shape}
+use Rattle.tree_laws.specs.Shares.{AreBelow}
+use Rattle.tree_laws.proofs.Shares.{below-wide}
 use Rattle.row_laws.specs.Grounds.{ground_of}
 use Rattle.row_laws.proofs.Grounds.{grounded}
 use Rattle.best_trees.specs.declared.cut.Piece.{Piece}
 use Rattle.best_trees.specs.declared.memo.Asked.{Asked}
-use Rattle.best_trees.specs.Grids.{HasLists, joined, ranking_at}
-use Rattle.best_trees.specs.Nodes.{AreBestForests, IsAnswer, rule_ending}
-use Rattle.best_trees.specs.Pieces.{pair_of}
+use Rattle.best_trees.specs.Grids.{HasLists, joined_row, ranking_at}
+use Rattle.best_trees.specs.Nodes.{AreBestForests, AreDemanded, rule_ending}
+use Rattle.best_trees.specs.Pieces.{piece_pair}
 use Rattle.best_trees.specs.Firsts.{offered}
 use Rattle.best_trees.specs.Pins.{NoneFit, demanded}
 use Rattle.best_trees.specs.Suited.{AreSuiting}
@@ -51,7 +51,7 @@ beside-returns-in_default-clause-best t c =
     let s = demanded c.args.bar.now.pins.now c.args.demand in
     let n = c.args.bar.now.count in
     let bare : c.args.pieces.now ≡ [] = nil_from_length c.args.pieces.now (let low = c.in_default.len_below in omega (arith, low)) in
-    subst (λ l. AreBestForests (ground_of g k) s n c.args.place (map pair_of l) c.if-allows_none.result) (sym bare) (elim c.if-allows_none.branch [
+    subst (λ l. AreBestForests (ground_of g k) s n c.args.place (map piece_pair l) c.if-allows_none.result) (sym bare) (elim c.if-allows_none.branch [
       | beside-then-allows_none+in_ok-nothing w ↦
           forests-nothing (ground_of g k) s n c.args.place c.if-allows_none.result (c.allows_none.ensures.0 (is_true w.if-allows_none.true))
           (subst (HasLists (λ a b. if a == b then offered n (0, []) [] else [])) (sym w.result-is) w.in_ok-nothing.ensures)
@@ -76,8 +76,8 @@ beside-returns-then-allows_none-2-clause-best t c =
     let a = c.in_ok-number.ensures.answer in (
       a.0,
       a.1,
-      subst (λ l. AreBestForests (ground_of g k) s n c.args.place (map pair_of l) a.0.grid) (sym one)
-          (beside-one g k c.requires.search.ready s n c.args.place (pair_of x) (demanded os c.in-Some.first) (demanded os c.in-Some.others) c.in-Some.ensures.0 c.in-Some.ensures.1 (c.allows_none-then-is_empty.ensures.0 (is_true c.if-allows_none-2.true)) a.0.grid a.2),
+      subst (λ l. AreBestForests (ground_of g k) s n c.args.place (map piece_pair l) a.0.grid) (sym one)
+          (beside-one g k c.requires.search.ready s n c.args.place (piece_pair x) (demanded os c.in-Some.first) (demanded os c.in-Some.others) c.in-Some.ensures.0 c.in-Some.ensures.1 (c.allows_none-then-is_empty.ensures.0 (is_true c.if-allows_none-2.true)) a.0.grid a.2),
     )
 
 pub beside-grid-requires : goal.beside-grid-requires
@@ -94,8 +94,8 @@ beside-grid_of-requires t c =
     let x = get_or c.args.pieces.now 0 no_piece in
     let rest = take (length c.args.pieces.now - 1) (drop 1 c.args.pieces.now) in
     let next = c.args.place + x.width in
-    last-there d s n next (map pair_of rest) c.search-2.new.memo.found.items c.in_ok-last.last
-    (last-kept d s n next (map pair_of rest) c.beside.new.memo.found.items c.search-2.new.memo.found.items c.in_ok-last.last c.in_ok-number-2.ensures.more c.in_ok-last.ensures.best)
+    last-there d s n next (map piece_pair rest) c.search-2.new.memo.found.items c.in_ok-last.last
+    (last-kept d s n next (map piece_pair rest) c.beside.new.memo.found.items c.search-2.new.memo.found.items c.in_ok-last.last c.in_ok-number-2.ensures.more c.in_ok-last.ensures.best)
 
 pub beside-join-requires-clause-left : goal.beside-join-requires-clause-left
 beside-join-requires-clause-left t c =
@@ -107,11 +107,11 @@ beside-join-requires-clause-left t c =
     let x = get_or xs 0 no_piece in
     let rest = take (length xs - 1) (drop 1 xs) in
     let e = pieces-split xs no_piece c.in-len1-up.len_at_least in
-    let below : AreBelow c.args.below (map pair_of (x ∷ rest)) = subst (λ l. AreBelow c.args.below (map pair_of l)) e c.requires.below in
-    let within : c.args.place + sizes (map pair_of (x ∷ rest)) ≤ k.resolution = subst (λ l. c.args.place + sizes (map pair_of l) ≤ k.resolution) e c.requires.within in
+    let below : AreBelow c.args.below (map piece_pair (x ∷ rest)) = subst (λ l. AreBelow c.args.below (map piece_pair l)) e c.requires.below in
+    let within : c.args.place + sizes (map piece_pair (x ∷ rest)) ≤ k.resolution = subst (λ l. c.args.place + sizes (map piece_pair l) ≤ k.resolution) e c.requires.within in
     let asked : Asked = record { place = c.args.place; width = x.width; symbol = x.symbol; demand = c.in-Some.first } in
     let own = answered g k os n c.search-2.new.memo.found.items asked c.in_ok-number-2.number c.grid.result.now c.in_ok-number-2.ensures.answer c.grid.ensures in
-    beside-addable g k c.requires.search.ready (one_shape (demanded os c.in-Some.first)) n c.args.place c.args.below (pair_of x ∷ []) c.grid.result.now (below.0, below.1, tt) (omega (arith, within)) own
+    beside-addable g k c.requires.search.ready (one_shape (demanded os c.in-Some.first)) n c.args.place c.args.below (piece_pair x ∷ []) c.grid.result.now (below.0, below.1, tt) (omega (arith, within)) own
 
 pub beside-join-requires-clause-right : goal.beside-join-requires-clause-right
 beside-join-requires-clause-right t c =
@@ -123,14 +123,14 @@ beside-join-requires-clause-right t c =
     let x = get_or xs 0 no_piece in
     let rest = take (length xs - 1) (drop 1 xs) in
     let e = pieces-split xs no_piece c.in-len1-up.len_at_least in
-    let below : AreBelow c.args.below (map pair_of (x ∷ rest)) = subst (λ l. AreBelow c.args.below (map pair_of l)) e c.requires.below in
-    let within : c.args.place + sizes (map pair_of (x ∷ rest)) ≤ k.resolution = subst (λ l. c.args.place + sizes (map pair_of l) ≤ k.resolution) e c.requires.within in
+    let below : AreBelow c.args.below (map piece_pair (x ∷ rest)) = subst (λ l. AreBelow c.args.below (map piece_pair l)) e c.requires.below in
+    let within : c.args.place + sizes (map piece_pair (x ∷ rest)) ≤ k.resolution = subst (λ l. c.args.place + sizes (map piece_pair l) ≤ k.resolution) e c.requires.within in
     let next = c.args.place + x.width in
     let d = ground_of g k in
     let s = demanded os c.in-Some.others in
-    let others = last-grid d s n next (map pair_of rest) c.search-2.new.memo.found.items c.in_ok-last.last c.grid_of.result.now
-    (last-kept d s n next (map pair_of rest) c.beside.new.memo.found.items c.search-2.new.memo.found.items c.in_ok-last.last c.in_ok-number-2.ensures.more c.in_ok-last.ensures.best) c.grid_of.ensures in
-    beside-addable g k c.requires.search.ready s n next c.args.below (map pair_of rest) c.grid_of.result.now below.2 (omega (arith, within)) others
+    let others = last-grid d s n next (map piece_pair rest) c.search-2.new.memo.found.items c.in_ok-last.last c.grid_of.result.now
+    (last-kept d s n next (map piece_pair rest) c.beside.new.memo.found.items c.search-2.new.memo.found.items c.in_ok-last.last c.in_ok-number-2.ensures.more c.in_ok-last.ensures.best) c.grid_of.ensures in
+    beside-addable g k c.requires.search.ready s n next c.args.below (map piece_pair rest) c.grid_of.result.now below.2 (omega (arith, within)) others
 
 pub beside-returns-clause-best : goal.beside-returns-clause-best
 beside-returns-clause-best t c =
@@ -142,18 +142,18 @@ beside-returns-clause-best t c =
     let x = get_or xs 0 no_piece in
     let rest = take (length xs - 1) (drop 1 xs) in
     let e = pieces-split xs no_piece c.in-len1-up.len_at_least in
-    let below : AreBelow c.args.below (map pair_of (x ∷ rest)) = subst (λ l. AreBelow c.args.below (map pair_of l)) e c.requires.below in
-    let within : c.args.place + sizes (map pair_of (x ∷ rest)) ≤ k.resolution = subst (λ l. c.args.place + sizes (map pair_of l) ≤ k.resolution) e c.requires.within in
+    let below : AreBelow c.args.below (map piece_pair (x ∷ rest)) = subst (λ l. AreBelow c.args.below (map piece_pair l)) e c.requires.below in
+    let within : c.args.place + sizes (map piece_pair (x ∷ rest)) ≤ k.resolution = subst (λ l. c.args.place + sizes (map piece_pair l) ≤ k.resolution) e c.requires.within in
     let asked : Asked = record { place = c.args.place; width = x.width; symbol = x.symbol; demand = c.in-Some.first } in
     let own = answered g k os n c.search-2.new.memo.found.items asked c.in_ok-number-2.number c.grid.result.now c.in_ok-number-2.ensures.answer c.grid.ensures in
     let next = c.args.place + x.width in
     let d = ground_of g k in
     let s = demanded os c.in-Some.others in
-    let others = last-grid d s n next (map pair_of rest) c.search-2.new.memo.found.items c.in_ok-last.last c.grid_of.result.now
-    (last-kept d s n next (map pair_of rest) c.beside.new.memo.found.items c.search-2.new.memo.found.items c.in_ok-last.last c.in_ok-number-2.ensures.more c.in_ok-last.ensures.best) c.grid_of.ensures in
+    let others = last-grid d s n next (map piece_pair rest) c.search-2.new.memo.found.items c.in_ok-last.last c.grid_of.result.now
+    (last-kept d s n next (map piece_pair rest) c.beside.new.memo.found.items c.search-2.new.memo.found.items c.in_ok-last.last c.in_ok-number-2.ensures.more c.in_ok-last.ensures.best) c.grid_of.ensures in
     let all = c.in_ok-all.all in
-    subst (λ l. AreBestForests d (demanded os c.args.demand) n c.args.place (map pair_of l) all) (sym e)
-    (beside-joined g k c.requires.search.ready (demanded os c.args.demand) n c.args.place c.args.below (pair_of x) (map pair_of rest) (demanded os c.in-Some.first) s c.in-Some.ensures.0 c.in-Some.ensures.1 c.grid.result.now c.grid_of.result.now all below
+    subst (λ l. AreBestForests d (demanded os c.args.demand) n c.args.place (map piece_pair l) all) (sym e)
+    (beside-joined g k c.requires.search.ready (demanded os c.args.demand) n c.args.place c.args.below (piece_pair x) (map piece_pair rest) (demanded os c.in-Some.first) s c.in-Some.ensures.0 c.in-Some.ensures.1 c.grid.result.now c.grid_of.result.now all below
     own others c.in_ok-all.ensures)
 
 -- ---- a cut
@@ -169,11 +169,11 @@ by_cut-returns-then-not-have_room-clause-best t c =
     let own : c.grammar.inside.rules.items ≡ g.rules = search rules in
     let at = rule_here g.rules c.grammar.inside.rules.items c.args.number rule own c.requires.number c.index-rule.ensures in
     let xs = c.as_slice-pieces.result.now in
-    let pieces : map pair_of xs ≡ children rule.body c.args.asked.width = ap (map pair_of) c.as_slice-pieces.ensures.value ∙ c.in_ok-parts.ensures in
-    let below : AreBelow c.args.asked.width (map pair_of xs) = subst (AreBelow c.args.asked.width) (sym pieces) (parts_below g k ready c.args.asked c.requires.within c.args.number rule at c.requires.suits c.requires.cut) in
+    let pieces : map piece_pair xs ≡ children rule.body c.args.asked.width = ap (map piece_pair) c.as_slice-pieces.ensures.value ∙ c.in_ok-parts.ensures in
+    let below : AreBelow c.args.asked.width (map piece_pair xs) = subst (AreBelow c.args.asked.width) (sym pieces) (parts_below g k ready c.args.asked c.requires.within c.args.number rule at c.requires.suits c.requires.cut) in
     let suit = ap (λ o. suits o (c.args.asked.width, c.args.asked.symbol)) (sym at) ∙ c.requires.suits in
     let cuts = ap rule_ending (sym at) ∙ c.requires.cut in
-    let bare : NoneFit (children rule.body c.args.asked.width) (demanded os c.args.asked.demand) = subst (λ qs. NoneFit qs (demanded os c.args.asked.demand)) pieces (c.have_room.ensures (is_false c.if-not-have_room.true) (below-wide c.args.asked.width (map pair_of xs) below)) in
+    let bare : NoneFit (children rule.body c.args.asked.width) (demanded os c.args.asked.demand) = subst (λ qs. NoneFit qs (demanded os c.args.asked.demand)) pieces (c.have_room.ensures (is_false c.if-not-have_room.true) (below-wide c.args.asked.width (map piece_pair xs) below)) in
     best-roomless g k os n c.args.asked ready c.args.number rule at suit cuts bare c.args.best.now c.requires.best
 
 pub by_cut-returns-in_default-clause-best : goal.by_cut-returns-in_default-clause-best
@@ -184,7 +184,7 @@ by_cut-returns-in_default-clause-best t c =
     let own : c.grammar.inside.rules.items ≡ g.rules = search rules in
     let at = rule_here g.rules c.grammar.inside.rules.items c.args.number rule own c.requires.number c.index-rule.ensures in
     let xs = c.as_slice-pieces.result.now in
-    let pieces : map pair_of xs ≡ children rule.body c.args.asked.width = ap (map pair_of) c.as_slice-pieces.ensures.value ∙ c.in_ok-parts.ensures in
+    let pieces : map piece_pair xs ≡ children rule.body c.args.asked.width = ap (map piece_pair) c.as_slice-pieces.ensures.value ∙ c.in_ok-parts.ensures in
     let some = parts_some g k c.requires.search.ready c.args.asked c.requires.within c.args.number rule at c.requires.suits c.requires.cut in
     let long = pieces_long g k c.requires.search.ready c.args.asked c.requires.within c.args.number rule at c.requires.suits c.requires.cut xs pieces in
     let low = c.in_default.len_below in
@@ -201,13 +201,13 @@ by_cut-returns-in_default-split-clause-best t c =
     let own : c.grammar.inside.rules.items ≡ g.rules = search rules in
     let at = rule_here g.rules c.grammar.inside.rules.items c.args.number rule own c.requires.number c.index-rule.ensures in
     let xs = c.as_slice-pieces.result.now in
-    let pieces : map pair_of xs ≡ children rule.body c.args.asked.width = ap (map pair_of) c.as_slice-pieces.ensures.value ∙ c.in_ok-parts.ensures in
+    let pieces : map piece_pair xs ≡ children rule.body c.args.asked.width = ap (map piece_pair) c.as_slice-pieces.ensures.value ∙ c.in_ok-parts.ensures in
     let suit = ap (λ o. suits o (c.args.asked.width, c.args.asked.symbol)) (sym at) ∙ c.requires.suits in
     let cuts = ap rule_ending (sym at) ∙ c.requires.cut in
     let x = get_or xs 0 no_piece in
     let rest = take (length xs - 1) (drop 1 xs) in
     let kids = kids_are g k ready c.args.asked c.requires.within c.args.number rule at c.requires.suits c.requires.cut xs pieces in
-    let bare = closed-none (pair_of x) (map pair_of rest) (demanded os c.args.asked.demand) c.in_default-split.ensures in
+    let bare = closed-none (piece_pair x) (map piece_pair rest) (demanded os c.args.asked.demand) c.in_default-split.ensures in
     best-roomless g k os n c.args.asked ready c.args.number rule at suit cuts (subst (λ qs. NoneFit qs (demanded os c.args.asked.demand)) (sym kids) bare) c.args.best.now c.requires.best
 
 pub by_cut-overflow_add-next : goal.by_cut-overflow_add-next
@@ -218,7 +218,7 @@ by_cut-overflow_add-next t c =
     let own : c.grammar.inside.rules.items ≡ g.rules = search rules in
     let at = rule_here g.rules c.grammar.inside.rules.items c.args.number rule own c.requires.number c.index-rule.ensures in
     let xs = c.as_slice-pieces.result.now in
-    let pieces : map pair_of xs ≡ children rule.body c.args.asked.width = ap (map pair_of) c.as_slice-pieces.ensures.value ∙ c.in_ok-parts.ensures in
+    let pieces : map piece_pair xs ≡ children rule.body c.args.asked.width = ap (map piece_pair) c.as_slice-pieces.ensures.value ∙ c.in_ok-parts.ensures in
     let within = kids_within g k c.requires.search.ready c.args.asked c.requires.within c.args.number rule at c.requires.suits c.requires.cut xs pieces in
     let units : k.resolution ≤ 960 = c.requires.search.ready.cell.few_units in
     let next : c.args.asked.place + (get_or xs 0 no_piece).width ≤ 960 = omega (arith, within, units) in
@@ -232,7 +232,7 @@ by_cut-beside-requires t c =
     let own : c.grammar.inside.rules.items ≡ g.rules = search rules in
     let at = rule_here g.rules c.grammar.inside.rules.items c.args.number rule own c.requires.number c.index-rule.ensures in
     let xs = c.as_slice-pieces.result.now in
-    let pieces : map pair_of xs ≡ children rule.body c.args.asked.width = ap (map pair_of) c.as_slice-pieces.ensures.value ∙ c.in_ok-parts.ensures in
+    let pieces : map piece_pair xs ≡ children rule.body c.args.asked.width = ap (map piece_pair) c.as_slice-pieces.ensures.value ∙ c.in_ok-parts.ensures in
     let ready = c.requires.search.ready in
     let below = kids_below g k ready c.args.asked c.requires.within c.args.number rule at c.requires.suits c.requires.cut xs pieces in
     let within = kids_within g k ready c.args.asked c.requires.within c.args.number rule at c.requires.suits c.requires.cut xs pieces in
@@ -247,7 +247,7 @@ by_cut-search-requires t c =
     let own : c.grammar.inside.rules.items ≡ g.rules = search rules in
     let at = rule_here g.rules c.grammar.inside.rules.items c.args.number rule own c.requires.number c.index-rule.ensures in
     let xs = c.as_slice-pieces.result.now in
-    let pieces : map pair_of xs ≡ children rule.body c.args.asked.width = ap (map pair_of) c.as_slice-pieces.ensures.value ∙ c.in_ok-parts.ensures in
+    let pieces : map piece_pair xs ≡ children rule.body c.args.asked.width = ap (map piece_pair) c.as_slice-pieces.ensures.value ∙ c.in_ok-parts.ensures in
     let ready = c.requires.search.ready in
     let below = kids_below g k ready c.args.asked c.requires.within c.args.number rule at c.requires.suits c.requires.cut xs pieces in
     let within = kids_within g k ready c.args.asked c.requires.within c.args.number rule at c.requires.suits c.requires.cut xs pieces in
@@ -262,8 +262,8 @@ by_cut-grid_of-requires t c =
     let xs = c.as_slice-pieces.result.now in
     let rest = take (length xs - 1) (drop 1 xs) in
     let next = c.args.asked.place + (get_or xs 0 no_piece).width in
-    last-there d s n next (map pair_of rest) c.search.new.memo.found.items c.in_ok-last.last
-    (last-kept d s n next (map pair_of rest) c.beside.new.memo.found.items c.search.new.memo.found.items c.in_ok-last.last c.in_ok-left.ensures.more c.in_ok-last.ensures.best)
+    last-there d s n next (map piece_pair rest) c.search.new.memo.found.items c.in_ok-last.last
+    (last-kept d s n next (map piece_pair rest) c.beside.new.memo.found.items c.search.new.memo.found.items c.in_ok-last.last c.in_ok-left.ensures.more c.in_ok-last.ensures.best)
 
 pub by_cut-grid-requires : goal.by_cut-grid-requires
 by_cut-grid-requires t c =
@@ -282,14 +282,14 @@ by_cut-offer_joined-requires-clause-left t c =
     let own : c.grammar.inside.rules.items ≡ g.rules = search rules in
     let at = rule_here g.rules c.grammar.inside.rules.items c.args.number rule own c.requires.number c.index-rule.ensures in
     let xs = c.as_slice-pieces.result.now in
-    let pieces : map pair_of xs ≡ children rule.body c.args.asked.width = ap (map pair_of) c.as_slice-pieces.ensures.value ∙ c.in_ok-parts.ensures in
+    let pieces : map piece_pair xs ≡ children rule.body c.args.asked.width = ap (map piece_pair) c.as_slice-pieces.ensures.value ∙ c.in_ok-parts.ensures in
     let below = kids_below g k ready c.args.asked c.requires.within c.args.number rule at c.requires.suits c.requires.cut xs pieces in
     let within = kids_within g k ready c.args.asked c.requires.within c.args.number rule at c.requires.suits c.requires.cut xs pieces in
     let x = get_or xs 0 no_piece in
     let rest = take (length xs - 1) (drop 1 xs) in
     let asked : Asked = record { place = c.args.asked.place; width = x.width; symbol = x.symbol; demand = c.in-Some.below } in
     let left = answered g k os n c.search.new.memo.found.items asked c.in_ok-left.left c.grid.result.now c.in_ok-left.ensures.answer c.grid.ensures in
-    beside-addable g k ready (one_shape (demanded os c.in-Some.below)) n c.args.asked.place c.args.asked.width (pair_of x ∷ []) c.grid.result.now (below.0, below.1, tt) (omega (arith, within)) left
+    beside-addable g k ready (one_shape (demanded os c.in-Some.below)) n c.args.asked.place c.args.asked.width (piece_pair x ∷ []) c.grid.result.now (below.0, below.1, tt) (omega (arith, within)) left
 
 pub by_cut-offer_joined-requires-clause-right : goal.by_cut-offer_joined-requires-clause-right
 by_cut-offer_joined-requires-clause-right t c =
@@ -302,7 +302,7 @@ by_cut-offer_joined-requires-clause-right t c =
     let own : c.grammar.inside.rules.items ≡ g.rules = search rules in
     let at = rule_here g.rules c.grammar.inside.rules.items c.args.number rule own c.requires.number c.index-rule.ensures in
     let xs = c.as_slice-pieces.result.now in
-    let pieces : map pair_of xs ≡ children rule.body c.args.asked.width = ap (map pair_of) c.as_slice-pieces.ensures.value ∙ c.in_ok-parts.ensures in
+    let pieces : map piece_pair xs ≡ children rule.body c.args.asked.width = ap (map piece_pair) c.as_slice-pieces.ensures.value ∙ c.in_ok-parts.ensures in
     let below = kids_below g k ready c.args.asked c.requires.within c.args.number rule at c.requires.suits c.requires.cut xs pieces in
     let within = kids_within g k ready c.args.asked c.requires.within c.args.number rule at c.requires.suits c.requires.cut xs pieces in
     let x = get_or xs 0 no_piece in
@@ -310,9 +310,9 @@ by_cut-offer_joined-requires-clause-right t c =
     let next = c.args.asked.place + x.width in
     let d = ground_of g k in
     let s = demanded os c.in-Some.others in
-    let last = last-kept d s n next (map pair_of rest) c.beside.new.memo.found.items c.search.new.memo.found.items c.in_ok-last.last c.in_ok-left.ensures.more c.in_ok-last.ensures.best in
-    let right = last-grid d s n next (map pair_of rest) c.search.new.memo.found.items c.in_ok-last.last c.grid_of.result.now last c.grid_of.ensures in
-    beside-addable g k ready s n next c.args.asked.width (map pair_of rest) c.grid_of.result.now below.2 (omega (arith, within)) right
+    let last = last-kept d s n next (map piece_pair rest) c.beside.new.memo.found.items c.search.new.memo.found.items c.in_ok-last.last c.in_ok-left.ensures.more c.in_ok-last.ensures.best in
+    let right = last-grid d s n next (map piece_pair rest) c.search.new.memo.found.items c.in_ok-last.last c.grid_of.result.now last c.grid_of.ensures in
+    beside-addable g k ready s n next c.args.asked.width (map piece_pair rest) c.grid_of.result.now below.2 (omega (arith, within)) right
 
 pub by_cut-returns-clause-more : goal.by_cut-returns-clause-more
 by_cut-returns-clause-more t c =
@@ -330,7 +330,7 @@ by_cut-returns-clause-best t c =
     let own : c.grammar.inside.rules.items ≡ g.rules = search rules in
     let at = rule_here g.rules c.grammar.inside.rules.items c.args.number rule own c.requires.number c.index-rule.ensures in
     let xs = c.as_slice-pieces.result.now in
-    let pieces : map pair_of xs ≡ children rule.body c.args.asked.width = ap (map pair_of) c.as_slice-pieces.ensures.value ∙ c.in_ok-parts.ensures in
+    let pieces : map piece_pair xs ≡ children rule.body c.args.asked.width = ap (map piece_pair) c.as_slice-pieces.ensures.value ∙ c.in_ok-parts.ensures in
     let suit = ap (λ o. suits o (c.args.asked.width, c.args.asked.symbol)) (sym at) ∙ c.requires.suits in
     let cuts = ap rule_ending (sym at) ∙ c.requires.cut in
     let below = kids_below g k ready c.args.asked c.requires.within c.args.number rule at c.requires.suits c.requires.cut xs pieces in
@@ -342,16 +342,16 @@ by_cut-returns-clause-best t c =
     let next = c.args.asked.place + x.width in
     let d = ground_of g k in
     let s = demanded os c.in-Some.others in
-    let last = last-kept d s n next (map pair_of rest) c.beside.new.memo.found.items c.search.new.memo.found.items c.in_ok-last.last c.in_ok-left.ensures.more c.in_ok-last.ensures.best in
-    let right = last-grid d s n next (map pair_of rest) c.search.new.memo.found.items c.in_ok-last.last c.grid_of.result.now last c.grid_of.ensures in
+    let last = last-kept d s n next (map piece_pair rest) c.beside.new.memo.found.items c.search.new.memo.found.items c.in_ok-last.last c.in_ok-left.ensures.more c.in_ok-last.ensures.best in
+    let right = last-grid d s n next (map piece_pair rest) c.search.new.memo.found.items c.in_ok-last.last c.grid_of.result.now last c.grid_of.ensures in
     let l = c.grid.result.now in
     let r = c.grid_of.result.now in
     let kids = kids_are g k ready c.args.asked c.requires.within c.args.number rule at c.requires.suits c.requires.cut xs pieces in
     let from : c.from.result ≡ rule.weight = search rules in
     on_ok_weaker c.offer_joined.result
-    (λ is. best-cut g k os n c.args.asked ready c.args.number rule at suit cuts (pair_of x) (map pair_of rest) (demanded os c.in-Some.below) s c.in-Some.ensures.0 c.in-Some.ensures.1 kids below l r c.args.best.now c.offer_joined.new.self left right is
+    (λ is. best-cut g k os n c.args.asked ready c.args.number rule at suit cuts (piece_pair x) (map piece_pair rest) (demanded os c.in-Some.below) s c.in-Some.ensures.0 c.in-Some.ensures.1 kids below l r c.args.best.now c.offer_joined.new.self left right is
     c.requires.best)
-    (subst (λ w. OnOk c.offer_joined.result (HasLists (λ a b. joined n (w, c.args.number ∷ []) l r a b (ranking_at c.args.best.now a b)) c.offer_joined.new.self)) from c.offer_joined.ensures)
+    (subst (λ w. OnOk c.offer_joined.result (HasLists (λ a b. joined_row n (w, c.args.number ∷ []) l r a b (ranking_at c.args.best.now a b)) c.offer_joined.new.self)) from c.offer_joined.ensures)
 
 -- ---- one rule
 
@@ -442,7 +442,7 @@ search-returns-clause-found t c =
     let k = c.args.bar.now.input.now in
     let os = c.args.bar.now.pins.now in
     let n = c.args.bar.now.count in
-    let own : IsAnswer g k os n c.args.asked c.by_rules.new.best = best-all g k os n c.args.asked c.by_rules.new.best c.in_ok-by_rules.ensures.best in
+    let own : AreDemanded g k os n c.args.asked c.by_rules.new.best = best-all g k os n c.args.asked c.by_rules.new.best c.in_ok-by_rules.ensures.best in
     found-add g k os (grounded g k c.requires.search.ready) n c.by_rules.new.memo.found.items c.keep.new.self.found.items c.family_of-family.result c.args.asked c.by_rules.new.best c.requires.within c.family_of-family.ensures c.in_ok-number.ensures.found
     c.in_ok-by_rules.ensures.found own
 
@@ -452,7 +452,7 @@ search-returns-clause-answer t c =
     let k = c.args.bar.now.input.now in
     let os = c.args.bar.now.pins.now in
     let n = c.args.bar.now.count in
-    let own : IsAnswer g k os n c.args.asked c.by_rules.new.best = best-all g k os n c.args.asked c.by_rules.new.best c.in_ok-by_rules.ensures.best in
+    let own : AreDemanded g k os n c.args.asked c.by_rules.new.best = best-all g k os n c.args.asked c.by_rules.new.best c.in_ok-by_rules.ensures.best in
     found-last g k os (grounded g k c.requires.search.ready) n c.by_rules.new.memo.found.items c.keep.new.self.found.items c.family_of-family.result c.args.asked c.by_rules.new.best c.in_ok-number.number c.in_ok-number.ensures.found
     c.in_ok-number.ensures.number own
 

@@ -1,4 +1,4 @@
-use Rattle.rhythm_laws.proofs.PathTables.{identity_left, identity_right}
+use Rattle.path_laws.proofs.PathTables.{identity_left, identity_right}
 use Rattle.carry_matrix.proofs.laws.identity_is_neutral.Goals as goal
 
 pub returns : goal.returns

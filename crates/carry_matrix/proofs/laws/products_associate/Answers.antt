@@ -1,4 +1,4 @@
-use Rattle.rhythm_laws.proofs.PathTables.{product_assoc}
+use Rattle.path_laws.proofs.PathTables.{product_assoc}
 use Rattle.carry_matrix.proofs.laws.products_associate.Goals as goal
 
 pub returns : goal.returns

@@ -5,7 +5,7 @@ use Rattle.carry_matrix.specs.Choices.{choice_code}
 use Rattle.carry_matrix.specs.Rows.{cost_code, rank_code}
 use Rattle.carry_matrix.proofs.Choices.{pick_low}
 use Rattle.carry_matrix.proofs.Rows.{low_rank}
-use Rattle.rhythm_laws.proofs.Products.{five_at}
+use Rattle.path_laws.proofs.Products.{five_at}
 use Rattle.carry_matrix.proofs.products.chosen.Goals.{in-Some, in_default}
 use Rattle.carry_matrix.proofs.products.chosen.Goals as goal
 

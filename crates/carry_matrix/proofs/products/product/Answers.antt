@@ -2,8 +2,8 @@ use Rattle.std.proofs.Common.{◌∙◌, sym, ap, subst}
 use Rattle.rhythm_base.specs.Ranked.{product_of}
 use Rattle.carry_matrix.specs.Rows.{AreRows, entries_of}
 use Rattle.carry_matrix.proofs.Rows.{each_row, entries_back, matrix_rows}
-use Rattle.rhythm_laws.proofs.ProductCosts.{product_low}
-use Rattle.rhythm_laws.proofs.PathTables.{product_ranked}
+use Rattle.path_laws.proofs.ProductCosts.{product_low}
+use Rattle.path_laws.proofs.PathTables.{product_ranked}
 use Rattle.carry_matrix.proofs.products.product.Goals as goal
 
 pub of-requires : goal.of-requires

@@ -2,7 +2,7 @@ use Rattle.std.proofs.Common.{◌≡◌, ℕ, ◌+◌, true, List, [], length, m
 use Rattle.rhythm_base.specs.Forest.{Tree}
 use Rattle.rhythm_base.specs.Leaves.{are_bars}
 use Rattle.rhythm_base.specs.Voices.{voice_bars_from}
-use Rattle.rhythm_laws.specs.Voices.{Adjacent}
+use Rattle.tree_laws.specs.Voices.{Adjacent}
 use Rattle.derivation.specs.RuleLists.{HaveLists}
 use Rattle.derivation.specs.Sounds.{plain_bars}
 use Rattle.derivation.specs.TimedLeaves.{timed_leaves}

@@ -1,5 +1,5 @@
 use Rattle.std.proofs.Common.{◌≡◌, true, sym, ◌∙◌, arith}
-use Rattle.rhythm_base.specs.Spans.{is_tie}
+use Rattle.rhythm_base.specs.SoundKinds.{is_tie}
 use Rattle.derivation.proofs.SpansRead.{ties_step, ties_within}
 use Rattle.derivation.proofs.parts.ties_length.Goals as goal
 

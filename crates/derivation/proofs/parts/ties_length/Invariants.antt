@@ -1,6 +1,7 @@
 use Rattle.std.proofs.Common.{◌≡◌, ◌+◌, drop}
 use Rattle.std.specs.Prelude.{sum_by, take_while}
-use Rattle.rhythm_base.specs.Spans.{is_tie, sound_length}
+use Rattle.rhythm_base.specs.SoundKinds.{is_tie}
+use Rattle.durations.specs.Spans.{sound_length}
 use Rattle.derivation.proofs.parts.ties_length.Given as goal
 
 abbrev pub invariant-ties : goal.invariant-ties

@@ -1,5 +1,5 @@
 use Rattle.std.proofs.Common.{◌≡◌, true, ◌+◌, sym, ◌∙◌, ap₂}
-use Rattle.rhythm_base.specs.Spans.{begins_chord}
+use Rattle.rhythm_base.specs.SoundKinds.{begins_chord}
 use Rattle.derivation.proofs.SpansRead.{run_pushed}
 use Rattle.derivation.proofs.spans.push_run.Goals as goal
 

@@ -1,6 +1,6 @@
 use Rattle.std.proofs.Common.{◌≡◌, ℕ, ◌++◌, List, length}
 use Rattle.rhythm_base.specs.declared.span.Span.{Span}
-use Rattle.rhythm_base.specs.Spans.{AreSpans}
+use Rattle.durations.specs.Spans.{AreSpans}
 use Rattle.derivation.specs.WellSounded.{StandInBars}
 use Rattle.derivation.proofs.FilledBars.{place_at}
 use Rattle.derivation.proofs.spans.spans_of.Given as goal

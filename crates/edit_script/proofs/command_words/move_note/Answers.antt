@@ -1,5 +1,5 @@
 use Rattle.std.proofs.Common.{ap₂}
-use Rattle.rhythm_base.specs.declared.command.Command.TheVariants.{Change}
+use Rattle.edit_script.specs.declared.command.Command.TheVariants.{Change}
 use Rattle.rhythm_base.specs.declared.edit.Edit.TheVariants.{Move}
 use Rattle.edit_script.proofs.WordLemmas.{finds_none}
 use Rattle.edit_script.proofs.command_words.move_note.Goals as goal

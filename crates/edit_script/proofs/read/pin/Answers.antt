@@ -1,5 +1,5 @@
 use Rattle.std.proofs.Common.{sym, subst}
-use Rattle.rhythm_base.specs.ScriptLines.{IsBarWord}
+use Rattle.edit_script.specs.ScriptLines.{IsBarWord}
 use Rattle.edit_script.specs.LineWords.{Begins}
 use Rattle.edit_script.proofs.SaidLemmas.{no_number}
 use Rattle.edit_script.proofs.read.pin.Goals as goal

@@ -1,6 +1,6 @@
 use Rattle.std.proofs.Common.{◌==◌, ap, ◌∙◌}
 use Rattle.std.specs.List.{slice_split}
-use Rattle.rhythm_base.specs.ScriptLines.{script_words}
+use Rattle.edit_script.specs.ScriptLines.{script_words}
 use Rattle.edit_script.proofs.SaidLemmas.{no_keyword, read_bad, read_memory, read_ok, read_range, read_shape, words_are}
 use Rattle.edit_script.proofs.read.read_line.Goals as goal
 

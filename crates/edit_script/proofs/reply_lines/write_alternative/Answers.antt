@@ -1,7 +1,7 @@
 use Rattle.std.proofs.Common.{◌∷◌, [], List, ℕ, map, subst}
 use Rattle.std.specs.List.{join_with_byte}
 use Rattle.std.specs.Prelude.{codes, decimal, string_bytes}
-use Rattle.rhythm_base.specs.Replies.{reply_line}
+use Rattle.edit_script.specs.Replies.{reply_line}
 use Rattle.edit_script.specs.Sending.{Writes}
 use Rattle.edit_script.proofs.SendingLemmas.{fails}
 use Rattle.edit_script.proofs.ReplyLemmas.{cut_front, cut_rules, cut_space, sent_front}

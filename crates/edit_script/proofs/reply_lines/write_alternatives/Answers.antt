@@ -1,7 +1,7 @@
 use Rattle.std.proofs.Common.{List, ℕ, [], ◌∷◌, subst}
 use Rattle.std.specs.Prelude.{codes, decimal}
 use Rattle.std.specs.List.{flat_map}
-use Rattle.rhythm_base.specs.Replies.{reply_line, shown_text}
+use Rattle.edit_script.specs.Replies.{reply_line, shown_text}
 use Rattle.edit_script.specs.ReplyText.{shown_by}
 use Rattle.edit_script.specs.Sending.{Writes}
 use Rattle.edit_script.proofs.ReplyLemmas.{counted_texts}

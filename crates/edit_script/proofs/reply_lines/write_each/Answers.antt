@@ -1,5 +1,5 @@
 use Rattle.std.proofs.Common.{arith, subst}
-use Rattle.rhythm_base.specs.Replies.{shown_text}
+use Rattle.edit_script.specs.Replies.{shown_text}
 use Rattle.edit_script.specs.ReplyText.{shown_by}
 use Rattle.edit_script.specs.Sending.{Sent, SentPart}
 use Rattle.edit_script.specs.declared.reply.Alt.{Alt}

@@ -1,6 +1,6 @@
 use Rattle.std.proofs.Common.{◌≤◌, take}
 use Rattle.std.specs.List.{flat_map}
-use Rattle.rhythm_base.specs.Replies.{shown_text}
+use Rattle.edit_script.specs.Replies.{shown_text}
 use Rattle.edit_script.specs.ReplyText.{shown_by}
 use Rattle.edit_script.specs.Sending.{Sent}
 use Rattle.edit_script.proofs.reply_lines.write_each.Given as goal

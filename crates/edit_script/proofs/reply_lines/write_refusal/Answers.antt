@@ -1,5 +1,5 @@
 use Rattle.std.proofs.Common.{ℕ, sym, subst}
-use Rattle.rhythm_base.specs.Replies.{long_score_text}
+use Rattle.edit_script.specs.Replies.{long_score_text}
 use Rattle.edit_script.specs.ReplyText.{refusal_text}
 use Rattle.edit_script.specs.Sending.{Writes}
 use Rattle.edit_script.specs.declared.reply.Refusal.{Refusal}

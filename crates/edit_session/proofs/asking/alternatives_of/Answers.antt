@@ -1,7 +1,7 @@
 use Rattle.std.proofs.Common.{ℕ, ◌≡◌, ◌<◌, List, ap, get_or, length, refl, subst, sym, ◌∙◌}
 use Rattle.std.specs.Prelude.{Some, slice_get}
 use Rattle.std.proofs.lemmas.Option.{slice_get_read}
-use Rattle.bar_alternatives.specs.BestTrees.{AreBestTrees, AreSmall, without_pin}
+use Rattle.bar_alternatives.specs.BestTrees.{AreBestTrees, AreSmall, unpinned}
 use Rattle.bar_alternatives.specs.Laws.{costs_after, costs_before}
 use Rattle.rhythm_base.specs.BarInput.{BarInput}
 use Rattle.rhythm_base.specs.BarTables.{BarTable}
@@ -26,13 +26,13 @@ there g c =
     ∙ slice_get_read c.tables.result.now (length c.tables.result.now) c.args.bar c.index-tables-bar.result refl (subst (λ (ts : List BarTable). c.args.bar < length ts) (sym tables) c.requires.bar) c.index-tables-bar.is
 
 best : (g : Over) (c : In_ok-list g)
-    → AreBestTrees c.args.grammar.now (without_pin c.index-tables-bar.result.input) (costs_before c.args.voice.now.tables c.args.bar) (costs_after c.args.voice.now.tables c.args.bar) c.args.count c.in_ok-list.list.items
+    → AreBestTrees c.args.grammar.now (unpinned c.index-tables-bar.result.input) (costs_before c.args.voice.now.tables c.args.bar) (costs_after c.args.voice.now.tables c.args.bar) c.args.count c.in_ok-list.list.items
 best g c =
     let grammar = c.args.grammar.now in
     let list : List (ℕ × Tree) = c.in_ok-list.list.items in
-    subst (λ l. AreBestTrees grammar (without_pin c.index-tables-bar.result.input) (costs_before c.args.voice.now.tables c.args.bar) l c.args.count list) c.around-around.ensures.after
-    (subst (λ l. AreBestTrees grammar (without_pin c.index-tables-bar.result.input) l c.around-around.result.after c.args.count list) c.around-around.ensures.before
-    (subst (λ (k : BarInput). AreBestTrees grammar (without_pin k) c.around-around.result.before c.around-around.result.after c.args.count list) c.input-input.ensures c.in_ok-list.ensures))
+    subst (λ l. AreBestTrees grammar (unpinned c.index-tables-bar.result.input) (costs_before c.args.voice.now.tables c.args.bar) l c.args.count list) c.around-around.ensures.after
+    (subst (λ l. AreBestTrees grammar (unpinned c.index-tables-bar.result.input) l c.around-around.result.after c.args.count list) c.around-around.ensures.before
+    (subst (λ (k : BarInput). AreBestTrees grammar (unpinned k) c.around-around.result.before c.around-around.result.after c.args.count list) c.input-input.ensures c.in_ok-list.ensures))
 
 pub returns-clause-best : goal.returns-clause-best
 returns-clause-best g c = λ p channel formed tables.
@@ -42,5 +42,5 @@ pub returns-clause-shapes : goal.returns-clause-shapes
 returns-clause-shapes g c =
     let units = (let is = c.requires.tables c.args.bar c.index-tables-bar.result c.requires.bar in
     ap (λ (x : BarTable). x.input.resolution) (c.index-tables-bar.is ∙ ap (λ (ts : List BarTable). get_or ts c.args.bar c.index-tables-bar.result) c.tables.ensures) ∙ is.units) in
-    can_be_pinned c.args.grammar.now c.requires.readable (without_pin c.index-tables-bar.result.input) (costs_before c.args.voice.now.tables c.args.bar) (costs_after c.args.voice.now.tables c.args.bar) c.args.count
+    can_be_pinned c.args.grammar.now c.requires.readable (unpinned c.index-tables-bar.result.input) (costs_before c.args.voice.now.tables c.args.bar) (costs_after c.args.voice.now.tables c.args.bar) c.args.count
     c.in_ok-list.list.items units (best g c)

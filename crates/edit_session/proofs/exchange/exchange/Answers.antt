@@ -1,11 +1,14 @@
-use Rattle.std.proofs.Common.{◌≡◌, ◌≤◌, ◌*◌, ℕ, List, length, sym, ap, ◌∙◌, subst, arith}
+use Rattle.std.proofs.Common.{◌≡◌, ◌≤◌, ◌+◌, ◌-◌, ◌*◌, ℕ, List, length, sym, ap, ◌∙◌, subst, subst₂, arith}
 use Rattle.std.specs.Prelude.{All, reverse, vec_capacity}
 use Rattle.std.proofs.lemmas.List.{length-reverse, reverse-reverse}
 use Rattle.edit_session.specs.Exchange.{AreVoicesBefore, IsCheapTable, tables_below}
 use Rattle.edit_session.specs.Prepared.{CellTable}
+use Rattle.edit_session.specs.Products.{moved_tables}
 use Rattle.rhythm_base.specs.Counter.{risen}
+use Rattle.edit_session.proofs.Commits.{all_long}
 use Rattle.edit_session.proofs.ExchangedBars.{all_reverse}
 use Rattle.edit_session.proofs.TablesBelow.{below_reverse}
+use Rattle.edit_session.proofs.WaysBack.{way_back_few}
 use Rattle.edit_session.proofs.exchange.exchange.Goals as goal
 
 pub exchange_voices-requires-clause-cheap : goal.exchange_voices-requires-clause-cheap
@@ -35,6 +38,19 @@ returns-clause-exchanged g c = λ x h channels bars.
       enough = omega (arith, after.enough, fits, c.exchange_voices.ensures.capacity, c.clear.ensures.capacity);
     }
 
+pub returns-clause-way_back : goal.returns-clause-way_back
+returns-clause-way_back g c = λ x h channels bars.
+    let items : List CellTable = c.reverse.new.self.items in
+    let turned : reverse items ≡ c.args.tables.items = ap reverse c.reverse.ensures.items ∙ reverse-reverse c.args.tables.items in
+    let long : length items ≡ length c.args.tables.items = ap length c.reverse.ensures.items ∙ length-reverse c.args.tables.items in
+    let after = c.exchange_voices.ensures.exchanged x (subst (AreVoicesBefore x c.args.voices.now) (sym turned) h) channels bars in
+    let each = all_long x.grammar x.before x.before.channels c.args.voices.now h.tables in
+    let count = c.exchange_voices.ensures.count (length x.before.bars) each in
+    subst (λ n. moved_tables x.after x.before (length c.exchange_voices.new.gone.items) ≤ moved_tables x.before x.after n) long
+    (way_back_few x c.exchange_voices.new.voices c.exchange_voices.new.gone.items (length items) h.is after
+    (subst₂ (λ n b. length c.exchange_voices.new.gone.items ≤ length items + n * (length x.before.bars - b)) (c.requires.channels ∙ ap length channels) bars count))
+
 pub returns-clause-products : goal.returns-clause-products
-returns-clause-products g c = λ d each fits.
-    subst (λ n. c.exchange_voices.new.products ≤ risen c.args.products.now (n * d)) (ap length c.reverse.ensures.items ∙ length-reverse c.args.tables.items) (c.exchange_voices.ensures.products d each fits)
+returns-clause-products g c = λ d n each few fits.
+    subst (λ m. c.exchange_voices.new.products ≤ risen c.args.products.now ((m + length c.args.voices.now * (n - c.args.bars)) * d))
+    (ap length c.reverse.ensures.items ∙ length-reverse c.args.tables.items) (c.exchange_voices.ensures.products d n each few fits)

@@ -2,7 +2,7 @@ use Rattle.std.proofs.Common.{◌≤◌, ◌-◌, ◌*◌, length, drop, ap, sub
 use Rattle.std.specs.Prelude.{reverse}
 use Rattle.std.proofs.lemmas.List.{length-append, length-drop}
 use Rattle.rhythm_base.specs.Counter.{risen}
-use Rattle.edit_session.specs.Exchange.{numbered}
+use Rattle.edit_session.specs.Exchange.{tables_of_bars}
 use Rattle.edit_session.proofs.LostTables.{numbered_length, voice_done}
 use Rattle.edit_session.proofs.Risen.{risen_both}
 use Rattle.edit_session.proofs.exchange.exchange_voice.Goals as goal
@@ -15,7 +15,7 @@ returns-clause-exchanged g c = λ x h same.
 pub returns-clause-count : goal.returns-clause-count
 returns-clause-count g c =
     let mid = c.exchange_bars.new.voice.tables in
-    let lost = numbered c.args.channel c.args.bars (drop c.args.bars mid) in
+    let lost = tables_of_bars c.args.channel c.args.bars (drop c.args.bars mid) in
     omega (
       arith,
       ap length c.give_lost.ensures.gone,
@@ -28,9 +28,9 @@ returns-clause-count g c =
     )
 
 pub returns-clause-products : goal.returns-clause-products
-returns-clause-products g c = λ d m same fits long.
+returns-clause-products g c = λ d m few fits long.
     let mid = c.exchange_bars.new.voice.tables in
-    let first = c.exchange_bars.ensures.products d m (omega (arith, same, fits)) fits long in
-    let second = c.give_lost.ensures.products d (omega (arith, same, fits, c.exchange_bars.ensures.no_more)) in
-    subst (λ n. c.give_lost.new.products ≤ risen c.args.products.now (n * d)) (omega (arith, same, c.exchange_bars.ensures.no_fewer, c.exchange_bars.ensures.no_more))
+    let first = c.exchange_bars.ensures.products d m few fits long in
+    let second = c.give_lost.ensures.products d (omega (arith, few, fits, c.exchange_bars.ensures.no_more)) in
+    subst (λ n. c.give_lost.new.products ≤ risen c.args.products.now (n * d)) (omega (arith, c.exchange_bars.ensures.no_fewer, c.exchange_bars.ensures.no_more))
     (risen_both c.args.products.now m (length mid - c.args.bars) d c.exchange_bars.new.products c.give_lost.new.products first second)

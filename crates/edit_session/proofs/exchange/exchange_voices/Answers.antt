@@ -1,5 +1,5 @@
 use Rattle.std.proofs.Common.{◌≡◌, ◌≤◌, ◌<◌, ◌+◌, ◌-◌, ◌*◌, ℕ, length, get_or, refl, sym, ap, ◌∙◌, subst, arith}
-use Rattle.std.specs.Prelude.{reverse, vec_capacity}
+use Rattle.std.specs.Prelude.{nat_lt, reverse, vec_capacity}
 use Rattle.std.proofs.Math.Nat.{mul-le-mul_right}
 use Rattle.std.proofs.lemmas.List.{drop-set-lt, get_or_default, length-reverse, length-set}
 use Rattle.std.proofs.lemmas.List.Elements.{All-set}
@@ -10,6 +10,7 @@ use Rattle.edit_session.specs.VoiceTables.{VoiceTables}
 use Rattle.edit_session.proofs.EachRuns.{Each-at}
 use Rattle.edit_session.proofs.ExchangedVoices.{AreVoicesUpTo, same_at, same_rest, voice_next, voices_begun, voices_ended, voices_more}
 use Rattle.edit_session.proofs.Risen.{risen_both, risen_upto}
+use Rattle.edit_session.proofs.SuitingTables.{filter_few}
 use Rattle.edit_session.proofs.exchange.exchange_voices.Goals as goal
 
 pub voices-init : goal.voices-init
@@ -23,7 +24,8 @@ voices-init g c = record {
   count = λ n each. let none : length c.args.gone.now.items ≡ 0 = ap length c.requires.none in omega (arith, none);
   capacity = refl;
   capacity_coming = refl;
-  products = λ d m each fits long. omega (arith);
+  products = λ d m n each few fits long. omega (arith);
+  upto = omega arith;
   less = omega arith;
   rises = omega arith;
 }
@@ -87,13 +89,15 @@ voices-preserved g c =
           omega (arith, here, next, before);
       capacity = step.capacity ∙ inv.capacity;
       capacity_coming = step.capacity_coming ∙ inv.capacity_coming;
-      products = λ d m each fits long.
-          let here : length voice.tables ≡ c.args.bars = ap (λ (u : VoiceTables). length u.tables) same ∙ each k v c.voices-test.true in
+      products = λ d m n each few fits long.
+          let here : length voice.tables ≡ n = ap (λ (u : VoiceTables). length u.tables) same ∙ each k v c.voices-test.true in
           let later : ℕ = length c.voices.coming.items - length c.exchange_voice.new.coming.items in
           let earlier : ℕ = length c.args.coming.now.items - length c.voices.coming.items in
-          subst (λ n. c.exchange_voice.new.products ≤ risen c.args.products.now (n * d)) (omega (arith, long, inv.less, step.less))
-          (risen_both c.args.products.now earlier later d c.voices.products c.exchange_voice.new.products (inv.products d earlier each fits (omega (arith, inv.less)))
-          (step.products d later here fits (omega (arith, step.less))));
+          let next : (k + 1) * (n - c.args.bars) ≡ k * (n - c.args.bars) + (n - c.args.bars) = grind arith in
+          subst (λ j. c.exchange_voice.new.products ≤ risen c.args.products.now (j * d)) (omega (arith, long, inv.less, step.less, here, next))
+          (risen_both c.args.products.now (earlier + k * (n - c.args.bars)) (later + (length voice.tables - c.args.bars)) d c.voices.products c.exchange_voice.new.products
+          (inv.products d earlier n each few fits (omega (arith, inv.less))) (step.products d later (omega (arith, here, few)) fits (omega (arith, step.less))));
+      upto = omega (arith, c.voices-test.true);
       less = omega (arith, inv.less, step.less);
       rises = omega (arith, inv.rises, step.rises);
     }
@@ -105,8 +109,16 @@ returns-clause-exchanged g c = λ x h channels bars.
     (voices_ended x c.voices.number c.voices.voices (reverse c.args.coming.now.items) (reverse c.voices.coming.items) c.voices.gone.items h.is
     (omega (arith, long, c.voices-test.false, c.voices.invariant.long)) long (c.voices.invariant.exchanged x h channels bars))
 
+pub returns-clause-count : goal.returns-clause-count
+returns-clause-count g c = λ n each.
+    let first : tables_below n c.args.coming.now.items ≤ length c.args.coming.now.items = filter_few (λ t. nat_lt t.bar n) c.args.coming.now.items in
+    let upto : c.voices.number * (n - c.args.bars) ≤ length c.args.voices.now * (n - c.args.bars) = mul-le-mul_right (n - c.args.bars) c.voices.invariant.upto in
+    omega (arith, c.voices.invariant.count n each, first, upto)
+
 pub returns-clause-products : goal.returns-clause-products
-returns-clause-products g c = λ d each fits.
+returns-clause-products g c = λ d n each few fits.
     let less = c.voices.invariant.less in
     let m : ℕ = length c.args.coming.now.items - length c.voices.coming.items in
-    risen_upto c.args.products.now m (length c.args.coming.now.items) d c.voices.products (omega arith) (c.voices.invariant.products d m each fits (omega (arith, less)))
+    let upto : c.voices.number * (n - c.args.bars) ≤ length c.args.voices.now * (n - c.args.bars) = mul-le-mul_right (n - c.args.bars) c.voices.invariant.upto in
+    risen_upto c.args.products.now (m + c.voices.number * (n - c.args.bars)) (length c.args.coming.now.items + length c.args.voices.now * (n - c.args.bars)) d c.voices.products
+    (omega (arith, upto)) (c.voices.invariant.products d m n each few fits (omega (arith, less)))

@@ -15,7 +15,9 @@ invariant-voices g l = record {
   count : (n : ℕ) → All (λ v. length v.tables ≡ n) l.initial.voices → length l.gone.items + tables_below n l.coming.items ≡ tables_below n l.initial.coming.items + l.number * (n - l.bars);
   capacity : vec_capacity l.gone ≡ vec_capacity l.initial.gone;
   capacity_coming : vec_capacity l.coming ≡ vec_capacity l.initial.coming;
-  products : (d m : ℕ) → All (λ v. length v.tables ≡ l.bars) l.initial.voices → l.bars ≤ 2 ^ d → length l.initial.coming.items ≡ length l.coming.items + m → l.products ≤ risen l.initial.products (m * d);
+  products : (d m n : ℕ) → All (λ v. length v.tables ≡ n) l.initial.voices → n ≤ 2 ^ d → l.bars ≤ 2 ^ d → length l.initial.coming.items ≡ length l.coming.items + m
+      → l.products ≤ risen l.initial.products ((m + l.number * (n - l.bars)) * d);
+  upto : l.number ≤ length l.initial.voices;
   less : length l.coming.items ≤ length l.initial.coming.items;
   rises : l.initial.products ≤ l.products;
 }

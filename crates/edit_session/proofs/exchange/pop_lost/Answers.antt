@@ -2,7 +2,7 @@ use Rattle.std.proofs.Common.{rules, ◌≡◌, ◌≤◌, ◌<◌, ◌+◌, ◌
 use Rattle.std.specs.Prelude.{reverse}
 use Rattle.std.proofs.lemmas.List.{drop_all, length-append, take_all}
 use Rattle.rhythm_base.specs.Counter.{risen}
-use Rattle.edit_session.specs.Exchange.{numbered}
+use Rattle.edit_session.specs.Exchange.{tables_of_bars}
 use Rattle.edit_session.specs.Prepared.{CellTable}
 use Rattle.edit_session.proofs.LostTables.{lost_one}
 use Rattle.edit_session.proofs.Risen.{risen_more}
@@ -15,7 +15,7 @@ lost-init g c =
       fewer = omega arith;
       tables = sym (take_all (length tables) tables (omega arith));
       some = inr refl;
-      gone = sym (ap (λ ts. c.args.gone.now.items ++ reverse (numbered c.args.channel (length tables) ts)) (drop_all (length tables) tables (omega arith)) ∙ append-nil c.args.gone.now.items);
+      gone = sym (ap (λ ts. c.args.gone.now.items ++ reverse (tables_of_bars c.args.channel (length tables) ts)) (drop_all (length tables) tables (omega arith)) ∙ append-nil c.args.gone.now.items);
       room = refl;
       capacity = refl;
       count = refl;

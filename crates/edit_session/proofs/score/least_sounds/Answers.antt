@@ -1,7 +1,7 @@
 use Rattle.std.proofs.Common.{◌≡◌, ap, map, subst, sym, ◌∙◌}
 use Rattle.derivation.specs.Sounds.{derivation_sounds, plain_bars}
 use Rattle.rhythm_base.specs.Leaves.{soundings}
-use Rattle.rhythm_laws.specs.Voices.{IsVoice}
+use Rattle.tree_laws.specs.Voices.{IsVoice}
 use Rattle.edit_session.proofs.LeastSounds.{least_sounds, tables_in, told_too, unpinned_told, unpinned_voice}
 use Rattle.edit_session.proofs.score.least_sounds.Goals as goal
 use Rattle.edit_session.proofs.score.least_sounds.Goals.{After-as_slice-2}

@@ -3,7 +3,7 @@ use Rattle.std.specs.Prelude.{Option, All, slice_index_or}
 use Rattle.std.proofs.lemmas.Option.{get_or_from_slice_get, slice_get_read}
 use Rattle.rhythm_base.specs.Bodies.{children}
 use Rattle.rhythm_base.specs.Ranked.{five}
-use Rattle.rhythm_laws.proofs.Products.{five_at}
+use Rattle.path_laws.proofs.Products.{five_at}
 use Rattle.row_laws.specs.QuietTrees.{sounds_so}
 use Rattle.grammar_plan.specs.Plans.{between, pair_of, place_of_leaf}
 use Rattle.grammar_plan.specs.QuietRows.{cut_tree, leaf_tree, nearer_tree, parts_cost}

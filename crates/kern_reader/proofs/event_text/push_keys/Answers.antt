@@ -1,6 +1,6 @@
 use Rattle.std.proofs.Common.{◌≡◌, ℕ, ◌+◌, ◌-◌, ◌++◌, List, [], sym, ap, ◌∙◌, false, append-nil, arith}
 use Rattle.std.specs.Int.{bit_at}
-use Rattle.kern_reader.specs.EventText.{keys_from, listed_on}
+use Rattle.kern_reader.specs.EventText.{event_keys, listed_on}
 use Rattle.kern_reader.proofs.KeyFloors.{found_more, had, none_after, not_had, nothing_found, text_from}
 use Rattle.kern_reader.proofs.KeyLemmas.{bit_clear, bit_set, key_absent, key_there, keys_end}
 use Rattle.kern_reader.proofs.event_text.push_keys.Goals as goal
@@ -17,7 +17,7 @@ keys-preserved c =
     let keys = c.args.keys in
     let k : ℕ = c.keys.key in
     let h = c.keys.invariant in
-    let rest : List ℕ = keys_from keys (k + 1) (128 - (k + 1)) in
+    let rest : List ℕ = event_keys keys (k + 1) (128 - (k + 1)) in
     elim c.if-has.branch [
       | then-has+in_ok-push_key+else-are_same w ↦
           let set = bit_set keys k (had c.has.result keys k c.has.ensures w.if-has.true) in
@@ -40,11 +40,11 @@ returns-then-are_same c =
     let k : ℕ = c.keys.key in
     let h = c.keys.invariant in
     let same = c.are_same.ensures c.if-are_same.true in
-    let rest : keys_from keys (k + 1) (128 - (k + 1)) ≡ [] =
+    let rest : event_keys keys (k + 1) (128 - (k + 1)) ≡ [] =
     none_after keys (k + 1) (128 - (k + 1)) (λ j le. ap (λ x. bit_at x j) (sym same) ∙ found_more c.keys.found k c.join-found.result c.one.result c.join-found.ensures c.one.ensures h.found j le) in
     let set = bit_set keys k (had c.has.result keys k c.has.ensures c.if-has.true) in
     let new : List ℕ = c.push_key.new.text.items in
-    sym (append-nil new) ∙ ap (λ l. new ++ listed_on false l) (sym rest) ∙ ap (λ t. t ++ listed_on false (keys_from keys (k + 1) (128 - (k + 1)))) c.in_ok-push_key.ensures
+    sym (append-nil new) ∙ ap (λ l. new ++ listed_on false l) (sym rest) ∙ ap (λ t. t ++ listed_on false (event_keys keys (k + 1) (128 - (k + 1)))) c.in_ok-push_key.ensures
     ∙ key_there keys k c.keys.first c.keys.text.items c.keys-test.true set ∙ h.text
 
 pub returns : goal.returns

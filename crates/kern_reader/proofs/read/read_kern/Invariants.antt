@@ -1,4 +1,4 @@
-use Rattle.std.proofs.Common.{◌≡◌, ◌+◌, ◌<◌, ◌≤◌, ◌^◌, List, length}
+use Rattle.std.proofs.Common.{◌≡◌, ◌+◌, ◌-◌, ◌<◌, ◌≤◌, ◌^◌, List, drop, length}
 use Rattle.kern_reader.specs.declared.line.KernLine.{KernLine}
 use Rattle.kern_reader.specs.Outcome.{read_from, read_text}
 use Rattle.kern_reader.specs.Reading.{IsReading}
@@ -10,6 +10,7 @@ invariant-lines l = record {
   before : (before : List KernLine) × IsReading l.number before l.reading × (read_from before l.number (kern_lines l.rest) ≡ read_text l.bytes);
   some : 1 ≤ l.number;
   small : l.number + length l.rest < 2 ^ 32;
+  rest : kern_lines l.rest ≡ drop (l.number - 1) (kern_lines l.bytes);
   count : l.number + length (kern_lines l.rest) ≡ length (kern_lines l.bytes) + 1;
 }
 

@@ -5,7 +5,7 @@ use Rattle.kern_writer.specs.Changes.{changes}
 use Rattle.kern_writer.specs.Columns.{AreDataRecords}
 use Rattle.kern_writer.specs.Records.{AreBarRecords, Record, alike, barline_record}
 use Rattle.kern_writer.specs.Tokens.{Token}
-use Rattle.kern_writer.specs.Writing.{Writes}
+use Rattle.kern_writer.specs.Writing.{WritesRecords}
 use Rattle.kern_writer.proofs.Merging.{are_records, bar_records, data_exist}
 use Rattle.kern_writer.proofs.Writing.{fault_handed, nothing_written, past_among, writes_after, written_after}
 use Rattle.kern_writer.proofs.bar.write_columns.Goals as goal
@@ -49,5 +49,5 @@ returns c =
     let all = writes_after c.args.text.now c.write_shared.new.text c.write_data.new.text (front ++ barline ∷ []) rows.0 c.write_data.result two rows.2 in (
       bar_records c.args.before c.args.bar.now c.args.number columns rows.0,
       are_records c.args.before c.args.bar.now c.args.number columns rows.0 rows.1,
-      subst (λ rs. Writes rs c.args.text.now c.write_data.result c.write_data.new.text) (append_assoc front (barline ∷ []) rows.0) all,
+      subst (λ rs. WritesRecords rs c.args.text.now c.write_data.result c.write_data.new.text) (append_assoc front (barline ∷ []) rows.0) all,
     )

@@ -2,7 +2,7 @@ use Rattle.std.proofs.Common.{◌≡◌, List, ◌++◌, map, sym, ap, ◌∙◌
 use Rattle.std.proofs.lemmas.List.{append_assoc, map-append}
 use Rattle.kern_writer.specs.Changes.{changes, key_before, key_change, signature_change, tempo_change}
 use Rattle.kern_writer.specs.Records.{Record, alike}
-use Rattle.kern_writer.specs.Writing.{HasWritten, Writes}
+use Rattle.kern_writer.specs.Writing.{HasWritten, WritesRecords}
 use Rattle.kern_writer.proofs.Writing.{fault_handed, past_among, writes_after, written_after}
 use Rattle.kern_writer.proofs.changes.write_changes.Goals as goal
 
@@ -31,4 +31,4 @@ returns c =
     let first = subst (λ k. HasWritten c.args.text.now c.write_key.new.text (map line (key_change k bar.sf))) c.key_of.ensures c.in_ok-write_key.ensures in
     let two = written_after c.args.text.now c.write_key.new.text c.write_signature.new.text (map line keys) (map line signatures) first c.in_ok-write_signature.ensures in
     let all = writes_after c.args.text.now c.write_signature.new.text c.write_tempo.new.text (map line keys ++ map line signatures) (map line tempos) c.write_tempo.result two c.write_tempo.ensures in
-    subst (λ rs. Writes rs c.args.text.now c.write_tempo.result c.write_tempo.new.text) (append_assoc (map line keys) (map line signatures) (map line tempos) ∙ three line keys signatures tempos) all
+    subst (λ rs. WritesRecords rs c.args.text.now c.write_tempo.result c.write_tempo.new.text) (append_assoc (map line keys) (map line signatures) (map line tempos) ∙ three line keys signatures tempos) all

@@ -2,7 +2,7 @@ use Rattle.std.proofs.Common.{◌≡◌, ℕ, ◌+◌, ◌++◌, List, length, m
 use Rattle.std.specs.Prelude.{codes}
 use Rattle.std.specs.List.{join_with_byte}
 use Rattle.std.proofs.lemmas.List.{append-nil}
-use Rattle.rhythm_base.specs.Pitch.{pitch}
+use Rattle.durations.specs.Pitch.{pitch}
 use Rattle.kern_writer.specs.Tokens.{keys_from}
 use Rattle.kern_writer.proofs.RisingKeys.{chord_step, had, keys_all, keys_below, keys_count, keys_skip, not_had}
 use Rattle.kern_writer.proofs.chord.push_grace.Goals as goal

@@ -1,7 +1,7 @@
 use Rattle.std.proofs.Common.{◌≡◌, ◌≤◌, ◌++◌, length, map}
 use Rattle.std.specs.Prelude.{codes}
 use Rattle.std.specs.List.{join_with_byte}
-use Rattle.rhythm_base.specs.Pitch.{pitch}
+use Rattle.durations.specs.Pitch.{pitch}
 use Rattle.kern_writer.specs.Tokens.{keys_from}
 use Rattle.kern_writer.proofs.chord.push_grace.Given as goal
 

@@ -3,7 +3,7 @@ use Rattle.std.proofs.lemmas.List.{append_assoc}
 use Rattle.std.specs.Prelude.{codes}
 use Rattle.kern_writer.specs.Records.{Record, alike, head, tail}
 use Rattle.derivation.specs.Score.{Score}
-use Rattle.kern_writer.specs.Writing.{HasWritten, Writes}
+use Rattle.kern_writer.specs.Writing.{HasWritten, WritesRecords}
 use Rattle.kern_writer.proofs.AllRecords.{bars_exist, score_records}
 use Rattle.kern_writer.proofs.Writing.{fault_handed, nothing_written, past_among, writes_after, written_after}
 use Rattle.kern_writer.proofs.kern.write_records.Goals as goal
@@ -64,5 +64,5 @@ returns c =
     let all = writes_after c.args.text.now c.write_shared-2.new.text c.write_shared-3.new.text (front ++ barline) end c.write_shared-3.result more c.write_shared-3.ensures in (
       head n ∷ (bars.1 ++ tail n),
       score_records s bars.1 bars.0 bars.2 bars.3,
-      subst (λ rs. Writes rs c.args.text.now c.write_shared-3.result c.write_shared-3.new.text) (append_assoc front barline end) all,
+      subst (λ rs. WritesRecords rs c.args.text.now c.write_shared-3.result c.write_shared-3.new.text) (append_assoc front barline end) all,
     )

@@ -1,5 +1,5 @@
 use Rattle.std.proofs.Common.{subst, sym}
-use Rattle.least_rows.specs.BarTrees.{bar_trees}
+use Rattle.least_rows.specs.QuietTrees.{bar_trees}
 use Rattle.least_cost.specs.Tables.{AreCellTrees}
 use Rattle.least_cost.proofs.TableLists.{cell-trees}
 use Rattle.least_cost.proofs.build.build_quiet.Goals as goal

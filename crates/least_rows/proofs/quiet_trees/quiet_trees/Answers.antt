@@ -1,6 +1,6 @@
 use Rattle.std.proofs.Common.{[], List, ℕ, sym, subst}
 use Rattle.least_rows.specs.Roots.{IsOnlyTree, IsRootListAt}
-use Rattle.least_rows.specs.WrittenLists.{AreWritten}
+use Rattle.bar_trees.specs.WrittenLists.{AreListsWritten}
 use Rattle.least_rows.proofs.RootRows.{quiet-rows, quiet-written, quiet_ends}
 use Rattle.least_rows.proofs.quiet_trees.quiet_trees.Goals as goal
 
@@ -18,7 +18,7 @@ returns-clause-written c =
     let written = quiet-written g k c.in_ok-a.a.best c.in_ok-b.b.best c.in_ok-c.c.best c.in_ok-d.d.best c.in_ok-e.e.best
     c.only_tree.new.rules.items c.only_tree-2.new.rules.items c.only_tree-3.new.rules.items c.only_tree-4.new.rules.items c.only_tree-5.new.rules.items
     first c.in_ok-b.ensures.tree c.in_ok-c.ensures.tree c.in_ok-d.ensures.tree c.in_ok-e.ensures.tree in
-    let P : List ℕ → Type 0 = λ ends. AreWritten (IsRootListAt g k) c.only_tree-5.new.rules.items ends 25 in
+    let P : List ℕ → Type 0 = λ ends. AreListsWritten (IsRootListAt g k) c.only_tree-5.new.rules.items ends 25 in
     subst P
     (λ i. quiet_ends (sym c.in_ok-a.ensures.end i) (sym c.in_ok-b.ensures.end i) (sym c.in_ok-c.ensures.end i) (sym c.in_ok-d.ensures.end i) (sym c.in_ok-e.ensures.end i))
     written

@@ -1,11 +1,11 @@
 use Rattle.std.proofs.Common.{[], ◌∷◌, refl, sym, subst, append-nil}
 use Rattle.std.specs.Prelude.{Some, None}
 use Rattle.std.proofs.lemmas.Option.{slice_get_within}
-use Rattle.rhythm_laws.specs.Forests.{IsForestKey}
-use Rattle.rhythm_laws.specs.Tables.{IsLeastKey}
+use Rattle.tree_laws.specs.Forests.{IsForestKey}
+use Rattle.path_laws.specs.Tables.{IsLeastKey}
 use Rattle.row_laws.specs.Grounds.{ground_of}
 use Rattle.grammar_plan.specs.Plans.{pair_of}
-use Rattle.least_rows.specs.WrittenLists.{IsListOf}
+use Rattle.bar_trees.specs.WrittenLists.{IsListOf}
 use Rattle.least_rows.proofs.PlanSeats.{on_ok}
 use Rattle.least_rows.proofs.RootRows.{no-list, some_key}
 use Rattle.least_rows.proofs.roots.write_list.Goals as goal

@@ -1,8 +1,8 @@
 use Rattle.std.proofs.Common.{◌≡◌, ◌+◌, suc, refl, sym, subst, arith}
 use Rattle.least_rows.specs.Roots.{IsRootListAt}
 use Rattle.least_rows.specs.Texts.{AreTexts}
-use Rattle.least_rows.specs.WrittenLists.{AreWritten, number_of}
-use Rattle.least_rows.proofs.ListEnds.{written-next}
+use Rattle.bar_trees.specs.WrittenLists.{AreListsWritten, list_number}
+use Rattle.bar_trees.proofs.ListEnds.{written-next}
 use Rattle.least_rows.proofs.RootRows.{root-list-of, row-best}
 use Rattle.least_rows.proofs.roots.write_lists.Goals as goal
 
@@ -18,12 +18,12 @@ counts-preserved c =
     let old = c.counts.invariant in
     let more = c.in_ok-write_list.ensures.list in
     let later = c.write_list.new.rules.items in
-    let next : suc (number_of from to) ≡ number_of from (to + 1) = omega arith in
-    let here = written-next (IsRootListAt g k) c.counts.lists.rules.items more.0 later c.counts.lists.ends (number_of from to) (number_of from (to + 1)) (omega (arith, c.counts-test.true, c.requires.from)) old.written more.1
-    (root-list-of g k from to (number_of from to) more.0 c.counts-test.true more.2 refl) next in
+    let next : suc (list_number from to) ≡ list_number from (to + 1) = omega arith in
+    let here = written-next (IsRootListAt g k) c.counts.lists.rules.items more.0 later c.counts.lists.ends (list_number from to) (list_number from (to + 1)) (omega (arith, c.counts-test.true, c.requires.from)) old.written more.1
+    (root-list-of g k from to (list_number from to) more.0 c.counts-test.true more.2 refl) next in
     record {
       known = c.in_ok-write_list.ensures.known;
       texts = subst (λ l. AreTexts g k c.args.search.now.plan.now l c.write_list.new.texts) (sym c.in_ok-end.ensures.rules) c.in_ok-write_list.ensures.texts;
-      written = subst (λ l. AreWritten (IsRootListAt g k) l c.end.new.self.ends (number_of from (to + 1))) (sym c.in_ok-end.ensures.rules)
-          (subst (λ e. AreWritten (IsRootListAt g k) later e (number_of from (to + 1))) (sym c.in_ok-end.ensures.ends) here);
+      written = subst (λ l. AreListsWritten (IsRootListAt g k) l c.end.new.self.ends (list_number from (to + 1))) (sym c.in_ok-end.ensures.rules)
+          (subst (λ e. AreListsWritten (IsRootListAt g k) later e (list_number from (to + 1))) (sym c.in_ok-end.ensures.ends) here);
     }

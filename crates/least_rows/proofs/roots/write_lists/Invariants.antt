@@ -1,12 +1,12 @@
 use Rattle.least_rows.specs.Roots.{IsRootListAt}
 use Rattle.least_rows.specs.States.{AreKnown}
 use Rattle.least_rows.specs.Texts.{AreTexts}
-use Rattle.least_rows.specs.WrittenLists.{AreWritten, number_of}
+use Rattle.bar_trees.specs.WrittenLists.{AreListsWritten, list_number}
 use Rattle.least_rows.proofs.roots.write_lists.Given as goal
 
 abbrev pub invariant-counts : goal.invariant-counts
 invariant-counts l = record {
   known : AreKnown l.search.grammar.now l.search.input.now l.search.plan.now l.rows;
   texts : AreTexts l.search.grammar.now l.search.input.now l.search.plan.now l.lists.rules.items l.texts;
-  written : AreWritten (IsRootListAt l.search.grammar.now l.search.input.now) l.lists.rules.items l.lists.ends (number_of l.fn.from l.to);
+  written : AreListsWritten (IsRootListAt l.search.grammar.now l.search.input.now) l.lists.rules.items l.lists.ends (list_number l.fn.from l.to);
 }

@@ -3,8 +3,8 @@ use Rattle.std.specs.Prelude.{Some, None, vec_len}
 use Rattle.std.proofs.lemmas.List.{length-take}
 use Rattle.std.proofs.lemmas.Option.{get_or_from_slice_get, slice_get_within, slice_get_read}
 use Rattle.rhythm_base.specs.Bodies.{children, sizes}
-use Rattle.rhythm_laws.specs.Forests.{Ground, IsForestKey}
-use Rattle.rhythm_laws.specs.Tables.{IsLeastKey}
+use Rattle.tree_laws.specs.Forests.{Ground, IsForestKey}
+use Rattle.path_laws.specs.Tables.{IsLeastKey}
 use Rattle.row_laws.specs.Grounds.{ground_of}
 use Rattle.grammar_plan.specs.Plans.{HasSeat, between, pair_of}
 use Rattle.grammar_plan.specs.declared.seat.Seat.{Seat}

@@ -1,7 +1,7 @@
 use Rattle.std.proofs.Common.{◌∷◌, [], sym, subst}
 use Rattle.std.proofs.lemmas.List.{take_rest}
-use Rattle.lily_writer.specs.Pieces.{gap, pieces_in}
-use Rattle.lily_writer.specs.Writing.{HasPassed, Writes}
+use Rattle.lily_writer.specs.Pieces.{bar_gap, bar_pieces}
+use Rattle.lily_writer.specs.Writing.{HasPassed, WritesPieces}
 use Rattle.lily_writer.proofs.EventsAhead.{event_passed, next_span}
 use Rattle.lily_writer.proofs.Stretches.{passed_none}
 use Rattle.lily_writer.proofs.ahead.write_ended.Goals as goal
@@ -38,7 +38,7 @@ events-preserved c =
     let bar = c.args.bar in
     let e = c.event-item.result in
     let events = c.events.events.now in
-    let gap_text = subst (λ n. Writes c.args.resolution c.args.flats (pieces_in bar.from bar.to (gap c.events.at n ∷ []))
+    let gap_text = subst (λ n. WritesPieces c.args.resolution c.args.flats (bar_pieces bar.from bar.to (bar_gap c.events.at n ∷ []))
     c.events.text.items c.write_gap.new.text.items)
     c.extent_of-whole.ensures.from (c.in_ok-write_gap.ensures c.args.flats) in
     event_passed c.args.resolution bar.from bar.to c.args.flats c.args.ahead events _ c.events.at c.extent_of-whole.result.to

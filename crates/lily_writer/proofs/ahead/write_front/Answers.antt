@@ -1,7 +1,7 @@
 use Rattle.std.proofs.Common.{◌∷◌, [], sym, subst}
 use Rattle.std.proofs.lemmas.Result.{on_ok_weaker}
-use Rattle.lily_writer.specs.Pieces.{gap, pieces_in}
-use Rattle.lily_writer.specs.Writing.{EndsAfter, IsAhead, Writes, stretches_ahead}
+use Rattle.lily_writer.specs.Pieces.{bar_gap, bar_pieces}
+use Rattle.lily_writer.specs.Writing.{EndsAfter, IsAhead, WritesPieces, stretches_ahead}
 use Rattle.lily_writer.proofs.EventsAhead.{end_of_events, front_of_events, next_span}
 use Rattle.lily_writer.proofs.ahead.write_front.Goals as goal
 
@@ -34,7 +34,7 @@ returns-in-empty c =
     let a = c.ahead.inside in
     let bar = c.args.bar in
     on_ok_weaker c.write_gap.result
-    (λ h. subst (λ b. Writes c.args.resolution c.args.flats (pieces_in bar.from bar.to (stretches_ahead c.args.resolution b))
+    (λ h. subst (λ b. WritesPieces c.args.resolution c.args.flats (bar_pieces bar.from bar.to (stretches_ahead c.args.resolution b))
     c.args.text.now.items c.write_gap.new.text.items) c.ahead.view_is
     (end_of_events c.args.resolution bar.from bar.to c.args.flats a.events.now a.at a.end c.args.text.now.items c.write_gap.new.text.items
     c.in-empty.len_below (h c.args.flats)))
@@ -45,11 +45,11 @@ returns-in_ok-write_gap-in-len1-up c =
     let a = c.ahead.inside in
     let bar = c.args.bar in
     let e = c.event-item.result in
-    let gap_text = subst (λ n. Writes c.args.resolution c.args.flats (pieces_in bar.from bar.to (gap a.at n ∷ [])) c.args.text.now.items
+    let gap_text = subst (λ n. WritesPieces c.args.resolution c.args.flats (bar_pieces bar.from bar.to (bar_gap a.at n ∷ [])) c.args.text.now.items
     c.write_gap-in-len1-up.new.text.items)
     c.extent_of.ensures.from (c.in_ok-write_gap-in-len1-up.ensures c.args.flats) in
     on_ok_weaker c.write_span.result
-    (λ h. subst (λ b. Writes c.args.resolution c.args.flats (pieces_in bar.from bar.to (stretches_ahead c.args.resolution b))
+    (λ h. subst (λ b. WritesPieces c.args.resolution c.args.flats (bar_pieces bar.from bar.to (stretches_ahead c.args.resolution b))
     c.args.text.now.items c.write_span.new.text.items) c.ahead.view_is
     (front_of_events c.args.resolution bar.from bar.to c.args.flats a.events.now a.at a.end e c.args.text.now.items
     c.write_gap-in-len1-up.new.text.items c.write_span.new.text.items

@@ -2,7 +2,7 @@ use Rattle.std.proofs.Common.{◌≡◌, ℕ, ◌+◌, ◌++◌, List, length, m
 use Rattle.std.specs.List.{join_with_byte}
 use Rattle.kern_writer.specs.Tokens.{keys_from}
 use Rattle.kern_writer.proofs.RisingKeys.{chord_step, had, keys_all, keys_count, keys_skip, not_had}
-use Rattle.lily_writer.specs.Pitches.{pitch}
+use Rattle.lily_writer.specs.Pitches.{lily_pitch}
 use Rattle.lily_writer.proofs.chord.push_pitches.Goals as goal
 use Rattle.lily_writer.proofs.chord.push_pitches.Goals.{then-has+in_ok-push_between+in_ok-push_pitch, else-has}
 
@@ -10,7 +10,7 @@ pub keys-preserved : goal.keys-preserved
 keys-preserved c =
     let keys = c.args.keys in
     let k = c.keys.key in
-    let note : ℕ → List ℕ = pitch c.args.flats in
+    let note : ℕ → List ℕ = lily_pitch c.args.flats in
     let h = c.keys.invariant in
     elim c.if-has.branch [
       | then-has+in_ok-push_between+in_ok-push_pitch w ↦
@@ -34,7 +34,7 @@ keys-preserved c =
 pub returns : goal.returns
 returns c =
     let keys = c.args.keys in
-    let note : ℕ → List ℕ = pitch c.args.flats in
+    let note : ℕ → List ℕ = lily_pitch c.args.flats in
     let all : c.keys.key ≡ 128 = omega (arith, c.keys-test.false, c.keys.auto.key-end) in
     c.keys.invariant.text ∙ ap (λ n. c.args.text.now.items ++ join_with_byte 32 (map note (keys_from keys 0 n))) all
     ∙ ap (λ ks. c.args.text.now.items ++ join_with_byte 32 (map note ks))

@@ -1,5 +1,5 @@
 use Rattle.std.proofs.Common.{◌<◌, ◌≤◌, get_or, length, sym, ap, ◌∙◌, arith}
-use Rattle.rhythm_laws.proofs.EditedBars.{barline_last}
+use Rattle.performance_laws.proofs.EditedBars.{barline_last}
 use Rattle.performance_edit.proofs.OtherBarlines.{barline_at}
 use Rattle.performance_edit.proofs.bars.barline.Goals as goal
 

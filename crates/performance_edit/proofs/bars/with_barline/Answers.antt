@@ -1,6 +1,6 @@
 use Rattle.std.proofs.Common.{rules, ◌≡◌, ◌<◌, ◌≤◌, List, get_or, length, slice_set, sym, ap, ◌∙◌, arith}
 use Rattle.rhythm_base.specs.declared.note.Bar.{Bar}
-use Rattle.rhythm_base.specs.Edits.{with_start}
+use Rattle.edit_laws.specs.Edits.{with_start}
 use Rattle.edit_laws.proofs.BarEdits.{unchanged}
 use Rattle.performance_edit.proofs.OtherBarlines.{with_barline-set}
 use Rattle.performance_edit.proofs.bars.with_barline.Goals as goal

@@ -1,6 +1,6 @@
 use Rattle.std.proofs.Common.{◌≡◌, ℕ, sym, ◌∙◌, Option, Some, None}
 use Rattle.std.specs.Option.{is_some}
-use Rattle.rhythm_base.specs.Edits.{has_note, is_note}
+use Rattle.edit_laws.specs.Edits.{has_note, is_note}
 use Rattle.performance_edit.specs.OnlyPlaces.{IsOnlyPlace}
 use Rattle.performance_edit.proofs.OnlyPlaces.{any-none, any-only}
 use Rattle.performance_edit.proofs.notes.has_note.Goals as goal

@@ -1,6 +1,6 @@
 use Rattle.std.proofs.Common.{sym, ◌∙◌}
 use Rattle.std.proofs.lemmas.Option.{slice_get-get_or}
-use Rattle.rhythm_base.specs.Edits.{is_note}
+use Rattle.edit_laws.specs.Edits.{is_note}
 use Rattle.performance_edit.proofs.OnlyPlaces.{find-none, find-only}
 use Rattle.performance_edit.proofs.notes.note_at.Goals as goal
 

@@ -1,7 +1,7 @@
 use Rattle.std.proofs.Common.{sym, ap, ◌∙◌}
 use Rattle.std.proofs.lemmas.List.{get_or_default}
 use Rattle.rhythm_base.specs.declared.note.Note.{Note}
-use Rattle.rhythm_base.specs.Edits.{is_note}
+use Rattle.edit_laws.specs.Edits.{is_note}
 use Rattle.performance_edit.proofs.OnlyPlaces.{nowhere, only_there}
 use Rattle.performance_edit.proofs.notes.place_of.Goals as goal
 

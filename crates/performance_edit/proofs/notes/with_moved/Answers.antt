@@ -5,7 +5,7 @@ use Rattle.std.specs.declared.cmp.Ordering.TheVariants.{Less}
 use Rattle.std.proofs.lemmas.List.Kept.{AllPairs-filter}
 use Rattle.rhythm_base.specs.declared.limits.TheConstants.{LATEST_TICK}
 use Rattle.rhythm_base.specs.declared.note.Note.{Note}
-use Rattle.rhythm_base.specs.Edits.{is_note}
+use Rattle.edit_laws.specs.Edits.{is_note}
 use Rattle.rhythm_base.specs.Lists.{AreInOrder}
 use Rattle.rhythm_base.specs.Performance.{place_of_note}
 use Rattle.edit_laws.proofs.Edited.{is_found}

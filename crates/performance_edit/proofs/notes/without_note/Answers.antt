@@ -1,6 +1,6 @@
 use Rattle.std.proofs.Common.{rules, arith, ◌≡◌, ℕ, suc, ◌+◌, List, ◌++◌, drop, sym, ap, ◌∙◌}
 use Rattle.rhythm_base.specs.declared.note.Note.{Note}
-use Rattle.rhythm_base.specs.Edits.{is_note}
+use Rattle.edit_laws.specs.Edits.{is_note}
 use Rattle.performance_edit.proofs.OnlyPlaces.{filter-none, filter-only}
 use Rattle.performance_edit.proofs.notes.without_note.Goals as goal
 

@@ -1,6 +1,6 @@
 use Rattle.std.proofs.Common.{sym, ap, ◌∙◌, Some}
 use Rattle.rhythm_base.specs.declared.edit_fault.EditFault.TheVariants.{PastEnd}
-use Rattle.rhythm_base.specs.Edits.{has_note, is_past, moved_to, note_at, without_note}
+use Rattle.edit_laws.specs.Edits.{has_note, is_past, moved_to, note_at, without_note}
 use Rattle.performance_edit.proofs.Searches.{no_fault, no_note, note-end, past_end, same_note}
 use Rattle.performance_edit.proofs.refusals.refusal_of_move.Goals as goal
 

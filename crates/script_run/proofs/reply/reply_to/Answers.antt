@@ -1,6 +1,6 @@
 use Rattle.std.proofs.Common.{arith, subst}
-use Rattle.rhythm_base.specs.ScriptLines.{SaysCommand}
-use Rattle.rhythm_base.specs.declared.command.Command.TheVariants.{Quit}
+use Rattle.edit_script.specs.ScriptLines.{SaysCommand}
+use Rattle.edit_script.specs.declared.command.Command.TheVariants.{Quit}
 use Rattle.script_run.proofs.Replies.{alternatives_line, change_line, line_is_no_bye, memory_line, nothing_line, quit_line, score_line}
 use Rattle.script_run.proofs.reply.reply_to.Goals as goal
 

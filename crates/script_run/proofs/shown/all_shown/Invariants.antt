@@ -1,6 +1,6 @@
 use Rattle.std.specs.Prelude.{◌≡◌, map, take}
 use Rattle.edit_script.specs.ReplyText.{shown_by}
-use Rattle.rhythm_base.specs.Script.{shown_alternative}
+use Rattle.script_laws.specs.Script.{shown_alternative}
 use Rattle.script_run.proofs.shown.all_shown.Given as goal
 
 abbrev pub invariant-alternatives : goal.invariant-alternatives

@@ -1,6 +1,6 @@
 use Rattle.std.proofs.Common.{arith, subst}
-use Rattle.rhythm_base.specs.ScriptLines.{SaysCommand}
-use Rattle.rhythm_base.specs.declared.command.Command.TheVariants.{Quit}
+use Rattle.edit_script.specs.ScriptLines.{SaysCommand}
+use Rattle.edit_script.specs.declared.command.Command.TheVariants.{Quit}
 use Rattle.session_history.specs.StudioLines.{SaysStudio}
 use Rattle.session_history.specs.declared.studio_command.StudioCommand.TheVariants.{Plain}
 use Rattle.script_run.proofs.Studios.{alternatives_in_studio, change_in_studio, memory_in_studio, nothing_in_studio, quit_in_studio, redo_line, score_in_studio, step_is_no_bye, studio_line_is_no_bye, studio_quits_not, undo_line}

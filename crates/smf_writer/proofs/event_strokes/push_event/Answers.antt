@@ -1,7 +1,7 @@
 use Rattle.std.proofs.Common.{rules, ◌≡◌, ◌++◌, ◌+◌, ◌<◌, ◌≤◌, ℕ, List, length, ap, ◌∙◌, arith}
 use Rattle.std.proofs.lemmas.Result.{IfOk-equal}
 use Rattle.voice_events.specs.Parts.{len_parts, start_parts}
-use Rattle.smf_writer.specs.Strokes.{grace_strokes, joined, strokes_events}
+use Rattle.smf_writer.specs.Strokes.{grace_strokes, joined_keys, strokes_events}
 use Rattle.smf_writer.proofs.EventStrokes.{crowded, graced, half_way, made, meant}
 use Rattle.smf_writer.proofs.event_strokes.push_event.Goals as goal
 use Rattle.smf_writer.proofs.event_strokes.push_event.Goals.{then-graces-length+in_ok-onset, else-graces-length}
@@ -32,6 +32,6 @@ returns c =
       | else-graces-length w ↦ (
           let more : len_parts r x ≤ length x.graces = omega (arith, w.if-graces-length.false, ap length slice, c.ticks_of-length.ensures) in
           crowded r x channel old now onset end passing ending more (λ i. (w.events-is i).items) ((λ i. (w.onset-is i).0) ∙ c.ticks_of-start.ensures)
-          ((λ i. (w.onset-is i).1) ∙ w.joined.ensures ∙ ap joined slice))
+          ((λ i. (w.onset-is i).1) ∙ w.joined.ensures ∙ ap joined_keys slice))
     ] in
     IfOk-equal c.push_stroke.result _ _ _ c.push_stroke.ensures whole

@@ -5,7 +5,7 @@ use Rattle.std.proofs.lemmas.List.{get_or_append_left, length-append}
 use Rattle.std.proofs.lemmas.Bool.{cases_lt}
 use Rattle.rhythm_base.specs.declared.inner.Inner.{Inner}
 use Rattle.bar_view.specs.Points.{IsPoint}
-use Rattle.bar_view.specs.Units.{IsPart, IsQuietFrom, SplitsAt, end_of_earlier}
+use Rattle.bar_view.specs.Units.{IsUnitPart, IsQuietFrom, SplitsAt, end_of_earlier}
 use Rattle.bar_view.proofs.Quiets.{part-quiet}
 use Rattle.bar_view.proofs.units.Units.go_on.Goals as goal
 
@@ -41,7 +41,7 @@ returns-clause-units c =
           | inl first ↦ subst (IsQuietFrom k u) (sym (c.in_ok-fill.ensures.same u d first)) (c.requires.units.quiet u d first)
           | inr far ↦
               part-quiet k u last count (end_of_earlier k count e * k.resolution) e (λ v low near. c.requires.split v (omega (arith, far, low, alike)) near) refl c.requires.within (get_or c.fill.new.quiet.items u d)
-              (subst (λ l. IsPart l (end_of_earlier k count e * k.resolution) last u (get_or c.fill.new.quiet.items u d)) ticks (c.in_ok-fill.ensures.part (end_of_earlier k count e * k.resolution) u d point' far (omega (arith, low, far, filled))))
+              (subst (λ l. IsUnitPart l (end_of_earlier k count e * k.resolution) last u (get_or c.fill.new.quiet.items u d)) ticks (c.in_ok-fill.ensures.part (end_of_earlier k count e * k.resolution) u d point' far (omega (arith, low, far, filled))))
         ])
         | inr behind ↦
             let last_one : length c.fill.new.quiet.items ≡ u = omega (arith, behind, h, one_more) in

@@ -2,7 +2,7 @@ use Rattle.std.proofs.Common.{rules, ◌≡◌, ℕ, ◌+◌, ◌-◌, ◌*◌, 
 use Rattle.std.specs.Prelude.{nat_le}
 use Rattle.std.proofs.Math.Nat.{mul-le-mul_right}
 use Rattle.std.proofs.lemmas.Bool.{cases_lt}
-use Rattle.rhythm_laws.proofs.Ticks.{le_from, le_tells}
+use Rattle.tree_laws.proofs.Ticks.{le_from, le_tells}
 use Rattle.rhythm_base.specs.declared.inner.Inner.{Inner}
 use Rattle.bar_view.specs.Displaced.{displacements}
 use Rattle.bar_view.specs.Units.{SplitsAt, end_of_earlier}

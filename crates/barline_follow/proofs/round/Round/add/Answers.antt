@@ -1,45 +1,47 @@
-use Rattle.std.proofs.Common.{◌≡◌, ◌++◌, ◌∷◌, [], Result, Ok, Err, ap, sym, ◌∙◌, subst}
+use Rattle.std.proofs.Common.{List, ◌≡◌, ◌++◌, ◌∷◌, [], Result, Ok, Err, ap, sym, ◌∙◌, subst}
 use Rattle.std.specs.Prelude.{Option, OnOk}
 use Rattle.barline_follow.specs.declared.round.Outcome.{Outcome}
 use Rattle.barline_follow.specs.declared.round.Outcome.TheVariants.{Whole}
-use Rattle.barline_follow.specs.Barring.{Barring, Track, better, track_end, track_value}
+use Rattle.barline_follow.specs.Barring.{Barring, Course, better, course_end, course_value}
 use Rattle.barline_follow.specs.Gathered.{IsGathered, Round, found_of, going_in}
 use Rattle.barline_follow.specs.Least.{AreFirstLeast}
+use Rattle.barline_follow.proofs.FewLeast.{few_more, few_themselves}
 use Rattle.barline_follow.proofs.Gathering.{going_more, lost_more, whole_more}
 use Rattle.barline_follow.proofs.round.Round.add.Goals as goal
 
 pub returns-in-Lost : goal.returns-in-Lost
-returns-in-Lost c best found tracks h =
-    subst (λ (o : Outcome). IsGathered best (found ++ (found_of o ∷ [])) (tracks ++ going_in o) c.args.self.now) (sym c.in-Lost.is)
-    (lost_more best found tracks c.args.self.now h)
-
-on_ok : {A E : Type 0} (r : Result A E) (P Q : Type 0) → (P → Q) → OnOk r P → OnOk r Q
-on_ok (Ok a) P Q f h = f h
-on_ok (Err e) P Q f h = h
+returns-in-Lost c best found courses h =
+    subst (λ (o : Outcome). IsGathered best (found ++ (found_of o ∷ [])) (courses ++ going_in o) c.args.self.now) (sym c.in-Lost.is)
+    (lost_more best found courses c.args.self.now h)
 
 pub keep-requires : goal.keep-requires
 keep-requires c =
     let before : Round = record { kept = c.self.inside.kept.items; best = c.self.inside.best } in
-    let was : IsGathered c.requires.0 c.requires.1 c.requires.2 before = subst (IsGathered c.requires.0 c.requires.1 c.requires.2) (sym c.self.view_is) c.requires.3 in
-    (c.requires.2, was.kept)
+    let was : IsGathered c.requires.0 c.requires.1 c.requires.2 before = subst (IsGathered c.requires.0 c.requires.1 c.requires.2) (sym c.self.view_is) c.requires.3 in (
+      c.self.inside.kept.items,
+      subst (λ (l : List Course). AreFirstLeast course_value course_end l l) (sym was.kept.2)
+          (few_themselves course_value course_end 24 c.requires.2 was.kept.0 was.kept.1),
+    )
 
-pub returns-in-Going : goal.returns-in-Going
-returns-in-Going c best found tracks h =
+pub returns-in_ok-keep-in-Going : goal.returns-in_ok-keep-in-Going
+returns-in_ok-keep-in-Going c best found courses h =
     let before : Round = record { kept = c.self.inside.kept.items; best = c.self.inside.best } in
-    let was : IsGathered best found tracks before = subst (IsGathered best found tracks) (sym c.self.view_is) h in
-    let track : Track = c.in-Going.track in
-    on_ok c.keep.result (AreFirstLeast track_value track_end (tracks ++ (track ∷ [])) c.keep.new.kept.items)
-    (IsGathered best (found ++ (found_of c.args.outcome ∷ [])) (tracks ++ going_in c.args.outcome) (record { kept = c.keep.new.kept.items; best = c.self.inside.best }))
-    (λ are. subst (λ (o : Outcome). IsGathered best (found ++ (found_of o ∷ [])) (tracks ++ going_in o) (record { kept = c.keep.new.kept.items; best = c.self.inside.best })) (sym c.in-Going.is)
-    (going_more best found tracks before was track c.keep.new.kept.items are))
-    (c.keep.ensures tracks was.kept)
+    let was : IsGathered best found courses before = subst (IsGathered best found courses) (sym c.self.view_is) h in
+    let course : Course = c.in-Going.course in
+    let old : List Course = c.self.inside.kept.items in
+    let itself_kept = subst (λ (l : List Course). AreFirstLeast course_value course_end l l) (sym was.kept.2) (few_themselves course_value course_end 24 courses was.kept.0 was.kept.1) in
+    let next : List Course = c.keep.new.kept.items in
+    let kept = subst (λ (l : List Course). AreFirstLeast course_value course_end (l ++ (course ∷ [])) next) was.kept.2 (c.in_ok-keep-in-Going.ensures old itself_kept) in
+    let more = few_more course_value course_end 24 courses was.kept.0 next course was.kept.1 kept in
+    subst (λ (o : Outcome). IsGathered best (found ++ (found_of o ∷ [])) (courses ++ going_in o) (record { kept = c.truncate.new.self.items; best = c.self.inside.best })) (sym c.in-Going.is)
+    (going_more best found courses before was course c.truncate.new.self.items (more.0, more.1, c.truncate.ensures.items ∙ more.2))
 
 pub returns-in-Whole : goal.returns-in-Whole
-returns-in-Whole c best found tracks h =
+returns-in-Whole c best found courses h =
     let before : Round = record { kept = c.self.inside.kept.items; best = c.self.inside.best } in
-    let was : IsGathered best found tracks before = subst (IsGathered best found tracks) (sym c.self.view_is) h in
+    let was : IsGathered best found courses before = subst (IsGathered best found courses) (sym c.self.view_is) h in
     let better_is : c.better.result ≡ better c.self.inside.best c.in-Whole.barring =
     c.better.ensures ∙ ap (λ (o : Option Barring). better o c.in-Whole.barring) c.take.ensures.value in
-    subst (λ (o : Outcome). IsGathered best (found ++ (found_of o ∷ [])) (tracks ++ going_in o) (record { kept = c.self.inside.kept.items; best = c.better.result })) (sym c.in-Whole.is)
-    (subst (λ (o : Option Barring). IsGathered best (found ++ (found_of (Whole c.in-Whole.barring) ∷ [])) (tracks ++ []) (record { kept = c.self.inside.kept.items; best = o })) (sym better_is)
-    (whole_more best found tracks before was c.in-Whole.barring))
+    subst (λ (o : Outcome). IsGathered best (found ++ (found_of o ∷ [])) (courses ++ going_in o) (record { kept = c.self.inside.kept.items; best = c.better.result })) (sym c.in-Whole.is)
+    (subst (λ (o : Option Barring). IsGathered best (found ++ (found_of (Whole c.in-Whole.barring) ∷ [])) (courses ++ []) (record { kept = c.self.inside.kept.items; best = o })) (sym better_is)
+    (whole_more best found courses before was c.in-Whole.barring))

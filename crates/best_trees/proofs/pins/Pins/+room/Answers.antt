@@ -1,6 +1,6 @@
 use Rattle.std.proofs.Common.{◌<◌, ◌-◌, ◌∷◌, length, get_or, map, take, drop, subst, sym}
-use Rattle.rhythm_laws.specs.Forests.{AreWide}
-use Rattle.best_trees.specs.Pieces.{pair_of}
+use Rattle.tree_laws.specs.Forests.{AreWide}
+use Rattle.best_trees.specs.Pieces.{piece_pair}
 use Rattle.best_trees.specs.Pins.{NoneFit, demanded}
 use Rattle.best_trees.specs.declared.cut.Piece.{Piece}
 use Rattle.best_trees.proofs.Crowds.{crowded-none, others-none}
@@ -14,10 +14,10 @@ returns-then-leaves-from t c = λ is all_wide.
     let x : Piece = get_or xs 0 (record { width = 0; symbol = 0 }) in
     let rest = take (length xs - 1) (drop 1 xs) in
     let e = pieces-split xs (record { width = 0; symbol = 0 }) c.in-len1-up.len_at_least in
-    let wide : AreWide (map pair_of (x ∷ rest)) = subst (λ l. AreWide (map pair_of l)) e all_wide in
+    let wide : AreWide (map piece_pair (x ∷ rest)) = subst (λ l. AreWide (map piece_pair l)) e all_wide in
     let many : x.width < c.leaves.result = subst (λ n. n < c.leaves.result) c.from.ensures c.if-leaves-from.true in
-    subst (λ l. NoneFit (map pair_of l) s) (sym e)
-    (crowded-none (pair_of x) (map pair_of rest) s (demanded c.args.self.now c.in-Some.first) c.leaves.result wide.0 c.in-Some.ensures.0 c.leaves.ensures many)
+    subst (λ l. NoneFit (map piece_pair l) s) (sym e)
+    (crowded-none (piece_pair x) (map piece_pair rest) s (demanded c.args.self.now c.in-Some.first) c.leaves.result wide.0 c.in-Some.ensures.0 c.leaves.ensures many)
 
 pub returns-else-leaves-from : goal.returns-else-leaves-from
 returns-else-leaves-from t c = λ is all_wide.
@@ -26,6 +26,6 @@ returns-else-leaves-from t c = λ is all_wide.
     let x : Piece = get_or xs 0 (record { width = 0; symbol = 0 }) in
     let rest = take (length xs - 1) (drop 1 xs) in
     let e = pieces-split xs (record { width = 0; symbol = 0 }) c.in-len1-up.len_at_least in
-    let wide : AreWide (map pair_of (x ∷ rest)) = subst (λ l. AreWide (map pair_of l)) e all_wide in
-    subst (λ l. NoneFit (map pair_of l) s) (sym e)
-    (others-none (pair_of x) (map pair_of rest) s (demanded c.args.self.now c.in-Some.others) c.in-Some.ensures.1 (c.have_room.ensures is wide.1))
+    let wide : AreWide (map piece_pair (x ∷ rest)) = subst (λ l. AreWide (map piece_pair l)) e all_wide in
+    subst (λ l. NoneFit (map piece_pair l) s) (sym e)
+    (others-none (piece_pair x) (map piece_pair rest) s (demanded c.args.self.now c.in-Some.others) c.in-Some.ensures.1 (c.have_room.ensures is wide.1))

@@ -1,7 +1,7 @@
 use Rattle.std.proofs.Common.{rules, ◌≡◌, ◌++◌, ◌≤◌, max, ◌+◌, [], ◌∷◌, List, length, subst, sym, arith}
 use Rattle.rhythm_base.specs.Shape.{Shape}
 use Rattle.best_trees.proofs.Outlines.{counted-push, kept_part, outlines-push}
-use Rattle.best_trees.specs.Pins.{Grows, HasOutline, leaf_count, outline_at, outlines, part_outline}
+use Rattle.best_trees.specs.Pins.{GrowsOutlines, HasOutline, leaf_count, outline_at, outlines, part_outline}
 use Rattle.best_trees.specs.declared.pins.PinPart.{PinPart}
 use Rattle.best_trees.proofs.pins.Pins.keep.Goals as goal
 
@@ -21,7 +21,7 @@ pub returns-clause-more : goal.returns-clause-more
 returns-clause-more c =
     let xs = c.self.inside.parts.items in
     let x : PinPart = record { parts = c.args.parts; others = c.args.others; leaves = c.saturating_add-leaves.result } in
-    let P : List Shape → Type 0 = λ os. Grows os (outlines [] c.push.new.self.items) in
+    let P : List Shape → Type 0 = λ os. GrowsOutlines os (outlines [] c.push.new.self.items) in
     let next : c.push.new.self.items ≡ xs ++ x ∷ [] = search rules in
     let grown : outlines [] c.push.new.self.items ≡ outlines [] xs ++ part_outline (outlines [] xs) x ∷ [] = rw next (outlines-push xs x) in
     subst P c.self.view_is (part_outline (outlines [] xs) x ∷ [], grown)

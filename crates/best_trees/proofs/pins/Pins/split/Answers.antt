@@ -1,7 +1,7 @@
 use Rattle.std.proofs.Common.{rules, ◌≡◌, ◌∙◌, ◌≤◌, ◌<◌, [], length, get_or, ap, subst, sym}
 use Rattle.std.specs.Prelude.{Some}
 use Rattle.rhythm_base.specs.Shape.{end, part}
-use Rattle.rhythm_laws.specs.Forests.{first_shape, one_shape, other_shapes}
+use Rattle.tree_laws.specs.Forests.{first_shape, one_shape, other_shapes}
 use Rattle.best_trees.proofs.Outlines.{outline_is, outline_none}
 use Rattle.best_trees.specs.Pins.{demanded, outline_at, outline_before, outlines}
 use Rattle.best_trees.proofs.pins.Pins.split.Goals as goal

@@ -1,7 +1,7 @@
 use Rattle.std.proofs.Common.{◌≡◌, ◌∙◌, ◌+◌, ◌++◌, ap, map, subst, sym}
 use Rattle.std.specs.Prelude.{AllPairs}
 use Rattle.rhythm_base.specs.Ranked.{Key, plus}
-use Rattle.best_trees.specs.Firsts.{AreKept, IsBefore, IsPast, all_offered, offered}
+use Rattle.best_trees.specs.Firsts.{AreKeptKeys, IsBefore, IsPast, all_offered, offered}
 use Rattle.best_trees.proofs.Offers.{each-next, each-past, offered-kept, offered-past}
 use Rattle.best_trees.proofs.ranking.Ranking.offer_each.Goals as goal
 
@@ -12,7 +12,7 @@ others-preserved c =
     let k : Key = (c.args.cost, c.args.top.now ++ c.args.rules.now) in
     let is : c.offer.new.self ≡ offered n (plus k x) c.others.self = c.in_ok-offer.ensures.kept ∙ (λ i. offered n (c.args.cost + c.cost.ensures i, (c.args.top.now ++ c.args.rules.now) ++ c.rules.ensures i) c.others.self) in
     record {
-      kept = subst (AreKept n) (sym is) (offered-kept n (plus k x) c.others.self c.others.invariant.kept);
+      kept = subst (AreKeptKeys n) (sym is) (offered-kept n (plus k x) c.others.self c.others.invariant.kept);
       so_far = each-next n c.deref-other-items.result.now c.others.other-index x c.others-test.true c.other-item.is k c.others.self c.offer.new.self is ∙ c.others.invariant.so_far;
     }
 

@@ -1,7 +1,7 @@
 use Rattle.std.proofs.Common.{◌≡◌, ◌∙◌, ◌+◌, ◌++◌, ap, map, refl, subst, sym}
 use Rattle.std.specs.Prelude.{AllPairs, Some, slice_get}
 use Rattle.rhythm_base.specs.Ranked.{Key, plus}
-use Rattle.best_trees.specs.Firsts.{AreCheaper, AreKept, IsBefore, all_offered, sums_offered}
+use Rattle.best_trees.specs.Firsts.{AreCheaper, AreKeptKeys, IsBefore, all_offered, sums_offered}
 use Rattle.best_trees.proofs.Offers.{all-kept, none_first, sums-next, sums-none, sums-past}
 use Rattle.best_trees.proofs.ranking.Ranking.offer_sums.Goals as goal
 
@@ -35,6 +35,6 @@ firsts-preserved c =
     let is : c.offer_each.new.self ≡ all_offered n (map (plus (plus top x)) right) c.firsts.self =
     c.in_ok-offer_each.ensures ∙ (λ i. all_offered n (map (plus (c.args.cost + c.cost.ensures i, c.args.top.now ++ c.rules.ensures i)) right) c.firsts.self) in
     record {
-      kept = subst (AreKept n) (sym is) (all-kept n (map (plus (plus top x)) right) c.firsts.self c.firsts.invariant.kept);
+      kept = subst (AreKeptKeys n) (sym is) (all-kept n (map (plus (plus top x)) right) c.firsts.self c.firsts.invariant.kept);
       so_far = sums-next n c.deref-first-items.result.now c.firsts.first-index x c.firsts-test.true c.first-item.is top right c.firsts.self c.offer_each.new.self is ∙ c.firsts.invariant.so_far;
     }

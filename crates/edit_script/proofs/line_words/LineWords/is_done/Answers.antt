@@ -1,5 +1,5 @@
 use Rattle.std.proofs.Common.{◌↔◌, [], Bool, IsTrue, subst}
-use Rattle.rhythm_base.specs.ScriptLines.{Are}
+use Rattle.edit_script.specs.ScriptLines.{Are}
 use Rattle.edit_script.proofs.WordLemmas.{done, turned}
 use Rattle.edit_script.proofs.line_words.LineWords.is_done.Goals as goal
 

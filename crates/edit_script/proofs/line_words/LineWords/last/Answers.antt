@@ -1,4 +1,4 @@
-use Rattle.rhythm_base.specs.ScriptLines.{IsNumber}
+use Rattle.rhythm_base.specs.Numerals.{IsNumber}
 use Rattle.edit_script.proofs.WordLemmas.{finds_none, first_is}
 use Rattle.std.proofs.Common.{[]}
 use Rattle.edit_script.proofs.line_words.LineWords.last.Goals as goal

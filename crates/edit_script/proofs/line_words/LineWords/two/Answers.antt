@@ -1,5 +1,6 @@
 use Rattle.std.proofs.Common.{◌∷◌, [], sym, subst}
-use Rattle.rhythm_base.specs.ScriptLines.{Are, IsNumber}
+use Rattle.edit_script.specs.ScriptLines.{Are}
+use Rattle.rhythm_base.specs.Numerals.{IsNumber}
 use Rattle.edit_script.proofs.WordLemmas.{finds_none, first_is, rest_are}
 use Rattle.edit_script.proofs.line_words.LineWords.two.Goals as goal
 

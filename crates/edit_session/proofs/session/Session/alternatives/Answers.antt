@@ -2,8 +2,8 @@ use Rattle.std.proofs.Common.{◌≡◌, ◌==◌, None, Some, ap, arith, length
 use Rattle.std.proofs.lemmas.Result.{err_from_is_err_and}
 use Rattle.std.specs.List.{position}
 use Rattle.rhythm_base.specs.declared.edit_fault.EditFault.TheVariants.{NoBar, NoVoice}
-use Rattle.rhythm_base.specs.Edits.{cell_tests, first_refusal}
-use Rattle.rhythm_base.specs.Script.{AreBestOfBar}
+use Rattle.edit_laws.specs.Edits.{cell_tests, first_refusal}
+use Rattle.tree_laws.specs.Alternatives.{AreBestOfBar}
 use Rattle.edit_session.specs.Session.{Session}
 use Rattle.edit_session.proofs.AskedCells.{no_bar, no_refusal, no_voice, place_found, place_within, tables_there}
 use Rattle.edit_session.proofs.LeastSounds.{tables_in}

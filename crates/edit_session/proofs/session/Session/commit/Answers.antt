@@ -1,9 +1,8 @@
-use Rattle.std.proofs.Common.{◌≡◌, ◌≤◌, ◌<◌, ◌*◌, ◌^◌, ◌++◌, ℕ, List, length, get_or, take, drop, sym, ap, ◌∙◌, subst, arith}
+use Rattle.std.proofs.Common.{◌≡◌, ◌≤◌, ◌<◌, ◌^◌, ◌++◌, ℕ, List, length, get_or, take, drop, sym, ap, ◌∙◌, subst, arith}
 use Rattle.std.specs.Prelude.{All, sum_by, vec_capacity}
 use Rattle.std.proofs.lemmas.List.Elements.{All-contains}
 use Rattle.std.proofs.lemmas.Option.{slice_get_within}
-use Rattle.rhythm_laws.proofs.OneAnswers.{dead_has_none}
-use Rattle.rhythm_base.specs.Counter.{risen}
+use Rattle.performance_laws.proofs.OneVoices.{dead_has_none}
 use Rattle.rhythm_base.specs.Performance.{Performance}
 use Rattle.rhythm_base.specs.Voices.{HasDerivation, IsCostOf, IsDeadVoice}
 use Rattle.edit_session.specs.Exchange.{HasPlace, IsCheapTable}
@@ -11,11 +10,12 @@ use Rattle.edit_session.specs.Kept.{IsKeptVoice, IsSession}
 use Rattle.edit_session.specs.Prepared.{Prepared, Suits}
 use Rattle.edit_session.specs.Session.{Session}
 use Rattle.edit_session.specs.VoiceTables.{HasPath, IsFirstDead, VoiceTables, voice_cost}
-use Rattle.edit_session.proofs.Commits.{all_cheap, all_long, all_rooms, dead_after, exchanged_for, place_back, place_for_next, session_back, session_next, suits_kept, suits_next}
+use Rattle.edit_session.proofs.Commits.{all_cheap, all_rooms, dead_after, exchanged_for, place_back, place_for_next, session_back, session_next, suits_kept, suits_next}
 use Rattle.derivation.proofs.Pairs.{each_length}
 use Rattle.edit_session.proofs.GrownVoices.{written_back}
 use Rattle.edit_session.proofs.PathCosts.{costs_fit}
-use Rattle.edit_session.proofs.Voices.{all_costs, all_derivations, all_tables}
+use Rattle.edit_session.proofs.SessionProducts.{products_back, products_there}
+use Rattle.edit_session.proofs.Voices.{all_costs, all_derivations}
 use Rattle.edit_session.proofs.session.Session.commit.Goals as goal
 
 -- ---- before the exchange
@@ -176,7 +176,7 @@ invariant_of-self g c =
     let whole : length c.exchange-back.new.voices ≡ length between = c.exchange-back.ensures.voices ∙ ap length c.as_mut_slice-voices-in-Some.ensures.value in
     let number : kept.voices.len ≡ length between =
     omega (arith, c.as_mut_slice-voices.ensures.len, ap length c.as_mut_slice-voices.ensures.value, facts.long, ap length written) in
-    subst (λ vs. IsSession kept.grammar kept.performance kept.workers vs kept.room) (sym (written_back kept.voices.len between c.exchange-back.new.voices number whole))
+    subst (λ vs. IsSession kept.grammar kept.plan kept.performance kept.workers vs kept.room) (sym (written_back kept.voices.len between c.exchange-back.new.voices number whole))
     (session_back kept.grammar kept.performance c.parts-next.result.0 kept.workers kept.room kept.voices.items c.exchange-exchanged.new.voices c.exchange-exchanged.result.tables.items
     (vec_capacity c.exchange-exchanged.result.place) c.self.invariant facts c.as_mut_slice-voices-in-Some.result.now c.exchange-back.new.voices c.channels-in-Some.result.now (length c.bars-bars-in-Some.result.now)
     c.exchange-back.result.tables.items (vec_capacity c.exchange-back.result.place) (c.as_mut_slice-voices-in-Some.ensures.value ∙ written) c.channels-in-Some.ensures
@@ -223,8 +223,8 @@ invariant_of-self-2 g c =
     c.exchange-exchanged.result.tables.items (vec_capacity c.exchange-exchanged.result.place) c.self.invariant facts few
     (subst (All HasPath) (c.as_slice.ensures.value ∙ written) (c.first_dead_voice.ensures.none c.in_default.is)) in
     let kept = c.self.inside in
-    subst (λ (p : Performance). IsSession kept.grammar p kept.workers (take kept.voices.len (c.exchange-exchanged.new.voices ++ drop (length c.exchange-exchanged.new.voices) kept.voices.items)) kept.room) (sym c.replace-before.ensures.after)
-    (subst (λ vs. IsSession kept.grammar c.parts-next.result.0 kept.workers vs kept.room) (sym written) session)
+    subst (λ (p : Performance). IsSession kept.grammar kept.plan p kept.workers (take kept.voices.len (c.exchange-exchanged.new.voices ++ drop (length c.exchange-exchanged.new.voices) kept.voices.items)) kept.room) (sym c.replace-before.ensures.after)
+    (subst (λ vs. IsSession kept.grammar kept.plan c.parts-next.result.0 kept.workers vs kept.room) (sym written) session)
 
 pub returns-clause-derivations : goal.returns-clause-derivations
 returns-clause-derivations g c =
@@ -287,16 +287,27 @@ returns-clause-suits_back g c =
     (subst (λ (p : Performance). Suits kept.grammar p (record { next = kept.performance; tables = tables; place = place })) (sym c.replace-before.ensures.after) inside)
 
 pub returns-clause-products : goal.returns-clause-products
-returns-clause-products g c = λ d same fits.
-    let kept = c.self.inside in
-    let next = c.parts-next.ensures.next in
-    let bars : length c.bars-bars.result.now ≡ length kept.performance.bars =
-    ap length c.bars-bars.ensures.value ∙ ap (λ (p : Performance). length p.bars) next ∙ same ∙ sym (ap (λ (s : Session). length s.performance.bars) c.self.view_is) in
-    let tables = all_tables kept.grammar kept.performance kept.room kept.performance.channels kept.voices.items c.self.invariant.each in
-    let each = subst (All (λ v. length v.tables ≡ length c.bars-bars.result.now)) (sym c.as_mut_slice-voices.ensures.value)
-    (subst (λ n. All (λ v. length v.tables ≡ n) kept.voices.items) (sym bars) (all_long kept.grammar kept.performance kept.performance.channels kept.voices.items tables)) in
-    let fewer : length c.bars-bars.result.now ≤ 2 ^ d = omega (arith, fits, ap length c.bars-bars.ensures.value, ap (λ (p : Performance). length p.bars) next) in
-    subst (λ n. c.exchange-exchanged.new.products ≤ risen c.args.products.now (n * d)) (ap length c.parts-next.ensures.tables) (c.exchange-exchanged.ensures.products d each fewer)
+returns-clause-products g c =
+    products_there c.self.inside.grammar c.self.inside.performance c.self.inside.workers c.self.inside.room c.self.inside.voices.items c.args.self.now c.args.prepared c.parts-next.result.0
+    c.parts-next.result.1.items (vec_capacity c.parts-next.result.2) c.self.invariant c.self.view_is c.parts-next.ensures.next c.parts-next.ensures.tables c.parts-next.ensures.place c.requires.suits
+    c.as_mut_slice-voices.result.now (length c.bars-bars.result.now) c.as_mut_slice-voices.ensures.value (ap length c.bars-bars.ensures.value)
+    c.args.products.now c.exchange-exchanged.new.products c.exchange-exchanged.ensures.products
+
+pub returns-in-Some-clause-products : goal.returns-in-Some-clause-products
+returns-in-Some-clause-products g c =
+    let facts = exchanged_for c.self.inside.grammar c.self.inside.performance c.self.inside.workers c.self.inside.room c.self.inside.voices.items c.args.self.now c.args.prepared c.parts-next.result.0
+    c.parts-next.result.1.items (vec_capacity c.parts-next.result.2) c.self.invariant c.self.view_is c.parts-next.ensures.next c.parts-next.ensures.tables c.parts-next.ensures.place c.requires.suits
+    c.bars-bars.ensures.formed c.as_mut_slice-voices.result.now c.exchange-exchanged.new.voices c.channels.result.now (length c.bars-bars.result.now) c.exchange-exchanged.result.tables.items
+    (vec_capacity c.exchange-exchanged.result.place) c.as_mut_slice-voices.ensures.value c.channels.ensures (ap length c.bars-bars.ensures.value) c.exchange-exchanged.ensures.exchanged
+    c.exchange-exchanged.ensures.voices c.exchange-exchanged.ensures.room in
+    let written = written_back c.self.inside.voices.len c.self.inside.voices.items c.exchange-exchanged.new.voices
+    (omega (arith, c.as_mut_slice-voices.ensures.len, ap length c.as_mut_slice-voices.ensures.value)) facts.long in
+    products_back c.self.inside.grammar c.self.inside.performance c.self.inside.workers c.self.inside.room c.self.inside.voices.items c.args.self.now c.args.prepared c.parts-next.result.0
+    c.parts-next.result.1.items (vec_capacity c.parts-next.result.2) c.self.invariant c.self.view_is c.parts-next.ensures.next c.parts-next.ensures.tables c.parts-next.ensures.place c.requires.suits
+    c.as_mut_slice-voices.result.now (length c.bars-bars.result.now) c.as_mut_slice-voices.ensures.value (ap length c.bars-bars.ensures.value)
+    c.exchange-exchanged.new.voices c.exchange-exchanged.result.tables.items (vec_capacity c.exchange-exchanged.result.place) c.as_mut_slice-voices-in-Some.result.now c.channels.result.now
+    (length c.bars-bars-in-Some.result.now) c.args.products.now c.exchange-exchanged.new.products c.exchange-back.new.products facts c.channels.ensures c.exchange-exchanged.ensures.way_back
+    (c.as_mut_slice-voices-in-Some.ensures.value ∙ written) (ap length c.bars-bars-in-Some.ensures.value) c.exchange-exchanged.ensures.products c.exchange-back.ensures.products
 
 pub returns-clause-room_back : goal.returns-clause-room_back
 returns-clause-room_back g c =

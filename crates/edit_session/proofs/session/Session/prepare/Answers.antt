@@ -1,8 +1,8 @@
 use Rattle.std.proofs.Common.{◌≡◌, ℕ, [], Ok, subst, sym}
 use Rattle.std.specs.Prelude.{MatchResult, Option}
 use Rattle.edit_laws.proofs.EditedCounts.{edited_cells, edited_notes, edited_starts}
-use Rattle.rhythm_base.specs.Edits.{edited}
-use Rattle.rhythm_base.specs.Reached.{AreReached}
+use Rattle.edit_laws.specs.Edits.{edited}
+use Rattle.edit_laws.specs.Reached.{AreReached}
 use Rattle.rhythm_base.specs.Voices.{HasStarts}
 use Rattle.edit_session.specs.ChangedVoices.{LeavesOthers, changed_channel}
 use Rattle.edit_session.specs.Session.{Session}

@@ -1,11 +1,12 @@
 use Rattle.std.proofs.Common.{rules, List, ℕ, ◌≡◌, ◌-◌, ◌∙◌, length, map, ap, sym, subst}
-use Rattle.std.specs.Prelude.{vec_capacity}
+use Rattle.std.specs.Prelude.{All, vec_capacity}
+use Rattle.bar_pool.specs.Pool.{AreTablesOf}
 use Rattle.rhythm_base.specs.Voices.{HasStarts}
 use Rattle.rhythm_base.specs.Counter.{risen}
 use Rattle.rhythm_base.specs.Lists.{Each}
-use Rattle.rhythm_base.specs.Reached.{AreReached}
+use Rattle.edit_laws.specs.Reached.{AreReached}
 use Rattle.edit_session.specs.Kept.{AreTablesOfVoice, IsKeptVoice}
-use Rattle.edit_session.specs.Prepared.{Prepared, Suits}
+use Rattle.edit_session.specs.Prepared.{Prepared, Suits, bar_table_of}
 use Rattle.edit_session.specs.ReachedCells.{place_pair}
 use Rattle.edit_session.specs.Session.{Session}
 use Rattle.edit_session.specs.VoiceTables.{VoiceTables}
@@ -23,7 +24,9 @@ reached_cells-requires-clause-tables g c =
 
 pub reached_tables-requires-clause-units : goal.reached_tables-requires-clause-units
 reached_tables-requires-clause-units g c κs within =
-    cells_units c.self.inside.grammar c.args.next (map place_pair c.in_ok-reached.reached.cells.items) c.in_ok-reached.reached.inputs.items c.in_ok-reached.ensures.each
+    subst (λ (s : Session). All (λ k. k.resolution ≡ s.grammar.resolution) c.in_ok-reached.reached.inputs.items) c.self.view_is
+    (cells_units c.self.inside.grammar c.args.next (map place_pair c.in_ok-reached.reached.cells.items)
+    c.in_ok-reached.reached.inputs.items c.in_ok-reached.ensures.each)
 
 pub reached_tables-requires-clause-inputs : goal.reached_tables-requires-clause-inputs
 reached_tables-requires-clause-inputs g c κs within =
@@ -54,8 +57,11 @@ returns-clause-suits g c =
     let count : c.len.result ≡ length c.in_ok-tables.tables.items = search rules in
     let channels = subst (λ (s : Session). c.args.next.channels ≡ s.performance.channels) (sym c.self.view_is) c.requires.channels in
     let starts = subst (λ (s : Session). HasStarts s.grammar c.args.next.bars) (sym c.self.view_is) c.requires.starts in
+    let tables =
+    subst (λ (s : Session). AreTablesOf s.grammar c.in_ok-reached.reached.inputs.items (map bar_table_of c.in_ok-tables.tables.items))
+    (sym c.self.view_is) c.in_ok-tables.ensures.tables in
     let inside = suits kept.grammar kept.performance c.args.next c.in_ok-reached.reached.cells.items c.in_ok-reached.reached.inputs.items c.in_ok-tables.tables.items (vec_capacity c.in_ok-place.place)
-    c.saturating_sub-lost.result (length c.as_slice-voices.result.now) c.len.result c.in_ok-reached.ensures c.in_ok-tables.ensures.cells c.in_ok-tables.ensures.tables channels starts c.requires.few_cells c.requires.few_notes
+    c.saturating_sub-lost.result (length c.as_slice-voices.result.now) c.len.result c.in_ok-reached.ensures c.in_ok-tables.ensures.cells tables channels starts c.requires.few_cells c.requires.few_notes
     count many less c.in_ok-place.ensures.memory in
     subst (Suits c.args.self.now.grammar c.args.self.now.performance) (sym c.of.ensures)
     (subst (λ (s : Session). Suits s.grammar s.performance (record { next = c.args.next; tables = c.in_ok-tables.tables.items; place = vec_capacity c.in_ok-place.place })) c.self.view_is inside)

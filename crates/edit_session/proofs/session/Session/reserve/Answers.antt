@@ -17,6 +17,7 @@ invariant_of-self c =
     let back = written_back kept.voices.len kept.voices.items c.reserve_all.new.voices count (sym long) in
     record {
       readable = c.self.invariant.readable;
+      planned = c.self.invariant.planned;
       formed = c.self.invariant.formed;
       few_notes = c.self.invariant.few_notes;
       few_cells = c.self.invariant.few_cells;
@@ -39,6 +40,7 @@ invariant_of-self-2 c =
     let back = written_back kept.voices.len kept.voices.items c.reserve_all.new.voices count (sym long) in
     record {
       readable = c.self.invariant.readable;
+      planned = c.self.invariant.planned;
       formed = c.self.invariant.formed;
       few_notes = c.self.invariant.few_notes;
       few_cells = c.self.invariant.few_cells;

@@ -1,5 +1,5 @@
 use Rattle.std.proofs.Common.{◌≡◌, ◌+◌, ◌<◌, ◌++◌, append_assoc, length, map, subst, sym, ap, ◌∙◌, arith}
-use Rattle.kern_reader.specs.Events.{AreColumnSpans, AreEventsFrom, event}
+use Rattle.kern_reader.specs.Events.{AreColumnSpans, AreEventsFrom, span_event}
 use Rattle.kern_reader.proofs.EventLemmas.{column_on, events_end, events_next, same_column}
 use Rattle.kern_reader.proofs.score.KernScore.events.Goals as goal
 
@@ -22,7 +22,7 @@ columns-preserved c = λ more are.
     let is = same_column c.deref-column-items.result.now s.columns i text c.column-item.result c.as_slice.ensures c.column-item.is all in
     let within : i < length s.columns = subst (λ xs. i < length xs) all c.columns-test.true in
     let spans_are = subst (λ g. AreColumnSpans g text spans) (ap (λ v. v.grid) c.self.view_is) of in
-    let own = map (event (i + 1)) spans in
+    let own = map (span_event (i + 1)) spans in
     subst (AreEventsFrom s.grid 1 s.columns) (sym (ap (λ xs. xs ++ more) pushed ∙ append_assoc c.columns.events.items own more))
     (c.columns.invariant (own ++ more) (events_next s.grid (i + 1) s.columns text i spans more within is spans_are are))
 

@@ -1,7 +1,7 @@
 use Rattle.std.proofs.Common.{sym, ap, ◌∙◌}
 use Rattle.std.specs.Prelude.{Some}
 use Rattle.rhythm_base.specs.BarTables.{list_at}
-use Rattle.least_rows.specs.WrittenLists.{list_of, number_of}
+use Rattle.bar_trees.specs.WrittenLists.{list_of, list_number}
 use Rattle.least_cost.specs.KeptRules.{rules_of}
 use Rattle.least_cost.specs.Tables.{list_where}
 use Rattle.least_cost.proofs.TableLists.{list-where}
@@ -12,5 +12,5 @@ returns-in-Some c =
     let x = c.self.inside in
     let from = c.args.from in
     let to = c.args.to in
-    ap Some c.list_in.ensures ∙ ap (λ rules. Some (list_of rules x.ends (number_of from to))) c.as_slice.ensures ∙ ap (λ e. list_where e (list_of (rules_of x.rules) x.ends (number_of from to))) c.in-Some.ensures.is
+    ap Some c.list_in.ensures ∙ ap (λ rules. Some (list_of rules x.ends (list_number from to))) c.as_slice.ensures ∙ ap (λ e. list_where e (list_of (rules_of x.rules) x.ends (list_number from to))) c.in-Some.ensures.is
     ∙ sym (list-where x.matrix (rules_of x.rules) x.ends from to c.requires.from c.requires.to) ∙ ap (λ t. list_at t from to) c.self.view_is

@@ -8,10 +8,10 @@ use Rattle.row_laws.specs.LeafRules.{EndsInterval}
 use Rattle.grammar_plan.specs.Plans.{IsSeat, pair_of}
 use Rattle.grammar_plan.specs.declared.seat.Seat.{Seat}
 use Rattle.least_rows.specs.Choices.{AreBestChoices, RulesBefore, choice_in, nearer_choice, topped_choice}
-use Rattle.least_rows.specs.Ways.{AreShort, AreWays, AreWaysBelow, IsSmallWay, IsRanked, IsShort, nearer_way, one_way, quiet_rank, rank_in, way_in, way_on}
+use Rattle.least_rows.specs.Ways.{AreShort, AreWays, AreWaysBelow, IsSmallWay, IsRankedRow, IsShort, nearer_way, one_way, quiet_rank, rank_in, way_in, way_on}
 use Rattle.least_rows.specs.States.{IsRowAt}
 use Rattle.least_rows.specs.Steps.{AreChoicesOf, AreWaysOver, EndsThere, IsLeafAt, LeadsOver, way_to_none}
-use Rattle.least_rows.specs.Tops.{AreWaysTo, IsOffered, IsRowOfPart, IsTop, part_at, parts_of}
+use Rattle.least_rows.specs.Tops.{AreWaysTo, IsOffered, IsRowOfPart, IsTop, part_at, parts_below}
 use Rattle.least_rows.specs.declared.choice.Choice.{Choice}
 use Rattle.least_rows.specs.declared.way.Way.{Way}
 use Rattle.least_rows.proofs.Asked.{next-one, quiet-row, seat-of}
@@ -541,7 +541,7 @@ offer_fork-returns-then-part-cut-clause-best t c = λ t.
     let ranked = span-ranked g k plan ready of c.index-own.result.now y.seat y.there c.args.self.now.entries.items c.args.fork.at c.args.fork.count c.args.row (subst (λ q. IsRowAt g k plan c.args.self.now.entries.items c.args.fork.at q c.args.fork.count c.args.row) (sym y.pair) (c.requires.row t)) c.entries_of-entries.result.now c.entries_of-entries.ensures in
     let q = part_at g k plan top cut t c.args.fork.part in
     let next : ℕ → Option Way = λ b. way_on (Some c.args.fork.way) c.args.fork.count (ranks b) in
-    let on = one-on (ground_of g k) c.args.fork.at q c.args.fork.way c.args.fork.count c.requires.count ranks (subst (λ q. IsRanked (ground_of g k) c.args.fork.at q c.args.fork.count ranks) y.pair ranked) next (λ b lb. refl) in
+    let on = one-on (ground_of g k) c.args.fork.at q c.args.fork.way c.args.fork.count c.requires.count ranks (subst (λ q. IsRankedRow (ground_of g k) c.args.fork.at q c.args.fork.count ranks) y.pair ranked) next (λ b lb. refl) in
     (next, to-last g k plan ready of top cut t c.args.fork.part c.args.fork.at c.requires.part.0 (omega arith) v.0 (one_way c.args.fork.way c.args.fork.count) next v.1 on, c.offer_entries.ensures)
 
 pub offer_fork-offer_rest-requires : goal.offer_fork-offer_rest-requires
@@ -694,7 +694,7 @@ offer_several-counts-preserved t c = record {
       let ways = way_in c.args.ways.now in
       let next : ℕ → Option Way = λ b. nearer_way (m.0 b) (way_on (ways n) n (ranks b)) in (
         next,
-        next-one (λ n. AreWaysBelow d c.args.last.at q ways n next) n (below-more d c.args.last.at q ways n m.0 next m.1 ranks (subst (λ q. IsRanked d c.args.last.at q n ranks) y.pair ranked) (λ b lb. refl)),
+        next-one (λ n. AreWaysBelow d c.args.last.at q ways n next) n (below-more d c.args.last.at q ways n m.0 next m.1 ranks (subst (λ q. IsRankedRow d c.args.last.at q n ranks) y.pair ranked) (λ b lb. refl)),
         λ b lb.
             c.offer_entries.ensures b lb ∙ ap (λ o. nearer_choice o (topped_choice cut c.args.top.number (way_on (Some c.in-Some.way) n (ranks b)))) (m.2 b lb)
             ∙ nearer-topped cut c.args.top.number (choice_in c.args.best.now b) (m.0 b) (way_on (Some c.in-Some.way) n (ranks b))
@@ -919,8 +919,8 @@ offer_alone-returns-in_default-clause-best t c = λ t.
     let top = c.args.top in
     let cut = c.args.cut.now in
     let v = c.requires.ways t in
-    let none = ways-same (ground_of g k) top.place (parts_of g k plan top cut t) top.from (c.args.next.part - cut.first) (way_to_none None) (λ b. None) (λ b lb. refl)
-    (subst (λ o. AreWays (ground_of g k) top.place (parts_of g k plan top cut t) top.from (c.args.next.part - cut.first) (way_to_none o)) (no-way c.args.way c.in_default.not-Some) v.1) in
+    let none = ways-same (ground_of g k) top.place (parts_below g k plan top cut t) top.from (c.args.next.part - cut.first) (way_to_none None) (λ b. None) (λ b lb. refl)
+    (subst (λ o. AreWays (ground_of g k) top.place (parts_below g k plan top cut t) top.from (c.args.next.part - cut.first) (way_to_none o)) (no-way c.args.way c.in_default.not-Some) v.1) in
     ((λ b. None), to-nowhere g k plan ready of top cut t c.args.next.part c.requires.part.1 none, λ b lb. refl)
 
 pub offer_alone-offer_along-requires : goal.offer_alone-offer_along-requires
@@ -934,8 +934,8 @@ offer_alone-offer_along-requires t c =
     let cut = c.args.cut.now in
     let ways : AreWaysTo g k plan top cut c.args.next.part c.args.next.at (one_way c.in-Some.way 0) = λ t. (
       (c.requires.ways t).0,
-      ways-same (ground_of g k) top.place (parts_of g k plan top cut t) top.from (c.args.next.part - cut.first) (way_to_none (Some c.in-Some.way)) (one_way c.in-Some.way 0) (λ b lb. refl)
-          (subst (λ o. AreWays (ground_of g k) top.place (parts_of g k plan top cut t) top.from (c.args.next.part - cut.first) (way_to_none o)) c.in-Some.is (c.requires.ways t).1),
+      ways-same (ground_of g k) top.place (parts_below g k plan top cut t) top.from (c.args.next.part - cut.first) (way_to_none (Some c.in-Some.way)) (one_way c.in-Some.way 0) (λ b lb. refl)
+          (subst (λ o. AreWays (ground_of g k) top.place (parts_below g k plan top cut t) top.from (c.args.next.part - cut.first) (way_to_none o)) c.in-Some.is (c.requires.ways t).1),
     ) in
     and_then (omega (arith, c.decreases)) (and_then c.requires.search (and_then c.requires.top (and_then c.requires.part (and_then (omega arith) (and_then ways c.requires.known)))))
 

@@ -1,11 +1,13 @@
-use Rattle.std.proofs.Common.{◌≤◌, ◌*◌, ◌^◌, ◌≡◌, ℕ, List, length, sym, ap, subst, ◌∙◌, arith, rules}
-use Rattle.std.specs.Prelude.{All}
+use Rattle.std.proofs.Common.{◌≤◌, ◌≡◌, ℕ, List, Ok, length, sym, ap, subst, subst₂, ◌∙◌, arith, rules}
+use Rattle.std.specs.Prelude.{All, Err}
+use Rattle.edit_session.specs.declared.committed.Applied.{Applied}
 use Rattle.edit_session.specs.Prepared.{RisesBy}
-use Rattle.rhythm_base.specs.Counter.{risen}
+use Rattle.edit_session.specs.Products.{AreProductsOf, AreProductsOfEdit}
+use Rattle.edit_session.proofs.SessionProducts.{dead_edit, idle_edit, made_edit}
 use Rattle.rhythm_base.specs.Grammar.{Grammar}
 use Rattle.rhythm_base.specs.Performance.{IsWellFormed, Performance}
-use Rattle.rhythm_base.specs.Reached.{WouldReach}
-use Rattle.rhythm_base.specs.Script.{IsOutcome, made, refused}
+use Rattle.edit_laws.specs.Reached.{WouldReach}
+use Rattle.edit_laws.specs.EditOutcomes.{IsOutcome, made, refused}
 use Rattle.rhythm_base.specs.Voices.{HasDerivation, IsCostOf, IsDeadVoice}
 use Rattle.rhythm_base.specs.declared.edit.Edit.{Edit}
 use Rattle.rhythm_base.specs.declared.edit_fault.EditFault.TheVariants.{NoDerivation}
@@ -116,11 +118,28 @@ returns-in-Ok-clause-step g c =
     (subst (λ future. IsEdited (seen kept.session kept.past kept.future) now.performance (seen now c.put_last.new.self future)) (sym c.clear.ensures)
     (edited_is kept.session now kept.past kept.future x c.in-Ok.committed.back (moved g c) c.put_last.new.self c.put_last.ensures.kept))
 
+-- ---- products
+
+pub returns-in_err-prepared-clause-products : goal.returns-in_err-prepared-clause-products
+returns-in_err-prepared-clause-products g c = idle_edit c.args.self.now.grammar c.args.self.now.present c.args.edit.now c.args.products.now
+
+pub returns-in-Err-clause-products : goal.returns-in-Err-clause-products
+returns-in-Err-clause-products g c = idle_edit c.args.self.now.grammar c.args.self.now.present c.args.edit.now c.args.products.now
+
+pub returns-in-Err-commit-clause-products : goal.returns-in-Err-commit-clause-products
+returns-in-Err-commit-clause-products g c =
+    let kept = c.self.inside in
+    let x = c.in_ok-prepared.prepared in
+    let dead = c.in-Err-commit.dead in
+    let inside = dead_edit kept.session.grammar kept.session.performance x.next c.args.edit.now c.args.products.now c.commit.new.products c.in_ok-prepared.ensures.next {A = Applied} dead.channel dead.bar
+    (subst₂ (λ h p. AreProductsOf 2 h p x.next c.args.products.now c.commit.new.products) c.reserve.ensures.grammar c.reserve.ensures.performance c.in-Err-commit.ensures.products) in
+    subst (λ (h : History). AreProductsOfEdit {A = Applied} h.grammar h.present c.args.edit.now (Err (NoDerivation dead.channel dead.bar)) c.args.products.now c.commit.new.products) c.self.view_is inside
+
 pub returns-in-Ok-clause-products : goal.returns-in-Ok-clause-products
-returns-in-Ok-clause-products g c d bars few =
-    let is = c.in-Ok.ensures in
-    let as_many = λ (p q : Performance) (same : p ≡ q). ap (λ (r : Performance). length r.bars) same in
-    let unchanged = as_many c.in_ok-prepared.prepared.next c.commit.new.self.performance (sym is.performance) ∙ bars
-    ∙ as_many c.args.self.now.present c.reserve.new.self.performance (sym (c.reserve.ensures.performance ∙ ap (λ (h : History). h.present) c.self.view_is)) in
-    subst (λ n. c.commit.new.products ≤ risen c.args.products.now (n * d)) (sym is.built)
-    (is.products d unchanged (subst (λ (p : Performance). length p.bars ≤ 2 ^ d) is.performance few))
+returns-in-Ok-clause-products g c =
+    let kept = c.self.inside in
+    let x = c.in_ok-prepared.prepared in
+    let applied = c.in-Ok.committed.applied in
+    let inside = made_edit kept.session.grammar kept.session.performance x.next c.args.edit.now c.args.products.now c.commit.new.products c.in_ok-prepared.ensures.next applied
+    (subst₂ (λ h p. AreProductsOf 1 h p x.next c.args.products.now c.commit.new.products) c.reserve.ensures.grammar c.reserve.ensures.performance c.in-Ok.ensures.products) in
+    subst (λ (h : History). AreProductsOfEdit h.grammar h.present c.args.edit.now (Ok applied) c.args.products.now c.commit.new.products) c.self.view_is inside

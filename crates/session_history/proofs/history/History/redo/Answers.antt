@@ -1,5 +1,8 @@
 use Rattle.std.proofs.Common.{subst, sym}
+use Rattle.edit_session.specs.Products.{AreProductsOf}
+use Rattle.rhythm_base.specs.Performance.{Performance}
 use Rattle.session_history.specs.Changes.{IsRedone}
+use Rattle.session_history.specs.History.{History}
 use Rattle.session_history.specs.Ways.{KeepsWays}
 use Rattle.session_history.proofs.Moves.{gone_there, next_way, lives_derived, lives_formed, redone_keeps}
 use Rattle.session_history.proofs.Views.{seen, redone_is}
@@ -47,3 +50,10 @@ returns-in-Some-clause-redone g c =
     subst (λ h. IsRedone h (seen now c.put_behind.new.self c.take_first.new.self)) c.self.view_is
     (subst (λ past. IsRedone (seen kept.session kept.past kept.future) (seen now past c.take_first.new.self)) (sym c.put_behind.ensures)
     (redone_is kept.session now kept.past kept.future c.in-Some.step back moved c.take_first.new.self c.in-Some.ensures))
+
+pub returns-in-Some-clause-products : goal.returns-in-Some-clause-products
+returns-in-Some-clause-products g c =
+    let is = c.take_back-committed.ensures in
+    let now = c.take_back-committed.new.self in
+    subst (λ (h : History). AreProductsOf 1 h.grammar h.present now.performance c.args.products.now c.take_back-committed.new.products) c.self.view_is
+    (subst (λ (p : Performance). AreProductsOf 1 c.self.inside.session.grammar c.self.inside.session.performance p c.args.products.now c.take_back-committed.new.products) (sym is.performance) is.products)

@@ -1,0 +1,2 @@
+pub mod BarTrees
+pub mod WrittenLists

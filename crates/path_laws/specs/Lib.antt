@@ -1,0 +1,4 @@
+pub mod Laws
+pub mod Meetings
+pub mod Rows
+pub mod Tables

@@ -1,0 +1,8 @@
+pub mod ChordLemmas
+pub mod EditedBars
+pub mod OneBars
+pub mod OneChords
+pub mod OneEvents
+pub mod OneVoices
+pub mod PerformedVoices
+mod WorkedAnswers

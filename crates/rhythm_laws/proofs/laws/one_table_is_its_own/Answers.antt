@@ -1,5 +1,0 @@
-use Rattle.rhythm_laws.proofs.PathTables.{table_single}
-use Rattle.rhythm_laws.proofs.laws.one_table_is_its_own.Goals as goal
-
-pub returns : goal.returns
-returns c = table_single

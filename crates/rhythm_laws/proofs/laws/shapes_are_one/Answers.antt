@@ -1,5 +1,0 @@
-use Rattle.rhythm_laws.proofs.ShapesOfTrees.{one_shape_of}
-use Rattle.rhythm_laws.proofs.laws.shapes_are_one.Goals as goal
-
-pub returns : goal.returns
-returns c = one_shape_of

@@ -1,5 +1,0 @@
-use Rattle.rhythm_laws.proofs.PathTables.{table_append}
-use Rattle.rhythm_laws.proofs.laws.tables_multiply.Goals as goal
-
-pub returns : goal.returns
-returns c = table_append

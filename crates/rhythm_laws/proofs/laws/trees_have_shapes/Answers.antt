@@ -1,5 +1,0 @@
-use Rattle.rhythm_laws.proofs.ShapesOfTrees.{tree-has_shape}
-use Rattle.rhythm_laws.proofs.laws.trees_have_shapes.Goals as goal
-
-pub returns : goal.returns
-returns c = tree-has_shape

@@ -1,0 +1,5 @@
+pub mod Lines
+pub mod OneAnswers
+pub mod OneRuns
+pub mod Runs
+mod WorkedScripts

@@ -1,0 +1,10 @@
+pub mod Alternatives
+pub mod Forests
+pub mod Laws
+pub mod Passes
+pub mod Places
+pub mod Quiet
+pub mod Runs
+pub mod Shares
+pub mod VersionOne
+pub mod Voices
