@@ -23,20 +23,15 @@ use Rattle.best_trees.specs.Firsts.{AreFirstKeys, IsBefore}
 use Rattle.bar_alternatives.specs.Totals.{IsTotal, IsListed}
 use Rattle.best_trees.proofs.Firsts.{contains_first, contains_later}
 use Rattle.bar_alternatives.proofs.Roots.{looked_told, looked_total, total_looked}
+use Rattle.rhythm_base.proofs.PairedLists.{each_push}
 
 -- ---- listing one more
-
-each-push : {X Y : Type 0} (R : X → Y → Type 0) (xs : List X) (ys : List Y) (x : X) (y : Y) → Each R xs ys → R x y → Each R (xs ++ x ∷ []) (ys ++ y ∷ [])
-each-push R [] [] x y h r = (r, refl)
-each-push R [] (z ∷ ys) x y h r = absurd (cc)
-each-push R (w ∷ xs) [] x y h r = absurd h
-each-push R (w ∷ xs) (z ∷ ys) x y h r = (h.0, each-push R xs ys x y h.1 r)
 
 pub listed-next : (g : Grammar) (symbol : ℕ) (keys : List Key) (i : ℕ) (key : Key) (old new : List (ℕ × Tree)) (a : ℕ × Tree) → i < length keys → key ≡ get_or keys i key
     → Each (IsListed g symbol) (take i keys) old → new ≡ old ++ a ∷ [] → IsListed g symbol key a → Each (IsListed g symbol) (take (i + 1) keys) new
 listed-next g symbol keys i key old new a low is h pushed own =
     let all : take (i + 1) keys ≡ take i keys ++ key ∷ [] = take_more keys i key low ∙ ap (λ k. take i keys ++ k ∷ []) (sym is) in
-    subst (Each (IsListed g symbol) (take (i + 1) keys)) (sym pushed) (subst (λ l. Each (IsListed g symbol) l (old ++ a ∷ [])) (sym all) (each-push (IsListed g symbol) (take i keys) old key a h own))
+    subst (Each (IsListed g symbol) (take (i + 1) keys)) (sym pushed) (subst (λ l. Each (IsListed g symbol) l (old ++ a ∷ [])) (sym all) (each_push (IsListed g symbol) (take i keys) old key a h own))
 
 -- ---- the order
 

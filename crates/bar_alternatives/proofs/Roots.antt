@@ -1,11 +1,7 @@
 -- The trees of the whole bar: as forests of one tree, and as trees that fit the bar.
-use Rattle.std.proofs.Common.{◌≡◌, ℕ, ◌<◌, ◌+◌, ◌&&◌, true, All, List, [], ◌∷◌, refl, sym, ap, ap₂, ◌∙◌, subst, arith, append-nil}
-use Rattle.std.specs.Prelude.{Option, None, nat_lt}
-use Rattle.std.specs.List.{list_all}
-use Rattle.std.proofs.lemmas.Bool.Decides.{nat_tests}
-use Rattle.std.proofs.lemmas.List.Elements.{All-head, All-tail}
-use Rattle.rhythm_base.specs.declared.inner.Inner.{Inner}
-use Rattle.rhythm_base.specs.BarInput.{BarInput, IsInner}
+use Rattle.std.proofs.Common.{◌≡◌, ℕ, ◌+◌, ◌&&◌, true, List, [], ◌∷◌, refl, sym, ap, ap₂, ◌∙◌, subst, arith, append-nil}
+use Rattle.std.specs.Prelude.{Option, None}
+use Rattle.rhythm_base.specs.BarInput.{BarInput}
 use Rattle.rhythm_base.specs.BarTables.{cell_rank}
 use Rattle.rhythm_base.specs.Cells.{CellFits, bar_of, cell_cost, leaves_in}
 use Rattle.rhythm_base.specs.Cost.{charges, weights}
@@ -24,18 +20,11 @@ use Rattle.row_laws.specs.Grounds.{IsReady, ground_of}
 use Rattle.row_laws.proofs.RuleKeys.{single_tree}
 use Rattle.bar_alternatives.specs.BestTrees.{IsLookedAt}
 use Rattle.bar_alternatives.specs.Totals.{IsTotal}
-
--- all onsets lie in the bar
-inside : (l : ℕ) (cs : List Inner) → All (IsInner l) cs → list_all (λ c. nat_lt c.onset l) cs ≡ true
-inside l [] h = refl
-inside l (c ∷ cs) h =
-    let own : c.onset < l = (All-head (IsInner l) c cs h).onset in
-    let on : nat_lt c.onset l ≡ true = grind (arith, nat_tests) in
-    ap₂ ◌&&◌ on (inside l cs (All-tail (IsInner l) c cs h))
+use Rattle.row_laws.proofs.Grounds.{onsets_inside}
 
 module _ (g : Grammar) (k : BarInput) (ready : IsReady g k) (free : k.pin ≡ None) where
   holds : HoldsChords k
-  holds = record { long = ready.cell.some_tick; rise = ready.cell.rising; below = inside k.length k.chords ready.cell.chords }
+  holds = record { long = ready.cell.some_tick; rise = ready.cell.rising; below = onsets_inside k.length k.chords ready.cell.chords }
 
   abbrev root : List (ℕ × ℕ)
   root = (k.resolution, k.symbol) ∷ []

@@ -1,6 +1,6 @@
 -- The barlines of a voice, and its bars from one of them on.
 use Rattle.std.proofs.Common.{◌≡◌, ℕ, zero, suc, ◌+◌, ◌<◌, List, [], ◌∷◌, length, drop, take, get_or, subst, refl, ap, ◌∙◌, arith}
-use Rattle.std.specs.Prelude.{All}
+use Rattle.std.specs.Prelude.{All, Some, slice_get}
 use Rattle.rhythm_base.specs.declared.note.Bar.{Bar}
 use Rattle.rhythm_base.specs.declared.pin.Pin.{Pin}
 use Rattle.rhythm_base.specs.Barlines.{barline}
@@ -34,6 +34,25 @@ measures-next g pins channel last n bars d lt =
     ap (voice_bars_from g pins channel last n) (drop-next bars n d lt)
     ∙ ap (λ k. voice_bar g pins channel n (get_or bars n d) (barline (drop k bars) last 0) ∷ voice_bars_from g pins channel last k (drop k bars)) one
     ∙ ap (λ t. voice_bar g pins channel n (get_or bars n d) t ∷ voice_bars_from g pins channel last (n + 1) (drop (n + 1) bars)) (barline-drop bars last (n + 1))
+
+-- the bar of a number
+bar_from : (g : Grammar) (pins : List Pin) (channel last i n : ℕ) (bars : List Bar) (d : Bar) → n < length bars
+    → slice_get (voice_bars_from g pins channel last i bars) n ≡ Some (voice_bar g pins channel (i + n) (get_or bars n d) (barline bars last (suc n)))
+bar_from g pins channel last i n [] d lt = absurd (omega (arith, lt))
+bar_from g pins channel last i zero (b ∷ bars) d lt =
+    let same : i ≡ i + 0 = omega arith in
+    ap (λ k. Some (voice_bar g pins channel k b (barline bars last 0))) same
+bar_from g pins channel last i (suc n) (b ∷ bars) d lt =
+    let same : suc i + n ≡ i + suc n = omega arith in
+    bar_from g pins channel last (suc i) n bars d (omega (arith, lt))
+    ∙ ap (λ k. Some (voice_bar g pins channel k (get_or bars n d) (barline bars last (suc n)))) same
+
+pub bar_at : (g : Grammar) (pins : List Pin) (channel last n : ℕ) (bars : List Bar) (d : Bar) → n < length bars
+    → slice_get (voice_bars_from g pins channel last 0 bars) n ≡ Some (voice_bar g pins channel n (get_or bars n d) (barline bars last (n + 1)))
+bar_at g pins channel last n bars d lt =
+    let none : 0 + n ≡ n = omega arith in
+    let one : suc n ≡ n + 1 = omega arith in
+    bar_from g pins channel last 0 n bars d lt ∙ (λ i. Some (voice_bar g pins channel (none i) (get_or bars n d) (barline bars last (one i))))
 
 -- what holds of the first bars and of the next one holds of one bar more
 pub All-take-next : (P : Bar → Type 0) (bars : List Bar) (n : ℕ) (d : Bar) → n < length bars → All P (take n bars) → P (get_or bars n d) → All P (take (n + 1) bars)

@@ -1,4 +1,5 @@
 pub mod Barlines
+pub mod LocalInputs
 pub mod Lookups
 pub mod Passes
 pub mod Turns

@@ -1,9 +1,10 @@
 -- What one turn of the pass does: the chords of one bar, those after it, and the input of its cell.
 use Rattle.std.proofs.Common.{◌≡◌, ℕ, ◌+◌, ◌-◌, ◌<◌, ◌≤◌, Bool, true, false, nat_lt, List, [], ◌∷◌, ◌++◌, length, map, take, drop, get_or, min, subst, refl, sym, ap, ◌∙◌, arith, append_assoc, Option, Some, if◌then◌else◌}
-use Rattle.std.specs.Prelude.{filter, unwrap_or}
+use Rattle.std.specs.Prelude.{filter, option_map, slice_get, unwrap_or}
 use Rattle.std.specs.List.{position}
 use Rattle.std.proofs.lemmas.Bool.Decides.{nat_tests}
 use Rattle.std.proofs.lemmas.List.Elements.{All-filter, filter_passes}
+use Rattle.std.proofs.lemmas.Option.{slice_get-map}
 use Rattle.rhythm_base.specs.declared.chord.Chord.{Chord}
 use Rattle.rhythm_base.specs.declared.note.Bar.{Bar}
 use Rattle.rhythm_base.specs.declared.pin.Pin.{Pin}
@@ -17,7 +18,7 @@ use Rattle.rhythm_base.specs.Grammar.{Grammar, root_of}
 use Rattle.rhythm_base.specs.Pins.{pin_of}
 use Rattle.rhythm_base.specs.Voices.{voice_bar, voice_bars_from}
 use Rattle.bar_cut.specs.Cuts.{AreBarsAndChords, AreInside, Rises, moved_all}
-use Rattle.bar_cut.proofs.Barlines.{measures-next, starts_at}
+use Rattle.bar_cut.proofs.Barlines.{bar_at, measures-next, starts_at}
 use Rattle.performance_laws.proofs.EditedBars.{barlines_rise}
 use Rattle.bar_cut.proofs.Passes.{before-soundings, end_before, end_before-next, from-from, is_before, is_from, own, parted, rises-filter}
 
@@ -66,6 +67,16 @@ module _ (g : Grammar) (pins : List Pin) (channel last n : ℕ) (bars : List Bar
 
   later_rises : Rises start later
   later_rises = rises_on start 0 voice w.chords_rise
+
+  -- what stands before the bar, and from its start on
+  pub earlier_is : (front : List Chord) (k : ℕ) → front ≡ take k voice → IsCount voice bar.start k → last_end 0 (map (λ c. c.end) front) ≡ end_before start voice
+  earlier_is front k is many =
+      ap (λ (l : List Chord). last_end 0 (map (λ c. c.end) l)) (is ∙ ap (λ k. take k voice) many ∙ (parted bar.start 0 voice w.chords_rise).0)
+      ∙ ap (λ t. end_before t voice) (sym start_is)
+
+  pub later_is : (back : List Chord) (k : ℕ) → back ≡ drop k voice → IsCount voice bar.start k → back ≡ later
+  later_is back k is many =
+      is ∙ ap (λ k. drop k voice) many ∙ (parted bar.start 0 voice w.chords_rise).1 ∙ ap (λ t. filter (is_from t) voice) (sym start_is)
 
   own_is : take count later ≡ filter (is_before end) later
   own_is = (parted end start later later_rises).0
@@ -150,6 +161,12 @@ module _ (g : Grammar) (pins : List Pin) (channel last n : ℕ) (bars : List Bar
         before = before_same i;
         pin = pin_of pins channel n;
       }
+
+  -- the input stands at the number of the bar
+  pub input_at : slice_get (map (λ m. input g m (soundings voice)) (voice_bars_from g pins channel last 0 bars)) n ≡ Some (input g cell_bar (soundings voice))
+  input_at =
+      let F : VoiceBar → BarInput = λ m. input g m (soundings voice) in
+      slice_get-map F (voice_bars_from g pins channel last 0 bars) n ∙ ap (option_map F) (bar_at g pins channel last n bars d lt)
 
   -- one more input is made
   pub made_next : (made : List BarInput) (k : BarInput) (all : List BarInput) → k ≡ input g cell_bar (soundings voice)

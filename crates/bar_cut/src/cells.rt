@@ -2,7 +2,7 @@ ghost use Rattle.bar_cut.specs.Cuts.{AreBarsAndChords, IsFirstWithoutStart, inpu
 ghost use Rattle.bar_cut.specs.declared.fault.CutFault.TheVariants.{Memory, NoStart};
 ghost use Rattle.rhythm_base.specs.Readable.{IsInRange};
 ghost use Rattle.rhythm_base.specs.Voices.{HasStarts};
-ghost use Rattle.std.specs.Prelude.{◌≡◌, Err, IfOk, ℕ};
+ghost use Rattle.std.specs.Prelude.{◌≡◌, ◌<◌, Err, IfOk, Some, length, slice_get, ℕ};
 
 use crate::fault::CutFault;
 use crate::inner::{count_before, last_end};
@@ -45,6 +45,33 @@ pub fn sections<'a>(
         later = rest;
     }
     Ok(sections)
+}
+
+/// The section of one bar of a voice, by its number: that which `sections` gives for the bar. Each bar has a root symbol. The
+/// chords are looked through from the first, so give few: those of the bar, and the chord before them.
+pub fn section_of<'a>(
+    voice: &'a [Chord],
+    bars: &[Bar],
+    last: u64,
+    grammar: &Grammar,
+    pins: &'a [Pin],
+    channel: u8,
+    number: usize,
+) -> Section<'a>
+    requires voice { AreBarsAndChords bars.now last voice.now }
+    requires grammar { IsInRange grammar.now }
+    requires starts { HasStarts grammar.now bars.now }
+    requires number { number < length bars.now }
+    ensures { slice_get (inputs grammar.now pins.entry.now channel last bars.now voice.entry.now) number ≡ Some result }
+{
+    let bar = bars[number];
+    let end = barline_after(bars, last, number);
+    let symbol = root_of(grammar, bar.num, bar.den).unwrap();
+    let (earlier, later) = voice.split_at(count_before(voice, bar.start));
+    let (own, _rest) = later.split_at(count_before(later, end));
+    let before = last_end(earlier, 0);
+    let pin = pin_of(pins, channel, number);
+    Section::of(grammar, symbol, bar, end, own, before, pin)
 }
 
 /// The input of each section.

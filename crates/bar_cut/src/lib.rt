@@ -10,7 +10,7 @@ mod lookup;
 mod section;
 mod starts;
 
-pub use cells::{cut, sections};
+pub use cells::{cut, section_of, sections};
 pub use fault::CutFault;
 pub use laws::performances_can_be_cut;
 pub use section::Section;

@@ -11,19 +11,14 @@ use Rattle.rhythm_base.specs.Leaves.{goes_left, lies_in, sounds}
 use Rattle.rhythm_base.specs.Line.{Rising}
 use Rattle.rhythm_base.specs.Lists.{last_end}
 use Rattle.tree_laws.specs.Places.{end_before}
-use Rattle.tree_laws.proofs.Ticks.{le_from, le_not, lt_not_le, take_zero}
+use Rattle.tree_laws.proofs.Ticks.{le_from, le_not, take_zero}
 use Rattle.row_laws.specs.Leaves.{IsCrowded, leaf_of_cell, next_ends, own_ends}
 use Rattle.bar_view.specs.Units.{SplitsAt, end_of_earlier}
 use Rattle.bar_view.proofs.Filters.{ends-taken, filter-range}
 use Rattle.bar_view.proofs.Quiets.{end-at-split}
+use Rattle.rhythm_base.proofs.Booleans.{lt_test, ge_test}
 
 -- ---- one onset
-
-lt_from : (a b : ℕ) → a < b → nat_lt a b ≡ true
-lt_from a b h = lt_not_le a b ∙ ap not (le_not b a h)
-
-lt_not : (a b : ℕ) → b ≤ a → nat_lt a b ≡ false
-lt_not a b h = lt_not_le a b ∙ ap not (le_from b a h)
 
 module _ (k : BarInput) (p w t : ℕ) where
   pub lies-is : lies_in k.resolution (leaf_of_cell k p w) t ≡ nat_le (p * k.length) (t * k.resolution) && nat_lt (t * k.resolution) ((p + w) * k.length)
@@ -35,13 +30,13 @@ module _ (k : BarInput) (p w t : ℕ) where
   goes-is = ap (λ n. nat_le (2 * (n * k.resolution - p * k.length)) (w * k.length)) (take_zero t)
 
   pub lies-in : p * k.length ≤ t * k.resolution → t * k.resolution < (p + w) * k.length → lies_in k.resolution (leaf_of_cell k p w) t ≡ true
-  lies-in low high = lies-is ∙ ap₂ ◌&&◌ (le_from (p * k.length) (t * k.resolution) low) (lt_from (t * k.resolution) ((p + w) * k.length) high)
+  lies-in low high = lies-is ∙ ap₂ ◌&&◌ (le_from (p * k.length) (t * k.resolution) low) (lt_test (t * k.resolution) ((p + w) * k.length) high)
 
   pub lies-before : t * k.resolution < p * k.length → lies_in k.resolution (leaf_of_cell k p w) t ≡ false
   lies-before h = lies-is ∙ ap (λ b. b && nat_lt (t * k.resolution) ((p + w) * k.length)) (le_not (p * k.length) (t * k.resolution) h)
 
   pub lies-after : (p + w) * k.length ≤ t * k.resolution → lies_in k.resolution (leaf_of_cell k p w) t ≡ false
-  lies-after h = lies-is ∙ ap (λ b. nat_le (p * k.length) (t * k.resolution) && b) (lt_not (t * k.resolution) ((p + w) * k.length) h) ∙ no (nat_le (p * k.length) (t * k.resolution))
+  lies-after h = lies-is ∙ ap (λ b. nat_le (p * k.length) (t * k.resolution) && b) (ge_test (t * k.resolution) ((p + w) * k.length) h) ∙ no (nat_le (p * k.length) (t * k.resolution))
     where
       no : (b : Bool) → b && false ≡ false
       no true = refl

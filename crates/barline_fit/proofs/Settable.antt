@@ -1,6 +1,6 @@
 -- Where a barline can be set: to a tick in the range of edits, and only where the performance has such a barline.
-use Rattle.std.proofs.Common.{◌≡◌, ℕ, zero, suc, ◌+◌, ◌<◌, ◌≤◌, ◌==◌, Bool, true, false, ◌&&◌, ◌||◌, List, [], ◌∷◌, length, refl, sym, ap, ◌∙◌, arith, None, Ok, Err}
-use Rattle.std.specs.Prelude.{All, nat_lt, if◌then◌else◌}
+use Rattle.std.proofs.Common.{◌≡◌, ℕ, ◌+◌, ◌<◌, ◌≤◌, ◌==◌, Bool, true, false, ◌||◌, length, refl, sym, ap, ◌∙◌, arith, None, Ok, Err}
+use Rattle.std.specs.Prelude.{nat_lt, if◌then◌else◌}
 use Rattle.std.proofs.lemmas.Bool.Decides.{nat_tests}
 use Rattle.barline_fit.specs.Fitted.{HasBarline}
 use Rattle.edit_laws.proofs.BarEdits.{length-with_barline}
@@ -8,23 +8,13 @@ use Rattle.edit_laws.proofs.Edited.{all_pass, made, not_false}
 use Rattle.rhythm_base.specs.Barlines.{barline, barline_after}
 use Rattle.rhythm_base.specs.EditRanges.{IsEditInRange}
 use Rattle.edit_laws.specs.Edits.{edit_tests, edited, first_refusal, performance_after}
-use Rattle.rhythm_base.specs.Performance.{IsBarOf, IsWellFormed, Performance}
+use Rattle.rhythm_base.specs.Performance.{IsWellFormed, Performance}
 use Rattle.rhythm_base.specs.declared.edit.Edit.TheVariants.{Barline}
 use Rattle.rhythm_base.specs.declared.edit_fault.EditFault.{EditFault}
 use Rattle.rhythm_base.specs.declared.edit_fault.EditFault.TheVariants.{NoBar}
 use Rattle.rhythm_base.specs.declared.limits.TheConstants.{LATEST_TICK}
-use Rattle.rhythm_base.specs.declared.note.Bar.{Bar}
-use Rattle.rhythm_base.proofs.OrderedLists.{all_head, all_tail}
-
--- no barline is after the last one
-no_later : (division last : ℕ) (bars : List Bar) (k : ℕ) → All (IsBarOf division last) bars → barline bars last k ≤ last
-no_later division last [] k all = omega arith
-no_later division last (b ∷ bars) zero all = let head = all_head (IsBarOf division last) b bars all in omega (arith, head.start)
-no_later division last (b ∷ bars) (suc k) all = no_later division last bars k (all_tail (IsBarOf division last) b bars all)
-
-second_true : (a b : Bool) → (a && b) ≡ true → b ≡ true
-second_true true b h = h
-second_true false b h = absurd (cc)
+use Rattle.rhythm_base.proofs.Booleans.{and_right}
+use Rattle.performance_laws.proofs.PerformedVoices.{by_last}
 
 -- a barline before the next one is not past the latest tick
 early : (p : Performance) (bar tick : ℕ) → IsWellFormed p → nat_lt tick (barline_after p bar) ≡ true → tick ≤ LATEST_TICK
@@ -33,7 +23,7 @@ early p bar tick w h = at (nat_lt bar (length p.bars)) h
     at : (b : Bool) → nat_lt tick (if b then barline p.bars p.last (bar + 1) else LATEST_TICK + 1) ≡ true → tick ≤ LATEST_TICK
     at true less =
         let before : tick < barline p.bars p.last (bar + 1) = grind (arith, nat_tests, less) in
-        omega (arith, before, no_later p.division p.last p.bars (bar + 1) w.bars, w.last_barline)
+        omega (arith, before, by_last p.division p.last p.bars (bar + 1) w.bars, w.last_barline)
     at false less = let before : tick < LATEST_TICK + 1 = grind (arith, nat_tests, less) in omega (arith, before)
 
 module _ (p q : Performance) (bar tick : ℕ) (w : IsWellFormed p) (is : edited p (Barline bar tick) ≡ Ok q) where
@@ -45,7 +35,7 @@ module _ (p q : Performance) (bar tick : ℕ) (w : IsWellFormed p) (is : edited 
   set_in_range =
       let pass = all_pass (edit_tests p (Barline bar tick)) passes in
       let there : bar ≤ length p.bars = grind (arith, nat_tests, pass.0) in
-      (omega (arith, there, w.few_bars), early p bar tick w (second_true _ _ (not_false _ pass.1.0)))
+      (omega (arith, there, w.few_bars), early p bar tick w (and_right _ _ (not_false _ pass.1.0)))
 
 -- what is made has its barline
 pub set_has_barline : (p q : Performance) (bar tick : ℕ) → edited p (Barline bar tick) ≡ Ok q → HasBarline p bar

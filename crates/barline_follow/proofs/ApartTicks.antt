@@ -1,6 +1,6 @@
 -- What is kept of a list stands at ticks that differ.
-use Rattle.std.proofs.Common.{◌≡◌, ℕ, zero, suc, ◌+◌, ◌<◌, ◌≤◌, ◌⊎◌, inl, inr, List, [], ◌∷◌, ◌++◌, drop, get_or, length, take, refl, ap, sym, ◌∙◌, subst, arith}
-use Rattle.std.specs.Prelude.{AllPairs, Contains, Some, ⊤, slice_get}
+use Rattle.std.proofs.Common.{◌≡◌, ℕ, zero, suc, ◌+◌, ◌≤◌, inl, inr, List, [], ◌∷◌, ◌++◌, drop, get_or, length, take, ap, sym, ◌∙◌, subst, arith}
+use Rattle.std.specs.Prelude.{AllPairs, Contains, Some, ⊤}
 use Rattle.std.specs.Cmp.Lexicographic.{slice_cmp, nat_list_cmp_total}
 use Rattle.std.specs.Ordering.{nat_cmp}
 use Rattle.std.specs.declared.cmp.Ordering.TheVariants.{Less, Equal}
@@ -16,13 +16,13 @@ use Rattle.barline_follow.proofs.Gathering.{taken}
 use Rattle.barline_follow.proofs.Searching.{in_parts}
 
 -- what is in a list and is not the one at a place is elsewhere in it
-elsewhere_in : (front back : List ℕ) (a b : ℕ) → Contains (front ++ (a ∷ back)) b → (a ≡ b → ⊥) → Contains (front ++ back) b
+elsewhere_in : {Y : Type 0} (front back : List Y) (a b : Y) → Contains (front ++ (a ∷ back)) b → (a ≡ b → ⊥) → Contains (front ++ back) b
 elsewhere_in front back a b c differ = elim (Contains-append_cases front (a ∷ back) b c) [
   | inl before ↦ Contains-append_left front back b before
   | inr rest ↦ elim (contains_split b a back rest) [ inl same ↦ absurd (differ same) | inr behind ↦ Contains-append_right front back b behind ]
 ]
 
-module _ {X : Type 0} (value tick : X → ℕ) where
+module _ {X Y : Type 0} (tick : X → Y) where
   -- no two of them stand at one tick
   abbrev pub AreApart : List X → Type 0
   AreApart [] = ⊤
@@ -44,18 +44,19 @@ module _ {X : Type 0} (value tick : X → ℕ) where
   ]
 
   -- they are no more than the ticks that they stand at
-  pub no_more : (xs : List X) (ticks : List ℕ) → AreApart xs → ((x : X) → Contains xs x → Contains ticks (tick x)) → length xs ≤ length ticks
+  pub no_more : (xs : List X) (ticks : List Y) → AreApart xs → ((x : X) → Contains xs x → Contains ticks (tick x)) → length xs ≤ length ticks
   no_more [] ticks apart all = omega arith
   no_more (x ∷ xs) ticks apart all =
       let own = all x (here x xs) in
-      let front : List ℕ = take own.0 ticks in
-      let back : List ℕ = drop (own.0 + 1) ticks in
+      let front : List Y = take own.0 ticks in
+      let back : List Y = drop (own.0 + 1) ticks in
       let parts : ticks ≡ front ++ (tick x ∷ back) = in_parts ticks own.0 (tick x) own.1 ∙ ap (λ t. front ++ (t ∷ back)) own.2 in
       let rest : length xs ≤ length (front ++ back) =
       no_more xs (front ++ back) apart.1
       (λ y c. elsewhere_in front back (tick x) (tick y) (subst (λ l. Contains l (tick y)) parts (all y (later x y xs c))) (apart.0 y c)) in
       omega (arith, rest, ap length parts, length-append front (tick x ∷ back), length-append front back)
 
+module _ {X : Type 0} (value tick : X → ℕ) where
   pub not_before : (x y : X) → value x ≡ value y → tick x ≡ tick y → Before value tick x y → ⊥
   not_before x y values ticks before =
       let places : place_of value tick x ≡ place_of value tick y = λ i. values i ∷ ticks i ∷ [] in
@@ -63,7 +64,7 @@ module _ {X : Type 0} (value tick : X → ℕ) where
       let wrong : Less ≡ Equal = sym before ∙ ap (λ l. slice_cmp nat_cmp l (place_of value tick y)) places ∙ tied in
       absurd (cc)
 
-  firsts_apart : (xs kept : List X) → ((x : X) → Contains kept x → IsFirstLeast value tick xs x) → AllPairs (Before value tick) kept → AreApart kept
+  firsts_apart : (xs kept : List X) → ((x : X) → Contains kept x → IsFirstLeast value tick xs x) → AllPairs (Before value tick) kept → AreApart tick kept
   firsts_apart xs [] firsts up = tt
   firsts_apart xs (x ∷ kept) firsts up = (
     λ y c same.
@@ -76,11 +77,11 @@ module _ {X : Type 0} (value tick : X → ℕ) where
     firsts_apart xs kept (λ y c. firsts y (later x y kept c)) (pairs_tail (Before value tick) x kept up),
   )
 
-  pub kept_apart : (xs kept : List X) → AreFirstLeast value tick xs kept → AreApart kept
+  pub kept_apart : (xs kept : List X) → AreFirstLeast value tick xs kept → AreApart tick kept
   kept_apart xs kept h = firsts_apart xs kept (λ x c. (h.exactly x).0 c) h.in_order
 
   -- such a list keeps all of itself
-  pub keeps_itself : (xs : List X) → AllPairs (Before value tick) xs → AreApart xs → AreFirstLeast value tick xs xs
+  pub keeps_itself : (xs : List X) → AllPairs (Before value tick) xs → AreApart tick xs → AreFirstLeast value tick xs xs
   keeps_itself xs up apart = record {
     in_order = up;
     exactly = λ x. (
@@ -90,8 +91,8 @@ module _ {X : Type 0} (value tick : X → ℕ) where
         first = λ i y lt got same.
             let other : get_or xs i x ≡ y = get_or_from_slice_get xs i y x got in
             let before = subst (λ z. Before value tick z x) other (subst (Before value tick (get_or xs i x)) c.2 (up i c.0 x lt c.1)) in
-            absurd (not_before y x (ap value (one_at_tick xs apart y x (got_contained xs i y got) c same)) same before);
-        least = λ y d same. let eq : value y ≡ value x = ap value (one_at_tick xs apart y x d c same) in omega (arith, eq);
+            absurd (not_before y x (ap value (one_at_tick tick xs apart y x (got_contained xs i y got) c same)) same before);
+        least = λ y d same. let eq : value y ≡ value x = ap value (one_at_tick tick xs apart y x d c same) in omega (arith, eq);
       },
       λ is. got_contained xs is.place x is.there,
     );

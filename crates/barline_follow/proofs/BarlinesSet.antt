@@ -21,8 +21,8 @@ use Rattle.barline_follow.specs.Script.{Leads, first_barlines, further, last_bar
 use Rattle.barline_follow.specs.Stages.{Shift, aim, aims, all_stages, is_earlier, is_later, shift_line, shifts, stage, stage_count, stage_lines}
 use Rattle.barline_follow.proofs.Further.{last_of_all, last_pushed, length-barlines, length-lengthened}
 use Rattle.barline_follow.proofs.LaidBars.{after_added, after_barline, after_dropped, laid, on}
-use Rattle.barline_follow.proofs.Ranges.{all_reversed}
 use Rattle.barline_follow.proofs.Shifted.{aims_first, aims_last, length-paired, no_stages, shifted, stage_shifted}
+use Rattle.rhythm_base.proofs.ListParts.{all_reversed}
 
 -- ---- edits one after another
 

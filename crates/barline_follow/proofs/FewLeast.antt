@@ -1,9 +1,9 @@
 -- The first few of what is kept, with one more: those past them play no part.
-use Rattle.std.proofs.Common.{◌≡◌, ℕ, zero, suc, ◌+◌, ◌<◌, ◌≤◌, ◌⊎◌, inl, inr, Bool, true, false, not, nat_eq, List, [], ◌∷◌, ◌++◌, length, take, refl, ap, sym, ◌∙◌, subst, arith}
+use Rattle.std.proofs.Common.{◌≡◌, ℕ, zero, suc, ◌≤◌, ◌⊎◌, inl, inr, Bool, true, false, not, nat_eq, List, [], ◌∷◌, ◌++◌, take, refl, ap, sym, ◌∙◌, subst, arith}
 use Rattle.std.specs.Prelude.{AllPairs, Contains, filter, if◌then◌else◌}
-use Rattle.std.specs.Cmp.Lexicographic.{slice_cmp, nat_list_cmp_total}
-use Rattle.std.specs.Ordering.{is_lt, nat_cmp}
-use Rattle.std.proofs.lemmas.Bool.{eq-eqb, eqb-false, eqb-true, false≢true, true≢false}
+use Rattle.std.specs.Cmp.Lexicographic.{nat_list_cmp_total}
+use Rattle.std.specs.Ordering.{is_lt}
+use Rattle.std.proofs.lemmas.Bool.{eqb-false, eqb-true, false≢true, true≢false}
 use Rattle.std.proofs.lemmas.List.{take-take}
 use Rattle.rhythm_base.specs.Lists.{list_with}
 use Rattle.rhythm_base.proofs.FirstLists.{contains_split}
@@ -39,7 +39,7 @@ module _ {X : Type 0} (value tick : X → ℕ) (x : X) where
       by false is rest = ap (λ l. k ∷ l) rest
 
   -- at most one is not elsewhere
-  few_elsewhere : (m : ℕ) (ks : List X) → AreApart value tick ks → take m (filter is_elsewhere (take (suc m) ks)) ≡ take m (filter is_elsewhere ks)
+  few_elsewhere : (m : ℕ) (ks : List X) → AreApart tick ks → take m (filter is_elsewhere (take (suc m) ks)) ≡ take m (filter is_elsewhere ks)
   few_elsewhere zero ks apart = refl
   few_elsewhere (suc m) [] apart = refl
   few_elsewhere (suc m) (k ∷ ks) apart = by (nat_eq (tick k) (tick x)) refl (few_elsewhere m ks apart.1)
@@ -54,7 +54,7 @@ module _ {X : Type 0} (value tick : X → ℕ) (x : X) where
           ap (take (suc m)) (all_elsewhere (take (suc m) ks) (λ y c. away y (taken (suc m) ks y c)))
           ∙ take-take (suc m) (suc m) ks (omega arith) ∙ ap (take (suc m)) (sym (all_elsewhere ks away))
 
-  few_with_one : (m : ℕ) (ks : List X) → AreApart value tick ks → take m (with_one (take m ks)) ≡ take m (with_one ks)
+  few_with_one : (m : ℕ) (ks : List X) → AreApart tick ks → take m (with_one (take m ks)) ≡ take m (with_one ks)
   few_with_one zero ks apart = refl
   few_with_one (suc m) [] apart = refl
   few_with_one (suc m) (k ∷ ks) apart = by (earlier (place x) (place k)) (nat_eq (tick k) (tick x)) (few_with_one m ks apart.1)
@@ -171,7 +171,7 @@ module _ {X : Type 0} (value tick : X → ℕ) (x : X) where
 module _ {X : Type 0} (value tick : X → ℕ) where
   pub few_themselves : (m : ℕ) (xs kept : List X) → AreFirstLeast value tick xs kept → AreFirstLeast value tick (take m kept) (take m kept)
   few_themselves m xs kept h =
-      keeps_itself value tick (take m kept) (pairs_take value tick m kept h.in_order) (apart_take value tick m kept (kept_apart value tick xs kept h))
+      keeps_itself value tick (take m kept) (pairs_take value tick m kept h.in_order) (apart_take tick m kept (kept_apart value tick xs kept h))
 
   -- the first few of what is kept of the first few and one more are the first few of what is kept of all and that one
   pub few_more : (m : ℕ) (xs kept next : List X) (x : X) → AreFirstLeast value tick xs kept → AreFirstLeast value tick (take m kept ++ (x ∷ [])) next

@@ -1,38 +1,31 @@
 -- How many lengths are offered, and how many tables a round builds.
-use Rattle.std.proofs.Common.{◌≡◌, ℕ, zero, suc, ◌+◌, ◌-◌, ◌*◌, ◌<◌, ◌≤◌, inl, inr, List, [], ◌∷◌, ◌++◌, drop, length, map, take, refl, ap, sym, ◌∙◌, subst, arith}
-use Rattle.std.specs.Prelude.{AllPairs, Contains, ⊤, filter}
-use Rattle.std.specs.Cmp.Lexicographic.{slice_cmp, nat_list_cmp_total}
+use Rattle.std.proofs.Common.{◌≡◌, ℕ, zero, suc, ◌+◌, ◌-◌, ◌*◌, ◌≤◌, inl, inr, List, [], ◌∷◌, length, refl, ap, sym, ◌∙◌, subst, arith}
+use Rattle.std.specs.Prelude.{Contains}
 use Rattle.std.specs.List.{flat_map, range_with_len}
-use Rattle.std.specs.Ordering.{nat_cmp}
-use Rattle.std.specs.declared.cmp.Ordering.TheVariants.{Less, Equal}
 use Rattle.std.proofs.Math.Nat.{mul-le-mul_right}
-use Rattle.std.proofs.lemmas.Cmp.{tied_itself}
 use Rattle.std.proofs.lemmas.List.{length-append, length-map}
 use Rattle.std.proofs.lemmas.List.Elements.{Contains-append_cases, Contains-append_left, Contains-append_right}
 use Rattle.rhythm_base.specs.Grammar.{Grammar}
 use Rattle.rhythm_base.specs.Lists.{Each}
 use Rattle.rhythm_base.specs.Performance.{Performance}
-use Rattle.rhythm_base.proofs.FirstLists.{contains_split}
-use Rattle.rhythm_base.proofs.OrderedLists.{pairs_head, pairs_tail}
 use Rattle.barline_follow.specs.declared.next_bar.NextBar.{NextBar}
 use Rattle.barline_follow.specs.declared.offers.Offer.{Offer}
 use Rattle.barline_follow.specs.Barring.{Course, barring_end, last_length}
 use Rattle.barline_follow.specs.Bars.{bar_step, whole_bar}
 use Rattle.barline_follow.specs.Builds.{most_lengths, most_lists}
-use Rattle.barline_follow.specs.Least.{AreFirstLeast, IsFirstLeast}
+use Rattle.barline_follow.specs.Least.{AreFirstLeast}
 use Rattle.barline_follow.specs.NextBars.{AreTriedOffers, all_cells, can_be, cells}
-use Rattle.barline_follow.specs.Offers.{AreOffers, in_tempo, is_offered, onset_weight, proposals, proposals_at, proposed, most_steps}
+use Rattle.barline_follow.specs.Offers.{AreOffers, in_tempo, is_offered, onset_weight, proposals, proposed}
 use Rattle.barline_follow.specs.Courses.{cell}
 use Rattle.barline_follow.proofs.ApartTicks.{kept_apart, no_more}
-use Rattle.barline_follow.proofs.FirstLeast.{Before, from_filtered, got_contained, here, later}
-use Rattle.barline_follow.proofs.Gathering.{filter_short}
-use Rattle.barline_follow.proofs.Searching.{in_parts}
+use Rattle.barline_follow.proofs.FirstLeast.{from_filtered, got_contained}
+use Rattle.rhythm_base.proofs.ListParts.{filter_few}
 
 module _ {X : Type 0} (value tick : X → ℕ) where
   few_kept : (xs kept : List X) (ticks : List ℕ) → AreFirstLeast value tick xs kept → ((x : X) → Contains xs x → Contains ticks (tick x))
       → length kept ≤ length ticks
   few_kept xs kept ticks h all =
-      no_more value tick kept ticks (kept_apart value tick xs kept h)
+      no_more tick kept ticks (kept_apart value tick xs kept h)
       (λ x c. let is = (h.exactly x).0 c in all x (got_contained xs is.place x is.there))
 
 -- ---- the lengths that are offered
@@ -121,7 +114,7 @@ module _ (next : NextBar) where
   few_tried : (t : Course) (own : List Offer) → AreTriedOffers next t own → length own ≤ most_lengths next.number
   few_tried t own (offers, are, is) =
       let few = few_offers next.grammar.now next.performance.now next.number (last_length t.barring.ticks) offers are in
-      let short = filter_short (can_be next (barring_end t.barring)) offers in
+      let short = filter_few (can_be next (barring_end t.barring)) offers in
       omega (arith, few, short, ap length is)
 
   own_cells : (start : ℕ) (own : List Offer) → length (flat_map (cells next start) own) ≡ length own * voices

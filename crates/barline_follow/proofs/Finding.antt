@@ -7,27 +7,23 @@ use Rattle.std.proofs.lemmas.Bool.{cases_lt, false≢true, true≢false}
 use Rattle.std.proofs.lemmas.List.{length-append}
 use Rattle.std.proofs.lemmas.List.Elements.{All-append, All-nil}
 use Rattle.bar_pool.specs.Pool.{AreTablesOf}
-use Rattle.chain_bars.specs.Laws.{AreTables, matrices}
+use Rattle.chain_bars.specs.Laws.{matrices}
 use Rattle.chain_bars.specs.Tower.{cost_of}
 use Rattle.chain_bars.proofs.Voices.{tables_long}
 use Rattle.edit_session.proofs.Channels.{few_channels}
-use Rattle.edit_session.proofs.PathCosts.{least_cheap}
+use Rattle.edit_session.proofs.PathCosts.{least_cheap, cheap}
 use Rattle.rhythm_base.specs.declared.chord.Chord.{Chord}
-use Rattle.rhythm_base.specs.declared.inner.Inner.{Inner}
 use Rattle.rhythm_base.specs.declared.limits.TheConstants.{DEAREST_CELL, LATEST_TICK}
 use Rattle.rhythm_base.specs.declared.note.Bar.{Bar}
-use Rattle.rhythm_base.specs.declared.pin.Pin.{Pin}
 use Rattle.rhythm_base.specs.BarTables.{BarTable}
 use Rattle.edit_laws.specs.Edits.{is_past, next_bar, with_start}
 use Rattle.rhythm_base.specs.Grammar.{Grammar, root_of}
-use Rattle.rhythm_base.specs.Leaves.{VoiceBar, soundings}
+use Rattle.rhythm_base.specs.Leaves.{soundings}
 use Rattle.rhythm_base.specs.Lists.{Each, last_end}
-use Rattle.rhythm_base.specs.Paths.{AreCheap}
 use Rattle.rhythm_base.specs.Performance.{Performance}
 use Rattle.rhythm_base.specs.Ranked.{Key, five, least_key}
-use Rattle.rhythm_base.specs.Voices.{AreChordsOf, HasStarts, voice_bars_from}
+use Rattle.rhythm_base.specs.Voices.{AreChordsOf, HasStarts}
 use Rattle.tree_laws.specs.Voices.{Adjacent}
-use Rattle.tree_laws.proofs.CheapTables.{table_cheap}
 use Rattle.rhythm_base.proofs.OrderedLists.{all_cons}
 use Rattle.path_laws.proofs.Products.{five_at}
 use Rattle.barline_follow.specs.declared.heads.Heads.{Heads}
@@ -44,6 +40,7 @@ use Rattle.barline_follow.proofs.Further.{last_pushed}
 use Rattle.barline_follow.proofs.HeadCosts.{head_cost, no_head_cost, no_whole_cost, whole_cost}
 use Rattle.barline_follow.proofs.LongerBars.{bars_more, heads_more, near_more}
 use Rattle.barline_follow.proofs.Searching.{each_long}
+use Rattle.derivation.proofs.OneScore.{bars_length}
 
 -- ---- heads are low
 
@@ -60,16 +57,6 @@ bars_short p i (t ∷ u ∷ ticks) =
     let both = length-append (next_bar t (pattern_of p i)) (bars_on p (suc i) (u ∷ ticks)) in
     omega (arith, rest, one, both)
 
-bars_long : (g : Grammar) (pins : List Pin) (channel last i : ℕ) (bars : List Bar) → length (voice_bars_from g pins channel last i bars) ≡ length bars
-bars_long g pins channel last i [] = refl
-bars_long g pins channel last i (b ∷ bars) = ap suc (bars_long g pins channel last (suc i) bars)
-
-cheap : (g : Grammar) (cs : List Inner) (bars : List VoiceBar) (tables : List BarTable) → AreTables g cs bars tables → AreCheap DEAREST_CELL (matrices tables)
-cheap g cs [] [] h = tt
-cheap g cs [] (x ∷ tables) h = absurd h
-cheap g cs (bar ∷ bars) [] h = absurd h
-cheap g cs (bar ∷ bars) (x ∷ tables) h = (table_cheap g x h.0, cheap g cs bars tables h.2)
-
 past_five : (f : ℕ → Option ℕ) (n : ℕ) → 5 ≤ n → slice_index_or (five f) n None ≡ None
 past_five f zero h = absurd (omega (arith, h))
 past_five f (suc zero) h = absurd (omega (arith, h))
@@ -85,7 +72,7 @@ low_heads g p ticks voice heads few h n c is = elim (cases_lt n 5) [
       let key = cost_key (keys n) c at in
       let least = least_cheap DEAREST_CELL (matrices h.tables) 0 n key.0 (cheap g (soundings voice) (bars_of g p ticks) h.tables h.each) key.1 in
       let long : length (matrices h.tables) ≤ 8192 =
-      omega (arith, tables_long g (soundings voice) (bars_of g p ticks) h.tables h.each, bars_long g [] 0 (last_end 0 ticks) 0 (bars_on p 0 ticks), bars_short p 0 ticks, few) in
+      omega (arith, tables_long g (soundings voice) (bars_of g p ticks) h.tables h.each, bars_length g [] 0 (last_end 0 ticks) 0 (bars_on p 0 ticks), bars_short p 0 ticks, few) in
       let most : length (matrices h.tables) * DEAREST_CELL ≤ 8192 * DEAREST_CELL = mul-le-mul_right DEAREST_CELL long in
       omega (arith, least, most, key.2)
   | inr past ↦

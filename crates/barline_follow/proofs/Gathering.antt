@@ -11,6 +11,7 @@ use Rattle.barline_follow.specs.Gathered.{IsGathered, Round, barring_of}
 use Rattle.barline_follow.specs.Least.{AreFewLeast, AreFirstLeast, IsFirstLeast}
 use Rattle.barline_follow.specs.Rounds.{Found, IsNextFront, going, going_on, lost, whole, whole_one}
 use Rattle.barline_follow.proofs.FirstLeast.{from_filtered, got_contained, later}
+use Rattle.rhythm_base.proofs.ListParts.{filter_few}
 
 -- ---- lists of what an element gives
 
@@ -166,17 +167,9 @@ among best found courses r front h is course c =
     let first = (h.kept.1.exactly course).0 (taken 24 h.kept.0 course (subst (λ (l : List Course). Contains l course) h.kept.2 there)) in
     got_contained courses first.place course first.there
 
-pub filter_short : {X : Type 0} (p : X → Bool) (xs : List X) → length (filter p xs) ≤ length xs
-filter_short p [] = omega arith
-filter_short p (x ∷ xs) = by (p x) (filter_short p xs)
-  where
-    by : (b : Bool) → length (filter p xs) ≤ length xs → length (if b then x ∷ filter p xs else filter p xs) ≤ suc (length xs)
-    by true le = omega (arith, le)
-    by false le = omega (arith, le)
-
 pub few_kept : (best : Option Barring) (found : List Found) (courses : List Course) (r : Round) (front : List Course) → IsGathered best found courses r
     → front ≡ filter (λ t. is_below r.best t.barring) r.kept → length front ≤ 24
 few_kept best found courses r front h is =
-    let short = filter_short (λ (t : Course). is_below r.best t.barring) r.kept in
+    let short = filter_few (λ (t : Course). is_below r.best t.barring) r.kept in
     let few = length-take 24 h.kept.0 in
     omega (arith, ap length is, short, ap length h.kept.2, few)

@@ -32,7 +32,7 @@ use Rattle.tree_laws.proofs.Costs.{cost-cells}
 use Rattle.tree_laws.proofs.Local.{cells-fit, fits-cells}
 use Rattle.rhythm_base.proofs.OrderedLists.{all_cons, all_head, all_tail}
 use Rattle.path_laws.proofs.PathTables.{keys-least_path}
-use Rattle.performance_laws.proofs.PerformedVoices.{rising}
+use Rattle.performance_laws.proofs.PerformedVoices.{rising, adjacent_ends}
 use Rattle.path_laws.proofs.Products.{five_at}
 use Rattle.tree_laws.proofs.OneDerivations.{not_less}
 use Rattle.performance_laws.proofs.OneChords.{one_chords}
@@ -43,10 +43,6 @@ use Rattle.barline_follow.specs.HeadCost.{IsHeadCost, IsHeadOfVoice, IsHeadRun, 
 use Rattle.barline_follow.specs.Courses.{AreHeads, bars_of}
 use Rattle.barline_follow.proofs.CostLemmas.{cost_key, least_is, least_low, not_less_cost}
 use Rattle.barline_follow.proofs.LongerBars.{one_voice}
-
-adjacent_ends : (bars : List VoiceBar) (b e : ℕ) → Adjacent b bars e → end_of_bars b bars ≡ e
-adjacent_ends [] b e near = near
-adjacent_ends (bar ∷ bars) b e near = ap (λ s. end_of_bars (s + bar.length) bars) near.0 ∙ adjacent_ends bars (b + bar.length) e near.2
 
 -- ---- the least paths over the tables of a voice, and runs of the voice
 

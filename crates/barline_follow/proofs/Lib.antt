@@ -12,6 +12,7 @@ pub mod BarlinesSet
 pub mod BestBounds
 pub mod CutBars
 pub mod FewLeast
+pub mod FewReached
 pub mod FewTables
 pub mod FirstLeast
 pub mod Further
@@ -20,8 +21,10 @@ pub mod Gathering
 pub mod LaidBars
 pub mod Offered
 pub mod OneAnswers
+pub mod MostBuilt
 pub mod Paired
 pub mod Ranges
+pub mod ReachedInTurn
 pub mod Searching
 pub mod Shifted
 pub mod WayBack

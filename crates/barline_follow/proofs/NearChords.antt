@@ -1,6 +1,6 @@
 -- The chords before the last one before a tick play no part in a bar that begins there.
 use Rattle.std.proofs.Common.{◌≡◌, ℕ, zero, suc, ◌+◌, ◌-◌, ◌<◌, ◌≤◌, true, false, List, [], ◌∷◌, drop, get_or, length, map, refl, ap, ◌∙◌, arith}
-use Rattle.std.specs.Prelude.{All, filter, nat_lt, ◌&&◌, nat_le}
+use Rattle.std.specs.Prelude.{All, filter, nat_lt, nat_le}
 use Rattle.std.specs.List.Sorted.{IsNonDecreasingBy}
 use Rattle.std.proofs.lemmas.Bool.Decides.{nat_tests}
 use Rattle.bar_cut.specs.Cuts.{Rises}

@@ -13,7 +13,7 @@ use Rattle.rhythm_base.specs.Voices.{notes_of_voice, voice_bars}
 use Rattle.performance_laws.proofs.OneVoices.{one_cost_of}
 use Rattle.performance_laws.proofs.OneChords.{one_chords}
 use Rattle.barline_follow.specs.declared.offers.Offer.{Offer}
-use Rattle.barline_follow.specs.Answer.{IsAnswer, chosen}
+use Rattle.barline_follow.specs.Answer.{AreChosen, IsAnswer, chosen}
 use Rattle.barline_follow.specs.Bars.{with_barlines}
 use Rattle.barline_follow.specs.Barring.{Barring, best_of, last_length}
 use Rattle.barline_follow.specs.HeadCost.{IsHeadCost, IsHeadOfVoice, IsHeadRun, IsSum, run_cost}
@@ -98,14 +98,15 @@ module _ (g : Grammar) (p : Performance) where
 pub one_best : (g : Grammar) (p : Performance) (a b : Option Barring) → IsBest g p a → IsBest g p b → a ≡ b
 one_best g p a b h k = one_end_of_rounds g p _ 0 (no_bars ∷ []) None a b h k
 
-pub one_answer : (g : Grammar) (p : Performance) (a b : List Edit) → IsAnswer g p a → IsAnswer g p b → a ≡ b
-one_answer g p a b (ticks, (best, cost, is_best, is_cost, is), given) (others, (best', cost', is_best', is_cost', is'), given') = by given given'
-  where
-    same : ticks ≡ others
-    same = is ∙ (λ i. chosen p (one_cost_of g p cost cost' is_cost is_cost' i) (one_best g p best best' is_best is_best' i)) ∙ sym is'
+pub one_chosen : (g : Grammar) (p : Performance) (ticks others : List ℕ) → AreChosen g p ticks → AreChosen g p others → ticks ≡ others
+one_chosen g p ticks others (best, cost, is_best, is_cost, is) (best', cost', is_best', is_cost', is') =
+    is ∙ (λ i. chosen p (one_cost_of g p cost cost' is_cost is_cost' i) (one_best g p best best' is_best is_best' i)) ∙ sym is'
 
+pub one_answer : (g : Grammar) (p : Performance) (a b : List Edit) → IsAnswer g p a → IsAnswer g p b → a ≡ b
+one_answer g p a b (ticks, are_chosen, given) (others, are_chosen', given') = by given given'
+  where
     scripts : script p ticks ≡ script p others
-    scripts = ap (script p) same
+    scripts = ap (script p) (one_chosen g p ticks others are_chosen are_chosen')
 
     by : (((q : Performance) × Leads g p (script p ticks) q × (a ≡ script p ticks)) ⊎ (((q : Performance) → Leads g p (script p ticks) q → ⊥) × (a ≡ [])))
         → (((q : Performance) × Leads g p (script p others) q × (b ≡ script p others)) ⊎ (((q : Performance) → Leads g p (script p others) q → ⊥) × (b ≡ [])))

@@ -1,9 +1,8 @@
 -- The lines of a script are in range.
-use Rattle.std.proofs.Common.{◌≡◌, ℕ, zero, suc, ◌+◌, ◌-◌, ◌*◌, ◌≤◌, List, [], ◌∷◌, ◌++◌, length, map, replicate, sym, subst, arith}
+use Rattle.std.proofs.Common.{◌≡◌, ℕ, zero, suc, ◌+◌, ◌-◌, ◌*◌, ◌≤◌, List, [], ◌∷◌, ◌++◌, length, map, replicate, subst, arith}
 use Rattle.std.specs.Prelude.{All, filter, reverse}
 use Rattle.std.specs.List.{flat_map, range_with_len}
 use Rattle.std.proofs.Math.Nat.{div-le_of_le-mul, mul-le-mul_right}
-use Rattle.std.proofs.lemmas.List.{get_or-reverse, length-reverse}
 use Rattle.std.proofs.lemmas.List.Elements.{All-append, All-filter, All-map, All-replicate}
 use Rattle.rhythm_base.specs.declared.edit.Edit.TheVariants.{AddBar, DropBar}
 use Rattle.rhythm_base.specs.declared.limits.TheConstants.{LATEST_TICK, MOST_BARS}
@@ -15,14 +14,10 @@ use Rattle.barline_follow.specs.Script.{first_barlines, last_bar, last_barlines,
 use Rattle.barline_follow.specs.Stages.{Shift, aim, aims, all_stages, is_earlier, is_later, shift_line, paired, shifts, stage, stage_count, stage_lines}
 use Rattle.barline_follow.proofs.Further.{length-barlines, length-lengthened}
 use Rattle.barline_follow.proofs.Paired.{paired_short}
+use Rattle.rhythm_base.proofs.ListParts.{all_reversed}
 
 abbrev AreEarly : List ℕ → Type 0
 AreEarly ticks = All (λ tick. tick ≤ LATEST_TICK) ticks
-
-pub all_reversed : {X : Type 0} (P : X → Type 0) (xs : List X) → All P xs → All P (reverse xs)
-all_reversed P xs h k d lt =
-    let long = length-reverse xs in
-    subst P (sym (get_or-reverse xs k d (omega (arith, lt, long)))) (h (length xs - 1 - k) d (omega (arith, lt, long)))
 
 all_paired : (f : ℕ → ℕ → ℕ) (most : ℕ) → ((a b : ℕ) → a ≤ most → b ≤ most → f a b ≤ most) → (xs ys : List ℕ)
     → All (λ x. x ≤ most) xs → All (λ y. y ≤ most) ys → All (λ x. x ≤ most) (paired f xs ys)

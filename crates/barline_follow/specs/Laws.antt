@@ -1,20 +1,20 @@
 -- The laws, each as one statement over the definitions.
-use Rattle.std.specs.Prelude.{◌≡◌, ◌⊎◌, ℕ, ◌+◌, ◌≤◌, List, [], All, Option, Some, length}
+use Rattle.std.specs.Prelude.{◌≡◌, ◌⊎◌, ℕ, ◌+◌, ◌*◌, ◌≤◌, List, [], All, Option, Some, length}
 use Rattle.rhythm_base.specs.declared.edit.Edit.{Edit}
 use Rattle.rhythm_base.specs.declared.limits.TheConstants.{LATEST_TICK, MOST_BARS}
 use Rattle.rhythm_base.specs.EditRanges.{IsEditInRange}
 use Rattle.rhythm_base.specs.Grammar.{Grammar}
 use Rattle.rhythm_base.specs.Performance.{IsWellFormed, Performance}
 use Rattle.barline_follow.specs.declared.offers.Offer.{Offer}
-use Rattle.barline_follow.specs.Answer.{IsAnswer}
+use Rattle.barline_follow.specs.Answer.{AreChosen, IsAnswer}
 use Rattle.barline_follow.specs.Bars.{with_barlines}
 use Rattle.barline_follow.specs.Barring.{Barring}
-use Rattle.barline_follow.specs.Builds.{most_lengths}
+use Rattle.barline_follow.specs.Builds.{AreMostBuilt, AreReachedInTurn, most_lengths, most_tables}
 use Rattle.barline_follow.specs.Gain.{Gains}
 use Rattle.barline_follow.specs.HeadCost.{IsHeadCost}
 use Rattle.barline_follow.specs.Offers.{AreOffers}
 use Rattle.barline_follow.specs.Rounds.{Draft, Found, IsBest, IsFound, IsNextFront}
-use Rattle.barline_follow.specs.Script.{Leads, first_barlines, last_barlines, script}
+use Rattle.barline_follow.specs.Script.{IsOfBars, Leads, first_barlines, last_barlines, script}
 
 -- a bar has one list of offers
 abbrev pub OffersAreOne : Type 0
@@ -70,3 +70,16 @@ abbrev pub ScriptsSetBarlines : Type 0
 ScriptsSetBarlines =
     (g : Grammar) (p q : Performance) (goal : List ℕ) → IsWellFormed p → p.pins ≡ [] → 2 ≤ length goal → Leads g p (script p goal) q
     → q ≡ with_barlines p goal
+
+-- edits reach one number of cells in turn, and one number of tables is the most that are built
+pub record MostBuiltAreOne : Type 0 where
+  pub reached : (g : Grammar) (p : Performance) (edits : List Edit) (m n : ℕ) → AreReachedInTurn g p edits m → AreReachedInTurn g p edits n → m ≡ n
+  pub most : (g : Grammar) (p : Performance) (m n : ℕ) → AreMostBuilt g p m → AreMostBuilt g p n → m ≡ n
+
+-- Edits of bars reach in turn at most two cells of each voice for each of them; so, besides the tables of the search, at most two for each
+-- voice and each line of the script are built.
+pub record FewAreReached : Type 0 where
+  pub reached : (g : Grammar) (p : Performance) (edits : List Edit) (n : ℕ) → All IsOfBars edits → AreReachedInTurn g p edits n
+      → n ≤ length edits * (2 * length p.channels)
+  pub built : (g : Grammar) (p : Performance) (tables : ℕ) (ticks : List ℕ) → AreMostBuilt g p tables → AreChosen g p ticks
+      → tables ≤ most_tables p + length (script p ticks) * (2 * length p.channels)

@@ -4,10 +4,10 @@ pub mod Least
 pub mod Offers
 pub mod Barring
 pub mod Rounds
-pub mod Builds
 pub mod Stages
 pub mod Script
 pub mod Answer
+pub mod Builds
 pub mod Gain
 pub mod Laws
 pub mod Costs

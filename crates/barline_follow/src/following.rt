@@ -1,5 +1,7 @@
 ghost use Rattle.barline_follow.specs.Answer.{IsAnswer};
-ghost use Rattle.std.specs.Prelude.{◌≡◌, ◌+◌, ◌*◌, ◌≤◌, IfOk, nat_le};
+ghost use Rattle.barline_follow.specs.Builds.{AreMostBuilt};
+ghost use Rattle.rhythm_base.specs.Counter.{risen};
+ghost use Rattle.std.specs.Prelude.{◌≡◌, ◌+◌, ◌*◌, ◌≤◌, ℕ, IfOk, OnOk, nat_le};
 
 use crate::script::follow_script;
 use crate::search::best_barlines;
@@ -33,6 +35,10 @@ pub fn follow<R: Threads + Sync, G: Gate + Sync, B: Tag, P: Tag>(
     ensures performance { session.new.performance ≡ session.old.performance }
     ensures room { session.old.room ≤ session.new.room }
     ensures answer { IfOk result (λ v. IsAnswer session.old.grammar session.old.performance v.items) }
+    ensures bound { OnOk result ((tables : ℕ)
+        × AreMostBuilt session.old.grammar session.old.performance tables × (builds.new ≤ risen builds.old tables)) }
+    ensures most { (tables : ℕ) → AreMostBuilt session.old.grammar session.old.performance tables
+        → builds.new ≤ risen builds.old tables }
     ensures builds { builds.old ≤ builds.new }
     ensures products { products.old ≤ products.new }
 {

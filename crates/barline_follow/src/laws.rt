@@ -3,9 +3,11 @@ ghost use Rattle.barline_follow.specs.Laws.{
   AnswersGain,
   BestsAreOne,
   EditsLeadToOne,
+  FewAreReached,
   FoundAreOne,
   FrontsAreOne,
   HeadCostsAreOne,
+  MostBuiltAreOne,
   OffersAreFew,
   OffersAreOne,
   ScriptsAreInRange,
@@ -65,4 +67,14 @@ pub fn scripts_are_in_range()
 /// An accepted script sets the barlines that it leads to, and changes nothing else.
 pub fn scripts_set_barlines()
     ensures { ScriptsSetBarlines }
+{}
+
+/// Edits reach one number of cells in turn, and one number of tables is the most that are built.
+pub fn most_built_are_one()
+    ensures { MostBuiltAreOne }
+{}
+
+/// Edits of bars reach in turn at most two cells of each voice for each of them.
+pub fn few_are_reached()
+    ensures { FewAreReached }
 {}

@@ -26,8 +26,9 @@ mod voice;
 pub use barring::Barring;
 pub use following::follow;
 pub use laws::{
-    answers_are_one, answers_gain, bests_are_one, edits_lead_to_one, found_are_one, fronts_are_one,
-    head_costs_are_one, offers_are_few, offers_are_one, scripts_are_in_range, scripts_set_barlines,
+    answers_are_one, answers_gain, bests_are_one, edits_lead_to_one, few_are_reached,
+    found_are_one, fronts_are_one, head_costs_are_one, most_built_are_one, offers_are_few,
+    offers_are_one, scripts_are_in_range, scripts_set_barlines,
 };
 pub use script::follow_script;
 pub use search::best_barlines;

@@ -1,10 +1,12 @@
+ghost use Rattle.barline_follow.specs.Builds.{AreReachedInTurn, AreWithinReachInTurn};
 ghost use Rattle.barline_follow.specs.Script.{Accepts, IsOfBars, Leads};
 ghost use Rattle.barline_follow.specs.Trial.{IsStepBack, LeadBack};
 ghost use Rattle.rhythm_base.specs.EditRanges as edits;
 ghost use Rattle.edit_laws.specs.Edits.{edited};
+ghost use Rattle.edit_session.specs.Prepared.{RisesBy};
 ghost use Rattle.rhythm_base.specs.Performance.{IsWellFormed, Performance};
 ghost use Rattle.rhythm_base.specs.Voices.{HasDerivation, IsCostOf};
-ghost use Rattle.std.specs.Prelude.{◌≡◌, ◌≤◌, ℕ, [], All, IfErr, IfOk, IfSome, None, Ok, OnOk, OnSome, false, length, reverse, true};
+ghost use Rattle.std.specs.Prelude.{◌≡◌, ◌≤◌, ℕ, [], ◌∷◌, All, IfErr, IfOk, IfSome, None, Ok, OnOk, OnSome, false, length, reverse, true};
 
 use carry_matrix::Steps as Products;
 use edit_session::{Prepared, Session};
@@ -52,6 +54,9 @@ fn make<R: Threads + Sync, G: Gate + Sync, B: Tag, P: Tag>(
     ensures never { IfOk result (λ made. made ≡ None → IsOfBars edit.now
         → (next : Performance) → Accepts session.old.grammar session.old.performance edit.now next → ⊥) }
     ensures memory { IfErr result (λ _. session.new.performance ≡ session.old.performance) }
+    ensures reached { OnOk result (IsOfBars edit.now
+        → RisesBy builds.old builds.new (AreReachedInTurn session.old.grammar session.old.performance (edit.now ∷ []))) }
+    ensures most { RisesBy builds.old builds.new (AreWithinReachInTurn session.old.grammar session.old.performance (edit.now ∷ [])) }
     ensures builds { builds.old ≤ builds.new }
     ensures products { products.old ≤ products.new }
 {
@@ -59,8 +64,10 @@ fn make<R: Threads + Sync, G: Gate + Sync, B: Tag, P: Tag>(
         return Ok(None);
     }
     match session.prepare(ports.threads, alloc, edit, ports.gate, builds) {
-        Err(EditFault::Memory) => Err(AllocError),
-        Err(_fault) => Ok(None),
+        Err(fault) => match fault {
+            EditFault::Memory => Err(AllocError),
+            _ => Ok(None),
+        },
         Ok(prepared) => {
             let bars = prepared.next().bars().len();
             let most = bars.max(session.performance().bars().len());
@@ -90,6 +97,10 @@ fn make_all<R: Threads + Sync, G: Gate + Sync, B: Tag, P: Tag>(
     ensures made { IfOk result (λ all. all ≡ true → Leads session.old.grammar session.old.performance script.now session.new.performance) }
     ensures refused { IfOk result (λ all. all ≡ false → All IsOfBars script.now
         → (after : Performance) → Leads session.old.grammar session.old.performance script.now after → ⊥) }
+    ensures reached { OnOk result (All IsOfBars script.now
+        → RisesBy builds.old builds.new (AreReachedInTurn session.old.grammar session.old.performance script.now)) }
+    ensures most { All IsOfBars script.now
+        → RisesBy builds.old builds.new (AreWithinReachInTurn session.old.grammar session.old.performance script.now) }
     ensures builds { builds.old ≤ builds.new }
     ensures products { products.old ≤ products.new }
 {
@@ -138,6 +149,10 @@ pub fn try_edits<R: Threads + Sync, G: Gate + Sync, B: Tag, P: Tag>(
         × Leads session.old.grammar session.old.performance script.now after × IsCostOf session.old.grammar after cost)) }
     ensures refused { IfOk result (λ tried. tried ≡ None → All IsOfBars script.now
         → (after : Performance) → Leads session.old.grammar session.old.performance script.now after → ⊥) }
+    ensures reached { OnOk result (All IsOfBars script.now
+        → RisesBy builds.old builds.new (AreReachedInTurn session.old.grammar session.old.performance script.now)) }
+    ensures most { All IsOfBars script.now
+        → RisesBy builds.old builds.new (AreWithinReachInTurn session.old.grammar session.old.performance script.now) }
     ensures builds { builds.old ≤ builds.new }
     ensures products { products.old ≤ products.new }
 {

@@ -1,7 +1,6 @@
 -- The trees of an interval by the rule on top, as sets of keys: a leaf, or trees of the rule's parts.
-use Rattle.std.proofs.Common.{◌≡◌, ℕ, ◌<◌, ◌+◌, ◌&&◌, Bool, true, false, List, [], ◌∷◌, ◌++◌, length, refl, sym, ap, ◌∙◌, subst, arith, append-nil}
-use Rattle.std.specs.Prelude.{Option, Some, None, slice_get}
-use Rattle.std.proofs.lemmas.Option.{slice_get_within}
+use Rattle.std.proofs.Common.{◌≡◌, ℕ, ◌+◌, true, false, [], ◌∷◌, ◌++◌, length, refl, sym, ap, ◌∙◌, subst, arith, append-nil}
+use Rattle.std.specs.Prelude.{Option, Some, slice_get}
 use Rattle.rhythm_base.specs.declared.rule.Rule.{Rule}
 use Rattle.rhythm_base.specs.Cost.{charges, weight_of, weights}
 use Rattle.rhythm_base.specs.Forest.{Forest, none, more, preorder}
@@ -15,16 +14,7 @@ use Rattle.tree_laws.specs.Places.{FitsAt}
 use Rattle.path_laws.specs.Rows.{IsOneBelow}
 use Rattle.tree_laws.proofs.Ranks.{both}
 use Rattle.row_laws.specs.RuleKeys.{IsRuleKey}
-use Rattle.row_laws.proofs.RuleKeys.{single_tree, top_cost, top_shape}
-
-three : (a b : Bool) → a ≡ true → b ≡ true → a && (b && true) ≡ true
-three true true p q = refl
-three true false p q = q
-three false b p q = p
-
-top_leaves : (d : Ground) (p : ℕ) (q : ℕ × ℕ) (r : ℕ) (f : Forest)
-    → leaves d.book.rules p (q ∷ []) (more r f none) ≡ leaves_at (slice_get d.book.rules r) p q.0 ++ leaves d.book.rules p (children_of (slice_get d.book.rules r) q.0) f
-top_leaves d p q r f = ap (λ l. leaves_at (slice_get d.book.rules r) p q.0 ++ l) (append-nil (leaves d.book.rules p (children_of (slice_get d.book.rules r) q.0) f))
+use Rattle.row_laws.proofs.RuleKeys.{single_tree, top_cost, top_shape, three, top_leaves, suits-within}
 
 module _ (d : Ground) (pin : Option Shape) (p : ℕ) (q : ℕ × ℕ) (r a b : ℕ) where
   -- a rule that does not suit has no tree
@@ -111,13 +101,6 @@ module _ (d : Ground) (pin : Option Shape) (p : ℕ) (q : ℕ × ℕ) (r a b : �
       )
 
 -- ---- all rules
-
-suits-within : (rules : List Rule) (q : ℕ × ℕ) (r : ℕ) → suits (slice_get rules r) q ≡ true → r < length rules
-suits-within rules q r e = go (slice_get rules r) refl e
-  where
-    go : (o : Option Rule) → slice_get rules r ≡ o → suits o q ≡ true → r < length rules
-    go None e h = absurd (cc)
-    go (Some rule) e h = slice_get_within rules r rule e
 
 module _ (d : Ground) (pin : Option Shape) (p : ℕ) (q : ℕ × ℕ) (a b : ℕ) where
   pub rule_there : (k : Key) → IsOneBelow (λ r. IsRuleKey d pin p q r a b) (length d.book.rules) k → IsForestKey d (one_shape pin) p (q ∷ []) a b k

@@ -3,6 +3,7 @@ ghost use Rattle.std.specs.Prelude.{◌<◌, IfOk};
 
 use grammar_file::{GrammarWhat, read_grammar};
 use rhythm_base::Grammar;
+use sample_grammars::USUAL;
 use std::alloc::{AllocError, Global};
 use std::fs;
 use std::io::{self, ErrorKind};
@@ -31,32 +32,6 @@ struct Repeated {
     symbols: u8,
     lines: &'static [u8],
 }
-
-const HALVES: &[u8] = b"\
-    rhythm 1\n\
-    resolution 8\n\
-    window 0\n\
-    onset 1\n\
-    start 4/4 B\n\
-    B 10 note\n\
-    B 10 tie\n\
-    B 5 rest\n\
-    B 20 split H H\n\
-    H 10 note\n\
-    H 10 tie\n\
-    H 10 rest\n\
-    H 20 split Q Q\n\
-    Q 10 note\n\
-    Q 15 short\n\
-    Q 10 tie\n\
-    Q 10 rest\n\
-    Q 40 split E E\n\
-    E 10 note\n\
-    E 20 short\n\
-    E 10 tie\n\
-    E 10 rest\n\
-    E 60 grace 1\n\
-";
 
 const NINE: Repeated = Repeated {
     header: b"\
@@ -175,7 +150,7 @@ impl Group {
     /// The text of the grammar.
     fn text(self, alloc: Global) -> Result<Vec<u8>, AllocError> {
         match self {
-            Group::Halves => Vec::from_slice(alloc, HALVES),
+            Group::Halves => Vec::from_slice(alloc, USUAL),
             Group::Nine => text_of(alloc, NINE),
             Group::Many => text_of(alloc, MANY),
             Group::Mixed => text_of(alloc, MIXED),

@@ -1,11 +1,12 @@
 -- What `clap`'s rows say of the option and of the words, after one more use of either.
-use Rattle.std.proofs.Common.{◌≡◌, ℕ, Bool, ◌||◌, true, false, true≢false, refl, List, [], ◌∷◌, ◌++◌, Some, codes}
+use Rattle.std.proofs.Common.{◌≡◌, ℕ, Bool, true, false, refl, List, [], ◌∷◌, ◌++◌, Some, codes}
 use Rattle.std.specs.Prelude.{unwrap_or}
 use Rattle.std.specs.Str.{bytes_eq}
 use Rattle.std.proofs.lemmas.Slice.Eq.{bytes_eq-Decides}
 use Rattle.clap.specs.Walk.{Row, all_of, first_of, has_row, with_values, without}
 use Rattle.clap.specs.declared.builder.value_parser.Reading.{Reading}
 use Rattle.clap.specs.declared.parser.matches.ValueSource.TheVariants.{CommandLine}
+use Rattle.rhythm_base.proofs.Booleans.{or_false}
 
 abbrev pub Text : Type 0
 Text = List ℕ
@@ -48,11 +49,6 @@ option-with_word how word (r ∷ rows) = go (bytes_eq r.id (codes "words")) refl
         → first_of (codes "workers") (with_word how word (r ∷ rows)) ≡ first_of (codes "workers") (r ∷ rows)
     go true e h = let no = not_both r.id e in rw (e, no) refl
     go false e h = other (bytes_eq r.id (codes "workers")) refl e h
-
--- a row of the option among rows
-or_false : (a b : Bool) → (a || b) ≡ false → (a ≡ false) × (b ≡ false)
-or_false true b e = absurd (true≢false e)
-or_false false b e = (refl, e)
 
 pub no_option-with_word : (how : Reading) (word : Text) (rows : List Row) → has_row (codes "workers") rows ≡ false → has_row (codes "workers") (with_word how word rows) ≡ false
 no_option-with_word how word [] none = refl

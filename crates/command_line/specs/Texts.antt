@@ -36,7 +36,8 @@ help_lines =
     ∷ codes "                            cost and the score. BAR is 0 to 4096, the ticks are"
     ∷ codes "                            0 to 2000000000, and so is STEP, but at least 1."
     ∷ codes "  follow MIDI GRAMMAR       Reads the two files, and writes the edit script that"
-    ∷ codes "                            moves the barlines to where the player has them."
+    ∷ codes "                            moves the barlines to where the player has them;"
+    ∷ codes "                            nothing where too little is gained by that."
     ∷ codes "  notes MIDI                Reads a MIDI file, and writes its bars, tempos, keys"
     ∷ codes "                            and notes, each on a line of its own."
     ∷ codes "  events KERN               Reads a **kern file, and writes each note and chord"
@@ -46,8 +47,8 @@ help_lines =
     ∷ codes "  drill NUMBER GRAMMAR      Reads a grammar file, edits a large piece that is"
     ∷ codes "                            made from NUMBER, 0 to 65534, and writes a summary."
     ∷ []
-    ∷ codes "Answers are written on standard output. With a status other than 0 there is one"
-    ∷ codes "line on standard error that says why."
+    ∷ codes "Answers are written on standard output. With a status other than 0 a line on"
+    ∷ codes "standard error says why; with status 1 two more help to mend the words."
     ∷ []
     ∷ codes "Options:"
     ∷ codes "  --workers N     Works with N threads, 1 to 16; 1 where it is not given. The"
@@ -64,7 +65,7 @@ help_lines =
     ∷ codes "  5   a file or the script could not be read"
     ∷ codes "  6   standard output could not be written"
     ∷ codes "  7   not enough memory"
-    ∷ codes "  9   the barline can be fitted to none of its ticks"
+    ∷ codes "  9   there is no such barline to be fitted, or no tick for it"
     ∷ []
 
 unfoldable pub help_text : List ℕ

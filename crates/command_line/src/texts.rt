@@ -29,7 +29,8 @@ Commands:
                             cost and the score. BAR is 0 to 4096, the ticks are
                             0 to 2000000000, and so is STEP, but at least 1.
   follow MIDI GRAMMAR       Reads the two files, and writes the edit script that
-                            moves the barlines to where the player has them.
+                            moves the barlines to where the player has them;
+                            nothing where too little is gained by that.
   notes MIDI                Reads a MIDI file, and writes its bars, tempos, keys
                             and notes, each on a line of its own.
   events KERN               Reads a **kern file, and writes each note and chord
@@ -39,8 +40,8 @@ Commands:
   drill NUMBER GRAMMAR      Reads a grammar file, edits a large piece that is
                             made from NUMBER, 0 to 65534, and writes a summary.
 
-Answers are written on standard output. With a status other than 0 there is one
-line on standard error that says why.
+Answers are written on standard output. With a status other than 0 a line on
+standard error says why; with status 1 two more help to mend the words.
 
 Options:
   --workers N     Works with N threads, 1 to 16; 1 where it is not given. The
@@ -57,7 +58,7 @@ Status:
   5   a file or the script could not be read
   6   standard output could not be written
   7   not enough memory
-  9   the barline can be fitted to none of its ticks
+  9   there is no such barline to be fitted, or no tick for it
 "
 }
 

@@ -1,14 +1,13 @@
 -- A fraction in lowest terms is one.
 use Rattle.std.proofs.Common.{◌≡◌, ℕ, zero, suc, ◌+◌, ◌-◌, ◌*◌, ◌<◌, ◌≤◌, refl, sym, ap, ◌∙◌, subst, inl, inr, arith}
 use Rattle.std.specs.Int.{IsGcd, ◌∣◌}
-use Rattle.std.proofs.Math.Nat.{dvd-mul_left, dvd-sub, dvd_of_mul-dvd-mul_right, eq_of_mul-eq-mul_right, mul-dvd-mul_right, mul-sub, mul_comm, one-dvd}
+use Rattle.std.proofs.Math.Nat.{dvd-mul_left, dvd-sub, eq_of_mul-eq-mul_right, mul-sub, mul_comm}
 use Rattle.std.proofs.lemmas.Bool.{cases_lt}
 use Rattle.std.proofs.lemmas.Nat.Gcd.{IsGcd-from_sub, IsGcd-from_zero, IsGcd-swap, dvd_antisymm, same_from_IsGcd}
-use Rattle.durations.proofs.LowestTerms.{divisor_of, lowest_some}
 use Rattle.durations.proofs.ValuesExist.{lowest_exist}
-use Rattle.durations.specs.Values.{IsLowest}
 use Rattle.rhythm_base.specs.declared.span.Frac.{Frac}
 use Rattle.durations.specs.Spans.{IsFrac}
+use Rattle.durations.proofs.FractionLemmas.{frac_of_lowest}
 
 -- what divides the same multiple of two numbers divides that multiple of their greatest common divisor
 abbrev IsShared : ℕ → ℕ → ℕ → Type 0
@@ -67,24 +66,6 @@ frac_one n d f g some h k = λ i. record { num = nums i; den = dens i }
 
     nums : f.num ≡ g.num
     nums = eq_of_mul-eq-mul_right f.den h.some f.num g.num (ap (λ x. f.num * x) dens ∙ cross)
-
--- a length in lowest terms is a fraction in lowest terms
-pub frac_of_lowest : (n d a b : ℕ) → 1 ≤ d → IsLowest n d a b → IsFrac n d (record { num = a; den = b })
-frac_of_lowest n d a b some (g, gcd, parts, whole) = record {
-  value = ap (λ x. a * x) whole ∙ turned ∙ sym (ap (λ x. x * b) parts);
-  some = lowest_some n d a b some (g, gcd, parts, whole);
-  lowest = (one-dvd a, one-dvd b, common);
-}
-  where
-    turned : a * (b * g) ≡ a * g * b
-    turned = grind arith
-
-    common : (e : ℕ) → e ∣ a → e ∣ b → e ∣ 1
-    common e h k =
-        let first : e * g ∣ n = subst (λ x. e * g ∣ x) (sym parts) (mul-dvd-mul_right e h g) in
-        let second : e * g ∣ d = subst (λ x. e * g ∣ x) (sym whole) (mul-dvd-mul_right e k g) in
-        let both : e * g ∣ 1 * g = subst (λ x. e * g ∣ x) (omega arith) (gcd.2 (e * g) first second) in
-        dvd_of_mul-dvd-mul_right {k = g} e {n = 1} (divisor_of n d g some gcd) both
 
 -- and each fraction has lowest terms
 pub frac_exist : (n d : ℕ) → 1 ≤ d → (f : Frac) × IsFrac n d f

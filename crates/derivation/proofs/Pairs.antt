@@ -4,11 +4,7 @@ use Rattle.std.specs.Prelude.{All}
 use Rattle.std.proofs.lemmas.List.{take_more}
 use Rattle.std.proofs.lemmas.List.Elements.{All-head, All-tail}
 use Rattle.rhythm_base.specs.Lists.{Each}
-
-pub each_push : {X Y : Type 0} (R : X → Y → Type 0) (xs : List X) (ys : List Y) (x : X) (y : Y) → Each R xs ys → R x y → Each R (xs ++ x ∷ []) (ys ++ y ∷ [])
-each_push {X} {Y} R [] ys x y h r = subst (λ (zs : List Y). Each R (x ∷ []) (zs ++ y ∷ [])) (sym h) (r, refl)
-each_push R (z ∷ xs) [] x y h r = absurd h
-each_push R (z ∷ xs) (w ∷ ys) x y h r = (h.0, each_push R xs ys x y h.1 r)
+use Rattle.rhythm_base.proofs.PairedLists.{each_push}
 
 -- one more of each
 pub each_more : {X Y : Type 0} (R : X → Y → Type 0) (xs : List X) (ys : List Y) (i : ℕ) (d : X) (y : Y) → i < length xs → Each R (take i xs) ys → R (get_or xs i d) y → Each R (take (i + 1) xs) (ys ++ y ∷ [])

@@ -40,13 +40,13 @@ begin_of_kind Short b s = absurd (true≢false s)
 begin_of_kind Tie b s = absurd (false≢true b)
 begin_of_kind Rest b s = absurd (false≢true b)
 
-tie_begins_none : (k : SoundKind) → is_tie k ≡ true → begins_chord k ≡ false
+pub tie_begins_none : (k : SoundKind) → is_tie k ≡ true → begins_chord k ≡ false
 tie_begins_none Begin t = absurd (false≢true t)
 tie_begins_none Short t = absurd (false≢true t)
 tie_begins_none Tie t = refl
 tie_begins_none Rest t = absurd (false≢true t)
 
-tie_no_rest : (k : SoundKind) → is_tie k ≡ true → is_rest k ≡ false
+pub tie_no_rest : (k : SoundKind) → is_tie k ≡ true → is_rest k ≡ false
 tie_no_rest Begin t = refl
 tie_no_rest Short t = refl
 tie_no_rest Tie t = refl

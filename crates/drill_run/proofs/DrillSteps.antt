@@ -1,6 +1,5 @@
 -- One edit of a drill: what it leaves is well formed, and is decided.
-use Rattle.std.proofs.Common.{◌≡◌, ℕ, zero, suc, ◌+◌, ◌≤◌, inl, inr, List, [], ◌∷◌, length, sym, ap, ◌∙◌, subst, arith, Some, Ok}
-use Rattle.std.specs.Prelude.{Contains}
+use Rattle.std.proofs.Common.{◌≡◌, ℕ, zero, suc, ◌+◌, ◌≤◌, inl, inr, List, length, sym, ap, ◌∙◌, subst, Some, Ok}
 use Rattle.rhythm_base.specs.declared.edit.Edit.{Edit}
 use Rattle.rhythm_base.specs.declared.edit_fault.EditFault.{EditFault}
 use Rattle.edit_laws.specs.Edits.{edited}
@@ -8,8 +7,8 @@ use Rattle.rhythm_base.specs.Grammar.{Grammar}
 use Rattle.rhythm_base.specs.Performance.{IsWellFormed, Performance}
 use Rattle.edit_laws.specs.Reached.{AreReached}
 use Rattle.edit_laws.specs.EditOutcomes.{EditOutcome, IsMade, IsOutcome, IsRefused, made, refused}
-use Rattle.rhythm_base.specs.Voices.{HasDerivation, IsCostOf, IsSumOfCosts}
-use Rattle.performance_laws.proofs.OneVoices.{dead_has_none}
+use Rattle.rhythm_base.specs.Voices.{IsCostOf}
+use Rattle.performance_laws.proofs.OneVoices.{dead_has_none, cost_has}
 use Rattle.edit_laws.proofs.OneReached.{one_reached}
 use Rattle.edit_laws.proofs.Edited.{edited_formed}
 use Rattle.rhythm_gen.specs.DrillEdit.{drill_edit}
@@ -37,15 +36,6 @@ drilled_formed g number p formed (suc e) last besides (before, m, n, first, step
     step_formed g number e before last n (drilled_formed g number p formed e before m first) step
 
 -- ---- one outcome
-
--- each voice of a performance that has a cost has a derivation
-cost_has : (g : Grammar) (p : Performance) (channels : List ℕ) (sum channel : ℕ) → IsSumOfCosts g p channels sum → Contains channels channel
-    → HasDerivation g p channel
-cost_has g p [] sum channel is (k, lt, at) = absurd (omega (arith, lt))
-cost_has g p (c ∷ channels) sum channel (first, others, least, more, total) (zero, lt, at) =
-    subst (HasDerivation g p) at (least.chords, least.trees, least.starts, least.are_chords, least.least.fits)
-cost_has g p (c ∷ channels) sum channel (first, others, least, more, total) (suc k, lt, at) =
-    cost_has g p channels others channel more (k, omega (arith, lt), at)
 
 -- both are refused, or both are made and reach as many cells
 abbrev pub AreAlike : EditOutcome → EditOutcome → Type 0

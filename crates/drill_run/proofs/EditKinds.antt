@@ -1,7 +1,7 @@
 -- The kinds of edits that a drill makes, and that one which is made is in range.
-use Rattle.std.proofs.Common.{◌≡◌, ℕ, zero, suc, ◌+◌, ◌%◌, ◌==◌, ◌<◌, ◌≤◌, Bool, true, false, if◌then◌else◌, ◌&&◌, ◌||◌, ◌⊎◌, inl, inr, List, [], ◌∷◌, length, refl, sym, subst, arith, Option, Some, None, Ok}
+use Rattle.std.proofs.Common.{◌≡◌, ℕ, ◌+◌, ◌%◌, ◌==◌, ◌<◌, ◌≤◌, Bool, true, false, if◌then◌else◌, ◌||◌, ◌⊎◌, inl, inr, List, [], ◌∷◌, length, refl, sym, subst, arith, Option, Some, None, Ok}
 use Rattle.std.specs.List.{list_any}
-use Rattle.std.specs.Prelude.{All, Contains, find, max, nat_le, nat_lt, option_map, slice_get}
+use Rattle.std.specs.Prelude.{Contains, find, max, nat_lt, option_map, slice_get}
 use Rattle.std.proofs.Math.Nat.{mod-lt}
 use Rattle.std.proofs.lemmas.Bool.Decides.{nat_tests}
 use Rattle.std.proofs.lemmas.Option.{get_or_from_slice_get, slice_get_within}
@@ -12,11 +12,12 @@ use Rattle.rhythm_base.specs.declared.note.Note.{Note}
 use Rattle.rhythm_base.specs.Barlines.{barline, barline_after}
 use Rattle.rhythm_base.specs.EditRanges.{IsEditInRange}
 use Rattle.edit_laws.specs.Edits.{edit_tests, edited, first_refusal, is_moved_past, is_note, is_past, moved_to, note_at, performance_after}
-use Rattle.rhythm_base.specs.Performance.{IsBarOf, IsNoteOf, IsWellFormed, Performance}
+use Rattle.rhythm_base.specs.Performance.{IsNoteOf, IsWellFormed, Performance}
 use Rattle.rhythm_gen.specs.Draws.{draw}
 use Rattle.rhythm_gen.specs.DrillEdit.{added_note, delayed, drill_edit, dropped, moved_note}
-use Rattle.edit_laws.proofs.Edited.{all_pass, made, not_false}
-use Rattle.rhythm_base.proofs.OrderedLists.{all_head, all_tail}
+use Rattle.edit_laws.proofs.Edited.{all_pass, made, not_false, is_inside}
+use Rattle.rhythm_base.proofs.Booleans.{and_right}
+use Rattle.performance_laws.proofs.PerformedVoices.{by_last}
 
 -- the edits of a drill: a note is added; one is dropped, by the edits whose number leaves 1 over fours; one is moved; a barline
 -- between two bars is moved
@@ -83,15 +84,6 @@ note_of p k n w is =
 low_channel : (p : Performance) (channel : ℕ) → IsWellFormed p → Contains p.channels channel → channel < 16
 low_channel p channel w (k, lt, is) = subst (λ c. c < 16) is (w.voices k channel lt)
 
-false_either : (a b : Bool) → (a || b) ≡ false → (a ≡ false) × (b ≡ false)
-false_either true b h = absurd (cc)
-false_either false b h = (refl, h)
-
-inside : (last : ℕ) (n : Note) → is_past last n ≡ false → (n.onset < last) × (n.end ≤ last)
-inside last n h =
-    let both = false_either (nat_le last n.onset) (nat_lt last n.end) h in
-    (grind (arith, nat_tests, both.0), grind (arith, nat_tests, both.1))
-
 module _ {X : Type 0} (p : X → Bool) where
   -- where one passes, one is found
   pub found_one : (xs : List X) → list_any p xs ≡ true → (x : X) × (find p xs ≡ Some x)
@@ -109,16 +101,6 @@ moved_inside p channel key onset to h =
     let pass = all_pass (edit_tests p (Move channel key onset to)) h in
     let one = found_one (is_note channel key onset) p.notes (not_false _ pass.1.0) in
     (one.0, one.1, subst (λ o. is_moved_past p.last to o ≡ false) one.1 pass.1.1.1.0)
-
--- no barline is after the last one
-by_last : (division last : ℕ) (bars : List Bar) (k : ℕ) → All (IsBarOf division last) bars → barline bars last k ≤ last
-by_last division last [] k all = omega arith
-by_last division last (b ∷ bars) zero all = let head = all_head (IsBarOf division last) b bars all in omega (arith, head.start)
-by_last division last (b ∷ bars) (suc k) all = by_last division last bars k (all_tail (IsBarOf division last) b bars all)
-
-second_true : (a b : Bool) → (a && b) ≡ true → b ≡ true
-second_true true b h = h
-second_true false b h = absurd (cc)
 
 -- a barline between two others is not past the latest tick
 early : (p : Performance) (bar tick : ℕ) → IsWellFormed p → nat_lt tick (barline_after p bar) ≡ true → tick ≤ 2000000000
@@ -140,7 +122,7 @@ drill_range e p q edit w kind h = by_kind kind
     by_kind : IsKind e p edit → IsEditInRange edit
     by_kind (inl (channel, key, onset, until, low, small, is)) =
         let pass = all_pass (edit_tests p (Add channel key onset until)) (subst (λ (x : Edit). first_refusal (edit_tests p x) ≡ None) is passes) in
-        let within = inside p.last (record { channel = channel; key = key; onset = onset; end = until }) pass.1.1.1.0 in
+        let within = is_inside p.last (record { channel = channel; key = key; onset = onset; end = until }) pass.1.1.1.0 in
         subst IsEditInRange (sym is) (low, small, omega (arith, within.0, w.last_barline), omega (arith, within.1, w.last_barline))
     by_kind (inr (inl (k, n, there, turn, is))) =
         let note = note_of p k n w there in
@@ -148,9 +130,9 @@ drill_range e p q edit w kind h = by_kind kind
     by_kind (inr (inr (inl (k, n, there, is)))) =
         let note = note_of p k n w there in
         let one = moved_inside p n.channel n.key n.onset (n.onset + 30) (subst (λ (x : Edit). first_refusal (edit_tests p x) ≡ None) is passes) in
-        let within = inside p.last (moved_to (n.onset + 30) one.0) one.2 in
+        let within = is_inside p.last (moved_to (n.onset + 30) one.0) one.2 in
         subst IsEditInRange (sym is)
         (low_channel p n.channel w note.voice, note.key, omega (arith, note.onset, w.last_barline), omega (arith, within.0, w.last_barline))
     by_kind (inr (inr (inr (bar, tick, some, few, is)))) =
         let pass = all_pass (edit_tests p (Barline bar tick)) (subst (λ (x : Edit). first_refusal (edit_tests p x) ≡ None) is passes) in
-        subst IsEditInRange (sym is) (omega (arith, few, w.few_bars), early p bar tick w (second_true _ _ (not_false _ pass.1.0)))
+        subst IsEditInRange (sym is) (omega (arith, few, w.few_bars), early p bar tick w (and_right _ _ (not_false _ pass.1.0)))

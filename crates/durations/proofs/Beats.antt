@@ -1,5 +1,5 @@
 -- The beat of a signature is one of the 64 parts that a whole note has for each unit of the resolution.
-use Rattle.std.proofs.Common.{◌≡◌, ℕ, ◌*◌, Bool, true, false, ◌||◌, get_or, refl, sym, subst, ◌⊎◌, inl, inr, arith}
+use Rattle.std.proofs.Common.{◌≡◌, ℕ, ◌*◌, true, ◌||◌, get_or, refl, sym, subst, ◌⊎◌, inl, inr, arith}
 use Rattle.std.specs.Prelude.{IsTrue, ◌==◌, List, All, map}
 use Rattle.std.specs.Int.{◌∣◌}
 use Rattle.std.proofs.Math.Nat.{dvd-mul_right, mul-dvd-mul_left}
@@ -15,16 +15,13 @@ use Rattle.durations.specs.Value.{value_grid}
 use Rattle.durations.specs.Values.{AreValues}
 use Rattle.durations.proofs.Bars.{written_grid}
 use Rattle.durations.proofs.Grids.{values_grid}
+use Rattle.rhythm_base.proofs.Booleans.{or_true}
 
-either : (a b : Bool) → (a || b) ≡ true → (a ≡ true) ⊎ (b ≡ true)
-either true b h = inl refl
-either false b h = inr h
-
-beat_at : (den k : ℕ) → (den == k) ≡ true → k ∣ 64 → den ∣ 64
+pub beat_at : (den k : ℕ) → (den == k) ≡ true → k ∣ 64 → den ∣ 64
 beat_at den k h part = let e : den ≡ k = grind (arith, nat_tests, h) in subst (λ x. x ∣ 64) (sym e) part
 
-beat_part : (den : ℕ) → IsTrue (is_den den) → den ∣ 64
-beat_part den h = one (either (den == 1) _ h)
+pub beat_part : (den : ℕ) → IsTrue (is_den den) → den ∣ 64
+beat_part den h = one (or_true (den == 1) _ h)
   where
     seven : den == 64 ≡ true → den ∣ 64
     seven h = beat_at den 64 h (dvd_of_mod-eq-zero 64 refl)
@@ -35,23 +32,23 @@ beat_part den h = one (either (den == 1) _ h)
 
     five : (den == 16 ≡ true) ⊎ ((den == 32 || den == 64) ≡ true) → den ∣ 64
     five (inl h) = beat_at den 16 h (dvd_of_mod-eq-zero 16 refl)
-    five (inr h) = six (either (den == 32) (den == 64) h)
+    five (inr h) = six (or_true (den == 32) (den == 64) h)
 
     four : (den == 8 ≡ true) ⊎ ((den == 16 || (den == 32 || den == 64)) ≡ true) → den ∣ 64
     four (inl h) = beat_at den 8 h (dvd_of_mod-eq-zero 8 refl)
-    four (inr h) = five (either (den == 16) (den == 32 || den == 64) h)
+    four (inr h) = five (or_true (den == 16) (den == 32 || den == 64) h)
 
     three : (den == 4 ≡ true) ⊎ ((den == 8 || (den == 16 || (den == 32 || den == 64))) ≡ true) → den ∣ 64
     three (inl h) = beat_at den 4 h (dvd_of_mod-eq-zero 4 refl)
-    three (inr h) = four (either (den == 8) (den == 16 || (den == 32 || den == 64)) h)
+    three (inr h) = four (or_true (den == 8) (den == 16 || (den == 32 || den == 64)) h)
 
     two : (den == 2 ≡ true) ⊎ ((den == 4 || (den == 8 || (den == 16 || (den == 32 || den == 64)))) ≡ true) → den ∣ 64
     two (inl h) = beat_at den 2 h (dvd_of_mod-eq-zero 2 refl)
-    two (inr h) = three (either (den == 4) (den == 8 || (den == 16 || (den == 32 || den == 64))) h)
+    two (inr h) = three (or_true (den == 4) (den == 8 || (den == 16 || (den == 32 || den == 64))) h)
 
     one : (den == 1 ≡ true) ⊎ ((den == 2 || (den == 4 || (den == 8 || (den == 16 || (den == 32 || den == 64))))) ≡ true) → den ∣ 64
     one (inl h) = beat_at den 1 h (dvd_of_mod-eq-zero 1 refl)
-    one (inr h) = two (either (den == 2) (den == 4 || (den == 8 || (den == 16 || (den == 32 || den == 64)))) h)
+    one (inr h) = two (or_true (den == 2) (den == 4 || (den == 8 || (den == 16 || (den == 32 || den == 64)))) h)
 
 pub value_part : (resolution den : ℕ) (v : Value) → IsTrue (is_den den) → CountsIn (resolution * den) v → value_grid v ∣ 64 * resolution
 value_part resolution den v beat counts =

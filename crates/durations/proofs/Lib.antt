@@ -1,6 +1,7 @@
 pub mod Bars
 pub mod Beats
 pub mod Firsts
+pub mod FractionLemmas
 pub mod Grids
 pub mod Groups
 pub mod LowestTerms

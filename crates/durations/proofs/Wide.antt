@@ -7,7 +7,7 @@ use Rattle.durations.specs.declared.value.Recip.{Recip}
 use Rattle.durations.specs.declared.value.Recip.TheVariants.{Of, Breve, Long}
 use Rattle.durations.specs.Value.{plain_grid, plain_parts}
 
-some_parts : (r : Recip) → 1 ≤ plain_parts r
+pub some_parts : (r : Recip) → 1 ≤ plain_parts r
 some_parts (Of n) = omega arith
 some_parts Breve = omega arith
 some_parts Long = omega arith

@@ -157,7 +157,7 @@ apart n notes none k d lt same =
     absurd (cc)
 
 -- a note within the performance
-is_inside : (last : ℕ) (n : Note) → is_past last n ≡ false → (n.onset < last) × (n.end ≤ last)
+pub is_inside : (last : ℕ) (n : Note) → is_past last n ≡ false → (n.onset < last) × (n.end ≤ last)
 is_inside last n h =
     let both = false_either (λ (x : ℕ). true) (nat_le last n.onset) (nat_lt last n.end) h in
     (grind (arith, nat_tests, both.0), grind (arith, nat_tests, both.1))

@@ -11,10 +11,6 @@ use Rattle.edit_script.specs.Gathered.{Gathered}
 use Rattle.edit_script.specs.Sending.{Sent, SentPart, TakesPartAfter, Writes, counted}
 use Rattle.edit_script.specs.declared.gathered.TheConstants.{MOST_GATHERED}
 
-no_bytes : (xs : List ℕ) → length xs ≡ 0 → xs ≡ []
-no_bytes [] e = refl
-no_bytes (x ∷ xs) e = absurd (omega (arith, e))
-
 -- nothing was written
 pub Sent-nil : (a : Option (List ℕ)) (i : Gathered) → Sent a a i i []
 Sent-nil a i = record { handed = []; taken = Appends-nil a; parts = append-nil i.bytes; count = omega arith; waits = λ few. refl }

@@ -20,7 +20,7 @@ use Rattle.edit_session.specs.Kept.{AreTablesOfVoice}
 use Rattle.edit_session.specs.Prepared.{IsTableOfCell}
 use Rattle.edit_session.proofs.OtherInputs.{bar_there, kept_cell}
 use Rattle.edit_session.proofs.SameInputs.{same_input_or_not}
-use Rattle.edit_session.proofs.SomeChords.{some_chords}
+use Rattle.performance_laws.proofs.SomeChords.{some_chords}
 
 -- ---- a voice from its cells
 

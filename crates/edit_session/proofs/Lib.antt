@@ -18,7 +18,6 @@ pub mod ReachedVoices
 pub mod OtherVoices
 pub mod SuitingTables
 pub mod GrownVoices
-pub mod SomeChords
 pub mod SameInputs
 pub mod CellHeads
 pub mod CellTables
@@ -31,3 +30,9 @@ pub mod Commits
 pub mod SessionProducts
 pub mod Risen
 pub mod ExchangedBars
+pub mod SameNotes
+pub mod InputParts
+pub mod BarStarts
+pub mod Edges
+pub mod LocalCells
+pub mod NoteParts

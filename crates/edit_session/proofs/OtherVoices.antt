@@ -187,6 +187,22 @@ edited_leaves p q edit formed h = λ channel other.
     let after = made (performance_after p edit) q (first_refusal (edit_tests p edit)) h in
     subst (λ r. IsUnchangedVoice p r channel) after.1 (unchanged_after p formed channel edit other)
 
+-- an edit leaves all that times depend on
+pub edited_times : (p q : Performance) (edit : Edit) → edited p edit ≡ Ok q → (q.tempos ≡ p.tempos) × (q.division ≡ p.division)
+edited_times p q edit h =
+    let after = made (performance_after p edit) q (first_refusal (edit_tests p edit)) h in
+    subst (λ (r : Performance). (r.tempos ≡ p.tempos) × (r.division ≡ p.division)) after.1 (times edit)
+  where
+    times : (edit : Edit) → ((performance_after p edit).tempos ≡ p.tempos) × ((performance_after p edit).division ≡ p.division)
+    times (Add channel key onset end) = (refl, refl)
+    times (Drop channel key onset) = (refl, refl)
+    times (Move channel key onset to) = (refl, refl)
+    times (Barline bar tick) = (refl, refl)
+    times (Pin channel bar shape) = (refl, refl)
+    times (Unpin channel bar) = (refl, refl)
+    times AddBar = (refl, refl)
+    times DropBar = (refl, refl)
+
 -- ---- the cells of a voice that is as before
 
 module _ (g : Grammar) (p q : Performance) (channel : ℕ) (kept : IsUnchangedVoice p q channel) where

@@ -45,7 +45,7 @@ key_cheap : (c : ℕ) (es : List CarryMatrix) (o : Option Key) → AreCheap c es
 key_cheap c es None h e = omega arith
 key_cheap c es (Some k) h e = least_cheap c es 0 0 k h e
 
-cheap : (g : Grammar) (cs : List Inner) (bars : List VoiceBar) (tables : List BarTable) → AreTables g cs bars tables → AreCheap DEAREST_CELL (matrices tables)
+pub cheap : (g : Grammar) (cs : List Inner) (bars : List VoiceBar) (tables : List BarTable) → AreTables g cs bars tables → AreCheap DEAREST_CELL (matrices tables)
 cheap g cs [] [] h = tt
 cheap g cs [] (x ∷ tables) h = absurd h
 cheap g cs (bar ∷ bars) [] h = absurd h

@@ -1,9 +1,8 @@
 -- The tables of the reached cells suit the session.
-use Rattle.std.proofs.Common.{◌≡◌, ℕ, ◌+◌, ◌*◌, ◌-◌, ◌≤◌, List, [], ◌∷◌, length, map, refl, sym, ap, ◌∙◌, subst, arith}
-use Rattle.std.specs.Prelude.{Bool, All, filter, nat_lt, not}
+use Rattle.std.proofs.Common.{◌≡◌, ℕ, ◌+◌, ◌*◌, ◌-◌, ◌≤◌, List, [], ◌∷◌, length, map, sym, ap, ◌∙◌, subst, arith}
+use Rattle.std.specs.Prelude.{All, nat_lt}
 use Rattle.std.proofs.lemmas.List.{length-map}
 use Rattle.std.proofs.lemmas.List.Elements.{All-nil}
-use Rattle.std.proofs.lemmas.List.Filters.{length-filter_both}
 use Rattle.bar_pool.specs.Pool.{AreTablesOf, IsTableOf}
 use Rattle.rhythm_base.specs.declared.limits.TheConstants.{MOST_CELLS, MOST_NOTES}
 use Rattle.rhythm_base.specs.BarInput.{BarInput}
@@ -19,6 +18,7 @@ use Rattle.edit_session.specs.Opening.{cells_of}
 use Rattle.edit_session.specs.Prepared.{CellTable, IsCellTable, IsTableOfCell, Suits, cell_of, bar_table_of}
 use Rattle.edit_session.specs.ReachedCells.{AreReachedInputs, place_pair}
 use Rattle.edit_session.proofs.EachRuns.{Each-length, Each-through}
+use Rattle.rhythm_base.proofs.ListParts.{filter_few}
 
 abbrev IsOf : Grammar → Performance → ℕ × ℕ → BarInput → Type 0
 IsOf g q c k = IsInputOf g q c.0 c.1 k
@@ -43,9 +43,6 @@ reached_number g p q cells inputs others h k = sym (length-map cells place_pair)
 of_cells : (g : Grammar) (q : Performance) (tables : List CellTable) → Each (λ c x. IsTableOfCell g q c.0 c.1 x) (map cell_of tables) (map bar_table_of tables) → All (IsCellTable g q) tables
 of_cells g q [] h = All-nil (IsCellTable g q)
 of_cells g q (x ∷ tables) h = all_cons (IsCellTable g q) x tables h.0 (of_cells g q tables h.1)
-
-pub filter_few : {X : Type 0} (p : X → Bool) (xs : List X) → length (filter p xs) ≤ length xs
-filter_few p xs = omega (arith, length-filter_both p (λ x. not (p x)) (λ x. refl) xs)
 
 pub suits : (g : Grammar) (p q : Performance) (cells : List CellPlace) (inputs : List BarInput) (tables : List CellTable) (room lost voices count : ℕ) → AreReachedInputs g p q cells inputs
     → map cell_of tables ≡ map place_pair cells → AreTablesOf g inputs (map bar_table_of tables) → q.channels ≡ p.channels → HasStarts g q.bars → cells_of q ≤ MOST_CELLS → length q.notes ≤ MOST_NOTES

@@ -17,6 +17,7 @@ use Rattle.std.specs.declared.cmp.Ordering.TheVariants.{Less}
 use Rattle.rhythm_base.specs.Lists.{AreInOrder}
 use Rattle.tempo_map.proofs.InForce.{filter_front}
 use Rattle.voices.specs.Voice.{AreNotesOfVoice}
+use Rattle.rhythm_base.proofs.OrderedLists.{channel_low}
 
 equal : (a b : ℕ) → (a == b) ≡ true → a ≡ b
 equal a b h = grind (arith, nat_tests, h)
@@ -40,15 +41,12 @@ notes_are_voice p channel w = record {
 
 -- ---- they stand together
 
-no_later : (m n : Note) → slice_cmp nat_cmp (place_of_note m) (place_of_note n) ≡ Less → m.channel ≤ n.channel
-no_later m n h = grind (arith, nat_tests)
-
 -- notes in order rise by channel
 pub channels_rise : (notes : List Note) → AreInOrder place_of_note notes → IsNonDecreasingBy (λ n. n.channel) notes
 channels_rise notes order i j d le within = at (cases_lt i j)
   where
     at : (i < j) ⊎ (j ≤ i) → (get_or notes i d).channel ≤ (get_or notes j d).channel
-    at (inl lt) = no_later (get_or notes i d) (get_or notes j d) (order i j d lt within)
+    at (inl lt) = channel_low (get_or notes i d) (get_or notes j d) (order i j d lt within)
     at (inr ge) = let same : i ≡ j = omega (arith, le, ge) in omega (arith, ap (λ k. (get_or notes k d).channel) same)
 
 -- and so do the last ones of them

@@ -1,6 +1,7 @@
 pub mod Session
 pub mod Opening
 pub mod VoiceTables
+pub mod Spans
 pub mod Inputs
 pub mod Kept
 pub mod LeastTrees

@@ -1,5 +1,5 @@
 -- The cells of which the input is another one than that of their table.
-use Rattle.std.specs.Prelude.{◌≡◌, ◌≢◌, ◌↔◌, ◌⊎◌, ℕ, ◌<◌, ◌≤◌, List, [], ◌∷◌, Contains, Some, length, map, slice_get}
+use Rattle.std.specs.Prelude.{◌≡◌, ◌≢◌, ◌↔◌, ◌⊎◌, ℕ, ◌<◌, ◌≤◌, List, [], ◌∷◌, Contains, Some, length, map, max, slice_get}
 use Rattle.edit_session.specs.declared.reached.CellPlace.{CellPlace}
 use Rattle.rhythm_base.specs.BarInput.{BarInput}
 use Rattle.rhythm_base.specs.BarTables.{BarTable}
@@ -26,6 +26,13 @@ HasOtherInput tables inputs bar =
 pub record AreOtherInputs (channel : ℕ) (inputs : List BarInput) (tables : List BarTable) (bars : ℕ) (cells : List (ℕ × ℕ)) (others : List BarInput) : Type 0 where
   pub are : AreCellsWhere (λ c bar. (c ≡ channel) × (bar < bars) × HasOtherInput tables inputs bar) cells
   pub each : Each (λ c k. (c.0 ≡ channel) × (slice_get inputs c.1 ≡ Some k)) cells others
+
+-- Where all inputs from one bar up to another are those of some list, and no bar before has another one than its table, the cells up
+-- to there with another input are these.
+abbrev pub AreOtherInputsWithin : ℕ → List BarInput → List BarTable → ℕ → ℕ → List (ℕ × ℕ) → List BarInput → Type 0
+AreOtherInputsWithin channel some tables first end cells others =
+    (inputs : List BarInput) → ((bar : ℕ) → first ≤ bar → bar < end → slice_get inputs bar ≡ slice_get some bar)
+    → AreOtherInputs channel inputs tables first [] [] → AreOtherInputs channel inputs tables (max first end) cells others
 
 -- the reached cells and their inputs
 pub record AreReachedInputs (g : Grammar) (before after : Performance) (cells : List CellPlace) (inputs : List BarInput) : Type 0 where

@@ -15,7 +15,7 @@ use tempo_map::TempoMap;
 use voices::chords_of;
 
 /// The notes of the voice of a channel.
-fn voice_notes(notes: &[Note], channel: u8) -> &[Note]
+pub fn voice_notes(notes: &[Note], channel: u8) -> &[Note]
     requires { AreInOrder place_of_note notes.now }
     ensures { result.now ≡ filter (λ n. n.channel == channel) notes.now }
 {

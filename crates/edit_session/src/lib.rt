@@ -9,6 +9,7 @@ mod committed;
 mod exchange;
 mod inputs;
 mod kept_voices;
+mod known;
 mod laws;
 mod least_trees;
 mod open_fault;
@@ -16,8 +17,10 @@ mod opening;
 mod prepared;
 mod preparing;
 mod reached;
+mod same_notes;
 mod score;
 mod session;
+mod span;
 mod voice_tables;
 
 pub use ask_fault::AskFault;

@@ -261,6 +261,8 @@ impl Session {
     ) -> Result<Prepared, AllocError>
         requires formed { IsWellFormed next }
         requires channels { next.channels ≡ self.now.performance.channels }
+        requires tempos { next.tempos ≡ self.now.performance.tempos }
+        requires division { next.division ≡ self.now.performance.division }
         requires others { LeavesOthers changed self.now.performance next }
         requires starts { HasStarts self.now.grammar next.bars }
         requires few_cells { cells_of next ≤ MOST_CELLS }

@@ -1,5 +1,5 @@
 -- The events of a score are events of its voices, and so are those of the score of a performance.
-use Rattle.std.proofs.Common.{◌≡◌, ℕ, suc, ◌*◌, ◌≤◌, List, [], ◌∷◌, length, map, refl, sym, ap, ◌∙◌, subst, arith}
+use Rattle.std.proofs.Common.{◌≡◌, ℕ, suc, ◌*◌, ◌≤◌, List, [], ◌∷◌, length, map, sym, ap, ◌∙◌, subst, arith}
 use Rattle.std.specs.Prelude.{All, Ok, Result, sum_by}
 use Rattle.std.proofs.lemmas.List.{length-map}
 use Rattle.std.proofs.lemmas.List.Elements.{All-head, All-tail}
@@ -22,7 +22,7 @@ use Rattle.kern_reader.specs.Events.{AreEvents}
 use Rattle.kern_reader.specs.Outcome.{score_of}
 use Rattle.kern_reader.specs.Score.{KernColumns}
 use Rattle.kern_laws.proofs.EventsExist.{voice_spans_exist}
-use Rattle.kern_laws.proofs.ReadBack.{texts_read_back}
+use Rattle.kern_laws.proofs.ReadBack.{texts_read_back, have_signatures}
 use Rattle.kern_laws.specs.ReadBack.{AreVoiceSpans, HaveSignatures}
 use Rattle.voice_events.specs.VoiceEvents.{AreVoiceEvents, AreVoiceEventsFrom}
 use Rattle.voice_events.specs.Writable.{IsWritable}
@@ -50,10 +50,6 @@ spans_are s bars events is have spans =
     (voices_from s.resolution bars 1 s.voices events (well_signed s.bars bars have is.bars) well spans)
 
 -- ---- the score of a performance
-
-have_signatures : (p : Performance) (bars : List Bar) → HaveSignatures (map (score_bar p) bars) bars
-have_signatures p [] = refl
-have_signatures p (bar ∷ bars) = ap (λ rest. (bar.num, bar.den) ∷ rest) (have_signatures p bars)
 
 as_many : {X Y : Type 0} (Of : X → Y → Type 0) (xs : List X) (ys : List Y) → Each Of xs ys → length ys ≡ length xs
 as_many Of [] ys each = ap length each

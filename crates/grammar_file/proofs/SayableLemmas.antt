@@ -36,6 +36,7 @@ use Rattle.rhythm_base.specs.declared.grammar.Start.{Start}
 use Rattle.rhythm_base.specs.declared.rule.Rule.{Rule}
 use Rattle.grammar_file.specs.declared.said.Said.{Said}
 use Rattle.grammar_file.specs.declared.said.Said.TheVariants as says
+use Rattle.rhythm_base.proofs.Booleans.{or_false}
 
 -- R holds of each element and each later one
 abbrev pub Pairwise : {X : Type 0} → (X → X → Type 0) → List X → Type 0
@@ -62,10 +63,6 @@ pub record AreSound (version : ℕ) (spoken : List Spoken) : Type 0 where
   few_names : length (names_of spoken) ≤ 64
   few_rules : length (filter is_rule spoken) ≤ 512
   starts_differ : Pairwise (λ s t. Differ s.said t.said) spoken
-
-or_false : (a b : Bool) → (a || b) ≡ false → (a ≡ false) × (b ≡ false)
-or_false true b e = absurd (cc)
-or_false false b e = (refl, e)
 
 -- a start after others, and a rule
 differs : (num den : ℕ) (name : List ℕ) (before : List Spoken) → list_any (is_start_of num den) before ≡ false

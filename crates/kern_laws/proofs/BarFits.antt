@@ -1,22 +1,17 @@
 -- What a voice says can stand.
-use Rattle.std.proofs.Common.{◌≡◌, ℕ, zero, suc, ◌+◌, ◌-◌, ◌*◌, ◌/◌, ◌^◌, ◌≤◌, Bool, true, false, not, ◌&&◌, ◌||◌, List, [], ◌∷◌, ◌++◌, length, take, refl, sym, ap, ◌∙◌, subst, arith, Option, Some, None}
+use Rattle.std.proofs.Common.{◌≡◌, ℕ, zero, suc, ◌+◌, ◌-◌, ◌*◌, ◌/◌, ◌≤◌, Bool, true, false, not, ◌&&◌, ◌||◌, List, [], ◌∷◌, ◌++◌, length, take, refl, sym, ap, ◌∙◌, subst, arith, Option, Some, None}
 use Rattle.std.specs.Prelude.{All, if◌then◌else◌, nat_lt, slice_index_or, sum_by, ⊤}
 use Rattle.std.specs.List.{flat_map}
-use Rattle.std.proofs.Math.Nat.{div-mul_cancel}
 use Rattle.std.proofs.lemmas.Bool.{false≢true, eq-eqb}
 use Rattle.std.proofs.lemmas.List.Elements.{All-cons, All-head, All-nil, All-tail, All-append}
 use Rattle.std.proofs.lemmas.List.Sums.{sum_by-cons}
-use Rattle.std.proofs.lemmas.Nat.{pow_pos}
 use Rattle.rhythm_base.specs.declared.sound.Sound.{Sound}
 use Rattle.rhythm_base.specs.declared.sound.SoundKind.{SoundKind}
 use Rattle.rhythm_base.specs.declared.sound.SoundKind.TheVariants.{Begin}
 use Rattle.rhythm_base.specs.SoundKinds.{is_rest, is_tie}
 use Rattle.derivation.specs.WellSounded.{IsWellSounding}
-use Rattle.durations.specs.declared.value.Recip.{Recip}
-use Rattle.durations.specs.declared.value.Recip.TheVariants.{Of, Breve, Long}
 use Rattle.durations.specs.declared.value.Value.{Value}
-use Rattle.durations.specs.Value.{IsWide, parts, plain_parts, value_grid, width}
-use Rattle.durations.proofs.Wide.{some_product}
+use Rattle.durations.specs.Value.{value_grid, width}
 use Rattle.derivation.specs.declared.score.ScoreBar.{ScoreBar}
 use Rattle.derivation.specs.Score.{IsScoreBar}
 use Rattle.kern_writer.specs.Tokens.{goes_on, next_goes_on}
@@ -34,6 +29,7 @@ use Rattle.kern_laws.proofs.BarVoice.{AreVoice}
 use Rattle.kern_laws.proofs.GridParts.{divisor_some, parts_finer, well_value, width_finer}
 use Rattle.kern_laws.proofs.PlaceParts.{Fits, IsFit, next_place, open_after, token_width}
 use Rattle.kern_laws.proofs.TieValues.{Linked, Links}
+use Rattle.kern_writer.proofs.BarTokens.{some_width}
 
 -- ---- places
 
@@ -184,21 +180,6 @@ module _ (v : VoiceValue) (well : IsWellSounding v.sound) where
       go false = omega arith
 
 -- ---- widths
-
-some_plain : (r : Recip) → 1 ≤ plain_parts r
-some_plain (Of n) = omega arith
-some_plain Breve = omega arith
-some_plain Long = omega arith
-
-some_width : (whole : ℕ) (v : Value) → 1 ≤ whole → IsWide whole v → 1 ≤ width whole v
-some_width whole v some wide = go (width whole v) (div-mul_cancel (value_grid v) wide) (some_product (parts v) whole some_parts some)
-  where
-    some_parts : 1 ≤ parts v
-    some_parts = let e = pow_pos v.dots in some_product (plain_parts v.recip) (2 * 2 ^ v.dots - 1) (some_plain v.recip) (omega (arith, e))
-
-    go : (w : ℕ) → w * value_grid v ≡ parts v * whole → 1 ≤ parts v * whole → 1 ≤ w
-    go zero e long = omega (arith, e, long)
-    go (suc w) e long = omega arith
 
 pub width_said : (grid : ℕ) (v : VoiceValue) (next : Bool) → token_width grid (value_token v next) ≡ width grid v.value
 width_said grid v next = go (is_rest v.sound.kind)

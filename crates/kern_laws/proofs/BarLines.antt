@@ -23,12 +23,12 @@ use Rattle.kern_reader.specs.Score.{IsColumnOn}
 use Rattle.kern_reader.proofs.ColumnLemmas.{columns_on}
 use Rattle.kern_reader.proofs.SpineLemmas.{spine_next, spine_scaled}
 use Rattle.kern_laws.specs.ScoreLines.{AreBarLines, AreBarsLines, AreSaidPlaces, Barline, ending_line, KernLine, Other, Said, Signature, change_lines, lines_at, said_in_bar}
-use Rattle.kern_laws.proofs.GridParts.{beat_part}
 use Rattle.kern_laws.proofs.LineTests.{IsBody, IsInside, body_turn, finest, said_right}
 use Rattle.kern_laws.proofs.LineWalk.{IsGood, Walk, walk_append}
 use Rattle.kern_laws.proofs.PlaceLines.{saids_of}
 use Rattle.kern_laws.proofs.PlaceParts.{Ahead, Fits, Frame, IsAt, Part, clean, next_place, open_after, spelled}
 use Rattle.kern_laws.proofs.PlaceWalk.{IsFull, data_walk}
+use Rattle.durations.proofs.Beats.{beat_part}
 
 -- ---- bars
 

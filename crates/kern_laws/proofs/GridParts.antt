@@ -1,18 +1,18 @@
 -- Values that count in one grid: their least common multiple divides it, and how wide they are in it.
-use Rattle.std.proofs.Common.{◌≡◌, ℕ, zero, suc, ◌+◌, ◌-◌, ◌*◌, ◌/◌, ◌%◌, ◌^◌, ◌<◌, ◌≤◌, ◌==◌, Bool, true, false, ◌||◌, List, [], ◌∷◌, refl, sym, ap, ◌∙◌, subst, arith, ◌⊎◌, inl, inr}
+use Rattle.std.proofs.Common.{◌≡◌, ℕ, zero, suc, ◌+◌, ◌-◌, ◌*◌, ◌/◌, ◌%◌, ◌^◌, ◌<◌, ◌≤◌, ◌==◌, Bool, true, false, List, [], ◌∷◌, refl, sym, ap, ◌∙◌, subst, arith}
 use Rattle.std.specs.Prelude.{All, IsTrue, if◌then◌else◌}
 use Rattle.std.specs.Int.{◌∣◌}
 use Rattle.std.proofs.Math.Nat.{div-mul_cancel, dvd-sub, dvd_trans, dvd-mul_right, dvd_of_mul-dvd-mul_right, le_of_dvd, mul-div_left, mul-dvd-mul_right, zero-dvd, mul_comm}
 use Rattle.std.proofs.lemmas.Bool.Decides.{nat_tests}
 use Rattle.std.proofs.lemmas.List.Elements.{All-head, All-tail}
 use Rattle.std.proofs.lemmas.Nat.{pow_pos, div-add-mod'}
-use Rattle.std.proofs.lemmas.Nat.Gcd.{dvd_of_mod-eq-zero}
 use Rattle.rhythm_base.specs.Signatures.{is_den}
 use Rattle.durations.specs.declared.value.Value.{Value}
 use Rattle.durations.specs.Value.{IsWide, parts, plain_grid, value_grid, width}
 use Rattle.kern_reader.specs.Columns.{gcd, gcd_within, grid_with, lcm}
 use Rattle.kern_reader.specs.Tokens.{IsWellValue}
 use Rattle.kern_reader.proofs.GridLemmas.{gcd_is, gcd_some}
+use Rattle.durations.proofs.Beats.{beat_part}
 
 -- ---- the least common multiple
 
@@ -57,18 +57,15 @@ lcm_divides a b n some h k =
     regrouped : (x y z : ℕ) → x * y * z ≡ x * (y * z)
     regrouped x y z = grind arith
 
-positive : (d n : ℕ) → 1 ≤ n → d ∣ n → 1 ≤ d
-positive zero n some divides = let e : n ≡ zero = (zero-dvd {n = n}).0 divides in absurd (omega arith)
-positive (suc d) n some divides = omega arith
+pub divisor_some : (d n : ℕ) → 1 ≤ n → d ∣ n → 1 ≤ d
+divisor_some zero n some divides = let e : n ≡ zero = (zero-dvd {n = n}).0 divides in absurd (omega arith)
+divisor_some (suc d) n some divides = omega arith
 
 pub grid_divides : (n grid : ℕ) (vs : List Value) → 1 ≤ n → grid ∣ n → All (λ v. value_grid v ∣ n) vs → grid_with grid vs ∣ n
 grid_divides n grid [] some h all = h
 grid_divides n grid (v ∷ vs) some h all =
     let k = All-head (λ v. value_grid v ∣ n) v vs all in
-    grid_divides n (lcm grid (value_grid v)) vs some (lcm_divides grid (value_grid v) n (positive (value_grid v) n some k) h k) (All-tail (λ v. value_grid v ∣ n) v vs all)
-
-pub divisor_some : (d n : ℕ) → 1 ≤ n → d ∣ n → 1 ≤ d
-divisor_some d n some h = positive d n some h
+    grid_divides n (lcm grid (value_grid v)) vs some (lcm_divides grid (value_grid v) n (divisor_some (value_grid v) n some k) h k) (All-tail (λ v. value_grid v ∣ n) v vs all)
 
 -- a finer grid has a whole number of times as many parts
 pub finer_times : (g n : ℕ) → 1 ≤ n → g ∣ n → (t : ℕ) × (1 ≤ t) × (g * t ≡ n)
@@ -100,7 +97,7 @@ width_finer whole k n v some finer wide =
 small_plain : (g p n : ℕ) → 1 ≤ p → 1 ≤ n → g * p ∣ n → n ≤ 61440 → (1 ≤ g) × (g ≤ 61440)
 small_plain g p n some long h few =
     let first : g ∣ n = dvd_trans g (dvd-mul_right g p) h in
-    (positive g n long first, omega (arith, le_of_dvd {m = g} {n = n} long first, few))
+    (divisor_some g n long first, omega (arith, le_of_dvd {m = g} {n = n} long first, few))
 
 pub well_value : (v : Value) (n : ℕ) → 1 ≤ n → n ≤ 61440 → value_grid v ∣ n → v.dots ≤ 2 → IsWellValue v
 well_value v n some few h dots =
@@ -108,40 +105,6 @@ well_value v n some few h dots =
     record { some = small.0; few = small.1; dots = dots }
 
 -- ---- the beat of a signature is a part of 64
-
-either : (a b : Bool) → (a || b) ≡ true → (a ≡ true) ⊎ (b ≡ true)
-either true b h = inl refl
-either false b h = inr h
-
-beat_at : (den k : ℕ) → (den == k) ≡ true → k ∣ 64 → den ∣ 64
-beat_at den k h part = let e : den ≡ k = grind (arith, nat_tests, h) in subst (λ x. x ∣ 64) (sym e) part
-
-pub beat_part : (den : ℕ) → IsTrue (is_den den) → den ∣ 64
-beat_part den h = go (either (den == 1) _ h)
-  where
-    last : (den == 32 ≡ true) ⊎ (den == 64 ≡ true) → den ∣ 64
-    last (inl h) = beat_at den 32 h (dvd_of_mod-eq-zero 32 refl)
-    last (inr h) = beat_at den 64 h (dvd_of_mod-eq-zero 64 refl)
-
-    five : (den == 16 ≡ true) ⊎ ((den == 32 || den == 64) ≡ true) → den ∣ 64
-    five (inl h) = beat_at den 16 h (dvd_of_mod-eq-zero 16 refl)
-    five (inr h) = last (either (den == 32) (den == 64) h)
-
-    four : (den == 8 ≡ true) ⊎ ((den == 16 || (den == 32 || den == 64)) ≡ true) → den ∣ 64
-    four (inl h) = beat_at den 8 h (dvd_of_mod-eq-zero 8 refl)
-    four (inr h) = five (either (den == 16) _ h)
-
-    three : (den == 4 ≡ true) ⊎ ((den == 8 || (den == 16 || (den == 32 || den == 64))) ≡ true) → den ∣ 64
-    three (inl h) = beat_at den 4 h (dvd_of_mod-eq-zero 4 refl)
-    three (inr h) = four (either (den == 8) _ h)
-
-    two : (den == 2 ≡ true) ⊎ ((den == 4 || (den == 8 || (den == 16 || (den == 32 || den == 64)))) ≡ true) → den ∣ 64
-    two (inl h) = beat_at den 2 h (dvd_of_mod-eq-zero 2 refl)
-    two (inr h) = three (either (den == 4) _ h)
-
-    go : (den == 1 ≡ true) ⊎ ((den == 2 || (den == 4 || (den == 8 || (den == 16 || (den == 32 || den == 64))))) ≡ true) → den ∣ 64
-    go (inl h) = beat_at den 1 h (dvd_of_mod-eq-zero 1 refl)
-    go (inr h) = two (either (den == 2) _ h)
 
 -- parts of 1/(resolution * den) of a whole note are so many of 64 * resolution
 pub parts_finer : (resolution den : ℕ) → IsTrue (is_den den) → resolution * den * (64 / den) ≡ 64 * resolution

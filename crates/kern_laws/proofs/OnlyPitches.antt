@@ -1,5 +1,5 @@
 -- Nothing but a pitch of a key is read as it.
-use Rattle.std.proofs.Common.{◌≡◌, ℕ, zero, suc, ◌+◌, ◌-◌, ◌*◌, ◌<◌, ◌≤◌, ◌==◌, ◌&&◌, ◌||◌, Bool, true, false, List, [], ◌∷◌, ◌++◌, drop, replicate, Option, Some, None, refl, sym, ap, subst, ◌⊎◌, inl, inr, arith}
+use Rattle.std.proofs.Common.{◌≡◌, ℕ, suc, ◌+◌, ◌-◌, ◌*◌, ◌<◌, ◌≤◌, ◌==◌, ◌&&◌, ◌||◌, Bool, true, false, List, [], ◌∷◌, ◌++◌, drop, replicate, Option, Some, None, refl, sym, ap, subst, ◌⊎◌, inl, inr, arith}
 use Rattle.std.specs.Prelude.{codes, cond, if◌then◌else◌, nat_le, nat_lt}
 use Rattle.std.specs.List.{prefix_len}
 use Rattle.std.specs.Str.{bytes_eq}
@@ -9,6 +9,7 @@ use Rattle.std.proofs.lemmas.Slice.Eq.{bytes_eq-Decides}
 use Rattle.durations.specs.Pitch.{is_black, pitch}
 use Rattle.kern_reader.specs.Tokens.{◌>>=◌, altered, is_lower_case, is_upper, pitch_key, key_of_letters, octave_of, white_key, within_keys}
 use Rattle.kern_laws.specs.Laws.{OnlyPitchesAreRead}
+use Rattle.rhythm_base.proofs.NumbersBelow.{one_below, all_below}
 
 -- ---- a letter so often, and an accidental: all that can be read
 
@@ -18,19 +19,6 @@ is_pitch text (Some k) = bytes_eq text (pitch false k) || bytes_eq text (pitch t
 
 abbrev is_only : ℕ → List ℕ → ℕ → Bool
 is_only letter accidental count = is_pitch (replicate count letter ++ accidental) (key_of_letters letter count accidental)
-
--- the first n numbers pass
-abbrev all_below : (ℕ → Bool) → ℕ → Bool
-all_below test zero = true
-all_below test (suc n) = test n && all_below test n
-
-one_below : (test : ℕ → Bool) (n k : ℕ) → all_below test n ≡ true → k < n → test k ≡ true
-one_below test zero k all within = absurd (omega (arith, within))
-one_below test (suc n) k all within = at (k == n) refl (and_parts (test n) (all_below test n) all) (one_below test n k)
-  where
-    at : (b : Bool) → (k == n) ≡ b → (test n ≡ true) × (all_below test n ≡ true) → (all_below test n ≡ true → k < n → test k ≡ true) → test k ≡ true
-    at true e parts rest = let same : n ≡ k = grind (arith, nat_tests) in subst (λ j. test j ≡ true) same parts.0
-    at false e parts rest = let less : k < n = grind (arith, nat_tests) in rest parts.1 less
 
 -- each of the seven letters from the first on, once or more and at most so often
 abbrev all_only : ℕ → ℕ → List ℕ → Bool

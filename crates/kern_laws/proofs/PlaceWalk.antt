@@ -5,7 +5,7 @@ use Rattle.std.specs.List.{flat_map}
 use Rattle.std.specs.List.Sorted.{IsStrictlyIncreasing}
 use Rattle.std.proofs.lemmas.Bool.Decides.{nat_tests}
 use Rattle.rhythm_base.specs.Lists.{Each}
-use Rattle.kern_writer.proofs.RisingPlaces.{contains_cases, contains_here, contains_none, contains_there, rising_above, rising_tail}
+use Rattle.kern_writer.proofs.RisingPlaces.{contains_cases, contains_here, contains_none, contains_there, rising_above}
 use Rattle.kern_reader.specs.declared.token.TimeSignature.{TimeSignature}
 use Rattle.kern_reader.specs.declared.token.Token.{Token}
 use Rattle.kern_reader.specs.Columns.{columns_of, open_keys, place, waiting}
@@ -16,6 +16,7 @@ use Rattle.kern_laws.proofs.LineWalk.{Walk, walk_append}
 use Rattle.kern_laws.proofs.PlaceLines.{place_walk, saids_of}
 use Rattle.kern_laws.proofs.PlaceParts.{Ahead, Fits, Frame, IsAt, Part, clean, next_place, open_after, part_after, saids_after, spelled}
 use Rattle.kern_laws.proofs.PlaceSteps.{AtPlace, here, later, at_place, said_within}
+use Rattle.rhythm_base.proofs.OrderedLists.{rise_later}
 
 -- ---- the lines at a place depend on what is said there alone
 
@@ -191,7 +192,7 @@ module _ (n : ℕ) (f : Frame) (Later : Ahead) (signature : TimeSignature) (some
       let (mid, walk, inside_mid, each_mid) = place_walk n f Later signature some few often x within parts before inside each low (one_here x parts (columns_of before) each low one) in
       let above : (z : ℕ) → Contains places z → x < z = λ z has. rising_above x z places still.rise has in
       let next : AreStill (map (part_after x) parts) places = record {
-        rise = rising_tail x places still.rise;
+        rise = rise_later x places still.rise;
         all = all_after x places parts (columns_of before) within each low still.all;
         one = λ z has. one_after x z parts (above z has) (still.one z (contains_there x z places has));
       } in

@@ -12,10 +12,11 @@ use Rattle.derivation.specs.Score.{IsScoreBar}
 use Rattle.kern_writer.specs.Tokens.{Token}
 use Rattle.kern_laws.specs.ScoreLines.{AreBarLines, AreBarsLines, Barline, KernLine, Other, Said, Signature, change_lines, lines_at, said_in_bar}
 use Rattle.kern_laws.proofs.RecordsLines.{SaysInside}
-use Rattle.kern_laws.proofs.RecordsPairs.{each_append, each_flat, each_map, each_slot}
+use Rattle.kern_laws.proofs.RecordsPairs.{each_flat, each_map, each_slot}
 use Rattle.kern_laws.proofs.RecordsPlaces.{BarSays, place_says, same_places}
 use Rattle.kern_laws.proofs.RecordsVoices.{SaysSame, VoicesSay}
 use Rattle.kern_laws.proofs.WordsSay.{barline_says, key_says, signature_says, tempo_says}
+use Rattle.rhythm_base.proofs.PairedLists.{each_append}
 
 -- ---- changes
 

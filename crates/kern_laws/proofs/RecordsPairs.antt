@@ -1,14 +1,9 @@
 -- Two lists of which each goes with each.
-use Rattle.std.proofs.Common.{ℕ, zero, suc, ◌<◌, List, [], ◌∷◌, ◌++◌, length, get_or, map, refl, sym, subst, arith}
+use Rattle.std.proofs.Common.{ℕ, zero, suc, ◌<◌, List, [], ◌∷◌, length, get_or, map, refl, sym, subst, arith}
 use Rattle.std.specs.Prelude.{Contains}
 use Rattle.std.specs.List.{flat_map}
 use Rattle.rhythm_base.specs.Lists.{Each}
-
-pub each_append : {X Y : Type 0} (R : X → Y → Type 0) (xs us : List X) (ys vs : List Y) → Each R xs ys → Each R us vs → Each R (xs ++ us) (ys ++ vs)
-each_append R [] us [] vs h k = k
-each_append R [] us (y ∷ ys) vs h k = cc
-each_append R (x ∷ xs) us [] vs h k = absurd h
-each_append R (x ∷ xs) us (y ∷ ys) vs h k = (h.0, each_append R xs us ys vs h.1 k)
+use Rattle.rhythm_base.proofs.PairedLists.{each_append}
 
 pub each_map : {X Y U V : Type 0} (R : X → Y → Type 0) (Q : U → V → Type 0) (f : X → U) (g : Y → V) (xs : List X) (ys : List Y)
     → ((x : X) (y : Y) → R x y → Q (f x) (g y))

@@ -10,9 +10,10 @@ use Rattle.derivation.proofs.Pairs.{each_length}
 use Rattle.kern_reader.specs.declared.token.Token.TheVariants as reads
 use Rattle.kern_laws.specs.ScoreLines.{AreSaidPlaces, Said, grace_line, grace_lines, grace_lines_at, grace_or_null, graces_or_none, lines_at, main_line, main_or_null, said_at}
 use Rattle.kern_laws.proofs.RecordsLines.{SaysInside, data_says}
-use Rattle.kern_laws.proofs.RecordsPairs.{each_append, each_at, each_map, each_turned, partner}
+use Rattle.kern_laws.proofs.RecordsPairs.{each_at, each_map, each_turned, partner}
 use Rattle.kern_laws.proofs.RecordsVoices.{SaysGrace, SaysSame}
 use Rattle.kern_laws.proofs.TokenTexts.{SaysToken, null_said}
+use Rattle.rhythm_base.proofs.PairedLists.{each_append}
 
 -- ---- the token of a voice at a place, and what the voice says there
 

@@ -13,10 +13,10 @@ use Rattle.derivation.proofs.Pairs.{each_length}
 use Rattle.kern_laws.specs.ScoreLines.{AreScoreLines, ending_line, Heading, KernLine, LastBarline, voice_said}
 use Rattle.kern_laws.proofs.RecordsBars.{bars_say}
 use Rattle.kern_laws.proofs.RecordsLines.{SaysInside, SaysLine}
-use Rattle.kern_laws.proofs.RecordsPairs.{each_append}
 use Rattle.kern_laws.proofs.RecordsVoices.{voices_say}
 use Rattle.kern_laws.proofs.TextSplits.{in_line}
 use Rattle.kern_laws.proofs.WordsSay.{end_says, head_says, last_says}
+use Rattle.rhythm_base.proofs.PairedLists.{each_append}
 
 -- the records of a score are those of its bars with the head and the tail, and what they say is what the bars say with the rest
 pub record SayScore (m : ℕ) (s : Score) (records : List Record) : Type 0 where

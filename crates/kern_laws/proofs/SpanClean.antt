@@ -19,11 +19,12 @@ use Rattle.kern_reader.specs.declared.token.Writing.{Writing}
 use Rattle.kern_reader.specs.Columns.{continues, place, spine_after, spine_at, token_values, waiting}
 use Rattle.kern_reader.specs.Events.{Beginning, bar_start, bars, beginnings, holds_tie, token_place, tied_values, token_bars}
 use Rattle.kern_reader.specs.Score.{Counts, IsColumnOn, IsTokenOn}
-use Rattle.kern_reader.proofs.SpineLemmas.{IsOn, spine_next, spine_scaled, take_while-goes, take_while-stops, values_on, waiting_chord, waiting_grace, waiting_null, waiting_rest}
+use Rattle.kern_reader.proofs.SpineLemmas.{IsOn, spine_next, spine_scaled, take_while-stops, values_on, waiting_chord, waiting_grace, waiting_null, waiting_rest}
 use Rattle.kern_reader.proofs.GridLemmas.{counted}
 use Rattle.kern_laws.proofs.GridParts.{width_finer}
 use Rattle.kern_laws.proofs.PlaceParts.{clean}
 use Rattle.kern_laws.proofs.SpanMatch.{IsMatch}
+use Rattle.kern_reader.proofs.EventLemmas.{tied_next}
 
 -- ---- without dots
 
@@ -58,23 +59,19 @@ bars_clean (token.Chord writing keys ∷ column) = bars_clean column
 place_clean : (grid : ℕ) (before : List Token) → token_place grid (clean before) ≡ token_place grid before
 place_clean grid before = ap₂ (λ xs s. grid * sum (drop 1 xs) + 64 * s.place) (bars_clean before) (spine_clean grid before)
 
--- the values that continue a tie, one token more
-pub tied_goes : (t : Token) (ts : List Token) → holds_tie t ≡ true → tied_values (t ∷ ts) ≡ token_values t ++ tied_values ts
-tied_goes t ts holds = ap (flat_map token_values) (take_while-goes holds_tie t ts holds)
-
 pub tied_stops : (t : Token) (ts : List Token) → holds_tie t ≡ false → tied_values (t ∷ ts) ≡ []
 tied_stops t ts holds = ap (flat_map token_values) (take_while-stops holds_tie t ts holds)
 
 tied_clean : (ts : List Token) → tied_values (clean ts) ≡ tied_values ts
 tied_clean [] = refl
-tied_clean (token.Bar signature ∷ ts) = tied_goes (token.Bar signature) (clean ts) refl ∙ tied_clean ts ∙ sym (tied_goes (token.Bar signature) ts refl)
-tied_clean (token.Null ∷ ts) = tied_clean ts ∙ sym (tied_goes token.Null ts refl)
+tied_clean (token.Bar signature ∷ ts) = tied_next (token.Bar signature) (clean ts) refl ∙ tied_clean ts ∙ sym (tied_next (token.Bar signature) ts refl)
+tied_clean (token.Null ∷ ts) = tied_clean ts ∙ sym (tied_next token.Null ts refl)
 tied_clean (token.Rest value ∷ ts) = tied_stops (token.Rest value) (clean ts) refl ∙ sym (tied_stops (token.Rest value) ts refl)
-tied_clean (token.Grace keys ∷ ts) = tied_goes (token.Grace keys) (clean ts) refl ∙ tied_clean ts ∙ sym (tied_goes (token.Grace keys) ts refl)
+tied_clean (token.Grace keys ∷ ts) = tied_next (token.Grace keys) (clean ts) refl ∙ tied_clean ts ∙ sym (tied_next (token.Grace keys) ts refl)
 tied_clean (token.Chord writing keys ∷ ts) = go (continues writing) refl (tied_clean ts)
   where
     go : (b : Bool) → continues writing ≡ b → tied_values (clean ts) ≡ tied_values ts → tied_values (token.Chord writing keys ∷ clean ts) ≡ tied_values (token.Chord writing keys ∷ ts)
-    go true e rest = tied_goes (token.Chord writing keys) (clean ts) e ∙ ap (λ xs. writing.value ∷ xs) rest ∙ sym (tied_goes (token.Chord writing keys) ts e)
+    go true e rest = tied_next (token.Chord writing keys) (clean ts) e ∙ ap (λ xs. writing.value ∷ xs) rest ∙ sym (tied_next (token.Chord writing keys) ts e)
     go false e rest = tied_stops (token.Chord writing keys) (clean ts) e ∙ sym (tied_stops (token.Chord writing keys) ts e)
 
 -- ---- on a finer grid

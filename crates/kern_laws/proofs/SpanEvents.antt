@@ -1,7 +1,6 @@
 -- The events of a score that is written are the spans of its voices.
 use Rattle.std.proofs.Common.{◌≡◌, ℕ, suc, ◌+◌, ◌*◌, ◌≤◌, List, [], ◌∷◌, length, map, sym, ap, ◌∙◌, subst, arith, append-nil}
 use Rattle.kern_laws.proofs.GridParts.{finer_times}
-use Rattle.kern_reader.proofs.TextLemmas.{All_reverse}
 use Rattle.std.specs.Prelude.{◌↔◌, All, reverse, slice_index_or}
 use Rattle.std.proofs.lemmas.List.Elements.{All-head, All-nil, All-tail}
 use Rattle.rhythm_base.specs.declared.note.Bar.{Bar}
@@ -29,6 +28,7 @@ use Rattle.kern_laws.proofs.SpanClean.{each_original}
 use Rattle.kern_laws.proofs.SpanMatch.{IsMatch, kern_spans, sound_spans}
 use Rattle.kern_laws.proofs.SpanTokens.{bars_read, clean_reversed, voice_read}
 use Rattle.kern_laws.proofs.SpanVoices.{AreUnits, units_are, voice_matches}
+use Rattle.rhythm_base.proofs.ListParts.{all_reversed}
 
 module _ (r : ℕ) (sbars : List ScoreBar) (bars : List Bar) (some : 1 ≤ r) (few : 64 * r ≤ 61440) (right : All IsScoreBar sbars) (units : AreUnits bars 0 sbars)
     (g t : ℕ) (fine : 1 ≤ g) (positive : 1 ≤ t) (finer : g * t ≡ 64 * r) where
@@ -42,7 +42,7 @@ module _ (r : ℕ) (sbars : List ScoreBar) (bars : List Bar) (some : 1 ≤ r) (f
       let here : Each (IsMatch (g * t) r bars) (beginnings [] (clean (reverse column))) (chord_runs sounds) =
       subst (λ k. Each (IsMatch k r bars) (beginnings [] (clean (reverse column))) (chord_runs sounds)) (sym finer)
       (subst (λ ts. Each (IsMatch (64 * r) r bars) (beginnings [] ts) (chord_runs sounds)) (sym read) matches) in
-      each_original g t positive r bars [] (reverse column) (chord_runs sounds) (All-nil (IsTokenOn g)) (All_reverse (IsTokenOn g) column on) here
+      each_original g t positive r bars [] (reverse column) (chord_runs sounds) (All-nil (IsTokenOn g)) (all_reversed (IsTokenOn g) column on) here
 
   -- all columns
   events_voices : (spine : ℕ) (voices : List (List Sound)) (values : List (List (List VoiceValue))) (columns : List (List Token)) (events : List KernEvent)

@@ -1,6 +1,5 @@
 -- The chords that begin in a column are the runs of the sounds.
 use Rattle.std.proofs.Common.{◌≡◌, ℕ, zero, suc, ◌+◌, ◌*◌, ◌/◌, ◌≤◌, Bool, true, false, not, ◌&&◌, ◌||◌, List, [], ◌∷◌, ◌++◌, drop, take, refl, sym, ap, ap₂, ◌∙◌, subst, arith, append_assoc, append-nil}
-use Rattle.kern_laws.proofs.TieValues.{tie_sounds}
 use Rattle.std.specs.Prelude.{All, if◌then◌else◌, reverse, sum, sum_by}
 use Rattle.std.proofs.lemmas.Bool.{false≢true}
 use Rattle.std.proofs.lemmas.List.{reverse-reverse}
@@ -30,10 +29,12 @@ use Rattle.kern_laws.proofs.BarFits.{valued_said, value_finer, width_said}
 use Rattle.kern_laws.proofs.BarSounded.{AreGroup, AreSounded, IsValue, leaf_values, sound_len, sound_lens}
 use Rattle.kern_laws.proofs.BarVoice.{StandOwn}
 use Rattle.kern_laws.proofs.PlaceParts.{graced}
-use Rattle.kern_laws.proofs.SpanClean.{tied_goes, tied_stops}
+use Rattle.kern_laws.proofs.SpanClean.{tied_stops}
 use Rattle.kern_laws.proofs.SpanMatch.{IsMatch}
 use Rattle.kern_laws.proofs.SpanTokens.{IsReached, graces_bars, graces_begin, graces_place, graces_read, graces_tied, graces_wait, value_reached, values_read}
 use Rattle.kern_laws.proofs.SpanValues.{first_begins, leaf_read, leaf_tied, leaf_value, value_holds, values_one}
+use Rattle.derivation.proofs.WellSounding.{tie_begins_none, tie_no_rest}
+use Rattle.kern_reader.proofs.EventLemmas.{tied_next}
 
 -- how long the ties are that stand first
 abbrev pub tied_length : List Bar → List Sound → ℕ
@@ -62,12 +63,6 @@ chord_sounds Begin e = refl
 chord_sounds Short e = refl
 chord_sounds Tie e = refl
 chord_sounds Rest e = absurd (false≢true e)
-
-tie_begins : (k : SoundKind) → is_tie k ≡ true → begins_chord k ≡ false
-tie_begins Begin e = absurd (false≢true e)
-tie_begins Short e = absurd (false≢true e)
-tie_begins Tie e = refl
-tie_begins Rest e = absurd (false≢true e)
 
 -- ---- one bar
 
@@ -168,9 +163,9 @@ module _ (r : ℕ) (all : List Bar) (n : ℕ) (bar : ScoreBar) (some : 1 ≤ r) 
           let flag = first_goes place s v values rest later in
           let t = value_token (leaf_value place s true v) flag in
           let ts = rest_read place s v values rest later more in
-          let leaf = leaf_tied (64 * r) (64 / bar.den) all n (r * bar.den) s rest later more (place + width (r * bar.den) v) values (tie_sounds s.kind e)
+          let leaf = leaf_tied (64 * r) (64 / bar.den) all n (r * bar.den) s rest later more (place + width (r * bar.den) v) values (tie_no_rest s.kind e)
           (All-tail IsFiner v values (finer_all (v ∷ values) group.each)) in
-          let first = ap (sum_by (width (64 * r))) (tied_goes t ts (value_holds place s v flag true ∙ tie_goes s.kind e) ∙ ap (λ us. us ++ tied_values ts) (values_one place s v flag true)) ∙ sum_by-cons (width (64 * r)) v (tied_values ts) in
+          let first = ap (sum_by (width (64 * r))) (tied_next t ts (value_holds place s v flag true ∙ tie_goes s.kind e) ∙ ap (λ us. us ++ tied_values ts) (values_one place s v flag true)) ∙ sum_by-cons (width (64 * r)) v (tied_values ts) in
           let long = group_long s (sound_lens bar.num (take d own)) v values group in
           let own_long = sound_long s in_bar in
           let all_long = length_tie all s (own ++ after) e in
@@ -229,7 +224,7 @@ module _ (r : ℕ) (all : List Bar) (n : ℕ) (bar : ScoreBar) (some : 1 ≤ r) 
       let along : at + sound_lens bar.num (take (suc joined) (s ∷ own)) ≡ at + sound_len bar.num s + sound_lens bar.num (take joined own) = omega (arith, sum_by-cons (sound_len bar.num) s (take joined own)) in
       let there_next : at + sound_len bar.num s ≡ (p + s.width) * bar.num = ap (λ x. x + s.width * bar.num) there ∙ joined_up p s.width bar.num in
       let rest = match_bar joined (at + sound_len bar.num s) (p + s.width) own after vs later more before stand there_next sounded ends next (subst (λ x. Reached x before) along reached) in
-      subst (λ b. AreMatches (beginnings before (values_read vs later ++ more)) (if b then (s, ties_of (own ++ after)) ∷ chord_runs (own ++ after) else chord_runs (own ++ after))) (sym (tie_begins s.kind tie)) rest
+      subst (λ b. AreMatches (beginnings before (values_read vs later ++ more)) (if b then (s, ties_of (own ++ after)) ∷ chord_runs (own ++ after) else chord_runs (own ++ after))) (sym (tie_begins_none s.kind tie)) rest
   match_bar zero at p (s ∷ own) after vs later more before (in_bar, place_is, wide, stand) there (d, v, values, rest, group, ties, same, sounded) ends next reached =
       let flag = first_goes at s v values rest later in
       let x = leaf_value at s true v in

@@ -3,7 +3,6 @@ use Rattle.std.proofs.Common.{◌≡◌, ℕ, suc, ◌+◌, ◌*◌, Bool, true,
 use Rattle.std.specs.Prelude.{cond, reverse, slice_index_or, sum, sum_by}
 use Rattle.std.specs.List.{flat_map}
 use Rattle.std.proofs.lemmas.Bool.{false≢true}
-use Rattle.std.proofs.lemmas.List.{reverse-append}
 use Rattle.std.proofs.lemmas.List.Elements.{filter-append}
 use Rattle.rhythm_base.specs.declared.note.Bar.{Bar}
 use Rattle.rhythm_base.specs.declared.sound.Sound.{Sound}
@@ -22,7 +21,8 @@ use Rattle.kern_laws.proofs.BarLines.{said_in, signature_of_bar, spelled_bars}
 use Rattle.kern_laws.proofs.BarVoice.{AreVoice}
 use Rattle.kern_laws.proofs.PlaceParts.{clean, graced, spelled, token_width}
 use Rattle.kern_laws.proofs.PlaceSteps.{place_grace, place_value, waiting_value}
-use Rattle.kern_laws.proofs.SpanClean.{tied_goes}
+use Rattle.rhythm_base.proofs.ListParts.{reverse_cons}
+use Rattle.kern_reader.proofs.EventLemmas.{tied_next}
 
 abbrev pub graces_read : List ℕ → List Token
 graces_read graces = map (λ keys. token.Grace keys) graces
@@ -37,9 +37,6 @@ voice_read (bar ∷ bars) [] = []
 voice_read (bar ∷ bars) (vs ∷ vss) = token.Bar (signature_of_bar bar) ∷ (values_read vs (flat_map (λ vs. vs) vss) ++ voice_read bars vss)
 
 -- ---- what is spelled, the other way round
-
-reverse_cons : {X : Type 0} (x : X) (xs : List X) → reverse (x ∷ xs) ≡ reverse xs ++ x ∷ []
-reverse_cons x xs = reverse-append (x ∷ []) xs
 
 graced_read : (graces : List ℕ) (before : List Token) → reverse (graced graces before) ≡ reverse before ++ graces_read graces
 graced_read [] before = sym (append-nil (reverse before))
@@ -99,7 +96,7 @@ graces_wait (keys ∷ graces) before =
 
 pub graces_tied : (graces : List ℕ) (ts : List Token) → tied_values (graces_read graces ++ ts) ≡ tied_values ts
 graces_tied [] ts = refl
-graces_tied (keys ∷ graces) ts = tied_goes (token.Grace keys) (graces_read graces ++ ts) refl ∙ graces_tied graces ts
+graces_tied (keys ∷ graces) ts = tied_next (token.Grace keys) (graces_read graces ++ ts) refl ∙ graces_tied graces ts
 
 -- ---- values
 

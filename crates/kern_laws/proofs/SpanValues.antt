@@ -19,8 +19,8 @@ use Rattle.kern_reader.specs.Events.{beginning, beginnings, holds_tie, tied_valu
 use Rattle.kern_laws.specs.ScoreLines.{tie_mark, value_token, writing_of}
 use Rattle.kern_laws.proofs.BarFits.{valued_said, width_said}
 use Rattle.kern_laws.proofs.BarSounded.{leaf_values}
-use Rattle.kern_laws.proofs.SpanClean.{tied_goes}
 use Rattle.kern_laws.proofs.SpanTokens.{IsReached, value_reached, values_read}
+use Rattle.kern_reader.proofs.EventLemmas.{tied_next}
 
 -- the first value of a leaf, and another one
 abbrev pub leaf_value : ℕ → Sound → Bool → Value → VoiceValue
@@ -147,7 +147,7 @@ module _ (grid times : ℕ) (all : List Bar) (n whole : ℕ) (s : Sound) (rest l
       let goes : goes_on x ≡ true = rw sounds (or_true (is_tie s.kind)) in
       let own = All-head (λ w. width grid w ≡ times * width whole w) v vs finer in
       let others = leaf_tied (place + width whole v) vs sounds (All-tail (λ w. width grid w ≡ times * width whole w) v vs finer) in
-      ap (sum_by (width grid)) (tied_goes t ts (value_holds place s v next false ∙ goes) ∙ ap (λ us. us ++ tied_values ts) (values_one place s v next false))
+      ap (sum_by (width grid)) (tied_next t ts (value_holds place s v next false ∙ goes) ∙ ap (λ us. us ++ tied_values ts) (values_one place s v next false))
       ∙ sum_by-cons (width grid) v (tied_values ts) ∙ ap₂ ◌+◌ own others ∙ joined times (width whole v) (sum_by (width whole) vs) (sum_by (width grid) (tied_values (values_read rest later ++ more)))
       ∙ ap (λ k. times * k + sum_by (width grid) (tied_values (values_read rest later ++ more))) (sym (sum_by-cons (width whole) v vs))
     where

@@ -23,10 +23,10 @@ use Rattle.kern_reader.proofs.SpineLemmas.{spine_next}
 use Rattle.kern_laws.specs.ReadBack.{HaveSignatures}
 use Rattle.kern_laws.proofs.BarLines.{signature_of_bar}
 use Rattle.kern_laws.proofs.BarVoice.{AreVoice}
-use Rattle.kern_laws.proofs.SpanClean.{tied_goes}
 use Rattle.kern_laws.proofs.SpanMatch.{IsMatch}
 use Rattle.kern_laws.proofs.SpanRuns.{match_bar, tied_bar, tied_length}
 use Rattle.kern_laws.proofs.SpanTokens.{IsReached, values_read, voice_read}
+use Rattle.kern_reader.proofs.EventLemmas.{tied_next}
 
 -- ---- the parts of the units of bars
 
@@ -70,7 +70,7 @@ module _ (r : ℕ) (all : List Bar) (some : 1 ≤ r) (few : 64 * r ≤ 61440) wh
       let more = voice_read sbars vss in
       let others = tied_voice (suc n) sbars after vss (All-tail IsScoreBar bar sbars right) units rest in
       let here = tied_bar r all n bar some few (All-head IsScoreBar bar sbars right) unit 0 0 0 own after vs later more is.stand is.sounded others in
-      ap (sum_by (width (64 * r))) (tied_goes (token.Bar (signature_of_bar bar)) (values_read vs later ++ more) refl)
+      ap (sum_by (width (64 * r))) (tied_next (token.Bar (signature_of_bar bar)) (values_read vs later ++ more) refl)
       ∙ (omega (arith, here)) ∙ ap (tied_length all) (sym whole)
 
   match_voice : (n : ℕ) (sbars : List ScoreBar) (sounds : List Sound) (vss : List (List VoiceValue)) (before : List Token) → All IsScoreBar sbars → AreUnits all n sbars → AreVoice r n sbars sounds vss

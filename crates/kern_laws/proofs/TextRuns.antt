@@ -1,7 +1,8 @@
 -- The run of bytes of one kind with which a text begins.
-use Rattle.std.proofs.Common.{◌≡◌, ℕ, Bool, true, List, [], ◌∷◌, ◌++◌, length, take, drop, refl, ap, ◌∙◌, arith}
+use Rattle.std.proofs.Common.{◌≡◌, ℕ, Bool, true, List, [], ◌∷◌, ◌++◌, length, take, drop, ap, ◌∙◌, arith}
 use Rattle.std.specs.List.{list_all, prefix_len, take_while}
 use Rattle.std.proofs.lemmas.Bool.{and_parts}
+use Rattle.rhythm_base.proofs.ListParts.{front, back}
 
 -- it ends where bytes of another kind begin
 pub run_ends : (p : ℕ → Bool) (xs ys : List ℕ) → list_all p xs ≡ true → prefix_len p ys ≡ 0 → prefix_len p (xs ++ ys) ≡ length xs
@@ -11,16 +12,8 @@ run_ends p (x ∷ xs) ys all none =
     let rest = run_ends p xs ys parts.1 none in
     rw (parts.0, rest) (omega arith)
 
-taken : (xs ys : List ℕ) → take (length xs) (xs ++ ys) ≡ xs
-taken [] ys = refl
-taken (x ∷ xs) ys = ap (λ zs. x ∷ zs) (taken xs ys)
-
-dropped : (xs ys : List ℕ) → drop (length xs) (xs ++ ys) ≡ ys
-dropped [] ys = refl
-dropped (x ∷ xs) ys = dropped xs ys
-
 pub run_taken : (p : ℕ → Bool) (xs ys : List ℕ) → list_all p xs ≡ true → prefix_len p ys ≡ 0 → take_while p (xs ++ ys) ≡ xs
-run_taken p xs ys all none = ap (λ n. take n (xs ++ ys)) (run_ends p xs ys all none) ∙ taken xs ys
+run_taken p xs ys all none = ap (λ n. take n (xs ++ ys)) (run_ends p xs ys all none) ∙ front xs ys
 
 pub run_dropped : (p : ℕ → Bool) (xs ys : List ℕ) → list_all p xs ≡ true → prefix_len p ys ≡ 0 → drop (prefix_len p (xs ++ ys)) (xs ++ ys) ≡ ys
-run_dropped p xs ys all none = ap (λ n. drop n (xs ++ ys)) (run_ends p xs ys all none) ∙ dropped xs ys
+run_dropped p xs ys all none = ap (λ n. drop n (xs ++ ys)) (run_ends p xs ys all none) ∙ back xs ys

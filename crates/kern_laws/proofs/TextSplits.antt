@@ -1,5 +1,5 @@
 -- Texts that are joined, and cut again where they were joined.
-use Rattle.std.proofs.Common.{◌≡◌, ℕ, ◌==◌, ◌≤◌, Bool, true, false, not, List, [], ◌∷◌, ◌++◌, length, map, refl, sym, ap, ◌∙◌, append_assoc, arith}
+use Rattle.std.proofs.Common.{◌≡◌, ℕ, ◌==◌, Bool, true, false, not, List, [], ◌∷◌, ◌++◌, map, refl, sym, ap, ◌∙◌, append_assoc, arith}
 use Rattle.std.specs.List.{join_with_byte, list_all, onto_first, slice_split}
 use Rattle.std.proofs.lemmas.Bool.{and_parts}
 use Rattle.std.proofs.lemmas.Bool.Decides.{nat_tests}
@@ -8,6 +8,7 @@ use Rattle.kern_writer.specs.Records.{Record}
 use Rattle.kern_writer.specs.Text.{records_text}
 use Rattle.kern_reader.specs.Text.{kern_lines, lines_of_pieces}
 use Rattle.kern_laws.proofs.TextTests.{lacks}
+use Rattle.kern_reader.proofs.LineLemmas.{lines_among_more}
 
 pub false_of_not : (b : Bool) → not b ≡ true → b ≡ false
 false_of_not true e = sym e
@@ -40,12 +41,6 @@ split_joined byte first (next ∷ rest) h =
 
 -- ---- lines
 
-lines_more : (line : List ℕ) (pieces : List (List ℕ)) → 1 ≤ length pieces → lines_of_pieces (line ∷ pieces) ≡ line ∷ lines_of_pieces pieces
-lines_more [] [] some = absurd (omega (arith, some))
-lines_more (b ∷ line) [] some = absurd (omega (arith, some))
-lines_more [] (next ∷ more) some = refl
-lines_more (b ∷ line) (next ∷ more) some = refl
-
 -- a record is in one line
 abbrev pub in_line : Record → Bool
 in_line record_columns = lacks 10 (join_with_byte 9 record_columns)
@@ -57,5 +52,5 @@ lines_of_records (r ∷ records) h =
     let parts = and_parts (in_line r) (list_all in_line records) h in
     let rest = records_text records in
     ap kern_lines (append_assoc (join_with_byte 9 r) (10 ∷ []) rest) ∙ ap lines_of_pieces (split_first 10 (join_with_byte 9 r) rest parts.0)
-    ∙ lines_more (join_with_byte 9 r) (slice_split (λ b. b == 10) rest) (omega (arith, length-slice_split (λ b. b == 10) rest))
+    ∙ lines_among_more (join_with_byte 9 r) (slice_split (λ b. b == 10) rest) (omega (arith, length-slice_split (λ b. b == 10) rest))
     ∙ ap (λ lines. join_with_byte 9 r ∷ lines) (lines_of_records records parts.1)

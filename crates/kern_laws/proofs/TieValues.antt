@@ -16,6 +16,7 @@ use Rattle.kern_writer.specs.Tokens.{goes_on}
 use Rattle.kern_writer.specs.Values.{VoiceValue}
 use Rattle.kern_laws.proofs.BarSounded.{AreSounded, leaf_values, sound_len}
 use Rattle.kern_laws.proofs.BarVoice.{AreVoice}
+use Rattle.derivation.proofs.WellSounding.{tie_no_rest}
 
 -- the sound of the value before, and that of one that goes on
 abbrev pub Links : Option Sound → Sound → Type 0
@@ -31,12 +32,6 @@ abbrev pub Alike : Option Sound → Option Sound → Type 0
 Alike None before = ⊤
 Alike (Some last) None = ⊥
 Alike (Some last) (Some before) = (is_rest before.kind ≡ is_rest last.kind) × (before.keys ≡ last.keys)
-
-pub tie_sounds : (k : SoundKind) → is_tie k ≡ true → is_rest k ≡ false
-tie_sounds Begin e = refl
-tie_sounds Short e = refl
-tie_sounds Tie e = refl
-tie_sounds Rest e = absurd (false≢true e)
 
 first_goes : (k : SoundKind) → (not (is_rest k) && (is_tie k || not true)) ≡ true → is_tie k ≡ true
 first_goes Begin e = absurd (false≢true e)
@@ -58,7 +53,7 @@ links_alike (Some last) (Some before) s (rest, keys) (sounds, long, same) = (res
 alike_next : (last before : Option Sound) (s : Sound) → Alike last before → is_tie s.kind ≡ true → sounded.GoesOn last s → Alike (Some s) before
 alike_next None before s alike tie goes = absurd goes
 alike_next (Some last) None s alike tie goes = absurd alike
-alike_next (Some last) (Some before) s (rest, keys) tie (sounds, long, same) = (rest ∙ sounds ∙ sym (tie_sounds s.kind tie), keys ∙ same)
+alike_next (Some last) (Some before) s (rest, keys) tie (sounds, long, same) = (rest ∙ sounds ∙ sym (tie_no_rest s.kind tie), keys ∙ same)
 
 -- the values of a leaf after its first one
 leaf_linked : (whole place : ℕ) (s : Sound) (vs : List Value) (more : List VoiceValue) → Linked (Some s) more → Linked (Some s) (leaf_values whole place s false vs ++ more)

@@ -1,6 +1,6 @@
 -- The text of each value is read as the value.
 use Rattle.std.proofs.Common.{◌≡◌, ℕ, zero, suc, ◌^◌, ◌<◌, ◌≤◌, ◌==◌, true, false, List, [], ◌∷◌, ◌++◌, take, drop, length, get_or, replicate, Some, None, refl, ap, ◌∙◌, arith}
-use Rattle.std.specs.Prelude.{nat_le, codes, decimal, if◌then◌else◌}
+use Rattle.std.specs.Prelude.{codes, decimal, if◌then◌else◌}
 use Rattle.std.specs.Char.{is_ascii_digit}
 use Rattle.std.specs.List.{list_all, prefix_len}
 use Rattle.std.specs.Option.{option_map}
@@ -13,8 +13,10 @@ use Rattle.durations.specs.declared.value.Recip.{Recip}
 use Rattle.durations.specs.declared.value.Recip.TheVariants.{Of, Breve, Long}
 use Rattle.durations.specs.Value.{plain_grid}
 use Rattle.kern_writer.specs.Tokens.{recip_text}
-use Rattle.kern_reader.specs.Tokens.{are_dots, digits_part, dots_part, is_plain, number_of, recip_of, value_of}
+use Rattle.kern_reader.specs.Tokens.{are_dots, digits_part, dots_part, number_of, recip_of, value_of}
 use Rattle.kern_laws.specs.Laws.{ValuesReadBack}
+use Rattle.rhythm_base.proofs.ListParts.{front as taken, back as dropped}
+use Rattle.kern_laws.proofs.TextNumbers.{plain_digits}
 
 abbrev dotted : ℕ → List ℕ
 dotted d = replicate d 46
@@ -26,14 +28,6 @@ digits_end (x ∷ xs) ys all none =
     let parts = and_parts (is_ascii_digit x) (list_all is_ascii_digit xs) all in
     let rest = digits_end xs ys parts.1 none in
     rw (parts.0, rest) (omega arith)
-
-taken : (xs ys : List ℕ) → take (length xs) (xs ++ ys) ≡ xs
-taken [] ys = refl
-taken (x ∷ xs) ys = ap (λ zs. x ∷ zs) (taken xs ys)
-
-dropped : (xs ys : List ℕ) → drop (length xs) (xs ++ ys) ≡ ys
-dropped [] ys = refl
-dropped (x ∷ xs) ys = dropped xs ys
 
 no_digit : (d : ℕ) → prefix_len is_ascii_digit (dotted d) ≡ 0
 no_digit zero = refl
@@ -57,19 +51,6 @@ split_value text d recip all two is =
     ∙ ap (λ xs. if are_dots (dotted d) then option_map (λ r. record { recip = r; dots = length (dotted d) }) (recip_of xs) else None) front
     ∙ rw (dots, is, count) refl
 
--- a number that is written has no leading zero
-plain_of : (ds : List ℕ) → list_all is_ascii_digit ds ≡ true → 0 < length ds → 48 < get_or ds 0 0 → is_plain ds ≡ true
-plain_of [] all some first = absurd (omega (arith, some))
-plain_of (d ∷ ds) all some first =
-    let parts = and_parts (is_ascii_digit d) (list_all is_ascii_digit ds) all in
-    low d ds first parts.0 parts.1
-  where
-    low : (d : ℕ) (ds : List ℕ) → 48 < d → is_ascii_digit d ≡ true → list_all is_ascii_digit ds ≡ true → is_plain (d ∷ ds) ≡ true
-    low d ds first digit rest =
-        let high : nat_le d 57 ≡ true = grind (arith, nat_tests) in
-        let above : nat_le 49 d ≡ true = grind (arith, nat_tests) in
-        rw (above, high, rest) refl
-
 no_zero : (ds : List ℕ) → 48 < get_or ds 0 0 → (bytes_eq ds (codes "0") ≡ false) × (bytes_eq ds (codes "00") ≡ false)
 no_zero [] first = absurd (omega (arith, first))
 no_zero (d ∷ ds) first = let no : (d == 48) ≡ false = grind (arith, nat_tests) in (rw no refl, rw no refl)
@@ -80,7 +61,7 @@ number_read n some few =
     let small : n < 2 ^ 64 = omega (arith, few) in
     let all = digits_decimal numerals n small in
     let first = first_decimal n some small in
-    let plain = plain_of (decimal n) all (decimal_nonempty n small) first in
+    let plain = plain_digits (decimal n) all (decimal_nonempty n small) first in
     let (zero_no, zeros_no) = no_zero (decimal n) first in
     let value = digits_value-decimal numerals n small in
     rw (zero_no, zeros_no, plain, value, le-leb n 61440 few) refl

@@ -152,7 +152,7 @@ tempo_says m bar = other_inside m (tempo_text bar) (decimal_prints (quarters_of_
 den_range : (den : ℕ) → IsTrue (is_den den) → (1 ≤ den) × (den ≤ 64)
 den_range den h = (grind (arith, nat_tests), grind (arith, nat_tests))
 
-slash_free : (n : ℕ) → lacks 47 (decimal n) ≡ true
+pub slash_free : (n : ℕ) → lacks 47 (decimal n) ≡ true
 slash_free n = all_weaker is_ascii_digit (λ b. not (b == 47)) (decimal n) no_slash (decimal_digits n)
   where
     no_slash : (b : ℕ) → is_ascii_digit b ≡ true → not (b == 47) ≡ true

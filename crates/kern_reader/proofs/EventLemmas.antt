@@ -25,7 +25,7 @@ use Rattle.kern_reader.proofs.SpineLemmas.{place_few, spine_next, take_while-goe
 
 -- ---- ties
 
-tied_next : (t : Token) (ts : List Token) → holds_tie t ≡ true → tied_values (t ∷ ts) ≡ token_values t ++ tied_values ts
+pub tied_next : (t : Token) (ts : List Token) → holds_tie t ≡ true → tied_values (t ∷ ts) ≡ token_values t ++ tied_values ts
 tied_next t ts holds = ap (flat_map token_values) (take_while-goes holds_tie t ts holds)
 
 pub tie_step : (grid : ℕ) (ts : List Token) (i : ℕ) (t : Token) (total more : ℕ) → i < length ts → t ≡ get_or ts i t → holds_tie t ≡ true

@@ -1,14 +1,12 @@
 -- Keys from a floor on, and sets of which all keys are found.
-use Rattle.std.proofs.Common.{◌≡◌, ℕ, zero, suc, ◌+◌, ◌-◌, ◌^◌, ◌<◌, ◌≤◌, ◌==◌, true, false, [], ◌∷◌, ◌++◌, refl, sym, ap, ◌∙◌, subst, arith, below_more}
-use Rattle.std.specs.Prelude.{◌↔◌, Bool, IsTrue, bit_or, if◌then◌else◌}
+use Rattle.std.proofs.Common.{◌≡◌, ℕ, zero, suc, ◌+◌, ◌-◌, ◌^◌, ◌<◌, ◌≤◌, ◌==◌, [], ◌∷◌, ◌++◌, refl, sym, ap, ◌∙◌, subst, arith, below_more}
+use Rattle.std.specs.Prelude.{bit_or, if◌then◌else◌}
 use Rattle.std.specs.Int.{IsBitSet, bit_at}
-use Rattle.std.proofs.lemmas.Bool.{false≢true}
-use Rattle.std.proofs.lemmas.Bool.Decides.{nat_tests}
-use Rattle.std.proofs.lemmas.Nat.Bits.{bit_at-lt, bit_at_above, bit_at_or}
-use Rattle.kern_reader.proofs.KeyLemmas.{bit_clear}
+use Rattle.std.proofs.lemmas.Nat.Bits.{bit_at_above, bit_at_or}
 use Rattle.std.proofs.Math.Pow.{pow-lt}
 use Rattle.kern_reader.specs.EventText.{event_keys, keys_text, listed_text, set_keys}
 use Rattle.kern_reader.specs.LowestKey.{AreAmongKeys, IsFloor}
+use Rattle.rhythm_base.proofs.KeySets.{bit_clear}
 
 -- ---- from a floor on
 
@@ -58,15 +56,6 @@ floor_zero keys = record { few = omega arith; none = λ k lt. absurd (omega (ari
 
 -- ---- what a test for a key says
 
-pub had : (b : Bool) (keys k : ℕ) → IsTrue b ↔ IsBitSet keys k → b ≡ true → IsBitSet keys k
-had b keys k has e = has.0 e
-
-pub not_had : (b : Bool) (keys k : ℕ) → IsTrue b ↔ IsBitSet keys k → b ≡ false → IsBitSet keys k → ⊥
-not_had b keys k has e set = false≢true (sym e ∙ has.1 set)
-
-clear_bit : (keys k : ℕ) → (IsBitSet keys k → ⊥) → bit_at keys k ≡ 0
-clear_bit keys k none = let no = bit_clear keys k none in let few = bit_at-lt keys k in grind (arith, nat_tests, no, few)
-
 -- one key more that is not in the set
 pub floor_more : (keys low : ℕ) → low < 128 → IsFloor low keys → (IsBitSet keys low → ⊥) → IsFloor (low + 1) keys
-floor_more keys low lt h none = record { few = omega (arith, lt); none = below_more _ _ h.none (clear_bit keys low none) }
+floor_more keys low lt h none = record { few = omega (arith, lt); none = below_more _ _ h.none (bit_clear keys low none) }

@@ -1,7 +1,6 @@
 pub mod ChordLemmas
 pub mod ColumnLemmas
 pub mod EventLemmas
-pub mod FractionLemmas
 pub mod GridLemmas
 pub mod GridWalk
 pub mod KeyFloors

@@ -6,7 +6,7 @@ use Rattle.rhythm_base.proofs.Positions.{slice_split-missing}
 use Rattle.kern_reader.specs.Text.{kern_lines, lines_of_pieces}
 
 -- pieces follow one another
-lines_among_more : (line : List ℕ) (pieces : List (List ℕ)) → 1 ≤ length pieces → lines_of_pieces (line ∷ pieces) ≡ line ∷ lines_of_pieces pieces
+pub lines_among_more : (line : List ℕ) (pieces : List (List ℕ)) → 1 ≤ length pieces → lines_of_pieces (line ∷ pieces) ≡ line ∷ lines_of_pieces pieces
 lines_among_more [] [] some = absurd (omega (arith, some))
 lines_among_more (b ∷ line) [] some = absurd (omega (arith, some))
 lines_among_more [] (next ∷ more) some = refl

@@ -40,9 +40,9 @@ use Rattle.kern_reader.specs.Text.{begins_with, columns, is_skipped, kern_lines,
 use Rattle.kern_reader.specs.Tokens.{◌>>=◌, IsWellSignature, IsWellStyle, IsWellToken, IsWellValue, all_notes, all_tokens, are_dots, token_chord, chord_of_notes, chord_token, digits_part, dots_part, grace_note, is_plain, pitch_key, keys_with, marks_of, marks_part, note_of, number_of, pitch_part, recip_of, rest_of, rising_notes, token_of, value_of, value_part, valued_note}
 use Rattle.kern_reader.proofs.ColumnLemmas.{IsShort, columns_on, columns_short, grid_some}
 use Rattle.kern_reader.proofs.NumberLemmas.{plain_some}
-use Rattle.kern_reader.proofs.TextLemmas.{All_reverse}
 use Rattle.kern_reader.proofs.WidthLemmas.{passes, wide}
 use Rattle.rhythm_base.specs.Signatures.{is_den}
+use Rattle.rhythm_base.proofs.ListParts.{all_reversed}
 
 -- ---- what is read where there is something
 
@@ -314,7 +314,7 @@ sound_score lines sound few =
       fine = sound.fine;
       narrow = subst (λ n. n ≤ 16) (sym (length-map cols reverse)) sound.narrow;
       on = All-map (IsColumnOn grid) reverse cols
-          (All-weaker (IsColumnOn grid) (λ column. IsColumnOn grid (reverse column)) (λ column all. All_reverse (IsTokenOn grid) column all) cols (columns_on lines sound.well));
+          (All-weaker (IsColumnOn grid) (λ column. IsColumnOn grid (reverse column)) (λ column all. all_reversed (IsTokenOn grid) column all) cols (columns_on lines sound.well));
       short = All-map (λ c. length c < 2 ^ 32) reverse cols
           (All-weaker (IsShort (length lines)) (λ column. length (reverse column) < 2 ^ 32) (λ column s. omega (arith, s, length-reverse column, few)) cols (columns_short lines));
     }

@@ -1,8 +1,8 @@
 -- The lines of a text, one after another, and the score of all.
-use Rattle.std.proofs.Common.{◌≡◌, ℕ, ◌+◌, ◌^◌, ◌<◌, ◌≤◌, false, List, [], ◌∷◌, length, map, reverse, refl, sym, subst, arith, Some, None, add-one}
+use Rattle.std.proofs.Common.{◌≡◌, ℕ, ◌+◌, ◌^◌, ◌<◌, ◌≤◌, false, List, ◌∷◌, length, map, reverse, refl, sym, subst, arith, Some, None, add-one}
 use Rattle.std.specs.Prelude.{All, Err}
-use Rattle.std.proofs.lemmas.List.{length-map, reverse-append, length-reverse}
-use Rattle.std.proofs.lemmas.List.Elements.{All-append, All-cons, All-head, All-map, All-nil, All-tail, All-weaker}
+use Rattle.std.proofs.lemmas.List.{length-map, length-reverse}
+use Rattle.std.proofs.lemmas.List.Elements.{All-map, All-weaker}
 use Rattle.kern_reader.specs.declared.fault.KernWhat.{KernWhat}
 use Rattle.kern_reader.specs.declared.line.KernLine.{KernLine}
 use Rattle.kern_reader.specs.declared.reading.Reading.{Reading}
@@ -15,6 +15,7 @@ use Rattle.kern_reader.specs.Score.{IsColumnOn, IsKernScore, IsTokenOn}
 use Rattle.kern_reader.specs.Text.{is_skipped}
 use Rattle.kern_reader.proofs.ColumnLemmas.{IsShort, columns_on, columns_short}
 use Rattle.kern_reader.proofs.StepLemmas.{grid_fine}
+use Rattle.rhythm_base.proofs.ListParts.{all_reversed}
 
 pub read_next : (before : List KernLine) (number : ℕ) (text : List ℕ) (texts : List (List ℕ)) → is_skipped text ≡ false → line_fault before text ≡ None
     → read_from before number (text ∷ texts) ≡ read_from (line_of text ∷ before) (number + 1) texts
@@ -24,12 +25,6 @@ pub read_stops : (before : List KernLine) (number : ℕ) (text : List ℕ) (text
     → read_from before number (text ∷ texts) ≡ Err (record { line = number; what = what })
 read_stops before number text texts what said some = rw (said, some) refl
 
-pub All_reverse : {X : Type 0} (P : X → Type 0) (xs : List X) → All P xs → All P (reverse xs)
-All_reverse P [] all = all
-All_reverse {X} P (x ∷ xs) all =
-    subst (All P) (sym (reverse-append (x ∷ []) xs))
-    (All-append P (reverse xs) (x ∷ []) (All_reverse P xs (All-tail P x xs all)) (All-cons P x [] (All-head P x xs all) (All-nil P)))
-
 -- the score that was read
 pub kern_score : (number : ℕ) (before : List KernLine) (r : Reading) → IsReading number before r → number < 2 ^ 32
     → IsKernScore (record { grid = r.grid; columns = r.columns.items })
@@ -37,7 +32,7 @@ kern_score number before r is small =
     let cols = columns_of before in
     let on : All (IsColumnOn (grid_of before)) (map reverse cols) =
     All-map (IsColumnOn (grid_of before)) reverse cols
-    (All-weaker (IsColumnOn (grid_of before)) (λ column. IsColumnOn (grid_of before) (reverse column)) (λ column all. All_reverse (IsTokenOn (grid_of before)) column all) cols (columns_on before is.well)) in
+    (All-weaker (IsColumnOn (grid_of before)) (λ column. IsColumnOn (grid_of before) (reverse column)) (λ column all. all_reversed (IsTokenOn (grid_of before)) column all) cols (columns_on before is.well)) in
     let few = is.few in
     let short : All (λ c. length c < 2 ^ 32) (map reverse cols) =
     All-map (λ c. length c < 2 ^ 32) reverse cols

@@ -1,7 +1,6 @@
 -- The tokens of the sounds of a bar.
-use Rattle.std.proofs.Common.{◌≡◌, ℕ, zero, suc, ◌+◌, ◌-◌, ◌*◌, ◌/◌, ◌^◌, ◌≤◌, ◌<◌, Bool, true, false, not, ◌&&◌, ◌||◌, List, [], ◌∷◌, ◌++◌, Option, Some, None, map, refl, sym, ap, ◌∙◌, subst, arith}
+use Rattle.std.proofs.Common.{◌≡◌, ℕ, zero, suc, ◌+◌, ◌-◌, ◌*◌, ◌^◌, ◌≤◌, Bool, true, not, ◌&&◌, ◌||◌, List, [], ◌∷◌, ◌++◌, Option, Some, None, map, refl, sym, ap, ◌∙◌, subst, arith}
 use Rattle.std.specs.Prelude.{All, slice_get}
-use Rattle.std.specs.Int.{◌∣◌}
 use Rattle.std.proofs.Math.Nat.{div-mul_cancel}
 use Rattle.std.proofs.lemmas.List.Elements.{All-head, All-tail}
 use Rattle.std.proofs.lemmas.Nat.{pow_pos}
@@ -11,32 +10,24 @@ use Rattle.rhythm_base.specs.declared.sound.SoundKind.TheVariants.{Begin, Short,
 use Rattle.rhythm_base.specs.SoundKinds.{is_rest, is_tie}
 use Rattle.durations.specs.declared.joined.Timed.{Timed}
 use Rattle.durations.specs.declared.joined.Written.{Written}
-use Rattle.durations.specs.declared.value.Recip.{Recip}
-use Rattle.durations.specs.declared.value.Recip.TheVariants.{Of, Breve, Long}
 use Rattle.durations.specs.declared.value.Value.{Value}
 use Rattle.durations.specs.Joined.{ArePlaced, AreValuesOf, AreWritten, dots, value_places}
 use Rattle.durations.specs.Value.{IsWide, parts, plain_parts, value_grid, width}
-use Rattle.durations.specs.Values.{AreValues}
 use Rattle.durations.proofs.Bars.{values_in, written_fills, written_one}
-use Rattle.durations.proofs.Wide.{some_product}
+use Rattle.durations.proofs.Wide.{some_product, some_parts}
 use Rattle.derivation.specs.declared.score.ScoreBar.{ScoreBar}
 use Rattle.kern_writer.specs.Columns.{AreTokens, RiseFrom, column_tokens, next_in_column}
-use Rattle.kern_writer.specs.Tokens.{Token, bar_tokens, goes_on, has_flats, next_goes_on, token}
+use Rattle.kern_writer.specs.Tokens.{Token, bar_tokens, has_flats, next_goes_on, token}
 use Rattle.kern_writer.specs.Values.{AreBarValues, VoiceValue, is_first, timed, value_of_sound, values_of_sounds}
 use Rattle.kern_writer.proofs.Rising.{rise_weaker}
 use Rattle.durations.proofs.ValuesExist.{written_exist}
 
 -- ---- their places rise
 
-some_plain : (r : Recip) → 1 ≤ plain_parts r
-some_plain (Of n) = omega arith
-some_plain Breve = omega arith
-some_plain Long = omega arith
-
 some_parts_of : (v : Value) → 1 ≤ parts v
-some_parts_of v = let e = pow_pos v.dots in some_product (plain_parts v.recip) (2 * 2 ^ v.dots - 1) (some_plain v.recip) (omega (arith, e))
+some_parts_of v = let e = pow_pos v.dots in some_product (plain_parts v.recip) (2 * 2 ^ v.dots - 1) (some_parts v.recip) (omega (arith, e))
 
-some_width : (whole : ℕ) (v : Value) → 1 ≤ whole → IsWide whole v → 1 ≤ width whole v
+pub some_width : (whole : ℕ) (v : Value) → 1 ≤ whole → IsWide whole v → 1 ≤ width whole v
 some_width whole v some wide = go (width whole v) (div-mul_cancel (value_grid v) wide) (some_product (parts v) whole (some_parts_of v) some)
   where
     go : (w : ℕ) → w * value_grid v ≡ parts v * whole → 1 ≤ parts v * whole → 1 ≤ w

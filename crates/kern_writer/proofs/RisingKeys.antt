@@ -1,9 +1,8 @@
 -- The keys of a set, one after another.
 use Rattle.std.proofs.Common.{◌≡◌, ℕ, zero, suc, ◌+◌, ◌-◌, ◌*◌, ◌≤◌, ◌<◌, ◌/◌, ◌%◌, ◌^◌, bit_and, bit_or, List, [], ◌∷◌, ◌++◌, length, map, refl, sym, ap, ◌∙◌, subst, arith}
-use Rattle.std.specs.Prelude.{◌==◌, ◌↔◌, Bool, true, false, IsTrue, if◌then◌else◌}
+use Rattle.std.specs.Prelude.{◌==◌, if◌then◌else◌}
 use Rattle.std.specs.Int.{IsBitSet, bit_at}
 use Rattle.std.specs.List.{join_with_byte}
-use Rattle.std.proofs.lemmas.Bool.{false≢true}
 use Rattle.std.proofs.lemmas.List.{append-nil, append_assoc, length-map, length_push, map_push}
 use Rattle.std.proofs.lemmas.Nat.{pow_pos}
 use Rattle.std.proofs.lemmas.Nat.Bits.{and_pow, bit_at-lt, bit_at_above}
@@ -13,6 +12,7 @@ use Rattle.std.proofs.Math.Nat.{mod-lt, mod-one, mul_comm, pow-suc}
 use Rattle.kern_writer.specs.Shared.{separator_text}
 use Rattle.kern_writer.specs.Tokens.{keys_from, rising_keys}
 use Rattle.kern_writer.proofs.Separators.{join_push}
+use Rattle.rhythm_base.proofs.KeySets.{bit_clear}
 
 -- the key k, where it is in the set
 abbrev pub key_in : ℕ → ℕ → List ℕ
@@ -68,17 +68,6 @@ bit_set keys k set = go (bit_at keys k) refl (bit_at-lt keys k)
     go zero e lt = absurd (set (and_pow keys k ∙ ap (λ x. x * 2 ^ k) e ∙ omega arith))
     go (suc b) e lt = omega arith
 
-pub bit_clear : (keys k : ℕ) → (IsBitSet keys k → ⊥) → bit_at keys k ≡ 0
-bit_clear keys k none = go (bit_at keys k) refl (bit_at-lt keys k)
-  where
-    go : (b : ℕ) → bit_at keys k ≡ b → b < 2 → b ≡ 0
-    go zero e lt = refl
-    go (suc b) e lt =
-        let one : suc b ≡ 1 = omega arith in
-        let whole : 1 * 2 ^ k ≡ 2 ^ k = omega arith in
-        let value : bit_and keys (2 ^ k) ≡ 2 ^ k = and_pow keys k ∙ ap (λ x. x * 2 ^ k) (e ∙ one) ∙ whole in
-        absurd (none (λ zero. let some = pow_pos k in omega (arith, some, value, zero)))
-
 key_out : (keys k : ℕ) → (IsBitSet keys k → ⊥) → key_in keys k ≡ []
 key_out keys k none = ap (λ b. if b == 1 then k ∷ [] else []) (bit_clear keys k none)
 
@@ -112,14 +101,6 @@ chord_step note keys k number start items middle new set so_far count separator 
     ∙ append_assoc (start ++ chord) (separator_text 32 (length (keys_from keys 0 k))) (note k)
     ∙ append_assoc start chord (separator_text 32 (length (keys_from keys 0 k)) ++ note k)
     ∙ ap (λ t. start ++ t) (sym (chord_push note keys k set))
-
--- ---- what a test for a key says
-
-pub not_had : (b : Bool) (keys k : ℕ) → IsTrue b ↔ IsBitSet keys k → b ≡ false → IsBitSet keys k → ⊥
-not_had b keys k has e set = false≢true (sym e ∙ has.1 set)
-
-pub had : (b : Bool) (keys k : ℕ) → IsTrue b ↔ IsBitSet keys k → b ≡ true → IsBitSet keys k
-had b keys k has e = has.0 e
 
 -- ---- the keys of a set below one of its keys, as the number whose bits they are
 

@@ -1,7 +1,8 @@
 -- Lists of numbers that rise.
-use Rattle.std.proofs.Common.{◌≡◌, ℕ, zero, suc, ◌+◌, ◌≤◌, ◌<◌, List, [], ◌∷◌, length, get_or, refl, sym, ap, ◌∙◌, subst, ◌⊎◌, inl, inr, arith}
+use Rattle.std.proofs.Common.{◌≡◌, ℕ, zero, suc, ◌+◌, ◌<◌, List, [], ◌∷◌, get_or, refl, sym, subst, ◌⊎◌, inl, inr, arith}
 use Rattle.std.specs.Prelude.{◌↔◌, Contains}
 use Rattle.std.specs.List.Sorted.{IsStrictlyIncreasing}
+use Rattle.rhythm_base.proofs.OrderedLists.{rise_later}
 
 pub contains_here : {X : Type 0} (x : X) (xs : List X) → Contains (x ∷ xs) x
 contains_here x xs = (0, omega arith, refl)
@@ -16,11 +17,6 @@ contains_cases x y xs (suc k, lt, e) = inr (k, omega (arith, lt), e)
 pub contains_none : {X : Type 0} (y : X) → Contains [] y → ⊥
 contains_none y (k, lt, e) = omega (arith, lt)
 
-pub rising_tail : (x : ℕ) (xs : List ℕ) → IsStrictlyIncreasing (x ∷ xs) → IsStrictlyIncreasing xs
-rising_tail x xs h k lt =
-    let e : suc k + 1 ≡ suc (k + 1) = omega arith in
-    subst (λ n. get_or (x ∷ xs) (suc k) 0 < get_or (x ∷ xs) n 0) e (h (suc k) (omega (arith, lt)))
-
 pub rising_cons : (x : ℕ) (xs : List ℕ) → ((y : ℕ) → Contains xs y → x < y) → IsStrictlyIncreasing xs → IsStrictlyIncreasing (x ∷ xs)
 rising_cons x [] above h k lt = absurd (omega (arith, lt))
 rising_cons x (y ∷ ys) above h zero lt = above y (contains_here y ys)
@@ -30,7 +26,7 @@ rising_cons x (y ∷ ys) above h (suc k) lt =
 
 pub rising_above : (x y : ℕ) (xs : List ℕ) → IsStrictlyIncreasing (x ∷ xs) → Contains xs y → x < y
 rising_above x y [] h c = absurd (contains_none y c)
-rising_above x y (z ∷ zs) h c = go (contains_cases z y zs c) (rising_above z y zs (rising_tail x (z ∷ zs) h))
+rising_above x y (z ∷ zs) h c = go (contains_cases z y zs c) (rising_above z y zs (rise_later x (z ∷ zs) h))
   where
     go : (z ≡ y) ⊎ Contains zs y → (Contains zs y → z < y) → x < y
     go (inl e) next = let first : x < z = h 0 (omega arith) in omega (arith, e, first)
@@ -43,7 +39,7 @@ rising_one [] (y ∷ ys) h k same = absurd (contains_none y ((same y).1 (contain
 rising_one (x ∷ xs) [] h k same = absurd (contains_none x ((same x).0 (contains_here x xs)))
 rising_one (x ∷ xs) (y ∷ ys) h k same =
     let first = one (contains_cases y x ys ((same x).0 (contains_here x xs))) (contains_cases x y xs ((same y).1 (contains_here y ys))) in
-    λ i. first i ∷ rising_one xs ys (rising_tail x xs h) (rising_tail y ys k) (λ z. (there first z, back first z)) i
+    λ i. first i ∷ rising_one xs ys (rise_later x xs h) (rise_later y ys k) (λ z. (there first z, back first z)) i
   where
     one : (y ≡ x) ⊎ Contains ys x → (x ≡ y) ⊎ Contains xs y → x ≡ y
     one (inl e) other = sym e

@@ -1,14 +1,10 @@
 -- The least keys of the whole bar are its table.
-use Rattle.std.proofs.Common.{◌≡◌, ℕ, zero, suc, ◌<◌, ◌≤◌, ◌+◌, ◌^◌, ◌&&◌, true, false, All, List, [], ◌∷◌, get_or, refl, sym, ap, ap₂, ◌∙◌, subst, arith, append-nil, inl, inr}
-use Rattle.std.specs.Prelude.{Option, Some, None, nat_lt, if◌then◌else◌}
-use Rattle.std.specs.List.{list_all}
+use Rattle.std.proofs.Common.{◌≡◌, ℕ, zero, suc, ◌<◌, ◌≤◌, ◌+◌, ◌^◌, ◌&&◌, false, List, [], ◌∷◌, get_or, refl, sym, ap, ap₂, ◌∙◌, subst, arith, append-nil, inl, inr}
+use Rattle.std.specs.Prelude.{Option, Some, None, if◌then◌else◌}
 use Rattle.std.proofs.lemmas.Bool.{cases_lt}
-use Rattle.std.proofs.lemmas.Bool.Decides.{nat_tests}
 use Rattle.std.proofs.lemmas.List.{get_or_past}
-use Rattle.std.proofs.lemmas.List.Elements.{All-head, All-tail}
 use Rattle.rhythm_base.specs.declared.best.Best.{Best}
-use Rattle.rhythm_base.specs.declared.inner.Inner.{Inner}
-use Rattle.rhythm_base.specs.BarInput.{BarInput, IsInner}
+use Rattle.rhythm_base.specs.BarInput.{BarInput}
 use Rattle.rhythm_base.specs.Cells.{CellFits, bar_of, cell_cost, leaves_in}
 use Rattle.rhythm_base.specs.BarTables.{BarTable, IsEntry, IsLeastInCell, IsTable, cell_rank, is_lower, list_at, lower_in}
 use Rattle.rhythm_base.specs.Cost.{charges, weights}
@@ -33,21 +29,13 @@ use Rattle.path_laws.proofs.Products.{five_at, grid_at}
 use Rattle.tree_laws.proofs.Ranks.{both}
 use Rattle.row_laws.specs.Grounds.{IsReady, ground_of}
 use Rattle.row_laws.proofs.Bounds.{stands-cheap}
-use Rattle.row_laws.proofs.Grounds.{bounds, grounded}
+use Rattle.row_laws.proofs.Grounds.{bounds, grounded, onsets_inside}
 use Rattle.row_laws.proofs.RuleKeys.{single_tree, top_shape}
 use Rattle.least_cost.proofs.TableLists.{key_list}
 
--- all onsets lie in the bar
-inside : (l : ℕ) (cs : List Inner) → All (IsInner l) cs → list_all (λ c. nat_lt c.onset l) cs ≡ true
-inside l [] h = refl
-inside l (c ∷ cs) h =
-    let own : c.onset < l = (All-head (IsInner l) c cs h).onset in
-    let on : nat_lt c.onset l ≡ true = grind (arith, nat_tests) in
-    ap₂ ◌&&◌ on (inside l cs (All-tail (IsInner l) c cs h))
-
 module _ (g : Grammar) (k : BarInput) (ready : IsReady g k) where
   holds : HoldsChords k
-  holds = record { long = ready.cell.some_tick; rise = ready.cell.rising; below = inside k.length k.chords ready.cell.chords }
+  holds = record { long = ready.cell.some_tick; rise = ready.cell.rising; below = onsets_inside k.length k.chords ready.cell.chords }
 
   same_pin : (pin : Option Shape) (t : Tree) → has_shapes (one_shape pin) (more t.rule t.kids none) ≡ has_pin pin t
   same_pin None t = refl

@@ -18,6 +18,7 @@ use Rattle.row_laws.proofs.Folds.{fold-alike, fold-via}
 use Rattle.row_laws.proofs.RowProducts.{row-apart, row-cheap, row-next, row-none, row-parse}
 use Rattle.least_rows.specs.declared.way.Way.{Way}
 use Rattle.least_rows.specs.Ways.{AreShort, AreWays, AreWaysOn, IsSmallWay, IsWayMade, nearer_way, nearest_below, nearest_way, one_way, sum_of_way, way_on}
+use Rattle.path_laws.proofs.Products.{alike_to}
 
 -- ---- which count between is taken
 
@@ -70,12 +71,6 @@ same-way (Some k) w h = (k, refl, h)
 same-choice : (o : Option Key) (c : Choice) → same o (choice_key (Some c)) → (k : Key) × (o ≡ Some k)
 same-choice None c h = absurd h
 same-choice (Some k) c h = (k, refl)
-
-alike-to : (r s t : ℕ → Option Key) → ((b : ℕ) → b < 5 → s b ≡ t b) → AreAlike r s → AreAlike r t
-alike-to r s t e h = record {
-  costs = λ b low. subst (λ q. same (r b) q) (e b low) (h.costs b low);
-  order = λ b c lb lc. h.order b c lb lc ∙ (λ i. lists_cmp (e b lb i) (e c lc i));
-}
 
 -- a way with one part more is one of the ways, with a rank
 on-parts : (o : Option Way) (m : ℕ) (r : Option Choice) (c : Choice) → sum_of_way (way_on o m r) ≡ Some c
@@ -161,7 +156,7 @@ module _ (d : Ground) (ground : IsGround d) (p a : ℕ) (low : a < 5) (qs : List
   ways-next = record {
     row = row_times ways.row on.keys;
     least = all-least;
-    alike = alike-to (row_times ways.row on.keys) _ (λ b. choice_key (sum_of_way (next b))) (λ b lb. value-same _ b (next b) (taken-next b lb)) all-alike;
+    alike = alike_to (row_times ways.row on.keys) _ (λ b. choice_key (sum_of_way (next b))) (λ b lb. value-same _ b (next b) (taken-next b lb)) all-alike;
     made = λ b lb. subst (IsWayMade d p qs a (suc n) b (next b)) (sym (all-via b lb)) (made-by b lb _ (next b) (taken-next b lb));
     short = λ b v lb e. next-short b v lb _ (next b) (taken-next b lb) e;
   }
@@ -267,7 +262,7 @@ pub ways-same : (d : Ground) (p : ℕ) (qs : List (ℕ × ℕ)) (a n : ℕ) (way
 ways-same d p qs a n ways next e h = record {
   row = h.row;
   least = h.least;
-  alike = alike-to h.row (λ b. choice_key (sum_of_way (ways b))) (λ b. choice_key (sum_of_way (next b))) (λ b lb. ap (λ o. choice_key (sum_of_way o)) (e b lb)) h.alike;
+  alike = alike_to h.row (λ b. choice_key (sum_of_way (ways b))) (λ b. choice_key (sum_of_way (next b))) (λ b lb. ap (λ o. choice_key (sum_of_way o)) (e b lb)) h.alike;
   made = λ m lm. subst (λ o. IsWayMade d p qs a n m o (h.row m)) (e m lm) (h.made m lm);
   short = λ m w lm f. h.short m w lm (e m lm ∙ f);
 }

@@ -1,5 +1,5 @@
 -- A way is offered with the entries of a row, one after the other.
-use Rattle.std.proofs.Common.{◌≡◌, ◌≢◌, ℕ, zero, suc, ◌+◌, ◌*◌, ◌<◌, ◌≤◌, ◌==◌, Bool, true, false, List, [], ◌∷◌, ◌++◌, length, take, refl, sym, ap, ◌∙◌, subst, arith}
+use Rattle.std.proofs.Common.{◌≡◌, ◌≢◌, ℕ, zero, suc, ◌+◌, ◌*◌, ◌<◌, ◌==◌, Bool, true, false, List, [], ◌∷◌, ◌++◌, length, take, refl, sym, ap, ◌∙◌, subst, arith}
 use Rattle.std.specs.Prelude.{Option, Some, None, slice_get, slice_index_or, slice_set}
 use Rattle.std.proofs.Math.Seq.{take-suc}
 use Rattle.std.proofs.lemmas.Bool.Decides.{nat_tests}
@@ -10,13 +10,9 @@ use Rattle.least_rows.specs.declared.entry.Entry.{Entry}
 use Rattle.least_rows.specs.declared.way.Way.{Way}
 use Rattle.least_rows.specs.Ways.{AreEntries, rank_in, way_on}
 use Rattle.least_rows.proofs.RowEntries.{HasNone, rank-last, rank-none, rank-other}
+use Rattle.rhythm_base.proofs.ListParts.{take_length}
 
 -- ---- the first entries
-
-take-long : {X : Type 0} (n : ℕ) (xs : List X) → n ≤ length xs → length (take n xs) ≡ n
-take-long zero xs h = refl
-take-long (suc n) [] h = absurd (omega arith)
-take-long (suc n) (x ∷ xs) h = ap suc (take-long n xs (omega (arith, h)))
 
 take-get : {X : Type 0} (n j : ℕ) (xs : List X) (x : X) → slice_get (take n xs) j ≡ Some x → (j < n) × (slice_get xs j ≡ Some x)
 take-get zero j xs x e = absurd (cc)
@@ -39,7 +35,7 @@ module _ (X : Type 0) (near : Option X → Option Way → Option X) (stays : (o 
   last-rank : rank_in (take (n + 1) es) 0 e.to ≡ Some (e.cost, n)
   last-rank =
       let within = slice_get_within es n e at in
-      let place : 0 + length (take n es) ≡ n = let l = take-long n es (omega (arith, within)) in omega (arith, l) in
+      let place : 0 + length (take n es) ≡ n = let l = take_length n es (omega (arith, within)) in omega (arith, l) in
       ap (λ l. rank_in l 0 e.to) (take-next n es e at) ∙ rank-last (take n es) e 0 e.to refl new ∙ ap (λ i. Some (e.cost, i)) place
 
   same : slice_index_or (slice_set next e.to v) e.to None ≡ near (first e.to) (way_on (Some way) count (rank_in (take (n + 1) es) 0 e.to))

@@ -9,8 +9,8 @@ use Rattle.std.proofs.lemmas.Option.{get_or_from_slice_get}
 use Rattle.rhythm_base.specs.BarInput.{BarInput}
 use Rattle.rhythm_base.specs.Grammar.{Grammar}
 use Rattle.rhythm_base.specs.Trees.{suits}
-use Rattle.row_laws.specs.Grounds.{ground_of}
-use Rattle.grammar_plan.specs.Plans.{between, pair_of}
+use Rattle.row_laws.specs.Grounds.{ground_of, IsReady}
+use Rattle.grammar_plan.specs.Plans.{between, pair_of, IsPlan}
 use Rattle.grammar_plan.specs.declared.plan.Plan.{Plan}
 use Rattle.grammar_plan.specs.declared.seat.Seat.{Seat}
 use Rattle.least_rows.specs.Choices.{AreBestChoices, AreSettled}
@@ -22,13 +22,12 @@ use Rattle.least_rows.specs.declared.entry.Entry.{Entry}
 use Rattle.least_rows.specs.declared.rows.Rows.{Rows}
 use Rattle.least_rows.specs.declared.state.RowSpan.{RowSpan}
 use Rattle.least_rows.specs.declared.state.State.{State}
-use Rattle.row_laws.specs.Grounds.{IsReady}
 use Rattle.row_laws.proofs.Grounds.{bounds, grounded}
-use Rattle.grammar_plan.specs.Plans.{IsPlan}
 use Rattle.least_rows.specs.Ways.{AreEntries, IsRankedRow, rank_in}
 use Rattle.least_rows.proofs.Asked.{seat-of}
 use Rattle.least_rows.proofs.RowEntries.{all-at, row-entries, row-ranked}
 use Rattle.least_rows.proofs.Settling.{append-get, last-get, split-row}
+use Rattle.rhythm_base.proofs.ListParts.{take_length}
 
 -- ---- spans of a longer list
 
@@ -213,11 +212,6 @@ module _ (g : Grammar) (k : BarInput) (plan : Plan) (old new : Rows) (number sea
 
 -- ---- the row of a span
 
-take-short : {X : Type 0} (n : ℕ) (xs : List X) → n ≤ length xs → length (take n xs) ≡ n
-take-short zero xs h = refl
-take-short (suc n) [] h = absurd (omega arith)
-take-short (suc n) (x ∷ xs) h = ap suc (take-short n xs (omega (arith, h)))
-
 drop-long : {X : Type 0} (n : ℕ) (xs : List X) → n ≤ length xs → n + length (drop n xs) ≡ length xs
 drop-long zero xs h = omega arith
 drop-long (suc n) [] h = absurd (omega arith)
@@ -227,7 +221,7 @@ pub between-long : {X : Type 0} (first n : ℕ) (xs : List X) → first + n ≤ 
 between-long first n xs h =
     let count : first + n - first ≡ n = omega arith in
     let rest = drop-long first xs (omega (arith, h)) in
-    ap (λ m. length (take m (drop first xs))) count ∙ take-short n (drop first xs) (omega (arith, h, rest))
+    ap (λ m. length (take m (drop first xs))) count ∙ take_length n (drop first xs) (omega (arith, h, rest))
 
 module _ (g : Grammar) (k : BarInput) (plan : Plan) (ready : IsReady g k) (is : IsPlan g plan) (n : ℕ) (s : Seat) (at : slice_get plan.seats.items n ≡ Some s) (es : List Entry) (place from : ℕ) (span : RowSpan)
     (row : IsRowAt g k plan es place (pair_of s) from span) (xs : List Entry) (there : xs ≡ between es span.first (span.first + span.count)) where

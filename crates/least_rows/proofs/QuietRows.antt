@@ -28,11 +28,11 @@ use Rattle.grammar_plan.specs.declared.plan.Plan.{Plan}
 use Rattle.grammar_plan.specs.declared.quiet_tree.QuietTree.{QuietTree}
 use Rattle.least_rows.specs.Ways.{IsRankedRow, quiet_rank}
 
-no_onset : (quiet : Quiet) (d : Ground) (p w : ℕ) → IsQuiet quiet d p w → is_quiet d p w ≡ true
+pub no_onset : (quiet : Quiet) (d : Ground) (p w : ℕ) → IsQuiet quiet d p w → is_quiet d p w ≡ true
 no_onset Sounding d p w h = h.quiet
 no_onset Silent d p w h = h.quiet
 
-none_carried : (xs : List Ending) → carried_by 0 xs ≡ 0
+pub none_carried : (xs : List Ending) → carried_by 0 xs ≡ 0
 none_carried [] = refl
 none_carried (x ∷ xs) = none_carried xs
 

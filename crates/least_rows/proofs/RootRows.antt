@@ -33,8 +33,9 @@ use Rattle.least_rows.specs.declared.entry.Entry.{Entry}
 use Rattle.least_rows.proofs.Fives.{list-five}
 use Rattle.least_rows.proofs.PlanSeats.{All-at}
 use Rattle.least_rows.proofs.RowRanks.{place-rank}
-use Rattle.least_rows.proofs.WayLists.{grounded, position-none, quiet-nothing}
+use Rattle.least_rows.proofs.WayLists.{position-none, quiet-nothing}
 use Rattle.bar_trees.proofs.ListEnds.{written-next, written-none, written-so}
+use Rattle.row_laws.proofs.Grounds.{grounded}
 
 -- ---- a bar that is quiet as a whole
 

@@ -22,6 +22,7 @@ use Rattle.grammar_plan.specs.declared.plan.Plan.{Plan}
 use Rattle.least_rows.specs.declared.entry.Entry.{Entry}
 use Rattle.least_rows.specs.Entries.{IsRowEntry, IsRow}
 use Rattle.least_rows.specs.Ways.{AreEntries, IsRankedRow, rank_in}
+use Rattle.path_laws.proofs.Alike.{none_right}
 
 pub all-at : {X : Type 0} (P : X → Type 0) (xs : List X) (i : ℕ) (x : X) → All P xs → slice_get xs i ≡ Some x → P x
 all-at P xs i x h e = subst P (get_or_from_slice_get xs i x x e) (h i x (slice_get_within xs i x e))
@@ -108,10 +109,6 @@ turned (Some x) (Some y) h = order_of x.1 y.1 (list_cmp x.1 y.1) h refl
 tied : (p : Option Key) → lists_cmp p p ≡ Equal
 tied None = refl
 tied (Some x) = tied_itself nat_list_cmp_total x.1
-
-none_right : (p : Option Key) → lists_cmp p None ≡ Equal
-none_right None = refl
-none_right (Some x) = refl
 
 module _ (d : Ground) (plan : Plan) (p : ℕ) (q : ℕ × ℕ) (a : ℕ) (es : List Entry) (row : IsRow d plan p q a es) where
   own : (i : ℕ) (e : Entry) → slice_get es i ≡ Some e → IsRowEntry d plan p q a row.keys e

@@ -13,11 +13,9 @@ use Rattle.rhythm_base.specs.Grammar.{Grammar}
 use Rattle.rhythm_base.specs.Leaves.{VoiceBar, in_bar, looks}
 use Rattle.rhythm_base.specs.Ranked.{Key}
 use Rattle.rhythm_base.specs.Trees.{BarLeaf, leaves}
-use Rattle.rhythm_base.specs.declared.rule.Ending.{Ending}
 use Rattle.rhythm_base.specs.declared.rule.Rule.{Rule}
 use Rattle.tree_laws.specs.Forests.{Ground, IsForestKey, IsGround}
 use Rattle.tree_laws.specs.Places.{reach}
-use Rattle.tree_laws.specs.Quiet.{is_quiet}
 use Rattle.path_laws.specs.Tables.{IsLeastKey}
 use Rattle.tree_laws.proofs.Bars.{SideBySide, leaves-fill}
 use Rattle.path_laws.proofs.LeastKeys.{IsLeast-one}
@@ -27,7 +25,6 @@ use Rattle.row_laws.specs.Grounds.{IsReady, ground_of}
 use Rattle.row_laws.specs.QuietTrees.{IsQuiet, IsQuietLeast}
 use Rattle.row_laws.specs.Ways.{IsWayList}
 use Rattle.row_laws.specs.declared.quiet.Quiet.{Quiet}
-use Rattle.row_laws.specs.declared.quiet.Quiet.TheVariants.{Sounding, Silent}
 use Rattle.grammar_plan.specs.Plans.{HasSeat, IsCutOf, IsPlan, IsQuietTree, pair_of, quiet_rows_of}
 use Rattle.grammar_plan.specs.declared.cut.Cut.{Cut}
 use Rattle.grammar_plan.specs.declared.plan.Plan.{Plan}
@@ -39,25 +36,14 @@ use Rattle.least_rows.specs.Parts.{ArePartsOf, AreSeatsOf, IsLeg, carried_after}
 use Rattle.least_rows.specs.declared.parts.Parts.{Parts}
 use Rattle.std.proofs.lemmas.Nat.{shr-shr}
 use Rattle.least_rows.proofs.PlanSeats.{All-at, below-at, cut_below, cut_whole, has_seat-width, one_at, parts-at, parts-length, seat_of, width_of}
-
--- ---- the ground of a cell
-
-pub grounded : (g : Grammar) (k : BarInput) → IsReady g k → IsGround (ground_of g k)
-grounded g k ready = record { long = ready.cell.some_tick; rise = ready.cell.rising }
+use Rattle.least_rows.proofs.QuietRows.{no_onset, none_carried}
+use Rattle.row_laws.proofs.Grounds.{grounded}
 
 -- ---- nothing is carried out of a quiet interval
 
-nothing_carried : (xs : List Ending) → carried_by 0 xs ≡ 0
-nothing_carried [] = refl
-nothing_carried (x ∷ xs) = nothing_carried xs
-
 some_carried : (p w a : ℕ) (bar : VoiceBar) (xs : List BarLeaf) → 1 ≤ w → SideBySide p xs (p + w) → carried_by a (map (λ x. x.part.ending) (in_bar bar xs)) ≡ 0
 some_carried p w a bar [] wide side = absurd (omega (arith, side))
-some_carried p w a bar (x ∷ xs) wide side = nothing_carried (map (λ x. x.part.ending) (in_bar bar xs))
-
-quiet_of : (quiet : Quiet) (d : Ground) (p w : ℕ) → IsQuiet quiet d p w → is_quiet d p w ≡ true
-quiet_of Sounding d p w h = h.quiet
-quiet_of Silent d p w h = h.quiet
+some_carried p w a bar (x ∷ xs) wide side = none_carried (map (λ x. x.part.ending) (in_bar bar xs))
 
 pub quiet-nothing : (d : Ground) → IsGround d → (quiet : Quiet) (p a b : ℕ) (q : ℕ × ℕ) (k : Key) → 1 ≤ q.0 → IsQuiet quiet d p q.0 → IsForestKey d None p (q ∷ []) a b k → b ≡ 0
 quiet-nothing d ground quiet p a b q k wide calm (f, stands, is) =
@@ -66,7 +52,7 @@ quiet-nothing d ground quiet p a b q k wide calm (f, stands, is) =
     let same : q.0 + 0 ≡ q.0 = add-zero q.0 in
     let fill : SideBySide p xs (p + q.0) = subst (λ w. SideBySide p xs (p + w)) same (leaves-fill d.book.rules f p (q ∷ []) (wide, tt) stands.trees) in
     let line = parts-line r d.bar p (p + q.0) xs ground.long fill in
-    sym stands.fits.leave ∙ leaving-calm (looks r) d.chords (reach r d.bar p) (reach r d.bar (p + q.0)) a (in_bar d.bar xs) line (quiet_of quiet d p q.0 calm) ∙ some_carried p q.0 a d.bar xs wide fill
+    sym stands.fits.leave ∙ leaving-calm (looks r) d.chords (reach r d.bar p) (reach r d.bar (p + q.0)) a (in_bar d.bar xs) line (no_onset quiet d p q.0 calm) ∙ some_carried p q.0 a d.bar xs wide fill
 
 -- ---- the least key of a quiet interval is that of the plan
 

@@ -22,15 +22,9 @@ use Rattle.lily_laws.proofs.ElementWords.{element_words}
 use Rattle.lily_laws.proofs.ElementsHeard.{resting, sounded}
 use Rattle.lily_laws.proofs.Reached.{reached, reached_after, reached_before, reached_rest, reached_within, span_start, span_whole}
 use Rattle.lily_laws.proofs.ValuesHeard.{IsCounted, counted_values, first_piece, later_piece, partial, rests_heard}
+use Rattle.rhythm_base.proofs.Booleans.{lt_test, ge_test}
 
 -- ---- pieces that have no length are left out
-
--- a test of two numbers
-lt_test : (a b : ℕ) → a < b → nat_lt a b ≡ true
-lt_test a b h = grind (arith, nat_tests, h)
-
-ge_test : (a b : ℕ) → b ≤ a → nat_lt a b ≡ false
-ge_test a b h = grind (arith, nat_tests, h)
 
 no_length : (from to : ℕ) (s : Stretch) (ss : List Stretch) → min to s.to ≤ max from s.from
     → bar_pieces from to (s ∷ ss) ≡ bar_pieces from to ss

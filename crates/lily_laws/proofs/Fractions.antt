@@ -1,17 +1,15 @@
 -- Sums and products of fractions in lowest terms.
 use Rattle.std.proofs.Common.{◌≡◌, ℕ, ◌+◌, ◌*◌, ◌/◌, ◌≤◌, ap₂, ◌∙◌, arith}
-use Rattle.std.proofs.Math.Nat.{mul-le-mul}
 use Rattle.rhythm_base.specs.declared.span.Frac.{Frac}
 use Rattle.durations.specs.Spans.{IsFrac}
 use Rattle.durations.proofs.LowestTerms.{divided}
-use Rattle.derivation.proofs.Fractions.{frac_of_lowest, frac_one}
+use Rattle.derivation.proofs.Fractions.{frac_one}
 use Rattle.kern_reader.proofs.GridLemmas.{gcd_is}
 use Rattle.kern_reader.specs.Columns.{gcd}
 use Rattle.kern_laws.proofs.SpanMatch.{frac_same}
 use Rattle.lily_writer.specs.Fractions.{frac, frac_plus, frac_times}
-
-pub product_some : (a b : ℕ) → 1 ≤ a → 1 ≤ b → 1 ≤ a * b
-product_some a b h k = mul-le-mul {n₁ = 1} {m₁ = 1} {n₂ = a} {m₂ = b} h k
+use Rattle.durations.proofs.Wide.{some_product}
+use Rattle.durations.proofs.FractionLemmas.{frac_of_lowest}
 
 -- n / d is in lowest terms
 pub frac_is : (n d : ℕ) → 1 ≤ d → IsFrac n d (frac n d)
@@ -28,7 +26,7 @@ same_value a b c d some other e = is_frac c d (frac a b) other (frac_same a b c 
 -- of parts of one kind
 plus_is : (a b d : ℕ) (f g : Frac) → 1 ≤ d → IsFrac a d f → IsFrac b d g → IsFrac (a + b) d (frac_plus f g)
 plus_is a b d f g some first second =
-    let whole = product_some f.den g.den first.some second.some in
+    let whole = some_product f.den g.den first.some second.some in
     frac_same (f.num * g.den + g.num * f.den) (f.den * g.den) (a + b) d (frac_plus f g) whole
     (spread f.num g.den g.num f.den d ∙ ap₂ (λ x y. x * g.den + y * f.den) first.value second.value
     ∙ joined a f.den g.den b) (frac_is _ (f.den * g.den) whole)
@@ -45,7 +43,7 @@ plus_parts a b d some = is_frac (a + b) d (frac_plus (frac a d) (frac b d)) some
 
 times_is : (a d b e : ℕ) (f g : Frac) → 1 ≤ d → 1 ≤ e → IsFrac a d f → IsFrac b e g → IsFrac (a * b) (d * e) (frac_times f g)
 times_is a d b e f g some other first second =
-    let whole = product_some f.den g.den first.some second.some in
+    let whole = some_product f.den g.den first.some second.some in
     frac_same (f.num * g.num) (f.den * g.den) (a * b) (d * e) (frac_times f g) whole
     (turned f.num g.num d e ∙ ap₂ (λ x y. x * y) first.value second.value ∙ turned a f.den b g.den) (frac_is _ (f.den * g.den) whole)
   where
@@ -54,5 +52,5 @@ times_is a d b e f g some other first second =
 
 pub times_parts : (a d b e : ℕ) → 1 ≤ d → 1 ≤ e → frac_times (frac a d) (frac b e) ≡ frac (a * b) (d * e)
 times_parts a d b e some other =
-    is_frac (a * b) (d * e) (frac_times (frac a d) (frac b e)) (product_some d e some other)
+    is_frac (a * b) (d * e) (frac_times (frac a d) (frac b e)) (some_product d e some other)
     (times_is a d b e (frac a d) (frac b e) some other (frac_is a d some) (frac_is b e other))

@@ -1,6 +1,6 @@
 -- The lines of a page are cut where they were joined: none has a newline in it.
 use Rattle.rhythm_base.specs.declared.limits.TheConstants.{MOST_UNITS}
-use Rattle.std.proofs.Common.{◌≡◌, ℕ, zero, suc, ◌+◌, ◌≤◌, ◌==◌, not, Bool, true, false, List, [], ◌∷◌, ◌++◌, length, get_or, refl, ap, ◌∙◌, arith, append_assoc, Option, Some, None}
+use Rattle.std.proofs.Common.{◌≡◌, ℕ, zero, suc, ◌+◌, ◌≤◌, ◌==◌, not, Bool, true, false, List, [], ◌∷◌, ◌++◌, get_or, refl, ap, ◌∙◌, arith, append_assoc, Option, Some, None}
 use Rattle.std.specs.Prelude.{ℤ, All, codes, decimal, if◌then◌else◌}
 use Rattle.std.specs.Char.{is_ascii_digit}
 use Rattle.std.specs.List.{list_all, slice_split}
@@ -20,14 +20,9 @@ use Rattle.lily_writer.specs.Pieces.{stretches}
 use Rattle.lily_writer.specs.Staves.{AreBarsOfStaff, AreStaffLines, staff_bar}
 use Rattle.lily_writer.specs.Text.{lines_text}
 use Rattle.lily_laws.proofs.BarWords.{bar_in_line, bar_sounds}
+use Rattle.kern_reader.proofs.LineLemmas.{lines_among_more}
 
 -- ---- lines that were joined
-
-lines_more : (line : List ℕ) (pieces : List (List ℕ)) → 1 ≤ length pieces → lines_of_pieces (line ∷ pieces) ≡ line ∷ lines_of_pieces pieces
-lines_more [] [] some = absurd (omega (arith, some))
-lines_more (b ∷ line) [] some = absurd (omega (arith, some))
-lines_more [] (next ∷ more) some = refl
-lines_more (b ∷ line) (next ∷ more) some = refl
 
 abbrev pub are_lines : List (List ℕ) → Bool
 are_lines lines = list_all (lacks 10) lines
@@ -38,7 +33,7 @@ lines_split (line ∷ lines) h =
     let parts = and_parts (lacks 10 line) (are_lines lines) h in
     let rest = lines_text lines in
     ap kern_lines (append_assoc line (10 ∷ []) rest) ∙ ap lines_of_pieces (split_first 10 line rest parts.0)
-    ∙ lines_more line (slice_split (λ b. b == 10) rest) (omega (arith, length-slice_split (λ b. b == 10) rest))
+    ∙ lines_among_more line (slice_split (λ b. b == 10) rest) (omega (arith, length-slice_split (λ b. b == 10) rest))
     ∙ ap (λ ls. line ∷ ls) (lines_split lines parts.1)
 
 -- ---- the lines of a staff

@@ -1,54 +1,31 @@
 -- Each pitch that is written is read as its key, and begins with a letter other than r.
-use Rattle.std.proofs.Common.{◌≡◌, ℕ, zero, suc, ◌<◌, ◌==◌, ◌&&◌, Bool, true, false, not, List, [], ◌∷◌, Some, None, refl, ap, subst, arith}
-use Rattle.std.specs.Prelude.{Option}
+use Rattle.std.proofs.Common.{◌≡◌, ℕ, ◌<◌, ◌==◌, ◌&&◌, Bool, true, false, not, List, [], ◌∷◌, Some, refl}
 use Rattle.std.specs.List.{list_all}
 use Rattle.std.proofs.lemmas.Bool.{and_parts}
-use Rattle.std.proofs.lemmas.Bool.Decides.{nat_tests}
 use Rattle.lily_writer.specs.Pitches.{lily_pitch}
 use Rattle.lily_writer.specs.Words.{is_letter, is_lily_pitch_byte, word_key}
+use Rattle.rhythm_base.proofs.NumbersBelow.{all_below, one_below}
+use Rattle.kern_laws.proofs.Pitches.{read_key, is_key}
 
 -- it is of the bytes of pitches, and its first one is a letter that begins no rest
 abbrev pub is_pitch : List ℕ → Bool
 is_pitch [] = false
 is_pitch (b ∷ bs) = (is_letter b && not (b == 114)) && list_all is_lily_pitch_byte (b ∷ bs)
 
-is_key : ℕ → Option ℕ → Bool
-is_key k None = false
-is_key k (Some n) = n == k
-
 abbrev is_read : Bool → ℕ → Bool
 is_read flats k = is_key k (word_key (lily_pitch flats k)) && is_pitch (lily_pitch flats k)
 
--- the first n keys are
-abbrev all_read : Bool → ℕ → Bool
-all_read flats zero = true
-all_read flats (suc n) = is_read flats n && all_read flats n
-
-one_of : (flats : Bool) (n k : ℕ) → all_read flats n ≡ true → k < n → is_read flats k ≡ true
-one_of flats zero k all within = absurd (omega (arith, within))
-one_of flats (suc n) k all within = at (k == n) refl (and_parts (is_read flats n) (all_read flats n) all) (one_of flats n k)
-  where
-    at : (b : Bool) → (k == n) ≡ b → (is_read flats n ≡ true) × (all_read flats n ≡ true)
-        → (all_read flats n ≡ true → k < n → is_read flats k ≡ true) → is_read flats k ≡ true
-    at true e parts rest = let same : n ≡ k = grind (arith, nat_tests) in subst (λ j. is_read flats j ≡ true) same parts.0
-    at false e parts rest = let less : k < n = grind (arith, nat_tests) in rest parts.1 less
-
-with_sharps : all_read false 128 ≡ true
+with_sharps : all_below (is_read false) 128 ≡ true
 unfolding word_key is_key
 with_sharps = refl
 
-with_flats : all_read true 128 ≡ true
+with_flats : all_below (is_read true) 128 ≡ true
 unfolding word_key is_key
 with_flats = refl
 
 all_of : (flats : Bool) (k : ℕ) → k < 128 → is_read flats k ≡ true
-all_of true k within = one_of true 128 k with_flats within
-all_of false k within = one_of false 128 k with_sharps within
-
-read_key : (k : ℕ) (o : Option ℕ) → is_key k o ≡ true → o ≡ Some k
-unfolding is_key
-read_key k None e = cc
-read_key k (Some n) e = let same : n ≡ k = grind (arith, nat_tests) in ap Some same
+all_of true k within = one_below (is_read true) 128 k with_flats within
+all_of false k within = one_below (is_read false) 128 k with_sharps within
 
 pub pitch_read : (flats : Bool) (k : ℕ) → k < 128 → word_key (lily_pitch flats k) ≡ Some k
 pitch_read flats k within =

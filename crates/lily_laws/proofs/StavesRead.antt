@@ -36,7 +36,8 @@ use Rattle.lily_laws.proofs.BarWords.{bar_read, bar_sounds, signature}
 use Rattle.lily_laws.proofs.Fractions.{is_frac}
 use Rattle.lily_laws.proofs.LineStarts.{IsBarText, bar_begins, is_bar_text}
 use Rattle.lily_laws.proofs.Reached.{reached, reached_end, reached_start}
-use Rattle.lily_laws.proofs.WrittenParts.{part_range, slash_free}
+use Rattle.lily_laws.proofs.WrittenParts.{part_range}
+use Rattle.kern_laws.proofs.WordsSay.{slash_free}
 
 -- what is known of a staff
 abbrev staff : Option Frac → HeardVoice → Staff

@@ -20,8 +20,9 @@ use Rattle.lily_writer.specs.Elements.{lily_short, lily_tie}
 use Rattle.lily_writer.specs.Fractions.{frac, frac_times}
 use Rattle.lily_writer.specs.Values.{base_text, scale_of_part, scale_text, lily_value, written_part}
 use Rattle.lily_writer.specs.Words.{WordEnding, base_of, behind, dotted, word_ending, front, is_base_byte, is_dot, is_scale_byte, word_marks, scale_of}
-use Rattle.lily_laws.proofs.Fractions.{product_some, same_value, times_parts}
+use Rattle.lily_laws.proofs.Fractions.{same_value, times_parts}
 use Rattle.lily_laws.proofs.WrittenParts.{base_read, part_by, part_is, part_range, scale_read}
+use Rattle.durations.proofs.Wide.{some_product}
 
 abbrev pub marks : Bool → Bool → List ℕ
 marks short tied = lily_short short ++ lily_tie tied
@@ -143,9 +144,9 @@ grown : (r : Recip) (k e : ℕ) → 1 ≤ plain_grid r → 1 ≤ e → frac_time
 grown (Of n) k e some other =
     let range = part_range (written_part n) (part_is n some).0 in
     let p = written_part n in
-    let whole = product_some p e range.0 other in
+    let whole = some_product p e range.0 other in
     ap (λ f. frac_times f (frac p n)) (times_parts 1 p k e range.0 other) ∙ times_parts (1 * k) (p * e) p n whole some
-    ∙ same_value (1 * k * p) (p * e * n) (1 * k) (n * e) (product_some (p * e) n whole some) (product_some n e some other) (ring k p n e)
+    ∙ same_value (1 * k * p) (p * e * n) (1 * k) (n * e) (some_product (p * e) n whole some) (some_product n e some other) (ring k p n e)
   where
     ring : (k p n e : ℕ) → 1 * k * p * (n * e) ≡ 1 * k * (p * e * n)
     ring k p n e = grind arith

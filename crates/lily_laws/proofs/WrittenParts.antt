@@ -13,24 +13,21 @@ use Rattle.kern_reader.specs.Columns.{gcd}
 use Rattle.kern_reader.specs.Tokens.{number_of}
 use Rattle.kern_laws.proofs.TextNumbers.{number_back}
 use Rattle.kern_laws.proofs.TextSplits.{split_first, split_last}
-use Rattle.kern_laws.proofs.TextTests.{all_weaker, decimal_digits, lacks}
 use Rattle.lily_writer.specs.Fractions.{frac}
 use Rattle.lily_writer.specs.Values.{scale_of_part, written_part}
 use Rattle.lily_writer.specs.Words.{base_of, ratio_of, scale_of}
 use Rattle.lily_laws.proofs.Fractions.{same_value}
+use Rattle.rhythm_base.proofs.Booleans.{or_true}
+use Rattle.kern_laws.proofs.WordsSay.{slash_free}
 
 -- ---- powers of two up to 64
-
-either : (a b : Bool) → (a || b) ≡ true → (a ≡ true) ⊎ (b ≡ true)
-either true b h = inl refl
-either false b h = inr h
 
 same : (n k : ℕ) → (n == k) ≡ true → k ≡ n
 same n k e = grind (arith, nat_tests)
 
 -- what holds of each of them holds of all
 pub part_by : (P : ℕ → Type 0) → P 1 → P 2 → P 4 → P 8 → P 16 → P 32 → P 64 → (n : ℕ) → is_den n ≡ true → P n
-part_by P a b c d e f g n h = go (either (n == 1) _ h)
+part_by P a b c d e f g n h = go (or_true (n == 1) _ h)
   where
     six : (n == 32 ≡ true) ⊎ (n == 64 ≡ true) → P n
     six (inl h) = subst P (same n 32 h) f
@@ -38,23 +35,23 @@ part_by P a b c d e f g n h = go (either (n == 1) _ h)
 
     five : (n == 16 ≡ true) ⊎ ((n == 32 || n == 64) ≡ true) → P n
     five (inl h) = subst P (same n 16 h) e
-    five (inr h) = six (either (n == 32) _ h)
+    five (inr h) = six (or_true (n == 32) _ h)
 
     four : (n == 8 ≡ true) ⊎ ((n == 16 || (n == 32 || n == 64)) ≡ true) → P n
     four (inl h) = subst P (same n 8 h) d
-    four (inr h) = five (either (n == 16) _ h)
+    four (inr h) = five (or_true (n == 16) _ h)
 
     three : (n == 4 ≡ true) ⊎ ((n == 8 || (n == 16 || (n == 32 || n == 64))) ≡ true) → P n
     three (inl h) = subst P (same n 4 h) c
-    three (inr h) = four (either (n == 8) _ h)
+    three (inr h) = four (or_true (n == 8) _ h)
 
     two : (n == 2 ≡ true) ⊎ ((n == 4 || (n == 8 || (n == 16 || (n == 32 || n == 64)))) ≡ true) → P n
     two (inl h) = subst P (same n 2 h) b
-    two (inr h) = three (either (n == 4) _ h)
+    two (inr h) = three (or_true (n == 4) _ h)
 
     go : (n == 1 ≡ true) ⊎ ((n == 2 || (n == 4 || (n == 8 || (n == 16 || (n == 32 || n == 64))))) ≡ true) → P n
     go (inl h) = subst P (same n 1 h) a
-    go (inr h) = two (either (n == 2) _ h)
+    go (inr h) = two (or_true (n == 2) _ h)
 
 -- ---- the largest one that is at most n
 
@@ -100,9 +97,6 @@ quotient_some n d some divides = go (n / d) (div-mul_cancel d divides)
 
 digit_no_slash : (b : ℕ) → is_ascii_digit b ≡ true → not (b == 47) ≡ true
 digit_no_slash b h = let no : (b == 47) ≡ false = grind (arith, nat_tests) in rw no refl
-
-pub slash_free : (n : ℕ) → lacks 47 (decimal n) ≡ true
-slash_free n = all_weaker is_ascii_digit (λ b. not (b == 47)) (decimal n) digit_no_slash (decimal_digits n)
 
 ratio_read : (a b : ℕ) → 1 ≤ a → a ≤ 64 → 1 ≤ b → b ≤ 61440 → ratio_of (slice_split (λ b. b == 47) (decimal a ++ 47 ∷ decimal b))
     ≡ Some (frac a b)

@@ -1,34 +1,20 @@
 -- The name of a key is its letter, and `es` or `is` where it is black; and so is that of a major key.
-use Rattle.std.proofs.Common.{◌≡◌, ℕ, zero, suc, ◌<◌, ◌==◌, ◌&&◌, Bool, true, false, List, [], ◌∷◌, ◌++◌, append_assoc, refl, sym, ap, ◌∙◌, subst, arith}
+use Rattle.std.proofs.Common.{◌≡◌, ℕ, ◌<◌, Bool, true, false, List, [], ◌∷◌, ◌++◌, append_assoc, refl, sym, ap, ◌∙◌, arith}
 use Rattle.std.specs.Prelude.{◌≤◌, codes, if◌then◌else◌, nat_lt, slice_index, slice_index_or}
 use Rattle.std.specs.Str.{bytes_eq}
-use Rattle.std.proofs.lemmas.Bool.{and_parts}
 use Rattle.std.proofs.lemmas.Bool.Decides.{nat_tests}
 use Rattle.std.proofs.lemmas.List.{append-nil}
 use Rattle.std.proofs.lemmas.Slice.Eq.{bytes_eq-Decides}
 use Rattle.durations.specs.Pitch.{is_black, letters}
 use Rattle.lily_writer.specs.Changes.{key_names}
 use Rattle.lily_writer.specs.Pitches.{names}
+use Rattle.rhythm_base.proofs.NumbersBelow.{one_below, all_below}
 
 abbrev pub built_name : Bool → ℕ → List ℕ
 built_name flats k = slice_index (letters flats) k ∷ (if is_black k then (if flats then codes "es" else codes "is") else [])
 
 abbrev is_named : Bool → ℕ → Bool
 is_named flats k = bytes_eq (built_name flats k) (slice_index_or (names flats) k [])
-
--- a test of each number below one
-abbrev all_below : (ℕ → Bool) → ℕ → Bool
-all_below test zero = true
-all_below test (suc n) = test n && all_below test n
-
-one_below : (test : ℕ → Bool) (n k : ℕ) → all_below test n ≡ true → k < n → test k ≡ true
-one_below test zero k all within = absurd (omega (arith, within))
-one_below test (suc n) k all within = at (k == n) refl (and_parts (test n) (all_below test n) all) (one_below test n k)
-  where
-    at : (b : Bool) → (k == n) ≡ b → (test n ≡ true) × (all_below test n ≡ true) → (all_below test n ≡ true → k < n → test k ≡ true)
-        → test k ≡ true
-    at true e parts rest = let same : n ≡ k = grind (arith, nat_tests) in subst (λ j. test j ≡ true) same parts.0
-    at false e parts rest = let less : k < n = grind (arith, nat_tests) in rest parts.1 less
 
 all_named : (flats : Bool) → all_below (is_named flats) 12 ≡ true
 all_named true = refl

@@ -6,13 +6,13 @@ use Rattle.std.proofs.lemmas.Bool.Decides.{nat_tests}
 use Rattle.std.proofs.lemmas.List.{append-nil}
 use Rattle.std.proofs.lemmas.List.Concat.{flat_map-append}
 use Rattle.rhythm_base.specs.declared.span.Span.{Span}
-use Rattle.rhythm_base.specs.Lists.{Each}
 use Rattle.durations.specs.declared.value.Value.{Value}
 use Rattle.durations.specs.Values.{AreValues}
 use Rattle.voice_events.specs.Parts.{end_parts, start_parts}
 use Rattle.lily_writer.specs.Elements.{Element, element_text, elements_text, rest_value}
 use Rattle.lily_writer.specs.Pieces.{AreElements, Piece, Stretch, cut, first_graces, bar_gap, notes, bar_pieces, sounding}
 use Rattle.lily_writer.specs.Writing.{WritesPieces}
+use Rattle.rhythm_base.proofs.PairedLists.{each_append}
 
 pub elements_append : (flats : Bool) (es fs : List Element) → elements_text flats (es ++ fs) ≡ elements_text flats es ++ elements_text
     flats fs
@@ -25,12 +25,6 @@ pub writes_one : (resolution : ℕ) (flats : Bool) (p : Piece) (es : List Elemen
     → new ≡ text ++ elements_text flats es → WritesPieces resolution flats (p ∷ []) text new
 writes_one resolution flats p es text new are is =
     (es ∷ [], (are, refl), is ∙ ap (λ fs. text ++ elements_text flats fs) (sym (append-nil es)))
-
-each_append : {X Y : Type 0} (R : X → Y → Type 0) (xs us : List X) (ys vs : List Y) → Each R xs ys → Each R us vs
-    → Each R (xs ++ us) (ys ++ vs)
-each_append {X} {Y} R [] us ys vs h k = subst (λ (zs : List Y). Each R us (zs ++ vs)) (sym h) k
-each_append R (x ∷ xs) us [] vs h k = absurd h
-each_append R (x ∷ xs) us (y ∷ ys) vs h k = (h.0, each_append R xs us ys vs h.1 k)
 
 pub writes_more : (resolution : ℕ) (flats : Bool) (ps qs : List Piece) (text middle new : List ℕ) → WritesPieces resolution flats ps text middle
     → WritesPieces resolution flats qs middle new → WritesPieces resolution flats (ps ++ qs) text new

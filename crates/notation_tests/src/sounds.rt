@@ -7,35 +7,9 @@ use grammar_file::read_grammar;
 use kern_reader::{KernEvent, read_kern};
 use rhythm_base::SoundKind::{Begin, Rest, Tie};
 use rhythm_base::{Bar, Chord, Graces, Grammar, Keys, Sound, SoundKind, Span};
+use sample_grammars::USUAL;
 use std::alloc::Global;
 use std::test::Fail;
-
-/// A bar down to eighths.
-const EIGHTHS: &[u8] = b"\
-    rhythm 1\n\
-    resolution 8\n\
-    window 30000\n\
-    onset 1\n\
-    start 4/4 B\n\
-    B 10 note\n\
-    B 10 tie\n\
-    B 5 rest\n\
-    B 20 split H H\n\
-    H 10 note\n\
-    H 10 tie\n\
-    H 10 rest\n\
-    H 20 split Q Q\n\
-    Q 10 note\n\
-    Q 15 short\n\
-    Q 10 tie\n\
-    Q 10 rest\n\
-    Q 40 split E E\n\
-    E 10 note\n\
-    E 20 short\n\
-    E 10 tie\n\
-    E 10 rest\n\
-    E 60 grace 1\n\
-";
 
 /// A bar of four quarters, with two grace chords or none.
 const QUARTERS: &[u8] = b"\
@@ -87,7 +61,7 @@ struct Heard {
 /// Two notes that begin together and one that is held, up to a note of the whole next bar, which begins a little early.
 fn upper_voice(alloc: Global) -> Result<Heard, Fail> {
     derivations_are_well_sounded();
-    let grammar = read(alloc, EIGHTHS)?;
+    let grammar = read(alloc, USUAL)?;
     let lists: [&[u16]; 2] = [&[3, 7, 8, 8, 5], &[0]];
     let bars = [bar(0), bar(1920)];
     let chords = [
@@ -103,7 +77,7 @@ fn upper_voice(alloc: Global) -> Result<Heard, Fail> {
 /// A note of both bars.
 fn lower_voice(alloc: Global) -> Result<Heard, Fail> {
     derivations_are_well_sounded();
-    let grammar = read(alloc, EIGHTHS)?;
+    let grammar = read(alloc, USUAL)?;
     let lists: [&[u16]; 2] = [&[0], &[1]];
     let bars = [bar(0), bar(1920)];
     let chords = [chord(0, 3840, Keys::one(46))];

@@ -3,17 +3,17 @@ use Rattle.std.proofs.Common.{◌≡◌, ◌≢◌, ℕ, suc, ◌+◌, ◌-◌, 
 use Rattle.std.specs.Prelude.{All, Some, None, find, slice_index, ◌&&◌, ◌==◌}
 use Rattle.std.proofs.lemmas.Bool.Decides.{nat_tests}
 use Rattle.std.proofs.lemmas.List.Elements.{All-cons}
-use Rattle.std.proofs.lemmas.List.{get_or-set_same, get_or-set_other, length-set, reverse-append}
+use Rattle.std.proofs.lemmas.List.{get_or-set_same, get_or-set_other, length-set}
 use Rattle.std.proofs.Math.Seq.{drop-cons}
 use Rattle.rhythm_base.specs.declared.event.Event.{Event}
 use Rattle.rhythm_base.specs.declared.event.What.{What}
-use Rattle.rhythm_base.specs.declared.event.What.TheVariants.{On, Off, Tempo, Signature, KeySig}
+use Rattle.rhythm_base.specs.declared.event.What.TheVariants.{On, Off}
 use Rattle.rhythm_base.specs.declared.note.Note.{Note}
 use Rattle.rhythm_base.specs.Notes.{begun, begun_at, end_of_note, touches, tick_or}
 use Rattle.note_list.specs.Ends.{note_from, ends_from}
 use Rattle.note_list.specs.Pairing.{IsPlayable, IsEventOf, begins, AreSilent, IsPlayed}
-use Rattle.note_list.proofs.Among.{Among}
-use Rattle.note_list.proofs.Kept.{Pairwise}
+use Rattle.rhythm_base.proofs.Members.{Among, Pairwise}
+use Rattle.rhythm_base.proofs.ListParts.{reverse_cons}
 
 -- for each channel and key the next end after an event
 pub record AreEnds (last : ℕ) (later : List Event) (ends : List ℕ) : Type 0 where
@@ -54,15 +54,10 @@ ends_more last tick (Off c0 k0) later table h e = record {
   long = set_long table (128 * c0 + k0) tick e.long;
   entry = λ c k a b. entry_after last c0 k0 c k (record { tick = tick; what = Off c0 k0 }) later table h.0 h.1 a b e;
 }
-ends_more last tick (Tempo m) later table h e = record { long = e.long; entry = e.entry }
-ends_more last tick (Signature n d) later table h e = record { long = e.long; entry = e.entry }
-ends_more last tick (KeySig s) later table h e = record { long = e.long; entry = e.entry }
-
-reversed : {X : Type 0} (x : X) (xs : List X) → reverse (x ∷ xs) ≡ reverse xs ++ x ∷ []
-reversed x xs = reverse-append (x ∷ []) xs
+ends_more last tick _ later table h e = record { long = e.long; entry = e.entry }
 
 pub going_some : (last tick : ℕ) (what : What) (later : List Event) (table : List ℕ) (list : List Note) (n : Note) → IsPlayable what → Going last later table list → note_from table tick what ≡ Some n → Going last (record { tick = tick; what = what } ∷ later) (ends_from table tick what) (list ++ n ∷ [])
-going_some last tick (On c k) later table list n h g e = record { ends = ends_more last tick (On c k) later table h g.ends; notes = sym (reversed (record { channel = c; key = k; onset = tick; end = end_of_note last c k later }) (begun last later) ∙ ap (λ m. reverse (begun last later) ++ m ∷ []) (note_is e) ∙ ap (λ l. l ++ n ∷ []) (sym g.notes)) }
+going_some last tick (On c k) later table list n h g e = record { ends = ends_more last tick (On c k) later table h g.ends; notes = sym (reverse_cons (record { channel = c; key = k; onset = tick; end = end_of_note last c k later }) (begun last later) ∙ ap (λ m. reverse (begun last later) ++ m ∷ []) (note_is e) ∙ ap (λ l. l ++ n ∷ []) (sym g.notes)) }
   where
     note_is : note_from table tick (On c k) ≡ Some n → ◌≡◌ {A = Note} (record { channel = c; key = k; onset = tick; end = end_of_note last c k later }) n
     note_is q =
@@ -70,17 +65,11 @@ going_some last tick (On c k) later table list n h g e = record { ends = ends_mo
         let m : Note = record { channel = c; key = k; onset = tick; end = slice_index table (128 * c + k) } in
         let found : m ≡ n = cc in
         sym (ap (λ x. record { channel = c; key = k; onset = tick; end = x }) there) ∙ found
-going_some last tick (Off c k) later table list n h g e = absurd (cc)
-going_some last tick (Tempo m) later table list n h g e = absurd (cc)
-going_some last tick (Signature m d) later table list n h g e = absurd (cc)
-going_some last tick (KeySig s) later table list n h g e = absurd (cc)
+going_some last tick _ later table list n h g e = absurd (cc)
 
 pub going_none : (last tick : ℕ) (what : What) (later : List Event) (table : List ℕ) (list : List Note) → IsPlayable what → Going last later table list → note_from table tick what ≡ None → Going last (record { tick = tick; what = what } ∷ later) (ends_from table tick what) list
 going_none last tick (On c k) later table list h g e = absurd (cc)
-going_none last tick (Off c k) later table list h g e = record { ends = ends_more last tick (Off c k) later table h g.ends; notes = g.notes }
-going_none last tick (Tempo m) later table list h g e = record { ends = ends_more last tick (Tempo m) later table h g.ends; notes = g.notes }
-going_none last tick (Signature m d) later table list h g e = record { ends = ends_more last tick (Signature m d) later table h g.ends; notes = g.notes }
-going_none last tick (KeySig s) later table list h g e = record { ends = ends_more last tick (KeySig s) later table h g.ends; notes = g.notes }
+going_none last tick what later table list h g e = record { ends = ends_more last tick what later table h g.ends; notes = g.notes }
 
 -- ---- whether there are notes, and what each is like
 
@@ -90,10 +79,7 @@ silent_if_none last (e ∷ events) h = let p = one e.what h in All-cons (λ (x :
   where
     one : (w : What) → begun_at last e.tick w events ++ begun last events ≡ [] → (begins w ≡ false) × (begun last events ≡ [])
     one (On c k) q = absurd (cc)
-    one (Off c k) q = (refl, q)
-    one (Tempo m) q = (refl, q)
-    one (Signature n d) q = (refl, q)
-    one (KeySig s) q = (refl, q)
+    one _ q = (refl, q)
 
 pub none_if_silent : (last : ℕ) (events : List Event) → AreSilent events → begun last events ≡ []
 none_if_silent last [] h = refl
@@ -101,10 +87,7 @@ none_if_silent last (e ∷ events) h = one e.what (h 0 e (omega arith)) (none_if
   where
     one : (w : What) → begins w ≡ false → begun last events ≡ [] → begun_at last e.tick w events ++ begun last events ≡ []
     one (On c k) q r = absurd (cc)
-    one (Off c k) q r = r
-    one (Tempo m) q r = r
-    one (Signature n d) q r = r
-    one (KeySig s) q r = r
+    one _ q r = r
 
 -- the end of a note is one of the later ticks, or the last
 end_between : (last low c k : ℕ) (later : List Event) → low ≤ last → ((e : Event) → Among e later → (low ≤ e.tick) × (e.tick ≤ last)) → (low ≤ end_of_note last c k later) × (end_of_note last c k later ≤ last)
@@ -125,10 +108,7 @@ are_played last (e ∷ events) order h n a = one e.what (h e (inl refl)).keyed (
         let between = end_between last e.tick c k events (h e (inl refl)).tick (λ x b. (order.0 x b, (h x (inr b)).tick)) in
         subst (IsPlayed last) (sym f) record { channel = q.0; key = q.1; after = between.0; within = between.1 }
     one (On c k) q rest (inr b) = rest b
-    one (Off c k) q rest b = rest b
-    one (Tempo m) q rest b = rest b
-    one (Signature m d) q rest b = rest b
-    one (KeySig s) q rest b = rest b
+    one _ q rest b = rest b
 
 -- ---- one event of the list
 

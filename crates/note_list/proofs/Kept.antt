@@ -1,25 +1,14 @@
 -- Of sorted notes the first of each channel, onset and key is kept: that with the greatest end.
-use Rattle.std.proofs.Common.{◌≡◌, ◌↔◌, zero, suc, ◌≤◌, Bool, true, false, cond, List, [], ◌∷◌, get_or, refl, sym, ap, ◌∙◌, subst, inl, inr, arith}
-use Rattle.std.specs.Prelude.{AllPairs, ⊤, nat_eq}
+use Rattle.std.proofs.Common.{◌≡◌, ◌↔◌, suc, ◌≤◌, Bool, true, false, cond, List, [], ◌∷◌, refl, sym, ap, ◌∙◌, subst, inl, inr, arith}
+use Rattle.std.specs.Prelude.{AllPairs, nat_eq}
 use Rattle.std.specs.List.{dedup, dedup_from}
 use Rattle.std.specs.Cmp.Lexicographic.{pointwise}
 use Rattle.std.proofs.lemmas.Bool.Decides.{nat_tests}
 use Rattle.rhythm_base.specs.declared.note.Note.{Note}
 use Rattle.rhythm_base.specs.Performance.{place_of_note}
-use Rattle.note_list.proofs.Among.{Among, among_at, place_among}
-use Rattle.note_list.proofs.Places.{IsBefore, ArePlacedAlike, Follows, not_before_itself, not_both, before_alike}
-
--- each and those after it
-abbrev pub Pairwise : {X : Type 0} → (X → X → Type 0) → List X → Type 0
-Pairwise R [] = ⊤
-Pairwise R (x ∷ xs) = ((y : _) → Among y xs → R x y) × Pairwise R xs
-
-pub pairs_from : {X : Type 0} (R : X → X → Type 0) (xs : List X) → Pairwise R xs → AllPairs R xs
-pairs_from R [] h i j d lt within = absurd (omega arith)
-pairs_from R (x ∷ xs) h zero zero d lt within = absurd (omega arith)
-pairs_from R (x ∷ xs) h zero (suc j) d lt within = h.0 (get_or xs j d) (among_at xs j d (omega arith))
-pairs_from R (x ∷ xs) h (suc i) zero d lt within = absurd (omega arith)
-pairs_from R (x ∷ xs) h (suc i) (suc j) d lt within = pairs_from R xs h.1 i j d (omega arith) (omega arith)
+use Rattle.rhythm_base.proofs.Members.{Among, place_among, Pairwise}
+use Rattle.note_list.proofs.Places.{IsBefore, Follows, not_before_itself, not_both, before_alike}
+use Rattle.rhythm_base.proofs.NotePlaces.{ArePlacedAlike, same_note}
 
 pub to_pairs : {X : Type 0} (R : X → X → Type 0) (xs : List X) → AllPairs R xs → Pairwise R xs
 to_pairs R [] h = tt
@@ -49,9 +38,6 @@ joined l m n h k = record { channel = h.channel ∙ k.channel; onset = h.onset �
 
 at_note : (m n : Note) → m ≡ n → ArePlacedAlike m n
 at_note m n e = record { channel = ap (λ (x : Note). x.channel) e; onset = ap (λ (x : Note). x.onset) e; key = ap (λ (x : Note). x.key) e }
-
-same_note : (m n : Note) → ArePlacedAlike m n → m.end ≡ n.end → m ≡ n
-same_note m n h e = λ i. record { channel = h.channel i; key = h.key i; onset = h.onset i; end = e i }
 
 same_end : (m n : Note) → m ≡ n → m.end ≤ n.end
 same_end m n e = let f : m.end ≡ n.end = ap (λ (x : Note). x.end) e in omega (arith, f)

@@ -1,4 +1,3 @@
-pub mod Among
 pub mod Places
 pub mod Kept
 pub mod Ending

@@ -13,9 +13,9 @@ use Rattle.rhythm_base.specs.declared.note.Note.{Note}
 use Rattle.rhythm_base.specs.Notes.{AreNotes, IsKept, begun}
 use Rattle.rhythm_base.proofs.FirstLists.{one_order}
 use Rattle.note_list.specs.Pairing.{IsEventOf, IsPlayed, NotesAreOne, rank_of_note}
-use Rattle.note_list.proofs.Among.{Among, among_at, among_contained, place_among, all_among, all_from_among}
+use Rattle.rhythm_base.proofs.Members.{Among, among_at, among_contained, place_among, all_among, all_from_among, pairs_from, Pairwise}
 use Rattle.note_list.proofs.Places.{IsBefore, Follows, follows, not_both}
-use Rattle.note_list.proofs.Kept.{Pairwise, pairs_from, to_pairs, IsBest, same_place, kept_all}
+use Rattle.note_list.proofs.Kept.{to_pairs, IsBest, same_place, kept_all}
 use Rattle.note_list.proofs.Ending.{are_played}
 
 -- ---- lists in order with the same notes are one

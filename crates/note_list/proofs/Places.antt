@@ -8,15 +8,10 @@ use Rattle.std.specs.Cmp.Lexicographic.{slice_cmp}
 use Rattle.rhythm_base.specs.declared.note.Note.{Note}
 use Rattle.rhythm_base.specs.Performance.{place_of_note}
 use Rattle.note_list.specs.Pairing.{rank_of_note}
+use Rattle.rhythm_base.proofs.NotePlaces.{ArePlacedAlike}
 
 abbrev pub IsBefore : Note → Note → Type 0
 IsBefore m n = slice_cmp nat_cmp (place_of_note m) (place_of_note n) ≡ Less
-
--- the same channel, onset and key
-pub record ArePlacedAlike (m n : Note) : Type 0 where
-  pub channel : m.channel ≡ n.channel
-  pub onset : m.onset ≡ n.onset
-  pub key : m.key ≡ n.key
 
 pub not_before_itself : (m n : Note) → ArePlacedAlike m n → IsBefore m n → ⊥
 not_before_itself m n same h = grind (arith, nat_tests)

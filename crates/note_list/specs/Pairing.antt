@@ -3,7 +3,7 @@ use Rattle.rhythm_base.specs.declared.limits.TheConstants.{MOST_NOTES}
 use Rattle.std.specs.Prelude.{◌≡◌, ◌≤◌, ◌<◌, ℕ, ◌-◌, Bool, true, false, List, [], ◌∷◌, length, All, ⊤}
 use Rattle.rhythm_base.specs.declared.event.Event.{Event}
 use Rattle.rhythm_base.specs.declared.event.What.{What}
-use Rattle.rhythm_base.specs.declared.event.What.TheVariants.{On, Off, Tempo, Signature, KeySig}
+use Rattle.rhythm_base.specs.declared.event.What.TheVariants.{On, Off}
 use Rattle.rhythm_base.specs.declared.note.Note.{Note}
 use Rattle.rhythm_base.specs.Notes.{AreNotes}
 use Rattle.note_list.specs.declared.fault.NoteFault.{NoteFault}
@@ -13,9 +13,7 @@ use Rattle.note_list.specs.declared.fault.NoteFault.TheVariants.{NoNotes, TooMan
 abbrev pub IsPlayable : What → Type 0
 IsPlayable (On c k) = (c < 16) × (k < 128)
 IsPlayable (Off c k) = (c < 16) × (k < 128)
-IsPlayable (Tempo _) = ⊤
-IsPlayable (Signature _ _) = ⊤
-IsPlayable (KeySig _) = ⊤
+IsPlayable _ = ⊤
 
 -- an event of a file with this last tick
 pub record IsEventOf (last : ℕ) (e : Event) : Type 0 where
@@ -24,10 +22,7 @@ pub record IsEventOf (last : ℕ) (e : Event) : Type 0 where
 
 abbrev pub begins : What → Bool
 begins (On _ _) = true
-begins (Off _ _) = false
-begins (Tempo _) = false
-begins (Signature _ _) = false
-begins (KeySig _) = false
+begins _ = false
 
 -- no note begins
 abbrev pub AreSilent : List Event → Type 0

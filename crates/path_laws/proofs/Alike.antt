@@ -157,7 +157,7 @@ joined_order (Some x) (Some y) (Some a) (Some b) (Some c) (Some d) (Some s) (Som
     ∙ then_same (list_cmp x.1 c.1) (list_cmp y.1 d.1) (list_cmp a.1 s.1) (list_cmp b.1 t.1) e (f x c refl refl)
     ∙ sym (joined_cmp y d b t l3)
 
-none_right : (p : Option Key) → lists_cmp p None ≡ Equal
+pub none_right : (p : Option Key) → lists_cmp p None ≡ Equal
 none_right None = refl
 none_right (Some x) = refl
 

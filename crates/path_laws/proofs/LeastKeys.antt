@@ -87,3 +87,8 @@ better-least S n (Some x) (Some y) h g = go (is_before y x.1) refl
 pub pick-least : (S : ℕ → Key → Type 0) (c : ℕ → Option Key) (n : ℕ) → ((m : ℕ) → m < n → IsLeast (S m) (c m)) → IsLeast (IsOneBelow S n) (value_of (pick is_before c n))
 pick-least S c zero h = λ k b. absurd (omega (arith, b.1))
 pick-least S c (suc n) h = better-least S n (pick is_before c n) (c n) (pick-least S c n (λ m low. h m (omega arith))) (h n (omega arith))
+
+-- what is the least of a set is in it
+pub in_set : (S : Key → Type 0) (o : Option Key) (x : Key) → IsLeastKey S o → o ≡ Some x → S x
+in_set S None x h e = absurd (cc)
+in_set S (Some y) x h e = let same : y ≡ x = cc in subst S same h.0

@@ -72,13 +72,13 @@ keys_parse es a b c la lb lc = go (least_key es a b) (least_key es a c) refl ref
     go (Some k) (Some l) e f = long_parse k.1 l.1 (Reach-long es a b k (keys_Reach es a b k e) ∙ sym (Reach-long es a c l (keys_Reach es a c l f)))
 
 -- paths along the first and then along the second
-plus_assoc : (x y z : Key) → plus x (plus y z) ≡ plus (plus x y) z
+pub plus_assoc : (x y z : Key) → plus x (plus y z) ≡ plus (plus x y) z
 plus_assoc x y z =
     let costs : x.0 + (y.0 + z.0) ≡ (x.0 + y.0) + z.0 = omega arith in
     let lists : x.1 ++ (y.1 ++ z.1) ≡ (x.1 ++ y.1) ++ z.1 = sym (append_assoc x.1 y.1 z.1) in
     λ i. (costs i, lists i)
 
-plus_nil : (x : Key) → x ≡ plus (0, []) x
+pub plus_nil : (x : Key) → x ≡ plus (0, []) x
 plus_nil x =
     let costs : x.0 ≡ 0 + x.0 = omega arith in
     λ i. (costs i, x.1)

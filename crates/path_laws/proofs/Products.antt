@@ -33,7 +33,7 @@ grid_same f g h = five_same (λ a. five (f a)) (λ a. five (g a)) (λ a la. five
 
 -- ---- a row of keys and the row of its table
 
-alike_to : (r s t : ℕ → Option Key) → ((b : ℕ) → b < 5 → s b ≡ t b) → AreAlike r s → AreAlike r t
+pub alike_to : (r s t : ℕ → Option Key) → ((b : ℕ) → b < 5 → s b ≡ t b) → AreAlike r s → AreAlike r t
 alike_to r s t e h = record {
   costs = λ b low. subst (λ q. same (r b) q) (e b low) (h.costs b low);
   order = λ b c lb lc. h.order b c lb lc ∙ (λ i. lists_cmp (e b lb i) (e c lc i));

@@ -54,7 +54,7 @@ fn with_barline(
 ) -> Result<Vec<Bar>, AllocError>
     ensures { IfOk result (λ v. v.items ≡ edits.with_barline number tick bars.now) }
 {
-    let mut bars = bars.to_vec(alloc)?;
+    let mut bars = Vec::from_slice(alloc, bars)?;
     if number < bars.len() {
         bars[number].start = tick;
     }
@@ -68,7 +68,8 @@ fn with_next(alloc: Global, bars: &[Bar], last: u64) -> Result<Vec<Bar>, AllocEr
     match bars {
         [] => Ok(Vec::new(alloc)),
         [.., bar] => {
-            let mut longer = bars.to_vec(alloc)?;
+            let mut longer = Vec::with_capacity(alloc, bars.len().saturating_add(1))?;
+            longer.extend_from_slice(bars)?;
             longer.push(Bar {
                 start: last,
                 ..*bar
@@ -84,7 +85,7 @@ fn without_last(alloc: Global, bars: &[Bar]) -> Result<Vec<Bar>, AllocError>
 {
     match bars {
         [] => Ok(Vec::new(alloc)),
-        [others @ .., _bar] => others.to_vec(alloc),
+        [others @ .., _bar] => Vec::from_slice(alloc, others),
     }
 }
 
@@ -106,7 +107,7 @@ pub fn bars_after(
         | Edit::Drop { .. }
         | Edit::Move { .. }
         | Edit::Pin { .. }
-        | Edit::Unpin { .. } => bars.to_vec(alloc),
+        | Edit::Unpin { .. } => Vec::from_slice(alloc, bars),
     }
 }
 

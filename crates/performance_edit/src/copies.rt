@@ -27,9 +27,9 @@ pub fn with_parts(
       pins = pins.items;
     }) }
 {
-    let tempos = performance.tempos().to_vec(alloc)?;
-    let key_marks = performance.key_marks().to_vec(alloc)?;
-    let channels = performance.channels().to_vec(alloc)?;
+    let tempos = Vec::from_slice(alloc, performance.tempos())?;
+    let key_marks = Vec::from_slice(alloc, performance.key_marks())?;
+    let channels = Vec::from_slice(alloc, performance.channels())?;
     Ok(Performance::make(
         performance.division(),
         tempos,
@@ -46,8 +46,8 @@ pub fn with_parts(
 pub fn copied(alloc: Global, performance: &Performance) -> Result<Performance, AllocError>
     ensures { IfOk result (λ p. p ≡ performance.now) }
 {
-    let bars = performance.bars().to_vec(alloc)?;
-    let notes = performance.notes().to_vec(alloc)?;
+    let bars = Vec::from_slice(alloc, performance.bars())?;
+    let notes = Vec::from_slice(alloc, performance.notes())?;
     let pins = copied_pins(alloc, performance.pins())?;
     with_parts(alloc, performance, bars, performance.last(), notes, pins)
 }

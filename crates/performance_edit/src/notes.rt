@@ -7,7 +7,7 @@ ghost use Rattle.std.specs.Prelude.{◌≡◌, ◌≤◌, All, IfOk, min, option
 ghost use Rattle.performance_edit.specs.OnlyPlaces.{IsOnlyPlace};
 ghost use Rattle.std.specs.List.{reduce};
 
-use crate::order::count_before;
+use crate::order::{count_before, put};
 use rhythm_base::{Edit, Note, Performance};
 use std::alloc::{AllocError, Global};
 
@@ -120,7 +120,7 @@ fn without_note(
 {
     match place_of(notes, channel, key, onset) {
         None => {
-            let others = notes.to_vec(alloc)?;
+            let others = Vec::from_slice(alloc, notes)?;
             Ok(others)
         }
         Some(place) => {
@@ -150,10 +150,13 @@ fn with_moved(
         edits.put_moved to (edits.note_at notes.now channel key onset)
         (edits.without_note channel key onset notes.now)) }
 {
-    let others = without_note(alloc, notes, channel, key, onset)?;
+    let mut others = without_note(alloc, notes, channel, key, onset)?;
     match note_at(notes, channel, key, onset) {
         None => Ok(others),
-        Some(note) => with_note(alloc, others.as_slice(), moved_to(note, to)),
+        Some(note) => {
+            put(&mut others, moved_to(note, to))?;
+            Ok(others)
+        }
     }
 }
 
@@ -197,6 +200,6 @@ pub fn notes_after(
         | Edit::Pin { .. }
         | Edit::Unpin { .. }
         | Edit::AddBar
-        | Edit::DropBar => notes.to_vec(alloc),
+        | Edit::DropBar => Vec::from_slice(alloc, notes),
     }
 }

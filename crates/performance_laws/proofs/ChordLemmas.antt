@@ -11,7 +11,7 @@ use Rattle.rhythm_base.specs.Chords.{AreChords, StandsApart}
 use Rattle.rhythm_base.specs.Leaves.{soundings}
 use Rattle.rhythm_base.specs.Line.{Rising}
 use Rattle.rhythm_base.specs.Time.{time, tempo_at}
-use Rattle.rhythm_base.proofs.OrderedLists.{all_cons, all_head, all_tail}
+use Rattle.rhythm_base.proofs.OrderedLists.{all_cons, all_head, all_tail, rise_later}
 
 -- ---- time does not fall
 
@@ -50,12 +50,6 @@ onsets_rise tempos division window notes (c ∷ d ∷ cs) (f, xs, us, e, p, a, m
     go rest (suc k) l =
         let moved : suc k + 1 ≡ suc (k + 1) = omega arith in
         subst (λ n. slice_index (map (λ (x : Chord). x.onset) (d ∷ cs)) k < slice_index (map (λ (x : Chord). x.onset) (c ∷ d ∷ cs)) n) (sym moved) (rest k (omega arith))
-
--- numbers that rise do so from the second on
-pub rise_later : (x : ℕ) (xs : List ℕ) → IsStrictlyIncreasing (x ∷ xs) → IsStrictlyIncreasing xs
-rise_later x xs up k lt =
-    let moved : suc k + 1 ≡ suc (k + 1) = omega arith in
-    subst (λ n. slice_index xs k < slice_index (x ∷ xs) n) moved (up (suc k) (omega (arith, lt)))
 
 rising_after : (low : ℕ) (c : Chord) (cs : List Chord) → low ≤ c.onset → IsStrictlyIncreasing (map (λ x. x.onset) (c ∷ cs)) → Rising low (soundings (c ∷ cs))
 rising_after low c [] le up = (le, tt)

@@ -5,4 +5,5 @@ pub mod OneChords
 pub mod OneEvents
 pub mod OneVoices
 pub mod PerformedVoices
+pub mod SomeChords
 mod WorkedAnswers

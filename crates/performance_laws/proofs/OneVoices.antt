@@ -16,6 +16,7 @@ use Rattle.performance_laws.proofs.PerformedVoices.{performed_voice}
 use Rattle.performance_laws.proofs.OneChords.{one_chords}
 use Rattle.tree_laws.proofs.OneDerivations.{one_least}
 use Rattle.tree_laws.specs.Voices.{CellsFit, IsVoice}
+use Rattle.std.specs.Prelude.{Contains}
 
 -- ---- the least derivation of a voice and its cost
 
@@ -106,3 +107,12 @@ module _ (g : Grammar) (p : Performance) (some : 1 ≤ g.resolution) (formed : I
   one_dead_voice channel bar channel' bar' h k =
       let same = one_dead_channel channel bar channel' bar' h k in
       (same, same_channel_bar channel' bar bar' (subst (λ c. IsDeadVoice g p c bar) same h) k)
+
+-- each voice of a performance that has a cost has a derivation
+pub cost_has : (g : Grammar) (p : Performance) (channels : List ℕ) (sum channel : ℕ) → IsSumOfCosts g p channels sum → Contains channels channel
+    → HasDerivation g p channel
+cost_has g p [] sum channel is (k, lt, at) = absurd (omega (arith, lt))
+cost_has g p (c ∷ channels) sum channel (first, others, least, more, total) (zero, lt, at) =
+    subst (HasDerivation g p) at (least.chords, least.trees, least.starts, least.are_chords, least.least.fits)
+cost_has g p (c ∷ channels) sum channel (first, others, least, more, total) (suc k, lt, at) =
+    cost_has g p channels others channel more (k, omega (arith, lt), at)

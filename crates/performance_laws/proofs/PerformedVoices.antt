@@ -1,5 +1,5 @@
 -- The voices of a well-formed performance: their bars stand side by side to the last barline, and their chords rise below it.
-use Rattle.std.proofs.Common.{◌≡◌, ℕ, suc, ◌+◌, ◌-◌, ◌<◌, ◌≤◌, true, List, [], ◌∷◌, refl, sym, ap, ◌∙◌, subst, ap₂, arith}
+use Rattle.std.proofs.Common.{◌≡◌, ℕ, suc, ◌+◌, ◌-◌, ◌<◌, ◌≤◌, true, List, [], ◌∷◌, refl, sym, ap, ◌∙◌, subst, ap₂, arith, zero}
 use Rattle.std.specs.Prelude.{All, nat_lt, ◌&&◌}
 use Rattle.std.specs.List.{list_all}
 use Rattle.std.specs.List.Sorted.{IsStrictlyIncreasing}
@@ -12,12 +12,12 @@ use Rattle.rhythm_base.specs.DeadBars.{end_of_bars}
 use Rattle.rhythm_base.specs.Barlines.{barline}
 use Rattle.rhythm_base.specs.Leaves.{VoiceBar, soundings}
 use Rattle.rhythm_base.specs.Line.{Rising}
-use Rattle.rhythm_base.specs.Performance.{IsNoteOf, IsWellFormed, Performance}
+use Rattle.rhythm_base.specs.Performance.{IsNoteOf, IsWellFormed, Performance, IsBarOf}
 use Rattle.rhythm_base.specs.Grammar.{Grammar}
 use Rattle.rhythm_base.specs.Voices.{AreChordsOf, voice_bars, voice_bars_from, notes_of_voice}
-use Rattle.performance_laws.proofs.ChordLemmas.{chords_end_after, onsets_keep, onsets_rise, rise_later, soundings_rise}
+use Rattle.performance_laws.proofs.ChordLemmas.{chords_end_after, onsets_keep, onsets_rise, soundings_rise}
 use Rattle.performance_laws.proofs.EditedBars.{barline_is, barlines_rise, starts}
-use Rattle.rhythm_base.proofs.OrderedLists.{all_head, all_tail}
+use Rattle.rhythm_base.proofs.OrderedLists.{all_head, all_tail, rise_later}
 use Rattle.tree_laws.specs.Voices.{Adjacent, IsVoice}
 
 -- ---- bars
@@ -35,7 +35,7 @@ measures_adjacent g pins channel last i b (bar ∷ bars) up before here =
     )
 
 -- bars side by side end where they end
-adjacent_ends : (bars : List VoiceBar) (b e : ℕ) → Adjacent b bars e → end_of_bars b bars ≡ e
+pub adjacent_ends : (bars : List VoiceBar) (b e : ℕ) → Adjacent b bars e → end_of_bars b bars ≡ e
 adjacent_ends [] b e near = near
 adjacent_ends (bar ∷ bars) b e near = ap (λ s. end_of_bars (s + bar.length) bars) near.0 ∙ adjacent_ends bars (b + bar.length) e near.2
 
@@ -74,3 +74,9 @@ module _ (g : Grammar) (p : Performance) (channel : ℕ) (cs : List Chord) (w : 
         rise = rising;
         below = ap (λ e. list_all (λ c. nat_lt c.onset e) (soundings cs)) end ∙ all_below p.last cs low;
       }
+
+-- no barline is after the last one
+pub by_last : (division last : ℕ) (bars : List Bar) (k : ℕ) → All (IsBarOf division last) bars → barline bars last k ≤ last
+by_last division last [] k all = omega arith
+by_last division last (b ∷ bars) zero all = let head = all_head (IsBarOf division last) b bars all in omega (arith, head.start)
+by_last division last (b ∷ bars) (suc k) all = by_last division last bars k (all_tail (IsBarOf division last) b bars all)

@@ -1,5 +1,5 @@
 -- What holds of the events of the tracks holds of the merged events, and the changes among them stand in their order.
-use Rattle.std.proofs.Common.{◌≡◌, ℕ, zero, suc, ◌<◌, ◌≤◌, Bool, true, false, ◌==◌, List, [], ◌∷◌, length, map, get_or, subst, refl, sym, arith, Option, Some, None, if◌then◌else◌}
+use Rattle.std.proofs.Common.{◌≡◌, ℕ, zero, suc, ◌<◌, ◌≤◌, Bool, true, false, ◌==◌, List, [], ◌∷◌, length, map, get_or, subst, refl, sym, arith, Option, Some, None, if◌then◌else◌, cond}
 use Rattle.std.specs.Prelude.{All, Contains, filter, fold, max, ⊤}
 use Rattle.std.specs.List.{cons_option, filter_map, flat_map}
 use Rattle.std.specs.List.Sorted.{IsNonDecreasing}
@@ -124,3 +124,15 @@ chosen_all {Y} h P Q gives (e ∷ es) all = by (h e) refl (chosen_all h P Q give
     by : (o : Option Y) → h e ≡ o → All Q (filter_map h es) → All Q (cons_option o (filter_map h es))
     by None is rest = rest
     by (Some y) is rest = All-cons Q y (filter_map h es) (gives e y (all 0 e (omega arith)) is) rest
+
+-- events that go up still do where some are left out
+pub filter_up : (p : Event → Bool) (low : ℕ) (es : List Event) → Up low (map (λ e. e.tick) es) → Up low (map (λ e. e.tick) (filter p es))
+filter_up p low [] up = tt
+filter_up p low (e ∷ es) up = go (p e) (filter_up p e.tick es up.1)
+  where
+    go : (b : Bool) → Up e.tick (map (λ x. x.tick) (filter p es)) → Up low (map (λ x. x.tick) (cond b (e ∷ filter p es) (filter p es)))
+    go true rest = (up.0, rest)
+    go false rest = up_lower low e.tick (map (λ x. x.tick) (filter p es)) up.0 rest
+
+pub filter_order : (p : Event → Bool) (es : List Event) → IsNonDecreasing (map (λ e. e.tick) es) → IsNonDecreasing (map (λ e. e.tick) (filter p es))
+filter_order p es order = up_to 0 (map (λ e. e.tick) (filter p es)) (filter_up p 0 es (up_from 0 (map (λ e. e.tick) es) (λ k d lt. omega arith) order))

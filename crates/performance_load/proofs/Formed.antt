@@ -31,9 +31,7 @@ use Rattle.performance_load.proofs.SomeNote.{some_note}
 has_key : (w : What) → IsSaid w → IsPlayable w
 has_key (what.On c k) h = h
 has_key (what.Off c k) h = h
-has_key (what.Tempo m) h = tt
-has_key (what.Signature a b) h = tt
-has_key (what.KeySig s) h = tt
+has_key _ h = tt
 
 abbrev IsFileEvent : ℕ → Event → Type 0
 IsFileEvent last e = (e.tick ≤ last) × IsSaid e.what
@@ -60,51 +58,36 @@ module _ (f : Smf) (events : List Event) (played : IsPlayedFile f) (merged : Are
   tempo_tick e t is = by e.what is
     where
       by : (w : What) → tempo_in e.tick w ≡ Some t → t.tick ≡ e.tick
-      by (what.On c k) is = absurd (cc)
-      by (what.Off c k) is = absurd (cc)
       by (what.Tempo m) is = cc
-      by (what.Signature a b) is = absurd (cc)
-      by (what.KeySig s) is = absurd (cc)
+      by _ is = absurd (cc)
 
   key_tick : (e : Event) (t : KeyMark) → key_in e.tick e.what ≡ Some t → t.tick ≡ e.tick
   key_tick e t is = by e.what is
     where
       by : (w : What) → key_in e.tick w ≡ Some t → t.tick ≡ e.tick
-      by (what.On c k) is = absurd (cc)
-      by (what.Off c k) is = absurd (cc)
-      by (what.Tempo m) is = absurd (cc)
-      by (what.Signature a b) is = absurd (cc)
       by (what.KeySig s) is = cc
+      by _ is = absurd (cc)
 
   signature_tick : (e : Event) (t : Signature) → signature_in e.tick e.what ≡ Some t → t.tick ≡ e.tick
   signature_tick e t is = by e.what is
     where
       by : (w : What) → signature_in e.tick w ≡ Some t → t.tick ≡ e.tick
-      by (what.On c k) is = absurd (cc)
-      by (what.Off c k) is = absurd (cc)
-      by (what.Tempo m) is = absurd (cc)
       by (what.Signature a b) is = cc
-      by (what.KeySig s) is = absurd (cc)
+      by _ is = absurd (cc)
 
   is_tempo : (e : Event) (t : Tempo) → IsFileEvent (last_tick f) e → tempo_in e.tick e.what ≡ Some t → IsTempo t
   is_tempo e t h is = by e.what h.1 is
     where
       by : (w : What) → IsSaid w → tempo_in e.tick w ≡ Some t → IsTempo t
-      by (what.On c k) h is = absurd (cc)
-      by (what.Off c k) h is = absurd (cc)
       by (what.Tempo m) h is = let same : m ≡ t.micros = cc in record { some = subst (λ n. 1 ≤ n) same h.0; few = subst (λ n. n ≤ 16777215) same h.1 }
-      by (what.Signature a b) h is = absurd (cc)
-      by (what.KeySig s) h is = absurd (cc)
+      by _ h is = absurd (cc)
 
   is_key_mark : (e : Event) (t : KeyMark) → IsFileEvent (last_tick f) e → key_in e.tick e.what ≡ Some t → IsKeyMark t
   is_key_mark e t h is = by e.what h.1 is
     where
       by : (w : What) → IsSaid w → key_in e.tick w ≡ Some t → IsKeyMark t
-      by (what.On c k) h is = absurd (cc)
-      by (what.Off c k) h is = absurd (cc)
-      by (what.Tempo m) h is = absurd (cc)
-      by (what.Signature a b) h is = absurd (cc)
       by (what.KeySig s) h is = let same : s ≡ t.sf = cc in record { low = subst (λ z. negsuc 6 ≤ℤ z) same h.0; high = subst (λ z. z ≤ℤ pos 7) same h.1 }
+      by _ h is = absurd (cc)
 
   pub signatures_in_order : IsNonDecreasing (map (λ s. s.tick) (signatures_of events))
   signatures_in_order = chosen_in_order (λ e. signature_in e.tick e.what) (λ s. s.tick) signature_tick events merged.in_order

@@ -2,7 +2,7 @@
 use Rattle.std.proofs.Common.{ℕ, List, map}
 use Rattle.std.specs.Prelude.{All}
 use Rattle.std.specs.List.Sorted.{IsNonDecreasing}
-use Rattle.note_list.proofs.Among.{all_among, all_from_among, among_contained, place_among}
+use Rattle.rhythm_base.proofs.Members.{all_among, all_from_among, among_contained, place_among}
 use Rattle.note_list.proofs.Ending.{are_played}
 use Rattle.note_list.proofs.OneList.{events_rise}
 use Rattle.note_list.specs.Pairing.{IsEventOf, IsPlayed}

@@ -5,8 +5,7 @@ use Rattle.std.specs.List.{dedup}
 use Rattle.std.specs.List.Sorted.{IsSorted}
 use Rattle.std.specs.Ordering.{is_lt, nat_cmp}
 use Rattle.std.specs.Cmp.{nat_cmp_is}
-use Rattle.std.specs.Cmp.Lexicographic.{slice_cmp}
-use Rattle.std.specs.declared.cmp.Ordering.TheVariants.{Less, Equal, Greater}
+use Rattle.std.specs.declared.cmp.Ordering.TheVariants.{Equal, Greater}
 use Rattle.std.proofs.lemmas.Bool.{cases_order}
 use Rattle.std.proofs.lemmas.List.{length-map}
 use Rattle.std.proofs.lemmas.Map.Keys.{IsStrictlyIncreasing-dedup}
@@ -15,16 +14,7 @@ use Rattle.rhythm_base.specs.declared.note.Note.{Note}
 use Rattle.rhythm_base.specs.Lists.{AreInOrder}
 use Rattle.rhythm_base.specs.Performance.{place_of_note}
 use Rattle.performance_load.specs.Loading.{AreVoicesOf}
-
-channel_low : (m n : Note) → slice_cmp nat_cmp (place_of_note m) (place_of_note n) ≡ Less → m.channel ≤ n.channel
-channel_low m n h =
-    elim (cases_order m.channel n.channel) [
-      | inl same ↦ omega (arith, same)
-      | inr other ↦ elim other [
-        | inl less ↦ omega (arith, less)
-        | inr back ↦ let greater : Greater ≡ nat_cmp m.channel n.channel = nat_cmp_is m.channel n.channel Greater back in absurd (cc)
-      ]
-    ]
+use Rattle.rhythm_base.proofs.OrderedLists.{channel_low}
 
 not_before : (a b : ℕ) → a ≤ b → is_lt (nat_cmp b a) ≡ false
 not_before a b le =

@@ -5,35 +5,9 @@ ghost use Rattle.std.specs.Prelude.{◌≡◌, ◌≤◌, IfOk};
 use grammar_file::read_grammar;
 use rhythm_base::Grammar;
 use rhythm_gen::generate;
+use sample_grammars::USUAL;
 use std::alloc::{AllocError, Global};
 use std::io::{self, ErrorKind};
-
-/// Halves, quarters and eighths, with ties, rests, short notes and grace notes.
-const GRAMMAR: &[u8] = b"\
-    rhythm 1\n\
-    resolution 8\n\
-    window 30000\n\
-    onset 1\n\
-    start 4/4 B\n\
-    B 10 note\n\
-    B 10 tie\n\
-    B 5 rest\n\
-    B 20 split H H\n\
-    H 10 note\n\
-    H 10 tie\n\
-    H 10 rest\n\
-    H 20 split Q Q\n\
-    Q 10 note\n\
-    Q 15 short\n\
-    Q 10 tie\n\
-    Q 10 rest\n\
-    Q 40 split E E\n\
-    E 10 note\n\
-    E 20 short\n\
-    E 10 tie\n\
-    E 10 rest\n\
-    E 60 grace 1\n\
-";
 
 /// The number that the piece is made from.
 const NUMBER: u32 = 7;
@@ -42,7 +16,7 @@ const NUMBER: u32 = 7;
 pub fn grammar_of(alloc: Global) -> io::Result<Grammar>
     ensures { IfOk result IsReadable }
 {
-    match read_grammar(alloc, GRAMMAR) {
+    match read_grammar(alloc, USUAL) {
         Ok(grammar) => Ok(grammar),
         Err(_) => Err(io::Error::from(ErrorKind::InvalidData)),
     }

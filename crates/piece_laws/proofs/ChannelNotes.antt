@@ -2,51 +2,25 @@
 use Rattle.std.proofs.Common.{◌≡◌, ℕ, Bool, true, false, cond, ◌==◌, List, [], ◌∷◌, ◌++◌, map, refl, sym, ap, ◌∙◌, subst, append-nil, arith, Some}
 use Rattle.std.specs.Prelude.{filter, find, ◌&&◌, Option}
 use Rattle.std.specs.List.{flat_map}
-use Rattle.std.specs.List.Sorted.{IsNonDecreasing}
 use Rattle.std.proofs.lemmas.Bool.Decides.{nat_tests}
-use Rattle.performance_load.proofs.EventLemmas.{Up, up_from, up_lower, up_to}
+use Rattle.performance_load.proofs.EventLemmas.{Up, up_to, filter_order}
 use Rattle.rhythm_base.specs.Events.{IsMerged, at_tick}
 use Rattle.rhythm_base.specs.Notes.{begun, begun_at, end_of_note, tick_or, touches}
 use Rattle.rhythm_base.specs.declared.event.Event.{Event}
 use Rattle.rhythm_base.specs.declared.event.What.{What}
-use Rattle.rhythm_base.specs.declared.event.What.TheVariants.{On, Off, Tempo, Signature, KeySig}
+use Rattle.rhythm_base.specs.declared.event.What.TheVariants.{On, Off}
 use Rattle.rhythm_base.specs.declared.note.Note.{Note}
 use Rattle.rhythm_gen.proofs.Sung.{AreSung}
 use Rattle.performance_laws.proofs.OneEvents.{one_merged}
 use Rattle.piece_laws.specs.Events.{played_note}
-
--- ---- filters
-
-pub filter_swap : {X : Type 0} (p q : X → Bool) (xs : List X) → filter p (filter q xs) ≡ filter q (filter p xs)
-filter_swap p q [] = refl
-filter_swap {X} p q (x ∷ xs) = go (p x) (q x) refl refl (filter_swap p q xs)
-  where
-    go : (b c : Bool) → p x ≡ b → q x ≡ c → filter p (filter q xs) ≡ filter q (filter p xs) → filter p (cond c (x ∷ filter q xs) (filter q xs)) ≡ filter q (cond b (x ∷ filter p xs) (filter p xs))
-    go true true e f rest = rw (e, f) (ap (λ (ys : List X). x ∷ ys) rest)
-    go true false e f rest = rw f rest
-    go false true e f rest = rw e rest
-    go false false e f rest = rest
-
--- events that go up still do where some are left out
-filter_up : (p : Event → Bool) (low : ℕ) (es : List Event) → Up low (map (λ e. e.tick) es) → Up low (map (λ e. e.tick) (filter p es))
-filter_up p low [] up = tt
-filter_up p low (e ∷ es) up = go (p e) (filter_up p e.tick es up.1)
-  where
-    go : (b : Bool) → Up e.tick (map (λ x. x.tick) (filter p es)) → Up low (map (λ x. x.tick) (cond b (e ∷ filter p es) (filter p es)))
-    go true rest = (up.0, rest)
-    go false rest = up_lower low e.tick (map (λ x. x.tick) (filter p es)) up.0 rest
-
-filter_order : (p : Event → Bool) (es : List Event) → IsNonDecreasing (map (λ e. e.tick) es) → IsNonDecreasing (map (λ e. e.tick) (filter p es))
-filter_order p es order = up_to 0 (map (λ e. e.tick) (filter p es)) (filter_up p 0 es (up_from 0 (map (λ e. e.tick) es) (λ k d lt. omega arith) order))
+use Rattle.rhythm_base.proofs.ListParts.{filter_swap}
 
 -- ---- one channel
 
 abbrev pub of_channel : ℕ → What → Bool
 of_channel channel (On c k) = c == channel
 of_channel channel (Off c k) = c == channel
-of_channel channel (Tempo m) = false
-of_channel channel (Signature n d) = false
-of_channel channel (KeySig s) = false
+of_channel channel _ = false
 
 abbrev pub channel_events : ℕ → List Event → List Event
 channel_events channel events = filter (λ e. of_channel channel e.what) events
@@ -73,9 +47,7 @@ same_find channel key (e ∷ es) = by e.what refl (same_find channel key es)
         → cond (touches channel key w) (Some e) (find (λ x. touches channel key x.what) es) ≡ find (λ x. touches channel key x.what) (cond (of_channel channel w) (e ∷ channel_events channel es) (channel_events channel es))
     by (On c k) is rest = first c k (c == channel) refl (ap (λ (w : What). touches channel key w) is) rest
     by (Off c k) is rest = first c k (c == channel) refl (ap (λ (w : What). touches channel key w) is) rest
-    by (Tempo m) is rest = rest
-    by (Signature n d) is rest = rest
-    by (KeySig s) is rest = rest
+    by _ is rest = rest
 
 abbrev SameNotes : ℕ → ℕ → List Event → Type 0
 SameNotes last channel events = filter (λ n. n.channel == channel) (begun last events) ≡ begun last (channel_events channel events)
@@ -100,9 +72,7 @@ channel_begun last channel (e ∷ es) = by e.what refl (channel_begun last chann
     by : (w : What) → e.what ≡ w → SameNotes last channel es → filter (λ n. n.channel == channel) (begun_at last e.tick w es ++ begun last es) ≡ begun last (cond (of_channel channel w) (e ∷ channel_events channel es) (channel_events channel es))
     by (On c k) is rest = on c k (c == channel) refl is rest
     by (Off c k) is rest = off c k (c == channel) is rest
-    by (Tempo m) is rest = rest
-    by (Signature n d) is rest = rest
-    by (KeySig s) is rest = rest
+    by _ is rest = rest
 
 -- ---- one voice
 

@@ -1,7 +1,7 @@
 -- The bars of a loaded piece.
 use Rattle.std.proofs.Common.{◌≡◌, ℕ, ◌+◌, ◌-◌, ◌*◌, ◌≤◌, List, [], ◌∷◌, length, length-append, ◌==◌, Err, refl, sym, ap, ◌∙◌, subst, inl, inr, Ok, arith}
 use Rattle.std.specs.Prelude.{◌≢◌, All, Contains, filter}
-use Rattle.note_list.proofs.Among.{Among, all_among, all_from_among, among_contained}
+use Rattle.rhythm_base.proofs.Members.{Among, all_among, all_from_among, among_contained, among_left, among_both}
 use Rattle.note_list.proofs.OneList.{are_one}
 use Rattle.performance_load.proofs.EventLemmas.{below_greatest, chosen_all, greatest_low}
 use Rattle.performance_load.specs.Loading.{AreMergedOf, IsLoaded, Loads, greatest_end, greatest_onset, last_tick}
@@ -29,7 +29,6 @@ use Rattle.piece_laws.specs.Events.{meant_file, meant_bars, meant_notes}
 use Rattle.piece_laws.specs.Laws.{IsLoadingOf, PiecesAreLoaded, PiecesHaveTheirBars, PiecesKeepTheirNotes}
 use Rattle.piece_laws.proofs.EvenBars.{IsFourFour, laid_bars, laid_without_fault, so_many}
 use Rattle.piece_laws.proofs.Files.{pieces_read}
-use Rattle.piece_laws.proofs.NoteEvents.{among_both, among_left}
 use Rattle.piece_laws.proofs.PieceEvents.{IsOfPiece, calm_signature}
 use Rattle.piece_laws.proofs.PieceNotes.{are_notes, lower_notes, lower_sung, merged_events, upper_notes, upper_begun, upper_sung}
 

@@ -17,10 +17,8 @@ use Rattle.piece_laws.proofs.EvenBars.{IsFourFour}
 -- a note of one of two channels begins not near to the end, and a signature is 4/4
 abbrev pub FitsPiece : ℕ → ℕ → What → Type 0
 FitsPiece end tick (what.On c k) = (tick + 220 ≤ end) × (c < 2)
-FitsPiece end tick (what.Off c k) = ⊤
-FitsPiece end tick (what.Tempo m) = ⊤
 FitsPiece end tick (what.Signature num dd) = (num ≡ 4) × (dd ≡ 2)
-FitsPiece end tick (what.KeySig s) = ⊤
+FitsPiece end tick _ = ⊤
 
 -- an event of a piece with its last barline at a tick
 pub record IsOfPiece (end : ℕ) (e : Event) : Type 0 where
@@ -53,11 +51,8 @@ pub calm_signature : (end : ℕ) (e : Event) (s : Signature) → IsOfPiece end e
 calm_signature end e s h is = by e.what h.calm is
   where
     by : (w : What) → FitsPiece end e.tick w → signature_in e.tick w ≡ Some s → IsFourFour s
-    by (what.On c k) calm at = absurd (cc)
-    by (what.Off c k) calm at = absurd (cc)
-    by (what.Tempo m) calm at = absurd (cc)
     by (what.Signature num dd) calm at =
         let here : Signature = record { tick = e.tick; num = num; dd = dd } in
         let same : here ≡ s = cc in
         subst IsFourFour same calm
-    by (what.KeySig k) calm at = absurd (cc)
+    by _ calm at = absurd (cc)

@@ -5,9 +5,8 @@ use Rattle.std.specs.List.{flat_map}
 use Rattle.std.proofs.lemmas.Bool.{cases_lt}
 use Rattle.std.proofs.lemmas.Bool.Decides.{nat_tests}
 use Rattle.std.proofs.lemmas.List.Elements.{All-append, All-nil, filter-append}
-use Rattle.note_list.proofs.Among.{Among, all_among, all_from_among, among_contained, place_among}
-use Rattle.note_list.proofs.Kept.{Pairwise, pairs_from}
-use Rattle.note_list.proofs.Places.{ArePlacedAlike, IsBefore, not_before_itself}
+use Rattle.rhythm_base.proofs.Members.{Among, all_among, all_from_among, among_contained, place_among, pairs_from, Pairwise, among_left, among_right, among_both, kept_by}
+use Rattle.note_list.proofs.Places.{IsBefore, not_before_itself}
 use Rattle.performance_load.proofs.EventLemmas.{all_merged}
 use Rattle.rhythm_base.specs.Events.{IsMerged}
 use Rattle.rhythm_base.specs.Notes.{AreNotes, IsKept, begun}
@@ -18,8 +17,9 @@ use Rattle.rhythm_gen.specs.Voice.{voice_notes}
 use Rattle.rhythm_gen.proofs.Sung.{AreSung, voice_sung}
 use Rattle.piece_laws.specs.Events.{meant_file, meant_notes, played_conductor, played_note}
 use Rattle.piece_laws.proofs.ChannelNotes.{channel_begun, channel_events, channel_is, no_events, of_channel, own_events, voice_begun}
-use Rattle.piece_laws.proofs.NoteEvents.{among_both, among_left, among_right, begins_with, from_event, kept_by, out_of}
+use Rattle.piece_laws.proofs.NoteEvents.{begins_with, from_event, out_of}
 use Rattle.piece_laws.proofs.PieceEvents.{IsOfPiece, conductor_events, voice_events}
+use Rattle.rhythm_base.proofs.NotePlaces.{ArePlacedAlike}
 
 -- ---- the order of the notes
 

@@ -14,7 +14,7 @@ use Rattle.smf_laws.specs.Written.{AreLater}
 use Rattle.voice_events.specs.VoiceEvents.{AreVoiceEventsFrom}
 use Rattle.smf_writer.specs.NoteMessages.{Message, begins, ends, event_of}
 use Rattle.smf_writer.specs.Strokes.{spine_events, voices_from}
-use Rattle.smf_writer.proofs.Members.{Among, Pairwise, all_among, among_both, out_of, pairs_join, pairs_weaken}
+use Rattle.rhythm_base.proofs.Members.{Among, Pairwise, all_among, among_both, out_of, pairs_join, pairs_weaken}
 use Rattle.smf_writer.proofs.Spines.{HasSpans, events_are, spine_kept, spine_spans}
 use Rattle.smf_writer.proofs.StrokeOrder.{DoesNotOverlap, IsEarlier, Succeed, all_of, messages_of_notes, messages_order, notes_apart, notes_have_messages, notes_of, notes_order, notes_within}
 use Rattle.smf_writer.proofs.Voices.{spans_succeed, voice_strokes}

@@ -2,39 +2,18 @@
 use Rattle.std.proofs.Common.{◌≡◌, ℕ, Bool, true, false, ◌==◌, List, [], ◌∷◌, ◌++◌, map, refl, sym, ap, ◌∙◌, subst, append-nil, arith, Some}
 use Rattle.std.specs.Prelude.{filter, find, ◌&&◌, if◌then◌else◌}
 use Rattle.std.specs.List.{flat_map}
-use Rattle.std.specs.List.Sorted.{IsNonDecreasing}
 use Rattle.std.proofs.lemmas.Bool.Decides.{nat_tests}
-use Rattle.performance_load.proofs.EventLemmas.{Up, up_from, up_lower, up_to}
+use Rattle.performance_load.proofs.EventLemmas.{Up, up_to, filter_order}
 use Rattle.performance_laws.proofs.OneEvents.{one_merged}
 use Rattle.rhythm_base.specs.Events.{IsMerged, at_tick}
 use Rattle.rhythm_base.specs.Notes.{begun, begun_at, end_of_note, tick_or, touches}
 use Rattle.rhythm_base.specs.declared.event.Event.{Event}
 use Rattle.rhythm_base.specs.declared.event.What.{What}
-use Rattle.rhythm_base.specs.declared.event.What.TheVariants.{On, Off, Tempo, Signature, KeySig}
+use Rattle.rhythm_base.specs.declared.event.What.TheVariants.{On, Off}
 use Rattle.rhythm_base.specs.declared.note.Note.{Note}
+use Rattle.rhythm_base.proofs.ListParts.{filter_swap}
 
 -- ---- of merged events those of one kind, where only one track has some
-
-filter_swap : {X : Type 0} (p q : X → Bool) (xs : List X) → filter p (filter q xs) ≡ filter q (filter p xs)
-filter_swap p q [] = refl
-filter_swap {X} p q (x ∷ xs) = go (p x) (q x) refl refl (filter_swap p q xs)
-  where
-    go : (b c : Bool) → p x ≡ b → q x ≡ c → filter p (filter q xs) ≡ filter q (filter p xs) → filter p (if c then x ∷ filter q xs else filter q xs) ≡ filter q (if b then x ∷ filter p xs else filter p xs)
-    go true true e f rest = rw (e, f) (ap (λ (ys : List X). x ∷ ys) rest)
-    go true false e f rest = rw f rest
-    go false true e f rest = rw e rest
-    go false false e f rest = rest
-
-filter_up : (p : Event → Bool) (low : ℕ) (es : List Event) → Up low (map (λ e. e.tick) es) → Up low (map (λ e. e.tick) (filter p es))
-filter_up p low [] up = tt
-filter_up p low (e ∷ es) up = go (p e) (filter_up p e.tick es up.1)
-  where
-    go : (b : Bool) → Up e.tick (map (λ x. x.tick) (filter p es)) → Up low (map (λ x. x.tick) (if b then e ∷ filter p es else filter p es))
-    go true rest = (up.0, rest)
-    go false rest = up_lower low e.tick (map (λ x. x.tick) (filter p es)) up.0 rest
-
-filter_order : (p : Event → Bool) (es : List Event) → IsNonDecreasing (map (λ e. e.tick) es) → IsNonDecreasing (map (λ e. e.tick) (filter p es))
-filter_order p es order = up_to 0 (map (λ e. e.tick) (filter p es)) (filter_up p 0 es (up_from 0 (map (λ e. e.tick) es) (λ k d lt. omega arith) order))
 
 -- those that pass, of the tracks one after another, are those that pass of the merged events, where their ticks go up
 pub merged_passing : (p : Event → Bool) (tracks : List (List Event)) (merged passing : List Event) → IsMerged tracks merged → filter p (flat_map (λ track. track) tracks) ≡ passing
@@ -101,9 +80,7 @@ module _ (channel key : ℕ) where
       by : (w : What) → e.what ≡ w → SameNotes last es → filter at_key (begun_at last e.tick w es ++ begun last es) ≡ begun last (if touches channel key w then e ∷ filter touching es else filter touching es)
       by (On c k) is rest = on c k ((c == channel) && (k == key)) refl is rest
       by (Off c k) is rest = off c k ((c == channel) && (k == key)) is rest
-      by (Tempo m) is rest = rest
-      by (Signature n d) is rest = rest
-      by (KeySig s) is rest = rest
+      by _ is rest = rest
 
 -- ---- notes one after another
 

@@ -110,9 +110,7 @@ all_changes resolution tick before (bar ∷ bars) each =
 touches_none : (c k : ℕ) (what : What) → is_change what ≡ true → touches c k what ≡ false
 touches_none c k (On a b) is = absurd (cc)
 touches_none c k (Off a b) is = absurd (cc)
-touches_none c k (Tempo m) is = refl
-touches_none c k (Signature m d) is = refl
-touches_none c k (KeySig s) is = refl
+touches_none c k _ is = refl
 
 filter_every : (p : Event → Bool) (es : List Event) → All (λ e. p e ≡ true) es → filter p es ≡ es
 filter_every p [] h = refl

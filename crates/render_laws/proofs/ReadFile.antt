@@ -30,7 +30,7 @@ use Rattle.smf_writer.specs.Changes.{conductor}
 use Rattle.smf_writer.specs.RenderedFile.{AreChannels, IsRendered}
 use Rattle.smf_writer.specs.Strokes.{voices_from}
 use Rattle.smf_writer.proofs.Covering.{one_at}
-use Rattle.smf_writer.proofs.Members.{Among, Pairwise, all_from_among, among_contained, kept_by, out_of, pairs_from, place_among}
+use Rattle.rhythm_base.proofs.Members.{Among, Pairwise, all_from_among, among_contained, kept_by, out_of, pairs_from, place_among}
 use Rattle.smf_writer.proofs.OneFile.{voices_one}
 use Rattle.smf_writer.proofs.Spines.{are_voices}
 use Rattle.smf_writer.proofs.StrokeOrder.{IsEarlier}

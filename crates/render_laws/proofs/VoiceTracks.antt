@@ -10,7 +10,7 @@ use Rattle.rhythm_base.specs.declared.event.Event.{Event}
 use Rattle.rhythm_base.specs.declared.note.Note.{Note}
 use Rattle.smf_laws.specs.Written.{AreLater}
 use Rattle.smf_writer.specs.NoteMessages.{Message, begins, ends, event_of, message_note, place_of_message}
-use Rattle.smf_writer.proofs.Members.{Among, Pairwise, among_contained, among_flat, from_flat, kept_by, out_of, pairs_filter, pairs_from, pairs_join, place_among}
+use Rattle.rhythm_base.proofs.Members.{Among, Pairwise, among_contained, among_flat, from_flat, kept_by, out_of, pairs_filter, pairs_from, pairs_join, place_among}
 use Rattle.smf_writer.proofs.MessageOrder.{IsBefore, IsLess, by_late, by_off, by_tick, late_of, place}
 use Rattle.smf_writer.proofs.StrokeOrder.{DoesNotOverlap, IsEarlier, IsWithin}
 use Rattle.render_laws.proofs.PlayedNotes.{at_key, played_note, touching}

@@ -3,7 +3,7 @@ use Rattle.std.specs.Prelude.{◌≡◌, ℕ, ◌*◌, Bool, true, false, List, 
 use Rattle.std.proofs.Common.{suc}
 use Rattle.rhythm_base.specs.declared.event.Event.{Event}
 use Rattle.rhythm_base.specs.declared.event.What.{What}
-use Rattle.rhythm_base.specs.declared.event.What.TheVariants.{On, Off, Tempo, Signature, KeySig}
+use Rattle.rhythm_base.specs.declared.event.What.TheVariants.{On, Off}
 use Rattle.rhythm_base.specs.declared.note.Note.{Note}
 use Rattle.rhythm_base.specs.Notes.{AreNotes}
 use Rattle.derivation.specs.declared.score.ScoreBar.{ScoreBar}
@@ -27,9 +27,7 @@ AreSpineNotesFrom resolution events spine (channel ∷ channels) notes =
 abbrev pub is_change : What → Bool
 is_change (On channel key) = false
 is_change (Off channel key) = false
-is_change (Tempo micros) = true
-is_change (Signature num dd) = true
-is_change (KeySig sf) = true
+is_change _ = true
 
 -- The bytes say a file. It has 16 * R ticks to the quarter note, and its last tick is the last barline's. Of its events in one
 -- list the notes are the kept notes, and the changes are those of the bars.

@@ -3,6 +3,7 @@ use Rattle.std.proofs.Common.{◌≡◌, ap, subst, inl, inr, Result, Ok, Err}
 use Rattle.rhythm_app.specs.Outcome.{AreInTurn}
 use Rattle.rhythm_app.specs.Stages.{Follows}
 use Rattle.rhythm_app.specs.declared.stop.Stop.{Stop}
+use Rattle.rhythm_app.proofs.Performing.{same_stop, not_stopped}
 
 -- it comes to one value or to one stop
 abbrev pub IsOne : {T : Type 0} → (Result T Stop → Type 0) → Type 0
@@ -10,12 +11,6 @@ IsOne {T} outcome = (r s : Result T Stop) → outcome r → outcome s → r ≡ 
 
 same_value : {T : Type 0} (x y : T) → ◌≡◌ {A = Result T Stop} (Ok x) (Ok y) → x ≡ y
 same_value x y h = cc
-
-same_stop : {T : Type 0} (s t : Stop) → ◌≡◌ {A = Result T Stop} (Err s) (Err t) → s ≡ t
-same_stop s t h = cc
-
-not_both : {T : Type 0} (x : T) (s : Stop) → ◌≡◌ {A = Result T Stop} (Ok x) (Err s) → ⊥
-not_both x s h = cc
 
 module _ {T U : Type 0} (first : Result T Stop → Type 0) (next : T → Result U Stop → Type 0) where
   pub in_turn_one : IsOne first → ((x : T) → first (Ok x) → IsOne (next x)) → IsOne (AreInTurn first next)
@@ -27,7 +22,7 @@ module _ {T U : Type 0} (first : Result T Stop → Type 0) (next : T → Result 
           ones y k r s (subst (λ z. next z r) same a) b
 
       apart : (x : T) (s : Stop) → first (Ok x) → first (Err s) → ⊥
-      apart x s h k = not_both x s (one (Ok x) (Err s) h k)
+      apart x s h k = not_stopped x s (one (Ok x) (Err s) h k)
 
       go : (r s : Result U Stop) → AreInTurn first next r → AreInTurn first next s → r ≡ s
       go (Ok u) (Ok v) (x, h, a) (y, k, b) = follows x y (Ok u) (Ok v) h k a b

@@ -21,3 +21,4 @@ pub mod Stops
 pub mod Taken
 pub mod Talking
 pub mod Telling
+pub mod WordsAfter

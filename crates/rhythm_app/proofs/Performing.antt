@@ -107,10 +107,10 @@ wrote {S} {O} {E} text seen old new r same rest all part = subst (λ (l : Lent S
 
 -- ---- a text
 
-same_stop : {T : Type 0} (s t : Stop) → ◌≡◌ {A = Result T Stop} (Err s) (Err t) → s ≡ t
+pub same_stop : {T : Type 0} (s t : Stop) → ◌≡◌ {A = Result T Stop} (Err s) (Err t) → s ≡ t
 same_stop s t e = cc
 
-not_stopped : {T : Type 0} (x : T) (s : Stop) → ◌≡◌ {A = Result T Stop} (Ok x) (Err s) → ⊥
+pub not_stopped : {T : Type 0} (x : T) (s : Stop) → ◌≡◌ {A = Result T Stop} (Ok x) (Err s) → ⊥
 not_stopped x s e = cc
 
 other_stop : {T : Type 0} → ◌≡◌ {A = Result T Stop} (Err stop.Write) (Err stop.Usage) → ⊥

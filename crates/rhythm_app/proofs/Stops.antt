@@ -21,6 +21,7 @@ use Rattle.rhythm_ports.specs.Files.{File}
 use Rattle.script_run.specs.Editing.{Editing}
 use Rattle.script_run.specs.declared.script_stop.ScriptStop.{ScriptStop}
 use Rattle.script_run.specs.declared.script_stop.ScriptStop.TheVariants as script
+use Rattle.script_run.proofs.Hearings.{risen_more}
 
 -- ---- before anything is written
 
@@ -171,9 +172,6 @@ module _ {S O E : Type 0} (old new : Lent S O E) where
   script_taken asked (script.LineTooLong n) part none = part
   script_taken asked script.Write part none = λ files are. inr (part files are)
   script_taken asked script.Memory part none = none refl
-
-risen_more : (x k n : ℕ) → risen (risen x k) n ≡ risen x (k + n)
-risen_more x k n = omega arith
 
 pub served_builds : (old mid new cells built : ℕ) → mid ≡ risen old cells → new ≡ risen mid built → new ≡ risen old (cells + built)
 served_builds old mid new cells built opened more = more ∙ ap (λ m. risen m built) opened ∙ risen_more old cells built

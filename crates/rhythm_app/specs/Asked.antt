@@ -1,6 +1,6 @@
 -- What the words of a command line ask for.
 use Rattle.rhythm_base.specs.declared.limits.TheConstants.{LATEST_TICK, MOST_BARS}
-use Rattle.std.specs.Prelude.{ℕ, ◌+◌, ◌-◌, ◌/◌, ◌<◌, nat_eq, nat_le, List, [], ◌∷◌, codes, if◌then◌else◌, Option, Some, None, option_and_then, option_map, ◌≤◌, ⊤}
+use Rattle.std.specs.Prelude.{ℕ, ◌+◌, ◌-◌, ◌/◌, ◌<◌, nat_eq, nat_le, List, [], ◌∷◌, codes, if◌then◌else◌, Option, Some, None, option_and_then, option_map, IsSome, ◌≤◌, ⊤}
 use Rattle.std.specs.Cmp.Lexicographic.{pointwise}
 use Rattle.barline_fit.specs.declared.candidates.Candidates.{Candidates}
 use Rattle.barline_fit.specs.declared.candidates.TheConstants.{MOST_CANDIDATES}
@@ -80,22 +80,48 @@ fit_of midi grammar c = if nat_le (candidate_count c) MOST_CANDIDATES then fit m
 abbrev pub fit_by : List ℕ → List ℕ → List ℕ → List ℕ → List ℕ → List ℕ → Option Asked
 fit_by midi grammar bar low high step = option_map (λ (c : Candidates). fit_of midi grammar c) (candidates_by bar low high step)
 
+-- how a command is called: its word, what the words after it are, and what these ask for
+pub record Call : Type 0 where
+  pub word : List ℕ
+  pub after : List ℕ
+  pub asked : List (List ℕ) → Option Asked
+
+abbrev pub call : List ℕ → List ℕ → (List (List ℕ) → Option Asked) → Call
+call word after asked = record { word = word; after = after; asked = asked }
+
+-- the commands
+abbrev pub calls : List Call
+calls =
+    call (codes "transcribe") (codes "MIDI GRAMMAR") (of_two (λ a b. Some (write form.Score a b)))
+    ∷ call (codes "lily") (codes "MIDI GRAMMAR") (of_two (λ a b. Some (write form.Page a b)))
+    ∷ call (codes "render") (codes "MIDI GRAMMAR") (of_two (λ a b. Some (write form.Rendered a b)))
+    ∷ call (codes "edit") (codes "MIDI GRAMMAR") (of_two (λ a b. Some (answer talk.Editing a b)))
+    ∷ call (codes "studio") (codes "MIDI GRAMMAR") (of_two (λ a b. Some (answer talk.Studio a b)))
+    ∷ call (codes "fit") (codes "MIDI GRAMMAR BAR LOW HIGH STEP, with BAR from 0 to 4096, LOW and HIGH from 0 to 2000000000, LOW no more than HIGH, and STEP from 1 to 2000000000") (of_six fit_by)
+    ∷ call (codes "follow") (codes "MIDI GRAMMAR") (of_two (λ a b. Some (follow a b)))
+    ∷ call (codes "notes") (codes "MIDI") (of_one (λ a. Some (notes a)))
+    ∷ call (codes "events") (codes "KERN") (of_one (λ a. Some (events a)))
+    ∷ call (codes "generate") (codes "NUMBER BARS, with NUMBER from 0 to 65534 and BARS from 1 to 2000") (of_two generate_by)
+    ∷ call (codes "drill") (codes "NUMBER GRAMMAR, with NUMBER from 0 to 65534") (of_two drill_by)
+    ∷ []
+
+-- what the call of this word has
+abbrev pub at_word : {X : Type 0} → (Call → Option X) → List ℕ → List Call → Option X
+at_word f word [] = None
+at_word f word (c ∷ more) = if pointwise nat_eq word c.word then f c else at_word f word more
+
 -- the command of the words that are no option
 abbrev pub command_by : List (List ℕ) → Option Asked
 command_by [] = None
-command_by (word ∷ more) =
-    if pointwise nat_eq word (codes "transcribe") then of_two (λ a b. Some (write form.Score a b)) more
-    else if pointwise nat_eq word (codes "lily") then of_two (λ a b. Some (write form.Page a b)) more
-    else if pointwise nat_eq word (codes "render") then of_two (λ a b. Some (write form.Rendered a b)) more
-    else if pointwise nat_eq word (codes "edit") then of_two (λ a b. Some (answer talk.Editing a b)) more
-    else if pointwise nat_eq word (codes "studio") then of_two (λ a b. Some (answer talk.Studio a b)) more
-    else if pointwise nat_eq word (codes "fit") then of_six fit_by more
-    else if pointwise nat_eq word (codes "follow") then of_two (λ a b. Some (follow a b)) more
-    else if pointwise nat_eq word (codes "notes") then of_one (λ a. Some (notes a)) more
-    else if pointwise nat_eq word (codes "events") then of_one (λ a. Some (events a)) more
-    else if pointwise nat_eq word (codes "generate") then of_two generate_by more
-    else if pointwise nat_eq word (codes "drill") then of_two drill_by more
-    else None
+command_by (word ∷ more) = at_word (λ c. c.asked more) word calls
+
+-- what the words after this one are, where it is the word of a command
+abbrev pub words_after : List ℕ → Option (List ℕ)
+words_after word = at_word (λ c. Some c.after) word calls
+
+-- the word, with some words after it, is a command
+abbrev pub IsCommandWord : List ℕ → Type 0
+IsCommandWord word = (more : List (List ℕ)) × IsSome (command_by (word ∷ more))
 
 -- what is asked for, whatever the number of workers is
 abbrev pub asked_of : Invocation → Option Asked

@@ -1,7 +1,7 @@
 ghost use Rattle.command_line.specs.CommandLines.{HasWorkers};
-ghost use Rattle.rhythm_app.specs.Asked.{AreCandidates, IsRequestInRange, asked_of, candidate_count, candidates_by, command_by, drill_by, fit_by, fit_of, generate_by, in_order, shown_request, workers_asked};
+ghost use Rattle.rhythm_app.specs.Asked.{AreCandidates, IsCommandWord, IsRequestInRange, asked_of, candidate_count, candidates_by, command_by, drill_by, fit_by, fit_of, generate_by, in_order, shown_request, words_after, workers_asked};
 ghost use Rattle.rhythm_base.specs.declared.limits.TheConstants.{LATEST_TICK};
-ghost use Rattle.std.specs.Prelude.{◌≡◌, ◌≤◌, ◌∷◌, [], IfSome, Some, option_map};
+ghost use Rattle.std.specs.Prelude.{◌≡◌, ◌≤◌, ◌↔◌, ◌∷◌, [], IfSome, IsSome, Some, option_map};
 
 use barline_fit::{Candidates, MOST_CANDIDATES};
 use command_line::{Invocation, number_in};
@@ -72,24 +72,20 @@ pub enum Request<'a> {
     },
 }
 
-/// How the command of this word is called, where it is one.
-pub fn called_as(word: &str) -> Option<&'static str> {
+/// What the words after the word of a command are, where it is one.
+pub fn words_after(word: &str) -> Option<&'static str>
+    ensures after { option_map (λ s. s.now) result ≡ words_after word.now }
+    ensures known { IsSome result ↔ IsCommandWord word.now }
+{
     match word {
-        "transcribe" => Some("transcribe MIDI GRAMMAR"),
-        "lily" => Some("lily MIDI GRAMMAR"),
-        "render" => Some("render MIDI GRAMMAR"),
-        "edit" => Some("edit MIDI GRAMMAR"),
-        "studio" => Some("studio MIDI GRAMMAR"),
+        "transcribe" | "lily" | "render" | "edit" | "studio" | "follow" => Some("MIDI GRAMMAR"),
         "fit" => Some(
-            "fit MIDI GRAMMAR BAR LOW HIGH STEP, with BAR from 0 to 4096, LOW and HIGH from 0 to 2000000000, LOW no more than HIGH, and STEP from 1 to 2000000000",
+            "MIDI GRAMMAR BAR LOW HIGH STEP, with BAR from 0 to 4096, LOW and HIGH from 0 to 2000000000, LOW no more than HIGH, and STEP from 1 to 2000000000",
         ),
-        "follow" => Some("follow MIDI GRAMMAR"),
-        "notes" => Some("notes MIDI"),
-        "events" => Some("events KERN"),
-        "generate" => Some(
-            "generate NUMBER BARS, with NUMBER from 0 to 65534 and BARS from 1 to 2000",
-        ),
-        "drill" => Some("drill NUMBER GRAMMAR, with NUMBER from 0 to 65534"),
+        "notes" => Some("MIDI"),
+        "events" => Some("KERN"),
+        "generate" => Some("NUMBER BARS, with NUMBER from 0 to 65534 and BARS from 1 to 2000"),
+        "drill" => Some("NUMBER GRAMMAR, with NUMBER from 0 to 65534"),
         _ => None,
     }
 }

@@ -4,7 +4,7 @@ ghost use Rattle.rhythm_app.specs.declared.stop.Stop.TheVariants as stop;
 ghost use Rattle.std.specs.Prelude.{◌≡◌, ◌++◌, ℕ, IfOk, List};
 
 use crate::line::write_line;
-use crate::request::called_as;
+use crate::request::words_after;
 use crate::stop::Stop;
 use command_line::{Invocation, read_words, words_refusal};
 use rhythm_base::Words;
@@ -16,8 +16,8 @@ fn command_reason(alloc: Global, words: &Words) -> Result<String, AllocError> {
     let Some(word) = words.get(0) else {
         return String::from_str(alloc, "there is no command");
     };
-    match called_as(word) {
-        Some(form) => format!(in alloc; "the command is called as: rhythm {form}"),
+    match words_after(word) {
+        Some(after) => format!(in alloc; "the command is called as: rhythm {word} {after}"),
         None => format!(in alloc; "there is no command {word}"),
     }
 }

@@ -1,15 +1,19 @@
 -- Lists in the order of places: the order of a filtered list, and of a list with one more at its place.
-use Rattle.std.proofs.Common.{◌≡◌, ℕ, zero, suc, Bool, true, false, not, List, [], ◌∷◌, ◌++◌, get_or, refl, ap, arith}
+use Rattle.std.proofs.Common.{◌≡◌, ℕ, zero, suc, Bool, true, false, not, List, [], ◌∷◌, ◌++◌, get_or, refl, ap, arith, ◌+◌, ◌-◌, ◌<◌, subst, ◌≤◌, inl, inr}
 use Rattle.std.specs.Cmp.Lexicographic.{slice_cmp, nat_list_cmp_total}
 use Rattle.std.specs.Ordering.{nat_cmp, is_lt}
-use Rattle.std.specs.Prelude.{All, AllPairs, filter}
+use Rattle.std.specs.Prelude.{All, AllPairs, filter, slice_index}
 use Rattle.std.specs.declared.cmp.Ordering.TheVariants.{Less, Equal, Greater}
 use Rattle.std.specs.declared.cmp.Ordering.{Ordering}
 use Rattle.std.proofs.lemmas.List.Elements.{All-append, All-filter, filter_passes}
 use Rattle.std.proofs.lemmas.List.Kept.{AllPairs-cons, AllPairs-filter}
-use Rattle.std.proofs.lemmas.Bool.{not-true}
+use Rattle.std.proofs.lemmas.Bool.{not-true, cases_order}
 use Rattle.rhythm_base.specs.Lists.{list_with, AreInOrder}
 use Rattle.rhythm_base.proofs.TotalOrders.{above, before_above, both_above, list_equal}
+use Rattle.std.specs.List.Sorted.{IsStrictlyIncreasing}
+use Rattle.std.specs.Cmp.{nat_cmp_is}
+use Rattle.rhythm_base.specs.declared.note.Note.{Note}
+use Rattle.rhythm_base.specs.Performance.{place_of_note}
 
 -- ---- each and each later one
 
@@ -116,3 +120,20 @@ module _ {X : Type 0} (place : X → List ℕ) where
   All-put P x xs p h =
       All-append P (filter (is_before x) xs) (x ∷ filter (is_not_before x) xs) (All-filter (is_before x) P xs h)
       (all_cons P x (filter (is_not_before x) xs) p (All-filter (is_not_before x) P xs h))
+
+-- numbers that rise do so from the second on
+pub rise_later : (x : ℕ) (xs : List ℕ) → IsStrictlyIncreasing (x ∷ xs) → IsStrictlyIncreasing xs
+rise_later x xs up k lt =
+    let moved : suc k + 1 ≡ suc (k + 1) = omega arith in
+    subst (λ n. slice_index xs k < slice_index (x ∷ xs) n) moved (up (suc k) (omega (arith, lt)))
+
+-- of two notes in order the later one has no lower channel
+pub channel_low : (m n : Note) → slice_cmp nat_cmp (place_of_note m) (place_of_note n) ≡ Less → m.channel ≤ n.channel
+channel_low m n h =
+    elim (cases_order m.channel n.channel) [
+      | inl same ↦ omega (arith, same)
+      | inr other ↦ elim other [
+        | inl less ↦ omega (arith, less)
+        | inr back ↦ let greater : Greater ≡ nat_cmp m.channel n.channel = nat_cmp_is m.channel n.channel Greater back in absurd (cc)
+      ]
+    ]

@@ -8,16 +8,7 @@ use Rattle.rhythm_base.specs.ShapeReading.{IsPart, PartText, StopsWith, next_byt
 use Rattle.rhythm_base.specs.ShapeText.{BeginsShape, IsCutShort, IsFirstBadByte, IsShapeText, shape_text}
 use Rattle.rhythm_base.specs.Shapes.{are_cut, can_have, depth, is_shape, parts_in}
 use Rattle.rhythm_base.proofs.OneShape.{same_shape}
-
-no_bytes : (xs : List ℕ) → length xs ≡ 0 → xs ≡ []
-no_bytes [] none = refl
-no_bytes (x ∷ xs) none = absurd (omega (arith, none))
-
--- the front of a list, and with one element more
-front : (xs ys : List ℕ) → take (length xs) (xs ++ ys) ≡ xs
-front [] [] = refl
-front [] (y ∷ ys) = refl
-front (x ∷ xs) ys = ap (λ l. x ∷ l) (front xs ys)
+use Rattle.rhythm_base.proofs.ListParts.{front, no_bytes}
 
 front_and_next : (xs ys : List ℕ) → 1 ≤ length ys → take (length xs + 1) (xs ++ ys) ≡ xs ++ (next_byte ys ∷ [])
 front_and_next [] [] some = absurd (omega (arith, some))

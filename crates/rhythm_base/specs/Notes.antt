@@ -2,7 +2,7 @@
 use Rattle.std.specs.Prelude.{◌≡◌, ℕ, ◌≤◌, Bool, false, ◌&&◌, ◌==◌, ◌↔◌, List, [], ◌∷◌, ◌++◌, All, Contains, find, Option, Some, None}
 use Rattle.rhythm_base.specs.declared.event.Event.{Event}
 use Rattle.rhythm_base.specs.declared.event.What.{What}
-use Rattle.rhythm_base.specs.declared.event.What.TheVariants.{On, Off, Tempo, Signature, KeySig}
+use Rattle.rhythm_base.specs.declared.event.What.TheVariants.{On, Off}
 use Rattle.rhythm_base.specs.declared.note.Note.{Note}
 use Rattle.rhythm_base.specs.Lists.{AreInOrder}
 use Rattle.rhythm_base.specs.Performance.{place_of_note}
@@ -11,9 +11,7 @@ use Rattle.rhythm_base.specs.Performance.{place_of_note}
 abbrev pub touches : ℕ → ℕ → What → Bool
 touches channel key (On c k) = (c == channel) && (k == key)
 touches channel key (Off c k) = (c == channel) && (k == key)
-touches channel key (Tempo _) = false
-touches channel key (Signature _ _) = false
-touches channel key (KeySig _) = false
+touches channel key _ = false
 
 abbrev pub tick_or : ℕ → Option Event → ℕ
 tick_or last None = last
@@ -25,10 +23,7 @@ end_of_note last channel key later = tick_or last (find (λ e. touches channel k
 
 abbrev pub begun_at : ℕ → ℕ → What → List Event → List Note
 begun_at last tick (On c k) later = record { channel = c; key = k; onset = tick; end = end_of_note last c k later } ∷ []
-begun_at last tick (Off c k) later = []
-begun_at last tick (Tempo _) later = []
-begun_at last tick (Signature _ _) later = []
-begun_at last tick (KeySig _) later = []
+begun_at last tick _ later = []
 
 -- a note for each note-on
 abbrev pub begun : ℕ → List Event → List Note

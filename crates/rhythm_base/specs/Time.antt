@@ -36,25 +36,16 @@ key_at marks t = sf_of (in_force (λ x. x.tick) marks t)
 -- ---- the changes among the events, in their order
 
 abbrev pub tempo_in : ℕ → What → Option Tempo
-tempo_in tick (what.On _ _) = None
-tempo_in tick (what.Off _ _) = None
 tempo_in tick (what.Tempo micros) = Some (record { tick = tick; micros = micros })
-tempo_in tick (what.Signature _ _) = None
-tempo_in tick (what.KeySig _) = None
+tempo_in tick _ = None
 
 abbrev pub key_in : ℕ → What → Option KeyMark
-key_in tick (what.On _ _) = None
-key_in tick (what.Off _ _) = None
-key_in tick (what.Tempo _) = None
-key_in tick (what.Signature _ _) = None
 key_in tick (what.KeySig sf) = Some (record { tick = tick; sf = sf })
+key_in tick _ = None
 
 abbrev pub signature_in : ℕ → What → Option Signature
-signature_in tick (what.On _ _) = None
-signature_in tick (what.Off _ _) = None
-signature_in tick (what.Tempo _) = None
 signature_in tick (what.Signature num dd) = Some (record { tick = tick; num = num; dd = dd })
-signature_in tick (what.KeySig _) = None
+signature_in tick _ = None
 
 abbrev pub tempos_of : List Event → List Tempo
 tempos_of events = filter_map (λ e. tempo_in e.tick e.what) events

@@ -17,10 +17,6 @@ pub last_end_push : (t : ℕ) (ns : List Note) (n : Note) → last_end t (ns ++ 
 last_end_push t [] n = refl
 last_end_push t (m ∷ ns) n = last_end_push m.end ns n
 
-pub no_bytes : (t : ℕ) → bytes_from t [] ≡ []
-unfolding bytes_from
-no_bytes t = refl
-
 -- the two events of a note
 pub note_bytes : (old : List ℕ) (t : ℕ) (n : Note)
     → (old ++ (quantity_bytes (n.onset - t) ++ ((144 + n.channel) ∷ n.key ∷ 64 ∷ []))) ++ (quantity_bytes (n.end - n.onset) ++ ((128 + n.channel) ∷ n.key ∷ 0 ∷ [])) ≡ old ++ bytes_from t (events_of n)

@@ -23,7 +23,7 @@ use Rattle.tree_laws.specs.Places.{FitsAt, reach}
 use Rattle.tree_laws.specs.Quiet.{end_at, is_quiet}
 use Rattle.tree_laws.specs.Runs.{IsLine, leaving, runs}
 use Rattle.tree_laws.proofs.Bars.{SideBySide, leaves-fill}
-use Rattle.tree_laws.proofs.Quiet.{carried_by, leaving-calm, runs-calm}
+use Rattle.tree_laws.proofs.Quiet.{carried_by, leaving-calm, runs-calm, doubled}
 use Rattle.tree_laws.proofs.Ranks.{both}
 use Rattle.tree_laws.proofs.Ticks.{le_from, le_not, leaf-step, parts-line}
 use Rattle.row_laws.specs.QuietTrees.{IsQuiet, sounds_so}
@@ -123,9 +123,6 @@ none-out d ground s p q qs wide f a b quiet stands =
         ∙ carried-nothing (map (λ x. x.part.ending) (in_bar d.bar xs))
 
 -- ---- a leaf
-
-doubled : (a b : ℕ) → 2 * a * b ≡ 2 * (a * b)
-doubled a b = grind arith
 
 no-charge : (g : Grammar) (x : Leaf) (f : ℕ → Bool) (cs : List Inner) → ((t : ℕ) → lies_in g.resolution x t ≡ f t) → list_all (λ c. not (f c.onset)) cs ≡ true → charges g (x ∷ []) cs ≡ 0
 no-charge g x f [] lies h = refl

@@ -1,5 +1,5 @@
 -- Rows of trees side by side, made from left to right.
-use Rattle.std.proofs.Common.{◌≡◌, ℕ, ◌<◌, ◌≤◌, ◌+◌, ◌==◌, true, false, List, [], ◌∷◌, ◌++◌, refl, sym, ap, ◌∙◌, subst, arith, append_assoc}
+use Rattle.std.proofs.Common.{◌≡◌, ℕ, ◌<◌, ◌≤◌, ◌+◌, ◌==◌, true, false, List, [], ◌∷◌, ◌++◌, refl, sym, ap, ◌∙◌, subst, arith}
 use Rattle.std.specs.Prelude.{Option, Some, None, if◌then◌else◌}
 use Rattle.std.proofs.lemmas.Bool.Decides.{nat_tests}
 use Rattle.std.proofs.lemmas.List.Sums.{sum_by-cons}
@@ -14,19 +14,12 @@ use Rattle.path_laws.specs.Rows.{IsOneBelow}
 use Rattle.path_laws.specs.Tables.{IsLeastKey}
 use Rattle.path_laws.proofs.Alike.{AreApart, parse}
 use Rattle.tree_laws.proofs.ForestLemmas.{join_key, keys-apart, keys-parse, nothing-least, split_key}
-use Rattle.path_laws.proofs.LeastKeys.{Both, IsLeast-one, IsLeast-same, joined-least, pick-least}
+use Rattle.path_laws.proofs.LeastKeys.{Both, IsLeast-one, IsLeast-same, joined-least, pick-least, in_set}
 use Rattle.row_laws.specs.Rows.{AreLeastRow, row_times}
 use Rattle.row_laws.proofs.Bounds.{IsBounded, stands-cheap}
+use Rattle.path_laws.proofs.PathTables.{plus_assoc, plus_nil}
 
 -- ---- the last tree and those before it
-
-plus-assoc : (x y z : Key) → plus x (plus y z) ≡ plus (plus x y) z
-plus-assoc x y z =
-    let sums : x.0 + (y.0 + z.0) ≡ (x.0 + y.0) + z.0 = omega arith in
-    λ i. (sums i, sym (append_assoc x.1 y.1 z.1) i)
-
-plus-none : (x : Key) → x ≡ plus (0, []) x
-plus-none x = let sum : x.0 ≡ 0 + x.0 = omega arith in λ i. (sum i, x.1)
 
 wide-first : (qs : List (ℕ × ℕ)) (q : ℕ × ℕ) → AreWide (qs ++ q ∷ []) → AreWide qs
 wide-first [] q h = tt
@@ -57,7 +50,7 @@ module _ (d : Ground) (ground : IsGround d) where
       let few : f ≤ 4 = h.1.fits.few_from in
       let low : f < 5 = omega (arith, few) in
       let here : p ≡ p + 0 = omega arith in
-      (f, low, ((0, []), key, no_trees d p f low, subst (λ p. IsForestKey d None p (q ∷ []) f t key) here h, plus-none key))
+      (f, low, ((0, []), key, no_trees d p f low, subst (λ p. IsForestKey d None p (q ∷ []) f t key) here h, plus_nil key))
   split_last (r ∷ qs) q p f t key wide h =
       let one = split_key d ground p r (qs ++ q ∷ []) wide None f t key h in
       let both = one.2 in
@@ -71,7 +64,7 @@ module _ (d : Ground) (ground : IsGround d) where
           parts.1,
           join_key d ground p r qs (wide.0, wide-first qs q wide.1) None f two.0 (plus both.0 parts.0) (one.0, one.1, (both.0, parts.0, both.2, parts.2, refl)),
           subst (λ p. IsForestKey d None p (q ∷ []) two.0 t parts.1) there parts.3,
-          both.4 ∙ ap (plus both.0) parts.4 ∙ plus-assoc both.0 parts.0 parts.1,
+          both.4 ∙ ap (plus both.0) parts.4 ∙ plus_assoc both.0 parts.0 parts.1,
         ),
       )
 
@@ -81,7 +74,7 @@ module _ (d : Ground) (ground : IsGround d) where
       let bare = none_alone d p f n x first in
       let there : p + 0 ≡ p = omega arith in
       let own : IsForestKey d None p (q ∷ []) n t y = subst (λ p. IsForestKey d None p (q ∷ []) n t y) there last in
-      let same : y ≡ key = plus-none y ∙ sym (sum ∙ ap (λ k. plus k y) bare.1) in
+      let same : y ≡ key = plus_nil y ∙ sym (sum ∙ ap (λ k. plus k y) bare.1) in
       subst (λ f. IsForestKey d None p (q ∷ []) f t key) (sym bare.0) (subst (IsForestKey d None p (q ∷ []) n t) same own)
   join_last (r ∷ qs) q p f t key wide (n, low, (x, y, first, last, sum)) =
       let one = split_key d ground p r qs (wide.0, wide-first qs q wide.1) None f n x first in
@@ -90,18 +83,13 @@ module _ (d : Ground) (ground : IsGround d) where
       let others : IsForestKey d None (p + r.0) (qs ++ q ∷ []) one.0 t (plus both.1 y)
       = join_last qs q (p + r.0) one.0 t (plus both.1 y) wide.1 (n, low, (both.1, y, both.3, subst (λ p. IsForestKey d None p (q ∷ []) n t y) there last, refl)) in
       join_key d ground p r (qs ++ q ∷ []) wide None f t key
-      (one.0, one.1, (both.0, plus both.1 y, both.2, others, sum ∙ ap (λ k. plus k y) both.4 ∙ sym (plus-assoc both.0 both.1 y)))
+      (one.0, one.1, (both.0, plus both.1 y, both.2, others, sum ∙ ap (λ k. plus k y) both.4 ∙ sym (plus_assoc both.0 both.1 y)))
 
 -- ---- rows
 
 -- no trees carry on what is carried in
 pub row-none : (d : Ground) (p a : ℕ) → a < 5 → AreLeastRow d p [] a (λ b. if a == b then Some (0, []) else None)
 row-none d p a low = λ b lb. nothing-least d p a b low
-
--- what is the least of a set is in it
-in_set : (S : Key → Type 0) (o : Option Key) (x : Key) → IsLeastKey S o → o ≡ Some x → S x
-in_set S None x h e = absurd (cc)
-in_set S (Some y) x h e = let same : y ≡ x = cc in subst S same h.0
 
 -- the tree that comes next, over each count that the trees before it carry out
 pub row-next : (d : Ground) → IsGround d → (p a : ℕ) → a < 5 → (qs : List (ℕ × ℕ)) (q : ℕ × ℕ) → AreWide (qs ++ q ∷ []) → (row : ℕ → Option Key) (next : Keys) → AreLeastRow d p qs a row

@@ -25,7 +25,7 @@ use Rattle.row_laws.specs.RuleKeys.{IsRuleKey}
 use Rattle.row_laws.proofs.Lower.{on_top}
 
 -- the rule of a tree is one of the grammar's
-suits-within : (rules : List Rule) (q : ℕ × ℕ) (r : ℕ) → suits (slice_get rules r) q ≡ true → r < length rules
+pub suits-within : (rules : List Rule) (q : ℕ × ℕ) (r : ℕ) → suits (slice_get rules r) q ≡ true → r < length rules
 suits-within rules q r e = go (slice_get rules r) refl e
   where
     go : (o : Option Rule) → slice_get rules r ≡ o → suits o q ≡ true → r < length rules
@@ -81,7 +81,7 @@ unshaped-least d x p q r a b other k (f, stands, is) =
 
 -- ---- a rule on top
 
-three : (a b : Bool) → a ≡ true → b ≡ true → a && (b && true) ≡ true
+pub three : (a b : Bool) → a ≡ true → b ≡ true → a && (b && true) ≡ true
 three true true p q = refl
 three true false p q = q
 three false b p q = p
@@ -98,7 +98,7 @@ top_cost d p q r f =
     let third = ap (λ l. charges d.book (in_bar d.bar l) d.chords) parts in
     omega (arith, first, second, third)
 
-top_leaves : (d : Ground) (p : ℕ) (q : ℕ × ℕ) (r : ℕ) (f : Forest)
+pub top_leaves : (d : Ground) (p : ℕ) (q : ℕ × ℕ) (r : ℕ) (f : Forest)
     → leaves d.book.rules p (q ∷ []) (more r f none) ≡ leaves_at (slice_get d.book.rules r) p q.0 ++ leaves d.book.rules p (children_of (slice_get d.book.rules r) q.0) f
 top_leaves d p q r f = ap (λ l. leaves_at (slice_get d.book.rules r) p q.0 ++ l) (append-nil (leaves d.book.rules p (children_of (slice_get d.book.rules r) q.0) f))
 

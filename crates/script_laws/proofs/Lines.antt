@@ -1,6 +1,6 @@
 -- A line of an edit script has one answer, but for want of memory.
-use Rattle.std.proofs.Common.{◌≡◌, ℕ, zero, suc, arith, ◌⊎◌, inl, inr, List, ◌∷◌, [], length, map, sym, ap, ap₂, ◌∙◌, subst, Some, None, Result, Ok, Err}
-use Rattle.std.specs.Prelude.{◌≢◌, Contains}
+use Rattle.std.proofs.Common.{◌≡◌, ℕ, ◌⊎◌, inl, inr, List, length, map, sym, ap, ap₂, ◌∙◌, subst, Some, None, Result, Ok, Err}
+use Rattle.std.specs.Prelude.{◌≢◌}
 use Rattle.edit_script.specs.declared.command.Command.{Command}
 use Rattle.edit_script.specs.declared.command.Command.TheVariants.{Change, Score, Alternatives, Quit}
 use Rattle.rhythm_base.specs.declared.edit.Edit.{Edit}
@@ -18,12 +18,13 @@ use Rattle.rhythm_base.specs.Grammar.{Grammar}
 use Rattle.script_laws.specs.Script.{Answers, IsLineStep, outcome_text, shown_alternative}
 use Rattle.edit_laws.specs.EditOutcomes.{EditOutcome, IsMade, IsOutcome, IsRefused, made, refused}
 use Rattle.edit_script.specs.ScriptLines.{SaysCommand, script_words}
-use Rattle.rhythm_base.specs.Voices.{HasDerivation, IsCostOf, IsDeadVoice, IsLeastCost, IsSumOfCosts, voice_bars, notes_of_voice}
+use Rattle.rhythm_base.specs.Voices.{HasDerivation, IsCostOf, IsDeadVoice, IsLeastCost, voice_bars, notes_of_voice}
 use Rattle.edit_script.proofs.CommandWords.{edit_in_range, one_command}
 use Rattle.performance_laws.proofs.OneChords.{one_chords}
 use Rattle.script_laws.specs.Laws.{HasOneScoreAtMost}
 use Rattle.script_laws.specs.OneAnswers.{AnswersOfEditsAreOne}
 use Rattle.edit_laws.proofs.Edited.{edited_formed}
+use Rattle.performance_laws.proofs.OneVoices.{cost_has}
 
 -- the performance after a command that was said is well formed
 module _ (g : Grammar) (S : Performance → Result (List ℕ) ℕ → Type 0) (p : Performance) (formed : IsWellFormed p) where
@@ -45,14 +46,6 @@ module _ (g : Grammar) (S : Performance → Result (List ℕ) ℕ → Type 0) (p
 -- each voice of a performance that has a cost has a derivation
 voice_has : (g : Grammar) (p : Performance) (channel cost : ℕ) → IsLeastCost g p channel cost → HasDerivation g p channel
 voice_has g p channel cost is = (is.chords, is.trees, is.starts, is.are_chords, is.least.fits)
-
-cost_has : (g : Grammar) (p : Performance) (channels : List ℕ) (sum channel : ℕ) → IsSumOfCosts g p channels sum → Contains channels channel
-    → HasDerivation g p channel
-cost_has g p [] sum channel is (k, lt, at) = absurd (omega (arith, lt))
-cost_has g p (c ∷ channels) sum channel (first, others, least, more, total) (zero, lt, at) =
-    subst (HasDerivation g p) at (voice_has g p c first least)
-cost_has g p (c ∷ channels) sum channel (first, others, least, more, total) (suc k, lt, at) =
-    cost_has g p channels others channel more (k, omega (arith, lt), at)
 
 -- an edit has one outcome
 module _ (g : Grammar) (p : Performance) (ones : AnswersOfEditsAreOne g) (formed : IsWellFormed p) (edit : Edit) (range : IsEditInRange edit) where

@@ -103,9 +103,6 @@ heard_up_to a m xs i d out after k n x y z Q within front first there more = rec
   written = Appends-trans x y z out after first more;
 }
 
-pub both_bools : (b : Bool) → b ≡ true → b ≡ false → ⊥
-both_bools b h k = let both : true ≡ false = sym h ∙ k in absurd (cc)
-
 pub decided : (b : Bool) (P : Type 0) → (IsTrue b ↔ P) → P ⊎ (P → ⊥)
 decided true P h = inl (h.0 refl)
 decided false P h = inr (λ p. let both : false ≡ true = h.1 p in absurd (cc))

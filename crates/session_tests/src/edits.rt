@@ -1,10 +1,12 @@
+use crate::library::edited_score;
 use crate::pieces::{FOUR_QUARTERS, InTests, THREE_EIGHTHS, THREE_NEAR, WHOLE_NOTE, opened};
 use carry_matrix::Steps as Products;
 use edit_script::{Command, read_line};
 use edit_session::{Applied, Session};
 use least_cost::Steps as Builds;
-use rhythm_base::EditFault;
+use rhythm_base::{Edit, EditFault};
 use rhythm_ports::OpenGate;
+use sample_grammars::USUAL;
 use std::alloc::{AllocError, Global};
 use std::test::Fail;
 use std::thread::Threads;
@@ -245,5 +247,19 @@ fn a_note_over_three_bars_makes_six_products(rt: HostRuntime) -> Result<(), Fail
     )?;
     assert_eq!(rt; made, Applied { built: 3, cost: 30 });
     assert!(rt; products.count() <= 6);
+    Ok(())
+}
+
+#[test]
+fn the_score_of_two_files_and_an_edit(rt: HostRuntime) -> Result<(), Fail> {
+    let joining = Edit::Add {
+        channel: 0,
+        key: 64,
+        onset: 10,
+        end: 480,
+    };
+    let text = edited_score(&rt, rt.alloc(), FOUR_QUARTERS, USUAL, &joining)?;
+    let score: &[u8] = b"**kern\n*M4/4\n*MM120\n=1\n4c 4e\n4d\n4e\n4f\n==\n*-\n";
+    assert!(rt; text.as_slice() == score);
     Ok(())
 }

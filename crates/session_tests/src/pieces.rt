@@ -10,6 +10,7 @@ use least_cost::Steps as Builds;
 use performance_load::load;
 use rhythm_base::{Grammar, Performance, Tag};
 use rhythm_ports::OpenGate;
+use sample_grammars::USUAL;
 use smf_reader::{Smf, read_smf};
 use std::alloc::Global;
 use std::thread::Threads;
@@ -49,33 +50,6 @@ pub const THREE_EIGHTHS: &[u8] = b"\
 pub const EARLY_NOTE: &[u8] = b"\
     MThd\0\0\0\x06\0\0\0\x01\x01\xe0\
     MTrk\0\0\0\x16\0\x90<@\x8el\x80<\0\0\x90>@\x8f\x14\x80>\0\0\xff/\0\
-";
-
-/// A bar down to eighths.
-const USUAL: &[u8] = b"\
-    rhythm 1\n\
-    resolution 8\n\
-    window 30000\n\
-    onset 1\n\
-    start 4/4 B\n\
-    B 10 note\n\
-    B 10 tie\n\
-    B 5 rest\n\
-    B 20 split H H\n\
-    H 10 note\n\
-    H 10 tie\n\
-    H 10 rest\n\
-    H 20 split Q Q\n\
-    Q 10 note\n\
-    Q 15 short\n\
-    Q 10 tie\n\
-    Q 10 rest\n\
-    Q 40 split E E\n\
-    E 10 note\n\
-    E 20 short\n\
-    E 10 tie\n\
-    E 10 rest\n\
-    E 60 grace 1\n\
 ";
 
 /// What the MIDI file says.

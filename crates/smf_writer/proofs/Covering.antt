@@ -10,13 +10,9 @@ use Rattle.smf_writer.specs.EventNotes.{AreKept, chord_notes, grace_notes, key_l
 use Rattle.smf_writer.specs.Strokes.{grace_strokes, joined_keys, stroke_note, stroke_notes}
 use Rattle.smf_writer.specs.declared.stroke.Stroke.{Stroke}
 use Rattle.smf_writer.proofs.KeyBits.{among_keys, keys_among, no_bit, of_either, one_bit, or_left, or_right}
-use Rattle.smf_writer.proofs.Members.{Among, Pairwise, all_among, all_from_among, among_both, among_contained, among_flat, among_left, among_map, among_right, from_flat, from_map, pairs_from, place_among}
+use Rattle.rhythm_base.proofs.Members.{Among, Pairwise, all_among, all_from_among, among_both, among_contained, among_flat, among_left, among_map, among_right, from_flat, from_map, pairs_from, place_among}
 use Rattle.smf_writer.proofs.StrokeOrder.{IsEarlier}
-
-pub record ArePlacedAlike (m n : Note) : Type 0 where
-  pub channel : m.channel ≡ n.channel
-  pub onset : m.onset ≡ n.onset
-  pub key : m.key ≡ n.key
+use Rattle.rhythm_base.proofs.NotePlaces.{same_note, ArePlacedAlike}
 
 -- each is one of those that are played, and each of those has one at its place with no earlier end
 pub record Cover (played notes : List Note) : Type 0 where
@@ -39,9 +35,6 @@ cover_both p q g h c d = record {
 }
 
 -- ---- in order they are the kept notes
-
-same_note : (m n : Note) → ArePlacedAlike m n → m.end ≡ n.end → m ≡ n
-same_note m n h e = λ i. record { channel = h.channel i; key = h.key i; onset = h.onset i; end = e i }
 
 never_earlier : (m n : Note) → ArePlacedAlike m n → IsEarlier m n → ⊥
 never_earlier m n same less = grind (arith, nat_tests)

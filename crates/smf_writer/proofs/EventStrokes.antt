@@ -11,6 +11,7 @@ use Rattle.smf_writer.specs.EventNotes.{main_end, main_onset}
 use Rattle.smf_writer.specs.NoteMessages.{event_of}
 use Rattle.smf_writer.specs.Strokes.{event_strokes, grace_strokes, joined_keys, main_stroke, own_events, stroke_messages, strokes_events}
 use Rattle.smf_writer.specs.declared.stroke.Stroke.{Stroke}
+use Rattle.rhythm_base.proofs.Booleans.{equal_test}
 
 module _ (resolution : ℕ) (x : Span) where
   abbrev pub half_way : ℕ → ℕ
@@ -66,14 +67,11 @@ module _ (resolution : ℕ) (x : Span) where
 
 -- ---- the events of one spine
 
-pub equal_true : (m n : ℕ) → m ≡ n → (m == n) ≡ true
-equal_true m n is = grind (arith, nat_tests)
-
 pub other_false : (m n : ℕ) → m ≢ n → (m == n) ≡ false
 other_false m n other = grind (arith, nat_tests)
 
 pub own_there : (resolution channel spine : ℕ) (e : KernEvent) → e.spine ≡ spine → own_events resolution channel spine e ≡ strokes_events channel (event_strokes resolution e.span)
-own_there resolution channel spine e is = ap (λ b. if b then strokes_events channel (event_strokes resolution e.span) else []) (equal_true e.spine spine is)
+own_there resolution channel spine e is = ap (λ b. if b then strokes_events channel (event_strokes resolution e.span) else []) (equal_test e.spine spine is)
 
 pub own_absent : (resolution channel spine : ℕ) (e : KernEvent) → e.spine ≢ spine → own_events resolution channel spine e ≡ []
 own_absent resolution channel spine e other = ap (λ b. if b then strokes_events channel (event_strokes resolution e.span) else []) (other_false e.spine spine other)

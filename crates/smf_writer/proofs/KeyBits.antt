@@ -8,7 +8,7 @@ use Rattle.std.proofs.lemmas.Bool.{cases_lt}
 use Rattle.std.proofs.lemmas.Bool.Decides.{nat_tests}
 use Rattle.std.proofs.lemmas.Nat.Bits.{and_pow, bit_at-lt, bit_at-zero, bit_at_or}
 use Rattle.smf_writer.specs.EventNotes.{key_list}
-use Rattle.smf_writer.proofs.Members.{Among, Pairwise, kept_by, out_of, pairs_filter}
+use Rattle.rhythm_base.proofs.Members.{Among, Pairwise, kept_by, out_of, pairs_filter}
 
 bit_set : (keys k : ℕ) → IsBitSet keys k → (bit_at keys k == 1) ≡ true
 bit_set keys k set = go (bit_at keys k) refl (bit_at-lt keys k)

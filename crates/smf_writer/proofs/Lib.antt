@@ -1,4 +1,3 @@
-pub mod Members
 pub mod KeyBits
 pub mod EventStrokes
 pub mod MessageOrder

@@ -10,7 +10,7 @@ use Rattle.std.proofs.lemmas.Bool.Decides.{nat_tests}
 use Rattle.rhythm_base.specs.declared.note.Note.{Note}
 use Rattle.smf_writer.specs.NoteMessages.{Message, begins, ends, message_note, place_of_message}
 use Rattle.smf_writer.specs.Strokes.{begun_messages, ended, together}
-use Rattle.smf_writer.proofs.Members.{Among, Pairwise, among_both, among_flat, among_left, among_right, from_flat, pairs_join}
+use Rattle.rhythm_base.proofs.Members.{Among, Pairwise, among_both, among_flat, among_left, among_right, from_flat, pairs_join}
 
 -- ---- places
 

@@ -18,9 +18,10 @@ use Rattle.smf_writer.specs.NoteMessages.{AreMessages, Message, event_of}
 use Rattle.smf_writer.specs.RenderedFile.{AreVoicesFrom, IsVoiceTrack, spine_notes}
 use Rattle.smf_writer.specs.Strokes.{event_strokes, spine_events, stroke_messages, strokes_events, voices_from}
 use Rattle.smf_writer.specs.declared.stroke.Stroke.{Stroke}
-use Rattle.smf_writer.proofs.EventStrokes.{equal_true, other_false}
+use Rattle.smf_writer.proofs.EventStrokes.{other_false}
 use Rattle.smf_writer.proofs.StrokeOrder.{all_of, notes_of}
 use Rattle.smf_writer.proofs.Voices.{CanStand, voice_kept, voice_messages, voice_stands, voice_strokes}
+use Rattle.rhythm_base.proofs.Booleans.{equal_test}
 
 abbrev pub of_spine : ℕ → KernEvent → Bool
 of_spine spine e = e.spine == spine
@@ -33,7 +34,7 @@ own spine events = filter (of_spine spine) events
 own_all : (spine : ℕ) (spans : List Span) → own spine (map (span_event spine) spans) ≡ map (span_event spine) spans
 own_all spine [] = refl
 own_all spine (x ∷ spans) =
-    ap (λ b. if b then span_event spine x ∷ own spine (map (span_event spine) spans) else own spine (map (span_event spine) spans)) (equal_true spine spine refl)
+    ap (λ b. if b then span_event spine x ∷ own spine (map (span_event spine) spans) else own spine (map (span_event spine) spans)) (equal_test spine spine refl)
     ∙ ap (λ (es : List KernEvent). span_event spine x ∷ es) (own_all spine spans)
 
 own_none : (spine other : ℕ) (spans : List Span) → other ≢ spine → own spine (map (span_event other) spans) ≡ []

@@ -14,7 +14,7 @@ use Rattle.smf_writer.specs.NoteMessages.{Message, message_note}
 use Rattle.smf_writer.specs.Strokes.{stroke_messages, stroke_note, stroke_notes}
 use Rattle.smf_writer.specs.declared.stroke.Stroke.{Stroke}
 use Rattle.smf_writer.proofs.KeyBits.{among_keys, keys_rise}
-use Rattle.smf_writer.proofs.Members.{Among, Pairwise, among_flat, from_flat, from_map, pairs_join, pairs_map, pairs_weaken}
+use Rattle.rhythm_base.proofs.Members.{Among, Pairwise, among_flat, from_flat, from_map, pairs_join, pairs_map, pairs_weaken}
 use Rattle.smf_writer.proofs.MessageOrder.{AreStruck, IsBefore, IsFrom, all_messages, from_earlier, of_notes, parted, struck_from, struck_up_to, together_order}
 
 -- each begins at a tick or later and ends by a later one, up to which none of the others begins; all end by a last tick

@@ -17,7 +17,7 @@ use Rattle.smf_writer.specs.Strokes.{event_strokes, grace_strokes, joined_keys, 
 use Rattle.smf_writer.specs.declared.stroke.Stroke.{Stroke}
 use Rattle.smf_writer.proofs.Covering.{Cover, cover_both, cover_nothing, graces_cover, graces_passing, kept_notes, none_passing, stroke_cover, ArePassing}
 use Rattle.smf_writer.proofs.EventStrokes.{crowded_onset, graced_onset}
-use Rattle.smf_writer.proofs.Members.{all_from_among, among_contained, from_map, pairs_from, place_among}
+use Rattle.rhythm_base.proofs.Members.{all_from_among, among_contained, from_map, pairs_from, place_among}
 use Rattle.smf_writer.proofs.MessageOrder.{IsBefore}
 use Rattle.smf_writer.proofs.StrokeOrder.{IsWithin, Succeed, all_of, messages_of_notes, messages_order, notes_have_messages, notes_of, notes_order, notes_within}
 

@@ -3,7 +3,7 @@ ghost use Rattle.rhythm_base.specs.Readable.{IsReadable};
 ghost use Rattle.std.specs.Prelude.{◌≡◌, ◌<◌, ◌^◌, ℕ, IsTrue, Some};
 
 use crate::bars::{bar_of, chords_of};
-use crate::grammars::{QUARTERS, TIES, TWO_WAYS, read};
+use crate::grammars::{TIES, TWO_WAYS, USUAL, read};
 use bar_alternatives::{Alternative, alternatives};
 use rhythm_base::{Grammar, Shape};
 use std::alloc::Global;
@@ -178,7 +178,7 @@ fn first_wrong(alloc: Global, text: &[u8], rows: &[Row]) -> Result<Option<usize>
 #[test]
 fn best_trees_of_bars(rt: HostRuntime) -> Result<(), Fail> {
     let alloc = rt.alloc();
-    assert_eq!(rt; first_wrong(alloc, QUARTERS, OF_QUARTERS)?, None);
+    assert_eq!(rt; first_wrong(alloc, USUAL, OF_QUARTERS)?, None);
     assert_eq!(rt; first_wrong(alloc, TIES, OF_TIES)?, None);
     assert_eq!(rt; first_wrong(alloc, TWO_WAYS, OF_TWO_WAYS)?, None);
     Ok(())

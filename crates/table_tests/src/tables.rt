@@ -2,7 +2,7 @@ ghost use Rattle.rhythm_base.specs.Readable.{IsReadable};
 
 use crate::bars::{bar_of, chords_of, count_entries};
 use crate::grammars::{
-    GRACES, HALVES, QUARTERS, TIES, TIES_EXCHANGED, TWO_WAYS, UNEQUAL, WHOLE, read,
+    GRACES, HALVES, TIES, TIES_EXCHANGED, TWO_WAYS, UNEQUAL, USUAL, WHOLE, read,
 };
 use least_cost::{BarTable, Steps, build_cell};
 use rhythm_base::{Best, Grammar, Shape, Tag};
@@ -420,12 +420,12 @@ fn tables_of_bars(rt: HostRuntime) -> Result<(), Fail> {
 
 #[test]
 fn tables_of_bars_down_to_eighths(rt: HostRuntime) -> Result<(), Fail> {
-    assert_eq!(rt; first_wrong(rt.alloc(), QUARTERS, OF_QUARTERS)?, None);
+    assert_eq!(rt; first_wrong(rt.alloc(), USUAL, OF_QUARTERS)?, None);
     Ok(())
 }
 
 #[test]
 fn tables_of_bars_with_quiet_intervals(rt: HostRuntime) -> Result<(), Fail> {
-    assert_eq!(rt; first_wrong(rt.alloc(), QUARTERS, QUIET)?, None);
+    assert_eq!(rt; first_wrong(rt.alloc(), USUAL, QUIET)?, None);
     Ok(())
 }

@@ -2,7 +2,7 @@ ghost use Rattle.rhythm_base.specs.Readable.{IsReadable};
 ghost use Rattle.std.specs.Prelude.{◌≡◌, ◌≤◌, All, IfOk};
 
 use crate::bars::{bar_of, chords_of};
-use crate::grammars::{QUARTERS, read};
+use crate::grammars::{USUAL, read};
 use bar_pool::build_cells;
 use grammar_plan::Plan;
 use least_cost::{BarTable, Steps};
@@ -73,7 +73,7 @@ impl Gate for Holding {
 #[test]
 fn a_worker_draws_what_a_held_one_leaves(rt: HostRuntime) -> Result<(), Fail> {
     let alloc = rt.alloc();
-    let grammar = read(alloc, QUARTERS)?;
+    let grammar = read(alloc, USUAL)?;
     let plan = Plan::of(alloc, &grammar)?;
     let inputs = bars(alloc, &grammar, 4)?;
     for held in 0..3u64 {
@@ -116,7 +116,7 @@ fn are_equal(one: &BarTable, other: &BarTable) -> bool {
 #[test]
 fn any_number_of_workers_gives_equal_tables(rt: HostRuntime) -> Result<(), Fail> {
     let alloc = rt.alloc();
-    let grammar = read(alloc, QUARTERS)?;
+    let grammar = read(alloc, USUAL)?;
     let plan = Plan::of(alloc, &grammar)?;
     let inputs = bars(alloc, &grammar, 12)?;
     let mut builds = Steps::<ByWorkers>::zero();
@@ -155,7 +155,7 @@ fn any_number_of_workers_gives_equal_tables(rt: HostRuntime) -> Result<(), Fail>
 #[test]
 fn the_tables_differ(rt: HostRuntime) -> Result<(), Fail> {
     let alloc = rt.alloc();
-    let grammar = read(alloc, QUARTERS)?;
+    let grammar = read(alloc, USUAL)?;
     let plan = Plan::of(alloc, &grammar)?;
     let inputs = bars(alloc, &grammar, 12)?;
     let mut builds = Steps::<ByWorkers>::zero();
@@ -178,7 +178,7 @@ fn the_tables_differ(rt: HostRuntime) -> Result<(), Fail> {
 #[test]
 fn no_cells_by_four_workers(rt: HostRuntime) -> Result<(), Fail> {
     let alloc = rt.alloc();
-    let grammar = read(alloc, QUARTERS)?;
+    let grammar = read(alloc, USUAL)?;
     let plan = Plan::of(alloc, &grammar)?;
     let mut builds = Steps::<ByWorkers>::zero();
     let tables = build_cells(&rt, alloc, &grammar, &plan, &[], 4, &OpenGate, &mut builds)?;

@@ -7,9 +7,7 @@ use Rattle.rhythm_base.specs.Line.{Looks, seat}
 use Rattle.tree_laws.specs.Laws.{OnsetsAreAttached}
 use Rattle.tree_laws.specs.Runs.{IsLine}
 use Rattle.tree_laws.proofs.Ticks.{from_tick, le_from, le_not, voice-line}
-
-differ : (b : Bool) → b ≡ true → b ≡ false → ⊥
-differ b on off = absurd (cc)
+use Rattle.rhythm_base.proofs.Booleans.{not_both_tests}
 
 -- between two ends
 inside : (a b : Bool) → a ≡ true → b ≡ false → a && not b ≡ true
@@ -32,11 +30,11 @@ module _ {X : Type 0} (K : Looks X) where
   none_before s z (x ∷ xs) line t off = go (line.0 t) refl (none_before line.0 z xs line.2 t)
     where
       go : (b : Bool) → line.0 t ≡ b → (line.0 t ≡ false → length (filter (λ x. K.lies x t) xs) ≡ 0) → length (filter (λ x. K.lies x t) (x ∷ xs)) ≡ 0
-      go true e others = absurd (differ (s t) (line.1.back t e) off)
+      go true e others = absurd (not_both_tests (s t) (line.1.back t e) off)
       go false e others = counted x xs t false (line.1.inside t ∙ before (s t) (line.0 t) off) ∙ others e
 
   lies_once : (s z : ℕ → Bool) (xs : List X) → IsLine K s xs z → (t : ℕ) → s t ≡ true → z t ≡ false → length (filter (λ x. K.lies x t) xs) ≡ 1
-  lies_once s z [] line t on off = absurd (differ (s t) on ((λ i. line i t) ∙ off))
+  lies_once s z [] line t on off = absurd (not_both_tests (s t) on ((λ i. line i t) ∙ off))
   lies_once s z (x ∷ xs) line t on off = go (line.0 t) refl (λ later. lies_once line.0 z xs line.2 t later off) (none_before line.0 z xs line.2 t)
     where
       go : (b : Bool) → line.0 t ≡ b → (line.0 t ≡ true → length (filter (λ x. K.lies x t) xs) ≡ 1) → (line.0 t ≡ false → length (filter (λ x. K.lies x t) xs) ≡ 0)
@@ -49,7 +47,7 @@ module _ {X : Type 0} (K : Looks X) where
 
   sides : (a b : Bool) → (b ≡ true → a ≡ true) → (if a then 0 else 1) ≤ (if b then 0 else 1)
   sides true b h = omega arith
-  sides false true h = absurd (differ false (h refl) refl)
+  sides false true h = absurd (not_both_tests false (h refl) refl)
   sides false false h = omega arith
 
   side_few : (a : Bool) (n : ℕ) → (if a then 0 else 1) ≤ suc n
@@ -66,7 +64,7 @@ module _ {X : Type 0} (K : Looks X) where
           let upper = seat_by x xs u false (line.1.inside u ∙ outside (s u) (line.0 u) f) in
           let others = ih e f in
           omega (arith, lower, upper, others)
-      go true false e f ih = absurd (differ (line.0 u) (line.1.later t u less e) f)
+      go true false e f ih = absurd (not_both_tests (line.0 u) (line.1.later t u less e) f)
       go false true e f ih =
           let lower = seat_by x xs t true (line.1.inside t ∙ inside (s t) (line.0 t) from_t e) in
           let upper = seat_by x xs u false (line.1.inside u ∙ outside (s u) (line.0 u) f) in

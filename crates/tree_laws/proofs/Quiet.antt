@@ -159,7 +159,7 @@ forest-endings rules (more r k rest) p q (v ∷ qs) =
 
 -- ---- what sounds in an interval
 
-doubled : (a b : ℕ) → 2 * a * b ≡ 2 * (a * b)
+pub doubled : (a b : ℕ) → 2 * a * b ≡ 2 * (a * b)
 doubled a b = grind arith
 
 module _ (r : ℕ) (bar : VoiceBar) (e : ℕ) where

@@ -6,11 +6,12 @@ use Rattle.std.proofs.lemmas.Nat.Gcd.{dvd-zero}
 use Rattle.rhythm_base.specs.declared.span.Frac.{Frac}
 use Rattle.durations.specs.Spans.{IsFrac}
 use Rattle.durations.proofs.LowestTerms.{divided}
-use Rattle.derivation.proofs.Fractions.{frac_of_lowest, frac_one}
+use Rattle.derivation.proofs.Fractions.{frac_one}
 use Rattle.kern_reader.proofs.GridLemmas.{gcd_is}
 use Rattle.kern_reader.specs.Columns.{gcd}
 use Rattle.voice_events.specs.Laws.{PartsAreCounted}
 use Rattle.voice_events.specs.Parts.{IsWhole, frac_parts}
+use Rattle.durations.proofs.FractionLemmas.{frac_of_lowest}
 
 -- n / d in lowest terms is n / g over d / g
 reduced : (n d : ℕ) (f : Frac) → 1 ≤ d → IsFrac n d f → d / gcd n d ≡ f.den

@@ -72,7 +72,7 @@ gathering_last tempos division window notes done chord begin g = g.whole (chord 
 
 -- ---- the notes of a voice come one after another
 
-comes : (m n : Note) → m.channel ≡ n.channel → slice_cmp nat_cmp (place_of_note m) (place_of_note n) ≡ Less → m.onset ≤ n.onset
+pub comes : (m n : Note) → m.channel ≡ n.channel → slice_cmp nat_cmp (place_of_note m) (place_of_note n) ≡ Less → m.onset ≤ n.onset
 comes m n e h = grind (arith, nat_tests)
 
 pub voice_rises : (notes : List Note) (i : ℕ) (d : Note) → AreNotesOfVoice notes → i < length notes → All (λ m. (get_or notes i d).onset ≤ m.onset) (drop (suc i) notes)

@@ -1,1 +1,3 @@
+pub mod NoteBreaks
+pub mod ChordParts
 pub mod Gathered

@@ -1,6 +1,7 @@
 use Rattle.std.proofs.Common.{rules, ◌≡◌, ◌+◌, ◌*◌, ◌≤◌, ◌^◌, ℕ, false, List, length, ap, sym, subst, ◌∙◌, refl, arith}
 use Rattle.std.specs.Prelude.{All, IfSome, Option, Some, None, is_none, nat_le}
 use Rattle.std.proofs.lemmas.Bool.{true≢false}
+use Rattle.rhythm_base.specs.Counter.{risen}
 use Rattle.rhythm_base.specs.declared.edit.Edit.{Edit}
 use Rattle.rhythm_base.specs.Grammar.{Grammar}
 use Rattle.rhythm_base.specs.Performance.{Performance}
@@ -8,10 +9,12 @@ use Rattle.rhythm_base.specs.Voices.{IsCostOf}
 use Rattle.barline_follow.specs.Answer.{IsAnswer, chosen}
 use Rattle.barline_follow.specs.Bars.{barlines_of}
 use Rattle.barline_follow.specs.Barring.{Barring}
+use Rattle.barline_follow.specs.Builds.{most_tables}
 use Rattle.barline_follow.specs.Rounds.{IsBest}
 use Rattle.barline_follow.specs.Script.{IsOfBars, Leads, script}
 use Rattle.barline_follow.proofs.Answering.{accepted, chosen_best, chosen_old, kept, of_bars, refused}
 use Rattle.barline_follow.proofs.BestBounds.{IsShort, best_short}
+use Rattle.barline_follow.proofs.MostBuilt.{most_tried, most_untried, within_search, within_trial}
 use Rattle.barline_follow.proofs.following.follow.Goals as goal
 
 -- what is found and the cost are those of the session
@@ -25,6 +28,9 @@ some_is (Some cost) h = (cost, refl)
 none_is : (o : Option Barring) → ((b : Barring) → o ≡ Some b → ⊥) → o ≡ None
 none_is None h = refl
 none_is (Some b) h = absurd (h b refl)
+
+few_of_session : (p q : Performance) (old new : ℕ) → q ≡ p → new ≤ risen old (most_tables q) → new ≤ risen old (most_tables p)
+few_of_session p q old new is few = subst (λ (r : Performance). new ≤ risen old (most_tables r)) is few
 
 pub follow_script-requires-clause-few : goal.follow_script-requires-clause-few
 follow_script-requires-clause-few world c =
@@ -111,3 +117,137 @@ returns-clause-answer world c =
     let tried = subst (λ (o : Option ℕ). IfSome o (λ cost. (after : Performance) × Leads g p c.as_slice-lines.result.now after × IsCostOf g after cost)) some.1 c.in_ok-tried.ensures.accepted in
     subst (λ (l : List Edit). IsAnswer g p l) (sym script_is)
     (accepted g p (Some best) c.cost-before.result is_best c.cost-before.ensures best.ticks tried.0 wanted (subst (λ (l : List Edit). Leads g p l tried.0) lines tried.1))
+
+pub returns-in_err-best-clause-most : goal.returns-in_err-best-clause-most
+returns-in_err-best-clause-most world c =
+    within_search c.args.session.now.grammar c.args.session.now.performance c.args.builds.now c.best_barlines.new.builds
+    (few_of_session c.args.session.now.performance _ c.args.builds.now c.best_barlines.new.builds c.performance-performance.ensures.value c.in_err-best.ensures.most)
+
+pub returns-in_default-clause-most : goal.returns-in_default-clause-most
+returns-in_default-clause-most world c =
+    within_search c.args.session.now.grammar c.args.session.now.performance c.args.builds.now c.best_barlines.new.builds
+    (few_of_session c.args.session.now.performance _ c.args.builds.now c.best_barlines.new.builds c.performance-performance.ensures.value c.in_ok-best.ensures.most)
+
+pub returns-then-not-gains-clause-most : goal.returns-then-not-gains-clause-most
+returns-then-not-gains-clause-most world c =
+    within_search c.args.session.now.grammar c.args.session.now.performance c.args.builds.now c.best_barlines.new.builds
+    (few_of_session c.args.session.now.performance _ c.args.builds.now c.best_barlines.new.builds c.performance-performance.ensures.value c.in_ok-best.ensures.most)
+
+pub returns-in_err-script-clause-most : goal.returns-in_err-script-clause-most
+returns-in_err-script-clause-most world c =
+    within_search c.args.session.now.grammar c.args.session.now.performance c.args.builds.now c.best_barlines.new.builds
+    (few_of_session c.args.session.now.performance _ c.args.builds.now c.best_barlines.new.builds c.performance-performance.ensures.value c.in_ok-best.ensures.most)
+
+pub returns-in_default-clause-bound : goal.returns-in_default-clause-bound
+returns-in_default-clause-bound g c =
+    let session = c.args.session.now in
+    let is_best = best_of_session session.grammar _ session.performance _ c.in_ok-best.best c.grammar-grammar.ensures.value c.performance-performance.ensures.value c.in_ok-best.ensures.best in
+    let none : c.in_ok-best.best ≡ None = none_is c.in_ok-best.best c.in_default.not-Some in
+    let old : chosen session.performance c.cost-before.result c.in_ok-best.best ≡ barlines_of session.performance = ap (chosen session.performance c.cost-before.result) none in
+    most_untried session.grammar session.performance c.in_ok-best.best c.cost-before.result is_best c.cost-before.ensures c.args.builds.now c.best_barlines.new.builds old
+    (few_of_session c.args.session.now.performance _ c.args.builds.now c.best_barlines.new.builds c.performance-performance.ensures.value c.in_ok-best.ensures.most)
+
+pub returns-then-not-gains-clause-bound : goal.returns-then-not-gains-clause-bound
+returns-then-not-gains-clause-bound world c =
+    let session = c.args.session.now in
+    let g : Grammar = session.grammar in
+    let p : Performance = session.performance in
+    let best : Barring = c.in-Some.best in
+    let is_best : IsBest g p (Some best) =
+    subst (IsBest g p) c.in-Some.is (best_of_session g _ p _ c.in_ok-best.best c.grammar-grammar.ensures.value c.performance-performance.ensures.value c.in_ok-best.ensures.best) in
+    let value : c.gains.result ≡ nat_le (10 * (best.cost + best.prices)) (7 * c.cost-before.result) =
+    c.gains.ensures ∙ (λ i. nat_le (10 * (c.cost.ensures i + c.prices.ensures i)) (7 * c.cost-before.result)) in
+    let old : chosen p c.cost-before.result (Some best) ≡ barlines_of p =
+    chosen_old p c.cost-before.result best (sym value ∙ c.if-not-gains.true) in
+    most_untried g p (Some best) c.cost-before.result is_best c.cost-before.ensures c.args.builds.now c.best_barlines.new.builds old
+    (few_of_session c.args.session.now.performance _ c.args.builds.now c.best_barlines.new.builds c.performance-performance.ensures.value c.in_ok-best.ensures.most)
+
+pub returns-in_err-tried-clause-most : goal.returns-in_err-tried-clause-most
+returns-in_err-tried-clause-most world c =
+    let session = c.args.session.now in
+    let g : Grammar = session.grammar in
+    let p : Performance = session.performance in
+    let best : Barring = c.in-Some.best in
+    let is_best : IsBest g p (Some best) =
+    subst (IsBest g p) c.in-Some.is (best_of_session g _ p _ c.in_ok-best.best c.grammar-grammar.ensures.value c.performance-performance.ensures.value c.in_ok-best.ensures.best) in
+    let value : c.gains.result ≡ nat_le (10 * (best.cost + best.prices)) (7 * c.cost-before.result) =
+    c.gains.ensures ∙ (λ i. nat_le (10 * (c.cost.ensures i + c.prices.ensures i)) (7 * c.cost-before.result)) in
+    let wanted : chosen p c.cost-before.result (Some best) ≡ best.ticks =
+    chosen_best p c.cost-before.result best (sym value ∙ c.if-not-gains.false) in
+    let script_is : c.in_ok-script.script.items ≡ script p best.ticks = c.in_ok-script.ensures ∙ (λ i. script (c.performance.ensures.value i) (c.ticks.ensures i)) in
+    let lines : c.as_slice-lines.result.now ≡ script p best.ticks = c.as_slice-lines.ensures.value ∙ script_is in
+    let rises = c.in_err-tried.ensures.most (subst (All IsOfBars) (sym lines) (of_bars p best.ticks)) in
+    within_trial g p (Some best) c.cost-before.result is_best c.cost-before.ensures best.ticks c.as_slice-lines.result.now c.args.builds.now c.best_barlines.new.builds c.try_edits.new.builds
+    wanted lines (few_of_session c.args.session.now.performance _ c.args.builds.now c.best_barlines.new.builds c.performance-performance.ensures.value c.in_ok-best.ensures.most) rises
+
+pub returns-then-is_none-clause-most : goal.returns-then-is_none-clause-most
+returns-then-is_none-clause-most world c =
+    let session = c.args.session.now in
+    let g : Grammar = session.grammar in
+    let p : Performance = session.performance in
+    let best : Barring = c.in-Some.best in
+    let is_best : IsBest g p (Some best) =
+    subst (IsBest g p) c.in-Some.is (best_of_session g _ p _ c.in_ok-best.best c.grammar-grammar.ensures.value c.performance-performance.ensures.value c.in_ok-best.ensures.best) in
+    let value : c.gains.result ≡ nat_le (10 * (best.cost + best.prices)) (7 * c.cost-before.result) =
+    c.gains.ensures ∙ (λ i. nat_le (10 * (c.cost.ensures i + c.prices.ensures i)) (7 * c.cost-before.result)) in
+    let wanted : chosen p c.cost-before.result (Some best) ≡ best.ticks =
+    chosen_best p c.cost-before.result best (sym value ∙ c.if-not-gains.false) in
+    let script_is : c.in_ok-script.script.items ≡ script p best.ticks = c.in_ok-script.ensures ∙ (λ i. script (c.performance.ensures.value i) (c.ticks.ensures i)) in
+    let lines : c.as_slice-lines.result.now ≡ script p best.ticks = c.as_slice-lines.ensures.value ∙ script_is in
+    let rises = c.in_ok-tried.ensures.most (subst (All IsOfBars) (sym lines) (of_bars p best.ticks)) in
+    within_trial g p (Some best) c.cost-before.result is_best c.cost-before.ensures best.ticks c.as_slice-lines.result.now c.args.builds.now c.best_barlines.new.builds c.try_edits.new.builds
+    wanted lines (few_of_session c.args.session.now.performance _ c.args.builds.now c.best_barlines.new.builds c.performance-performance.ensures.value c.in_ok-best.ensures.most) rises
+
+pub returns-then-is_none-clause-bound : goal.returns-then-is_none-clause-bound
+returns-then-is_none-clause-bound world c =
+    let session = c.args.session.now in
+    let g : Grammar = session.grammar in
+    let p : Performance = session.performance in
+    let best : Barring = c.in-Some.best in
+    let is_best : IsBest g p (Some best) =
+    subst (IsBest g p) c.in-Some.is (best_of_session g _ p _ c.in_ok-best.best c.grammar-grammar.ensures.value c.performance-performance.ensures.value c.in_ok-best.ensures.best) in
+    let value : c.gains.result ≡ nat_le (10 * (best.cost + best.prices)) (7 * c.cost-before.result) =
+    c.gains.ensures ∙ (λ i. nat_le (10 * (c.cost.ensures i + c.prices.ensures i)) (7 * c.cost-before.result)) in
+    let wanted : chosen p c.cost-before.result (Some best) ≡ best.ticks =
+    chosen_best p c.cost-before.result best (sym value ∙ c.if-not-gains.false) in
+    let script_is : c.in_ok-script.script.items ≡ script p best.ticks = c.in_ok-script.ensures ∙ (λ i. script (c.performance.ensures.value i) (c.ticks.ensures i)) in
+    let lines : c.as_slice-lines.result.now ≡ script p best.ticks = c.as_slice-lines.ensures.value ∙ script_is in
+    let rises = c.in_ok-tried.ensures.reached (subst (All IsOfBars) (sym lines) (of_bars p best.ticks)) in
+    most_tried g p (Some best) c.cost-before.result is_best c.cost-before.ensures best.ticks c.as_slice-lines.result.now c.args.builds.now c.best_barlines.new.builds c.try_edits.new.builds
+    wanted lines (few_of_session c.args.session.now.performance _ c.args.builds.now c.best_barlines.new.builds c.performance-performance.ensures.value c.in_ok-best.ensures.most) rises
+
+pub returns-clause-most : goal.returns-clause-most
+returns-clause-most world c =
+    let session = c.args.session.now in
+    let g : Grammar = session.grammar in
+    let p : Performance = session.performance in
+    let best : Barring = c.in-Some.best in
+    let is_best : IsBest g p (Some best) =
+    subst (IsBest g p) c.in-Some.is (best_of_session g _ p _ c.in_ok-best.best c.grammar-grammar.ensures.value c.performance-performance.ensures.value c.in_ok-best.ensures.best) in
+    let value : c.gains.result ≡ nat_le (10 * (best.cost + best.prices)) (7 * c.cost-before.result) =
+    c.gains.ensures ∙ (λ i. nat_le (10 * (c.cost.ensures i + c.prices.ensures i)) (7 * c.cost-before.result)) in
+    let wanted : chosen p c.cost-before.result (Some best) ≡ best.ticks =
+    chosen_best p c.cost-before.result best (sym value ∙ c.if-not-gains.false) in
+    let script_is : c.in_ok-script.script.items ≡ script p best.ticks = c.in_ok-script.ensures ∙ (λ i. script (c.performance.ensures.value i) (c.ticks.ensures i)) in
+    let lines : c.as_slice-lines.result.now ≡ script p best.ticks = c.as_slice-lines.ensures.value ∙ script_is in
+    let rises = c.in_ok-tried.ensures.most (subst (All IsOfBars) (sym lines) (of_bars p best.ticks)) in
+    within_trial g p (Some best) c.cost-before.result is_best c.cost-before.ensures best.ticks c.as_slice-lines.result.now c.args.builds.now c.best_barlines.new.builds c.try_edits.new.builds
+    wanted lines (few_of_session c.args.session.now.performance _ c.args.builds.now c.best_barlines.new.builds c.performance-performance.ensures.value c.in_ok-best.ensures.most) rises
+
+pub returns-clause-bound : goal.returns-clause-bound
+returns-clause-bound world c =
+    let session = c.args.session.now in
+    let g : Grammar = session.grammar in
+    let p : Performance = session.performance in
+    let best : Barring = c.in-Some.best in
+    let is_best : IsBest g p (Some best) =
+    subst (IsBest g p) c.in-Some.is (best_of_session g _ p _ c.in_ok-best.best c.grammar-grammar.ensures.value c.performance-performance.ensures.value c.in_ok-best.ensures.best) in
+    let value : c.gains.result ≡ nat_le (10 * (best.cost + best.prices)) (7 * c.cost-before.result) =
+    c.gains.ensures ∙ (λ i. nat_le (10 * (c.cost.ensures i + c.prices.ensures i)) (7 * c.cost-before.result)) in
+    let wanted : chosen p c.cost-before.result (Some best) ≡ best.ticks =
+    chosen_best p c.cost-before.result best (sym value ∙ c.if-not-gains.false) in
+    let script_is : c.in_ok-script.script.items ≡ script p best.ticks = c.in_ok-script.ensures ∙ (λ i. script (c.performance.ensures.value i) (c.ticks.ensures i)) in
+    let lines : c.as_slice-lines.result.now ≡ script p best.ticks = c.as_slice-lines.ensures.value ∙ script_is in
+    let rises = c.in_ok-tried.ensures.reached (subst (All IsOfBars) (sym lines) (of_bars p best.ticks)) in
+    most_tried g p (Some best) c.cost-before.result is_best c.cost-before.ensures best.ticks c.as_slice-lines.result.now c.args.builds.now c.best_barlines.new.builds c.try_edits.new.builds
+    wanted lines (few_of_session c.args.session.now.performance _ c.args.builds.now c.best_barlines.new.builds c.performance-performance.ensures.value c.in_ok-best.ensures.most) rises

@@ -11,7 +11,7 @@ use Rattle.rhythm_base.specs.Voices.{AreChordsOf}
 use Rattle.rhythm_base.proofs.OrderedLists.{all_cons}
 use Rattle.edit_session.proofs.Risen.{risen_more, risen_upto}
 use Rattle.rhythm_base.specs.Counter.{risen}
-use Rattle.barline_follow.specs.Builds.{most_lists, most_tables}
+use Rattle.barline_follow.specs.Builds.{most_lists}
 use Rattle.barline_follow.specs.Barring.{Barring, Course}
 use Rattle.barline_follow.specs.Gathered.{barring_of}
 use Rattle.barline_follow.specs.Rounds.{ComeTo, IsRound, no_bars}

@@ -1,15 +1,17 @@
-use Rattle.std.proofs.Common.{rules, ◌≡◌, ℕ, ◌≤◌, ◌+◌, ◌++◌, ◌∷◌, [], ◌∙◌, List, sym, ap, subst, drop, take, get_or, Ok, arith}
+use Rattle.std.proofs.Common.{rules, ◌≡◌, ℕ, ◌≤◌, ◌+◌, ◌++◌, ◌∷◌, [], ◌∙◌, List, refl, sym, ap, subst, drop, take, get_or, Ok, arith}
 use Rattle.std.specs.Prelude.{All, IfSome, OnSome, Option, reverse}
-use Rattle.std.proofs.lemmas.List.{take_more}
-use Rattle.edit_session.specs.Prepared.{Prepared}
+use Rattle.std.proofs.lemmas.List.{take-append-drop, take_all, take_more}
+use Rattle.edit_session.specs.Prepared.{Prepared, RisesBy}
 use Rattle.rhythm_base.specs.declared.edit.Edit.{Edit}
 use Rattle.rhythm_base.specs.EditRanges.{IsEditInRange}
 use Rattle.edit_laws.specs.Edits.{edited}
 use Rattle.rhythm_base.specs.Grammar.{Grammar}
 use Rattle.rhythm_base.specs.Performance.{Performance}
 use Rattle.rhythm_base.specs.Voices.{HasDerivation}
+use Rattle.barline_follow.specs.Builds.{AreReachedInTurn, AreWithinReachInTurn}
 use Rattle.barline_follow.specs.Script.{Accepts, IsOfBars, Leads}
 use Rattle.barline_follow.specs.Trial.{IsStepBack, LeadBack}
+use Rattle.barline_follow.proofs.ReachedInTurn.{built_first, built_more, built_none, built_some_more, built_to, built_within}
 use Rattle.barline_follow.proofs.Searching.{in_parts}
 use Rattle.barline_follow.proofs.WayBack.{back_grown, back_more, leads_more, next_accepted}
 use Rattle.barline_follow.proofs.trial.make_all.Goals as goal
@@ -20,6 +22,17 @@ unmade : (g : Grammar) (a b : ℕ) (p q start : Performance) (backs same : List 
 unmade g a b p q start backs same le h is stays =
     subst (λ (r : Performance). LeadBack g b r (reverse same) start) (sym stays)
     (subst (λ (l : List Prepared). LeadBack g b p (reverse l) start) (sym is) (back_grown g a b p (reverse backs) start le h))
+
+pub edits-init : goal.edits-init
+edits-init g c = (
+  refl,
+  omega arith,
+  subst (λ (l : List Prepared). LeadBack c.args.session.now.grammar c.args.session.now.room c.args.session.now.performance (reverse l) c.args.session.now.performance) (sym c.requires) refl,
+  refl,
+  omega arith,
+  omega arith,
+  λ bars. built_none c.args.session.now.grammar c.args.session.now.performance c.args.builds.now,
+)
 
 pub returns-in_err-make-clause-back : goal.returns-in_err-make-clause-back
 returns-in_err-make-clause-back g c =
@@ -59,6 +72,11 @@ edits-preserved g c =
           (leads_more grammar start was (take c.edits.edit-index c.args.script.now) edit now c.edits.invariant.3 range made derivations),
       omega (arith, c.edits.invariant.4, c.make.ensures.builds),
       omega (arith, c.edits.invariant.5, c.make.ensures.products),
+      λ bars.
+          let of_bars : IsOfBars edit = subst IsOfBars it (bars c.edits.edit-index edit c.edits-test.true) in
+          let rises = subst (λ (h : Grammar). RisesBy c.edits.builds c.make.new.builds (AreReachedInTurn h was (edit ∷ []))) grammar_is (c.in_ok-make.ensures.reached of_bars) in
+          subst (λ (l : List Edit). RisesBy c.args.builds.now c.make.new.builds (AreReachedInTurn grammar start l)) (sym taken)
+          (built_more grammar start was (take c.edits.edit-index c.args.script.now) c.args.builds.now c.edits.builds c.edits.invariant.3 (c.edits.invariant.6 bars) edit c.make.new.builds rises),
     )
 
 pub returns-in-None-clause-refused : goal.returns-in-None-clause-refused
@@ -75,3 +93,70 @@ returns-in-None-clause-refused g c false_is bars after leads =
     (subst (λ (l : List Edit). Leads grammar start l after) parts leads) in
     c.in_ok-make.ensures.never c.in-None.is (subst IsOfBars it (bars i edit c.edits-test.true)) next.0
     (subst (λ (h : Grammar). Accepts h was edit next.0) (sym c.edits.invariant.0) next.1)
+
+pub returns-in_err-reserve-clause-most : goal.returns-in_err-reserve-clause-most
+returns-in_err-reserve-clause-most g c bars =
+    let grammar : Grammar = c.args.session.now.grammar in
+    let start : Performance = c.args.session.now.performance in
+    let i : ℕ = c.edits.edit-index in
+    subst (λ (l : List Edit). RisesBy c.args.builds.now c.edits.builds (AreWithinReachInTurn grammar start l)) (take-append-drop i c.args.script.now)
+    (built_first grammar start c.edits.session.performance (take i c.args.script.now) c.args.builds.now c.edits.builds c.edits.invariant.3 (c.edits.invariant.6 bars) (drop i c.args.script.now))
+
+pub returns-in_err-make-clause-most : goal.returns-in_err-make-clause-most
+returns-in_err-make-clause-most g c bars =
+    let grammar : Grammar = c.args.session.now.grammar in
+    let start : Performance = c.args.session.now.performance in
+    let was : Performance = c.edits.session.performance in
+    let i : ℕ = c.edits.edit-index in
+    let edit : Edit = c.edit-item.result in
+    let it : get_or c.args.script.now i edit ≡ edit = search rules in
+    let parts : c.args.script.now ≡ take i c.args.script.now ++ (edit ∷ drop (i + 1) c.args.script.now) =
+    in_parts c.args.script.now i edit c.edits-test.true ∙ ap (λ x. take i c.args.script.now ++ (x ∷ drop (i + 1) c.args.script.now)) it in
+    let rises = subst (λ (h : Grammar). RisesBy c.edits.builds c.make.new.builds (AreWithinReachInTurn h was (edit ∷ []))) c.edits.invariant.0 c.in_err-make.ensures.most in
+    subst (λ (l : List Edit). RisesBy c.args.builds.now c.make.new.builds (AreWithinReachInTurn grammar start l)) (sym parts)
+    (built_some_more grammar start was (take i c.args.script.now) c.args.builds.now c.edits.builds c.edits.invariant.3 (c.edits.invariant.6 bars) edit (drop (i + 1) c.args.script.now)
+    c.make.new.builds rises)
+
+pub returns-in-None-clause-most : goal.returns-in-None-clause-most
+returns-in-None-clause-most g c bars =
+    let grammar : Grammar = c.args.session.now.grammar in
+    let start : Performance = c.args.session.now.performance in
+    let was : Performance = c.edits.session.performance in
+    let i : ℕ = c.edits.edit-index in
+    let edit : Edit = c.edit-item.result in
+    let it : get_or c.args.script.now i edit ≡ edit = search rules in
+    let parts : c.args.script.now ≡ take i c.args.script.now ++ (edit ∷ drop (i + 1) c.args.script.now) =
+    in_parts c.args.script.now i edit c.edits-test.true ∙ ap (λ x. take i c.args.script.now ++ (x ∷ drop (i + 1) c.args.script.now)) it in
+    let rises = subst (λ (h : Grammar). RisesBy c.edits.builds c.make.new.builds (AreWithinReachInTurn h was (edit ∷ []))) c.edits.invariant.0 c.in_ok-make.ensures.most in
+    subst (λ (l : List Edit). RisesBy c.args.builds.now c.make.new.builds (AreWithinReachInTurn grammar start l)) (sym parts)
+    (built_some_more grammar start was (take i c.args.script.now) c.args.builds.now c.edits.builds c.edits.invariant.3 (c.edits.invariant.6 bars) edit (drop (i + 1) c.args.script.now)
+    c.make.new.builds rises)
+
+pub returns-in-None-clause-reached : goal.returns-in-None-clause-reached
+returns-in-None-clause-reached g c bars =
+    let grammar : Grammar = c.args.session.now.grammar in
+    let start : Performance = c.args.session.now.performance in
+    let was : Performance = c.edits.session.performance in
+    let i : ℕ = c.edits.edit-index in
+    let edit : Edit = c.edit-item.result in
+    let it : get_or c.args.script.now i edit ≡ edit = search rules in
+    let parts : c.args.script.now ≡ take i c.args.script.now ++ (edit ∷ drop (i + 1) c.args.script.now) =
+    in_parts c.args.script.now i edit c.edits-test.true ∙ ap (λ x. take i c.args.script.now ++ (x ∷ drop (i + 1) c.args.script.now)) it in
+    let of_bars : IsOfBars edit = subst IsOfBars it (bars i edit c.edits-test.true) in
+    let never : (next : Performance) → Accepts grammar was edit next → ⊥ =
+    λ next accepts. c.in_ok-make.ensures.never c.in-None.is of_bars next (subst (λ (h : Grammar). Accepts h was edit next) (sym c.edits.invariant.0) accepts) in
+    let rises = subst (λ (h : Grammar). RisesBy c.edits.builds c.make.new.builds (AreReachedInTurn h was (edit ∷ []))) c.edits.invariant.0 (c.in_ok-make.ensures.reached of_bars) in
+    subst (λ (l : List Edit). RisesBy c.args.builds.now c.make.new.builds (AreReachedInTurn grammar start l)) (sym parts)
+    (built_to grammar start was (take i c.args.script.now) c.args.builds.now c.edits.builds c.edits.invariant.3 (c.edits.invariant.6 bars) edit (drop (i + 1) c.args.script.now)
+    c.make.new.builds never rises)
+
+pub returns-clause-reached : goal.returns-clause-reached
+returns-clause-reached g c bars =
+    subst (λ (l : List Edit). RisesBy c.args.builds.now c.edits.builds (AreReachedInTurn c.args.session.now.grammar c.args.session.now.performance l))
+    (take_all c.edits.edit-index c.args.script.now (omega (arith, c.edits-test.false))) (c.edits.invariant.6 bars)
+
+pub returns-clause-most : goal.returns-clause-most
+returns-clause-most g c bars =
+    built_within c.args.session.now.grammar c.args.session.now.performance c.args.script.now c.args.builds.now c.edits.builds
+    (subst (λ (l : List Edit). RisesBy c.args.builds.now c.edits.builds (AreReachedInTurn c.args.session.now.grammar c.args.session.now.performance l))
+    (take_all c.edits.edit-index c.args.script.now (omega (arith, c.edits-test.false))) (c.edits.invariant.6 bars))

@@ -1,6 +1,8 @@
 use Rattle.std.proofs.Common.{◌≡◌, ◌≤◌, take}
-use Rattle.std.specs.Prelude.{reverse}
-use Rattle.barline_follow.specs.Script.{Leads}
+use Rattle.std.specs.Prelude.{All, reverse}
+use Rattle.edit_session.specs.Prepared.{RisesBy}
+use Rattle.barline_follow.specs.Builds.{AreReachedInTurn}
+use Rattle.barline_follow.specs.Script.{IsOfBars, Leads}
 use Rattle.barline_follow.specs.Trial.{LeadBack}
 use Rattle.barline_follow.proofs.trial.make_all.Given as goal
 
@@ -12,3 +14,4 @@ invariant-edits g l =
     × Leads l.initial.session.grammar l.initial.session.performance (take l.edit-index l.script) l.session.performance
     × (l.initial.builds ≤ l.builds)
     × (l.initial.products ≤ l.products)
+    × (All IsOfBars l.script → RisesBy l.initial.builds l.builds (AreReachedInTurn l.initial.session.grammar l.initial.session.performance (take l.edit-index l.script)))

@@ -26,9 +26,7 @@ use Rattle.best_trees.proofs.Searches.{best-all, best-bare, best-cut, best-jump,
 use Rattle.best_trees.proofs.Steps.{forests-nothing}
 use Rattle.best_trees.proofs.search.+search.Goals.{beside-then-allows_none+in_ok-nothing, beside-else-allows_none+in_ok-none}
 use Rattle.best_trees.proofs.search.+search.Goals as goal
-
-and_then : {A B : Type 0} → A → B → A × B
-and_then a b = (a, b)
+use Rattle.rhythm_base.proofs.Conjunctions.{and_then}
 
 is_false : {b : Bool} → b ≡ false → IsFalse b
 is_false h = subst IsFalse (sym h) refl

@@ -1,7 +1,7 @@
 use Rattle.std.proofs.Common.{◌*◌, subst, arith}
 use Rattle.durations.specs.Values.{IsLowest}
-use Rattle.derivation.proofs.Fractions.{frac_of_lowest}
 use Rattle.derivation.proofs.parts.frac.Goals as goal
+use Rattle.durations.proofs.FractionLemmas.{frac_of_lowest}
 
 pub returns : goal.returns
 returns c =

@@ -10,8 +10,8 @@ use Rattle.edit_session.specs.VoiceTables.{VoiceTables}
 use Rattle.edit_session.proofs.EachRuns.{Each-at}
 use Rattle.edit_session.proofs.ExchangedVoices.{AreVoicesUpTo, same_at, same_rest, voice_next, voices_begun, voices_ended, voices_more}
 use Rattle.edit_session.proofs.Risen.{risen_both, risen_upto}
-use Rattle.edit_session.proofs.SuitingTables.{filter_few}
 use Rattle.edit_session.proofs.exchange.exchange_voices.Goals as goal
+use Rattle.rhythm_base.proofs.ListParts.{filter_few}
 
 pub voices-init : goal.voices-init
 voices-init g c = record {

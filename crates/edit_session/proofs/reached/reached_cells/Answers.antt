@@ -1,4 +1,7 @@
 use Rattle.std.proofs.Common.{rules, ℕ, List, ◌≡◌, ◌<◌, ◌+◌, ◌++◌, length, map, get_or, subst, sym, ap, ◌∙◌, arith, Vec, Global}
+use Rattle.std.proofs.lemmas.Option.{IfSome_then}
+use Rattle.rhythm_base.specs.Performance.{IsWellFormed, Performance}
+use Rattle.edit_session.specs.Spans.{IsKnown}
 use Rattle.chain_bars.proofs.Lists.{default_same}
 use Rattle.edit_session.proofs.EachRuns.{Each-at, Each-length}
 use Rattle.edit_session.specs.Kept.{AreTablesOfVoice}
@@ -16,6 +19,26 @@ pub bounds-channels-number : goal.bounds-channels-number
 bounds-channels-number c =
     let long = Each-length (λ d (v : VoiceTables). AreTablesOfVoice c.args.grammar.now c.args.before.now d v.tables) c.args.before.now.channels c.args.voices.now c.requires.tables in
     omega (arith, c.voices-test.true, long, ap length c.channels-channels.ensures)
+
+pub voice_reached-requires-clause-known : goal.voice_reached-requires-clause-known
+voice_reached-requires-clause-known c =
+    let g = c.args.grammar.now in
+    let p = c.args.before.now in
+    let q = c.args.after.now in
+    let n : ℕ = c.voices.number in
+    let long = Each-length (λ d (v : VoiceTables). AreTablesOfVoice g p d v.tables) p.channels c.args.voices.now c.requires.tables in
+    let lt : n < length p.channels = omega (arith, c.voices-test.true, long) in
+    let channel : ℕ = get_or c.channels-channels.result.now n 0 in
+    let at : get_or p.channels n channel ≡ channel = default_same p.channels n channel 0 lt ∙ ap (λ (cs : List ℕ). get_or cs n 0) (sym c.channels-channels.ensures) in
+    let v : VoiceTables = c.index-voices-number.result in
+    let here = Each-at (λ d (v : VoiceTables). AreTablesOfVoice g p d v.tables) p.channels c.args.voices.now n channel v lt c.requires.tables in
+    let read : get_or c.args.voices.now n v ≡ v = sym c.index-voices-number.is in
+    let tables : AreTablesOfVoice g p channel v.tables = subst (λ d. AreTablesOfVoice g p d v.tables) at (subst (λ (u : VoiceTables). AreTablesOfVoice g p (get_or p.channels n channel) u.tables) read here) in
+    let own : AreTablesOfVoice g p channel c.tables-tables.result.now = subst (AreTablesOfVoice g p channel) (sym c.tables-tables.ensures) tables in
+    let P : Performance → ℕ → ℕ → Type 0 = λ r first end. (r ≡ p) × IsKnown p q first end in
+    let Q : Performance → ℕ → ℕ → Type 0 = λ r first end. IsWellFormed r × IsKnown r q first end × AreTablesOfVoice g r channel c.tables-tables.result.now in
+    let all : (r : Performance) (first end : ℕ) → P r first end → Q r first end = λ r first end h. subst (λ r. Q r first end) (sym h.0) (c.requires.formed, h.1, own) in
+    IfSome_then c.known_of-known.result c.known_of-known.ensures (λ k h. all k.before.now k.first_bar k.bar_end h)
 
 pub voices-preserved : goal.voices-preserved
 voices-preserved c =

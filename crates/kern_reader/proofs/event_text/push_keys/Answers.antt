@@ -1,10 +1,11 @@
 use Rattle.std.proofs.Common.{◌≡◌, ℕ, ◌+◌, ◌-◌, ◌++◌, List, [], sym, ap, ◌∙◌, false, append-nil, arith}
 use Rattle.std.specs.Int.{bit_at}
 use Rattle.kern_reader.specs.EventText.{event_keys, listed_on}
-use Rattle.kern_reader.proofs.KeyFloors.{found_more, had, none_after, not_had, nothing_found, text_from}
+use Rattle.kern_reader.proofs.KeyFloors.{found_more, none_after, nothing_found, text_from}
 use Rattle.kern_reader.proofs.KeyLemmas.{bit_clear, bit_set, key_absent, key_there, keys_end}
 use Rattle.kern_reader.proofs.event_text.push_keys.Goals as goal
 use Rattle.kern_reader.proofs.event_text.push_keys.Goals.{then-has+in_ok-push_key+else-are_same, else-has}
+use Rattle.rhythm_base.proofs.KeySets.{had, not_had}
 
 pub keys-init : goal.keys-init
 keys-init c = record {

@@ -1,6 +1,7 @@
 use Rattle.std.proofs.Common.{arith}
-use Rattle.kern_reader.proofs.KeyFloors.{floor_more, floor_zero, not_had}
+use Rattle.kern_reader.proofs.KeyFloors.{floor_more, floor_zero}
 use Rattle.kern_reader.proofs.lowest_key.lowest.Goals as goal
+use Rattle.rhythm_base.proofs.KeySets.{not_had}
 
 pub keys-init : goal.keys-init
 keys-init c = floor_zero c.args.keys

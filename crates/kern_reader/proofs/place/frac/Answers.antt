@@ -1,4 +1,4 @@
-use Rattle.kern_reader.proofs.FractionLemmas.{frac_of_lowest}
+use Rattle.durations.proofs.FractionLemmas.{frac_of_lowest}
 use Rattle.kern_reader.proofs.place.frac.Goals as goal
 
 pub returns : goal.returns

@@ -4,9 +4,10 @@ use Rattle.std.specs.List.{join_with_byte}
 use Rattle.std.proofs.lemmas.List.{append-nil}
 use Rattle.durations.specs.Pitch.{pitch}
 use Rattle.kern_writer.specs.Tokens.{keys_from}
-use Rattle.kern_writer.proofs.RisingKeys.{chord_step, had, keys_all, keys_below, keys_count, keys_skip, not_had}
+use Rattle.kern_writer.proofs.RisingKeys.{chord_step, keys_all, keys_below, keys_count, keys_skip}
 use Rattle.kern_writer.proofs.chord.push_grace.Goals as goal
 use Rattle.kern_writer.proofs.chord.push_grace.Goals.{then-has+in_ok-push_between+in_ok-push_grace_note, else-has}
+use Rattle.rhythm_base.proofs.KeySets.{had, not_had}
 
 pub grace_keys-preserved : goal.grace_keys-preserved
 grace_keys-preserved c =

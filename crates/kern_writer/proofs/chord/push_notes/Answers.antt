@@ -4,9 +4,10 @@ use Rattle.std.specs.Int.{IsBitSet}
 use Rattle.std.specs.List.{join_with_byte}
 use Rattle.std.proofs.lemmas.List.{append-nil}
 use Rattle.kern_writer.specs.Tokens.{keys_from, note_text}
-use Rattle.kern_writer.proofs.RisingKeys.{bit_clear, bit_set, chord_step, found_all, found_none, found_push, found_skip, had, keys_all, keys_below, keys_count, keys_skip, not_had}
+use Rattle.kern_writer.proofs.RisingKeys.{bit_set, chord_step, found_all, found_none, found_push, found_skip, keys_all, keys_below, keys_count, keys_skip}
 use Rattle.kern_writer.proofs.chord.push_notes.Goals as goal
 use Rattle.kern_writer.proofs.chord.push_notes.Goals.{then-has+in_ok-push_between+in_ok-push_note+else-are_same, else-has}
+use Rattle.rhythm_base.proofs.KeySets.{bit_clear, had, not_had}
 
 pub keys-preserved : goal.keys-preserved
 keys-preserved c =

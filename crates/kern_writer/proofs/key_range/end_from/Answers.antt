@@ -1,8 +1,8 @@
 use Rattle.std.proofs.Common.{◌≡◌, ℕ, ◌-◌, ◌≤◌, ◌<◌, ap, ◌∙◌, ◌⊎◌, inl, inr, arith}
 use Rattle.std.specs.Int.{bit_at}
 use Rattle.std.proofs.lemmas.Bool.{cases_lt}
-use Rattle.kern_writer.proofs.RisingKeys.{bit_clear, not_had}
 use Rattle.kern_writer.proofs.key_range.end_from.Goals as goal
+use Rattle.rhythm_base.proofs.KeySets.{bit_clear, not_had}
 
 one_less : (keys end : ℕ) → bit_at keys (end - 1) ≡ 0 → ((k : ℕ) → end ≤ k → k < 128 → bit_at keys k ≡ 0) → (k : ℕ) → end - 1 ≤ k → k < 128 → bit_at keys k ≡ 0
 one_less keys end zero none k le lt = go (cases_lt k end)

@@ -1,6 +1,6 @@
 use Rattle.std.proofs.Common.{below_more, arith}
-use Rattle.kern_writer.proofs.RisingKeys.{bit_clear, not_had}
 use Rattle.kern_writer.proofs.key_range.lowest.Goals as goal
+use Rattle.rhythm_base.proofs.KeySets.{bit_clear, not_had}
 
 pub keys-preserved : goal.keys-preserved
 keys-preserved c =

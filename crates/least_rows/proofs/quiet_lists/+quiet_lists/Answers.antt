@@ -12,9 +12,7 @@ use Rattle.least_rows.proofs.PlanSeats.{on_ok, one_at, parts-first}
 use Rattle.least_rows.proofs.QuietLists.{quiet_cut, quiet_leaf, quiet_none, quiet_part, quiet_parts}
 use Rattle.least_rows.proofs.ListCopies.{longer-later}
 use Rattle.least_rows.proofs.quiet_lists.+quiet_lists.Goals as goal
-
-and_then : {A B : Type 0} → A → B → A × B
-and_then a b = (a, b)
+use Rattle.rhythm_base.proofs.Conjunctions.{and_then}
 
 -- where no part is left, no rule is left
 nothing_left : (plan : Plan) (g : Grammar) (quiet : Quiet) (a b from : ℕ) (rs : List (ℕ × ℕ)) (ys list : List ℕ) → b ≤ a → HaveSeats plan (between plan.parts.items a b) rs → IsQuietList g quiet rs from ys → list ≡ list ++ ys

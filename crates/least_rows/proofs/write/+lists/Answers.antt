@@ -23,9 +23,7 @@ use Rattle.grammar_plan.specs.Drafts.{IsLonger}
 use Rattle.row_laws.specs.Ways.{IsWayList}
 use Rattle.least_rows.proofs.ListCopies.{longer-later, longer-same, on_appended, text-list, texts-kept, texts-longer}
 use Rattle.least_rows.proofs.write.+lists.Goals as goal
-
-and_then : {A B : Type 0} → A → B → A × B
-and_then a b = (a, b)
+use Rattle.rhythm_base.proofs.Conjunctions.{and_then}
 
 pub write-returns-in-Some-clause-list : goal.write-returns-in-Some-clause-list
 write-returns-in-Some-clause-list t c =

@@ -1,8 +1,9 @@
 use Rattle.std.proofs.Common.{◌≡◌, ◌+◌, length, sym, ap, ◌∙◌, arith}
 use Rattle.kern_writer.specs.Tokens.{keys_from}
-use Rattle.kern_writer.proofs.RisingKeys.{had, keys_all, keys_count, keys_skip, not_had}
+use Rattle.kern_writer.proofs.RisingKeys.{keys_all, keys_count, keys_skip}
 use Rattle.lily_writer.proofs.chord.key_count.Goals as goal
 use Rattle.lily_writer.proofs.chord.key_count.Goals.{then-has, else-has}
+use Rattle.rhythm_base.proofs.KeySets.{had, not_had}
 
 pub keys-preserved : goal.keys-preserved
 keys-preserved c =

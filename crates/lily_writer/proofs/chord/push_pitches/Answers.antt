@@ -1,10 +1,11 @@
 use Rattle.std.proofs.Common.{◌≡◌, ℕ, ◌+◌, ◌++◌, List, length, map, sym, ap, ◌∙◌, arith}
 use Rattle.std.specs.List.{join_with_byte}
 use Rattle.kern_writer.specs.Tokens.{keys_from}
-use Rattle.kern_writer.proofs.RisingKeys.{chord_step, had, keys_all, keys_count, keys_skip, not_had}
+use Rattle.kern_writer.proofs.RisingKeys.{chord_step, keys_all, keys_count, keys_skip}
 use Rattle.lily_writer.specs.Pitches.{lily_pitch}
 use Rattle.lily_writer.proofs.chord.push_pitches.Goals as goal
 use Rattle.lily_writer.proofs.chord.push_pitches.Goals.{then-has+in_ok-push_between+in_ok-push_pitch, else-has}
+use Rattle.rhythm_base.proofs.KeySets.{had, not_had}
 
 pub keys-preserved : goal.keys-preserved
 keys-preserved c =

@@ -1,4 +1,4 @@
-use Rattle.std.proofs.Common.{◌≡◌, ◌≤◌, not, List, subst, sym, ◌∙◌}
+use Rattle.std.proofs.Common.{◌≡◌, ◌≤◌, not, List, subst, sym}
 use Rattle.std.specs.Cmp.Lexicographic.{slice_cmp}
 use Rattle.std.specs.Ordering.{nat_cmp}
 use Rattle.std.specs.declared.cmp.Ordering.TheVariants.{Less}
@@ -15,7 +15,7 @@ pub moved_to-requires-clause-end : goal.moved_to-requires-clause-end
 moved_to-requires-clause-end c =
     (is_found (is_note c.args.channel c.args.key c.args.onset) (λ n. n.end ≤ LATEST_TICK) c.in-Some.note.now c.args.notes.now c.requires.ends (sym c.in-Some.ensures)).0
 
-pub with_note-requires : goal.with_note-requires
-with_note-requires c =
-    subst (λ (l : List Note). AreInOrder place_of_note l) (sym (c.as_slice.ensures.value ∙ c.in_ok-others.ensures))
+pub put-requires : goal.put-requires
+put-requires c =
+    subst (λ (l : List Note). AreInOrder place_of_note l) (sym c.in_ok-others.ensures)
     (AllPairs-filter (λ x y. slice_cmp nat_cmp (place_of_note x) (place_of_note y) ≡ Less) (λ n. not (is_note c.args.channel c.args.key c.args.onset n)) c.args.notes.now c.requires.order)

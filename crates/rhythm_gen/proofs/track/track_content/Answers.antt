@@ -7,8 +7,9 @@ use Rattle.rhythm_base.specs.declared.note.Note.{Note}
 use Rattle.smf_bytes.specs.Quantity.{quantity_bytes}
 use Rattle.rhythm_gen.specs.Track.{events_of, track_bytes}
 use Rattle.smf_bytes.specs.Track.{bytes_from, end_of_track_bytes}
-use Rattle.rhythm_gen.proofs.Tracks.{bytes_end, bytes_push, last_end, last_end_push, no_bytes}
+use Rattle.rhythm_gen.proofs.Tracks.{bytes_end, bytes_push, last_end, last_end_push}
 use Rattle.rhythm_gen.proofs.track.track_content.Goals as goal
+use Rattle.smf_bytes.proofs.Messages.{no_bytes}
 
 pub loop-note-init : goal.loop-note-init
 loop-note-init c =

@@ -1,5 +1,5 @@
-use Rattle.std.proofs.Common.{List, ◌≡◌, ◌++◌, ◌∷◌, [], Result, Ok, Err, ap, sym, ◌∙◌, subst}
-use Rattle.std.specs.Prelude.{Option, OnOk}
+use Rattle.std.proofs.Common.{List, ◌≡◌, ◌++◌, ◌∷◌, [], ap, sym, ◌∙◌, subst}
+use Rattle.std.specs.Prelude.{Option}
 use Rattle.barline_follow.specs.declared.round.Outcome.{Outcome}
 use Rattle.barline_follow.specs.declared.round.Outcome.TheVariants.{Whole}
 use Rattle.barline_follow.specs.Barring.{Barring, Course, better, course_end, course_value}

@@ -6,7 +6,7 @@ use Rattle.edit_laws.specs.Reached.{AreReached}
 use Rattle.rhythm_base.specs.Voices.{HasStarts}
 use Rattle.edit_session.specs.ChangedVoices.{LeavesOthers, changed_channel}
 use Rattle.edit_session.specs.Session.{Session}
-use Rattle.edit_session.proofs.OtherVoices.{edited_leaves}
+use Rattle.edit_session.proofs.OtherVoices.{edited_leaves, edited_times}
 use Rattle.edit_session.proofs.session.Session.prepare.Goals as goal
 
 pub prepare_next-requires-clause-starts : goal.prepare_next-requires-clause-starts
@@ -32,3 +32,11 @@ prepare_next-requires-clause-others g c κs within =
     let kept = edited_leaves c.self.inside.performance c.in-Ok.next c.args.edit.now c.self.invariant.formed c.in-Ok.ensures.ok in
     subst (λ (changed : Option ℕ). LeavesOthers changed c.args.self.now.performance c.in-Ok.next) (sym c.changed_channel-changed.ensures)
     (subst (λ (s : Session). LeavesOthers (changed_channel c.args.edit.now) s.performance c.in-Ok.next) c.self.view_is kept)
+
+pub prepare_next-requires-clause-tempos : goal.prepare_next-requires-clause-tempos
+prepare_next-requires-clause-tempos g c κs within =
+    subst (λ (s : Session). c.in-Ok.next.tempos ≡ s.performance.tempos) c.self.view_is (edited_times c.self.inside.performance c.in-Ok.next c.args.edit.now c.in-Ok.ensures.ok).0
+
+pub prepare_next-requires-clause-division : goal.prepare_next-requires-clause-division
+prepare_next-requires-clause-division g c κs within =
+    subst (λ (s : Session). c.in-Ok.next.division ≡ s.performance.division) c.self.view_is (edited_times c.self.inside.performance c.in-Ok.next c.args.edit.now c.in-Ok.ensures.ok).1

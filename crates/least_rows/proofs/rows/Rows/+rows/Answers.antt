@@ -24,9 +24,7 @@ use Rattle.least_rows.proofs.Steps.{below-all, below-more, below-none, below-ski
 use Rattle.least_rows.proofs.ToppedWays.{nearer-topped}
 use Rattle.least_rows.proofs.Tops.{cut-most, few-parts, part-less, part-of, part-place, to-first, to-last, to-low, to-next, to-nowhere, to-short, to-whole}
 use Rattle.least_rows.proofs.rows.Rows.+rows.Goals as goal
-
-and_then : {A B : Type 0} → A → B → A × B
-and_then a b = (a, b)
+use Rattle.rhythm_base.proofs.Conjunctions.{and_then}
 
 nones : (b : ℕ) → b < 5 → way_in (None ∷ None ∷ None ∷ None ∷ None ∷ []) b ≡ None
 nones zero h = refl

@@ -1,0 +1,17 @@
+pub mod Decisions
+pub mod FiniteSets
+pub mod LeastMembers
+pub mod SortedMembers
+pub mod AllTrees
+pub mod FittingDerivations
+pub mod Alternatives
+pub mod Reached
+pub mod Scores
+pub mod Openings
+pub mod Outcomes
+pub mod Shapes
+pub mod Commands
+pub mod Lines
+pub mod Studios
+pub mod Desks
+pub mod Outputs

@@ -1,0 +1,2 @@
+pub mod Editable
+pub mod Laws
