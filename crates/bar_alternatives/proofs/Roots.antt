@@ -70,7 +70,7 @@ module _ (g : Grammar) (k : BarInput) (ready : IsReady g k) (free : k.pin ≡ No
         (h.from, h.to, omega (arith, from), omega (arith, to), (h.first, h.last, (cell_cost g k a.1, preorder_of a.1), h.there_before, h.there_after, cell_key a.1 h.from h.to h.fits, (λ i. (sum i, preorder_of a.1))))
 
     pub total_looked : (key : Key) → IsTotal g k before after key → (t : Tree) × IsTold g k.symbol key.1 t × IsLookedAt g k before after (key.0, t)
-    total_looked key (a, b, la, lb, (first, last, own, there, behind, tree, is)) =
+    total_looked key (a, b, la, lb, (first, last, own, there, further, tree, is)) =
         let found = key_cell own a b tree in
         let t : Tree = found.0 in
         let list : preorder_of t ≡ key.1 = sym (ap (λ (x : Key). x.1) found.2) ∙ sym (ap (λ (x : Key). x.1) is) in
@@ -79,7 +79,7 @@ module _ (g : Grammar) (k : BarInput) (ready : IsReady g k) (free : k.pin ≡ No
         let trees : are_trees g.rules ((k.resolution, k.symbol) ∷ []) (more t.rule t.kids none) ≡ true = (both (are_trees g.rules ((k.resolution, k.symbol) ∷ []) (more t.rule t.kids none)) _ found.1.tree).0 in (
           t,
           (subst (λ r. are_trees g.rules ((r, k.symbol) ∷ []) (more t.rule t.kids none) ≡ true) (sym ready.units) trees, list),
-          record { from = a; to = b; fits = found.1; first = first; last = last; there_before = there; there_after = behind; total = omega (arith, own_cost, sum) },
+          record { from = a; to = b; fits = found.1; first = first; last = last; there_before = there; there_after = further; total = omega (arith, own_cost, sum) },
         )
 
     pub looked_told : (a : ℕ × Tree) → IsLookedAt g k before after a → IsTold g k.symbol (preorder_of a.1) a.1

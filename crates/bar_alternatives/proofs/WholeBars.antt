@@ -65,9 +65,9 @@ module _ (g : Grammar) (k : BarInput) (before after : List (Option ℕ)) (count 
       (first-topped (IsOneBelow At i) (Own i) count (f + l, []) (get_or grid i []) xs (own_best i low) h)
     where
       back : (key : Key) → At i key → (y : Key) × Own i y × (key ≡ plus (f + l, []) y)
-      back key (first, last, own, there, behind, tree, is) =
+      back key (first, last, own, there, further, tree, is) =
           let left : Some first ≡ Some f = sym there ∙ one in
-          let right : Some last ≡ Some l = sym behind ∙ two in
+          let right : Some last ≡ Some l = sym further ∙ two in
           let same : first ≡ f = cc in
           let same' : last ≡ l = cc in
           (own, tree, is ∙ (λ j. plus (same j + same' j, []) own))

@@ -4,8 +4,10 @@
 mod draws;
 mod laws;
 mod limits;
+mod order;
 mod places;
 mod pool;
+mod rooms;
 mod workers;
 
 pub use draws::{
@@ -13,4 +15,6 @@ pub use draws::{
 };
 pub use laws::draws_keep_their_law;
 pub use limits::MOST_WORKERS;
+pub use order::Order;
 pub use pool::build_cells;
+pub use rooms::Rooms;

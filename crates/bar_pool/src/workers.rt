@@ -9,24 +9,15 @@ ghost use Rattle.std.specs.Prelude.{◌≡◌, ◌+◌, ◌-◌, ◌<◌, ◌≤
 ghost use Rattle.std.specs.Thread.{IsSync};
 
 use crate::draws::{Draw, DrawCounts, DrawSeat, DrawTable, HalfShare, SharedDraws, Takeover};
+use crate::order::Order;
 use crate::places::in_places;
-use grammar_plan::Plan;
 use least_cost::{BarTable, Steps, build_planned};
 use least_rows::Room;
-use rhythm_base::{BarInput, Grammar, Tag};
+use rhythm_base::Tag;
 use rhythm_ports::Gate;
 use std::alloc::{AllocError, Global};
+use std::mem;
 use std::thread::{Threads, join};
-
-/// The cells that are to be built, and the gate before each.
-#[derive(Clone, Copy)]
-pub struct Order<'a, G> {
-    pub grammar: &'a Grammar,
-    /// The plan of the grammar.
-    pub plan: &'a Plan,
-    pub inputs: &'a [BarInput],
-    pub gate: &'a G,
-}
 
 /// Draws the next number.
 fn draw(shared: &SharedDraws, seat: &mut DrawSeat) -> u64
@@ -47,6 +38,7 @@ fn build_drawn<G: Gate, B: Tag>(
     order: &Order<'_, G>,
     shared: &SharedDraws,
     seat: &mut DrawSeat,
+    room: &mut Room,
     builds: &mut Steps<B>,
 ) -> Result<Vec<(usize, BarTable)>, AllocError>
     requires readable { IsReadable order.now.grammar.now }
@@ -61,7 +53,6 @@ fn build_drawn<G: Gate, B: Tag>(
     ensures builds { builds.new ≡ risen builds.old (length seat.new.me.0.drawn) }
 {
     let inputs = order.inputs;
-    let mut room = Room::new(alloc);
     let mut tables = Vec::new(alloc);
     'draws: loop {
         let number = draw(shared, seat);
@@ -71,7 +62,7 @@ fn build_drawn<G: Gate, B: Tag>(
         order.gate.pass(number);
         let number = number as usize;
         let input = &inputs[number];
-        let table = build_planned(alloc, order.grammar, order.plan, &mut room, input, builds)?;
+        let table = build_planned(alloc, order.grammar, order.plan, room, input, builds)?;
         tables.push((number, table))?;
     }
 }
@@ -145,8 +136,40 @@ fn side_by_side<R: Threads, F: FnOnce() -> Built<B> + Send, G: FnOnce() -> Built
     join(rt, left, right)
 }
 
-/// Builds the cells whose numbers the workers of the seat draw. They are as many as its share. The seat gives half of it to
-/// another, the workers of both draw side by side, and then the seat takes over what the other's have built.
+/// Builds the cells whose numbers the one worker of the seat draws. Its room is taken out of its place while it works: no two
+/// workers then write to neighbouring memory.
+fn build_alone<G: Gate, B: Tag>(
+    alloc: Global,
+    order: &Order<'_, G>,
+    shared: &SharedDraws,
+    seat: DrawSeat,
+    place: &mut Room,
+) -> Built<B>
+    requires readable { IsReadable order.now.grammar.now }
+    requires plan { IsPlan order.now.grammar.now order.now.plan.now }
+    requires units { All (λ k. k.resolution ≡ order.now.grammar.now.resolution) order.now.inputs.now }
+    requires table { seat.table_id ≡ shared.now.table_id }
+    requires words { shared.now.table_id.words ≡ 1 }
+    requires fresh { IsFresh seat.me (length order.now.inputs.now) 1 }
+    ensures table { result.seat.table_id ≡ shared.now.table_id }
+    ensures share { HasShare result.seat.me (length order.now.inputs.now) 1 }
+    ensures tables { IfOk result.tables (λ v. AreBuilt order.now.grammar.now order.now.inputs.now result.seat.me v.items) }
+    ensures builds { result.builds ≡ risen 0 (length result.seat.me.0.drawn) }
+{
+    let mut seat = seat;
+    let mut builds = Steps::zero();
+    let mut room = mem::replace(place, Room::new(alloc));
+    let tables = build_drawn(alloc, order, shared, &mut seat, &mut room, &mut builds);
+    *place = room;
+    Built {
+        seat,
+        builds,
+        tables,
+    }
+}
+
+/// Builds the cells whose numbers the workers of the seat draw. They are as many as its share, and each has a room of its own. The
+/// seat gives half of its share to another, the workers of both draw side by side, and then it takes over what the other's have built.
 #[cycle(build_in_halves)]
 pub fn build_in_halves<R: Threads + Sync, G: Gate + Sync, B: Tag>(
     rt: &R,
@@ -155,6 +178,7 @@ pub fn build_in_halves<R: Threads + Sync, G: Gate + Sync, B: Tag>(
     shared: &SharedDraws,
     seat: DrawSeat,
     workers: u64,
+    rooms: &mut [Room],
 ) -> Built<B>
     requires readable { IsReadable order.now.grammar.now }
     requires plan { IsPlan order.now.grammar.now order.now.plan.now }
@@ -162,31 +186,28 @@ pub fn build_in_halves<R: Threads + Sync, G: Gate + Sync, B: Tag>(
     requires table { seat.table_id ≡ shared.now.table_id }
     requires words { shared.now.table_id.words ≡ 1 }
     requires some { 0 < workers }
+    requires rooms { workers ≤ length rooms.old }
     requires fresh { IsFresh seat.me (length order.now.inputs.now) workers }
     ensures table { result.seat.table_id ≡ shared.now.table_id }
     ensures share { HasShare result.seat.me (length order.now.inputs.now) workers }
     ensures tables { IfOk result.tables (λ v. AreBuilt order.now.grammar.now order.now.inputs.now result.seat.me v.items) }
     ensures builds { result.builds ≡ risen 0 (length result.seat.me.0.drawn) }
 {
-    let mut seat = seat;
     if workers == 1 {
-        let mut builds = Steps::zero();
-        let tables = build_drawn(alloc, order, shared, &mut seat, &mut builds);
-        return Built {
-            seat,
-            builds,
-            tables,
-        };
+        return build_alone(alloc, order, shared, seat, &mut rooms[0]);
     }
     let half = workers / 2;
     let rest = workers - half;
+    let mut seat = seat;
     let other = shared.split_seat::<HalfShare>(&mut seat);
+    let (left_rooms, right_rooms) = rooms.split_at_mut(rest as usize);
     let left = move || -> Built<B>
         requires sync { IsSync R.row × IsSync G.row }
         requires readable { IsReadable order.now.grammar.now }
         requires plan { IsPlan order.now.grammar.now order.now.plan.now }
         requires units { All (λ k. k.resolution ≡ order.now.grammar.now.resolution) order.now.inputs.now }
         requires rest { 0 < rest }
+        requires rooms { rest ≤ length left_rooms.now }
         requires table { seat.table_id ≡ shared.now.table_id }
         requires words { shared.now.table_id.words ≡ 1 }
         requires fresh { IsFresh seat.me (length order.now.inputs.now) rest }
@@ -194,13 +215,14 @@ pub fn build_in_halves<R: Threads + Sync, G: Gate + Sync, B: Tag>(
         ensures share { HasShare result.seat.me (length order.entry.now.inputs.now) rest }
         ensures tables { IfOk result.tables (λ v. AreBuilt order.entry.now.grammar.now order.entry.now.inputs.now result.seat.me v.items) }
         ensures builds { result.builds ≡ risen 0 (length result.seat.me.0.drawn) }
-    { build_in_halves(rt, alloc, order, shared, seat, rest) };
+    { build_in_halves(rt, alloc, order, shared, seat, rest, left_rooms) };
     let right = move || -> Built<B>
         requires sync { IsSync R.row × IsSync G.row }
         requires readable { IsReadable order.now.grammar.now }
         requires plan { IsPlan order.now.grammar.now order.now.plan.now }
         requires units { All (λ k. k.resolution ≡ order.now.grammar.now.resolution) order.now.inputs.now }
         requires half { 0 < half }
+        requires rooms { half ≤ length right_rooms.now }
         requires table { other.table_id ≡ shared.now.table_id }
         requires words { shared.now.table_id.words ≡ 1 }
         requires fresh { IsFresh other.me (length order.now.inputs.now) half }
@@ -208,7 +230,7 @@ pub fn build_in_halves<R: Threads + Sync, G: Gate + Sync, B: Tag>(
         ensures share { HasShare result.seat.me (length order.entry.now.inputs.now) half }
         ensures tables { IfOk result.tables (λ v. AreBuilt order.entry.now.grammar.now order.entry.now.inputs.now result.seat.me v.items) }
         ensures builds { result.builds ≡ risen 0 (length result.seat.me.0.drawn) }
-    { build_in_halves(rt, alloc, order, shared, other, half) };
+    { build_in_halves(rt, alloc, order, shared, other, half, right_rooms) };
     let (first, second) = side_by_side(rt, left, right);
     take_over(shared, first, second)
 }
@@ -220,10 +242,12 @@ pub fn build_by_workers<R: Threads + Sync, G: Gate + Sync, B: Tag>(
     alloc: Global,
     order: &Order<'_, G>,
     workers: u64,
+    rooms: &mut [Room],
     builds: &mut Steps<B>,
 ) -> Result<Vec<BarTable>, AllocError>
     requires some_worker { 1 ≤ workers }
     requires few_workers { workers ≤ length order.now.inputs.now }
+    requires rooms { workers ≤ length rooms.old }
     requires readable { IsReadable order.now.grammar.now }
     requires plan { IsPlan order.now.grammar.now order.now.plan.now }
     requires units { All (λ k. k.resolution ≡ order.now.grammar.now.resolution) order.now.inputs.now }
@@ -242,7 +266,7 @@ pub fn build_by_workers<R: Threads + Sync, G: Gate + Sync, B: Tag>(
         seat,
         builds: own,
         tables,
-    } = build_in_halves(rt, alloc, order, &table.shared, seat, workers);
+    } = build_in_halves(rt, alloc, order, &table.shared, seat, workers, rooms);
     builds.absorb(own);
     table.close_with(seat).free();
     in_places(alloc, tables?, count)

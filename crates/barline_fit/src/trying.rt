@@ -30,6 +30,7 @@ pub fn set_barline<R: Threads + Sync, G: Gate + Sync, B: Tag, P: Tag>(
     requires range { IsEditInRange (Barline candidate.bar candidate.tick) }
     requires room { length session.old.performance.bars ≤ session.old.room }
     ensures grammar { session.new.grammar ≡ session.old.grammar }
+    ensures workers { session.new.workers ≡ session.old.workers }
     ensures room { session.new.room ≡ session.old.room }
     ensures accepted { IfOk result (λ set.
         IfSome set (λ c. IsAcceptedAt session.old.grammar session.old.performance candidate.bar candidate.tick c.applied.cost)) }

@@ -19,7 +19,7 @@ use Rattle.barline_follow.proofs.Searching.{in_parts}
 elsewhere_in : {Y : Type 0} (front back : List Y) (a b : Y) → Contains (front ++ (a ∷ back)) b → (a ≡ b → ⊥) → Contains (front ++ back) b
 elsewhere_in front back a b c differ = elim (Contains-append_cases front (a ∷ back) b c) [
   | inl before ↦ Contains-append_left front back b before
-  | inr rest ↦ elim (contains_split b a back rest) [ inl same ↦ absurd (differ same) | inr behind ↦ Contains-append_right front back b behind ]
+  | inr rest ↦ elim (contains_split b a back rest) [ inl same ↦ absurd (differ same) | inr further ↦ Contains-append_right front back b further ]
 ]
 
 module _ {X Y : Type 0} (tick : X → Y) where

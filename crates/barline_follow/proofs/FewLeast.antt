@@ -116,8 +116,8 @@ module _ {X : Type 0} (value tick : X → ℕ) (x : X) where
   comes [] up = inr ((λ k c same low. none_contained k c), refl)
   comes (k ∷ ks) up = by (earlier (place x) (place k)) refl (nat_eq (tick k) (tick x)) refl (comes ks (pairs_tail (Before value tick) k ks up))
     where
-      behind : earlier (place x) (place k) ≡ true → (y : X) → Contains (k ∷ ks) y → earlier (place x) (place y) ≡ true
-      behind is y c = elim (contains_split y k ks c) [
+      further : earlier (place x) (place k) ≡ true → (y : X) → Contains (k ∷ ks) y → earlier (place x) (place y) ≡ true
+      further is y c = elim (contains_split y k ks c) [
         | inl same ↦ subst (λ z. earlier (place x) (place z) ≡ true) same is
         | inr rest ↦
             let next : earlier (place k) (place y) ≡ true = ap is_lt (subst (Before value tick k) rest.2 (pairs_head (Before value tick) k ks up rest.0 y rest.1)) in
@@ -134,9 +134,9 @@ module _ {X : Type 0} (value tick : X → ℕ) (x : X) where
       by : (b : Bool) → earlier (place x) (place k) ≡ b → (c : Bool) → nat_eq (tick k) (tick x) ≡ c → Comes ks (with_one ks)
           → Comes (k ∷ ks) (if b then x ∷ filter is_elsewhere (k ∷ ks) else (if c then k ∷ ks else k ∷ with_one ks))
       by true is c same rest = inr (
-        (λ y c at low. dearer y (behind is y c) at low),
+        (λ y c at low. dearer y (further is y c) at low),
         sym (goes_first (filter is_elsewhere (k ∷ ks))
-            (λ y c. before_above nat_list_cmp_total (place x) (place y) (behind is y (from_filtered is_elsewhere (k ∷ ks) y c)))),
+            (λ y c. before_above nat_list_cmp_total (place x) (place y) (further is y (from_filtered is_elsewhere (k ∷ ks) y c)))),
       )
       by false is true same rest = inl ((k, here k ks, eqb-true (tick k) (tick x) same, not_less_cost (value x) (value k) _ is), refl)
       by false is false same rest =

@@ -30,6 +30,7 @@ use Rattle.edit_laws.specs.Edits.{edit_tests, edited, first_refusal, next_bar, p
 use Rattle.edit_laws.specs.Reached.{AreReached, IsInputOf, IsReached}
 use Rattle.edit_laws.proofs.BarEdits.{length-with_barline}
 use Rattle.edit_laws.proofs.Edited.{made}
+use Rattle.edit_laws.proofs.EditedCounts.{one_bar}
 use Rattle.performance_laws.proofs.OneChords.{one_chords}
 use Rattle.barline_follow.specs.Answer.{AreChosen}
 use Rattle.barline_follow.specs.Builds.{AreMostBuilt, AreReachedBy, AreReachedInTurn, most_tables}
@@ -114,7 +115,7 @@ module _ (g : Grammar) (pins : List pin.Pin) (channel : ℕ) where
   set_stays last other i (suc k) tick (b ∷ bars) (suc j) stays apart after =
       set_stays last other (suc i) k tick bars j (λ differ. stays (λ e. differ (omega (arith, e)))) (λ e. apart (ap suc e)) (λ e. after (ap suc e))
 
-  -- others are behind them
+  -- others are after them
   first_stays : (last other i : ℕ) (bars more : List Bar) (j : ℕ) → barline more other 0 ≡ last → j < length bars
       → bar_at other i (bars ++ more) j ≡ bar_at last i bars j
   first_stays last other i [] more j is lt = absurd (omega (arith, lt))
@@ -183,10 +184,6 @@ last_added : (last division : ℕ) (o : Option Bar) → barline (next_bar last o
 last_added last division None = omega arith
 last_added last division (Some b) = refl
 
-one_added : (last : ℕ) (o : Option Bar) → length (next_bar last o) ≤ 1
-one_added last None = omega arith
-one_added last (Some b) = omega arith
-
 last_dropped : (m last : ℕ) (bars : List Bar) → barline (drop m bars) last 0 ≡ barline bars last m
 last_dropped zero last bars = refl
 last_dropped (suc m) last [] = refl
@@ -215,11 +212,11 @@ module _ (g : Grammar) (p : Performance) where
   added_last channel bar (voice, lt, new) =
       let q : Performance = performance_after p AddBar in
       let long = length-append p.bars (next_bar p.last (last_of p.bars)) in
-      let one = one_added p.last (last_of p.bars) in
+      let one = one_bar p.last (last_of p.bars) in
       elim (cases_lt bar (length p.bars)) [
         | inr past ↦ omega (arith, past, lt, long, one)
         | inl within ↦ elim new [
-          | inl behind ↦ absurd (omega (arith, behind, within))
+          | inl further ↦ absurd (omega (arith, further, within))
           | inr (x, y, before, after, differ) ↦ absurd (differ (same_input g p q channel bar x y (λ cs h. h)
               (first_stays g p.pins channel p.last (next_barline p) 0 p.bars (next_bar p.last (last_of p.bars)) bar (last_added p.last p.division (last_of p.bars)) within) before after))
         ]
@@ -238,7 +235,7 @@ module _ (g : Grammar) (p : Performance) where
       let bars = first_stays g p.pins channel (last_start p) p.last 0 left (drop most p.bars) bar (last_dropped most p.last p.bars) lt in
       let whole = ap (λ l. slice_get (voice_bars_from g p.pins channel p.last 0 l) bar) (take-append-drop most p.bars) in
       elim new [
-        | inl behind ↦ omega (arith, behind, within)
+        | inl further ↦ omega (arith, further, within)
         | inr (x, y, before, after, differ) ↦ differ (same_input g p q channel bar x y (λ cs h. h) (pins ∙ sym bars ∙ whole) before after)
       ]
 

@@ -1,4 +1,4 @@
--- The first of least value at each tick, with one more behind.
+-- The first of least value at each tick, with one more at the end.
 use Rattle.std.proofs.Common.{◌≡◌, ℕ, zero, suc, ◌+◌, ◌<◌, ◌≤◌, ◌⊎◌, inl, inr, Bool, true, false, not, nat_eq, List, [], ◌∷◌, ◌++◌, length, get_or, refl, ap, sym, ◌∙◌, subst, arith}
 use Rattle.std.specs.Prelude.{Contains, Some, filter, slice_get}
 use Rattle.std.specs.Cmp.Lexicographic.{slice_cmp}
@@ -174,7 +174,7 @@ module _ {X : Type 0} (value tick : X → ℕ) where
         )
       ]
 
-  -- ---- one more behind
+  -- ---- one more at the end
 
   module _ (xs : List X) (x : X) where
     abbrev longer : List X

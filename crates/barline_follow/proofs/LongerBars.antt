@@ -1,4 +1,4 @@
--- A bar more behind others: of a list of barlines, of a voice, and in its tables and heads.
+-- A bar more after others: of a list of barlines, of a voice, and in its tables and heads.
 use Rattle.std.proofs.Common.{◌≡◌, ℕ, suc, ◌+◌, ◌-◌, ◌<◌, ◌≤◌, List, [], ◌∷◌, ◌++◌, length, refl, ap, ap₂, sym, ◌∙◌, subst, arith}
 use Rattle.std.specs.Prelude.{Option, Some, None}
 use Rattle.std.proofs.lemmas.List.{append_assoc, map-append}

@@ -89,7 +89,7 @@ in_parts (x ∷ xs) (suc i) d lt =
     let after : suc i + 1 ≡ suc (i + 1) = omega arith in
     ap (λ l. x ∷ l) (in_parts xs i d (omega (arith, lt))) ∙ ap (λ n. x ∷ (take i xs ++ (get_or xs i d ∷ drop n (x ∷ xs)))) (sym after)
 
--- one more of a list that is gone through, behind what was there
+-- one more of a list that is gone through, after what was there
 pub grown_one : {X Y : Type 0} (f : X → Y) (first all : List Y) (xs : List X) (i : ℕ) (d : X) (y : Y) → i < length xs → all ≡ first ++ map f (take i xs)
     → y ≡ f (get_or xs i d) → all ++ (y ∷ []) ≡ first ++ map f (take (i + 1) xs)
 grown_one f first all xs i d y lt is same =

@@ -31,7 +31,7 @@ pub record IsNextBar (next : NextBar) : Type 0 where
 abbrev pub IsCourseOf : NextBar → ℕ → Course → Type 0
 IsCourseOf next bars t = IsCourse next.grammar.now next.performance.now next.voices.now bars t
 
--- a bar of this length behind a barline can be: it has a root symbol, and ends by the latest tick
+-- a bar of this length after a barline can be: it has a root symbol, and ends by the latest tick
 abbrev pub can_be : NextBar → ℕ → Offer → Bool
 can_be next start o = next.is_rooted && nat_le (start + o.ticks) LATEST_TICK
 

@@ -20,7 +20,7 @@ pub record Draft : Type 0 where
 
 -- ---- longer lists
 
--- a bar of the offer's length behind the others
+-- a bar of the offer's length after the others
 abbrev pub with_bar : Barring → Offer → Draft
 with_bar b o = record { ticks = b.ticks ++ ((barring_end b + o.ticks) ∷ []); prices = b.prices + o.price }
 

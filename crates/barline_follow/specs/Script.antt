@@ -12,12 +12,12 @@ use Rattle.rhythm_base.specs.Voices.{HasDerivation}
 use Rattle.barline_follow.specs.Bars.{barlines_of, whole_bar}
 use Rattle.barline_follow.specs.Stages.{all_stages, stage_count}
 
--- so many barlines behind a tick, each a bar of this length after the one before
+-- so many barlines after a tick, each a bar of this length after the one before
 abbrev pub further : ℕ → ℕ → ℕ → List ℕ
 further bar tick zero = []
 further bar tick (suc n) = (tick + bar) ∷ further bar (tick + bar) n
 
--- the barlines with more of them behind, up to this number of barlines
+-- the barlines with more of them at the end, up to this number of barlines
 abbrev pub lengthened : ℕ → ℕ → List ℕ → List ℕ
 lengthened bar count ticks = ticks ++ further bar (last_end 0 ticks) (count - length ticks)
 

@@ -67,7 +67,7 @@ pub fn last_barline(ticks: &[u64]) -> u64
     }
 }
 
-/// The barlines with more of them behind, each so many ticks after the one before, up to this number of barlines.
+/// The barlines with more of them at the end, each so many ticks after the one before, up to this number of barlines.
 pub fn lengthened(
     alloc: Global,
     bar: u64,

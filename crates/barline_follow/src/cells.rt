@@ -79,7 +79,7 @@ fn cell_input(
     }
 }
 
-/// Appends the input of a bar of each voice, behind a barline.
+/// Appends the input of a bar of each voice, after a barline.
 fn push_cells(
     alloc: Global,
     next: &NextBar,
@@ -99,7 +99,7 @@ fn push_cells(
     Ok(())
 }
 
-/// Appends the inputs of the bars that are tried behind a barline.
+/// Appends the inputs of the bars that are tried after a barline.
 fn push_tried(
     alloc: Global,
     next: &NextBar,

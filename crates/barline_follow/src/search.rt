@@ -17,7 +17,7 @@ use crate::next_bar::{NextBar, bar_like, closing_tick};
 use crate::tried::front_tried;
 use crate::voice::voices_of;
 use bar_cut::check_starts;
-use bar_pool::build_cells;
+use bar_pool::{Order, Rooms, build_cells};
 use grammar_plan::Plan;
 use least_cost::Steps as Builds;
 use rhythm_base::{Grammar, Performance, Tag};
@@ -25,9 +25,10 @@ use rhythm_ports::Gate;
 use std::alloc::{AllocError, Global};
 use std::thread::Threads;
 
-/// By which plan and by up to how many workers tables are built, and the gate before each.
+/// By which plan and by up to how many workers tables are built, what starts them, and the gate before each.
 #[derive(Drop)]
-struct Crew<'a, G> {
+struct Crew<'a, R, G> {
+    rt: &'a R,
     plan: &'a Plan,
     workers: u32,
     gate: &'a G,
@@ -53,12 +54,12 @@ fn first_front(alloc: Global, voices: usize) -> Result<Vec<Course>, AllocError>
 
 /// The next front and the best.
 fn next_round<R: Threads + Sync, G: Gate + Sync, B: Tag>(
-    rt: &R,
     alloc: Global,
     next: &NextBar,
     front: &[Course],
     best: Option<Barring>,
-    crew: &Crew<'_, G>,
+    crew: &Crew<'_, R, G>,
+    rooms: &mut Rooms,
     builds: &mut Builds<B>,
 ) -> Result<(Vec<Course>, Option<Barring>), AllocError>
     requires next { IsNextBar next.now }
@@ -78,8 +79,13 @@ fn next_round<R: Threads + Sync, G: Gate + Sync, B: Tag>(
     let tried = all.as_slice();
     let cells = round_inputs(alloc, next, front, tried)?;
     let inputs = cells.as_slice();
-    let (grammar, plan, workers) = (next.grammar, crew.plan, crew.workers);
-    let tables = build_cells(rt, alloc, grammar, plan, inputs, workers, crew.gate, builds)?;
+    let order = Order {
+        grammar: next.grammar,
+        plan: crew.plan,
+        inputs,
+        gate: crew.gate,
+    };
+    let tables = build_cells(crew.rt, alloc, &order, crew.workers, rooms, builds)?;
     let round = gather(alloc, next, front, tried, tables.as_slice(), best)?;
     Ok(round.close())
 }
@@ -104,6 +110,7 @@ pub fn best_barlines<R: Threads + Sync, G: Gate + Sync, B: Tag>(
 {
     let plan = Plan::of(alloc, grammar)?;
     let crew = Crew {
+        rt,
         plan: &plan,
         workers,
         gate,
@@ -112,6 +119,7 @@ pub fn best_barlines<R: Threads + Sync, G: Gate + Sync, B: Tag>(
     let voices = voices_of(alloc, grammar, performance)?;
     let mut front = first_front(alloc, voices.len())?;
     let mut best = None;
+    let mut rooms = Rooms::new(alloc);
     'rounds: for number in 0..2 * performance.bars().len() {
         if front.is_empty() {
             return Ok(best);
@@ -127,7 +135,9 @@ pub fn best_barlines<R: Threads + Sync, G: Gate + Sync, B: Tag>(
             closing,
         };
         let lists = front.as_slice();
-        let (longer, longer_best) = next_round(rt, alloc, &next, lists, best, &crew, builds)?;
+        let (longer, longer_best) = next_round(
+            alloc, &next, lists, best, &crew, &mut rooms, builds,
+        )?;
         front = longer;
         best = longer_best;
     }

@@ -120,7 +120,7 @@ with-long k (x ∷ xs) = go (is_before k x) (is_before x k) (with-long k xs)
     go false true ih = omega (arith, ih)
     go false false ih = omega arith
 
--- a key behind all is the last
+-- a key after all is the last
 pub with-last : (k : Key) (xs : List Key) → All (λ x. IsBefore x k) xs → with_key k xs ≡ xs ++ k ∷ []
 with-last k [] h = refl
 with-last k (x ∷ xs) h = go (is_before k x) (is_before x k) refl refl (with-last k xs (all_tail (λ x. IsBefore x k) x xs h))
@@ -210,7 +210,7 @@ first-all f (y ∷ ys) U n xs h =
 
 -- ---- enough that are earlier
 
--- those behind the head are among the others
+-- those after the head are among the others
 others : (zs : List Key) (a : Key) (acc : List Key) → All (IsBefore a) zs → All (Contains (a ∷ acc)) zs → All (Contains acc) zs
 others zs a acc after c = λ i d lt. elim (contains_split (get_or zs i d) a acc (c i d lt)) [
   | inl same ↦ absurd (never_itself a (subst (IsBefore a) (sym same) (after i d lt)))

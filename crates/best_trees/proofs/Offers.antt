@@ -103,7 +103,7 @@ module _ (count : ℕ) (k : Key) (xs : List Key) (kept : AreKeptKeys count xs) w
       let whole : suc (count - 1) ≡ count = omega (arith, low) in
       insert_short (count - 1) n xs k (omega (arith, low)) ∙ ap (λ m. take m (insert xs n k)) whole ∙ offered-placed n h
 
-  -- one behind so many changes nothing
+  -- one after so many changes nothing
   pub offered-far : (n : ℕ) → IsPlace xs k n → count ≤ n → xs ≡ offered count k xs
   offered-far n h far =
       let few = kept.few in
@@ -118,7 +118,7 @@ module _ (count : ℕ) (k : Key) (xs : List Key) (kept : AreKeptKeys count xs) w
       let within = h.within in
       record { full = omega (arith, far, few, within); before = subst (All (λ x. IsBefore x k)) (take_all n xs (omega (arith, far, few))) h.low }
 
-  -- one behind all, where there are as many as may be, changes nothing
+  -- one after all, where there are as many as may be, changes nothing
   pub offered-past : IsPast count k xs → offered count k xs ≡ xs
   offered-past h = ap (take count) (with-last k xs h.before) ∙ take_left count xs (k ∷ []) h.full
 
@@ -127,7 +127,7 @@ module _ (count : ℕ) (k : Key) (xs : List Key) (kept : AreKeptKeys count xs) w
 
 -- ---- offers one after the other
 
--- nor do those behind it
+-- nor do those after it
 past-all : (count : ℕ) (k : Key) (ks xs : List Key) → AreKeptKeys count xs → IsPast count k xs → All (IsBefore k) ks → all_offered count ks xs ≡ xs
 past-all count k [] xs kept h after = refl
 past-all count k (y ∷ ks) xs kept h after =

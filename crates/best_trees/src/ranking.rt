@@ -187,7 +187,7 @@ impl Ranking {
     }
 
     /// Offers trees of this cost, whose rules are those of the three lists. They are taken in where they are among the first
-    /// `count`, and not there yet. Answers whether others behind them may be among these too.
+    /// `count`, and not there yet. Answers whether others after them may be among these too.
     pub fn offer(
         &mut self,
         alloc: Global,

@@ -25,7 +25,7 @@ mod in_turn;
 mod pins;
 
 use bar_alternatives::Alternative;
-use bar_pool::{MOST_WORKERS, build_cells};
+use bar_pool::{MOST_WORKERS, Order, Rooms, build_cells};
 use bars::{bar_of, bars_of};
 use best_lists::{Around, best_trees, print_trees};
 use chains::{ChainWork, chained, matrices_of};
@@ -223,17 +223,15 @@ fn build_by<R: Threads + Sync>(
         return Err(io::Error::from(ErrorKind::InvalidInput));
     };
     let plan = Plan::of(alloc, &grammar)?;
+    let order = Order {
+        grammar: &grammar,
+        plan: &plan,
+        inputs: bars.as_slice(),
+        gate: &OpenGate,
+    };
+    let mut rooms = Rooms::new(alloc);
     let mut builds = Steps::<Benchmark>::zero();
-    let mut tables = build_cells(
-        rt,
-        alloc,
-        &grammar,
-        &plan,
-        bars.as_slice(),
-        workers,
-        &OpenGate,
-        &mut builds,
-    )?;
+    let mut tables = build_cells(rt, alloc, &order, workers, &mut rooms, &mut builds)?;
     Ok(tables.pop())
 }
 
@@ -255,17 +253,15 @@ fn build_drawn<R: Threads + Sync>(
         return Err(io::Error::from(ErrorKind::InvalidInput));
     };
     let plan = Plan::of(alloc, grammar)?;
-    let mut builds = Steps::<Benchmark>::zero();
-    let tables = build_cells(
-        rt,
-        alloc,
+    let order = Order {
         grammar,
-        &plan,
-        bars.as_slice(),
-        workers,
-        &OpenGate,
-        &mut builds,
-    )?;
+        plan: &plan,
+        inputs: bars.as_slice(),
+        gate: &OpenGate,
+    };
+    let mut rooms = Rooms::new(alloc);
+    let mut builds = Steps::<Benchmark>::zero();
+    let tables = build_cells(rt, alloc, &order, workers, &mut rooms, &mut builds)?;
     Ok(tables)
 }
 

@@ -84,7 +84,7 @@ FewCells p = length p.channels * length p.bars ≤ 16384
 fewer : (channels bars more : ℕ) → bars ≤ more → channels * more ≤ 16384 → channels * bars ≤ 16384
 fewer channels bars more le few = omega (arith, few, mul-le-mul_left channels le)
 
-one_bar : (last : ℕ) (o : Option Bar) → length (next_bar last o) ≤ 1
+pub one_bar : (last : ℕ) (o : Option Bar) → length (next_bar last o) ≤ 1
 one_bar last None = omega arith
 one_bar last (Some b) = omega arith
 

@@ -123,10 +123,10 @@ suits_back g p q voices gone place is h starts few_cells few_notes = record {
 -- ---- before the exchange
 
 -- it suits what the session keeps
-pub suits_kept : (g : Grammar) (p : Performance) (room : ℕ) (s : Session) (x : Prepared) (next : Performance) (tables : List CellTable) (place : ℕ)
-    → record { grammar = g; performance = p; room = room } ≡ s → next ≡ x.next → tables ≡ x.tables → place ≡ x.place → Suits s.grammar s.performance x
+pub suits_kept : (g : Grammar) (p : Performance) (workers room : ℕ) (s : Session) (x : Prepared) (next : Performance) (tables : List CellTable) (place : ℕ)
+    → record { grammar = g; performance = p; workers = workers; room = room } ≡ s → next ≡ x.next → tables ≡ x.tables → place ≡ x.place → Suits s.grammar s.performance x
     → Suits g p (record { next = next; tables = tables; place = place })
-suits_kept g p room s x next tables place view next_is tables_is place_is suiting =
+suits_kept g p workers room s x next tables place view next_is tables_is place_is suiting =
     subst (λ (t : Session). Suits t.grammar t.performance (record { next = next; tables = tables; place = place })) (sym view)
     (subst (Suits s.grammar s.performance) (λ i. record { next = sym next_is i; tables = sym tables_is i; place = sym place_is i }) suiting)
 
@@ -153,7 +153,7 @@ pub record IsExchanged (g : Grammar) (p q : Performance) (room : ℕ) (voices no
   pub rooms : (n : ℕ) → n ≤ room → All (λ v. n ≤ v.room) now
 
 pub exchanged_for : {plan : Plan} (g : Grammar) (p : Performance) (workers room : ℕ) (voices : List VoiceTables) (s : Session) (x : Prepared) (next : Performance) (tables : List CellTable) (place : ℕ)
-    → IsSession g plan p workers voices room → record { grammar = g; performance = p; room = room } ≡ s → next ≡ x.next → tables ≡ x.tables → place ≡ x.place → Suits s.grammar s.performance x → IsWellFormed next
+    → IsSession g plan p workers voices room → record { grammar = g; performance = p; workers = workers; room = room } ≡ s → next ≡ x.next → tables ≡ x.tables → place ≡ x.place → Suits s.grammar s.performance x → IsWellFormed next
     → (slice now : List VoiceTables) (channels : List ℕ) (bars : ℕ) (gone : List CellTable) (capacity : ℕ) → slice ≡ voices → channels ≡ next.channels → bars ≡ length next.bars
     → ((y : Change) → AreVoicesBefore y slice tables → channels ≡ y.before.channels → bars ≡ length y.after.bars → AreVoicesAfter y now gone capacity)
     → length now ≡ length slice → ((n : ℕ) → All (λ v. n ≤ v.room) slice → All (λ v. n ≤ v.room) now)
@@ -175,7 +175,7 @@ exchanged_for g p workers room voices s x next tables place session view next_is
     }
   where
     suits : Suits g p (record { next = next; tables = tables; place = place })
-    suits = suits_kept g p room s x next tables place view next_is tables_is place_is suiting
+    suits = suits_kept g p workers room s x next tables place view next_is tables_is place_is suiting
 
 module _ {plan : Plan} (g : Grammar) (p q : Performance) (workers room : ℕ) (voices now : List VoiceTables) (gone : List CellTable) (place : ℕ)
     (session : IsSession g plan p workers voices room)

@@ -12,7 +12,7 @@ use Rattle.rhythm_base.specs.Time.{time}
 use Rattle.voices.specs.Breaks.{IsBreak, IsLastBreak, IsNextBreak}
 use Rattle.voices.specs.Voice.{AreNotesOfVoice}
 use Rattle.voices.proofs.NoteBreaks.{HasGap, break_first, break_there, gap_there, notes_rise}
-use Rattle.edit_session.specs.Spans.{AreSameBefore, AreSameFrom, IsPart}
+use Rattle.edit_session.specs.Spans.{AreSameBefore, AreSameFrom, IsNotePart}
 use Rattle.edit_session.proofs.SameNotes.{fewer_same, later_same, same_at, same_later}
 
 abbrev no_note : Note
@@ -119,7 +119,7 @@ module _ (tempos : List Tempo) (division window : ℕ) (before after : List Note
 -- the notes between two breaks
 pub part_is : (tempos : List Tempo) (division window : ℕ) (notes : List Note) (low high earlier up_to first end : ℕ) → earlier ≤ length notes
     → AllWithin (λ n. n.onset < low) notes 0 earlier → AllWithin (λ n. high ≤ n.onset) notes up_to (length notes)
-    → IsLastBreak tempos division window notes (earlier - 1) first → IsNextBreak tempos division window notes (max up_to earlier) end → IsPart tempos division window notes low high first end
+    → IsLastBreak tempos division window notes (earlier - 1) first → IsNextBreak tempos division window notes (max up_to earlier) end → IsNotePart tempos division window notes low high first end
 part_is tempos division window notes low high earlier up_to first end within front back last next = record {
   order = omega (arith, last.within, next.from);
   within = next.within;

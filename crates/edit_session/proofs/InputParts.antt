@@ -15,7 +15,7 @@ use Rattle.performance_laws.proofs.ChordLemmas.{onsets_keep}
 use Rattle.performance_laws.proofs.OneChords.{one_chords}
 use Rattle.voices.proofs.ChordParts.{chords_joined, first_chord}
 use Rattle.bar_cut.proofs.LocalInputs.{IsBegun, input_local}
-use Rattle.edit_session.specs.Spans.{AreSameBefore, AreSameFrom, IsPart}
+use Rattle.edit_session.specs.Spans.{AreSameBefore, AreSameFrom, IsNotePart}
 use Rattle.performance_laws.proofs.SomeChords.{chords_of_notes}
 
 module _ (g : Grammar) (tempos : List Tempo) (division : ℕ) (bar : VoiceBar) where
@@ -83,7 +83,7 @@ module _ (g : Grammar) (tempos : List Tempo) (division : ℕ) (bar : VoiceBar) w
       ∙ sym (back_input after (drop place after) place tick ds part.0 l part.1 refl h.break_after h.high_after lt h.first)
 
   -- a bar between the two ticks of a part
-  pub same_in_part : (notes : List Note) (low high first end : ℕ) (cs ds : List Chord) → IsPart tempos division g.window notes low high first end
+  pub same_in_part : (notes : List Note) (low high first end : ℕ) (cs ds : List Chord) → IsNotePart tempos division g.window notes low high first end
       → low ≤ bar.start → bar.start + bar.length ≤ high → Chords notes cs → Chords (between first end notes) ds → input g bar (soundings cs) ≡ input g bar (soundings ds)
   same_in_part notes low high first end cs ds h le most whole own =
       input_part (take first notes) part (drop end notes) cs ds (subst (λ l. Chords l cs) split whole) own

@@ -22,7 +22,7 @@ use Rattle.edit_session.specs.declared.span.Span.{Span}
 use Rattle.edit_session.specs.Inputs.{AreInputsOfVoice}
 use Rattle.edit_session.specs.Kept.{AreTablesOfVoice}
 use Rattle.edit_session.specs.ReachedCells.{AreOtherInputs, AreOtherInputsWithin, HasOtherInput}
-use Rattle.edit_session.specs.Spans.{AreSameFrom, IsKnown, IsSameBar, IsSpan}
+use Rattle.edit_session.specs.Spans.{AreSameFrom, IsKnown, IsSameBar, IsNoteSpan}
 use Rattle.edit_session.proofs.InputParts.{same_before, same_from, same_in_part}
 use Rattle.edit_session.proofs.OtherInputs.{cell_input, inputs_long, kept_cell, none_below, same_more}
 use Rattle.performance_laws.proofs.SomeChords.{some_chords}
@@ -61,7 +61,7 @@ module _ (g : Grammar) (q : Performance) (channel : ℕ) (formed : IsWellFormed 
       omega (arith, later_barline i (k - i) (omega (arith, whole, within)), ap (barline q.bars q.last) whole)
 
   module _ (p : Performance) (span : Span) (first_bar bar_end : ℕ) (others : IsKnown p q first_bar bar_end)
-      (is : IsSpan q.tempos q.division g.window (notes_of_voice p channel) (notes_of_voice q channel) q.bars q.last first_bar bar_end span) where
+      (is : IsNoteSpan q.tempos q.division g.window (notes_of_voice p channel) (notes_of_voice q channel) q.bars q.last first_bar bar_end span) where
     known_bar : (i : ℕ) → i < length q.bars → (i < span.first_bar) ⊎ (span.bar_end ≤ i) → IsSameBar p q i
     known_bar i lt (inl early) = others.bars i lt (inl (omega (arith, early, is.from)))
     known_bar i lt (inr late) = others.bars i lt (inr (omega (arith, late, is.up_to)))

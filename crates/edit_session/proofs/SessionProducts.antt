@@ -29,7 +29,7 @@ Exchanges voices bars coming old new =
     (d n : ℕ) → All (λ v. length v.tables ≡ n) voices → n ≤ 2 ^ d → bars ≤ 2 ^ d → new ≤ risen old ((length coming + length voices * (n - bars)) * d)
 
 module _ {plan : Plan} (g : Grammar) (p : Performance) (workers room : ℕ) (voices : List VoiceTables) (s : Session) (x : Prepared) (next : Performance) (tables : List CellTable) (place : ℕ)
-    (session : IsSession g plan p workers voices room) (view : record { grammar = g; performance = p; room = room } ≡ s) (next_is : next ≡ x.next) (tables_is : tables ≡ x.tables) (place_is : place ≡ x.place)
+    (session : IsSession g plan p workers voices room) (view : record { grammar = g; performance = p; workers = workers; room = room } ≡ s) (next_is : next ≡ x.next) (tables_is : tables ≡ x.tables) (place_is : place ≡ x.place)
     (suiting : Suits s.grammar s.performance x) (slice : List VoiceTables) (bars : ℕ) (slice_is : slice ≡ voices) (bars_is : bars ≡ length next.bars) where
   as_many : (q r : Performance) → q ≡ r → length q.bars ≡ length r.bars
   as_many q r e = ap (λ (it : Performance). length it.bars) e
@@ -64,7 +64,7 @@ module _ {plan : Plan} (g : Grammar) (p : Performance) (workers room : ℕ) (voi
       → back ≡ now → before ≡ length p.bars → Exchanges slice bars tables old mid → Exchanges back before gone mid new
       → AreProductsOf 2 s.grammar s.performance x.next old new
   products_back now gone capacity back channels before old mid new h channels_is fewer back_is before_is there exchange = λ cells d reached few fits.
-      let suits = suits_kept g p room s x next tables place view next_is tables_is place_is suiting in
+      let suits = suits_kept g p workers room s x next tables place view next_is tables_is place_is suiting in
       let standing = subst (λ vs. AreVoicesBefore (change g p next) vs tables) (sym slice_is)
       (suited g p (record { next = next; tables = tables; place = place }) voices session.formed h.is.formed_after (all_tables g p room p.channels voices session.each) suits) in
       let less = fewer (change g p next) standing (channels_is ∙ h.is.channels) bars_is in

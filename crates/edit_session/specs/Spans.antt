@@ -30,7 +30,7 @@ pub record AreSameFrom (tempos : List Tempo) (division window : ℕ) (before aft
 
 -- The notes from one place up to another lie between breaks. They are all that begin between two ticks, and the first of them
 -- begins before these, or is the first of the voice.
-pub record IsPart (tempos : List Tempo) (division window : ℕ) (notes : List Note) (low high first end : ℕ) : Type 0 where
+pub record IsNotePart (tempos : List Tempo) (division window : ℕ) (notes : List Note) (low high first end : ℕ) : Type 0 where
   pub order : first ≤ end
   pub within : end ≤ length notes
   pub break : IsBreak tempos division window notes first
@@ -55,10 +55,10 @@ pub record IsBarEnd (tempos : List Tempo) (division window : ℕ) (before after 
 
 -- Outside of the bars of the span a change of notes leaves all inputs, and its notes have the chords that the others depend on. The
 -- bars from one to another are in it.
-pub record IsSpan (tempos : List Tempo) (division window : ℕ) (before after : List Note) (bars : List Bar) (last first_bar bar_end : ℕ) (span : Span) : Type 0 where
+pub record IsNoteSpan (tempos : List Tempo) (division window : ℕ) (before after : List Note) (bars : List Bar) (last first_bar bar_end : ℕ) (span : Span) : Type 0 where
   pub first : IsFirstBar tempos division window before after bars last span.first_bar
   pub end : IsBarEnd tempos division window before after bars last span.bar_end
-  pub part : IsPart tempos division window after (barline bars last span.first_bar) (barline bars last span.bar_end) span.first_note span.note_end
+  pub part : IsNotePart tempos division window after (barline bars last span.first_bar) (barline bars last span.bar_end) span.first_note span.note_end
   pub from : span.first_bar ≤ first_bar
   pub up_to : bar_end ≤ span.bar_end
 

@@ -12,7 +12,7 @@ ghost use Rattle.std.specs.Prelude.{◌≡◌, ◌≤◌, ◌<◌, IfErr, IfOk, 
 
 use crate::inputs::cell_inputs;
 use crate::open_fault::OpenFault;
-use bar_pool::build_cells;
+use bar_pool::{Order, Rooms, build_cells};
 use grammar_plan::Plan;
 use least_cost::{BarTable, Steps};
 use rhythm_base::{Grammar, MOST_CELLS, Performance, Tag};
@@ -67,8 +67,14 @@ pub fn cell_tables<R: Threads + Sync, G: Gate + Sync, B: Tag>(
 {
     check_cells(performance)?;
     let inputs = cell_inputs(alloc, grammar, performance)?;
-    let cells = inputs.as_slice();
     let plan = Plan::of(alloc, grammar)?;
-    let tables = build_cells(rt, alloc, grammar, &plan, cells, workers, gate, builds)?;
+    let order = Order {
+        grammar,
+        plan: &plan,
+        inputs: inputs.as_slice(),
+        gate,
+    };
+    let mut rooms = Rooms::new(alloc);
+    let tables = build_cells(rt, alloc, &order, workers, &mut rooms, builds)?;
     Ok(PlannedTables { plan, tables })
 }

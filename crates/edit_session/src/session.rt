@@ -39,7 +39,7 @@ use crate::reached::{ReachedCells, reached_cells};
 use crate::score::{score_bars, whole_score};
 use crate::voice_tables::VoiceTables;
 use bar_alternatives::Alternative;
-use bar_pool::build_cells;
+use bar_pool::{Order, Rooms, build_cells};
 use carry_matrix::Steps as Products;
 use derivation::ScoreBar;
 use grammar_plan::Plan;
@@ -75,7 +75,7 @@ impl Model for Session {
 
     ghost use Rattle.edit_session.specs.Kept.{IsSession};
 
-    ghost view = { λ s. record { grammar = s.grammar; performance = s.performance; room = s.room } };
+    ghost view = { λ s. record { grammar = s.grammar; performance = s.performance; workers = s.workers; room = s.room } };
 
     ghost invariant = { λ s. IsSession s.grammar s.plan s.performance s.workers s.voices.items s.room };
 }
@@ -98,6 +98,7 @@ impl Session {
         requires few_notes { length performance.notes ≤ MOST_NOTES }
         ensures grammar { IfOk result (λ s. s.grammar ≡ grammar) }
         ensures performance { IfOk result (λ s. s.performance ≡ performance) }
+        ensures workers { IfOk result (λ s. s.workers ≡ workers) }
         ensures opened { OnOk result (CanOpen grammar performance) }
         ensures fault { IfErr result (IsOpenFault grammar performance) }
         ensures builds { OnOk result (builds.new ≡ risen builds.old (cells_of performance)) }
@@ -198,6 +199,7 @@ impl Session {
 
     /// By up to how many workers its cells are built, 1 to 16.
     pub fn workers(&self) -> u32
+        ensures value { result ≡ self.now.workers }
         ensures some_worker { 1 ≤ result }
         ensures few_workers { result ≤ MOST_WORKERS }
     {
@@ -216,6 +218,7 @@ impl Session {
     pub fn reserve(&mut self, bars: u32) -> Result<(), AllocError>
         requires { bars ≤ MOST_BARS }
         ensures grammar { self.new.grammar ≡ self.old.grammar }
+        ensures workers { self.new.workers ≡ self.old.workers }
         ensures performance { self.new.performance ≡ self.old.performance }
         ensures room { self.old.room ≤ self.new.room }
         ensures ok { OnOk result (bars ≤ self.new.room) }
@@ -242,10 +245,15 @@ impl Session {
         ensures most { builds.new ≤ risen builds.old (length reached.now.cells.items) }
         ensures rises { builds.old ≤ builds.new }
     {
-        let (grammar, plan) = (&self.grammar, &self.plan);
         let inputs = reached.inputs.as_slice();
-        let workers = self.workers;
-        let tables = build_cells(rt, alloc, grammar, plan, inputs, workers, gate, builds)?;
+        let order = Order {
+            grammar: &self.grammar,
+            plan: &self.plan,
+            inputs,
+            gate,
+        };
+        let mut rooms = Rooms::new(alloc);
+        let tables = build_cells(rt, alloc, &order, self.workers, &mut rooms, builds)?;
         placed_tables(alloc, reached.cells.as_slice(), tables)
     }
 
@@ -328,6 +336,7 @@ impl Session {
         requires suits { Suits self.old.grammar self.old.performance prepared }
         requires room { length prepared.next.bars ≤ self.old.room }
         ensures grammar { self.new.grammar ≡ self.old.grammar }
+        ensures workers { self.new.workers ≡ self.old.workers }
         ensures room { self.new.room ≡ self.old.room }
         ensures performance { OnOk result (self.new.performance ≡ prepared.next) }
         ensures derivations { OnOk result (All (HasDerivation self.old.grammar prepared.next) prepared.next.channels) }
@@ -371,6 +380,7 @@ impl Session {
         requires derivations { All (HasDerivation self.old.grammar back.next) back.next.channels }
         requires room { length back.next.bars ≤ self.old.room }
         ensures grammar { self.new.grammar ≡ self.old.grammar }
+        ensures workers { self.new.workers ≡ self.old.workers }
         ensures room { self.new.room ≡ self.old.room }
         ensures performance { self.new.performance ≡ back.next }
         ensures built { result.applied.built ≡ length back.tables }
@@ -401,6 +411,7 @@ impl Session {
     ) -> Result<Applied, EditFault>
         requires { IsEditInRange edit.now }
         ensures grammar { self.new.grammar ≡ self.old.grammar }
+        ensures workers { self.new.workers ≡ self.old.workers }
         ensures room { self.old.room ≤ self.new.room }
         ensures made { IfOk result (λ a. IsOutcome self.old.grammar self.old.performance edit.now (made a.built a.cost) self.new.performance) }
         ensures derivations { OnOk result (All (HasDerivation self.new.grammar self.new.performance) self.new.performance.channels) }

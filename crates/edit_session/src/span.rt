@@ -1,4 +1,4 @@
-ghost use Rattle.edit_session.specs.Spans.{AreSameBefore, AreSameFrom, IsBarEnd, IsFirstBar, IsPart, IsSpan};
+ghost use Rattle.edit_session.specs.Spans.{AreSameBefore, AreSameFrom, IsBarEnd, IsFirstBar, IsNotePart, IsNoteSpan};
 ghost use Rattle.rhythm_base.specs.Barlines.{barline};
 ghost use Rattle.rhythm_base.specs.Performance.{IsWellFormed};
 ghost use Rattle.std.specs.List.{AllWithin};
@@ -127,7 +127,7 @@ fn part_of(
     window: u32,
 ) -> Part
     requires { AreNotesOfVoice notes.now }
-    ensures { IsPart tempo_map.now.tempos division window notes.now low high result.first result.end }
+    ensures { IsNotePart tempo_map.now.tempos division window notes.now low high result.first result.end }
 {
     let earlier = notes_before(notes, low);
     let up_to = notes_before(notes, high);
@@ -202,7 +202,7 @@ pub fn span_of(
     requires after { AreNotesOfVoice after.now }
     requires formed { IsWellFormed performance.now }
     requires end { bar_end ≤ length performance.now.bars }
-    ensures { IsSpan tempo_map.now.tempos performance.now.division window before.now after.now performance.now.bars performance.now.last first_bar bar_end result }
+    ensures { IsNoteSpan tempo_map.now.tempos performance.now.division window before.now after.now performance.now.bars performance.now.last first_bar bar_end result }
 {
     let division = performance.division();
     let bars = performance.bars();

@@ -116,7 +116,7 @@ module _ (g : Grammar) (q : ℕ × ℕ) (old pairs : List (ℕ × ℕ)) (before 
       is_cut = cut-rule g q n rule at on
 
       longer : IsLonger parts more
-      longer = (pushed.numbers, pushed.behind)
+      longer = (pushed.numbers, pushed.parts_longer)
 
       own : Cut
       own = record { rule = n; weight = rule.weight; first = length parts; end = length more }
@@ -128,7 +128,7 @@ module _ (g : Grammar) (q : ℕ × ℕ) (old pairs : List (ℕ × ℕ)) (before 
         weighs = refl;
         order = length-longer parts more longer;
         within = omega arith;
-        have = subst (λ ns. HavePairs new ns (children rule.body q.0)) (sym (ap (λ l. between l (length parts) (length l)) pushed.behind ∙ between-new parts pushed.numbers)) pushed.have;
+        have = subst (λ ns. HavePairs new ns (children rule.body q.0)) (sym (ap (λ l. between l (length parts) (length l)) pushed.parts_longer ∙ between-new parts pushed.numbers)) pushed.have;
       }
 
       far : length was ≤ length cuts

@@ -96,7 +96,7 @@ pub pushed-none : (pairs : List (ℕ × ℕ)) (parts : List ℕ) → ArePushed p
 pushed-none pairs parts = record {
   longer = longer-itself pairs;
   numbers = [];
-  behind = sym (append-nil parts);
+  parts_longer = sym (append-nil parts);
   have = tt;
   lawful = λ most names h k. h;
 }
@@ -107,7 +107,7 @@ pub pushed-next : (old pairs new : List (ℕ × ℕ)) (parts more : List ℕ) (q
 pushed-next old pairs new parts more qs n q h step has = record {
   longer = longer-then old pairs new h.longer longer;
   numbers = h.numbers ++ n ∷ [];
-  behind = ap (λ l. l ++ n ∷ []) h.behind ∙ append_assoc parts h.numbers (n ∷ []);
+  parts_longer = ap (λ l. l ++ n ∷ []) h.parts_longer ∙ append_assoc parts h.numbers (n ∷ []);
   have = have-more new h.numbers qs n q (have-longer pairs new h.numbers qs longer h.have) has;
   lawful = λ most names k l. elim step [
     | inl same ↦ subst (ArePairs most names) (sym same) (h.lawful most names k (before most names l))

@@ -32,7 +32,7 @@ ArePairs most names pairs = (n : ℕ) (q : ℕ × ℕ) → HasPair pairs n q →
 pub record ArePushed (old new : List (ℕ × ℕ)) (parts more : List ℕ) (qs : List (ℕ × ℕ)) : Type 0 where
   pub longer : IsLonger old new
   pub numbers : List ℕ
-  pub behind : more ≡ parts ++ numbers
+  pub parts_longer : more ≡ parts ++ numbers
   pub have : HavePairs new numbers qs
   pub lawful : (most names : ℕ) → ArePairs most names old → ArePairs most names qs → ArePairs most names new
 

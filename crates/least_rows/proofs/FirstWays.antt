@@ -106,14 +106,14 @@ module _ (d : Ground) (ground : IsGround d) (p a : ℕ) (low : a < 5) (qs : List
   parses : (m m' : ℕ) → m < 5 → m' < 5 → parse (ways.row m) (ways.row m')
   parses m m' lm lm' = row-parse d p a (take n qs) ways.row ways.least m m' lm lm'
 
-  behind : (m : ℕ) (k : Key) → m < 5 → ways.row m ≡ Some k → AreAlike (on.keys m) (λ b. choice_key (on.ranks m b))
-  behind m k lm e = let w = known m k lm e in on.alike m w.0 lm w.1
+  further : (m : ℕ) (k : Key) → m < 5 → ways.row m ≡ Some k → AreAlike (on.keys m) (λ b. choice_key (on.ranks m b))
+  further m k lm e = let w = known m k lm e in on.alike m w.0 lm w.1
 
   all-alike : AreAlike (row_times ways.row on.keys) (λ b. choice_key (value_of (fold_pick (λ m. sum_of_way (front m)) on.ranks b)))
-  all-alike = fold-alike ways.row on.keys (λ m. sum_of_way (front m)) on.ranks ways.alike behind on.digits parses (row-apart d p a (take n qs) ways.row ways.least)
+  all-alike = fold-alike ways.row on.keys (λ m. sum_of_way (front m)) on.ranks ways.alike further on.digits parses (row-apart d p a (take n qs) ways.row ways.least)
 
   all-via : (b : ℕ) → b < 5 → row_times ways.row on.keys b ≡ via ways.row on.keys b (number_of (fold_pick (λ m. sum_of_way (front m)) on.ranks b))
-  all-via = fold-via ways.row on.keys (λ m. sum_of_way (front m)) on.ranks ways.alike behind on.digits parses (row-apart d p a (take n qs) ways.row ways.least)
+  all-via = fold-via ways.row on.keys (λ m. sum_of_way (front m)) on.ranks ways.alike further on.digits parses (row-apart d p a (take n qs) ways.row ways.least)
 
   value-same : (o : Option (ℕ × Choice)) (b : ℕ) (w : Option Way) → IsTaken front on.ranks b 5 o w → choice_key (value_of o) ≡ choice_key (sum_of_way w)
   value-same None b w h = sym (ap (λ o. choice_key (sum_of_way o)) h)

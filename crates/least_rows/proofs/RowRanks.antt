@@ -114,8 +114,8 @@ module _ (d : Ground) (plan : Plan) (p : ℕ) (q : ℕ × ℕ) (a : ℕ) (entrie
           | inr after ↦
               let none : hits entries i b ≡ 0 = hits-none entries i b (λ m f below at_f to_f. let same = one_place m j f e at_f at_e (to_f ∙ sym to) in absurd (omega (arith, same, below, after))) in
               elim (cases_lt i j) [
-                | inl behind ↦
-                    let less : lists_cmp (row.keys x.to) (row.keys e.to) ≡ Less = row.rise i j x e behind at at_e in
+                | inl further ↦
+                    let less : lists_cmp (row.keys x.to) (row.keys e.to) ≡ Less = row.rise i j x e further at at_e in
                     let own : list_cmp k.1 l.1 ≡ Less = sym (λ i. lists_cmp (key i) ((ap row.keys to ∙ is) i)) ∙ less in
                     let back : list_cmp l.1 k.1 ≡ Greater = nat_list_cmp_total.antisymm l.1 k.1 ∙ ap ordering_reverse own in
                     ap (λ (o : Ordering). if is_lt o then 1 else 0) back ∙ sym none

@@ -1,4 +1,4 @@
--- The least ways with a part behind them.
+-- The least ways with a part after them.
 use Rattle.std.proofs.Common.{inl, inr, ◌≡◌, ℕ, zero, suc, ◌<◌, ◌==◌, Bool, true, false, [], ◌∷◌, refl, sym, ap, ◌∙◌, subst, arith}
 use Rattle.std.specs.Prelude.{Option, Some, None, if◌then◌else◌, slice_get}
 use Rattle.std.proofs.lemmas.Bool.Decides.{nat_tests}
@@ -113,7 +113,7 @@ module _ (d : Ground) (p : ℕ) (q : ℕ × ℕ) (ways : ℕ → Option Way) (n 
         | inr same ↦ let no : None ≡ Some w = sym none ∙ ap ways (sym same) ∙ e in absurd (cc)
       ]
 
-  -- the row for this count stands behind its way
+  -- the row for this count stands after its way
   pub below-more : (ranks : ℕ → Option Choice) → IsRankedRow d p q n ranks → ((b : ℕ) → b < 5 → new b ≡ nearer_way (old b) (way_on (ways n) n (ranks b))) → AreWaysBelow d p q ways (suc n) new
   below-more ranks row is = record {
     keys = changed below.keys n row.keys;

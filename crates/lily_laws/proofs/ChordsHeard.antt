@@ -12,7 +12,7 @@ use Rattle.kern_laws.proofs.TextRuns.{run_dropped, run_taken}
 use Rattle.kern_laws.proofs.TokenKeys.{KeysRise}
 use Rattle.lily_writer.specs.Hearing.{HeardVoice, Side, at_brace, hear, outside, span_with, with_span, within, hear_chord, hear_on_side, hear_word, hear_words, is_empty, key_set, heard_rise}
 use Rattle.lily_writer.specs.Pitches.{lily_pitch}
-use Rattle.lily_writer.specs.Words.{WordEnding, Word, behind, word_ending, first_key, front, is_letter, is_lily_pitch_byte, word_key, last_key, middle_key, pitched_word, single_key, word_of, word_of_key}
+use Rattle.lily_writer.specs.Words.{WordEnding, Word, after_front, word_ending, first_key, front, is_letter, is_lily_pitch_byte, word_key, last_key, middle_key, pitched_word, single_key, word_of, word_of_key}
 use Rattle.lily_laws.proofs.ElementWords.{first_words, later_words, pitch_bytes}
 use Rattle.lily_laws.proofs.Pitches.{is_pitch, pitch_is, pitch_read}
 use Rattle.lily_laws.proofs.ValueTexts.{begins_value}
@@ -24,7 +24,7 @@ pitched : (p rest : List ℕ) (k : ℕ) → list_all is_lily_pitch_byte p ≡ tr
 unfolding pitched_word
 pitched p rest k bytes is ends =
     let first : front is_lily_pitch_byte (p ++ rest) ≡ p = run_taken is_lily_pitch_byte p rest bytes ends in
-    let second : behind is_lily_pitch_byte (p ++ rest) ≡ rest = run_dropped is_lily_pitch_byte p rest bytes ends in
+    let second : after_front is_lily_pitch_byte (p ++ rest) ≡ rest = run_dropped is_lily_pitch_byte p rest bytes ends in
     rw (first, is, second) refl
 
 by_letter : (b : ℕ) (bs : List ℕ) → is_letter b ≡ true → not (b == 114) ≡ true → word_of (b ∷ bs) ≡ pitched_word (b ∷ bs)

@@ -19,7 +19,7 @@ use Rattle.kern_laws.proofs.TextTests.{all_alike, all_append, all_weaker, decima
 use Rattle.lily_writer.specs.Elements.{lily_short, lily_tie}
 use Rattle.lily_writer.specs.Fractions.{frac, frac_times}
 use Rattle.lily_writer.specs.Values.{base_text, scale_of_part, scale_text, lily_value, written_part}
-use Rattle.lily_writer.specs.Words.{WordEnding, base_of, behind, dotted, word_ending, front, is_base_byte, is_dot, is_scale_byte, word_marks, scale_of}
+use Rattle.lily_writer.specs.Words.{WordEnding, base_of, after_front, dotted, word_ending, front, is_base_byte, is_dot, is_scale_byte, word_marks, scale_of}
 use Rattle.lily_laws.proofs.Fractions.{same_value, times_parts}
 use Rattle.lily_laws.proofs.WrittenParts.{base_read, part_by, part_is, part_range, scale_read}
 use Rattle.durations.proofs.Wide.{some_product}
@@ -182,13 +182,13 @@ unfolding word_ending
 apart base dots scale rest b d s short tied h k l base_ends dots_end scale_ends first second third fourth =
     let base_front : front is_base_byte (base ++ (dots ++ (scale ++ rest))) ≡ base =
     run_taken is_base_byte base (dots ++ (scale ++ rest)) h base_ends in
-    let base_behind : behind is_base_byte (base ++ (dots ++ (scale ++ rest))) ≡ dots ++ (scale ++ rest) =
+    let after_base_is : after_front is_base_byte (base ++ (dots ++ (scale ++ rest))) ≡ dots ++ (scale ++ rest) =
     run_dropped is_base_byte base (dots ++ (scale ++ rest)) h base_ends in
     let dots_front : front is_dot (dots ++ (scale ++ rest)) ≡ dots = run_taken is_dot dots (scale ++ rest) k dots_end in
-    let dots_behind : behind is_dot (dots ++ (scale ++ rest)) ≡ scale ++ rest = run_dropped is_dot dots (scale ++ rest) k dots_end in
+    let after_dots_is : after_front is_dot (dots ++ (scale ++ rest)) ≡ scale ++ rest = run_dropped is_dot dots (scale ++ rest) k dots_end in
     let scale_front : front is_scale_byte (scale ++ rest) ≡ scale = run_taken is_scale_byte scale rest l scale_ends in
-    let scale_behind : behind is_scale_byte (scale ++ rest) ≡ rest = run_dropped is_scale_byte scale rest l scale_ends in
-    rw (base_front, first, base_behind, dots_front, second, dots_behind, scale_front, third, scale_behind, fourth) refl
+    let after_scale_is : after_front is_scale_byte (scale ++ rest) ≡ rest = run_dropped is_scale_byte scale rest l scale_ends in
+    rw (base_front, first, after_base_is, dots_front, second, after_dots_is, scale_front, third, after_scale_is, fourth) refl
 
 pub ending_read : (v : Value) (short tied : Bool) → IsWellValue v → word_ending (ending_text v short tied) ≡ Some (ending v short tied)
 ending_read v short tied well =

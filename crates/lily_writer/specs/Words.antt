@@ -11,12 +11,12 @@ use Rattle.kern_reader.specs.Tokens.{◌>>=◌, are_dots, number_of, within_keys
 use Rattle.lily_writer.specs.Fractions.{frac, frac_times}
 use Rattle.lily_writer.specs.Pitches.{names}
 
--- the longest front of bytes of a kind, and what stands behind it
+-- the longest front of bytes of a kind, and what stands after it
 abbrev pub front : (ℕ → Bool) → List ℕ → List ℕ
 front kind text = take_while kind text
 
-abbrev pub behind : (ℕ → Bool) → List ℕ → List ℕ
-behind kind text = drop (prefix_len kind text) text
+abbrev pub after_front : (ℕ → Bool) → List ℕ → List ℕ
+after_front kind text = drop (prefix_len kind text) text
 
 abbrev pub is_letter : ℕ → Bool
 is_letter b = nat_le 97 b && nat_le b 122
@@ -39,7 +39,7 @@ marked_octave text =
 
 unfoldable pub word_key : List ℕ → Option ℕ
 word_key text = do
-  octave ← marked_octave (behind is_letter text)
+  octave ← marked_octave (after_front is_letter text)
   key ← named_key (front is_letter text)
   within_keys (12 * octave + key)
 
@@ -97,17 +97,17 @@ word_marks text =
     else None
 
 abbrev pub after_base : List ℕ → List ℕ
-after_base text = behind is_base_byte text
+after_base text = after_front is_base_byte text
 
 abbrev pub after_dots : List ℕ → List ℕ
-after_dots text = behind is_dot (after_base text)
+after_dots text = after_front is_dot (after_base text)
 
 unfoldable pub word_ending : List ℕ → Option WordEnding
 word_ending text = do
   base ← base_of (front is_base_byte text)
   dots ← dotted (front is_dot (after_base text))
   scale ← scale_of (front is_scale_byte (after_dots text))
-  marks ← word_marks (behind is_scale_byte (after_dots text))
+  marks ← word_marks (after_front is_scale_byte (after_dots text))
   Some (record { len = frac_times (frac_times base dots) scale; short = marks.0; tied = marks.1 })
 
 -- ---- words
@@ -139,7 +139,7 @@ word_of_key key (b ∷ text) =
     else option_map (λ e. single_key key e) (word_ending (b ∷ text))
 
 unfoldable pub pitched_word : List ℕ → Option Word
-pitched_word text = word_key (front is_lily_pitch_byte text) >>= λ key. word_of_key key (behind is_lily_pitch_byte text)
+pitched_word text = word_key (front is_lily_pitch_byte text) >>= λ key. word_of_key key (after_front is_lily_pitch_byte text)
 
 unfoldable pub word_of : List ℕ → Option Word
 word_of text =

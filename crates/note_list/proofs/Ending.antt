@@ -1,10 +1,9 @@
--- Going over the events from the last to the first: the notes that begin, and where each ends.
-use Rattle.std.proofs.Common.{◌≡◌, ◌≢◌, ℕ, suc, ◌+◌, ◌-◌, ◌*◌, ◌<◌, ◌≤◌, Bool, true, false, cond, List, [], ◌∷◌, ◌++◌, length, get_or, set, drop, reverse, refl, sym, ap, ◌∙◌, subst, inl, inr, arith}
-use Rattle.std.specs.Prelude.{All, Some, None, find, slice_index, ◌&&◌, ◌==◌}
+-- Going over the events from the last to the first: the notes that begin, where each ends, and their order.
+use Rattle.std.proofs.Common.{◌≡◌, ◌≢◌, ℕ, suc, ◌+◌, ◌*◌, ◌<◌, ◌≤◌, Bool, true, false, cond, List, [], ◌∷◌, ◌++◌, length, set, refl, sym, ap, ◌∙◌, subst, inl, inr, arith}
+use Rattle.std.specs.Prelude.{Some, None, find, slice_index, ◌&&◌, ◌==◌}
 use Rattle.std.proofs.lemmas.Bool.Decides.{nat_tests}
 use Rattle.std.proofs.lemmas.List.Elements.{All-cons}
 use Rattle.std.proofs.lemmas.List.{get_or-set_same, get_or-set_other, length-set}
-use Rattle.std.proofs.Math.Seq.{drop-cons}
 use Rattle.rhythm_base.specs.declared.event.Event.{Event}
 use Rattle.rhythm_base.specs.declared.event.What.{What}
 use Rattle.rhythm_base.specs.declared.event.What.TheVariants.{On, Off}
@@ -13,16 +12,12 @@ use Rattle.rhythm_base.specs.Notes.{begun, begun_at, end_of_note, touches, tick_
 use Rattle.note_list.specs.Ends.{note_from, ends_from}
 use Rattle.note_list.specs.Pairing.{IsPlayable, IsEventOf, begins, AreSilent, IsPlayed}
 use Rattle.rhythm_base.proofs.Members.{Among, Pairwise}
-use Rattle.rhythm_base.proofs.ListParts.{reverse_cons}
+use Rattle.note_list.proofs.Latest.{Rises}
 
 -- for each channel and key the next end after an event
 pub record AreEnds (last : ℕ) (later : List Event) (ends : List ℕ) : Type 0 where
   pub long : length ends ≡ 2048
   pub entry : (c k : ℕ) → c < 16 → k < 128 → slice_index ends (128 * c + k) ≡ end_of_note last c k later
-
-pub record Going (last : ℕ) (later : List Event) (table : List ℕ) (list : List Note) : Type 0 where
-  pub ends : AreEnds last later table
-  pub notes : list ≡ reverse (begun last later)
 
 set_long : (table : List ℕ) (i v : ℕ) → length table ≡ 2048 → length (set table i v) ≡ 2048
 set_long table i v h = length-set table i v ∙ h
@@ -45,7 +40,7 @@ entry_after last c0 k0 c k e later table a0 b0 a b ends = go ((c0 == c) && (k0 =
         cc) in
         get_or-set_other table (128 * c0 + k0) (128 * c + k) e.tick 0 other ∙ ends.entry c k a b
 
-ends_more : (last tick : ℕ) (what : What) (later : List Event) (table : List ℕ) → IsPlayable what → AreEnds last later table → AreEnds last (record { tick = tick; what = what } ∷ later) (ends_from table tick what)
+pub ends_more : (last tick : ℕ) (what : What) (later : List Event) (table : List ℕ) → IsPlayable what → AreEnds last later table → AreEnds last (record { tick = tick; what = what } ∷ later) (ends_from table tick what)
 ends_more last tick (On c0 k0) later table h e = record {
   long = set_long table (128 * c0 + k0) tick e.long;
   entry = λ c k a b. entry_after last c0 k0 c k (record { tick = tick; what = On c0 k0 }) later table h.0 h.1 a b e;
@@ -56,20 +51,22 @@ ends_more last tick (Off c0 k0) later table h e = record {
 }
 ends_more last tick _ later table h e = record { long = e.long; entry = e.entry }
 
-pub going_some : (last tick : ℕ) (what : What) (later : List Event) (table : List ℕ) (list : List Note) (n : Note) → IsPlayable what → Going last later table list → note_from table tick what ≡ Some n → Going last (record { tick = tick; what = what } ∷ later) (ends_from table tick what) (list ++ n ∷ [])
-going_some last tick (On c k) later table list n h g e = record { ends = ends_more last tick (On c k) later table h g.ends; notes = sym (reverse_cons (record { channel = c; key = k; onset = tick; end = end_of_note last c k later }) (begun last later) ∙ ap (λ m. reverse (begun last later) ++ m ∷ []) (note_is e) ∙ ap (λ l. l ++ n ∷ []) (sym g.notes)) }
+-- ---- the note that begins with an event
+
+pub one_begins : (last tick : ℕ) (what : What) (later : List Event) (table : List ℕ) (n : Note) → IsPlayable what → AreEnds last later table → note_from table tick what ≡ Some n → begun last (record { tick = tick; what = what } ∷ later) ≡ n ∷ begun last later
+one_begins last tick (On c k) later table n h ends e = ap (λ m. m ∷ begun last later) note_is
   where
-    note_is : note_from table tick (On c k) ≡ Some n → ◌≡◌ {A = Note} (record { channel = c; key = k; onset = tick; end = end_of_note last c k later }) n
-    note_is q =
-        let there : slice_index table (128 * c + k) ≡ end_of_note last c k later = g.ends.entry c k h.0 h.1 in
+    note_is : ◌≡◌ {A = Note} (record { channel = c; key = k; onset = tick; end = end_of_note last c k later }) n
+    note_is =
+        let there : slice_index table (128 * c + k) ≡ end_of_note last c k later = ends.entry c k h.0 h.1 in
         let m : Note = record { channel = c; key = k; onset = tick; end = slice_index table (128 * c + k) } in
         let found : m ≡ n = cc in
         sym (ap (λ x. record { channel = c; key = k; onset = tick; end = x }) there) ∙ found
-going_some last tick _ later table list n h g e = absurd (cc)
+one_begins last tick _ later table n h ends e = absurd (cc)
 
-pub going_none : (last tick : ℕ) (what : What) (later : List Event) (table : List ℕ) (list : List Note) → IsPlayable what → Going last later table list → note_from table tick what ≡ None → Going last (record { tick = tick; what = what } ∷ later) (ends_from table tick what) list
-going_none last tick (On c k) later table list h g e = absurd (cc)
-going_none last tick what later table list h g e = record { ends = ends_more last tick what later table h g.ends; notes = g.notes }
+pub none_begins : (last tick : ℕ) (what : What) (later : List Event) (table : List ℕ) → note_from table tick what ≡ None → begun last (record { tick = tick; what = what } ∷ later) ≡ begun last later
+none_begins last tick (On c k) later table e = absurd (cc)
+none_begins last tick what later table e = refl
 
 -- ---- whether there are notes, and what each is like
 
@@ -110,28 +107,60 @@ are_played last (e ∷ events) order h n a = one e.what (h e (inl refl)).keyed (
     one (On c k) q rest (inr b) = rest b
     one _ q rest b = rest b
 
--- ---- one event of the list
+-- ---- the order of notes by their events
 
-from_here : (events : List Event) (place : ℕ) (d : Event) → 0 < place → place ≤ length events → drop (place - 1) events ≡ get_or events (place - 1) d ∷ drop place events
-from_here events place d some within =
-    let one : suc (place - 1) ≡ place = omega arith in
-    drop-cons events (place - 1) d (omega arith) ∙ ap (λ n. get_or events (place - 1) d ∷ drop n events) one
+onset_low : (last low : ℕ) (events : List Event) → ((e : Event) → Among e events → low ≤ e.tick) → (n : Note) → Among n (begun last events) → low ≤ n.onset
+onset_low last low [] h n a = absurd a
+onset_low last low (e ∷ events) h n a = one e.what (h e (inl refl)) (λ b. onset_low last low events (λ x d. h x (inr d)) n b) a
+  where
+    one : (w : What) → low ≤ e.tick → (Among n (begun last events) → low ≤ n.onset) → Among n (begun_at last e.tick w events ++ begun last events) → low ≤ n.onset
+    one (On c k) le rest (inl f) = let same : n.onset ≡ e.tick = ap (λ (x : Note). x.onset) f in omega (arith, le, same)
+    one (On c k) le rest (inr b) = rest b
+    one _ le rest b = rest b
 
-pub step_some : (last : ℕ) (events : List Event) (place : ℕ) (d : Event) (table new : List ℕ) (list next : List Note) (n : Note) → 0 < place → place ≤ length events → All (IsEventOf last) events → Going last (drop place events) table list
-    → Some n ≡ note_from table (get_or events (place - 1) d).tick (get_or events (place - 1) d).what → new ≡ ends_from table (get_or events (place - 1) d).tick (get_or events (place - 1) d).what → next ≡ list ++ n ∷ [] → Going last (drop (place - 1) events) new next
-step_some last events place d table new list next n some within all g is ends is_next =
-    let x = get_or events (place - 1) d in
-    let keyed : IsPlayable x.what = (all (place - 1) d (omega arith)).keyed in
-    let P : List Event → Type 0 = λ l. Going last l new next in
-    let Q : List ℕ → Type 0 = λ l. Going last (x ∷ drop place events) l next in
-    let R : List Note → Type 0 = λ l. Going last (x ∷ drop place events) (ends_from table x.tick x.what) l in
-    subst P (sym (from_here events place d some within)) (subst Q (sym ends) (subst R (sym is_next) (going_some last x.tick x.what (drop place events) table list n keyed g (sym is))))
+-- a note that begins later ends those of its channel and key that began before it
+end_before : (last : ℕ) (events : List Event) → Pairwise (λ x y. x.tick ≤ y.tick) events → (n : Note) → Among n (begun last events) → end_of_note last n.channel n.key events ≤ n.onset
+end_before last [] order n a = absurd a
+end_before last (e ∷ events) order n a =
+    go (touches n.channel n.key e.what) refl (onset_low last e.tick (e ∷ events) from_here n a) (λ b. end_before last events order.1 n b)
+  where
+    from_here : (x : Event) → Among x (e ∷ events) → e.tick ≤ x.tick
+    from_here x (inl f) = let same : x.tick ≡ e.tick = ap (λ (y : Event). y.tick) f in omega (arith, same)
+    from_here x (inr b) = order.0 x b
 
-pub step_none : (last : ℕ) (events : List Event) (place : ℕ) (d : Event) (table new : List ℕ) (list : List Note) → 0 < place → place ≤ length events → All (IsEventOf last) events → Going last (drop place events) table list
-    → None ≡ note_from table (get_or events (place - 1) d).tick (get_or events (place - 1) d).what → new ≡ ends_from table (get_or events (place - 1) d).tick (get_or events (place - 1) d).what → Going last (drop (place - 1) events) new list
-step_none last events place d table new list some within all g is ends =
-    let x = get_or events (place - 1) d in
-    let keyed : IsPlayable x.what = (all (place - 1) d (omega arith)).keyed in
-    let P : List Event → Type 0 = λ l. Going last l new list in
-    let Q : List ℕ → Type 0 = λ l. Going last (x ∷ drop place events) l list in
-    subst P (sym (from_here events place d some within)) (subst Q (sym ends) (going_none last x.tick x.what (drop place events) table list keyed g (sym is)))
+    later : (w : What) → touches n.channel n.key w ≡ false → Among n (begun_at last e.tick w events ++ begun last events) → Among n (begun last events)
+    later (On c k) h (inl f) =
+        let one : n.channel ≡ c = ap (λ (x : Note). x.channel) f in
+        let two : n.key ≡ k = ap (λ (x : Note). x.key) f in
+        absurd (grind (arith, nat_tests))
+    later (On c k) h (inr b) = b
+    later _ h b = b
+
+    go : (t : Bool) → touches n.channel n.key e.what ≡ t → e.tick ≤ n.onset → (Among n (begun last events) → end_of_note last n.channel n.key events ≤ n.onset)
+        → tick_or last (cond t (Some e) (find (λ x. touches n.channel n.key x.what) events)) ≤ n.onset
+    go true h low rest = low
+    go false h low rest = rest (later e.what h a)
+
+pub onsets_rise : (last : ℕ) (events : List Event) → Pairwise (λ x y. x.tick ≤ y.tick) events → Pairwise (λ m n. m.onset ≤ n.onset) (begun last events)
+onsets_rise last [] order = tt
+onsets_rise last (e ∷ events) order = one e.what (onsets_rise last events order.1)
+  where
+    one : (w : What) → Pairwise (λ m n. m.onset ≤ n.onset) (begun last events) → Pairwise (λ m n. m.onset ≤ n.onset) (begun_at last e.tick w events ++ begun last events)
+    one (On c k) rest = (onset_low last e.tick events order.0, rest)
+    one _ rest = rest
+
+pub ends_rise : (last : ℕ) (events : List Event) → Pairwise (λ x y. x.tick ≤ y.tick) events → ((e : Event) → Among e events → IsEventOf last e) → Pairwise Rises (begun last events)
+ends_rise last [] order h = tt
+ends_rise last (e ∷ events) order h = one e.what (ends_rise last events order.1 (λ x d. h x (inr d)))
+  where
+    one : (w : What) → Pairwise Rises (begun last events) → Pairwise Rises (begun_at last e.tick w events ++ begun last events)
+    one (On c k) rest = (first, rest)
+      where
+        first : (n : Note) → Among n (begun last events) → Rises (record { channel = c; key = k; onset = e.tick; end = end_of_note last c k events }) n
+        first n a same =
+            let P : ℕ → ℕ → Type 0 = λ x y. end_of_note last x y events ≤ n.onset in
+            let early = end_before last events order.1 n a in
+            let here : end_of_note last c k events ≤ n.onset = subst (λ x. P x k) (sym same.channel) (subst (λ y. P n.channel y) (sym same.key) early) in
+            let played = are_played last events order.1 (λ x d. h x (inr d)) n a in
+            omega (arith, here, played.after)
+    one _ rest = rest

@@ -1,4 +1,5 @@
 pub mod Places
-pub mod Kept
+pub mod Latest
 pub mod Ending
 pub mod OneList
+pub mod Keeping

@@ -1,22 +1,28 @@
--- The notes of events: the sorted list without the worse notes, and no other.
-use Rattle.std.proofs.Common.{◌≡◌, ℕ, ◌<◌, ◌≤◌, ◌^◌, List, get_or, map, reverse, sym, subst, arith}
-use Rattle.std.specs.Prelude.{All, Contains}
-use Rattle.std.specs.List.{dedup}
+-- The notes of events: the kept ones in order, and no other list.
+use Rattle.std.proofs.Common.{◌≡◌, ℕ, suc, ◌<◌, ◌≤◌, ◌^◌, Bool, false, not, List, [], ◌∷◌, ◌++◌, length, get_or, map, refl, subst, inl, inr, arith}
+use Rattle.std.specs.Prelude.{All, AllPairs, filter}
+use Rattle.std.specs.List.{IsDistinct}
 use Rattle.std.specs.List.Sorted.{IsNonDecreasing, IsPermutation, IsSortedByKey}
 use Rattle.std.specs.Ordering.{is_lt, nat_cmp}
 use Rattle.std.specs.Cmp.Lexicographic.{slice_cmp}
+use Rattle.std.proofs.lemmas.Bool.Decides.{nat_tests}
 use Rattle.std.proofs.lemmas.Cmp.{nat_list_cmp_total}
 use Rattle.std.proofs.lemmas.List.{get_or-map, length-map}
-use Rattle.std.proofs.lemmas.List.Sorted.{sorted_far, ranks_by, Contains-permutation, IsPermutation-sym, IsPermutation-reverse}
+use Rattle.std.proofs.lemmas.List.Sorted.{sorted_far, ranks_by, All-permutation, Contains-permutation, IsPermutation-refl, IsPermutation-sym, IsPermutation-cons, IsPermutation-trans, IsPermutation-middle, IsPermutation-filter_both, length_permutation}
+use Rattle.std.proofs.lemmas.Map.Keys.{IsDistinct-tail, IsDistinct-IsPermutation, apart_from_distinct}
 use Rattle.rhythm_base.specs.declared.event.Event.{Event}
 use Rattle.rhythm_base.specs.declared.note.Note.{Note}
+use Rattle.rhythm_base.specs.Lists.{AreInOrder, list_with}
 use Rattle.rhythm_base.specs.Notes.{AreNotes, IsKept, begun}
+use Rattle.rhythm_base.specs.Performance.{place_of_note}
 use Rattle.rhythm_base.proofs.FirstLists.{one_order}
+use Rattle.rhythm_base.proofs.OrderedLists.{put_in_order}
+use Rattle.note_list.specs.Kept.{AreKept, same_place}
 use Rattle.note_list.specs.Pairing.{IsEventOf, IsPlayed, NotesAreOne, rank_of_note}
-use Rattle.rhythm_base.proofs.Members.{Among, among_at, among_contained, place_among, all_among, all_from_among, pairs_from, Pairwise}
-use Rattle.note_list.proofs.Places.{IsBefore, Follows, follows, not_both}
-use Rattle.note_list.proofs.Kept.{to_pairs, IsBest, same_place, kept_all}
-use Rattle.note_list.proofs.Ending.{are_played}
+use Rattle.rhythm_base.proofs.Members.{among_contained, place_among, all_among, all_from_among, Pairwise}
+use Rattle.note_list.proofs.Places.{IsBefore, follows, not_both}
+use Rattle.note_list.proofs.Latest.{IsBest, apart, either_way, latest, latest_distinct, latest_best, best_latest}
+use Rattle.note_list.proofs.Ending.{are_played, ends_rise}
 
 -- ---- lists in order with the same notes are one
 
@@ -24,62 +30,103 @@ pub are_one : NotesAreOne
 are_one last events a b h k =
     one_order IsBefore not_both a b h.in_order k.in_order (λ n there. (k.kept n).1 ((h.kept n).0 there)) (λ n there. (h.kept n).1 ((k.kept n).0 there))
 
--- ---- the best notes of a list are those of its permutations
+-- ---- the best notes are those that are kept
 
-best_kept : (xs ys : List Note) (n : Note) → ((m : Note) → Among m xs → Among m ys) → ((m : Note) → Among m ys → Among m xs) → IsBest xs n → IsKept ys n
-best_kept xs ys n f g h = (place_among ys n (f n h.0), all_from_among (λ m. m.channel ≡ n.channel → m.key ≡ n.key → m.onset ≡ n.onset → m.end ≤ n.end) ys (λ m a c k o. h.1 m (g m a) record { channel = c; onset = o; key = k }))
+best_kept : (xs : List Note) (n : Note) → IsBest xs n → IsKept xs n
+best_kept xs n h = (place_among xs n h.0, all_from_among (λ m. m.channel ≡ n.channel → m.key ≡ n.key → m.onset ≡ n.onset → m.end ≤ n.end) xs (λ m a c k o. h.1 m a record { channel = c; onset = o; key = k }))
 
-kept_best : (xs ys : List Note) (n : Note) → ((m : Note) → Among m xs → Among m ys) → ((m : Note) → Among m ys → Among m xs) → IsKept ys n → IsBest xs n
-kept_best xs ys n f g h = (g n (among_contained ys n h.0), λ m a s. all_among (λ m. m.channel ≡ n.channel → m.key ≡ n.key → m.onset ≡ n.onset → m.end ≤ n.end) ys h.1 m (f m a) s.channel s.key s.onset)
+kept_best : (xs : List Note) (n : Note) → IsKept xs n → IsBest xs n
+kept_best xs n h = (among_contained xs n h.0, λ m a s. all_among (λ m. m.channel ≡ n.channel → m.key ≡ n.key → m.onset ≡ n.onset → m.end ≤ n.end) xs h.1 m a s.channel s.key s.onset)
 
--- ---- the code's list
+-- ---- events in order
+
+to_pairs : {X : Type 0} (R : X → X → Type 0) (xs : List X) → AllPairs R xs → Pairwise R xs
+to_pairs R [] h = tt
+to_pairs R (x ∷ xs) h = (
+  (λ y a. let c = place_among xs y a in subst (R x) c.2 (h 0 (suc c.0) y (omega arith) (omega (arith, c.1)))),
+  to_pairs R xs (λ i j d lt within. h (suc i) (suc j) d (omega arith) (omega arith)),
+)
 
 pub events_rise : (events : List Event) → IsNonDecreasing (map (λ e. e.tick) events) → Pairwise (λ (x : Event) y. x.tick ≤ y.tick) events
 events_rise events h = to_pairs (λ x y. x.tick ≤ y.tick) events (λ i j d lt within.
     let long = length-map events (λ (e : Event). e.tick) in
     omega (arith, get_or-map (λ (e : Event). e.tick) events i d (d.tick) (omega arith), get_or-map (λ (e : Event). e.tick) events j d (d.tick) (omega arith), h i j d.tick (omega arith) (omega (arith, long))))
 
-pub record AreSorted (last : ℕ) (list : List Event) (notes moved : List Note) : Type 0 where
-  pub order : IsNonDecreasing (map (λ e. e.tick) list)
-  pub events : All (IsEventOf last) list
-  pub first : notes ≡ reverse (begun last list)
-  pub same : IsPermutation notes moved
-  pub sorted : IsSortedByKey rank_of_note (slice_cmp nat_cmp) moved
+-- ---- the kept notes in any order
 
-to_begun : (last : ℕ) (events : List Event) (raw sorted : List Note) → AreSorted last events raw sorted → (n : Note) → Among n sorted → Among n (begun last events)
-to_begun last events raw sorted s n a =
-    let in_raw : Contains raw n = Contains-permutation sorted raw n (IsPermutation-sym raw sorted s.same) (place_among sorted n a) in
-    among_contained (begun last events) n (Contains-permutation (reverse (begun last events)) (begun last events) n (IsPermutation-sym (begun last events) (reverse (begun last events)) (IsPermutation-reverse (begun last events))) (subst (λ l. Contains l n) s.first in_raw))
+pub kept_permuted : (last : ℕ) (events : List Event) (xs ys : List Note) → AreKept last events xs → IsPermutation xs ys → AreKept last events ys
+kept_permuted last events xs ys h p = record {
+  once = IsDistinct-IsPermutation same_place either_way xs ys p h.once;
+  kept = λ n. (
+    (λ c. (h.kept n).0 (Contains-permutation ys xs n (IsPermutation-sym xs ys p) c)),
+    λ k. Contains-permutation xs ys n p ((h.kept n).1 k),
+  );
+}
 
-from_begun : (last : ℕ) (events : List Event) (raw sorted : List Note) → AreSorted last events raw sorted → (n : Note) → Among n (begun last events) → Among n sorted
-from_begun last events raw sorted s n a =
-    let in_reverse : Contains (reverse (begun last events)) n = Contains-permutation (begun last events) (reverse (begun last events)) n (IsPermutation-reverse (begun last events)) (place_among (begun last events) n a) in
-    among_contained sorted n (Contains-permutation raw sorted n s.same (subst (λ l. Contains l n) (sym s.first) in_reverse))
-
-sorted_played : (last : ℕ) (events : List Event) (raw sorted : List Note) → AreSorted last events raw sorted → (n : Note) → Among n sorted → IsPlayed last n
-sorted_played last events raw sorted s n a = are_played last events (events_rise events s.order) (all_among (IsEventOf last) events s.events) n (to_begun last events raw sorted s n a)
-
-sorted_follow : (last : ℕ) (events : List Event) (raw sorted : List Note) → last < 2 ^ 64 → AreSorted last events raw sorted → Pairwise Follows sorted
-sorted_follow last events raw sorted low s = to_pairs Follows sorted (λ i j d lt within.
-    let far = sorted_far (λ x y. is_lt (slice_cmp nat_cmp (rank_of_note x) (rank_of_note y))) (ranks_by nat_list_cmp_total rank_of_note) sorted s.sorted i j d (omega arith) within in
-    let one = sorted_played last events raw sorted s (get_or sorted i d) (among_at sorted i d (omega arith)) in
-    let two = sorted_played last events raw sorted s (get_or sorted j d) (among_at sorted j d within) in
-    follows (get_or sorted i d) (get_or sorted j d) (omega (arith, one.within)) (omega (arith, two.within)) far)
-
-pub are_notes : (last : ℕ) (events : List Event) (raw sorted : List Note) → last < 2 ^ 64 → AreSorted last events raw sorted → AreNotes last events (dedup same_place sorted)
-are_notes last events raw sorted low s =
-    let good = kept_all sorted (sorted_follow last events raw sorted low s) in
-    let to = to_begun last events raw sorted s in
-    let from = from_begun last events raw sorted s in
+pub latest_kept : (last : ℕ) (events : List Event) → Pairwise (λ (x : Event) y. x.tick ≤ y.tick) events → All (IsEventOf last) events → AreKept last events (latest (begun last events))
+latest_kept last events order all =
+    let list : List Note = begun last events in
+    let rise = ends_rise last events order (all_among (IsEventOf last) events all) in
     record {
-      in_order = pairs_from IsBefore (dedup same_place sorted) good.0;
+      once = latest_distinct list;
       kept = λ n. (
-        (λ c. best_kept sorted (begun last events) n to from ((good.1 n).0 (among_contained (dedup same_place sorted) n c))),
-        λ k. place_among (dedup same_place sorted) n ((good.1 n).1 (kept_best sorted (begun last events) n to from k)),
+        (λ c. best_kept list n (latest_best list rise n (among_contained (latest list) n c))),
+        λ k. place_among (latest list) n (best_latest list rise n (kept_best list n k)),
       );
     }
 
-pub all_played : (last : ℕ) (events : List Event) (raw sorted : List Note) → last < 2 ^ 64 → AreSorted last events raw sorted → All (IsPlayed last) (dedup same_place sorted)
-all_played last events raw sorted low s =
-    let good = kept_all sorted (sorted_follow last events raw sorted low s) in
-    all_from_among (IsPlayed last) (dedup same_place sorted) (λ n a. sorted_played last events raw sorted s n ((good.1 n).0 a).0)
+pub all_played : (last : ℕ) (events : List Event) (notes : List Note) → IsNonDecreasing (map (λ e. e.tick) events) → All (IsEventOf last) events → AreKept last events notes → All (IsPlayed last) notes
+all_played last events notes order all h =
+    all_from_among (IsPlayed last) notes (λ n a. are_played last events (events_rise events order) (all_among (IsEventOf last) events all) n (among_contained (begun last events) n ((h.kept n).0 (place_among notes n a)).0))
+
+-- ---- sorted by their rank they are in order
+
+pub ranked_in_order : (last : ℕ) (notes : List Note) → last < 2 ^ 64 → IsDistinct same_place notes → All (IsPlayed last) notes → IsSortedByKey rank_of_note (slice_cmp nat_cmp) notes → AreInOrder place_of_note notes
+ranked_in_order last notes low once played sorted i j d lt within =
+    let far = sorted_far (λ x y. is_lt (slice_cmp nat_cmp (rank_of_note x) (rank_of_note y))) (ranks_by nat_list_cmp_total rank_of_note) notes sorted i j d (omega arith) within in
+    let one = played i d (omega arith) in
+    let two = played j d within in
+    elim (follows (get_or notes i d) (get_or notes j d) (omega (arith, one.within)) (omega (arith, two.within)) far) [
+      | inl before ↦ before
+      | inr same ↦ absurd (apart (get_or notes i d) (get_or notes j d) (apart_from_distinct same_place notes i j d once lt within) same.0)
+    ]
+
+-- ---- they have an order
+
+abbrev pub in_place : List Note → List Note
+in_place [] = []
+in_place (x ∷ xs) = list_with place_of_note x (in_place xs)
+
+put_permuted : (x : Note) (xs : List Note) → IsPermutation (x ∷ xs) (list_with place_of_note x xs)
+put_permuted x xs =
+    let p : Note → Bool = λ y. is_lt (slice_cmp nat_cmp (place_of_note y) (place_of_note x)) in
+    let q : Note → Bool = λ y. not (p y) in
+    let parted : IsPermutation (x ∷ xs) (x ∷ (filter p xs ++ filter q xs)) = IsPermutation-cons x xs (filter p xs ++ filter q xs) (IsPermutation-filter_both p q (λ y. refl) xs) in
+    IsPermutation-trans (x ∷ xs) (x ∷ (filter p xs ++ filter q xs)) (filter p xs ++ x ∷ filter q xs) parted
+    (IsPermutation-sym (filter p xs ++ x ∷ filter q xs) (x ∷ (filter p xs ++ filter q xs)) (IsPermutation-middle (filter p xs) x (filter q xs)))
+
+pub placed_permuted : (xs : List Note) → IsPermutation xs (in_place xs)
+placed_permuted [] = IsPermutation-refl []
+placed_permuted (x ∷ xs) = IsPermutation-trans (x ∷ xs) (x ∷ in_place xs) (list_with place_of_note x (in_place xs)) (IsPermutation-cons x xs (in_place xs) (placed_permuted xs)) (put_permuted x (in_place xs))
+
+pub placed_in_order : (xs : List Note) → IsDistinct same_place xs → AreInOrder place_of_note (in_place xs)
+placed_in_order [] once = λ i j d lt within. absurd (omega arith)
+placed_in_order (x ∷ xs) once =
+    put_in_order place_of_note x (in_place xs) (placed_in_order xs (IsDistinct-tail same_place x xs once))
+    (All-permutation (λ y. place_of_note y ≡ place_of_note x → ⊥) xs (in_place xs) (placed_permuted xs)
+    (λ k d lt e. differs (get_or xs k d) (apart_from_distinct same_place (x ∷ xs) 0 (suc k) d once (omega arith) (omega arith)) e))
+  where
+    differs : (y : Note) → same_place x y ≡ false → place_of_note y ≡ place_of_note x → ⊥
+    differs y h e = grind (arith, nat_tests)
+
+-- ---- the notes of events
+
+pub are_notes : (last : ℕ) (events : List Event) (notes : List Note) → AreKept last events notes → AreInOrder place_of_note notes → AreNotes last events notes
+are_notes last events notes h order = record { in_order = order; kept = h.kept }
+
+-- so many notes are kept
+pub so_many : (last : ℕ) (events : List Event) (kept : List Note) → AreKept last events kept → (notes : List Note) × AreNotes last events notes × (length notes ≡ length kept)
+so_many last events kept h =
+    let notes = in_place kept in
+    let moved = placed_permuted kept in
+    (notes, are_notes last events notes (kept_permuted last events kept notes h moved) (placed_in_order kept h.once), length_permutation kept notes moved)

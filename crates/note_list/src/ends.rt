@@ -1,4 +1,4 @@
-ghost use Rattle.std.specs.Prelude.{◌≡◌, ◌+◌, ◌*◌, All, IfOk, length};
+ghost use Rattle.std.specs.Prelude.{◌≡◌, ◌<◌, ◌+◌, ◌*◌, All, IfOk, IfSome, length};
 ghost use Rattle.note_list.specs.Ends.{ends_from, note_from};
 ghost use Rattle.note_list.specs.Pairing.{IsPlayable};
 
@@ -22,8 +22,8 @@ impl Model for Ends {
     ghost invariant = { λ e. length e.ticks.items ≡ 2048 };
 }
 
-/// Where the next end of a note of this channel and key stands.
-fn place_of(channel: u8, key: u8) -> usize
+/// Where the entry of this channel and key stands in a table of them.
+pub fn place_of(channel: u8, key: u8) -> usize
     ensures { result ≡ 128 * channel + key }
 {
     128 * usize::from(channel) + usize::from(key)
@@ -45,6 +45,8 @@ impl Ends {
         requires { IsPlayable event.what }
         ensures note { result ≡ note_from self.old event.tick event.what }
         ensures ends { self.new ≡ ends_from self.old event.tick event.what }
+        ensures channel { IfSome result (λ n. n.channel < 16) }
+        ensures key { IfSome result (λ n. n.key < 128) }
     {
         match event.what {
             What::On { channel, key } => {

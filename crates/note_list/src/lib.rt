@@ -2,10 +2,11 @@
 //! its channel and key, or with the file. Of notes of one channel, key and onset the one with the greatest end is kept.
 #![tactic(auto)]
 
-mod begun;
 mod ends;
 mod fault;
+mod kept;
 mod laws;
+mod onsets;
 mod pairing;
 
 pub use fault::NoteFault;

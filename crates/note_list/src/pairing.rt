@@ -2,17 +2,13 @@ ghost use Rattle.std.specs.Prelude.{◌≡◌, ◌<◌, ◌≤◌, ◌↔◌, Al
 ghost use Rattle.std.specs.List.Sorted.{IsNonDecreasing, IsPermutation, IsSortedByKey};
 ghost use Rattle.std.specs.Cmp.Lexicographic.{slice_cmp};
 ghost use Rattle.std.specs.Ordering.{nat_cmp};
-ghost use Rattle.rhythm_base.specs.Performance.{place_of_note};
 ghost use Rattle.note_list.specs.Pairing.{IsEventOf, ArePaired, AreSilent, IsNoteFault, IsPlayed, begins, rank_of_note};
 ghost use Rattle.note_list.specs.declared.fault.NoteFault.TheVariants.{Memory};
 
-use crate::begun::begun;
 use crate::fault::NoteFault;
+use crate::kept::kept;
 use rhythm_base::{Event, Note, What};
 use std::alloc::{AllocError, Global};
-
-/// The most notes of a performance.
-const MOST_NOTES: usize = 65_536;
 
 /// By it notes stand by channel, onset and key, and of those that agree in these the one with the greatest end first.
 fn rank_of(note: &Note) -> [u64; 4]
@@ -24,12 +20,6 @@ fn rank_of(note: &Note) -> [u64; 4]
         u64::from(note.key),
         u64::MAX - note.end,
     ]
-}
-
-fn place_of(note: &Note) -> [u64; 3]
-    ensures { result ≡ place_of_note note.now }
-{
-    [u64::from(note.channel), note.onset, u64::from(note.key)]
 }
 
 /// A note begins with it.
@@ -109,18 +99,7 @@ pub fn pair(alloc: Global, events: &[Event], last: u64) -> Result<Vec<Note>, Not
     if are_silent(events) {
         return Err(NoteFault::NoNotes);
     }
-    let mut notes = begun(alloc, events, last)?;
+    let mut notes = kept(alloc, events, last)?;
     put_in_order(alloc, &mut notes)?;
-    notes.dedup_by_key(
-        |note: &mut Note|
-            ensures place { result ≡ place_of_note note.old }
-            ensures same { note.new ≡ note.old }
-        { place_of(note) },
-    );
-    if notes.len() > MOST_NOTES {
-        return Err(NoteFault::TooManyNotes {
-            count: notes.len() as u64,
-        });
-    }
     Ok(notes)
 }

@@ -68,7 +68,7 @@ all_left : {X : Type 0} (P : X → Type 0) (xs ys : List X) → All P (xs ++ ys)
 all_left P [] ys h = All-nil P
 all_left P (x ∷ xs) ys h = all_cons P x xs (all_head P x (xs ++ ys) h) (all_left P xs ys (all_tail P x (xs ++ ys) h))
 
-all_right : {X : Type 0} (P : X → Type 0) (xs ys : List X) → All P (xs ++ ys) → All P ys
+pub all_right : {X : Type 0} (P : X → Type 0) (xs ys : List X) → All P (xs ++ ys) → All P ys
 all_right P [] ys h = h
 all_right P (x ∷ xs) ys h = all_right P xs ys (all_tail P x (xs ++ ys) h)
 

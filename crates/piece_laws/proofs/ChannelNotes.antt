@@ -76,11 +76,6 @@ channel_begun last channel (e ∷ es) = by e.what refl (channel_begun last chann
 
 -- ---- one voice
 
--- the notes of a voice's events are its notes
-pub voice_begun : (last : ℕ) (notes : List Note) → begun last (flat_map played_note notes) ≡ notes
-voice_begun last [] = refl
-voice_begun last (n ∷ ns) = rw (self n.channel, self n.key) (ap (λ (l : List Note). n ∷ l) (voice_begun last ns))
-
 voice_up : (voice low end : ℕ) (notes : List Note) → AreSung voice low notes end → Up low (map (λ e. e.tick) (flat_map played_note notes))
 voice_up voice low end [] sung = tt
 voice_up voice low end (n ∷ ns) sung = (sung.0.after, (omega (arith, sung.0.order), voice_up voice n.end end ns sung.1))

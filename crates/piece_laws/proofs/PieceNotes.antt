@@ -16,7 +16,8 @@ use Rattle.rhythm_gen.specs.Draws.{draw}
 use Rattle.rhythm_gen.specs.Voice.{voice_notes}
 use Rattle.rhythm_gen.proofs.Sung.{AreSung, voice_sung}
 use Rattle.piece_laws.specs.Events.{meant_file, meant_notes, played_conductor, played_note}
-use Rattle.piece_laws.proofs.ChannelNotes.{channel_begun, channel_events, channel_is, no_events, of_channel, own_events, voice_begun}
+use Rattle.smf_laws.proofs.PlayedNotes.{notes_begun}
+use Rattle.piece_laws.proofs.ChannelNotes.{channel_begun, channel_events, channel_is, no_events, of_channel, own_events}
 use Rattle.piece_laws.proofs.NoteEvents.{begins_with, from_event, out_of}
 use Rattle.piece_laws.proofs.PieceEvents.{IsOfPiece, conductor_events, voice_events}
 use Rattle.rhythm_base.proofs.NotePlaces.{ArePlacedAlike}
@@ -115,10 +116,10 @@ module _ (number bars : ℕ) where
     merged_events = all_merged (IsOfPiece (1920 * bars)) track_events merged h all_events
 
     pub upper_begun : filter (λ n. n.channel == 0) (begun last merged) ≡ upper_notes
-    upper_begun = channel_begun last 0 merged ∙ ap (begun last) (channel_is 0 (1920 * bars) upper_notes track_events merged upper_sung h only_upper) ∙ voice_begun last upper_notes
+    upper_begun = channel_begun last 0 merged ∙ ap (begun last) (channel_is 0 (1920 * bars) upper_notes track_events merged upper_sung h only_upper) ∙ notes_begun last upper_notes
 
     lower_begun : filter (λ n. n.channel == 1) (begun last merged) ≡ lower_notes
-    lower_begun = channel_begun last 1 merged ∙ ap (begun last) (channel_is 1 (1920 * bars) lower_notes track_events merged lower_sung h only_lower) ∙ voice_begun last lower_notes
+    lower_begun = channel_begun last 1 merged ∙ ap (begun last) (channel_is 1 (1920 * bars) lower_notes track_events merged lower_sung h only_lower) ∙ notes_begun last lower_notes
 
     to_piece : (n : Note) → Among n (begun last merged) → Among n (meant_notes number bars)
     to_piece n a =

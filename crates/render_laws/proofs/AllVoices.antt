@@ -19,7 +19,8 @@ use Rattle.smf_writer.proofs.Spines.{HasSpans, events_are, spine_kept, spine_spa
 use Rattle.smf_writer.proofs.StrokeOrder.{DoesNotOverlap, IsEarlier, Succeed, all_of, messages_of_notes, messages_order, notes_apart, notes_have_messages, notes_of, notes_order, notes_within}
 use Rattle.smf_writer.proofs.Voices.{spans_succeed, voice_strokes}
 use Rattle.render_laws.specs.ReadBack.{AreSpineNotesFrom, is_change}
-use Rattle.render_laws.proofs.PlayedNotes.{at_key, played_note, touching}
+use Rattle.render_laws.proofs.PlayedNotes.{at_key, touching}
+use Rattle.smf_laws.proofs.PlayedNotes.{played_note}
 use Rattle.render_laws.proofs.VoiceTracks.{IsTrackOf, track_later, track_passing}
 
 -- ---- one voice

@@ -81,16 +81,3 @@ module _ (channel key : ℕ) where
       by (On c k) is rest = on c k ((c == channel) && (k == key)) refl is rest
       by (Off c k) is rest = off c k ((c == channel) && (k == key)) is rest
       by _ is rest = rest
-
--- ---- notes one after another
-
-abbrev pub played_note : Note → List Event
-played_note n = record { tick = n.onset; what = On n.channel n.key } ∷ record { tick = n.end; what = Off n.channel n.key } ∷ []
-
-self : (n : ℕ) → (n == n) ≡ true
-self n = grind (arith, nat_tests)
-
--- each of which ends before the next begins
-pub notes_begun : (last : ℕ) (notes : List Note) → begun last (flat_map played_note notes) ≡ notes
-notes_begun last [] = refl
-notes_begun last (n ∷ ns) = rw (self n.channel, self n.key) (ap (λ (l : List Note). n ∷ l) (notes_begun last ns))

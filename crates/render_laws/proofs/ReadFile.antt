@@ -37,7 +37,8 @@ use Rattle.smf_writer.proofs.StrokeOrder.{IsEarlier}
 use Rattle.render_laws.specs.Laws.{RenderedFilesReadBack}
 use Rattle.render_laws.specs.ReadBack.{RendersBack, is_change}
 use Rattle.render_laws.proofs.AllVoices.{HasVoices, all_voices, key_up}
-use Rattle.render_laws.proofs.PlayedNotes.{at_key, key_begun, merged_passing, notes_begun, played_note, touching}
+use Rattle.render_laws.proofs.PlayedNotes.{at_key, key_begun, merged_passing, touching}
+use Rattle.smf_laws.proofs.PlayedNotes.{notes_begun, played_note}
 use Rattle.render_laws.proofs.ReadChanges.{conductor_changes, conductor_later, conductor_silent, later_up}
 
 -- ---- notes that are found key by key are the notes

@@ -13,7 +13,8 @@ use Rattle.smf_writer.specs.NoteMessages.{Message, begins, ends, event_of, messa
 use Rattle.rhythm_base.proofs.Members.{Among, Pairwise, among_contained, among_flat, from_flat, kept_by, out_of, pairs_filter, pairs_from, pairs_join, place_among}
 use Rattle.smf_writer.proofs.MessageOrder.{IsBefore, IsLess, by_late, by_off, by_tick, late_of, place}
 use Rattle.smf_writer.proofs.StrokeOrder.{DoesNotOverlap, IsEarlier, IsWithin}
-use Rattle.render_laws.proofs.PlayedNotes.{at_key, played_note, touching}
+use Rattle.render_laws.proofs.PlayedNotes.{at_key, touching}
+use Rattle.smf_laws.proofs.PlayedNotes.{played_note}
 
 -- what is known of the track of a voice: its messages are those of the notes, in their order, and notes of one key do not overlap
 pub record IsTrackOf (channel last : ℕ) (notes : List Note) (events : List Event) : Type 0 where

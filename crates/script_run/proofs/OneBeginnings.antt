@@ -74,7 +74,7 @@ whole_front script bytes rest are =
 abbrev next_lines : List ℕ → List (List ℕ)
 next_lines bytes = whole_lines bytes ++ begun_line bytes ∷ []
 
--- those, and the line that a newline ends behind them
+-- those, and the line that a newline ends after them
 newline_front : (script bytes rest : List ℕ) → script ≡ bytes ++ 10 ∷ rest → (tail : List (List ℕ)) × (script_lines script ≡ next_lines bytes ++ tail)
 newline_front script bytes rest are =
     let next = goes_on (bytes ++ 10 ∷ []) (next_lines bytes) [] rest (newline_more bytes (whole_lines bytes) (begun_line bytes) (lines_split bytes)) in

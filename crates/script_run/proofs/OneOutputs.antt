@@ -21,14 +21,14 @@ use Rattle.script_run.proofs.Runs.{run_append, run_end}
 
 -- ---- how the bytes end
 
--- where reading stops: at the end of the script, behind a line that ends it, or before a byte that is one too many
+-- where reading stops: at the end of the script, after a line that ends it, or before a byte that is one too many
 data End : Type 0 where
   at_end : End
   at_quit : End
   over_script : End
   over_line : End
 
--- what stands behind the bytes that are answered
+-- what stands after the bytes that are answered
 abbrev StopsAt : End → List ℕ → List ℕ → Type 0
 StopsAt at_end bytes rest = rest ≡ []
 StopsAt at_quit bytes rest = (more : List ℕ) × (rest ≡ 10 ∷ more) × (length bytes < LONGEST_SCRIPT) × Quits (begun_line bytes)
@@ -51,7 +51,7 @@ take_more xs ys x y =
     let count : length (xs ++ x ∷ (y ∷ ys)) - 1 ≡ length xs + suc (length ys) = omega (arith, size) in
     ap (λ n. take n (xs ++ x ∷ (y ∷ ys))) count ∙ take-append-add xs (x ∷ (y ∷ ys)) (suc (length ys))
 
--- nothing is answered behind a stop
+-- nothing is answered after a stop
 blocked : (end : End) (bytes rest front : List ℕ) (byte : ℕ) (more : List ℕ) → StopsAt end bytes rest → rest ≡ byte ∷ more → GoesFurther (bytes ++ byte ∷ front) → ⊥
 blocked at_end bytes rest front byte more none is further = let both : byte ∷ more ≡ [] = sym is ∙ none in absurd (cc)
 blocked at_quit bytes rest front byte more (others, newline, room, quits) is further =
@@ -115,7 +115,7 @@ level (y ∷ b) r (x ∷ b') r' e same =
     let next = level b r b' r' others (omega (arith, same)) in
     (ap₂ ◌∷◌ first next.0, next.1)
 
--- behind the same bytes there is one end
+-- after the same bytes there is one end
 one_end : (end end' : End) (bytes rest : List ℕ) → StopsAt end bytes rest → StopsAt end' bytes rest → end ≡ end'
 one_end at_end at_end bytes rest stops stops' = refl
 one_end at_end at_quit bytes rest none (more, is, room, quits) = let both : [] ≡ 10 ∷ more = sym none ∙ is in absurd (cc)

@@ -105,7 +105,7 @@ Formed step = IsWellFormed step.performance
 pub step_leads : (g : Grammar) (earlier later : Performance) (s : Step) → IsHistoryStep g earlier later s → s.performance ≡ earlier
 step_leads g earlier later s (cells, reached, is) = ap (λ (x : Step). x.performance) is
 
--- a step behind those that there are
+-- a step after those that there are
 more_formed : (h : History) (s : Step) (next : Performance) → IsHistory h → IsHistoryStep h.grammar h.present next s → All Formed (h.past ++ s ∷ [])
 more_formed h s next is step =
     All-append Formed h.past (s ∷ []) is.past

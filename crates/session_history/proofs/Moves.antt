@@ -84,7 +84,7 @@ more_room g room more few xs kept =
 pub rested_keeps : (old new : Session) (back on : List Prepared) → KeepsWays old back on → new.grammar ≡ old.grammar → new.performance ≡ old.performance → old.room ≤ new.room
     → KeepsWays new back on
 rested_keeps old new back on keeps grammar performance room =
-    let stays : KeepsWays (record { grammar = old.grammar; performance = old.performance; room = new.room }) back on = record {
+    let stays : KeepsWays (record { grammar = old.grammar; performance = old.performance; workers = new.workers; room = new.room }) back on = record {
       few = keeps.few;
       leads_back = keeps.leads_back;
       leads_on = keeps.leads_on;
@@ -92,8 +92,8 @@ rested_keeps old new back on keeps grammar performance room =
       present = record { lives = keeps.present.lives; short = omega (arith, keeps.present.short, room) };
       future = more_room old.grammar old.room new.room room on keeps.future;
     } in
-    subst (λ g. KeepsWays (record { grammar = g; performance = new.performance; room = new.room }) back on) (sym grammar)
-    (subst (λ p. KeepsWays (record { grammar = old.grammar; performance = p; room = new.room }) back on) (sym performance) stays)
+    subst (λ g. KeepsWays (record { grammar = g; performance = new.performance; workers = new.workers; room = new.room }) back on) (sym grammar)
+    (subst (λ p. KeepsWays (record { grammar = old.grammar; performance = p; workers = new.workers; room = new.room }) back on) (sym performance) stays)
 
 -- ---- a session that moved
 

@@ -7,7 +7,7 @@ use Rattle.session_history.specs.Kept.{kept_steps}
 use Rattle.session_history.specs.Laws.{IsTakenBack}
 use Rattle.session_history.proofs.Histories.{kept_rest, one_last, one_step, step_leads, steps_before}
 
--- of a list with one more behind it, a last part is nothing, or it ends with this one
+-- of a list with one more after it, a last part is nothing, or it ends with this one
 last_part : {X : Type 0} (xs cut kept before : List X) (x y : X) → xs ++ x ∷ [] ≡ cut ++ kept → kept ≡ before ++ y ∷ [] → (xs ≡ cut ++ before) × (x ≡ y)
 last_part xs cut kept before x y whole ends =
     one_last xs (cut ++ before) x y (whole ∙ ap (λ l. cut ++ l) ends ∙ sym (append_assoc cut before (y ∷ [])))

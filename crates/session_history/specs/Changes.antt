@@ -11,7 +11,7 @@ abbrev pub IsHistoryStep : Grammar → Performance → Performance → Step → 
 IsHistoryStep g earlier later step =
     (cells : List (ℕ × ℕ)) × AreReached g later earlier cells × (step ≡ record { performance = earlier; size = length cells })
 
--- An edit is accepted that makes a performance the present: the step to it comes behind the past, of which as much as is kept stays,
+-- An edit is accepted that makes a performance the present: the step to it comes after the past, of which as much as is kept stays,
 -- and nothing is left to redo
 abbrev pub IsEdited : History → Performance → History → Type 0
 IsEdited old next new =
@@ -24,7 +24,7 @@ IsUndone old new =
     (before : List Step) × (step : Step) × (old.past ≡ before ++ step ∷ [])
     × (new ≡ record { grammar = old.grammar; past = before; present = step.performance; future = old.present ∷ old.future })
 
--- the first of what can be redone becomes the present, and the step to it comes behind the past
+-- the first of what can be redone becomes the present, and the step to it comes after the past
 abbrev pub IsRedone : History → History → Type 0
 IsRedone old new =
     (next : Performance) × (later : List Performance) × (step : Step) × (old.future ≡ next ∷ later)

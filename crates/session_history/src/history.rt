@@ -177,7 +177,7 @@ impl History {
             None => Err(NoStep),
             Some(step) => {
                 let committed = self.session.take_back(step, products);
-                self.past.put_behind(committed.back);
+                self.past.put_after(committed.back);
                 Ok(Applied {
                     built: 0,
                     cost: committed.applied.cost,

@@ -72,7 +72,7 @@ impl Steps {
         }
     }
 
-    /// Puts a step behind the others, and lets go of the first ones, where there are too many of them, or of their tables.
+    /// Puts a step after the others, and lets go of the first ones, where there are too many of them, or of their tables.
     #[tactic(auto, using(crate::proofs::Keeping::kept_last))]
     pub(crate) fn put_last(&mut self, step: Prepared)
         ensures kept { self.new ≡ kept_of (self.old ++ step ∷ []) }
@@ -83,8 +83,8 @@ impl Steps {
         self.cut();
     }
 
-    /// Puts a step behind the others.
-    pub(crate) fn put_behind(&mut self, step: Prepared)
+    /// Puts a step after the others.
+    pub(crate) fn put_after(&mut self, step: Prepared)
         requires { length self.old < MOST_STEPS }
         ensures { self.new ≡ self.old ++ step ∷ [] }
     {

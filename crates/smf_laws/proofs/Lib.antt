@@ -2,3 +2,4 @@ pub mod Quantities
 pub mod Messages
 pub mod Tracks
 pub mod Files
+pub mod PlayedNotes

@@ -9,8 +9,8 @@ use crate::header::read_header;
 use crate::smf::Smf;
 use std::alloc::Global;
 
-/// What a Standard MIDI File says, or the first fault in it. The bytes are read once, and memory is taken for the events
-/// alone.
+/// What a Standard MIDI File says, or the first fault in it. The bytes are read once, and memory is taken for events alone:
+/// of a track for as many as its bytes can say, a third of their number.
 #[tactic(auto, unfolding(crate::specs::SmfFile::smf))]
 pub fn read_smf(alloc: Global, bytes: &[u8]) -> Result<Smf, SmfFault>
     // The file's one reading, or the one fault that stands in it.

@@ -1,4 +1,4 @@
-ghost use Rattle.std.specs.Prelude.{◌≡◌, IfOk, map};
+ghost use Rattle.std.specs.Prelude.{◌≡◌, ◌-◌, ◌^◌, IfOk, length, map, min};
 ghost use Rattle.std.specs.List.{flat_map};
 ghost use Rattle.rhythm_base.specs.Events.{IsMerged};
 ghost use Rattle.rhythm_base.specs.Lists.{greatest};
@@ -42,11 +42,22 @@ impl Model for Smf {
 }
 
 impl Smf {
+    /// How many events the tracks have together, or the greatest `usize` where that is more.
+    fn event_count(&self) -> usize
+        ensures { result ≡ min (length (flat_map (λ t. t.events) self.now.tracks)) (2 ^ 64 - 1) }
+    {
+        let mut count: usize = 0;
+        for track in &self.tracks {
+            count = count.saturating_add(track.events.len());
+        }
+        count
+    }
+
     /// The events of all tracks, track after track.
     fn events(&self, alloc: Global) -> Result<Vec<Event>, AllocError>
         ensures { IfOk result (λ v. v.items ≡ flat_map (λ t. t.events) self.now.tracks) }
     {
-        let mut events = Vec::new(alloc);
+        let mut events = Vec::with_capacity(alloc, self.event_count())?;
         for track in &self.tracks {
             events.extend_from_slice(track.events.as_slice())?;
         }

@@ -14,7 +14,8 @@ pub(crate) fn read_track(alloc: Global, bytes: &[u8], at: usize) -> Result<Track
     requires { at ≤ length bytes.now }
     ensures { GivesFile result (track bytes.now at) }
 {
-    let mut events = Vec::new(alloc);
+    // No listed event has fewer than three bytes: a delta time, and two data bytes under a running status.
+    let mut events = Vec::with_capacity(alloc, (bytes.len() - at) / 3)?;
     let mut last = 0;
     let mut running = None;
     let mut place = at;

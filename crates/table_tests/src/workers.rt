@@ -3,7 +3,7 @@ ghost use Rattle.std.specs.Prelude.{◌≡◌, ◌≤◌, All, IfOk};
 
 use crate::bars::{bar_of, chords_of};
 use crate::grammars::{USUAL, read};
-use bar_pool::build_cells;
+use bar_pool::{Order, Rooms, build_cells};
 use grammar_plan::Plan;
 use least_cost::{BarTable, Steps};
 use rhythm_base::{BarInput, Grammar, Tag};
@@ -78,17 +78,15 @@ fn a_worker_draws_what_a_held_one_leaves(rt: HostRuntime) -> Result<(), Fail> {
     let inputs = bars(alloc, &grammar, 4)?;
     for held in 0..3u64 {
         let gate = Holding::new(held);
+        let order = Order {
+            grammar: &grammar,
+            plan: &plan,
+            inputs: inputs.as_slice(),
+            gate: &gate,
+        };
+        let mut rooms = Rooms::new(alloc);
         let mut builds = Steps::<ByWorkers>::zero();
-        let tables = build_cells(
-            &rt,
-            alloc,
-            &grammar,
-            &plan,
-            inputs.as_slice(),
-            2,
-            &gate,
-            &mut builds,
-        )?;
+        let tables = build_cells(&rt, alloc, &order, 2, &mut rooms, &mut builds)?;
         assert!(rt; tables.len() == 4 && builds.count() == 4, "number {held}");
         assert!(rt;
             !gate.gave_up.load(Ordering::SeqCst),
@@ -119,29 +117,18 @@ fn any_number_of_workers_gives_equal_tables(rt: HostRuntime) -> Result<(), Fail>
     let grammar = read(alloc, USUAL)?;
     let plan = Plan::of(alloc, &grammar)?;
     let inputs = bars(alloc, &grammar, 12)?;
+    let order = Order {
+        grammar: &grammar,
+        plan: &plan,
+        inputs: inputs.as_slice(),
+        gate: &OpenGate,
+    };
+    let mut rooms = Rooms::new(alloc);
     let mut builds = Steps::<ByWorkers>::zero();
-    let alone = build_cells(
-        &rt,
-        alloc,
-        &grammar,
-        &plan,
-        inputs.as_slice(),
-        1,
-        &OpenGate,
-        &mut builds,
-    )?;
+    let alone = build_cells(&rt, alloc, &order, 1, &mut rooms, &mut builds)?;
     assert!(rt; alone.len() == 12);
     for workers in [2u32, 3, 16] {
-        let tables = build_cells(
-            &rt,
-            alloc,
-            &grammar,
-            &plan,
-            inputs.as_slice(),
-            workers,
-            &OpenGate,
-            &mut builds,
-        )?;
+        let tables = build_cells(&rt, alloc, &order, workers, &mut rooms, &mut builds)?;
         assert!(rt; tables.len() == 12);
         for (one, other) in alone.iter().zip(tables.iter()) {
             assert!(rt; are_equal(one, other), "by {workers} workers");
@@ -158,17 +145,15 @@ fn the_tables_differ(rt: HostRuntime) -> Result<(), Fail> {
     let grammar = read(alloc, USUAL)?;
     let plan = Plan::of(alloc, &grammar)?;
     let inputs = bars(alloc, &grammar, 12)?;
+    let order = Order {
+        grammar: &grammar,
+        plan: &plan,
+        inputs: inputs.as_slice(),
+        gate: &OpenGate,
+    };
+    let mut rooms = Rooms::new(alloc);
     let mut builds = Steps::<ByWorkers>::zero();
-    let tables = build_cells(
-        &rt,
-        alloc,
-        &grammar,
-        &plan,
-        inputs.as_slice(),
-        16,
-        &OpenGate,
-        &mut builds,
-    )?;
+    let tables = build_cells(&rt, alloc, &order, 16, &mut rooms, &mut builds)?;
     for (one, other) in tables.iter().zip(tables.iter().skip(1)) {
         assert!(rt; !are_equal(one, other));
     }
@@ -180,8 +165,15 @@ fn no_cells_by_four_workers(rt: HostRuntime) -> Result<(), Fail> {
     let alloc = rt.alloc();
     let grammar = read(alloc, USUAL)?;
     let plan = Plan::of(alloc, &grammar)?;
+    let order = Order {
+        grammar: &grammar,
+        plan: &plan,
+        inputs: &[],
+        gate: &OpenGate,
+    };
+    let mut rooms = Rooms::new(alloc);
     let mut builds = Steps::<ByWorkers>::zero();
-    let tables = build_cells(&rt, alloc, &grammar, &plan, &[], 4, &OpenGate, &mut builds)?;
+    let tables = build_cells(&rt, alloc, &order, 4, &mut rooms, &mut builds)?;
     assert!(rt; tables.is_empty() && builds.count() == 0);
     Ok(())
 }

@@ -5,11 +5,8 @@ use Rattle.rhythm_base.specs.declared.chord.Chord.{Chord}
 use Rattle.rhythm_base.specs.declared.event.Tempo.{Tempo}
 use Rattle.rhythm_base.specs.declared.note.Note.{Note}
 use Rattle.rhythm_base.specs.Chords.{AreChords, StandsApart}
+use Rattle.performance_laws.proofs.ChordLemmas.{all_right}
 use Rattle.rhythm_base.proofs.OrderedLists.{all_head, all_tail}
-
-all_right : {X : Type 0} (P : X → Type 0) (xs ys : List X) → All P (xs ++ ys) → All P ys
-all_right P [] ys h = h
-all_right P (x ∷ xs) ys h = all_right P xs ys (all_tail P x (xs ++ ys) h)
 
 module _ (tempos : List Tempo) (division window : ℕ) where
   -- the second notes stand apart from each of the first

@@ -1,3 +1,4 @@
 pub mod NoteBreaks
 pub mod ChordParts
 pub mod Gathered
+mod OneBreaks

@@ -1,5 +1,5 @@
 -- Where the notes of a voice can be cut, and each part has chords of its own.
-use Rattle.std.specs.Prelude.{◌≤◌, ◌<◌, ℕ, List, All, drop, length, take}
+use Rattle.std.specs.Prelude.{◌≡◌, ◌≤◌, ◌<◌, ℕ, List, All, drop, length, take}
 use Rattle.rhythm_base.specs.declared.event.Tempo.{Tempo}
 use Rattle.rhythm_base.specs.declared.note.Note.{Note}
 use Rattle.rhythm_base.specs.Chords.{StandsApart}
@@ -20,3 +20,10 @@ pub record IsNextBreak (tempos : List Tempo) (division window : ℕ) (notes : Li
   pub within : place ≤ length notes
   pub break : IsBreak tempos division window notes place
   pub first : (k : ℕ) → least ≤ k → k < place → IsBreak tempos division window notes k → ⊥
+
+-- up to a place there is one last break at most, and from a place on one next break at most
+pub record BreaksAreOne : Type 0 where
+  pub last : (tempos : List Tempo) (division window : ℕ) (notes : List Note) (most some other : ℕ)
+      → IsLastBreak tempos division window notes most some → IsLastBreak tempos division window notes most other → some ≡ other
+  pub next : (tempos : List Tempo) (division window : ℕ) (notes : List Note) (least some other : ℕ)
+      → IsNextBreak tempos division window notes least some → IsNextBreak tempos division window notes least other → some ≡ other

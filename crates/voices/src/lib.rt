@@ -8,4 +8,4 @@ mod laws;
 
 pub use breaks::{break_from, break_up_to};
 pub use chords::chords_of;
-pub use laws::{chords_rise, no_chord_ends_before_it_begins};
+pub use laws::{breaks_are_one, chords_rise, no_chord_ends_before_it_begins};

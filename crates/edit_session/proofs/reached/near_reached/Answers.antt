@@ -9,7 +9,7 @@ use Rattle.rhythm_base.specs.Voices.{notes_of_voice}
 use Rattle.voices.specs.Voice.{AreNotesOfVoice}
 use Rattle.edit_session.specs.declared.span.Span.{Span}
 use Rattle.edit_session.specs.ReachedCells.{AreOtherInputsWithin, place_pair}
-use Rattle.edit_session.specs.Spans.{IsSpan}
+use Rattle.edit_session.specs.Spans.{IsNoteSpan}
 use Rattle.edit_session.proofs.LocalCells.{all_within}
 use Rattle.edit_session.proofs.NoteParts.{between_of_voice, part_can_be_cut}
 use Rattle.edit_session.proofs.VoiceNotes.{notes_are_voice}
@@ -71,11 +71,11 @@ returns c =
     (subst (λ (ns : List Note). AreChords c.args.tempo_map.now.tempos c.division-division.result c.grammar.inside.window (between first end ns) cs) is c.in_ok-chords.ensures))) in
     let low : ℕ = c.args.known.first_bar in
     let high : ℕ = c.args.known.bar_end in
-    let spans : IsSpan q.tempos q.division g.window earlier own q.bars q.last low high span =
-    subst (λ ts. IsSpan ts q.division g.window earlier own q.bars q.last low high span) c.requires.tempos
-    (subst (λ w. IsSpan c.args.tempo_map.now.tempos q.division w earlier own q.bars q.last low high span) window
-    (subst (λ (ns : List Note). IsSpan c.args.tempo_map.now.tempos q.division c.grammar.inside.window ns own q.bars q.last low high span) earlier_is
-    (subst (λ (ns : List Note). IsSpan c.args.tempo_map.now.tempos q.division c.grammar.inside.window c.voice_notes-earlier.result.now ns q.bars q.last low high span) is
+    let spans : IsNoteSpan q.tempos q.division g.window earlier own q.bars q.last low high span =
+    subst (λ ts. IsNoteSpan ts q.division g.window earlier own q.bars q.last low high span) c.requires.tempos
+    (subst (λ w. IsNoteSpan c.args.tempo_map.now.tempos q.division w earlier own q.bars q.last low high span) window
+    (subst (λ (ns : List Note). IsNoteSpan c.args.tempo_map.now.tempos q.division c.grammar.inside.window ns own q.bars q.last low high span) earlier_is
+    (subst (λ (ns : List Note). IsNoteSpan c.args.tempo_map.now.tempos q.division c.grammar.inside.window c.voice_notes-earlier.result.now ns q.bars q.last low high span) is
     c.span_of-span.ensures))) in
     let within : AreOtherInputsWithin channel (inputs g q.pins channel q.last q.bars cs) c.args.tables.now span.first_bar span.bar_end (map place_pair c.in_ok-reached.reached.cells.items) c.in_ok-reached.reached.inputs.items =
     subst (λ (l : List Chord). AreOtherInputsWithin channel (inputs g q.pins channel q.last q.bars l) c.args.tables.now span.first_bar span.bar_end (map place_pair c.in_ok-reached.reached.cells.items) c.in_ok-reached.reached.inputs.items)

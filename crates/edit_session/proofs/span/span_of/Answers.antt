@@ -1,7 +1,7 @@
 use Rattle.std.proofs.Common.{◌≡◌, ℕ, List, ◌∙◌, subst, arith}
 use Rattle.rhythm_base.specs.declared.note.Bar.{Bar}
 use Rattle.rhythm_base.specs.Barlines.{barline}
-use Rattle.edit_session.specs.Spans.{IsBarEnd, IsFirstBar, IsPart}
+use Rattle.edit_session.specs.Spans.{IsBarEnd, IsFirstBar, IsNotePart}
 use Rattle.edit_session.proofs.BarStarts.{earlier_bar, later_end}
 use Rattle.edit_session.proofs.span.span_of.Goals as goal
 
@@ -30,9 +30,9 @@ returns c =
     record {
       first = earlier_bar tempos q.division window before after q.bars q.last one first (omega (arith, c.min-first_bar.ensures)) first_is;
       end = later_end tempos q.division window before after q.bars q.last another end (omega (arith, c.max-bar_end.ensures)) (omega (arith, c.max-bar_end.ensures, end_is.within, c.requires.end)) end_is;
-      part = subst (λ d. IsPart tempos d window after (barline q.bars q.last first) (barline q.bars q.last end) note note_end) c.division-division.ensures.value
-          (subst (λ l. IsPart tempos division window after l (barline q.bars q.last end) note note_end) low
-          (subst (λ h. IsPart tempos division window after c.barline_at-low.result h note note_end) high c.part_of-part.ensures));
+      part = subst (λ d. IsNotePart tempos d window after (barline q.bars q.last first) (barline q.bars q.last end) note note_end) c.division-division.ensures.value
+          (subst (λ l. IsNotePart tempos division window after l (barline q.bars q.last end) note note_end) low
+          (subst (λ h. IsNotePart tempos division window after c.barline_at-low.result h note note_end) high c.part_of-part.ensures));
       from = omega (arith, c.min-first_bar.ensures);
       up_to = omega (arith, c.max-bar_end.ensures);
     }

@@ -9,7 +9,7 @@ pub events-init : goal.events-init
 events-init c =
     let P : List Event → Type 0 = λ es. ComesTo c.args.bytes.now es 0 None c.args.at (track c.args.bytes.now c.args.at) in
     record {
-      so_far = subst P (sym c.new-events.ensures.items) (starts c.args.bytes.now c.args.at (track c.args.bytes.now c.args.at) refl);
+      so_far = subst P (sym c.in_ok-events.ensures.items) (starts c.args.bytes.now c.args.at (track c.args.bytes.now c.args.at) refl);
       within = c.requires;
       tick = omega arith;
     }
@@ -17,11 +17,11 @@ events-init c =
 pub returns-in_err-step : goal.returns-in_err-step
 returns-in_err-step c =
     let s = c.events in
-    let p = err_from_is_err_and c.from_residual.result c.from_residual.ensures.1 in
+    let p = err_from_is_err_and c.from_residual-in_err-step.result c.from_residual-in_err-step.ensures.1 in
     rw (p.1, p.2) (λ _. fails c.args.bytes.now s.events.items s.last s.running s.place c.in_err-step.field-0.0 (track c.args.bytes.now c.args.at) c.events-test.true (sym c.in_err-step.ensures.value) s.invariant.so_far)
 
-pub events-preserved-in-Continue-branch-2 : goal.events-preserved-in-Continue-branch-2
-events-preserved-in-Continue-branch-2 c =
+pub events-preserved-in-Continue-branch-3 : goal.events-preserved-in-Continue-branch-3
+events-preserved-in-Continue-branch-3 c =
     let s = c.events in
     let step = c.in_ok-step in
     record {

@@ -43,8 +43,8 @@ returns-clause-units c =
               part-quiet k u last count (end_of_earlier k count e * k.resolution) e (λ v low near. c.requires.split v (omega (arith, far, low, alike)) near) refl c.requires.within (get_or c.fill.new.quiet.items u d)
               (subst (λ l. IsUnitPart l (end_of_earlier k count e * k.resolution) last u (get_or c.fill.new.quiet.items u d)) ticks (c.in_ok-fill.ensures.part (end_of_earlier k count e * k.resolution) u d point' far (omega (arith, low, far, filled))))
         ])
-        | inr behind ↦
-            let last_one : length c.fill.new.quiet.items ≡ u = omega (arith, behind, h, one_more) in
+        | inr further ↦
+            let last_one : length c.fill.new.quiet.items ≡ u = omega (arith, further, h, one_more) in
             subst (λ v. IsQuietFrom k v (get_or (c.fill.new.quiet.items ++ c.none.result ∷ []) v d)) last_one
             (subst (IsQuietFrom k (length c.fill.new.quiet.items)) (sym (get_or-append_seam c.fill.new.quiet.items c.none.result [] d)) (λ some. absurd (omega (arith, some, c.none.ensures))))
       ]);

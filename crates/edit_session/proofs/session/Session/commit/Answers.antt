@@ -46,7 +46,7 @@ exchange-exchanged-requires-clause-memory g c κs within =
     let next : Performance = c.parts-next.result.0 in
     let tables = c.parts-next.result.1.items in
     let place : ℕ = vec_capacity c.parts-next.result.2 in
-    let suits = suits_kept kept.grammar kept.performance kept.room c.args.self.now c.args.prepared next tables place c.self.view_is c.parts-next.ensures.next c.parts-next.ensures.tables c.parts-next.ensures.place
+    let suits = suits_kept kept.grammar kept.performance kept.workers kept.room c.args.self.now c.args.prepared next tables place c.self.view_is c.parts-next.ensures.next c.parts-next.ensures.tables c.parts-next.ensures.place
     c.requires.suits in
     place_for_next kept.grammar kept.performance kept.workers kept.room kept.voices.items c.as_mut_slice-voices.result.now (record { next = next; tables = tables; place = place }) (length c.bars-bars.result.now)
     c.self.invariant suits c.as_mut_slice-voices.ensures.value (ap length c.bars-bars.ensures.value)

@@ -36,7 +36,7 @@ invariant_of-self-in-Some g c =
     let is = c.take_back-committed.ensures in
     let way = next_way kept.session kept.past kept.future c.self.invariant c.take_first.new.self c.in-Some.step c.in-Some.ensures in
     let moved = gone_there kept.session now c.in-Some.step back way.1 is.grammar is.performance is.room is.back is.suits_back in
-    subst (λ past. KeepsWays now past c.take_first.new.self) (sym c.put_behind.ensures)
+    subst (λ past. KeepsWays now past c.take_first.new.self) (sym c.put_after.ensures)
     (redone_keeps kept.session now kept.past kept.future c.in-Some.step back c.self.invariant moved c.take_first.new.self c.in-Some.ensures)
 
 pub returns-in-Some-clause-redone : goal.returns-in-Some-clause-redone
@@ -47,8 +47,8 @@ returns-in-Some-clause-redone g c =
     let is = c.take_back-committed.ensures in
     let way = next_way kept.session kept.past kept.future c.self.invariant c.take_first.new.self c.in-Some.step c.in-Some.ensures in
     let moved = gone_there kept.session now c.in-Some.step back way.1 is.grammar is.performance is.room is.back is.suits_back in
-    subst (λ h. IsRedone h (seen now c.put_behind.new.self c.take_first.new.self)) c.self.view_is
-    (subst (λ past. IsRedone (seen kept.session kept.past kept.future) (seen now past c.take_first.new.self)) (sym c.put_behind.ensures)
+    subst (λ h. IsRedone h (seen now c.put_after.new.self c.take_first.new.self)) c.self.view_is
+    (subst (λ past. IsRedone (seen kept.session kept.past kept.future) (seen now past c.take_first.new.self)) (sym c.put_after.ensures)
     (redone_is kept.session now kept.past kept.future c.in-Some.step back moved c.take_first.new.self c.in-Some.ensures))
 
 pub returns-in-Some-clause-products : goal.returns-in-Some-clause-products

@@ -1,0 +1,100 @@
+-- Every command line has an outcome.
+use Rattle.std.proofs.Common.{◌≡◌, inl, inr, ℕ, List, subst, refl, Option, Some, None, Result, Ok, Err}
+use Rattle.rhythm_app.specs.Asked.{Asked, help, version, write, answer, fit, too_many_candidates, follow, notes, events, generate, drill, asked_by}
+use Rattle.rhythm_app.specs.Commands.{HasOutcomeOf, file_content}
+use Rattle.rhythm_app.specs.Outcome.{AreFilesRead, AreInTurn, AreInputs, IsAnswering, IsDrilling, IsFitting, IsFollowing, IsListing, IsLoading, IsNoting, IsPieceMade, IsPieceOf, IsRead, IsScoreRead, IsUnderstood, IsWriting, Ready, grammar_tests, kern_tests, midi_tests}
+use Rattle.rhythm_app.specs.declared.stop.Stop.{Stop}
+use Rattle.rhythm_app.specs.declared.stop.Stop.TheVariants.{TooManyCandidates, Usage}
+use Rattle.rhythm_base.specs.Grammar.{Grammar}
+use Rattle.rhythm_base.specs.Performance.{IsWellFormed, Performance}
+use Rattle.rhythm_base.specs.Readable.{IsReadable}
+use Rattle.rhythm_ports.specs.Files.{File}
+use Rattle.outcome_laws.specs.Laws.{AreBytes, HoldBytes, RunsHaveOutcomes}
+use Rattle.outcome_laws.proofs.Answerings.{some_answering}
+use Rattle.outcome_laws.proofs.Drillings.{some_drilling}
+use Rattle.outcome_laws.proofs.FileTests.{content_bytes, loaded_formed, read_in_range, score_in_range, understood_readable}
+use Rattle.outcome_laws.proofs.Fittings.{some_fitting}
+use Rattle.outcome_laws.proofs.Followings.{some_following}
+use Rattle.outcome_laws.proofs.Listings.{some_listing}
+use Rattle.outcome_laws.proofs.Loadings.{some_loading}
+use Rattle.outcome_laws.proofs.Notings.{some_noting}
+use Rattle.outcome_laws.proofs.Pieces.{some_piece}
+use Rattle.outcome_laws.proofs.Writings.{some_writing}
+
+-- it comes to something, or to a stop
+abbrev ComesTo : {T : Type 0} → (Result T Stop → Type 0) → Type 0
+ComesTo {T} outcome = (r : Result T Stop) × outcome r
+
+-- where a test comes to something, and what follows each value that passes it does too
+in_turn : {T U : Type 0} (first : Result T Stop → Type 0) (next : T → Result U Stop → Type 0) → ComesTo first → ((x : T) → first (Ok x) → ComesTo (next x)) → ComesTo (AreInTurn first next)
+in_turn {T} {U} first next (Err s, is) nexts = (Err s, inl is)
+in_turn {T} {U} first next (Ok x, is) nexts = go (nexts x is)
+  where
+    go : ComesTo (next x) → ComesTo (AreInTurn first next)
+    go (Ok y, own) = (Ok y, (x, is, own))
+    go (Err s, own) = (Err s, inr (x, is, own))
+
+-- ---- commands on a MIDI file and a grammar
+
+same_inputs : (i : Grammar × Performance) (g : Grammar) (p : Performance) → ◌≡◌ {A = Result (Grammar × Performance) Stop} (Ok i) (Ok (g, p)) → (g, p) ≡ i
+same_inputs i g p e = cc
+
+module _ (midi grammar : List ℕ) (bytes : AreBytes midi) where
+  some_inputs : ComesTo (AreInputs midi grammar)
+  some_inputs =
+      in_turn (IsRead midi) (λ f. AreInTurn (IsUnderstood grammar) (λ g. AreInTurn (IsLoading f) (λ p r. r ≡ Ok (g, p)))) (midi_tests midi, refl)
+      (λ f read. in_turn (IsUnderstood grammar) (λ g. AreInTurn (IsLoading f) (λ p r. r ≡ Ok (g, p))) (grammar_tests grammar, refl)
+      (λ g _. in_turn (IsLoading f) (λ p r. r ≡ Ok (g, p)) (some_loading f (read_in_range midi bytes f read)) (λ p _. (Ok (g, p), refl))))
+
+  sound_inputs : (i : Grammar × Performance) → AreInputs midi grammar (Ok i) → IsReadable i.0 × IsWellFormed i.1
+  sound_inputs i (f, read, (g, understood, (p, loaded, is))) =
+      subst (λ (x : Grammar × Performance). IsReadable x.0 × IsWellFormed x.1) (same_inputs i g p is) (understood_readable grammar g understood, loaded_formed f p loaded)
+
+  of_files : (last : Grammar → Performance → Result Ready Stop → Type 0) → ((g : Grammar) (p : Performance) → IsReadable g → IsWellFormed p → ComesTo (last g p))
+      → ComesTo (AreFilesRead midi grammar last)
+  of_files last some =
+      in_turn (AreInputs midi grammar) (λ i. last i.0 i.1) some_inputs (λ i are. let sound = sound_inputs i are in some i.0 i.1 sound.0 sound.1)
+
+-- ---- the others
+
+same_piece : (number : ℕ) (p : Performance) → IsPieceMade number (Ok p) → IsPieceOf number p
+same_piece number p (q, piece, e) = let same : q ≡ p = back p q e in subst (IsPieceOf number) same piece
+  where
+    back : (p q : Performance) → ◌≡◌ {A = Result Performance Stop} (Ok p) (Ok q) → q ≡ p
+    back p q e = cc
+
+some_notes : (bytes : List ℕ) → AreBytes bytes → ComesTo (AreInTurn (IsRead bytes) (λ f. AreInTurn (IsLoading f) IsNoting))
+some_notes bytes are =
+    in_turn (IsRead bytes) (λ f. AreInTurn (IsLoading f) IsNoting) (midi_tests bytes, refl)
+    (λ f read. in_turn (IsLoading f) IsNoting (some_loading f (read_in_range bytes are f read)) (λ p loaded. some_noting p (loaded_formed f p loaded)))
+
+some_events : (bytes : List ℕ) → ComesTo (AreInTurn (IsScoreRead bytes) IsListing)
+some_events bytes = in_turn (IsScoreRead bytes) IsListing (kern_tests bytes, refl) (λ score read. some_listing score (score_in_range bytes score read))
+
+some_drill : (number : ℕ) (bytes : List ℕ) → ComesTo (AreInTurn (IsUnderstood bytes) (λ g. AreInTurn (IsPieceMade number) (λ p. IsDrilling g number p)))
+some_drill number bytes =
+    in_turn (IsUnderstood bytes) (λ g. AreInTurn (IsPieceMade number) (λ p. IsDrilling g number p)) (grammar_tests bytes, refl)
+    (λ g understood. in_turn (IsPieceMade number) (λ p. IsDrilling g number p) (some_piece number)
+    (λ p made. some_drilling g number p (understood_readable bytes g understood) (same_piece number p made)))
+
+-- ---- the run
+
+module _ (files : List File) (holds : HoldBytes files) where
+  outcome_of : (asked : Option Asked) → ComesTo (HasOutcomeOf asked files)
+  outcome_of None = (Err Usage, refl)
+  outcome_of (Some help) = (_, refl)
+  outcome_of (Some version) = (_, refl)
+  outcome_of (Some (write f midi grammar)) =
+      of_files (file_content files midi) (file_content files grammar) (content_bytes files midi holds) (IsWriting f) (λ g p readable formed. some_writing g p readable formed f)
+  outcome_of (Some (answer talk midi grammar)) =
+      of_files (file_content files midi) (file_content files grammar) (content_bytes files midi holds) (IsAnswering talk) (some_answering talk)
+  outcome_of (Some (fit midi grammar c)) = of_files (file_content files midi) (file_content files grammar) (content_bytes files midi holds) (IsFitting c) (some_fitting c)
+  outcome_of (Some (too_many_candidates count)) = (Err (TooManyCandidates count), refl)
+  outcome_of (Some (follow midi grammar)) = of_files (file_content files midi) (file_content files grammar) (content_bytes files midi holds) IsFollowing some_following
+  outcome_of (Some (notes midi)) = some_notes (file_content files midi) (content_bytes files midi holds)
+  outcome_of (Some (events kern)) = some_events (file_content files kern)
+  outcome_of (Some (generate number bars)) = (_, refl)
+  outcome_of (Some (drill number grammar)) = some_drill number (file_content files grammar)
+
+pub some_outcome : RunsHaveOutcomes
+some_outcome words files holds = outcome_of files holds (asked_by words)

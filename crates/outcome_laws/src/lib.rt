@@ -1,0 +1,10 @@
+//! That every command line has an outcome, whatever its words and whatever the bytes of its files: each test of a command
+//! passes or names a stop. There is no code here but the public functions whose contracts are the laws.
+#![tactic(auto)]
+
+mod laws;
+
+pub use laws::{
+    answerings_exist, drillings_exist, fittings_exist, followings_exist, listings_exist,
+    loadings_exist, notings_exist, runs_have_outcomes, writings_exist,
+};
