@@ -7,6 +7,7 @@ pub mod KeyFloors
 pub mod KeyLemmas
 pub mod LineLemmas
 pub mod LinesToRead
+pub mod ListingLemmas
 pub mod NumberLemmas
 pub mod PitchLemmas
 pub mod Runs

@@ -2,12 +2,11 @@ ghost use Rattle.kern_reader.specs.EventText as definitions;
 ghost use Rattle.kern_reader.specs.EventText.{event_text, events_text, frac_text, keys_text, kind_text};
 ghost use Rattle.kern_reader.specs.LowestKey.{IsFloor};
 ghost use Rattle.std.specs.List.{flat_map};
-ghost use Rattle.std.specs.Prelude.{◌≡◌, ◌++◌, IfOk, IsTrue, OnOk, decimal};
+ghost use Rattle.std.specs.Prelude.{◌≡◌, ◌++◌, All, IsTrue, OnOk, decimal};
 
 use crate::event::KernEvent;
-use crate::lowest_key::lowest_key;
 use rhythm_base::{Frac, Keys, Span};
-use std::alloc::{AllocError, Global};
+use std::alloc::AllocError;
 
 /// Appends a number in decimal digits.
 fn push_number(text: &mut Vec<u8>, number: u64) -> Result<(), AllocError>
@@ -118,15 +117,17 @@ fn push_event(text: &mut Vec<u8>, low: u8, event: &KernEvent) -> Result<(), Allo
     text.extend_from_slice(b"\n")
 }
 
-/// The lines of events: `SPINE START LENGTH KIND KEYS` and the grace chords, with fractions of a whole note from the
-/// beginning of the score in lowest terms.
-pub fn write_events(alloc: Global, events: &[KernEvent]) -> Result<Vec<u8>, AllocError>
-    ensures { IfOk result (λ v. v.items ≡ events_text events.now) }
+/// Appends the lines of events, whose chords have no key below `low`.
+pub(crate) fn push_lines(
+    text: &mut Vec<u8>,
+    low: u8,
+    events: &[KernEvent],
+) -> Result<(), AllocError>
+    requires { All (λ e. IsFloor low e.span.keys) events.now }
+    ensures { OnOk result (text.new.items ≡ text.old.items ++ events_text events.now) }
 {
-    let mut text = Vec::new(alloc);
-    let low = lowest_key(events);
     'events: for event in events {
-        push_event(&mut text, low, event)?;
+        push_event(text, low, event)?;
     }
-    Ok(text)
+    Ok(())
 }

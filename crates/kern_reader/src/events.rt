@@ -78,7 +78,7 @@ fn tie_length(tokens: &[Token], grid: u64) -> u64
 
 impl Walk {
     /// The beginning of a column.
-    fn new(alloc: Global) -> Walk
+    pub(crate) fn new(alloc: Global) -> Walk
         ensures { (grid : ℕ) → IsWalk grid [] result }
     {
         Walk {
@@ -90,7 +90,7 @@ impl Walk {
     }
 
     /// Passes a token.
-    fn step(&mut self, token: Token, grid: u64) -> Result<(), AllocError>
+    pub(crate) fn step(&mut self, token: Token, grid: u64) -> Result<(), AllocError>
         requires fine { grid ≤ 61440 }
         requires well { IsWellToken token }
         requires place { self.old.place < 2 ^ 60 }
@@ -155,7 +155,7 @@ impl Walk {
 }
 
 /// Appends the event of the chord that begins with this token before those after it, where one does.
-fn push_beginning(
+pub(crate) fn push_beginning(
     alloc: Global,
     spine: u8,
     walk: &Walk,

@@ -13,6 +13,7 @@ mod grid;
 mod line;
 mod line_reading;
 mod line_words;
+mod listing;
 mod lowest_key;
 mod note;
 mod number;
@@ -29,7 +30,6 @@ mod tokens;
 mod value;
 
 pub use event::KernEvent;
-pub use event_text::write_events;
 pub use fault::{KernFault, KernWhat};
 pub use read::read_kern;
 pub use score::KernScore;

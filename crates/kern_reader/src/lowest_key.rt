@@ -1,16 +1,27 @@
+ghost use Rattle.kern_reader.specs.LowestKey as definitions;
 ghost use Rattle.kern_reader.specs.LowestKey.{AreAmongKeys, IsFloor};
-ghost use Rattle.std.specs.Prelude.{All};
+ghost use Rattle.std.specs.Prelude.{◌≡◌, All};
 
-use crate::event::KernEvent;
+use crate::token::Token;
 use rhythm_base::Keys;
 
-/// All keys of events, but for those of their grace chords.
-fn keys_of(events: &[KernEvent]) -> Keys
-    ensures { All (λ e. AreAmongKeys result e.span.keys) events.now }
+/// The keys of a chord that has a value, none of another token.
+fn chord_keys(token: Token) -> Keys
+    ensures { result ≡ definitions.chord_keys token }
+{
+    match token {
+        Token::Chord(_writing, keys) => keys,
+        _ => Keys::none(),
+    }
+}
+
+/// All keys of a column, but for those of its grace chords.
+fn keys_of(tokens: &[Token]) -> Keys
+    ensures { All (λ t. AreAmongKeys result (definitions.chord_keys t)) tokens.now }
 {
     let mut all = Keys::none();
-    'events: for event in events {
-        all = all.join(event.span.keys);
+    'tokens: for token in tokens {
+        all = all.join(chord_keys(*token));
     }
     all
 }
@@ -26,9 +37,9 @@ fn lowest(keys: Keys) -> u8
     low
 }
 
-/// The lowest key of events, grace chords apart: where the search for the keys of each begins. It is 128 where there is none.
-pub(crate) fn lowest_key(events: &[KernEvent]) -> u8
-    ensures { All (λ e. IsFloor result e.span.keys) events.now }
+/// The lowest key of a column, grace chords apart: where the search for the keys of each chord begins. It is 128 where there is none.
+pub(crate) fn lowest_key(tokens: &[Token]) -> u8
+    ensures { All (λ t. IsFloor result (definitions.chord_keys t)) tokens.now }
 {
-    lowest(keys_of(events))
+    lowest(keys_of(tokens))
 }

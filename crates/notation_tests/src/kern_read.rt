@@ -1,4 +1,4 @@
-use kern_reader::{read_kern, write_events};
+use kern_reader::read_kern;
 use std::alloc::Global;
 use std::test::Fail;
 
@@ -219,8 +219,7 @@ fn outcome(alloc: Global, text: &str) -> Result<String, Fail> {
     }
     match read_kern(alloc, text.as_bytes()) {
         Ok(score) => {
-            let events = score.events(alloc)?;
-            let lines = write_events(alloc, events.as_slice())?;
+            let lines = score.write_events(alloc)?;
             Ok(String::from_utf8(lines)?)
         }
         Err(fault) => {

@@ -7,7 +7,7 @@ ghost use Rattle.std.specs.Prelude.{◌≡◌, IfErr, IfOk, Ok, Some};
 use crate::files::kern_of;
 use crate::lent::Lent;
 use crate::stop::Stop;
-use kern_reader::{KernScore, write_events};
+use kern_reader::KernScore;
 use rhythm_base::Tag;
 use rhythm_ports::{Gate, Shelf, Sink, Source};
 use std::alloc::Global;
@@ -18,11 +18,8 @@ fn listing(alloc: Global, score: &KernScore) -> Result<Vec<u8>, Stop>
     ensures text { IfOk result (λ text. IsListing score.now (Ok (say text.items))) }
     ensures memory { IfErr result (λ end. end ≡ stop.Memory) }
 {
-    match score.events(alloc) {
-        Ok(events) => match write_events(alloc, events.as_slice()) {
-            Ok(text) => Ok(text),
-            Err(_error) => Err(Stop::Memory),
-        },
+    match score.write_events(alloc) {
+        Ok(text) => Ok(text),
         Err(_error) => Err(Stop::Memory),
     }
 }

@@ -1,7 +1,7 @@
 use Rattle.std.proofs.Common.{take}
 use Rattle.std.specs.Prelude.{All}
-use Rattle.kern_reader.specs.LowestKey.{AreAmongKeys}
+use Rattle.kern_reader.specs.LowestKey.{AreAmongKeys, chord_keys}
 use Rattle.kern_reader.proofs.lowest_key.keys_of.Given as goal
 
-abbrev pub invariant-events : goal.invariant-events
-invariant-events l = All (λ e. AreAmongKeys l.all e.span.keys) (take l.event-index l.events)
+abbrev pub invariant-tokens : goal.invariant-tokens
+invariant-tokens l = All (λ t. AreAmongKeys l.all (chord_keys t)) (take l.token-index l.tokens)

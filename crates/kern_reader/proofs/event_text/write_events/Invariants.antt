@@ -1,6 +1,0 @@
-use Rattle.std.proofs.Common.{◌≡◌, take}
-use Rattle.kern_reader.specs.EventText.{events_text}
-use Rattle.kern_reader.proofs.event_text.write_events.Given as goal
-
-abbrev pub invariant-events : goal.invariant-events
-invariant-events l = l.text.items ≡ events_text (take l.event-index l.events)

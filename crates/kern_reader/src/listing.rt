@@ -1,0 +1,63 @@
+ghost use Rattle.kern_reader.specs.EventText.{events_text};
+ghost use Rattle.kern_reader.specs.Events.{AreColumnSpans, span_event};
+ghost use Rattle.kern_reader.specs.Score.{IsColumnOn};
+ghost use Rattle.rhythm_base.specs.declared.span.Span.{Span};
+ghost use Rattle.std.specs.Prelude.{◌≡◌, ◌≤◌, ◌<◌, ◌^◌, ◌++◌, List, IfOk, OnOk, length, map};
+
+use crate::event_text::push_lines;
+use crate::events::{Walk, push_beginning};
+use crate::lowest_key::lowest_key;
+use crate::score::KernScore;
+use crate::token::Token;
+use std::alloc::{AllocError, Global};
+
+/// Appends the lines of the events of a column, one after another: no more than one of them is held.
+fn push_column(
+    alloc: Global,
+    spine: u8,
+    tokens: &[Token],
+    grid: u64,
+    text: &mut Vec<u8>,
+) -> Result<(), AllocError>
+    requires some { 1 ≤ grid }
+    requires fine { grid ≤ 61440 }
+    requires on { IsColumnOn grid tokens.now }
+    requires short { length tokens.now < 2 ^ 32 }
+    ensures { OnOk result ((spans : List Span) × AreColumnSpans grid tokens.now spans × (text.new.items ≡ text.old.items ++ events_text (map (span_event spine) spans))) }
+{
+    let low = lowest_key(tokens);
+    let mut walk = Walk::new(alloc);
+    let mut own = Vec::new(alloc);
+    let mut later = tokens;
+    'tokens: while let [token, after @ ..] = later {
+        own.clear();
+        push_beginning(alloc, spine, &walk, *token, after, grid, &mut own)?;
+        push_lines(text, low, own.as_slice())?;
+        walk.step(*token, grid)?;
+        later = after;
+    }
+    Ok(())
+}
+
+impl KernScore {
+    ghost use Rattle.kern_reader.specs.Events.{AreEvents};
+    ghost use Rattle.kern_reader.specs.declared.event.KernEvent.{KernEvent};
+
+    /// The lines of the sounding spans of the score, by spine and then by start: `SPINE START LENGTH KIND KEYS` and the grace chords,
+    /// with fractions of a whole note from the beginning of the score in lowest terms. Beside the score it takes memory for the text.
+    pub fn write_events(&self, alloc: Global) -> Result<Vec<u8>, AllocError>
+        ensures { IfOk result (λ v. (events : List KernEvent) × AreEvents self.now events × (v.items ≡ events_text events)) }
+    {
+        let mut text = Vec::new(alloc);
+        'columns: for (number, column) in self.columns.iter().enumerate() {
+            push_column(
+                alloc,
+                number as u8 + 1,
+                column.as_slice(),
+                self.grid,
+                &mut text,
+            )?;
+        }
+        Ok(text)
+    }
+}
