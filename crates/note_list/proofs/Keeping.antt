@@ -11,7 +11,7 @@ use Rattle.rhythm_base.specs.declared.event.Event.{Event}
 use Rattle.rhythm_base.specs.declared.note.Note.{Note}
 use Rattle.rhythm_base.specs.Notes.{begun}
 use Rattle.note_list.specs.Ends.{note_from, ends_from}
-use Rattle.note_list.specs.Kept.{AreKept, same_place}
+use Rattle.note_list.specs.Kept.{AreKeptNotes, same_place}
 use Rattle.note_list.specs.Pairing.{IsEventOf, IsNoteFault}
 use Rattle.note_list.specs.declared.fault.NoteFault.TheVariants.{TooManyNotes}
 use Rattle.rhythm_base.proofs.Members.{Among, Pairwise}
@@ -203,10 +203,10 @@ going_by last events place d ends new onsets list count some within all g none i
 pub all_gone : (last : ℕ) (events : List Event) (place : ℕ) (next : List ℕ) (onsets : List (Option ℕ)) (list : List Note) (count : ℕ) → Going last events place next onsets list count → place ≡ 0 → Going last events 0 next onsets list count
 all_gone last events place next onsets list count g start = let P : ℕ → Type 0 = λ p. Going last events p next onsets list count in subst P start g
 
-pub are_kept : (last : ℕ) (events : List Event) (ends : List ℕ) (onsets : List (Option ℕ)) (list : List Note) (count : ℕ) → IsNonDecreasing (map (λ e. e.tick) events) → All (IsEventOf last) events → Going last events 0 ends onsets list count → count ≤ 65536 → AreKept last events list
+pub are_kept : (last : ℕ) (events : List Event) (ends : List ℕ) (onsets : List (Option ℕ)) (list : List Note) (count : ℕ) → IsNonDecreasing (map (λ e. e.tick) events) → All (IsEventOf last) events → Going last events 0 ends onsets list count → count ≤ 65536 → AreKeptNotes last events list
 are_kept last events ends onsets list count order all g few =
     let best : List Note = latest (begun last events) in
-    subst (AreKept last events) (sym (g.held.all few)) (kept_permuted last events best (reverse best) (latest_kept last events (events_rise events order) all) (IsPermutation-reverse best))
+    subst (AreKeptNotes last events) (sym (g.held.all few)) (kept_permuted last events best (reverse best) (latest_kept last events (events_rise events order) all) (IsPermutation-reverse best))
 
 pub are_too_many : (last : ℕ) (events : List Event) (ends : List ℕ) (onsets : List (Option ℕ)) (list : List Note) (count : ℕ) → IsNonDecreasing (map (λ e. e.tick) events) → All (IsEventOf last) events → Going last events 0 ends onsets list count → 65536 < count
     → IsNoteFault last events (TooManyNotes count)

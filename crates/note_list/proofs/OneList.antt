@@ -1,5 +1,5 @@
 -- The notes of events: the kept ones in order, and no other list.
-use Rattle.std.proofs.Common.{◌≡◌, ℕ, suc, ◌<◌, ◌≤◌, ◌^◌, Bool, false, not, List, [], ◌∷◌, ◌++◌, length, get_or, map, refl, subst, inl, inr, arith}
+use Rattle.std.proofs.Common.{◌≡◌, ℕ, suc, ◌≤◌, Bool, false, not, List, [], ◌∷◌, ◌++◌, length, get_or, map, refl, subst, inl, inr, arith}
 use Rattle.std.specs.Prelude.{All, AllPairs, filter}
 use Rattle.std.specs.List.{IsDistinct}
 use Rattle.std.specs.List.Sorted.{IsNonDecreasing, IsPermutation, IsSortedByKey}
@@ -17,8 +17,8 @@ use Rattle.rhythm_base.specs.Notes.{AreNotes, IsKept, begun}
 use Rattle.rhythm_base.specs.Performance.{place_of_note}
 use Rattle.rhythm_base.proofs.FirstLists.{one_order}
 use Rattle.rhythm_base.proofs.OrderedLists.{put_in_order}
-use Rattle.note_list.specs.Kept.{AreKept, same_place}
-use Rattle.note_list.specs.Pairing.{IsEventOf, IsPlayed, NotesAreOne, rank_of_note}
+use Rattle.note_list.specs.Kept.{AreKeptNotes, same_place}
+use Rattle.note_list.specs.Pairing.{IsEventOf, IsPlayed, NotesAreOne}
 use Rattle.rhythm_base.proofs.Members.{among_contained, place_among, all_among, all_from_among, Pairwise}
 use Rattle.note_list.proofs.Places.{IsBefore, follows, not_both}
 use Rattle.note_list.proofs.Latest.{IsBest, apart, either_way, latest, latest_distinct, latest_best, best_latest}
@@ -54,7 +54,7 @@ events_rise events h = to_pairs (λ x y. x.tick ≤ y.tick) events (λ i j d lt 
 
 -- ---- the kept notes in any order
 
-pub kept_permuted : (last : ℕ) (events : List Event) (xs ys : List Note) → AreKept last events xs → IsPermutation xs ys → AreKept last events ys
+pub kept_permuted : (last : ℕ) (events : List Event) (xs ys : List Note) → AreKeptNotes last events xs → IsPermutation xs ys → AreKeptNotes last events ys
 kept_permuted last events xs ys h p = record {
   once = IsDistinct-IsPermutation same_place either_way xs ys p h.once;
   kept = λ n. (
@@ -63,7 +63,7 @@ kept_permuted last events xs ys h p = record {
   );
 }
 
-pub latest_kept : (last : ℕ) (events : List Event) → Pairwise (λ (x : Event) y. x.tick ≤ y.tick) events → All (IsEventOf last) events → AreKept last events (latest (begun last events))
+pub latest_kept : (last : ℕ) (events : List Event) → Pairwise (λ (x : Event) y. x.tick ≤ y.tick) events → All (IsEventOf last) events → AreKeptNotes last events (latest (begun last events))
 latest_kept last events order all =
     let list : List Note = begun last events in
     let rise = ends_rise last events order (all_among (IsEventOf last) events all) in
@@ -75,20 +75,18 @@ latest_kept last events order all =
       );
     }
 
-pub all_played : (last : ℕ) (events : List Event) (notes : List Note) → IsNonDecreasing (map (λ e. e.tick) events) → All (IsEventOf last) events → AreKept last events notes → All (IsPlayed last) notes
+pub all_played : (last : ℕ) (events : List Event) (notes : List Note) → IsNonDecreasing (map (λ e. e.tick) events) → All (IsEventOf last) events → AreKeptNotes last events notes → All (IsPlayed last) notes
 all_played last events notes order all h =
     all_from_among (IsPlayed last) notes (λ n a. are_played last events (events_rise events order) (all_among (IsEventOf last) events all) n (among_contained (begun last events) n ((h.kept n).0 (place_among notes n a)).0))
 
--- ---- sorted by their rank they are in order
+-- ---- sorted by their places they are in order
 
-pub ranked_in_order : (last : ℕ) (notes : List Note) → last < 2 ^ 64 → IsDistinct same_place notes → All (IsPlayed last) notes → IsSortedByKey rank_of_note (slice_cmp nat_cmp) notes → AreInOrder place_of_note notes
-ranked_in_order last notes low once played sorted i j d lt within =
-    let far = sorted_far (λ x y. is_lt (slice_cmp nat_cmp (rank_of_note x) (rank_of_note y))) (ranks_by nat_list_cmp_total rank_of_note) notes sorted i j d (omega arith) within in
-    let one = played i d (omega arith) in
-    let two = played j d within in
-    elim (follows (get_or notes i d) (get_or notes j d) (omega (arith, one.within)) (omega (arith, two.within)) far) [
+pub sorted_in_order : (notes : List Note) → IsDistinct same_place notes → IsSortedByKey place_of_note (slice_cmp nat_cmp) notes → AreInOrder place_of_note notes
+sorted_in_order notes once sorted i j d lt within =
+    let far = sorted_far (λ x y. is_lt (slice_cmp nat_cmp (place_of_note x) (place_of_note y))) (ranks_by nat_list_cmp_total place_of_note) notes sorted i j d (omega arith) within in
+    elim (follows (get_or notes i d) (get_or notes j d) far) [
       | inl before ↦ before
-      | inr same ↦ absurd (apart (get_or notes i d) (get_or notes j d) (apart_from_distinct same_place notes i j d once lt within) same.0)
+      | inr same ↦ absurd (apart (get_or notes i d) (get_or notes j d) (apart_from_distinct same_place notes i j d once lt within) same)
     ]
 
 -- ---- they have an order
@@ -121,11 +119,11 @@ placed_in_order (x ∷ xs) once =
 
 -- ---- the notes of events
 
-pub are_notes : (last : ℕ) (events : List Event) (notes : List Note) → AreKept last events notes → AreInOrder place_of_note notes → AreNotes last events notes
+pub are_notes : (last : ℕ) (events : List Event) (notes : List Note) → AreKeptNotes last events notes → AreInOrder place_of_note notes → AreNotes last events notes
 are_notes last events notes h order = record { in_order = order; kept = h.kept }
 
 -- so many notes are kept
-pub so_many : (last : ℕ) (events : List Event) (kept : List Note) → AreKept last events kept → (notes : List Note) × AreNotes last events notes × (length notes ≡ length kept)
+pub so_many : (last : ℕ) (events : List Event) (kept : List Note) → AreKeptNotes last events kept → (notes : List Note) × AreNotes last events notes × (length notes ≡ length kept)
 so_many last events kept h =
     let notes = in_place kept in
     let moved = placed_permuted kept in

@@ -1,5 +1,5 @@
 -- The order of notes by channel, onset and key.
-use Rattle.std.proofs.Common.{◌≡◌, ◌<◌, ◌≤◌, ◌^◌, false, ◌⊎◌, refl, inl, inr, arith}
+use Rattle.std.proofs.Common.{◌≡◌, false, ◌⊎◌, refl, inl, inr, arith}
 use Rattle.std.proofs.lemmas.Bool.Decides.{nat_tests}
 use Rattle.std.specs.Ordering.{is_lt, nat_cmp}
 use Rattle.std.specs.declared.cmp.Ordering.{Ordering}
@@ -7,7 +7,6 @@ use Rattle.std.specs.declared.cmp.Ordering.TheVariants.{Less, Equal, Greater}
 use Rattle.std.specs.Cmp.Lexicographic.{slice_cmp}
 use Rattle.rhythm_base.specs.declared.note.Note.{Note}
 use Rattle.rhythm_base.specs.Performance.{place_of_note}
-use Rattle.note_list.specs.Pairing.{rank_of_note}
 use Rattle.rhythm_base.proofs.NotePlaces.{ArePlacedAlike}
 
 abbrev pub IsBefore : Note → Note → Type 0
@@ -23,12 +22,12 @@ pub before_alike : (l m n : Note) → IsBefore l m → ArePlacedAlike m n → Is
 before_alike l m n h same = grind (arith, nat_tests)
 
 abbrev pub Follows : Note → Note → Type 0
-Follows m n = IsBefore m n ⊎ (ArePlacedAlike m n × (n.end ≤ m.end))
+Follows m n = IsBefore m n ⊎ ArePlacedAlike m n
 
-pub follows : (m n : Note) → m.end < 2 ^ 64 → n.end < 2 ^ 64 → is_lt (slice_cmp nat_cmp (rank_of_note n) (rank_of_note m)) ≡ false → Follows m n
-follows m n a b h = go (slice_cmp nat_cmp (place_of_note m) (place_of_note n)) refl
+pub follows : (m n : Note) → is_lt (slice_cmp nat_cmp (place_of_note n) (place_of_note m)) ≡ false → Follows m n
+follows m n h = go (slice_cmp nat_cmp (place_of_note m) (place_of_note n)) refl
   where
     go : (o : Ordering) → slice_cmp nat_cmp (place_of_note m) (place_of_note n) ≡ o → Follows m n
     go Less e = inl e
-    go Equal e = inr (record { channel = grind (arith, nat_tests); onset = grind (arith, nat_tests); key = grind (arith, nat_tests) }, grind (arith, nat_tests))
+    go Equal e = inr (record { channel = grind (arith, nat_tests); onset = grind (arith, nat_tests); key = grind (arith, nat_tests) })
     go Greater e = absurd (grind (arith, nat_tests))

@@ -1,4 +1,4 @@
--- The notes of which none has a greater end at its place, in whatever order.
+-- The kept notes of events, in whatever order.
 use Rattle.std.specs.Prelude.{◌↔◌, ℕ, Bool, List, Contains, nat_eq}
 use Rattle.std.specs.List.{IsDistinct}
 use Rattle.std.specs.Cmp.Lexicographic.{pointwise}
@@ -12,6 +12,6 @@ abbrev pub same_place : Note → Note → Bool
 same_place m n = pointwise nat_eq (place_of_note m) (place_of_note n)
 
 -- the kept notes, each once
-pub record AreKept (last : ℕ) (events : List Event) (notes : List Note) : Type 0 where
+pub record AreKeptNotes (last : ℕ) (events : List Event) (notes : List Note) : Type 0 where
   pub once : IsDistinct same_place notes
   pub kept : (n : Note) → Contains notes n ↔ IsKept (begun last events) n

@@ -1,6 +1,6 @@
 -- What the pairing of note-ons with their ends comes to.
 use Rattle.rhythm_base.specs.declared.limits.TheConstants.{MOST_NOTES}
-use Rattle.std.specs.Prelude.{◌≡◌, ◌≤◌, ◌<◌, ℕ, ◌-◌, Bool, true, false, List, [], ◌∷◌, length, All, ⊤}
+use Rattle.std.specs.Prelude.{◌≡◌, ◌≤◌, ◌<◌, ℕ, Bool, true, false, List, length, All, ⊤}
 use Rattle.rhythm_base.specs.declared.event.Event.{Event}
 use Rattle.rhythm_base.specs.declared.event.What.{What}
 use Rattle.rhythm_base.specs.declared.event.What.TheVariants.{On, Off}
@@ -27,10 +27,6 @@ begins _ = false
 -- no note begins
 abbrev pub AreSilent : List Event → Type 0
 AreSilent events = All (λ e. begins e.what ≡ false) events
-
--- notes are sorted by place, and those of one place by their ends, the greatest first
-abbrev pub rank_of_note : Note → List ℕ
-rank_of_note n = n.channel ∷ n.onset ∷ n.key ∷ (18446744073709551615 - n.end) ∷ []
 
 -- a note of a file with this last tick
 pub record IsPlayed (last : ℕ) (n : Note) : Type 0 where

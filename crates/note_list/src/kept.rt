@@ -1,7 +1,7 @@
 ghost use Rattle.std.specs.Prelude.{◌≤◌, All, IfErr, IfOk, length, map};
 ghost use Rattle.std.specs.List.Sorted.{IsNonDecreasing};
 ghost use Rattle.rhythm_base.specs.declared.limits.TheConstants.{MOST_NOTES};
-ghost use Rattle.note_list.specs.Kept.{AreKept};
+ghost use Rattle.note_list.specs.Kept.{AreKeptNotes};
 ghost use Rattle.note_list.specs.Pairing.{IsEventOf, IsNoteFault};
 
 use crate::ends::Ends;
@@ -19,7 +19,7 @@ const MOST_NOTES: usize = 65_536;
 pub fn kept(alloc: Global, events: &[Event], last: u64) -> Result<Vec<Note>, NoteFault>
     requires order { IsNonDecreasing (map (λ e. e.tick) events.now) }
     requires events { All (IsEventOf last) events.now }
-    ensures notes { IfOk result (λ v. AreKept last events.now v.items) }
+    ensures notes { IfOk result (λ v. AreKeptNotes last events.now v.items) }
     ensures few { IfOk result (λ v. length v.items ≤ MOST_NOTES) }
     ensures fault { IfErr result (IsNoteFault last events.now) }
 {

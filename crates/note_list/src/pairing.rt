@@ -2,7 +2,8 @@ ghost use Rattle.std.specs.Prelude.{◌≡◌, ◌<◌, ◌≤◌, ◌↔◌, Al
 ghost use Rattle.std.specs.List.Sorted.{IsNonDecreasing, IsPermutation, IsSortedByKey};
 ghost use Rattle.std.specs.Cmp.Lexicographic.{slice_cmp};
 ghost use Rattle.std.specs.Ordering.{nat_cmp};
-ghost use Rattle.note_list.specs.Pairing.{IsEventOf, ArePaired, AreSilent, IsNoteFault, IsPlayed, begins, rank_of_note};
+ghost use Rattle.rhythm_base.specs.Performance.{place_of_note};
+ghost use Rattle.note_list.specs.Pairing.{IsEventOf, ArePaired, AreSilent, IsNoteFault, IsPlayed, begins};
 ghost use Rattle.note_list.specs.declared.fault.NoteFault.TheVariants.{Memory};
 
 use crate::fault::NoteFault;
@@ -10,16 +11,11 @@ use crate::kept::kept;
 use rhythm_base::{Event, Note, What};
 use std::alloc::{AllocError, Global};
 
-/// By it notes stand by channel, onset and key, and of those that agree in these the one with the greatest end first.
-fn rank_of(note: &Note) -> [u64; 4]
-    ensures { result ≡ rank_of_note note.now }
+/// By it notes stand by channel, onset and key.
+fn place_of_note(note: &Note) -> [u64; 3]
+    ensures { result ≡ place_of_note note.now }
 {
-    [
-        u64::from(note.channel),
-        note.onset,
-        u64::from(note.key),
-        u64::MAX - note.end,
-    ]
+    [u64::from(note.channel), note.onset, u64::from(note.key)]
 }
 
 /// A note begins with it.
@@ -62,7 +58,7 @@ fn order_chords(alloc: Global, notes: &mut [Note]) -> Result<(), AllocError>
     'chords: while start < notes.len() {
         let end = end_of_chord(notes, start);
         if start + 1 < end {
-            notes[start..end].sort_by_key(alloc, |note: &Note| rank_of(note))?;
+            notes[start..end].sort_by_key(alloc, |note: &Note| place_of_note(note))?;
         }
         start = end;
     }
@@ -73,15 +69,15 @@ fn order_chords(alloc: Global, notes: &mut [Note]) -> Result<(), AllocError>
 /// sort finds nothing to move and takes one pass.
 fn put_in_order(alloc: Global, notes: &mut Vec<Note>) -> Result<(), AllocError>
     ensures same { OnOk result (IsPermutation notes.old.items notes.new.items) }
-    ensures sorted { OnOk result (IsSortedByKey rank_of_note (slice_cmp nat_cmp) notes.new.items) }
+    ensures sorted { OnOk result (IsSortedByKey place_of_note (slice_cmp nat_cmp) notes.new.items) }
 {
     notes.reverse();
     order_chords(alloc, notes.as_mut_slice())?;
     notes.sort_by_key(|note: &Note| note.channel)?;
     notes.sort_by_key(
         |note: &Note|
-            ensures { result ≡ rank_of_note note.now }
-        { rank_of(note) },
+            ensures { result ≡ place_of_note note.now }
+        { place_of_note(note) },
     )?;
     Ok(())
 }

@@ -3,7 +3,7 @@ use Rattle.std.proofs.Math.Seq.{take-append_seam}
 use Rattle.std.specs.List.Sorted.{IsPermutation}
 use Rattle.std.proofs.lemmas.List.Sorted.{IsPermutation-trans, answers_always, length_permutation}
 use Rattle.rhythm_base.specs.declared.note.Note.{Note}
-use Rattle.note_list.specs.Pairing.{rank_of_note}
+use Rattle.rhythm_base.specs.Performance.{place_of_note}
 use Rattle.note_list.proofs.pairing.put_in_order.Goals as goal
 
 pub returns-clause-same : goal.returns-clause-same
@@ -20,4 +20,4 @@ returns-clause-same c =
     IsPermutation-trans _ _ _ c.reverse.ensures.permutation (IsPermutation-trans _ _ _ by_channel c.sort_by_key-2.ensures.permutation)
 
 pub returns-clause-sorted : goal.returns-clause-sorted
-returns-clause-sorted c = c.in_ok-sort_by_key-2.ensures.sorted rank_of_note (answers_always _ _ _ (λ f a r g h. search rules))
+returns-clause-sorted c = c.in_ok-sort_by_key-2.ensures.sorted place_of_note (answers_always _ _ _ (λ f a r g h. search rules))
