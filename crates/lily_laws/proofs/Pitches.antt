@@ -12,20 +12,20 @@ abbrev pub is_pitch : List ℕ → Bool
 is_pitch [] = false
 is_pitch (b ∷ bs) = (is_letter b && not (b == 114)) && list_all is_lily_pitch_byte (b ∷ bs)
 
-abbrev is_read : Bool → ℕ → Bool
-is_read flats k = is_key k (word_key (lily_pitch flats k)) && is_pitch (lily_pitch flats k)
+abbrev is_read_pitch : Bool → ℕ → Bool
+is_read_pitch flats k = is_key k (word_key (lily_pitch flats k)) && is_pitch (lily_pitch flats k)
 
-with_sharps : all_below (is_read false) 128 ≡ true
+with_sharps : all_below (is_read_pitch false) 128 ≡ true
 unfolding word_key is_key
 with_sharps = refl
 
-with_flats : all_below (is_read true) 128 ≡ true
+with_flats : all_below (is_read_pitch true) 128 ≡ true
 unfolding word_key is_key
 with_flats = refl
 
-all_of : (flats : Bool) (k : ℕ) → k < 128 → is_read flats k ≡ true
-all_of true k within = one_below (is_read true) 128 k with_flats within
-all_of false k within = one_below (is_read false) 128 k with_sharps within
+all_of : (flats : Bool) (k : ℕ) → k < 128 → is_read_pitch flats k ≡ true
+all_of true k within = one_below (is_read_pitch true) 128 k with_flats within
+all_of false k within = one_below (is_read_pitch false) 128 k with_sharps within
 
 pub pitch_read : (flats : Bool) (k : ℕ) → k < 128 → word_key (lily_pitch flats k) ≡ Some k
 pitch_read flats k within =

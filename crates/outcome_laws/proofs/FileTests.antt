@@ -1,23 +1,14 @@
--- What the tests of files say: what is read of a MIDI file is in its ranges, a grammar can be read, and a score is in its ranges.
-use Rattle.std.proofs.Common.{◌≡◌, ◌∙◌, ◌+◌, ◌<◌, ◌≤◌, ℕ, Bool, true, false, List, [], ◌∷◌, length, ap, refl, subst, arith, Some, Result, Ok, Err}
-use Rattle.std.specs.Prelude.{IfOk, if◌then◌else◌, nat_le, unwrap_or}
+-- What the tests of files say: what is read of a MIDI file is in its ranges, and what stands under a name is bytes.
+use Rattle.std.proofs.Common.{◌≡◌, ◌∙◌, ◌+◌, ◌<◌, ◌≤◌, ℕ, Bool, true, false, List, [], ◌∷◌, length, ap, refl, Some, Result, Ok, Err}
+use Rattle.std.specs.Prelude.{if◌then◌else◌, nat_le, unwrap_or}
 use Rattle.std.proofs.lemmas.Bool.{leb-true}
 use Rattle.std.proofs.lemmas.List.Elements.{All-nil}
-use Rattle.grammar_file.proofs.SayableLemmas.{is_sayable}
-use Rattle.grammar_file.specs.Grammar.{grammar_of}
-use Rattle.kern_reader.proofs.ScoreLemmas.{well_score}
-use Rattle.kern_reader.specs.Outcome.{score_of}
-use Rattle.kern_reader.specs.Score.{IsKernScore, KernColumns}
-use Rattle.performance_load.specs.declared.load_fault.LoadFault.{LoadFault}
 use Rattle.rhythm_app.specs.Commands.{file_content}
-use Rattle.rhythm_app.specs.Outcome.{IsLoading, IsRead, IsScoreRead, IsUnderstood, grammar_tests, kern_tests, limit_of, load_stop, midi_tests, passed, sized, stopped}
+use Rattle.rhythm_app.specs.Outcome.{IsRead, limit_of, midi_tests, passed, sized, stopped}
 use Rattle.rhythm_app.specs.declared.stop.Kind.{Kind}
 use Rattle.rhythm_app.specs.declared.stop.Kind.TheVariants as kind
 use Rattle.rhythm_app.specs.declared.stop.Stop.{Stop}
 use Rattle.rhythm_app.specs.declared.stop.Stop.TheVariants as stop
-use Rattle.rhythm_base.specs.Grammar.{Grammar}
-use Rattle.rhythm_base.specs.Performance.{IsWellFormed, Performance}
-use Rattle.rhythm_base.specs.Readable.{IsReadable}
 use Rattle.rhythm_base.proofs.OrderedLists.{all_head, all_tail}
 use Rattle.rhythm_ports.specs.Files.{File, file_of, has_name}
 use Rattle.smf_reader.proofs.ReadInRange.{in_range}
@@ -48,24 +39,6 @@ sized_passed {T} {E} k as_stop test bytes x = go (nat_le (length bytes) (limit_o
 pub read_in_range : (bytes : List ℕ) → AreBytes bytes → (f : Smf) → IsRead bytes (Ok f) → IsPlayedFile f
 unfolding midi_tests
 read_in_range bytes are f e = in_range bytes are f (sized_passed kind.Midi stop.Smf smf bytes f e).is
-
-pub understood_readable : (bytes : List ℕ) (g : Grammar) → IsUnderstood bytes (Ok g) → IsReadable g
-unfolding grammar_tests
-understood_readable bytes g e = (is_sayable bytes g (sized_passed kind.Grammar stop.Grammar grammar_of bytes g e).is).readable
-
-pub score_in_range : (bytes : List ℕ) (score : KernColumns) → IsScoreRead bytes (Ok score) → IsKernScore score
-unfolding kern_tests
-score_in_range bytes score e =
-    let own = sized_passed kind.Kern stop.Kern score_of bytes score e in
-    let short = own.short in
-    well_score bytes score (omega (arith, short)) own.is
-
-pub loaded_formed : (f : Smf) (p : Performance) → IsLoading f (Ok p) → IsWellFormed p
-loaded_formed f p h = go h.0 h.3 h.4
-  where
-    go : (r : Result Performance LoadFault) → IfOk r IsWellFormed → ◌≡◌ {A = Result Performance Stop} (Ok p) (stopped load_stop r) → IsWellFormed p
-    go (Ok q) formed e = let same : q ≡ p = cc in subst IsWellFormed same formed
-    go (Err fault) formed e = absurd (cc)
 
 -- what stands under a name is bytes
 pub content_bytes : (files : List File) (name : List ℕ) → HoldBytes files → AreBytes (file_content files name)

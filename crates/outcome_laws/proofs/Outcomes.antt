@@ -1,5 +1,6 @@
 -- Every command line has an outcome.
 use Rattle.std.proofs.Common.{◌≡◌, inl, inr, ℕ, List, subst, refl, Option, Some, None, Result, Ok, Err}
+use Rattle.rhythm_app.proofs.OneOutcome.{in_ranges, readable, sound_inputs, well_formed}
 use Rattle.rhythm_app.specs.Asked.{Asked, help, version, write, answer, fit, too_many_candidates, follow, notes, events, generate, drill, asked_by}
 use Rattle.rhythm_app.specs.Commands.{HasOutcomeOf, file_content}
 use Rattle.rhythm_app.specs.Outcome.{AreFilesRead, AreInTurn, AreInputs, IsAnswering, IsDrilling, IsFitting, IsFollowing, IsListing, IsLoading, IsNoting, IsPieceMade, IsPieceOf, IsRead, IsScoreRead, IsUnderstood, IsWriting, Ready, grammar_tests, kern_tests, midi_tests}
@@ -12,7 +13,7 @@ use Rattle.rhythm_ports.specs.Files.{File}
 use Rattle.outcome_laws.specs.Laws.{AreBytes, HoldBytes, RunsHaveOutcomes}
 use Rattle.outcome_laws.proofs.Answerings.{some_answering}
 use Rattle.outcome_laws.proofs.Drillings.{some_drilling}
-use Rattle.outcome_laws.proofs.FileTests.{content_bytes, loaded_formed, read_in_range, score_in_range, understood_readable}
+use Rattle.outcome_laws.proofs.FileTests.{content_bytes, read_in_range}
 use Rattle.outcome_laws.proofs.Fittings.{some_fitting}
 use Rattle.outcome_laws.proofs.Followings.{some_following}
 use Rattle.outcome_laws.proofs.Listings.{some_listing}
@@ -36,9 +37,6 @@ in_turn {T} {U} first next (Ok x, is) nexts = go (nexts x is)
 
 -- ---- commands on a MIDI file and a grammar
 
-same_inputs : (i : Grammar × Performance) (g : Grammar) (p : Performance) → ◌≡◌ {A = Result (Grammar × Performance) Stop} (Ok i) (Ok (g, p)) → (g, p) ≡ i
-same_inputs i g p e = cc
-
 module _ (midi grammar : List ℕ) (bytes : AreBytes midi) where
   some_inputs : ComesTo (AreInputs midi grammar)
   some_inputs =
@@ -46,14 +44,10 @@ module _ (midi grammar : List ℕ) (bytes : AreBytes midi) where
       (λ f read. in_turn (IsUnderstood grammar) (λ g. AreInTurn (IsLoading f) (λ p r. r ≡ Ok (g, p))) (grammar_tests grammar, refl)
       (λ g _. in_turn (IsLoading f) (λ p r. r ≡ Ok (g, p)) (some_loading f (read_in_range midi bytes f read)) (λ p _. (Ok (g, p), refl))))
 
-  sound_inputs : (i : Grammar × Performance) → AreInputs midi grammar (Ok i) → IsReadable i.0 × IsWellFormed i.1
-  sound_inputs i (f, read, (g, understood, (p, loaded, is))) =
-      subst (λ (x : Grammar × Performance). IsReadable x.0 × IsWellFormed x.1) (same_inputs i g p is) (understood_readable grammar g understood, loaded_formed f p loaded)
-
   of_files : (last : Grammar → Performance → Result Ready Stop → Type 0) → ((g : Grammar) (p : Performance) → IsReadable g → IsWellFormed p → ComesTo (last g p))
       → ComesTo (AreFilesRead midi grammar last)
   of_files last some =
-      in_turn (AreInputs midi grammar) (λ i. last i.0 i.1) some_inputs (λ i are. let sound = sound_inputs i are in some i.0 i.1 sound.0 sound.1)
+      in_turn (AreInputs midi grammar) (λ i. last i.0 i.1) some_inputs (λ i are. let sound = sound_inputs midi grammar i are in some i.0 i.1 sound.0 sound.1)
 
 -- ---- the others
 
@@ -66,16 +60,16 @@ same_piece number p (q, piece, e) = let same : q ≡ p = back p q e in subst (Is
 some_notes : (bytes : List ℕ) → AreBytes bytes → ComesTo (AreInTurn (IsRead bytes) (λ f. AreInTurn (IsLoading f) IsNoting))
 some_notes bytes are =
     in_turn (IsRead bytes) (λ f. AreInTurn (IsLoading f) IsNoting) (midi_tests bytes, refl)
-    (λ f read. in_turn (IsLoading f) IsNoting (some_loading f (read_in_range bytes are f read)) (λ p loaded. some_noting p (loaded_formed f p loaded)))
+    (λ f read. in_turn (IsLoading f) IsNoting (some_loading f (read_in_range bytes are f read)) (λ p loaded. some_noting p (well_formed f p loaded)))
 
 some_events : (bytes : List ℕ) → ComesTo (AreInTurn (IsScoreRead bytes) IsListing)
-some_events bytes = in_turn (IsScoreRead bytes) IsListing (kern_tests bytes, refl) (λ score read. some_listing score (score_in_range bytes score read))
+some_events bytes = in_turn (IsScoreRead bytes) IsListing (kern_tests bytes, refl) (λ score read. some_listing score (in_ranges bytes score read))
 
 some_drill : (number : ℕ) (bytes : List ℕ) → ComesTo (AreInTurn (IsUnderstood bytes) (λ g. AreInTurn (IsPieceMade number) (λ p. IsDrilling g number p)))
 some_drill number bytes =
     in_turn (IsUnderstood bytes) (λ g. AreInTurn (IsPieceMade number) (λ p. IsDrilling g number p)) (grammar_tests bytes, refl)
     (λ g understood. in_turn (IsPieceMade number) (λ p. IsDrilling g number p) (some_piece number)
-    (λ p made. some_drilling g number p (understood_readable bytes g understood) (same_piece number p made)))
+    (λ p made. some_drilling g number p (readable bytes g understood) (same_piece number p made)))
 
 -- ---- the run
 

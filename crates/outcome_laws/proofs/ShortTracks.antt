@@ -1,5 +1,5 @@
 -- The tracks of the events of a score are no longer than a file can say.
-use Rattle.std.proofs.Common.{◌≡◌, ◌+◌, ◌-◌, ◌*◌, ◌/◌, ◌%◌, ◌≤◌, ◌==◌, ℕ, suc, Bool, true, false, List, [], ◌∷◌, ◌++◌, length, map, refl, arith, Option, Some, None, bit_or}
+use Rattle.std.proofs.Common.{◌≡◌, ◌+◌, ◌-◌, ◌*◌, ◌≤◌, ◌==◌, ℕ, suc, Bool, true, false, List, [], ◌∷◌, ◌++◌, length, map, refl, arith, Option, Some, None, bit_or}
 use Rattle.std.specs.Prelude.{All, if◌then◌else◌, nat_lt}
 use Rattle.std.specs.List.{flat_map}
 use Rattle.std.proofs.lemmas.List.{length-append, length-map}
@@ -15,6 +15,7 @@ use Rattle.rhythm_base.proofs.OrderedLists.{all_cons}
 use Rattle.smf_bytes.specs.Message.{message_bytes}
 use Rattle.smf_bytes.specs.Quantity.{quantity_bytes}
 use Rattle.smf_bytes.specs.Track.{bytes_from, end_of_track_bytes, timed_message}
+use Rattle.smf_bytes.proofs.ShortForms.{quantity_short}
 use Rattle.smf_writer.specs.Changes.{change_at, changes_at, changes_from, conductor, key_event, midi_key_before, signature_event, tempo_event}
 use Rattle.smf_writer.specs.NoteMessages.{ends, event_of}
 use Rattle.smf_writer.specs.Strokes.{begun_messages, ended, event_strokes, grace_strokes, joined_keys, main_stroke, own_events, spine_events, stroke_messages, stroke_note, stroke_notes, strokes_events, together, voices_from}
@@ -24,19 +25,6 @@ use Rattle.outcome_laws.proofs.EventKeys.{span_keys}
 use Rattle.outcome_laws.proofs.KeyCounts.{flat_few, fold_count, joined_count, key_count, length_flat, mapped_count, no_keys, total, total_append}
 
 -- ---- the bytes of a track
-
-quantity_few : (n : ℕ) → length (quantity_bytes n) ≤ 4
-quantity_few n = go (nat_lt n 128) (nat_lt n 16384) (nat_lt n 2097152)
-  where
-    go : (a b c : Bool)
-        → length (if a then (n % 128) ∷ []
-        else (if b then (128 + (n / 128) % 128) ∷ (n % 128) ∷ []
-        else (if c then (128 + (n / 16384) % 128) ∷ (128 + (n / 128) % 128) ∷ (n % 128) ∷ []
-        else (128 + (n / 2097152) % 128) ∷ (128 + (n / 16384) % 128) ∷ (128 + (n / 128) % 128) ∷ (n % 128) ∷ []))) ≤ 4
-    go true b c = omega arith
-    go false true c = omega arith
-    go false false true = omega arith
-    go false false false = omega arith
 
 message_few : (what : What) → length (message_bytes what) ≤ 7
 message_few (On channel key) = omega arith
@@ -48,9 +36,9 @@ message_few (KeySig sf) = omega arith
 -- eleven for each event, and seven for the end
 content_few : (t last : ℕ) (events : List Event) → length (bytes_from t (map timed_message events ++ (last, end_of_track_bytes) ∷ [])) ≤ 11 * length events + 7
 unfolding bytes_from
-content_few t last [] = let own = quantity_few (last - t) in let both = length-append (quantity_bytes (last - t)) (end_of_track_bytes ++ []) in omega (arith, own, both)
+content_few t last [] = let own = quantity_short (last - t) in let both = length-append (quantity_bytes (last - t)) (end_of_track_bytes ++ []) in omega (arith, own, both)
 content_few t last (e ∷ events) =
-    let own = quantity_few (e.tick - t) in
+    let own = quantity_short (e.tick - t) in
     let message = message_few e.what in
     let rest = content_few e.tick last events in
     let later : List ℕ = bytes_from e.tick (map timed_message events ++ (last, end_of_track_bytes) ∷ []) in

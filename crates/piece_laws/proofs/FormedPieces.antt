@@ -32,7 +32,7 @@ track_played t h = record {
   few_ticks = omega (arith, h.early);
 }
 
-file_played : (f : Smf) → IsWritableFile f → IsPlayedFile f
+pub file_played : (f : Smf) → IsWritableFile f → IsPlayedFile f
 file_played f h = record { some_tick = h.some_tick; few_ticks = h.few_ticks; tracks = λ k d lt. track_played _ (h.tracks k d lt) }
 
 pub pieces_formed : PiecesAreWellFormed

@@ -66,7 +66,7 @@ one_understood : (bytes : List ℕ) → IsOne (IsUnderstood bytes)
 one_understood bytes r s h k = sym h ∙ k
 
 -- what is understood is a grammar that a file can say
-readable : (bytes : List ℕ) (g : Grammar) → IsUnderstood bytes (Ok g) → IsReadable g
+pub readable : (bytes : List ℕ) (g : Grammar) → IsUnderstood bytes (Ok g) → IsReadable g
 unfolding grammar_tests
 readable bytes g = go (nat_le (length bytes) (limit_of kind.Grammar))
   where
@@ -81,7 +81,8 @@ readable bytes g = go (nat_le (length bytes) (limit_of kind.Grammar))
 one_loaded : (f : Smf) → IsOne (IsLoading f)
 one_loaded f r s h k = h.4 ∙ ap (stopped load_stop) (one_loading f h.0 k.0 h.1 k.1 h.2 k.2) ∙ sym k.4
 
-well_formed : (f : Smf) (p : Performance) → IsLoading f (Ok p) → IsWellFormed p
+-- and what is loaded is well formed
+pub well_formed : (f : Smf) (p : Performance) → IsLoading f (Ok p) → IsWellFormed p
 well_formed f p h = go h.0 h.3 h.4
   where
     go : (r : Result Performance LoadFault) → IfOk r IsWellFormed → ◌≡◌ {A = Result Performance Stop} (Ok p) (stopped load_stop r) → IsWellFormed p
@@ -318,7 +319,7 @@ one_score_read : (bytes : List ℕ) → IsOne (IsScoreRead bytes)
 one_score_read bytes r s h k = sym h ∙ k
 
 -- the score of a file that is not too long is in its ranges
-in_ranges : (bytes : List ℕ) (score : KernColumns) → IsScoreRead bytes (Ok score) → IsKernScore score
+pub in_ranges : (bytes : List ℕ) (score : KernColumns) → IsScoreRead bytes (Ok score) → IsKernScore score
 unfolding kern_tests
 in_ranges bytes score = go (nat_le (length bytes) (limit_of kind.Kern)) refl
   where
@@ -354,7 +355,7 @@ same_inputs : (i : Grammar × Performance) (g : Grammar) (p : Performance) → �
 same_inputs i g p e = cc
 
 -- the grammar can be read, and the performance is well formed
-sound_inputs : (midi grammar : List ℕ) (i : Grammar × Performance) → AreInputs midi grammar (Ok i) → IsReadable i.0 × IsWellFormed i.1
+pub sound_inputs : (midi grammar : List ℕ) (i : Grammar × Performance) → AreInputs midi grammar (Ok i) → IsReadable i.0 × IsWellFormed i.1
 sound_inputs midi grammar i (f, read, (g, understood, (p, loaded, is))) =
     subst (λ (x : Grammar × Performance). IsReadable x.0 × IsWellFormed x.1) (same_inputs i g p is) (readable grammar g understood, well_formed f p loaded)
 
