@@ -3,7 +3,7 @@ use Rattle.std.proofs.Common.{◌≡◌, ℕ, suc, ◌+◌, ◌*◌, ◌/◌, �
 use Rattle.std.specs.Prelude.{All, sum, sum_by, reverse}
 use Rattle.std.specs.List.{flat_map}
 use Rattle.std.proofs.Math.Nat.{div-le_self, mul-le-mul, mul-le-mul_left, mul-le-mul_right}
-use Rattle.std.proofs.lemmas.List.{reverse-append}
+use Rattle.std.proofs.lemmas.List.{map-append, reverse-append}
 use Rattle.std.proofs.lemmas.List.Elements.{All-drop, All-get_or, All-head, All-tail}
 use Rattle.std.proofs.Math.ListN.{drop_of_length-le}
 use Rattle.std.proofs.lemmas.List.Sums.{sum_by-append, sum_by-cons}
@@ -169,11 +169,7 @@ pub pushed_events : (spine : ℕ) (first now new : List KernEvent) (spans own : 
     → new ≡ first ++ map (span_event spine) (spans ++ own)
 pushed_events spine first now new spans own before pushed =
     pushed ∙ ap (λ xs. xs ++ map (span_event spine) own) before ∙ append_assoc first (map (span_event spine) spans) (map (span_event spine) own)
-    ∙ ap (λ xs. first ++ xs) (sym (mapped spans))
-  where
-    mapped : (spans : List Span) → map (span_event spine) (spans ++ own) ≡ map (span_event spine) spans ++ map (span_event spine) own
-    mapped [] = refl
-    mapped (x ∷ spans) = ap (λ xs. span_event spine x ∷ xs) (mapped spans)
+    ∙ ap (λ xs. first ++ xs) (sym (map-append (span_event spine) spans own))
 
 -- at the end of a column
 pub spans_end : (grid : ℕ) (column before later : List Token) (spans : List Span) → length later < 1

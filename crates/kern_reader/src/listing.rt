@@ -43,8 +43,9 @@ impl KernScore {
     ghost use Rattle.kern_reader.specs.Events.{AreEvents};
     ghost use Rattle.kern_reader.specs.declared.event.KernEvent.{KernEvent};
 
-    /// The lines of the sounding spans of the score, by spine and then by start: `SPINE START LENGTH KIND KEYS` and the grace chords,
-    /// with fractions of a whole note from the beginning of the score in lowest terms. Beside the score it takes memory for the text.
+    /// The lines of the sounding spans of the score, by spine and then by start: `SPINE START LENGTH KIND KEYS` and the grace
+    /// chords, with fractions of a whole note from the beginning of the score in lowest terms. Beside the score it takes memory
+    /// for the text, and for one span at a time.
     pub fn write_events(&self, alloc: Global) -> Result<Vec<u8>, AllocError>
         ensures { IfOk result (λ v. (events : List KernEvent) × AreEvents self.now events × (v.items ≡ events_text events)) }
     {

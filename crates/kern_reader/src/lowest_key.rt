@@ -37,7 +37,8 @@ fn lowest(keys: Keys) -> u8
     low
 }
 
-/// The lowest key of a column, grace chords apart: where the search for the keys of each chord begins. It is 128 where there is none.
+/// The lowest key of a column, grace chords apart: where the search for the keys of each chord begins. It is 128 where there
+/// is none.
 pub(crate) fn lowest_key(tokens: &[Token]) -> u8
     ensures { All (λ t. IsFloor result (definitions.chord_keys t)) tokens.now }
 {

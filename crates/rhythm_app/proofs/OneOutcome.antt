@@ -81,7 +81,7 @@ readable bytes g = go (nat_le (length bytes) (limit_of kind.Grammar))
 one_loaded : (f : Smf) → IsOne (IsLoading f)
 one_loaded f r s h k = h.4 ∙ ap (stopped load_stop) (one_loading f h.0 k.0 h.1 k.1 h.2 k.2) ∙ sym k.4
 
--- and what is loaded is well formed
+-- what is loaded is well formed
 pub well_formed : (f : Smf) (p : Performance) → IsLoading f (Ok p) → IsWellFormed p
 well_formed f p h = go h.0 h.3 h.4
   where

@@ -8,7 +8,7 @@ use Rattle.kern_reader.specs.Events.{span_event}
 use Rattle.kern_reader.specs.LowestKey.{IsFloor, chord_keys}
 use Rattle.kern_reader.specs.Score.{IsTokenOn}
 use Rattle.kern_reader.proofs.EventLemmas.{after_on, cons_of, first_on, spans_end, spans_next, start_small}
-use Rattle.kern_reader.proofs.ListingLemmas.{lines_next, own_floor}
+use Rattle.kern_reader.proofs.ListingLemmas.{HaveFloor, lines_next, own_floor}
 use Rattle.kern_reader.proofs.listing.push_column.Goals as goal
 
 pub tokens-init : goal.tokens-init
@@ -34,7 +34,7 @@ push_lines-requires c =
     let whole = cons_of later _ t c.in-len1-up.len_at_least (take_rest later 1) c.token-item.is in
     let all = subst (All (λ (x : Token). IsFloor c.lowest_key-low.result (chord_keys x))) whole floors in
     let (own, pushed, here) = c.in_ok-push_beginning.ensures before is in
-    subst (All (λ (e : KernEvent). IsFloor c.lowest_key-low.result e.span.keys)) (sym (c.as_slice.ensures.value ∙ pushed ∙ ap (λ (xs : List KernEvent). xs ++ map (span_event c.args.spine) own) c.clear.ensures.items))
+    subst (HaveFloor c.lowest_key-low.result) (sym (c.as_slice.ensures.value ∙ pushed ∙ ap (λ (xs : List KernEvent). xs ++ map (span_event c.args.spine) own) c.clear.ensures.items))
     (own_floor c.args.grid c.args.spine c.lowest_key-low.result before t _ own (All-head (λ (x : Token). IsFloor c.lowest_key-low.result (chord_keys x)) t _ all) here)
 
 pub step-requires-clause-place : goal.step-requires-clause-place

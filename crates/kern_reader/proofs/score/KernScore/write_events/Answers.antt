@@ -1,8 +1,8 @@
 use Rattle.std.proofs.Common.{◌≡◌, ◌+◌, ◌<◌, ◌++◌, [], append_assoc, length, map, subst, sym, ap, ◌∙◌, arith}
-use Rattle.kern_reader.specs.EventText.{events_text}
+use Rattle.std.proofs.lemmas.Grind.{flat_map-append}
+use Rattle.kern_reader.specs.EventText.{event_text, events_text}
 use Rattle.kern_reader.specs.Events.{AreColumnSpans, AreEventsFrom, span_event}
 use Rattle.kern_reader.proofs.EventLemmas.{column_on, events_end, events_next, same_column}
-use Rattle.kern_reader.proofs.ListingLemmas.{texts_joined}
 use Rattle.kern_reader.proofs.score.KernScore.write_events.Goals as goal
 
 pub columns-init : goal.columns-init
@@ -30,7 +30,7 @@ columns-preserved c =
     let spans_are = subst (λ g. AreColumnSpans g text spans) (ap (λ v. v.grid) c.self.view_is) of in
     let own = map (span_event (i + 1)) spans in (
       events ++ own,
-      pushed ∙ ap (λ t. t ++ events_text own) written ∙ sym (texts_joined events own),
+      pushed ∙ ap (λ t. t ++ events_text own) written ∙ sym (flat_map-append event_text events own),
       λ more are. subst (AreEventsFrom s.grid 1 s.columns) (sym (append_assoc events own more)) (made (own ++ more) (events_next s.grid (i + 1) s.columns text i spans more within is spans_are are)),
     )
 
