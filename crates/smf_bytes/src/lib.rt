@@ -10,5 +10,6 @@ mod track;
 
 pub use chunk::{push_header, push_track};
 pub use laws::quantities_are_shortest;
+pub use message::push_event;
 pub use quantity::GREATEST_QUANTITY;
-pub use track::{push_end, push_event, track_content};
+pub use track::{push_end, track_content};

@@ -7,8 +7,7 @@ use std::alloc::AllocError;
 /// The greatest quantity, of four bytes.
 pub const GREATEST_QUANTITY: u64 = 268_435_455;
 
-/// Appends a quantity in its shortest form. It is small and called for each event, so it is put where it is called.
-#[inline(always)]
+/// Appends a quantity in its shortest form.
 #[tactic(auto, using(crate::proofs::ShortForms::one_byte, crate::proofs::ShortForms::two_bytes, crate::proofs::ShortForms::three_bytes, crate::proofs::ShortForms::four_bytes))]
 pub(crate) fn push_quantity(bytes: &mut Vec<u8>, number: u64) -> Result<(), AllocError>
     requires { number ≤ GREATEST_QUANTITY }

@@ -1,23 +1,13 @@
-ghost use Rattle.smf_bytes.specs.Message.{HasChannel, message_bytes};
+ghost use Rattle.smf_bytes.specs.Message.{HasChannel};
 ghost use Rattle.smf_bytes.specs.Quantity.{quantity_bytes};
 ghost use Rattle.smf_bytes.specs.Track.{content_bytes, end_of_track_bytes};
 ghost use Rattle.smf_bytes.specs.declared.quantity.TheConstants.{GREATEST_QUANTITY};
 ghost use Rattle.std.specs.Prelude.{◌≡◌, ◌++◌, ◌≤◌, All, IfOk, OnOk};
 
-use crate::message::push_message;
+use crate::message::push_event;
 use crate::quantity::push_quantity;
-use rhythm_base::{Event, What};
+use rhythm_base::Event;
 use std::alloc::{AllocError, Global};
-
-/// Appends the message of what an event says, after the number of ticks since the event before it.
-pub fn push_event(content: &mut Vec<u8>, ticks: u64, what: What) -> Result<(), AllocError>
-    requires early { ticks ≤ GREATEST_QUANTITY }
-    requires channel { HasChannel what }
-    ensures { OnOk result (content.new.items ≡ content.old.items ++ (quantity_bytes ticks ++ message_bytes what)) }
-{
-    push_quantity(content, ticks)?;
-    push_message(content, what)
-}
 
 /// Appends the end of the track, after the number of ticks since the last event.
 pub fn push_end(content: &mut Vec<u8>, ticks: u64) -> Result<(), AllocError>
