@@ -5,7 +5,7 @@ ghost use Rattle.durations.specs.Laws.{CountsIn, FillTheBar};
 ghost use Rattle.durations.specs.Value as lengths;
 ghost use Rattle.durations.specs.Value.{IsWide};
 
-use crate::notation::notate;
+use crate::notation::push_length;
 use crate::value::{Recip, Value, width};
 use rhythm_base::SoundKind;
 use std::alloc::{AllocError, Global};
@@ -61,19 +61,20 @@ fn dots(leaf: Timed, more: &[Timed], whole: u64) -> u8
     }
 }
 
-/// The values of a leaf: those of its length, or one with a dot for each leaf that is joined to it.
-fn values_with(alloc: Global, leaf: Timed, dots: u8, whole: u64) -> Result<Vec<Value>, AllocError>
+/// Puts the values of a leaf in the place of those in the list: those of its length, or one with a dot for each leaf that is joined to it.
+fn renew(values: &mut Vec<Value>, leaf: Timed, dots: u8, whole: u64) -> Result<(), AllocError>
     requires some { 1 ≤ whole }
     requires few { whole ≤ 61440 }
     requires leaf { IsTimedLeaf whole leaf }
     requires joined { 0 < dots → bars.may_join whole leaf ≡ true }
-    ensures { IfOk result (λ v. AreValuesOf whole leaf dots v.items) }
+    ensures { OnOk result (AreValuesOf whole leaf dots values.new.items) }
 {
+    values.clear();
     if dots == 0 {
-        return notate(alloc, leaf.len, whole);
+        return push_length(values, leaf.len, whole);
     }
     let recip = Recip::Of((whole / leaf.len) as u32);
-    Ok(vec![in alloc; Value { recip, dots }]?)
+    Ok(values.push(Value { recip, dots })?)
 }
 
 /// Writes values of the leaf, one after another from this place on.
@@ -117,7 +118,8 @@ pub fn values_of(alloc: Global, leaves: &[Timed], whole: u64) -> Result<Vec<Writ
     ensures dots { IfOk result (λ v. All (λ w. w.dots ≤ 2) (map (λ w. w.value) v.items)) }
     ensures grid { IfOk result (λ v. All (CountsIn whole) (map (λ w. w.value) v.items)) }
 {
-    let mut written = Vec::new(alloc);
+    let mut written = Vec::with_capacity(alloc, leaves.len())?;
+    let mut values = Vec::new(alloc);
     let mut joined = 0;
     let mut place = 0;
     'leaves: for (leaf, timed) in leaves.iter().enumerate() {
@@ -125,7 +127,7 @@ pub fn values_of(alloc: Global, leaves: &[Timed], whole: u64) -> Result<Vec<Writ
             joined -= 1;
         } else {
             joined = dots(*timed, &leaves[leaf + 1..], whole);
-            let values = values_with(alloc, *timed, joined, whole)?;
+            renew(&mut values, *timed, joined, whole)?;
             push_values(&mut written, &values, leaf as u32, place, whole)?;
         }
         place += timed.len;

@@ -1,4 +1,4 @@
-ghost use Rattle.std.specs.Prelude.{◌≡◌, ◌*◌, ◌<◌, ◌≤◌, List, ◌∷◌, All, IfOk};
+ghost use Rattle.std.specs.Prelude.{◌≡◌, ◌*◌, ◌<◌, ◌≤◌, ◌++◌, List, ◌∷◌, All, IfOk, OnOk};
 ghost use Rattle.durations.specs.Laws.{CountsIn, SumTo};
 ghost use Rattle.durations.specs.Values.{AreValues};
 ghost use Rattle.durations.specs.declared.value.Value.{Value};
@@ -31,6 +31,21 @@ fn first_value(length: Length) -> (Value, Length)
     }
 }
 
+/// Appends the values of a length of `len` of `whole` equal parts of a whole note, as `notate` gives them.
+pub(crate) fn push_length(values: &mut Vec<Value>, len: u64, whole: u64) -> Result<(), AllocError>
+    requires parts { 1 ≤ whole }
+    requires few_parts { whole ≤ 61440 }
+    ensures { OnOk result ((own : List Value) × AreValues len whole own × (values.new.items ≡ values.old.items ++ own)) }
+{
+    let mut rest = Length { parts: len, whole };
+    'values: while rest.parts > 0 {
+        let (value, left) = first_value(rest);
+        values.push(value)?;
+        rest = left;
+    }
+    Ok(())
+}
+
 /// The values of a length of `len` of `whole` equal parts of a whole note, one after another. Where the length in lowest terms
 /// is no single value, the largest power of two of its parts that is a value without dots is taken off, and the rest is
 /// treated so again: 5/4 is a whole note and a quarter, 5/3 a third, a third and a whole note.
@@ -45,11 +60,6 @@ pub fn notate(alloc: Global, len: u64, whole: u64) -> Result<Vec<Value>, AllocEr
     ensures grid { IfOk result (λ v. All (CountsIn whole) v.items) }
 {
     let mut values = Vec::new(alloc);
-    let mut rest = Length { parts: len, whole };
-    'values: while rest.parts > 0 {
-        let (value, left) = first_value(rest);
-        values.push(value)?;
-        rest = left;
-    }
+    push_length(&mut values, len, whole)?;
     Ok(values)
 }

@@ -11,7 +11,7 @@ use Rattle.durations.specs.Value.{IsWide, width}
 use Rattle.durations.proofs.Bars.{written_dots, written_fills, written_grid, written_leaf}
 use Rattle.durations.proofs.Steps.{after, leaf_at, nothing, step_joined, step_group, group_wide, group_few, group_end}
 use Rattle.durations.proofs.joined.values_of.Goals as goal
-use Rattle.durations.proofs.joined.values_of.Goals.{then-joined-gt0, else-joined-gt0+in_ok-values+in_ok-push_values}
+use Rattle.durations.proofs.joined.values_of.Goals.{then-joined-gt0, else-joined-gt0+in_ok-renew+in_ok-push_values}
 
 pub overflow_cast-leaf : goal.overflow_cast-leaf
 overflow_cast-leaf c =
@@ -24,14 +24,14 @@ push_values-requires-clause-dots c =
     let xs = c.args.leaves.now in
     let i = c.leaves.leaf in
     let e = c.dots-joined.ensures ∙ ap (dots c.args.whole (leaf_at xs i)) (after xs (i + 1)) in
-    subst (All (λ v. v.dots ≤ 2)) (sym c.deref.ensures.value) (group_few c.args.whole c.dots-joined.result (drop (i + 1) xs) (leaf_at xs i) c.in_ok-values.values.items e c.in_ok-values.ensures)
+    subst (All (λ v. v.dots ≤ 2)) (sym c.deref.ensures.value) (group_few c.args.whole c.dots-joined.result (drop (i + 1) xs) (leaf_at xs i) c.renew.new.values.items e c.in_ok-renew.ensures)
 
 pub push_values-requires-clause-wide : goal.push_values-requires-clause-wide
 push_values-requires-clause-wide c =
     let xs = c.args.leaves.now in
     let i = c.leaves.leaf in
     let e = c.dots-joined.ensures ∙ ap (dots c.args.whole (leaf_at xs i)) (after xs (i + 1)) in
-    subst (All (IsWide c.args.whole)) (sym c.deref.ensures.value) (group_wide c.args.whole c.dots-joined.result (drop (i + 1) xs) (leaf_at xs i) c.in_ok-values.values.items c.requires.some e c.in_ok-values.ensures)
+    subst (All (IsWide c.args.whole)) (sym c.deref.ensures.value) (group_wide c.args.whole c.dots-joined.result (drop (i + 1) xs) (leaf_at xs i) c.renew.new.values.items c.requires.some e c.in_ok-renew.ensures)
 
 pub push_values-requires-clause-end : goal.push_values-requires-clause-end
 push_values-requires-clause-end c =
@@ -39,8 +39,8 @@ push_values-requires-clause-end c =
     let xs = c.args.leaves.now in
     let i = c.leaves.leaf in
     let e = c.dots-joined.ensures ∙ ap (dots c.args.whole (leaf_at xs i)) (after xs (i + 1)) in
-    let end = group_end c.args.whole c.dots-joined.result (drop (i + 1) xs) (leaf_at xs i) c.in_ok-values.values.items c.requires.some e c.in_ok-values.ensures in
-    let same : sum (map (width c.args.whole) c.deref.result.now) ≡ sum (map (width c.args.whole) c.in_ok-values.values.items) = ap (λ x. sum (map (width c.args.whole) x)) c.deref.ensures.value in
+    let end = group_end c.args.whole c.dots-joined.result (drop (i + 1) xs) (leaf_at xs i) c.renew.new.values.items c.requires.some e c.in_ok-renew.ensures in
+    let same : sum (map (width c.args.whole) c.deref.result.now) ≡ sum (map (width c.args.whole) c.renew.new.values.items) = ap (λ x. sum (map (width c.args.whole) x)) c.deref.ensures.value in
     let more = sum_by_more_le f xs i (record { len = 0; kind = Begin }) c.leaves-test.true in
     omega (arith, same, end, more, c.leaves.invariant.place, sum-map f (take i xs), sum-map f xs, c.requires.bar, c.requires.few)
 
@@ -68,13 +68,13 @@ leaves-preserved c =
             let some : 0 < c.leaves.joined = omega (arith, w.if-joined-gt0.true) in
             let all = c.leaves.invariant.so_far ws (step_joined whole c.leaves.joined i place (drop i xs) (drop (i + 1) xs) (leaf_at xs i) ws is some next) in
             subst (λ (v : List Written). AreWritten whole xs (v ++ ws)) (sym (ap (λ v. v.items) w.written-is)) all
-        | else-joined-gt0+in_ok-values+in_ok-push_values w ↦ λ ws h.
-            let vs = w.in_ok-values.values.items in
+        | else-joined-gt0+in_ok-renew+in_ok-push_values w ↦ λ ws h.
+            let vs = w.renew.new.values.items in
             let d = w.dots-joined.result in
             let next = subst (λ n. AreWrittenFrom whole n (i + 1) (place + (leaf_at xs i).len) (drop (i + 1) xs) ws) w.joined-is h in
             let none : c.leaves.joined ≡ 0 = omega (arith, w.if-joined-gt0.false) in
             let e = w.dots-joined.ensures ∙ ap (dots whole (leaf_at xs i)) (after xs (i + 1)) in
-            let step = step_group whole c.leaves.joined i place d (drop i xs) (drop (i + 1) xs) (leaf_at xs i) vs ws is none e w.in_ok-values.ensures next in
+            let step = step_group whole c.leaves.joined i place d (drop i xs) (drop (i + 1) xs) (leaf_at xs i) vs ws is none e w.in_ok-renew.ensures next in
             let all = c.leaves.invariant.so_far (value_places whole i place vs ++ ws) step in
             let items = ap (λ v. v.items) w.written-is ∙ w.in_ok-push_values.ensures ∙ ap (λ x. c.leaves.written.items ++ value_places whole i place x) w.deref.ensures.value in
             subst (AreWritten whole xs) (sym (append_assoc c.leaves.written.items (value_places whole i place vs) ws) ∙ ap (λ x. x ++ ws) (sym items)) all
