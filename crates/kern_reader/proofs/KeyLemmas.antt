@@ -30,12 +30,9 @@ key_absent keys k first text within absent =
     let next : event_keys keys k (128 - k) ≡ event_keys keys (k + 1) (128 - (k + 1)) = from_next keys k within ∙ rw absent refl in
     ap (λ ks. text ++ listed_on first ks) (sym next)
 
-pub keys_end : (keys k : ℕ) (first : Bool) → k ≡ 128 → listed_on first (event_keys keys k (128 - k)) ≡ []
-keys_end keys k first end = let e : 128 - k ≡ 0 = omega arith in rw e (none first)
-  where
-    none : (first : Bool) → listed_on first [] ≡ []
-    none true = refl
-    none false = refl
+pub no_key : (first : Bool) → listed_on first [] ≡ []
+no_key true = refl
+no_key false = refl
 
 -- ---- a key is in the set where its bit is one
 

@@ -8,5 +8,4 @@ pub mod Outcome
 pub mod Reading
 pub mod Events
 pub mod EventText
-pub mod LowestKey
 pub mod FaultName

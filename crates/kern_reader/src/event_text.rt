@@ -1,8 +1,7 @@
 ghost use Rattle.kern_reader.specs.EventText as definitions;
 ghost use Rattle.kern_reader.specs.EventText.{event_text, events_text, frac_text, keys_text, kind_text};
-ghost use Rattle.kern_reader.specs.LowestKey.{IsFloor};
 ghost use Rattle.std.specs.List.{flat_map};
-ghost use Rattle.std.specs.Prelude.{◌≡◌, ◌++◌, All, IsTrue, OnOk, decimal};
+ghost use Rattle.std.specs.Prelude.{◌≡◌, ◌++◌, OnOk, decimal};
 
 use crate::event::KernEvent;
 use rhythm_base::{Frac, Keys, Span};
@@ -35,28 +34,15 @@ fn push_key(text: &mut Vec<u8>, first: bool, key: u8) -> Result<(), AllocError>
     push_number(text, u64::from(key))
 }
 
-/// Whether two sets of keys are one.
-fn are_same(keys: Keys, other: Keys) -> bool
-    ensures { IsTrue result → keys ≡ other }
-{
-    keys == other
-}
-
-/// Appends the keys of a chord, none of which is below `low`. It looks no further once all are found.
-fn push_keys(text: &mut Vec<u8>, low: u8, keys: Keys) -> Result<(), AllocError>
-    requires { IsFloor low keys }
+/// Appends the keys of a chord.
+fn push_keys(text: &mut Vec<u8>, keys: Keys) -> Result<(), AllocError>
     ensures { OnOk result (text.new.items ≡ text.old.items ++ keys_text keys) }
 {
     let mut first = true;
-    let mut found = Keys::none();
-    'keys: for key in low..128 {
+    'keys: for key in keys.lowest()..keys.end() {
         if keys.has(key) {
             push_key(text, first, key)?;
             first = false;
-            found = found.join(Keys::one(key));
-            if are_same(found, keys) {
-                return Ok(());
-            }
         }
     }
     Ok(())
@@ -68,7 +54,7 @@ fn push_graces(text: &mut Vec<u8>, graces: &[Keys]) -> Result<(), AllocError>
 {
     'graces: for keys in graces {
         text.extend_from_slice(b" q")?;
-        push_keys(text, 0, *keys)?;
+        push_keys(text, *keys)?;
     }
     Ok(())
 }
@@ -96,38 +82,31 @@ fn push_place(text: &mut Vec<u8>, event: &KernEvent) -> Result<(), AllocError>
 }
 
 /// Appends the kind and the keys of a span.
-fn push_sound(text: &mut Vec<u8>, low: u8, span: &Span) -> Result<(), AllocError>
-    requires { IsFloor low span.now.keys }
+fn push_sound(text: &mut Vec<u8>, span: &Span) -> Result<(), AllocError>
     ensures { OnOk result (text.new.items ≡ text.old.items ++ definitions.sound_text span.now) }
 {
     text.extend_from_slice(b" ")?;
     push_kind(text, span.short)?;
     text.extend_from_slice(b" ")?;
-    push_keys(text, low, span.keys)
+    push_keys(text, span.keys)
 }
 
 /// Appends the line of an event.
-fn push_event(text: &mut Vec<u8>, low: u8, event: &KernEvent) -> Result<(), AllocError>
-    requires { IsFloor low event.now.span.keys }
+fn push_event(text: &mut Vec<u8>, event: &KernEvent) -> Result<(), AllocError>
     ensures { OnOk result (text.new.items ≡ text.old.items ++ event_text event.now) }
 {
     push_place(text, event)?;
-    push_sound(text, low, &event.span)?;
+    push_sound(text, &event.span)?;
     push_graces(text, event.span.graces.as_slice())?;
     text.extend_from_slice(b"\n")
 }
 
-/// Appends the lines of events, whose chords have no key below `low`.
-pub(crate) fn push_lines(
-    text: &mut Vec<u8>,
-    low: u8,
-    events: &[KernEvent],
-) -> Result<(), AllocError>
-    requires { All (λ e. IsFloor low e.span.keys) events.now }
+/// Appends the lines of events.
+pub(crate) fn push_lines(text: &mut Vec<u8>, events: &[KernEvent]) -> Result<(), AllocError>
     ensures { OnOk result (text.new.items ≡ text.old.items ++ events_text events.now) }
 {
     'events: for event in events {
-        push_event(text, low, event)?;
+        push_event(text, event)?;
     }
     Ok(())
 }

@@ -14,7 +14,6 @@ mod line;
 mod line_reading;
 mod line_words;
 mod listing;
-mod lowest_key;
 mod note;
 mod number;
 mod piece;

@@ -6,7 +6,6 @@ ghost use Rattle.std.specs.Prelude.{◌≡◌, ◌≤◌, ◌<◌, ◌^◌, ◌+
 
 use crate::event_text::push_lines;
 use crate::events::{Walk, push_beginning};
-use crate::lowest_key::lowest_key;
 use crate::score::KernScore;
 use crate::token::Token;
 use std::alloc::{AllocError, Global};
@@ -25,14 +24,13 @@ fn push_column(
     requires short { length tokens.now < 2 ^ 32 }
     ensures { OnOk result ((spans : List Span) × AreColumnSpans grid tokens.now spans × (text.new.items ≡ text.old.items ++ events_text (map (span_event spine) spans))) }
 {
-    let low = lowest_key(tokens);
     let mut walk = Walk::new(alloc);
     let mut own = Vec::new(alloc);
     let mut later = tokens;
     'tokens: while let [token, after @ ..] = later {
         own.clear();
         push_beginning(alloc, spine, &walk, *token, after, grid, &mut own)?;
-        push_lines(text, low, own.as_slice())?;
+        push_lines(text, own.as_slice())?;
         walk.step(*token, grid)?;
         later = after;
     }

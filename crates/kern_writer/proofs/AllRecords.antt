@@ -1,7 +1,6 @@
 -- The records of the bars of a score.
-use Rattle.std.proofs.Common.{◌≡◌, ℕ, zero, suc, ◌+◌, ◌*◌, ◌≤◌, ◌<◌, List, [], ◌∷◌, ◌++◌, Option, Some, None, length, get_or, map, drop, refl, sym, ap, ◌∙◌, subst, arith}
+use Rattle.std.proofs.Common.{◌≡◌, ℕ, suc, ◌+◌, ◌*◌, ◌≤◌, List, [], ◌∷◌, ◌++◌, Option, Some, None, length, get_or, map, drop, refl, sym, ap, ◌∙◌, subst, arith}
 use Rattle.std.specs.Prelude.{All, slice_index_or}
-use Rattle.std.specs.List.{flat_map}
 use Rattle.std.proofs.lemmas.List.{drop-drop, get_or-drop, length-map, map-id}
 use Rattle.std.proofs.lemmas.List.Elements.{All-cons, All-head, All-nil, All-tail, All-weaker}
 use Rattle.rhythm_base.specs.declared.sound.Sound.{Sound}
@@ -9,8 +8,7 @@ use Rattle.rhythm_base.specs.Lists.{Each}
 use Rattle.derivation.specs.WellSounded.{AreWellSounded, StandInBars}
 use Rattle.derivation.specs.declared.score.ScoreBar.{ScoreBar}
 use Rattle.kern_writer.specs.Ahead.{AreTokensAhead, begins_with_tie, later_sounds, own_sounds}
-use Rattle.kern_writer.specs.Changes.{changes}
-use Rattle.kern_writer.specs.Columns.{AreDataRecords, RiseFrom}
+use Rattle.kern_writer.specs.Columns.{RiseFrom}
 use Rattle.kern_writer.specs.Records.{AreBarRecords, AreBarsRecords, AreRecords, Record, head, tail, tokens_in_bar}
 use Rattle.derivation.specs.Score.{IsScore, IsScoreBar, Score}
 use Rattle.kern_writer.specs.Tokens.{Token, voice_tokens}
@@ -19,7 +17,7 @@ use Rattle.kern_writer.proofs.BarTokens.{tokens_exist, tokens_rise}
 use Rattle.kern_writer.proofs.Merging.{are_records, bar_records, data_exist}
 use Rattle.derivation.proofs.Pairs.{each_length}
 use Rattle.kern_writer.proofs.TimedSounds.{some_whole}
-use Rattle.kern_writer.proofs.VoiceTokens.{AreVoiceTokens, voice_tokens_exist, voice_values_are}
+use Rattle.kern_writer.proofs.VoiceTokens.{AreVoiceTokens, voice_values_are}
 
 -- ---- the records of bars whose tokens stand at the front of the lists of each voice
 

@@ -1,11 +1,10 @@
 -- The tokens that are left of a column.
-use Rattle.std.proofs.Common.{◌≡◌, ℕ, ◌+◌, ◌<◌, ◌≤◌, Bool, true, List, [], ◌∷◌, length, drop, refl, sym, ap, ◌∙◌, ◌⊎◌, inl, inr, arith}
+use Rattle.std.proofs.Common.{◌≡◌, ℕ, ◌+◌, ◌<◌, ◌≤◌, Bool, true, List, [], ◌∷◌, length, drop, refl, sym, ap, ◌∙◌, ◌⊎◌, inl, inr}
 use Rattle.std.specs.Prelude.{is_some}
 use Rattle.std.proofs.lemmas.Bool.{cases_lt, false≢true}
 use Rattle.std.proofs.lemmas.List.{drop-drop, drop_all}
 use Rattle.kern_writer.specs.Columns.{column_tokens}
 use Rattle.kern_writer.specs.Records.{token_at}
-use Rattle.kern_writer.specs.Tokens.{Token}
 use Rattle.kern_writer.specs.Values.{VoiceValue}
 
 drop_first : (flats after : Bool) (vs : List VoiceValue) → column_tokens flats after (drop 1 vs) ≡ drop 1 (column_tokens flats after vs)

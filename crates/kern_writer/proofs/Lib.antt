@@ -3,7 +3,6 @@ pub mod BarSounds
 pub mod BarTokens
 pub mod BarValues
 pub mod ColumnLemmas
-pub mod KeySets
 pub mod Merging
 pub mod OneText
 pub mod Rising

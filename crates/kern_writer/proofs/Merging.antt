@@ -1,8 +1,7 @@
 -- The columns of a bar, place by place.
-use Rattle.std.proofs.Common.{◌≡◌, ℕ, zero, suc, ◌+◌, ◌≤◌, ◌<◌, min, max, Bool, true, false, cond, List, [], ◌∷◌, ◌++◌, Option, Some, None, length, get_or, map, refl, sym, ap, ◌∙◌, subst, ◌≢◌, ◌⊎◌, inl, inr, arith}
-use Rattle.std.specs.Prelude.{◌↔◌, ◌==◌, nat_lt, All, Contains, IsSome, fold, is_some, sum_by, ⊤}
+use Rattle.std.proofs.Common.{◌≡◌, ℕ, zero, suc, ◌≤◌, ◌<◌, min, max, true, cond, List, [], ◌∷◌, ◌++◌, Option, Some, None, length, get_or, map, refl, sym, ap, ◌∙◌, subst, ◌≢◌, ◌⊎◌, inl, inr, arith}
+use Rattle.std.specs.Prelude.{◌==◌, All, Contains, IsSome, fold, is_some, sum_by, ⊤}
 use Rattle.std.specs.List.{flat_map}
-use Rattle.std.specs.List.Sorted.{IsStrictlyIncreasing}
 use Rattle.std.proofs.lemmas.Bool.{cases_eq, cases_lt, false≢true}
 use Rattle.std.proofs.lemmas.Bool.Decides.{nat_tests}
 use Rattle.std.proofs.lemmas.List.Elements.{All-cons, All-head, All-nil, All-tail}
@@ -10,7 +9,7 @@ use Rattle.std.proofs.lemmas.List.Sums.{sum_by-cons}
 use Rattle.derivation.specs.declared.score.ScoreBar.{ScoreBar}
 use Rattle.kern_writer.specs.Changes.{changes}
 use Rattle.kern_writer.specs.Columns.{AreDataRecords, RiseFrom, earlier_place, first_place, next_place, tokens_after}
-use Rattle.kern_writer.specs.Records.{AreBarRecords, ArePlaces, Record, alike, barline_record, grace_column, grace_record, grace_records, grace_records_at, grace_tokens, main_column, main_record, records_at, token_at}
+use Rattle.kern_writer.specs.Records.{AreBarRecords, ArePlaces, Record, alike, barline_record, grace_column, grace_records, grace_records_at, grace_tokens, main_column, main_record, records_at, token_at}
 use Rattle.kern_writer.specs.Tokens.{Token}
 use Rattle.kern_writer.proofs.Rising.{after_at, after_le, after_lt, after_rise, none_before, rise_weaker}
 use Rattle.kern_writer.proofs.RisingPlaces.{contains_cases, contains_here, contains_none, contains_there, rising_cons, rising_one}

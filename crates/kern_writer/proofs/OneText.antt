@@ -1,22 +1,21 @@
 -- A score has one text.
 use Rattle.rhythm_base.specs.declared.limits.TheConstants.{LONGEST_SCORE}
-use Rattle.std.proofs.Common.{◌≡◌, ℕ, suc, ◌+◌, ◌-◌, ◌≤◌, ◌<◌, List, [], ◌∷◌, ◌++◌, Option, Some, length, map, take, refl, sym, ap, ◌∙◌, subst, ◌⊎◌, inl, inr, arith}
-use Rattle.std.specs.Prelude.{All, sum_by}
+use Rattle.std.proofs.Common.{◌≡◌, ℕ, suc, ◌-◌, ◌≤◌, ◌<◌, List, [], ◌∷◌, ◌++◌, Option, Some, length, map, take, sym, ap, ◌∙◌, subst, ◌⊎◌, inl, inr, arith}
+use Rattle.std.specs.Prelude.{sum_by}
 use Rattle.std.specs.List.{flat_map}
 use Rattle.std.proofs.lemmas.Bool.{cases_lt}
-use Rattle.std.proofs.lemmas.List.{take-take, take_all}
+use Rattle.std.proofs.lemmas.List.{take-take}
 use Rattle.std.proofs.lemmas.List.Concat.{length-flat_map}
 use Rattle.std.proofs.lemmas.List.Sums.{sum_by-take-le}
-use Rattle.rhythm_base.specs.declared.sound.Sound.{Sound}
 use Rattle.derivation.specs.WellSounded.{AreWellSounded}
 use Rattle.derivation.specs.declared.score.ScoreBar.{ScoreBar}
 use Rattle.kern_writer.specs.Changes.{changes}
 use Rattle.kern_writer.specs.Laws.{TextsAreOne}
-use Rattle.kern_writer.specs.Records.{AreBarRecords, AreBarsRecords, ArePlaces, AreRecords, Record, alike, barline_record, head, records_at, tail, tokens_in_bar}
+use Rattle.kern_writer.specs.Records.{AreBarRecords, AreBarsRecords, AreRecords, Record, alike, barline_record, head, records_at, tail, tokens_in_bar}
 use Rattle.derivation.specs.Score.{IsScore, Score}
 use Rattle.kern_writer.specs.Text.{IsScoreText, IsTooLong, record_text, records_text}
 use Rattle.kern_writer.specs.Tokens.{Token, voice_tokens}
-use Rattle.kern_writer.specs.Values.{AreVoiceValues, VoiceValue}
+use Rattle.kern_writer.specs.Values.{AreVoiceValues}
 use Rattle.kern_writer.proofs.Merging.{places_one}
 use Rattle.derivation.proofs.Pairs.{each_one}
 use Rattle.kern_writer.proofs.VoiceTokens.{voice_values_one}

@@ -1,5 +1,5 @@
 -- The keys of a set, one after another.
-use Rattle.std.proofs.Common.{◌≡◌, ℕ, zero, suc, ◌+◌, ◌-◌, ◌*◌, ◌≤◌, ◌<◌, ◌/◌, ◌%◌, ◌^◌, bit_and, bit_or, List, [], ◌∷◌, ◌++◌, length, map, refl, sym, ap, ◌∙◌, subst, arith}
+use Rattle.std.proofs.Common.{◌≡◌, ℕ, zero, suc, ◌+◌, ◌-◌, ◌*◌, ◌≤◌, ◌<◌, ◌/◌, ◌%◌, ◌^◌, bit_and, bit_or, List, [], ◌∷◌, ◌++◌, length, map, refl, sym, ap, ◌∙◌, arith}
 use Rattle.std.specs.Prelude.{◌==◌, if◌then◌else◌}
 use Rattle.std.specs.Int.{IsBitSet, bit_at}
 use Rattle.std.specs.List.{join_with_byte}
@@ -8,7 +8,7 @@ use Rattle.std.proofs.lemmas.Nat.{pow_pos}
 use Rattle.std.proofs.lemmas.Nat.Bits.{and_pow, bit_at-lt, bit_at_above}
 use Rattle.std.specs.Int.Bits.{or_add_and}
 use Rattle.std.proofs.Math.Arith.{mod-mul}
-use Rattle.std.proofs.Math.Nat.{mod-lt, mod-one, mul_comm, pow-suc}
+use Rattle.std.proofs.Math.Nat.{mod-lt, mul_comm, pow-suc}
 use Rattle.kern_writer.specs.Shared.{separator_text}
 use Rattle.kern_writer.specs.Tokens.{keys_from, rising_keys}
 use Rattle.kern_writer.proofs.Separators.{join_push}
@@ -122,15 +122,3 @@ found_push keys k bit =
     let none : bit_and below (2 ^ k) ≡ 0 = and_pow below k ∙ ap (λ b. b * 2 ^ k) (bit_at_above below k k few (omega arith)) ∙ zero_times in
     let sum : bit_or below (2 ^ k) ≡ below + 2 ^ k = let e = or_add_and below (2 ^ k) in omega (arith, e, none) in
     mod_next keys k ∙ ap (λ b. b * 2 ^ k + below) bit ∙ omega arith ∙ sym sum
-
-pub found_none : (keys low : ℕ) → ((i : ℕ) → i < low → bit_at keys i ≡ 0) → keys % 2 ^ low ≡ 0
-found_none keys zero none = let one : 2 ^ 0 ≡ 1 = refl in ap (λ n. keys % n) one ∙ mod-one keys
-found_none keys (suc k) none =
-    let e : suc k ≡ k + 1 = omega arith in
-    ap (λ n. keys % 2 ^ n) e ∙ found_skip keys k (none k (omega arith)) ∙ found_none keys k (λ i lt. none i (omega (arith, lt)))
-
--- where all of them are found, there is no more
-pub found_all : (keys k : ℕ) → keys % 2 ^ k ≡ keys → k ≤ 128 → keys_from keys 0 k ≡ rising_keys keys
-found_all keys k all few =
-    let below : keys < 2 ^ k = subst (λ n. n < 2 ^ k) all (mod-lt keys (pow_pos k)) in
-    keys_all keys k few (λ i le lt. bit_at_above keys k i below le)

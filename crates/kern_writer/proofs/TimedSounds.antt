@@ -1,8 +1,7 @@
 -- The sounds that fill a bar as long as they are written.
-use Rattle.rhythm_base.specs.declared.limits.TheConstants.{MOST_UNITS}
-use Rattle.std.proofs.Common.{◌≡◌, ℕ, ◌+◌, ◌*◌, ◌≤◌, ◌<◌, List, [], ◌∷◌, length, map, get_or, refl, sym, ap, ◌∙◌, subst, arith}
-use Rattle.std.specs.Prelude.{All, IsTrue, sum, sum_by}
-use Rattle.std.proofs.Math.Nat.{mul-le-mul_left, mul-le-mul_right}
+use Rattle.std.proofs.Common.{◌≡◌, ℕ, ◌+◌, ◌*◌, ◌≤◌, List, [], ◌∷◌, map, get_or, ap, ◌∙◌, arith}
+use Rattle.std.specs.Prelude.{All, sum, sum_by}
+use Rattle.std.proofs.Math.Nat.{mul-le-mul_left}
 use Rattle.std.proofs.lemmas.List.Elements.{All-map}
 use Rattle.std.proofs.lemmas.List.Sums.{get_or-le-sum_by, sum-map, sum_by-cons}
 use Rattle.rhythm_base.specs.declared.sound.Sound.{Sound}

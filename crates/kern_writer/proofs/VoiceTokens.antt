@@ -1,17 +1,16 @@
 -- The tokens of a voice, bar after bar.
-use Rattle.std.proofs.Common.{◌≡◌, ℕ, zero, suc, ◌+◌, ◌*◌, ◌≤◌, ◌<◌, Bool, false, List, [], ◌∷◌, ◌++◌, length, refl, sym, ap, ◌∙◌, subst, arith}
+use Rattle.std.proofs.Common.{◌≡◌, ℕ, suc, ◌+◌, ◌≤◌, ◌<◌, List, [], ◌∷◌, length, refl, sym, ap, ◌∙◌, subst, arith}
 use Rattle.std.specs.Prelude.{All}
 use Rattle.std.specs.List.{flat_map}
 use Rattle.std.proofs.lemmas.List.Elements.{All-head, All-tail}
 use Rattle.rhythm_base.specs.declared.sound.Sound.{Sound}
-use Rattle.rhythm_base.specs.SoundKinds.{is_tie}
 use Rattle.derivation.specs.WellSounded.{StandInBars}
 use Rattle.durations.proofs.Wide.{some_product}
 use Rattle.derivation.specs.declared.score.ScoreBar.{ScoreBar}
 use Rattle.kern_writer.specs.Ahead.{AreTokensAhead, begins_with_tie, later_sounds, own_sounds}
 use Rattle.kern_writer.specs.Columns.{column_tokens}
 use Rattle.derivation.specs.Score.{IsScoreBar}
-use Rattle.kern_writer.specs.Tokens.{Token, bar_tokens, has_flats, next_goes_on, voice_tokens}
+use Rattle.kern_writer.specs.Tokens.{Token, has_flats, next_goes_on, voice_tokens}
 use Rattle.kern_writer.specs.Values.{AreBarValues, AreVoiceValues, VoiceValue, sounds_in_bar}
 use Rattle.kern_writer.proofs.BarSounds.{first_in_bar, in_bar_own, in_later, stand_later}
 use Rattle.kern_writer.proofs.BarTokens.{bar_tokens_are, bar_values_one, first_goes, tokens_exist}

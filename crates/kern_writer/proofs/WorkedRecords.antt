@@ -1,5 +1,5 @@
 -- Records of two voices, computed by the definition.
-use Rattle.std.specs.Prelude.{◌≡◌, ℕ, List, [], ◌∷◌, ◌++◌, codes, refl}
+use Rattle.std.specs.Prelude.{◌≡◌, ℕ, List, [], ◌∷◌, codes, refl}
 use Rattle.std.specs.List.{flat_map}
 use Rattle.kern_writer.specs.Records.{records_at}
 use Rattle.kern_writer.specs.Text.{records_text}

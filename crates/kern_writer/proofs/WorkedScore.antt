@@ -1,8 +1,7 @@
 -- A whole score, computed by the definition: two tied half notes.
-use Rattle.std.specs.Prelude.{◌≡◌, ◌↔◌, ℕ, ◌^◌, true, List, [], ◌∷◌, ◌++◌, codes, map, refl, Contains, IsSome, Some, None}
-use Rattle.std.proofs.Common.{inl, subst, arith}
+use Rattle.std.specs.Prelude.{ℕ, ◌^◌, true, List, [], ◌∷◌, ◌++◌, codes, map, refl, None}
+use Rattle.std.proofs.Common.{inl, arith}
 use Rattle.std.proofs.lemmas.Nat.Gcd.{IsGcd-from_mod, IsGcd-from_zero}
-use Rattle.std.specs.Int.{IsGcd}
 use Rattle.rhythm_base.specs.declared.sound.Sound.{Sound}
 use Rattle.rhythm_base.specs.declared.sound.SoundKind.{SoundKind}
 use Rattle.rhythm_base.specs.declared.sound.SoundKind.TheVariants.{Begin, Tie}

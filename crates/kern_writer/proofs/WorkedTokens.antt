@@ -1,5 +1,5 @@
 -- Tokens, computed by the definition.
-use Rattle.std.specs.Prelude.{◌≡◌, ℕ, ◌+◌, ◌^◌, pos, negsuc, Bool, true, false, List, [], ◌∷◌, ◌++◌, codes, refl, Some, None}
+use Rattle.std.specs.Prelude.{◌≡◌, ℕ, ◌+◌, ◌^◌, pos, negsuc, Bool, true, false, List, [], ◌∷◌, codes, refl, Some}
 use Rattle.rhythm_base.specs.declared.sound.Sound.{Sound}
 use Rattle.rhythm_base.specs.declared.sound.SoundKind.{SoundKind}
 use Rattle.rhythm_base.specs.declared.sound.SoundKind.TheVariants.{Begin, Short, Tie, Rest}
@@ -7,8 +7,8 @@ use Rattle.durations.specs.declared.value.Recip.{Recip}
 use Rattle.durations.specs.declared.value.Recip.TheVariants.{Of, Breve, Long}
 use Rattle.durations.specs.declared.value.Value.{Value}
 use Rattle.std.specs.Fmt.{digits}
-use Rattle.kern_writer.specs.Tokens.{Token, bar_tokens, chord_text, grace_text, has_flats, rising_keys, value_text}
-use Rattle.kern_writer.specs.Values.{VoiceValue, values_of_sounds}
+use Rattle.kern_writer.specs.Tokens.{Token, bar_tokens, grace_text, has_flats, rising_keys, value_text}
+use Rattle.kern_writer.specs.Values.{VoiceValue}
 
 abbrev value : Recip → ℕ → Value
 value recip dots = record { recip = recip; dots = dots }

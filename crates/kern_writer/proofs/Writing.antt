@@ -1,7 +1,7 @@
 -- Records that are written after a text, one after another.
 use Rattle.rhythm_base.specs.declared.limits.TheConstants.{LONGEST_SCORE}
-use Rattle.std.proofs.Common.{◌≡◌, ℕ, suc, ◌+◌, ◌-◌, ◌<◌, ◌≤◌, List, [], ◌∷◌, ◌++◌, Result, Ok, Err, IsErr, IsErrAnd, MatchResult, length, take, refl, sym, ap, ◌∙◌, subst, add-one, arith, length-append}
-use Rattle.std.specs.List.{flat_map, join_with_byte}
+use Rattle.std.proofs.Common.{◌≡◌, ℕ, suc, ◌+◌, ◌-◌, ◌<◌, ◌≤◌, List, [], ◌∷◌, ◌++◌, Result, Ok, Err, IsErr, IsErrAnd, MatchResult, length, take, sym, ap, ◌∙◌, subst, arith, length-append}
+use Rattle.std.specs.List.{join_with_byte}
 use Rattle.std.proofs.lemmas.Bool.{false≢true}
 use Rattle.std.proofs.lemmas.List.{append-nil, append_assoc, take-append-le}
 use Rattle.std.proofs.lemmas.List.Concat.{flat_map-append}

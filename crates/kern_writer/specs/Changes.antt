@@ -1,5 +1,5 @@
 -- What is said before a barline: the key, the signature and the tempo of the bar, where they differ from those before.
-use Rattle.std.specs.Prelude.{ℕ, ℤ, pos, negsuc, suc, ◌+◌, ◌-◌, ◌*◌, ◌/◌, Bool, true, false, ◌&&◌, ◌==◌, not, if◌then◌else◌, List, [], ◌∷◌, ◌++◌, codes, decimal, take, Option, Some, None}
+use Rattle.std.specs.Prelude.{ℕ, ℤ, pos, negsuc, ◌+◌, ◌*◌, ◌/◌, Bool, false, ◌&&◌, ◌==◌, if◌then◌else◌, List, [], ◌∷◌, ◌++◌, codes, decimal, take, Option, Some, None}
 use Rattle.derivation.specs.declared.score.ScoreBar.{ScoreBar}
 
 -- ---- texts

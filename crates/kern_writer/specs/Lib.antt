@@ -9,4 +9,3 @@ pub mod Columns
 pub mod Ahead
 pub mod Shared
 pub mod Writing
-pub mod KeyRange

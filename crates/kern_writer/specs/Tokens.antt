@@ -1,5 +1,5 @@
 -- Tokens: what stands in the column of a voice at a place at which it has a value.
-use Rattle.std.specs.Prelude.{ℕ, ℤ, pos, negsuc, Bool, true, false, ◌&&◌, ◌||◌, not, ◌%◌, ◌/◌, ◌^◌, ◌==◌, if◌then◌else◌, List, [], ◌∷◌, ◌++◌, codes, decimal, filter, map, replicate, Option, Some, None, zero, suc}
+use Rattle.std.specs.Prelude.{ℕ, ℤ, pos, negsuc, Bool, true, false, ◌&&◌, ◌||◌, not, ◌%◌, ◌/◌, ◌^◌, ◌==◌, if◌then◌else◌, List, [], ◌∷◌, ◌++◌, codes, decimal, map, replicate, Option, Some, None, zero, suc}
 use Rattle.std.specs.List.{flat_map, join_with_byte}
 use Rattle.durations.specs.Pitch.{pitch}
 use Rattle.rhythm_base.specs.SoundKinds.{is_rest, is_short, is_tie}

@@ -7,7 +7,6 @@ ghost use Rattle.std.specs.Prelude.{◌≡◌, ◌≤◌, ◌==◌, All, IfOk, O
 ghost use Rattle.std.specs.List.{prefix_len};
 
 use crate::column::Column;
-use crate::key_range::KeyRange;
 use derivation::ScoreBar;
 use rhythm_base::{Sound, SoundKind};
 use std::alloc::{AllocError, Global};
@@ -17,20 +16,15 @@ use std::marker::Model;
 #[derive(Drop)]
 pub(crate) struct SoundsAhead<'a> {
     sounds: &'a [Sound],
-    /// The range of the keys of the voice.
-    range: KeyRange,
 }
 
 impl<'a> Model for SoundsAhead<'a> {
-    ghost use Rattle.std.specs.Prelude.{List, All};
+    ghost use Rattle.std.specs.Prelude.{List};
     ghost use Rattle.rhythm_base.specs.declared.sound.Sound.{Sound};
-    ghost use Rattle.kern_writer.specs.KeyRange.{HasKeysIn};
 
     ghost Value = { List Sound };
 
     ghost view = { λ a. a.sounds.now };
-
-    ghost invariant = { λ a. All (HasKeysIn a.range) a.sounds.now };
 }
 
 /// How many of the sounds are in the bar, before one that is not.
@@ -58,10 +52,7 @@ impl<'a> SoundsAhead<'a> {
     pub(crate) fn of(sounds: &'a [Sound]) -> SoundsAhead<'a>
         ensures { result ≡ sounds.entry.now }
     {
-        SoundsAhead {
-            sounds,
-            range: KeyRange::of(sounds),
-        }
+        SoundsAhead { sounds }
     }
 
     /// The column of the bar of this number, whose sounds are the next, and are passed over.
@@ -84,7 +75,7 @@ impl<'a> SoundsAhead<'a> {
         let (own, later) = sounds.split_at(count);
         self.sounds = later;
         let goes_on = begins_with_tie(later);
-        Column::of(alloc, resolution, bar, own, self.range, goes_on)
+        Column::of(alloc, resolution, bar, own, goes_on)
     }
 }
 

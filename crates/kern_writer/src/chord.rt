@@ -1,10 +1,8 @@
-ghost use Rattle.kern_writer.specs.KeyRange.{AreKeysIn};
 ghost use Rattle.kern_writer.specs.Tokens.{chord_text, closing, goes_on, grace_text, main_text, note_text, opening, short_mark};
 ghost use Rattle.durations.specs.Pitch.{pitch};
 ghost use Rattle.std.specs.Prelude.{◌≡◌, ◌++◌, IsTrue, OnOk, codes};
 
 use crate::kern_text::push_between;
-use crate::key_range::KeyRange;
 use crate::pitch::push_pitch;
 use crate::value_text::push_value;
 use crate::voice_value::VoiceValue;
@@ -59,36 +57,22 @@ fn push_note(
     push_short(text, value)
 }
 
-/// Whether two sets of keys are one.
-fn are_same(keys: Keys, other: Keys) -> bool
-    ensures { IsTrue result → keys ≡ other }
-{
-    keys == other
-}
-
 /// Appends the notes of a value by rising key, with a space between two.
 fn push_notes(
     text: &mut Vec<u8>,
     flats: bool,
-    range: KeyRange,
     value: &VoiceValue,
     next: bool,
 ) -> Result<(), AllocError>
-    requires { AreKeysIn range value.now.sound.keys }
     ensures { OnOk result (text.new.items ≡ text.old.items ++ chord_text (note_text flats value.now next) value.now.sound.keys) }
 {
     let keys = value.sound.keys;
-    let mut found = Keys::none();
     let mut number = 0;
-    'keys: for key in range.low..range.end {
+    'keys: for key in keys.lowest()..keys.end() {
         if keys.has(key) {
             push_between(text, b' ', number)?;
             push_note(text, flats, value, next, key)?;
             number += 1;
-            found = found.join(Keys::one(key));
-            if are_same(found, keys) {
-                return Ok(());
-            }
         }
     }
     Ok(())
@@ -98,18 +82,16 @@ fn push_notes(
 pub(crate) fn push_main(
     text: &mut Vec<u8>,
     flats: bool,
-    range: KeyRange,
     value: &VoiceValue,
     next: bool,
 ) -> Result<(), AllocError>
-    requires { AreKeysIn range value.now.sound.keys }
     ensures { OnOk result (text.new.items ≡ text.old.items ++ main_text flats value.now next) }
 {
     if value.sound.kind == SoundKind::Rest {
         push_value(text, value.value)?;
         text.extend_from_slice(b"r")
     } else {
-        push_notes(text, flats, range, value, next)
+        push_notes(text, flats, value, next)
     }
 }
 
@@ -122,17 +104,11 @@ fn push_grace_note(text: &mut Vec<u8>, flats: bool, key: u8) -> Result<(), Alloc
 }
 
 /// Appends a grace chord by rising key, with a space between two.
-pub(crate) fn push_grace(
-    text: &mut Vec<u8>,
-    flats: bool,
-    range: KeyRange,
-    keys: Keys,
-) -> Result<(), AllocError>
-    requires { AreKeysIn range keys }
+pub(crate) fn push_grace(text: &mut Vec<u8>, flats: bool, keys: Keys) -> Result<(), AllocError>
     ensures { OnOk result (text.new.items ≡ text.old.items ++ grace_text flats keys) }
 {
     let mut number = 0;
-    'grace_keys: for key in range.low..range.end {
+    'grace_keys: for key in keys.lowest()..keys.end() {
         if keys.has(key) {
             push_between(text, b' ', number)?;
             push_grace_note(text, flats, key)?;

@@ -1,13 +1,11 @@
 ghost use Rattle.kern_writer.specs.Columns.{AreTokens, RiseFrom, first_place, tokens_after};
-ghost use Rattle.kern_writer.specs.KeyRange.{HasKeysIn};
 ghost use Rattle.kern_writer.specs.Records.{grace_column, grace_tokens, main_column, token_at};
 ghost use Rattle.derivation.specs.Score.{IsScoreBar};
 ghost use Rattle.kern_writer.specs.Tokens as tokens;
 ghost use Rattle.rhythm_base.specs.declared.limits.TheConstants.{MOST_UNITS};
 ghost use Rattle.std.specs.Prelude.{◌≡◌, is_some, ◌≤◌, ◌++◌, All, IfOk, OnOk, length, map, slice_get, sum};
 
-use crate::key_range::KeyRange;
-use crate::token::{Token, TokenStyle};
+use crate::token::Token;
 use crate::voice_value::{VoiceValue, bar_values};
 use derivation::ScoreBar;
 use rhythm_base::Sound;
@@ -20,22 +18,22 @@ pub(crate) struct Column<'a> {
     values: Vec<VoiceValue<'a>>,
     /// How many of them are written.
     written: usize,
-    style: TokenStyle,
+    /// Black keys are flats.
+    flats: bool,
     /// The value after the bar goes on with the span of the last one in it.
     goes_on: bool,
 }
 
 impl<'a> Model for Column<'a> {
-    ghost use Rattle.std.specs.Prelude.{List, ◌≤◌, All, drop, length};
+    ghost use Rattle.std.specs.Prelude.{List, ◌≤◌, drop, length};
     ghost use Rattle.kern_writer.specs.Tokens.{Token};
     ghost use Rattle.kern_writer.specs.Columns.{column_tokens};
-    ghost use Rattle.kern_writer.specs.KeyRange.{HasKeysIn};
 
     ghost Value = { List Token };
 
-    ghost view = { λ c. column_tokens c.style.flats c.goes_on (drop c.written c.values.items) };
+    ghost view = { λ c. column_tokens c.flats c.goes_on (drop c.written c.values.items) };
 
-    ghost invariant = { λ c. (c.written ≤ length c.values.items) × All (λ v. HasKeysIn c.style.range v.sound) c.values.items };
+    ghost invariant = { λ c. c.written ≤ length c.values.items };
 }
 
 /// Whether black keys are flats in a bar.
@@ -52,7 +50,6 @@ impl<'a> Column<'a> {
         resolution: u16,
         bar: &ScoreBar,
         sounds: &'a [Sound],
-        range: KeyRange,
         goes_on: bool,
     ) -> Result<Column<'a>, AllocError>
         requires bar { IsScoreBar bar.now }
@@ -60,15 +57,13 @@ impl<'a> Column<'a> {
         requires few_units { resolution ≤ MOST_UNITS }
         requires some { All (λ s. 1 ≤ s.width) sounds.now }
         requires full { sum (map (λ s. s.width) sounds.now) ≡ resolution }
-        requires range { All (HasKeysIn range) sounds.now }
         ensures { IfOk result (λ c. AreTokens resolution bar.now goes_on sounds.entry.now c) }
     {
         let values = bar_values(alloc, resolution, bar, sounds)?;
-        let flats = has_flats(bar);
         Ok(Column {
             values,
             written: 0,
-            style: TokenStyle { flats, range },
+            flats: has_flats(bar),
             goes_on,
         })
     }
@@ -77,18 +72,18 @@ impl<'a> Column<'a> {
     pub(crate) fn next<'c>(&'c self) -> Option<Token<'c, 'a>>
         ensures { result ≡ slice_get self.now 0 }
     {
-        let style = self.style;
+        let flats = self.flats;
         match &self.values[self.written..] {
             [] => None,
             [value] => Some(Token {
                 value,
                 next: self.goes_on,
-                style,
+                flats,
             }),
             [value, after, ..] => Some(Token {
                 value,
                 next: after.goes_on(),
-                style,
+                flats,
             }),
         }
     }

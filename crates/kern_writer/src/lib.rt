@@ -11,7 +11,6 @@ mod data;
 mod fault;
 mod kern;
 mod kern_text;
-mod key_range;
 mod laws;
 mod pitch;
 mod shared;

@@ -2,19 +2,9 @@ ghost use Rattle.kern_writer.specs.Records.{grace_column};
 ghost use Rattle.std.specs.Prelude.{◌≡◌, ◌≤◌, ◌<◌, ◌++◌, OnOk, length, slice_index_or, []};
 
 use crate::chord::{push_grace, push_main};
-use crate::key_range::KeyRange;
 use crate::voice_value::VoiceValue;
 use std::alloc::AllocError;
 use std::marker::Model;
-
-/// How the tokens of a voice are written in a bar.
-#[derive(Clone, Copy)]
-pub(crate) struct TokenStyle {
-    /// Black keys are flats.
-    pub(crate) flats: bool,
-    /// The range of the keys of the voice.
-    pub(crate) range: KeyRange,
-}
 
 /// A token: what stands in the column of a voice at a place at which it has a value, and the grace tokens before it.
 #[derive(Drop)]
@@ -22,18 +12,16 @@ pub(crate) struct Token<'c, 'a> {
     pub(crate) value: &'c VoiceValue<'a>,
     /// The next value of the voice goes on.
     pub(crate) next: bool,
-    pub(crate) style: TokenStyle,
+    /// Black keys are flats.
+    pub(crate) flats: bool,
 }
 
 impl<'c, 'a> Model for Token<'c, 'a> {
     ghost use Rattle.kern_writer.specs.Tokens.{Token, token};
-    ghost use Rattle.kern_writer.specs.KeyRange.{HasKeysIn};
 
     ghost Value = { Token };
 
-    ghost view = { λ t. token t.style.flats t.value.now t.next };
-
-    ghost invariant = { λ t. HasKeysIn t.style.range t.value.now.sound };
+    ghost view = { λ t. token t.flats t.value.now t.next };
 }
 
 impl<'c, 'a> Token<'c, 'a> {
@@ -57,13 +45,7 @@ impl<'c, 'a> Token<'c, 'a> {
     pub(crate) fn push_main(&self, text: &mut Vec<u8>) -> Result<(), AllocError>
         ensures { OnOk result (text.new.items ≡ text.old.items ++ self.now.main) }
     {
-        push_main(
-            text,
-            self.style.flats,
-            self.style.range,
-            self.value,
-            self.next,
-        )
+        push_main(text, self.flats, self.value, self.next)
     }
 
     /// Appends one of the grace tokens before it, by its number.
@@ -72,12 +54,7 @@ impl<'c, 'a> Token<'c, 'a> {
         ensures { OnOk result (text.new.items ≡ text.old.items ++ slice_index_or self.now.graces number []) }
     {
         let value = self.value;
-        push_grace(
-            text,
-            self.style.flats,
-            self.style.range,
-            value.graces()[number],
-        )
+        push_grace(text, self.flats, value.graces()[number])
     }
 
     /// Appends what stands in a grace record, so many records before the main one.

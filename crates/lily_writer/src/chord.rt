@@ -13,7 +13,7 @@ fn key_count(keys: Keys) -> usize
     ensures { result ≡ length (rising_keys keys) }
 {
     let mut count = 0;
-    'keys: for key in 0..128 {
+    'keys: for key in keys.lowest()..keys.end() {
         if keys.has(key) {
             count += 1;
         }
@@ -36,7 +36,7 @@ fn push_pitches(text: &mut Vec<u8>, flats: bool, keys: Keys) -> Result<(), Alloc
     ensures { OnOk result (text.new.items ≡ text.old.items ++ join_with_byte 32 (map (lily_pitch flats) (rising_keys keys))) }
 {
     let mut number = 0;
-    'keys: for key in 0..128 {
+    'keys: for key in keys.lowest()..keys.end() {
         if keys.has(key) {
             push_between(text, b' ', number)?;
             push_pitch(text, flats, key)?;

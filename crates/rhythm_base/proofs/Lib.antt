@@ -3,6 +3,7 @@ pub mod Booleans
 pub mod Conjunctions
 pub mod EventTicks
 pub mod FirstLists
+pub mod KeyEnds
 pub mod KeySets
 pub mod LastEnds
 pub mod ListParts

@@ -1,5 +1,5 @@
 -- Parts of lists: the front, the rest, what passes a test, and the list turned round.
-use Rattle.std.proofs.Common.{◌≡◌, ℕ, ◌+◌, ◌-◌, List, [], ◌∷◌, ◌++◌, length, take, refl, ap, drop, arith, suc, ◌≤◌, cond, sym, subst, zero}
+use Rattle.std.proofs.Common.{◌≡◌, ℕ, ◌-◌, List, [], ◌∷◌, ◌++◌, length, take, refl, ap, drop, arith, suc, ◌≤◌, cond, sym, subst, zero}
 use Rattle.std.specs.Prelude.{filter, if◌then◌else◌, Bool, true, false, All, reverse}
 use Rattle.std.proofs.lemmas.List.{get_or-reverse, length-reverse, reverse-append}
 

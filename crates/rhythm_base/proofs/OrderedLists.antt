@@ -1,5 +1,5 @@
 -- Lists in the order of places: the order of a filtered list, and of a list with one more at its place.
-use Rattle.std.proofs.Common.{◌≡◌, ℕ, zero, suc, Bool, true, false, not, List, [], ◌∷◌, ◌++◌, get_or, refl, ap, arith, ◌+◌, ◌-◌, ◌<◌, subst, ◌≤◌, inl, inr}
+use Rattle.std.proofs.Common.{◌≡◌, ℕ, zero, suc, Bool, true, false, not, List, [], ◌∷◌, ◌++◌, get_or, refl, ap, arith, ◌+◌, ◌<◌, subst, ◌≤◌, inl, inr}
 use Rattle.std.specs.Cmp.Lexicographic.{slice_cmp, nat_list_cmp_total}
 use Rattle.std.specs.Ordering.{nat_cmp, is_lt}
 use Rattle.std.specs.Prelude.{All, AllPairs, filter, slice_index}

@@ -1,4 +1,5 @@
-ghost use Rattle.std.specs.Prelude.{◌≡◌, ◌<◌, ◌↔◌, ◌^◌, bit_or, IsBitSet, IsTrue};
+ghost use Rattle.std.specs.Int.{bit_at};
+ghost use Rattle.std.specs.Prelude.{◌≡◌, ◌<◌, ◌≤◌, ◌-◌, ◌↔◌, ◌^◌, ℕ, bit_or, IsBitSet, IsTrue};
 
 use std::marker::Model;
 
@@ -17,6 +18,24 @@ impl Model for Keys {
     ghost view = { λ k. k.bits };
 
     ghost inverse = { λ n. record { bits = n } };
+}
+
+/// The place of the lowest bit of a number that is 1, 128 where there is none.
+fn lowest_bit(bits: u128) -> u8
+    ensures few { result ≤ 128 }
+    ensures below { (k : ℕ) → k < result → bit_at bits k ≡ 0 }
+    ensures first { result < 128 → bit_at bits result ≡ 1 }
+{
+    bits.trailing_zeros() as u8
+}
+
+/// The place after the highest bit of a number that is 1, 0 where there is none.
+fn end_of_bits(bits: u128) -> u8
+    ensures few { result ≤ 128 }
+    ensures above { (k : ℕ) → result ≤ k → bit_at bits k ≡ 0 }
+    ensures last { 0 < result → bit_at bits (result - 1) ≡ 1 }
+{
+    (128 - bits.leading_zeros()) as u8
 }
 
 impl Keys {
@@ -42,6 +61,24 @@ impl Keys {
         Keys {
             bits: self.bits | other.bits,
         }
+    }
+
+    /// The lowest key of the set, 128 where there is none.
+    pub fn lowest(self) -> u8
+        ensures few { result ≤ 128 }
+        ensures below { (k : ℕ) → k < result → bit_at self k ≡ 0 }
+        ensures first { result < 128 → bit_at self result ≡ 1 }
+    {
+        lowest_bit(self.bits)
+    }
+
+    /// The key after the highest of the set, 0 where there is none.
+    pub fn end(self) -> u8
+        ensures few { result ≤ 128 }
+        ensures above { (k : ℕ) → result ≤ k → bit_at self k ≡ 0 }
+        ensures last { 0 < result → bit_at self (result - 1) ≡ 1 }
+    {
+        end_of_bits(self.bits)
     }
 
     /// Whether the key is in the set.

@@ -46,8 +46,21 @@ key_there keys k within there = onward keys k within ∙ rw there refl
 pub key_absent : (keys k : ℕ) → k < 128 → (bit_at keys k == 1) ≡ false → keys_onward keys k ≡ keys_onward keys (k + 1)
 key_absent keys k within absent = onward keys k within ∙ rw absent refl
 
-pub keys_end : (keys k : ℕ) → 128 ≤ k → keys_onward keys k ≡ []
-keys_end keys k end = let e : 128 - k ≡ 0 = omega arith in rw e refl
+-- no key is below the lowest
+pub from_lowest : (keys low : ℕ) → low ≤ 128 → ((k : ℕ) → k < low → bit_at keys k ≡ 0) → keys_onward keys low ≡ keys_onward keys 0
+from_lowest keys zero few none = refl
+from_lowest keys (suc low) few none =
+    let next : suc low ≡ low + 1 = omega arith in
+    let clear : bit_at keys low ≡ 0 = none low (omega arith) in
+    ap (keys_onward keys) next ∙ sym (key_absent keys low (omega (arith, few)) (ap (λ b. b == 1) clear)) ∙ from_lowest keys low (omega (arith, few)) (λ k lt. none k (omega (arith, lt)))
+
+-- nor from one on above which there is none
+pub none_onward : (keys k : ℕ) → ((j : ℕ) → k ≤ j → bit_at keys j ≡ 0) → keys_onward keys k ≡ []
+none_onward keys k none = go (128 - k) k none
+  where
+    go : (n k : ℕ) → ((j : ℕ) → k ≤ j → bit_at keys j ≡ 0) → filter (λ j. bit_at keys j == 1) (range_with_len k n) ≡ []
+    go zero k none = refl
+    go (suc n) k none = rw (none k (omega arith)) (go n (k + 1) (λ j le. none j (omega (arith, le))))
 
 -- ---- members of a set
 

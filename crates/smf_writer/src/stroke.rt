@@ -1,6 +1,5 @@
 ghost use Rattle.smf_writer.specs.Strokes.{stroke_note, stroke_notes};
-ghost use Rattle.std.specs.Int.{bit_at};
-ghost use Rattle.std.specs.Prelude.{◌≡◌, ◌<◌, ◌==◌, IfOk, bit_or};
+ghost use Rattle.std.specs.Prelude.{◌≡◌, ◌<◌, IfOk, bit_or};
 
 use rhythm_base::{Keys, Note};
 use std::alloc::{AllocError, Global};
@@ -15,12 +14,11 @@ pub(crate) struct Stroke {
 }
 
 impl Stroke {
-    /// Whether a key is struck.
-    fn strikes(&self, key: u8) -> bool
-        requires { key < 128 }
-        ensures { result ≡ (bit_at (bit_or self.now.held self.now.passing) key == 1) }
+    /// The keys that are struck.
+    fn struck(&self) -> Keys
+        ensures { result ≡ bit_or self.now.held self.now.passing }
     {
-        self.held.join(self.passing).has(key)
+        self.held.join(self.passing)
     }
 
     /// The note of a key that is struck.
@@ -47,8 +45,9 @@ pub(crate) fn notes_of(alloc: Global, channel: u8, stroke: &Stroke) -> Result<Ve
     ensures { IfOk result (λ notes. notes.items ≡ stroke_notes channel stroke.now) }
 {
     let mut notes = Vec::new(alloc);
-    'keys: for key in 0..128 {
-        if stroke.strikes(key) {
+    let keys = stroke.struck();
+    'struck_keys: for key in keys.lowest()..keys.end() {
+        if keys.has(key) {
             notes.push(stroke.note(channel, key))?;
         }
     }

@@ -1,11 +1,9 @@
 use Rattle.std.proofs.Common.{◌≡◌, ◌+◌, ◌++◌, [], List, length, map}
-use Rattle.std.specs.Prelude.{All}
 use Rattle.rhythm_base.specs.declared.span.Span.{Span}
 use Rattle.rhythm_base.specs.Lists.{Each}
 use Rattle.kern_reader.specs.declared.token.Token.{Token}
 use Rattle.kern_reader.specs.EventText.{events_text}
 use Rattle.kern_reader.specs.Events.{IsKernSpan, IsWalk, beginnings, span_event}
-use Rattle.kern_reader.specs.LowestKey.{IsFloor, chord_keys}
 use Rattle.kern_reader.specs.Score.{IsColumnOn}
 use Rattle.kern_reader.proofs.listing.push_column.Given as goal
 
@@ -14,7 +12,6 @@ invariant-tokens l =
     (before : List Token) × (spans : List Span) × IsWalk l.grid before l.walk × IsColumnOn l.grid before × IsColumnOn l.grid l.later
     × (length before + length l.later ≡ length l.tokens) × (l.text.items ≡ l.initial.text.items ++ events_text (map (span_event l.spine) spans))
     × ((more : List Span) → Each (IsKernSpan l.grid) (beginnings before l.later) more → Each (IsKernSpan l.grid) (beginnings [] l.tokens) (spans ++ more))
-    × All (λ t. IsFloor l.low (chord_keys t)) l.later
 
 abbrev pub decreases-tokens : goal.decreases-tokens
 decreases-tokens l = length l.later

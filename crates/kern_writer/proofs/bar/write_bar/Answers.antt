@@ -1,4 +1,4 @@
-use Rattle.std.proofs.Common.{◌≡◌, sym, subst}
+use Rattle.std.proofs.Common.{sym, subst}
 use Rattle.std.specs.Prelude.{All}
 use Rattle.kern_writer.specs.Columns.{RiseFrom}
 use Rattle.kern_writer.proofs.AllRecords.{columns_exist, columns_rise}

@@ -1,15 +1,11 @@
-use Rattle.std.proofs.Common.{◌≡◌, ℕ, List, [], ◌∷◌, ◌++◌, length, map, refl, sym, ap, ◌∙◌, subst}
+use Rattle.std.proofs.Common.{[], ◌∷◌, ◌++◌, length, map, refl, subst}
 use Rattle.std.proofs.lemmas.List.{append_assoc}
-use Rattle.derivation.specs.declared.score.ScoreBar.{ScoreBar}
 use Rattle.kern_writer.specs.Changes.{changes}
-use Rattle.kern_writer.specs.Columns.{AreDataRecords}
-use Rattle.kern_writer.specs.Records.{AreBarRecords, Record, alike, barline_record}
-use Rattle.kern_writer.specs.Tokens.{Token}
+use Rattle.kern_writer.specs.Records.{alike, barline_record}
 use Rattle.kern_writer.specs.Writing.{WritesRecords}
 use Rattle.kern_writer.proofs.Merging.{are_records, bar_records, data_exist}
 use Rattle.kern_writer.proofs.Writing.{fault_handed, nothing_written, past_among, writes_after, written_after}
 use Rattle.kern_writer.proofs.bar.write_columns.Goals as goal
-use Rattle.std.specs.Prelude.{Option}
 
 pub returns-in_err-write_changes : goal.returns-in_err-write_changes
 returns-in_err-write_changes c =

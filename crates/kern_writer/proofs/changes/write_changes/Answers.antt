@@ -1,7 +1,7 @@
 use Rattle.std.proofs.Common.{◌≡◌, List, ◌++◌, map, sym, ap, ◌∙◌, subst}
 use Rattle.std.proofs.lemmas.List.{append_assoc, map-append}
 use Rattle.kern_writer.specs.Changes.{changes, key_before, key_change, signature_change, tempo_change}
-use Rattle.kern_writer.specs.Records.{Record, alike}
+use Rattle.kern_writer.specs.Records.{alike}
 use Rattle.kern_writer.specs.Writing.{HasWritten, WritesRecords}
 use Rattle.kern_writer.proofs.Writing.{fault_handed, past_among, writes_after, written_after}
 use Rattle.kern_writer.proofs.changes.write_changes.Goals as goal

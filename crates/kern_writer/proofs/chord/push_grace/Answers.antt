@@ -1,9 +1,8 @@
-use Rattle.std.proofs.Common.{◌≡◌, ℕ, ◌+◌, ◌++◌, List, length, map, sym, ap, ◌∙◌, arith}
+use Rattle.std.proofs.Common.{ℕ, ◌+◌, ◌++◌, List, length, map, sym, ap, ◌∙◌, arith}
 use Rattle.std.specs.Prelude.{codes}
 use Rattle.std.specs.List.{join_with_byte}
 use Rattle.std.proofs.lemmas.List.{append-nil}
 use Rattle.durations.specs.Pitch.{pitch}
-use Rattle.kern_writer.specs.Tokens.{keys_from}
 use Rattle.kern_writer.proofs.RisingKeys.{chord_step, keys_all, keys_below, keys_count, keys_skip}
 use Rattle.kern_writer.proofs.chord.push_grace.Goals as goal
 use Rattle.kern_writer.proofs.chord.push_grace.Goals.{then-has+in_ok-push_between+in_ok-push_grace_note, else-has}
@@ -23,6 +22,7 @@ grace_keys-preserved c =
             text = ap (λ v. v.items) w.text-is ∙ text;
             number = w.number-is ∙ ap (λ n. n + 1) h.number ∙ sym (keys_count keys k set);
             few = omega (arith, w.number-is, h.few);
+            top = omega (arith, c.grace_keys-test.true, c.end-key-end.ensures.few);
           }
       | else-has w ↦
           let same = keys_skip keys k (not_had c.has.result keys k c.has.ensures w.if-has.false) in
@@ -30,22 +30,23 @@ grace_keys-preserved c =
             text = ap (λ v. v.items) w.text-is ∙ h.text ∙ ap (λ ks. c.args.text.now.items ++ join_with_byte 32 (map note ks)) (sym same);
             number = w.number-is ∙ h.number ∙ ap length (sym same);
             few = omega (arith, w.number-is, h.few);
+            top = omega (arith, c.grace_keys-test.true, c.end-key-end.ensures.few);
           }
     ]
 
 pub grace_keys-init : goal.grace_keys-init
 grace_keys-init c =
-    let none = keys_below c.args.keys c.args.range.low c.requires.low in
+    let none = keys_below c.args.keys c.lowest-key.result c.lowest-key.ensures.below in
     let note : ℕ → List ℕ = λ k. codes "q" ++ pitch c.args.flats k in
     record {
       text = sym (append-nil c.args.text.now.items) ∙ ap (λ ks. c.args.text.now.items ++ join_with_byte 32 (map note ks)) (sym none);
       number = ap length (sym none);
       few = omega arith;
+      top = c.lowest-key.ensures.few;
     }
 
 pub returns : goal.returns
 returns c =
     let note : ℕ → List ℕ = λ k. codes "q" ++ pitch c.args.flats k in
-    let all : c.grace_keys.key ≡ c.args.range.end = omega (arith, c.requires.order) in
-    c.grace_keys.invariant.text ∙ ap (λ n. c.args.text.now.items ++ join_with_byte 32 (map note (keys_from c.args.keys 0 n))) all
-    ∙ ap (λ ks. c.args.text.now.items ++ join_with_byte 32 (map note ks)) (keys_all c.args.keys c.args.range.end c.requires.few c.requires.high)
+    c.grace_keys.invariant.text
+    ∙ ap (λ ks. c.args.text.now.items ++ join_with_byte 32 (map note ks)) (keys_all c.args.keys c.grace_keys.key c.grace_keys.invariant.top (λ k le lt. c.end-key-end.ensures.above k (omega (arith, c.grace_keys-test.false, le))))

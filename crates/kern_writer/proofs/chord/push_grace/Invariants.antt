@@ -10,4 +10,5 @@ invariant-grace_keys l = record {
   text : l.text.items ≡ l.initial.text.items ++ join_with_byte 32 (map (λ k. codes "q" ++ pitch l.flats k) (keys_from l.keys 0 l.key));
   number : l.number ≡ length (keys_from l.keys 0 l.key);
   few : l.number ≤ l.key;
+  top : l.key ≤ 128;
 }

@@ -1,9 +1,8 @@
-use Rattle.std.proofs.Common.{◌≡◌, ◌<◌, ◌++◌, List, [], ◌∷◌, map, sym, ap, ◌∙◌, subst, refl, arith}
+use Rattle.std.proofs.Common.{◌<◌, ◌++◌, List, [], map, sym, subst, refl}
 use Rattle.std.specs.Prelude.{All}
 use Rattle.std.proofs.lemmas.List.{append-nil, append_assoc}
 use Rattle.kern_writer.specs.Columns.{AreDataRecords, RiseFrom, tokens_after}
 use Rattle.kern_writer.specs.Records.{Record, records_at}
-use Rattle.kern_writer.specs.Tokens.{Token}
 use Rattle.kern_writer.proofs.Merging.{after_zero, data_exist, data_next, data_none, next_fewer, next_first, tokens_left}
 use Rattle.kern_writer.proofs.Writing.{fault_handed, nothing_written, past_among, written_after}
 use Rattle.kern_writer.proofs.data.write_data.Goals as goal

@@ -1,6 +1,6 @@
-use Rattle.std.proofs.Common.{◌≡◌, ℕ, zero, suc, ◌-◌, ◌≤◌, ◌<◌, List, [], ◌∷◌, ◌++◌, refl, sym, ap, ◌∙◌, subst, arith}
+use Rattle.std.proofs.Common.{◌≡◌, ℕ, zero, suc, ◌-◌, ◌<◌, List, [], ◌∷◌, ◌++◌, sym, ap, ◌∙◌, subst, arith}
 use Rattle.std.proofs.lemmas.List.{append-nil, append_assoc}
-use Rattle.kern_writer.specs.Records.{Record, grace_record, grace_records, grace_records_at, main_record, records_at}
+use Rattle.kern_writer.specs.Records.{grace_record, grace_records, grace_records_at, main_record, records_at}
 use Rattle.kern_writer.specs.Tokens.{Token}
 use Rattle.kern_writer.specs.Writing.{HasWritten}
 use Rattle.kern_writer.proofs.Writing.{fault_handed, past_among, writes_after, written_after}

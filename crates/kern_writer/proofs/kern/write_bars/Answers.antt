@@ -1,10 +1,10 @@
-use Rattle.std.proofs.Common.{◌≡◌, ℕ, zero, suc, ◌+◌, ◌≤◌, ◌<◌, List, [], ◌∷◌, ◌++◌, Option, None, Some, length, get_or, map, drop, refl, sym, ap, ◌∙◌, subst, arith}
+use Rattle.std.proofs.Common.{◌≡◌, ℕ, suc, ◌+◌, ◌<◌, List, [], ◌++◌, Option, None, Some, length, get_or, map, drop, refl, sym, ap, ◌∙◌, subst, arith}
 use Rattle.std.specs.Prelude.{All}
 use Rattle.std.proofs.lemmas.List.{append-nil, append_assoc, drop_all, drop_more, length-map, with_items_is}
 use Rattle.std.proofs.lemmas.List.Elements.{All-drop, All-weaker}
 use Rattle.rhythm_base.specs.declared.sound.Sound.{Sound}
 use Rattle.rhythm_base.specs.Lists.{Each}
-use Rattle.derivation.specs.WellSounded.{AreWellSounded, StandInBars}
+use Rattle.derivation.specs.WellSounded.{StandInBars}
 use Rattle.derivation.specs.declared.score.ScoreBar.{ScoreBar}
 use Rattle.kern_writer.specs.Ahead.{AreTokensAhead, FillBar, later_sounds}
 use Rattle.kern_writer.specs.Records.{AreBarRecords, Record}
@@ -13,7 +13,7 @@ use Rattle.kern_writer.specs.Tokens.{Token}
 use Rattle.kern_writer.proofs.AllRecords.{AreRecordsAhead, ahead_are, ahead_end, ahead_exist, ahead_next, stand_each}
 use Rattle.kern_writer.proofs.BarSounds.{stand_fill, stand_later}
 use Rattle.kern_writer.proofs.Merging.{all_mapped_to}
-use Rattle.kern_writer.proofs.Writing.{fault_handed, memory_handed, nothing_written, past_among, writes_after, written_after}
+use Rattle.kern_writer.proofs.Writing.{fault_handed, memory_handed, past_among, written_after}
 use Rattle.kern_writer.proofs.kern.write_bars.Goals as goal
 
 pub returns-in_err-ahead : goal.returns-in_err-ahead

@@ -3,7 +3,6 @@ use Rattle.rhythm_base.specs.declared.sound.Sound.{Sound}
 use Rattle.derivation.specs.declared.score.ScoreBar.{ScoreBar}
 use Rattle.kern_writer.specs.Records.{AreRecords}
 use Rattle.derivation.specs.Score.{Score}
-use Rattle.kern_writer.specs.Text.{IsTooLong}
 use Rattle.kern_writer.specs.Writing.{EndsPast}
 use Rattle.kern_writer.proofs.Writing.{fault_is, too_long}
 use Rattle.kern_writer.proofs.kern.write_kern.Goals as goal

@@ -1,9 +1,9 @@
-use Rattle.std.proofs.Common.{◌≡◌, ℕ, List, [], ◌∷◌, ◌++◌, length, refl, sym, ap, ◌∙◌, subst}
+use Rattle.std.proofs.Common.{ℕ, List, [], ◌∷◌, ◌++◌, length, refl, subst}
 use Rattle.std.proofs.lemmas.List.{append_assoc}
 use Rattle.std.specs.Prelude.{codes}
 use Rattle.kern_writer.specs.Records.{Record, alike, head, tail}
 use Rattle.derivation.specs.Score.{Score}
-use Rattle.kern_writer.specs.Writing.{HasWritten, WritesRecords}
+use Rattle.kern_writer.specs.Writing.{WritesRecords}
 use Rattle.kern_writer.proofs.AllRecords.{bars_exist, score_records}
 use Rattle.kern_writer.proofs.Writing.{fault_handed, nothing_written, past_among, writes_after, written_after}
 use Rattle.kern_writer.proofs.kern.write_records.Goals as goal

@@ -1,8 +1,8 @@
-use Rattle.std.proofs.Common.{◌≡◌, ℕ, ◌*◌, ◌≤◌, map, sym, ap, ◌∙◌, subst, arith}
+use Rattle.std.proofs.Common.{◌≡◌, ◌*◌, ◌≤◌, map, sym, ◌∙◌, subst}
 use Rattle.std.specs.Prelude.{All, sum}
 use Rattle.durations.specs.declared.joined.Timed.{Timed}
 use Rattle.durations.specs.Joined.{IsTimedLeaf}
-use Rattle.kern_writer.proofs.TimedSounds.{some_whole, timed_bar, timed_leaves}
+use Rattle.kern_writer.proofs.TimedSounds.{timed_bar, timed_leaves}
 use Rattle.kern_writer.proofs.voice_value.bar_values.Goals as goal
 
 pub values_of-requires-clause-leaves : goal.values_of-requires-clause-leaves

@@ -1,8 +1,7 @@
-use Rattle.std.proofs.Common.{◌≡◌, ◌∷◌, [], ◌++◌, List, sym, ap, ◌∙◌, Some, None, arith, refl}
+use Rattle.std.proofs.Common.{arith, refl}
 use Rattle.std.proofs.lemmas.List.{append_assoc}
 use Rattle.std.proofs.lemmas.Option.{slice_get_read}
-use Rattle.kern_writer.specs.Values.{VoiceValue, is_first, values_of_sounds}
-use Rattle.kern_writer.proofs.BarValues.{first_value_of, values_more}
+use Rattle.kern_writer.proofs.BarValues.{values_more}
 use Rattle.kern_writer.proofs.voice_value.values_for.Goals as goal
 
 pub written-preserved : goal.written-preserved

@@ -1,11 +1,22 @@
-use Rattle.std.proofs.Common.{◌≡◌, ℕ, ◌+◌, ◌++◌, List, length, map, sym, ap, ◌∙◌, arith}
+use Rattle.std.proofs.Common.{ℕ, ◌+◌, ◌++◌, List, length, map, sym, ap, ◌∙◌, arith}
 use Rattle.std.specs.List.{join_with_byte}
-use Rattle.kern_writer.specs.Tokens.{keys_from}
-use Rattle.kern_writer.proofs.RisingKeys.{chord_step, keys_all, keys_count, keys_skip}
+use Rattle.std.proofs.lemmas.List.{append-nil}
+use Rattle.kern_writer.proofs.RisingKeys.{chord_step, keys_all, keys_below, keys_count, keys_skip}
 use Rattle.lily_writer.specs.Pitches.{lily_pitch}
 use Rattle.lily_writer.proofs.chord.push_pitches.Goals as goal
 use Rattle.lily_writer.proofs.chord.push_pitches.Goals.{then-has+in_ok-push_between+in_ok-push_pitch, else-has}
 use Rattle.rhythm_base.proofs.KeySets.{had, not_had}
+
+pub keys-init : goal.keys-init
+keys-init c =
+    let none = keys_below c.args.keys c.lowest-key.result c.lowest-key.ensures.below in
+    let note : ℕ → List ℕ = lily_pitch c.args.flats in
+    record {
+      text = sym (append-nil c.args.text.now.items) ∙ ap (λ ks. c.args.text.now.items ++ join_with_byte 32 (map note ks)) (sym none);
+      number = ap length (sym none);
+      few = omega arith;
+      top = c.lowest-key.ensures.few;
+    }
 
 pub keys-preserved : goal.keys-preserved
 keys-preserved c =
@@ -22,6 +33,7 @@ keys-preserved c =
             text = ap (λ v. v.items) w.text-is ∙ text;
             number = w.number-is ∙ ap (λ n. n + 1) h.number ∙ sym (keys_count keys k set);
             few = omega (arith, w.number-is, h.few);
+            top = omega (arith, c.keys-test.true, c.end-key-end.ensures.few);
           }
       | else-has w ↦
           let same = keys_skip keys k (not_had c.has.result keys k c.has.ensures w.if-has.false) in
@@ -29,6 +41,7 @@ keys-preserved c =
             text = ap (λ v. v.items) w.text-is ∙ h.text ∙ ap (λ ks. c.args.text.now.items ++ join_with_byte 32 (map note ks)) (sym same);
             number = w.number-is ∙ h.number ∙ ap length (sym same);
             few = omega (arith, w.number-is, h.few);
+            top = omega (arith, c.keys-test.true, c.end-key-end.ensures.few);
           }
     ]
 
@@ -36,7 +49,5 @@ pub returns : goal.returns
 returns c =
     let keys = c.args.keys in
     let note : ℕ → List ℕ = lily_pitch c.args.flats in
-    let all : c.keys.key ≡ 128 = omega (arith, c.keys-test.false, c.keys.auto.key-end) in
-    c.keys.invariant.text ∙ ap (λ n. c.args.text.now.items ++ join_with_byte 32 (map note (keys_from keys 0 n))) all
-    ∙ ap (λ ks. c.args.text.now.items ++ join_with_byte 32 (map note ks))
-    (keys_all keys 128 (omega arith) (λ i le lt. omega (arith, le, lt)))
+    c.keys.invariant.text ∙ ap (λ ks. c.args.text.now.items ++ join_with_byte 32 (map note ks))
+    (keys_all keys c.keys.key c.keys.invariant.top (λ i le lt. c.end-key-end.ensures.above i (omega (arith, c.keys-test.false, le))))

@@ -9,4 +9,5 @@ invariant-keys l = record {
   text : l.text.items ≡ l.initial.text.items ++ join_with_byte 32 (map (lily_pitch l.flats) (keys_from l.keys 0 l.key));
   number : l.number ≡ length (keys_from l.keys 0 l.key);
   few : l.number ≤ l.key;
+  top : l.key ≤ 128;
 }

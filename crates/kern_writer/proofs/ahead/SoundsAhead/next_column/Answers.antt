@@ -1,17 +1,8 @@
-use Rattle.std.proofs.Common.{◌≡◌, List, take, drop, sym, ap, ◌∙◌, subst}
-use Rattle.std.specs.Prelude.{All, IfOk}
-use Rattle.std.proofs.lemmas.List.Elements.{All-drop}
+use Rattle.std.proofs.Common.{◌≡◌, take, drop, ap, ◌∙◌, subst}
 use Rattle.std.proofs.lemmas.Result.{IfOk-weaker}
-use Rattle.rhythm_base.specs.declared.sound.Sound.{Sound}
 use Rattle.kern_writer.specs.Ahead.{AreTokensAhead, begins_with_tie, later_sounds, own_sounds}
 use Rattle.kern_writer.specs.Columns.{AreTokens}
-use Rattle.kern_writer.specs.KeyRange.{HasKeysIn}
 use Rattle.kern_writer.proofs.ahead.SoundsAhead.next_column.Goals as goal
-
-pub invariant_of-self : goal.invariant_of-self
-invariant_of-self c =
-    let P : Sound → Type 0 = λ s. HasKeysIn c.self.inside.range s in
-    subst (All P) (sym c.split_at.ensures.back) (All-drop P c.own_count-count.result c.self.inside.sounds.now c.self.invariant)
 
 pub returns-clause-column : goal.returns-clause-column
 returns-clause-column c =

@@ -1,4 +1,4 @@
-use Rattle.std.proofs.Common.{◌≡◌, sym, ◌∙◌}
+use Rattle.std.proofs.Common.{sym, ◌∙◌}
 use Rattle.kern_writer.proofs.Rising.{here, none_left, not_here}
 use Rattle.kern_writer.proofs.column.Column.token_at.Goals as goal
 use Rattle.kern_writer.proofs.column.Column.token_at.Goals.{in_default-via-in-Some+else-place, in_default-via-in_default}
