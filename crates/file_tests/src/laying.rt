@@ -215,16 +215,21 @@ fn bars(rt: HostRuntime) -> Result<(), Fail> {
         let laid = laid(rt.alloc(), *division, signatures, *onset, *end)
             .ok()
             .ok_or(*name)?;
-        assert_eq!(rt;
-            layings_of(rt.alloc(), laid.bars.as_slice())?.as_slice(),
-            *bars,
-            "{name}"
-        );
-        assert_eq!(rt; laid.last, *last, "{name}");
+        let layings = layings_of(rt.alloc(), laid.bars.as_slice())?;
+        assert_eq!(rt; (layings.as_slice(), laid.last), (*bars, *last), "{name}");
     }
+    Ok(())
+}
+
+#[test]
+fn most_bars(rt: HostRuntime) -> Result<(), Fail> {
     let most = laid(rt.alloc(), 1, &[], 0, 16384).ok().ok_or("4,096 bars")?;
-    assert_eq!(rt; most.bars.len(), 4096);
-    assert_eq!(rt; most.last, 16384);
+    assert_eq!(rt; (most.bars.len(), most.last), (4096, 16384));
+    Ok(())
+}
+
+#[test]
+fn bar_faults(rt: HostRuntime) -> Result<(), Fail> {
     for (name, division, signatures, end, wanted) in &FAULTS {
         let fault = laid(rt.alloc(), *division, signatures, 0, *end).err();
         assert_eq!(rt; fault, Some(*wanted), "{name}");
@@ -268,9 +273,17 @@ fn times(rt: HostRuntime) -> Result<(), Fail> {
     for (tempos, tick, time, micros) in &TIMES {
         let map = map(rt.alloc(), tempos, &[])?;
         let tick = (*tick).min(2_000_000_000);
-        assert_eq!(rt; map.time(tick), *time, "at {tick}");
-        assert_eq!(rt; map.tempo_at(tick), *micros, "at {tick}");
+        assert_eq!(rt;
+            (map.time(tick), map.tempo_at(tick)),
+            (*time, *micros),
+            "at {tick}"
+        );
     }
+    Ok(())
+}
+
+#[test]
+fn keys(rt: HostRuntime) -> Result<(), Fail> {
     let marks = [KeyMark { tick: 5, sf: -2 }, KeyMark { tick: 8, sf: 3 }];
     let map = map(rt.alloc(), &[], &marks)?;
     for (tick, key) in [(4, None), (5, Some(-2)), (7, Some(-2)), (8, Some(3))] {
@@ -280,52 +293,56 @@ fn times(rt: HostRuntime) -> Result<(), Fail> {
     Ok(())
 }
 
+/// Events of which some are changes of tempo, key and signature.
+const EVENTS: [Event; 6] = [
+    Event {
+        tick: 0,
+        what: What::Tempo(480_000),
+    },
+    Event {
+        tick: 0,
+        what: What::On {
+            channel: 0,
+            key: 60,
+        },
+    },
+    Event {
+        tick: 3,
+        what: What::KeySig(-7),
+    },
+    Event {
+        tick: 4,
+        what: What::Signature { num: 0, dd: 9 },
+    },
+    Event {
+        tick: 5,
+        what: What::Off {
+            channel: 0,
+            key: 60,
+        },
+    },
+    Event {
+        tick: 6,
+        what: What::Tempo(1),
+    },
+];
+
 #[test]
 fn changes(rt: HostRuntime) -> Result<(), Fail> {
-    let events = [
-        Event {
-            tick: 0,
-            what: What::Tempo(480_000),
-        },
-        Event {
-            tick: 0,
-            what: What::On {
-                channel: 0,
-                key: 60,
-            },
-        },
-        Event {
-            tick: 3,
-            what: What::KeySig(-7),
-        },
-        Event {
-            tick: 4,
-            what: What::Signature { num: 0, dd: 9 },
-        },
-        Event {
-            tick: 5,
-            what: What::Off {
-                channel: 0,
-                key: 60,
-            },
-        },
-        Event {
-            tick: 6,
-            what: What::Tempo(1),
-        },
-    ];
-    let changes = changes_of(rt.alloc(), &events)?;
+    let changes = changes_of(rt.alloc(), &EVENTS)?;
+    let tempos = tempos_of(rt.alloc(), &[(0, 480_000), (6, 1)])?;
+    let signatures = signatures_of(rt.alloc(), &[(4, 0, 9)])?;
     assert_eq!(rt;
-        changes.tempos.as_slice(),
-        tempos_of(rt.alloc(), &[(0, 480_000), (6, 1)])?.as_slice()
-    );
-    assert_eq!(rt;
-        changes.key_marks.as_slice(),
-        [KeyMark { tick: 3, sf: -7 }].as_slice()
-    );
-    assert_eq!(rt;
-        changes.signatures.as_slice(),
-        signatures_of(rt.alloc(), &[(4, 0, 9)])?.as_slice()
+        (
+            changes.tempos.as_slice(),
+            changes.key_marks.as_slice(),
+            changes.signatures.as_slice()
+        ),
+        (
+            tempos.as_slice(),
+            [KeyMark { tick: 3, sf: -7 }].as_slice(),
+            signatures.as_slice()
+        )
     );
     Ok(())
 }

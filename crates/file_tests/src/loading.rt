@@ -132,6 +132,36 @@ fn uneven(alloc: Global) -> Result<Smf, AllocError>
     })
 }
 
+/// The notes of the two voices.
+const NOTES: [Note; 2] = [
+    Note {
+        channel: 1,
+        key: 62,
+        onset: 1900,
+        end: 1920,
+    },
+    Note {
+        channel: 3,
+        key: 60,
+        onset: 0,
+        end: 480,
+    },
+];
+
+/// Their bars. The last onset is in the last sixteenth of its bar, so one bar more is laid.
+const BARS: [Bar; 2] = [
+    Bar {
+        start: 0,
+        num: 4,
+        den: 4,
+    },
+    Bar {
+        start: 1920,
+        num: 4,
+        den: 4,
+    },
+];
+
 #[test]
 fn loads_two_voices(rt: HostRuntime) -> Result<(), Fail> {
     let alloc = rt.alloc();
@@ -141,35 +171,8 @@ fn loads_two_voices(rt: HostRuntime) -> Result<(), Fail> {
     };
     assert!(rt; performance.division() == 480);
     assert!(rt; performance.channels() == [1, 3].as_slice());
-    let notes = [
-        Note {
-            channel: 1,
-            key: 62,
-            onset: 1900,
-            end: 1920,
-        },
-        Note {
-            channel: 3,
-            key: 60,
-            onset: 0,
-            end: 480,
-        },
-    ];
-    assert!(rt; performance.notes() == notes.as_slice());
-    // The last onset is in the last sixteenth of its bar, so one bar more is laid.
-    let bars = [
-        Bar {
-            start: 0,
-            num: 4,
-            den: 4,
-        },
-        Bar {
-            start: 1920,
-            num: 4,
-            den: 4,
-        },
-    ];
-    assert!(rt; performance.bars() == bars.as_slice());
+    assert!(rt; performance.notes() == NOTES.as_slice());
+    assert!(rt; performance.bars() == BARS.as_slice());
     assert!(rt; performance.last() == 3840);
     assert!(rt; performance.tempos().len() == 1 && performance.tempos()[0].micros == 600_000);
     assert!(rt; performance.key_marks().len() == 1 && performance.key_marks()[0].sf == -2);
@@ -177,23 +180,30 @@ fn loads_two_voices(rt: HostRuntime) -> Result<(), Fail> {
     Ok(())
 }
 
+/// Why the file has no performance, if it has none.
+fn fault_of(alloc: Global, smf: &Smf) -> Option<LoadFault>
+    requires { IsPlayedFile smf.now }
+{
+    load(alloc, smf).err()
+}
+
 #[test]
 fn says_why_there_is_no_performance(rt: HostRuntime) -> Result<(), Fail> {
     let alloc = rt.alloc();
-    let none = load(alloc, &silent(alloc)?);
-    assert!(rt; matches!(none, Err(LoadFault::Notes(NoteFault::NoNotes))));
-    let many = load(alloc, &long(alloc)?);
+    let none = fault_of(alloc, &silent(alloc)?);
+    assert!(rt; matches!(none, Some(LoadFault::Notes(NoteFault::NoNotes))));
+    let many = fault_of(alloc, &long(alloc)?);
     assert!(rt;
         matches!(
             many,
-            Err(LoadFault::Bars(BarFault::TooManyBars { start: 16384 }))
+            Some(LoadFault::Bars(BarFault::TooManyBars { start: 16384 }))
         )
     );
-    let broken = load(alloc, &uneven(alloc)?);
+    let broken = fault_of(alloc, &uneven(alloc)?);
     assert!(rt;
         matches!(
             broken,
-            Err(LoadFault::Bars(BarFault::UnevenBar {
+            Some(LoadFault::Bars(BarFault::UnevenBar {
                 bar: 0,
                 num: 1,
                 den: 8

@@ -263,19 +263,34 @@ fn file(alloc: Global, header: &[u8], track: &[u8]) -> Result<Vec<u8>, AllocErro
     Ok(bytes)
 }
 
+/// What a file says: its division, the number of its tracks, its events, merged, and its last tick.
+type Told = (u16, usize, Vec<Event>, u64);
+
+/// What a file of these bytes says.
+fn told(alloc: Global, bytes: &[u8]) -> Option<Told> {
+    let smf = read_smf(alloc, bytes).ok()?;
+    let events = smf.merged(alloc).ok()?;
+    Some((smf.division, smf.tracks.len(), events, smf.last()))
+}
+
 #[test]
 fn files(rt: HostRuntime) -> Result<(), Fail> {
     for bytes in [QUARTERS, QUARTERS_AND_OTHERS] {
-        let smf = read_smf(rt.alloc(), bytes)
-            .ok()
-            .ok_or("four quarter notes")?;
-        assert_eq!(rt; smf.division, 480);
-        assert_eq!(rt; smf.merged(rt.alloc())?.as_slice(), quarters().as_slice());
+        let (division, _, events, _) = told(rt.alloc(), bytes).ok_or("four quarter notes")?;
+        assert_eq!(rt; (division, events.as_slice()), (480, quarters().as_slice()));
     }
-    let smf = read_smf(rt.alloc(), VOICES).ok().ok_or("voices")?;
-    assert_eq!(rt; smf.merged(rt.alloc())?.as_slice(), voices().as_slice());
-    assert_eq!(rt; smf.last(), 3840);
+    Ok(())
+}
 
+#[test]
+fn files_of_voices(rt: HostRuntime) -> Result<(), Fail> {
+    let (_, _, events, last) = told(rt.alloc(), VOICES).ok_or("voices")?;
+    assert_eq!(rt; (events.as_slice(), last), (voices().as_slice(), 3840));
+    Ok(())
+}
+
+#[test]
+fn files_cut_short(rt: HostRuntime) -> Result<(), Fail> {
     for whole in [QUARTERS, VOICES] {
         for length in 0..whole.len() {
             let wanted = if length < 4 {
@@ -287,17 +302,29 @@ fn files(rt: HostRuntime) -> Result<(), Fail> {
             assert_eq!(rt; fault, Some(wanted), "{length} bytes");
         }
     }
+    Ok(())
+}
+
+#[test]
+fn faults(rt: HostRuntime) -> Result<(), Fail> {
     for (name, header, track, wanted) in &FAULTS {
         let bytes = file(rt.alloc(), header, track)?;
         let fault = read_smf(rt.alloc(), bytes.as_slice()).err();
         assert_eq!(rt; fault, Some(*wanted), "{name}");
     }
+    Ok(())
+}
+
+#[test]
+fn readings(rt: HostRuntime) -> Result<(), Fail> {
     for (name, header, track, tracks, events, last) in &READINGS {
         let bytes = file(rt.alloc(), header, track)?;
-        let smf = read_smf(rt.alloc(), bytes.as_slice()).ok().ok_or(*name)?;
-        assert_eq!(rt; smf.tracks.len(), *tracks, "{name}");
-        assert_eq!(rt; smf.merged(rt.alloc())?.len(), *events, "{name}");
-        assert_eq!(rt; smf.last(), *last, "{name}");
+        let (_, read, merged, end) = told(rt.alloc(), bytes.as_slice()).ok_or(*name)?;
+        assert_eq!(rt;
+            (read, merged.len(), end),
+            (*tracks, *events, *last),
+            "{name}"
+        );
     }
     Ok(())
 }
