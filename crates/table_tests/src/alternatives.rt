@@ -112,6 +112,13 @@ const OF_TWO_WAYS: &[Row] = &[Row {
     ],
 }];
 
+/// Grammars by name, and rows by each.
+const BY_GRAMMAR: [(&str, &[u8], &[Row]); 3] = [
+    ("usual", USUAL, OF_QUARTERS),
+    ("ties", TIES, OF_TIES),
+    ("two ways", TWO_WAYS, OF_TWO_WAYS),
+];
+
 fn is_small(cost: Option<u64>) -> bool
     ensures { IsTrue result → (c : ℕ) → cost ≡ Some c → c < 2 ^ 60 }
 {
@@ -177,9 +184,9 @@ fn first_wrong(alloc: Global, text: &[u8], rows: &[Row]) -> Result<Option<usize>
 
 #[test]
 fn best_trees_of_bars(rt: HostRuntime) -> Result<(), Fail> {
-    let alloc = rt.alloc();
-    assert_eq!(rt; first_wrong(alloc, USUAL, OF_QUARTERS)?, None);
-    assert_eq!(rt; first_wrong(alloc, TIES, OF_TIES)?, None);
-    assert_eq!(rt; first_wrong(alloc, TWO_WAYS, OF_TWO_WAYS)?, None);
+    for (name, grammar, rows) in &BY_GRAMMAR {
+        let wrong = first_wrong(rt.alloc(), grammar, rows)?;
+        assert_eq!(rt; wrong, None, "{name}");
+    }
     Ok(())
 }

@@ -328,6 +328,17 @@ const QUIET: &[Row] = &[
     },
 ];
 
+/// Grammars by name, and rows by each.
+const BY_GRAMMAR: [(&str, &[u8], &[Row]); 7] = [
+    ("halves", HALVES, OF_HALVES),
+    ("whole", WHOLE, OF_WHOLE),
+    ("ties", TIES, OF_TIES),
+    ("ties exchanged", TIES_EXCHANGED, OF_TIES_EXCHANGED),
+    ("graces", GRACES, OF_GRACES),
+    ("unequal", UNEQUAL, OF_UNEQUAL),
+    ("two ways", TWO_WAYS, OF_TWO_WAYS),
+];
+
 fn two(alloc: Global, first: Shape, second: Shape) -> Result<Shape, AllocError> {
     let mut parts = Vec::new(alloc);
     parts.push(first)?;
@@ -404,17 +415,10 @@ fn first_wrong(alloc: Global, text: &[u8], rows: &[Row]) -> Result<Option<usize>
 
 #[test]
 fn tables_of_bars(rt: HostRuntime) -> Result<(), Fail> {
-    let alloc = rt.alloc();
-    assert_eq!(rt; first_wrong(alloc, HALVES, OF_HALVES)?, None);
-    assert_eq!(rt; first_wrong(alloc, WHOLE, OF_WHOLE)?, None);
-    assert_eq!(rt; first_wrong(alloc, TIES, OF_TIES)?, None);
-    assert_eq!(rt;
-        first_wrong(alloc, TIES_EXCHANGED, OF_TIES_EXCHANGED)?,
-        None
-    );
-    assert_eq!(rt; first_wrong(alloc, GRACES, OF_GRACES)?, None);
-    assert_eq!(rt; first_wrong(alloc, UNEQUAL, OF_UNEQUAL)?, None);
-    assert_eq!(rt; first_wrong(alloc, TWO_WAYS, OF_TWO_WAYS)?, None);
+    for (name, grammar, rows) in &BY_GRAMMAR {
+        let wrong = first_wrong(rt.alloc(), grammar, rows)?;
+        assert_eq!(rt; wrong, None, "{name}");
+    }
     Ok(())
 }
 
