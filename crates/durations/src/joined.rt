@@ -61,7 +61,8 @@ fn dots(leaf: Timed, more: &[Timed], whole: u64) -> u8
     }
 }
 
-/// Puts the values of a leaf in the place of those in the list: those of its length, or one with a dot for each leaf that is joined to it.
+/// Puts the values of a leaf in the place of those in the list: those of its length, or one with a dot for each leaf that is
+/// joined to it.
 fn renew(values: &mut Vec<Value>, leaf: Timed, dots: u8, whole: u64) -> Result<(), AllocError>
     requires some { 1 ≤ whole }
     requires few { whole ≤ 61440 }

@@ -7,7 +7,8 @@ use crate::quantity::push_quantity;
 use rhythm_base::What;
 use std::alloc::AllocError;
 
-/// Appends a message of a key after the number of ticks since the event before it, in one piece where these are few, as they mostly are.
+/// Appends a message of a key after the number of ticks since the event before it, in one piece where these are few, as they
+/// mostly are.
 #[inline(always)]
 #[tactic(auto, using(crate::proofs::ShortForms::one_byte, crate::proofs::ShortForms::two_bytes))]
 fn push_key(
@@ -43,8 +44,8 @@ fn push_meta(content: &mut Vec<u8>, ticks: u64, kind: u8, said: &[u8]) -> Result
     content.extend_from_slice(said)
 }
 
-/// Appends the message of what an event says, after the number of ticks since the event before it. It is put where it is called: there it
-/// is mostly known what kind of message this is.
+/// Appends the message of what an event says, after the number of ticks since the event before it. It is put where it is
+/// called: there it is mostly known what kind of message this is.
 #[inline(always)]
 pub fn push_event(content: &mut Vec<u8>, ticks: u64, what: What) -> Result<(), AllocError>
     requires early { ticks ≤ GREATEST_QUANTITY }
