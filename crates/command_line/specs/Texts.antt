@@ -73,4 +73,4 @@ help_text = text_of_lines help_lines
 
 -- the name of the program and its version
 unfoldable pub version_text : List ℕ
-version_text = text_of_lines (codes "rhythm 0.1" ∷ [])
+version_text = text_of_lines (codes "rhythm 1.0" ∷ [])

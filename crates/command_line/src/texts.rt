@@ -66,5 +66,5 @@ Status:
 pub fn version_text() -> &'static str
     ensures { result.now ≡ version_text }
 {
-    "rhythm 0.1\n"
+    "rhythm 1.0\n"
 }

@@ -175,6 +175,6 @@ fn help_names_each_command_and_status(rt: HostRuntime) -> Result<(), Fail> {
         assert!(rt; help_text().contains(part), "{part}");
     }
     assert!(rt; help_text().ends_with("\n"));
-    assert!(rt; version_text() == "rhythm 0.1\n");
+    assert!(rt; version_text() == "rhythm 1.0\n");
     Ok(())
 }
