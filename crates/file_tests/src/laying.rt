@@ -10,50 +10,13 @@ type Change = (u64, u8, u8);
 type Laying = (u64, u8, u8);
 
 /// The division, the changes of signature, the last onset and the last end, and the bars and the last barline.
-const LAYINGS: [(&str, u16, &[Change], u64, u64, &[Laying], u64); 9] = [
-    ("one bar", 480, &[], 0, 1920, &[(0, 4, 4)], 1920),
-    (
-        "before the last sixteenth",
-        480,
-        &[],
-        1700,
-        1800,
-        &[(0, 4, 4)],
-        1920,
-    ),
-    (
-        "where the last sixteenth begins",
-        480,
-        &[],
-        1800,
-        1800,
-        &[(0, 4, 4)],
-        1920,
-    ),
+const LAYINGS: [(&str, u16, &[Change], u64, u64, &[Laying], u64); 2] = [
     (
         "in the last sixteenth",
         480,
         &[],
         1801,
         1801,
-        &[(0, 4, 4), (1920, 4, 4)],
-        3840,
-    ),
-    (
-        "carried over",
-        480,
-        &[],
-        1900,
-        1920,
-        &[(0, 4, 4), (1920, 4, 4)],
-        3840,
-    ),
-    (
-        "at the last barline",
-        480,
-        &[],
-        1920,
-        1920,
         &[(0, 4, 4), (1920, 4, 4)],
         3840,
     ),
@@ -65,100 +28,6 @@ const LAYINGS: [(&str, u16, &[Change], u64, u64, &[Laying], u64); 9] = [
         3360,
         &[(0, 4, 4), (1920, 6, 8)],
         3360,
-    ),
-    (
-        "of two signatures at a tick the last",
-        480,
-        &[(0, 2, 2), (0, 3, 2)],
-        0,
-        1,
-        &[(0, 3, 4)],
-        1440,
-    ),
-    (
-        "a bad signature that no bar takes",
-        480,
-        &[(5, 0, 9), (1920, 3, 2)],
-        0,
-        2000,
-        &[(0, 4, 4), (1920, 3, 4)],
-        3360,
-    ),
-];
-
-/// The division, the changes of signature and the last end, and the fault.
-const FAULTS: [(&str, u16, &[Change], u64, BarFault); 8] = [
-    (
-        "one tick too many",
-        1,
-        &[],
-        16385,
-        BarFault::TooManyBars { start: 16384 },
-    ),
-    (
-        "half a tick",
-        1,
-        &[(0, 1, 3)],
-        1,
-        BarFault::UnevenBar {
-            bar: 0,
-            num: 1,
-            den: 8,
-        },
-    ),
-    (
-        "seven sixteenths of a tick",
-        1,
-        &[(0, 7, 6)],
-        1,
-        BarFault::UnevenBar {
-            bar: 0,
-            num: 7,
-            den: 64,
-        },
-    ),
-    (
-        "half a tick in the second bar",
-        1,
-        &[(3, 1, 3)],
-        5,
-        BarFault::UnevenBar {
-            bar: 1,
-            num: 1,
-            den: 8,
-        },
-    ),
-    (
-        "no beats",
-        480,
-        &[(0, 0, 2)],
-        1,
-        BarFault::BadSignature { num: 0, dd: 2 },
-    ),
-    (
-        "65 beats",
-        480,
-        &[(0, 65, 2)],
-        1,
-        BarFault::BadSignature { num: 65, dd: 2 },
-    ),
-    (
-        "beats of a 128th",
-        480,
-        &[(0, 4, 7)],
-        1,
-        BarFault::BadSignature { num: 4, dd: 7 },
-    ),
-    (
-        "the first of two faults",
-        1,
-        &[(0, 1, 3), (4, 0, 2)],
-        5,
-        BarFault::UnevenBar {
-            bar: 0,
-            num: 1,
-            den: 8,
-        },
     ),
 ];
 
@@ -222,18 +91,9 @@ fn bars(rt: HostRuntime) -> Result<(), Fail> {
 }
 
 #[test]
-fn most_bars(rt: HostRuntime) -> Result<(), Fail> {
-    let most = laid(rt.alloc(), 1, &[], 0, 16384).ok().ok_or("4,096 bars")?;
-    assert_eq!(rt; (most.bars.len(), most.last), (4096, 16384));
-    Ok(())
-}
-
-#[test]
-fn bar_faults(rt: HostRuntime) -> Result<(), Fail> {
-    for (name, division, signatures, end, wanted) in &FAULTS {
-        let fault = laid(rt.alloc(), *division, signatures, 0, *end).err();
-        assert_eq!(rt; fault, Some(*wanted), "{name}");
-    }
+fn a_bar_too_many(rt: HostRuntime) -> Result<(), Fail> {
+    let fault = laid(rt.alloc(), 1, &[], 0, 16385).err();
+    assert_eq!(rt; fault, Some(BarFault::TooManyBars { start: 16384 }));
     Ok(())
 }
 

@@ -3,7 +3,7 @@ ghost use Rattle.std.specs.Prelude.{◌≤◌, IfOk};
 
 use note_list::NoteFault;
 use performance_load::{LoadFault, load};
-use rhythm_base::{Bar, BarFault, Event, Note, What};
+use rhythm_base::{Bar, Event, Note, What};
 use smf_reader::{Smf, Track};
 use std::alloc::{AllocError, Global};
 use std::test::Fail;
@@ -71,67 +71,6 @@ fn two_voices(alloc: Global) -> Result<Smf, AllocError>
     })
 }
 
-/// A note of 16,385 ticks at one tick to the quarter.
-fn long(alloc: Global) -> Result<Smf, AllocError>
-    ensures { IfOk result (λ f. IsPlayedFile f) }
-{
-    let events = vec![in alloc;
-        Event {
-            tick: 0,
-            what: What::On {
-                channel: 0,
-                key: 60
-            }
-        },
-        Event {
-            tick: 16385,
-            what: What::Off {
-                channel: 0,
-                key: 60
-            }
-        },
-    ]?;
-    let track = Track {
-        events,
-        last: 16385,
-    };
-    Ok(Smf {
-        division: 1,
-        tracks: vec![in alloc; track]?,
-    })
-}
-
-/// A bar of an eighth at one tick to the quarter.
-fn uneven(alloc: Global) -> Result<Smf, AllocError>
-    ensures { IfOk result (λ f. IsPlayedFile f) }
-{
-    let events = vec![in alloc;
-        Event {
-            tick: 0,
-            what: What::Signature { num: 1, dd: 3 }
-        },
-        Event {
-            tick: 0,
-            what: What::On {
-                channel: 0,
-                key: 60
-            }
-        },
-        Event {
-            tick: 1,
-            what: What::Off {
-                channel: 0,
-                key: 60
-            }
-        },
-    ]?;
-    let track = Track { events, last: 1 };
-    Ok(Smf {
-        division: 1,
-        tracks: vec![in alloc; track]?,
-    })
-}
-
 /// The notes of the two voices.
 const NOTES: [Note; 2] = [
     Note {
@@ -180,35 +119,10 @@ fn loads_two_voices(rt: HostRuntime) -> Result<(), Fail> {
     Ok(())
 }
 
-/// Why the file has no performance, if it has none.
-fn fault_of(alloc: Global, smf: &Smf) -> Option<LoadFault>
-    requires { IsPlayedFile smf.now }
-{
-    load(alloc, smf).err()
-}
-
 #[test]
 fn says_why_there_is_no_performance(rt: HostRuntime) -> Result<(), Fail> {
     let alloc = rt.alloc();
-    let none = fault_of(alloc, &silent(alloc)?);
+    let none = load(alloc, &silent(alloc)?).err();
     assert!(rt; matches!(none, Some(LoadFault::Notes(NoteFault::NoNotes))));
-    let many = fault_of(alloc, &long(alloc)?);
-    assert!(rt;
-        matches!(
-            many,
-            Some(LoadFault::Bars(BarFault::TooManyBars { start: 16384 }))
-        )
-    );
-    let broken = fault_of(alloc, &uneven(alloc)?);
-    assert!(rt;
-        matches!(
-            broken,
-            Some(LoadFault::Bars(BarFault::UnevenBar {
-                bar: 0,
-                num: 1,
-                den: 8
-            }))
-        )
-    );
     Ok(())
 }

@@ -25,127 +25,11 @@ const VOICES: &[u8] = b"MThd\0\0\0\x06\0\x01\0\x03\x01\xe0MTrk\0\0\0\x29\
 /// The content of a header: format 0, one track, and 480 ticks to a quarter note.
 const PLAIN: &[u8] = b"\0\0\0\x01\x01\xe0";
 
-/// The track of the four quarter notes.
-const NOTES: &[u8] = b"\0\x90\x3c\x40\x83\x60\x80\x3c\0\0\x90\x3e\x40\x83\x60\x80\x3e\0\
-    \0\x90\x40\x40\x83\x60\x80\x40\0\0\x90\x41\x40\x83\x60\x80\x41\0\0\xff\x2f\0";
-
-/// The same, with a quantity of four bytes that has no end in place of its first four bytes.
-const NO_QUANTITY: &[u8] = b"\x81\x81\x81\x81\x83\x60\x80\x3c\0\0\x90\x3e\x40\x83\x60\x80\x3e\0\
-    \0\x90\x40\x40\x83\x60\x80\x40\0\0\x90\x41\x40\x83\x60\x80\x41\0\0\xff\x2f\0";
-
 /// The four quarter notes and four deltas after them, which lead to tick 1,000,000,000.
 const LATEST: &[u8] = b"\0\x90\x3c\x40\x83\x60\x80\x3c\0\0\x90\x3e\x40\x83\x60\x80\x3e\0\
     \0\x90\x40\x40\x83\x60\x80\x40\0\0\x90\x41\x40\x83\x60\x80\x41\0\
     \xff\xff\xff\x7f\xff\x01\0\xff\xff\xff\x7f\xff\x01\0\xff\xff\xff\x7f\xff\x01\0\
     \xdc\xeb\x85\x03\xff\x2f\0";
-
-/// The same, one tick later.
-const TOO_LATE: &[u8] = b"\0\x90\x3c\x40\x83\x60\x80\x3c\0\0\x90\x3e\x40\x83\x60\x80\x3e\0\
-    \0\x90\x40\x40\x83\x60\x80\x40\0\0\x90\x41\x40\x83\x60\x80\x41\0\
-    \xff\xff\xff\x7f\xff\x01\0\xff\xff\xff\x7f\xff\x01\0\xff\xff\xff\x7f\xff\x01\0\
-    \xdc\xeb\x85\x04\xff\x2f\0";
-
-/// Contents of headers and of tracks, and the fault. The content of the track begins at place 22.
-const FAULTS: [(&str, &[u8], &[u8], SmfFault); 18] = [
-    ("five bytes", b"\0\0\0\x01\x01", b"", SmfFault::NotSmf),
-    (
-        "format 2",
-        b"\0\x02\0\x01\x01\xe0",
-        NOTES,
-        SmfFault::Format(2),
-    ),
-    (
-        "frames of a film",
-        b"\0\0\0\x01\xe7\x28",
-        NOTES,
-        SmfFault::Smpte,
-    ),
-    ("no ticks", b"\0\0\0\x01\0\0", NOTES, SmfFault::ZeroDivision),
-    (
-        "no quantity",
-        PLAIN,
-        NO_QUANTITY,
-        SmfFault::BadQuantity { at: 25 },
-    ),
-    (
-        "no third track",
-        b"\0\0\0\x03\x01\xe0",
-        b"",
-        SmfFault::Truncated { at: 30 },
-    ),
-    (
-        "a delta alone",
-        PLAIN,
-        b"\0",
-        SmfFault::Truncated { at: 23 },
-    ),
-    (
-        "one data byte",
-        PLAIN,
-        b"\0\x90\x3c",
-        SmfFault::Truncated { at: 25 },
-    ),
-    (
-        "four high bits",
-        PLAIN,
-        b"\x81\x81\x81\x81\0",
-        SmfFault::BadQuantity { at: 25 },
-    ),
-    (
-        "three high bits",
-        PLAIN,
-        b"\x81\x81\x81",
-        SmfFault::Truncated { at: 25 },
-    ),
-    (
-        "no status",
-        PLAIN,
-        b"\0\x3c\x40",
-        SmfFault::NoStatus { at: 23 },
-    ),
-    (
-        "status f4",
-        PLAIN,
-        b"\0\xf4\0",
-        SmfFault::BadStatus { at: 23 },
-    ),
-    (
-        "a key above 127",
-        PLAIN,
-        b"\0\x90\x80",
-        SmfFault::BadData { at: 24 },
-    ),
-    (
-        "a key neither major nor minor",
-        PLAIN,
-        b"\0\xff\x59\x02\0\x02",
-        SmfFault::BadMeta { at: 23 },
-    ),
-    (
-        "tempo 0",
-        PLAIN,
-        b"\0\xff\x51\x03\0\0\0",
-        SmfFault::BadMeta { at: 23 },
-    ),
-    (
-        "half a long tempo",
-        PLAIN,
-        b"\0\xff\x51\x04\x01\x02",
-        SmfFault::Truncated { at: 28 },
-    ),
-    (
-        "a tick too late",
-        PLAIN,
-        TOO_LATE,
-        SmfFault::TooLate { at: 79 },
-    ),
-    (
-        "a delta too late at the end",
-        PLAIN,
-        b"\xff\xff\xff\x7f\xff\x01\0\xff\xff\xff\x7f\xff\x01\0\xff\xff\xff\x7f\xff\x01\0\xff\xff\xff\x7f",
-        SmfFault::TooLate { at: 43 },
-    ),
-];
 
 /// Contents of headers and of tracks, the number of tracks that are read, the number of events, and the last tick.
 const READINGS: [(&str, &[u8], &[u8], usize, usize, u64); 8] = [
@@ -301,16 +185,6 @@ fn files_cut_short(rt: HostRuntime) -> Result<(), Fail> {
             let fault = read_smf(rt.alloc(), &whole[..length]).err();
             assert_eq!(rt; fault, Some(wanted), "{length} bytes");
         }
-    }
-    Ok(())
-}
-
-#[test]
-fn faults(rt: HostRuntime) -> Result<(), Fail> {
-    for (name, header, track, wanted) in &FAULTS {
-        let bytes = file(rt.alloc(), header, track)?;
-        let fault = read_smf(rt.alloc(), bytes.as_slice()).err();
-        assert_eq!(rt; fault, Some(*wanted), "{name}");
     }
     Ok(())
 }

@@ -3,37 +3,9 @@ ghost use Rattle.std.specs.Prelude.{◌≡◌, ◌≤◌, ◌+◌};
 
 use edit_script::{Command, read_line};
 use performance_edit::{copied, edited};
-use rhythm_base::{Bar, EditFault, LimitKind, Note, Performance};
+use rhythm_base::{Bar, EditFault, Note, Performance};
 use std::alloc::{AllocError, Global};
 use std::test::Fail;
-
-/// Lines whose edits of the four quarter notes are refused, and why.
-const REFUSED: [(&str, EditFault); 18] = [
-    ("add 1 60 0 10", EditFault::NoVoice(1)),
-    ("add 0 60 10 5", EditFault::BadSpan),
-    ("add 0 60 0 480", EditFault::SameNote),
-    ("add 0 61 1800 2000", EditFault::PastEnd { last: 1920 }),
-    ("add 0 61 1920 1920", EditFault::PastEnd { last: 1920 }),
-    ("drop 1 61 0", EditFault::NoVoice(1)),
-    ("drop 0 61 0", EditFault::NoNote),
-    ("move 1 60 0 10", EditFault::NoVoice(1)),
-    ("move 0 61 0 10", EditFault::NoNote),
-    ("move 0 60 0 1900", EditFault::PastEnd { last: 1920 }),
-    ("barline 0 5", EditFault::NoBar(0)),
-    ("barline 2 5", EditFault::NoBar(2)),
-    (
-        "barline 1 0",
-        EditFault::BarlineOrder {
-            low: 0,
-            high: 2_000_000_001,
-        },
-    ),
-    ("barline 1 1000", EditFault::NoteOutside { onset: 960 }),
-    ("pin 1 0 .", EditFault::NoVoice(1)),
-    ("pin 0 1 .", EditFault::NoBar(1)),
-    ("unpin 0 1", EditFault::NoBar(1)),
-    ("dropbar", EditFault::OneBar),
-];
 
 /// Lines whose edits are made one after another from the four quarter notes on, and what is there after each: the
 /// starts of the bars, the last barline, the notes by key, onset and end, and the pins by bar.
@@ -108,39 +80,6 @@ const MADE: [(&str, &str); 17] = [
     ),
 ];
 
-/// Lines whose edits are refused after those of other lines, and why.
-const REFUSED_LATER: [(&[&str], &str, EditFault); 5] = [
-    (&["add 0 60 10 20"], "move 0 60 10 0", EditFault::SameNote),
-    (
-        &["addbar"],
-        "barline 1 3840",
-        EditFault::BarlineOrder { low: 0, high: 3840 },
-    ),
-    (
-        &["addbar", "add 0 60 1920 2400"],
-        "dropbar",
-        EditFault::NotEmpty { onset: 1920 },
-    ),
-    (
-        &[
-            "barline 1 2000",
-            "add 0 60 1900 2000",
-            "addbar",
-            "barline 1 1950",
-        ],
-        "dropbar",
-        EditFault::NotEmpty { onset: 1900 },
-    ),
-    (
-        &["barline 1 2000000000"],
-        "addbar",
-        EditFault::Limit {
-            what: LimitKind::Line,
-            count: 2_000_001_920,
-        },
-    ),
-];
-
 /// A quarter note at 480 ticks to the quarter.
 fn quarter(key: u8, onset: u64) -> Note
     requires { onset ≤ LATEST_TICK }
@@ -208,16 +147,6 @@ fn after(alloc: Global, performance: &Performance, line: &str) -> Result<Perform
 }
 
 #[test]
-fn edits_are_refused(rt: HostRuntime) -> Result<(), Fail> {
-    let performance = four_quarters(rt.alloc())?;
-    for (line, fault) in REFUSED {
-        let refused = after(rt.alloc(), &performance, line);
-        assert_eq!(rt; refused.err(), Some(fault), "{line}");
-    }
-    Ok(())
-}
-
-#[test]
 fn edits_are_made(rt: HostRuntime) -> Result<(), Fail> {
     let mut performance = four_quarters(rt.alloc())?;
     for (line, text) in MADE {
@@ -226,19 +155,6 @@ fn edits_are_made(rt: HostRuntime) -> Result<(), Fail> {
         assert!(rt; is.as_str() == text, "{line}: {is}");
         let copy = shown(rt.alloc(), &copied(rt.alloc(), &performance)?)?;
         assert!(rt; copy.as_str() == text, "{line}: {copy}");
-    }
-    Ok(())
-}
-
-#[test]
-fn edits_are_refused_later(rt: HostRuntime) -> Result<(), Fail> {
-    for (lines, refused, fault) in REFUSED_LATER {
-        let mut performance = four_quarters(rt.alloc())?;
-        for line in lines {
-            performance = after(rt.alloc(), &performance, line)?;
-        }
-        let outcome = after(rt.alloc(), &performance, refused);
-        assert_eq!(rt; outcome.err(), Some(fault), "{refused}");
     }
     Ok(())
 }

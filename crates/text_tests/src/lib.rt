@@ -1,6 +1,6 @@
 //! Tests of what is read and written as text: the words of command lines, grammar files, and the lines of edit scripts
 //! with the replies to them; of what such lines make of a performance; and of the text that a session starts from. They
-//! call public functions alone.
+//! call public functions alone, for answers that no command shows. Which lines are refused, and why, stands in `cases/`.
 #![tactic(auto)]
 
 #[cfg(test)]

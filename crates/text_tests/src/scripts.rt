@@ -57,177 +57,37 @@ fn said(alloc: Global, line: &[u8]) -> Result<String, AllocError> {
     }
 }
 
+/// Lines, and what they say: each kind with the greatest numbers, other spellings, and lines that are none.
+const LINES: [(&[u8], &str); 16] = [
+    (
+        b"add 15 127 2000000000 2000000000",
+        "add 15 127 2000000000 2000000000",
+    ),
+    (b"drop 15 127 2000000000", "drop 15 127 2000000000"),
+    (b"move 15 127 2000000000 0", "move 15 127 2000000000 0"),
+    (b"barline 4096 2000000000", "barline 4096 2000000000"),
+    (
+        b"pin 15 4096 2(2(. .) 3(. . .))",
+        "pin 15 4096 2(2(. .) 3(. . .))",
+    ),
+    (b"unpin 15 4096", "unpin 15 4096"),
+    (b"addbar", "addbar"),
+    (b"dropbar", "dropbar"),
+    (b"score", "score"),
+    (b"alt 15 4096 16", "alt 15 4096 16"),
+    (b"quit", "quit"),
+    (b"add 00 064 0000000010 480\r", "add 0 64 10 480"),
+    (b"pin 000 0001 .", "pin 0 1 ."),
+    (b"", "bad line"),
+    (b"quit\n", "bad line"),
+    (b"pin 0 0 \xff", "bad line"),
+];
+
 #[test]
 fn lines_say_commands(rt: HostRuntime) -> Result<(), Fail> {
-    for line in [
-        "add 1 60 0 10",
-        "add 0 60 10 5",
-        "add 0 60 0 480",
-        "add 0 61 1800 2000",
-        "add 0 60 1920 2400",
-        "add 0 64 10 480",
-        "add 0 60 0 5760",
-        "add 15 127 2000000000 2000000000",
-        "add 0 0 0 0",
-        "drop 0 61 0",
-        "drop 0 60 0",
-        "drop 15 127 2000000000",
-        "move 0 60 0 1900",
-        "move 0 60 0 0",
-        "move 15 127 2000000000 2000000000",
-        "barline 0 5",
-        "barline 1 1000",
-        "barline 1 3840",
-        "barline 1 2000",
-        "barline 4096 2000000000",
-        "unpin 0 0",
-        "unpin 15 4096",
-        "addbar",
-        "dropbar",
-        "score",
-        "alt 0 0 2",
-        "alt 0 1 2",
-        "alt 15 4096 16",
-        "alt 0 1 1",
-        "quit",
-        "pin 0 0 .",
-        "pin 0 0 2(. .)",
-        "pin 15 4096 2(. .)",
-        "pin 0 0 2(2(. .) 2(. 2(. .)))",
-        "pin 0 0 2(2(. 2(. .)) .)",
-        "pin 0 0 3(. . .)",
-    ] {
-        assert!(rt;
-            said(rt.alloc(), line.as_bytes())?.as_bytes() == line.as_bytes(),
-            "{line}"
-        );
+    for (line, command) in LINES {
+        assert!(rt; said(rt.alloc(), line)?.as_str() == command, "{command}");
     }
-    Ok(())
-}
-
-#[test]
-fn other_spellings_say_the_same(rt: HostRuntime) -> Result<(), Fail> {
-    for (line, command) in [
-        ("add 00 064 0000000010 480", "add 0 64 10 480"),
-        ("drop 0000000015 0000000127 0000000000", "drop 15 127 0"),
-        ("alt 0 0 016", "alt 0 0 16"),
-        ("pin 000 0001 .", "pin 0 1 ."),
-        ("quit\r", "quit"),
-        ("score\r", "score"),
-        ("drop 0 61 0\r", "drop 0 61 0"),
-        ("pin 0 0 2(. .)\r", "pin 0 0 2(. .)"),
-    ] {
-        assert!(rt;
-            said(rt.alloc(), line.as_bytes())?.as_str() == command,
-            "{line}"
-        );
-    }
-    Ok(())
-}
-
-#[test]
-fn other_lines_are_bad(rt: HostRuntime) -> Result<(), Fail> {
-    for line in [
-        // no word, blanks and line ends
-        "",
-        "\r",
-        " ",
-        "quit\r\r",
-        "\rquit",
-        "quit ",
-        " quit",
-        "quit\n",
-        "add  0 60 0 10",
-        "add 0 60 0 10 ",
-        "add\t0 60 0 10",
-        "score\r ",
-        "quit \r",
-        // other words
-        "Quit",
-        "quits",
-        "qui",
-        "undo",
-        "bye",
-        "add0 60 0 10",
-        "addbar 1",
-        "dropbar 0",
-        "score 1",
-        "quit quit",
-        // too few or too many
-        "add",
-        "add 0 60 0",
-        "add 0 60 0 10 20",
-        "drop 0 61",
-        "drop 0 61 0 0",
-        "move 0 60 0",
-        "move 0 60 0 1 2",
-        "barline 0",
-        "barline 0 1 2",
-        "unpin 0",
-        "unpin 0 0 0",
-        "alt 0 0",
-        "alt 0 0 1 1",
-        "unpin",
-        "alt",
-        // beyond each range
-        "add 16 60 0 10",
-        "add 0 128 0 10",
-        "add 0 60 2000000001 10",
-        "add 0 60 0 2000000001",
-        "drop 16 0 0",
-        "drop 0 128 0",
-        "drop 0 0 2000000001",
-        "move 16 0 0 0",
-        "move 0 128 0 0",
-        "move 0 0 2000000001 0",
-        "move 0 0 0 2000000001",
-        "barline 4097 0",
-        "barline 0 2000000001",
-        "unpin 16 0",
-        "unpin 0 4097",
-        "alt 16 0 1",
-        "alt 0 4097 1",
-        "alt 0 0 0",
-        "alt 0 0 17",
-        "alt 0 0 00",
-        "drop 0 0 4294967296",
-        "drop 0 0 9999999999",
-        // words that are no number
-        "drop 0 0 00000000000",
-        "drop 0 0 10000000000",
-        "drop +0 0 0",
-        "drop -0 0 0",
-        "drop 0 6a 0",
-        "drop 0 0 1.0",
-        "unpin x 0",
-        "alt 0 0 one",
-        // pins
-        "pin",
-        "pin ",
-        "pin 0",
-        "pin 0 0",
-        "pin 0 0 ",
-        "pin 16 0 .",
-        "pin 0 4097 .",
-        "pin 0 0  .",
-        "pin 0 0 . ",
-        "pin 0 0 1",
-        "pin 0 0 17(. .)",
-        "pin 0 0 2(. . .)",
-        "pin 0 0 2(.",
-        "pin 0 0 02(. .)",
-        "pin 0 0 2(.  .)",
-        "pin  0 0 .",
-        "pin 0  0 .",
-        "pinned 0 0 .",
-    ] {
-        assert!(rt;
-            said(rt.alloc(), line.as_bytes())?.as_str() == "bad line",
-            "{line}"
-        );
-    }
-    assert!(rt; said(rt.alloc(), b"pin 0 0 \xff")?.as_str() == "bad line");
-    assert!(rt; said(rt.alloc(), b"\xff")?.as_str() == "bad line");
     Ok(())
 }
 
@@ -256,12 +116,6 @@ fn is_written(alloc: Global, reply: &Reply, text: &[u8]) -> Result<bool, AllocEr
 fn edits_are_answered(rt: HostRuntime) -> Result<(), Fail> {
     for (built, cost, text) in [
         (0, 100, "ok 0 100\n"),
-        (0, 140, "ok 0 140\n"),
-        (1, 15, "ok 1 15\n"),
-        (1, 105, "ok 1 105\n"),
-        (1, 150, "ok 1 150\n"),
-        (2, 30, "ok 2 30\n"),
-        (3, 30, "ok 3 30\n"),
         (18446744073709551615, 0, "ok 18446744073709551615 0\n"),
         (0, 18446744073709551615, "ok 0 18446744073709551615\n"),
     ] {
@@ -276,8 +130,6 @@ fn edits_are_answered(rt: HostRuntime) -> Result<(), Fail> {
 fn refusals_are_answered(rt: HostRuntime) -> Result<(), Fail> {
     for (fault, text) in [
         (EditFault::NoVoice(1), "refused NoVoice 1\n"),
-        (EditFault::NoBar(0), "refused NoBar 0\n"),
-        (EditFault::NoBar(1), "refused NoBar 1\n"),
         (EditFault::NoBar(3), "refused NoBar 3\n"),
         (EditFault::BadSpan, "refused BadSpan\n"),
         (EditFault::NoNote, "refused NoNote\n"),
@@ -325,10 +177,6 @@ fn refusals_are_answered(rt: HostRuntime) -> Result<(), Fail> {
             "refused Limit line 2000000001\n",
         ),
         (
-            EditFault::NoDerivation { channel: 0, bar: 0 },
-            "refused NoDerivation 0 0\n",
-        ),
-        (
             EditFault::NoDerivation { channel: 0, bar: 2 },
             "refused NoDerivation 0 2\n",
         ),
@@ -358,10 +206,6 @@ fn refusals_are_answered(rt: HostRuntime) -> Result<(), Fail> {
 fn scores_are_answered(rt: HostRuntime) -> Result<(), Fail> {
     for (score, text) in [
         ("", "score 0\n"),
-        (
-            "**kern\n*M4/4\n*MM120\n=1\n4c 4e\n4d\n4e\n4f\n==\n*-\n",
-            "score 44\n**kern\n*M4/4\n*MM120\n=1\n4c 4e\n4d\n4e\n4f\n==\n*-\n",
-        ),
         (
             "**kern\n*M4/4\n*MM120\n=1\n[1c\n=2\n1c_\n=3\n1c]\n==\n*-\n",
             "score 47\n**kern\n*M4/4\n*MM120\n=1\n[1c\n=2\n1c_\n=3\n1c]\n==\n*-\n",
