@@ -1,10 +1,11 @@
 ghost use Rattle.std.specs.Prelude.{◌≤◌};
 
-use crate::case::{Ports, run_over, words_of};
+use crate::files::{
+    EARLY_NOTE, FOUR_QUARTERS, NO_BYTES, TOO_MANY_BARS, TWO_VOICES_SCORE, WHOLE_NOTE,
+};
 use crate::given::{Ending, Failing, Given, NONE_FAILS, Port, Taken, end_of};
 use crate::grammars::{QUARTERS, QUARTERS_OF_RESTS, USUAL, WHOLE};
-use crate::midi::{EARLY_NOTE, FOUR_QUARTERS, NO_BYTES, TOO_MANY_BARS, WHOLE_NOTE};
-use crate::scores::TWO_VOICES_SCORE;
+use crate::running::{Ports, run_over, words_of};
 use crate::talks::{
     CHORD_COMES_AND_GOES, Exchange, NOTE_JOINS_A_CHORD, NOTE_OVER_THREE_BARS, RHYTHMS_OF_A_BAR,
     lines_within, replies_to, script_of,
@@ -78,6 +79,18 @@ const USES: &[Use] = &[
         fewest: 1,
     },
     Use {
+        words: &["follow", "a.mid", "a.grammar"],
+        files: &[("a.mid", EARLY_NOTE), ("a.grammar", WHOLE)],
+        talk: &[],
+        fewest: 20,
+    },
+    Use {
+        words: &["notes", "a.mid"],
+        files: &[("a.mid", FOUR_QUARTERS)],
+        talk: &[],
+        fewest: 1,
+    },
+    Use {
         words: &["events", "a.krn"],
         files: &[("a.krn", TWO_VOICES_SCORE)],
         talk: &[],
@@ -119,7 +132,7 @@ fn taken_from<R: Threads + Sync>(
         files: used.files,
         script: &script,
     };
-    end_of(rt, alloc, most, &given, failing)
+    end_of(rt, alloc, most, &given, failing, &OpenGate)
 }
 
 /// The line of a run whose shelf fails at a call. None of its calls has the number where there is none.
@@ -376,7 +389,7 @@ fn says_a_part<R: Threads + Sync>(
     let mut before = 0;
     'calls: for call in 0..MOST_CALLS {
         let port = Port::Err;
-        let end = end_of(rt, alloc, most, given, Failing { port, call })?;
+        let end = end_of(rt, alloc, most, given, Failing { port, call }, &OpenGate)?;
         let part = end.err.bytes();
         if part == ending.err {
             return Ok(end.is(ending) && part.len() <= most.saturating_mul(call as usize));

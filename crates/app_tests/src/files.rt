@@ -1,152 +1,67 @@
-use crate::midi::FOUR_QUARTERS;
-use std::alloc::{AllocError, Global};
-use std::test::Fail;
+/// Four quarter notes from C to F, with 480 ticks to a quarter note.
+pub const FOUR_QUARTERS: &[u8] = b"\
+    MThd\0\0\0\x06\0\0\0\x01\x01\xe0\
+    MTrk\0\0\0(\0\x90<@\x83`\x80<\0\0\x90>@\x83`\x80>\0\0\x90@@\x83`\x80@\0\0\x90A@\
+    \x83`\x80A\0\0\xff/\0\
+";
 
-/// A note as it is played: its channel, its key, and the ticks of its onset and its end.
-pub type Played = (u8, u8, u64, u64);
+/// A whole note, with 480 ticks to a quarter note.
+pub const WHOLE_NOTE: &[u8] = b"\
+    MThd\0\0\0\x06\0\0\0\x01\x01\xe0\
+    MTrk\0\0\0\x0d\0\x90<@\x8f\0\x80<\0\0\xff/\0\
+";
 
-/// A change of a piece, at its tick.
-#[derive(Clone, Copy)]
-pub enum Change {
-    /// The beats, and the power of two that is the value of a beat.
-    Signature(u64, u8, u8),
-    /// The sharps of a key; where it has flats, 256 less their number.
-    Key(u64, u8),
-    /// Microseconds of a quarter note.
-    Tempo(u64, u32),
-}
+/// Two notes: the second begins 20 ticks before the barline between them, with 480 ticks to a quarter note.
+pub const EARLY_NOTE: &[u8] = b"\
+    MThd\0\0\0\x06\0\0\0\x01\x01\xe0\
+    MTrk\0\0\0\x16\0\x90<@\x8el\x80<\0\0\x90>@\x8f\x14\x80>\0\0\xff/\0\
+";
 
-/// What a message of a track says.
-#[derive(Clone, Copy)]
-enum Said {
-    Signature(u8, u8),
-    Key(u8),
-    Tempo(u32),
-    On(u8, u8),
-    Off(u8, u8),
-}
+/// A note of sixteen bars, with a tick to a quarter note.
+pub const SIXTEEN_BARS: &[u8] = b"\
+    MThd\0\0\0\x06\0\0\0\x01\0\x01\
+    MTrk\0\0\0\x0c\0\x90<@@\x80<\0\0\xff/\0\
+";
 
-/// A message of a track, at its tick. Of messages at one tick those of a lower turn come first.
-#[derive(Clone, Copy)]
-struct Message {
-    tick: u64,
-    turn: u64,
-    said: Said,
-}
+/// A note of as many bars as there may be, with a tick to a quarter note.
+pub const MOST_BARS: &[u8] = b"\
+    MThd\0\0\0\x06\0\0\0\x01\0\x01\
+    MTrk\0\0\0\x0e\0\x90<@\x81\x80\0\x80<\0\0\xff/\0\
+";
 
-/// Appends the messages of changes: signatures and keys before tempos.
-fn push_changes(messages: &mut Vec<Message>, changes: &[Change]) -> Result<(), AllocError> {
-    'changes: for change in changes {
-        let message = match *change {
-            Change::Signature(tick, num, dd) => Message {
-                tick,
-                turn: 0,
-                said: Said::Signature(num, dd),
-            },
-            Change::Key(tick, sharps) => Message {
-                tick,
-                turn: 0,
-                said: Said::Key(sharps),
-            },
-            Change::Tempo(tick, micros) => Message {
-                tick,
-                turn: 1,
-                said: Said::Tempo(micros),
-            },
-        };
-        messages.push(message)?;
-    }
-    Ok(())
-}
+/// The same with a tick more.
+pub const TOO_MANY_BARS: &[u8] = b"\
+    MThd\0\0\0\x06\0\0\0\x01\0\x01\
+    MTrk\0\0\0\x0e\0\x90<@\x81\x80\x01\x80<\0\0\xff/\0\
+";
 
-/// Appends the messages of notes: ends of earlier notes before onsets.
-fn push_notes(messages: &mut Vec<Message>, notes: &[Played]) -> Result<(), AllocError> {
-    'notes: for (channel, key, onset, end) in notes {
-        messages.push(Message {
-            tick: *onset,
-            turn: 3,
-            said: Said::On(*channel, *key),
-        })?;
-        messages.push(Message {
-            tick: *end,
-            turn: if *onset == *end { 3 } else { 2 },
-            said: Said::Off(*channel, *key),
-        })?;
-    }
-    Ok(())
-}
+/// Two voices in a key of two flats, with two tempos; in the first, running status goes on over a lyric, and notes end
+/// by onsets of velocity 0. A program change is skipped.
+pub const TWO_VOICES: &[u8] = b"\
+    MThd\0\0\0\x06\0\x01\0\x03\x01\xe0\
+    MTrk\0\0\0)\0\xff\x03\x04Demo\0\xffX\x04\x04\x02\x18\x08\0\xffY\x02\xfe\0\0\xffQ\
+    \x03\x09'\xc0\x8f\0\xffQ\x03\x07\xa1 \0\xff/\0\
+    MTrk\0\0\0&\x05\x90FP\x07JP\0\xff\x05\x02la\x83JF\0\0J\0\x0fHP\x8b\x07H\0\x0aFP\
+    \x8ebF\0\0\xff/\0\
+    MTrk\0\0\0\x10\0\xc1\0\0\x91.@\x9e\0\x81.@\0\xff/\0\
+";
 
-/// Appends a quantity: seven bits a byte, with the high bit on all but the last.
-fn push_quantity(bytes: &mut Vec<u8>, number: u64) -> Result<(), AllocError> {
-    if number >= 2_097_152 {
-        bytes.push((number / 2_097_152 % 128) as u8 | 0x80)?;
-    }
-    if number >= 16_384 {
-        bytes.push((number / 16_384 % 128) as u8 | 0x80)?;
-    }
-    if number >= 128 {
-        bytes.push((number / 128 % 128) as u8 | 0x80)?;
-    }
-    bytes.push((number % 128) as u8)?;
-    Ok(())
-}
+/// No bytes.
+pub const NO_BYTES: &[u8] = b"";
 
-/// Appends what a message says.
-fn push_said(bytes: &mut Vec<u8>, said: Said) -> Result<(), AllocError> {
-    match said {
-        Said::Signature(num, dd) => bytes.extend_from_slice(&[0xff, 0x58, 4, num, dd, 24, 8]),
-        Said::Key(sharps) => bytes.extend_from_slice(&[0xff, 0x59, 2, sharps, 0]),
-        Said::Tempo(micros) => {
-            bytes.extend_from_slice(&[0xff, 0x51, 3])?;
-            bytes.extend_from_slice(&micros.to_be_bytes()[1..])
-        }
-        Said::On(channel, key) => bytes.extend_from_slice(&[0x90 | channel, key, 64]),
-        Said::Off(channel, key) => bytes.extend_from_slice(&[0x80 | channel, key, 0]),
-    }
-}
-
-/// The bytes of the messages in their order, and of an end of track at the last of them.
-fn track(alloc: Global, messages: &[Message]) -> Result<Vec<u8>, AllocError> {
-    let mut bytes = Vec::new(alloc);
-    let mut last = 0;
-    'messages: for message in messages {
-        push_quantity(&mut bytes, message.tick.saturating_sub(last))?;
-        push_said(&mut bytes, message.said)?;
-        last = message.tick;
-    }
-    bytes.extend_from_slice(b"\0\xff\x2f\0")?;
-    Ok(bytes)
-}
-
-/// A MIDI file of one track, built of changes and notes.
-pub fn midi_file(
-    alloc: Global,
-    division: u16,
-    changes: &[Change],
-    notes: &[Played],
-) -> Result<Vec<u8>, AllocError> {
-    let mut messages = Vec::new(alloc);
-    push_changes(&mut messages, changes)?;
-    push_notes(&mut messages, notes)?;
-    messages.sort_by_key(|message| message.tick.saturating_mul(4).saturating_add(message.turn))?;
-    let track = track(alloc, &messages)?;
-    let mut bytes = Vec::from_slice(alloc, b"MThd\0\0\0\x06\0\0\0\x01")?;
-    bytes.extend_from_slice(&division.to_be_bytes())?;
-    bytes.extend_from_slice(b"MTrk\0\0")?;
-    bytes.extend_from_slice(&((track.len() % 65_536) as u16).to_be_bytes())?;
-    bytes.extend_from_slice(&track)?;
-    Ok(bytes)
-}
-
-#[test]
-fn a_file_of_four_quarters_has_its_bytes(rt: HostRuntime) -> Result<(), Fail> {
-    let notes = [
-        (0, 60, 0, 480),
-        (0, 62, 480, 960),
-        (0, 64, 960, 1440),
-        (0, 65, 1440, 1920),
-    ];
-    let bytes = midi_file(rt.alloc(), 480, &[], &notes)?;
-    assert!(rt; bytes.as_slice() == FOUR_QUARTERS);
-    Ok(())
-}
+/// The score of the two voices.
+pub const TWO_VOICES_SCORE: &[u8] = b"\
+    **kern\t**kern\n\
+    *k[b-e-]\t*k[b-e-]\n\
+    *M4/4\t*M4/4\n\
+    *MM100\t*MM100\n\
+    =1\t=1\n\
+    4b- 4dd\t[1BB-\n\
+    [4cc\t.\n\
+    2cc]\t.\n\
+    *MM120\t*MM120\n\
+    =2\t=2\n\
+    1b-\t1BB-]\n\
+    ==\t==\n\
+    *-\t*-\n\
+";

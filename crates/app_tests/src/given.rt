@@ -1,7 +1,7 @@
 ghost use Rattle.std.specs.Prelude.{◌≤◌};
 
-use crate::case::{Ports, run_over, words_of};
-use rhythm_ports::{MemShelf, MemSink, MemSource, OpenGate};
+use crate::running::{Ports, run_over, words_of};
+use rhythm_ports::{Gate, MemShelf, MemSink, MemSource};
 use std::alloc::{AllocError, Global};
 use std::thread::Threads;
 
@@ -88,12 +88,13 @@ pub fn shelf_of(
 }
 
 /// Runs the program on what is given, where a call moves at most so many bytes and one fails.
-pub fn end_of<R: Threads + Sync>(
+pub fn end_of<R: Threads + Sync, G: Gate + Sync>(
     rt: &R,
     alloc: Global,
     most: usize,
     given: &Given<'_>,
     failing: Failing,
+    gate: &G,
 ) -> Result<Taken, AllocError>
     requires { 1 ≤ most }
 {
@@ -114,24 +115,11 @@ pub fn end_of<R: Threads + Sync>(
         out: &mut out,
         err: &mut err,
     };
-    let ran = run_over(rt, alloc, &words, ports, &OpenGate);
+    let ran = run_over(rt, alloc, &words, ports, gate);
     Ok(Taken {
         status: ran.status,
         builds: ran.builds,
         out,
         err,
     })
-}
-
-/// Whether the run ends so where a call moves at most so many bytes.
-pub fn ends<R: Threads + Sync>(
-    rt: &R,
-    alloc: Global,
-    most: usize,
-    given: &Given<'_>,
-    ending: &Ending<'_>,
-) -> Result<bool, AllocError>
-    requires { 1 ≤ most }
-{
-    Ok(end_of(rt, alloc, most, given, NONE_FAILS)?.is(ending))
 }

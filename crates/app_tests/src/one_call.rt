@@ -1,9 +1,9 @@
 ghost use Rattle.std.specs.Prelude.{None};
 
-use crate::case::{Ports, run_over, words_of};
+use crate::files::{EARLY_NOTE, FOUR_QUARTERS, WHOLE_NOTE};
 use crate::given::{Given, shelf_of};
 use crate::grammars::USUAL;
-use crate::midi::{FOUR_QUARTERS, WHOLE_NOTE};
+use crate::running::{Ports, run_over, words_of};
 use crate::talks::{
     CHORD_COMES_AND_GOES, NOTE_JOINS_A_CHORD, NOTE_OVER_THREE_BARS, RHYTHMS_OF_A_BAR, script_of,
 };
@@ -75,6 +75,8 @@ const WRITING: &[&[&str]] = &[
     &["lily", "a.mid", "a.grammar"],
     &["render", "a.mid", "a.grammar"],
     &["fit", "a.mid", "a.grammar", "1", "1920", "1920", "1"],
+    &["follow", "a.mid", "a.grammar"],
+    &["notes", "a.mid"],
 ];
 
 #[test]
@@ -82,7 +84,7 @@ fn a_text_is_written_at_once(rt: HostRuntime) -> Result<(), Fail> {
     for words in WRITING {
         let given = Given {
             words: *words,
-            files: &[("a.mid", FOUR_QUARTERS), ("a.grammar", USUAL)],
+            files: &[("a.mid", EARLY_NOTE), ("a.grammar", USUAL)],
             script: b"",
         };
         assert!(rt; calls_out(&rt, rt.alloc(), &given, 1)?);

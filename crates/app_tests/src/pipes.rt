@@ -1,10 +1,9 @@
 ghost use Rattle.std.specs.Prelude.{None};
 
-use crate::case::{Ports, run_over, words_of};
+use crate::files::{FOUR_QUARTERS, TWO_VOICES_SCORE};
 use crate::given::shelf_of;
 use crate::grammars::USUAL;
-use crate::midi::FOUR_QUARTERS;
-use crate::scores::TWO_VOICES_SCORE;
+use crate::running::{Ports, run_over, words_of};
 use rhythm_base::Words;
 use rhythm_ports::{Failed, MemShelf, MemSink, MemSource, OpenGate, Shelf};
 use std::alloc::{AllocError, Global};
@@ -132,6 +131,12 @@ const OPENS: &[(&[&str], u8, &[&str])] = &[
         0,
         &["a.mid", "a.grammar"],
     ),
+    (
+        &["follow", "a.mid", "a.grammar"],
+        0,
+        &["a.mid", "a.grammar"],
+    ),
+    (&["notes", "a.mid"], 0, &["a.mid"]),
     (&["events", "a.krn"], 0, &["a.krn"]),
     (&["drill", "7", "a.grammar"], 0, &["a.grammar"]),
     (&["generate", "7", "1"], 0, &[]),

@@ -1,9 +1,9 @@
 ghost use Rattle.std.specs.Prelude.{◌≡◌, ◌≤◌, None};
 
-use crate::case::{Ports, Ran, run_over, words_of};
+use crate::files::{FOUR_QUARTERS, WHOLE_NOTE};
 use crate::given::shelf_of;
 use crate::grammars::USUAL;
-use crate::midi::{FOUR_QUARTERS, WHOLE_NOTE};
+use crate::running::{Ports, Ran, run_over, words_of};
 use crate::talks::{
     CHORD_COMES_AND_GOES, Exchange, NOTE_JOINS_A_CHORD, NOTE_OVER_THREE_BARS, RHYTHMS_OF_A_BAR,
     lines_within, replies_to, script_of,

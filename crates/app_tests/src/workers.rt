@@ -1,8 +1,7 @@
-use crate::case::{Ports, run_over, words_of};
-use crate::given::{Given, shelf_of};
+use crate::files::{EARLY_NOTE, SIXTEEN_BARS, TWO_VOICES, WHOLE_NOTE};
+use crate::given::{Given, NONE_FAILS, end_of};
 use crate::grammars::{USUAL, WHOLE};
-use crate::midi::{EARLY_NOTE, SIXTEEN_BARS, TWO_VOICES, WHOLE_NOTE};
-use rhythm_ports::{Gate, MemSink, MemSource};
+use rhythm_ports::Gate;
 use std::alloc::{AllocError, Global};
 use std::sync::atomic::{AtomicBool, AtomicU64, Ordering};
 use std::test::Fail;
@@ -60,82 +59,64 @@ const LONG: u32 = 100_000_000;
 /// The turns for which they wait where others may not come.
 const SHORT: u32 = 5_000_000;
 
-/// Whether the workers meet in a run that ends with status 0.
-fn meet<R: Threads + Sync>(
-    rt: &R,
-    alloc: Global,
-    given: &Given<'_>,
-    gate: &Meeting,
-) -> Result<bool, AllocError> {
-    let words = words_of(alloc, given.words)?;
-    let script = Vec::from_slice(alloc, given.script)?;
-    let ports = Ports {
-        shelf: &mut shelf_of(alloc, 4096, Vec::new(alloc), given.files)?,
-        script: &mut MemSource::new(script, 4096, Vec::new(alloc)),
-        out: &mut MemSink::new(alloc, 4096, Vec::new(alloc)),
-        err: &mut MemSink::new(alloc, 4096, Vec::new(alloc)),
-    };
-    let ran = run_over(rt, alloc, &words, ports, gate);
-    Ok(ran.status == 0 && gate.has_met())
+/// The same where they wait at many cells.
+const BRIEF: u32 = 100_000;
+
+/// What is given, how many cells pass before any worker is held, how many workers are to meet, and for how many turns each waits.
+struct Met {
+    shows: &'static str,
+    words: &'static [&'static str],
+    files: &'static [(&'static str, &'static [u8])],
+    script: &'static [u8],
+    free: u64,
+    wanted: u64,
+    turns: u32,
 }
 
-/// Whether they do in the transcription of two voices.
-fn meet_in_two_voices<R: Threads + Sync>(
-    rt: &R,
-    alloc: Global,
-    workers: &str,
-    gate: &Meeting,
-) -> Result<bool, AllocError> {
-    let given = Given {
-        words: &["transcribe", "--workers", workers, "a.mid", "a.grammar"],
+/// Runs in which as many meet.
+const MEETINGS: &[Met] = &[
+    Met {
+        shows: "two workers for four cells",
+        words: &["transcribe", "--workers", "2", "a.mid", "a.grammar"],
         files: &[("a.mid", TWO_VOICES), ("a.grammar", USUAL)],
         script: b"",
-    };
-    meet(rt, alloc, &given, gate)
-}
-
-/// Whether they do in that of sixteen bars.
-fn meet_in_sixteen_bars<R: Threads + Sync>(
-    rt: &R,
-    alloc: Global,
-    workers: &str,
-    gate: &Meeting,
-) -> Result<bool, AllocError> {
-    let given = Given {
-        words: &["transcribe", "--workers", workers, "a.mid", "a.grammar"],
+        free: 0,
+        wanted: 2,
+        turns: LONG,
+    },
+    Met {
+        shows: "sixteen workers, of which four have a cell",
+        words: &["transcribe", "--workers", "16", "a.mid", "a.grammar"],
+        files: &[("a.mid", TWO_VOICES), ("a.grammar", USUAL)],
+        script: b"",
+        free: 0,
+        wanted: 4,
+        turns: LONG,
+    },
+    Met {
+        shows: "sixteen workers for sixteen cells",
+        words: &["transcribe", "--workers", "16", "a.mid", "a.grammar"],
         files: &[("a.mid", SIXTEEN_BARS), ("a.grammar", WHOLE)],
         script: b"",
-    };
-    meet(rt, alloc, &given, gate)
-}
-
-/// Whether they do in an edit that reaches three cells. Four cells are built before it.
-fn meet_in_edit<R: Threads + Sync>(
-    rt: &R,
-    alloc: Global,
-    workers: &str,
-    gate: &Meeting,
-) -> Result<bool, AllocError> {
-    let given = Given {
-        words: &["edit", "--workers", workers, "a.mid", "a.grammar"],
+        free: 0,
+        wanted: 16,
+        turns: LONG,
+    },
+    Met {
+        shows: "an edit that reaches three cells, before which four are built",
+        words: &["edit", "--workers", "3", "a.mid", "a.grammar"],
         files: &[("a.mid", WHOLE_NOTE), ("a.grammar", USUAL)],
         script: b"addbar\naddbar\ndrop 0 60 0\nadd 0 60 0 5760\n",
-    };
-    meet(rt, alloc, &given, gate)
-}
-
-/// Whether they do in a fit, at whose tick two cells are reached. Two cells are built before it.
-fn meet_in_fit<R: Threads + Sync>(
-    rt: &R,
-    alloc: Global,
-    workers: &str,
-    gate: &Meeting,
-) -> Result<bool, AllocError> {
-    let given = Given {
+        free: 4,
+        wanted: 3,
+        turns: LONG,
+    },
+    Met {
+        shows: "a fit at whose tick two cells are reached, before which two are built",
         words: &[
             "fit",
             "--workers",
-            workers,
+            "2",
             "a.mid",
             "a.grammar",
             "1",
@@ -145,64 +126,123 @@ fn meet_in_fit<R: Threads + Sync>(
         ],
         files: &[("a.mid", EARLY_NOTE), ("a.grammar", USUAL)],
         script: b"",
-    };
-    meet(rt, alloc, &given, gate)
-}
-
-/// Whether they do in a drill. A thousand cells are built before its edits.
-fn meet_in_drill<R: Threads + Sync>(
-    rt: &R,
-    alloc: Global,
-    workers: &str,
-    gate: &Meeting,
-) -> Result<bool, AllocError> {
-    let given = Given {
-        words: &["drill", "7", "a.grammar", "--workers", workers],
+        free: 2,
+        wanted: 2,
+        turns: LONG,
+    },
+    Met {
+        shows: "bars between other barlines, before which two cells are built",
+        words: &["follow", "--workers", "3", "a.mid", "a.grammar"],
+        files: &[("a.mid", EARLY_NOTE), ("a.grammar", WHOLE)],
+        script: b"",
+        free: 2,
+        wanted: 3,
+        turns: LONG,
+    },
+    Met {
+        shows: "the piece of a drill",
+        words: &["drill", "7", "a.grammar", "--workers", "2"],
         files: &[("a.grammar", USUAL)],
         script: b"",
+        free: 0,
+        wanted: 2,
+        turns: LONG,
+    },
+    Met {
+        shows: "the edits of a drill, of which one may reach one cell, at which no other worker comes",
+        words: &["drill", "7", "a.grammar", "--workers", "2"],
+        files: &[("a.grammar", USUAL)],
+        script: b"",
+        free: 1000,
+        wanted: 2,
+        turns: SHORT,
+    },
+];
+
+/// Runs in which there are too few for that.
+const PARTINGS: &[Met] = &[
+    Met {
+        shows: "one worker",
+        words: &["transcribe", "--workers", "1", "a.mid", "a.grammar"],
+        files: &[("a.mid", TWO_VOICES), ("a.grammar", USUAL)],
+        script: b"",
+        free: 0,
+        wanted: 2,
+        turns: SHORT,
+    },
+    Met {
+        shows: "fifteen workers are fewer than sixteen",
+        words: &["transcribe", "--workers", "15", "a.mid", "a.grammar"],
+        files: &[("a.mid", SIXTEEN_BARS), ("a.grammar", WHOLE)],
+        script: b"",
+        free: 0,
+        wanted: 16,
+        turns: SHORT,
+    },
+    Met {
+        shows: "two workers are too few for it",
+        words: &["edit", "--workers", "2", "a.mid", "a.grammar"],
+        files: &[("a.mid", WHOLE_NOTE), ("a.grammar", USUAL)],
+        script: b"addbar\naddbar\ndrop 0 60 0\nadd 0 60 0 5760\n",
+        free: 4,
+        wanted: 3,
+        turns: SHORT,
+    },
+    Met {
+        shows: "one worker is too few for it",
+        words: &[
+            "fit",
+            "--workers",
+            "1",
+            "a.mid",
+            "a.grammar",
+            "1",
+            "1900",
+            "1900",
+            "1",
+        ],
+        files: &[("a.mid", EARLY_NOTE), ("a.grammar", USUAL)],
+        script: b"",
+        free: 2,
+        wanted: 2,
+        turns: SHORT,
+    },
+    Met {
+        shows: "two workers are too few for three",
+        words: &["follow", "--workers", "2", "a.mid", "a.grammar"],
+        files: &[("a.mid", EARLY_NOTE), ("a.grammar", WHOLE)],
+        script: b"",
+        free: 2,
+        wanted: 3,
+        turns: BRIEF,
+    },
+];
+
+/// How the run ends, and whether the workers meet in it.
+fn outcome<R: Threads + Sync>(rt: &R, alloc: Global, met: &Met) -> Result<(u8, bool), AllocError> {
+    let gate = Meeting::new(met.free, met.wanted, met.turns);
+    let given = Given {
+        words: met.words,
+        files: met.files,
+        script: met.script,
     };
-    meet(rt, alloc, &given, gate)
+    let end = end_of(rt, alloc, 4096, &given, NONE_FAILS, &gate)?;
+    Ok((end.status, gate.has_met()))
 }
 
 /// The number of workers that the words say is that by which the cells are built.
 #[test]
 fn so_many_workers_draw_as_the_words_say(rt: HostRuntime) -> Result<(), Fail> {
-    let alloc = rt.alloc();
-    assert!(rt; meet_in_two_voices(&rt, alloc, "2", &Meeting::new(0, 2, LONG))?);
-    assert!(rt; meet_in_two_voices(&rt, alloc, "16", &Meeting::new(0, 4, LONG))?);
-    assert!(rt; !meet_in_two_voices(&rt, alloc, "1", &Meeting::new(0, 2, SHORT))?);
+    for met in MEETINGS {
+        assert_eq!(rt; outcome(&rt, rt.alloc(), met)?, (0, true), "{}", met.shows);
+    }
     Ok(())
 }
 
 #[test]
-fn sixteen_workers_are_more_than_fifteen(rt: HostRuntime) -> Result<(), Fail> {
-    let alloc = rt.alloc();
-    assert!(rt; meet_in_sixteen_bars(&rt, alloc, "16", &Meeting::new(0, 16, LONG))?);
-    assert!(rt; !meet_in_sixteen_bars(&rt, alloc, "15", &Meeting::new(0, 16, SHORT))?);
-    Ok(())
-}
-
-#[test]
-fn as_many_workers_draw_the_cells_of_an_edit(rt: HostRuntime) -> Result<(), Fail> {
-    let alloc = rt.alloc();
-    assert!(rt; meet_in_edit(&rt, alloc, "3", &Meeting::new(4, 3, LONG))?);
-    assert!(rt; !meet_in_edit(&rt, alloc, "2", &Meeting::new(4, 3, SHORT))?);
-    Ok(())
-}
-
-#[test]
-fn as_many_workers_draw_the_cells_of_a_fit(rt: HostRuntime) -> Result<(), Fail> {
-    let alloc = rt.alloc();
-    assert!(rt; meet_in_fit(&rt, alloc, "2", &Meeting::new(2, 2, LONG))?);
-    assert!(rt; !meet_in_fit(&rt, alloc, "1", &Meeting::new(2, 2, SHORT))?);
-    Ok(())
-}
-
-/// An edit of a drill may reach one cell, at which no other worker comes.
-#[test]
-fn as_many_workers_draw_the_cells_of_a_drill(rt: HostRuntime) -> Result<(), Fail> {
-    let alloc = rt.alloc();
-    assert!(rt; meet_in_drill(&rt, alloc, "2", &Meeting::new(0, 2, LONG))?);
-    assert!(rt; meet_in_drill(&rt, alloc, "2", &Meeting::new(1000, 2, SHORT))?);
+fn no_more_workers_draw(rt: HostRuntime) -> Result<(), Fail> {
+    for met in PARTINGS {
+        assert_eq!(rt; outcome(&rt, rt.alloc(), met)?, (0, false), "{}", met.shows);
+    }
     Ok(())
 }

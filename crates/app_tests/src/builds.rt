@@ -1,0 +1,201 @@
+use crate::files::{EARLY_NOTE, FOUR_QUARTERS, MOST_BARS, TWO_VOICES, WHOLE_NOTE};
+use crate::given::{Failing, Given, NONE_FAILS, Port, end_of};
+use crate::grammars::{QUARTERS, QUARTERS_OF_RESTS, USUAL, WHOLE};
+use rhythm_ports::Gate;
+use std::sync::atomic::{AtomicU64, Ordering};
+use std::test::Fail;
+
+/// Counts the cells that are passed to be built.
+#[derive(Drop)]
+struct CountingGate {
+    passed: AtomicU64,
+}
+
+impl Gate for CountingGate {
+    fn pass(&self, _index: u64) {
+        self.passed.fetch_add(1, Ordering::Relaxed);
+    }
+}
+
+/// What is given, the call that fails, the status, and how many cells are built: those of the piece, and those that edits reach.
+struct Building {
+    shows: &'static str,
+    given: Given<'static>,
+    failing: Failing,
+    status: u8,
+    builds: u64,
+}
+
+const BUILDINGS: &[Building] = &[
+    Building {
+        shows: "each cell of two voices is built once",
+        given: Given {
+            words: &["lily", "a.mid", "a.grammar"],
+            files: &[("a.mid", TWO_VOICES), ("a.grammar", USUAL)],
+            script: b"",
+        },
+        failing: NONE_FAILS,
+        status: 0,
+        builds: 4,
+    },
+    Building {
+        shows: "as many bars as there may be, by many workers",
+        given: Given {
+            words: &["transcribe", "--workers", "16", "a.mid", "a.grammar"],
+            files: &[("a.mid", MOST_BARS), ("a.grammar", WHOLE)],
+            script: b"",
+        },
+        failing: NONE_FAILS,
+        status: 0,
+        builds: 4096,
+    },
+    Building {
+        shows: "a cell without a derivation is built nevertheless",
+        given: Given {
+            words: &["render", "a.mid", "a.grammar"],
+            files: &[("a.mid", FOUR_QUARTERS), ("a.grammar", QUARTERS_OF_RESTS)],
+            script: b"",
+        },
+        failing: NONE_FAILS,
+        status: 3,
+        builds: 1,
+    },
+    Building {
+        shows: "a note joins a chord, and no cell is built for it",
+        given: Given {
+            words: &["edit", "a.mid", "a.grammar"],
+            files: &[("a.mid", FOUR_QUARTERS), ("a.grammar", USUAL)],
+            script: b"add 0 64 10 480\nscore\n",
+        },
+        failing: NONE_FAILS,
+        status: 0,
+        builds: 1,
+    },
+    Building {
+        shows: "bars are added, and a note over three of them; a barline is refused, and another one moved",
+        given: Given {
+            words: &["edit", "--workers", "3", "a.mid", "a.grammar"],
+            files: &[("a.mid", WHOLE_NOTE), ("a.grammar", USUAL)],
+            script: b"addbar\naddbar\ndrop 0 60 0\nadd 0 60 0 5760\nbarline 1 3840\nbarline 1 2000\n",
+        },
+        failing: NONE_FAILS,
+        status: 0,
+        builds: 9,
+    },
+    Building {
+        shows: "a pin that leaves no derivation, one that fits, and none; rhythms of a bar, for which none is built",
+        given: Given {
+            words: &["edit", "a.mid", "a.grammar"],
+            files: &[("a.mid", FOUR_QUARTERS), ("a.grammar", USUAL)],
+            script: b"pin 0 0 2(. .)\nalt 0 0 2\npin 0 0 2(2(. .) 2(. 2(. .)))\nalt 0 0 2\nunpin 0 0\n",
+        },
+        failing: NONE_FAILS,
+        status: 0,
+        builds: 4,
+    },
+    Building {
+        shows: "edits are taken back and made again, and none is built for that",
+        given: Given {
+            words: &["studio", "a.mid", "a.grammar"],
+            files: &[("a.mid", WHOLE_NOTE), ("a.grammar", USUAL)],
+            script: b"addbar\naddbar\ndrop 0 60 0\nadd 0 60 0 5760\nbarline 1 2000\nundo\nundo\nundo\nredo\nredo\nredo\n",
+        },
+        failing: NONE_FAILS,
+        status: 0,
+        builds: 9,
+    },
+    Building {
+        shows: "a pin that comes back with its bar is taken away by an edit",
+        given: Given {
+            words: &["studio", "a.mid", "a.grammar"],
+            files: &[("a.mid", FOUR_QUARTERS), ("a.grammar", USUAL)],
+            script: b"addbar\npin 0 1 .\ndropbar\nundo\nunpin 0 1\n",
+        },
+        failing: NONE_FAILS,
+        status: 0,
+        builds: 4,
+    },
+    Building {
+        shows: "those that each tick reaches, and once more those that the best one does",
+        given: Given {
+            words: &["fit", "a.mid", "a.grammar", "1", "1880", "1920", "20"],
+            files: &[("a.mid", EARLY_NOTE), ("a.grammar", USUAL)],
+            script: b"",
+        },
+        failing: NONE_FAILS,
+        status: 0,
+        builds: 8,
+    },
+    Building {
+        shows: "ticks at which no derivation fits",
+        given: Given {
+            words: &["fit", "a.mid", "a.grammar", "1", "2400", "2880", "240"],
+            files: &[("a.mid", FOUR_QUARTERS), ("a.grammar", QUARTERS)],
+            script: b"",
+        },
+        failing: NONE_FAILS,
+        status: 9,
+        builds: 4,
+    },
+    Building {
+        shows: "too many ticks, for which no file is read",
+        given: Given {
+            words: &["fit", "a.mid", "a.grammar", "1", "0", "256", "1"],
+            files: &[("a.mid", EARLY_NOTE), ("a.grammar", USUAL)],
+            script: b"",
+        },
+        failing: NONE_FAILS,
+        status: 4,
+        builds: 0,
+    },
+    Building {
+        shows: "a drill without a derivation builds those of its piece",
+        given: Given {
+            words: &["drill", "7", "a.grammar", "--workers", "2"],
+            files: &[("a.grammar", QUARTERS)],
+            script: b"",
+        },
+        failing: NONE_FAILS,
+        status: 3,
+        builds: 1000,
+    },
+    Building {
+        shows: "no edit is made after a reply that failed",
+        given: Given {
+            words: &["edit", "a.mid", "a.grammar"],
+            files: &[("a.mid", FOUR_QUARTERS), ("a.grammar", USUAL)],
+            script: b"addbar\nscore\naddbar\n",
+        },
+        failing: Failing {
+            port: Port::Out,
+            call: 1,
+        },
+        status: 6,
+        builds: 2,
+    },
+];
+
+#[test]
+fn so_many_cells_are_built(rt: HostRuntime) -> Result<(), Fail> {
+    for building in BUILDINGS {
+        let gate = CountingGate {
+            passed: AtomicU64::new(0),
+        };
+        let end = end_of(
+            &rt,
+            rt.alloc(),
+            4096,
+            &building.given,
+            building.failing,
+            &gate,
+        )?;
+        let passed = gate.passed.load(Ordering::Relaxed);
+        assert_eq!(rt;
+            (end.status, end.builds, passed),
+            (building.status, building.builds, building.builds),
+            "{}",
+            building.shows
+        );
+    }
+    Ok(())
+}
