@@ -3,4 +3,4 @@
 
 mod texts;
 
-pub use texts::{HALVES, USUAL, USUAL_AT_ANY_PLACE, USUAL_IN_VERSION_2, WHOLE};
+pub use texts::{HALVES, USUAL, WHOLE};

@@ -25,60 +25,6 @@ pub const USUAL: &[u8] = b"\
     E 60 grace 1\n\
 ";
 
-/// The same where onsets cost nothing, wherever they are.
-pub const USUAL_AT_ANY_PLACE: &[u8] = b"\
-    rhythm 1\n\
-    resolution 8\n\
-    window 30000\n\
-    onset 0\n\
-    start 4/4 B\n\
-    B 10 note\n\
-    B 10 tie\n\
-    B 5 rest\n\
-    B 20 split H H\n\
-    H 10 note\n\
-    H 10 tie\n\
-    H 10 rest\n\
-    H 20 split Q Q\n\
-    Q 10 note\n\
-    Q 15 short\n\
-    Q 10 tie\n\
-    Q 10 rest\n\
-    Q 40 split E E\n\
-    E 10 note\n\
-    E 20 short\n\
-    E 10 tie\n\
-    E 10 rest\n\
-    E 60 grace 1\n\
-";
-
-/// The same in version 2.
-pub const USUAL_IN_VERSION_2: &[u8] = b"\
-    rhythm 2\n\
-    resolution 8\n\
-    window 30000\n\
-    onset 1 1\n\
-    start 4/4 B\n\
-    B 10 note\n\
-    B 10 tie\n\
-    B 5 rest\n\
-    B 20 split H H\n\
-    H 10 note\n\
-    H 10 tie\n\
-    H 10 rest\n\
-    H 20 split Q Q\n\
-    Q 10 note\n\
-    Q 15 short\n\
-    Q 10 tie\n\
-    Q 10 rest\n\
-    Q 40 split E E\n\
-    E 10 note\n\
-    E 20 short\n\
-    E 10 tie\n\
-    E 10 rest\n\
-    E 60 grace 1\n\
-";
-
 /// A bar of two halves.
 pub const HALVES: &[u8] = b"\
     rhythm 1\n\
