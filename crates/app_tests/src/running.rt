@@ -1,10 +1,11 @@
 use crate::lending::Lending;
 use carry_matrix::Steps as Products;
 use least_cost::Steps as Builds;
-use rhythm_app::{Lent, run};
+use rhythm_app::{Lent, World, run};
 use rhythm_base::{Tag, Words};
 use rhythm_ports::{Gate, Shelf, Sink, Source};
 use std::alloc::{AllocError, Global};
+use std::marker::PhantomData;
 use std::thread::Threads;
 
 /// What the tables of these runs are counted for.
@@ -37,7 +38,67 @@ pub struct Ports<'a, F, S, O, E> {
     pub err: &'a mut E,
 }
 
-/// Runs the program. No other function of these tests makes the top call.
+/// The kinds of what these runs are lent.
+struct Kinds<R, F, S, O, E, G>(PhantomData<(R, F, S, O, E, G)>);
+
+impl<R: Threads + Sync, F: Shelf, S: Source, O: Sink, E: Sink, G: Gate + Sync> World
+    for Kinds<R, F, S, O, E, G> {
+    type Runtime = R;
+
+    type Shelf = F;
+
+    type Script = S;
+
+    type Out = O;
+
+    type Err = E;
+
+    type Gate = G;
+
+    type Counted = InTests;
+}
+
+/// A gate that is lent to a run and looked at afterwards.
+#[derive(Drop)]
+struct Passing<'a, G> {
+    to: &'a G,
+}
+
+impl<'a, G: Gate> Gate for Passing<'a, G> {
+    fn pass(&self, index: u64) {
+        self.to.pass(index);
+    }
+}
+
+/// Runs the program over ports of its own. No other function of these tests makes the top call.
+fn run_with<
+    R: Threads + Sync + Drop,
+    F: Shelf + Drop,
+    S: Source + Drop,
+    O: Sink + Drop,
+    E: Sink + Drop,
+    G: Gate + Sync + Drop,
+>(rt: R, alloc: Global, words: &Words, ports: (F, S, O, E), gate: G) -> Ran {
+    let (shelf, script, out, err) = ports;
+    let mut lent: Lent<Kinds<R, F, S, O, E, G>> = Lent {
+        rt,
+        alloc,
+        shelf,
+        script,
+        out,
+        err,
+        gate,
+        builds: Builds::zero(),
+        products: Products::zero(),
+    };
+    let status = run(&mut lent, words);
+    Ran {
+        status,
+        builds: lent.builds.count(),
+    }
+}
+
+/// Runs the program over ports that are lent to it.
 pub fn run_over<R: Threads + Sync, F: Shelf, S: Source, O: Sink, E: Sink, G: Gate + Sync>(
     rt: &R,
     alloc: Global,
@@ -51,20 +112,11 @@ pub fn run_over<R: Threads + Sync, F: Shelf, S: Source, O: Sink, E: Sink, G: Gat
         out,
         err,
     } = ports;
-    let mut lent = Lent {
-        rt,
-        alloc,
-        shelf: Lending { to: shelf },
-        script: Lending { to: script },
-        out: Lending { to: out },
-        err: Lending { to: err },
-        gate,
-        builds: Builds::<InTests>::zero(),
-        products: Products::<InTests>::zero(),
-    };
-    let status = run(&mut lent, words);
-    Ran {
-        status,
-        builds: lent.builds.count(),
-    }
+    let lent = (
+        Lending { to: shelf },
+        Lending { to: script },
+        Lending { to: out },
+        Lending { to: err },
+    );
+    run_with(rt, alloc, words, lent, Passing { to: gate })
 }

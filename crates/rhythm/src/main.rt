@@ -7,11 +7,14 @@ ghost use Rattle.std.specs.Prelude.{◌≡◌, ◌⊎◌};
 
 use carry_matrix::Steps as Products;
 use least_cost::Steps as Builds;
-use rhythm_app::{Lent, Stop, run, write_line};
+use rhythm_app::{Lent, Stop, World, run, write_line};
 use rhythm_base::{Tag, Words};
 use rhythm_ports::{OpenGate, RealInput, RealOutput, RealShelf};
-use std::io::ErrorKind;
+use std::io::{ErrorKind, Stderr, Stdin, Stdout};
+use std::marker::PhantomData;
 use std::process::ExitCode;
+use std::rt::Files;
+use std::thread::Threads;
 use std::{env, io};
 
 /// What the tables of a run and their products are counted for.
@@ -19,6 +22,25 @@ use std::{env, io};
 struct InRun;
 
 impl Tag for InRun {}
+
+/// The system: its files and its standard streams.
+struct System<R>(PhantomData<R>);
+
+impl<R: Threads + Sync + Files + Drop> World for System<R> {
+    type Runtime = R;
+
+    type Shelf = RealShelf<R>;
+
+    type Script = RealInput<Stdin>;
+
+    type Out = RealOutput<Stdout>;
+
+    type Err = RealOutput<Stderr>;
+
+    type Gate = OpenGate;
+
+    type Counted = InRun;
+}
 
 /// The words after the program's name.
 fn words_of(rt: &HostRuntime) -> io::Result<Words> {
@@ -49,16 +71,16 @@ fn main(rt: HostRuntime) -> ExitCode {
             return ExitCode::from(stop.status());
         }
     };
-    let mut lent = Lent {
-        rt: &rt,
+    let mut lent: Lent<System<HostRuntime>> = Lent {
+        rt,
         alloc: rt.alloc(),
-        shelf: RealShelf::new(&rt),
+        shelf: RealShelf::new(rt),
         script: RealInput::new(rt.stdin()),
         out: RealOutput::new(rt.stdout()),
         err,
-        gate: &OpenGate,
-        builds: Builds::<InRun>::zero(),
-        products: Products::<InRun>::zero(),
+        gate: OpenGate,
+        builds: Builds::zero(),
+        products: Products::zero(),
     };
     ExitCode::from(run(&mut lent, &words))
 }

@@ -10,17 +10,14 @@ ghost use Rattle.script_run.specs.declared.script_stop.ScriptStop.TheVariants as
 ghost use Rattle.std.specs.Prelude.{◌≡◌, ◌≤◌, Err, IfErr, IfOk, OnOk, Some};
 
 use crate::inputs::read_inputs;
-use crate::lent::Lent;
+use crate::lent::{Lent, World};
 use crate::request::{FileNames, Talk};
 use crate::session::open_session;
 use crate::stop::{Kind, Stop};
 use edit_session::Session;
-use rhythm_base::Tag;
-use rhythm_ports::{Gate, Shelf, Sink, Source};
 use script_run::{Desk, Means, ScriptStop, run_script};
 use session_history::History;
 use std::alloc::Global;
-use std::thread::Threads;
 
 /// Why the answering of a script ends, as a stop of the run.
 fn script_stop(stop: ScriptStop) -> Stop
@@ -39,8 +36,8 @@ fn script_stop(stop: ScriptStop) -> Stop
 }
 
 /// The session that answers a script, before any line of it is read.
-fn session_of<R: Threads + Sync, F: Shelf, S: Source, O: Sink, E: Sink, G: Gate + Sync, B: Tag>(
-    lent: &mut Lent<R, F, S, O, E, G, B>,
+fn session_of<W: World>(
+    lent: &mut Lent<W>,
     workers: u32,
     talk: Talk,
     names: FileNames,
@@ -70,11 +67,7 @@ fn desk_of(alloc: Global, talk: Talk, session: Session) -> Result<Desk, ScriptSt
 }
 
 /// Answers the lines of a script over a session.
-fn talk_over<R: Threads + Sync, F: Shelf, S: Source, O: Sink, E: Sink, G: Gate + Sync, B: Tag>(
-    lent: &mut Lent<R, F, S, O, E, G, B>,
-    talk: Talk,
-    session: Session,
-) -> Result<(), ScriptStop>
+fn talk_over<W: World>(lent: &mut Lent<W>, talk: Talk, session: Session) -> Result<(), ScriptStop>
     ensures done { OnOk result ((last : Editing) × IsTalkDone lent.old lent.new talk session.grammar session.performance last × (lent.new.built ≡ risen lent.old.built last.built)) }
     ensures broken { IfErr result (λ end. (last : Editing) × IsBrokenOff end lent.old lent.new talk session.grammar session.performance last × (lent.new.built ≡ risen lent.old.built last.built)) }
     ensures read { result ≡ Err stops.Read → Rose lent.old.script_faults lent.new.script_faults }
@@ -86,9 +79,9 @@ fn talk_over<R: Threads + Sync, F: Shelf, S: Source, O: Sink, E: Sink, G: Gate +
     ensures err { IsErrUntouched lent.old lent.new }
 {
     let means = Means {
-        rt: lent.rt,
+        rt: &lent.rt,
         alloc: lent.alloc,
-        gate: lent.gate,
+        gate: &lent.gate,
     };
     match desk_of(lent.alloc, talk, session) {
         Ok(desk) => run_script(
@@ -104,8 +97,8 @@ fn talk_over<R: Threads + Sync, F: Shelf, S: Source, O: Sink, E: Sink, G: Gate +
 }
 
 /// Answers a script over the session on a MIDI file and a grammar.
-pub fn answer<R: Threads + Sync, F: Shelf, S: Source, O: Sink, E: Sink, G: Gate + Sync, B: Tag>(
-    lent: &mut Lent<R, F, S, O, E, G, B>,
+pub fn answer<W: World>(
+    lent: &mut Lent<W>,
     workers: u32,
     talk: Talk,
     names: FileNames,

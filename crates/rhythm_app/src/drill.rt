@@ -12,15 +12,13 @@ ghost use Rattle.rhythm_base.specs.declared.limits.TheConstants.{MOST_NOTES};
 ghost use Rattle.std.specs.Prelude.{◌≡◌, ◌≤◌, ℕ, Err, IfErr, IfOk, Ok, Some, length};
 
 use crate::inputs::read_rules;
-use crate::lent::Lent;
+use crate::lent::{Lent, World};
 use crate::session::open_session;
 use crate::stop::Stop;
 use drill_run::{DrillStop, made_performance, run_drill};
 use edit_session::Session;
-use rhythm_base::{Grammar, Performance, Tag};
-use rhythm_ports::{Gate, Shelf, Sink, Source};
+use rhythm_base::{Grammar, Performance};
 use std::alloc::Global;
-use std::thread::Threads;
 
 /// The performance of the piece of a number.
 fn piece_of(alloc: Global, number: u32) -> Result<Performance, Stop>
@@ -39,8 +37,8 @@ fn piece_of(alloc: Global, number: u32) -> Result<Performance, Stop>
 }
 
 /// The summary of the drill of a number over a session.
-fn drill_over<R: Threads + Sync, F: Shelf, S: Source, O: Sink, E: Sink, G: Gate + Sync, B: Tag>(
-    lent: &mut Lent<R, F, S, O, E, G, B>,
+fn drill_over<W: World>(
+    lent: &mut Lent<W>,
     session: Session,
     number: u32,
 ) -> Result<Vec<u8>, DrillStop>
@@ -56,11 +54,11 @@ fn drill_over<R: Threads + Sync, F: Shelf, S: Source, O: Sink, E: Sink, G: Gate 
     ensures counts { CountsAlone lent.old lent.new }
 {
     run_drill(
-        lent.rt,
+        &lent.rt,
         lent.alloc,
         session,
         number,
-        lent.gate,
+        &lent.gate,
         &mut lent.builds,
         &mut lent.products,
     )
@@ -68,8 +66,8 @@ fn drill_over<R: Threads + Sync, F: Shelf, S: Source, O: Sink, E: Sink, G: Gate 
 
 /// The summary of the drill of a number on a performance. Each of its cells is built once, by one of the workers, and then those for
 /// the edits.
-fn drilled<R: Threads + Sync, F: Shelf, S: Source, O: Sink, E: Sink, G: Gate + Sync, B: Tag>(
-    lent: &mut Lent<R, F, S, O, E, G, B>,
+fn drilled<W: World>(
+    lent: &mut Lent<W>,
     workers: u32,
     number: u32,
     grammar: Grammar,
@@ -104,8 +102,8 @@ fn drilled<R: Threads + Sync, F: Shelf, S: Source, O: Sink, E: Sink, G: Gate + S
 }
 
 /// The summary of the drill of a number by a grammar file.
-pub fn drill_text<R: Threads + Sync, F: Shelf, S: Source, O: Sink, E: Sink, G: Gate + Sync, B: Tag>(
-    lent: &mut Lent<R, F, S, O, E, G, B>,
+pub fn drill_text<W: World>(
+    lent: &mut Lent<W>,
     workers: u32,
     number: u32,
     grammar: &str,

@@ -5,13 +5,10 @@ ghost use Rattle.rhythm_app.specs.declared.stop.Stop.TheVariants as stop;
 ghost use Rattle.std.specs.Prelude.{◌≡◌, IfErr, IfOk, Ok, Some};
 
 use crate::files::kern_of;
-use crate::lent::Lent;
+use crate::lent::{Lent, World};
 use crate::stop::Stop;
 use kern_reader::KernScore;
-use rhythm_base::Tag;
-use rhythm_ports::{Gate, Shelf, Sink, Source};
 use std::alloc::Global;
-use std::thread::Threads;
 
 /// The text of the events of a score.
 fn listing(alloc: Global, score: &KernScore) -> Result<Vec<u8>, Stop>
@@ -25,15 +22,7 @@ fn listing(alloc: Global, score: &KernScore) -> Result<Vec<u8>, Stop>
 }
 
 /// The text of `events`: a line for each event of a **kern file.
-pub fn events_text<
-    R: Threads + Sync,
-    F: Shelf,
-    S: Source,
-    O: Sink,
-    E: Sink,
-    G: Gate + Sync,
-    B: Tag,
->(lent: &mut Lent<R, F, S, O, E, G, B>, kern: &str) -> Result<Vec<u8>, Stop>
+pub fn events_text<W: World>(lent: &mut Lent<W>, kern: &str) -> Result<Vec<u8>, Stop>
     ensures { HasText (Some (events kern.now)) lent.old lent.new result }
 {
     let score = kern_of(lent.alloc, &mut lent.shelf, kern)?;

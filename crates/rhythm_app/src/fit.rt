@@ -16,7 +16,7 @@ ghost use Rattle.rhythm_base.specs.declared.limits.TheConstants.{MOST_NOTES};
 ghost use Rattle.std.specs.Prelude.{◌≡◌, ◌≢◌, ◌≤◌, ◌⊎◌, ◌∷◌, [], ℕ, List, Err, IfErr, IfOk, Ok, OnOk, Some, length};
 
 use crate::inputs::read_inputs;
-use crate::lent::Lent;
+use crate::lent::{Lent, World};
 use crate::request::FileNames;
 use crate::session::open_session;
 use crate::stop::Stop;
@@ -24,10 +24,8 @@ use barline_fit::{
     Candidate, Candidates, FitFault, Fitted, ScoreFault, best_barline, fitted_score,
 };
 use edit_session::Session;
-use rhythm_base::{Grammar, Performance, Tag};
-use rhythm_ports::{Gate, Shelf, Sink, Source};
+use rhythm_base::{Grammar, Performance};
 use std::alloc::{AllocError, Global};
-use std::thread::Threads;
 
 /// A fault of fitting a barline as a stop.
 fn fit_stop(fault: FitFault) -> Stop
@@ -57,8 +55,8 @@ fn text_with(alloc: Global, fitted: Fitted, score: &[u8]) -> Result<Vec<u8>, All
 }
 
 /// The best tick among the candidates for a barline of a session.
-fn tick_among<R: Threads + Sync, F: Shelf, S: Source, O: Sink, E: Sink, G: Gate + Sync, B: Tag>(
-    lent: &mut Lent<R, F, S, O, E, G, B>,
+fn tick_among<W: World>(
+    lent: &mut Lent<W>,
     session: &mut Session,
     among: Candidates,
 ) -> Result<Fitted, FitFault>
@@ -74,19 +72,19 @@ fn tick_among<R: Threads + Sync, F: Shelf, S: Source, O: Sink, E: Sink, G: Gate 
     ensures counts { CountsAlone lent.old lent.new }
 {
     best_barline(
-        lent.rt,
+        &lent.rt,
         lent.alloc,
         session,
         among,
-        lent.gate,
+        &lent.gate,
         &mut lent.builds,
         &mut lent.products,
     )
 }
 
 /// The score of a session with a barline at a tick where it can be set.
-fn score_at<R: Threads + Sync, F: Shelf, S: Source, O: Sink, E: Sink, G: Gate + Sync, B: Tag>(
-    lent: &mut Lent<R, F, S, O, E, G, B>,
+fn score_at<W: World>(
+    lent: &mut Lent<W>,
     session: &mut Session,
     candidate: Candidate,
 ) -> Result<Vec<u8>, Stop>
@@ -102,11 +100,11 @@ fn score_at<R: Threads + Sync, F: Shelf, S: Source, O: Sink, E: Sink, G: Gate + 
     ensures counts { CountsAlone lent.old lent.new }
 {
     let score = fitted_score(
-        lent.rt,
+        &lent.rt,
         lent.alloc,
         session,
         candidate,
-        lent.gate,
+        &lent.gate,
         &mut lent.builds,
         &mut lent.products,
     );
@@ -118,8 +116,8 @@ fn score_at<R: Threads + Sync, F: Shelf, S: Source, O: Sink, E: Sink, G: Gate + 
 }
 
 /// The text of a fit, where a tick is fitted.
-fn fitted_text<R: Threads + Sync, F: Shelf, S: Source, O: Sink, E: Sink, G: Gate + Sync, B: Tag>(
-    lent: &mut Lent<R, F, S, O, E, G, B>,
+fn fitted_text<W: World>(
+    lent: &mut Lent<W>,
     session: &mut Session,
     bar: u32,
     fitted: Fitted,
@@ -150,8 +148,8 @@ fn fitted_text<R: Threads + Sync, F: Shelf, S: Source, O: Sink, E: Sink, G: Gate
 }
 
 /// The text of the fit of a barline of a session.
-fn fit_over<R: Threads + Sync, F: Shelf, S: Source, O: Sink, E: Sink, G: Gate + Sync, B: Tag>(
-    lent: &mut Lent<R, F, S, O, E, G, B>,
+fn fit_over<W: World>(
+    lent: &mut Lent<W>,
     session: &mut Session,
     among: Candidates,
 ) -> Result<Vec<u8>, Stop>
@@ -175,8 +173,8 @@ fn fit_over<R: Threads + Sync, F: Shelf, S: Source, O: Sink, E: Sink, G: Gate + 
 
 /// The text of the fit of a barline of a performance. Each of its cells is built once, by one of the workers, and then those that the
 /// barline reaches at its candidates.
-fn fitted_by<R: Threads + Sync, F: Shelf, S: Source, O: Sink, E: Sink, G: Gate + Sync, B: Tag>(
-    lent: &mut Lent<R, F, S, O, E, G, B>,
+fn fitted_by<W: World>(
+    lent: &mut Lent<W>,
     workers: u32,
     among: Candidates,
     grammar: Grammar,
@@ -205,16 +203,8 @@ fn fitted_by<R: Threads + Sync, F: Shelf, S: Source, O: Sink, E: Sink, G: Gate +
 }
 
 /// The text of the fit of a barline of the performance of a MIDI file, by a grammar file.
-pub fn fit_text_of<
-    R: Threads + Sync,
-    F: Shelf,
-    S: Source,
-    O: Sink,
-    E: Sink,
-    G: Gate + Sync,
-    B: Tag,
->(
-    lent: &mut Lent<R, F, S, O, E, G, B>,
+pub fn fit_text_of<W: World>(
+    lent: &mut Lent<W>,
     workers: u32,
     names: FileNames,
     among: Candidates,

@@ -10,22 +10,17 @@ ghost use Rattle.rhythm_base.specs.declared.limits.TheConstants.{MOST_NOTES};
 ghost use Rattle.std.specs.Prelude.{◌≡◌, ◌≤◌, IfErr, OnOk, Some, length};
 
 use crate::inputs::read_inputs;
-use crate::lent::Lent;
+use crate::lent::{Lent, World};
 use crate::request::FileNames;
 use crate::session::open_session;
 use crate::stop::Stop;
 use barline_follow::follow;
 use edit_session::Session;
-use rhythm_base::{Grammar, Performance, Tag};
-use rhythm_ports::{Gate, Shelf, Sink, Source};
+use rhythm_base::{Grammar, Performance};
 use script_writer::write_edits;
-use std::thread::Threads;
 
 /// The text of the script that moves the barlines of a session to those that follow the player.
-fn script_over<R: Threads + Sync, F: Shelf, S: Source, O: Sink, E: Sink, G: Gate + Sync, B: Tag>(
-    lent: &mut Lent<R, F, S, O, E, G, B>,
-    session: &mut Session,
-) -> Result<Vec<u8>, Stop>
+fn script_over<W: World>(lent: &mut Lent<W>, session: &mut Session) -> Result<Vec<u8>, Stop>
     requires { CanOpen session.old.grammar session.old.performance }
     ensures tests { Follows (IsFollowing session.old.grammar session.old.performance) (said_of result) }
     ensures memory { IfErr result (λ s. s ≡ stop.Memory) }
@@ -34,10 +29,10 @@ fn script_over<R: Threads + Sync, F: Shelf, S: Source, O: Sink, E: Sink, G: Gate
     ensures counts { CountsAlone lent.old lent.new }
 {
     let script = follow(
-        lent.rt,
+        &lent.rt,
         lent.alloc,
         session,
-        lent.gate,
+        &lent.gate,
         &mut lent.builds,
         &mut lent.products,
     );
@@ -52,8 +47,8 @@ fn script_over<R: Threads + Sync, F: Shelf, S: Source, O: Sink, E: Sink, G: Gate
 
 /// The same of a performance by a grammar. Each of its cells is built once, by one of the workers, and then those of the bars between
 /// other barlines.
-fn followed_by<R: Threads + Sync, F: Shelf, S: Source, O: Sink, E: Sink, G: Gate + Sync, B: Tag>(
-    lent: &mut Lent<R, F, S, O, E, G, B>,
+fn followed_by<W: World>(
+    lent: &mut Lent<W>,
     workers: u32,
     grammar: Grammar,
     performance: Performance,
@@ -77,15 +72,11 @@ fn followed_by<R: Threads + Sync, F: Shelf, S: Source, O: Sink, E: Sink, G: Gate
 }
 
 /// The text of the script that moves the barlines of a MIDI file to those that follow the player, by a grammar file.
-pub fn follow_text<
-    R: Threads + Sync,
-    F: Shelf,
-    S: Source,
-    O: Sink,
-    E: Sink,
-    G: Gate + Sync,
-    B: Tag,
->(lent: &mut Lent<R, F, S, O, E, G, B>, workers: u32, names: FileNames) -> Result<Vec<u8>, Stop>
+pub fn follow_text<W: World>(
+    lent: &mut Lent<W>,
+    workers: u32,
+    names: FileNames,
+) -> Result<Vec<u8>, Stop>
     requires some_worker { 1 ≤ workers }
     requires few_workers { workers ≤ 16 }
     ensures { HasText (Some (follow names.entry.midi.now names.entry.grammar.now)) lent.old lent.new result }

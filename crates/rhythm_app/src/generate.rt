@@ -2,23 +2,12 @@ ghost use Rattle.rhythm_app.specs.Asked.{generate};
 ghost use Rattle.rhythm_app.specs.Stages.{HasText};
 ghost use Rattle.std.specs.Prelude.{◌≤◌, Some};
 
-use crate::lent::Lent;
+use crate::lent::{Lent, World};
 use crate::stop::Stop;
-use rhythm_base::Tag;
 use rhythm_gen::generate;
-use rhythm_ports::{Gate, Shelf, Sink, Source};
-use std::thread::Threads;
 
 /// The MIDI file of the piece of a number.
-pub fn piece_bytes<
-    R: Threads + Sync,
-    F: Shelf,
-    S: Source,
-    O: Sink,
-    E: Sink,
-    G: Gate + Sync,
-    B: Tag,
->(lent: &mut Lent<R, F, S, O, E, G, B>, number: u32, bars: u32) -> Result<Vec<u8>, Stop>
+pub fn piece_bytes<W: World>(lent: &mut Lent<W>, number: u32, bars: u32) -> Result<Vec<u8>, Stop>
     requires number { number ≤ 65534 }
     requires some_bar { 1 ≤ bars }
     requires few_bars { bars ≤ 2000 }

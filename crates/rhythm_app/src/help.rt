@@ -2,13 +2,10 @@ ghost use Rattle.rhythm_app.specs.Asked.{help, version};
 ghost use Rattle.rhythm_app.specs.Stages.{HasText};
 ghost use Rattle.std.specs.Prelude.{◌≡◌, IfOk, Some};
 
-use crate::lent::Lent;
+use crate::lent::{Lent, World};
 use crate::stop::Stop;
 use command_line::{help_text, version_text};
-use rhythm_base::Tag;
-use rhythm_ports::{Gate, Shelf, Sink, Source};
 use std::alloc::{AllocError, Global};
-use std::thread::Threads;
 
 /// The bytes of a text.
 fn bytes_of(alloc: Global, text: &str) -> Result<Vec<u8>, AllocError>
@@ -18,9 +15,7 @@ fn bytes_of(alloc: Global, text: &str) -> Result<Vec<u8>, AllocError>
 }
 
 /// How the program is called.
-pub fn help<R: Threads + Sync, F: Shelf, S: Source, O: Sink, E: Sink, G: Gate + Sync, B: Tag>(
-    lent: &mut Lent<R, F, S, O, E, G, B>,
-) -> Result<Vec<u8>, Stop>
+pub fn help<W: World>(lent: &mut Lent<W>) -> Result<Vec<u8>, Stop>
     ensures { HasText (Some help) lent.old lent.new result }
 {
     match bytes_of(lent.alloc, help_text()) {
@@ -30,9 +25,7 @@ pub fn help<R: Threads + Sync, F: Shelf, S: Source, O: Sink, E: Sink, G: Gate + 
 }
 
 /// The name of the program and its version.
-pub fn version<R: Threads + Sync, F: Shelf, S: Source, O: Sink, E: Sink, G: Gate + Sync, B: Tag>(
-    lent: &mut Lent<R, F, S, O, E, G, B>,
-) -> Result<Vec<u8>, Stop>
+pub fn version<W: World>(lent: &mut Lent<W>) -> Result<Vec<u8>, Stop>
     ensures { HasText (Some version) lent.old lent.new result }
 {
     match bytes_of(lent.alloc, version_text()) {

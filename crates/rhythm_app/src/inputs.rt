@@ -9,14 +9,13 @@ ghost use Rattle.std.specs.Option.{ForSome};
 ghost use Rattle.std.specs.Prelude.{◌≡◌, ◌≢◌, ◌≤◌, ◌⊎◌, Err, IfErr, IfOk, None, length};
 
 use crate::files::{grammar_of, midi_of};
-use crate::lent::Lent;
+use crate::lent::{Lent, World};
 use crate::performance::performance_of;
 use crate::request::FileNames;
 use crate::stop::Stop;
-use rhythm_base::{Grammar, Performance, Tag};
-use rhythm_ports::{Gate, Shelf, Sink, Source};
+use rhythm_base::{Grammar, Performance};
+use rhythm_ports::Shelf;
 use std::alloc::Global;
-use std::thread::Threads;
 
 /// The grammar and the performance that a command's files say. The grammar file is opened only where the MIDI file passed its
 /// tests.
@@ -48,25 +47,17 @@ fn inputs_of<F: Shelf>(
 }
 
 /// The grammar and the performance that the files of these names say.
-pub fn read_inputs<
-    R: Threads + Sync,
-    F: Shelf,
-    S: Source,
-    O: Sink,
-    E: Sink,
-    G: Gate + Sync,
-    B: Tag,
->(lent: &mut Lent<R, F, S, O, E, G, B>, names: FileNames) -> Result<(Grammar, Performance), Stop>
+pub fn read_inputs<W: World>(
+    lent: &mut Lent<W>,
+    names: FileNames,
+) -> Result<(Grammar, Performance), Stop>
     ensures { HasInputs names.entry.midi.now names.entry.grammar.now lent.old lent.new result }
 {
     inputs_of(lent.alloc, names, &mut lent.shelf)
 }
 
 /// The grammar that the file of this name says.
-pub fn read_rules<R: Threads + Sync, F: Shelf, S: Source, O: Sink, E: Sink, G: Gate + Sync, B: Tag>(
-    lent: &mut Lent<R, F, S, O, E, G, B>,
-    name: &str,
-) -> Result<Grammar, Stop>
+pub fn read_rules<W: World>(lent: &mut Lent<W>, name: &str) -> Result<Grammar, Stop>
     ensures { HasRules name.now lent.old lent.new result }
 {
     grammar_of(lent.alloc, &mut lent.shelf, name)

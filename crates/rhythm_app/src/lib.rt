@@ -26,7 +26,7 @@ mod usage;
 mod writing;
 
 pub use laws::outcomes_are_one;
-pub use lent::Lent;
+pub use lent::{Lent, World};
 pub use line::write_line;
 pub use performance_load::{LoadFault, load};
 pub use stop::{Kind, Stop};

@@ -5,15 +5,12 @@ ghost use Rattle.smf_reader.specs.Ranges.{IsPlayedFile};
 ghost use Rattle.std.specs.Prelude.{IfErr, Some};
 
 use crate::files::midi_of;
-use crate::lent::Lent;
+use crate::lent::{Lent, World};
 use crate::performance::performance_of;
 use crate::stop::Stop;
 use notes_writer::write_notes;
-use rhythm_base::Tag;
-use rhythm_ports::{Gate, Shelf, Sink, Source};
 use smf_reader::Smf;
 use std::alloc::Global;
-use std::thread::Threads;
 
 /// The text of the bars, tempos, keys and notes that the file says.
 fn noted(alloc: Global, played: &Smf) -> Result<Vec<u8>, Stop>
@@ -31,15 +28,7 @@ fn noted(alloc: Global, played: &Smf) -> Result<Vec<u8>, Stop>
 }
 
 /// The text of `notes`: a line for each bar, tempo, key and note of a MIDI file.
-pub fn notes_text_of<
-    R: Threads + Sync,
-    F: Shelf,
-    S: Source,
-    O: Sink,
-    E: Sink,
-    G: Gate + Sync,
-    B: Tag,
->(lent: &mut Lent<R, F, S, O, E, G, B>, midi: &str) -> Result<Vec<u8>, Stop>
+pub fn notes_text_of<W: World>(lent: &mut Lent<W>, midi: &str) -> Result<Vec<u8>, Stop>
     ensures { HasText (Some (notes midi.now)) lent.old lent.new result }
 {
     let played = midi_of(lent.alloc, &mut lent.shelf, midi)?;

@@ -8,12 +8,10 @@ ghost use Rattle.rhythm_base.specs.Readable.{IsReadable};
 ghost use Rattle.rhythm_base.specs.declared.limits.TheConstants.{MOST_NOTES};
 ghost use Rattle.std.specs.Prelude.{◌≡◌, ◌≤◌, ◌⊎◌, IfErr, IfOk, OnOk, length};
 
-use crate::lent::Lent;
+use crate::lent::{Lent, World};
 use crate::stop::Stop;
 use edit_session::{OpenFault, Session};
-use rhythm_base::{Grammar, Performance, Tag};
-use rhythm_ports::{Gate, Shelf, Sink, Source};
-use std::thread::Threads;
+use rhythm_base::{Grammar, Performance};
 
 /// A fault of opening a session as a stop.
 impl From<OpenFault> for Stop {
@@ -32,16 +30,8 @@ impl From<OpenFault> for Stop {
 }
 
 /// A session on a performance. Each of its cells is built once, by one of the workers.
-pub fn open_session<
-    R: Threads + Sync,
-    F: Shelf,
-    S: Source,
-    O: Sink,
-    E: Sink,
-    G: Gate + Sync,
-    B: Tag,
->(
-    lent: &mut Lent<R, F, S, O, E, G, B>,
+pub fn open_session<W: World>(
+    lent: &mut Lent<W>,
     workers: u32,
     grammar: Grammar,
     performance: Performance,
@@ -62,12 +52,12 @@ pub fn open_session<
     ensures counts { CountsAlone lent.old lent.new }
 {
     let session = Session::open(
-        lent.rt,
+        &lent.rt,
         lent.alloc,
         performance,
         grammar,
         workers,
-        lent.gate,
+        &lent.gate,
         &mut lent.builds,
         &mut lent.products,
     )?;

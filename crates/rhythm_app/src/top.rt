@@ -19,16 +19,15 @@ use crate::fit::fit_text_of;
 use crate::follow::follow_text;
 use crate::generate::piece_bytes;
 use crate::help::{help, version};
-use crate::lent::Lent;
+use crate::lent::{Lent, World};
 use crate::notes::notes_text_of;
 use crate::request::{Request, request_of, workers_of};
 use crate::stop::Stop;
 use crate::usage::tell;
 use crate::writing::session_text;
 use command_line::{Invocation, WordsFault, read_words};
-use rhythm_base::{Tag, Words};
-use rhythm_ports::{Gate, Shelf, Sink, Source, write_all};
-use std::thread::Threads;
+use rhythm_base::Words;
+use rhythm_ports::{Sink, write_all};
 
 /// Writes a text by one `write_all`.
 fn put<K: Sink>(sink: &mut K, text: &[u8]) -> Result<(), Stop>
@@ -43,21 +42,15 @@ fn put<K: Sink>(sink: &mut K, text: &[u8]) -> Result<(), Stop>
 }
 
 /// Writes a text to out.
-fn write_text<R: Threads + Sync, F: Shelf, S: Source, O: Sink, E: Sink, G: Gate + Sync, B: Tag>(
-    lent: &mut Lent<R, F, S, O, E, G, B>,
-    text: &[u8],
-) -> Result<(), Stop>
+fn write_text<W: World>(lent: &mut Lent<W>, text: &[u8]) -> Result<(), Stop>
     ensures { IsTextWritten text.now lent.old lent.new result }
 {
     put(&mut lent.out, text)
 }
 
 /// Writes the text of a command, where it is had: nothing before it is whole.
-fn finish<R: Threads + Sync, F: Shelf, S: Source, O: Sink, E: Sink, G: Gate + Sync, B: Tag>(
-    lent: &mut Lent<R, F, S, O, E, G, B>,
-    text: Result<Vec<u8>, Stop>,
-) -> Result<(), Stop>
-    ensures { (asked : Option Asked) (before : Stood S O E) → HasText asked before lent.old text → IsPerformed asked before lent.new result }
+fn finish<W: World>(lent: &mut Lent<W>, text: Result<Vec<u8>, Stop>) -> Result<(), Stop>
+    ensures { (asked : Option Asked) (before : Stood W.Script W.Out W.Err) → HasText asked before lent.old text → IsPerformed asked before lent.new result }
 {
     match text {
         Ok(text) => write_text(lent, text.as_slice()),
@@ -66,10 +59,7 @@ fn finish<R: Threads + Sync, F: Shelf, S: Source, O: Sink, E: Sink, G: Gate + Sy
 }
 
 /// Does what is asked for, up to the first stop.
-fn perform<R: Threads + Sync, F: Shelf, S: Source, O: Sink, E: Sink, G: Gate + Sync, B: Tag>(
-    lent: &mut Lent<R, F, S, O, E, G, B>,
-    said: &Invocation,
-) -> Result<(), Stop>
+fn perform<W: World>(lent: &mut Lent<W>, said: &Invocation) -> Result<(), Stop>
     requires { HasWorkers said.now }
     ensures usage { (result ≡ Err stop.Usage) ↔ (asked_of said.now ≡ None) }
     ensures performed { IsPerformed (asked_of said.now) lent.old lent.new result }
@@ -119,10 +109,7 @@ fn perform<R: Threads + Sync, F: Shelf, S: Source, O: Sink, E: Sink, G: Gate + S
 }
 
 /// Does what the words ask for, up to the first stop.
-fn perform_words<R: Threads + Sync, F: Shelf, S: Source, O: Sink, E: Sink, G: Gate + Sync, B: Tag>(
-    lent: &mut Lent<R, F, S, O, E, G, B>,
-    words: &Words,
-) -> Result<(), Stop>
+fn perform_words<W: World>(lent: &mut Lent<W>, words: &Words) -> Result<(), Stop>
     ensures usage { result ≡ Err stop.Usage → asked_by words.now ≡ None }
     ensures unusable { asked_by words.now ≡ None → (result ≡ Err stop.Usage) ⊎ (result ≡ Err stop.Memory) }
     ensures performed { IsPerformed (asked_by words.now) lent.old lent.new result }
@@ -140,10 +127,7 @@ fn perform_words<R: Threads + Sync, F: Shelf, S: Source, O: Sink, E: Sink, G: Ga
 /// bars of notes that the grammar has root symbols for. 3: no derivation fits. 4: a quantity is above its limit. 5: a read failed.
 /// 6: a write failed. 7: there was not enough memory; in a script this comes only before its first line is answered. 9: no tick is
 /// fitted to the barline.
-pub fn run<R: Threads + Sync, F: Shelf, S: Source, O: Sink, E: Sink, G: Gate + Sync, B: Tag>(
-    lent: &mut Lent<R, F, S, O, E, G, B>,
-    words: &Words,
-) -> u8
+pub fn run<W: World>(lent: &mut Lent<W>, words: &Words) -> u8
     // 1 comes only where nothing is asked for: `clap` refuses the words, the number of workers is none of 1 to 16, or the words without
     // the option are no command. There no other status comes but 7, where there was not enough memory to read the words. Plain words are
     // never refused by `clap`, and what they ask for is told without it.

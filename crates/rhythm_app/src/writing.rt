@@ -14,18 +14,16 @@ ghost use Rattle.rhythm_base.specs.declared.limits.TheConstants.{LONGEST_SCORE, 
 ghost use Rattle.std.specs.Prelude.{◌≡◌, ◌≤◌, ◌⊎◌, IfErr, IfOk, Ok, OnOk, Some, length};
 
 use crate::inputs::read_inputs;
-use crate::lent::Lent;
+use crate::lent::{Lent, World};
 use crate::request::{FileNames, Form};
 use crate::session::open_session;
 use crate::stop::Stop;
 use edit_session::{ScoreFault, Session};
 use kern_reader::{KernEvent, KernScore, KernWhat, read_kern};
 use lily_writer::write_lily;
-use rhythm_base::{Grammar, Performance, Tag};
-use rhythm_ports::{Gate, Shelf, Sink, Source};
+use rhythm_base::{Grammar, Performance};
 use smf_writer::{RenderFault, render};
 use std::alloc::Global;
-use std::thread::Threads;
 
 /// The **kern text of the score of a session.
 fn kern_text_of(alloc: Global, session: &Session) -> Result<Vec<u8>, Stop>
@@ -158,8 +156,8 @@ fn text_of(alloc: Global, form: Form, session: &Session, resolution: u16) -> Res
 }
 
 /// What is written in this form of a performance by a grammar. Each of its cells is built once, by one of the workers.
-fn text_by<R: Threads + Sync, F: Shelf, S: Source, O: Sink, E: Sink, G: Gate + Sync, B: Tag>(
-    lent: &mut Lent<R, F, S, O, E, G, B>,
+fn text_by<W: World>(
+    lent: &mut Lent<W>,
     workers: u32,
     form: Form,
     grammar: Grammar,
@@ -185,16 +183,8 @@ fn text_by<R: Threads + Sync, F: Shelf, S: Source, O: Sink, E: Sink, G: Gate + S
 }
 
 /// The text of a command that writes a session on a MIDI file and a grammar.
-pub fn session_text<
-    R: Threads + Sync,
-    F: Shelf,
-    S: Source,
-    O: Sink,
-    E: Sink,
-    G: Gate + Sync,
-    B: Tag,
->(
-    lent: &mut Lent<R, F, S, O, E, G, B>,
+pub fn session_text<W: World>(
+    lent: &mut Lent<W>,
     workers: u32,
     form: Form,
     names: FileNames,

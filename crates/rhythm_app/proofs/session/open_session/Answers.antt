@@ -21,7 +21,7 @@ returns-in_err-session-clause-content g c =
 pub returns-in_err-session-clause-built : goal.returns-in_err-session-clause-built
 returns-in_err-session-clause-built g c =
     let p = err_from_is_err_and c.from_residual.result c.from_residual.ensures.1 in
-    let same = ap (λ (l : Lent g.row.S.Denot g.row.O.Denot g.row.E.Denot). l.built) c.lent.view_is in
+    let same = ap (λ (l : Lent g.row.W-Script.Denot g.row.W-Out.Denot g.row.W-Err.Denot). l.built) c.lent.view_is in
     let built = open_built _ _ _ c.in_err-session.field-0.0 c.in_err-session.ensures.built in
     let cells = cells_of c.args.performance in
     rw (p.1, p.2) (subst (λ n. MatchBuilds (c.open.new.builds ≡ risen n cells) (c.open.new.builds ≤ risen n cells) (c.open.new.builds ≡ n) (open_stop c.in_err-session.field-0.0)) same built)

@@ -20,23 +20,23 @@ returns-in-Err-clause-status g c = λ files are.
 pub returns-in-Err-clause-stop : goal.returns-in-Err-clause-stop
 returns-in-Err-clause-stop g c = λ _.
     let inside = c.lent.inside in
-    let seen : Lent g.row.S.Denot g.row.O.Denot g.row.E.Denot = record {
-      files = g.F.Shelf.files inside.shelf;
-      strays = g.F.Shelf.strays inside.shelf;
-      shelf_faults = g.F.Shelf.faults inside.shelf;
+    let seen : Lent g.row.W-Script.Denot g.row.W-Out.Denot g.row.W-Err.Denot = record {
+      files = g.W.Shelf.Shelf.files inside.shelf;
+      strays = g.W.Shelf.Shelf.strays inside.shelf;
+      shelf_faults = g.W.Shelf.Shelf.faults inside.shelf;
       script = inside.script;
-      rest = g.S.Source.rest inside.script;
-      script_faults = g.S.Source.faults inside.script;
+      rest = g.W.Script.Source.rest inside.script;
+      script_faults = g.W.Script.Source.faults inside.script;
       out = inside.out;
-      taken = g.O.Sink.taken inside.out;
-      out_faults = g.O.Sink.faults inside.out;
+      taken = g.W.Out.Sink.taken inside.out;
+      out_faults = g.W.Out.Sink.faults inside.out;
       err = inside.err;
-      told = g.E.Sink.taken inside.err;
-      err_faults = g.E.Sink.faults inside.err;
+      told = g.W.Err.Sink.taken inside.err;
+      err_faults = g.W.Err.Sink.faults inside.err;
       built = inside.builds;
       multiplied = inside.products;
     } in
-    let now = record seen { err = c.tell.new.sink; told = g.E.Sink.taken c.tell.new.sink; err_faults = g.E.Sink.faults c.tell.new.sink } in
+    let now = record seen { err = c.tell.new.sink; told = g.W.Err.Sink.taken c.tell.new.sink; err_faults = g.W.Err.Sink.faults c.tell.new.sink } in
     let performed = c.in-Err.ensures.performed in (
       c.in-Err.stop,
       sym c.status.ensures,
@@ -47,22 +47,22 @@ returns-in-Err-clause-stop g c = λ _.
 pub returns-in-Err-clause-complete : goal.returns-in-Err-clause-complete
 returns-in-Err-clause-complete g c =
     let inside = c.lent.inside in
-    let seen : Lent g.row.S.Denot g.row.O.Denot g.row.E.Denot = record {
-      files = g.F.Shelf.files inside.shelf;
-      strays = g.F.Shelf.strays inside.shelf;
-      shelf_faults = g.F.Shelf.faults inside.shelf;
+    let seen : Lent g.row.W-Script.Denot g.row.W-Out.Denot g.row.W-Err.Denot = record {
+      files = g.W.Shelf.Shelf.files inside.shelf;
+      strays = g.W.Shelf.Shelf.strays inside.shelf;
+      shelf_faults = g.W.Shelf.Shelf.faults inside.shelf;
       script = inside.script;
-      rest = g.S.Source.rest inside.script;
-      script_faults = g.S.Source.faults inside.script;
+      rest = g.W.Script.Source.rest inside.script;
+      script_faults = g.W.Script.Source.faults inside.script;
       out = inside.out;
-      taken = g.O.Sink.taken inside.out;
-      out_faults = g.O.Sink.faults inside.out;
+      taken = g.W.Out.Sink.taken inside.out;
+      out_faults = g.W.Out.Sink.faults inside.out;
       err = inside.err;
-      told = g.E.Sink.taken inside.err;
-      err_faults = g.E.Sink.faults inside.err;
+      told = g.W.Err.Sink.taken inside.err;
+      err_faults = g.W.Err.Sink.faults inside.err;
       built = inside.builds;
       multiplied = inside.products;
     } in
-    let now = record seen { err = c.tell.new.sink; told = g.E.Sink.taken c.tell.new.sink; err_faults = g.E.Sink.faults c.tell.new.sink } in
+    let now = record seen { err = c.tell.new.sink; told = g.W.Err.Sink.taken c.tell.new.sink; err_faults = g.W.Err.Sink.faults c.tell.new.sink } in
     let stopped = stop_told (asked_by c.args.words.now) c.args.lent.now seen c.perform_words.new.lent now c.lent.view_is refl c.in-Err.stop c.in-Err.ensures.performed.stopped in
     stop_completes c.args.words.now c.args.lent.now now c.in-Err.stop c.status.result c.status.ensures stopped
