@@ -2,7 +2,8 @@
 use Rattle.std.proofs.Common.{◌≡◌, inl, inr, ℕ, List, subst, refl, Option, Some, None, Result, Ok, Err}
 use Rattle.rhythm_app.proofs.OneOutcome.{in_ranges, readable, sound_inputs, well_formed}
 use Rattle.rhythm_app.specs.Asked.{Asked, help, version, write, answer, fit, too_many_candidates, follow, notes, events, generate, drill, asked_by}
-use Rattle.rhythm_app.specs.Commands.{HasOutcomeOf, file_content}
+use Rattle.rhythm_app.specs.Commands.{HasOutcomeOf}
+use Rattle.rhythm_app.specs.Inputs.{Inputs, file_content}
 use Rattle.rhythm_app.specs.Outcome.{AreFilesRead, AreInTurn, AreInputs, IsAnswering, IsDrilling, IsFitting, IsFollowing, IsListing, IsLoading, IsNoting, IsPieceMade, IsPieceOf, IsRead, IsScoreRead, IsUnderstood, IsWriting, Ready, grammar_tests, kern_tests, midi_tests}
 use Rattle.rhythm_app.specs.declared.stop.Stop.{Stop}
 use Rattle.rhythm_app.specs.declared.stop.Stop.TheVariants.{TooManyCandidates, Usage}
@@ -35,19 +36,20 @@ in_turn {T} {U} first next (Ok x, is) nexts = go (nexts x is)
     go (Ok y, own) = (Ok y, (x, is, own))
     go (Err s, own) = (Err s, inr (x, is, own))
 
--- ---- commands on a MIDI file and a grammar
+-- ---- commands on inputs
 
-module _ (midi grammar : List ℕ) (bytes : AreBytes midi) where
-  some_inputs : ComesTo (AreInputs midi grammar)
+module _ (i : Inputs) (files : List File) (holds : HoldBytes files) where
+  some_inputs : ComesTo (AreInputs i files)
   some_inputs =
+      let midi = file_content files i.midi in
+      let grammar = file_content files i.grammar in
       in_turn (IsRead midi) (λ f. AreInTurn (IsUnderstood grammar) (λ g. AreInTurn (IsLoading f) (λ p r. r ≡ Ok (g, p)))) (midi_tests midi, refl)
       (λ f read. in_turn (IsUnderstood grammar) (λ g. AreInTurn (IsLoading f) (λ p r. r ≡ Ok (g, p))) (grammar_tests grammar, refl)
-      (λ g _. in_turn (IsLoading f) (λ p r. r ≡ Ok (g, p)) (some_loading f (read_in_range midi bytes f read)) (λ p _. (Ok (g, p), refl))))
+      (λ g _. in_turn (IsLoading f) (λ p r. r ≡ Ok (g, p)) (some_loading f (read_in_range midi (content_bytes files i.midi holds) f read)) (λ p _. (Ok (g, p), refl))))
 
   of_files : (last : Grammar → Performance → Result Ready Stop → Type 0) → ((g : Grammar) (p : Performance) → IsReadable g → IsWellFormed p → ComesTo (last g p))
-      → ComesTo (AreFilesRead midi grammar last)
-  of_files last some =
-      in_turn (AreInputs midi grammar) (λ i. last i.0 i.1) some_inputs (λ i are. let sound = sound_inputs midi grammar i are in some i.0 i.1 sound.0 sound.1)
+      → ComesTo (AreFilesRead i files last)
+  of_files last some = in_turn (AreInputs i files) (λ x. last x.0 x.1) some_inputs (λ x are. let sound = sound_inputs i files x are in some x.0 x.1 sound.0 sound.1)
 
 -- ---- the others
 
@@ -78,13 +80,11 @@ module _ (files : List File) (holds : HoldBytes files) where
   outcome_of None = (Err Usage, refl)
   outcome_of (Some help) = (_, refl)
   outcome_of (Some version) = (_, refl)
-  outcome_of (Some (write f midi grammar)) =
-      of_files (file_content files midi) (file_content files grammar) (content_bytes files midi holds) (IsWriting f) (λ g p readable formed. some_writing g p readable formed f)
-  outcome_of (Some (answer talk midi grammar)) =
-      of_files (file_content files midi) (file_content files grammar) (content_bytes files midi holds) (IsAnswering talk) (some_answering talk)
-  outcome_of (Some (fit midi grammar c)) = of_files (file_content files midi) (file_content files grammar) (content_bytes files midi holds) (IsFitting c) (some_fitting c)
+  outcome_of (Some (write f i)) = of_files i files holds (IsWriting f) (λ g p readable formed. some_writing g p readable formed f)
+  outcome_of (Some (answer talk i)) = of_files i files holds (IsAnswering talk) (some_answering talk)
+  outcome_of (Some (fit i c)) = of_files i files holds (IsFitting c) (some_fitting c)
   outcome_of (Some (too_many_candidates count)) = (Err (TooManyCandidates count), refl)
-  outcome_of (Some (follow midi grammar)) = of_files (file_content files midi) (file_content files grammar) (content_bytes files midi holds) IsFollowing some_following
+  outcome_of (Some (follow i)) = of_files i files holds IsFollowing some_following
   outcome_of (Some (notes midi)) = some_notes (file_content files midi) (content_bytes files midi holds)
   outcome_of (Some (events kern)) = some_events (file_content files kern)
   outcome_of (Some (generate number bars)) = (_, refl)

@@ -22,15 +22,15 @@ asked_nothing words e = ap (option_and_then asked_of) e
 -- nothing is built where there is not enough memory to read the words
 pub unread_built : (cells : Cells) (files : Option (List File)) (built : ℕ) → HasBuilt cells files built built stop.Memory
 unread_built no_cells files built = refl
-unread_built (cells_in midi) files built = inl refl
-unread_built (cells_fitted midi grammar c) files built = inl refl
-unread_built (cells_followed midi) files built = omega arith
+unread_built (cells_in i) files built = inl refl
+unread_built (cells_fitted i c) files built = inl refl
+unread_built (cells_followed i) files built = omega arith
 unread_built (cells_drilled number grammar) files built = inl refl
 
 -- nor where the words are no command
 pub nothing_built : (cells : Cells) (files : Option (List File)) (built : ℕ) → HasBuilt cells files built built stop.Usage
 nothing_built no_cells files built = refl
-nothing_built (cells_in midi) files built = refl
-nothing_built (cells_fitted midi grammar c) files built = refl
-nothing_built (cells_followed midi) files built = refl
+nothing_built (cells_in i) files built = refl
+nothing_built (cells_fitted i c) files built = refl
+nothing_built (cells_followed i) files built = refl
 nothing_built (cells_drilled number grammar) files built = refl

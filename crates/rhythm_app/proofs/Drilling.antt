@@ -7,7 +7,8 @@ use Rattle.edit_session.specs.declared.open_fault.OpenFault.{OpenFault}
 use Rattle.edit_session.specs.declared.open_fault.OpenFault.TheVariants as opening
 use Rattle.rhythm_app.proofs.InTurn.{next_follows}
 use Rattle.rhythm_app.specs.Asked.{drill}
-use Rattle.rhythm_app.specs.Commands.{HasNames, HasOutcomeOf, cells_drilled, file_content, named, no_cells}
+use Rattle.rhythm_app.specs.Commands.{HasNames, HasOutcomeOf, cells_drilled, named, no_cells}
+use Rattle.rhythm_app.specs.Inputs.{file_content}
 use Rattle.rhythm_app.specs.Builds.{AreDrilled, AreSomeDrilled, ForPiece, HasBuilt, HasBuiltAll, MatchBuilds, MatchDrilled}
 use Rattle.rhythm_app.specs.Outcome.{AreInTurn, IsDrilling, IsPieceMade, IsPieceOf, IsUnderstood, IsUnopened, Ready, open_stop, say}
 use Rattle.rhythm_app.specs.Lent.{Lent}

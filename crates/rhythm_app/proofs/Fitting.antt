@@ -1,5 +1,5 @@
 -- What the stages of a fit come to together.
-use Rattle.std.proofs.Common.{◌≡◌, ◌≢◌, ◌≤◌, ◌⊎◌, ◌∷◌, [], ◌∙◌, ℕ, List, Vec, ap, arith, inl, inr, refl, sym, subst, IfErr, IfOk, OnOk, Some, None, Result, Ok, Err}
+use Rattle.std.proofs.Common.{◌≡◌, ◌≢◌, ◌≤◌, ◌⊎◌, ◌∷◌, [], ◌∙◌, ℕ, List, Vec, ap, arith, inl, inr, refl, sym, subst, IfErr, IfOk, OnOk, Some, Result, Ok, Err}
 use Rattle.std.specs.Option.{ForSome}
 use Rattle.barline_fit.specs.Builds.{AreReachedAt, AreWithinReach}
 use Rattle.barline_fit.specs.Candidates.{ticks_of}
@@ -15,20 +15,19 @@ use Rattle.edit_session.specs.Session.{Session}
 use Rattle.edit_session.specs.declared.open_fault.OpenFault.{OpenFault}
 use Rattle.edit_session.specs.declared.open_fault.OpenFault.TheVariants as opening
 use Rattle.rhythm_app.specs.Asked.{fit}
-use Rattle.rhythm_app.specs.Builds.{AreSomeFitted, ForInputs, HasBuilt, HasBuiltAll, HasFitted, HasPartlyFitted, HasTried, MatchBuilds, MatchFitted}
-use Rattle.rhythm_app.specs.Commands.{HasNames, cells_fitted, file_content, named, no_cells}
+use Rattle.rhythm_app.specs.Builds.{AreSomeFitted, HasBuilt, HasBuiltAll, HasFitted, HasPartlyFitted, HasTried, MatchBuilds, MatchFitted, OfInputs}
+use Rattle.rhythm_app.specs.Commands.{cells_fitted, no_cells}
+use Rattle.rhythm_app.specs.Inputs.{Inputs}
 use Rattle.rhythm_app.specs.Lent.{Lent}
-use Rattle.rhythm_app.specs.Outcome.{AreInputs, IsFitting, IsUnderstood, IsUnopened, fit_stop, fit_text, open_stop, say}
-use Rattle.rhythm_app.specs.Stages.{CountsAlone, Follows, HasInputs, HasText, IsEarly, IsOfContent, ReadsShelf, said_of}
-use Rattle.rhythm_app.specs.declared.stop.Kind.TheVariants as kind
+use Rattle.rhythm_app.specs.Outcome.{IsFitting, IsUnopened, fit_stop, fit_text, open_stop}
+use Rattle.rhythm_app.specs.Stages.{CountsAlone, Follows, HasInputs, HasText, IsEarly, IsOfContent, said_of}
 use Rattle.rhythm_app.specs.declared.stop.Stop.{Stop}
 use Rattle.rhythm_app.specs.declared.stop.Stop.TheVariants as stop
-use Rattle.rhythm_app.proofs.Performing.{content_ends, counted_alone}
-use Rattle.rhythm_app.proofs.Sessions.{inputs_stop, no_failure, said_follow, stage_cause, stage_ready, then_follows}
+use Rattle.rhythm_app.proofs.Opened.{from_mid, text_had, unread_text}
+use Rattle.rhythm_app.proofs.Sessions.{for_inputs}
 use Rattle.rhythm_base.specs.Counter.{risen}
 use Rattle.rhythm_base.specs.Grammar.{Grammar}
 use Rattle.rhythm_base.specs.Performance.{Performance}
-use Rattle.rhythm_ports.specs.Files.{File, file_of}
 
 -- ---- a session
 
@@ -183,82 +182,38 @@ early_fitted A B C D old (stop.Read k) early = refl
 early_fitted A B C D old stop.Write early = absurd early
 early_fitted A B C D old stop.Memory early = inl refl
 
-some_cells : (midi grammar : List ℕ) (c : Candidates) → cells_fitted midi grammar c ≡ no_cells → ⊥
-some_cells midi grammar c e = cc
+some_cells : (i : Inputs) (c : Candidates) → cells_fitted i c ≢ no_cells
+some_cells i c e = cc
 
-module _ {S O E : Type 0} (midi grammar : List ℕ) (c : Candidates) (old mid : Lent S O E) where
-  same_strays : (strays : ForSome old.files (λ files. file_of files midi ≢ None → file_of files grammar ≢ None → mid.strays ≡ old.strays))
-      → ForSome old.files (λ files. HasNames files (Some (fit midi grammar c)) → mid.strays ≡ old.strays)
-  same_strays strays files are names = strays files are (names 0 (named kind.Midi midi) (omega arith)) (names 1 (named kind.Midi midi) (omega arith))
+module _ {S O E : Type 0} (i : Inputs) (c : Candidates) (old mid : Lent S O E) where
+  -- the inputs are not had
+  pub unread_fit : {A : Type 0} (s : Stop) → HasInputs i old mid (Err s) → HasText {A = A} (Some (fit i c)) old mid (Err s)
+  unread_fit s had =
+      unread_text (fit i c) i (IsFitting c) refl (λ files r h. h) (some_cells i c) old mid s had (early_fitted _ _ _ _ old.built s had.early)
 
-  same_built : ReadsShelf old mid → mid.built ≡ old.built
-  same_built alone = ap (λ (l : Lent S O E). l.built) alone
-
-  -- the files are no inputs
-  pub unread_fit : {A : Type 0} (s : Stop) → HasInputs midi grammar old mid (Err s) → HasText {A = A} (Some (fit midi grammar c)) old mid (Err s)
-  unread_fit {A} s i = record {
-    text = tt;
-    all = tt;
-    before = record {
-      cause = λ files are. inputs_stop (fit midi grammar c) midi grammar files (IsFitting c) refl (λ r h. h) s (i.cause files are);
-      end = i.end;
-      built = subst (λ n. HasBuilt (cells_fitted midi grammar c) old.files old.built n s) (sym (same_built i.reads)) (early_fitted _ _ _ _ old.built s i.early);
-      strays = same_strays i.strays;
-      rises = (omega (arith, same_built i.reads), omega (arith, ap (λ (l : Lent S O E). l.multiplied) i.reads));
-      no_cells = λ e. absurd (some_cells midi grammar c e);
-      alone = counted_alone old mid mid i.reads refl;
-    };
-  }
-
-  module _ (g : Grammar) (p : Performance) (i : HasInputs midi grammar old mid (Ok (g, p))) where
-    same_pair : (h : Grammar) (q : Performance) → ◌≡◌ {A = Result (Grammar × Performance) Stop} (Ok (g, p)) (Ok (h, q)) → ◌≡◌ {A = Grammar × Performance} (h, q) (g, p)
-    same_pair h q e = cc
-
-    understood_is : (files : List File) → AreInputs (file_content files midi) (file_content files grammar) (Ok (g, p)) → IsUnderstood (file_content files grammar) (Ok g)
-    understood_is files (f, read, (h, understood, (q, loaded, is))) =
-        subst (λ (x : Grammar). IsUnderstood (file_content files grammar) (Ok x)) (ap (λ (x : Grammar × Performance). x.0) (same_pair h q is)) understood
-
-    for_inputs : (P : Grammar → Performance → Type 0) → P g p → ForSome old.files (λ files. ForInputs (file_content files midi) (file_content files grammar) P)
-    for_inputs P h = λ files are.
-        (g, p, understood_is files (no_failure (AreInputs (file_content files midi) (file_content files grammar)) (g, p) (i.tests files are)), i.loaded files are, h)
-
-    from_mid : (P : ℕ → Type 0) → P mid.built → P old.built
-    from_mid P h = subst P (same_built i.reads) h
+  module _ (g : Grammar) (p : Performance) (had : HasInputs i old mid (Ok (g, p))) where
+    fit_inputs : (P : ℕ → Grammar → Performance → Type 0) → P mid.built g p → OfInputs i old.files (P old.built)
+    fit_inputs P h = for_inputs i old.files g p had.tests (P old.built) (from_mid old mid had.reads (λ n. P n g p) h)
 
     all_fitted : {A : Type 0} (new : ℕ) (r : Result (Vec ℕ A) Stop) → OnOk r (HasFitted c g p (risen mid.built (cells_of p)) new)
-        → IfOk r (λ _. ForSome old.files (λ files. HasBuiltAll (cells_fitted midi grammar c) files old.built new))
-    all_fitted new (Ok v) h = for_inputs (λ g p. HasFitted c g p (risen old.built (cells_of p)) new) (from_mid (λ n. HasFitted c g p (risen n (cells_of p)) new) h)
+        → IfOk r (λ _. ForSome old.files (λ files. HasBuiltAll (cells_fitted i c) files old.built new))
+    all_fitted new (Ok v) h = fit_inputs (λ n g p. HasFitted c g p (risen n (cells_of p)) new) h
     all_fitted new (Err s) h = tt
 
     fit_cells : {A : Type 0} (new : ℕ) (r : Result (Vec ℕ A) Stop)
         → IfErr r (MatchFitted (new ≡ risen mid.built (cells_of p)) (HasTried c g p (risen mid.built (cells_of p)) new) (HasFitted c g p (risen mid.built (cells_of p)) new)
-        (AreSomeFitted c g p mid.built new) (new ≡ mid.built)) → IfErr r (HasBuilt (cells_fitted midi grammar c) old.files old.built new)
+        (AreSomeFitted c g p mid.built new) (new ≡ mid.built)) → IfErr r (HasBuilt (cells_fitted i c) old.files old.built new)
     fit_cells new (Ok v) h = tt
     fit_cells new (Err s) h =
-        fitted_more (λ all. λ (files : List File) (are : old.files ≡ Some files). (p, i.loaded files are, from_mid (λ n. new ≡ risen n (cells_of p)) all))
-        (λ tried. for_inputs (λ g p. HasTried c g p (risen old.built (cells_of p)) new) (from_mid (λ n. HasTried c g p (risen n (cells_of p)) new) tried))
-        (λ fitted. for_inputs (λ g p. HasFitted c g p (risen old.built (cells_of p)) new) (from_mid (λ n. HasFitted c g p (risen n (cells_of p)) new) fitted))
-        (λ some. inr (for_inputs (λ g p. AreSomeFitted c g p old.built new) (from_mid (λ n. AreSomeFitted c g p n new) some)))
-        (λ none. from_mid (λ n. new ≡ n) none) s h
+        fitted_more (fit_inputs (λ n g p. new ≡ risen n (cells_of p))) (fit_inputs (λ n g p. HasTried c g p (risen n (cells_of p)) new))
+        (fit_inputs (λ n g p. HasFitted c g p (risen n (cells_of p)) new)) (λ some. inr (fit_inputs (λ n g p. AreSomeFitted c g p n new) some))
+        (λ none. from_mid old mid had.reads (λ n. new ≡ n) none) s h
 
     -- a barline is fitted
     pub fit_had : {A : Type 0} (new : Lent S O E) (r : Result (Vec ℕ A) Stop) → Follows (IsFitting c g p) (said_of r) → IfErr r IsOfContent → OnOk r (HasFitted c g p (risen mid.built (cells_of p)) new.built)
         → IfErr r (MatchFitted (new.built ≡ risen mid.built (cells_of p)) (HasTried c g p (risen mid.built (cells_of p)) new.built) (HasFitted c g p (risen mid.built (cells_of p)) new.built)
         (AreSomeFitted c g p mid.built new.built) (new.built ≡ mid.built)) → mid.built ≤ new.built → mid.multiplied ≤ new.multiplied → CountsAlone mid new
-        → HasText (Some (fit midi grammar c)) old new r
+        → HasText (Some (fit i c)) old new r
     fit_had new r tests content all built rises multiplies counts =
-        let follow = said_follow old.files (fit midi grammar c) r
-        (λ files are. then_follows (fit midi grammar c) midi grammar files (IsFitting c) refl (λ r h. h) g p (i.tests files are) (said_of r) tests) in
-        record {
-          text = stage_ready old.files (fit midi grammar c) (λ v. say v.items) r follow;
-          all = all_fitted new.built r all;
-          before = record {
-            cause = stage_cause old.files (fit midi grammar c) (λ v. say v.items) r follow content;
-            end = content_ends old.shelf_faults new.shelf_faults r content;
-            built = fit_cells new.built r built;
-            strays = λ files are names. ap (λ (l : Lent S O E). l.strays) counts ∙ same_strays i.strays files are names;
-            rises = (omega (arith, rises, same_built i.reads), omega (arith, multiplies, ap (λ (l : Lent S O E). l.multiplied) i.reads));
-            no_cells = λ e. absurd (some_cells midi grammar c e);
-            alone = counted_alone old mid new i.reads counts;
-          };
-        }
+        text_had (fit i c) i (IsFitting c) refl (λ files r h. h) (some_cells i c) old mid new g p had counts r tests content (all_fitted new.built r all)
+        (fit_cells new.built r built) rises multiplies

@@ -3,7 +3,8 @@ use Rattle.std.proofs.Common.{◌≡◌, ℕ, List, Vec, inr, refl, subst, sym, 
 use Rattle.std.specs.Option.{ForSome}
 use Rattle.kern_reader.specs.Score.{KernColumns}
 use Rattle.rhythm_app.specs.Asked.{events}
-use Rattle.rhythm_app.specs.Commands.{HasNames, file_content}
+use Rattle.rhythm_app.specs.Commands.{HasNames}
+use Rattle.rhythm_app.specs.Inputs.{file_content}
 use Rattle.rhythm_app.specs.Lent.{Lent}
 use Rattle.rhythm_app.specs.Outcome.{IsListing, IsScoreRead, say}
 use Rattle.rhythm_app.specs.Stages.{Follows, HasText}

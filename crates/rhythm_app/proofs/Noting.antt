@@ -2,7 +2,8 @@
 use Rattle.std.proofs.Common.{◌≡◌, ℕ, List, Vec, refl, subst, IfErr, Some, Result, Ok, Err}
 use Rattle.std.specs.Option.{ForSome}
 use Rattle.rhythm_app.specs.Asked.{notes}
-use Rattle.rhythm_app.specs.Commands.{HasNames, file_content}
+use Rattle.rhythm_app.specs.Commands.{HasNames}
+use Rattle.rhythm_app.specs.Inputs.{file_content}
 use Rattle.rhythm_app.specs.Lent.{Lent}
 use Rattle.rhythm_app.specs.Outcome.{AreInTurn, IsLoading, IsNoting, IsRead, say}
 use Rattle.rhythm_app.specs.Stages.{Follows, HasText, IsStoppedBefore, IsOfContent, said_of}

@@ -37,7 +37,8 @@ use Rattle.performance_load.specs.declared.load_fault.LoadFault.{LoadFault}
 use Rattle.piece_laws.proofs.FormedPieces.{pieces_formed}
 use Rattle.rhythm_app.proofs.InTurn.{IsOne, in_turn_one}
 use Rattle.rhythm_app.specs.Asked.{Asked, help, version, write, answer, fit, too_many_candidates, follow, notes, events, generate, drill, asked_by}
-use Rattle.rhythm_app.specs.Commands.{HasOutcomeOf, file_content}
+use Rattle.rhythm_app.specs.Commands.{HasOutcomeOf}
+use Rattle.rhythm_app.specs.Inputs.{Inputs, file_content}
 use Rattle.rhythm_app.specs.Laws.{OutcomesAreOne}
 use Rattle.rhythm_app.specs.Outcome.{AreEventsOf, AreInTurn, AreInputs, AreFilesRead, FitsScore, IsAnswering, IsFitting, IsFormOf, IsListing, IsLoading, IsNoting, IsRead, IsScoreRead, IsTooLongToWrite, IsUnfitted, IsUnwritten, IsWriting, fit_stop, fit_text, IsDrilling, IsFollowing, IsPieceMade, IsPieceOf, IsTooLongDrill, Ready, say, serve, IsUnderstood, IsUnopened, grammar_tests, kern_tests, limit_of, load_stop, open_stop, passed, stopped}
 use Rattle.rhythm_app.specs.declared.request.Form.{Form}
@@ -345,39 +346,37 @@ one_listing score well (Err s) r h k = absurd h
 one_pair : (g : Grammar) (p : Performance) → IsOne (λ (r : Result (Grammar × Performance) Stop). r ≡ Ok (g, p))
 one_pair g p r s h k = h ∙ sym k
 
-one_inputs : (midi grammar : List ℕ) → IsOne (AreInputs midi grammar)
-one_inputs midi grammar =
+one_inputs : (i : Inputs) (files : List File) → IsOne (AreInputs i files)
+one_inputs i files =
+    let midi = file_content files i.midi in
+    let grammar = file_content files i.grammar in
     in_turn_one (IsRead midi) (λ f. AreInTurn (IsUnderstood grammar) (λ g. AreInTurn (IsLoading f) (λ p r. r ≡ Ok (g, p)))) (one_read midi)
     (λ f _. in_turn_one (IsUnderstood grammar) (λ g. AreInTurn (IsLoading f) (λ p r. r ≡ Ok (g, p))) (one_understood grammar)
     (λ g _. in_turn_one (IsLoading f) (λ p r. r ≡ Ok (g, p)) (one_loaded f) (λ p _. one_pair g p)))
 
-same_inputs : (i : Grammar × Performance) (g : Grammar) (p : Performance) → ◌≡◌ {A = Result (Grammar × Performance) Stop} (Ok i) (Ok (g, p)) → (g, p) ≡ i
-same_inputs i g p e = cc
+same_inputs : (x : Grammar × Performance) (g : Grammar) (p : Performance) → ◌≡◌ {A = Result (Grammar × Performance) Stop} (Ok x) (Ok (g, p)) → (g, p) ≡ x
+same_inputs x g p e = cc
 
 -- the grammar can be read, and the performance is well formed
-pub sound_inputs : (midi grammar : List ℕ) (i : Grammar × Performance) → AreInputs midi grammar (Ok i) → IsReadable i.0 × IsWellFormed i.1
-sound_inputs midi grammar i (f, read, (g, understood, (p, loaded, is))) =
-    subst (λ (x : Grammar × Performance). IsReadable x.0 × IsWellFormed x.1) (same_inputs i g p is) (readable grammar g understood, well_formed f p loaded)
+pub sound_inputs : (i : Inputs) (files : List File) (x : Grammar × Performance) → AreInputs i files (Ok x) → IsReadable x.0 × IsWellFormed x.1
+sound_inputs i files x (f, read, (g, understood, (p, loaded, is))) =
+    subst (λ (x : Grammar × Performance). IsReadable x.0 × IsWellFormed x.1) (same_inputs x g p is) (readable (file_content files i.grammar) g understood, well_formed f p loaded)
 
 one_of_files : (last : Grammar → Performance → Result Ready Stop → Type 0) → ((g : Grammar) (p : Performance) → IsReadable g → IsWellFormed p → IsOne (last g p))
-    → (midi grammar : List ℕ) → IsOne (AreFilesRead midi grammar last)
-one_of_files last one midi grammar =
-    in_turn_one (AreInputs midi grammar) (λ i. last i.0 i.1) (one_inputs midi grammar)
-    (λ i are. let sound = sound_inputs midi grammar i are in one i.0 i.1 sound.0 sound.1)
+    → (i : Inputs) (files : List File) → IsOne (AreFilesRead i files last)
+one_of_files last one i files =
+    in_turn_one (AreInputs i files) (λ x. last x.0 x.1) (one_inputs i files)
+    (λ x are. let sound = sound_inputs i files x are in one x.0 x.1 sound.0 sound.1)
 
 one_of : (asked : Option Asked) (files : List File) → IsOne (HasOutcomeOf asked files)
 one_of None files r s h k = h ∙ sym k
 one_of (Some help) files r s h k = h ∙ sym k
 one_of (Some version) files r s h k = h ∙ sym k
-one_of (Some (write f midi grammar)) files r s h k =
-    one_of_files (IsWriting f) (λ g p read formed. one_writing g p read formed f) (file_content files midi) (file_content files grammar) r s h k
-one_of (Some (answer talk midi grammar)) files r s h k =
-    one_of_files (IsAnswering talk) (λ g p read formed. one_answering g p read formed talk) (file_content files midi) (file_content files grammar) r s h k
-one_of (Some (fit midi grammar c)) files r s h k =
-    one_of_files (IsFitting c) (λ g p read formed. one_fitting g p read formed c) (file_content files midi) (file_content files grammar) r s h k
+one_of (Some (write f i)) files r s h k = one_of_files (IsWriting f) (λ g p read formed. one_writing g p read formed f) i files r s h k
+one_of (Some (answer talk i)) files r s h k = one_of_files (IsAnswering talk) (λ g p read formed. one_answering g p read formed talk) i files r s h k
+one_of (Some (fit i c)) files r s h k = one_of_files (IsFitting c) (λ g p read formed. one_fitting g p read formed c) i files r s h k
 one_of (Some (too_many_candidates count)) files r s h k = h ∙ sym k
-one_of (Some (follow midi grammar)) files r s h k =
-    one_of_files IsFollowing (λ g p read formed. one_following g p read formed) (file_content files midi) (file_content files grammar) r s h k
+one_of (Some (follow i)) files r s h k = one_of_files IsFollowing (λ g p read formed. one_following g p read formed) i files r s h k
 one_of (Some (notes midi)) files r s h k =
     in_turn_one (IsRead (file_content files midi)) (λ f. AreInTurn (IsLoading f) IsNoting) (one_read (file_content files midi))
     (λ f _. in_turn_one (IsLoading f) IsNoting (one_loaded f) (λ p _. one_noting p)) r s h k

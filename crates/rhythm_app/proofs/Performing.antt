@@ -4,8 +4,8 @@ use Rattle.std.specs.Option.{ForSome}
 use Rattle.std.specs.Io.KnownBytes.{Appends}
 use Rattle.rhythm_app.specs.Asked.{Asked}
 use Rattle.rhythm_app.specs.Builds.{HasBuilt, HasBuiltAll}
-use Rattle.rhythm_app.specs.Commands.{Cells, HasNames, HasOutcomeOf, cells_drilled, cells_fitted, cells_followed, cells_in, cells_of_asked, command, named, no_cells}
-use Rattle.rhythm_app.specs.Ends.{AppendsPart, ComesTo, IsCauseOf, IsFailureOf, IsPerformed, IsTextSaid, IsErrUntouched, IsUntouched, KeepsRest}
+use Rattle.rhythm_app.specs.Commands.{Cells, HasNames, HasOutcomeOf, Named, cells_drilled, cells_fitted, cells_followed, cells_in, cells_of_asked, command, named, no_cells}
+use Rattle.rhythm_app.specs.Ends.{AppendsPart, ComesTo, IsCauseOf, IsFailureOf, IsReadFailure, IsPerformed, IsTextSaid, IsErrUntouched, IsUntouched, KeepsRest}
 use Rattle.rhythm_app.specs.Lent.{Lent}
 use Rattle.rhythm_app.specs.Outcome.{say}
 use Rattle.rhythm_app.specs.Stages.{EndsBy, EndsReading, Follows, HasText, IsStoppedBefore, IsFailure, IsOfContent, IsTextWritten, ReadsAlone}
@@ -17,50 +17,76 @@ use Rattle.rhythm_app.proofs.Stops.{reading_known, reading_risen, reading_taken}
 use Rattle.rhythm_ports.specs.Causes.{Rose}
 use Rattle.rhythm_ports.specs.Files.{File}
 
--- ---- the one file of a command
+-- ---- the files of a command
 
+-- a read that fails is that of a file that is come to
+module _ (k : Kind) (reads : List Named) (files : List File) (before now : ℕ) (other : k ≢ kind.Script) (comes : ComesTo files k reads) where
+  read_at : (j : Kind) → j ≡ k → IsReadFailure reads files (stop.Read j)
+  read_at kind.Midi same = subst (λ (x : Kind). ComesTo files x reads) (sym same) comes
+  read_at kind.Grammar same = subst (λ (x : Kind). ComesTo files x reads) (sym same) comes
+  read_at kind.Kern same = subst (λ (x : Kind). ComesTo files x reads) (sym same) comes
+  read_at kind.Script same = absurd (other (sym same))
+
+  pub read_fails : (s : Stop) → IsFailure s → EndsBy k before now s → IsReadFailure reads files s
+  read_fails stop.Usage failed end = absurd failed
+  read_fails (stop.FileTooLong j n) failed end = absurd failed
+  read_fails (stop.LineTooLong n) failed end = absurd failed
+  read_fails (stop.Smf e) failed end = absurd failed
+  read_fails (stop.Grammar e) failed end = absurd failed
+  read_fails (stop.Kern e) failed end = absurd failed
+  read_fails stop.NoNotes failed end = absurd failed
+  read_fails (stop.TooManyNotes n) failed end = absurd failed
+  read_fails (stop.BadSignature m n) failed end = absurd failed
+  read_fails (stop.UnevenBar l m n) failed end = absurd failed
+  read_fails (stop.TooManyBars n) failed end = absurd failed
+  read_fails (stop.TooManyCells n) failed end = absurd failed
+  read_fails (stop.NoStart l m n) failed end = absurd failed
+  read_fails (stop.NoDerivation m n) failed end = absurd failed
+  read_fails (stop.ScoreTooLong n) failed end = absurd failed
+  read_fails (stop.RenderTooLong n) failed end = absurd failed
+  read_fails (stop.TooManyCandidates n) failed end = absurd failed
+  read_fails (stop.NoBarline n) failed end = absurd failed
+  read_fails stop.NoCandidate failed end = absurd failed
+  read_fails (stop.Read j) failed end = read_at j end.0
+  read_fails stop.Write failed end = absurd end
+  read_fails stop.Memory failed end = tt
+
+-- it is a failure of the command that reads them
+pub failure_of : (asked : Asked) (files : List File) (s : Stop) → IsReadFailure (command asked).reads files s → IsFailureOf (Some asked) files s
+failure_of asked files stop.Usage failed = absurd failed
+failure_of asked files (stop.FileTooLong k n) failed = absurd failed
+failure_of asked files (stop.LineTooLong n) failed = absurd failed
+failure_of asked files (stop.Smf e) failed = absurd failed
+failure_of asked files (stop.Grammar e) failed = absurd failed
+failure_of asked files (stop.Kern e) failed = absurd failed
+failure_of asked files stop.NoNotes failed = absurd failed
+failure_of asked files (stop.TooManyNotes n) failed = absurd failed
+failure_of asked files (stop.BadSignature m n) failed = absurd failed
+failure_of asked files (stop.UnevenBar l m n) failed = absurd failed
+failure_of asked files (stop.TooManyBars n) failed = absurd failed
+failure_of asked files (stop.TooManyCells n) failed = absurd failed
+failure_of asked files (stop.NoStart l m n) failed = absurd failed
+failure_of asked files (stop.NoDerivation m n) failed = absurd failed
+failure_of asked files (stop.ScoreTooLong n) failed = absurd failed
+failure_of asked files (stop.RenderTooLong n) failed = absurd failed
+failure_of asked files (stop.TooManyCandidates n) failed = absurd failed
+failure_of asked files (stop.NoBarline n) failed = absurd failed
+failure_of asked files stop.NoCandidate failed = absurd failed
+failure_of asked files (stop.Read kind.Midi) failed = failed
+failure_of asked files (stop.Read kind.Grammar) failed = failed
+failure_of asked files (stop.Read kind.Kern) failed = failed
+failure_of asked files (stop.Read kind.Script) failed = absurd failed
+failure_of asked files stop.Write failed = absurd failed
+failure_of asked files stop.Memory failed = tt
+
+-- the one file of a command is not had
 module _ (asked : Asked) (k : Kind) (name : List ℕ) (files : List File) {T : Type 0} (first : Result T Stop → Type 0)
     (reads : (command asked).reads ≡ named k name ∷ []) (outcome : (s : Stop) → first (Err s) → HasOutcomeOf (Some asked) files (Err s)) (before now : ℕ) where
-  read_at : (j : Kind) → j ≡ k → k ≢ kind.Script → IsFailureOf (Some asked) files (stop.Read j)
-  read_at kind.Midi same other = subst (ComesTo files kind.Midi) (sym reads) (inl (sym same))
-  read_at kind.Grammar same other = subst (ComesTo files kind.Grammar) (sym reads) (inl (sym same))
-  read_at kind.Kern same other = subst (ComesTo files kind.Kern) (sym reads) (inl (sym same))
-  read_at kind.Script same other = absurd (other (sym same))
-
-  read_fails : (s : Stop) → IsFailure s → EndsBy k before now s → k ≢ kind.Script → IsFailureOf (Some asked) files s
-  read_fails stop.Usage failed end other = absurd failed
-  read_fails (stop.FileTooLong kind.Midi n) failed end other = absurd failed
-  read_fails (stop.FileTooLong kind.Grammar n) failed end other = absurd failed
-  read_fails (stop.FileTooLong kind.Kern n) failed end other = absurd failed
-  read_fails (stop.FileTooLong kind.Script n) failed end other = absurd failed
-  read_fails (stop.LineTooLong n) failed end other = absurd failed
-  read_fails (stop.Smf e) failed end other = absurd failed
-  read_fails (stop.Grammar e) failed end other = absurd failed
-  read_fails (stop.Kern e) failed end other = absurd failed
-  read_fails stop.NoNotes failed end other = absurd failed
-  read_fails (stop.TooManyNotes n) failed end other = absurd failed
-  read_fails (stop.BadSignature m n) failed end other = absurd failed
-  read_fails (stop.UnevenBar l m n) failed end other = absurd failed
-  read_fails (stop.TooManyBars n) failed end other = absurd failed
-  read_fails (stop.TooManyCells n) failed end other = absurd failed
-  read_fails (stop.NoStart l m n) failed end other = absurd failed
-  read_fails (stop.NoDerivation m n) failed end other = absurd failed
-  read_fails (stop.ScoreTooLong n) failed end other = absurd failed
-  read_fails (stop.RenderTooLong n) failed end other = absurd failed
-  read_fails (stop.TooManyCandidates n) failed end other = absurd failed
-  read_fails (stop.NoBarline n) failed end other = absurd failed
-  read_fails stop.NoCandidate failed end other = absurd failed
-  read_fails (stop.Read kind.Midi) failed end other = read_at kind.Midi end.0 other
-  read_fails (stop.Read kind.Grammar) failed end other = read_at kind.Grammar end.0 other
-  read_fails (stop.Read kind.Kern) failed end other = read_at kind.Kern end.0 other
-  read_fails (stop.Read kind.Script) failed end other = read_at kind.Script end.0 other
-  read_fails stop.Write failed end other = absurd end
-  read_fails stop.Memory failed end other = tt
-
-  -- it is not had
   pub read_cause : (s : Stop) → Follows first (Err s) → EndsBy k before now s → k ≢ kind.Script → IsCauseOf (Some asked) files s
   read_cause s (inl h) end other = inl (outcome s h)
-  read_cause s (inr failed) end other = inr (read_fails s failed end other)
+  read_cause s (inr failed) end other =
+      let fails = read_fails k (named k name ∷ []) files before now other (inl refl) s failed end in
+      inr (failure_of asked files s (subst (λ (n : List Named). IsReadFailure n files s) (sym reads) fails))
 
 -- a stage that reads a file ends before anything is written
 pub read_end : (k : Kind) (before now : ℕ) (s : Stop) → EndsBy k before now s → k ≢ kind.Script → EndsReading before now s
@@ -119,9 +145,9 @@ other_stop e = cc
 -- after a failed write more is known by what was written
 write_built : (cells : Cells) (fs : Option (List File)) (old new : ℕ) → (cells ≡ no_cells → new ≡ old) → HasBuilt cells fs old new stop.Write
 write_built no_cells fs old new none = none refl
-write_built (cells_in midi) fs old new none = tt
-write_built (cells_fitted midi grammar c) fs old new none = tt
-write_built (cells_followed midi) fs old new none = tt
+write_built (cells_in i) fs old new none = tt
+write_built (cells_fitted i c) fs old new none = tt
+write_built (cells_followed i) fs old new none = tt
 write_built (cells_drilled number grammar) fs old new none = tt
 
 module _ {S O E : Type 0} where

@@ -1,11 +1,12 @@
 -- What the files say, of what is lent.
 use Rattle.std.proofs.Common.{◌≡◌, ◌≢◌, ◌≤◌, ◌⊎◌, ◌∙◌, ℕ, List, length, subst, IfErr, IfOk, None, Result, Err}
 use Rattle.std.specs.Option.{ForSome}
-use Rattle.rhythm_app.specs.Builds.{IsPerformanceIn}
-use Rattle.rhythm_app.specs.Commands.{file_content}
+use Rattle.rhythm_app.specs.Commands.{HaveNames, input_files}
+use Rattle.rhythm_app.specs.Ends.{IsReadFailure}
+use Rattle.rhythm_app.specs.Inputs.{Inputs, file_content}
 use Rattle.rhythm_app.specs.Lent.{Lent}
 use Rattle.rhythm_app.specs.Outcome.{AreInputs, IsUnderstood}
-use Rattle.rhythm_app.specs.Stages.{EndsBy, EndsReading, Follows, HasInputs, HasRules, IsEarly, IsReadFailure, ReadsShelf}
+use Rattle.rhythm_app.specs.Stages.{EndsBy, EndsReading, Follows, HasInputs, HasRules, IsEarly, ReadsShelf}
 use Rattle.rhythm_app.specs.declared.stop.Kind.TheVariants as kind
 use Rattle.rhythm_app.specs.declared.stop.Stop.{Stop}
 use Rattle.rhythm_base.specs.Grammar.{Grammar}
@@ -19,20 +20,18 @@ module _ {S O E : Type 0} where
   shelf_read : (old new : Lent S O E) → new ≡ record old { files = new.files; strays = new.strays; shelf_faults = new.shelf_faults } → new.files ≡ old.files → ReadsShelf old new
   shelf_read old new reads files = reads ∙ (λ i. record old { files = files i; strays = new.strays; shelf_faults = new.shelf_faults })
 
-  pub inputs_had : (midi grammar : List ℕ) (seen old new : Lent S O E) (r : Result (Grammar × Performance) Stop) → seen ≡ old
+  pub inputs_had : (i : Inputs) (seen old new : Lent S O E) (r : Result (Grammar × Performance) Stop) → seen ≡ old
       → new ≡ record seen { files = new.files; strays = new.strays; shelf_faults = new.shelf_faults } → new.files ≡ seen.files
-      → ForSome seen.files (λ files. Follows (AreInputs (file_content files midi) (file_content files grammar)) r)
-      → IfErr r (λ stop. ForSome seen.files (λ files. AreInputs (file_content files midi) (file_content files grammar) (Err stop) ⊎ IsReadFailure (file_content files midi) stop))
-      → IfOk r (λ inputs. IsReadable inputs.0) → IfOk r (λ inputs. length inputs.1.notes ≤ MOST_NOTES)
-      → IfOk r (λ inputs. ForSome seen.files (λ files. IsPerformanceIn (file_content files midi) inputs.1)) → IfErr r (EndsReading seen.shelf_faults new.shelf_faults) → IfErr r IsEarly
-      → ForSome seen.files (λ files. file_of files midi ≢ None → file_of files grammar ≢ None → new.strays ≡ seen.strays) → HasInputs midi grammar old new r
-  inputs_had midi grammar seen old new r same reads files tests cause readable few_notes loaded end early strays =
-      subst (λ (l : Lent S O E). HasInputs midi grammar l new r) same (record {
+      → ForSome seen.files (λ files. Follows (AreInputs i files) r)
+      → IfErr r (λ stop. ForSome seen.files (λ files. AreInputs i files (Err stop) ⊎ IsReadFailure (input_files i) files stop))
+      → IfOk r (λ inputs. IsReadable inputs.0) → IfOk r (λ inputs. length inputs.1.notes ≤ MOST_NOTES) → IfErr r (EndsReading seen.shelf_faults new.shelf_faults)
+      → IfErr r IsEarly → ForSome seen.files (λ files. HaveNames files (input_files i) → new.strays ≡ seen.strays) → HasInputs i old new r
+  inputs_had i seen old new r same reads files tests cause readable few_notes end early strays =
+      subst (λ (l : Lent S O E). HasInputs i l new r) same (record {
         tests = tests;
         cause = cause;
         readable = readable;
         few_notes = few_notes;
-        loaded = loaded;
         end = end;
         early = early;
         strays = strays;

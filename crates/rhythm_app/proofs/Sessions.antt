@@ -1,18 +1,19 @@
 -- What the stages of a command come to together.
 use Rattle.std.proofs.Common.{◌≡◌, ◌≤◌, ◌⊎◌, ◌∷◌, [], ℕ, List, Vec, arith, inl, inr, refl, sym, subst, IfErr, IfOk, OnOk, Option, Some, Result, Ok, Err}
 use Rattle.std.specs.Option.{ForSome}
-use Rattle.performance_load.specs.Loading.{IsLoaded, Loads}
-use Rattle.performance_load.specs.declared.load_fault.LoadFault.{LoadFault}
+use Rattle.std.specs.Prelude.{◌≢◌, IsOk}
 use Rattle.edit_session.specs.Opening.{CanOpen}
 use Rattle.edit_session.specs.Session.{Session}
 use Rattle.rhythm_app.proofs.InTurn.{next_follows, stop_follows}
+use Rattle.rhythm_app.proofs.Performing.{failure_of, read_fails}
 use Rattle.rhythm_app.proofs.Scoring.{unopened_answering}
 use Rattle.rhythm_app.specs.Asked.{Asked}
-use Rattle.rhythm_app.specs.Builds.{IsPerformanceIn, MatchBuilds}
-use Rattle.rhythm_app.specs.Commands.{HasOutcomeOf, command, file_content, named}
-use Rattle.rhythm_app.specs.Ends.{ComesTo, IsCauseOf, IsFailureOf}
-use Rattle.rhythm_app.specs.Outcome.{AreInTurn, AreInputs, AreFilesRead, IsAnswering, IsLoading, IsRead, IsUnderstood, IsUnopened, Ready, load_stop, say, serve, stopped}
-use Rattle.rhythm_app.specs.Stages.{Follows, IsFailure, IsOfContent, IsOfWriting, IsReadFailure, said_of}
+use Rattle.rhythm_app.specs.Builds.{MatchBuilds, OfInputs}
+use Rattle.rhythm_app.specs.Commands.{HasOutcomeOf, Named, command, input_files}
+use Rattle.rhythm_app.specs.Ends.{IsCauseOf, IsReadFailure}
+use Rattle.rhythm_app.specs.Inputs.{Inputs, file_content}
+use Rattle.rhythm_app.specs.Outcome.{AreInTurn, AreInputs, AreFilesRead, IsAnswering, IsLoading, IsRead, IsUnderstood, IsUnopened, Ready, midi_tests, say, serve}
+use Rattle.rhythm_app.specs.Stages.{EndsBy, Follows, IsFailure, IsOfContent, IsOfWriting, said_of}
 use Rattle.rhythm_app.specs.declared.request.Talk.{Talk}
 use Rattle.rhythm_app.specs.declared.stop.Kind.TheVariants as kind
 use Rattle.rhythm_app.specs.declared.stop.Stop.{Stop}
@@ -26,33 +27,33 @@ use Rattle.smf_reader.specs.Played.{Smf}
 -- ---- stops
 
 -- where the files hold no reason, memory was wanted
-content_fails : (asked : Asked) (files : List File) (s : Stop) → IsFailure s → IsOfContent s → IsFailureOf (Some asked) files s
-content_fails asked files stop.Usage failed content = absurd content
-content_fails asked files (stop.FileTooLong k n) failed content = absurd failed
-content_fails asked files (stop.LineTooLong n) failed content = absurd failed
-content_fails asked files (stop.Smf e) failed content = absurd failed
-content_fails asked files (stop.Grammar e) failed content = absurd failed
-content_fails asked files (stop.Kern e) failed content = absurd failed
-content_fails asked files stop.NoNotes failed content = absurd failed
-content_fails asked files (stop.TooManyNotes n) failed content = absurd failed
-content_fails asked files (stop.BadSignature m n) failed content = absurd failed
-content_fails asked files (stop.UnevenBar l m n) failed content = absurd failed
-content_fails asked files (stop.TooManyBars n) failed content = absurd failed
-content_fails asked files (stop.TooManyCells n) failed content = absurd failed
-content_fails asked files (stop.NoStart l m n) failed content = absurd failed
-content_fails asked files (stop.NoDerivation m n) failed content = absurd failed
-content_fails asked files (stop.ScoreTooLong n) failed content = absurd failed
-content_fails asked files (stop.RenderTooLong n) failed content = absurd failed
-content_fails asked files (stop.TooManyCandidates n) failed content = absurd failed
-content_fails asked files (stop.NoBarline n) failed content = absurd failed
-content_fails asked files stop.NoCandidate failed content = absurd failed
-content_fails asked files (stop.Read k) failed content = absurd content
-content_fails asked files stop.Write failed content = absurd content
-content_fails asked files stop.Memory failed content = tt
+content_read : (reads : List Named) (files : List File) (s : Stop) → IsFailure s → IsOfContent s → IsReadFailure reads files s
+content_read reads files stop.Usage failed content = absurd content
+content_read reads files (stop.FileTooLong k n) failed content = absurd failed
+content_read reads files (stop.LineTooLong n) failed content = absurd failed
+content_read reads files (stop.Smf e) failed content = absurd failed
+content_read reads files (stop.Grammar e) failed content = absurd failed
+content_read reads files (stop.Kern e) failed content = absurd failed
+content_read reads files stop.NoNotes failed content = absurd failed
+content_read reads files (stop.TooManyNotes n) failed content = absurd failed
+content_read reads files (stop.BadSignature m n) failed content = absurd failed
+content_read reads files (stop.UnevenBar l m n) failed content = absurd failed
+content_read reads files (stop.TooManyBars n) failed content = absurd failed
+content_read reads files (stop.TooManyCells n) failed content = absurd failed
+content_read reads files (stop.NoStart l m n) failed content = absurd failed
+content_read reads files (stop.NoDerivation m n) failed content = absurd failed
+content_read reads files (stop.ScoreTooLong n) failed content = absurd failed
+content_read reads files (stop.RenderTooLong n) failed content = absurd failed
+content_read reads files (stop.TooManyCandidates n) failed content = absurd failed
+content_read reads files (stop.NoBarline n) failed content = absurd failed
+content_read reads files stop.NoCandidate failed content = absurd failed
+content_read reads files (stop.Read k) failed content = absurd content
+content_read reads files stop.Write failed content = absurd content
+content_read reads files stop.Memory failed content = tt
 
 pub stop_cause : (asked : Asked) (files : List File) (s : Stop) → Follows (HasOutcomeOf (Some asked) files) (Err s) → IsOfContent s → IsCauseOf (Some asked) files s
 stop_cause asked files s (inl outcome) content = inl outcome
-stop_cause asked files s (inr failed) content = inr (content_fails asked files s failed content)
+stop_cause asked files s (inr failed) content = inr (failure_of asked files s (content_read (command asked).reads files s failed content))
 
 -- what is known of the cells by the stop gives what follows from it
 match_more : {A B C D E F : Type 0} → (A → D) → (B → E) → (C → F) → (s : Stop) → MatchBuilds A B C s → MatchBuilds D E F s
@@ -93,106 +94,72 @@ pub all_more : {T E A B : Type 0} → (r : Result T E) → (A → B) → OnOk r 
 all_more (Ok x) a h = a h
 all_more (Err e) a h = tt
 
--- ---- the inputs
-
-module _ (midi grammar : List ℕ) (f : Smf) (g : Grammar) (read : Follows (IsRead midi) (Ok f)) (understood : Follows (IsUnderstood grammar) (Ok g)) where
-  loading_follows : (r : Result (Grammar × Performance) Stop) → Follows (AreInTurn (IsLoading f) (λ p s. s ≡ Ok (g, p))) r → Follows (AreInputs midi grammar) r
-  loading_follows r h =
-      next_follows (IsRead midi) (λ f. AreInTurn (IsUnderstood grammar) (λ g. AreInTurn (IsLoading f) (λ p s. s ≡ Ok (g, p)))) f r read
-      (next_follows (IsUnderstood grammar) (λ g. AreInTurn (IsLoading f) (λ p s. s ≡ Ok (g, p))) g r understood h)
-
-  -- the performance could not be loaded
-  pub unloaded_follows : (s : Stop) → Follows (IsLoading f) (Err s) → Follows (AreInputs midi grammar) (Err s)
-  unloaded_follows s h = loading_follows (Err s) (stop_follows (IsLoading f) (λ p s. s ≡ Ok (g, p)) s h)
-
-  -- it was
-  pub loaded_follows : (p : Performance) → Follows (IsLoading f) (Ok p) → Follows (AreInputs midi grammar) (Ok (g, p))
-  loaded_follows p h = loading_follows (Ok (g, p)) (next_follows (IsLoading f) (λ p s. s ≡ Ok (g, p)) p (Ok (g, p)) h (inl refl))
-
--- where the files hold no reason, memory was wanted
-content_read : (midi : List ℕ) (s : Stop) → IsFailure s → IsOfContent s → IsReadFailure midi s
-content_read midi stop.Usage failed content = absurd content
-content_read midi (stop.FileTooLong k n) failed content = absurd failed
-content_read midi (stop.LineTooLong n) failed content = absurd failed
-content_read midi (stop.Smf e) failed content = absurd failed
-content_read midi (stop.Grammar e) failed content = absurd failed
-content_read midi (stop.Kern e) failed content = absurd failed
-content_read midi stop.NoNotes failed content = absurd failed
-content_read midi (stop.TooManyNotes n) failed content = absurd failed
-content_read midi (stop.BadSignature m n) failed content = absurd failed
-content_read midi (stop.UnevenBar l m n) failed content = absurd failed
-content_read midi (stop.TooManyBars n) failed content = absurd failed
-content_read midi (stop.TooManyCells n) failed content = absurd failed
-content_read midi (stop.NoStart l m n) failed content = absurd failed
-content_read midi (stop.NoDerivation m n) failed content = absurd failed
-content_read midi (stop.ScoreTooLong n) failed content = absurd failed
-content_read midi (stop.RenderTooLong n) failed content = absurd failed
-content_read midi (stop.TooManyCandidates n) failed content = absurd failed
-content_read midi (stop.NoBarline n) failed content = absurd failed
-content_read midi stop.NoCandidate failed content = absurd failed
-content_read midi (stop.Read k) failed content = absurd content
-content_read midi stop.Write failed content = absurd content
-content_read midi stop.Memory failed content = tt
-
-pub inputs_cause : (midi grammar : List ℕ) (s : Stop) → Follows (AreInputs midi grammar) (Err s) → IsOfContent s → AreInputs midi grammar (Err s) ⊎ IsReadFailure midi s
-inputs_cause midi grammar s (inl are) content = inl are
-inputs_cause midi grammar s (inr failed) content = inr (content_read midi s failed content)
-
--- the performance that was loaded is that of the MIDI file
-loaded_is : (f : Smf) (p : Performance) (loaded : Result Performance LoadFault) → Loads f loaded → ◌≡◌ {A = Result Performance Stop} (Ok p) (stopped load_stop loaded) → IsLoaded f p
-loaded_is f p (Ok q) h is = let same : q ≡ p = cc in subst (IsLoaded f) same h
-loaded_is f p (Err fault) h is = absurd (cc)
-
-pub is_performance : (midi : List ℕ) (f : Smf) (p : Performance) → Follows (IsRead midi) (Ok f) → Follows (IsLoading f) (Ok p) → IsPerformanceIn midi p
-is_performance midi f p (inl read) (inl loading) = (f, read, loaded_is f p loading.0 loading.1 loading.4)
-is_performance midi f p (inr failed) loading = absurd failed
-is_performance midi f p (inl read) (inr failed) = absurd failed
-
--- ---- a command on its inputs
-
-module _ (asked : Asked) (midi grammar : List ℕ) (files : List File) (last : Grammar → Performance → Result Ready Stop → Type 0)
-    (reads : (command asked).reads ≡ named kind.Midi midi ∷ named kind.Grammar grammar ∷ [])
-    (outcome : (r : Result Ready Stop) → AreFilesRead (file_content files midi) (file_content files grammar) last r → HasOutcomeOf (Some asked) files r) where
-  reads_fail : (s : Stop) → IsReadFailure (file_content files midi) s → IsFailureOf (Some asked) files s
-  reads_fail (stop.Read kind.Midi) failed = subst (ComesTo files kind.Midi) (sym reads) (inl refl)
-  reads_fail (stop.Read kind.Grammar) failed = subst (ComesTo files kind.Grammar) (sym reads) (inr (failed, inl refl))
-  reads_fail (stop.Read kind.Kern) failed = absurd failed
-  reads_fail (stop.Read kind.Script) failed = absurd failed
-  reads_fail stop.Memory failed = tt
-  reads_fail stop.Write failed = absurd failed
-  reads_fail stop.Usage failed = absurd failed
-  reads_fail (stop.FileTooLong k n) failed = absurd failed
-  reads_fail (stop.LineTooLong n) failed = absurd failed
-  reads_fail (stop.Smf e) failed = absurd failed
-  reads_fail (stop.Grammar e) failed = absurd failed
-  reads_fail (stop.Kern e) failed = absurd failed
-  reads_fail stop.NoNotes failed = absurd failed
-  reads_fail (stop.TooManyNotes n) failed = absurd failed
-  reads_fail (stop.BadSignature m n) failed = absurd failed
-  reads_fail (stop.UnevenBar l m n) failed = absurd failed
-  reads_fail (stop.TooManyBars n) failed = absurd failed
-  reads_fail (stop.TooManyCells n) failed = absurd failed
-  reads_fail (stop.NoStart l m n) failed = absurd failed
-  reads_fail (stop.NoDerivation m n) failed = absurd failed
-  reads_fail (stop.ScoreTooLong n) failed = absurd failed
-  reads_fail (stop.RenderTooLong n) failed = absurd failed
-  reads_fail (stop.TooManyCandidates n) failed = absurd failed
-  reads_fail (stop.NoBarline n) failed = absurd failed
-  reads_fail stop.NoCandidate failed = absurd failed
-
-  -- the inputs are not had
-  pub inputs_stop : (s : Stop) → AreInputs (file_content files midi) (file_content files grammar) (Err s) ⊎ IsReadFailure (file_content files midi) s → IsCauseOf (Some asked) files s
-  inputs_stop s (inl are) = inl (outcome (Err s) (inl are))
-  inputs_stop s (inr failed) = inr (reads_fail s failed)
-
-  -- they are
-  pub then_follows : (g : Grammar) (p : Performance) → Follows (AreInputs (file_content files midi) (file_content files grammar)) (Ok (g, p))
-      → (r : Result Ready Stop) → Follows (last g p) r → Follows (HasOutcomeOf (Some asked) files) r
-  then_follows g p are r h = elim (next_follows (AreInputs (file_content files midi) (file_content files grammar)) (λ i. last i.0 i.1) (g, p) r are h) [ inl it ↦ inl (outcome r it) | inr failed ↦ inr failed ]
-
 pub no_failure : {T : Type 0} (outcome : Result T Stop → Type 0) (x : T) → Follows outcome (Ok x) → outcome (Ok x)
 no_failure outcome x (inl h) = h
 no_failure outcome x (inr failed) = absurd failed
+
+-- ---- the inputs
+
+not_script : kind.Midi ≢ kind.Script
+not_script e = cc
+
+nor_script : kind.Grammar ≢ kind.Script
+nor_script e = cc
+
+module _ (i : Inputs) (files : List File) where
+  -- the MIDI file is not had
+  pub unread_midi : (before now : ℕ) (s : Stop) → Follows (IsRead (file_content files i.midi)) (Err s) → EndsBy kind.Midi before now s
+      → AreInputs i files (Err s) ⊎ IsReadFailure (input_files i) files s
+  unread_midi before now s (inl h) end = inl (inl h)
+  unread_midi before now s (inr failed) end = inr (read_fails kind.Midi (input_files i) files before now not_script (inl refl) s failed end)
+
+  module _ (f : Smf) where
+    passes : IsRead (file_content files i.midi) (Ok f) → IsOk (midi_tests (file_content files i.midi))
+    passes read = subst (λ (r : Result Smf Stop). IsOk r) (sym read) refl
+
+    -- it is, and the grammar file is not
+    pub unread_grammar : (before now : ℕ) (s : Stop) → Follows (IsRead (file_content files i.midi)) (Ok f) → Follows (IsUnderstood (file_content files i.grammar)) (Err s)
+        → EndsBy kind.Grammar before now s → AreInputs i files (Err s) ⊎ IsReadFailure (input_files i) files s
+    unread_grammar before now s (inl read) (inl h) end = inl (inr (f, read, inl h))
+    unread_grammar before now s (inl read) (inr failed) end =
+        inr (read_fails kind.Grammar (input_files i) files before now nor_script (inr (passes read, inl refl)) s failed end)
+    unread_grammar before now s (inr failed) h end = absurd failed
+
+    module _ (g : Grammar) (read : Follows (IsRead (file_content files i.midi)) (Ok f)) (understood : Follows (IsUnderstood (file_content files i.grammar)) (Ok g)) where
+      loading_follows : (r : Result (Grammar × Performance) Stop) → Follows (AreInTurn (IsLoading f) (λ p s. s ≡ Ok (g, p))) r → Follows (AreInputs i files) r
+      loading_follows r h =
+          next_follows (IsRead (file_content files i.midi)) (λ f. AreInTurn (IsUnderstood (file_content files i.grammar)) (λ g. AreInTurn (IsLoading f) (λ p s. s ≡ Ok (g, p)))) f r read
+          (next_follows (IsUnderstood (file_content files i.grammar)) (λ g. AreInTurn (IsLoading f) (λ p s. s ≡ Ok (g, p))) g r understood h)
+
+      -- the performance could not be loaded
+      pub unloaded_follows : (s : Stop) → Follows (IsLoading f) (Err s) → Follows (AreInputs i files) (Err s)
+      unloaded_follows s h = loading_follows (Err s) (stop_follows (IsLoading f) (λ p s. s ≡ Ok (g, p)) s h)
+
+      -- it was
+      pub loaded_follows : (p : Performance) → Follows (IsLoading f) (Ok p) → Follows (AreInputs i files) (Ok (g, p))
+      loaded_follows p h = loading_follows (Ok (g, p)) (next_follows (IsLoading f) (λ p s. s ≡ Ok (g, p)) p (Ok (g, p)) h (inl refl))
+
+  pub inputs_cause : (s : Stop) → Follows (AreInputs i files) (Err s) → IsOfContent s → AreInputs i files (Err s) ⊎ IsReadFailure (input_files i) files s
+  inputs_cause s (inl are) content = inl are
+  inputs_cause s (inr failed) content = inr (content_read (input_files i) files s failed content)
+
+-- what holds of the inputs is known of the files
+pub for_inputs : (i : Inputs) (fs : Option (List File)) (g : Grammar) (p : Performance) → ForSome fs (λ files. Follows (AreInputs i files) (Ok (g, p)))
+    → (P : Grammar → Performance → Type 0) → P g p → OfInputs i fs P
+for_inputs i fs g p had P h = λ files are. (g, p, no_failure (AreInputs i files) (g, p) (had files are), h)
+
+-- ---- a command on its inputs
+
+module _ (asked : Asked) (i : Inputs) (files : List File) (last : Grammar → Performance → Result Ready Stop → Type 0) (reads : (command asked).reads ≡ input_files i)
+    (outcome : (r : Result Ready Stop) → AreFilesRead i files last r → HasOutcomeOf (Some asked) files r) where
+  -- the inputs are not had
+  pub inputs_stop : (s : Stop) → AreInputs i files (Err s) ⊎ IsReadFailure (input_files i) files s → IsCauseOf (Some asked) files s
+  inputs_stop s (inl are) = inl (outcome (Err s) (inl are))
+  inputs_stop s (inr failed) = inr (failure_of asked files s (subst (λ (n : List Named). IsReadFailure n files s) (sym reads) failed))
+
+  -- they are
+  pub then_follows : (g : Grammar) (p : Performance) → Follows (AreInputs i files) (Ok (g, p)) → (r : Result Ready Stop) → Follows (last g p) r → Follows (HasOutcomeOf (Some asked) files) r
+  then_follows g p are r h = elim (next_follows (AreInputs i files) (λ x. last x.0 x.1) (g, p) r are h) [ inl it ↦ inl (outcome r it) | inr failed ↦ inr failed ]
 
 -- ---- a stage and what it is ready for
 

@@ -5,6 +5,7 @@ use Rattle.rhythm_app.specs.Asked.{Asked}
 use Rattle.rhythm_app.specs.Builds.{HasBuilt, HasBuiltAll, MatchBuilds}
 use Rattle.rhythm_app.specs.Commands.{HasOutcomeOf, cells_in}
 use Rattle.rhythm_app.specs.Ends.{HasRisen, HasStopped, HasTaken, IsBrokenOff, IsCauseOf, IsUntouched}
+use Rattle.rhythm_app.specs.Inputs.{Inputs}
 use Rattle.rhythm_app.specs.Lent.{Lent}
 use Rattle.rhythm_app.specs.Outcome.{serve}
 use Rattle.rhythm_app.specs.declared.request.Talk.{Talk}
@@ -180,13 +181,13 @@ served_builds old mid new cells built opened more = more ∙ ap (λ m. risen m b
 no_edits : {S O E : Type 0} (old new : Lent S O E) (t : Talk) (g : Grammar) (p : Performance) (last : Editing) → IsBrokenOff script.Memory old new t g p last → last.built ≡ 0
 no_edits old new t g p last broken = ap (λ (e : Editing). e.built) broken.0
 
-pub script_built : {S O E : Type 0} (from : ℕ) (old new : Lent S O E) (fs : Option (List File)) (midi : List ℕ) (t : Talk) (g : Grammar) (p : Performance) (s : ScriptStop) (last : Editing)
-    → new.built ≡ risen old.built last.built → IsBrokenOff s old new t g p last → ForSome fs (λ files. HasBuiltAll (cells_in midi) files from old.built)
-    → HasBuilt (cells_in midi) fs from new.built (script_stop s)
-script_built from old new fs midi t g p script.Read last more broken all = tt
-script_built from old new fs midi t g p (script.TooLong n) last more broken all = tt
-script_built from old new fs midi t g p (script.LineTooLong n) last more broken all = tt
-script_built from old new fs midi t g p script.Write last more broken all = tt
-script_built from old new fs midi t g p script.Memory last more broken all =
+pub script_built : {S O E : Type 0} (from : ℕ) (old new : Lent S O E) (fs : Option (List File)) (i : Inputs) (t : Talk) (g : Grammar) (p : Performance) (s : ScriptStop) (last : Editing)
+    → new.built ≡ risen old.built last.built → IsBrokenOff s old new t g p last → ForSome fs (λ files. HasBuiltAll (cells_in i) files from old.built)
+    → HasBuilt (cells_in i) fs from new.built (script_stop s)
+script_built from old new fs i t g p script.Read last more broken all = tt
+script_built from old new fs i t g p (script.TooLong n) last more broken all = tt
+script_built from old new fs i t g p (script.LineTooLong n) last more broken all = tt
+script_built from old new fs i t g p script.Write last more broken all = tt
+script_built from old new fs i t g p script.Memory last more broken all =
     let none = no_edits old new t g p last broken in
-    inr (λ files are. let it = all files are in (it.0, it.1, omega (arith, it.2, more, none)))
+    inr (λ files are. let it = all files are in (it.0, it.1, it.2, omega (arith, it.3, more, none)))

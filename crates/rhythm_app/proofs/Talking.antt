@@ -4,6 +4,7 @@ use Rattle.edit_session.specs.Opening.{cells_of}
 use Rattle.edit_session.specs.Session.{Session}
 use Rattle.rhythm_app.specs.Asked.{Asked, answer}
 use Rattle.rhythm_app.specs.Ends.{IsBrokenOff, IsTalkDone, IsPerformed, IsErrUntouched, IsUntouched, KeepsRest, desk_of}
+use Rattle.rhythm_app.specs.Inputs.{Inputs}
 use Rattle.rhythm_app.specs.Lent.{Lent}
 use Rattle.rhythm_app.specs.Stages.{HasSession}
 use Rattle.rhythm_app.specs.Stops.{script_stop}
@@ -54,9 +55,9 @@ module _ {S O E : Type 0} where
       (begun_on (desk_of t g p), (refl, refl, refl), omega arith)
 
   -- after the session is had, a script is answered: what holds of the files, the counters and err
-  module _ (t : Talk) (midi grammar : List ℕ) (old mid new : Lent S O E) (s : Session) (h : HasSession (Some (answer t midi grammar)) t old mid (Ok s)) where
+  module _ (t : Talk) (i : Inputs) (old mid new : Lent S O E) (s : Session) (h : HasSession (Some (answer t i)) t old mid (Ok s)) where
     abbrev asked : Asked
-    asked = answer t midi grammar
+    asked = answer t i
 
     answered_rest : (new.files ≡ mid.files) × (new.strays ≡ mid.strays) × (new.shelf_faults ≡ mid.shelf_faults) → mid.built ≤ new.built → mid.multiplied ≤ new.multiplied
         → KeepsRest (Some asked) old new
@@ -132,7 +133,7 @@ module _ {S O E : Type 0} where
           ),
         )) (λ is. let none = memory is in let first = untouched old mid h.before.alone in (none.0 ∙ first.0, none.1 ∙ first.1));
         nothing = λ none _. absurd none;
-        built = script_built old.built mid new old.files midi t s.grammar s.performance e last more broken h.all;
+        built = script_built old.built mid new old.files i t s.grammar s.performance e last more broken h.all;
       };
       rest = answered_rest files built multiplied;
       err = let none = silent_alone old mid h.before.alone in (err.0 ∙ none.0, err.1 ∙ none.1, err.2 ∙ none.2);

@@ -8,6 +8,7 @@ use Rattle.command_line.specs.CommandLines.{invocation_of}
 use Rattle.command_line.specs.Numbers.{number_in}
 use Rattle.command_line.specs.declared.invocation.Invocation.{Invocation}
 use Rattle.command_line.specs.declared.invocation.Invocation.TheVariants as invocation
+use Rattle.rhythm_app.specs.Inputs.{Inputs, shown_inputs}
 use Rattle.rhythm_app.specs.declared.request.Form.{Form}
 use Rattle.rhythm_app.specs.declared.request.Form.TheVariants as form
 use Rattle.rhythm_app.specs.declared.request.Request.{Request}
@@ -21,11 +22,11 @@ use Rattle.rhythm_app.specs.declared.request.Talk.TheVariants as talk
 pub data Asked : Type 0 where
   help : Asked
   version : Asked
-  write : Form → List ℕ → List ℕ → Asked
-  answer : Talk → List ℕ → List ℕ → Asked
-  fit : List ℕ → List ℕ → Candidates → Asked
+  write : Form → Inputs → Asked
+  answer : Talk → Inputs → Asked
+  fit : Inputs → Candidates → Asked
   too_many_candidates : ℕ → Asked
-  follow : List ℕ → List ℕ → Asked
+  follow : Inputs → Asked
   notes : List ℕ → Asked
   events : List ℕ → Asked
   generate : ℕ → ℕ → Asked
@@ -43,6 +44,14 @@ of_two make [] = None
 of_two make (a ∷ []) = None
 of_two make (a ∷ b ∷ []) = make a b
 of_two make (a ∷ b ∷ c ∷ more) = None
+
+-- the names of a MIDI file and a grammar
+abbrev pub inputs_named : List ℕ → List ℕ → Inputs
+inputs_named midi grammar = record { midi = midi; grammar = grammar }
+
+-- a word and these names
+abbrev pub of_inputs : (Inputs → Asked) → List (List ℕ) → Option Asked
+of_inputs make = of_two (λ midi grammar. Some (make (inputs_named midi grammar)))
 
 -- a word and six more
 abbrev pub of_six : (List ℕ → List ℕ → List ℕ → List ℕ → List ℕ → List ℕ → Option Asked) → List (List ℕ) → Option Asked
@@ -73,12 +82,12 @@ candidates_by bar low high step =
     (number_in 0 LATEST_TICK low)) (number_in 0 MOST_BARS bar)
 
 -- at most 256 candidates are tried
-abbrev pub fit_of : List ℕ → List ℕ → Candidates → Asked
-fit_of midi grammar c = if nat_le (candidate_count c) MOST_CANDIDATES then fit midi grammar c else too_many_candidates (candidate_count c)
+abbrev pub fit_of : Inputs → Candidates → Asked
+fit_of i c = if nat_le (candidate_count c) MOST_CANDIDATES then fit i c else too_many_candidates (candidate_count c)
 
 -- two files, and the candidates of a barline
 abbrev pub fit_by : List ℕ → List ℕ → List ℕ → List ℕ → List ℕ → List ℕ → Option Asked
-fit_by midi grammar bar low high step = option_map (λ (c : Candidates). fit_of midi grammar c) (candidates_by bar low high step)
+fit_by midi grammar bar low high step = option_map (λ (c : Candidates). fit_of (inputs_named midi grammar) c) (candidates_by bar low high step)
 
 -- how a command is called: its word, what the words after it are, and what these ask for
 pub record Call : Type 0 where
@@ -92,13 +101,13 @@ call word after asked = record { word = word; after = after; asked = asked }
 -- the commands
 abbrev pub calls : List Call
 calls =
-    call (codes "transcribe") (codes "MIDI GRAMMAR") (of_two (λ a b. Some (write form.Score a b)))
-    ∷ call (codes "lily") (codes "MIDI GRAMMAR") (of_two (λ a b. Some (write form.Page a b)))
-    ∷ call (codes "render") (codes "MIDI GRAMMAR") (of_two (λ a b. Some (write form.Rendered a b)))
-    ∷ call (codes "edit") (codes "MIDI GRAMMAR") (of_two (λ a b. Some (answer talk.Editing a b)))
-    ∷ call (codes "studio") (codes "MIDI GRAMMAR") (of_two (λ a b. Some (answer talk.Studio a b)))
+    call (codes "transcribe") (codes "MIDI GRAMMAR") (of_inputs (write form.Score))
+    ∷ call (codes "lily") (codes "MIDI GRAMMAR") (of_inputs (write form.Page))
+    ∷ call (codes "render") (codes "MIDI GRAMMAR") (of_inputs (write form.Rendered))
+    ∷ call (codes "edit") (codes "MIDI GRAMMAR") (of_inputs (answer talk.Editing))
+    ∷ call (codes "studio") (codes "MIDI GRAMMAR") (of_inputs (answer talk.Studio))
     ∷ call (codes "fit") (codes "MIDI GRAMMAR BAR LOW HIGH STEP, with BAR from 0 to 4096, LOW and HIGH from 0 to 2000000000, LOW no more than HIGH, and STEP from 1 to 2000000000") (of_six fit_by)
-    ∷ call (codes "follow") (codes "MIDI GRAMMAR") (of_two (λ a b. Some (follow a b)))
+    ∷ call (codes "follow") (codes "MIDI GRAMMAR") (of_inputs follow)
     ∷ call (codes "notes") (codes "MIDI") (of_one (λ a. Some (notes a)))
     ∷ call (codes "events") (codes "KERN") (of_one (λ a. Some (events a)))
     ∷ call (codes "generate") (codes "NUMBER BARS, with NUMBER from 0 to 65534 and BARS from 1 to 2000") (of_two generate_by)
@@ -144,11 +153,11 @@ asked_by words = option_and_then asked_of (invocation_of words)
 abbrev pub shown_request : Request → Asked
 shown_request request.Help = help
 shown_request request.Version = version
-shown_request (request.Write form files) = write form files.midi.now files.grammar.now
-shown_request (request.Answer talk files) = answer talk files.midi.now files.grammar.now
-shown_request (request.Fit files among) = fit files.midi.now files.grammar.now among
+shown_request (request.Write form inputs) = write form (shown_inputs inputs)
+shown_request (request.Answer talk inputs) = answer talk (shown_inputs inputs)
+shown_request (request.Fit inputs among) = fit (shown_inputs inputs) among
 shown_request (request.TooManyCandidates count) = too_many_candidates count
-shown_request (request.Follow files) = follow files.midi.now files.grammar.now
+shown_request (request.Follow inputs) = follow (shown_inputs inputs)
 shown_request (request.Notes midi) = notes midi.now
 shown_request (request.Events kern) = events kern.now
 shown_request (request.Generate number bars) = generate number bars
@@ -163,7 +172,7 @@ pub record AreCandidates (c : Candidates) : Type 0 where
 
 -- the numbers of a request lie in their ranges
 abbrev pub IsRequestInRange : Request → Type 0
-IsRequestInRange (request.Fit files among) = AreCandidates among
+IsRequestInRange (request.Fit inputs among) = AreCandidates among
 IsRequestInRange (request.Generate number bars) = (number ≤ 65534) × (1 ≤ bars) × (bars ≤ 2000)
 IsRequestInRange (request.Drill number grammar) = number ≤ 65534
 IsRequestInRange _ = ⊤

@@ -9,9 +9,9 @@ use Rattle.barline_fit.specs.declared.fitted.Fitted.{Fitted}
 use Rattle.drill_run.specs.Ends.{HasDrilled, IsDrillBrokenOff}
 use Rattle.edit_session.specs.Opening.{cells_of}
 use Rattle.edit_session.specs.Prepared.{RisesBy}
-use Rattle.performance_load.specs.Loading.{IsLoaded}
-use Rattle.rhythm_app.specs.Commands.{Cells, no_cells, cells_in, cells_fitted, cells_followed, cells_drilled, file_content}
-use Rattle.rhythm_app.specs.Outcome.{IsPieceOf, IsUnderstood, midi_tests}
+use Rattle.rhythm_app.specs.Commands.{Cells, no_cells, cells_in, cells_fitted, cells_followed, cells_drilled}
+use Rattle.rhythm_app.specs.Inputs.{Inputs, file_content}
+use Rattle.rhythm_app.specs.Outcome.{AreInputs, IsPieceOf, IsUnderstood}
 use Rattle.rhythm_app.specs.declared.stop.Kind.TheVariants as kind
 use Rattle.rhythm_app.specs.declared.stop.Stop.{Stop}
 use Rattle.rhythm_app.specs.declared.stop.Stop.TheVariants.{FileTooLong, LineTooLong, NoDerivation, Read, ScoreTooLong, RenderTooLong, NoBarline, NoCandidate, Write, Memory}
@@ -19,27 +19,10 @@ use Rattle.rhythm_base.specs.Counter.{risen}
 use Rattle.rhythm_base.specs.Grammar.{Grammar}
 use Rattle.rhythm_base.specs.Performance.{Performance}
 use Rattle.rhythm_ports.specs.Files.{File}
-use Rattle.smf_reader.specs.Played.{Smf}
 
--- the performance that a MIDI file says
-abbrev pub IsPerformanceIn : List ℕ → Performance → Type 0
-IsPerformanceIn bytes p = (f : Smf) × (midi_tests bytes ≡ Ok f) × IsLoaded f p
-
--- all cells of that performance were built, each once
-abbrev pub AreAllBuilt : List ℕ → ℕ → ℕ → Type 0
-AreAllBuilt bytes old new = (p : Performance) × IsPerformanceIn bytes p × (new ≡ risen old (cells_of p))
-
--- no more of them were built
-abbrev pub AreSomeBuilt : List ℕ → ℕ → ℕ → Type 0
-AreSomeBuilt bytes old new = (p : Performance) × IsPerformanceIn bytes p × (new ≤ risen old (cells_of p))
-
--- at least all of them were built
-abbrev pub AreAllOrMoreBuilt : List ℕ → ℕ → ℕ → Type 0
-AreAllOrMoreBuilt bytes old new = (p : Performance) × IsPerformanceIn bytes p × (risen old (cells_of p) ≤ new)
-
--- a MIDI file and a grammar file say this grammar and this performance, and P holds of them
-abbrev pub ForInputs : List ℕ → List ℕ → (Grammar → Performance → Type 0) → Type 0
-ForInputs midi bytes P = (g : Grammar) × (p : Performance) × IsUnderstood bytes (Ok g) × IsPerformanceIn midi p × P g p
+-- inputs say this grammar and this performance, and P holds of them
+abbrev pub ForInputs : Inputs → List File → (Grammar → Performance → Type 0) → Type 0
+ForInputs i files P = (g : Grammar) × (p : Performance) × AreInputs i files (Ok (g, p)) × P g p
 
 -- the cells that a barline reaches at its candidates were built, one candidate after another
 abbrev pub HasTried : Candidates → Grammar → Performance → ℕ → ℕ → Type 0
@@ -72,9 +55,9 @@ AreDrilled bytes number said old new = ForPiece bytes number (λ g p. HasDrilled
 -- between them, and a drill those for its edits. A command that has no cells leaves the counter as it was
 abbrev pub HasBuiltAll : Cells → List File → ℕ → ℕ → Type 0
 HasBuiltAll no_cells files old new = new ≡ old
-HasBuiltAll (cells_in midi) files old new = AreAllBuilt (file_content files midi) old new
-HasBuiltAll (cells_fitted midi grammar c) files old new = ForInputs (file_content files midi) (file_content files grammar) (λ g p. HasFitted c g p (risen old (cells_of p)) new)
-HasBuiltAll (cells_followed midi) files old new = AreAllOrMoreBuilt (file_content files midi) old new
+HasBuiltAll (cells_in i) files old new = ForInputs i files (λ g p. new ≡ risen old (cells_of p))
+HasBuiltAll (cells_fitted i c) files old new = ForInputs i files (λ g p. HasFitted c g p (risen old (cells_of p)) new)
+HasBuiltAll (cells_followed i) files old new = ForInputs i files (λ g p. risen old (cells_of p) ≤ new)
 HasBuiltAll (cells_drilled number grammar) files old new = (text : List ℕ) × AreDrilled (file_content files grammar) number (Ok text) old new
 
 -- what holds of the cells by the stop: all of them are built where only a derivation is wanting, or the score or its MIDI file is too
@@ -91,11 +74,15 @@ MatchBuilds all some none (FileTooLong kind.Script _) = ⊤
 MatchBuilds all some none (LineTooLong _) = ⊤
 MatchBuilds all some none _ = none
 
--- the same of the cells of a MIDI file
-abbrev pub HasBuiltOf : Option (List File) → List ℕ → ℕ → ℕ → Stop → Type 0
-HasBuiltOf files midi old new =
-    MatchBuilds (ForSome files (λ files. AreAllBuilt (file_content files midi) old new))
-    ((new ≡ old) ⊎ ForSome files (λ files. AreSomeBuilt (file_content files midi) old new)) (new ≡ old)
+-- inputs say a grammar and a performance of which P holds, where the files are told
+abbrev pub OfInputs : Inputs → Option (List File) → (Grammar → Performance → Type 0) → Type 0
+OfInputs i files P = ForSome files (λ files. ForInputs i files P)
+
+-- the same of the cells of inputs
+abbrev pub HasBuiltOf : Inputs → Option (List File) → ℕ → ℕ → Stop → Type 0
+HasBuiltOf i files old new =
+    MatchBuilds (OfInputs i files (λ g p. new ≡ risen old (cells_of p))) ((new ≡ old) ⊎ OfInputs i files (λ g p. new ≤ risen old (cells_of p)))
+    (new ≡ old)
 
 -- what holds of the cells of a fit by the stop: all of the performance are built where a derivation or the barline is wanting, and those
 -- for the candidates too where no candidate is fitted; where the score is too long, those for it, too; some where memory is wanting
@@ -108,18 +95,16 @@ MatchFitted all tried fitted some none Memory = some
 MatchFitted all tried fitted some none Write = ⊤
 MatchFitted all tried fitted some none _ = none
 
--- the same of the fit of a barline of a MIDI file, by a grammar file
-abbrev pub HasFittedOf : Option (List File) → List ℕ → List ℕ → Candidates → ℕ → ℕ → Stop → Type 0
-HasFittedOf files midi grammar c old new =
-    MatchFitted (ForSome files (λ files. AreAllBuilt (file_content files midi) old new))
-    (ForSome files (λ files. ForInputs (file_content files midi) (file_content files grammar) (λ g p. HasTried c g p (risen old (cells_of p)) new)))
-    (ForSome files (λ files. ForInputs (file_content files midi) (file_content files grammar) (λ g p. HasFitted c g p (risen old (cells_of p)) new)))
-    ((new ≡ old) ⊎ ForSome files (λ files. ForInputs (file_content files midi) (file_content files grammar) (λ g p. AreSomeFitted c g p old new))) (new ≡ old)
+-- the same of the fit of a barline of inputs
+abbrev pub HasFittedOf : Inputs → Option (List File) → Candidates → ℕ → ℕ → Stop → Type 0
+HasFittedOf i files c old new =
+    MatchFitted (OfInputs i files (λ g p. new ≡ risen old (cells_of p))) (OfInputs i files (λ g p. HasTried c g p (risen old (cells_of p)) new))
+    (OfInputs i files (λ g p. HasFitted c g p (risen old (cells_of p)) new)) ((new ≡ old) ⊎ OfInputs i files (λ g p. AreSomeFitted c g p old new))
+    (new ≡ old)
 
 -- the same of barlines that follow the player: where memory is wanting, no more is said than that some are built
-abbrev pub HasFollowedOf : Option (List File) → List ℕ → ℕ → ℕ → Stop → Type 0
-HasFollowedOf files midi old new =
-    MatchBuilds (ForSome files (λ files. AreAllBuilt (file_content files midi) old new)) (old ≤ new) (new ≡ old)
+abbrev pub HasFollowedOf : Inputs → Option (List File) → ℕ → ℕ → Stop → Type 0
+HasFollowedOf i files old new = MatchBuilds (OfInputs i files (λ g p. new ≡ risen old (cells_of p))) (old ≤ new) (new ≡ old)
 
 -- what holds of the cells of a drill by the stop: as of those of a file, but where the last score is too long, those for the edits are
 -- built, too; and where memory is wanting, some of these may be
@@ -144,7 +129,7 @@ HasDrilledOf files number grammar old new =
 -- how many cells had been built when a run stopped: none by a command that has none
 abbrev pub HasBuilt : Cells → Option (List File) → ℕ → ℕ → Stop → Type 0
 HasBuilt no_cells files old new = λ stop. new ≡ old
-HasBuilt (cells_in midi) files old new = HasBuiltOf files midi old new
-HasBuilt (cells_fitted midi grammar c) files old new = HasFittedOf files midi grammar c old new
-HasBuilt (cells_followed midi) files old new = HasFollowedOf files midi old new
+HasBuilt (cells_in i) files old new = HasBuiltOf i files old new
+HasBuilt (cells_fitted i c) files old new = HasFittedOf i files c old new
+HasBuilt (cells_followed i) files old new = HasFollowedOf i files old new
 HasBuilt (cells_drilled number grammar) files old new = HasDrilledOf files number grammar old new

@@ -1,28 +1,27 @@
 -- The commands, a row each: the files that it reads, what it comes to by their bytes, and which cells it builds.
-use Rattle.std.specs.Prelude.{◌≡◌, ◌≢◌, ℕ, List, [], ◌∷◌, All, Result, Ok, Err, Option, Some, None, unwrap_or, ⊤}
+use Rattle.std.specs.Prelude.{◌≡◌, ◌≢◌, ℕ, List, [], ◌∷◌, All, Result, Ok, Err, Option, Some, None, ⊤}
 use Rattle.command_line.specs.Texts.{help_text, version_text}
 use Rattle.barline_fit.specs.declared.candidates.Candidates.{Candidates}
 use Rattle.rhythm_app.specs.Asked.{Asked, help, version, write, answer, fit, too_many_candidates, follow, notes, events, generate, drill, asked_by}
+use Rattle.rhythm_app.specs.Inputs.{Inputs, file_content}
 use Rattle.rhythm_app.specs.Outcome.{AreInTurn, AreFilesRead, IsAnswering, IsDrilling, IsFitting, IsFollowing, IsListing, IsLoading, IsPieceMade, IsNoting, IsRead, IsScoreRead, IsUnderstood, IsWriting, Ready, say}
 use Rattle.rhythm_app.specs.declared.stop.Kind.{Kind}
 use Rattle.rhythm_app.specs.declared.stop.Kind.TheVariants as kind
 use Rattle.rhythm_app.specs.declared.stop.Stop.{Stop}
 use Rattle.rhythm_app.specs.declared.stop.Stop.TheVariants.{TooManyCandidates, Usage}
+use Rattle.rhythm_base.specs.Grammar.{Grammar}
+use Rattle.rhythm_base.specs.Performance.{Performance}
 use Rattle.rhythm_gen.specs.MidiFile.{generated}
 use Rattle.rhythm_ports.specs.Files.{File, file_of}
 
--- the bytes under a name, none where there is no such file
-abbrev pub file_content : List File → List ℕ → List ℕ
-file_content files name = unwrap_or (file_of files name) []
-
--- which cells a command builds: none; those of the performance in a MIDI file; these, and by the grammar in a file those that a barline
--- reaches at its candidates; these, and those of the bars between other barlines; or those of the piece of a number, by the grammar in a
--- file, and those that its drill reaches
+-- which cells a command builds: none; those of the performance of its inputs; these, and those that a barline reaches at its candidates;
+-- these, and those of the bars between other barlines; or those of the piece of a number, by the grammar in a file, and those that its drill
+-- reaches
 pub data Cells : Type 0 where
   no_cells : Cells
-  cells_in : List ℕ → Cells
-  cells_fitted : List ℕ → List ℕ → Candidates → Cells
-  cells_followed : List ℕ → Cells
+  cells_in : Inputs → Cells
+  cells_fitted : Inputs → Candidates → Cells
+  cells_followed : Inputs → Cells
   cells_drilled : ℕ → List ℕ → Cells
 
 -- a file that a command reads: which input it is, and its name
@@ -43,30 +42,22 @@ pub record Command : Type 1 where
 abbrev pub only : List ℕ → List File → Result Ready Stop → Type 0
 only text files r = r ≡ Ok (say text)
 
+-- the files of inputs, in the order in which they are read
+abbrev pub input_files : Inputs → List Named
+input_files i = named kind.Midi i.midi ∷ named kind.Grammar i.grammar ∷ []
+
+-- a command on inputs, by what it comes to by the grammar and the performance that they say
+abbrev pub on_inputs : Inputs → (Grammar → Performance → Result Ready Stop → Type 0) → Cells → Command
+on_inputs i last cells = record { reads = input_files i; outcome = λ files. AreFilesRead i files last; cells = cells }
+
 abbrev pub command : Asked → Command
 command help = record { reads = []; outcome = only help_text; cells = no_cells }
 command version = record { reads = []; outcome = only version_text; cells = no_cells }
-command (write form midi grammar) = record {
-  reads = named kind.Midi midi ∷ named kind.Grammar grammar ∷ [];
-  outcome = λ files. AreFilesRead (file_content files midi) (file_content files grammar) (IsWriting form);
-  cells = cells_in midi;
-}
-command (answer talk midi grammar) = record {
-  reads = named kind.Midi midi ∷ named kind.Grammar grammar ∷ [];
-  outcome = λ files. AreFilesRead (file_content files midi) (file_content files grammar) (IsAnswering talk);
-  cells = cells_in midi;
-}
-command (fit midi grammar c) = record {
-  reads = named kind.Midi midi ∷ named kind.Grammar grammar ∷ [];
-  outcome = λ files. AreFilesRead (file_content files midi) (file_content files grammar) (IsFitting c);
-  cells = cells_fitted midi grammar c;
-}
+command (write form i) = on_inputs i (IsWriting form) (cells_in i)
+command (answer talk i) = on_inputs i (IsAnswering talk) (cells_in i)
+command (fit i c) = on_inputs i (IsFitting c) (cells_fitted i c)
 command (too_many_candidates count) = record { reads = []; outcome = λ files r. r ≡ Err (TooManyCandidates count); cells = no_cells }
-command (follow midi grammar) = record {
-  reads = named kind.Midi midi ∷ named kind.Grammar grammar ∷ [];
-  outcome = λ files. AreFilesRead (file_content files midi) (file_content files grammar) IsFollowing;
-  cells = cells_followed midi;
-}
+command (follow i) = on_inputs i IsFollowing (cells_followed i)
 command (notes midi) = record {
   reads = named kind.Midi midi ∷ [];
   outcome = λ files. AreInTurn (IsRead (file_content files midi)) (λ f. AreInTurn (IsLoading f) IsNoting);
@@ -91,13 +82,17 @@ cells_of_asked (Some asked) = (command asked).cells
 
 -- no script is read for it
 abbrev pub ReadsNoScript : Option Asked → Type 0
-ReadsNoScript (Some (answer talk midi grammar)) = ⊥
+ReadsNoScript (Some (answer talk i)) = ⊥
 ReadsNoScript _ = ⊤
+
+-- the files have each of these names
+abbrev pub HaveNames : List File → List Named → Type 0
+HaveNames files reads = All (λ (it : Named). file_of files it.name ≢ None) reads
 
 -- the files have every name of the command
 abbrev pub HasNames : List File → Option Asked → Type 0
 HasNames files None = ⊤
-HasNames files (Some asked) = All (λ (it : Named). file_of files it.name ≢ None) (command asked).reads
+HasNames files (Some asked) = HaveNames files (command asked).reads
 
 -- ---- outcomes
 

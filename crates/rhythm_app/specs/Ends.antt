@@ -5,7 +5,8 @@ use Rattle.std.specs.Option.{ForSome}
 use Rattle.edit_session.specs.Opening.{cells_of}
 use Rattle.rhythm_app.specs.Asked.{Asked}
 use Rattle.rhythm_app.specs.Builds.{HasBuilt, HasBuiltAll}
-use Rattle.rhythm_app.specs.Commands.{HasNames, HasOutcome, HasOutcomeOf, Named, ReadsNoScript, cells_of_asked, command, file_content}
+use Rattle.rhythm_app.specs.Commands.{HasNames, HasOutcome, HasOutcomeOf, Named, ReadsNoScript, cells_of_asked, command}
+use Rattle.rhythm_app.specs.Inputs.{file_content}
 use Rattle.rhythm_app.specs.Lent.{Lent}
 use Rattle.rhythm_app.specs.Outcome.{Ready, say, serve, grammar_tests, kern_tests, midi_tests}
 use Rattle.rhythm_app.specs.Stops.{status_of, stop_line, script_stop}
@@ -106,6 +107,13 @@ Passes kind.Script bytes = ⊤
 abbrev pub ComesTo : List File → Kind → List Named → Type 0
 ComesTo files kind [] = ⊥
 ComesTo files kind (it ∷ more) = (it.kind ≡ kind) ⊎ (Passes it.kind (file_content files it.name) × ComesTo files kind more)
+
+-- want of memory, or a failed read of one of the files, where all before it pass their tests
+abbrev pub IsReadFailure : List Named → List File → Stop → Type 0
+IsReadFailure reads files (Read kind.Script) = ⊥
+IsReadFailure reads files (Read kind) = ComesTo files kind reads
+IsReadFailure reads files Memory = ⊤
+IsReadFailure reads files _ = ⊥
 
 -- the tests that come before the reading of a file, or of the script, pass
 abbrev pub Reached : Option Asked → List File → Kind → Type 0

@@ -2,6 +2,7 @@ pub mod Asked
 pub mod Builds
 pub mod Commands
 pub mod Ends
+pub mod Inputs
 pub mod Laws
 pub mod Lent
 pub mod Outcome

@@ -33,6 +33,7 @@ use Rattle.performance_load.specs.Loading.{Loads}
 use Rattle.performance_load.specs.declared.load_fault.LoadFault.{LoadFault}
 use Rattle.performance_load.specs.declared.load_fault.LoadFault.TheVariants as loading
 use Rattle.piece_laws.specs.Laws.{IsLoadingOf}
+use Rattle.rhythm_app.specs.Inputs.{Inputs, file_content}
 use Rattle.rhythm_app.specs.declared.request.Form.{Form}
 use Rattle.rhythm_app.specs.declared.request.Form.TheVariants as form
 use Rattle.rhythm_app.specs.declared.request.Talk.{Talk}
@@ -46,6 +47,7 @@ use Rattle.rhythm_base.specs.Performance.{IsWellFormed, Performance}
 use Rattle.rhythm_base.specs.declared.bar_fault.BarFault.TheVariants as laying
 use Rattle.rhythm_base.specs.declared.edit.Edit.{Edit}
 use Rattle.rhythm_base.specs.declared.limits.TheConstants.{LONGEST_GRAMMAR, LONGEST_MIDI, LONGEST_SCORE, LONGEST_SCRIPT}
+use Rattle.rhythm_ports.specs.Files.{File}
 use Rattle.script_writer.specs.EditText.{script_text}
 use Rattle.smf_reader.specs.Played.{Smf}
 use Rattle.smf_reader.specs.SmfFile.{smf}
@@ -279,11 +281,12 @@ abbrev pub AreInTurn : {T U : Type 0} → (Result T Stop → Type 0) → (T → 
 AreInTurn {T} first next (Ok y) = (x : T) × first (Ok x) × next x (Ok y)
 AreInTurn {T} first next (Err s) = first (Err s) ⊎ ((x : T) × first (Ok x) × next x (Err s))
 
--- what the bytes of a MIDI file and a grammar file come to: the grammar and the performance that they say
-abbrev pub AreInputs : List ℕ → List ℕ → Result (Grammar × Performance) Stop → Type 0
-AreInputs midi grammar =
-    AreInTurn (IsRead midi) (λ f. AreInTurn (IsUnderstood grammar) (λ g. AreInTurn (IsLoading f) (λ p r. r ≡ Ok (g, p))))
+-- what inputs come to by the files: the grammar and the performance that they say
+abbrev pub AreInputs : Inputs → List File → Result (Grammar × Performance) Stop → Type 0
+AreInputs i files =
+    AreInTurn (IsRead (file_content files i.midi))
+    (λ f. AreInTurn (IsUnderstood (file_content files i.grammar)) (λ g. AreInTurn (IsLoading f) (λ p r. r ≡ Ok (g, p))))
 
 -- what they come to by what is asked of the grammar and the performance
-abbrev pub AreFilesRead : List ℕ → List ℕ → (Grammar → Performance → Result Ready Stop → Type 0) → Result Ready Stop → Type 0
-AreFilesRead midi grammar last = AreInTurn (AreInputs midi grammar) (λ inputs. last inputs.0 inputs.1)
+abbrev pub AreFilesRead : Inputs → List File → (Grammar → Performance → Result Ready Stop → Type 0) → Result Ready Stop → Type 0
+AreFilesRead i files last = AreInTurn (AreInputs i files) (λ inputs. last inputs.0 inputs.1)

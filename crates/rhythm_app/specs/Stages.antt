@@ -1,5 +1,5 @@
 -- How one stage of a command may end.
-use Rattle.std.specs.Prelude.{◌≡◌, ◌≢◌, ℕ, ◌≤◌, ◌⊎◌, List, length, IfErr, IfOk, Option, None, Result, Ok, Err, IsOk, Vec, ⊤}
+use Rattle.std.specs.Prelude.{◌≡◌, ◌≢◌, ℕ, ◌≤◌, ◌⊎◌, List, length, IfErr, IfOk, Option, None, Result, Ok, Err, Vec, ⊤}
 use Rattle.std.specs.Io.KnownBytes.{Appends}
 use Rattle.std.specs.Option.{ForSome}
 use Rattle.edit_session.specs.Opening.{cells_of}
@@ -12,11 +12,12 @@ use Rattle.rhythm_base.specs.Readable.{IsReadable}
 use Rattle.rhythm_base.specs.declared.limits.TheConstants.{MOST_NOTES}
 use Rattle.rhythm_ports.specs.Files.{file_of}
 use Rattle.rhythm_app.specs.Asked.{Asked}
-use Rattle.rhythm_app.specs.Builds.{HasBuilt, HasBuiltAll, IsPerformanceIn}
-use Rattle.rhythm_app.specs.Commands.{HasNames, HasOutcomeOf, cells_of_asked, file_content, no_cells}
-use Rattle.rhythm_app.specs.Ends.{AppendsPart, IsCauseOf}
+use Rattle.rhythm_app.specs.Builds.{HasBuilt, HasBuiltAll}
+use Rattle.rhythm_app.specs.Commands.{HasNames, HasOutcomeOf, HaveNames, cells_of_asked, input_files, no_cells}
+use Rattle.rhythm_app.specs.Ends.{AppendsPart, IsCauseOf, IsReadFailure}
+use Rattle.rhythm_app.specs.Inputs.{Inputs, file_content}
 use Rattle.rhythm_app.specs.Lent.{Lent}
-use Rattle.rhythm_app.specs.Outcome.{AreInputs, IsUnderstood, Ready, say, serve, midi_tests}
+use Rattle.rhythm_app.specs.Outcome.{AreInputs, IsUnderstood, Ready, say, serve}
 use Rattle.rhythm_app.specs.declared.request.Talk.{Talk}
 use Rattle.rhythm_app.specs.declared.stop.Kind.{Kind}
 use Rattle.rhythm_app.specs.declared.stop.Kind.TheVariants as kind
@@ -85,13 +86,6 @@ abbrev pub said_of : {A E : Type 0} → Result (Vec ℕ A) E → Result Ready E
 said_of (Ok v) = Ok (say v.items)
 said_of (Err e) = Err e
 
--- want of memory or a failed read of the files: of the grammar file only where the MIDI file passed its tests
-abbrev pub IsReadFailure : List ℕ → Stop → Type 0
-IsReadFailure midi (Read kind.Midi) = ⊤
-IsReadFailure midi (Read kind.Grammar) = IsOk (midi_tests midi)
-IsReadFailure midi Memory = ⊤
-IsReadFailure midi _ = ⊥
-
 -- what comes before anything is written ends by no failed write, by no refused words, and not by the script
 abbrev pub EndsReading : ℕ → ℕ → Stop → Type 0
 EndsReading before now (Read kind.Script) = ⊥
@@ -126,17 +120,15 @@ pub record IsStoppedBefore {S O E : Type 0} (asked : Option Asked) (old new : Le
 abbrev pub ReadsShelf : {S O E : Type 0} → Lent S O E → Lent S O E → Type 0
 ReadsShelf old new = new ≡ record old { strays = new.strays; shelf_faults = new.shelf_faults }
 
--- what the files of these names say is had: a grammar and a performance
-pub record HasInputs {S O E : Type 0} (midi grammar : List ℕ) (old new : Lent S O E) (result : Result (Grammar × Performance) Stop) : Type 0 where
-  pub tests : ForSome old.files (λ files. Follows (AreInputs (file_content files midi) (file_content files grammar)) result)
-  pub cause : IfErr result (λ stop. ForSome old.files (λ files.
-      AreInputs (file_content files midi) (file_content files grammar) (Err stop) ⊎ IsReadFailure (file_content files midi) stop))
+-- what the inputs say is had: a grammar and a performance
+pub record HasInputs {S O E : Type 0} (i : Inputs) (old new : Lent S O E) (result : Result (Grammar × Performance) Stop) : Type 0 where
+  pub tests : ForSome old.files (λ files. Follows (AreInputs i files) result)
+  pub cause : IfErr result (λ stop. ForSome old.files (λ files. AreInputs i files (Err stop) ⊎ IsReadFailure (input_files i) files stop))
   pub readable : IfOk result (λ inputs. IsReadable inputs.0)
   pub few_notes : IfOk result (λ inputs. length inputs.1.notes ≤ MOST_NOTES)
-  pub loaded : IfOk result (λ inputs. ForSome old.files (λ files. IsPerformanceIn (file_content files midi) inputs.1))
   pub end : IfErr result (EndsReading old.shelf_faults new.shelf_faults)
   pub early : IfErr result IsEarly
-  pub strays : ForSome old.files (λ files. file_of files midi ≢ None → file_of files grammar ≢ None → new.strays ≡ old.strays)
+  pub strays : ForSome old.files (λ files. HaveNames files (input_files i) → new.strays ≡ old.strays)
   pub reads : ReadsShelf old new
 
 -- what the grammar file of this name says is had

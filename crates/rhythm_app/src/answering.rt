@@ -1,5 +1,6 @@
 ghost use Rattle.rhythm_app.specs.Asked.{answer};
 ghost use Rattle.rhythm_app.specs.Ends.{IsBrokenOff, IsTalkDone, IsPerformed, IsErrUntouched, IsUntouched, desk_of};
+ghost use Rattle.rhythm_app.specs.Inputs.{shown_inputs};
 ghost use Rattle.rhythm_app.specs.Stages.{HasSession};
 ghost use Rattle.rhythm_app.specs.Stops.{script_stop};
 ghost use Rattle.rhythm_base.specs.Counter.{risen};
@@ -11,7 +12,7 @@ ghost use Rattle.std.specs.Prelude.{◌≡◌, ◌≤◌, Err, IfErr, IfOk, OnOk
 
 use crate::inputs::read_inputs;
 use crate::lent::{Lent, World};
-use crate::request::{FileNames, Talk};
+use crate::request::{Inputs, Talk};
 use crate::session::open_session;
 use crate::stop::{Kind, Stop};
 use edit_session::Session;
@@ -40,13 +41,13 @@ fn session_of<W: World>(
     lent: &mut Lent<W>,
     workers: u32,
     talk: Talk,
-    names: FileNames,
+    inputs: Inputs,
 ) -> Result<Session, Stop>
     requires some_worker { 1 ≤ workers }
     requires few_workers { workers ≤ 16 }
-    ensures { HasSession (Some (answer talk names.entry.midi.now names.entry.grammar.now)) talk lent.old lent.new result }
+    ensures { HasSession (Some (answer talk (shown_inputs inputs.entry))) talk lent.old lent.new result }
 {
-    match read_inputs(lent, names) {
+    match read_inputs(lent, inputs) {
         Ok((grammar, performance)) => open_session(lent, workers, grammar, performance),
         Err(stop) => Err(stop),
     }
@@ -101,13 +102,13 @@ pub fn answer<W: World>(
     lent: &mut Lent<W>,
     workers: u32,
     talk: Talk,
-    names: FileNames,
+    inputs: Inputs,
 ) -> Result<(), Stop>
     requires some_worker { 1 ≤ workers }
     requires few_workers { workers ≤ 16 }
-    ensures { IsPerformed (Some (answer talk names.entry.midi.now names.entry.grammar.now)) lent.old lent.new result }
+    ensures { IsPerformed (Some (answer talk (shown_inputs inputs.entry))) lent.old lent.new result }
 {
-    match session_of(lent, workers, talk, names) {
+    match session_of(lent, workers, talk, inputs) {
         Ok(session) => match talk_over(lent, talk, session) {
             Ok(()) => Ok(()),
             Err(stop) => Err(script_stop(stop)),

@@ -1,4 +1,4 @@
-ghost use Rattle.rhythm_app.specs.Commands.{file_content};
+ghost use Rattle.rhythm_app.specs.Inputs.{file_content};
 ghost use Rattle.rhythm_app.specs.Outcome.{IsRead, IsScoreRead, IsUnderstood, limit_of, sized, stopped};
 ghost use Rattle.rhythm_app.specs.Stages.{EndsBy, Follows, IsEarly, IsOfContent, items_of};
 ghost use Rattle.rhythm_app.specs.declared.stop.Kind.TheVariants as kind;

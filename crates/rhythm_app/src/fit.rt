@@ -7,6 +7,7 @@ ghost use Rattle.edit_session.specs.Opening.{CanOpen, cells_of};
 ghost use Rattle.edit_session.specs.Prepared.{RisesBy};
 ghost use Rattle.rhythm_app.specs.Asked.{AreCandidates, fit};
 ghost use Rattle.rhythm_app.specs.Builds.{AreSomeFitted, HasFitted, HasPartlyFitted, HasTried, MatchFitted};
+ghost use Rattle.rhythm_app.specs.Inputs.{shown_inputs};
 ghost use Rattle.rhythm_app.specs.Outcome.{IsFitting, fit_line, fit_stop, fit_text};
 ghost use Rattle.rhythm_app.specs.Stages.{CountsAlone, Follows, HasText, IsOfContent, said_of};
 ghost use Rattle.rhythm_app.specs.declared.stop.Stop.TheVariants as stop;
@@ -17,7 +18,7 @@ ghost use Rattle.std.specs.Prelude.{◌≡◌, ◌≢◌, ◌≤◌, ◌⊎◌, 
 
 use crate::inputs::read_inputs;
 use crate::lent::{Lent, World};
-use crate::request::FileNames;
+use crate::request::Inputs;
 use crate::session::open_session;
 use crate::stop::Stop;
 use barline_fit::{
@@ -206,15 +207,15 @@ fn fitted_by<W: World>(
 pub fn fit_text_of<W: World>(
     lent: &mut Lent<W>,
     workers: u32,
-    names: FileNames,
+    inputs: Inputs,
     among: Candidates,
 ) -> Result<Vec<u8>, Stop>
     requires some_worker { 1 ≤ workers }
     requires few_workers { workers ≤ 16 }
     requires tried { AreCandidates among }
-    ensures { HasText (Some (fit names.entry.midi.now names.entry.grammar.now among)) lent.old lent.new result }
+    ensures { HasText (Some (fit (shown_inputs inputs.entry) among)) lent.old lent.new result }
 {
-    match read_inputs(lent, names) {
+    match read_inputs(lent, inputs) {
         Ok((grammar, performance)) => fitted_by(lent, workers, among, grammar, performance),
         Err(stop) => Err(stop),
     }

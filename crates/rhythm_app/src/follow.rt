@@ -1,6 +1,7 @@
 ghost use Rattle.edit_session.specs.Opening.{CanOpen, cells_of};
 ghost use Rattle.rhythm_app.specs.Asked.{follow};
 ghost use Rattle.rhythm_app.specs.Builds.{MatchBuilds};
+ghost use Rattle.rhythm_app.specs.Inputs.{shown_inputs};
 ghost use Rattle.rhythm_app.specs.Outcome.{IsFollowing};
 ghost use Rattle.rhythm_app.specs.Stages.{CountsAlone, Follows, HasText, IsOfContent, said_of};
 ghost use Rattle.rhythm_app.specs.declared.stop.Stop.TheVariants as stop;
@@ -11,7 +12,7 @@ ghost use Rattle.std.specs.Prelude.{◌≡◌, ◌≤◌, IfErr, OnOk, Some, len
 
 use crate::inputs::read_inputs;
 use crate::lent::{Lent, World};
-use crate::request::FileNames;
+use crate::request::Inputs;
 use crate::session::open_session;
 use crate::stop::Stop;
 use barline_follow::follow;
@@ -75,13 +76,13 @@ fn followed_by<W: World>(
 pub fn follow_text<W: World>(
     lent: &mut Lent<W>,
     workers: u32,
-    names: FileNames,
+    inputs: Inputs,
 ) -> Result<Vec<u8>, Stop>
     requires some_worker { 1 ≤ workers }
     requires few_workers { workers ≤ 16 }
-    ensures { HasText (Some (follow names.entry.midi.now names.entry.grammar.now)) lent.old lent.new result }
+    ensures { HasText (Some (follow (shown_inputs inputs.entry))) lent.old lent.new result }
 {
-    match read_inputs(lent, names) {
+    match read_inputs(lent, inputs) {
         Ok((grammar, performance)) => followed_by(lent, workers, grammar, performance),
         Err(stop) => Err(stop),
     }

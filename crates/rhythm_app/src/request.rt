@@ -1,5 +1,6 @@
 ghost use Rattle.command_line.specs.CommandLines.{HasWorkers};
 ghost use Rattle.rhythm_app.specs.Asked.{AreCandidates, IsCommandWord, IsRequestInRange, asked_of, candidate_count, candidates_by, command_by, drill_by, fit_by, fit_of, generate_by, in_order, shown_request, words_after, workers_asked};
+ghost use Rattle.rhythm_app.specs.Inputs.{shown_inputs};
 ghost use Rattle.rhythm_base.specs.declared.limits.TheConstants.{LATEST_TICK};
 ghost use Rattle.std.specs.Prelude.{◌≡◌, ◌≤◌, ◌↔◌, ◌∷◌, [], IfSome, IsSome, Some, option_map};
 
@@ -7,9 +8,9 @@ use barline_fit::{Candidates, MOST_CANDIDATES};
 use command_line::{Invocation, number_in};
 use rhythm_base::{LATEST_TICK, MOST_BARS, Words};
 
-/// The names of the two files of a command.
+/// The inputs of a command on a MIDI file and a grammar: the names of its files.
 #[derive(Clone, Copy)]
-pub struct FileNames<'a> {
+pub struct Inputs<'a> {
     pub midi: &'a str,
     pub grammar: &'a str,
 }
@@ -42,12 +43,12 @@ pub enum Request<'a> {
     /// The name of the program and its version.
     Version,
     /// A text of the session on a MIDI file and a grammar.
-    Write(Form, FileNames<'a>),
+    Write(Form, Inputs<'a>),
     /// The replies to a script over the session on a MIDI file and a grammar.
-    Answer(Talk, FileNames<'a>),
+    Answer(Talk, Inputs<'a>),
     /// The best tick for a barline of the session on a MIDI file and a grammar, and the score with the barline there.
     Fit {
-        files: FileNames<'a>,
+        inputs: Inputs<'a>,
         among: Candidates,
     },
     /// The same, of too many ticks: this many.
@@ -55,7 +56,7 @@ pub enum Request<'a> {
         count: u64,
     },
     /// The script that moves the barlines of a MIDI file to those that follow the player, by a grammar.
-    Follow(FileNames<'a>),
+    Follow(Inputs<'a>),
     /// The bars, tempos, keys and notes of a MIDI file.
     Notes(&'a str),
     /// The events of a **kern file.
@@ -128,22 +129,22 @@ fn request_of_two<'a>(word: &'a str, first: &'a str, second: &'a str) -> Option<
     ensures asked { option_map shown_request result ≡ command_by (word.entry.now ∷ first.entry.now ∷ second.entry.now ∷ []) }
     ensures range { IfSome result IsRequestInRange }
 {
-    let files = FileNames {
+    let inputs = Inputs {
         midi: first,
         grammar: second,
     };
     if word == "transcribe" {
-        Some(Request::Write(Form::Score, files))
+        Some(Request::Write(Form::Score, inputs))
     } else if word == "lily" {
-        Some(Request::Write(Form::Page, files))
+        Some(Request::Write(Form::Page, inputs))
     } else if word == "render" {
-        Some(Request::Write(Form::Rendered, files))
+        Some(Request::Write(Form::Rendered, inputs))
     } else if word == "edit" {
-        Some(Request::Answer(Talk::Editing, files))
+        Some(Request::Answer(Talk::Editing, inputs))
     } else if word == "studio" {
-        Some(Request::Answer(Talk::Studio, files))
+        Some(Request::Answer(Talk::Studio, inputs))
     } else if word == "follow" {
-        Some(Request::Follow(files))
+        Some(Request::Follow(inputs))
     } else if word == "generate" {
         generate_request(first, second)
     } else if word == "drill" {
@@ -186,16 +187,16 @@ fn candidates_of(bar: &str, low: &str, high: &str, step: &str) -> Option<Candida
 }
 
 /// The fit of a barline, where there are not too many candidates.
-fn fit_request<'a>(files: FileNames<'a>, among: Candidates) -> Request<'a>
+fn fit_request<'a>(inputs: Inputs<'a>, among: Candidates) -> Request<'a>
     requires order { among.low ≤ among.high }
     requires high { among.high ≤ LATEST_TICK }
     requires step { 1 ≤ among.step }
-    ensures asked { shown_request result ≡ fit_of files.entry.midi.now files.entry.grammar.now among }
+    ensures asked { shown_request result ≡ fit_of (shown_inputs inputs.entry) among }
     ensures range { IsRequestInRange result }
 {
     let count = among.count();
     if count <= MOST_CANDIDATES {
-        Request::Fit { files, among }
+        Request::Fit { inputs, among }
     } else {
         Request::TooManyCandidates { count }
     }
@@ -204,19 +205,19 @@ fn fit_request<'a>(files: FileNames<'a>, among: Candidates) -> Request<'a>
 /// The command of a word, two files and four numbers.
 fn request_of_six<'a>(
     word: &'a str,
-    files: FileNames<'a>,
+    inputs: Inputs<'a>,
     bar: &'a str,
     low: &'a str,
     high: &'a str,
     step: &'a str,
 ) -> Option<Request<'a>>
     ensures asked { option_map shown_request result
-        ≡ command_by (word.entry.now ∷ files.entry.midi.now ∷ files.entry.grammar.now ∷ bar.entry.now ∷ low.entry.now ∷ high.entry.now ∷ step.entry.now ∷ []) }
+        ≡ command_by (word.entry.now ∷ inputs.entry.midi.now ∷ inputs.entry.grammar.now ∷ bar.entry.now ∷ low.entry.now ∷ high.entry.now ∷ step.entry.now ∷ []) }
     ensures range { IfSome result IsRequestInRange }
 {
     if word == "fit" {
         match candidates_of(bar, low, high, step) {
-            Some(among) => Some(fit_request(files, among)),
+            Some(among) => Some(fit_request(inputs, among)),
             None => None,
         }
     } else {
@@ -238,7 +239,7 @@ fn command_of<'a>(words: &'a Words) -> Option<Request<'a>>
             request_of_two(word, first, second)
         }
         7 => {
-            let files = FileNames {
+            let inputs = Inputs {
                 midi: first,
                 grammar: words.get(2)?,
             };
@@ -246,7 +247,7 @@ fn command_of<'a>(words: &'a Words) -> Option<Request<'a>>
             let low = words.get(4)?;
             let high = words.get(5)?;
             let step = words.get(6)?;
-            request_of_six(word, files, bar, low, high, step)
+            request_of_six(word, inputs, bar, low, high, step)
         }
         _ => None,
     }

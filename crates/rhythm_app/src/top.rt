@@ -75,18 +75,18 @@ fn perform<W: World>(lent: &mut Lent<W>, said: &Invocation) -> Result<(), Stop>
             let text = version(lent);
             finish(lent, text)
         }
-        Some(Request::Write(form, names)) => {
-            let text = session_text(lent, workers, form, names);
+        Some(Request::Write(form, inputs)) => {
+            let text = session_text(lent, workers, form, inputs);
             finish(lent, text)
         }
-        Some(Request::Answer(talk, names)) => answer(lent, workers, talk, names),
-        Some(Request::Fit { files, among }) => {
-            let text = fit_text_of(lent, workers, files, among);
+        Some(Request::Answer(talk, inputs)) => answer(lent, workers, talk, inputs),
+        Some(Request::Fit { inputs, among }) => {
+            let text = fit_text_of(lent, workers, inputs, among);
             finish(lent, text)
         }
         Some(Request::TooManyCandidates { count }) => Err(Stop::TooManyCandidates { count }),
-        Some(Request::Follow(names)) => {
-            let text = follow_text(lent, workers, names);
+        Some(Request::Follow(inputs)) => {
+            let text = follow_text(lent, workers, inputs);
             finish(lent, text)
         }
         Some(Request::Notes(midi)) => {

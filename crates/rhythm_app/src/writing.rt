@@ -3,6 +3,7 @@ ghost use Rattle.kern_reader.specs.Outcome.{score_of};
 ghost use Rattle.kern_reader.specs.Score.{KernColumns};
 ghost use Rattle.rhythm_app.specs.Asked.{write};
 ghost use Rattle.rhythm_app.specs.Builds.{MatchBuilds};
+ghost use Rattle.rhythm_app.specs.Inputs.{shown_inputs};
 ghost use Rattle.rhythm_app.specs.Outcome.{AreEventsOf, IsKernTextOf, IsTooLongToWrite, IsWriting, render_stop};
 ghost use Rattle.rhythm_app.specs.Stages.{CountsAlone, Follows, HasText, IsOfContent, IsOfWriting, said_of};
 ghost use Rattle.rhythm_app.specs.declared.request.Form.TheVariants as form;
@@ -15,7 +16,7 @@ ghost use Rattle.std.specs.Prelude.{◌≡◌, ◌≤◌, ◌⊎◌, IfErr, IfOk
 
 use crate::inputs::read_inputs;
 use crate::lent::{Lent, World};
-use crate::request::{FileNames, Form};
+use crate::request::{Form, Inputs};
 use crate::session::open_session;
 use crate::stop::Stop;
 use edit_session::{ScoreFault, Session};
@@ -187,13 +188,13 @@ pub fn session_text<W: World>(
     lent: &mut Lent<W>,
     workers: u32,
     form: Form,
-    names: FileNames,
+    inputs: Inputs,
 ) -> Result<Vec<u8>, Stop>
     requires some_worker { 1 ≤ workers }
     requires few_workers { workers ≤ 16 }
-    ensures { HasText (Some (write form names.entry.midi.now names.entry.grammar.now)) lent.old lent.new result }
+    ensures { HasText (Some (write form (shown_inputs inputs.entry))) lent.old lent.new result }
 {
-    match read_inputs(lent, names) {
+    match read_inputs(lent, inputs) {
         Ok((grammar, performance)) => text_by(lent, workers, form, grammar, performance),
         Err(stop) => Err(stop),
     }

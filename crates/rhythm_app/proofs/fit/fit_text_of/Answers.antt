@@ -1,11 +1,12 @@
+use Rattle.rhythm_app.specs.Inputs.{shown_inputs}
 use Rattle.rhythm_app.proofs.Fitting.{fit_had, unread_fit}
 use Rattle.rhythm_app.proofs.fit.fit_text_of.Goals as goal
 
 pub returns-in-Ok : goal.returns-in-Ok
 returns-in-Ok g c =
     let said = c.fitted_by.ensures in
-    fit_had c.args.names.midi.now c.args.names.grammar.now c.args.among c.args.lent.now c.read_inputs.new.lent c.in-Ok.grammar c.in-Ok.performance c.in-Ok.ensures c.fitted_by.new.lent c.fitted_by.result
+    fit_had (shown_inputs c.args.inputs) c.args.among c.args.lent.now c.read_inputs.new.lent c.in-Ok.grammar c.in-Ok.performance c.in-Ok.ensures c.fitted_by.new.lent c.fitted_by.result
     said.tests said.content said.all said.built said.rises said.multiplies said.counts
 
 pub returns-in-Err : goal.returns-in-Err
-returns-in-Err g c = unread_fit c.args.names.midi.now c.args.names.grammar.now c.args.among c.args.lent.now c.read_inputs.new.lent c.in-Err.stop c.in-Err.ensures
+returns-in-Err g c = unread_fit (shown_inputs c.args.inputs) c.args.among c.args.lent.now c.read_inputs.new.lent c.in-Err.stop c.in-Err.ensures

@@ -1,7 +1,8 @@
 use Rattle.std.proofs.Common.{◌≢◌, ◌∙◌, ap, arith, inl, refl, Err, Some}
 use Rattle.std.proofs.lemmas.Result.{err_from_is_err_and}
 use Rattle.rhythm_app.specs.Asked.{notes}
-use Rattle.rhythm_app.specs.Commands.{file_content, named}
+use Rattle.rhythm_app.specs.Commands.{named}
+use Rattle.rhythm_app.specs.Inputs.{file_content}
 use Rattle.rhythm_app.specs.Outcome.{IsRead}
 use Rattle.rhythm_app.specs.declared.stop.Kind.TheVariants as kind
 use Rattle.rhythm_app.proofs.Noting.{noted}

@@ -1,5 +1,6 @@
 use Rattle.std.proofs.Common.{ap, sym, Some, ◌∙◌}
 use Rattle.rhythm_app.specs.Asked.{asked_of, answer, drill, events, fit, follow, generate, help, notes, shown_request, too_many_candidates, version, write}
+use Rattle.rhythm_app.specs.Inputs.{shown_inputs}
 use Rattle.rhythm_app.specs.declared.request.Request.{Request}
 use Rattle.rhythm_app.proofs.Requests.{performed_as, too_many_asked, usage_as}
 use Rattle.rhythm_app.proofs.top.perform.Goals as goal
@@ -26,23 +27,23 @@ returns-in-Some-Version-clause-performed g c =
 
 pub returns-in-Some-Write-clause-usage : goal.returns-in-Some-Write-clause-usage
 returns-in-Some-Write-clause-usage g c =
-    usage_as c.args.lent.now c.finish-in-Some-Write.new.lent c.finish-in-Some-Write.result (write c.in-Some-Write.form c.in-Some-Write.names.midi.now c.in-Some-Write.names.grammar.now) (asked_of c.args.said.now) (ap (λ (r : Request). Some (shown_request r)) (sym c.in-Some-Write.field-0-is) ∙ c.in-Some-Write.ensures.asked)
-    (c.finish-in-Some-Write.ensures (Some (write c.in-Some-Write.form c.in-Some-Write.names.midi.now c.in-Some-Write.names.grammar.now)) c.args.lent.now c.session_text-text.ensures)
+    usage_as c.args.lent.now c.finish-in-Some-Write.new.lent c.finish-in-Some-Write.result (write c.in-Some-Write.form (shown_inputs c.in-Some-Write.inputs)) (asked_of c.args.said.now) (ap (λ (r : Request). Some (shown_request r)) (sym c.in-Some-Write.field-0-is) ∙ c.in-Some-Write.ensures.asked)
+    (c.finish-in-Some-Write.ensures (Some (write c.in-Some-Write.form (shown_inputs c.in-Some-Write.inputs))) c.args.lent.now c.session_text-text.ensures)
 
 pub returns-in-Some-Write-clause-performed : goal.returns-in-Some-Write-clause-performed
 returns-in-Some-Write-clause-performed g c =
-    performed_as c.args.lent.now c.finish-in-Some-Write.new.lent c.finish-in-Some-Write.result (Some (write c.in-Some-Write.form c.in-Some-Write.names.midi.now c.in-Some-Write.names.grammar.now)) (asked_of c.args.said.now) (ap (λ (r : Request). Some (shown_request r)) (sym c.in-Some-Write.field-0-is) ∙ c.in-Some-Write.ensures.asked)
-    (c.finish-in-Some-Write.ensures (Some (write c.in-Some-Write.form c.in-Some-Write.names.midi.now c.in-Some-Write.names.grammar.now)) c.args.lent.now c.session_text-text.ensures)
+    performed_as c.args.lent.now c.finish-in-Some-Write.new.lent c.finish-in-Some-Write.result (Some (write c.in-Some-Write.form (shown_inputs c.in-Some-Write.inputs))) (asked_of c.args.said.now) (ap (λ (r : Request). Some (shown_request r)) (sym c.in-Some-Write.field-0-is) ∙ c.in-Some-Write.ensures.asked)
+    (c.finish-in-Some-Write.ensures (Some (write c.in-Some-Write.form (shown_inputs c.in-Some-Write.inputs))) c.args.lent.now c.session_text-text.ensures)
 
 pub returns-in-Some-Follow-clause-usage : goal.returns-in-Some-Follow-clause-usage
 returns-in-Some-Follow-clause-usage g c =
-    usage_as c.args.lent.now c.finish-in-Some-Follow.new.lent c.finish-in-Some-Follow.result (follow c.in-Some-Follow.names.midi.now c.in-Some-Follow.names.grammar.now) (asked_of c.args.said.now) (ap (λ (r : Request). Some (shown_request r)) (sym c.in-Some-Follow.field-0-is) ∙ c.in-Some-Follow.ensures.asked)
-    (c.finish-in-Some-Follow.ensures (Some (follow c.in-Some-Follow.names.midi.now c.in-Some-Follow.names.grammar.now)) c.args.lent.now c.follow_text-text.ensures)
+    usage_as c.args.lent.now c.finish-in-Some-Follow.new.lent c.finish-in-Some-Follow.result (follow (shown_inputs c.in-Some-Follow.inputs)) (asked_of c.args.said.now) (ap (λ (r : Request). Some (shown_request r)) (sym c.in-Some-Follow.field-0-is) ∙ c.in-Some-Follow.ensures.asked)
+    (c.finish-in-Some-Follow.ensures (Some (follow (shown_inputs c.in-Some-Follow.inputs))) c.args.lent.now c.follow_text-text.ensures)
 
 pub returns-in-Some-Follow-clause-performed : goal.returns-in-Some-Follow-clause-performed
 returns-in-Some-Follow-clause-performed g c =
-    performed_as c.args.lent.now c.finish-in-Some-Follow.new.lent c.finish-in-Some-Follow.result (Some (follow c.in-Some-Follow.names.midi.now c.in-Some-Follow.names.grammar.now)) (asked_of c.args.said.now) (ap (λ (r : Request). Some (shown_request r)) (sym c.in-Some-Follow.field-0-is) ∙ c.in-Some-Follow.ensures.asked)
-    (c.finish-in-Some-Follow.ensures (Some (follow c.in-Some-Follow.names.midi.now c.in-Some-Follow.names.grammar.now)) c.args.lent.now c.follow_text-text.ensures)
+    performed_as c.args.lent.now c.finish-in-Some-Follow.new.lent c.finish-in-Some-Follow.result (Some (follow (shown_inputs c.in-Some-Follow.inputs))) (asked_of c.args.said.now) (ap (λ (r : Request). Some (shown_request r)) (sym c.in-Some-Follow.field-0-is) ∙ c.in-Some-Follow.ensures.asked)
+    (c.finish-in-Some-Follow.ensures (Some (follow (shown_inputs c.in-Some-Follow.inputs))) c.args.lent.now c.follow_text-text.ensures)
 
 pub returns-in-Some-Notes-clause-usage : goal.returns-in-Some-Notes-clause-usage
 returns-in-Some-Notes-clause-usage g c =
@@ -86,16 +87,16 @@ returns-in-Some-Drill-clause-performed g c =
 
 pub returns-in-Some-Answer-clause-usage : goal.returns-in-Some-Answer-clause-usage
 returns-in-Some-Answer-clause-usage g c =
-    usage_as c.args.lent.now c.answer.new.lent c.answer.result (answer c.in-Some-Answer.talk c.in-Some-Answer.names.midi.now c.in-Some-Answer.names.grammar.now) (asked_of c.args.said.now) (ap (λ (r : Request). Some (shown_request r)) (sym c.in-Some-Answer.field-0-is) ∙ c.in-Some-Answer.ensures.asked) c.answer.ensures
+    usage_as c.args.lent.now c.answer.new.lent c.answer.result (answer c.in-Some-Answer.talk (shown_inputs c.in-Some-Answer.inputs)) (asked_of c.args.said.now) (ap (λ (r : Request). Some (shown_request r)) (sym c.in-Some-Answer.field-0-is) ∙ c.in-Some-Answer.ensures.asked) c.answer.ensures
 
 pub returns-in-Some-Answer-clause-performed : goal.returns-in-Some-Answer-clause-performed
 returns-in-Some-Answer-clause-performed g c =
-    performed_as c.args.lent.now c.answer.new.lent c.answer.result (Some (answer c.in-Some-Answer.talk c.in-Some-Answer.names.midi.now c.in-Some-Answer.names.grammar.now)) (asked_of c.args.said.now) (ap (λ (r : Request). Some (shown_request r)) (sym c.in-Some-Answer.field-0-is) ∙ c.in-Some-Answer.ensures.asked) c.answer.ensures
+    performed_as c.args.lent.now c.answer.new.lent c.answer.result (Some (answer c.in-Some-Answer.talk (shown_inputs c.in-Some-Answer.inputs))) (asked_of c.args.said.now) (ap (λ (r : Request). Some (shown_request r)) (sym c.in-Some-Answer.field-0-is) ∙ c.in-Some-Answer.ensures.asked) c.answer.ensures
 
 pub returns-in-Some-Fit-clause-usage : goal.returns-in-Some-Fit-clause-usage
 returns-in-Some-Fit-clause-usage g c =
-    usage_as c.args.lent.now c.finish-in-Some-Fit.new.lent c.finish-in-Some-Fit.result (fit c.in-Some-Fit.files.midi.now c.in-Some-Fit.files.grammar.now c.in-Some-Fit.among) (asked_of c.args.said.now) (ap (λ (r : Request). Some (shown_request r)) (sym c.in-Some-Fit.field-0-is) ∙ c.in-Some-Fit.ensures.asked)
-    (c.finish-in-Some-Fit.ensures (Some (fit c.in-Some-Fit.files.midi.now c.in-Some-Fit.files.grammar.now c.in-Some-Fit.among)) c.args.lent.now c.fit_text_of-text.ensures)
+    usage_as c.args.lent.now c.finish-in-Some-Fit.new.lent c.finish-in-Some-Fit.result (fit (shown_inputs c.in-Some-Fit.inputs) c.in-Some-Fit.among) (asked_of c.args.said.now) (ap (λ (r : Request). Some (shown_request r)) (sym c.in-Some-Fit.field-0-is) ∙ c.in-Some-Fit.ensures.asked)
+    (c.finish-in-Some-Fit.ensures (Some (fit (shown_inputs c.in-Some-Fit.inputs) c.in-Some-Fit.among)) c.args.lent.now c.fit_text_of-text.ensures)
 
 pub returns-in-Some-TooManyCandidates-clause-usage : goal.returns-in-Some-TooManyCandidates-clause-usage
 returns-in-Some-TooManyCandidates-clause-usage g c =
@@ -104,8 +105,8 @@ returns-in-Some-TooManyCandidates-clause-usage g c =
 
 pub returns-in-Some-Fit-clause-performed : goal.returns-in-Some-Fit-clause-performed
 returns-in-Some-Fit-clause-performed g c =
-    performed_as c.args.lent.now c.finish-in-Some-Fit.new.lent c.finish-in-Some-Fit.result (Some (fit c.in-Some-Fit.files.midi.now c.in-Some-Fit.files.grammar.now c.in-Some-Fit.among)) (asked_of c.args.said.now) (ap (λ (r : Request). Some (shown_request r)) (sym c.in-Some-Fit.field-0-is) ∙ c.in-Some-Fit.ensures.asked)
-    (c.finish-in-Some-Fit.ensures (Some (fit c.in-Some-Fit.files.midi.now c.in-Some-Fit.files.grammar.now c.in-Some-Fit.among)) c.args.lent.now c.fit_text_of-text.ensures)
+    performed_as c.args.lent.now c.finish-in-Some-Fit.new.lent c.finish-in-Some-Fit.result (Some (fit (shown_inputs c.in-Some-Fit.inputs) c.in-Some-Fit.among)) (asked_of c.args.said.now) (ap (λ (r : Request). Some (shown_request r)) (sym c.in-Some-Fit.field-0-is) ∙ c.in-Some-Fit.ensures.asked)
+    (c.finish-in-Some-Fit.ensures (Some (fit (shown_inputs c.in-Some-Fit.inputs) c.in-Some-Fit.among)) c.args.lent.now c.fit_text_of-text.ensures)
 
 pub returns-in-Some-TooManyCandidates-clause-performed : goal.returns-in-Some-TooManyCandidates-clause-performed
 returns-in-Some-TooManyCandidates-clause-performed g c =

@@ -1,35 +1,25 @@
 use Rattle.std.proofs.Common.{refl}
 use Rattle.rhythm_app.specs.Asked.{write}
-use Rattle.rhythm_app.specs.Outcome.{IsWriting, say}
-use Rattle.rhythm_app.specs.Stages.{said_of}
-use Rattle.rhythm_app.proofs.Opened.{opened_all, opened_before, unread_before}
-use Rattle.rhythm_app.proofs.Sessions.{inputs_stop, said_follow, stage_cause, stage_ready, then_follows}
+use Rattle.rhythm_app.specs.Inputs.{shown_inputs}
+use Rattle.rhythm_app.specs.Outcome.{IsWriting}
+use Rattle.rhythm_app.proofs.Opened.{opened_all, opened_built, some_in, text_had, unread_text}
+use Rattle.rhythm_app.proofs.Stops.{early_built}
 use Rattle.rhythm_app.proofs.writing.session_text.Goals as goal
 
 pub returns-in-Ok : goal.returns-in-Ok
 returns-in-Ok g c =
-    let midi = c.args.names.midi.now in
-    let grammar = c.args.names.grammar.now in
-    let asked = write c.args.form midi grammar in
-    let old = c.args.lent.now in
+    let i = shown_inputs c.args.inputs in
+    let had = c.in-Ok.ensures in
     let said = c.text_by.ensures in
-    let follow = said_follow old.files asked c.text_by.result
-    (λ files are. then_follows asked midi grammar files (IsWriting c.args.form) refl (λ r h. h) c.in-Ok.grammar c.in-Ok.performance (c.in-Ok.ensures.tests files are) (said_of c.text_by.result) said.tests) in
-    record {
-      text = stage_ready old.files asked (λ v. say v.items) c.text_by.result follow;
-      all = opened_all asked midi grammar refl refl old c.read_inputs.new.lent c.text_by.new.lent c.in-Ok.grammar c.in-Ok.performance c.in-Ok.ensures said.counts c.text_by.result said.all;
-      before = opened_before asked midi grammar refl refl old c.read_inputs.new.lent c.text_by.new.lent c.in-Ok.grammar c.in-Ok.performance c.in-Ok.ensures said.counts c.text_by.result
-          (stage_cause old.files asked (λ v. say v.items) c.text_by.result follow said.content) said.content said.built said.rises said.multiplies;
-    }
+    let old = c.args.lent.now in
+    let mid = c.read_inputs.new.lent in
+    let new = c.text_by.new.lent in
+    text_had (write c.args.form i) i (IsWriting c.args.form) refl (λ files r h. h) (some_in i) old mid new c.in-Ok.grammar c.in-Ok.performance had said.counts c.text_by.result said.tests said.content
+    (opened_all i old mid new.built c.in-Ok.grammar c.in-Ok.performance had c.text_by.result said.all) (opened_built i old mid new.built c.in-Ok.grammar c.in-Ok.performance had c.text_by.result said.built)
+    said.rises said.multiplies
 
 pub returns-in-Err : goal.returns-in-Err
 returns-in-Err g c =
-    let midi = c.args.names.midi.now in
-    let grammar = c.args.names.grammar.now in
-    let asked = write c.args.form midi grammar in
-    record {
-      text = tt;
-      all = tt;
-      before = unread_before asked midi grammar refl refl c.args.lent.now c.read_inputs.new.lent c.in-Err.stop c.in-Err.ensures
-          (λ files are. inputs_stop asked midi grammar files (IsWriting c.args.form) refl (λ r h. h) c.in-Err.stop (c.in-Err.ensures.cause files are));
-    }
+    let i = shown_inputs c.args.inputs in
+    unread_text (write c.args.form i) i (IsWriting c.args.form) refl (λ files r h. h) (some_in i) c.args.lent.now c.read_inputs.new.lent c.in-Err.stop c.in-Err.ensures
+    (early_built _ _ c.args.lent.now.built c.in-Err.stop c.in-Err.ensures.early)

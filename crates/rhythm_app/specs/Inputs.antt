@@ -1,0 +1,17 @@
+-- The inputs of a command on a MIDI file and a grammar: the names of its files.
+use Rattle.std.specs.Prelude.{ℕ, List, [], unwrap_or}
+use Rattle.rhythm_app.specs.declared.request.Inputs as request
+use Rattle.rhythm_ports.specs.Files.{File, file_of}
+
+pub record Inputs : Type 0 where
+  -- the MIDI file and the grammar file, by their names
+  pub midi : List ℕ
+  pub grammar : List ℕ
+
+-- inputs as contracts see them
+abbrev pub shown_inputs : request.Inputs → Inputs
+shown_inputs i = record { midi = i.midi.now; grammar = i.grammar.now }
+
+-- the bytes under a name, none where there is no such file
+abbrev pub file_content : List File → List ℕ → List ℕ
+file_content files name = unwrap_or (file_of files name) []
