@@ -1,0 +1,5 @@
+use Rattle.std.proofs.Common.{◌≡◌, take}
+use Rattle.weight_learning.proofs.copies.copied_rules.Given as goal
+
+abbrev pub invariant-rules : goal.invariant-rules
+invariant-rules l = l.copies.items ≡ take l.rule-index l.rules

@@ -1,0 +1,16 @@
+-- Logarithms in 64ths of a bit.
+use Rattle.std.specs.Prelude.{ℕ, zero, suc, ◌*◌, ◌^◌, ◌≤◌, Bool, nat_le, if◌then◌else◌}
+
+-- the greatest number up to `most` that passes, 0 where none does
+abbrev pub greatest_up_to : (ℕ → Bool) → ℕ → ℕ
+greatest_up_to p zero = 0
+greatest_up_to p (suc most) = if p (suc most) then suc most else greatest_up_to p most
+
+-- 64 times the binary logarithm of a number from 1 to 2 ^ 40 - 1, rounded down: the greatest k with 2 ^ k ≤ n ^ 64
+unfoldable pub steps : ℕ → ℕ
+steps n = greatest_up_to (λ k. nat_le (2 ^ k) (n ^ 64)) (64 * 40)
+
+-- k is the greatest number with 2 ^ k ≤ n ^ 64
+pub record AreSteps (n k : ℕ) : Type 0 where
+  pub reached : 2 ^ k ≤ n ^ 64
+  pub greatest : (j : ℕ) → 2 ^ j ≤ n ^ 64 → j ≤ k
