@@ -5,7 +5,7 @@ use Rattle.std.proofs.lemmas.List.{ext_get_or}
 use Rattle.std.proofs.lemmas.List.Sums.{sum_by_push}
 use Rattle.std.proofs.lemmas.List.Sorted.{sum_by-IsPermutation}
 use Rattle.rule_counts.specs.Counts.{uses, uses_in_all}
-use Rattle.rule_counts.specs.Laws.{CountsAddUp, CountsAreOfAnyOrder, CountsAreOne}
+use Rattle.rule_counts.specs.Laws.{CountsAddUp, CountsAreOfAnyOrder, RuleCountsAreOne}
 
 pub add_up : CountsAddUp
 add_up rules lists list old new counts raised = record {
@@ -29,7 +29,7 @@ same_numbers rules number some other few many are said =
     ext_get_or 0 some other (few ∙ sym many)
     (λ rule lt. let within : rule < rules = omega (arith, few) in are rule within ∙ sym (said rule within))
 
-pub are_one : CountsAreOne
+pub are_one : RuleCountsAreOne
 are_one = record {
   counts = λ rules lists some other are said.
       same_numbers rules (λ rule. min (uses_in_all rule lists) 1048576) some other are.of_each said.of_each are.are said.are;

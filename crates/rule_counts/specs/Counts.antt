@@ -16,7 +16,7 @@ abbrev pub uses_in_all : ℕ → List (List ℕ) → ℕ
 uses_in_all rule lists = sum_by (uses rule) lists
 
 -- the counts of so many rules in these lists: for each how often it stands in them, and MOST_USES where it stands oftener
-pub record AreCounts (rules : ℕ) (lists : List (List ℕ)) (counts : List ℕ) : Type 0 where
+pub record AreRuleCounts (rules : ℕ) (lists : List (List ℕ)) (counts : List ℕ) : Type 0 where
   pub of_each : length counts ≡ rules
   pub are : (rule : ℕ) → rule < rules → slice_index counts rule ≡ min (uses_in_all rule lists) MOST_USES
 

@@ -1,4 +1,4 @@
-ghost use Rattle.rule_counts.specs.Laws.{CountsAddUp, CountsAreOfAnyOrder, CountsAreOne, RuleListsHaveRulesOfTheGrammar};
+ghost use Rattle.rule_counts.specs.Laws.{CountsAddUp, CountsAreOfAnyOrder, RuleCountsAreOne, RuleListsHaveRulesOfTheGrammar};
 
 /// The counts of lists, raised by those of one more list, are the counts of all of them.
 pub fn counts_add_up()
@@ -11,8 +11,8 @@ pub fn counts_are_of_any_order()
 {}
 
 /// The lists decide their counts; counts and a list decide what they are raised to.
-pub fn counts_are_one()
-    ensures { CountsAreOne }
+pub fn rule_counts_are_one()
+    ensures { RuleCountsAreOne }
 {}
 
 /// The rule list of a tree names rules of the grammar alone, so it can be counted.

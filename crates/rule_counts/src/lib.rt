@@ -5,6 +5,7 @@ mod laws;
 mod rule_counts;
 
 pub use laws::{
-    counts_add_up, counts_are_of_any_order, counts_are_one, rule_lists_have_rules_of_the_grammar,
+    counts_add_up, counts_are_of_any_order, rule_counts_are_one,
+    rule_lists_have_rules_of_the_grammar,
 };
 pub use rule_counts::{MOST_USES, RuleCounts};

@@ -1,4 +1,4 @@
-ghost use Rattle.rule_counts.specs.Counts.{AreCapped, AreCounts, AreRaised};
+ghost use Rattle.rule_counts.specs.Counts.{AreCapped, AreRuleCounts, AreRaised};
 ghost use Rattle.std.specs.Prelude.{◌≡◌, ◌<◌, [], All, IfOk, length};
 
 use std::alloc::{AllocError, Global};
@@ -28,7 +28,7 @@ impl Model for RuleCounts {
 impl RuleCounts {
     /// The counts of a grammar of so many rules before any list.
     pub fn zeros(alloc: Global, rules: usize) -> Result<RuleCounts, AllocError>
-        ensures { IfOk result (AreCounts rules []) }
+        ensures { IfOk result (AreRuleCounts rules []) }
     {
         Ok(RuleCounts {
             counts: vec![in alloc; 0; rules]?,

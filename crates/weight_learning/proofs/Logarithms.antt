@@ -4,7 +4,7 @@ use Rattle.std.specs.Prelude.{if◌then◌else◌, nat_le}
 use Rattle.std.proofs.lemmas.Bool.{cases_eq, cases_lt, le-leb, leb-true}
 use Rattle.std.proofs.Math.Nat.{le_antisymm, le_of_lt, le_refl, le_trans, lt_irrefl, lt_of_le_of_lt, lt_of_lt_of_le, one-le-pow, pow-le-pow_left, pow-lt-pow_left}
 use Rattle.std.proofs.Math.Pow.{pow_mono}
-use Rattle.weight_learning.specs.Steps.{AreSteps, greatest_up_to, steps}
+use Rattle.weight_learning.specs.Steps.{IsLogarithm, greatest_up_to, steps}
 
 -- ---- the greatest number that passes
 
@@ -46,7 +46,7 @@ below_power x top j few reached = elim (cases_lt j top) [
 power_few : (n : ℕ) → n < 2 ^ 40 → n ^ 64 < 2 ^ 2560
 power_few n few = pow-lt-pow_left {a = n} {b = 2 ^ 40} {n = 64} few (λ e. absurd (cc))
 
-pub steps_are : (n : ℕ) → 1 ≤ n → n < 2 ^ 40 → AreSteps n (steps n)
+pub steps_are : (n : ℕ) → 1 ≤ n → n < 2 ^ 40 → IsLogarithm n (steps n)
 unfolding steps
 steps_are n some few = record {
   reached = leb-true (2 ^ steps n) (n ^ 64) (greatest_passes (λ k. nat_le (2 ^ k) (n ^ 64)) 2560 (le-leb (2 ^ 0) (n ^ 64) (one-le-pow 64 n some)));

@@ -6,7 +6,7 @@ use Rattle.std.proofs.lemmas.Nat.{le-div, mul-le}
 use Rattle.std.proofs.Math.Nat.{div-le_of_le-mul, div-mul-le_self, le-max_left, le-max_right, le_of_eq, le_trans, mul-le-mul_left}
 use Rattle.rhythm_base.specs.declared.rule.Rule.{Rule}
 use Rattle.weight_learning.specs.Shares.{share}
-use Rattle.weight_learning.specs.Weights.{parts, parts_of, rules_of, share_of, share_sum}
+use Rattle.weight_learning.specs.Weights.{rule_parts, parts_of, rules_of_symbol, share_of, share_sum}
 use Rattle.weight_learning.proofs.Falling.{share_falls}
 use Rattle.weight_learning.proofs.Sums.{within_sum}
 
@@ -22,7 +22,7 @@ share_of_falls bit r s some le = share_falls (64 * r.weight / bit) (64 * s.weigh
 share_within : (bit symbol : ℕ) (rules : List Rule) (i : ℕ) (d : Rule) → i < length rules → ((get_or rules i d).lhs == symbol) ≡ true
     → share_of bit (get_or rules i d) ≤ share_sum bit symbol rules
 share_within bit symbol rules i d lt of =
-    le_trans (within_sum (λ r. r.lhs == symbol) (share_of bit) rules i d lt of) (le-max_left (sum_by (share_of bit) (rules_of symbol rules)) 1)
+    le_trans (within_sum (λ r. r.lhs == symbol) (share_of bit) rules i d lt of) (le-max_left (sum_by (share_of bit) (rules_of_symbol symbol rules)) 1)
 
 pub share_read : (bit symbol : ℕ) (rules : List Rule) (i : ℕ) (r : Rule) → i < length rules → get_or rules i r ≡ r → r.lhs ≡ symbol → share_of bit r ≤ share_sum bit symbol rules
 share_read bit symbol rules i r lt read of =
@@ -30,11 +30,11 @@ share_read bit symbol rules i r lt read of =
     subst P read (share_within bit symbol rules i r lt (ap (λ (x : Rule). x.lhs == symbol) read ∙ eq-eqb r.lhs symbol of))
 
 pub some_share : (bit symbol : ℕ) (rules : List Rule) → 1 ≤ share_sum bit symbol rules
-some_share bit symbol rules = le-max_right (sum_by (share_of bit) (rules_of symbol rules)) 1
+some_share bit symbol rules = le-max_right (sum_by (share_of bit) (rules_of_symbol symbol rules)) 1
 
 -- ---- parts
 
-pub parts_rise : (count other share smaller whole : ℕ) → 1 ≤ whole → other ≤ count → smaller ≤ share → parts other smaller whole ≤ parts count share whole
+pub parts_rise : (count other share smaller whole : ℕ) → 1 ≤ whole → other ≤ count → smaller ≤ share → rule_parts other smaller whole ≤ rule_parts count share whole
 parts_rise count other share smaller whole some less fewer =
     let quotient : 20480 * smaller / whole ≤ 20480 * share / whole = div_rise (20480 * smaller) (20480 * share) whole some (mul-le-mul_left 20480 fewer) in
     both count other (20480 * share / whole) (20480 * smaller / whole) less quotient
@@ -42,13 +42,13 @@ parts_rise count other share smaller whole some less fewer =
     both : (a b x y : ℕ) → b ≤ a → y ≤ x → 1024 * b + max y 1 ≤ 1024 * a + max x 1
     both a b x y h k = omega arith
 
-pub some_parts : (count share whole : ℕ) → 1 ≤ parts count share whole
+pub some_parts : (count share whole : ℕ) → 1 ≤ rule_parts count share whole
 some_parts count share whole = at (20480 * share / whole)
   where
     at : (x : ℕ) → 1 ≤ 1024 * count + max x 1
     at x = omega arith
 
-pub few_parts : (count share whole : ℕ) → count ≤ 1048576 → share ≤ whole → parts count share whole ≤ 1073762304
+pub few_parts : (count share whole : ℕ) → count ≤ 1048576 → share ≤ whole → rule_parts count share whole ≤ 1073762304
 few_parts count share whole few part =
     let quotient : 20480 * share / whole ≤ 20480 =
     div-le_of_le-mul whole (le_trans (mul-le-mul_left 20480 part) (le_of_eq (turned whole))) in
@@ -85,7 +85,7 @@ weight_nothing bit all = ap (λ n. n / 64) (ap (λ n. bit * n) (none all) ∙ mu
     none a = omega arith
 
 -- the parts of a rule, by its share and the whole
-pub own_parts : (own count s w bit symbol : ℕ) (rules : List Rule) (r : Rule) → own ≡ parts count s w → s ≡ share_of bit r → w ≡ share_sum bit symbol rules
+pub own_parts : (own count s w bit symbol : ℕ) (rules : List Rule) (r : Rule) → own ≡ rule_parts count s w → s ≡ share_of bit r → w ≡ share_sum bit symbol rules
     → own ≡ parts_of bit (share_sum bit symbol rules) (r, count)
 own_parts own count s w bit symbol rules r is share_is whole_is =
-    is ∙ ap (λ n. parts count n w) share_is ∙ ap (λ n. parts count (share_of bit r) n) whole_is
+    is ∙ ap (λ n. rule_parts count n w) share_is ∙ ap (λ n. rule_parts count (share_of bit r) n) whole_is

@@ -10,7 +10,7 @@ use Rattle.rhythm_base.specs.declared.inner.Inner.{Inner}
 use Rattle.rhythm_base.specs.declared.note.Bar.{Bar}
 use Rattle.std.specs.Prelude.{◌≡◌, ◌↔◌, ℕ, ◌^◌, ◌≤◌, ◌<◌, List, Option, length, option_map, slice_get, slice_index}
 use Rattle.weight_learning.specs.Learned.{CanLearn, learned, unweighted}
-use Rattle.weight_learning.specs.Steps.{AreSteps, steps}
+use Rattle.weight_learning.specs.Steps.{IsLogarithm, steps}
 use Rattle.weight_learning.specs.Thresholds.{IsThreshold, threshold}
 use Rattle.weight_learning.specs.declared.weights.TheConstants.{HEAVIEST_LEARNED}
 
@@ -18,7 +18,7 @@ use Rattle.weight_learning.specs.declared.weights.TheConstants.{HEAVIEST_LEARNED
 
 -- `steps` gives the greatest number of its property
 abbrev pub StepsAreGreatest : Type 0
-StepsAreGreatest = (n : ℕ) → 1 ≤ n → n < 2 ^ 40 → AreSteps n (steps n)
+StepsAreGreatest = (n : ℕ) → 1 ≤ n → n < 2 ^ 40 → IsLogarithm n (steps n)
 
 -- and each threshold of the table is the least of its property
 abbrev pub ThresholdsAreLeast : Type 0

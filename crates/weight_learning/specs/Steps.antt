@@ -11,6 +11,6 @@ unfoldable pub steps : ℕ → ℕ
 steps n = greatest_up_to (λ k. nat_le (2 ^ k) (n ^ 64)) (64 * 40)
 
 -- k is the greatest number with 2 ^ k ≤ n ^ 64
-pub record AreSteps (n k : ℕ) : Type 0 where
+pub record IsLogarithm (n k : ℕ) : Type 0 where
   pub reached : 2 ^ k ≤ n ^ 64
   pub greatest : (j : ℕ) → 2 ^ j ≤ n ^ 64 → j ≤ k

@@ -14,8 +14,8 @@ abbrev pub share_of : ℕ → Rule → ℕ
 share_of bit rule = share (64 * rule.weight / bit)
 
 -- the rules of a symbol
-abbrev pub rules_of : ℕ → List Rule → List Rule
-rules_of symbol rules = filter (λ r. r.lhs == symbol) rules
+abbrev pub rules_of_symbol : ℕ → List Rule → List Rule
+rules_of_symbol symbol rules = filter (λ r. r.lhs == symbol) rules
 
 -- and with their counts
 abbrev pub counted_of : ℕ → List CountedRule → List CountedRule
@@ -23,15 +23,15 @@ counted_of symbol counted = filter (λ q. q.0.lhs == symbol) counted
 
 -- the shares of a symbol's rules together, 1 at least
 abbrev pub share_sum : ℕ → ℕ → List Rule → ℕ
-share_sum bit symbol rules = max (sum_by (share_of bit) (rules_of symbol rules)) 1
+share_sum bit symbol rules = max (sum_by (share_of bit) (rules_of_symbol symbol rules)) 1
 
 -- 1,024 parts for each use; and of the parts of 20 imagined uses the share of the whole, a part at least
-abbrev pub parts : ℕ → ℕ → ℕ → ℕ
-parts count share whole = 1024 * count + max (20480 * share / whole) 1
+abbrev pub rule_parts : ℕ → ℕ → ℕ → ℕ
+rule_parts count share whole = 1024 * count + max (20480 * share / whole) 1
 
 -- the parts of a rule
 abbrev pub parts_of : ℕ → ℕ → CountedRule → ℕ
-parts_of bit whole q = parts q.1 (share_of bit q.0) whole
+parts_of bit whole q = rule_parts q.1 (share_of bit q.0) whole
 
 -- the parts of a symbol's rules together
 abbrev pub part_sum : ℕ → ℕ → List Rule → List ℕ → ℕ

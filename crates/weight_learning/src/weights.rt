@@ -51,7 +51,7 @@ fn parts(count: u32, share: u64, whole: u64) -> u64
     requires some { 1 ≤ whole }
     requires part { share ≤ whole }
     requires few { share ≤ 2 ^ 31 }
-    ensures value { result ≡ weights.parts count share whole }
+    ensures value { result ≡ weights.rule_parts count share whole }
     ensures some { 1 ≤ result }
     ensures few { result ≤ 1024 * MOST_USES + 20480 }
 {

@@ -2,7 +2,7 @@ use Rattle.std.proofs.Common.{◌≡◌, ℕ, ◌-◌, ◌*◌, ◌/◌, ◌≤�
 use Rattle.std.proofs.Math.Nat.{le_of_eq, le_trans}
 use Rattle.rhythm_base.specs.declared.rule.Rule.{Rule}
 use Rattle.weight_learning.specs.Steps.{steps}
-use Rattle.weight_learning.specs.Weights.{CountedRule, learned_weight, part_sum, parts, parts_of, share_of, share_sum}
+use Rattle.weight_learning.specs.Weights.{CountedRule, learned_weight, part_sum, rule_parts, parts_of, share_of, share_sum}
 use Rattle.weight_learning.proofs.CountedRules.{at_found, sum_has}
 use Rattle.weight_learning.proofs.LearnedWeights.{among_unused, among_used}
 use Rattle.weight_learning.proofs.Logarithms.{steps_rise}
@@ -26,7 +26,7 @@ parts-own-requires-clause-part c =
 
 -- the parts of the rule are within those of its symbol
 own_within : (rules : List Rule) (counts : List ℕ) (bit i own all s w : ℕ) (r : Rule) → length counts ≡ length rules → i < length rules → get_or rules i r ≡ r
-    → own ≡ parts (get_or counts i 0) s w → s ≡ share_of bit r → w ≡ share_sum bit r.lhs rules → all ≡ part_sum bit r.lhs rules counts → own ≤ all
+    → own ≡ rule_parts (get_or counts i 0) s w → s ≡ share_of bit r → w ≡ share_sum bit r.lhs rules → all ≡ part_sum bit r.lhs rules counts → own ≤ all
 own_within rules counts bit i own all s w r each lt read own_is share_is whole_is all_is =
     le_trans (le_of_eq (own_parts own (get_or counts i 0) s w bit r.lhs rules r own_is share_is whole_is))
     (le_trans (sum_has rules counts each r.lhs i r lt read (parts_of bit (share_sum bit r.lhs rules)) refl) (le_of_eq (sym all_is)))

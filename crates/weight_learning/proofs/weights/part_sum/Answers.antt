@@ -2,7 +2,7 @@ use Rattle.std.proofs.Common.{ℕ, ◌+◌, List, ap, ◌∙◌, arith, sym, get
 use Rattle.std.specs.List.{sum_by, zip}
 use Rattle.std.proofs.Math.Nat.{le_of_eq, le_trans}
 use Rattle.rhythm_base.specs.declared.rule.Rule.{Rule}
-use Rattle.weight_learning.specs.Weights.{CountedRule, counted_of, parts, parts_of}
+use Rattle.weight_learning.specs.Weights.{CountedRule, counted_of, rule_parts, parts_of}
 use Rattle.weight_learning.proofs.CountedRules.{all_of_them, sum_with, sum_without}
 use Rattle.weight_learning.proofs.WeightLemmas.{share_read}
 use Rattle.weight_learning.proofs.weights.part_sum.Goals as goal
@@ -23,7 +23,7 @@ rules-preserved c =
     let f : CountedRule → ℕ = parts_of c.args.bit c.share_sum-whole.result in
     elim c.if-rule-symbol.branch [
       | then-rule-symbol w ↦ record {
-        sum = w.sum-is ∙ ap (λ n. c.rules.sum + n) (w.parts-sum.ensures.value ∙ ap (λ s. parts (get_or counts i 0) s c.share_sum-whole.result) w.share_of.ensures.value)
+        sum = w.sum-is ∙ ap (λ n. c.rules.sum + n) (w.parts-sum.ensures.value ∙ ap (λ s. rule_parts (get_or counts i 0) s c.share_sum-whole.result) w.share_of.ensures.value)
             ∙ ap (λ n. n + f (r, get_or counts i 0)) c.rules.invariant.sum
             ∙ sym (sum_with rules counts c.requires.counts c.args.symbol i r c.rules-test.true (sym c.index-rules-number.is) f w.if-rule-symbol.true);
         few = omega (arith, w.sum-is, w.parts-sum.ensures.few, c.rules.invariant.few);
