@@ -1,3 +1,6 @@
+ghost use Rattle.rhythm_base.specs.Readable.{IsReadable};
+ghost use Rattle.std.specs.Prelude.{IfOk};
+
 use grammar_file::{GrammarFault, GrammarWhat, print_grammar, read_grammar};
 use rhythm_base::{Body, Grammar, Start};
 use std::alloc::Global;
@@ -17,27 +20,31 @@ const DOTTED: &[u8] = b"\
 ";
 
 /// Grammars as they are printed, with all forms of lines among them.
-const PRINTED: [&str; 9] = [
-    "rhythm 1\nresolution 4\nwindow 30000\nonset 1\nstart 4/4 B\nB 0 split H H\nH 0 split Q Q\nQ 0 note\n",
-    "rhythm 1\nresolution 8\nwindow 30000\nonset 1\nstart 4/4 B\nB 10 note\nB 10 tie\nB 5 rest\nB 20 split H H\n\
+const PRINTED: [&[u8]; 9] = [
+    b"rhythm 1\nresolution 4\nwindow 30000\nonset 1\nstart 4/4 B\nB 0 split H H\nH 0 split Q Q\nQ 0 note\n",
+    b"rhythm 1\nresolution 8\nwindow 30000\nonset 1\nstart 4/4 B\nB 10 note\nB 10 tie\nB 5 rest\nB 20 split H H\n\
      H 10 note\nH 10 tie\nH 10 rest\nH 20 split Q Q\nQ 10 note\nQ 15 short\nQ 10 tie\nQ 10 rest\nQ 40 split E E\n\
      E 10 note\nE 20 short\nE 10 tie\nE 10 rest\nE 60 grace 1\n",
-    "rhythm 1\nresolution 1\nwindow 0\nonset 1\nstart 5/4 F\nF 0 note\n",
-    "rhythm 1\nresolution 2\nwindow 0\nonset 1\nstart 4/4 B\nB 0 split H H\nH 0 note\nH 0 rest\nH 0 tie\nH 0 short\n",
-    "rhythm 1\nresolution 1\nwindow 0\nonset 1\nstart 4/4 B\nB 0 note\nB 0 rest\nB 0 tie\nB 0 short\n",
-    "rhythm 1\nresolution 6\nwindow 0\nonset 1\nstart 4/4 B\nB 0 split A A\nB 0 split T T T\nA 0 note\nA 0 tie\nT 0 note\nT 0 tie\n",
-    "rhythm 1\nresolution 4\nwindow 0\nonset 1\nstart 4/4 B\nB 0 split Q Q Q Q\nQ 0 note\nQ 0 rest\nQ 0 tie\nQ 0 short\nQ 5 grace 2\n",
-    "rhythm 1\nresolution 1\nwindow 0\nonset 1\nstart 4/4 B\nstart 6/8 B\nB 0 note\n",
-    "rhythm 2\nresolution 4\nwindow 0\nonset 3 1\nstart 4/4 B\nB 0 parts 3 H 1 H\nH 0 note\n",
+    b"rhythm 1\nresolution 1\nwindow 0\nonset 1\nstart 5/4 F\nF 0 note\n",
+    b"rhythm 1\nresolution 2\nwindow 0\nonset 1\nstart 4/4 B\nB 0 split H H\nH 0 note\nH 0 rest\nH 0 tie\nH 0 short\n",
+    b"rhythm 1\nresolution 1\nwindow 0\nonset 1\nstart 4/4 B\nB 0 note\nB 0 rest\nB 0 tie\nB 0 short\n",
+    b"rhythm 1\nresolution 6\nwindow 0\nonset 1\nstart 4/4 B\nB 0 split A A\nB 0 split T T T\nA 0 note\nA 0 tie\nT 0 note\nT 0 tie\n",
+    b"rhythm 1\nresolution 4\nwindow 0\nonset 1\nstart 4/4 B\nB 0 split Q Q Q Q\nQ 0 note\nQ 0 rest\nQ 0 tie\nQ 0 short\nQ 5 grace 2\n",
+    b"rhythm 1\nresolution 1\nwindow 0\nonset 1\nstart 4/4 B\nstart 6/8 B\nB 0 note\n",
+    b"rhythm 2\nresolution 4\nwindow 0\nonset 3 1\nstart 4/4 B\nB 0 parts 3 H 1 H\nH 0 note\n",
 ];
 
 /// The grammar of a file.
-fn read(alloc: Global, text: &[u8]) -> Result<Grammar, Fail> {
+pub fn read(alloc: Global, text: &[u8]) -> Result<Grammar, Fail>
+    ensures { IfOk result IsReadable }
+{
     if text.len() > 4_294_967_294 {
         return Err("a text of fewer bytes".into());
     }
-    let grammar: Grammar = read_grammar(alloc, text).map_err(|_| "no fault")?;
-    Ok(grammar)
+    match read_grammar(alloc, text) {
+        Ok(grammar) => Ok(grammar),
+        Err(_) => Err("no fault".into()),
+    }
 }
 
 /// The fault of a text.
@@ -96,8 +103,7 @@ fn printed(alloc: Global, text: &[u8]) -> Result<Vec<u8>, Fail> {
 #[test]
 fn prints_what_it_reads(rt: HostRuntime) -> Result<(), Fail> {
     for text in PRINTED {
-        let again = printed(rt.alloc(), text.as_bytes())?;
-        assert_eq!(rt; again.as_slice(), text.as_bytes(), "{text:?}");
+        assert_eq!(rt; printed(rt.alloc(), text)?.as_slice(), text);
     }
     let loose = b"#\n rhythm  1\nresolution 04\nwindow 0\nonset 007\nB 00 grace 1\r\nstart 2/4 B";
     let strict = b"rhythm 1\nresolution 4\nwindow 0\nonset 7\nstart 2/4 B\nB 0 grace 1\n";

@@ -1,8 +1,5 @@
-ghost use Rattle.rhythm_base.specs.Readable.{IsReadable};
-ghost use Rattle.std.specs.Prelude.{IfOk};
-
-use grammar_file::{print_grammar, read_grammar};
-use rhythm_base::Grammar;
+use crate::grammars::read;
+use grammar_file::print_grammar;
 use rule_counts::RuleCounts;
 use std::alloc::Global;
 use std::test::Fail;
@@ -68,25 +65,12 @@ const LEARNED: [(&str, &[&[u16]], u32, &str); 6] = [
     ),
 ];
 
-/// The grammar of a text.
-fn grammar_of(alloc: Global, text: &[u8]) -> Result<Grammar, Fail>
-    ensures { IfOk result IsReadable }
-{
-    if text.len() > 4_294_967_294 {
-        return Err("a text of fewer bytes".into());
-    }
-    match read_grammar(alloc, text) {
-        Ok(grammar) => Ok(grammar),
-        Err(_) => Err("no fault".into()),
-    }
-}
-
 /// The text of the grammar that is learned from rule lists.
 fn learned_text(alloc: Global, text: &[u8], lists: &[&[u16]], bit: u32) -> Result<Vec<u8>, Fail> {
     if bit == 0 || bit > HEAVIEST_BIT {
         return Err("a bit in range".into());
     }
-    let grammar = grammar_of(alloc, text)?;
+    let grammar = read(alloc, text)?;
     let mut counts = RuleCounts::zeros(alloc, grammar.rules.len())?;
     for list in lists {
         let rules = counts.as_slice().len();

@@ -58,35 +58,35 @@ fn said(alloc: Global, line: &[u8]) -> Result<String, AllocError> {
 }
 
 /// Lines, and what they say: each kind with the greatest numbers, other spellings, and lines that are none.
-const LINES: [(&[u8], &str); 16] = [
+const LINES: [(&[u8], &[u8]); 16] = [
     (
         b"add 15 127 2000000000 2000000000",
-        "add 15 127 2000000000 2000000000",
+        b"add 15 127 2000000000 2000000000",
     ),
-    (b"drop 15 127 2000000000", "drop 15 127 2000000000"),
-    (b"move 15 127 2000000000 0", "move 15 127 2000000000 0"),
-    (b"barline 4096 2000000000", "barline 4096 2000000000"),
+    (b"drop 15 127 2000000000", b"drop 15 127 2000000000"),
+    (b"move 15 127 2000000000 0", b"move 15 127 2000000000 0"),
+    (b"barline 4096 2000000000", b"barline 4096 2000000000"),
     (
         b"pin 15 4096 2(2(. .) 3(. . .))",
-        "pin 15 4096 2(2(. .) 3(. . .))",
+        b"pin 15 4096 2(2(. .) 3(. . .))",
     ),
-    (b"unpin 15 4096", "unpin 15 4096"),
-    (b"addbar", "addbar"),
-    (b"dropbar", "dropbar"),
-    (b"score", "score"),
-    (b"alt 15 4096 16", "alt 15 4096 16"),
-    (b"quit", "quit"),
-    (b"add 00 064 0000000010 480\r", "add 0 64 10 480"),
-    (b"pin 000 0001 .", "pin 0 1 ."),
-    (b"", "bad line"),
-    (b"quit\n", "bad line"),
-    (b"pin 0 0 \xff", "bad line"),
+    (b"unpin 15 4096", b"unpin 15 4096"),
+    (b"addbar", b"addbar"),
+    (b"dropbar", b"dropbar"),
+    (b"score", b"score"),
+    (b"alt 15 4096 16", b"alt 15 4096 16"),
+    (b"quit", b"quit"),
+    (b"add 00 064 0000000010 480\r", b"add 0 64 10 480"),
+    (b"pin 000 0001 .", b"pin 0 1 ."),
+    (b"", b"bad line"),
+    (b"quit\n", b"bad line"),
+    (b"pin 0 0 \xff", b"bad line"),
 ];
 
 #[test]
 fn lines_say_commands(rt: HostRuntime) -> Result<(), Fail> {
     for (line, command) in LINES {
-        assert!(rt; said(rt.alloc(), line)?.as_str() == command, "{command}");
+        assert_eq!(rt; said(rt.alloc(), line)?.as_bytes(), command);
     }
     Ok(())
 }
