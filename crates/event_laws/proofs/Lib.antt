@@ -1,3 +1,1 @@
-pub mod ScoreParts
-pub mod SpansFollow
 pub mod VoiceEvents

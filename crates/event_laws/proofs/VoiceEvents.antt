@@ -1,83 +1,67 @@
--- The events of a score are events of its voices, and so are those of the score of a performance.
-use Rattle.std.proofs.Common.{◌≡◌, ℕ, suc, ◌*◌, ◌≤◌, List, [], ◌∷◌, length, map, sym, ap, ◌∙◌, subst, arith}
-use Rattle.std.specs.Prelude.{All, Ok, Result, sum_by}
+-- The events that are read of the text of a score are those of the score, and a writer can take them.
+use Rattle.std.proofs.Common.{◌≡◌, ◌↔◌, ℕ, suc, ◌≤◌, List, [], ◌∷◌, length, map, sym, ap, ◌∙◌, subst, arith}
+use Rattle.std.specs.Prelude.{All, Ok, Result}
 use Rattle.std.proofs.lemmas.List.{length-map}
-use Rattle.std.proofs.lemmas.List.Elements.{All-head, All-tail}
-use Rattle.rhythm_base.specs.declared.note.Bar.{Bar}
-use Rattle.rhythm_base.specs.declared.sound.Sound.{Sound}
 use Rattle.rhythm_base.specs.Grammar.{Grammar}
 use Rattle.rhythm_base.specs.Lists.{Each}
 use Rattle.rhythm_base.specs.Performance.{IsWellFormed, Performance}
 use Rattle.rhythm_base.specs.Readable.{IsReadable}
-use Rattle.rhythm_base.specs.Signatures.{IsSignature}
-use Rattle.durations.specs.Spans.{parts_of_unit}
 use Rattle.derivation.proofs.OneScore.{scores_one}
 use Rattle.derivation.specs.declared.score.ScoreBar.{ScoreBar}
 use Rattle.derivation.specs.PerformanceScore.{score_bar}
-use Rattle.derivation.specs.Score.{IsScore, IsScoreBar}
-use Rattle.derivation.specs.WellSounded.{AreWellSounded}
+use Rattle.derivation.specs.Score.{IsScore, IsScoreBar, Score}
 use Rattle.kern_writer.specs.PerformanceText.{IsTextOf}
-use Rattle.kern_reader.specs.declared.event.KernEvent.{KernEvent}
+use Rattle.voice_events.specs.declared.event.KernEvent.{KernEvent}
 use Rattle.kern_reader.specs.Events.{AreEvents}
 use Rattle.kern_reader.specs.Outcome.{score_of}
 use Rattle.kern_reader.specs.Score.{KernColumns}
-use Rattle.kern_laws.proofs.EventsExist.{voice_spans_exist}
 use Rattle.kern_laws.proofs.ReadBack.{texts_read_back, have_signatures}
-use Rattle.kern_laws.specs.ReadBack.{AreVoiceSpans, HaveSignatures}
-use Rattle.voice_events.specs.VoiceEvents.{AreVoiceEvents, AreVoiceEventsFrom}
+use Rattle.voice_events.specs.Events.{AreVoiceSpans, HaveSignatures}
+use Rattle.voice_events.specs.VoiceEvents.{AreVoiceEvents}
 use Rattle.voice_events.specs.Writable.{IsWritable}
-use Rattle.event_laws.proofs.ScoreParts.{same_count, same_parts, well_signed}
-use Rattle.event_laws.proofs.SpansFollow.{of_voice}
-use Rattle.event_laws.specs.Laws.{SpansAreVoiceEvents, TextsHaveVoiceEvents}
+use Rattle.voice_events.proofs.ScoreEvents.{decided, events_exist, events_follow}
+use Rattle.event_laws.specs.Laws.{TextsHaveTheirEvents, TextsHaveVoiceEvents}
 
-voices_from : (r : ℕ) (bars : List Bar) (spine : ℕ) (voices : List (List Sound)) (events : List KernEvent)
-    → All (λ b. IsSignature b.num b.den) bars
-    → All (AreWellSounded r (length bars)) voices → AreVoiceSpans r bars spine voices events
-    → AreVoiceEventsFrom r (r * sum_by parts_of_unit bars) spine (length voices) events
-voices_from r bars spine [] events are well spans = spans
-voices_from r bars spine (sounds ∷ voices) events are well (own, others, is, rest, all) = (
-  own,
-  others,
-  of_voice r bars are sounds own (All-head (AreWellSounded r (length bars)) sounds voices well) is,
-  voices_from r bars (suc spine) voices others are (All-tail (AreWellSounded r (length bars)) sounds voices well) rest,
-  all,
-)
+-- ---- what is read of its text are the events of the score
 
-pub spans_are : SpansAreVoiceEvents
-spans_are s bars events is have spans =
-    let well = subst (λ n. All (AreWellSounded s.resolution n) s.voices) (sym (same_count s.bars bars have)) is.voices in
-    subst (λ end. AreVoiceEventsFrom s.resolution end 1 (length s.voices) events) (same_parts s.resolution s.bars bars have)
-    (voices_from s.resolution bars 1 s.voices events (well_signed s.bars bars have is.bars) well spans)
+same_value : {A E : Type 0} (x : Result A E) (a b : A) → x ≡ Ok a → x ≡ Ok b → a ≡ b
+same_value x a b e f = let both : Ok a ≡ Ok b = sym e ∙ f in cc
 
--- ---- the score of a performance
+pub their_events : TextsHaveTheirEvents
+their_events g p s text readable formed of of_text =
+    let (t, own, reads) = texts_read_back g p text readable formed of_text in
+    let same : t ≡ s = scores_one.score g p t s readable formed own of in
+    let have : HaveSignatures s.bars p.bars = subst (λ (bars : List ScoreBar). HaveSignatures bars p.bars) (sym of.bars) (have_signatures p p.bars) in
+    let over : (events : List KernEvent) → AreEvents reads.score events ↔ AreVoiceSpans s.resolution p.bars 1 s.voices events =
+    λ events. subst (λ r. AreEvents reads.score events ↔ AreVoiceSpans r p.bars 1 s.voices events) (sym of.resolution)
+    (subst (λ (u : Score). AreEvents reads.score events ↔ AreVoiceSpans g.resolution p.bars 1 u.voices events) same (reads.events events)) in (
+      reads.score,
+      reads.read,
+      λ events. (λ read. decided s p.bars events have ((over events).0 read), λ are. (over events).1 (are p.bars have)),
+    )
+
+-- ---- and a writer can take them
 
 as_many : {X Y : Type 0} (Of : X → Y → Type 0) (xs : List X) (ys : List Y) → Each Of xs ys → length ys ≡ length xs
 as_many Of [] ys each = ap length each
 as_many Of (x ∷ xs) [] each = absurd each
 as_many Of (x ∷ xs) (y ∷ ys) each = ap suc (as_many Of xs ys each.1)
 
-same_value : {A E : Type 0} (x : Result A E) (a b : A) → x ≡ Ok a → x ≡ Ok b → a ≡ b
-same_value x a b e f = let both : Ok a ≡ Ok b = sym e ∙ f in cc
-
 some_events : (g : Grammar) (p : Performance) (text : List ℕ) → IsReadable g → IsWellFormed p → IsTextOf g p text
     → (k : KernColumns) × (score_of text ≡ Ok k) × (events : List KernEvent) × AreEvents k events
-some_events g p text readable formed of_text =
-    let (s, of, reads) = texts_read_back g p text readable formed of_text in
-    let is : IsScore s = scores_one.can_be_written g p s readable formed of in
-    let spans = voice_spans_exist s p.bars is in
-    let own = subst (λ r. AreVoiceSpans r p.bars 1 s.voices spans.0) of.resolution spans.1 in
-    (reads.score, reads.read, spans.0, (reads.events spans.0).1 own)
+some_events g p text readable formed (s, of, written) =
+    let (k, read, exactly) = their_events g p s text readable formed of (s, of, written) in
+    let found = events_exist s (scores_one.can_be_written g p s readable formed of).some_unit in
+    (k, read, found.0, (exactly found.0).1 found.1)
 
-pub text_events : (g : Grammar) (p : Performance) (text : List ℕ) (k : KernColumns) (events : List KernEvent) → IsReadable g
+text_events : (g : Grammar) (p : Performance) (text : List ℕ) (k : KernColumns) (events : List KernEvent) → IsReadable g
     → IsWellFormed p → IsTextOf g p text
     → score_of text ≡ Ok k → AreEvents k events → AreVoiceEvents g.resolution (map (score_bar p) p.bars) (length p.channels) events
-text_events g p text k events readable formed of_text read are =
-    let (s, of, reads) = texts_read_back g p text readable formed of_text in
-    let is : IsScore s = scores_one.can_be_written g p s readable formed of in
-    let have = subst (λ (bars : List ScoreBar). HaveSignatures bars p.bars) (sym of.bars) (have_signatures p p.bars) in
-    let same : k ≡ reads.score = same_value (score_of text) k reads.score read reads.read in
-    let spans : AreVoiceSpans g.resolution p.bars 1 s.voices events = (reads.events events).0 (subst (λ k. AreEvents k events) same are) in
-    let own = spans_are s p.bars events is have (subst (λ r. AreVoiceSpans r p.bars 1 s.voices events) (sym of.resolution) spans) in
+text_events g p text k events readable formed (s, of, written) read are =
+    let (own_k, own_read, exactly) = their_events g p s text readable formed of (s, of, written) in
+    let same : k ≡ own_k = same_value (score_of text) k own_k read own_read in
+    let score_events = (exactly events).0 (subst (λ k. AreEvents k events) same are) in
+    let own = events_follow s events (scores_one.can_be_written g p s readable formed of) score_events in
     let count : length s.voices ≡ length p.channels = as_many _ p.channels s.voices of.voices in
     subst (λ n. AreVoiceEvents g.resolution (map (score_bar p) p.bars) n events) count
     (subst (λ (bars : List ScoreBar). AreVoiceEvents g.resolution bars (length s.voices) events) of.bars

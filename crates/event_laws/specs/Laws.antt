@@ -1,25 +1,24 @@
 -- The laws, each as one statement over the definitions.
-use Rattle.std.specs.Prelude.{◌≡◌, ℕ, List, length, map, Ok}
-use Rattle.rhythm_base.specs.declared.note.Bar.{Bar}
+use Rattle.std.specs.Prelude.{◌≡◌, ◌↔◌, ℕ, List, length, map, Ok}
 use Rattle.rhythm_base.specs.Grammar.{Grammar}
 use Rattle.rhythm_base.specs.Performance.{IsWellFormed, Performance}
 use Rattle.rhythm_base.specs.Readable.{IsReadable}
-use Rattle.derivation.specs.PerformanceScore.{score_bar}
-use Rattle.derivation.specs.Score.{IsScore, Score}
+use Rattle.derivation.specs.PerformanceScore.{IsScoreOf, score_bar}
+use Rattle.derivation.specs.Score.{Score}
 use Rattle.kern_writer.specs.PerformanceText.{IsTextOf}
-use Rattle.kern_reader.specs.declared.event.KernEvent.{KernEvent}
+use Rattle.voice_events.specs.declared.event.KernEvent.{KernEvent}
 use Rattle.kern_reader.specs.Events.{AreEvents}
 use Rattle.kern_reader.specs.Outcome.{score_of}
 use Rattle.kern_reader.specs.Score.{KernColumns}
-use Rattle.kern_laws.specs.ReadBack.{AreVoiceSpans, HaveSignatures}
+use Rattle.voice_events.specs.Events.{AreScoreEvents}
 use Rattle.voice_events.specs.VoiceEvents.{AreVoiceEvents}
 use Rattle.voice_events.specs.Writable.{IsWritable}
 
--- the spans of the voices of a score that can be written
-abbrev pub SpansAreVoiceEvents : Type 0
-SpansAreVoiceEvents =
-    (s : Score) (bars : List Bar) (events : List KernEvent) → IsScore s → HaveSignatures s.bars bars
-    → AreVoiceSpans s.resolution bars 1 s.voices events → AreVoiceEvents s.resolution s.bars (length s.voices) events
+-- what is read of the text of the score of a performance: exactly the events of the score
+abbrev pub TextsHaveTheirEvents : Type 0
+TextsHaveTheirEvents =
+    (g : Grammar) (p : Performance) (s : Score) (text : List ℕ) → IsReadable g → IsWellFormed p → IsScoreOf g p s → IsTextOf g p text
+    → (k : KernColumns) × (score_of text ≡ Ok k) × ((events : List KernEvent) → AreEvents k events ↔ AreScoreEvents s events)
 
 -- what is read of the score of a performance: it has events, and over these bars and voices they can be handed to a writer
 pub record TextsHaveVoiceEvents : Type 0 where

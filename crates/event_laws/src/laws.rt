@@ -1,11 +1,11 @@
-ghost use Rattle.event_laws.specs.Laws.{SpansAreVoiceEvents, TextsHaveVoiceEvents};
+ghost use Rattle.event_laws.specs.Laws.{TextsHaveTheirEvents, TextsHaveVoiceEvents};
 
-/// The spans of the sounds of a score that can be written are events that follow one another in each voice.
-pub fn spans_are_voice_events()
-    ensures { SpansAreVoiceEvents }
+/// The events that are read of the text of a performance's score are those of the score itself.
+pub fn texts_have_their_events()
+    ensures { TextsHaveTheirEvents }
 {}
 
-/// So are the events that are read of the score of a performance and a grammar; and there are some.
+/// There are some events of each such text, they follow one another in each voice, and a writer can take them.
 pub fn texts_have_voice_events()
     ensures { TextsHaveVoiceEvents }
 {}

@@ -1,7 +1,7 @@
-//! Laws of the events of a score: in each voice they follow one another, in whole parts of a whole note, up to the last
-//! barline. So whatever is read back of a score can be handed to a writer of events.
+//! Laws of the events of a score: what is read back of its text are the events of the score itself, so a writer that takes
+//! these needs no text, and whatever is read back can be handed to a writer.
 #![tactic(auto)]
 
 mod laws;
 
-pub use laws::{spans_are_voice_events, texts_have_voice_events};
+pub use laws::{texts_have_their_events, texts_have_voice_events};

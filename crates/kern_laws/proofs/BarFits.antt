@@ -1,5 +1,5 @@
 -- What a voice says can stand.
-use Rattle.std.proofs.Common.{◌≡◌, ℕ, zero, suc, ◌+◌, ◌-◌, ◌*◌, ◌/◌, ◌≤◌, Bool, true, false, not, ◌&&◌, ◌||◌, List, [], ◌∷◌, ◌++◌, length, take, refl, sym, ap, ◌∙◌, subst, arith, Option, Some, None}
+use Rattle.std.proofs.Common.{◌≡◌, ℕ, zero, suc, ◌+◌, ◌*◌, ◌/◌, ◌≤◌, Bool, true, false, not, ◌&&◌, ◌||◌, List, [], ◌∷◌, ◌++◌, length, take, refl, sym, ap, ◌∙◌, subst, arith, Option, Some, None}
 use Rattle.std.specs.Prelude.{All, if◌then◌else◌, nat_lt, slice_index_or, sum_by, ⊤}
 use Rattle.std.specs.List.{flat_map}
 use Rattle.std.proofs.lemmas.Bool.{false≢true, eq-eqb}
@@ -22,11 +22,12 @@ use Rattle.kern_reader.specs.Columns.{continues, has_value, is_left_open, open_k
 use Rattle.kern_reader.specs.Faults.{is_chord_untied, is_grace_wrong, is_tie_wrong}
 use Rattle.kern_reader.specs.Score.{Counts}
 use Rattle.kern_reader.specs.Tokens.{IsWellToken, IsWellValue}
-use Rattle.kern_laws.specs.ScoreLines.{Said, bar_said, said, said_graces, tie_mark, value_token, voice_said, writing_of}
+use Rattle.kern_laws.proofs.ScoreLines.{Said, bar_said, said, said_graces, tie_mark, value_token, voice_said, writing_of}
 use Rattle.kern_laws.proofs.BarLines.{FitsBars, frame_of, said_in}
 use Rattle.kern_laws.proofs.BarSounded.{AreSounded, IsValue, leaf_values, sound_len, sound_lens}
 use Rattle.kern_laws.proofs.BarVoice.{AreVoice}
-use Rattle.kern_laws.proofs.GridParts.{divisor_some, parts_finer, well_value, width_finer}
+use Rattle.voice_events.proofs.ScoreBars.{parts_finer}
+use Rattle.kern_laws.proofs.GridParts.{divisor_some, well_value, width_finer}
 use Rattle.kern_laws.proofs.PlaceParts.{Fits, IsFit, next_place, open_after, token_width}
 use Rattle.kern_laws.proofs.TieValues.{Linked, Links}
 use Rattle.kern_writer.proofs.BarTokens.{some_width}

@@ -11,7 +11,8 @@ use Rattle.std.proofs.lemmas.Bool.Decides.{nat_tests}
 use Rattle.std.proofs.lemmas.List.Elements.{All-cons, All-head, All-tail}
 use Rattle.rhythm_base.specs.Lists.{Each}
 use Rattle.derivation.specs.declared.score.ScoreBar.{ScoreBar}
-use Rattle.kern_writer.specs.Changes.{key_before, key_change, same_signature, signature_change, signature_text, tempo_change}
+use Rattle.score_words.specs.Changes.{key_before, same_signature}
+use Rattle.kern_writer.specs.Changes.{key_change, signature_change, signature_text, tempo_change}
 use Rattle.derivation.specs.Score.{IsScoreBar}
 use Rattle.kern_reader.specs.declared.token.TimeSignature.{TimeSignature}
 use Rattle.kern_reader.specs.declared.token.Token.{Token}
@@ -22,7 +23,8 @@ use Rattle.kern_reader.specs.Lines.{IsWellLine, line_of}
 use Rattle.kern_reader.specs.Score.{IsColumnOn}
 use Rattle.kern_reader.proofs.ColumnLemmas.{columns_on}
 use Rattle.kern_reader.proofs.SpineLemmas.{spine_next, spine_scaled}
-use Rattle.kern_laws.specs.ScoreLines.{AreBarLines, AreBarsLines, AreSaidPlaces, Barline, ending_line, KernLine, Other, Said, Signature, change_lines, lines_at, said_in_bar}
+use Rattle.kern_laws.specs.Lines.{KernLine}
+use Rattle.kern_laws.proofs.ScoreLines.{AreBarLines, AreBarsLines, AreSaidPlaces, Barline, ending_line, Other, Said, Signature, change_lines, lines_at, said_in_bar}
 use Rattle.kern_laws.proofs.LineTests.{IsBody, IsInside, body_turn, finest, said_right}
 use Rattle.kern_laws.proofs.LineWalk.{IsGood, Walk, walk_append}
 use Rattle.kern_laws.proofs.PlaceLines.{saids_of}

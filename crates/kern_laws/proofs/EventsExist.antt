@@ -1,19 +1,16 @@
--- Each score has events, whether it is read or written.
+-- Each score that was read has events.
 use Rattle.std.proofs.Common.{ℕ, suc, ◌+◌, ◌*◌, ◌≤◌, List, [], ◌∷◌, ◌++◌, map, refl, arith}
 use Rattle.std.specs.Prelude.{reverse, sum_by}
-use Rattle.rhythm_base.specs.declared.note.Bar.{Bar}
-use Rattle.rhythm_base.specs.declared.sound.Sound.{Sound}
 use Rattle.rhythm_base.specs.declared.span.Span.{Span}
 use Rattle.rhythm_base.specs.Lists.{Each}
 use Rattle.durations.specs.Value.{width}
 use Rattle.derivation.proofs.Fractions.{frac_exist}
-use Rattle.derivation.proofs.SpansExist.{spans_exist}
-use Rattle.kern_reader.specs.declared.event.KernEvent.{KernEvent}
+use Rattle.voice_events.specs.declared.event.KernEvent.{KernEvent}
 use Rattle.kern_reader.specs.declared.token.Token.{Token}
 use Rattle.kern_reader.specs.Columns.{waiting}
-use Rattle.kern_reader.specs.Events.{AreEventsFrom, Beginning, IsKernSpan, beginnings, span_event, token_place, tied_values}
-use Rattle.kern_laws.specs.Laws.{EventsExist, VoiceSpansExist}
-use Rattle.kern_laws.specs.ReadBack.{AreVoiceSpans}
+use Rattle.kern_reader.specs.Events.{AreEventsFrom, Beginning, IsKernSpan, beginnings, token_place, tied_values}
+use Rattle.voice_events.specs.Events.{span_event}
+use Rattle.kern_laws.specs.Laws.{EventsExist}
 
 span_exist : (grid : ℕ) (b : Beginning) → 1 ≤ grid → (x : Span) × IsKernSpan grid b x
 span_exist grid b some =
@@ -39,14 +36,3 @@ from_exist grid spine (column ∷ columns) some =
 
 pub events_exist : EventsExist
 events_exist s is = from_exist s.grid 1 s.columns is.some
-
-voices_exist : (resolution : ℕ) (bars : List Bar) (spine : ℕ) (voices : List (List Sound)) → 1 ≤ resolution
-    → (events : List KernEvent) × AreVoiceSpans resolution bars spine voices events
-voices_exist resolution bars spine [] some = ([], refl)
-voices_exist resolution bars spine (sounds ∷ voices) some =
-    let own = spans_exist resolution bars sounds some in
-    let rest = voices_exist resolution bars (suc spine) voices some in
-    (map (span_event spine) own.0 ++ rest.0, (own.0, rest.0, own.1, rest.1, refl))
-
-pub voice_spans_exist : VoiceSpansExist
-voice_spans_exist s bars is = voices_exist s.resolution bars 1 s.voices is.some_unit

@@ -12,7 +12,7 @@ use Rattle.kern_reader.specs.Columns.{open_keys, place, waiting}
 use Rattle.kern_reader.specs.Faults.{is_grace_wrong, stands}
 use Rattle.kern_reader.specs.Score.{Counts}
 use Rattle.kern_reader.proofs.SpineLemmas.{waiting_grace, waiting_null}
-use Rattle.kern_laws.specs.ScoreLines.{Said, grace_or_null, graces_or_none, main_or_null, said_at}
+use Rattle.kern_laws.proofs.ScoreLines.{Said, grace_or_null, graces_or_none, main_or_null, said_at}
 use Rattle.kern_laws.proofs.PlaceParts.{Ahead, Fits, Frame, IsAt, IsGracing, IsHeard, Part, clean, graced, graces_at, next_place, open_after, part_after, spelled, token_width}
 use Rattle.kern_laws.proofs.PlaceSteps.{AtPlace, here, later, at_place, not_null, open_value, place_grace, place_null, place_value, waiting_value}
 

@@ -1,18 +1,16 @@
 -- Values that count in one grid: their least common multiple divides it, and how wide they are in it.
 use Rattle.std.proofs.Common.{◌≡◌, ℕ, zero, suc, ◌+◌, ◌-◌, ◌*◌, ◌/◌, ◌%◌, ◌^◌, ◌<◌, ◌≤◌, ◌==◌, Bool, true, false, List, [], ◌∷◌, refl, sym, ap, ◌∙◌, subst, arith}
-use Rattle.std.specs.Prelude.{All, IsTrue, if◌then◌else◌}
+use Rattle.std.specs.Prelude.{All, if◌then◌else◌}
 use Rattle.std.specs.Int.{◌∣◌}
 use Rattle.std.proofs.Math.Nat.{div-mul_cancel, dvd-sub, dvd_trans, dvd-mul_right, dvd_of_mul-dvd-mul_right, le_of_dvd, mul-div_left, mul-dvd-mul_right, zero-dvd, mul_comm}
 use Rattle.std.proofs.lemmas.Bool.Decides.{nat_tests}
 use Rattle.std.proofs.lemmas.List.Elements.{All-head, All-tail}
 use Rattle.std.proofs.lemmas.Nat.{pow_pos, div-add-mod'}
-use Rattle.rhythm_base.specs.Signatures.{is_den}
 use Rattle.durations.specs.declared.value.Value.{Value}
 use Rattle.durations.specs.Value.{IsWide, parts, plain_grid, value_grid, width}
 use Rattle.kern_reader.specs.Columns.{gcd, gcd_within, grid_with, lcm}
 use Rattle.kern_reader.specs.Tokens.{IsWellValue}
 use Rattle.kern_reader.proofs.GridLemmas.{gcd_is, gcd_some}
-use Rattle.durations.proofs.Beats.{beat_part}
 
 -- ---- the least common multiple
 
@@ -103,15 +101,3 @@ pub well_value : (v : Value) (n : ℕ) → 1 ≤ n → n ≤ 61440 → value_gri
 well_value v n some few h dots =
     let small = small_plain (plain_grid v.recip) (2 ^ v.dots) n (pow_pos v.dots) some h few in
     record { some = small.0; few = small.1; dots = dots }
-
--- ---- the beat of a signature is a part of 64
-
--- parts of 1/(resolution * den) of a whole note are so many of 64 * resolution
-pub parts_finer : (resolution den : ℕ) → IsTrue (is_den den) → resolution * den * (64 / den) ≡ 64 * resolution
-parts_finer resolution den beat = let whole = div-mul_cancel den (beat_part den beat) in ring resolution den (64 / den) whole
-  where
-    ring : (r d k : ℕ) → k * d ≡ 64 → r * d * k ≡ 64 * r
-    ring r d k e = turned r d k ∙ ap (λ x. x * r) e
-      where
-        turned : (r d k : ℕ) → r * d * k ≡ k * d * r
-        turned r d k = grind arith

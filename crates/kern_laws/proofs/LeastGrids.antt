@@ -12,7 +12,7 @@ use Rattle.kern_reader.specs.Score.{Counts}
 use Rattle.kern_reader.proofs.ColumnLemmas.{grid_counts, split}
 use Rattle.kern_reader.proofs.GridLemmas.{grid_multiple}
 use Rattle.kern_laws.specs.Laws.{GridsAreLeast}
-use Rattle.kern_laws.specs.ScoreLines.{KernLine}
+use Rattle.kern_laws.specs.Lines.{KernLine}
 use Rattle.kern_laws.proofs.GridParts.{grid_divides}
 
 counts : (lines : List KernLine) → All (Counts (grid_of lines)) (flat_map line_values lines)

@@ -27,6 +27,7 @@ pub mod RecordsPairs
 pub mod RecordsPlaces
 pub mod RecordsSay
 pub mod RecordsVoices
+pub mod ScoreLines
 pub mod SpanClean
 pub mod SpanEvents
 pub mod SpanMatch
@@ -40,7 +41,6 @@ pub mod TextSplits
 pub mod TextTests
 pub mod TieValues
 pub mod TokenChords
-pub mod TokenKeys
 pub mod TokenNotes
 pub mod TokenPitches
 pub mod TokenStyles

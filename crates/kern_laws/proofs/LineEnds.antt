@@ -15,7 +15,8 @@ use Rattle.kern_reader.specs.Columns.{announced, columns_of, current_bar, grid_o
 use Rattle.kern_reader.specs.Faults.{has_no_grid, has_wrong_grace, has_wrong_tie, is_head_stage, is_misplaced, is_unfilled, is_unread, is_wrong_bar}
 use Rattle.kern_reader.specs.Lines.{IsWellLine, all_are, is_heading, line_of}
 use Rattle.kern_reader.specs.Text.{columns}
-use Rattle.kern_laws.specs.ScoreLines.{AreBarsLines, Body, ending_line, HasTurn, Head, Heading, KernLine, Last, LastBarline, Over, Said}
+use Rattle.kern_laws.specs.Lines.{KernLine}
+use Rattle.kern_laws.proofs.ScoreLines.{AreBarsLines, Body, ending_line, HasTurn, Head, Heading, Last, LastBarline, Over, Said}
 use Rattle.kern_laws.proofs.BarLines.{FitsBars, IsBetween, IsRested, bars_walk, small_grid, spelled_bars, no_waiting}
 use Rattle.kern_laws.proofs.LineLists.{Every}
 use Rattle.kern_laws.proofs.LineTests.{body_turn, said_right}

@@ -10,7 +10,8 @@ use Rattle.derivation.specs.WellSounded.{AreWellSounded}
 use Rattle.derivation.specs.declared.score.ScoreBar.{ScoreBar}
 use Rattle.derivation.specs.Score.{IsScore, IsScoreBar, Score}
 use Rattle.kern_writer.specs.Values.{AreVoiceValues, VoiceValue}
-use Rattle.kern_laws.specs.ScoreLines.{AreScoreLines, ending_line, Heading, KernLine, LastBarline, StandFrom, voice_said}
+use Rattle.kern_laws.specs.Lines.{KernLine}
+use Rattle.kern_laws.proofs.ScoreLines.{AreScoreLines, ending_line, Heading, LastBarline, StandFrom, voice_said}
 use Rattle.kern_laws.proofs.BarFits.{voice_fits}
 use Rattle.kern_laws.proofs.BarLines.{FitsBars}
 use Rattle.kern_laws.proofs.BarVoice.{AreVoice, are_voice}

@@ -19,7 +19,8 @@ use Rattle.kern_reader.specs.Score.{Counts, IsColumnOn}
 use Rattle.kern_reader.specs.Tokens.{IsWellToken}
 use Rattle.kern_reader.proofs.ColumnLemmas.{columns_on}
 use Rattle.kern_reader.proofs.SpineLemmas.{spine_scaled}
-use Rattle.kern_laws.specs.ScoreLines.{Body, Data, ending_line, HasTurn, Head, KernLine, Last, Over, Stage}
+use Rattle.kern_laws.specs.Lines.{KernLine}
+use Rattle.kern_laws.proofs.ScoreLines.{Body, Data, ending_line, HasTurn, Head, Last, Over, Stage}
 use Rattle.kern_laws.proofs.GridParts.{grid_divides, finer_times}
 use Rattle.kern_laws.proofs.LineLists.{Every, HasOne, each_lengths, least_from}
 use Rattle.kern_laws.proofs.LineWalk.{IsGood}

@@ -4,7 +4,8 @@ use Rattle.std.specs.Prelude.{None, reverse}
 use Rattle.std.proofs.lemmas.List.{reverse-append}
 use Rattle.kern_reader.specs.Columns.{announced, columns_of, current_bar, grid_of, spines_of, stage_of}
 use Rattle.kern_reader.specs.Faults.{first_fault, is_head_stage, said_tests}
-use Rattle.kern_laws.specs.ScoreLines.{HasTurn, KernLine, Over, StandFrom}
+use Rattle.kern_laws.specs.Lines.{KernLine}
+use Rattle.kern_laws.proofs.ScoreLines.{HasTurn, Over, StandFrom}
 
 pub record IsGood (n : ℕ) (before : List KernLine) (line : KernLine) : Type 0 where
   pub turn : HasTurn (stage_of before) line

@@ -3,9 +3,10 @@ use Rattle.std.proofs.Common.{◌≡◌, ℕ, suc, ◌≤◌, List, [], ◌∷�
 use Rattle.rhythm_base.specs.declared.span.Span.{Span}
 use Rattle.rhythm_base.specs.Lists.{Each}
 use Rattle.derivation.proofs.Fractions.{frac_one}
-use Rattle.kern_reader.specs.declared.event.KernEvent.{KernEvent}
+use Rattle.voice_events.specs.declared.event.KernEvent.{KernEvent}
 use Rattle.kern_reader.specs.declared.token.Token.{Token}
-use Rattle.kern_reader.specs.Events.{AreEventsFrom, Beginning, IsKernSpan, beginnings, span_event}
+use Rattle.kern_reader.specs.Events.{AreEventsFrom, Beginning, IsKernSpan, beginnings}
+use Rattle.voice_events.specs.Events.{span_event}
 use Rattle.kern_laws.specs.Laws.{EventsAreOne}
 
 span_one : (grid : ℕ) (b : Beginning) (x y : Span) → 1 ≤ grid → IsKernSpan grid b x → IsKernSpan grid b y → x ≡ y

@@ -9,7 +9,8 @@ use Rattle.kern_reader.specs.declared.token.TimeSignature.{TimeSignature}
 use Rattle.kern_reader.specs.declared.token.Token.{Token}
 use Rattle.kern_reader.specs.Columns.{add_token, columns_of, open_keys, place}
 use Rattle.kern_reader.specs.Faults.{is_grace}
-use Rattle.kern_laws.specs.ScoreLines.{Data, KernLine, Said, grace_lines, grace_lines_at, grace_or_null, graces_or_none, lines_at, main_line, main_or_null, said_at}
+use Rattle.kern_laws.specs.Lines.{KernLine}
+use Rattle.kern_laws.proofs.ScoreLines.{Data, Said, grace_lines, grace_lines_at, grace_or_null, graces_or_none, lines_at, main_line, main_or_null, said_at}
 use Rattle.kern_laws.proofs.GraceSteps.{grace_heard, gracing_begins, gracing_next, main_heard, main_next}
 use Rattle.kern_laws.proofs.LineLists.{Every, HasOne, each_second, one_weaker}
 use Rattle.kern_laws.proofs.LineTests.{IsInside, data_good}

@@ -7,7 +7,7 @@ use Rattle.kern_reader.specs.Columns.{has_value, open_keys, place, token_values,
 use Rattle.kern_reader.specs.Faults.{is_grace_wrong, is_null, is_tie_wrong, stands}
 use Rattle.kern_reader.specs.Score.{Counts}
 use Rattle.kern_reader.specs.Tokens.{IsWellToken}
-use Rattle.kern_laws.specs.ScoreLines.{Said, graces_or_none, said_at}
+use Rattle.kern_laws.proofs.ScoreLines.{Said, graces_or_none, said_at}
 
 -- A bar: the grid in which all values count, how many of its parts are one of 1/whole of a whole note, and where the bar ends,
 -- in these

@@ -10,7 +10,7 @@ use Rattle.kern_reader.specs.declared.token.Token.TheVariants as token
 use Rattle.kern_reader.specs.Columns.{has_value, open_keys, place, waiting, grace_keys}
 use Rattle.kern_reader.specs.Faults.{is_grace, is_null}
 use Rattle.kern_reader.proofs.SpineLemmas.{spine_next, waiting_chord, waiting_rest, is_apart, take_while-stops}
-use Rattle.kern_laws.specs.ScoreLines.{Said, said_at}
+use Rattle.kern_laws.proofs.ScoreLines.{Said, said_at}
 use Rattle.kern_laws.proofs.PlaceParts.{Fits, Frame, next_place, saids_after, token_width}
 
 -- ---- columns

@@ -9,7 +9,8 @@ use Rattle.kern_writer.proofs.RisingPlaces.{contains_cases, contains_here, conta
 use Rattle.kern_reader.specs.declared.token.TimeSignature.{TimeSignature}
 use Rattle.kern_reader.specs.declared.token.Token.{Token}
 use Rattle.kern_reader.specs.Columns.{columns_of, open_keys, place, waiting}
-use Rattle.kern_laws.specs.ScoreLines.{AreSaidPlaces, Data, KernLine, Said, grace_lines, grace_lines_at, grace_or_null, graces_or_none, lines_at, main_or_null, said_at}
+use Rattle.kern_laws.specs.Lines.{KernLine}
+use Rattle.kern_laws.proofs.ScoreLines.{AreSaidPlaces, Data, Said, grace_lines, grace_lines_at, grace_or_null, graces_or_none, lines_at, main_or_null, said_at}
 use Rattle.kern_laws.proofs.LineLists.{Every, HasOne, one_of}
 use Rattle.kern_laws.proofs.LineTests.{IsInside}
 use Rattle.kern_laws.proofs.LineWalk.{Walk, walk_append}

@@ -8,7 +8,7 @@ use Rattle.derivation.specs.PerformanceScore.{score_bar}
 use Rattle.kern_reader.specs.Outcome.{scored}
 use Rattle.kern_reader.specs.Score.{score_columns}
 use Rattle.kern_laws.specs.Laws.{ReadsBack, ScoresReadBack, TextsReadBack}
-use Rattle.kern_laws.specs.ReadBack.{HaveSignatures}
+use Rattle.voice_events.specs.Events.{HaveSignatures}
 use Rattle.kern_laws.proofs.LineScore.{lines_stand}
 use Rattle.kern_laws.proofs.ReadBackTexts.{reads}
 use Rattle.kern_laws.proofs.SpanEvents.{events_are_spans}

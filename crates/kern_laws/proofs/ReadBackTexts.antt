@@ -14,7 +14,8 @@ use Rattle.kern_reader.specs.Lines.{is_ending, is_heading, line_of}
 use Rattle.kern_reader.specs.Outcome.{at_end, read_from, read_text}
 use Rattle.kern_reader.specs.Text.{columns, kern_lines}
 use Rattle.kern_reader.proofs.TextLemmas.{read_next}
-use Rattle.kern_laws.specs.ScoreLines.{AreScoreLines, Body, ending_line, Head, Heading, KernLine, Last, LastBarline, Stage, StandFrom}
+use Rattle.kern_laws.specs.Lines.{KernLine}
+use Rattle.kern_laws.proofs.ScoreLines.{AreScoreLines, Body, ending_line, Head, Heading, Last, LastBarline, Stage, StandFrom}
 use Rattle.kern_laws.proofs.RecordsLines.{SaysInside, SaysLine, row_text}
 use Rattle.kern_laws.proofs.RecordsSay.{SayScore, records_apart, score_rows}
 use Rattle.kern_laws.proofs.TextSplits.{lines_of_records}

@@ -6,11 +6,13 @@ use Rattle.std.proofs.lemmas.List.{length-map, map-append}
 use Rattle.std.proofs.lemmas.List.Elements.{All-head, All-tail}
 use Rattle.rhythm_base.specs.Lists.{Each}
 use Rattle.derivation.specs.declared.score.ScoreBar.{ScoreBar}
-use Rattle.kern_writer.specs.Changes.{changes, key_before, key_change, key_text, same_key, same_signature, same_tempo, signature_change, signature_text, tempo_change, tempo_text}
+use Rattle.kern_writer.specs.Changes.{changes, key_change, key_text, signature_change, signature_text, tempo_change, tempo_text}
+use Rattle.score_words.specs.Changes.{key_before, same_key, same_signature, same_tempo}
 use Rattle.kern_writer.specs.Records.{AreBarRecords, AreBarsRecords, Record, alike, barline_record, records_at, tokens_in_bar}
 use Rattle.derivation.specs.Score.{IsScoreBar}
 use Rattle.kern_writer.specs.Tokens.{Token}
-use Rattle.kern_laws.specs.ScoreLines.{AreBarLines, AreBarsLines, Barline, KernLine, Other, Said, Signature, change_lines, lines_at, said_in_bar}
+use Rattle.kern_laws.specs.Lines.{KernLine}
+use Rattle.kern_laws.proofs.ScoreLines.{AreBarLines, AreBarsLines, Barline, Other, Said, Signature, change_lines, lines_at, said_in_bar}
 use Rattle.kern_laws.proofs.RecordsLines.{SaysInside}
 use Rattle.kern_laws.proofs.RecordsPairs.{each_flat, each_map, each_slot}
 use Rattle.kern_laws.proofs.RecordsPlaces.{BarSays, place_says, same_places}

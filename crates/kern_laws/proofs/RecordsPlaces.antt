@@ -8,7 +8,7 @@ use Rattle.kern_writer.specs.Records.{ArePlaces, grace_column, grace_record, gra
 use Rattle.kern_writer.specs.Tokens.{Token}
 use Rattle.derivation.proofs.Pairs.{each_length}
 use Rattle.kern_reader.specs.declared.token.Token.TheVariants as reads
-use Rattle.kern_laws.specs.ScoreLines.{AreSaidPlaces, Said, grace_line, grace_lines, grace_lines_at, grace_or_null, graces_or_none, lines_at, main_line, main_or_null, said_at}
+use Rattle.kern_laws.proofs.ScoreLines.{AreSaidPlaces, Said, grace_line, grace_lines, grace_lines_at, grace_or_null, graces_or_none, lines_at, main_line, main_or_null, said_at}
 use Rattle.kern_laws.proofs.RecordsLines.{SaysInside, data_says}
 use Rattle.kern_laws.proofs.RecordsPairs.{each_at, each_map, each_turned, partner}
 use Rattle.kern_laws.proofs.RecordsVoices.{SaysGrace, SaysSame}

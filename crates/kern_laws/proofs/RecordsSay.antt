@@ -10,7 +10,8 @@ use Rattle.derivation.specs.Score.{IsScore, Score}
 use Rattle.kern_writer.specs.Tokens.{voice_tokens}
 use Rattle.kern_writer.specs.Values.{AreVoiceValues}
 use Rattle.derivation.proofs.Pairs.{each_length}
-use Rattle.kern_laws.specs.ScoreLines.{AreScoreLines, ending_line, Heading, KernLine, LastBarline, voice_said}
+use Rattle.kern_laws.specs.Lines.{KernLine}
+use Rattle.kern_laws.proofs.ScoreLines.{AreScoreLines, ending_line, Heading, LastBarline, voice_said}
 use Rattle.kern_laws.proofs.RecordsBars.{bars_say}
 use Rattle.kern_laws.proofs.RecordsLines.{SaysInside, SaysLine}
 use Rattle.kern_laws.proofs.RecordsVoices.{voices_say}

@@ -11,14 +11,15 @@ use Rattle.derivation.specs.WellSounded.{AreWellSounded}
 use Rattle.derivation.specs.declared.score.ScoreBar.{ScoreBar}
 use Rattle.derivation.specs.Score.{IsScore, IsScoreBar, Score}
 use Rattle.kern_writer.specs.Values.{AreVoiceValues, VoiceValue}
-use Rattle.kern_reader.specs.declared.event.KernEvent.{KernEvent}
+use Rattle.voice_events.specs.declared.event.KernEvent.{KernEvent}
 use Rattle.kern_reader.specs.declared.token.Token.{Token}
 use Rattle.kern_reader.specs.Columns.{columns_of, grid_of}
 use Rattle.kern_reader.specs.Events.{AreEvents, AreEventsFrom, beginnings}
 use Rattle.kern_reader.specs.Score.{IsColumnOn, IsTokenOn, score_columns}
 use Rattle.kern_reader.proofs.ColumnLemmas.{columns_on, grid_some}
-use Rattle.kern_laws.specs.ReadBack.{AreVoiceSpans, HaveSignatures}
-use Rattle.kern_laws.specs.ScoreLines.{AreScoreLines, KernLine, voice_said}
+use Rattle.voice_events.specs.Events.{AreVoiceSpans, HaveSignatures}
+use Rattle.kern_laws.specs.Lines.{KernLine}
+use Rattle.kern_laws.proofs.ScoreLines.{AreScoreLines, voice_said}
 use Rattle.kern_laws.proofs.BarVoice.{AreVoice}
 use Rattle.kern_laws.proofs.LineEnds.{IsSpelled}
 use Rattle.kern_laws.proofs.LineScore.{few_parts, score_done, sounds_voice}

@@ -14,6 +14,7 @@ use Rattle.rhythm_base.specs.SoundKinds.{begins_chord, is_rest, is_short, is_tie
 use Rattle.durations.specs.Spans.{chord_runs, parts_of_unit, sound_length}
 use Rattle.derivation.proofs.FilledBars.{parts_at}
 use Rattle.derivation.proofs.SpansRead.{ties_of}
+use Rattle.voice_events.proofs.SpansFollow.{tied_length}
 use Rattle.durations.specs.declared.value.Value.{Value}
 use Rattle.durations.specs.Value.{width}
 use Rattle.derivation.specs.declared.score.ScoreBar.{ScoreBar}
@@ -24,7 +25,7 @@ use Rattle.kern_reader.specs.declared.token.Token.{Token}
 use Rattle.kern_reader.specs.Columns.{place, waiting}
 use Rattle.kern_reader.specs.Events.{bar_start, beginnings, tied_values, Beginning}
 use Rattle.kern_reader.proofs.SpineLemmas.{take_while-goes, take_while-stops}
-use Rattle.kern_laws.specs.ScoreLines.{value_token, writing_of}
+use Rattle.kern_laws.proofs.ScoreLines.{value_token, writing_of}
 use Rattle.kern_laws.proofs.BarFits.{valued_said, value_finer, width_said}
 use Rattle.kern_laws.proofs.BarSounded.{AreGroup, AreSounded, IsValue, leaf_values, sound_len, sound_lens}
 use Rattle.kern_laws.proofs.BarVoice.{StandOwn}
@@ -35,10 +36,6 @@ use Rattle.kern_laws.proofs.SpanTokens.{IsReached, graces_bars, graces_begin, gr
 use Rattle.kern_laws.proofs.SpanValues.{first_begins, leaf_read, leaf_tied, leaf_value, value_holds, values_one}
 use Rattle.derivation.proofs.WellSounding.{tie_begins_none, tie_no_rest}
 use Rattle.kern_reader.proofs.EventLemmas.{tied_next}
-
--- how long the ties are that stand first
-abbrev pub tied_length : List Bar → List Sound → ℕ
-tied_length all sounds = sum_by (sound_length all) (ties_of sounds)
 
 length_tie : (all : List Bar) (s : Sound) (sounds : List Sound) → is_tie s.kind ≡ true → tied_length all (s ∷ sounds) ≡ sound_length all s + tied_length all sounds
 length_tie all s sounds tie = ap (sum_by (sound_length all)) (take_while-goes (λ t. is_tie t.kind) s sounds tie) ∙ sum_by-cons (sound_length all) s (ties_of sounds)

@@ -16,7 +16,7 @@ use Rattle.kern_reader.specs.Columns.{has_value, place, waiting}
 use Rattle.kern_reader.specs.Events.{bar_start, bars, beginnings, tied_values}
 use Rattle.kern_reader.specs.Faults.{is_null}
 use Rattle.kern_reader.proofs.SpineLemmas.{waiting_grace}
-use Rattle.kern_laws.specs.ScoreLines.{Said, bar_said, said_graces, value_token, voice_said}
+use Rattle.kern_laws.proofs.ScoreLines.{Said, bar_said, said_graces, value_token, voice_said}
 use Rattle.kern_laws.proofs.BarLines.{said_in, signature_of_bar, spelled_bars}
 use Rattle.kern_laws.proofs.BarVoice.{AreVoice}
 use Rattle.kern_laws.proofs.PlaceParts.{clean, graced, spelled, token_width}

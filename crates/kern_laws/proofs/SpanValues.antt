@@ -16,7 +16,7 @@ use Rattle.kern_reader.specs.declared.token.Token.{Token}
 use Rattle.kern_reader.specs.declared.token.Token.TheVariants as token
 use Rattle.kern_reader.specs.Columns.{place, token_values}
 use Rattle.kern_reader.specs.Events.{beginning, beginnings, holds_tie, tied_values}
-use Rattle.kern_laws.specs.ScoreLines.{tie_mark, value_token, writing_of}
+use Rattle.kern_laws.proofs.ScoreLines.{tie_mark, value_token, writing_of}
 use Rattle.kern_laws.proofs.BarFits.{valued_said, width_said}
 use Rattle.kern_laws.proofs.BarSounded.{leaf_values}
 use Rattle.kern_laws.proofs.SpanTokens.{IsReached, value_reached, values_read}

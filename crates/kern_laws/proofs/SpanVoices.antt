@@ -20,11 +20,12 @@ use Rattle.kern_reader.specs.declared.token.Token.{Token}
 use Rattle.kern_reader.specs.declared.token.Token.TheVariants as token
 use Rattle.kern_reader.specs.Events.{bar_parts, bars, beginnings, tied_values}
 use Rattle.kern_reader.proofs.SpineLemmas.{spine_next}
-use Rattle.kern_laws.specs.ReadBack.{HaveSignatures}
+use Rattle.voice_events.specs.Events.{HaveSignatures}
 use Rattle.kern_laws.proofs.BarLines.{signature_of_bar}
 use Rattle.kern_laws.proofs.BarVoice.{AreVoice}
 use Rattle.kern_laws.proofs.SpanMatch.{IsMatch}
-use Rattle.kern_laws.proofs.SpanRuns.{match_bar, tied_bar, tied_length}
+use Rattle.voice_events.proofs.SpansFollow.{tied_length}
+use Rattle.kern_laws.proofs.SpanRuns.{match_bar, tied_bar}
 use Rattle.kern_laws.proofs.SpanTokens.{IsReached, values_read, voice_read}
 use Rattle.kern_reader.proofs.EventLemmas.{tied_next}
 

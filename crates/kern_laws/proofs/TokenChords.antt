@@ -6,11 +6,12 @@ use Rattle.std.specs.Option.{option_map}
 use Rattle.std.proofs.lemmas.Bool.{and_from}
 use Rattle.std.proofs.lemmas.Bool.Decides.{nat_tests}
 use Rattle.derivation.specs.WellSounded.{AreKeys}
-use Rattle.kern_writer.specs.Tokens.{chord_text, rising_keys}
+use Rattle.kern_writer.specs.Tokens.{chord_text}
+use Rattle.score_words.specs.Keys.{rising_keys}
 use Rattle.kern_reader.specs.Tokens.{◌>>=◌, all_notes, token_chord, chord_of_notes, chord_token, follows, keys_with, note_of, rising_notes, same_style}
 use Rattle.kern_laws.proofs.TextSplits.{split_joined}
 use Rattle.kern_laws.proofs.TextTests.{all_joined, all_weaker, graphic_no_space, graphic_prints, is_graphic, is_printing, lacks}
-use Rattle.kern_laws.proofs.TokenKeys.{KeysRise, keys_rise, keys_set, or_none, set_with}
+use Rattle.score_words.proofs.SetKeys.{KeysRise, keys_rise, keys_set, or_none, set_with}
 use Rattle.kern_laws.proofs.TokenStyles.{Style, note_at}
 
 -- each key's text is read as its note

@@ -11,7 +11,7 @@ use Rattle.kern_writer.specs.Tokens.{closing, goes_on, note_text, opening, short
 use Rattle.kern_writer.specs.Values.{VoiceValue}
 use Rattle.kern_reader.specs.Lines.{digit_first}
 use Rattle.kern_reader.specs.Tokens.{IsWellValue, after_value, is_pitch_byte, is_value_byte, pitch_key, marks_of, marks_part, note_of, pitch_part, value_of, value_part, valued_note}
-use Rattle.kern_laws.specs.ScoreLines.{tie_mark, writing_of}
+use Rattle.kern_laws.proofs.ScoreLines.{tie_mark, writing_of}
 use Rattle.kern_laws.proofs.Pitches.{pitches}
 use Rattle.kern_laws.proofs.TextRuns.{run_dropped, run_taken}
 use Rattle.kern_laws.proofs.TextTests.{all_append, is_graphic}

@@ -15,7 +15,7 @@ use Rattle.kern_reader.specs.declared.token.Token.{Token}
 use Rattle.kern_reader.specs.declared.token.Token.TheVariants as token
 use Rattle.kern_reader.specs.Lines.{digit_first}
 use Rattle.kern_reader.specs.Tokens.{IsWellValue, after_value, token_chord, is_value_byte, rest_of, token_of, value_part}
-use Rattle.kern_laws.specs.ScoreLines.{value_token, writing_of}
+use Rattle.kern_laws.proofs.ScoreLines.{value_token, writing_of}
 use Rattle.kern_laws.proofs.TextRuns.{run_dropped, run_taken}
 use Rattle.kern_laws.proofs.TextTests.{all_append, all_weaker, graphic_prints, is_graphic, is_printing}
 use Rattle.kern_laws.proofs.TokenChords.{chord_read}

@@ -10,13 +10,15 @@ use Rattle.std.proofs.lemmas.Fmt.{decimal_nonempty}
 use Rattle.std.proofs.lemmas.List.{length-replicate}
 use Rattle.rhythm_base.specs.Signatures.{IsSignature, is_den}
 use Rattle.derivation.specs.declared.score.ScoreBar.{ScoreBar}
-use Rattle.kern_writer.specs.Changes.{accidentals, key_text, quarters_of_minute, signature_text, tempo_text}
+use Rattle.kern_writer.specs.Changes.{accidentals, key_text, signature_text, tempo_text}
+use Rattle.score_words.specs.Changes.{quarters_of_minute}
 use Rattle.kern_writer.specs.Records.{alike, barline_record, head}
 use Rattle.kern_reader.specs.declared.token.TimeSignature.{TimeSignature}
 use Rattle.kern_reader.specs.Lines.{all_are, begins_signature, is_ending, is_heading, is_refused_word, line_of, other_line, signature_of, signature_of_numbers, signature_of_parts}
 use Rattle.kern_reader.specs.Text.{begins_with, columns}
 use Rattle.kern_reader.specs.Tokens.{◌>>=◌, number_of}
-use Rattle.kern_laws.specs.ScoreLines.{Barline, ending_line, Heading, KernLine, LastBarline, Other, Signature}
+use Rattle.kern_laws.specs.Lines.{KernLine}
+use Rattle.kern_laws.proofs.ScoreLines.{Barline, ending_line, Heading, LastBarline, Other, Signature}
 use Rattle.kern_laws.proofs.RecordsLines.{SaysInside, SaysLine, not_all, other_said, row_columns, row_says, row_text}
 use Rattle.kern_laws.proofs.TextNumbers.{number_back}
 use Rattle.kern_laws.proofs.TextSplits.{split_first, split_last}

@@ -14,14 +14,14 @@ use Rattle.kern_writer.specs.PerformanceText.{IsTextOf}
 use Rattle.derivation.specs.Score.{IsScore, Score}
 use Rattle.kern_writer.specs.Text.{IsScoreText}
 use Rattle.kern_writer.specs.Tokens.{value_text}
-use Rattle.kern_reader.specs.declared.event.KernEvent.{KernEvent}
+use Rattle.voice_events.specs.declared.event.KernEvent.{KernEvent}
 use Rattle.kern_reader.specs.Columns.{grid_of, line_values}
 use Rattle.kern_reader.specs.Events.{AreEvents}
 use Rattle.kern_reader.specs.Outcome.{score_of}
 use Rattle.kern_reader.specs.Score.{Counts, IsKernScore, KernColumns}
 use Rattle.kern_reader.specs.Tokens.{IsWellValue, pitch_key, value_of}
-use Rattle.kern_laws.specs.ReadBack.{AreVoiceSpans, HaveSignatures}
-use Rattle.kern_laws.specs.ScoreLines.{KernLine}
+use Rattle.voice_events.specs.Events.{AreVoiceSpans, HaveSignatures}
+use Rattle.kern_laws.specs.Lines.{KernLine}
 
 -- ---- a score that was read
 
@@ -62,10 +62,6 @@ abbrev pub OnlyValueTextsAreRead : Type 0
 OnlyValueTextsAreRead = (text : List ℕ) (v : Value) → value_of text ≡ Some v → IsWellValue v × (text ≡ value_text v)
 
 -- ---- scores that are written
-
--- the voices of a score that can be written have spans, as events of the spines
-abbrev pub VoiceSpansExist : Type 0
-VoiceSpansExist = (s : Score) (bars : List Bar) → IsScore s → (events : List KernEvent) × AreVoiceSpans s.resolution bars 1 s.voices events
 
 -- a text is read without a fault, and its events are the spans of the sounds of the voices, over these bars
 pub record ReadsBack (resolution : ℕ) (bars : List Bar) (voices : List (List Sound)) (text : List ℕ) : Type 0 where

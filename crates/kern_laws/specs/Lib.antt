@@ -1,3 +1,2 @@
 pub mod Laws
-pub mod ReadBack
-pub mod ScoreLines
+pub mod Lines

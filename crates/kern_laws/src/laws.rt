@@ -9,7 +9,6 @@ ghost use Rattle.kern_laws.specs.Laws.{
   ScoresReadBack,
   TextsReadBack,
   ValuesReadBack,
-  VoiceSpansExist,
 };
 
 /// A score that is read of a text is in its ranges.
@@ -50,11 +49,6 @@ pub fn values_read_back()
 /// A text is read as a value only where it is the text that is written of this value.
 pub fn only_value_texts_are_read()
     ensures { OnlyValueTextsAreRead }
-{}
-
-/// The voices of each score that can be written have spans.
-pub fn voice_spans_exist()
-    ensures { VoiceSpansExist }
 {}
 
 /// The text of every score that can be written has no line with a fault, and its events are the spans of the score's sounds.

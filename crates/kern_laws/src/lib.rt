@@ -7,5 +7,5 @@ mod laws;
 pub use laws::{
     events_are_one, events_exist, grids_are_least, only_pitches_are_read,
     only_value_texts_are_read, pitches_read_back, scores_are_in_range, scores_read_back,
-    texts_read_back, values_read_back, voice_spans_exist,
+    texts_read_back, values_read_back,
 };

@@ -11,14 +11,15 @@ use Rattle.rhythm_base.specs.declared.span.Span.{Span}
 use Rattle.rhythm_base.specs.Lists.{Each}
 use Rattle.durations.specs.declared.value.Value.{Value}
 use Rattle.durations.specs.Value.{width}
-use Rattle.kern_reader.specs.declared.event.KernEvent.{KernEvent}
+use Rattle.voice_events.specs.declared.event.KernEvent.{KernEvent}
 use Rattle.kern_reader.specs.declared.events.Walk.{Walk}
 use Rattle.kern_reader.specs.declared.token.TimeSignature.{TimeSignature}
 use Rattle.kern_reader.specs.declared.token.Token.{Token}
 use Rattle.kern_reader.specs.declared.token.Token.TheVariants as token
 use Rattle.kern_reader.specs.declared.token.Writing.{Writing}
 use Rattle.kern_reader.specs.Columns.{place, spine_after, spine_at, token_values, waiting}
-use Rattle.kern_reader.specs.Events.{AreColumnSpans, AreEventsFrom, IsKernSpan, IsWalk, bar_parts, bars, beginning, beginnings, span_event, holds_tie, tied_values, token_bars}
+use Rattle.kern_reader.specs.Events.{AreColumnSpans, AreEventsFrom, IsKernSpan, IsWalk, bar_parts, bars, beginning, beginnings, holds_tie, tied_values, token_bars}
+use Rattle.voice_events.specs.Events.{span_event}
 use Rattle.kern_reader.specs.Score.{IsColumnOn, IsTokenOn}
 use Rattle.kern_reader.proofs.GridWalk.{next_of}
 use Rattle.kern_reader.proofs.SpineLemmas.{place_few, spine_next, take_while-goes, waiting_chord, waiting_grace, waiting_null, waiting_rest}

@@ -3,7 +3,6 @@ pub mod ColumnLemmas
 pub mod EventLemmas
 pub mod GridLemmas
 pub mod GridWalk
-pub mod KeysBetween
 pub mod KeyLemmas
 pub mod LineLemmas
 pub mod LinesToRead

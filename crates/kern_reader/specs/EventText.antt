@@ -1,17 +1,10 @@
 -- How events are printed.
-use Rattle.std.specs.Prelude.{ℕ, suc, zero, ◌+◌, ◌/◌, ◌%◌, ◌^◌, ◌==◌, Bool, true, false, if◌then◌else◌, List, [], ◌∷◌, ◌++◌, codes, decimal}
+use Rattle.std.specs.Prelude.{ℕ, Bool, true, false, List, [], ◌∷◌, ◌++◌, codes, decimal}
 use Rattle.std.specs.List.{flat_map}
 use Rattle.rhythm_base.specs.declared.span.Frac.{Frac}
 use Rattle.rhythm_base.specs.declared.span.Span.{Span}
-use Rattle.kern_reader.specs.declared.event.KernEvent.{KernEvent}
-
--- the keys of a set from a key on, among so many, rising
-abbrev pub event_keys : ℕ → ℕ → ℕ → List ℕ
-event_keys keys k zero = []
-event_keys keys k (suc n) = (if (keys / 2 ^ k) % 2 == 1 then k ∷ [] else []) ++ event_keys keys (k + 1) n
-
-unfoldable pub set_keys : ℕ → List ℕ
-set_keys keys = event_keys keys 0 128
+use Rattle.score_words.specs.Keys.{rising_keys}
+use Rattle.voice_events.specs.declared.event.KernEvent.{KernEvent}
 
 -- a key, after a comma where it is not the first
 abbrev pub event_key : Bool → ℕ → List ℕ
@@ -32,7 +25,7 @@ listed_on true keys = listed_text keys
 listed_on false keys = later_keys_text keys
 
 abbrev pub keys_text : ℕ → List ℕ
-keys_text keys = listed_text (set_keys keys)
+keys_text keys = listed_text (rising_keys keys)
 
 abbrev pub frac_text : Frac → List ℕ
 frac_text f = decimal f.num ++ (codes "/" ++ decimal f.den)

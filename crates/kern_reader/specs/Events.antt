@@ -6,7 +6,8 @@ use Rattle.rhythm_base.specs.Lists.{Each}
 use Rattle.durations.specs.Spans.{IsFrac}
 use Rattle.durations.specs.declared.value.Value.{Value}
 use Rattle.durations.specs.Value.{width}
-use Rattle.kern_reader.specs.declared.event.KernEvent.{KernEvent}
+use Rattle.voice_events.specs.declared.event.KernEvent.{KernEvent}
+use Rattle.voice_events.specs.Events.{span_event}
 use Rattle.kern_reader.specs.declared.events.Walk.{Walk}
 use Rattle.kern_reader.specs.declared.token.TimeSignature.{TimeSignature}
 use Rattle.kern_reader.specs.declared.token.Token.{Token}
@@ -79,9 +80,6 @@ abbrev pub AreColumnSpans : ℕ → List Token → List Span → Type 0
 AreColumnSpans grid column spans = Each (IsKernSpan grid) (beginnings [] column) spans
 
 -- ---- events
-
-abbrev pub span_event : ℕ → Span → KernEvent
-span_event spine span = record { spine = spine; span = span }
 
 -- the spans of the spines from this number on, spine after spine
 abbrev pub AreEventsFrom : ℕ → ℕ → List (List Token) → List KernEvent → Type 0

@@ -1,19 +1,12 @@
 ghost use Rattle.kern_reader.specs.EventText as definitions;
 ghost use Rattle.kern_reader.specs.EventText.{event_text, events_text, frac_text, keys_text, kind_text};
 ghost use Rattle.std.specs.List.{flat_map};
-ghost use Rattle.std.specs.Prelude.{◌≡◌, ◌++◌, OnOk, decimal};
+ghost use Rattle.std.specs.Prelude.{◌≡◌, ◌++◌, OnOk};
 
-use crate::event::KernEvent;
 use rhythm_base::{Frac, Keys, Span};
+use score_words::{RisingKeys, push_number};
 use std::alloc::AllocError;
-
-/// Appends a number in decimal digits.
-fn push_number(text: &mut Vec<u8>, number: u64) -> Result<(), AllocError>
-    ensures { OnOk result (text.new.items ≡ text.old.items ++ decimal number) }
-{
-    let mut buffer = itoa::Buffer::new();
-    text.extend_from_slice(buffer.format(number).as_bytes())
-}
+use voice_events::KernEvent;
 
 /// Appends a fraction.
 fn push_frac(text: &mut Vec<u8>, frac: Frac) -> Result<(), AllocError>
@@ -38,12 +31,11 @@ fn push_key(text: &mut Vec<u8>, first: bool, key: u8) -> Result<(), AllocError>
 fn push_keys(text: &mut Vec<u8>, keys: Keys) -> Result<(), AllocError>
     ensures { OnOk result (text.new.items ≡ text.old.items ++ keys_text keys) }
 {
+    let mut left = RisingKeys::of(keys);
     let mut first = true;
-    'keys: for key in keys.lowest()..keys.end() {
-        if keys.has(key) {
-            push_key(text, first, key)?;
-            first = false;
-        }
+    'keys: while let Some(key) = left.next() {
+        push_key(text, first, key)?;
+        first = false;
     }
     Ok(())
 }

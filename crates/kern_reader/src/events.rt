@@ -1,7 +1,8 @@
 ghost use Rattle.durations.specs.Value as lengths;
 ghost use Rattle.kern_reader.specs.Columns.{has_value, token_values};
 ghost use Rattle.kern_reader.specs.Events as definitions;
-ghost use Rattle.kern_reader.specs.Events.{AreColumnSpans, IsKernSpan, IsWalk, beginning, span_event, tied_values};
+ghost use Rattle.kern_reader.specs.Events.{AreColumnSpans, IsKernSpan, IsWalk, beginning, tied_values};
+ghost use Rattle.voice_events.specs.Events.{span_event};
 ghost use Rattle.kern_reader.specs.Score.{IsColumnOn, IsTokenOn};
 ghost use Rattle.kern_reader.specs.Tokens.{IsWellToken, IsWellValue};
 ghost use Rattle.rhythm_base.specs.Lists.{Each};
@@ -10,7 +11,6 @@ ghost use Rattle.kern_reader.specs.declared.token.Token.{Token};
 ghost use Rattle.std.specs.List.{flat_map};
 ghost use Rattle.std.specs.Prelude.{◌≡◌, ◌≤◌, ◌<◌, ◌+◌, ◌*◌, ◌^◌, ◌++◌, ◌∷◌, [], ℕ, List, All, IfOk, OnOk, length, map, sum, sum_by};
 
-use crate::event::KernEvent;
 use crate::grid::{token_value, width};
 use crate::place::{bar_parts, frac};
 use crate::score::KernScore;
@@ -18,6 +18,7 @@ use crate::spine::marks_tie;
 use crate::token::{Token, Writing};
 use rhythm_base::{Graces, Keys, Span};
 use std::alloc::{AllocError, Global};
+use voice_events::KernEvent;
 
 /// Where in a column the reading of its spans is.
 #[derive(Drop)]

@@ -4,7 +4,6 @@
 
 mod checks;
 mod chord;
-mod event;
 mod event_text;
 mod events;
 mod fault;
@@ -28,7 +27,7 @@ mod token;
 mod tokens;
 mod value;
 
-pub use event::KernEvent;
 pub use fault::{KernFault, KernWhat};
 pub use read::read_kern;
 pub use score::KernScore;
+pub use voice_events::KernEvent;

@@ -1,5 +1,6 @@
 ghost use Rattle.kern_reader.specs.EventText.{events_text};
-ghost use Rattle.kern_reader.specs.Events.{AreColumnSpans, span_event};
+ghost use Rattle.kern_reader.specs.Events.{AreColumnSpans};
+ghost use Rattle.voice_events.specs.Events.{span_event};
 ghost use Rattle.kern_reader.specs.Score.{IsColumnOn};
 ghost use Rattle.rhythm_base.specs.declared.span.Span.{Span};
 ghost use Rattle.std.specs.Prelude.{◌≡◌, ◌≤◌, ◌<◌, ◌^◌, ◌++◌, List, IfOk, OnOk, length, map};
@@ -39,7 +40,7 @@ fn push_column(
 
 impl KernScore {
     ghost use Rattle.kern_reader.specs.Events.{AreEvents};
-    ghost use Rattle.kern_reader.specs.declared.event.KernEvent.{KernEvent};
+    ghost use Rattle.voice_events.specs.declared.event.KernEvent.{KernEvent};
 
     /// The lines of the sounding spans of the score, by spine and then by start: `SPINE START LENGTH KIND KEYS` and the grace
     /// chords, with fractions of a whole note from the beginning of the score in lowest terms. Beside the score it takes memory

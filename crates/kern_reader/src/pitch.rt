@@ -1,8 +1,9 @@
 ghost use Rattle.kern_reader.specs.Tokens as definitions;
 ghost use Rattle.kern_reader.specs.Tokens.{altered, pitch_key, octave_of};
-ghost use Rattle.durations.specs.Pitch as pitches;
 ghost use Rattle.std.specs.List.{prefix_len};
 ghost use Rattle.std.specs.Prelude.{◌≡◌, ◌<◌, ◌≤◌, ◌==◌, IfSome, length, position};
+
+use score_words::is_black;
 
 /// The white keys of an octave by their letters.
 const WHITE: [u8; 12] = *b"c.d.ef.g.a.b";
@@ -51,13 +52,6 @@ fn white_key(letter: u8) -> Option<u8>
         Some(key) => Some(key as u8),
         None => None,
     }
-}
-
-/// Whether a key of an octave, 0 for C to 11 for B, is black.
-fn is_black(key: u8) -> bool
-    ensures { result ≡ pitches.is_black key }
-{
-    matches!(key, 1 | 3 | 6 | 8 | 10)
 }
 
 /// The key that an accidental makes of a white one.

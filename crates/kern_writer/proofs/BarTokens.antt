@@ -17,7 +17,8 @@ use Rattle.durations.proofs.Bars.{values_in, written_fills, written_one}
 use Rattle.durations.proofs.Wide.{some_product, some_parts}
 use Rattle.derivation.specs.declared.score.ScoreBar.{ScoreBar}
 use Rattle.kern_writer.specs.Columns.{AreTokens, RiseFrom, column_tokens, next_in_column}
-use Rattle.kern_writer.specs.Tokens.{Token, bar_tokens, has_flats, next_goes_on, token}
+use Rattle.kern_writer.specs.Tokens.{Token, bar_tokens, next_goes_on, token}
+use Rattle.score_words.specs.Changes.{has_flats}
 use Rattle.kern_writer.specs.Values.{AreBarValues, VoiceValue, is_first, timed, value_of_sound, values_of_sounds}
 use Rattle.kern_writer.proofs.Rising.{rise_weaker}
 use Rattle.durations.proofs.ValuesExist.{written_exist}

@@ -6,9 +6,7 @@ pub mod ColumnLemmas
 pub mod Merging
 pub mod OneText
 pub mod Rising
-pub mod RisingKeys
 pub mod RisingPlaces
-pub mod Separators
 pub mod TextsExist
 pub mod TimedSounds
 pub mod VoiceTokens

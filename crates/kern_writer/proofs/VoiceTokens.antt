@@ -10,7 +10,8 @@ use Rattle.derivation.specs.declared.score.ScoreBar.{ScoreBar}
 use Rattle.kern_writer.specs.Ahead.{AreTokensAhead, begins_with_tie, later_sounds, own_sounds}
 use Rattle.kern_writer.specs.Columns.{column_tokens}
 use Rattle.derivation.specs.Score.{IsScoreBar}
-use Rattle.kern_writer.specs.Tokens.{Token, has_flats, next_goes_on, voice_tokens}
+use Rattle.kern_writer.specs.Tokens.{Token, next_goes_on, voice_tokens}
+use Rattle.score_words.specs.Changes.{has_flats}
 use Rattle.kern_writer.specs.Values.{AreBarValues, AreVoiceValues, VoiceValue, sounds_in_bar}
 use Rattle.kern_writer.proofs.BarSounds.{first_in_bar, in_bar_own, in_later, stand_later}
 use Rattle.kern_writer.proofs.BarTokens.{bar_tokens_are, bar_values_one, first_goes, tokens_exist}

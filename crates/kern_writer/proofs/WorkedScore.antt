@@ -18,7 +18,8 @@ use Rattle.derivation.specs.declared.score.ScoreBar.{ScoreBar}
 use Rattle.kern_writer.specs.Records.{Record, records_at, tokens_in_bar}
 use Rattle.derivation.specs.Score.{Score}
 use Rattle.kern_writer.specs.Text.{IsScoreText}
-use Rattle.kern_writer.specs.Tokens.{Token, rising_keys, voice_tokens}
+use Rattle.kern_writer.specs.Tokens.{Token, voice_tokens}
+use Rattle.score_words.specs.Keys.{rising_keys}
 use Rattle.kern_writer.specs.Values.{AreBarValues, VoiceValue}
 
 abbrev half : SoundKind → ℕ → Sound

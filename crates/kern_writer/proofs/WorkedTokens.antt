@@ -7,7 +7,9 @@ use Rattle.durations.specs.declared.value.Recip.{Recip}
 use Rattle.durations.specs.declared.value.Recip.TheVariants.{Of, Breve, Long}
 use Rattle.durations.specs.declared.value.Value.{Value}
 use Rattle.std.specs.Fmt.{digits}
-use Rattle.kern_writer.specs.Tokens.{Token, bar_tokens, grace_text, has_flats, rising_keys, value_text}
+use Rattle.kern_writer.specs.Tokens.{Token, bar_tokens, grace_text, value_text}
+use Rattle.score_words.specs.Changes.{has_flats}
+use Rattle.score_words.specs.Keys.{rising_keys}
 use Rattle.kern_writer.specs.Values.{VoiceValue}
 
 abbrev value : Recip → ℕ → Value

@@ -5,7 +5,8 @@ use Rattle.std.specs.List.{flat_map}
 use Rattle.rhythm_base.specs.declared.sound.Sound.{Sound}
 use Rattle.derivation.specs.declared.score.ScoreBar.{ScoreBar}
 use Rattle.kern_writer.specs.Records.{ArePlaces, Record, records_at}
-use Rattle.kern_writer.specs.Tokens.{Token, goes_on, has_flats, token}
+use Rattle.score_words.specs.Changes.{has_flats}
+use Rattle.kern_writer.specs.Tokens.{Token, goes_on, token}
 use Rattle.kern_writer.specs.Values.{AreBarValues, VoiceValue}
 
 -- ---- the tokens of a bar, after whose values one follows that goes on, or none that does

@@ -1,6 +1,5 @@
 -- The tokens that stand alike in all columns of a record.
-use Rattle.std.specs.Prelude.{ℕ, List, [], ◌∷◌, ◌++◌, codes, decimal}
-use Rattle.std.proofs.Common.{suc, zero}
+use Rattle.std.specs.Prelude.{ℕ, List, ◌++◌, codes, decimal}
 use Rattle.kern_writer.specs.declared.shared.SharedToken.{SharedToken}
 use Rattle.kern_writer.specs.declared.shared.SharedToken.TheVariants as variants
 use Rattle.kern_writer.specs.Changes.{key_text}
@@ -13,8 +12,3 @@ shared_text (variants.Tempo quarters) = codes "*MM" ++ decimal quarters
 shared_text (variants.Barline number) = codes "=" ++ decimal number
 shared_text variants.LastBarline = codes "=="
 shared_text variants.End = codes "*-"
-
--- the separator before the column of this number: none before the first
-abbrev pub separator_text : ℕ → ℕ → List ℕ
-separator_text byte zero = []
-separator_text byte (suc number) = byte ∷ []

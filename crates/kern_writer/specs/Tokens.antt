@@ -1,5 +1,5 @@
 -- Tokens: what stands in the column of a voice at a place at which it has a value.
-use Rattle.std.specs.Prelude.{ℕ, ℤ, pos, negsuc, Bool, true, false, ◌&&◌, ◌||◌, not, ◌%◌, ◌/◌, ◌^◌, ◌==◌, if◌then◌else◌, List, [], ◌∷◌, ◌++◌, codes, decimal, map, replicate, Option, Some, None, zero, suc}
+use Rattle.std.specs.Prelude.{ℕ, Bool, false, ◌&&◌, ◌||◌, not, if◌then◌else◌, List, [], ◌∷◌, ◌++◌, codes, decimal, map, replicate}
 use Rattle.std.specs.List.{flat_map, join_with_byte}
 use Rattle.durations.specs.Pitch.{pitch}
 use Rattle.rhythm_base.specs.SoundKinds.{is_rest, is_short, is_tie}
@@ -7,9 +7,11 @@ use Rattle.durations.specs.declared.value.Recip.{Recip}
 use Rattle.durations.specs.declared.value.Recip.TheVariants.{Of, Breve, Long}
 use Rattle.durations.specs.declared.value.Value.{Value}
 use Rattle.derivation.specs.declared.score.ScoreBar.{ScoreBar}
+use Rattle.score_words.specs.Changes.{has_flats}
+use Rattle.score_words.specs.Keys.{rising_keys}
 use Rattle.kern_writer.specs.Values.{VoiceValue}
 
--- ---- values and keys
+-- ---- values and chords
 
 -- 1/n of a whole note is written n, two whole notes 0 and four 00, and each dot after it
 abbrev pub recip_text : Recip → List ℕ
@@ -19,20 +21,6 @@ recip_text Long = codes "00"
 
 abbrev pub value_text : Value → List ℕ
 value_text v = recip_text v.recip ++ replicate v.dots 46
-
--- black keys are flats where the key signature has flats
-abbrev pub has_flats : Option ℤ → Bool
-has_flats None = false
-has_flats (Some (pos n)) = false
-has_flats (Some (negsuc n)) = true
-
--- the keys of a set, rising
-abbrev pub keys_from : ℕ → ℕ → ℕ → List ℕ
-keys_from keys k zero = []
-keys_from keys k (suc n) = (if (keys / 2 ^ k) % 2 == 1 then k ∷ [] else []) ++ keys_from keys (suc k) n
-
-unfoldable pub rising_keys : ℕ → List ℕ
-rising_keys keys = keys_from keys 0 128
 
 -- the notes of a chord, by rising key, with a space between two
 abbrev pub chord_text : (ℕ → List ℕ) → ℕ → List ℕ

@@ -1,65 +1,14 @@
-ghost use Rattle.kern_writer.specs.Changes as definitions;
-ghost use Rattle.kern_writer.specs.Changes.{changes, key_before, key_change, quarters_of_minute, signature_change, tempo_change};
+ghost use Rattle.kern_writer.specs.Changes.{changes, key_change, signature_change, tempo_change};
 ghost use Rattle.kern_writer.specs.Records.{alike};
 ghost use Rattle.derivation.specs.Score.{IsScoreBar};
 ghost use Rattle.kern_writer.specs.Writing.{IsBounded, WritesRecords};
-ghost use Rattle.std.specs.Prelude.{◌≡◌, ◌≤◌, IfSome, map};
+ghost use Rattle.std.specs.Prelude.{IfSome, map};
 
 use crate::fault::ScoreFault;
 use crate::kern_text::KernText;
 use crate::shared::{SharedToken, write_shared};
 use derivation::ScoreBar;
-
-/// The quarter notes of a minute, rounded, halves up.
-fn quarters(bar: &ScoreBar) -> u64
-    requires { IsScoreBar bar.now }
-    ensures { result ≡ quarters_of_minute bar.now.tempo }
-{
-    let tempo = u64::from(bar.tempo);
-    (120_000_000 + tempo) / (2 * tempo)
-}
-
-/// Whether a key is the one before.
-fn is_same_key(before: Option<i8>, sf: i8) -> bool
-    ensures { result ≡ definitions.same_key before sf }
-{
-    match before {
-        None => false,
-        Some(other) => other == sf,
-    }
-}
-
-/// Whether the signature of a bar is the one before.
-fn is_same_signature(before: Option<ScoreBar>, bar: &ScoreBar) -> bool
-    ensures { result ≡ definitions.same_signature before bar.now }
-{
-    match before {
-        None => false,
-        Some(other) => other.num == bar.num && other.den == bar.den,
-    }
-}
-
-/// Whether the tempo of a bar is rounded to the same number as the one before.
-fn is_same_tempo(before: Option<ScoreBar>, bar: &ScoreBar) -> bool
-    requires before { IfSome before IsScoreBar }
-    requires bar { IsScoreBar bar.now }
-    ensures { result ≡ definitions.same_tempo before bar.now }
-{
-    match before {
-        None => false,
-        Some(other) => quarters(&other) == quarters(bar),
-    }
-}
-
-/// The key before.
-fn key_of(before: Option<ScoreBar>) -> Option<i8>
-    ensures { result ≡ key_before before }
-{
-    match before {
-        None => None,
-        Some(other) => other.sf,
-    }
-}
+use score_words::{is_same_key, is_same_signature, is_same_tempo, key_before, quarters_of_minute};
 
 /// Writes the key of a bar, where it has one and it is not the one before.
 fn write_key(
@@ -109,7 +58,7 @@ fn write_tempo(
     if is_same_tempo(before, bar) {
         return Ok(());
     }
-    write_shared(text, voices, SharedToken::Tempo(quarters(bar)))
+    write_shared(text, voices, SharedToken::Tempo(quarters_of_minute(bar)))
 }
 
 /// Writes the changes before a bar.
@@ -124,7 +73,7 @@ pub(crate) fn write_changes(
     requires bar { IsScoreBar bar.now }
     ensures { WritesRecords (map (alike voices) (changes before bar.now)) text.old result text.new }
 {
-    write_key(text, voices, key_of(before), bar.sf)?;
+    write_key(text, voices, key_before(before), bar.sf)?;
     write_signature(text, voices, before, bar)?;
     write_tempo(text, voices, before, bar)
 }

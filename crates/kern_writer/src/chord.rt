@@ -2,11 +2,11 @@ ghost use Rattle.kern_writer.specs.Tokens.{chord_text, closing, goes_on, grace_t
 ghost use Rattle.durations.specs.Pitch.{pitch};
 ghost use Rattle.std.specs.Prelude.{◌≡◌, ◌++◌, IsTrue, OnOk, codes};
 
-use crate::kern_text::push_between;
 use crate::pitch::push_pitch;
 use crate::value_text::push_value;
 use crate::voice_value::VoiceValue;
 use rhythm_base::{Keys, SoundKind};
+use score_words::{RisingKeys, push_between};
 use std::alloc::AllocError;
 
 /// Appends the bracket of the first value of a span of several.
@@ -66,14 +66,12 @@ fn push_notes(
 ) -> Result<(), AllocError>
     ensures { OnOk result (text.new.items ≡ text.old.items ++ chord_text (note_text flats value.now next) value.now.sound.keys) }
 {
-    let keys = value.sound.keys;
+    let mut left = RisingKeys::of(value.sound.keys);
     let mut number = 0;
-    'keys: for key in keys.lowest()..keys.end() {
-        if keys.has(key) {
-            push_between(text, b' ', number)?;
-            push_note(text, flats, value, next, key)?;
-            number += 1;
-        }
+    'keys: while let Some(key) = left.next() {
+        push_between(text, b' ', number)?;
+        push_note(text, flats, value, next, key)?;
+        number += 1;
     }
     Ok(())
 }
@@ -107,13 +105,12 @@ fn push_grace_note(text: &mut Vec<u8>, flats: bool, key: u8) -> Result<(), Alloc
 pub(crate) fn push_grace(text: &mut Vec<u8>, flats: bool, keys: Keys) -> Result<(), AllocError>
     ensures { OnOk result (text.new.items ≡ text.old.items ++ grace_text flats keys) }
 {
+    let mut left = RisingKeys::of(keys);
     let mut number = 0;
-    'grace_keys: for key in keys.lowest()..keys.end() {
-        if keys.has(key) {
-            push_between(text, b' ', number)?;
-            push_grace_note(text, flats, key)?;
-            number += 1;
-        }
+    'keys: while let Some(key) = left.next() {
+        push_between(text, b' ', number)?;
+        push_grace_note(text, flats, key)?;
+        number += 1;
     }
     Ok(())
 }

@@ -1,7 +1,6 @@
 ghost use Rattle.kern_writer.specs.Columns.{AreTokens, RiseFrom, first_place, tokens_after};
 ghost use Rattle.kern_writer.specs.Records.{grace_column, grace_tokens, main_column, token_at};
 ghost use Rattle.derivation.specs.Score.{IsScoreBar};
-ghost use Rattle.kern_writer.specs.Tokens as tokens;
 ghost use Rattle.rhythm_base.specs.declared.limits.TheConstants.{MOST_UNITS};
 ghost use Rattle.std.specs.Prelude.{◌≡◌, is_some, ◌≤◌, ◌++◌, All, IfOk, OnOk, length, map, slice_get, sum};
 
@@ -9,6 +8,7 @@ use crate::token::Token;
 use crate::voice_value::{VoiceValue, bar_values};
 use derivation::ScoreBar;
 use rhythm_base::Sound;
+use score_words::has_flats;
 use std::alloc::{AllocError, Global};
 use std::marker::Model;
 
@@ -34,13 +34,6 @@ impl<'a> Model for Column<'a> {
     ghost view = { λ c. column_tokens c.flats c.goes_on (drop c.written c.values.items) };
 
     ghost invariant = { λ c. c.written ≤ length c.values.items };
-}
-
-/// Whether black keys are flats in a bar.
-fn has_flats(bar: &ScoreBar) -> bool
-    ensures { result ≡ tokens.has_flats bar.now.sf }
-{
-    bar.sf.is_some_and(|sf| sf < 0)
 }
 
 impl<'a> Column<'a> {

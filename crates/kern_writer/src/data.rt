@@ -6,7 +6,8 @@ ghost use Rattle.std.specs.Prelude.{◌≡◌, ◌≤◌, ◌∷◌, [], All, Li
 
 use crate::column::Column;
 use crate::fault::ScoreFault;
-use crate::kern_text::{KernText, push_between};
+use crate::kern_text::KernText;
+use score_words::push_between;
 
 /// The earlier of two places.
 fn earlier(first: Option<u64>, second: Option<u64>) -> Option<u64>

@@ -1,11 +1,10 @@
-ghost use Rattle.kern_writer.specs.Shared.{separator_text};
 ghost use Rattle.kern_writer.specs.declared.fault.ScoreFault.TheVariants.{TooLong};
 ghost use Rattle.kern_writer.specs.Writing.{HasEnded, IfTooLong, IsPastLongest};
-ghost use Rattle.std.specs.Prelude.{◌≡◌, ◌+◌, ◌<◌, ◌≤◌, MatchResult, OnOk, ◌++◌, [], length};
+ghost use Rattle.std.specs.Prelude.{◌≡◌, ◌+◌, ◌<◌, ◌≤◌, MatchResult, [], length};
 
 use crate::fault::ScoreFault;
 use rhythm_base::LONGEST_SCORE;
-use std::alloc::{AllocError, Global};
+use std::alloc::Global;
 
 /// A text in the making: whole records, and maybe pieces of the next one.
 #[derive(Drop)]
@@ -49,14 +48,4 @@ impl KernText {
         self.lines = next_line(self.lines, self.bytes.len())?;
         Ok(())
     }
-}
-
-/// Appends the separator before the column of this number, where it is not the first.
-pub(crate) fn push_between(text: &mut Vec<u8>, byte: u8, number: usize) -> Result<(), AllocError>
-    ensures { OnOk result (text.new.items ≡ text.old.items ++ separator_text byte number) }
-{
-    if number > 0 {
-        text.push(byte)?;
-    }
-    Ok(())
 }

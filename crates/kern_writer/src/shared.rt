@@ -5,8 +5,8 @@ ghost use Rattle.kern_writer.specs.Writing.{IsBounded, WritesRecords};
 ghost use Rattle.std.specs.Prelude.{◌≡◌, ◌++◌, ◌∷◌, [], OnOk, codes, decimal};
 
 use crate::fault::ScoreFault;
-use crate::kern_text::{KernText, push_between};
-use crate::value_text::push_number;
+use crate::kern_text::KernText;
+use score_words::{push_between, push_number};
 use std::alloc::AllocError;
 
 /// The accidentals of keys with sharps, the first of one sharp.

@@ -1,17 +1,9 @@
 ghost use Rattle.kern_writer.specs.Tokens.{recip_text, value_text};
-ghost use Rattle.std.specs.Prelude.{◌≡◌, ◌++◌, OnOk, decimal};
+ghost use Rattle.std.specs.Prelude.{◌≡◌, ◌++◌, OnOk};
 
-use crate::pitch::push_times;
 use durations::{Recip, Value};
+use score_words::{push_number, push_times};
 use std::alloc::AllocError;
-
-/// Appends a number in decimal digits.
-pub(crate) fn push_number(text: &mut Vec<u8>, number: u64) -> Result<(), AllocError>
-    ensures { OnOk result (text.new.items ≡ text.old.items ++ decimal number) }
-{
-    let mut buffer = itoa::Buffer::new();
-    text.extend_from_slice(buffer.format(number).as_bytes())
-}
 
 /// Appends a value without its dots.
 fn push_recip(text: &mut Vec<u8>, recip: Recip) -> Result<(), AllocError>

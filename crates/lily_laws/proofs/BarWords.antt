@@ -16,7 +16,7 @@ use Rattle.derivation.specs.declared.score.ScoreBar.{ScoreBar}
 use Rattle.derivation.specs.Score.{IsScoreBar}
 use Rattle.derivation.specs.WellSounded.{AreKeys}
 use Rattle.kern_reader.specs.Tokens.{◌>>=◌}
-use Rattle.kern_laws.proofs.GridParts.{parts_finer}
+use Rattle.voice_events.proofs.ScoreBars.{parts_finer}
 use Rattle.kern_laws.proofs.TextTests.{all_append, lacks}
 use Rattle.voice_events.specs.Parts.{score_bar_parts, end_parts, start_parts}
 use Rattle.voice_events.specs.VoiceEvents.{FollowFrom, IsVoiceSpan}

@@ -9,7 +9,7 @@ use Rattle.std.proofs.lemmas.List.Sums.{fold-append}
 use Rattle.rhythm_base.specs.declared.span.Span.{Span}
 use Rattle.kern_reader.specs.Tokens.{◌>>=◌}
 use Rattle.kern_laws.proofs.TextRuns.{run_dropped, run_taken}
-use Rattle.kern_laws.proofs.TokenKeys.{KeysRise}
+use Rattle.score_words.proofs.SetKeys.{KeysRise}
 use Rattle.lily_writer.specs.Hearing.{HeardVoice, Side, at_brace, hear, outside, span_with, with_span, within, hear_chord, hear_on_side, hear_word, hear_words, is_empty, key_set, heard_rise}
 use Rattle.lily_writer.specs.Pitches.{lily_pitch}
 use Rattle.lily_writer.specs.Words.{WordEnding, Word, after_front, word_ending, first_key, front, is_letter, is_lily_pitch_byte, word_key, last_key, middle_key, pitched_word, single_key, word_of, word_of_key}

@@ -8,10 +8,10 @@ use Rattle.rhythm_base.specs.declared.span.Span.{Span}
 use Rattle.durations.specs.declared.value.Value.{Value}
 use Rattle.durations.specs.Value.{parts, value_grid}
 use Rattle.derivation.specs.WellSounded.{AreKeys}
-use Rattle.kern_writer.specs.Tokens.{rising_keys}
+use Rattle.score_words.specs.Keys.{rising_keys}
 use Rattle.kern_reader.specs.Tokens.{◌>>=◌, IsWellValue, number_of}
 use Rattle.kern_reader.specs.Columns.{gcd}
-use Rattle.kern_laws.proofs.TokenKeys.{KeysRise, keys_rise}
+use Rattle.score_words.proofs.SetKeys.{KeysRise, keys_rise}
 use Rattle.lily_writer.specs.Elements.{grace_group, note_value, rest_value}
 use Rattle.lily_writer.specs.Fractions.{frac, frac_plus, frac_times}
 use Rattle.lily_writer.specs.Hearing.{HeardVoice, at_brace, hear, hear_chord, hear_on_side, hear_words, is_empty, is_grace_value, key_set, outside, heard_rise, within}

@@ -9,8 +9,9 @@ use Rattle.std.proofs.lemmas.Bool.Decides.{nat_tests}
 use Rattle.std.proofs.lemmas.List.Sums.{sum-map, sum_by-cons}
 use Rattle.std.proofs.lemmas.Nat.{pow_pos}
 use Rattle.std.proofs.lemmas.Nat.Bits.{bit_at-lt}
-use Rattle.kern_writer.specs.Tokens.{keys_from, rising_keys}
-use Rattle.kern_laws.proofs.TokenKeys.{KeysRise}
+use Rattle.score_words.proofs.KeysFrom.{keys_from, rising_is}
+use Rattle.score_words.specs.Keys.{rising_keys}
+use Rattle.score_words.proofs.SetKeys.{KeysRise}
 use Rattle.lily_writer.specs.Hearing.{key_set, heard_rise}
 
 -- ---- they rise
@@ -54,10 +55,9 @@ from_sum keys k (suc n) = go (bit_at keys k) refl (bit_at-lt keys k) (from_sum k
     go (suc (suc b)) e less rest = absurd (omega (arith, less))
 
 pub keys_sum : (keys : ℕ) → keys < 2 ^ 128 → key_set (rising_keys keys) ≡ keys
-unfolding rising_keys
 keys_sum keys few =
     let one : 2 ^ 0 ≡ 1 = refl in
     let none : keys % 2 ^ 0 ≡ 0 = ap (λ n. keys % n) one ∙ mod-one keys in
     let all : keys % 2 ^ (0 + 128) ≡ keys = mod-eq_of_lt few in
     let whole = from_sum keys 0 128 in
-    omega (arith, none, all, whole)
+    ap key_set (rising_is keys) ∙ omega (arith, none, all, whole)

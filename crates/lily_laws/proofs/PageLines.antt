@@ -8,8 +8,8 @@ use Rattle.std.proofs.lemmas.Bool.{and_from, and_parts}
 use Rattle.std.proofs.lemmas.List.Splits.{length-slice_split}
 use Rattle.rhythm_base.specs.declared.span.Span.{Span}
 use Rattle.derivation.specs.declared.score.ScoreBar.{ScoreBar}
-use Rattle.kern_writer.specs.Changes.{key_before, quarters_of_minute, same_key, same_signature, same_tempo}
-use Rattle.kern_writer.specs.Tokens.{has_flats}
+use Rattle.score_words.specs.Changes.{key_before, quarters_of_minute, same_key, same_signature, same_tempo}
+use Rattle.score_words.specs.Changes.{has_flats}
 use Rattle.kern_reader.specs.Text.{kern_lines, lines_of_pieces}
 use Rattle.kern_laws.proofs.TextSplits.{split_first}
 use Rattle.kern_laws.proofs.TextTests.{all_append, all_weaker, decimal_digits, digit_graphic, graphic_prints, lacks, printing_no_newline}

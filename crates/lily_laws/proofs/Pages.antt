@@ -10,8 +10,8 @@ use Rattle.rhythm_base.specs.declared.span.Span.{Span}
 use Rattle.rhythm_base.specs.Lists.{Each}
 use Rattle.derivation.specs.declared.score.ScoreBar.{ScoreBar}
 use Rattle.derivation.specs.Score.{IsScoreBar}
-use Rattle.kern_reader.specs.declared.event.KernEvent.{KernEvent}
-use Rattle.kern_reader.specs.Events.{span_event}
+use Rattle.voice_events.specs.declared.event.KernEvent.{KernEvent}
+use Rattle.voice_events.specs.Events.{span_event}
 use Rattle.kern_reader.specs.Text.{kern_lines}
 use Rattle.kern_reader.specs.Tokens.{◌>>=◌}
 use Rattle.kern_laws.proofs.TextTests.{all_append, lacks}

@@ -15,9 +15,9 @@ use Rattle.rhythm_base.specs.declared.span.Span.{Span}
 use Rattle.rhythm_base.specs.Signatures.{is_den}
 use Rattle.derivation.specs.declared.score.ScoreBar.{ScoreBar}
 use Rattle.derivation.specs.Score.{IsScoreBar}
-use Rattle.kern_writer.specs.Changes.{key_before, same_key, same_signature, same_tempo}
-use Rattle.kern_writer.specs.Tokens.{has_flats}
-use Rattle.kern_reader.specs.Events.{span_event}
+use Rattle.score_words.specs.Changes.{key_before, same_key, same_signature, same_tempo}
+use Rattle.score_words.specs.Changes.{has_flats}
+use Rattle.voice_events.specs.Events.{span_event}
 use Rattle.kern_reader.specs.declared.token.TimeSignature.{TimeSignature}
 use Rattle.kern_reader.specs.Lines.{signature_of_numbers, signature_of_parts}
 use Rattle.kern_reader.specs.Tokens.{◌>>=◌, number_of}

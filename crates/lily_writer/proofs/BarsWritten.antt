@@ -11,7 +11,7 @@ use Rattle.rhythm_base.specs.declared.span.Span.{Span}
 use Rattle.rhythm_base.specs.Lists.{Each}
 use Rattle.derivation.specs.declared.score.ScoreBar.{ScoreBar}
 use Rattle.derivation.specs.Score.{IsScoreBar}
-use Rattle.kern_writer.specs.Tokens.{has_flats}
+use Rattle.score_words.specs.Changes.{has_flats}
 use Rattle.voice_events.specs.Parts.{score_bar_parts, score_parts}
 use Rattle.voice_events.specs.VoiceEvents.{AreOfVoice}
 use Rattle.voice_events.proofs.SpanEnds.{score_few}

@@ -3,7 +3,7 @@ use Rattle.std.proofs.Common.{◌≡◌, ℕ, false, List, [], ◌∷◌, ◌++�
 use Rattle.std.specs.Prelude.{ℤ, OnOk, Option, Result, Ok, Err, codes, decimal, if◌then◌else◌, is_ok}
 use Rattle.std.proofs.lemmas.List.{append-nil}
 use Rattle.derivation.specs.declared.score.ScoreBar.{ScoreBar}
-use Rattle.kern_writer.specs.Changes.{quarters_of_minute, same_tempo}
+use Rattle.score_words.specs.Changes.{quarters_of_minute, same_tempo}
 use Rattle.lily_writer.specs.Changes.{lily_key, key_name, lily_tempo_lines, lily_tempo}
 use Rattle.lily_writer.specs.Text.{lines_text}
 

@@ -1,7 +1,7 @@
 -- The first of the events of a voice that have not ended.
 use Rattle.std.proofs.Common.{◌≡◌, ℕ, ◌^◌, ◌≤◌, ◌<◌, Bool, List, [], ◌∷◌, drop, get_or, length, refl, sym, subst, arith}
 use Rattle.std.proofs.lemmas.List.Elements.{All-head}
-use Rattle.kern_reader.specs.declared.event.KernEvent.{KernEvent}
+use Rattle.voice_events.specs.declared.event.KernEvent.{KernEvent}
 use Rattle.voice_events.specs.Parts.{end_parts, start_parts}
 use Rattle.voice_events.specs.VoiceEvents.{IsVoiceSpan}
 use Rattle.voice_events.proofs.SpanEnds.{from_within}

@@ -6,7 +6,7 @@ use Rattle.rhythm_base.specs.declared.span.Span.{Span}
 use Rattle.rhythm_base.specs.Lists.{Each}
 use Rattle.durations.proofs.OneList.{values_one}
 use Rattle.derivation.specs.declared.score.ScoreBar.{ScoreBar}
-use Rattle.kern_writer.specs.Tokens.{has_flats}
+use Rattle.score_words.specs.Changes.{has_flats}
 use Rattle.voice_events.specs.Parts.{score_bar_parts, score_parts}
 use Rattle.lily_writer.specs.Changes.{lily_changes}
 use Rattle.lily_writer.specs.Elements.{Element}

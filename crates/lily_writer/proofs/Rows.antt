@@ -6,11 +6,11 @@ use Rattle.rhythm_base.specs.declared.span.Span.{Span}
 use Rattle.durations.specs.declared.value.Recip.TheVariants.{Of}
 use Rattle.durations.specs.declared.value.Value.{Value}
 use Rattle.derivation.specs.declared.score.ScoreBar.{ScoreBar}
-use Rattle.kern_reader.specs.declared.event.KernEvent.{KernEvent}
+use Rattle.voice_events.specs.declared.event.KernEvent.{KernEvent}
 use Rattle.kern_reader.specs.Columns.{gcd}
-use Rattle.kern_reader.specs.Events.{span_event}
+use Rattle.voice_events.specs.Events.{span_event}
 use Rattle.kern_reader.specs.Tokens.{number_of}
-use Rattle.kern_writer.specs.Tokens.{rising_keys}
+use Rattle.score_words.specs.Keys.{rising_keys}
 use Rattle.lily_writer.specs.Changes.{lily_changes}
 use Rattle.lily_writer.specs.Elements.{element_text, note_value}
 use Rattle.lily_writer.specs.Hearing.{hear}

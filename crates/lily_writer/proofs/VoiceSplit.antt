@@ -7,8 +7,8 @@ use Rattle.std.proofs.lemmas.Bool.Decides.{nat_tests}
 use Rattle.std.proofs.lemmas.List.{map-append}
 use Rattle.std.proofs.lemmas.List.Elements.{All-append, All-cons, All-head, All-nil, All-tail, filter-append}
 use Rattle.rhythm_base.specs.declared.span.Span.{Span}
-use Rattle.kern_reader.specs.declared.event.KernEvent.{KernEvent}
-use Rattle.kern_reader.specs.Events.{span_event}
+use Rattle.voice_events.specs.declared.event.KernEvent.{KernEvent}
+use Rattle.voice_events.specs.Events.{span_event}
 use Rattle.voice_events.specs.VoiceEvents.{AreOfVoice, AreVoiceEventsFrom}
 use Rattle.lily_writer.specs.Staves.{spans_of, voice_spans}
 

@@ -1,7 +1,7 @@
 -- What is said before a bar: its key, its signature and its tempo, where they differ from those of the bar before.
 use Rattle.std.specs.Prelude.{ℕ, ℤ, pos, negsuc, ◌+◌, ◌-◌, Bool, if◌then◌else◌, List, [], ◌∷◌, ◌++◌, codes, decimal, slice_index_or, Option, Some, None}
 use Rattle.derivation.specs.declared.score.ScoreBar.{ScoreBar}
-use Rattle.kern_writer.specs.Changes.{key_before, quarters_of_minute, same_key, same_signature, same_tempo}
+use Rattle.score_words.specs.Changes.{key_before, quarters_of_minute, same_key, same_signature, same_tempo}
 use Rattle.lily_writer.specs.Pitches.{words}
 
 -- the major keys of seven flats to seven sharps

@@ -1,7 +1,7 @@
 -- Pitches in LilyPond: the Dutch name of a key, and its octave; and the pitches of a chord.
 use Rattle.std.specs.Prelude.{ℕ, ◌-◌, ◌/◌, ◌%◌, ◌==◌, Bool, nat_le, if◌then◌else◌, List, [], ◌∷◌, ◌++◌, codes, map, replicate, slice_index_or}
 use Rattle.std.specs.List.{join_with_byte, slice_split}
-use Rattle.kern_writer.specs.Tokens.{rising_keys}
+use Rattle.score_words.specs.Keys.{rising_keys}
 
 -- what stands between the spaces of a text
 abbrev pub words : List ℕ → List (List ℕ)

@@ -6,8 +6,8 @@ use Rattle.std.specs.Option.{option_map}
 use Rattle.std.specs.Str.{bytes_eq}
 use Rattle.rhythm_base.specs.declared.span.Frac.{Frac}
 use Rattle.rhythm_base.specs.declared.span.Span.{Span}
-use Rattle.kern_reader.specs.declared.event.KernEvent.{KernEvent}
-use Rattle.kern_reader.specs.Events.{span_event}
+use Rattle.voice_events.specs.declared.event.KernEvent.{KernEvent}
+use Rattle.voice_events.specs.Events.{span_event}
 use Rattle.kern_reader.specs.Lines.{signature_of_numbers}
 use Rattle.kern_reader.specs.Text.{kern_lines}
 use Rattle.kern_reader.specs.Tokens.{◌>>=◌}

@@ -4,8 +4,8 @@ use Rattle.std.specs.List.{flat_map}
 use Rattle.rhythm_base.specs.declared.span.Span.{Span}
 use Rattle.rhythm_base.specs.Lists.{Each}
 use Rattle.derivation.specs.declared.score.ScoreBar.{ScoreBar}
-use Rattle.kern_reader.specs.declared.event.KernEvent.{KernEvent}
-use Rattle.kern_writer.specs.Tokens.{has_flats}
+use Rattle.voice_events.specs.declared.event.KernEvent.{KernEvent}
+use Rattle.score_words.specs.Changes.{has_flats}
 use Rattle.voice_events.specs.Parts.{score_bar_parts, score_parts}
 use Rattle.lily_writer.specs.Changes.{lily_changes}
 use Rattle.lily_writer.specs.Elements.{Element, elements_text}

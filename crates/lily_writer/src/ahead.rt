@@ -5,9 +5,9 @@ ghost use Rattle.std.specs.Prelude.{◌+◌, ◌*◌, ◌≤◌, IfOk, OnOk};
 use crate::extent::Extent;
 use crate::piece::{write_gap, write_span};
 use crate::place::extent_of;
-use kern_reader::KernEvent;
 use std::alloc::{AllocError, Global};
 use std::marker::Model;
+use voice_events::KernEvent;
 
 /// The events of a voice that have not ended.
 #[derive(Drop)]

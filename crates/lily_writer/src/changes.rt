@@ -1,68 +1,17 @@
 ghost use Rattle.derivation.specs.Score.{IsKeySignature, IsScoreBar};
-ghost use Rattle.kern_writer.specs.Changes as kern;
-ghost use Rattle.kern_writer.specs.Changes.{key_before, quarters_of_minute};
 ghost use Rattle.lily_writer.specs.Changes as definitions;
 ghost use Rattle.lily_writer.specs.Changes.{lily_changes, lily_key_lines, lily_key, key_names, lily_tempo_lines, lily_tempo, time_change, time_line};
 ghost use Rattle.lily_writer.specs.Text.{lines_text};
 ghost use Rattle.std.specs.Prelude.{◌≡◌, ◌∷◌, ◌<◌, ◌++◌, [], IfSome, OnOk, slice_index_or};
 
-use crate::value_text::push_number;
 use derivation::ScoreBar;
+use score_words::{
+    is_same_key, is_same_signature, is_same_tempo, key_before, push_number, quarters_of_minute,
+};
 use std::alloc::AllocError;
 
 /// The letters of the major keys from seven flats to seven sharps, each a fifth above the one before.
 const KEY_LETTERS: [u8; 15] = *b"cgdaebfcgdaebfc";
-
-/// The quarter notes of a minute, rounded, halves up.
-fn quarters(bar: &ScoreBar) -> u64
-    requires { IsScoreBar bar.now }
-    ensures { result ≡ quarters_of_minute bar.now.tempo }
-{
-    let tempo = u64::from(bar.tempo);
-    (120_000_000 + tempo) / (2 * tempo)
-}
-
-/// Whether a key is the one before.
-fn is_same_key(before: Option<i8>, sf: i8) -> bool
-    ensures { result ≡ kern.same_key before sf }
-{
-    match before {
-        None => false,
-        Some(other) => other == sf,
-    }
-}
-
-/// Whether the signature of a bar is the one before.
-fn is_same_signature(before: Option<ScoreBar>, bar: &ScoreBar) -> bool
-    ensures { result ≡ kern.same_signature before bar.now }
-{
-    match before {
-        None => false,
-        Some(other) => other.num == bar.num && other.den == bar.den,
-    }
-}
-
-/// Whether the tempo of a bar is rounded to the same number as the one before.
-fn is_same_tempo(before: Option<ScoreBar>, bar: &ScoreBar) -> bool
-    requires before { IfSome before IsScoreBar }
-    requires bar { IsScoreBar bar.now }
-    ensures { result ≡ kern.same_tempo before bar.now }
-{
-    match before {
-        None => false,
-        Some(other) => quarters(&other) == quarters(bar),
-    }
-}
-
-/// The key before.
-fn key_of(before: Option<ScoreBar>) -> Option<i8>
-    ensures { result ≡ key_before before }
-{
-    match before {
-        None => None,
-        Some(other) => other.sf,
-    }
-}
 
 /// The number of a key signature among those from seven flats to seven sharps.
 fn key_number(sf: i8) -> u8
@@ -142,7 +91,7 @@ fn write_tempo(
         return Ok(());
     }
     text.extend_from_slice(b"\\tempo 4 = ")?;
-    push_number(text, quarters(bar))?;
+    push_number(text, quarters_of_minute(bar))?;
     text.push(b'\n')?;
     Ok(())
 }
@@ -158,7 +107,7 @@ pub(crate) fn write_changes(
     requires bar { IsScoreBar bar.now }
     ensures { OnOk result (text.new.items ≡ text.old.items ++ lines_text (lily_changes first before bar.now)) }
 {
-    write_key(text, key_of(before), bar.sf)?;
+    write_key(text, key_before(before), bar.sf)?;
     write_time(text, before, bar)?;
     if first {
         write_tempo(text, before, bar)?;

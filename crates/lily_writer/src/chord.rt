@@ -1,47 +1,35 @@
-ghost use Rattle.kern_writer.specs.Tokens.{rising_keys};
+ghost use Rattle.score_words.specs.Keys.{rising_keys};
 ghost use Rattle.lily_writer.specs.Pitches.{lily_chord, lily_pitch};
-ghost use Rattle.kern_writer.specs.Shared.{separator_text};
 ghost use Rattle.std.specs.List.{join_with_byte};
 ghost use Rattle.std.specs.Prelude.{◌≡◌, ◌++◌, OnOk, length, map};
 
 use crate::pitch::push_pitch;
 use rhythm_base::Keys;
+use score_words::{RisingKeys, push_between};
 use std::alloc::AllocError;
 
 /// How many keys are in a set.
 fn key_count(keys: Keys) -> usize
     ensures { result ≡ length (rising_keys keys) }
 {
+    let mut left = RisingKeys::of(keys);
     let mut count = 0;
-    'keys: for key in keys.lowest()..keys.end() {
-        if keys.has(key) {
-            count += 1;
-        }
+    'keys: while let Some(_key) = left.next() {
+        count += 1;
     }
     count
-}
-
-/// Appends a byte, but before what is the first.
-fn push_between(text: &mut Vec<u8>, byte: u8, number: usize) -> Result<(), AllocError>
-    ensures { OnOk result (text.new.items ≡ text.old.items ++ separator_text byte number) }
-{
-    if number > 0 {
-        text.push(byte)?;
-    }
-    Ok(())
 }
 
 /// Appends the pitches of a chord by rising key, with a space between two.
 fn push_pitches(text: &mut Vec<u8>, flats: bool, keys: Keys) -> Result<(), AllocError>
     ensures { OnOk result (text.new.items ≡ text.old.items ++ join_with_byte 32 (map (lily_pitch flats) (rising_keys keys))) }
 {
+    let mut left = RisingKeys::of(keys);
     let mut number = 0;
-    'keys: for key in keys.lowest()..keys.end() {
-        if keys.has(key) {
-            push_between(text, b' ', number)?;
-            push_pitch(text, flats, key)?;
-            number += 1;
-        }
+    'keys: while let Some(key) = left.next() {
+        push_between(text, b' ', number)?;
+        push_pitch(text, flats, key)?;
+        number += 1;
     }
     Ok(())
 }

@@ -6,8 +6,8 @@ ghost use Rattle.voice_events.specs.Writable.{IsWritable};
 
 use crate::staff::write_staff;
 use derivation::ScoreBar;
-use kern_reader::KernEvent;
 use std::alloc::{AllocError, Global};
+use voice_events::KernEvent;
 
 /// How many of the events are of a spine, before one that is not.
 fn own_count(events: &[KernEvent], spine: u8) -> usize

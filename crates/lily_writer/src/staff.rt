@@ -1,5 +1,4 @@
 ghost use Rattle.derivation.specs.Score.{IsScoreBar};
-ghost use Rattle.kern_writer.specs.Tokens as tokens;
 ghost use Rattle.lily_writer.specs.Pieces.{stretches};
 ghost use Rattle.lily_writer.specs.Staves.{AreBarsOfStaff, AreStaffLines, spans_of};
 ghost use Rattle.lily_writer.specs.Text.{lines_text};
@@ -11,20 +10,10 @@ ghost use Rattle.voice_events.specs.VoiceEvents.{AreOfVoice};
 use crate::ahead::{Ahead, write_bar};
 use crate::changes::write_changes;
 use crate::extent::Extent;
-use crate::place::{bar_parts, score_parts};
 use derivation::ScoreBar;
-use kern_reader::KernEvent;
+use score_words::has_flats;
 use std::alloc::{AllocError, Global};
-
-/// Whether the key signature of a bar has flats.
-fn has_flats(bar: &ScoreBar) -> bool
-    ensures { result ≡ tokens.has_flats bar.now.sf }
-{
-    match bar.sf {
-        None => false,
-        Some(sf) => sf < 0,
-    }
-}
+use voice_events::{KernEvent, score_bar_parts, score_parts};
 
 /// Writes the lines of all bars.
 fn write_bars(
@@ -54,7 +43,7 @@ fn write_bars(
     let mut before = None;
     'bars: for bar in bars {
         write_changes(text, first, before, bar)?;
-        let to = from + bar_parts(bar, resolution);
+        let to = from + score_bar_parts(bar, resolution);
         let extent = Extent { from, to };
         ahead = write_bar(alloc, text, has_flats(bar), resolution, extent, ahead)?;
         text.extend_from_slice(b"|\n")?;

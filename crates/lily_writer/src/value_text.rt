@@ -1,19 +1,11 @@
 ghost use Rattle.lily_writer.specs.Values as definitions;
 ghost use Rattle.lily_writer.specs.Values.{base_text, scale_of_part, scale_text, lily_value};
 ghost use Rattle.durations.specs.Value.{plain_grid};
-ghost use Rattle.std.specs.Prelude.{◌≡◌, ◌≤◌, ◌++◌, OnOk, decimal};
+ghost use Rattle.std.specs.Prelude.{◌≡◌, ◌≤◌, ◌++◌, OnOk};
 
-use crate::pitch::push_times;
 use durations::{Length, Recip, Value, lowest};
+use score_words::{push_number, push_times};
 use std::alloc::AllocError;
-
-/// Appends a number in decimal digits.
-pub(crate) fn push_number(text: &mut Vec<u8>, number: u64) -> Result<(), AllocError>
-    ensures { OnOk result (text.new.items ≡ text.old.items ++ decimal number) }
-{
-    let mut buffer = itoa::Buffer::new();
-    text.extend_from_slice(buffer.format(number).as_bytes())
-}
 
 /// The largest power of two that is at most a number, up to 64.
 fn written_part(number: u32) -> u64

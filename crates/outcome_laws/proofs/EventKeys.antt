@@ -5,9 +5,10 @@ use Rattle.std.specs.List.{flat_map}
 use Rattle.std.proofs.lemmas.List.Sums.{take_while-cons}
 use Rattle.kern_reader.proofs.SpineLemmas.{waiting_chord, waiting_grace, waiting_null, waiting_rest}
 use Rattle.kern_reader.specs.Columns.{continues, grace_keys, has_value, is_bar, waiting}
-use Rattle.kern_reader.specs.Events.{AreEvents, AreEventsFrom, Beginning, IsKernSpan, beginnings, span_event}
+use Rattle.kern_reader.specs.Events.{AreEvents, AreEventsFrom, Beginning, IsKernSpan, beginnings}
+use Rattle.voice_events.specs.Events.{span_event}
 use Rattle.kern_reader.specs.Score.{KernColumns}
-use Rattle.kern_reader.specs.declared.event.KernEvent.{KernEvent}
+use Rattle.voice_events.specs.declared.event.KernEvent.{KernEvent}
 use Rattle.kern_reader.specs.declared.token.TimeSignature.{TimeSignature}
 use Rattle.kern_reader.specs.declared.token.Token.{Token}
 use Rattle.kern_reader.specs.declared.token.Token.TheVariants as token

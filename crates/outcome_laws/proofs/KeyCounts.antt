@@ -7,7 +7,7 @@ use Rattle.std.proofs.lemmas.Bool.{cases_eq}
 use Rattle.std.proofs.lemmas.List.{length-append, length-map}
 use Rattle.std.proofs.lemmas.Nat.Bits.{bit_at-pow_other}
 use Rattle.rhythm_base.proofs.ListParts.{reverse_cons}
-use Rattle.smf_writer.specs.EventNotes.{key_list}
+use Rattle.score_words.specs.Keys.{rising_keys}
 use Rattle.smf_writer.proofs.KeyBits.{no_bit, of_either, one_bit}
 
 -- ---- sums
@@ -49,11 +49,11 @@ length_flat f (x ∷ xs) = let rest = length_flat f xs in let both = length-appe
 
 -- (shut, so that no list of 128 keys is computed where one is counted)
 pub key_count : ℕ → ℕ
-key_count keys = length (key_list keys)
+key_count keys = length (rising_keys keys)
 
-pub mapped_count : {X : Type 0} (f : ℕ → X) (keys : ℕ) → length (map f (key_list keys)) ≡ key_count keys
-unfolding key_count
-mapped_count f keys = length-map (key_list keys) f
+pub mapped_count : {X : Type 0} (f : ℕ → X) (keys : ℕ) → length (map f (rising_keys keys)) ≡ key_count keys
+unfolding key_count rising_keys
+mapped_count f keys = length-map (rising_keys keys) f
 
 -- what passes one test passes one of two others
 either_passes : (p q r : ℕ → Bool) → ((k : ℕ) → p k ≡ true → (q k ≡ true) ⊎ (r k ≡ true)) → (xs : List ℕ) → length (filter p xs) ≤ length (filter q xs) + length (filter r xs)
@@ -80,13 +80,13 @@ none_passes p (x ∷ xs) never = go (p x) refl (none_passes p xs never)
     go false h rest = rest
 
 pub joined_count : (a b : ℕ) → key_count (bit_or a b) ≤ key_count a + key_count b
-unfolding key_count
+unfolding key_count rising_keys
 joined_count a b =
     either_passes (λ k. bit_at (bit_or a b) k == 1) (λ k. bit_at a k == 1) (λ k. bit_at b k == 1)
     (λ k h. elim (of_either a b k (one_bit (bit_at (bit_or a b) k) h)) [ inl own ↦ inl (rw own refl) | inr own ↦ inr (rw own refl) ]) (range_with_len 0 128)
 
 pub no_keys : key_count 0 ≡ 0
-unfolding key_count
+unfolding key_count rising_keys
 no_keys = ap length (none_passes (λ k. bit_at 0 k == 1) (range_with_len 0 128) (λ k h. no_bit k (one_bit (bit_at 0 k) h)))
 
 -- the only bit of a power of two
@@ -123,7 +123,7 @@ once_after key a (suc n) = go (bit_at (2 ^ key) a == 1) refl (once_after key (a 
     go false h few = few
 
 pub one_key : (key : ℕ) → key_count (2 ^ key) ≤ 1
-unfolding key_count
+unfolding key_count rising_keys
 one_key key = once_after key 0 128
 
 -- joined sets have no more keys than all together

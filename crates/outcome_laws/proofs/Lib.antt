@@ -1,6 +1,5 @@
 mod Decided
 mod OrderedSets
-mod MergedEvents
 mod KeptNotes
 mod LaidBars
 mod Loadings

@@ -21,7 +21,7 @@ use Rattle.smf_reader.specs.Played.{Smf}
 use Rattle.smf_reader.specs.Ranges.{IsPlayedFile}
 use Rattle.outcome_laws.proofs.KeptNotes.{paired_or_fault}
 use Rattle.outcome_laws.proofs.LaidBars.{some_laying}
-use Rattle.outcome_laws.proofs.MergedEvents.{some_merged}
+use Rattle.render_laws.proofs.MergedEvents.{some_merged}
 
 module _ (f : Smf) (played : IsPlayedFile f) where
   abbrev HasLoading : Type 0

@@ -3,7 +3,7 @@ use Rattle.std.proofs.Common.{ℕ, ◌+◌, ◌-◌, ◌*◌, ◌==◌, ◌≤�
 use Rattle.std.specs.List.{range_with_len}
 use Rattle.derivation.specs.declared.score.ScoreBar.{ScoreBar}
 use Rattle.durations.proofs.ValuesExist.{values_exist}
-use Rattle.kern_reader.specs.declared.event.KernEvent.{KernEvent}
+use Rattle.voice_events.specs.declared.event.KernEvent.{KernEvent}
 use Rattle.lily_writer.specs.Elements.{Element}
 use Rattle.lily_writer.specs.Pieces.{AreElements, Piece, Stretch, bar_pieces, stretches}
 use Rattle.lily_writer.specs.Staves.{AreBarElements, AreBarsOfStaff, AreStaffLines, voice_spans}

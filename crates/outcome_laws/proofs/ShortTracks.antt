@@ -5,7 +5,7 @@ use Rattle.std.specs.List.{flat_map}
 use Rattle.std.proofs.lemmas.List.{length-append, length-map}
 use Rattle.std.proofs.lemmas.List.Elements.{All-nil}
 use Rattle.derivation.specs.declared.score.ScoreBar.{ScoreBar}
-use Rattle.kern_reader.specs.declared.event.KernEvent.{KernEvent}
+use Rattle.voice_events.specs.declared.event.KernEvent.{KernEvent}
 use Rattle.rhythm_base.specs.declared.event.Event.{Event}
 use Rattle.rhythm_base.specs.declared.event.What.{What}
 use Rattle.rhythm_base.specs.declared.event.What.TheVariants.{On, Off, Tempo, Signature, KeySig}
@@ -16,7 +16,8 @@ use Rattle.smf_bytes.specs.Message.{message_bytes}
 use Rattle.smf_bytes.specs.Quantity.{quantity_bytes}
 use Rattle.smf_bytes.specs.Track.{bytes_from, end_of_track_bytes, timed_message}
 use Rattle.smf_bytes.proofs.ShortForms.{quantity_short}
-use Rattle.smf_writer.specs.Changes.{change_at, changes_at, changes_from, conductor, key_event, midi_key_before, signature_event, tempo_event}
+use Rattle.smf_writer.specs.Changes.{change_at, changes_at, changes_from, conductor, key_event, signature_event, tempo_event}
+use Rattle.score_words.specs.Changes.{key_before}
 use Rattle.smf_writer.specs.NoteMessages.{ends, event_of}
 use Rattle.smf_writer.specs.Strokes.{begun_messages, ended, event_strokes, grace_strokes, joined_keys, main_stroke, own_events, spine_events, stroke_messages, stroke_note, stroke_notes, strokes_events, together, voices_from}
 use Rattle.smf_writer.proofs.Tracks.{IsShort}
@@ -60,8 +61,8 @@ conductor_few resolution before tick [] = omega arith
 conductor_few resolution before tick (bar ∷ bars) =
     let first = change_few tick (tempo_event before bar) in
     let second = change_few tick (signature_event before bar) in
-    let third = change_few tick (key_event (midi_key_before before) bar.sf) in
-    let own = length_flat (change_at tick) (tempo_event before bar ∷ signature_event before bar ∷ key_event (midi_key_before before) bar.sf ∷ []) in
+    let third = change_few tick (key_event (key_before before) bar.sf) in
+    let own = length_flat (change_at tick) (tempo_event before bar ∷ signature_event before bar ∷ key_event (key_before before) bar.sf ∷ []) in
     let rest = conductor_few resolution (Some bar) (tick + score_bar_parts resolution bar) bars in
     let both = length-append (changes_at tick before bar) (changes_from resolution (Some bar) (tick + score_bar_parts resolution bar) bars) in
     omega (arith, first, second, third, own, rest, both)

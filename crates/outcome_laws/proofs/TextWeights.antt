@@ -6,7 +6,7 @@ use Rattle.std.specs.List.{list_all, list_any, onto_first, slice_split, zip}
 use Rattle.std.specs.Option.{option_map}
 use Rattle.durations.specs.declared.value.Value.{Value}
 use Rattle.kern_laws.proofs.TokenStyles.{Note}
-use Rattle.kern_laws.specs.ScoreLines.{KernLine}
+use Rattle.kern_laws.specs.Lines.{KernLine}
 use Rattle.kern_reader.specs.Columns.{add_bar, add_token, announced, columns_of, stage_of}
 use Rattle.kern_reader.specs.Faults.{line_fault}
 use Rattle.kern_reader.specs.Lines.{all_are, barline_said, data_line, interpretation, is_ending, is_heading, is_refused_word, begins_signature, line_of, other_line, signature_line, signature_of}

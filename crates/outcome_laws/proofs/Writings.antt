@@ -9,7 +9,7 @@ use Rattle.derivation.specs.PerformanceScore.{score_bar}
 use Rattle.derivation.specs.declared.score.ScoreBar.{ScoreBar}
 use Rattle.edit_session.specs.Opening.{CanOpen}
 use Rattle.event_laws.proofs.VoiceEvents.{texts_have}
-use Rattle.kern_reader.specs.declared.event.KernEvent.{KernEvent}
+use Rattle.voice_events.specs.declared.event.KernEvent.{KernEvent}
 use Rattle.rhythm_app.specs.Outcome.{AreEventsOf, IsKernTextOf, IsWriting, Ready, open_stop, say}
 use Rattle.rhythm_app.specs.declared.request.Form.{Form}
 use Rattle.rhythm_app.specs.declared.request.Form.TheVariants as form

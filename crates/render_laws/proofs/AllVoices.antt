@@ -9,7 +9,7 @@ use Rattle.rhythm_base.proofs.OrderedLists.{all_head, all_tail, pairs_head, pair
 use Rattle.performance_load.proofs.EventLemmas.{Up}
 use Rattle.rhythm_base.specs.declared.event.Event.{Event}
 use Rattle.rhythm_base.specs.declared.note.Note.{Note}
-use Rattle.kern_reader.specs.declared.event.KernEvent.{KernEvent}
+use Rattle.voice_events.specs.declared.event.KernEvent.{KernEvent}
 use Rattle.smf_laws.specs.Written.{AreLater}
 use Rattle.voice_events.specs.VoiceEvents.{AreVoiceEventsFrom}
 use Rattle.smf_writer.specs.NoteMessages.{Message, begins, ends, event_of}

@@ -15,7 +15,7 @@ use Rattle.rhythm_base.specs.Events.{IsMerged}
 use Rattle.rhythm_base.specs.Lists.{greatest}
 use Rattle.rhythm_base.specs.Notes.{AreNotes, IsKept, begun}
 use Rattle.derivation.specs.declared.score.ScoreBar.{ScoreBar}
-use Rattle.kern_reader.specs.declared.event.KernEvent.{KernEvent}
+use Rattle.voice_events.specs.declared.event.KernEvent.{KernEvent}
 use Rattle.smf_bytes.specs.Chunk.{file_bytes}
 use Rattle.smf_bytes.specs.Track.{content_bytes}
 use Rattle.smf_bytes.specs.declared.quantity.TheConstants.{GREATEST_QUANTITY}
@@ -36,6 +36,8 @@ use Rattle.smf_writer.proofs.Spines.{are_voices}
 use Rattle.smf_writer.proofs.StrokeOrder.{IsEarlier}
 use Rattle.render_laws.specs.Laws.{RenderedFilesReadBack}
 use Rattle.render_laws.specs.ReadBack.{RendersBack, is_change}
+use Rattle.render_laws.proofs.LoadedFile.{loaded}
+use Rattle.render_laws.proofs.MergedEvents.{some_merged}
 use Rattle.render_laws.proofs.AllVoices.{HasVoices, all_voices, key_up}
 use Rattle.render_laws.proofs.PlayedNotes.{at_key, key_begun, merged_passing, touching}
 use Rattle.smf_laws.proofs.PlayedNotes.{notes_begun, played_note}
@@ -189,8 +191,11 @@ module _ (resolution : ℕ) (bars : List ScoreBar) (channels : List ℕ) (events
     last = one_last last (conductor resolution bars) voices;
     notes = has_voices.notes;
     are_notes = has_voices.are_notes;
+    merged = (some_merged (map (λ t. t.events) file.tracks)).0;
+    is_merged = (some_merged (map (λ t. t.events) file.tracks)).1;
     played = played;
     changed = changed;
+    loaded = loaded resolution bars file has_voices.notes refl played changed;
   }
 
 pub files_read_back : RenderedFilesReadBack

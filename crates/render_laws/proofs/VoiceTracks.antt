@@ -8,11 +8,13 @@ use Rattle.std.proofs.lemmas.Bool.Decides.{nat_tests}
 use Rattle.rhythm_base.proofs.FirstLists.{one_earlier, one_order}
 use Rattle.rhythm_base.specs.declared.event.Event.{Event}
 use Rattle.rhythm_base.specs.declared.note.Note.{Note}
+use Rattle.smf_bytes.specs.Track.{AreTimed}
 use Rattle.smf_laws.specs.Written.{AreLater}
+use Rattle.smf_reader.specs.Ranges.{IsSaid}
 use Rattle.smf_writer.specs.NoteMessages.{Message, begins, ends, event_of, message_note, place_of_message}
 use Rattle.rhythm_base.proofs.Members.{Among, Pairwise, among_contained, among_flat, from_flat, kept_by, out_of, pairs_filter, pairs_from, pairs_join, place_among}
-use Rattle.smf_writer.proofs.MessageOrder.{IsBefore, IsLess, by_late, by_off, by_tick, late_of, place}
-use Rattle.smf_writer.proofs.StrokeOrder.{DoesNotOverlap, IsEarlier, IsWithin}
+use Rattle.smf_writer.proofs.MessageOrder.{IsBefore, by_late, by_off, by_tick, late_of, messages_timed}
+use Rattle.smf_writer.proofs.StrokeOrder.{DoesNotOverlap, IsEarlier, IsWithin, message_within}
 use Rattle.render_laws.proofs.PlayedNotes.{at_key, touching}
 use Rattle.smf_laws.proofs.PlayedNotes.{played_note}
 
@@ -179,39 +181,18 @@ module _ (channel last : ℕ) (notes : List Note) (events : List Event) (h : IsT
 
   -- ---- the events can be read
 
-  tick_of : (m : Message) → (late : ℕ) × (key : ℕ) × (off : ℕ) × (place_of_message m ≡ place (event_of m).tick late key off)
-  tick_of (begins n) = (1, n.key, 0, refl)
-  tick_of (ends n) = (late_of n, n.key, 1, refl)
+  message_said : channel < 16 → (m : Message) → IsWithin channel last (message_note m) → IsSaid (event_of m).what
+  message_said small (begins n) is = (omega (arith, small, is.channel_is), is.key)
+  message_said small (ends n) is = (omega (arith, small, is.channel_is), is.key)
 
-  not_later : (t l k o u m j p : ℕ) → IsLess (place t l k o) (place u m j p) → t ≤ u
-  not_later t l k o u m j p less = elim (cases_lt u t) [
-    | inl back ↦ absurd (one_earlier nat_list_cmp_total (place t l k o) (place u m j p) less (by_tick u m j p t l k o back))
-    | inr fine ↦ fine
-  ]
-
-  ticks_rise : (x y : Message) → IsBefore x y → (event_of x).tick ≤ (event_of y).tick
-  ticks_rise x y before =
-      let a = tick_of x in
-      let b = tick_of y in
-      not_later (event_of x).tick a.0 a.1 a.2 (event_of y).tick b.0 b.1 b.2 (subst (λ z. IsLess z (place (event_of y).tick b.0 b.1 b.2)) a.3 (subst (IsLess (place_of_message x)) b.3 before))
-
-  messages_later : (low : ℕ) (ms : List Message) → channel < 16 → low ≤ last → ((m : Message) → Among m ms → low ≤ (event_of m).tick) → ((m : Message) → Among m ms → IsWithin channel last (message_note m)) → Pairwise IsBefore ms
+  messages_later : (low : ℕ) (ms : List Message) → channel < 16 → ((m : Message) → Among m ms → IsWithin channel last (message_note m)) → AreTimed low (map event_of ms) last
       → AreLater low (map event_of ms) last
-  messages_later low [] small le above within order = le
-  messages_later low (begins n ∷ ms) small le above within order =
-      let is = within (begins n) (inl refl) in (
-        above (begins n) (inl refl),
-        (omega (arith, small, is.channel_is), is.key),
-        messages_later n.onset ms small is.onset (λ m a. ticks_rise (begins n) m (order.0 m a)) (λ m a. within m (inr a)) order.1,
-      )
-  messages_later low (ends n ∷ ms) small le above within order =
-      let is = within (ends n) (inl refl) in (
-        above (ends n) (inl refl),
-        (omega (arith, small, is.channel_is), is.key),
-        messages_later n.end ms small is.end (λ m a. ticks_rise (ends n) m (order.0 m a)) (λ m a. within m (inr a)) order.1,
-      )
+  messages_later low [] small within timed = timed
+  messages_later low (m ∷ ms) small within timed =
+      (timed.0, message_said small m (within m (inl refl)), messages_later (event_of m).tick ms small (λ n a. within n (inr a)) timed.1)
 
   pub track_later : channel < 16 → AreLater 0 events last
   track_later small =
       subst (λ (es : List Event). AreLater 0 es last) (sym h.are)
-      (messages_later 0 h.messages small (omega arith) (λ m a. omega arith) (λ m a. h.each (message_note m) (h.from m a)) h.order)
+      (messages_later 0 h.messages small (λ m a. h.each (message_note m) (h.from m a))
+      (messages_timed 0 last h.messages (omega arith) (λ m a. omega arith) (λ m a. message_within channel last m (h.each (message_note m) (h.from m a))) h.order))

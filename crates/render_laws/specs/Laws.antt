@@ -1,7 +1,7 @@
 -- The law, as one statement over the definitions.
 use Rattle.std.specs.Prelude.{ℕ, List, length}
 use Rattle.derivation.specs.declared.score.ScoreBar.{ScoreBar}
-use Rattle.kern_reader.specs.declared.event.KernEvent.{KernEvent}
+use Rattle.voice_events.specs.declared.event.KernEvent.{KernEvent}
 use Rattle.smf_writer.specs.RenderedFile.{AreChannels, IsRendered}
 use Rattle.voice_events.specs.VoiceEvents.{AreVoiceEvents}
 use Rattle.voice_events.specs.Writable.{IsWritable}

@@ -1,5 +1,5 @@
 -- What is read of the MIDI file of a score.
-use Rattle.std.specs.Prelude.{◌≡◌, ℕ, ◌*◌, Bool, true, false, List, [], ◌∷◌, ◌++◌, filter}
+use Rattle.std.specs.Prelude.{◌≡◌, ℕ, ◌*◌, Bool, true, false, List, [], ◌∷◌, ◌++◌, filter, Ok}
 use Rattle.std.proofs.Common.{suc}
 use Rattle.rhythm_base.specs.declared.event.Event.{Event}
 use Rattle.rhythm_base.specs.declared.event.What.{What}
@@ -7,8 +7,11 @@ use Rattle.rhythm_base.specs.declared.event.What.TheVariants.{On, Off}
 use Rattle.rhythm_base.specs.declared.note.Note.{Note}
 use Rattle.rhythm_base.specs.Notes.{AreNotes}
 use Rattle.derivation.specs.declared.score.ScoreBar.{ScoreBar}
-use Rattle.kern_reader.specs.declared.event.KernEvent.{KernEvent}
-use Rattle.performance_load.specs.Loading.{AreMergedOf, last_tick}
+use Rattle.voice_events.specs.declared.event.KernEvent.{KernEvent}
+use Rattle.rhythm_base.specs.Bars.{IsLaying}
+use Rattle.rhythm_base.specs.Performance.{Performance}
+use Rattle.rhythm_base.specs.Time.{keys_of, signatures_of, tempos_of}
+use Rattle.performance_load.specs.Loading.{AreMergedOf, AreVoicesOf, IsLoaded, greatest_end, greatest_onset, last_tick}
 use Rattle.smf_reader.specs.Outcomes.{SaysFile}
 use Rattle.smf_reader.specs.Played.{Smf}
 use Rattle.smf_writer.specs.Changes.{conductor}
@@ -29,8 +32,19 @@ is_change (On channel key) = false
 is_change (Off channel key) = false
 is_change _ = true
 
--- The bytes say a file. It has 16 * R ticks to the quarter note, and its last tick is the last barline's. Of its events in one
--- list the notes are the kept notes, and the changes are those of the bars.
+-- a performance of exactly these notes, with the tempos and keys of the bars, and bars laid by their signatures that hold the notes
+pub record IsRenderedPerformance (resolution : ℕ) (sbars : List ScoreBar) (kept : List Note) (p : Performance) : Type 0 where
+  pub division : p.division ≡ 16 * resolution
+  pub notes : p.notes ≡ kept
+  pub tempos : p.tempos ≡ tempos_of (conductor resolution sbars)
+  pub key_marks : p.key_marks ≡ keys_of (conductor resolution sbars)
+  pub bars : IsLaying (16 * resolution) (signatures_of (conductor resolution sbars)) (greatest_onset kept) (greatest_end kept)
+      (Ok (p.bars, p.last))
+  pub voices : AreVoicesOf kept p.channels
+  pub pins : p.pins ≡ []
+
+-- The bytes say a file. It has 16 * R ticks to the quarter note, and its last tick is the last barline's. Its events are one
+-- list, whose notes are the kept notes, and whose changes are those of the bars. Whatever performance the file loads to is that.
 pub record RendersBack (resolution : ℕ) (bars : List ScoreBar) (channels : List ℕ) (events : List KernEvent) (bytes : List ℕ) : Type 0 where
   pub file : Smf
   pub says : SaysFile bytes file
@@ -38,5 +52,8 @@ pub record RendersBack (resolution : ℕ) (bars : List ScoreBar) (channels : Lis
   pub last : last_tick file ≡ score_parts resolution bars
   pub notes : List Note
   pub are_notes : AreSpineNotesFrom resolution events 1 channels notes
+  pub merged : List Event
+  pub is_merged : AreMergedOf file merged
   pub played : (merged : List Event) → AreMergedOf file merged → AreNotes (last_tick file) merged notes
   pub changed : (merged : List Event) → AreMergedOf file merged → filter (λ e. is_change e.what) merged ≡ conductor resolution bars
+  pub loaded : (p : Performance) → IsLoaded file p → IsRenderedPerformance resolution bars notes p

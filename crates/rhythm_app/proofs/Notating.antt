@@ -4,7 +4,7 @@ use Rattle.std.proofs.Common.{◌≡◌, ◌≤◌, ◌∙◌, ℕ, List, ap, le
 use Rattle.derivation.specs.PerformanceScore.{score_bar}
 use Rattle.derivation.specs.declared.score.ScoreBar.{ScoreBar}
 use Rattle.event_laws.proofs.VoiceEvents.{texts_have}
-use Rattle.kern_reader.specs.declared.event.KernEvent.{KernEvent}
+use Rattle.voice_events.specs.declared.event.KernEvent.{KernEvent}
 use Rattle.rhythm_app.specs.Outcome.{AreEventsOf}
 use Rattle.rhythm_base.specs.Grammar.{Grammar}
 use Rattle.rhythm_base.specs.Performance.{IsWellFormed, Performance}

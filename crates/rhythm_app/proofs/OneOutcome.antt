@@ -21,7 +21,7 @@ use Rattle.kern_reader.specs.EventText.{events_text}
 use Rattle.kern_reader.specs.Events.{AreEvents}
 use Rattle.kern_reader.specs.Outcome.{score_of}
 use Rattle.kern_reader.specs.Score.{IsKernScore, KernColumns}
-use Rattle.kern_reader.specs.declared.event.KernEvent.{KernEvent}
+use Rattle.voice_events.specs.declared.event.KernEvent.{KernEvent}
 use Rattle.kern_reader.specs.declared.fault.KernFault.{KernFault}
 use Rattle.derivation.proofs.OneScore.{scores_one}
 use Rattle.derivation.specs.PerformanceScore.{score_bar}

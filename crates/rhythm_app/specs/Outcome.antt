@@ -24,7 +24,7 @@ use Rattle.kern_reader.specs.EventText.{events_text}
 use Rattle.kern_reader.specs.Events.{AreEvents}
 use Rattle.kern_reader.specs.Outcome.{score_of}
 use Rattle.kern_reader.specs.Score.{KernColumns}
-use Rattle.kern_reader.specs.declared.event.KernEvent.{KernEvent}
+use Rattle.voice_events.specs.declared.event.KernEvent.{KernEvent}
 use Rattle.kern_writer.specs.PerformanceText.{HasTooLongText, IsTextOf}
 use Rattle.lily_writer.specs.Text.{IsLilyText}
 use Rattle.note_list.specs.declared.fault.NoteFault.TheVariants as note

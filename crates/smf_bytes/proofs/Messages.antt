@@ -1,9 +1,9 @@
 -- The bytes of a track, message after message.
-use Rattle.std.proofs.Common.{◌≡◌, ℕ, ◌-◌, List, [], ◌∷◌, ◌++◌, map, refl, ap, ◌∙◌, append_assoc, append-nil}
+use Rattle.std.proofs.Common.{◌≡◌, ℕ, zero, suc, ◌-◌, ◌<◌, ◌≤◌, List, [], ◌∷◌, ◌++◌, get_or, length, map, take, refl, ap, ◌∙◌, append_assoc, append-nil, arith}
 use Rattle.rhythm_base.specs.declared.event.Event.{Event}
 use Rattle.smf_bytes.specs.Message.{message_bytes}
 use Rattle.smf_bytes.specs.Quantity.{quantity_bytes}
-use Rattle.smf_bytes.specs.Track.{bytes_from, content_bytes, end_of_track_bytes, timed_message}
+use Rattle.smf_bytes.specs.Track.{AreTimed, bytes_from, content_bytes, end_of_track_bytes, timed_message}
 
 -- the tick of the last event, or t where there is none
 abbrev pub last_tick : ℕ → List Event → ℕ
@@ -45,3 +45,23 @@ content_push t es e =
 pub content_end : (es : List Event) (last : ℕ) → content_bytes es last ≡ bytes_from 0 (map timed_message es) ++ (quantity_bytes (last - last_tick 0 es) ++ end_of_track_bytes)
 content_end es last =
     bytes_after 0 es ((last, end_of_track_bytes) ∷ []) ∙ ap (λ (bytes : List ℕ). bytes_from 0 (map timed_message es) ++ bytes) (one_after (last_tick 0 es) last end_of_track_bytes)
+
+-- ---- events in the order of their ticks
+
+pub timed_within : (low : ℕ) (es : List Event) (last : ℕ) → AreTimed low es last → last_tick low es ≤ last
+timed_within low [] last h = h
+timed_within low (e ∷ es) last h = timed_within e.tick es last h.1
+
+pub timed_next : (low : ℕ) (es : List Event) (last i : ℕ) (d : Event) → AreTimed low es last → i < length es → last_tick low (take i es) ≤ (get_or es i d).tick
+timed_next low [] last i d h lt = absurd (omega (arith, lt))
+timed_next low (e ∷ es) last zero d h lt = h.0
+timed_next low (e ∷ es) last (suc i) d h lt = timed_next e.tick es last i d h.1 (omega (arith, lt))
+
+pub timed_early : (low : ℕ) (es : List Event) (last i : ℕ) (d : Event) → AreTimed low es last → i < length es → (get_or es i d).tick ≤ last
+timed_early low [] last i d h lt = absurd (omega (arith, lt))
+timed_early low (e ∷ es) last zero d h lt = starts e.tick es last h.1
+  where
+    starts : (low : ℕ) (es : List Event) (last : ℕ) → AreTimed low es last → low ≤ last
+    starts low [] last h = h
+    starts low (e ∷ es) last h = let rest = starts e.tick es last h.1 in omega (arith, h.0, rest)
+timed_early low (e ∷ es) last (suc i) d h lt = timed_early e.tick es last i d h.1 (omega (arith, lt))

@@ -1,8 +1,13 @@
 -- The content of a track: messages, each with its tick, and then as bytes.
-use Rattle.std.specs.Prelude.{ℕ, ◌-◌, List, [], ◌∷◌, ◌++◌, map}
+use Rattle.std.specs.Prelude.{ℕ, ◌-◌, ◌≤◌, List, [], ◌∷◌, ◌++◌, map}
 use Rattle.rhythm_base.specs.declared.event.Event.{Event}
 use Rattle.smf_bytes.specs.Message.{message_bytes}
 use Rattle.smf_bytes.specs.Quantity.{quantity_bytes}
+
+-- events in the order of their ticks, none before one tick and none after another
+abbrev pub AreTimed : ℕ → List Event → ℕ → Type 0
+AreTimed low [] last = low ≤ last
+AreTimed low (e ∷ events) last = (low ≤ e.tick) × AreTimed e.tick events last
 
 -- messages after tick t: each after the ticks that have passed since the message before it. No status is left out
 unfoldable pub bytes_from : ℕ → List (ℕ × List ℕ) → List ℕ

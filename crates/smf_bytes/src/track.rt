@@ -1,6 +1,6 @@
 ghost use Rattle.smf_bytes.specs.Message.{HasChannel};
 ghost use Rattle.smf_bytes.specs.Quantity.{quantity_bytes};
-ghost use Rattle.smf_bytes.specs.Track.{content_bytes, end_of_track_bytes};
+ghost use Rattle.smf_bytes.specs.Track.{AreTimed, content_bytes, end_of_track_bytes};
 ghost use Rattle.smf_bytes.specs.declared.quantity.TheConstants.{GREATEST_QUANTITY};
 ghost use Rattle.std.specs.Prelude.{◌≡◌, ◌++◌, ◌≤◌, All, IfOk, OnOk};
 
@@ -18,9 +18,9 @@ pub fn push_end(content: &mut Vec<u8>, ticks: u64) -> Result<(), AllocError>
     content.extend_from_slice(&[0xff, 0x2f, 0])
 }
 
-/// The content of a track of these events, which stand in the order of their ticks, and of its end at a tick.
+/// The content of a track of these events, and of its end at a tick.
 pub fn track_content(alloc: Global, events: &[Event], last: u64) -> Result<Vec<u8>, AllocError>
-    requires ticks { All (λ e. e.tick ≤ GREATEST_QUANTITY) events.now }
+    requires order { AreTimed 0 events.now last }
     requires channels { All (λ e. HasChannel e.what) events.now }
     requires last { last ≤ GREATEST_QUANTITY }
     ensures { IfOk result (λ content. content.items ≡ content_bytes events.now last) }
@@ -28,9 +28,9 @@ pub fn track_content(alloc: Global, events: &[Event], last: u64) -> Result<Vec<u
     let mut content = Vec::new(alloc);
     let mut tick = 0;
     'events: for event in events {
-        push_event(&mut content, event.tick.saturating_sub(tick), event.what)?;
+        push_event(&mut content, event.tick - tick, event.what)?;
         tick = event.tick;
     }
-    push_end(&mut content, last.saturating_sub(tick))?;
+    push_end(&mut content, last - tick)?;
     Ok(content)
 }

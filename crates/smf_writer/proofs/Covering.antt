@@ -6,7 +6,8 @@ use Rattle.std.specs.List.{flat_map}
 use Rattle.std.proofs.lemmas.Bool.Decides.{nat_tests}
 use Rattle.rhythm_base.specs.declared.note.Note.{Note}
 use Rattle.rhythm_base.specs.Notes.{IsKept}
-use Rattle.smf_writer.specs.EventNotes.{AreKept, chord_notes, grace_notes, key_list}
+use Rattle.smf_writer.specs.EventNotes.{AreKept, chord_notes, grace_notes}
+use Rattle.score_words.specs.Keys.{rising_keys}
 use Rattle.smf_writer.specs.Strokes.{grace_strokes, joined_keys, stroke_note, stroke_notes}
 use Rattle.smf_writer.specs.declared.stroke.Stroke.{Stroke}
 use Rattle.smf_writer.proofs.KeyBits.{among_keys, keys_among, no_bit, of_either, one_bit, or_left, or_right}
@@ -97,14 +98,14 @@ module _ (channel : ℕ) (s : Stroke) (order : s.onset ≤ s.end) (first : List 
   released_note k clear = ap (λ b. sounding k (ends_by b)) clear
 
   struck : (k : ℕ) → k < 128 → (bit_at s.held k ≡ 1) ⊎ (bit_at s.passing k ≡ 1) → Among (stroke_note channel s k) (stroke_notes channel s)
-  struck k within either = among_map (stroke_note channel s) (key_list (bit_or s.held s.passing)) k (keys_among (bit_or s.held s.passing) k within (by either))
+  struck k within either = among_map (stroke_note channel s) (rising_keys (bit_or s.held s.passing)) k (keys_among (bit_or s.held s.passing) k within (by either))
     where
       by : (bit_at s.held k ≡ 1) ⊎ (bit_at s.passing k ≡ 1) → bit_at (bit_or s.held s.passing) k ≡ 1
       by (inl set) = or_left s.held s.passing k set
       by (inr set) = or_right s.held s.passing k set
 
   held_among : (k : ℕ) → k < 128 → bit_at s.held k ≡ 1 → Among (sounding k s.end) (chord_notes channel s.onset s.end s.held)
-  held_among k within set = among_map (λ j. sounding j s.end) (key_list s.held) k (keys_among s.held k within set)
+  held_among k within set = among_map (λ j. sounding j s.end) (rising_keys s.held) k (keys_among s.held k within set)
 
   late_end : (b : Bool) → s.onset ≤ ends_by b
   late_end true = order
@@ -125,7 +126,7 @@ module _ (channel : ℕ) (s : Stroke) (order : s.onset ≤ s.end) (first : List 
 
       inside : (n : Note) → Among n (stroke_notes channel s) → Among n (first ++ chord)
       inside n a =
-          let r = from_map (stroke_note channel s) (key_list (bit_or s.held s.passing)) n a in
+          let r = from_map (stroke_note channel s) (rising_keys (bit_or s.held s.passing)) n a in
           let k : ℕ = r.0 in
           let low = among_keys (bit_or s.held s.passing) k r.1 in
           subst (λ m. Among m (first ++ chord)) (sym r.2) (of_key k low.0 (bit_at s.held k == 1) refl (of_either s.held s.passing k low.1))
@@ -140,7 +141,7 @@ module _ (channel : ℕ) (s : Stroke) (order : s.onset ≤ s.end) (first : List 
               record { channel = ap (λ (x : Note). x.channel) e; onset = ap (λ (x : Note). x.onset) e; key = ap (λ (x : Note). x.key) e },
               omega (arith, ap (λ (x : Note). x.end) e, late_end (bit_at s.held k == 1)),
             ))
-        | inr b ↦ (let r = from_map (λ j. sounding j s.end) (key_list s.held) n b in
+        | inr b ↦ (let r = from_map (λ j. sounding j s.end) (rising_keys s.held) n b in
             let k : ℕ = r.0 in
             let e = r.2 in
             let low = among_keys s.held k r.1 in (
@@ -195,7 +196,7 @@ graces_passing channel onset graces = subst (ArePassing channel onset (joined_ke
     each n a =
         let r = from_flat (chord_notes channel onset onset) graces n a in
         let keys : ℕ = r.0 in
-        let m = from_map (λ k. record { channel = channel; key = k; onset = onset; end = onset }) (key_list keys) n r.2 in
+        let m = from_map (λ k. record { channel = channel; key = k; onset = onset; end = onset }) (rising_keys keys) n r.2 in
         let low = among_keys keys m.0 m.1 in
         (m.0, low.0, has_grace 0 graces m.0 keys r.1 low.1, m.2)
 
@@ -203,5 +204,5 @@ graces_passing channel onset graces = subst (ArePassing channel onset (joined_ke
     all k within set = elim (of_some 0 graces k set) [
       | inl none ↦ absurd (no_bit k none)
       | inr some ↦ among_flat (chord_notes channel onset onset) graces some.0 (record { channel = channel; key = k; onset = onset; end = onset }) some.1
-          (among_map (λ j. record { channel = channel; key = j; onset = onset; end = onset }) (key_list some.0) k (keys_among some.0 k within some.2))
+          (among_map (λ j. record { channel = channel; key = j; onset = onset; end = onset }) (rising_keys some.0) k (keys_among some.0 k within some.2))
     ]

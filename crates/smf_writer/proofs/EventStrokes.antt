@@ -5,7 +5,7 @@ use Rattle.std.proofs.lemmas.Bool.Decides.{nat_tests}
 use Rattle.std.proofs.lemmas.Grind.{flat_map-append}
 use Rattle.rhythm_base.specs.declared.event.Event.{Event}
 use Rattle.rhythm_base.specs.declared.span.Span.{Span}
-use Rattle.kern_reader.specs.declared.event.KernEvent.{KernEvent}
+use Rattle.voice_events.specs.declared.event.KernEvent.{KernEvent}
 use Rattle.voice_events.specs.Parts.{end_parts, len_parts, start_parts}
 use Rattle.smf_writer.specs.EventNotes.{main_end, main_onset}
 use Rattle.smf_writer.specs.NoteMessages.{event_of}

@@ -1,14 +1,16 @@
 -- The order of messages: by tick, at one tick first the ends of earlier notes, and then by key.
-use Rattle.std.proofs.Common.{◌≡◌, ◌⊎◌, ℕ, ◌<◌, ◌≤◌, Bool, true, false, List, [], ◌∷◌, refl, sym, ap, ◌∙◌, subst, inl, inr, arith}
+use Rattle.std.proofs.Common.{◌≡◌, ◌⊎◌, ℕ, ◌<◌, ◌≤◌, Bool, true, false, List, [], ◌∷◌, map, refl, sym, ap, ◌∙◌, subst, inl, inr, arith}
 use Rattle.std.specs.Prelude.{if◌then◌else◌, nat_lt}
 use Rattle.std.specs.List.{flat_map}
 use Rattle.std.specs.Ordering.{nat_cmp}
-use Rattle.std.specs.Cmp.Lexicographic.{slice_cmp}
+use Rattle.std.specs.Cmp.Lexicographic.{nat_list_cmp_total, slice_cmp}
 use Rattle.std.specs.declared.cmp.Ordering.TheVariants.{Less}
 use Rattle.std.proofs.lemmas.Bool.{cases_lt}
 use Rattle.std.proofs.lemmas.Bool.Decides.{nat_tests}
+use Rattle.rhythm_base.proofs.FirstLists.{one_earlier}
 use Rattle.rhythm_base.specs.declared.note.Note.{Note}
-use Rattle.smf_writer.specs.NoteMessages.{Message, begins, ends, message_note, place_of_message}
+use Rattle.smf_bytes.specs.Track.{AreTimed}
+use Rattle.smf_writer.specs.NoteMessages.{Message, begins, ends, event_of, message_note, place_of_message}
 use Rattle.smf_writer.specs.Strokes.{begun_messages, ended, together}
 use Rattle.rhythm_base.proofs.Members.{Among, Pairwise, among_both, among_flat, among_left, among_right, from_flat, pairs_join}
 
@@ -250,3 +252,30 @@ from_earlier low tick m le f = record { at = f.at; late = f.late; key = f.key; o
       | inl less ↦ inl less
       | inr more ↦ inr (omega (arith, a.0), a.1)
     ]
+
+-- ---- their ticks
+
+tick_of : (m : Message) → (late : ℕ) × (key : ℕ) × (off : ℕ) × (place_of_message m ≡ place (event_of m).tick late key off)
+tick_of (begins n) = (1, n.key, 0, refl)
+tick_of (ends n) = (late_of n, n.key, 1, refl)
+
+not_later : (t l k o u m j p : ℕ) → IsLess (place t l k o) (place u m j p) → t ≤ u
+not_later t l k o u m j p less = elim (cases_lt u t) [
+  | inl back ↦ absurd (one_earlier nat_list_cmp_total (place t l k o) (place u m j p) less (by_tick u m j p t l k o back))
+  | inr fine ↦ fine
+]
+
+ticks_rise : (x y : Message) → IsBefore x y → (event_of x).tick ≤ (event_of y).tick
+ticks_rise x y before =
+    let a = tick_of x in
+    let b = tick_of y in
+    not_later (event_of x).tick a.0 a.1 a.2 (event_of y).tick b.0 b.1 b.2 (subst (λ z. IsLess z (place (event_of y).tick b.0 b.1 b.2)) a.3 (subst (IsLess (place_of_message x)) b.3 before))
+
+-- messages in their order are events in the order of their ticks
+pub messages_timed : (low last : ℕ) (ms : List Message) → low ≤ last → ((m : Message) → Among m ms → low ≤ (event_of m).tick)
+    → ((m : Message) → Among m ms → (event_of m).tick ≤ last) → Pairwise IsBefore ms → AreTimed low (map event_of ms) last
+messages_timed low last [] le above within order = le
+messages_timed low last (x ∷ ms) le above within order = (
+  above x (inl refl),
+  messages_timed (event_of x).tick last ms (within x (inl refl)) (λ m a. ticks_rise x m (order.0 m a)) (λ m a. within m (inr a)) order.1,
+)

@@ -7,7 +7,7 @@ use Rattle.rhythm_base.proofs.FirstLists.{one_earlier, one_order}
 use Rattle.rhythm_base.specs.declared.event.Event.{Event}
 use Rattle.rhythm_base.specs.declared.note.Note.{Note}
 use Rattle.rhythm_base.specs.Performance.{place_of_note}
-use Rattle.kern_reader.specs.declared.event.KernEvent.{KernEvent}
+use Rattle.voice_events.specs.declared.event.KernEvent.{KernEvent}
 use Rattle.smf_bytes.specs.Chunk.{file_bytes}
 use Rattle.smf_bytes.specs.Track.{content_bytes}
 use Rattle.voice_events.specs.Parts.{score_parts}

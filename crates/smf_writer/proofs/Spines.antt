@@ -9,10 +9,11 @@ use Rattle.rhythm_base.proofs.OrderedLists.{all_cons, all_head, all_tail}
 use Rattle.rhythm_base.specs.declared.event.Event.{Event}
 use Rattle.rhythm_base.specs.declared.note.Note.{Note}
 use Rattle.rhythm_base.specs.declared.span.Span.{Span}
-use Rattle.kern_reader.specs.Events.{span_event}
-use Rattle.kern_reader.specs.declared.event.KernEvent.{KernEvent}
+use Rattle.voice_events.specs.Events.{span_event}
+use Rattle.voice_events.specs.declared.event.KernEvent.{KernEvent}
 use Rattle.voice_events.specs.Parts.{end_parts}
 use Rattle.voice_events.specs.VoiceEvents.{AreOfVoice, AreVoiceEventsFrom, FollowFrom, IsVoiceSpan}
+use Rattle.smf_bytes.specs.Track.{AreTimed}
 use Rattle.smf_writer.specs.EventNotes.{AreKept, event_notes}
 use Rattle.smf_writer.specs.NoteMessages.{AreMessages, Message, event_of}
 use Rattle.smf_writer.specs.RenderedFile.{AreVoicesFrom, IsVoiceTrack, spine_notes}
@@ -20,7 +21,7 @@ use Rattle.smf_writer.specs.Strokes.{event_strokes, spine_events, stroke_message
 use Rattle.smf_writer.specs.declared.stroke.Stroke.{Stroke}
 use Rattle.smf_writer.proofs.EventStrokes.{other_false}
 use Rattle.smf_writer.proofs.StrokeOrder.{all_of, notes_of}
-use Rattle.smf_writer.proofs.Voices.{CanStand, voice_kept, voice_messages, voice_stands, voice_strokes}
+use Rattle.smf_writer.proofs.Voices.{CanStand, voice_kept, voice_messages, voice_stands, voice_strokes, voice_timed}
 use Rattle.rhythm_base.proofs.Booleans.{equal_test}
 
 abbrev pub of_spine : ℕ → KernEvent → Bool
@@ -134,6 +135,9 @@ module _ (resolution channel : ℕ) where
       spine_kept,
       subst (AreMessages (notes_of channel (voice_strokes resolution h.spans))) (sym events_are) (voice_messages resolution channel last h.spans h.voice),
     )
+
+    pub spine_timed : AreTimed 0 (spine_events resolution events spine channel) last
+    spine_timed = subst (λ (es : List Event). AreTimed 0 es last) (sym events_are) (voice_timed resolution channel last h.spans h.voice)
 
     pub spine_stands : channel < 16 → All (CanStand resolution channel last) (spine_events resolution events spine channel)
     spine_stands small = subst (All (CanStand resolution channel last)) (sym events_are) (voice_stands resolution channel last h.spans small h.voice)

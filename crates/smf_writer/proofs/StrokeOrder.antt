@@ -9,8 +9,8 @@ use Rattle.std.specs.declared.cmp.Ordering.TheVariants.{Less}
 use Rattle.std.proofs.lemmas.Bool.Decides.{nat_tests}
 use Rattle.rhythm_base.specs.declared.note.Note.{Note}
 use Rattle.rhythm_base.specs.Performance.{place_of_note}
-use Rattle.smf_writer.specs.EventNotes.{key_list}
-use Rattle.smf_writer.specs.NoteMessages.{Message, message_note}
+use Rattle.score_words.specs.Keys.{rising_keys}
+use Rattle.smf_writer.specs.NoteMessages.{Message, begins, ends, event_of, message_note}
 use Rattle.smf_writer.specs.Strokes.{stroke_messages, stroke_note, stroke_notes}
 use Rattle.smf_writer.specs.declared.stroke.Stroke.{Stroke}
 use Rattle.smf_writer.proofs.KeyBits.{among_keys, keys_rise}
@@ -44,7 +44,7 @@ module _ (channel : ℕ) where
 
   pub of_stroke : (s : Stroke) (n : Note) → Among n (stroke_notes channel s) → IsOfStroke s n
   of_stroke s n h =
-      let r = from_map (stroke_note channel s) (key_list (bit_or s.held s.passing)) n h in
+      let r = from_map (stroke_note channel s) (rising_keys (bit_or s.held s.passing)) n h in
       let k : ℕ = r.0 in
       let low = among_keys (bit_or s.held s.passing) k r.1 in
       record {
@@ -60,7 +60,7 @@ module _ (channel : ℕ) where
 
   keys_in_order : (s : Stroke) → Pairwise (λ (m : Note) n. m.key < n.key) (stroke_notes channel s)
   keys_in_order s =
-      pairs_map (λ (j : ℕ) k. j < k) (λ (m : Note) n. m.key < n.key) (stroke_note channel s) (key_list (bit_or s.held s.passing)) (λ j k less. less)
+      pairs_map (λ (j : ℕ) k. j < k) (λ (m : Note) n. m.key < n.key) (stroke_note channel s) (rising_keys (bit_or s.held s.passing)) (λ j k less. less)
       (keys_rise (bit_or s.held s.passing))
 
   note_order : (s : Stroke) (n : Note) → s.onset ≤ s.end → IsOfStroke s n → n.onset ≤ n.end
@@ -139,7 +139,7 @@ module _ (channel : ℕ) where
 
   stroke_order : (s : Stroke) → Pairwise IsEarlier (stroke_notes channel s)
   stroke_order s =
-      pairs_map (λ (j : ℕ) k. j < k) IsEarlier (stroke_note channel s) (key_list (bit_or s.held s.passing)) (λ j k less. by_note_key channel s.onset j channel s.onset k refl refl less)
+      pairs_map (λ (j : ℕ) k. j < k) IsEarlier (stroke_note channel s) (rising_keys (bit_or s.held s.passing)) (λ j k less. by_note_key channel s.onset j channel s.onset k refl refl less)
       (keys_rise (bit_or s.held s.passing))
 
   pub notes_order : (low last : ℕ) (strokes : List Stroke) → Succeed low strokes last → Pairwise IsEarlier (notes_of strokes)
@@ -161,6 +161,11 @@ module _ (channel : ℕ) where
     pub order : n.onset ≤ n.end
     pub onset : n.onset ≤ last
     pub end : n.end ≤ last
+
+  -- so are the messages of a note
+  pub message_within : (last : ℕ) (m : Message) → IsWithin last (message_note m) → (event_of m).tick ≤ last
+  message_within last (begins n) is = is.onset
+  message_within last (ends n) is = is.end
 
   pub notes_within : (low last : ℕ) (strokes : List Stroke) (n : Note) → Succeed low strokes last → Among n (notes_of strokes) → IsWithin last n
   notes_within low last strokes n h a =

@@ -6,16 +6,16 @@ use Rattle.std.proofs.lemmas.List.{drop_more, length-map}
 use Rattle.rhythm_base.proofs.OrderedLists.{all_cons, all_head, all_tail}
 use Rattle.rhythm_base.specs.declared.event.Event.{Event}
 use Rattle.derivation.specs.declared.score.ScoreBar.{ScoreBar}
-use Rattle.kern_reader.specs.declared.event.KernEvent.{KernEvent}
+use Rattle.voice_events.specs.declared.event.KernEvent.{KernEvent}
 use Rattle.smf_bytes.specs.Chunk.{header_bytes, track_chunk_bytes}
-use Rattle.smf_bytes.specs.Track.{content_bytes}
+use Rattle.smf_bytes.specs.Track.{AreTimed, content_bytes}
 use Rattle.smf_bytes.specs.declared.quantity.TheConstants.{GREATEST_QUANTITY}
 use Rattle.voice_events.specs.Parts.{score_parts}
 use Rattle.voice_events.specs.VoiceEvents.{AreVoiceEvents}
 use Rattle.smf_writer.specs.Changes.{conductor}
 use Rattle.smf_writer.specs.RenderedFile.{IsRendered}
 use Rattle.smf_writer.specs.Strokes.{spine_events, voices_from}
-use Rattle.smf_writer.proofs.Spines.{are_voices, spine_spans, spine_stands}
+use Rattle.smf_writer.proofs.Spines.{are_voices, spine_spans, spine_stands, spine_timed}
 use Rattle.smf_writer.proofs.Voices.{CanStand}
 
 module _ (last : ℕ) where
@@ -127,3 +127,13 @@ voice_can_stand resolution bars channels events i d own lt are few is =
     let channel = get_or channels i d in
     subst (All (CanStand resolution channel last)) (sym is)
     (spine_stands resolution channel last (i + 1) events (spine_spans resolution last 1 (length channels) (i + 1) events (omega arith) (omega arith) are) (few i d lt))
+
+-- they stand in the order of their ticks
+pub voice_in_order : (resolution : ℕ) (bars : List ScoreBar) (channels : List ℕ) (events : List KernEvent) (i d last : ℕ) (own : List Event)
+    → i < length channels → AreVoiceEvents resolution bars (length channels) events → last ≡ score_parts resolution bars
+    → own ≡ spine_events resolution events (i + 1) (get_or channels i d) → AreTimed 0 own last
+voice_in_order resolution bars channels events i d last own lt are end is =
+    subst (λ (es : List Event). AreTimed 0 es last) (sym is)
+    (subst (AreTimed 0 (spine_events resolution events (i + 1) (get_or channels i d))) (sym end)
+    (spine_timed resolution (get_or channels i d) (score_parts resolution bars) (i + 1) events
+    (spine_spans resolution (score_parts resolution bars) 1 (length channels) (i + 1) events (omega arith) (omega arith) are)))

@@ -9,6 +9,7 @@ use Rattle.rhythm_base.specs.declared.event.Event.{Event}
 use Rattle.rhythm_base.specs.declared.note.Note.{Note}
 use Rattle.rhythm_base.specs.declared.span.Span.{Span}
 use Rattle.smf_bytes.specs.Message.{HasChannel}
+use Rattle.smf_bytes.specs.Track.{AreTimed}
 use Rattle.voice_events.specs.Parts.{end_parts, len_parts, start_parts}
 use Rattle.voice_events.specs.VoiceEvents.{AreOfVoice, FollowFrom, IsVoiceSpan}
 use Rattle.smf_writer.specs.EventNotes.{AreKept, chord_notes, event_notes, grace_notes, grace_ticks, main_end, main_onset}
@@ -18,8 +19,8 @@ use Rattle.smf_writer.specs.declared.stroke.Stroke.{Stroke}
 use Rattle.smf_writer.proofs.Covering.{Cover, cover_both, cover_nothing, graces_cover, graces_passing, kept_notes, none_passing, stroke_cover, ArePassing}
 use Rattle.smf_writer.proofs.EventStrokes.{crowded_onset, graced_onset}
 use Rattle.rhythm_base.proofs.Members.{all_from_among, among_contained, from_map, pairs_from, place_among}
-use Rattle.smf_writer.proofs.MessageOrder.{IsBefore}
-use Rattle.smf_writer.proofs.StrokeOrder.{IsWithin, Succeed, all_of, messages_of_notes, messages_order, notes_have_messages, notes_of, notes_order, notes_within}
+use Rattle.smf_writer.proofs.MessageOrder.{IsBefore, messages_timed}
+use Rattle.smf_writer.proofs.StrokeOrder.{IsWithin, Succeed, all_of, message_within, messages_of_notes, messages_order, notes_have_messages, notes_of, notes_order, notes_within}
 
 -- ---- the strokes of an event follow one another
 
@@ -171,3 +172,12 @@ module _ (resolution channel : ℕ) where
       let r = from_map event_of (all_of channel strokes) e a in
       let m : Message = r.0 in
       subst (CanStand last) (sym r.2) (can_stand last m small (notes_within channel 0 last strokes (message_note m) succeed (messages_of_notes channel 0 last strokes m succeed r.1))))
+
+  -- in the order of their ticks
+  pub voice_timed : (last : ℕ) (spans : List Span) → AreOfVoice resolution last spans → AreTimed 0 (map event_of (all_of channel (voice_strokes resolution spans))) last
+  voice_timed last spans h =
+      let strokes : List Stroke = voice_strokes resolution spans in
+      let succeed = spans_succeed 0 last spans h.each h.follow in
+      messages_timed 0 last (all_of channel strokes) (omega arith) (λ m a. omega arith)
+      (λ m a. message_within channel last m (notes_within channel 0 last strokes (message_note m) succeed (messages_of_notes channel 0 last strokes m succeed a)))
+      (messages_order channel 0 last strokes succeed)

@@ -4,7 +4,8 @@ use Rattle.std.specs.Int.Count.{count_trailing_zeros}
 use Rattle.rhythm_base.specs.declared.note.Note.{Note}
 use Rattle.rhythm_base.specs.declared.span.Span.{Span}
 use Rattle.derivation.specs.declared.score.ScoreBar.{ScoreBar}
-use Rattle.kern_reader.specs.Events.{span_event}
+use Rattle.voice_events.specs.Events.{span_event}
+use Rattle.score_words.specs.Keys.{rising_keys}
 use Rattle.smf_bytes.specs.Chunk.{file_bytes}
 use Rattle.smf_bytes.specs.Track.{bytes_from, content_bytes}
 use Rattle.smf_writer.specs.Changes.{conductor}
@@ -25,6 +26,7 @@ quarter number graces keys = record { start = record { num = number; den = 4 }; 
 -- ---- a quarter note
 
 one_note : event_notes 4 0 (quarter 1 [] (2 ^ 62)) ≡ note 64 62 128 ∷ []
+unfolding rising_keys
 one_note = refl
 
 -- ---- four quarter notes
@@ -40,12 +42,13 @@ unfolding quarters bytes_from count_trailing_zeros
 quarters_written = refl
 
 quarters_played : spine_events 4 (map (span_event 1) (quarter 0 [] (2 ^ 60) ∷ quarter 1 [] (2 ^ 62) ∷ quarter 2 [] (2 ^ 64) ∷ quarter 3 [] (2 ^ 65) ∷ [])) 1 0 ≡ map event_of quarters
-unfolding quarters
+unfolding quarters rising_keys
 quarters_played = refl
 
 -- ---- two grace notes before a quarter note
 
 graced : event_notes 4 0 (quarter 1 (2 ^ 62 ∷ 2 ^ 64 ∷ []) (2 ^ 60)) ≡ note 64 62 65 ∷ note 65 64 66 ∷ note 66 60 128 ∷ []
+unfolding rising_keys
 graced = refl
 
 graces : List Message
@@ -58,11 +61,12 @@ unfolding graces bytes_from count_trailing_zeros
 graces_written = refl
 
 graces_played : spine_events 4 (map (span_event 1) (quarter 1 (2 ^ 62 ∷ 2 ^ 64 ∷ []) (2 ^ 60) ∷ [])) 1 0 ≡ map event_of graces
-unfolding graces
+unfolding graces rising_keys
 graces_played = refl
 
 -- ---- as many grace chords as ticks: they take no time
 
 crowded : event_notes 1 0 (record { start = record { num = 0; den = 1 }; len = record { num = 1; den = 64 }; keys = 2 ^ 62; graces = 2 ^ 60 ∷ []; short = false })
     ≡ note 0 60 0 ∷ note 0 62 1 ∷ []
+unfolding rising_keys
 crowded = refl

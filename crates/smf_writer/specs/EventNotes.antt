@@ -1,21 +1,16 @@
 -- The notes that an event is played as. A part of a whole note is a tick, so there are 64 * R ticks to the whole note.
-use Rattle.std.specs.Prelude.{◌↔◌, ℕ, ◌+◌, ◌-◌, ◌*◌, ◌/◌, ◌==◌, nat_lt, if◌then◌else◌, List, [], ◌∷◌, ◌++◌, Contains, filter, length, map}
-use Rattle.std.specs.Int.{bit_at}
-use Rattle.std.specs.List.{range_with_len}
+use Rattle.std.specs.Prelude.{◌↔◌, ℕ, ◌+◌, ◌-◌, ◌*◌, ◌/◌, nat_lt, if◌then◌else◌, List, [], ◌∷◌, ◌++◌, Contains, length, map}
 use Rattle.rhythm_base.specs.declared.note.Note.{Note}
 use Rattle.rhythm_base.specs.declared.span.Span.{Span}
 use Rattle.rhythm_base.specs.Lists.{AreInOrder}
 use Rattle.rhythm_base.specs.Notes.{IsKept}
 use Rattle.rhythm_base.specs.Performance.{place_of_note}
+use Rattle.score_words.specs.Keys.{rising_keys}
 use Rattle.voice_events.specs.Parts.{end_parts, len_parts, start_parts}
-
--- the keys of a set, the lowest first
-abbrev pub key_list : ℕ → List ℕ
-key_list keys = filter (λ k. bit_at keys k == 1) (range_with_len 0 128)
 
 -- a note of the channel for each key of a chord
 abbrev pub chord_notes : ℕ → ℕ → ℕ → ℕ → List Note
-chord_notes channel onset end keys = map (λ k. record { channel = channel; key = k; onset = onset; end = end }) (key_list keys)
+chord_notes channel onset end keys = map (λ k. record { channel = channel; key = k; onset = onset; end = end }) (rising_keys keys)
 
 -- grace chords of so many ticks, one after another from a tick on
 abbrev pub grace_notes : ℕ → ℕ → ℕ → List ℕ → List Note

@@ -7,9 +7,10 @@ use Rattle.std.specs.List.{flat_map}
 use Rattle.rhythm_base.specs.declared.event.Event.{Event}
 use Rattle.rhythm_base.specs.declared.note.Note.{Note}
 use Rattle.rhythm_base.specs.declared.span.Span.{Span}
-use Rattle.kern_reader.specs.declared.event.KernEvent.{KernEvent}
+use Rattle.voice_events.specs.declared.event.KernEvent.{KernEvent}
 use Rattle.voice_events.specs.Parts.{len_parts, start_parts}
-use Rattle.smf_writer.specs.EventNotes.{key_list, main_end, main_onset}
+use Rattle.score_words.specs.Keys.{rising_keys}
+use Rattle.smf_writer.specs.EventNotes.{main_end, main_onset}
 use Rattle.smf_writer.specs.NoteMessages.{Message, begins, ends, event_of}
 use Rattle.smf_writer.specs.declared.stroke.Stroke.{Stroke}
 
@@ -21,7 +22,7 @@ stroke_note channel s key =
     record { channel = channel; key = key; onset = s.onset; end = if bit_at s.held key == 1 then s.end else s.onset }
 
 abbrev pub stroke_notes : ℕ → Stroke → List Note
-stroke_notes channel s = map (stroke_note channel s) (key_list (bit_or s.held s.passing))
+stroke_notes channel s = map (stroke_note channel s) (rising_keys (bit_or s.held s.passing))
 
 -- notes begin, and those of no length end at once
 abbrev pub begun_messages : Note → List Message

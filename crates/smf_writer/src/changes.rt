@@ -1,14 +1,15 @@
 ghost use Rattle.derivation.specs.Score.{IsScoreBar};
 ghost use Rattle.rhythm_base.specs.declared.limits.TheConstants.{MOST_UNITS};
 ghost use Rattle.smf_writer.specs.Changes as definitions;
-ghost use Rattle.smf_writer.specs.Changes.{changes_at, midi_key_before, key_event, signature_event, tempo_event};
+ghost use Rattle.smf_writer.specs.Changes.{changes_at, key_event, signature_event, tempo_event};
 ghost use Rattle.voice_events.specs.Parts.{score_parts};
 ghost use Rattle.std.specs.Prelude.{◌≡◌, ◌++◌, ◌<◌, ◌≤◌, ◌^◌, All, IfOk, OnOk, length};
 
-use crate::barlines::bar_ticks;
 use derivation::ScoreBar;
 use rhythm_base::{Event, What};
+use score_words::{is_same_key, is_same_signature, key_before};
 use std::alloc::{AllocError, Global};
+use voice_events::score_bar_parts;
 
 /// The tempo of a bar, where it differs.
 fn tempo_change(before: Option<ScoreBar>, bar: &ScoreBar) -> Option<What>
@@ -24,33 +25,22 @@ fn tempo_change(before: Option<ScoreBar>, bar: &ScoreBar) -> Option<What>
 fn signature_change(before: Option<ScoreBar>, bar: &ScoreBar) -> Option<What>
     ensures { result ≡ signature_event before bar.now }
 {
-    match before {
-        Some(other) if other.num == bar.num && other.den == bar.den => None,
-        _ => Some(What::Signature {
-            num: bar.num,
-            dd: bar.den.trailing_zeros() as u8,
-        }),
+    if is_same_signature(before, bar) {
+        return None;
     }
-}
-
-/// The key before.
-fn key_before(before: Option<ScoreBar>) -> Option<i8>
-    ensures { result ≡ midi_key_before before }
-{
-    match before {
-        None => None,
-        Some(other) => other.sf,
-    }
+    Some(What::Signature {
+        num: bar.num,
+        dd: bar.den.trailing_zeros() as u8,
+    })
 }
 
 /// The key of a bar, where it has one and that differs.
 fn key_change(before: Option<i8>, key: Option<i8>) -> Option<What>
     ensures { result ≡ key_event before key }
 {
-    match (before, key) {
-        (_, None) => None,
-        (Some(other), Some(sf)) if other == sf => None,
-        (_, Some(sf)) => Some(What::KeySig(sf)),
+    match key {
+        Some(sf) if !is_same_key(before, sf) => Some(What::KeySig(sf)),
+        _ => None,
     }
 }
 
@@ -93,7 +83,7 @@ pub(crate) fn conductor(
     'bars: for bar in bars {
         push_changes(&mut events, tick, before, bar)?;
         before = Some(*bar);
-        tick += bar_ticks(bar, resolution);
+        tick += score_bar_parts(bar, resolution);
     }
     Ok(events)
 }

@@ -1,8 +1,8 @@
-ghost use Rattle.durations.specs.Spans.{IsFrac};
 ghost use Rattle.smf_bytes.specs.declared.quantity.TheConstants.{GREATEST_QUANTITY};
 ghost use Rattle.smf_writer.specs.EventNotes.{main_end, main_onset};
 ghost use Rattle.smf_writer.specs.Strokes.{event_strokes, grace_strokes, joined_keys, strokes_events};
-ghost use Rattle.voice_events.specs.Parts.{end_parts, len_parts, frac_parts, start_parts};
+ghost use Rattle.voice_events.specs.Parts as parts;
+ghost use Rattle.voice_events.specs.Parts.{IsWhole, end_parts, len_parts, start_parts};
 ghost use Rattle.voice_events.specs.VoiceEvents.{IsVoiceSpan};
 ghost use Rattle.std.specs.Prelude.{◌≡◌, ◌++◌, ◌+◌, ◌*◌, ◌≤◌, ◌-◌, ◌/◌, if◌then◌else◌, IfOk, OnOk, length};
 
@@ -10,14 +10,15 @@ use crate::messages::push_stroke;
 use crate::stroke::Stroke;
 use rhythm_base::{Event, Frac, Keys, Span};
 use std::alloc::{AllocError, Global};
+use voice_events::frac_parts;
 
 /// A number of whole notes in ticks.
 fn ticks_of(fraction: Frac, resolution: u16) -> u64
-    requires some { 1 ≤ fraction.den }
-    requires early { frac_parts (64 * resolution) fraction ≤ GREATEST_QUANTITY }
-    ensures { result ≡ frac_parts (64 * resolution) fraction }
+    requires whole { IsWhole (64 * resolution) fraction }
+    requires early { parts.frac_parts (64 * resolution) fraction ≤ GREATEST_QUANTITY }
+    ensures { result ≡ parts.frac_parts (64 * resolution) fraction }
 {
-    fraction.num * (64 * u64::from(resolution) / fraction.den)
+    frac_parts(fraction, 64 * u64::from(resolution))
 }
 
 /// The keys of all grace chords.

@@ -2,7 +2,6 @@
 //! voice are a track of their own. Tempo, signature and key stand in the first track.
 #![tactic(auto)]
 
-mod barlines;
 mod changes;
 mod event_strokes;
 mod fault;

@@ -1,24 +1,23 @@
 ghost use Rattle.smf_bytes.specs.Chunk.{track_chunk_bytes};
 ghost use Rattle.smf_bytes.specs.Message.{HasChannel};
-ghost use Rattle.smf_bytes.specs.Track.{content_bytes};
+ghost use Rattle.smf_bytes.specs.Track.{AreTimed, content_bytes};
 ghost use Rattle.smf_bytes.specs.declared.quantity.TheConstants.{GREATEST_QUANTITY};
 ghost use Rattle.smf_writer.specs.RenderedFile.{AreChannels, HasRenderFault, IsRendered};
 ghost use Rattle.smf_writer.specs.Strokes.{voices_from};
-ghost use Rattle.voice_events.specs.Parts.{score_parts};
+ghost use Rattle.voice_events.specs.Parts as parts;
 ghost use Rattle.voice_events.specs.VoiceEvents.{AreVoiceEvents};
 ghost use Rattle.voice_events.specs.Writable.{IsWritable};
 ghost use Rattle.std.specs.List.{flat_map};
 ghost use Rattle.std.specs.Prelude.{◌≡◌, ◌++◌, ◌<◌, ◌≤◌, ◌^◌, All, IfErr, IfOk, OnOk, length, map};
 
-use crate::barlines::last_barline;
 use crate::changes::conductor;
 use crate::fault::RenderFault;
 use crate::voice::voice;
 use derivation::ScoreBar;
-use kern_reader::KernEvent;
 use rhythm_base::Event;
 use smf_bytes::{GREATEST_QUANTITY, push_header, push_track, track_content};
 use std::alloc::{AllocError, Global};
+use voice_events::{KernEvent, score_parts};
 
 /// Appends the track of some events, which ends with the last barline.
 fn push_events(
@@ -27,7 +26,7 @@ fn push_events(
     events: &[Event],
     last: u64,
 ) -> Result<(), AllocError>
-    requires ticks { All (λ e. e.tick ≤ GREATEST_QUANTITY) events.now }
+    requires order { AreTimed 0 events.now last }
     requires channels { All (λ e. HasChannel e.what) events.now }
     requires last { last ≤ GREATEST_QUANTITY }
     ensures bytes { OnOk result (bytes.new.items ≡ bytes.old.items ++ track_chunk_bytes (content_bytes events.now last)) }
@@ -50,7 +49,7 @@ fn push_voices(
     requires writable { IsWritable resolution bars.now (length channels.now) }
     requires channels { AreChannels channels.now }
     requires events { AreVoiceEvents resolution bars.now (length channels.now) events.now }
-    requires last { last ≡ score_parts resolution bars.now }
+    requires last { last ≡ parts.score_parts resolution bars.now }
     requires early { last ≤ GREATEST_QUANTITY }
     ensures bytes { OnOk result (bytes.new.items ≡ bytes.old.items
         ++ flat_map (λ track. track_chunk_bytes (content_bytes track last)) (voices_from resolution events.now 1 channels.now)) }
@@ -80,7 +79,7 @@ pub fn render(
     ensures file { IfOk result (λ bytes. IsRendered resolution bars.now channels.now events.now bytes.items) }
     ensures fault { IfErr result (HasRenderFault resolution bars.now) }
 {
-    let last = last_barline(bars, resolution);
+    let last = score_parts(bars, resolution);
     if last > GREATEST_QUANTITY {
         return Err(RenderFault::TooLong { tick: last });
     }

@@ -2,6 +2,7 @@ ghost use Rattle.smf_writer.specs.Strokes.{stroke_note, stroke_notes};
 ghost use Rattle.std.specs.Prelude.{◌≡◌, ◌<◌, IfOk, bit_or};
 
 use rhythm_base::{Keys, Note};
+use score_words::RisingKeys;
 use std::alloc::{AllocError, Global};
 
 /// What is struck at one tick: keys that are held up to an end, and keys that sound for no time.
@@ -45,11 +46,9 @@ pub(crate) fn notes_of(alloc: Global, channel: u8, stroke: &Stroke) -> Result<Ve
     ensures { IfOk result (λ notes. notes.items ≡ stroke_notes channel stroke.now) }
 {
     let mut notes = Vec::new(alloc);
-    let keys = stroke.struck();
-    'struck_keys: for key in keys.lowest()..keys.end() {
-        if keys.has(key) {
-            notes.push(stroke.note(channel, key))?;
-        }
+    let mut left = RisingKeys::of(stroke.struck());
+    'keys: while let Some(key) = left.next() {
+        notes.push(stroke.note(channel, key))?;
     }
     Ok(notes)
 }

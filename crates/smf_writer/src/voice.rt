@@ -5,9 +5,9 @@ ghost use Rattle.voice_events.specs.VoiceEvents.{IsVoiceSpan};
 ghost use Rattle.std.specs.Prelude.{◌≡◌, ◌≤◌, All, IfOk};
 
 use crate::event_strokes::push_event;
-use kern_reader::KernEvent;
 use rhythm_base::Event;
 use std::alloc::{AllocError, Global};
+use voice_events::KernEvent;
 
 /// The events of the track of a spine.
 pub(crate) fn voice(

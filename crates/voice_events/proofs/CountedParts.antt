@@ -5,28 +5,17 @@ use Rattle.std.proofs.Math.Nat.{div-mul_cancel, dvd-mul_right, eq_of_mul-eq-mul_
 use Rattle.std.proofs.lemmas.Nat.Gcd.{dvd-zero}
 use Rattle.rhythm_base.specs.declared.span.Frac.{Frac}
 use Rattle.durations.specs.Spans.{IsFrac}
-use Rattle.durations.proofs.LowestTerms.{divided}
+use Rattle.durations.proofs.ValuesExist.{lowest_exist}
 use Rattle.derivation.proofs.Fractions.{frac_one}
-use Rattle.kern_reader.proofs.GridLemmas.{gcd_is}
-use Rattle.kern_reader.specs.Columns.{gcd}
 use Rattle.voice_events.specs.Laws.{PartsAreCounted}
 use Rattle.voice_events.specs.Parts.{IsWhole, frac_parts}
 use Rattle.durations.proofs.FractionLemmas.{frac_of_lowest}
 
--- n / d in lowest terms is n / g over d / g
-reduced : (n d : ℕ) (f : Frac) → 1 ≤ d → IsFrac n d f → d / gcd n d ≡ f.den
-reduced n d f some is =
-    let g = gcd n d in
-    let own : Frac = record { num = n / g; den = d / g } in
-    let same : own ≡ f = frac_one n d own f some (frac_of_lowest n d (n / g) (d / g) some (divided n d g some (gcd_is n d))) is in
-    ap (λ (x : Frac). x.den) same
-
 divides : (n d : ℕ) (f : Frac) → 1 ≤ d → IsFrac n d f → f.den ∣ d
 divides n d f some is =
-    let g = gcd n d in
-    let is_gcd = gcd_is n d in
-    let own : d / g ∣ d = subst (λ x. d / g ∣ x) (div-mul_cancel g is_gcd.1) (dvd-mul_right (d / g) g) in
-    subst (λ x. x ∣ d) (reduced n d f some is) own
+    let (a, b, lowest) = lowest_exist n d some in
+    let same : record { num = a; den = b } ≡ f = frac_one n d (record { num = a; den = b }) f some (frac_of_lowest n d a b some lowest) is in
+    subst (λ (x : Frac). x.den ∣ d) same (subst (λ x. b ∣ x) (sym lowest.3) (dvd-mul_right b lowest.0))
 
 -- its denominator divides d
 pub den_divides : (n d : ℕ) (f : Frac) → IsFrac n d f → f.den ∣ d

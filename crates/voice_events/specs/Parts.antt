@@ -1,5 +1,5 @@
 -- Lengths and places in parts of a whole note. With R units to the bar there are 64 * R parts to the whole note.
-use Rattle.std.specs.Prelude.{ℕ, ◌+◌, ◌*◌, ◌/◌, List, sum_by, take}
+use Rattle.std.specs.Prelude.{ℕ, ◌+◌, ◌*◌, ◌/◌, List, sum_by}
 use Rattle.rhythm_base.specs.declared.span.Frac.{Frac}
 use Rattle.rhythm_base.specs.declared.span.Span.{Span}
 use Rattle.durations.specs.Spans.{IsFrac}
@@ -12,10 +12,6 @@ score_bar_parts resolution bar = resolution * (bar.num * (64 / bar.den))
 
 abbrev pub score_parts : ℕ → List ScoreBar → ℕ
 score_parts resolution bars = sum_by (score_bar_parts resolution) bars
-
--- where bar n begins, counted from 0, and with the number of bars the last barline
-abbrev pub barline_parts : ℕ → List ScoreBar → ℕ → ℕ
-barline_parts resolution bars n = score_parts resolution (take n bars)
 
 -- ---- spans
 

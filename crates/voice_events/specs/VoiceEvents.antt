@@ -4,8 +4,8 @@ use Rattle.std.proofs.Common.{zero, suc}
 use Rattle.rhythm_base.specs.declared.span.Span.{Span}
 use Rattle.derivation.specs.declared.score.ScoreBar.{ScoreBar}
 use Rattle.derivation.specs.WellSounded.{AreKeys}
-use Rattle.kern_reader.specs.declared.event.KernEvent.{KernEvent}
-use Rattle.kern_reader.specs.Events.{span_event}
+use Rattle.voice_events.specs.declared.event.KernEvent.{KernEvent}
+use Rattle.voice_events.specs.Events.{span_event}
 use Rattle.voice_events.specs.Parts.{IsWhole, end_parts, len_parts, score_parts, start_parts}
 
 -- a span of whole parts, one at least, has some keys and at most three grace chords, each of some keys

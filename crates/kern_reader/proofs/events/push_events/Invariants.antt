@@ -2,7 +2,8 @@ use Rattle.std.proofs.Common.{◌≡◌, ◌+◌, ◌++◌, [], List, length, ma
 use Rattle.rhythm_base.specs.declared.span.Span.{Span}
 use Rattle.rhythm_base.specs.Lists.{Each}
 use Rattle.kern_reader.specs.declared.token.Token.{Token}
-use Rattle.kern_reader.specs.Events.{IsKernSpan, IsWalk, beginnings, span_event}
+use Rattle.kern_reader.specs.Events.{IsKernSpan, IsWalk, beginnings}
+use Rattle.voice_events.specs.Events.{span_event}
 use Rattle.kern_reader.specs.Score.{IsColumnOn}
 use Rattle.kern_reader.proofs.events.push_events.Given as goal
 

@@ -1,8 +1,8 @@
 use Rattle.std.proofs.Common.{◌^◌, ◌<◌, ◌∷◌, ◌++◌, List, [], length, map, sym, ap, ◌∙◌, arith, append-nil}
 use Rattle.std.proofs.lemmas.List.{take_rest}
 use Rattle.std.proofs.lemmas.List.Elements.{All-cons, All-nil}
-use Rattle.kern_reader.specs.declared.event.KernEvent.{KernEvent}
-use Rattle.kern_reader.specs.Events.{span_event}
+use Rattle.voice_events.specs.declared.event.KernEvent.{KernEvent}
+use Rattle.voice_events.specs.Events.{span_event}
 use Rattle.kern_reader.specs.Score.{IsTokenOn}
 use Rattle.kern_reader.proofs.EventLemmas.{after_on, cons_of, first_on, spans_end, spans_next, start_small}
 use Rattle.kern_reader.proofs.ListingLemmas.{lines_next}

@@ -3,7 +3,8 @@ use Rattle.rhythm_base.specs.declared.span.Span.{Span}
 use Rattle.rhythm_base.specs.Lists.{Each}
 use Rattle.kern_reader.specs.declared.token.Token.{Token}
 use Rattle.kern_reader.specs.EventText.{events_text}
-use Rattle.kern_reader.specs.Events.{IsKernSpan, IsWalk, beginnings, span_event}
+use Rattle.kern_reader.specs.Events.{IsKernSpan, IsWalk, beginnings}
+use Rattle.voice_events.specs.Events.{span_event}
 use Rattle.kern_reader.specs.Score.{IsColumnOn}
 use Rattle.kern_reader.proofs.listing.push_column.Given as goal
 

@@ -3,7 +3,7 @@ use Rattle.std.specs.List.{join_with_byte}
 use Rattle.std.proofs.lemmas.List.{append_assoc, take_all}
 use Rattle.kern_writer.specs.Records.{grace_column, grace_record, grace_tokens, token_at}
 use Rattle.kern_writer.specs.Tokens.{Token}
-use Rattle.kern_writer.proofs.Separators.{join_map_more}
+use Rattle.score_words.proofs.Separators.{join_map_more}
 use Rattle.kern_writer.proofs.Writing.{record_written}
 use Rattle.kern_writer.proofs.data.write_graces.Goals as goal
 

@@ -2,7 +2,7 @@ use Rattle.std.proofs.Common.{◌≡◌, ◌++◌, replicate, ap, ◌∙◌, ari
 use Rattle.std.specs.List.{join_with_byte}
 use Rattle.std.proofs.lemmas.List.{append_assoc}
 use Rattle.kern_writer.specs.Shared.{shared_text}
-use Rattle.kern_writer.proofs.Separators.{join_replicate}
+use Rattle.score_words.proofs.Separators.{join_replicate}
 use Rattle.kern_writer.proofs.Writing.{record_written}
 use Rattle.kern_writer.proofs.shared.write_shared.Goals as goal
 

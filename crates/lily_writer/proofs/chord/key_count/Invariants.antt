@@ -1,6 +1,9 @@
-use Rattle.std.proofs.Common.{◌≡◌, ◌≤◌, length}
-use Rattle.kern_writer.specs.Tokens.{keys_from}
+use Rattle.std.proofs.Common.{◌≡◌, ◌+◌, length}
+use Rattle.score_words.specs.Keys.{rising_keys}
 use Rattle.lily_writer.proofs.chord.key_count.Given as goal
 
 abbrev pub invariant-keys : goal.invariant-keys
-invariant-keys l = record { count : l.count ≡ length (keys_from l.keys 0 l.key); few : l.count ≤ l.key; top : l.key ≤ 128 }
+invariant-keys l = l.count + length l.left ≡ length (rising_keys l.fn.keys)
+
+abbrev pub decreases-keys : goal.decreases-keys
+decreases-keys l = length l.left

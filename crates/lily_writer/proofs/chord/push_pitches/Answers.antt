@@ -1,53 +1,18 @@
-use Rattle.std.proofs.Common.{ℕ, ◌+◌, ◌++◌, List, length, map, sym, ap, ◌∙◌, arith}
-use Rattle.std.specs.List.{join_with_byte}
-use Rattle.std.proofs.lemmas.List.{append-nil}
-use Rattle.kern_writer.proofs.RisingKeys.{chord_step, keys_all, keys_below, keys_count, keys_skip}
+use Rattle.std.proofs.Common.{arith}
+use Rattle.score_words.proofs.WrittenKeys.{few_written, key_written, none_written}
 use Rattle.lily_writer.specs.Pitches.{lily_pitch}
 use Rattle.lily_writer.proofs.chord.push_pitches.Goals as goal
-use Rattle.lily_writer.proofs.chord.push_pitches.Goals.{then-has+in_ok-push_between+in_ok-push_pitch, else-has}
-use Rattle.rhythm_base.proofs.KeySets.{had, not_had}
 
 pub keys-init : goal.keys-init
-keys-init c =
-    let none = keys_below c.args.keys c.lowest-key.result c.lowest-key.ensures.below in
-    let note : ℕ → List ℕ = lily_pitch c.args.flats in
-    record {
-      text = sym (append-nil c.args.text.now.items) ∙ ap (λ ks. c.args.text.now.items ++ join_with_byte 32 (map note ks)) (sym none);
-      number = ap length (sym none);
-      few = omega arith;
-      top = c.lowest-key.ensures.few;
-    }
+keys-init c = none_written (lily_pitch c.args.flats) c.args.keys c.args.text.now.items c.of-left.result c.of-left.ensures
+
+pub overflow_add-number : goal.overflow_add-number
+overflow_add-number c =
+    let few = few_written (lily_pitch c.args.flats) c.args.keys c.args.text.now.items c.keys.text.items c.keys.number c.in-Some.key c.keys.left
+    c.next.new.self c.keys.invariant c.in-Some.ensures.keys in
+    omega (arith, few)
 
 pub keys-preserved : goal.keys-preserved
 keys-preserved c =
-    let keys = c.args.keys in
-    let k = c.keys.key in
-    let note : ℕ → List ℕ = lily_pitch c.args.flats in
-    let h = c.keys.invariant in
-    elim c.if-has.branch [
-      | then-has+in_ok-push_between+in_ok-push_pitch w ↦
-          let set = had c.has.result keys k c.has.ensures w.if-has.true in
-          let text = chord_step note keys k c.keys.number c.args.text.now.items c.keys.text.items w.push_between.new.text.items
-          w.push_pitch.new.text.items set h.text h.number w.in_ok-push_between.ensures w.in_ok-push_pitch.ensures in
-          record {
-            text = ap (λ v. v.items) w.text-is ∙ text;
-            number = w.number-is ∙ ap (λ n. n + 1) h.number ∙ sym (keys_count keys k set);
-            few = omega (arith, w.number-is, h.few);
-            top = omega (arith, c.keys-test.true, c.end-key-end.ensures.few);
-          }
-      | else-has w ↦
-          let same = keys_skip keys k (not_had c.has.result keys k c.has.ensures w.if-has.false) in
-          record {
-            text = ap (λ v. v.items) w.text-is ∙ h.text ∙ ap (λ ks. c.args.text.now.items ++ join_with_byte 32 (map note ks)) (sym same);
-            number = w.number-is ∙ h.number ∙ ap length (sym same);
-            few = omega (arith, w.number-is, h.few);
-            top = omega (arith, c.keys-test.true, c.end-key-end.ensures.few);
-          }
-    ]
-
-pub returns : goal.returns
-returns c =
-    let keys = c.args.keys in
-    let note : ℕ → List ℕ = lily_pitch c.args.flats in
-    c.keys.invariant.text ∙ ap (λ ks. c.args.text.now.items ++ join_with_byte 32 (map note ks))
-    (keys_all keys c.keys.key c.keys.invariant.top (λ i le lt. c.end-key-end.ensures.above i (omega (arith, c.keys-test.false, le))))
+    key_written (lily_pitch c.args.flats) c.args.keys c.args.text.now.items c.keys.text.items c.push_between.new.text.items c.push_pitch.new.text.items
+    c.keys.number c.in-Some.key c.keys.left c.next.new.self c.keys.invariant c.in-Some.ensures.keys c.in_ok-push_between.ensures c.in_ok-push_pitch.ensures

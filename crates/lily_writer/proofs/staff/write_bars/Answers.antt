@@ -21,8 +21,8 @@ bars-preserved c =
     bars_next c.args.resolution c.args.first ss bars c.bars.bar-index _ c.bars.before c.bars.from _ c.bars.ahead c.in_ok-ahead.ahead
     c.args.text.now.items
     c.bars.text.items c.write_changes.new.text.items c.write_bar.new.text.items c.extend_from_slice.new.self.items
-    c.bars-test.true c.requires.bars (ap (λ n. c.bars.from + n) c.bar_parts.ensures.parts) c.bars.invariant c.in_ok-write_changes.ensures
-    (subst (λ b. HasWrittenBar c.args.resolution c.bars.from (c.bars.from + c.bar_parts.result) b c.bars.ahead c.in_ok-ahead.ahead
+    c.bars-test.true c.requires.bars (ap (λ n. c.bars.from + n) c.score_bar_parts.ensures.parts) c.bars.invariant c.in_ok-write_changes.ensures
+    (subst (λ b. HasWrittenBar c.args.resolution c.bars.from (c.bars.from + c.score_bar_parts.result) b c.bars.ahead c.in_ok-ahead.ahead
     c.write_changes.new.text.items c.write_bar.new.text.items) c.has_flats.ensures c.in_ok-ahead.ensures)
     c.in_ok-extend_from_slice.ensures.items
 

@@ -1,4 +1,4 @@
-use Rattle.std.proofs.Common.{rules, ◌≡◌, ◌++◌, ◌+◌, ◌-◌, ◌<◌, ℕ, List, [], ◌∷◌, get_or, map, take, length, refl, sym, ap, ◌∙◌}
+use Rattle.std.proofs.Common.{rules, arith, ◌≡◌, ◌++◌, ◌+◌, ◌-◌, ◌<◌, ℕ, List, [], ◌∷◌, get_or, map, take, length, refl, sym, ap, ◌∙◌}
 use Rattle.std.proofs.Math.Numerals.{add-one}
 use Rattle.std.proofs.Math.Seq.{take-suc}
 use Rattle.std.proofs.lemmas.List.{take_all}
@@ -7,7 +7,7 @@ use Rattle.rhythm_base.specs.declared.event.What.TheVariants.{On}
 use Rattle.smf_bytes.specs.Message.{message_bytes}
 use Rattle.smf_bytes.specs.Quantity.{quantity_bytes}
 use Rattle.smf_bytes.specs.Track.{bytes_from, content_bytes, end_of_track_bytes, timed_message}
-use Rattle.smf_bytes.proofs.Messages.{content_end, content_push, last_tick, last_tick_push, no_bytes}
+use Rattle.smf_bytes.proofs.Messages.{content_end, content_push, last_tick, last_tick_push, no_bytes, timed_early, timed_next, timed_within}
 use Rattle.smf_bytes.proofs.track.track_content.Goals as goal
 
 pub events-init : goal.events-init
@@ -45,3 +45,23 @@ returns c =
     ∙ ap (λ t. bytes_from 0 (map timed_message (take i events)) ++ (quantity_bytes (c.args.last - t) ++ end_of_track_bytes)) c.events.invariant.tick
     ∙ sym (content_end (take i events) c.args.last)
     ∙ ap (λ (xs : List Event). content_bytes xs c.args.last) all
+
+pub overflow_sub-event : goal.overflow_sub-event
+overflow_sub-event c =
+    let nothing : Event = record { tick = 0; what = On 0 0 } in
+    let next = timed_next 0 c.args.events.now c.args.last c.events.event-index nothing c.requires.order c.events-test.true in
+    omega (arith, next, c.events.invariant.tick)
+
+pub push_event-requires-clause-early : goal.push_event-requires-clause-early
+push_event-requires-clause-early c =
+    let nothing : Event = record { tick = 0; what = On 0 0 } in
+    let early = timed_early 0 c.args.events.now c.args.last c.events.event-index nothing c.requires.order c.events-test.true in
+    omega (arith, early, c.requires.last)
+
+pub overflow_sub-last : goal.overflow_sub-last
+overflow_sub-last c =
+    let events = c.args.events.now in
+    let i = c.events.event-index in
+    let all : take i events ≡ events = take_all i events (search rules) in
+    let within = timed_within 0 events c.args.last c.requires.order in
+    omega (arith, within, c.events.invariant.tick ∙ ap (last_tick 0) all)

@@ -1,6 +1,6 @@
 use Rattle.std.proofs.Common.{length, ◌∙◌, arith}
 use Rattle.smf_writer.proofs.Spines.{all_playable}
-use Rattle.smf_writer.proofs.Tracks.{all_short, all_there, one_more, one_more_short, voice_can_stand}
+use Rattle.smf_writer.proofs.Tracks.{all_short, all_there, one_more, one_more_short, voice_can_stand, voice_in_order}
 use Rattle.smf_writer.proofs.rendered_file.push_voices.Goals as goal
 
 pub voice-requires-clause-spans : goal.voice-requires-clause-spans
@@ -11,11 +11,10 @@ voice-requires-clause-early c = λ k d lt.
     let e = all_playable c.args.resolution _ 1 (length c.args.channels.now) c.args.events.now c.requires.events k d lt in
     omega (arith, e.early, c.requires.last, c.requires.early)
 
-pub push_events-requires-clause-ticks : goal.push_events-requires-clause-ticks
-push_events-requires-clause-ticks c = λ k d lt.
-    let e = voice_can_stand c.args.resolution c.args.bars.now c.args.channels.now c.args.events.now c.channels.index _ c.as_slice.result.now c.channels-test.true c.requires.events c.requires.channels.few
-    (c.as_slice.ensures.value ∙ c.in_ok-track.ensures) k d lt in
-    omega (arith, e.early, c.requires.last, c.requires.early)
+pub push_events-requires-clause-order : goal.push_events-requires-clause-order
+push_events-requires-clause-order c =
+    voice_in_order c.args.resolution c.args.bars.now c.args.channels.now c.args.events.now c.channels.index _ c.args.last c.as_slice.result.now c.channels-test.true c.requires.events
+    c.requires.last (c.as_slice.ensures.value ∙ c.in_ok-track.ensures)
 
 pub push_events-requires-clause-channels : goal.push_events-requires-clause-channels
 push_events-requires-clause-channels c = λ k d lt.

@@ -3,23 +3,24 @@ use Rattle.std.specs.Prelude.{All}
 use Rattle.std.specs.List.{flat_map}
 use Rattle.rhythm_base.specs.declared.event.Event.{Event}
 use Rattle.smf_bytes.specs.Chunk.{header_bytes}
+use Rattle.smf_bytes.specs.Track.{AreTimed}
 use Rattle.smf_bytes.specs.declared.quantity.TheConstants.{GREATEST_QUANTITY}
 use Rattle.voice_events.specs.Parts.{score_parts}
 use Rattle.smf_writer.specs.Changes as definitions
 use Rattle.smf_writer.specs.Strokes.{voices_from}
-use Rattle.smf_writer.proofs.ConductorEvents.{IsChange, conductor_changes}
+use Rattle.smf_writer.proofs.ConductorEvents.{IsChange, conductor_changes, conductor_timed}
 use Rattle.smf_writer.proofs.Tracks.{IsShort, rendered_up_to, track_of}
 use Rattle.smf_writer.proofs.rendered_file.render.Goals as goal
 
-pub push_events-requires-clause-ticks : goal.push_events-requires-clause-ticks
-push_events-requires-clause-ticks c =
-    let early : score_parts c.args.resolution c.args.bars.now ≤ GREATEST_QUANTITY = omega (arith, c.if-last-gt-GREATEST_QUANTITY.false, c.last_barline-last.ensures) in
-    subst (All (λ (e : Event). e.tick ≤ GREATEST_QUANTITY)) (sym (c.as_slice.ensures.value ∙ c.in_ok-changes.ensures))
-    (λ k d lt. (conductor_changes GREATEST_QUANTITY c.args.resolution c.args.bars.now early k d lt).early)
+pub push_events-requires-clause-order : goal.push_events-requires-clause-order
+push_events-requires-clause-order c =
+    let last = c.score_parts-last.result in
+    subst (λ (es : List Event). AreTimed 0 es last) (sym (c.as_slice.ensures.value ∙ c.in_ok-changes.ensures))
+    (conductor_timed last c.args.resolution c.args.bars.now (omega (arith, c.score_parts-last.ensures)))
 
 pub push_events-requires-clause-channels : goal.push_events-requires-clause-channels
 push_events-requires-clause-channels c =
-    let early : score_parts c.args.resolution c.args.bars.now ≤ GREATEST_QUANTITY = omega (arith, c.if-last-gt-GREATEST_QUANTITY.false, c.last_barline-last.ensures) in
+    let early : score_parts c.args.resolution c.args.bars.now ≤ GREATEST_QUANTITY = omega (arith, c.if-last-gt-GREATEST_QUANTITY.false, c.score_parts-last.ensures) in
     let changes : All (IsChange GREATEST_QUANTITY) c.as_slice.result.now =
     subst (All (IsChange GREATEST_QUANTITY)) (sym (c.as_slice.ensures.value ∙ c.in_ok-changes.ensures)) (conductor_changes GREATEST_QUANTITY c.args.resolution c.args.bars.now early) in
     λ k d lt. (changes k d lt).no_channel
@@ -30,7 +31,7 @@ returns-clause-file c =
     let bars = c.args.bars.now in
     let channels = c.args.channels.now in
     let events = c.args.events.now in
-    let last = c.last_barline-last.result in
+    let last = c.score_parts-last.result in
     let changes : c.as_slice.result.now ≡ definitions.conductor r bars = c.as_slice.ensures.value ∙ c.in_ok-changes.ensures in
     let headed : c.push_header.new.bytes.items ≡ header_bytes (length channels + 1) (16 * r) = search rules in
     let made =
@@ -39,5 +40,5 @@ returns-clause-file c =
     (c.in_ok-push_events.ensures.bytes
     ∙ ap (λ (bytes : List ℕ). bytes ++ track_of last c.as_slice.result.now) headed
     ∙ ap (λ (es : List Event). header_bytes (length channels + 1) (16 * r) ++ track_of last es) changes) in
-    rendered_up_to r bars channels events c.push_voices.new.bytes.items last c.last_barline-last.ensures (omega (arith, c.if-last-gt-GREATEST_QUANTITY.false)) c.requires.events
+    rendered_up_to r bars channels events c.push_voices.new.bytes.items last c.score_parts-last.ensures (omega (arith, c.if-last-gt-GREATEST_QUANTITY.false)) c.requires.events
     (subst (IsShort last) changes c.in_ok-push_events.ensures.short) c.in_ok-push_voices.ensures.short made

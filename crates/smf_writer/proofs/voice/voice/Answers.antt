@@ -4,7 +4,7 @@ use Rattle.std.proofs.Math.Numerals.{add-one}
 use Rattle.std.proofs.Math.Seq.{take-suc}
 use Rattle.std.proofs.lemmas.Grind.{flat_map-append}
 use Rattle.rhythm_base.specs.declared.event.Event.{Event}
-use Rattle.kern_reader.specs.declared.event.KernEvent.{KernEvent}
+use Rattle.voice_events.specs.declared.event.KernEvent.{KernEvent}
 use Rattle.smf_writer.specs.Strokes.{own_events}
 use Rattle.smf_writer.proofs.EventStrokes.{own_absent, own_there}
 use Rattle.smf_writer.proofs.voice.voice.Goals as goal

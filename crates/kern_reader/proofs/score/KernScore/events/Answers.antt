@@ -1,5 +1,6 @@
 use Rattle.std.proofs.Common.{◌≡◌, ◌+◌, ◌<◌, ◌++◌, append_assoc, length, map, subst, sym, ap, ◌∙◌, arith}
-use Rattle.kern_reader.specs.Events.{AreColumnSpans, AreEventsFrom, span_event}
+use Rattle.kern_reader.specs.Events.{AreColumnSpans, AreEventsFrom}
+use Rattle.voice_events.specs.Events.{span_event}
 use Rattle.kern_reader.proofs.EventLemmas.{column_on, events_end, events_next, same_column}
 use Rattle.kern_reader.proofs.score.KernScore.events.Goals as goal
 

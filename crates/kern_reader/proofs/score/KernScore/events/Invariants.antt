@@ -1,5 +1,5 @@
 use Rattle.std.proofs.Common.{◌+◌, ◌++◌, List, drop}
-use Rattle.kern_reader.specs.declared.event.KernEvent.{KernEvent}
+use Rattle.voice_events.specs.declared.event.KernEvent.{KernEvent}
 use Rattle.kern_reader.specs.Events.{AreEventsFrom}
 use Rattle.kern_reader.proofs.score.KernScore.events.Given as goal
 

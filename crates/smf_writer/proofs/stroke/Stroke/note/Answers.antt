@@ -1,7 +1,7 @@
 use Rattle.std.proofs.Common.{◌≡◌, ◌==◌, ℕ, Bool, sym, ap, ◌∙◌}
 use Rattle.std.specs.Prelude.{if◌then◌else◌}
 use Rattle.std.specs.Int.{bit_at}
-use Rattle.smf_writer.proofs.KeyBits.{has_is}
+use Rattle.score_words.proofs.KeyBits.{has_is}
 use Rattle.smf_writer.proofs.stroke.Stroke.note.Goals as goal
 use Rattle.smf_writer.proofs.stroke.Stroke.note.Goals.{then-has, else-has}
 
