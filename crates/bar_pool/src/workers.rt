@@ -1,6 +1,6 @@
 ghost use Rattle.bar_pool.specs.DrawTable.{seat_of, view_of, view_with};
 ghost use Rattle.bar_pool.specs.Draws.{seat_after};
-ghost use Rattle.bar_pool.specs.Pool.{AreTablesOf};
+ghost use Rattle.bar_pool.specs.Pool.{AreTablesOf, RisesWithin};
 ghost use Rattle.bar_pool.specs.Workers.{AreBuilt, HasShare, IsFresh};
 ghost use Rattle.grammar_plan.specs.Plans.{IsPlan};
 ghost use Rattle.rhythm_base.specs.Counter.{risen};
@@ -14,8 +14,8 @@ use crate::places::in_places;
 use least_cost::{BarTable, Steps, build_planned};
 use least_rows::Room;
 use rhythm_base::Tag;
-use rhythm_ports::Gate;
-use std::alloc::{AllocError, Global};
+use rhythm_ports::{Gate, Means};
+use std::alloc::AllocError;
 use std::mem;
 use std::thread::{Threads, join};
 
@@ -33,9 +33,9 @@ fn draw(shared: &SharedDraws, seat: &mut DrawSeat) -> u64
 
 /// Builds the cells whose numbers one worker draws, each in one atomic step. It stops at the first number past the inputs, and
 /// where it wants memory.
-fn build_drawn<G: Gate, B: Tag>(
-    alloc: Global,
-    order: &Order<'_, G>,
+fn build_drawn<R: Threads + Sync, G: Gate + Sync, B: Tag>(
+    means: &Means<'_, R, G>,
+    order: &Order<'_>,
     shared: &SharedDraws,
     seat: &mut DrawSeat,
     room: &mut Room,
@@ -53,16 +53,16 @@ fn build_drawn<G: Gate, B: Tag>(
     ensures builds { builds.new ≡ risen builds.old (length seat.new.me.0.drawn) }
 {
     let inputs = order.inputs;
-    let mut tables = Vec::new(alloc);
+    let mut tables = Vec::new(means.alloc);
     'draws: loop {
         let number = draw(shared, seat);
         if number >= inputs.len() as u64 {
             return Ok(tables);
         }
-        order.gate.pass(number);
+        means.gate.pass(number);
         let number = number as usize;
         let input = &inputs[number];
-        let table = build_planned(alloc, order.grammar, order.plan, room, input, builds)?;
+        let table = build_planned(means.alloc, order.grammar, order.plan, room, input, builds)?;
         tables.push((number, table))?;
     }
 }
@@ -138,9 +138,9 @@ fn side_by_side<R: Threads, F: FnOnce() -> Built<B> + Send, G: FnOnce() -> Built
 
 /// Builds the cells whose numbers the one worker of the seat draws. Its room is taken out of its place while it works: no two
 /// workers then write to neighbouring memory.
-fn build_alone<G: Gate, B: Tag>(
-    alloc: Global,
-    order: &Order<'_, G>,
+fn build_alone<R: Threads + Sync, G: Gate + Sync, B: Tag>(
+    means: &Means<'_, R, G>,
+    order: &Order<'_>,
     shared: &SharedDraws,
     seat: DrawSeat,
     place: &mut Room,
@@ -158,8 +158,8 @@ fn build_alone<G: Gate, B: Tag>(
 {
     let mut seat = seat;
     let mut builds = Steps::zero();
-    let mut room = mem::replace(place, Room::new(alloc));
-    let tables = build_drawn(alloc, order, shared, &mut seat, &mut room, &mut builds);
+    let mut room = mem::replace(place, Room::new(means.alloc));
+    let tables = build_drawn(means, order, shared, &mut seat, &mut room, &mut builds);
     *place = room;
     Built {
         seat,
@@ -172,9 +172,8 @@ fn build_alone<G: Gate, B: Tag>(
 /// seat gives half of its share to another, the workers of both draw side by side, and then it takes over what the other's have built.
 #[cycle(build_in_halves)]
 pub fn build_in_halves<R: Threads + Sync, G: Gate + Sync, B: Tag>(
-    rt: &R,
-    alloc: Global,
-    order: &Order<'_, G>,
+    means: &Means<'_, R, G>,
+    order: &Order<'_>,
     shared: &SharedDraws,
     seat: DrawSeat,
     workers: u64,
@@ -194,7 +193,7 @@ pub fn build_in_halves<R: Threads + Sync, G: Gate + Sync, B: Tag>(
     ensures builds { result.builds ≡ risen 0 (length result.seat.me.0.drawn) }
 {
     if workers == 1 {
-        return build_alone(alloc, order, shared, seat, &mut rooms[0]);
+        return build_alone(means, order, shared, seat, &mut rooms[0]);
     }
     let half = workers / 2;
     let rest = workers - half;
@@ -215,7 +214,7 @@ pub fn build_in_halves<R: Threads + Sync, G: Gate + Sync, B: Tag>(
         ensures share { HasShare result.seat.me (length order.entry.now.inputs.now) rest }
         ensures tables { IfOk result.tables (λ v. AreBuilt order.entry.now.grammar.now order.entry.now.inputs.now result.seat.me v.items) }
         ensures builds { result.builds ≡ risen 0 (length result.seat.me.0.drawn) }
-    { build_in_halves(rt, alloc, order, shared, seat, rest, left_rooms) };
+    { build_in_halves(means, order, shared, seat, rest, left_rooms) };
     let right = move || -> Built<B>
         requires sync { IsSync R.row × IsSync G.row }
         requires readable { IsReadable order.now.grammar.now }
@@ -230,17 +229,16 @@ pub fn build_in_halves<R: Threads + Sync, G: Gate + Sync, B: Tag>(
         ensures share { HasShare result.seat.me (length order.entry.now.inputs.now) half }
         ensures tables { IfOk result.tables (λ v. AreBuilt order.entry.now.grammar.now order.entry.now.inputs.now result.seat.me v.items) }
         ensures builds { result.builds ≡ risen 0 (length result.seat.me.0.drawn) }
-    { build_in_halves(rt, alloc, order, shared, other, half, right_rooms) };
-    let (first, second) = side_by_side(rt, left, right);
+    { build_in_halves(means, order, shared, other, half, right_rooms) };
+    let (first, second) = side_by_side(means.rt, left, right);
     take_over(shared, first, second)
 }
 
 /// Builds the cells by so many workers, who draw the numbers of their cells at a table of one word. Where one of them wants
 /// memory the others go on, and the answer is given when all have ended. The tables are moved to their places.
 pub fn build_by_workers<R: Threads + Sync, G: Gate + Sync, B: Tag>(
-    rt: &R,
-    alloc: Global,
-    order: &Order<'_, G>,
+    means: &Means<'_, R, G>,
+    order: &Order<'_>,
     workers: u64,
     rooms: &mut [Room],
     builds: &mut Steps<B>,
@@ -253,21 +251,20 @@ pub fn build_by_workers<R: Threads + Sync, G: Gate + Sync, B: Tag>(
     requires units { All (λ k. k.resolution ≡ order.now.grammar.now.resolution) order.now.inputs.now }
     ensures tables { IfOk result (λ v. AreTablesOf order.now.grammar.now order.now.inputs.now v.items) }
     ensures builds { OnOk result (builds.new ≡ risen builds.old (length order.now.inputs.now)) }
-    ensures most { builds.new ≤ risen builds.old (length order.now.inputs.now) }
-    ensures rises { builds.old ≤ builds.new }
+    ensures most { RisesWithin builds.old builds.new (length order.now.inputs.now) }
 {
     let count = order.inputs.len();
     let counts = DrawCounts {
         inputs: count as u64,
         workers,
     };
-    let (table, seat) = DrawTable::of_words(alloc, &[0], &counts)?;
+    let (table, seat) = DrawTable::of_words(means.alloc, &[0], &counts)?;
     let Built {
         seat,
         builds: own,
         tables,
-    } = build_in_halves(rt, alloc, order, &table.shared, seat, workers, rooms);
+    } = build_in_halves(means, order, &table.shared, seat, workers, rooms);
     builds.absorb(own);
     table.close_with(seat).free();
-    in_places(alloc, tables?, count)
+    in_places(means.alloc, tables?, count)
 }

@@ -3,7 +3,7 @@ use Rattle.std.proofs.Common.{◌≡◌, ℕ, zero, suc, ◌<◌, ◌≤◌, Lis
 use Rattle.std.specs.Prelude.{All, Contains}
 use Rattle.std.proofs.lemmas.Bool.{cases_lt}
 use Rattle.std.proofs.lemmas.List.Elements.{All-append, Contains-append_cases, Contains-append_left, Contains-append_right}
-use Rattle.barline_fit.specs.Fitted.{IsAcceptedAt, IsFitted, IsRefusedAt}
+use Rattle.barline_fit.specs.Fitted.{IsAcceptedAt, IsFitted, IsRefusedAt, IsTriedAt}
 use Rattle.barline_fit.specs.declared.fitted.Fitted.{Fitted}
 use Rattle.rhythm_base.specs.Grammar.{Grammar}
 use Rattle.rhythm_base.specs.Performance.{Performance}
@@ -20,11 +20,6 @@ pub record AreRefused (g : Grammar) (p : Performance) (bar : ℕ) (ticks : List 
 abbrev pub IsBestSoFar : Grammar → Performance → ℕ → List ℕ → Option Fitted → Type 0
 IsBestSoFar g p bar ticks None = AreRefused g p bar ticks
 IsBestSoFar g p bar ticks (Some x) = IsFitted g p bar ticks x
-
--- what is known of a tick that was tried
-abbrev pub IsTriedAt : Grammar → Performance → ℕ → ℕ → Option ℕ → Type 0
-IsTriedAt g p bar tick None = IsRefusedAt g p bar tick × ((cost : ℕ) → IsAcceptedAt g p bar tick cost → ⊥)
-IsTriedAt g p bar tick (Some cost) = IsAcceptedAt g p bar tick cost
 
 -- ---- one cost
 

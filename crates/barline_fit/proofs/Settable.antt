@@ -5,6 +5,8 @@ use Rattle.std.proofs.lemmas.Bool.Decides.{nat_tests}
 use Rattle.barline_fit.specs.Fitted.{HasBarline}
 use Rattle.edit_laws.proofs.BarEdits.{length-with_barline}
 use Rattle.edit_laws.proofs.Edited.{all_pass, made, not_false}
+use Rattle.edit_session.specs.Effects.{HasRoomFor}
+use Rattle.edit_session.specs.Session.{Session}
 use Rattle.rhythm_base.specs.Barlines.{barline, barline_after}
 use Rattle.rhythm_base.specs.EditRanges.{IsEditInRange}
 use Rattle.edit_laws.specs.Edits.{edit_tests, edited, first_refusal, performance_after}
@@ -57,3 +59,7 @@ pub set_keeps_bars : (p q : Performance) (bar tick : ℕ) → edited p (Barline 
 set_keeps_bars p q bar tick is =
     let same = (made (performance_after p (Barline bar tick)) q (first_refusal (edit_tests p (Barline bar tick))) is).1 in
     ap (λ (r : Performance). length r.bars) (sym same) ∙ length-with_barline bar tick p.bars
+
+-- so a session that has memory for the bars has enough for it
+pub room_enough : (s : Session) (bar tick : ℕ) → length s.performance.bars ≤ s.room → HasRoomFor s (Barline bar tick)
+room_enough s bar tick room next is = (let same = set_keeps_bars s.performance next bar tick is in omega (arith, same, room))

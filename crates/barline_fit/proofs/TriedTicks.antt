@@ -5,9 +5,9 @@ use Rattle.std.proofs.lemmas.Bool.{cases_lt}
 use Rattle.std.proofs.lemmas.List.Elements.{All-nil}
 use Rattle.barline_fit.specs.Builds.{AreReachedAt, AreWithinReach}
 use Rattle.barline_fit.specs.Candidates.{stepped}
-use Rattle.barline_fit.specs.Fitted.{IsAcceptedAt, IsFitted, IsRefusedAt}
+use Rattle.barline_fit.specs.Fitted.{IsAcceptedAt, IsFitted, IsRefusedAt, IsTriedAt}
 use Rattle.barline_fit.specs.declared.fitted.Fitted.{Fitted}
-use Rattle.barline_fit.proofs.BestSoFar.{IsBestSoFar, IsTriedAt, cheaper, first_accepted, no_cheaper, refused_more}
+use Rattle.barline_fit.proofs.BestSoFar.{IsBestSoFar, cheaper, first_accepted, no_cheaper, refused_more}
 use Rattle.barline_fit.proofs.Reaching.{reached_append, reached_none, within_more}
 use Rattle.barline_fit.proofs.Steps.{later_step, step_of, stepped_more, stepped_split}
 use Rattle.edit_session.specs.Prepared.{RisesBy}

@@ -1,72 +1,83 @@
--- What the counter of builds shows after one tick is tried.
-use Rattle.std.proofs.Common.{◌≡◌, ℕ, ◌≤◌, List, [], ◌∷◌, length, map, refl, sym, ◌∙◌, subst, arith, inl, inr, Option, Some, Ok, Err}
-use Rattle.std.specs.Prelude.{All, IfSome}
-use Rattle.std.proofs.lemmas.List.{length-map}
+-- What is known after one tick is tried.
+use Rattle.std.proofs.Common.{◌≡◌, ◌≢◌, ℕ, List, [], ◌∷◌, sym, ◌∙◌, subst, None, Result, Ok, Err, IfOk}
 use Rattle.barline_fit.specs.Builds.{AreReachedAt, AreWithinReach}
-use Rattle.barline_fit.specs.Fitted.{IsAcceptedAt, IsRefusedAt}
-use Rattle.barline_fit.proofs.Reaching.{reached_one, within_all, within_one, would_reach, would_reach_none}
-use Rattle.edit_session.specs.Prepared.{Prepared, RisesBy, Suits, cell_of}
+use Rattle.barline_fit.specs.Fitted.{IsAcceptedAt, IsTriedAt}
+use Rattle.barline_fit.proofs.Reaching.{reached_one, within_all, within_one, would_reach}
+use Rattle.edit_session.specs.Effects.{AllLive, HasBuiltInVain, HasRoomFor, IsApplied, IsCommitted, IsRejected, IsWayBack}
+use Rattle.edit_session.specs.Prepared.{Prepared, RisesBy}
+use Rattle.edit_session.specs.Session.{Session}
+use Rattle.edit_session.specs.declared.committed.Applied.{Applied}
+use Rattle.edit_session.specs.declared.committed.Committed.{Committed}
 use Rattle.rhythm_base.specs.Counter.{risen}
-use Rattle.edit_laws.specs.Edits.{edited}
 use Rattle.rhythm_base.specs.Grammar.{Grammar}
-use Rattle.rhythm_base.specs.Performance.{Performance}
-use Rattle.edit_laws.specs.Reached.{WouldReach}
-use Rattle.rhythm_base.specs.Voices.{HasDerivation, IsCostOf, IsDeadVoice}
+use Rattle.rhythm_base.specs.Performance.{IsWellFormed, Performance}
+use Rattle.rhythm_base.specs.declared.edit.Edit.{Edit}
 use Rattle.rhythm_base.specs.declared.edit.Edit.TheVariants.{Barline}
 use Rattle.rhythm_base.specs.declared.edit_fault.EditFault.{EditFault}
-use Rattle.rhythm_base.specs.declared.edit_fault.EditFault.TheVariants.{NoDerivation}
+use Rattle.rhythm_base.specs.declared.edit_fault.EditFault.TheVariants.{Memory}
 
-module _ (g : Grammar) (p : Performance) (bar : ℕ) where
-  -- the tables that were made ready are those of the cells that the barline reaches
-  pub built_ready : (tick : ℕ) (x : Prepared) (old new : ℕ) → edited p (Barline bar tick) ≡ Ok x.next → Suits g p x → new ≡ risen old (length x.tables)
-      → RisesBy old new (AreReachedAt g p bar (tick ∷ []))
-  built_ready tick x old new is suits rises =
-      let size : length (map cell_of x.tables) ≡ length x.tables = length-map x.tables cell_of in
-      let all = reached_one g p bar tick (map cell_of x.tables) (would_reach g p (Barline bar tick) x.next (map cell_of x.tables) is suits.reached) in
-      (length x.tables, rises, subst (AreReachedAt g p bar (tick ∷ [])) size all)
+pub built_within : (g : Grammar) (p : Performance) (bar : ℕ) (ticks : List ℕ) (old new : ℕ) → RisesBy old new (AreReachedAt g p bar ticks) → RisesBy old new (AreWithinReach g p bar ticks)
+built_within g p bar ticks old new (n, rises, all) = (n, rises, within_all g p bar ticks n all)
 
-  -- where the performance alone refuses the barline none are
-  pub built_none : (tick : ℕ) (fault : EditFault) (old new : ℕ) → edited p (Barline bar tick) ≡ Err fault → new ≡ old → RisesBy old new (AreReachedAt g p bar (tick ∷ []))
-  built_none tick fault old new is same =
-      (0, omega (arith, same), reached_one g p bar tick [] (would_reach_none g p (Barline bar tick) fault is))
+-- what two clauses tell of one result
+pub both_ok : {X E : Type 0} (r : Result X E) (P Q R : X → Type 0) → ((x : X) → P x → Q x → R x) → IfOk r P → IfOk r Q → IfOk r R
+both_ok (Ok x) P Q R all p q = all x p q
+both_ok (Err e) P Q R all p q = p
 
-  pub built_within : (ticks : List ℕ) (old new : ℕ) → RisesBy old new (AreReachedAt g p bar ticks) → RisesBy old new (AreWithinReach g p bar ticks)
-  built_within ticks old new (n, rises, all) = (n, rises, within_all g p bar ticks n all)
+-- ---- an edit that is made, and taken back
 
-  pub built_some : (tick old new : ℕ) → RisesBy old new (λ n. (cells : List (ℕ × ℕ)) → WouldReach g p (Barline bar tick) cells → n ≤ length cells)
-      → RisesBy old new (AreWithinReach g p bar (tick ∷ []))
-  built_some tick old new (n, rises, within) = (n, rises, within_one g p bar tick n within)
+module _ (old mid : Session) (edit : Edit) (a : Applied) (back : Prepared) where
+  pub back_lives : IsApplied old edit mid a → IsWayBack old mid back → AllLive old.grammar old.performance → AllLive mid.grammar back.next
+  back_lives made way lives = subst (λ (g : Grammar). AllLive g back.next) (sym made.still.grammar) (subst (AllLive old.grammar) (sym way.next) lives)
 
--- ---- accepted or refused
+pub back_well : (old mid : Session) (back : Prepared) → IsWayBack old mid back → IsWellFormed old.performance → IsWellFormed back.next
+back_well old mid back way formed = subst IsWellFormed (sym way.next) formed
 
-module _ (g : Grammar) (p : Performance) (bar tick : ℕ) where
-  -- the performance alone refuses it
-  pub refused_alone : (fault : EditFault) → edited p (Barline bar tick) ≡ Err fault → IsRefusedAt g p bar tick
-  refused_alone fault is = record { fault = fault; refused = inl is }
+pub back_again : (old mid new : Session) (edit : Edit) (a : Applied) (back : Prepared) (c : Committed) → IsApplied old edit mid a → IsWayBack old mid back
+    → IsCommitted mid back new c → HasRoomFor old edit → new ≡ old
+back_again old mid new edit a back c made way done enough =
+    let grammar = done.grammar ∙ made.still.grammar in
+    let performance = done.performance ∙ way.next in
+    let workers = done.workers ∙ made.still.workers in
+    let room = done.room ∙ made.still.enough enough in
+    λ i. record { grammar = grammar i; performance = performance i; workers = workers i; room = room i }
 
-  pub never_alone : (fault : EditFault) → edited p (Barline bar tick) ≡ Err fault → (cost : ℕ) → IsAcceptedAt g p bar tick cost → ⊥
-  never_alone fault is cost h =
-      let both : Err fault ≡ Ok h.next = sym is ∙ h.made in
-      absurd (cc)
+-- ---- an edit that is refused
 
-  -- a voice would have no derivation
-  pub refused_dead : (q : Performance) (channel rest : ℕ) → edited p (Barline bar tick) ≡ Ok q → IsDeadVoice g q channel rest → IsRefusedAt g p bar tick
-  refused_dead q channel rest is dead = record { fault = NoDerivation channel rest; refused = inr (q, channel, rest, is, dead, refl) }
+pub stays : (old new : Session) (edit : Edit) (fault : EditFault) → IsRejected old edit new fault → HasRoomFor old edit → new ≡ old
+stays old new edit fault is enough =
+    let room = is.still.enough enough in
+    λ i. record { grammar = is.still.grammar i; performance = is.performance i; workers = is.still.workers i; room = room i }
 
-  pub never_dead : (q : Performance) → edited p (Barline bar tick) ≡ Ok q → (All (HasDerivation g q) q.channels → ⊥) → (cost : ℕ) → IsAcceptedAt g p bar tick cost → ⊥
-  never_dead q is dead cost h =
-      let both : Ok h.next ≡ Ok q = sym h.made ∙ is in
-      let same : h.next ≡ q = cc in
-      dead (subst (λ (r : Performance). All (HasDerivation g r) r.channels) same h.derivations)
+-- ---- the barline at a tick
 
-  pub accepted_by : (q : Performance) (cost : ℕ) → edited p (Barline bar tick) ≡ Ok q → All (HasDerivation g q) q.channels → IsCostOf g q cost → IsAcceptedAt g p bar tick cost
-  accepted_by q cost is lives costs = record { next = q; made = is; derivations = lives; costs = costs }
+module _ (old : Session) (bar tick : ℕ) where
+  -- the edit that sets it is made
+  module _ (mid : Session) (a : Applied) where
+    pub accepted_by : IsApplied old (Barline bar tick) mid a → IsAcceptedAt old.grammar old.performance bar tick a.cost
+    accepted_by made = record {
+      next = mid.performance;
+      made = made.made.1.made;
+      derivations = subst (λ (g : Grammar). AllLive g mid.performance) made.still.grammar made.derivations;
+      costs = made.made.1.costs;
+    }
 
--- what lives by one grammar lives by the same one
-pub still_lives : (g h : Grammar) (p q : Performance) → h ≡ g → q ≡ p → All (HasDerivation g p) p.channels → All (HasDerivation h q) q.channels
-still_lives g h p q same is lives =
-    subst (λ (r : Performance). All (HasDerivation h r) r.channels) (sym is) (subst (λ (x : Grammar). All (HasDerivation x p) p.channels) (sym same) lives)
+    pub built_by : (before after : ℕ) → IsApplied old (Barline bar tick) mid a → after ≡ risen before a.built → RisesBy before after (AreReachedAt old.grammar old.performance bar (tick ∷ []))
+    built_by before after made rises =
+        let cells = made.made.0 in
+        let would = would_reach old.grammar old.performance (Barline bar tick) mid.performance cells made.made.1.made made.made.1.reaches in
+        (a.built, rises, subst (AreReachedAt old.grammar old.performance bar (tick ∷ [])) (sym made.made.2) (reached_one old.grammar old.performance bar tick cells would))
 
--- what holds of the value in a `Some`
-pub of_some : {X : Type 0} (P : X → Type 0) (o : Option X) (x : X) → o ≡ Some x → IfSome o P → P x
-of_some P o x is h = subst (λ r. IfSome r P) is h
+  -- it is refused
+  pub tried_in_vain : (new : Session) (fault : EditFault) → fault ≢ Memory → IsRejected old (Barline bar tick) new fault → IsTriedAt old.grammar old.performance bar tick None
+  tried_in_vain new fault other is =
+      (record { fault = fault; refused = is.refused other }, λ cost accepted. is.never other accepted.next accepted.made accepted.derivations)
+
+  pub built_in_vain : (fault : EditFault) (before after : ℕ) → fault ≢ Memory → HasBuiltInVain old (Barline bar tick) before after fault
+      → RisesBy before after (AreReachedAt old.grammar old.performance bar (tick ∷ []))
+  built_in_vain fault before after other (n, rises, vain) =
+      let all = vain.all other in
+      (n, rises, subst (AreReachedAt old.grammar old.performance bar (tick ∷ [])) (sym all.2) (reached_one old.grammar old.performance bar tick all.0 all.1))
+
+  pub built_some : (fault : EditFault) (before after : ℕ) → HasBuiltInVain old (Barline bar tick) before after fault → RisesBy before after (AreWithinReach old.grammar old.performance bar (tick ∷ []))
+  built_some fault before after (n, rises, vain) = (n, rises, within_one old.grammar old.performance bar tick n vain.most)

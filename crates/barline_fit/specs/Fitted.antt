@@ -1,6 +1,6 @@
 -- The fitted tick of a barline: of several ticks the one of least cost. Each tick is tried by the edit that sets the barline there, and
 -- the whole performance after the edit is what costs.
-use Rattle.std.specs.Prelude.{◌≡◌, ℕ, ◌<◌, ◌≤◌, ◌⊎◌, List, All, Contains, length, Ok}
+use Rattle.std.specs.Prelude.{◌≡◌, ℕ, ◌<◌, ◌≤◌, ◌⊎◌, List, All, Contains, length, Option, Some, None, Ok, IsOk}
 use Rattle.barline_fit.specs.declared.fit_fault.FitFault.{FitFault}
 use Rattle.barline_fit.specs.declared.fit_fault.FitFault.TheVariants.{Memory, NoBar, NoCandidate}
 use Rattle.barline_fit.specs.declared.fitted.Fitted.{Fitted}
@@ -28,6 +28,11 @@ pub record IsRefusedAt (g : Grammar) (p : Performance) (bar tick : ℕ) : Type 0
   pub fault : EditFault
   pub refused : IsRefused g p (Barline bar tick) fault
 
+-- what is known of a tick that was tried: what the performance costs with the barline there; or nothing, where the edit is refused
+abbrev pub IsTriedAt : Grammar → Performance → ℕ → ℕ → Option ℕ → Type 0
+IsTriedAt g p bar tick None = IsRefusedAt g p bar tick × ((cost : ℕ) → IsAcceptedAt g p bar tick cost → ⊥)
+IsTriedAt g p bar tick (Some cost) = IsAcceptedAt g p bar tick cost
+
 -- of these ticks the one of least cost, and at equal cost the least tick; and that cost
 pub record IsFitted (g : Grammar) (p : Performance) (bar : ℕ) (ticks : List ℕ) (x : Fitted) : Type 0 where
   pub candidate : Contains ticks x.tick
@@ -35,8 +40,8 @@ pub record IsFitted (g : Grammar) (p : Performance) (bar : ℕ) (ticks : List �
   pub least : (tick cost : ℕ) → Contains ticks tick → IsAcceptedAt g p bar tick cost → (x.cost < cost) ⊎ ((x.cost ≡ cost) × (x.tick ≤ tick))
 
 -- Why no tick is fitted: the performance has no such barline; else the edit is refused at every tick. There may not be enough memory
--- where there is such a barline.
+-- where there is such a barline, and the performance alone does not refuse the edit at one of the ticks.
 abbrev pub IsFitFault : Grammar → Performance → ℕ → List ℕ → FitFault → Type 0
 IsFitFault g p bar ticks (NoBar number) = (number ≡ bar) × (HasBarline p bar → ⊥)
 IsFitFault g p bar ticks NoCandidate = HasBarline p bar × All (IsRefusedAt g p bar) ticks
-IsFitFault g p bar ticks Memory = HasBarline p bar
+IsFitFault g p bar ticks Memory = HasBarline p bar × ((tick : ℕ) × Contains ticks tick × IsOk (edited p (Barline bar tick)))

@@ -1,11 +1,7 @@
-ghost use Rattle.barline_fit.specs.Builds.{AreReachedAt, AreWithinReach};
-ghost use Rattle.barline_fit.specs.Candidates.{ticks_of};
-ghost use Rattle.barline_fit.specs.Fitted.{IsFitFault, IsFitted};
+ghost use Rattle.barline_fit.specs.Tries.{HasBuiltToFit, IsFaultAmong, IsFittedAmong};
 ghost use Rattle.barline_fit.specs.declared.candidates.TheConstants.{MOST_CANDIDATES};
-ghost use Rattle.barline_fit.specs.declared.fit_fault.FitFault.TheVariants.{Memory, NoBar};
-ghost use Rattle.edit_session.specs.Prepared.{RisesBy};
 ghost use Rattle.rhythm_base.specs.declared.limits.TheConstants.{LATEST_TICK};
-ghost use Rattle.std.specs.Prelude.{◌≡◌, ◌≢◌, ◌≤◌, ◌<◌, ◌-◌, ◌/◌, Err, IfErr, IfOk};
+ghost use Rattle.std.specs.Prelude.{◌≡◌, ◌≤◌, ◌<◌, ◌-◌, ◌/◌, IfErr, IfOk};
 
 use crate::candidates::{Candidate, Candidates};
 use crate::fit_fault::FitFault;
@@ -15,18 +11,15 @@ use carry_matrix::Steps as Products;
 use edit_session::Session;
 use least_cost::Steps as Builds;
 use rhythm_base::Tag;
-use rhythm_ports::Gate;
-use std::alloc::Global;
+use rhythm_ports::{Gate, Means};
 use std::thread::Threads;
 
 /// The tick of least cost among the candidates for one barline, and at equal cost the least. The barline is set to each of them, by
 /// the edit that a script has for it, and then taken back: the session is as before after every answer.
 pub fn best_barline<R: Threads + Sync, G: Gate + Sync, B: Tag, P: Tag>(
-    rt: &R,
-    alloc: Global,
+    means: &Means<'_, R, G>,
     session: &mut Session,
     among: Candidates,
-    gate: &G,
     builds: &mut Builds<B>,
     products: &mut Products<P>,
 ) -> Result<Fitted, FitFault>
@@ -34,13 +27,10 @@ pub fn best_barline<R: Threads + Sync, G: Gate + Sync, B: Tag, P: Tag>(
     requires high { among.high ≤ LATEST_TICK }
     requires step { 1 ≤ among.step }
     requires few { (among.high - among.low) / among.step < MOST_CANDIDATES }
-    ensures fitted { IfOk result (IsFitted session.old.grammar session.old.performance among.bar (ticks_of among)) }
-    ensures fault { IfErr result (IsFitFault session.old.grammar session.old.performance among.bar (ticks_of among)) }
+    ensures fitted { IfOk result (IsFittedAmong session.old among) }
+    ensures fault { IfErr result (IsFaultAmong session.old among) }
     ensures same { session.new ≡ session.old }
-    ensures builds { result ≢ Err Memory →
-        RisesBy builds.old builds.new (AreReachedAt session.old.grammar session.old.performance among.bar (ticks_of among)) }
-    ensures unbuilt { result ≡ Err (NoBar among.bar) → builds.new ≡ builds.old }
-    ensures most { RisesBy builds.old builds.new (AreWithinReach session.old.grammar session.old.performance among.bar (ticks_of among)) }
+    ensures builds { HasBuiltToFit session.old among result builds.old builds.new }
     ensures products { products.old ≤ products.new }
 {
     let bars = session.performance().bars().len();
@@ -54,7 +44,7 @@ pub fn best_barline<R: Threads + Sync, G: Gate + Sync, B: Tag, P: Tag>(
             bar: among.bar,
             tick,
         };
-        if let Some(cost) = cost_at(rt, alloc, session, candidate, gate, builds, products)? {
+        if let Some(cost) = cost_at(means, session, candidate, builds, products)? {
             best = Some(better(best, Fitted { tick, cost }));
         }
     }

@@ -117,7 +117,7 @@ module _ (next : NextBar) where
       let short = filter_few (can_be next (barring_end t.barring)) offers in
       omega (arith, few, short, ap length is)
 
-  own_cells : (start : ℕ) (own : List Offer) → length (flat_map (cells next start) own) ≡ length own * voices
+  pub own_cells : (start : ℕ) (own : List Offer) → length (flat_map (cells next start) own) ≡ length own * voices
   own_cells start [] = omega arith
   own_cells start (o ∷ own) =
       let rest = own_cells start own in

@@ -28,6 +28,8 @@ pub mod ReachedInTurn
 pub mod Searching
 pub mod Shifted
 pub mod WayBack
+pub mod Trials
 pub mod Answering
 pub mod OneBest
+pub mod RoundTables
 mod Worked

@@ -65,14 +65,14 @@ module _ (g : Grammar) (p : Performance) where
 
   -- ---- rounds
 
-  each_one : {X Y : Type 0} (R : X → Y → Type 0) → ((x : X) (a b : Y) → R x a → R x b → a ≡ b) → (xs : List X) (us vs : List Y)
+  pub each_one : {X Y : Type 0} (R : X → Y → Type 0) → ((x : X) (a b : Y) → R x a → R x b → a ≡ b) → (xs : List X) (us vs : List Y)
       → Each R xs us → Each R xs vs → us ≡ vs
   each_one R one [] us vs h k = h ∙ sym k
   each_one R one (x ∷ xs) [] vs h k = absurd h
   each_one R one (x ∷ xs) (a ∷ us) [] h k = absurd k
   each_one R one (x ∷ xs) (a ∷ us) (b ∷ vs) h k = ap₂ ◌∷◌ (one x a b h.0 k.0) (each_one R one xs us vs h.1 k.1)
 
-  one_round : (i : ℕ) (front : List Barring) (best : Option Barring) (a b : List Barring) (x y : Option Barring)
+  pub one_round : (i : ℕ) (front : List Barring) (best : Option Barring) (a b : List Barring) (x y : Option Barring)
       → IsRound g p i front best a x → IsRound g p i front best b y → (a ≡ b) × (x ≡ y)
   one_round i front best a b x y h k =
       let offers : h.longer.offers ≡ k.longer.offers =

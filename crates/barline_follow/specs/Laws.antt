@@ -14,6 +14,7 @@ use Rattle.barline_follow.specs.Gain.{Gains}
 use Rattle.barline_follow.specs.HeadCost.{IsHeadCost}
 use Rattle.barline_follow.specs.Offers.{AreOffers}
 use Rattle.barline_follow.specs.Rounds.{Draft, Found, IsBest, IsFound, IsNextFront}
+use Rattle.barline_follow.specs.Searched.{AreBuiltInSearch, AreBuiltToFollow}
 use Rattle.barline_follow.specs.Script.{IsOfBars, Leads, first_barlines, last_barlines, script}
 
 -- a bar has one list of offers
@@ -71,8 +72,11 @@ ScriptsSetBarlines =
     (g : Grammar) (p q : Performance) (goal : List ℕ) → IsWellFormed p → p.pins ≡ [] → 2 ≤ length goal → Leads g p (script p goal) q
     → q ≡ with_barlines p goal
 
--- edits reach one number of cells in turn, and one number of tables is the most that are built
+-- edits reach one number of cells in turn; the search builds one number of tables, and so do it and the trial of its script; and one number
+-- is the most that are built
 pub record MostBuiltAreOne : Type 0 where
+  pub searched : (g : Grammar) (p : Performance) (m n : ℕ) → AreBuiltInSearch g p m → AreBuiltInSearch g p n → m ≡ n
+  pub followed : (g : Grammar) (p : Performance) (m n : ℕ) → AreBuiltToFollow g p m → AreBuiltToFollow g p n → m ≡ n
   pub reached : (g : Grammar) (p : Performance) (edits : List Edit) (m n : ℕ) → AreReachedInTurn g p edits m → AreReachedInTurn g p edits n → m ≡ n
   pub most : (g : Grammar) (p : Performance) (m n : ℕ) → AreMostBuilt g p m → AreMostBuilt g p n → m ≡ n
 

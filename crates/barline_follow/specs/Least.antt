@@ -1,8 +1,14 @@
 -- The first of least value at each tick.
-use Rattle.std.specs.Prelude.{◌≡◌, ◌↔◌, ℕ, ◌<◌, ◌≤◌, List, [], ◌∷◌, Contains, slice_get, Some, take}
+use Rattle.std.specs.Cmp.Lexicographic.{slice_cmp}
+use Rattle.std.specs.Ordering.{is_lt, nat_cmp}
+use Rattle.std.specs.Prelude.{◌≡◌, ◌↔◌, Bool, ℕ, ◌<◌, ◌≤◌, List, [], ◌∷◌, Contains, slice_get, Some, take}
 use Rattle.rhythm_base.specs.Lists.{AreInOrder}
 
 module _ {X : Type 0} (value tick : X → ℕ) where
+  -- it comes before another by value and then by tick
+  abbrev pub comes_before : X → X → Bool
+  comes_before x y = is_lt (slice_cmp nat_cmp (value x ∷ tick x ∷ []) (value y ∷ tick y ∷ []))
+
   -- of those with its tick none has a lower value, and each earlier one has a greater value
   pub record IsFirstLeast (xs : List X) (x : X) : Type 0 where
     pub place : ℕ

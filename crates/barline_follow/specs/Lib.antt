@@ -14,5 +14,7 @@ pub mod Costs
 pub mod Courses
 pub mod NextBars
 pub mod Gathered
+pub mod Gathering
 pub mod Sounded
+pub mod Searched
 pub mod Trial

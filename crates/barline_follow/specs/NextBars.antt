@@ -1,5 +1,5 @@
 -- The bar that lists get in a round.
-use Rattle.std.specs.Prelude.{◌≡◌, ◌≢◌, ℕ, ◌+◌, ◌*◌, ◌<◌, ◌≤◌, Bool, true, false, not, ◌&&◌, nat_le, List, filter, map, Some, None}
+use Rattle.std.specs.Prelude.{◌≡◌, ◌≢◌, ℕ, ◌+◌, ◌*◌, ◌<◌, ◌≤◌, Bool, true, false, not, ◌&&◌, nat_le, List, filter, map, Option, Some, None}
 use Rattle.std.specs.List.{flat_map, list_any, zip}
 use Rattle.barline_follow.specs.declared.next_bar.NextBar.{NextBar}
 use Rattle.barline_follow.specs.declared.offers.Offer.{Offer}
@@ -12,7 +12,10 @@ use Rattle.rhythm_base.specs.Performance.{IsWellFormed}
 use Rattle.rhythm_base.specs.Readable.{IsReadable}
 use Rattle.rhythm_base.specs.Voices.{AreChordsOf}
 use Rattle.barline_follow.specs.Bars.{pattern_of}
-use Rattle.barline_follow.specs.Barring.{Course, barring_end, last_length}
+use Rattle.barline_follow.specs.Barring.{Barring, Course, barring_end, last_length}
+use Rattle.barline_follow.specs.Gathered.{barring_of}
+use Rattle.barline_follow.specs.Rounds.{IsRound}
+use Rattle.barline_follow.specs.Searched.{AreBuiltInRound}
 use Rattle.barline_follow.specs.Offers.{AreOffers}
 use Rattle.barline_follow.specs.Courses.{IsCourse, cell, dearest_bar}
 
@@ -55,3 +58,15 @@ cells next start o = map (cell next.grammar.now next.like start (start + o.ticks
 -- the inputs of all bars that are tried, of each list of the front in its order
 abbrev pub all_cells : NextBar → List Course → List (List Offer) → List BarInput
 all_cells next front tried = flat_map (λ pair. flat_map (cells next (barring_end pair.0.barring)) pair.1) (zip front tried)
+
+-- ---- the round of it
+
+-- what the round leads to, from the lists of a front and the best so far
+abbrev pub IsRoundOf : NextBar → List Course → Option Barring → List Course → Option Barring → Type 0
+IsRoundOf next front best longer longer_best =
+    IsRound next.grammar.now next.performance.now next.number (map barring_of front) best (map barring_of longer) longer_best
+
+-- how many tables it builds
+abbrev pub AreBuiltInRoundOf : NextBar → List Course → ℕ → Type 0
+AreBuiltInRoundOf next front tables =
+    AreBuiltInRound next.grammar.now next.performance.now next.number (map barring_of front) tables

@@ -36,6 +36,10 @@ is_offered whole o = nat_le whole (2 * o.ticks) && nat_le (2 * o.ticks) (3 * who
 abbrev pub proposals : Grammar → Performance → ℕ → ℕ → List Offer
 proposals g p i before = filter (is_offered (whole_bar p i)) (flat_map (proposals_at g p i before) (range_with_len 0 (most_steps i + 1)))
 
+-- of these each length at its least price, by price and then by length
+abbrev pub AreFirstOffers : List Offer → List Offer → Type 0
+AreFirstOffers xs kept = AreFirstLeast (λ o. o.price) (λ o. o.ticks) xs kept
+
 -- each length at its least price, by price and then by length
 abbrev pub AreOffers : Grammar → Performance → ℕ → ℕ → List Offer → Type 0
 AreOffers g p i before offers = AreFirstLeast (λ o. o.price) (λ o. o.ticks) (proposals g p i before) offers

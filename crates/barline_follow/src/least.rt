@@ -1,4 +1,4 @@
-ghost use Rattle.barline_follow.specs.Least.{AreFirstLeast};
+ghost use Rattle.barline_follow.specs.Least.{AreFirstLeast, comes_before};
 ghost use Rattle.rhythm_base.specs.Lists.{AreInOrder, list_with};
 ghost use Rattle.std.specs.Cmp.Lexicographic.{slice_cmp};
 ghost use Rattle.std.specs.List.{AllWithin};
@@ -31,8 +31,8 @@ fn is_before<T: Valued>(one: &T, other: &T) -> bool
 fn count_before<T: Valued>(list: &[T], item: &T) -> usize
     requires { AreInOrder (λ x. T.value x ∷ T.tick x ∷ []) list.now }
     ensures within { result ≤ length list.now }
-    ensures front { AllWithin (λ x. is_lt (slice_cmp nat_cmp (T.value x ∷ T.tick x ∷ []) (T.value item.now ∷ T.tick item.now ∷ [])) ≡ true) list.now 0 result }
-    ensures back { AllWithin (λ x. is_lt (slice_cmp nat_cmp (T.value x ∷ T.tick x ∷ []) (T.value item.now ∷ T.tick item.now ∷ [])) ≡ false) list.now result (length list.now) }
+    ensures front { AllWithin (λ x. comes_before T.value T.tick x item.now ≡ true) list.now 0 result }
+    ensures back { AllWithin (λ x. comes_before T.value T.tick x item.now ≡ false) list.now result (length list.now) }
 {
     list.partition_point(|other| is_before(other, item))
 }
@@ -50,7 +50,8 @@ fn put<T: Valued + Drop>(list: &mut Vec<T>, item: T) -> Result<(), AllocError>
 /// One at the item's tick has at most its value.
 fn has_as_low<T: Valued>(list: &[T], item: &T) -> bool
     ensures yes { result ≡ true → (x : T) × Contains list.now x × (T.tick x ≡ T.tick item.now) × (T.value x ≤ T.value item.now) }
-    ensures no { result ≡ false → (x : T) → Contains list.now x → T.tick x ≡ T.tick item.now → T.value x ≤ T.value item.now → ⊥ }
+    ensures no { result ≡ false → (x : T) → Contains list.now x → T.tick x ≡ T.tick item.now
+        → T.value x ≤ T.value item.now → ⊥ }
 {
     'others: for other in list {
         if other.tick() == item.tick() && other.value() <= item.value() {

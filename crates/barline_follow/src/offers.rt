@@ -1,6 +1,6 @@
 ghost use Rattle.barline_follow.specs.Bars as bars;
-ghost use Rattle.barline_follow.specs.Least.{AreFirstLeast};
 ghost use Rattle.barline_follow.specs.Offers as prices;
+ghost use Rattle.barline_follow.specs.Offers.{AreFirstOffers};
 ghost use Rattle.rhythm_base.specs.declared.limits.TheConstants.{HEAVIEST_ONSET};
 ghost use Rattle.std.specs.Prelude.{◌≡◌, ◌≤◌, ◌<◌, ◌^◌, ◌++◌, List, [], ◌∷◌, IfOk, All, OnOk, filter, max};
 
@@ -94,9 +94,9 @@ fn is_offered(whole: u64, offer: Offer) -> bool
 fn keep_offered(offers: &mut Vec<Offer>, whole: u64, proposals: &[Offer]) -> Result<(), AllocError>
     requires short { whole < 2 ^ 27 }
     requires short_offers { All (λ o. o.ticks < 2 ^ 61) proposals.now }
-    requires kept { (xs : List Offer) × AreFirstLeast (λ o. o.price) (λ o. o.ticks) xs offers.old.items }
-    ensures { (xs : List Offer) → AreFirstLeast (λ o. o.price) (λ o. o.ticks) xs offers.old.items
-        → OnOk result (AreFirstLeast (λ o. o.price) (λ o. o.ticks) (xs ++ filter (prices.is_offered whole) proposals.now) offers.new.items) }
+    requires kept { (xs : List Offer) × AreFirstOffers xs offers.old.items }
+    ensures { (xs : List Offer) → AreFirstOffers xs offers.old.items
+        → OnOk result (AreFirstOffers (xs ++ filter (prices.is_offered whole) proposals.now) offers.new.items) }
 {
     'proposals: for proposal in proposals {
         if is_offered(whole, *proposal) {

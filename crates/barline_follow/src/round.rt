@@ -1,9 +1,6 @@
-ghost use Rattle.barline_follow.specs.Barring as barrings;
 ghost use Rattle.barline_follow.specs.Barring.{Barring, is_below};
-ghost use Rattle.barline_follow.specs.Gathered.{IsGathered, barring_of, found_of, going_in};
-ghost use Rattle.barline_follow.specs.Rounds.{Found, IsNextFront, going_on};
-ghost use Rattle.std.specs.List.{filter_map};
-ghost use Rattle.std.specs.Prelude.{◌≡◌, ◌≤◌, ◌++◌, List, Option, [], ◌∷◌, Contains, OnOk, filter, length, map, take};
+ghost use Rattle.barline_follow.specs.Gathered.{AreAmong, AreFew, GathersOne, HasGathered, IsFrontOf, IsGathered};
+ghost use Rattle.std.specs.Prelude.{◌≡◌, [], filter, take};
 
 use crate::barring::{Barring, Course, better};
 use crate::least::{Valued, keep};
@@ -59,9 +56,8 @@ impl Round {
 
     /// Gathers one more list.
     pub fn add(&mut self, outcome: Outcome) -> Result<(), AllocError>
-        requires { (best : Option Barring) × (found : List Found) × (courses : List barrings.Course) × IsGathered best found courses self.old }
-        ensures { (best : Option Barring) (found : List Found) (courses : List barrings.Course) → IsGathered best found courses self.old
-            → OnOk result (IsGathered best (found ++ found_of outcome ∷ []) (courses ++ going_in outcome) self.new) }
+        requires { HasGathered self.old }
+        ensures { GathersOne self.old outcome result self.new }
     {
         match outcome {
             Outcome::Lost => Ok(()),
@@ -80,12 +76,9 @@ impl Round {
     /// The next front and the best.
     pub fn close(self) -> (Vec<Course>, Option<Barring>)
         ensures best { result.1 ≡ self.best }
-        ensures front { (best : Option Barring) (found : List Found) (courses : List barrings.Course) → IsGathered best found courses self
-            → IsNextFront self.best (filter_map going_on found) (map barring_of result.0.items) }
-        ensures among { (best : Option Barring) (found : List Found) (courses : List barrings.Course) → IsGathered best found courses self
-            → (course : barrings.Course) → Contains result.0.items course → Contains courses course }
-        ensures few { (best : Option Barring) (found : List Found) (courses : List barrings.Course) → IsGathered best found courses self
-            → length result.0.items ≤ 24 }
+        ensures front { IsFrontOf self result.0.items }
+        ensures among { AreAmong self result.0.items }
+        ensures few { AreFew self result.0.items }
     {
         let Round { mut kept, best } = self;
         clear_above(&mut kept, &best);

@@ -1,13 +1,14 @@
+ghost use Rattle.bar_pool.specs.Pool.{RisesWithin};
 ghost use Rattle.bar_pool.specs.declared.limits.TheConstants.{MOST_WORKERS};
 ghost use Rattle.barline_follow.specs.Builds.{most_lists, most_tables};
-ghost use Rattle.barline_follow.specs.Gathered.{barring_of};
-ghost use Rattle.barline_follow.specs.NextBars.{IsNextBar, IsCourseOf};
-ghost use Rattle.barline_follow.specs.Rounds.{IsBest, IsRound};
+ghost use Rattle.barline_follow.specs.NextBars.{AreBuiltInRoundOf, IsCourseOf, IsNextBar, IsRoundOf};
+ghost use Rattle.barline_follow.specs.Rounds.{IsBest};
+ghost use Rattle.barline_follow.specs.Searched.{AreBuiltInSearch};
 ghost use Rattle.barline_follow.specs.Courses.{first_course};
+ghost use Rattle.edit_session.specs.Prepared.{RisesBy};
 ghost use Rattle.grammar_plan.specs.Plans.{IsPlan};
-ghost use Rattle.rhythm_base.specs.Counter.{risen};
 ghost use Rattle.rhythm_base.specs.Readable.{IsReadable};
-ghost use Rattle.std.specs.Prelude.{◌≡◌, ◌+◌, ◌*◌, ◌≤◌, [], ◌∷◌, All, IfOk, length, map};
+ghost use Rattle.std.specs.Prelude.{◌≡◌, ◌+◌, ◌*◌, ◌≤◌, [], ◌∷◌, All, IfOk, OnOk, length};
 
 use crate::barring::{Barring, Course};
 use crate::cells::round_inputs;
@@ -21,17 +22,15 @@ use bar_pool::{Order, Rooms, build_cells};
 use grammar_plan::Plan;
 use least_cost::Steps as Builds;
 use rhythm_base::{Grammar, Performance, Tag};
-use rhythm_ports::Gate;
+use rhythm_ports::{Gate, Means};
 use std::alloc::{AllocError, Global};
 use std::thread::Threads;
 
-/// By which plan and by up to how many workers tables are built, what starts them, and the gate before each.
+/// By which plan and by up to how many workers tables are built.
 #[derive(Drop)]
-struct Crew<'a, R, G> {
-    rt: &'a R,
+struct Crew<'a> {
     plan: &'a Plan,
     workers: u32,
-    gate: &'a G,
 }
 
 /// The front of no bar, for so many voices.
@@ -54,11 +53,11 @@ fn first_front(alloc: Global, voices: usize) -> Result<Vec<Course>, AllocError>
 
 /// The next front and the best.
 fn next_round<R: Threads + Sync, G: Gate + Sync, B: Tag>(
-    alloc: Global,
+    means: &Means<'_, R, G>,
     next: &NextBar,
     front: &[Course],
     best: Option<Barring>,
-    crew: &Crew<'_, R, G>,
+    crew: &Crew<'_>,
     rooms: &mut Rooms,
     builds: &mut Builds<B>,
 ) -> Result<(Vec<Course>, Option<Barring>), AllocError>
@@ -68,58 +67,52 @@ fn next_round<R: Threads + Sync, G: Gate + Sync, B: Tag>(
     requires plan { IsPlan next.now.grammar.now crew.now.plan.now }
     requires some_worker { 1 ≤ crew.now.workers }
     requires few_workers { crew.now.workers ≤ MOST_WORKERS }
-    ensures round { IfOk result (λ r. IsRound next.now.grammar.now next.now.performance.now next.now.number
-        (map barring_of front.now) best (map barring_of r.0.items) r.1) }
+    ensures round { IfOk result (λ r. IsRoundOf next.now front.now best r.0.items r.1) }
     ensures courses { IfOk result (λ r. All (IsCourseOf next.now (next.now.number + 1)) r.0.items) }
     ensures lists { IfOk result (λ r. length r.0.items ≤ 24) }
-    ensures most { builds.new ≤ risen builds.old (24 * 14 * length next.now.voices.now) }
-    ensures builds { builds.old ≤ builds.new }
+    ensures builds { OnOk result (RisesBy builds.old builds.new (AreBuiltInRoundOf next.now front.now)) }
+    ensures most { RisesWithin builds.old builds.new (24 * 14 * length next.now.voices.now) }
 {
-    let all = front_tried(alloc, next, front)?;
+    let all = front_tried(means.alloc, next, front)?;
     let tried = all.as_slice();
-    let cells = round_inputs(alloc, next, front, tried)?;
+    let cells = round_inputs(means.alloc, next, front, tried)?;
     let inputs = cells.as_slice();
     let order = Order {
         grammar: next.grammar,
         plan: crew.plan,
         inputs,
-        gate: crew.gate,
     };
-    let tables = build_cells(crew.rt, alloc, &order, crew.workers, rooms, builds)?;
-    let round = gather(alloc, next, front, tried, tables.as_slice(), best)?;
+    let tables = build_cells(means, &order, crew.workers, rooms, builds)?;
+    let round = gather(means.alloc, next, front, tried, tables.as_slice(), best)?;
     Ok(round.close())
 }
 
 /// The best barlines for a performance by a grammar; none where no list is whole. All tables of a round are built by up to so many
 /// workers, 1 to 16, each once.
 pub fn best_barlines<R: Threads + Sync, G: Gate + Sync, B: Tag>(
-    rt: &R,
-    alloc: Global,
+    means: &Means<'_, R, G>,
     grammar: &Grammar,
     performance: &Performance,
     workers: u32,
-    gate: &G,
     builds: &mut Builds<B>,
 ) -> Result<Option<Barring>, AllocError>
     requires some_worker { 1 ≤ workers }
     requires few_workers { workers ≤ MOST_WORKERS }
     requires readable { IsReadable grammar.now }
     ensures best { IfOk result (λ best. IsBest grammar.now performance.now best) }
-    ensures most { builds.new ≤ risen builds.old (most_tables performance.now) }
-    ensures builds { builds.old ≤ builds.new }
+    ensures builds { OnOk result (RisesBy builds.old builds.new (AreBuiltInSearch grammar.now performance.now)) }
+    ensures most { RisesWithin builds.old builds.new (most_tables performance.now) }
 {
-    let plan = Plan::of(alloc, grammar)?;
+    let plan = Plan::of(means.alloc, grammar)?;
     let crew = Crew {
-        rt,
         plan: &plan,
         workers,
-        gate,
     };
     let closing = closing_tick(performance.notes());
-    let voices = voices_of(alloc, grammar, performance)?;
-    let mut front = first_front(alloc, voices.len())?;
+    let voices = voices_of(means.alloc, grammar, performance)?;
+    let mut front = first_front(means.alloc, voices.len())?;
     let mut best = None;
-    let mut rooms = Rooms::new(alloc);
+    let mut rooms = Rooms::new(means.alloc);
     'rounds: for number in 0..2 * performance.bars().len() {
         if front.is_empty() {
             return Ok(best);
@@ -136,7 +129,7 @@ pub fn best_barlines<R: Threads + Sync, G: Gate + Sync, B: Tag>(
         };
         let lists = front.as_slice();
         let (longer, longer_best) = next_round(
-            alloc, &next, lists, best, &crew, &mut rooms, builds,
+            means, &next, lists, best, &crew, &mut rooms, builds,
         )?;
         front = longer;
         best = longer_best;

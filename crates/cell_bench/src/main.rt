@@ -36,7 +36,7 @@ use in_turn::build_in_turn;
 use least_cost::{BarTable, Steps, build_cell};
 use pins::{Cutting, shape_of};
 use rhythm_base::{BarInput, Grammar, Tag};
-use rhythm_ports::OpenGate;
+use rhythm_ports::{Means, OpenGate};
 use std::alloc::Global;
 use std::env;
 use std::io::{self, ErrorKind};
@@ -227,11 +227,15 @@ fn build_by<R: Threads + Sync>(
         grammar: &grammar,
         plan: &plan,
         inputs: bars.as_slice(),
+    };
+    let means = Means {
+        rt,
+        alloc,
         gate: &OpenGate,
     };
     let mut rooms = Rooms::new(alloc);
     let mut builds = Steps::<Benchmark>::zero();
-    let mut tables = build_cells(rt, alloc, &order, workers, &mut rooms, &mut builds)?;
+    let mut tables = build_cells(&means, &order, workers, &mut rooms, &mut builds)?;
     Ok(tables.pop())
 }
 
@@ -257,11 +261,15 @@ fn build_drawn<R: Threads + Sync>(
         grammar,
         plan: &plan,
         inputs: bars.as_slice(),
+    };
+    let means = Means {
+        rt,
+        alloc,
         gate: &OpenGate,
     };
     let mut rooms = Rooms::new(alloc);
     let mut builds = Steps::<Benchmark>::zero();
-    let tables = build_cells(rt, alloc, &order, workers, &mut rooms, &mut builds)?;
+    let tables = build_cells(&means, &order, workers, &mut rooms, &mut builds)?;
     Ok(tables)
 }
 

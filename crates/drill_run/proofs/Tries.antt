@@ -1,5 +1,7 @@
 -- An edit of a drill that was tried, as a step of it.
 use Rattle.std.proofs.Common.{◌≡◌, ℕ, ◌+◌, ◌≤◌, refl, sym, subst, ◌∙◌, arith, Some}
+use Rattle.std.specs.Prelude.{IsOk}
+use Rattle.edit_laws.specs.Edits.{edited}
 use Rattle.rhythm_base.specs.declared.edit.Edit.{Edit}
 use Rattle.rhythm_base.specs.declared.edit_fault.EditFault.{EditFault}
 use Rattle.rhythm_base.specs.Grammar.{Grammar}
@@ -34,3 +36,10 @@ module _ (g : Grammar) (number e : ℕ) (p next : Performance) (edit : Edit) (is
       let both : Some edit ≡ Some other = is ∙ that in
       let same : edit ≡ other = cc in
       subst (λ (x : Edit). IsWithinReach g p x more) same within
+
+  -- and where the performance does not refuse this one, it refuses none
+  pub any_allowed : IsOk (edited p edit) → (other : Edit) → drill_edit number e p ≡ Some other → IsOk (edited p other)
+  any_allowed allowed other that =
+      let both : Some edit ≡ Some other = is ∙ that in
+      let same : edit ≡ other = cc in
+      subst (λ (x : Edit). IsOk (edited p x)) same allowed

@@ -2,3 +2,4 @@ pub mod Drill
 pub mod Summary
 pub mod Ends
 pub mod Laws
+pub mod Stands

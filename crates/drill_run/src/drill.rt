@@ -1,12 +1,15 @@
-ghost use Rattle.drill_run.specs.Drill.{Drilled, IsDrilledTo, IsDrillStep, IsWithinReach};
-ghost use Rattle.drill_run.specs.Ends.{HasDrilled, IsDrillBrokenOff};
+ghost use Rattle.drill_run.specs.Stands.{
+  HasBrokenOff,
+  HasBrokenOffOn,
+  HasDrilledAll,
+  HasSaid,
+  HasStepped,
+  HasStoppedAt,
+};
 ghost use Rattle.drill_run.specs.declared.drill_stop.DrillStop.TheVariants as stop;
-ghost use Rattle.rhythm_base.specs.Counter.{risen};
-ghost use Rattle.edit_laws.specs.Edits.{edited};
+ghost use Rattle.edit_session.specs.Products.{RisesOnOk};
 ghost use Rattle.rhythm_base.specs.Performance.{IsWellFormed};
-ghost use Rattle.rhythm_base.specs.declared.edit.Edit.{Edit};
-ghost use Rattle.rhythm_gen.specs.DrillEdit.{drill_edit};
-ghost use Rattle.std.specs.Prelude.{◌≡◌, ◌+◌, ◌*◌, ◌<◌, ◌≤◌, ℕ, Err, IfOk, IsOk, Ok, OnErr, OnOk, Some, length};
+ghost use Rattle.std.specs.Prelude.{◌≡◌, ◌+◌, ◌*◌, ◌<◌, ◌≤◌, ℕ, Err, IfOk, Ok, OnErr, OnOk, length};
 
 use crate::drill_stop::DrillStop;
 use crate::summary::summary_of;
@@ -15,8 +18,8 @@ use edit_session::Session;
 use least_cost::Steps as Builds;
 use rhythm_base::{EditFault, Tag};
 use rhythm_gen::drill_edit;
-use rhythm_ports::Gate;
-use std::alloc::{AllocError, Global};
+use rhythm_ports::{Gate, Means};
+use std::alloc::AllocError;
 use std::thread::Threads;
 
 /// The number of edits of a drill.
@@ -35,10 +38,8 @@ impl Drill {
     /// Makes the edit of this index, or passes it over where it is refused.
     fn step<R: Threads + Sync, G: Gate + Sync, B: Tag, P: Tag>(
         &mut self,
-        rt: &R,
-        alloc: Global,
+        means: &Means<'_, R, G>,
         index: u32,
-        gate: &G,
         builds: &mut Builds<B>,
         products: &mut Products<P>,
     ) -> Result<(), AllocError>
@@ -52,21 +53,14 @@ impl Drill {
         ensures formed { IsWellFormed self.old.session.performance }
         ensures grammar { self.new.session.grammar ≡ self.old.session.grammar }
         ensures number { self.new.number ≡ self.old.number }
-        ensures step { OnOk result ((reached besides : ℕ) × IsDrillStep self.old.session.grammar self.old.number index
-            record { performance = self.old.session.performance; accepted = self.old.accepted; built = self.old.built }
-            record { performance = self.new.session.performance; accepted = self.new.accepted; built = self.new.built } besides
-            × (self.new.built ≡ self.old.built + reached) × (builds.new ≡ risen builds.old (reached + besides))) }
+        ensures step { OnOk result (HasStepped self.old index self.new builds.old builds.new) }
         ensures accepted { OnOk result (self.new.accepted ≤ index + 1) }
         ensures built { OnOk result (self.new.built ≤ 65536 * (index + 1)) }
-        ensures broken_off { OnErr result ((more : ℕ) × (builds.new ≡ risen builds.old more)
-            × ((edit : Edit) → drill_edit self.old.number index self.old.session.performance ≡ Some edit
-            → IsWithinReach self.old.session.grammar self.old.session.performance edit more)) }
-        ensures allowed { OnErr result ((edit : Edit) → drill_edit self.old.number index self.old.session.performance ≡ Some edit
-            → IsOk (edited self.old.session.performance edit)) }
-        ensures products { products.old ≤ products.new }
+        ensures stopped { OnErr result (HasStoppedAt self.old index builds.old builds.new) }
+        ensures products { RisesOnOk result products.old products.new }
     {
         let edit = drill_edit(self.number, index, self.session.performance());
-        match self.session.apply(rt, alloc, &edit, gate, builds, products) {
+        match self.session.apply(means, &edit, builds, products) {
             Ok(applied) => {
                 self.accepted += 1;
                 self.built += applied.built;
@@ -82,9 +76,7 @@ impl Drill {
     /// Makes all edits, one after another.
     fn make_edits<R: Threads + Sync, G: Gate + Sync, B: Tag, P: Tag>(
         &mut self,
-        rt: &R,
-        alloc: Global,
-        gate: &G,
+        means: &Means<'_, R, G>,
         builds: &mut Builds<B>,
         products: &mut Products<P>,
     ) -> Result<(), AllocError>
@@ -95,14 +87,12 @@ impl Drill {
         requires accepted { self.old.accepted ≡ 0 }
         requires built { self.old.built ≡ 0 }
         ensures grammar { self.new.session.grammar ≡ self.old.session.grammar }
-        ensures drilled { OnOk result ((besides : ℕ) × IsDrilledTo self.old.session.grammar self.old.number self.old.session.performance DRILL_EDITS
-            record { performance = self.new.session.performance; accepted = self.new.accepted; built = self.new.built } besides
-            × (builds.new ≡ risen builds.old (self.new.built + besides))) }
-        ensures broken_off { OnErr result (IsDrillBrokenOff self.old.session.grammar self.old.number self.old.session.performance builds.old builds.new) }
+        ensures drilled { OnOk result (HasDrilledAll self.old self.new builds.old builds.new) }
+        ensures broken_off { OnErr result (HasBrokenOff self.old builds.old builds.new) }
         ensures products { products.old ≤ products.new }
     {
         'edits: for index in 0..DRILL_EDITS {
-            self.step(rt, alloc, index, gate, builds, products)?;
+            self.step(means, index, builds, products)?;
         }
         Ok(())
     }
@@ -111,11 +101,9 @@ impl Drill {
 /// Runs the drill of a number on a session: makes its forty edits, one after another, and passes over those that are refused. What
 /// it came to is said in six lines. Want of memory ends it.
 pub fn run_drill<R: Threads + Sync, G: Gate + Sync, B: Tag, P: Tag>(
-    rt: &R,
-    alloc: Global,
+    means: &Means<'_, R, G>,
     session: Session,
     number: u32,
-    gate: &G,
     builds: &mut Builds<B>,
     products: &mut Products<P>,
 ) -> Result<Vec<u8>, DrillStop>
@@ -123,10 +111,10 @@ pub fn run_drill<R: Threads + Sync, G: Gate + Sync, B: Tag, P: Tag>(
     requires some_notes { 11 ≤ length session.performance.notes }
     requires two_bars { 2 ≤ length session.performance.bars }
     requires last { session.performance.last ≤ 1999999000 }
-    ensures summary { IfOk result (λ text. HasDrilled session.grammar number session.performance (Ok text.items) builds.old builds.new) }
-    ensures too_long { (line : ℕ) → result ≡ Err (stop.ScoreTooLong line) → HasDrilled session.grammar number session.performance (Err line) builds.old builds.new }
-    ensures memory { result ≡ Err stop.Memory → IsDrillBrokenOff session.grammar number session.performance builds.old builds.new }
-    ensures rises { builds.old ≤ builds.new }
+    ensures summary { IfOk result (λ text. HasSaid session number (Ok text.items) builds.old builds.new) }
+    ensures too_long { (line : ℕ) → result ≡ Err (stop.ScoreTooLong line)
+        → HasSaid session number (Err line) builds.old builds.new }
+    ensures memory { result ≡ Err stop.Memory → HasBrokenOffOn session number builds.old builds.new }
     ensures products { products.old ≤ products.new }
 {
     let mut drill = Drill {
@@ -135,8 +123,8 @@ pub fn run_drill<R: Threads + Sync, G: Gate + Sync, B: Tag, P: Tag>(
         accepted: 0,
         built: 0,
     };
-    match drill.make_edits(rt, alloc, gate, builds, products) {
-        Ok(()) => summary_of(alloc, &drill.session, drill.accepted, drill.built),
+    match drill.make_edits(means, builds, products) {
+        Ok(()) => summary_of(means.alloc, &drill.session, drill.accepted, drill.built),
         Err(_error) => Err(DrillStop::Memory),
     }
 }

@@ -1,10 +1,8 @@
-ghost use Rattle.drill_run.specs.Drill.{Drilled};
 ghost use Rattle.drill_run.specs.Ends as ends;
-ghost use Rattle.drill_run.specs.Ends.{IsSummarySaid};
+ghost use Rattle.drill_run.specs.Stands.{HasScoreLength, IsSaidOf};
 ghost use Rattle.drill_run.specs.declared.drill_stop.DrillStop.TheVariants as stop;
-ghost use Rattle.kern_writer.specs.PerformanceText.{HasTooLongText, IsTextOf};
-ghost use Rattle.rhythm_base.specs.declared.limits.TheConstants.{LONGEST_SCORE};
-ghost use Rattle.std.specs.Prelude.{◌≡◌, ◌≤◌, ℕ, Err, IfOk, List, Ok, length};
+ghost use Rattle.kern_writer.specs.PerformanceText.{HasTooLongText};
+ghost use Rattle.std.specs.Prelude.{◌≡◌, ℕ, Err, IfOk, Ok};
 
 use crate::drill_stop::DrillStop;
 use crate::figures::{Figures, text_of};
@@ -23,8 +21,7 @@ fn score_stop(fault: ScoreFault) -> DrillStop
 
 /// The length of the score.
 fn score_length(alloc: Global, session: &Session) -> Result<u64, DrillStop>
-    ensures length { IfOk result (λ n. (score : List ℕ) × IsTextOf session.now.grammar session.now.performance score
-        × (length score ≤ LONGEST_SCORE) × (n ≡ length score)) }
+    ensures length { IfOk result (HasScoreLength session.now) }
     ensures too_long { (line : ℕ) → result ≡ Err (stop.ScoreTooLong line) → HasTooLongText session.now.grammar session.now.performance line }
 {
     match session.score(alloc) {
@@ -40,9 +37,8 @@ pub fn summary_of(
     accepted: u32,
     built: u64,
 ) -> Result<Vec<u8>, DrillStop>
-    ensures summary { IfOk result (λ text. IsSummarySaid session.now.grammar record { performance = session.now.performance; accepted = accepted; built = built } (Ok text.items)) }
-    ensures too_long { (line : ℕ) → result ≡ Err (stop.ScoreTooLong line)
-        → IsSummarySaid session.now.grammar record { performance = session.now.performance; accepted = accepted; built = built } (Err line) }
+    ensures summary { IfOk result (λ text. IsSaidOf session.now accepted built (Ok text.items)) }
+    ensures too_long { (line : ℕ) → result ≡ Err (stop.ScoreTooLong line) → IsSaidOf session.now accepted built (Err line) }
 {
     let performance = session.performance();
     let bars = performance.bars().len() as u64;

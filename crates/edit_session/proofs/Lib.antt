@@ -28,6 +28,7 @@ pub mod WaysBack
 pub mod ExchangedVoices
 pub mod Commits
 pub mod SessionProducts
+pub mod EditEffects
 pub mod Risen
 pub mod ExchangedBars
 pub mod SameNotes

@@ -1,11 +1,13 @@
 -- What is exchanged where a session changes to another performance: the tables that come in, and those that go out.
-use Rattle.std.specs.Prelude.{◌≡◌, ◌⊎◌, ℕ, ◌+◌, ◌*◌, ◌-◌, ◌<◌, ◌≤◌, List, [], ◌∷◌, ◌++◌, All, Contains, filter, length, map, max, nat_lt, slice_index_or}
+use Rattle.std.specs.Prelude.{◌≡◌, ◌⊎◌, ℕ, ◌+◌, ◌*◌, ◌-◌, ◌<◌, ◌≤◌, List, [], ◌∷◌, ◌++◌, All, Contains, filter, Vec, ◌^◌, length, map, max, nat_lt, reverse, slice_index_or, slice_set, vec_capacity}
 use Rattle.rhythm_base.specs.declared.limits.TheConstants.{DEAREST_CELL, MOST_BARS}
 use Rattle.edit_session.specs.Kept.{AreTablesOfVoice, AreTablesOfVoices}
 use Rattle.edit_session.specs.Prepared.{CellTable, IsCellTable, IsTableOfCell, cell_of}
+use Rattle.edit_session.specs.Products.{moved_tables}
 use Rattle.edit_session.specs.ReachedCells.{AreCellsWhere}
 use Rattle.edit_session.specs.VoiceTables.{VoiceTables}
 use Rattle.rhythm_base.specs.BarTables.{BarTable}
+use Rattle.rhythm_base.specs.Counter.{risen}
 use Rattle.rhythm_base.specs.Grammar.{Grammar}
 use Rattle.rhythm_base.specs.Performance.{IsWellFormed, Performance}
 use Rattle.rhythm_base.specs.Paths.{IsCheap}
@@ -106,3 +108,89 @@ pub record HasPlace (voices : List VoiceTables) (bars : ℕ) (coming : List Cell
 
 abbrev pub IsCheapTable : CellTable → Type 0
 IsCheapTable t = IsCheap DEAREST_CELL t.table.matrix
+
+-- ---- what the exchange of a bar, of a voice and of all voices does. The tables that come are kept in turned order
+
+-- no other tables of these bars go out than come in
+abbrev pub HasEvenCount : {A : Type 0} → ℕ → Vec CellTable A → Vec CellTable A → Vec CellTable A → Vec CellTable A → Type 0
+HasEvenCount n coming left gone out =
+    length out.items + tables_below n left.items ≡ length gone.items + tables_below n coming.items
+
+abbrev pub HasCountWithLost : {A : Type 0} → ℕ → VoiceTables → Vec CellTable A → Vec CellTable A → Vec CellTable A → Vec CellTable A → Type 0
+HasCountWithLost bars voice coming left gone out =
+    length out.items + tables_below (length voice.tables) left.items
+    ≡ length gone.items + tables_below (length voice.tables) coming.items + (length voice.tables - bars)
+
+abbrev pub IsNoMoreThanCame : ℕ → List VoiceTables → List CellTable → List CellTable → Type 0
+IsNoMoreThanCame bars voices coming gone =
+    (n : ℕ) → All (λ v. length v.tables ≡ n) voices → length gone ≤ length coming + length voices * (n - bars)
+
+-- there is place for the tables of a voice that go out
+abbrev pub HasPlaceForVoice : {A : Type 0} → ℕ → VoiceTables → Vec CellTable A → Vec CellTable A → Type 0
+HasPlaceForVoice bars voice coming gone =
+    length gone.items + tables_below (length voice.tables) coming.items + (length voice.tables - bars) ≤ vec_capacity gone
+
+-- the table takes the place of another, which goes out; or it is that of a new bar
+abbrev pub IsSwapped : {A : Type 0} → VoiceTables → VoiceTables → CellTable → Vec CellTable A → Vec CellTable A → Type 0
+IsSwapped voice after coming gone out =
+    coming.bar < length voice.tables → (after.tables ≡ slice_set voice.tables coming.bar coming.table)
+    × (out.items ≡ gone.items ++ table_out voice.tables coming ∷ [])
+
+abbrev pub IsPushed : {A : Type 0} → VoiceTables → VoiceTables → CellTable → Vec CellTable A → Vec CellTable A → Type 0
+IsPushed voice after coming gone out =
+    length voice.tables ≤ coming.bar → (after.tables ≡ voice.tables ++ coming.table ∷ []) × (out.items ≡ gone.items)
+
+abbrev pub ExchangesBar : {A : Type 0} → ℕ → ℕ → VoiceTables → VoiceTables → Vec CellTable A → Vec CellTable A → Vec CellTable A → Vec CellTable A → Type 0
+ExchangesBar channel bar voice after coming left gone out =
+    (x : Change) (first begin : List CellTable) → IsChange x → Contains x.before.channels channel → bar < length x.after.bars
+    → IsVoiceUpTo x channel bar voice.tables first begin (reverse coming.items) gone.items
+    → IsVoiceUpTo x channel (bar + 1) after.tables first begin (reverse left.items) out.items
+
+abbrev pub ExchangesBars : {A : Type 0} → ℕ → ℕ → VoiceTables → VoiceTables → Vec CellTable A → Vec CellTable A → Vec CellTable A → Vec CellTable A → Type 0
+ExchangesBars channel bars voice after coming left gone out =
+    (x : Change) → IsVoiceBefore x channel voice.tables (reverse coming.items) gone.items → bars ≡ length x.after.bars
+    → IsVoiceUpTo x channel bars after.tables (reverse coming.items) gone.items (reverse left.items) out.items
+
+abbrev pub ExchangesVoice : {A : Type 0} → ℕ → ℕ → VoiceTables → VoiceTables → Vec CellTable A → Vec CellTable A → Vec CellTable A → Vec CellTable A → Type 0
+ExchangesVoice channel bars voice after coming left gone out =
+    (x : Change) → IsVoiceBefore x channel voice.tables (reverse coming.items) gone.items → bars ≡ length x.after.bars
+    → IsVoiceAfter x channel after.tables (reverse coming.items) gone.items (reverse left.items) out.items
+
+-- these tables are exchanged for those that come, whatever the performances are
+abbrev pub ExchangesVoices : List ℕ → ℕ → List VoiceTables → List VoiceTables → List CellTable → List CellTable → ℕ → Type 0
+ExchangesVoices channels bars voices after coming gone place =
+    (x : Change) → AreVoicesBefore x voices coming → channels ≡ x.before.channels → bars ≡ length x.after.bars
+    → AreVoicesAfter x after gone place
+
+-- the way back moves no more tables
+abbrev pub HasShortWayBack : List ℕ → ℕ → List VoiceTables → List CellTable → List CellTable → Type 0
+HasShortWayBack channels bars voices coming gone =
+    (x : Change) → AreVoicesBefore x voices coming → channels ≡ x.before.channels → bars ≡ length x.after.bars
+    → moved_tables x.after x.before (length gone) ≤ moved_tables x.before x.after (length coming)
+
+-- ---- its products
+
+-- at most d products for each table that came in, where there are at most 2 ^ d bars
+abbrev pub RisesForBar : {A : Type 0} → VoiceTables → Vec CellTable A → Vec CellTable A → ℕ → ℕ → Type 0
+RisesForBar after coming left old new =
+    (old ≤ new) × ((d m : ℕ) → length after.tables ≤ 2 ^ d → length coming.items ≡ length left.items + m → new ≤ risen old (m * d))
+
+abbrev pub RisesForBars : {A : Type 0} → ℕ → VoiceTables → Vec CellTable A → Vec CellTable A → ℕ → ℕ → Type 0
+RisesForBars bars voice coming left old new =
+    (old ≤ new) × ((d m : ℕ) → length voice.tables ≤ 2 ^ d → bars ≤ 2 ^ d → length coming.items ≡ length left.items + m
+    → new ≤ risen old (m * d))
+
+-- and for each that goes off the end
+abbrev pub RisesForLost : ℕ → VoiceTables → ℕ → ℕ → Type 0
+RisesForLost bars voice old new =
+    (old ≤ new) × ((d : ℕ) → length voice.tables ≤ 2 ^ d → new ≤ risen old ((length voice.tables - bars) * d))
+
+abbrev pub RisesForVoice : {A : Type 0} → ℕ → VoiceTables → Vec CellTable A → Vec CellTable A → ℕ → ℕ → Type 0
+RisesForVoice bars voice coming left old new =
+    (old ≤ new) × ((d m : ℕ) → length voice.tables ≤ 2 ^ d → bars ≤ 2 ^ d → length coming.items ≡ length left.items + m
+    → new ≤ risen old ((m + (length voice.tables - bars)) * d))
+
+abbrev pub RisesForVoices : ℕ → List VoiceTables → List CellTable → ℕ → ℕ → Type 0
+RisesForVoices bars voices coming old new =
+    (old ≤ new) × ((d n : ℕ) → All (λ v. length v.tables ≡ n) voices → n ≤ 2 ^ d → bars ≤ 2 ^ d
+    → new ≤ risen old ((length coming + length voices * (n - bars)) * d))

@@ -5,11 +5,14 @@ pub mod Spans
 pub mod Inputs
 pub mod Kept
 pub mod LeastTrees
+pub mod BarsInForce
 pub mod Laws
 pub mod Asking
 pub mod Prepared
 pub mod PreparedCode
 pub mod ReachedCells
+pub mod OtherCells
 pub mod ChangedVoices
 pub mod Exchange
 pub mod Products
+pub mod Effects

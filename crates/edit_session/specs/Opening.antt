@@ -1,11 +1,13 @@
 -- Which performances a session can be opened on, and why not on the others.
 use Rattle.rhythm_base.specs.declared.limits.TheConstants.{MOST_CELLS}
 use Rattle.std.specs.Prelude.{◌≡◌, ℕ, ◌*◌, ◌<◌, ◌≤◌, All, length}
+use Rattle.bar_pool.specs.Pool.{RisesWithin}
 use Rattle.bar_cut.specs.Cuts.{IsFirstWithoutStart}
 use Rattle.bar_cut.specs.declared.fault.CutFault.{CutFault}
 use Rattle.bar_cut.specs.declared.fault.CutFault.TheVariants as cut
 use Rattle.edit_session.specs.declared.open_fault.OpenFault.{OpenFault}
 use Rattle.edit_session.specs.declared.open_fault.OpenFault.TheVariants.{Cells, NoStart, NoDerivation, Memory}
+use Rattle.rhythm_base.specs.Counter.{risen}
 use Rattle.rhythm_base.specs.Grammar.{Grammar}
 use Rattle.rhythm_base.specs.Performance.{Performance}
 use Rattle.rhythm_base.specs.Voices.{HasDerivation, HasStarts, IsDeadVoice}
@@ -44,5 +46,5 @@ fault_of_cut cut.Memory = Memory
 abbrev pub IsBuilt : ℕ → ℕ → ℕ → OpenFault → Type 0
 IsBuilt old new cells (Cells _) = new ≡ old
 IsBuilt old new cells (NoStart _ _ _) = new ≡ old
-IsBuilt old new cells (NoDerivation _ _) = new ≡ cells
-IsBuilt old new cells Memory = new ≤ cells
+IsBuilt old new cells (NoDerivation _ _) = new ≡ risen old cells
+IsBuilt old new cells Memory = RisesWithin old new cells

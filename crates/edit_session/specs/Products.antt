@@ -1,5 +1,5 @@
 -- How many products a session makes where it is put on another performance.
-use Rattle.std.specs.Prelude.{◌≡◌, ℕ, ◌+◌, ◌*◌, ◌-◌, ◌≤◌, ◌^◌, List, Result, Ok, Err, length}
+use Rattle.std.specs.Prelude.{◌≡◌, ℕ, ◌+◌, ◌*◌, ◌-◌, ◌≤◌, ◌^◌, List, Result, Ok, Err, OnErr, length}
 use Rattle.rhythm_base.specs.declared.edit.Edit.{Edit}
 use Rattle.rhythm_base.specs.declared.edit_fault.EditFault.{EditFault}
 use Rattle.rhythm_base.specs.declared.edit_fault.EditFault.TheVariants.{NoDerivation}
@@ -15,10 +15,10 @@ moved_tables before after reached = reached + length before.channels * (length b
 
 -- so many changes from one performance to another: each table that moves costs at most d products in each of them, where there are
 -- at most 2 ^ d bars before and afterwards
-abbrev pub AreProductsOf : ℕ → Grammar → Performance → Performance → ℕ → ℕ → Type 0
-AreProductsOf changes g before after old new =
-    (cells : List (ℕ × ℕ)) (d : ℕ) → AreReached g before after cells → length before.bars ≤ 2 ^ d → length after.bars ≤ 2 ^ d
-    → new ≤ risen old (changes * moved_tables before after (length cells) * d)
+pub record AreProductsOf (changes : ℕ) (g : Grammar) (before after : Performance) (old new : ℕ) : Type 0 where
+  pub rises : old ≤ new
+  pub most : (cells : List (ℕ × ℕ)) (d : ℕ) → AreReached g before after cells → length before.bars ≤ 2 ^ d → length after.bars ≤ 2 ^ d
+      → new ≤ risen old (changes * moved_tables before after (length cells) * d)
 
 -- a session changes once; after a dead voice it has changed there and back
 abbrev pub changes_made : {A B : Type 0} → Result A B → ℕ
@@ -33,5 +33,17 @@ changes_of_edit (Err _) = 0
 
 -- the products of an edit, by what becomes of it
 pub record AreProductsOfEdit {A : Type 0} (g : Grammar) (p : Performance) (edit : Edit) (result : Result A EditFault) (old new : ℕ) : Type 0 where
+  pub rises : old ≤ new
   pub most : (after : Performance) → edited p edit ≡ Ok after → AreProductsOf (changes_of_edit result) g p after old new
   pub none : changes_of_edit result ≡ 0 → new ≡ old
+
+-- what d products for a table, or twice d, make of a counter, where there are at most 2 ^ d bars
+abbrev pub RisesOnce : ℕ → ℕ → ℕ → Type 0
+RisesOnce bars old new = (old ≤ new) × ((d : ℕ) → bars ≤ 2 ^ d → new ≤ risen old d)
+
+abbrev pub RisesTwice : ℕ → ℕ → ℕ → Type 0
+RisesTwice bars old new = (old ≤ new) × ((d : ℕ) → bars ≤ 2 ^ d → new ≤ risen old (2 * d))
+
+-- a counter does not fall, and stands still where a call fails
+abbrev pub RisesOnOk : {A E : Type 0} → Result A E → ℕ → ℕ → Type 0
+RisesOnOk result old new = (old ≤ new) × OnErr result (new ≡ old)

@@ -62,6 +62,11 @@ pub record IsNoteSpan (tempos : List Tempo) (division window : ℕ) (before afte
   pub from : span.first_bar ≤ first_bar
   pub up_to : bar_end ≤ span.bar_end
 
+-- the same of the bars of a performance
+abbrev pub IsSpanOf : List Tempo → Performance → ℕ → List Note → List Note → ℕ → ℕ → Span → Type 0
+IsSpanOf tempos p window before after first_bar bar_end span =
+    IsNoteSpan tempos p.division window before after p.bars p.last first_bar bar_end span
+
 -- a bar starts and ends where it did, and has the signature that it had
 pub record IsSameBar (before after : Performance) (number : ℕ) : Type 0 where
   pub there : number < length before.bars

@@ -1,13 +1,10 @@
-ghost use Rattle.edit_session.specs.Asking.{CanBePinned};
-ghost use Rattle.edit_session.specs.Kept.{AreTablesOfVoice};
-ghost use Rattle.rhythm_base.specs.Counter.{risen};
-ghost use Rattle.rhythm_base.specs.Performance.{IsWellFormed, Performance};
+ghost use Rattle.edit_session.specs.Asking.{AreBestByTables, CanBePinned};
+ghost use Rattle.edit_session.specs.Products.{RisesTwice};
 ghost use Rattle.rhythm_base.specs.Readable.{IsReadable};
-ghost use Rattle.tree_laws.specs.Alternatives.{AreBestOfBar};
 ghost use Rattle.rhythm_base.specs.declared.limits.TheConstants.{MOST_BARS};
 ghost use Rattle.edit_session.specs.LeastTrees.{IsTableIn};
 ghost use Rattle.std.specs.List.{position};
-ghost use Rattle.std.specs.Prelude.{◌≡◌, ◌==◌, ◌*◌, ◌<◌, ◌≤◌, ◌^◌, ℕ, All, IfOk, length};
+ghost use Rattle.std.specs.Prelude.{◌≡◌, ◌==◌, ◌<◌, ◌≤◌, All, IfOk, length};
 
 use crate::voice_tables::VoiceTables;
 use bar_alternatives::{Alternative, alternatives};
@@ -36,11 +33,9 @@ pub fn alternatives_of<P: Tag>(
     requires tables { All (IsTableIn grammar.now) voice.now.tables }
     requires few { length voice.now.tables ≤ MOST_BARS }
     requires bar { bar < length voice.now.tables }
-    ensures best { IfOk result (λ list. (p : Performance) (channel : ℕ) → IsWellFormed p → AreTablesOfVoice grammar.now p channel voice.now.tables
-        → AreBestOfBar grammar.now p channel bar count list.items) }
+    ensures best { IfOk result (λ list. AreBestByTables grammar.now voice.now.tables bar count list.items) }
     ensures shapes { IfOk result (λ list. All CanBePinned list.items) }
-    ensures products { (d : ℕ) → length voice.now.tables ≤ 2 ^ d → products.new ≤ risen products.old (2 * d) }
-    ensures rises { products.old ≤ products.new }
+    ensures products { RisesTwice (length voice.now.tables) products.old products.new }
 {
     let around = voice.around(bar, products);
     let input = voice.tables()[bar].input();

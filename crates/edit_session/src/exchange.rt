@@ -1,21 +1,27 @@
 ghost use Rattle.edit_session.specs.Exchange.{
-  AreVoicesAfter,
-  AreVoicesBefore,
-  Change,
+  ExchangesBar,
+  ExchangesBars,
+  ExchangesVoice,
+  ExchangesVoices,
+  HasCountWithLost,
+  HasEvenCount,
   HasPlace,
-  IsChange,
+  HasPlaceForVoice,
+  HasShortWayBack,
   IsCheapTable,
   IsLastOf,
-  IsVoiceAfter,
-  IsVoiceBefore,
-  IsVoiceUpTo,
+  IsNoMoreThanCame,
+  IsPushed,
+  IsSwapped,
+  RisesForBar,
+  RisesForBars,
+  RisesForLost,
+  RisesForVoice,
+  RisesForVoices,
   tables_of_bars,
-  table_out,
   tables_below,
 };
-ghost use Rattle.edit_session.specs.Prepared.{CellTable as SpecCellTable};
-ghost use Rattle.edit_session.specs.Products.{moved_tables};
-ghost use Rattle.rhythm_base.specs.Counter.{risen};
+ghost use Rattle.edit_session.specs.Products.{RisesOnce};
 ghost use Rattle.rhythm_base.specs.declared.limits.TheConstants.{MOST_BARS};
 ghost use Rattle.std.specs.Prelude.{
   ◌≡◌,
@@ -76,13 +82,11 @@ fn place_table<P: Tag>(
     requires room { coming.bar < voice.old.room }
     requires cheap { IsCheapTable coming }
     requires memory { coming.bar < length voice.old.tables → length gone.old.items < vec_capacity gone.old }
-    ensures swapped { coming.bar < length voice.old.tables → (voice.new.tables ≡ slice_set voice.old.tables coming.bar coming.table)
-        × (gone.new.items ≡ gone.old.items ++ table_out voice.old.tables coming ∷ []) }
-    ensures pushed { length voice.old.tables ≤ coming.bar → (voice.new.tables ≡ voice.old.tables ++ coming.table ∷ []) × (gone.new.items ≡ gone.old.items) }
+    ensures swapped { IsSwapped voice.old voice.new coming gone.old gone.new }
+    ensures pushed { IsPushed voice.old voice.new coming gone.old gone.new }
     ensures room { voice.new.room ≡ voice.old.room }
     ensures capacity { vec_capacity gone.new ≡ vec_capacity gone.old }
-    ensures products { (d : ℕ) → length voice.new.tables ≤ 2 ^ d → products.new ≤ risen products.old d }
-    ensures rises { products.old ≤ products.new }
+    ensures products { RisesOnce (length voice.new.tables) products.old products.new }
 {
     let bar = coming.bar as usize;
     if bar < voice.tables().len() {
@@ -109,21 +113,19 @@ fn exchange_bar<P: Tag>(
     requires few { bar < MOST_BARS }
     requires room { bar < voice.old.room }
     requires cheap { All IsCheapTable coming.old.items }
-    requires memory { IsLastOf coming.old.items channel bar → bar < length voice.old.tables → length gone.old.items < vec_capacity gone.old }
-    ensures exchanged { (x : Change) (first begin : List SpecCellTable) → IsChange x → Contains x.before.channels channel → bar < length x.after.bars
-        → IsVoiceUpTo x channel bar voice.old.tables first begin (reverse coming.old.items) gone.old.items
-        → IsVoiceUpTo x channel (bar + 1) voice.new.tables first begin (reverse coming.new.items) gone.new.items }
+    requires memory { IsLastOf coming.old.items channel bar → bar < length voice.old.tables
+        → length gone.old.items < vec_capacity gone.old }
+    ensures exchanged { ExchangesBar channel bar voice.old voice.new coming.old coming.new gone.old gone.new }
     ensures no_fewer { length voice.old.tables ≤ length voice.new.tables }
     ensures no_more { length voice.new.tables ≤ max (length voice.old.tables) (bar + 1) }
     ensures room { voice.new.room ≡ voice.old.room }
     ensures cheap { All IsCheapTable coming.new.items }
     ensures count { (n : ℕ) → (bar < n) ↔ (bar < length voice.old.tables)
-        → length gone.new.items + tables_below n coming.new.items ≡ length gone.old.items + tables_below n coming.old.items }
+        → HasEvenCount n coming.old coming.new gone.old gone.new }
     ensures capacity { vec_capacity gone.new ≡ vec_capacity gone.old }
     ensures capacity_coming { vec_capacity coming.new ≡ vec_capacity coming.old }
-    ensures products { (d m : ℕ) → length voice.new.tables ≤ 2 ^ d → length coming.old.items ≡ length coming.new.items + m → products.new ≤ risen products.old (m * d) }
+    ensures products { RisesForBar voice.new coming.old coming.new products.old products.new }
     ensures less { length coming.new.items ≤ length coming.old.items }
-    ensures rises { products.old ≤ products.new }
 {
     if is_last_of(coming.as_slice(), channel, bar) {
         let next = coming.take_last();
@@ -144,18 +146,16 @@ fn exchange_bars<P: Tag>(
     requires room { bars ≤ voice.old.room }
     requires cheap { All IsCheapTable coming.old.items }
     requires memory { length gone.old.items + tables_below (length voice.old.tables) coming.old.items ≤ vec_capacity gone.old }
-    ensures exchanged { (x : Change) → IsVoiceBefore x channel voice.old.tables (reverse coming.old.items) gone.old.items → bars ≡ length x.after.bars
-        → IsVoiceUpTo x channel bars voice.new.tables (reverse coming.old.items) gone.old.items (reverse coming.new.items) gone.new.items }
+    ensures exchanged { ExchangesBars channel bars voice.old voice.new coming.old coming.new gone.old gone.new }
     ensures no_fewer { length voice.old.tables ≤ length voice.new.tables }
     ensures no_more { length voice.new.tables ≤ max (length voice.old.tables) bars }
     ensures room { voice.new.room ≡ voice.old.room }
     ensures cheap { All IsCheapTable coming.new.items }
-    ensures count { length gone.new.items + tables_below (length voice.old.tables) coming.new.items ≡ length gone.old.items + tables_below (length voice.old.tables) coming.old.items }
+    ensures count { HasEvenCount (length voice.old.tables) coming.old coming.new gone.old gone.new }
     ensures capacity { vec_capacity gone.new ≡ vec_capacity gone.old }
     ensures capacity_coming { vec_capacity coming.new ≡ vec_capacity coming.old }
-    ensures products { (d m : ℕ) → length voice.old.tables ≤ 2 ^ d → bars ≤ 2 ^ d → length coming.old.items ≡ length coming.new.items + m → products.new ≤ risen products.old (m * d) }
+    ensures products { RisesForBars bars voice.old coming.old coming.new products.old products.new }
     ensures less { length coming.new.items ≤ length coming.old.items }
-    ensures rises { products.old ≤ products.new }
 {
     'bars: for number in 0..bars {
         exchange_bar(voice, channel, number as u32, coming, gone, products);
@@ -177,8 +177,7 @@ fn pop_lost<P: Tag>(
     ensures gone { gone.new.items ≡ gone.old.items ++ reverse (tables_of_bars channel bars (drop bars voice.old.tables)) }
     ensures room { voice.new.room ≡ voice.old.room }
     ensures capacity { vec_capacity gone.new ≡ vec_capacity gone.old }
-    ensures products { (d : ℕ) → length voice.old.tables ≤ 2 ^ d → products.new ≤ risen products.old ((length voice.old.tables - bars) * d) }
-    ensures rises { products.old ≤ products.new }
+    ensures products { RisesForLost bars voice.old products.old products.new }
 {
     'lost: while voice.tables().len() > bars {
         let table = voice.pop(products);
@@ -214,8 +213,7 @@ fn give_lost<P: Tag>(
     ensures gone { gone.new.items ≡ gone.old.items ++ tables_of_bars channel bars (drop bars voice.old.tables) }
     ensures room { voice.new.room ≡ voice.old.room }
     ensures capacity { vec_capacity gone.new ≡ vec_capacity gone.old }
-    ensures products { (d : ℕ) → length voice.old.tables ≤ 2 ^ d → products.new ≤ risen products.old ((length voice.old.tables - bars) * d) }
-    ensures rises { products.old ≤ products.new }
+    ensures products { RisesForLost bars voice.old products.old products.new }
 {
     let start = gone.len();
     pop_lost(voice, channel, bars, gone, products);
@@ -236,19 +234,15 @@ fn exchange_voice<P: Tag>(
     requires few_before { length voice.old.tables ≤ MOST_BARS }
     requires room { bars ≤ voice.old.room }
     requires cheap { All IsCheapTable coming.old.items }
-    requires memory { length gone.old.items + tables_below (length voice.old.tables) coming.old.items + (length voice.old.tables - bars) ≤ vec_capacity gone.old }
-    ensures exchanged { (x : Change) → IsVoiceBefore x channel voice.old.tables (reverse coming.old.items) gone.old.items → bars ≡ length x.after.bars
-        → IsVoiceAfter x channel voice.new.tables (reverse coming.old.items) gone.old.items (reverse coming.new.items) gone.new.items }
+    requires memory { HasPlaceForVoice bars voice.old coming.old gone.old }
+    ensures exchanged { ExchangesVoice channel bars voice.old voice.new coming.old coming.new gone.old gone.new }
     ensures room { voice.new.room ≡ voice.old.room }
     ensures cheap { All IsCheapTable coming.new.items }
-    ensures count { length gone.new.items + tables_below (length voice.old.tables) coming.new.items
-        ≡ length gone.old.items + tables_below (length voice.old.tables) coming.old.items + (length voice.old.tables - bars) }
+    ensures count { HasCountWithLost bars voice.old coming.old coming.new gone.old gone.new }
     ensures capacity { vec_capacity gone.new ≡ vec_capacity gone.old }
     ensures capacity_coming { vec_capacity coming.new ≡ vec_capacity coming.old }
-    ensures products { (d m : ℕ) → length voice.old.tables ≤ 2 ^ d → bars ≤ 2 ^ d → length coming.old.items ≡ length coming.new.items + m
-        → products.new ≤ risen products.old ((m + (length voice.old.tables - bars)) * d) }
+    ensures products { RisesForVoice bars voice.old coming.old coming.new products.old products.new }
     ensures less { length coming.new.items ≤ length coming.old.items }
-    ensures rises { products.old ≤ products.new }
 {
     exchange_bars(voice, channel, bars, coming, gone, products);
     give_lost(voice, channel, bars, gone, products);
@@ -270,15 +264,13 @@ fn exchange_voices<P: Tag>(
     requires cheap { All IsCheapTable coming.old.items }
     requires none { gone.old.items ≡ [] }
     requires memory { HasPlace voices.old bars coming.old.items (vec_capacity gone.old) }
-    ensures exchanged { (x : Change) → AreVoicesBefore x voices.old (reverse coming.old.items) → channels.now ≡ x.before.channels → bars ≡ length x.after.bars
-        → AreVoicesAfter x voices.new gone.new.items (length coming.old.items) }
+    ensures exchanged { ExchangesVoices channels.now bars voices.old voices.new (reverse coming.old.items)
+        gone.new.items (length coming.old.items) }
     ensures voices { length voices.new ≡ length voices.old }
     ensures room { (n : ℕ) → All (λ v. n ≤ v.room) voices.old → All (λ v. n ≤ v.room) voices.new }
-    ensures count { (n : ℕ) → All (λ v. length v.tables ≡ n) voices.old → length gone.new.items ≤ length coming.old.items + length voices.old * (n - bars) }
-    ensures products { (d n : ℕ) → All (λ v. length v.tables ≡ n) voices.old → n ≤ 2 ^ d → bars ≤ 2 ^ d
-        → products.new ≤ risen products.old ((length coming.old.items + length voices.old * (n - bars)) * d) }
+    ensures count { IsNoMoreThanCame bars voices.old coming.old.items gone.new.items }
+    ensures products { RisesForVoices bars voices.old coming.old.items products.old products.new }
     ensures capacity { vec_capacity coming.new ≡ vec_capacity coming.old }
-    ensures rises { products.old ≤ products.new }
 {
     'voices: for number in 0..voices.len() {
         let channel = channels[number];
@@ -303,16 +295,13 @@ pub fn exchange<P: Tag>(
     requires cheap { All IsCheapTable tables.items }
     requires none { place.items ≡ [] }
     requires memory { HasPlace voices.old bars tables.items (vec_capacity place) }
-    ensures exchanged { (x : Change) → AreVoicesBefore x voices.old tables.items → channels.now ≡ x.before.channels → bars ≡ length x.after.bars
-        → AreVoicesAfter x voices.new result.tables.items (vec_capacity result.place) }
+    ensures exchanged { ExchangesVoices channels.now bars voices.old voices.new tables.items
+        result.tables.items (vec_capacity result.place) }
     ensures voices { length voices.new ≡ length voices.old }
     ensures room { (n : ℕ) → All (λ v. n ≤ v.room) voices.old → All (λ v. n ≤ v.room) voices.new }
     ensures none { result.place.items ≡ [] }
-    ensures way_back { (x : Change) → AreVoicesBefore x voices.old tables.items → channels.now ≡ x.before.channels → bars ≡ length x.after.bars
-        → moved_tables x.after x.before (length result.tables.items) ≤ moved_tables x.before x.after (length tables.items) }
-    ensures products { (d n : ℕ) → All (λ v. length v.tables ≡ n) voices.old → n ≤ 2 ^ d → bars ≤ 2 ^ d
-        → products.new ≤ risen products.old ((length tables.items + length voices.old * (n - bars)) * d) }
-    ensures rises { products.old ≤ products.new }
+    ensures way_back { HasShortWayBack channels.now bars voices.old tables.items result.tables.items }
+    ensures products { RisesForVoices bars voices.old tables.items products.old products.new }
 {
     let mut coming = tables;
     let mut gone = place;

@@ -61,7 +61,8 @@ pub fn voice_inputs(
     requires tempos { tempo_map.now.tempos ≡ performance.now.tempos }
     ensures inputs { IfOk result (λ v. AreInputsOfVoice grammar.now performance.now channel v.items) }
     ensures starts { IfOk result (λ _. HasStarts grammar.now performance.now.bars) }
-    ensures no_start { (bar num den : ℕ) → result ≡ Err (CutFault.NoStart bar num den) → IsFirstWithoutStart grammar.now performance.now.bars bar num den }
+    ensures no_start { (bar n d : ℕ) → result ≡ Err (CutFault.NoStart bar n d)
+        → IsFirstWithoutStart grammar.now performance.now.bars bar n d }
 {
     let chords = voice_chords(alloc, grammar, performance, tempo_map, channel)?;
     cut(

@@ -16,8 +16,7 @@ use bar_pool::{Order, Rooms, build_cells};
 use grammar_plan::Plan;
 use least_cost::{BarTable, Steps};
 use rhythm_base::{Grammar, MOST_CELLS, Performance, Tag};
-use rhythm_ports::Gate;
-use std::alloc::Global;
+use rhythm_ports::{Gate, Means};
 use std::thread::Threads;
 
 /// Whether there are few enough cells.
@@ -44,12 +43,10 @@ pub struct PlannedTables {
 /// The plan and the tables of the cells: each table is built once, and none where there are too many cells or where a root symbol
 /// is wanting.
 pub fn cell_tables<R: Threads + Sync, G: Gate + Sync, B: Tag>(
-    rt: &R,
-    alloc: Global,
+    means: &Means<'_, R, G>,
     grammar: &Grammar,
     performance: &Performance,
     workers: u32,
-    gate: &G,
     builds: &mut Steps<B>,
 ) -> Result<PlannedTables, OpenFault>
     requires some_worker { 1 ≤ workers }
@@ -62,19 +59,17 @@ pub fn cell_tables<R: Threads + Sync, G: Gate + Sync, B: Tag>(
     ensures tables { IfOk result (λ opening. AreCellTables grammar.now performance.now opening.tables.items) }
     ensures fault { IfErr result (IsOpenFault grammar.now performance.now) }
     ensures builds { OnOk result (builds.new ≡ risen builds.old (cells_of performance.now)) }
-    ensures built { IfErr result (IsBuilt builds.old builds.new (risen builds.old (cells_of performance.now))) }
-    ensures rises { builds.old ≤ builds.new }
+    ensures built { IfErr result (IsBuilt builds.old builds.new (cells_of performance.now)) }
 {
     check_cells(performance)?;
-    let inputs = cell_inputs(alloc, grammar, performance)?;
-    let plan = Plan::of(alloc, grammar)?;
+    let inputs = cell_inputs(means.alloc, grammar, performance)?;
+    let plan = Plan::of(means.alloc, grammar)?;
     let order = Order {
         grammar,
         plan: &plan,
         inputs: inputs.as_slice(),
-        gate,
     };
-    let mut rooms = Rooms::new(alloc);
-    let tables = build_cells(rt, alloc, &order, workers, &mut rooms, builds)?;
+    let mut rooms = Rooms::new(means.alloc);
+    let tables = build_cells(means, &order, workers, &mut rooms, builds)?;
     Ok(PlannedTables { plan, tables })
 }

@@ -2,7 +2,8 @@ ghost use Rattle.bar_cut.specs.Cuts.{AreBarsAndChords, inputs};
 ghost use Rattle.edit_session.specs.ChangedVoices.{LeavesOthers};
 ghost use Rattle.edit_session.specs.Inputs.{AreInputsOfVoice};
 ghost use Rattle.edit_session.specs.Kept.{AreTablesOfVoice};
-ghost use Rattle.edit_session.specs.ReachedCells.{AreOtherInputs, AreOtherInputsWithin, AreReachedInputs, HasOtherInput, place_pair};
+ghost use Rattle.edit_session.specs.OtherCells.{AreOthersInSpan, AreOthersOfVoice, IsKnownVoice};
+ghost use Rattle.edit_session.specs.ReachedCells.{AreOtherInputs, AreReachedInputs, HasOtherInput, place_pair};
 ghost use Rattle.edit_session.specs.Spans.{IsKnown};
 ghost use Rattle.rhythm_base.specs.BarInput.{BarInput};
 ghost use Rattle.rhythm_base.specs.Lists.{Each};
@@ -91,9 +92,8 @@ fn other_inputs_within(
     requires starts { HasStarts grammar.now performance.now.bars }
     requires chords { AreBarsAndChords performance.now.bars performance.now.last chords.now }
     requires end { span.bar_end ≤ length performance.now.bars }
-    ensures { IfOk result (λ r. AreOtherInputsWithin channel
-        (inputs grammar.now performance.now.pins channel performance.now.last performance.now.bars chords.now) tables.now
-        span.first_bar span.bar_end (map place_pair r.cells.items) r.inputs.items) }
+    ensures { IfOk result (λ r. AreOthersInSpan grammar.now performance.now channel chords.now tables.now
+        span r.cells.items r.inputs.items) }
 {
     let bars = performance.bars();
     let last = performance.last();
@@ -134,8 +134,8 @@ fn near_reached(
     requires starts { HasStarts grammar.now after.now.bars }
     requires known { IsKnown known.before.now after.now known.first_bar known.bar_end }
     requires tables { AreTablesOfVoice grammar.now known.before.now channel tables.now }
-    ensures { IfOk result (λ r. (inputs : List BarInput) × AreInputsOfVoice grammar.now after.now channel inputs
-        × AreOtherInputs channel inputs tables.now (length inputs) (map place_pair r.cells.items) r.inputs.items) }
+    ensures { IfOk result (λ r. AreOthersOfVoice grammar.now after.now channel tables.now
+        r.cells.items r.inputs.items) }
 {
     let earlier = voice_notes(known.before.notes(), channel);
     let notes = voice_notes(after.notes(), channel);
@@ -163,8 +163,8 @@ fn whole_reached(
     requires readable { IsReadable grammar.now }
     requires formed { IsWellFormed performance.now }
     requires tempos { tempo_map.now.tempos ≡ performance.now.tempos }
-    ensures { IfOk result (λ r. (inputs : List BarInput) × AreInputsOfVoice grammar.now performance.now channel inputs
-        × AreOtherInputs channel inputs tables.now (length inputs) (map place_pair r.cells.items) r.inputs.items) }
+    ensures { IfOk result (λ r. AreOthersOfVoice grammar.now performance.now channel tables.now
+        r.cells.items r.inputs.items) }
 {
     let chords = voice_chords(alloc, grammar, performance, tempo_map, channel)?;
     let bars = performance.bars();
@@ -201,10 +201,9 @@ fn voice_reached(
     requires formed { IsWellFormed performance.now }
     requires tempos { tempo_map.now.tempos ≡ performance.now.tempos }
     requires starts { HasStarts grammar.now performance.now.bars }
-    requires known { IfSome known (λ k. IsWellFormed k.before.now × IsKnown k.before.now performance.now k.first_bar k.bar_end
-        × AreTablesOfVoice grammar.now k.before.now channel tables.now) }
-    ensures { IfOk result (λ r. (inputs : List BarInput) × AreInputsOfVoice grammar.now performance.now channel inputs
-        × AreOtherInputs channel inputs tables.now (length inputs) (map place_pair r.cells.items) r.inputs.items) }
+    requires known { IfSome known (IsKnownVoice grammar.now performance.now channel tables.now) }
+    ensures { IfOk result (λ r. AreOthersOfVoice grammar.now performance.now channel tables.now
+        r.cells.items r.inputs.items) }
 {
     match known {
         Some(known) => near_reached(

@@ -1,11 +1,11 @@
 ghost use Rattle.edit_session.specs.Kept.{AreTablesOfVoice, AreTablesOfVoices};
+ghost use Rattle.edit_session.specs.BarsInForce.{bar_in_force};
 ghost use Rattle.edit_session.specs.VoiceTables.{HasPath};
 ghost use Rattle.derivation.specs.PerformanceScore as performed;
 ghost use Rattle.derivation.specs.PerformanceScore.{AreLeastSounds, IsScoreOf};
 ghost use Rattle.rhythm_base.specs.Lists.{Each};
 ghost use Rattle.rhythm_base.specs.Performance.{IsWellFormed};
 ghost use Rattle.rhythm_base.specs.Readable.{IsReadable};
-ghost use Rattle.rhythm_base.specs.Time.{key_at, tempo_at};
 ghost use Rattle.rhythm_base.specs.Voices.{HasStarts};
 ghost use Rattle.rhythm_base.specs.declared.limits.TheConstants.{LATEST_TICK};
 ghost use Rattle.std.specs.Prelude.{◌≡◌, ◌≤◌, All, IfOk, map};
@@ -21,12 +21,7 @@ use tempo_map::TempoMap;
 /// A bar with the tempo and the key in force at its start.
 fn score_bar(bar: Bar, tempo_map: &TempoMap) -> ScoreBar
     requires { bar.start ≤ LATEST_TICK }
-    ensures { result ≡ record {
-      num = bar.num;
-      den = bar.den;
-      tempo = tempo_at tempo_map.now.tempos bar.start;
-      sf = key_at tempo_map.now.key_marks bar.start;
-    } }
+    ensures { result ≡ bar_in_force tempo_map.now.tempos tempo_map.now.key_marks bar }
 {
     ScoreBar {
         num: bar.num,

@@ -1,7 +1,20 @@
-ghost use Rattle.bar_pool.specs.Pool.{AreTablesOf};
+ghost use Rattle.bar_pool.specs.Pool.{AreTablesOf, RisesWithin};
 ghost use Rattle.bar_pool.specs.declared.limits.TheConstants.{MOST_WORKERS};
 ghost use Rattle.edit_session.specs.Asking.{CanBePinned, IsAskFault};
 ghost use Rattle.edit_session.specs.ChangedVoices.{LeavesOthers};
+ghost use Rattle.edit_session.specs.Effects.{
+  AllLive,
+  HasBuiltInVain,
+  HasMultiplied,
+  HasMultipliedFor,
+  IsApplied,
+  IsCommitted,
+  IsGivenUp,
+  IsRejected,
+  IsUnprepared,
+  IsWayBack,
+  IsWithinReached,
+};
 ghost use Rattle.edit_session.specs.Opening.{CanOpen, IsBuilt, IsOpenFault, cells_of};
 ghost use Rattle.edit_session.specs.declared.open_fault.OpenFault.TheVariants.{Cells, Memory, NoDerivation, NoStart};
 ghost use Rattle.derivation.specs.PerformanceScore.{score_bar};
@@ -11,18 +24,15 @@ ghost use Rattle.rhythm_base.specs.Counter.{risen};
 ghost use Rattle.rhythm_base.specs.Performance.{IsWellFormed};
 ghost use Rattle.rhythm_base.specs.Readable.{IsReadable};
 ghost use Rattle.tree_laws.specs.Alternatives.{AreBestOfBar};
-ghost use Rattle.edit_laws.specs.EditOutcomes.{IsOutcome, made, refused};
-ghost use Rattle.rhythm_base.specs.Voices.{HasDerivation, IsCostOf, IsDeadVoice, HasStarts};
+ghost use Rattle.rhythm_base.specs.Voices.{HasDerivation, HasStarts, IsCostOf};
 ghost use Rattle.rhythm_base.specs.declared.limits.TheConstants.{LONGEST_SCORE, MOST_BARS, MOST_CELLS, MOST_NOTES};
 ghost use Rattle.edit_session.specs.Prepared.{RisesBy, Suits, bar_table_of, cell_of};
-ghost use Rattle.edit_session.specs.Products.{AreProductsOf, AreProductsOfEdit, changes_made};
+ghost use Rattle.edit_session.specs.Products.{RisesTwice, changes_made};
 ghost use Rattle.edit_session.specs.ReachedCells.{place_pair};
 ghost use Rattle.edit_laws.specs.Edits as edits;
 ghost use Rattle.rhythm_base.specs.EditRanges.{IsEditInRange};
-ghost use Rattle.edit_laws.specs.Reached.{AreReached, WouldReach};
-ghost use Rattle.rhythm_base.specs.declared.edit_fault.EditFault.TheVariants as faults;
-ghost use Rattle.rhythm_base.specs.declared.edit_fault.EditFault.{EditFault};
-ghost use Rattle.std.specs.Prelude.{◌≡◌, ◌≢◌, ◌≤◌, ◌<◌, ◌*◌, ◌^◌, ℕ, All, Err, IfErr, IfOk, IsOk, List, None, Ok, OnErr, OnOk, length, map};
+ghost use Rattle.edit_laws.specs.Reached.{AreReached};
+ghost use Rattle.std.specs.Prelude.{◌≡◌, ◌≤◌, ℕ, All, Err, IfErr, IfOk, List, None, Ok, OnErr, OnOk, length, map, max};
 
 use crate::ask_fault::AskFault;
 use crate::asking::{alternatives_of, place_of};
@@ -47,7 +57,7 @@ use kern_writer::{ScoreFault, write_kern};
 use least_cost::Steps as Builds;
 use performance_edit::edited;
 use rhythm_base::{Edit, EditFault, Grammar, Performance, Tag};
-use rhythm_ports::Gate;
+use rhythm_ports::{Gate, Means};
 use std::alloc::{AllocError, Global};
 use std::marker::Model;
 use std::mem;
@@ -83,12 +93,10 @@ impl Model for Session {
 impl Session {
     /// Opens a session on a performance: each cell is built once, by up to so many workers, 1 to 16.
     pub fn open<R: Threads + Sync, G: Gate + Sync, B: Tag, P: Tag>(
-        rt: &R,
-        alloc: Global,
+        means: &Means<'_, R, G>,
         performance: Performance,
         grammar: Grammar,
         workers: u32,
-        gate: &G,
         builds: &mut Builds<B>,
         products: &mut Products<P>,
     ) -> Result<Session, OpenFault>
@@ -102,15 +110,14 @@ impl Session {
         ensures opened { OnOk result (CanOpen grammar performance) }
         ensures fault { IfErr result (IsOpenFault grammar performance) }
         ensures builds { OnOk result (builds.new ≡ risen builds.old (cells_of performance)) }
-        ensures built { IfErr result (IsBuilt builds.old builds.new (risen builds.old (cells_of performance))) }
-        ensures rises { builds.old ≤ builds.new }
+        ensures built { IfErr result (IsBuilt builds.old builds.new (cells_of performance)) }
         ensures products { products.old ≤ products.new }
     {
-        let opening = cell_tables(rt, alloc, &grammar, &performance, workers, gate, builds)?;
+        let opening = cell_tables(means, &grammar, &performance, workers, builds)?;
         let PlannedTables { plan, tables } = opening;
         let bars = performance.bars().len();
         let count = performance.channels().len();
-        let voices = voices_of(alloc, tables, count, bars, products)?;
+        let voices = voices_of(means.alloc, tables, count, bars, products)?;
         if let Some(dead) = first_dead_voice(voices.as_slice()) {
             return Err(OpenFault::NoDerivation {
                 channel: performance.channels()[dead.voice],
@@ -160,8 +167,7 @@ impl Session {
         ensures best { IfOk result (λ list. AreBestOfBar self.now.grammar self.now.performance channel bar count list.items) }
         ensures shapes { IfOk result (λ list. All CanBePinned list.items) }
         ensures fault { IfErr result (IsAskFault self.now.performance channel bar) }
-        ensures products { (d : ℕ) → length self.now.performance.bars ≤ 2 ^ d → products.new ≤ risen products.old (2 * d) }
-        ensures rises { products.old ≤ products.new }
+        ensures products { RisesTwice (length self.now.performance.bars) products.old products.new }
     {
         let Some(place) = place_of(self.performance.channels(), channel) else {
             return Err(AskFault::NoVoice(channel));
@@ -220,8 +226,8 @@ impl Session {
         ensures grammar { self.new.grammar ≡ self.old.grammar }
         ensures workers { self.new.workers ≡ self.old.workers }
         ensures performance { self.new.performance ≡ self.old.performance }
-        ensures room { self.old.room ≤ self.new.room }
-        ensures ok { OnOk result (bars ≤ self.new.room) }
+        ensures ok { OnOk result (self.new.room ≡ max self.old.room bars) }
+        ensures err { OnErr result (self.new.room ≡ self.old.room) }
     {
         reserve_all(self.voices.as_mut_slice(), bars)?;
         self.room = self.room.max(bars);
@@ -231,10 +237,8 @@ impl Session {
     /// The table of each of these cells: each is built once.
     fn reached_tables<R: Threads + Sync, G: Gate + Sync, B: Tag>(
         &self,
-        rt: &R,
-        alloc: Global,
+        means: &Means<'_, R, G>,
         reached: &ReachedCells,
-        gate: &G,
         builds: &mut Builds<B>,
     ) -> Result<Vec<CellTable>, AllocError>
         requires units { All (λ k. k.resolution ≡ self.now.grammar.resolution) reached.now.inputs.items }
@@ -242,29 +246,25 @@ impl Session {
         ensures cells { IfOk result (λ v. map cell_of v.items ≡ map place_pair reached.now.cells.items) }
         ensures tables { IfOk result (λ v. AreTablesOf self.now.grammar reached.now.inputs.items (map bar_table_of v.items)) }
         ensures builds { OnOk result (builds.new ≡ risen builds.old (length reached.now.cells.items)) }
-        ensures most { builds.new ≤ risen builds.old (length reached.now.cells.items) }
-        ensures rises { builds.old ≤ builds.new }
+        ensures most { RisesWithin builds.old builds.new (length reached.now.cells.items) }
     {
         let inputs = reached.inputs.as_slice();
         let order = Order {
             grammar: &self.grammar,
             plan: &self.plan,
             inputs,
-            gate,
         };
-        let mut rooms = Rooms::new(alloc);
-        let tables = build_cells(rt, alloc, &order, self.workers, &mut rooms, builds)?;
-        placed_tables(alloc, reached.cells.as_slice(), tables)
+        let mut rooms = Rooms::new(means.alloc);
+        let tables = build_cells(means, &order, self.workers, &mut rooms, builds)?;
+        placed_tables(means.alloc, reached.cells.as_slice(), tables)
     }
 
     /// The tables of the cells that the change to another performance reaches, and memory for those that they replace.
     fn prepare_next<R: Threads + Sync, G: Gate + Sync, B: Tag>(
         &self,
-        rt: &R,
-        alloc: Global,
+        means: &Means<'_, R, G>,
         next: Performance,
         changed: Option<u8>,
-        gate: &G,
         builds: &mut Builds<B>,
     ) -> Result<Prepared, AllocError>
         requires formed { IsWellFormed next }
@@ -278,17 +278,16 @@ impl Session {
         ensures next { IfOk result (λ x. x.next ≡ next) }
         ensures suits { IfOk result (λ x. Suits self.now.grammar self.now.performance x) }
         ensures builds { IfOk result (λ x. builds.new ≡ risen builds.old (length x.tables)) }
-        ensures most { RisesBy builds.old builds.new (λ n. (cells : List (ℕ × ℕ)) → AreReached self.now.grammar self.now.performance next cells → n ≤ length cells) }
-        ensures rises { builds.old ≤ builds.new }
+        ensures most { RisesBy builds.old builds.new (IsWithinReached self.now next) }
     {
         let voices = self.voices.as_slice();
         let grammar = &self.grammar;
         let before = &self.performance;
-        let reached = reached_cells(alloc, grammar, before, &next, changed, voices)?;
-        let tables = self.reached_tables(rt, alloc, &reached, gate, builds)?;
+        let reached = reached_cells(means.alloc, grammar, before, &next, changed, voices)?;
+        let tables = self.reached_tables(means, &reached, builds)?;
         let bars = self.performance.bars().len();
         let lost = bars.saturating_sub(next.bars().len());
-        let place = place_for(alloc, tables.len(), voices.len(), lost)?;
+        let place = place_for(means.alloc, tables.len(), voices.len(), lost)?;
         Ok(Prepared::of(next, tables, place))
     }
 
@@ -296,27 +295,22 @@ impl Session {
     /// each voice has a derivation is asked afterwards.
     pub fn prepare<R: Threads + Sync, G: Gate + Sync, B: Tag>(
         &self,
-        rt: &R,
-        alloc: Global,
+        means: &Means<'_, R, G>,
         edit: &Edit,
-        gate: &G,
         builds: &mut Builds<B>,
     ) -> Result<Prepared, EditFault>
         requires { IsEditInRange edit.now }
         ensures next { IfOk result (λ x. edits.edited self.now.performance edit.now ≡ Ok x.next) }
         ensures suits { IfOk result (λ x. Suits self.now.grammar self.now.performance x) }
         ensures builds { IfOk result (λ x. builds.new ≡ risen builds.old (length x.tables)) }
-        ensures refused { (fault : EditFault) → result ≡ Err fault → fault ≢ faults.Memory → edits.edited self.now.performance edit.now ≡ Err fault }
-        ensures memory { result ≡ Err faults.Memory → IsOk (edits.edited self.now.performance edit.now) }
-        ensures unbuilt { (fault : EditFault) → result ≡ Err fault → fault ≢ faults.Memory → builds.new ≡ builds.old }
-        ensures most { RisesBy builds.old builds.new (λ n. (cells : List (ℕ × ℕ)) → WouldReach self.now.grammar self.now.performance edit.now cells → n ≤ length cells) }
-        ensures rises { builds.old ≤ builds.new }
+        ensures refused { IfErr result (IsUnprepared self.now.performance edit.now) }
+        ensures built { IfErr result (HasBuiltInVain self.now edit.now builds.old builds.new) }
     {
-        match edited(alloc, &self.performance, edit) {
+        match edited(means.alloc, &self.performance, edit) {
             Err(fault) => Err(fault),
             Ok(next) => {
                 let changed = changed_channel(edit);
-                match self.prepare_next(rt, alloc, next, changed, gate, builds) {
+                match self.prepare_next(means, next, changed, builds) {
                     Ok(prepared) => Ok(prepared),
                     Err(_error) => Err(EditFault::Memory),
                 }
@@ -335,21 +329,10 @@ impl Session {
     ) -> Result<Committed, Dead>
         requires suits { Suits self.old.grammar self.old.performance prepared }
         requires room { length prepared.next.bars ≤ self.old.room }
-        ensures grammar { self.new.grammar ≡ self.old.grammar }
-        ensures workers { self.new.workers ≡ self.old.workers }
-        ensures room { self.new.room ≡ self.old.room }
-        ensures performance { OnOk result (self.new.performance ≡ prepared.next) }
-        ensures derivations { OnOk result (All (HasDerivation self.old.grammar prepared.next) prepared.next.channels) }
-        ensures built { IfOk result (λ c. c.applied.built ≡ length prepared.tables) }
-        ensures cost { IfOk result (λ c. IsCostOf self.old.grammar prepared.next c.applied.cost) }
-        ensures back { IfOk result (λ c. c.back.next ≡ self.old.performance) }
-        ensures suits_back { IfOk result (λ c. Suits self.new.grammar self.new.performance c.back) }
-        ensures room_back { IfOk result (λ c. length c.back.next.bars ≤ self.new.room) }
-        ensures dead { IfErr result (λ dead. IsDeadVoice self.old.grammar prepared.next dead.channel dead.bar) }
-        ensures lives { OnErr result (All (HasDerivation self.old.grammar prepared.next) prepared.next.channels → ⊥) }
-        ensures unchanged { OnErr result (self.new.performance ≡ self.old.performance) }
-        ensures products { AreProductsOf (changes_made result) self.old.grammar self.old.performance prepared.next products.old products.new }
-        ensures rises { products.old ≤ products.new }
+        ensures made { IfOk result (IsCommitted self.old prepared self.new) }
+        ensures given_up { IfErr result (IsGivenUp self.old prepared) }
+        ensures unchanged { OnErr result (self.new ≡ self.old) }
+        ensures products { HasMultiplied (changes_made result) self.old prepared.next products.old products.new }
     {
         let built = prepared.tables();
         let (next, tables, place) = prepared.parts();
@@ -377,19 +360,10 @@ impl Session {
     pub fn take_back<P: Tag>(&mut self, back: Prepared, products: &mut Products<P>) -> Committed
         requires suits { Suits self.old.grammar self.old.performance back }
         requires formed { IsWellFormed back.next }
-        requires derivations { All (HasDerivation self.old.grammar back.next) back.next.channels }
+        requires derivations { AllLive self.old.grammar back.next }
         requires room { length back.next.bars ≤ self.old.room }
-        ensures grammar { self.new.grammar ≡ self.old.grammar }
-        ensures workers { self.new.workers ≡ self.old.workers }
-        ensures room { self.new.room ≡ self.old.room }
-        ensures performance { self.new.performance ≡ back.next }
-        ensures built { result.applied.built ≡ length back.tables }
-        ensures cost { IsCostOf self.new.grammar self.new.performance result.applied.cost }
-        ensures back { result.back.next ≡ self.old.performance }
-        ensures suits_back { Suits self.new.grammar self.new.performance result.back }
-        ensures room_back { length result.back.next.bars ≤ self.new.room }
-        ensures products { AreProductsOf 1 self.old.grammar self.old.performance back.next products.old products.new }
-        ensures rises { products.old ≤ products.new }
+        ensures made { IsCommitted self.old back self.new result }
+        ensures products { HasMultiplied 1 self.old back.next products.old products.new }
     {
         match self.commit(back, products) {
             Ok(committed) => committed,
@@ -397,45 +371,56 @@ impl Session {
         }
     }
 
-    /// Makes an edit, or says why it is refused: `prepare`, `reserve` and `commit`. All memory is taken before the session
-    /// changes, and after each refusal it is as before. The products are those of `commit`, and none where the edit is refused
-    /// for anything but a voice that would have no derivation.
-    pub fn apply<R: Threads + Sync, G: Gate + Sync, B: Tag, P: Tag>(
+    /// Makes an edit, and gives the way back; or says why it is refused: `prepare`, `reserve` and `commit`. All memory is taken before
+    /// the session changes, and after each refusal it stands where it stood. The products are those of `commit`, and none where the
+    /// edit is refused for anything but a voice that would have no derivation.
+    pub fn make_edit<R: Threads + Sync, G: Gate + Sync, B: Tag, P: Tag>(
         &mut self,
-        rt: &R,
-        alloc: Global,
+        means: &Means<'_, R, G>,
         edit: &Edit,
-        gate: &G,
         builds: &mut Builds<B>,
         products: &mut Products<P>,
-    ) -> Result<Applied, EditFault>
+    ) -> Result<Committed, EditFault>
         requires { IsEditInRange edit.now }
-        ensures grammar { self.new.grammar ≡ self.old.grammar }
-        ensures workers { self.new.workers ≡ self.old.workers }
-        ensures room { self.old.room ≤ self.new.room }
-        ensures made { IfOk result (λ a. IsOutcome self.old.grammar self.old.performance edit.now (made a.built a.cost) self.new.performance) }
-        ensures derivations { OnOk result (All (HasDerivation self.new.grammar self.new.performance) self.new.performance.channels) }
-        ensures refused { (fault : EditFault) → result ≡ Err fault → fault ≢ faults.Memory
-            → IsOutcome self.old.grammar self.old.performance edit.now (refused fault) self.new.performance }
-        ensures memory { result ≡ Err faults.Memory → IsOk (edits.edited self.old.performance edit.now) }
-        ensures unchanged { OnErr result (self.new.performance ≡ self.old.performance) }
-        ensures builds { IfOk result (λ a. builds.new ≡ risen builds.old a.built) }
-        ensures most { RisesBy builds.old builds.new (λ n. (cells : List (ℕ × ℕ)) → WouldReach self.old.grammar self.old.performance edit.now cells → n ≤ length cells) }
-        ensures rises { builds.old ≤ builds.new }
-        ensures products { AreProductsOfEdit self.old.grammar self.old.performance edit.now result products.old products.new }
-        ensures products_rise { products.old ≤ products.new }
+        ensures made { IfOk result (λ c. IsApplied self.old edit.now self.new c.applied) }
+        ensures way_back { IfOk result (λ c. IsWayBack self.old self.new c.back) }
+        ensures rejected { IfErr result (IsRejected self.old edit.now self.new) }
+        ensures builds { IfOk result (λ c. builds.new ≡ risen builds.old c.applied.built) }
+        ensures built { IfErr result (HasBuiltInVain self.old edit.now builds.old builds.new) }
+        ensures products { HasMultipliedFor self.old edit.now result products.old products.new }
     {
-        let prepared = self.prepare(rt, alloc, edit, gate, builds)?;
+        let prepared = self.prepare(means, edit, builds)?;
         let bars = prepared.next().bars().len() as u32;
         if let Err(_error) = self.reserve(bars) {
             return Err(EditFault::Memory);
         }
         match self.commit(prepared, products) {
+            Ok(committed) => Ok(committed),
             Err(dead) => Err(EditFault::NoDerivation {
                 channel: dead.channel,
                 bar: dead.bar,
             }),
-            Ok(committed) => Ok(committed.applied),
+        }
+    }
+
+    /// Makes an edit, or says why it is refused, as `make_edit` does.
+    pub fn apply<R: Threads + Sync, G: Gate + Sync, B: Tag, P: Tag>(
+        &mut self,
+        means: &Means<'_, R, G>,
+        edit: &Edit,
+        builds: &mut Builds<B>,
+        products: &mut Products<P>,
+    ) -> Result<Applied, EditFault>
+        requires { IsEditInRange edit.now }
+        ensures made { IfOk result (IsApplied self.old edit.now self.new) }
+        ensures rejected { IfErr result (IsRejected self.old edit.now self.new) }
+        ensures builds { IfOk result (λ a. builds.new ≡ risen builds.old a.built) }
+        ensures built { IfErr result (HasBuiltInVain self.old edit.now builds.old builds.new) }
+        ensures products { HasMultipliedFor self.old edit.now result products.old products.new }
+    {
+        match self.make_edit(means, edit, builds, products) {
+            Ok(made) => Ok(made.applied),
+            Err(fault) => Err(fault),
         }
     }
 }

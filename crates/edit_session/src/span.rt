@@ -1,4 +1,4 @@
-ghost use Rattle.edit_session.specs.Spans.{AreSameBefore, AreSameFrom, IsBarEnd, IsFirstBar, IsNotePart, IsNoteSpan};
+ghost use Rattle.edit_session.specs.Spans.{AreSameBefore, AreSameFrom, IsBarEnd, IsFirstBar, IsNotePart, IsSpanOf};
 ghost use Rattle.rhythm_base.specs.Barlines.{barline};
 ghost use Rattle.rhythm_base.specs.Performance.{IsWellFormed};
 ghost use Rattle.std.specs.List.{AllWithin};
@@ -202,7 +202,7 @@ pub fn span_of(
     requires after { AreNotesOfVoice after.now }
     requires formed { IsWellFormed performance.now }
     requires end { bar_end ≤ length performance.now.bars }
-    ensures { IsNoteSpan tempo_map.now.tempos performance.now.division window before.now after.now performance.now.bars performance.now.last first_bar bar_end result }
+    ensures { IsSpanOf tempo_map.now.tempos performance.now window before.now after.now first_bar bar_end result }
 {
     let division = performance.division();
     let bars = performance.bars();

@@ -2,9 +2,9 @@ ghost use Rattle.rhythm_base.specs.declared.limits.TheConstants.{DEAREST_CELL, M
 ghost use Rattle.bar_alternatives.specs.Laws.{costs_after, costs_before};
 ghost use Rattle.chain_bars.specs.Laws.{matrices};
 ghost use Rattle.chain_bars.specs.Walks.{AreCarries};
+ghost use Rattle.edit_session.specs.Products.{RisesOnce, RisesTwice};
 ghost use Rattle.edit_session.specs.VoiceTables.{HasPath, HasTables, IsGrown, path_cost};
 ghost use Rattle.rhythm_base.specs.BarTables.{BarTable};
-ghost use Rattle.rhythm_base.specs.Counter.{risen};
 ghost use Rattle.rhythm_base.specs.Paths.{AreCheap, IsCheap, IsDeadCell};
 ghost use Rattle.std.specs.List.{flat_map};
 ghost use Rattle.std.specs.Prelude.{
@@ -110,8 +110,7 @@ impl VoiceTables {
         ensures table { (d : BarTable) → result ≡ slice_index_or self.old.tables bar d }
         ensures tables { self.new.tables ≡ slice_set self.old.tables bar table }
         ensures room { self.new.room ≡ self.old.room }
-        ensures products { (d : ℕ) → length self.old.tables ≤ 2 ^ d → products.new ≤ risen products.old d }
-        ensures rises { products.old ≤ products.new }
+        ensures products { RisesOnce (length self.old.tables) products.old products.new }
     {
         self.chain.replace(bar, table.matrix(), products);
         mem::replace(&mut self.tables[bar], table)
@@ -125,8 +124,7 @@ impl VoiceTables {
         requires cheap { IsCheap DEAREST_CELL table.matrix }
         ensures tables { self.new.tables ≡ self.old.tables ++ table ∷ [] }
         ensures room { self.new.room ≡ self.old.room }
-        ensures products { (d : ℕ) → length self.old.tables + 1 ≤ 2 ^ d → products.new ≤ risen products.old d }
-        ensures rises { products.old ≤ products.new }
+        ensures products { RisesOnce (length self.old.tables + 1) products.old products.new }
     {
         self.chain.push_within(table.matrix(), products);
         self.tables.push_reserved(table);
@@ -137,8 +135,7 @@ impl VoiceTables {
         requires { 1 < length self.old.tables }
         ensures tables { self.old.tables ≡ self.new.tables ++ result ∷ [] }
         ensures room { self.new.room ≡ self.old.room }
-        ensures products { (d : ℕ) → length self.old.tables ≤ 2 ^ d → products.new ≤ risen products.old d }
-        ensures rises { products.old ≤ products.new }
+        ensures products { RisesOnce (length self.old.tables) products.old products.new }
     {
         self.chain.pop(products);
         self.tables.take_last()
@@ -184,8 +181,7 @@ impl VoiceTables {
         requires { bar < length self.now.tables }
         ensures before { result.before ≡ costs_before self.now.tables bar }
         ensures after { result.after ≡ costs_after self.now.tables bar }
-        ensures products { (d : ℕ) → length self.now.tables ≤ 2 ^ d → products.new ≤ risen products.old (2 * d) }
-        ensures rises { products.old ≤ products.new }
+        ensures products { RisesTwice (length self.now.tables) products.old products.new }
     {
         self.chain.around(bar, products)
     }

@@ -8,7 +8,7 @@ use edit_session::Session;
 use least_cost::Steps as Builds;
 use performance_load::load;
 use rhythm_base::{Grammar, Performance, Tag};
-use rhythm_ports::Gate;
+use rhythm_ports::{Gate, Means};
 use smf_reader::{Smf, read_smf};
 use std::alloc::Global;
 use std::thread::Threads;
@@ -129,16 +129,8 @@ fn opened<R: Threads + Sync, G: Gate + Sync>(
 {
     let mut builds = Builds::<Benchmark>::zero();
     let mut products = Products::<Benchmark>::zero();
-    match Session::open(
-        rt,
-        alloc,
-        performance,
-        grammar,
-        1,
-        gate,
-        &mut builds,
-        &mut products,
-    ) {
+    let means = Means { rt, alloc, gate };
+    match Session::open(&means, performance, grammar, 1, &mut builds, &mut products) {
         Ok(session) => Some(session),
         Err(_) => None,
     }

@@ -2,6 +2,8 @@
 use Rattle.std.proofs.Common.{◌≡◌, ◌≢◌, ◌≤◌, ◌⊎◌, ◌∙◌, ℕ, List, Vec, ap, arith, inl, inr, refl, sym, subst, IfErr, IfOk, OnOk, Option, Some, None, Result, Ok, Err}
 use Rattle.std.specs.Option.{ForSome}
 use Rattle.drill_run.specs.Ends.{HasDrilled, IsDrillBrokenOff, IsDrillOf}
+use Rattle.drill_run.specs.declared.drill_stop.DrillStop.{DrillStop}
+use Rattle.drill_run.specs.declared.drill_stop.DrillStop.TheVariants as drilling
 use Rattle.edit_session.specs.Opening.{CanOpen, cells_of}
 use Rattle.edit_session.specs.declared.open_fault.OpenFault.{OpenFault}
 use Rattle.edit_session.specs.declared.open_fault.OpenFault.TheVariants as opening
@@ -226,3 +228,16 @@ module _ {S O E A : Type 0} (number : ℕ) (grammar : List ℕ) (old mid : Lent 
             alone = counted_alone old mid new h.reads counts;
           };
         }
+
+-- ---- the counter of builds does not fall
+
+pub drilled_rises : (g : Grammar) (number : ℕ) (p : Performance) (said : Result (List ℕ) ℕ) (old new : ℕ) → HasDrilled g number p said old new → old ≤ new
+drilled_rises g number p said old new (last, besides, to, summary, rise) = omega (arith, rise)
+
+pub drill_rises : {A : Type 0} (g : Grammar) (number : ℕ) (p : Performance) (r : Result (Vec ℕ A) DrillStop) (old new : ℕ)
+    → IfOk r (λ text. HasDrilled g number p (Ok text.items) old new)
+    → ((line : ℕ) → r ≡ Err (drilling.ScoreTooLong line) → HasDrilled g number p (Err line) old new)
+    → (r ≡ Err drilling.Memory → IsDrillBrokenOff g number p old new) → old ≤ new
+drill_rises g number p (Ok text) old new said long broken = drilled_rises g number p (Ok text.items) old new said
+drill_rises g number p (Err (drilling.ScoreTooLong line)) old new said long broken = drilled_rises g number p (Err line) old new (long line refl)
+drill_rises g number p (Err drilling.Memory) old new said long broken = omega (arith, (broken refl).rises)

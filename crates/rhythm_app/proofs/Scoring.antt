@@ -1,5 +1,6 @@
 -- What the score of a performance and a grammar comes to, and a session on it.
-use Rattle.std.proofs.Common.{◌≡◌, ◌≤◌, ◌⊎◌, ℕ, refl, inl, inr, subst, sym, Err}
+use Rattle.rhythm_base.specs.Counter.{risen}
+use Rattle.std.proofs.Common.{◌≡◌, ◌≤◌, ◌⊎◌, ℕ, arith, refl, inl, inr, subst, sym, Err}
 use Rattle.edit_session.specs.Opening.{CanOpen, IsBuilt, IsOpenFault}
 use Rattle.edit_session.specs.declared.open_fault.OpenFault.{OpenFault}
 use Rattle.edit_session.specs.declared.open_fault.OpenFault.TheVariants as opening
@@ -46,8 +47,14 @@ open_content (opening.NoStart bar num den) = tt
 open_content (opening.NoDerivation channel bar) = tt
 open_content opening.Memory = tt
 
-pub open_built : (old new cells : ℕ) (fault : OpenFault) → IsBuilt old new cells fault → MatchBuilds (new ≡ cells) (new ≤ cells) (new ≡ old) (open_stop fault)
+pub open_built : (old new cells : ℕ) (fault : OpenFault) → IsBuilt old new cells fault → MatchBuilds (new ≡ risen old cells) (new ≤ risen old cells) (new ≡ old) (open_stop fault)
 open_built old new cells (opening.Cells count) h = h
 open_built old new cells (opening.NoStart bar num den) h = h
 open_built old new cells (opening.NoDerivation channel bar) h = h
-open_built old new cells opening.Memory h = h
+open_built old new cells opening.Memory h = h.1
+
+pub open_rises : (old new cells : ℕ) (fault : OpenFault) → IsBuilt old new cells fault → old ≤ new
+open_rises old new cells (opening.Cells count) h = omega (arith, h)
+open_rises old new cells (opening.NoStart bar num den) h = omega (arith, h)
+open_rises old new cells (opening.NoDerivation channel bar) h = omega (arith, h)
+open_rises old new cells opening.Memory h = h.0

@@ -102,6 +102,14 @@ EndsReading before now _ = ⊤
 abbrev pub CountsAlone : {S O E : Type 0} → Lent S O E → Lent S O E → Type 0
 CountsAlone old new = new ≡ record old { built = new.built; multiplied = new.multiplied }
 
+-- neither counter fell
+abbrev pub CountersRise : {S O E : Type 0} → Lent S O E → Lent S O E → Type 0
+CountersRise old new = (old.built ≤ new.built) × (old.multiplied ≤ new.multiplied)
+
+-- the counters alone were raised, and neither fell
+abbrev pub CountsUp : {S O E : Type 0} → Lent S O E → Lent S O E → Type 0
+CountsUp old new = CountsAlone old new × CountersRise old new
+
 -- nothing but the shelf was read, and the counters were raised
 abbrev pub ReadsAlone : {S O E : Type 0} → Lent S O E → Lent S O E → Type 0
 ReadsAlone old new = new ≡ record old { strays = new.strays; shelf_faults = new.shelf_faults; built = new.built; multiplied = new.multiplied }

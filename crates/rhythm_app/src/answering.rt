@@ -1,7 +1,7 @@
 ghost use Rattle.rhythm_app.specs.Asked.{answer};
 ghost use Rattle.rhythm_app.specs.Ends.{IsBrokenOff, IsTalkDone, IsPerformed, IsErrUntouched, IsUntouched, desk_of};
 ghost use Rattle.rhythm_app.specs.Inputs.{shown_inputs};
-ghost use Rattle.rhythm_app.specs.Stages.{HasSession};
+ghost use Rattle.rhythm_app.specs.Stages.{CountersRise, HasSession};
 ghost use Rattle.rhythm_app.specs.Stops.{script_stop};
 ghost use Rattle.rhythm_base.specs.Counter.{risen};
 ghost use Rattle.rhythm_ports.specs.Causes.{Rose};
@@ -16,7 +16,8 @@ use crate::request::{Inputs, Talk};
 use crate::session::open_session;
 use crate::stop::{Kind, Stop};
 use edit_session::Session;
-use script_run::{Desk, Means, ScriptStop, run_script};
+use rhythm_ports::Means;
+use script_run::{Desk, ScriptStop, run_script};
 use session_history::History;
 use std::alloc::Global;
 
@@ -74,8 +75,7 @@ fn talk_over<W: World>(lent: &mut Lent<W>, talk: Talk, session: Session) -> Resu
     ensures read { result ≡ Err stops.Read → Rose lent.old.script_faults lent.new.script_faults }
     ensures write { result ≡ Err stops.Write → Rose lent.old.out_faults lent.new.out_faults }
     ensures memory { result ≡ Err stops.Memory → IsUntouched lent.old lent.new }
-    ensures rises { lent.old.built ≤ lent.new.built }
-    ensures multiplies { lent.old.multiplied ≤ lent.new.multiplied }
+    ensures counters { CountersRise lent.old lent.new }
     ensures files { (lent.new.files ≡ lent.old.files) × (lent.new.strays ≡ lent.old.strays) × (lent.new.shelf_faults ≡ lent.old.shelf_faults) }
     ensures err { IsErrUntouched lent.old lent.new }
 {

@@ -4,7 +4,7 @@ ghost use Rattle.drill_run.specs.declared.drill_stop.DrillStop.TheVariants as dr
 ghost use Rattle.rhythm_app.specs.Asked as asked;
 ghost use Rattle.rhythm_app.specs.Builds.{AreSomeDrilled, MatchDrilled};
 ghost use Rattle.rhythm_app.specs.Outcome.{IsDrilling, IsPieceOf};
-ghost use Rattle.rhythm_app.specs.Stages.{CountsAlone, Follows, HasText, IsOfContent, said_of};
+ghost use Rattle.rhythm_app.specs.Stages.{CountsUp, Follows, HasText, IsOfContent, said_of};
 ghost use Rattle.rhythm_app.specs.declared.stop.Stop.TheVariants as stop;
 ghost use Rattle.rhythm_base.specs.Counter.{risen};
 ghost use Rattle.rhythm_base.specs.Readable.{IsReadable};
@@ -18,6 +18,7 @@ use crate::stop::Stop;
 use drill_run::{DrillStop, made_performance, run_drill};
 use edit_session::Session;
 use rhythm_base::{Grammar, Performance};
+use rhythm_ports::Means;
 use std::alloc::Global;
 
 /// The performance of the piece of a number.
@@ -49,16 +50,17 @@ fn drill_over<W: World>(
     ensures summary { IfOk result (λ text. HasDrilled session.grammar number session.performance (Ok text.items) lent.old.built lent.new.built) }
     ensures too_long { (line : ℕ) → result ≡ Err (drill.ScoreTooLong line) → HasDrilled session.grammar number session.performance (Err line) lent.old.built lent.new.built }
     ensures memory { result ≡ Err drill.Memory → IsDrillBrokenOff session.grammar number session.performance lent.old.built lent.new.built }
-    ensures rises { lent.old.built ≤ lent.new.built }
-    ensures multiplies { lent.old.multiplied ≤ lent.new.multiplied }
-    ensures counts { CountsAlone lent.old lent.new }
+    ensures counts { CountsUp lent.old lent.new }
 {
+    let means = Means {
+        rt: &lent.rt,
+        alloc: lent.alloc,
+        gate: &lent.gate,
+    };
     run_drill(
-        &lent.rt,
-        lent.alloc,
+        &means,
         session,
         number,
-        &lent.gate,
         &mut lent.builds,
         &mut lent.products,
     )
@@ -87,9 +89,7 @@ fn drilled<W: World>(
     ensures built { IfErr result (MatchDrilled (lent.new.built ≡ risen lent.old.built (cells_of performance))
         (λ line. HasDrilled grammar number performance (Err line) (risen lent.old.built (cells_of performance)) lent.new.built)
         (AreSomeDrilled grammar number performance lent.old.built lent.new.built) (lent.new.built ≡ lent.old.built)) }
-    ensures rises { lent.old.built ≤ lent.new.built }
-    ensures multiplies { lent.old.multiplied ≤ lent.new.multiplied }
-    ensures counts { CountsAlone lent.old lent.new }
+    ensures counts { CountsUp lent.old lent.new }
 {
     match open_session(lent, workers, grammar, performance) {
         Ok(session) => match drill_over(lent, session, number) {

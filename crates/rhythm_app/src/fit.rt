@@ -1,15 +1,22 @@
 ghost use Rattle.barline_fit.specs.Builds.{AreReachedAt, AreWithinReach};
-ghost use Rattle.barline_fit.specs.Candidates.{ticks_of};
-ghost use Rattle.barline_fit.specs.Fitted.{IsAcceptedAt, IsFitFault, IsFitted};
+ghost use Rattle.barline_fit.specs.Fitted.{IsAcceptedAt};
 ghost use Rattle.barline_fit.specs.FittedScore.{IsFittedScore};
-ghost use Rattle.barline_fit.specs.declared.fit_fault.FitFault.TheVariants as fitting;
+ghost use Rattle.barline_fit.specs.Tries.{
+  CanBeSet,
+  HasBuiltToFit,
+  HasReached,
+  HasReachedSome,
+  IsFaultAmong,
+  IsFittedAmong,
+  IsScoreAt,
+};
 ghost use Rattle.edit_session.specs.Opening.{CanOpen, cells_of};
 ghost use Rattle.edit_session.specs.Prepared.{RisesBy};
 ghost use Rattle.rhythm_app.specs.Asked.{AreCandidates, fit};
 ghost use Rattle.rhythm_app.specs.Builds.{AreSomeFitted, HasFitted, HasPartlyFitted, HasTried, MatchFitted};
 ghost use Rattle.rhythm_app.specs.Inputs.{shown_inputs};
 ghost use Rattle.rhythm_app.specs.Outcome.{IsFitting, fit_line, fit_stop, fit_text};
-ghost use Rattle.rhythm_app.specs.Stages.{CountsAlone, Follows, HasText, IsOfContent, said_of};
+ghost use Rattle.rhythm_app.specs.Stages.{CountsUp, Follows, HasText, IsOfContent, said_of};
 ghost use Rattle.rhythm_app.specs.declared.stop.Stop.TheVariants as stop;
 ghost use Rattle.rhythm_base.specs.Counter.{risen};
 ghost use Rattle.rhythm_base.specs.Readable.{IsReadable};
@@ -26,6 +33,7 @@ use barline_fit::{
 };
 use edit_session::Session;
 use rhythm_base::{Grammar, Performance};
+use rhythm_ports::Means;
 use std::alloc::{AllocError, Global};
 
 /// A fault of fitting a barline as a stop.
@@ -62,25 +70,18 @@ fn tick_among<W: World>(
     among: Candidates,
 ) -> Result<Fitted, FitFault>
     requires { AreCandidates among }
-    ensures fitted { IfOk result (IsFitted session.old.grammar session.old.performance among.bar (ticks_of among)) }
-    ensures fault { IfErr result (IsFitFault session.old.grammar session.old.performance among.bar (ticks_of among)) }
+    ensures fitted { IfOk result (IsFittedAmong session.old among) }
+    ensures fault { IfErr result (IsFaultAmong session.old among) }
     ensures same { session.new ≡ session.old }
-    ensures builds { result ≢ Err fitting.Memory → HasTried among session.old.grammar session.old.performance lent.old.built lent.new.built }
-    ensures unbuilt { result ≡ Err (fitting.NoBar among.bar) → lent.new.built ≡ lent.old.built }
-    ensures most { RisesBy lent.old.built lent.new.built (AreWithinReach session.old.grammar session.old.performance among.bar (ticks_of among)) }
-    ensures rises { lent.old.built ≤ lent.new.built }
-    ensures multiplies { lent.old.multiplied ≤ lent.new.multiplied }
-    ensures counts { CountsAlone lent.old lent.new }
+    ensures builds { HasBuiltToFit session.old among result lent.old.built lent.new.built }
+    ensures counts { CountsUp lent.old lent.new }
 {
-    best_barline(
-        &lent.rt,
-        lent.alloc,
-        session,
-        among,
-        &lent.gate,
-        &mut lent.builds,
-        &mut lent.products,
-    )
+    let means = Means {
+        rt: &lent.rt,
+        alloc: lent.alloc,
+        gate: &lent.gate,
+    };
+    best_barline(&means, session, among, &mut lent.builds, &mut lent.products)
 }
 
 /// The score of a session with a barline at a tick where it can be set.
@@ -89,23 +90,23 @@ fn score_at<W: World>(
     session: &mut Session,
     candidate: Candidate,
 ) -> Result<Vec<u8>, Stop>
-    requires { (cost : ℕ) × IsAcceptedAt session.old.grammar session.old.performance candidate.bar candidate.tick cost }
-    ensures text { IfOk result (λ v. IsFittedScore session.old.grammar session.old.performance candidate.bar candidate.tick (Ok v.items)) }
+    requires { CanBeSet session.old candidate }
+    ensures text { IfOk result (λ v. IsScoreAt session.old candidate (Ok v.items)) }
     ensures stop { IfErr result (λ s. (s ≡ stop.Memory)
-        ⊎ ((line : ℕ) × IsFittedScore session.old.grammar session.old.performance candidate.bar candidate.tick (Err line) × (s ≡ stop.ScoreTooLong line))) }
-    ensures builds { result ≢ Err stop.Memory
-        → RisesBy lent.old.built lent.new.built (AreReachedAt session.old.grammar session.old.performance candidate.bar (candidate.tick ∷ [])) }
-    ensures most { RisesBy lent.old.built lent.new.built (AreWithinReach session.old.grammar session.old.performance candidate.bar (candidate.tick ∷ [])) }
-    ensures rises { lent.old.built ≤ lent.new.built }
-    ensures multiplies { lent.old.multiplied ≤ lent.new.multiplied }
-    ensures counts { CountsAlone lent.old lent.new }
+        ⊎ ((line : ℕ) × IsScoreAt session.old candidate (Err line) × (s ≡ stop.ScoreTooLong line))) }
+    ensures builds { result ≢ Err stop.Memory → HasReached session.old candidate lent.old.built lent.new.built }
+    ensures most { HasReachedSome session.old candidate lent.old.built lent.new.built }
+    ensures counts { CountsUp lent.old lent.new }
 {
+    let means = Means {
+        rt: &lent.rt,
+        alloc: lent.alloc,
+        gate: &lent.gate,
+    };
     let score = fitted_score(
-        &lent.rt,
-        lent.alloc,
+        &means,
         session,
         candidate,
-        &lent.gate,
         &mut lent.builds,
         &mut lent.products,
     );
@@ -131,9 +132,7 @@ fn fitted_text<W: World>(
     ensures builds { result ≢ Err stop.Memory
         → RisesBy lent.old.built lent.new.built (AreReachedAt session.old.grammar session.old.performance bar (fitted.tick ∷ [])) }
     ensures most { RisesBy lent.old.built lent.new.built (AreWithinReach session.old.grammar session.old.performance bar (fitted.tick ∷ [])) }
-    ensures rises { lent.old.built ≤ lent.new.built }
-    ensures multiplies { lent.old.multiplied ≤ lent.new.multiplied }
-    ensures counts { CountsAlone lent.old lent.new }
+    ensures counts { CountsUp lent.old lent.new }
 {
     let candidate = Candidate {
         bar,
@@ -162,9 +161,7 @@ fn fit_over<W: World>(
     ensures built { IfErr result (MatchFitted (lent.new.built ≡ lent.old.built) (HasTried among session.old.grammar session.old.performance lent.old.built lent.new.built)
         (HasFitted among session.old.grammar session.old.performance lent.old.built lent.new.built)
         (HasPartlyFitted among session.old.grammar session.old.performance lent.old.built lent.new.built) ⊥) }
-    ensures rises { lent.old.built ≤ lent.new.built }
-    ensures multiplies { lent.old.multiplied ≤ lent.new.multiplied }
-    ensures counts { CountsAlone lent.old lent.new }
+    ensures counts { CountsUp lent.old lent.new }
 {
     match tick_among(lent, session, among) {
         Ok(fitted) => fitted_text(lent, session, among.bar, fitted),
@@ -193,9 +190,7 @@ fn fitted_by<W: World>(
         (HasTried among grammar performance (risen lent.old.built (cells_of performance)) lent.new.built)
         (HasFitted among grammar performance (risen lent.old.built (cells_of performance)) lent.new.built)
         (AreSomeFitted among grammar performance lent.old.built lent.new.built) (lent.new.built ≡ lent.old.built)) }
-    ensures rises { lent.old.built ≤ lent.new.built }
-    ensures multiplies { lent.old.multiplied ≤ lent.new.multiplied }
-    ensures counts { CountsAlone lent.old lent.new }
+    ensures counts { CountsUp lent.old lent.new }
 {
     match open_session(lent, workers, grammar, performance) {
         Ok(mut session) => fit_over(lent, &mut session, among),

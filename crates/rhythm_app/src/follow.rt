@@ -3,7 +3,7 @@ ghost use Rattle.rhythm_app.specs.Asked.{follow};
 ghost use Rattle.rhythm_app.specs.Builds.{MatchBuilds};
 ghost use Rattle.rhythm_app.specs.Inputs.{shown_inputs};
 ghost use Rattle.rhythm_app.specs.Outcome.{IsFollowing};
-ghost use Rattle.rhythm_app.specs.Stages.{CountsAlone, Follows, HasText, IsOfContent, said_of};
+ghost use Rattle.rhythm_app.specs.Stages.{CountsUp, Follows, HasText, IsOfContent, said_of};
 ghost use Rattle.rhythm_app.specs.declared.stop.Stop.TheVariants as stop;
 ghost use Rattle.rhythm_base.specs.Counter.{risen};
 ghost use Rattle.rhythm_base.specs.Readable.{IsReadable};
@@ -18,6 +18,7 @@ use crate::stop::Stop;
 use barline_follow::follow;
 use edit_session::Session;
 use rhythm_base::{Grammar, Performance};
+use rhythm_ports::Means;
 use script_writer::write_edits;
 
 /// The text of the script that moves the barlines of a session to those that follow the player.
@@ -25,18 +26,14 @@ fn script_over<W: World>(lent: &mut Lent<W>, session: &mut Session) -> Result<Ve
     requires { CanOpen session.old.grammar session.old.performance }
     ensures tests { Follows (IsFollowing session.old.grammar session.old.performance) (said_of result) }
     ensures memory { IfErr result (λ s. s ≡ stop.Memory) }
-    ensures rises { lent.old.built ≤ lent.new.built }
-    ensures multiplies { lent.old.multiplied ≤ lent.new.multiplied }
-    ensures counts { CountsAlone lent.old lent.new }
+    ensures counts { CountsUp lent.old lent.new }
 {
-    let script = follow(
-        &lent.rt,
-        lent.alloc,
-        session,
-        &lent.gate,
-        &mut lent.builds,
-        &mut lent.products,
-    );
+    let means = Means {
+        rt: &lent.rt,
+        alloc: lent.alloc,
+        gate: &lent.gate,
+    };
+    let script = follow(&means, session, &mut lent.builds, &mut lent.products);
     match script {
         Ok(edits) => match write_edits(lent.alloc, edits.as_slice()) {
             Ok(text) => Ok(text),
@@ -62,9 +59,7 @@ fn followed_by<W: World>(
     ensures content { IfErr result IsOfContent }
     ensures all { OnOk result (risen lent.old.built (cells_of performance) ≤ lent.new.built) }
     ensures built { IfErr result (MatchBuilds (lent.new.built ≡ risen lent.old.built (cells_of performance)) (lent.old.built ≤ lent.new.built) (lent.new.built ≡ lent.old.built)) }
-    ensures rises { lent.old.built ≤ lent.new.built }
-    ensures multiplies { lent.old.multiplied ≤ lent.new.multiplied }
-    ensures counts { CountsAlone lent.old lent.new }
+    ensures counts { CountsUp lent.old lent.new }
 {
     match open_session(lent, workers, grammar, performance) {
         Ok(mut session) => script_over(lent, &mut session),

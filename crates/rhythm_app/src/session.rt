@@ -1,7 +1,7 @@
 ghost use Rattle.edit_session.specs.Opening.{CanOpen, cells_of};
 ghost use Rattle.rhythm_app.specs.Builds.{MatchBuilds};
 ghost use Rattle.rhythm_app.specs.Outcome.{IsUnopened};
-ghost use Rattle.rhythm_app.specs.Stages.{CountsAlone, IsOfContent};
+ghost use Rattle.rhythm_app.specs.Stages.{CountsUp, IsOfContent};
 ghost use Rattle.rhythm_app.specs.declared.stop.Stop.TheVariants as stop;
 ghost use Rattle.rhythm_base.specs.Counter.{risen};
 ghost use Rattle.rhythm_base.specs.Readable.{IsReadable};
@@ -12,6 +12,7 @@ use crate::lent::{Lent, World};
 use crate::stop::Stop;
 use edit_session::{OpenFault, Session};
 use rhythm_base::{Grammar, Performance};
+use rhythm_ports::Means;
 
 /// A fault of opening a session as a stop.
 impl From<OpenFault> for Stop {
@@ -47,17 +48,18 @@ pub fn open_session<W: World>(
     ensures content { IfErr result IsOfContent }
     ensures all { OnOk result (lent.new.built ≡ risen lent.old.built (cells_of performance)) }
     ensures built { IfErr result (MatchBuilds (lent.new.built ≡ risen lent.old.built (cells_of performance)) (lent.new.built ≤ risen lent.old.built (cells_of performance)) (lent.new.built ≡ lent.old.built)) }
-    ensures rises { lent.old.built ≤ lent.new.built }
-    ensures multiplies { lent.old.multiplied ≤ lent.new.multiplied }
-    ensures counts { CountsAlone lent.old lent.new }
+    ensures counts { CountsUp lent.old lent.new }
 {
+    let means = Means {
+        rt: &lent.rt,
+        alloc: lent.alloc,
+        gate: &lent.gate,
+    };
     let session = Session::open(
-        &lent.rt,
-        lent.alloc,
+        &means,
         performance,
         grammar,
         workers,
-        &lent.gate,
         &mut lent.builds,
         &mut lent.products,
     )?;

@@ -5,7 +5,7 @@ ghost use Rattle.rhythm_app.specs.Asked.{write};
 ghost use Rattle.rhythm_app.specs.Builds.{MatchBuilds};
 ghost use Rattle.rhythm_app.specs.Inputs.{shown_inputs};
 ghost use Rattle.rhythm_app.specs.Outcome.{AreEventsOf, IsKernTextOf, IsTooLongToWrite, IsWriting, render_stop};
-ghost use Rattle.rhythm_app.specs.Stages.{CountsAlone, Follows, HasText, IsOfContent, IsOfWriting, said_of};
+ghost use Rattle.rhythm_app.specs.Stages.{CountsUp, Follows, HasText, IsOfContent, IsOfWriting, said_of};
 ghost use Rattle.rhythm_app.specs.declared.request.Form.TheVariants as form;
 ghost use Rattle.rhythm_app.specs.declared.stop.Stop.TheVariants as stop;
 ghost use Rattle.rhythm_base.specs.Counter.{risen};
@@ -172,9 +172,7 @@ fn text_by<W: World>(
     ensures content { IfErr result IsOfContent }
     ensures all { OnOk result (lent.new.built ≡ risen lent.old.built (cells_of performance)) }
     ensures built { IfErr result (MatchBuilds (lent.new.built ≡ risen lent.old.built (cells_of performance)) (lent.new.built ≤ risen lent.old.built (cells_of performance)) (lent.new.built ≡ lent.old.built)) }
-    ensures rises { lent.old.built ≤ lent.new.built }
-    ensures multiplies { lent.old.multiplied ≤ lent.new.multiplied }
-    ensures counts { CountsAlone lent.old lent.new }
+    ensures counts { CountsUp lent.old lent.new }
 {
     let resolution = grammar.resolution;
     match open_session(lent, workers, grammar, performance) {

@@ -1,4 +1,4 @@
-//! The outside as traits: a source of bytes, a sink for bytes, a shelf of files, a gate for workers.
+//! The outside as traits: a source of bytes, a sink for bytes, a shelf of files, a gate for workers; and by what tables are built, lent as one.
 //! A call fails only where its object's count of faults rises, and contracts can name that count.
 //! Each trait has a form in memory, which tells its bytes and fails where it was told to, a sure
 //! form, which never fails, and a real form before the system, which tells no bytes. `read_all`,
@@ -8,6 +8,7 @@
 mod calls;
 mod failed;
 mod gate;
+mod means;
 mod memory_shelf;
 mod memory_sink;
 mod memory_source;
@@ -27,6 +28,7 @@ mod unread;
 
 pub use failed::Failed;
 pub use gate::{Gate, OpenGate};
+pub use means::Means;
 pub use memory_shelf::MemShelf;
 pub use memory_sink::MemSink;
 pub use memory_source::MemSource;

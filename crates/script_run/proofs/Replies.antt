@@ -1,12 +1,14 @@
 -- What the replies to lines say.
-use Rattle.std.proofs.Common.{◌≡◌, ◌≢◌, ◌≤◌, ◌∙◌, ℕ, arith, inl, inr, List, [], ◌∷◌, get_or, length, map, refl, sym, ap, subst, codes, Result, Ok, Err, IfOk, OnErr, None}
+use Rattle.std.proofs.Common.{◌≡◌, ◌≢◌, ◌∙◌, ℕ, arith, inl, inr, List, [], ◌∷◌, get_or, map, refl, sym, ap, subst, codes, Result, Ok, Err, IfErr, IfOk, None}
 use Rattle.std.specs.Prelude.{IsOk, IsTrue, MatchResult, nat_eq}
 use Rattle.std.specs.List.{starts_with}
 use Rattle.edit_script.specs.ReplyText.{reply_text, shown_by}
 use Rattle.edit_script.specs.declared.reply.Refusal.TheVariants as refusals
 use Rattle.edit_script.specs.declared.reply.Reply.{Reply}
 use Rattle.edit_script.specs.declared.reply.Reply.TheVariants as replies
+use Rattle.edit_session.specs.Effects.{AreBuiltInVain, IsApplied, IsRejected}
 use Rattle.edit_session.specs.Prepared.{RisesBy}
+use Rattle.edit_session.specs.Session.{Session}
 use Rattle.edit_session.specs.declared.committed.Applied.{Applied}
 use Rattle.edit_script.proofs.CommandWords.{one_command}
 use Rattle.rhythm_base.specs.Counter.{risen}
@@ -14,7 +16,6 @@ use Rattle.edit_laws.specs.Edits.{cell_tests, edited, first_refusal}
 use Rattle.rhythm_base.specs.Grammar.{Grammar}
 use Rattle.rhythm_base.specs.Performance.{Performance}
 use Rattle.edit_script.specs.Replies.{alternatives_text, bad_line_text, bye_text, done_text, long_score_text, refused_text, score_text}
-use Rattle.edit_laws.specs.Reached.{WouldReach}
 use Rattle.edit_laws.specs.EditOutcomes.{IsOutcome, made, refused}
 use Rattle.script_laws.specs.Script.{IsLineStep}
 use Rattle.edit_script.specs.ScriptLines.{Are, ArePinWords, BeginsPin, Is, SaysCommand, SaysNothing, script_words}
@@ -100,29 +101,21 @@ module _ (g : Grammar) (p : Performance) where
   abbrev pub EditReplies : Reply → Result Applied EditFault → Type 0
   EditReplies reply outcome = MatchResult outcome (λ a. reply ≡ replies.Done a.built a.cost) (λ fault. reply ≡ replies.Refused (refusals.Edit fault))
 
-  pub edit_answers : (edit : Edit) (outcome : Result Applied EditFault) (reply : Reply) (next : Performance) → EditReplies reply outcome
-      → IfOk outcome (λ a. IsOutcome g p edit (made a.built a.cost) next) → ((fault : EditFault) → outcome ≡ Err fault → fault ≢ Memory → IsOutcome g p edit (refused fault) next)
-      → OnErr outcome (next ≡ p) → MayAnswer g p (Change edit) (reply_text reply) next
-  edit_answers edit (Ok a) reply next is done refuses stays =
-      subst (λ (r : Reply). MayAnswer g p (Change edit) (reply_text r) next) (sym is) (made_answers edit a.built a.cost next done)
-  edit_answers edit (Err fault) reply next is done refuses stays =
-      subst (λ (r : Reply). MayAnswer g p (Change edit) (reply_text r) next) (sym is) (refused_answers edit fault next (λ other. refuses fault refl other) stays)
-
   pub edit_lacks_memory : (edit : Edit) (outcome : Result Applied EditFault) (reply : Reply) → EditReplies reply outcome
-      → (outcome ≡ Err Memory → IsOk (edited p edit)) → reply ≡ replies.Refused (refusals.Edit Memory) → IsOk (edited p edit)
+      → IfErr outcome (λ fault. fault ≡ Memory → IsOk (edited p edit)) → reply ≡ replies.Refused (refusals.Edit Memory) → IsOk (edited p edit)
   edit_lacks_memory edit (Ok a) reply is may e = let both : replies.Done a.built a.cost ≡ replies.Refused (refusals.Edit Memory) = sym is ∙ e in absurd (cc)
   edit_lacks_memory edit (Err fault) reply is may e =
       let both : replies.Refused (refusals.Edit fault) ≡ replies.Refused (refusals.Edit Memory) = sym is ∙ e in
       let same : fault ≡ Memory = cc in
-      may (ap (λ (f : EditFault). Err f) same)
+      may same
 
   pub edit_builds : (edit : Edit) (outcome : Result Applied EditFault) (reply : Reply) (old new : ℕ) → EditReplies reply outcome
-      → IfOk outcome (λ a. new ≡ risen old a.built) → RisesBy old new (λ n. (cells : List (ℕ × ℕ)) → WouldReach g p edit cells → n ≤ length cells)
+      → IfOk outcome (λ a. new ≡ risen old a.built) → IfErr outcome (λ fault. RisesBy old new (AreBuiltInVain g p edit fault))
       → (n : ℕ) × IsBuiltForEdit g p edit (reply_text reply) n × (new ≡ risen old n)
-  edit_builds edit (Ok a) reply old new is done most =
+  edit_builds edit (Ok a) reply old new is done vain =
       (a.built, subst (λ (r : Reply). IsBuiltForEdit g p edit (reply_text r) a.built) (sym is) (inl (a.cost, refl)), done)
-  edit_builds edit (Err fault) reply old new is done most =
-      (most.0, subst (λ (r : Reply). IsBuiltForEdit g p edit (reply_text r) most.0) (sym is) (inr ((fault, refl), most.2)), most.1)
+  edit_builds edit (Err fault) reply old new is done vain =
+      (vain.0, subst (λ (r : Reply). IsBuiltForEdit g p edit (reply_text r) vain.0) (sym is) (inr ((fault, refl), vain.2.most)), vain.1)
 
   -- ---- lines
 
@@ -193,3 +186,23 @@ pin_quits_not line pin quits = go (script_words line) pin quits
 -- a refusal is no farewell
 pub line_is_no_bye : replies.Refused refusals.Line ≡ replies.Bye → ⊥
 line_is_no_bye e = cc
+
+-- ---- an edit of a session
+
+module _ (s new : Session) (edit : Edit) where
+  pub session_answers : (outcome : Result Applied EditFault) (reply : Reply) → EditReplies s.grammar s.performance reply outcome
+      → IfOk outcome (IsApplied s edit new) → IfErr outcome (IsRejected s edit new) → MayAnswer s.grammar s.performance (Change edit) (reply_text reply) new.performance
+  session_answers (Ok a) reply is done rejected =
+      subst (λ (r : Reply). MayAnswer s.grammar s.performance (Change edit) (reply_text r) new.performance) (sym is)
+      (made_answers s.grammar s.performance edit a.built a.cost new.performance done.made)
+  session_answers (Err fault) reply is done rejected =
+      subst (λ (r : Reply). MayAnswer s.grammar s.performance (Change edit) (reply_text r) new.performance) (sym is)
+      (refused_answers s.grammar s.performance edit fault new.performance (λ other. (rejected.refused other, rejected.performance)) rejected.performance)
+
+  pub session_memory : (outcome : Result Applied EditFault) → IfErr outcome (IsRejected s edit new) → IfErr outcome (λ fault. fault ≡ Memory → IsOk (edited s.performance edit))
+  session_memory (Ok a) rejected = tt
+  session_memory (Err fault) rejected = rejected.memory
+
+  pub same_grammar : (outcome : Result Applied EditFault) → IfOk outcome (IsApplied s edit new) → IfErr outcome (IsRejected s edit new) → new.grammar ≡ s.grammar
+  same_grammar (Ok a) done rejected = done.still.grammar
+  same_grammar (Err fault) done rejected = rejected.still.grammar

@@ -1,5 +1,5 @@
 -- What the replies to the lines of a studio say.
-use Rattle.std.proofs.Common.{◌≡◌, ◌≢◌, ◌≤◌, ◌∙◌, ◌⊎◌, ℕ, arith, inl, inr, List, [], get_or, length, refl, sym, ap, subst, codes, Result, Ok, Err, IfOk, OnErr, OnOk, None}
+use Rattle.std.proofs.Common.{◌≡◌, ◌≢◌, ◌∙◌, ◌⊎◌, ℕ, arith, inl, inr, List, [], get_or, refl, sym, ap, subst, codes, Result, Ok, Err, IfErr, IfOk, OnErr, OnOk, None}
 use Rattle.std.specs.Prelude.{IsOk, IsTrue, MatchResult, nat_eq}
 use Rattle.std.specs.List.{starts_with}
 use Rattle.edit_script.specs.ReplyText.{reply_text}
@@ -12,14 +12,14 @@ use Rattle.rhythm_base.specs.Performance.{Performance}
 use Rattle.edit_laws.specs.Edits.{cell_tests, edited, first_refusal}
 use Rattle.edit_script.specs.Replies.{bad_line_text, bye_text, done_text, refused_text}
 use Rattle.edit_laws.specs.EditOutcomes.{IsOutcome, made, refused}
-use Rattle.edit_script.specs.ScriptLines.{BeginsPin, SaysCommand, trimmed}
-use Rattle.rhythm_base.specs.Voices.{IsCostOf}
+use Rattle.edit_script.specs.ScriptLines.{BeginsPin, SaysCommand}
 use Rattle.edit_script.specs.declared.command.Command.{Command}
 use Rattle.edit_script.specs.declared.command.Command.TheVariants.{Change, Score, Alternatives, Quit}
 use Rattle.rhythm_base.specs.declared.edit.Edit.{Edit}
 use Rattle.rhythm_base.specs.declared.edit_fault.EditFault.{EditFault}
 use Rattle.rhythm_base.specs.declared.edit_fault.EditFault.TheVariants.{NoVoice, NoBar, BadSpan, NoNote, SameNote, PastEnd, BarlineOrder, NoteOutside, NotEmpty, OneBar, Limit, NoDerivation, Memory}
-use Rattle.session_history.specs.Changes.{IsEdited, IsRedone, IsUndone}
+use Rattle.session_history.specs.Changes.{IsRedone, IsUndone}
+use Rattle.session_history.specs.Effects.{IsStepAnswer, IsStepMade, IsStepRefused}
 use Rattle.session_history.specs.History.{History}
 use Rattle.session_history.specs.Studio.{TellsCost, StudioStep}
 use Rattle.session_history.specs.StudioLines.{SaysNoStudio, SaysStudio}
@@ -30,7 +30,7 @@ use Rattle.session_history.specs.declared.studio_command.StudioCommand.TheVarian
 use Rattle.session_history.specs.declared.studio_reply.StudioReply.{StudioReply}
 use Rattle.session_history.specs.declared.studio_reply.StudioReply.TheVariants as studio
 use Rattle.session_history.proofs.StudioWords.{one_studio_command}
-use Rattle.script_run.specs.Answers.{AnswersLine, IsBuiltFor, IsBuiltForEdit, IsWrittenScore, Quits, TakesMemory}
+use Rattle.script_run.specs.Answers.{IsBuiltFor, IsBuiltForEdit, IsWrittenScore, Quits, TakesMemory}
 use Rattle.script_run.specs.Hearing.{MayAnswer}
 use Rattle.script_run.specs.Studio.{AnswersStudioLine, MayAnswerInStudio}
 use Rattle.script_run.proofs.Replies.{EditReplies, change_builds, memory_reply, other_builds}
@@ -59,26 +59,26 @@ module _ (h : History) where
   StepsSo Goes none reply next = (Goes next × TellsCost next reply) ⊎ (none × (reply ≡ no_step_text) × (next ≡ h))
 
   steps_so : (Goes : History → Type 0) (none : Type 0) (outcome : Result Applied NoStep) (reply : StudioReply) (next : History) → StepReplies reply outcome
-      → OnOk outcome (Goes next) → IfOk outcome (λ a. a.built ≡ 0) → IfOk outcome (λ a. IsCostOf next.grammar next.present a.cost) → OnErr outcome none → OnErr outcome (next ≡ h)
+      → OnOk outcome (Goes next) → IfOk outcome (IsStepAnswer next) → OnErr outcome none → OnErr outcome (next ≡ h)
       → StepsSo Goes none (studio_reply_text reply) next × (studio_reply_text reply ≡ refused_text Memory → ⊥)
-  steps_so Goes none (Ok a) reply next is goes built costs lacks stays =
-      let text : studio_reply_text reply ≡ done_text 0 a.cost = ap studio_reply_text is ∙ ap (λ n. done_text n a.cost) built in
-      (inl (goes, (a.cost, costs, text)), λ e. done_reply 0 a.cost (sym text ∙ e))
-  steps_so Goes none (Err x) reply next is goes built costs lacks stays =
+  steps_so Goes none (Ok a) reply next is goes told lacks stays =
+      let text : studio_reply_text reply ≡ done_text 0 a.cost = ap studio_reply_text is ∙ ap (λ n. done_text n a.cost) told.0 in
+      (inl (goes, (a.cost, told.1, text)), λ e. done_reply 0 a.cost (sym text ∙ e))
+  steps_so Goes none (Err x) reply next is goes told lacks stays =
       (inr (lacks, ap studio_reply_text is, stays), λ e. no_step_reply (sym (ap studio_reply_text is) ∙ e))
 
   pub undo_line : (line : List ℕ) (outcome : Result Applied NoStep) (reply : StudioReply) (next : History) → SaysStudio line Undo → StepReplies reply outcome
-      → OnOk outcome (IsUndone h next) → IfOk outcome (λ a. a.built ≡ 0) → IfOk outcome (λ a. IsCostOf next.grammar next.present a.cost) → OnErr outcome (h.past ≡ []) → OnErr outcome (next ≡ h)
+      → OnOk outcome (IsUndone h next) → IfOk outcome (IsStepAnswer next) → OnErr outcome (h.past ≡ []) → OnErr outcome (next ≡ h)
       → AnswersStudioLine h line (studio_reply_text reply) 0 next
-  undo_line line outcome reply next says is goes built costs lacks stays =
-      let so = steps_so (IsUndone h) (h.past ≡ []) outcome reply next is goes built costs lacks stays in
+  undo_line line outcome reply next says is goes told lacks stays =
+      let so = steps_so (IsUndone h) (h.past ≡ []) outcome reply next is goes told lacks stays in
       record { step = inl (Undo, says, so.0); memory = λ e. absurd (so.1 e); built = step_builds line Undo (studio_reply_text reply) says (λ command e. cc) }
 
   pub redo_line : (line : List ℕ) (outcome : Result Applied NoStep) (reply : StudioReply) (next : History) → SaysStudio line Redo → StepReplies reply outcome
-      → OnOk outcome (IsRedone h next) → IfOk outcome (λ a. a.built ≡ 0) → IfOk outcome (λ a. IsCostOf next.grammar next.present a.cost) → OnErr outcome (h.future ≡ []) → OnErr outcome (next ≡ h)
+      → OnOk outcome (IsRedone h next) → IfOk outcome (IsStepAnswer next) → OnErr outcome (h.future ≡ []) → OnErr outcome (next ≡ h)
       → AnswersStudioLine h line (studio_reply_text reply) 0 next
-  redo_line line outcome reply next says is goes built costs lacks stays =
-      let so = steps_so (IsRedone h) (h.future ≡ []) outcome reply next is goes built costs lacks stays in
+  redo_line line outcome reply next says is goes told lacks stays =
+      let so = steps_so (IsRedone h) (h.future ≡ []) outcome reply next is goes told lacks stays in
       record { step = inl (Redo, says, so.0); memory = λ e. absurd (so.1 e); built = step_builds line Redo (studio_reply_text reply) says (λ command e. cc) }
 
   pub step_is_no_bye : (outcome : Result Applied NoStep) (reply : StudioReply) → StepReplies reply outcome → reply ≡ studio.Plain replies.Bye → ⊥
@@ -104,15 +104,18 @@ module _ (h : History) where
   refused_in_studio edit Memory is = inr (refl, refl)
 
   pub edit_in_studio : (edit : Edit) (outcome : Result Applied EditFault) (reply : Reply) (next : History) → EditReplies h.grammar h.present reply outcome
-      → IfOk outcome (λ a. IsOutcome h.grammar h.present edit (made a.built a.cost) next.present) → OnOk outcome (IsEdited h next.present next)
-      → ((fault : EditFault) → outcome ≡ Err fault → fault ≢ Memory → IsOutcome h.grammar h.present edit (refused fault) next.present) → OnErr outcome (next ≡ h)
-      → MayAnswerInStudio h (Plain (Change edit)) (reply_text reply) next
-  edit_in_studio edit (Ok a) reply next is done step refuses stays =
-      subst (λ (r : Reply). MayAnswerInStudio h (Plain (Change edit)) (reply_text r) next) (sym is) (inl (made a.built a.cost, done, step, refl))
-  edit_in_studio edit (Err fault) reply next is done step refuses stays =
+      → IfOk outcome (IsStepMade h edit next) → IfErr outcome (IsStepRefused h edit next) → MayAnswerInStudio h (Plain (Change edit)) (reply_text reply) next
+  edit_in_studio edit (Ok a) reply next is done refuses =
+      subst (λ (r : Reply). MayAnswerInStudio h (Plain (Change edit)) (reply_text r) next) (sym is) (inl (made a.built a.cost, done.made, done.step, refl))
+  edit_in_studio edit (Err fault) reply next is done refuses =
       subst (λ (r : Reply). MayAnswerInStudio h (Plain (Change edit)) (reply_text r) next) (sym is)
-      (subst (λ (k : History). MayAnswerInStudio h (Plain (Change edit)) (refused_text fault) k) (sym stays)
-      (refused_in_studio edit fault (λ other. subst (λ (k : History). IsOutcome h.grammar h.present edit (refused fault) k.present) stays (refuses fault refl other))))
+      (subst (λ (k : History). MayAnswerInStudio h (Plain (Change edit)) (refused_text fault) k) (sym refuses.unchanged)
+      (refused_in_studio edit fault (λ other. (refuses.refused other, refl))))
+
+  pub studio_memory : (edit : Edit) (outcome : Result Applied EditFault) (next : History) → IfErr outcome (IsStepRefused h edit next)
+      → IfErr outcome (λ fault. fault ≡ Memory → IsOk (edited h.present edit))
+  studio_memory edit (Ok a) next refuses = tt
+  studio_memory edit (Err fault) next refuses = refuses.memory
 
   -- ---- lines
 

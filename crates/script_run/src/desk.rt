@@ -6,7 +6,6 @@ ghost use Rattle.session_history.specs.StudioReplies.{studio_reply_text};
 ghost use Rattle.session_history.specs.declared.studio_reply.StudioReply.TheVariants as studio;
 ghost use Rattle.std.specs.Prelude.{◌≡◌, ◌≤◌, ◌↔◌, ℕ, IsTrue};
 
-use crate::means::Means;
 use crate::reply::reply_to;
 use crate::studio::studio_reply_to;
 use carry_matrix::Steps as Products;
@@ -14,7 +13,7 @@ use edit_script::Reply;
 use edit_session::Session;
 use least_cost::Steps as Builds;
 use rhythm_base::Tag;
-use rhythm_ports::Gate;
+use rhythm_ports::{Gate, Means};
 use session_history::{History, StudioReply};
 use std::thread::Threads;
 
@@ -38,7 +37,7 @@ impl Desk {
     /// The reply to a line, which changes what is edited where it says so.
     pub fn reply_to<R: Threads + Sync, G: Gate + Sync, B: Tag, P: Tag>(
         &mut self,
-        means: &Means<R, G>,
+        means: &Means<'_, R, G>,
         line: &[u8],
         builds: &mut Builds<B>,
         products: &mut Products<P>,

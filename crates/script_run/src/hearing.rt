@@ -5,17 +5,16 @@ ghost use Rattle.script_run.specs.declared.script_stop.ScriptStop.TheVariants as
 ghost use Rattle.std.specs.Prelude.{◌≡◌, ◌≤◌, ℕ, List, Err, IfErr, Ok, false, true};
 
 use crate::listener::Listener;
-use crate::means::Means;
 use crate::script_stop::ScriptStop;
 use carry_matrix::Steps as Products;
 use least_cost::Steps as Builds;
 use rhythm_base::{LONGEST_SCRIPT, LONGEST_SCRIPT_LINE, Tag};
-use rhythm_ports::{Failed, Gate, Sink};
+use rhythm_ports::{Failed, Gate, Means, Sink};
 use std::thread::Threads;
 
 /// Hears a byte of the script. Says whether the script ends there, by a line that says so.
 fn hear<R: Threads + Sync, O: Sink, G: Gate + Sync, B: Tag, P: Tag>(
-    means: &Means<R, G>,
+    means: &Means<'_, R, G>,
     listener: &mut Listener,
     byte: u8,
     out: &mut O,
@@ -57,7 +56,7 @@ fn hear<R: Threads + Sync, O: Sink, G: Gate + Sync, B: Tag, P: Tag>(
 
 /// Hears bytes of the script, one after another. Says whether the script ends among them, by a line that says so.
 pub fn hear_all<R: Threads + Sync, O: Sink, G: Gate + Sync, B: Tag, P: Tag>(
-    means: &Means<R, G>,
+    means: &Means<'_, R, G>,
     listener: &mut Listener,
     piece: &[u8],
     out: &mut O,

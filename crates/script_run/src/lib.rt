@@ -5,7 +5,6 @@ mod desk;
 mod hearing;
 mod laws;
 mod listener;
-mod means;
 mod reply;
 mod script;
 mod script_stop;
@@ -14,6 +13,5 @@ mod studio;
 
 pub use desk::Desk;
 pub use laws::{desks_have_one_answer, lines_have_one_answer, scripts_have_one_output};
-pub use means::Means;
 pub use script::{ONE_READ, run_script};
 pub use script_stop::ScriptStop;

@@ -8,11 +8,10 @@ ghost use Rattle.std.specs.Io.KnownBytes.{Appends};
 ghost use Rattle.std.specs.Prelude.{◌≡◌, ◌≤◌, ◌<◌, ◌+◌, ◌↔◌, ◌++◌, ◌∷◌, [], ℕ, List, IfOk, IsTrue, MatchBool, OnErr, length, take};
 
 use crate::desk::{Desk, is_bye};
-use crate::means::Means;
 use carry_matrix::Steps as Products;
 use least_cost::Steps as Builds;
 use rhythm_base::{LONGEST_SCRIPT, LONGEST_SCRIPT_LINE, Tag};
-use rhythm_ports::{Failed, Gate, Sink};
+use rhythm_ports::{Failed, Gate, Means, Sink};
 use session_history::write_studio_reply;
 use std::alloc::{AllocError, Global};
 use std::marker::Model;
@@ -78,7 +77,7 @@ impl Listener {
     /// ends the script.
     pub fn answer<R: Threads + Sync, O: Sink, G: Gate + Sync, B: Tag, P: Tag>(
         &mut self,
-        means: &Means<R, G>,
+        means: &Means<'_, R, G>,
         out: &mut O,
         builds: &mut Builds<B>,
         products: &mut Products<P>,

@@ -14,14 +14,13 @@ ghost use Rattle.script_run.specs.Faults.{refusal_of_asking, refusal_of_score};
 ghost use Rattle.script_run.specs.Hearing.{MayAnswer};
 ghost use Rattle.std.specs.Prelude.{◌≡◌, ◌≢◌, ◌≤◌, ◌↔◌, ◌⊎◌, ℕ, All, IfOk, IsOk, MatchResult, None, map};
 
-use crate::means::Means;
 use crate::shown::all_shown;
 use carry_matrix::Steps as Products;
 use edit_script::{Command, LineFault, Refusal, Reply, read_line};
 use edit_session::{Alternative, Applied, AskFault, ScoreFault, Session};
 use least_cost::Steps as Builds;
 use rhythm_base::{Edit, EditFault, Tag};
-use rhythm_ports::Gate;
+use rhythm_ports::{Gate, Means};
 use std::alloc::Global;
 use std::thread::Threads;
 
@@ -40,7 +39,7 @@ pub fn edit_reply(outcome: Result<Applied, EditFault>) -> Reply
 
 /// The reply to an edit, which changes the session where it is accepted.
 fn reply_to_edit<R: Threads + Sync, G: Gate + Sync, B: Tag, P: Tag>(
-    means: &Means<R, G>,
+    means: &Means<'_, R, G>,
     session: &mut Session,
     edit: &Edit,
     builds: &mut Builds<B>,
@@ -54,7 +53,7 @@ fn reply_to_edit<R: Threads + Sync, G: Gate + Sync, B: Tag, P: Tag>(
     ensures goes_on { result ≢ replies.Bye }
     ensures products { products.old ≤ products.new }
 {
-    edit_reply(session.apply(means.rt, means.alloc, edit, means.gate, builds, products))
+    edit_reply(session.apply(means, edit, builds, products))
 }
 
 /// Why there is no score, as a reply says it.
@@ -144,7 +143,7 @@ pub fn reply_with_alternatives<P: Tag>(
 
 /// The reply to a line, which changes the session where the line says an edit that is accepted.
 pub fn reply_to<R: Threads + Sync, G: Gate + Sync, B: Tag, P: Tag>(
-    means: &Means<R, G>,
+    means: &Means<'_, R, G>,
     session: &mut Session,
     line: &[u8],
     builds: &mut Builds<B>,

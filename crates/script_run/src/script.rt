@@ -10,12 +10,11 @@ ghost use Rattle.std.specs.Prelude.{◌≡◌, ◌≢◌, ◌<◌, ◌≤◌, �
 use crate::desk::Desk;
 use crate::hearing::hear_all;
 use crate::listener::Listener;
-use crate::means::Means;
 use crate::script_stop::ScriptStop;
 use carry_matrix::Steps as Products;
 use least_cost::Steps as Builds;
 use rhythm_base::Tag;
-use rhythm_ports::{Failed, Gate, Sink, Source};
+use rhythm_ports::{Failed, Gate, Means, Sink, Source};
 use std::thread::Threads;
 
 /// The most bytes that one read of a script asks for.
@@ -23,7 +22,7 @@ pub const ONE_READ: usize = 4_096;
 
 /// Answers a line that was begun, at the end of the script.
 fn close<R: Threads + Sync, O: Sink, G: Gate + Sync, B: Tag, P: Tag>(
-    means: &Means<R, G>,
+    means: &Means<'_, R, G>,
     listener: &mut Listener,
     out: &mut O,
     builds: &mut Builds<B>,
@@ -49,7 +48,7 @@ fn close<R: Threads + Sync, O: Sink, G: Gate + Sync, B: Tag, P: Tag>(
 /// and before the next line is. One read asks for at most 4,096 bytes, and comes only when all whole lines are answered. The
 /// memory for a line is taken before the first read.
 pub fn run_script<R: Threads + Sync, S: Source, O: Sink, G: Gate + Sync, B: Tag, P: Tag>(
-    means: &Means<R, G>,
+    means: &Means<'_, R, G>,
     desk: Desk,
     script: &mut S,
     out: &mut O,

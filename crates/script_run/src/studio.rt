@@ -13,14 +13,13 @@ ghost use Rattle.session_history.specs.declared.studio_command.StudioCommand.The
 ghost use Rattle.session_history.specs.declared.studio_reply.StudioReply.TheVariants as studio;
 ghost use Rattle.std.specs.Prelude.{◌≡◌, ◌≢◌, ◌≤◌, ◌↔◌, ℕ, IsOk, MatchResult};
 
-use crate::means::Means;
 use crate::reply::{edit_reply, reply_with_alternatives, reply_with_score};
 use carry_matrix::Steps as Products;
 use edit_script::{Command, LineFault, Refusal, Reply};
 use edit_session::Applied;
 use least_cost::Steps as Builds;
 use rhythm_base::{Edit, EditFault, Tag};
-use rhythm_ports::Gate;
+use rhythm_ports::{Gate, Means};
 use session_history::{History, NoStep, StudioCommand, StudioReply, read_studio_line};
 use std::thread::Threads;
 
@@ -39,7 +38,7 @@ fn step_reply(outcome: Result<Applied, NoStep>) -> StudioReply
 
 /// The reply to an edit, which becomes the last step where it is accepted.
 fn reply_to_edit<R: Threads + Sync, G: Gate + Sync, B: Tag, P: Tag>(
-    means: &Means<R, G>,
+    means: &Means<'_, R, G>,
     history: &mut History,
     edit: &Edit,
     builds: &mut Builds<B>,
@@ -52,12 +51,12 @@ fn reply_to_edit<R: Threads + Sync, G: Gate + Sync, B: Tag, P: Tag>(
     ensures goes_on { result ≢ replies.Bye }
     ensures products { products.old ≤ products.new }
 {
-    edit_reply(history.apply(means.rt, means.alloc, edit, means.gate, builds, products))
+    edit_reply(history.apply(means, edit, builds, products))
 }
 
 /// The reply to a line of a studio, which changes the history where the line says an edit that is accepted, or a step that is there.
 pub fn studio_reply_to<R: Threads + Sync, G: Gate + Sync, B: Tag, P: Tag>(
-    means: &Means<R, G>,
+    means: &Means<'_, R, G>,
     history: &mut History,
     line: &[u8],
     builds: &mut Builds<B>,

@@ -10,5 +10,4 @@ pub mod Keeping
 pub mod Leads
 pub mod Moves
 pub mod Views
-pub mod Outcomes
 pub mod WorkedStudios

@@ -3,11 +3,16 @@ use Rattle.std.proofs.Common.{◌≡◌, ◌≤◌, ℕ, ◌+◌, List, [], ◌�
 use Rattle.std.specs.Prelude.{All}
 use Rattle.std.proofs.lemmas.List.Elements.{All-append, All-cons, All-drop, All-head, All-nil, All-take, All-weaker}
 use Rattle.std.proofs.Math.Seq.{take-append_seam}
+use Rattle.edit_laws.proofs.Edited.{edited_formed}
+use Rattle.edit_session.specs.Effects.{AllLive, IsApplied, IsWayBack}
 use Rattle.edit_session.specs.Prepared.{Prepared, Suits}
 use Rattle.edit_session.specs.Session.{Session}
+use Rattle.edit_session.specs.declared.committed.Applied.{Applied}
+use Rattle.rhythm_base.specs.EditRanges.{IsEditInRange}
 use Rattle.rhythm_base.specs.Grammar.{Grammar}
 use Rattle.rhythm_base.specs.Performance.{IsWellFormed, Performance}
 use Rattle.rhythm_base.specs.Voices.{HasDerivation}
+use Rattle.rhythm_base.specs.declared.edit.Edit.{Edit}
 use Rattle.session_history.specs.Ways.{CanBeHeld, KeepsWays, LeadsBack, LeadsOn, Lives}
 use Rattle.session_history.specs.declared.steps.TheConstants.{MOST_STEPS}
 use Rattle.session_history.proofs.Leads.{before_last, from_rest, with_last}
@@ -108,6 +113,24 @@ gone_there old new x back kept grammar performance room way_back suits = record 
   room = omega (arith, room);
   way_back = way_back;
   suits = suits;
+}
+
+-- what leads to where a session stands
+abbrev pub there : Session → Prepared → Prepared
+there session x = record x { next = session.performance }
+
+-- and so does an edit that is made
+pub moved_by : (old new : Session) (edit : Edit) (a : Applied) (back : Prepared) → IsWellFormed old.performance → IsEditInRange edit → IsApplied old edit new a → IsWayBack old new back
+    → IsMoved old new (there new back) back
+moved_by old new edit a back formed range is way = record {
+  grammar = is.still.grammar;
+  performance = refl;
+  lives = living old.grammar new.performance (edited_formed old.performance new.performance edit formed range is.made.1.made)
+      (subst (λ (g : Grammar). AllLive g new.performance) is.still.grammar is.derivations);
+  short = is.room;
+  room = is.still.room;
+  way_back = way.next;
+  suits = way.suits;
 }
 
 module _ (old new : Session) (past future : List Prepared) (x back : Prepared) (keeps : KeepsWays old past future) (moved : IsMoved old new x back) where

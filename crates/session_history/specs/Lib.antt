@@ -8,3 +8,4 @@ pub mod Studio
 pub mod Steps
 pub mod Ways
 pub mod Laws
+pub mod Effects

@@ -1,23 +1,23 @@
-ghost use Rattle.edit_session.specs.Prepared.{RisesBy};
-ghost use Rattle.edit_session.specs.Products.{AreProductsOf, AreProductsOfEdit};
 ghost use Rattle.rhythm_base.specs.Counter.{risen};
-ghost use Rattle.rhythm_base.specs.EditRanges as edits;
-ghost use Rattle.edit_laws.specs.Edits.{edited};
-ghost use Rattle.edit_laws.specs.Reached.{WouldReach};
-ghost use Rattle.edit_laws.specs.EditOutcomes.{IsOutcome, made, refused};
-ghost use Rattle.rhythm_base.specs.Voices.{HasDerivation, IsCostOf};
-ghost use Rattle.rhythm_base.specs.declared.edit_fault.EditFault.TheVariants as faults;
-ghost use Rattle.rhythm_base.specs.declared.edit_fault.EditFault.{EditFault};
-ghost use Rattle.session_history.specs.Changes.{IsEdited, IsHistory, IsRedone, IsUndone};
+ghost use Rattle.rhythm_base.specs.EditRanges.{IsEditInRange};
+ghost use Rattle.session_history.specs.Changes.{IsHistory, IsRedone, IsUndone};
+ghost use Rattle.session_history.specs.Effects.{
+  HasBuiltForNoStep,
+  HasMultipliedForEdit,
+  HasMultipliedOnce,
+  IsStepMade,
+  IsStepRefused,
+  IsStepAnswer,
+};
 ghost use Rattle.session_history.specs.History.{begun_with};
-ghost use Rattle.std.specs.Prelude.{◌≡◌, ◌≢◌, ◌≤◌, ◌*◌, ◌^◌, ℕ, [], All, Err, IfErr, IfOk, IsOk, List, OnErr, OnOk, length};
+ghost use Rattle.std.specs.Prelude.{◌≡◌, [], IfErr, IfOk, OnErr, OnOk};
 
 use crate::steps::Steps;
 use carry_matrix::Steps as Products;
 use edit_session::{Applied, Session};
 use least_cost::Steps as Builds;
 use rhythm_base::{Edit, EditFault, Tag};
-use rhythm_ports::Gate;
+use rhythm_ports::{Gate, Means};
 use std::alloc::Global;
 use std::marker::Model;
 use std::thread::Threads;
@@ -97,57 +97,36 @@ impl History {
     /// changes, and after each refusal all is as before, the steps forward too.
     pub fn apply<R: Threads + Sync, G: Gate + Sync, B: Tag, P: Tag>(
         &mut self,
-        rt: &R,
-        alloc: Global,
+        means: &Means<'_, R, G>,
         edit: &Edit,
-        gate: &G,
         builds: &mut Builds<B>,
         products: &mut Products<P>,
     ) -> Result<Applied, EditFault>
-        requires { edits.IsEditInRange edit.now }
-        ensures grammar { self.new.grammar ≡ self.old.grammar }
-        ensures made { IfOk result (λ a. IsOutcome self.old.grammar self.old.present edit.now (made a.built a.cost) self.new.present) }
-        ensures derivations { OnOk result (All (HasDerivation self.new.grammar self.new.present) self.new.present.channels) }
-        ensures step { OnOk result (IsEdited self.old self.new.present self.new) }
-        ensures refused { (fault : EditFault) → result ≡ Err fault → fault ≢ faults.Memory
-            → IsOutcome self.old.grammar self.old.present edit.now (refused fault) self.new.present }
-        ensures memory { result ≡ Err faults.Memory → IsOk (edited self.old.present edit.now) }
-        ensures unchanged { OnErr result (self.new ≡ self.old) }
+        requires { IsEditInRange edit.now }
+        ensures made { IfOk result (IsStepMade self.old edit.now self.new) }
+        ensures refused { IfErr result (IsStepRefused self.old edit.now self.new) }
         ensures builds { IfOk result (λ a. builds.new ≡ risen builds.old a.built) }
-        ensures most { RisesBy builds.old builds.new (λ n. (cells : List (ℕ × ℕ))
-            → WouldReach self.old.grammar self.old.present edit.now cells → n ≤ length cells) }
-        ensures rises { builds.old ≤ builds.new }
-        ensures products { AreProductsOfEdit self.old.grammar self.old.present edit.now result products.old products.new }
-        ensures products_rise { products.old ≤ products.new }
+        ensures built { IfErr result (HasBuiltForNoStep self.old edit.now builds.old builds.new) }
+        ensures products { HasMultipliedForEdit self.old edit.now result products.old products.new }
     {
-        let prepared = self.session.prepare(rt, alloc, edit, gate, builds)?;
-        let bars = prepared.next().bars().len() as u32;
-        if let Err(_error) = self.session.reserve(bars) {
-            return Err(EditFault::Memory);
-        }
-        match self.session.commit(prepared, products) {
-            Err(dead) => Err(EditFault::NoDerivation {
-                channel: dead.channel,
-                bar: dead.bar,
-            }),
-            Ok(committed) => {
+        match self.session.make_edit(means, edit, builds, products) {
+            Ok(made) => {
                 self.future.clear();
-                self.past.put_last(committed.back);
-                Ok(committed.applied)
+                self.past.put_last(made.back);
+                Ok(made.applied)
             }
+            Err(fault) => Err(fault),
         }
     }
 
     /// Takes the last edit back. It builds no cell and takes no memory.
     pub fn undo<P: Tag>(&mut self, products: &mut Products<P>) -> Result<Applied, NoStep>
         ensures undone { OnOk result (IsUndone self.old self.new) }
-        ensures built { IfOk result (λ a. a.built ≡ 0) }
-        ensures cost { IfOk result (λ a. IsCostOf self.new.grammar self.new.present a.cost) }
+        ensures told { IfOk result (IsStepAnswer self.new) }
         ensures none { OnErr result (self.old.past ≡ []) }
         ensures unchanged { OnErr result (self.new ≡ self.old) }
-        ensures products { OnOk result (AreProductsOf 1 self.old.grammar self.old.present self.new.present products.old products.new) }
+        ensures products { OnOk result (HasMultipliedOnce self.old self.new products.old products.new) }
         ensures idle { OnErr result (products.new ≡ products.old) }
-        ensures rises { products.old ≤ products.new }
     {
         match self.past.take_last() {
             None => Err(NoStep),
@@ -165,13 +144,11 @@ impl History {
     /// Makes the next edit again that was taken back. It builds no cell and takes no memory.
     pub fn redo<P: Tag>(&mut self, products: &mut Products<P>) -> Result<Applied, NoStep>
         ensures redone { OnOk result (IsRedone self.old self.new) }
-        ensures built { IfOk result (λ a. a.built ≡ 0) }
-        ensures cost { IfOk result (λ a. IsCostOf self.new.grammar self.new.present a.cost) }
+        ensures told { IfOk result (IsStepAnswer self.new) }
         ensures none { OnErr result (self.old.future ≡ []) }
         ensures unchanged { OnErr result (self.new ≡ self.old) }
-        ensures products { OnOk result (AreProductsOf 1 self.old.grammar self.old.present self.new.present products.old products.new) }
+        ensures products { OnOk result (HasMultipliedOnce self.old self.new products.old products.new) }
         ensures idle { OnErr result (products.new ≡ products.old) }
-        ensures rises { products.old ≤ products.new }
     {
         match self.future.take_first() {
             None => Err(NoStep),

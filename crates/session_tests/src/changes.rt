@@ -4,7 +4,7 @@ use carry_matrix::Steps as Products;
 use edit_script::{Command, read_line};
 use edit_session::{Applied, Dead, Session};
 use least_cost::Steps as Builds;
-use rhythm_ports::OpenGate;
+use rhythm_ports::{Means, OpenGate};
 use std::alloc::{AllocError, Global};
 use std::test::Fail;
 use std::thread::Threads;
@@ -25,7 +25,12 @@ fn there_and_back<R: Threads + Sync>(
     let Ok(Command::Change(edit)) = read_line(alloc, line.as_bytes()) else {
         return None;
     };
-    let Ok(prepared) = session.prepare(rt, alloc, &edit, &OpenGate, &mut builds) else {
+    let means = Means {
+        rt,
+        alloc,
+        gate: &OpenGate,
+    };
+    let Ok(prepared) = session.prepare(&means, &edit, &mut builds) else {
         return None;
     };
     let bars = prepared.next().bars().len() as u32;
@@ -53,7 +58,12 @@ fn dead_after<R: Threads + Sync>(
     let Ok(Command::Change(edit)) = read_line(alloc, line.as_bytes()) else {
         return None;
     };
-    let Ok(prepared) = session.prepare(rt, alloc, &edit, &OpenGate, &mut builds) else {
+    let means = Means {
+        rt,
+        alloc,
+        gate: &OpenGate,
+    };
+    let Ok(prepared) = session.prepare(&means, &edit, &mut builds) else {
         return None;
     };
     let bars = prepared.next().bars().len() as u32;

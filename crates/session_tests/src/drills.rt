@@ -5,7 +5,7 @@ use carry_matrix::Steps as Products;
 use drill_run::{made_performance, run_drill};
 use edit_session::Session;
 use least_cost::Steps as Builds;
-use rhythm_ports::OpenGate;
+use rhythm_ports::{Means, OpenGate};
 use std::alloc::{AllocError, Global};
 use std::test::Fail;
 use std::thread::Threads;
@@ -45,26 +45,14 @@ fn summary_of<R: Threads + Sync>(
     };
     let grammar = grammar(alloc)?;
     let mut products = Products::<InTests>::zero();
-    let opened = Session::open(
+    let means = Means {
         rt,
         alloc,
-        performance,
-        grammar,
-        2,
-        &OpenGate,
-        builds,
-        &mut products,
-    );
+        gate: &OpenGate,
+    };
+    let opened = Session::open(&means, performance, grammar, 2, builds, &mut products);
     match opened {
-        Ok(session) => match run_drill(
-            rt,
-            alloc,
-            session,
-            number,
-            &OpenGate,
-            builds,
-            &mut products,
-        ) {
+        Ok(session) => match run_drill(&means, session, number, builds, &mut products) {
             Ok(text) => Some(text),
             Err(_) => None,
         },

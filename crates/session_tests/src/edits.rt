@@ -5,7 +5,7 @@ use edit_script::{Command, read_line};
 use edit_session::{Applied, Session};
 use least_cost::Steps as Builds;
 use rhythm_base::{Edit, EditFault};
-use rhythm_ports::OpenGate;
+use rhythm_ports::{Means, OpenGate};
 use sample_grammars::USUAL;
 use std::alloc::{AllocError, Global};
 use std::test::Fail;
@@ -153,8 +153,13 @@ pub fn edit<R: Threads + Sync>(
     builds: &mut Builds<InTests>,
     products: &mut Products<InTests>,
 ) -> Result<Applied, EditFault> {
+    let means = Means {
+        rt,
+        alloc,
+        gate: &OpenGate,
+    };
     match read_line(alloc, line.as_bytes()) {
-        Ok(Command::Change(edit)) => session.apply(rt, alloc, &edit, &OpenGate, builds, products),
+        Ok(Command::Change(edit)) => session.apply(&means, &edit, builds, products),
         _ => Err(EditFault::Memory),
     }
 }

@@ -8,7 +8,7 @@ use barline_fit::{Candidate, Candidates, FitFault, Fitted, best_barline, fitted_
 use carry_matrix::Steps as Products;
 use edit_session::Session;
 use least_cost::Steps as Builds;
-use rhythm_ports::OpenGate;
+use rhythm_ports::{Means, OpenGate};
 use std::alloc::{AllocError, Global};
 use std::test::Fail;
 use std::thread::Threads;
@@ -33,7 +33,12 @@ fn fitted<R: Threads + Sync>(
     requires few { (among.high - among.low) / among.step < MOST_CANDIDATES }
 {
     let mut products = Products::<InTests>::zero();
-    best_barline(rt, alloc, session, among, &OpenGate, builds, &mut products)
+    let means = Means {
+        rt,
+        alloc,
+        gate: &OpenGate,
+    };
+    best_barline(&means, session, among, builds, &mut products)
 }
 
 /// The score with the barline at the best of the ticks.
@@ -50,13 +55,18 @@ fn best_score<R: Threads + Sync>(
     requires few { (among.high - among.low) / among.step < MOST_CANDIDATES }
 {
     let mut products = Products::<InTests>::zero();
-    match best_barline(rt, alloc, session, among, &OpenGate, builds, &mut products) {
+    let means = Means {
+        rt,
+        alloc,
+        gate: &OpenGate,
+    };
+    match best_barline(&means, session, among, builds, &mut products) {
         Ok(fitted) => {
             let best = Candidate {
                 bar: among.bar,
                 tick: fitted.tick,
             };
-            match fitted_score(rt, alloc, session, best, &OpenGate, builds, &mut products) {
+            match fitted_score(&means, session, best, builds, &mut products) {
                 Ok(score) => Some(score),
                 Err(_) => None,
             }

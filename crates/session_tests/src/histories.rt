@@ -4,7 +4,7 @@ use carry_matrix::Steps as Products;
 use edit_script::{Command, Reply as Answer};
 use least_cost::Steps as Builds;
 use rhythm_base::EditFault;
-use rhythm_ports::{MemSink, OpenGate};
+use rhythm_ports::{Means, MemSink, OpenGate};
 use session_history::{
     History, MOST_STEPS, NoStep, StudioCommand, StudioReply, read_studio_line, write_studio_reply,
 };
@@ -32,6 +32,11 @@ fn answer<R: Threads + Sync>(
 ) -> Option<Reply> {
     let mut builds = Builds::<InTests>::zero();
     let mut products = Products::<InTests>::zero();
+    let means = Means {
+        rt,
+        alloc,
+        gate: &OpenGate,
+    };
     let reply = match read_studio_line(alloc, line.as_bytes()) {
         Ok(StudioCommand::Undo) => match history.undo(&mut products) {
             Ok(applied) => Reply::Made(applied.built, applied.cost),
@@ -42,7 +47,7 @@ fn answer<R: Threads + Sync>(
             Err(NoStep) => Reply::NoStep,
         },
         Ok(StudioCommand::Plain(Command::Change(edit))) => {
-            match history.apply(rt, alloc, &edit, &OpenGate, &mut builds, &mut products) {
+            match history.apply(&means, &edit, &mut builds, &mut products) {
                 Ok(applied) => Reply::Made(applied.built, applied.cost),
                 Err(fault) => Reply::Refused(fault),
             }

@@ -9,7 +9,7 @@ use grammar_file::{GrammarFault, read_grammar};
 use least_cost::Steps as Builds;
 use performance_load::{LoadFault, load};
 use rhythm_base::{Edit, EditFault, Tag};
-use rhythm_ports::OpenGate;
+use rhythm_ports::{Means, OpenGate};
 use smf_reader::{SmfFault, read_smf};
 use std::alloc::Global;
 use std::thread::Threads;
@@ -55,17 +55,13 @@ pub fn edited_score<R: Threads + Sync>(
     let rules = read_grammar(alloc, grammar)?;
     let mut builds = Builds::<OneEdit>::zero();
     let mut products = Products::<OneEdit>::zero();
-    let mut session = Session::open(
+    let means = Means {
         rt,
         alloc,
-        performance,
-        rules,
-        2,
-        &OpenGate,
-        &mut builds,
-        &mut products,
-    )?;
-    let _applied = session.apply(rt, alloc, edit, &OpenGate, &mut builds, &mut products)?;
+        gate: &OpenGate,
+    };
+    let mut session = Session::open(&means, performance, rules, 2, &mut builds, &mut products)?;
+    let _applied = session.apply(&means, edit, &mut builds, &mut products)?;
     let text = session.score(alloc)?;
     Ok(text)
 }

@@ -9,7 +9,7 @@ use grammar_file::read_grammar;
 use least_cost::Steps as Builds;
 use performance_load::load;
 use rhythm_base::{Grammar, Performance, Tag};
-use rhythm_ports::OpenGate;
+use rhythm_ports::{Means, OpenGate};
 use sample_grammars::USUAL;
 use smf_reader::{Smf, read_smf};
 use std::alloc::Global;
@@ -90,16 +90,12 @@ pub fn opened<R: Threads + Sync>(rt: &R, alloc: Global, bytes: &[u8]) -> Option<
     let grammar = grammar(alloc)?;
     let mut builds = Builds::<InTests>::zero();
     let mut products = Products::<InTests>::zero();
-    match Session::open(
+    let means = Means {
         rt,
         alloc,
-        performance,
-        grammar,
-        2,
-        &OpenGate,
-        &mut builds,
-        &mut products,
-    ) {
+        gate: &OpenGate,
+    };
+    match Session::open(&means, performance, grammar, 2, &mut builds, &mut products) {
         Ok(session) => Some(session),
         Err(_) => None,
     }

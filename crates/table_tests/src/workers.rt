@@ -7,7 +7,7 @@ use bar_pool::{Order, Rooms, build_cells};
 use grammar_plan::Plan;
 use least_cost::{BarTable, Steps};
 use rhythm_base::{BarInput, Grammar, Tag};
-use rhythm_ports::{Gate, OpenGate};
+use rhythm_ports::{Gate, Means, OpenGate};
 use std::alloc::Global;
 use std::sync::atomic::{AtomicBool, AtomicU64, Ordering};
 use std::test::Fail;
@@ -82,11 +82,15 @@ fn a_worker_draws_what_a_held_one_leaves(rt: HostRuntime) -> Result<(), Fail> {
             grammar: &grammar,
             plan: &plan,
             inputs: inputs.as_slice(),
+        };
+        let means = Means {
+            rt: &rt,
+            alloc,
             gate: &gate,
         };
         let mut rooms = Rooms::new(alloc);
         let mut builds = Steps::<ByWorkers>::zero();
-        let tables = build_cells(&rt, alloc, &order, 2, &mut rooms, &mut builds)?;
+        let tables = build_cells(&means, &order, 2, &mut rooms, &mut builds)?;
         assert!(rt; tables.len() == 4 && builds.count() == 4, "number {held}");
         assert!(rt;
             !gate.gave_up.load(Ordering::SeqCst),
@@ -121,14 +125,18 @@ fn any_number_of_workers_gives_equal_tables(rt: HostRuntime) -> Result<(), Fail>
         grammar: &grammar,
         plan: &plan,
         inputs: inputs.as_slice(),
+    };
+    let means = Means {
+        rt: &rt,
+        alloc,
         gate: &OpenGate,
     };
     let mut rooms = Rooms::new(alloc);
     let mut builds = Steps::<ByWorkers>::zero();
-    let alone = build_cells(&rt, alloc, &order, 1, &mut rooms, &mut builds)?;
+    let alone = build_cells(&means, &order, 1, &mut rooms, &mut builds)?;
     assert!(rt; alone.len() == 12);
     for workers in [2u32, 3, 16] {
-        let tables = build_cells(&rt, alloc, &order, workers, &mut rooms, &mut builds)?;
+        let tables = build_cells(&means, &order, workers, &mut rooms, &mut builds)?;
         assert!(rt; tables.len() == 12);
         for (one, other) in alone.iter().zip(tables.iter()) {
             assert!(rt; are_equal(one, other), "by {workers} workers");
@@ -149,11 +157,15 @@ fn the_tables_differ(rt: HostRuntime) -> Result<(), Fail> {
         grammar: &grammar,
         plan: &plan,
         inputs: inputs.as_slice(),
+    };
+    let means = Means {
+        rt: &rt,
+        alloc,
         gate: &OpenGate,
     };
     let mut rooms = Rooms::new(alloc);
     let mut builds = Steps::<ByWorkers>::zero();
-    let tables = build_cells(&rt, alloc, &order, 16, &mut rooms, &mut builds)?;
+    let tables = build_cells(&means, &order, 16, &mut rooms, &mut builds)?;
     for (one, other) in tables.iter().zip(tables.iter().skip(1)) {
         assert!(rt; !are_equal(one, other));
     }
@@ -169,11 +181,15 @@ fn no_cells_by_four_workers(rt: HostRuntime) -> Result<(), Fail> {
         grammar: &grammar,
         plan: &plan,
         inputs: &[],
+    };
+    let means = Means {
+        rt: &rt,
+        alloc,
         gate: &OpenGate,
     };
     let mut rooms = Rooms::new(alloc);
     let mut builds = Steps::<ByWorkers>::zero();
-    let tables = build_cells(&rt, alloc, &order, 4, &mut rooms, &mut builds)?;
+    let tables = build_cells(&means, &order, 4, &mut rooms, &mut builds)?;
     assert!(rt; tables.is_empty() && builds.count() == 0);
     Ok(())
 }

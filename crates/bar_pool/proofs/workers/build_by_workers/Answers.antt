@@ -9,7 +9,7 @@ pub returns-in_err-tables-clause-most : goal.returns-in_err-tables-clause-most
 returns-in_err-tables-clause-most g c =
     let seat = c.build_in_halves-seat.result.seat in
     let few = closed_few (length c.args.order.now.inputs.now) c.args.workers c.in_ok-table.table.shared.key _ _ seat.id seat.me c.in_ok-table.ensures.5 c.close_with.ensures.values.2 in
-    omega (arith, few, c.build_in_halves-seat.ensures.builds, c.absorb.ensures)
+    (omega (arith, c.build_in_halves-seat.ensures.builds, c.absorb.ensures), omega (arith, few, c.build_in_halves-seat.ensures.builds, c.absorb.ensures))
 
 pub in_places-requires : goal.in_places-requires
 in_places-requires g c =
@@ -40,4 +40,4 @@ pub returns-clause-most : goal.returns-clause-most
 returns-clause-most g c =
     let seat = c.build_in_halves-seat.result.seat in
     let few = closed_few (length c.args.order.now.inputs.now) c.args.workers c.in_ok-table.table.shared.key _ _ seat.id seat.me c.in_ok-table.ensures.5 c.close_with.ensures.values.2 in
-    omega (arith, few, c.build_in_halves-seat.ensures.builds, c.absorb.ensures)
+    (omega (arith, c.build_in_halves-seat.ensures.builds, c.absorb.ensures), omega (arith, few, c.build_in_halves-seat.ensures.builds, c.absorb.ensures))

@@ -1,11 +1,9 @@
 use Rattle.std.proofs.Common.{rules, ◌≡◌, ◌+◌, ◌*◌, ◌≤◌, ◌^◌, ℕ, false, List, length, ap, sym, subst, ◌∙◌, refl, arith}
-use Rattle.std.specs.Prelude.{All, IfSome, Option, Some, None, is_none, nat_le}
+use Rattle.std.specs.Prelude.{All, Option, Some, None, is_none, nat_le}
 use Rattle.std.proofs.lemmas.Bool.{true≢false}
-use Rattle.rhythm_base.specs.Counter.{risen}
 use Rattle.rhythm_base.specs.declared.edit.Edit.{Edit}
 use Rattle.rhythm_base.specs.Grammar.{Grammar}
 use Rattle.rhythm_base.specs.Performance.{Performance}
-use Rattle.rhythm_base.specs.Voices.{IsCostOf}
 use Rattle.barline_follow.specs.Answer.{IsAnswer, chosen}
 use Rattle.barline_follow.specs.Bars.{barlines_of}
 use Rattle.barline_follow.specs.Barring.{Barring}
@@ -14,7 +12,11 @@ use Rattle.barline_follow.specs.Rounds.{IsBest}
 use Rattle.barline_follow.specs.Script.{IsOfBars, Leads, script}
 use Rattle.barline_follow.proofs.Answering.{accepted, chosen_best, chosen_old, kept, of_bars, refused}
 use Rattle.barline_follow.proofs.BestBounds.{IsShort, best_short}
-use Rattle.barline_follow.proofs.MostBuilt.{most_tried, most_untried, within_search, within_trial}
+use Rattle.barline_follow.proofs.MostBuilt.{built_tried, built_untried, within_search, within_trial}
+use Rattle.barline_follow.specs.Searched.{AreBuiltInSearch}
+use Rattle.barline_follow.specs.Trial.{IsCostAfter}
+use Rattle.bar_pool.specs.Pool.{RisesWithin}
+use Rattle.edit_session.specs.Prepared.{RisesBy}
 use Rattle.barline_follow.proofs.following.follow.Goals as goal
 
 -- what is found and the cost are those of the session
@@ -29,8 +31,12 @@ none_is : (o : Option Barring) → ((b : Barring) → o ≡ Some b → ⊥) → 
 none_is None h = refl
 none_is (Some b) h = absurd (h b refl)
 
-few_of_session : (p q : Performance) (old new : ℕ) → q ≡ p → new ≤ risen old (most_tables q) → new ≤ risen old (most_tables p)
-few_of_session p q old new is few = subst (λ (r : Performance). new ≤ risen old (most_tables r)) is few
+few_of_session : (p q : Performance) (old new : ℕ) → q ≡ p → RisesWithin old new (most_tables q) → RisesWithin old new (most_tables p)
+few_of_session p q old new is few = subst (λ (r : Performance). RisesWithin old new (most_tables r)) is few
+
+built_of_session : (g h : Grammar) (p q : Performance) (old new : ℕ) → h ≡ g → q ≡ p → RisesBy old new (AreBuiltInSearch h q) → RisesBy old new (AreBuiltInSearch g p)
+built_of_session g h p q old new grammar performance built =
+    subst (λ (k : Grammar). RisesBy old new (AreBuiltInSearch k p)) grammar (subst (λ (r : Performance). RisesBy old new (AreBuiltInSearch h r)) performance built)
 
 pub follow_script-requires-clause-few : goal.follow_script-requires-clause-few
 follow_script-requires-clause-few world c =
@@ -95,7 +101,7 @@ returns-then-is_none-clause-answer world c =
     let none : c.in_ok-tried.tried ≡ None = search rules in
     let lines : c.as_slice-lines.result.now ≡ script p best.ticks = c.as_slice-lines.ensures.value ∙ script_is in
     let never : (after : Performance) → Leads g p (script p best.ticks) after → ⊥ =
-    λ after leads. c.in_ok-tried.ensures.refused none (subst (All IsOfBars) (sym lines) (of_bars p best.ticks)) after
+    λ after leads. (subst (IsCostAfter c.args.session.now c.as_slice-lines.result.now) none c.in_ok-tried.ensures.cost) (subst (All IsOfBars) (sym lines) (of_bars p best.ticks)) after
     (subst (λ (l : List Edit). Leads g p l after) (sym lines) leads) in
     subst (λ (l : List Edit). IsAnswer g p l) (sym c.new-then-is_none.ensures.items) (refused g p (Some best) c.cost-before.result is_best c.cost-before.ensures best.ticks wanted never)
 
@@ -114,7 +120,7 @@ returns-clause-answer world c =
     let script_is : c.in_ok-script.script.items ≡ script p best.ticks = c.in_ok-script.ensures ∙ (λ i. script (c.performance.ensures.value i) (c.ticks.ensures i)) in
     let lines : c.as_slice-lines.result.now ≡ script p best.ticks = c.as_slice-lines.ensures.value ∙ script_is in
     let some : (cost : ℕ) × (c.in_ok-tried.tried ≡ Some cost) = some_is c.in_ok-tried.tried (search rules) in
-    let tried = subst (λ (o : Option ℕ). IfSome o (λ cost. (after : Performance) × Leads g p c.as_slice-lines.result.now after × IsCostOf g after cost)) some.1 c.in_ok-tried.ensures.accepted in
+    let tried = subst (IsCostAfter session c.as_slice-lines.result.now) some.1 c.in_ok-tried.ensures.cost in
     subst (λ (l : List Edit). IsAnswer g p l) (sym script_is)
     (accepted g p (Some best) c.cost-before.result is_best c.cost-before.ensures best.ticks tried.0 wanted (subst (λ (l : List Edit). Leads g p l tried.0) lines tried.1))
 
@@ -138,17 +144,18 @@ returns-in_err-script-clause-most world c =
     within_search c.args.session.now.grammar c.args.session.now.performance c.args.builds.now c.best_barlines.new.builds
     (few_of_session c.args.session.now.performance _ c.args.builds.now c.best_barlines.new.builds c.performance-performance.ensures.value c.in_ok-best.ensures.most)
 
-pub returns-in_default-clause-bound : goal.returns-in_default-clause-bound
-returns-in_default-clause-bound g c =
+pub returns-in_default-clause-builds : goal.returns-in_default-clause-builds
+returns-in_default-clause-builds g c =
     let session = c.args.session.now in
     let is_best = best_of_session session.grammar _ session.performance _ c.in_ok-best.best c.grammar-grammar.ensures.value c.performance-performance.ensures.value c.in_ok-best.ensures.best in
     let none : c.in_ok-best.best ≡ None = none_is c.in_ok-best.best c.in_default.not-Some in
     let old : chosen session.performance c.cost-before.result c.in_ok-best.best ≡ barlines_of session.performance = ap (chosen session.performance c.cost-before.result) none in
-    most_untried session.grammar session.performance c.in_ok-best.best c.cost-before.result is_best c.cost-before.ensures c.args.builds.now c.best_barlines.new.builds old
-    (few_of_session c.args.session.now.performance _ c.args.builds.now c.best_barlines.new.builds c.performance-performance.ensures.value c.in_ok-best.ensures.most)
+    built_untried session.grammar session.performance c.in_ok-best.best c.cost-before.result is_best c.cost-before.ensures c.args.builds.now c.best_barlines.new.builds old
+    (built_of_session c.args.session.now.grammar _ c.args.session.now.performance _ c.args.builds.now c.best_barlines.new.builds c.grammar-grammar.ensures.value c.performance-performance.ensures.value
+    c.in_ok-best.ensures.builds)
 
-pub returns-then-not-gains-clause-bound : goal.returns-then-not-gains-clause-bound
-returns-then-not-gains-clause-bound world c =
+pub returns-then-not-gains-clause-builds : goal.returns-then-not-gains-clause-builds
+returns-then-not-gains-clause-builds world c =
     let session = c.args.session.now in
     let g : Grammar = session.grammar in
     let p : Performance = session.performance in
@@ -159,8 +166,9 @@ returns-then-not-gains-clause-bound world c =
     c.gains.ensures ∙ (λ i. nat_le (10 * (c.cost.ensures i + c.prices.ensures i)) (7 * c.cost-before.result)) in
     let old : chosen p c.cost-before.result (Some best) ≡ barlines_of p =
     chosen_old p c.cost-before.result best (sym value ∙ c.if-not-gains.true) in
-    most_untried g p (Some best) c.cost-before.result is_best c.cost-before.ensures c.args.builds.now c.best_barlines.new.builds old
-    (few_of_session c.args.session.now.performance _ c.args.builds.now c.best_barlines.new.builds c.performance-performance.ensures.value c.in_ok-best.ensures.most)
+    built_untried g p (Some best) c.cost-before.result is_best c.cost-before.ensures c.args.builds.now c.best_barlines.new.builds old
+    (built_of_session c.args.session.now.grammar _ c.args.session.now.performance _ c.args.builds.now c.best_barlines.new.builds c.grammar-grammar.ensures.value c.performance-performance.ensures.value
+    c.in_ok-best.ensures.builds)
 
 pub returns-in_err-tried-clause-most : goal.returns-in_err-tried-clause-most
 returns-in_err-tried-clause-most world c =
@@ -198,8 +206,8 @@ returns-then-is_none-clause-most world c =
     within_trial g p (Some best) c.cost-before.result is_best c.cost-before.ensures best.ticks c.as_slice-lines.result.now c.args.builds.now c.best_barlines.new.builds c.try_edits.new.builds
     wanted lines (few_of_session c.args.session.now.performance _ c.args.builds.now c.best_barlines.new.builds c.performance-performance.ensures.value c.in_ok-best.ensures.most) rises
 
-pub returns-then-is_none-clause-bound : goal.returns-then-is_none-clause-bound
-returns-then-is_none-clause-bound world c =
+pub returns-then-is_none-clause-builds : goal.returns-then-is_none-clause-builds
+returns-then-is_none-clause-builds world c =
     let session = c.args.session.now in
     let g : Grammar = session.grammar in
     let p : Performance = session.performance in
@@ -213,8 +221,9 @@ returns-then-is_none-clause-bound world c =
     let script_is : c.in_ok-script.script.items ≡ script p best.ticks = c.in_ok-script.ensures ∙ (λ i. script (c.performance.ensures.value i) (c.ticks.ensures i)) in
     let lines : c.as_slice-lines.result.now ≡ script p best.ticks = c.as_slice-lines.ensures.value ∙ script_is in
     let rises = c.in_ok-tried.ensures.reached (subst (All IsOfBars) (sym lines) (of_bars p best.ticks)) in
-    most_tried g p (Some best) c.cost-before.result is_best c.cost-before.ensures best.ticks c.as_slice-lines.result.now c.args.builds.now c.best_barlines.new.builds c.try_edits.new.builds
-    wanted lines (few_of_session c.args.session.now.performance _ c.args.builds.now c.best_barlines.new.builds c.performance-performance.ensures.value c.in_ok-best.ensures.most) rises
+    built_tried g p (Some best) c.cost-before.result is_best c.cost-before.ensures best.ticks c.as_slice-lines.result.now c.args.builds.now c.best_barlines.new.builds c.try_edits.new.builds
+    wanted lines (built_of_session c.args.session.now.grammar _ c.args.session.now.performance _ c.args.builds.now c.best_barlines.new.builds c.grammar-grammar.ensures.value c.performance-performance.ensures.value
+    c.in_ok-best.ensures.builds) rises
 
 pub returns-clause-most : goal.returns-clause-most
 returns-clause-most world c =
@@ -234,8 +243,8 @@ returns-clause-most world c =
     within_trial g p (Some best) c.cost-before.result is_best c.cost-before.ensures best.ticks c.as_slice-lines.result.now c.args.builds.now c.best_barlines.new.builds c.try_edits.new.builds
     wanted lines (few_of_session c.args.session.now.performance _ c.args.builds.now c.best_barlines.new.builds c.performance-performance.ensures.value c.in_ok-best.ensures.most) rises
 
-pub returns-clause-bound : goal.returns-clause-bound
-returns-clause-bound world c =
+pub returns-clause-builds : goal.returns-clause-builds
+returns-clause-builds world c =
     let session = c.args.session.now in
     let g : Grammar = session.grammar in
     let p : Performance = session.performance in
@@ -249,5 +258,6 @@ returns-clause-bound world c =
     let script_is : c.in_ok-script.script.items ≡ script p best.ticks = c.in_ok-script.ensures ∙ (λ i. script (c.performance.ensures.value i) (c.ticks.ensures i)) in
     let lines : c.as_slice-lines.result.now ≡ script p best.ticks = c.as_slice-lines.ensures.value ∙ script_is in
     let rises = c.in_ok-tried.ensures.reached (subst (All IsOfBars) (sym lines) (of_bars p best.ticks)) in
-    most_tried g p (Some best) c.cost-before.result is_best c.cost-before.ensures best.ticks c.as_slice-lines.result.now c.args.builds.now c.best_barlines.new.builds c.try_edits.new.builds
-    wanted lines (few_of_session c.args.session.now.performance _ c.args.builds.now c.best_barlines.new.builds c.performance-performance.ensures.value c.in_ok-best.ensures.most) rises
+    built_tried g p (Some best) c.cost-before.result is_best c.cost-before.ensures best.ticks c.as_slice-lines.result.now c.args.builds.now c.best_barlines.new.builds c.try_edits.new.builds
+    wanted lines (built_of_session c.args.session.now.grammar _ c.args.session.now.performance _ c.args.builds.now c.best_barlines.new.builds c.grammar-grammar.ensures.value c.performance-performance.ensures.value
+    c.in_ok-best.ensures.builds) rises

@@ -1,7 +1,7 @@
 use Rattle.std.proofs.Common.{◌≡◌, ℕ, ◌+◌, ◌*◌, ◌≤◌, List, Vec, Global, length, map, ap, sym, subst, ◌∙◌, arith}
 use Rattle.std.specs.Prelude.{All, Option}
 use Rattle.std.specs.List.{filter_map}
-use Rattle.bar_pool.specs.Pool.{AreTablesOf}
+use Rattle.bar_pool.specs.Pool.{AreTablesOf, RisesWithin}
 use Rattle.rhythm_base.specs.BarInput.{BarInput}
 use Rattle.rhythm_base.specs.BarTables.{BarTable}
 use Rattle.rhythm_base.specs.Counter.{risen}
@@ -13,6 +13,7 @@ use Rattle.barline_follow.specs.NextBars.{AreTriedOffers, IsCourseOf, all_cells}
 use Rattle.barline_follow.specs.Rounds.{IsNextFront, going_on}
 use Rattle.barline_follow.proofs.FewTables.{few_tables}
 use Rattle.barline_follow.proofs.NextBarLemmas.{units_are}
+use Rattle.barline_follow.proofs.RoundTables.{built_in_round}
 use Rattle.barline_follow.proofs.WholeRounds.{all_among, all_tried, whole_round}
 use Rattle.barline_follow.proofs.search.next_round.Goals as goal
 
@@ -59,8 +60,9 @@ returns-clause-courses g c =
     let was = c.in_ok-round.ensures in
     all_among (IsCourseOf next (next.number + 1)) c.close.result.0.items was.1 was.3 (c.close.ensures.among c.args.best was.0 was.1 was.4)
 
-within : (old new n m : ℕ) → new ≤ risen old n → n ≤ m → new ≤ risen old m
-within old new n m built few = omega (arith, built, few)
+-- no more tables than there may be in a round
+within : (old new n m : ℕ) → RisesWithin old new n → n ≤ m → RisesWithin old new m
+within old new n m built few = (built.0, omega (arith, built.1, few))
 
 pub returns-in_err-tables-clause-most : goal.returns-in_err-tables-clause-most
 returns-in_err-tables-clause-most g c =
@@ -88,3 +90,13 @@ returns-clause-most g c =
     let few = few_tables next c.args.front.now (items_of c.as_slice-tried.result.now) c.requires.few_lists tried in
     within c.args.builds.now c.build_cells.new.builds (length c.as_slice-inputs.result.now) (24 * 14 * length next.voices.now)
     c.build_cells.ensures.most (omega (arith, long, few))
+
+pub returns-clause-builds : goal.returns-clause-builds
+returns-clause-builds g c =
+    let next = c.args.next.now in
+    let tried = subst (λ (l : List (Vec Offer Global)). Each (AreTriedOffers next) c.args.front.now (items_of l)) (sym c.as_slice-tried.ensures.value) c.in_ok-all.ensures in
+    let long = ap length (c.as_slice-inputs.ensures.value ∙ c.in_ok-cells.ensures) in (
+      length (all_cells next c.args.front.now (items_of c.as_slice-tried.result.now)),
+      c.in_ok-tables.ensures.builds ∙ ap (risen c.args.builds.now) long,
+      built_in_round next c.requires.next c.args.front.now (items_of c.as_slice-tried.result.now) tried,
+    )

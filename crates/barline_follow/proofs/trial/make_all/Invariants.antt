@@ -10,8 +10,7 @@ abbrev pub invariant-edits : goal.invariant-edits
 invariant-edits g l =
     (l.session.grammar ≡ l.initial.session.grammar)
     × (l.initial.session.room ≤ l.session.room)
-    × LeadBack l.initial.session.grammar l.session.room l.session.performance (reverse l.backs.items) l.initial.session.performance
+    × LeadBack l.session.grammar l.session.room l.session.performance (reverse l.backs.items) l.initial.session.performance
     × Leads l.initial.session.grammar l.initial.session.performance (take l.edit-index l.script) l.session.performance
-    × (l.initial.builds ≤ l.builds)
     × (l.initial.products ≤ l.products)
     × (All IsOfBars l.script → RisesBy l.initial.builds l.builds (AreReachedInTurn l.initial.session.grammar l.initial.session.performance (take l.edit-index l.script)))

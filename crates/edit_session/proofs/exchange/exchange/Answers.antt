@@ -51,6 +51,9 @@ returns-clause-way_back g c = λ x h channels bars.
     (subst₂ (λ n b. length c.exchange_voices.new.gone.items ≤ length items + n * (length x.before.bars - b)) (c.requires.channels ∙ ap length channels) bars count))
 
 pub returns-clause-products : goal.returns-clause-products
-returns-clause-products g c = λ d n each few fits.
-    subst (λ m. c.exchange_voices.new.products ≤ risen c.args.products.now ((m + length c.args.voices.now * (n - c.args.bars)) * d))
-    (ap length c.reverse.ensures.items ∙ length-reverse c.args.tables.items) (c.exchange_voices.ensures.products d n each few fits)
+returns-clause-products g c = (
+  c.exchange_voices.ensures.products.0,
+  λ d n each few fits.
+      subst (λ m. c.exchange_voices.new.products ≤ risen c.args.products.now ((m + length c.args.voices.now * (n - c.args.bars)) * d))
+      (ap length c.reverse.ensures.items ∙ length-reverse c.args.tables.items) (c.exchange_voices.ensures.products.1 d n each few fits),
+)

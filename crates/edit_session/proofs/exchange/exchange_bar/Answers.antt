@@ -38,12 +38,15 @@ returns-then-is_last_of-clause-count g c = λ n same.
     (ap (λ (q : ℕ × ℕ). q.1) (cell g c)) c.take_last-next.ensures.items c.place_table.ensures.swapped c.place_table.ensures.pushed same
 
 pub returns-then-is_last_of-clause-products : goal.returns-then-is_last_of-clause-products
-returns-then-is_last_of-clause-products g c = λ d m long count.
-    let parts = ap length c.take_last-next.ensures.items in
-    let sum = length-append c.take_last-next.new.self.items (c.take_last-next.result ∷ []) in
-    let one : 1 ≡ m = omega (arith, parts, sum, count) in
-    let alone : d ≡ 1 * d = omega arith in
-    subst (λ n. c.place_table.new.products ≤ risen c.args.products.now n) (alone ∙ ap (λ m. m * d) one) (c.place_table.ensures.products d long)
+returns-then-is_last_of-clause-products g c = (
+  c.place_table.ensures.products.0,
+  λ d m long count.
+      let parts = ap length c.take_last-next.ensures.items in
+      let sum = length-append c.take_last-next.new.self.items (c.take_last-next.result ∷ []) in
+      let one : 1 ≡ m = omega (arith, parts, sum, count) in
+      let alone : d ≡ 1 * d = omega arith in
+      subst (λ n. c.place_table.new.products ≤ risen c.args.products.now n) (alone ∙ ap (λ m. m * d) one) (c.place_table.ensures.products.1 d long),
+)
 
 pub returns-else-is_last_of-clause-exchanged : goal.returns-else-is_last_of-clause-exchanged
 returns-else-is_last_of-clause-exchanged g c = λ x first begin is voice low h.

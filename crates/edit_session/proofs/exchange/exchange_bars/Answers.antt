@@ -47,7 +47,7 @@ bars-preserved g c =
           let most : length c.exchange_bar.new.voice.tables ≤ max n (c.bars.number + 1) = omega (arith, before.no_more, step.no_more) in
           subst (λ k. c.exchange_bar.new.products ≤ risen c.args.products.now (k * d)) (omega (arith, long, before.less, step.less))
           (risen_both c.args.products.now earlier now d c.bars.products c.exchange_bar.new.products (before.products d earlier few fits (omega (arith, before.less)))
-          (step.products d now (omega (arith, most, few, fits, c.bars-test.true)) (omega (arith, step.less))));
+          (step.products.1 d now (omega (arith, most, few, fits, c.bars-test.true)) (omega (arith, step.less))));
       less = omega (arith, before.less, step.less);
-      rises = omega (arith, before.rises, step.rises);
+      rises = omega (arith, before.rises, step.products.0);
     }

@@ -28,9 +28,12 @@ returns-clause-count g c =
     )
 
 pub returns-clause-products : goal.returns-clause-products
-returns-clause-products g c = λ d m few fits long.
-    let mid = c.exchange_bars.new.voice.tables in
-    let first = c.exchange_bars.ensures.products d m few fits long in
-    let second = c.give_lost.ensures.products d (omega (arith, few, fits, c.exchange_bars.ensures.no_more)) in
-    subst (λ n. c.give_lost.new.products ≤ risen c.args.products.now (n * d)) (omega (arith, c.exchange_bars.ensures.no_fewer, c.exchange_bars.ensures.no_more))
-    (risen_both c.args.products.now m (length mid - c.args.bars) d c.exchange_bars.new.products c.give_lost.new.products first second)
+returns-clause-products g c = (
+  omega (arith, c.exchange_bars.ensures.products.0, c.give_lost.ensures.products.0),
+  λ d m few fits long.
+      let mid = c.exchange_bars.new.voice.tables in
+      let first = c.exchange_bars.ensures.products.1 d m few fits long in
+      let second = c.give_lost.ensures.products.1 d (omega (arith, few, fits, c.exchange_bars.ensures.no_more)) in
+      subst (λ n. c.give_lost.new.products ≤ risen c.args.products.now (n * d)) (omega (arith, c.exchange_bars.ensures.no_fewer, c.exchange_bars.ensures.no_more))
+      (risen_both c.args.products.now m (length mid - c.args.bars) d c.exchange_bars.new.products c.give_lost.new.products first second),
+)

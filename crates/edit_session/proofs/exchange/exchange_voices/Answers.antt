@@ -96,10 +96,10 @@ voices-preserved g c =
           let next : (k + 1) * (n - c.args.bars) ≡ k * (n - c.args.bars) + (n - c.args.bars) = grind arith in
           subst (λ j. c.exchange_voice.new.products ≤ risen c.args.products.now (j * d)) (omega (arith, long, inv.less, step.less, here, next))
           (risen_both c.args.products.now (earlier + k * (n - c.args.bars)) (later + (length voice.tables - c.args.bars)) d c.voices.products c.exchange_voice.new.products
-          (inv.products d earlier n each few fits (omega (arith, inv.less))) (step.products d later (omega (arith, here, few)) fits (omega (arith, step.less))));
+          (inv.products d earlier n each few fits (omega (arith, inv.less))) (step.products.1 d later (omega (arith, here, few)) fits (omega (arith, step.less))));
       upto = omega (arith, c.voices-test.true);
       less = omega (arith, inv.less, step.less);
-      rises = omega (arith, inv.rises, step.rises);
+      rises = omega (arith, inv.rises, step.products.0);
     }
 
 pub returns-clause-exchanged : goal.returns-clause-exchanged
@@ -116,9 +116,12 @@ returns-clause-count g c = λ n each.
     omega (arith, c.voices.invariant.count n each, first, upto)
 
 pub returns-clause-products : goal.returns-clause-products
-returns-clause-products g c = λ d n each few fits.
-    let less = c.voices.invariant.less in
-    let m : ℕ = length c.args.coming.now.items - length c.voices.coming.items in
-    let upto : c.voices.number * (n - c.args.bars) ≤ length c.args.voices.now * (n - c.args.bars) = mul-le-mul_right (n - c.args.bars) c.voices.invariant.upto in
-    risen_upto c.args.products.now (m + c.voices.number * (n - c.args.bars)) (length c.args.coming.now.items + length c.args.voices.now * (n - c.args.bars)) d c.voices.products
-    (omega (arith, upto)) (c.voices.invariant.products d m n each few fits (omega (arith, less)))
+returns-clause-products g c = (
+  c.voices.invariant.rises,
+  λ d n each few fits.
+      let less = c.voices.invariant.less in
+      let m : ℕ = length c.args.coming.now.items - length c.voices.coming.items in
+      let upto : c.voices.number * (n - c.args.bars) ≤ length c.args.voices.now * (n - c.args.bars) = mul-le-mul_right (n - c.args.bars) c.voices.invariant.upto in
+      risen_upto c.args.products.now (m + c.voices.number * (n - c.args.bars)) (length c.args.coming.now.items + length c.args.voices.now * (n - c.args.bars)) d c.voices.products
+      (omega (arith, upto)) (c.voices.invariant.products d m n each few fits (omega (arith, less))),
+)

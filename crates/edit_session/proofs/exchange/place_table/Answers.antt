@@ -10,6 +10,9 @@ pub push_within-requires-clause-cheap : goal.push_within-requires-clause-cheap
 push_within-requires-clause-cheap g c κs within = subst IsCheapTable (sym c.coming.view_is) c.requires.cheap
 
 pub returns-else-bar-tables-clause-products : goal.returns-else-bar-tables-clause-products
-returns-else-bar-tables-clause-products g c = λ d few.
-    let long = ap length c.push_within.ensures.tables ∙ length-append c.args.voice.now.tables (c.coming.inside.table ∷ []) in
-    c.push_within.ensures.products d (omega (arith, few, long))
+returns-else-bar-tables-clause-products g c = (
+  c.push_within.ensures.products.0,
+  λ d few.
+      let long = ap length c.push_within.ensures.tables ∙ length-append c.args.voice.now.tables (c.coming.inside.table ∷ []) in
+      c.push_within.ensures.products.1 d (omega (arith, few, long)),
+)

@@ -43,8 +43,8 @@ lost-preserved g c =
       capacity = c.push_reserved.ensures.capacity ∙ c.lost.invariant.capacity;
       count = omega (arith, ap length pushed, length-append c.lost.gone.items (last ∷ []), long, c.lost.invariant.count);
       products = λ d few.
-          let step = c.pop-table.ensures.products d (omega (arith, few, c.lost.invariant.fewer)) in
+          let step = c.pop-table.ensures.products.1 d (omega (arith, few, c.lost.invariant.fewer)) in
           subst (λ n. c.pop-table.new.products ≤ risen c.args.products.now (n * d)) (omega (arith, long, c.lost.invariant.fewer))
           (risen_more c.args.products.now (length all - length before) d c.lost.products c.pop-table.new.products (c.lost.invariant.products d few) step);
-      rises = omega (arith, c.lost.invariant.rises, c.pop-table.ensures.rises);
+      rises = omega (arith, c.lost.invariant.rises, c.pop-table.ensures.products.0);
     }

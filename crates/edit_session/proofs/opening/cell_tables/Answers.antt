@@ -1,7 +1,7 @@
-use Rattle.std.proofs.Common.{◌≡◌, ◌≤◌, length, subst, sym, ap, ◌∙◌}
+use Rattle.std.proofs.Common.{◌≡◌, length, subst, sym, ap, ◌∙◌}
 use Rattle.std.specs.Prelude.{All}
 use Rattle.rhythm_base.specs.Counter.{risen}
-use Rattle.bar_pool.specs.Pool.{AreTablesOf}
+use Rattle.bar_pool.specs.Pool.{AreTablesOf, RisesWithin}
 use Rattle.std.proofs.lemmas.Result.{err_from_is_err_and}
 use Rattle.edit_session.specs.Opening.{cells_of}
 use Rattle.edit_session.proofs.Tables.{cells_long, cells_units}
@@ -30,4 +30,4 @@ returns-in_err-tables-clause-built g c =
     let p = err_from_is_err_and c.from_residual-in_err-tables.result c.from_residual-in_err-tables.ensures.1 in
     let long : length c.as_slice.result.now ≡ cells_of c.args.performance.now =
     ap length c.as_slice.ensures.value ∙ cells_long c.args.grammar.now c.args.performance.now c.in_ok-inputs.inputs.items c.in_ok-inputs.ensures.inputs in
-    rw (p.1, p.2) (subst (λ n. c.build_cells.new.builds ≤ risen c.args.builds.now n) long c.build_cells.ensures.most)
+    rw (p.1, p.2) (subst (λ n. RisesWithin c.args.builds.now c.build_cells.new.builds n) long c.build_cells.ensures.most)

@@ -19,14 +19,14 @@ returns-in-Ok g c =
     let had = c.in-Ok.ensures in
     let said = c.open_session.ensures in
     let follow = opened_follow old.files asked c.args.talk c.open_session.result grammar performance said.grammar said.performance said.opened said.unopened
-    (λ files are x h. then_had asked i (IsAnswering c.args.talk) refl (λ files r h. h) (some_in i) old mid new grammar performance had said.counts x h files are) in
+    (λ files are x h. then_had asked i (IsAnswering c.args.talk) refl (λ files r h. h) (some_in i) old mid new grammar performance had said.counts.0 x h files are) in
     record {
       ready = stage_ready old.files asked (λ s. serve c.args.talk s.grammar s.performance) c.open_session.result follow;
       cells = opened_cells i old mid new.built grammar performance had c.open_session.result said.performance said.all;
       all = opened_all i old mid new.built grammar performance had c.open_session.result said.all;
-      before = opened_before asked i (IsAnswering c.args.talk) refl (λ files r h. h) (some_in i) old mid new grammar performance had said.counts c.open_session.result
+      before = opened_before asked i (IsAnswering c.args.talk) refl (λ files r h. h) (some_in i) old mid new grammar performance had said.counts.0 c.open_session.result
           (stage_cause old.files asked (λ s. serve c.args.talk s.grammar s.performance) c.open_session.result follow said.content) said.content
-          (opened_built i old mid new.built grammar performance had c.open_session.result said.built) said.rises said.multiplies;
+          (opened_built i old mid new.built grammar performance had c.open_session.result said.built) said.counts.1.0 said.counts.1.1;
     }
 
 pub returns-in-Err : goal.returns-in-Err

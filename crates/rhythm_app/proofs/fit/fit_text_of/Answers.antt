@@ -6,7 +6,7 @@ pub returns-in-Ok : goal.returns-in-Ok
 returns-in-Ok g c =
     let said = c.fitted_by.ensures in
     fit_had (shown_inputs c.args.inputs) c.args.among c.args.lent.now c.read_inputs.new.lent c.in-Ok.grammar c.in-Ok.performance c.in-Ok.ensures c.fitted_by.new.lent c.fitted_by.result
-    said.tests said.content said.all said.built said.rises said.multiplies said.counts
+    said.tests said.content said.all said.built said.counts.1.0 said.counts.1.1 said.counts.0
 
 pub returns-in-Err : goal.returns-in-Err
 returns-in-Err g c = unread_fit (shown_inputs c.args.inputs) c.args.among c.args.lent.now c.read_inputs.new.lent c.in-Err.stop c.in-Err.ensures

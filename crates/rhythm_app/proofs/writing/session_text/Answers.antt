@@ -14,9 +14,9 @@ returns-in-Ok g c =
     let old = c.args.lent.now in
     let mid = c.read_inputs.new.lent in
     let new = c.text_by.new.lent in
-    text_had (write c.args.form i) i (IsWriting c.args.form) refl (λ files r h. h) (some_in i) old mid new c.in-Ok.grammar c.in-Ok.performance had said.counts c.text_by.result said.tests said.content
+    text_had (write c.args.form i) i (IsWriting c.args.form) refl (λ files r h. h) (some_in i) old mid new c.in-Ok.grammar c.in-Ok.performance had said.counts.0 c.text_by.result said.tests said.content
     (opened_all i old mid new.built c.in-Ok.grammar c.in-Ok.performance had c.text_by.result said.all) (opened_built i old mid new.built c.in-Ok.grammar c.in-Ok.performance had c.text_by.result said.built)
-    said.rises said.multiplies
+    said.counts.1.0 said.counts.1.1
 
 pub returns-in-Err : goal.returns-in-Err
 returns-in-Err g c =

@@ -3,21 +3,21 @@ use Rattle.edit_script.specs.ScriptLines.{SaysCommand}
 use Rattle.edit_script.specs.declared.command.Command.TheVariants.{Quit}
 use Rattle.session_history.specs.StudioLines.{SaysStudio}
 use Rattle.session_history.specs.declared.studio_command.StudioCommand.TheVariants.{Plain}
-use Rattle.script_run.proofs.Studios.{alternatives_in_studio, change_in_studio, memory_in_studio, nothing_in_studio, quit_in_studio, redo_line, score_in_studio, step_is_no_bye, studio_line_is_no_bye, studio_quits_not, undo_line}
+use Rattle.script_run.proofs.Studios.{alternatives_in_studio, change_in_studio, memory_in_studio, nothing_in_studio, quit_in_studio, redo_line, score_in_studio, studio_line_is_no_bye, undo_line}
 use Rattle.script_run.proofs.studio.studio_reply_to.Goals as goal
 
 pub returns-in-Ok-Undo-clause-answer : goal.returns-in-Ok-Undo-clause-answer
 returns-in-Ok-Undo-clause-answer g c =
     let says = subst (SaysStudio c.args.line.now) c.in-Ok-Undo.field-0-is c.in-Ok-Undo.ensures.command in
     let step = c.undo.ensures in
-    (0, undo_line c.args.history.now c.args.line.now c.undo.result c.step_reply.result c.undo.new.self says c.step_reply.ensures step.undone step.built step.cost step.none step.unchanged, omega arith)
+    (0, undo_line c.args.history.now c.args.line.now c.undo.result c.step_reply.result c.undo.new.self says c.step_reply.ensures step.undone step.told step.none step.unchanged, omega arith)
 
 pub returns-in-Ok-Redo-clause-answer : goal.returns-in-Ok-Redo-clause-answer
 returns-in-Ok-Redo-clause-answer g c =
     let says = subst (SaysStudio c.args.line.now) c.in-Ok-Redo.field-0-is c.in-Ok-Redo.ensures.command in
     let step = c.redo.ensures in
     let reply = c.step_reply-in-Ok-Redo in
-    (0, redo_line c.args.history.now c.args.line.now c.redo.result reply.result c.redo.new.self says reply.ensures step.redone step.built step.cost step.none step.unchanged, omega arith)
+    (0, redo_line c.args.history.now c.args.line.now c.redo.result reply.result c.redo.new.self says reply.ensures step.redone step.told step.none step.unchanged, omega arith)
 
 pub returns-in-Ok-Plain-Change-clause-answer : goal.returns-in-Ok-Plain-Change-clause-answer
 returns-in-Ok-Plain-Change-clause-answer g c =

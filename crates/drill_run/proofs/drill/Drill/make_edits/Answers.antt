@@ -32,5 +32,5 @@ edits-preserved g c =
       keeps_enough c.edits.index old.session.performance new.session.performance inv.3 kept,
       c.in_ok-step.ensures.accepted,
       c.in_ok-step.ensures.built,
-      omega (arith, inv.6, c.step.ensures.products),
+      (let more = c.step.ensures.products.0 in omega (arith, inv.6, more)),
     )

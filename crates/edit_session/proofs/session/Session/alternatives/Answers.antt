@@ -70,14 +70,14 @@ returns-in_err-list-clause-products g c =
     let tables = tables_there c.self.inside.grammar c.self.inside.performance c.self.inside.room c.self.inside.voices.items c.self.invariant.each c.args.channel c.in-Some.place c.channels.result.now c.channels.ensures c.in-Some.ensures
     c.as_slice-voices.result.now c.index-voices-place.result c.as_slice-voices.ensures.value c.index-voices-place.is in
     let long = voice_long c.self.inside.grammar c.self.inside.performance c.args.channel c.index-voices-place.result.tables tables in
-    (λ d few. c.alternatives_of.ensures.products d (omega (arith, long, few, ap (λ (s : Session). length s.performance.bars) c.self.view_is)))
+    (c.alternatives_of.ensures.products.0, λ d few. c.alternatives_of.ensures.products.1 d (omega (arith, long, few, ap (λ (s : Session). length s.performance.bars) c.self.view_is)))
 
 pub returns-clause-products : goal.returns-clause-products
 returns-clause-products g c =
     let tables = tables_there c.self.inside.grammar c.self.inside.performance c.self.inside.room c.self.inside.voices.items c.self.invariant.each c.args.channel c.in-Some.place c.channels.result.now c.channels.ensures c.in-Some.ensures
     c.as_slice-voices.result.now c.index-voices-place.result c.as_slice-voices.ensures.value c.index-voices-place.is in
     let long = voice_long c.self.inside.grammar c.self.inside.performance c.args.channel c.index-voices-place.result.tables tables in
-    (λ d few. c.alternatives_of.ensures.products d (omega (arith, long, few, ap (λ (s : Session). length s.performance.bars) c.self.view_is)))
+    (c.alternatives_of.ensures.products.0, λ d few. c.alternatives_of.ensures.products.1 d (omega (arith, long, few, ap (λ (s : Session). length s.performance.bars) c.self.view_is)))
 
 pub returns-clause-best : goal.returns-clause-best
 returns-clause-best g c =

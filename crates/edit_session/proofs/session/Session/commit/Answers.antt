@@ -1,4 +1,4 @@
-use Rattle.std.proofs.Common.{◌≡◌, ◌≤◌, ◌<◌, ◌^◌, ◌++◌, ℕ, List, length, get_or, take, drop, sym, ap, ◌∙◌, subst, arith}
+use Rattle.std.proofs.Common.{rules, ◌≡◌, ◌≤◌, ◌<◌, ◌^◌, ◌++◌, ℕ, List, length, get_or, take, drop, sym, ap, ◌∙◌, subst, arith}
 use Rattle.std.specs.Prelude.{All, sum_by, vec_capacity}
 use Rattle.std.proofs.lemmas.List.Elements.{All-contains}
 use Rattle.std.proofs.lemmas.Option.{slice_get_within}
@@ -122,46 +122,6 @@ bounds-channels-dead g c =
     let lt = slice_get_within c.exchange-exchanged.new.voices c.in-Some.dead.voice dead.it dead.there in
     omega (arith, lt, facts.number, ap length c.channels-in-Some-2.ensures)
 
-pub returns-in-Some-clause-dead : goal.returns-in-Some-clause-dead
-returns-in-Some-clause-dead g c =
-    let facts = exchanged_for c.self.inside.grammar c.self.inside.performance c.self.inside.workers c.self.inside.room c.self.inside.voices.items c.args.self.now c.args.prepared c.parts-next.result.0
-    c.parts-next.result.1.items (vec_capacity c.parts-next.result.2) c.self.invariant c.self.view_is c.parts-next.ensures.next c.parts-next.ensures.tables c.parts-next.ensures.place c.requires.suits
-    c.bars-bars.ensures.formed c.as_mut_slice-voices.result.now c.exchange-exchanged.new.voices c.channels.result.now (length c.bars-bars.result.now) c.exchange-exchanged.result.tables.items
-    (vec_capacity c.exchange-exchanged.result.place) c.as_mut_slice-voices.ensures.value c.channels.ensures (ap length c.bars-bars.ensures.value) c.exchange-exchanged.ensures.exchanged
-    c.exchange-exchanged.ensures.voices c.exchange-exchanged.ensures.room in
-    let written = written_back c.self.inside.voices.len c.self.inside.voices.items c.exchange-exchanged.new.voices
-    (omega (arith, c.as_mut_slice-voices.ensures.len, ap length c.as_mut_slice-voices.ensures.value)) facts.long in
-    let kept = c.self.inside in
-    let next : Performance = c.parts-next.result.0 in
-    let k : ℕ = c.in-Some.dead.voice in
-    let first : IsFirstDead c.exchange-exchanged.new.voices k c.in-Some.dead.bar = subst (λ vs. IsFirstDead vs k c.in-Some.dead.bar) (c.as_slice.ensures.value ∙ written) c.in-Some.ensures.dead in
-    let dead = dead_after kept.grammar kept.performance next kept.workers kept.room kept.voices.items c.exchange-exchanged.new.voices c.exchange-exchanged.result.tables.items
-    (vec_capacity c.exchange-exchanged.result.place) c.self.invariant facts k c.in-Some.dead.bar 0 first in
-    subst (λ (cs : List ℕ). IsDeadVoice c.args.self.now.grammar c.args.prepared.next (get_or cs k 0) c.in-Some.dead.bar) (sym c.channels-in-Some-2.ensures)
-    (subst (λ (p : Performance). IsDeadVoice c.args.self.now.grammar p (get_or next.channels k 0) c.in-Some.dead.bar) c.parts-next.ensures.next
-    (subst (λ (s : Session). IsDeadVoice s.grammar next (get_or next.channels k 0) c.in-Some.dead.bar) c.self.view_is dead))
-
-pub returns-in-Some-clause-lives : goal.returns-in-Some-clause-lives
-returns-in-Some-clause-lives g c =
-    let facts = exchanged_for c.self.inside.grammar c.self.inside.performance c.self.inside.workers c.self.inside.room c.self.inside.voices.items c.args.self.now c.args.prepared c.parts-next.result.0
-    c.parts-next.result.1.items (vec_capacity c.parts-next.result.2) c.self.invariant c.self.view_is c.parts-next.ensures.next c.parts-next.ensures.tables c.parts-next.ensures.place c.requires.suits
-    c.bars-bars.ensures.formed c.as_mut_slice-voices.result.now c.exchange-exchanged.new.voices c.channels.result.now (length c.bars-bars.result.now) c.exchange-exchanged.result.tables.items
-    (vec_capacity c.exchange-exchanged.result.place) c.as_mut_slice-voices.ensures.value c.channels.ensures (ap length c.bars-bars.ensures.value) c.exchange-exchanged.ensures.exchanged
-    c.exchange-exchanged.ensures.voices c.exchange-exchanged.ensures.room in
-    let written = written_back c.self.inside.voices.len c.self.inside.voices.items c.exchange-exchanged.new.voices
-    (omega (arith, c.as_mut_slice-voices.ensures.len, ap length c.as_mut_slice-voices.ensures.value)) facts.long in
-    let kept = c.self.inside in
-    let next : Performance = c.parts-next.result.0 in
-    let k : ℕ = c.in-Some.dead.voice in
-    let first : IsFirstDead c.exchange-exchanged.new.voices k c.in-Some.dead.bar = subst (λ vs. IsFirstDead vs k c.in-Some.dead.bar) (c.as_slice.ensures.value ∙ written) c.in-Some.ensures.dead in
-    let dead = dead_after kept.grammar kept.performance next kept.workers kept.room kept.voices.items c.exchange-exchanged.new.voices c.exchange-exchanged.result.tables.items
-    (vec_capacity c.exchange-exchanged.result.place) c.self.invariant facts k c.in-Some.dead.bar 0 first in
-    λ derivations.
-    let inside = subst (λ (s : Session). All (HasDerivation s.grammar c.args.prepared.next) c.args.prepared.next.channels) (sym c.self.view_is) derivations in
-    let of_next : All (HasDerivation kept.grammar next) next.channels = subst (λ (p : Performance). All (HasDerivation kept.grammar p) p.channels) (sym c.parts-next.ensures.next) inside in
-    dead_has_none kept.grammar next c.self.invariant.readable.ranges.some_unit c.bars-bars.ensures.formed (get_or next.channels k 0) c.in-Some.dead.bar dead
-    (All-contains (HasDerivation kept.grammar next) next.channels (get_or next.channels k 0) of_next dead.voice)
-
 pub invariant_of-self : goal.invariant_of-self
 invariant_of-self g c =
     let facts = exchanged_for c.self.inside.grammar c.self.inside.performance c.self.inside.workers c.self.inside.room c.self.inside.voices.items c.args.self.now c.args.prepared c.parts-next.result.0
@@ -226,72 +186,12 @@ invariant_of-self-2 g c =
     subst (λ (p : Performance). IsSession kept.grammar kept.plan p kept.workers (take kept.voices.len (c.exchange-exchanged.new.voices ++ drop (length c.exchange-exchanged.new.voices) kept.voices.items)) kept.room) (sym c.replace-before.ensures.after)
     (subst (λ vs. IsSession kept.grammar kept.plan c.parts-next.result.0 kept.workers vs kept.room) (sym written) session)
 
-pub returns-clause-derivations : goal.returns-clause-derivations
-returns-clause-derivations g c =
-    let facts = exchanged_for c.self.inside.grammar c.self.inside.performance c.self.inside.workers c.self.inside.room c.self.inside.voices.items c.args.self.now c.args.prepared c.parts-next.result.0
-    c.parts-next.result.1.items (vec_capacity c.parts-next.result.2) c.self.invariant c.self.view_is c.parts-next.ensures.next c.parts-next.ensures.tables c.parts-next.ensures.place c.requires.suits
-    c.bars-bars.ensures.formed c.as_mut_slice-voices.result.now c.exchange-exchanged.new.voices c.channels.result.now (length c.bars-bars.result.now) c.exchange-exchanged.result.tables.items
-    (vec_capacity c.exchange-exchanged.result.place) c.as_mut_slice-voices.ensures.value c.channels.ensures (ap length c.bars-bars.ensures.value) c.exchange-exchanged.ensures.exchanged
-    c.exchange-exchanged.ensures.voices c.exchange-exchanged.ensures.room in
-    let written = written_back c.self.inside.voices.len c.self.inside.voices.items c.exchange-exchanged.new.voices
-    (omega (arith, c.as_mut_slice-voices.ensures.len, ap length c.as_mut_slice-voices.ensures.value)) facts.long in
-    let few : length c.parts-next.result.0.bars ≤ c.self.inside.room =
-    omega (arith, c.requires.room, ap (λ (p : Performance). length p.bars) c.parts-next.ensures.next, ap (λ (s : Session). s.room) c.self.view_is) in
-    let session = session_next c.self.inside.grammar c.self.inside.performance c.parts-next.result.0 c.self.inside.workers c.self.inside.room c.self.inside.voices.items c.exchange-exchanged.new.voices
-    c.exchange-exchanged.result.tables.items (vec_capacity c.exchange-exchanged.result.place) c.self.invariant facts few
-    (subst (All HasPath) (c.as_slice.ensures.value ∙ written) (c.first_dead_voice.ensures.none c.in_default.is)) in
-    let kept = c.self.inside in
-    let next : Performance = c.parts-next.result.0 in
-    let inside = all_derivations kept.grammar next session.readable session.formed session.starts kept.room next.channels c.exchange-exchanged.new.voices session.each in
-    subst (λ (p : Performance). All (HasDerivation c.args.self.now.grammar p) p.channels) c.parts-next.ensures.next
-    (subst (λ (s : Session). All (HasDerivation s.grammar next) next.channels) c.self.view_is inside)
-
-pub returns-clause-cost : goal.returns-clause-cost
-returns-clause-cost g c =
-    let facts = exchanged_for c.self.inside.grammar c.self.inside.performance c.self.inside.workers c.self.inside.room c.self.inside.voices.items c.args.self.now c.args.prepared c.parts-next.result.0
-    c.parts-next.result.1.items (vec_capacity c.parts-next.result.2) c.self.invariant c.self.view_is c.parts-next.ensures.next c.parts-next.ensures.tables c.parts-next.ensures.place c.requires.suits
-    c.bars-bars.ensures.formed c.as_mut_slice-voices.result.now c.exchange-exchanged.new.voices c.channels.result.now (length c.bars-bars.result.now) c.exchange-exchanged.result.tables.items
-    (vec_capacity c.exchange-exchanged.result.place) c.as_mut_slice-voices.ensures.value c.channels.ensures (ap length c.bars-bars.ensures.value) c.exchange-exchanged.ensures.exchanged
-    c.exchange-exchanged.ensures.voices c.exchange-exchanged.ensures.room in
-    let written = written_back c.self.inside.voices.len c.self.inside.voices.items c.exchange-exchanged.new.voices
-    (omega (arith, c.as_mut_slice-voices.ensures.len, ap length c.as_mut_slice-voices.ensures.value)) facts.long in
-    let few : length c.parts-next.result.0.bars ≤ c.self.inside.room =
-    omega (arith, c.requires.room, ap (λ (p : Performance). length p.bars) c.parts-next.ensures.next, ap (λ (s : Session). s.room) c.self.view_is) in
-    let session = session_next c.self.inside.grammar c.self.inside.performance c.parts-next.result.0 c.self.inside.workers c.self.inside.room c.self.inside.voices.items c.exchange-exchanged.new.voices
-    c.exchange-exchanged.result.tables.items (vec_capacity c.exchange-exchanged.result.place) c.self.invariant facts few
-    (subst (All HasPath) (c.as_slice.ensures.value ∙ written) (c.first_dead_voice.ensures.none c.in_default.is)) in
-    let kept = c.self.inside in
-    let next : Performance = c.parts-next.result.0 in
-    let is : c.total_of-cost.result ≡ sum_by voice_cost c.exchange-exchanged.new.voices = c.total_of-cost.ensures ∙ ap (sum_by voice_cost) (c.as_slice-2.ensures.value ∙ written) in
-    let inside : IsCostOf kept.grammar next (sum_by voice_cost c.exchange-exchanged.new.voices) =
-    all_costs kept.grammar next session.readable session.formed session.starts kept.room next.channels c.exchange-exchanged.new.voices session.each in
-    subst (λ n. IsCostOf c.args.self.now.grammar c.args.prepared.next n) (sym is)
-    (subst (λ (p : Performance). IsCostOf c.args.self.now.grammar p (sum_by voice_cost c.exchange-exchanged.new.voices)) c.parts-next.ensures.next
-    (subst (λ (s : Session). IsCostOf s.grammar next (sum_by voice_cost c.exchange-exchanged.new.voices)) c.self.view_is inside))
-
-pub returns-clause-suits_back : goal.returns-clause-suits_back
-returns-clause-suits_back g c =
-    let facts = exchanged_for c.self.inside.grammar c.self.inside.performance c.self.inside.workers c.self.inside.room c.self.inside.voices.items c.args.self.now c.args.prepared c.parts-next.result.0
-    c.parts-next.result.1.items (vec_capacity c.parts-next.result.2) c.self.invariant c.self.view_is c.parts-next.ensures.next c.parts-next.ensures.tables c.parts-next.ensures.place c.requires.suits
-    c.bars-bars.ensures.formed c.as_mut_slice-voices.result.now c.exchange-exchanged.new.voices c.channels.result.now (length c.bars-bars.result.now) c.exchange-exchanged.result.tables.items
-    (vec_capacity c.exchange-exchanged.result.place) c.as_mut_slice-voices.ensures.value c.channels.ensures (ap length c.bars-bars.ensures.value) c.exchange-exchanged.ensures.exchanged
-    c.exchange-exchanged.ensures.voices c.exchange-exchanged.ensures.room in
-    let kept = c.self.inside in
-    let next : Performance = c.parts-next.result.0 in
-    let tables = c.exchange-exchanged.result.tables.items in
-    let place : ℕ = vec_capacity c.exchange-exchanged.result.place in
-    let inside = suits_next kept.grammar kept.performance next kept.workers kept.room kept.voices.items c.exchange-exchanged.new.voices tables place c.self.invariant facts in
-    let back : c.of-back.result ≡ record { next = kept.performance; tables = tables; place = place } =
-    c.of-back.ensures ∙ ap (λ (p : Performance). record { next = p; tables = tables; place = place }) c.replace-before.ensures.value in
-    subst (Suits kept.grammar c.replace-before.new.dest) (sym back)
-    (subst (λ (p : Performance). Suits kept.grammar p (record { next = kept.performance; tables = tables; place = place })) (sym c.replace-before.ensures.after) inside)
-
 pub returns-clause-products : goal.returns-clause-products
 returns-clause-products g c =
     products_there c.self.inside.grammar c.self.inside.performance c.self.inside.workers c.self.inside.room c.self.inside.voices.items c.args.self.now c.args.prepared c.parts-next.result.0
     c.parts-next.result.1.items (vec_capacity c.parts-next.result.2) c.self.invariant c.self.view_is c.parts-next.ensures.next c.parts-next.ensures.tables c.parts-next.ensures.place c.requires.suits
     c.as_mut_slice-voices.result.now (length c.bars-bars.result.now) c.as_mut_slice-voices.ensures.value (ap length c.bars-bars.ensures.value)
-    c.args.products.now c.exchange-exchanged.new.products c.exchange-exchanged.ensures.products
+    c.args.products.now c.exchange-exchanged.new.products c.exchange-exchanged.ensures.products.0 c.exchange-exchanged.ensures.products.1
 
 pub returns-in-Some-clause-products : goal.returns-in-Some-clause-products
 returns-in-Some-clause-products g c =
@@ -307,8 +207,80 @@ returns-in-Some-clause-products g c =
     c.as_mut_slice-voices.result.now (length c.bars-bars.result.now) c.as_mut_slice-voices.ensures.value (ap length c.bars-bars.ensures.value)
     c.exchange-exchanged.new.voices c.exchange-exchanged.result.tables.items (vec_capacity c.exchange-exchanged.result.place) c.as_mut_slice-voices-in-Some.result.now c.channels.result.now
     (length c.bars-bars-in-Some.result.now) c.args.products.now c.exchange-exchanged.new.products c.exchange-back.new.products facts c.channels.ensures c.exchange-exchanged.ensures.way_back
-    (c.as_mut_slice-voices-in-Some.ensures.value ∙ written) (ap length c.bars-bars-in-Some.ensures.value) c.exchange-exchanged.ensures.products c.exchange-back.ensures.products
+    (c.as_mut_slice-voices-in-Some.ensures.value ∙ written) (ap length c.bars-bars-in-Some.ensures.value) c.exchange-exchanged.ensures.products.1 c.exchange-back.ensures.products.1 c.exchange-exchanged.ensures.products.0 c.exchange-back.ensures.products.0
 
-pub returns-clause-room_back : goal.returns-clause-room_back
-returns-clause-room_back g c =
-    omega (arith, ap (λ (x : Prepared). length x.next.bars) c.of-back.ensures, ap (λ (p : Performance). length p.bars) c.replace-before.ensures.value, c.self.invariant.memory)
+pub returns-in-Some-clause-given_up : goal.returns-in-Some-clause-given_up
+returns-in-Some-clause-given_up g c =
+    let facts = exchanged_for c.self.inside.grammar c.self.inside.performance c.self.inside.workers c.self.inside.room c.self.inside.voices.items c.args.self.now c.args.prepared c.parts-next.result.0
+    c.parts-next.result.1.items (vec_capacity c.parts-next.result.2) c.self.invariant c.self.view_is c.parts-next.ensures.next c.parts-next.ensures.tables c.parts-next.ensures.place c.requires.suits
+    c.bars-bars.ensures.formed c.as_mut_slice-voices.result.now c.exchange-exchanged.new.voices c.channels.result.now (length c.bars-bars.result.now) c.exchange-exchanged.result.tables.items
+    (vec_capacity c.exchange-exchanged.result.place) c.as_mut_slice-voices.ensures.value c.channels.ensures (ap length c.bars-bars.ensures.value) c.exchange-exchanged.ensures.exchanged
+    c.exchange-exchanged.ensures.voices c.exchange-exchanged.ensures.room in
+    let written = written_back c.self.inside.voices.len c.self.inside.voices.items c.exchange-exchanged.new.voices
+    (omega (arith, c.as_mut_slice-voices.ensures.len, ap length c.as_mut_slice-voices.ensures.value)) facts.long in
+    let kept = c.self.inside in
+    let next : Performance = c.parts-next.result.0 in
+    let k : ℕ = c.in-Some.dead.voice in
+    let first : IsFirstDead c.exchange-exchanged.new.voices k c.in-Some.dead.bar = subst (λ vs. IsFirstDead vs k c.in-Some.dead.bar) (c.as_slice.ensures.value ∙ written) c.in-Some.ensures.dead in
+    let dead = dead_after kept.grammar kept.performance next kept.workers kept.room kept.voices.items c.exchange-exchanged.new.voices c.exchange-exchanged.result.tables.items
+    (vec_capacity c.exchange-exchanged.result.place) c.self.invariant facts k c.in-Some.dead.bar 0 first in
+    record {
+      dead = subst (λ (cs : List ℕ). IsDeadVoice c.args.self.now.grammar c.args.prepared.next (get_or cs k 0) c.in-Some.dead.bar) (sym c.channels-in-Some-2.ensures)
+          (subst (λ (p : Performance). IsDeadVoice c.args.self.now.grammar p (get_or next.channels k 0) c.in-Some.dead.bar) c.parts-next.ensures.next
+          (subst (λ (s : Session). IsDeadVoice s.grammar next (get_or next.channels k 0) c.in-Some.dead.bar) c.self.view_is dead));
+      lives = λ derivations.
+          let inside = subst (λ (s : Session). All (HasDerivation s.grammar c.args.prepared.next) c.args.prepared.next.channels) (sym c.self.view_is) derivations in
+          let of_next : All (HasDerivation kept.grammar next) next.channels = subst (λ (p : Performance). All (HasDerivation kept.grammar p) p.channels) (sym c.parts-next.ensures.next) inside in
+          dead_has_none kept.grammar next c.self.invariant.readable.ranges.some_unit c.bars-bars.ensures.formed (get_or next.channels k 0) c.in-Some.dead.bar dead
+          (All-contains (HasDerivation kept.grammar next) next.channels (get_or next.channels k 0) of_next dead.voice);
+    }
+
+pub returns-clause-made : goal.returns-clause-made
+returns-clause-made g c =
+    let facts = exchanged_for c.self.inside.grammar c.self.inside.performance c.self.inside.workers c.self.inside.room c.self.inside.voices.items c.args.self.now c.args.prepared c.parts-next.result.0
+    c.parts-next.result.1.items (vec_capacity c.parts-next.result.2) c.self.invariant c.self.view_is c.parts-next.ensures.next c.parts-next.ensures.tables c.parts-next.ensures.place c.requires.suits
+    c.bars-bars.ensures.formed c.as_mut_slice-voices.result.now c.exchange-exchanged.new.voices c.channels.result.now (length c.bars-bars.result.now) c.exchange-exchanged.result.tables.items
+    (vec_capacity c.exchange-exchanged.result.place) c.as_mut_slice-voices.ensures.value c.channels.ensures (ap length c.bars-bars.ensures.value) c.exchange-exchanged.ensures.exchanged
+    c.exchange-exchanged.ensures.voices c.exchange-exchanged.ensures.room in
+    let written = written_back c.self.inside.voices.len c.self.inside.voices.items c.exchange-exchanged.new.voices
+    (omega (arith, c.as_mut_slice-voices.ensures.len, ap length c.as_mut_slice-voices.ensures.value)) facts.long in
+    let few : length c.parts-next.result.0.bars ≤ c.self.inside.room =
+    omega (arith, c.requires.room, ap (λ (p : Performance). length p.bars) c.parts-next.ensures.next, ap (λ (s : Session). s.room) c.self.view_is) in
+    let session = session_next c.self.inside.grammar c.self.inside.performance c.parts-next.result.0 c.self.inside.workers c.self.inside.room c.self.inside.voices.items c.exchange-exchanged.new.voices
+    c.exchange-exchanged.result.tables.items (vec_capacity c.exchange-exchanged.result.place) c.self.invariant facts few
+    (subst (All HasPath) (c.as_slice.ensures.value ∙ written) (c.first_dead_voice.ensures.none c.in_default.is)) in
+    let kept = c.self.inside in
+    let next : Performance = c.parts-next.result.0 in
+    record {
+      grammar = search rules;
+      workers = search rules;
+      room = search rules;
+      performance = search rules;
+      derivations = (
+          let inside = all_derivations kept.grammar next session.readable session.formed session.starts kept.room next.channels c.exchange-exchanged.new.voices session.each in
+          subst (λ (p : Performance). All (HasDerivation c.args.self.now.grammar p) p.channels) c.parts-next.ensures.next
+          (subst (λ (s : Session). All (HasDerivation s.grammar next) next.channels) c.self.view_is inside)
+          );
+      built = search rules;
+      cost = (
+          let is : c.total_of-cost.result ≡ sum_by voice_cost c.exchange-exchanged.new.voices = c.total_of-cost.ensures ∙ ap (sum_by voice_cost) (c.as_slice-2.ensures.value ∙ written) in
+          let inside : IsCostOf kept.grammar next (sum_by voice_cost c.exchange-exchanged.new.voices) =
+          all_costs kept.grammar next session.readable session.formed session.starts kept.room next.channels c.exchange-exchanged.new.voices session.each in
+          subst (λ n. IsCostOf c.args.self.now.grammar c.args.prepared.next n) (sym is)
+          (subst (λ (p : Performance). IsCostOf c.args.self.now.grammar p (sum_by voice_cost c.exchange-exchanged.new.voices)) c.parts-next.ensures.next
+          (subst (λ (s : Session). IsCostOf s.grammar next (sum_by voice_cost c.exchange-exchanged.new.voices)) c.self.view_is inside))
+          );
+      way_back = record {
+        next = search rules;
+        suits = (
+            let tables = c.exchange-exchanged.result.tables.items in
+            let place : ℕ = vec_capacity c.exchange-exchanged.result.place in
+            let inside = suits_next kept.grammar kept.performance next kept.workers kept.room kept.voices.items c.exchange-exchanged.new.voices tables place c.self.invariant facts in
+            let back : c.of-back.result ≡ record { next = kept.performance; tables = tables; place = place } =
+            c.of-back.ensures ∙ ap (λ (p : Performance). record { next = p; tables = tables; place = place }) c.replace-before.ensures.value in
+            subst (Suits kept.grammar c.replace-before.new.dest) (sym back)
+            (subst (λ (p : Performance). Suits kept.grammar p (record { next = kept.performance; tables = tables; place = place })) (sym c.replace-before.ensures.after) inside)
+            );
+        room = omega (arith, ap (λ (x : Prepared). length x.next.bars) c.of-back.ensures, ap (λ (p : Performance). length p.bars) c.replace-before.ensures.value, c.self.invariant.memory);
+      };
+    }

@@ -29,7 +29,7 @@ pub returns-in_err-voices-clause-built : goal.returns-in_err-voices-clause-built
 returns-in_err-voices-clause-built g c =
     let p = err_from_is_err_and c.from_residual-in_err-voices.result c.from_residual-in_err-voices.ensures.1 in
     let built : c.cell_tables.new.builds ≡ risen c.args.builds.now (cells_of c.args.performance) = c.in_ok-opening.ensures.builds in
-    rw (p.1, p.2) (omega (arith, built))
+    rw (p.1, p.2) (omega (arith, built), omega (arith, built))
 
 pub bounds-channels-dead : goal.bounds-channels-dead
 bounds-channels-dead g c =

@@ -37,7 +37,7 @@ returns-in_err-tables-clause-most g c =
     let number = λ (cells : List (ℕ × ℕ)) (h : AreReached c.args.self.now.grammar c.args.self.now.performance c.args.next cells).
     (let inside = subst (λ (s : Session). AreReached s.grammar s.performance c.args.next cells) (sym c.self.view_is) h in
     reached_number c.self.inside.grammar c.self.inside.performance c.args.next c.in_ok-reached.reached.cells.items c.in_ok-reached.reached.inputs.items cells c.in_ok-reached.ensures inside) in
-    rises_within c.args.builds.now c.reached_tables.new.builds (length c.in_ok-reached.reached.cells.items) c.reached_tables.ensures.rises c.reached_tables.ensures.most
+    rises_within c.args.builds.now c.reached_tables.new.builds (length c.in_ok-reached.reached.cells.items) c.reached_tables.ensures.most.0 c.reached_tables.ensures.most.1
     (λ cells. AreReached c.args.self.now.grammar c.args.self.now.performance c.args.next cells) number
 
 pub returns-in_err-place-clause-most : goal.returns-in_err-place-clause-most
@@ -45,7 +45,7 @@ returns-in_err-place-clause-most g c =
     let number = λ (cells : List (ℕ × ℕ)) (h : AreReached c.args.self.now.grammar c.args.self.now.performance c.args.next cells).
     (let inside = subst (λ (s : Session). AreReached s.grammar s.performance c.args.next cells) (sym c.self.view_is) h in
     reached_number c.self.inside.grammar c.self.inside.performance c.args.next c.in_ok-reached.reached.cells.items c.in_ok-reached.reached.inputs.items cells c.in_ok-reached.ensures inside) in
-    rises_within c.args.builds.now c.reached_tables.new.builds (length c.in_ok-reached.reached.cells.items) c.reached_tables.ensures.rises c.reached_tables.ensures.most
+    rises_within c.args.builds.now c.reached_tables.new.builds (length c.in_ok-reached.reached.cells.items) c.reached_tables.ensures.most.0 c.reached_tables.ensures.most.1
     (λ cells. AreReached c.args.self.now.grammar c.args.self.now.performance c.args.next cells) number
 
 pub returns-clause-suits : goal.returns-clause-suits
@@ -77,5 +77,5 @@ returns-clause-most g c =
     let number = λ (cells : List (ℕ × ℕ)) (h : AreReached c.args.self.now.grammar c.args.self.now.performance c.args.next cells).
     (let inside = subst (λ (s : Session). AreReached s.grammar s.performance c.args.next cells) (sym c.self.view_is) h in
     reached_number c.self.inside.grammar c.self.inside.performance c.args.next c.in_ok-reached.reached.cells.items c.in_ok-reached.reached.inputs.items cells c.in_ok-reached.ensures inside) in
-    rises_within c.args.builds.now c.reached_tables.new.builds (length c.in_ok-reached.reached.cells.items) c.reached_tables.ensures.rises c.reached_tables.ensures.most
+    rises_within c.args.builds.now c.reached_tables.new.builds (length c.in_ok-reached.reached.cells.items) c.reached_tables.ensures.most.0 c.reached_tables.ensures.most.1
     (λ cells. AreReached c.args.self.now.grammar c.args.self.now.performance c.args.next cells) number

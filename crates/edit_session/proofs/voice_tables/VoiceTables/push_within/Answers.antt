@@ -10,6 +10,9 @@ pub push_within-requires-clause-cheap : goal.push_within-requires-clause-cheap
 push_within-requires-clause-cheap g c κs within = subst (IsCheap DEAREST_CELL) (sym c.matrix.ensures) c.requires.cheap
 
 pub returns-clause-products : goal.returns-clause-products
-returns-clause-products g c = λ d few.
-    let long = ap length c.self.invariant ∙ length-map c.self.inside.tables.items (λ (x : BarTable). x.matrix) ∙ ap (λ (v : VoiceTables). length v.tables) c.self.view_is in
-    c.push_within.ensures.products d (omega (arith, few, long))
+returns-clause-products g c = (
+  c.push_within.ensures.rises,
+  λ d few.
+      let long = ap length c.self.invariant ∙ length-map c.self.inside.tables.items (λ (x : BarTable). x.matrix) ∙ ap (λ (v : VoiceTables). length v.tables) c.self.view_is in
+      c.push_within.ensures.products d (omega (arith, few, long)),
+)

@@ -18,6 +18,9 @@ invariant_of-self g c =
     ∙ ap (λ (x : BarTable). matrices (set c.self.inside.tables.items c.args.bar x)) (sym c.replace-2.ensures.after)
 
 pub returns-clause-products : goal.returns-clause-products
-returns-clause-products g c = λ d few.
-    let long = ap length c.self.invariant ∙ length-map c.self.inside.tables.items (λ (x : BarTable). x.matrix) ∙ ap (λ (v : VoiceTables). length v.tables) c.self.view_is in
-    c.replace.ensures.products d (omega (arith, few, long))
+returns-clause-products g c = (
+  c.replace.ensures.rises,
+  λ d few.
+      let long = ap length c.self.invariant ∙ length-map c.self.inside.tables.items (λ (x : BarTable). x.matrix) ∙ ap (λ (v : VoiceTables). length v.tables) c.self.view_is in
+      c.replace.ensures.products d (omega (arith, few, long)),
+)

@@ -1,6 +1,8 @@
-use Rattle.std.proofs.Common.{subst, sym}
+use Rattle.std.proofs.Common.{ℕ, refl, subst, sym}
 use Rattle.edit_session.specs.Products.{AreProductsOf}
+use Rattle.rhythm_base.specs.Grammar.{Grammar}
 use Rattle.rhythm_base.specs.Performance.{Performance}
+use Rattle.rhythm_base.specs.Voices.{IsCostOf}
 use Rattle.session_history.specs.Changes.{IsUndone}
 use Rattle.session_history.specs.History.{History}
 use Rattle.session_history.specs.Ways.{KeepsWays}
@@ -33,9 +35,9 @@ invariant_of-self-in-Some g c =
     let kept = c.self.inside in
     let back = c.take_back-committed.result.back in
     let now = c.take_back-committed.new.self in
-    let is = c.take_back-committed.ensures in
+    let is = c.take_back-committed.ensures.made in
     let way = last_way kept.session kept.past kept.future c.self.invariant c.take_last.new.self c.in-Some.step c.in-Some.ensures in
-    let moved = gone_there kept.session now c.in-Some.step back way.1 is.grammar is.performance is.room is.back is.suits_back in
+    let moved = gone_there kept.session now c.in-Some.step back way.1 is.grammar is.performance is.room is.way_back.next is.way_back.suits in
     subst (KeepsWays now c.take_last.new.self) (sym c.put_first.ensures)
     (undone_keeps kept.session now kept.past kept.future c.in-Some.step back c.self.invariant moved c.take_last.new.self c.in-Some.ensures)
 
@@ -44,16 +46,26 @@ returns-in-Some-clause-undone g c =
     let kept = c.self.inside in
     let back = c.take_back-committed.result.back in
     let now = c.take_back-committed.new.self in
-    let is = c.take_back-committed.ensures in
+    let is = c.take_back-committed.ensures.made in
     let way = last_way kept.session kept.past kept.future c.self.invariant c.take_last.new.self c.in-Some.step c.in-Some.ensures in
-    let moved = gone_there kept.session now c.in-Some.step back way.1 is.grammar is.performance is.room is.back is.suits_back in
+    let moved = gone_there kept.session now c.in-Some.step back way.1 is.grammar is.performance is.room is.way_back.next is.way_back.suits in
     subst (λ h. IsUndone h (seen now c.take_last.new.self c.put_first.new.self)) c.self.view_is
     (subst (λ future. IsUndone (seen kept.session kept.past kept.future) (seen now c.take_last.new.self future)) (sym c.put_first.ensures)
     (undone_is kept.session now kept.past kept.future c.in-Some.step back moved c.take_last.new.self c.in-Some.ensures))
+
+pub returns-in-Some-clause-told : goal.returns-in-Some-clause-told
+returns-in-Some-clause-told g c =
+    let is = c.take_back-committed.ensures.made in
+    let now = c.take_back-committed.new.self in
+    let cost : ℕ = c.take_back-committed.result.applied.cost in (
+      refl,
+      subst (λ (h : Grammar). IsCostOf h now.performance cost) (sym is.grammar)
+          (subst (λ (p : Performance). IsCostOf c.self.inside.session.grammar p cost) (sym is.performance) is.cost),
+    )
 
 pub returns-in-Some-clause-products : goal.returns-in-Some-clause-products
 returns-in-Some-clause-products g c =
     let is = c.take_back-committed.ensures in
     let now = c.take_back-committed.new.self in
     subst (λ (h : History). AreProductsOf 1 h.grammar h.present now.performance c.args.products.now c.take_back-committed.new.products) c.self.view_is
-    (subst (λ (p : Performance). AreProductsOf 1 c.self.inside.session.grammar c.self.inside.session.performance p c.args.products.now c.take_back-committed.new.products) (sym is.performance) is.products)
+    (subst (λ (p : Performance). AreProductsOf 1 c.self.inside.session.grammar c.self.inside.session.performance p c.args.products.now c.take_back-committed.new.products) (sym is.made.performance) is.products)

@@ -1,14 +1,14 @@
-use rhythm_ports::Gate;
+use crate::gate::Gate;
 use std::alloc::Global;
 use std::thread::Threads;
 
-/// By what the cells that an edit reaches are built.
+/// By what tables are built.
 #[derive(Drop)]
 pub struct Means<'a, R: Threads + Sync, G: Gate + Sync> {
-    /// The threads that build cells.
+    /// What starts threads.
     pub rt: &'a R,
-    /// The memory.
+    /// Where memory is taken.
     pub alloc: Global,
-    /// What a thread passes before it builds a cell.
+    /// What a worker passes before it builds a table.
     pub gate: &'a G,
 }
