@@ -149,6 +149,32 @@ const BUILDINGS: &[Building] = &[
         builds: 0,
     },
     Building {
+        shows: "those of each file that weights are learned from",
+        given: Given {
+            words: &["learn", "17", "a.grammar", "1.mid", "2.mid", "1.mid"],
+            files: &[
+                ("a.grammar", USUAL),
+                ("1.mid", EARLY_NOTE),
+                ("2.mid", TWO_VOICES),
+            ],
+            script: b"",
+        },
+        failing: NONE_FAILS,
+        status: 0,
+        builds: 8,
+    },
+    Building {
+        shows: "those of the files before one without a derivation, and its own",
+        given: Given {
+            words: &["learn", "17", "a.grammar", "1.mid", "2.mid", "1.mid"],
+            files: &[("a.grammar", QUARTERS_OF_RESTS), ("1.mid", FOUR_QUARTERS)],
+            script: b"",
+        },
+        failing: NONE_FAILS,
+        status: 3,
+        builds: 1,
+    },
+    Building {
         shows: "a drill without a derivation builds those of its piece",
         given: Given {
             words: &["drill", "7", "a.grammar", "--workers", "2"],

@@ -85,6 +85,16 @@ const USES: &[Use] = &[
         fewest: 20,
     },
     Use {
+        words: &["learn", "17", "a.grammar", "1.mid", "2.mid"],
+        files: &[
+            ("a.grammar", USUAL),
+            ("1.mid", FOUR_QUARTERS),
+            ("2.mid", EARLY_NOTE),
+        ],
+        talk: &[],
+        fewest: 1,
+    },
+    Use {
         words: &["notes", "a.mid"],
         files: &[("a.mid", FOUR_QUARTERS)],
         talk: &[],
@@ -149,6 +159,8 @@ fn shelf_line(used: &Use, most: usize, call: u64) -> Option<&'static [u8]>
                 return Some(match *name {
                     "a.mid" => b"read midi\n",
                     "a.grammar" => b"read grammar\n",
+                    "1.mid" => b"file 1 read midi\n",
+                    "2.mid" => b"file 2 read midi\n",
                     _ => b"read kern\n",
                 });
             }

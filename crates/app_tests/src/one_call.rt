@@ -76,6 +76,7 @@ const WRITING: &[&[&str]] = &[
     &["render", "a.mid", "a.grammar"],
     &["fit", "a.mid", "a.grammar", "1", "1920", "1920", "1"],
     &["follow", "a.mid", "a.grammar"],
+    &["learn", "17", "a.grammar", "a.mid", "a.mid"],
     &["notes", "a.mid"],
 ];
 

@@ -136,6 +136,17 @@ const OPENS: &[(&[&str], u8, &[&str])] = &[
         0,
         &["a.mid", "a.grammar"],
     ),
+    (
+        &["learn", "17", "a.grammar", "a.mid"],
+        0,
+        &["a.grammar", "a.mid"],
+    ),
+    (
+        &["learn", "17", "a.grammar", "a.mid", "a.krn", "b.mid"],
+        2,
+        &["a.grammar", "a.mid", "a.krn"],
+    ),
+    (&["learn", "0", "a.grammar", "a.mid"], 1, &[]),
     (&["notes", "a.mid"], 0, &["a.mid"]),
     (&["events", "a.krn"], 0, &["a.krn"]),
     (&["drill", "7", "a.grammar"], 0, &["a.grammar"]),

@@ -140,6 +140,27 @@ const MEETINGS: &[Met] = &[
         turns: LONG,
     },
     Met {
+        shows: "the second of the files that weights are learned from",
+        words: &[
+            "learn",
+            "17",
+            "a.grammar",
+            "1.mid",
+            "2.mid",
+            "--workers",
+            "2",
+        ],
+        files: &[
+            ("a.grammar", USUAL),
+            ("1.mid", WHOLE_NOTE),
+            ("2.mid", TWO_VOICES),
+        ],
+        script: b"",
+        free: 1,
+        wanted: 2,
+        turns: LONG,
+    },
+    Met {
         shows: "the piece of a drill",
         words: &["drill", "7", "a.grammar", "--workers", "2"],
         files: &[("a.grammar", USUAL)],

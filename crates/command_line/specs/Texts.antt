@@ -38,6 +38,10 @@ help_lines =
     ∷ codes "  follow MIDI GRAMMAR       Reads the two files, and writes the edit script that"
     ∷ codes "                            moves the barlines to where the player has them;"
     ∷ codes "                            nothing where too little is gained by that."
+    ∷ codes "  learn BIT GRAMMAR MIDI... Reads a grammar file and up to 256 MIDI files, and"
+    ∷ codes "                            writes the grammar with weights that are learned"
+    ∷ codes "                            from these: a rule that is used half as often as"
+    ∷ codes "                            another costs BIT more. BIT is 1 to 10000."
     ∷ codes "  notes MIDI                Reads a MIDI file, and writes its bars, tempos, keys"
     ∷ codes "                            and notes, each on a line of its own."
     ∷ codes "  events KERN               Reads a **kern file, and writes each note and chord"
@@ -73,4 +77,4 @@ help_text = text_of_lines help_lines
 
 -- the name of the program and its version
 unfoldable pub version_text : List ℕ
-version_text = text_of_lines (codes "rhythm 1.0" ∷ [])
+version_text = text_of_lines (codes "rhythm 1.1" ∷ [])

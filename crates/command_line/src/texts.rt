@@ -31,6 +31,10 @@ Commands:
   follow MIDI GRAMMAR       Reads the two files, and writes the edit script that
                             moves the barlines to where the player has them;
                             nothing where too little is gained by that.
+  learn BIT GRAMMAR MIDI... Reads a grammar file and up to 256 MIDI files, and
+                            writes the grammar with weights that are learned
+                            from these: a rule that is used half as often as
+                            another costs BIT more. BIT is 1 to 10000.
   notes MIDI                Reads a MIDI file, and writes its bars, tempos, keys
                             and notes, each on a line of its own.
   events KERN               Reads a **kern file, and writes each note and chord
@@ -66,5 +70,5 @@ Status:
 pub fn version_text() -> &'static str
     ensures { result.now ≡ version_text }
 {
-    "rhythm 1.0\n"
+    "rhythm 1.1\n"
 }

@@ -29,6 +29,7 @@ use Rattle.tree_laws.specs.Voices.{IsVoice}
 use Rattle.edit_session.specs.Kept.{AreTablesOfVoice}
 use Rattle.edit_session.proofs.ListedTrees.{told_picked}
 use Rattle.edit_session.specs.LeastTrees.{AreOfLeastPath, IsTableIn}
+use Rattle.edit_session.specs.RuleLists.{AreLeastLists}
 
 in_grammar : (g : Grammar) (cs : List Inner) (bars : List VoiceBar) (tables : List BarTable) → AreTables g cs bars tables → All (IsTableIn g) tables
 in_grammar g cs [] [] h = All-nil (IsTableIn g)
@@ -68,6 +69,12 @@ module _ (g : Grammar) (p : Performance) (channel : ℕ) (tables : List BarTable
 
     pub unpinned_told : (lists : List (List ℕ)) → AreOfLeastPath tables lists → (trees : List Tree) × IsToldBy g (unpinned_bars g p) (soundings cs) lists trees
     unpinned_told lists of = let t = told lists of in (t.0, t.2)
+
+    -- they are its rule lists
+    pub least_lists : HasStarts g p.bars → (lists : List (List ℕ)) → AreOfLeastPath tables lists → AreLeastLists g p channel lists
+    least_lists starts lists of =
+        let t = told lists of in
+        (t.0, record { starts = starts; chords = cs; are_chords = are; least = t.1 }, t.2.preorders)
 
     pub least_sounds : (lists : List (List ℕ)) (sounds : List Sound) → HasStarts g p.bars → AreOfLeastPath tables lists
         → ((trees : List Tree) → IsToldBy g (unpinned_bars g p) (soundings cs) lists trees → sounds ≡ derivation_sounds g (unpinned_bars g p) cs trees) → AreLeastSounds g p channel sounds

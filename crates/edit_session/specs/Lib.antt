@@ -6,6 +6,7 @@ pub mod Inputs
 pub mod Kept
 pub mod LeastTrees
 pub mod BarsInForce
+pub mod RuleLists
 pub mod Laws
 pub mod Asking
 pub mod Prepared

@@ -29,10 +29,11 @@ ghost use Rattle.rhythm_base.specs.declared.limits.TheConstants.{LONGEST_SCORE, 
 ghost use Rattle.edit_session.specs.Prepared.{RisesBy, Suits, bar_table_of, cell_of};
 ghost use Rattle.edit_session.specs.Products.{RisesTwice, changes_made};
 ghost use Rattle.edit_session.specs.ReachedCells.{place_pair};
+ghost use Rattle.edit_session.specs.RuleLists.{AreLeastLists};
 ghost use Rattle.edit_laws.specs.Edits as edits;
 ghost use Rattle.rhythm_base.specs.EditRanges.{IsEditInRange};
 ghost use Rattle.edit_laws.specs.Reached.{AreReached};
-ghost use Rattle.std.specs.Prelude.{◌≡◌, ◌≤◌, ℕ, All, Err, IfErr, IfOk, List, None, Ok, OnErr, OnOk, length, map, max};
+ghost use Rattle.std.specs.Prelude.{◌≡◌, ◌≤◌, ◌<◌, ℕ, All, Err, IfErr, IfOk, List, None, Ok, OnErr, OnOk, length, map, max, slice_index};
 
 use crate::ask_fault::AskFault;
 use crate::asking::{alternatives_of, place_of};
@@ -41,6 +42,7 @@ use crate::committed::{Applied, Committed, Dead};
 use crate::exchange::{Exchanged, exchange};
 use crate::inputs::tempo_map_of;
 use crate::kept_voices::{first_dead_voice, reserve_all, total_of, voices_of};
+use crate::least_trees::least_lists;
 use crate::open_fault::OpenFault;
 use crate::opening::{PlannedTables, cell_tables};
 use crate::prepared::{CellTable, Prepared, placed_tables};
@@ -150,6 +152,17 @@ impl Session {
         let voices = self.voices.as_slice();
         let score = whole_score(alloc, &self.grammar, &self.performance, voices)?;
         write_kern(alloc, &score)
+    }
+
+    /// The rule lists of the least derivation of a voice, bar after bar: the numbers of the rules of each tree in preorder. The voices
+    /// are numbered from 0, by rising channel.
+    pub fn rule_lists(&self, alloc: Global, voice: usize) -> Result<Vec<&[u16]>, AllocError>
+        requires { voice < length self.now.performance.channels }
+        ensures { let channel = slice_index self.now.performance.channels voice in
+            IfOk result (λ v. AreLeastLists self.now.grammar self.now.performance channel (map (λ l. l.now) v.items)) }
+    {
+        let voices = self.voices.as_slice();
+        least_lists(alloc, &voices[voice])
     }
 
     /// The first `count` alternatives of a bar of a voice: the best trees of the bar, its pin lifted, each with the least cost of a

@@ -21,4 +21,6 @@ mod Rounds
 mod Scripts
 mod Followings
 mod FileTests
+mod InTurn
+mod Learnings
 mod Outcomes

@@ -1,12 +1,13 @@
 -- Every command line has an outcome.
-use Rattle.std.proofs.Common.{◌≡◌, inl, inr, ℕ, List, subst, refl, Option, Some, None, Result, Ok, Err}
+use Rattle.std.proofs.Common.{◌≡◌, ℕ, List, subst, refl, Option, Some, None, Result, Ok, Err}
 use Rattle.rhythm_app.proofs.OneOutcome.{in_ranges, readable, sound_inputs, well_formed}
-use Rattle.rhythm_app.specs.Asked.{Asked, help, version, write, answer, fit, too_many_candidates, follow, notes, events, generate, drill, asked_by}
+use Rattle.rhythm_app.specs.Asked.{Asked, help, version, write, answer, fit, too_many_candidates, follow, learn, too_many_files, notes, events, generate, drill, asked_by}
 use Rattle.rhythm_app.specs.Commands.{HasOutcomeOf}
 use Rattle.rhythm_app.specs.Inputs.{Inputs, file_content}
+use Rattle.rhythm_app.specs.Learning.{IsLearning}
 use Rattle.rhythm_app.specs.Outcome.{AreFilesRead, AreInTurn, AreInputs, IsAnswering, IsDrilling, IsFitting, IsFollowing, IsListing, IsLoading, IsNoting, IsPieceMade, IsPieceOf, IsRead, IsScoreRead, IsUnderstood, IsWriting, Ready, grammar_tests, kern_tests, midi_tests}
 use Rattle.rhythm_app.specs.declared.stop.Stop.{Stop}
-use Rattle.rhythm_app.specs.declared.stop.Stop.TheVariants.{TooManyCandidates, Usage}
+use Rattle.rhythm_app.specs.declared.stop.Stop.TheVariants.{TooManyCandidates, TooManyFiles, Usage}
 use Rattle.rhythm_base.specs.Grammar.{Grammar}
 use Rattle.rhythm_base.specs.Performance.{IsWellFormed, Performance}
 use Rattle.rhythm_base.specs.Readable.{IsReadable}
@@ -17,24 +18,13 @@ use Rattle.outcome_laws.proofs.Drillings.{some_drilling}
 use Rattle.outcome_laws.proofs.FileTests.{content_bytes, read_in_range}
 use Rattle.outcome_laws.proofs.Fittings.{some_fitting}
 use Rattle.outcome_laws.proofs.Followings.{some_following}
+use Rattle.outcome_laws.proofs.InTurn.{ComesTo, in_turn}
+use Rattle.outcome_laws.proofs.Learnings.{learnings}
 use Rattle.outcome_laws.proofs.Listings.{some_listing}
 use Rattle.outcome_laws.proofs.Loadings.{some_loading}
 use Rattle.outcome_laws.proofs.Notings.{some_noting}
 use Rattle.outcome_laws.proofs.Pieces.{some_piece}
 use Rattle.outcome_laws.proofs.Writings.{some_writing}
-
--- it comes to something, or to a stop
-abbrev ComesTo : {T : Type 0} → (Result T Stop → Type 0) → Type 0
-ComesTo {T} outcome = (r : Result T Stop) × outcome r
-
--- where a test comes to something, and what follows each value that passes it does too
-in_turn : {T U : Type 0} (first : Result T Stop → Type 0) (next : T → Result U Stop → Type 0) → ComesTo first → ((x : T) → first (Ok x) → ComesTo (next x)) → ComesTo (AreInTurn first next)
-in_turn {T} {U} first next (Err s, is) nexts = (Err s, inl is)
-in_turn {T} {U} first next (Ok x, is) nexts = go (nexts x is)
-  where
-    go : ComesTo (next x) → ComesTo (AreInTurn first next)
-    go (Ok y, own) = (Ok y, (x, is, own))
-    go (Err s, own) = (Err s, inr (x, is, own))
 
 -- ---- commands on inputs
 
@@ -84,6 +74,10 @@ module _ (files : List File) (holds : HoldBytes files) where
   outcome_of (Some (answer talk i)) = of_files i files holds (IsAnswering talk) (some_answering talk)
   outcome_of (Some (fit i c)) = of_files i files holds (IsFitting c) (some_fitting c)
   outcome_of (Some (too_many_candidates count)) = (Err (TooManyCandidates count), refl)
+  outcome_of (Some (learn bit grammar midis)) =
+      in_turn (IsUnderstood (file_content files grammar)) (IsLearning bit files midis) (grammar_tests (file_content files grammar), refl)
+      (λ g understood. learnings bit files midis g holds (readable (file_content files grammar) g understood))
+  outcome_of (Some (too_many_files count)) = (Err (TooManyFiles count), refl)
   outcome_of (Some (follow i)) = of_files i files holds IsFollowing some_following
   outcome_of (Some (notes midi)) = some_notes (file_content files midi) (content_bytes files midi holds)
   outcome_of (Some (events kern)) = some_events (file_content files kern)

@@ -3,6 +3,7 @@ use Rattle.std.specs.Prelude.{◌<◌, ℕ, All, List, Result}
 use Rattle.barline_fit.specs.declared.candidates.Candidates.{Candidates}
 use Rattle.kern_reader.specs.Score.{IsKernScore, KernColumns}
 use Rattle.rhythm_app.specs.Commands.{HasOutcome}
+use Rattle.rhythm_app.specs.Learning.{IsLearning}
 use Rattle.rhythm_app.specs.Outcome.{IsAnswering, IsDrilling, IsFitting, IsFollowing, IsListing, IsLoading, IsNoting, IsPieceMade, IsPieceOf, IsWriting, Ready}
 use Rattle.rhythm_app.specs.declared.request.Form.{Form}
 use Rattle.rhythm_app.specs.declared.request.Talk.{Talk}
@@ -13,6 +14,12 @@ use Rattle.rhythm_base.specs.Readable.{IsReadable}
 use Rattle.rhythm_ports.specs.Files.{File}
 use Rattle.smf_reader.specs.Played.{Smf}
 use Rattle.smf_reader.specs.Ranges.{IsPlayedFile}
+
+abbrev pub AreBytes : List ℕ → Type 0
+AreBytes bytes = All (λ b. b < 256) bytes
+
+abbrev pub HoldBytes : List File → Type 0
+HoldBytes files = All (λ file. AreBytes file.bytes) files
 
 -- ---- each stage of a command comes to something, or to a stop
 
@@ -49,13 +56,13 @@ pub record DrillingsExist : Type 0 where
 abbrev pub FollowingsExist : Type 0
 FollowingsExist = (g : Grammar) (p : Performance) → IsReadable g → IsWellFormed p → (r : Result Ready Stop) × IsFollowing g p r
 
+-- weights are learned from files by a grammar, or the first file that does not pass its tests has a stop
+abbrev pub LearningsExist : Type 0
+LearningsExist =
+    (bit : ℕ) (files : List File) (midis : List (List ℕ)) (g : Grammar) → HoldBytes files → IsReadable g
+    → (r : Result Ready Stop) × IsLearning bit files midis g r
+
 -- ---- the run
-
-abbrev pub AreBytes : List ℕ → Type 0
-AreBytes bytes = All (λ b. b < 256) bytes
-
-abbrev pub HoldBytes : List File → Type 0
-HoldBytes files = All (λ file. AreBytes file.bytes) files
 
 -- every command line has an outcome, whatever its words and whatever the bytes of its files
 abbrev pub RunsHaveOutcomes : Type 0

@@ -1,4 +1,4 @@
-ghost use Rattle.outcome_laws.specs.Laws.{AnsweringsExist, DrillingsExist, FittingsExist, FollowingsExist, ListingsExist, LoadingsExist, NotingsExist, RunsHaveOutcomes, WritingsExist};
+ghost use Rattle.outcome_laws.specs.Laws.{AnsweringsExist, DrillingsExist, FittingsExist, FollowingsExist, LearningsExist, ListingsExist, LoadingsExist, NotingsExist, RunsHaveOutcomes, WritingsExist};
 
 /// A MIDI file that was read loads to a performance, or has a fault.
 pub fn loadings_exist()
@@ -38,6 +38,11 @@ pub fn drillings_exist()
 /// Barlines that follow the player are found on such a performance, with the script that leads to them, or there is a stop.
 pub fn followings_exist()
     ensures { FollowingsExist }
+{}
+
+/// Weights are learned from the files, whatever their bytes, by a readable grammar, or there is a stop.
+pub fn learnings_exist()
+    ensures { LearningsExist }
 {}
 
 /// Every command line has an outcome, whatever its words and whatever the bytes of its files.

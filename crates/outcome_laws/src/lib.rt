@@ -5,6 +5,6 @@
 mod laws;
 
 pub use laws::{
-    answerings_exist, drillings_exist, fittings_exist, followings_exist, listings_exist,
-    loadings_exist, notings_exist, runs_have_outcomes, writings_exist,
+    answerings_exist, drillings_exist, fittings_exist, followings_exist, learnings_exist,
+    listings_exist, loadings_exist, notings_exist, runs_have_outcomes, writings_exist,
 };

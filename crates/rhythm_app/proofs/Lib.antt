@@ -15,6 +15,7 @@ pub mod Reading
 pub mod Requests
 pub mod Scoring
 pub mod Sessions
+pub mod CountedFiles
 pub mod CountedWords
 pub mod Statuses
 pub mod Stops

@@ -1,7 +1,7 @@
 -- What words and files come to is one.
-use Rattle.std.proofs.Common.{◌≡◌, ◌≤◌, ◌+◌, ℕ, List, Option, Some, None, ap, ap₂, inl, inr, refl, sym, subst, ◌∙◌, Bool, true, false, Result, Ok, Err, arith}
+use Rattle.std.proofs.Common.{◌≡◌, ◌≤◌, ◌<◌, ◌+◌, ℕ, List, [], get_or, take, Option, Some, None, ap, ap₂, inl, inr, refl, sym, subst, ◌∙◌, Bool, true, false, Result, Ok, Err, arith}
 use Rattle.std.proofs.lemmas.Bool.{leb-true}
-use Rattle.std.specs.Prelude.{IfOk, if◌then◌else◌, nat_le, length, map}
+use Rattle.std.specs.Prelude.{IfOk, if◌then◌else◌, nat_le, length, map, flat_map}
 use Rattle.barline_fit.proofs.OneFit.{ticks_one}
 use Rattle.barline_fit.proofs.OneWritten.{scores_with_barline_one}
 use Rattle.barline_fit.specs.FittedScore.{IsFittedScore}
@@ -15,6 +15,11 @@ use Rattle.edit_session.proofs.Faults.{fault_or_open, one_fault}
 use Rattle.edit_session.specs.Opening.{CanOpen}
 use Rattle.grammar_file.proofs.SayableLemmas.{is_sayable}
 use Rattle.grammar_file.specs.Grammar.{grammar_of}
+use Rattle.grammar_file.specs.Printed.{printed}
+use Rattle.edit_session.proofs.EachRuns.{Each-at}
+use Rattle.derivation.proofs.Pairs.{each_one}
+use Rattle.std.proofs.lemmas.Bool.{cases_lt}
+use Rattle.std.proofs.lemmas.List.{length-take, get_or-take}
 use Rattle.kern_laws.proofs.OneList.{one_list}
 use Rattle.kern_reader.proofs.ScoreLemmas.{well_score}
 use Rattle.kern_reader.specs.EventText.{events_text}
@@ -36,10 +41,15 @@ use Rattle.performance_load.specs.Loading.{Loads}
 use Rattle.performance_load.specs.declared.load_fault.LoadFault.{LoadFault}
 use Rattle.piece_laws.proofs.FormedPieces.{pieces_formed}
 use Rattle.rhythm_app.proofs.InTurn.{IsOne, in_turn_one}
-use Rattle.rhythm_app.specs.Asked.{Asked, help, version, write, answer, fit, too_many_candidates, follow, notes, events, generate, drill, asked_by}
+use Rattle.rhythm_app.proofs.Performing.{not_stopped, same_stop}
+use Rattle.rule_counts.proofs.Adding as counting
+use Rattle.session_counts.proofs.RuleLists.{are_one}
+use Rattle.weight_learning.specs.Learned.{learned}
+use Rattle.rhythm_app.specs.Asked.{Asked, help, version, write, answer, fit, too_many_candidates, follow, learn, too_many_files, notes, events, generate, drill, asked_by}
 use Rattle.rhythm_app.specs.Commands.{HasOutcomeOf}
 use Rattle.rhythm_app.specs.Inputs.{Inputs, file_content}
 use Rattle.rhythm_app.specs.Laws.{OutcomesAreOne}
+use Rattle.rhythm_app.specs.Learning.{AreAllListed, AreListed, AreOfFile, AreOfFiles, IsFirstStop, IsLearning, IsWeighed, in_file}
 use Rattle.rhythm_app.specs.Outcome.{AreEventsOf, AreInTurn, AreInputs, AreFilesRead, FitsScore, IsAnswering, IsFitting, IsFormOf, IsListing, IsLoading, IsNoting, IsRead, IsScoreRead, IsTooLongToWrite, IsUnfitted, IsUnwritten, IsWriting, fit_stop, fit_text, IsDrilling, IsFollowing, IsPieceMade, IsPieceOf, IsTooLongDrill, Ready, say, serve, IsUnderstood, IsUnopened, grammar_tests, kern_tests, limit_of, load_stop, open_stop, passed, stopped}
 use Rattle.rhythm_app.specs.declared.request.Form.{Form}
 use Rattle.rhythm_app.specs.declared.request.Form.TheVariants as form
@@ -251,6 +261,14 @@ module _ (g : Grammar) (p : Performance) (read : IsReadable g) (formed : IsWellF
   one_following (Err s) (Ok (serve t e q)) h k = absurd k
   one_following (Err s) (Err t) h k = ap Err (h.3 ∙ ap open_stop (one_fault g p h.0 k.0 read formed h.2 k.2 h.1 k.1) ∙ sym k.3)
 
+  -- ---- the rule lists
+
+  one_list_of_lists : IsOne (AreListed g p)
+  one_list_of_lists (Ok a) (Ok b) h k = ap Ok (are_one g p a b formed h.1 k.1)
+  one_list_of_lists (Ok a) (Err t) h k = absurd (opened t h.0 k)
+  one_list_of_lists (Err s) (Ok b) h k = absurd (opened s k.0 h)
+  one_list_of_lists (Err s) (Err t) h k = ap Err (h.3 ∙ ap open_stop (one_fault g p h.0 k.0 read formed h.2 k.2 h.1 k.1) ∙ sym k.3)
+
   -- ---- the drill
 
   drill_or_open : (number : ℕ) (s : Stop) → IsTooLongDrill g number p s → IsUnopened g p s → ⊥
@@ -304,6 +322,69 @@ made_formed number p (q, piece, e) = let same : q ≡ p = back p q e in subst Is
   where
     back : (p q : Performance) → ◌≡◌ {A = Result Performance Stop} (Ok p) (Ok q) → q ≡ p
     back p q e = cc
+
+-- ---- learned weights
+
+module _ (g : Grammar) (read : IsReadable g) where
+  one_of_file : (bytes : List ℕ) → IsOne (AreOfFile g bytes)
+  one_of_file bytes =
+      in_turn_one (IsRead bytes) (λ f. AreInTurn (IsLoading f) (AreListed g)) (one_read bytes)
+      (λ f _. in_turn_one (IsLoading f) (AreListed g) (one_loaded f) (λ p loaded. one_list_of_lists g p read (well_formed f p loaded)))
+
+  module _ (files : List File) (midis : List (List ℕ)) where
+    abbrev Passes : List ℕ → List (List ℕ) → Type 0
+    Passes name l = AreOfFile g (file_content files name) (Ok l)
+
+    one_of_files_lists : (a b : List (List ℕ)) → AreOfFiles g files midis a → AreOfFiles g files midis b → a ≡ b
+    one_of_files_lists a b h k =
+        h.are ∙ ap (flat_map (λ l. l)) (each_one Passes (λ _. Unit {0}) midis h.own k.own (λ name x y _ p q. same_lists x y (one_of_file (file_content files name) (Ok x) (Ok y) p q)) (λ _ _ _. tt) h.each k.each)
+        ∙ sym k.are
+      where
+        same_lists : (x y : List (List ℕ)) → ◌≡◌ {A = Result (List (List ℕ)) Stop} (Ok x) (Ok y) → x ≡ y
+        same_lists x y e = cc
+
+    -- a file that passes is not stopped
+    passed_or_stopped : (n : ℕ) (s : Stop) (names : List (List ℕ)) (lists : List (List ℕ)) → AreOfFiles g files names lists → n < length names → get_or names n [] ≡ get_or midis n []
+        → AreOfFile g (file_content files (get_or midis n [])) (Err s) → ⊥
+    passed_or_stopped n s names lists h lt same stopped =
+        let passes = Each-at Passes names h.own n [] [] lt h.each in
+        let here = subst (λ name. Passes name (get_or h.own n [])) same passes in
+        not_stopped (get_or h.own n []) s (one_of_file (file_content files (get_or midis n [])) (Ok (get_or h.own n [])) (Err s) here stopped)
+
+    no_earlier : (n m : ℕ) (s t : Stop) → IsFirstStop g files midis n s → IsFirstStop g files midis m t → n < m → ⊥
+    no_earlier n m s t h k lt =
+        let within : n < length (take m midis) = omega (arith, lt, length-take m midis, k.0.0) in
+        passed_or_stopped n s (take m midis) k.0.1.0 k.0.1.1 within (get_or-take m midis n [] lt) h.1
+
+    one_first_stop : (n m : ℕ) (s t : Stop) → IsFirstStop g files midis n s → IsFirstStop g files midis m t → in_file (n + 1) s ≡ in_file (m + 1) t
+    one_first_stop n m s t h k = elim (cases_lt n m) [
+      | inl lt ↦ absurd (no_earlier n m s t h k lt)
+      | inr le ↦ elim (cases_lt m n) [
+        | inl lt ↦ absurd (no_earlier m n t s k h lt)
+        | inr ge ↦
+            let same : n ≡ m = omega (arith, le, ge) in
+            let stops = same_stop {T = List (List ℕ)} s t (one_of_file (file_content files (get_or midis m [])) (Err s) (Err t)
+            (subst (λ i. AreOfFile g (file_content files (get_or midis i [])) (Err s)) same h.1) k.1) in
+            λ i. in_file (same i + 1) (stops i)
+      ]
+    ]
+
+    one_all_listed : IsOne (AreAllListed g files midis)
+    one_all_listed (Ok a) (Ok b) h k = ap Ok (one_of_files_lists a b h k)
+    one_all_listed (Ok a) (Err t) h (n, own, first, e) = absurd (passed_or_stopped n own midis a h first.0.0 refl first.1)
+    one_all_listed (Err s) (Ok b) (n, own, first, e) k = absurd (passed_or_stopped n own midis b k first.0.0 refl first.1)
+    one_all_listed (Err s) (Err t) (n, own, first, e) (m, own', first', e') = ap Err (e ∙ one_first_stop n m own own' first first' ∙ sym e')
+
+    one_weighed : (bit : ℕ) (lists : List (List ℕ)) → IsOne (IsWeighed bit g lists)
+    one_weighed bit lists (Ok (say a)) (Ok (say b)) (counts, are, text) (others, are', text') =
+        ap (λ x. Ok (say x)) (text ∙ ap (λ (c : List ℕ). printed (learned g c bit)) (counting.are_one.counts (length g.rules) lists counts others are are') ∙ sym text')
+    one_weighed bit lists (Ok (say a)) (Ok (serve t e q)) h k = absurd k
+    one_weighed bit lists (Ok (serve t e q)) s h k = absurd h
+    one_weighed bit lists (Ok (say a)) (Err s) h k = absurd k
+    one_weighed bit lists (Err s) r h k = absurd h
+
+    one_learning : (bit : ℕ) → IsOne (IsLearning bit files midis g)
+    one_learning bit = in_turn_one (AreAllListed g files midis) (IsWeighed bit g) one_all_listed (λ lists _. one_weighed bit lists)
 
 -- ---- the notes
 
@@ -376,6 +457,10 @@ one_of (Some (write f i)) files r s h k = one_of_files (IsWriting f) (λ g p rea
 one_of (Some (answer talk i)) files r s h k = one_of_files (IsAnswering talk) (λ g p read formed. one_answering g p read formed talk) i files r s h k
 one_of (Some (fit i c)) files r s h k = one_of_files (IsFitting c) (λ g p read formed. one_fitting g p read formed c) i files r s h k
 one_of (Some (too_many_candidates count)) files r s h k = h ∙ sym k
+one_of (Some (learn bit grammar midis)) files r s h k =
+    in_turn_one (IsUnderstood (file_content files grammar)) (IsLearning bit files midis) (one_understood (file_content files grammar))
+    (λ g understood. one_learning g (readable (file_content files grammar) g understood) files midis bit) r s h k
+one_of (Some (too_many_files count)) files r s h k = h ∙ sym k
 one_of (Some (follow i)) files r s h k = one_of_files IsFollowing (λ g p read formed. one_following g p read formed) i files r s h k
 one_of (Some (notes midi)) files r s h k =
     in_turn_one (IsRead (file_content files midi)) (λ f. AreInTurn (IsLoading f) IsNoting) (one_read (file_content files midi))

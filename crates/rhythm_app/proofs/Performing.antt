@@ -4,7 +4,7 @@ use Rattle.std.specs.Option.{ForSome}
 use Rattle.std.specs.Io.KnownBytes.{Appends}
 use Rattle.rhythm_app.specs.Asked.{Asked}
 use Rattle.rhythm_app.specs.Builds.{HasBuilt, HasBuiltAll}
-use Rattle.rhythm_app.specs.Commands.{Cells, HasNames, HasOutcomeOf, Named, cells_drilled, cells_fitted, cells_followed, cells_in, cells_of_asked, command, named, no_cells}
+use Rattle.rhythm_app.specs.Commands.{Cells, HasNames, HasOutcomeOf, Named, cells_drilled, cells_fitted, cells_followed, cells_in, cells_learned, cells_of_asked, command, named, no_cells}
 use Rattle.rhythm_app.specs.Ends.{AppendsPart, ComesTo, IsCauseOf, IsFailureOf, IsReadFailure, IsPerformed, IsTextSaid, IsErrUntouched, IsUntouched, KeepsRest}
 use Rattle.rhythm_app.specs.Lent.{Lent}
 use Rattle.rhythm_app.specs.Outcome.{say}
@@ -44,6 +44,8 @@ module _ (k : Kind) (reads : List Named) (files : List File) (before now : ℕ) 
   read_fails (stop.NoDerivation m n) failed end = absurd failed
   read_fails (stop.ScoreTooLong n) failed end = absurd failed
   read_fails (stop.RenderTooLong n) failed end = absurd failed
+  read_fails (stop.InFile m s) failed end = absurd end
+  read_fails (stop.TooManyFiles n) failed end = absurd failed
   read_fails (stop.TooManyCandidates n) failed end = absurd failed
   read_fails (stop.NoBarline n) failed end = absurd failed
   read_fails stop.NoCandidate failed end = absurd failed
@@ -69,6 +71,8 @@ failure_of asked files (stop.NoStart l m n) failed = absurd failed
 failure_of asked files (stop.NoDerivation m n) failed = absurd failed
 failure_of asked files (stop.ScoreTooLong n) failed = absurd failed
 failure_of asked files (stop.RenderTooLong n) failed = absurd failed
+failure_of asked files (stop.InFile m s) failed = absurd failed
+failure_of asked files (stop.TooManyFiles n) failed = absurd failed
 failure_of asked files (stop.TooManyCandidates n) failed = absurd failed
 failure_of asked files (stop.NoBarline n) failed = absurd failed
 failure_of asked files stop.NoCandidate failed = absurd failed
@@ -109,6 +113,8 @@ read_end k before now (stop.NoStart l m n) end other = tt
 read_end k before now (stop.NoDerivation m n) end other = tt
 read_end k before now (stop.ScoreTooLong n) end other = tt
 read_end k before now (stop.RenderTooLong n) end other = tt
+read_end k before now (stop.InFile m s) end other = absurd end
+read_end k before now (stop.TooManyFiles n) end other = absurd end
 read_end k before now (stop.TooManyCandidates n) end other = tt
 read_end k before now (stop.NoBarline n) end other = tt
 read_end k before now stop.NoCandidate end other = tt
@@ -148,6 +154,7 @@ write_built no_cells fs old new none = none refl
 write_built (cells_in i) fs old new none = tt
 write_built (cells_fitted i c) fs old new none = tt
 write_built (cells_followed i) fs old new none = tt
+write_built (cells_learned midis) fs old new none = tt
 write_built (cells_drilled number grammar) fs old new none = tt
 
 module _ {S O E : Type 0} where
@@ -254,6 +261,8 @@ content_end before now (stop.NoStart l m n) content = tt
 content_end before now (stop.NoDerivation m n) content = tt
 content_end before now (stop.ScoreTooLong n) content = tt
 content_end before now (stop.RenderTooLong n) content = tt
+content_end before now (stop.InFile m s) content = absurd content
+content_end before now (stop.TooManyFiles n) content = absurd content
 content_end before now (stop.TooManyCandidates n) content = tt
 content_end before now (stop.NoBarline n) content = tt
 content_end before now stop.NoCandidate content = tt

@@ -2,6 +2,7 @@
 use Rattle.std.proofs.Common.{◌≡◌, ◌≢◌, ◌≤◌, ◌⊎◌, ◌∙◌, ℕ, List, length, subst, IfErr, IfOk, None, Result, Err}
 use Rattle.std.specs.Option.{ForSome}
 use Rattle.rhythm_app.specs.Commands.{HaveNames, input_files}
+use Rattle.rhythm_app.specs.Counting.{HasPerformance, IsMidiLoading, IsOfMidi}
 use Rattle.rhythm_app.specs.Ends.{IsReadFailure}
 use Rattle.rhythm_app.specs.Inputs.{Inputs, file_content}
 use Rattle.rhythm_app.specs.Lent.{Lent}
@@ -41,6 +42,22 @@ module _ {S O E : Type 0} where
   pub rules_had : (grammar : List ℕ) (seen old new : Lent S O E) (r : Result Grammar Stop) → seen ≡ old
       → new ≡ record seen { files = new.files; strays = new.strays; shelf_faults = new.shelf_faults } → new.files ≡ seen.files
       → ForSome seen.files (λ files. Follows (IsUnderstood (file_content files grammar)) r) → IfOk r IsReadable → IfErr r (EndsBy kind.Grammar seen.shelf_faults new.shelf_faults)
-      → ForSome seen.files (λ files. file_of files grammar ≢ None → new.strays ≡ seen.strays) → HasRules grammar old new r
-  rules_had grammar seen old new r same reads files tests readable end strays =
-      subst (λ (l : Lent S O E). HasRules grammar l new r) same (record { tests = tests; readable = readable; end = end; strays = strays; reads = shelf_read seen new reads files })
+      → seen.shelf_faults ≤ new.shelf_faults → ForSome seen.files (λ files. file_of files grammar ≢ None → new.strays ≡ seen.strays) → HasRules grammar old new r
+  rules_had grammar seen old new r same reads files tests readable end later strays =
+      subst (λ (l : Lent S O E). HasRules grammar l new r) same (record { tests = tests; readable = readable; end = end; later = later; strays = strays; reads = shelf_read seen new reads files })
+
+  pub performance_had : (name : List ℕ) (seen old new : Lent S O E) (r : Result Performance Stop) → seen ≡ old
+      → new ≡ record seen { files = new.files; strays = new.strays; shelf_faults = new.shelf_faults } → new.files ≡ seen.files
+      → ForSome seen.files (λ files. Follows (IsMidiLoading (file_content files name)) r) → IfOk r (λ p. length p.notes ≤ MOST_NOTES) → IfErr r IsOfMidi
+      → IfErr r (EndsBy kind.Midi seen.shelf_faults new.shelf_faults) → seen.shelf_faults ≤ new.shelf_faults
+      → ForSome seen.files (λ files. file_of files name ≢ None → new.strays ≡ seen.strays) → HasPerformance name old new r
+  performance_had name seen old new r same reads files tests few_notes own end later strays =
+      subst (λ (l : Lent S O E). HasPerformance name l new r) same (record {
+        tests = tests;
+        few_notes = few_notes;
+        own = own;
+        end = end;
+        later = later;
+        strays = strays;
+        reads = shelf_read seen new reads files;
+      })

@@ -1,8 +1,9 @@
 -- What a request comes to is what the words come to.
 use Rattle.std.proofs.Common.{◌≡◌, ℕ, subst, sym, ◌∙◌, Option, Some, None, Result, Err}
-use Rattle.rhythm_app.specs.Asked.{Asked, too_many_candidates}
+use Rattle.rhythm_app.specs.Asked.{Asked, too_many_candidates, too_many_files}
 use Rattle.rhythm_app.specs.Ends.{IsPerformed}
 use Rattle.rhythm_app.specs.Lent.{Lent}
+use Rattle.rhythm_app.specs.Stages.{HasText}
 use Rattle.rhythm_app.specs.declared.stop.Stop.{Stop}
 use Rattle.rhythm_app.specs.declared.stop.Stop.TheVariants as stop
 use Rattle.std.proofs.Common.{refl, inl, arith}
@@ -28,15 +29,33 @@ nothing_asked {S} {O} {E} {T} asked old none = subst (λ (a : Option Asked). IsP
   err = (refl, refl, refl);
 })
 
--- the words ask for too many candidates
-pub too_many_asked : {S O E T : Type 0} (count : ℕ) (old : Lent S O E) → IsPerformed (Some (too_many_candidates count)) old old {T = T} (Err (stop.TooManyCandidates count))
-too_many_asked {S} {O} {E} {T} count old = record {
-  known = λ e. absurd (other_stop e);
-  done = tt;
-  stopped = record { cause = λ files are. inl refl; risen = tt; took = (refl, refl); nothing = λ _ _. refl; built = refl };
-  rest = record { files = refl; strays = λ files are names. refl; script = λ _. refl; built = omega arith; multiplied = omega arith };
-  err = (refl, refl, refl);
+-- too many candidates are asked for, or too many files: no file is read
+pub too_many_candidates_had : {S O E A : Type 0} (count : ℕ) (old : Lent S O E) → HasText {A = A} (Some (too_many_candidates count)) old old (Err (stop.TooManyCandidates count))
+too_many_candidates_had count old = record {
+  text = tt;
+  all = tt;
+  before = record {
+    cause = λ files are. inl refl;
+    end = tt;
+    built = refl;
+    strays = λ files are names. refl;
+    rises = (omega arith, omega arith);
+    no_cells = λ _. refl;
+    alone = refl;
+  };
 }
-  where
-    other_stop : ◌≡◌ {A = Result T Stop} (Err (stop.TooManyCandidates count)) (Err stop.Usage) → ⊥
-    other_stop e = cc
+
+pub too_many_files_had : {S O E A : Type 0} (count : ℕ) (old : Lent S O E) → HasText {A = A} (Some (too_many_files count)) old old (Err (stop.TooManyFiles count))
+too_many_files_had count old = record {
+  text = tt;
+  all = tt;
+  before = record {
+    cause = λ files are. inl refl;
+    end = tt;
+    built = refl;
+    strays = λ files are names. refl;
+    rises = (omega arith, omega arith);
+    no_cells = λ _. refl;
+    alone = refl;
+  };
+}

@@ -10,7 +10,8 @@ use Rattle.rhythm_app.specs.declared.request.Talk.{Talk}
 use Rattle.rhythm_app.specs.declared.stop.Kind.TheVariants as kind
 use Rattle.rhythm_base.specs.Grammar.{Grammar}
 use Rattle.rhythm_base.specs.Performance.{Performance}
-use Rattle.rhythm_app.specs.Stops.{status_of}
+use Rattle.rhythm_app.specs.Stops.{midi_status_of, status_of}
+use Rattle.rhythm_app.specs.declared.stop.MidiStop.{MidiStop}
 use Rattle.rhythm_app.specs.declared.stop.Stop.{Stop}
 use Rattle.rhythm_app.specs.declared.stop.Stop.TheVariants as stop
 use Rattle.rhythm_app.proofs.OneOutcome.{one_outcome}
@@ -82,6 +83,8 @@ module _ (words : List (List ℕ)) (files : List File) where
   failure_status (stop.NoDerivation m n) failed r outcome = absurd failed
   failure_status (stop.ScoreTooLong n) failed r outcome = absurd failed
   failure_status (stop.RenderTooLong n) failed r outcome = absurd failed
+  failure_status (stop.InFile m s) failed r outcome = subst (λ (m : MidiStop). MayEnd r (midi_status_of m)) (sym failed.0) (may_end_5 r)
+  failure_status (stop.TooManyFiles n) failed r outcome = absurd failed
   failure_status (stop.TooManyCandidates n) failed r outcome = absurd failed
   failure_status (stop.NoBarline n) failed r outcome = absurd failed
   failure_status stop.NoCandidate failed r outcome = absurd failed
@@ -142,6 +145,8 @@ module _ (words : List (List ℕ)) (files : List File) where
     failure_complete (stop.NoDerivation m n) failed risen ready k = absurd failed
     failure_complete (stop.ScoreTooLong n) failed risen ready k = absurd failed
     failure_complete (stop.RenderTooLong n) failed risen ready k = absurd failed
+    failure_complete (stop.InFile m s) failed risen ready k = subst (λ (m : MidiStop). IsCompleteFor ready old new (midi_status_of m)) (sym failed.0) (complete_read ready (risen failed.0))
+    failure_complete (stop.TooManyFiles n) failed risen ready k = absurd failed
     failure_complete (stop.TooManyCandidates n) failed risen ready k = absurd failed
     failure_complete (stop.NoBarline n) failed risen ready k = absurd failed
     failure_complete stop.NoCandidate failed risen ready k = absurd failed

@@ -37,6 +37,8 @@ module _ {S O E : Type 0} (asked : Option Asked) (old mid : Lent S O E) (err : E
   risen_after (stop.NoDerivation m n) h = h
   risen_after (stop.ScoreTooLong n) h = h
   risen_after (stop.RenderTooLong n) h = h
+  risen_after (stop.InFile m s) h = h
+  risen_after (stop.TooManyFiles n) h = h
   risen_after (stop.TooManyCandidates n) h = h
   risen_after (stop.NoBarline n) h = h
   risen_after stop.NoCandidate h = h
@@ -77,6 +79,8 @@ module _ {S O E : Type 0} (asked : Option Asked) (old mid : Lent S O E) (err : E
   taken_after (stop.NoDerivation m n) h = h
   taken_after (stop.ScoreTooLong n) h = h
   taken_after (stop.RenderTooLong n) h = h
+  taken_after (stop.InFile m s) h = h
+  taken_after (stop.TooManyFiles n) h = h
   taken_after (stop.TooManyCandidates n) h = h
   taken_after (stop.NoBarline n) h = h
   taken_after stop.NoCandidate h = h

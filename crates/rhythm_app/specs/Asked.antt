@@ -1,6 +1,6 @@
 -- What the words of a command line ask for.
 use Rattle.rhythm_base.specs.declared.limits.TheConstants.{LATEST_TICK, MOST_BARS}
-use Rattle.std.specs.Prelude.{ℕ, ◌+◌, ◌-◌, ◌/◌, ◌<◌, nat_eq, nat_le, List, [], ◌∷◌, codes, if◌then◌else◌, Option, Some, None, option_and_then, option_map, IsSome, ◌≤◌, ⊤}
+use Rattle.std.specs.Prelude.{ℕ, ◌+◌, ◌-◌, ◌/◌, ◌<◌, nat_eq, nat_le, List, [], ◌∷◌, codes, if◌then◌else◌, Option, Some, None, option_and_then, option_map, IsSome, length, drop, ◌≤◌, ⊤}
 use Rattle.std.specs.Cmp.Lexicographic.{pointwise}
 use Rattle.barline_fit.specs.declared.candidates.Candidates.{Candidates}
 use Rattle.barline_fit.specs.declared.candidates.TheConstants.{MOST_CANDIDATES}
@@ -9,16 +9,19 @@ use Rattle.command_line.specs.Numbers.{number_in}
 use Rattle.command_line.specs.declared.invocation.Invocation.{Invocation}
 use Rattle.command_line.specs.declared.invocation.Invocation.TheVariants as invocation
 use Rattle.rhythm_app.specs.Inputs.{Inputs, shown_inputs}
+use Rattle.rhythm_app.specs.declared.learn.TheConstants.{MOST_FILES}
 use Rattle.rhythm_app.specs.declared.request.Form.{Form}
 use Rattle.rhythm_app.specs.declared.request.Form.TheVariants as form
 use Rattle.rhythm_app.specs.declared.request.Request.{Request}
 use Rattle.rhythm_app.specs.declared.request.Request.TheVariants as request
 use Rattle.rhythm_app.specs.declared.request.Talk.{Talk}
 use Rattle.rhythm_app.specs.declared.request.Talk.TheVariants as talk
+use Rattle.weight_learning.specs.declared.weights.TheConstants.{HEAVIEST_BIT}
 
 -- the help, the version, or a command with the names of its files and its numbers: one that writes a text of the session on MIDI and
--- GRAMMAR, one that answers a script over it, `fit MIDI GRAMMAR BAR LOW HIGH STEP`, `follow MIDI GRAMMAR`, `notes MIDI`, `events KERN`,
--- `generate NUMBER BARS` or `drill NUMBER GRAMMAR`. A fit of too many candidates asks for no file
+-- GRAMMAR, one that answers a script over it, `fit MIDI GRAMMAR BAR LOW HIGH STEP`, `learn BIT GRAMMAR MIDI...`, `follow MIDI GRAMMAR`,
+-- `notes MIDI`, `events KERN`, `generate NUMBER BARS` or `drill NUMBER GRAMMAR`. A fit of too many candidates asks for no file, nor does
+-- learning from too many files
 pub data Asked : Type 0 where
   help : Asked
   version : Asked
@@ -26,6 +29,8 @@ pub data Asked : Type 0 where
   answer : Talk → Inputs → Asked
   fit : Inputs → Candidates → Asked
   too_many_candidates : ℕ → Asked
+  learn : ℕ → List ℕ → List (List ℕ) → Asked
+  too_many_files : ℕ → Asked
   follow : Inputs → Asked
   notes : List ℕ → Asked
   events : List ℕ → Asked
@@ -89,6 +94,15 @@ fit_of i c = if nat_le (candidate_count c) MOST_CANDIDATES then fit i c else too
 abbrev pub fit_by : List ℕ → List ℕ → List ℕ → List ℕ → List ℕ → List ℕ → Option Asked
 fit_by midi grammar bar low high step = option_map (λ (c : Candidates). fit_of (inputs_named midi grammar) c) (candidates_by bar low high step)
 
+-- weights are learned from at most 256 files
+abbrev pub learn_of : ℕ → List ℕ → List (List ℕ) → Asked
+learn_of bit grammar midis = if nat_le (length midis) MOST_FILES then learn bit grammar midis else too_many_files (length midis)
+
+-- how much more a rule costs that is used half as often, 1 to 10,000, a file, and one more file or several
+abbrev pub learn_by : List (List ℕ) → Option Asked
+learn_by (bit ∷ grammar ∷ midi ∷ more) = option_map (λ (b : ℕ). learn_of b grammar (midi ∷ more)) (number_in 1 HEAVIEST_BIT bit)
+learn_by _ = None
+
 -- how a command is called: its word, what the words after it are, and what these ask for
 pub record Call : Type 0 where
   pub word : List ℕ
@@ -108,6 +122,7 @@ calls =
     ∷ call (codes "studio") (codes "MIDI GRAMMAR") (of_inputs (answer talk.Studio))
     ∷ call (codes "fit") (codes "MIDI GRAMMAR BAR LOW HIGH STEP, with BAR from 0 to 4096, LOW and HIGH from 0 to 2000000000, LOW no more than HIGH, and STEP from 1 to 2000000000") (of_six fit_by)
     ∷ call (codes "follow") (codes "MIDI GRAMMAR") (of_inputs follow)
+    ∷ call (codes "learn") (codes "BIT GRAMMAR MIDI..., with BIT from 1 to 10000, and 1 to 256 MIDI files") learn_by
     ∷ call (codes "notes") (codes "MIDI") (of_one (λ a. Some (notes a)))
     ∷ call (codes "events") (codes "KERN") (of_one (λ a. Some (events a)))
     ∷ call (codes "generate") (codes "NUMBER BARS, with NUMBER from 0 to 65534 and BARS from 1 to 2000") (of_two generate_by)
@@ -157,11 +172,18 @@ shown_request (request.Write form inputs) = write form (shown_inputs inputs)
 shown_request (request.Answer talk inputs) = answer talk (shown_inputs inputs)
 shown_request (request.Fit inputs among) = fit (shown_inputs inputs) among
 shown_request (request.TooManyCandidates count) = too_many_candidates count
+shown_request (request.Learn bit grammar words) = learn bit grammar.now (drop 3 words.now)
+shown_request (request.TooManyFiles count) = too_many_files count
 shown_request (request.Follow inputs) = follow (shown_inputs inputs)
 shown_request (request.Notes midi) = notes midi.now
 shown_request (request.Events kern) = events kern.now
 shown_request (request.Generate number bars) = generate number bars
 shown_request (request.Drill number grammar) = drill number grammar.now
+
+-- a text is asked for, and no answer to a script
+abbrev pub IsText : Request → Type 0
+IsText (request.Answer talk inputs) = ⊥
+IsText _ = ⊤
 
 -- the candidates of a barline that are tried
 pub record AreCandidates (c : Candidates) : Type 0 where
@@ -175,4 +197,5 @@ abbrev pub IsRequestInRange : Request → Type 0
 IsRequestInRange (request.Fit inputs among) = AreCandidates among
 IsRequestInRange (request.Generate number bars) = (number ≤ 65534) × (1 ≤ bars) × (bars ≤ 2000)
 IsRequestInRange (request.Drill number grammar) = number ≤ 65534
+IsRequestInRange (request.Learn bit grammar words) = (1 ≤ bit) × (bit ≤ HEAVIEST_BIT) × (length words.now ≤ MOST_FILES + 3)
 IsRequestInRange _ = ⊤

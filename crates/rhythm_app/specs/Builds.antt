@@ -9,8 +9,9 @@ use Rattle.barline_fit.specs.declared.fitted.Fitted.{Fitted}
 use Rattle.drill_run.specs.Ends.{HasDrilled, IsDrillBrokenOff}
 use Rattle.edit_session.specs.Opening.{cells_of}
 use Rattle.edit_session.specs.Prepared.{RisesBy}
-use Rattle.rhythm_app.specs.Commands.{Cells, no_cells, cells_in, cells_fitted, cells_followed, cells_drilled}
+use Rattle.rhythm_app.specs.Commands.{Cells, no_cells, cells_in, cells_fitted, cells_followed, cells_learned, cells_drilled}
 use Rattle.rhythm_app.specs.Inputs.{Inputs, file_content}
+use Rattle.rhythm_app.specs.Learning.{AreCellsBuilt, HasLearnedOf}
 use Rattle.rhythm_app.specs.Outcome.{AreInputs, IsPieceOf, IsUnderstood}
 use Rattle.rhythm_app.specs.declared.stop.Kind.TheVariants as kind
 use Rattle.rhythm_app.specs.declared.stop.Stop.{Stop}
@@ -58,6 +59,7 @@ HasBuiltAll no_cells files old new = new ≡ old
 HasBuiltAll (cells_in i) files old new = ForInputs i files (λ g p. new ≡ risen old (cells_of p))
 HasBuiltAll (cells_fitted i c) files old new = ForInputs i files (λ g p. HasFitted c g p (risen old (cells_of p)) new)
 HasBuiltAll (cells_followed i) files old new = ForInputs i files (λ g p. risen old (cells_of p) ≤ new)
+HasBuiltAll (cells_learned midis) files old new = AreCellsBuilt files midis old new
 HasBuiltAll (cells_drilled number grammar) files old new = (text : List ℕ) × AreDrilled (file_content files grammar) number (Ok text) old new
 
 -- what holds of the cells by the stop: all of them are built where only a derivation is wanting, or the score or its MIDI file is too
@@ -132,4 +134,5 @@ HasBuilt no_cells files old new = λ stop. new ≡ old
 HasBuilt (cells_in i) files old new = HasBuiltOf i files old new
 HasBuilt (cells_fitted i c) files old new = HasFittedOf i files c old new
 HasBuilt (cells_followed i) files old new = HasFollowedOf i files old new
+HasBuilt (cells_learned midis) files old new = HasLearnedOf files midis old new
 HasBuilt (cells_drilled number grammar) files old new = HasDrilledOf files number grammar old new

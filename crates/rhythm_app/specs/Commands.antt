@@ -1,27 +1,29 @@
 -- The commands, a row each: the files that it reads, what it comes to by their bytes, and which cells it builds.
-use Rattle.std.specs.Prelude.{◌≡◌, ◌≢◌, ℕ, List, [], ◌∷◌, All, Result, Ok, Err, Option, Some, None, ⊤}
+use Rattle.std.specs.Prelude.{◌≡◌, ◌≢◌, ℕ, List, [], ◌∷◌, All, map, Result, Ok, Err, Option, Some, None, ⊤}
 use Rattle.command_line.specs.Texts.{help_text, version_text}
 use Rattle.barline_fit.specs.declared.candidates.Candidates.{Candidates}
-use Rattle.rhythm_app.specs.Asked.{Asked, help, version, write, answer, fit, too_many_candidates, follow, notes, events, generate, drill, asked_by}
+use Rattle.rhythm_app.specs.Asked.{Asked, help, version, write, answer, fit, learn, too_many_candidates, too_many_files, follow, notes, events, generate, drill, asked_by}
 use Rattle.rhythm_app.specs.Inputs.{Inputs, file_content}
+use Rattle.rhythm_app.specs.Learning.{IsLearning}
 use Rattle.rhythm_app.specs.Outcome.{AreInTurn, AreFilesRead, IsAnswering, IsDrilling, IsFitting, IsFollowing, IsListing, IsLoading, IsPieceMade, IsNoting, IsRead, IsScoreRead, IsUnderstood, IsWriting, Ready, say}
 use Rattle.rhythm_app.specs.declared.stop.Kind.{Kind}
 use Rattle.rhythm_app.specs.declared.stop.Kind.TheVariants as kind
 use Rattle.rhythm_app.specs.declared.stop.Stop.{Stop}
-use Rattle.rhythm_app.specs.declared.stop.Stop.TheVariants.{TooManyCandidates, Usage}
+use Rattle.rhythm_app.specs.declared.stop.Stop.TheVariants.{TooManyCandidates, TooManyFiles, Usage}
 use Rattle.rhythm_base.specs.Grammar.{Grammar}
 use Rattle.rhythm_base.specs.Performance.{Performance}
 use Rattle.rhythm_gen.specs.MidiFile.{generated}
 use Rattle.rhythm_ports.specs.Files.{File, file_of}
 
 -- which cells a command builds: none; those of the performance of its inputs; these, and those that a barline reaches at its candidates;
--- these, and those of the bars between other barlines; or those of the piece of a number, by the grammar in a file, and those that its drill
+-- these, and those of the bars between other barlines; those of the performances of several files; or those of the piece of a number, by the grammar in a file, and those that its drill
 -- reaches
 pub data Cells : Type 0 where
   no_cells : Cells
   cells_in : Inputs → Cells
   cells_fitted : Inputs → Candidates → Cells
   cells_followed : Inputs → Cells
+  cells_learned : List (List ℕ) → Cells
   cells_drilled : ℕ → List ℕ → Cells
 
 -- a file that a command reads: which input it is, and its name
@@ -57,6 +59,12 @@ command (write form i) = on_inputs i (IsWriting form) (cells_in i)
 command (answer talk i) = on_inputs i (IsAnswering talk) (cells_in i)
 command (fit i c) = on_inputs i (IsFitting c) (cells_fitted i c)
 command (too_many_candidates count) = record { reads = []; outcome = λ files r. r ≡ Err (TooManyCandidates count); cells = no_cells }
+command (learn bit grammar midis) = record {
+  reads = named kind.Grammar grammar ∷ map (named kind.Midi) midis;
+  outcome = λ files. AreInTurn (IsUnderstood (file_content files grammar)) (IsLearning bit files midis);
+  cells = cells_learned midis;
+}
+command (too_many_files count) = record { reads = []; outcome = λ files r. r ≡ Err (TooManyFiles count); cells = no_cells }
 command (follow i) = on_inputs i IsFollowing (cells_followed i)
 command (notes midi) = record {
   reads = named kind.Midi midi ∷ [];

@@ -3,19 +3,21 @@ use Rattle.std.specs.Prelude.{◌≡◌, ◌≢◌, ℕ, ◌+◌, ◌⊎◌, ◌
 use Rattle.std.specs.Io.KnownBytes.{Appends}
 use Rattle.std.specs.Option.{ForSome}
 use Rattle.edit_session.specs.Opening.{cells_of}
-use Rattle.rhythm_app.specs.Asked.{Asked}
+use Rattle.rhythm_app.specs.Asked.{Asked, learn}
 use Rattle.rhythm_app.specs.Builds.{HasBuilt, HasBuiltAll}
 use Rattle.rhythm_app.specs.Commands.{HasNames, HasOutcome, HasOutcomeOf, Named, ReadsNoScript, cells_of_asked, command}
 use Rattle.rhythm_app.specs.Inputs.{file_content}
+use Rattle.rhythm_app.specs.Learning.{PassBefore}
 use Rattle.rhythm_app.specs.Lent.{Lent}
-use Rattle.rhythm_app.specs.Outcome.{Ready, say, serve, grammar_tests, kern_tests, midi_tests}
+use Rattle.rhythm_app.specs.Outcome.{Ready, say, serve, IsUnderstood, grammar_tests, kern_tests, midi_tests}
 use Rattle.rhythm_app.specs.Stops.{status_of, stop_line, script_stop}
 use Rattle.rhythm_app.specs.declared.request.Talk.{Talk}
 use Rattle.rhythm_app.specs.declared.request.Talk.TheVariants as talk
 use Rattle.rhythm_app.specs.declared.stop.Kind.{Kind}
 use Rattle.rhythm_app.specs.declared.stop.Kind.TheVariants as kind
+use Rattle.rhythm_app.specs.declared.stop.MidiStop.TheVariants as midi
 use Rattle.rhythm_app.specs.declared.stop.Stop.{Stop}
-use Rattle.rhythm_app.specs.declared.stop.Stop.TheVariants.{Usage, FileTooLong, LineTooLong, Read, Write, Memory}
+use Rattle.rhythm_app.specs.declared.stop.Stop.TheVariants.{Usage, FileTooLong, LineTooLong, InFile, Read, Write, Memory}
 use Rattle.rhythm_base.specs.Counter.{risen}
 use Rattle.rhythm_base.specs.Grammar.{Grammar}
 use Rattle.rhythm_base.specs.Performance.{Performance}
@@ -121,10 +123,17 @@ Reached None files kind = ⊥
 Reached (Some asked) files kind.Script = (t : Talk) × (g : Grammar) × (p : Performance) × HasOutcomeOf (Some asked) files (Ok (serve t g p))
 Reached (Some asked) files kind = ComesTo files kind (command asked).reads
 
+-- one of several MIDI files, by its number, from 1, is come to: the grammar is understood, and the files before it pass their tests
+abbrev pub IsFileReached : Option Asked → List File → ℕ → Type 0
+IsFileReached (Some (learn bit grammar midis)) files number =
+    (g : Grammar) × (n : ℕ) × IsUnderstood (file_content files grammar) (Ok g) × (number ≡ n + 1) × PassBefore g files midis n
+IsFileReached _ files number = ⊥
+
 -- what the command and the files are where a call fails, the script is over a limit, or memory is wanted: the tests before a failed
 -- read pass, and all of them before the script is read or anything is written. Memory may be wanted before the words are read
 abbrev pub IsFailureOf : Option Asked → List File → Stop → Type 0
 IsFailureOf asked files (Read kind) = Reached asked files kind
+IsFailureOf asked files (InFile number s) = (s ≡ midi.Read) × IsFileReached asked files number
 IsFailureOf asked files (FileTooLong kind.Script read) = Reached asked files kind.Script
 IsFailureOf asked files (LineTooLong read) = Reached asked files kind.Script
 IsFailureOf asked files Write = (ready : Ready) × HasOutcomeOf asked files (Ok ready)
@@ -139,6 +148,7 @@ IsCauseOf asked files stop = HasOutcomeOf asked files (Err stop) ⊎ IsFailureOf
 abbrev pub HasRisen : {S O E : Type 0} → Lent S O E → Lent S O E → Stop → Type 0
 HasRisen old new (Read kind.Script) = Rose old.script_faults new.script_faults
 HasRisen old new (Read _) = Rose old.shelf_faults new.shelf_faults
+HasRisen old new (InFile _ s) = s ≡ midi.Read → Rose old.shelf_faults new.shelf_faults
 HasRisen old new Write = Rose old.out_faults new.out_faults
 HasRisen old new _ = ⊤
 

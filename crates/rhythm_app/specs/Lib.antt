@@ -1,9 +1,11 @@
 pub mod Asked
 pub mod Builds
 pub mod Commands
+pub mod Counting
 pub mod Ends
 pub mod Inputs
 pub mod Laws
+pub mod Learning
 pub mod Lent
 pub mod Outcome
 pub mod Parts

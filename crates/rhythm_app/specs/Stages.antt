@@ -21,12 +21,14 @@ use Rattle.rhythm_app.specs.Outcome.{AreInputs, IsUnderstood, Ready, say, serve}
 use Rattle.rhythm_app.specs.declared.request.Talk.{Talk}
 use Rattle.rhythm_app.specs.declared.stop.Kind.{Kind}
 use Rattle.rhythm_app.specs.declared.stop.Kind.TheVariants as kind
+use Rattle.rhythm_app.specs.declared.stop.MidiStop.TheVariants as midi
 use Rattle.rhythm_app.specs.declared.stop.Stop.{Stop}
-use Rattle.rhythm_app.specs.declared.stop.Stop.TheVariants.{FileTooLong, LineTooLong, Usage, NoDerivation, ScoreTooLong, RenderTooLong, TooManyCandidates, NoBarline, NoCandidate, Read, Write, Memory}
+use Rattle.rhythm_app.specs.declared.stop.Stop.TheVariants.{FileTooLong, LineTooLong, Usage, NoDerivation, ScoreTooLong, RenderTooLong, InFile, TooManyFiles, TooManyCandidates, NoBarline, NoCandidate, Read, Write, Memory}
 
 -- a failed call, or want of memory
 abbrev pub IsFailure : Stop → Type 0
 IsFailure (Read _) = ⊤
+IsFailure (InFile _ s) = s ≡ midi.Read
 IsFailure Write = ⊤
 IsFailure Memory = ⊤
 IsFailure _ = ⊥
@@ -47,6 +49,8 @@ IsEarly (LineTooLong _) = ⊥
 IsEarly (NoDerivation _ _) = ⊥
 IsEarly (ScoreTooLong _) = ⊥
 IsEarly (RenderTooLong _) = ⊥
+IsEarly (InFile _ _) = ⊥
+IsEarly (TooManyFiles _) = ⊥
 IsEarly (TooManyCandidates _) = ⊥
 IsEarly (NoBarline _) = ⊥
 IsEarly NoCandidate = ⊥
@@ -60,6 +64,8 @@ IsOfContent (FileTooLong _ _) = ⊥
 IsOfContent (LineTooLong _) = ⊥
 IsOfContent Write = ⊥
 IsOfContent Usage = ⊥
+IsOfContent (InFile _ _) = ⊥
+IsOfContent (TooManyFiles _) = ⊥
 IsOfContent (TooManyCandidates _) = ⊥
 IsOfContent _ = ⊤
 
@@ -75,6 +81,13 @@ abbrev pub EndsBy : Kind → ℕ → ℕ → Stop → Type 0
 EndsBy kind before now (Read k) = (k ≡ kind) × Rose before now
 EndsBy kind before now (FileTooLong k _) = k ≡ kind
 EndsBy kind before now stop = IsEarly stop
+
+-- a file of this kind is not had: it is not read, it is too long, or memory is wanting
+abbrev pub IsUnread : Kind → Stop → Type 0
+IsUnread kind (Read k) = k ≡ kind
+IsUnread kind (FileTooLong k _) = k ≡ kind
+IsUnread kind Memory = ⊤
+IsUnread kind _ = ⊥
 
 -- a list of bytes as contracts see it
 abbrev pub items_of : {A E : Type 0} → Result (Vec ℕ A) E → Result (List ℕ) E
@@ -92,6 +105,7 @@ EndsReading before now (Read kind.Script) = ⊥
 EndsReading before now (FileTooLong kind.Script _) = ⊥
 EndsReading before now (LineTooLong _) = ⊥
 EndsReading before now (Read _) = Rose before now
+EndsReading before now (InFile _ s) = s ≡ midi.Read → Rose before now
 EndsReading before now Write = ⊥
 EndsReading before now Usage = ⊥
 EndsReading before now _ = ⊤
@@ -144,6 +158,7 @@ pub record HasRules {S O E : Type 0} (grammar : List ℕ) (old new : Lent S O E)
   pub tests : ForSome old.files (λ files. Follows (IsUnderstood (file_content files grammar)) result)
   pub readable : IfOk result IsReadable
   pub end : IfErr result (EndsBy kind.Grammar old.shelf_faults new.shelf_faults)
+  pub later : old.shelf_faults ≤ new.shelf_faults
   pub strays : ForSome old.files (λ files. file_of files grammar ≢ None → new.strays ≡ old.strays)
   pub reads : ReadsShelf old new
 

@@ -6,11 +6,27 @@ use Rattle.kern_reader.specs.FaultName.{fault_name}
 use Rattle.rhythm_app.specs.declared.stop.Kind.{Kind}
 use Rattle.rhythm_app.specs.declared.stop.Kind.TheVariants as kind
 use Rattle.rhythm_app.specs.declared.stop.Stop.{Stop}
-use Rattle.rhythm_app.specs.declared.stop.Stop.TheVariants.{Usage, FileTooLong, LineTooLong, Smf, Grammar, Kern, NoNotes, TooManyNotes, BadSignature, UnevenBar, TooManyBars, TooManyCells, NoStart, NoDerivation, ScoreTooLong, RenderTooLong, TooManyCandidates, NoBarline, NoCandidate, Read, Write, Memory}
+use Rattle.rhythm_app.specs.declared.stop.MidiStop.{MidiStop}
+use Rattle.rhythm_app.specs.declared.stop.MidiStop.TheVariants as midi
+use Rattle.rhythm_app.specs.declared.stop.Stop.TheVariants.{Usage, FileTooLong, LineTooLong, Smf, Grammar, Kern, NoNotes, TooManyNotes, BadSignature, UnevenBar, TooManyBars, TooManyCells, NoStart, NoDerivation, ScoreTooLong, RenderTooLong, InFile, TooManyFiles, TooManyCandidates, NoBarline, NoCandidate, Read, Write, Memory}
 use Rattle.script_run.specs.declared.script_stop.ScriptStop.{ScriptStop}
 use Rattle.script_run.specs.declared.script_stop.ScriptStop.TheVariants as script
 use Rattle.smf_reader.specs.declared.fault.SmfFault.{SmfFault}
 use Rattle.smf_reader.specs.declared.fault.SmfFault.TheVariants as smf
+
+-- the status of a stop by a MIDI file
+abbrev pub midi_status_of : MidiStop → ℕ
+midi_status_of (midi.TooLong _) = 4
+midi_status_of (midi.Smf _) = 2
+midi_status_of midi.NoNotes = 2
+midi_status_of (midi.TooManyNotes _) = 4
+midi_status_of (midi.BadSignature _ _) = 2
+midi_status_of (midi.UnevenBar _ _ _) = 2
+midi_status_of (midi.TooManyBars _) = 4
+midi_status_of (midi.TooManyCells _) = 4
+midi_status_of (midi.NoStart _ _ _) = 2
+midi_status_of (midi.NoDerivation _ _) = 3
+midi_status_of midi.Read = 5
 
 abbrev pub status_of : Stop → ℕ
 status_of Usage = 1
@@ -29,6 +45,8 @@ status_of (NoStart _ _ _) = 2
 status_of (NoDerivation _ _) = 3
 status_of (ScoreTooLong _) = 4
 status_of (RenderTooLong _) = 4
+status_of (InFile _ s) = midi_status_of s
+status_of (TooManyFiles _) = 4
 status_of (TooManyCandidates _) = 4
 status_of (NoBarline _) = 9
 status_of NoCandidate = 9
@@ -137,23 +155,43 @@ bar_signature_line head bar num den =
 abbrev pub limit_line : List ℕ → ℕ → List ℕ
 limit_line name count = named_line (codes "limit ") name (Some count)
 
+-- of a MIDI file
+abbrev pub midi_stop_line : MidiStop → List ℕ
+midi_stop_line (midi.TooLong read) = limit_line (kind_name kind.Midi) read
+midi_stop_line (midi.Smf fault) = named_line (codes "smf ") (smf_name fault) (smf_number fault)
+midi_stop_line midi.NoNotes = joined_words (codes "notes NoNotes\n" ∷ [])
+midi_stop_line (midi.TooManyNotes count) = limit_line (codes "notes") count
+midi_stop_line (midi.BadSignature num dd) = pair_line (codes "bars BadSignature ") num dd
+midi_stop_line (midi.UnevenBar bar num den) = bar_signature_line (codes "bars UnevenBar ") bar num den
+midi_stop_line (midi.TooManyBars start) = limit_line (codes "bars") start
+midi_stop_line (midi.TooManyCells count) = limit_line (codes "cells") count
+midi_stop_line (midi.NoStart bar num den) = bar_signature_line (codes "start ") bar num den
+midi_stop_line (midi.NoDerivation channel bar) = pair_line (codes "no derivation ") channel bar
+midi_stop_line midi.Read = named_line (codes "read ") (kind_name kind.Midi) None
+
+-- of one MIDI file of several: its number, from 1, and the line of the file alone
+abbrev pub in_file_line : ℕ → MidiStop → List ℕ
+in_file_line number s = joined_words (codes "file " ∷ decimal number ∷ codes " " ∷ []) ++ midi_stop_line s
+
 abbrev pub stop_line : Stop → List ℕ
 stop_line Usage = joined_words (codes "usage\n" ∷ [])
 stop_line (FileTooLong kind read) = limit_line (kind_name kind) read
 stop_line (LineTooLong read) = limit_line (codes "script-line") read
-stop_line (Smf fault) = named_line (codes "smf ") (smf_name fault) (smf_number fault)
+stop_line (Smf fault) = midi_stop_line (midi.Smf fault)
 stop_line (Grammar fault) = grammar_fault_line fault.line (what_name fault.what) (what_number fault.what)
 stop_line (Kern fault) = kern_fault_line fault.line (fault_name fault.what)
-stop_line NoNotes = joined_words (codes "notes NoNotes\n" ∷ [])
-stop_line (TooManyNotes count) = limit_line (codes "notes") count
-stop_line (BadSignature num dd) = pair_line (codes "bars BadSignature ") num dd
-stop_line (UnevenBar bar num den) = bar_signature_line (codes "bars UnevenBar ") bar num den
-stop_line (TooManyBars start) = limit_line (codes "bars") start
-stop_line (TooManyCells count) = limit_line (codes "cells") count
-stop_line (NoStart bar num den) = bar_signature_line (codes "start ") bar num den
-stop_line (NoDerivation channel bar) = pair_line (codes "no derivation ") channel bar
+stop_line NoNotes = midi_stop_line midi.NoNotes
+stop_line (TooManyNotes count) = midi_stop_line (midi.TooManyNotes count)
+stop_line (BadSignature num dd) = midi_stop_line (midi.BadSignature num dd)
+stop_line (UnevenBar bar num den) = midi_stop_line (midi.UnevenBar bar num den)
+stop_line (TooManyBars start) = midi_stop_line (midi.TooManyBars start)
+stop_line (TooManyCells count) = midi_stop_line (midi.TooManyCells count)
+stop_line (NoStart bar num den) = midi_stop_line (midi.NoStart bar num den)
+stop_line (NoDerivation channel bar) = midi_stop_line (midi.NoDerivation channel bar)
 stop_line (ScoreTooLong line) = limit_line (codes "score") line
 stop_line (RenderTooLong tick) = limit_line (codes "render") tick
+stop_line (InFile number s) = in_file_line number s
+stop_line (TooManyFiles count) = limit_line (codes "files") count
 stop_line (TooManyCandidates count) = limit_line (codes "candidates") count
 stop_line (NoBarline bar) = named_line (codes "fit ") (codes "NoBar") (Some bar)
 stop_line NoCandidate = named_line (codes "fit ") (codes "NoCandidate") None

@@ -1,6 +1,7 @@
+ghost use Rattle.rhythm_app.specs.Counting.{IsOfMidi};
 ghost use Rattle.rhythm_app.specs.Inputs.{file_content};
 ghost use Rattle.rhythm_app.specs.Outcome.{IsRead, IsScoreRead, IsUnderstood, limit_of, sized, stopped};
-ghost use Rattle.rhythm_app.specs.Stages.{EndsBy, Follows, IsEarly, IsOfContent, items_of};
+ghost use Rattle.rhythm_app.specs.Stages.{EndsBy, Follows, IsEarly, IsOfContent, IsUnread, items_of};
 ghost use Rattle.rhythm_app.specs.declared.stop.Kind.TheVariants as kind;
 ghost use Rattle.rhythm_app.specs.declared.stop.Stop.TheVariants as stop;
 ghost use Rattle.rhythm_base.specs.Readable.{IsReadable};
@@ -39,6 +40,7 @@ fn read_file<F: Shelf>(
 ) -> Result<Vec<u8>, Stop>
     ensures tests { ForSome (F.files shelf.old) (λ files. Follows (λ r. sized kind (file_content files name.now) ≡ r) (items_of result)) }
     ensures within { IfOk result (λ bytes. length bytes.items ≤ limit_of kind) }
+    ensures unread { IfErr result (IsUnread kind) }
     ensures end { IfErr result (EndsBy kind (F.faults shelf.old) (F.faults shelf.new)) }
     ensures later { F.faults shelf.old ≤ F.faults shelf.new }
     ensures files { F.files shelf.new ≡ F.files shelf.old }
@@ -61,6 +63,7 @@ fn read_file<F: Shelf>(
 fn smf_in(alloc: Global, bytes: &[u8]) -> Result<Smf, Stop>
     ensures tests { Follows (λ r. stopped stop.Smf (smf bytes.now) ≡ r) result }
     ensures played { IfOk result IsPlayedFile }
+    ensures own { IfErr result IsOfMidi }
     ensures early { IfErr result IsEarly }
     ensures content { IfErr result IsOfContent }
 {
@@ -76,6 +79,7 @@ fn smf_in(alloc: Global, bytes: &[u8]) -> Result<Smf, Stop>
 pub fn midi_of<F: Shelf>(alloc: Global, shelf: &mut F, name: &str) -> Result<Smf, Stop>
     ensures tests { ForSome (F.files shelf.old) (λ files. Follows (IsRead (file_content files name.now)) result) }
     ensures played { IfOk result IsPlayedFile }
+    ensures own { IfErr result IsOfMidi }
     ensures end { IfErr result (EndsBy kind.Midi (F.faults shelf.old) (F.faults shelf.new)) }
     ensures later { F.faults shelf.old ≤ F.faults shelf.new }
     ensures files { F.files shelf.new ≡ F.files shelf.old }

@@ -1,12 +1,15 @@
 ghost use Rattle.rhythm_app.specs.Commands.{HaveNames, input_files};
+ghost use Rattle.rhythm_app.specs.Counting.{HasPerformance, IsMidiLoading, IsOfMidi};
 ghost use Rattle.rhythm_app.specs.Ends.{IsReadFailure};
-ghost use Rattle.rhythm_app.specs.Inputs.{shown_inputs};
+ghost use Rattle.rhythm_app.specs.Inputs.{file_content, shown_inputs};
 ghost use Rattle.rhythm_app.specs.Outcome.{AreInputs};
-ghost use Rattle.rhythm_app.specs.Stages.{EndsReading, Follows, HasInputs, HasRules, IsEarly};
+ghost use Rattle.rhythm_app.specs.Stages.{EndsBy, EndsReading, Follows, HasInputs, HasRules, IsEarly};
+ghost use Rattle.rhythm_app.specs.declared.stop.Kind.TheVariants as kind;
+ghost use Rattle.rhythm_ports.specs.Files.{file_of};
 ghost use Rattle.rhythm_base.specs.Readable.{IsReadable};
 ghost use Rattle.rhythm_base.specs.declared.limits.TheConstants.{MOST_NOTES};
 ghost use Rattle.std.specs.Option.{ForSome};
-ghost use Rattle.std.specs.Prelude.{◌≡◌, ◌≤◌, ◌⊎◌, Err, IfErr, IfOk, length};
+ghost use Rattle.std.specs.Prelude.{◌≡◌, ◌≢◌, ◌≤◌, ◌⊎◌, Err, IfErr, IfOk, None, length};
 
 use crate::files::{grammar_of, midi_of};
 use crate::lent::{Lent, World};
@@ -51,6 +54,29 @@ pub fn read_inputs<W: World>(
     ensures { HasInputs (shown_inputs inputs.entry) lent.old lent.new result }
 {
     inputs_of(lent.alloc, inputs, &mut lent.shelf)
+}
+
+/// The performance that a MIDI file says.
+fn performance_in<F: Shelf>(alloc: Global, name: &str, shelf: &mut F) -> Result<Performance, Stop>
+    ensures tests { ForSome (F.files shelf.old) (λ files. Follows (IsMidiLoading (file_content files name.now)) result) }
+    ensures few_notes { IfOk result (λ p. length p.notes ≤ MOST_NOTES) }
+    ensures own { IfErr result IsOfMidi }
+    ensures end { IfErr result (EndsBy kind.Midi (F.faults shelf.old) (F.faults shelf.new)) }
+    ensures later { F.faults shelf.old ≤ F.faults shelf.new }
+    ensures files { F.files shelf.new ≡ F.files shelf.old }
+    ensures strays { ForSome (F.files shelf.old) (λ files. file_of files name.now ≢ None → F.strays shelf.new ≡ F.strays shelf.old) }
+{
+    match midi_of(alloc, shelf, name) {
+        Ok(played) => performance_of(alloc, &played),
+        Err(stop) => Err(stop),
+    }
+}
+
+/// The performance that the MIDI file of this name says.
+pub fn read_performance<W: World>(lent: &mut Lent<W>, name: &str) -> Result<Performance, Stop>
+    ensures { HasPerformance name.now lent.old lent.new result }
+{
+    performance_in(lent.alloc, name, &mut lent.shelf)
 }
 
 /// The grammar that the file of this name says.

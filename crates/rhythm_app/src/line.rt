@@ -4,6 +4,8 @@ ghost use Rattle.rhythm_app.specs.Parts.{part_text, part_texts};
 ghost use Rattle.rhythm_app.specs.Stops.{
   joined_words,
   limit_line,
+  in_file_line,
+  midi_stop_line,
   named_line,
   pair_line,
   bar_signature_line,
@@ -14,7 +16,7 @@ ghost use Rattle.std.specs.Io.KnownBytes.{Appends};
 ghost use Rattle.std.specs.Prelude.{◌≡◌, OnErr, OnOk, decimal};
 
 use crate::names::{kind_name, smf_name, smf_number, what_name, what_number};
-use crate::stop::Stop;
+use crate::stop::{Kind, MidiStop, Stop};
 use grammar_file::GrammarFault;
 use kern_reader::KernFault;
 use rhythm_ports::{Failed, Sink, write_all};
@@ -206,6 +208,38 @@ fn write_bar<K: Sink>(sink: &mut K, head: &str, bar: u32, num: u8, den: u8) -> R
     )
 }
 
+/// Writes the line of a stop by a MIDI file.
+fn write_midi_stop<K: Sink>(sink: &mut K, stop: MidiStop) -> Result<(), Failed>
+    ensures all { OnOk result (Appends (K.taken sink.old) (K.taken sink.new) (midi_stop_line stop)) }
+    ensures part { OnErr result (AppendsPart (K.taken sink.old) (K.taken sink.new) (midi_stop_line stop)) }
+    ensures cause { HasCause (K.faults sink.old) (K.faults sink.new) result }
+{
+    match stop {
+        MidiStop::TooLong { read } => write_limit(sink, kind_name(Kind::Midi), read),
+        MidiStop::Smf(fault) => write_smf_fault(sink, fault),
+        MidiStop::NoNotes => write_text(sink, "notes NoNotes\n"),
+        MidiStop::TooManyNotes { count } => write_limit(sink, "notes", count),
+        MidiStop::BadSignature { num, dd } => write_signature(sink, "bars BadSignature ", num, dd),
+        MidiStop::UnevenBar { bar, num, den } => write_bar(sink, "bars UnevenBar ", bar, num, den),
+        MidiStop::TooManyBars { start } => write_limit(sink, "bars", start),
+        MidiStop::TooManyCells { count } => write_limit(sink, "cells", count),
+        MidiStop::NoStart { bar, num, den } => write_bar(sink, "start ", bar, num, den),
+        MidiStop::NoDerivation { channel, bar } => write_no_derivation(sink, channel, bar),
+        MidiStop::Read => write_named(sink, "read ", kind_name(Kind::Midi), None),
+    }
+}
+
+/// Writes the number of a MIDI file, and the line of a stop by it.
+fn write_in_file<K: Sink>(sink: &mut K, number: u32, stop: MidiStop) -> Result<(), Failed>
+    ensures all { OnOk result (Appends (K.taken sink.old) (K.taken sink.new) (in_file_line number stop)) }
+    ensures part { OnErr result (AppendsPart (K.taken sink.old) (K.taken sink.new) (in_file_line number stop)) }
+    ensures cause { HasCause (K.faults sink.old) (K.faults sink.new) result }
+{
+    let number = Part::Number(u64::from(number));
+    write_parts(sink, &[Part::Text("file "), number, Part::Text(" ")])?;
+    write_midi_stop(sink, stop)
+}
+
 /// Writes the line of a stop.
 fn write_stop<K: Sink>(sink: &mut K, stop: Stop) -> Result<(), Failed>
     ensures all { OnOk result (Appends (K.taken sink.old) (K.taken sink.new) (stop_line stop)) }
@@ -216,19 +250,30 @@ fn write_stop<K: Sink>(sink: &mut K, stop: Stop) -> Result<(), Failed>
         Stop::Usage => write_text(sink, "usage\n"),
         Stop::FileTooLong { kind, read } => write_limit(sink, kind_name(kind), read),
         Stop::LineTooLong { read } => write_limit(sink, "script-line", read),
-        Stop::Smf(fault) => write_smf_fault(sink, fault),
+        Stop::Smf(fault) => write_midi_stop(sink, MidiStop::Smf(fault)),
         Stop::Grammar(fault) => write_grammar_fault(sink, fault),
         Stop::Kern(fault) => write_kern_fault(sink, fault),
-        Stop::NoNotes => write_text(sink, "notes NoNotes\n"),
-        Stop::TooManyNotes { count } => write_limit(sink, "notes", count),
-        Stop::BadSignature { num, dd } => write_signature(sink, "bars BadSignature ", num, dd),
-        Stop::UnevenBar { bar, num, den } => write_bar(sink, "bars UnevenBar ", bar, num, den),
-        Stop::TooManyBars { start } => write_limit(sink, "bars", start),
-        Stop::TooManyCells { count } => write_limit(sink, "cells", count),
-        Stop::NoStart { bar, num, den } => write_bar(sink, "start ", bar, num, den),
-        Stop::NoDerivation { channel, bar } => write_no_derivation(sink, channel, bar),
+        Stop::NoNotes => write_midi_stop(sink, MidiStop::NoNotes),
+        Stop::TooManyNotes { count } => write_midi_stop(sink, MidiStop::TooManyNotes { count }),
+        Stop::BadSignature { num, dd } => write_midi_stop(sink, MidiStop::BadSignature { num, dd }),
+        Stop::UnevenBar { bar, num, den } => write_midi_stop(
+            sink,
+            MidiStop::UnevenBar { bar, num, den },
+        ),
+        Stop::TooManyBars { start } => write_midi_stop(sink, MidiStop::TooManyBars { start }),
+        Stop::TooManyCells { count } => write_midi_stop(sink, MidiStop::TooManyCells { count }),
+        Stop::NoStart { bar, num, den } => write_midi_stop(
+            sink,
+            MidiStop::NoStart { bar, num, den },
+        ),
+        Stop::NoDerivation { channel, bar } => write_midi_stop(
+            sink,
+            MidiStop::NoDerivation { channel, bar },
+        ),
         Stop::ScoreTooLong { line } => write_limit(sink, "score", u64::from(line)),
         Stop::RenderTooLong { tick } => write_limit(sink, "render", tick),
+        Stop::InFile { number, stop } => write_in_file(sink, number, stop),
+        Stop::TooManyFiles { count } => write_limit(sink, "files", count),
         Stop::TooManyCandidates { count } => write_limit(sink, "candidates", count),
         Stop::NoBarline { bar } => write_named(sink, "fit ", "NoBar", Some(u64::from(bar))),
         Stop::NoCandidate => write_named(sink, "fit ", "NoCandidate", None),

@@ -1,3 +1,4 @@
+ghost use Rattle.rhythm_app.specs.Counting.{IsOfMidi};
 ghost use Rattle.rhythm_app.specs.Outcome.{IsLoading, load_stop};
 ghost use Rattle.rhythm_app.specs.Stages.{Follows, IsEarly, IsOfContent};
 ghost use Rattle.rhythm_base.specs.declared.limits.TheConstants.{MOST_NOTES};
@@ -34,6 +35,7 @@ pub fn performance_of(alloc: Global, smf: &Smf) -> Result<Performance, Stop>
     requires { IsPlayedFile smf.now }
     ensures tests { Follows (IsLoading smf.now) result }
     ensures few_notes { IfOk result (λ p. length p.notes ≤ MOST_NOTES) }
+    ensures own { IfErr result IsOfMidi }
     ensures early { IfErr result IsEarly }
     ensures content { IfErr result IsOfContent }
 {

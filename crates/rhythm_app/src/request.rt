@@ -1,12 +1,15 @@
 ghost use Rattle.command_line.specs.CommandLines.{HasWorkers};
-ghost use Rattle.rhythm_app.specs.Asked.{AreCandidates, IsCommandWord, IsRequestInRange, asked_of, candidate_count, candidates_by, command_by, drill_by, fit_by, fit_of, generate_by, in_order, shown_request, words_after, workers_asked};
+ghost use Rattle.rhythm_app.specs.Asked.{AreCandidates, IsCommandWord, IsRequestInRange, asked_of, candidate_count, candidates_by, command_by, drill_by, fit_by, fit_of, generate_by, in_order, learn_by, shown_request, words_after, workers_asked};
 ghost use Rattle.rhythm_app.specs.Inputs.{shown_inputs};
 ghost use Rattle.rhythm_base.specs.declared.limits.TheConstants.{LATEST_TICK};
-ghost use Rattle.std.specs.Prelude.{◌≡◌, ◌≤◌, ◌↔◌, ◌∷◌, [], IfSome, IsSome, Some, option_map};
+ghost use Rattle.std.specs.Prelude.{◌≡◌, ◌≤◌, ◌↔◌, ◌∷◌, [], IfSome, IsFalse, IsSome, Some, codes, drop, nat_eq, option_map};
+ghost use Rattle.std.specs.Cmp.Lexicographic.{pointwise};
 
+use crate::learn::MOST_FILES;
 use barline_fit::{Candidates, MOST_CANDIDATES};
 use command_line::{Invocation, number_in};
 use rhythm_base::{LATEST_TICK, MOST_BARS, Words};
+use weight_learning::HEAVIEST_BIT;
 
 /// The inputs of a command on a MIDI file and a grammar: the names of its files.
 #[derive(Clone, Copy)]
@@ -16,7 +19,7 @@ pub struct Inputs<'a> {
 }
 
 /// What is written of a session on a performance.
-#[derive(Clone, Copy, Debug, PartialEq, Eq)]
+#[derive(Clone, Copy)]
 pub enum Form {
     /// The **kern text of its score.
     Score,
@@ -27,7 +30,7 @@ pub enum Form {
 }
 
 /// What answers a script over a session.
-#[derive(Clone, Copy, Debug, PartialEq, Eq)]
+#[derive(Clone, Copy)]
 pub enum Talk {
     /// An editor.
     Editing,
@@ -53,6 +56,17 @@ pub enum Request<'a> {
     },
     /// The same, of too many ticks: this many.
     TooManyCandidates {
+        count: u64,
+    },
+    /// The grammar with weights that are learned: how much a rule costs more that is used half as often as another, the name of the
+    /// grammar file, and the words of the command line, of which those from the fourth on are the names of the MIDI files.
+    Learn {
+        bit: u32,
+        grammar: &'a str,
+        words: &'a Words,
+    },
+    /// The same, of too many files: this many.
+    TooManyFiles {
         count: u64,
     },
     /// The script that moves the barlines of a MIDI file to those that follow the player, by a grammar.
@@ -83,6 +97,7 @@ pub fn words_after(word: &str) -> Option<&'static str>
         "fit" => Some(
             "MIDI GRAMMAR BAR LOW HIGH STEP, with BAR from 0 to 4096, LOW and HIGH from 0 to 2000000000, LOW no more than HIGH, and STEP from 1 to 2000000000",
         ),
+        "learn" => Some("BIT GRAMMAR MIDI..., with BIT from 1 to 10000, and 1 to 256 MIDI files"),
         "notes" => Some("MIDI"),
         "events" => Some("KERN"),
         "generate" => Some("NUMBER BARS, with NUMBER from 0 to 65534 and BARS from 1 to 2000"),
@@ -122,6 +137,29 @@ fn drill_request<'a>(number: &'a str, grammar: &'a str) -> Option<Request<'a>>
 {
     let number = number_in(number, 0, 65534)? as u32;
     Some(Request::Drill { number, grammar })
+}
+
+/// `learn` with its number and the names of its files.
+fn learn_request<'a>(words: &'a Words) -> Option<Request<'a>>
+    ensures asked { option_map shown_request result ≡ learn_by (drop 1 words.entry.now) }
+    ensures range { IfSome result IsRequestInRange }
+{
+    let bit = words.get(1)?;
+    let grammar = words.get(2)?;
+    let _first = words.get(3)?;
+    let bit = number_in(bit, 1, u64::from(HEAVIEST_BIT))? as u32;
+    let files = words.count() - 3;
+    if files <= MOST_FILES {
+        Some(Request::Learn {
+            bit,
+            grammar,
+            words,
+        })
+    } else {
+        Some(Request::TooManyFiles {
+            count: files as u64,
+        })
+    }
 }
 
 /// The command of a word and two more.
@@ -211,6 +249,7 @@ fn request_of_six<'a>(
     high: &'a str,
     step: &'a str,
 ) -> Option<Request<'a>>
+    requires other { IsFalse (pointwise nat_eq word.now (codes "learn")) }
     ensures asked { option_map shown_request result
         ≡ command_by (word.entry.now ∷ inputs.entry.midi.now ∷ inputs.entry.grammar.now ∷ bar.entry.now ∷ low.entry.now ∷ high.entry.now ∷ step.entry.now ∷ []) }
     ensures range { IfSome result IsRequestInRange }
@@ -231,6 +270,9 @@ fn command_of<'a>(words: &'a Words) -> Option<Request<'a>>
     ensures range { IfSome result IsRequestInRange }
 {
     let word = words.get(0)?;
+    if word == "learn" {
+        return learn_request(words);
+    }
     let first = words.get(1)?;
     match words.count() {
         2 => request_of_one(word, first),

@@ -1,4 +1,4 @@
-ghost use Rattle.rhythm_app.specs.Stops.{status_of};
+ghost use Rattle.rhythm_app.specs.Stops.{midi_status_of, status_of};
 ghost use Rattle.std.specs.Prelude.{◌≡◌};
 
 use grammar_file::GrammarFault;
@@ -6,7 +6,7 @@ use kern_reader::KernFault;
 use smf_reader::SmfFault;
 
 /// Which of the command's inputs.
-#[derive(Clone, Copy, Debug, PartialEq, Eq)]
+#[derive(Clone, Copy)]
 pub enum Kind {
     /// The MIDI file.
     Midi,
@@ -18,8 +18,56 @@ pub enum Kind {
     Script,
 }
 
+/// Why a MIDI file of several ends a run: what a run ends by that reads the file alone.
+#[derive(Clone, Copy)]
+pub enum MidiStop {
+    /// The file is too long; so many bytes of it were read.
+    TooLong { read: u64 },
+    /// Its first fault.
+    Smf(SmfFault),
+    /// It has no note.
+    NoNotes,
+    /// It has more than 65,536 notes: this many.
+    TooManyNotes { count: u64 },
+    /// A bar takes a signature that is out of range.
+    BadSignature { num: u8, dd: u8 },
+    /// A bar has no whole number of ticks.
+    UnevenBar { bar: u32, num: u8, den: u8 },
+    /// There would be more than 4,096 bars; the next one would begin at this tick.
+    TooManyBars { start: u64 },
+    /// There are more than 16,384 cells: this many bars of voices.
+    TooManyCells { count: u64 },
+    /// The grammar has no root symbol for the signature of this bar.
+    NoStart { bar: u32, num: u8, den: u8 },
+    /// A voice has no derivation that fits: its channel and its dead bar.
+    NoDerivation { channel: u8, bar: u32 },
+    /// The file was not read.
+    Read,
+}
+
+impl MidiStop {
+    /// The status that the program ends with.
+    pub fn status(&self) -> u8
+        ensures { result ≡ midi_status_of self.now }
+    {
+        match self {
+            MidiStop::Smf(_)
+            | MidiStop::NoNotes
+            | MidiStop::BadSignature { .. }
+            | MidiStop::UnevenBar { .. }
+            | MidiStop::NoStart { .. } => 2,
+            MidiStop::NoDerivation { .. } => 3,
+            MidiStop::TooLong { .. }
+            | MidiStop::TooManyNotes { .. }
+            | MidiStop::TooManyBars { .. }
+            | MidiStop::TooManyCells { .. } => 4,
+            MidiStop::Read => 5,
+        }
+    }
+}
+
 /// Why a run ends without its answer.
-#[derive(Clone, Copy, Debug, PartialEq, Eq)]
+#[derive(Clone, Copy)]
 pub enum Stop {
     /// The words are no command.
     Usage,
@@ -53,6 +101,10 @@ pub enum Stop {
     ScoreTooLong { line: u32 },
     /// The last barline of the score is too late for a MIDI file: its tick there, which is above 268,435,455.
     RenderTooLong { tick: u64 },
+    /// One of several MIDI files, by its number, from 1.
+    InFile { number: u32, stop: MidiStop },
+    /// There are more than 256 MIDI files to learn from: this many.
+    TooManyFiles { count: u64 },
     /// There are more than 256 candidates for a barline: this many.
     TooManyCandidates { count: u64 },
     /// There is no such barline to be set: its number.
@@ -89,7 +141,9 @@ impl Stop {
             | Stop::TooManyCells { .. }
             | Stop::ScoreTooLong { .. }
             | Stop::RenderTooLong { .. }
+            | Stop::TooManyFiles { .. }
             | Stop::TooManyCandidates { .. } => 4,
+            Stop::InFile { stop, .. } => stop.status(),
             Stop::Read(_) => 5,
             Stop::Write => 6,
             Stop::Memory => 7,

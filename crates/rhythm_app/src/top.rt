@@ -3,7 +3,7 @@ ghost use Rattle.rhythm_app.specs.Asked.{asked_by, asked_of};
 ghost use Rattle.rhythm_app.specs.Ends.{AppendsPart, HasStatus, IsAnswered, IsComplete, IsPerformed, IsErrUntouched, IsStopped, IsStopTold, KeepsRest};
 ghost use Rattle.rhythm_app.specs.Lent.{Lent as Stood};
 ghost use Rattle.rhythm_app.specs.Stages.{HasText, IsTextWritten};
-ghost use Rattle.rhythm_app.specs.Asked.{Asked};
+ghost use Rattle.rhythm_app.specs.Asked.{Asked, IsRequestInRange, IsText, shown_request};
 ghost use Rattle.rhythm_app.specs.Stops.{status_of};
 ghost use Rattle.rhythm_app.specs.declared.stop.Stop.TheVariants as stop;
 ghost use Rattle.rhythm_app.specs.declared.stop.Stop.{Stop};
@@ -19,6 +19,7 @@ use crate::fit::fit_text_of;
 use crate::follow::follow_text;
 use crate::generate::piece_bytes;
 use crate::help::{help, version};
+use crate::learn::learn_text;
 use crate::lent::{Lent, World};
 use crate::notes::notes_text_of;
 use crate::request::{Request, request_of, workers_of};
@@ -58,6 +59,35 @@ fn finish<W: World>(lent: &mut Lent<W>, text: Result<Vec<u8>, Stop>) -> Result<(
     }
 }
 
+/// The text that is asked for. An answer to a script is none.
+fn text_asked<W: World>(lent: &mut Lent<W>, workers: u32, request: Request) -> Result<Vec<u8>, Stop>
+    requires some_worker { 1 ≤ workers }
+    requires few_workers { workers ≤ 16 }
+    requires text { IsText request }
+    requires range { IsRequestInRange request }
+    ensures { HasText (Some (shown_request request.entry)) lent.old lent.new result }
+{
+    match request {
+        Request::Help => help(lent),
+        Request::Version => version(lent),
+        Request::Write(form, inputs) => session_text(lent, workers, form, inputs),
+        Request::Answer(_, _) => unreachable!(),
+        Request::Fit { inputs, among } => fit_text_of(lent, workers, inputs, among),
+        Request::TooManyCandidates { count } => Err(Stop::TooManyCandidates { count }),
+        Request::Learn {
+            bit,
+            grammar,
+            words,
+        } => learn_text(lent, workers, bit, grammar, words),
+        Request::TooManyFiles { count } => Err(Stop::TooManyFiles { count }),
+        Request::Follow(inputs) => follow_text(lent, workers, inputs),
+        Request::Notes(midi) => notes_text_of(lent, midi),
+        Request::Events(kern) => events_text(lent, kern),
+        Request::Generate { number, bars } => piece_bytes(lent, number, bars),
+        Request::Drill { number, grammar } => drill_text(lent, workers, number, grammar),
+    }
+}
+
 /// Does what is asked for, up to the first stop.
 fn perform<W: World>(lent: &mut Lent<W>, said: &Invocation) -> Result<(), Stop>
     requires { HasWorkers said.now }
@@ -67,42 +97,9 @@ fn perform<W: World>(lent: &mut Lent<W>, said: &Invocation) -> Result<(), Stop>
     let workers = workers_of(said);
     match request_of(said) {
         None => Err(Stop::Usage),
-        Some(Request::Help) => {
-            let text = help(lent);
-            finish(lent, text)
-        }
-        Some(Request::Version) => {
-            let text = version(lent);
-            finish(lent, text)
-        }
-        Some(Request::Write(form, inputs)) => {
-            let text = session_text(lent, workers, form, inputs);
-            finish(lent, text)
-        }
         Some(Request::Answer(talk, inputs)) => answer(lent, workers, talk, inputs),
-        Some(Request::Fit { inputs, among }) => {
-            let text = fit_text_of(lent, workers, inputs, among);
-            finish(lent, text)
-        }
-        Some(Request::TooManyCandidates { count }) => Err(Stop::TooManyCandidates { count }),
-        Some(Request::Follow(inputs)) => {
-            let text = follow_text(lent, workers, inputs);
-            finish(lent, text)
-        }
-        Some(Request::Notes(midi)) => {
-            let text = notes_text_of(lent, midi);
-            finish(lent, text)
-        }
-        Some(Request::Events(kern)) => {
-            let text = events_text(lent, kern);
-            finish(lent, text)
-        }
-        Some(Request::Generate { number, bars }) => {
-            let text = piece_bytes(lent, number, bars);
-            finish(lent, text)
-        }
-        Some(Request::Drill { number, grammar }) => {
-            let text = drill_text(lent, workers, number, grammar);
+        Some(request) => {
+            let text = text_asked(lent, workers, request);
             finish(lent, text)
         }
     }

@@ -5,21 +5,6 @@ use Rattle.rhythm_app.specs.Stops.{limit_line, stop_line}
 use Rattle.rhythm_app.specs.declared.stop.Stop.{Stop}
 use Rattle.rhythm_app.proofs.line.write_stop.Goals as goal
 
-pub returns-in-TooManyNotes-clause-part : goal.returns-in-TooManyNotes-clause-part
-returns-in-TooManyNotes-clause-part g c =
-    let written = c.write_limit-in-TooManyNotes in
-    subst (λ (s : Stop). OnErr written.result (AppendsPart (g.K.Sink.taken c.args.sink.now) (g.K.Sink.taken written.new.sink) (stop_line s))) (sym c.in-TooManyNotes.is) written.ensures.part
-
-pub returns-in-TooManyCells-clause-all : goal.returns-in-TooManyCells-clause-all
-returns-in-TooManyCells-clause-all g c =
-    let written = c.write_limit-in-TooManyCells in
-    subst (λ (s : Stop). OnOk written.result (Appends (g.K.Sink.taken c.args.sink.now) (g.K.Sink.taken written.new.sink) (stop_line s))) (sym c.in-TooManyCells.is) written.ensures.all
-
-pub returns-in-TooManyCells-clause-part : goal.returns-in-TooManyCells-clause-part
-returns-in-TooManyCells-clause-part g c =
-    let written = c.write_limit-in-TooManyCells in
-    subst (λ (s : Stop). OnErr written.result (AppendsPart (g.K.Sink.taken c.args.sink.now) (g.K.Sink.taken written.new.sink) (stop_line s))) (sym c.in-TooManyCells.is) written.ensures.part
-
 pub returns-in-ScoreTooLong-clause-all : goal.returns-in-ScoreTooLong-clause-all
 returns-in-ScoreTooLong-clause-all g c =
     let written = c.write_limit-in-ScoreTooLong in
@@ -34,11 +19,6 @@ returns-in-ScoreTooLong-clause-part g c =
     let moved = subst (λ line. OnErr written.result (AppendsPart (g.K.Sink.taken c.args.sink.now) (g.K.Sink.taken written.new.sink) (limit_line (codes "score") line))) same written.ensures.part in
     subst (λ (s : Stop). OnErr written.result (AppendsPart (g.K.Sink.taken c.args.sink.now) (g.K.Sink.taken written.new.sink) (stop_line s))) (sym c.in-ScoreTooLong.is) moved
 
-pub returns-in-BadSignature-clause-part : goal.returns-in-BadSignature-clause-part
-returns-in-BadSignature-clause-part g c =
-    let written = c.write_signature in
-    subst (λ (s : Stop). OnErr written.result (AppendsPart (g.K.Sink.taken c.args.sink.now) (g.K.Sink.taken written.new.sink) (stop_line s))) (sym c.in-BadSignature.is) written.ensures.part
-
 pub returns-in-LineTooLong-clause-all : goal.returns-in-LineTooLong-clause-all
 returns-in-LineTooLong-clause-all g c =
     let written = c.write_limit-in-LineTooLong in
@@ -49,12 +29,7 @@ returns-in-LineTooLong-clause-part g c =
     let written = c.write_limit-in-LineTooLong in
     subst (λ (s : Stop). OnErr written.result (AppendsPart (g.K.Sink.taken c.args.sink.now) (g.K.Sink.taken written.new.sink) (stop_line s))) (sym c.in-LineTooLong.is) written.ensures.part
 
-pub returns-in-TooManyNotes-clause-all : goal.returns-in-TooManyNotes-clause-all
-returns-in-TooManyNotes-clause-all g c =
-    let written = c.write_limit-in-TooManyNotes in
-    subst (λ (s : Stop). OnOk written.result (Appends (g.K.Sink.taken c.args.sink.now) (g.K.Sink.taken written.new.sink) (stop_line s))) (sym c.in-TooManyNotes.is) written.ensures.all
-
-pub returns-in-BadSignature-clause-all : goal.returns-in-BadSignature-clause-all
-returns-in-BadSignature-clause-all g c =
-    let written = c.write_signature in
-    subst (λ (s : Stop). OnOk written.result (Appends (g.K.Sink.taken c.args.sink.now) (g.K.Sink.taken written.new.sink) (stop_line s))) (sym c.in-BadSignature.is) written.ensures.all
+pub returns-in-TooManyFiles-clause-part : goal.returns-in-TooManyFiles-clause-part
+returns-in-TooManyFiles-clause-part g c =
+    let written = c.write_limit-in-TooManyFiles in
+    subst (λ (s : Stop). OnErr written.result (AppendsPart (g.K.Sink.taken c.args.sink.now) (g.K.Sink.taken written.new.sink) (stop_line s))) (sym c.in-TooManyFiles.is) written.ensures.part

@@ -8,6 +8,9 @@ returns-in-transcribe-clause-known c = known_word c.args.word.now (search rules)
 pub returns-in-fit-clause-known : goal.returns-in-fit-clause-known
 returns-in-fit-clause-known c = known_word c.args.word.now (search rules)
 
+pub returns-in-learn-clause-known : goal.returns-in-learn-clause-known
+returns-in-learn-clause-known c = known_word c.args.word.now (search rules)
+
 pub returns-in-notes-clause-known : goal.returns-in-notes-clause-known
 returns-in-notes-clause-known c = known_word c.args.word.now (search rules)
 

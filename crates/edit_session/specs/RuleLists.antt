@@ -1,0 +1,18 @@
+-- The rule lists of least derivations.
+use Rattle.std.specs.Prelude.{◌≡◌, ℕ, List, flat_map}
+use Rattle.derivation.specs.RuleLists.{HaveLists}
+use Rattle.rhythm_base.specs.Forest.{Tree}
+use Rattle.rhythm_base.specs.Grammar.{Grammar}
+use Rattle.rhythm_base.specs.Lists.{Each}
+use Rattle.rhythm_base.specs.Performance.{Performance}
+use Rattle.rhythm_base.specs.Voices.{IsLeastOf}
+
+-- the rule lists of the least derivation of a voice, bar after bar
+abbrev pub AreLeastLists : Grammar → Performance → ℕ → List (List ℕ) → Type 0
+AreLeastLists g p channel lists = (trees : List Tree) × IsLeastOf g p channel trees × HaveLists trees lists
+
+-- those of the least derivations of all voices, voice after voice
+pub record AreRuleListsOf (g : Grammar) (p : Performance) (lists : List (List ℕ)) : Type 0 where
+  pub voices : List (List (List ℕ))
+  pub each : Each (AreLeastLists g p) p.channels voices
+  pub are : lists ≡ flat_map (λ voice. voice) voices
