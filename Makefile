@@ -28,7 +28,7 @@ install:
 	install -m 644 grammars/*.rhy grammars/README.md $(share)/grammars
 	install -m 644 examples/page.ily $(share)/examples
 	install -m 644 examples/corpus/Makefile $(share)/examples/corpus
-	install examples/corpus/transcribe $(share)/examples/corpus
+	install examples/corpus/transcribe examples/corpus/learn $(share)/examples/corpus
 
 uninstall:
 	rm -f $(bin)/rhythm $(man)/rhythm.1
