@@ -92,7 +92,7 @@ const USES: &[Use] = &[
             ("2.mid", EARLY_NOTE),
         ],
         talk: &[],
-        fewest: 1,
+        fewest: 20,
     },
     Use {
         words: &["notes", "a.mid"],
