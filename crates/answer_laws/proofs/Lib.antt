@@ -12,6 +12,7 @@ pub mod Outcomes
 pub mod Shapes
 pub mod Commands
 pub mod Lines
+pub mod Followed
 pub mod Studios
 pub mod Desks
 pub mod Outputs

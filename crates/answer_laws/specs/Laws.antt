@@ -1,10 +1,13 @@
 -- The laws, each as one statement over the definitions.
-use Rattle.std.specs.Prelude.{◌≢◌, ℕ, ◌⊎◌, List, All, Option, Some, Result}
+use Rattle.std.specs.Prelude.{◌≡◌, ◌≢◌, ℕ, ◌⊎◌, List, [], ◌∷◌, All, Option, Some, Result}
+use Rattle.barline_follow.specs.Answer.{IsAnswer}
+use Rattle.barline_follow.specs.Script.{Leads}
 use Rattle.derivation.specs.PerformanceScore.{IsScoreOf}
 use Rattle.derivation.specs.Score.{Score}
 use Rattle.edit_laws.specs.EditOutcomes.{EditOutcome, IsOutcome}
 use Rattle.edit_laws.specs.Reached.{AreReached}
-use Rattle.edit_script.specs.Replies.{refused_text}
+use Rattle.edit_script.specs.Replies.{done_text, refused_text}
+use Rattle.edit_script.specs.ScriptLines.{script_lines}
 use Rattle.edit_session.specs.Opening.{CanOpen, IsOpenFault}
 use Rattle.edit_session.specs.declared.open_fault.OpenFault.{OpenFault}
 use Rattle.edit_session.specs.declared.open_fault.OpenFault.TheVariants as opening
@@ -22,6 +25,7 @@ use Rattle.script_run.specs.Editing.{Editing, begun_on}
 use Rattle.script_run.specs.Laws.{EndsAmply, IsAmpleAnswer, IsByBytes}
 use Rattle.script_run.specs.declared.script_stop.ScriptStop.{ScriptStop}
 use Rattle.script_laws.specs.Script.{Run}
+use Rattle.script_writer.specs.EditText.{script_text}
 use Rattle.session_history.specs.History.{begun_with}
 use Rattle.tree_laws.specs.Alternatives.{AreBestOfBar}
 use Rattle.answer_laws.specs.Editable.{IsEditable, IsOpen}
@@ -89,3 +93,17 @@ OutputsExist =
     (desk : Desk) (script written : List ℕ) → IsOpen desk
     → (end : Result (Unit {0}) ScriptStop) × (rest : Option (List ℕ)) × (out : List ℕ) × (last : Editing)
     × IsByBytes end × EndsAmply end desk (Some script) rest (Some written) (Some out) last
+
+-- ---- barlines that follow the player
+
+-- each line is answered by how many cells it reached and the cost after it, from one performance on to another
+abbrev pub AreDone : Grammar → Performance → List (List ℕ) → Performance → Type 0
+AreDone g p [] q = q ≡ p
+AreDone g p (line ∷ lines) q =
+    (built : ℕ) × (cost : ℕ) × (next : Performance) × AnswersLine g p line (done_text built cost) built next × AreDone g next lines q
+
+-- the script that follows the player, put behind the performance that it is of: each of its lines is accepted in turn, and answered so
+abbrev pub FollowingsAreDone : Type 0
+FollowingsAreDone =
+    (g : Grammar) (p : Performance) (edits : List Edit) → IsReadable g → IsEditable g p → IsAnswer g p edits
+    → (q : Performance) × Leads g p edits q × AreDone g p (script_lines (script_text edits)) q

@@ -2,6 +2,7 @@ ghost use Rattle.answer_laws.specs.Laws.{
   AlternativesExist,
   DesksBeginOpen,
   DesksHaveAnswers,
+  FollowingsAreDone,
   LinesHaveAnswers,
   OpeningsExist,
   OutcomesExist,
@@ -61,4 +62,9 @@ pub fn scripts_have_ends()
 /// On an open desk a script has an end that its bytes decide, and what out takes up to there, without want of memory.
 pub fn outputs_exist()
     ensures { OutputsExist }
+{}
+
+/// Each line of the script that follows the player is accepted in turn, by the performance that the script is of.
+pub fn followings_are_done()
+    ensures { FollowingsAreDone }
 {}

@@ -12,6 +12,7 @@ pub mod AskedCells
 pub mod Faults
 pub mod ListedTrees
 pub mod LeastSounds
+pub mod WrittenScores
 pub mod CellPlaces
 pub mod OtherInputs
 pub mod ReachedVoices

@@ -17,7 +17,8 @@ ghost use Rattle.edit_session.specs.Effects.{
 };
 ghost use Rattle.edit_session.specs.Opening.{CanOpen, IsBuilt, IsOpenFault, cells_of};
 ghost use Rattle.edit_session.specs.declared.open_fault.OpenFault.TheVariants.{Cells, Memory, NoDerivation, NoStart};
-ghost use Rattle.derivation.specs.PerformanceScore.{score_bar};
+ghost use Rattle.derivation.specs.PerformanceScore.{IsScoreOf, score_bar};
+ghost use Rattle.derivation.specs.Score.{IsScore};
 ghost use Rattle.kern_writer.specs.PerformanceText.{HasTooLongText, IsTextOf};
 ghost use Rattle.kern_writer.specs.declared.fault.ScoreFault.TheVariants.{TooLong};
 ghost use Rattle.rhythm_base.specs.Counter.{risen};
@@ -29,11 +30,11 @@ ghost use Rattle.rhythm_base.specs.declared.limits.TheConstants.{LONGEST_SCORE, 
 ghost use Rattle.edit_session.specs.Prepared.{RisesBy, Suits, bar_table_of, cell_of};
 ghost use Rattle.edit_session.specs.Products.{RisesTwice, changes_made};
 ghost use Rattle.edit_session.specs.ReachedCells.{place_pair};
-ghost use Rattle.edit_session.specs.RuleLists.{AreLeastLists};
+ghost use Rattle.edit_session.specs.RuleLists.{AreLeastListsOf};
 ghost use Rattle.edit_laws.specs.Edits as edits;
 ghost use Rattle.rhythm_base.specs.EditRanges.{IsEditInRange};
 ghost use Rattle.edit_laws.specs.Reached.{AreReached};
-ghost use Rattle.std.specs.Prelude.{◌≡◌, ◌≤◌, ◌<◌, ℕ, All, Err, IfErr, IfOk, List, None, Ok, OnErr, OnOk, length, map, max, slice_index};
+ghost use Rattle.std.specs.Prelude.{◌≡◌, ◌≤◌, ◌<◌, ℕ, All, Err, IfErr, IfOk, List, None, Ok, OnErr, OnOk, length, map, max};
 
 use crate::ask_fault::AskFault;
 use crate::asking::{alternatives_of, place_of};
@@ -53,7 +54,7 @@ use crate::voice_tables::VoiceTables;
 use bar_alternatives::Alternative;
 use bar_pool::{Order, Rooms, build_cells};
 use carry_matrix::Steps as Products;
-use derivation::ScoreBar;
+use derivation::{Score, ScoreBar};
 use grammar_plan::Plan;
 use kern_writer::{ScoreFault, write_kern};
 use least_cost::Steps as Builds;
@@ -149,17 +150,26 @@ impl Session {
         ensures short { IfOk result (λ v. length v.items ≤ LONGEST_SCORE) }
         ensures too_long { (line : ℕ) → result ≡ Err (TooLong line) → HasTooLongText self.now.grammar self.now.performance line }
     {
-        let voices = self.voices.as_slice();
-        let score = whole_score(alloc, &self.grammar, &self.performance, voices)?;
+        let score = self.whole_score(alloc)?;
         write_kern(alloc, &score)
+    }
+
+    /// The score itself: the sounds of the least derivation of each voice, with the signatures, tempos and keys of the bars. It is what
+    /// the writers of other forms take.
+    pub fn whole_score(&self, alloc: Global) -> Result<Score, AllocError>
+        ensures score { IfOk result (λ score. IsScoreOf self.now.grammar self.now.performance score) }
+        ensures writable { IfOk result IsScore }
+        ensures few_bars { IfOk result (λ score. length score.bars ≤ MOST_BARS) }
+    {
+        let voices = self.voices.as_slice();
+        whole_score(alloc, &self.grammar, &self.performance, voices)
     }
 
     /// The rule lists of the least derivation of a voice, bar after bar: the numbers of the rules of each tree in preorder. The voices
     /// are numbered from 0, by rising channel.
     pub fn rule_lists(&self, alloc: Global, voice: usize) -> Result<Vec<&[u16]>, AllocError>
         requires { voice < length self.now.performance.channels }
-        ensures { let channel = slice_index self.now.performance.channels voice in
-            IfOk result (λ v. AreLeastLists self.now.grammar self.now.performance channel (map (λ l. l.now) v.items)) }
+        ensures { IfOk result (λ v. AreLeastListsOf self.now voice (map (λ l. l.now) v.items)) }
     {
         let voices = self.voices.as_slice();
         least_lists(alloc, &voices[voice])

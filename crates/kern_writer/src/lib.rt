@@ -21,3 +21,4 @@ mod voice_value;
 pub use fault::ScoreFault;
 pub use kern::write_kern;
 pub use laws::{texts_are_one, texts_exist};
+pub use voice_value::{VoiceValue, bar_values};

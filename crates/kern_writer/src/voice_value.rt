@@ -13,16 +13,16 @@ use rhythm_base::{Keys, Sound, SoundKind};
 use std::alloc::{AllocError, Global};
 use std::marker::Model;
 
-/// A value of a voice.
+/// A value of a voice: what a token of its column is written of.
 #[derive(Drop)]
-pub(crate) struct VoiceValue<'a> {
+pub struct VoiceValue<'a> {
     /// Where in its bar it begins, in parts of 1/(resolution * den) of a whole note.
-    pub(crate) place: u64,
-    pub(crate) value: Value,
+    pub place: u64,
+    pub value: Value,
     /// The leaf that it is a value of: the first one where several are joined.
-    pub(crate) sound: &'a Sound,
+    pub sound: &'a Sound,
     /// Whether it is that leaf's first value.
-    pub(crate) first: bool,
+    pub first: bool,
 }
 
 impl<'a> Model for VoiceValue<'a> {
@@ -36,7 +36,7 @@ impl<'a> Model for VoiceValue<'a> {
 
 impl<'a> VoiceValue<'a> {
     /// Whether it goes on with the span of the value before it.
-    pub(crate) fn goes_on(&self) -> bool
+    pub fn goes_on(&self) -> bool
         ensures { result ≡ tokens.goes_on self.now }
     {
         match self.sound.kind {
@@ -47,7 +47,7 @@ impl<'a> VoiceValue<'a> {
     }
 
     /// The grace chords before it.
-    pub(crate) fn graces(&self) -> &[Keys]
+    pub fn graces(&self) -> &[Keys]
         ensures { result.now ≡ (if self.now.first then self.now.sound.graces else []) }
     {
         if self.first {
@@ -108,8 +108,8 @@ fn values_for<'a>(
     Ok(values)
 }
 
-/// The values of the sounds of a bar, which fill it.
-pub(crate) fn bar_values<'a>(
+/// The values of the sounds of a bar, which fill it, in their order: those whose tokens stand in the column of a voice.
+pub fn bar_values<'a>(
     alloc: Global,
     resolution: u16,
     bar: &ScoreBar,

@@ -1,30 +1,36 @@
--- The performance of a file is well formed.
-use Rattle.std.proofs.Common.{◌≡◌, ℕ, zero, suc, ◌<◌, ◌≤◌, List, [], ◌∷◌, length, map, get_or, subst, refl, sym, ap, ◌∙◌, arith, Some, Err}
+-- The take of a file is well formed, and so is its performance.
+use Rattle.std.proofs.Common.{◌≡◌, ℕ, ◌≤◌, List, map, get_or, subst, refl, arith, Some}
 use Rattle.std.specs.Prelude.{All, ◌≤ℤ◌, pos, negsuc}
 use Rattle.std.specs.List.Sorted.{IsNonDecreasing}
-use Rattle.std.proofs.lemmas.List.Elements.{All-nil}
 use Rattle.rhythm_base.specs.declared.event.Event.{Event}
 use Rattle.rhythm_base.specs.declared.event.KeyMark.{KeyMark}
 use Rattle.rhythm_base.specs.declared.event.Signature.{Signature}
 use Rattle.rhythm_base.specs.declared.event.Tempo.{Tempo}
 use Rattle.rhythm_base.specs.declared.event.What.{What}
 use Rattle.rhythm_base.specs.declared.event.What.TheVariants as what
-use Rattle.rhythm_base.specs.declared.note.Bar.{Bar}
 use Rattle.rhythm_base.specs.declared.note.Note.{Note}
-use Rattle.rhythm_base.specs.Bars.{AreEnough}
-use Rattle.rhythm_base.specs.Performance.{IsKeyMark, IsNoteOf, IsPinOf, IsTempo, IsWellFormed}
+use Rattle.rhythm_base.specs.Performance.{IsKeyMark, IsTempo}
 use Rattle.rhythm_base.specs.Time.{key_in, keys_of, signature_in, signatures_of, tempo_in, tempos_of}
 use Rattle.note_list.specs.Pairing.{ArePaired, IsPlayable, IsEventOf, IsPlayed}
 use Rattle.smf_reader.specs.Played.{Smf}
 use Rattle.smf_reader.specs.Ranges.{IsPlayedFile, IsPlayedTrack, IsSaid}
-use Rattle.rhythm_base.specs.declared.bar_fault.BarFault.{BarFault}
-use Rattle.rhythm_base.specs.declared.bar_fault.BarFault.TheVariants as laying
-use Rattle.tempo_map.specs.Laying.{AreBars, Lays}
-use Rattle.performance_load.specs.Loading.{AreMergedOf, AreVoicesOf, LoadedPerformancesAreWellFormed, Loads, bar_fault_gives, greatest_end, greatest_onset, last_tick}
+use Rattle.performance_load.specs.Loading.{AreMergedOf, LoadedPerformancesAreWellFormed, greatest_end, greatest_onset, last_tick}
+use Rattle.performance_load.specs.Take.{Take}
+use Rattle.performance_load.specs.Taking.{AreMarksUpTo, IsTakeFormed}
+use Rattle.performance_load.proofs.FormedTakes.{loaded_well}
 use Rattle.performance_load.proofs.EventLemmas.{all_merged, all_tracks, below_greatest, chosen_all, chosen_in_order, greatest_low}
-use Rattle.performance_load.proofs.LaidBars.{laid_are_bars}
 use Rattle.performance_load.proofs.PlayedNotes.{notes_are_played}
 use Rattle.performance_load.proofs.SomeNote.{some_note}
+
+-- the take of these events and notes
+abbrev pub file_take : Smf → List Event → List Note → Take
+file_take f events notes = record {
+  division = f.division;
+  notes = notes;
+  tempos = tempos_of events;
+  key_marks = keys_of events;
+  signatures = signatures_of events;
+}
 
 -- ---- the events
 
@@ -92,7 +98,14 @@ module _ (f : Smf) (events : List Event) (played : IsPlayedFile f) (merged : Are
   pub signatures_in_order : IsNonDecreasing (map (λ s. s.tick) (signatures_of events))
   signatures_in_order = chosen_in_order (λ e. signature_in e.tick e.what) (λ s. s.tick) signature_tick events merged.in_order
 
-  -- ---- the notes and the bars
+  pub marks_low : (notes : List Note) → AreMarksUpTo 1000000000 (file_take f events notes)
+  marks_low notes = record {
+    tempos = chosen_all (λ e. tempo_in e.tick e.what) (IsFileEvent (last_tick f)) (λ t. t.tick ≤ 1000000000) (λ e t h is. omega (arith, h.0, tempo_tick e t is, few_ticks)) events all_events;
+    key_marks = chosen_all (λ e. key_in e.tick e.what) (IsFileEvent (last_tick f)) (λ t. t.tick ≤ 1000000000) (λ e t h is. omega (arith, h.0, key_tick e t is, few_ticks)) events all_events;
+    signatures = chosen_all (λ e. signature_in e.tick e.what) (IsFileEvent (last_tick f)) (λ t. t.tick ≤ 1000000000) (λ e t h is. omega (arith, h.0, signature_tick e t is, few_ticks)) events all_events;
+  }
+
+  -- ---- the notes
 
   module _ (notes : List Note) (paired : ArePaired (last_tick f) events notes) where
     sounded : All (IsPlayed (last_tick f)) notes
@@ -108,111 +121,35 @@ module _ (f : Smf) (events : List Event) (played : IsPlayedFile f) (merged : Are
     pub end_low : greatest_end notes ≤ 1000000000
     end_low = greatest_low (λ n. n.end) notes 1000000000 (λ k d lt. let n = sounded k d lt in omega (arith, n.within, few_ticks))
 
-    module _ (bars : List Bar) (last : ℕ) (channels : List ℕ) (laid : AreBars f.division bars last) (enough : AreEnough (greatest_onset notes) (greatest_end notes) bars last)
-        (voices : AreVoicesOf notes channels) where
-      is_note : All (IsNoteOf channels last) notes
-      is_note k d lt =
-          let n = sounded k d lt in
-          let onset = below_greatest (λ n. n.onset) notes k d lt in
-          let end = below_greatest (λ n. n.end) notes k d lt in
-          record {
-            voice = (voices.exactly (get_or notes k d).channel).1 (k, get_or notes k d, lt, again notes k d lt, refl);
-            key = n.key;
-            onset = omega (arith, onset, enough.begins);
-            after = n.after;
-            end = omega (arith, end, enough.ends);
-          }
-        where
-          again : (notes : List Note) (k : ℕ) (d : Note) → k < length notes → get_or notes k (get_or notes k d) ≡ get_or notes k d
-          again [] k d lt = absurd (omega (arith, lt))
-          again (m ∷ notes) zero d lt = refl
-          again (m ∷ notes) (suc k) d lt = again notes k d (omega (arith, lt))
+    -- the take of the file
+    pub take_formed : IsTakeFormed (file_take f events notes)
+    take_formed = record {
+      division_low = played.some_tick;
+      division_high = played.few_ticks;
+      some_note = some_note (last_tick f) events notes paired;
+      few_notes = paired.few;
+      notes = λ k d lt. let n = sounded k d lt in let most = few_ticks in record {
+        channel = n.channel;
+        key = n.key;
+        after = n.after;
+        within = omega (arith, n.within, most);
+      };
+      notes_in_order = paired.notes.in_order;
+      tempos = chosen_all (λ e. tempo_in e.tick e.what) (IsFileEvent (last_tick f)) IsTempo is_tempo events all_events;
+      tempos_in_order = chosen_in_order (λ e. tempo_in e.tick e.what) (λ t. t.tick) tempo_tick events merged.in_order;
+      key_marks = chosen_all (λ e. key_in e.tick e.what) (IsFileEvent (last_tick f)) IsKeyMark is_key_mark events all_events;
+      key_marks_in_order = chosen_in_order (λ e. key_in e.tick e.what) (λ t. t.tick) key_tick events merged.in_order;
+      signatures_in_order = signatures_in_order;
+    }
 
-      is_channel : All (λ c. c < 16) channels
-      is_channel k d lt =
-          let one = (voices.exactly (get_or channels k d)).0 (k, lt, again channels k d lt) in
-          let n = sounded one.0 one.1 one.2 in
-          let same : (get_or notes one.0 one.1).channel ≡ get_or channels k d = ap (λ n. n.channel) one.3 ∙ one.4 in
-          omega (arith, n.channel, same)
-        where
-          again : (cs : List ℕ) (k : ℕ) (d : ℕ) → k < length cs → get_or cs k (get_or cs k d) ≡ get_or cs k d
-          again [] k d lt = absurd (omega (arith, lt))
-          again (m ∷ cs) zero d lt = refl
-          again (m ∷ cs) (suc k) d lt = again cs k d (omega (arith, lt))
-
-      some_channel : 1 ≤ length channels
-      some_channel =
-          let some = some_note (last_tick f) events notes paired in
-          let n : Note = get_or notes 0 (record { channel = 0; key = 0; onset = 0; end = 0 }) in
-          let there = (is_note 0 n some).voice in
-          omega (arith, there.1)
-
-      pub formed : IsWellFormed (record {
-        division = f.division;
-        tempos = tempos_of events;
-        key_marks = keys_of events;
-        bars = bars;
-        last = last;
-        channels = channels;
-        notes = notes;
-        pins = [];
-      })
-      formed = record {
-        division_low = played.some_tick;
-        division_high = played.few_ticks;
-        tempos = chosen_all (λ e. tempo_in e.tick e.what) (IsFileEvent (last_tick f)) IsTempo is_tempo events all_events;
-        tempos_in_order = chosen_in_order (λ e. tempo_in e.tick e.what) (λ t. t.tick) tempo_tick events merged.in_order;
-        key_marks = chosen_all (λ e. key_in e.tick e.what) (IsFileEvent (last_tick f)) IsKeyMark is_key_mark events all_events;
-        key_marks_in_order = chosen_in_order (λ e. key_in e.tick e.what) (λ t. t.tick) key_tick events merged.in_order;
-        some_bar = laid.some;
-        few_bars = laid.few;
-        bars = laid.each;
-        first_bar = laid.first;
-        bars_rise = laid.rise;
-        last_barline = laid.last_barline;
-        some_voice = some_channel;
-        voices_rise = voices.rise;
-        voices = is_channel;
-        notes = is_note;
-        notes_in_order = paired.notes.in_order;
-        pins = All-nil (IsPinOf channels (length bars));
-        pins_in_order = λ i j d less within. absurd (omega (arith, within));
-      }
-
--- so is any that the file says
+-- the performance of a file is well formed
 pub loaded_formed : LoadedPerformancesAreWellFormed
-loaded_formed f p played h =
-    let low = onset_low f h.events played h.merged p.notes h.notes in
-    let near = end_low f h.events played h.merged p.notes h.notes in
-    let laid =
-    laid_are_bars f.division (signatures_of h.events) (greatest_onset p.notes) (greatest_end p.notes) played.few_ticks low near p.bars p.last
-    played.some_tick h.bars in
-    let well = formed f h.events played h.merged p.notes h.notes p.bars p.last p.channels laid h.bars.1 h.voices in
-    let same : record {
-      division = f.division;
-      tempos = tempos_of h.events;
-      key_marks = keys_of h.events;
-      bars = p.bars;
-      last = p.last;
-      channels = p.channels;
-      notes = p.notes;
-      pins = [];
-    } ≡ p = λ i. record {
-      division = sym h.division i;
-      tempos = sym h.tempos i;
-      key_marks = sym h.key_marks i;
-      bars = p.bars;
-      last = p.last;
-      channels = p.channels;
-      notes = p.notes;
-      pins = sym h.pins i;
-    } in
-    subst IsWellFormed same well
-
--- a fault of the bars is one of loading
-pub bars_at_fault : (f : Smf) (events : List Event) (notes : List Note) (fault : BarFault) → AreMergedOf f events → ArePaired (last_tick f) events notes
-    → Lays f.division (signatures_of events) (greatest_onset notes) (greatest_end notes) (Err fault) → Loads f (Err (bar_fault_gives fault))
-bars_at_fault f events notes laying.Memory merged paired h = tt
-bars_at_fault f events notes (laying.TooManyBars start) merged paired h = (events, notes, merged, paired, h)
-bars_at_fault f events notes (laying.BadSignature num dd) merged paired h = (events, notes, merged, paired, h)
-bars_at_fault f events notes (laying.UnevenBar number num den) merged paired h = (events, notes, merged, paired, h)
+loaded_formed f p played h = loaded_well (file_take f h.events p.notes) (take_formed f h.events played h.merged p.notes h.notes) p record {
+  division = h.division;
+  tempos = h.tempos;
+  key_marks = h.key_marks;
+  notes = refl;
+  bars = h.bars;
+  voices = h.voices;
+  pins = h.pins;
+}

@@ -2,6 +2,8 @@ pub mod EventLemmas
 pub mod PlayedNotes
 pub mod LaidBars
 pub mod Formed
+pub mod FormedTakes
 pub mod OneLoading
 pub mod SomeNote
+pub mod TakesLoaded
 pub mod VoiceLemmas

@@ -25,7 +25,7 @@ use Rattle.smf_reader.specs.Played.{Smf}
 
 -- ---- voices
 
-one_voices : (notes : List Note) (xs ys : List ℕ) → AreVoicesOf notes xs → AreVoicesOf notes ys → xs ≡ ys
+pub one_voices : (notes : List Note) (xs ys : List ℕ) → AreVoicesOf notes xs → AreVoicesOf notes ys → xs ≡ ys
 one_voices notes xs ys h k =
     one_order (λ a b. a < b) (λ a b less more. omega (arith, less, more)) xs ys
     (λ i j d less within. AllPairs-from_increasing xs h.rise i j d less within)
@@ -58,7 +58,7 @@ module _ (last : ℕ) (events : List Event) where
   not_both : (count : ℕ) → AreSilent events → IsNoteFault last events (note.TooManyNotes count) → ⊥
   not_both count silent many = let none = silent_has_none last events many.0 silent many.1 in omega (arith, none, many.2, many.3)
 
-  one_note_fault : (x y : NoteFault) → IsNoteFault last events x → IsNoteFault last events y → x ≢ note.Memory → y ≢ note.Memory → x ≡ y
+  pub one_note_fault : (x y : NoteFault) → IsNoteFault last events x → IsNoteFault last events y → x ≢ note.Memory → y ≢ note.Memory → x ≡ y
   one_note_fault note.NoNotes note.NoNotes h k a b = refl
   one_note_fault note.NoNotes (note.TooManyNotes count) h k a b = absurd (not_both count h k)
   one_note_fault note.NoNotes note.Memory h k a b = absurd (b refl)
@@ -69,19 +69,19 @@ module _ (last : ℕ) (events : List Event) where
 
 -- ---- the performance
 
-abbrev bars_in : Result (List Bar × ℕ) BarFault → List Bar
+abbrev pub bars_in : Result (List Bar × ℕ) BarFault → List Bar
 bars_in (Ok (bars, last)) = bars
 bars_in (Err fault) = []
 
-abbrev last_in : Result (List Bar × ℕ) BarFault → ℕ
+abbrev pub last_in : Result (List Bar × ℕ) BarFault → ℕ
 last_in (Ok (bars, last)) = last
 last_in (Err fault) = 0
 
 module _ (f : Smf) where
-  events_one : (es fs : List Event) → AreMergedOf f es → AreMergedOf f fs → es ≡ fs
+  pub events_one : (es fs : List Event) → AreMergedOf f es → AreMergedOf f fs → es ≡ fs
   events_one es fs h k = one_merged (map (λ t. t.events) f.tracks) es fs h k
 
-  notes_one : (es fs : List Event) (xs ys : List Note) → AreMergedOf f es → AreMergedOf f fs → ArePaired (last_tick f) es xs → ArePaired (last_tick f) fs ys → xs ≡ ys
+  pub notes_one : (es fs : List Event) (xs ys : List Note) → AreMergedOf f es → AreMergedOf f fs → ArePaired (last_tick f) es xs → ArePaired (last_tick f) fs ys → xs ≡ ys
   notes_one es fs xs ys h k p q =
       let same = events_one es fs h k in
       are_one (last_tick f) fs xs ys (subst (λ l. ArePaired (last_tick f) l xs) same p).notes q.notes
@@ -119,7 +119,7 @@ module _ (f : Smf) where
 
   -- ---- all answers
 
-  faults_apart : (fault : NoteFault) (es fs : List Event) (notes : List Note) → AreMergedOf f es → AreMergedOf f fs
+  pub faults_apart : (fault : NoteFault) (es fs : List Event) (notes : List Note) → AreMergedOf f es → AreMergedOf f fs
       → IsNoteFault (last_tick f) es fault → fault ≢ note.Memory → ArePaired (last_tick f) fs notes → ⊥
   faults_apart fault es fs notes h k x other p =
       no_note_fault (last_tick f) fs notes fault p (subst (λ l. IsNoteFault (last_tick f) l fault) (events_one es fs h k) x) other

@@ -1,1 +1,4 @@
+pub mod Laws
 pub mod Loading
+pub mod Take
+pub mod Taking

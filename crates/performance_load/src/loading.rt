@@ -1,38 +1,46 @@
 ghost use Rattle.performance_load.specs.Loading.{Loads};
+ghost use Rattle.performance_load.specs.Taking.{IsTakeFormed, LoadsTake};
 ghost use Rattle.smf_reader.specs.Ranges.{IsPlayedFile};
 
 use crate::channels::{channels_of, last_end, last_onset};
 use crate::load_fault::LoadFault;
-use note_list::pair;
+use crate::played::Take;
+use crate::taking::take;
 use rhythm_base::Performance;
 use smf_reader::Smf;
 use std::alloc::Global;
-use tempo_map::{changes_of, lay_bars};
+use tempo_map::lay_bars;
+
+/// The performance of a take, without pins.
+pub fn load_take(alloc: Global, take: Take) -> Result<Performance, LoadFault>
+    requires { IsTakeFormed take }
+    ensures { LoadsTake take result }
+{
+    let laid = lay_bars(
+        alloc,
+        take.division,
+        &take.signatures,
+        last_onset(&take.notes),
+        last_end(&take.notes),
+    )?;
+    let channels = channels_of(alloc, &take.notes)?;
+    Ok(Performance::make(
+        take.division,
+        take.tempos,
+        take.key_marks,
+        laid.bars,
+        laid.last,
+        channels,
+        take.notes,
+        Vec::new(alloc),
+    ))
+}
 
 /// The performance that the file says, without pins.
 pub fn load(alloc: Global, smf: &Smf) -> Result<Performance, LoadFault>
     requires { IsPlayedFile smf.now }
     ensures { Loads smf.now result }
 {
-    let events = smf.merged(alloc)?;
-    let notes = pair(alloc, &events, smf.last())?;
-    let changes = changes_of(alloc, &events)?;
-    let laid = lay_bars(
-        alloc,
-        smf.division,
-        &changes.signatures,
-        last_onset(&notes),
-        last_end(&notes),
-    )?;
-    let channels = channels_of(alloc, &notes)?;
-    Ok(Performance::make(
-        smf.division,
-        changes.tempos,
-        changes.key_marks,
-        laid.bars,
-        laid.last,
-        channels,
-        notes,
-        Vec::new(alloc),
-    ))
+    let played = take(alloc, smf)?;
+    load_take(alloc, played)
 }
