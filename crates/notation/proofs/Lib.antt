@@ -1,0 +1,4 @@
+pub mod Windows
+pub mod OneName
+pub mod MeanKeys
+mod WorkedNames

@@ -1,0 +1,11 @@
+//! The notation of a voice, of which pages and scores for editors are written: the tokens of its **kern column, bar by bar, as notes,
+//! chords and rests under the brackets of tuplets, with ties, grace chords and short marks; the names of its pitches, and its clef.
+#![tactic(auto)]
+
+mod clef;
+mod names;
+
+pub use clef::{Clef, clef_of};
+pub use names::{
+    Alteration, Letter, PitchName, names_are_one, pitch_name, tonic_alteration, tonic_letter,
+};
