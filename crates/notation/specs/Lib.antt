@@ -1,2 +1,10 @@
+pub mod Places
+pub mod Tokens
+pub mod Rests
+pub mod Groups
+pub mod Notes
+pub mod Bars
+pub mod Runs
+pub mod Spelling
 pub mod Names
 pub mod Clefs

@@ -3,9 +3,16 @@
 #![tactic(auto)]
 
 mod clef;
+mod cut;
 mod names;
+mod note;
+mod place;
+mod rests;
+mod token;
+mod width;
 
 pub use clef::{Clef, clef_of};
 pub use names::{
     Alteration, Letter, PitchName, names_are_one, pitch_name, tonic_alteration, tonic_letter,
 };
+pub use note::{BarGroups, Group, Note, Ratio};
