@@ -2,13 +2,19 @@
 //! chords and rests under the brackets of tuplets, with ties, grace chords and short marks; the names of its pitches, and its clef.
 #![tactic(auto)]
 
+mod bar;
 mod clef;
 mod cut;
+mod grid;
+mod groups;
 mod names;
 mod note;
+mod notes;
 mod place;
 mod rests;
+mod ties;
 mod token;
+mod voice;
 mod width;
 
 pub use clef::{Clef, clef_of};
@@ -16,3 +22,4 @@ pub use names::{
     Alteration, Letter, PitchName, names_are_one, pitch_name, tonic_alteration, tonic_letter,
 };
 pub use note::{BarGroups, Group, Note, Ratio};
+pub use voice::voice_groups;
