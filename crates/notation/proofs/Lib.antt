@@ -2,21 +2,28 @@ pub mod BarLemmas
 pub mod BarRuns
 pub mod CutRuns
 pub mod CutTokens
+pub mod FilledGroups
 pub mod Fronts
 pub mod GridLemmas
 pub mod GroupLemmas
 pub mod Halvings
+pub mod GroupingsExist
 pub mod Halved
 pub mod Joining
 pub mod JoinedRuns
 pub mod LastNumbers
 pub mod NoteLemmas
+pub mod NoteRatios
+pub mod OneGrouping
+pub mod PlainGroups
 pub mod Spelled
 pub mod Standing
 pub mod TiedTokens
 pub mod Values
 pub mod VoiceLemmas
+mod WorkedRows
 pub mod Windows
 pub mod OneName
 pub mod MeanKeys
 mod WorkedNames
+pub mod ScoreGroups

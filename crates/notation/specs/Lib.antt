@@ -4,6 +4,7 @@ pub mod Rests
 pub mod Groups
 pub mod Notes
 pub mod Bars
+pub mod Laws
 pub mod Runs
 pub mod Spelling
 pub mod Names

@@ -7,6 +7,7 @@ mod clef;
 mod cut;
 mod grid;
 mod groups;
+mod laws;
 mod names;
 mod note;
 mod notes;
@@ -18,6 +19,10 @@ mod voice;
 mod width;
 
 pub use clef::{Clef, clef_of};
+pub use laws::{
+    groups_are_plain, groups_fill_the_bar, notes_fill_their_group, notes_have_their_ratio,
+    voice_groups_are_one, voice_groups_exist,
+};
 pub use names::{
     Alteration, Letter, PitchName, names_are_one, pitch_name, tonic_alteration, tonic_letter,
 };
