@@ -1,0 +1,11 @@
+pub mod Pitches
+pub mod Values
+pub mod Words
+pub mod Groups
+pub mod Bars
+pub mod Changes
+pub mod Graces
+pub mod Staves
+pub mod Page
+pub mod Writing
+pub mod Laws
