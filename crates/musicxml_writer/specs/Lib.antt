@@ -1,0 +1,9 @@
+pub mod Elements
+pub mod Pitches
+pub mod Values
+pub mod Notes
+pub mod Bars
+pub mod Attributes
+pub mod Parts
+pub mod Text
+pub mod Laws
