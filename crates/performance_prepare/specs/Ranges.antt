@@ -1,0 +1,36 @@
+-- The ranges of what can be told of a take.
+use Rattle.std.specs.Prelude.{ℕ, ℤ, pos, negsuc, ◌≤ℤ◌, ◌≤◌, IsTrue, Option, Some, None, ⊤}
+use Rattle.rhythm_base.specs.declared.limits.TheConstants.{SLOWEST_TEMPO}
+use Rattle.rhythm_base.specs.Signatures.{is_den}
+use Rattle.performance_prepare.specs.declared.options.Fraction.{Fraction}
+use Rattle.performance_prepare.specs.declared.options.Options.{Options}
+
+-- it holds of what is given, if anything is
+abbrev pub IfGiven : {X : Type 0} → Option X → (X → Type 0) → Type 0
+IfGiven None P = ⊤
+IfGiven (Some x) P = P x
+
+-- at most 64 times 1, 1/2, 1/4, .. or 1/64
+pub record IsFraction (part : Fraction) : Type 0 where
+  pub few : part.num ≤ 64
+  pub power : IsTrue (is_den part.den)
+
+pub record IsPace (quarters : ℕ) : Type 0 where
+  pub some : 1 ≤ quarters
+  pub few : quarters ≤ 1000
+
+-- microseconds of a quarter that a tempo can have
+pub record IsMicros (micros : ℕ) : Type 0 where
+  pub some : 1 ≤ micros
+  pub few : micros ≤ SLOWEST_TEMPO
+
+pub record IsKey (sf : ℤ) : Type 0 where
+  pub low : negsuc 6 ≤ℤ sf
+  pub high : sf ≤ℤ pos 7
+
+-- the meter and the upbeat are fractions, quarters a minute are 1 to 1,000, and keys seven flats to seven sharps
+pub record AreInRange (o : Options) : Type 0 where
+  pub meter : IfGiven o.meter IsFraction
+  pub tempo : IfGiven o.tempo IsPace
+  pub upbeat : IfGiven o.upbeat IsFraction
+  pub key : IfGiven o.key IsKey

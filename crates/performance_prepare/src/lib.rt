@@ -1,0 +1,17 @@
+//! A take prepared by options: what was recorded on a keyboard is brought to the meter, tempo, upbeat and key that were meant,
+//! its hands are split into two channels, and its drums are left out. Each option is a map of takes that has a definition of
+//! its own, and the options are taken in one order, whatever the order in which they are given. The performance that is
+//! loaded of a prepared take is well formed.
+#![tactic(auto)]
+
+mod drums;
+mod keying;
+mod meter;
+mod options;
+mod prepare_fault;
+mod shift;
+mod tempo;
+mod upbeat;
+
+pub use options::{Fraction, Options};
+pub use prepare_fault::PrepareFault;
