@@ -2,4 +2,8 @@ pub mod Answered
 pub mod Fineness
 pub mod InForce
 pub mod Kept
+pub mod LawsKept
+pub mod Parting
 pub mod ShiftedTakes
+pub mod Told
+mod WorkedTakes

@@ -1,8 +1,11 @@
 pub mod Drums
 pub mod Keying
+pub mod Laws
 pub mod Meter
 pub mod Outcome
+pub mod Prepared
 pub mod Ranges
 pub mod Shift
+pub mod Split
 pub mod Tempo
 pub mod Upbeat

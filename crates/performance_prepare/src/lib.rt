@@ -6,12 +6,21 @@
 
 mod drums;
 mod keying;
+mod laws;
 mod meter;
 mod options;
 mod prepare_fault;
+mod preparing;
 mod shift;
+mod split;
 mod tempo;
 mod upbeat;
 
+pub use laws::{
+    drums_are_out, no_options_change_nothing, prepared_performances_are_one,
+    prepared_performances_are_well_formed, splits_keep_notes, tempos_keep_places, tempos_keep_time,
+    upbeats_keep_distances,
+};
 pub use options::{Fraction, Options};
 pub use prepare_fault::PrepareFault;
+pub use preparing::prepared;

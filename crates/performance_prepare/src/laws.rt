@@ -1,0 +1,50 @@
+ghost use Rattle.performance_prepare.specs.Laws.{
+  DrumsAreOut,
+  NoOptionsChangeNothing,
+  PreparedPerformancesAreOne,
+  PreparedPerformancesAreWellFormed,
+  SplitsKeepNotes,
+  TemposKeepPlaces,
+  TemposKeepTime,
+  UpbeatsKeepDistances,
+};
+
+/// Without options the performance of a file is as ever.
+pub fn no_options_change_nothing()
+    ensures { NoOptionsChangeNothing }
+{}
+
+/// Options and a file decide the performance.
+pub fn prepared_performances_are_one()
+    ensures { PreparedPerformancesAreOne }
+{}
+
+/// The performance of a file by options is well formed.
+pub fn prepared_performances_are_well_formed()
+    ensures { PreparedPerformancesAreWellFormed }
+{}
+
+/// No note of the channel of drums is left, and all others are.
+pub fn drums_are_out()
+    ensures { DrumsAreOut }
+{}
+
+/// But for their channels, the notes of a split are the same; those of a channel that is not split stay in it.
+pub fn splits_keep_notes()
+    ensures { SplitsKeepNotes }
+{}
+
+/// An upbeat moves all notes by the same, so that all lengths and the times between onsets stay.
+pub fn upbeats_keep_distances()
+    ensures { UpbeatsKeepDistances }
+{}
+
+/// A tempo makes ticks finer, and each note stays in its place among them.
+pub fn tempos_keep_places()
+    ensures { TemposKeepPlaces }
+{}
+
+/// In its tempo in proportion a tick lasts as long as before, but for half a microsecond a quarter.
+pub fn tempos_keep_time()
+    ensures { TemposKeepTime }
+{}

@@ -1,0 +1,103 @@
+ghost use Rattle.performance_load.specs.Taking.{AreMarksUpTo, IsTakeFormed};
+ghost use Rattle.performance_prepare.specs.Outcome.{Answers};
+ghost use Rattle.performance_prepare.specs.Prepared as maps;
+ghost use Rattle.performance_prepare.specs.Ranges.{AreInRange, IfGiven, IsFraction, IsPace};
+ghost use Rattle.performance_prepare.specs.Shift.{latest_mark};
+ghost use Rattle.rhythm_base.specs.declared.limits.TheConstants.{LATEST_EVENT};
+ghost use Rattle.std.specs.Prelude.{IfOk};
+
+use crate::drums::without_drums;
+use crate::keying::with_key;
+use crate::meter::with_meter;
+use crate::options::{Fraction, Options};
+use crate::prepare_fault::PrepareFault;
+use crate::split::with_split;
+use crate::tempo::with_tempo;
+use crate::upbeat::with_upbeat;
+use performance_load::Take;
+use std::alloc::Global;
+
+/// The take without drums, if it is told that they go.
+fn told_drums(alloc: Global, no_drums: bool, take: Take) -> Result<Take, PrepareFault>
+    ensures { Answers (maps.told_drums no_drums take) result }
+{
+    if no_drums {
+        without_drums(alloc, take)
+    } else {
+        Ok(take)
+    }
+}
+
+/// The take that is split at the key, if one is told.
+fn told_split(alloc: Global, split: Option<u8>, take: Take) -> Result<Take, PrepareFault>
+    requires { IsTakeFormed take }
+    ensures { Answers (maps.told_split split take) result }
+{
+    match split {
+        None => Ok(take),
+        Some(key) => with_split(alloc, key, take),
+    }
+}
+
+/// The take of the meter, if one is told.
+fn told_meter(alloc: Global, meter: Option<Fraction>, take: Take) -> Result<Take, PrepareFault>
+    ensures { Answers (maps.told_meter meter take) result }
+{
+    match meter {
+        None => Ok(take),
+        Some(meter) => Ok(with_meter(alloc, meter, take)?),
+    }
+}
+
+/// The take at so many quarters a minute, if they are told.
+fn told_tempo(alloc: Global, tempo: Option<u16>, take: Take) -> Result<Take, PrepareFault>
+    requires tempo { IfGiven tempo IsPace }
+    requires formed { IsTakeFormed take }
+    requires marks { AreMarksUpTo LATEST_EVENT take }
+    ensures { Answers (maps.told_tempo tempo take) result }
+{
+    match tempo {
+        None => Ok(take),
+        Some(quarters) => with_tempo(alloc, quarters, take),
+    }
+}
+
+/// The take of the upbeat, if one is told.
+fn told_upbeat(alloc: Global, upbeat: Option<Fraction>, take: Take) -> Result<Take, PrepareFault>
+    requires upbeat { IfGiven upbeat IsFraction }
+    requires formed { IsTakeFormed take }
+    requires marks { AreMarksUpTo latest_mark take }
+    ensures { Answers (maps.told_upbeat upbeat take) result }
+{
+    match upbeat {
+        None => Ok(take),
+        Some(upbeat) => with_upbeat(alloc, upbeat, take),
+    }
+}
+
+/// The take of the key, if one is told.
+fn told_key(alloc: Global, key: Option<i8>, take: Take) -> Result<Take, PrepareFault>
+    ensures { Answers (maps.told_key key take) result }
+{
+    match key {
+        None => Ok(take),
+        Some(sf) => Ok(with_key(alloc, sf, take)?),
+    }
+}
+
+/// The take prepared by the options: drums, split, meter, tempo, upbeat and key, in this order. A fault is that of the first map that
+/// has one.
+pub fn prepared(alloc: Global, options: &Options, take: Take) -> Result<Take, PrepareFault>
+    requires range { AreInRange options.now }
+    requires formed { IsTakeFormed take }
+    requires marks { AreMarksUpTo LATEST_EVENT take }
+    ensures answer { Answers (maps.prepared options.now take) result }
+    ensures formed { IfOk result IsTakeFormed }
+{
+    let pitched = told_drums(alloc, options.no_drums, take)?;
+    let split = told_split(alloc, options.split, pitched)?;
+    let metered = told_meter(alloc, options.meter, split)?;
+    let timed = told_tempo(alloc, options.tempo, metered)?;
+    let placed = told_upbeat(alloc, options.upbeat, timed)?;
+    told_key(alloc, options.key, placed)
+}
