@@ -22,8 +22,12 @@ help_lines =
     ∷ codes "Commands:"
     ∷ codes "  transcribe MIDI GRAMMAR   Reads a MIDI file and a grammar file, and writes the"
     ∷ codes "                            score."
-    ∷ codes "  lily MIDI GRAMMAR         Reads the two files, and writes the score as a text"
-    ∷ codes "                            from which LilyPond makes a page."
+    ∷ codes "  page MIDI GRAMMAR         Reads the two files, and writes the score as a page:"
+    ∷ codes "                            a text that LilyPond engraves as it is."
+    ∷ codes "  musicxml MIDI GRAMMAR     Reads the two files, and writes the score for score"
+    ∷ codes "                            editors, as MusicXML."
+    ∷ codes "  lily MIDI GRAMMAR         Reads the two files, and writes the events of the"
+    ∷ codes "                            score as LilyPond text, for other programs."
     ∷ codes "  render MIDI GRAMMAR       Reads the two files, and writes the score as a MIDI"
     ∷ codes "                            file: each note where it is notated."
     ∷ codes "  edit MIDI GRAMMAR         Reads the two files and then, on standard input, an"
@@ -77,4 +81,4 @@ help_text = text_of_lines help_lines
 
 -- the name of the program and its version
 unfoldable pub version_text : List ℕ
-version_text = text_of_lines (codes "rhythm 1.1" ∷ [])
+version_text = text_of_lines (codes "rhythm 1.2" ∷ [])

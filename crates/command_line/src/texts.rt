@@ -15,8 +15,12 @@ a file of weighted rhythm rules.
 Commands:
   transcribe MIDI GRAMMAR   Reads a MIDI file and a grammar file, and writes the
                             score.
-  lily MIDI GRAMMAR         Reads the two files, and writes the score as a text
-                            from which LilyPond makes a page.
+  page MIDI GRAMMAR         Reads the two files, and writes the score as a page:
+                            a text that LilyPond engraves as it is.
+  musicxml MIDI GRAMMAR     Reads the two files, and writes the score for score
+                            editors, as MusicXML.
+  lily MIDI GRAMMAR         Reads the two files, and writes the events of the
+                            score as LilyPond text, for other programs.
   render MIDI GRAMMAR       Reads the two files, and writes the score as a MIDI
                             file: each note where it is notated.
   edit MIDI GRAMMAR         Reads the two files and then, on standard input, an
@@ -70,5 +74,5 @@ Status:
 pub fn version_text() -> &'static str
     ensures { result.now ≡ version_text }
 {
-    "rhythm 1.1\n"
+    "rhythm 1.2\n"
 }

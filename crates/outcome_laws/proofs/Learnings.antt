@@ -1,5 +1,5 @@
 -- Weights are learned from files, or the first file that does not pass its tests has a stop.
-use Rattle.std.proofs.Common.{◌≡◌, ◌∙◌, ◌+◌, ◌<◌, ℕ, zero, suc, inl, inr, ap, arith, [], ◌∷◌, ◌++◌, List, get_or, length, refl, map, Result, Ok, Err}
+use Rattle.std.proofs.Common.{◌≡◌, ◌∙◌, ◌+◌, ◌<◌, ℕ, zero, suc, inl, inr, ap, arith, [], ◌∷◌, ◌++◌, List, length, refl, map, Ok, Err}
 use Rattle.std.specs.Prelude.{min, slice_index}
 use Rattle.answer_laws.proofs.Openings.{opening_or_fault}
 use Rattle.derivation.proofs.Pairs.{each_exist}
@@ -8,9 +8,8 @@ use Rattle.edit_session.specs.RuleLists.{AreLeastLists, AreRuleListsOf}
 use Rattle.grammar_file.specs.Printed.{printed}
 use Rattle.rhythm_app.proofs.OneOutcome.{well_formed}
 use Rattle.rhythm_app.specs.Inputs.{file_content}
-use Rattle.rhythm_app.specs.Learning.{AreAllListed, AreListed, AreOfFile, AreOfFiles, IsLearning, IsWeighed, in_file}
-use Rattle.rhythm_app.specs.Outcome.{AreInTurn, IsLoading, IsRead, Ready, midi_tests, open_stop, say}
-use Rattle.rhythm_app.specs.declared.stop.Stop.{Stop}
+use Rattle.rhythm_app.specs.Learning.{AreAllListed, AreListsOf, AreOfFile, AreOfFiles, IsWeighed, in_file}
+use Rattle.rhythm_app.specs.Outcome.{AreInTurn, IsLoading, IsRead, midi_tests, open_stop, say}
 use Rattle.rhythm_base.specs.Forest.{preorder_of}
 use Rattle.rhythm_base.specs.Grammar.{Grammar}
 use Rattle.rhythm_base.specs.Performance.{IsWellFormed, Performance}
@@ -21,7 +20,7 @@ use Rattle.rule_counts.specs.Counts.{AreRuleCounts, uses_in_all}
 use Rattle.rule_counts.specs.declared.rule_counts.TheConstants.{MOST_USES}
 use Rattle.table_laws.proofs.Performances.{derivation_or_none}
 use Rattle.weight_learning.specs.Learned.{learned}
-use Rattle.outcome_laws.specs.Laws.{AreBytes, HoldBytes, LearningsExist}
+use Rattle.outcome_laws.specs.Laws.{HoldBytes, LearningsExist}
 use Rattle.outcome_laws.proofs.FileTests.{content_bytes, read_in_range}
 use Rattle.outcome_laws.proofs.InTurn.{ComesTo, in_turn}
 use Rattle.outcome_laws.proofs.Loadings.{some_loading}
@@ -40,7 +39,7 @@ module _ (g : Grammar) (p : Performance) (readable : IsReadable g) (formed : IsW
       let voices = each_exist (AreLeastLists g p) (HasDerivation g p) p.channels (voice_lists can) can.derivations in
       (_, record { voices = voices.0; each = voices.1; are = refl })
 
-  some_listed : ComesTo (AreListed g p)
+  some_listed : ComesTo (AreListsOf g p)
   some_listed = elim (opening_or_fault g p readable formed) [
     | inl can ↦ let lists = some_lists can in (Ok lists.0, (can, lists.1))
     | inr fault ↦ (Err (open_stop fault.0), (fault.0, fault.2, fault.1, refl))
@@ -52,8 +51,8 @@ module _ (files : List File) (holds : HoldBytes files) (g : Grammar) (readable :
   some_of_file : (name : List ℕ) → ComesTo (AreOfFile g (file_content files name))
   some_of_file name =
       let bytes = file_content files name in
-      in_turn (IsRead bytes) (λ f. AreInTurn (IsLoading f) (AreListed g)) (midi_tests bytes, refl)
-      (λ f read. in_turn (IsLoading f) (AreListed g) (some_loading f (read_in_range bytes (content_bytes files name holds) f read))
+      in_turn (IsRead bytes) (λ f. AreInTurn (IsLoading f) (AreListsOf g)) (midi_tests bytes, refl)
+      (λ f read. in_turn (IsLoading f) (AreListsOf g) (some_loading f (read_in_range bytes (content_bytes files name holds) f read))
       (λ p loaded. some_listed g p readable (well_formed f p loaded)))
 
   -- a file that passes, before others

@@ -5,9 +5,12 @@ use Rattle.std.proofs.lemmas.Bool.{cases_lt}
 use Rattle.std.proofs.lemmas.List.{length-map}
 use Rattle.answer_laws.proofs.Openings.{opening_or_fault}
 use Rattle.answer_laws.proofs.Scores.{some_written_score}
+use Rattle.derivation.proofs.OneScore.{scores_one}
 use Rattle.derivation.specs.PerformanceScore.{score_bar}
 use Rattle.derivation.specs.declared.score.ScoreBar.{ScoreBar}
 use Rattle.edit_session.specs.Opening.{CanOpen}
+use Rattle.musicxml_writer.proofs.OneText as marking
+use Rattle.page_writer.proofs.OnePage as paging
 use Rattle.event_laws.proofs.VoiceEvents.{texts_have}
 use Rattle.voice_events.specs.declared.event.KernEvent.{KernEvent}
 use Rattle.rhythm_app.specs.Outcome.{AreEventsOf, IsKernTextOf, IsWriting, Ready, open_stop, say}
@@ -64,10 +67,16 @@ module _ (g : Grammar) (p : Performance) (readable : IsReadable g) (formed : IsW
 
     in_form : (f : Form) (text : List ℕ) → IsKernTextOf g p text → IsWrittenIn f
     in_form form.Score text written = (Ok (say text), (can, written))
-    in_form form.Page text written =
+    in_form form.LilyPond text written =
         let list = events_of text written in
         let page = some_page g.resolution readable.ranges.some_unit bars (length p.channels) list.0 in
         (Ok (say page.0), (can, (list.0, list.1, page.1)))
+    in_form form.Page text written =
+        let page = paging.some_page written.0.0 p.channels (scores_one.can_be_written g p written.0.0 readable formed written.0.1) in
+        (Ok (say page.0), (can, (written.0.0, text, written.0.1, written, page.1)))
+    in_form form.MusicXml text written =
+        let xml = marking.some_text written.0.0 p.channels (scores_one.can_be_written g p written.0.0 readable formed written.0.1) in
+        (Ok (say xml.0), (can, (written.0.0, text, written.0.1, written, xml.1)))
     in_form form.Rendered text written = elim (cases_lt GREATEST_QUANTITY (score_parts g.resolution bars)) [
       | inl late ↦ (
         Err (stop.RenderTooLong (score_parts g.resolution bars)),

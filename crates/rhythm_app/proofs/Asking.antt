@@ -29,7 +29,7 @@ pub unread_built : (cells : Cells) (files : Option (List File)) (built : â„•) â†
 unread_built no_cells files built = refl
 unread_built (cells_in i) files built = inl refl
 unread_built (cells_fitted i c) files built = inl refl
-unread_built (cells_followed i) files built = omega arith
+unread_built (cells_followed i) files built = inl refl
 unread_built (cells_learned midis) files built = nothing_counted files midis built
 unread_built (cells_drilled number grammar) files built = inl refl
 

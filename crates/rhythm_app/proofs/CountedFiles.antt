@@ -1,7 +1,7 @@
 -- What MIDI files come to that are counted one after another.
 use Rattle.std.proofs.Common.{◌≡◌, ◌≢◌, ◌≤◌, ◌<◌, ◌+◌, ◌⊎◌, ◌∙◌, ◌∷◌, [], ◌++◌, ℕ, zero, suc, true, false, List, Vec, length, map, get_or, take, append-nil, ap, arith, inl, inr, refl, sym, subst, IfErr, IfOk, OnOk, Option, Some, None, IsSome, Result, Ok, Err}
 use Rattle.std.specs.Option.{ForSome}
-use Rattle.std.specs.Prelude.{◌-◌, drop, flat_map, option_map, slice_get, sum}
+use Rattle.std.specs.Prelude.{◌-◌, drop, flat_map, option_map, slice_get}
 use Rattle.std.proofs.lemmas.Grind.{flat_map-append}
 use Rattle.std.proofs.lemmas.List.{take_all}
 use Rattle.std.proofs.lemmas.List.Elements.{All-head, All-tail}
@@ -16,28 +16,26 @@ use Rattle.performance_load.specs.declared.load_fault.LoadFault.{LoadFault}
 use Rattle.performance_load.specs.declared.load_fault.LoadFault.TheVariants as loading
 use Rattle.rhythm_app.proofs.Asking.{nothing_counted}
 use Rattle.rhythm_app.proofs.Opened.{same_built}
-use Rattle.rhythm_app.proofs.Performing.{content_ends, counted_alone, failure_of, read_end, read_fails}
+use Rattle.rhythm_app.proofs.Performing.{content_ends, counted_alone, failure_of, grammar_is_no_script, midi_is_no_script, read_end, read_fails}
 use Rattle.rhythm_app.proofs.Reading.{ends_early}
 use Rattle.rhythm_app.proofs.Scoring.{open_content}
 use Rattle.rhythm_app.proofs.Sessions.{built_more, no_failure}
 use Rattle.rhythm_app.proofs.Stops.{early_built}
 use Rattle.rhythm_app.specs.Asked.{learn}
 use Rattle.rhythm_app.specs.Builds.{HasBuilt, HasBuiltAll, MatchBuilds}
-use Rattle.rhythm_app.specs.Commands.{HasNames, HasOutcomeOf, HaveNames, Named, cells_learned, named, no_cells}
-use Rattle.rhythm_app.specs.Counting.{AreFilesCounted, AreFilesRead, HasPerformance, IsFileBuilt, IsFileCounted, IsFileFailure, IsFilePartlyBuilt, IsMidiLoading, IsOfMidi, IsPerformanceCounted, IsReadAndCounted, IsTextLearned}
+use Rattle.rhythm_app.specs.Commands.{HasNames, HasOutcomeOf, HaveNames, Named, cells_learned, named, no_cells, one_of_several}
+use Rattle.rhythm_app.specs.Counting.{AreFilesCounted, HasPerformance, IsFileBuilt, IsFileCounted, IsFileFailure, IsFilePartlyBuilt, IsMidiLoading, IsOfMidi, IsPerformanceCounted, IsReadAndCounted, IsTextLearned}
 use Rattle.rhythm_app.specs.Ends.{IsCauseOf}
 use Rattle.rhythm_app.specs.Inputs.{file_content}
-use Rattle.rhythm_app.specs.Learning.{AreAllListed, AreCellsBuilt, AreFirstBuilt, AreOfFile, AreOfFiles, AreSomeBuilt, HasCells, HasLearnedOf, HaveCells, IsLearning, PassBefore, in_file, midi_stop_of}
+use Rattle.rhythm_app.specs.Learning.{AreAllListed, AreCellsBuilt, AreFirstBuilt, AreOfFile, AreOfFiles, AreSomeBuilt, HasCells, HasLearnedOf, HaveCells, IsLearning, in_file}
 use Rattle.rhythm_app.specs.Lent.{Lent}
 use Rattle.rhythm_app.specs.Outcome.{IsUnderstood, IsUnopened, load_stop, open_stop, say}
-use Rattle.rhythm_app.specs.Stages.{CountsAlone, CountsUp, EndsBy, EndsReading, Follows, HasRules, HasText, IsEarly, IsFailure, IsOfContent, IsUnread, ReadsAlone, ReadsShelf}
+use Rattle.rhythm_app.specs.Stages.{CountsAlone, CountsUp, EndsReading, Follows, HasRules, HasText, IsEarly, IsFailure, IsOfContent, IsUnread, ReadsAlone, ReadsShelf}
 use Rattle.rhythm_app.specs.declared.stop.Kind.TheVariants as kind
-use Rattle.rhythm_app.specs.declared.stop.MidiStop.TheVariants as midi
 use Rattle.rhythm_app.specs.declared.stop.Stop.{Stop}
 use Rattle.rhythm_app.specs.declared.stop.Stop.TheVariants as stop
 use Rattle.rhythm_base.specs.Counter.{risen}
 use Rattle.rhythm_base.specs.Grammar.{Grammar}
-use Rattle.rhythm_base.specs.Lists.{Each}
 use Rattle.rhythm_base.specs.Performance.{Performance}
 use Rattle.rhythm_base.specs.declared.bar_fault.BarFault.TheVariants as laying
 use Rattle.rhythm_ports.specs.Causes.{Rose}
@@ -52,9 +50,6 @@ use Rattle.weight_learning.specs.Learned.{learned}
 
 none_some : false ≡ true → ⊥
 none_some e = cc
-
-not_script : kind.Midi ≢ kind.Script
-not_script e = cc
 
 pub unread_own : (s : Stop) → IsUnread kind.Midi s → IsOfMidi s
 unread_own stop.Usage h = absurd h
@@ -345,7 +340,7 @@ module _ {S O E : Type 0} (g : Grammar) (name : List ℕ) (counts : List ℕ) (o
         (sym (same_built old mid h.reads)) (early_built _ _ old.built s (ends_early kind.Midi old.shelf_faults mid.shelf_faults s h.end));
     strays = h.strays;
     read = record {
-      end = read_end kind.Midi old.shelf_faults mid.shelf_faults s h.end not_script;
+      end = read_end kind.Midi old.shelf_faults mid.shelf_faults s h.end midi_is_no_script;
       later = h.later;
       rises = (omega (arith, same_built old mid h.reads), omega (arith, ap (λ (l : Lent S O E). l.multiplied) h.reads));
       alone = counted_alone old mid mid h.reads refl;
@@ -456,7 +451,7 @@ pub record AreCountedUpTo {S O E : Type 0} (g : Grammar) (midis : List (List ℕ
   pub had : ForSome old.files (λ files. (lists : List (List ℕ)) × AreOfFiles g files (take n midis) lists × AreRaisedBy (length g.rules) lists counts counted)
   pub of_each : length counted ≡ length counts
   pub all : AreFirstBuilt old.files midis n old.built new.built
-  pub strays : ForSome old.files (λ files. HaveNames files (map (named kind.Midi) midis) → new.strays ≡ old.strays)
+  pub strays : ForSome old.files (λ files. HaveNames files (map one_of_several midis) → new.strays ≡ old.strays)
   pub later : old.shelf_faults ≤ new.shelf_faults
   pub rises : (old.built ≤ new.built) × (old.multiplied ≤ new.multiplied)
   pub alone : ReadsAlone old new
@@ -472,11 +467,11 @@ none_counted g midis counts old = record {
   alone = refl;
 }
 
-name_at : (files : List File) (midis : List (List ℕ)) (n : ℕ) → n < length midis → HaveNames files (map (named kind.Midi) midis) → file_of files (get_or midis n []) ≢ None
+name_at : (files : List File) (midis : List (List ℕ)) (n : ℕ) → n < length midis → HaveNames files (map one_of_several midis) → file_of files (get_or midis n []) ≢ None
 name_at files [] n lt names = absurd (omega arith)
-name_at files (m ∷ ms) zero lt names = All-head (λ (it : Named). file_of files it.name ≢ None) (named kind.Midi m) (map (named kind.Midi) ms) names
+name_at files (m ∷ ms) zero lt names = All-head (λ (it : Named). file_of files it.name ≢ None) (one_of_several m) (map one_of_several ms) names
 name_at files (m ∷ ms) (suc n) lt names =
-    name_at files ms n (omega arith) (All-tail (λ (it : Named). file_of files it.name ≢ None) (named kind.Midi m) (map (named kind.Midi) ms) names)
+    name_at files ms n (omega arith) (All-tail (λ (it : Named). file_of files it.name ≢ None) (one_of_several m) (map one_of_several ms) names)
 
 module _ {S O E : Type 0} (g : Grammar) (midis : List (List ℕ)) (n : ℕ) (lt : n < length midis) (counts counted more : List ℕ) (old mid new : Lent S O E)
     (h : AreCountedUpTo g midis n counts counted old mid) where
@@ -484,7 +479,7 @@ module _ {S O E : Type 0} (g : Grammar) (midis : List (List ℕ)) (n : ℕ) (lt 
   still files are = ap (λ (l : Lent S O E). l.files) h.alone ∙ are
 
   strays_more : ForSome mid.files (λ files. file_of files (get_or midis n []) ≢ None → new.strays ≡ mid.strays)
-      → ForSome old.files (λ files. HaveNames files (map (named kind.Midi) midis) → new.strays ≡ old.strays)
+      → ForSome old.files (λ files. HaveNames files (map one_of_several midis) → new.strays ≡ old.strays)
   strays_more strays = λ files are names. strays files (still files are) (name_at files midis n lt names) ∙ h.strays files are names
 
   -- one more
@@ -606,9 +601,6 @@ uncounted bit g midis old = record {
 some_cells : (midis : List (List ℕ)) → cells_learned midis ≢ no_cells
 some_cells midis e = cc
 
-not_script_either : kind.Grammar ≢ kind.Script
-not_script_either e = cc
-
 module _ (bit : ℕ) (grammar : List ℕ) (midis : List (List ℕ)) (g : Grammar) (files : List File) (understood : IsUnderstood (file_content files grammar) (Ok g)) where
   failure_cause : (s : Stop) → IsFileFailure g files midis s → IsCauseOf (Some (learn bit grammar midis)) files s
   failure_cause stop.Usage failed = absurd failed
@@ -649,7 +641,7 @@ module _ (bit : ℕ) (grammar : List ℕ) (midis : List (List ℕ)) (g : Grammar
 module _ {S O E : Type 0} (bit : ℕ) (grammar : List ℕ) (midis : List (List ℕ)) (old mid : Lent S O E) where
   grammar_strays : ForSome old.files (λ files. file_of files grammar ≢ None → mid.strays ≡ old.strays)
       → ForSome old.files (λ files. HasNames files (Some (learn bit grammar midis)) → mid.strays ≡ old.strays)
-  grammar_strays strays files are names = strays files are (All-head (λ (it : Named). file_of files it.name ≢ None) (named kind.Grammar grammar) (map (named kind.Midi) midis) names)
+  grammar_strays strays files are names = strays files are (All-head (λ (it : Named). file_of files it.name ≢ None) (named kind.Grammar grammar) (map one_of_several midis) names)
 
   -- the grammar is not had
   pub unlearned : {A : Type 0} (s : Stop) → HasRules grammar old mid (Err s) → HasText {A = A} (Some (learn bit grammar midis)) old mid (Err s)
@@ -658,7 +650,7 @@ module _ {S O E : Type 0} (bit : ℕ) (grammar : List ℕ) (midis : List (List �
     all = tt;
     before = record {
       cause = λ files are. caused files (h.tests files are);
-      end = read_end kind.Grammar old.shelf_faults mid.shelf_faults s h.end not_script_either;
+      end = read_end kind.Grammar old.shelf_faults mid.shelf_faults s h.end grammar_is_no_script;
       built = subst (λ m. HasLearnedOf old.files midis old.built m s) (sym (same_built old mid h.reads)) (early_learned old.files midis old.built s (ends_early kind.Grammar old.shelf_faults mid.shelf_faults s h.end));
       strays = grammar_strays h.strays;
       rises = (omega (arith, same_built old mid h.reads), omega (arith, ap (λ (l : Lent S O E). l.multiplied) h.reads));
@@ -670,7 +662,7 @@ module _ {S O E : Type 0} (bit : ℕ) (grammar : List ℕ) (midis : List (List �
       caused : (files : List File) → Follows (IsUnderstood (file_content files grammar)) (Err s) → IsCauseOf (Some (learn bit grammar midis)) files s
       caused files (inl is) = inl (inl is)
       caused files (inr failed) =
-          inr (failure_of (learn bit grammar midis) files s (read_fails kind.Grammar (named kind.Grammar grammar ∷ map (named kind.Midi) midis) files old.shelf_faults mid.shelf_faults not_script_either (inl refl) s failed h.end))
+          inr (failure_of (learn bit grammar midis) files s (read_fails kind.Grammar (named kind.Grammar grammar ∷ map one_of_several midis) files old.shelf_faults mid.shelf_faults grammar_is_no_script (inl (refl, refl)) s failed h.end))
 
   module _ (g : Grammar) (h : HasRules grammar old mid (Ok g)) (new : Lent S O E) where
     shelf_then : ReadsAlone mid new → ReadsAlone old new
@@ -692,7 +684,7 @@ module _ {S O E : Type 0} (bit : ℕ) (grammar : List ℕ) (midis : List (List �
         end = end r k.files.read.end;
         built = built r k.files.built;
         strays = λ files are names.
-            k.files.strays files (still_there files are) (All-tail (λ (it : Named). file_of files it.name ≢ None) (named kind.Grammar grammar) (map (named kind.Midi) midis) names)
+            k.files.strays files (still_there files are) (All-tail (λ (it : Named). file_of files it.name ≢ None) (named kind.Grammar grammar) (map one_of_several midis) names)
             ∙ grammar_strays h.strays files are names;
         rises = (omega (arith, k.files.read.rises.0, same_built old mid h.reads), omega (arith, k.files.read.rises.1, ap (λ (l : Lent S O E). l.multiplied) h.reads));
         no_cells = λ e. absurd (some_cells midis e);

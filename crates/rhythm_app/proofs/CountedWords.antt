@@ -1,4 +1,4 @@
--- Three words, or seven, one by one.
+-- Two words, three, or seven, one by one.
 use Rattle.std.proofs.Common.{◌≡◌, ℕ, arith, List, [], ◌∷◌, length, slice_get, Some}
 
 pub seven_words : (ws : List (List ℕ)) (a b c d e f g : List ℕ) → length ws ≡ 7 → Some a ≡ slice_get ws 0 → Some b ≡ slice_get ws 1 → Some c ≡ slice_get ws 2 → Some d ≡ slice_get ws 3
@@ -19,3 +19,9 @@ three_words (p ∷ []) a b c size ha hb hc = absurd (omega (arith, size))
 three_words (p ∷ (q ∷ [])) a b c size ha hb hc = absurd (omega (arith, size))
 three_words (p ∷ (q ∷ (r ∷ []))) a b c size ha hb hc = cc
 three_words (p ∷ (q ∷ (r ∷ (s ∷ ws)))) a b c size ha hb hc = absurd (omega (arith, size))
+
+pub two_words : (ws : List (List ℕ)) (a b : List ℕ) → length ws ≡ 2 → Some a ≡ slice_get ws 0 → Some b ≡ slice_get ws 1 → ws ≡ a ∷ (b ∷ [])
+two_words [] a b size ha hb = absurd (omega (arith, size))
+two_words (p ∷ []) a b size ha hb = absurd (omega (arith, size))
+two_words (p ∷ (q ∷ [])) a b size ha hb = cc
+two_words (p ∷ (q ∷ (r ∷ ws))) a b size ha hb = absurd (omega (arith, size))

@@ -16,7 +16,7 @@ use Rattle.rhythm_app.specs.Outcome.{AreInTurn, IsDrilling, IsPieceMade, IsPiece
 use Rattle.rhythm_app.specs.Lent.{Lent}
 use Rattle.rhythm_app.specs.Stages.{CountsAlone, EndsBy, Follows, HasRules, HasText, IsEarly, IsOfContent, ReadsShelf, said_of}
 use Rattle.rhythm_app.specs.declared.stop.Kind.TheVariants as kind
-use Rattle.rhythm_app.proofs.Performing.{content_ends, counted_alone, read_cause, read_end}
+use Rattle.rhythm_app.proofs.Performing.{content_ends, counted_alone, grammar_is_no_script, read_cause, read_end}
 use Rattle.rhythm_app.proofs.Reading.{ends_early}
 use Rattle.rhythm_app.proofs.Sessions.{said_follow, stage_cause, stage_ready}
 use Rattle.rhythm_app.specs.declared.stop.Stop.{Stop}
@@ -158,9 +158,6 @@ module _ (fs : Option (List File)) (number : ℕ) (grammar : List ℕ) (g : Gram
 
 -- ---- the text of a drill
 
-not_script : kind.Grammar ≢ kind.Script
-not_script e = cc
-
 some_cells : (number : ℕ) (grammar : List ℕ) → cells_drilled number grammar ≡ no_cells → ⊥
 some_cells number grammar e = cc
 
@@ -182,8 +179,8 @@ module _ {S O E A : Type 0} (number : ℕ) (grammar : List ℕ) (old mid : Lent 
     text = tt;
     all = tt;
     before = record {
-      cause = λ files are. read_cause (drill number grammar) kind.Grammar grammar files (IsUnderstood (file_content files grammar)) refl (λ s h. inl h) old.shelf_faults mid.shelf_faults s (h.tests files are) h.end not_script;
-      end = read_end kind.Grammar old.shelf_faults mid.shelf_faults s h.end not_script;
+      cause = λ files are. read_cause (drill number grammar) kind.Grammar grammar files (IsUnderstood (file_content files grammar)) refl (λ s h. inl h) old.shelf_faults mid.shelf_faults s (h.tests files are) h.end grammar_is_no_script;
+      end = read_end kind.Grammar old.shelf_faults mid.shelf_faults s h.end grammar_is_no_script;
       built = subst (λ n. HasBuilt (cells_drilled number grammar) old.files old.built n s) (sym (same_built number grammar old mid h.reads)) (early_drilled _ _ _ old.built s (early_end number grammar old mid s h.end));
       strays = same_strays number grammar old mid h.strays;
       rises = (omega (arith, same_built number grammar old mid h.reads), omega (arith, ap (λ (l : Lent S O E). l.multiplied) h.reads));

@@ -1,5 +1,5 @@
 -- What the stages of a fit come to together.
-use Rattle.std.proofs.Common.{◌≡◌, ◌≢◌, ◌≤◌, ◌⊎◌, ◌∷◌, [], ◌∙◌, ℕ, List, Vec, ap, arith, inl, inr, refl, sym, subst, IfErr, IfOk, OnOk, Some, Result, Ok, Err}
+use Rattle.std.proofs.Common.{◌≡◌, ◌≢◌, ◌≤◌, ◌⊎◌, ◌∷◌, [], ◌∙◌, ℕ, List, Vec, ap, inl, inr, refl, sym, subst, IfErr, IfOk, OnOk, Some, Result, Ok, Err}
 use Rattle.std.specs.Option.{ForSome}
 use Rattle.barline_fit.specs.Builds.{AreReachedAt, AreWithinReach}
 use Rattle.barline_fit.specs.Candidates.{ticks_of}

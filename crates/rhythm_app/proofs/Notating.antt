@@ -1,8 +1,10 @@
 -- What a writer of another form is handed: the events of a score, its bars and its voices.
 use Rattle.rhythm_base.specs.declared.limits.TheConstants.{MOST_VOICES}
-use Rattle.std.proofs.Common.{◌≡◌, ◌≤◌, ◌∙◌, ℕ, List, ap, length, map, sym, subst}
-use Rattle.derivation.specs.PerformanceScore.{score_bar}
+use Rattle.std.proofs.Common.{◌≡◌, ◌≤◌, ◌∙◌, ℕ, List, ap, arith, length, map, sym, subst}
+use Rattle.derivation.specs.PerformanceScore.{AreLeastSounds, IsScoreOf, score_bar}
+use Rattle.derivation.specs.Score.{Score}
 use Rattle.derivation.specs.declared.score.ScoreBar.{ScoreBar}
+use Rattle.edit_session.proofs.EachRuns.{Each-length}
 use Rattle.event_laws.proofs.VoiceEvents.{texts_have}
 use Rattle.voice_events.specs.declared.event.KernEvent.{KernEvent}
 use Rattle.rhythm_app.specs.Outcome.{AreEventsOf}
@@ -12,6 +14,11 @@ use Rattle.rhythm_base.specs.Readable.{IsReadable}
 use Rattle.smf_writer.specs.RenderedFile.{AreChannels}
 use Rattle.voice_events.specs.VoiceEvents.{AreVoiceEvents}
 use Rattle.voice_events.specs.Writable.{IsWritable}
+
+-- a score has a voice for each channel of the performance
+pub as_many : (g : Grammar) (p q : Performance) (s : Score) (channels : List ℕ) → IsScoreOf g p s → q ≡ p → channels ≡ q.channels → length channels ≡ length s.voices
+as_many g p q s channels is same own =
+    omega (arith, ap (λ (c : List ℕ). length c) own, ap (λ (q : Performance). length q.channels) same, Each-length (AreLeastSounds g p) p.channels s.voices is.voices)
 
 module _ (g : Grammar) (p : Performance) (list : List KernEvent) (readable : IsReadable g) (formed : IsWellFormed p) (are : AreEventsOf g p list) where
   all_writable : IsWritable g.resolution (map (score_bar p) p.bars) (length p.channels)

@@ -30,12 +30,17 @@ use Rattle.voice_events.specs.declared.event.KernEvent.{KernEvent}
 use Rattle.kern_reader.specs.declared.fault.KernFault.{KernFault}
 use Rattle.derivation.proofs.OneScore.{scores_one}
 use Rattle.derivation.specs.PerformanceScore.{score_bar}
+use Rattle.derivation.specs.Score.{IsScore, Score}
 use Rattle.kern_writer.proofs.OneText.{texts_one}
 use Rattle.kern_writer.specs.PerformanceText.{HasTooLongText, IsTextOf}
 use Rattle.kern_writer.specs.Text.{IsScoreText, IsTooLong}
 use Rattle.lily_writer.proofs.OnePage.{pages_one}
 use Rattle.lily_writer.specs.Text.{IsLilyText}
+use Rattle.musicxml_writer.proofs.OneText as marking
+use Rattle.musicxml_writer.specs.Text.{IsMusicXml}
 use Rattle.notes_writer.proofs.OneOrder as noting
+use Rattle.page_writer.proofs.OnePage as paging
+use Rattle.page_writer.specs.Page.{IsPage}
 use Rattle.performance_load.proofs.OneLoading.{one_loading}
 use Rattle.performance_load.specs.Loading.{Loads}
 use Rattle.performance_load.specs.declared.load_fault.LoadFault.{LoadFault}
@@ -49,8 +54,8 @@ use Rattle.rhythm_app.specs.Asked.{Asked, help, version, write, answer, fit, too
 use Rattle.rhythm_app.specs.Commands.{HasOutcomeOf}
 use Rattle.rhythm_app.specs.Inputs.{Inputs, file_content}
 use Rattle.rhythm_app.specs.Laws.{OutcomesAreOne}
-use Rattle.rhythm_app.specs.Learning.{AreAllListed, AreListed, AreOfFile, AreOfFiles, IsFirstStop, IsLearning, IsWeighed, in_file}
-use Rattle.rhythm_app.specs.Outcome.{AreEventsOf, AreInTurn, AreInputs, AreFilesRead, FitsScore, IsAnswering, IsFitting, IsFormOf, IsListing, IsLoading, IsNoting, IsRead, IsScoreRead, IsTooLongToWrite, IsUnfitted, IsUnwritten, IsWriting, fit_stop, fit_text, IsDrilling, IsFollowing, IsPieceMade, IsPieceOf, IsTooLongDrill, Ready, say, serve, IsUnderstood, IsUnopened, grammar_tests, kern_tests, limit_of, load_stop, open_stop, passed, stopped}
+use Rattle.rhythm_app.specs.Learning.{AreAllListed, AreListsOf, AreOfFile, AreOfFiles, IsFirstStop, IsLearning, IsWeighed, in_file}
+use Rattle.rhythm_app.specs.Outcome.{AreEventsOf, AreInTurn, AreInputs, AreFilesRead, FitsScore, IsAnswering, IsFitting, IsFormOf, IsListing, IsLoading, IsNoting, IsRead, IsScoreRead, IsTooLongToWrite, IsUnfitted, IsUnwritten, IsWriting, IsWrittenOf, fit_stop, fit_text, IsDrilling, IsFollowing, IsPieceMade, IsPieceOf, IsTooLongDrill, Ready, say, serve, IsUnderstood, IsUnopened, grammar_tests, kern_tests, limit_of, load_stop, open_stop, passed, stopped}
 use Rattle.rhythm_app.specs.declared.request.Form.{Form}
 use Rattle.rhythm_app.specs.declared.request.Form.TheVariants as form
 use Rattle.rhythm_app.specs.declared.request.Talk.{Talk}
@@ -131,11 +136,23 @@ module _ (g : Grammar) (p : Performance) (read : IsReadable g) (formed : IsWellF
       let score = same_columns h.score k.score (sym h.read ∙ ap score_of same ∙ k.read) in
       one_list k.score a b (well_score k.text k.score (omega (arith, short)) k.read) (subst (λ (s : KernColumns). AreEvents s a) score h.are) k.are
 
+  -- what is written of the score itself
+  module _ (Is : Score → List ℕ → List ℕ → Type 0) (one : (s : Score) (channels a b : List ℕ) → IsScore s → Is s channels a → Is s channels b → a ≡ b) where
+    one_written_of : (a b : List ℕ) → IsWrittenOf Is g p a → IsWrittenOf Is g p b → a ≡ b
+    one_written_of a b (s, kern, is, short, text) (t, kern', is', short', text') =
+        let same = scores_one.score g p s t read formed is is' in
+        one t p.channels a b (scores_one.can_be_written g p t read formed is') (subst (λ (x : Score). Is x p.channels a) same text) text'
+
+    score_short : (text : List ℕ) (line : ℕ) → IsWrittenOf Is g p text → HasTooLongText g p line → ⊥
+    score_short text line (s, kern, is, short, written) k = not_too_long kern line short.0 short.1 k
+
   one_of_form : (f : Form) (a b : List ℕ) → IsFormOf f g p a → IsFormOf f g p b → a ≡ b
   one_of_form form.Score a b h k = one_text a b h.0 k.0
-  one_of_form form.Page a b (list, are, page) (other, others, page') =
+  one_of_form form.LilyPond a b (list, are, page) (other, others, page') =
       pages_one g.resolution (map (score_bar p) p.bars) (length p.channels) other a b read.ranges.some_unit
       (subst (λ (l : List KernEvent). IsLilyText g.resolution (map (score_bar p) p.bars) (length p.channels) l a) (one_events list other are others) page) page'
+  one_of_form form.Page a b h k = one_written_of IsPage paging.pages_one a b h k
+  one_of_form form.MusicXml a b h k = one_written_of IsMusicXml marking.texts_one a b h k
   one_of_form form.Rendered a b (list, are, file) (other, others, file') =
       files_one g.resolution (map (score_bar p) p.bars) p.channels other a b
       (subst (λ (l : List KernEvent). IsRendered g.resolution (map (score_bar p) p.bars) p.channels l a) (one_events list other are others) file) file'
@@ -143,29 +160,39 @@ module _ (g : Grammar) (p : Performance) (read : IsReadable g) (formed : IsWellF
   -- no form is written of a score that is too long
   form_short : (f : Form) (text : List ℕ) (line : ℕ) → IsFormOf f g p text → HasTooLongText g p line → ⊥
   form_short form.Score text line h k = not_too_long text line h.0 h.1 k
-  form_short form.Page text line (list, are, page) k = not_too_long are.text line are.written.0 are.written.1 k
+  form_short form.LilyPond text line (list, are, page) k = not_too_long are.text line are.written.0 are.written.1 k
+  form_short form.Page text line h k = score_short IsPage paging.pages_one text line h k
+  form_short form.MusicXml text line h k = score_short IsMusicXml marking.texts_one text line h k
   form_short form.Rendered text line (list, are, file) k = not_too_long are.text line are.written.0 are.written.1 k
 
   -- what is written in a form is not unwritten
   form_written : (f : Form) (text : List ℕ) (s : Stop) → IsFormOf f g p text → IsUnwritten f g p s → ⊥
   form_written form.Score text s h k = absurd k
+  form_written form.LilyPond text s h k = absurd k
   form_written form.Page text s h k = absurd k
+  form_written form.MusicXml text s h k = absurd k
   form_written form.Rendered bytes s (list, are, file) (text, tick, can, written, fault, same) = omega (arith, file.early, fault.0, fault.1)
 
   -- where a score is not written in its form a session is opened, and the score is not too long
   apart : (f : Form) (s t : Stop) → IsUnopened g p s → IsUnwritten f g p t → ⊥
   apart form.Score s t h k = absurd k
+  apart form.LilyPond s t h k = absurd k
   apart form.Page s t h k = absurd k
+  apart form.MusicXml s t h k = absurd k
   apart form.Rendered s t h (text, tick, can, written, fault, same) = opened s can h
 
   too_long_apart : (f : Form) (s t : Stop) → IsTooLongToWrite g p s → IsUnwritten f g p t → ⊥
   too_long_apart form.Score s t h k = absurd k
+  too_long_apart form.LilyPond s t h k = absurd k
   too_long_apart form.Page s t h k = absurd k
+  too_long_apart form.MusicXml s t h k = absurd k
   too_long_apart form.Rendered s t h (text, tick, can, written, fault, same) = not_too_long text h.0 written.0 written.1 h.2
 
   one_unwritten : (f : Form) (s t : Stop) → IsUnwritten f g p s → IsUnwritten f g p t → s ≡ t
   one_unwritten form.Score s t h k = absurd h
+  one_unwritten form.LilyPond s t h k = absurd h
   one_unwritten form.Page s t h k = absurd h
+  one_unwritten form.MusicXml s t h k = absurd h
   one_unwritten form.Rendered s t (text, tick, can, written, fault, same) (text', tick', can', written', fault', same') =
       same ∙ ap stop.RenderTooLong (fault.0 ∙ sym fault'.0) ∙ sym same'
 
@@ -263,7 +290,7 @@ module _ (g : Grammar) (p : Performance) (read : IsReadable g) (formed : IsWellF
 
   -- ---- the rule lists
 
-  one_list_of_lists : IsOne (AreListed g p)
+  one_list_of_lists : IsOne (AreListsOf g p)
   one_list_of_lists (Ok a) (Ok b) h k = ap Ok (are_one g p a b formed h.1 k.1)
   one_list_of_lists (Ok a) (Err t) h k = absurd (opened t h.0 k)
   one_list_of_lists (Err s) (Ok b) h k = absurd (opened s k.0 h)
@@ -328,8 +355,8 @@ made_formed number p (q, piece, e) = let same : q ≡ p = back p q e in subst Is
 module _ (g : Grammar) (read : IsReadable g) where
   one_of_file : (bytes : List ℕ) → IsOne (AreOfFile g bytes)
   one_of_file bytes =
-      in_turn_one (IsRead bytes) (λ f. AreInTurn (IsLoading f) (AreListed g)) (one_read bytes)
-      (λ f _. in_turn_one (IsLoading f) (AreListed g) (one_loaded f) (λ p loaded. one_list_of_lists g p read (well_formed f p loaded)))
+      in_turn_one (IsRead bytes) (λ f. AreInTurn (IsLoading f) (AreListsOf g)) (one_read bytes)
+      (λ f _. in_turn_one (IsLoading f) (AreListsOf g) (one_loaded f) (λ p loaded. one_list_of_lists g p read (well_formed f p loaded)))
 
   module _ (files : List File) (midis : List (List ℕ)) where
     abbrev Passes : List ℕ → List (List ℕ) → Type 0

@@ -19,6 +19,15 @@ use Rattle.rhythm_ports.specs.Files.{File}
 
 -- ---- the files of a command
 
+pub midi_is_no_script : kind.Midi ≢ kind.Script
+midi_is_no_script e = cc
+
+pub grammar_is_no_script : kind.Grammar ≢ kind.Script
+grammar_is_no_script e = cc
+
+pub kern_is_no_script : kind.Kern ≢ kind.Script
+kern_is_no_script e = cc
+
 -- a read that fails is that of a file that is come to
 module _ (k : Kind) (reads : List Named) (files : List File) (before now : ℕ) (other : k ≢ kind.Script) (comes : ComesTo files k reads) where
   read_at : (j : Kind) → j ≡ k → IsReadFailure reads files (stop.Read j)
@@ -89,7 +98,7 @@ module _ (asked : Asked) (k : Kind) (name : List ℕ) (files : List File) {T : T
   pub read_cause : (s : Stop) → Follows first (Err s) → EndsBy k before now s → k ≢ kind.Script → IsCauseOf (Some asked) files s
   read_cause s (inl h) end other = inl (outcome s h)
   read_cause s (inr failed) end other =
-      let fails = read_fails k (named k name ∷ []) files before now other (inl refl) s failed end in
+      let fails = read_fails k (named k name ∷ []) files before now other (inl (refl, refl)) s failed end in
       inr (failure_of asked files s (subst (λ (n : List Named). IsReadFailure n files s) (sym reads) fails))
 
 -- a stage that reads a file ends before anything is written

@@ -1,11 +1,14 @@
 -- What a request comes to is what the words come to.
-use Rattle.std.proofs.Common.{◌≡◌, ℕ, subst, sym, ◌∙◌, Option, Some, None, Result, Err}
+use Rattle.std.proofs.Common.{◌≡◌, ℕ, List, subst, sym, ◌∙◌, Option, Some, None, Result, Err}
 use Rattle.rhythm_app.specs.Asked.{Asked, too_many_candidates, too_many_files}
+use Rattle.rhythm_app.specs.Builds.{HasBuilt}
+use Rattle.rhythm_app.specs.Commands.{HasOutcomeOf, cells_of_asked}
 use Rattle.rhythm_app.specs.Ends.{IsPerformed}
 use Rattle.rhythm_app.specs.Lent.{Lent}
-use Rattle.rhythm_app.specs.Stages.{HasText}
+use Rattle.rhythm_app.specs.Stages.{EndsReading, HasText}
 use Rattle.rhythm_app.specs.declared.stop.Stop.{Stop}
 use Rattle.rhythm_app.specs.declared.stop.Stop.TheVariants as stop
+use Rattle.rhythm_ports.specs.Files.{File}
 use Rattle.std.proofs.Common.{refl, inl, arith}
 
 some_is_none : (a : Asked) → ◌≡◌ {A = Option Asked} (Some a) None → ⊥
@@ -29,15 +32,16 @@ nothing_asked {S} {O} {E} {T} asked old none = subst (λ (a : Option Asked). IsP
   err = (refl, refl, refl);
 })
 
--- too many candidates are asked for, or too many files: no file is read
-pub too_many_candidates_had : {S O E A : Type 0} (count : ℕ) (old : Lent S O E) → HasText {A = A} (Some (too_many_candidates count)) old old (Err (stop.TooManyCandidates count))
-too_many_candidates_had count old = record {
+-- a command that reads no file ends by the stop that its words come to
+unread_stop : {S O E A : Type 0} (asked : Asked) (s : Stop) (old : Lent S O E) → ((files : List File) → HasOutcomeOf (Some asked) files (Err s)) → EndsReading old.shelf_faults old.shelf_faults s
+    → HasBuilt (cells_of_asked (Some asked)) old.files old.built old.built s → HasText {A = A} (Some asked) old old (Err s)
+unread_stop asked s old outcome end built = record {
   text = tt;
   all = tt;
   before = record {
-    cause = λ files are. inl refl;
-    end = tt;
-    built = refl;
+    cause = λ files are. inl (outcome files);
+    end = end;
+    built = built;
     strays = λ files are names. refl;
     rises = (omega arith, omega arith);
     no_cells = λ _. refl;
@@ -45,17 +49,10 @@ too_many_candidates_had count old = record {
   };
 }
 
+-- too many candidates are asked for
+pub too_many_candidates_had : {S O E A : Type 0} (count : ℕ) (old : Lent S O E) → HasText {A = A} (Some (too_many_candidates count)) old old (Err (stop.TooManyCandidates count))
+too_many_candidates_had count old = unread_stop (too_many_candidates count) (stop.TooManyCandidates count) old (λ files. refl) tt refl
+
+-- too many files are
 pub too_many_files_had : {S O E A : Type 0} (count : ℕ) (old : Lent S O E) → HasText {A = A} (Some (too_many_files count)) old old (Err (stop.TooManyFiles count))
-too_many_files_had count old = record {
-  text = tt;
-  all = tt;
-  before = record {
-    cause = λ files are. inl refl;
-    end = tt;
-    built = refl;
-    strays = λ files are names. refl;
-    rises = (omega arith, omega arith);
-    no_cells = λ _. refl;
-    alone = refl;
-  };
-}
+too_many_files_had count old = unread_stop (too_many_files count) (stop.TooManyFiles count) old (λ files. refl) tt refl

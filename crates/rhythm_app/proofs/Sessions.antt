@@ -1,11 +1,11 @@
 -- What the stages of a command come to together.
-use Rattle.std.proofs.Common.{◌≡◌, ◌≤◌, ◌⊎◌, ◌∷◌, [], ℕ, List, Vec, arith, inl, inr, refl, sym, subst, IfErr, IfOk, OnOk, Option, Some, Result, Ok, Err}
+use Rattle.std.proofs.Common.{◌≡◌, ◌≤◌, ◌⊎◌, ℕ, List, Vec, arith, inl, inr, refl, sym, subst, IfErr, IfOk, OnOk, Option, Some, Result, Ok, Err}
 use Rattle.std.specs.Option.{ForSome}
-use Rattle.std.specs.Prelude.{◌≢◌, IsOk}
+use Rattle.std.specs.Prelude.{IsOk}
 use Rattle.edit_session.specs.Opening.{CanOpen}
 use Rattle.edit_session.specs.Session.{Session}
 use Rattle.rhythm_app.proofs.InTurn.{next_follows, stop_follows}
-use Rattle.rhythm_app.proofs.Performing.{failure_of, read_fails}
+use Rattle.rhythm_app.proofs.Performing.{failure_of, grammar_is_no_script, midi_is_no_script, read_fails}
 use Rattle.rhythm_app.proofs.Scoring.{unopened_answering}
 use Rattle.rhythm_app.specs.Asked.{Asked}
 use Rattle.rhythm_app.specs.Builds.{MatchBuilds, OfInputs}
@@ -104,18 +104,12 @@ no_failure outcome x (inr failed) = absurd failed
 
 -- ---- the inputs
 
-not_script : kind.Midi ≢ kind.Script
-not_script e = cc
-
-nor_script : kind.Grammar ≢ kind.Script
-nor_script e = cc
-
 module _ (i : Inputs) (files : List File) where
   -- the MIDI file is not had
   pub unread_midi : (before now : ℕ) (s : Stop) → Follows (IsRead (file_content files i.midi)) (Err s) → EndsBy kind.Midi before now s
       → AreInputs i files (Err s) ⊎ IsReadFailure (input_files i) files s
   unread_midi before now s (inl h) end = inl (inl h)
-  unread_midi before now s (inr failed) end = inr (read_fails kind.Midi (input_files i) files before now not_script (inl refl) s failed end)
+  unread_midi before now s (inr failed) end = inr (read_fails kind.Midi (input_files i) files before now midi_is_no_script (inl (refl, refl)) s failed end)
 
   module _ (f : Smf) where
     passes : IsRead (file_content files i.midi) (Ok f) → IsOk (midi_tests (file_content files i.midi))
@@ -126,7 +120,7 @@ module _ (i : Inputs) (files : List File) where
         → EndsBy kind.Grammar before now s → AreInputs i files (Err s) ⊎ IsReadFailure (input_files i) files s
     unread_grammar before now s (inl read) (inl h) end = inl (inr (f, read, inl h))
     unread_grammar before now s (inl read) (inr failed) end =
-        inr (read_fails kind.Grammar (input_files i) files before now nor_script (inr (passes read, inl refl)) s failed end)
+        inr (read_fails kind.Grammar (input_files i) files before now grammar_is_no_script (inr (passes read, inl (refl, refl))) s failed end)
     unread_grammar before now s (inr failed) h end = absurd failed
 
     module _ (g : Grammar) (read : Follows (IsRead (file_content files i.midi)) (Ok f)) (understood : Follows (IsUnderstood (file_content files i.grammar)) (Ok g)) where

@@ -1,5 +1,5 @@
 -- The answering of a script over what is lent.
-use Rattle.std.proofs.Common.{◌≡◌, ◌≤◌, ◌∙◌, ℕ, List, ap, arith, inr, refl, sym, subst, IfErr, OnOk, Some, Result, Ok, Err}
+use Rattle.std.proofs.Common.{◌≡◌, ◌≤◌, ◌∙◌, ap, arith, inr, refl, sym, subst, IfErr, OnOk, Some, Result, Ok, Err}
 use Rattle.edit_session.specs.Opening.{cells_of}
 use Rattle.edit_session.specs.Session.{Session}
 use Rattle.rhythm_app.specs.Asked.{Asked, answer}

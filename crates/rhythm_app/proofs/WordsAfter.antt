@@ -9,7 +9,7 @@ HaveWords [] = Unit {0}
 HaveWords (c ∷ more) = ((words : List (List ℕ)) × IsSome (c.asked words)) × HaveWords more
 
 calls_have_words : HaveWords calls
-calls_have_words = (([] ∷ [] ∷ [], refl), (([] ∷ [] ∷ [], refl), (([] ∷ [] ∷ [], refl), (([] ∷ [] ∷ [], refl), (([] ∷ [] ∷ [], refl), (([] ∷ [] ∷ codes "0" ∷ codes "0" ∷ codes "0" ∷ codes "1" ∷ [], refl), (([] ∷ [] ∷ [], refl), ((codes "1" ∷ [] ∷ [] ∷ [], refl), (([] ∷ [], refl), (([] ∷ [], refl), ((codes "0" ∷ codes "1" ∷ [], refl), ((codes "0" ∷ [] ∷ [], refl), tt))))))))))))
+calls_have_words = (([] ∷ [] ∷ [], refl), (([] ∷ [] ∷ [], refl), (([] ∷ [] ∷ [], refl), (([] ∷ [] ∷ [], refl), (([] ∷ [] ∷ [], refl), (([] ∷ [] ∷ [], refl), (([] ∷ [] ∷ [], refl), (([] ∷ [] ∷ codes "0" ∷ codes "0" ∷ codes "0" ∷ codes "1" ∷ [], refl), (([] ∷ [] ∷ [], refl), ((codes "1" ∷ [] ∷ [] ∷ [], refl), (([] ∷ [], refl), (([] ∷ [], refl), ((codes "0" ∷ codes "1" ∷ [], refl), ((codes "0" ∷ [] ∷ [], refl), tt))))))))))))))
 
 none_is_some : false ≡ true → ⊥
 none_is_some e = cc

@@ -116,7 +116,9 @@ call word after asked = record { word = word; after = after; asked = asked }
 abbrev pub calls : List Call
 calls =
     call (codes "transcribe") (codes "MIDI GRAMMAR") (of_inputs (write form.Score))
-    ∷ call (codes "lily") (codes "MIDI GRAMMAR") (of_inputs (write form.Page))
+    ∷ call (codes "lily") (codes "MIDI GRAMMAR") (of_inputs (write form.LilyPond))
+    ∷ call (codes "page") (codes "MIDI GRAMMAR") (of_inputs (write form.Page))
+    ∷ call (codes "musicxml") (codes "MIDI GRAMMAR") (of_inputs (write form.MusicXml))
     ∷ call (codes "render") (codes "MIDI GRAMMAR") (of_inputs (write form.Rendered))
     ∷ call (codes "edit") (codes "MIDI GRAMMAR") (of_inputs (answer talk.Editing))
     ∷ call (codes "studio") (codes "MIDI GRAMMAR") (of_inputs (answer talk.Studio))
@@ -181,9 +183,13 @@ shown_request (request.Generate number bars) = generate number bars
 shown_request (request.Drill number grammar) = drill number grammar.now
 
 -- a text is asked for, and no answer to a script
-abbrev pub IsText : Request → Type 0
-IsText (request.Answer talk inputs) = ⊥
-IsText _ = ⊤
+abbrev pub AsksForText : Request → Type 0
+AsksForText (request.Answer talk inputs) = ⊥
+AsksForText _ = ⊤
+
+-- a word, the names of the inputs, and four words more
+abbrev pub words_of_call : List ℕ → Inputs → List ℕ → List ℕ → List ℕ → List ℕ → List (List ℕ)
+words_of_call word i a b c d = word ∷ i.midi ∷ i.grammar ∷ a ∷ b ∷ c ∷ d ∷ []
 
 -- the candidates of a barline that are tried
 pub record AreCandidates (c : Candidates) : Type 0 where

@@ -6,9 +6,12 @@ use Rattle.barline_fit.specs.Candidates.{ticks_of}
 use Rattle.barline_fit.specs.Fitted.{IsFitted}
 use Rattle.barline_fit.specs.declared.candidates.Candidates.{Candidates}
 use Rattle.barline_fit.specs.declared.fitted.Fitted.{Fitted}
+use Rattle.barline_follow.specs.Searched.{AreBuiltToFollow}
+use Rattle.barline_follow.specs.Builds.{AreMostBuilt}
 use Rattle.drill_run.specs.Ends.{HasDrilled, IsDrillBrokenOff}
 use Rattle.edit_session.specs.Opening.{cells_of}
 use Rattle.edit_session.specs.Prepared.{RisesBy}
+use Rattle.edit_session.specs.Session.{Session}
 use Rattle.rhythm_app.specs.Commands.{Cells, no_cells, cells_in, cells_fitted, cells_followed, cells_learned, cells_drilled}
 use Rattle.rhythm_app.specs.Inputs.{Inputs, file_content}
 use Rattle.rhythm_app.specs.Learning.{AreCellsBuilt, HasLearnedOf}
@@ -44,6 +47,18 @@ HasPartlyFitted c g p old new =
 abbrev pub AreSomeFitted : Candidates → Grammar → Performance → ℕ → ℕ → Type 0
 AreSomeFitted c g p old new = (new ≤ risen old (cells_of p)) ⊎ HasPartlyFitted c g p (risen old (cells_of p)) new
 
+-- the tables of the search for barlines that follow the player were built, and those of the trial of its script
+abbrev pub HasFollowed : Grammar → Performance → ℕ → ℕ → Type 0
+HasFollowed g p old new = RisesBy old new (AreBuiltToFollow g p)
+
+-- no more of these were built than there are at most
+abbrev pub HasPartlyFollowed : Grammar → Performance → ℕ → ℕ → Type 0
+HasPartlyFollowed g p old new = RisesBy old new (λ n. (most : ℕ) → AreMostBuilt g p most → n ≤ most)
+
+-- some of the cells of a performance were built, or all of them and some of these tables
+abbrev pub AreSomeFollowed : Grammar → Performance → ℕ → ℕ → Type 0
+AreSomeFollowed g p old new = (new ≤ risen old (cells_of p)) ⊎ HasPartlyFollowed g p (risen old (cells_of p)) new
+
 -- a grammar file and the number of a piece say this grammar and this performance, and P holds of them
 abbrev pub ForPiece : List ℕ → ℕ → (Grammar → Performance → Type 0) → Type 0
 ForPiece bytes number P = (g : Grammar) × (p : Performance) × IsUnderstood bytes (Ok g) × IsPieceOf number p × P g p
@@ -53,12 +68,12 @@ abbrev pub AreDrilled : List ℕ → ℕ → Result (List ℕ) ℕ → ℕ → �
 AreDrilled bytes number said old new = ForPiece bytes number (λ g p. HasDrilled g number p said (risen old (cells_of p)) new)
 
 -- all cells of the command's performance were built. A fit builds, besides, those for its candidates, barlines that follow the player those
--- between them, and a drill those for its edits. A command that has no cells leaves the counter as it was
+-- of the search for them, and a drill those for its edits. A command that has no cells leaves the counter as it was
 abbrev pub HasBuiltAll : Cells → List File → ℕ → ℕ → Type 0
 HasBuiltAll no_cells files old new = new ≡ old
 HasBuiltAll (cells_in i) files old new = ForInputs i files (λ g p. new ≡ risen old (cells_of p))
 HasBuiltAll (cells_fitted i c) files old new = ForInputs i files (λ g p. HasFitted c g p (risen old (cells_of p)) new)
-HasBuiltAll (cells_followed i) files old new = ForInputs i files (λ g p. risen old (cells_of p) ≤ new)
+HasBuiltAll (cells_followed i) files old new = ForInputs i files (λ g p. HasFollowed g p (risen old (cells_of p)) new)
 HasBuiltAll (cells_learned midis) files old new = AreCellsBuilt files midis old new
 HasBuiltAll (cells_drilled number grammar) files old new = (text : List ℕ) × AreDrilled (file_content files grammar) number (Ok text) old new
 
@@ -75,6 +90,14 @@ MatchBuilds all some none (Read kind.Script) = ⊤
 MatchBuilds all some none (FileTooLong kind.Script _) = ⊤
 MatchBuilds all some none (LineTooLong _) = ⊤
 MatchBuilds all some none _ = none
+
+-- the same of a performance on which a session is opened
+abbrev pub HasBuiltFor : Performance → ℕ → ℕ → Stop → Type 0
+HasBuiltFor p old new = MatchBuilds (new ≡ risen old (cells_of p)) (new ≤ risen old (cells_of p)) (new ≡ old)
+
+-- and where barlines follow the player
+abbrev pub HasFollowedFor : Grammar → Performance → ℕ → ℕ → Stop → Type 0
+HasFollowedFor g p old new = MatchBuilds (new ≡ risen old (cells_of p)) (AreSomeFollowed g p old new) (new ≡ old)
 
 -- inputs say a grammar and a performance of which P holds, where the files are told
 abbrev pub OfInputs : Inputs → Option (List File) → (Grammar → Performance → Type 0) → Type 0
@@ -97,6 +120,18 @@ MatchFitted all tried fitted some none Memory = some
 MatchFitted all tried fitted some none Write = ⊤
 MatchFitted all tried fitted some none _ = none
 
+-- the same of the fit of a barline over a session
+abbrev pub HasFittedOver : Candidates → Session → ℕ → ℕ → Stop → Type 0
+HasFittedOver c s old new =
+    MatchFitted (new ≡ old) (HasTried c s.grammar s.performance old new) (HasFitted c s.grammar s.performance old new)
+    (HasPartlyFitted c s.grammar s.performance old new) ⊥
+
+-- and of a performance, on which a session is opened
+abbrev pub HasFittedFor : Candidates → Grammar → Performance → ℕ → ℕ → Stop → Type 0
+HasFittedFor c g p old new =
+    MatchFitted (new ≡ risen old (cells_of p)) (HasTried c g p (risen old (cells_of p)) new) (HasFitted c g p (risen old (cells_of p)) new)
+    (AreSomeFitted c g p old new) (new ≡ old)
+
 -- the same of the fit of a barline of inputs
 abbrev pub HasFittedOf : Inputs → Option (List File) → Candidates → ℕ → ℕ → Stop → Type 0
 HasFittedOf i files c old new =
@@ -104,9 +139,11 @@ HasFittedOf i files c old new =
     (OfInputs i files (λ g p. HasFitted c g p (risen old (cells_of p)) new)) ((new ≡ old) ⊎ OfInputs i files (λ g p. AreSomeFitted c g p old new))
     (new ≡ old)
 
--- the same of barlines that follow the player: where memory is wanting, no more is said than that some are built
+-- the same of barlines that follow the player
 abbrev pub HasFollowedOf : Inputs → Option (List File) → ℕ → ℕ → Stop → Type 0
-HasFollowedOf i files old new = MatchBuilds (OfInputs i files (λ g p. new ≡ risen old (cells_of p))) (old ≤ new) (new ≡ old)
+HasFollowedOf i files old new =
+    MatchBuilds (OfInputs i files (λ g p. new ≡ risen old (cells_of p))) ((new ≡ old) ⊎ OfInputs i files (λ g p. AreSomeFollowed g p old new))
+    (new ≡ old)
 
 -- what holds of the cells of a drill by the stop: as of those of a file, but where the last score is too long, those for the edits are
 -- built, too; and where memory is wanting, some of these may be
@@ -120,6 +157,19 @@ MatchDrilled all long some none _ = none
 -- some of the cells of a performance were built, or all of them and some of those for the edits of its drill
 abbrev pub AreSomeDrilled : Grammar → ℕ → Performance → ℕ → ℕ → Type 0
 AreSomeDrilled g number p old new = (new ≤ risen old (cells_of p)) ⊎ IsDrillBrokenOff g number p (risen old (cells_of p)) new
+
+-- the cells for the edits of the drill of a number over a session were built, which comes to this
+abbrev pub HasDrilledOver : Session → ℕ → Result (List ℕ) ℕ → ℕ → ℕ → Type 0
+HasDrilledOver s number said old new = HasDrilled s.grammar number s.performance said old new
+
+-- all cells of a performance were built, and then those for the edits of its drill, which comes to this
+abbrev pub HasDrilledAll : Grammar → ℕ → Performance → Result (List ℕ) ℕ → ℕ → ℕ → Type 0
+HasDrilledAll g number p said old new = HasDrilled g number p said (risen old (cells_of p)) new
+
+-- what holds of the cells of a drill of a performance by the stop
+abbrev pub HasDrilledFor : Grammar → ℕ → Performance → ℕ → ℕ → Stop → Type 0
+HasDrilledFor g number p old new =
+    MatchDrilled (new ≡ risen old (cells_of p)) (λ line. HasDrilledAll g number p (Err line) old new) (AreSomeDrilled g number p old new) (new ≡ old)
 
 -- the same of the cells of a drill by a grammar file
 abbrev pub HasDrilledOf : Option (List File) → ℕ → List ℕ → ℕ → ℕ → Stop → Type 0

@@ -1,5 +1,5 @@
 -- The commands, a row each: the files that it reads, what it comes to by their bytes, and which cells it builds.
-use Rattle.std.specs.Prelude.{◌≡◌, ◌≢◌, ℕ, List, [], ◌∷◌, All, map, Result, Ok, Err, Option, Some, None, ⊤}
+use Rattle.std.specs.Prelude.{◌≡◌, ◌≢◌, ℕ, Bool, true, false, List, [], ◌∷◌, All, map, Result, Ok, Err, Option, Some, None, ⊤}
 use Rattle.command_line.specs.Texts.{help_text, version_text}
 use Rattle.barline_fit.specs.declared.candidates.Candidates.{Candidates}
 use Rattle.rhythm_app.specs.Asked.{Asked, help, version, write, answer, fit, learn, too_many_candidates, too_many_files, follow, notes, events, generate, drill, asked_by}
@@ -26,13 +26,17 @@ pub data Cells : Type 0 where
   cells_learned : List (List ℕ) → Cells
   cells_drilled : ℕ → List ℕ → Cells
 
--- a file that a command reads: which input it is, and its name
+-- a file that a command reads: which input it is, its name, and whether it is one of several, of which a stop tells the number
 pub record Named : Type 0 where
   pub kind : Kind
   pub name : List ℕ
+  pub by_number : Bool
 
 abbrev pub named : Kind → List ℕ → Named
-named kind name = record { kind = kind; name = name }
+named kind name = record { kind = kind; name = name; by_number = false }
+
+abbrev pub one_of_several : List ℕ → Named
+one_of_several name = record { kind = kind.Midi; name = name; by_number = true }
 
 -- the files that a command reads, in their order; what it comes to by the files; which cells it builds
 pub record Command : Type 1 where
@@ -60,7 +64,7 @@ command (answer talk i) = on_inputs i (IsAnswering talk) (cells_in i)
 command (fit i c) = on_inputs i (IsFitting c) (cells_fitted i c)
 command (too_many_candidates count) = record { reads = []; outcome = λ files r. r ≡ Err (TooManyCandidates count); cells = no_cells }
 command (learn bit grammar midis) = record {
-  reads = named kind.Grammar grammar ∷ map (named kind.Midi) midis;
+  reads = named kind.Grammar grammar ∷ map one_of_several midis;
   outcome = λ files. AreInTurn (IsUnderstood (file_content files grammar)) (IsLearning bit files midis);
   cells = cells_learned midis;
 }
@@ -96,6 +100,10 @@ ReadsNoScript _ = ⊤
 -- the files have each of these names
 abbrev pub HaveNames : List File → List Named → Type 0
 HaveNames files reads = All (λ (it : Named). file_of files it.name ≢ None) reads
+
+-- they have those of the inputs
+abbrev pub HaveInputs : List File → Inputs → Type 0
+HaveInputs files i = HaveNames files (input_files i)
 
 -- the files have every name of the command
 abbrev pub HasNames : List File → Option Asked → Type 0

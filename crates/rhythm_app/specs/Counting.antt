@@ -4,9 +4,9 @@ use Rattle.std.specs.Option.{ForSome}
 use Rattle.edit_session.specs.Opening.{CanOpen, cells_of}
 use Rattle.edit_session.specs.RuleLists.{AreRuleListsOf}
 use Rattle.rhythm_app.specs.Builds.{MatchBuilds}
-use Rattle.rhythm_app.specs.Commands.{HaveNames, named}
+use Rattle.rhythm_app.specs.Commands.{HaveNames, one_of_several}
 use Rattle.rhythm_app.specs.Inputs.{file_content}
-use Rattle.rhythm_app.specs.Learning.{AreAllListed, AreCellsBuilt, AreListed, AreOfFile, AreOfFiles, HasCells, HasLearnedOf, IsLearning, PassBefore, midi_stop_of}
+use Rattle.rhythm_app.specs.Learning.{AreAllListed, AreCellsBuilt, AreOfFile, AreOfFiles, HasCells, HasLearnedOf, IsLearning, PassBefore, midi_stop_of}
 use Rattle.rhythm_app.specs.Lent.{Lent}
 use Rattle.rhythm_app.specs.Outcome.{AreInTurn, IsLoading, IsRead, IsUnopened, say}
 use Rattle.rhythm_app.specs.Stages.{CountsUp, EndsBy, EndsReading, Follows, ReadsAlone, ReadsShelf}
@@ -87,10 +87,10 @@ IsFileFailure g files midis stop.Memory = ⊤
 IsFileFailure g files midis _ = ⊥
 
 -- what several files leave, whatever comes of them
-pub record AreFilesRead {S O E : Type 0} (midis : List (List ℕ)) (old new : Lent S O E) {T : Type 0} (result : Result T Stop) : Type 0 where
+pub record IsEachCounted {S O E : Type 0} (midis : List (List ℕ)) (old new : Lent S O E) {T : Type 0} (result : Result T Stop) : Type 0 where
   pub all : OnOk result (ForSome old.files (λ files. AreCellsBuilt files midis old.built new.built))
   pub built : IfErr result (HasLearnedOf old.files midis old.built new.built)
-  pub strays : ForSome old.files (λ files. HaveNames files (map (named kind.Midi) midis) → new.strays ≡ old.strays)
+  pub strays : ForSome old.files (λ files. HaveNames files (map one_of_several midis) → new.strays ≡ old.strays)
   pub read : IsReadAndCounted old new result
 
 -- the rules in the least derivations of these files were counted besides
@@ -99,10 +99,10 @@ pub record AreFilesCounted {S O E : Type 0} (g : Grammar) (midis : List (List �
       (lists : List (List ℕ)) × AreOfFiles g files midis lists × AreRaisedBy (length g.rules) lists counts counted))
   pub of_each : length counted ≡ length counts
   pub cause : IfErr result (λ s. ForSome old.files (λ files. AreAllListed g files midis (Err s) ⊎ IsFileFailure g files midis s))
-  pub files : AreFilesRead midis old new result
+  pub files : IsEachCounted midis old new result
 
 -- the text of the grammar with learned weights is had
 pub record IsTextLearned {S O E A : Type 0} (bit : ℕ) (g : Grammar) (midis : List (List ℕ)) (old new : Lent S O E) (result : Result (Vec ℕ A) Stop) : Type 0 where
   pub text : IfOk result (λ v. ForSome old.files (λ files. IsLearning bit files midis g (Ok (say v.items))))
   pub cause : IfErr result (λ s. ForSome old.files (λ files. IsLearning bit files midis g (Err s) ⊎ IsFileFailure g files midis s))
-  pub files : AreFilesRead midis old new result
+  pub files : IsEachCounted midis old new result

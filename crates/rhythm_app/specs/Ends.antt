@@ -1,5 +1,5 @@
 -- How a run may end, by what stood before it, `old`, and after it, `new`.
-use Rattle.std.specs.Prelude.{◌≡◌, ◌≢◌, ℕ, ◌+◌, ◌⊎◌, ◌<◌, ◌≤◌, List, [], ◌∷◌, ◌++◌, length, take, IfErr, OnOk, Result, Ok, Err, Option, Some, None, IsOk, ⊤}
+use Rattle.std.specs.Prelude.{◌≡◌, ◌≢◌, ℕ, ◌+◌, ◌⊎◌, ◌<◌, ◌≤◌, false, List, [], ◌∷◌, ◌++◌, length, take, IfErr, OnOk, Result, Ok, Err, Option, Some, None, IsOk, ⊤}
 use Rattle.std.specs.Io.KnownBytes.{Appends}
 use Rattle.std.specs.Option.{ForSome}
 use Rattle.edit_session.specs.Opening.{cells_of}
@@ -71,6 +71,10 @@ IsTalkDone old new t g p last = script.IsDone (desk_of t g p) old.rest new.rest 
 abbrev pub IsBrokenOff : {S O E : Type 0} → ScriptStop → Lent S O E → Lent S O E → Talk → Grammar → Performance → Editing → Type 0
 IsBrokenOff s old new t g p last = script.IsScriptStopped s (desk_of t g p) old.rest new.rest old.taken new.taken last
 
+-- a script is answered over a session as W says, and the cells for its edits were built
+abbrev pub HasTalked : {S O E : Type 0} → (Editing → Type 0) → Lent S O E → Lent S O E → Type 0
+HasTalked W old new = (last : Editing) × W last × (new.built ≡ risen old.built last.built)
+
 -- all is written: the text, or the replies to the script
 abbrev pub IsAnswered : {S O E : Type 0} → Option Asked → List File → Lent S O E → Lent S O E → Type 0
 IsAnswered asked files old new = IsTextSaid asked files (Appends old.taken new.taken) old new ⊎ IsServed asked files (IsTalkDone old new) old new
@@ -105,10 +109,10 @@ Passes kind.Grammar bytes = IsOk (grammar_tests bytes)
 Passes kind.Kern bytes = IsOk (kern_tests bytes)
 Passes kind.Script bytes = ⊤
 
--- one of the files that are read is this input, and all files before it pass their tests
+-- one of the files that are read is this input, and no number is told of it, and all files before it pass their tests
 abbrev pub ComesTo : List File → Kind → List Named → Type 0
 ComesTo files kind [] = ⊥
-ComesTo files kind (it ∷ more) = (it.kind ≡ kind) ⊎ (Passes it.kind (file_content files it.name) × ComesTo files kind more)
+ComesTo files kind (it ∷ more) = ((it.kind ≡ kind) × (it.by_number ≡ false)) ⊎ (Passes it.kind (file_content files it.name) × ComesTo files kind more)
 
 -- want of memory, or a failed read of one of the files, where all before it pass their tests
 abbrev pub IsReadFailure : List Named → List File → Stop → Type 0
@@ -199,6 +203,14 @@ Tells old new before now stop = Reports old new before now (stop_line stop)
 -- err took it
 abbrev pub IsStopTold : {S O E : Type 0} → Lent S O E → Lent S O E → Stop → Type 0
 IsStopTold old new stop = Tells old.told new.told old.err_faults new.err_faults stop
+
+-- it stopped, by a stop of this status, and err was told
+abbrev pub IsStoppedBy : {S O E : Type 0} → Option Asked → ℕ → Lent S O E → Lent S O E → Type 0
+IsStoppedBy asked status old new = (stop : Stop) × (status_of stop ≡ status) × IsStopped asked old new stop × IsStopTold old new stop
+
+-- a write failed: a first part of the text was taken
+abbrev pub IsWriteCut : Option (List ℕ) → Option (List ℕ) → ℕ → ℕ → List ℕ → Stop → Type 0
+IsWriteCut old new before now text stop = (stop ≡ Write) × Rose before now × AppendsPart old new text
 
 -- ---- completeness
 

@@ -6,7 +6,7 @@ use Rattle.edit_session.specs.Opening.{CanOpen, cells_of}
 use Rattle.edit_session.specs.RuleLists.{AreRuleListsOf}
 use Rattle.grammar_file.specs.Printed.{printed}
 use Rattle.rhythm_app.specs.Inputs.{file_content}
-use Rattle.rhythm_app.specs.Outcome.{AreInTurn, IsLoading, IsRead, IsUnderstood, IsUnopened, Ready, say, serve}
+use Rattle.rhythm_app.specs.Outcome.{AreInTurn, IsLoading, IsRead, IsUnopened, Ready, say, serve}
 use Rattle.rhythm_app.specs.declared.stop.Kind.TheVariants as kind
 use Rattle.rhythm_app.specs.declared.stop.MidiStop.{MidiStop}
 use Rattle.rhythm_app.specs.declared.stop.MidiStop.TheVariants as midi
@@ -23,13 +23,13 @@ use Rattle.weight_learning.specs.Learned.{learned}
 -- ---- one file
 
 -- the rule lists of the least derivations of a performance, or why no session is opened on it
-abbrev pub AreListed : Grammar → Performance → Result (List (List ℕ)) Stop → Type 0
-AreListed g p (Ok lists) = CanOpen g p × AreRuleListsOf g p lists
-AreListed g p (Err s) = IsUnopened g p s
+abbrev pub AreListsOf : Grammar → Performance → Result (List (List ℕ)) Stop → Type 0
+AreListsOf g p (Ok lists) = CanOpen g p × AreRuleListsOf g p lists
+AreListsOf g p (Err s) = IsUnopened g p s
 
 -- those of a MIDI file, or the first of its tests that fails
 abbrev pub AreOfFile : Grammar → List ℕ → Result (List (List ℕ)) Stop → Type 0
-AreOfFile g bytes = AreInTurn (IsRead bytes) (λ f. AreInTurn (IsLoading f) (AreListed g))
+AreOfFile g bytes = AreInTurn (IsRead bytes) (λ f. AreInTurn (IsLoading f) (AreListsOf g))
 
 -- the stop by a MIDI file that this is, where it is one
 abbrev pub midi_stop_of : Stop → Option MidiStop

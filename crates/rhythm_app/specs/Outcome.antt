@@ -8,15 +8,19 @@ use Rattle.std.specs.Prelude.{◌≡◌, ◌≢◌, ℕ, ◌+◌, ◌≤◌, ◌
 use Rattle.barline_fit.specs.Candidates.{ticks_of}
 use Rattle.barline_fit.specs.Fitted.{IsFitFault, IsFitted}
 use Rattle.barline_fit.specs.FittedScore.{IsFittedScore}
+use Rattle.barline_fit.specs.Tries.{IsScoreAt}
+use Rattle.barline_fit.specs.declared.candidates.Candidate.{Candidate}
 use Rattle.barline_fit.specs.declared.candidates.Candidates.{Candidates}
 use Rattle.barline_fit.specs.declared.fit_fault.FitFault.{FitFault}
 use Rattle.barline_fit.specs.declared.fit_fault.FitFault.TheVariants as fitting
 use Rattle.barline_fit.specs.declared.fitted.Fitted.{Fitted}
 use Rattle.barline_follow.specs.Answer.{IsAnswer}
-use Rattle.derivation.specs.PerformanceScore.{score_bar}
+use Rattle.derivation.specs.PerformanceScore.{IsScoreOf, score_bar}
+use Rattle.derivation.specs.Score.{Score}
 use Rattle.drill_run.specs.Ends.{IsDrillOf}
 use Rattle.drill_run.specs.declared.piece.TheConstants.{DRILL_BARS}
 use Rattle.edit_session.specs.Opening.{CanOpen, IsOpenFault}
+use Rattle.edit_session.specs.Session.{Session}
 use Rattle.edit_session.specs.declared.open_fault.OpenFault.{OpenFault}
 use Rattle.edit_session.specs.declared.open_fault.OpenFault.TheVariants as opening
 use Rattle.grammar_file.specs.Grammar.{grammar_of}
@@ -27,8 +31,10 @@ use Rattle.kern_reader.specs.Score.{KernColumns}
 use Rattle.voice_events.specs.declared.event.KernEvent.{KernEvent}
 use Rattle.kern_writer.specs.PerformanceText.{HasTooLongText, IsTextOf}
 use Rattle.lily_writer.specs.Text.{IsLilyText}
+use Rattle.musicxml_writer.specs.Text.{IsMusicXml}
 use Rattle.note_list.specs.declared.fault.NoteFault.TheVariants as note
 use Rattle.notes_writer.specs.NotesText.{IsNotesText}
+use Rattle.page_writer.specs.Page.{IsPage}
 use Rattle.performance_load.specs.Loading.{Loads}
 use Rattle.performance_load.specs.declared.load_fault.LoadFault.{LoadFault}
 use Rattle.performance_load.specs.declared.load_fault.LoadFault.TheVariants as loading
@@ -152,18 +158,32 @@ pub record AreEventsOf (g : Grammar) (p : Performance) (list : List KernEvent) :
   pub read : score_of text ≡ Ok score
   pub are : AreEvents score list
 
--- the LilyPond text of the score: that of its events
-abbrev pub IsPageOf : Grammar → Performance → List ℕ → Type 0
-IsPageOf g p text = (list : List KernEvent) × AreEventsOf g p list × IsLilyText g.resolution (map (score_bar p) p.bars) (length p.channels) list text
+-- the LilyPond text of its events
+abbrev pub IsLilyOf : Grammar → Performance → List ℕ → Type 0
+IsLilyOf g p text = (list : List KernEvent) × AreEventsOf g p list × IsLilyText g.resolution (map (score_bar p) p.bars) (length p.channels) list text
 
--- the MIDI file of the score: that of its events
+-- a text that is written of the score itself, as its relation says; the **kern text of the score is within its limit
+abbrev pub IsWrittenOf : (Score → List ℕ → List ℕ → Type 0) → Grammar → Performance → List ℕ → Type 0
+IsWrittenOf Is g p text = (s : Score) × (kern : List ℕ) × IsScoreOf g p s × IsKernTextOf g p kern × Is s p.channels text
+
+-- the page of the score
+abbrev pub IsPageOf : Grammar → Performance → List ℕ → Type 0
+IsPageOf = IsWrittenOf IsPage
+
+-- the MusicXML text of the score
+abbrev pub IsMusicXmlOf : Grammar → Performance → List ℕ → Type 0
+IsMusicXmlOf = IsWrittenOf IsMusicXml
+
+-- the MIDI file of its events
 abbrev pub IsRenderingOf : Grammar → Performance → List ℕ → Type 0
 IsRenderingOf g p bytes = (list : List KernEvent) × AreEventsOf g p list × IsRendered g.resolution (map (score_bar p) p.bars) p.channels list bytes
 
 -- what is written of a performance by a grammar in this form
 abbrev pub IsFormOf : Form → Grammar → Performance → List ℕ → Type 0
 IsFormOf form.Score = IsKernTextOf
+IsFormOf form.LilyPond = IsLilyOf
 IsFormOf form.Page = IsPageOf
+IsFormOf form.MusicXml = IsMusicXmlOf
 IsFormOf form.Rendered = IsRenderingOf
 
 -- a fault of rendering as a stop
@@ -179,7 +199,9 @@ IsTooLongToRender g p s =
 -- a session is opened, and its score is within its limit, but is not written in this form
 abbrev pub IsUnwritten : Form → Grammar → Performance → Stop → Type 0
 IsUnwritten form.Score g p s = ⊥
+IsUnwritten form.LilyPond g p s = ⊥
 IsUnwritten form.Page g p s = ⊥
+IsUnwritten form.MusicXml g p s = ⊥
 IsUnwritten form.Rendered g p s = IsTooLongToRender g p s
 
 -- what is written of a session in this form: a text, whose score is within its limit
@@ -205,6 +227,14 @@ fit_stop fitting.Memory = stop.Memory
 -- the fitted tick and its cost
 abbrev pub fit_line : Fitted → List ℕ
 fit_line x = joined_words (codes "fit " ∷ decimal x.tick ∷ codes " " ∷ decimal x.cost ∷ codes "\n" ∷ [])
+
+-- the barline at the fitted tick
+abbrev pub fitted_at : ℕ → Fitted → Candidate
+fitted_at bar x = record { bar = bar; tick = x.tick }
+
+-- there is no text of the score with a barline at a tick: it is too long, or memory is wanting
+abbrev pub IsUnscored : Session → Candidate → Stop → Type 0
+IsUnscored s c end = (end ≡ stop.Memory) ⊎ ((line : ℕ) × IsScoreAt s c (Err line) × (end ≡ stop.ScoreTooLong line))
 
 -- that line, and the score with the barline there
 abbrev pub fit_text : Fitted → List ℕ → List ℕ

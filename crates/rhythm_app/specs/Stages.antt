@@ -10,7 +10,7 @@ use Rattle.rhythm_base.specs.Grammar.{Grammar}
 use Rattle.rhythm_base.specs.Performance.{Performance}
 use Rattle.rhythm_base.specs.Readable.{IsReadable}
 use Rattle.rhythm_base.specs.declared.limits.TheConstants.{MOST_NOTES}
-use Rattle.rhythm_ports.specs.Files.{file_of}
+use Rattle.rhythm_ports.specs.Files.{File, file_of}
 use Rattle.rhythm_app.specs.Asked.{Asked}
 use Rattle.rhythm_app.specs.Builds.{HasBuilt, HasBuiltAll}
 use Rattle.rhythm_app.specs.Commands.{HasNames, HasOutcomeOf, HaveNames, cells_of_asked, input_files, no_cells}
@@ -109,6 +109,10 @@ EndsReading before now (InFile _ s) = s ≡ midi.Read → Rose before now
 EndsReading before now Write = ⊥
 EndsReading before now Usage = ⊥
 EndsReading before now _ = ⊤
+
+-- no grammar and no performance is had of the inputs: that is what they come to, or a read failed, or memory is wanting
+abbrev pub IsInputsStop : Inputs → List File → Stop → Type 0
+IsInputsStop i files stop = AreInputs i files (Err stop) ⊎ IsReadFailure (input_files i) files stop
 
 -- ---- stages of a command
 

@@ -1,5 +1,5 @@
 ghost use Rattle.rhythm_app.specs.Asked.{answer};
-ghost use Rattle.rhythm_app.specs.Ends.{IsBrokenOff, IsTalkDone, IsPerformed, IsErrUntouched, IsUntouched, desk_of};
+ghost use Rattle.rhythm_app.specs.Ends.{HasTalked, IsBrokenOff, IsErrUntouched, IsPerformed, IsTalkDone, IsUntouched, desk_of};
 ghost use Rattle.rhythm_app.specs.Inputs.{shown_inputs};
 ghost use Rattle.rhythm_app.specs.Stages.{CountersRise, HasSession};
 ghost use Rattle.rhythm_app.specs.Stops.{script_stop};
@@ -70,8 +70,8 @@ fn desk_of(alloc: Global, talk: Talk, session: Session) -> Result<Desk, ScriptSt
 
 /// Answers the lines of a script over a session.
 fn talk_over<W: World>(lent: &mut Lent<W>, talk: Talk, session: Session) -> Result<(), ScriptStop>
-    ensures done { OnOk result ((last : Editing) × IsTalkDone lent.old lent.new talk session.grammar session.performance last × (lent.new.built ≡ risen lent.old.built last.built)) }
-    ensures broken { IfErr result (λ end. (last : Editing) × IsBrokenOff end lent.old lent.new talk session.grammar session.performance last × (lent.new.built ≡ risen lent.old.built last.built)) }
+    ensures done { OnOk result (HasTalked (IsTalkDone lent.old lent.new talk session.grammar session.performance) lent.old lent.new) }
+    ensures broken { IfErr result (λ end. HasTalked (IsBrokenOff end lent.old lent.new talk session.grammar session.performance) lent.old lent.new) }
     ensures read { result ≡ Err stops.Read → Rose lent.old.script_faults lent.new.script_faults }
     ensures write { result ≡ Err stops.Write → Rose lent.old.out_faults lent.new.out_faults }
     ensures memory { result ≡ Err stops.Memory → IsUntouched lent.old lent.new }

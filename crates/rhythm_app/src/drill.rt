@@ -2,7 +2,7 @@ ghost use Rattle.drill_run.specs.Ends.{HasDrilled, IsDrillBrokenOff};
 ghost use Rattle.edit_session.specs.Opening.{cells_of};
 ghost use Rattle.drill_run.specs.declared.drill_stop.DrillStop.TheVariants as drill;
 ghost use Rattle.rhythm_app.specs.Asked as asked;
-ghost use Rattle.rhythm_app.specs.Builds.{AreSomeDrilled, MatchDrilled};
+ghost use Rattle.rhythm_app.specs.Builds.{HasDrilledAll, HasDrilledFor, HasDrilledOver};
 ghost use Rattle.rhythm_app.specs.Outcome.{IsDrilling, IsPieceOf};
 ghost use Rattle.rhythm_app.specs.Stages.{CountsUp, Follows, HasText, IsOfContent, said_of};
 ghost use Rattle.rhythm_app.specs.declared.stop.Stop.TheVariants as stop;
@@ -47,8 +47,8 @@ fn drill_over<W: World>(
     requires some_notes { 11 ≤ length session.performance.notes }
     requires two_bars { 2 ≤ length session.performance.bars }
     requires last { session.performance.last ≤ 1999999000 }
-    ensures summary { IfOk result (λ text. HasDrilled session.grammar number session.performance (Ok text.items) lent.old.built lent.new.built) }
-    ensures too_long { (line : ℕ) → result ≡ Err (drill.ScoreTooLong line) → HasDrilled session.grammar number session.performance (Err line) lent.old.built lent.new.built }
+    ensures summary { IfOk result (λ text. HasDrilledOver session number (Ok text.items) lent.old.built lent.new.built) }
+    ensures too_long { (line : ℕ) → result ≡ Err (drill.ScoreTooLong line) → HasDrilledOver session number (Err line) lent.old.built lent.new.built }
     ensures memory { result ≡ Err drill.Memory → IsDrillBrokenOff session.grammar number session.performance lent.old.built lent.new.built }
     ensures counts { CountsUp lent.old lent.new }
 {
@@ -85,10 +85,8 @@ fn drilled<W: World>(
     requires last { performance.last ≤ 1999999000 }
     ensures tests { Follows (IsDrilling grammar number performance) (said_of result) }
     ensures content { IfErr result IsOfContent }
-    ensures all { IfOk result (λ text. HasDrilled grammar number performance (Ok text.items) (risen lent.old.built (cells_of performance)) lent.new.built) }
-    ensures built { IfErr result (MatchDrilled (lent.new.built ≡ risen lent.old.built (cells_of performance))
-        (λ line. HasDrilled grammar number performance (Err line) (risen lent.old.built (cells_of performance)) lent.new.built)
-        (AreSomeDrilled grammar number performance lent.old.built lent.new.built) (lent.new.built ≡ lent.old.built)) }
+    ensures all { IfOk result (λ text. HasDrilledAll grammar number performance (Ok text.items) lent.old.built lent.new.built) }
+    ensures built { IfErr result (HasDrilledFor grammar number performance lent.old.built lent.new.built) }
     ensures counts { CountsUp lent.old lent.new }
 {
     match open_session(lent, workers, grammar, performance) {

@@ -1,6 +1,3 @@
-ghost use Rattle.barline_fit.specs.Builds.{AreReachedAt, AreWithinReach};
-ghost use Rattle.barline_fit.specs.Fitted.{IsAcceptedAt};
-ghost use Rattle.barline_fit.specs.FittedScore.{IsFittedScore};
 ghost use Rattle.barline_fit.specs.Tries.{
   CanBeSet,
   HasBuiltToFit,
@@ -11,17 +8,16 @@ ghost use Rattle.barline_fit.specs.Tries.{
   IsScoreAt,
 };
 ghost use Rattle.edit_session.specs.Opening.{CanOpen, cells_of};
-ghost use Rattle.edit_session.specs.Prepared.{RisesBy};
 ghost use Rattle.rhythm_app.specs.Asked.{AreCandidates, fit};
-ghost use Rattle.rhythm_app.specs.Builds.{AreSomeFitted, HasFitted, HasPartlyFitted, HasTried, MatchFitted};
+ghost use Rattle.rhythm_app.specs.Builds.{HasFitted, HasFittedFor, HasFittedOver};
 ghost use Rattle.rhythm_app.specs.Inputs.{shown_inputs};
-ghost use Rattle.rhythm_app.specs.Outcome.{IsFitting, fit_line, fit_stop, fit_text};
+ghost use Rattle.rhythm_app.specs.Outcome.{IsFitting, IsUnscored, fit_line, fit_stop, fit_text, fitted_at};
 ghost use Rattle.rhythm_app.specs.Stages.{CountsUp, Follows, HasText, IsOfContent, said_of};
 ghost use Rattle.rhythm_app.specs.declared.stop.Stop.TheVariants as stop;
 ghost use Rattle.rhythm_base.specs.Counter.{risen};
 ghost use Rattle.rhythm_base.specs.Readable.{IsReadable};
 ghost use Rattle.rhythm_base.specs.declared.limits.TheConstants.{MOST_NOTES};
-ghost use Rattle.std.specs.Prelude.{◌≡◌, ◌≢◌, ◌≤◌, ◌⊎◌, ◌∷◌, [], ℕ, List, Err, IfErr, IfOk, Ok, OnOk, Some, length};
+ghost use Rattle.std.specs.Prelude.{◌≡◌, ◌≢◌, ◌≤◌, ℕ, List, Err, IfErr, IfOk, Ok, OnOk, Some, length};
 
 use crate::inputs::read_inputs;
 use crate::lent::{Lent, World};
@@ -92,8 +88,7 @@ fn score_at<W: World>(
 ) -> Result<Vec<u8>, Stop>
     requires { CanBeSet session.old candidate }
     ensures text { IfOk result (λ v. IsScoreAt session.old candidate (Ok v.items)) }
-    ensures stop { IfErr result (λ s. (s ≡ stop.Memory)
-        ⊎ ((line : ℕ) × IsScoreAt session.old candidate (Err line) × (s ≡ stop.ScoreTooLong line))) }
+    ensures stop { IfErr result (IsUnscored session.old candidate) }
     ensures builds { result ≢ Err stop.Memory → HasReached session.old candidate lent.old.built lent.new.built }
     ensures most { HasReachedSome session.old candidate lent.old.built lent.new.built }
     ensures counts { CountsUp lent.old lent.new }
@@ -124,14 +119,11 @@ fn fitted_text<W: World>(
     bar: u32,
     fitted: Fitted,
 ) -> Result<Vec<u8>, Stop>
-    requires { (cost : ℕ) × IsAcceptedAt session.old.grammar session.old.performance bar fitted.tick cost }
-    ensures text { IfOk result (λ v. (score : List ℕ) × IsFittedScore session.old.grammar session.old.performance bar fitted.tick (Ok score)
-        × (v.items ≡ fit_text fitted score)) }
-    ensures stop { IfErr result (λ s. (s ≡ stop.Memory)
-        ⊎ ((line : ℕ) × IsFittedScore session.old.grammar session.old.performance bar fitted.tick (Err line) × (s ≡ stop.ScoreTooLong line))) }
-    ensures builds { result ≢ Err stop.Memory
-        → RisesBy lent.old.built lent.new.built (AreReachedAt session.old.grammar session.old.performance bar (fitted.tick ∷ [])) }
-    ensures most { RisesBy lent.old.built lent.new.built (AreWithinReach session.old.grammar session.old.performance bar (fitted.tick ∷ [])) }
+    requires { CanBeSet session.old (fitted_at bar fitted) }
+    ensures text { IfOk result (λ v. (score : List ℕ) × IsScoreAt session.old (fitted_at bar fitted) (Ok score) × (v.items ≡ fit_text fitted score)) }
+    ensures stop { IfErr result (IsUnscored session.old (fitted_at bar fitted)) }
+    ensures builds { result ≢ Err stop.Memory → HasReached session.old (fitted_at bar fitted) lent.old.built lent.new.built }
+    ensures most { HasReachedSome session.old (fitted_at bar fitted) lent.old.built lent.new.built }
     ensures counts { CountsUp lent.old lent.new }
 {
     let candidate = Candidate {
@@ -158,9 +150,7 @@ fn fit_over<W: World>(
     ensures tests { Follows (IsFitting among session.old.grammar session.old.performance) (said_of result) }
     ensures content { IfErr result IsOfContent }
     ensures all { OnOk result (HasFitted among session.old.grammar session.old.performance lent.old.built lent.new.built) }
-    ensures built { IfErr result (MatchFitted (lent.new.built ≡ lent.old.built) (HasTried among session.old.grammar session.old.performance lent.old.built lent.new.built)
-        (HasFitted among session.old.grammar session.old.performance lent.old.built lent.new.built)
-        (HasPartlyFitted among session.old.grammar session.old.performance lent.old.built lent.new.built) ⊥) }
+    ensures built { IfErr result (HasFittedOver among session.old lent.old.built lent.new.built) }
     ensures counts { CountsUp lent.old lent.new }
 {
     match tick_among(lent, session, among) {
@@ -186,10 +176,7 @@ fn fitted_by<W: World>(
     ensures tests { Follows (IsFitting among grammar performance) (said_of result) }
     ensures content { IfErr result IsOfContent }
     ensures all { OnOk result (HasFitted among grammar performance (risen lent.old.built (cells_of performance)) lent.new.built) }
-    ensures built { IfErr result (MatchFitted (lent.new.built ≡ risen lent.old.built (cells_of performance))
-        (HasTried among grammar performance (risen lent.old.built (cells_of performance)) lent.new.built)
-        (HasFitted among grammar performance (risen lent.old.built (cells_of performance)) lent.new.built)
-        (AreSomeFitted among grammar performance lent.old.built lent.new.built) (lent.new.built ≡ lent.old.built)) }
+    ensures built { IfErr result (HasFittedFor among grammar performance lent.old.built lent.new.built) }
     ensures counts { CountsUp lent.old lent.new }
 {
     match open_session(lent, workers, grammar, performance) {

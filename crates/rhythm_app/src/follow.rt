@@ -1,6 +1,6 @@
 ghost use Rattle.edit_session.specs.Opening.{CanOpen, cells_of};
 ghost use Rattle.rhythm_app.specs.Asked.{follow};
-ghost use Rattle.rhythm_app.specs.Builds.{MatchBuilds};
+ghost use Rattle.rhythm_app.specs.Builds.{HasFollowed, HasFollowedFor, HasPartlyFollowed};
 ghost use Rattle.rhythm_app.specs.Inputs.{shown_inputs};
 ghost use Rattle.rhythm_app.specs.Outcome.{IsFollowing};
 ghost use Rattle.rhythm_app.specs.Stages.{CountsUp, Follows, HasText, IsOfContent, said_of};
@@ -26,6 +26,8 @@ fn script_over<W: World>(lent: &mut Lent<W>, session: &mut Session) -> Result<Ve
     requires { CanOpen session.old.grammar session.old.performance }
     ensures tests { Follows (IsFollowing session.old.grammar session.old.performance) (said_of result) }
     ensures memory { IfErr result (λ s. s ≡ stop.Memory) }
+    ensures builds { OnOk result (HasFollowed session.old.grammar session.old.performance lent.old.built lent.new.built) }
+    ensures most { HasPartlyFollowed session.old.grammar session.old.performance lent.old.built lent.new.built }
     ensures counts { CountsUp lent.old lent.new }
 {
     let means = Means {
@@ -43,7 +45,7 @@ fn script_over<W: World>(lent: &mut Lent<W>, session: &mut Session) -> Result<Ve
     }
 }
 
-/// The same of a performance by a grammar. Each of its cells is built once, by one of the workers, and then those of the bars between
+/// The same of a performance by a grammar. Each of its cells is built once, by one of the workers, and then those of the search for
 /// other barlines.
 fn followed_by<W: World>(
     lent: &mut Lent<W>,
@@ -57,8 +59,8 @@ fn followed_by<W: World>(
     requires few_notes { length performance.notes ≤ MOST_NOTES }
     ensures tests { Follows (IsFollowing grammar performance) (said_of result) }
     ensures content { IfErr result IsOfContent }
-    ensures all { OnOk result (risen lent.old.built (cells_of performance) ≤ lent.new.built) }
-    ensures built { IfErr result (MatchBuilds (lent.new.built ≡ risen lent.old.built (cells_of performance)) (lent.old.built ≤ lent.new.built) (lent.new.built ≡ lent.old.built)) }
+    ensures all { OnOk result (HasFollowed grammar performance (risen lent.old.built (cells_of performance)) lent.new.built) }
+    ensures built { IfErr result (HasFollowedFor grammar performance lent.old.built lent.new.built) }
     ensures counts { CountsUp lent.old lent.new }
 {
     match open_session(lent, workers, grammar, performance) {

@@ -1,9 +1,9 @@
-ghost use Rattle.rhythm_app.specs.Commands.{HaveNames, input_files};
+ghost use Rattle.rhythm_app.specs.Commands.{HaveInputs, HaveNames, input_files};
 ghost use Rattle.rhythm_app.specs.Counting.{HasPerformance, IsMidiLoading, IsOfMidi};
 ghost use Rattle.rhythm_app.specs.Ends.{IsReadFailure};
 ghost use Rattle.rhythm_app.specs.Inputs.{file_content, shown_inputs};
 ghost use Rattle.rhythm_app.specs.Outcome.{AreInputs};
-ghost use Rattle.rhythm_app.specs.Stages.{EndsBy, EndsReading, Follows, HasInputs, HasRules, IsEarly};
+ghost use Rattle.rhythm_app.specs.Stages.{EndsBy, EndsReading, Follows, HasInputs, HasRules, IsEarly, IsInputsStop};
 ghost use Rattle.rhythm_app.specs.declared.stop.Kind.TheVariants as kind;
 ghost use Rattle.rhythm_ports.specs.Files.{file_of};
 ghost use Rattle.rhythm_base.specs.Readable.{IsReadable};
@@ -28,15 +28,13 @@ fn inputs_of<F: Shelf>(
     shelf: &mut F,
 ) -> Result<(Grammar, Performance), Stop>
     ensures tests { ForSome (F.files shelf.old) (λ files. Follows (AreInputs (shown_inputs inputs.entry) files) result) }
-    ensures cause { IfErr result (λ stop. ForSome (F.files shelf.old) (λ files.
-        AreInputs (shown_inputs inputs.entry) files (Err stop) ⊎ IsReadFailure (input_files (shown_inputs inputs.entry)) files stop)) }
+    ensures cause { IfErr result (λ stop. ForSome (F.files shelf.old) (λ files. IsInputsStop (shown_inputs inputs.entry) files stop)) }
     ensures readable { IfOk result (λ had. IsReadable had.0) }
     ensures few_notes { IfOk result (λ had. length had.1.notes ≤ MOST_NOTES) }
     ensures end { IfErr result (EndsReading (F.faults shelf.old) (F.faults shelf.new)) }
     ensures early { IfErr result IsEarly }
     ensures files { F.files shelf.new ≡ F.files shelf.old }
-    ensures strays { ForSome (F.files shelf.old) (λ files.
-        HaveNames files (input_files (shown_inputs inputs.entry)) → F.strays shelf.new ≡ F.strays shelf.old) }
+    ensures strays { ForSome (F.files shelf.old) (λ files. HaveInputs files (shown_inputs inputs.entry) → F.strays shelf.new ≡ F.strays shelf.old) }
 {
     let played = midi_of(alloc, shelf, inputs.midi)?;
     let grammar = grammar_of(alloc, shelf, inputs.grammar)?;

@@ -3,10 +3,11 @@ ghost use Rattle.rhythm_app.specs.Asked.{learn};
 ghost use Rattle.rhythm_app.specs.Counting.{AreFilesCounted, IsFileCounted, IsPerformanceCounted, IsTextLearned};
 ghost use Rattle.rhythm_app.specs.Learning.{in_file, midi_stop_of};
 ghost use Rattle.rhythm_app.specs.Stages.{HasText};
+ghost use Rattle.rhythm_app.specs.declared.learn.TheConstants.{MOST_FILES};
 ghost use Rattle.rhythm_app.specs.declared.stop.Stop.TheVariants as stop;
 ghost use Rattle.rhythm_base.specs.Readable.{IsReadable};
 ghost use Rattle.rhythm_base.specs.declared.limits.TheConstants.{MOST_NOTES};
-ghost use Rattle.std.specs.Prelude.{◌≡◌, ◌≤◌, IfErr, IfOk, Some, drop, length};
+ghost use Rattle.std.specs.Prelude.{◌≡◌, ◌+◌, ◌≤◌, IfErr, IfOk, Some, drop, length};
 ghost use Rattle.weight_learning.specs.Learned as learning;
 ghost use Rattle.weight_learning.specs.declared.weights.TheConstants.{HEAVIEST_BIT};
 
@@ -116,7 +117,7 @@ fn count_files<W: World>(
     requires few_workers { workers ≤ 16 }
     requires readable { IsReadable grammar.now }
     requires of_each { length counts.old ≡ length grammar.now.rules }
-    requires few_words { length words.now ≤ 259 }
+    requires few_words { length words.now ≤ MOST_FILES + 3 }
     ensures { AreFilesCounted grammar.now (drop 3 words.now) counts.old counts.new lent.old lent.new result }
 {
     'files: for place in 3..words.count() {
@@ -164,7 +165,7 @@ fn learned_by<W: World>(
     requires some_bit { 1 ≤ bit }
     requires bit_range { bit ≤ HEAVIEST_BIT }
     requires readable { IsReadable grammar.now }
-    requires few_words { length words.now ≤ 259 }
+    requires few_words { length words.now ≤ MOST_FILES + 3 }
     ensures { IsTextLearned bit grammar.now (drop 3 words.now) lent.old lent.new result }
 {
     let Ok(mut counts) = RuleCounts::zeros(lent.alloc, grammar.rules.as_slice().len()) else {
@@ -189,7 +190,7 @@ pub fn learn_text<W: World>(
     requires few_workers { workers ≤ 16 }
     requires some_bit { 1 ≤ bit }
     requires bit_range { bit ≤ HEAVIEST_BIT }
-    requires few_words { length words.now ≤ 259 }
+    requires few_words { length words.now ≤ MOST_FILES + 3 }
     ensures { HasText (Some (learn bit grammar.now (drop 3 words.now))) lent.old lent.new result }
 {
     match read_rules(lent, grammar) {

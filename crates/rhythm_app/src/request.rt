@@ -1,5 +1,5 @@
 ghost use Rattle.command_line.specs.CommandLines.{HasWorkers};
-ghost use Rattle.rhythm_app.specs.Asked.{AreCandidates, IsCommandWord, IsRequestInRange, asked_of, candidate_count, candidates_by, command_by, drill_by, fit_by, fit_of, generate_by, in_order, learn_by, shown_request, words_after, workers_asked};
+ghost use Rattle.rhythm_app.specs.Asked.{AreCandidates, IsCommandWord, IsRequestInRange, asked_of, candidate_count, candidates_by, command_by, drill_by, fit_by, fit_of, generate_by, in_order, learn_by, words_of_call, shown_request, words_after, workers_asked};
 ghost use Rattle.rhythm_app.specs.Inputs.{shown_inputs};
 ghost use Rattle.rhythm_base.specs.declared.limits.TheConstants.{LATEST_TICK};
 ghost use Rattle.std.specs.Prelude.{◌≡◌, ◌≤◌, ◌↔◌, ◌∷◌, [], IfSome, IsFalse, IsSome, Some, codes, drop, nat_eq, option_map};
@@ -23,9 +23,13 @@ pub struct Inputs<'a> {
 pub enum Form {
     /// The **kern text of its score.
     Score,
-    /// The LilyPond text of its score.
+    /// The LilyPond text of its events.
+    LilyPond,
+    /// The LilyPond text of its score, by its notation.
     Page,
-    /// The MIDI file of its score.
+    /// The MusicXML text of its score.
+    MusicXml,
+    /// The MIDI file of its events.
     Rendered,
 }
 
@@ -93,7 +97,9 @@ pub fn words_after(word: &str) -> Option<&'static str>
     ensures known { IsSome result ↔ IsCommandWord word.now }
 {
     match word {
-        "transcribe" | "lily" | "render" | "edit" | "studio" | "follow" => Some("MIDI GRAMMAR"),
+        "transcribe" | "lily" | "page" | "musicxml" | "render" | "edit" | "studio" | "follow" => {
+            Some("MIDI GRAMMAR")
+        }
         "fit" => Some(
             "MIDI GRAMMAR BAR LOW HIGH STEP, with BAR from 0 to 4096, LOW and HIGH from 0 to 2000000000, LOW no more than HIGH, and STEP from 1 to 2000000000",
         ),
@@ -174,7 +180,11 @@ fn request_of_two<'a>(word: &'a str, first: &'a str, second: &'a str) -> Option<
     if word == "transcribe" {
         Some(Request::Write(Form::Score, inputs))
     } else if word == "lily" {
+        Some(Request::Write(Form::LilyPond, inputs))
+    } else if word == "page" {
         Some(Request::Write(Form::Page, inputs))
+    } else if word == "musicxml" {
+        Some(Request::Write(Form::MusicXml, inputs))
     } else if word == "render" {
         Some(Request::Write(Form::Rendered, inputs))
     } else if word == "edit" {
@@ -251,7 +261,7 @@ fn request_of_six<'a>(
 ) -> Option<Request<'a>>
     requires other { IsFalse (pointwise nat_eq word.now (codes "learn")) }
     ensures asked { option_map shown_request result
-        ≡ command_by (word.entry.now ∷ inputs.entry.midi.now ∷ inputs.entry.grammar.now ∷ bar.entry.now ∷ low.entry.now ∷ high.entry.now ∷ step.entry.now ∷ []) }
+        ≡ command_by (words_of_call word.entry.now (shown_inputs inputs.entry) bar.entry.now low.entry.now high.entry.now step.entry.now) }
     ensures range { IfSome result IsRequestInRange }
 {
     if word == "fit" {

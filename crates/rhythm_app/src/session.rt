@@ -1,5 +1,5 @@
 ghost use Rattle.edit_session.specs.Opening.{CanOpen, cells_of};
-ghost use Rattle.rhythm_app.specs.Builds.{MatchBuilds};
+ghost use Rattle.rhythm_app.specs.Builds.{HasBuiltFor};
 ghost use Rattle.rhythm_app.specs.Outcome.{IsUnopened};
 ghost use Rattle.rhythm_app.specs.Stages.{CountsUp, IsOfContent};
 ghost use Rattle.rhythm_app.specs.declared.stop.Stop.TheVariants as stop;
@@ -47,7 +47,7 @@ pub fn open_session<W: World>(
     ensures unopened { IfErr result (λ s. IsUnopened grammar performance s ⊎ (s ≡ stop.Memory)) }
     ensures content { IfErr result IsOfContent }
     ensures all { OnOk result (lent.new.built ≡ risen lent.old.built (cells_of performance)) }
-    ensures built { IfErr result (MatchBuilds (lent.new.built ≡ risen lent.old.built (cells_of performance)) (lent.new.built ≤ risen lent.old.built (cells_of performance)) (lent.new.built ≡ lent.old.built)) }
+    ensures built { IfErr result (HasBuiltFor performance lent.old.built lent.new.built) }
     ensures counts { CountsUp lent.old lent.new }
 {
     let means = Means {

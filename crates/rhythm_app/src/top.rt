@@ -1,9 +1,9 @@
 ghost use Rattle.command_line.specs.CommandLines.{HasWorkers};
 ghost use Rattle.rhythm_app.specs.Asked.{asked_by, asked_of};
-ghost use Rattle.rhythm_app.specs.Ends.{AppendsPart, HasStatus, IsAnswered, IsComplete, IsPerformed, IsErrUntouched, IsStopped, IsStopTold, KeepsRest};
+ghost use Rattle.rhythm_app.specs.Ends.{AppendsPart, HasStatus, IsAnswered, IsComplete, IsErrUntouched, IsPerformed, IsStopTold, IsStopped, IsStoppedBy, IsWriteCut, KeepsRest};
 ghost use Rattle.rhythm_app.specs.Lent.{Lent as Stood};
 ghost use Rattle.rhythm_app.specs.Stages.{HasText, IsTextWritten};
-ghost use Rattle.rhythm_app.specs.Asked.{Asked, IsRequestInRange, IsText, shown_request};
+ghost use Rattle.rhythm_app.specs.Asked.{Asked, IsRequestInRange, AsksForText, shown_request};
 ghost use Rattle.rhythm_app.specs.Stops.{status_of};
 ghost use Rattle.rhythm_app.specs.declared.stop.Stop.TheVariants as stop;
 ghost use Rattle.rhythm_app.specs.declared.stop.Stop.{Stop};
@@ -33,8 +33,7 @@ use rhythm_ports::{Sink, write_all};
 /// Writes a text by one `write_all`.
 fn put<K: Sink>(sink: &mut K, text: &[u8]) -> Result<(), Stop>
     ensures all { OnOk result (Appends (K.taken sink.old) (K.taken sink.new) text.now) }
-    ensures part { IfErr result (λ end. (end ≡ stop.Write) × Rose (K.faults sink.old) (K.faults sink.new)
-        × AppendsPart (K.taken sink.old) (K.taken sink.new) text.now) }
+    ensures part { IfErr result (IsWriteCut (K.taken sink.old) (K.taken sink.new) (K.faults sink.old) (K.faults sink.new) text.now) }
 {
     match write_all(sink, text) {
         Ok(()) => Ok(()),
@@ -63,7 +62,7 @@ fn finish<W: World>(lent: &mut Lent<W>, text: Result<Vec<u8>, Stop>) -> Result<(
 fn text_asked<W: World>(lent: &mut Lent<W>, workers: u32, request: Request) -> Result<Vec<u8>, Stop>
     requires some_worker { 1 ≤ workers }
     requires few_workers { workers ≤ 16 }
-    requires text { IsText request }
+    requires text { AsksForText request }
     requires range { IsRequestInRange request }
     ensures { HasText (Some (shown_request request.entry)) lent.old lent.new result }
 {
@@ -142,7 +141,7 @@ pub fn run<W: World>(lent: &mut Lent<W>, words: &Words) -> u8
 
     // Else err took the line of the stop, which is the outcome or a failure that came, and out what was written by then. After `usage`
     // more lines say what is wrong with the words.
-    ensures stop { result ≢ 0 → (stop : Stop) × (status_of stop ≡ result) × IsStopped (asked_by words.now) lent.old lent.new stop × IsStopTold lent.old lent.new stop }
+    ensures stop { result ≢ 0 → IsStoppedBy (asked_by words.now) result lent.old lent.new }
 
     // Whatever the end: no name is opened but the command's, the script is read only by `edit` and `studio`, and no counter falls.
     ensures rest { KeepsRest (asked_by words.now) lent.old lent.new }

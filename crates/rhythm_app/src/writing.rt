@@ -1,8 +1,8 @@
+ghost use Rattle.derivation.specs.PerformanceScore.{IsScoreOf};
+ghost use Rattle.derivation.specs.Score.{IsScore};
 ghost use Rattle.edit_session.specs.Opening.{CanOpen, cells_of};
-ghost use Rattle.kern_reader.specs.Outcome.{score_of};
-ghost use Rattle.kern_reader.specs.Score.{KernColumns};
 ghost use Rattle.rhythm_app.specs.Asked.{write};
-ghost use Rattle.rhythm_app.specs.Builds.{MatchBuilds};
+ghost use Rattle.rhythm_app.specs.Builds.{HasBuiltFor};
 ghost use Rattle.rhythm_app.specs.Inputs.{shown_inputs};
 ghost use Rattle.rhythm_app.specs.Outcome.{AreEventsOf, IsKernTextOf, IsTooLongToWrite, IsWriting, render_stop};
 ghost use Rattle.rhythm_app.specs.Stages.{CountsUp, Follows, HasText, IsOfContent, IsOfWriting, said_of};
@@ -11,20 +11,25 @@ ghost use Rattle.rhythm_app.specs.declared.stop.Stop.TheVariants as stop;
 ghost use Rattle.rhythm_base.specs.Counter.{risen};
 ghost use Rattle.rhythm_base.specs.Performance.{IsWellFormed};
 ghost use Rattle.rhythm_base.specs.Readable.{IsReadable};
-ghost use Rattle.rhythm_base.specs.declared.limits.TheConstants.{LONGEST_SCORE, MOST_NOTES, MOST_VOICES};
-ghost use Rattle.std.specs.Prelude.{◌≡◌, ◌≤◌, ◌⊎◌, IfErr, IfOk, Ok, OnOk, Some, length};
+ghost use Rattle.rhythm_base.specs.declared.limits.TheConstants.{MOST_BARS, MOST_NOTES, MOST_VOICES};
+ghost use Rattle.std.specs.Prelude.{◌≡◌, ◌≤◌, ◌⊎◌, ℕ, IfErr, IfOk, List, OnOk, Some, length};
 
 use crate::inputs::read_inputs;
 use crate::lent::{Lent, World};
 use crate::request::{Form, Inputs};
 use crate::session::open_session;
 use crate::stop::Stop;
+use derivation::Score;
 use edit_session::{ScoreFault, Session};
-use kern_reader::{KernEvent, KernScore, KernWhat, read_kern};
+use kern_reader::KernEvent;
+use kern_writer::write_kern;
 use lily_writer::write_lily;
+use musicxml_writer::write_musicxml;
+use page_writer::write_page;
 use rhythm_base::{Grammar, Performance};
 use smf_writer::{RenderFault, render};
 use std::alloc::Global;
+use voice_events::events_of;
 
 /// The **kern text of the score of a session.
 fn kern_text_of(alloc: Global, session: &Session) -> Result<Vec<u8>, Stop>
@@ -39,33 +44,35 @@ fn kern_text_of(alloc: Global, session: &Session) -> Result<Vec<u8>, Stop>
     }
 }
 
-/// The score of a **kern text that was written. It has no fault.
-fn score_in(alloc: Global, text: &[u8]) -> Result<KernScore, Stop>
-    requires read { (score : KernColumns) × (score_of text.now ≡ Ok score) }
-    requires short { length text.now ≤ LONGEST_SCORE }
-    ensures score { IfOk result (λ score. score_of text.now ≡ Ok score) }
-    ensures stop { IfErr result (λ s. s ≡ stop.Memory) }
+/// The score of a session, where its **kern text is within its limit.
+fn short_score(alloc: Global, session: &Session) -> Result<Score, Stop>
+    requires { CanOpen session.now.grammar session.now.performance }
+    ensures writable { IfOk result IsScore }
+    ensures few_bars { IfOk result (λ score. length score.bars ≤ MOST_BARS) }
+    ensures score { IfOk result (λ score. IsScoreOf session.now.grammar session.now.performance score) }
+    ensures short { OnOk result ((text : List ℕ) × IsKernTextOf session.now.grammar session.now.performance text) }
+    ensures stop { IfErr result (λ s. IsTooLongToWrite session.now.grammar session.now.performance s ⊎ (s ≡ stop.Memory)) }
 {
-    match read_kern(alloc, text) {
-        Ok(score) => Ok(score),
-        Err(fault) => match fault.what {
-            KernWhat::Memory => Err(Stop::Memory),
-            _ => unreachable!(),
-        },
+    let Ok(score) = session.whole_score(alloc) else {
+        return Err(Stop::Memory);
+    };
+    match write_kern(alloc, &score) {
+        Ok(_text) => Ok(score),
+        Err(ScoreFault::TooLong { line }) => Err(Stop::ScoreTooLong { line }),
+        Err(ScoreFault::Memory) => Err(Stop::Memory),
     }
 }
 
-/// The events of the score of a session, as its **kern text is read.
-fn events_of(alloc: Global, session: &Session) -> Result<Vec<KernEvent>, Stop>
+/// The events of the score of a session.
+fn score_events(alloc: Global, session: &Session) -> Result<Vec<KernEvent>, Stop>
     requires can { CanOpen session.now.grammar session.now.performance }
     requires readable { IsReadable session.now.grammar }
     requires formed { IsWellFormed session.now.performance }
     ensures events { IfOk result (λ v. AreEventsOf session.now.grammar session.now.performance v.items) }
     ensures stop { IfErr result (λ s. IsTooLongToWrite session.now.grammar session.now.performance s ⊎ (s ≡ stop.Memory)) }
 {
-    let text = kern_text_of(alloc, session)?;
-    let score = score_in(alloc, text.as_slice())?;
-    match score.events(alloc) {
+    let score = short_score(alloc, session)?;
+    match events_of(alloc, &score) {
         Ok(events) => Ok(events),
         Err(_error) => Err(Stop::Memory),
     }
@@ -79,16 +86,16 @@ fn voice_count(performance: &Performance) -> u8
     performance.channels().len() as u8
 }
 
-/// The LilyPond text of the score of a session.
-fn page_of(alloc: Global, session: &Session, resolution: u16) -> Result<Vec<u8>, Stop>
+/// The LilyPond text of the events of a session.
+fn lily_of(alloc: Global, session: &Session, resolution: u16) -> Result<Vec<u8>, Stop>
     requires can { CanOpen session.now.grammar session.now.performance }
     requires readable { IsReadable session.now.grammar }
     requires resolution { resolution ≡ session.now.grammar.resolution }
-    ensures tests { Follows (IsWriting form.Page session.now.grammar session.now.performance) (said_of result) }
+    ensures tests { Follows (IsWriting form.LilyPond session.now.grammar session.now.performance) (said_of result) }
     ensures end { IfErr result IsOfWriting }
 {
     let performance = session.performance();
-    let events = events_of(alloc, session)?;
+    let events = score_events(alloc, session)?;
     let voices = voice_count(performance);
     match session.score_bars(alloc) {
         Ok(bars) => match write_lily(
@@ -101,6 +108,36 @@ fn page_of(alloc: Global, session: &Session, resolution: u16) -> Result<Vec<u8>,
             Ok(text) => Ok(text),
             Err(_error) => Err(Stop::Memory),
         },
+        Err(_error) => Err(Stop::Memory),
+    }
+}
+
+/// The page of the score of a session.
+fn page_of(alloc: Global, session: &Session) -> Result<Vec<u8>, Stop>
+    requires can { CanOpen session.now.grammar session.now.performance }
+    requires readable { IsReadable session.now.grammar }
+    ensures tests { Follows (IsWriting form.Page session.now.grammar session.now.performance) (said_of result) }
+    ensures end { IfErr result IsOfWriting }
+{
+    let performance = session.performance();
+    let score = short_score(alloc, session)?;
+    match write_page(alloc, &score, performance.channels()) {
+        Ok(text) => Ok(text),
+        Err(_error) => Err(Stop::Memory),
+    }
+}
+
+/// The MusicXML text of the score of a session.
+fn musicxml_of(alloc: Global, session: &Session) -> Result<Vec<u8>, Stop>
+    requires can { CanOpen session.now.grammar session.now.performance }
+    requires readable { IsReadable session.now.grammar }
+    ensures tests { Follows (IsWriting form.MusicXml session.now.grammar session.now.performance) (said_of result) }
+    ensures end { IfErr result IsOfWriting }
+{
+    let performance = session.performance();
+    let score = short_score(alloc, session)?;
+    match write_musicxml(alloc, &score, performance.channels()) {
+        Ok(text) => Ok(text),
         Err(_error) => Err(Stop::Memory),
     }
 }
@@ -124,7 +161,7 @@ fn rendering_of(alloc: Global, session: &Session, resolution: u16) -> Result<Vec
     ensures end { IfErr result IsOfWriting }
 {
     let performance = session.performance();
-    let events = events_of(alloc, session)?;
+    let events = score_events(alloc, session)?;
     let channels = performance.channels();
     match session.score_bars(alloc) {
         Ok(bars) => match render(
@@ -151,7 +188,9 @@ fn text_of(alloc: Global, form: Form, session: &Session, resolution: u16) -> Res
 {
     match form {
         Form::Score => kern_text_of(alloc, session),
-        Form::Page => page_of(alloc, session, resolution),
+        Form::LilyPond => lily_of(alloc, session, resolution),
+        Form::Page => page_of(alloc, session),
+        Form::MusicXml => musicxml_of(alloc, session),
         Form::Rendered => rendering_of(alloc, session, resolution),
     }
 }
@@ -171,7 +210,7 @@ fn text_by<W: World>(
     ensures tests { Follows (IsWriting form grammar performance) (said_of result) }
     ensures content { IfErr result IsOfContent }
     ensures all { OnOk result (lent.new.built ≡ risen lent.old.built (cells_of performance)) }
-    ensures built { IfErr result (MatchBuilds (lent.new.built ≡ risen lent.old.built (cells_of performance)) (lent.new.built ≤ risen lent.old.built (cells_of performance)) (lent.new.built ≡ lent.old.built)) }
+    ensures built { IfErr result (HasBuiltFor performance lent.old.built lent.new.built) }
     ensures counts { CountsUp lent.old lent.new }
 {
     let resolution = grammar.resolution;

@@ -1,4 +1,4 @@
-use Rattle.std.proofs.Common.{rules, ◌≡◌, ◌∙◌, ◌<◌, ◌+◌, ◌-◌, ℕ, List, [], ap, arith, drop, get_or, length, refl, subst, sym, Ok, Err}
+use Rattle.std.proofs.Common.{rules, ◌≡◌, ◌∙◌, ◌<◌, ◌+◌, ◌-◌, ℕ, List, [], ap, arith, drop, get_or, length, subst, sym, Ok, Err}
 use Rattle.std.proofs.lemmas.List.{length-drop}
 use Rattle.rhythm_app.proofs.CountedFiles.{AreCountedUpTo, all_counted, named_word, none_counted, one_more, one_stopped, some_word}
 use Rattle.rhythm_app.specs.Counting.{AreFilesCounted, IsFileCounted}

@@ -1,4 +1,4 @@
-use Rattle.std.proofs.Common.{◌≢◌, ◌∙◌, ap, arith, inl, refl, Err, Some}
+use Rattle.std.proofs.Common.{◌∙◌, ap, arith, inl, refl, Err, Some}
 use Rattle.std.proofs.lemmas.Result.{err_from_is_err_and}
 use Rattle.rhythm_app.specs.Asked.{notes}
 use Rattle.rhythm_app.specs.Commands.{named}
@@ -6,11 +6,8 @@ use Rattle.rhythm_app.specs.Inputs.{file_content}
 use Rattle.rhythm_app.specs.Outcome.{IsRead}
 use Rattle.rhythm_app.specs.declared.stop.Kind.TheVariants as kind
 use Rattle.rhythm_app.proofs.Noting.{noted}
-use Rattle.rhythm_app.proofs.Performing.{not_had, read_cause, read_end}
+use Rattle.rhythm_app.proofs.Performing.{midi_is_no_script, not_had, read_cause, read_end}
 use Rattle.rhythm_app.proofs.notes.notes_text_of.Goals as goal
-
-not_script : kind.Midi ≢ kind.Script
-not_script e = cc
 
 pub returns-in_err-played : goal.returns-in_err-played
 returns-in_err-played g c =
@@ -19,8 +16,8 @@ returns-in_err-played g c =
     let stop = c.in_err-played.field-0.0 in
     let p = err_from_is_err_and c.from_residual.result c.from_residual.ensures.1 in
     not_had (Some (notes midi)) _ c.args.lent.now _ stop c.from_residual.result (p.1 ∙ ap Err p.2) c.lent.view_is refl said.files
-    (λ files are. read_cause (notes midi) kind.Midi midi files (IsRead (file_content files midi)) refl (λ s h. inl h) _ _ stop (said.tests files are) said.end not_script)
-    (read_end kind.Midi _ _ stop said.end not_script) refl (λ files are names. said.strays files are (names 0 (named kind.Midi midi) (omega arith)))
+    (λ files are. read_cause (notes midi) kind.Midi midi files (IsRead (file_content files midi)) refl (λ s h. inl h) _ _ stop (said.tests files are) said.end midi_is_no_script)
+    (read_end kind.Midi _ _ stop said.end midi_is_no_script) refl (λ files are names. said.strays files are (names 0 (named kind.Midi midi) (omega arith)))
 
 pub returns : goal.returns
 returns g c =

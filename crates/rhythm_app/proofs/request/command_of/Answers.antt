@@ -1,7 +1,12 @@
 use Rattle.std.proofs.Common.{◌∙◌, ap, sym}
 use Rattle.rhythm_app.specs.Asked.{command_by}
-use Rattle.rhythm_app.proofs.CountedWords.{seven_words, three_words}
+use Rattle.rhythm_app.proofs.CountedWords.{seven_words, three_words, two_words}
 use Rattle.rhythm_app.proofs.request.command_of.Goals as goal
+
+pub returns-in-2-clause-asked : goal.returns-in-2-clause-asked
+returns-in-2-clause-asked c =
+    c.request_of_one.ensures.asked
+    ∙ sym (ap command_by (two_words c.args.words.now c.in_ok-word.word.now c.in_ok-first.first.now (sym c.count.ensures ∙ c.in-2.is) c.in_ok-word.ensures c.in_ok-first.ensures))
 
 pub returns-in_ok-second-in-3-clause-asked : goal.returns-in_ok-second-in-3-clause-asked
 returns-in_ok-second-in-3-clause-asked c =

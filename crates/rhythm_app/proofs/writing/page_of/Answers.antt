@@ -1,20 +1,17 @@
-use Rattle.std.proofs.Common.{◌∙◌}
-use Rattle.rhythm_app.proofs.Notating.{few_voices, voice_events, writable}
+use Rattle.std.proofs.Common.{◌≡◌, ◌∙◌, ℕ, List, ap, inl, subst}
+use Rattle.page_writer.specs.Page.{IsPage}
+use Rattle.rhythm_base.specs.Performance.{Performance}
+use Rattle.rhythm_app.proofs.Notating.{as_many}
 use Rattle.rhythm_app.proofs.writing.page_of.Goals as goal
 
-pub voice_count-voices-requires : goal.voice_count-voices-requires
-voice_count-voices-requires c =
-    let p = c.performance-performance.ensures in
-    few_voices c.args.session.now.grammar c.args.session.now.performance c.in_ok-events.events.items c.requires.readable p.formed c.in_ok-events.ensures.events c.performance-performance.result.now p.value
+pub write_page-requires-clause-channels : goal.write_page-requires-clause-channels
+write_page-requires-clause-channels c =
+    as_many c.args.session.now.grammar c.args.session.now.performance c.performance-performance.result.now c.in_ok-score.score c.channels.result.now c.in_ok-score.ensures.score
+    c.performance-performance.ensures.value c.channels.ensures
 
-pub write_lily-requires-clause-writable : goal.write_lily-requires-clause-writable
-write_lily-requires-clause-writable c =
-    let p = c.performance-performance.ensures in
-    writable c.args.session.now.grammar c.args.session.now.performance c.in_ok-events.events.items c.requires.readable p.formed c.in_ok-events.ensures.events c.args.resolution c.voice_count-voices.result
-    c.as_slice-in-Ok.result.now c.performance-performance.result.now c.requires.resolution (c.as_slice-in-Ok.ensures.value ∙ c.in-Ok.ensures) p.value c.voice_count-voices.ensures
-
-pub write_lily-requires-clause-events : goal.write_lily-requires-clause-events
-write_lily-requires-clause-events c =
-    let p = c.performance-performance.ensures in
-    voice_events c.args.session.now.grammar c.args.session.now.performance c.in_ok-events.events.items c.requires.readable p.formed c.in_ok-events.ensures.events c.args.resolution c.voice_count-voices.result
-    c.as_slice-in-Ok.result.now c.performance-performance.result.now c.requires.resolution (c.as_slice-in-Ok.ensures.value ∙ c.in-Ok.ensures) p.value c.voice_count-voices.ensures c.as_slice.result.now c.as_slice.ensures.value
+pub returns-in-Ok-clause-tests : goal.returns-in-Ok-clause-tests
+returns-in-Ok-clause-tests c =
+    let of = c.in_ok-score.ensures in
+    let own : c.channels.result.now ≡ c.args.session.now.performance.channels = c.channels.ensures ∙ ap (λ (q : Performance). q.channels) c.performance-performance.ensures.value in
+    let page = subst (λ (channels : List ℕ). IsPage c.in_ok-score.score channels c.in-Ok.text.items) own c.in-Ok.ensures in
+    inl (c.requires.can, (c.in_ok-score.score, of.short.0, of.score, of.short.1, page))
