@@ -20,6 +20,7 @@ all:
 check:
 	@.ci/grammars
 	@.ci/documents
+	@python3 -B python/test_rhythm.py
 
 install:
 	install -d $(bin) $(man) $(share)/grammars $(share)/examples/corpus
@@ -28,6 +29,8 @@ install:
 	install -m 644 grammars/*.rhy grammars/README.md $(share)/grammars
 	install -m 644 examples/page.ily $(share)/examples
 	install -m 644 examples/corpus/Makefile $(share)/examples/corpus
+	install -d $(share)/python
+	install -m 644 python/rhythm.py $(share)/python
 	install examples/corpus/transcribe examples/corpus/learn $(share)/examples/corpus
 
 uninstall:
