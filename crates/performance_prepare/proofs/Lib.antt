@@ -6,4 +6,6 @@ pub mod LawsKept
 pub mod Parting
 pub mod ShiftedTakes
 pub mod Told
+mod WorkedHands
+mod WorkedStrums
 mod WorkedTakes

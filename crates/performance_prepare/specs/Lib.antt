@@ -1,11 +1,17 @@
 pub mod Drums
+pub mod Elapsed
+pub mod Groups
+pub mod Hands
 pub mod Keying
 pub mod Laws
 pub mod Meter
+pub mod Middle
 pub mod Outcome
+pub mod Parts
 pub mod Prepared
 pub mod Ranges
 pub mod Shift
 pub mod Split
+pub mod Strum
 pub mod Tempo
 pub mod Upbeat

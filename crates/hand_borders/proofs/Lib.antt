@@ -1,0 +1,4 @@
+pub mod FirstLeast
+pub mod Followed
+pub mod Passes
+pub mod Steps
