@@ -1,10 +1,13 @@
 pub mod Answered
+pub mod Cutting
 pub mod Fineness
 pub mod InForce
 pub mod Kept
 pub mod LawsKept
 pub mod Parting
 pub mod ShiftedTakes
+pub mod Strummed
+pub mod Strumming
 pub mod Told
 mod WorkedHands
 mod WorkedStrums

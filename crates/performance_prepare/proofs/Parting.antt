@@ -223,7 +223,7 @@ module _ (key : ℕ) (notes : List Note) where
 
 -- ---- the order
 
-same_order : (ns : List Note) → in_order ns ≡ in_place ns
+pub same_order : (ns : List Note) → in_order ns ≡ in_place ns
 same_order [] = refl
 same_order (n ∷ ns) = ap (list_with place_of_note n) (same_order ns)
 

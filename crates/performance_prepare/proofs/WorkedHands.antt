@@ -1,6 +1,5 @@
 -- Groups, middles and costs, worked out.
-use Rattle.std.proofs.Common.{◌≡◌, ℕ, List, [], ◌∷◌, map, refl}
-use Rattle.std.specs.List.{range_with_len}
+use Rattle.std.proofs.Common.{◌≡◌, ℕ, [], ◌∷◌, map, refl}
 use Rattle.rhythm_base.specs.Time.{time}
 use Rattle.rhythm_base.specs.declared.note.Note.{Note}
 use Rattle.performance_prepare.specs.Groups.{cost, groups, held_keys}

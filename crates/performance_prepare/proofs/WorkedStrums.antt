@@ -1,9 +1,10 @@
 -- Strums, worked out: at 500 ticks of a quarter a tick of the usual tempo is a millisecond.
-use Rattle.std.proofs.Common.{◌≡◌, ℕ, List, [], ◌∷◌, refl}
+use Rattle.std.proofs.Common.{◌≡◌, ℕ, List, [], ◌∷◌, refl, Some, Ok}
 use Rattle.rhythm_base.specs.Time.{time}
-use Rattle.rhythm_base.specs.declared.event.Tempo.{Tempo}
 use Rattle.rhythm_base.specs.declared.note.Note.{Note}
 use Rattle.performance_load.specs.Take.{Take}
+use Rattle.performance_prepare.specs.Laws.{no_options}
+use Rattle.performance_prepare.specs.Prepared.{prepared}
 use Rattle.performance_prepare.specs.Strum.{with_strum}
 
 abbrev note : ℕ → ℕ → ℕ → ℕ → Note
@@ -80,3 +81,14 @@ changed_tempo = refl
 rolled_down : with_strum 30 (take_of (note 0 67 0 900 ∷ note 0 64 20 900 ∷ note 0 60 40 900 ∷ [])) ≡ take_of (note 0 60 20 900 ∷ note 0 64 20 900 ∷ note 0 67 20 900 ∷ [])
 unfolding time
 rolled_down = refl
+
+-- a strum is put together before the upbeat is taken
+with_an_upbeat : prepared (record no_options { strum = Some 25; meter = Some (record { num = 2; den = 4 }); upbeat = Some (record { num = 1; den = 4 }) }) (take_of roll) ≡ Ok (record {
+  division = 500;
+  notes = note 0 48 500 1325 ∷ note 0 52 500 1325 ∷ note 0 55 500 1325 ∷ note 0 60 500 1325 ∷ [];
+  tempos = [];
+  key_marks = [];
+  signatures = record { tick = 0; num = 2; dd = 2 } ∷ [];
+})
+unfolding time
+with_an_upbeat = refl

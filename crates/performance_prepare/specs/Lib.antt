@@ -13,5 +13,6 @@ pub mod Ranges
 pub mod Shift
 pub mod Split
 pub mod Strum
+pub mod StrumLaws
 pub mod Tempo
 pub mod Upbeat

@@ -6,6 +6,7 @@ use Rattle.performance_prepare.specs.Keying.{with_key}
 use Rattle.performance_prepare.specs.Meter.{with_meter}
 use Rattle.performance_prepare.specs.Outcome.{◌>>=◌}
 use Rattle.performance_prepare.specs.Split.{with_split}
+use Rattle.performance_prepare.specs.Strum.{with_strum}
 use Rattle.performance_prepare.specs.Tempo.{with_tempo}
 use Rattle.performance_prepare.specs.Upbeat.{with_upbeat}
 use Rattle.performance_prepare.specs.declared.options.Fraction.{Fraction}
@@ -21,6 +22,10 @@ told_drums true t = without_drums t
 abbrev pub told_split : Option ℕ → Take → Result Take PrepareFault
 told_split None t = Ok t
 told_split (Some key) t = with_split key t
+
+abbrev pub told_strum : Option ℕ → Take → Result Take PrepareFault
+told_strum None t = Ok t
+told_strum (Some within) t = Ok (with_strum within t)
 
 abbrev pub told_meter : Option Fraction → Take → Result Take PrepareFault
 told_meter None t = Ok t
@@ -44,7 +49,8 @@ abbrev pub prepared : Options → Take → Result Take PrepareFault
 prepared o t = do
   pitched ← told_drums o.no_drums t
   split ← told_split o.split pitched
-  metered ← told_meter o.meter split
+  strummed ← told_strum o.strum split
+  metered ← told_meter o.meter strummed
   timed ← told_tempo o.tempo metered
   placed ← told_upbeat o.upbeat timed
   told_key o.key placed

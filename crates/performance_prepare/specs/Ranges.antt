@@ -15,6 +15,11 @@ pub record IsFraction (part : Fraction) : Type 0 where
   pub few : part.num ≤ 64
   pub power : IsTrue (is_den part.den)
 
+-- milliseconds from note to note of a strum
+pub record IsReach (within : ℕ) : Type 0 where
+  pub some : 1 ≤ within
+  pub few : within ≤ 100
+
 pub record IsPace (quarters : ℕ) : Type 0 where
   pub some : 1 ≤ quarters
   pub few : quarters ≤ 1000
@@ -28,8 +33,9 @@ pub record IsKey (sf : ℤ) : Type 0 where
   pub low : negsuc 6 ≤ℤ sf
   pub high : sf ≤ℤ pos 7
 
--- the meter and the upbeat are fractions, quarters a minute are 1 to 1,000, and keys seven flats to seven sharps
+-- strums reach over 1 to 100 ms, the meter and the upbeat are fractions, quarters a minute are 1 to 1,000, and keys seven flats to seven sharps
 pub record AreInRange (o : Options) : Type 0 where
+  pub strum : IfGiven o.strum IsReach
   pub meter : IfGiven o.meter IsFraction
   pub tempo : IfGiven o.tempo IsPace
   pub upbeat : IfGiven o.upbeat IsFraction

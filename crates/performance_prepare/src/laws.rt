@@ -8,6 +8,7 @@ ghost use Rattle.performance_prepare.specs.Laws.{
   TemposKeepTime,
   UpbeatsKeepDistances,
 };
+ghost use Rattle.performance_prepare.specs.StrumLaws.{StrumsKeepNotes, StrumsStayBetween};
 
 /// Without options the performance of a file is as ever.
 pub fn no_options_change_nothing()
@@ -47,4 +48,14 @@ pub fn tempos_keep_places()
 /// In its tempo in proportion a tick lasts as long as before, but for half a microsecond a quarter.
 pub fn tempos_keep_time()
     ensures { TemposKeepTime }
+{}
+
+/// Strums change no channel, key or end, and no order of onsets in a channel; no note gets as short as nothing, and none is lost.
+pub fn strums_keep_notes()
+    ensures { StrumsKeepNotes }
+{}
+
+/// A strum begins between its first onset and its last.
+pub fn strums_stay_between()
+    ensures { StrumsStayBetween }
 {}

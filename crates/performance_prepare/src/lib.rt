@@ -1,10 +1,12 @@
 //! A take prepared by options: what was recorded on a keyboard is brought to the meter, tempo, upbeat and key that were meant,
-//! its hands are split into two channels, and its drums are left out. Each option is a map of takes that has a definition of
+//! its hands are split into two channels, its strummed chords begin
+//! together, and its drums are left out. Each option is a map of takes that has a definition of
 //! its own, and the options are taken in one order, whatever the order in which they are given. The performance that is
 //! loaded of a prepared take is well formed.
 #![tactic(auto)]
 
 mod drums;
+mod elapsed;
 mod keying;
 mod laws;
 mod meter;
@@ -13,13 +15,14 @@ mod prepare_fault;
 mod preparing;
 mod shift;
 mod split;
+mod strum;
 mod tempo;
 mod upbeat;
 
 pub use laws::{
     drums_are_out, no_options_change_nothing, prepared_performances_are_one,
-    prepared_performances_are_well_formed, splits_keep_notes, tempos_keep_places, tempos_keep_time,
-    upbeats_keep_distances,
+    prepared_performances_are_well_formed, splits_keep_notes, strums_keep_notes,
+    strums_stay_between, tempos_keep_places, tempos_keep_time, upbeats_keep_distances,
 };
 pub use options::{Fraction, Options};
 pub use prepare_fault::PrepareFault;

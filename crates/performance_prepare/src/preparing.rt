@@ -12,6 +12,7 @@ use crate::meter::with_meter;
 use crate::options::{Fraction, Options};
 use crate::prepare_fault::PrepareFault;
 use crate::split::with_split;
+use crate::strum::with_strum;
 use crate::tempo::with_tempo;
 use crate::upbeat::with_upbeat;
 use performance_load::Take;
@@ -36,6 +37,17 @@ fn told_split(alloc: Global, split: Option<u8>, take: Take) -> Result<Take, Prep
     match split {
         None => Ok(take),
         Some(key) => with_split(alloc, key, take),
+    }
+}
+
+/// The take whose strums begin together, if their milliseconds are told.
+fn told_strum(alloc: Global, strum: Option<u8>, take: Take) -> Result<Take, PrepareFault>
+    requires { IsTakeFormed take }
+    ensures { Answers (maps.told_strum strum take) result }
+{
+    match strum {
+        None => Ok(take),
+        Some(within) => Ok(with_strum(alloc, within, take)?),
     }
 }
 
@@ -85,8 +97,8 @@ fn told_key(alloc: Global, key: Option<i8>, take: Take) -> Result<Take, PrepareF
     }
 }
 
-/// The take prepared by the options: drums, split, meter, tempo, upbeat and key, in this order. A fault is that of the first map that
-/// has one.
+/// The take prepared by the options: drums, split, strum, meter, tempo, upbeat and key, in this order. A fault is that of the first
+/// map that has one.
 pub fn prepared(alloc: Global, options: &Options, take: Take) -> Result<Take, PrepareFault>
     requires range { AreInRange options.now }
     requires formed { IsTakeFormed take }
@@ -96,7 +108,8 @@ pub fn prepared(alloc: Global, options: &Options, take: Take) -> Result<Take, Pr
 {
     let pitched = told_drums(alloc, options.no_drums, take)?;
     let split = told_split(alloc, options.split, pitched)?;
-    let metered = told_meter(alloc, options.meter, split)?;
+    let strummed = told_strum(alloc, options.strum, split)?;
+    let metered = told_meter(alloc, options.meter, strummed)?;
     let timed = told_tempo(alloc, options.tempo, metered)?;
     let placed = told_upbeat(alloc, options.upbeat, timed)?;
     told_key(alloc, options.key, placed)

@@ -139,7 +139,7 @@ fn place_of_note(note: &Note) -> [u64; 3]
 }
 
 /// The notes, by channel, onset and key.
-fn in_order(mut notes: Vec<Note>) -> Result<Vec<Note>, AllocError>
+pub fn in_order(mut notes: Vec<Note>) -> Result<Vec<Note>, AllocError>
     requires { IsDistinct same_place notes.items }
     ensures { IfOk result (λ v. v.items ≡ splits.in_order notes.items) }
 {

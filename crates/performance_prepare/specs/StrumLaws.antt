@@ -1,0 +1,37 @@
+-- What holds of strums that begin together.
+use Rattle.std.specs.Prelude.{◌≡◌, ℕ, ◌<◌, ◌≤◌, ◌-◌, List, length, map, slice_index, All, AllPairs}
+use Rattle.std.specs.List.Sorted.{IsPermutation}
+use Rattle.rhythm_base.specs.Lists.{AreInOrder, Each}
+use Rattle.rhythm_base.specs.Performance.{place_of_note}
+use Rattle.rhythm_base.specs.declared.note.Note.{Note}
+use Rattle.performance_load.specs.Take.{Take}
+use Rattle.performance_load.specs.Taking.{IsTakeFormed}
+use Rattle.performance_prepare.specs.Strum.{midway, strums, with_strum}
+
+-- a note that begins elsewhere, but not after its end; one of some ticks has at least one
+pub record IsStruck (n m : Note) : Type 0 where
+  pub channel : m.channel ≡ n.channel
+  pub key : m.key ≡ n.key
+  pub end : m.end ≡ n.end
+  pub after : n.onset ≤ n.end → m.onset ≤ m.end
+  pub long : n.onset < n.end → m.onset < m.end
+
+-- the notes are the same but for their onsets, and no two are of one channel, onset and key. Listed as they were, they begin in the
+-- order of before in each channel: what began before begins before or together
+pub record AreStrummed (notes strummed : List Note) : Type 0 where
+  pub others : List Note
+  pub each : Each IsStruck notes others
+  pub order : AllPairs (λ m n. m.channel ≡ n.channel → m.onset ≤ n.onset) others
+  pub same : IsPermutation others strummed
+  pub apart : AreInOrder place_of_note strummed
+
+abbrev pub StrumsKeepNotes : Type 0
+StrumsKeepNotes = (within : ℕ) (t : Take) → IsTakeFormed t → AreStrummed t.notes (with_strum within t).notes
+
+-- a strum begins at its first onset or after it, and at its last or before it
+pub record IsBetween (strum : List Note) : Type 0 where
+  pub first : slice_index (map (λ n. n.onset) strum) 0 ≤ midway strum
+  pub last : midway strum ≤ slice_index (map (λ n. n.onset) strum) (length strum - 1)
+
+abbrev pub StrumsStayBetween : Type 0
+StrumsStayBetween = (within : ℕ) (t : Take) → IsTakeFormed t → All IsBetween (strums t.tempos t.division within t.notes)
