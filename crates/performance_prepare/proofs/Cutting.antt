@@ -4,7 +4,7 @@ use Rattle.std.specs.List.{flat_map, slice_range}
 use Rattle.std.proofs.lemmas.List.{append-nil, drop_more, get_or-drop, take_more}
 use Rattle.performance_prepare.specs.Parts.{parts, parts_from}
 
-whole : {X : Type 0} (ys : List X) (n : ℕ) → length ys ≤ n → take n ys ≡ ys
+pub whole : {X : Type 0} (ys : List X) (n : ℕ) → length ys ≤ n → take n ys ≡ ys
 whole [] zero le = refl
 whole [] (suc n) le = refl
 whole (y ∷ ys) zero le = absurd (omega (arith, le))
@@ -71,3 +71,30 @@ module _ {X : Type 0} (joins : List X → X → X → Bool) where
     pub begin_end : (xs : List X) (start index : ℕ) (d : X) (placed more : List Y) (all : List Y) → length xs ≤ index → more ≡ placed ++ f (drop start xs) → placed ++ flat_map f (Cut xs start index d) ≡ all → more ≡ all
     begin_end xs start index d placed more all past m e =
         m ∙ ap (λ ys. placed ++ ys) (sym (append-nil (f (drop start xs)))) ∙ sym (ap (λ ps. placed ++ flat_map f ps) (cut_end xs start index d past)) ∙ e
+
+-- ---- the first part from a place on
+
+module _ {X : Type 0} (joins : List X → X → X → Bool) where
+  pub parts_begin : (xs : List X) (start : ℕ) (d : X) → start < length xs → parts joins (drop start xs) ≡ Cut joins xs start (start + 1) d
+  parts_begin xs start d lt =
+      ap (parts joins) (drop_more xs start d lt)
+      ∙ (λ i. parts_from joins (one (start + 1 - start) (let e : start + 1 - start ≡ 1 = omega arith in e) (drop start xs) (drop_more xs start d lt) i) (get_or xs (let e : start ≡ start + 1 - 1 = omega arith in e i) d) (drop (start + 1) xs))
+    where
+      one : (n : ℕ) → n ≡ 1 → (ys : List X) → ys ≡ get_or xs start d ∷ drop (start + 1) xs → get_or xs start d ∷ [] ≡ take n ys
+      one n e ys f = sym (ap (λ m. take m ys) e ∙ ap (take 1) f)
+
+  pub parts_first : (xs : List X) (start index : ℕ) (d : X) → index < length xs → joins (slice_range xs start index) (get_or xs (index - 1) d) (get_or xs index d) ≡ false → parts joins (drop start xs) ≡ Cut joins xs start index d
+      → parts joins (drop start xs) ≡ slice_range xs start index ∷ parts joins (drop index xs)
+  parts_first xs start index d lt apart h = h ∙ cut_parted joins xs start index d lt apart ∙ ap (λ ps. slice_range xs start index ∷ ps) (sym (parts_begin xs index d lt))
+
+  pub parts_more : (xs : List X) (start index : ℕ) (d : X) → start ≤ index → index < length xs → joins (slice_range xs start index) (get_or xs (index - 1) d) (get_or xs index d) ≡ true → parts joins (drop start xs) ≡ Cut joins xs start index d
+      → parts joins (drop start xs) ≡ Cut joins xs start (index + 1) d
+  parts_more xs start index d le lt one h = h ∙ cut_joined joins xs start index d le lt one
+
+  pub parts_last : (xs : List X) (start index : ℕ) (d : X) → length xs ≤ index → parts joins (drop start xs) ≡ Cut joins xs start index d → parts joins (drop start xs) ≡ slice_range xs start (length xs) ∷ parts joins (drop (length xs) xs)
+  parts_last xs start index d past h =
+      h ∙ cut_end joins xs start index d past ∙ (λ i. sym (rest_whole xs start) i ∷ parts joins (sym (none (drop (length xs) xs) (let long = length-drop (length xs) xs in omega (arith, long))) i))
+    where
+      none : (ys : List X) → length ys ≡ 0 → ys ≡ []
+      none [] e = refl
+      none (y ∷ ys) e = absurd (omega (arith, e))

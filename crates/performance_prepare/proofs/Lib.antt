@@ -1,9 +1,12 @@
 pub mod Answered
 pub mod Cutting
 pub mod Fineness
+pub mod Grouped
+pub mod Handed
 pub mod InForce
 pub mod Kept
 pub mod LawsKept
+pub mod Middles
 pub mod Parting
 pub mod ShiftedTakes
 pub mod Strummed

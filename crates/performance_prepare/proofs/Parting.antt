@@ -106,14 +106,14 @@ module _ (key : ℕ) (notes : List Note) where
   free_apart : AllPairs (λ x y. x ≢ y) Free
   free_apart = AllPairs-filter (λ x y. x ≢ y) (λ c. not (sounds notes c)) spare_channels spare_apart
 
-  silent : (i : ℕ) → i < length Free → sounds notes (get_or Free i 0) ≡ false
+  pub silent : (i : ℕ) → i < length Free → sounds notes (get_or Free i 0) ≡ false
   silent i lt = let passes = filter_passes (λ c. not (sounds notes c)) spare_channels i 0 lt in by (sounds notes (get_or Free i 0)) passes
     where
       by : (b : Bool) → not b ≡ true → b ≡ false
       by true h = absurd (cc)
       by false h = refl
 
-  free_below : All (λ c. c < 16) Free
+  pub free_below : All (λ c. c < 16) Free
   free_below = All-filter (λ c. not (sounds notes c)) (λ c. c < 16) spare_channels spare_below
 
   -- channels that have notes stay apart

@@ -23,16 +23,16 @@ use Rattle.performance_prepare.proofs.Kept.{IsReady}
 use Rattle.performance_prepare.proofs.Parting.{order_permuted, same_order}
 use Rattle.performance_prepare.proofs.Strumming.{AreApart, Before, IsRun, J, Next, Placed, all_apart, joined, notes_before, run_high, run_low, run_more, run_one, strummed_distinct}
 
-each_mapped : {X Y : Type 0} (R : X → Y → Type 0) (f : X → Y) (xs : List X) → ((x : X) → Among x xs → R x (f x)) → Each R xs (map f xs)
+pub each_mapped : {X Y : Type 0} (R : X → Y → Type 0) (f : X → Y) (xs : List X) → ((x : X) → Among x xs → R x (f x)) → Each R xs (map f xs)
 each_mapped R f [] h = refl
 each_mapped R f (x ∷ xs) h = (h x (inl refl), each_mapped R f xs (λ y am. h y (inr am)))
 
-each_long : {X Y : Type 0} (R : X → Y → Type 0) (xs : List X) (ys : List Y) → Each R xs ys → length ys ≡ length xs
+pub each_long : {X Y : Type 0} (R : X → Y → Type 0) (xs : List X) (ys : List Y) → Each R xs ys → length ys ≡ length xs
 each_long R [] ys h = ap length h
 each_long R (x ∷ xs) [] h = absurd h
 each_long R (x ∷ xs) (y ∷ ys) h = let rest = each_long R xs ys h.1 in omega (arith, rest)
 
-all_each : {X Y : Type 0} (R : X → Y → Type 0) (P : X → Type 0) (Q : Y → Type 0) (xs : List X) (ys : List Y) → ((x : X) (y : Y) → P x → R x y → Q y) → Each R xs ys → All P xs → All Q ys
+pub all_each : {X Y : Type 0} (R : X → Y → Type 0) (P : X → Type 0) (Q : Y → Type 0) (xs : List X) (ys : List Y) → ((x : X) (y : Y) → P x → R x y → Q y) → Each R xs ys → All P xs → All Q ys
 all_each R P Q [] ys to h all = subst (All Q) (sym h) (All-nil Q)
 all_each R P Q (x ∷ xs) [] to h all = absurd h
 all_each R P Q (x ∷ xs) (y ∷ ys) to h all = All-cons Q y ys (to x y (all_head P x xs all) h.0) (all_each R P Q xs ys to h.1 (all_tail P x xs all))

@@ -353,14 +353,14 @@ module _ (tempos : List Tempo) (division within : ℕ) where
       by true e = absurd (h (grind (arith, nat_tests)))
       by false e = refl
 
-  channel_apart : (z w : Note) → z.channel < w.channel → same_place z w ≡ false
+  pub channel_apart : (z w : Note) → z.channel < w.channel → same_place z w ≡ false
   channel_apart z w h = by (same_place z w) refl
     where
       by : (b : Bool) → same_place z w ≡ b → b ≡ false
       by true e = let c : z.channel ≡ w.channel = grind (arith, nat_tests) in absurd (omega (arith, c, h))
       by false e = refl
 
-  spot_apart : (z w : Note) → spot z < spot w → same_place z w ≡ false
+  pub spot_apart : (z w : Note) → spot z < spot w → same_place z w ≡ false
   spot_apart z w h = by (same_place z w) refl
     where
       by : (b : Bool) → same_place z w ≡ b → b ≡ false

@@ -6,12 +6,13 @@ use Rattle.performance_load.specs.Taking.{IsTakeFormed}
 use Rattle.performance_prepare.specs.Keying.{with_key}
 use Rattle.performance_prepare.specs.Meter.{with_meter}
 use Rattle.performance_prepare.specs.Outcome.{◌>>=◌}
-use Rattle.performance_prepare.specs.Prepared.{prepared, told_drums, told_key, told_meter, told_split, told_strum, told_tempo, told_upbeat}
+use Rattle.performance_prepare.specs.Prepared.{group_reach, prepared, told_drums, told_hands, told_key, told_meter, told_split, told_strum, told_tempo, told_upbeat}
 use Rattle.performance_prepare.specs.Strum.{with_strum}
 use Rattle.performance_prepare.specs.Ranges.{AreInRange, IfGiven, IsKey}
 use Rattle.performance_prepare.specs.declared.options.Fraction.{Fraction}
 use Rattle.performance_prepare.specs.declared.options.Options.{Options}
 use Rattle.performance_prepare.specs.declared.prepare_fault.PrepareFault.{PrepareFault}
+use Rattle.performance_prepare.proofs.Handed.{hands_ready}
 use Rattle.performance_prepare.proofs.Parting.{split_ready}
 use Rattle.performance_prepare.proofs.Strummed.{strum_ready}
 use Rattle.performance_prepare.proofs.Kept.{IsReady, drums_ready, key_formed, meter_ready, tempo_ready, upbeat_formed}
@@ -34,6 +35,10 @@ told_drums_ready latest true t u is ready = drums_ready latest t u is ready
 pub told_split_ready : (latest : ℕ) (o : Option ℕ) (t u : Take) → told_split o t ≡ Ok u → IsReady latest t → IsReady latest u
 told_split_ready latest None t u is ready = same_ready latest t u is ready
 told_split_ready latest (Some key) t u is ready = split_ready latest key t u is ready
+
+pub told_hands_ready : (latest : ℕ) (o strum : Option ℕ) (t u : Take) → told_hands o strum t ≡ Ok u → IsReady latest t → IsReady latest u
+told_hands_ready latest None strum t u is ready = same_ready latest t u is ready
+told_hands_ready latest (Some channel) strum t u is ready = hands_ready latest channel (group_reach strum) t u is ready
 
 pub told_strum_ready : (latest : ℕ) (o : Option ℕ) (t u : Take) → told_strum o t ≡ Ok u → IsReady latest t → IsReady latest u
 told_strum_ready latest None t u is ready = same_ready latest t u is ready
@@ -78,10 +83,12 @@ prepared_formed o t u range ready is =
     let tempo : Take → Result Take PrepareFault = λ b. told_tempo o.tempo b >>= upbeat in
     let meter : Take → Result Take PrepareFault = λ a. told_meter o.meter a >>= tempo in
     let strum : Take → Result Take PrepareFault = λ a. told_strum o.strum a >>= meter in
-    let split : Take → Result Take PrepareFault = λ x. told_split o.split x >>= strum in
+    let hands : Take → Result Take PrepareFault = λ a. told_hands o.hands o.strum a >>= strum in
+    let split : Take → Result Take PrepareFault = λ x. told_split o.split x >>= hands in
     let pitched = through (told_drums o.no_drums t) split u is in
-    let parted = through (told_split o.split pitched.0) strum u pitched.2 in
-    let strummed = through (told_strum o.strum parted.0) meter u parted.2 in
+    let parted = through (told_split o.split pitched.0) hands u pitched.2 in
+    let handed = through (told_hands o.hands o.strum parted.0) strum u parted.2 in
+    let strummed = through (told_strum o.strum handed.0) meter u handed.2 in
     let metered = through (told_meter o.meter strummed.0) tempo u strummed.2 in
     let timed = through (told_tempo o.tempo metered.0) upbeat u metered.2 in
     let placed = through (told_upbeat o.upbeat timed.0) last u timed.2 in
@@ -89,6 +96,7 @@ prepared_formed o t u range ready is =
     (told_upbeat_formed o.upbeat timed.0 placed.0 placed.1
     (told_tempo_ready o.tempo metered.0 timed.0 timed.1
     (told_meter_ready soon o.meter strummed.0 metered.0 metered.1
-    (told_strum_ready soon o.strum parted.0 strummed.0 strummed.1
+    (told_strum_ready soon o.strum handed.0 strummed.0 strummed.1
+    (told_hands_ready soon o.hands o.strum parted.0 handed.0 handed.1
     (told_split_ready soon o.split pitched.0 parted.0 parted.1
-    (told_drums_ready soon o.no_drums t pitched.0 pitched.1 ready))))).formed)
+    (told_drums_ready soon o.no_drums t pitched.0 pitched.1 ready)))))).formed)

@@ -1,11 +1,11 @@
 -- Groups of notes that begin together, and what a border between two hands costs in each.
 use Rattle.std.specs.Prelude.{ℕ, Bool, false, ◌+◌, ◌-◌, ◌*◌, ◌==◌, ◌&&◌, not, nat_le, nat_lt, List, [], ◌∷◌, ◌++◌, filter, length, map, Option, Some, None}
-use Rattle.std.specs.List.{range_with_len, sum}
+use Rattle.std.specs.List.{sum}
 use Rattle.rhythm_base.specs.declared.event.Tempo.{Tempo}
 use Rattle.rhythm_base.specs.declared.note.Note.{Note}
 use Rattle.rhythm_base.specs.Lists.{gap, greatest, last_of, least_of}
 use Rattle.performance_prepare.specs.Elapsed.{milliseconds, time_between}
-use Rattle.performance_prepare.specs.Middle.{keys_below, keys_from}
+use Rattle.performance_prepare.specs.Middle.{keys_below, keys_from, numbers_from}
 use Rattle.performance_prepare.specs.Parts.{parts}
 use Rattle.performance_prepare.specs.Strum.{strikes}
 
@@ -36,7 +36,7 @@ is_held tempos division before group key =
     not (strikes group key) && sounds_past tempos division (first_onset group) (last_of (filter (λ n. n.key == key) before))
 
 abbrev pub held_keys : List Tempo → ℕ → List Note → List Note → List ℕ
-held_keys tempos division before group = filter (is_held tempos division before group) (range_with_len 0 128)
+held_keys tempos division before group = filter (is_held tempos division before group) (numbers_from 0 128)
 
 -- ---- what a border costs
 
@@ -65,7 +65,7 @@ cost middle struck held border =
 abbrev pub costs_after : List Tempo → ℕ → ℕ → List Note → List (List Note) → List (List ℕ)
 costs_after tempos division middle before [] = []
 costs_after tempos division middle before (group ∷ groups) =
-    map (cost middle (map (λ n. n.key) group) (held_keys tempos division before group)) (range_with_len 0 129)
+    map (cost middle (map (λ n. n.key) group) (held_keys tempos division before group)) (numbers_from 0 129)
     ∷ costs_after tempos division middle (before ++ group) groups
 
 abbrev pub costs : List Tempo → ℕ → ℕ → List (List Note) → List (List ℕ)

@@ -27,9 +27,12 @@ borders_of tempos division within notes = least_borders (costs tempos division (
 
 -- ---- the hands
 
+abbrev pub notes_below : ℕ → List Note → List Note
+notes_below border notes = filter (λ n. nat_lt n.key border) notes
+
 -- the notes below the border of their group
 abbrev pub left_notes : List (List Note) → List ℕ → List Note
-left_notes (group ∷ groups) (border ∷ borders) = filter (λ n. nat_lt n.key border) group ++ left_notes groups borders
+left_notes (group ∷ groups) (border ∷ borders) = notes_below border group ++ left_notes groups borders
 left_notes _ _ = []
 
 abbrev pub handed_note : ℕ → ℕ → Note → Note

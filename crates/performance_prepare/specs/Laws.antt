@@ -29,7 +29,7 @@ pub record IsPrepared (o : Options) (f : Smf) (p : Performance) : Type 0 where
 
 -- nothing is told
 abbrev pub no_options : Options
-no_options = record { no_drums = false; split = None; strum = None; meter = None; tempo = None; upbeat = None; key = None }
+no_options = record { no_drums = false; split = None; hands = None; strum = None; meter = None; tempo = None; upbeat = None; key = None }
 
 -- without options the performance of a file is as ever
 abbrev pub NoOptionsChangeNothing : Type 0

@@ -1,5 +1,6 @@
 pub mod Drums
 pub mod Elapsed
+pub mod Ends
 pub mod Groups
 pub mod Hands
 pub mod Keying

@@ -19,9 +19,13 @@ parting keys border =
     length (keys_below border keys) * length (keys_from border keys)
     * ((mean (keys_from border keys) - mean (keys_below border keys)) * (mean (keys_from border keys) - mean (keys_below border keys)))
 
+-- the numbers from one on below another
+unfoldable pub numbers_from : ℕ → ℕ → List ℕ
+numbers_from first end = range_with_len first (end - first)
+
 -- the borders that have a key on each side
 abbrev pub inner_borders : List ℕ
-inner_borders = range_with_len 1 127
+inner_borders = numbers_from 1 128
 
 abbrev pub best_parting : List ℕ → ℕ
 best_parting keys = greatest (map (parting keys) inner_borders)

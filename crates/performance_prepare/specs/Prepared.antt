@@ -1,7 +1,8 @@
 -- A take prepared by options.
-use Rattle.std.specs.Prelude.{ℕ, ℤ, Bool, true, false, Option, Some, None, Result, Ok}
+use Rattle.std.specs.Prelude.{ℕ, ℤ, Bool, true, false, max, Option, Some, None, Result, Ok}
 use Rattle.performance_load.specs.Take.{Take}
 use Rattle.performance_prepare.specs.Drums.{without_drums}
+use Rattle.performance_prepare.specs.Hands.{with_hands}
 use Rattle.performance_prepare.specs.Keying.{with_key}
 use Rattle.performance_prepare.specs.Meter.{with_meter}
 use Rattle.performance_prepare.specs.Outcome.{◌>>=◌}
@@ -22,6 +23,16 @@ told_drums true t = without_drums t
 abbrev pub told_split : Option ℕ → Take → Result Take PrepareFault
 told_split None t = Ok t
 told_split (Some key) t = with_split key t
+
+-- a chord that is rolled has to go to one hand: notes of a group begin within 15 ms from note to note, and within those of a strum
+-- where they are more
+abbrev pub group_reach : Option ℕ → ℕ
+group_reach None = 15
+group_reach (Some within) = max within 15
+
+abbrev pub told_hands : Option ℕ → Option ℕ → Take → Result Take PrepareFault
+told_hands None strum t = Ok t
+told_hands (Some channel) strum t = with_hands channel (group_reach strum) t
 
 abbrev pub told_strum : Option ℕ → Take → Result Take PrepareFault
 told_strum None t = Ok t
@@ -49,7 +60,8 @@ abbrev pub prepared : Options → Take → Result Take PrepareFault
 prepared o t = do
   pitched ← told_drums o.no_drums t
   split ← told_split o.split pitched
-  strummed ← told_strum o.strum split
+  handed ← told_hands o.hands o.strum split
+  strummed ← told_strum o.strum handed
   metered ← told_meter o.meter strummed
   timed ← told_tempo o.tempo metered
   placed ← told_upbeat o.upbeat timed

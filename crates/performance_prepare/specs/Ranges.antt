@@ -1,7 +1,8 @@
 -- The ranges of what can be told of a take.
-use Rattle.std.specs.Prelude.{ℕ, ℤ, pos, negsuc, ◌≤ℤ◌, ◌≤◌, IsTrue, Option, Some, None, ⊤}
+use Rattle.std.specs.Prelude.{ℕ, ℤ, pos, negsuc, ◌≤ℤ◌, ◌≢◌, ◌<◌, ◌≤◌, IsTrue, Option, Some, None, ⊤}
 use Rattle.rhythm_base.specs.declared.limits.TheConstants.{SLOWEST_TEMPO}
 use Rattle.rhythm_base.specs.Signatures.{is_den}
+use Rattle.performance_prepare.specs.Drums.{drum_channel}
 use Rattle.performance_prepare.specs.declared.options.Fraction.{Fraction}
 use Rattle.performance_prepare.specs.declared.options.Options.{Options}
 
@@ -14,6 +15,11 @@ IfGiven (Some x) P = P x
 pub record IsFraction (part : Fraction) : Type 0 where
   pub few : part.num ≤ 64
   pub power : IsTrue (is_den part.den)
+
+-- a channel but that of drums
+pub record IsKeyboard (c : ℕ) : Type 0 where
+  pub channel : c < 16
+  pub pitched : c ≢ drum_channel
 
 -- milliseconds from note to note of a strum
 pub record IsReach (within : ℕ) : Type 0 where
@@ -33,8 +39,9 @@ pub record IsKey (sf : ℤ) : Type 0 where
   pub low : negsuc 6 ≤ℤ sf
   pub high : sf ≤ℤ pos 7
 
--- strums reach over 1 to 100 ms, the meter and the upbeat are fractions, quarters a minute are 1 to 1,000, and keys seven flats to seven sharps
+-- hands are not those of drums, strums reach over 1 to 100 ms, the meter and the upbeat are fractions, quarters a minute are 1 to 1,000, and keys seven flats to seven sharps
 pub record AreInRange (o : Options) : Type 0 where
+  pub hands : IfGiven o.hands IsKeyboard
   pub strum : IfGiven o.strum IsReach
   pub meter : IfGiven o.meter IsFraction
   pub tempo : IfGiven o.tempo IsPace

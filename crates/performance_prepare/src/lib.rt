@@ -1,15 +1,18 @@
 //! A take prepared by options: what was recorded on a keyboard is brought to the meter, tempo, upbeat and key that were meant,
-//! its hands are split into two channels, its strummed chords begin
-//! together, and its drums are left out. Each option is a map of takes that has a definition of
+//! its hands are split into two channels, at a key or by a border that moves with them, its strummed chords begin together,
+//! and its drums are left out. Each option is a map of takes that has a definition of
 //! its own, and the options are taken in one order, whatever the order in which they are given. The performance that is
 //! loaded of a prepared take is well formed.
 #![tactic(auto)]
 
 mod drums;
 mod elapsed;
+mod groups;
+mod hands;
 mod keying;
 mod laws;
 mod meter;
+mod middle;
 mod options;
 mod prepare_fault;
 mod preparing;

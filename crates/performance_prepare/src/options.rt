@@ -14,6 +14,8 @@ pub struct Options {
     pub no_drums: bool,
     /// The notes below this key, 1 to 127, get channels of their own.
     pub split: Option<u8>,
+    /// The channel, 0 to 15 but not 9, that two hands played in: the left hand gets a channel of its own.
+    pub hands: Option<u8>,
     /// Notes of a channel that begin at most so many milliseconds one after the other, 1 to 100, and sound on are one chord.
     pub strum: Option<u8>,
     /// The one signature, of 1 to 64 beats.

@@ -10,7 +10,7 @@ use std::fmt;
 pub enum PrepareFault {
     /// Without drums no note is left.
     NoNotes,
-    /// The split has no channel left for each voice: there would be this many, more than 16.
+    /// The split or the hands have no channel left for each voice: there would be this many, more than 16.
     TooManyVoices { count: u64 },
     /// A quarter note of the tempo would have this many ticks, none or more than 32,767.
     WrongDivision { division: u64 },

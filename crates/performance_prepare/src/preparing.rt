@@ -4,9 +4,10 @@ ghost use Rattle.performance_prepare.specs.Prepared as maps;
 ghost use Rattle.performance_prepare.specs.Ranges.{AreInRange, IfGiven, IsFraction, IsPace};
 ghost use Rattle.performance_prepare.specs.Shift.{latest_mark};
 ghost use Rattle.rhythm_base.specs.declared.limits.TheConstants.{LATEST_EVENT};
-ghost use Rattle.std.specs.Prelude.{IfOk};
+ghost use Rattle.std.specs.Prelude.{◌≡◌, IfOk};
 
 use crate::drums::without_drums;
+use crate::hands::with_hands;
 use crate::keying::with_key;
 use crate::meter::with_meter;
 use crate::options::{Fraction, Options};
@@ -37,6 +38,35 @@ fn told_split(alloc: Global, split: Option<u8>, take: Take) -> Result<Take, Prep
     match split {
         None => Ok(take),
         Some(key) => with_split(alloc, key, take),
+    }
+}
+
+/// How near each other notes of a group begin, in milliseconds from note to note, where no strum reaches over more.
+const NEAR: u8 = 15;
+
+/// How near each other notes of a group begin, where strums of so many milliseconds are told.
+fn group_reach(strum: Option<u8>) -> u8
+    ensures { result ≡ maps.group_reach strum }
+{
+    match strum {
+        None => NEAR,
+        Some(within) => within.max(NEAR),
+    }
+}
+
+/// The take whose left hand has a channel of its own, if the channel of two hands is told.
+fn told_hands(
+    alloc: Global,
+    hands: Option<u8>,
+    strum: Option<u8>,
+    take: Take,
+) -> Result<Take, PrepareFault>
+    requires { IsTakeFormed take }
+    ensures { Answers (maps.told_hands hands strum take) result }
+{
+    match hands {
+        None => Ok(take),
+        Some(channel) => with_hands(alloc, channel, group_reach(strum), take),
     }
 }
 
@@ -97,8 +127,8 @@ fn told_key(alloc: Global, key: Option<i8>, take: Take) -> Result<Take, PrepareF
     }
 }
 
-/// The take prepared by the options: drums, split, strum, meter, tempo, upbeat and key, in this order. A fault is that of the first
-/// map that has one.
+/// The take prepared by the options: drums, split, hands, strum, meter, tempo, upbeat and key, in this order. A fault is that of the
+/// first map that has one.
 pub fn prepared(alloc: Global, options: &Options, take: Take) -> Result<Take, PrepareFault>
     requires range { AreInRange options.now }
     requires formed { IsTakeFormed take }
@@ -108,7 +138,8 @@ pub fn prepared(alloc: Global, options: &Options, take: Take) -> Result<Take, Pr
 {
     let pitched = told_drums(alloc, options.no_drums, take)?;
     let split = told_split(alloc, options.split, pitched)?;
-    let strummed = told_strum(alloc, options.strum, split)?;
+    let handed = told_hands(alloc, options.hands, options.strum, split)?;
+    let strummed = told_strum(alloc, options.strum, handed)?;
     let metered = told_meter(alloc, options.meter, strummed)?;
     let timed = told_tempo(alloc, options.tempo, metered)?;
     let placed = told_upbeat(alloc, options.upbeat, timed)?;

@@ -61,7 +61,7 @@ fn split_channels(alloc: Global, key: u8, notes: &[Note]) -> Result<Vec<u8>, All
 }
 
 /// The channels without a note, in the order in which they are given away.
-fn free_channels(alloc: Global, notes: &[Note]) -> Result<Vec<u8>, AllocError>
+pub fn free_channels(alloc: Global, notes: &[Note]) -> Result<Vec<u8>, AllocError>
     ensures { IfOk result (λ v. v.items ≡ splits.free_channels notes.now) }
 {
     SPARE
@@ -72,7 +72,7 @@ fn free_channels(alloc: Global, notes: &[Note]) -> Result<Vec<u8>, AllocError>
 }
 
 /// The channels with a note, rising.
-fn voice_channels(alloc: Global, notes: &[Note]) -> Result<Vec<u8>, AllocError>
+pub fn voice_channels(alloc: Global, notes: &[Note]) -> Result<Vec<u8>, AllocError>
     ensures { IfOk result (λ v. v.items ≡ splits.voice_channels notes.now) }
 {
     ALL.iter()

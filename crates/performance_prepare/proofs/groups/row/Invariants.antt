@@ -1,0 +1,7 @@
+use Rattle.std.proofs.Common.{ℕ, ◌≡◌, ◌<◌, length}
+use Rattle.std.specs.Prelude.{slice_index}
+use Rattle.performance_prepare.specs.Groups.{cost}
+use Rattle.performance_prepare.proofs.groups.row.Given as goal
+
+abbrev pub invariant-borders : goal.invariant-borders
+invariant-borders l = record { each : (k : ℕ) → k < l.border → slice_index l.costs k ≡ cost l.middle l.struck l.held k; long : length l.costs ≡ 129 }

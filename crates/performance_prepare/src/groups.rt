@@ -1,0 +1,252 @@
+ghost use Rattle.note_list.specs.Pairing.{IsPlayed};
+ghost use Rattle.performance_prepare.specs.Ends as held;
+ghost use Rattle.performance_prepare.specs.Ends.{AreEnds};
+ghost use Rattle.performance_prepare.specs.Groups as groups;
+ghost use Rattle.performance_prepare.specs.Middle.{numbers_from};
+ghost use Rattle.rhythm_base.specs.Lists.{gap, greatest, least_of};
+ghost use Rattle.rhythm_base.specs.declared.limits.TheConstants.{LATEST_EVENT, MOST_NOTES};
+ghost use Rattle.rhythm_base.specs.declared.note.Note.{Note};
+ghost use Rattle.std.specs.Prelude.{◌≡◌, ◌≤◌, ◌<◌, ◌*◌, ◌∷◌, ◌++◌, ◌&&◌, All, IfOk, drop, filter, length, List, map, nat_lt, not, slice_index};
+ghost use Rattle.std.specs.List.{slice_range};
+
+use crate::elapsed::{milliseconds, time_between};
+use crate::middle::{greatest_of, keys_below, keys_from, least_number};
+use crate::strum::strikes;
+use hand_borders::BORDERS;
+use rhythm_base::Note;
+use std::alloc::{AllocError, Global};
+use tempo_map::TempoMap;
+
+/// For how many milliseconds more a note sounds past the beginning of a group where it is held.
+const HELD: u8 = 60;
+
+/// The note begins soon after another.
+fn begins_near(map: &TempoMap, division: u16, within: u8, last: &Note, note: &Note) -> bool
+    requires last { IsPlayed LATEST_EVENT last.now }
+    requires note { IsPlayed LATEST_EVENT note.now }
+    ensures { result ≡ groups.begins_near map.now.tempos division within last.now note.now }
+{
+    time_between(map, last.onset, note.onset) <= milliseconds(division, within)
+}
+
+/// Where the group that begins at a note ends: the place after its last note.
+pub fn group_end(map: &TempoMap, division: u16, within: u8, notes: &[Note], start: usize) -> usize
+    requires notes { All (IsPlayed LATEST_EVENT) notes.now }
+    requires start { start < length notes.now }
+    ensures group { groups.groups map.now.tempos division within (drop start notes.now)
+        ≡ slice_range notes.now start result ∷ groups.groups map.now.tempos division within (drop result notes.now) }
+    ensures later { start < result }
+    ensures within { result ≤ length notes.now }
+{
+    'notes: for end in start + 1..notes.len() {
+        if !begins_near(map, division, within, &notes[end - 1], &notes[end]) {
+            return end;
+        }
+    }
+    notes.len()
+}
+
+/// How far apart two numbers are.
+fn apart(a: u64, b: u64) -> u64
+    ensures { result ≡ gap a b }
+{
+    if a < b { b - a } else { a - b }
+}
+
+/// What keys near a border cost.
+fn nearness(border: u8, keys: &[u8]) -> u64
+    requires few { length keys.now ≤ MOST_NOTES }
+    ensures nearness { result ≡ groups.nearness border keys.now }
+    ensures low { result ≤ 200 * length keys.now }
+{
+    let mut total = 0;
+    for key in keys {
+        total += 20 * 10u64.saturating_sub(apart(2 * u64::from(*key) + 1, 2 * u64::from(border)));
+    }
+    total
+}
+
+/// The keys as numbers.
+fn numbers_of(alloc: Global, keys: &[u8]) -> Result<Vec<u64>, AllocError>
+    ensures { IfOk result (λ v. v.items ≡ keys.now) }
+{
+    keys.iter().map(|key| u64::from(*key)).collect(alloc)
+}
+
+/// The semitones that the keys of a hand are apart, above an octave.
+fn stretch(alloc: Global, keys: &[u8]) -> Result<u64, AllocError>
+    requires { All (λ k. k < 128) keys.now }
+    ensures stretch { IfOk result (λ n. n ≡ groups.stretch keys.now) }
+    ensures low { IfOk result (λ n. n ≤ 127) }
+{
+    let numbers = numbers_of(alloc, keys)?;
+    Ok(
+        greatest_of(&numbers)
+            .saturating_sub(least_number(&numbers))
+            .saturating_sub(12),
+    )
+}
+
+/// How many keys a hand holds that strikes something.
+fn held_beside(struck: &[u8], held: &[u8]) -> u64
+    ensures keys { result ≡ groups.held_beside struck.now held.now }
+    ensures few { result ≤ length held.now }
+{
+    if struck.is_empty() {
+        0
+    } else {
+        held.len() as u64
+    }
+}
+
+/// What a border costs in a group that strikes these keys where those are held.
+fn cost(
+    alloc: Global,
+    middle: u64,
+    struck: &[u8],
+    held: &[u8],
+    border: u8,
+) -> Result<u32, AllocError>
+    requires middle { middle ≤ 128 }
+    requires border { border ≤ 128 }
+    requires few { length struck.now ≤ MOST_NOTES }
+    requires struck { All (λ k. k < 128) struck.now }
+    requires held_few { length held.now ≤ 128 }
+    requires held { All (λ k. k < 128) held.now }
+    ensures { IfOk result (λ n. n ≡ groups.cost middle struck.now held.now border) }
+{
+    let left = keys_below(alloc, border, struck)?;
+    let right = keys_from(alloc, border, struck)?;
+    let held_left = keys_below(alloc, border, held)?;
+    let held_right = keys_from(alloc, border, held)?;
+    let moved = struck.len() as u64 * apart(u64::from(border), middle);
+    let wide = stretch(alloc, &left)? + stretch(alloc, &right)?;
+    let cut = held_beside(&left, &held_left) + held_beside(&right, &held_right);
+    Ok((moved + nearness(border, struck) + 100 * wide + 1_000 * cut) as u32)
+}
+
+/// What each border costs in a group.
+fn row(alloc: Global, middle: u64, struck: &[u8], held: &[u8]) -> Result<[u32; BORDERS], AllocError>
+    requires middle { middle ≤ 128 }
+    requires few { length struck.now ≤ MOST_NOTES }
+    requires struck { All (λ k. k < 128) struck.now }
+    requires held_few { length held.now ≤ 128 }
+    requires held { All (λ k. k < 128) held.now }
+    ensures { IfOk result (λ r. r ≡ map (groups.cost middle struck.now held.now) (numbers_from 0 129)) }
+{
+    let mut costs = [0u32; BORDERS];
+    'borders: for border in 0..BORDERS {
+        costs[border] = cost(alloc, middle, struck, held, border as u8)?;
+    }
+    Ok(costs)
+}
+
+/// The keys of notes.
+pub fn keys_of(alloc: Global, notes: &[Note]) -> Result<Vec<u8>, AllocError>
+    ensures { IfOk result (λ v. v.items ≡ map (λ n. n.key) notes.now) }
+{
+    notes.iter().map(|note| note.key).collect(alloc)
+}
+
+/// The first onset of a group, 0 without notes.
+fn first_onset(group: &[Note]) -> u64
+    ensures { result ≡ groups.first_onset group.now }
+{
+    match group {
+        [] => 0,
+        [note, ..] => note.onset,
+    }
+}
+
+/// The last note of a key, which ends there, sounds on past a group's beginning, and the key is not struck in the group.
+fn is_held(map: &TempoMap, division: u16, end: u64, group: &[Note], key: u8) -> bool
+    requires end { end ≤ LATEST_EVENT }
+    requires group { All (IsPlayed LATEST_EVENT) group.now }
+    ensures { result ≡ held.holds map.now.tempos division end group.now key }
+{
+    !strikes(group, key)
+        && milliseconds(division, HELD) < time_between(map, first_onset(group), end)
+}
+
+/// The keys that are held past a group's beginning, by the ends of the last notes of the keys before.
+fn held_keys(
+    alloc: Global,
+    map: &TempoMap,
+    division: u16,
+    ends: &[u64; 128],
+    group: &[Note],
+) -> Result<Vec<u8>, AllocError>
+    requires ends { All (λ end. end ≤ LATEST_EVENT) ends.now }
+    requires group { All (IsPlayed LATEST_EVENT) group.now }
+    ensures { IfOk result (λ v. v.items ≡ held.held_by map.now.tempos division ends.now group.now) }
+{
+    let mut list = Vec::new(alloc);
+    'keys: for key in 0..128u8 {
+        if is_held(map, division, ends[key as usize], group, key) {
+            list.push(key)?;
+        }
+    }
+    Ok(list)
+}
+
+/// The ends of the last notes of all keys, after a group more.
+fn ends_with(ends: &[u64; 128], group: &[Note]) -> [u64; 128]
+    requires ends { All (λ end. end ≤ LATEST_EVENT) ends.now }
+    requires group { All (IsPlayed LATEST_EVENT) group.now }
+    ensures ends { (before : List Note) → AreEnds ends.now before → AreEnds result (before ++ group.now) }
+    ensures low { All (λ end. end ≤ LATEST_EVENT) result }
+{
+    let mut later = *ends;
+    for note in group {
+        later[note.key as usize] = note.end;
+    }
+    later
+}
+
+/// What each border costs in a group, by the ends of the last notes of the keys before it.
+fn row_of(
+    alloc: Global,
+    map: &TempoMap,
+    division: u16,
+    middle: u64,
+    ends: &[u64; 128],
+    group: &[Note],
+) -> Result<[u32; BORDERS], AllocError>
+    requires middle { middle ≤ 128 }
+    requires few { length group.now ≤ MOST_NOTES }
+    requires ends { All (λ end. end ≤ LATEST_EVENT) ends.now }
+    requires group { All (IsPlayed LATEST_EVENT) group.now }
+    ensures { IfOk result (λ r. r ≡ held.row_by map.now.tempos division middle ends.now group.now) }
+{
+    let struck = keys_of(alloc, group)?;
+    let held = held_keys(alloc, map, division, ends, group)?;
+    row(alloc, middle, &struck, &held)
+}
+
+/// What each border costs in each group of the notes of a channel.
+pub fn costs(
+    alloc: Global,
+    map: &TempoMap,
+    division: u16,
+    within: u8,
+    middle: u64,
+    notes: &[Note],
+) -> Result<Vec<[u32; BORDERS]>, AllocError>
+    requires middle { middle ≤ 128 }
+    requires few { length notes.now ≤ MOST_NOTES }
+    requires notes { All (IsPlayed LATEST_EVENT) notes.now }
+    ensures costs { IfOk result (λ v. v.items ≡ groups.costs map.now.tempos division middle (groups.groups map.now.tempos division within notes.now)) }
+    ensures few { IfOk result (λ v. length v.items ≤ MOST_NOTES) }
+{
+    let mut rows = Vec::new(alloc);
+    let mut ends = [0u64; 128];
+    let mut start = 0;
+    'groups: while start < notes.len() {
+        let end = group_end(map, division, within, notes, start);
+        let group = &notes[start..end];
+        rows.push(row_of(alloc, map, division, middle, &ends, group)?)?;
+        ends = ends_with(&ends, group);
+        start = end;
+    }
+    Ok(rows)
+}
