@@ -1,15 +1,15 @@
 -- The costs of groups: no number is too great, and what is held is told by the ends of the last notes.
-use Rattle.std.proofs.Common.{◌≡◌, ◌≢◌, ◌⊎◌, ℕ, zero, suc, ◌+◌, ◌-◌, ◌*◌, ◌<◌, ◌≤◌, ◌^◌, Bool, true, false, cond, eqb, ltb, List, [], ◌∷◌, ◌++◌, length, map, set, take, drop, get_or, max, min, inl, inr, refl, sym, ap, ◌∙◌, subst, arith, append_assoc, length-append, length-drop}
-use Rattle.std.specs.Prelude.{All, ◌==◌, ◌&&◌, filter, fold, not, nat_lt, slice_get, slice_index, Option, Some, None}
+use Rattle.std.proofs.Common.{◌≡◌, ◌≢◌, ◌⊎◌, ℕ, zero, suc, ◌+◌, ◌-◌, ◌<◌, ◌≤◌, Bool, true, false, cond, eqb, List, [], ◌∷◌, ◌++◌, length, map, set, take, drop, get_or, inl, inr, refl, sym, ap, ◌∙◌, subst, arith, append_assoc, length-append, length-drop}
+use Rattle.std.specs.Prelude.{All, ◌==◌, ◌&&◌, filter, not, nat_lt, slice_get, slice_index, Option, Some, None}
 use Rattle.std.specs.List.{slice_range}
 use Rattle.std.proofs.lemmas.Bool.{cases_order}
 use Rattle.std.proofs.lemmas.Bool.Decides.{nat_tests}
 use Rattle.std.proofs.lemmas.List.{append-nil, get_or-set_other, get_or-set_same, length-map, length-set, same_lists, take_more}
-use Rattle.rhythm_base.proofs.Members.{Among, all_among, all_from_among, out_of}
+use Rattle.rhythm_base.proofs.Members.{all_among, all_from_among, out_of}
 use Rattle.rhythm_base.proofs.ListParts.{filter_few}
 use Rattle.rhythm_base.proofs.OrderedLists.{all_head}
 use Rattle.note_list.specs.Pairing.{IsPlayed}
-use Rattle.rhythm_base.specs.Lists.{greatest, last_of, least_of}
+use Rattle.rhythm_base.specs.Lists.{greatest, last_of}
 use Rattle.rhythm_base.specs.Time.{time}
 use Rattle.rhythm_base.specs.declared.event.Tempo.{Tempo}
 use Rattle.rhythm_base.specs.declared.note.Note.{Note}

@@ -1,34 +1,30 @@
 -- The notes of two hands are at different places, and well formed.
-use Rattle.std.proofs.Common.{◌≡◌, ◌≢◌, ◌⊎◌, ℕ, zero, suc, ◌+◌, ◌-◌, ◌*◌, ◌<◌, ◌≤◌, eqb, ltb, Bool, true, false, not, cond, inl, inr, List, [], ◌∷◌, ◌++◌, length, map, take, drop, get_or, refl, sym, ap, ◌∙◌, subst, arith, append_assoc, length-append, length-drop, Ok, Err}
-use Rattle.std.specs.Prelude.{◌==◌, ◌||◌, nat_lt, All, Contains, filter, Result}
-use Rattle.std.specs.List.{IsDistinct, flat_map, list_any, slice_range}
+use Rattle.std.proofs.Common.{◌≡◌, ◌≢◌, ◌⊎◌, ℕ, ◌+◌, ◌-◌, ◌<◌, ◌≤◌, eqb, Bool, true, false, not, cond, inl, inr, List, [], ◌∷◌, ◌++◌, length, map, drop, get_or, refl, sym, ap, ◌∙◌, subst, arith, append_assoc, length-append, length-drop, Ok}
+use Rattle.std.specs.Prelude.{◌==◌, ◌||◌, nat_lt}
+use Rattle.std.specs.List.{IsDistinct, flat_map, slice_range}
 use Rattle.std.specs.List.Sorted.{IsPermutation}
 use Rattle.std.proofs.lemmas.Bool.Decides.{nat_tests}
 use Rattle.std.proofs.lemmas.List.{append-nil, drop_more, length-take}
-use Rattle.std.proofs.lemmas.List.Elements.{All-filter}
-use Rattle.std.proofs.lemmas.List.Sorted.{All-permutation, Contains-permutation, IsPermutation-filter_both, IsPermutation-map, IsPermutation-refl, IsPermutation-trans, length_permutation}
+use Rattle.std.proofs.lemmas.List.Sorted.{All-permutation, IsPermutation-filter_both, length_permutation}
 use Rattle.std.proofs.lemmas.Map.Keys.{IsDistinct-from_apart}
 use Rattle.note_list.proofs.OneList.{placed_in_order}
 use Rattle.note_list.specs.Kept.{same_place}
 use Rattle.note_list.specs.Pairing.{IsPlayed}
-use Rattle.rhythm_base.proofs.ListParts.{filter_few}
-use Rattle.rhythm_base.proofs.Members.{Among, Pairwise, among_both, among_contained, among_left, among_right, all_among, all_from_among, kept_by, out_of, pairs_filter, pairs_from, pairs_join, pairs_weaken, place_among}
+use Rattle.rhythm_base.proofs.Members.{Among, Pairwise, among_both, among_left, among_right, out_of, pairs_filter, pairs_from, pairs_join, pairs_weaken}
 use Rattle.rhythm_base.proofs.PairedLists.{each_append}
 use Rattle.rhythm_base.specs.Lists.{AreInOrder, Each}
 use Rattle.rhythm_base.specs.Performance.{place_of_note}
 use Rattle.rhythm_base.specs.declared.event.Tempo.{Tempo}
 use Rattle.rhythm_base.specs.declared.note.Note.{Note}
 use Rattle.hand_borders.proofs.FirstLeast.{are_least}
-use Rattle.hand_borders.specs.Borders.{AreBorders, least_borders}
+use Rattle.hand_borders.specs.Borders.{AreBorders}
 use Rattle.performance_load.specs.Take.{Take}
 use Rattle.performance_load.specs.Taking.{IsTakeFormed}
 use Rattle.performance_prepare.specs.Groups.{begins_near, costs, costs_after, groups}
-use Rattle.performance_prepare.specs.Hands.{borders_of, handed_note, handed_notes, is_one_hand, left_notes, middle_of, notes_below, notes_of, other_notes, with_borders, with_hands, with_left}
+use Rattle.performance_prepare.specs.Hands.{borders_of, handed_note, handed_notes, is_one_hand, left_notes, middle_of, notes_below, notes_of, other_notes, with_hands, with_left}
 use Rattle.performance_prepare.specs.Laws.{unvoiced}
 use Rattle.performance_prepare.specs.Parts.{parts, parts_from}
-use Rattle.performance_prepare.specs.Split.{free_channels, in_order, sounds, voice_channels}
-use Rattle.performance_prepare.specs.declared.prepare_fault.PrepareFault.{PrepareFault}
-use Rattle.performance_prepare.specs.declared.prepare_fault.PrepareFault.TheVariants.{TooManyVoices}
+use Rattle.performance_prepare.specs.Split.{free_channels, in_order, sounds}
 use Rattle.performance_prepare.proofs.Kept.{IsReady}
 use Rattle.performance_prepare.proofs.Parting.{free_below, order_permuted, same_order, silent}
 use Rattle.performance_prepare.proofs.Strummed.{all_each, each_long, each_mapped}
@@ -153,7 +149,7 @@ module _ (c left : ℕ) where
   each_self [] = refl
   each_self (n ∷ ns) = (inl refl, each_self ns)
 
-  partner : (ns zs : List Note) → Each IsHanded ns zs → (w : Note) → Among w zs → (m : Note) × Among m ns × IsHanded m w
+  pub partner : (ns zs : List Note) → Each IsHanded ns zs → (w : Note) → Among w zs → (m : Note) × Among m ns × IsHanded m w
   partner [] zs h w aw = absurd (subst (Among w) h aw)
   partner (n ∷ ns) [] h w aw = absurd h
   partner (n ∷ ns) (z ∷ zs) h w (inl e) = (n, inl refl, subst (IsHanded n) (sym e) h.0)
@@ -190,7 +186,7 @@ module _ (c left : ℕ) where
   handed_played latest low n z h (inl e) = subst (IsPlayed latest) (sym e) h
   handed_played latest low n z h (inr e) = subst (IsPlayed latest) (sym e.1) (record { channel = low; key = h.key; after = h.after; within = h.within })
 
-  handed_unvoiced : (ns zs : List Note) → Each IsHanded ns zs → map unvoiced zs ≡ map unvoiced ns
+  pub handed_unvoiced : (ns zs : List Note) → Each IsHanded ns zs → map unvoiced zs ≡ map unvoiced ns
   handed_unvoiced [] zs h = ap (map unvoiced) h
   handed_unvoiced (n ∷ ns) [] h = absurd h
   handed_unvoiced (n ∷ ns) (z ∷ zs) h = λ i. one h.0 i ∷ handed_unvoiced ns zs h.1 i
@@ -202,10 +198,10 @@ module _ (c left : ℕ) where
 -- ---- the notes of a take
 
 module _ (channel within left : ℕ) (t : Take) (formed : IsTakeFormed t) where
-  abbrev Own : List Note
+  abbrev pub Own : List Note
   Own = notes_of channel t.notes
 
-  abbrev Others : List Note
+  abbrev pub Others : List Note
   Others = other_notes channel t.notes
 
   abbrev Groups : List (List Note)
@@ -214,7 +210,7 @@ module _ (channel within left : ℕ) (t : Take) (formed : IsTakeFormed t) where
   abbrev Borders : List ℕ
   Borders = borders_of t.tempos t.division within Own
 
-  abbrev Hands : List Note
+  abbrev pub Hands : List Note
   Hands = Others ++ handed_notes left Groups Borders
 
   own : (n : Note) → Among n Own → n.channel ≡ channel
@@ -259,7 +255,7 @@ module _ (channel within left : ℕ) (t : Take) (formed : IsTakeFormed t) where
           by true e = let c : m.channel ≡ n.channel = grind (arith, nat_tests) in absurd (h (c ∙ k))
           by false e = refl
 
-  in_take : (n : Note) → Among n (Others ++ Own) → Among n t.notes
+  pub in_take : (n : Note) → Among n (Others ++ Own) → Among n t.notes
   in_take n am = by (among_both Others Own n am)
     where
       by : Among n Others ⊎ Among n Own → Among n t.notes

@@ -3,6 +3,7 @@ pub mod Cutting
 pub mod Fineness
 pub mod Grouped
 pub mod Handed
+pub mod HandsKept
 pub mod InForce
 pub mod Kept
 pub mod LawsKept

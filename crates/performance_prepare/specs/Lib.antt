@@ -2,6 +2,7 @@ pub mod Drums
 pub mod Elapsed
 pub mod Ends
 pub mod Groups
+pub mod HandLaws
 pub mod Hands
 pub mod Keying
 pub mod Laws

@@ -8,6 +8,7 @@ ghost use Rattle.performance_prepare.specs.Laws.{
   TemposKeepTime,
   UpbeatsKeepDistances,
 };
+ghost use Rattle.performance_prepare.specs.HandLaws.{HandsAreLeast, HandsKeepNotes, HandsLieApart};
 ghost use Rattle.performance_prepare.specs.StrumLaws.{StrumsKeepNotes, StrumsStayBetween};
 
 /// Without options the performance of a file is as ever.
@@ -58,4 +59,19 @@ pub fn strums_keep_notes()
 /// A strum begins between its first onset and its last.
 pub fn strums_stay_between()
     ensures { StrumsStayBetween }
+{}
+
+/// But for their channels, the notes of two hands are the same; those of other channels stay, and one channel at most is new.
+pub fn hands_keep_notes()
+    ensures { HandsKeepNotes }
+{}
+
+/// No list of borders costs less than that of the hands, and none that costs as much comes before it.
+pub fn hands_are_least()
+    ensures { HandsAreLeast }
+{}
+
+/// In a group each note of the left hand lies below each of the right.
+pub fn hands_lie_apart()
+    ensures { HandsLieApart }
 {}

@@ -1,6 +1,4 @@
-use Rattle.std.proofs.Common.{rules, arith, ◌≡◌, ◌≤◌, ◌*◌, length, ap}
-use Rattle.std.specs.Prelude.{List}
-use Rattle.rhythm_base.specs.Lists.{gap}
+use Rattle.std.proofs.Common.{arith, ◌≤◌, ◌*◌, length, ap}
 use Rattle.std.proofs.Math.Nat.{mul-le-mul_left}
 use Rattle.performance_prepare.proofs.groups.cost.Goals as goal
 

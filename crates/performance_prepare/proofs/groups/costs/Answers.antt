@@ -1,12 +1,11 @@
 use Rattle.std.proofs.Common.{rules, arith, ℕ, ◌≡◌, ◌≤◌, ◌+◌, ◌∙◌, ◌++◌, ◌∷◌, [], List, ap, length, take, length-append}
-use Rattle.std.specs.Prelude.{All}
 use Rattle.std.specs.List.{slice_range}
 use Rattle.std.proofs.lemmas.List.{get_or-replicate}
 use Rattle.rhythm_base.specs.declared.event.Tempo.{Tempo}
 use Rattle.rhythm_base.specs.declared.note.Note.{Note}
-use Rattle.performance_prepare.specs.Ends.{AreEnds, row_by}
+use Rattle.performance_prepare.specs.Ends.{row_by}
 use Rattle.performance_prepare.specs.Groups.{costs, costs_after, groups}
-use Rattle.performance_prepare.proofs.Grouped.{costs_end, costs_more, taken_ends}
+use Rattle.performance_prepare.proofs.Grouped.{costs_more, taken_ends}
 use Rattle.performance_prepare.proofs.groups.costs.Goals as goal
 
 pub groups-init : goal.groups-init

@@ -1,5 +1,4 @@
-use Rattle.std.proofs.Common.{rules, arith, ◌≡◌, ◌≤◌, ◌∙◌, get_or, length}
-use Rattle.std.specs.Prelude.{All}
+use Rattle.std.proofs.Common.{◌≤◌, ◌∙◌, get_or}
 use Rattle.std.proofs.lemmas.List.{length-set}
 use Rattle.note_list.specs.Pairing.{IsPlayed}
 use Rattle.rhythm_base.specs.declared.note.Note.{Note}

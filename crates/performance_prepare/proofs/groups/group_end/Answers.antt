@@ -1,5 +1,4 @@
-use Rattle.std.proofs.Common.{rules, arith, ℕ, ◌≡◌, ◌≤◌, ◌<◌, ◌-◌, ◌+◌, true, false, Bool, List, refl, sym, ◌∙◌, get_or, length}
-use Rattle.std.specs.List.{slice_range}
+use Rattle.std.proofs.Common.{rules, arith, ◌≡◌, true, false, sym, ◌∙◌}
 use Rattle.rhythm_base.specs.declared.note.Note.{Note}
 use Rattle.performance_prepare.specs.Groups.{begins_near}
 use Rattle.performance_prepare.proofs.Cutting.{parts_begin, parts_first, parts_last, parts_more}

@@ -1,5 +1,4 @@
 use Rattle.std.proofs.Common.{◌≡◌, drop}
-use Rattle.rhythm_base.specs.declared.note.Note.{Note}
 use Rattle.performance_prepare.specs.Groups.{begins_near, groups}
 use Rattle.performance_prepare.proofs.Cutting.{Cut}
 use Rattle.performance_prepare.proofs.groups.group_end.Given as goal

@@ -1,4 +1,4 @@
-use Rattle.std.proofs.Common.{rules, arith, ℕ, Bool, true, false, List, sym, ◌∙◌, ◌≡◌, ◌+◌, ◌++◌}
+use Rattle.std.proofs.Common.{rules, ℕ, Bool, true, false, List, sym, ◌∙◌, ◌≡◌, ◌+◌, ◌++◌}
 use Rattle.std.specs.Prelude.{filter, slice_index}
 use Rattle.performance_prepare.specs.Ends.{held_by, holds}
 use Rattle.performance_prepare.specs.Middle.{numbers_from}

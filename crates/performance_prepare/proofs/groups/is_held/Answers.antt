@@ -1,4 +1,4 @@
-use Rattle.std.proofs.Common.{rules, arith}
+use Rattle.std.proofs.Common.{arith}
 use Rattle.performance_prepare.proofs.Grouped.{first_low}
 use Rattle.performance_prepare.proofs.groups.is_held.Goals as goal
 

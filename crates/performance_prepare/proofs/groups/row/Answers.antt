@@ -1,6 +1,5 @@
-use Rattle.std.proofs.Common.{rules}
 use Rattle.performance_prepare.specs.Groups.{cost}
-use Rattle.performance_prepare.proofs.Grouped.{row_is, row_more}
+use Rattle.performance_prepare.proofs.Grouped.{row_is}
 use Rattle.performance_prepare.proofs.groups.row.Goals as goal
 
 pub returns : goal.returns

@@ -1,6 +1,5 @@
-use Rattle.std.proofs.Common.{rules, ◌≡◌, ◌≤◌, ◌<◌, List, length, map, sym, subst, ◌∙◌}
+use Rattle.std.proofs.Common.{◌≤◌, ◌<◌, length, sym, subst, ◌∙◌}
 use Rattle.std.specs.Prelude.{All}
-use Rattle.performance_prepare.specs.Ends.{held_by}
 use Rattle.performance_prepare.proofs.Grouped.{held_few, held_low, keys_low}
 use Rattle.performance_prepare.proofs.groups.row_of.Goals as goal
 

@@ -1,4 +1,4 @@
-use Rattle.std.proofs.Common.{rules, ◌<◌, subst, sym, ◌∙◌}
+use Rattle.std.proofs.Common.{◌<◌, subst, sym, ◌∙◌}
 use Rattle.std.specs.Prelude.{All}
 use Rattle.performance_prepare.proofs.Grouped.{keys_low}
 use Rattle.performance_prepare.proofs.hands.borders_of.Goals as goal

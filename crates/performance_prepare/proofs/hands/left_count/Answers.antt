@@ -1,9 +1,7 @@
-use Rattle.std.proofs.Common.{rules, arith, refl, ℕ, List, ◌≡◌, ◌≤◌, ◌+◌, ◌-◌, length, ap, sym, ◌∙◌, get_or}
-use Rattle.std.specs.List.{slice_range}
-use Rattle.rhythm_base.specs.declared.note.Note.{Note}
+use Rattle.std.proofs.Common.{arith, refl, ◌+◌, length, ap, get_or}
 use Rattle.performance_prepare.specs.Groups.{groups}
 use Rattle.performance_prepare.specs.Hands.{left_notes}
-use Rattle.performance_prepare.proofs.Handed.{count_early, count_end, count_more, slice_few}
+use Rattle.performance_prepare.proofs.Handed.{count_end, count_more, slice_few}
 use Rattle.performance_prepare.proofs.hands.left_count.Goals as goal
 
 pub overflow_add-count : goal.overflow_add-count

@@ -1,6 +1,3 @@
-use Rattle.std.proofs.Common.{rules, ◌++◌}
-use Rattle.performance_prepare.specs.Groups.{groups}
-use Rattle.performance_prepare.specs.Hands.{handed_notes}
 use Rattle.performance_prepare.proofs.Handed.{handed_end}
 use Rattle.performance_prepare.proofs.hands.push_hands.Goals as goal
 

@@ -1,8 +1,6 @@
-use Rattle.std.proofs.Common.{rules, arith, ℕ, List, ◌≡◌, ◌≤◌, ◌<◌, ◌++◌, ap, get_or, length, sym, subst, ◌∙◌}
+use Rattle.std.proofs.Common.{rules, arith, ◌≡◌, ◌<◌, ◌++◌, ap, get_or, length, sym, subst, ◌∙◌}
 use Rattle.std.specs.Prelude.{◌==◌, All}
-use Rattle.std.specs.List.{IsDistinct}
 use Rattle.std.proofs.lemmas.List.Elements.{All-filter}
-use Rattle.note_list.specs.Kept.{same_place}
 use Rattle.note_list.specs.Pairing.{IsPlayed}
 use Rattle.rhythm_base.proofs.ListParts.{filter_few}
 use Rattle.rhythm_base.specs.declared.note.Note.{Note}

@@ -1,6 +1,5 @@
-use Rattle.std.proofs.Common.{rules, arith, ℕ, Bool, true, false, ap, sym, ◌∙◌, ◌≡◌, ◌+◌, ◌-◌, ◌++◌, List, eqb}
+use Rattle.std.proofs.Common.{rules, ℕ, Bool, true, false, ◌∙◌, ◌≡◌, ◌+◌, ◌-◌, ◌++◌, List}
 use Rattle.std.specs.Prelude.{◌==◌, filter, slice_index}
-use Rattle.std.proofs.lemmas.Bool.Decides.{nat_tests}
 use Rattle.performance_prepare.specs.Middle.{inner_borders, numbers_from}
 use Rattle.performance_prepare.proofs.Middles.{kept_more, left_out, none_left, test_false, test_true}
 use Rattle.performance_prepare.proofs.middle.borders_at.Goals as goal

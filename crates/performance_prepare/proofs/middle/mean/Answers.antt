@@ -1,4 +1,4 @@
-use Rattle.std.proofs.Common.{rules, arith, ◌≡◌, ◌≤◌, ◌*◌, length}
+use Rattle.std.proofs.Common.{arith, length}
 use Rattle.performance_prepare.proofs.Middles.{mean_low}
 use Rattle.performance_prepare.proofs.middle.mean.Goals as goal
 

@@ -1,5 +1,4 @@
-use Rattle.std.proofs.Common.{rules, arith, ℕ, List, ap, sym, ◌∙◌, ◌≡◌, ◌≤◌, ◌-◌, length, map}
-use Rattle.std.specs.Prelude.{◌==◌, filter, slice_index}
+use Rattle.std.proofs.Common.{arith, ℕ, List, ap, sym, ◌∙◌, ◌≡◌, map}
 use Rattle.rhythm_base.specs.Lists.{greatest, least_of}
 use Rattle.performance_prepare.specs.Middle.{best_borders, best_parting, inner_borders, parting}
 use Rattle.performance_prepare.proofs.Middles.{border_midway, border_usual, borders_best, greatest_best, least_best, length_partings}

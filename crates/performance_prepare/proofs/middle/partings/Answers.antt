@@ -1,4 +1,4 @@
-use Rattle.std.proofs.Common.{rules, arith, ap, sym, ◌∙◌, ◌≡◌, map}
+use Rattle.std.proofs.Common.{rules, map}
 use Rattle.performance_prepare.specs.Middle.{inner_borders, parting}
 use Rattle.performance_prepare.proofs.Middles.{no_more, one_more}
 use Rattle.performance_prepare.proofs.middle.partings.Goals as goal
