@@ -6,6 +6,7 @@ pub mod Handed
 pub mod HandsKept
 pub mod InForce
 pub mod Kept
+pub mod KeysOnce
 pub mod LawsKept
 pub mod Middles
 pub mod Parting

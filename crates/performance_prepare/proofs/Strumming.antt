@@ -85,7 +85,7 @@ both true true e = (refl, refl)
 both true false e = absurd (cc)
 both false b e = absurd (cc)
 
-one_of : (a b : Bool) → (a || b) ≡ true → (a ≡ true) ⊎ (b ≡ true)
+pub one_of : (a b : Bool) → (a || b) ≡ true → (a ≡ true) ⊎ (b ≡ true)
 one_of true b e = inl refl
 one_of false b e = inr e
 
@@ -103,7 +103,7 @@ strikes_not (n ∷ part) key e m (inr am) same = strikes_not part key (later (eq
     later true h = absurd (cc)
     later false h = h
 
-strikes_some : (part : List Note) (key : ℕ) → strikes part key ≡ true → (m : Note) × Among m part × (m.key ≡ key)
+pub strikes_some : (part : List Note) (key : ℕ) → strikes part key ≡ true → (m : Note) × Among m part × (m.key ≡ key)
 strikes_some [] key e = absurd (cc)
 strikes_some (n ∷ part) key e = go (eqb n.key key) refl e (strikes_some part key)
   where
@@ -176,7 +176,7 @@ module _ (tempos : List Tempo) (division within : ℕ) where
     pub new : (m : Note) → Among m part → m.key ≢ x.key
     pub sounds : (x.onset ≡ y.onset) ⊎ ((m : Note) → Among m part → x.onset < m.end)
 
-  later_end : (part : List Note) (y x : Note) → rolls_on tempos division within part y x ≡ true → (m : Note) → Among m part → x.onset < m.end
+  pub later_end : (part : List Note) (y x : Note) → rolls_on tempos division within part y x ≡ true → (m : Note) → Among m part → x.onset < m.end
   later_end part y x e m am =
       let e2 = (both (nat_le (time_between tempos y.onset x.onset) (milliseconds division within)) (nat_lt (milliseconds division 40) (time_between tempos x.onset (least_of (map (λ n. n.end) part)))) e).1 in
       let low : least_of (map (λ n. n.end) part) ≤ m.end = least_among (map (λ n. n.end) part) m.end (among_map (λ (n : Note). n.end) part m am) in

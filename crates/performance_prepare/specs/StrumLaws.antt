@@ -1,12 +1,15 @@
 -- What holds of strums that begin together.
-use Rattle.std.specs.Prelude.{◌≡◌, ℕ, ◌<◌, ◌≤◌, ◌-◌, List, length, map, slice_index, All, AllPairs}
+use Rattle.std.specs.Prelude.{◌≡◌, ℕ, Bool, ◌<◌, ◌≤◌, ◌-◌, ◌==◌, ◌&&◌, ◌||◌, not, List, length, map, slice_index, All, AllPairs}
 use Rattle.std.specs.List.Sorted.{IsPermutation}
 use Rattle.rhythm_base.specs.Lists.{AreInOrder, Each}
 use Rattle.rhythm_base.specs.Performance.{place_of_note}
+use Rattle.rhythm_base.specs.declared.event.Tempo.{Tempo}
 use Rattle.rhythm_base.specs.declared.note.Note.{Note}
 use Rattle.performance_load.specs.Take.{Take}
 use Rattle.performance_load.specs.Taking.{IsTakeFormed}
-use Rattle.performance_prepare.specs.Strum.{midway, strums, with_strum}
+use Rattle.performance_prepare.specs.Drums.{is_drum}
+use Rattle.performance_prepare.specs.Parts.{parts}
+use Rattle.performance_prepare.specs.Strum.{midway, rolls_on, strums, with_strum}
 
 -- a note that begins elsewhere, but not after its end; one of some ticks has at least one
 pub record IsStruck (n m : Note) : Type 0 where
@@ -35,3 +38,15 @@ pub record IsBetween (strum : List Note) : Type 0 where
 
 abbrev pub StrumsStayBetween : Type 0
 StrumsStayBetween = (within : ℕ) (t : Take) → IsTakeFormed t → All IsBetween (strums t.tempos t.division within t.notes)
+
+-- a note goes on with the strum before it, whatever their keys
+abbrev pub goes_on : List Tempo → ℕ → ℕ → List Note → Note → Note → Bool
+goes_on tempos division within run last n =
+    (n.channel == last.channel) && (not (is_drum n) && ((n.onset == last.onset) || rolls_on tempos division within run last n))
+
+-- where each note ends at the latest where its key is struck again in its channel, as it does in the take of a file, no strum would have a
+-- key twice without the test of it
+abbrev pub StrumsHaveNoKeyTwice : Type 0
+StrumsHaveNoKeyTwice =
+    (within : ℕ) (t : Take) → IsTakeFormed t → AllPairs (λ m n. m.channel ≡ n.channel → m.key ≡ n.key → m.end ≤ n.onset) t.notes
+    → parts (goes_on t.tempos t.division within) t.notes ≡ strums t.tempos t.division within t.notes

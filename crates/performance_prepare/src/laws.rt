@@ -9,7 +9,7 @@ ghost use Rattle.performance_prepare.specs.Laws.{
   UpbeatsKeepDistances,
 };
 ghost use Rattle.performance_prepare.specs.HandLaws.{HandsAreLeast, HandsKeepNotes, HandsLieApart};
-ghost use Rattle.performance_prepare.specs.StrumLaws.{StrumsKeepNotes, StrumsStayBetween};
+ghost use Rattle.performance_prepare.specs.StrumLaws.{StrumsHaveNoKeyTwice, StrumsKeepNotes, StrumsStayBetween};
 
 /// Without options the performance of a file is as ever.
 pub fn no_options_change_nothing()
@@ -59,6 +59,11 @@ pub fn strums_keep_notes()
 /// A strum begins between its first onset and its last.
 pub fn strums_stay_between()
     ensures { StrumsStayBetween }
+{}
+
+/// In the take of a file no strum would have a key twice without the test of it.
+pub fn strums_have_no_key_twice()
+    ensures { StrumsHaveNoKeyTwice }
 {}
 
 /// But for their channels, the notes of two hands are the same; those of other channels stay, and one channel at most is new.
