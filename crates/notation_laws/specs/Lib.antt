@@ -1,0 +1,4 @@
+pub mod Hearing
+pub mod NotesHeard
+pub mod Columns
+pub mod Laws
