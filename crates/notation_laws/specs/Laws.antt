@@ -14,8 +14,8 @@ use Rattle.kern_writer.specs.Values.{AreVoiceValues, VoiceValue}
 use Rattle.notation.specs.Bars.{AreVoiceGroups}
 use Rattle.notation.specs.Notes.{Group}
 use Rattle.notation_laws.specs.Columns.{AreGroupsOfValues}
-use Rattle.notation_laws.specs.Hearing.{HeardSpan}
-use Rattle.notation_laws.specs.NotesHeard.{IsSpanHeard, voice_heard}
+use Rattle.notation_laws.specs.Hearing.{HeardSpan, unheard}
+use Rattle.notation_laws.specs.NotesHeard.{AreHeardInFull, IsSpanHeard, voice_heard}
 
 -- a voice whose sounds can be written over these bars
 pub record IsVoice (resolution : ℕ) (bars : List ScoreBar) (sounds : List Sound) : Type 0 where
@@ -35,6 +35,12 @@ abbrev pub VoicesAreHeard : Type 0
 VoicesAreHeard =
     (resolution : ℕ) (sbars : List ScoreBar) (bars : List Bar) (sounds : List Sound) (all : List (List Group)) → IsVoice resolution sbars sounds
     → HaveSignatures sbars bars → AreVoiceGroups resolution 0 sbars sounds all → IsHeard resolution sbars bars sounds all
+
+-- each bar of a voice is heard in full
+abbrev pub BarsAreHeardInFull : Type 0
+BarsAreHeardInFull =
+    (resolution : ℕ) (bars : List ScoreBar) (sounds : List Sound) (all : List (List Group)) → IsVoice resolution bars sounds
+    → AreVoiceGroups resolution 0 bars sounds all → AreHeardInFull resolution bars (unheard 0) all
 
 -- the groups of a voice are those of the values of its **kern column
 abbrev pub GroupsAreOfTheColumn : Type 0

@@ -42,6 +42,14 @@ hear_bars resolution (bar ∷ bars) h (groups ∷ all) = hear_bar resolution bar
 abbrev pub voice_heard : ℕ → List ScoreBar → List (List Group) → Option (List (HeardSpan ℕ))
 voice_heard resolution bars all = hear_bars resolution bars (unheard 0) all >>= ended_spans
 
+-- bars that are heard in full: each from where the one before ends to as much later as it is long, and no grace chord waits at a barline
+abbrev pub AreHeardInFull : ℕ → List ScoreBar → HeardVoice ℕ → List (List Group) → Type 0
+AreHeardInFull resolution [] h all = all ≡ []
+AreHeardInFull resolution (bar ∷ bars) h [] = ⊥
+AreHeardInFull resolution (bar ∷ bars) h (groups ∷ all) =
+    (next : HeardVoice ℕ) × (hear_bar resolution bar h groups ≡ Some next) × (next.at ≡ h.at + score_bar_parts resolution bar)
+    × (next.graces ≡ []) × AreHeardInFull resolution bars next all
+
 -- a span is what was heard in parts of 1/d of a whole note
 pub record IsSpanHeard (d : ℕ) (heard : HeardSpan ℕ) (x : Span) : Type 0 where
   pub start : IsFrac heard.start d x.start

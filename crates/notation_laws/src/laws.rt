@@ -1,0 +1,16 @@
+ghost use Rattle.notation_laws.specs.Laws.{BarsAreHeardInFull, GroupsAreOfTheColumn, VoicesAreHeard};
+
+/// What is heard of the notes of a voice are the spans of its sounds.
+pub fn voices_are_heard()
+    ensures { VoicesAreHeard }
+{}
+
+/// Each bar of a voice is heard from its barline to the next.
+pub fn bars_are_heard_in_full()
+    ensures { BarsAreHeardInFull }
+{}
+
+/// The groups of a voice are made of the values of its **kern column.
+pub fn groups_are_of_the_column()
+    ensures { GroupsAreOfTheColumn }
+{}
