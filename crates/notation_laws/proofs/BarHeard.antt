@@ -1,6 +1,6 @@
 -- What is heard of the groups of a bar is what is heard of its values.
-use Rattle.std.proofs.Common.{◌≡◌, ℕ, zero, suc, ◌+◌, ◌-◌, ◌*◌, ◌/◌, ◌<◌, ◌≤◌, ◌==◌, Bool, true, false, ◌&&◌, cond, List, [], ◌∷◌, ◌++◌, Option, Some, None, map, refl, sym, ap, ◌∙◌, subst, ◌⊎◌, inl, inr, arith}
-use Rattle.std.specs.Prelude.{if◌then◌else◌, sum}
+use Rattle.std.proofs.Common.{◌≡◌, ℕ, zero, suc, ◌+◌, ◌-◌, ◌*◌, ◌≤◌, ◌==◌, Bool, true, false, cond, List, [], ◌∷◌, Option, Some, None, map, refl, sym, ap, ◌∙◌, subst, ◌⊎◌, inl, inr, arith}
+use Rattle.std.specs.Prelude.{sum}
 use Rattle.std.proofs.Math.Nat.{div-mul_cancel}
 use Rattle.std.proofs.lemmas.Bool.{and_parts, false≢true}
 use Rattle.rhythm_base.specs.declared.sound.Sound.{Sound}
@@ -17,7 +17,7 @@ use Rattle.notation.specs.Bars.{are_silent, grouped}
 use Rattle.notation.specs.Groups.{parted}
 use Rattle.notation.specs.Notes.{Group, IsGroup}
 use Rattle.notation.specs.Places.{IsOddPart}
-use Rattle.notation.specs.Rests.{joined_from, joined_rests}
+use Rattle.notation.specs.Rests.{joined_rests}
 use Rattle.notation.specs.Runs.{StandBetween}
 use Rattle.notation.specs.Tokens.{Token, bar_tokens, is_silent}
 use Rattle.notation.proofs.BarRuns.{bar_end, bar_values_stand, scale}
@@ -26,8 +26,8 @@ use Rattle.notation.proofs.JoinedRuns.{rests_stand}
 use Rattle.notation.proofs.Joining.{ended}
 use Rattle.notation.proofs.PlainGroups.{end_is}
 use Rattle.notation_laws.specs.Hearing.{HeardSpan, HeardVoice}
-use Rattle.notation_laws.specs.NotesHeard.{group_notes, hear_bar, hear_notes}
-use Rattle.notation_laws.proofs.Segments.{IsBegin, IsRest, Segment, begun, clean, hear_segment, hear_segments, more_only, rest_heard, rest_or_begin, sounded}
+use Rattle.notation_laws.specs.NotesHeard.{group_notes, hear_bar}
+use Rattle.notation_laws.proofs.Segments.{IsBegin, IsRest, Segment, begun, clean, hear_segments, more_only, rest_heard, rest_or_begin, sounded}
 use Rattle.notation_laws.proofs.Says.{Says, heard_only, says_then}
 use Rattle.notation_laws.proofs.TokenSegments.{SideBySide, cuts_say, joined_says, rests_say, stand_side, token_segment, token_segments, whole_tokens}
 use Rattle.notation_laws.proofs.GroupSegments.{gathered, groups_say, note_segments, notes_heard, parted_gathers}

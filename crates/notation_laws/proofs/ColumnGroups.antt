@@ -1,9 +1,8 @@
 -- The groups of a voice are those of the values of its **kern column.
-use Rattle.std.proofs.Common.{◌≡◌, ℕ, suc, ◌+◌, ◌*◌, ◌<◌, ◌≤◌, Bool, true, false, List, [], ◌∷◌, ◌++◌, length, map, refl, sym, ap, ◌∙◌, subst, arith}
-use Rattle.std.specs.Prelude.{All, sum, sum_by}
+use Rattle.std.proofs.Common.{◌≡◌, ℕ, suc, ◌+◌, ◌*◌, ◌<◌, ◌≤◌, List, [], ◌∷◌, ◌++◌, length, map, refl, sym, ap, ◌∙◌, subst, arith}
+use Rattle.std.specs.Prelude.{All, sum}
 use Rattle.std.specs.List.{flat_map}
 use Rattle.std.proofs.lemmas.List.Elements.{All-head, All-tail, All-weaker}
-use Rattle.std.proofs.lemmas.List.Sums.{sum-map}
 use Rattle.rhythm_base.specs.declared.sound.Sound.{Sound}
 use Rattle.rhythm_base.specs.Lists.{Each}
 use Rattle.durations.proofs.Wide.{some_product}
@@ -21,7 +20,7 @@ use Rattle.notation.specs.Tokens.{bar_tokens}
 use Rattle.notation.proofs.VoiceLemmas.{AreAhead, ahead_later, own_are}
 use Rattle.kern_laws.proofs.BarSounded.{AreSounded, sounded}
 use Rattle.notation_laws.specs.Columns.{AreGroupsOfBar, AreGroupsOfValues}
-use Rattle.notation_laws.specs.Laws.{GroupsAreOfTheColumn, IsVoice}
+use Rattle.notation_laws.specs.Laws.{GroupsAreOfTheColumn}
 use Rattle.notation_laws.proofs.SoundSegments.{tie_first}
 
 -- the values of a bar begin with one of its first sound
@@ -64,9 +63,12 @@ module _ (r total : ℕ) (some : 1 ≤ r) where
       let next = ahead_later r total n sounds later ahead (stand_later r total n later few ahead.stand) in
       let begin = values_begin (suc n) bars sounds (later_sounds n later) values (omega (arith, count)) rest next h in
       let one : others ≡ vs = bar_values_one r bar (sounds_in_bar n sounds) others vs (some_whole r bar some well) written mine in
-      let here : AreGroupsOfBar r bar vs (flat_map (λ vs. vs) values) own =
-      (odd, part, subst (λ us. Each (IsGroup r odd) (grouped r odd bar (bar_tokens r odd bar (next_goes_on (flat_map (λ vs. vs) values)) us)) own) one
-      (subst (λ b. Each (IsGroup r odd) (grouped r odd bar (bar_tokens r odd bar b others)) own) (sym begin) each)) in
+      let here : AreGroupsOfBar r bar vs (flat_map (λ vs. vs) values) own = (
+        odd,
+        part,
+        subst (λ us. Each (IsGroup r odd) (grouped r odd bar (bar_tokens r odd bar (next_goes_on (flat_map (λ vs. vs) values)) us)) own) one
+            (subst (λ b. Each (IsGroup r odd) (grouped r odd bar (bar_tokens r odd bar b others)) own) (sym begin) each),
+      ) in
       (here, columns (suc n) bars sounds (later_sounds n later) values all (omega (arith, count)) rest next h groups)
 
 pub groups_of_columns : GroupsAreOfTheColumn

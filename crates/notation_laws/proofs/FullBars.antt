@@ -1,7 +1,6 @@
 -- Each bar of a voice is heard in full.
-use Rattle.std.proofs.Common.{◌≡◌, ℕ, suc, ◌+◌, ◌*◌, ◌/◌, ◌<◌, ◌≤◌, ◌==◌, Bool, true, false, List, [], ◌∷◌, ◌++◌, Option, Some, None, length, map, refl, sym, ap, ap₂, ◌∙◌, subst, ◌⊎◌, inl, inr, arith}
-use Rattle.std.specs.Prelude.{All, if◌then◌else◌, sum, sum_by}
-use Rattle.std.specs.List.{flat_map}
+use Rattle.std.proofs.Common.{◌≡◌, ℕ, suc, ◌+◌, ◌*◌, ◌/◌, ◌<◌, ◌≤◌, Bool, true, false, List, [], ◌∷◌, Option, Some, None, length, map, refl, sym, ap, ap₂, ◌∙◌, subst, ◌⊎◌, inl, inr, arith}
+use Rattle.std.specs.Prelude.{All, sum, sum_by}
 use Rattle.std.proofs.lemmas.List.{map-append}
 use Rattle.std.proofs.lemmas.List.Elements.{All-head, All-tail}
 use Rattle.std.proofs.lemmas.List.Sums.{sum-map, sum_by-append, sum_by-cons}
@@ -11,17 +10,17 @@ use Rattle.derivation.specs.declared.score.ScoreBar.{ScoreBar}
 use Rattle.derivation.specs.Score.{IsScoreBar}
 use Rattle.voice_events.specs.Events.{HaveSignatures}
 use Rattle.voice_events.specs.Parts.{score_bar_parts}
-use Rattle.kern_writer.specs.Ahead.{later_sounds, own_sounds}
+use Rattle.kern_writer.specs.Ahead.{later_sounds}
 use Rattle.kern_writer.specs.Values.{sounds_in_bar}
 use Rattle.kern_writer.proofs.BarSounds.{stand_fill, stand_later}
 use Rattle.kern_reader.specs.Tokens.{◌>>=◌}
-use Rattle.notation.specs.Bars.{AreBarGroups, AreVoiceGroups}
+use Rattle.notation.specs.Bars.{AreVoiceGroups}
 use Rattle.notation.specs.Laws.{group_length}
-use Rattle.notation.specs.Notes.{Group, Note, is_empty}
+use Rattle.notation.specs.Notes.{Group, Note}
 use Rattle.notation.proofs.FilledGroups.{bar_filled}
 use Rattle.notation.proofs.VoiceLemmas.{AreAhead, ahead_later, own_are}
 use Rattle.notation_laws.specs.Hearing.{HeardSpan, HeardVoice, ended_spans}
-use Rattle.notation_laws.specs.Laws.{BarsAreHeardInFull, IsVoice}
+use Rattle.notation_laws.specs.Laws.{BarsAreHeardInFull}
 use Rattle.notation_laws.specs.NotesHeard.{AreHeardInFull, group_notes, hear_bar, hear_bars}
 use Rattle.notation_laws.proofs.BarHeard.{rest_segment}
 use Rattle.notation_laws.proofs.GroupSegments.{note_segment, note_segments, notes_heard}

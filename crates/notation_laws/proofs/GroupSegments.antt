@@ -1,10 +1,9 @@
 -- The notes of groups as segments.
-use Rattle.std.proofs.Common.{◌≡◌, ℕ, zero, suc, ◌+◌, ◌-◌, ◌*◌, ◌/◌, ◌<◌, ◌≤◌, ◌==◌, Bool, true, false, ◌&&◌, ◌||◌, not, cond, List, [], ◌∷◌, ◌++◌, Option, Some, None, append_assoc, length, map, refl, sym, ap, ◌∙◌, subst, arith}
-use Rattle.std.specs.Prelude.{All, if◌then◌else◌, sum, sum_by}
-use Rattle.std.specs.Int.{◌∣◌}
+use Rattle.std.proofs.Common.{◌≡◌, ℕ, zero, suc, ◌+◌, ◌-◌, ◌*◌, ◌/◌, ◌<◌, ◌≤◌, ◌==◌, Bool, true, false, ◌&&◌, not, cond, List, [], ◌∷◌, ◌++◌, Option, Some, None, append_assoc, length, map, refl, sym, ap, ◌∙◌, subst, arith}
+use Rattle.std.specs.Prelude.{All, sum_by}
 use Rattle.std.proofs.Math.Nat.{div-mul_cancel, dvd-sub}
 use Rattle.std.proofs.lemmas.Bool.Decides.{nat_tests}
-use Rattle.std.proofs.lemmas.List.{append-nil, map-append}
+use Rattle.std.proofs.lemmas.List.{map-append}
 use Rattle.std.proofs.lemmas.List.Elements.{All-cons, All-head, All-nil, All-tail}
 use Rattle.std.proofs.lemmas.List.Sums.{sum-map, sum_by-cons}
 use Rattle.rhythm_base.specs.Lists.{Each}
@@ -12,11 +11,11 @@ use Rattle.durations.specs.declared.value.Value.{Value}
 use Rattle.durations.specs.Value.{width}
 use Rattle.durations.proofs.Sums.{values_sum}
 use Rattle.kern_reader.specs.Tokens.{◌>>=◌}
-use Rattle.notation.specs.Groups.{is_whole, parted, parted_from}
-use Rattle.notation.specs.Notes.{AreNotes, Group, IsGroup, Note, is_empty, note, spelled_whole, ties_taken, token_notes}
+use Rattle.notation.specs.Groups.{is_whole, parted_from}
+use Rattle.notation.specs.Notes.{AreNotes, Group, IsGroup, Note, note, spelled_whole, ties_taken, token_notes}
 use Rattle.notation.specs.Places.{IsOddPart}
 use Rattle.notation.specs.Rests.{joined, joined_from}
-use Rattle.notation.specs.Tokens.{Token, is_silent}
+use Rattle.notation.specs.Tokens.{Token}
 use Rattle.notation.proofs.GridLemmas.{CountIn}
 use Rattle.notation.proofs.Halved.{joined_all}
 use Rattle.notation.proofs.Joining.{ended}

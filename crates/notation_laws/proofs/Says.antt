@@ -1,7 +1,6 @@
 -- Segments that say at least what others say: what is heard of the others is heard of them.
-use Rattle.std.proofs.Common.{◌≡◌, ℕ, ◌+◌, ◌==◌, Bool, true, false, List, [], ◌∷◌, ◌++◌, Option, Some, None, refl, sym, ap, ap₂, ◌∙◌, subst, ◌⊎◌, inl, inr, arith}
+use Rattle.std.proofs.Common.{◌≡◌, ℕ, ◌+◌, ◌==◌, Bool, true, false, List, [], ◌∷◌, ◌++◌, Option, Some, None, refl, sym, ap, ◌∙◌, subst, ◌⊎◌, inl, inr, arith}
 use Rattle.std.proofs.lemmas.Bool.{eq-eqb, false≢true}
-use Rattle.std.proofs.lemmas.Bool.Decides.{nat_tests}
 use Rattle.kern_reader.specs.Tokens.{◌>>=◌}
 use Rattle.notation_laws.specs.Hearing.{HeardSpan, HeardVoice}
 use Rattle.notation_laws.proofs.Segments.{IsBegin, IsMore, IsRest, Segment, begin_heard, begun, clean, hear_segment, hear_segments, longer, more_heard, more_only, rest_heard, rest_or_begin, sounded}

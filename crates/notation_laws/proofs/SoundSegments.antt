@@ -1,7 +1,6 @@
 -- The sounds of a bar as segments, and their values as tokens.
-use Rattle.std.proofs.Common.{◌≡◌, ℕ, zero, suc, ◌+◌, ◌-◌, ◌*◌, ◌/◌, ◌≤◌, ◌==◌, Bool, true, false, ◌&&◌, ◌||◌, not, List, [], ◌∷◌, ◌++◌, Option, Some, None, map, take, refl, sym, ap, ap₂, ◌∙◌, subst, ◌⊎◌, inl, inr, arith}
+use Rattle.std.proofs.Common.{◌≡◌, ℕ, zero, suc, ◌+◌, ◌*◌, ◌≤◌, ◌==◌, Bool, true, false, ◌&&◌, ◌||◌, not, List, [], ◌∷◌, ◌++◌, Some, None, take, refl, sym, ap, ap₂, ◌∙◌, subst, ◌⊎◌, inl, inr, arith}
 use Rattle.std.specs.Prelude.{All, if◌then◌else◌, sum_by}
-use Rattle.std.specs.Int.{◌∣◌}
 use Rattle.std.proofs.lemmas.Bool.{false≢true}
 use Rattle.std.proofs.lemmas.List.{map-append}
 use Rattle.std.proofs.lemmas.List.Elements.{All-head, All-tail}
@@ -11,20 +10,20 @@ use Rattle.rhythm_base.specs.declared.sound.SoundKind.{SoundKind}
 use Rattle.rhythm_base.specs.declared.sound.SoundKind.TheVariants.{Begin, Short, Tie, Rest}
 use Rattle.rhythm_base.specs.SoundKinds.{is_rest, is_short, is_tie}
 use Rattle.durations.specs.declared.value.Value.{Value}
-use Rattle.durations.specs.Value.{IsWide, value_grid, width}
+use Rattle.durations.specs.Value.{value_grid, width}
 use Rattle.derivation.specs.declared.score.ScoreBar.{ScoreBar}
 use Rattle.derivation.specs.Score.{IsScoreBar}
 use Rattle.kern_writer.specs.Columns.{next_in_column}
 use Rattle.kern_writer.specs.Tokens.{goes_on}
 use Rattle.kern_writer.specs.Values.{VoiceValue}
 use Rattle.kern_reader.specs.Tokens.{◌>>=◌}
-use Rattle.notation.specs.Tokens.{is_silent, value_token}
+use Rattle.notation.specs.Tokens.{value_token}
 use Rattle.notation.proofs.BarRuns.{scale, scaled, wide_scaled}
 use Rattle.notation.proofs.Values.{some_divisor}
-use Rattle.kern_laws.proofs.BarSounded.{AreGroup, AreSounded, AreTies, IsValue, leaf_values, sound_len, sound_lens}
-use Rattle.notation_laws.specs.Hearing.{HeardSpan, HeardVoice}
-use Rattle.notation_laws.proofs.Segments.{IsBegin, IsMore, IsRest, Segment, begin_heard, begun, clean, hear_segment, hear_segments, longer, more_heard, more_only, rest_heard, rest_or_begin, sounded}
-use Rattle.notation_laws.proofs.Says.{IsSplit, Says, heard_only, join_says, joint, says_both, says_cons, says_front, says_same, says_then, split_says}
+use Rattle.kern_laws.proofs.BarSounded.{AreSounded, AreTies, IsValue, leaf_values, sound_len, sound_lens}
+use Rattle.notation_laws.specs.Hearing.{HeardVoice}
+use Rattle.notation_laws.proofs.Segments.{IsBegin, IsMore, IsRest, Segment, begin_heard, begun, clean, hear_segment, hear_segments, more_heard, more_only, rest_heard, rest_or_begin, sounded}
+use Rattle.notation_laws.proofs.Says.{IsSplit, Says, heard_only, join_says, joint, says_both, says_front, says_same, says_then, split_says}
 use Rattle.notation_laws.proofs.TokenSegments.{token_segment, token_segments, whole_tokens}
 
 -- the sound after some is a tie

@@ -1,5 +1,5 @@
 -- What is heard of the sounds of a voice are its runs: each chord that begins, with the ties right after it.
-use Rattle.std.proofs.Common.{◌≡◌, ℕ, suc, ◌+◌, ◌*◌, ◌<◌, ◌≤◌, ◌==◌, Bool, true, false, cond, List, [], ◌∷◌, ◌++◌, Option, Some, None, append_assoc, length, map, refl, sym, ap, ap₂, ◌∙◌, subst, ◌⊎◌, inl, inr, arith}
+use Rattle.std.proofs.Common.{◌≡◌, ℕ, suc, ◌+◌, ◌*◌, ◌<◌, ◌≤◌, ◌==◌, Bool, true, false, cond, List, [], ◌∷◌, ◌++◌, Option, Some, None, append_assoc, length, map, refl, sym, ap, ap₂, ◌∙◌, subst, arith}
 use Rattle.std.specs.Prelude.{All, if◌then◌else◌, sum_by, ⊤}
 use Rattle.std.proofs.lemmas.Bool.{eq-eqb, false≢true}
 use Rattle.std.proofs.lemmas.Bool.Decides.{nat_tests}
@@ -17,7 +17,7 @@ use Rattle.derivation.proofs.SpansRead.{ties_of}
 use Rattle.voice_events.proofs.SpansFollow.{tied_length}
 use Rattle.kern_writer.specs.Ahead.{begins_with_tie}
 use Rattle.kern_reader.specs.Tokens.{◌>>=◌}
-use Rattle.notation_laws.specs.Hearing.{HeardSpan, HeardVoice}
+use Rattle.notation_laws.specs.Hearing.{HeardSpan}
 use Rattle.notation_laws.proofs.Segments.{IsBegin, IsMore, IsRest, Segment, begin_heard, begun, clean, hear_segment, hear_segments, longer, more_heard, rest_heard, sounded}
 use Rattle.notation_laws.proofs.SoundSegments.{IsKeyed, next_ties, sound_segment, sound_segments}
 

@@ -1,5 +1,5 @@
 -- Tokens as segments: a token that is cut at places, and one that is joined with others.
-use Rattle.std.proofs.Common.{◌≡◌, ℕ, zero, suc, ◌+◌, ◌-◌, ◌/◌, ◌<◌, ◌≤◌, ◌==◌, Bool, true, false, ◌&&◌, ◌||◌, not, cond, List, [], ◌∷◌, ◌++◌, length, map, refl, sym, ap, ◌∙◌, subst, ◌⊎◌, inl, inr, arith}
+use Rattle.std.proofs.Common.{◌≡◌, ℕ, zero, suc, ◌+◌, ◌-◌, ◌/◌, ◌<◌, ◌≤◌, Bool, true, false, ◌&&◌, ◌||◌, not, cond, List, [], ◌∷◌, ◌++◌, length, map, refl, sym, ap, ◌∙◌, subst, inl, inr, arith}
 use Rattle.std.specs.Prelude.{if◌then◌else◌, take_while, ⊤}
 use Rattle.std.proofs.lemmas.List.{length-map, map-append}
 use Rattle.std.proofs.lemmas.List.Sums.{take_while-cons}
@@ -15,7 +15,7 @@ use Rattle.notation.proofs.CutTokens.{on_from, up_to}
 use Rattle.notation.proofs.Joining.{ended}
 use Rattle.notation.proofs.LastNumbers.{last_few}
 use Rattle.notation_laws.proofs.Segments.{Segment}
-use Rattle.notation_laws.proofs.Says.{AreLinked, IsSplit, Says, join_says, joint, says_back, says_both, says_cons, says_front, says_same, says_then, split_says}
+use Rattle.notation_laws.proofs.Says.{AreLinked, IsSplit, Says, join_says, joint, says_both, says_cons, says_front, says_same, says_then, split_says}
 
 -- a part of a token, which is its first or not
 abbrev pub token_piece : Token → Bool → ℕ → Segment

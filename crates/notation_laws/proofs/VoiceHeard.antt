@@ -1,6 +1,6 @@
 -- What is heard of the groups of a voice are its spans.
-use Rattle.std.proofs.Common.{◌≡◌, ℕ, suc, ◌+◌, ◌*◌, ◌<◌, ◌≤◌, ◌==◌, Bool, true, false, cond, List, [], ◌∷◌, ◌++◌, Option, Some, None, append-nil, drop, length, map, take, refl, sym, ap, ◌∙◌, subst, arith}
-use Rattle.std.specs.Prelude.{◌↔◌, All, sum, sum_by}
+use Rattle.std.proofs.Common.{◌≡◌, ℕ, suc, ◌+◌, ◌*◌, ◌<◌, ◌≤◌, ◌==◌, Bool, true, false, cond, List, [], ◌∷◌, ◌++◌, Option, Some, None, append-nil, length, map, refl, sym, ap, ◌∙◌, subst, arith}
+use Rattle.std.specs.Prelude.{All}
 use Rattle.std.specs.List.{prefix_len}
 use Rattle.std.proofs.lemmas.Bool.{false≢true}
 use Rattle.std.proofs.lemmas.Bool.Decides.{nat_tests}
@@ -12,7 +12,7 @@ use Rattle.rhythm_base.specs.declared.sound.Sound.{Sound}
 use Rattle.rhythm_base.specs.declared.span.Span.{Span}
 use Rattle.rhythm_base.specs.Lists.{Each}
 use Rattle.rhythm_base.specs.SoundKinds.{is_tie}
-use Rattle.durations.specs.Spans.{AreSpans, IsSpan, chord_runs}
+use Rattle.durations.specs.Spans.{IsSpan, chord_runs}
 use Rattle.durations.proofs.Wide.{some_product}
 use Rattle.derivation.specs.declared.score.ScoreBar.{ScoreBar}
 use Rattle.derivation.specs.Score.{IsScoreBar}
@@ -22,7 +22,7 @@ use Rattle.voice_events.specs.Events.{HaveSignatures}
 use Rattle.kern_writer.specs.Ahead.{begins_with_tie, later_sounds, own_sounds}
 use Rattle.kern_writer.specs.Values.{AreBarValues, sounds_in_bar}
 use Rattle.kern_writer.proofs.BarSounds.{stand_fill, stand_later}
-use Rattle.kern_writer.proofs.TimedSounds.{some_whole, width_of}
+use Rattle.kern_writer.proofs.TimedSounds.{some_whole}
 use Rattle.kern_reader.specs.Tokens.{◌>>=◌}
 use Rattle.notation.specs.Bars.{AreVoiceGroups, grouped}
 use Rattle.notation.specs.Notes.{Group, IsGroup}
@@ -30,15 +30,14 @@ use Rattle.notation.specs.Tokens.{bar_tokens}
 use Rattle.notation.proofs.BarRuns.{scale}
 use Rattle.notation.proofs.VoiceLemmas.{AreAhead, ahead_later, own_are, tie_ahead}
 use Rattle.kern_laws.proofs.BarSounded.{sounded}
-use Rattle.kern_laws.proofs.LineScore.{few_parts}
 use Rattle.kern_laws.proofs.SpanVoices.{AreUnits, units_are}
-use Rattle.notation_laws.specs.Hearing.{HeardSpan, HeardVoice, ended_spans}
-use Rattle.notation_laws.specs.Laws.{IsHeard, IsVoice, VoicesAreHeard}
-use Rattle.notation_laws.specs.NotesHeard.{IsSpanHeard, hear_bar, hear_bars, voice_heard}
+use Rattle.notation_laws.specs.Hearing.{HeardSpan, ended_spans}
+use Rattle.notation_laws.specs.Laws.{VoicesAreHeard}
+use Rattle.notation_laws.specs.NotesHeard.{IsSpanHeard, hear_bar, hear_bars}
 use Rattle.notation_laws.proofs.BarHeard.{bar_heard}
 use Rattle.notation_laws.proofs.Segments.{clean, hear_segments}
 use Rattle.notation_laws.proofs.SoundSegments.{IsKeyed, sound_segments, sounds_say}
-use Rattle.notation_laws.proofs.SoundsHeard.{IsHeardTo, bar_sounds_heard, keyed, run_heard, spans_heard, still_heard}
+use Rattle.notation_laws.proofs.SoundsHeard.{IsHeardTo, bar_sounds_heard, keyed, run_heard, spans_heard}
 
 -- ---- the sounds of a bar, and those after it
 
