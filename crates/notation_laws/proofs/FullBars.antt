@@ -129,10 +129,10 @@ module _ (r total : ℕ) (some : 1 ≤ r) where
       (next, one, is.reached, ap (λ (h : HeardVoice ℕ). h.graces) same, subst (λ h. AreHeardInFull r bars h all) (sym same) later_bars)
 
 -- bars of a performance with the signatures of a score's
-abbrev some_bar : ScoreBar → Bar
+abbrev pub some_bar : ScoreBar → Bar
 some_bar b = record { start = 0; num = b.num; den = b.den }
 
-signatures_kept : (bars : List ScoreBar) → HaveSignatures bars (map some_bar bars)
+pub signatures_kept : (bars : List ScoreBar) → HaveSignatures bars (map some_bar bars)
 signatures_kept [] = refl
 signatures_kept (b ∷ bars) = ap (λ xs. signature b ∷ xs) (signatures_kept bars)
   where

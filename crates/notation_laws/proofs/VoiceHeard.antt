@@ -17,7 +17,7 @@ use Rattle.durations.proofs.Wide.{some_product}
 use Rattle.derivation.specs.declared.score.ScoreBar.{ScoreBar}
 use Rattle.derivation.specs.Score.{IsScoreBar}
 use Rattle.derivation.specs.WellSounded.{IsWellSounding, TiesGoOn}
-use Rattle.derivation.proofs.FilledBars.{parts_at, place_at}
+use Rattle.derivation.proofs.FilledBars.{parts_at}
 use Rattle.voice_events.specs.Events.{HaveSignatures}
 use Rattle.kern_writer.specs.Ahead.{begins_with_tie, later_sounds, own_sounds}
 use Rattle.kern_writer.specs.Values.{AreBarValues, sounds_in_bar}
@@ -32,8 +32,8 @@ use Rattle.notation.proofs.VoiceLemmas.{AreAhead, ahead_later, own_are, tie_ahea
 use Rattle.kern_laws.proofs.BarSounded.{sounded}
 use Rattle.kern_laws.proofs.SpanVoices.{AreUnits, units_are}
 use Rattle.notation_laws.specs.Hearing.{HeardSpan, ended_spans}
-use Rattle.notation_laws.specs.Laws.{VoicesAreHeard}
-use Rattle.notation_laws.specs.NotesHeard.{IsSpanHeard, hear_bar, hear_bars}
+use Rattle.notation_laws.specs.Laws.{IsVoice, VoicesAreHeard}
+use Rattle.notation_laws.specs.NotesHeard.{IsSpanHeard, hear_bar, hear_bars, voice_heard}
 use Rattle.notation_laws.proofs.BarHeard.{bar_heard}
 use Rattle.notation_laws.proofs.Segments.{clean, hear_segments}
 use Rattle.notation_laws.proofs.SoundSegments.{IsKeyed, sound_segments, sounds_say}
@@ -138,28 +138,34 @@ no_tie_first (s ∷ sounds) ties = go (is_tie s.kind) refl
     go false e = e
     go true e = absurd (ties.0 e)
 
-pub voices_heard : VoicesAreHeard
-voices_heard r sbars bars sounds all voice signatures groups =
+-- what is heard of the groups of a voice are the runs of its sounds
+pub voice_runs : (r : ℕ) (sbars : List ScoreBar) (bars : List Bar) (sounds : List Sound) (all : List (List Group)) → IsVoice r sbars sounds
+    → HaveSignatures sbars bars → AreVoiceGroups r 0 sbars sounds all
+    → voice_heard r sbars all ≡ Some (spans_heard r (length sbars) bars sounds)
+voice_runs r sbars bars sounds all voice signatures groups =
     let total = length sbars in
     let fits : total ≤ length bars = let e = as_many sbars bars signatures in omega (arith, e) in
-    let start : 0 ≡ place_at r bars 0 0 = nothing r (parts_at bars 0) in
-    record {
-      heard = spans_heard r total bars sounds;
-      hears = bars_heard r total bars (spans_heard r total bars sounds) voice.some_unit fits 0 sbars sounds sounds all [] 0 None (omega arith) voice.each_bar
-          (units_are bars sbars signatures) (record { stand = voice.well.places; same = λ m le. refl }) groups (record {
-            bar = 0;
-            unit = 0;
-            before = None;
-            stand = voice.well.places;
-            well = voice.well.each;
-            ties = voice.well.ties;
-            place = start;
-            with = tt;
-            on = no_tie_first sounds voice.well.ties;
-            all = refl;
-          });
-      spans = λ spans. (spans_are r total bars (chord_runs sounds) spans, are_spans r total bars (chord_runs sounds) spans);
-    }
+    bars_heard r total bars (spans_heard r total bars sounds) voice.some_unit fits 0 sbars sounds sounds all [] 0 None (omega arith) voice.each_bar
+    (units_are bars sbars signatures) (record { stand = voice.well.places; same = λ m le. refl }) groups (record {
+      bar = 0;
+      unit = 0;
+      before = None;
+      stand = voice.well.places;
+      well = voice.well.each;
+      ties = voice.well.ties;
+      place = nothing r (parts_at bars 0);
+      with = tt;
+      on = no_tie_first sounds voice.well.ties;
+      all = refl;
+    })
   where
     nothing : (r q : ℕ) → 0 ≡ r * 0 + 0 * q
     nothing r q = grind arith
+
+pub voices_heard : VoicesAreHeard
+voices_heard r sbars bars sounds all voice signatures groups = record {
+  heard = spans_heard r (length sbars) bars sounds;
+  hears = voice_runs r sbars bars sounds all voice signatures groups;
+  spans = λ spans.
+      (spans_are r (length sbars) bars (chord_runs sounds) spans, are_spans r (length sbars) bars (chord_runs sounds) spans);
+}

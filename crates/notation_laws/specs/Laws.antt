@@ -16,6 +16,7 @@ use Rattle.notation.specs.Notes.{Group}
 use Rattle.notation_laws.specs.Columns.{AreGroupsOfValues}
 use Rattle.notation_laws.specs.Hearing.{HeardSpan, unheard}
 use Rattle.notation_laws.specs.NotesHeard.{AreHeardInFull, IsSpanHeard, voice_heard}
+use Rattle.notation_laws.specs.Written.{IsWrittenGroup}
 
 -- a voice whose sounds can be written over these bars
 pub record IsVoice (resolution : ℕ) (bars : List ScoreBar) (sounds : List Sound) : Type 0 where
@@ -41,6 +42,12 @@ abbrev pub BarsAreHeardInFull : Type 0
 BarsAreHeardInFull =
     (resolution : ℕ) (bars : List ScoreBar) (sounds : List Sound) (all : List (List Group)) → IsVoice resolution bars sounds
     → AreVoiceGroups resolution 0 bars sounds all → AreHeardInFull resolution bars (unheard 0) all
+
+-- the notes of a voice can be written
+abbrev pub NotesCanBeWritten : Type 0
+NotesCanBeWritten =
+    (resolution : ℕ) (bars : List ScoreBar) (sounds : List Sound) (all : List (List Group)) → IsVoice resolution bars sounds
+    → AreVoiceGroups resolution 0 bars sounds all → All (All (IsWrittenGroup resolution)) all
 
 -- the groups of a voice are those of the values of its **kern column
 abbrev pub GroupsAreOfTheColumn : Type 0

@@ -1,4 +1,5 @@
 pub mod Hearing
 pub mod NotesHeard
 pub mod Columns
+pub mod Written
 pub mod Laws

@@ -1,4 +1,4 @@
-ghost use Rattle.notation_laws.specs.Laws.{BarsAreHeardInFull, GroupsAreOfTheColumn, VoicesAreHeard};
+ghost use Rattle.notation_laws.specs.Laws.{BarsAreHeardInFull, GroupsAreOfTheColumn, NotesCanBeWritten, VoicesAreHeard};
 
 /// What is heard of the notes of a voice are the spans of its sounds.
 pub fn voices_are_heard()
@@ -13,4 +13,9 @@ pub fn bars_are_heard_in_full()
 /// The groups of a voice are made of the values of its **kern column.
 pub fn groups_are_of_the_column()
     ensures { GroupsAreOfTheColumn }
+{}
+
+/// Each note of a voice is a value that can be written, under its bracket, and each of its chords has keys.
+pub fn notes_can_be_written()
+    ensures { NotesCanBeWritten }
 {}

@@ -4,4 +4,6 @@
 
 mod laws;
 
-pub use laws::{bars_are_heard_in_full, groups_are_of_the_column, voices_are_heard};
+pub use laws::{
+    bars_are_heard_in_full, groups_are_of_the_column, notes_can_be_written, voices_are_heard,
+};
