@@ -2,6 +2,7 @@ pub mod BarHeard
 pub mod ColumnGroups
 pub mod FullBars
 pub mod GroupSegments
+pub mod KernEvents
 pub mod Says
 pub mod Segments
 pub mod SoundSegments

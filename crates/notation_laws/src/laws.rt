@@ -1,4 +1,4 @@
-ghost use Rattle.notation_laws.specs.Laws.{BarsAreHeardInFull, GroupsAreOfTheColumn, NotesCanBeWritten, VoicesAreHeard};
+ghost use Rattle.notation_laws.specs.Laws.{BarsAreHeardInFull, GroupsAreOfTheColumn, NotesCanBeWritten, SpansAreTheEvents, VoicesAreHeard};
 
 /// What is heard of the notes of a voice are the spans of its sounds.
 pub fn voices_are_heard()
@@ -18,4 +18,9 @@ pub fn groups_are_of_the_column()
 /// Each note of a voice is a value that can be written, under its bracket, and each of its chords has keys.
 pub fn notes_can_be_written()
     ensures { NotesCanBeWritten }
+{}
+
+/// The spans of the voices of a score are the events that are read of its **kern text.
+pub fn spans_are_the_events()
+    ensures { SpansAreTheEvents }
 {}

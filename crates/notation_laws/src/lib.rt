@@ -5,5 +5,6 @@
 mod laws;
 
 pub use laws::{
-    bars_are_heard_in_full, groups_are_of_the_column, notes_can_be_written, voices_are_heard,
+    bars_are_heard_in_full, groups_are_of_the_column, notes_can_be_written, spans_are_the_events,
+    voices_are_heard,
 };

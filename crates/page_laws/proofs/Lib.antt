@@ -5,6 +5,7 @@ pub mod LinesRead
 pub mod NoteWords
 pub mod NotesRead
 pub mod PageChords
+pub mod PageEvents
 pub mod PagePitches
 pub mod PageValues
 pub mod Pages

@@ -1,8 +1,13 @@
-ghost use Rattle.page_laws.specs.Laws.{BarsAreFull, PagesAreReadBack};
+ghost use Rattle.page_laws.specs.Laws.{BarsAreFull, PagesAreReadBack, PagesSayTheEvents};
 
 /// The page of a score is read as the spans of its voices.
 pub fn pages_are_read_back()
     ensures { PagesAreReadBack }
+{}
+
+/// The page of a score says the events of its **kern text.
+pub fn pages_say_the_events()
+    ensures { PagesSayTheEvents }
 {}
 
 /// Each bar that is read is as long as its signature says.

@@ -4,4 +4,4 @@
 
 mod laws;
 
-pub use laws::{bars_are_full, pages_are_read_back};
+pub use laws::{bars_are_full, pages_are_read_back, pages_say_the_events};

@@ -1,0 +1,11 @@
+-- The spans of voices as events.
+use Rattle.std.specs.Prelude.{ℕ, List, [], ◌∷◌, ◌++◌, map}
+use Rattle.std.proofs.Common.{suc}
+use Rattle.rhythm_base.specs.declared.span.Span.{Span}
+use Rattle.voice_events.specs.declared.event.KernEvent.{KernEvent}
+use Rattle.voice_events.specs.Events.{span_event}
+
+-- voice after voice, of the spines from this number on
+abbrev pub spine_events : ℕ → List (List Span) → List KernEvent
+spine_events spine [] = []
+spine_events spine (spans ∷ others) = map (span_event spine) spans ++ spine_events (suc spine) others
