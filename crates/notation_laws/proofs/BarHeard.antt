@@ -48,7 +48,8 @@ rest_says p silent done at None h e = go (rest_or_begin done at p h (heard_only 
 
     go : (IsRest p × (h ≡ clean done (at + p.len) None)) ⊎ (IsBegin p × (h ≡ sounded p.goes done (at + p.len) (begun at p)))
         → hear_segments (clean done at None) (rest_segment p.len ∷ []) ≡ Some h
-    go (inl (_, same)) = ap (λ o. o >>= λ next. hear_segments next []) (rest_heard done at (rest_segment p.len) is) ∙ ap (λ k. Some k) (sym same)
+    go (inl (_, same)) = ap (λ o. o >>= λ next. hear_segments next []) (rest_heard done at (rest_segment p.len) is)
+        ∙ ap (λ k. Some k) (sym same)
     go (inr (begin, _)) = absurd (apart (p.keys == 0) silent begin.sounds)
 rest_says p silent done at (Some x) h e =
     let (more, _) = more_only done at x p h (heard_only (clean done at (Some x)) h p e) in
@@ -90,7 +91,8 @@ pub bar_heard :
     → IsScoreBar bar → sum (map width_of sounds) ≡ r → AreBarValues r bar sounds vs
     → Each (IsGroup r odd) (grouped r odd bar (bar_tokens r odd bar after vs)) groups
     → (done : List (HeardSpan ℕ)) (at : ℕ) (going : Option (HeardSpan ℕ)) (h : HeardVoice ℕ)
-    → hear_segments (clean done at going) (token_segments (whole_tokens r bar after vs)) ≡ Some h → hear_bar r bar (clean done at going) groups ≡ Some h
+    → hear_segments (clean done at going) (token_segments (whole_tokens r bar after vs)) ≡ Some h
+    → hear_bar r bar (clean done at going) groups ≡ Some h
 bar_heard r odd bar after sounds vs groups some part right full values each done at going h heard =
     go (are_silent ts) refl each
   where
@@ -109,10 +111,12 @@ bar_heard r odd bar after sounds vs groups some part right full values each done
     cut : hear_segments (clean done at going) (token_segments ts) ≡ Some h
     cut = cuts_say r odd from to bar after vs (stand_side r from to ts stand) done at going h heard
 
-    rested : (ts : List Token) → StandBetween r from ts to → are_silent ts ≡ true → hear_segments (clean done at going) (token_segments ts) ≡ Some h
+    rested : (ts : List Token) → StandBetween r from ts to → are_silent ts ≡ true
+        → hear_segments (clean done at going) (token_segments ts) ≡ Some h
         → hear_bar r bar (clean done at going) [] ≡ Some h
     rested [] stand silent heard =
-        let long : 1 ≤ bar_end bar sounds = subst (λ k. 1 ≤ k) (sym (end_is r bar sounds full)) (some_product r bar.num some right.signature.some) in
+        let long : 1 ≤ bar_end bar sounds = subst (λ k. 1 ≤ k) (sym (end_is r bar sounds full))
+        (some_product r bar.num some right.signature.some) in
         let wide = some_product (bar_end bar sounds) (scale bar) long (some_scale bar right) in
         absurd (omega (arith, stand, wide))
     rested (t ∷ more) stand silent heard =
@@ -145,7 +149,8 @@ bar_heard r odd bar after sounds vs groups some part right full values each done
             (subst (λ us. hear_segments (clean done at going) (token_segments us) ≡ Some h) (sym same) rests)
 
         of : (groups : List Group) → Each (IsGroup r odd) gs groups
-            → hear_segments (clean done at going) (note_segments (group_notes groups)) ≡ Some h → hear_bar r bar (clean done at going) groups ≡ Some h
+            → hear_segments (clean done at going) (note_segments (group_notes groups)) ≡ Some h
+            → hear_bar r bar (clean done at going) groups ≡ Some h
         of [] none heard = absurd (some_tokens (sym same ∙ none_gathered r odd gs none))
           where
             some_tokens : joined ≡ [] → ⊥

@@ -32,10 +32,12 @@ begin_value r whole num place (s ∷ sounds) vs rest some (d, v, values, others,
 
 module _ (r total : ℕ) (some : 1 ≤ r) where
   -- the values from a bar on go on where the first sound is a tie
-  values_begin : (n : ℕ) (bars : List ScoreBar) (sounds later : List Sound) (values : List (List VoiceValue)) → n + length bars ≡ total → All IsScoreBar bars
+  values_begin : (n : ℕ) (bars : List ScoreBar) (sounds later : List Sound) (values : List (List VoiceValue)) → n + length bars ≡ total
+      → All IsScoreBar bars
       → AreAhead r total n sounds later → AreVoiceValues r n bars sounds values
       → next_goes_on (flat_map (λ vs. vs) values) ≡ begins_with_tie (sounds_in_bar n sounds)
-  values_begin n [] sounds [] values count right ahead h = ap (λ vss. next_goes_on (flat_map (λ vs. vs) vss)) h ∙ ap begins_with_tie (ahead.same n (omega arith))
+  values_begin n [] sounds [] values count right ahead h = ap (λ vss. next_goes_on (flat_map (λ vs. vs) vss)) h
+      ∙ ap begins_with_tie (ahead.same n (omega arith))
   values_begin n [] sounds (s ∷ later) values count right ahead h = let few = ahead.stand.0 in absurd (omega (arith, few, count))
   values_begin n (bar ∷ bars) sounds later [] count right ahead h = absurd h
   values_begin n (bar ∷ bars) sounds later (vs ∷ values) count right ahead h =
@@ -45,12 +47,15 @@ module _ (r total : ℕ) (some : 1 ≤ r) where
       let same = own_are r total n sounds later ahead in
       let fill = stand_fill r total n later few ahead.stand in
       let full : 1 ≤ sum (map (λ s. s.width) own) = subst (λ k. 1 ≤ k) (sym fill.full) some in
-      let long = All-weaker (λ s. 1 ≤ s.width) (λ s. 1 ≤ s.width * bar.num) (λ s wide. some_product s.width bar.num wide well.signature.some) own fill.some in
+      let long = All-weaker (λ s. 1 ≤ s.width) (λ s. 1 ≤ s.width * bar.num)
+      (λ s wide. some_product s.width bar.num wide well.signature.some) own fill.some in
       let mine : AreBarValues r bar own vs = subst (λ xs. AreBarValues r bar xs vs) (sym same) h.0 in
-      begin_value r (r * bar.den) bar.num 0 own vs (flat_map (λ vs. vs) values) full (sounded r bar well (some_whole r bar some well) own vs long mine)
+      begin_value r (r * bar.den) bar.num 0 own vs (flat_map (λ vs. vs) values) full
+      (sounded r bar well (some_whole r bar some well) own vs long mine)
       ∙ ap begins_with_tie same
 
-  columns : (n : ℕ) (bars : List ScoreBar) (sounds later : List Sound) (values : List (List VoiceValue)) (all : List (List Group)) → n + length bars ≡ total
+  columns : (n : ℕ) (bars : List ScoreBar) (sounds later : List Sound) (values : List (List VoiceValue)) (all : List (List Group))
+      → n + length bars ≡ total
       → All IsScoreBar bars → AreAhead r total n sounds later → AreVoiceValues r n bars sounds values → AreVoiceGroups r n bars sounds all
       → AreGroupsOfValues r bars values all
   columns n [] sounds later values all count right ahead h groups = groups

@@ -38,7 +38,8 @@ segment_at : (done : List (HeardSpan ℕ)) (at : ℕ) (going : Option (HeardSpan
     → hear_segment (clean done at going) p ≡ Some h → h.at ≡ at + p.len
 segment_at done at None p h e = go (rest_or_begin done at p h e)
   where
-    go : (IsRest p × (h ≡ clean done (at + p.len) None)) ⊎ (IsBegin p × (h ≡ sounded p.goes done (at + p.len) (begun at p))) → h.at ≡ at + p.len
+    go : (IsRest p × (h ≡ clean done (at + p.len) None)) ⊎ (IsBegin p × (h ≡ sounded p.goes done (at + p.len) (begun at p))) → h.at
+        ≡ at + p.len
     go (inl (is, same)) = ap (λ (n : HeardVoice ℕ). n.at) same
     go (inr (is, same)) = ap (λ (n : HeardVoice ℕ). n.at) same ∙ sounded_at p.goes done (at + p.len) (begun at p)
 segment_at done at (Some x) p h e =
@@ -69,7 +70,9 @@ notes_len notes = go notes ∙ sym (sum-map (λ (n : Note). n.duration) notes)
     go : (notes : List Note) → sum_by segment_len (note_segments notes) ≡ sum_by (λ (n : Note). n.duration) notes
     go [] = refl
     go (n ∷ notes) =
-        sum_by-cons segment_len (record { len = n.duration; keys = n.keys; graces = n.graces; short = n.short; comes = n.comes; goes = n.goes }) (note_segments notes)
+        sum_by-cons segment_len
+        (record { len = n.duration; keys = n.keys; graces = n.graces; short = n.short; comes = n.comes; goes = n.goes })
+        (note_segments notes)
         ∙ ap (λ k. n.duration + k) (go notes) ∙ sym (sum_by-cons (λ (n : Note). n.duration) n notes)
 
 groups_len : (groups : List Group) → sum_by segment_len (note_segments (group_notes groups)) ≡ sum (map group_length groups)
@@ -89,7 +92,8 @@ record IsFullBar (r : ℕ) (bar : ScoreBar) (at : ℕ) (next : HeardVoice ℕ) :
   clean_there : IsClean next
 
 full_bar : (r : ℕ) (bar : ScoreBar) (groups : List Group) → (groups ≡ []) ⊎ (sum (map group_length groups) ≡ r * bar.num * (64 / bar.den))
-    → (done : List (HeardSpan ℕ)) (at : ℕ) (going : Option (HeardSpan ℕ)) (next : HeardVoice ℕ) → hear_bar r bar (clean done at going) groups ≡ Some next
+    → (done : List (HeardSpan ℕ)) (at : ℕ) (going : Option (HeardSpan ℕ)) (next : HeardVoice ℕ)
+    → hear_bar r bar (clean done at going) groups ≡ Some next
     → IsFullBar r bar at next
 full_bar r bar [] long done at going next e =
     let rest = rest_segment (score_bar_parts r bar) in
@@ -101,7 +105,8 @@ full_bar r bar (g ∷ groups) (inl none) done at going next e = absurd (some non
     some e = cc
 full_bar r bar (g ∷ groups) (inr long) done at going next e =
     let ps = note_segments (group_notes (g ∷ groups)) in
-    let heard : hear_segments (clean done at going) ps ≡ Some next = sym (notes_heard (clean done at going) (group_notes (g ∷ groups))) ∙ e in
+    let heard : hear_segments (clean done at going) ps ≡ Some next = sym (notes_heard (clean done at going) (group_notes (g ∷ groups)))
+    ∙ e in
     let there = segments_at done at going ps next heard in
     let all : r * bar.num * (64 / bar.den) ≡ score_bar_parts r bar = turned r bar.num (64 / bar.den) in
     record { reached = omega (arith, there, groups_len (g ∷ groups), long, all); clean_there = clean_later done at going ps next heard }
@@ -112,8 +117,10 @@ full_bar r bar (g ∷ groups) (inr long) done at going next e =
 -- ---- bar by bar
 
 module _ (r total : ℕ) (some : 1 ≤ r) where
-  full_bars : (n : ℕ) (bars : List ScoreBar) (sounds later : List Sound) (all : List (List Group)) (done : List (HeardSpan ℕ)) (at : ℕ) (going : Option (HeardSpan ℕ))
-      (last : HeardVoice ℕ) → n + length bars ≡ total → All IsScoreBar bars → AreAhead r total n sounds later → AreVoiceGroups r n bars sounds all
+  full_bars : (n : ℕ) (bars : List ScoreBar) (sounds later : List Sound) (all : List (List Group)) (done : List (HeardSpan ℕ)) (at : ℕ)
+      (going : Option (HeardSpan ℕ))
+      (last : HeardVoice ℕ) → n + length bars ≡ total → All IsScoreBar bars → AreAhead r total n sounds later
+      → AreVoiceGroups r n bars sounds all
       → hear_bars r bars (clean done at going) all ≡ Some last → AreHeardInFull r bars (clean done at going) all
   full_bars n [] sounds later all done at going last count right ahead groups e = groups
   full_bars n (bar ∷ bars) sounds later [] done at going last count right ahead groups e = absurd groups
@@ -121,11 +128,15 @@ module _ (r total : ℕ) (some : 1 ≤ r) where
       let few : n < total = omega (arith, count) in
       let (next, one, rest) = heard_first (hear_bar r bar (clean done at going) own) (λ next. hear_bars r bars next all) last e in
       let full : sum (map (λ s. s.width) (sounds_in_bar n sounds)) ≡ r =
-      subst (λ xs. sum (map (λ (s : Sound). s.width) xs) ≡ r) (own_are r total n sounds later ahead) (stand_fill r total n later few ahead.stand).full in
-      let is = full_bar r bar own (bar_filled r bar _ (sounds_in_bar n sounds) own some (All-head IsScoreBar bar bars right) full mine) done at going next one in
+      subst (λ xs. sum (map (λ (s : Sound). s.width) xs) ≡ r) (own_are r total n sounds later ahead)
+      (stand_fill r total n later few ahead.stand).full in
+      let is = full_bar r bar own
+      (bar_filled r bar _ (sounds_in_bar n sounds) own some (All-head IsScoreBar bar bars right) full mine) done at going next one in
       let (done', at', going', same) = is.clean_there in
-      let later_bars = full_bars (suc n) bars sounds (later_sounds n later) all done' at' going' last (omega (arith, count)) (All-tail IsScoreBar bar bars right)
-      (ahead_later r total n sounds later ahead (stand_later r total n later few ahead.stand)) groups (subst (λ h. hear_bars r bars h all ≡ Some last) same rest) in
+      let later_bars = full_bars (suc n) bars sounds (later_sounds n later) all done' at' going' last (omega (arith, count))
+      (All-tail IsScoreBar bar bars right)
+      (ahead_later r total n sounds later ahead (stand_later r total n later few ahead.stand)) groups
+      (subst (λ h. hear_bars r bars h all ≡ Some last) same rest) in
       (next, one, is.reached, ap (λ (h : HeardVoice ℕ). h.graces) same, subst (λ h. AreHeardInFull r bars h all) (sym same) later_bars)
 
 -- bars of a performance with the signatures of a score's

@@ -86,7 +86,8 @@ notes_say grid whole (t ∷ ts) notes some all (vs, others, values, are, is) =
     let (counts, wide) = All-head (IsSpelledOut grid) t ts all in
     let len = (t.end - t.start) / grid in
     let sums : sum_by (width whole) vs ≡ len = sym (sum-map (width whole) vs) ∙ (values_sum len whole vs some values).sum in
-    let long : sum_by (width whole) vs * grid ≡ t.end - t.start = ap (λ k. k * grid) sums ∙ div-mul_cancel grid (dvd-sub grid counts.1 counts.0) in
+    let long : sum_by (width whole) vs * grid ≡ t.end - t.start = ap (λ k. k * grid) sums
+    ∙ div-mul_cancel grid (dvd-sub grid counts.1 counts.0) in
     let own = token_notes grid whole t true vs in
     let rest = notes_say grid whole ts others some (All-tail (IsSpelledOut grid) t ts all) are in
     subst (λ ns. Says (token_segments (t ∷ ts)) (note_segments ns)) (sym is)
@@ -114,13 +115,15 @@ joined_spelled grid zero to t more own side all = own
 joined_spelled grid (suc k) to t [] own side all = own
 joined_spelled grid (suc k) to t (u ∷ more) (counts, wide) side all =
     let next = All-head (CountIn grid) u more all in
-    joined_spelled grid k to (ended t u) more ((counts.0, next.1), omega (arith, wide, side.0, side.1)) side.2 (All-tail (CountIn grid) u more all)
+    joined_spelled grid k to (ended t u) more ((counts.0, next.1), omega (arith, wide, side.0, side.1)) side.2
+    (All-tail (CountIn grid) u more all)
 
 joined_all_spelled : (grid : ℕ) (count : Token → List Token → ℕ) (ts : List Token) → AreSpelled grid ts
     → All (IsSpelledOut grid) (joined_from count 0 ts)
 joined_all_spelled grid count ts all =
     joined_all (IsSpelledOut grid) (AreSpelled grid) count 0 ts
-    (λ t more (from, to, side, counts). joined_spelled grid (count t more) to t more (All-head (CountIn grid) t more counts, side.1) side.2 (All-tail (CountIn grid) t more counts))
+    (λ t more (from, to, side, counts). joined_spelled grid (count t more) to t more
+    (All-head (CountIn grid) t more counts, side.1) side.2 (All-tail (CountIn grid) t more counts))
     (spelled_tail grid) all
 
 all_spelled : (grid : ℕ) (ts : List Token) → AreSpelled grid ts → All (IsSpelledOut grid) ts
@@ -141,7 +144,8 @@ group_says r odd from to ts g some part side h = go (g.ratio.actual == 1) h.note
     spelled : AreSpelled h.grid ts
     spelled = (from, to, side, h.is_grid.places)
 
-    go : (b : Bool) → AreNotes h.grid w (cond b ts (joined_from (ties_taken h.grid w) 0 ts)) g.notes → Says (token_segments ts) (note_segments g.notes)
+    go : (b : Bool) → AreNotes h.grid w (cond b ts (joined_from (ties_taken h.grid w) 0 ts)) g.notes
+        → Says (token_segments ts) (note_segments g.notes)
     go true notes = notes_say h.grid w ts g.notes whole (all_spelled h.grid ts spelled) notes
     go false notes =
         let joined = joined_from (ties_taken h.grid w) 0 ts in
@@ -165,17 +169,20 @@ parted_gathers r odd waiting (t ∷ more) =
   where
     go : (b : Bool) → gathered (parted_from r odd [] more) ≡ more
         → gathered (parted_from r odd (waiting ++ t ∷ []) more) ≡ (waiting ++ t ∷ []) ++ more
-        → gathered (cond b ((waiting ++ t ∷ []) ∷ parted_from r odd [] more) (parted_from r odd (waiting ++ t ∷ []) more)) ≡ (waiting ++ t ∷ []) ++ more
+        → gathered (cond b ((waiting ++ t ∷ []) ∷ parted_from r odd [] more) (parted_from r odd (waiting ++ t ∷ []) more))
+        ≡ (waiting ++ t ∷ []) ++ more
     go true one all = ap (λ us. (waiting ++ t ∷ []) ++ us) one
     go false one all = all
 
-pub groups_say : (r odd from to : ℕ) (gs : List (List Token)) (groups : List Group) → 1 ≤ r → IsOddPart r odd → SideBySide from (gathered gs) to
+pub groups_say : (r odd from to : ℕ) (gs : List (List Token)) (groups : List Group) → 1 ≤ r → IsOddPart r odd
+    → SideBySide from (gathered gs) to
     → Each (IsGroup r odd) gs groups → Says (token_segments (gathered gs)) (note_segments (group_notes groups))
 groups_say r odd from to [] groups some part side h = subst (λ us. Says [] (note_segments (group_notes us))) (sym h) (says_same [])
 groups_say r odd from to (g ∷ gs) [] some part side h = absurd h
 groups_say r odd from to (g ∷ gs) (group ∷ groups) some part side (one, each) =
     let (mid, front, back) = side_append from to g (gathered gs) side in
     subst (λ ss. Says ss (note_segments (group_notes (group ∷ groups)))) (sym (map-append token_segment g (gathered gs)))
-    (subst (λ ss. Says (token_segments g ++ token_segments (gathered gs)) ss) (sym (map-append note_segment group.notes (group_notes groups)))
+    (subst (λ ss. Says (token_segments g ++ token_segments (gathered gs)) ss)
+    (sym (map-append note_segment group.notes (group_notes groups)))
     (says_both (token_segments g) (note_segments group.notes) (token_segments (gathered gs)) (note_segments (group_notes groups))
     (group_says r odd from mid g group some part front one) (groups_say r odd mid to gs groups some part back each)))

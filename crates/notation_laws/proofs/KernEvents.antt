@@ -10,7 +10,8 @@ use Rattle.kern_laws.proofs.ReadBack.{scores_read_back}
 use Rattle.notation_laws.specs.Laws.{SpansAreTheEvents}
 use Rattle.notation_laws.specs.SpineEvents.{spine_events}
 
-voice_spans : (r : ℕ) (bars : List Bar) (spine : ℕ) (voices : List (List Sound)) (all : List (List Span)) → Each (AreSpans r bars) voices all
+voice_spans : (r : ℕ) (bars : List Bar) (spine : ℕ) (voices : List (List Sound)) (all : List (List Span))
+    → Each (AreSpans r bars) voices all
     → AreVoiceSpans r bars spine voices (spine_events spine all)
 voice_spans r bars spine [] [] each = refl
 voice_spans r bars spine [] (spans ∷ all) each = absurd (cc)

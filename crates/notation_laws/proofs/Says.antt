@@ -12,7 +12,8 @@ Says ps qs =
 
 -- ---- one segment after another
 
-pub heard_first : {A B : Type 0} (o : Option A) (next : A → Option B) (y : B) → (o >>= next) ≡ Some y → (x : A) × (o ≡ Some x) × (next x ≡ Some y)
+pub heard_first : {A B : Type 0} (o : Option A) (next : A → Option B) (y : B) → (o >>= next) ≡ Some y → (x : A) × (o ≡ Some x)
+    × (next x ≡ Some y)
 heard_first None next y e = absurd (cc)
 heard_first (Some x) next y e = (x, refl, e)
 
@@ -60,7 +61,8 @@ says_cons p ps qs says done at going h e =
     subst (λ n. hear_segments n qs ≡ Some h) (sym is) (says done' at' going' h (subst (λ n. hear_segments n ps ≡ Some h) is rest)) in
     ap (λ o. o >>= λ next. hear_segments next qs) one ∙ more
 
-pub heard_append : (h : HeardVoice ℕ) (ps qs : List Segment) → hear_segments h (ps ++ qs) ≡ (hear_segments h ps >>= λ next. hear_segments next qs)
+pub heard_append : (h : HeardVoice ℕ) (ps qs : List Segment) → hear_segments h (ps ++ qs)
+    ≡ (hear_segments h ps >>= λ next. hear_segments next qs)
 heard_append h [] qs = refl
 heard_append h (p ∷ ps) qs = go (hear_segment h p) (λ next. heard_append next ps qs)
   where
@@ -155,7 +157,8 @@ split_says p a b is done at None h e = go (rest_or_begin done at p h (heard_only
         λ i. record { start = at; len = sym is.len i; keys = is.keys i; graces = is.graces i; short = is.short i } in
         heard_two (clean done at None) (clean done (at + a.len) (Some (begun at a))) h a b
         (begin_heard done at a first ∙ ap (λ g. Some (sounded g done (at + a.len) (begun at a))) goes)
-        (more_heard done (at + a.len) (begun at a) b second ∙ (λ i. Some (sounded (is.goes i) done (long i) (span i))) ∙ ap (λ k. Some k) (sym same))
+        (more_heard done (at + a.len) (begun at a) b second ∙ (λ i. Some (sounded (is.goes i) done (long i) (span i)))
+        ∙ ap (λ k. Some k) (sym same))
 split_says p a b is done at (Some x) h e =
     let (more, same) = more_only done at x p h (heard_only (clean done at (Some x)) h p e) in
     let (goes, comes) = is.held more.sounds in
@@ -177,7 +180,8 @@ split_says p a b is done at (Some x) h e =
     let all : x.len + a.len + b.len ≡ x.len + p.len = let len = is.len in omega (arith, len) in
     heard_two (clean done at (Some x)) (clean done (at + a.len) (Some (longer x a.len))) h a b
     (more_heard done at x a first ∙ ap (λ g. Some (sounded g done (at + a.len) (longer x a.len))) goes)
-    (more_heard done (at + a.len) (longer x a.len) b second ∙ (λ i. Some (sounded (is.goes i) done (long i) (record x { len = all i }))) ∙ ap (λ k. Some k) (sym same))
+    (more_heard done (at + a.len) (longer x a.len) b second ∙ (λ i. Some (sounded (is.goes i) done (long i) (record x { len = all i })))
+    ∙ ap (λ k. Some k) (sym same))
 
 -- ---- two segments in one
 
@@ -189,7 +193,8 @@ abbrev pub AreLinked : Segment → Segment → Type 0
 AreLinked a b = (a.goes ≡ true) ⊎ (((a.keys == 0) ≡ true) × ((b.keys == 0) ≡ true))
 
 -- one that goes on as the second does, where both are rests or both sound
-pub join_says : (a b : Segment) (g : Bool) → ((a.keys == 0) ≡ (b.keys == 0) → g ≡ b.goes) → AreLinked a b → Says (a ∷ b ∷ []) (joint a b g ∷ [])
+pub join_says : (a b : Segment) (g : Bool) → ((a.keys == 0) ≡ (b.keys == 0) → g ≡ b.goes) → AreLinked a b
+    → Says (a ∷ b ∷ []) (joint a b g ∷ [])
 join_says a b g alike linked done at going h e =
     let (next, one, rest) = heard_first (hear_segment (clean done at going) a) (λ next. hear_segments next (b ∷ [])) h e in
     ap (λ o. o >>= λ next. hear_segments next []) (go going next one (heard_only next h b rest) linked)
@@ -226,7 +231,8 @@ join_says a b g alike linked done at going h e =
         let (second, same) = more_only done (at + a.len) (begun at a) b h two in
         let is : IsBegin (joint a b g) = record { sounds = first.sounds; comes = first.comes } in
         let next = alike (first.sounds ∙ sym second.sounds) in
-        begin_heard done at (joint a b g) is ∙ (λ i. Some (sounded (next i) done (place i) (begun at (joint a b g)))) ∙ ap (λ k. Some k) (sym same)
+        begin_heard done at (joint a b g) is ∙ (λ i. Some (sounded (next i) done (place i) (begun at (joint a b g))))
+        ∙ ap (λ k. Some k) (sym same)
 
     -- or goes on with one
     goes_on : (x : HeardSpan ℕ) → IsMore x a → hear_segment (clean done (at + a.len) (Some (longer x a.len))) b ≡ Some h
@@ -242,7 +248,8 @@ join_says a b g alike linked done at going h e =
         } in
         let all : x.len + (a.len + b.len) ≡ x.len + a.len + b.len = omega arith in
         let next = alike (first.sounds ∙ sym second.sounds) in
-        more_heard done at x (joint a b g) is ∙ (λ i. Some (sounded (next i) done (place i) (record x { len = all i }))) ∙ ap (λ k. Some k) (sym same)
+        more_heard done at x (joint a b g) is ∙ (λ i. Some (sounded (next i) done (place i) (record x { len = all i })))
+        ∙ ap (λ k. Some k) (sym same)
 
     held : (next : HeardVoice ℕ) (x : HeardSpan ℕ) → next ≡ sounded a.goes done (at + a.len) x → a.goes ≡ true
         → hear_segment next b ≡ Some h → hear_segment (clean done (at + a.len) (Some x)) b ≡ Some h

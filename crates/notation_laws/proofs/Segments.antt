@@ -103,7 +103,8 @@ rest_or_begin done at p h heard = go (p.keys == 0) refl (sym (resting_is done at
 
     go : (b : Bool) → (p.keys == 0) ≡ b
         → (if b
-        then (if is_empty p.graces && not (p.short || (p.comes || p.goes)) then Some (record (graced done at p.graces) { at = at + p.len }) else None)
+        then (if is_empty p.graces && not (p.short || (p.comes || p.goes)) then Some
+        (record (graced done at p.graces) { at = at + p.len }) else None)
         else ((if p.comes then None else Some (begun at p)) >>= λ x. Some (sounded p.goes done (at + p.len) x))) ≡ Some h
         → (IsRest p × (h ≡ clean done (at + p.len) None)) ⊎ (IsBegin p × (h ≡ sounded p.goes done (at + p.len) (begun at p)))
     go true k e =
@@ -116,7 +117,8 @@ pub more_only : (done : List (HeardSpan ℕ)) (at : ℕ) (x : HeardSpan ℕ) (p 
 more_only done at x p h heard = bare p.graces refl heard
   where
     chord : (comes same short : Bool)
-        → ((if comes && (same && not short) then Some (longer x p.len) else None) >>= λ x. Some (sounded p.goes done (at + p.len) x)) ≡ Some h
+        → ((if comes && (same && not short) then Some (longer x p.len) else None) >>= λ x. Some (sounded p.goes done (at + p.len) x))
+        ≡ Some h
         → (comes ≡ true) × (same ≡ true) × (short ≡ false) × (h ≡ sounded p.goes done (at + p.len) (longer x p.len))
     chord true true false e = (refl, refl, refl, sym (some_one _ _ e))
     chord true true true e = absurd (no_some h e)
@@ -126,7 +128,8 @@ more_only done at x p h heard = bare p.graces refl heard
     go : (b : Bool) → (p.keys == 0) ≡ b → p.graces ≡ []
         → (if b
         then None
-        else ((if p.comes && ((x.keys == p.keys) && not p.short) then Some (longer x p.len) else None) >>= λ x. Some (sounded p.goes done (at + p.len) x))) ≡ Some h
+        else ((if p.comes && ((x.keys == p.keys) && not p.short) then Some (longer x p.len) else None) >>= λ x. Some
+        (sounded p.goes done (at + p.len) x))) ≡ Some h
         → IsMore x p × (h ≡ sounded p.goes done (at + p.len) (longer x p.len))
     go true k none e = absurd (no_some h e)
     go false k none e =
@@ -141,14 +144,17 @@ more_only done at x p h heard = bare p.graces refl heard
 
 -- ---- and so they are heard
 
-pub rest_heard : (done : List (HeardSpan ℕ)) (at : ℕ) (p : Segment) → IsRest p → hear_segment (clean done at None) p ≡ Some (clean done (at + p.len) None)
-rest_heard done at p is = resting_is done at p ∙ go (p.keys == 0) is.silent p.graces is.graces p.short is.short p.comes is.comes p.goes is.goes
+pub rest_heard : (done : List (HeardSpan ℕ)) (at : ℕ) (p : Segment) → IsRest p → hear_segment (clean done at None) p
+    ≡ Some (clean done (at + p.len) None)
+rest_heard done at p is = resting_is done at p
+    ∙ go (p.keys == 0) is.silent p.graces is.graces p.short is.short p.comes is.comes p.goes is.goes
   where
     go : (b : Bool) → b ≡ true → (graces : List ℕ) → graces ≡ [] → (short : Bool) → short ≡ false → (comes : Bool) → comes ≡ false
         → (goes : Bool) → goes ≡ false
         → (if b
         then (if is_empty graces && not (short || (comes || goes)) then Some (graced done (at + p.len) graces) else None)
-        else ((if comes then None else Some (record { start = at; len = p.len; keys = p.keys; graces = graces; short = short })) >>= λ x. Some (sounded goes done (at + p.len) x)))
+        else ((if comes then None else Some (record { start = at; len = p.len; keys = p.keys; graces = graces; short = short }))
+        >>= λ x. Some (sounded goes done (at + p.len) x)))
         ≡ Some (clean done (at + p.len) None)
     go false e _ _ _ _ _ _ _ _ = absurd (cc)
     go true _ (g ∷ graces) e _ _ _ _ _ _ = absurd (cc)

@@ -33,7 +33,8 @@ next_ties after (s ∷ sounds) = is_tie s.kind
 
 -- in a bar with so many parts to the unit
 abbrev pub sound_segment : ℕ → Bool → Sound → Segment
-sound_segment unit next s = record { len = s.width * unit; keys = s.keys; graces = s.graces; short = is_short s.kind; comes = is_tie s.kind; goes = next }
+sound_segment unit next s =
+    record { len = s.width * unit; keys = s.keys; graces = s.graces; short = is_short s.kind; comes = is_tie s.kind; goes = next }
 
 abbrev pub sound_segments : ℕ → Bool → List Sound → List Segment
 sound_segments unit after [] = []
@@ -87,7 +88,8 @@ alike_says p q is done at (Some x) h e =
       same = ap (λ k. x.keys == k) is.keys ∙ more.same;
     } in
     only (clean done at (Some x)) h q
-    (more_heard done at x q own ∙ (λ i. Some (sounded (goes i) done (at + is.len i) (record x { len = x.len + is.len i }))) ∙ ap (λ k. Some k) (sym same))
+    (more_heard done at x q own ∙ (λ i. Some (sounded (goes i) done (at + is.len i) (record x { len = x.len + is.len i })))
+    ∙ ap (λ k. Some k) (sym same))
 
 -- ---- the values of a leaf
 
@@ -116,12 +118,17 @@ module _ (r : ℕ) (bar : ScoreBar) where
   value_says : (place : ℕ) (s : Sound) (first next : Bool) (v : Value) → IsKeyed s
       → Says (leaf_piece s first (width (64 * r) v) next ∷ []) (token_segment (value_token r bar next (leaf_value place s first v)) ∷ [])
   value_says place s first next v keyed =
-      alike_says (leaf_piece s first (width (64 * r) v) next) (token_segment (value_token r bar next (leaf_value place s first v))) (record {
+      alike_says (leaf_piece s first (width (64 * r) v) next) (token_segment (value_token r bar next (leaf_value place s first v)))
+      (record {
         len = omega arith;
         keys = refl;
         graces = refl;
         short = marked (is_short s.kind && first);
-        held = λ e. (ap (λ b. not b && (false || goes_on (leaf_value place s first v))) e, ap (λ b. not b && next) e ∙ sym (ap (λ b. not b && next) (sym keyed ∙ e)));
+        held = λ e. (
+          ap (λ b. not b && (false || goes_on (leaf_value place s first v))) e,
+          ap (λ b. not b && next) e
+              ∙ sym (ap (λ b. not b && next) (sym keyed ∙ e)),
+        );
         loose = λ e. (ap (λ b. not b && (false || goes_on (leaf_value place s first v))) e, ap (λ b. not b && next) e);
       })
     where
@@ -131,10 +138,12 @@ module _ (r : ℕ) (bar : ScoreBar) where
 
   -- whether the leaf goes on after its last value
   leaf_says : (place : ℕ) (s : Sound) (first next : Bool) (v : Value) (vs : List Value) → IsKeyed s
-      → Says (leaf_piece s first (lens (v ∷ vs)) next ∷ []) (token_segments (whole_tokens r bar next (leaf_values (r * bar.den) place s first (v ∷ vs))))
+      → Says (leaf_piece s first (lens (v ∷ vs)) next ∷ [])
+      (token_segments (whole_tokens r bar next (leaf_values (r * bar.den) place s first (v ∷ vs))))
   leaf_says place s first next v [] keyed =
       let one : lens (v ∷ []) ≡ width (64 * r) v = omega (arith, sum_by-cons (width (64 * r)) v []) in
-      subst (λ k. Says (leaf_piece s first k next ∷ []) (token_segment (value_token r bar next (leaf_value place s first v)) ∷ [])) (sym one)
+      subst (λ k. Says (leaf_piece s first k next ∷ []) (token_segment (value_token r bar next (leaf_value place s first v)) ∷ []))
+      (sym one)
       (value_says place s first next v keyed)
   leaf_says place s first next v (w ∷ vs) keyed =
       let after = place + width (r * bar.den) v in
@@ -188,12 +197,16 @@ first_lens unit (suc d) (s ∷ sounds) = s.width * unit + first_lens unit d soun
 
 ties_say : (unit d : ℕ) (after : Bool) (p : Segment) (more : List Sound) → p.goes ≡ next_ties after more → AreTies d more
     → Says (p ∷ sound_segments unit after more)
-    (record p { len = p.len + first_lens unit d more; goes = next_ties after (after_first d more) } ∷ sound_segments unit after (after_first d more))
+    (record p { len = p.len + first_lens unit d more; goes = next_ties after (after_first d more) } ∷ sound_segments unit after
+    (after_first d more))
 ties_say unit zero after p more goes ties =
-    let same : p ≡ record p { len = p.len + 0; goes = next_ties after more } = let len : p.len ≡ p.len + 0 = omega arith in λ i. record p { len = len i; goes = goes i } in
-    subst (λ q. Says (p ∷ sound_segments unit after more) (q ∷ sound_segments unit after more)) same (says_same (p ∷ sound_segments unit after more))
+    let same : p ≡ record p { len = p.len + 0; goes = next_ties after more } = let len : p.len
+    ≡ p.len + 0 = omega arith in λ i. record p { len = len i; goes = goes i } in
+    subst (λ q. Says (p ∷ sound_segments unit after more) (q ∷ sound_segments unit after more)) same
+    (says_same (p ∷ sound_segments unit after more))
 ties_say unit (suc d) after p [] goes ties =
-    let same : p ≡ record p { len = p.len + 0; goes = after } = let len : p.len ≡ p.len + 0 = omega arith in λ i. record p { len = len i; goes = goes i } in
+    let same : p ≡ record p { len = p.len + 0; goes = after } = let len : p.len
+    ≡ p.len + 0 = omega arith in λ i. record p { len = len i; goes = goes i } in
     subst (λ q. Says (p ∷ []) (q ∷ [])) same (says_same (p ∷ []))
 ties_say unit (suc d) after p (s ∷ more) goes (tie, ties) =
     let next = next_ties after more in
@@ -226,7 +239,8 @@ tie_first Tie = refl
 tie_first Rest = refl
 
 -- the first of the values goes on where the first of the sounds is a tie
-pub column_next : (r whole num d place : ℕ) (after : Bool) (sounds : List Sound) (vs : List VoiceValue) → AreSounded r whole num d place sounds vs
+pub column_next : (r whole num d place : ℕ) (after : Bool) (sounds : List Sound) (vs : List VoiceValue)
+    → AreSounded r whole num d place sounds vs
     → next_in_column after vs ≡ next_ties after (after_first d sounds)
 column_next r whole num zero place after [] vs h = ap (next_in_column after) h
 column_next r whole num (suc d) place after [] vs h = ap (next_in_column after) h
@@ -245,7 +259,8 @@ module _ (r : ℕ) (bar : ScoreBar) (some : 1 ≤ r) (right : IsScoreBar bar) wh
       let n = some_divisor (value_grid v) (64 * r) (omega (arith, some)) own.counts in
       let long = wide_scaled (r * bar.den) (scale bar) (64 * r) v n (scaled r bar right) own.wide in
       sum_by-cons (width (64 * r)) v vs ∙ ap₂ ◌+◌ long (lens_are vs (All-tail (IsValue r (r * bar.den)) v vs all))
-      ∙ joined (width (r * bar.den) v) (sum_by (width (r * bar.den)) vs) (scale bar) ∙ ap (λ k. k * scale bar) (sym (sum_by-cons (width (r * bar.den)) v vs))
+      ∙ joined (width (r * bar.den) v) (sum_by (width (r * bar.den)) vs) (scale bar)
+      ∙ ap (λ k. k * scale bar) (sym (sum_by-cons (width (r * bar.den)) v vs))
     where
       joined : (a b c : ℕ) → a * c + b * c ≡ (a + b) * c
       joined a b c = omega arith
@@ -277,7 +292,8 @@ module _ (r : ℕ) (bar : ScoreBar) (some : 1 ≤ r) (right : IsScoreBar bar) wh
       let leaf = leaf_piece s true (lens r bar (v ∷ values)) g in
       let column = column_next r (r * bar.den) bar.num d (place + sound_len bar.num s) after sounds rest next in
       let len : lens r bar (v ∷ values) ≡ s.width * unit_of + first_lens unit_of d sounds =
-      lens_are (v ∷ values) group.each ∙ ap (λ k. k * scale bar) group.sum ∙ spread s.width bar.num (scale bar) (sound_lens bar.num (take d sounds))
+      lens_are (v ∷ values) group.each ∙ ap (λ k. k * scale bar) group.sum
+      ∙ spread s.width bar.num (scale bar) (sound_lens bar.num (take d sounds))
       ∙ ap (λ k. s.width * unit_of + k) (sym (first_are d sounds)) in
       let is : IsAlike q leaf = record {
         len = len;
@@ -290,12 +306,14 @@ module _ (r : ℕ) (bar : ScoreBar) (some : 1 ≤ r) (right : IsScoreBar bar) wh
       let own_values = leaf_values (r * bar.den) place s true (v ∷ values) in
       let front = whole_tokens r bar g own_values in
       let back = whole_tokens r bar after rest in
-      let first = says_then (q ∷ []) (leaf ∷ []) (token_segments front) (alike_says q leaf is) (leaf_says r bar place s true g v values own) in
+      let first = says_then (q ∷ []) (leaf ∷ []) (token_segments front) (alike_says q leaf is)
+      (leaf_says r bar place s true g v values own) in
       let others = sounds_say d (place + sound_len bar.num s) after sounds rest (All-tail IsKeyed s sounds keyed) next in
       let all = says_then (p ∷ sound_segments unit_of after sounds) (q ∷ later) (token_segments front ++ token_segments back)
       (ties_say unit_of d after p sounds refl ties) (says_both (q ∷ []) (token_segments front) later (token_segments back) first others) in
       let list : token_segments (whole_tokens r bar after vs) ≡ token_segments front ++ token_segments back =
-      ap (λ us. token_segments (whole_tokens r bar after us)) same ∙ ap token_segments (whole_append r bar after own_values rest) ∙ map-append token_segment front back in
+      ap (λ us. token_segments (whole_tokens r bar after us)) same ∙ ap token_segments (whole_append r bar after own_values rest)
+      ∙ map-append token_segment front back in
       subst (λ ss. Says (p ∷ sound_segments unit_of after sounds) ss) (sym list) all
     where
       marked : (b : Bool) → (b && true) ≡ b

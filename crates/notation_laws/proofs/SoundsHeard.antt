@@ -73,7 +73,8 @@ module _ (r total : ℕ) (bars : List Bar) where
   is_some (Some x) = true
 
   -- between two sounds, the first of which begins at unit p of bar n, where all that is heard in the end is this
-  pub record IsHeardTo (answer : List (HeardSpan ℕ)) (later : List Sound) (done : List (HeardSpan ℕ)) (at : ℕ) (going : Option (HeardSpan ℕ)) : Type 0 where
+  pub record IsHeardTo (answer : List (HeardSpan ℕ)) (later : List Sound) (done : List (HeardSpan ℕ)) (at : ℕ)
+      (going : Option (HeardSpan ℕ)) : Type 0 where
     pub bar : ℕ
     pub unit : ℕ
     pub before : Option Sound
@@ -87,10 +88,12 @@ module _ (r total : ℕ) (bars : List Bar) where
 
   -- ---- one sound more
 
-  tied_more : (s : Sound) (sounds : List Sound) → tied_length bars (s ∷ sounds) ≡ (if is_tie s.kind then sound_length bars s + tied_length bars sounds else 0)
+  tied_more : (s : Sound) (sounds : List Sound) → tied_length bars (s ∷ sounds)
+      ≡ (if is_tie s.kind then sound_length bars s + tied_length bars sounds else 0)
   tied_more s sounds = ap (sum_by (sound_length bars)) (take_while-cons (λ t. is_tie t.kind) s sounds) ∙ go (is_tie s.kind)
     where
-      go : (b : Bool) → sum_by (sound_length bars) (cond b (s ∷ ties_of sounds) []) ≡ (if b then sound_length bars s + tied_length bars sounds else 0)
+      go : (b : Bool) → sum_by (sound_length bars) (cond b (s ∷ ties_of sounds) [])
+          ≡ (if b then sound_length bars s + tied_length bars sounds else 0)
       go true = sum_by-cons (sound_length bars) s (ties_of sounds)
       go false = refl
 
@@ -109,7 +112,8 @@ module _ (r total : ℕ) (bars : List Bar) where
   segment s later = sound_segment (parts_at bars s.bar) (begins_with_tie later) s
 
   -- what is heard of a sound, and what is known then
-  record IsStep (answer : List (HeardSpan ℕ)) (s : Sound) (later : List Sound) (done : List (HeardSpan ℕ)) (at : ℕ) (going : Option (HeardSpan ℕ)) : Type 0 where
+  record IsStep (answer : List (HeardSpan ℕ)) (s : Sound) (later : List Sound) (done : List (HeardSpan ℕ)) (at : ℕ)
+      (going : Option (HeardSpan ℕ)) : Type 0 where
     after : List (HeardSpan ℕ)
     place : ℕ
     next : Option (HeardSpan ℕ)
@@ -185,10 +189,12 @@ module _ (r total : ℕ) (bars : List Bar) where
         → spans_heard (s ∷ later) ≡ map run_heard (if b then (s, ties_of later) ∷ chord_runs later else chord_runs later)
     runs_of b e = ap (λ b. map run_heard (if b then (s, ties_of later) ∷ chord_runs later else chord_runs later)) e
 
-    tie_step : (h : (going : Option (HeardSpan ℕ)) × IsHeardTo answer (s ∷ later) done at going) → total ≤ length bars → is_tie s.kind ≡ true → is_rest s.kind ≡ false
+    tie_step : (h : (going : Option (HeardSpan ℕ)) × IsHeardTo answer (s ∷ later) done at going) → total ≤ length bars → is_tie s.kind
+        ≡ true → is_rest s.kind ≡ false
         → begins_chord s.kind ≡ false → is_short s.kind ≡ false → (s.kind ≡ Begin → ⊥) → IsStep answer s later done at h.0
     tie_step (None, h) fits tie sounds begins short other = absurd (false≢true (sym h.on ∙ tie))
-    tie_step (Some x, h) fits tie sounds begins short other = span_step h.bar h.unit (longer x len) h.stand within h.place wells h.ties.1 keys whole (Some x)
+    tie_step (Some x, h) fits tie sounds begins short other = span_step h.bar h.unit
+        (longer x len) h.stand within h.place wells h.ties.1 keys whole (Some x)
         (more_heard done at x (segment s later) more)
       where
         len : ℕ
@@ -226,10 +232,12 @@ module _ (r total : ℕ) (bars : List Bar) where
             let long : x.len + len + tied_length bars later ≡ x.len + tied_length bars (s ∷ later) = omega (arith, ends) in
             (λ i. done ++ (record x { len = long i } ∷ sym (runs_of false begins) i)) ∙ h.all
 
-    begin_step : (h : (going : Option (HeardSpan ℕ)) × IsHeardTo answer (s ∷ later) done at going) → total ≤ length bars → is_tie s.kind ≡ false → is_rest s.kind ≡ false
+    begin_step : (h : (going : Option (HeardSpan ℕ)) × IsHeardTo answer (s ∷ later) done at going) → total ≤ length bars → is_tie s.kind
+        ≡ false → is_rest s.kind ≡ false
         → begins_chord s.kind ≡ true → IsStep answer s later done at h.0
     begin_step (Some x, h) fits tie sounds begins = absurd (false≢true (sym tie ∙ h.on))
-    begin_step (None, h) fits tie sounds begins = span_step h.bar h.unit (begun at (segment s later)) h.stand within h.place wells h.ties.1 refl whole None
+    begin_step (None, h) fits tie sounds begins = span_step h.bar h.unit
+        (begun at (segment s later)) h.stand within h.place wells h.ties.1 refl whole None
         (begin_heard done at (segment s later) begin)
       where
         own : IsWellSounding s
@@ -251,7 +259,8 @@ module _ (r total : ℕ) (bars : List Bar) where
         whole =
             let len : s.width * parts_at bars s.bar + tied_length bars later ≡ sum_by (sound_length bars) (s ∷ ties_of later) =
             sym (sum_by-cons (sound_length bars) s (ties_of later)) in
-            (λ i. done ++ (record { start = start i; len = len i; keys = s.keys; graces = s.graces; short = is_short s.kind } ∷ spans_heard later))
+            (λ i. done ++ (record { start = start i; len = len i; keys = s.keys; graces = s.graces; short = is_short s.kind }
+            ∷ spans_heard later))
             ∙ ap (λ xs. done ++ xs) (sym (runs_of true begins)) ∙ h.all
 
     no_tie : (later : List Sound) → TiesGoOn (Some s) later → is_rest s.kind ≡ true → begins_with_tie later ≡ false
@@ -262,7 +271,8 @@ module _ (r total : ℕ) (bars : List Bar) where
         go false e = e
         go true e = absurd (clash (is_rest s.kind) rest (ties.0 e).0)
 
-    rest_step : (h : (going : Option (HeardSpan ℕ)) × IsHeardTo answer (s ∷ later) done at going) → total ≤ length bars → is_tie s.kind ≡ false → is_rest s.kind ≡ true
+    rest_step : (h : (going : Option (HeardSpan ℕ)) × IsHeardTo answer (s ∷ later) done at going) → total ≤ length bars → is_tie s.kind
+        ≡ false → is_rest s.kind ≡ true
         → begins_chord s.kind ≡ false → is_short s.kind ≡ false → (s.kind ≡ Begin → ⊥) → IsStep answer s later done at h.0
     rest_step (Some x, h) fits tie rest begins short other = absurd (false≢true (sym tie ∙ h.on))
     rest_step (None, h) fits tie rest begins short other = record {
@@ -291,20 +301,31 @@ module _ (r total : ℕ) (bars : List Bar) where
         within = let (few, _, _, _, _, _) = h.stand in omega (arith, few, fits)
 
         silent : IsRest (segment s later)
-        silent = record { silent = keyed s own ∙ rest; graces = bare s own other; short = short; comes = tie; goes = no_tie later h.ties.1 rest }
+        silent = record {
+          silent = keyed s own
+              ∙ rest;
+          graces = bare s own other;
+          short = short;
+          comes = tie;
+          goes = no_tie later h.ties.1 rest;
+        }
 
-    step : (going : Option (HeardSpan ℕ)) → IsHeardTo answer (s ∷ later) done at going → total ≤ length bars → IsStep answer s later done at going
+    step : (going : Option (HeardSpan ℕ)) → IsHeardTo answer (s ∷ later) done at going → total ≤ length bars
+        → IsStep answer s later done at going
     step going h fits = go s.kind refl
       where
         go : (k : SoundKind) → s.kind ≡ k → IsStep answer s later done at going
         go Begin e = begin_step (going, h) fits (ap is_tie e) (ap is_rest e) (ap begins_chord e)
         go Short e = begin_step (going, h) fits (ap is_tie e) (ap is_rest e) (ap begins_chord e)
-        go Tie e = tie_step (going, h) fits (ap is_tie e) (ap is_rest e) (ap begins_chord e) (ap is_short e) (λ f. clash (is_tie s.kind) (ap is_tie e) (ap is_tie f))
-        go Rest e = rest_step (going, h) fits (ap is_tie e) (ap is_rest e) (ap begins_chord e) (ap is_short e) (λ f. clash (is_rest s.kind) (ap is_rest e) (ap is_rest f))
+        go Tie e = tie_step (going, h) fits (ap is_tie e) (ap is_rest e) (ap begins_chord e) (ap is_short e)
+            (λ f. clash (is_tie s.kind) (ap is_tie e) (ap is_tie f))
+        go Rest e = rest_step (going, h) fits (ap is_tie e) (ap is_rest e) (ap begins_chord e) (ap is_short e)
+            (λ f. clash (is_rest s.kind) (ap is_rest e) (ap is_rest f))
 
   -- ---- the sounds of a bar
 
-  pub record AreHeard (answer : List (HeardSpan ℕ)) (segments : List Segment) (later : List Sound) (done : List (HeardSpan ℕ)) (at : ℕ) (going : Option (HeardSpan ℕ)) : Type 0 where
+  pub record AreHeard (answer : List (HeardSpan ℕ)) (segments : List Segment) (later : List Sound) (done : List (HeardSpan ℕ)) (at : ℕ)
+      (going : Option (HeardSpan ℕ)) : Type 0 where
     pub after : List (HeardSpan ℕ)
     pub place : ℕ
     pub next : Option (HeardSpan ℕ)
@@ -315,17 +336,20 @@ module _ (r total : ℕ) (bars : List Bar) where
   next_tie [] later = refl
   next_tie (s ∷ own) later = refl
 
-  pub bar_sounds_heard : (answer : List (HeardSpan ℕ)) (n : ℕ) (own later : List Sound) (done : List (HeardSpan ℕ)) (at : ℕ) (going : Option (HeardSpan ℕ)) → total ≤ length bars
+  pub bar_sounds_heard : (answer : List (HeardSpan ℕ)) (n : ℕ) (own later : List Sound) (done : List (HeardSpan ℕ)) (at : ℕ)
+      (going : Option (HeardSpan ℕ)) → total ≤ length bars
       → All (λ s. s.bar ≡ n) own → IsHeardTo answer (own ++ later) done at going
       → AreHeard answer (sound_segments (parts_at bars n) (begins_with_tie later) own) later done at going
-  bar_sounds_heard answer n [] later done at going fits here h = record { after = done; place = at; next = going; heard = refl; reached = h }
+  bar_sounds_heard answer n [] later done at going fits here h =
+      record { after = done; place = at; next = going; heard = refl; reached = h }
   bar_sounds_heard answer n (s ∷ own) later done at going fits here h =
       let one = step answer s (own ++ later) done at going h fits in
       let rest = bar_sounds_heard answer n own later one.after one.place one.next fits (All-tail (λ s. s.bar ≡ n) s own here) one.reached in
       let same : segment s (own ++ later) ≡ sound_segment (parts_at bars n) (next_ties (begins_with_tie later) own) s =
       ap₂ (λ k b. sound_segment (parts_at bars k) b s) (All-head (λ s. s.bar ≡ n) s own here) (sym (next_tie own later)) in
       let others = sound_segments (parts_at bars n) (begins_with_tie later) own in
-      let first : hear_segment (clean done at going) (sound_segment (parts_at bars n) (next_ties (begins_with_tie later) own) s) ≡ Some (clean one.after one.place one.next) =
+      let first : hear_segment (clean done at going) (sound_segment (parts_at bars n) (next_ties (begins_with_tie later) own) s)
+      ≡ Some (clean one.after one.place one.next) =
       subst (λ p. hear_segment (clean done at going) p ≡ Some (clean one.after one.place one.next)) same one.heard in
       record {
         after = rest.after;

@@ -98,9 +98,11 @@ power_few m n e few = go (cases_lt m 16)
   where
     go : (m < 16) ⊎ (16 ≤ m) → m < 16
     go (inl lt) = lt
-    go (inr le) = let most : 2 ^ 16 ≤ 2 ^ m = pow_mono le in let sixteen : 2 ^ 16 ≡ 65536 = refl in absurd (omega (arith, e, few, most, sixteen))
+    go (inr le) = let most : 2 ^ 16 ≤ 2 ^ m = pow_mono le in let sixteen : 2 ^ 16
+        ≡ 65536 = refl in absurd (omega (arith, e, few, most, sixteen))
 
-spelled_power : (r odd normal : ℕ) → 1 ≤ r → r ≤ MOST_UNITS → IsOddPart r odd → IsPowerOfTwo normal → normal ≤ odd → IsPowerWhole (spelled_whole r odd normal)
+spelled_power : (r odd normal : ℕ) → 1 ≤ r → r ≤ MOST_UNITS → IsOddPart r odd → IsPowerOfTwo normal → normal ≤ odd
+    → IsPowerWhole (spelled_whole r odd normal)
 spelled_power r odd normal some few part (j, power) le = record {
   power = 6 + halvings + j;
   few = power_few (6 + halvings + j) (spelled_whole r odd normal) is short;
@@ -162,7 +164,8 @@ written_value whole v is counts dots = record { part = go v.recip refl; dots = d
 abbrev pub IsOfValue : Note → Type 0
 IsOfValue n = IsWrittenValue n.value
 
-values_written : (grid whole : ℕ) (t : Token) (first : Bool) (vs : List Value) → All IsWrittenValue vs → All IsOfValue (token_notes grid whole t first vs)
+values_written : (grid whole : ℕ) (t : Token) (first : Bool) (vs : List Value) → All IsWrittenValue vs
+    → All IsOfValue (token_notes grid whole t first vs)
 values_written grid whole t first [] are = All-nil IsOfValue
 values_written grid whole t first (v ∷ vs) are =
     All-cons IsOfValue (note grid whole t first (is_empty vs) v) (token_notes grid whole t false vs) (All-head IsWrittenValue v vs are)
@@ -174,15 +177,18 @@ all_values len whole vs is are = go vs (values_grid len whole vs are) (values_do
     go : (vs : List Value) → All (CountsIn whole) vs → All (λ v. v.dots ≤ 2) vs → All IsWrittenValue vs
     go [] counts dots = All-nil IsWrittenValue
     go (v ∷ vs) counts dots =
-        All-cons IsWrittenValue v vs (written_value whole v is (All-head (CountsIn whole) v vs counts) (All-head (λ v. v.dots ≤ 2) v vs dots))
+        All-cons IsWrittenValue v vs
+        (written_value whole v is (All-head (CountsIn whole) v vs counts) (All-head (λ v. v.dots ≤ 2) v vs dots))
         (go vs (All-tail (CountsIn whole) v vs counts) (All-tail (λ v. v.dots ≤ 2) v vs dots))
 
-notes_written : (grid whole : ℕ) (ts : List Token) (notes : List Note) → IsPowerWhole whole → AreNotes grid whole ts notes → All IsOfValue notes
+notes_written : (grid whole : ℕ) (ts : List Token) (notes : List Note) → IsPowerWhole whole → AreNotes grid whole ts notes
+    → All IsOfValue notes
 notes_written grid whole [] notes is h = subst (All IsOfValue) (sym h) (All-nil IsOfValue)
 notes_written grid whole (t ∷ ts) notes is (vs, others, values, are, same) =
     subst (All IsOfValue) (sym same)
     (All-append IsOfValue (token_notes grid whole t true vs) others
-    (values_written grid whole t true vs (all_values ((t.end - t.start) / grid) whole vs is values)) (notes_written grid whole ts others is are))
+    (values_written grid whole t true vs (all_values ((t.end - t.start) / grid) whole vs is values))
+    (notes_written grid whole ts others is are))
 
 -- ---- groups
 
@@ -212,7 +218,8 @@ group_spelled r odd ts g some few part h = record {
     factors : (a b : ℕ) → odd ≡ a * b → (1 ≤ a) × (a ≤ odd)
     factors zero b e = let none : zero * b ≡ 0 = omega arith in absurd (omega (arith, e, none, some_odd))
     factors (suc a) zero e = let none : suc a * zero ≡ 0 = omega arith in absurd (omega (arith, e, none, some_odd))
-    factors (suc a) (suc b) e = let le : suc a ≤ suc a * suc b = le-mul_of_pos_right (suc a) (omega arith) in (omega arith, omega (arith, le, e))
+    factors (suc a) (suc b) e = let le : suc a ≤ suc a * suc b = le-mul_of_pos_right (suc a) (omega arith) in
+        (omega arith, omega (arith, le, e))
 
     some_actual : 1 ≤ g.ratio.actual
     some_actual = (factors g.ratio.actual h.grid h.actual).0
@@ -223,7 +230,8 @@ group_spelled r odd ts g some few part h = record {
     odd_few : odd ≤ r
     odd_few = le_of_dvd some (subst (λ x. odd ∣ x) (sym part.1) (dvd-mul_right odd (2 ^ part.0)))
 
-each_spelled : (r odd : ℕ) (gs : List (List Token)) (groups : List Group) → 1 ≤ r → r ≤ MOST_UNITS → IsOddPart r odd → Each (IsGroup r odd) gs groups
+each_spelled : (r odd : ℕ) (gs : List (List Token)) (groups : List Group) → 1 ≤ r → r ≤ MOST_UNITS → IsOddPart r odd
+    → Each (IsGroup r odd) gs groups
     → All (IsSpelled r) groups
 each_spelled r odd [] groups some few part each = subst (All (IsSpelled r)) (sym each) (All-nil (IsSpelled r))
 each_spelled r odd (g ∷ gs) [] some few part each = absurd each
@@ -235,4 +243,5 @@ pub voice_spelled : (r n : ℕ) (bars : List ScoreBar) (sounds : List Sound) (al
 voice_spelled r n [] sounds all some few h = subst (All (All (IsSpelled r))) (sym h) (All-nil (All (IsSpelled r)))
 voice_spelled r n (bar ∷ bars) sounds [] some few h = absurd h
 voice_spelled r n (bar ∷ bars) sounds (groups ∷ all) some few ((vs, odd, values, part, each), rest) =
-    All-cons (All (IsSpelled r)) groups all (each_spelled r odd _ groups some few part each) (voice_spelled r (suc n) bars sounds all some few rest)
+    All-cons (All (IsSpelled r)) groups all (each_spelled r odd _ groups some few part each)
+    (voice_spelled r (suc n) bars sounds all some few rest)

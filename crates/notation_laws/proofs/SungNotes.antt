@@ -69,7 +69,8 @@ segment_sung : (done : List (HeardSpan ℕ)) (at : ℕ) (going : Option (HeardSp
     → hear_segment (clean done at going) p ≡ Some h → IsSungVoice h → WasSung done at going p
 segment_sung done at None p h e sung = go (rest_or_begin done at p h e)
   where
-    go : (IsRest p × (h ≡ clean done (at + p.len) None)) ⊎ (IsBegin p × (h ≡ sounded p.goes done (at + p.len) (begun at p))) → WasSung done at None p
+    go : (IsRest p × (h ≡ clean done (at + p.len) None)) ⊎ (IsBegin p × (h ≡ sounded p.goes done (at + p.len) (begun at p)))
+        → WasSung done at None p
     go (inl (is, same)) =
         let after = subst IsSungVoice same sung in
         record {
@@ -118,11 +119,13 @@ all_notes (n ∷ notes) all =
     All-cons IsSungNote n notes (All-head IsSungSegment (note_segment n) (note_segments notes) all)
     (all_notes notes (All-tail IsSungSegment (note_segment n) (note_segments notes) all))
 
-record BarSung (done : List (HeardSpan ℕ)) (at : ℕ) (going : Option (HeardSpan ℕ)) (groups : List Group) (next : HeardVoice ℕ) : Type 0 where
+record BarSung (done : List (HeardSpan ℕ)) (at : ℕ) (going : Option (HeardSpan ℕ)) (groups : List Group)
+    (next : HeardVoice ℕ) : Type 0 where
   clean_there : IsClean next
   sung : IsSungVoice next → IsSungVoice (clean done at going) × AreSung groups
 
-bar_sung : (r : ℕ) (bar : ScoreBar) (groups : List Group) (done : List (HeardSpan ℕ)) (at : ℕ) (going : Option (HeardSpan ℕ)) (next : HeardVoice ℕ)
+bar_sung : (r : ℕ) (bar : ScoreBar) (groups : List Group) (done : List (HeardSpan ℕ)) (at : ℕ) (going : Option (HeardSpan ℕ))
+    (next : HeardVoice ℕ)
     → hear_bar r bar (clean done at going) groups ≡ Some next → BarSung done at going groups next
 bar_sung r bar [] done at going next e =
     let rest = rest_segment (r * (bar.num * (64 / bar.den))) in
@@ -139,7 +142,8 @@ bar_sung r bar (g ∷ groups) done at going next e =
       sung = λ sung. let (before, all) = segments_sung done at going (note_segments notes) next heard sung in (before, all_notes notes all);
     }
 
-bars_sung : (r : ℕ) (bars : List ScoreBar) (all : List (List Group)) (done : List (HeardSpan ℕ)) (at : ℕ) (going : Option (HeardSpan ℕ)) (last : HeardVoice ℕ)
+bars_sung : (r : ℕ) (bars : List ScoreBar) (all : List (List Group)) (done : List (HeardSpan ℕ)) (at : ℕ) (going : Option (HeardSpan ℕ))
+    (last : HeardVoice ℕ)
     → hear_bars r bars (clean done at going) all ≡ Some last → IsSungVoice last → IsSungVoice (clean done at going) × All AreSung all
 bars_sung r [] [] done at going last e sung = (subst IsSungVoice (sym (same (clean done at going) last e)) sung, All-nil AreSung)
   where
@@ -157,7 +161,8 @@ bars_sung r (bar ∷ bars) (groups ∷ all) done at going last e sung =
 
 -- ---- the voice
 
-runs_sung : (r total : ℕ) (bars : List Bar) (sounds : List Sound) → All IsWellSounding sounds → All IsSungSpan (spans_heard r total bars sounds)
+runs_sung : (r total : ℕ) (bars : List Bar) (sounds : List Sound) → All IsWellSounding sounds
+    → All IsSungSpan (spans_heard r total bars sounds)
 runs_sung r total bars [] well = All-nil IsSungSpan
 runs_sung r total bars (s ∷ sounds) well =
     go (begins_chord s.kind) refl (runs_sung r total bars sounds (All-tail IsWellSounding s sounds well))
@@ -191,10 +196,12 @@ ended h spans e all = go h.going h.graces refl e
     go None (g ∷ graces) none e = absurd (cc)
     go (Some x) graces none e = absurd (cc)
 
-pub voice_sung : (r : ℕ) (bars : List ScoreBar) (sounds : List Sound) (all : List (List Group)) → IsVoice r bars sounds → AreVoiceGroups r 0 bars sounds all
+pub voice_sung : (r : ℕ) (bars : List ScoreBar) (sounds : List Sound) (all : List (List Group)) → IsVoice r bars sounds
+    → AreVoiceGroups r 0 bars sounds all
     → All AreSung all
 voice_sung r bars sounds all voice groups =
     let spans = spans_heard r (length bars) (map some_bar bars) sounds in
     let runs = voice_runs r bars (map some_bar bars) sounds all voice (signatures_kept bars) groups in
     let (last, one, end) = heard_first (hear_bars r bars (clean [] 0 None) all) ended_spans spans runs in
-    (bars_sung r bars all [] 0 None last one (ended last spans end (runs_sung r (length bars) (map some_bar bars) sounds voice.well.each))).1
+    (bars_sung r bars all [] 0 None last one
+    (ended last spans end (runs_sung r (length bars) (map some_bar bars) sounds voice.well.each))).1

@@ -87,7 +87,8 @@ abbrev pub whole_tokens : ℕ → ScoreBar → Bool → List VoiceValue → List
 whole_tokens r bar after [] = []
 whole_tokens r bar after (v ∷ vs) = value_token r bar (next_in_column after vs) v ∷ whole_tokens r bar after vs
 
-pub cuts_say : (r odd from to : ℕ) (bar : ScoreBar) (after : Bool) (vs : List VoiceValue) → SideBySide from (bar_tokens r odd bar after vs) to
+pub cuts_say : (r odd from to : ℕ) (bar : ScoreBar) (after : Bool) (vs : List VoiceValue)
+    → SideBySide from (bar_tokens r odd bar after vs) to
     → Says (token_segments (whole_tokens r bar after vs)) (token_segments (bar_tokens r odd bar after vs))
 cuts_say r odd from to bar after [] h = says_same []
 cuts_say r odd from to bar after (v ∷ vs) h =
@@ -156,9 +157,11 @@ joined_from_says count zero from to (t ∷ more) are h =
 silent_joined : (n : ℕ) (t : Token) (more : List Token) → is_silent t ≡ true → n ≤ length (take_while is_silent more) → AreJoined n t more
 silent_joined zero t more silent few = tt
 silent_joined (suc n) t [] silent few = tt
-silent_joined (suc n) t (u ∷ more) silent few = go (is_silent u) refl (subst (λ us. suc n ≤ length us) (take_while-cons is_silent u more) few) (silent_joined n (ended t u) more silent)
+silent_joined (suc n) t (u ∷ more) silent few = go (is_silent u) refl
+    (subst (λ us. suc n ≤ length us) (take_while-cons is_silent u more) few) (silent_joined n (ended t u) more silent)
   where
-    go : (b : Bool) → is_silent u ≡ b → suc n ≤ length (cond b (u ∷ take_while is_silent more) []) → (n ≤ length (take_while is_silent more) → AreJoined n (ended t u) more)
+    go : (b : Bool) → is_silent u ≡ b → suc n ≤ length (cond b (u ∷ take_while is_silent more) [])
+        → (n ≤ length (take_while is_silent more) → AreJoined n (ended t u) more)
         → AreJoined (suc n) t (u ∷ more)
     go true e few rest = (inr (silent, e), rest (omega (arith, few)))
     go false e few rest = absurd (omega (arith, few))
@@ -196,7 +199,8 @@ tied_joined (suc n) goes t (u ∷ more) held few = go goes refl u.comes few (tie
     both false b e = absurd (cc)
 
     go : (b : Bool) → goes ≡ b → (c : Bool) → suc n ≤ length (if b && c then u.end ∷ after else [])
-        → (((u.goes && not (is_silent u)) ≡ true → (is_silent t ≡ false) × (u.goes ≡ true)) → n ≤ length after → AreJoined n (ended t u) more)
+        → (((u.goes && not (is_silent u)) ≡ true → (is_silent t ≡ false) × (u.goes ≡ true)) → n ≤ length after
+        → AreJoined n (ended t u) more)
         → AreJoined (suc n) t (u ∷ more)
     go true e true few rest =
         let (sounds, on) = held e in (

@@ -49,7 +49,8 @@ own_bars n [] = All-nil (λ s. s.bar ≡ n)
 own_bars n (s ∷ sounds) =
     subst (All (λ s. s.bar ≡ n)) (sym (take_while-cons (λ s. s.bar == n) s sounds)) (go (s.bar == n) refl (own_bars n sounds))
   where
-    go : (b : Bool) → (s.bar == n) ≡ b → All (λ s. s.bar ≡ n) (own_sounds n sounds) → All (λ s. s.bar ≡ n) (cond b (s ∷ own_sounds n sounds) [])
+    go : (b : Bool) → (s.bar == n) ≡ b → All (λ s. s.bar ≡ n) (own_sounds n sounds)
+        → All (λ s. s.bar ≡ n) (cond b (s ∷ own_sounds n sounds) [])
     go true e rest = let same : s.bar ≡ n = grind (arith, nat_tests, e) in All-cons (λ s. s.bar ≡ n) s (own_sounds n sounds) same rest
     go false e rest = All-nil (λ s. s.bar ≡ n)
 
@@ -68,15 +69,18 @@ module _ (r total : ℕ) (bars : List Bar) (answer : List (HeardSpan ℕ)) (some
   end_heard done at None h = ap (λ k. Some k) (sym (append-nil done) ∙ h.all)
   end_heard done at (Some x) h = absurd (false≢true h.on)
 
-  bars_heard : (n : ℕ) (sbars : List ScoreBar) (sounds later : List Sound) (all : List (List Group)) (done : List (HeardSpan ℕ)) (at : ℕ) (going : Option (HeardSpan ℕ))
-      → n + length sbars ≡ total → All IsScoreBar sbars → AreUnits bars n sbars → AreAhead r total n sounds later → AreVoiceGroups r n sbars sounds all
+  bars_heard : (n : ℕ) (sbars : List ScoreBar) (sounds later : List Sound) (all : List (List Group)) (done : List (HeardSpan ℕ)) (at : ℕ)
+      (going : Option (HeardSpan ℕ))
+      → n + length sbars ≡ total → All IsScoreBar sbars → AreUnits bars n sbars → AreAhead r total n sounds later
+      → AreVoiceGroups r n sbars sounds all
       → Reached later done at going → (hear_bars r sbars (clean done at going) all >>= ended_spans) ≡ Some answer
   bars_heard n [] sounds [] all done at going count right units ahead groups h =
       ap (λ gs. hear_bars r [] (clean done at going) gs >>= ended_spans) groups ∙ end_heard done at going h
   bars_heard n [] sounds (s ∷ later) all done at going count right units ahead groups h =
       let few = ahead.stand.0 in absurd (omega (arith, few, count))
   bars_heard n (bar ∷ sbars) sounds later [] done at going count right units ahead groups h = absurd groups
-  bars_heard n (bar ∷ sbars) sounds later (own_groups ∷ all) done at going count right (within, unit, units) ahead ((vs, odd, values, part, each), groups) h =
+  bars_heard n (bar ∷ sbars) sounds later (own_groups ∷ all) done at going count right (within, unit, units) ahead
+      ((vs, odd, values, part, each), groups) h =
       let few : n < total = omega (arith, count) in
       let well = All-head IsScoreBar bar sbars right in
       let own = own_sounds n later in
@@ -86,20 +90,26 @@ module _ (r total : ℕ) (bars : List Bar) (answer : List (HeardSpan ℕ)) (some
       let tie : begins_with_tie after ≡ begins_with_tie (sounds_in_bar (suc n) sounds) = tie_ahead r total (suc n) sounds after next in
       let mine : AreBarValues r bar own vs = subst (λ xs. AreBarValues r bar xs vs) (sym (own_are r total n sounds later ahead)) values in
       let whole = some_whole r bar some well in
-      let long = All-weaker (λ s. 1 ≤ s.width) (λ s. 1 ≤ s.width * bar.num) (λ s wide. some_product s.width bar.num wide well.signature.some) own fill.some in
+      let long = All-weaker (λ s. 1 ≤ s.width) (λ s. 1 ≤ s.width * bar.num)
+      (λ s wide. some_product s.width bar.num wide well.signature.some) own fill.some in
       let split = own_split n later in
-      let keys = All-weaker IsWellSounding IsKeyed (λ s w. keyed s w) own (all_front IsWellSounding own after (subst (All IsWellSounding) (sym split) h.well)) in
+      let keys = All-weaker IsWellSounding IsKeyed (λ s w. keyed s w) own
+      (all_front IsWellSounding own after (subst (All IsWellSounding) (sym split) h.well)) in
       let said = sounds_say r bar some well 0 0 (begins_with_tie after) own vs keys (sounded r bar well whole own vs long mine) in
       let heard = bar_sounds_heard r total bars answer n own after done at going fits (own_bars n later)
       (subst (λ xs. Reached xs done at going) (sym split) h) in
-      let here : hear_segments (clean done at going) (sound_segments (bar.num * scale bar) (begins_with_tie after) own) ≡ Some (clean heard.after heard.place heard.next) =
-      subst (λ u. hear_segments (clean done at going) (sound_segments u (begins_with_tie after) own) ≡ Some (clean heard.after heard.place heard.next)) unit heard.heard in
+      let here : hear_segments (clean done at going) (sound_segments (bar.num * scale bar) (begins_with_tie after) own)
+      ≡ Some (clean heard.after heard.place heard.next) =
+      subst (λ u. hear_segments (clean done at going) (sound_segments u (begins_with_tie after) own)
+      ≡ Some (clean heard.after heard.place heard.next)) unit heard.heard in
       let own_each = subst (λ b. Each (IsGroup r odd) (grouped r odd bar (bar_tokens r odd bar b vs)) own_groups) (sym tie) each in
       let one : hear_bar r bar (clean done at going) own_groups ≡ Some (clean heard.after heard.place heard.next) =
-      bar_heard r odd bar (begins_with_tie after) own vs own_groups some part well fill.full mine own_each done at going (clean heard.after heard.place heard.next)
+      bar_heard r odd bar (begins_with_tie after) own vs own_groups some part well fill.full mine own_each done at going
+      (clean heard.after heard.place heard.next)
       (said done at going (clean heard.after heard.place heard.next) here) in
       ap (λ o. (o >>= λ next. hear_bars r sbars next all) >>= ended_spans) one
-      ∙ bars_heard (suc n) sbars sounds after all heard.after heard.place heard.next (omega (arith, count)) (All-tail IsScoreBar bar sbars right) units next groups heard.reached
+      ∙ bars_heard (suc n) sbars sounds after all heard.after heard.place heard.next (omega (arith, count))
+      (All-tail IsScoreBar bar sbars right) units next groups heard.reached
 
 -- ---- the voice
 
@@ -125,7 +135,8 @@ module _ (r total : ℕ) (bars : List Bar) where
 
 as_many : (sbars : List ScoreBar) (bars : List Bar) → HaveSignatures sbars bars → length sbars ≡ length bars
 as_many sbars bars have =
-    sym (length-map sbars (λ (b : ScoreBar). signature b.num b.den)) ∙ sym (ap length have) ∙ length-map bars (λ (b : Bar). signature b.num b.den)
+    sym (length-map sbars (λ (b : ScoreBar). signature b.num b.den)) ∙ sym (ap length have)
+    ∙ length-map bars (λ (b : Bar). signature b.num b.den)
   where
     signature : ℕ → ℕ → ℕ × ℕ
     signature num den = (num, den)
@@ -145,7 +156,8 @@ pub voice_runs : (r : ℕ) (sbars : List ScoreBar) (bars : List Bar) (sounds : L
 voice_runs r sbars bars sounds all voice signatures groups =
     let total = length sbars in
     let fits : total ≤ length bars = let e = as_many sbars bars signatures in omega (arith, e) in
-    bars_heard r total bars (spans_heard r total bars sounds) voice.some_unit fits 0 sbars sounds sounds all [] 0 None (omega arith) voice.each_bar
+    bars_heard r total bars (spans_heard r total bars sounds) voice.some_unit fits 0 sbars sounds sounds all [] 0 None
+    (omega arith) voice.each_bar
     (units_are bars sbars signatures) (record { stand = voice.well.places; same = λ m le. refl }) groups (record {
       bar = 0;
       unit = 0;

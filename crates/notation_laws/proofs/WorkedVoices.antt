@@ -12,7 +12,15 @@ four = record { num = 4; den = 4; tempo = 500000; sf = None }
 -- what a note lasts is heard, and not how it is written
 abbrev tied : Bool → ℕ → ℕ → Bool → Note
 tied comes duration keys goes =
-    record { duration = duration; value = record { recip = Of 1; dots = 0 }; keys = keys; graces = []; short = false; comes = comes; goes = goes }
+    record {
+      duration = duration;
+      value = record { recip = Of 1; dots = 0 };
+      keys = keys;
+      graces = [];
+      short = false;
+      comes = comes;
+      goes = goes;
+    }
 
 abbrev rests : ℕ → Note
 rests duration = tied false duration 0 false

@@ -21,13 +21,21 @@ module _ (r : ℕ) where
   abbrev IsLong : Ratio → Note → Type 0
   IsLong ratio n = n.duration * (value_grid n.value * ratio.actual) ≡ parts n.value * (whole_of r * ratio.normal)
 
-  notes_written : (ratio : Ratio) (notes : List Note) → All IsOfValue notes → All (IsLong ratio) notes → All IsSungNote notes → All (IsWrittenNote r ratio) notes
+  notes_written : (ratio : Ratio) (notes : List Note) → All IsOfValue notes → All (IsLong ratio) notes → All IsSungNote notes
+      → All (IsWrittenNote r ratio) notes
   notes_written ratio [] values long sung = All-nil (IsWrittenNote r ratio)
   notes_written ratio (n ∷ notes) values long sung =
       let own = All-head IsSungNote n notes sung in
       All-cons (IsWrittenNote r ratio) n notes
-      (record { value = All-head IsOfValue n notes values; long = All-head (IsLong ratio) n notes long; keys = own.keys; graces = own.graces })
-      (notes_written ratio notes (All-tail IsOfValue n notes values) (All-tail (IsLong ratio) n notes long) (All-tail IsSungNote n notes sung))
+      (record {
+        value = All-head IsOfValue n notes values;
+        long = All-head
+            (IsLong ratio) n notes long;
+        keys = own.keys;
+        graces = own.graces;
+      })
+      (notes_written ratio notes (All-tail IsOfValue n notes values) (All-tail (IsLong ratio) n notes long)
+      (All-tail IsSungNote n notes sung))
 
   groups_written : (groups : List Group) → All (IsSpelled r) groups → AreSung groups → All (IsWrittenGroup r) groups
   groups_written [] spelled sung = All-nil (IsWrittenGroup r)
@@ -52,4 +60,5 @@ module _ (r : ℕ) where
 
 pub notes_can_be_written : NotesCanBeWritten
 notes_can_be_written r bars sounds all voice groups =
-    bars_written r all (voice_spelled r 0 bars sounds all voice.some_unit voice.few_units groups) (voice_sung r bars sounds all voice groups)
+    bars_written r all (voice_spelled r 0 bars sounds all voice.some_unit voice.few_units groups)
+    (voice_sung r bars sounds all voice groups)

@@ -13,7 +13,8 @@ pub record Stretch (L : Type 0) : Type 0 where
   pub comes : Bool
   pub goes : Bool
 
--- A chord that was heard: its start, from the beginning of the voice; how long it is over all its ties; its keys, the grace chords before it,
+-- A chord that was heard: its start, from the beginning of the voice; how long it is over all its ties; its keys, the grace chords before
+-- it,
 -- and whether it is marked short
 pub record HeardSpan (L : Type 0) : Type 0 where
   pub start : L
@@ -22,7 +23,8 @@ pub record HeardSpan (L : Type 0) : Type 0 where
   pub graces : List ℕ
   pub short : Bool
 
--- What is known after some notes: the spans that have ended; the place that was reached; the span that goes on by a tie; and the grace chords
+-- What is known after some notes: the spans that have ended; the place that was reached; the span that goes on by a tie; and the grace
+-- chords
 -- that wait for their note
 pub record HeardVoice (L : Type 0) : Type 0 where
   pub spans : List (HeardSpan L)

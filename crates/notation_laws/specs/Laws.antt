@@ -39,7 +39,8 @@ pub record IsHeard (resolution : ℕ) (sbars : List ScoreBar) (bars : List Bar) 
 -- so it is of each voice that can be written
 abbrev pub VoicesAreHeard : Type 0
 VoicesAreHeard =
-    (resolution : ℕ) (sbars : List ScoreBar) (bars : List Bar) (sounds : List Sound) (all : List (List Group)) → IsVoice resolution sbars sounds
+    (resolution : ℕ) (sbars : List ScoreBar) (bars : List Bar) (sounds : List Sound) (all : List (List Group))
+    → IsVoice resolution sbars sounds
     → HaveSignatures sbars bars → AreVoiceGroups resolution 0 sbars sounds all → IsHeard resolution sbars bars sounds all
 
 -- each bar of a voice is heard in full

@@ -123,7 +123,8 @@ signature_parts r bar some is =
 
 -- ---- brackets
 
-brackets : (page_word (codes "\\tuplet") ≡ Some tuplet_word) × (page_word (codes "{") ≡ Some opening_word) × (page_word (codes "}") ≡ Some closing_word)
+brackets : (page_word (codes "\\tuplet") ≡ Some tuplet_word) × (page_word (codes "{") ≡ Some opening_word)
+    × (page_word (codes "}") ≡ Some closing_word)
 unfolding page_word
 brackets = (refl, refl, refl)
 
@@ -145,7 +146,8 @@ module _ (r : ℕ) (some : 1 ≤ 64 * r) where
     unfolding hear_page_word
     ratio_heard h f = refl
 
-    bracket_heard : (h : HeardVoice ℕ) (f : Frac) → hear_page_word (record (among None h) { side = at_bracket f }) opening_word ≡ Some (among (Some f) h)
+    bracket_heard : (h : HeardVoice ℕ) (f : Frac) → hear_page_word (record (among None h) { side = at_bracket f }) opening_word
+        ≡ Some (among (Some f) h)
     unfolding hear_page_word
     bracket_heard h f = refl
 
@@ -153,9 +155,11 @@ module _ (r : ℕ) (some : 1 ≤ 64 * r) where
     unfolding hear_page_word
     close_heard h f = refl
 
-    group_read : (written : Bool) (g : Group) (h next : HeardVoice ℕ) → IsWrittenGroup r g → hear_from r some sf key written h g.notes ≡ Some next
+    group_read : (written : Bool) (g : Group) (h next : HeardVoice ℕ) → IsWrittenGroup r g → hear_from r some sf key written h g.notes
+        ≡ Some next
         → hear_page_words (among None h) (group_list sf written g) ≡ Some (among None next)
-    group_read written g h next is heard = go (nat_lt 1 g.ratio.actual) (notes_read r some sf key g written g.notes h next is is.notes heard)
+    group_read written g h next is heard = go (nat_lt 1 g.ratio.actual)
+        (notes_read r some sf key g written g.notes h next is is.notes heard)
       where
         f : Frac
         f = frac g.ratio.normal g.ratio.actual
@@ -174,14 +178,18 @@ module _ (r : ℕ) (some : 1 ≤ 64 * r) where
 
         go : (b : Bool)
             → hear_page_words (among (if b then Some f else None) h) notes ≡ Some (among (if b then Some f else None) next)
-            → hear_page_words (among None h) (if b then codes "\\tuplet" ∷ ratio_text g.ratio ∷ codes "{" ∷ (notes ++ closing) else notes) ≡ Some (among None next)
+            → hear_page_words (among None h) (if b then codes "\\tuplet" ∷ ratio_text g.ratio ∷ codes "{" ∷ (notes ++ closing) else notes)
+            ≡ Some (among None next)
         go false own = own
         go true own =
-            hear_one (among None h) (record (among None h) { side = at_ratio }) (codes "\\tuplet") tuplet_word (ratio_text g.ratio ∷ codes "{" ∷ (notes ++ closing))
+            hear_one (among None h) (record (among None h) { side = at_ratio }) (codes "\\tuplet") tuplet_word
+            (ratio_text g.ratio ∷ codes "{" ∷ (notes ++ closing))
             brackets.0 (tuplet_heard h)
-            ∙ hear_one (record (among None h) { side = at_ratio }) (record (among None h) { side = at_bracket f }) (ratio_text g.ratio) (ratio_word f)
+            ∙ hear_one (record (among None h) { side = at_ratio }) (record (among None h) { side = at_bracket f }) (ratio_text g.ratio)
+            (ratio_word f)
             (codes "{" ∷ (notes ++ closing)) (ratio_read g.ratio is.some_actual few is.some_normal most) (ratio_heard h f)
-            ∙ hear_one (record (among None h) { side = at_bracket f }) (among (Some f) h) (codes "{") opening_word (notes ++ closing) brackets.1 (bracket_heard h f)
+            ∙ hear_one (record (among None h) { side = at_bracket f }) (among (Some f) h) (codes "{") opening_word
+            (notes ++ closing) brackets.1 (bracket_heard h f)
             ∙ hear_more (among (Some f) h) (among (Some f) next) notes closing own
             ∙ hear_last (among (Some f) next) (codes "}") closing_word brackets.2 ∙ close_heard next f
 
@@ -191,7 +199,8 @@ module _ (r : ℕ) (some : 1 ≤ 64 * r) where
     notes_append h [] ys = refl
     notes_append h (n ∷ xs) ys = go (hear_note h n) (λ next. notes_append next xs ys)
       where
-        go : (o : Option (HeardVoice ℕ)) → ((next : HeardVoice ℕ) → hear_notes next (xs ++ ys) ≡ (hear_notes next xs >>= λ next. hear_notes next ys))
+        go : (o : Option (HeardVoice ℕ))
+            → ((next : HeardVoice ℕ) → hear_notes next (xs ++ ys) ≡ (hear_notes next xs >>= λ next. hear_notes next ys))
             → (o >>= λ next. hear_notes next (xs ++ ys)) ≡ ((o >>= λ next. hear_notes next xs) >>= λ next. hear_notes next ys)
         go None rest = refl
         go (Some next) rest = rest next
@@ -200,7 +209,8 @@ module _ (r : ℕ) (some : 1 ≤ 64 * r) where
     from_start h [] = refl
     from_start h (n ∷ notes) = refl
 
-    groups_read : (groups : List Group) (h next : HeardVoice ℕ) → All (IsWrittenGroup r) groups → hear_notes h (group_notes groups) ≡ Some next
+    groups_read : (groups : List Group) (h next : HeardVoice ℕ) → All (IsWrittenGroup r) groups → hear_notes h (group_notes groups)
+        ≡ Some next
         → hear_page_words (among None h) (groups_list sf false groups) ≡ Some (among None next)
     groups_read [] h next all heard = let same : h ≡ next = cc in ap (λ h. Some (among None h)) same
     groups_read (g ∷ groups) h next all heard =
@@ -216,7 +226,8 @@ module _ (r : ℕ) (some : 1 ≤ 64 * r) where
       graces : hear_graces h (first_graces (g ∷ [])) ≡ Some graced
       notes : hear_from r some sf key true graced g.notes ≡ Some mid
 
-    begun : (ratio : Ratio) (notes : List Note) (h mid : HeardVoice ℕ) → hear_notes h notes ≡ Some mid → IsBegun (record { ratio = ratio; notes = notes }) h mid
+    begun : (ratio : Ratio) (notes : List Note) (h mid : HeardVoice ℕ) → hear_notes h notes ≡ Some mid
+        → IsBegun (record { ratio = ratio; notes = notes }) h mid
     begun ratio [] h mid heard = record { graced = h; graces = refl; notes = heard }
     begun ratio (n ∷ notes) h mid heard =
         let (next, one, rest) = heard_first (hear_note h n) (λ next. hear_notes next notes) mid heard in
@@ -225,12 +236,14 @@ module _ (r : ℕ) (some : 1 ≤ 64 * r) where
 
     silent_read : (silent : ℕ) (g : Group) (groups : List Group) (h next : HeardVoice ℕ) → All (IsWrittenGroup r) (g ∷ groups)
         → hear_notes h (group_notes (g ∷ groups)) ≡ Some next
-        → hear_page_words (among None h) (graces_list sf silent (first_graces (g ∷ groups)) ++ groups_list sf true (g ∷ groups)) ≡ Some (among None next)
+        → hear_page_words (among None h) (graces_list sf silent (first_graces (g ∷ groups)) ++ groups_list sf true (g ∷ groups))
+        ≡ Some (among None next)
     silent_read silent g groups h next all heard =
         let (mid, one, rest) = heard_first (hear_notes h g.notes) (λ mid. hear_notes mid (group_notes groups)) next
         (sym (notes_append h g.notes (group_notes groups)) ∙ heard) in
         let is = begun g.ratio g.notes h mid one in
-        hear_more (among None h) (among None is.graced) (graces_list sf silent (first_graces (g ∷ groups))) (groups_list sf true (g ∷ groups))
+        hear_more (among None h) (among None is.graced) (graces_list sf silent (first_graces (g ∷ groups)))
+        (groups_list sf true (g ∷ groups))
         (graces_read r some sf key None h is.graced silent (first_graces (g ∷ groups)) (first_are r (g ∷ groups) all) is.graces)
         ∙ hear_more (among None is.graced) (among None mid) (group_list sf true g) (groups_list sf false groups)
         (group_read true g is.graced mid (All-head (IsWrittenGroup r) g groups all) is.notes)
@@ -243,15 +256,18 @@ module _ (r : ℕ) (some : 1 ≤ 64 * r) (bar : ScoreBar) (right : IsScoreBar ba
   at_bar h = at_notes r some bar.sf right.key None h
 
   bar_word_heard : (h : HeardVoice ℕ) (f : Frac) → hear_page_word (at_bar h) (bar_word f)
-      ≡ (hear frac_plus (in_wholes (64 * r) some h) (record { len = f; keys = 0; short = false; comes = false; goes = false }) >>= λ heard. Some (with_voice (at_bar h) heard))
+      ≡ (hear frac_plus (in_wholes (64 * r) some h)
+      (record { len = f; keys = 0; short = false; comes = false; goes = false }) >>= λ heard. Some (with_voice (at_bar h) heard))
   unfolding hear_page_word
   bar_word_heard h f = refl
 
-  rest_read : (h next : HeardVoice ℕ) → hear_bar r bar h [] ≡ Some next → hear_page_words (at_bar h) (written.rest_word bar ∷ []) ≡ Some (at_bar next)
+  rest_read : (h next : HeardVoice ℕ) → hear_bar r bar h [] ≡ Some next → hear_page_words (at_bar h) (written.rest_word bar ∷ [])
+      ≡ Some (at_bar next)
   rest_read h next heard =
       let front : List ℕ = codes "R1*" in
       let text : written.rest_word bar ≡ front ++ (decimal bar.num ++ codes "/" ++ decimal bar.den) =
-      append_assoc (front ++ decimal bar.num) (codes "/") (decimal bar.den) ∙ append_assoc front (decimal bar.num) (codes "/" ++ decimal bar.den)
+      append_assoc (front ++ decimal bar.num) (codes "/") (decimal bar.den)
+      ∙ append_assoc front (decimal bar.num) (codes "/" ++ decimal bar.den)
       ∙ ap (λ xs. front ++ xs) (sym (append_assoc (decimal bar.num) (codes "/") (decimal bar.den))) in
       let len = signature_parts r bar some right in
       hear_last (at_bar h) (written.rest_word bar) (bar_word (signature bar))
@@ -267,7 +283,8 @@ module _ (r : ℕ) (some : 1 ≤ 64 * r) (bar : ScoreBar) (right : IsScoreBar ba
   sounding_read [] h next all heard = rest_read h next heard
   sounding_read (g ∷ groups) h next all heard = groups_read r some bar.sf right.key (g ∷ groups) h next all heard
 
-  begun_read : (silent : ℕ) (groups : List Group) (h next : HeardVoice ℕ) → All (IsWrittenGroup r) groups → hear_bar r bar h groups ≡ Some next
+  begun_read : (silent : ℕ) (groups : List Group) (h next : HeardVoice ℕ) → All (IsWrittenGroup r) groups → hear_bar r bar h groups
+      ≡ Some next
       → hear_page_words (at_bar h) (graces_list bar.sf silent (first_graces groups) ++ sounding_list bar true groups) ≡ Some (at_bar next)
   begun_read silent [] h next all heard =
       hear_more (at_bar h) (at_bar h) (graces_list bar.sf silent []) (written.rest_word bar ∷ [])
@@ -275,12 +292,15 @@ module _ (r : ℕ) (some : 1 ≤ 64 * r) (bar : ScoreBar) (right : IsScoreBar ba
       ∙ rest_read h next heard
   begun_read silent (g ∷ groups) h next all heard = silent_read r some bar.sf right.key silent g groups h next all heard
 
-  words_read : (silent : ℕ) (groups : List Group) (h next : HeardVoice ℕ) → All (IsWrittenGroup r) groups → hear_bar r bar h groups ≡ Some next
+  words_read : (silent : ℕ) (groups : List Group) (h next : HeardVoice ℕ) → All (IsWrittenGroup r) groups → hear_bar r bar h groups
+      ≡ Some next
       → hear_page_words (at_bar h) (bar_list bar silent groups) ≡ Some (at_bar next)
   words_read silent groups h next all heard = go (silent == 0)
     where
       go : (b : Bool)
-          → hear_page_words (at_bar h) (if b then sounding_list bar false groups else graces_list bar.sf silent (first_graces groups) ++ sounding_list bar true groups)
+          → hear_page_words (at_bar h)
+          (if b then sounding_list bar false groups else graces_list bar.sf silent
+          (first_graces groups) ++ sounding_list bar true groups)
           ≡ Some (at_bar next)
       go true = sounding_read groups h next all heard
       go false = begun_read silent groups h next all heard
@@ -292,10 +312,12 @@ module _ (r : ℕ) (some : 1 ≤ 64 * r) (bar : ScoreBar) (right : IsScoreBar ba
   line_words (w ∷ []) = refl
   line_words (w ∷ v ∷ ws) = ap (option_map (λ list. w ∷ list)) (line_words (v ∷ ws))
 
-  pub bar_text : (silent : ℕ) (groups : List Group) → All (IsWrittenGroup r) groups → bar_line bar silent groups ≡ spaced (bar_list bar silent groups) ++ codes "|"
+  pub bar_text : (silent : ℕ) (groups : List Group) → All (IsWrittenGroup r) groups → bar_line bar silent groups
+      ≡ spaced (bar_list bar silent groups) ++ codes "|"
   bar_text silent groups all = ap (λ text. text ++ codes "|") (bar_spaced r bar silent groups right all)
 
-  words_are : (silent : ℕ) (groups : List Group) → All (IsWrittenGroup r) groups → words_of_bar (words (bar_line bar silent groups)) ≡ Some (bar_list bar silent groups)
+  words_are : (silent : ℕ) (groups : List Group) → All (IsWrittenGroup r) groups → words_of_bar (words (bar_line bar silent groups))
+      ≡ Some (bar_list bar silent groups)
   words_are silent groups all =
       let ws = bar_list bar silent groups in
       ap (λ text. words_of_bar (words text)) (bar_text silent groups all)
@@ -307,15 +329,18 @@ module _ (r : ℕ) (some : 1 ≤ 64 * r) (bar : ScoreBar) (right : IsScoreBar ba
       same : (n : ℕ) → (n == n) ≡ true
       same n = grind (arith, nat_tests)
 
-  pub bar_read : (silent : ℕ) (groups : List Group) (h next : HeardVoice ℕ) → All (IsWrittenGroup r) groups → hear_bar r bar h groups ≡ Some next
+  pub bar_read : (silent : ℕ) (groups : List Group) (h next : HeardVoice ℕ) → All (IsWrittenGroup r) groups → hear_bar r bar h groups
+      ≡ Some next
       → next.at ≡ h.at + score_bar_parts r bar → next.graces ≡ []
       → hear_page_bar (signature bar) (at_bar h) (bar_line bar silent groups) ≡ Some (at_bar next)
   unfolding hear_page_bar
   bar_read silent groups h next all heard full bare =
-      ap (λ o. o >>= λ ws. hear_page_words (at_bar h) ws >>= λ next. after_bar (signature bar) (at_bar h) next) (words_are silent groups all)
+      ap (λ o. o >>= λ ws. hear_page_words (at_bar h) ws >>= λ next. after_bar (signature bar) (at_bar h) next)
+      (words_are silent groups all)
       ∙ ap (λ o. o >>= λ next. after_bar (signature bar) (at_bar h) next) (words_read silent groups h next all heard)
       ∙ ap (λ b. if b then Some (at_bar next) else None)
-      (and_from (is_empty next.graces) (same_frac (frac next.at (64 * r)) (frac_plus (frac h.at (64 * r)) (signature bar))) (ap is_empty bare) exact)
+      (and_from (is_empty next.graces) (same_frac (frac next.at (64 * r)) (frac_plus (frac h.at (64 * r)) (signature bar)))
+      (ap is_empty bare) exact)
     where
       there : frac_plus (frac h.at (64 * r)) (signature bar) ≡ frac next.at (64 * r)
       there =

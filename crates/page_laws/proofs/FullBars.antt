@@ -28,7 +28,8 @@ none_is (g ∷ graces) h = absurd (false≢true h)
 pub full_bars : BarsAreFull
 unfolding hear_page_bar
 full_bars signature before next line e =
-    let (ws, one, rest) = heard_first (words_of_bar (words line)) (λ ws. hear_page_words before ws >>= λ h. after_bar signature before h) next e in
+    let (ws, one, rest) = heard_first (words_of_bar (words line))
+    (λ ws. hear_page_words before ws >>= λ h. after_bar signature before h) next e in
     let (h, two, last) = heard_first (hear_page_words before ws) (λ h. after_bar signature before h) next rest in
     go h (is_outside h && (is_empty h.heard.graces && same_frac h.heard.at (frac_plus before.heard.at signature))) (λ k. k) last
   where

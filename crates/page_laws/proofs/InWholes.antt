@@ -54,7 +54,9 @@ module _ (d : ℕ) (some : 1 ≤ d) where
       go : (going : Option (HeardSpan ℕ)) (b : Bool)
           → (if is_none (option_map span_in going) && is_empty h.graces && not (n.short || (n.comes || n.goes))
           then Some (record (in_wholes (record h { going = going })) { at = frac_plus (frac h.at d) (frac n.len d) }) else None)
-          ≡ option_map in_wholes (if is_none going && is_empty h.graces && not (n.short || (n.comes || n.goes)) then Some (record h { going = going; at = h.at + n.len }) else None)
+          ≡ option_map in_wholes
+          (if is_none going && is_empty h.graces && not (n.short || (n.comes || n.goes)) then Some
+          (record h { going = going; at = h.at + n.len }) else None)
       go None b = test None (is_empty h.graces && not (n.short || (n.comes || n.goes)))
       go (Some x) b = refl
 
@@ -66,7 +68,8 @@ module _ (d : ℕ) (some : 1 ≤ d) where
   span_after h at false x =
       ap (λ xs. record (in_wholes h) { spans = xs; at = frac at d; going = None; graces = [] }) (sym (map-append span_in h.spans (x ∷ [])))
 
-  chord_in : (h : HeardVoice ℕ) (n : Stretch ℕ) → hear_chord frac_plus (in_wholes h) (stretch_in n) ≡ option_map in_wholes (hear_chord ◌+◌ h n)
+  chord_in : (h : HeardVoice ℕ) (n : Stretch ℕ) → hear_chord frac_plus (in_wholes h) (stretch_in n)
+      ≡ option_map in_wholes (hear_chord ◌+◌ h n)
   chord_in h n = found h.going
     where
       after : (o : Option (HeardSpan ℕ))
@@ -74,11 +77,13 @@ module _ (d : ℕ) (some : 1 ≤ d) where
           ≡ option_map in_wholes (o >>= λ x. Some (with_span h (h.at + n.len) n.goes x))
       after None = refl
       after (Some x) =
-          ap (λ f. Some (with_span (in_wholes h) f n.goes (span_in x))) (plus h.at n.len) ∙ ap (λ k. Some k) (span_after h (h.at + n.len) n.goes x)
+          ap (λ f. Some (with_span (in_wholes h) f n.goes (span_in x))) (plus h.at n.len)
+          ∙ ap (λ k. Some k) (span_after h (h.at + n.len) n.goes x)
 
       begun : (b : Bool)
           → (if b then None else Some (span_in (record { start = h.at; len = n.len; keys = n.keys; graces = h.graces; short = n.short })))
-          ≡ option_map span_in (if b then None else Some (record { start = h.at; len = n.len; keys = n.keys; graces = h.graces; short = n.short }))
+          ≡ option_map span_in (if b then None else Some
+          (record { start = h.at; len = n.len; keys = n.keys; graces = h.graces; short = n.short }))
       begun true = refl
       begun false = refl
 
@@ -88,15 +93,18 @@ module _ (d : ℕ) (some : 1 ≤ d) where
       longer x true = ap (λ f. Some (record (span_in x) { len = f })) (plus x.len n.len)
       longer x false = refl
 
-      span : (going : Option (HeardSpan ℕ)) → span_with frac_plus (in_wholes h) (option_map span_in going) (stretch_in n) ≡ option_map span_in (span_with ◌+◌ h going n)
+      span : (going : Option (HeardSpan ℕ)) → span_with frac_plus (in_wholes h) (option_map span_in going) (stretch_in n)
+          ≡ option_map span_in (span_with ◌+◌ h going n)
       span None = begun n.comes
       span (Some x) = longer x (n.comes && ((x.keys == n.keys) && not n.short))
 
       found : (going : Option (HeardSpan ℕ))
-          → (span_with frac_plus (in_wholes h) (option_map span_in going) (stretch_in n) >>= λ x. Some (with_span (in_wholes h) (frac_plus (frac h.at d) (frac n.len d)) n.goes x))
+          → (span_with frac_plus (in_wholes h) (option_map span_in going) (stretch_in n) >>= λ x. Some
+          (with_span (in_wholes h) (frac_plus (frac h.at d) (frac n.len d)) n.goes x))
           ≡ option_map in_wholes (span_with ◌+◌ h going n >>= λ x. Some (with_span h (h.at + n.len) n.goes x))
       found going =
-          ap (λ o. o >>= λ x. Some (with_span (in_wholes h) (frac_plus (frac h.at d) (frac n.len d)) n.goes x)) (span going) ∙ after (span_with ◌+◌ h going n)
+          ap (λ o. o >>= λ x. Some (with_span (in_wholes h) (frac_plus (frac h.at d) (frac n.len d)) n.goes x)) (span going)
+          ∙ after (span_with ◌+◌ h going n)
 
   pub hear_in : (h : HeardVoice ℕ) (n : Stretch ℕ) → hear frac_plus (in_wholes h) (stretch_in n) ≡ option_map in_wholes (hear ◌+◌ h n)
   hear_in h n = go (n.keys == 0)
@@ -130,11 +138,13 @@ rest_bare h next n e silent = go (n.keys == 0) silent e
     go true f e = test n.short n.comes n.goes (is_none h.going && is_empty h.graces) e
 
 -- a tie comes to a chord that is heard where a span goes on
-pub chord_comes : (h next : HeardVoice ℕ) (n : Stretch ℕ) → hear ◌+◌ h n ≡ Some next → (n.keys == 0) ≡ false → n.comes ≡ not (is_none h.going)
+pub chord_comes : (h next : HeardVoice ℕ) (n : Stretch ℕ) → hear ◌+◌ h n ≡ Some next → (n.keys == 0) ≡ false → n.comes
+    ≡ not (is_none h.going)
 chord_comes h next n e sounds = go (n.keys == 0) sounds e
   where
     comes : (going : Option (HeardSpan ℕ)) (c : Bool)
-        → (span_with ◌+◌ h going (record n { comes = c }) >>= λ x. Some (with_span h (h.at + n.len) n.goes x)) ≡ Some next → c ≡ not (is_none going)
+        → (span_with ◌+◌ h going (record n { comes = c }) >>= λ x. Some (with_span h (h.at + n.len) n.goes x)) ≡ Some next → c
+        ≡ not (is_none going)
     comes None false e = refl
     comes None true e = absurd (clash next e)
     comes (Some x) true e = refl

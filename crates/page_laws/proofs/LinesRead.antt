@@ -87,7 +87,8 @@ module _ (sf : Option ℤ) (key : IfSome sf IsKeySignature) where
   unfolding IsStart
   note_starts n = go (n.keys == 0)
     where
-      go : (b : Bool) → IsStart (if b then (114 ∷ ending_text n.value false false) ∷ [] else page_chord_words sf n.keys (ending_text n.value n.short n.goes))
+      go : (b : Bool) → IsStart
+          (if b then (114 ∷ ending_text n.value false false) ∷ [] else page_chord_words sf n.keys (ending_text n.value n.short n.goes))
       go true = inl refl
       go false = chord_starts (rising_keys n.keys) (ending_text n.value n.short n.goes) (keys_rise n.keys)
 
@@ -110,14 +111,17 @@ module _ (sf : Option ℤ) (key : IfSome sf IsKeySignature) where
   unfolding IsStart
   group_starts written g = go (nat_lt 1 g.ratio.actual)
     where
-      go : (b : Bool) → IsStart (if b then codes "\\tuplet" ∷ ratio_text g.ratio ∷ codes "{" ∷ (notes_list sf written g.notes ++ codes "}" ∷ []) else notes_list sf written g.notes)
+      go : (b : Bool) → IsStart
+          (if b then codes "\\tuplet" ∷ ratio_text g.ratio ∷ codes "{" ∷
+          (notes_list sf written g.notes ++ codes "}" ∷ []) else notes_list sf written g.notes)
       go true = inr (inr refl)
       go false = notes_start written g.notes
 
   groups_start : (written : Bool) (groups : List Group) → IsStart (groups_list sf written groups)
   unfolding IsStart
   groups_start written [] = tt
-  groups_start written (g ∷ groups) = starts_both (group_list sf written g) (groups_list sf false groups) (group_starts written g) (groups_start false groups)
+  groups_start written (g ∷ groups) = starts_both (group_list sf written g) (groups_list sf false groups) (group_starts written g)
+      (groups_start false groups)
 
 bar_starts : (bar : ScoreBar) (silent : ℕ) (groups : List Group) → IsScoreBar bar → IsStart (bar_list bar silent groups)
 unfolding IsStart
@@ -127,7 +131,8 @@ bar_starts bar silent groups right = go (silent == 0)
     sounding written [] = inl refl
     sounding written (g ∷ groups) = groups_start bar.sf right.key written (g ∷ groups)
 
-    go : (b : Bool) → IsStart (if b then sounding_list bar false groups else graces_list bar.sf silent (first_graces groups) ++ sounding_list bar true groups)
+    go : (b : Bool) → IsStart
+        (if b then sounding_list bar false groups else graces_list bar.sf silent (first_graces groups) ++ sounding_list bar true groups)
     go true = sounding false groups
     go false = starts_both (graces_list bar.sf silent (first_graces groups)) (sounding_list bar true groups)
         (graces_start bar.sf right.key silent (first_graces groups)) (sounding true groups)
@@ -150,14 +155,17 @@ words_bar ((b ∷ w) ∷ ws) h = go h
     last : (w : List ℕ) → ends_in 124 ((w ++ 32 ∷ []) ++ spaced ws ++ codes "|") ≡ true
     last w = end_is 124 ((w ++ 32 ∷ []) ++ spaced ws) 124 []
 
-    go : ((b == 92) ≡ false) ⊎ (((b ∷ w) ≡ codes "\\slashedGrace") ⊎ ((b ∷ w) ≡ codes "\\tuplet")) → IsBarText (spaced ((b ∷ w) ∷ ws) ++ codes "|")
+    go : ((b == 92) ≡ false) ⊎ (((b ∷ w) ≡ codes "\\slashedGrace") ⊎ ((b ∷ w) ≡ codes "\\tuplet"))
+        → IsBarText (spaced ((b ∷ w) ∷ ws) ++ codes "|")
     go (inl plain) =
         let other : (92 == b) ≡ false = grind (arith, nat_tests, plain) in
         record { time = rw other refl; staff = rw other refl; end = last (b ∷ w) }
     go (inr (inl same)) =
-        subst (λ v. IsBarText ((v ++ 32 ∷ []) ++ spaced ws ++ codes "|")) (sym same) (record { time = refl; staff = refl; end = last (codes "\\slashedGrace") })
+        subst (λ v. IsBarText ((v ++ 32 ∷ []) ++ spaced ws ++ codes "|")) (sym same)
+        (record { time = refl; staff = refl; end = last (codes "\\slashedGrace") })
     go (inr (inr same)) =
-        subst (λ v. IsBarText ((v ++ 32 ∷ []) ++ spaced ws ++ codes "|")) (sym same) (record { time = refl; staff = refl; end = last (codes "\\tuplet") })
+        subst (λ v. IsBarText ((v ++ 32 ∷ []) ++ spaced ws ++ codes "|")) (sym same)
+        (record { time = refl; staff = refl; end = last (codes "\\tuplet") })
 
 -- ---- what lines say
 
@@ -171,21 +179,26 @@ pub line_more : (staff next : Staff) (line : List ℕ) (lines : List (List ℕ))
 line_more staff next line lines is = rw is.begins (ap (λ o. o >>= λ next. spans_of_lines (Some next) lines) is.heard)
 
 -- one that changes nothing
-other_line : (staff : Staff) (line : List ℕ) → starts_with nat_eq line (codes "\\time ") ≡ false → ends_in 124 line ≡ false → hear_page_line staff line ≡ Some staff
+other_line : (staff : Staff) (line : List ℕ) → starts_with nat_eq line (codes "\\time ") ≡ false → ends_in 124 line ≡ false
+    → hear_page_line staff line ≡ Some staff
 unfolding hear_page_line
 other_line staff line time end = rw (time, end) refl
 
-bar_heard : (staff : Staff) (s : Frac) (line : List ℕ) (next : HeardStaff) → IsBarText line → staff.signature ≡ Some s → hear_page_bar s staff.heard line ≡ Some next
+bar_heard : (staff : Staff) (s : Frac) (line : List ℕ) (next : HeardStaff) → IsBarText line → staff.signature ≡ Some s
+    → hear_page_bar s staff.heard line ≡ Some next
     → hear_page_line staff line ≡ Some (record staff { heard = next })
 unfolding hear_page_line
 bar_heard staff s line next is said heard = rw (is.time, is.end, said, heard) refl
 
-pub bar_said : (r : ℕ) (some : 1 ≤ 64 * r) (bar : ScoreBar) (silent : ℕ) (groups : List Group) (staff : Staff) (next : HeardStaff) → IsScoreBar bar
-    → All (IsWrittenGroup r) groups → staff.signature ≡ Some (signature bar) → hear_page_bar (signature bar) staff.heard (bar_line bar silent groups) ≡ Some next
+pub bar_said : (r : ℕ) (some : 1 ≤ 64 * r) (bar : ScoreBar) (silent : ℕ) (groups : List Group) (staff : Staff) (next : HeardStaff)
+    → IsScoreBar bar
+    → All (IsWrittenGroup r) groups → staff.signature ≡ Some (signature bar)
+    → hear_page_bar (signature bar) staff.heard (bar_line bar silent groups) ≡ Some next
     → IsLine staff (bar_line bar silent groups) (record staff { heard = next })
 bar_said r some bar silent groups staff next right all said heard =
     let is : IsBarText (bar_line bar silent groups) =
-    subst IsBarText (sym (bar_text r some bar right silent groups all)) (words_bar (bar_list bar silent groups) (bar_starts bar silent groups right)) in
+    subst IsBarText (sym (bar_text r some bar right silent groups all))
+    (words_bar (bar_list bar silent groups) (bar_starts bar silent groups right)) in
     record { begins = is.staff; heard = bar_heard staff (signature bar) (bar_line bar silent groups) next is said heard }
 
 -- ---- changes
@@ -201,10 +214,12 @@ tempo_said staff bar =
     let ds = decimal (quarters_of_minute bar.tempo) in
     record {
       begins = refl;
-      heard = other_line staff (tempo_line bar) refl (end_is 124 (codes "\\tempo 4 =") 32 ds ∙ digits_end 32 ds refl (decimal_digits (quarters_of_minute bar.tempo)));
+      heard = other_line staff (tempo_line bar) refl
+          (end_is 124 (codes "\\tempo 4 =") 32 ds ∙ digits_end 32 ds refl (decimal_digits (quarters_of_minute bar.tempo)));
     }
 
-time_said : (staff : Staff) (bar : ScoreBar) → IsScoreBar bar → IsLine staff (time_line bar) (record staff { signature = Some (signature bar) })
+time_said : (staff : Staff) (bar : ScoreBar) → IsScoreBar bar
+    → IsLine staff (time_line bar) (record staff { signature = Some (signature bar) })
 unfolding hear_page_line
 time_said staff bar right = record {
   begins = refl;
@@ -225,7 +240,8 @@ pub some_said : (bar : ScoreBar) (staff : Staff) → staff.signature ≡ Some (s
 unfolding IsSaid
 some_said bar staff is = is
 
-same_is : (before : Option ScoreBar) (bar : ScoreBar) (staff : Staff) → same_signature before bar ≡ true → IsSaid before staff → staff.signature ≡ Some (signature bar)
+same_is : (before : Option ScoreBar) (bar : ScoreBar) (staff : Staff) → same_signature before bar ≡ true → IsSaid before staff
+    → staff.signature ≡ Some (signature bar)
 unfolding IsSaid
 same_is None bar staff same said = absurd (false≢true same)
 same_is (Some before) bar staff same said =
@@ -234,7 +250,8 @@ same_is (Some before) bar staff same said =
     let two : before.den ≡ bar.den = grind (arith, nat_tests, den) in
     said ∙ ap₂ (λ a b. Some (frac a b)) one two
 
-pub changes_said : (first : Bool) (before : Option ScoreBar) (bar : ScoreBar) (staff : Staff) (lines : List (List ℕ)) → IsScoreBar bar → IsSaid before staff
+pub changes_said : (first : Bool) (before : Option ScoreBar) (bar : ScoreBar) (staff : Staff) (lines : List (List ℕ)) → IsScoreBar bar
+    → IsSaid before staff
     → spans_of_lines (Some staff) (page_changes first before bar ++ lines)
     ≡ spans_of_lines (Some (record staff { signature = Some (signature bar) })) lines
 changes_said first before bar staff lines right said =
@@ -245,26 +262,33 @@ changes_said first before bar staff lines right said =
     ap (spans_of_lines (Some staff)) (append_assoc (key ++ time) tempo lines ∙ append_assoc key time (tempo ++ lines))
     ∙ keys bar.sf (time ++ (tempo ++ lines)) ∙ times (same_signature before bar) refl (tempo ++ lines) ∙ tempos next first lines
   where
-    key_test : (b : Bool) (sf : ℤ) (lines : List (List ℕ)) → spans_of_lines (Some staff) ((if b then [] else key_line sf ∷ []) ++ lines) ≡ spans_of_lines (Some staff) lines
+    key_test : (b : Bool) (sf : ℤ) (lines : List (List ℕ)) → spans_of_lines (Some staff) ((if b then [] else key_line sf ∷ []) ++ lines)
+        ≡ spans_of_lines (Some staff) lines
     key_test true sf lines = refl
     key_test false sf lines = line_more staff staff (key_line sf) lines (key_said staff sf)
 
-    keys : (sf : Option ℤ) (lines : List (List ℕ)) → spans_of_lines (Some staff) (key_change (key_before before) sf ++ lines) ≡ spans_of_lines (Some staff) lines
+    keys : (sf : Option ℤ) (lines : List (List ℕ)) → spans_of_lines (Some staff) (key_change (key_before before) sf ++ lines)
+        ≡ spans_of_lines (Some staff) lines
     keys None lines = refl
     keys (Some sf) lines = key_test (same_key (key_before before) sf) sf lines
 
     times : (b : Bool) → same_signature before bar ≡ b → (lines : List (List ℕ))
-        → spans_of_lines (Some staff) ((if b then [] else time_line bar ∷ []) ++ lines) ≡ spans_of_lines (Some (record staff { signature = Some (signature bar) })) lines
+        → spans_of_lines (Some staff) ((if b then [] else time_line bar ∷ []) ++ lines)
+        ≡ spans_of_lines (Some (record staff { signature = Some (signature bar) })) lines
     times true same lines =
-        let kept : staff ≡ record staff { signature = Some (signature bar) } = let is = same_is before bar staff same said in λ i. record staff { signature = is i } in
+        let kept : staff ≡ record staff { signature = Some (signature bar) } = let is = same_is before bar staff same said in λ i.
+        record staff { signature = is i } in
         ap (λ s. spans_of_lines (Some s) lines) kept
-    times false same lines = line_more staff (record staff { signature = Some (signature bar) }) (time_line bar) lines (time_said staff bar right)
+    times false same lines = line_more staff (record staff { signature = Some (signature bar) }) (time_line bar) lines
+        (time_said staff bar right)
 
-    tempo_test : (staff : Staff) (b : Bool) (lines : List (List ℕ)) → spans_of_lines (Some staff) ((if b then [] else tempo_line bar ∷ []) ++ lines) ≡ spans_of_lines (Some staff) lines
+    tempo_test : (staff : Staff) (b : Bool) (lines : List (List ℕ))
+        → spans_of_lines (Some staff) ((if b then [] else tempo_line bar ∷ []) ++ lines) ≡ spans_of_lines (Some staff) lines
     tempo_test staff true lines = refl
     tempo_test staff false lines = line_more staff staff (tempo_line bar) lines (tempo_said staff bar)
 
-    tempos : (staff : Staff) (first : Bool) (lines : List (List ℕ)) → spans_of_lines (Some staff) ((if first then tempo_change before bar else []) ++ lines) ≡ spans_of_lines (Some staff) lines
+    tempos : (staff : Staff) (first : Bool) (lines : List (List ℕ))
+        → spans_of_lines (Some staff) ((if first then tempo_change before bar else []) ++ lines) ≡ spans_of_lines (Some staff) lines
     tempos staff true lines = tempo_test staff (same_tempo before bar) lines
     tempos staff false lines = refl
 
@@ -277,7 +301,8 @@ clef_said staff Bass = record { begins = refl; heard = refl }
 clef_said staff Treble = record { begins = refl; heard = refl }
 clef_said staff TrebleAbove = record { begins = refl; heard = refl }
 
-pub clef_more : (staff : Staff) (clef : Clef) (lines : List (List ℕ)) → spans_of_lines (Some staff) (clef_line clef ∷ lines) ≡ spans_of_lines (Some staff) lines
+pub clef_more : (staff : Staff) (clef : Clef) (lines : List (List ℕ)) → spans_of_lines (Some staff) (clef_line clef ∷ lines)
+    ≡ spans_of_lines (Some staff) lines
 clef_more staff clef lines = line_more staff staff (clef_line clef) lines (clef_said staff clef)
 
 pub head_begins : (channel : ℕ) → begins_staff (staff_head channel) ≡ true
@@ -316,7 +341,8 @@ key_free sf =
     let alteration = alteration_text (alteration_at (tonic (Some sf))) in
     all_append (λ b. not (b == 10)) (codes "\\key " ++ (letter ++ alteration)) (codes " \\major")
     (all_append (λ b. not (b == 10)) (codes "\\key ") (letter ++ alteration) refl
-    (all_append (λ b. not (b == 10)) letter alteration (letter_free (letter_at (tonic (Some sf)))) (alteration_free (alteration_at (tonic (Some sf)))))) refl
+    (all_append (λ b. not (b == 10)) letter alteration (letter_free (letter_at (tonic (Some sf))))
+    (alteration_free (alteration_at (tonic (Some sf)))))) refl
 
 time_free : (bar : ScoreBar) → lacks 10 (time_line bar) ≡ true
 time_free bar =
@@ -325,7 +351,8 @@ time_free bar =
     (all_append (λ b. not (b == 10)) (codes "\\time ") (decimal bar.num) refl (number_free bar.num)) refl) (number_free bar.den)
 
 tempo_free : (bar : ScoreBar) → lacks 10 (tempo_line bar) ≡ true
-tempo_free bar = all_append (λ b. not (b == 10)) (codes "\\tempo 4 = ") (decimal (quarters_of_minute bar.tempo)) refl (number_free (quarters_of_minute bar.tempo))
+tempo_free bar = all_append (λ b. not (b == 10)) (codes "\\tempo 4 = ") (decimal (quarters_of_minute bar.tempo)) refl
+    (number_free (quarters_of_minute bar.tempo))
 
 one_line : (line : List ℕ) → lacks 10 line ≡ true → (b : Bool) → are_lines (if b then [] else line ∷ []) ≡ true
 one_line line h true = refl
@@ -348,7 +375,8 @@ changes_free first before bar =
     tempos false = refl
 
 -- what stands before a bar, and the bar
-pub bar_lines_free : (r : ℕ) (some : 1 ≤ 64 * r) (first : Bool) (before : Option ScoreBar) (bar : ScoreBar) (silent : ℕ) (groups : List Group)
+pub bar_lines_free : (r : ℕ) (some : 1 ≤ 64 * r) (first : Bool) (before : Option ScoreBar) (bar : ScoreBar) (silent : ℕ)
+    (groups : List Group)
     (lines : List (List ℕ)) → IsScoreBar bar → All (IsWrittenGroup r) groups → are_lines lines ≡ true
     → are_lines (page_changes first before bar ++ bar_line bar silent groups ∷ lines) ≡ true
 bar_lines_free r some first before bar silent groups lines right all rest =

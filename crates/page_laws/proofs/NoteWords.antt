@@ -55,10 +55,12 @@ braced sf silent graces = replicate silent (codes "s8") ++ (grace_chords sf grac
 abbrev pub graces_list : Option ℤ → ℕ → List ℕ → List (List ℕ)
 graces_list sf silent graces = codes "\\slashedGrace" ∷ codes "{" ∷ braced sf silent graces
 
-chords_spaced : (sf : Option ℤ) (graces : List ℕ) → All AreKeys graces → words_text (map (grace_text sf) graces) ≡ spaced (grace_chords sf graces)
+chords_spaced : (sf : Option ℤ) (graces : List ℕ) → All AreKeys graces → words_text (map (grace_text sf) graces)
+    ≡ spaced (grace_chords sf graces)
 chords_spaced sf [] are = refl
 chords_spaced sf (keys ∷ graces) are =
-    ap₂ ◌++◌ (chord_spaced sf keys (codes "8") (All-head AreKeys keys graces are)) (chords_spaced sf graces (All-tail AreKeys keys graces are))
+    ap₂ ◌++◌ (chord_spaced sf keys (codes "8") (All-head AreKeys keys graces are))
+    (chords_spaced sf graces (All-tail AreKeys keys graces are))
     ∙ sym (words_append (page_chord_words sf keys (codes "8")) (grace_chords sf graces))
 
 graces_spaced : (sf : Option ℤ) (silent : ℕ) (graces : List ℕ) → All AreKeys graces
@@ -105,7 +107,8 @@ module _ (resolution : ℕ) (sf : Option ℤ) (key : IfSome sf IsKeySignature) w
           ∙ chord_spaced sf n.keys (ending_text n.value n.short n.goes) (is.keys sounds)
 
       go : (b : Bool) → (n.keys == 0) ≡ b → (if b then codes "r" ++ page_value n.value else chord_word sf n) ++ 32 ∷ []
-          ≡ spaced (if b then (114 ∷ ending_text n.value false false) ∷ [] else page_chord_words sf n.keys (ending_text n.value n.short n.goes))
+          ≡ spaced (if b then (114 ∷ ending_text n.value false false) ∷ [] else page_chord_words sf n.keys
+          (ending_text n.value n.short n.goes))
       go true e = rest
       go false e = chord e
 
@@ -124,7 +127,8 @@ module _ (resolution : ℕ) (sf : Option ℤ) (key : IfSome sf IsKeySignature) w
       let rest = notes_spaced ratio false notes (All-tail (IsWrittenNote resolution ratio) n notes all) in
       words_append (note_words sf written n) (notes_words sf false notes)
       ∙ ap (λ text. text ++ words_text (notes_words sf false notes)) (words_append (own_graces sf written n) (note_word sf n ∷ []))
-      ∙ ap₂ (λ a b. a ++ b) (ap₂ (λ a b. a ++ b) (own_spaced written n is.graces) (append-nil (note_word sf n ++ 32 ∷ []) ∙ note_spaced ratio n is)) rest
+      ∙ ap₂ (λ a b. a ++ b)
+      (ap₂ (λ a b. a ++ b) (own_spaced written n is.graces) (append-nil (note_word sf n ++ 32 ∷ []) ∙ note_spaced ratio n is)) rest
       ∙ append_assoc (spaced (own_list sf written n)) (spaced (note_list sf n)) (spaced (notes_list sf false notes))
       ∙ ap (λ text. spaced (own_list sf written n) ++ text) (sym (words_append (note_list sf n) (notes_list sf false notes)))
       ∙ sym (words_append (own_list sf written n) (note_list sf n ++ notes_list sf false notes))
@@ -154,7 +158,8 @@ bar_list bar silent groups =
     else graces_list bar.sf silent (first_graces groups) ++ sounding_list bar true groups
 
 module _ (resolution : ℕ) (sf : Option ℤ) (key : IfSome sf IsKeySignature) where
-  group_spaced : (written : Bool) (g : Group) → IsWrittenGroup resolution g → words_text (group_words sf written g) ≡ spaced (group_list sf written g)
+  group_spaced : (written : Bool) (g : Group) → IsWrittenGroup resolution g → words_text (group_words sf written g)
+      ≡ spaced (group_list sf written g)
   group_spaced written g is = go (nat_lt 1 g.ratio.actual)
     where
       notes : words_text (notes_words sf written g.notes) ≡ spaced (notes_list sf written g.notes)
@@ -171,12 +176,15 @@ module _ (resolution : ℕ) (sf : Option ℤ) (key : IfSome sf IsKeySignature) w
           let back : List ℕ = codes " { " in
           let text : front ++ actual ++ codes "/" ++ normal ++ back ≡ front ++ (ratio_text g.ratio ++ back) =
           append_assoc (front ++ actual ++ codes "/") normal back ∙ append_assoc (front ++ actual) (codes "/") (normal ++ back)
-          ∙ append_assoc front actual (codes "/" ++ (normal ++ back)) ∙ ap (λ xs. front ++ xs) (sym (append_assoc actual (codes "/" ++ normal) back)) in
+          ∙ append_assoc front actual (codes "/" ++ (normal ++ back))
+          ∙ ap (λ xs. front ++ xs) (sym (append_assoc actual (codes "/" ++ normal) back)) in
           append_assoc (front ++ actual ++ codes "/" ++ normal) (codes " {") (32 ∷ []) ∙ text
           ∙ ap (λ xs. front ++ xs) (sym (append_assoc (ratio_text g.ratio) (32 ∷ []) (codes "{ ")))
 
-      go : (b : Bool) → words_text (if b then bracket_word g.ratio ∷ (notes_words sf written g.notes ++ closing) else notes_words sf written g.notes)
-          ≡ spaced (if b then codes "\\tuplet" ∷ ratio_text g.ratio ∷ codes "{" ∷ (notes_list sf written g.notes ++ closing) else notes_list sf written g.notes)
+      go : (b : Bool) → words_text
+          (if b then bracket_word g.ratio ∷ (notes_words sf written g.notes ++ closing) else notes_words sf written g.notes)
+          ≡ spaced (if b then codes "\\tuplet" ∷ ratio_text g.ratio ∷ codes "{" ∷
+          (notes_list sf written g.notes ++ closing) else notes_list sf written g.notes)
       go false = notes
       go true =
           ap₂ (λ a b. a ++ b) opening (words_append (notes_words sf written g.notes) closing ∙ ap (λ text. text ++ words_text closing) notes
@@ -197,11 +205,13 @@ pub first_are : (resolution : ℕ) (groups : List Group) → All (IsWrittenGroup
 first_are resolution [] all = λ k d lt. absurd (omega arith)
 first_are resolution (g ∷ groups) all = go g.notes (All-head (IsWrittenGroup resolution) g groups all).notes
   where
-    go : (notes : List Note) → All (IsWrittenNote resolution g.ratio) notes → All AreKeys (first_graces (record { ratio = g.ratio; notes = notes } ∷ groups))
+    go : (notes : List Note) → All (IsWrittenNote resolution g.ratio) notes
+        → All AreKeys (first_graces (record { ratio = g.ratio; notes = notes } ∷ groups))
     go [] own = λ k d lt. absurd (omega arith)
     go (n ∷ notes) own = (All-head (IsWrittenNote resolution g.ratio) n notes own).graces
 
-pub bar_spaced : (resolution : ℕ) (bar : ScoreBar) (silent : ℕ) (groups : List Group) → IsScoreBar bar → All (IsWrittenGroup resolution) groups
+pub bar_spaced : (resolution : ℕ) (bar : ScoreBar) (silent : ℕ) (groups : List Group) → IsScoreBar bar
+    → All (IsWrittenGroup resolution) groups
     → words_text (bar_words bar silent groups) ≡ spaced (bar_list bar silent groups)
 bar_spaced resolution bar silent groups right all = go (silent == 0)
   where
@@ -210,8 +220,10 @@ bar_spaced resolution bar silent groups right all = go (silent == 0)
     sounding written [] all = refl
     sounding written (g ∷ groups) all = groups_spaced resolution bar.sf right.key written (g ∷ groups) all
 
-    go : (b : Bool) → words_text (if b then sounding_words bar false groups else graces_word bar.sf silent (first_graces groups) ∷ sounding_words bar true groups)
-        ≡ spaced (if b then sounding_list bar false groups else graces_list bar.sf silent (first_graces groups) ++ sounding_list bar true groups)
+    go : (b : Bool) → words_text
+        (if b then sounding_words bar false groups else graces_word bar.sf silent (first_graces groups) ∷ sounding_words bar true groups)
+        ≡ spaced (if b then sounding_list bar false groups else graces_list bar.sf silent
+        (first_graces groups) ++ sounding_list bar true groups)
     go true = sounding false groups all
     go false =
         ap₂ (λ a b. a ++ b) (graces_spaced bar.sf silent (first_graces groups) (first_are resolution groups all)) (sounding true groups all)
@@ -231,7 +243,8 @@ decimal_graphic n = all_weaker is_ascii_digit is_graphic (decimal n) digit_graph
 module _ (sf : Option ℤ) (key : IfSome sf IsKeySignature) where
   pitch_graphic : (k : ℕ) → k < 128 → list_all is_graphic (page_pitch sf k) ≡ true
   pitch_graphic k within =
-      all_weaker is_lily_pitch_byte is_graphic (page_pitch sf k) pitch_byte_graphic (pitch_bytes (page_pitch sf k) (pitch_is sf k key within))
+      all_weaker is_lily_pitch_byte is_graphic (page_pitch sf k) pitch_byte_graphic
+      (pitch_bytes (page_pitch sf k) (pitch_is sf k key within))
 
   later_graphic : (low k : ℕ) (ks : List ℕ) (ending : List ℕ) → KeysRise low (k ∷ ks) → list_all is_graphic ending ≡ true
       → are_graphic (later_words (page_pitch sf k) (map (page_pitch sf) ks) ending) ≡ true
@@ -263,9 +276,12 @@ module _ (sf : Option ℤ) (key : IfSome sf IsKeySignature) where
   note_graphic : (resolution : ℕ) (ratio : Ratio) (n : Note) → IsWrittenNote resolution ratio n → are_graphic (note_list sf n) ≡ true
   note_graphic resolution ratio n is = go (n.keys == 0)
     where
-      go : (b : Bool) → are_graphic (if b then (114 ∷ ending_text n.value false false) ∷ [] else page_chord_words sf n.keys (ending_text n.value n.short n.goes)) ≡ true
+      go : (b : Bool) → are_graphic
+          (if b then (114 ∷ ending_text n.value false false) ∷ [] else page_chord_words sf n.keys (ending_text n.value n.short n.goes))
+          ≡ true
       go true = and_from _ true (ending_graphic n.value false false is.value) refl
-      go false = chord_graphic (rising_keys n.keys) (ending_text n.value n.short n.goes) (keys_rise n.keys) (ending_graphic n.value n.short n.goes is.value)
+      go false = chord_graphic (rising_keys n.keys) (ending_text n.value n.short n.goes) (keys_rise n.keys)
+          (ending_graphic n.value n.short n.goes is.value)
 
   own_graphic : (written : Bool) (n : Note) → are_graphic (own_list sf written n) ≡ true
   own_graphic written n = go (written || is_empty n.graces)
@@ -290,9 +306,12 @@ module _ (sf : Option ℤ) (key : IfSome sf IsKeySignature) where
       notes = notes_graphic resolution g.ratio written g.notes is.notes
 
       ratio : list_all is_graphic (ratio_text g.ratio) ≡ true
-      ratio = all_append is_graphic (decimal g.ratio.actual) (47 ∷ decimal g.ratio.normal) (decimal_graphic g.ratio.actual) (decimal_graphic g.ratio.normal)
+      ratio = all_append is_graphic (decimal g.ratio.actual) (47 ∷ decimal g.ratio.normal) (decimal_graphic g.ratio.actual)
+          (decimal_graphic g.ratio.normal)
 
-      go : (b : Bool) → are_graphic (if b then codes "\\tuplet" ∷ ratio_text g.ratio ∷ codes "{" ∷ (notes_list sf written g.notes ++ codes "}" ∷ []) else notes_list sf written g.notes) ≡ true
+      go : (b : Bool) → are_graphic
+          (if b then codes "\\tuplet" ∷ ratio_text g.ratio ∷ codes "{" ∷
+          (notes_list sf written g.notes ++ codes "}" ∷ []) else notes_list sf written g.notes) ≡ true
       go false = notes
       go true = and_from _ _ ratio (all_append (list_all is_graphic) (notes_list sf written g.notes) (codes "}" ∷ []) notes refl)
 
@@ -304,7 +323,8 @@ module _ (sf : Option ℤ) (key : IfSome sf IsKeySignature) where
       (group_graphic resolution written g (All-head (IsWrittenGroup resolution) g groups all))
       (groups_graphic resolution false groups (All-tail (IsWrittenGroup resolution) g groups all))
 
-pub bar_graphic : (resolution : ℕ) (bar : ScoreBar) (silent : ℕ) (groups : List Group) → IsScoreBar bar → All (IsWrittenGroup resolution) groups
+pub bar_graphic : (resolution : ℕ) (bar : ScoreBar) (silent : ℕ) (groups : List Group) → IsScoreBar bar
+    → All (IsWrittenGroup resolution) groups
     → are_graphic (bar_list bar silent groups) ≡ true
 bar_graphic resolution bar silent groups right all = go (silent == 0)
   where
@@ -314,11 +334,14 @@ bar_graphic resolution bar silent groups right all = go (silent == 0)
         (all_append is_graphic (codes "R1*" ++ decimal bar.num) (codes "/")
         (all_append is_graphic (codes "R1*") (decimal bar.num) refl (decimal_graphic bar.num)) refl) (decimal_graphic bar.den)
 
-    sounding : (written : Bool) (groups : List Group) → All (IsWrittenGroup resolution) groups → are_graphic (sounding_list bar written groups) ≡ true
+    sounding : (written : Bool) (groups : List Group) → All (IsWrittenGroup resolution) groups
+        → are_graphic (sounding_list bar written groups) ≡ true
     sounding written [] all = and_from _ true rest refl
     sounding written (g ∷ groups) all = groups_graphic bar.sf right.key resolution written (g ∷ groups) all
 
-    go : (b : Bool) → are_graphic (if b then sounding_list bar false groups else graces_list bar.sf silent (first_graces groups) ++ sounding_list bar true groups) ≡ true
+    go : (b : Bool) → are_graphic
+        (if b then sounding_list bar false groups else graces_list bar.sf silent (first_graces groups) ++ sounding_list bar true groups)
+        ≡ true
     go true = sounding false groups all
     go false =
         all_append (list_all is_graphic) (graces_list bar.sf silent (first_graces groups)) (sounding_list bar true groups)

@@ -26,10 +26,12 @@ use Rattle.page_laws.proofs.PagePitches.{is_page_pitch, pitch_is, pitch_read}
 
 -- ---- words are heard one after another
 
-pub hear_one : (h next : HeardStaff) (text : List ℕ) (w : PageWord) (more : List (List ℕ)) → page_word text ≡ Some w → hear_page_word h w ≡ Some next
+pub hear_one : (h next : HeardStaff) (text : List ℕ) (w : PageWord) (more : List (List ℕ)) → page_word text ≡ Some w → hear_page_word h w
+    ≡ Some next
     → hear_page_words h (text ∷ more) ≡ hear_page_words next more
 hear_one h next text w more is heard =
-    ap (λ o. o >>= λ w. hear_page_word h w >>= λ next. hear_page_words next more) is ∙ ap (λ o. o >>= λ next. hear_page_words next more) heard
+    ap (λ o. o >>= λ w. hear_page_word h w >>= λ next. hear_page_words next more) is
+    ∙ ap (λ o. o >>= λ next. hear_page_words next more) heard
 
 pub hear_more : (h next : HeardStaff) (ws more : List (List ℕ)) → hear_page_words h ws ≡ Some next
     → hear_page_words h (ws ++ more) ≡ hear_page_words next more
@@ -53,7 +55,8 @@ some_next : {X : Type 0} (o : Option X) → (o >>= λ x. Some x) ≡ o
 some_next None = refl
 some_next (Some x) = refl
 
-pub hear_last : (h : HeardStaff) (text : List ℕ) (w : PageWord) → page_word text ≡ Some w → hear_page_words h (text ∷ []) ≡ hear_page_word h w
+pub hear_last : (h : HeardStaff) (text : List ℕ) (w : PageWord) → page_word text ≡ Some w → hear_page_words h (text ∷ [])
+    ≡ hear_page_word h w
 hear_last h text w is = ap (λ o. o >>= λ w. hear_page_word h w >>= λ next. hear_page_words next []) is ∙ some_next (hear_page_word h w)
 
 -- ---- words that begin with a pitch
@@ -99,7 +102,8 @@ value_ends : (text : List ℕ) → begins_value text ≡ true → prefix_len is_
 value_ends [] h = refl
 value_ends (b ∷ bs) h = let other : is_lily_pitch_byte b ≡ false = grind (arith, nat_tests) in rw other refl
 
-value_follows : (k : ℕ) (text : List ℕ) → begins_value text ≡ true → word_of_key k text ≡ option_map (λ e. single_key k e) (page_ending text)
+value_follows : (k : ℕ) (text : List ℕ) → begins_value text ≡ true → word_of_key k text
+    ≡ option_map (λ e. single_key k e) (page_ending text)
 value_follows k [] h = absurd (false≢true h)
 value_follows k (b ∷ bs) h = let other : (b == 62) ≡ false = grind (arith, nat_tests) in rw other refl
 
@@ -165,7 +169,8 @@ module _ (sf : Option ℤ) (key : IfSome sf IsKeySignature) where
   unfolding hear_page_word
   hear_first h k none = rw none refl
 
-  hear_single : (h : HeardStaff) (k : ℕ) (e : WordEnding) → is_empty h.keys ≡ true → hear_page_word h (single_key k e) ≡ hear_chord h (k ∷ []) e
+  hear_single : (h : HeardStaff) (k : ℕ) (e : WordEnding) → is_empty h.keys ≡ true → hear_page_word h (single_key k e)
+      ≡ hear_chord h (k ∷ []) e
   unfolding hear_page_word
   hear_single h k e none = rw none refl
 
@@ -183,12 +188,14 @@ module _ (sf : Option ℤ) (key : IfSome sf IsKeySignature) where
 abbrev pub page_chord_words : Option ℤ → ℕ → List ℕ → List (List ℕ)
 page_chord_words sf keys ending = pitch_words (map (page_pitch sf) (rising_keys keys)) ending
 
-pub chord_heard : (sf : Option ℤ) (h : HeardStaff) (keys : ℕ) (text : List ℕ) (e : WordEnding) → IfSome sf IsKeySignature → is_empty h.keys ≡ true
+pub chord_heard : (sf : Option ℤ) (h : HeardStaff) (keys : ℕ) (text : List ℕ) (e : WordEnding) → IfSome sf IsKeySignature
+    → is_empty h.keys ≡ true
     → AreKeys keys → begins_value text ≡ true → page_ending text ≡ Some e
     → hear_page_words h (page_chord_words sf keys text) ≡ hear_on_side h.side h keys e
 chord_heard sf h keys text e key none are begins is = go (some_key keys are)
   where
-    go : (k : ℕ) × (ks : List ℕ) × (rising_keys keys ≡ k ∷ ks) → hear_page_words h (page_chord_words sf keys text) ≡ hear_on_side h.side h keys e
+    go : (k : ℕ) × (ks : List ℕ) × (rising_keys keys ≡ k ∷ ks) → hear_page_words h (page_chord_words sf keys text)
+        ≡ hear_on_side h.side h keys e
     go (k, ks, all) =
         let up : heard_rise (rising_keys keys) ≡ true = keys_up 0 (rising_keys keys) (keys_rise keys) in
         let set : key_set (rising_keys keys) ≡ keys = keys_sum keys are.1 in

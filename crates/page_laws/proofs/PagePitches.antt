@@ -35,13 +35,16 @@ with_flats = refl
 all_of : (sf : Option ℤ) (k : ℕ) → IfSome sf IsKeySignature → k < 128 → is_read_pitch sf k ≡ true
 all_of None k is within = one_below (is_read_pitch None) 128 k without_key within
 all_of (Some (pos n)) k is within =
-    one_below (is_read_pitch (Some (pos n))) 128 k (one_below (λ n. all_below (is_read_pitch (Some (pos n))) 128) 8 n with_sharps (omega (arith, ints, is.low, is.high))) within
+    one_below (is_read_pitch (Some (pos n))) 128 k
+    (one_below (λ n. all_below (is_read_pitch (Some (pos n))) 128) 8 n with_sharps (omega (arith, ints, is.low, is.high))) within
 all_of (Some (negsuc n)) k is within =
-    one_below (is_read_pitch (Some (negsuc n))) 128 k (one_below (λ n. all_below (is_read_pitch (Some (negsuc n))) 128) 7 n with_flats (omega (arith, ints, is.low, is.high))) within
+    one_below (is_read_pitch (Some (negsuc n))) 128 k
+    (one_below (λ n. all_below (is_read_pitch (Some (negsuc n))) 128) 7 n with_flats (omega (arith, ints, is.low, is.high))) within
 
 pub pitch_read : (sf : Option ℤ) (k : ℕ) → IfSome sf IsKeySignature → k < 128 → page_key (page_pitch sf k) ≡ Some k
 pitch_read sf k is within =
-    read_key k (page_key (page_pitch sf k)) (and_parts (is_key k (page_key (page_pitch sf k))) (is_page_pitch (page_pitch sf k)) (all_of sf k is within)).0
+    read_key k (page_key (page_pitch sf k))
+    (and_parts (is_key k (page_key (page_pitch sf k))) (is_page_pitch (page_pitch sf k)) (all_of sf k is within)).0
 
 pub pitch_is : (sf : Option ℤ) (k : ℕ) → IfSome sf IsKeySignature → k < 128 → is_page_pitch (page_pitch sf k) ≡ true
 pitch_is sf k is within = (and_parts (is_key k (page_key (page_pitch sf k))) (is_page_pitch (page_pitch sf k)) (all_of sf k is within)).1

@@ -152,7 +152,8 @@ part_text n k few is = record {
         (ring k m e q n read.whole)
       where
         ring : (k m e q n : ℕ) → m * q ≡ n → 1 * k * 1 * (n * e) ≡ 1 * k * (m * e * q)
-        ring k m e q n is = let plain : 1 * k * 1 * (m * q * e) ≡ 1 * k * (m * e * q) = grind arith in subst (λ x. 1 * k * 1 * (x * e) ≡ 1 * k * (m * e * q)) is plain
+        ring k m e q n is = let plain : 1 * k * 1 * (m * q * e)
+            ≡ 1 * k * (m * e * q) = grind arith in subst (λ x. 1 * k * 1 * (x * e) ≡ 1 * k * (m * e * q)) is plain
 
 breve_read : page_base (codes "\\breve") ≡ Some (frac 2 1)
 unfolding page_base
@@ -281,7 +282,8 @@ ending_read v short tied well =
     ap page_ending text
     ∙ apart (base_text v.recip) dots scale (marks short tied) (base_frac v.recip) (frac (2 * 2 ^ v.dots - 1) (2 ^ v.dots))
     (scale_frac v.recip) short tied is.base_bytes (all_alike is_dot v.dots 46 refl) is.scale_bytes (no_base v.dots v.recip short tied)
-    (not_begun is_dot refl refl refl v.recip short tied) (marks_no_scale short tied) is.base (dots_read v.dots well.dots) is.scale (marks_read short tied)
+    (not_begun is_dot refl refl refl v.recip short tied) (marks_no_scale short tied) is.base (dots_read v.dots well.dots) is.scale
+    (marks_read short tied)
     ∙ ap (λ len. Some (record { len = len; short = short; tied = tied })) long
 
 -- ---- its bytes are printed, and the first is a digit or begins a word
@@ -306,7 +308,8 @@ ending_graphic v short tied well =
     let scale = scale_text v.recip in
     all_append is_graphic (base ++ dots ++ scale) (marks short tied)
     (all_append is_graphic (base ++ dots) scale
-    (all_append is_graphic base dots (all_weaker is_base_byte is_graphic base base_byte_graphic is.base_bytes) (all_alike is_graphic v.dots 46 refl))
+    (all_append is_graphic base dots (all_weaker is_base_byte is_graphic base base_byte_graphic is.base_bytes)
+    (all_alike is_graphic v.dots 46 refl))
     (all_weaker is_scale_byte is_graphic scale scale_byte_graphic is.scale_bytes)) (marks_graphic short tied)
 
 begins_more : (xs ys : List ℕ) → begins_value xs ≡ true → begins_value (xs ++ ys) ≡ true

@@ -53,12 +53,14 @@ module _ (d : ℕ) (some : 1 ≤ d) where
   spans_in : List (HeardSpan ℕ) → List Span
   spans_in xs = map span_of (map (span_in d some) xs)
 
-  ended_in : (h : HeardVoice ℕ) (xs : List (HeardSpan ℕ)) → ended_spans h ≡ Some xs → ended_spans (in_wholes d some h) ≡ Some (map (span_in d some) xs)
+  ended_in : (h : HeardVoice ℕ) (xs : List (HeardSpan ℕ)) → ended_spans h ≡ Some xs → ended_spans (in_wholes d some h)
+      ≡ Some (map (span_in d some) xs)
   ended_in h xs e =
       ap (λ b. if b && is_empty h.graces then Some (map (span_in d some) h.spans) else None) (none_in d some h.going)
       ∙ go (is_none h.going && is_empty h.graces) e
     where
-      go : (b : Bool) → (if b then Some h.spans else None) ≡ Some xs → (if b then Some (map (span_in d some) h.spans) else None) ≡ Some (map (span_in d some) xs)
+      go : (b : Bool) → (if b then Some h.spans else None) ≡ Some xs → (if b then Some (map (span_in d some) h.spans) else None)
+          ≡ Some (map (span_in d some) xs)
       go true e = ap (option_map (map (span_in d some))) e
       go false e = absurd (cc)
 
@@ -73,12 +75,19 @@ module _ (d : ℕ) (some : 1 ≤ d) where
 module _ (r : ℕ) (some : 1 ≤ 64 * r) where
   -- what is known of a staff
   abbrev known : Option Frac → HeardVoice ℕ → Staff
-  known said h = record { signature = said; heard = record { heard = in_wholes (64 * r) some h; ratio = None; side = among_notes; keys = [] } }
+  known said h = record {
+    signature = said;
+    heard =
+        record { heard = in_wholes (64 * r) some h; ratio = None; side = among_notes; keys = [] };
+  }
 
-  bars_read : (first : Bool) (bars : List ScoreBar) (before : Option ScoreBar) (said : Option Frac) (most : List ℕ) (all : List (List Group))
+  bars_read : (first : Bool) (bars : List ScoreBar) (before : Option ScoreBar) (said : Option Frac) (most : List ℕ)
+      (all : List (List Group))
       (h last : HeardVoice ℕ) (more : List (List ℕ)) → All IsScoreBar bars → length most ≡ length bars → IsSaid before (known said h)
       → All (All (IsWrittenGroup r)) all → AreHeardInFull r bars h all → hear_bars r bars h all ≡ Some last
-      → (now : Option Frac) × (spans_of_lines (Some (known said h)) (bars_lines first before bars most all ++ more) ≡ spans_of_lines (Some (known now last)) more)
+      → (now : Option Frac)
+      × (spans_of_lines (Some (known said h)) (bars_lines first before bars most all ++ more)
+      ≡ spans_of_lines (Some (known now last)) more)
   bars_read first [] before said most [] h last more right long is written full heard =
       let same : h ≡ last = cc in (said, ap (λ h. spans_of_lines (Some (known said h)) more) same)
   bars_read first [] before said most (groups ∷ all) h last more right long is written full heard = absurd (cc)
@@ -93,23 +102,28 @@ module _ (r : ℕ) (some : 1 ≤ 64 * r) where
       let others = bars_lines first (Some bar) bars most all in
       let there = known (Some (signature bar)) h in
       let after = known (Some (signature bar)) next in
-      let rest = bars_read first bars (Some bar) (Some (signature bar)) most all next last more (All-tail IsScoreBar bar bars right) (omega (arith, long))
-      (some_said bar after refl) (All-tail (All (IsWrittenGroup r)) groups all written) full (sym (ap (λ o. o >>= λ next. hear_bars r bars next all) one) ∙ heard) in (
+      let rest = bars_read first bars (Some bar) (Some (signature bar)) most all next last more (All-tail IsScoreBar bar bars right)
+      (omega (arith, long))
+      (some_said bar after refl) (All-tail (All (IsWrittenGroup r)) groups all written) full
+      (sym (ap (λ o. o >>= λ next. hear_bars r bars next all) one) ∙ heard) in (
         rest.0,
         ap (spans_of_lines (Some (known said h))) (append_assoc changes (line ∷ others) more)
             ∙ changes_said first before bar (known said h) (line ∷ (others ++ more)) own is
             ∙ line_more there after line (others ++ more)
-            (bar_said r some bar silent groups there after.heard own mine refl (bar_read r some bar own silent groups h next mine one at bare))
+            (bar_said r some bar silent groups there after.heard own mine refl
+            (bar_read r some bar own silent groups h next mine one at bare))
             ∙ rest.1,
       )
 
-  bars_free : (first : Bool) (bars : List ScoreBar) (before : Option ScoreBar) (most : List ℕ) (all : List (List Group)) → All IsScoreBar bars
+  bars_free : (first : Bool) (bars : List ScoreBar) (before : Option ScoreBar) (most : List ℕ) (all : List (List Group))
+      → All IsScoreBar bars
       → All (All (IsWrittenGroup r)) all → are_lines (bars_lines first before bars most all) ≡ true
   bars_free first [] before most all right written = refl
   bars_free first (bar ∷ bars) before [] all right written = refl
   bars_free first (bar ∷ bars) before (m ∷ most) [] right written = refl
   bars_free first (bar ∷ bars) before (m ∷ most) (groups ∷ all) right written =
-      bar_lines_free r some first before bar (silent_graces before bar m groups) groups (bars_lines first (Some bar) bars most all) (All-head IsScoreBar bar bars right)
+      bar_lines_free r some first before bar (silent_graces before bar m groups) groups (bars_lines first (Some bar) bars most all)
+      (All-head IsScoreBar bar bars right)
       (All-head (All (IsWrittenGroup r)) groups all written)
       (bars_free first bars (Some bar) most all (All-tail IsScoreBar bar bars right) (All-tail (All (IsWrittenGroup r)) groups all written))
 
@@ -120,7 +134,8 @@ module _ (r : ℕ) (some : 1 ≤ 64 * r) where
   end_said staff more = refl
 
   zero_is : nothing ≡ frac 0 (64 * r)
-  zero_is = is_frac 0 (64 * r) nothing some (record { value = omega arith; some = omega arith; lowest = (one-dvd 0, one-dvd 1, λ e h k. k) })
+  zero_is = is_frac 0 (64 * r) nothing some
+      (record { value = omega arith; some = omega arith; lowest = (one-dvd 0, one-dvd 1, λ e h k. k) })
 
   -- what is known of a staff after its lines
   record IsStaffRead (sbars : List ScoreBar) (bars : List Bar) (sounds : List Sound) (body more : List (List ℕ)) : Type 0 where
@@ -144,14 +159,16 @@ module _ (r : ℕ) (some : 1 ≤ 64 * r) where
   abbrev body_lines : Bool → List ScoreBar → List ℕ → List Sound → List (List Group) → List (List ℕ)
   body_lines first sbars most sounds all = clef_line (clef_of sounds) ∷ (bars_lines first None sbars most all ++ staff_end)
 
-  staff_read : (first : Bool) (sbars : List ScoreBar) (bars : List Bar) (most : List ℕ) (sounds : List Sound) (all : List (List Group)) (more : List (List ℕ))
+  staff_read : (first : Bool) (sbars : List ScoreBar) (bars : List Bar) (most : List ℕ) (sounds : List Sound) (all : List (List Group))
+      (more : List (List ℕ))
       → IsVoice r sbars sounds → HaveSignatures sbars bars → length most ≡ length sbars → AreVoiceGroups r 0 sbars sounds all
       → IsStaffRead sbars bars sounds (body_lines first sbars most sounds all) more
   unfolding spans_in
   staff_read first sbars bars most sounds all more voice signatures long groups =
       let heard = voices_heard r sbars bars sounds all voice signatures groups in
       let (last, one, end) = heard_first (hear_bars r sbars (unheard 0) all) ended_spans heard.heard heard.hears in
-      let read = bars_read first sbars None None most all (unheard 0) last (staff_end ++ more) voice.each_bar long (none_said (known None (unheard 0)))
+      let read = bars_read first sbars None None most all (unheard 0) last (staff_end ++ more) voice.each_bar long
+      (none_said (known None (unheard 0)))
       (notes_can_be_written r sbars sounds all voice groups) (bars_in_full r sbars sounds all voice groups) one in
       let staff = known read.0 last in
       let lines = bars_lines first None sbars most all in
@@ -179,12 +196,16 @@ module _ (r : ℕ) (some : 1 ≤ 64 * r) where
 
     -- a staff that begins ends the one before it
     staff_begins : (staff : Staff) (own : List Span) (channel : ℕ) (lines : List (List ℕ)) → staff_spans staff ≡ Some own
-        → spans_of_lines (Some staff) (staff_head channel ∷ lines) ≡ option_map (λ others. own ∷ others) (spans_of_lines (Some new_staff) lines)
-    staff_begins staff own channel lines is = ap (λ o. o >>= λ spans. option_map (λ others. spans ∷ others) (spans_of_lines (Some new_staff) lines)) is
+        → spans_of_lines (Some staff) (staff_head channel ∷ lines)
+        ≡ option_map (λ others. own ∷ others) (spans_of_lines (Some new_staff) lines)
+    staff_begins staff own channel lines is = ap
+        (λ o. o >>= λ spans. option_map (λ others. spans ∷ others) (spans_of_lines (Some new_staff) lines)) is
 
-    staves_read : (first : Bool) (channels : List ℕ) (voices : List (List Sound)) (written : List (List (List Group))) (tail : List (List ℕ)) (staff : Staff) (own : List Span)
+    staves_read : (first : Bool) (channels : List ℕ) (voices : List (List Sound)) (written : List (List (List Group)))
+        (tail : List (List ℕ)) (staff : Staff) (own : List Span)
         → All (AreWellSounded r (length sbars)) voices → Each (AreVoiceGroups r 0 sbars) voices written → length channels ≡ length voices
-        → ((staff : Staff) → spans_of_lines (Some staff) tail ≡ option_map (λ spans. spans ∷ []) (staff_spans staff)) → staff_spans staff ≡ Some own
+        → ((staff : Staff) → spans_of_lines (Some staff) tail ≡ option_map (λ spans. spans ∷ []) (staff_spans staff)) → staff_spans staff
+        ≡ Some own
         → AreStavesRead voices staff own (staves_lines first sbars most channels voices written ++ tail)
     staves_read first channels [] written tail staff own well each count last is = record {
       others = [];
@@ -196,12 +217,15 @@ module _ (r : ℕ) (some : 1 ≤ 64 * r) where
     staves_read first (channel ∷ channels) (sounds ∷ voices) (all ∷ written) tail staff own well (groups, each) count last is =
         let body = body_lines first sbars most sounds all in
         let rest = staves_lines false sbars most channels voices written in
-        let one = staff_read first sbars bars most sounds all (rest ++ tail) (voice_is sounds (All-head (AreWellSounded r (length sbars)) sounds voices well)) signatures long groups in
-        let more = staves_read false channels voices written tail one.staff one.own (All-tail (AreWellSounded r (length sbars)) sounds voices well) each (omega (arith, count)) last one.spans in
+        let one = staff_read first sbars bars most sounds all (rest ++ tail)
+        (voice_is sounds (All-head (AreWellSounded r (length sbars)) sounds voices well)) signatures long groups in
+        let more = staves_read false channels voices written tail one.staff one.own
+        (All-tail (AreWellSounded r (length sbars)) sounds voices well) each (omega (arith, count)) last one.spans in
         record {
           others = one.own ∷ more.others;
           are = (one.are, more.are);
-          read = ap (spans_of_lines (Some staff)) (append_assoc (staff_head channel ∷ body) rest tail) ∙ staff_begins staff own channel (body ++ (rest ++ tail)) is
+          read = ap (spans_of_lines (Some staff)) (append_assoc (staff_head channel ∷ body) rest tail)
+              ∙ staff_begins staff own channel (body ++ (rest ++ tail)) is
               ∙ ap (option_map (λ others. own ∷ others)) (one.read ∙ more.read);
         }
 
@@ -219,7 +243,8 @@ module _ (r : ℕ) (some : 1 ≤ 64 * r) where
         all_append (lacks 10) (staff_lines first sbars most channel sounds all) rest
         (and_from (lacks 10 (staff_head channel)) _ (head_free channel)
         (and_from (lacks 10 (clef_line (clef_of sounds))) _ (clef_free (clef_of sounds))
-        (all_append (lacks 10) lines staff_end (bars_free first sbars None most all right (notes_can_be_written r sbars sounds all voice groups)) refl)))
+        (all_append (lacks 10) lines staff_end
+        (bars_free first sbars None most all right (notes_can_be_written r sbars sounds all voice groups)) refl)))
         (staves_free false channels voices written (All-tail (AreWellSounded r (length sbars)) sounds voices well) each)
 
 -- ---- the page
@@ -227,15 +252,18 @@ module _ (r : ℕ) (some : 1 ≤ 64 * r) where
 head_read : (n : ℕ) (lines : List (List ℕ)) → spans_of_lines None (head_lines n ++ (opening_lines n ++ lines)) ≡ spans_of_lines None lines
 head_read n lines = go (nat_lt 1 n)
   where
-    go : (b : Bool) → spans_of_lines None (head_lines n ++ ((if b then codes "\\new StaffGroup <<" ∷ [] else []) ++ lines)) ≡ spans_of_lines None lines
+    go : (b : Bool) → spans_of_lines None (head_lines n ++ ((if b then codes "\\new StaffGroup <<" ∷ [] else []) ++ lines))
+        ≡ spans_of_lines None lines
     go true = refl
     go false = refl
 
-tail_read : (n : ℕ) (staff : Staff) → spans_of_lines (Some staff) (closing_lines n ++ tail_lines) ≡ option_map (λ spans. spans ∷ []) (staff_spans staff)
+tail_read : (n : ℕ) (staff : Staff) → spans_of_lines (Some staff) (closing_lines n ++ tail_lines)
+    ≡ option_map (λ spans. spans ∷ []) (staff_spans staff)
 unfolding hear_page_line
 tail_read n staff = go (nat_lt 1 n)
   where
-    go : (b : Bool) → spans_of_lines (Some staff) ((if b then codes ">>" ∷ [] else []) ++ tail_lines) ≡ option_map (λ spans. spans ∷ []) (staff_spans staff)
+    go : (b : Bool) → spans_of_lines (Some staff) ((if b then codes ">>" ∷ [] else []) ++ tail_lines)
+        ≡ option_map (λ spans. spans ∷ []) (staff_spans staff)
     go true = refl
     go false = refl
 
@@ -244,7 +272,8 @@ head_lines_free n =
     all_append (lacks 10) (head_lines n) (opening_lines n)
     (and_from (lacks 10 (size_line n)) _
     (all_append (λ b. not (b == 10)) (codes "#(set-global-staff-size " ++ decimal (staff_size n)) (codes ")")
-    (all_append (λ b. not (b == 10)) (codes "#(set-global-staff-size ") (decimal (staff_size n)) refl (number_free (staff_size n))) refl) refl)
+    (all_append (λ b. not (b == 10)) (codes "#(set-global-staff-size ") (decimal (staff_size n)) refl
+    (number_free (staff_size n))) refl) refl)
     (go (nat_lt 1 n))
   where
     go : (b : Bool) → are_lines (if b then codes "\\new StaffGroup <<" ∷ [] else []) ≡ true
@@ -264,18 +293,26 @@ record AreAllRead (r : ℕ) (bars : List Bar) (voices : List (List Sound)) (line
   are : Each (AreSpans r bars) voices spans
   read : spans_of_lines None lines ≡ Some spans
 
-all_read : (r : ℕ) (some : 1 ≤ 64 * r) (sbars : List ScoreBar) (bars : List Bar) (most : List ℕ) → 1 ≤ r → r ≤ MOST_UNITS → All IsScoreBar sbars
-    → HaveSignatures sbars bars → length most ≡ length sbars → (channels : List ℕ) (voices : List (List Sound)) (written : List (List (List Group))) (n : ℕ)
-    → 1 ≤ length voices → All (AreWellSounded r (length sbars)) voices → Each (AreVoiceGroups r 0 sbars) voices written → length channels ≡ length voices
+all_read : (r : ℕ) (some : 1 ≤ 64 * r) (sbars : List ScoreBar) (bars : List Bar) (most : List ℕ) → 1 ≤ r → r ≤ MOST_UNITS
+    → All IsScoreBar sbars
+    → HaveSignatures sbars bars → length most ≡ length sbars
+    → (channels : List ℕ) (voices : List (List Sound)) (written : List (List (List Group))) (n : ℕ)
+    → 1 ≤ length voices → All (AreWellSounded r (length sbars)) voices → Each (AreVoiceGroups r 0 sbars) voices written → length channels
+    ≡ length voices
     → AreAllRead r bars voices (staves_lines true sbars most channels voices written ++ (closing_lines n ++ tail_lines))
-all_read r some sbars bars most units few right signatures long channels [] written n voiced well each count = absurd (omega (arith, voiced))
-all_read r some sbars bars most units few right signatures long [] (sounds ∷ voices) written n voiced well each count = absurd (omega (arith, count))
-all_read r some sbars bars most units few right signatures long (channel ∷ channels) (sounds ∷ voices) [] n voiced well each count = absurd each
-all_read r some sbars bars most units few right signatures long (channel ∷ channels) (sounds ∷ voices) (all ∷ written) n voiced well (groups, each) count =
+all_read r some sbars bars most units few right signatures long channels [] written n voiced well each count = absurd
+    (omega (arith, voiced))
+all_read r some sbars bars most units few right signatures long [] (sounds ∷ voices) written n voiced well each count = absurd
+    (omega (arith, count))
+all_read r some sbars bars most units few right signatures long (channel ∷ channels)
+    (sounds ∷ voices) [] n voiced well each count = absurd each
+all_read r some sbars bars most units few right signatures long (channel ∷ channels) (sounds ∷ voices) (all ∷ written) n voiced well
+    (groups, each) count =
     let tail = closing_lines n ++ tail_lines in
     let body = body_lines r some true sbars most sounds all in
     let rest = staves_lines false sbars most channels voices written in
-    let voice = voice_is r some sbars bars most units few right signatures long sounds (All-head (AreWellSounded r (length sbars)) sounds voices well) in
+    let voice = voice_is r some sbars bars most units few right signatures long sounds
+    (All-head (AreWellSounded r (length sbars)) sounds voices well) in
     let one = staff_read r some true sbars bars most sounds all (rest ++ tail) voice signatures long groups in
     let more = staves_read r some sbars bars most units few right signatures long false channels voices written tail one.staff one.own
     (All-tail (AreWellSounded r (length sbars)) sounds voices well) each (omega (arith, count)) (tail_read n) one.spans in
@@ -289,7 +326,8 @@ pub pages_read : PagesAreReadBack
 unfolding page_events
 pages_read s bars channels text is signatures count (written, each, same) = record {
   spans = all.spans;
-  read = ap (λ ls. spans_of_lines None ls) (ap kern_lines same ∙ lines_split (page_lines s channels written) free ∙ parted) ∙ head_read n (staves ++ tail) ∙ all.read;
+  read = ap (λ ls. spans_of_lines None ls) (ap kern_lines same ∙ lines_split (page_lines s channels written) free ∙ parted)
+      ∙ head_read n (staves ++ tail) ∙ all.read;
   are = all.are;
 }
   where
@@ -325,7 +363,9 @@ pages_read s bars channels text is signatures count (written, each, same) = reco
         ap are_lines after_front
         ∙ all_append (lacks 10) front (staves ++ tail) (head_lines_free n)
         (all_append (lacks 10) staves tail
-        (staves_free s.resolution some s.bars bars most is.some_unit is.few_units is.bars signatures long true channels s.voices written is.voices each) (tail_free n))
+        (staves_free s.resolution some s.bars bars most is.some_unit is.few_units is.bars signatures long true channels s.voices written
+        is.voices each) (tail_free n))
 
     all : AreAllRead s.resolution bars s.voices (staves ++ tail)
-    all = all_read s.resolution some s.bars bars most is.some_unit is.few_units is.bars signatures long channels s.voices written n is.some_voice is.voices each count
+    all = all_read s.resolution some s.bars bars most is.some_unit is.few_units is.bars signatures long channels s.voices written n
+        is.some_voice is.voices each count

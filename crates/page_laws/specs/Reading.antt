@@ -1,4 +1,5 @@
--- The spans that a page says, by its lines and their words; nothing where it is no text of this kind. What heads, clefs, keys and tempos say
+-- The spans that a page says, by its lines and their words; nothing where it is no text of this kind. What heads, clefs, keys and tempos
+-- say
 -- is not read.
 use Rattle.std.specs.Prelude.{ℕ, Bool, ◌==◌, ◌&&◌, false, nat_eq, if◌then◌else◌, List, [], ◌∷◌, codes, drop, map, Option, Some, None}
 use Rattle.std.specs.List.{starts_with}
@@ -51,7 +52,8 @@ ends_in byte (b ∷ c ∷ text) = ends_in byte (c ∷ text)
 -- a line of a staff is a signature, or a bar where it ends with a barline; else it changes nothing
 unfoldable pub hear_page_line : Staff → List ℕ → Option Staff
 hear_page_line staff line =
-    if starts_with nat_eq line (codes "\\time ") then option_map (λ signature. record staff { signature = Some signature }) (bar_fraction (drop 6 line))
+    if starts_with nat_eq line (codes "\\time ") then option_map (λ signature. record staff { signature = Some signature })
+    (bar_fraction (drop 6 line))
     else if ends_in 124 line
     then (staff.signature >>= λ signature. option_map (λ heard. record staff { heard = heard }) (hear_page_bar signature staff.heard line))
     else Some staff
