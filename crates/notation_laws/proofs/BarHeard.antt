@@ -3,6 +3,7 @@ use Rattle.std.proofs.Common.{◌≡◌, ℕ, zero, suc, ◌+◌, ◌-◌, ◌*�
 use Rattle.std.specs.Prelude.{sum}
 use Rattle.std.proofs.Math.Nat.{div-mul_cancel}
 use Rattle.std.proofs.lemmas.Bool.{and_parts, false≢true}
+use Rattle.rhythm_base.proofs.Booleans.{not_both_tests}
 use Rattle.rhythm_base.specs.declared.sound.Sound.{Sound}
 use Rattle.rhythm_base.specs.Lists.{Each}
 use Rattle.durations.proofs.Beats.{beat_part}
@@ -37,9 +38,6 @@ use Rattle.notation_laws.proofs.GroupSegments.{gathered, groups_say, note_segmen
 abbrev pub rest_segment : ℕ → Segment
 rest_segment len = record { len = len; keys = 0; graces = []; short = false; comes = false; goes = false }
 
-apart : (b : Bool) → b ≡ true → b ≡ false → ⊥
-apart b e f = false≢true (sym f ∙ e)
-
 rest_says : (p : Segment) → (p.keys == 0) ≡ true → Says (p ∷ []) (rest_segment p.len ∷ [])
 rest_says p silent done at None h e = go (rest_or_begin done at p h (heard_only (clean done at None) h p e))
   where
@@ -50,10 +48,10 @@ rest_says p silent done at None h e = go (rest_or_begin done at p h (heard_only 
         → hear_segments (clean done at None) (rest_segment p.len ∷ []) ≡ Some h
     go (inl (_, same)) = ap (λ o. o >>= λ next. hear_segments next []) (rest_heard done at (rest_segment p.len) is)
         ∙ ap (λ k. Some k) (sym same)
-    go (inr (begin, _)) = absurd (apart (p.keys == 0) silent begin.sounds)
+    go (inr (begin, _)) = absurd (not_both_tests (p.keys == 0) silent begin.sounds)
 rest_says p silent done at (Some x) h e =
     let (more, _) = more_only done at x p h (heard_only (clean done at (Some x)) h p e) in
-    absurd (apart (p.keys == 0) silent more.sounds)
+    absurd (not_both_tests (p.keys == 0) silent more.sounds)
 
 silent_says : (from to : ℕ) (t : Token) (more : List Token) → is_silent t ≡ true → are_silent more ≡ true → SideBySide from (t ∷ more) to
     → Says (token_segments (t ∷ more)) (rest_segment (to - from) ∷ [])

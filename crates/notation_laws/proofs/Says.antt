@@ -1,6 +1,7 @@
 -- Segments that say at least what others say: what is heard of the others is heard of them.
 use Rattle.std.proofs.Common.{◌≡◌, ℕ, ◌+◌, ◌==◌, Bool, true, false, List, [], ◌∷◌, ◌++◌, Option, Some, None, refl, sym, ap, ◌∙◌, subst, ◌⊎◌, inl, inr, arith}
-use Rattle.std.proofs.lemmas.Bool.{eq-eqb, false≢true}
+use Rattle.std.proofs.lemmas.Bool.{eq-eqb}
+use Rattle.rhythm_base.proofs.Booleans.{not_both_tests}
 use Rattle.kern_reader.specs.Tokens.{◌>>=◌}
 use Rattle.notation_laws.specs.Hearing.{HeardSpan, HeardVoice}
 use Rattle.notation_laws.proofs.Segments.{IsBegin, IsMore, IsRest, Segment, begin_heard, begun, clean, hear_segment, hear_segments, longer, more_heard, more_only, rest_heard, rest_or_begin, sounded}
@@ -199,9 +200,6 @@ join_says a b g alike linked done at going h e =
     let (next, one, rest) = heard_first (hear_segment (clean done at going) a) (λ next. hear_segments next (b ∷ [])) h e in
     ap (λ o. o >>= λ next. hear_segments next []) (go going next one (heard_only next h b rest) linked)
   where
-    both : (x : Bool) → x ≡ true → x ≡ false → ⊥
-    both x e f = false≢true (sym f ∙ e)
-
     place : at + (a.len + b.len) ≡ at + a.len + b.len
     place = omega arith
 
@@ -222,7 +220,7 @@ join_says a b g alike linked done at going h e =
               goes = alike (first.silent ∙ sym silent) ∙ second.goes;
             } in
             rest_heard done at (joint a b g) is ∙ ap (λ k. Some (clean done k None)) place ∙ ap (λ k. Some k) (sym same)
-        case (inr (second, same)) = absurd (both (b.keys == 0) silent second.sounds)
+        case (inr (second, same)) = absurd (not_both_tests (b.keys == 0) silent second.sounds)
 
     -- the first begins a chord
     begins : IsBegin a → hear_segment (clean done (at + a.len) (Some (begun at a))) b ≡ Some h
@@ -262,13 +260,13 @@ join_says a b g alike linked done at going h e =
       where
         case : (IsRest a × (next ≡ clean done (at + a.len) None)) ⊎ (IsBegin a × (next ≡ sounded a.goes done (at + a.len) (begun at a)))
             → AreLinked a b → hear_segment (clean done at None) (joint a b g) ≡ Some h
-        case (inl (first, same)) (inl goes) = absurd (both a.goes goes first.goes)
+        case (inl (first, same)) (inl goes) = absurd (not_both_tests a.goes goes first.goes)
         case (inl (first, same)) (inr (_, silent)) = rests first (subst (λ n. hear_segment n b ≡ Some h) same two) silent
         case (inr (first, same)) (inl goes) = begins first (held next (begun at a) same goes two)
-        case (inr (first, same)) (inr (silent, _)) = absurd (both (a.keys == 0) silent first.sounds)
+        case (inr (first, same)) (inr (silent, _)) = absurd (not_both_tests (a.keys == 0) silent first.sounds)
     go (Some x) next one two (inl goes) =
         let (first, same) = more_only done at x a next one in
         goes_on x first (held next (longer x a.len) same goes two)
     go (Some x) next one two (inr (silent, _)) =
         let (first, same) = more_only done at x a next one in
-        absurd (both (a.keys == 0) silent first.sounds)
+        absurd (not_both_tests (a.keys == 0) silent first.sounds)

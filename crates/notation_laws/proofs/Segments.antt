@@ -60,7 +60,7 @@ pub record IsMore (x : HeardSpan ℕ) (p : Segment) : Type 0 where
 some_one : {X : Type 0} (x y : X) → Some x ≡ Some y → x ≡ y
 some_one x y e = cc
 
-no_some : {X : Type 0} (x : X) → None ≡ Some x → ⊥
+pub no_some : {X : Type 0} (x : X) → None ≡ Some x → ⊥
 no_some x e = cc
 
 -- ---- grace chords

@@ -5,6 +5,7 @@ use Rattle.std.proofs.lemmas.Bool.{eq-eqb, false≢true}
 use Rattle.std.proofs.lemmas.Bool.Decides.{nat_tests}
 use Rattle.std.proofs.lemmas.List.Elements.{All-head, All-tail}
 use Rattle.std.proofs.lemmas.List.Sums.{sum_by-cons, take_while-cons}
+use Rattle.rhythm_base.proofs.Booleans.{not_both_tests}
 use Rattle.rhythm_base.specs.declared.note.Bar.{Bar}
 use Rattle.rhythm_base.specs.declared.sound.Sound.{Sound}
 use Rattle.rhythm_base.specs.declared.sound.SoundKind.{SoundKind}
@@ -130,6 +131,23 @@ module _ (r total : ℕ) (bars : List Bar) where
     moved n p few stand within place =
         ap₂ (λ a k. a + s.width * parts_at bars k) place stand.1 ∙ place_next r bars n p s.width within
 
+    -- what is known before the next sound
+    reached_next : (n p : ℕ) (after : List (HeardSpan ℕ)) (going : Option (HeardSpan ℕ)) → StandInBars r total n p (s ∷ later)
+        → n < length bars → at ≡ place_at r bars n p → All IsWellSounding later → TiesGoOn (Some s) later → GoesWith (Some s) going
+        → begins_with_tie later ≡ is_some going → after ++ still_heard going later ≡ answer → IsHeardTo answer later after there going
+    reached_next n p after going stand within place well ties with on all = record {
+      bar = next_bar n p s;
+      unit = next_unit p s;
+      before = Some s;
+      stand = stand.5;
+      well = well;
+      ties = ties;
+      place = moved n p stand.0 stand within place;
+      with = with;
+      on = on;
+      all = all;
+    }
+
     -- a span that is known after the sound, which goes on where the next sound is a tie
     span_step : (n p : ℕ) (x : HeardSpan ℕ) → StandInBars r total n p (s ∷ later) → n < length bars → at ≡ place_at r bars n p
         → All IsWellSounding later → TiesGoOn (Some s) later → s.keys ≡ x.keys
@@ -145,45 +163,21 @@ module _ (r total : ℕ) (bars : List Bar) where
           place = there;
           next = Some x;
           heard = heard;
-          reached = record {
-            bar = next_bar n p s;
-            unit = next_unit p s;
-            before = Some s;
-            stand = stand.5;
-            well = well;
-            ties = ties;
-            place = moved n p stand.0 stand within place;
-            with = keys;
-            on = e;
-            all = all;
-          };
+          reached = reached_next n p done (Some x) stand within place well ties keys e all;
         }
         go false e heard =
             let same : longer x (tied_length bars later) ≡ x =
             let len : x.len + tied_length bars later ≡ x.len = omega (arith, none_tied later e) in λ i. record x { len = len i } in
+            let whole = append_assoc done (x ∷ []) (spans_heard later) ∙ ap (λ y. done ++ y ∷ spans_heard later) (sym same) ∙ all in
             record {
               after = done ++ x ∷ [];
               place = there;
               next = None;
               heard = heard;
-              reached = record {
-                bar = next_bar n p s;
-                unit = next_unit p s;
-                before = Some s;
-                stand = stand.5;
-                well = well;
-                ties = ties;
-                place = moved n p stand.0 stand within place;
-                with = tt;
-                on = e;
-                all = append_assoc done (x ∷ []) (spans_heard later) ∙ ap (λ y. done ++ y ∷ spans_heard later) (sym same) ∙ all;
-              };
+              reached = reached_next n p (done ++ x ∷ []) None stand within place well ties tt e whole;
             }
 
     -- ---- by the kind of the sound
-
-    clash : (b : Bool) → b ≡ true → b ≡ false → ⊥
-    clash b e f = false≢true (sym f ∙ e)
 
     runs_of : (b : Bool) → begins_chord s.kind ≡ b
         → spans_heard (s ∷ later) ≡ map run_heard (if b then (s, ties_of later) ∷ chord_runs later else chord_runs later)
@@ -269,7 +263,7 @@ module _ (r total : ℕ) (bars : List Bar) where
       where
         go : (b : Bool) → is_tie t.kind ≡ b → is_tie t.kind ≡ false
         go false e = e
-        go true e = absurd (clash (is_rest s.kind) rest (ties.0 e).0)
+        go true e = absurd (not_both_tests (is_rest s.kind) rest (ties.0 e).0)
 
     rest_step : (h : (going : Option (HeardSpan ℕ)) × IsHeardTo answer (s ∷ later) done at going) → total ≤ length bars → is_tie s.kind
         ≡ false → is_rest s.kind ≡ true
@@ -280,18 +274,8 @@ module _ (r total : ℕ) (bars : List Bar) where
       place = there;
       next = None;
       heard = rest_heard done at (segment s later) silent;
-      reached = record {
-        bar = next_bar h.bar h.unit s;
-        unit = next_unit h.unit s;
-        before = Some s;
-        stand = h.stand.5;
-        well = All-tail IsWellSounding s later h.well;
-        ties = h.ties.1;
-        place = moved h.bar h.unit h.stand.0 h.stand within h.place;
-        with = tt;
-        on = no_tie later h.ties.1 rest;
-        all = ap (λ xs. done ++ xs) (sym (runs_of false begins)) ∙ h.all;
-      };
+      reached = reached_next h.bar h.unit done None h.stand within h.place (All-tail IsWellSounding s later h.well) h.ties.1 tt
+          (no_tie later h.ties.1 rest) (ap (λ xs. done ++ xs) (sym (runs_of false begins)) ∙ h.all);
     }
       where
         own : IsWellSounding s
@@ -318,9 +302,9 @@ module _ (r total : ℕ) (bars : List Bar) where
         go Begin e = begin_step (going, h) fits (ap is_tie e) (ap is_rest e) (ap begins_chord e)
         go Short e = begin_step (going, h) fits (ap is_tie e) (ap is_rest e) (ap begins_chord e)
         go Tie e = tie_step (going, h) fits (ap is_tie e) (ap is_rest e) (ap begins_chord e) (ap is_short e)
-            (λ f. clash (is_tie s.kind) (ap is_tie e) (ap is_tie f))
+            (λ f. not_both_tests (is_tie s.kind) (ap is_tie e) (ap is_tie f))
         go Rest e = rest_step (going, h) fits (ap is_tie e) (ap is_rest e) (ap begins_chord e) (ap is_short e)
-            (λ f. clash (is_rest s.kind) (ap is_rest e) (ap is_rest f))
+            (λ f. not_both_tests (is_rest s.kind) (ap is_rest e) (ap is_rest f))
 
   -- ---- the sounds of a bar
 

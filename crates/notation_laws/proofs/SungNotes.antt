@@ -4,6 +4,7 @@ use Rattle.std.specs.Prelude.{All, IfSome, if◌then◌else◌}
 use Rattle.std.proofs.lemmas.Bool.{false≢true}
 use Rattle.std.proofs.lemmas.Bool.Decides.{nat_tests}
 use Rattle.std.proofs.lemmas.List.Elements.{All-cons, All-head, All-nil, All-tail}
+use Rattle.rhythm_base.proofs.Booleans.{not_both_tests}
 use Rattle.rhythm_base.specs.declared.note.Bar.{Bar}
 use Rattle.rhythm_base.specs.declared.sound.Sound.{Sound}
 use Rattle.rhythm_base.specs.declared.sound.SoundKind.{SoundKind}
@@ -62,9 +63,6 @@ span_sung false done at x is = (all_front IsSungSpan done (x ∷ []) is.ended, a
 no_graces : (graces : List ℕ) → graces ≡ [] → All AreKeys graces
 no_graces graces none = subst (All AreKeys) (sym none) (All-nil AreKeys)
 
-clash : (b : Bool) → b ≡ true → b ≡ false → ⊥
-clash b e f = false≢true (sym f ∙ e)
-
 segment_sung : (done : List (HeardSpan ℕ)) (at : ℕ) (going : Option (HeardSpan ℕ)) (p : Segment) (h : HeardVoice ℕ)
     → hear_segment (clean done at going) p ≡ Some h → IsSungVoice h → WasSung done at going p
 segment_sung done at None p h e sung = go (rest_or_begin done at p h e)
@@ -75,7 +73,7 @@ segment_sung done at None p h e sung = go (rest_or_begin done at p h e)
         let after = subst IsSungVoice same sung in
         record {
           before = record { ended = after.ended; on = tt };
-          own = record { keys = λ sounds. absurd (clash (p.keys == 0) is.silent sounds); graces = no_graces p.graces is.graces };
+          own = record { keys = λ sounds. absurd (not_both_tests (p.keys == 0) is.silent sounds); graces = no_graces p.graces is.graces };
         }
     go (inr (is, same)) =
         let (ended, x) = span_sung p.goes done (at + p.len) (begun at p) (subst IsSungVoice same sung) in

@@ -14,7 +14,8 @@ use Rattle.notation.specs.Tokens.{bar_tokens}
 abbrev pub AreGroupsOfBar : ℕ → ScoreBar → List VoiceValue → List VoiceValue → List Group → Type 0
 AreGroupsOfBar resolution bar values later groups =
     (odd : ℕ) × IsOddPart resolution odd
-    × Each (IsGroup resolution odd) (grouped resolution odd bar (bar_tokens resolution odd bar (next_goes_on later) values)) groups
+    × Each (IsGroup resolution odd)
+    (grouped resolution odd bar (bar_tokens resolution odd bar (next_goes_on later) values)) groups
 
 -- those of the values of a voice, a list for each bar
 abbrev pub AreGroupsOfValues : ℕ → List ScoreBar → List (List VoiceValue) → List (List Group) → Type 0

@@ -1,11 +1,11 @@
--- What is heard of a voice, note after note. Places and lengths are in a kind of number that can be added: in parts of a whole note, or in
--- whole notes.
+-- What is heard of a voice, note after note. Places and lengths are in a kind of number that can be added: in parts
+-- of a whole note, or in whole notes.
 use Rattle.std.specs.Prelude.{ℕ, Bool, true, false, ◌==◌, ◌&&◌, ◌||◌, not, if◌then◌else◌, List, [], ◌∷◌, ◌++◌, Option, Some, None}
 use Rattle.kern_reader.specs.Tokens.{◌>>=◌}
 use Rattle.notation.specs.Notes.{is_empty}
 
--- A note, a chord or a rest as it is read: how long it is; its keys, of a rest none; whether it is marked short; and whether a tie comes to
--- it, and one goes on from it
+-- A note, a chord or a rest as it is read: how long it is; its keys, of a rest none; whether it is marked short; and
+-- whether a tie comes to it, and one goes on from it
 pub record Stretch (L : Type 0) : Type 0 where
   pub len : L
   pub keys : ℕ
@@ -13,9 +13,8 @@ pub record Stretch (L : Type 0) : Type 0 where
   pub comes : Bool
   pub goes : Bool
 
--- A chord that was heard: its start, from the beginning of the voice; how long it is over all its ties; its keys, the grace chords before
--- it,
--- and whether it is marked short
+-- A chord that was heard: its start, from the beginning of the voice; how long it is over all its ties; its keys, the
+-- grace chords before it, and whether it is marked short
 pub record HeardSpan (L : Type 0) : Type 0 where
   pub start : L
   pub len : L
@@ -23,9 +22,8 @@ pub record HeardSpan (L : Type 0) : Type 0 where
   pub graces : List ℕ
   pub short : Bool
 
--- What is known after some notes: the spans that have ended; the place that was reached; the span that goes on by a tie; and the grace
--- chords
--- that wait for their note
+-- What is known after some notes: the spans that have ended; the place that was reached; the span that goes on by a
+-- tie; and the grace chords that wait for their note
 pub record HeardVoice (L : Type 0) : Type 0 where
   pub spans : List (HeardSpan L)
   pub at : L
@@ -69,10 +67,12 @@ module _ {L : Type 0} (plus : L → L → L) where
   abbrev pub hear_rest : HeardVoice L → Stretch L → Option (HeardVoice L)
   hear_rest h n = if is_still h && is_bare n then Some (record h { at = plus h.at n.len }) else None
 
-  -- a chord to which no tie comes begins a span, where none goes on; else it is the chord that goes on, without a mark, and makes it longer
+  -- a chord to which no tie comes begins a span, where none goes on; else it is the chord that goes on, without a
+  -- mark, and makes it longer
   abbrev pub span_with : HeardVoice L → Option (HeardSpan L) → Stretch L → Option (HeardSpan L)
   span_with h None n =
-      if n.comes then None else Some (record { start = h.at; len = n.len; keys = n.keys; graces = h.graces; short = n.short })
+      if n.comes then None
+      else Some (record { start = h.at; len = n.len; keys = n.keys; graces = h.graces; short = n.short })
   span_with h (Some x) n =
       if n.comes && ((x.keys == n.keys) && not n.short) then Some (record x { len = plus x.len n.len }) else None
 

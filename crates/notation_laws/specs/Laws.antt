@@ -20,7 +20,7 @@ use Rattle.notation.specs.Notes.{Group}
 use Rattle.notation_laws.specs.Columns.{AreGroupsOfValues}
 use Rattle.notation_laws.specs.Hearing.{HeardSpan, unheard}
 use Rattle.notation_laws.specs.NotesHeard.{AreHeardInFull, IsSpanHeard, voice_heard}
-use Rattle.notation_laws.specs.SpineEvents.{spine_events}
+use Rattle.notation_laws.specs.VoicesEvents.{voices_events}
 use Rattle.notation_laws.specs.Written.{IsWrittenGroup}
 
 -- a voice whose sounds can be written over these bars
@@ -31,40 +31,49 @@ pub record IsVoice (resolution : ℕ) (bars : List ScoreBar) (sounds : List Soun
   pub well : AreWellSounded resolution (length bars) sounds
 
 -- what is heard of the groups of a voice are its spans over these bars
-pub record IsHeard (resolution : ℕ) (sbars : List ScoreBar) (bars : List Bar) (sounds : List Sound) (all : List (List Group)) : Type 0 where
+pub record IsHeard (resolution : ℕ) (sbars : List ScoreBar) (bars : List Bar) (sounds : List Sound)
+    (all : List (List Group)) : Type 0 where
   pub heard : List (HeardSpan ℕ)
   pub hears : voice_heard resolution sbars all ≡ Some heard
-  pub spans : (spans : List Span) → Each (IsSpanHeard (64 * resolution)) heard spans ↔ AreSpans resolution bars sounds spans
+  pub spans : (spans : List Span)
+      → Each (IsSpanHeard (64 * resolution)) heard spans ↔ AreSpans resolution bars sounds spans
 
 -- so it is of each voice that can be written
 abbrev pub VoicesAreHeard : Type 0
 VoicesAreHeard =
     (resolution : ℕ) (sbars : List ScoreBar) (bars : List Bar) (sounds : List Sound) (all : List (List Group))
     → IsVoice resolution sbars sounds
-    → HaveSignatures sbars bars → AreVoiceGroups resolution 0 sbars sounds all → IsHeard resolution sbars bars sounds all
+    → HaveSignatures sbars bars → AreVoiceGroups resolution 0 sbars sounds all
+    → IsHeard resolution sbars bars sounds all
 
 -- each bar of a voice is heard in full
 abbrev pub BarsAreHeardInFull : Type 0
 BarsAreHeardInFull =
-    (resolution : ℕ) (bars : List ScoreBar) (sounds : List Sound) (all : List (List Group)) → IsVoice resolution bars sounds
+    (resolution : ℕ) (bars : List ScoreBar) (sounds : List Sound) (all : List (List Group))
+    → IsVoice resolution bars sounds
     → AreVoiceGroups resolution 0 bars sounds all → AreHeardInFull resolution bars (unheard 0) all
 
 -- the notes of a voice can be written
 abbrev pub NotesCanBeWritten : Type 0
 NotesCanBeWritten =
-    (resolution : ℕ) (bars : List ScoreBar) (sounds : List Sound) (all : List (List Group)) → IsVoice resolution bars sounds
+    (resolution : ℕ) (bars : List ScoreBar) (sounds : List Sound) (all : List (List Group))
+    → IsVoice resolution bars sounds
     → AreVoiceGroups resolution 0 bars sounds all → All (All (IsWrittenGroup resolution)) all
 
--- The spans of the voices of a score are the events of its **kern text. So what is read of another text as these spans says the same music
+-- The spans of the voices of a score are the events of its **kern text. So what is read of another text as these
+-- spans says the same music
 abbrev pub SpansAreTheEvents : Type 0
 SpansAreTheEvents =
-    (s : Score) (bars : List Bar) (text : List ℕ) (all : List (List Span)) → IsScore s → HaveSignatures s.bars bars → IsScoreText s text
+    (s : Score) (bars : List Bar) (text : List ℕ) (all : List (List Span)) → IsScore s → HaveSignatures s.bars bars
+    → IsScoreText s text
     → Each (AreSpans s.resolution bars) s.voices all
-    → (k : KernColumns) × (score_of text ≡ Ok k) × AreEvents k (spine_events 1 all)
+    → (k : KernColumns) × (score_of text ≡ Ok k) × AreEvents k (voices_events 1 all)
 
 -- the groups of a voice are those of the values of its **kern column
 abbrev pub GroupsAreOfTheColumn : Type 0
 GroupsAreOfTheColumn =
-    (resolution : ℕ) (bars : List ScoreBar) (sounds : List Sound) (values : List (List VoiceValue)) (all : List (List Group))
-    → IsVoice resolution bars sounds → AreVoiceValues resolution 0 bars sounds values → AreVoiceGroups resolution 0 bars sounds all
+    (resolution : ℕ) (bars : List ScoreBar) (sounds : List Sound) (values : List (List VoiceValue))
+    (all : List (List Group))
+    → IsVoice resolution bars sounds → AreVoiceValues resolution 0 bars sounds values
+    → AreVoiceGroups resolution 0 bars sounds all
     → AreGroupsOfValues resolution bars values all

@@ -1,6 +1,6 @@
 pub mod Hearing
 pub mod NotesHeard
 pub mod Columns
-pub mod SpineEvents
+pub mod VoicesEvents
 pub mod Written
 pub mod Laws

@@ -36,18 +36,21 @@ abbrev pub hear_bars : ℕ → List ScoreBar → HeardVoice ℕ → List (List G
 hear_bars resolution [] h [] = Some h
 hear_bars resolution [] h (groups ∷ all) = None
 hear_bars resolution (bar ∷ bars) h [] = None
-hear_bars resolution (bar ∷ bars) h (groups ∷ all) = hear_bar resolution bar h groups >>= λ next. hear_bars resolution bars next all
+hear_bars resolution (bar ∷ bars) h (groups ∷ all) =
+    hear_bar resolution bar h groups >>= λ next. hear_bars resolution bars next all
 
 -- the spans of a voice, which begins with the score
 abbrev pub voice_heard : ℕ → List ScoreBar → List (List Group) → Option (List (HeardSpan ℕ))
 voice_heard resolution bars all = hear_bars resolution bars (unheard 0) all >>= ended_spans
 
--- bars that are heard in full: each from where the one before ends to as much later as it is long, and no grace chord waits at a barline
+-- bars that are heard in full: each from where the one before ends to as much later as it is long, and no grace chord
+-- waits at a barline
 abbrev pub AreHeardInFull : ℕ → List ScoreBar → HeardVoice ℕ → List (List Group) → Type 0
 AreHeardInFull resolution [] h all = all ≡ []
 AreHeardInFull resolution (bar ∷ bars) h [] = ⊥
 AreHeardInFull resolution (bar ∷ bars) h (groups ∷ all) =
-    (next : HeardVoice ℕ) × (hear_bar resolution bar h groups ≡ Some next) × (next.at ≡ h.at + score_bar_parts resolution bar)
+    (next : HeardVoice ℕ) × (hear_bar resolution bar h groups ≡ Some next)
+    × (next.at ≡ h.at + score_bar_parts resolution bar)
     × (next.graces ≡ []) × AreHeardInFull resolution bars next all
 
 -- a span is what was heard in parts of 1/d of a whole note

@@ -1,4 +1,5 @@
--- Notes as they can be written: their values are halves, quarters, eighths .. with dots, and last as long as they do under their bracket.
+-- Notes as they can be written: their values are halves, quarters, eighths .. with dots, and last as long as they do
+-- under their bracket.
 use Rattle.rhythm_base.specs.declared.limits.TheConstants.{MOST_UNITS}
 use Rattle.std.specs.Prelude.{◌≡◌, ℕ, ◌*◌, ◌^◌, ◌<◌, ◌≤◌, ◌==◌, false, All, ⊤}
 use Rattle.durations.specs.declared.value.Recip.{Recip}

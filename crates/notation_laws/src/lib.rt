@@ -1,5 +1,5 @@
-//! The laws of notation, said without a text: what is heard of the notes of a voice are the spans of its sounds, its bars are heard in
-//! full, and its notes are those of its **kern column.
+//! The laws of notation, said without a text: what is heard of the notes of a voice are the spans of its sounds, its
+//! bars are heard in full, and its notes are those of its **kern column.
 #![tactic(auto)]
 
 mod laws;

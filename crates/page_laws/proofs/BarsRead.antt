@@ -36,8 +36,8 @@ use Rattle.notation_laws.proofs.Says.{heard_first}
 use Rattle.page_writer.specs.Bars.{bar_line, bar_words, first_graces}
 use Rattle.page_writer.specs.Bars as written
 use Rattle.page_laws.specs.Hearing.{HeardStaff, at_bracket, at_ratio, hear_page_word, with_voice}
-use Rattle.page_laws.specs.Reading.{after_bar, hear_page_bar, hear_page_words}
-use Rattle.page_laws.specs.Words.{bar_word, closing_word, opening_word, page_word, ratio_of, ratio_word, tuplet_word}
+use Rattle.page_laws.specs.Reading.{after_page_bar, hear_page_bar, hear_page_words}
+use Rattle.page_laws.specs.Words.{bar_word, closing_word, opening_word, page_word, bracket_ratio, ratio_word, tuplet_word}
 use Rattle.page_laws.proofs.InWholes.{in_wholes}
 use Rattle.page_laws.proofs.NoteWords.{bar_graphic, bar_list, bar_spaced, first_are, graces_list, group_list, groups_list, notes_list, ratio_text, sounding_list}
 use Rattle.page_laws.proofs.NotesRead.{at_notes, graces_read, hear_from, heard_as, notes_read}
@@ -61,15 +61,15 @@ numbers_read num den some few power =
     ∙ ap (λ b. option_map (λ (s : TimeSignature). frac s.num s.den) (if b then Some (record { num = num; den = den }) else None)) power
 
 ratio_numbers : (ratio : Ratio) → 1 ≤ ratio.actual → ratio.actual ≤ 960 → 1 ≤ ratio.normal → ratio.normal ≤ 960
-    → ratio_of (slice_split (λ b. b == 47) (ratio_text ratio)) ≡ Some (frac ratio.normal ratio.actual)
+    → bracket_ratio (slice_split (λ b. b == 47) (ratio_text ratio)) ≡ Some (frac ratio.normal ratio.actual)
 ratio_numbers ratio some few other most =
-    ap ratio_of (split_first 47 (decimal ratio.actual) (decimal ratio.normal) (slash_free ratio.actual)
+    ap bracket_ratio (split_first 47 (decimal ratio.actual) (decimal ratio.normal) (slash_free ratio.actual)
     ∙ ap (λ pieces. decimal ratio.actual ∷ pieces) (split_last 47 (decimal ratio.normal) (slash_free ratio.normal)))
     ∙ rw (number_back 960 ratio.actual some few (omega arith), number_back 960 ratio.normal other most (omega arith)) refl
 
 -- what begins with a digit is the numbers of a bracket
 by_digit : (b : ℕ) (bs : List ℕ) → is_ascii_digit b ≡ true
-    → page_word (b ∷ bs) ≡ option_map (λ ratio. ratio_word ratio) (ratio_of (slice_split (λ b. b == 47) (b ∷ bs)))
+    → page_word (b ∷ bs) ≡ option_map (λ ratio. ratio_word ratio) (bracket_ratio (slice_split (λ b. b == 47) (b ∷ bs)))
 unfolding page_word
 by_digit b bs digit =
     let no_slash : (b == 92) ≡ false = grind (arith, nat_tests, digit) in
@@ -96,7 +96,7 @@ ratio_read ratio some few other most =
     clash e = cc
 
     first : (ds : List ℕ) → list_all is_ascii_digit ds ≡ true → (more : List ℕ) → (ds ≡ [] → ⊥)
-        → page_word (ds ++ more) ≡ option_map (λ ratio. ratio_word ratio) (ratio_of (slice_split (λ b. b == 47) (ds ++ more)))
+        → page_word (ds ++ more) ≡ option_map (λ ratio. ratio_word ratio) (bracket_ratio (slice_split (λ b. b == 47) (ds ++ more)))
     first [] digits more empty = absurd (empty refl)
     first (d ∷ ds) digits more empty = by_digit d (ds ++ more) (and_parts (is_ascii_digit d) (list_all is_ascii_digit ds) digits).0
 
@@ -335,9 +335,9 @@ module _ (r : ℕ) (some : 1 ≤ 64 * r) (bar : ScoreBar) (right : IsScoreBar ba
       → hear_page_bar (signature bar) (at_bar h) (bar_line bar silent groups) ≡ Some (at_bar next)
   unfolding hear_page_bar
   bar_read silent groups h next all heard full bare =
-      ap (λ o. o >>= λ ws. hear_page_words (at_bar h) ws >>= λ next. after_bar (signature bar) (at_bar h) next)
+      ap (λ o. o >>= λ ws. hear_page_words (at_bar h) ws >>= λ next. after_page_bar (signature bar) (at_bar h) next)
       (words_are silent groups all)
-      ∙ ap (λ o. o >>= λ next. after_bar (signature bar) (at_bar h) next) (words_read silent groups h next all heard)
+      ∙ ap (λ o. o >>= λ next. after_page_bar (signature bar) (at_bar h) next) (words_read silent groups h next all heard)
       ∙ ap (λ b. if b then Some (at_bar next) else None)
       (and_from (is_empty next.graces) (same_frac (frac next.at (64 * r)) (frac_plus (frac h.at (64 * r)) (signature bar)))
       (ap is_empty bare) exact)

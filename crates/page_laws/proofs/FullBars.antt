@@ -10,9 +10,9 @@ use Rattle.lily_writer.specs.Reading.{words_of_bar}
 use Rattle.kern_reader.specs.Tokens.{◌>>=◌}
 use Rattle.notation.specs.Notes.{is_empty}
 use Rattle.notation_laws.proofs.Says.{heard_first}
-use Rattle.page_laws.specs.Hearing.{HeardStaff, is_outside}
+use Rattle.page_laws.specs.Hearing.{HeardStaff, is_unbracketed}
 use Rattle.page_laws.specs.Laws.{BarsAreFull}
-use Rattle.page_laws.specs.Reading.{after_bar, hear_page_bar, hear_page_words}
+use Rattle.page_laws.specs.Reading.{after_page_bar, hear_page_bar, hear_page_words}
 
 same_is : (f g : Frac) → same_frac f g ≡ true → f ≡ g
 same_is f g h =
@@ -29,18 +29,18 @@ pub full_bars : BarsAreFull
 unfolding hear_page_bar
 full_bars signature before next line e =
     let (ws, one, rest) = heard_first (words_of_bar (words line))
-    (λ ws. hear_page_words before ws >>= λ h. after_bar signature before h) next e in
-    let (h, two, last) = heard_first (hear_page_words before ws) (λ h. after_bar signature before h) next rest in
-    go h (is_outside h && (is_empty h.heard.graces && same_frac h.heard.at (frac_plus before.heard.at signature))) (λ k. k) last
+    (λ ws. hear_page_words before ws >>= λ h. after_page_bar signature before h) next e in
+    let (h, two, last) = heard_first (hear_page_words before ws) (λ h. after_page_bar signature before h) next rest in
+    go h (is_unbracketed h && (is_empty h.heard.graces && same_frac h.heard.at (frac_plus before.heard.at signature))) (λ k. k) last
   where
     some : (a b : HeardStaff) → Some a ≡ Some b → a ≡ b
     some a b e = cc
 
     go : (h : HeardStaff) (b : Bool)
-        → (b ≡ true → (is_outside h && (is_empty h.heard.graces && same_frac h.heard.at (frac_plus before.heard.at signature))) ≡ true)
+        → (b ≡ true → (is_unbracketed h && (is_empty h.heard.graces && same_frac h.heard.at (frac_plus before.heard.at signature))) ≡ true)
         → (if b then Some h else None) ≡ Some next → (next.heard.at ≡ frac_plus before.heard.at signature) × (next.heard.graces ≡ [])
     go h true all e =
-        let (out, parts) = and_parts (is_outside h) _ (all (λ i. true)) in
+        let (out, parts) = and_parts (is_unbracketed h) _ (all (λ i. true)) in
         let (bare, at) = and_parts (is_empty h.heard.graces) (same_frac h.heard.at (frac_plus before.heard.at signature)) parts in
         subst (λ (n : HeardStaff). (n.heard.at ≡ frac_plus before.heard.at signature) × (n.heard.graces ≡ [])) (some h next e)
         (same_is h.heard.at (frac_plus before.heard.at signature) at, none_is h.heard.graces bare)

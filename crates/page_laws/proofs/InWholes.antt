@@ -8,6 +8,7 @@ use Rattle.kern_reader.specs.Tokens.{◌>>=◌}
 use Rattle.lily_writer.specs.Fractions.{frac, frac_plus}
 use Rattle.lily_laws.proofs.Fractions.{plus_parts}
 use Rattle.notation.specs.Notes.{is_empty}
+use Rattle.notation_laws.proofs.Segments.{no_some}
 use Rattle.notation_laws.specs.Hearing.{HeardSpan, HeardVoice, Stretch, hear, hear_chord, hear_grace, hear_rest, is_none, span_with, with_span}
 
 module _ (d : ℕ) (some : 1 ≤ d) where
@@ -116,9 +117,6 @@ module _ (d : ℕ) (some : 1 ≤ d) where
 
 -- ---- what is heard says of the ties and marks
 
-clash : {X : Type 0} (x : X) → None ≡ Some x → ⊥
-clash x e = cc
-
 -- a rest that is heard has no mark and no tie
 pub rest_bare : (h next : HeardVoice ℕ) (n : Stretch ℕ) → hear ◌+◌ h n ≡ Some next → (n.keys == 0) ≡ true
     → (n.short ≡ false) × (n.comes ≡ false) × (n.goes ≡ false)
@@ -127,10 +125,10 @@ rest_bare h next n e silent = go (n.keys == 0) silent e
     test : (a b c : Bool) (s : Bool) → (if s && not (a || (b || c)) then Some (record h { at = h.at + n.len }) else None) ≡ Some next
         → (a ≡ false) × (b ≡ false) × (c ≡ false)
     test false false false s e = (refl, refl, refl)
-    test true b c true e = absurd (clash next e)
-    test false true c true e = absurd (clash next e)
-    test false false true true e = absurd (clash next e)
-    test a b c false e = absurd (clash next e)
+    test true b c true e = absurd (no_some next e)
+    test false true c true e = absurd (no_some next e)
+    test false false true true e = absurd (no_some next e)
+    test a b c false e = absurd (no_some next e)
 
     go : (b : Bool) → b ≡ true → (if b then hear_rest ◌+◌ h n else hear_chord ◌+◌ h n) ≡ Some next
         → (n.short ≡ false) × (n.comes ≡ false) × (n.goes ≡ false)
@@ -146,9 +144,9 @@ chord_comes h next n e sounds = go (n.keys == 0) sounds e
         → (span_with ◌+◌ h going (record n { comes = c }) >>= λ x. Some (with_span h (h.at + n.len) n.goes x)) ≡ Some next → c
         ≡ not (is_none going)
     comes None false e = refl
-    comes None true e = absurd (clash next e)
+    comes None true e = absurd (no_some next e)
     comes (Some x) true e = refl
-    comes (Some x) false e = absurd (clash next e)
+    comes (Some x) false e = absurd (no_some next e)
 
     go : (b : Bool) → b ≡ false → (if b then hear_rest ◌+◌ h n else hear_chord ◌+◌ h n) ≡ Some next → n.comes ≡ not (is_none h.going)
     go true f e = absurd (cc)

@@ -30,7 +30,7 @@ use Rattle.page_writer.specs.Changes.{key_change, key_line, key_name, page_chang
 use Rattle.page_writer.specs.Pitches.{alteration_text, letter_text, page_pitch}
 use Rattle.page_writer.specs.Staves.{clef_line, staff_head}
 use Rattle.page_laws.specs.Hearing.{HeardStaff}
-use Rattle.page_laws.specs.Reading.{Staff, begins_staff, ends_in, hear_page_bar, hear_page_line, spans_of_lines}
+use Rattle.page_laws.specs.Reading.{PageStaff, begins_staff, ends_in, hear_page_bar, hear_page_line, spans_of_lines}
 use Rattle.kern_reader.specs.Tokens.{◌>>=◌}
 use Rattle.rhythm_base.specs.declared.span.Frac.{Frac}
 use Rattle.page_laws.proofs.BarsRead.{bar_text, numbers_read}
@@ -170,27 +170,27 @@ words_bar ((b ∷ w) ∷ ws) h = go h
 -- ---- what lines say
 
 -- a line that begins no staff, and after which so much is known of its staff
-pub record IsLine (staff : Staff) (line : List ℕ) (next : Staff) : Type 0 where
+pub record IsLine (staff : PageStaff) (line : List ℕ) (next : PageStaff) : Type 0 where
   pub begins : begins_staff line ≡ false
   pub heard : hear_page_line staff line ≡ Some next
 
-pub line_more : (staff next : Staff) (line : List ℕ) (lines : List (List ℕ)) → IsLine staff line next
+pub line_more : (staff next : PageStaff) (line : List ℕ) (lines : List (List ℕ)) → IsLine staff line next
     → spans_of_lines (Some staff) (line ∷ lines) ≡ spans_of_lines (Some next) lines
 line_more staff next line lines is = rw is.begins (ap (λ o. o >>= λ next. spans_of_lines (Some next) lines) is.heard)
 
 -- one that changes nothing
-other_line : (staff : Staff) (line : List ℕ) → starts_with nat_eq line (codes "\\time ") ≡ false → ends_in 124 line ≡ false
+other_line : (staff : PageStaff) (line : List ℕ) → starts_with nat_eq line (codes "\\time ") ≡ false → ends_in 124 line ≡ false
     → hear_page_line staff line ≡ Some staff
 unfolding hear_page_line
 other_line staff line time end = rw (time, end) refl
 
-bar_heard : (staff : Staff) (s : Frac) (line : List ℕ) (next : HeardStaff) → IsBarText line → staff.signature ≡ Some s
+bar_heard : (staff : PageStaff) (s : Frac) (line : List ℕ) (next : HeardStaff) → IsBarText line → staff.signature ≡ Some s
     → hear_page_bar s staff.heard line ≡ Some next
     → hear_page_line staff line ≡ Some (record staff { heard = next })
 unfolding hear_page_line
 bar_heard staff s line next is said heard = rw (is.time, is.end, said, heard) refl
 
-pub bar_said : (r : ℕ) (some : 1 ≤ 64 * r) (bar : ScoreBar) (silent : ℕ) (groups : List Group) (staff : Staff) (next : HeardStaff)
+pub bar_said : (r : ℕ) (some : 1 ≤ 64 * r) (bar : ScoreBar) (silent : ℕ) (groups : List Group) (staff : PageStaff) (next : HeardStaff)
     → IsScoreBar bar
     → All (IsWrittenGroup r) groups → staff.signature ≡ Some (signature bar)
     → hear_page_bar (signature bar) staff.heard (bar_line bar silent groups) ≡ Some next
@@ -203,13 +203,13 @@ bar_said r some bar silent groups staff next right all said heard =
 
 -- ---- changes
 
-key_said : (staff : Staff) (sf : ℤ) → IsLine staff (key_line sf) staff
+key_said : (staff : PageStaff) (sf : ℤ) → IsLine staff (key_line sf) staff
 key_said staff sf = record {
   begins = refl;
   heard = other_line staff (key_line sf) refl (end_is 124 (codes "\\key " ++ key_name sf) 32 (codes "\\major"));
 }
 
-tempo_said : (staff : Staff) (bar : ScoreBar) → IsLine staff (tempo_line bar) staff
+tempo_said : (staff : PageStaff) (bar : ScoreBar) → IsLine staff (tempo_line bar) staff
 tempo_said staff bar =
     let ds = decimal (quarters_of_minute bar.tempo) in
     record {
@@ -218,7 +218,7 @@ tempo_said staff bar =
           (end_is 124 (codes "\\tempo 4 =") 32 ds ∙ digits_end 32 ds refl (decimal_digits (quarters_of_minute bar.tempo)));
     }
 
-time_said : (staff : Staff) (bar : ScoreBar) → IsScoreBar bar
+time_said : (staff : PageStaff) (bar : ScoreBar) → IsScoreBar bar
     → IsLine staff (time_line bar) (record staff { signature = Some (signature bar) })
 unfolding hear_page_line
 time_said staff bar right = record {
@@ -228,19 +228,19 @@ time_said staff bar right = record {
 }
 
 -- the signature of the bar before, where there was one, is the one that was said last
-pub IsSaid : Option ScoreBar → Staff → Type 0
+pub IsSaid : Option ScoreBar → PageStaff → Type 0
 IsSaid None staff = ⊤
 IsSaid (Some before) staff = staff.signature ≡ Some (signature before)
 
-pub none_said : (staff : Staff) → IsSaid None staff
+pub none_said : (staff : PageStaff) → IsSaid None staff
 unfolding IsSaid
 none_said staff = tt
 
-pub some_said : (bar : ScoreBar) (staff : Staff) → staff.signature ≡ Some (signature bar) → IsSaid (Some bar) staff
+pub some_said : (bar : ScoreBar) (staff : PageStaff) → staff.signature ≡ Some (signature bar) → IsSaid (Some bar) staff
 unfolding IsSaid
 some_said bar staff is = is
 
-same_is : (before : Option ScoreBar) (bar : ScoreBar) (staff : Staff) → same_signature before bar ≡ true → IsSaid before staff
+same_is : (before : Option ScoreBar) (bar : ScoreBar) (staff : PageStaff) → same_signature before bar ≡ true → IsSaid before staff
     → staff.signature ≡ Some (signature bar)
 unfolding IsSaid
 same_is None bar staff same said = absurd (false≢true same)
@@ -250,7 +250,7 @@ same_is (Some before) bar staff same said =
     let two : before.den ≡ bar.den = grind (arith, nat_tests, den) in
     said ∙ ap₂ (λ a b. Some (frac a b)) one two
 
-pub changes_said : (first : Bool) (before : Option ScoreBar) (bar : ScoreBar) (staff : Staff) (lines : List (List ℕ)) → IsScoreBar bar
+pub changes_said : (first : Bool) (before : Option ScoreBar) (bar : ScoreBar) (staff : PageStaff) (lines : List (List ℕ)) → IsScoreBar bar
     → IsSaid before staff
     → spans_of_lines (Some staff) (page_changes first before bar ++ lines)
     ≡ spans_of_lines (Some (record staff { signature = Some (signature bar) })) lines
@@ -258,7 +258,7 @@ changes_said first before bar staff lines right said =
     let key = key_change (key_before before) bar.sf in
     let time = time_change before bar in
     let tempo : List (List ℕ) = if first then tempo_change before bar else [] in
-    let next : Staff = record staff { signature = Some (signature bar) } in
+    let next : PageStaff = record staff { signature = Some (signature bar) } in
     ap (spans_of_lines (Some staff)) (append_assoc (key ++ time) tempo lines ∙ append_assoc key time (tempo ++ lines))
     ∙ keys bar.sf (time ++ (tempo ++ lines)) ∙ times (same_signature before bar) refl (tempo ++ lines) ∙ tempos next first lines
   where
@@ -282,26 +282,26 @@ changes_said first before bar staff lines right said =
     times false same lines = line_more staff (record staff { signature = Some (signature bar) }) (time_line bar) lines
         (time_said staff bar right)
 
-    tempo_test : (staff : Staff) (b : Bool) (lines : List (List ℕ))
+    tempo_test : (staff : PageStaff) (b : Bool) (lines : List (List ℕ))
         → spans_of_lines (Some staff) ((if b then [] else tempo_line bar ∷ []) ++ lines) ≡ spans_of_lines (Some staff) lines
     tempo_test staff true lines = refl
     tempo_test staff false lines = line_more staff staff (tempo_line bar) lines (tempo_said staff bar)
 
-    tempos : (staff : Staff) (first : Bool) (lines : List (List ℕ))
+    tempos : (staff : PageStaff) (first : Bool) (lines : List (List ℕ))
         → spans_of_lines (Some staff) ((if first then tempo_change before bar else []) ++ lines) ≡ spans_of_lines (Some staff) lines
     tempos staff true lines = tempo_test staff (same_tempo before bar) lines
     tempos staff false lines = refl
 
 -- ---- the other lines of a staff
 
-clef_said : (staff : Staff) (clef : Clef) → IsLine staff (clef_line clef) staff
+clef_said : (staff : PageStaff) (clef : Clef) → IsLine staff (clef_line clef) staff
 unfolding hear_page_line
 clef_said staff BassBelow = record { begins = refl; heard = refl }
 clef_said staff Bass = record { begins = refl; heard = refl }
 clef_said staff Treble = record { begins = refl; heard = refl }
 clef_said staff TrebleAbove = record { begins = refl; heard = refl }
 
-pub clef_more : (staff : Staff) (clef : Clef) (lines : List (List ℕ)) → spans_of_lines (Some staff) (clef_line clef ∷ lines)
+pub clef_more : (staff : PageStaff) (clef : Clef) (lines : List (List ℕ)) → spans_of_lines (Some staff) (clef_line clef ∷ lines)
     ≡ spans_of_lines (Some staff) lines
 clef_more staff clef lines = line_more staff staff (clef_line clef) lines (clef_said staff clef)
 

@@ -21,7 +21,7 @@ use Rattle.notation_laws.specs.Hearing.{HeardVoice, Stretch, hear, hear_grace, h
 use Rattle.notation_laws.specs.NotesHeard.{hear_notes, note_stretch}
 use Rattle.notation_laws.specs.Written.{IsWrittenGroup, IsWrittenNote}
 use Rattle.notation_laws.proofs.Says.{heard_first}
-use Rattle.page_laws.specs.Hearing.{HeardStaff, among_graces, among_notes, at_graces, hear_page_word, shown, with_voice}
+use Rattle.page_laws.specs.Hearing.{HeardStaff, among_graces, among_notes, at_graces, hear_page_word, under_bracket, with_voice}
 use Rattle.page_laws.specs.Reading.{hear_page_words}
 use Rattle.page_laws.specs.Words.{closing_word, graces_word, opening_word, page_base, page_ending, page_word, rest_word, silent_word}
 use Rattle.page_laws.proofs.InWholes.{chord_comes, grace_in, hear_in, in_wholes, none_in, rest_bare, span_in, stretch_in}
@@ -43,7 +43,7 @@ module _ (r : ℕ) (some : 1 ≤ 64 * r) (sf : Option ℤ) (key : IfSome sf IsKe
 
   -- ---- the length of a note
 
-  note_len : (g : Group) (n : Note) → IsWrittenGroup r g → IsWrittenNote r g.ratio n → shown (shown_ratio g.ratio) (value_frac n.value)
+  note_len : (g : Group) (n : Note) → IsWrittenGroup r g → IsWrittenNote r g.ratio n → under_bracket (shown_ratio g.ratio) (value_frac n.value)
       ≡ frac n.duration (64 * r)
   note_len g n group is = go (nat_lt 1 g.ratio.actual) refl
     where
@@ -57,7 +57,7 @@ module _ (r : ℕ) (some : 1 ≤ 64 * r) (sf : Option ℤ) (key : IfSome sf IsKe
       turned p w m = grind arith
 
       go : (b : Bool) → nat_lt 1 g.ratio.actual ≡ b
-          → shown (if b then Some (frac g.ratio.normal g.ratio.actual) else None) (value_frac n.value) ≡ frac n.duration (64 * r)
+          → under_bracket (if b then Some (frac g.ratio.normal g.ratio.actual) else None) (value_frac n.value) ≡ frac n.duration (64 * r)
       go true e =
           let whole = some_product grid g.ratio.actual some_grid group.some_actual in
           times_parts (parts n.value) grid g.ratio.normal g.ratio.actual some_grid group.some_actual
@@ -89,7 +89,7 @@ module _ (r : ℕ) (some : 1 ≤ 64 * r) (sf : Option ℤ) (key : IfSome sf IsKe
 
   rest_word_heard : (ratio : Option Frac) (h : HeardVoice ℕ) (e : WordEnding) → hear_page_word (at_notes ratio h) (rest_word e)
       ≡ (hear frac_plus (Wholes h)
-      (record { len = shown ratio e.len; keys = 0; short = e.short; comes = false; goes = e.tied }) >>= λ heard. Some
+      (record { len = under_bracket ratio e.len; keys = 0; short = e.short; comes = false; goes = e.tied }) >>= λ heard. Some
       (with_voice (at_notes ratio h) heard))
   unfolding hear_page_word
   rest_word_heard ratio h e = refl
@@ -102,7 +102,7 @@ module _ (r : ℕ) (some : 1 ≤ 64 * r) (sf : Option ℤ) (key : IfSome sf IsKe
       ratio : Option Frac
       ratio = shown_ratio g.ratio
 
-      len : shown ratio (value_frac n.value) ≡ frac n.duration (64 * r)
+      len : under_bracket ratio (value_frac n.value) ≡ frac n.duration (64 * r)
       len = note_len g n group is
 
       rest : (n.keys == 0) ≡ true → hear_page_words (at_notes ratio h) ((114 ∷ ending_text n.value false false) ∷ [])
@@ -115,7 +115,7 @@ module _ (r : ℕ) (some : 1 ≤ 64 * r) (sf : Option ℤ) (key : IfSome sf IsKe
           (rest_is (ending_text n.value false false) e (ending_read n.value false false is.value))
           ∙ rest_word_heard ratio h e
           ∙ heard_as ratio h next (note_stretch n)
-          (record { len = shown ratio (value_frac n.value); keys = 0; short = false; comes = false; goes = false })
+          (record { len = under_bracket ratio (value_frac n.value); keys = 0; short = false; comes = false; goes = false })
           (λ i. record { len = len i; keys = none i; short = sym short i; comes = sym comes i; goes = sym goes i }) heard
 
       chord : (n.keys == 0) ≡ false → hear_page_words (at_notes ratio h) (page_chord_words sf n.keys (ending_text n.value n.short n.goes))
@@ -128,7 +128,7 @@ module _ (r : ℕ) (some : 1 ≤ 64 * r) (sf : Option ℤ) (key : IfSome sf IsKe
           (ending_begins n.value n.short n.goes is.value) (ending_read n.value n.short n.goes is.value)
           ∙ heard_as ratio h next (note_stretch n)
           (record {
-            len = shown ratio (value_frac n.value);
+            len = under_bracket ratio (value_frac n.value);
             keys = n.keys;
             short = n.short;
             comes = not

@@ -42,7 +42,7 @@ use Rattle.page_writer.specs.Page.{closing_lines, head_lines, opening_lines, pag
 use Rattle.page_writer.specs.Staves.{bars_lines, clef_line, staff_end, staff_head, staff_lines, staves_lines}
 use Rattle.page_laws.specs.Hearing.{among_notes}
 use Rattle.page_laws.specs.Laws.{PagesAreReadBack}
-use Rattle.page_laws.specs.Reading.{Staff, hear_page_line, new_staff, page_events, span_of, spans_of_lines, staff_spans}
+use Rattle.page_laws.specs.Reading.{PageStaff, hear_page_line, blank_staff, page_events, span_of, spans_of_lines, page_staff_spans}
 use Rattle.page_laws.proofs.BarsRead.{bar_read}
 use Rattle.page_laws.proofs.InWholes.{in_wholes, none_in, span_in}
 use Rattle.page_laws.proofs.LinesRead.{IsSaid, bar_lines_free, bar_said, changes_said, clef_free, clef_more, head_free, line_more, none_said, number_free, some_said}
@@ -74,7 +74,7 @@ module _ (d : ℕ) (some : 1 ≤ d) where
 
 module _ (r : ℕ) (some : 1 ≤ 64 * r) where
   -- what is known of a staff
-  abbrev known : Option Frac → HeardVoice ℕ → Staff
+  abbrev known : Option Frac → HeardVoice ℕ → PageStaff
   known said h = record {
     signature = said;
     heard =
@@ -129,7 +129,7 @@ module _ (r : ℕ) (some : 1 ≤ 64 * r) where
 
   -- ---- a staff
 
-  end_said : (staff : Staff) (more : List (List ℕ)) → spans_of_lines (Some staff) (staff_end ++ more) ≡ spans_of_lines (Some staff) more
+  end_said : (staff : PageStaff) (more : List (List ℕ)) → spans_of_lines (Some staff) (staff_end ++ more) ≡ spans_of_lines (Some staff) more
   unfolding hear_page_line
   end_said staff more = refl
 
@@ -139,13 +139,13 @@ module _ (r : ℕ) (some : 1 ≤ 64 * r) where
 
   -- what is known of a staff after its lines
   record IsStaffRead (sbars : List ScoreBar) (bars : List Bar) (sounds : List Sound) (body more : List (List ℕ)) : Type 0 where
-    staff : Staff
-    read : spans_of_lines (Some new_staff) (body ++ more) ≡ spans_of_lines (Some staff) more
+    staff : PageStaff
+    read : spans_of_lines (Some blank_staff) (body ++ more) ≡ spans_of_lines (Some staff) more
     own : List Span
-    spans : staff_spans staff ≡ Some own
+    spans : page_staff_spans staff ≡ Some own
     are : AreSpans r bars sounds own
 
-  new_is : new_staff ≡ known None (unheard 0)
+  new_is : blank_staff ≡ known None (unheard 0)
   new_is = λ i. record {
     signature = None;
     heard = record {
@@ -174,8 +174,8 @@ module _ (r : ℕ) (some : 1 ≤ 64 * r) where
       let lines = bars_lines first None sbars most all in
       record {
         staff = staff;
-        read = clef_more new_staff (clef_of sounds) ((lines ++ staff_end) ++ more)
-            ∙ ap (spans_of_lines (Some new_staff)) (append_assoc lines staff_end more)
+        read = clef_more blank_staff (clef_of sounds) ((lines ++ staff_end) ++ more)
+            ∙ ap (spans_of_lines (Some blank_staff)) (append_assoc lines staff_end more)
             ∙ ap (λ s. spans_of_lines (Some s) (lines ++ (staff_end ++ more))) new_is ∙ read.1 ∙ end_said staff more;
         own = spans_in (64 * r) some heard.heard;
         spans = ap (option_map (map span_of)) (ended_in (64 * r) some last heard.heard end);
@@ -189,22 +189,22 @@ module _ (r : ℕ) (some : 1 ≤ 64 * r) where
     voice_is : (sounds : List Sound) → AreWellSounded r (length sbars) sounds → IsVoice r sbars sounds
     voice_is sounds well = record { some_unit = units; few_units = few; each_bar = right; well = well }
 
-    record AreStavesRead (voices : List (List Sound)) (staff : Staff) (own : List Span) (lines : List (List ℕ)) : Type 0 where
+    record AreStavesRead (voices : List (List Sound)) (staff : PageStaff) (own : List Span) (lines : List (List ℕ)) : Type 0 where
       others : List (List Span)
       are : Each (AreSpans r bars) voices others
       read : spans_of_lines (Some staff) lines ≡ Some (own ∷ others)
 
     -- a staff that begins ends the one before it
-    staff_begins : (staff : Staff) (own : List Span) (channel : ℕ) (lines : List (List ℕ)) → staff_spans staff ≡ Some own
+    staff_begins : (staff : PageStaff) (own : List Span) (channel : ℕ) (lines : List (List ℕ)) → page_staff_spans staff ≡ Some own
         → spans_of_lines (Some staff) (staff_head channel ∷ lines)
-        ≡ option_map (λ others. own ∷ others) (spans_of_lines (Some new_staff) lines)
+        ≡ option_map (λ others. own ∷ others) (spans_of_lines (Some blank_staff) lines)
     staff_begins staff own channel lines is = ap
-        (λ o. o >>= λ spans. option_map (λ others. spans ∷ others) (spans_of_lines (Some new_staff) lines)) is
+        (λ o. o >>= λ spans. option_map (λ others. spans ∷ others) (spans_of_lines (Some blank_staff) lines)) is
 
     staves_read : (first : Bool) (channels : List ℕ) (voices : List (List Sound)) (written : List (List (List Group)))
-        (tail : List (List ℕ)) (staff : Staff) (own : List Span)
+        (tail : List (List ℕ)) (staff : PageStaff) (own : List Span)
         → All (AreWellSounded r (length sbars)) voices → Each (AreVoiceGroups r 0 sbars) voices written → length channels ≡ length voices
-        → ((staff : Staff) → spans_of_lines (Some staff) tail ≡ option_map (λ spans. spans ∷ []) (staff_spans staff)) → staff_spans staff
+        → ((staff : PageStaff) → spans_of_lines (Some staff) tail ≡ option_map (λ spans. spans ∷ []) (page_staff_spans staff)) → page_staff_spans staff
         ≡ Some own
         → AreStavesRead voices staff own (staves_lines first sbars most channels voices written ++ tail)
     staves_read first channels [] written tail staff own well each count last is = record {
@@ -257,13 +257,13 @@ head_read n lines = go (nat_lt 1 n)
     go true = refl
     go false = refl
 
-tail_read : (n : ℕ) (staff : Staff) → spans_of_lines (Some staff) (closing_lines n ++ tail_lines)
-    ≡ option_map (λ spans. spans ∷ []) (staff_spans staff)
+tail_read : (n : ℕ) (staff : PageStaff) → spans_of_lines (Some staff) (closing_lines n ++ tail_lines)
+    ≡ option_map (λ spans. spans ∷ []) (page_staff_spans staff)
 unfolding hear_page_line
 tail_read n staff = go (nat_lt 1 n)
   where
     go : (b : Bool) → spans_of_lines (Some staff) ((if b then codes ">>" ∷ [] else []) ++ tail_lines)
-        ≡ option_map (λ spans. spans ∷ []) (staff_spans staff)
+        ≡ option_map (λ spans. spans ∷ []) (page_staff_spans staff)
     go true = refl
     go false = refl
 

@@ -8,7 +8,7 @@ use Rattle.lily_writer.specs.Words.{scale_of}
 use Rattle.page_writer.specs.Words.{lines_text}
 use Rattle.page_laws.specs.Hearing.{hear_page_word}
 use Rattle.page_laws.specs.Reading.{hear_page_bar, hear_page_line, page_events}
-use Rattle.page_laws.specs.Words.{page_base, page_ending, page_key, page_word, pitched_word}
+use Rattle.page_laws.specs.Words.{page_base, page_ending, page_key, page_word, page_pitched_word}
 
 -- ---- pitches and values: B sharp as the lowest key, two flats, and half a 1024th
 
@@ -51,7 +51,7 @@ page :
     (codes "<c,,,, d,,,,>4-. \\tuplet 3/2 { c,,,,4~ c,,,,8~ } c,,,,2~ |" ∷ codes "\\slashedGrace { s8 } c,,,,1 |" ∷ codes "R1*4/4 |"
     ∷ codes "r2 \\slashedGrace { des,,,,8 } c,,,,2 |" ∷ [])))
     ≡ Some ((span 0 1 1 4 5 [] true ∷ span 1 4 7 4 1 [] false ∷ span 7 2 1 2 1 (2 ∷ []) false ∷ []) ∷ [])
-unfolding page_events hear_page_line hear_page_bar hear_page_word page_word page_key page_ending page_base number_of scale_of pitched_word
+unfolding page_events hear_page_line hear_page_bar hear_page_word page_word page_key page_ending page_base number_of scale_of page_pitched_word
     gcd lib.Count.ones
 page = refl
 
@@ -62,7 +62,7 @@ staves :
     (staff (codes "c,,,,1 |" ∷ []) ++ staff (codes "R1*4/4 |" ∷ codes "\\time 3/8" ∷ codes "d,,,,4. |" ∷ [])
     ++ codes ">>" ∷ codes "}" ∷ [])))
     ≡ Some ((span 0 1 1 1 1 [] false ∷ []) ∷ (span 1 1 3 8 4 [] false ∷ []) ∷ [])
-unfolding page_events hear_page_line hear_page_bar hear_page_word page_word page_key page_ending page_base number_of scale_of pitched_word
+unfolding page_events hear_page_line hear_page_bar hear_page_word page_word page_key page_ending page_base number_of scale_of page_pitched_word
     gcd lib.Count.ones
 staves = refl
 
@@ -70,53 +70,53 @@ staves = refl
 -- before a rest, at the end of a bar and within a tie
 
 falling : page_events (lines_text (staff (codes "<d,,,, c,,,,>1 |" ∷ []))) ≡ None
-unfolding page_events hear_page_line hear_page_bar hear_page_word page_word page_key page_ending page_base number_of scale_of pitched_word
+unfolding page_events hear_page_line hear_page_bar hear_page_word page_word page_key page_ending page_base number_of scale_of page_pitched_word
     gcd lib.Count.ones
 falling = refl
 
 short : page_events (lines_text (staff (codes "c,,,,2. |" ∷ []))) ≡ None
-unfolding page_events hear_page_line hear_page_bar hear_page_word page_word page_key page_ending page_base number_of scale_of pitched_word
+unfolding page_events hear_page_line hear_page_bar hear_page_word page_word page_key page_ending page_base number_of scale_of page_pitched_word
     gcd lib.Count.ones
 short = refl
 
 nested : page_events (lines_text (staff (codes "\\tuplet 3/2 { \\tuplet 3/2 { c,,,,1 } } |" ∷ []))) ≡ None
-unfolding page_events hear_page_line hear_page_bar hear_page_word page_word page_key page_ending page_base number_of scale_of pitched_word
+unfolding page_events hear_page_line hear_page_bar hear_page_word page_word page_key page_ending page_base number_of scale_of page_pitched_word
     gcd lib.Count.ones
 nested = refl
 
 open_bracket : page_events (lines_text (staff (codes "\\tuplet 3/2 { c,,,,1. |" ∷ []))) ≡ None
-unfolding page_events hear_page_line hear_page_bar hear_page_word page_word page_key page_ending page_base number_of scale_of pitched_word
+unfolding page_events hear_page_line hear_page_bar hear_page_word page_word page_key page_ending page_base number_of scale_of page_pitched_word
     gcd lib.Count.ones
 open_bracket = refl
 
 grace_of_rest : page_events (lines_text (staff (codes "\\slashedGrace { c,,,,8 } r1 |" ∷ []))) ≡ None
-unfolding page_events hear_page_line hear_page_bar hear_page_word page_word page_key page_ending page_base number_of scale_of pitched_word
+unfolding page_events hear_page_line hear_page_bar hear_page_word page_word page_key page_ending page_base number_of scale_of page_pitched_word
     gcd lib.Count.ones
 grace_of_rest = refl
 
 grace_at_end : page_events (lines_text (staff (codes "c,,,,1 \\slashedGrace { c,,,,8 } |" ∷ []))) ≡ None
-unfolding page_events hear_page_line hear_page_bar hear_page_word page_word page_key page_ending page_base number_of scale_of pitched_word
+unfolding page_events hear_page_line hear_page_bar hear_page_word page_word page_key page_ending page_base number_of scale_of page_pitched_word
     gcd lib.Count.ones
 grace_at_end = refl
 
 grace_in_tie : page_events (lines_text (staff (codes "c,,,,2~ \\slashedGrace { c,,,,8 } c,,,,2 |" ∷ []))) ≡ None
-unfolding page_events hear_page_line hear_page_bar hear_page_word page_word page_key page_ending page_base number_of scale_of pitched_word
+unfolding page_events hear_page_line hear_page_bar hear_page_word page_word page_key page_ending page_base number_of scale_of page_pitched_word
     gcd lib.Count.ones
 grace_in_tie = refl
 
 -- ---- nor of a tie to other keys, to a rest, or to the end
 
 to_others : page_events (lines_text (staff (codes "c,,,,2~ d,,,,2 |" ∷ []))) ≡ None
-unfolding page_events hear_page_line hear_page_bar hear_page_word page_word page_key page_ending page_base number_of scale_of pitched_word
+unfolding page_events hear_page_line hear_page_bar hear_page_word page_word page_key page_ending page_base number_of scale_of page_pitched_word
     gcd lib.Count.ones
 to_others = refl
 
 to_a_rest : page_events (lines_text (staff (codes "c,,,,1~ |" ∷ codes "R1*4/4 |" ∷ []))) ≡ None
-unfolding page_events hear_page_line hear_page_bar hear_page_word page_word page_key page_ending page_base number_of scale_of pitched_word
+unfolding page_events hear_page_line hear_page_bar hear_page_word page_word page_key page_ending page_base number_of scale_of page_pitched_word
     gcd lib.Count.ones
 to_a_rest = refl
 
 to_the_end : page_events (lines_text (staff (codes "c,,,,1~ |" ∷ []))) ≡ None
-unfolding page_events hear_page_line hear_page_bar hear_page_word page_word page_key page_ending page_base number_of scale_of pitched_word
+unfolding page_events hear_page_line hear_page_bar hear_page_word page_word page_key page_ending page_base number_of scale_of page_pitched_word
     gcd lib.Count.ones
 to_the_end = refl

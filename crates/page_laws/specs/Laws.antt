@@ -12,13 +12,13 @@ use Rattle.kern_reader.specs.Events.{AreEvents}
 use Rattle.kern_reader.specs.Outcome.{score_of}
 use Rattle.kern_reader.specs.Score.{KernColumns}
 use Rattle.lily_writer.specs.Fractions.{frac_plus}
-use Rattle.notation_laws.specs.SpineEvents.{spine_events}
+use Rattle.notation_laws.specs.VoicesEvents.{voices_events}
 use Rattle.page_writer.specs.Page.{IsPage}
 use Rattle.page_laws.specs.Hearing.{HeardStaff}
 use Rattle.page_laws.specs.Reading.{hear_page_bar, page_events}
 
 -- a page that is read says the spans of each voice of a score, over these bars
-pub record IsReadBack (s : Score) (bars : List Bar) (text : List ℕ) : Type 0 where
+pub record IsPageReadBack (s : Score) (bars : List Bar) (text : List ℕ) : Type 0 where
   pub spans : List (List Span)
   pub read : page_events text ≡ Some spans
   pub are : Each (AreSpans s.resolution bars) s.voices spans
@@ -26,8 +26,8 @@ pub record IsReadBack (s : Score) (bars : List Bar) (text : List ℕ) : Type 0 w
 -- the page of a score, by a channel for each voice, is read as the spans of its voices
 abbrev pub PagesAreReadBack : Type 0
 PagesAreReadBack =
-    (s : Score) (bars : List Bar) (channels text : List ℕ) → IsScore s → HaveSignatures s.bars bars → length channels ≡ length s.voices
-    → IsPage s channels text → IsReadBack s bars text
+    (s : Score) (bars : List Bar) (channels text : List ℕ) → IsScore s → HaveSignatures s.bars bars
+    → length channels ≡ length s.voices → IsPage s channels text → IsPageReadBack s bars text
 
 -- a page that is read says the events of this **kern text, the spans of a staff as those of its spine
 pub record SaysTheEvents (text kern : List ℕ) : Type 0 where
@@ -35,15 +35,16 @@ pub record SaysTheEvents (text kern : List ℕ) : Type 0 where
   pub read : page_events text ≡ Some spans
   pub columns : KernColumns
   pub kern_read : score_of kern ≡ Ok columns
-  pub events : AreEvents columns (spine_events 1 spans)
+  pub events : AreEvents columns (voices_events 1 spans)
 
 -- so the page of a score says the events of its **kern text
 abbrev pub PagesSayTheEvents : Type 0
 PagesSayTheEvents =
-    (s : Score) (channels text kern : List ℕ) → IsScore s → length channels ≡ length s.voices → IsPage s channels text → IsScoreText s kern
-    → SaysTheEvents text kern
+    (s : Score) (channels text kern : List ℕ) → IsScore s → length channels ≡ length s.voices → IsPage s channels text
+    → IsScoreText s kern → SaysTheEvents text kern
 
--- a bar that is read is as long as its signature says, and no grace chord waits at its end: so it is of each bar of a page that is read
+-- a bar that is read is as long as its signature says, and no grace chord waits at its end: so it is of each bar of a
+-- page that is read
 abbrev pub BarsAreFull : Type 0
 BarsAreFull =
     (signature : Frac) (before next : HeardStaff) (line : List ℕ) → hear_page_bar signature before line ≡ Some next

@@ -5,6 +5,7 @@ use Rattle.std.specs.Int.{is_power_of_two}
 use Rattle.std.specs.List.{list_all, slice_split, starts_with}
 use Rattle.std.specs.Option.{option_map}
 use Rattle.std.specs.Str.{bytes_eq}
+use Rattle.rhythm_base.specs.declared.limits.TheConstants.{MOST_UNITS}
 use Rattle.rhythm_base.specs.declared.span.Frac.{Frac}
 use Rattle.kern_reader.specs.Text.{begins_with}
 use Rattle.kern_reader.specs.Tokens.{◌>>=◌, number_of, within_keys}
@@ -23,18 +24,24 @@ letter_of b =
 -- two flats are 0, none of them 2, two sharps 4
 abbrev pub alteration_of : List ℕ → Option ℕ
 alteration_of text =
-    if bytes_eq text [] then Some 2 else if bytes_eq text (codes "is") then Some 3 else if bytes_eq text (codes "es") then Some 1
-    else if bytes_eq text (codes "isis") then Some 4 else if bytes_eq text (codes "eses") then Some 0 else None
+    if bytes_eq text [] then Some 2
+    else if bytes_eq text (codes "is") then Some 3
+    else if bytes_eq text (codes "es") then Some 1
+    else if bytes_eq text (codes "isis") then Some 4
+    else if bytes_eq text (codes "eses") then Some 0
+    else None
 
 abbrev pub name_of : List ℕ → Option ℕ
 name_of [] = None
 name_of (b ∷ text) = letter_of b >>= λ letter. option_map (λ alteration. letter + alteration) (alteration_of text)
 
--- The key of such a name two below its letter's in the octave below middle C, by its marks: an apostrophe is an octave up, a comma one down
+-- The key of such a name two below its letter's in the octave below middle C, by its marks: an apostrophe is an
+-- octave up, a comma one down
 abbrev pub marked_key : ℕ → List ℕ → Option ℕ
 marked_key name marks =
     if list_all (λ b. b == 39) marks then Some (46 + name + 12 * length marks)
-    else if list_all (λ b. b == 44) marks && nat_le (12 * length marks) (46 + name) then Some (46 + name - 12 * length marks)
+    else if list_all (λ b. b == 44) marks && nat_le (12 * length marks) (46 + name)
+    then Some (46 + name - 12 * length marks)
     else None
 
 unfoldable pub page_key : List ℕ → Option ℕ
@@ -65,17 +72,18 @@ page_ending text = do
 
 -- ---- brackets: of so many in the time of so many each is so much shorter
 
-abbrev pub ratio_of : List (List ℕ) → Option Frac
-ratio_of (first ∷ second ∷ []) = do
-  actual ← number_of 960 first
-  normal ← number_of 960 second
+abbrev pub bracket_ratio : List (List ℕ) → Option Frac
+bracket_ratio (first ∷ second ∷ []) = do
+  actual ← number_of MOST_UNITS first
+  normal ← number_of MOST_UNITS second
   Some (frac normal actual)
-ratio_of _ = None
+bracket_ratio _ = None
 
 -- ---- words
 
--- The word before the numbers of a bracket, these numbers, the word before grace chords, the braces of both, a silent grace note, a rest of
--- a whole bar, a rest, a chord of one key, and of one of several keys, between angles, the first key, one in the middle, and the last
+-- The word before the numbers of a bracket, these numbers, the word before grace chords, the braces of both, a silent
+-- grace note, a rest of a whole bar, a rest, a chord of one key, and of one of several keys, between angles, the
+-- first key, one in the middle, and the last
 pub data PageWord : Type 0 where
   tuplet_word : PageWord
   ratio_word : Frac → PageWord
@@ -91,15 +99,17 @@ pub data PageWord : Type 0 where
   last_key : ℕ → WordEnding → PageWord
 
 -- a key, and what stands after its pitch
-abbrev pub word_of_key : ℕ → List ℕ → Option PageWord
-word_of_key key [] = Some (middle_key key)
-word_of_key key (b ∷ text) =
+abbrev pub page_word_of_key : ℕ → List ℕ → Option PageWord
+page_word_of_key key [] = Some (middle_key key)
+page_word_of_key key (b ∷ text) =
     if b == 62 then option_map (λ e. last_key key e) (page_ending text)
     else option_map (λ e. single_key key e) (page_ending (b ∷ text))
 
-unfoldable pub pitched_word : List ℕ → Option PageWord
-pitched_word text = page_key (front is_lily_pitch_byte text) >>= λ key. word_of_key key (after_front is_lily_pitch_byte text)
+unfoldable pub page_pitched_word : List ℕ → Option PageWord
+page_pitched_word text =
+    page_key (front is_lily_pitch_byte text) >>= λ key. page_word_of_key key (after_front is_lily_pitch_byte text)
 
+-- the first byte is a digit
 abbrev pub begins_number : List ℕ → Bool
 begins_number [] = false
 begins_number (b ∷ text) = is_ascii_digit b
@@ -114,5 +124,6 @@ page_word text =
     else if starts_with nat_eq text (codes "R1*") then option_map (λ len. bar_word len) (bar_fraction (drop 3 text))
     else if begins_with 114 text then option_map (λ e. rest_word e) (page_ending (drop 1 text))
     else if begins_with 60 text then option_map (λ key. first_key key) (page_key (drop 1 text))
-    else if begins_number text then option_map (λ ratio. ratio_word ratio) (ratio_of (slice_split (λ b. b == 47) text))
-    else pitched_word text
+    else if begins_number text
+    then option_map (λ ratio. ratio_word ratio) (bracket_ratio (slice_split (λ b. b == 47) text))
+    else page_pitched_word text

@@ -1,5 +1,5 @@
-//! The law of pages as they are written and read: the page of a score is read as the spans of its voices, and each bar is as long as its
-//! signature.
+//! The law of pages as they are written and read: the page of a score is read as the spans of its voices, and each bar
+//! is as long as its signature.
 #![tactic(auto)]
 
 mod laws;

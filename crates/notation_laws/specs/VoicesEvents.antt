@@ -6,6 +6,6 @@ use Rattle.voice_events.specs.declared.event.KernEvent.{KernEvent}
 use Rattle.voice_events.specs.Events.{span_event}
 
 -- voice after voice, of the spines from this number on
-abbrev pub spine_events : ℕ → List (List Span) → List KernEvent
-spine_events spine [] = []
-spine_events spine (spans ∷ others) = map (span_event spine) spans ++ spine_events (suc spine) others
+abbrev pub voices_events : ℕ → List (List Span) → List KernEvent
+voices_events spine [] = []
+voices_events spine (spans ∷ others) = map (span_event spine) spans ++ voices_events (suc spine) others
