@@ -1,0 +1,134 @@
+// Everything by keys: what each key does while the roll has the focus, and the few keys that are good everywhere.
+
+import {linesOf} from "./corrections.js";
+
+const STEP = 48; // the least step of a note or barline is a 48th of a quarter note; with Shift it is twelve times as far
+
+export class Keys {
+  constructor(desk) {
+    Object.assign(this, desk);
+    this.roll.canvas.addEventListener("keydown", (event) => this.#take(event, this.#onRoll(event)));
+    document.addEventListener("keydown", (event) => this.#take(event, this.#everywhere(event)));
+  }
+
+  #take(event, action) {
+    if (!action || event.defaultPrevented) return;
+    event.preventDefault();
+    action();
+  }
+
+  #everywhere(event) {
+    const {editor} = this, key = event.key.toLowerCase();
+    if (!event.ctrlKey && !event.metaKey) return null;
+    if (key === "z") return () => event.shiftKey ? editor.redo() : editor.undo();
+    if (key === "y") return () => editor.redo();
+    return null;
+  }
+
+  #onRoll(event) {
+    if (event.ctrlKey || event.metaKey) return null;
+    const {editor, view} = this, far = event.shiftKey ? 12 : 1, right = {ArrowLeft: -1, ArrowRight: 1}[event.key], up = {ArrowUp: 1, ArrowDown: -1}[event.key];
+    if (event.altKey && right) return () => this.#nudge(right * far);
+    if (event.altKey && up) return () => this.#transpose(up * (event.shiftKey ? 12 : 1));
+    if (right) return () => this.#next(right);
+    if (up) return () => this.#scrolled(() => view.scroll(0, up * 3 * view.size));
+    return {
+      "[": () => this.#lengthen(-1), "]": () => this.#lengthen(1), "{": () => this.#lengthen(-12), "}": () => this.#lengthen(12),
+      ",": () => this.#place(-1 / 2), ".": () => this.#place(1 / 2), "<": () => this.#place(-4), ">": () => this.#place(4),
+      n: () => this.#add(), Delete: () => this.#drop(), Backspace: () => this.#drop(),
+      b: () => this.#barline(1), B: () => this.#barline(-1), f: () => this.commands.fit(),
+      v: () => this.#voice(1), V: () => this.#voice(-1), r: () => this.commands.rhythms(),
+      "+": () => this.#scrolled(() => view.zoom(1.25)), "-": () => this.#scrolled(() => view.zoom(0.8)),
+      z: () => this.#scrolled(() => view.zoomKeys(1.25)), Z: () => this.#scrolled(() => view.zoomKeys(0.8)),
+      PageDown: () => this.#scrolled(() => view.scroll(0.8 * view.width)), PageUp: () => this.#scrolled(() => view.scroll(-0.8 * view.width)),
+      Home: () => this.#scrolled(() => view.show(0, 0)), End: () => this.#scrolled(() => view.show(editor.piece.end, editor.piece.end)),
+      " ": () => this.commands.play(event.shiftKey ? "score" : "performance"), "?": () => this.commands.help(),
+      Escape: () => editor.selectPlace(editor.place.tick, editor.place.key),
+    }[event.key] ?? null;
+  }
+
+  #scrolled(change) {
+    change();
+    this.commands.scrolled();
+  }
+
+  // The note after the selected one, or before it; without one, the next to where notes are added.
+  #next(by) {
+    const {editor} = this, {sorted} = editor.piece, at = sorted.indexOf(editor.selected);
+    let next = at + by;
+    if (at < 0) {
+      const after = sorted.findIndex((note) => note.onset >= editor.place.tick);
+      next = by > 0 ? after : (after < 0 ? sorted.length : after) - 1;
+    }
+    if (sorted[next]) this.#show(sorted[next]);
+  }
+
+  #show(note) {
+    this.editor.selectNote(note);
+    this.#scrolled(() => this.view.show(note.onset, note.end, note.key));
+  }
+
+  #barline(by) {
+    const {editor} = this, from = editor.barline ?? (by > 0 ? editor.bar : editor.bar + 1), bar = from + by;
+    if (bar < 0 || bar > editor.piece.bars) return;
+    editor.selectBarline(bar);
+    this.#scrolled(() => this.view.show(editor.piece.starts[bar], editor.piece.starts[bar]));
+  }
+
+  #voice(by) {
+    const {channels} = this.editor.piece, at = channels.indexOf(this.editor.channel) + by + channels.length;
+    this.editor.selectVoice(channels[at % channels.length]);
+  }
+
+  #place(quarters) {
+    const {editor} = this, tick = Math.min(Math.max(editor.place.tick + quarters * editor.piece.division, 0), editor.piece.end);
+    editor.selectPlace(tick, editor.place.key);
+    this.#scrolled(() => this.view.show(tick, tick, editor.place.key));
+  }
+
+  #ticks(steps) {
+    return Math.trunc(steps * Math.max(this.editor.piece.division / STEP, 1));
+  }
+
+  #nudge(steps) {
+    const {editor} = this, note = editor.selected, ticks = this.#ticks(steps);
+    if (note) this.#change(note, {onset: Math.max(note.onset + ticks, 0), end: Math.max(note.onset + ticks, 0) + note.end - note.onset});
+    else if (editor.barline) editor.step([`barline ${editor.barline} ${editor.piece.starts[editor.barline] + ticks}`], this.#point(editor.piece.starts[editor.barline]));
+  }
+
+  #transpose(by) {
+    const note = this.editor.selected;
+    if (note && note.key + by >= 0 && note.key + by < 128) this.#change(note, {key: note.key + by});
+  }
+
+  #lengthen(steps) {
+    const note = this.editor.selected;
+    if (note) this.#change(note, {end: Math.max(note.end + this.#ticks(steps), note.onset)});
+  }
+
+  // Gives a note another place, key or end, and keeps it selected.
+  async #change(note, changes) {
+    const to = {channel: note.channel, key: note.key, onset: note.onset, end: note.end, ...changes};
+    if (await this.editor.step(linesOf(note, to), this.#point(note.onset, note.key))) this.#find(to);
+  }
+
+  async #add() {
+    const {editor} = this, {tick, key} = editor.place, to = {channel: editor.channel, key, onset: tick, end: tick + editor.piece.division};
+    if (await editor.step([`add ${to.channel} ${key} ${tick} ${to.end}`], this.#point(tick, key))) this.#find(to);
+  }
+
+  async #drop() {
+    const {editor} = this, note = editor.selected;
+    if (note && await editor.step([`drop ${note.channel} ${note.key} ${note.onset}`], this.#point(note.onset, note.key))) editor.selectPlace(note.onset, note.key);
+  }
+
+  #find({channel, key, onset}) {
+    const note = this.editor.piece.notes.get(`${channel} ${key} ${onset}`);
+    if (note) this.#show(note);
+  }
+
+  // The point of the roll at which a refusal is told.
+  #point(tick, key = null) {
+    return {x: this.view.x(tick), y: key === null ? 40 : this.view.y(key)};
+  }
+}
