@@ -48,7 +48,7 @@ class Editor:
         """All that the page shows of the piece."""
         with self._alone():
             notes = [[*note, *place] for note, place in self._places.items()]
-            return {**self._heads(), "first": 0, "texts": self._score.texts, "gone": [], "notes": notes}
+            return {**self._heads(), **self._bars(), "first": 0, "texts": self._score.texts, "gone": [], "notes": notes}
 
     def edit(self, version, lines):
         """Makes the lines of a step, and tells what is changed."""
@@ -141,7 +141,7 @@ class Editor:
 
     def _open(self, steps):
         """Opens the files with these steps, and reads everything."""
-        self._steps, self._undone, self._score, self._places = steps, [], Score(), {}
+        self._steps, self._undone, self._score, self._places, self._chords = steps, [], Score(), {}, {}
         self._reopen()
         self._performance = self._performed()
         self._changed([])
@@ -209,9 +209,23 @@ class Editor:
         first, last = min(first for first, _ in spans), max(last for _, last in spans)
         first, stop = self._score.take(self._session.score(), performance.signatures, first, last)
         self.version += 1
+        for line in lines:
+            self._forget(line)
         gone = [note for line in lines for note in self._gone(line)]
         texts = self._score.texts[first:stop]
-        return {**self._heads(), "built": built, "first": first, "texts": texts, "gone": gone, "notes": self._placed(first, stop)}
+        bars = {} if all(line.split(" ")[0] in ("add", "drop", "move", "pin", "unpin") for line in lines) else self._bars()
+        return {**self._heads(), **bars, "built": built, "first": first, "texts": texts, "gone": gone, "notes": self._placed(first, stop)}
+
+    def _forget(self, line):
+        """The chords of a voice are found again where a line speaks of its notes."""
+        kind, *words = line.split(" ")
+        if kind in ("add", "drop", "move"):
+            self._chords.pop(int(words[0]), None)
+
+    def _chords_of(self, channel):
+        if channel not in self._chords:
+            self._chords[channel] = chords(self._performance.voices[channel], self._clock, self._window)
+        return self._chords[channel]
 
     def _gone(self, line):
         """The notes of which a line speaks that are not there now."""
@@ -226,10 +240,10 @@ class Editor:
         """The notes that are written in some bars, from first to stop, where their place is another one than before: channel, key, onset and
         end, and begin, end, kind and tie of the chord in the score."""
         placed = []
-        for column, (channel, voice) in enumerate(sorted(self._performance.voices.items())):
+        for column, channel in enumerate(sorted(self._performance.voices)):
             begin = self._score.before(first, column)
             written = [chord for bar in self._score.chords[first:stop] for chord in bar[column]]
-            played = chords(voice, self._clock, self._window)[begin : begin + len(written)]
+            played = self._chords_of(channel)[begin : begin + len(written)]
             for chord, notes in zip(written, played):
                 for onset, key, end in notes:
                     note, place = (channel, key, onset), (end, *chord)
@@ -244,6 +258,9 @@ class Editor:
         return {
             "name": os.path.basename(self.midi), "grammar": os.path.basename(self.grammar), "version": self.version, "cost": self._cost,
             "steps": [len(self._steps), len(self._undone)], "division": performance.division, "channels": sorted(performance.voices),
-            "starts": performance.starts, "signatures": performance.signatures, "tempos": performance.tempos, "keys": performance.keys,
-            "pins": [[*place, shape] for place, shape in performance.pins.items()],
+            "tempos": performance.tempos, "pins": [[*place, shape] for place, shape in performance.pins.items()],
         }
+
+    def _bars(self):
+        """The ticks of all barlines, and the signatures of all bars."""
+        return {"starts": self._performance.starts, "signatures": self._performance.signatures}

@@ -169,7 +169,7 @@ class Request(http.server.BaseHTTPRequestHandler):
         except Stale:
             status, (kind, body) = 409, self._json({"wrong": words.STALE})
         except Dropped:
-            status, (kind, body) = 409, self._json({"dropped": True})
+            status, (kind, body) = 200, self._json({"dropped": True})
         except Lacking:
             status, (kind, body) = 501, self._json({"wrong": words.LACKING})
         except Unengraved:

@@ -74,10 +74,11 @@ function describe() {
 }
 
 function noteInWords(note) {
-  const {piece} = editor, late = Math.round((note.onset - note.from) / piece.division * 100), kind = {note: "a note", short: "a short note", grace: "a grace note"}[note.kind];
-  const apart = late === 0 ? "right there" : `${Math.abs(late)} hundredths of a quarter ${late > 0 ? "after" : "before"} it`;
-  return `${keyName(note.key)}, voice ${note.channel}: written as ${kind}${note.tied ? ", tied," : ""} at ${placeName(note.begin)}`
-    + (note.kind === "grace" ? "" : ` to ${placeName(note.finish)}`) + `; played ${apart}, ticks ${note.onset} to ${note.end}.`;
+  const {piece} = editor, late = (note.onset - note.from) / piece.division, kind = {note: "a note", short: "a short note", grace: "a grace note"}[note.kind];
+  const apart = Math.abs(late) < 0.005 ? "right there" : `${Math.abs(late).toFixed(2)} of a quarter ${late > 0 ? "late" : "early"}`;
+  const until = note.kind === "grace" ? "" : ` to ${placeName(note.finish)}`;
+  return `${keyName(note.key)}, voice ${note.channel}: ${kind} at ${placeName(note.begin)}${until}${note.tied ? ", tied" : ""}. `
+    + `Played ${apart}, at ticks ${note.onset} to ${note.end}.`;
 }
 
 // A place in the score in words, counted as musicians do: bar 1, beat 1.

@@ -1,19 +1,37 @@
 // The piano roll: what was played and what is written of it, drawn on a canvas, and only what is seen.
 //
-// A note as it was played is a filled bar, with the number of its voice where there is room. Around it stands a frame where it is written. So
-// what is early or late shows by the distance, and by an arrow from where it was played to where it is written. A dot over the frame is a
-// short note, a stroke and a `g` a grace note, and an arc below it a note that is written in several values, which are tied.
+// A note as it was played is a filled bar, with the number of its voice where there is room, and a texture that tells voices apart as its
+// colour does. Around it stands a frame where it is written. So what is early or late shows by the distance, and by an arrow from where it was
+// played to where it is written. A dot over the frame is a short note, a stroke and a `g` a grace note, and an arc below it a note that is
+// written in several values, which are tied.
 
 import {GUTTER, RULER} from "./view.js";
 import {isBlack, keyName} from "./piece.js";
 
 const COLOURS = ["#0b63a5", "#b4480b", "#087a55", "#8a3c86", "#6b5b00", "#005f73", "#a31545", "#4d4d9f"];
+const TEXTURES = [[], [[0, 6, 6, 0]], [[0, 0, 6, 6]], [[3, 0, 3, 6]]]; // lines within a square of six pixels
 const INK = "#1c1c1c", PAPER = "#ffffff", SHADE = "#f1f1ee", LINE = "#8c8c86", FAINT = "#dcdcd6";
 const NEAR = 3; // pixels between played and written from which on there is an arrow
 const SMALL = 7; // pixels of a key below which marks are left out
 
 export function colourOf(piece, channel) {
   return COLOURS[piece.channels.indexOf(channel) % COLOURS.length];
+}
+
+// A fill for the notes of a voice, in its colour and texture.
+function fillOf(piece, channel, pen) {
+  const tile = new OffscreenCanvas(6, 6), brush = tile.getContext("2d");
+  brush.fillStyle = colourOf(piece, channel);
+  brush.fillRect(0, 0, 6, 6);
+  brush.strokeStyle = PAPER;
+  brush.lineWidth = 1.2;
+  for (const [left, top, right, bottom] of TEXTURES[piece.channels.indexOf(channel) % TEXTURES.length]) {
+    brush.beginPath();
+    brush.moveTo(left, top);
+    brush.lineTo(right, bottom);
+    brush.stroke();
+  }
+  return pen.createPattern(tile, "repeat");
 }
 
 export class Roll {
@@ -25,6 +43,7 @@ export class Roll {
     this.cursor = null; // the tick that is heard
     this.pen = canvas.getContext("2d");
     this.drawn = []; // what to call after the next drawing
+    this.fills = new Map(editor.piece.channels.map((channel) => [channel, fillOf(editor.piece, channel, this.pen)]));
     new ResizeObserver(() => this.#resize()).observe(canvas);
   }
 
@@ -106,7 +125,8 @@ export class Roll {
 
   #played(seen) {
     const {view, pen} = this, inset = view.size >= SMALL ? Math.max(2, Math.round(view.size / 4)) : 0;
-    this.#byVoice(seen, (notes) => {
+    this.#byVoice(seen, (notes, channel) => {
+      pen.fillStyle = this.fills.get(channel);
       pen.beginPath();
       for (const note of notes) {
         pen.rect(view.x(note.onset), view.y(note.key) + inset, Math.max((note.end - note.onset) * view.scale, 1.5), view.size - 2 * inset);
@@ -120,13 +140,13 @@ export class Roll {
     pen.lineWidth = 1;
     for (const channel of piece.channels) {
       pen.fillStyle = pen.strokeStyle = colourOf(piece, channel);
-      draw(seen.filter((note) => note.channel === channel));
+      draw(seen.filter((note) => note.channel === channel), channel);
     }
   }
 
   #marks(seen) {
     const {view, pen} = this;
-    pen.font = `${Math.min(view.size - 3, 11)}px sans-serif`;
+    pen.font = `bold ${Math.max(Math.min(view.size - 4, 11), 8)}px sans-serif`;
     pen.textBaseline = "middle";
     for (const note of seen) {
       const x = view.x(note.from), width = (note.to - note.from) * view.scale, y = view.y(note.key);
@@ -135,14 +155,19 @@ export class Roll {
       else this.#arrow(note);
       if (note.kind === "short") this.#dot(x + width / 2, y - 3);
       if (note.tied && width > 6) this.#arc(x, x + width, y + view.size);
-      if ((note.end - note.onset) * view.scale > 12 && view.size > 9) {
-        pen.fillStyle = PAPER;
-        pen.fillText(note.channel, view.x(note.onset) + 3, y + view.size / 2 + 0.5);
-      }
+      if ((note.end - note.onset) * view.scale > 24 && view.size > 10) this.#number(note);
     }
   }
 
-  // From where a note was played to where it is written.
+  #number(note) {
+    const {view, pen} = this, x = view.x(note.onset) + 8, y = view.y(note.key) + 2;
+    pen.fillStyle = colourOf(this.editor.piece, note.channel);
+    pen.fillRect(x, y, 3 + pen.measureText(note.channel).width, view.size - 4);
+    pen.fillStyle = PAPER;
+    pen.fillText(note.channel, x + 1, y + view.size / 2 - 1.5);
+  }
+
+  // From where a note was played to where it is written, dark with a light edge.
   #arrow(note) {
     const {view, pen} = this, from = view.x(note.onset), to = view.x(note.from), y = view.y(note.key) + view.size / 2;
     if (Math.abs(from - to) < NEAR) return;
@@ -153,7 +178,12 @@ export class Roll {
     pen.moveTo(to + back, y - 3);
     pen.lineTo(to, y);
     pen.lineTo(to + back, y + 3);
-    pen.stroke();
+    for (const [width, colour] of [[3.5, PAPER], [1.3, INK]]) {
+      pen.lineWidth = width;
+      pen.strokeStyle = colour;
+      pen.stroke();
+    }
+    pen.lineWidth = 1;
   }
 
   #grace(note) {

@@ -32,7 +32,7 @@ export async function piece() {
 // A page of some bars, as SVG.
 export async function page(first, last, width) {
   const response = await sent("engrave", {first, last, width});
-  return response.ok ? response.blob() : answerOf(response);
+  return response.headers.get("Content-Type") === "image/svg+xml" ? response.blob() : answerOf(response);
 }
 
 // A form of the piece, to be saved.

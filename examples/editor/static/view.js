@@ -6,6 +6,7 @@ export const GUTTER = 40; // pixels left of the notes: names of keys
 const WIDEST = 4; // pixels of a tick at most
 const TALLEST = 28; // pixels of a key at most
 const LOWEST = 3;
+const NARROWEST = 4; // pixels of a bar, so that not all of a long piece is drawn at once
 
 export class View {
   constructor(piece) {
@@ -87,7 +88,7 @@ export class View {
 
   #stay() {
     const end = this.piece.end, room = this.width - GUTTER, rows = (this.height - RULER) / this.size;
-    this.scale = Math.min(Math.max(this.scale, 0.9 * room / end), WIDEST);
+    this.scale = Math.min(Math.max(this.scale, 0.9 * room / end, NARROWEST * this.piece.bars / end), WIDEST);
     this.left = Math.min(Math.max(this.left, -30 / this.scale), Math.max(end - 0.8 * room / this.scale, -30 / this.scale));
     this.top = Math.min(Math.max(this.top, Math.min(rows, 128)), 128);
   }

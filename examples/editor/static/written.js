@@ -3,6 +3,7 @@
 import {Dropped, Wrong, page} from "./server.js";
 
 const CALM = 250; // milliseconds without a change before a page is asked for
+const SCROLLED = 60; // milliseconds without scrolling before **kern is shown
 const MOST = 12; // bars of a page
 const MILLIMETRES = 0.19; // of a page for each pixel of its width: so large is the music
 
@@ -24,7 +25,8 @@ export class Written {
     const [first, last] = this.#bars(), place = `${first} ${last} ${this.box.clientWidth} ${this.choice.value}`;
     if (place === this.shown && !anew) return;
     this.shown = place;
-    if (this.choice.value === "kern") this.#kern(first, last);
+    clearTimeout(this.timer);
+    if (this.choice.value === "kern") this.timer = setTimeout(() => this.#kern(first, last), anew ? 0 : SCROLLED);
     else this.#wait(first, last);
   }
 
@@ -36,9 +38,11 @@ export class Written {
   }
 
   #wait(first, last) {
-    clearTimeout(this.timer);
-    this.box.setAttribute("aria-busy", "true");
-    this.timer = setTimeout(() => this.#engrave(first, last), CALM);
+    this.timer = setTimeout(() => {
+      if (!this.box.contains(this.image)) this.#kern(first, last, "The page is being engraved …");
+      this.box.setAttribute("aria-busy", "true");
+      this.#engrave(first, last);
+    }, CALM);
   }
 
   async #engrave(first, last) {
@@ -64,7 +68,6 @@ export class Written {
   }
 
   #kern(first, last, why = "") {
-    clearTimeout(this.timer);
     const {piece} = this.editor;
     this.columns.replaceChildren(...piece.texts.slice(first, last + 1).map((text, at) => this.#bar(first + at, text)));
     this.columns.dataset.version = piece.version;
