@@ -10,7 +10,7 @@ from forms import forms
 
 LONGEST = 60  # seconds that LilyPond may take for a page
 PAGES = 200  # after so many pages it is started anew
-WORDS = ["lilypond", "--svg", "-dno-point-and-click", "--loglevel=ERROR"]
+WORDS = ["nice", "lilypond", "--svg", "-dno-point-and-click", "--loglevel=ERROR"]
 # a file that says that LilyPond is ready, waits for a word, and then is the page that is wanted; without a word it is the end
 WAITING = """#(begin (display "ready\\n") (force-output) (if (eof-object? (read)) (primitive-exit 0)))
 \\include "wanted.ly"
@@ -64,7 +64,7 @@ class LilyPond:
     """
 
     def __init__(self):
-        self._folder = tempfile.TemporaryDirectory()
+        self._folder = tempfile.mkdtemp()
         self._process, self._next = None, 0
         for number in range(PAGES + 1):
             self._write(f"{number}.ly", WAITING)
@@ -95,12 +95,12 @@ class LilyPond:
         files = [f"{number}.ly" for number in range(PAGES + 1)]
         quiet = subprocess.DEVNULL
         self._process = subprocess.Popen(
-            [*WORDS, *files], cwd=self._folder.name, stdin=subprocess.PIPE, stdout=subprocess.PIPE, stderr=quiet)
+            [*WORDS, *files], cwd=self._folder, stdin=subprocess.PIPE, stdout=subprocess.PIPE, stderr=quiet)
         self._next = 0
         self._process.stdout.readline()
 
     def _path(self, name):
-        return os.path.join(self._folder.name, name)
+        return os.path.join(self._folder, name)
 
     def _write(self, name, text):
         with open(self._path(name), "w", encoding="utf-8") as file:
@@ -110,7 +110,7 @@ class LilyPond:
         if self._process:
             self._process.kill()
             self._process.communicate()
-        self._folder.cleanup()
+        shutil.rmtree(self._folder, ignore_errors=True)
 
 
 class Engraver:

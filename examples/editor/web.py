@@ -3,6 +3,7 @@
 A request is answered where it names this address as its host, comes from no other origin, has the secret of this server in its path, and is
 not too large. No part of a request is a path of a file.
 """
+import contextlib
 import http.server
 import json
 import pathlib
@@ -214,6 +215,7 @@ class Request(http.server.BaseHTTPRequestHandler):
         if not re.fullmatch("[0-9]{1,9}", length):
             raise Wrong(411, "A request has its length.")
         if int(length) > most:
+            self._discard()
             raise Wrong(413, f"A request has at most {most} bytes.")
         try:
             request = json.loads(self.rfile.read(int(length)))
@@ -222,6 +224,14 @@ class Request(http.server.BaseHTTPRequestHandler):
         if not isinstance(request, dict):
             raise Wrong(400, "A request is an object.")
         return request
+
+    def _discard(self):
+        """Takes what comes at once of a request that is too long, as a browser reads no answer before it is sent."""
+        self.connection.settimeout(1)
+        with contextlib.suppress(OSError):
+            for _ in range(LONGEST_SCRIPT >> 14):
+                if not self.rfile.read1(1 << 16):
+                    break
 
     @staticmethod
     def _json(value):

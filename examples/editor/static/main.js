@@ -166,4 +166,5 @@ $("roll").addEventListener("wheel", wheel, {passive: false});
 $("roll").addEventListener("keydown", ({key}) => { if (key === "Escape") corrections.cancel(); });
 showHeads();
 $("roll").focus();
+window.desk = {editor, view, roll, sound}; // for the console, and for tests
 document.documentElement.dataset.ready = "true";

@@ -19,6 +19,7 @@ export class Rhythms {
   #follow(anew = false) {
     const {channel, bar} = this.editor, place = `${channel} ${bar}`;
     if (place === this.shown && !anew) return;
+    if (place !== this.shown) this.list.replaceChildren();
     this.shown = place;
     this.title.textContent = `Rhythms of bar ${bar + 1}, voice ${channel}`;
     clearTimeout(this.timer);
