@@ -92,15 +92,20 @@ class Editor:
             return self._step(found) if found else None
 
     def alternatives(self, channel, bar):
-        """The rhythms that a bar of a voice can have, of those that sound alike the first: its cost, its shape, and how the bar is written."""
+        """The rhythms that a bar of a voice can have, of those that sound alike the first: its cost, its shape, and how the bar is written.
+        A step need not wait until all are tried: it makes this call `Stale`."""
         with self._alone():
-            found, known = [], []
-            for other in self._session.alternatives(channel, bar, ALTERNATIVES):
-                written, sounds = self._pinned(channel, bar, other.shape)
-                if sounds not in known:
-                    known.append(sounds)
-                    found.append({"cost": other.cost, "shape": other.shape, "written": written})
-            return found
+            version, others = self.version, self._session.alternatives(channel, bar, ALTERNATIVES)
+            column, signatures = sorted(self._performance.voices).index(channel), list(self._performance.signatures)
+        found, known = [], []
+        for other in others:
+            with self._alone(version):
+                text = self._pinned(channel, bar, other.shape)
+            tokens, sounds = alike(text, signatures, bar)
+            if sounds not in known:
+                known.append(sounds)
+                found.append({"cost": other.cost, "shape": other.shape, "written": " ".join(tokens[column])})
+        return found
 
     def open(self, version, lines):
         """Opens the two files anew, with the lines of a saved script."""
@@ -195,12 +200,11 @@ class Editor:
         return cost
 
     def _pinned(self, channel, bar, shape):
-        """How a bar would be written with a pin of this shape, and what would sound."""
+        """The score with a pin of this shape."""
         self._session.pin(channel, bar, shape)
         text = self._session.score()
         self._session.undo()
-        tokens, sounds = alike(text, self._performance.signatures, bar)
-        return " ".join(tokens[sorted(self._performance.voices).index(channel)]), sounds
+        return text
 
     def _changed(self, lines, built=0):
         """Reads the score after the lines of a step, made or taken back, and tells what the page has to show anew."""

@@ -9,6 +9,7 @@ import json
 import pathlib
 import re
 import secrets
+import sys
 import threading
 
 import rhythm
@@ -89,7 +90,10 @@ class Answers:
         return self._editor.follow() or {"same": True}
 
     def alternatives(self, request):
-        return self._editor.alternatives(number(request, "channel", 0, 15), number(request, "bar", 0, 4096))
+        try:
+            return self._editor.alternatives(number(request, "channel", 0, 15), number(request, "bar", 0, 4096))
+        except Stale:
+            raise Dropped from None
 
     def open(self, request):
         self._editor.open(number(request, "version"), [line for line in lines_of(request) if line])
@@ -128,6 +132,11 @@ class Server(http.server.ThreadingHTTPServer):
     def server_close(self):
         super().server_close()
         self.answers.close()
+
+    def handle_error(self, *words):
+        """What no request should come to is printed; a browser that has gone is no fault."""
+        if not isinstance(sys.exc_info()[1], (ConnectionError, TimeoutError)):
+            super().handle_error(*words)
 
     def process_request_thread(self, request, client_address):
         if not self.room.acquire(blocking=False):

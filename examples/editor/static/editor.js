@@ -118,7 +118,6 @@ export class Editor extends EventTarget {
 
   async #failed(met, at) {
     if (!(met instanceof Refused || met instanceof Wrong)) throw met;
-    this.#notify("changed"); // what was dragged springs back
     this.tell(met.message, at, true);
     if (met instanceof Wrong) {
       this.piece = new Piece(await piece().catch(() => { throw met; }));

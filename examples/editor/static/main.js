@@ -106,7 +106,10 @@ function tell({text, at, refused}) {
   $("beside").textContent = text;
   $("beside").hidden = false;
   $("beside").style.left = `${Math.min(Math.max(at.x, 10), view.width - 260)}px`;
-  $("beside").style.top = `${Math.min(Math.max(at.y + 14, 10), view.height - 60)}px`;
+  // above the point in the lower half of the roll, and else below it
+  const below = at.y < view.height / 2;
+  $("beside").style.top = below ? `${at.y + 20}px` : "auto";
+  $("beside").style.bottom = below ? "auto" : `${view.height - at.y + 20}px`;
 }
 
 function hush() {

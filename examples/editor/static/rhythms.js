@@ -1,6 +1,6 @@
 // The other rhythms of a bar of a voice: what each costs and how it is written, to be pinned by one click.
 
-import {Refused, Wrong, ask} from "./server.js";
+import {Dropped, Refused, Wrong, ask} from "./server.js";
 
 export class Rhythms {
   constructor(editor, list, title) {
@@ -34,6 +34,7 @@ export class Rhythms {
       const found = await ask("alternatives", {channel, bar});
       if (this.shown === place) this.#show(found, channel, bar);
     } catch (met) {
+      if (met instanceof Dropped) return; // a step was made, after which they are asked for again
       if (!(met instanceof Refused || met instanceof Wrong)) throw met;
       this.list.replaceChildren(met.message);
     }

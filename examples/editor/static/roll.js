@@ -1,6 +1,6 @@
 // The piano roll: what was played and what is written of it, drawn on a canvas, and only what is seen.
 //
-// A note as it was played is a filled bar, with the number of its voice where there is room, and a texture that tells voices apart as its
+// A note as it was played is a filled bar, with the number of its voice where there are several and there is room, and a texture that tells voices apart as its
 // colour does. Around it stands a frame where it is written. So what is early or late shows by the distance, and by an arrow from where it was
 // played to where it is written. A dot over the frame is a short note, a stroke and a `g` a grace note, and an arc below it a note that is
 // written in several values, which are tied.
@@ -145,7 +145,7 @@ export class Roll {
   }
 
   #marks(seen) {
-    const {view, pen} = this;
+    const {view, pen} = this, several = this.editor.piece.channels.length > 1;
     pen.font = `bold ${Math.max(Math.min(view.size - 4, 11), 8)}px sans-serif`;
     pen.textBaseline = "middle";
     for (const note of seen) {
@@ -155,7 +155,7 @@ export class Roll {
       else this.#arrow(note);
       if (note.kind === "short") this.#dot(x + width / 2, y - 3);
       if (note.tied && width > 6) this.#arc(x, x + width, y + view.size);
-      if ((note.end - note.onset) * view.scale > 24 && view.size > 10) this.#number(note);
+      if (several && (note.end - note.onset) * view.scale > 24 && view.size > 9) this.#number(note);
     }
   }
 
@@ -164,7 +164,7 @@ export class Roll {
     pen.fillStyle = colourOf(this.editor.piece, note.channel);
     pen.fillRect(x, y, 3 + pen.measureText(note.channel).width, view.size - 4);
     pen.fillStyle = PAPER;
-    pen.fillText(note.channel, x + 1, y + view.size / 2 - 1.5);
+    pen.fillText(note.channel, x + 1.5, view.y(note.key) + view.size / 2 + 0.5);
   }
 
   // From where a note was played to where it is written, dark with a light edge.

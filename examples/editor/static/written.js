@@ -15,18 +15,19 @@ export class Written {
     this.columns.className = "columns";
     choice.value = editor.lilypond ? "page" : "kern";
     choice.disabled = !editor.lilypond;
-    choice.addEventListener("change", () => this.show(true));
-    editor.addEventListener("changed", () => this.show(true));
+    choice.addEventListener("change", () => this.show());
+    editor.addEventListener("changed", () => this.show());
     new ResizeObserver(() => this.show()).observe(box);
   }
 
-  // Shows the bars that are seen; anew where the score is another one.
-  show(anew = false) {
-    const [first, last] = this.#bars(), place = `${first} ${last} ${this.box.clientWidth} ${this.choice.value}`;
-    if (place === this.shown && !anew) return;
-    this.shown = place;
+  // Shows the bars that are seen, where they or the score are other ones than before.
+  show() {
+    const [first, last] = this.#bars(), {version} = this.editor.piece, wait = version === this.version ? SCROLLED : 0;
+    const place = `${version} ${first} ${last} ${this.box.clientWidth} ${this.choice.value}`;
+    if (place === this.shown) return;
+    Object.assign(this, {shown: place, version});
     clearTimeout(this.timer);
-    if (this.choice.value === "kern") this.timer = setTimeout(() => this.#kern(first, last), anew ? 0 : SCROLLED);
+    if (this.choice.value === "kern") this.timer = setTimeout(() => this.#kern(first, last), wait);
     else this.#wait(first, last);
   }
 
