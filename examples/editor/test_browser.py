@@ -2,14 +2,12 @@
 """Tests of the editor in a browser without a window, Chromium, with the program in bin/.
 
     examples/editor/test_browser.py
-    examples/editor/test_browser.py --pictures    makes the pictures of docs/EDITOR.md
-    examples/editor/test_browser.py --times       measures a step and scrolling on pieces of 1,000 and of 4,096 bars
 
 On Debian: apt-get install chromium chromium-driver python3-selenium. Where they are lacking, that is said and nothing is tried.
 """
 import os
 import pathlib
-import random
+import shutil
 import subprocess
 import sys
 import tempfile
@@ -18,12 +16,18 @@ import unittest
 
 try:
     from selenium import webdriver
+    from selenium.webdriver.chrome.service import Service
     from selenium.webdriver.common.action_chains import ActionChains
     from selenium.webdriver.common.by import By
     from selenium.webdriver.common.keys import Keys
     from selenium.webdriver.support.ui import Select
 except ImportError:
-    sys.exit("test_browser.py: there is no selenium for this Python, so no browser was tried. On Debian: chromium, chromium-driver, python3-selenium.")
+    webdriver = None
+BROWSER, DRIVER = shutil.which("chromium"), shutil.which("chromedriver")
+if not (webdriver and BROWSER and DRIVER):
+    print("test_browser.py: there is no Chromium with its driver and Selenium here, so the editor was not tried in a browser.")
+    print("On Debian they are chromium, chromium-driver and python3-selenium.")
+    sys.exit(0)
 
 HERE = pathlib.Path(__file__).resolve().parent
 TOP = HERE.parent.parent
@@ -63,7 +67,8 @@ class Window:
             given.add_argument(option)
         given.add_experimental_option("prefs", {"download.default_directory": self.kept.name})
         given.set_capability("goog:loggingPrefs", {"browser": "ALL"})
-        self.driver = webdriver.Chrome(options=given)
+        given.binary_location = BROWSER
+        self.driver = webdriver.Chrome(service=Service(DRIVER), options=given)
         screen = {"width": size[0], "height": size[1], "deviceScaleFactor": 1, "mobile": False}
         self.driver.execute_cdp_cmd("Emulation.setDeviceMetricsOverride", screen)
         self.driver.execute_cdp_cmd("Page.setDownloadBehavior", {"behavior": "allow", "downloadPath": self.kept.name})

@@ -55,6 +55,7 @@ def largest(chance):
 
 def step(window, by):
     """Milliseconds of one step: a note is drawn somewhere."""
+    time.sleep(0.7)
     window.ask("performance.clearMarks()")
     pointer = ActionChains(window.driver, duration=20).move_to_element_with_offset(window.roll, by * 30 - 350, by * 7 - 90)
     window.does(pointer.click_and_hold().move_by_offset(40, 0).release().perform)

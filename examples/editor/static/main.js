@@ -37,8 +37,9 @@ new Keys({editor, view, roll, commands});
 
 editor.addEventListener("changed", () => {
   view.piece = editor.piece;
+  roll.draw();
+  performance.mark("drawn");
   showHeads();
-  roll.refresh(() => performance.mark("drawn"));
 });
 editor.addEventListener("selected", () => {
   describe();

@@ -42,19 +42,13 @@ export class Roll {
     this.draft = null; // a note or a barline while it is dragged: {note} with `hidden`, the id of the one it stands for, or {bar, tick}
     this.cursor = null; // the tick that is heard
     this.pen = canvas.getContext("2d");
-    this.drawn = []; // what to call after the next drawing
     this.fills = new Map(editor.piece.channels.map((channel) => [channel, fillOf(editor.piece, channel, this.pen)]));
     new ResizeObserver(() => this.#resize()).observe(canvas);
   }
 
   // Draws anew before the screen is next shown, once however often it is asked for.
-  refresh(then = null) {
-    if (then) this.drawn.push(then);
-    this.asked ??= requestAnimationFrame(() => {
-      this.asked = null;
-      this.#draw();
-      this.drawn.splice(0).forEach((call) => call());
-    });
+  refresh() {
+    this.asked ??= requestAnimationFrame(() => this.draw());
   }
 
   #resize() {
@@ -68,8 +62,10 @@ export class Roll {
     this.refresh();
   }
 
-  #draw() {
+  draw() {
     const {view, pen} = this;
+    cancelAnimationFrame(this.asked);
+    this.asked = null;
     pen.fillStyle = PAPER;
     pen.fillRect(0, 0, view.width, view.height);
     this.#keys();

@@ -23,7 +23,7 @@ export class View {
     const keys = this.piece.sorted.map((note) => note.key);
     const low = keys.reduce((one, other) => Math.min(one, other), 127), high = keys.reduce((one, other) => Math.max(one, other), 0);
     const end = this.piece.starts[Math.min(bars, this.piece.bars)];
-    this.size = Math.min(Math.max((this.height - RULER) / (high - low + 5), 6), 18);
+    this.size = Math.min(Math.max((this.height - RULER) / (high - low + 5), 7), 18);
     this.scale = (this.width - GUTTER) / (end * 1.02);
     this.left = -0.01 * end;
     this.top = (high + low) / 2 + (this.height - RULER) / this.size / 2 + 0.5;

@@ -31,11 +31,11 @@ export class Written {
     else this.#wait(first, last);
   }
 
+  // The bars that are seen, the first one where at least half of it is, and no more than are a page.
   #bars() {
-    const [first, last] = this.view.bars(), {starts, bars} = this.editor.piece;
-    // a bar of which little is seen at the left is left out
-    const begin = first < bars - 1 && this.view.x(starts[first + 1]) < 120 ? first + 1 : first;
-    return [begin, Math.max(Math.min(last, begin + MOST - 1), begin)];
+    const {view} = this, {starts} = this.editor.piece, [first, last] = view.bars();
+    const begin = first < last && view.left > (starts[first] + starts[first + 1]) / 2 ? first + 1 : first;
+    return [begin, Math.min(last, begin + MOST - 1)];
   }
 
   #wait(first, last) {
