@@ -241,8 +241,8 @@ class Editor:
                     yield note
 
     def _placed(self, first, stop):
-        """The notes that are written in some bars, from first to stop, where their place is another one than before: channel, key, onset and
-        end, and begin, end, kind and tie of the chord in the score."""
+        """The notes that are written in some bars, from first to stop, where their place is another one than before: channel, key, onset
+        and end, and begin, end, kind and tie of the chord in the score."""
         placed = []
         for column, channel in enumerate(sorted(self._performance.voices)):
             begin = self._score.before(first, column)

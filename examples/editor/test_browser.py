@@ -125,7 +125,11 @@ class Window:
 
     def point(self, tick, key):
         """The place of a tick and a key, as the pointer counts on the roll: from its middle."""
-        return self.ask(f"(() => {{ const {{view}} = desk; return [view.x({tick}) - view.width / 2, view.y({key}) + view.size / 2 - view.height / 2]; }})()")
+        return self.ask(f"[desk.view.x({tick}) - desk.view.width / 2, desk.view.y({key}) + (desk.view.size - desk.view.height) / 2]")
+
+    def mark(self, tick):
+        """The place in the ruler where the barline at a tick is taken hold of."""
+        return self.ask(f"[desk.view.x({tick}) - desk.view.width / 2, 28 - desk.view.height / 2]")
 
     def drag(self, start, by):
         """Drags from a point by so many pixels."""
@@ -187,6 +191,9 @@ class InABrowser(unittest.TestCase):
         self.assertLess(int(window.lines()[-1].split()[4]), end)
         window.keys(Keys.DELETE)
         self.assertEqual(window.lines()[-1], f"drop 0 77 {onset}")
+        window.click_at(100, 72)
+        window.click("drop")
+        self.assertEqual(window.lines()[-1], "drop 0 72 0")
         self.shows_the_score(window)
 
     def test_a_refused_edit_is_told_beside_it_and_springs_back(self):
@@ -196,8 +203,7 @@ class InABrowser(unittest.TestCase):
         self.assertIn("before the last barline, which is at tick 3840", window.named("beside").text)
         self.assertEqual((window.lines(), window.ask("desk.editor.piece.texts"), window.ask("desk.roll.draft")), ([], before, None))
         self.assertTrue(window.ask("desk.editor.piece.notes.has('0 84 2880')"))
-        window.drag(window.ask("(() => { const {view} = desk; return [view.x(1920) - view.width / 2, 28 - view.height / 2]; })()"),
-                    (700 * window.ask("desk.view.scale"), 0))
+        window.drag(window.mark(1920), (700 * window.ask("desk.view.scale"), 0))
         self.assertRegex(window.named("said").text, "The grammar has no rhythm for that: from bar [12] on the voice of channel [01]")
         self.assertEqual(window.ask("desk.editor.piece.starts"), [0, 1920, 3840])
         self.shows_the_score(window)
@@ -231,7 +237,8 @@ class InABrowser(unittest.TestCase):
         bars = bars_of(score_of(*SWING, window.lines()))
         self.assertEqual(written, " ".join(token for line in bars[1].split("\n") for token in [line.split("\t")[0]] if token != "."))
         self.shows_the_score(window)
-        off = window.until(lambda: [row for row in window.driver.find_elements(By.CSS_SELECTOR, "#rhythms button") if row.text == "Take the pin off"])
+        rows = "#rhythms button"
+        off = window.until(lambda: [row for row in window.driver.find_elements(By.CSS_SELECTOR, rows) if row.text == "Take the pin off"])
         pinned = window.driver.find_element(By.CSS_SELECTOR, "#rhythms [aria-pressed=true] span").text
         self.assertEqual(pinned, "pinned, " + cost)
         window.does(off[0].click)
@@ -240,8 +247,7 @@ class InABrowser(unittest.TestCase):
 
     def test_barlines_are_dragged_fitted_and_follow_the_player(self):
         window = self.opened(*WANDERING)
-        start = window.ask("(() => { const {view} = desk; return [view.x(1920) - view.width / 2, 28 - view.height / 2]; })()")
-        window.drag(start, (-80 * window.ask("desk.view.scale"), 0))
+        window.drag(window.mark(1920), (-80 * window.ask("desk.view.scale"), 0))
         self.assertRegex(window.lines()[0], "^barline 1 18[0-9]+$")
         self.shows_the_score(window)
         cost = window.ask("desk.editor.piece.cost")
@@ -278,8 +284,9 @@ class InABrowser(unittest.TestCase):
 
     def test_other_forms_are_kept_or_it_is_said_what_they_need(self):
         window = self.opened(*VOICES)
+        forms = [("musicxml", "two-voices.musicxml", b"<?xml"), ("page", "two-voices.ly", b"\\version"), ("render", "two-voices.mid", b"MThd")]
         for edited in (False, True):
-            for form, name, beginning in [("musicxml", "two-voices.musicxml", b"<?xml"), ("page", "two-voices.ly", b"\\version"), ("render", "two-voices.mid", b"MThd")]:
+            for form, name, beginning in forms:
                 window.driver.find_element(By.CSS_SELECTOR, f"[data-form={form}]").click()
                 if edited and not takes_scripts():
                     window.until(lambda: "--script" in window.said())

@@ -103,7 +103,8 @@ class Editing(unittest.TestCase):
                 wholes.append(wholes[-1] + num / den)
             sounds = set()
             for event in rhythm.events(editor.score()):
-                sounds |= {(piece["channels"][event.column - 1], key, round(float(event.onset), 4)) for keys in (event.keys, *event.graces) for key in keys}
+                channel, onset = piece["channels"][event.column - 1], round(float(event.onset), 4)
+                sounds |= {(channel, key, onset) for keys in (event.keys, *event.graces) for key in keys}
             found = set()
             for channel, key, _onset, _end, begin, *_ in piece["notes"]:
                 bar = min(int(begin), len(wholes) - 2)
@@ -164,7 +165,8 @@ class Editing(unittest.TestCase):
         found = some_bars(page, 1, 2, 200)
         self.assertEqual(found.count(" |"), 4)
         self.assertIn("\\time 4/4\n\\tempo 4 = 96\n\\set Score.currentBarNumber = #2\nd''2 c''8 b'8 a'4 |\n\\time 3/4\nb'2. |\n}", found)
-        self.assertIn("\\clef \"bass\"\n\\key g \\major\n\\time 3/4\n\\set Score.currentBarNumber = #5\ng,2. |\n\\bar \"|.\"", some_bars(page, 4, 9, 200))
+        said = "\\clef \"bass\"\n\\key g \\major\n\\time 3/4\n\\set Score.currentBarNumber = #5\n"
+        self.assertIn(said + "g,2. |\n\\bar \"|.\"", some_bars(page, 4, 9, 200))
 
     @unittest.skipUnless(takes_scripts(), "the program has no option --script")
     def test_forms_of_an_edited_piece(self):
@@ -186,10 +188,11 @@ class Requests(unittest.TestCase):
 
     def asked(self, method, name, body=None, secret=None, **heads):
         """The status and the answer to a request; the headers of a good one stand where no others are named."""
-        heads = {"Host": self.server.host, "Content-Type": "application/json", **{it.replace("_", "-"): value for it, value in heads.items()}}
+        heads = {it.replace("_", "-"): value for it, value in heads.items()}
+        heads = {"Host": self.server.host, "Content-Type": "application/json", **heads}
         link = http.client.HTTPConnection("127.0.0.1", self.server.server_port, timeout=20)
         try:
-            link.request(method, f"/{secret or self.server.secret}/{name}", body, {it: value for it, value in heads.items() if value is not None})
+            link.request(method, f"/{secret or self.server.secret}/{name}", body, heads)
             answer = link.getresponse()
             return answer.status, answer.read()
         finally:
@@ -228,10 +231,11 @@ class Requests(unittest.TestCase):
         self.unchanged()
 
     def test_requests_that_are_no_steps_are_not_answered(self):
-        long = json.dumps({"version": self.editor.version, "lines": ["addbar" * LONGEST_STEP]})
+        version = self.editor.version
+        long = json.dumps({"version": version, "lines": ["addbar" * LONGEST_STEP]})
         for status, body, heads in [
             (400, "", {}), (400, "{", {}), (400, "[]", {}), (400, "{}", {}), (400, "[" * 60000, {}), (413, long, {}),
-            (400, json.dumps({"version": self.editor.version, "lines": []}), {}), (400, json.dumps({"version": self.editor.version, "lines": "addbar"}), {}),
+            (400, json.dumps({"version": version, "lines": []}), {}), (400, json.dumps({"version": version, "lines": "addbar"}), {}),
             (400, json.dumps({"version": True, "lines": ["addbar"]}), {}), (415, "{}", {"Content_Type": "text/plain"}),
             (411, "{}", {"Content_Length": "-1"}), (413, "{}", {"Content_Length": "999999999"}),
         ]:
@@ -239,7 +243,8 @@ class Requests(unittest.TestCase):
         self.unchanged()
 
     def test_lines_that_are_no_edits_are_refused(self):
-        for line in ("quit", "score", "", "undo", "addbar\nquit", "add 0 64", "add 0 64 0 99999999999", "drop 0 61 0", "pin 0 0 " + "2(" * 200):
+        shape = "2(" * 200
+        for line in ("quit", "score", "", "undo", "addbar\nquit", "add 0 64", "add 0 64 0 99999999999", "drop 0 61 0", f"pin 0 0 {shape}"):
             status, answer = self.step(line)
             self.assertEqual((status, [*json.loads(answer)]), (200, ["refused"]), line)
         self.assertEqual(self.step("pin 0 0 " + "2(" * 3000)[0], 500)  # the program ends at a line so long, and is opened again

@@ -65,7 +65,7 @@ def step(window, by):
 def page(window):
     """Seconds to the page of other bars."""
     before = window.ask("document.querySelector('#page img')?.src ?? ''")
-    window.driver.execute_script("desk.view.scroll(800); document.getElementById('roll').dispatchEvent(new WheelEvent('wheel', {deltaY: 1}))")
+    window.driver.execute_script("document.getElementById('roll').dispatchEvent(new WheelEvent('wheel', {deltaY: 800}))")
     start = time.time()
     window.until(lambda: window.ask("document.querySelector('#page img')?.src ?? ''") != before)
     return time.time() - start

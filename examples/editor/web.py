@@ -27,8 +27,9 @@ LONGEST_SCRIPT = 1 << 25  # bytes of one that opens a script; the program takes 
 PATIENCE = 30  # seconds for a request to come
 AT_ONCE = 32  # requests
 MOST_BARS = 64  # of a page
+SOURCES = "default-src 'none'; script-src 'self'; style-src 'self'; img-src blob:; connect-src 'self'; frame-ancestors 'none'"
 HEADS = {
-    "Content-Security-Policy": "default-src 'none'; script-src 'self'; style-src 'self'; img-src blob:; connect-src 'self'; frame-ancestors 'none'",
+    "Content-Security-Policy": SOURCES,
     "X-Content-Type-Options": "nosniff", "Referrer-Policy": "no-referrer", "Cache-Control": "no-store",
     "Cross-Origin-Resource-Policy": "same-origin",
 }
@@ -97,7 +98,7 @@ class Answers:
 
     def open(self, request):
         self._editor.open(number(request, "version"), [line for line in lines_of(request) if line])
-        return self.piece(request)
+        return {"version": self._editor.version, "cost": self._editor.piece()["cost"]}
 
     def engrave(self, request):
         first, last = number(request, "first", 0, 4096), number(request, "last", 0, 4096)

@@ -15,8 +15,8 @@ BARLINE = re.compile(r"\n=.*\n")
 
 
 class Chord(typing.NamedTuple):
-    """A chord of the score: where it begins and ends, its kind, `note`, `short` or `grace`, and whether it is tied: written in several values.
-    A grace note is at the place of its main note, and has no length."""
+    """A chord of the score: where it begins and ends, its kind, `note`, `short` or `grace`, and whether it is tied, which is written in
+    several values. A grace note is at the place of its main note, and has no length."""
     begin: float
     end: float
     kind: str
@@ -63,8 +63,8 @@ def text_of(bars, signatures):
 
 
 def chords_of(bars, signatures, first):
-    """The chords that begin in some bars, into which and from which no note is tied: for each bar and column a list. `first` is the number of
-    the first of these bars."""
+    """The chords that begin in some bars, into which and from which no note is tied: for each bar and column a list. `first` is the number
+    of the first of these bars."""
     lines = [0.0, *itertools.accumulate(float(length(signature)) for signature in signatures)]
     found = [[[] for _ in column] for bar in bars for column in [columns_of(bar)]]
     ties = [ties_of(bar) for bar in bars]
@@ -93,7 +93,8 @@ class Score:
         Gives the first of the bars that were read, and the one after the last of them."""
         before, self.texts = self.texts, bars_of(text)
         first, stop = self._read_again(before, first, last + 1)
-        self.chords[first : stop if len(before) == len(self.texts) else None] = chords_of(self.texts[first:stop], signatures[first:stop], first)
+        after = stop if len(before) == len(self.texts) else None  # all of them, where bars were added or dropped at the end
+        self.chords[first:after] = chords_of(self.texts[first:stop], signatures[first:stop], first)
         return first, stop
 
     def before(self, bar, column):

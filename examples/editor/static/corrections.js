@@ -21,6 +21,18 @@ export class Corrections {
     canvas.addEventListener("pointermove", (event) => this.#move(event));
     canvas.addEventListener("pointerup", (event) => this.#release(event));
     canvas.addEventListener("pointercancel", () => this.cancel());
+    canvas.addEventListener("keydown", ({key}) => { if (key === "Escape") this.cancel(); });
+  }
+
+  // Deletes the selected note.
+  async drop() {
+    const {editor, view} = this, note = editor.selected;
+    if (!note) {
+      editor.tell("Select a note first: click on it, or press ← or →.");
+      return;
+    }
+    const point = {x: view.x(note.onset), y: view.y(note.key)};
+    if (await editor.step([`drop ${note.channel} ${note.key} ${note.onset}`], point)) editor.selectPlace(note.onset, note.key);
   }
 
   cancel() {

@@ -5,6 +5,7 @@
 
 import {Piece} from "./piece.js";
 import {Refused, Wrong, ask, piece} from "./server.js";
+import {stepInWords} from "./words.js";
 
 export class Editor extends EventTarget {
   static async opened() {
@@ -49,8 +50,8 @@ export class Editor extends EventTarget {
   }
 
   follow() {
-    this.tell("Looking for the barlines that the player had …");
-    return this.#asked("follow", {}, null, "The barlines stay: they are right, or too little would be gained.");
+    this.tell("Looking for the barlines that the player had. You can go on meanwhile …");
+    return this.#answered("follow", {}, null, "The barlines stay: they are right, or too little would be gained.");
   }
 
   async open(lines) {
@@ -87,42 +88,46 @@ export class Editor extends EventTarget {
     this.#notify("selected");
   }
 
-  // Asks for a step when those before it are answered, takes what has changed, and says what came of it.
+  // Asks for a step when those before it are answered.
   #asked(name, request = {}, at = null, unchanged = "") {
-    const answer = this.waiting.then(async () => {
-      try {
-        return this.#took(await ask(name, {version: this.piece.version, ...request}), unchanged, at);
-      } catch (met) {
-        await this.#failed(met, at);
-        return false;
-      }
-    });
-    this.waiting = answer;
+    const answer = this.waiting.then(() => this.#answered(name, {version: this.piece.version, ...request}, at, unchanged));
+    this.waiting = answer.catch(() => {});
     return answer;
   }
 
-  #took(told, unchanged) {
+  // Takes what has changed, and says what came of it. Answers whether the step was made.
+  async #answered(name, request, at, unchanged) {
+    try {
+      await this.#took(await ask(name, request), unchanged);
+      return true;
+    } catch (met) {
+      await this.#failed(met, at);
+      return false;
+    }
+  }
+
+  async #took(told, unchanged) {
     if (told.same) {
       this.tell(unchanged);
-      return true;
+      return;
     }
-    if (told.built === undefined) this.piece = new Piece(told); else this.piece.take(told);
+    // all is asked for where it was opened anew, or another step came between
+    if (told.built !== undefined && told.version === this.piece.version + 1) this.piece.take(told);
+    else this.piece = new Piece(await piece());
     if (this.note && !this.selected) this.note = null;
     if (this.barline !== null && this.barline > this.piece.bars) this.barline = null;
     this.bar = Math.min(this.bar, this.piece.bars - 1);
     this.#notify("changed");
-    const bars = told.built === 1 ? "1 bar of a voice was" : `${told.built ?? 0} bars of voices were`;
-    this.tell(`${bars} worked out anew; the piece now costs ${told.cost.toLocaleString("en")}.`);
-    return true;
+    this.tell(stepInWords(told));
   }
 
   async #failed(met, at) {
     if (!(met instanceof Refused || met instanceof Wrong)) throw met;
     this.tell(met.message, at, true);
-    if (met instanceof Wrong) {
-      this.piece = new Piece(await piece().catch(() => { throw met; }));
-      this.#notify("changed");
-    }
+    const told = met instanceof Wrong && await piece().catch(() => null);
+    if (!told) return;
+    this.piece = new Piece(told);
+    this.#notify("changed");
   }
 
   #notify(name) {

@@ -27,21 +27,23 @@ export class Keys {
 
   #onRoll(event) {
     if (event.ctrlKey || event.metaKey) return null;
-    const {editor, view} = this, far = event.shiftKey ? 12 : 1, right = {ArrowLeft: -1, ArrowRight: 1}[event.key], up = {ArrowUp: 1, ArrowDown: -1}[event.key];
+    const {editor, view} = this, far = event.shiftKey ? 12 : 1;
+    const right = {ArrowLeft: -1, ArrowRight: 1}[event.key], up = {ArrowUp: 1, ArrowDown: -1}[event.key];
     if (event.altKey && right) return () => this.#nudge(right * far);
-    if (event.altKey && up) return () => this.#transpose(up * (event.shiftKey ? 12 : 1));
+    if (event.altKey && up) return () => this.#transpose(up * far);
     if (right) return () => this.#next(right);
     if (up) return () => this.#scrolled(() => view.scroll(0, up * 3 * view.size));
     return {
       "[": () => this.#lengthen(-1), "]": () => this.#lengthen(1), "{": () => this.#lengthen(-12), "}": () => this.#lengthen(12),
       ",": () => this.#place(-1 / 2), ".": () => this.#place(1 / 2), "<": () => this.#place(-4), ">": () => this.#place(4),
-      n: () => this.#add(), Delete: () => this.#drop(), Backspace: () => this.#drop(),
+      n: () => this.#add(), Delete: () => this.commands.drop(), Backspace: () => this.commands.drop(),
       b: () => this.#barline(1), B: () => this.#barline(-1), f: () => this.commands.fit(),
       v: () => this.#voice(1), V: () => this.#voice(-1), r: () => this.commands.rhythms(),
       "+": () => this.#scrolled(() => view.zoom(1.25)), "-": () => this.#scrolled(() => view.zoom(0.8)),
       z: () => this.#scrolled(() => view.zoomKeys(1.25)), Z: () => this.#scrolled(() => view.zoomKeys(0.8)),
-      PageDown: () => this.#scrolled(() => view.scroll(0.8 * view.width)), PageUp: () => this.#scrolled(() => view.scroll(-0.8 * view.width)),
-      Home: () => this.#scrolled(() => view.show(0, 0)), End: () => this.#scrolled(() => view.show(editor.piece.end, editor.piece.end)),
+      PageDown: () => this.#scrolled(() => view.scroll(0.8 * view.width)),
+      PageUp: () => this.#scrolled(() => view.scroll(-0.8 * view.width)),
+      Home: () => this.#scrolled(() => view.begins(0)), End: () => this.#scrolled(() => view.begins(editor.piece.end)),
       " ": () => this.commands.play(event.shiftKey ? "score" : "performance"), "?": () => this.commands.help(),
       Escape: () => editor.selectPlace(editor.place.tick, editor.place.key),
     }[event.key] ?? null;
@@ -91,9 +93,14 @@ export class Keys {
   }
 
   #nudge(steps) {
-    const {editor} = this, note = editor.selected, ticks = this.#ticks(steps);
-    if (note) this.#change(note, {onset: Math.max(note.onset + ticks, 0), end: Math.max(note.onset + ticks, 0) + note.end - note.onset});
-    else if (editor.barline) editor.step([`barline ${editor.barline} ${editor.piece.starts[editor.barline] + ticks}`], this.#point(editor.piece.starts[editor.barline]));
+    const {editor} = this, {selected, barline} = editor, ticks = this.#ticks(steps);
+    if (selected) {
+      const onset = Math.max(selected.onset + ticks, 0);
+      this.#change(selected, {onset, end: onset + selected.end - selected.onset});
+    } else if (barline) {
+      const tick = editor.piece.starts[barline];
+      editor.step([`barline ${barline} ${Math.max(tick + ticks, 0)}`], this.#point(tick));
+    }
   }
 
   #transpose(by) {
@@ -115,11 +122,6 @@ export class Keys {
   async #add() {
     const {editor} = this, {tick, key} = editor.place, to = {channel: editor.channel, key, onset: tick, end: tick + editor.piece.division};
     if (await editor.step([`add ${to.channel} ${key} ${tick} ${to.end}`], this.#point(tick, key))) this.#find(to);
-  }
-
-  async #drop() {
-    const {editor} = this, note = editor.selected;
-    if (note && await editor.step([`drop ${note.channel} ${note.key} ${note.onset}`], this.#point(note.onset, note.key))) editor.selectPlace(note.onset, note.key);
   }
 
   #find({channel, key, onset}) {

@@ -41,9 +41,11 @@ export class Rhythms {
   }
 
   #show(found, channel, bar) {
-    const pinned = this.editor.piece.shapes.get(this.shown), focused = this.list.contains(document.activeElement);
-    const rows = found.map(({cost, shape, written}) => this.#row(cost, written, shape === pinned, () => this.editor.step([`pin ${channel} ${bar} ${shape}`])));
-    if (pinned !== undefined) rows.unshift(this.#button("Take the pin off", () => this.editor.step([`unpin ${channel} ${bar}`])));
+    const {editor} = this, pinned = editor.piece.shapes.get(this.shown), focused = this.list.contains(document.activeElement);
+    const rows = found.map(({cost, shape, written}) => {
+      return this.#row(cost, written, shape === pinned, () => editor.step([`pin ${channel} ${bar} ${shape}`]));
+    });
+    if (pinned !== undefined) rows.unshift(this.#button("Take the pin off", () => editor.step([`unpin ${channel} ${bar}`])));
     this.list.replaceChildren(...rows);
     if (focused) this.list.querySelector("button")?.focus();
   }

@@ -1,9 +1,9 @@
 // The piano roll: what was played and what is written of it, drawn on a canvas, and only what is seen.
 //
-// A note as it was played is a filled bar, with the number of its voice where there are several and there is room, and a texture that tells voices apart as its
-// colour does. Around it stands a frame where it is written. So what is early or late shows by the distance, and by an arrow from where it was
-// played to where it is written. A dot over the frame is a short note, a stroke and a `g` a grace note, and an arc below it a note that is
-// written in several values, which are tied.
+// A note as it was played is a filled bar. Voices are told apart by colour, by texture, and by their number where there is room. Around the
+// bar stands a frame where the note is written. So what is early or late shows by the distance, and by an arrow from where it was played to
+// where it is written. A dot over the frame is a short note, a stroke and a `g` a grace note, and an arc below it a note that is written in
+// several values, which are tied.
 
 import {GUTTER, RULER} from "./view.js";
 import {isBlack, keyName} from "./piece.js";

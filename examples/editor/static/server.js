@@ -1,9 +1,12 @@
 // What the page asks the server, which is the same one that the page comes from.
 
-// An answer that is none: a refusal changed nothing and is told beside what was tried; what is wrong otherwise is told below the page.
+// An answer that is none: a refusal changed nothing and is told beside what was tried; what is wrong otherwise is told below the page; and
+// what was dropped is asked for anew, as the piece was changed.
 export class Refused extends Error {}
 export class Wrong extends Error {}
 export class Dropped extends Error {}
+
+const GONE = "The server of this page does not answer. Where it was ended, start it again with the script that you saved.";
 
 async function answerOf(response) {
   const answer = await response.json();
@@ -13,20 +16,21 @@ async function answerOf(response) {
   return answer;
 }
 
-async function sent(name, request) {
+async function sent(name, request = null) {
+  const headers = {"Content-Type": "application/json"};
   try {
-    return await fetch(name, {method: "POST", headers: {"Content-Type": "application/json"}, body: JSON.stringify(request)});
+    return await fetch(name, request ? {method: "POST", headers, body: JSON.stringify(request)} : {});
   } catch {
-    throw new Wrong("The server of this page does not answer. Where it was ended, start it again with the script that you saved.");
+    throw new Wrong(GONE);
   }
 }
 
-export async function ask(name, request = {}) {
+export async function ask(name, request) {
   return answerOf(await sent(name, request));
 }
 
 export async function piece() {
-  return answerOf(await fetch("piece"));
+  return answerOf(await sent("piece"));
 }
 
 // A page of some bars, as SVG.
@@ -37,6 +41,6 @@ export async function page(first, last, width) {
 
 // A form of the piece, to be saved.
 export async function form(name) {
-  const response = await fetch(name);
+  const response = await sent(name);
   return response.ok ? response.blob() : answerOf(response);
 }

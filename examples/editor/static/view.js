@@ -72,12 +72,18 @@ export class View {
     this.#stay();
   }
 
+  // Scrolls to where a tick is at the left.
+  begins(tick) {
+    this.left = tick - 10 / this.scale;
+    this.#stay();
+  }
+
   // Scrolls as little as is needed to see a span of ticks, and a key.
   show(first, last, key = null) {
-    const margin = 40 / this.scale;
+    const margin = 40 / this.scale, y = key === null ? RULER : this.y(key);
     if (first < this.left + margin) this.left = first - margin;
     else if (last > this.right - margin) this.left += Math.min(last - this.right + margin, first - margin - this.left);
-    if (key !== null && (this.y(key) < RULER || this.y(key) + this.size > this.height)) this.top = key + (this.height - RULER) / this.size / 2;
+    if (y < RULER || y + this.size > this.height) this.top = key + (this.height - RULER) / this.size / 2;
     this.#stay();
   }
 
