@@ -33,6 +33,8 @@ def marks(window):
 
 def followed(window):
     window.click("follow")
+    window.until(window.lines)
+    window.until(lambda: window.version() == 2)
     window.click_at(5600, 84)
 
 

@@ -61,30 +61,27 @@ export class Editor extends EventTarget {
   }
 
   selectNote(note) {
-    this.note = note.id;
-    this.barline = null;
-    this.channel = note.channel;
-    this.bar = Math.min(Math.floor(note.begin), this.piece.bars - 1);
-    this.place = {tick: note.end, key: note.key};
-    this.#notify("selected");
+    Object.assign(this, {note: note.id, barline: null, channel: note.channel, place: {tick: note.end, key: note.key}});
+    this.#select();
   }
 
   selectBarline(bar) {
-    this.note = null;
-    this.barline = bar;
-    this.bar = Math.min(bar, this.piece.bars - 1);
-    this.#notify("selected");
+    Object.assign(this, {note: null, barline: bar});
+    this.#select();
   }
 
   selectPlace(tick, key) {
-    this.note = this.barline = null;
-    this.bar = this.piece.barAt(tick);
-    this.place = {tick, key};
-    this.#notify("selected");
+    Object.assign(this, {note: null, barline: null, place: {tick, key}});
+    this.#select();
   }
 
   selectVoice(channel) {
     this.channel = channel;
+    this.#select();
+  }
+
+  #select() {
+    this.#settle();
     this.#notify("selected");
   }
 
@@ -114,9 +111,7 @@ export class Editor extends EventTarget {
     // all is asked for where it was opened anew, or another step came between
     if (told.built !== undefined && told.version === this.piece.version + 1) this.piece.take(told);
     else this.piece = new Piece(await piece());
-    if (this.note && !this.selected) this.note = null;
-    if (this.barline !== null && this.barline > this.piece.bars) this.barline = null;
-    this.bar = Math.min(this.bar, this.piece.bars - 1);
+    this.#settle();
     this.#notify("changed");
     this.tell(stepInWords(told));
   }
@@ -127,7 +122,16 @@ export class Editor extends EventTarget {
     const told = met instanceof Wrong && await piece().catch(() => null);
     if (!told) return;
     this.piece = new Piece(told);
+    this.#settle();
     this.#notify("changed");
+  }
+
+  // What is selected in the piece as it is now.
+  #settle() {
+    if (!this.selected) this.note = null;
+    if (this.barline > this.piece.bars) this.barline = null;
+    const bar = this.selected ? Math.floor(this.selected.begin) : this.barline ?? this.piece.barAt(this.place.tick);
+    this.bar = Math.min(bar, this.piece.bars - 1);
   }
 
   #notify(name) {
