@@ -17,9 +17,10 @@ class Stale(Exception):
 
 
 def window_of(grammar):
-    """The microseconds within which notes are a chord, as the grammar file says."""
+    """The microseconds within which notes are a chord, as the grammar file says. What is no grammar is left to the program to refuse."""
     with open(grammar, encoding="utf-8", errors="replace") as lines:
-        return next(int(words[1]) for words in map(str.split, lines) if words[:1] == ["window"])
+        found = (words[1] for words in map(str.split, lines) if words[:1] == ["window"] and len(words) == 2)
+        return int(next((word for word in found if word.isdecimal()), "0"))
 
 
 class Editor:
@@ -33,7 +34,7 @@ class Editor:
         self.midi, self.grammar, self._workers = midi, grammar, workers
         self._lock = threading.Lock()
         self._found = rhythm.notes(midi)
-        self._session = rhythm.Session(midi, grammar, workers)
+        self._session = None
         self._clock = Clock(self._found.tempos)
         self._window = window_of(grammar) * Performance(self._found).division
         self.version = 0
@@ -153,7 +154,8 @@ class Editor:
 
     def _reopen(self):
         """A new session, brought to where the steps lead. The first line changes nothing, and tells the cost."""
-        self._session.close()
+        if self._session:
+            self._session.close()
         self._session = rhythm.Session(self.midi, self.grammar, self._workers)
         self._session.unpin(self._found.channels()[0], 0)
         self._take_back(1)

@@ -64,10 +64,8 @@ class LilyPond:
     """
 
     def __init__(self):
-        self._folder = tempfile.mkdtemp()
-        self._process, self._next = None, 0
-        for number in range(PAGES + 1):
-            self._write(f"{number}.ly", WAITING)
+        self._folder = self._process = None
+        self._next = 0
 
     def engrave(self, text):
         """A page as SVG."""
@@ -89,14 +87,13 @@ class LilyPond:
             self._next += 1
 
     def _start(self):
-        if self._process:
-            self._process.kill()
-            self._process.communicate()
+        self.close()
+        self._folder, self._next = tempfile.mkdtemp(), 0
         files = [f"{number}.ly" for number in range(PAGES + 1)]
-        quiet = subprocess.DEVNULL
-        self._process = subprocess.Popen(
-            [*WORDS, *files], cwd=self._folder, stdin=subprocess.PIPE, stdout=subprocess.PIPE, stderr=quiet)
-        self._next = 0
+        for file in files:
+            self._write(file, WAITING)
+        pipe, quiet = subprocess.PIPE, subprocess.DEVNULL
+        self._process = subprocess.Popen([*WORDS, *files], cwd=self._folder, stdin=pipe, stdout=pipe, stderr=quiet)
         self._process.stdout.readline()
 
     def _path(self, name):
@@ -110,7 +107,7 @@ class LilyPond:
         if self._process:
             self._process.kill()
             self._process.communicate()
-        shutil.rmtree(self._folder, ignore_errors=True)
+            shutil.rmtree(self._folder, ignore_errors=True)
 
 
 class Engraver:

@@ -10,6 +10,10 @@ class Lacking(Exception):
     """The program takes no scripts with the files, so the form is to be had before the first edit alone."""
 
 
+class Unwritten(Exception):
+    """The program has not written the form, and has said why."""
+
+
 def takes_scripts():
     """Whether the program has the option `--script`."""
     return "--script" in subprocess.run([rhythm.PROGRAM, "--help"], capture_output=True, text=True).stdout
@@ -25,5 +29,5 @@ def forms(form, midi, grammar, lines):
         words = ["--script", script.name] if lines else []
         ran = subprocess.run([rhythm.PROGRAM, form, os.fspath(midi), os.fspath(grammar), *words], capture_output=True)
     if ran.returncode:
-        raise rhythm.Ended(ran.returncode, ran.stderr.decode(errors="replace").split("\n")[0])
+        raise Unwritten(ran.stderr.decode(errors="replace").split("\n")[0])
     return ran.stdout

@@ -60,7 +60,10 @@ def main():
     asked = given()
     rhythm.PROGRAM = program(asked.program)
     editor = opened(asked)
-    server = Server(editor, asked.port)
+    try:
+        server = Server(editor, asked.port)
+    except (OSError, OverflowError) as fault:
+        sys.exit(f"serve.py: the port {asked.port} is not to be had: {fault}")
     signal.signal(signal.SIGTERM, signal.default_int_handler)
     print(server.address, flush=True)
     try:

@@ -16,7 +16,7 @@ import rhythm
 import words
 from editing import Stale
 from engraving import Dropped, Engraver, Unengraved, has_lilypond
-from forms import Lacking, forms
+from forms import Lacking, Unwritten, forms
 
 STATIC = pathlib.Path(__file__).resolve().parent / "static"
 KINDS = {".html": "text/html; charset=utf-8", ".css": "text/css; charset=utf-8", ".js": "text/javascript; charset=utf-8"}
@@ -122,11 +122,11 @@ class Server(http.server.ThreadingHTTPServer):
     daemon_threads = True
 
     def __init__(self, editor, port=0):
+        self.answers = Answers(editor)
         super().__init__(("127.0.0.1", port), Request)
         self.secret = secrets.token_urlsafe(16)
         self.host = f"127.0.0.1:{self.server_port}"
         self.address = f"http://{self.host}/{self.secret}/"
-        self.answers = Answers(editor)
         self.files = {file.name: (KINDS[file.suffix], file.read_bytes()) for file in STATIC.iterdir() if file.suffix in KINDS}
         self.room = threading.BoundedSemaphore(AT_ONCE)
 
@@ -183,6 +183,8 @@ class Request(http.server.BaseHTTPRequestHandler):
             status, (kind, body) = 200, self._json({"dropped": True})
         except Lacking:
             status, (kind, body) = 501, self._json({"wrong": words.LACKING})
+        except Unwritten as why:
+            status, (kind, body) = 500, self._json({"wrong": words.unwritten(why)})
         except Unengraved:
             status, (kind, body) = 500, self._json({"wrong": "LilyPond made no page of these bars."})
         except rhythm.Ended as ended:

@@ -31,5 +31,10 @@ def refusal(refused):
 
 
 def ending(ended):
-    """That the program has ended, and why."""
-    return f"The program ended and was opened again with all steps ({ended})."
+    """That the session has ended, and why."""
+    return f"The program ended, and was opened again with the steps before this one ({ended})."
+
+
+def unwritten(why):
+    """That there is no such form of the piece."""
+    return f"The program has not written this ({why})."

@@ -74,7 +74,7 @@ def chords_of(bars, signatures, first):
         return round(first + bar + (wholes - lines[bar]) / (lines[bar + 1] - lines[bar]), 6)
 
     for event in rhythm.events(text_of(bars, signatures)):
-        begin, end = place(float(event.onset)), place(float(event.onset + event.length))
+        begin, end = place(float(event.onset)), place(float(event.onset) + float(event.length))
         bar, at = int(begin) - first, event.column - 1
         column = found[bar][at]
         column.extend(Chord(begin, begin, "grace", False) for _ in event.graces)
