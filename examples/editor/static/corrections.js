@@ -62,16 +62,18 @@ export class Corrections {
   }
 
   async #release(event) {
-    const {drag} = this, {draft} = this.roll, at = this.#at(event), point = {x: at.x, y: at.y};
+    const {drag} = this, {draft} = this.roll, at = this.#at(event);
     this.drag = null;
     if (!drag) return;
-    if (!drag.moved) {
-      if (!drag.note && drag.bar === null) this.editor.selectPlace(Math.max(Math.round(this.view.tick(at.x)), 0), this.view.key(at.y));
-      return;
-    }
-    if (draft?.tick !== undefined) await this.editor.step([`barline ${draft.bar} ${draft.tick}`], point);
-    else if (draft?.note) await this.#correct(drag.note, draft.note, point);
-    this.cancel();
+    if (!drag.moved && !drag.note && drag.bar === null) this.#place(at);
+    if (draft?.tick !== undefined) await this.editor.step([`barline ${draft.bar} ${draft.tick}`], at);
+    else if (draft?.note) await this.#correct(drag.note, draft.note, at);
+    if (this.roll.draft === draft) this.roll.draft = null; // and not what is dragged meanwhile
+    this.roll.refresh();
+  }
+
+  #place(at) {
+    this.editor.selectPlace(Math.max(Math.round(this.view.tick(at.x)), 0), this.view.key(at.y));
   }
 
   async #correct(note, to, point) {

@@ -6,7 +6,7 @@ const STEP = 48; // the least step of a note or barline is a 48th of a quarter n
 
 export class Keys {
   constructor(desk) {
-    Object.assign(this, desk);
+    Object.assign(this, desk, {turn: Promise.resolve()});
     this.roll.canvas.addEventListener("keydown", (event) => this.#take(event, this.#onRoll(event)));
     document.addEventListener("keydown", (event) => this.#take(event, this.#everywhere(event)));
   }
@@ -29,17 +29,19 @@ export class Keys {
     if (event.ctrlKey || event.metaKey) return null;
     const {editor, view} = this, far = event.shiftKey ? 12 : 1;
     const right = {ArrowLeft: -1, ArrowRight: 1}[event.key], up = {ArrowUp: 1, ArrowDown: -1}[event.key];
-    if (event.altKey && right) return () => this.#nudge(right * far);
-    if (event.altKey && up) return () => this.#transpose(up * far);
+    if (event.altKey && right) return this.#inTurn(() => this.#nudge(right * far));
+    if (event.altKey && up) return this.#inTurn(() => this.#transpose(up * far));
     if (right) return () => this.#next(right);
     if (up) return () => this.#scrolled(() => view.scroll(0, up * 3 * view.size));
     return {
-      "[": () => this.#lengthen(-1), "]": () => this.#lengthen(1), "{": () => this.#lengthen(-12), "}": () => this.#lengthen(12),
+      "[": this.#inTurn(() => this.#lengthen(-1)), "]": this.#inTurn(() => this.#lengthen(1)),
+      "{": this.#inTurn(() => this.#lengthen(-12)), "}": this.#inTurn(() => this.#lengthen(12)),
       ",": () => this.#place(-1 / 2), ".": () => this.#place(1 / 2), "<": () => this.#place(-4), ">": () => this.#place(4),
-      n: () => this.#add(), Delete: () => this.commands.drop(), Backspace: () => this.commands.drop(),
+      n: this.#inTurn(() => this.#add()), Delete: this.#inTurn(this.commands.drop), Backspace: this.#inTurn(this.commands.drop),
       b: () => this.#barline(1), B: () => this.#barline(-1), f: () => this.commands.fit(),
       v: () => this.#voice(1), V: () => this.#voice(-1), r: () => this.commands.rhythms(),
-      "+": () => this.#scrolled(() => view.zoom(1.25)), "-": () => this.#scrolled(() => view.zoom(0.8)),
+      "+": () => this.#scrolled(() => view.zoom(1.25)), "=": () => this.#scrolled(() => view.zoom(1.25)),
+      "-": () => this.#scrolled(() => view.zoom(0.8)),
       z: () => this.#scrolled(() => view.zoomKeys(1.25)), Z: () => this.#scrolled(() => view.zoomKeys(0.8)),
       PageDown: () => this.#scrolled(() => view.scroll(0.8 * view.width)),
       PageUp: () => this.#scrolled(() => view.scroll(-0.8 * view.width)),
@@ -47,6 +49,14 @@ export class Keys {
       " ": () => this.commands.play(event.shiftKey ? "score" : "performance"), "?": () => this.commands.help(),
       Escape: () => editor.selectPlace(editor.place.tick, editor.place.key),
     }[event.key] ?? null;
+  }
+
+  // Of edits by keys that are pressed fast each waits for the one before, and is made on what that has left selected.
+  #inTurn(edit) {
+    return () => {
+      const made = this.turn.then(edit);
+      this.turn = made.catch(() => {});
+    };
   }
 
   #scrolled(change) {
@@ -92,25 +102,26 @@ export class Keys {
     return Math.trunc(steps * Math.max(this.editor.piece.division / STEP, 1));
   }
 
-  #nudge(steps) {
+  async #nudge(steps) {
     const {editor} = this, {selected, barline} = editor, ticks = this.#ticks(steps);
     if (selected) {
       const onset = Math.max(selected.onset + ticks, 0);
-      this.#change(selected, {onset, end: onset + selected.end - selected.onset});
-    } else if (barline) {
+      return this.#change(selected, {onset, end: onset + selected.end - selected.onset});
+    }
+    if (barline) {
       const tick = editor.piece.starts[barline];
-      editor.step([`barline ${barline} ${Math.max(tick + ticks, 0)}`], this.#point(tick));
+      await editor.step([`barline ${barline} ${Math.max(tick + ticks, 0)}`], this.#point(tick));
     }
   }
 
-  #transpose(by) {
+  async #transpose(by) {
     const note = this.editor.selected;
-    if (note && note.key + by >= 0 && note.key + by < 128) this.#change(note, {key: note.key + by});
+    if (note && note.key + by >= 0 && note.key + by < 128) await this.#change(note, {key: note.key + by});
   }
 
-  #lengthen(steps) {
+  async #lengthen(steps) {
     const note = this.editor.selected;
-    if (note) this.#change(note, {end: Math.max(note.end + this.#ticks(steps), note.onset)});
+    if (note) await this.#change(note, {end: Math.max(note.end + this.#ticks(steps), note.onset)});
   }
 
   // Gives a note another place, key or end, and keeps it selected.
