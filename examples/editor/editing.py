@@ -61,11 +61,16 @@ class Editor:
         with self._alone(version):
             if not self._steps:
                 raise rhythm.Refused("NoStep")
-            step = self._steps.pop()
-            self._undone.append(step)
+            *self._steps, step = self._steps
             self._take_back(len(step))
+            try:
+                text = self._session.score()
+            except rhythm.Refused:  # there was no memory for it
+                self._open([*self._steps, step])
+                raise
+            self._undone.append(step)
             self._performance = self._performed()
-            return self._changed(step)
+            return self._changed(step, text)
 
     def redo(self, version):
         """Makes the step again that was taken back last."""
@@ -150,7 +155,7 @@ class Editor:
         self._steps, self._undone, self._score, self._places, self._chords = steps, [], Score(), {}, {}
         self._reopen()
         self._performance = self._performed()
-        self._changed([])
+        self._changed([], self._session.score())
 
     def _reopen(self):
         """A new session, brought to where the steps lead. The first line changes nothing, and tells the cost."""
@@ -174,6 +179,7 @@ class Editor:
         try:
             for line in lines:
                 edited.append(self._session.edit(line))
+            text = self._session.score()
         except (rhythm.Refused, ValueError):
             self._take_back(len(edited))
             raise
@@ -182,7 +188,7 @@ class Editor:
         self._undone = list(undone)
         for line in lines:
             self._performance.make(line)
-        return self._changed(lines, sum(it.built for it in edited))
+        return self._changed(lines, text, sum(it.built for it in edited))
 
     def _take_back(self, count):
         """Takes the last lines of the session back. It keeps 64 at most: where more are asked for, the files are opened anew."""
@@ -204,16 +210,17 @@ class Editor:
     def _pinned(self, channel, bar, shape):
         """The score with a pin of this shape."""
         self._session.pin(channel, bar, shape)
-        text = self._session.score()
-        self._session.undo()
-        return text
+        try:
+            return self._session.score()
+        finally:
+            self._session.undo()
 
-    def _changed(self, lines, built=0):
+    def _changed(self, lines, text, built=0):
         """Reads the score after the lines of a step, made or taken back, and tells what the page has to show anew."""
         performance = self._performance
         spans = [touched(line, performance) for line in lines] or [(0, len(performance.signatures) - 1)]
         first, last = min(first for first, _ in spans), max(last for _, last in spans)
-        first, stop = self._score.take(self._session.score(), performance.signatures, first, last)
+        first, stop = self._score.take(text, performance.signatures, first, last)
         self.version += 1
         for line in lines:
             self._forget(line)
@@ -269,4 +276,4 @@ class Editor:
 
     def _bars(self):
         """The ticks of all barlines, and the signatures of all bars."""
-        return {"starts": self._performance.starts, "signatures": self._performance.signatures}
+        return {"starts": list(self._performance.starts), "signatures": list(self._performance.signatures)}
