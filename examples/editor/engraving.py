@@ -15,6 +15,22 @@ WORDS = ["nice", "lilypond", "--svg", "-dno-point-and-click", "--loglevel=ERROR"
 WAITING = """#(begin (display "ready\\n") (force-output) (if (eof-object? (read)) (primitive-exit 0)))
 \\include "wanted.ly"
 """
+# LilyPond looks for each note head in the text of a font, which takes longer than all else: here what was found is kept. It is left as it is
+# where a version of LilyPond has no function of this name
+GLYPHS = """#(false-if-exception
+  (let* ((writer (resolve-module '(lily output-svg)))
+         (look-for (module-ref writer 'cache-font))
+         (found (make-hash-table)))
+    (define (glyph-path font size glyph)
+      (let ((place (list font size glyph)))
+        (or (hash-ref found place)
+            (let ((path (look-for font size glyph)))
+              (hash-set! found place path)
+              path))))
+    (module-set! writer 'cache-font
+      (lambda (font size glyph)
+        (if (string? glyph) (glyph-path font size glyph) (look-for font size glyph))))))
+"""
 PAPER = """\\paper {{
   paper-width = {width:.0f}\\mm indent = 20\\mm short-indent = 8\\mm page-breaking = #ly:one-page-breaking
   top-margin = 2\\mm bottom-margin = 2\\mm left-margin = 4\\mm right-margin = 4\\mm
@@ -91,7 +107,7 @@ class LilyPond:
         self._folder, self._next = tempfile.mkdtemp(), 0
         files = [f"{number}.ly" for number in range(PAGES + 1)]
         for file in files:
-            self._write(file, WAITING)
+            self._write(file, GLYPHS + WAITING if file == files[0] else WAITING)
         pipe, quiet = subprocess.PIPE, subprocess.DEVNULL
         self._process = subprocess.Popen([*WORDS, *files], cwd=self._folder, stdin=pipe, stdout=pipe, stderr=quiet)
         self._process.stdout.readline()
