@@ -86,7 +86,7 @@ class LilyPond:
     def engrave(self, text):
         """A page as SVG."""
         if not self._process or self._process.poll() is not None or self._next == PAGES:
-            self._start()
+            self.start()
         limit = threading.Timer(LONGEST, self._process.kill)
         limit.start()
         try:
@@ -102,7 +102,8 @@ class LilyPond:
             limit.cancel()
             self._next += 1
 
-    def _start(self):
+    def start(self):
+        """Starts it, and waits until it is ready for a page."""
         self.close()
         self._folder, self._next = tempfile.mkdtemp(), 0
         files = [f"{number}.ly" for number in range(PAGES + 1)]
@@ -133,12 +134,18 @@ class Engraver:
         self._midi, self._grammar = midi, grammar
         self._change = threading.Condition()
         self._newest, self._wanted, self._made = 0, None, (0, None)
-        self._lilypond = LilyPond()
-        threading.Thread(target=self._work, daemon=True).start()
+        self._lilypond, self._worker = LilyPond(), None
+
+    def start(self):
+        """Starts LilyPond before a page is asked for."""
+        if not self._worker:
+            self._worker = threading.Thread(target=self._work, daemon=True)
+            self._worker.start()
 
     def page(self, lines, first, last, width):
         """The page of some bars after the lines of a script, as SVG. Waits until it is engraved, or a newer one is asked for."""
         with self._change:
+            self.start()
             self._newest += 1
             mine, self._wanted = self._newest, (lines, first, last, width)
             self._change.notify_all()
@@ -153,6 +160,8 @@ class Engraver:
         self._lilypond.close()
 
     def _work(self):
+        if has_lilypond():
+            self._lilypond.start()
         while True:
             with self._change:
                 self._change.wait_for(lambda: self._wanted)

@@ -65,6 +65,7 @@ def main():
     except (OSError, OverflowError) as fault:
         sys.exit(f"serve.py: the port {asked.port} is not to be had: {fault}")
     signal.signal(signal.SIGTERM, signal.default_int_handler)
+    server.answers.start()
     print(server.address, flush=True)
     try:
         server.serve_forever()

@@ -306,6 +306,8 @@ class InABrowser(unittest.TestCase):
         window.roll.send_keys(Keys.ALT + Keys.ARROW_RIGHT * 5)
         window.until(lambda: window.lines()[-1] == "move 1 48 290 300")
         self.assertEqual(len(window.lines()), 9)
+        window.roll.send_keys(Keys.CONTROL + "zzz" + Keys.NULL + Keys.ALT + Keys.ARROW_RIGHT * 2)
+        window.until(lambda: window.lines()[6:] == ["move 1 48 270 280", "move 1 48 280 290"])
         window.keys("b", Keys.ALT + Keys.ARROW_LEFT)
         self.assertEqual(window.lines()[-1], "barline 1 1910")
         window.keys("f")

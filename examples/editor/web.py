@@ -66,6 +66,10 @@ class Answers:
         self._editor = editor
         self._engraver = Engraver(editor.midi, editor.grammar)
 
+    def start(self):
+        """Has a LilyPond ready for the first page."""
+        self._engraver.start()
+
     def close(self):
         self._engraver.close()
 

@@ -6,11 +6,12 @@ import {firstWhere} from "./piece.js";
 const HOLD = 6; // pixels around an edge at which it is taken hold of
 const STILL = 4; // pixels that a pointer may stray in a click
 
-// The lines of the step that gives a note another place, key or end.
+// The lines of the step that gives a note another place, key or end; or that adds one, where there is none yet.
 export function linesOf(note, to) {
-  const drop = `drop ${note.channel} ${note.key} ${note.onset}`, add = `add ${to.channel} ${to.key} ${to.onset} ${to.end}`;
-  const moved = to.key === note.key && to.end - to.onset === note.end - note.onset;
-  return moved ? [`move ${note.channel} ${note.key} ${note.onset} ${to.onset}`] : [drop, add];
+  const add = `add ${to.channel} ${to.key} ${to.onset} ${to.end}`;
+  if (!note) return [add];
+  if (to.key === note.key && to.end - to.onset === note.end - note.onset) return [`move ${note.channel} ${note.key} ${note.onset} ${to.onset}`];
+  return [`drop ${note.channel} ${note.key} ${note.onset}`, add];
 }
 
 export class Corrections {
@@ -67,19 +68,13 @@ export class Corrections {
     if (!drag) return;
     if (!drag.moved && !drag.note && drag.bar === null) this.#place(at);
     if (draft?.tick !== undefined) await this.editor.step([`barline ${draft.bar} ${draft.tick}`], at);
-    else if (draft?.note) await this.#correct(drag.note, draft.note, at);
+    else if (draft?.note) await this.editor.step(linesOf(drag.note, draft.note), at);
     if (this.roll.draft === draft) this.roll.draft = null; // and not what is dragged meanwhile
     this.roll.refresh();
   }
 
   #place(at) {
     this.editor.selectPlace(Math.max(Math.round(this.view.tick(at.x)), 0), this.view.key(at.y));
-  }
-
-  async #correct(note, to, point) {
-    const lines = note ? linesOf(note, to) : [`add ${to.channel} ${to.key} ${to.onset} ${to.end}`];
-    const made = await this.editor.step(lines, point), found = this.editor.piece.notes.get(`${to.channel} ${to.key} ${to.onset}`);
-    if (made && found) this.editor.selectNote(found);
   }
 
   // What is drawn while something is dragged, as it would be made.

@@ -61,7 +61,7 @@ export class Editor extends EventTarget {
   }
 
   selectNote(note) {
-    Object.assign(this, {note: note.id, barline: null, channel: note.channel, place: {tick: note.end, key: note.key}});
+    this.#choose(note);
     this.#select();
   }
 
@@ -78,6 +78,10 @@ export class Editor extends EventTarget {
   selectVoice(channel) {
     this.channel = channel;
     this.#select();
+  }
+
+  #choose(note) {
+    Object.assign(this, {note: note.id, barline: null, channel: note.channel, place: {tick: note.end, key: note.key}});
   }
 
   #select() {
@@ -108,9 +112,12 @@ export class Editor extends EventTarget {
       this.tell(unchanged);
       return;
     }
-    // all is asked for where it was opened anew, or another step came between
-    if (told.built !== undefined && told.version === this.piece.version + 1) this.piece.take(told);
-    else this.piece = new Piece(await piece());
+    if (told.built !== undefined && told.version === this.piece.version + 1) {
+      const come = this.piece.take(told);
+      if (come.length === 1) this.#choose(come[0]); // a note that was added or moved, or that has come back
+    } else {
+      this.piece = new Piece(await piece()); // it was opened anew, or another step came between
+    }
     this.#settle();
     this.#notify("changed");
     this.tell(stepInWords(told));

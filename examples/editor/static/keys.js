@@ -20,8 +20,8 @@ export class Keys {
   #everywhere(event) {
     const {editor} = this, key = event.key.toLowerCase();
     if (!event.ctrlKey && !event.metaKey) return null;
-    if (key === "z") return () => event.shiftKey ? editor.redo() : editor.undo();
-    if (key === "y") return () => editor.redo();
+    if (key === "z") return this.#inTurn(() => event.shiftKey ? editor.redo() : editor.undo());
+    if (key === "y") return this.#inTurn(() => editor.redo());
     return null;
   }
 
@@ -72,12 +72,15 @@ export class Keys {
       const after = sorted.findIndex((note) => note.onset >= editor.place.tick);
       next = by > 0 ? after : (after < 0 ? sorted.length : after) - 1;
     }
-    if (sorted[next]) this.#show(sorted[next]);
+    if (!sorted[next]) return;
+    editor.selectNote(sorted[next]);
+    this.#show();
   }
 
-  #show(note) {
-    this.editor.selectNote(note);
-    this.#scrolled(() => this.view.show(note.onset, note.end, note.key));
+  // Scrolls to the selected note.
+  #show() {
+    const {selected} = this.editor;
+    if (selected) this.#scrolled(() => this.view.show(selected.onset, selected.end, selected.key));
   }
 
   #barline(by) {
@@ -124,20 +127,15 @@ export class Keys {
     if (note) await this.#change(note, {end: Math.max(note.end + this.#ticks(steps), note.onset)});
   }
 
-  // Gives a note another place, key or end, and keeps it selected.
+  // Gives a note another place, key or end.
   async #change(note, changes) {
     const to = {channel: note.channel, key: note.key, onset: note.onset, end: note.end, ...changes};
-    if (await this.editor.step(linesOf(note, to), this.#point(note.onset, note.key))) this.#find(to);
+    if (await this.editor.step(linesOf(note, to), this.#point(note.onset, note.key))) this.#show();
   }
 
   async #add() {
-    const {editor} = this, {tick, key} = editor.place, to = {channel: editor.channel, key, onset: tick, end: tick + editor.piece.division};
-    if (await editor.step([`add ${to.channel} ${key} ${tick} ${to.end}`], this.#point(tick, key))) this.#find(to);
-  }
-
-  #find({channel, key, onset}) {
-    const note = this.editor.piece.notes.get(`${channel} ${key} ${onset}`);
-    if (note) this.#show(note);
+    const {piece, place, channel} = this.editor, to = {channel, key: place.key, onset: place.tick, end: place.tick + piece.division};
+    if (await this.editor.step(linesOf(null, to), this.#point(place.tick, place.key))) this.#show();
   }
 
   // The point of the roll at which a refusal is told.

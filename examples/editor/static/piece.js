@@ -32,7 +32,7 @@ export class Piece {
     this.take(told);
   }
 
-  // What a step has changed, or all of a piece that was opened.
+  // What a step has changed, or all of a piece that was opened. Answers the notes that were not there before.
   take(told) {
     const {first, texts, gone, notes, ...heads} = told;
     Object.assign(this, heads);
@@ -40,11 +40,14 @@ export class Piece {
     this.texts.length = this.signatures.length;
     this.shapes = new Map(this.pins.map(([channel, bar, shape]) => [`${channel} ${bar}`, shape]));
     for (const [channel, key, onset] of gone) this.notes.delete(`${channel} ${key} ${onset}`);
+    const come = [];
     for (const [channel, key, onset, end, begin, finish, kind, tied] of notes) {
-      const id = `${channel} ${key} ${onset}`;
-      this.notes.set(id, {id, channel, key, onset, end, begin, finish, kind, tied});
+      const id = `${channel} ${key} ${onset}`, note = {id, channel, key, onset, end, begin, finish, kind, tied};
+      if (!this.notes.has(id)) come.push(note);
+      this.notes.set(id, note);
     }
     this.#order();
+    return come;
   }
 
   get end() {
