@@ -4,6 +4,7 @@ import {GUTTER, RULER} from "./view.js";
 import {firstWhere} from "./piece.js";
 
 const HOLD = 6; // pixels around an edge at which it is taken hold of
+const EDGE = 16; // pixels beside the edges of the roll within which a drag scrolls
 const STILL = 4; // pixels that a pointer may stray in a click
 
 // The lines of the step that gives a note another place, key or end; or that adds one, where there is none yet.
@@ -58,8 +59,17 @@ export class Corrections {
     }
     drag.moved ||= Math.hypot(at.x - drag.start.x, at.y - drag.start.y) > STILL;
     if (!drag.moved) return;
+    this.#scroll(drag, at.x);
     this.roll.draft = this.#draft(drag, at);
     this.roll.refresh();
+  }
+
+  // Scrolls on while something is dragged to an edge, and keeps where the drag began.
+  #scroll(drag, x) {
+    const {view} = this, {left} = view, low = GUTTER + EDGE, high = view.width - EDGE;
+    if (x > high && drag.start.x < high) view.scroll(EDGE);
+    else if (x < low && drag.start.x > low) view.scroll(-EDGE);
+    drag.start.x -= (view.left - left) * view.scale;
   }
 
   async #release(event) {
