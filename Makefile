@@ -27,7 +27,7 @@ check:
 
 # Debian has Selenium for its own Python, which may be another one than that on the path
 check-editor:
-	@for it in python3 /usr/bin/python3; do $$it -c 'import selenium' 2>&- && break; done; $$it -B examples/editor/test_browser.py
+	@for it in /usr/bin/python3 python3; do $$it -c 'import selenium' 2>/dev/null && break; done; $$it -B examples/editor/test_browser.py
 
 install:
 	install -d $(bin) $(man) $(share)/grammars $(share)/examples/corpus

@@ -33,8 +33,7 @@ def marks(window):
 
 def followed(window):
     window.click("follow")
-    window.until(window.lines)
-    window.until(lambda: window.version() == 2)
+    window.made(1)
     window.click_at(5600, 84)
 
 

@@ -114,6 +114,10 @@ class Window:
         self.until(lambda: self.version() != version or self.said() != said)
         self.driver.execute_async_script("desk.editor.waiting.then(arguments[0])")
 
+    def made(self, count):
+        """Waits until the page shows the piece after so many steps."""
+        self.until(lambda: self.ask("desk.editor.piece.steps[0]") == count)
+
     def said(self):
         return self.named("said").text
 
@@ -257,7 +261,7 @@ class InABrowser(unittest.TestCase):
         window.click("undo")
         window.click("undo")
         window.click("follow")
-        window.until(lambda: window.lines())
+        window.made(1)
         self.assertEqual(window.lines(), rhythm.follow(*WANDERING))
         self.shows_the_score(window)
         self.assertEqual(window.shown()["bar 2"], "4gg\n4ff\n4ee\n4dd")
@@ -304,10 +308,13 @@ class InABrowser(unittest.TestCase):
         window.keys(Keys.ALT + Keys.ARROW_RIGHT)
         self.assertEqual(window.lines()[-1], "move 1 48 240 250")
         window.roll.send_keys(Keys.ALT + Keys.ARROW_RIGHT * 5)
-        window.until(lambda: window.lines()[-1] == "move 1 48 290 300")
-        self.assertEqual(len(window.lines()), 9)
-        window.roll.send_keys(Keys.CONTROL + "zzz" + Keys.NULL + Keys.ALT + Keys.ARROW_RIGHT * 2)
-        window.until(lambda: window.lines()[6:] == ["move 1 48 270 280", "move 1 48 280 290"])
+        window.made(8)
+        self.assertEqual(window.lines()[-1], "move 1 48 290 300")
+        window.roll.send_keys(Keys.CONTROL + "zzz")
+        window.made(5)
+        window.roll.send_keys(Keys.ALT + Keys.ARROW_RIGHT * 2)
+        window.made(7)
+        self.assertEqual(window.lines()[6:], ["move 1 48 270 280", "move 1 48 280 290"])
         window.keys("b", Keys.ALT + Keys.ARROW_LEFT)
         self.assertEqual(window.lines()[-1], "barline 1 1910")
         window.keys("f")
