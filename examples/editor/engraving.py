@@ -1,4 +1,5 @@
 """Some bars of the score as a page that LilyPond engraves, in a thread of its own: always the newest that is asked for."""
+import contextlib
 import os
 import re
 import shutil
@@ -81,7 +82,7 @@ class LilyPond:
 
     def __init__(self):
         self._folder = self._process = None
-        self._next = 0
+        self._next, self._closed = 0, False
 
     def engrave(self, text):
         """A page as SVG."""
@@ -104,7 +105,9 @@ class LilyPond:
 
     def start(self):
         """Starts it, and waits until it is ready for a page."""
-        self.close()
+        self._end()
+        if self._closed:
+            raise Unengraved
         self._folder, self._next = tempfile.mkdtemp(), 0
         files = [f"{number}.ly" for number in range(PAGES + 1)]
         for file in files:
@@ -121,9 +124,15 @@ class LilyPond:
             file.write(text)
 
     def close(self):
+        """Ends it for good."""
+        self._closed = True
+        self._end()
+
+    def _end(self):
         if self._process:
             self._process.kill()
             self._process.communicate()
+        if self._folder:
             shutil.rmtree(self._folder, ignore_errors=True)
 
 
@@ -160,7 +169,7 @@ class Engraver:
         self._lilypond.close()
 
     def _work(self):
-        if has_lilypond():
+        with contextlib.suppress(Unengraved, OSError):
             self._lilypond.start()
         while True:
             with self._change:
