@@ -117,6 +117,18 @@ full_bar r bar (g ∷ groups) (inr long) done at going next e =
 -- ---- bar by bar
 
 module _ (r total : ℕ) (some : 1 ≤ r) where
+  -- a bar that is heard in full, and the bars after it
+  bar_then : (bar : ScoreBar) (bars : List ScoreBar) (own : List Group) (all : List (List Group)) (done : List (HeardSpan ℕ)) (at : ℕ)
+      (going : Option (HeardSpan ℕ)) (next last : HeardVoice ℕ) → hear_bar r bar (clean done at going) own ≡ Some next
+      → IsFullBar r bar at next → hear_bars r bars next all ≡ Some last
+      → ((done' : List (HeardSpan ℕ)) (at' : ℕ) (going' : Option (HeardSpan ℕ)) → hear_bars r bars (clean done' at' going') all ≡ Some last
+      → AreHeardInFull r bars (clean done' at' going') all)
+      → AreHeardInFull r (bar ∷ bars) (clean done at going) (own ∷ all)
+  bar_then bar bars own all done at going next last one is rest later =
+      let (done', at', going', same) = is.clean_there in
+      let others = later done' at' going' (subst (λ h. hear_bars r bars h all ≡ Some last) same rest) in
+      (next, one, is.reached, ap (λ (h : HeardVoice ℕ). h.graces) same, subst (λ h. AreHeardInFull r bars h all) (sym same) others)
+
   full_bars : (n : ℕ) (bars : List ScoreBar) (sounds later : List Sound) (all : List (List Group)) (done : List (HeardSpan ℕ)) (at : ℕ)
       (going : Option (HeardSpan ℕ))
       (last : HeardVoice ℕ) → n + length bars ≡ total → All IsScoreBar bars → AreAhead r total n sounds later
@@ -132,12 +144,11 @@ module _ (r total : ℕ) (some : 1 ≤ r) where
       (stand_fill r total n later few ahead.stand).full in
       let is = full_bar r bar own
       (bar_filled r bar _ (sounds_in_bar n sounds) own some (All-head IsScoreBar bar bars right) full mine) done at going next one in
-      let (done', at', going', same) = is.clean_there in
-      let later_bars = full_bars (suc n) bars sounds (later_sounds n later) all done' at' going' last (omega (arith, count))
+      bar_then bar bars own all done at going next last one is rest
+      (λ done' at' going' e'.
+      full_bars (suc n) bars sounds (later_sounds n later) all done' at' going' last (omega (arith, count))
       (All-tail IsScoreBar bar bars right)
-      (ahead_later r total n sounds later ahead (stand_later r total n later few ahead.stand)) groups
-      (subst (λ h. hear_bars r bars h all ≡ Some last) same rest) in
-      (next, one, is.reached, ap (λ (h : HeardVoice ℕ). h.graces) same, subst (λ h. AreHeardInFull r bars h all) (sym same) later_bars)
+      (ahead_later r total n sounds later ahead (stand_later r total n later few ahead.stand)) groups e')
 
 -- bars of a performance with the signatures of a score's
 abbrev pub some_bar : ScoreBar → Bar

@@ -159,13 +159,13 @@ words_bar ((b ∷ w) ∷ ws) h = go h
         → IsBarText (spaced ((b ∷ w) ∷ ws) ++ codes "|")
     go (inl plain) =
         let other : (92 == b) ≡ false = grind (arith, nat_tests, plain) in
-        record { time = rw other refl; staff = rw other refl; end = last (b ∷ w) }
+        record { time = rw other (refl {a = false}); staff = rw other (refl {a = false}); end = last (b ∷ w) }
     go (inr (inl same)) =
         subst (λ v. IsBarText ((v ++ 32 ∷ []) ++ spaced ws ++ codes "|")) (sym same)
-        (record { time = refl; staff = refl; end = last (codes "\\slashedGrace") })
+        (record { time = refl {a = false}; staff = refl {a = false}; end = last (codes "\\slashedGrace") })
     go (inr (inr same)) =
         subst (λ v. IsBarText ((v ++ 32 ∷ []) ++ spaced ws ++ codes "|")) (sym same)
-        (record { time = refl; staff = refl; end = last (codes "\\tuplet") })
+        (record { time = refl {a = false}; staff = refl {a = false}; end = last (codes "\\tuplet") })
 
 -- ---- what lines say
 
