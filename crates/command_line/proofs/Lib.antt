@@ -5,3 +5,4 @@ pub mod PlainLines
 pub mod Asking
 pub mod Reading
 pub mod Numbers
+pub mod Ranges

@@ -1,6 +1,6 @@
 -- What a command line is read by.
 use Rattle.std.proofs.Common.{◌≡◌, ◌≢◌, ◌∙◌, ℕ, ◌<◌, ◌≤◌, ◌+◌, ◌^◌, Bool, true, false, true≢false, get_or, Some, None, Result, Ok, List, [], ◌∷◌, ◌++◌, length, map, take, arith, refl, sym, ap, Option, inl, inr, codes, Bor}
-use Rattle.std.specs.Prelude.{if◌then◌else◌, option_map, slice_get, unwrap_or}
+use Rattle.std.specs.Prelude.{slice_get}
 use Rattle.std.specs.Result.{result_ok}
 use Rattle.std.specs.Char.{is_ascii_digit}
 use Rattle.std.specs.List.{list_all}
@@ -9,18 +9,17 @@ use Rattle.std.proofs.lemmas.Str.Parse.{digits_value_short, parse_gives}
 use Rattle.std.proofs.lemmas.List.{map-append, take_more}
 use Rattle.std.proofs.lemmas.Option.{get_or_from_slice_get, slice_get-get_or, slice_get_within}
 use Rattle.rhythm_base.proofs.Numerals.{numerals}
-use Rattle.clap.specs.Matches.{first_value, found_of, matched_of, raw_values}
+use Rattle.clap.specs.Matches.{found_of}
 use Rattle.clap.specs.Simple.{HasMatchesOf, matches_of}
-use Rattle.clap.specs.Walk.{all_of, first_of, rows_of}
+use Rattle.clap.specs.Walk.{rows_of}
 use Rattle.clap.specs.Faults.{fault_of}
 use Rattle.clap.specs.Takes.{takes}
 use Rattle.clap.specs.Kinds.{HasKind, IsAmong, Kinds}
 use Rattle.clap.specs.Values.{kind_of}
-use Rattle.clap.proofs.WalkLemmas.{first_value-rows, raw_values-rows}
 use Rattle.clap.specs.declared.error.Error.{Error}
 use Rattle.clap.specs.declared.error.kind.ErrorKind.TheVariants.{OutOfMemory}
 use Rattle.clap.specs.declared.parser.matches.ArgMatches.{ArgMatches}
-use Rattle.command_line.specs.CommandLines.{LineMatches, line_matches, seen_matches}
+use Rattle.command_line.specs.CommandLines.{line_matches}
 use Rattle.command_line.specs.FlatCommand.{line_app}
 use Rattle.command_line.proofs.Rows.{Text}
 use Rattle.command_line.proofs.Taking.{faultless, is_passed, takes_is}
@@ -47,21 +46,11 @@ word_there words i lt e = let some : slice_get words i ≡ Some (get_or words i 
 
 -- where `clap` gives matches, they are those of the words
 pub matches_are : (words : List Text) (m : ArgMatches) → fault_of line_app words ≡ [] → HasMatchesOf line_app words m
-    → line_matches words ≡ Some (seen_matches (found_of m))
+    → line_matches words ≡ Some (rows_of (found_of m))
 unfolding line_matches
 matches_are words m passes has =
     let rows : rows_of (found_of m) ≡ matches_of line_app words = (has refl).0 in
-    let option_is : first_of (codes "workers") (matches_of line_app words) ≡ first_value (found_of m) (codes "workers") =
-    sym (first_value-rows (found_of m) (codes "workers") ∙ ap (first_of (codes "workers")) rows) in
-    let words_are : all_of (codes "words") (matches_of line_app words) ≡ option_map raw_values (matched_of (found_of m) (codes "words")) =
-    sym (raw_values-rows (found_of m) (codes "words") ∙ ap (all_of (codes "words")) rows) in
-    of_parts (takes line_app words) ((faultless words).1 passes) _ _ _ _ option_is words_are
-  where
-    of_parts : (taken : Bool) → taken ≡ true → (a b : Option Text) (x y : Option (List Text)) → a ≡ b → x ≡ y
-        → (if◌then◌else◌ {A = Option LineMatches} taken (Some (record { workers = a; words = unwrap_or x [] })) None)
-        ≡ Some (record { workers = b; words = unwrap_or y [] })
-    of_parts true e a b x y same all = rw (same, all) refl
-    of_parts false e a b x y same all = absurd (true≢false (sym e))
+    let taken : takes line_app words ≡ true = (faultless words).1 passes in rw (taken, rows) refl
 
 -- an error that is not for memory refuses the words
 pub refusal_is : (words : List Text) (e : Error) → HasKind (fault_of line_app words) e → kind_of e ≢ OutOfMemory → line_matches words ≡ None

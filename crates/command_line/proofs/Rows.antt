@@ -1,9 +1,12 @@
 -- What `clap`'s rows say of the option and of the words, after one more use of either.
-use Rattle.std.proofs.Common.{◌≡◌, ℕ, Bool, true, false, refl, List, [], ◌∷◌, ◌++◌, Some, codes}
-use Rattle.std.specs.Prelude.{unwrap_or}
+use Rattle.std.proofs.Common.{◌≡◌, ◌∙◌, ℕ, Bool, ◌&&◌, ◌||◌, true, false, refl, ap, List, [], ◌∷◌, ◌++◌, Option, Some, None, codes}
+use Rattle.std.specs.Prelude.{find, if◌then◌else◌, unwrap_or}
+use Rattle.std.specs.List.{list_all}
+use Rattle.std.proofs.lemmas.Bool.{and_parts}
+use Rattle.std.specs.Cmp.Derive.{both_true}
 use Rattle.std.specs.Str.{bytes_eq}
 use Rattle.std.proofs.lemmas.Slice.Eq.{bytes_eq-Decides}
-use Rattle.clap.specs.Walk.{Row, all_of, first_of, has_row, with_values, without}
+use Rattle.clap.specs.Walk.{Row, all_of, at_row, first_of, has_row, with_values, without}
 use Rattle.clap.specs.declared.builder.value_parser.Reading.{Reading}
 use Rattle.clap.specs.declared.parser.matches.ValueSource.TheVariants.{CommandLine}
 use Rattle.rhythm_base.proofs.Booleans.{or_false}
@@ -77,3 +80,91 @@ option-with_option how word (r ∷ rows) none =
     go : (b : Bool) → bytes_eq r.id (codes "words") ≡ b → bytes_eq r.id (codes "workers") ≡ false → Says rows → Says (r ∷ rows)
     go true e other later = (first other later, rw (other, other, e) refl)
     go false e other later = (first other later, rw (other, other, e) later.1)
+
+-- ---- rows of nothing else
+
+-- a row of the option, or of the words
+abbrev pub is_plain_row : Row → Bool
+is_plain_row r = bytes_eq r.id (codes "workers") || bytes_eq r.id (codes "words")
+
+abbrev pub ArePlainRows : List Row → Type 0
+ArePlainRows rows = list_all is_plain_row rows ≡ true
+
+pub plain-with_word : (how : Reading) (word : Text) (rows : List Row) → ArePlainRows rows → ArePlainRows (with_word how word rows)
+plain-with_word how word [] plain = refl
+plain-with_word how word (r ∷ rows) plain =
+    let both = and_parts (is_plain_row r) (list_all is_plain_row rows) plain in go (bytes_eq r.id (codes "words")) refl both.0 both.1 (plain-with_word how word rows both.1)
+  where
+    go : (b : Bool) → bytes_eq r.id (codes "words") ≡ b → is_plain_row r ≡ true → ArePlainRows rows → ArePlainRows (with_word how word rows)
+        → ArePlainRows (with_word how word (r ∷ rows))
+    go true e first others more = rw e (both_true first others)
+    go false e first others more = rw e (both_true first more)
+
+plain-without : (rows : List Row) → ArePlainRows rows → ArePlainRows (without (codes "workers") rows)
+plain-without [] plain = refl
+plain-without (r ∷ rows) plain =
+    let both = and_parts (is_plain_row r) (list_all is_plain_row rows) plain in go (bytes_eq r.id (codes "workers")) refl both.0 both.1 (plain-without rows both.1)
+  where
+    go : (b : Bool) → bytes_eq r.id (codes "workers") ≡ b → is_plain_row r ≡ true → ArePlainRows rows → ArePlainRows (without (codes "workers") rows)
+        → ArePlainRows (without (codes "workers") (r ∷ rows))
+    go true e first others more = rw e others
+    go false e first others more = rw e (both_true first more)
+
+plain-with_value : (how : Reading) (word : Text) (rows : List Row) → ArePlainRows rows
+    → ArePlainRows (with_values (codes "workers") how CommandLine (word ∷ []) rows)
+plain-with_value how word [] plain = refl
+plain-with_value how word (r ∷ rows) plain =
+    let both = and_parts (is_plain_row r) (list_all is_plain_row rows) plain in
+    go (bytes_eq r.id (codes "workers")) refl both.0 both.1 (plain-with_value how word rows both.1)
+  where
+    go : (b : Bool) → bytes_eq r.id (codes "workers") ≡ b → is_plain_row r ≡ true → ArePlainRows rows
+        → ArePlainRows (with_values (codes "workers") how CommandLine (word ∷ []) rows)
+        → ArePlainRows (with_values (codes "workers") how CommandLine (word ∷ []) (r ∷ rows))
+    go true e first others more = rw e (both_true first others)
+    go false e first others more = rw e (both_true first more)
+
+pub plain-with_option : (how : Reading) (word : Text) (rows : List Row) → ArePlainRows rows → ArePlainRows (with_option how word rows)
+plain-with_option how word rows plain = plain-with_value how word (without (codes "workers") rows) (plain-without rows plain)
+
+-- another id than those of plain rows
+pub record IsOther (id : Text) : Type 0 where
+  pub no_option : bytes_eq (codes "workers") id ≡ false
+  pub no_words : bytes_eq (codes "words") id ≡ false
+
+-- plain rows have none of it
+pub none_plain : (id : Text) (rows : List Row) → IsOther id → ArePlainRows rows → (find (λ r. bytes_eq r.id id) rows ≡ None) × (has_row id rows ≡ false)
+none_plain id [] other plain = (refl, refl)
+none_plain id (r ∷ rows) other plain =
+    let both = and_parts (is_plain_row r) (list_all is_plain_row rows) plain in
+    let more = none_plain id rows other both.1 in
+    let miss = missed (bytes_eq r.id (codes "workers")) refl both.0 in (rw miss more.0, rw miss more.1)
+  where
+    missed : (b : Bool) → bytes_eq r.id (codes "workers") ≡ b → (b || bytes_eq r.id (codes "words")) ≡ true → bytes_eq r.id id ≡ false
+    missed true e first = let same : r.id ≡ codes "workers" = (bytes_eq-Decides r.id (codes "workers")).0 e in rw same other.no_option
+    missed false e first = let same : r.id ≡ codes "words" = (bytes_eq-Decides r.id (codes "words")).0 first in rw same other.no_words
+
+-- ---- one row more
+
+-- a row that is none of these is added at the end
+pub at_row-missing : (id : Text) (change : Row → List Row) (missing rows : List Row) → has_row id rows ≡ false → at_row id change missing rows ≡ rows ++ missing
+at_row-missing id change missing [] none = refl
+at_row-missing id change missing (r ∷ rows) none =
+    let h = or_false (bytes_eq r.id id) (has_row id rows) none in rw h.0 (ap (λ (rs : List Row). r ∷ rs) (at_row-missing id change missing rows h.1))
+
+-- and another row is found as before
+pub find-more : (p : Row → Bool) (rows : List Row) (d : Row) → p d ≡ false → find p (rows ++ d ∷ []) ≡ find p rows
+find-more p [] d miss = rw miss refl
+find-more p (r ∷ rows) d miss = go (p r) (find-more p rows d miss)
+  where
+    go : (b : Bool) → find p (rows ++ d ∷ []) ≡ find p rows → (if b then Some r else find p (rows ++ d ∷ [])) ≡ (if b then Some r else find p rows)
+    go true e = refl
+    go false e = e
+
+pub find-last : (p : Row → Bool) (rows : List Row) (d : Row) → find p rows ≡ None → p d ≡ true → find p (rows ++ d ∷ []) ≡ Some d
+find-last p [] d none here = rw here refl
+find-last p (r ∷ rows) d none here = go (p r) none (λ e. find-last p rows d e here)
+  where
+    go : (b : Bool) → (if b then Some r else find p rows) ≡ None → (find p rows ≡ None → find p (rows ++ d ∷ []) ≡ Some d)
+        → (if b then Some r else find p (rows ++ d ∷ [])) ≡ Some d
+    go true e later = absurd (cc)
+    go false e later = later e

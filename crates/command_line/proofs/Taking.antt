@@ -1,16 +1,17 @@
 -- `clap` takes words exactly where it finds no fault in them.
-use Rattle.std.proofs.Common.{◌≡◌, ◌∙◌, ℕ, ◌==◌, zero, suc, Bool, ◌||◌, ◌&&◌, true, false, true≢false, refl, sym, ap, ap₂, arith, List, [], ◌∷◌, length, drop, Option, Some, None, codes}
-use Rattle.std.specs.Prelude.{◌↔◌, is_some, encode_utf8, if◌then◌else◌, nat_le, slice_get}
+use Rattle.std.proofs.Common.{◌≡◌, ◌∙◌, ℕ, ◌==◌, zero, suc, Bool, ◌||◌, ◌&&◌, true, false, true≢false, not, refl, sym, subst, ap, ap₂, arith, List, [], ◌∷◌, length, drop, Option, Some, None, codes}
+use Rattle.std.specs.Prelude.{◌↔◌, find, is_some, encode_utf8, if◌then◌else◌, nat_le, slice_get}
 use Rattle.std.specs.Str.{bytes_eq, chars}
 use Rattle.std.specs.Option.{option_map_or}
 use Rattle.std.proofs.lemmas.Bool.Decides.{nat_tests}
 use Rattle.clap.specs.Kinds.{Kinds, or_else}
 use Rattle.clap.specs.Lexer.{long_of, short_of}
-use Rattle.clap.specs.Walk.{Held, Row, Rule, Step, Waiting, Walk, arg_by_id, arg_by_long, has_row, idle, is_pending, next, option, positional, settled, nothing_held, subcommand, trailing, value, walk, walk_from, walked, word_met}
+use Rattle.clap.specs.Walk.{Held, Row, Rule, Step, Waiting, Walk, arg_by_id, arg_by_long, has_long, has_row, idle, is_empty, is_pending, next, option, positional, settled, nothing_held, subcommand, takes_values, trailing, value, walk, walk_from, walked, with_default, word_met}
 use Rattle.clap.specs.Simple.{filled, with_index}
-use Rattle.clap.specs.Faults.{bundle_fault, bundle_step_fault, defaults_fault, flags_fault, flag_word_fault, long_fault, other_fault, fault_of, settle_fault, step_fault, turn_fault, use_fault, walk_fault, word_fault}
-use Rattle.clap.specs.Takes.{bundle_passes, bundle_step_passes, flags_pass, flag_word_passes, long_passes, other_passes, takes, settle_passes, step_passes, turn_passes, use_passes, walk_passes, word_passes}
-use Rattle.command_line.specs.FlatCommand.{line_app, words_rule, workers_rule}
+use Rattle.clap.specs.Faults.{bundle_fault, bundle_step_fault, default_fault, defaults_fault, flags_fault, flag_word_fault, given_default_fault, long_fault, option_fault, other_fault, react_fault, fault_of, settle_fault, step_fault, turn_fault, use_fault, walk_fault, word_fault}
+use Rattle.clap.specs.Takes.{bundle_passes, bundle_step_passes, flags_pass, flag_word_passes, long_passes, option_passes, other_passes, react_passes, takes, settle_passes, step_passes, turn_passes, use_passes, walk_passes, word_passes}
+use Rattle.command_line.specs.FlatCommand.{flag_rule, line_app, value_rule, words_rule}
+use Rattle.clap.specs.declared.error.kind.ErrorKind.TheVariants.{TooManyValues}
 use Rattle.command_line.proofs.Rows.{Text}
 use Rattle.command_line.proofs.Walks.{built_shape}
 
@@ -27,17 +28,10 @@ passed-or_else (k ∷ ks) b = refl
 both_agree : (a b : Kinds) (p q : Bool) → is_passed a ≡ p → is_passed b ≡ q → is_passed (or_else a b) ≡ (p && q)
 both_agree a b p q e f = passed-or_else a b ∙ ap₂ (λ (x y : Bool). x && y) e f
 
--- the two rules as they are built
-abbrev option_rule : Rule
-option_rule = with_index 1 (filled workers_rule)
-
-abbrev word_rule : Rule
-word_rule = with_index 1 (filled words_rule)
-
 -- ---- one use
 
-abbrev UseAgrees : Rule → List Text → List Row → Type 0
-UseAgrees a values rows = is_passed (use_fault false a values rows) ≡ use_passes false a values rows
+abbrev UseAgrees : Rule → Type 0
+UseAgrees a = (values : List Text) (rows : List Row) → is_passed (use_fault false a values rows) ≡ use_passes false a values rows
 
 not_none : (n : ℕ) → (suc (suc n) == 0) ≡ false
 not_none n = grind (arith, nat_tests)
@@ -51,19 +45,64 @@ some n = grind (arith, nat_tests)
 too_many : (n : ℕ) → nat_le (suc (suc n)) 1 ≡ false
 too_many n = grind (arith, nat_tests)
 
-option_use : (values : List Text) (rows : List Row) → UseAgrees option_rule values rows
-option_use [] rows = refl
-option_use (v ∷ []) rows = go (has_row (codes "workers") rows) refl
+never : (n : ℕ) → (0 == suc n) ≡ false
+never n = grind (arith, nat_tests)
+
+least : (n : ℕ) → nat_le 0 (suc n) ≡ true
+least n = grind (arith, nat_tests)
+
+above : (n : ℕ) → nat_le (suc n) 0 ≡ false
+above n = grind (arith, nat_tests)
+
+-- an option with a word
+value_use : (name : Text) → UseAgrees (with_index 1 (filled (value_rule name)))
+value_use name [] rows = refl
+value_use name (v ∷ []) rows = go (has_row name rows) refl
   where
-    go : (b : Bool) → has_row (codes "workers") rows ≡ b → UseAgrees option_rule (v ∷ []) rows
+    go : (b : Bool) → has_row name rows ≡ b
+        → is_passed (use_fault false (with_index 1 (filled (value_rule name))) (v ∷ []) rows) ≡ use_passes false (with_index 1 (filled (value_rule name))) (v ∷ []) rows
     go true e = rw e refl
     go false e = rw e refl
-option_use (v ∷ w ∷ vs) rows = rw (not_none (length vs), not_one (length vs), some (length vs), too_many (length vs)) refl
+value_use name (v ∷ w ∷ vs) rows = rw (not_none (length vs), not_one (length vs), some (length vs), too_many (length vs)) refl
 
-word_use : (values : List Text) (rows : List Row) → UseAgrees word_rule values rows
+-- an option without one
+flag_use : (name : Text) → UseAgrees (with_index 1 (filled (flag_rule name)))
+flag_use name [] rows = go (has_row name rows) refl
+  where
+    go : (b : Bool) → has_row name rows ≡ b
+        → is_passed (use_fault false (with_index 1 (filled (flag_rule name))) [] rows) ≡ use_passes false (with_index 1 (filled (flag_rule name))) [] rows
+    go true e = rw e refl
+    go false e = rw e refl
+flag_use name (v ∷ vs) rows = rw (never (length vs), least (length vs), above (length vs)) refl
+
+abbrev word_rule : Rule
+word_rule = with_index 1 (filled words_rule)
+
+-- the positional
+word_use : UseAgrees (with_index 1 (filled words_rule))
 word_use [] rows = refl
 word_use (v ∷ []) rows = refl
 word_use (v ∷ w ∷ vs) rows = rw (not_none (length vs), not_one (length vs), some (length vs), too_many (length vs)) refl
+
+-- ---- all rules
+
+-- it holds of each rule, one after another
+abbrev pub OfEach : (Rule → Type 0) → List Rule → Type 0
+OfEach P [] = Unit {0}
+OfEach P (a ∷ rules) = P a × OfEach P rules
+
+-- what holds of each holds of the first that passes a test
+found_has : (P : Rule → Type 0) (p : Rule → Bool) (rules : List Rule) (a : Rule) → OfEach P rules → find p rules ≡ Some a → P a
+found_has P p [] a each e = absurd (cc)
+found_has P p (r ∷ rules) a each e = go (p r) e (λ later. found_has P p rules a each.1 later)
+  where
+    go : (b : Bool) → (if b then Some r else find p rules) ≡ Some a → (find p rules ≡ Some a → P a) → P a
+    go true e later = let same : r ≡ a = cc in subst P same each.0
+    go false e later = later e
+
+all_agree : OfEach UseAgrees built_shape.rules
+all_agree =
+    (value_use (codes "workers"), (flag_use (codes "no-drums"), (value_use (codes "split"), (value_use (codes "hands"), (value_use (codes "strum"), (value_use (codes "meter"), (value_use (codes "tempo"), (value_use (codes "upbeat"), (value_use (codes "key"), (word_use, tt))))))))))
 
 -- what is pending, with any rows
 settle : (h : Held) → is_passed (settle_fault built_shape.rules false h) ≡ settle_passes built_shape.rules false h
@@ -71,14 +110,12 @@ settle h = go h.pending refl
   where
     go : (p : Option (Text × List Text)) → h.pending ≡ p → is_passed (settle_fault built_shape.rules false h) ≡ settle_passes built_shape.rules false h
     go None e = rw e refl
-    go (Some p) e = rw e (by (bytes_eq (codes "workers") p.0) refl (bytes_eq (codes "words") p.0) refl)
+    go (Some p) e = rw e (by (arg_by_id built_shape.rules p.0) refl)
       where
-        by : (a : Bool) → bytes_eq (codes "workers") p.0 ≡ a → (b : Bool) → bytes_eq (codes "words") p.0 ≡ b
-            → is_passed (option_map_or (λ (a : Rule). use_fault false a p.1 h.rows) (arg_by_id built_shape.rules p.0) [])
-            ≡ option_map_or (λ (a : Rule). use_passes false a p.1 h.rows) (arg_by_id built_shape.rules p.0) true
-        by true e b f = rw e (option_use p.1 h.rows)
-        by false e true f = rw (e, f) (word_use p.1 h.rows)
-        by false e false f = rw (e, f) refl
+        by : (o : Option Rule) → arg_by_id built_shape.rules p.0 ≡ o
+            → is_passed (option_map_or (λ (a : Rule). use_fault false a p.1 h.rows) o []) ≡ option_map_or (λ (a : Rule). use_passes false a p.1 h.rows) o true
+        by None e = refl
+        by (Some a) e = found_has UseAgrees (λ r. bytes_eq r.id p.0) built_shape.rules a all_agree e p.1 h.rows
 
 -- ---- one word
 
@@ -98,14 +135,30 @@ flags (suc k) text skip h = go (slice_get (chars text) 0) skip (λ rest less. fl
 
 long : (name : Text) (v : Option Text) (h : Held)
     → is_passed (long_fault built_shape.rules false (arg_by_long built_shape.rules name) v h) ≡ long_passes built_shape.rules false (arg_by_long built_shape.rules name) v h
-long name v h = go (bytes_eq (codes "workers") name) refl v
+long name v h = go (arg_by_long built_shape.rules name) refl
   where
-    go : (b : Bool) → bytes_eq (codes "workers") name ≡ b → (v : Option Text)
-        → is_passed (long_fault built_shape.rules false (arg_by_long built_shape.rules name) v h) ≡ long_passes built_shape.rules false (arg_by_long built_shape.rules name) v h
-    go false e v = rw e refl
-    go true e None = rw e (settle h)
-    go true e (Some v) = rw e (both_agree (settle_fault built_shape.rules false h) (use_fault false option_rule (v ∷ []) (settled built_shape.rules h).rows) _ _ (settle h)
-        (option_use (v ∷ []) (settled built_shape.rules h).rows))
+    Says : Option Rule → Type 0
+    Says o = is_passed (long_fault built_shape.rules false o v h) ≡ long_passes built_shape.rules false o v h
+
+    -- the option is met, with these values
+    met : (a : Rule) → UseAgrees a → (values : List Text)
+        → is_passed (react_fault built_shape.rules false a values h) ≡ react_passes built_shape.rules false a values h
+    met a agrees values =
+        both_agree (settle_fault built_shape.rules false h) (use_fault false a values (settled built_shape.rules h).rows) _ _ (settle h)
+        (agrees values (settled built_shape.rules h).rows)
+
+    by_values : (a : Rule) → UseAgrees a → (takes_some : Bool) → takes_values a ≡ takes_some → (v : Option Text)
+        → is_passed (if takes_some then option_fault built_shape.rules false a v h else (if is_some v then TooManyValues ∷ [] else react_fault built_shape.rules false a [] h))
+        ≡ (if takes_some then option_passes built_shape.rules false a v h else (not (is_some v) && react_passes built_shape.rules false a [] h))
+    by_values a agrees true e None = settle h
+    by_values a agrees true e (Some w) = met a agrees (w ∷ [])
+    by_values a agrees false e None = met a agrees []
+    by_values a agrees false e (Some w) = refl
+
+    go : (o : Option Rule) → arg_by_long built_shape.rules name ≡ o → Says o
+    go None e = refl
+    go (Some a) e =
+        by_values a (found_has UseAgrees (λ r. not (is_some r.index) && has_long r name) built_shape.rules a all_agree e) (takes_values a) refl v
 
 flag_word : (l : Option (Text × Option Text)) (word : Text) (h : Held)
     → is_passed (flag_word_fault built_shape.rules false l word h) ≡ flag_word_passes built_shape.rules false l word h
@@ -163,16 +216,27 @@ walks w (word ∷ words) = both_agree (turn_fault built_shape [] w word) (walk_f
 
 -- ---- the whole line
 
--- nothing has a default
-pub no_defaults : (rows : List Row) → defaults_fault rows built_shape.rules ≡ []
-unfolding defaults_fault
-no_defaults rows = go (has_row (codes "workers") rows) (has_row (codes "words") rows) refl refl
+-- no default is refused
+abbrev IsDefaultTaken : Rule → Type 0
+IsDefaultTaken a = given_default_fault a a.defaults ≡ []
+
+all_taken : OfEach IsDefaultTaken built_shape.rules
+all_taken = (refl, (refl, (refl, (refl, (refl, (refl, (refl, (refl, (refl, (refl, tt))))))))))
+
+default_taken : (rows : List Row) (a : Rule) → IsDefaultTaken a → default_fault rows a ≡ []
+default_taken rows a taken = go (has_row a.id rows || is_empty a.defaults)
   where
-    go : (a b : Bool) → has_row (codes "workers") rows ≡ a → has_row (codes "words") rows ≡ b → defaults_fault rows built_shape.rules ≡ []
-    go true true e f = rw (e, f) refl
-    go true false e f = rw (e, f) refl
-    go false true e f = rw (e, f) refl
-    go false false e f = rw (e, f) refl
+    go : (b : Bool) → (if b then [] else given_default_fault a a.defaults) ≡ []
+    go true = refl
+    go false = taken
+
+defaults_taken : (rows : List Row) (rules : List Rule) → OfEach IsDefaultTaken rules → defaults_fault rows rules ≡ []
+unfolding defaults_fault
+defaults_taken rows [] each = refl
+defaults_taken rows (a ∷ rules) each = rw (default_taken rows a each.0) (defaults_taken (with_default rows a) rules each.1)
+
+pub no_defaults : (rows : List Row) → defaults_fault rows built_shape.rules ≡ []
+no_defaults rows = defaults_taken rows built_shape.rules all_taken
 
 pub takes_is : (words : List Text) → is_passed (fault_of line_app words) ≡ takes line_app words
 takes_is words = go end.stopped refl

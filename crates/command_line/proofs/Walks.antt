@@ -9,9 +9,8 @@ use Rattle.clap.specs.Simple.{Shape, built}
 use Rattle.clap.specs.Faults.{walk_fault}
 use Rattle.clap.specs.declared.builder.value_parser.Reading.TheVariants.{AsWritten}
 use Rattle.command_line.specs.FlatCommand.{line_app}
-use Rattle.command_line.specs.PlainWords.{begins_with_hyphen, other_words, word_of_workers}
-use Rattle.command_line.specs.Requests.{is_workers}
-use Rattle.command_line.proofs.Rows.{Text, no_option-with_word, option-with_option, option-with_word, with_option, with_word, words-with_word, words_so_far}
+use Rattle.command_line.specs.PlainWords.{begins_with_hyphen, is_workers, other_words, word_of_workers}
+use Rattle.command_line.proofs.Rows.{ArePlainRows, Text, plain-with_option, plain-with_word, no_option-with_word, option-with_option, option-with_word, with_option, with_word, words-with_word, words_so_far}
 
 -- the command as it is built
 abbrev pub built_shape : Shape
@@ -101,6 +100,7 @@ pub record WalkEnds (p : Pending) (rows : List Row) (words said : List Text) (op
   pub free : IsFree last found
   pub words_are : words_so_far (rows_with last found) ≡ said
   pub option_is : first_of (codes "workers") (rows_with last found) ≡ option_word
+  pub plain : ArePlainRows (rows_with last found)
 
 abbrev pub is_hyphenless : Text → Bool
 is_hyphenless word = not (begins_with_hyphen word)
@@ -112,9 +112,9 @@ no_words w = refl
 
 -- the walk over words none of which begins with `-`
 plain_walk : (words : List Text) → list_all is_hyphenless words ≡ true → (p : Pending) (rows : List Row) (said : List Text) (option_word : Option Text)
-    → IsFree p rows → words_so_far (rows_with p rows) ≡ said → first_of (codes "workers") (rows_with p rows) ≡ option_word
-    → WalkEnds p rows words (said ++ words) option_word
-plain_walk [] plain p rows said option_word free words_are option_is = record {
+    → IsFree p rows → ArePlainRows (rows_with p rows) → words_so_far (rows_with p rows) ≡ said
+    → first_of (codes "workers") (rows_with p rows) ≡ option_word → WalkEnds p rows words (said ++ words) option_word
+plain_walk [] plain p rows said option_word free rows_plain words_are option_is = record {
   last = p;
   found = rows;
   walks = refl;
@@ -122,11 +122,13 @@ plain_walk [] plain p rows said option_word free words_are option_is = record {
   free = free;
   words_are = words_are ∙ sym (append-nil said);
   option_is = option_is;
+  plain = rows_plain;
 }
-plain_walk (word ∷ words) plain p rows said option_word free words_are option_is =
+plain_walk (word ∷ words) plain p rows said option_word free rows_plain words_are option_is =
     let both = and_parts (is_hyphenless word) (list_all is_hyphenless words) plain in
     let step = step_word p rows word free (not-true (begins_with_hyphen word) both.0) in
     let rest = plain_walk words both.1 (a_word word) (rows_with p rows) (said ++ word ∷ []) option_word tt
+    (plain-with_word AsWritten word (rows_with p rows) rows_plain)
     (words-with_word AsWritten word (rows_with p rows) ∙ ap (λ (ws : List Text). ws ++ word ∷ []) words_are)
     (option-with_word AsWritten word (rows_with p rows) ∙ option_is) in
     record {
@@ -137,6 +139,7 @@ plain_walk (word ∷ words) plain p rows said option_word free words_are option_
       free = rest.free;
       words_are = rest.words_are ∙ append_assoc said (word ∷ []) words;
       option_is = rest.option_is;
+      plain = rest.plain;
     }
 
 -- the words after the option: there is one, and none begins with `-`
@@ -151,15 +154,15 @@ is_plain (word ∷ words) = if is_workers word then is_after_option words else (
 
 -- the walk over the option and what follows it
 option_walk : (words : List Text) → is_after_option words ≡ true → (p : Pending) (rows : List Row) (said : List Text)
-    → IsFree p rows → has_row (codes "workers") (rows_with p rows) ≡ false → words_so_far (rows_with p rows) ≡ said
-    → WalkEnds p rows (codes "--workers" ∷ words) (said ++ drop 1 words) (slice_get words 0)
-option_walk [] plain p rows said free none words_are = absurd (true≢false (sym plain))
-option_walk (n ∷ words) plain p rows said free none words_are =
+    → IsFree p rows → ArePlainRows (rows_with p rows) → has_row (codes "workers") (rows_with p rows) ≡ false
+    → words_so_far (rows_with p rows) ≡ said → WalkEnds p rows (codes "--workers" ∷ words) (said ++ drop 1 words) (slice_get words 0)
+option_walk [] plain p rows said free rows_plain none words_are = absurd (true≢false (sym plain))
+option_walk (n ∷ words) plain p rows said free rows_plain none words_are =
     let both = and_parts (is_hyphenless n) (list_all is_hyphenless words) plain in
     let first = step_option p rows free in
     let second = step_value (rows_with p rows) n (not-true (begins_with_hyphen n) both.0) in
     let says = option-with_option AsWritten n (rows_with p rows) none in
-    let rest = plain_walk words both.1 (an_option n) (rows_with p rows) said (Some n) none (says.1 ∙ words_are) says.0 in
+    let rest = plain_walk words both.1 (an_option n) (rows_with p rows) said (Some n) none (plain-with_option AsWritten n (rows_with p rows) rows_plain) (says.1 ∙ words_are) says.0 in
     record {
       last = rest.last;
       found = rest.found;
@@ -168,18 +171,20 @@ option_walk (n ∷ words) plain p rows said free none words_are =
       free = rest.free;
       words_are = rest.words_are;
       option_is = rest.option_is;
+      plain = rest.plain;
     }
 
 -- the walk over plain words
 pub walk_ends : (words : List Text) → is_plain words ≡ true → (p : Pending) (rows : List Row) (said : List Text)
-    → IsFree p rows → has_row (codes "workers") (rows_with p rows) ≡ false → words_so_far (rows_with p rows) ≡ said
-    → first_of (codes "workers") (rows_with p rows) ≡ None → WalkEnds p rows words (said ++ other_words words) (word_of_workers words)
-walk_ends [] plain p rows said free none words_are option_is = plain_walk [] refl p rows said None free words_are option_is
-walk_ends (word ∷ words) plain p rows said free none words_are option_is =
-    go (is_workers word) refl plain (λ e. option_walk words e p rows said free none words_are)
+    → IsFree p rows → ArePlainRows (rows_with p rows) → has_row (codes "workers") (rows_with p rows) ≡ false
+    → words_so_far (rows_with p rows) ≡ said → first_of (codes "workers") (rows_with p rows) ≡ None → WalkEnds p rows words (said ++ other_words words) (word_of_workers words)
+walk_ends [] plain p rows said free rows_plain none words_are option_is = plain_walk [] refl p rows said None free rows_plain words_are option_is
+walk_ends (word ∷ words) plain p rows said free rows_plain none words_are option_is =
+    go (is_workers word) refl plain (λ e. option_walk words e p rows said free rows_plain none words_are)
     (λ hyphenless more.
     let step = step_word p rows word free hyphenless in
     let rest = walk_ends words more (a_word word) (rows_with p rows) (said ++ word ∷ []) tt
+    (plain-with_word AsWritten word (rows_with p rows) rows_plain)
     (no_option-with_word AsWritten word (rows_with p rows) none)
     (words-with_word AsWritten word (rows_with p rows) ∙ ap (λ (ws : List Text). ws ++ word ∷ []) words_are)
     (option-with_word AsWritten word (rows_with p rows) ∙ option_is) in
@@ -191,6 +196,7 @@ walk_ends (word ∷ words) plain p rows said free none words_are option_is =
       free = rest.free;
       words_are = rest.words_are ∙ append_assoc said (word ∷ []) (other_words words);
       option_is = rest.option_is;
+      plain = rest.plain;
     })
   where
     After : Type 0

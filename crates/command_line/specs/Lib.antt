@@ -1,5 +1,6 @@
 pub mod FlatCommand
 pub mod Numbers
+pub mod Preparing
 pub mod Requests
 pub mod CommandLines
 pub mod PlainWords

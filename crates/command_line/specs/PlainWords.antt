@@ -1,7 +1,11 @@
 -- Plain words, which say what they say without `clap`.
 use Rattle.std.specs.Prelude.{◌≢◌, ℕ, ◌==◌, ◌≤◌, ◌||◌, Bool, IsTrue, false, not, if◌then◌else◌, List, [], ◌∷◌, ◌++◌, codes, count_by, drop, slice_get, Option, None}
 use Rattle.std.specs.List.{list_all}
-use Rattle.command_line.specs.Requests.{is_workers}
+use Rattle.std.specs.Str.{bytes_eq}
+
+-- the word is the option for the number of workers
+abbrev pub is_workers : List ℕ → Bool
+is_workers word = bytes_eq word (codes "--workers")
 
 abbrev pub begins_with_hyphen : List ℕ → Bool
 begins_with_hyphen [] = false

@@ -3,9 +3,15 @@ use Rattle.std.specs.Prelude.{ℕ, ◌==◌, ◌&&◌, ◌||◌, Bool, false, no
 use Rattle.std.specs.List.{before_first, list_all, list_any}
 use Rattle.std.specs.Str.{bytes_eq}
 
--- the word is the option
-abbrev pub is_workers : List ℕ → Bool
-is_workers word = bytes_eq word (codes "--workers")
+-- the word is an option that takes the next word
+abbrev pub takes_next : List ℕ → Bool
+takes_next word =
+    bytes_eq word (codes "--workers")
+    || (bytes_eq word (codes "--split")
+    || (bytes_eq word (codes "--hands")
+    || (bytes_eq word (codes "--strum")
+    || (bytes_eq word (codes "--meter")
+    || (bytes_eq word (codes "--tempo") || (bytes_eq word (codes "--upbeat") || bytes_eq word (codes "--key")))))))
 
 -- the word is `--`, after which no word is an option
 abbrev pub is_dashes : List ℕ → Bool
@@ -32,11 +38,11 @@ is_help = is_named (codes "--help") 104
 abbrev pub is_version : List ℕ → Bool
 is_version = is_named (codes "--version") 86
 
--- some word passes the test and does not follow the option; `follows` says whether the first one does
+-- some word passes the test and is not the word of an option; `follows` says whether the first one is
 abbrev pub has_free : (List ℕ → Bool) → Bool → List (List ℕ) → Bool
 has_free test follows [] = false
-has_free test follows (word ∷ words) = (test word && not follows) || has_free test (is_workers word) words
+has_free test follows (word ∷ words) = (test word && not follows) || has_free test (takes_next word) words
 
--- some word before the first `--` passes the test, other than the word after the option
+-- some word before the first `--` passes the test, other than the word of an option
 abbrev pub asks : (List ℕ → Bool) → List (List ℕ) → Bool
 asks test words = has_free test false (before_first is_dashes words)

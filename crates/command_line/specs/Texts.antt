@@ -14,7 +14,7 @@ text_of_lines (line ∷ lines) = line ++ 10 ∷ text_of_lines lines
 -- how the program is called: the commands with what each reads and writes, the options, and the statuses
 abbrev pub help_lines : List (List ℕ)
 help_lines =
-    codes "Usage: rhythm [--workers N] COMMAND ARGUMENT..."
+    codes "Usage: rhythm [OPTION...] COMMAND ARGUMENT..."
     ∷ []
     ∷ codes "Turns a performance, a Standard MIDI File, into notation in Humdrum **kern, by"
     ∷ codes "a file of weighted rhythm rules."
@@ -64,6 +64,18 @@ help_lines =
     ∷ codes "  -h, --help      Writes this text."
     ∷ codes "  -V, --version   Writes the version."
     ∷ []
+    ∷ codes "Of what was recorded, for the commands on MIDI and GRAMMAR, and for notes:"
+    ∷ codes "  --no-drums      Channel 9, the drums, is left out."
+    ∷ codes "  --split KEY     The notes below KEY, 1 to 127, are the other hand: 60 is"
+    ∷ codes "                  middle C."
+    ∷ codes "  --hands CHANNEL Two hands that played in CHANNEL, 0 to 15 but 9, are parted."
+    ∷ codes "  --strum MS      Notes at most MS milliseconds, 1 to 100, one after the other,"
+    ∷ codes "                  that sound on, are one chord."
+    ∷ codes "  --meter N/D     It is in N/D: N is 1 to 64, D is 1, 2, 4, 8, 16, 32 or 64."
+    ∷ codes "  --tempo Q       It was played at Q quarters a minute, 1 to 1000."
+    ∷ codes "  --upbeat N/D    The first note is N/D of a whole note before a barline."
+    ∷ codes "  --key SF        It has SF sharps, 0 to 7; flats are told as in --key=-3."
+    ∷ []
     ∷ codes "Status:"
     ∷ codes "  0   done"
     ∷ codes "  1   the words are no command"
@@ -81,4 +93,4 @@ help_text = text_of_lines help_lines
 
 -- the name of the program and its version
 unfoldable pub version_text : List ℕ
-version_text = text_of_lines (codes "rhythm 1.2" ∷ [])
+version_text = text_of_lines (codes "rhythm 1.3" ∷ [])

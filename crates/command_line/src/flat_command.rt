@@ -1,28 +1,71 @@
-ghost use Rattle.clap.specs.Words.{FailsBy, HasMatchesOf, fault_of, found_of, kind_of};
-ghost use Rattle.command_line.specs.CommandLines.{line_matches, seen_matches};
-ghost use Rattle.command_line.specs.FlatCommand.{line_app};
+ghost use Rattle.clap.specs.Words.{FailsBy, HasMatchesOf, app_of, fault_of, found_of, kind_of, rows_of, rule_of, with_rule};
+ghost use Rattle.command_line.specs.CommandLines.{line_matches};
+ghost use Rattle.command_line.specs.FlatCommand.{flag_rule, line_app, value_rule, words_rule};
 ghost use Rattle.command_line.specs.declared.invocation.WordsFault.TheVariants.{Refused};
-ghost use Rattle.std.specs.Prelude.{◌≡◌, ◌≢◌, IfErr, IfOk, None, Some, map};
+ghost use Rattle.std.specs.Prelude.{◌≡◌, ◌≢◌, IfErr, IfOk, None, Some, false, map};
 
 use crate::invocation::WordsFault;
 use clap::error::ErrorKind;
 use clap::{Arg, ArgAction, ArgMatches, Command, Error};
 use std::alloc::{AllocError, Global};
 
+/// An option that takes one word.
+fn value_option<'a>(alloc: Global, name: &'a str) -> Arg<'a>
+    ensures rule { rule_of result ≡ value_rule name.entry.now }
+    ensures local { result.global ≡ false }
+{
+    Arg::new(alloc, name).long(name).action(ArgAction::Set)
+}
+
+/// An option that takes no word.
+fn flag<'a>(alloc: Global, name: &'a str) -> Arg<'a>
+    ensures rule { rule_of result ≡ flag_rule name.entry.now }
+    ensures local { result.global ≡ false }
+{
+    Arg::new(alloc, name).long(name).action(ArgAction::SetTrue)
+}
+
+/// The positional, which takes all other words.
+fn positional<'a>(alloc: Global) -> Arg<'a>
+    ensures rule { rule_of result ≡ words_rule }
+    ensures local { result.global ≡ false }
+{
+    Arg::new(alloc, "words").action(ArgAction::Append)
+}
+
+/// The command with one more option or positional.
+fn with_arg<'a>(command: Command<'a>, arg: Arg<'a>) -> Result<Command<'a>, AllocError>
+    requires { arg.global ≡ false }
+    ensures { IfOk result (λ c. app_of c ≡ with_rule (app_of command.entry) (rule_of arg.entry)) }
+{
+    command.arg(arg)
+}
+
+/// The one flat command: the options, and the positional.
+fn line_command<'a>(alloc: Global) -> Result<Command<'a>, AllocError>
+    ensures { IfOk result (λ c. app_of c ≡ line_app) }
+{
+    let plain = Command::new(alloc, "rhythm")
+        .no_binary_name(true)
+        .disable_help_flag(true);
+    let command = with_arg(plain, value_option(alloc, "workers"))?;
+    let command = with_arg(command, flag(alloc, "no-drums"))?;
+    let command = with_arg(command, value_option(alloc, "split"))?;
+    let command = with_arg(command, value_option(alloc, "hands"))?;
+    let command = with_arg(command, value_option(alloc, "strum"))?;
+    let command = with_arg(command, value_option(alloc, "meter"))?;
+    let command = with_arg(command, value_option(alloc, "tempo"))?;
+    let command = with_arg(command, value_option(alloc, "upbeat"))?;
+    let command = with_arg(command, value_option(alloc, "key"))?;
+    with_arg(command, positional(alloc))
+}
+
 /// What `clap` makes of the words, by the one flat command.
 fn parsed<'a>(alloc: Global, words: &'a [&'a str]) -> Result<ArgMatches<'a>, Error>
     ensures ok { IfOk result (λ m. HasMatchesOf line_app (map (λ s. s.now) words.entry.now) m) }
     ensures kinds { FailsBy (fault_of line_app (map (λ s. s.now) words.entry.now)) result }
 {
-    let workers = Arg::new(alloc, "workers")
-        .long("workers")
-        .action(ArgAction::Set);
-    let others = Arg::new(alloc, "words").action(ArgAction::Append);
-    let command = Command::new(alloc, "rhythm")
-        .no_binary_name(true)
-        .disable_help_flag(true)
-        .arg(workers)?
-        .arg(others)?;
+    let command = line_command(alloc)?;
     command.try_get_matches_from(words)
 }
 
@@ -42,7 +85,7 @@ pub(crate) fn taken_matches<'a>(
     alloc: Global,
     words: &'a [&'a str],
 ) -> Result<ArgMatches<'a>, WordsFault>
-    ensures ok { IfOk result (λ m. line_matches (map (λ s. s.now) words.entry.now) ≡ Some (seen_matches (found_of m))) }
+    ensures ok { IfOk result (λ m. line_matches (map (λ s. s.now) words.entry.now) ≡ Some (rows_of (found_of m))) }
     ensures refused { IfErr result (λ fault. fault ≡ Refused → line_matches (map (λ s. s.now) words.entry.now) ≡ None) }
 {
     match parsed(alloc, words) {

@@ -1,6 +1,7 @@
 ghost use Rattle.command_line.specs.declared.invocation.WordsFault.TheVariants.{Memory};
 ghost use Rattle.std.specs.Prelude.{◌≡◌};
 
+use performance_prepare::Options;
 use rhythm_base::Words;
 use std::alloc::{AllocError, AllocFailed};
 use std::error::Error;
@@ -11,6 +12,8 @@ use std::fmt;
 pub struct CommandLine {
     /// How many workers build cells, 1 to 16.
     pub workers: u32,
+    /// What is told of a take.
+    pub options: Options,
     /// The name of the command and its arguments.
     pub words: Words,
 }
@@ -29,7 +32,7 @@ pub enum Invocation {
 /// Why words say nothing.
 #[derive(Clone, Copy, Debug, PartialEq, Eq)]
 pub enum WordsFault {
-    /// The words are no command line, or the number of workers is none of 1 to 16.
+    /// The words are no command line, or the word of an option is out of range.
     Refused,
     /// Want of memory.
     Memory,

@@ -1,7 +1,10 @@
-ghost use Rattle.command_line.specs.Numbers.{number_in, workers_of};
+ghost use Rattle.command_line.specs.Numbers.{after_hyphen, fraction_in, fraction_of, key_in, keyboard_in, keyboard_of, number_in, workers_of};
+ghost use Rattle.performance_prepare.specs.Ranges.{IsFraction, IsKey, IsKeyboard};
 ghost use Rattle.std.specs.Char.{is_ascii_digit};
 ghost use Rattle.std.specs.List.{list_all};
-ghost use Rattle.std.specs.Prelude.{◌≡◌, option_map};
+ghost use Rattle.std.specs.Prelude.{◌≡◌, ◌≤◌, IfSome, option_map};
+
+use performance_prepare::Fraction;
 
 /// Whether the word has no other byte than digits.
 fn is_all_digits(word: &[u8]) -> bool
@@ -29,4 +32,64 @@ pub(crate) fn workers_in(option: Option<&str>) -> Option<u32>
         Some(word) => Some(number_in(word, 1, 16)? as u32),
         None => Some(1),
     }
+}
+
+/// The fraction of two numbers, where the second is a power of two.
+fn fraction_of(num: u8, den: u8) -> Option<Fraction>
+    requires { num ≤ 64 }
+    ensures value { result ≡ fraction_of num den }
+    ensures range { IfSome result IsFraction }
+{
+    if matches!(den, 1 | 2 | 4 | 8 | 16 | 32 | 64) {
+        Some(Fraction { num, den })
+    } else {
+        None
+    }
+}
+
+/// The fraction that the word says: a number up to 64, a slash, and a power of two up to 64.
+pub(crate) fn fraction_in(word: &str, least: u64) -> Option<Fraction>
+    ensures value { result ≡ fraction_in least word.now }
+    ensures range { IfSome result IsFraction }
+{
+    let (num, den) = word.split_once('/')?;
+    let num = number_in(num, least, 64)? as u8;
+    let den = number_in(den, 1, 64)? as u8;
+    fraction_of(num, den)
+}
+
+/// What stands after a hyphen.
+fn after_hyphen(word: &str) -> Option<&str>
+    ensures { option_map (λ s. s.now) result ≡ after_hyphen word.now }
+{
+    let (before, after) = word.split_once('-')?;
+    before.is_empty().then_some(after)
+}
+
+/// The signature that the word says: so many sharps, or so many flats after a hyphen, 0 to 7.
+pub(crate) fn key_in(word: &str) -> Option<i8>
+    ensures value { result ≡ key_in word.now }
+    ensures range { IfSome result IsKey }
+{
+    match after_hyphen(word) {
+        None => Some(number_in(word, 0, 7)? as i8),
+        Some(flats) => Some(-(number_in(flats, 0, 7)? as i8)),
+    }
+}
+
+/// The channel, where it is not that of drums.
+fn keyboard_of(channel: u8) -> Option<u8>
+    requires { channel ≤ 15 }
+    ensures value { result ≡ keyboard_of channel }
+    ensures range { IfSome result IsKeyboard }
+{
+    if channel == 9 { None } else { Some(channel) }
+}
+
+/// The channel that the word says, 0 to 15 but 9.
+pub(crate) fn keyboard_in(word: &str) -> Option<u8>
+    ensures value { result ≡ keyboard_in word.now }
+    ensures range { IfSome result IsKeyboard }
+{
+    keyboard_of(number_in(word, 0, 15)? as u8)
 }

@@ -1,11 +1,13 @@
-ghost use Rattle.clap.specs.Words.{found_of};
-ghost use Rattle.command_line.specs.CommandLines.{HasWorkers, command_line_of, invocation_of, seen_matches};
+ghost use Rattle.clap.specs.Words.{found_of, rows_of};
+ghost use Rattle.command_line.specs.CommandLines.{HasOptions, HasWorkers, command_line_of, invocation_of, line_said, words_given};
 ghost use Rattle.command_line.specs.declared.invocation.WordsFault.TheVariants.{Refused};
+ghost use Rattle.performance_prepare.specs.Ranges.{AreInRange};
 ghost use Rattle.std.specs.Prelude.{◌≡◌, ◌≤◌, IfErr, IfOk, None, Some, map};
 
 use crate::flat_command::{refusal_of, taken_matches};
 use crate::invocation::{CommandLine, Invocation, WordsFault};
 use crate::number::workers_in;
+use crate::preparing::{options_in, range_refusal, word_of};
 use crate::requests::asks_by;
 use clap::ArgMatches;
 use rhythm_base::Words;
@@ -37,7 +39,7 @@ fn words_of(alloc: Global, list: &[&str]) -> Result<Words, AllocError>
 
 /// The words of the positional.
 fn given_words(alloc: Global, matches: &ArgMatches<'_>) -> Result<Words, AllocError>
-    ensures { IfOk result (λ words. words ≡ (seen_matches (found_of matches.now)).words) }
+    ensures { IfOk result (λ words. words ≡ words_given (rows_of (found_of matches.now))) }
 {
     match matches.get_strs("words") {
         Some(list) => words_of(alloc, list),
@@ -45,32 +47,52 @@ fn given_words(alloc: Global, matches: &ArgMatches<'_>) -> Result<Words, AllocEr
     }
 }
 
+/// The command line that the matches say.
+fn line_in(alloc: Global, matches: &ArgMatches<'_>) -> Result<CommandLine, WordsFault>
+    ensures ok { IfOk result (λ line. line_said (rows_of (found_of matches.now)) ≡ Some line) }
+    ensures refused { IfErr result (λ fault. fault ≡ Refused → line_said (rows_of (found_of matches.now)) ≡ None) }
+    ensures workers { IfOk result (λ line. (1 ≤ line.workers) × (line.workers ≤ 16)) }
+    ensures options { IfOk result (λ line. AreInRange line.options) }
+{
+    let Some(workers) = workers_in(word_of(matches, "workers")) else {
+        return Err(WordsFault::Refused);
+    };
+    match options_in(matches) {
+        None => Err(WordsFault::Refused),
+        Some(options) => {
+            let words = given_words(alloc, matches)?;
+            Ok(CommandLine {
+                workers,
+                options,
+                words,
+            })
+        }
+    }
+}
+
 /// The command line that the words are.
 fn command_line(alloc: Global, list: &[&str]) -> Result<CommandLine, WordsFault>
     ensures ok { IfOk result (λ line. command_line_of (map (λ s. s.now) list.now) ≡ Some line) }
     ensures refused { IfErr result (λ fault. fault ≡ Refused → command_line_of (map (λ s. s.now) list.now) ≡ None) }
+    ensures workers { IfOk result (λ line. (1 ≤ line.workers) × (line.workers ≤ 16)) }
+    ensures options { IfOk result (λ line. AreInRange line.options) }
 {
     let matches = match taken_matches(alloc, list) {
         Ok(matches) => matches,
         Err(fault) => return Err(fault),
     };
-    match workers_in(matches.get_str("workers")) {
-        Some(workers) => {
-            let words = given_words(alloc, &matches)?;
-            Ok(CommandLine { workers, words })
-        }
-        None => Err(WordsFault::Refused),
-    }
+    line_in(alloc, &matches)
 }
 
 /// What the words of a command line say.
 ///
-/// They are refused exactly where `clap` refuses them, or where the number of workers is none of 1 to 16. Words that ask
+/// They are refused exactly where `clap` refuses them, or where the word of an option is out of its range. Words that ask
 /// for help or for the version are not refused, whatever else they are.
 pub fn read_words(alloc: Global, words: &Words) -> Result<Invocation, WordsFault>
     ensures ok { IfOk result (λ said. invocation_of words.now ≡ Some said) }
     ensures refused { IfErr result (λ fault. fault ≡ Refused → invocation_of words.now ≡ None) }
     ensures workers { IfOk result HasWorkers }
+    ensures options { IfOk result HasOptions }
 {
     let list = texts_of(alloc, words)?;
     if asks_by(list.as_slice(), "--help", b'h') {
@@ -83,18 +105,18 @@ pub fn read_words(alloc: Global, words: &Words) -> Result<Invocation, WordsFault
     Ok(Invocation::Command(line))
 }
 
-/// What is wrong with words that are refused, in one line: in the words of `clap` where it refuses them, and else that the number of workers
-/// is out of range. Nothing of words that are not refused.
+/// What is wrong with words that are refused, in one line: in the words of `clap` where it refuses them, and else which option is out
+/// of range. Nothing of words that are not refused.
 pub fn words_refusal(alloc: Global, words: &Words) -> Result<Option<String>, AllocError> {
     let list = texts_of(alloc, words)?;
     if let Some(said) = refusal_of(alloc, list.as_slice())? {
         return Ok(Some(said));
     }
     match read_words(alloc, words) {
-        Err(WordsFault::Refused) => {
-            let said = String::from_str(alloc, "--workers takes a number from 1 to 16")?;
-            Ok(Some(said))
-        }
+        Err(WordsFault::Refused) => match taken_matches(alloc, list.as_slice()) {
+            Ok(matches) => Ok(Some(String::from_str(alloc, range_refusal(&matches))?)),
+            Err(_fault) => Err(AllocError),
+        },
         Err(WordsFault::Memory) => Err(AllocError),
         Ok(_said) => Ok(None),
     }

@@ -1,4 +1,4 @@
-ghost use Rattle.command_line.specs.Requests.{asks, has_short_names, is_named, is_short_name};
+ghost use Rattle.command_line.specs.Requests.{asks, has_short_names, is_named, is_short_name, takes_next};
 ghost use Rattle.std.specs.List.{list_all, list_any};
 ghost use Rattle.std.specs.Prelude.{◌≡◌, ◌==◌, map};
 
@@ -35,7 +35,21 @@ fn is_named(word: &str, long: &str, letter: u8) -> bool
     word == long || has_short_names(word.as_bytes()) && has_byte(word.as_bytes(), letter)
 }
 
-/// Whether a word before the first `--` has the long name or the short one, other than the word after the option.
+/// Whether the word is an option that takes the next word.
+fn takes_next(word: &str) -> bool
+    ensures { result ≡ takes_next word.now }
+{
+    word == "--workers"
+        || word == "--split"
+        || word == "--hands"
+        || word == "--strum"
+        || word == "--meter"
+        || word == "--tempo"
+        || word == "--upbeat"
+        || word == "--key"
+}
+
+/// Whether a word before the first `--` has the long name or the short one, other than the word of an option.
 #[tactic(auto, using(crate::proofs::Asking::goes_on, crate::proofs::Asking::found_here, crate::proofs::Asking::dashes_end))]
 pub(crate) fn asks_by(words: &[&str], long: &str, letter: u8) -> bool
     ensures { result ≡ asks (is_named long.now letter) (map (λ s. s.now) words.now) }
@@ -48,7 +62,7 @@ pub(crate) fn asks_by(words: &[&str], long: &str, letter: u8) -> bool
         if is_named(word, long, letter) && !follows {
             return true;
         }
-        follows = *word == "--workers";
+        follows = takes_next(word);
     }
     false
 }

@@ -7,7 +7,7 @@ pub fn help_text() -> &'static str
     ensures narrow { IsTrue (has_narrow_lines result.now) }
 {
     "\
-Usage: rhythm [--workers N] COMMAND ARGUMENT...
+Usage: rhythm [OPTION...] COMMAND ARGUMENT...
 
 Turns a performance, a Standard MIDI File, into notation in Humdrum **kern, by
 a file of weighted rhythm rules.
@@ -57,6 +57,18 @@ Options:
   -h, --help      Writes this text.
   -V, --version   Writes the version.
 
+Of what was recorded, for the commands on MIDI and GRAMMAR, and for notes:
+  --no-drums      Channel 9, the drums, is left out.
+  --split KEY     The notes below KEY, 1 to 127, are the other hand: 60 is
+                  middle C.
+  --hands CHANNEL Two hands that played in CHANNEL, 0 to 15 but 9, are parted.
+  --strum MS      Notes at most MS milliseconds, 1 to 100, one after the other,
+                  that sound on, are one chord.
+  --meter N/D     It is in N/D: N is 1 to 64, D is 1, 2, 4, 8, 16, 32 or 64.
+  --tempo Q       It was played at Q quarters a minute, 1 to 1000.
+  --upbeat N/D    The first note is N/D of a whole note before a barline.
+  --key SF        It has SF sharps, 0 to 7; flats are told as in --key=-3.
+
 Status:
   0   done
   1   the words are no command
@@ -74,5 +86,5 @@ Status:
 pub fn version_text() -> &'static str
     ensures { result.now ≡ version_text }
 {
-    "rhythm 1.2\n"
+    "rhythm 1.3\n"
 }

@@ -17,4 +17,5 @@ pub mod Split
 pub mod Strum
 pub mod StrumLaws
 pub mod Tempo
+pub mod Told
 pub mod Upbeat

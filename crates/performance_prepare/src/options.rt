@@ -1,3 +1,6 @@
+ghost use Rattle.performance_prepare.specs.Told.{is_told};
+ghost use Rattle.std.specs.Prelude.{◌≡◌};
+
 /// A part of a whole note, as the meter of a bar or the length of an upbeat: `num` times 1 over `den`.
 #[derive(Clone, Copy, Debug, PartialEq, Eq)]
 pub struct Fraction {
@@ -26,4 +29,20 @@ pub struct Options {
     pub upbeat: Option<Fraction>,
     /// The one key: sharps where above 0, flats where below, -7 to 7.
     pub key: Option<i8>,
+}
+
+impl Options {
+    /// Whether anything is told of a take.
+    pub fn is_told(&self) -> bool
+        ensures { result ≡ is_told self.now }
+    {
+        self.no_drums
+            || self.split.is_some()
+            || self.hands.is_some()
+            || self.strum.is_some()
+            || self.meter.is_some()
+            || self.tempo.is_some()
+            || self.upbeat.is_some()
+            || self.key.is_some()
+    }
 }

@@ -1,10 +1,11 @@
 use command_line::{Invocation, WordsFault, help_text, number_in, read_words, version_text};
+use performance_prepare::{Fraction, Options};
 use rhythm_base::Words;
 use std::alloc::{AllocError, Global};
 use std::test::Fail;
 
 /// Command lines, with `|` between two words, and what they say: the number of workers and the words of the command.
-const SAID: [(&str, &str); 12] = [
+const SAID: [(&str, &str); 16] = [
     (
         "transcribe|a.mid|b.grammar",
         "1: transcribe|a.mid|b.grammar",
@@ -23,6 +24,10 @@ const SAID: [(&str, &str); 12] = [
     ("edit|--workers|17", "refused"),
     ("-V|edit|-h", "help"),
     ("--workers|2|-V", "version"),
+    ("notes|a.mid|--split|--help", "refused"),
+    ("notes|a.mid|--key|-3", "refused"),
+    ("notes|a.mid|--meter|3/5", "refused"),
+    ("notes|a.mid|--hands|9", "refused"),
 ];
 
 /// The words of a line with `|` between two of them.
@@ -69,6 +74,34 @@ fn no_words_are_a_command_line_without_a_command(rt: HostRuntime) -> Result<(), 
     Ok(())
 }
 
+/// What a command line tells of a take, or nothing of words that are none.
+fn told(alloc: Global, line: &str) -> Result<Option<Options>, AllocError> {
+    let words = split_words(alloc, line)?;
+    match read_words(alloc, &words) {
+        Ok(Invocation::Command(line)) => Ok(Some(line.options)),
+        _ => Ok(None),
+    }
+}
+
+#[test]
+fn options_tell_of_a_take(rt: HostRuntime) -> Result<(), Fail> {
+    let line =
+        "--split=60|notes|--no-drums|a.mid|--hands|15|--meter|3/4|--tempo|93|--upbeat=0/4|--key=-3|--strum|40";
+    let options = Options {
+        no_drums: true,
+        split: Some(60),
+        hands: Some(15),
+        strum: Some(40),
+        meter: Some(Fraction { num: 3, den: 4 }),
+        tempo: Some(93),
+        upbeat: Some(Fraction { num: 0, den: 4 }),
+        key: Some(-3),
+    };
+    assert!(rt; told(rt.alloc(), line)? == Some(options));
+    assert!(rt; told(rt.alloc(), "notes|a.mid")?.is_some_and(|options| !options.is_told()));
+    Ok(())
+}
+
 /// Words, the least and the greatest number that they may be, and the number.
 const NUMBERS: [(&str, u64, u64, Option<u64>); 5] = [
     ("0", 0, 65_534, Some(0)),
@@ -88,6 +121,6 @@ fn numbers_have_one_to_ten_digits(rt: HostRuntime) -> Result<(), Fail> {
 
 #[test]
 fn help_and_version_are_told(rt: HostRuntime) -> Result<(), Fail> {
-    assert!(rt; help_text().starts_with("Usage: ") && version_text() == "rhythm 1.2\n");
+    assert!(rt; help_text().starts_with("Usage: ") && version_text() == "rhythm 1.3\n");
     Ok(())
 }
