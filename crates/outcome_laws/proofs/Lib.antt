@@ -23,4 +23,7 @@ mod Followings
 mod FileTests
 mod InTurn
 mod Learnings
+mod Playings
+mod Untold
+mod AskedOptions
 mod Outcomes

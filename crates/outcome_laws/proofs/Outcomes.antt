@@ -1,11 +1,14 @@
 -- Every command line has an outcome.
 use Rattle.std.proofs.Common.{◌≡◌, ℕ, List, subst, refl, Option, Some, None, Result, Ok, Err}
-use Rattle.rhythm_app.proofs.OneOutcome.{in_ranges, readable, sound_inputs, well_formed}
+use Rattle.std.specs.Prelude.{IfSome}
+use Rattle.performance_prepare.specs.Ranges.{AreInRange}
+use Rattle.performance_prepare.specs.declared.options.Options.{Options}
+use Rattle.rhythm_app.proofs.OneOutcome.{in_ranges, readable, sound_inputs, well_played}
 use Rattle.rhythm_app.specs.Asked.{Asked, help, version, write, answer, fit, too_many_candidates, follow, learn, too_many_files, notes, events, generate, drill, asked_by}
 use Rattle.rhythm_app.specs.Commands.{HasOutcomeOf}
 use Rattle.rhythm_app.specs.Inputs.{Inputs, file_content}
 use Rattle.rhythm_app.specs.Learning.{IsLearning}
-use Rattle.rhythm_app.specs.Outcome.{AreFilesRead, AreInTurn, AreInputs, IsAnswering, IsDrilling, IsFitting, IsFollowing, IsListing, IsLoading, IsNoting, IsPieceMade, IsPieceOf, IsRead, IsScoreRead, IsUnderstood, IsWriting, Ready, grammar_tests, kern_tests, midi_tests}
+use Rattle.rhythm_app.specs.Outcome.{AreFilesRead, AreInTurn, AreInputs, IsAnswering, IsDrilling, IsFitting, IsFollowing, IsListing, IsNoting, IsPieceMade, IsPieceOf, IsPlaying, IsRead, IsScoreRead, IsUnderstood, IsWriting, Ready, grammar_tests, kern_tests, midi_tests}
 use Rattle.rhythm_app.specs.declared.stop.Stop.{Stop}
 use Rattle.rhythm_app.specs.declared.stop.Stop.TheVariants.{TooManyCandidates, TooManyFiles, Usage}
 use Rattle.rhythm_base.specs.Grammar.{Grammar}
@@ -13,6 +16,7 @@ use Rattle.rhythm_base.specs.Performance.{IsWellFormed, Performance}
 use Rattle.rhythm_base.specs.Readable.{IsReadable}
 use Rattle.rhythm_ports.specs.Files.{File}
 use Rattle.outcome_laws.specs.Laws.{AreBytes, HoldBytes, RunsHaveOutcomes}
+use Rattle.outcome_laws.proofs.AskedOptions.{HasAskedOptions, asked_in}
 use Rattle.outcome_laws.proofs.Answerings.{some_answering}
 use Rattle.outcome_laws.proofs.Drillings.{some_drilling}
 use Rattle.outcome_laws.proofs.FileTests.{content_bytes, read_in_range}
@@ -21,21 +25,21 @@ use Rattle.outcome_laws.proofs.Followings.{some_following}
 use Rattle.outcome_laws.proofs.InTurn.{ComesTo, in_turn}
 use Rattle.outcome_laws.proofs.Learnings.{learnings}
 use Rattle.outcome_laws.proofs.Listings.{some_listing}
-use Rattle.outcome_laws.proofs.Loadings.{some_loading}
 use Rattle.outcome_laws.proofs.Notings.{some_noting}
 use Rattle.outcome_laws.proofs.Pieces.{some_piece}
+use Rattle.outcome_laws.proofs.Playings.{some_playing}
 use Rattle.outcome_laws.proofs.Writings.{some_writing}
 
 -- ---- commands on inputs
 
-module _ (i : Inputs) (files : List File) (holds : HoldBytes files) where
+module _ (i : Inputs) (range : AreInRange i.options) (files : List File) (holds : HoldBytes files) where
   some_inputs : ComesTo (AreInputs i files)
   some_inputs =
       let midi = file_content files i.midi in
       let grammar = file_content files i.grammar in
-      in_turn (IsRead midi) (λ f. AreInTurn (IsUnderstood grammar) (λ g. AreInTurn (IsLoading f) (λ p r. r ≡ Ok (g, p)))) (midi_tests midi, refl)
-      (λ f read. in_turn (IsUnderstood grammar) (λ g. AreInTurn (IsLoading f) (λ p r. r ≡ Ok (g, p))) (grammar_tests grammar, refl)
-      (λ g _. in_turn (IsLoading f) (λ p r. r ≡ Ok (g, p)) (some_loading f (read_in_range midi (content_bytes files i.midi holds) f read)) (λ p _. (Ok (g, p), refl))))
+      in_turn (IsRead midi) (λ f. AreInTurn (IsUnderstood grammar) (λ g. AreInTurn (IsPlaying i.options f) (λ p r. r ≡ Ok (g, p)))) (midi_tests midi, refl)
+      (λ f read. in_turn (IsUnderstood grammar) (λ g. AreInTurn (IsPlaying i.options f) (λ p r. r ≡ Ok (g, p))) (grammar_tests grammar, refl)
+      (λ g _. in_turn (IsPlaying i.options f) (λ p r. r ≡ Ok (g, p)) (some_playing i.options range f (read_in_range midi (content_bytes files i.midi holds) f read)) (λ p _. (Ok (g, p), refl))))
 
   of_files : (last : Grammar → Performance → Result Ready Stop → Type 0) → ((g : Grammar) (p : Performance) → IsReadable g → IsWellFormed p → ComesTo (last g p))
       → ComesTo (AreFilesRead i files last)
@@ -49,10 +53,10 @@ same_piece number p (q, piece, e) = let same : q ≡ p = back p q e in subst (Is
     back : (p q : Performance) → ◌≡◌ {A = Result Performance Stop} (Ok p) (Ok q) → q ≡ p
     back p q e = cc
 
-some_notes : (bytes : List ℕ) → AreBytes bytes → ComesTo (AreInTurn (IsRead bytes) (λ f. AreInTurn (IsLoading f) IsNoting))
-some_notes bytes are =
-    in_turn (IsRead bytes) (λ f. AreInTurn (IsLoading f) IsNoting) (midi_tests bytes, refl)
-    (λ f read. in_turn (IsLoading f) IsNoting (some_loading f (read_in_range bytes are f read)) (λ p loaded. some_noting p (well_formed f p loaded)))
+some_notes : (o : Options) → AreInRange o → (bytes : List ℕ) → AreBytes bytes → ComesTo (AreInTurn (IsRead bytes) (λ f. AreInTurn (IsPlaying o f) IsNoting))
+some_notes o range bytes are =
+    in_turn (IsRead bytes) (λ f. AreInTurn (IsPlaying o f) IsNoting) (midi_tests bytes, refl)
+    (λ f read. in_turn (IsPlaying o f) IsNoting (some_playing o range f (read_in_range bytes are f read)) (λ p played. some_noting p (well_played o f p played)))
 
 some_events : (bytes : List ℕ) → ComesTo (AreInTurn (IsScoreRead bytes) IsListing)
 some_events bytes = in_turn (IsScoreRead bytes) IsListing (kern_tests bytes, refl) (λ score read. some_listing score (in_ranges bytes score read))
@@ -66,23 +70,23 @@ some_drill number bytes =
 -- ---- the run
 
 module _ (files : List File) (holds : HoldBytes files) where
-  outcome_of : (asked : Option Asked) → ComesTo (HasOutcomeOf asked files)
-  outcome_of None = (Err Usage, refl)
-  outcome_of (Some help) = (_, refl)
-  outcome_of (Some version) = (_, refl)
-  outcome_of (Some (write f i)) = of_files i files holds (IsWriting f) (λ g p readable formed. some_writing g p readable formed f)
-  outcome_of (Some (answer talk i)) = of_files i files holds (IsAnswering talk) (some_answering talk)
-  outcome_of (Some (fit i c)) = of_files i files holds (IsFitting c) (some_fitting c)
-  outcome_of (Some (too_many_candidates count)) = (Err (TooManyCandidates count), refl)
-  outcome_of (Some (learn bit grammar midis)) =
+  outcome_of : (asked : Option Asked) → IfSome asked HasAskedOptions → ComesTo (HasOutcomeOf asked files)
+  outcome_of None range = (Err Usage, refl)
+  outcome_of (Some help) range = (_, refl)
+  outcome_of (Some version) range = (_, refl)
+  outcome_of (Some (write f i)) range = of_files i range files holds (IsWriting f) (λ g p readable formed. some_writing g p readable formed f)
+  outcome_of (Some (answer talk i)) range = of_files i range files holds (IsAnswering talk) (some_answering talk)
+  outcome_of (Some (fit i c)) range = of_files i range files holds (IsFitting c) (some_fitting c)
+  outcome_of (Some (too_many_candidates count)) range = (Err (TooManyCandidates count), refl)
+  outcome_of (Some (learn bit grammar midis)) range =
       in_turn (IsUnderstood (file_content files grammar)) (IsLearning bit files midis) (grammar_tests (file_content files grammar), refl)
       (λ g understood. learnings bit files midis g holds (readable (file_content files grammar) g understood))
-  outcome_of (Some (too_many_files count)) = (Err (TooManyFiles count), refl)
-  outcome_of (Some (follow i)) = of_files i files holds IsFollowing some_following
-  outcome_of (Some (notes midi)) = some_notes (file_content files midi) (content_bytes files midi holds)
-  outcome_of (Some (events kern)) = some_events (file_content files kern)
-  outcome_of (Some (generate number bars)) = (_, refl)
-  outcome_of (Some (drill number grammar)) = some_drill number (file_content files grammar)
+  outcome_of (Some (too_many_files count)) range = (Err (TooManyFiles count), refl)
+  outcome_of (Some (follow i)) range = of_files i range files holds IsFollowing some_following
+  outcome_of (Some (notes midi o)) range = some_notes o range (file_content files midi) (content_bytes files midi holds)
+  outcome_of (Some (events kern)) range = some_events (file_content files kern)
+  outcome_of (Some (generate number bars)) range = (_, refl)
+  outcome_of (Some (drill number grammar)) range = some_drill number (file_content files grammar)
 
 pub some_outcome : RunsHaveOutcomes
-some_outcome words files holds = outcome_of files holds (asked_by words)
+some_outcome words files holds = outcome_of files holds (asked_by words) (asked_in words)

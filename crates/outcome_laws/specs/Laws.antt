@@ -1,10 +1,13 @@
 -- The laws, each as one statement over the definitions.
-use Rattle.std.specs.Prelude.{◌<◌, ℕ, All, List, Result}
+use Rattle.std.specs.Prelude.{◌↔◌, ◌<◌, ℕ, All, List, Result}
 use Rattle.barline_fit.specs.declared.candidates.Candidates.{Candidates}
 use Rattle.kern_reader.specs.Score.{IsKernScore, KernColumns}
+use Rattle.performance_prepare.specs.Laws.{no_options}
+use Rattle.performance_prepare.specs.Ranges.{AreInRange}
+use Rattle.performance_prepare.specs.declared.options.Options.{Options}
 use Rattle.rhythm_app.specs.Commands.{HasOutcome}
 use Rattle.rhythm_app.specs.Learning.{IsLearning}
-use Rattle.rhythm_app.specs.Outcome.{IsAnswering, IsDrilling, IsFitting, IsFollowing, IsListing, IsLoading, IsNoting, IsPieceMade, IsPieceOf, IsWriting, Ready}
+use Rattle.rhythm_app.specs.Outcome.{IsAnswering, IsDrilling, IsFitting, IsFollowing, IsListing, IsLoading, IsNoting, IsPieceMade, IsPieceOf, IsPlaying, IsWriting, Ready}
 use Rattle.rhythm_app.specs.declared.request.Form.{Form}
 use Rattle.rhythm_app.specs.declared.request.Talk.{Talk}
 use Rattle.rhythm_app.specs.declared.stop.Stop.{Stop}
@@ -26,6 +29,14 @@ HoldBytes files = All (λ file. AreBytes file.bytes) files
 -- what a MIDI file says loads to a performance, or to a fault as a stop
 abbrev pub LoadingsExist : Type 0
 LoadingsExist = (f : Smf) → IsPlayedFile f → (r : Result Performance Stop) × IsLoading f r
+
+-- and is played by options, or has a stop
+abbrev pub PlayingsExist : Type 0
+PlayingsExist = (o : Options) (f : Smf) → AreInRange o → IsPlayedFile f → (r : Result Performance Stop) × IsPlaying o f r
+
+-- without options it is played as it is loaded
+abbrev pub PlayingsWithoutOptions : Type 0
+PlayingsWithoutOptions = (f : Smf) (r : Result Performance Stop) → IsPlaying no_options f r ↔ IsLoading f r
 
 -- a performance is written by a grammar in each form, or is not, for a reason
 abbrev pub WritingsExist : Type 0

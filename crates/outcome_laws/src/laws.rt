@@ -1,8 +1,18 @@
-ghost use Rattle.outcome_laws.specs.Laws.{AnsweringsExist, DrillingsExist, FittingsExist, FollowingsExist, LearningsExist, ListingsExist, LoadingsExist, NotingsExist, RunsHaveOutcomes, WritingsExist};
+ghost use Rattle.outcome_laws.specs.Laws.{AnsweringsExist, DrillingsExist, FittingsExist, FollowingsExist, LearningsExist, ListingsExist, LoadingsExist, NotingsExist, PlayingsExist, PlayingsWithoutOptions, RunsHaveOutcomes, WritingsExist};
 
 /// A MIDI file that was read loads to a performance, or has a fault.
 pub fn loadings_exist()
     ensures { LoadingsExist }
+{}
+
+/// By options in range it is played, or has a fault.
+pub fn playings_exist()
+    ensures { PlayingsExist }
+{}
+
+/// Without options a file is played as it is loaded.
+pub fn playings_without_options()
+    ensures { PlayingsWithoutOptions }
 {}
 
 /// A well-formed performance is written in each form by a readable grammar, or there is a stop.

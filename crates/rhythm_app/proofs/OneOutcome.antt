@@ -42,7 +42,10 @@ use Rattle.notes_writer.proofs.OneOrder as noting
 use Rattle.page_writer.proofs.OnePage as paging
 use Rattle.page_writer.specs.Page.{IsPage}
 use Rattle.performance_load.proofs.OneLoading.{one_loading}
+use Rattle.performance_load.proofs.TakesLoaded.{takes_loaded, takes_one}
 use Rattle.performance_load.specs.Loading.{Loads}
+use Rattle.performance_load.specs.Take.{Take}
+use Rattle.performance_prepare.specs.declared.options.Options.{Options}
 use Rattle.performance_load.specs.declared.load_fault.LoadFault.{LoadFault}
 use Rattle.piece_laws.proofs.FormedPieces.{pieces_formed}
 use Rattle.rhythm_app.proofs.InTurn.{IsOne, in_turn_one}
@@ -55,7 +58,7 @@ use Rattle.rhythm_app.specs.Commands.{HasOutcomeOf}
 use Rattle.rhythm_app.specs.Inputs.{Inputs, file_content}
 use Rattle.rhythm_app.specs.Laws.{OutcomesAreOne}
 use Rattle.rhythm_app.specs.Learning.{AreAllListed, AreListsOf, AreOfFile, AreOfFiles, IsFirstStop, IsLearning, IsWeighed, in_file}
-use Rattle.rhythm_app.specs.Outcome.{AreEventsOf, AreInTurn, AreInputs, AreFilesRead, FitsScore, IsAnswering, IsFitting, IsFormOf, IsListing, IsLoading, IsNoting, IsRead, IsScoreRead, IsTooLongToWrite, IsUnfitted, IsUnwritten, IsWriting, IsWrittenOf, fit_stop, fit_text, IsDrilling, IsFollowing, IsPieceMade, IsPieceOf, IsTooLongDrill, Ready, say, serve, IsUnderstood, IsUnopened, grammar_tests, kern_tests, limit_of, load_stop, open_stop, passed, stopped}
+use Rattle.rhythm_app.specs.Outcome.{AreEventsOf, AreInTurn, AreInputs, AreFilesRead, FitsScore, IsAnswering, IsFitting, IsFormOf, IsListing, IsLoading, IsNoting, IsPlaying, IsPreparing, IsRead, IsScoreRead, IsTakeLoading, IsTaking, IsTooLongToWrite, IsUnfitted, IsUnwritten, IsWriting, IsWrittenOf, fit_stop, fit_text, IsDrilling, IsFollowing, IsPieceMade, IsPieceOf, IsTooLongDrill, Ready, say, serve, IsUnderstood, IsUnopened, grammar_tests, kern_tests, limit_of, load_stop, note_stop, open_stop, passed, stopped}
 use Rattle.rhythm_app.specs.declared.request.Form.{Form}
 use Rattle.rhythm_app.specs.declared.request.Form.TheVariants as form
 use Rattle.rhythm_app.specs.declared.request.Talk.{Talk}
@@ -100,6 +103,28 @@ one_loaded f r s h k = h.4 ∙ ap (stopped load_stop) (one_loading f h.0 k.0 h.1
 -- what is loaded is well formed
 pub well_formed : (f : Smf) (p : Performance) → IsLoading f (Ok p) → IsWellFormed p
 well_formed f p h = go h.0 h.3 h.4
+  where
+    go : (r : Result Performance LoadFault) → IfOk r IsWellFormed → ◌≡◌ {A = Result Performance Stop} (Ok p) (stopped load_stop r) → IsWellFormed p
+    go (Ok q) formed e = let same : q ≡ p = cc in subst IsWellFormed same formed
+    go (Err fault) formed e = absurd (cc)
+
+one_taken : (f : Smf) → IsOne (IsTaking f)
+one_taken f r s h k = h.3 ∙ ap (stopped note_stop) (takes_one f h.0 k.0 h.1 k.1 h.2 k.2) ∙ sym k.3
+
+one_prepared : (o : Options) (t : Take) → IsOne (IsPreparing o t)
+one_prepared o t r s h k = sym h ∙ k
+
+one_take_loaded : (t : Take) → IsOne (IsTakeLoading t)
+one_take_loaded t r s h k = h.4 ∙ ap (stopped load_stop) (takes_loaded.one t h.0 k.0 h.1 k.1 h.2 k.2) ∙ sym k.4
+
+one_playing : (o : Options) (f : Smf) → IsOne (IsPlaying o f)
+one_playing o f =
+    in_turn_one (IsTaking f) (λ t. AreInTurn (IsPreparing o t) IsTakeLoading) (one_taken f)
+    (λ t _. in_turn_one (IsPreparing o t) IsTakeLoading (one_prepared o t) (λ u _. one_take_loaded u))
+
+-- what is played is well formed
+pub well_played : (o : Options) (f : Smf) (p : Performance) → IsPlaying o f (Ok p) → IsWellFormed p
+well_played o f p (t, taken, (u, mapped, h)) = go h.0 h.3 h.4
   where
     go : (r : Result Performance LoadFault) → IfOk r IsWellFormed → ◌≡◌ {A = Result Performance Stop} (Ok p) (stopped load_stop r) → IsWellFormed p
     go (Ok q) formed e = let same : q ≡ p = cc in subst IsWellFormed same formed
@@ -458,9 +483,9 @@ one_inputs : (i : Inputs) (files : List File) → IsOne (AreInputs i files)
 one_inputs i files =
     let midi = file_content files i.midi in
     let grammar = file_content files i.grammar in
-    in_turn_one (IsRead midi) (λ f. AreInTurn (IsUnderstood grammar) (λ g. AreInTurn (IsLoading f) (λ p r. r ≡ Ok (g, p)))) (one_read midi)
-    (λ f _. in_turn_one (IsUnderstood grammar) (λ g. AreInTurn (IsLoading f) (λ p r. r ≡ Ok (g, p))) (one_understood grammar)
-    (λ g _. in_turn_one (IsLoading f) (λ p r. r ≡ Ok (g, p)) (one_loaded f) (λ p _. one_pair g p)))
+    in_turn_one (IsRead midi) (λ f. AreInTurn (IsUnderstood grammar) (λ g. AreInTurn (IsPlaying i.options f) (λ p r. r ≡ Ok (g, p)))) (one_read midi)
+    (λ f _. in_turn_one (IsUnderstood grammar) (λ g. AreInTurn (IsPlaying i.options f) (λ p r. r ≡ Ok (g, p))) (one_understood grammar)
+    (λ g _. in_turn_one (IsPlaying i.options f) (λ p r. r ≡ Ok (g, p)) (one_playing i.options f) (λ p _. one_pair g p)))
 
 same_inputs : (x : Grammar × Performance) (g : Grammar) (p : Performance) → ◌≡◌ {A = Result (Grammar × Performance) Stop} (Ok x) (Ok (g, p)) → (g, p) ≡ x
 same_inputs x g p e = cc
@@ -468,7 +493,7 @@ same_inputs x g p e = cc
 -- the grammar can be read, and the performance is well formed
 pub sound_inputs : (i : Inputs) (files : List File) (x : Grammar × Performance) → AreInputs i files (Ok x) → IsReadable x.0 × IsWellFormed x.1
 sound_inputs i files x (f, read, (g, understood, (p, loaded, is))) =
-    subst (λ (x : Grammar × Performance). IsReadable x.0 × IsWellFormed x.1) (same_inputs x g p is) (readable (file_content files i.grammar) g understood, well_formed f p loaded)
+    subst (λ (x : Grammar × Performance). IsReadable x.0 × IsWellFormed x.1) (same_inputs x g p is) (readable (file_content files i.grammar) g understood, well_played i.options f p loaded)
 
 one_of_files : (last : Grammar → Performance → Result Ready Stop → Type 0) → ((g : Grammar) (p : Performance) → IsReadable g → IsWellFormed p → IsOne (last g p))
     → (i : Inputs) (files : List File) → IsOne (AreFilesRead i files last)
@@ -489,9 +514,9 @@ one_of (Some (learn bit grammar midis)) files r s h k =
     (λ g understood. one_learning g (readable (file_content files grammar) g understood) files midis bit) r s h k
 one_of (Some (too_many_files count)) files r s h k = h ∙ sym k
 one_of (Some (follow i)) files r s h k = one_of_files IsFollowing (λ g p read formed. one_following g p read formed) i files r s h k
-one_of (Some (notes midi)) files r s h k =
-    in_turn_one (IsRead (file_content files midi)) (λ f. AreInTurn (IsLoading f) IsNoting) (one_read (file_content files midi))
-    (λ f _. in_turn_one (IsLoading f) IsNoting (one_loaded f) (λ p _. one_noting p)) r s h k
+one_of (Some (notes midi o)) files r s h k =
+    in_turn_one (IsRead (file_content files midi)) (λ f. AreInTurn (IsPlaying o f) IsNoting) (one_read (file_content files midi))
+    (λ f _. in_turn_one (IsPlaying o f) IsNoting (one_playing o f) (λ p _. one_noting p)) r s h k
 one_of (Some (events kern)) files r s h k =
     in_turn_one (IsScoreRead (file_content files kern)) IsListing (one_score_read (file_content files kern))
     (λ score read. one_listing score (in_ranges (file_content files kern) score read)) r s h k

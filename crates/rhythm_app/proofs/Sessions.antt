@@ -12,7 +12,7 @@ use Rattle.rhythm_app.specs.Builds.{MatchBuilds, OfInputs}
 use Rattle.rhythm_app.specs.Commands.{HasOutcomeOf, Named, command, input_files}
 use Rattle.rhythm_app.specs.Ends.{IsCauseOf, IsReadFailure}
 use Rattle.rhythm_app.specs.Inputs.{Inputs, file_content}
-use Rattle.rhythm_app.specs.Outcome.{AreInTurn, AreInputs, AreFilesRead, IsAnswering, IsLoading, IsRead, IsUnderstood, IsUnopened, Ready, midi_tests, say, serve}
+use Rattle.rhythm_app.specs.Outcome.{AreInTurn, AreInputs, AreFilesRead, IsAnswering, IsPlaying, IsRead, IsUnderstood, IsUnopened, Ready, midi_tests, say, serve}
 use Rattle.rhythm_app.specs.Stages.{EndsBy, Follows, IsFailure, IsOfContent, IsOfWriting, said_of}
 use Rattle.rhythm_app.specs.declared.request.Talk.{Talk}
 use Rattle.rhythm_app.specs.declared.stop.Kind.TheVariants as kind
@@ -41,6 +41,7 @@ content_read reads files (stop.UnevenBar l m n) failed content = absurd failed
 content_read reads files (stop.TooManyBars n) failed content = absurd failed
 content_read reads files (stop.TooManyCells n) failed content = absurd failed
 content_read reads files (stop.NoStart l m n) failed content = absurd failed
+content_read reads files (stop.Unprepared e) failed content = absurd failed
 content_read reads files (stop.NoDerivation m n) failed content = absurd failed
 content_read reads files (stop.ScoreTooLong n) failed content = absurd failed
 content_read reads files (stop.RenderTooLong n) failed content = absurd failed
@@ -75,6 +76,7 @@ match_more a b d (stop.UnevenBar l m n) h = d h
 match_more a b d (stop.TooManyBars n) h = d h
 match_more a b d (stop.TooManyCells n) h = d h
 match_more a b d (stop.NoStart l m n) h = d h
+match_more a b d (stop.Unprepared e) h = d h
 match_more a b d (stop.NoDerivation m n) h = a h
 match_more a b d (stop.ScoreTooLong n) h = a h
 match_more a b d (stop.RenderTooLong n) h = a h
@@ -124,18 +126,18 @@ module _ (i : Inputs) (files : List File) where
     unread_grammar before now s (inr failed) h end = absurd failed
 
     module _ (g : Grammar) (read : Follows (IsRead (file_content files i.midi)) (Ok f)) (understood : Follows (IsUnderstood (file_content files i.grammar)) (Ok g)) where
-      loading_follows : (r : Result (Grammar × Performance) Stop) → Follows (AreInTurn (IsLoading f) (λ p s. s ≡ Ok (g, p))) r → Follows (AreInputs i files) r
+      loading_follows : (r : Result (Grammar × Performance) Stop) → Follows (AreInTurn (IsPlaying i.options f) (λ p s. s ≡ Ok (g, p))) r → Follows (AreInputs i files) r
       loading_follows r h =
-          next_follows (IsRead (file_content files i.midi)) (λ f. AreInTurn (IsUnderstood (file_content files i.grammar)) (λ g. AreInTurn (IsLoading f) (λ p s. s ≡ Ok (g, p)))) f r read
-          (next_follows (IsUnderstood (file_content files i.grammar)) (λ g. AreInTurn (IsLoading f) (λ p s. s ≡ Ok (g, p))) g r understood h)
+          next_follows (IsRead (file_content files i.midi)) (λ f. AreInTurn (IsUnderstood (file_content files i.grammar)) (λ g. AreInTurn (IsPlaying i.options f) (λ p s. s ≡ Ok (g, p)))) f r read
+          (next_follows (IsUnderstood (file_content files i.grammar)) (λ g. AreInTurn (IsPlaying i.options f) (λ p s. s ≡ Ok (g, p))) g r understood h)
 
       -- the performance could not be loaded
-      pub unloaded_follows : (s : Stop) → Follows (IsLoading f) (Err s) → Follows (AreInputs i files) (Err s)
-      unloaded_follows s h = loading_follows (Err s) (stop_follows (IsLoading f) (λ p s. s ≡ Ok (g, p)) s h)
+      pub unloaded_follows : (s : Stop) → Follows (IsPlaying i.options f) (Err s) → Follows (AreInputs i files) (Err s)
+      unloaded_follows s h = loading_follows (Err s) (stop_follows (IsPlaying i.options f) (λ p s. s ≡ Ok (g, p)) s h)
 
       -- it was
-      pub loaded_follows : (p : Performance) → Follows (IsLoading f) (Ok p) → Follows (AreInputs i files) (Ok (g, p))
-      loaded_follows p h = loading_follows (Ok (g, p)) (next_follows (IsLoading f) (λ p s. s ≡ Ok (g, p)) p (Ok (g, p)) h (inl refl))
+      pub loaded_follows : (p : Performance) → Follows (IsPlaying i.options f) (Ok p) → Follows (AreInputs i files) (Ok (g, p))
+      loaded_follows p h = loading_follows (Ok (g, p)) (next_follows (IsPlaying i.options f) (λ p s. s ≡ Ok (g, p)) p (Ok (g, p)) h (inl refl))
 
   pub inputs_cause : (s : Stop) → Follows (AreInputs i files) (Err s) → IsOfContent s → AreInputs i files (Err s) ⊎ IsReadFailure (input_files i) files s
   inputs_cause s (inl are) content = inl are
@@ -212,6 +214,7 @@ writing_content (stop.UnevenBar l m n) end = tt
 writing_content (stop.TooManyBars n) end = tt
 writing_content (stop.TooManyCells n) end = tt
 writing_content (stop.NoStart l m n) end = tt
+writing_content (stop.Unprepared e) end = tt
 writing_content (stop.NoDerivation m n) end = tt
 writing_content (stop.Read k) end = absurd end
 writing_content stop.Write end = absurd end
@@ -243,6 +246,7 @@ writing_built old cells new (stop.UnevenBar l m n) end all = absurd end
 writing_built old cells new (stop.TooManyBars n) end all = absurd end
 writing_built old cells new (stop.TooManyCells n) end all = absurd end
 writing_built old cells new (stop.NoStart l m n) end all = absurd end
+writing_built old cells new (stop.Unprepared e) end all = absurd end
 writing_built old cells new (stop.NoDerivation m n) end all = absurd end
 writing_built old cells new (stop.Read k) end all = absurd end
 writing_built old cells new stop.Write end all = absurd end

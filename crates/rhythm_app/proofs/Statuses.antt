@@ -80,6 +80,7 @@ module _ (words : List (List ℕ)) (files : List File) where
   failure_status (stop.TooManyBars n) failed r outcome = absurd failed
   failure_status (stop.TooManyCells n) failed r outcome = absurd failed
   failure_status (stop.NoStart l m n) failed r outcome = absurd failed
+  failure_status (stop.Unprepared e) failed r outcome = absurd failed
   failure_status (stop.NoDerivation m n) failed r outcome = absurd failed
   failure_status (stop.ScoreTooLong n) failed r outcome = absurd failed
   failure_status (stop.RenderTooLong n) failed r outcome = absurd failed
@@ -142,6 +143,7 @@ module _ (words : List (List ℕ)) (files : List File) where
     failure_complete (stop.TooManyBars n) failed risen ready k = absurd failed
     failure_complete (stop.TooManyCells n) failed risen ready k = absurd failed
     failure_complete (stop.NoStart l m n) failed risen ready k = absurd failed
+    failure_complete (stop.Unprepared e) failed risen ready k = absurd failed
     failure_complete (stop.NoDerivation m n) failed risen ready k = absurd failed
     failure_complete (stop.ScoreTooLong n) failed risen ready k = absurd failed
     failure_complete (stop.RenderTooLong n) failed risen ready k = absurd failed

@@ -34,6 +34,7 @@ module _ {S O E : Type 0} (asked : Option Asked) (old mid : Lent S O E) (err : E
   risen_after (stop.TooManyBars n) h = h
   risen_after (stop.TooManyCells n) h = h
   risen_after (stop.NoStart l m n) h = h
+  risen_after (stop.Unprepared e) h = h
   risen_after (stop.NoDerivation m n) h = h
   risen_after (stop.ScoreTooLong n) h = h
   risen_after (stop.RenderTooLong n) h = h
@@ -76,6 +77,7 @@ module _ {S O E : Type 0} (asked : Option Asked) (old mid : Lent S O E) (err : E
   taken_after (stop.TooManyBars n) h = h
   taken_after (stop.TooManyCells n) h = h
   taken_after (stop.NoStart l m n) h = h
+  taken_after (stop.Unprepared e) h = h
   taken_after (stop.NoDerivation m n) h = h
   taken_after (stop.ScoreTooLong n) h = h
   taken_after (stop.RenderTooLong n) h = h

@@ -8,6 +8,10 @@ use Rattle.command_line.specs.CommandLines.{invocation_of}
 use Rattle.command_line.specs.Numbers.{number_in}
 use Rattle.command_line.specs.declared.invocation.Invocation.{Invocation}
 use Rattle.command_line.specs.declared.invocation.Invocation.TheVariants as invocation
+use Rattle.performance_prepare.specs.Laws.{no_options}
+use Rattle.performance_prepare.specs.Ranges.{AreInRange}
+use Rattle.performance_prepare.specs.Told.{is_told}
+use Rattle.performance_prepare.specs.declared.options.Options.{Options}
 use Rattle.rhythm_app.specs.Inputs.{Inputs, shown_inputs}
 use Rattle.rhythm_app.specs.declared.learn.TheConstants.{MOST_FILES}
 use Rattle.rhythm_app.specs.declared.request.Form.{Form}
@@ -32,7 +36,7 @@ pub data Asked : Type 0 where
   learn : ℕ → List ℕ → List (List ℕ) → Asked
   too_many_files : ℕ → Asked
   follow : Inputs → Asked
-  notes : List ℕ → Asked
+  notes : List ℕ → Options → Asked
   events : List ℕ → Asked
   generate : ℕ → ℕ → Asked
   drill : ℕ → List ℕ → Asked
@@ -50,13 +54,17 @@ of_two make (a ∷ []) = None
 of_two make (a ∷ b ∷ []) = make a b
 of_two make (a ∷ b ∷ c ∷ more) = None
 
--- the names of a MIDI file and a grammar
-abbrev pub inputs_named : List ℕ → List ℕ → Inputs
-inputs_named midi grammar = record { midi = midi; grammar = grammar }
+-- the names of a MIDI file and a grammar, and how the take is prepared
+abbrev pub inputs_named : Options → List ℕ → List ℕ → Inputs
+inputs_named o midi grammar = record { midi = midi; grammar = grammar; options = o }
 
 -- a word and these names
-abbrev pub of_inputs : (Inputs → Asked) → List (List ℕ) → Option Asked
-of_inputs make = of_two (λ midi grammar. Some (make (inputs_named midi grammar)))
+abbrev pub of_inputs : (Inputs → Asked) → Options → List (List ℕ) → Option Asked
+of_inputs make o = of_two (λ midi grammar. Some (make (inputs_named o midi grammar)))
+
+-- a command for which nothing is told of a take
+abbrev pub untold : Options → Option Asked → Option Asked
+untold o asked = option_and_then (λ (a : Asked). if is_told o then None else Some a) asked
 
 -- a word and six more
 abbrev pub of_six : (List ℕ → List ℕ → List ℕ → List ℕ → List ℕ → List ℕ → Option Asked) → List (List ℕ) → Option Asked
@@ -91,8 +99,8 @@ abbrev pub fit_of : Inputs → Candidates → Asked
 fit_of i c = if nat_le (candidate_count c) MOST_CANDIDATES then fit i c else too_many_candidates (candidate_count c)
 
 -- two files, and the candidates of a barline
-abbrev pub fit_by : List ℕ → List ℕ → List ℕ → List ℕ → List ℕ → List ℕ → Option Asked
-fit_by midi grammar bar low high step = option_map (λ (c : Candidates). fit_of (inputs_named midi grammar) c) (candidates_by bar low high step)
+abbrev pub fit_by : Options → List ℕ → List ℕ → List ℕ → List ℕ → List ℕ → List ℕ → Option Asked
+fit_by o midi grammar bar low high step = option_map (λ (c : Candidates). fit_of (inputs_named o midi grammar) c) (candidates_by bar low high step)
 
 -- weights are learned from at most 256 files
 abbrev pub learn_of : ℕ → List ℕ → List (List ℕ) → Asked
@@ -103,13 +111,13 @@ abbrev pub learn_by : List (List ℕ) → Option Asked
 learn_by (bit ∷ grammar ∷ midi ∷ more) = option_map (λ (b : ℕ). learn_of b grammar (midi ∷ more)) (number_in 1 HEAVIEST_BIT bit)
 learn_by _ = None
 
--- how a command is called: its word, what the words after it are, and what these ask for
+-- how a command is called: its word, what the words after it are, and what these ask for by what is told of a take
 pub record Call : Type 0 where
   pub word : List ℕ
   pub after : List ℕ
-  pub asked : List (List ℕ) → Option Asked
+  pub asked : Options → List (List ℕ) → Option Asked
 
-abbrev pub call : List ℕ → List ℕ → (List (List ℕ) → Option Asked) → Call
+abbrev pub call : List ℕ → List ℕ → (Options → List (List ℕ) → Option Asked) → Call
 call word after asked = record { word = word; after = after; asked = asked }
 
 -- the commands
@@ -122,13 +130,13 @@ calls =
     ∷ call (codes "render") (codes "MIDI GRAMMAR") (of_inputs (write form.Rendered))
     ∷ call (codes "edit") (codes "MIDI GRAMMAR") (of_inputs (answer talk.Editing))
     ∷ call (codes "studio") (codes "MIDI GRAMMAR") (of_inputs (answer talk.Studio))
-    ∷ call (codes "fit") (codes "MIDI GRAMMAR BAR LOW HIGH STEP, with BAR from 0 to 4096, LOW and HIGH from 0 to 2000000000, LOW no more than HIGH, and STEP from 1 to 2000000000") (of_six fit_by)
+    ∷ call (codes "fit") (codes "MIDI GRAMMAR BAR LOW HIGH STEP, with BAR from 0 to 4096, LOW and HIGH from 0 to 2000000000, LOW no more than HIGH, and STEP from 1 to 2000000000") (λ o. of_six (fit_by o))
     ∷ call (codes "follow") (codes "MIDI GRAMMAR") (of_inputs follow)
-    ∷ call (codes "learn") (codes "BIT GRAMMAR MIDI..., with BIT from 1 to 10000, and 1 to 256 MIDI files") learn_by
-    ∷ call (codes "notes") (codes "MIDI") (of_one (λ a. Some (notes a)))
-    ∷ call (codes "events") (codes "KERN") (of_one (λ a. Some (events a)))
-    ∷ call (codes "generate") (codes "NUMBER BARS, with NUMBER from 0 to 65534 and BARS from 1 to 2000") (of_two generate_by)
-    ∷ call (codes "drill") (codes "NUMBER GRAMMAR, with NUMBER from 0 to 65534") (of_two drill_by)
+    ∷ call (codes "learn") (codes "BIT GRAMMAR MIDI..., with BIT from 1 to 10000, and 1 to 256 MIDI files") (λ o words. untold o (learn_by words))
+    ∷ call (codes "notes") (codes "MIDI") (λ o. of_one (λ a. Some (notes a o)))
+    ∷ call (codes "events") (codes "KERN") (λ o words. untold o (of_one (λ a. Some (events a)) words))
+    ∷ call (codes "generate") (codes "NUMBER BARS, with NUMBER from 0 to 65534 and BARS from 1 to 2000") (λ o words. untold o (of_two generate_by words))
+    ∷ call (codes "drill") (codes "NUMBER GRAMMAR, with NUMBER from 0 to 65534") (λ o words. untold o (of_two drill_by words))
     ∷ []
 
 -- what the call of this word has
@@ -136,10 +144,10 @@ abbrev pub at_word : {X : Type 0} → (Call → Option X) → List ℕ → List 
 at_word f word [] = None
 at_word f word (c ∷ more) = if pointwise nat_eq word c.word then f c else at_word f word more
 
--- the command of the words that are no option
-abbrev pub command_by : List (List ℕ) → Option Asked
-command_by [] = None
-command_by (word ∷ more) = at_word (λ c. c.asked more) word calls
+-- the command of the words that are no option, by what is told of a take
+abbrev pub command_by : Options → List (List ℕ) → Option Asked
+command_by o [] = None
+command_by o (word ∷ more) = at_word (λ c. c.asked o more) word calls
 
 -- what the words after this one are, where it is the word of a command
 abbrev pub words_after : List ℕ → Option (List ℕ)
@@ -147,13 +155,13 @@ words_after word = at_word (λ c. Some c.after) word calls
 
 -- the word, with some words after it, is a command
 abbrev pub IsCommandWord : List ℕ → Type 0
-IsCommandWord word = (more : List (List ℕ)) × IsSome (command_by (word ∷ more))
+IsCommandWord word = (more : List (List ℕ)) × IsSome (command_by no_options (word ∷ more))
 
 -- what is asked for, whatever the number of workers is
 abbrev pub asked_of : Invocation → Option Asked
 asked_of invocation.Help = Some help
 asked_of invocation.Version = Some version
-asked_of (invocation.Command line) = command_by line.words
+asked_of (invocation.Command line) = command_by line.options line.words
 
 -- the number of workers that the words say, 1 to 16: that of the option, and 1 without it
 abbrev pub workers_asked : Invocation → ℕ
@@ -162,7 +170,8 @@ workers_asked invocation.Version = 1
 workers_asked (invocation.Command line) = line.workers
 
 -- what the words ask for. Where they are plain they are never refused by `clap`, so nothing is asked for exactly where the number of
--- workers is none of 1 to 16 or the words without the option are no command
+-- workers is none of 1 to 16 or the words without the option are no command. What is told of a take is told only to the commands that
+-- read one MIDI file
 unfoldable pub asked_by : List (List ℕ) → Option Asked
 asked_by words = option_and_then asked_of (invocation_of words)
 
@@ -177,7 +186,7 @@ shown_request (request.TooManyCandidates count) = too_many_candidates count
 shown_request (request.Learn bit grammar words) = learn bit grammar.now (drop 3 words.now)
 shown_request (request.TooManyFiles count) = too_many_files count
 shown_request (request.Follow inputs) = follow (shown_inputs inputs)
-shown_request (request.Notes midi) = notes midi.now
+shown_request (request.Notes midi options) = notes midi.now options
 shown_request (request.Events kern) = events kern.now
 shown_request (request.Generate number bars) = generate number bars
 shown_request (request.Drill number grammar) = drill number grammar.now
@@ -200,7 +209,11 @@ pub record AreCandidates (c : Candidates) : Type 0 where
 
 -- the numbers of a request lie in their ranges
 abbrev pub IsRequestInRange : Request → Type 0
-IsRequestInRange (request.Fit inputs among) = AreCandidates among
+IsRequestInRange (request.Write form inputs) = AreInRange inputs.options
+IsRequestInRange (request.Answer talk inputs) = AreInRange inputs.options
+IsRequestInRange (request.Fit inputs among) = AreInRange inputs.options × AreCandidates among
+IsRequestInRange (request.Follow inputs) = AreInRange inputs.options
+IsRequestInRange (request.Notes midi options) = AreInRange options
 IsRequestInRange (request.Generate number bars) = (number ≤ 65534) × (1 ≤ bars) × (bars ≤ 2000)
 IsRequestInRange (request.Drill number grammar) = number ≤ 65534
 IsRequestInRange (request.Learn bit grammar words) = (1 ≤ bit) × (bit ≤ HEAVIEST_BIT) × (length words.now ≤ MOST_FILES + 3)

@@ -5,7 +5,7 @@ use Rattle.barline_fit.specs.declared.candidates.Candidates.{Candidates}
 use Rattle.rhythm_app.specs.Asked.{Asked, help, version, write, answer, fit, learn, too_many_candidates, too_many_files, follow, notes, events, generate, drill, asked_by}
 use Rattle.rhythm_app.specs.Inputs.{Inputs, file_content}
 use Rattle.rhythm_app.specs.Learning.{IsLearning}
-use Rattle.rhythm_app.specs.Outcome.{AreInTurn, AreFilesRead, IsAnswering, IsDrilling, IsFitting, IsFollowing, IsListing, IsLoading, IsPieceMade, IsNoting, IsRead, IsScoreRead, IsUnderstood, IsWriting, Ready, say}
+use Rattle.rhythm_app.specs.Outcome.{AreInTurn, AreFilesRead, IsAnswering, IsDrilling, IsFitting, IsFollowing, IsListing, IsPieceMade, IsPlaying, IsNoting, IsRead, IsScoreRead, IsUnderstood, IsWriting, Ready, say}
 use Rattle.rhythm_app.specs.declared.stop.Kind.{Kind}
 use Rattle.rhythm_app.specs.declared.stop.Kind.TheVariants as kind
 use Rattle.rhythm_app.specs.declared.stop.Stop.{Stop}
@@ -70,9 +70,9 @@ command (learn bit grammar midis) = record {
 }
 command (too_many_files count) = record { reads = []; outcome = λ files r. r ≡ Err (TooManyFiles count); cells = no_cells }
 command (follow i) = on_inputs i IsFollowing (cells_followed i)
-command (notes midi) = record {
+command (notes midi o) = record {
   reads = named kind.Midi midi ∷ [];
-  outcome = λ files. AreInTurn (IsRead (file_content files midi)) (λ f. AreInTurn (IsLoading f) IsNoting);
+  outcome = λ files. AreInTurn (IsRead (file_content files midi)) (λ f. AreInTurn (IsPlaying o f) IsNoting);
   cells = no_cells;
 }
 command (events kern) = record {

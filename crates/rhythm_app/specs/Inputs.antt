@@ -1,5 +1,6 @@
--- The inputs of a command on a MIDI file and a grammar: the names of its files.
+-- The inputs of a command on a MIDI file and a grammar: the names of its files, and what is told of the performance.
 use Rattle.std.specs.Prelude.{ℕ, List, [], unwrap_or}
+use Rattle.performance_prepare.specs.declared.options.Options.{Options}
 use Rattle.rhythm_app.specs.declared.request.Inputs as request
 use Rattle.rhythm_ports.specs.Files.{File, file_of}
 
@@ -7,10 +8,12 @@ pub record Inputs : Type 0 where
   -- the MIDI file and the grammar file, by their names
   pub midi : List ℕ
   pub grammar : List ℕ
+  -- how the take of the MIDI file is prepared
+  pub options : Options
 
 -- inputs as contracts see them
 abbrev pub shown_inputs : request.Inputs → Inputs
-shown_inputs i = record { midi = i.midi.now; grammar = i.grammar.now }
+shown_inputs i = record { midi = i.midi.now; grammar = i.grammar.now; options = i.options }
 
 -- the bytes under a name, none where there is no such file
 abbrev pub file_content : List File → List ℕ → List ℕ

@@ -1,5 +1,5 @@
 -- What the bytes of a command's files come to: what the command is ready to write, or the first test that fails, as a stop. The tests come in this order: the words; the MIDI file's size and its faults; the grammar file's size and its
--- faults; the notes and the bars; the cells, the root symbols and the derivations; the fit of a barline, where one is asked for; the size
+-- faults; the notes; the take as it is prepared, an option after the other; the bars; the cells, the root symbols and the derivations; the fit of a barline, where one is asked for; the size
 -- of a score, and of its MIDI file. Too many candidates for a barline are told before any file is read. Where the command has a MIDI file
 -- alone, there is no grammar file between its faults and the notes; where it has a **kern file, after the words come its size and its faults. `drill` has a grammar file, the cells, the root symbols and the derivations
 -- of its piece, and the size of its last score; `generate`, the help and the version read no file. A failed read, a failed write and
@@ -32,12 +32,17 @@ use Rattle.voice_events.specs.declared.event.KernEvent.{KernEvent}
 use Rattle.kern_writer.specs.PerformanceText.{HasTooLongText, IsTextOf}
 use Rattle.lily_writer.specs.Text.{IsLilyText}
 use Rattle.musicxml_writer.specs.Text.{IsMusicXml}
+use Rattle.note_list.specs.declared.fault.NoteFault.{NoteFault}
 use Rattle.note_list.specs.declared.fault.NoteFault.TheVariants as note
 use Rattle.notes_writer.specs.NotesText.{IsNotesText}
 use Rattle.page_writer.specs.Page.{IsPage}
 use Rattle.performance_load.specs.Loading.{Loads}
+use Rattle.performance_load.specs.Take.{Take}
+use Rattle.performance_load.specs.Taking.{LoadsTake, Takes}
 use Rattle.performance_load.specs.declared.load_fault.LoadFault.{LoadFault}
 use Rattle.performance_load.specs.declared.load_fault.LoadFault.TheVariants as loading
+use Rattle.performance_prepare.specs.Prepared.{prepared}
+use Rattle.performance_prepare.specs.declared.options.Options.{Options}
 use Rattle.piece_laws.specs.Laws.{IsLoadingOf}
 use Rattle.rhythm_app.specs.Inputs.{Inputs, file_content}
 use Rattle.rhythm_app.specs.declared.request.Form.{Form}
@@ -60,6 +65,13 @@ use Rattle.smf_reader.specs.SmfFile.{smf}
 use Rattle.smf_writer.specs.RenderedFile.{HasRenderFault, IsRendered}
 use Rattle.smf_writer.specs.declared.fault.RenderFault.{RenderFault}
 use Rattle.smf_writer.specs.declared.fault.RenderFault.TheVariants as rendering
+
+-- ---- tests in turn
+
+-- one test and, with what it came to, the next: both pass, or the first that fails is the outcome
+abbrev pub AreInTurn : {T U : Type 0} → (Result T Stop → Type 0) → (T → Result U Stop → Type 0) → Result U Stop → Type 0
+AreInTurn {T} first next (Ok y) = (x : T) × first (Ok x) × next x (Ok y)
+AreInTurn {T} first next (Err s) = first (Err s) ⊎ ((x : T) × first (Ok x) × next x (Err s))
 
 -- ---- the files
 
@@ -122,6 +134,30 @@ load_stop loading.Memory = stop.Memory
 abbrev pub IsLoading : Smf → Result Performance Stop → Type 0
 IsLoading f r =
     (loaded : Result Performance LoadFault) × Loads f loaded × (loaded ≢ Err loading.Memory) × IfOk loaded IsWellFormed × (r ≡ stopped load_stop loaded)
+
+-- a fault of the notes of a file as a stop
+abbrev pub note_stop : NoteFault → Stop
+note_stop note.NoNotes = stop.NoNotes
+note_stop (note.TooManyNotes count) = stop.TooManyNotes count
+note_stop note.Memory = stop.Memory
+
+-- what the take of the file comes to
+abbrev pub IsTaking : Smf → Result Take Stop → Type 0
+IsTaking f r = (taken : Result Take NoteFault) × Takes f taken × (taken ≢ Err note.Memory) × (r ≡ stopped note_stop taken)
+
+-- what a take comes to as it is prepared
+abbrev pub IsPreparing : Options → Take → Result Take Stop → Type 0
+IsPreparing o t r = stopped stop.Unprepared (prepared o t) ≡ r
+
+-- what loading a take comes to
+abbrev pub IsTakeLoading : Take → Result Performance Stop → Type 0
+IsTakeLoading t r =
+    (loaded : Result Performance LoadFault) × LoadsTake t loaded × (loaded ≢ Err loading.Memory) × IfOk loaded IsWellFormed
+    × (r ≡ stopped load_stop loaded)
+
+-- what the file comes to, prepared by options: the take, as it is prepared, and its performance
+abbrev pub IsPlaying : Options → Smf → Result Performance Stop → Type 0
+IsPlaying o f = AreInTurn (IsTaking f) (λ t. AreInTurn (IsPreparing o t) IsTakeLoading)
 
 -- ---- the score
 
@@ -306,16 +342,11 @@ IsDrilling g number p (Err s) = IsUnopened g p s ⊎ IsTooLongDrill g number p s
 
 -- ---- the run
 
--- one test and, with what it came to, the next: both pass, or the first that fails is the outcome
-abbrev pub AreInTurn : {T U : Type 0} → (Result T Stop → Type 0) → (T → Result U Stop → Type 0) → Result U Stop → Type 0
-AreInTurn {T} first next (Ok y) = (x : T) × first (Ok x) × next x (Ok y)
-AreInTurn {T} first next (Err s) = first (Err s) ⊎ ((x : T) × first (Ok x) × next x (Err s))
-
 -- what inputs come to by the files: the grammar and the performance that they say
 abbrev pub AreInputs : Inputs → List File → Result (Grammar × Performance) Stop → Type 0
 AreInputs i files =
     AreInTurn (IsRead (file_content files i.midi))
-    (λ f. AreInTurn (IsUnderstood (file_content files i.grammar)) (λ g. AreInTurn (IsLoading f) (λ p r. r ≡ Ok (g, p))))
+    (λ f. AreInTurn (IsUnderstood (file_content files i.grammar)) (λ g. AreInTurn (IsPlaying i.options f) (λ p r. r ≡ Ok (g, p))))
 
 -- what they come to by what is asked of the grammar and the performance
 abbrev pub AreFilesRead : Inputs → List File → (Grammar → Performance → Result Ready Stop → Type 0) → Result Ready Stop → Type 0

@@ -3,12 +3,14 @@ use Rattle.std.specs.Prelude.{ℕ, List, [], ◌∷◌, ◌++◌, codes, decimal
 use Rattle.grammar_file.specs.declared.fault.GrammarWhat.{GrammarWhat}
 use Rattle.grammar_file.specs.declared.fault.GrammarWhat.TheVariants as what
 use Rattle.kern_reader.specs.FaultName.{fault_name}
+use Rattle.performance_prepare.specs.declared.prepare_fault.PrepareFault.{PrepareFault}
+use Rattle.performance_prepare.specs.declared.prepare_fault.PrepareFault.TheVariants as preparing
 use Rattle.rhythm_app.specs.declared.stop.Kind.{Kind}
 use Rattle.rhythm_app.specs.declared.stop.Kind.TheVariants as kind
 use Rattle.rhythm_app.specs.declared.stop.Stop.{Stop}
 use Rattle.rhythm_app.specs.declared.stop.MidiStop.{MidiStop}
 use Rattle.rhythm_app.specs.declared.stop.MidiStop.TheVariants as midi
-use Rattle.rhythm_app.specs.declared.stop.Stop.TheVariants.{Usage, FileTooLong, LineTooLong, Smf, Grammar, Kern, NoNotes, TooManyNotes, BadSignature, UnevenBar, TooManyBars, TooManyCells, NoStart, NoDerivation, ScoreTooLong, RenderTooLong, InFile, TooManyFiles, TooManyCandidates, NoBarline, NoCandidate, Read, Write, Memory}
+use Rattle.rhythm_app.specs.declared.stop.Stop.TheVariants.{Usage, FileTooLong, LineTooLong, Smf, Grammar, Kern, NoNotes, TooManyNotes, BadSignature, UnevenBar, TooManyBars, TooManyCells, NoStart, Unprepared, NoDerivation, ScoreTooLong, RenderTooLong, InFile, TooManyFiles, TooManyCandidates, NoBarline, NoCandidate, Read, Write, Memory}
 use Rattle.script_run.specs.declared.script_stop.ScriptStop.{ScriptStop}
 use Rattle.script_run.specs.declared.script_stop.ScriptStop.TheVariants as script
 use Rattle.smf_reader.specs.declared.fault.SmfFault.{SmfFault}
@@ -28,6 +30,15 @@ midi_status_of (midi.NoStart _ _ _) = 2
 midi_status_of (midi.NoDerivation _ _) = 3
 midi_status_of midi.Read = 5
 
+-- the status of a stop by the options
+abbrev pub prepare_status_of : PrepareFault → ℕ
+prepare_status_of preparing.NoNotes = 2
+prepare_status_of (preparing.TooManyVoices _) = 4
+prepare_status_of (preparing.WrongDivision _) = 4
+prepare_status_of (preparing.TooLate _) = 4
+prepare_status_of (preparing.BadUpbeat _ _) = 2
+prepare_status_of preparing.Memory = 7
+
 abbrev pub status_of : Stop → ℕ
 status_of Usage = 1
 status_of (FileTooLong _ _) = 4
@@ -42,6 +53,7 @@ status_of (UnevenBar _ _ _) = 2
 status_of (TooManyBars _) = 4
 status_of (TooManyCells _) = 4
 status_of (NoStart _ _ _) = 2
+status_of (Unprepared fault) = prepare_status_of fault
 status_of (NoDerivation _ _) = 3
 status_of (ScoreTooLong _) = 4
 status_of (RenderTooLong _) = 4
@@ -169,6 +181,19 @@ midi_stop_line (midi.NoStart bar num den) = bar_signature_line (codes "start ") 
 midi_stop_line (midi.NoDerivation channel bar) = pair_line (codes "no derivation ") channel bar
 midi_stop_line midi.Read = named_line (codes "read ") (kind_name kind.Midi) None
 
+-- an upbeat
+abbrev pub upbeat_line : ℕ → ℕ → List ℕ
+upbeat_line num den = joined_words (codes "upbeat " ∷ decimal num ∷ codes "/" ∷ decimal den ∷ codes "\n" ∷ [])
+
+-- of the options
+abbrev pub prepare_stop_line : PrepareFault → List ℕ
+prepare_stop_line preparing.NoNotes = joined_words (codes "notes NoNotes\n" ∷ [])
+prepare_stop_line (preparing.TooManyVoices count) = limit_line (codes "voices") count
+prepare_stop_line (preparing.WrongDivision division) = limit_line (codes "division") division
+prepare_stop_line (preparing.TooLate tick) = limit_line (codes "ticks") tick
+prepare_stop_line (preparing.BadUpbeat num den) = upbeat_line num den
+prepare_stop_line preparing.Memory = joined_words (codes "memory\n" ∷ [])
+
 -- of one MIDI file of several: its number, from 1, and the line of the file alone
 abbrev pub in_file_line : ℕ → MidiStop → List ℕ
 in_file_line number s = joined_words (codes "file " ∷ decimal number ∷ codes " " ∷ []) ++ midi_stop_line s
@@ -187,6 +212,7 @@ stop_line (UnevenBar bar num den) = midi_stop_line (midi.UnevenBar bar num den)
 stop_line (TooManyBars start) = midi_stop_line (midi.TooManyBars start)
 stop_line (TooManyCells count) = midi_stop_line (midi.TooManyCells count)
 stop_line (NoStart bar num den) = midi_stop_line (midi.NoStart bar num den)
+stop_line (Unprepared fault) = prepare_stop_line fault
 stop_line (NoDerivation channel bar) = midi_stop_line (midi.NoDerivation channel bar)
 stop_line (ScoreTooLong line) = limit_line (codes "score") line
 stop_line (RenderTooLong tick) = limit_line (codes "render") tick

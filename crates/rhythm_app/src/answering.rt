@@ -1,3 +1,4 @@
+ghost use Rattle.performance_prepare.specs.Ranges.{AreInRange};
 ghost use Rattle.rhythm_app.specs.Asked.{answer};
 ghost use Rattle.rhythm_app.specs.Ends.{HasTalked, IsBrokenOff, IsErrUntouched, IsPerformed, IsTalkDone, IsUntouched, desk_of};
 ghost use Rattle.rhythm_app.specs.Inputs.{shown_inputs};
@@ -46,6 +47,7 @@ fn session_of<W: World>(
 ) -> Result<Session, Stop>
     requires some_worker { 1 ≤ workers }
     requires few_workers { workers ≤ 16 }
+    requires options { AreInRange inputs.options }
     ensures { HasSession (Some (answer talk (shown_inputs inputs.entry))) talk lent.old lent.new result }
 {
     match read_inputs(lent, inputs) {
@@ -106,6 +108,7 @@ pub fn answer<W: World>(
 ) -> Result<(), Stop>
     requires some_worker { 1 ≤ workers }
     requires few_workers { workers ≤ 16 }
+    requires options { AreInRange inputs.options }
     ensures { IsPerformed (Some (answer talk (shown_inputs inputs.entry))) lent.old lent.new result }
 {
     match session_of(lent, workers, talk, inputs) {

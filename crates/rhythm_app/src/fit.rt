@@ -8,6 +8,7 @@ ghost use Rattle.barline_fit.specs.Tries.{
   IsScoreAt,
 };
 ghost use Rattle.edit_session.specs.Opening.{CanOpen, cells_of};
+ghost use Rattle.performance_prepare.specs.Ranges.{AreInRange};
 ghost use Rattle.rhythm_app.specs.Asked.{AreCandidates, fit};
 ghost use Rattle.rhythm_app.specs.Builds.{HasFitted, HasFittedFor, HasFittedOver};
 ghost use Rattle.rhythm_app.specs.Inputs.{shown_inputs};
@@ -194,6 +195,7 @@ pub fn fit_text_of<W: World>(
 ) -> Result<Vec<u8>, Stop>
     requires some_worker { 1 ≤ workers }
     requires few_workers { workers ≤ 16 }
+    requires options { AreInRange inputs.options }
     requires tried { AreCandidates among }
     ensures { HasText (Some (fit (shown_inputs inputs.entry) among)) lent.old lent.new result }
 {

@@ -1,4 +1,5 @@
 ghost use Rattle.edit_session.specs.Opening.{CanOpen, cells_of};
+ghost use Rattle.performance_prepare.specs.Ranges.{AreInRange};
 ghost use Rattle.rhythm_app.specs.Asked.{follow};
 ghost use Rattle.rhythm_app.specs.Builds.{HasFollowed, HasFollowedFor, HasPartlyFollowed};
 ghost use Rattle.rhythm_app.specs.Inputs.{shown_inputs};
@@ -77,6 +78,7 @@ pub fn follow_text<W: World>(
 ) -> Result<Vec<u8>, Stop>
     requires some_worker { 1 ≤ workers }
     requires few_workers { workers ≤ 16 }
+    requires options { AreInRange inputs.options }
     ensures { HasText (Some (follow (shown_inputs inputs.entry))) lent.old lent.new result }
 {
     match read_inputs(lent, inputs) {

@@ -1,3 +1,4 @@
+ghost use Rattle.performance_prepare.specs.Ranges.{AreInRange};
 ghost use Rattle.rhythm_app.specs.Commands.{HaveInputs, HaveNames, input_files};
 ghost use Rattle.rhythm_app.specs.Counting.{HasPerformance, IsMidiLoading, IsOfMidi};
 ghost use Rattle.rhythm_app.specs.Ends.{IsReadFailure};
@@ -13,7 +14,7 @@ ghost use Rattle.std.specs.Prelude.{◌≡◌, ◌≢◌, ◌≤◌, ◌⊎◌, 
 
 use crate::files::{grammar_of, midi_of};
 use crate::lent::{Lent, World};
-use crate::performance::performance_of;
+use crate::performance::{performance_of, played_by};
 use crate::request::Inputs;
 use crate::stop::Stop;
 use rhythm_base::{Grammar, Performance};
@@ -27,6 +28,7 @@ fn inputs_of<F: Shelf>(
     inputs: Inputs,
     shelf: &mut F,
 ) -> Result<(Grammar, Performance), Stop>
+    requires { AreInRange inputs.options }
     ensures tests { ForSome (F.files shelf.old) (λ files. Follows (AreInputs (shown_inputs inputs.entry) files) result) }
     ensures cause { IfErr result (λ stop. ForSome (F.files shelf.old) (λ files. IsInputsStop (shown_inputs inputs.entry) files stop)) }
     ensures readable { IfOk result (λ had. IsReadable had.0) }
@@ -38,7 +40,7 @@ fn inputs_of<F: Shelf>(
 {
     let played = midi_of(alloc, shelf, inputs.midi)?;
     let grammar = grammar_of(alloc, shelf, inputs.grammar)?;
-    match performance_of(alloc, &played) {
+    match played_by(alloc, &inputs.options, &played) {
         Ok(performance) => Ok((grammar, performance)),
         Err(stop) => Err(stop),
     }
@@ -49,6 +51,7 @@ pub fn read_inputs<W: World>(
     lent: &mut Lent<W>,
     inputs: Inputs,
 ) -> Result<(Grammar, Performance), Stop>
+    requires { AreInRange inputs.options }
     ensures { HasInputs (shown_inputs inputs.entry) lent.old lent.new result }
 {
     inputs_of(lent.alloc, inputs, &mut lent.shelf)

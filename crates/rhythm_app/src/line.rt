@@ -8,8 +8,10 @@ ghost use Rattle.rhythm_app.specs.Stops.{
   midi_stop_line,
   named_line,
   pair_line,
+  prepare_stop_line,
   bar_signature_line,
   stop_line,
+  upbeat_line,
 };
 ghost use Rattle.rhythm_app.specs.declared.stop.Stop.TheVariants as stop;
 ghost use Rattle.std.specs.Io.KnownBytes.{Appends};
@@ -19,6 +21,7 @@ use crate::names::{kind_name, smf_name, smf_number, what_name, what_number};
 use crate::stop::{Kind, MidiStop, Stop};
 use grammar_file::GrammarFault;
 use kern_reader::KernFault;
+use performance_prepare::PrepareFault;
 use rhythm_ports::{Failed, Sink, write_all};
 use smf_reader::SmfFault;
 
@@ -240,6 +243,42 @@ fn write_in_file<K: Sink>(sink: &mut K, number: u32, stop: MidiStop) -> Result<(
     write_midi_stop(sink, stop)
 }
 
+/// Writes the beats of an upbeat and their value.
+fn write_upbeat<K: Sink>(sink: &mut K, num: u8, den: u8) -> Result<(), Failed>
+    ensures all { OnOk result (Appends (K.taken sink.old) (K.taken sink.new) (upbeat_line num den)) }
+    ensures part { OnErr result (AppendsPart (K.taken sink.old) (K.taken sink.new) (upbeat_line num den)) }
+    ensures cause { HasCause (K.faults sink.old) (K.faults sink.new) result }
+{
+    let num = Part::Number(u64::from(num));
+    let den = Part::Number(u64::from(den));
+    write_parts(
+        sink,
+        &[
+            Part::Text("upbeat "),
+            num,
+            Part::Text("/"),
+            den,
+            Part::Text("\n"),
+        ],
+    )
+}
+
+/// Writes the line of a stop by the options.
+fn write_unprepared<K: Sink>(sink: &mut K, fault: PrepareFault) -> Result<(), Failed>
+    ensures all { OnOk result (Appends (K.taken sink.old) (K.taken sink.new) (prepare_stop_line fault)) }
+    ensures part { OnErr result (AppendsPart (K.taken sink.old) (K.taken sink.new) (prepare_stop_line fault)) }
+    ensures cause { HasCause (K.faults sink.old) (K.faults sink.new) result }
+{
+    match fault {
+        PrepareFault::NoNotes => write_text(sink, "notes NoNotes\n"),
+        PrepareFault::TooManyVoices { count } => write_limit(sink, "voices", count),
+        PrepareFault::WrongDivision { division } => write_limit(sink, "division", division),
+        PrepareFault::TooLate { tick } => write_limit(sink, "ticks", tick),
+        PrepareFault::BadUpbeat { num, den } => write_upbeat(sink, num, den),
+        PrepareFault::Memory => write_text(sink, "memory\n"),
+    }
+}
+
 /// Writes the line of a stop.
 fn write_stop<K: Sink>(sink: &mut K, stop: Stop) -> Result<(), Failed>
     ensures all { OnOk result (Appends (K.taken sink.old) (K.taken sink.new) (stop_line stop)) }
@@ -270,6 +309,7 @@ fn write_stop<K: Sink>(sink: &mut K, stop: Stop) -> Result<(), Failed>
             sink,
             MidiStop::NoDerivation { channel, bar },
         ),
+        Stop::Unprepared(fault) => write_unprepared(sink, fault),
         Stop::ScoreTooLong { line } => write_limit(sink, "score", u64::from(line)),
         Stop::RenderTooLong { tick } => write_limit(sink, "render", tick),
         Stop::InFile { number, stop } => write_in_file(sink, number, stop),

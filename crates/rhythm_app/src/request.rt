@@ -1,5 +1,6 @@
-ghost use Rattle.command_line.specs.CommandLines.{HasWorkers};
-ghost use Rattle.rhythm_app.specs.Asked.{AreCandidates, IsCommandWord, IsRequestInRange, asked_of, candidate_count, candidates_by, command_by, drill_by, fit_by, fit_of, generate_by, in_order, learn_by, words_of_call, shown_request, words_after, workers_asked};
+ghost use Rattle.command_line.specs.CommandLines.{HasOptions, HasWorkers};
+ghost use Rattle.rhythm_app.specs.Asked.{AreCandidates, IsCommandWord, IsRequestInRange, asked_of, candidate_count, candidates_by, command_by, drill_by, fit_by, fit_of, generate_by, in_order, learn_by, words_of_call, shown_request, untold, words_after, workers_asked};
+ghost use Rattle.performance_prepare.specs.Ranges.{AreInRange};
 ghost use Rattle.rhythm_app.specs.Inputs.{shown_inputs};
 ghost use Rattle.rhythm_base.specs.declared.limits.TheConstants.{LATEST_TICK};
 ghost use Rattle.std.specs.Prelude.{◌≡◌, ◌≤◌, ◌↔◌, ◌∷◌, [], IfSome, IsFalse, IsSome, Some, codes, drop, nat_eq, option_map};
@@ -8,14 +9,17 @@ ghost use Rattle.std.specs.Cmp.Lexicographic.{pointwise};
 use crate::learn::MOST_FILES;
 use barline_fit::{Candidates, MOST_CANDIDATES};
 use command_line::{Invocation, number_in};
+use performance_prepare::Options;
 use rhythm_base::{LATEST_TICK, MOST_BARS, Words};
 use weight_learning::HEAVIEST_BIT;
 
-/// The inputs of a command on a MIDI file and a grammar: the names of its files.
+/// The inputs of a command on a MIDI file and a grammar: the names of its files, and what is told of the performance.
 #[derive(Clone, Copy)]
 pub struct Inputs<'a> {
     pub midi: &'a str,
     pub grammar: &'a str,
+    /// How the take of the MIDI file is prepared.
+    pub options: Options,
 }
 
 /// What is written of a session on a performance.
@@ -75,8 +79,11 @@ pub enum Request<'a> {
     },
     /// The script that moves the barlines of a MIDI file to those that follow the player, by a grammar.
     Follow(Inputs<'a>),
-    /// The bars, tempos, keys and notes of a MIDI file.
-    Notes(&'a str),
+    /// The bars, tempos, keys and notes of a MIDI file, as its take is prepared.
+    Notes {
+        midi: &'a str,
+        options: Options,
+    },
     /// The events of a **kern file.
     Events(&'a str),
     /// The MIDI file of the piece of a number.
@@ -112,15 +119,33 @@ pub fn words_after(word: &str) -> Option<&'static str>
     }
 }
 
+/// A command for which nothing is told of a take.
+fn untold<'a>(options: &Options, request: Option<Request<'a>>) -> Option<Request<'a>>
+    requires { IfSome request IsRequestInRange }
+    ensures asked { option_map shown_request result ≡ untold options.now (option_map shown_request request.entry) }
+    ensures range { IfSome result IsRequestInRange }
+{
+    if options.is_told() { None } else { request }
+}
+
+/// Whether options say how the MIDI file of the command is prepared.
+pub fn takes_options(word: &str) -> bool {
+    !matches!(word, "learn" | "events" | "generate" | "drill")
+}
+
 /// The command of a word and the name of one file.
-fn request_of_one<'a>(word: &'a str, file: &'a str) -> Option<Request<'a>>
-    ensures asked { option_map shown_request result ≡ command_by (word.entry.now ∷ file.entry.now ∷ []) }
+fn request_of_one<'a>(options: &Options, word: &'a str, file: &'a str) -> Option<Request<'a>>
+    requires { AreInRange options.now }
+    ensures asked { option_map shown_request result ≡ command_by options.now (word.entry.now ∷ file.entry.now ∷ []) }
     ensures range { IfSome result IsRequestInRange }
 {
     if word == "notes" {
-        Some(Request::Notes(file))
+        Some(Request::Notes {
+            midi: file,
+            options: *options,
+        })
     } else if word == "events" {
-        Some(Request::Events(file))
+        untold(options, Some(Request::Events(file)))
     } else {
         None
     }
@@ -169,13 +194,20 @@ fn learn_request<'a>(words: &'a Words) -> Option<Request<'a>>
 }
 
 /// The command of a word and two more.
-fn request_of_two<'a>(word: &'a str, first: &'a str, second: &'a str) -> Option<Request<'a>>
-    ensures asked { option_map shown_request result ≡ command_by (word.entry.now ∷ first.entry.now ∷ second.entry.now ∷ []) }
+fn request_of_two<'a>(
+    options: &Options,
+    word: &'a str,
+    first: &'a str,
+    second: &'a str,
+) -> Option<Request<'a>>
+    requires { AreInRange options.now }
+    ensures asked { option_map shown_request result ≡ command_by options.now (word.entry.now ∷ first.entry.now ∷ second.entry.now ∷ []) }
     ensures range { IfSome result IsRequestInRange }
 {
     let inputs = Inputs {
         midi: first,
         grammar: second,
+        options: *options,
     };
     if word == "transcribe" {
         Some(Request::Write(Form::Score, inputs))
@@ -194,9 +226,9 @@ fn request_of_two<'a>(word: &'a str, first: &'a str, second: &'a str) -> Option<
     } else if word == "follow" {
         Some(Request::Follow(inputs))
     } else if word == "generate" {
-        generate_request(first, second)
+        untold(options, generate_request(first, second))
     } else if word == "drill" {
-        drill_request(first, second)
+        untold(options, drill_request(first, second))
     } else {
         None
     }
@@ -236,6 +268,7 @@ fn candidates_of(bar: &str, low: &str, high: &str, step: &str) -> Option<Candida
 
 /// The fit of a barline, where there are not too many candidates.
 fn fit_request<'a>(inputs: Inputs<'a>, among: Candidates) -> Request<'a>
+    requires options { AreInRange inputs.options }
     requires order { among.low ≤ among.high }
     requires high { among.high ≤ LATEST_TICK }
     requires step { 1 ≤ among.step }
@@ -259,9 +292,10 @@ fn request_of_six<'a>(
     high: &'a str,
     step: &'a str,
 ) -> Option<Request<'a>>
+    requires options { AreInRange inputs.options }
     requires other { IsFalse (pointwise nat_eq word.now (codes "learn")) }
     ensures asked { option_map shown_request result
-        ≡ command_by (words_of_call word.entry.now (shown_inputs inputs.entry) bar.entry.now low.entry.now high.entry.now step.entry.now) }
+        ≡ command_by (shown_inputs inputs.entry).options (words_of_call word.entry.now (shown_inputs inputs.entry) bar.entry.now low.entry.now high.entry.now step.entry.now) }
     ensures range { IfSome result IsRequestInRange }
 {
     if word == "fit" {
@@ -275,25 +309,27 @@ fn request_of_six<'a>(
 }
 
 /// The command that the words are.
-fn command_of<'a>(words: &'a Words) -> Option<Request<'a>>
-    ensures asked { option_map shown_request result ≡ command_by words.entry.now }
+fn command_of<'a>(options: &Options, words: &'a Words) -> Option<Request<'a>>
+    requires { AreInRange options.now }
+    ensures asked { option_map shown_request result ≡ command_by options.now words.entry.now }
     ensures range { IfSome result IsRequestInRange }
 {
     let word = words.get(0)?;
     if word == "learn" {
-        return learn_request(words);
+        return untold(options, learn_request(words));
     }
     let first = words.get(1)?;
     match words.count() {
-        2 => request_of_one(word, first),
+        2 => request_of_one(options, word, first),
         3 => {
             let second = words.get(2)?;
-            request_of_two(word, first, second)
+            request_of_two(options, word, first, second)
         }
         7 => {
             let inputs = Inputs {
                 midi: first,
                 grammar: words.get(2)?,
+                options: *options,
             };
             let bar = words.get(3)?;
             let low = words.get(4)?;
@@ -307,13 +343,14 @@ fn command_of<'a>(words: &'a Words) -> Option<Request<'a>>
 
 /// What is asked for.
 pub fn request_of<'a>(said: &'a Invocation) -> Option<Request<'a>>
+    requires { HasOptions said.now }
     ensures asked { option_map shown_request result ≡ asked_of said.entry.now }
     ensures range { IfSome result IsRequestInRange }
 {
     match said {
         Invocation::Help => Some(Request::Help),
         Invocation::Version => Some(Request::Version),
-        Invocation::Command(line) => command_of(&line.words),
+        Invocation::Command(line) => command_of(&line.options, &line.words),
     }
 }
 

@@ -1,8 +1,9 @@
-ghost use Rattle.rhythm_app.specs.Stops.{midi_status_of, status_of};
+ghost use Rattle.rhythm_app.specs.Stops.{midi_status_of, prepare_status_of, status_of};
 ghost use Rattle.std.specs.Prelude.{◌≡◌};
 
 use grammar_file::GrammarFault;
 use kern_reader::KernFault;
+use performance_prepare::PrepareFault;
 use smf_reader::SmfFault;
 
 /// Which of the command's inputs.
@@ -66,6 +67,19 @@ impl MidiStop {
     }
 }
 
+/// The status that the program ends with, where the options cannot be followed.
+fn prepare_status(fault: PrepareFault) -> u8
+    ensures { result ≡ prepare_status_of fault }
+{
+    match fault {
+        PrepareFault::NoNotes | PrepareFault::BadUpbeat { .. } => 2,
+        PrepareFault::TooManyVoices { .. }
+        | PrepareFault::WrongDivision { .. }
+        | PrepareFault::TooLate { .. } => 4,
+        PrepareFault::Memory => 7,
+    }
+}
+
 /// Why a run ends without its answer.
 #[derive(Clone, Copy)]
 pub enum Stop {
@@ -95,6 +109,8 @@ pub enum Stop {
     TooManyCells { count: u64 },
     /// The grammar has no root symbol for the signature of this bar.
     NoStart { bar: u32, num: u8, den: u8 },
+    /// The take of the MIDI file cannot be prepared by the options.
+    Unprepared(PrepareFault),
     /// A voice has no derivation that fits: its channel and its dead bar.
     NoDerivation { channel: u8, bar: u32 },
     /// The score is longer than 67,108,864 bytes; the number, from 1, of the first line that ends past them.
@@ -133,6 +149,7 @@ impl Stop {
             | Stop::BadSignature { .. }
             | Stop::UnevenBar { .. }
             | Stop::NoStart { .. } => 2,
+            Stop::Unprepared(fault) => prepare_status(*fault),
             Stop::NoDerivation { .. } => 3,
             Stop::FileTooLong { .. }
             | Stop::LineTooLong { .. }

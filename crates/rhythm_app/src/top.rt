@@ -1,4 +1,4 @@
-ghost use Rattle.command_line.specs.CommandLines.{HasWorkers};
+ghost use Rattle.command_line.specs.CommandLines.{HasOptions, HasWorkers};
 ghost use Rattle.rhythm_app.specs.Asked.{asked_by, asked_of};
 ghost use Rattle.rhythm_app.specs.Ends.{AppendsPart, HasStatus, IsAnswered, IsComplete, IsErrUntouched, IsPerformed, IsStopTold, IsStopped, IsStoppedBy, IsWriteCut, KeepsRest};
 ghost use Rattle.rhythm_app.specs.Lent.{Lent as Stood};
@@ -80,7 +80,7 @@ fn text_asked<W: World>(lent: &mut Lent<W>, workers: u32, request: Request) -> R
         } => learn_text(lent, workers, bit, grammar, words),
         Request::TooManyFiles { count } => Err(Stop::TooManyFiles { count }),
         Request::Follow(inputs) => follow_text(lent, workers, inputs),
-        Request::Notes(midi) => notes_text_of(lent, midi),
+        Request::Notes { midi, options } => notes_text_of(lent, midi, options),
         Request::Events(kern) => events_text(lent, kern),
         Request::Generate { number, bars } => piece_bytes(lent, number, bars),
         Request::Drill { number, grammar } => drill_text(lent, workers, number, grammar),
@@ -89,7 +89,8 @@ fn text_asked<W: World>(lent: &mut Lent<W>, workers: u32, request: Request) -> R
 
 /// Does what is asked for, up to the first stop.
 fn perform<W: World>(lent: &mut Lent<W>, said: &Invocation) -> Result<(), Stop>
-    requires { HasWorkers said.now }
+    requires workers { HasWorkers said.now }
+    requires options { HasOptions said.now }
     ensures usage { (result ≡ Err stop.Usage) ↔ (asked_of said.now ≡ None) }
     ensures performed { IsPerformed (asked_of said.now) lent.old lent.new result }
 {
@@ -124,8 +125,8 @@ fn perform_words<W: World>(lent: &mut Lent<W>, words: &Words) -> Result<(), Stop
 /// 6: a write failed. 7: there was not enough memory; in a script this comes only before its first line is answered. 9: no tick is
 /// fitted to the barline.
 pub fn run<W: World>(lent: &mut Lent<W>, words: &Words) -> u8
-    // 1 comes only where nothing is asked for: `clap` refuses the words, the number of workers is none of 1 to 16, or the words without
-    // the option are no command. There no other status comes but 7, where there was not enough memory to read the words. Plain words are
+    // 1 comes only where nothing is asked for: `clap` refuses the words, the word of an option is out of range, or the words without the
+    // options are no command, or none that takes them. There no other status comes but 7, where there was not enough memory to read the words. Plain words are
     // never refused by `clap`, and what they ask for is told without it.
     ensures usage { result ≡ 1 → asked_by words.now ≡ None }
     ensures unusable { asked_by words.now ≡ None → (result ≡ 1) ⊎ (result ≡ 7) }

@@ -4,19 +4,22 @@ ghost use Rattle.rhythm_app.specs.declared.stop.Stop.TheVariants as stop;
 ghost use Rattle.std.specs.Prelude.{◌≡◌, ◌++◌, ℕ, IfOk, List};
 
 use crate::line::write_line;
-use crate::request::words_after;
+use crate::request::{takes_options, words_after};
 use crate::stop::Stop;
-use command_line::{Invocation, read_words, words_refusal};
+use command_line::{CommandLine, Invocation, read_words, words_refusal};
 use rhythm_base::Words;
 use rhythm_ports::{Sink, write_all};
 use std::alloc::{AllocError, Global};
 
 /// What is wrong with the words of a command, in one line.
-fn command_reason(alloc: Global, words: &Words) -> Result<String, AllocError> {
-    let Some(word) = words.get(0) else {
+fn command_reason(alloc: Global, line: &CommandLine) -> Result<String, AllocError> {
+    let Some(word) = line.words.get(0) else {
         return String::from_str(alloc, "there is no command");
     };
     match words_after(word) {
+        Some(_after) if line.options.is_told() && !takes_options(word) => {
+            format!(in alloc; "{word} takes no options for the MIDI file")
+        }
         Some(after) => format!(in alloc; "the command is called as: rhythm {word} {after}"),
         None => format!(in alloc; "there is no command {word}"),
     }
@@ -28,7 +31,7 @@ fn reason_of(alloc: Global, words: &Words) -> Result<String, AllocError> {
         return Ok(said);
     }
     match read_words(alloc, words) {
-        Ok(Invocation::Command(line)) => command_reason(alloc, &line.words),
+        Ok(Invocation::Command(line)) => command_reason(alloc, &line),
         _ => Err(AllocError),
     }
 }

@@ -1,6 +1,7 @@
 ghost use Rattle.derivation.specs.PerformanceScore.{IsScoreOf};
 ghost use Rattle.derivation.specs.Score.{IsScore};
 ghost use Rattle.edit_session.specs.Opening.{CanOpen, cells_of};
+ghost use Rattle.performance_prepare.specs.Ranges.{AreInRange};
 ghost use Rattle.rhythm_app.specs.Asked.{write};
 ghost use Rattle.rhythm_app.specs.Builds.{HasBuiltFor};
 ghost use Rattle.rhythm_app.specs.Inputs.{shown_inputs};
@@ -229,6 +230,7 @@ pub fn session_text<W: World>(
 ) -> Result<Vec<u8>, Stop>
     requires some_worker { 1 ≤ workers }
     requires few_workers { workers ≤ 16 }
+    requires options { AreInRange inputs.options }
     ensures { HasText (Some (write form (shown_inputs inputs.entry))) lent.old lent.new result }
 {
     match read_inputs(lent, inputs) {

@@ -3,7 +3,7 @@ use Rattle.std.proofs.lemmas.Result.{err_from_is_err_and}
 use Rattle.rhythm_app.specs.Commands.{named}
 use Rattle.rhythm_app.specs.Inputs.{shown_inputs}
 use Rattle.rhythm_app.specs.declared.stop.Kind.TheVariants as kind
-use Rattle.rhythm_app.proofs.Sessions.{inputs_cause, unloaded_follows, unread_grammar, unread_midi}
+use Rattle.rhythm_app.proofs.Sessions.{inputs_cause, loaded_follows, unloaded_follows, unread_grammar, unread_midi}
 use Rattle.rhythm_app.proofs.inputs.inputs_of.Goals as goal
 
 pub returns-in_err-played-clause-cause : goal.returns-in_err-played-clause-cause
@@ -46,3 +46,8 @@ pub returns-clause-strays : goal.returns-clause-strays
 returns-clause-strays g c = λ files are names.
     c.in_ok-grammar.ensures.strays files (c.in_ok-played.ensures.files ∙ are) (names 1 (named kind.Midi c.args.inputs.midi.now) (omega arith))
     ∙ c.in_ok-played.ensures.strays files are (names 0 (named kind.Midi c.args.inputs.midi.now) (omega arith))
+
+pub returns-in-Ok-clause-tests : goal.returns-in-Ok-clause-tests
+returns-in-Ok-clause-tests g c = λ files are.
+    loaded_follows (shown_inputs c.args.inputs) files c.in_ok-played.played c.in_ok-grammar.grammar
+    (c.in_ok-played.ensures.tests files are) (c.in_ok-grammar.ensures.tests files (c.in_ok-played.ensures.files ∙ are)) c.in-Ok.performance c.in-Ok.ensures.tests
