@@ -1,24 +1,17 @@
 #!/usr/bin/env python3
-"""Writes a performance as another MIDI file, which `rhythm` takes better: with its barlines, its tempo or its lines put right.
+"""Writes a performance after a script as another MIDI file, which every command of `rhythm` takes.
 
-    examples/prepare.py MIDI [--split KEY] [--quarter TICKS] [--shift TICKS] > NEW
-    examples/prepare.py MIDI [--split KEY] --script SCRIPT > NEW
+    examples/prepare.py MIDI SCRIPT [OPTION...] > NEW
 
-    --split KEY         the notes below KEY get a channel of their own
-    --quarter TICKS     a quarter note was played so many ticks long
-    --shift TICKS       all notes come so many ticks later, or earlier where the number is below 0
-    --script SCRIPT     the edits of a script are made, as `rhythm follow` writes one
-
-The ticks are those of MIDI; a quarter note of the new file has 9600. There each bar is as long as its signature says, with all that is in
-it. Velocities, pedals and programs are left out, and where notes of one key overlap the earlier one is cut. The program `rhythm` is found on
-the path.
+The edits of the script are made, as `rhythm follow` writes one, or a session whose lines were answered `ok`; pins are not taken. OPTIONs are those of
+`rhythm` that say how the MIDI file is prepared, the same as for the script. The ticks of the script are those of `rhythm notes` with these
+options; a quarter note of the new file has 9600, and there each bar is as long as its signature says, with all that is in it. Velocities,
+pedals and programs are left out, and where notes of one key overlap the earlier one is cut. The program `rhythm` is found on the path.
 """
-import argparse
 import subprocess
 import sys
 
 QUARTER = 9600  # ticks in the new file: a bar of any signature has a whole number of them
-DRUMS = 9
 
 
 def length(signature, quarter):
@@ -34,10 +27,10 @@ def quantity(number):
 
 
 class Performance:
-    """What `rhythm notes` says of a file: the starts and signatures of its bars, its tempos, keys and notes."""
+    """What `rhythm notes` says of a file by options: the starts and signatures of its bars, its tempos, keys and notes."""
 
-    def __init__(self, midi):
-        ran = subprocess.run(["rhythm", "notes", midi], stdout=subprocess.PIPE, text=True)
+    def __init__(self, midi, options):
+        ran = subprocess.run(["rhythm", "notes", midi, *options], stdout=subprocess.PIPE, text=True)
         if ran.returncode:
             sys.exit(ran.returncode)  # it has said on standard error why
         lines = [line.split() for line in ran.stdout.splitlines()]
@@ -77,33 +70,6 @@ class Performance:
                 channel, key, onset, end = note
                 self.notes.append([channel, key, numbers[3], numbers[3] + end - onset])
 
-    def lay_bars(self, quarter):
-        """Lays the bars anew from the first tick, as many as the notes need."""
-        self.tempos = [[tick, min(round(micros * quarter / self.quarter), 0xFFFFFF)] for tick, micros in self.tempos or [[0, 500000]]]
-        self.quarter = quarter
-        signatures, self.signatures, self.starts = self.signatures, [], [0]
-        while self.starts[-1] < max(end for *_, end in self.notes) or self.starts[-1] <= max(onset for _, _, onset, _ in self.notes):
-            self.signatures.append(signatures[min(len(self.signatures), len(signatures) - 1)])
-            self.starts.append(self.starts[-1] + length(self.signatures[-1], quarter))
-
-    def shift(self, ticks):
-        if min(onset for _, _, onset, _ in self.notes) + ticks < -self.quarter / 4:
-            sys.exit("a note would begin before the file")
-        # what is there from the beginning stays there, and a first note that was a little early begins there
-        self.tempos, self.keys = ([[max(0, tick + ticks) if tick else 0, what] for tick, what in them] for them in (self.tempos, self.keys))
-        self.notes = [[channel, key, max(0, onset + ticks), max(0, end + ticks)] for channel, key, onset, end in self.notes]
-        self.lay_bars(self.quarter)
-
-    def split(self, split):
-        """Gives the notes below a key another channel, all but drums."""
-        free = [channel for channel in range(16) if channel != DRUMS and channel not in {note[0] for note in self.notes}]
-        other = {}
-        for note in self.notes:
-            if note[0] != DRUMS and note[1] < split:
-                if note[0] not in other:
-                    other[note[0]] = free.pop(0) if free else sys.exit("there is no channel left")
-                note[0] = other[note[0]]
-
     def file(self):
         """The bytes of a MIDI file, in which each bar has its full length."""
         new = [0]
@@ -132,20 +98,9 @@ class Performance:
         return b"MThd\0\0\0\6\0\0\0\1" + QUARTER.to_bytes(2, "big") + b"MTrk" + len(body).to_bytes(4, "big") + body
 
 
-words = argparse.ArgumentParser(usage="examples/prepare.py MIDI [--split KEY] [--quarter TICKS] [--shift TICKS] [--script SCRIPT] > NEW")
-words.add_argument("midi")
-for number in ("--split", "--quarter", "--shift"):
-    words.add_argument(number, type=int, default=0)
-words.add_argument("--script")
-given = words.parse_args()
-if given.quarter < 0 or given.script and (given.quarter or given.shift):
-    words.error("TICKS of a quarter are 1 or more, and a script stands without --quarter and --shift")
-performance = Performance(given.midi)
-if given.quarter:
-    performance.lay_bars(given.quarter)
-if given.shift:
-    performance.shift(given.shift)
-for line in open(given.script) if given.script else []:
+if len(sys.argv) < 3 or sys.argv[2].startswith("-"):
+    sys.exit("called as: examples/prepare.py MIDI SCRIPT [OPTION...] > NEW")
+performance = Performance(sys.argv[1], sys.argv[3:])
+for line in open(sys.argv[2]):
     performance.make(line)
-performance.split(given.split)
 sys.stdout.buffer.write(performance.file())
