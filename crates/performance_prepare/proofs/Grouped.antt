@@ -22,9 +22,6 @@ use Rattle.performance_prepare.proofs.Cutting.{whole}
 use Rattle.performance_prepare.proofs.Middles.{filter_from, fold_high, from_among, from_entry, length_from}
 use Rattle.performance_prepare.proofs.ShiftedTakes.{all_mapped}
 
-pub stretch_low : (keys : List ℕ) → All (λ k. k < 128) keys → stretch keys ≤ 127
-stretch_low keys low = let high : greatest keys ≤ 127 = fold_high 0 127 keys (omega arith) (λ x am. let l = all_among (λ k. k < 128) keys low x am in omega (arith, l)) in omega (arith, high)
-
 -- ---- a row
 
 at_any : (xs : List ℕ) (k d : ℕ) → k < length xs → get_or xs k d ≡ slice_index xs k
@@ -106,11 +103,35 @@ past_some : (tempos : List Tempo) (division tick : ℕ) (o : Option Note) → so
 past_some tempos division tick None = sym (past_none tempos division tick)
 past_some tempos division tick (Some n) = refl
 
+-- no time is less than that of an earlier tick
+time_up : (tempos : List Tempo) (a b : ℕ) → a ≤ b → time tempos a ≤ time tempos b
+unfolding time
+time_up tempos a zero le = ap_le (omega (arith, le))
+  where
+    ap_le : a ≡ 0 → time tempos a ≤ time tempos zero
+    ap_le e = subst (λ n. time tempos n ≤ time tempos 0) (sym e) (omega arith)
+time_up tempos a (suc b) le = elim (cases_order a (suc b)) [
+  | inl e ↦ subst (λ n. time tempos n ≤ time tempos (suc b)) (sym e) (omega arith)
+  | inr other ↦ elim other [
+    | inl less ↦ (let rest = time_up tempos a b (omega (arith, less)) in omega (arith, rest))
+    | inr more ↦ absurd (omega (arith, more, le))
+  ]
+]
+
 pub held_same : (tempos : List Tempo) (division : ℕ) (ends : List ℕ) (before group : List Note) → AreEnds ends before → held_by tempos division ends group ≡ held_keys tempos division before group
 held_same tempos division ends before group h =
     filter_from (λ key. holds tempos division (slice_index ends key) group key) (is_held tempos division before group) 0 128 (λ key low lt.
     ap (λ e. not (strikes group key) && nat_lt (milliseconds division 60) (time_between tempos (first_onset group) e)) (h key lt)
     ∙ ap (λ b. not (strikes group key) && b) (sym (past_some tempos division (first_onset group) (last_of (filter (λ n. n.key == key) before)))))
+
+pub holds_later : (tempos : List Tempo) (division end : ℕ) (group : List Note) (key : ℕ) → end ≤ first_onset group → holds tempos division end group key ≡ false
+holds_later tempos division end group key le =
+    let no_time : time_between tempos (first_onset group) end ≡ 0 = (let up = time_up tempos end (first_onset group) le in omega (arith, up)) in
+    ap (λ t. not (strikes group key) && nat_lt (milliseconds division 60) t) no_time ∙ never (not (strikes group key)) (milliseconds division 60)
+  where
+    never : (b : Bool) (n : ℕ) → (b && nat_lt n 0) ≡ false
+    never true n = grind (arith, nat_tests)
+    never false n = refl
 
 -- ---- what calls want
 

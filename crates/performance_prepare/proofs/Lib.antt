@@ -9,6 +9,7 @@ pub mod Kept
 pub mod KeysOnce
 pub mod LawsKept
 pub mod Middles
+pub mod NextKeys
 pub mod Parting
 pub mod ShiftedTakes
 pub mod Strummed

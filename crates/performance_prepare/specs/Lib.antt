@@ -9,6 +9,7 @@ pub mod Laws
 pub mod Meter
 pub mod Middle
 pub mod Outcome
+pub mod Parted
 pub mod Parts
 pub mod Prepared
 pub mod Ranges

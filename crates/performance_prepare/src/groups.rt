@@ -6,11 +6,11 @@ ghost use Rattle.performance_prepare.specs.Middle.{numbers_from};
 ghost use Rattle.rhythm_base.specs.Lists.{gap, greatest, least_of};
 ghost use Rattle.rhythm_base.specs.declared.limits.TheConstants.{LATEST_EVENT, MOST_NOTES};
 ghost use Rattle.rhythm_base.specs.declared.note.Note.{Note};
-ghost use Rattle.std.specs.Prelude.{◌≡◌, ◌≤◌, ◌<◌, ◌*◌, ◌∷◌, ◌++◌, ◌&&◌, All, IfOk, drop, filter, length, List, map, nat_lt, not, slice_index};
+ghost use Rattle.std.specs.Prelude.{◌≡◌, ◌≤◌, ◌<◌, ◌+◌, ◌*◌, ◌∷◌, ◌++◌, ◌&&◌, All, IfOk, drop, filter, length, List, map, nat_lt, not, slice_index};
 ghost use Rattle.std.specs.List.{slice_range};
 
 use crate::elapsed::{milliseconds, time_between};
-use crate::middle::{greatest_of, keys_below, keys_from, least_number};
+use crate::parted::{parting_from, parting_on};
 use crate::strum::strikes;
 use hand_borders::BORDERS;
 use rhythm_base::Note;
@@ -66,79 +66,32 @@ fn nearness(border: u8, keys: &[u8]) -> u64
     total
 }
 
-/// The keys as numbers.
-fn numbers_of(alloc: Global, keys: &[u8]) -> Result<Vec<u64>, AllocError>
-    ensures { IfOk result (λ v. v.items ≡ keys.now) }
-{
-    keys.iter().map(|key| u64::from(*key)).collect(alloc)
-}
-
-/// The semitones that the keys of a hand are apart, above an octave.
-fn stretch(alloc: Global, keys: &[u8]) -> Result<u64, AllocError>
-    requires { All (λ k. k < 128) keys.now }
-    ensures stretch { IfOk result (λ n. n ≡ groups.stretch keys.now) }
-    ensures low { IfOk result (λ n. n ≤ 127) }
-{
-    let numbers = numbers_of(alloc, keys)?;
-    Ok(
-        greatest_of(&numbers)
-            .saturating_sub(least_number(&numbers))
-            .saturating_sub(12),
-    )
-}
-
-/// How many keys a hand holds that strikes something.
-fn held_beside(struck: &[u8], held: &[u8]) -> u64
-    ensures keys { result ≡ groups.held_beside struck.now held.now }
-    ensures few { result ≤ length held.now }
-{
-    if struck.is_empty() {
-        0
-    } else {
-        held.len() as u64
-    }
-}
-
-/// What a border costs in a group that strikes these keys where those are held.
-fn cost(
-    alloc: Global,
-    middle: u64,
-    struck: &[u8],
-    held: &[u8],
-    border: u8,
-) -> Result<u32, AllocError>
+/// What a border costs in a group that strikes these keys, by what it costs as it parts them.
+fn cost(middle: u64, struck: &[u8], border: u8, parted: u64) -> u32
     requires middle { middle ≤ 128 }
     requires border { border ≤ 128 }
     requires few { length struck.now ≤ MOST_NOTES }
-    requires struck { All (λ k. k < 128) struck.now }
-    requires held_few { length held.now ≤ 128 }
-    requires held { All (λ k. k < 128) held.now }
-    ensures { IfOk result (λ n. n ≡ groups.cost middle struck.now held.now border) }
+    requires parted { parted ≤ 307_000 }
+    ensures { result ≡ length struck.now * gap border middle + groups.nearness border struck.now + parted }
 {
-    let left = keys_below(alloc, border, struck)?;
-    let right = keys_from(alloc, border, struck)?;
-    let held_left = keys_below(alloc, border, held)?;
-    let held_right = keys_from(alloc, border, held)?;
     let moved = struck.len() as u64 * apart(u64::from(border), middle);
-    let wide = stretch(alloc, &left)? + stretch(alloc, &right)?;
-    let cut = held_beside(&left, &held_left) + held_beside(&right, &held_right);
-    Ok((moved + nearness(border, struck) + 100 * wide + 1_000 * cut) as u32)
+    (moved + nearness(border, struck) + parted) as u32
 }
 
-/// What each border costs in a group.
-fn row(alloc: Global, middle: u64, struck: &[u8], held: &[u8]) -> Result<[u32; BORDERS], AllocError>
+/// What each border costs in a group that strikes these keys where those are held.
+fn row(middle: u64, struck: &[u8], held: &[u8]) -> [u32; BORDERS]
     requires middle { middle ≤ 128 }
     requires few { length struck.now ≤ MOST_NOTES }
-    requires struck { All (λ k. k < 128) struck.now }
-    requires held_few { length held.now ≤ 128 }
-    requires held { All (λ k. k < 128) held.now }
-    ensures { IfOk result (λ r. r ≡ map (groups.cost middle struck.now held.now) (numbers_from 0 129)) }
+    requires held { length held.now ≤ 128 }
+    ensures { result ≡ map (groups.cost middle struck.now held.now) (numbers_from 0 129) }
 {
     let mut costs = [0u32; BORDERS];
+    let mut parting = parting_from(struck, held, 0);
     'borders: for border in 0..BORDERS {
-        costs[border] = cost(alloc, middle, struck, held, border as u8)?;
+        parting = parting_on(parting, struck, held, border as u8);
+        costs[border] = cost(middle, struck, border as u8, parting.cost);
     }
-    Ok(costs)
+    costs
 }
 
 /// The keys of notes.
@@ -164,8 +117,11 @@ fn is_held(map: &TempoMap, division: u16, end: u64, group: &[Note], key: u8) -> 
     requires group { All (IsPlayed LATEST_EVENT) group.now }
     ensures { result ≡ held.holds map.now.tempos division end group.now key }
 {
-    !strikes(group, key)
-        && milliseconds(division, HELD) < time_between(map, first_onset(group), end)
+    let onset = first_onset(group);
+    if end <= onset {
+        return false;
+    }
+    !strikes(group, key) && milliseconds(division, HELD) < time_between(map, onset, end)
 }
 
 /// The keys that are held past a group's beginning, by the ends of the last notes of the keys before.
@@ -220,7 +176,7 @@ fn row_of(
 {
     let struck = keys_of(alloc, group)?;
     let held = held_keys(alloc, map, division, ends, group)?;
-    row(alloc, middle, &struck, &held)
+    Ok(row(middle, &struck, &held))
 }
 
 /// What each border costs in each group of the notes of a channel.

@@ -14,6 +14,7 @@ mod laws;
 mod meter;
 mod middle;
 mod options;
+mod parted;
 mod prepare_fault;
 mod preparing;
 mod shift;

@@ -89,7 +89,7 @@ fn partings(alloc: Global, keys: &[u8]) -> Result<Vec<u64>, AllocError>
 }
 
 /// The greatest of the numbers, 0 without one.
-pub fn greatest_of(numbers: &[u64]) -> u64
+fn greatest_of(numbers: &[u64]) -> u64
     ensures { result ≡ greatest numbers.now }
 {
     let mut most = 0;
@@ -107,7 +107,7 @@ fn least(numbers: &[u64]) -> Option<u64>
 }
 
 /// The least of the numbers, 0 without one.
-pub fn least_number(numbers: &[u64]) -> u64
+fn least_number(numbers: &[u64]) -> u64
     ensures { result ≡ least_of numbers.now }
 {
     match least(numbers) {

@@ -1,0 +1,23 @@
+-- What a border costs by how it parts the keys of a group.
+use Rattle.std.specs.Prelude.{◌≡◌, ℕ, ◌+◌, ◌*◌, ◌≤◌, List, Option, Some, None, min}
+use Rattle.std.specs.List.{reduce}
+use Rattle.performance_prepare.specs.Groups.{held_beside, stretch}
+use Rattle.performance_prepare.specs.Middle.{keys_below, keys_from}
+
+-- 100 for each semitone above an octave of a hand, and 1,000 for each key that a hand holds where it strikes anew
+abbrev pub parted_cost : List ℕ → List ℕ → ℕ → ℕ
+parted_cost struck held border =
+    100 * (stretch (keys_below border struck) + stretch (keys_from border struck))
+    + 1000 * (held_beside (keys_below border struck) (keys_below border held) + held_beside (keys_from border struck) (keys_from border held))
+
+-- the borders from one on up to another cost so much by it
+abbrev pub IsParting : List ℕ → List ℕ → ℕ → ℕ → ℕ → Type 0
+IsParting struck held first last cost = (border : ℕ) → first ≤ border → border ≤ last → cost ≡ parted_cost struck held border
+
+abbrev pub or_last : Option ℕ → ℕ
+or_last None = 128
+or_last (Some key) = key
+
+-- the lowest of the keys at a border or above it, and the last border without one
+abbrev pub next_key : ℕ → List ℕ → ℕ
+next_key border keys = or_last (reduce min (keys_from border keys))
