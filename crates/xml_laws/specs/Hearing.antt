@@ -1,0 +1,188 @@
+-- What is known of a part after some of its words, in parts of a quarter, and how each word adds to it.
+use Rattle.std.specs.Prelude.{ℕ, ◌+◌, ◌-◌, ◌^◌, Bool, true, false, ◌==◌, ◌&&◌, ◌||◌, not, nat_eq, if◌then◌else◌, List, [], ◌∷◌, ◌++◌, codes, drop, Option, Some, None}
+use Rattle.std.specs.List.{starts_with}
+use Rattle.std.specs.Option.{option_map}
+use Rattle.std.specs.Str.{bytes_eq}
+use Rattle.kern_reader.specs.Tokens.{◌>>=◌, number_of, same_bool}
+use Rattle.lily_writer.specs.Hearing.{heard_rise, key_set}
+use Rattle.notation.specs.Notes.{is_empty}
+use Rattle.notation_laws.specs.Hearing.{HeardVoice, Stretch, hear, hear_grace, is_none, unheard}
+use Rattle.xml_laws.specs.Pitches.{xml_key}
+use Rattle.xml_laws.specs.Words.{XmlWord, closes_one, is_one_of, is_word_of, part_marks, part_values, tag_name}
+
+-- What was read within a note: whether it is a grace note, and a further note of a chord; the texts of its pitch; its
+-- key, of a rest none; how long it is; whether it is marked short; and whether a tie comes to it, and one goes on
+-- from it
+pub record ReadNote : Type 0 where
+  pub grace : Bool
+  pub further : Bool
+  pub step : List ℕ
+  pub alter : List ℕ
+  pub octave : List ℕ
+  pub keys : Option (List ℕ)
+  pub duration : Option ℕ
+  pub short : Bool
+  pub comes : Bool
+  pub goes : Bool
+
+abbrev pub blank_note : ReadNote
+blank_note = record {
+  grace = false;
+  further = false;
+  step = [];
+  alter = [];
+  octave = [];
+  keys = None;
+  duration = None;
+  short = false;
+  comes = false;
+  goes = false;
+}
+
+-- a chord, a grace chord or a rest, by the notes of it that were read
+pub record ReadChord : Type 0 where
+  pub grace : Bool
+  pub keys : List ℕ
+  pub len : ℕ
+  pub short : Bool
+  pub comes : Bool
+  pub goes : Bool
+
+-- What is known: how many parts a quarter has, where it was said; what was heard up to the last chord; this chord, to
+-- which further notes may be added; the note that has begun; the place of the last barline; and the lengths of the
+-- measures before it
+pub record HeardPart : Type 0 where
+  pub divisions : Option ℕ
+  pub heard : HeardVoice ℕ
+  pub chord : Option ReadChord
+  pub note : Option ReadNote
+  pub began : ℕ
+  pub lengths : List ℕ
+
+-- nothing yet, where a part begins
+abbrev pub unheard_part : HeardPart
+unheard_part = record { divisions = None; heard = unheard 0; chord = None; note = None; began = 0; lengths = [] }
+
+-- numbers are below 2 ^ 32
+abbrev pub xml_number : List ℕ → Option ℕ
+xml_number text = number_of (2 ^ 32 - 1) text
+
+-- ---- chords
+
+abbrev pub read_stretch : ReadChord → Stretch ℕ
+read_stretch c = record { len = c.len; keys = key_set c.keys; short = c.short; comes = c.comes; goes = c.goes }
+
+-- its keys rise
+abbrev pub hear_read_chord : HeardVoice ℕ → ReadChord → Option (HeardVoice ℕ)
+hear_read_chord v c =
+    if heard_rise c.keys then (if c.grace then hear_grace v (key_set c.keys) else hear ◌+◌ v (read_stretch c)) else None
+
+-- the last chord is whole
+abbrev pub heard_with : HeardVoice ℕ → Option ReadChord → Option (HeardVoice ℕ)
+heard_with v None = Some v
+heard_with v (Some c) = hear_read_chord v c
+
+-- a grace note has a key, and neither a duration nor a mark nor a tie
+abbrev pub grace_chord : ReadNote → List ℕ → Option ReadChord
+grace_chord n keys =
+    if is_none n.duration && not (is_empty keys || (n.short || (n.comes || n.goes)))
+    then Some (record { grace = true; keys = keys; len = 0; short = false; comes = false; goes = false })
+    else None
+
+abbrev pub long_chord : ReadNote → List ℕ → Option ReadChord
+long_chord n keys = option_map
+    (λ len. record { grace = false; keys = keys; len = len; short = n.short; comes = n.comes; goes = n.goes }) n.duration
+
+-- the chord of a note alone
+abbrev pub chord_of : ReadNote → Option ReadChord
+chord_of n = n.keys >>= λ keys. if n.grace then grace_chord n keys else long_chord n keys
+
+-- A further note is as long as the chord and has its ties. Its mark stands at the lowest key alone, and a rest has no
+-- further notes
+abbrev pub goes_with : ReadChord → ReadChord → Bool
+goes_with c m =
+    (same_bool c.grace m.grace && ((c.len == m.len) && (same_bool c.comes m.comes && same_bool c.goes m.goes)))
+    && not (m.short || (is_empty c.keys || is_empty m.keys))
+
+abbrev pub with_key : ReadChord → ReadChord → Option ReadChord
+with_key c m = if goes_with c m then Some (record c { keys = c.keys ++ m.keys }) else None
+
+-- ---- notes
+
+abbrev pub begin_note : HeardPart → Option HeardPart
+begin_note h = if is_none h.note then Some (record h { note = Some blank_note }) else None
+
+abbrev pub within_note : HeardPart → (ReadNote → ReadNote) → Option HeardPart
+within_note h change = option_map (λ n. record h { note = Some (change n) }) h.note
+
+-- a note has one pitch or is a rest
+abbrev pub hear_keys : HeardPart → ReadNote → List ℕ → Option HeardPart
+hear_keys h n keys = if is_none n.keys then Some (record h { note = Some (record n { keys = Some keys }) }) else None
+
+abbrev pub end_pitch : HeardPart → Option HeardPart
+end_pitch h = h.note >>= λ n. xml_key n.step n.alter n.octave >>= λ key. hear_keys h n (key ∷ [])
+
+abbrev pub hear_rest_tag : HeardPart → Option HeardPart
+hear_rest_tag h = h.note >>= λ n. hear_keys h n []
+
+abbrev pub add_note : HeardPart → Bool → ReadChord → Option HeardPart
+add_note h true m = h.chord >>= λ c. option_map (λ c. record h { chord = Some c; note = None }) (with_key c m)
+add_note h false m = option_map (λ v. record h { heard = v; chord = Some m; note = None }) (heard_with h.heard h.chord)
+
+abbrev pub end_note : HeardPart → Option HeardPart
+end_note h = h.note >>= λ n. chord_of n >>= λ m. add_note h n.further m
+
+-- ---- measures
+
+-- a chord ends in its measure, and no grace chord waits over a barline
+abbrev pub bar_ends : HeardPart → HeardVoice ℕ → Option HeardPart
+bar_ends h v =
+    if is_none h.note && is_empty v.graces
+    then Some (record h { heard = v; chord = None; began = v.at; lengths = h.lengths ++ (v.at - h.began) ∷ [] })
+    else None
+
+abbrev pub end_measure : HeardPart → Option HeardPart
+end_measure h = heard_with h.heard h.chord >>= bar_ends h
+
+-- ---- words
+
+-- the parts of a quarter are said once, and before any duration
+abbrev pub hear_divisions : HeardPart → List ℕ → Option HeardPart
+hear_divisions h text =
+    if is_none h.divisions then option_map (λ n. record h { divisions = Some n }) (xml_number text) else None
+
+abbrev pub hear_duration : HeardPart → List ℕ → Option HeardPart
+hear_duration h text =
+    h.divisions >>= λ quarter. xml_number text >>= λ len. within_note h (λ n. record n { duration = Some len })
+
+unfoldable pub hear_value : HeardPart → List ℕ → List ℕ → Option HeardPart
+hear_value h text name =
+    if bytes_eq name (codes "divisions") then hear_divisions h text
+    else if bytes_eq name (codes "duration") then hear_duration h text
+    else if bytes_eq name (codes "step") then within_note h (λ n. record n { step = text })
+    else if bytes_eq name (codes "alter") then within_note h (λ n. record n { alter = text })
+    else if bytes_eq name (codes "octave") then within_note h (λ n. record n { octave = text })
+    else Some h
+
+unfoldable pub hear_tag : HeardPart → List ℕ → Option HeardPart
+hear_tag h tag =
+    if bytes_eq tag (codes "note") then begin_note h
+    else if bytes_eq tag (codes "/note") then end_note h
+    else if bytes_eq tag (codes "/pitch") then end_pitch h
+    else if bytes_eq tag (codes "rest/") || bytes_eq tag (codes "rest measure=\"yes\"/") then hear_rest_tag h
+    else if bytes_eq tag (codes "chord/") then within_note h (λ n. record n { further = true })
+    else if bytes_eq tag (codes "grace slash=\"yes\"/") then within_note h (λ n. record n { grace = true })
+    else if bytes_eq tag (codes "tie type=\"stop\"/") then within_note h (λ n. record n { comes = true })
+    else if bytes_eq tag (codes "tie type=\"start\"/") then within_note h (λ n. record n { goes = true })
+    else if bytes_eq tag (codes "staccato/") then within_note h (λ n. record n { short = true })
+    else if starts_with nat_eq tag (codes "measure ") then Some h
+    else if bytes_eq tag (codes "/measure") then end_measure h
+    else if is_one_of part_values (tag_name tag) || is_one_of part_marks (tag_name tag) then Some h
+    else None
+
+-- content stands before a tag that closes a text alone
+unfoldable pub hear_xml_word : HeardPart → XmlWord → Option HeardPart
+hear_xml_word h w =
+    if closes_one part_values w.tag then hear_value h w.content (drop 1 w.tag)
+    else if is_empty w.content then hear_tag h w.tag
+    else None
