@@ -1,1 +1,7 @@
+pub mod Cutting
+pub mod Durations
+pub mod Names
+pub mod NoteParts
+pub mod NotesRead
+pub mod ReadTexts
 mod WorkedTexts

@@ -8,7 +8,7 @@ use Rattle.lily_writer.specs.Hearing.{heard_rise, key_set}
 use Rattle.notation.specs.Notes.{is_empty}
 use Rattle.notation_laws.specs.Hearing.{HeardVoice, Stretch, hear, hear_grace, is_none, unheard}
 use Rattle.xml_laws.specs.Pitches.{xml_key}
-use Rattle.xml_laws.specs.Words.{XmlWord, closes_one, is_one_of, is_word_of, part_marks, part_values, tag_name}
+use Rattle.xml_laws.specs.Words.{XmlWord, closes_one, is_one_of, part_marks, part_values, tag_name}
 
 -- What was read within a note: whether it is a grace note, and a further note of a chord; the texts of its pitch; its
 -- key, of a rest none; how long it is; whether it is marked short; and whether a tie comes to it, and one goes on

@@ -35,10 +35,10 @@ ended_part h =
     else None
 
 abbrev pub begins_part : XmlWord → Bool
-begins_part w = is_empty w.content && starts_with nat_eq w.tag (codes "part ")
+begins_part w = starts_with nat_eq w.tag (codes "part ") && is_empty w.content
 
 abbrev pub ends_part : XmlWord → Bool
-ends_part w = is_empty w.content && bytes_eq w.tag (codes "/part")
+ends_part w = bytes_eq w.tag (codes "/part") && is_empty w.content
 
 -- the parts of these words; of one that has begun so much is known
 abbrev pub read_parts : Option HeardPart → List XmlWord → Option (List ReadPart)

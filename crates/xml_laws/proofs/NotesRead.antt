@@ -1,0 +1,312 @@
+-- What is read of the lines of notes is what is heard of the notes.
+use Rattle.std.proofs.Common.{◌≡◌, ℕ, ◌+◌, ◌<◌, ◌≤◌, ◌==◌, ◌&&◌, ◌||◌, Bool, true, false, not, List, [], ◌∷◌, ◌++◌, Option, Some, None, refl, sym, ap, ◌∙◌, subst, arith, append_assoc, append-nil, suc}
+use Rattle.std.specs.Prelude.{ℤ, All, IfSome, codes, decimal, if◌then◌else◌}
+use Rattle.std.specs.List.{flat_map}
+use Rattle.std.specs.Option.{option_map}
+use Rattle.std.proofs.lemmas.Bool.{and_parts, false≢true}
+use Rattle.std.proofs.lemmas.Bool.Decides.{nat_tests}
+use Rattle.std.proofs.lemmas.List.Elements.{All-head, All-tail}
+use Rattle.rhythm_base.specs.declared.limits.TheConstants.{MOST_UNITS}
+use Rattle.derivation.specs.Score.{IsKeySignature}
+use Rattle.derivation.specs.WellSounded.{AreKeys}
+use Rattle.score_words.specs.Keys.{rising_keys}
+use Rattle.score_words.proofs.SetKeys.{KeysRise, keys_rise}
+use Rattle.kern_reader.specs.Tokens.{◌>>=◌, same_bool}
+use Rattle.lily_writer.specs.Hearing.{heard_rise, key_set}
+use Rattle.lily_laws.proofs.ElementWords.{some_key}
+use Rattle.lily_laws.proofs.KeySums.{keys_sum, keys_up}
+use Rattle.notation.specs.declared.note.Ratio.{Ratio}
+use Rattle.notation.specs.Names.{pitch_name}
+use Rattle.notation.specs.Notes.{Group, Note, is_empty}
+use Rattle.notation_laws.specs.Hearing.{HeardSpan, HeardVoice, Stretch, hear, hear_chord, hear_grace, hear_graces, hear_rest, is_bare, is_none, is_still}
+use Rattle.notation_laws.specs.NotesHeard.{hear_note, hear_notes, note_stretch}
+use Rattle.notation_laws.specs.Written.{IsWrittenGroup, IsWrittenNote}
+use Rattle.notation_laws.proofs.Says.{heard_first}
+use Rattle.musicxml_writer.specs.Bars.{group_text, notes_text, set}
+use Rattle.musicxml_writer.specs.Elements.{attribute_start, closing, element, empty_element, empty_with, line, opening}
+use Rattle.musicxml_writer.specs.Notes.{chord_mark, chord_text, grace_text, key_marks, key_text, keys_text, notations, note_text, rest_text, tie_ends, bracket_ends}
+use Rattle.musicxml_writer.specs.Pitches.{key_pitch}
+use Rattle.musicxml_writer.specs.Values.{value_text}
+use Rattle.xml_laws.specs.Hearing.{HeardPart, ReadChord, ReadNote, add_note, blank_note, chord_of, hear_read_chord, hear_tag, hear_value, hear_xml_word, heard_with, read_stretch, with_key, xml_number}
+use Rattle.xml_laws.specs.Reading.{read_parts}
+use Rattle.xml_laws.specs.Words.{part_marks, part_values, xml_words}
+use Rattle.xml_laws.proofs.Durations.{duration_number}
+use Rattle.xml_laws.proofs.NoteParts.{duration_read, mark_read, marks_read, noted, pitch_read, pitched, rest_marks_read, ties_read, type_read, value_read}
+use Rattle.xml_laws.proofs.ReadTexts.{Reads, reads_both, reads_element, reads_line, reads_none}
+
+-- ---- tests
+
+same_number : (n : ℕ) → (n == n) ≡ true
+same_number n = grind (arith, nat_tests)
+
+bool_same : (b : Bool) → same_bool b b ≡ true
+bool_same true = refl
+bool_same false = refl
+
+-- ---- keys of a chord, one after another
+
+module _ (h : HeardPart) where
+  -- what is known between two notes: what was heard up to the last chord, and this chord
+  abbrev pub known : HeardVoice ℕ → Option ReadChord → HeardPart
+  known v c = record h { heard = v; chord = c; note = None }
+
+  module _ (one : Bool → ℕ → List ℕ) (chord : List ℕ → ReadChord) where
+    abbrev ReadsFirst : Type 0
+    ReadsFirst = (v w : HeardVoice ℕ) (c : Option ReadChord) (k : ℕ) → k < 128 → heard_with v c ≡ Some w
+        → Reads (known v c) (one true k) (known w (Some (chord (k ∷ []))))
+
+    abbrev ReadsFurther : Type 0
+    ReadsFurther = (w : HeardVoice ℕ) (j : ℕ) (js : List ℕ) (k : ℕ) → k < 128
+        → Reads (known w (Some (chord (j ∷ js)))) (one false k) (known w (Some (chord (j ∷ (js ++ k ∷ [])))))
+
+    further_keys : ReadsFurther → (low : ℕ) (ks : List ℕ) (w : HeardVoice ℕ) (j : ℕ) (js : List ℕ) → KeysRise low ks
+        → Reads (known w (Some (chord (j ∷ js)))) (keys_text one false ks) (known w (Some (chord (j ∷ (js ++ ks)))))
+    further_keys further low [] w j js up = subst (λ ks. Reads (known w (Some (chord (j ∷ js)))) [] (known w (Some (chord (j ∷ ks))))) (sym (append-nil js))
+        (reads_none (known w (Some (chord (j ∷ js)))))
+    further_keys further low (k ∷ ks) w j js (above, few, up) =
+        subst (λ all. Reads (known w (Some (chord (j ∷ js)))) (one false k ++ keys_text one false ks) (known w (Some (chord (j ∷ all)))))
+        (append_assoc js (k ∷ []) ks)
+        (reads_both (known w (Some (chord (j ∷ js)))) (known w (Some (chord (j ∷ (js ++ k ∷ []))))) (known w (Some (chord (j ∷ ((js ++ k ∷ []) ++ ks)))))
+        (one false k) (keys_text one false ks) (further w j js k few) (further_keys further (suc k) ks w j (js ++ k ∷ []) up))
+
+    chord_lines : ReadsFirst → ReadsFurther → (v w : HeardVoice ℕ) (c : Option ReadChord) (keys : ℕ) → AreKeys keys → heard_with v c ≡ Some w
+        → Reads (known v c) (chord_text one keys) (known w (Some (chord (rising_keys keys))))
+    chord_lines first further v w c keys are heard =
+        let (k, ks, all) = some_key keys are in
+        let (above, few, up) = subst (KeysRise 0) all (keys_rise keys) in
+        subst (λ list. Reads (known v c) (keys_text one true list) (known w (Some (chord list)))) (sym all)
+        (reads_both (known v c) (known w (Some (chord (k ∷ [])))) (known w (Some (chord (k ∷ ks)))) (one true k) (keys_text one false ks)
+        (first v w c k few heard) (further_keys further (suc k) ks w k [] up))
+
+-- ---- the lines of a key
+
+note_opens : (h : HeardPart) (v : HeardVoice ℕ) (c : Option ReadChord) → Reads (known h v c) (opening (codes "note")) (noted (known h v c) blank_note)
+unfolding opening hear_xml_word hear_tag part_values part_marks
+note_opens h v c more = refl
+
+-- a note alone ends the chord before it
+note_ends : (h : HeardPart) (v w : HeardVoice ℕ) (c : Option ReadChord) (n : ReadNote) (m : ReadChord) → chord_of n ≡ Some m
+    → heard_with v c ≡ Some w
+    → Reads (noted (known h v c) (record n { further = false })) (closing (codes "note")) (known h w (Some m))
+unfolding closing hear_xml_word hear_tag part_values part_marks
+note_ends h v w c n m is heard more =
+    let at : HeardPart = noted (known h v c) (record n { further = false }) in
+    ap (λ o. (o >>= λ m. add_note at false m) >>= λ next. read_parts (Some next) (xml_words more)) is
+    ∙ ap (λ o. option_map (λ v. record at { heard = v; chord = Some m; note = None }) o >>= λ next. read_parts (Some next) (xml_words more)) heard
+
+-- a further one is added to it
+further_ends : (h : HeardPart) (w : HeardVoice ℕ) (c whole : ReadChord) (n : ReadNote) (m : ReadChord) → chord_of n ≡ Some m
+    → with_key c m ≡ Some whole
+    → Reads (noted (known h w (Some c)) (record n { further = true })) (closing (codes "note")) (known h w (Some whole))
+unfolding closing hear_xml_word hear_tag part_values part_marks
+further_ends h w c whole n m is joined more =
+    let at : HeardPart = noted (known h w (Some c)) (record n { further = true }) in
+    ap (λ o. (o >>= λ m. add_note at true m) >>= λ next. read_parts (Some next) (xml_words more)) is
+    ∙ ap (λ o. option_map (λ c. record at { chord = Some c; note = None }) o >>= λ next. read_parts (Some next) (xml_words more)) joined
+
+module _ (h : HeardPart) (sf : Option ℤ) (key : IfSome sf IsKeySignature) where
+  -- ---- grace chords
+
+  abbrev grace_of : List ℕ → ReadChord
+  grace_of keys = record { grace = true; keys = keys; len = 0; short = false; comes = false; goes = false }
+
+  slash_read : (p : HeardPart) (n : ReadNote)
+      → Reads (noted p n) (empty_with (codes "grace") (codes "slash") (codes "yes")) (noted p (record n { grace = true }))
+  unfolding empty_with attribute_start hear_xml_word hear_tag part_values part_marks
+  slash_read p n more = refl
+
+  abbrev graced_note : Bool → ℕ → ReadNote
+  graced_note lowest k = pitched (record blank_note { grace = true; further = not lowest }) (pitch_name sf k) k
+
+  grace_content : (ratio : Ratio) (first last : Bool) (p next : HeardPart) (q : HeardPart) (lowest : Bool) (k : ℕ) → k < 128
+      → Reads p (opening (codes "note")) (noted q blank_note)
+      → Reads (noted q (graced_note lowest k)) (closing (codes "note")) next
+      → Reads p (grace_text (set sf ratio first last) lowest k) next
+  unfolding grace_text
+  grace_content ratio first last p next q lowest k within opens closes =
+      let begun = noted q blank_note in
+      let graced = noted q (record blank_note { grace = true }) in
+      let marked = noted q (record blank_note { grace = true; further = not lowest }) in
+      let whole = noted q (graced_note lowest k) in
+      let one = empty_with (codes "grace") (codes "slash") (codes "yes") in
+      let two = chord_mark lowest in
+      let three = key_pitch sf k in
+      let four = element (codes "type") (codes "eighth") in
+      reads_line p next (element (codes "note") (one ++ two ++ three ++ four))
+      (reads_element p begun whole next (codes "note") (one ++ two ++ three ++ four) opens
+      (reads_both begun whole whole (one ++ two ++ three) four
+      (reads_both begun marked whole (one ++ two) three
+      (reads_both begun graced marked one two (slash_read q blank_note) (mark_read q (record blank_note { grace = true }) lowest))
+      (pitch_read q (record blank_note { grace = true; further = not lowest }) sf k key within))
+      (type_read whole (codes "eighth") refl)) closes)
+
+  first_grace : (ratio : Ratio) (first last : Bool) → ReadsFirst h (grace_text (set sf ratio first last)) grace_of
+  first_grace ratio first last v w c k within heard =
+      grace_content ratio first last (known h v c) (known h w (Some (grace_of (k ∷ [])))) (known h v c) true k within (note_opens h v c)
+      (note_ends h v w c (graced_note true k) (grace_of (k ∷ [])) refl heard)
+
+  further_grace : (ratio : Ratio) (first last : Bool) → ReadsFurther h (grace_text (set sf ratio first last)) grace_of
+  further_grace ratio first last w j js k within =
+      grace_content ratio first last (known h w (Some (grace_of (j ∷ js)))) (known h w (Some (grace_of (j ∷ (js ++ k ∷ [])))))
+      (known h w (Some (grace_of (j ∷ js)))) false k within (note_opens h w (Some (grace_of (j ∷ js))))
+      (further_ends h w (grace_of (j ∷ js)) (grace_of (j ∷ (js ++ k ∷ []))) (graced_note false k) (grace_of (k ∷ [])) refl refl)
+
+  -- ---- chords
+
+  module _ (quarter : ℕ) (said : h.divisions ≡ Some quarter) (ratio : Ratio) (first last : Bool) (n : Note) (number : xml_number (decimal n.duration) ≡ Some n.duration) where
+    abbrev long_of : List ℕ → ReadChord
+    long_of keys = record { grace = false; keys = keys; len = n.duration; short = n.short; comes = n.comes; goes = n.goes }
+
+    abbrev long_note : Bool → ℕ → ReadNote
+    long_note lowest k = record (pitched (record blank_note { further = not lowest }) (pitch_name sf k) k) {
+      duration = Some n.duration;
+      comes = n.comes;
+      goes = n.goes;
+      short = lowest && n.short;
+    }
+
+    key_content : (v : HeardVoice ℕ) (c : Option ReadChord) (next : HeardPart) (lowest : Bool) (k : ℕ) → k < 128
+        → Reads (noted (known h v c) (long_note lowest k)) (closing (codes "note")) next
+        → Reads (known h v c) (key_text (set sf ratio first last) n lowest k) next
+    unfolding key_text
+    key_content v c next lowest k within closes =
+        let p = known h v c in
+        let s = set sf ratio first last in
+        let begun = noted p blank_note in
+        let n1 : ReadNote = record blank_note { further = not lowest } in
+        let n2 : ReadNote = pitched n1 (pitch_name sf k) k in
+        let n3 : ReadNote = record n2 { duration = Some n.duration } in
+        let n4 : ReadNote = record n3 { comes = n.comes; goes = n.goes } in
+        let whole = noted p (long_note lowest k) in
+        let one = chord_mark lowest in
+        let two = key_pitch sf k in
+        let three = element (codes "duration") (decimal n.duration) in
+        let four = tie_ends (codes "tie") n in
+        let five = value_text ratio n.value in
+        let six = notations (key_marks s.bracket n lowest) in
+        reads_line p next (element (codes "note") (one ++ two ++ three ++ four ++ five ++ six))
+        (reads_element p begun whole next (codes "note") (one ++ two ++ three ++ four ++ five ++ six) (note_opens h v c)
+        (reads_both begun (noted p n4) whole (one ++ two ++ three ++ four ++ five) six
+        (reads_both begun (noted p n4) (noted p n4) (one ++ two ++ three ++ four) five
+        (reads_both begun (noted p n3) (noted p n4) (one ++ two ++ three) four
+        (reads_both begun (noted p n2) (noted p n3) (one ++ two) three
+        (reads_both begun (noted p n1) (noted p n2) one two (mark_read p blank_note lowest) (pitch_read p n1 sf k key within))
+        (duration_read p n2 quarter n.duration said number))
+        (ties_read p n3 n))
+        (value_read (noted p n4) ratio n.value))
+        (marks_read p n4 s.bracket.starts s.bracket.stops n lowest)) closes)
+
+    first_key : ReadsFirst h (key_text (set sf ratio first last) n) long_of
+    first_key v w c k within heard =
+        key_content v c (known h w (Some (long_of (k ∷ [])))) true k within
+        (note_ends h v w c (long_note true k) (long_of (k ∷ [])) refl heard)
+
+    joined : (j : ℕ) (js : List ℕ) (k : ℕ) → with_key (long_of (j ∷ js)) (record (long_of (k ∷ [])) { short = false })
+        ≡ Some (long_of (j ∷ (js ++ k ∷ [])))
+    joined j js k = rw (same_number n.duration, bool_same n.comes, bool_same n.goes) refl
+
+    further_key : ReadsFurther h (key_text (set sf ratio first last) n) long_of
+    further_key w j js k within =
+        key_content w (Some (long_of (j ∷ js))) (known h w (Some (long_of (j ∷ (js ++ k ∷ []))))) false k within
+        (further_ends h w (long_of (j ∷ js)) (long_of (j ∷ (js ++ k ∷ []))) (long_note false k) (record (long_of (k ∷ [])) { short = false }) refl
+        (joined j js k))
+
+    -- ---- rests
+
+    rest_tag : (p : HeardPart) (m : ReadNote) → Reads (noted p (record m { keys = None })) (empty_element (codes "rest"))
+        (noted p (record m { keys = Some [] }))
+    unfolding empty_element hear_xml_word hear_tag part_values part_marks
+    rest_tag p m more = refl
+
+    abbrev rest_of : ReadChord
+    rest_of = record { grace = false; keys = []; len = n.duration; short = false; comes = false; goes = false }
+
+    rest_read : (v w : HeardVoice ℕ) (c : Option ReadChord) → heard_with v c ≡ Some w
+        → Reads (known h v c) (rest_text (set sf ratio first last) n) (known h w (Some rest_of))
+    unfolding rest_text
+    rest_read v w c heard =
+        let p = known h v c in
+        let s = set sf ratio first last in
+        let n1 : ReadNote = record blank_note { keys = Some [] } in
+        let n2 : ReadNote = record n1 { duration = Some n.duration } in
+        let begun = noted p blank_note in
+        let whole = noted p n2 in
+        let one = empty_element (codes "rest") in
+        let two = element (codes "duration") (decimal n.duration) in
+        let three = value_text ratio n.value in
+        let four = notations (bracket_ends s.bracket) in
+        reads_line p (known h w (Some rest_of)) (element (codes "note") (one ++ two ++ three ++ four))
+        (reads_element p begun whole (known h w (Some rest_of)) (codes "note") (one ++ two ++ three ++ four) (note_opens h v c)
+        (reads_both begun whole whole (one ++ two ++ three) four
+        (reads_both begun whole whole (one ++ two) three
+        (reads_both begun (noted p n1) whole one two (rest_tag p blank_note) (duration_read p n1 quarter n.duration said number))
+        (value_read whole ratio n.value))
+        (rest_marks_read whole s.bracket.starts s.bracket.stops))
+        (note_ends h v w c n2 rest_of refl heard))
+
+-- ---- what is heard after a text
+
+module _ (h : HeardPart) where
+  -- a text after which the last chord leads to what was heard
+  pub record IsTurned (v : HeardVoice ℕ) (c : Option ReadChord) (text : List ℕ) (next : HeardVoice ℕ) : Type 0 where
+    pub before : HeardVoice ℕ
+    pub chord : Option ReadChord
+    pub reads : Reads (known h v c) text (known h before chord)
+    pub heard : heard_with before chord ≡ Some next
+
+  abbrev pub Turns : HeardVoice ℕ → List ℕ → HeardVoice ℕ → Type 0
+  Turns w text next = (v : HeardVoice ℕ) (c : Option ReadChord) → heard_with v c ≡ Some w → IsTurned v c text next
+
+  pub turns_none : (w next : HeardVoice ℕ) → w ≡ next → Turns w [] next
+  turns_none w next same v c heard = record {
+    before = v;
+    chord = c;
+    reads = reads_none (known h v c);
+    heard = heard ∙ ap (λ w. Some w) same;
+  }
+
+  pub turns_both : (w mid next : HeardVoice ℕ) (xs ys : List ℕ) → Turns w xs mid → Turns mid ys next → Turns w (xs ++ ys) next
+  turns_both w mid next xs ys one two v c heard =
+      let first = one v c heard in
+      let second = two first.before first.chord first.heard in
+      record {
+        before = second.before;
+        chord = second.chord;
+        reads = reads_both (known h v c) (known h first.before first.chord) (known h second.before second.chord) xs ys first.reads second.reads;
+        heard = second.heard;
+      }
+
+-- ---- rests are bare
+
+if_some : {X : Type 0} (b : Bool) (x y : X) → (if b then Some x else None) ≡ Some y → b ≡ true
+if_some true x y e = refl
+if_some false x y e = absurd (cc)
+
+no_marks : (a b c : Bool) → not (a || (b || c)) ≡ true → (a ≡ false) × (b ≡ false) × (c ≡ false)
+no_marks false false false h = (refl, refl, refl)
+no_marks true b c h = absurd (false≢true h)
+no_marks false true c h = absurd (false≢true h)
+no_marks false false true h = absurd (false≢true h)
+
+silent_rest : (w next : HeardVoice ℕ) (s : Stretch ℕ) → (s.keys == 0) ≡ true → hear ◌+◌ w s ≡ Some next
+    → (is_still w ≡ true) × (is_bare s ≡ true)
+silent_rest w next s silent e =
+    and_parts (is_still w) (is_bare s)
+    (if_some (is_still w && is_bare s) (record w { at = w.at + s.len }) next
+    (sym (ap (λ b. if b then hear_rest ◌+◌ w s else hear_chord ◌+◌ w s) silent) ∙ e))
+
+-- grace chords wait for their note
+graces_wait : (w next : HeardVoice ℕ) (graces : List ℕ) → hear_graces w graces ≡ Some next → next.graces ≡ w.graces ++ graces
+graces_wait w next [] e = let same : w ≡ next = cc in sym (ap (λ (v : HeardVoice ℕ). v.graces) same) ∙ sym (append-nil w.graces)
+graces_wait w next (g ∷ graces) e =
+    let (mid, one, rest) = heard_first (hear_grace w g) (λ mid. hear_graces mid graces) next e in
+    graces_wait mid next graces rest ∙ ap (λ gs. gs ++ graces) (one_waits mid (is_none w.going) one) ∙ append_assoc w.graces (g ∷ []) graces
+  where
+    one_waits : (mid : HeardVoice ℕ) (b : Bool) → (if b then Some (record w { graces = w.graces ++ g ∷ [] }) else None) ≡ Some mid
+        → mid.graces ≡ w.graces ++ g ∷ []
+    one_waits mid true e = let same : record w { graces = w.graces ++ g ∷ [] } ≡ mid = cc in sym (ap (λ (v : HeardVoice ℕ). v.graces) same)
+    one_waits mid false e = absurd (cc)
+
+not_empty : (xs ys : List ℕ) (y : ℕ) → is_empty (xs ++ y ∷ ys) ≡ true → ⊥
+not_empty [] ys y h = false≢true h
+not_empty (x ∷ xs) ys y h = false≢true h
