@@ -4,4 +4,5 @@ pub mod Names
 pub mod NoteParts
 pub mod NotesRead
 pub mod ReadTexts
+pub mod Settings
 mod WorkedTexts
