@@ -45,7 +45,7 @@ dotted_few (suc zero) few = omega arith
 dotted_few (suc (suc zero)) few = omega arith
 dotted_few (suc (suc (suc d))) few = absurd (omega (arith, few))
 
-at_most : (a b c d : ℕ) → a ≤ c → b ≤ d → a * b ≤ c * d
+pub at_most : (a b c d : ℕ) → a ≤ c → b ≤ d → a * b ≤ c * d
 at_most a b c d first second =
     let one = mul-le-mul_right b first in
     let two = mul-le-mul_left c second in

@@ -1,3 +1,4 @@
+pub mod BarsRead
 pub mod Cutting
 pub mod Durations
 pub mod Names

@@ -80,12 +80,12 @@ module _ (h : HeardPart) where
 
 -- ---- the lines of a key
 
-note_opens : (h : HeardPart) (v : HeardVoice ℕ) (c : Option ReadChord) → Reads (known h v c) (opening (codes "note")) (noted (known h v c) blank_note)
+pub note_opens : (h : HeardPart) (v : HeardVoice ℕ) (c : Option ReadChord) → Reads (known h v c) (opening (codes "note")) (noted (known h v c) blank_note)
 unfolding opening hear_xml_word hear_tag part_values part_marks
 note_opens h v c more = refl
 
 -- a note alone ends the chord before it
-note_ends : (h : HeardPart) (v w : HeardVoice ℕ) (c : Option ReadChord) (n : ReadNote) (m : ReadChord) → chord_of n ≡ Some m
+pub note_ends : (h : HeardPart) (v w : HeardVoice ℕ) (c : Option ReadChord) (n : ReadNote) (m : ReadChord) → chord_of n ≡ Some m
     → heard_with v c ≡ Some w
     → Reads (noted (known h v c) (record n { further = false })) (closing (codes "note")) (known h w (Some m))
 unfolding closing hear_xml_word hear_tag part_values part_marks
