@@ -4,6 +4,9 @@ pub mod Durations
 pub mod Names
 pub mod NoteParts
 pub mod NotesRead
+pub mod OutsideParts
 pub mod ReadTexts
+pub mod PartsRead
 pub mod Settings
+pub mod Texts
 mod WorkedTexts

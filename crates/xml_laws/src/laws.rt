@@ -1,0 +1,16 @@
+ghost use Rattle.xml_laws.specs.Laws.{BarsAreFull, TextsAreReadBack, TextsSayTheEvents};
+
+/// The MusicXML text of a score is read as the spans of its voices.
+pub fn texts_are_read_back()
+    ensures { TextsAreReadBack }
+{}
+
+/// The MusicXML text of a score says the events of its **kern text.
+pub fn texts_say_the_events()
+    ensures { TextsSayTheEvents }
+{}
+
+/// The durations of each measure are together as long as its bar.
+pub fn bars_are_full()
+    ensures { BarsAreFull }
+{}

@@ -3,3 +3,5 @@
 #![tactic(auto)]
 
 mod laws;
+
+pub use laws::{bars_are_full, texts_are_read_back, texts_say_the_events};
