@@ -49,7 +49,7 @@ pub length_is : (r : ℕ) (bar : ScoreBar) → IsScoreBar bar → bar_length r b
 length_is r bar right = parts_are r bar.num bar.den (beat_part bar.den right.signature.power)
 
 rest_tag : (p : HeardPart) → Reads (noted p blank_note) (empty_with (codes "rest") (codes "measure") (codes "yes"))
-    (noted p (record blank_note { keys = Some [] }))
+    (noted p (record blank_note { whole = true; keys = Some [] }))
 unfolding empty_with attribute_start hear_xml_word hear_tag part_values part_marks
 rest_tag p more = refl
 
@@ -62,7 +62,7 @@ rest_read : (h : HeardPart) (quarter r : ℕ) (bar : ScoreBar) (v : HeardVoice �
 unfolding bar_rest
 rest_read h quarter r bar v is number =
     let p = known h v None in
-    let n1 : ReadNote = record blank_note { keys = Some [] } in
+    let n1 : ReadNote = record blank_note { whole = true; keys = Some [] } in
     let n2 : ReadNote = record n1 { duration = Some (bar_length r bar) } in
     let one = empty_with (codes "rest") (codes "measure") (codes "yes") in
     let two = element (codes "duration") (decimal (bar_length r bar)) in
@@ -70,7 +70,7 @@ rest_read h quarter r bar v is number =
     reads_line p next (element (codes "note") (one ++ two))
     (reads_element p (noted p blank_note) (noted p n2) next (codes "note") (one ++ two) (note_opens h v None)
     (reads_both (noted p blank_note) (noted p n1) (noted p n2) one two (rest_tag p) (duration_read p n1 quarter (bar_length r bar) is number))
-    (note_ends h v v None n2 (rest_of (bar_length r bar)) refl refl))
+    (note_ends h v v None n2 (rest_of (bar_length r bar)) (ap (λ o. o >>= λ quarter. Some (rest_of (bar_length r bar))) is) refl))
 
 -- ---- bars
 
@@ -130,7 +130,7 @@ module _ (r : ℕ) (units : 1 ≤ r) (few : r ≤ MOST_UNITS) where
         heard = ap (λ n. hear ◌+◌ v (rest_stretch n)) (length_is r bar right) ∙ e;
       }
   notes_read bar right (g ∷ groups) lengths v w all e =
-      groups_turn r units few bar.sf right.key (at_barline (Some (16 * r)) v lengths) (16 * r) refl (g ∷ groups) v w all e v None refl
+      groups_turn r units few bar.sf right.key (at_barline (Some (16 * r)) v lengths) (16 * r) refl (omega arith) (g ∷ groups) v w all e v None refl
 
   bar_read : (clef : Clef) (first : Bool) (before : Option ScoreBar) (bar : ScoreBar) (number : ℕ) (last : Bool) (groups : List Group)
       (lengths : List ℕ) (v w : HeardVoice ℕ) → IsScoreBar bar → All (IsWrittenGroup r) groups → hear_bar r bar v groups ≡ Some w

@@ -23,7 +23,7 @@ some_grid (Of n) (k, few, is) = subst (λ m. 1 ≤ m) (sym is) (pow_pos k)
 some_grid Breve is = omega arith
 some_grid Long is = omega arith
 
-plain_some : (r : Recip) → 1 ≤ plain_parts r
+pub plain_some : (r : Recip) → 1 ≤ plain_parts r
 plain_some (Of n) = omega arith
 plain_some Breve = omega arith
 plain_some Long = omega arith

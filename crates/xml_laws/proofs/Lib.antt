@@ -9,4 +9,6 @@ pub mod ReadTexts
 pub mod PartsRead
 pub mod Settings
 pub mod Texts
+pub mod ValuesRead
+pub mod ValuesSaid
 mod WorkedTexts

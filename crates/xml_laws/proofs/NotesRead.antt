@@ -1,6 +1,7 @@
 -- What is read of the lines of notes is what is heard of the notes.
-use Rattle.std.proofs.Common.{◌≡◌, ℕ, ◌+◌, ◌<◌, ◌≤◌, ◌==◌, ◌&&◌, ◌||◌, Bool, true, false, not, List, [], ◌∷◌, ◌++◌, Option, Some, None, refl, sym, ap, ◌∙◌, subst, arith, append_assoc, append-nil, suc}
-use Rattle.std.specs.Prelude.{ℤ, All, IfSome, codes, decimal, if◌then◌else◌}
+use Rattle.std.proofs.Common.{◌≡◌, ℕ, ◌+◌, ◌*◌, ◌<◌, ◌≤◌, ◌==◌, ◌&&◌, ◌||◌, Bool, true, false, not, List, [], ◌∷◌, ◌++◌, Option, Some, None, refl, sym, ap, ◌∙◌, subst, arith, append_assoc, append-nil, suc}
+use Rattle.std.specs.Prelude.{ℤ, All, IfSome, codes, decimal, if◌then◌else◌, position}
+use Rattle.std.specs.Str.{bytes_eq}
 use Rattle.std.specs.List.{flat_map}
 use Rattle.std.specs.Option.{option_map}
 use Rattle.std.proofs.lemmas.Bool.{and_parts, false≢true}
@@ -26,12 +27,13 @@ use Rattle.musicxml_writer.specs.Bars.{group_text, notes_text, set}
 use Rattle.musicxml_writer.specs.Elements.{attribute_start, closing, element, empty_element, empty_with, line, opening}
 use Rattle.musicxml_writer.specs.Notes.{chord_mark, chord_text, grace_text, key_marks, key_text, keys_text, notations, note_text, rest_text, tie_ends, bracket_ends}
 use Rattle.musicxml_writer.specs.Pitches.{key_pitch}
-use Rattle.musicxml_writer.specs.Values.{value_text}
-use Rattle.xml_laws.specs.Hearing.{HeardPart, ReadChord, ReadNote, add_note, blank_note, chord_of, hear_read_chord, hear_tag, hear_value, hear_xml_word, heard_with, read_stretch, with_key, xml_number}
+use Rattle.musicxml_writer.specs.Values.{type_text, value_text}
+use Rattle.xml_laws.specs.Hearing.{HeardPart, ReadChord, ReadNote, add_note, blank_note, chord_of, hear_read_chord, hear_tag, hear_value, hear_xml_word, heard_with, is_of_value, kinds, long_chord, read_stretch, with_key, xml_number}
 use Rattle.xml_laws.specs.Reading.{read_parts}
 use Rattle.xml_laws.specs.Words.{part_marks, part_values, xml_words}
 use Rattle.xml_laws.proofs.Durations.{duration_number}
 use Rattle.xml_laws.proofs.NoteParts.{duration_read, mark_read, marks_read, noted, pitch_read, pitched, rest_marks_read, ties_read, type_read, value_read}
+use Rattle.xml_laws.proofs.ValuesRead.{IsShown, value_fits, value_shown, valued}
 use Rattle.xml_laws.proofs.ReadTexts.{Reads, reads_both, reads_element, reads_line, reads_none}
 
 -- ---- tests
@@ -85,7 +87,7 @@ unfolding opening hear_xml_word hear_tag part_values part_marks
 note_opens h v c more = refl
 
 -- a note alone ends the chord before it
-pub note_ends : (h : HeardPart) (v w : HeardVoice ℕ) (c : Option ReadChord) (n : ReadNote) (m : ReadChord) → chord_of n ≡ Some m
+pub note_ends : (h : HeardPart) (v w : HeardVoice ℕ) (c : Option ReadChord) (n : ReadNote) (m : ReadChord) → chord_of h.divisions n ≡ Some m
     → heard_with v c ≡ Some w
     → Reads (noted (known h v c) (record n { further = false })) (closing (codes "note")) (known h w (Some m))
 unfolding closing hear_xml_word hear_tag part_values part_marks
@@ -95,7 +97,7 @@ note_ends h v w c n m is heard more =
     ∙ ap (λ o. option_map (λ v. record at { heard = v; chord = Some m; note = None }) o >>= λ next. read_parts (Some next) (xml_words more)) heard
 
 -- a further one is added to it
-further_ends : (h : HeardPart) (w : HeardVoice ℕ) (c whole : ReadChord) (n : ReadNote) (m : ReadChord) → chord_of n ≡ Some m
+further_ends : (h : HeardPart) (w : HeardVoice ℕ) (c whole : ReadChord) (n : ReadNote) (m : ReadChord) → chord_of h.divisions n ≡ Some m
     → with_key c m ≡ Some whole
     → Reads (noted (known h w (Some c)) (record n { further = true })) (closing (codes "note")) (known h w (Some whole))
 unfolding closing hear_xml_word hear_tag part_values part_marks
@@ -116,7 +118,7 @@ module _ (h : HeardPart) (sf : Option ℤ) (key : IfSome sf IsKeySignature) wher
   slash_read p n more = refl
 
   abbrev graced_note : Bool → ℕ → ReadNote
-  graced_note lowest k = pitched (record blank_note { grace = true; further = not lowest }) (pitch_name sf k) k
+  graced_note lowest k = record (pitched (record blank_note { grace = true; further = not lowest }) (pitch_name sf k) k) { kind = codes "eighth" }
 
   grace_content : (ratio : Ratio) (first last : Bool) (p next : HeardPart) (q : HeardPart) (lowest : Bool) (k : ℕ) → k < 128
       → Reads p (opening (codes "note")) (noted q blank_note)
@@ -127,6 +129,7 @@ module _ (h : HeardPart) (sf : Option ℤ) (key : IfSome sf IsKeySignature) wher
       let begun = noted q blank_note in
       let graced = noted q (record blank_note { grace = true }) in
       let marked = noted q (record blank_note { grace = true; further = not lowest }) in
+      let named = noted q (pitched (record blank_note { grace = true; further = not lowest }) (pitch_name sf k) k) in
       let whole = noted q (graced_note lowest k) in
       let one = empty_with (codes "grace") (codes "slash") (codes "yes") in
       let two = chord_mark lowest in
@@ -134,11 +137,11 @@ module _ (h : HeardPart) (sf : Option ℤ) (key : IfSome sf IsKeySignature) wher
       let four = element (codes "type") (codes "eighth") in
       reads_line p next (element (codes "note") (one ++ two ++ three ++ four))
       (reads_element p begun whole next (codes "note") (one ++ two ++ three ++ four) opens
-      (reads_both begun whole whole (one ++ two ++ three) four
-      (reads_both begun marked whole (one ++ two) three
+      (reads_both begun named whole (one ++ two ++ three) four
+      (reads_both begun marked named (one ++ two) three
       (reads_both begun graced marked one two (slash_read q blank_note) (mark_read q (record blank_note { grace = true }) lowest))
       (pitch_read q (record blank_note { grace = true; further = not lowest }) sf k key within))
-      (type_read whole (codes "eighth") refl)) closes)
+      (type_read q (pitched (record blank_note { grace = true; further = not lowest }) (pitch_name sf k) k) (codes "eighth") refl)) closes)
 
   first_grace : (ratio : Ratio) (first last : Bool) → ReadsFirst h (grace_text (set sf ratio first last)) grace_of
   first_grace ratio first last v w c k within heard =
@@ -153,17 +156,24 @@ module _ (h : HeardPart) (sf : Option ℤ) (key : IfSome sf IsKeySignature) wher
 
   -- ---- chords
 
-  module _ (quarter : ℕ) (said : h.divisions ≡ Some quarter) (ratio : Ratio) (first last : Bool) (n : Note) (number : xml_number (decimal n.duration) ≡ Some n.duration) where
+  module _ (quarter : ℕ) (said : h.divisions ≡ Some quarter) (ratio : Ratio) (first last : Bool) (n : Note) (number : xml_number (decimal n.duration) ≡ Some n.duration) (shown : IsShown ratio n.value)
+      (fits : (m : ReadNote) → is_of_value quarter (valued m ratio n.value) n.duration (position (bytes_eq (type_text n.value.recip)) kinds) ≡ true) where
     abbrev long_of : List ℕ → ReadChord
     long_of keys = record { grace = false; keys = keys; len = n.duration; short = n.short; comes = n.comes; goes = n.goes }
 
     abbrev long_note : Bool → ℕ → ReadNote
-    long_note lowest k = record (pitched (record blank_note { further = not lowest }) (pitch_name sf k) k) {
+    long_note lowest k = record (valued (record (pitched (record blank_note { further = not lowest }) (pitch_name sf k) k) {
       duration = Some n.duration;
       comes = n.comes;
       goes = n.goes;
-      short = lowest && n.short;
-    }
+    }) ratio n.value) { short = lowest && n.short }
+
+    -- the chord of one key
+    key_chord : (lowest : Bool) (k : ℕ) → chord_of h.divisions (long_note lowest k) ≡ Some (record (long_of (k ∷ [])) { short = lowest && n.short })
+    key_chord lowest k =
+        let m = long_note lowest k in
+        ap (λ o. o >>= λ quarter. long_chord quarter m (k ∷ []) n.duration) said
+        ∙ ap (λ b. if b then Some (record (long_of (k ∷ [])) { short = lowest && n.short }) else None) (fits m)
 
     key_content : (v : HeardVoice ℕ) (c : Option ReadChord) (next : HeardPart) (lowest : Bool) (k : ℕ) → k < 128
         → Reads (noted (known h v c) (long_note lowest k)) (closing (codes "note")) next
@@ -177,6 +187,7 @@ module _ (h : HeardPart) (sf : Option ℤ) (key : IfSome sf IsKeySignature) wher
         let n2 : ReadNote = pitched n1 (pitch_name sf k) k in
         let n3 : ReadNote = record n2 { duration = Some n.duration } in
         let n4 : ReadNote = record n3 { comes = n.comes; goes = n.goes } in
+        let n5 : ReadNote = valued n4 ratio n.value in
         let whole = noted p (long_note lowest k) in
         let one = chord_mark lowest in
         let two = key_pitch sf k in
@@ -186,20 +197,20 @@ module _ (h : HeardPart) (sf : Option ℤ) (key : IfSome sf IsKeySignature) wher
         let six = notations (key_marks s.bracket n lowest) in
         reads_line p next (element (codes "note") (one ++ two ++ three ++ four ++ five ++ six))
         (reads_element p begun whole next (codes "note") (one ++ two ++ three ++ four ++ five ++ six) (note_opens h v c)
-        (reads_both begun (noted p n4) whole (one ++ two ++ three ++ four ++ five) six
-        (reads_both begun (noted p n4) (noted p n4) (one ++ two ++ three ++ four) five
+        (reads_both begun (noted p n5) whole (one ++ two ++ three ++ four ++ five) six
+        (reads_both begun (noted p n4) (noted p n5) (one ++ two ++ three ++ four) five
         (reads_both begun (noted p n3) (noted p n4) (one ++ two ++ three) four
         (reads_both begun (noted p n2) (noted p n3) (one ++ two) three
         (reads_both begun (noted p n1) (noted p n2) one two (mark_read p blank_note lowest) (pitch_read p n1 sf k key within))
         (duration_read p n2 quarter n.duration said number))
         (ties_read p n3 n))
-        (value_read (noted p n4) ratio n.value))
-        (marks_read p n4 s.bracket.starts s.bracket.stops n lowest)) closes)
+        (value_read p n4 ratio n.value shown))
+        (marks_read p n5 s.bracket.starts s.bracket.stops n lowest)) closes)
 
     first_key : ReadsFirst h (key_text (set sf ratio first last) n) long_of
     first_key v w c k within heard =
         key_content v c (known h w (Some (long_of (k ∷ [])))) true k within
-        (note_ends h v w c (long_note true k) (long_of (k ∷ [])) refl heard)
+        (note_ends h v w c (long_note true k) (long_of (k ∷ [])) (key_chord true k) heard)
 
     joined : (j : ℕ) (js : List ℕ) (k : ℕ) → with_key (long_of (j ∷ js)) (record (long_of (k ∷ [])) { short = false })
         ≡ Some (long_of (j ∷ (js ++ k ∷ [])))
@@ -208,18 +219,24 @@ module _ (h : HeardPart) (sf : Option ℤ) (key : IfSome sf IsKeySignature) wher
     further_key : ReadsFurther h (key_text (set sf ratio first last) n) long_of
     further_key w j js k within =
         key_content w (Some (long_of (j ∷ js))) (known h w (Some (long_of (j ∷ (js ++ k ∷ []))))) false k within
-        (further_ends h w (long_of (j ∷ js)) (long_of (j ∷ (js ++ k ∷ []))) (long_note false k) (record (long_of (k ∷ [])) { short = false }) refl
+        (further_ends h w (long_of (j ∷ js)) (long_of (j ∷ (js ++ k ∷ []))) (long_note false k) (record (long_of (k ∷ [])) { short = false })
+        (key_chord false k)
         (joined j js k))
 
     -- ---- rests
 
-    rest_tag : (p : HeardPart) (m : ReadNote) → Reads (noted p (record m { keys = None })) (empty_element (codes "rest"))
-        (noted p (record m { keys = Some [] }))
+    rest_tag : (p : HeardPart) (m : ReadNote) → Reads (noted p (record m { whole = false; keys = None })) (empty_element (codes "rest"))
+        (noted p (record m { whole = false; keys = Some [] }))
     unfolding empty_element hear_xml_word hear_tag part_values part_marks
     rest_tag p m more = refl
 
     abbrev rest_of : ReadChord
     rest_of = record { grace = false; keys = []; len = n.duration; short = false; comes = false; goes = false }
+
+    rest_chord : (m : ReadNote) → chord_of h.divisions (record (valued (record blank_note { keys = Some []; duration = Some n.duration }) ratio n.value) { further = false }) ≡ Some rest_of
+    rest_chord m =
+        let m = valued (record blank_note { keys = Some []; duration = Some n.duration }) ratio n.value in
+        ap (λ o. o >>= λ quarter. long_chord quarter m [] n.duration) said ∙ ap (λ b. if b then Some rest_of else None) (fits m)
 
     rest_read : (v w : HeardVoice ℕ) (c : Option ReadChord) → heard_with v c ≡ Some w
         → Reads (known h v c) (rest_text (set sf ratio first last) n) (known h w (Some rest_of))
@@ -229,8 +246,9 @@ module _ (h : HeardPart) (sf : Option ℤ) (key : IfSome sf IsKeySignature) wher
         let s = set sf ratio first last in
         let n1 : ReadNote = record blank_note { keys = Some [] } in
         let n2 : ReadNote = record n1 { duration = Some n.duration } in
+        let n3 : ReadNote = valued n2 ratio n.value in
         let begun = noted p blank_note in
-        let whole = noted p n2 in
+        let whole = noted p n3 in
         let one = empty_element (codes "rest") in
         let two = element (codes "duration") (decimal n.duration) in
         let three = value_text ratio n.value in
@@ -238,11 +256,11 @@ module _ (h : HeardPart) (sf : Option ℤ) (key : IfSome sf IsKeySignature) wher
         reads_line p (known h w (Some rest_of)) (element (codes "note") (one ++ two ++ three ++ four))
         (reads_element p begun whole (known h w (Some rest_of)) (codes "note") (one ++ two ++ three ++ four) (note_opens h v c)
         (reads_both begun whole whole (one ++ two ++ three) four
-        (reads_both begun whole whole (one ++ two) three
-        (reads_both begun (noted p n1) whole one two (rest_tag p blank_note) (duration_read p n1 quarter n.duration said number))
-        (value_read whole ratio n.value))
+        (reads_both begun (noted p n2) whole (one ++ two) three
+        (reads_both begun (noted p n1) (noted p n2) one two (rest_tag p blank_note) (duration_read p n1 quarter n.duration said number))
+        (value_read p n2 ratio n.value shown))
         (rest_marks_read whole s.bracket.starts s.bracket.stops))
-        (note_ends h v w c n2 rest_of refl heard))
+        (note_ends h v w c n3 rest_of (rest_chord n2) heard))
 
 -- ---- what is heard after a text
 
@@ -278,7 +296,7 @@ module _ (h : HeardPart) where
 
 -- ---- rests are bare
 
-if_some : {X : Type 0} (b : Bool) (x y : X) → (if b then Some x else None) ≡ Some y → b ≡ true
+pub if_some : {X : Type 0} (b : Bool) (x y : X) → (if b then Some x else None) ≡ Some y → b ≡ true
 if_some true x y e = refl
 if_some false x y e = absurd (cc)
 
@@ -314,7 +332,7 @@ not_empty (x ∷ xs) ys y h = false≢true h
 -- ---- notes
 
 module _ (r : ℕ) (units : 1 ≤ r) (few : r ≤ MOST_UNITS) (sf : Option ℤ) (key : IfSome sf IsKeySignature) (h : HeardPart) (quarter : ℕ)
-    (said : h.divisions ≡ Some quarter) where
+    (said : h.divisions ≡ Some quarter) (parts : 4 * quarter ≡ 64 * r) where
   grace_turns : (ratio : Ratio) (first last : Bool) (w next : HeardVoice ℕ) (keys : ℕ) → AreKeys keys → hear_grace w keys ≡ Some next
       → Turns h w (chord_text (grace_text (set sf ratio first last)) keys) next
   grace_turns ratio first last w next keys are e v c heard = record {
@@ -341,17 +359,19 @@ module _ (r : ℕ) (units : 1 ≤ r) (few : r ≤ MOST_UNITS) (sf : Option ℤ) 
         → hear ◌+◌ w (note_stretch n) ≡ Some next → Turns h w (chord_text (key_text (set sf g.ratio first last) n) n.keys) next
     chord_turns n first last w next is are e v c heard =
         let number = duration_number r units few g n group is in
+        let shown = value_shown r units few g n group is in
+        let fits = value_fits r units few g n group is quarter parts in
         let ks = rising_keys n.keys in
         let whole : key_set ks ≡ n.keys = keys_sum n.keys are.1 in
-        let stretch : read_stretch (long_of h sf key quarter said g.ratio first last n number ks) ≡ note_stretch n =
+        let stretch : read_stretch (long_of h sf key quarter said g.ratio first last n number shown fits ks) ≡ note_stretch n =
         λ i. record { len = n.duration; keys = whole i; short = n.short; comes = n.comes; goes = n.goes } in
         record {
           before = w;
-          chord = Some (long_of h sf key quarter said g.ratio first last n number ks);
-          reads = chord_lines h (key_text (set sf g.ratio first last) n) (long_of h sf key quarter said g.ratio first last n number)
-              (first_key h sf key quarter said g.ratio first last n number) (further_key h sf key quarter said g.ratio first last n number) v w c
+          chord = Some (long_of h sf key quarter said g.ratio first last n number shown fits ks);
+          reads = chord_lines h (key_text (set sf g.ratio first last) n) (long_of h sf key quarter said g.ratio first last n number shown fits)
+              (first_key h sf key quarter said g.ratio first last n number shown fits) (further_key h sf key quarter said g.ratio first last n number shown fits) v w c
               n.keys are heard;
-          heard = ap (λ b. if b then hear ◌+◌ w (read_stretch (long_of h sf key quarter said g.ratio first last n number ks)) else None)
+          heard = ap (λ b. if b then hear ◌+◌ w (read_stretch (long_of h sf key quarter said g.ratio first last n number shown fits ks)) else None)
               (keys_up 0 ks (keys_rise n.keys))
               ∙ ap (hear ◌+◌ w) stretch ∙ e;
         }
@@ -360,15 +380,17 @@ module _ (r : ℕ) (units : 1 ≤ r) (few : r ≤ MOST_UNITS) (sf : Option ℤ) 
         → hear ◌+◌ w (note_stretch n) ≡ Some next → Turns h w (rest_text (set sf g.ratio first last) n) next
     rest_turns n first last w next is silent e v c heard =
         let number = duration_number r units few g n group is in
+        let shown = value_shown r units few g n group is in
+        let fits = value_fits r units few g n group is quarter parts in
         let none : 0 ≡ n.keys = grind (arith, nat_tests, silent) in
         let (still, bare) = silent_rest w next (note_stretch n) silent e in
         let (short, comes, goes) = no_marks n.short n.comes n.goes bare in
-        let stretch : read_stretch (rest_of h sf key quarter said g.ratio first last n number) ≡ note_stretch n =
+        let stretch : read_stretch (rest_of h sf key quarter said g.ratio first last n number shown fits) ≡ note_stretch n =
         λ i. record { len = n.duration; keys = none i; short = sym short i; comes = sym comes i; goes = sym goes i } in
         record {
           before = w;
-          chord = Some (rest_of h sf key quarter said g.ratio first last n number);
-          reads = rest_read h sf key quarter said g.ratio first last n number v w c heard;
+          chord = Some (rest_of h sf key quarter said g.ratio first last n number shown fits);
+          reads = rest_read h sf key quarter said g.ratio first last n number shown fits v w c heard;
           heard = ap (hear ◌+◌ w) stretch ∙ e;
         }
 

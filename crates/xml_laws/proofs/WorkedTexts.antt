@@ -4,7 +4,7 @@ use Rattle.std.specs.Prelude.{codes}
 use Rattle.rhythm_base.specs.declared.span.Span.{Span}
 use Rattle.kern_reader.specs.Columns.{gcd}
 use Rattle.kern_reader.specs.Tokens.{number_of}
-use Rattle.xml_laws.specs.Hearing.{hear_tag, hear_value, hear_xml_word}
+use Rattle.xml_laws.specs.Hearing.{kinds, hear_tag, hear_value, hear_xml_word}
 use Rattle.xml_laws.specs.Pitches.{xml_key}
 use Rattle.xml_laws.specs.Reading.{musicxml_events, text_parts}
 use Rattle.xml_laws.specs.Words.{head_marks, head_values, part_marks, part_values}
@@ -24,5 +24,5 @@ text measures =
 one_note :
     musicxml_events (text (codes "<measure number=\"1\">\n<attributes><divisions>64</divisions><time><beats>4</beats><beat-type>4</beat-type></time></attributes>\n<note><pitch><step>C</step><octave>4</octave></pitch><duration>256</duration><type>whole</type></note>\n</measure>\n"))
     ≡ Some ((span 0 1 1 1 1152921504606846976 [] false ∷ []) ∷ [])
-unfolding text_parts hear_tag hear_value hear_xml_word xml_key part_values part_marks head_values head_marks number_of gcd lib.Count.ones
+unfolding kinds text_parts hear_tag hear_value hear_xml_word xml_key part_values part_marks head_values head_marks number_of gcd lib.Count.ones
 one_note = refl

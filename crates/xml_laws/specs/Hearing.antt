@@ -1,5 +1,5 @@
 -- What is known of a part after some of its words, in parts of a quarter, and how each word adds to it.
-use Rattle.std.specs.Prelude.{ℕ, ◌+◌, ◌-◌, ◌^◌, Bool, true, false, ◌==◌, ◌&&◌, ◌||◌, not, nat_eq, if◌then◌else◌, List, [], ◌∷◌, ◌++◌, codes, drop, Option, Some, None}
+use Rattle.std.specs.Prelude.{◌≡◌, ℕ, suc, ◌+◌, ◌-◌, ◌*◌, ◌^◌, Bool, true, false, ◌==◌, ◌&&◌, ◌||◌, not, nat_eq, if◌then◌else◌, List, [], ◌∷◌, ◌++◌, codes, drop, position, Option, Some, None}
 use Rattle.std.specs.List.{starts_with}
 use Rattle.std.specs.Option.{option_map}
 use Rattle.std.specs.Str.{bytes_eq}
@@ -10,17 +10,22 @@ use Rattle.notation_laws.specs.Hearing.{HeardVoice, Stretch, hear, hear_grace, i
 use Rattle.xml_laws.specs.Pitches.{xml_key}
 use Rattle.xml_laws.specs.Words.{XmlWord, closes_one, is_one_of, part_marks, part_values, tag_name}
 
--- What was read within a note: whether it is a grace note, and a further note of a chord; the texts of its pitch; its
--- key, of a rest none; how long it is; whether it is marked short; and whether a tie comes to it, and one goes on
--- from it
+-- What was read within a note: whether it is a grace note, a further note of a chord, and a rest of a whole measure; the
+-- texts of its pitch; its key, of a rest none; how long it is; its type, its dots, and how many are in the time of how
+-- many; whether it is marked short; and whether a tie comes to it, and one goes on from it
 pub record ReadNote : Type 0 where
   pub grace : Bool
   pub further : Bool
+  pub whole : Bool
   pub step : List ℕ
   pub alter : List ℕ
   pub octave : List ℕ
   pub keys : Option (List ℕ)
   pub duration : Option ℕ
+  pub kind : List ℕ
+  pub dots : ℕ
+  pub actual : ℕ
+  pub normal : ℕ
   pub short : Bool
   pub comes : Bool
   pub goes : Bool
@@ -29,11 +34,16 @@ abbrev pub blank_note : ReadNote
 blank_note = record {
   grace = false;
   further = false;
+  whole = false;
   step = [];
   alter = [];
   octave = [];
   keys = None;
   duration = None;
+  kind = [];
+  dots = 0;
+  actual = 1;
+  normal = 1;
   short = false;
   comes = false;
   goes = false;
@@ -89,13 +99,37 @@ grace_chord n keys =
     then Some (record { grace = true; keys = keys; len = 0; short = false; comes = false; goes = false })
     else None
 
-abbrev pub long_chord : ReadNote → List ℕ → Option ReadChord
-long_chord n keys = option_map
-    (λ len. record { grace = false; keys = keys; len = len; short = n.short; comes = n.comes; goes = n.goes }) n.duration
+-- types, each half as long as the one before it, from four whole notes on
+unfoldable pub kinds : List (List ℕ)
+kinds =
+    codes "long" ∷ codes "breve" ∷ codes "whole" ∷ codes "half" ∷ codes "quarter" ∷ codes "eighth" ∷ codes "16th" ∷ codes "32nd" ∷ codes "64th"
+    ∷ codes "128th" ∷ codes "256th" ∷ codes "512th" ∷ codes "1024th" ∷ []
+
+-- a type at a place, with dots, and so many in the time of so many, is as long as this, where a quarter has so many parts
+abbrev pub IsOfValue : ℕ → ReadNote → ℕ → ℕ → Type 0
+IsOfValue quarter n len place =
+    len * (2 ^ place * 2 ^ n.dots * n.actual) ≡ 4 * (2 * 2 ^ n.dots - 1) * (4 * quarter * n.normal)
+
+abbrev pub is_of_value : ℕ → ReadNote → ℕ → Option ℕ → Bool
+is_of_value quarter n len None = false
+is_of_value quarter n len (Some place) =
+    len * (2 ^ place * 2 ^ n.dots * n.actual) == 4 * (2 * 2 ^ n.dots - 1) * (4 * quarter * n.normal)
+
+-- the value of a note says its duration, but for a rest of a whole measure, which has none
+abbrev pub says_duration : ℕ → ReadNote → ℕ → Bool
+says_duration quarter n len = n.whole || is_of_value quarter n len (position (bytes_eq n.kind) kinds)
+
+abbrev pub long_chord : ℕ → ReadNote → List ℕ → ℕ → Option ReadChord
+long_chord quarter n keys len =
+    if says_duration quarter n len
+    then Some (record { grace = false; keys = keys; len = len; short = n.short; comes = n.comes; goes = n.goes })
+    else None
 
 -- the chord of a note alone
-abbrev pub chord_of : ReadNote → Option ReadChord
-chord_of n = n.keys >>= λ keys. if n.grace then grace_chord n keys else long_chord n keys
+abbrev pub chord_of : Option ℕ → ReadNote → Option ReadChord
+chord_of divisions n = do
+  keys ← n.keys
+  if n.grace then grace_chord n keys else (divisions >>= λ quarter. n.duration >>= long_chord quarter n keys)
 
 -- A further note is as long as the chord and has its ties. Its mark stands at the lowest key alone, and a rest has no
 -- further notes
@@ -122,15 +156,15 @@ hear_keys h n keys = if is_none n.keys then Some (record h { note = Some (record
 abbrev pub end_pitch : HeardPart → Option HeardPart
 end_pitch h = h.note >>= λ n. xml_key n.step n.alter n.octave >>= λ key. hear_keys h n (key ∷ [])
 
-abbrev pub hear_rest_tag : HeardPart → Option HeardPart
-hear_rest_tag h = h.note >>= λ n. hear_keys h n []
+abbrev pub hear_rest_tag : HeardPart → Bool → Option HeardPart
+hear_rest_tag h whole = h.note >>= λ n. hear_keys h (record n { whole = whole }) []
 
 abbrev pub add_note : HeardPart → Bool → ReadChord → Option HeardPart
 add_note h true m = h.chord >>= λ c. option_map (λ c. record h { chord = Some c; note = None }) (with_key c m)
 add_note h false m = option_map (λ v. record h { heard = v; chord = Some m; note = None }) (heard_with h.heard h.chord)
 
 abbrev pub end_note : HeardPart → Option HeardPart
-end_note h = h.note >>= λ n. chord_of n >>= λ m. add_note h n.further m
+end_note h = h.note >>= λ n. chord_of h.divisions n >>= λ m. add_note h n.further m
 
 -- ---- measures
 
@@ -151,9 +185,12 @@ abbrev pub hear_divisions : HeardPart → List ℕ → Option HeardPart
 hear_divisions h text =
     if is_none h.divisions then option_map (λ n. record h { divisions = Some n }) (xml_number text) else None
 
+abbrev pub with_number : HeardPart → List ℕ → (ℕ → ReadNote → ReadNote) → Option HeardPart
+with_number h text change = xml_number text >>= λ m. within_note h (change m)
+
 abbrev pub hear_duration : HeardPart → List ℕ → Option HeardPart
 hear_duration h text =
-    h.divisions >>= λ quarter. xml_number text >>= λ len. within_note h (λ n. record n { duration = Some len })
+    h.divisions >>= λ quarter. with_number h text (λ len n. record n { duration = Some len })
 
 unfoldable pub hear_value : HeardPart → List ℕ → List ℕ → Option HeardPart
 hear_value h text name =
@@ -162,6 +199,9 @@ hear_value h text name =
     else if bytes_eq name (codes "step") then within_note h (λ n. record n { step = text })
     else if bytes_eq name (codes "alter") then within_note h (λ n. record n { alter = text })
     else if bytes_eq name (codes "octave") then within_note h (λ n. record n { octave = text })
+    else if bytes_eq name (codes "type") then within_note h (λ n. record n { kind = text })
+    else if bytes_eq name (codes "actual-notes") then with_number h text (λ m n. record n { actual = m })
+    else if bytes_eq name (codes "normal-notes") then with_number h text (λ m n. record n { normal = m })
     else Some h
 
 unfoldable pub hear_tag : HeardPart → List ℕ → Option HeardPart
@@ -169,7 +209,9 @@ hear_tag h tag =
     if bytes_eq tag (codes "note") then begin_note h
     else if bytes_eq tag (codes "/note") then end_note h
     else if bytes_eq tag (codes "/pitch") then end_pitch h
-    else if bytes_eq tag (codes "rest/") || bytes_eq tag (codes "rest measure=\"yes\"/") then hear_rest_tag h
+    else if bytes_eq tag (codes "rest/") then hear_rest_tag h false
+    else if bytes_eq tag (codes "rest measure=\"yes\"/") then hear_rest_tag h true
+    else if bytes_eq tag (codes "dot/") then within_note h (λ n. record n { dots = suc n.dots })
     else if bytes_eq tag (codes "chord/") then within_note h (λ n. record n { further = true })
     else if bytes_eq tag (codes "grace slash=\"yes\"/") then within_note h (λ n. record n { grace = true })
     else if bytes_eq tag (codes "tie type=\"stop\"/") then within_note h (λ n. record n { comes = true })

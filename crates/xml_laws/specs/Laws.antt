@@ -1,5 +1,6 @@
 -- The laws, each as one statement over the definitions.
-use Rattle.std.specs.Prelude.{◌≡◌, ℕ, List, Ok, Some, map}
+use Rattle.std.specs.Prelude.{◌≡◌, ℕ, false, List, codes, position, Ok, Some, map}
+use Rattle.std.specs.Str.{bytes_eq}
 use Rattle.rhythm_base.specs.declared.note.Bar.{Bar}
 use Rattle.rhythm_base.specs.declared.span.Span.{Span}
 use Rattle.rhythm_base.specs.Lists.{Each}
@@ -13,6 +14,7 @@ use Rattle.kern_reader.specs.Outcome.{score_of}
 use Rattle.kern_reader.specs.Score.{KernColumns}
 use Rattle.musicxml_writer.specs.Text.{IsMusicXml}
 use Rattle.notation_laws.specs.VoicesEvents.{voices_events}
+use Rattle.xml_laws.specs.Hearing.{HeardPart, IsOfValue, ReadNote, hear_tag, kinds}
 use Rattle.xml_laws.specs.Reading.{measure_lengths, musicxml_events}
 
 -- a text that is read says the spans of each voice of a score, over these bars
@@ -47,3 +49,19 @@ abbrev pub BarsAreFull : Type 0
 BarsAreFull =
     (s : Score) (channels text : List ℕ) → IsScore s → IsMusicXml s channels text
     → measure_lengths text ≡ Some (map (λ sounds. map (score_bar_parts s.resolution) s.bars) s.voices)
+
+-- a note that is read is as long as its type with its dots says, so many in the time of so many
+pub record IsOfItsValue (h : HeardPart) (n : ReadNote) : Type 0 where
+  pub quarter : ℕ
+  pub said : h.divisions ≡ Some quarter
+  pub len : ℕ
+  pub long : n.duration ≡ Some len
+  pub place : ℕ
+  pub kind : position (bytes_eq n.kind) kinds ≡ Some place
+  pub is : IsOfValue quarter n len place
+
+-- but for grace notes and rests of a whole measure: so it is of each note of a text that is read
+abbrev pub ValuesSayTheirDurations : Type 0
+ValuesSayTheirDurations =
+    (h next : HeardPart) (n : ReadNote) → h.note ≡ Some n → n.grace ≡ false → n.whole ≡ false → hear_tag h (codes "/note") ≡ Some next
+    → IsOfItsValue h n

@@ -65,7 +65,7 @@ part_values =
 -- those of it that say nothing of what is heard
 unfoldable pub part_marks : List (List ℕ)
 part_marks =
-    codes "pitch" ∷ codes "dot" ∷ codes "time-modification" ∷ codes "notations" ∷ codes "tied" ∷ codes "tuplet" ∷ codes "articulations"
+    codes "pitch" ∷ codes "time-modification" ∷ codes "notations" ∷ codes "tied" ∷ codes "tuplet" ∷ codes "articulations"
     ∷ codes "attributes" ∷ codes "key" ∷ codes "time" ∷ codes "clef" ∷ codes "direction" ∷ codes "direction-type" ∷ codes "metronome" ∷ codes "sound"
     ∷ codes "barline" ∷ []
 

@@ -1,4 +1,4 @@
-ghost use Rattle.xml_laws.specs.Laws.{BarsAreFull, TextsAreReadBack, TextsSayTheEvents};
+ghost use Rattle.xml_laws.specs.Laws.{BarsAreFull, TextsAreReadBack, TextsSayTheEvents, ValuesSayTheirDurations};
 
 /// The MusicXML text of a score is read as the spans of its voices.
 pub fn texts_are_read_back()
@@ -13,4 +13,9 @@ pub fn texts_say_the_events()
 /// The durations of each measure are together as long as its bar.
 pub fn bars_are_full()
     ensures { BarsAreFull }
+{}
+
+/// A note that is read is as long as its type, its dots and its ratio say.
+pub fn values_say_their_durations()
+    ensures { ValuesSayTheirDurations }
 {}
