@@ -5,6 +5,7 @@ use Rattle.std.specs.Int.{◌∣◌}
 use Rattle.std.specs.List.{flat_map}
 use Rattle.std.specs.Option.{option_map}
 use Rattle.std.proofs.Math.Nat.{div-le_self, div-mul_cancel, mul-div_assoc}
+use Rattle.std.proofs.lemmas.Bool.Decides.{nat_tests}
 use Rattle.std.proofs.lemmas.List.Elements.{All-head, All-tail}
 use Rattle.rhythm_base.specs.declared.limits.TheConstants.{MOST_UNITS}
 use Rattle.rhythm_base.specs.Signatures.{is_den}
@@ -23,14 +24,14 @@ use Rattle.musicxml_writer.specs.Attributes.{attributes_line, tempo_line}
 use Rattle.musicxml_writer.specs.Bars.{bar_length, bar_notes, bar_rest, group_text}
 use Rattle.musicxml_writer.specs.Elements.{attribute_start, closing, element, empty_with, line, opening, opening_with, text_if}
 use Rattle.musicxml_writer.specs.Parts.{bar_text, bars_text, final_barline}
-use Rattle.xml_laws.specs.Hearing.{HeardPart, ReadChord, ReadNote, bar_ends, blank_note, hear_read_chord, hear_tag, hear_value, hear_xml_word, heard_with, read_stretch, xml_number}
+use Rattle.xml_laws.specs.Hearing.{HeardPart, ReadChord, ReadNote, bar_ends, blank_note, hear_read_chord, hear_tag, hear_value, hear_xml_word, heard_with, is_of_beats, read_stretch, xml_number}
 use Rattle.xml_laws.specs.Reading.{read_parts}
 use Rattle.xml_laws.specs.Words.{part_marks, part_values, xml_words}
 use Rattle.xml_laws.proofs.Durations.{at_most, number_read}
 use Rattle.xml_laws.proofs.NoteParts.{duration_read, noted}
 use Rattle.xml_laws.proofs.NotesRead.{IsTurned, groups_turn, known, note_ends, note_opens}
 use Rattle.xml_laws.proofs.ReadTexts.{Reads, reads_both, reads_element, reads_if, reads_line, reads_none, reads_opening}
-use Rattle.xml_laws.proofs.Settings.{attributes_line_read, decimal_inside, divided, said, tempo_line_read}
+use Rattle.xml_laws.proofs.Settings.{attributes_line_read, decimal_inside, said_after, tempo_line_read}
 
 -- ---- bars of rests
 
@@ -99,18 +100,47 @@ measure_opens : (h : HeardPart) (n : ℕ) → Reads h (opening_with (codes "meas
 unfolding hear_xml_word hear_tag part_values part_marks
 measure_opens h n = reads_opening h h (codes "measure") (codes "number") (decimal n) refl refl (decimal_inside n) refl refl
 
--- what is known at a barline
-abbrev pub at_barline : Option ℕ → HeardVoice ℕ → List ℕ → HeardPart
-at_barline d v lengths = record { divisions = d; heard = v; chord = None; note = None; began = v.at; lengths = lengths }
+-- what is known at a barline, but for the parts of a quarter and the signature
+abbrev pub at_barline : HeardVoice ℕ → List ℕ → HeardPart
+at_barline v lengths = record {
+  divisions = None;
+  beats = None;
+  beat_type = None;
+  heard = v;
+  chord = None;
+  note = None;
+  began = v.at;
+  lengths = lengths;
+}
 
-measure_closes : (d : Option ℕ) (v u w : HeardVoice ℕ) (c : Option ReadChord) (lengths : List ℕ) → heard_with u c ≡ Some w → w.graces ≡ []
-    → Reads (known (at_barline d v lengths) u c) (closing (codes "measure")) (at_barline d w (lengths ++ (w.at - v.at) ∷ []))
+measure_closes : (r : ℕ) (bar : ScoreBar) (v u w : HeardVoice ℕ) (c : Option ReadChord) (lengths : List ℕ) → IsScoreBar bar
+    → heard_with u c ≡ Some w → w.graces ≡ [] → w.at - v.at ≡ score_bar_parts r bar
+    → Reads (known (said_after r (at_barline v lengths) (Some bar)) u c) (closing (codes "measure"))
+    (said_after r (at_barline w (lengths ++ score_bar_parts r bar ∷ [])) (Some bar))
 unfolding closing hear_xml_word hear_tag part_values part_marks
-measure_closes d v u w c lengths heard bare more =
-    let at = known (at_barline d v lengths) u c in
-    let next = at_barline d w (lengths ++ (w.at - v.at) ∷ []) in
+measure_closes r bar v u w c lengths right heard bare long more =
+    let at = known (said_after r (at_barline v lengths) (Some bar)) u c in
+    let next : ℕ → HeardPart = λ n. said_after r (at_barline w (lengths ++ n ∷ [])) (Some bar) in
     ap (λ o. (o >>= bar_ends at) >>= λ next. read_parts (Some next) (xml_words more)) heard
-    ∙ ap (λ gs. (if is_empty gs then Some next else None) >>= λ next. read_parts (Some next) (xml_words more)) bare
+    ∙ ap (λ gs. (if is_empty gs && is_of_beats (Some (16 * r)) (Some bar.num) (Some bar.den) (w.at - v.at) then Some (next (w.at - v.at)) else None)
+    >>= λ next. read_parts (Some next) (xml_words more)) bare
+    ∙ ap (λ n. (if is_of_beats (Some (16 * r)) (Some bar.num) (Some bar.den) n then Some (next n) else None)
+    >>= λ next. read_parts (Some next) (xml_words more)) long
+    ∙ ap (λ b. (if b then Some (next (score_bar_parts r bar)) else None) >>= λ next. read_parts (Some next) (xml_words more)) full
+  where
+    tested : (x y : ℕ) → x ≡ y → (x == y) ≡ true
+    tested x y e = grind (arith, nat_tests, e)
+
+    turned : (r num q den : ℕ) → r * (num * q) * den ≡ r * num * (q * den)
+    turned r num q den = grind arith
+
+    parted : (r num : ℕ) → r * num * 64 ≡ 4 * (16 * r) * num
+    parted r num = grind arith
+
+    full : is_of_beats (Some (16 * r)) (Some bar.num) (Some bar.den) (score_bar_parts r bar) ≡ true
+    full = tested _ _
+        (turned r bar.num (64 / bar.den) bar.den ∙ ap (λ x. r * bar.num * x) (div-mul_cancel bar.den (beat_part bar.den right.signature.power))
+        ∙ parted r bar.num)
 
 module _ (r : ℕ) (units : 1 ≤ r) (few : r ≤ MOST_UNITS) where
   length_number : (bar : ScoreBar) → IsScoreBar bar → xml_number (decimal (bar_length r bar)) ≡ Some (bar_length r bar)
@@ -119,10 +149,10 @@ module _ (r : ℕ) (units : 1 ≤ r) (few : r ≤ MOST_UNITS) where
       number_read (bar_length r bar) (subst (λ n. 1 ≤ n) (sym is) (bar_some r units few bar right)) (subst (λ n. n < 2 ^ 32) (sym is) (bar_few r units few bar right))
 
   notes_read : (bar : ScoreBar) → IsScoreBar bar → (groups : List Group) (lengths : List ℕ) (v w : HeardVoice ℕ) → All (IsWrittenGroup r) groups
-      → hear_bar r bar v groups ≡ Some w → IsTurned (at_barline (Some (16 * r)) v lengths) v None (bar_notes r bar groups) w
+      → hear_bar r bar v groups ≡ Some w → IsTurned (said_after r (at_barline v lengths) (Some bar)) v None (bar_notes r bar groups) w
   unfolding bar_notes
   notes_read bar right [] lengths v w all e =
-      let h = at_barline (Some (16 * r)) v lengths in
+      let h = said_after r (at_barline v lengths) (Some bar) in
       record {
         before = v;
         chord = Some (rest_of (bar_length r bar));
@@ -130,21 +160,21 @@ module _ (r : ℕ) (units : 1 ≤ r) (few : r ≤ MOST_UNITS) where
         heard = ap (λ n. hear ◌+◌ v (rest_stretch n)) (length_is r bar right) ∙ e;
       }
   notes_read bar right (g ∷ groups) lengths v w all e =
-      groups_turn r units few bar.sf right.key (at_barline (Some (16 * r)) v lengths) (16 * r) refl (omega arith) (g ∷ groups) v w all e v None refl
+      groups_turn r units few bar.sf right.key (said_after r (at_barline v lengths) (Some bar)) (16 * r) refl (omega arith) (g ∷ groups) v w all e v None refl
 
   bar_read : (clef : Clef) (first : Bool) (before : Option ScoreBar) (bar : ScoreBar) (number : ℕ) (last : Bool) (groups : List Group)
       (lengths : List ℕ) (v w : HeardVoice ℕ) → IsScoreBar bar → All (IsWrittenGroup r) groups → hear_bar r bar v groups ≡ Some w
       → w.at ≡ v.at + score_bar_parts r bar → w.graces ≡ []
-      → Reads (at_barline (divided r before) v lengths)
+      → Reads (said_after r (at_barline v lengths) before)
       (bar_text (record { resolution = r; clef = clef; is_first = first }) before bar number last groups)
-      (at_barline (Some (16 * r)) w (lengths ++ score_bar_parts r bar ∷ []))
+      (said_after r (at_barline w (lengths ++ score_bar_parts r bar ∷ [])) (Some bar))
   unfolding bar_text
   bar_read clef first before bar number last groups lengths v w right all e at bare =
-      let h0 = at_barline (divided r before) v lengths in
-      let h1 = at_barline (Some (16 * r)) v lengths in
+      let h0 = said_after r (at_barline v lengths) before in
+      let h1 = said_after r (at_barline v lengths) (Some bar) in
       let turned = notes_read bar right groups lengths v w all e in
       let h2 = known h1 turned.before turned.chord in
-      let h3 = at_barline (Some (16 * r)) w (lengths ++ (w.at - v.at) ∷ []) in
+      let h3 = said_after r (at_barline w (lengths ++ score_bar_parts r bar ∷ [])) (Some bar) in
       let one = line (opening_with (codes "measure") (codes "number") (decimal number)) in
       let two = attributes_line (record { resolution = r; clef = clef; is_first = first }) before bar in
       let three = tempo_line (record { resolution = r; clef = clef; is_first = first }) before bar in
@@ -152,52 +182,48 @@ module _ (r : ℕ) (units : 1 ≤ r) (few : r ≤ MOST_UNITS) where
       let five = text_if last final_barline in
       let six = line (closing (codes "measure")) in
       let long : w.at - v.at ≡ score_bar_parts r bar = omega (arith, at) in
-      subst (λ n. Reads h0 (one ++ two ++ three ++ four ++ five ++ six) (at_barline (Some (16 * r)) w (lengths ++ n ∷ []))) long
-      (reads_both h0 h2 h3 (one ++ two ++ three ++ four ++ five) six
+      reads_both h0 h2 h3 (one ++ two ++ three ++ four ++ five) six
       (reads_both h0 h2 h2 (one ++ two ++ three ++ four) five
       (reads_both h0 h1 h2 (one ++ two ++ three) four
       (reads_both h0 h1 h1 (one ++ two) three
       (reads_both h0 h0 h1 one two
       (reads_line h0 h0 (opening_with (codes "measure") (codes "number") (decimal number)) (measure_opens h0 number))
-      (attributes_line_read r units few h0 clef first before bar))
+      (attributes_line_read r units few (at_barline v lengths) clef first before bar right))
       (tempo_line_read h1 r clef first before bar))
       turned.reads)
       (reads_if h2 last final_barline (barline_read h2)))
       (reads_line h2 h3 (closing (codes "measure"))
-      (measure_closes (Some (16 * r)) v turned.before w turned.chord lengths turned.heard bare)))
+      (measure_closes r bar v turned.before w turned.chord lengths right turned.heard bare long))
 
   -- ---- the bars of a part
 
-  -- what is said of the parts of a quarter after some bars
-  abbrev pub divided_after : Option ScoreBar → List ScoreBar → Option ℕ
-  divided_after before [] = divided r before
-  divided_after before (bar ∷ bars) = Some (16 * r)
-
-  same_after : (before : ScoreBar) (bars : List ScoreBar) → divided_after (Some before) bars ≡ Some (16 * r)
-  same_after before [] = refl
-  same_after before (bar ∷ bars) = refl
+  -- the last of some bars, after one or none
+  abbrev pub last_bar : Option ScoreBar → List ScoreBar → Option ScoreBar
+  last_bar before [] = before
+  last_bar before (bar ∷ bars) = last_bar (Some bar) bars
 
   pub bars_read : (clef : Clef) (first : Bool) (bars : List ScoreBar) (before : Option ScoreBar) (number : ℕ) (all : List (List Group))
       (lengths : List ℕ) (v last : HeardVoice ℕ) → All IsScoreBar bars → All (All (IsWrittenGroup r)) all → AreHeardInFull r bars v all
       → hear_bars r bars v all ≡ Some last
-      → Reads (at_barline (divided r before) v lengths) (bars_text (record { resolution = r; clef = clef; is_first = first }) before number bars all)
-      (at_barline (divided_after before bars) last (lengths ++ map (score_bar_parts r) bars))
+      → Reads (said_after r (at_barline v lengths) before) (bars_text (record { resolution = r; clef = clef; is_first = first }) before number bars all)
+      (said_after r (at_barline last (lengths ++ map (score_bar_parts r) bars)) (last_bar before bars))
   bars_read clef first [] before number [] lengths v last right written full heard more =
       let same : v ≡ last = cc in
-      ap₂ (λ v ls. read_parts (Some (at_barline (divided r before) v ls)) (xml_words more)) same (sym (append-nil lengths))
+      ap₂ (λ v ls. read_parts (Some (said_after r (at_barline v ls) before)) (xml_words more)) same (sym (append-nil lengths))
   bars_read clef first [] before number (groups ∷ all) lengths v last right written full heard more = absurd (cc)
   bars_read clef first (bar ∷ bars) before number [] lengths v last right written full heard more = absurd full
   bars_read clef first (bar ∷ bars) before number (groups ∷ all) lengths v last right written (next, one, at, bare, full) heard more =
       let own = All-head IsScoreBar bar bars right in
       let mine = All-head (All (IsWrittenGroup r)) groups all written in
       let p = score_bar_parts r bar in
-      let mid = at_barline (Some (16 * r)) next (lengths ++ p ∷ []) in
+      let mid = said_after r (at_barline next (lengths ++ p ∷ [])) (Some bar) in
+      let end = last_bar (Some bar) bars in
       let text = bar_text (record { resolution = r; clef = clef; is_first = first }) before bar number (is_empty bars) groups in
       let others = bars_text (record { resolution = r; clef = clef; is_first = first }) (Some bar) (number + 1) bars all in
-      reads_both (at_barline (divided r before) v lengths) mid (at_barline (divided_after (Some bar) bars) last ((lengths ++ p ∷ []) ++ map (score_bar_parts r) bars))
+      reads_both (said_after r (at_barline v lengths) before) mid (said_after r (at_barline last ((lengths ++ p ∷ []) ++ map (score_bar_parts r) bars)) end)
       text others
       (bar_read clef first before bar number (is_empty bars) groups lengths v next own mine one at bare)
       (bars_read clef first bars (Some bar) (number + 1) all (lengths ++ p ∷ []) next last (All-tail IsScoreBar bar bars right)
       (All-tail (All (IsWrittenGroup r)) groups all written) full
       (sym (ap (λ o. o >>= λ next. hear_bars r bars next all) one) ∙ heard)) more
-      ∙ ap₂ (λ d ls. read_parts (Some (at_barline d last ls)) (xml_words more)) (same_after bar bars) (append_assoc lengths (p ∷ []) (map (score_bar_parts r) bars))
+      ∙ ap (λ ls. read_parts (Some (said_after r (at_barline last ls) end)) (xml_words more)) (append_assoc lengths (p ∷ []) (map (score_bar_parts r) bars))

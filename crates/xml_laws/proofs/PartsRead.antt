@@ -33,9 +33,10 @@ use Rattle.musicxml_writer.specs.Text.{parts_text}
 use Rattle.xml_laws.specs.Hearing.{unheard_part}
 use Rattle.xml_laws.specs.Reading.{ReadPart, ended_part, read_parts, span_of, spans_of}
 use Rattle.xml_laws.specs.Words.{xml_words}
-use Rattle.xml_laws.proofs.BarsRead.{at_barline, bars_read, divided_after}
+use Rattle.xml_laws.proofs.BarsRead.{at_barline, bars_read, last_bar}
 use Rattle.xml_laws.proofs.Cutting.{opening_cut}
 use Rattle.xml_laws.proofs.OutsideParts.{name_inside}
+use Rattle.xml_laws.proofs.Settings.{said_after}
 
 -- ---- where a part begins and ends
 
@@ -43,12 +44,16 @@ part_opens : (n : ℕ) (more : List ℕ) → read_parts None (xml_words (opening
     ≡ read_parts (Some unheard_part) (xml_words more)
 part_opens n more = ap (read_parts None) (opening_cut (codes "part") (codes "id") (part_name n) more refl refl (name_inside n))
 
-part_closes : (d : Option ℕ) (v : HeardVoice ℕ) (lengths more : List ℕ) (spans : List (HeardSpan ℕ)) → ended_spans v ≡ Some spans
-    → read_parts (Some (at_barline d v lengths)) (xml_words (closing (codes "part") ++ more))
-    ≡ option_map (λ parts. record { spans = spans_of d spans; lengths = lengths } ∷ parts) (read_parts None (xml_words more))
+part_closes : (r : ℕ) (before : Option ScoreBar) (v : HeardVoice ℕ) (lengths more : List ℕ) (spans : List (HeardSpan ℕ)) → ended_spans v ≡ Some spans
+    → read_parts (Some (said_after r (at_barline v lengths) before)) (xml_words (closing (codes "part") ++ more))
+    ≡ option_map (λ parts. record { spans = spans_of (said_after r (at_barline v lengths) before).divisions spans; lengths = lengths } ∷ parts)
+    (read_parts None (xml_words more))
 unfolding closing
-part_closes d v lengths more spans is =
-    ap (λ o. option_map (λ spans. record { spans = spans_of d spans; lengths = lengths }) o
+part_closes r None v lengths more spans is =
+    ap (λ o. option_map (λ spans. record { spans = spans_of None spans; lengths = lengths }) o
+    >>= λ part. option_map (λ parts. part ∷ parts) (read_parts None (xml_words more))) is
+part_closes r (Some before) v lengths more spans is =
+    ap (λ o. option_map (λ spans. record { spans = spans_of (Some (16 * r)) spans; lengths = lengths }) o
     >>= λ part. option_map (λ parts. part ∷ parts) (read_parts None (xml_words more))) is
 
 heard_spans : (d : ℕ) (some : 1 ≤ d) (xs : List (HeardSpan ℕ)) → Each (IsSpanHeard d) xs (map (span_of d) xs)
@@ -59,20 +64,25 @@ heard_spans d some (x ∷ xs) =
 module _ (r : ℕ) (units : 1 ≤ r) (few : r ≤ MOST_UNITS) (sbars : List ScoreBar) (bars : List Bar) (right : All IsScoreBar sbars)
     (signatures : HaveSignatures sbars bars) where
   -- where there is no bar nothing was heard
-  spans_are : (sbars : List ScoreBar) (all : List (List Group)) (last : HeardVoice ℕ) (spans : List (HeardSpan ℕ))
+  spans_after : (sbars : List ScoreBar) (before : ScoreBar) (spans : List (HeardSpan ℕ)) (v : HeardVoice ℕ) (lengths : List ℕ)
+      → spans_of (said_after r (at_barline v lengths) (last_bar r units few (Some before) sbars)).divisions spans ≡ map (span_of (64 * r)) spans
+  spans_after [] before spans v lengths =
+      let whole : 4 * (16 * r) ≡ 64 * r = omega arith in
+      ap (λ n. map (span_of n) spans) whole
+  spans_after (bar ∷ sbars) before spans v lengths = spans_after sbars bar spans v lengths
+
+  spans_are : (sbars : List ScoreBar) (all : List (List Group)) (last : HeardVoice ℕ) (spans : List (HeardSpan ℕ)) (lengths : List ℕ)
       → hear_bars r sbars (unheard 0) all ≡ Some last → ended_spans last ≡ Some spans
-      → spans_of (divided_after r units few None sbars) spans ≡ map (span_of (64 * r)) spans
-  spans_are [] [] last spans one end =
+      → spans_of (said_after r (at_barline last lengths) (last_bar r units few None sbars)).divisions spans ≡ map (span_of (64 * r)) spans
+  spans_are [] [] last spans lengths one end =
       let same : unheard 0 ≡ last = cc in
       let none : [] ≡ spans = go spans (ap ended_spans same ∙ end) in
       ap (λ xs. map (span_of (64 * r)) xs) none
     where
       go : (spans : List (HeardSpan ℕ)) → Some [] ≡ Some spans → [] ≡ spans
       go spans e = cc
-  spans_are [] (groups ∷ all) last spans one end = absurd (cc)
-  spans_are (bar ∷ sbars) all last spans one end =
-      let whole : 4 * (16 * r) ≡ 64 * r = omega arith in
-      ap (λ n. map (span_of n) spans) whole
+  spans_are [] (groups ∷ all) last spans lengths one end = absurd (cc)
+  spans_are (bar ∷ sbars) all last spans lengths one end = spans_after sbars bar spans last lengths
 
   record IsPartRead (number : ℕ) (sounds : List Sound) (all : List (List Group)) : Type 0 where
     own : List Span
@@ -87,7 +97,7 @@ module _ (r : ℕ) (units : 1 ≤ r) (few : r ≤ MOST_UNITS) (sbars : List Scor
       let voice : IsVoice r sbars sounds = record { some_unit = units; few_units = few; each_bar = right; well = well } in
       let heard = voices_heard r sbars bars sounds all voice signatures groups in
       let (last, one, end) = heard_first (hear_bars r sbars (unheard 0) all) ended_spans heard.heard heard.hears in
-      let d = divided_after r units few None sbars in
+      let ended = last_bar r units few None sbars in
       let lengths = map (score_bar_parts r) sbars in
       let opens = line (opening_with (codes "part") (codes "id") (part_name number)) in
       let body = bars_text (record { resolution = r; clef = clef_of sounds; is_first = number == 1 }) None 1 sbars all in
@@ -103,10 +113,10 @@ module _ (r : ℕ) (units : 1 ≤ r) (few : r ≤ MOST_UNITS) (sbars : List Scor
             ∙ append_assoc (opening_with (codes "part") (codes "id") (part_name number)) (codes "\n") (body ++ (closes ++ more)))
             ∙ part_opens number (codes "\n" ++ (body ++ (closes ++ more)))
             ∙ read (closes ++ more)
-            ∙ ap (λ t. read_parts (Some (at_barline d last lengths)) (xml_words t)) (append_assoc (closing (codes "part")) (codes "\n") more)
-            ∙ part_closes d last lengths (codes "\n" ++ more) heard.heard end
+            ∙ ap (λ t. read_parts (Some (said_after r (at_barline last lengths) ended)) (xml_words t)) (append_assoc (closing (codes "part")) (codes "\n") more)
+            ∙ part_closes r ended last lengths (codes "\n" ++ more) heard.heard end
             ∙ ap (λ spans. option_map (λ parts. record { spans = spans; lengths = lengths } ∷ parts) (read_parts None (xml_words more)))
-            (spans_are sbars all last heard.heard one end);
+            (spans_are sbars all last heard.heard lengths one end);
       }
 
   -- ---- all parts

@@ -1,12 +1,17 @@
 -- What stands before the notes of a bar says nothing of what is heard, but for the parts of a quarter.
-use Rattle.std.proofs.Common.{◌≡◌, ℕ, suc, ◌*◌, ◌<◌, ◌≤◌, ◌&&◌, ◌||◌, ◌==◌, Bool, true, false, not, List, [], ◌∷◌, ◌++◌, Option, Some, None, refl, sym, ap, ◌∙◌, arith}
-use Rattle.std.specs.Prelude.{ℤ, pos, negsuc, codes, decimal, if◌then◌else◌}
+use Rattle.std.proofs.Common.{◌≡◌, ℕ, zero, suc, ◌+◌, ◌*◌, ◌/◌, ◌<◌, ◌≤◌, ◌&&◌, ◌||◌, ◌==◌, Bool, true, false, not, List, [], ◌∷◌, ◌++◌, Option, Some, None, refl, sym, ap, ◌∙◌, subst, arith}
+use Rattle.std.specs.Prelude.{ℤ, pos, negsuc, IsTrue, codes, decimal, if◌then◌else◌}
 use Rattle.std.specs.Char.{is_ascii_digit}
 use Rattle.std.specs.Fmt.{signed_decimal}
 use Rattle.std.specs.Option.{option_map}
+use Rattle.std.proofs.Math.Nat.{div-mul_cancel}
+use Rattle.std.proofs.lemmas.Bool.{and_parts}
 use Rattle.std.proofs.lemmas.Bool.Decides.{nat_tests}
 use Rattle.rhythm_base.specs.declared.limits.TheConstants.{MOST_UNITS}
 use Rattle.derivation.specs.declared.score.ScoreBar.{ScoreBar}
+use Rattle.derivation.specs.Score.{IsScoreBar}
+use Rattle.rhythm_base.specs.Signatures.{is_den}
+use Rattle.durations.proofs.Beats.{beat_part}
 use Rattle.score_words.specs.Changes.{key_before, quarters_of_minute, same_key, same_signature, same_tempo}
 use Rattle.kern_laws.proofs.TextTests.{all_weaker, decimal_digits, lacks}
 use Rattle.notation.specs.declared.clef.Clef.{Clef}
@@ -49,14 +54,6 @@ decimal_inside n = all_weaker is_ascii_digit (λ b. not (b == 62)) (decimal n) d
 fifths_value : IsSilentValue (codes "fifths")
 unfolding hear_xml_word hear_tag hear_value part_values part_marks
 fifths_value = record { own = record { angles = refl; opens = refl; closes = refl; silent = λ h. refl }; said = λ h text. refl }
-
-beats_value : IsSilentValue (codes "beats")
-unfolding hear_xml_word hear_tag hear_value part_values part_marks
-beats_value = record { own = record { angles = refl; opens = refl; closes = refl; silent = λ h. refl }; said = λ h text. refl }
-
-beat_type_value : IsSilentValue (codes "beat-type")
-unfolding hear_xml_word hear_tag hear_value part_values part_marks
-beat_type_value = record { own = record { angles = refl; opens = refl; closes = refl; silent = λ h. refl }; said = λ h text. refl }
 
 sign_value : IsSilentValue (codes "sign")
 unfolding hear_xml_word hear_tag hear_value part_values part_marks
@@ -112,14 +109,56 @@ key_read h before (Some sf) =
     reads_if h (not (same_key before sf)) (element (codes "key") fifths)
     (mark_element h (codes "key") fifths key_mark (silent_read h (codes "fifths") (signed_decimal sf) fifths_value (signed_plain sf)))
 
-time_read : (h : HeardPart) (bar : ScoreBar) → Reads h (time bar) h
+-- where so much is said of the parts of a quarter, and of the signature
+abbrev pub said : HeardPart → Option ℕ → Option ℕ → Option ℕ → HeardPart
+said h d m n = record h { divisions = d; beats = m; beat_type = n }
+
+beats_name : IsValueName (codes "beats")
+unfolding hear_xml_word hear_tag hear_value part_values part_marks
+beats_name = record { angles = refl; opens = refl; closes = refl; silent = λ h. refl }
+
+beat_type_name : IsValueName (codes "beat-type")
+unfolding hear_xml_word hear_tag hear_value part_values part_marks
+beat_type_name = record { angles = refl; opens = refl; closes = refl; silent = λ h. refl }
+
+beats_heard : (h : HeardPart) (n : ℕ) → xml_number (decimal n) ≡ Some n
+    → hear_xml_word h (word (decimal n) (codes "/beats")) ≡ Some (record h { beats = Some n })
+unfolding hear_xml_word hear_value part_values
+beats_heard h n is = ap (option_map (λ n. record h { beats = Some n })) is
+
+beat_type_heard : (h : HeardPart) (n : ℕ) → xml_number (decimal n) ≡ Some n
+    → hear_xml_word h (word (decimal n) (codes "/beat-type")) ≡ Some (record h { beat_type = Some n })
+unfolding hear_xml_word hear_value part_values
+beat_type_heard h n is = ap (option_map (λ n. record h { beat_type = Some n })) is
+
+beat_few : (den : ℕ) → IsTrue (is_den den) → (1 ≤ den) × (den ≤ 64)
+beat_few den is = (some den (div-mul_cancel den (beat_part den is)), few (64 / den) (div-mul_cancel den (beat_part den is)))
+  where
+    some : (n : ℕ) → 64 / den * n ≡ 64 → 1 ≤ n
+    some zero same = let none : 64 / den * zero ≡ 0 = omega arith in absurd (omega (arith, same, none))
+    some (suc n) same = omega arith
+
+    few : (k : ℕ) → k * den ≡ 64 → den ≤ 64
+    few zero same = let none : zero * den ≡ 0 = omega arith in absurd (omega (arith, same, none))
+    few (suc k) same = let more : suc k * den ≡ den + k * den = omega arith in omega (arith, same, more)
+
+time_read : (h : HeardPart) (d m n : Option ℕ) (bar : ScoreBar) → IsScoreBar bar
+    → Reads (said h d m n) (time bar) (said h d (Some bar.num) (Some bar.den))
 unfolding time
-time_read h bar =
-    let beats = element (codes "beats") (decimal bar.num) in
-    let kind = element (codes "beat-type") (decimal bar.den) in
-    mark_element h (codes "time") (beats ++ kind) time_mark
-    (reads_both h h h beats kind (silent_read h (codes "beats") (decimal bar.num) beats_value (decimal_plain bar.num))
-    (silent_read h (codes "beat-type") (decimal bar.den) beat_type_value (decimal_plain bar.den)))
+time_read h d m n bar right =
+    let start = said h d m n in
+    let mid = said h d (Some bar.num) n in
+    let next = said h d (Some bar.num) (Some bar.den) in
+    let (some_den, few_den) = beat_few bar.den right.signature.power in
+    let few_num = right.signature.few in
+    let one = element (codes "beats") (decimal bar.num) in
+    let two = element (codes "beat-type") (decimal bar.den) in
+    reads_element start start next next (codes "time") (one ++ two) (time_mark.opens start)
+    (reads_both start mid next one two
+    (reads_value start mid (codes "beats") (decimal bar.num) beats_name (decimal_plain bar.num)
+    (beats_heard start bar.num (number_read bar.num right.signature.some (omega (arith, few_num)))))
+    (reads_value mid next (codes "beat-type") (decimal bar.den) beat_type_name (decimal_plain bar.den)
+    (beat_type_heard mid bar.den (number_read bar.den some_den (omega (arith, few_den)))))) (time_mark.closes next)
 
 sign_plain : (clef : Clef) → (is_plain_content (sign_text clef) ≡ true) × (is_plain_content (line_text clef) ≡ true)
     × (is_plain_content (octave_text clef) ≡ true)
@@ -152,39 +191,62 @@ divisions_name : IsValueName (codes "divisions")
 unfolding hear_xml_word hear_tag hear_value part_values part_marks
 divisions_name = record { angles = refl; opens = refl; closes = refl; silent = λ h. refl }
 
--- where so much is said of the parts of a quarter
-abbrev pub said : HeardPart → Option ℕ → HeardPart
-said h d = record h { divisions = d }
-
-divisions_heard : (h : HeardPart) (n : ℕ) → xml_number (decimal n) ≡ Some n
-    → hear_xml_word (said h None) (word (decimal n) (codes "/divisions")) ≡ Some (said h (Some n))
+divisions_heard : (h : HeardPart) (m k : Option ℕ) (n : ℕ) → xml_number (decimal n) ≡ Some n
+    → hear_xml_word (said h None m k) (word (decimal n) (codes "/divisions")) ≡ Some (said h (Some n) m k)
 unfolding hear_xml_word hear_value part_values
-divisions_heard h n is = ap (option_map (λ n. said h (Some n))) is
+divisions_heard h m k n is = ap (option_map (λ n. said h (Some n) m k)) is
 
--- they are said in the first bar
-abbrev pub divided : ℕ → Option ScoreBar → Option ℕ
-divided r None = None
-divided r (Some before) = Some (16 * r)
+-- what is said after a bar: the parts of a quarter and a signature are said in the first one
+abbrev pub said_after : ℕ → HeardPart → Option ScoreBar → HeardPart
+said_after r h None = said h None None None
+said_after r h (Some bar) = said h (Some (16 * r)) (Some bar.num) (Some bar.den)
+
+same_said : (r : ℕ) (h : HeardPart) (before bar : ScoreBar) → same_signature (Some before) bar ≡ true
+    → said_after r h (Some before) ≡ said_after r h (Some bar)
+same_said r h before bar same =
+    let (num, den) = and_parts (before.num == bar.num) (before.den == bar.den) same in
+    let one : before.num ≡ bar.num = grind (arith, nat_tests, num) in
+    let two : before.den ≡ bar.den = grind (arith, nat_tests, den) in
+    λ i. said h (Some (16 * r)) (Some (one i)) (Some (two i))
 
 module _ (r : ℕ) (units : 1 ≤ r) (few : r ≤ MOST_UNITS) (h : HeardPart) where
-  divisions_read : Reads (said h None) (divisions r) (said h (Some (16 * r)))
+  divisions_read : Reads (said h None None None) (divisions r) (said h (Some (16 * r)) None None)
   unfolding divisions
   divisions_read =
       let number = number_read (16 * r) (omega (arith, units)) (omega (arith, few)) in
-      reads_value (said h None) (said h (Some (16 * r))) (codes "divisions") (decimal (16 * r)) divisions_name (decimal_plain (16 * r))
-      (divisions_heard h (16 * r) number)
+      reads_value (said h None None None) (said h (Some (16 * r)) None None) (codes "divisions") (decimal (16 * r)) divisions_name
+      (decimal_plain (16 * r)) (divisions_heard h None None (16 * r) number)
 
-  first_divisions : (before : Option ScoreBar) → Reads (said h (divided r before)) (text_if (is_none before) (divisions r)) (said h (Some (16 * r)))
+  -- after what is said of the parts of a quarter
+  mid_said : Option ScoreBar → HeardPart
+  mid_said None = said h (Some (16 * r)) None None
+  mid_said (Some before) = said h (Some (16 * r)) (Some before.num) (Some before.den)
+
+  first_divisions : (before : Option ScoreBar) → Reads (said_after r h before) (text_if (is_none before) (divisions r)) (mid_said before)
+  unfolding mid_said
   first_divisions None = divisions_read
-  first_divisions (Some before) = reads_none (said h (Some (16 * r)))
+  first_divisions (Some before) = reads_none (said_after r h (Some before))
 
-  attributes_read : (clef : Clef) (first : Bool) (before : Option ScoreBar) (bar : ScoreBar)
-      → Reads (said h (divided r before)) (line (element (codes "attributes") (attributes (record { resolution = r; clef = clef; is_first = first }) before bar)))
-      (said h (Some (16 * r)))
+  time_said : (before : Option ScoreBar) (bar : ScoreBar) → IsScoreBar bar
+      → Reads (mid_said before) (text_if (not (same_signature before bar)) (time bar)) (said_after r h (Some bar))
+  unfolding mid_said
+  time_said None bar right = time_read h (Some (16 * r)) None None bar right
+  time_said (Some before) bar right = go (same_signature (Some before) bar) refl
+    where
+      go : (b : Bool) → same_signature (Some before) bar ≡ b
+          → Reads (said_after r h (Some before)) (text_if (not b) (time bar)) (said_after r h (Some bar))
+      go true same =
+          subst (λ p. Reads (said_after r h (Some before)) [] p) (same_said r h before bar same) (reads_none (said_after r h (Some before)))
+      go false same = time_read h (Some (16 * r)) (Some before.num) (Some before.den) bar right
+
+  attributes_read : (clef : Clef) (first : Bool) (before : Option ScoreBar) (bar : ScoreBar) → IsScoreBar bar
+      → Reads (said_after r h before) (line (element (codes "attributes") (attributes (record { resolution = r; clef = clef; is_first = first }) before bar)))
+      (said_after r h (Some bar))
   unfolding attributes
-  attributes_read clef first before bar =
-      let start = said h (divided r before) in
-      let next = said h (Some (16 * r)) in
+  attributes_read clef first before bar right =
+      let start = said_after r h before in
+      let mid = mid_said before in
+      let next = said_after r h (Some bar) in
       let one = text_if (is_none before) (divisions r) in
       let two = key_change (key_before before) bar.sf in
       let three = text_if (not (same_signature before bar)) (time bar) in
@@ -192,28 +254,35 @@ module _ (r : ℕ) (units : 1 ≤ r) (few : r ≤ MOST_UNITS) (h : HeardPart) wh
       reads_line start next (element (codes "attributes") (one ++ two ++ three ++ four))
       (reads_element start start next next (codes "attributes") (one ++ two ++ three ++ four) (attributes_mark.opens start)
       (reads_both start next next (one ++ two ++ three) four
-      (reads_both start next next (one ++ two) three
-      (reads_both start next next one two (first_divisions before) (key_read next (key_before before) bar.sf))
-      (reads_if next (not (same_signature before bar)) (time bar) (time_read next bar)))
+      (reads_both start mid next (one ++ two) three
+      (reads_both start mid mid one two (first_divisions before) (key_read mid (key_before before) bar.sf))
+      (time_said before bar right))
       (reads_if next (is_none before) (clef_text clef) (clef_read next clef)))
       (attributes_mark.closes next))
 
-  pub attributes_line_read : (clef : Clef) (first : Bool) (before : Option ScoreBar) (bar : ScoreBar)
-      → Reads (said h (divided r before)) (attributes_line (record { resolution = r; clef = clef; is_first = first }) before bar)
-      (said h (Some (16 * r)))
+  pub attributes_line_read : (clef : Clef) (first : Bool) (before : Option ScoreBar) (bar : ScoreBar) → IsScoreBar bar
+      → Reads (said_after r h before) (attributes_line (record { resolution = r; clef = clef; is_first = first }) before bar)
+      (said_after r h (Some bar))
   unfolding attributes_line
-  attributes_line_read clef first None bar = go (changes_key None bar.sf)
+  attributes_line_read clef first None bar right = go (changes_key None bar.sf)
     where
       text : List ℕ
       text = line (element (codes "attributes") (attributes (record { resolution = r; clef = clef; is_first = first }) None bar))
 
-      go : (b : Bool) → Reads (said h None) (text_if (b || true) text) (said h (Some (16 * r)))
-      go true = attributes_read clef first None bar
-      go false = attributes_read clef first None bar
-  attributes_line_read clef first (Some before) bar =
-      reads_if (said h (Some (16 * r))) (changes_key before.sf bar.sf || not (same_signature (Some before) bar))
-      (line (element (codes "attributes") (attributes (record { resolution = r; clef = clef; is_first = first }) (Some before) bar)))
-      (attributes_read clef first (Some before) bar)
+      go : (b : Bool) → Reads (said_after r h None) (text_if (b || true) text) (said_after r h (Some bar))
+      go true = attributes_read clef first None bar right
+      go false = attributes_read clef first None bar right
+  attributes_line_read clef first (Some before) bar right = go (changes_key before.sf bar.sf) (same_signature (Some before) bar) refl
+    where
+      text : List ℕ
+      text = line (element (codes "attributes") (attributes (record { resolution = r; clef = clef; is_first = first }) (Some before) bar))
+
+      go : (a b : Bool) → same_signature (Some before) bar ≡ b
+          → Reads (said_after r h (Some before)) (text_if (a || not b) text) (said_after r h (Some bar))
+      go true b same = attributes_read clef first (Some before) bar right
+      go false false same = attributes_read clef first (Some before) bar right
+      go false true same =
+          subst (λ p. Reads (said_after r h (Some before)) [] p) (same_said r h before bar same) (reads_none (said_after r h (Some before)))
 
 -- ---- tempos
 

@@ -58,11 +58,13 @@ pub record ReadChord : Type 0 where
   pub comes : Bool
   pub goes : Bool
 
--- What is known: how many parts a quarter has, where it was said; what was heard up to the last chord; this chord, to
--- which further notes may be added; the note that has begun; the place of the last barline; and the lengths of the
--- measures before it
+-- What is known: how many parts a quarter has, where it was said; the signature that was said last; what was heard up to
+-- the last chord; this chord, to which further notes may be added; the note that has begun; the place of the last barline;
+-- and the lengths of the measures before it
 pub record HeardPart : Type 0 where
   pub divisions : Option ℕ
+  pub beats : Option ℕ
+  pub beat_type : Option ℕ
   pub heard : HeardVoice ℕ
   pub chord : Option ReadChord
   pub note : Option ReadNote
@@ -71,7 +73,16 @@ pub record HeardPart : Type 0 where
 
 -- nothing yet, where a part begins
 abbrev pub unheard_part : HeardPart
-unheard_part = record { divisions = None; heard = unheard 0; chord = None; note = None; began = 0; lengths = [] }
+unheard_part = record {
+  divisions = None;
+  beats = None;
+  beat_type = None;
+  heard = unheard 0;
+  chord = None;
+  note = None;
+  began = 0;
+  lengths = [];
+}
 
 -- numbers are below 2 ^ 32
 abbrev pub xml_number : List ℕ → Option ℕ
@@ -168,10 +179,18 @@ end_note h = h.note >>= λ n. chord_of h.divisions n >>= λ m. add_note h n.furt
 
 -- ---- measures
 
--- a chord ends in its measure, and no grace chord waits over a barline
+-- a length is that of so many beats, each 1/beat_type of a whole note
+abbrev pub IsOfBeats : ℕ → ℕ → ℕ → ℕ → Type 0
+IsOfBeats quarter beats beat_type len = len * beat_type ≡ 4 * quarter * beats
+
+abbrev pub is_of_beats : Option ℕ → Option ℕ → Option ℕ → ℕ → Bool
+is_of_beats (Some quarter) (Some beats) (Some beat_type) len = len * beat_type == 4 * quarter * beats
+is_of_beats _ _ _ len = false
+
+-- a measure is as long as its signature says, a chord ends in it, and no grace chord waits over a barline
 abbrev pub bar_ends : HeardPart → HeardVoice ℕ → Option HeardPart
 bar_ends h v =
-    if is_none h.note && is_empty v.graces
+    if is_none h.note && (is_empty v.graces && is_of_beats h.divisions h.beats h.beat_type (v.at - h.began))
     then Some (record h { heard = v; chord = None; began = v.at; lengths = h.lengths ++ (v.at - h.began) ∷ [] })
     else None
 
@@ -195,6 +214,8 @@ hear_duration h text =
 unfoldable pub hear_value : HeardPart → List ℕ → List ℕ → Option HeardPart
 hear_value h text name =
     if bytes_eq name (codes "divisions") then hear_divisions h text
+    else if bytes_eq name (codes "beats") then option_map (λ m. record h { beats = Some m }) (xml_number text)
+    else if bytes_eq name (codes "beat-type") then option_map (λ m. record h { beat_type = Some m }) (xml_number text)
     else if bytes_eq name (codes "duration") then hear_duration h text
     else if bytes_eq name (codes "step") then within_note h (λ n. record n { step = text })
     else if bytes_eq name (codes "alter") then within_note h (λ n. record n { alter = text })

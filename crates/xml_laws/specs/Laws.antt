@@ -1,5 +1,5 @@
 -- The laws, each as one statement over the definitions.
-use Rattle.std.specs.Prelude.{◌≡◌, ℕ, false, List, codes, position, Ok, Some, map}
+use Rattle.std.specs.Prelude.{◌≡◌, ℕ, ◌-◌, false, List, [], codes, position, Ok, Some, map}
 use Rattle.std.specs.Str.{bytes_eq}
 use Rattle.rhythm_base.specs.declared.note.Bar.{Bar}
 use Rattle.rhythm_base.specs.declared.span.Span.{Span}
@@ -14,7 +14,7 @@ use Rattle.kern_reader.specs.Outcome.{score_of}
 use Rattle.kern_reader.specs.Score.{KernColumns}
 use Rattle.musicxml_writer.specs.Text.{IsMusicXml}
 use Rattle.notation_laws.specs.VoicesEvents.{voices_events}
-use Rattle.xml_laws.specs.Hearing.{HeardPart, IsOfValue, ReadNote, hear_tag, kinds}
+use Rattle.xml_laws.specs.Hearing.{HeardPart, IsOfBeats, IsOfValue, ReadNote, hear_tag, kinds}
 use Rattle.xml_laws.specs.Reading.{measure_lengths, musicxml_events}
 
 -- a text that is read says the spans of each voice of a score, over these bars
@@ -49,6 +49,21 @@ abbrev pub BarsAreFull : Type 0
 BarsAreFull =
     (s : Score) (channels text : List ℕ) → IsScore s → IsMusicXml s channels text
     → measure_lengths text ≡ Some (map (λ sounds. map (score_bar_parts s.resolution) s.bars) s.voices)
+
+-- a measure that is read is as long as the signature that was said last, and no grace chord waits at its end
+pub record IsFullMeasure (h next : HeardPart) : Type 0 where
+  pub quarter : ℕ
+  pub said : h.divisions ≡ Some quarter
+  pub beats : ℕ
+  pub of_beats : h.beats ≡ Some beats
+  pub beat_type : ℕ
+  pub of_type : h.beat_type ≡ Some beat_type
+  pub is : IsOfBeats quarter beats beat_type (next.heard.at - h.began)
+  pub graces : next.heard.graces ≡ []
+
+-- so it is of each measure of a text that is read
+abbrev pub MeasuresAreFull : Type 0
+MeasuresAreFull = (h next : HeardPart) → hear_tag h (codes "/measure") ≡ Some next → IsFullMeasure h next
 
 -- a note that is read is as long as its type with its dots says, so many in the time of so many
 pub record IsOfItsValue (h : HeardPart) (n : ReadNote) : Type 0 where

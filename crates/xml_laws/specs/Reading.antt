@@ -1,5 +1,5 @@
 -- The spans that a text says, by its words; nothing where it is no text of this kind. What the head, the list of
--- parts, clefs, keys, signatures and tempos say is not read.
+-- parts, clefs, keys and tempos say is not read.
 use Rattle.std.specs.Prelude.{ℕ, ◌*◌, Bool, ◌&&◌, nat_eq, if◌then◌else◌, List, [], ◌∷◌, codes, map, Option, Some, None}
 use Rattle.std.specs.List.{starts_with}
 use Rattle.std.specs.Option.{option_map}
