@@ -1,6 +1,7 @@
 pub mod BarsRead
 pub mod Cutting
 pub mod Durations
+pub mod MeasuresFull
 pub mod Names
 pub mod NoteParts
 pub mod NotesRead

@@ -5,5 +5,6 @@
 mod laws;
 
 pub use laws::{
-    bars_are_full, texts_are_read_back, texts_say_the_events, values_say_their_durations,
+    bars_are_full, measures_are_full, texts_are_read_back, texts_say_the_events,
+    values_say_their_durations,
 };
