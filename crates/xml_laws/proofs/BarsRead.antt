@@ -1,14 +1,11 @@
 -- A bar that is read says what is heard of its notes, and a part its spans and the lengths of its measures.
-use Rattle.std.proofs.Common.{◌≡◌, ℕ, zero, suc, ◌+◌, ◌^◌, ◌-◌, ◌*◌, ◌/◌, ◌<◌, ◌≤◌, ◌&&◌, ◌==◌, Bool, true, false, not, List, [], ◌∷◌, ◌++◌, length, map, Option, Some, None, refl, sym, ap, ap₂, ◌∙◌, subst, arith, append_assoc, append-nil}
-use Rattle.std.specs.Prelude.{All, IsTrue, codes, decimal, if◌then◌else◌}
+use Rattle.std.proofs.Common.{◌≡◌, ℕ, zero, suc, ◌+◌, ◌^◌, ◌-◌, ◌*◌, ◌/◌, ◌<◌, ◌≤◌, ◌&&◌, ◌==◌, Bool, true, false, List, [], ◌∷◌, ◌++◌, map, Option, Some, None, refl, sym, ap, ap₂, ◌∙◌, subst, arith, append_assoc, append-nil}
+use Rattle.std.specs.Prelude.{All, codes, decimal, if◌then◌else◌}
 use Rattle.std.specs.Int.{◌∣◌}
-use Rattle.std.specs.List.{flat_map}
-use Rattle.std.specs.Option.{option_map}
 use Rattle.std.proofs.Math.Nat.{div-le_self, div-mul_cancel, mul-div_assoc}
 use Rattle.std.proofs.lemmas.Bool.Decides.{nat_tests}
 use Rattle.std.proofs.lemmas.List.Elements.{All-head, All-tail}
 use Rattle.rhythm_base.specs.declared.limits.TheConstants.{MOST_UNITS}
-use Rattle.rhythm_base.specs.Signatures.{is_den}
 use Rattle.derivation.specs.declared.score.ScoreBar.{ScoreBar}
 use Rattle.derivation.specs.Score.{IsScoreBar}
 use Rattle.durations.proofs.Beats.{beat_part}
@@ -17,20 +14,20 @@ use Rattle.voice_events.specs.Parts.{score_bar_parts}
 use Rattle.kern_reader.specs.Tokens.{◌>>=◌}
 use Rattle.notation.specs.declared.clef.Clef.{Clef}
 use Rattle.notation.specs.Notes.{Group, is_empty}
-use Rattle.notation_laws.specs.Hearing.{HeardVoice, hear, is_none}
-use Rattle.notation_laws.specs.NotesHeard.{AreHeardInFull, group_notes, hear_bar, hear_bars, rest_stretch}
+use Rattle.notation_laws.specs.Hearing.{HeardVoice, hear}
+use Rattle.notation_laws.specs.NotesHeard.{AreHeardInFull, hear_bar, hear_bars, rest_stretch}
 use Rattle.notation_laws.specs.Written.{IsWrittenGroup}
 use Rattle.musicxml_writer.specs.Attributes.{attributes_line, tempo_line}
-use Rattle.musicxml_writer.specs.Bars.{bar_length, bar_notes, bar_rest, group_text}
+use Rattle.musicxml_writer.specs.Bars.{bar_length, bar_notes, bar_rest}
 use Rattle.musicxml_writer.specs.Elements.{attribute_start, closing, element, empty_with, line, opening, opening_with, text_if}
 use Rattle.musicxml_writer.specs.Parts.{bar_text, bars_text, final_barline}
-use Rattle.xml_laws.specs.Hearing.{HeardPart, ReadChord, ReadNote, bar_ends, blank_note, hear_read_chord, hear_tag, hear_value, hear_xml_word, heard_with, is_of_beats, read_stretch, xml_number}
+use Rattle.xml_laws.specs.Hearing.{HeardPart, ReadChord, ReadNote, bar_ends, blank_note, hear_tag, hear_value, hear_xml_word, heard_with, is_of_beats, xml_number}
 use Rattle.xml_laws.specs.Reading.{read_parts}
 use Rattle.xml_laws.specs.Words.{part_marks, part_values, xml_words}
 use Rattle.xml_laws.proofs.Durations.{at_most, number_read}
 use Rattle.xml_laws.proofs.NoteParts.{duration_read, noted}
 use Rattle.xml_laws.proofs.NotesRead.{IsTurned, groups_turn, known, note_ends, note_opens}
-use Rattle.xml_laws.proofs.ReadTexts.{Reads, reads_both, reads_element, reads_if, reads_line, reads_none, reads_opening}
+use Rattle.xml_laws.proofs.ReadTexts.{Reads, reads_both, reads_element, reads_if, reads_line, reads_opening}
 use Rattle.xml_laws.proofs.Settings.{attributes_line_read, decimal_inside, said_after, tempo_line_read}
 
 -- ---- bars of rests

@@ -1,17 +1,16 @@
 -- The durations of notes are numbers that are read as they are written.
-use Rattle.std.proofs.Common.{◌≡◌, ℕ, zero, suc, ◌+◌, ◌-◌, ◌*◌, ◌^◌, ◌<◌, ◌≤◌, Some, refl, sym, ap, ◌∙◌, subst, arith}
+use Rattle.std.proofs.Common.{◌≡◌, ℕ, zero, suc, ◌-◌, ◌*◌, ◌^◌, ◌<◌, ◌≤◌, Some, sym, subst, arith}
 use Rattle.std.specs.Prelude.{decimal}
 use Rattle.std.proofs.Math.Nat.{le-mul_of_pos_right, mul-le-mul_left, mul-le-mul_right}
 use Rattle.std.proofs.lemmas.Nat.{pow_pos}
 use Rattle.rhythm_base.specs.declared.limits.TheConstants.{MOST_UNITS}
 use Rattle.durations.specs.declared.value.Recip.{Recip}
 use Rattle.durations.specs.declared.value.Recip.TheVariants.{Of, Breve, Long}
-use Rattle.durations.specs.declared.value.Value.{Value}
 use Rattle.durations.specs.Value.{parts, plain_grid, plain_parts, value_grid}
 use Rattle.durations.proofs.Wide.{some_product}
 use Rattle.kern_laws.proofs.TextNumbers.{number_back}
 use Rattle.notation.specs.Notes.{Group, Note}
-use Rattle.notation_laws.specs.Written.{IsHalvedPart, IsWrittenGroup, IsWrittenNote, IsWrittenValue}
+use Rattle.notation_laws.specs.Written.{IsHalvedPart, IsWrittenGroup, IsWrittenNote}
 use Rattle.xml_laws.specs.Hearing.{xml_number}
 
 pub number_read : (n : ℕ) → 1 ≤ n → n < 2 ^ 32 → xml_number (decimal n) ≡ Some n

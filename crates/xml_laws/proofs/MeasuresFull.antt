@@ -1,11 +1,10 @@
 -- A measure that is read is as long as its signature says.
-use Rattle.std.proofs.Common.{◌≡◌, ℕ, ◌*◌, ◌-◌, ◌==◌, ◌&&◌, Bool, true, false, List, [], ◌∷◌, ◌++◌, Option, Some, None, refl, sym, ap, ◌∙◌, subst, arith}
-use Rattle.std.specs.Prelude.{codes, if◌then◌else◌}
+use Rattle.std.proofs.Common.{◌≡◌, ℕ, ◌-◌, ◌==◌, ◌&&◌, Bool, true, false, List, [], ◌∷◌, ◌++◌, Option, Some, None, refl, subst, arith}
+use Rattle.std.specs.Prelude.{if◌then◌else◌}
 use Rattle.std.proofs.lemmas.Bool.{and_parts, false≢true}
 use Rattle.std.proofs.lemmas.Bool.Decides.{nat_tests}
-use Rattle.kern_reader.specs.Tokens.{◌>>=◌}
 use Rattle.notation.specs.Notes.{is_empty}
-use Rattle.notation_laws.specs.Hearing.{HeardVoice, is_none}
+use Rattle.notation_laws.specs.Hearing.{is_none}
 use Rattle.notation_laws.proofs.Says.{heard_first}
 use Rattle.xml_laws.specs.Hearing.{HeardPart, bar_ends, hear_tag, heard_with, is_of_beats}
 use Rattle.xml_laws.specs.Laws.{IsFullMeasure, MeasuresAreFull}

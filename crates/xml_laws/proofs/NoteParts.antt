@@ -1,10 +1,9 @@
 -- The elements of a note, each by what it adds to what was read.
-use Rattle.std.proofs.Common.{◌≡◌, ℕ, zero, suc, ◌+◌, ◌<◌, ◌≤◌, ◌&&◌, ◌==◌, Bool, true, false, not, List, [], ◌∷◌, ◌++◌, Option, Some, None, refl, sym, ap, ◌∙◌, subst, arith}
+use Rattle.std.proofs.Common.{◌≡◌, ℕ, zero, suc, ◌+◌, ◌<◌, ◌≤◌, ◌&&◌, ◌==◌, Bool, true, false, not, List, [], ◌∷◌, ◌++◌, Option, Some, None, refl, ap, ◌∙◌, subst, arith}
 use Rattle.std.specs.Prelude.{ℤ, IfSome, codes, decimal, if◌then◌else◌, nat_lt}
 use Rattle.std.specs.Char.{is_ascii_digit}
 use Rattle.std.specs.Fmt.{signed_decimal}
-use Rattle.std.specs.List.{list_all, repeat}
-use Rattle.std.specs.Option.{option_map}
+use Rattle.std.specs.List.{repeat}
 use Rattle.std.proofs.lemmas.Bool.Decides.{nat_tests}
 use Rattle.durations.specs.declared.value.Recip.{Recip}
 use Rattle.durations.specs.declared.value.Recip.TheVariants.{Of, Breve, Long}
@@ -25,7 +24,7 @@ use Rattle.xml_laws.specs.Pitches.{xml_key}
 use Rattle.xml_laws.specs.Reading.{read_parts}
 use Rattle.xml_laws.specs.Words.{part_marks, part_values, xml_words}
 use Rattle.xml_laws.proofs.Cutting.{is_content_byte, is_plain_content, word}
-use Rattle.xml_laws.proofs.Names.{alter_plain, letter_plain, name_key, name_read, octave_plain}
+use Rattle.xml_laws.proofs.Names.{alter_plain, letter_plain, name_read, octave_plain}
 use Rattle.xml_laws.proofs.ValuesRead.{IsShown, valued}
 use Rattle.xml_laws.proofs.ReadTexts.{IsValueName, Reads, reads_both, reads_element, reads_if, reads_none, reads_some, reads_value}
 

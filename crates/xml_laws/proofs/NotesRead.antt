@@ -13,22 +13,22 @@ use Rattle.derivation.specs.WellSounded.{AreKeys}
 use Rattle.score_words.specs.Keys.{rising_keys}
 use Rattle.score_words.proofs.SetKeys.{KeysRise, keys_rise}
 use Rattle.kern_reader.specs.Tokens.{◌>>=◌, same_bool}
-use Rattle.lily_writer.specs.Hearing.{heard_rise, key_set}
+use Rattle.lily_writer.specs.Hearing.{key_set}
 use Rattle.lily_laws.proofs.ElementWords.{some_key}
 use Rattle.lily_laws.proofs.KeySums.{keys_sum, keys_up}
 use Rattle.notation.specs.declared.note.Ratio.{Ratio}
 use Rattle.notation.specs.Names.{pitch_name}
 use Rattle.notation.specs.Notes.{Group, Note, is_empty}
-use Rattle.notation_laws.specs.Hearing.{HeardSpan, HeardVoice, Stretch, hear, hear_chord, hear_grace, hear_graces, hear_rest, is_bare, is_none, is_still}
+use Rattle.notation_laws.specs.Hearing.{HeardVoice, Stretch, hear, hear_chord, hear_grace, hear_graces, hear_rest, is_bare, is_none, is_still}
 use Rattle.notation_laws.specs.NotesHeard.{group_notes, hear_note, hear_notes, note_stretch}
 use Rattle.notation_laws.specs.Written.{IsWrittenGroup, IsWrittenNote}
 use Rattle.notation_laws.proofs.Says.{heard_first}
 use Rattle.musicxml_writer.specs.Bars.{group_text, notes_text, set}
-use Rattle.musicxml_writer.specs.Elements.{attribute_start, closing, element, empty_element, empty_with, line, opening}
+use Rattle.musicxml_writer.specs.Elements.{attribute_start, closing, element, empty_element, empty_with, opening}
 use Rattle.musicxml_writer.specs.Notes.{chord_mark, chord_text, grace_text, key_marks, key_text, keys_text, notations, note_text, rest_text, tie_ends, bracket_ends}
 use Rattle.musicxml_writer.specs.Pitches.{key_pitch}
 use Rattle.musicxml_writer.specs.Values.{type_text, value_text}
-use Rattle.xml_laws.specs.Hearing.{HeardPart, ReadChord, ReadNote, add_note, blank_note, chord_of, hear_read_chord, hear_tag, hear_value, hear_xml_word, heard_with, is_of_value, kinds, long_chord, read_stretch, with_key, xml_number}
+use Rattle.xml_laws.specs.Hearing.{HeardPart, ReadChord, ReadNote, add_note, blank_note, chord_of, hear_tag, hear_xml_word, heard_with, is_of_value, kinds, long_chord, read_stretch, with_key, xml_number}
 use Rattle.xml_laws.specs.Reading.{read_parts}
 use Rattle.xml_laws.specs.Words.{part_marks, part_values, xml_words}
 use Rattle.xml_laws.proofs.Durations.{duration_number}

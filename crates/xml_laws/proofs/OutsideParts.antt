@@ -1,8 +1,8 @@
 -- What stands outside of the parts says nothing of what is heard.
-use Rattle.std.proofs.Common.{◌≡◌, ℕ, ◌+◌, ◌==◌, ◌&&◌, not, Bool, true, false, List, [], ◌∷◌, ◌++◌, Option, Some, None, refl, sym, ap, ◌∙◌, append_assoc}
-use Rattle.std.specs.Prelude.{codes, decimal, if◌then◌else◌}
+use Rattle.std.proofs.Common.{◌≡◌, ℕ, ◌+◌, ◌==◌, not, true, false, List, [], ◌∷◌, ◌++◌, None, refl, ap, ◌∙◌, append_assoc}
+use Rattle.std.specs.Prelude.{codes, decimal}
 use Rattle.kern_laws.proofs.TextTests.{all_append, lacks}
-use Rattle.musicxml_writer.specs.Elements.{attribute_start, closing, element, line, opening, opening_with}
+use Rattle.musicxml_writer.specs.Elements.{closing, element, line, opening, opening_with}
 use Rattle.musicxml_writer.specs.Parts.{part_name}
 use Rattle.musicxml_writer.specs.Text.{channel_name, head, instrument_name, listed_part, listed_parts, named_instrument, part_list, played_instrument}
 use Rattle.xml_laws.specs.Reading.{begins_part, read_parts}

@@ -1,6 +1,6 @@
 -- A part is read as the spans of its voice, with measures as long as the bars.
-use Rattle.std.proofs.Common.{◌≡◌, ℕ, ◌+◌, ◌*◌, ◌≤◌, ◌==◌, ◌&&◌, Bool, true, false, List, [], ◌∷◌, ◌++◌, length, map, Option, Some, None, refl, sym, ap, ap₂, ◌∙◌, subst, arith, append_assoc}
-use Rattle.std.specs.Prelude.{All, codes, if◌then◌else◌}
+use Rattle.std.proofs.Common.{◌≡◌, ℕ, ◌+◌, ◌*◌, ◌≤◌, ◌==◌, List, [], ◌∷◌, ◌++◌, length, map, Option, Some, None, refl, ap, ◌∙◌, arith, append_assoc}
+use Rattle.std.specs.Prelude.{All, codes}
 use Rattle.std.specs.Option.{option_map}
 use Rattle.std.proofs.lemmas.List.Elements.{All-head, All-tail}
 use Rattle.rhythm_base.specs.declared.limits.TheConstants.{MOST_UNITS}
@@ -15,14 +15,13 @@ use Rattle.derivation.specs.WellSounded.{AreWellSounded}
 use Rattle.voice_events.specs.Events.{HaveSignatures}
 use Rattle.voice_events.specs.Parts.{score_bar_parts}
 use Rattle.kern_reader.specs.Tokens.{◌>>=◌}
-use Rattle.lily_writer.specs.Fractions.{frac}
 use Rattle.lily_laws.proofs.Fractions.{frac_is}
 use Rattle.notation.specs.Bars.{AreVoiceGroups}
 use Rattle.notation.specs.Clefs.{clef_of}
 use Rattle.notation.specs.Notes.{Group}
 use Rattle.notation_laws.specs.Hearing.{HeardSpan, HeardVoice, ended_spans, unheard}
 use Rattle.notation_laws.specs.Laws.{IsVoice}
-use Rattle.notation_laws.specs.NotesHeard.{AreHeardInFull, IsSpanHeard, hear_bars}
+use Rattle.notation_laws.specs.NotesHeard.{IsSpanHeard, hear_bars}
 use Rattle.notation_laws.proofs.FullBars.{bars_in_full}
 use Rattle.notation_laws.proofs.Says.{heard_first}
 use Rattle.notation_laws.proofs.VoiceHeard.{voices_heard}
@@ -31,7 +30,7 @@ use Rattle.musicxml_writer.specs.Elements.{closing, line, opening_with}
 use Rattle.musicxml_writer.specs.Parts.{bars_text, part_name, part_text}
 use Rattle.musicxml_writer.specs.Text.{parts_text}
 use Rattle.xml_laws.specs.Hearing.{unheard_part}
-use Rattle.xml_laws.specs.Reading.{ReadPart, ended_part, read_parts, span_of, spans_of}
+use Rattle.xml_laws.specs.Reading.{ReadPart, read_parts, span_of, spans_of}
 use Rattle.xml_laws.specs.Words.{xml_words}
 use Rattle.xml_laws.proofs.BarsRead.{at_barline, bars_read, last_bar}
 use Rattle.xml_laws.proofs.Cutting.{opening_cut}

@@ -1,13 +1,12 @@
 -- Texts that are read within a part, one after another.
-use Rattle.std.proofs.Common.{◌≡◌, ℕ, ◌&&◌, Bool, true, false, List, [], ◌∷◌, ◌++◌, Option, Some, None, refl, sym, ap, ◌∙◌, append_assoc}
-use Rattle.std.specs.Prelude.{codes, if◌then◌else◌}
+use Rattle.std.proofs.Common.{◌≡◌, ℕ, Bool, true, false, List, [], ◌∷◌, ◌++◌, Some, refl, ap, ◌∙◌, append_assoc}
+use Rattle.std.specs.Prelude.{codes}
 use Rattle.std.specs.Str.{bytes_eq}
 use Rattle.kern_reader.specs.Tokens.{◌>>=◌}
 use Rattle.kern_laws.proofs.TextTests.{lacks}
-use Rattle.notation.specs.Notes.{is_empty}
 use Rattle.musicxml_writer.specs.Elements.{closing, element, empty_with, line, opening, opening_with, some_element, text_if}
 use Rattle.xml_laws.specs.Hearing.{HeardPart, hear_xml_word}
-use Rattle.xml_laws.specs.Reading.{ReadPart, ends_part, read_parts}
+use Rattle.xml_laws.specs.Reading.{ends_part, read_parts}
 use Rattle.xml_laws.specs.Words.{XmlWord, xml_words}
 use Rattle.xml_laws.proofs.Cutting.{element_cut, empty_cut, is_plain_content, opening_cut, tag_with, word}
 

@@ -1,6 +1,6 @@
 -- What stands before the notes of a bar says nothing of what is heard, but for the parts of a quarter.
-use Rattle.std.proofs.Common.{◌≡◌, ℕ, zero, suc, ◌+◌, ◌*◌, ◌/◌, ◌<◌, ◌≤◌, ◌&&◌, ◌||◌, ◌==◌, Bool, true, false, not, List, [], ◌∷◌, ◌++◌, Option, Some, None, refl, sym, ap, ◌∙◌, subst, arith}
-use Rattle.std.specs.Prelude.{ℤ, pos, negsuc, IsTrue, codes, decimal, if◌then◌else◌}
+use Rattle.std.proofs.Common.{◌≡◌, ℕ, zero, suc, ◌+◌, ◌*◌, ◌/◌, ◌≤◌, ◌&&◌, ◌||◌, ◌==◌, Bool, true, false, not, List, [], ◌∷◌, ◌++◌, Option, Some, None, refl, ap, subst, arith}
+use Rattle.std.specs.Prelude.{ℤ, pos, negsuc, IsTrue, codes, decimal}
 use Rattle.std.specs.Char.{is_ascii_digit}
 use Rattle.std.specs.Fmt.{signed_decimal}
 use Rattle.std.specs.Option.{option_map}
@@ -23,7 +23,7 @@ use Rattle.xml_laws.specs.Words.{part_marks, part_values}
 use Rattle.xml_laws.proofs.Cutting.{is_plain_content, word}
 use Rattle.xml_laws.proofs.Durations.{number_read}
 use Rattle.xml_laws.proofs.NoteParts.{decimal_plain}
-use Rattle.xml_laws.proofs.ReadTexts.{IsValueName, Reads, reads_both, reads_element, reads_empty, reads_if, reads_line, reads_none, reads_some, reads_value}
+use Rattle.xml_laws.proofs.ReadTexts.{IsValueName, Reads, reads_both, reads_element, reads_empty, reads_if, reads_line, reads_none, reads_value}
 
 -- ---- elements that say nothing of what is heard
 

@@ -1,5 +1,5 @@
 -- The text of a score is read as the spans of its voices.
-use Rattle.std.proofs.Common.{◌≡◌, ℕ, List, [], ◌∷◌, ◌++◌, map, Some, None, refl, ap, ◌∙◌, append_assoc}
+use Rattle.std.proofs.Common.{◌≡◌, ℕ, List, [], ◌++◌, map, Some, None, refl, ap, ◌∙◌, append_assoc}
 use Rattle.std.specs.Prelude.{codes}
 use Rattle.std.specs.Option.{option_map}
 use Rattle.rhythm_base.specs.declared.note.Bar.{Bar}
@@ -11,7 +11,7 @@ use Rattle.notation.specs.Notes.{Group}
 use Rattle.notation_laws.proofs.FullBars.{signatures_kept, some_bar}
 use Rattle.notation_laws.proofs.KernEvents.{kern_events}
 use Rattle.musicxml_writer.specs.Elements.{closing, line}
-use Rattle.musicxml_writer.specs.Text.{IsMusicXml, head, part_list, parts_text, score_text}
+use Rattle.musicxml_writer.specs.Text.{head, part_list, parts_text, score_text}
 use Rattle.xml_laws.specs.Laws.{BarsAreFull, TextsAreReadBack, TextsSayTheEvents}
 use Rattle.xml_laws.specs.Reading.{read_parts, text_parts}
 use Rattle.xml_laws.specs.Words.{head_marks, head_values, xml_words}

@@ -1,6 +1,6 @@
 -- The type of a note, with its dots and its ratio, says its duration.
-use Rattle.std.proofs.Common.{◌≡◌, ℕ, zero, suc, ◌+◌, ◌-◌, ◌*◌, ◌/◌, ◌^◌, ◌<◌, ◌≤◌, ◌==◌, ◌&&◌, Bool, true, false, List, [], ◌∷◌, Option, Some, None, min, refl, sym, ap, ◌∙◌, subst, arith}
-use Rattle.std.specs.Prelude.{codes, decimal, if◌then◌else◌, nat_le, nat_lt, position}
+use Rattle.std.proofs.Common.{◌≡◌, ℕ, ◌+◌, ◌-◌, ◌*◌, ◌/◌, ◌^◌, ◌<◌, ◌≤◌, ◌==◌, ◌&&◌, Bool, true, false, Some, min, refl, sym, ap, ◌∙◌, subst, arith}
+use Rattle.std.specs.Prelude.{decimal, if◌then◌else◌, nat_le, nat_lt, position}
 use Rattle.std.specs.Str.{bytes_eq}
 use Rattle.std.proofs.Math.Nat.{eq_of_mul-eq-mul_left}
 use Rattle.std.proofs.lemmas.Bool.{and_parts}
@@ -10,8 +10,7 @@ use Rattle.rhythm_base.proofs.NumbersBelow.{all_below, one_below}
 use Rattle.durations.specs.declared.value.Recip.{Recip}
 use Rattle.durations.specs.declared.value.Recip.TheVariants.{Of, Breve, Long}
 use Rattle.durations.specs.declared.value.Value.{Value}
-use Rattle.durations.specs.Value.{parts, plain_grid, plain_parts, value_grid}
-use Rattle.durations.proofs.Wide.{some_product}
+use Rattle.durations.specs.Value.{plain_grid, plain_parts}
 use Rattle.kern_laws.proofs.Pitches.{read_key, is_key}
 use Rattle.notation.specs.declared.note.Ratio.{Ratio}
 use Rattle.notation.specs.Notes.{Group, Note}

@@ -1,12 +1,12 @@
 -- A note that is read is as long as its value says.
-use Rattle.std.proofs.Common.{◌≡◌, ℕ, ◌*◌, ◌-◌, ◌^◌, ◌==◌, ◌||◌, Bool, true, false, List, [], ◌∷◌, Option, Some, None, refl, sym, ap, ◌∙◌, arith}
-use Rattle.std.specs.Prelude.{codes, if◌then◌else◌, position}
+use Rattle.std.proofs.Common.{◌≡◌, ℕ, ◌==◌, ◌||◌, true, false, Option, Some, None, refl, sym, ap, ◌∙◌, arith}
+use Rattle.std.specs.Prelude.{if◌then◌else◌, position}
 use Rattle.std.specs.Str.{bytes_eq}
 use Rattle.std.proofs.lemmas.Bool.{false≢true}
 use Rattle.std.proofs.lemmas.Bool.Decides.{nat_tests}
 use Rattle.kern_reader.specs.Tokens.{◌>>=◌}
 use Rattle.notation_laws.proofs.Says.{heard_first}
-use Rattle.xml_laws.specs.Hearing.{HeardPart, ReadChord, ReadNote, add_note, chord_of, grace_chord, hear_tag, is_of_value, kinds, long_chord, says_duration}
+use Rattle.xml_laws.specs.Hearing.{add_note, chord_of, grace_chord, hear_tag, is_of_value, kinds, long_chord, says_duration}
 use Rattle.xml_laws.specs.Laws.{IsOfItsValue, ValuesSayTheirDurations}
 use Rattle.xml_laws.proofs.NotesRead.{if_some}
 
