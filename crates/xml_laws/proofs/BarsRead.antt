@@ -21,12 +21,14 @@ use Rattle.musicxml_writer.specs.Attributes.{attributes_line, tempo_line}
 use Rattle.musicxml_writer.specs.Bars.{bar_length, bar_notes, bar_rest}
 use Rattle.musicxml_writer.specs.Elements.{attribute_start, closing, element, empty_with, line, opening, opening_with, text_if}
 use Rattle.musicxml_writer.specs.Parts.{bar_text, bars_text, final_barline}
-use Rattle.xml_laws.specs.Hearing.{HeardPart, ReadChord, ReadNote, bar_ends, blank_note, hear_tag, hear_value, hear_xml_word, heard_with, is_of_beats, xml_number}
+use Rattle.xml_laws.specs.Hearing.{HeardPart, bar_ends, hear_tag, hear_value, hear_xml_word, heard_with, is_of_beats}
+use Rattle.xml_laws.specs.Notes.{ReadChord, ReadNote, blank_note, xml_number}
 use Rattle.xml_laws.specs.Reading.{read_parts}
 use Rattle.xml_laws.specs.Words.{part_marks, part_values, xml_words}
 use Rattle.xml_laws.proofs.Durations.{at_most, number_read}
 use Rattle.xml_laws.proofs.NoteParts.{duration_read, noted}
-use Rattle.xml_laws.proofs.NotesRead.{IsTurned, groups_turn, known, note_ends, note_opens}
+use Rattle.xml_laws.proofs.NoteLines.{known, note_ends, note_opens}
+use Rattle.xml_laws.proofs.NotesRead.{IsTurned, groups_turn}
 use Rattle.xml_laws.proofs.ReadTexts.{Reads, reads_both, reads_element, reads_if, reads_line, reads_opening}
 use Rattle.xml_laws.proofs.Settings.{attributes_line_read, decimal_inside, said_after, tempo_line_read}
 

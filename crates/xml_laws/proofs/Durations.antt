@@ -11,7 +11,7 @@ use Rattle.durations.proofs.Wide.{some_product}
 use Rattle.kern_laws.proofs.TextNumbers.{number_back}
 use Rattle.notation.specs.Notes.{Group, Note}
 use Rattle.notation_laws.specs.Written.{IsHalvedPart, IsWrittenGroup, IsWrittenNote}
-use Rattle.xml_laws.specs.Hearing.{xml_number}
+use Rattle.xml_laws.specs.Notes.{xml_number}
 
 pub number_read : (n : ℕ) → 1 ≤ n → n < 2 ^ 32 → xml_number (decimal n) ≡ Some n
 number_read n some few = number_back (2 ^ 32 - 1) n some (omega (arith, few)) (omega arith)

@@ -18,7 +18,8 @@ use Rattle.notation.specs.declared.clef.Clef.{Clef}
 use Rattle.notation.specs.declared.clef.Clef.TheVariants.{BassBelow, Bass, Treble, TrebleAbove}
 use Rattle.musicxml_writer.specs.Attributes.{attributes, attributes_line, changes_key, clef_text, divisions, is_none, key_change, line_text, metronome, octave_text, sign_text, tempo_line, tempo_text, time}
 use Rattle.musicxml_writer.specs.Elements.{attribute_start, closing, element, empty_with, line, opening, opening_with, some_element, text_if}
-use Rattle.xml_laws.specs.Hearing.{HeardPart, hear_tag, hear_value, hear_xml_word, xml_number}
+use Rattle.xml_laws.specs.Hearing.{HeardPart, hear_tag, hear_value, hear_xml_word}
+use Rattle.xml_laws.specs.Notes.{xml_number}
 use Rattle.xml_laws.specs.Words.{part_marks, part_values}
 use Rattle.xml_laws.proofs.Cutting.{is_plain_content, word}
 use Rattle.xml_laws.proofs.Durations.{number_read}

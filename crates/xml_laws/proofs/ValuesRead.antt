@@ -16,7 +16,7 @@ use Rattle.notation.specs.declared.note.Ratio.{Ratio}
 use Rattle.notation.specs.Notes.{Group, Note}
 use Rattle.notation_laws.specs.Written.{IsHalvedPart, IsWrittenGroup, IsWrittenNote}
 use Rattle.musicxml_writer.specs.Values.{finer, part_type, type_text}
-use Rattle.xml_laws.specs.Hearing.{ReadNote, is_of_value, kinds, xml_number}
+use Rattle.xml_laws.specs.Notes.{ReadNote, is_of_value, kinds, xml_number}
 use Rattle.xml_laws.proofs.Durations.{at_most, number_read, plain_some}
 
 -- ---- types

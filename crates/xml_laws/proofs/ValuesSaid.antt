@@ -6,7 +6,8 @@ use Rattle.std.proofs.lemmas.Bool.{false≢true}
 use Rattle.std.proofs.lemmas.Bool.Decides.{nat_tests}
 use Rattle.kern_reader.specs.Tokens.{◌>>=◌}
 use Rattle.notation_laws.proofs.Says.{heard_first}
-use Rattle.xml_laws.specs.Hearing.{add_note, chord_of, grace_chord, hear_tag, is_of_value, kinds, long_chord, says_duration}
+use Rattle.xml_laws.specs.Hearing.{add_note, hear_tag}
+use Rattle.xml_laws.specs.Notes.{chord_of, grace_chord, is_of_value, kinds, long_chord, says_duration}
 use Rattle.xml_laws.specs.Laws.{IsOfItsValue, ValuesSayTheirDurations}
 use Rattle.xml_laws.proofs.NotesRead.{if_some}
 

@@ -4,7 +4,8 @@ use Rattle.std.specs.Prelude.{codes}
 use Rattle.rhythm_base.specs.declared.span.Span.{Span}
 use Rattle.kern_reader.specs.Columns.{gcd}
 use Rattle.kern_reader.specs.Tokens.{number_of}
-use Rattle.xml_laws.specs.Hearing.{hear_tag, hear_value, hear_xml_word, kinds}
+use Rattle.xml_laws.specs.Hearing.{hear_tag, hear_value, hear_xml_word}
+use Rattle.xml_laws.specs.Notes.{kinds}
 use Rattle.xml_laws.specs.Pitches.{xml_key}
 use Rattle.xml_laws.specs.Reading.{measure_lengths, musicxml_events, text_parts}
 use Rattle.xml_laws.specs.Words.{head_marks, head_values, part_marks, part_values, xml_words}

@@ -14,7 +14,8 @@ use Rattle.kern_reader.specs.Outcome.{score_of}
 use Rattle.kern_reader.specs.Score.{KernColumns}
 use Rattle.musicxml_writer.specs.Text.{IsMusicXml}
 use Rattle.notation_laws.specs.VoicesEvents.{voices_events}
-use Rattle.xml_laws.specs.Hearing.{HeardPart, IsOfBeats, IsOfValue, ReadNote, hear_tag, kinds}
+use Rattle.xml_laws.specs.Hearing.{HeardPart, IsOfBeats, hear_tag}
+use Rattle.xml_laws.specs.Notes.{IsOfValue, ReadNote, kinds}
 use Rattle.xml_laws.specs.Reading.{measure_lengths, musicxml_events}
 
 -- a text that is read says the spans of each voice of a score, over these bars
