@@ -69,7 +69,8 @@ rest_read h quarter r bar v is number =
     let next = known h v (Some (rest_of (bar_length r bar))) in
     reads_line p next (element (codes "note") (one ++ two))
     (reads_element p (noted p blank_note) (noted p n2) next (codes "note") (one ++ two) (note_opens h v None)
-    (reads_both (noted p blank_note) (noted p n1) (noted p n2) one two (rest_tag p) (duration_read p n1 quarter (bar_length r bar) is number))
+    (reads_both (noted p blank_note) (noted p n1) (noted p n2) one two (rest_tag p)
+    (duration_read p n1 quarter (bar_length r bar) is number))
     (note_ends h v v None n2 (rest_of (bar_length r bar)) (ap (λ o. o >>= λ quarter. Some (rest_of (bar_length r bar))) is) refl))
 
 -- ---- bars
@@ -121,7 +122,8 @@ measure_closes r bar v u w c lengths right heard bare long more =
     let at = known (said_after r (at_barline v lengths) (Some bar)) u c in
     let next : ℕ → HeardPart = λ n. said_after r (at_barline w (lengths ++ n ∷ [])) (Some bar) in
     ap (λ o. (o >>= bar_ends at) >>= λ next. read_parts (Some next) (xml_words more)) heard
-    ∙ ap (λ gs. (if is_empty gs && is_of_beats (Some (16 * r)) (Some bar.num) (Some bar.den) (w.at - v.at) then Some (next (w.at - v.at)) else None)
+    ∙ ap (λ gs. (if is_empty gs && is_of_beats (Some (16 * r)) (Some bar.num) (Some bar.den) (w.at - v.at)
+    then Some (next (w.at - v.at)) else None)
     >>= λ next. read_parts (Some next) (xml_words more)) bare
     ∙ ap (λ n. (if is_of_beats (Some (16 * r)) (Some bar.num) (Some bar.den) n then Some (next n) else None)
     >>= λ next. read_parts (Some next) (xml_words more)) long
@@ -138,16 +140,19 @@ measure_closes r bar v u w c lengths right heard bare long more =
 
     full : is_of_beats (Some (16 * r)) (Some bar.num) (Some bar.den) (score_bar_parts r bar) ≡ true
     full = tested _ _
-        (turned r bar.num (64 / bar.den) bar.den ∙ ap (λ x. r * bar.num * x) (div-mul_cancel bar.den (beat_part bar.den right.signature.power))
+        (turned r bar.num (64 / bar.den) bar.den
+        ∙ ap (λ x. r * bar.num * x) (div-mul_cancel bar.den (beat_part bar.den right.signature.power))
         ∙ parted r bar.num)
 
 module _ (r : ℕ) (units : 1 ≤ r) (few : r ≤ MOST_UNITS) where
   length_number : (bar : ScoreBar) → IsScoreBar bar → xml_number (decimal (bar_length r bar)) ≡ Some (bar_length r bar)
   length_number bar right =
       let is = length_is r bar right in
-      number_read (bar_length r bar) (subst (λ n. 1 ≤ n) (sym is) (bar_some r units few bar right)) (subst (λ n. n < 2 ^ 32) (sym is) (bar_few r units few bar right))
+      number_read (bar_length r bar) (subst (λ n. 1 ≤ n) (sym is) (bar_some r units few bar right))
+      (subst (λ n. n < 2 ^ 32) (sym is) (bar_few r units few bar right))
 
-  notes_read : (bar : ScoreBar) → IsScoreBar bar → (groups : List Group) (lengths : List ℕ) (v w : HeardVoice ℕ) → All (IsWrittenGroup r) groups
+  notes_read : (bar : ScoreBar) → IsScoreBar bar → (groups : List Group) (lengths : List ℕ) (v w : HeardVoice ℕ)
+      → All (IsWrittenGroup r) groups
       → hear_bar r bar v groups ≡ Some w → IsTurned (said_after r (at_barline v lengths) (Some bar)) v None (bar_notes r bar groups) w
   unfolding bar_notes
   notes_read bar right [] lengths v w all e =
@@ -159,7 +164,8 @@ module _ (r : ℕ) (units : 1 ≤ r) (few : r ≤ MOST_UNITS) where
         heard = ap (λ n. hear ◌+◌ v (rest_stretch n)) (length_is r bar right) ∙ e;
       }
   notes_read bar right (g ∷ groups) lengths v w all e =
-      groups_turn r units few bar.sf right.key (said_after r (at_barline v lengths) (Some bar)) (16 * r) refl (omega arith) (g ∷ groups) v w all e v None refl
+      groups_turn r units few bar.sf right.key (said_after r (at_barline v lengths) (Some bar)) (16 * r) refl (omega arith)
+      (g ∷ groups) v w all e v None refl
 
   bar_read : (clef : Clef) (first : Bool) (before : Option ScoreBar) (bar : ScoreBar) (number : ℕ) (last : Bool) (groups : List Group)
       (lengths : List ℕ) (v w : HeardVoice ℕ) → IsScoreBar bar → All (IsWrittenGroup r) groups → hear_bar r bar v groups ≡ Some w
@@ -204,7 +210,8 @@ module _ (r : ℕ) (units : 1 ≤ r) (few : r ≤ MOST_UNITS) where
   pub bars_read : (clef : Clef) (first : Bool) (bars : List ScoreBar) (before : Option ScoreBar) (number : ℕ) (all : List (List Group))
       (lengths : List ℕ) (v last : HeardVoice ℕ) → All IsScoreBar bars → All (All (IsWrittenGroup r)) all → AreHeardInFull r bars v all
       → hear_bars r bars v all ≡ Some last
-      → Reads (said_after r (at_barline v lengths) before) (bars_text (record { resolution = r; clef = clef; is_first = first }) before number bars all)
+      → Reads (said_after r (at_barline v lengths) before)
+      (bars_text (record { resolution = r; clef = clef; is_first = first }) before number bars all)
       (said_after r (at_barline last (lengths ++ map (score_bar_parts r) bars)) (last_bar before bars))
   bars_read clef first [] before number [] lengths v last right written full heard more =
       let same : v ≡ last = cc in
@@ -219,10 +226,12 @@ module _ (r : ℕ) (units : 1 ≤ r) (few : r ≤ MOST_UNITS) where
       let end = last_bar (Some bar) bars in
       let text = bar_text (record { resolution = r; clef = clef; is_first = first }) before bar number (is_empty bars) groups in
       let others = bars_text (record { resolution = r; clef = clef; is_first = first }) (Some bar) (number + 1) bars all in
-      reads_both (said_after r (at_barline v lengths) before) mid (said_after r (at_barline last ((lengths ++ p ∷ []) ++ map (score_bar_parts r) bars)) end)
+      reads_both (said_after r (at_barline v lengths) before) mid
+      (said_after r (at_barline last ((lengths ++ p ∷ []) ++ map (score_bar_parts r) bars)) end)
       text others
       (bar_read clef first before bar number (is_empty bars) groups lengths v next own mine one at bare)
       (bars_read clef first bars (Some bar) (number + 1) all (lengths ++ p ∷ []) next last (All-tail IsScoreBar bar bars right)
       (All-tail (All (IsWrittenGroup r)) groups all written) full
       (sym (ap (λ o. o >>= λ next. hear_bars r bars next all) one) ∙ heard)) more
-      ∙ ap (λ ls. read_parts (Some (said_after r (at_barline last ls) end)) (xml_words more)) (append_assoc lengths (p ∷ []) (map (score_bar_parts r) bars))
+      ∙ ap (λ ls. read_parts (Some (said_after r (at_barline last ls) end)) (xml_words more))
+      (append_assoc lengths (p ∷ []) (map (score_bar_parts r) bars))

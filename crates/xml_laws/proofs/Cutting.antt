@@ -37,7 +37,8 @@ tag_kept [] more content tag h = ap (λ t. words_from more (in_tag content t)) (
 tag_kept (x ∷ xs) more content tag h =
     let (own, rest) = and_parts (not (x == 62)) (lacks 62 xs) h in
     let no_angle = not_true (x == 62) own in
-    let first : words_from (x ∷ (xs ++ more)) (in_tag content tag) ≡ words_from (xs ++ more) (in_tag content (tag ++ x ∷ [])) = rw no_angle refl in
+    let first : words_from (x ∷ (xs ++ more)) (in_tag content tag)
+    ≡ words_from (xs ++ more) (in_tag content (tag ++ x ∷ [])) = rw no_angle refl in
     first ∙ tag_kept xs more content (tag ++ x ∷ []) rest ∙ ap (λ t. words_from more (in_tag content t)) (append_assoc tag (x ∷ []) xs)
 
 abbrev pub word : List ℕ → List ℕ → XmlWord
@@ -49,7 +50,8 @@ pub element_cut : (name content more : List ℕ) → lacks 62 name ≡ true → 
 unfolding element opening closing
 element_cut name content more h k =
     let end : List ℕ = 60 ∷ 47 ∷ (name ++ 62 ∷ more) in
-    let text : ((60 ∷ (name ++ 62 ∷ [])) ++ content ++ 60 ∷ 47 ∷ (name ++ 62 ∷ [])) ++ more ≡ 60 ∷ (name ++ 62 ∷ (content ++ end)) = simp append_assoc refl in
+    let text : ((60 ∷ (name ++ 62 ∷ [])) ++ content ++ 60 ∷ 47 ∷ (name ++ 62 ∷ [])) ++ more
+    ≡ 60 ∷ (name ++ 62 ∷ (content ++ end)) = simp append_assoc refl in
     ap xml_words text ∙ tag_kept name (62 ∷ (content ++ end)) [] [] h
     ∙ ap (λ ws. word [] name ∷ ws) (content_kept content end [] k ∙ tag_kept name (62 ∷ more) content (47 ∷ []) h)
 
@@ -61,8 +63,10 @@ pub opening_cut : (name attribute value more : List ℕ) → lacks 62 name ≡ t
     → xml_words (opening_with name attribute value ++ more) ≡ word [] (tag_with name attribute value []) ∷ xml_words more
 unfolding opening_with attribute_start
 opening_cut name attribute value more h k l =
-    let text : opening_with name attribute value ++ more ≡ 60 ∷ (name ++ 32 ∷ (attribute ++ 61 ∷ 34 ∷ (value ++ 34 ∷ 62 ∷ more))) = simp append_assoc refl in
-    let tag : (((name ++ 32 ∷ []) ++ attribute) ++ 61 ∷ 34 ∷ []) ++ value ++ 34 ∷ [] ≡ tag_with name attribute value [] = simp append_assoc refl in
+    let text : opening_with name attribute value ++ more
+    ≡ 60 ∷ (name ++ 32 ∷ (attribute ++ 61 ∷ 34 ∷ (value ++ 34 ∷ 62 ∷ more))) = simp append_assoc refl in
+    let tag : (((name ++ 32 ∷ []) ++ attribute) ++ 61 ∷ 34 ∷ []) ++ value ++ 34 ∷ []
+    ≡ tag_with name attribute value [] = simp append_assoc refl in
     ap xml_words text ∙ tag_kept name (32 ∷ (attribute ++ 61 ∷ 34 ∷ (value ++ 34 ∷ 62 ∷ more))) [] [] h
     ∙ tag_kept attribute (61 ∷ 34 ∷ (value ++ 34 ∷ 62 ∷ more)) [] (name ++ 32 ∷ []) k
     ∙ ap (λ t. words_from (value ++ 34 ∷ 62 ∷ more) (in_tag [] t)) (append_assoc ((name ++ 32 ∷ []) ++ attribute) (61 ∷ []) (34 ∷ []))
@@ -73,8 +77,10 @@ pub empty_cut : (name attribute value more : List ℕ) → lacks 62 name ≡ tru
     → xml_words (empty_with name attribute value ++ more) ≡ word [] (tag_with name attribute value (47 ∷ [])) ∷ xml_words more
 unfolding empty_with attribute_start
 empty_cut name attribute value more h k l =
-    let text : empty_with name attribute value ++ more ≡ 60 ∷ (name ++ 32 ∷ (attribute ++ 61 ∷ 34 ∷ (value ++ 34 ∷ 47 ∷ 62 ∷ more))) = simp append_assoc refl in
-    let tag : (((name ++ 32 ∷ []) ++ attribute) ++ 61 ∷ 34 ∷ []) ++ value ++ 34 ∷ 47 ∷ [] ≡ tag_with name attribute value (47 ∷ []) = simp append_assoc refl in
+    let text : empty_with name attribute value ++ more
+    ≡ 60 ∷ (name ++ 32 ∷ (attribute ++ 61 ∷ 34 ∷ (value ++ 34 ∷ 47 ∷ 62 ∷ more))) = simp append_assoc refl in
+    let tag : (((name ++ 32 ∷ []) ++ attribute) ++ 61 ∷ 34 ∷ []) ++ value ++ 34 ∷ 47 ∷ []
+    ≡ tag_with name attribute value (47 ∷ []) = simp append_assoc refl in
     let part = ((name ++ 32 ∷ []) ++ attribute) ++ 61 ∷ 34 ∷ [] in
     ap xml_words text ∙ tag_kept name (32 ∷ (attribute ++ 61 ∷ 34 ∷ (value ++ 34 ∷ 47 ∷ 62 ∷ more))) [] [] h
     ∙ tag_kept attribute (61 ∷ 34 ∷ (value ++ 34 ∷ 47 ∷ 62 ∷ more)) [] (name ++ 32 ∷ []) k

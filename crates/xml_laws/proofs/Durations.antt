@@ -54,7 +54,8 @@ product_zero : (d m : ℕ) → 1 ≤ d * m → 1 ≤ d
 product_zero zero m h = let none : zero * m ≡ 0 = omega arith in absurd (omega (arith, h, none))
 product_zero (suc d) m h = omega arith
 
-module _ (r : ℕ) (units : 1 ≤ r) (few : r ≤ MOST_UNITS) (g : Group) (n : Note) (group : IsWrittenGroup r g) (is : IsWrittenNote r g.ratio n) where
+module _ (r : ℕ) (units : 1 ≤ r) (few : r ≤ MOST_UNITS) (g : Group) (n : Note) (group : IsWrittenGroup r g)
+    (is : IsWrittenNote r g.ratio n) where
   spelled : ℕ
   spelled = value_grid n.value * g.ratio.actual
 
@@ -64,12 +65,14 @@ module _ (r : ℕ) (units : 1 ≤ r) (few : r ≤ MOST_UNITS) (g : Group) (n : N
   spelled_some : 1 ≤ spelled
   unfolding spelled shown
   spelled_some = some_product (value_grid n.value) g.ratio.actual
-      (some_product (plain_grid n.value.recip) (2 ^ n.value.dots) (some_grid n.value.recip is.value.part) (pow_pos n.value.dots)) group.some_actual
+      (some_product (plain_grid n.value.recip) (2 ^ n.value.dots) (some_grid n.value.recip is.value.part)
+      (pow_pos n.value.dots)) group.some_actual
 
   shown_some : 1 ≤ shown
   unfolding spelled shown
   shown_some = some_product (parts n.value) (64 * r * g.ratio.normal)
-      (some_product (plain_parts n.value.recip) (2 * 2 ^ n.value.dots - 1) (plain_some n.value.recip) (dotted_some n.value.dots is.value.dots))
+      (some_product (plain_parts n.value.recip) (2 * 2 ^ n.value.dots - 1) (plain_some n.value.recip)
+      (dotted_some n.value.dots is.value.dots))
       (some_product (64 * r) g.ratio.normal (omega (arith, units)) group.some_normal)
 
   shown_few : shown ≤ 28 * 58982400

@@ -1,41 +1,31 @@
 -- The lines of the keys of a chord, of a grace chord, and of a rest, are read as that chord.
-use Rattle.std.proofs.Common.{◌≡◌, ℕ, ◌+◌, ◌*◌, ◌<◌, ◌≤◌, ◌==◌, ◌&&◌, ◌||◌, Bool, true, false, not, List, [], ◌∷◌, ◌++◌, Option, Some, None, refl, sym, ap, ◌∙◌, subst, arith, append_assoc, append-nil, suc}
-use Rattle.std.specs.Prelude.{ℤ, All, IfSome, codes, decimal, if◌then◌else◌, position}
+use Rattle.std.proofs.Common.{◌≡◌, ℕ, ◌<◌, ◌==◌, ◌&&◌, Bool, true, false, not, List, [], ◌∷◌, ◌++◌, Option, Some, None, refl, sym, ap, ◌∙◌, subst, arith, append_assoc, append-nil, suc}
+use Rattle.std.specs.Prelude.{ℤ, IfSome, codes, decimal, if◌then◌else◌, position}
 use Rattle.std.specs.Str.{bytes_eq}
-use Rattle.std.specs.List.{flat_map}
 use Rattle.std.specs.Option.{option_map}
-use Rattle.std.proofs.lemmas.Bool.{and_parts, false≢true}
 use Rattle.std.proofs.lemmas.Bool.Decides.{nat_tests}
-use Rattle.std.proofs.lemmas.List.Elements.{All-head, All-tail}
-use Rattle.rhythm_base.specs.declared.limits.TheConstants.{MOST_UNITS}
 use Rattle.derivation.specs.Score.{IsKeySignature}
 use Rattle.derivation.specs.WellSounded.{AreKeys}
 use Rattle.score_words.specs.Keys.{rising_keys}
 use Rattle.score_words.proofs.SetKeys.{KeysRise, keys_rise}
 use Rattle.kern_reader.specs.Tokens.{◌>>=◌, same_bool}
-use Rattle.lily_writer.specs.Hearing.{key_set}
 use Rattle.lily_laws.proofs.ElementWords.{some_key}
-use Rattle.lily_laws.proofs.KeySums.{keys_sum, keys_up}
 use Rattle.notation.specs.declared.note.Ratio.{Ratio}
 use Rattle.notation.specs.Names.{pitch_name}
-use Rattle.notation.specs.Notes.{Group, Note, is_empty}
-use Rattle.notation_laws.specs.Hearing.{HeardVoice, Stretch, hear, hear_chord, hear_grace, hear_graces, hear_rest, is_bare, is_none, is_still}
-use Rattle.notation_laws.specs.NotesHeard.{group_notes, hear_note, hear_notes, note_stretch}
-use Rattle.notation_laws.specs.Written.{IsWrittenGroup, IsWrittenNote}
-use Rattle.notation_laws.proofs.Says.{heard_first}
-use Rattle.musicxml_writer.specs.Bars.{group_text, notes_text, set}
+use Rattle.notation.specs.Notes.{Note}
+use Rattle.notation_laws.specs.Hearing.{HeardVoice}
+use Rattle.musicxml_writer.specs.Bars.{set}
 use Rattle.musicxml_writer.specs.Elements.{attribute_start, closing, element, empty_element, empty_with, opening}
-use Rattle.musicxml_writer.specs.Notes.{chord_mark, chord_text, grace_text, key_marks, key_text, keys_text, notations, note_text, rest_text, tie_ends, bracket_ends}
+use Rattle.musicxml_writer.specs.Notes.{chord_mark, chord_text, grace_text, key_marks, key_text, keys_text, notations, rest_text, tie_ends, bracket_ends}
 use Rattle.musicxml_writer.specs.Pitches.{key_pitch}
 use Rattle.musicxml_writer.specs.Values.{type_text, value_text}
 use Rattle.xml_laws.specs.Hearing.{HeardPart, add_note, hear_tag, hear_xml_word, heard_with}
-use Rattle.xml_laws.specs.Notes.{ReadChord, ReadNote, blank_note, chord_of, is_of_value, kinds, long_chord, read_stretch, with_key, xml_number}
+use Rattle.xml_laws.specs.Notes.{ReadChord, ReadNote, blank_note, chord_of, is_of_value, kinds, long_chord, with_key, xml_number}
 use Rattle.xml_laws.specs.Reading.{read_parts}
 use Rattle.xml_laws.specs.Words.{part_marks, part_values, xml_words}
-use Rattle.xml_laws.proofs.Durations.{duration_number}
 use Rattle.xml_laws.proofs.NoteParts.{duration_read, mark_read, marks_read, noted, pitch_read, pitched, rest_marks_read, ties_read}
 use Rattle.xml_laws.proofs.ValueTexts.{type_read, value_read}
-use Rattle.xml_laws.proofs.ValuesRead.{IsShown, value_fits, value_shown, valued}
+use Rattle.xml_laws.proofs.ValuesRead.{IsShown, valued}
 use Rattle.xml_laws.proofs.ReadTexts.{Reads, reads_both, reads_element, reads_line, reads_none}
 
 -- ---- tests
@@ -65,15 +55,18 @@ module _ (h : HeardPart) where
 
     further_keys : ReadsFurther → (low : ℕ) (ks : List ℕ) (w : HeardVoice ℕ) (j : ℕ) (js : List ℕ) → KeysRise low ks
         → Reads (known w (Some (chord (j ∷ js)))) (keys_text one false ks) (known w (Some (chord (j ∷ (js ++ ks)))))
-    further_keys further low [] w j js up = subst (λ ks. Reads (known w (Some (chord (j ∷ js)))) [] (known w (Some (chord (j ∷ ks))))) (sym (append-nil js))
+    further_keys further low [] w j js up = subst
+        (λ ks. Reads (known w (Some (chord (j ∷ js)))) [] (known w (Some (chord (j ∷ ks))))) (sym (append-nil js))
         (reads_none (known w (Some (chord (j ∷ js)))))
     further_keys further low (k ∷ ks) w j js (above, few, up) =
         subst (λ all. Reads (known w (Some (chord (j ∷ js)))) (one false k ++ keys_text one false ks) (known w (Some (chord (j ∷ all)))))
         (append_assoc js (k ∷ []) ks)
-        (reads_both (known w (Some (chord (j ∷ js)))) (known w (Some (chord (j ∷ (js ++ k ∷ []))))) (known w (Some (chord (j ∷ ((js ++ k ∷ []) ++ ks)))))
+        (reads_both (known w (Some (chord (j ∷ js)))) (known w (Some (chord (j ∷ (js ++ k ∷ [])))))
+        (known w (Some (chord (j ∷ ((js ++ k ∷ []) ++ ks)))))
         (one false k) (keys_text one false ks) (further w j js k few) (further_keys further (suc k) ks w j (js ++ k ∷ []) up))
 
-    pub chord_lines : ReadsFirst → ReadsFurther → (v w : HeardVoice ℕ) (c : Option ReadChord) (keys : ℕ) → AreKeys keys → heard_with v c ≡ Some w
+    pub chord_lines : ReadsFirst → ReadsFurther → (v w : HeardVoice ℕ) (c : Option ReadChord) (keys : ℕ) → AreKeys keys
+        → heard_with v c ≡ Some w
         → Reads (known v c) (chord_text one keys) (known w (Some (chord (rising_keys keys))))
     chord_lines first further v w c keys are heard =
         let (k, ks, all) = some_key keys are in
@@ -84,7 +77,8 @@ module _ (h : HeardPart) where
 
 -- ---- the lines of a key
 
-pub note_opens : (h : HeardPart) (v : HeardVoice ℕ) (c : Option ReadChord) → Reads (known h v c) (opening (codes "note")) (noted (known h v c) blank_note)
+pub note_opens : (h : HeardPart) (v : HeardVoice ℕ) (c : Option ReadChord)
+    → Reads (known h v c) (opening (codes "note")) (noted (known h v c) blank_note)
 unfolding opening hear_xml_word hear_tag part_values part_marks
 note_opens h v c more = refl
 
@@ -96,7 +90,8 @@ unfolding closing hear_xml_word hear_tag part_values part_marks
 note_ends h v w c n m is heard more =
     let at : HeardPart = noted (known h v c) (record n { further = false }) in
     ap (λ o. (o >>= λ m. add_note at false m) >>= λ next. read_parts (Some next) (xml_words more)) is
-    ∙ ap (λ o. option_map (λ v. record at { heard = v; chord = Some m; note = None }) o >>= λ next. read_parts (Some next) (xml_words more)) heard
+    ∙ ap (λ o. option_map (λ v. record at { heard = v; chord = Some m; note = None }) o
+    >>= λ next. read_parts (Some next) (xml_words more)) heard
 
 -- a further one is added to it
 further_ends : (h : HeardPart) (w : HeardVoice ℕ) (c whole : ReadChord) (n : ReadNote) (m : ReadChord) → chord_of h.divisions n ≡ Some m
@@ -120,7 +115,8 @@ module _ (h : HeardPart) (sf : Option ℤ) (key : IfSome sf IsKeySignature) wher
   slash_read p n more = refl
 
   abbrev graced_note : Bool → ℕ → ReadNote
-  graced_note lowest k = record (pitched (record blank_note { grace = true; further = not lowest }) (pitch_name sf k) k) { kind = codes "eighth" }
+  graced_note lowest k =
+      record (pitched (record blank_note { grace = true; further = not lowest }) (pitch_name sf k) k) { kind = codes "eighth" }
 
   grace_content : (ratio : Ratio) (first last : Bool) (p next : HeardPart) (q : HeardPart) (lowest : Bool) (k : ℕ) → k < 128
       → Reads p (opening (codes "note")) (noted q blank_note)
@@ -158,8 +154,10 @@ module _ (h : HeardPart) (sf : Option ℤ) (key : IfSome sf IsKeySignature) wher
 
   -- ---- chords
 
-  module _ (quarter : ℕ) (said : h.divisions ≡ Some quarter) (ratio : Ratio) (first last : Bool) (n : Note) (number : xml_number (decimal n.duration) ≡ Some n.duration) (shown : IsShown ratio n.value)
-      (fits : (m : ReadNote) → is_of_value quarter (valued m ratio n.value) n.duration (position (bytes_eq (type_text n.value.recip)) kinds) ≡ true) where
+  module _ (quarter : ℕ) (said : h.divisions ≡ Some quarter) (ratio : Ratio) (first last : Bool) (n : Note)
+      (number : xml_number (decimal n.duration) ≡ Some n.duration) (shown : IsShown ratio n.value)
+      (fits : (m : ReadNote) → is_of_value quarter (valued m ratio n.value) n.duration
+      (position (bytes_eq (type_text n.value.recip)) kinds) ≡ true) where
     abbrev pub long_of : List ℕ → ReadChord
     long_of keys = record { grace = false; keys = keys; len = n.duration; short = n.short; comes = n.comes; goes = n.goes }
 
@@ -171,7 +169,8 @@ module _ (h : HeardPart) (sf : Option ℤ) (key : IfSome sf IsKeySignature) wher
     }) ratio n.value) { short = lowest && n.short }
 
     -- the chord of one key
-    key_chord : (lowest : Bool) (k : ℕ) → chord_of h.divisions (long_note lowest k) ≡ Some (record (long_of (k ∷ [])) { short = lowest && n.short })
+    key_chord : (lowest : Bool) (k : ℕ) → chord_of h.divisions (long_note lowest k)
+        ≡ Some (record (long_of (k ∷ [])) { short = lowest && n.short })
     key_chord lowest k =
         let m = long_note lowest k in
         ap (λ o. o >>= λ quarter. long_chord quarter m (k ∷ []) n.duration) said
@@ -221,7 +220,8 @@ module _ (h : HeardPart) (sf : Option ℤ) (key : IfSome sf IsKeySignature) wher
     pub further_key : ReadsFurther h (key_text (set sf ratio first last) n) long_of
     further_key w j js k within =
         key_content w (Some (long_of (j ∷ js))) (known h w (Some (long_of (j ∷ (js ++ k ∷ []))))) false k within
-        (further_ends h w (long_of (j ∷ js)) (long_of (j ∷ (js ++ k ∷ []))) (long_note false k) (record (long_of (k ∷ [])) { short = false })
+        (further_ends h w (long_of (j ∷ js)) (long_of (j ∷ (js ++ k ∷ []))) (long_note false k)
+        (record (long_of (k ∷ [])) { short = false })
         (key_chord false k)
         (joined j js k))
 
@@ -235,8 +235,9 @@ module _ (h : HeardPart) (sf : Option ℤ) (key : IfSome sf IsKeySignature) wher
     abbrev pub rest_of : ReadChord
     rest_of = record { grace = false; keys = []; len = n.duration; short = false; comes = false; goes = false }
 
-    rest_chord : (m : ReadNote) → chord_of h.divisions (record (valued (record blank_note { keys = Some []; duration = Some n.duration }) ratio n.value) { further = false }) ≡ Some rest_of
-    rest_chord m =
+    rest_chord : chord_of h.divisions (valued (record blank_note { keys = Some []; duration = Some n.duration }) ratio n.value)
+        ≡ Some rest_of
+    rest_chord =
         let m = valued (record blank_note { keys = Some []; duration = Some n.duration }) ratio n.value in
         ap (λ o. o >>= λ quarter. long_chord quarter m [] n.duration) said ∙ ap (λ b. if b then Some rest_of else None) (fits m)
 
@@ -262,5 +263,4 @@ module _ (h : HeardPart) (sf : Option ℤ) (key : IfSome sf IsKeySignature) wher
         (reads_both begun (noted p n1) (noted p n2) one two (rest_tag p blank_note) (duration_read p n1 quarter n.duration said number))
         (value_read p n2 ratio n.value shown))
         (rest_marks_read whole s.bracket.starts s.bracket.stops))
-        (note_ends h v w c n3 rest_of (rest_chord n2) heard))
-
+        (note_ends h v w c n3 rest_of rest_chord heard))

@@ -1,24 +1,18 @@
 -- The elements of a note, each by what it adds to what was read.
-use Rattle.std.proofs.Common.{◌≡◌, ℕ, zero, suc, ◌+◌, ◌<◌, ◌≤◌, ◌&&◌, ◌==◌, Bool, true, false, not, List, [], ◌∷◌, ◌++◌, Option, Some, None, refl, ap, ◌∙◌, subst, arith}
-use Rattle.std.specs.Prelude.{ℤ, IfSome, codes, decimal, if◌then◌else◌, nat_lt}
+use Rattle.std.proofs.Common.{◌≡◌, ℕ, ◌<◌, ◌&&◌, ◌==◌, Bool, true, false, not, List, [], ◌∷◌, ◌++◌, Option, Some, None, refl, ap, ◌∙◌, arith}
+use Rattle.std.specs.Prelude.{ℤ, IfSome, codes, decimal}
 use Rattle.std.specs.Char.{is_ascii_digit}
 use Rattle.std.specs.Fmt.{signed_decimal}
-use Rattle.std.specs.List.{repeat}
 use Rattle.std.proofs.lemmas.Bool.Decides.{nat_tests}
-use Rattle.durations.specs.declared.value.Recip.{Recip}
-use Rattle.durations.specs.declared.value.Recip.TheVariants.{Of, Breve, Long}
-use Rattle.durations.specs.declared.value.Value.{Value}
 use Rattle.derivation.specs.Score.{IsKeySignature}
 use Rattle.kern_reader.specs.Tokens.{◌>>=◌}
 use Rattle.kern_laws.proofs.TextTests.{all_weaker, decimal_digits}
-use Rattle.notation.specs.declared.note.Ratio.{Ratio}
 use Rattle.notation.specs.declared.names.PitchName.{PitchName}
 use Rattle.notation.specs.Names.{pitch_name}
 use Rattle.notation.specs.Notes.{Note}
 use Rattle.musicxml_writer.specs.Elements.{attribute_start, closing, element, empty_element, empty_with, opening, some_element, text_if}
 use Rattle.musicxml_writer.specs.Notes.{bracket_ends, chord_mark, key_marks, notations, short_mark, start_tag, stop_tag, tie_ends}
 use Rattle.musicxml_writer.specs.Pitches.{alter_text, key_pitch, letter_text, pitch_text}
-use Rattle.musicxml_writer.specs.Values.{finer, part_type, ratio_text, type_text, value_text}
 use Rattle.xml_laws.specs.Hearing.{HeardPart, hear_keys, hear_tag, hear_value, hear_xml_word, within_note}
 use Rattle.xml_laws.specs.Notes.{ReadNote, xml_number}
 use Rattle.xml_laws.specs.Pitches.{xml_key}
@@ -26,7 +20,6 @@ use Rattle.xml_laws.specs.Reading.{read_parts}
 use Rattle.xml_laws.specs.Words.{part_marks, part_values, xml_words}
 use Rattle.xml_laws.proofs.Cutting.{is_content_byte, is_plain_content, word}
 use Rattle.xml_laws.proofs.Names.{alter_plain, letter_plain, name_read, octave_plain}
-use Rattle.xml_laws.proofs.ValuesRead.{IsShown, valued}
 use Rattle.xml_laws.proofs.ReadTexts.{IsValueName, Reads, reads_both, reads_element, reads_if, reads_none, reads_some, reads_value}
 
 -- ---- numbers are plain contents
@@ -80,7 +73,8 @@ alter_read : (h : HeardPart) (n : ReadNote) (text : List ℕ) → is_plain_conte
     → Reads (noted h (record n { alter = [] })) (some_element (codes "alter") text) (noted h (record n { alter = text }))
 unfolding some_element hear_xml_word hear_tag hear_value part_values part_marks
 alter_read h n [] plain = reads_none (noted h (record n { alter = [] }))
-alter_read h n (c ∷ text) plain = reads_value (noted h (record n { alter = [] })) (noted h (record n { alter = c ∷ text })) (codes "alter") (c ∷ text) alter_name plain refl
+alter_read h n (c ∷ text) plain = reads_value (noted h (record n { alter = [] })) (noted h (record n { alter = c ∷ text }))
+    (codes "alter") (c ∷ text) alter_name plain refl
 
 octave_read : (h : HeardPart) (n : ReadNote) (text : List ℕ) → is_plain_content text ≡ true
     → Reads (noted h n) (element (codes "octave") text) (noted h (record n { octave = text }))
@@ -162,7 +156,8 @@ pub ties_read : (h : HeardPart) (n : ReadNote) (written : Note)
     → Reads (noted h (record n { comes = false; goes = false })) (tie_ends (codes "tie") written)
     (noted h (record n { comes = written.comes; goes = written.goes }))
 unfolding tie_ends
-ties_read h n written = reads_both (noted h (record n { comes = false; goes = false })) (noted h (record n { comes = written.comes; goes = false }))
+ties_read h n written = reads_both (noted h (record n { comes = false; goes = false }))
+    (noted h (record n { comes = written.comes; goes = false }))
     (noted h (record n { comes = written.comes; goes = written.goes })) (text_if written.comes (stop_tag (codes "tie")))
     (text_if written.goes (start_tag (codes "tie"))) (stop_read h (record n { goes = false }) written.comes)
     (start_read h (record n { comes = written.comes }) written.goes)
@@ -218,17 +213,23 @@ marks_read h n starts stops written lowest =
     reads_some before after (codes "notations") (key_marks (record { starts = starts; stops = stops }) written lowest)
     (notations_open before)
     (reads_both before before after (tie_ends (codes "tied") written)
-    (text_if lowest (bracket_ends (record { starts = starts; stops = stops }) ++ short_mark written.short)) (tied_read before written) (go lowest))
+    (text_if lowest (bracket_ends (record { starts = starts; stops = stops }) ++ short_mark written.short))
+    (tied_read before written) (go lowest))
     (notations_close after)
   where
     go : (lowest : Bool)
-        → Reads (noted h (record n { short = false })) (text_if lowest (bracket_ends (record { starts = starts; stops = stops }) ++ short_mark written.short))
+        → Reads (noted h (record n { short = false }))
+        (text_if lowest (bracket_ends (record { starts = starts; stops = stops }) ++ short_mark written.short))
         (noted h (record n { short = lowest && written.short }))
-    go true = reads_both (noted h (record n { short = false })) (noted h (record n { short = false })) (noted h (record n { short = written.short }))
-        (bracket_ends (record { starts = starts; stops = stops })) (short_mark written.short) (bracket_read (noted h (record n { short = false })) starts stops)
+    go true = reads_both (noted h (record n { short = false })) (noted h (record n { short = false }))
+        (noted h (record n { short = written.short }))
+        (bracket_ends (record { starts = starts; stops = stops })) (short_mark written.short)
+        (bracket_read (noted h (record n { short = false })) starts stops)
         (short_read h n written.short)
     go false = reads_none (noted h (record n { short = false }))
 
-pub rest_marks_read : (h : HeardPart) (starts stops : Bool) → Reads h (notations (bracket_ends (record { starts = starts; stops = stops }))) h
-rest_marks_read h starts stops = reads_some h h (codes "notations") (bracket_ends (record { starts = starts; stops = stops })) (notations_open h)
+pub rest_marks_read : (h : HeardPart) (starts stops : Bool)
+    → Reads h (notations (bracket_ends (record { starts = starts; stops = stops }))) h
+rest_marks_read h starts stops = reads_some h h (codes "notations") (bracket_ends (record { starts = starts; stops = stops }))
+    (notations_open h)
     (bracket_read h starts stops) (notations_close h)

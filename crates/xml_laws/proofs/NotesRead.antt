@@ -1,9 +1,7 @@
 -- What is read of the lines of notes is what is heard of the notes.
-use Rattle.std.proofs.Common.{◌≡◌, ℕ, ◌+◌, ◌*◌, ◌<◌, ◌≤◌, ◌==◌, ◌&&◌, ◌||◌, Bool, true, false, not, List, [], ◌∷◌, ◌++◌, Option, Some, None, refl, sym, ap, ◌∙◌, subst, arith, append_assoc, append-nil, suc}
-use Rattle.std.specs.Prelude.{ℤ, All, IfSome, codes, decimal, if◌then◌else◌, position}
-use Rattle.std.specs.Str.{bytes_eq}
+use Rattle.std.proofs.Common.{◌≡◌, ℕ, ◌+◌, ◌*◌, ◌≤◌, ◌==◌, ◌&&◌, ◌||◌, Bool, true, false, not, List, [], ◌∷◌, ◌++◌, Option, Some, None, refl, sym, ap, ◌∙◌, arith, append_assoc, append-nil}
+use Rattle.std.specs.Prelude.{ℤ, All, IfSome, if◌then◌else◌}
 use Rattle.std.specs.List.{flat_map}
-use Rattle.std.specs.Option.{option_map}
 use Rattle.std.proofs.lemmas.Bool.{and_parts, false≢true}
 use Rattle.std.proofs.lemmas.Bool.Decides.{nat_tests}
 use Rattle.std.proofs.lemmas.List.Elements.{All-head, All-tail}
@@ -11,32 +9,23 @@ use Rattle.rhythm_base.specs.declared.limits.TheConstants.{MOST_UNITS}
 use Rattle.derivation.specs.Score.{IsKeySignature}
 use Rattle.derivation.specs.WellSounded.{AreKeys}
 use Rattle.score_words.specs.Keys.{rising_keys}
-use Rattle.score_words.proofs.SetKeys.{KeysRise, keys_rise}
-use Rattle.kern_reader.specs.Tokens.{◌>>=◌, same_bool}
+use Rattle.score_words.proofs.SetKeys.{keys_rise}
+use Rattle.kern_reader.specs.Tokens.{◌>>=◌}
 use Rattle.lily_writer.specs.Hearing.{key_set}
-use Rattle.lily_laws.proofs.ElementWords.{some_key}
 use Rattle.lily_laws.proofs.KeySums.{keys_sum, keys_up}
 use Rattle.notation.specs.declared.note.Ratio.{Ratio}
-use Rattle.notation.specs.Names.{pitch_name}
 use Rattle.notation.specs.Notes.{Group, Note, is_empty}
 use Rattle.notation_laws.specs.Hearing.{HeardVoice, Stretch, hear, hear_chord, hear_grace, hear_graces, hear_rest, is_bare, is_none, is_still}
 use Rattle.notation_laws.specs.NotesHeard.{group_notes, hear_note, hear_notes, note_stretch}
 use Rattle.notation_laws.specs.Written.{IsWrittenGroup, IsWrittenNote}
 use Rattle.notation_laws.proofs.Says.{heard_first}
 use Rattle.musicxml_writer.specs.Bars.{group_text, notes_text, set}
-use Rattle.musicxml_writer.specs.Elements.{attribute_start, closing, element, empty_element, empty_with, opening}
-use Rattle.musicxml_writer.specs.Notes.{chord_mark, chord_text, grace_text, key_marks, key_text, keys_text, notations, note_text, rest_text, tie_ends, bracket_ends}
-use Rattle.musicxml_writer.specs.Pitches.{key_pitch}
-use Rattle.musicxml_writer.specs.Values.{type_text, value_text}
-use Rattle.xml_laws.specs.Hearing.{HeardPart, add_note, hear_tag, hear_xml_word, heard_with}
-use Rattle.xml_laws.specs.Notes.{ReadChord, ReadNote, blank_note, chord_of, is_of_value, kinds, long_chord, read_stretch, with_key, xml_number}
-use Rattle.xml_laws.specs.Reading.{read_parts}
-use Rattle.xml_laws.specs.Words.{part_marks, part_values, xml_words}
+use Rattle.musicxml_writer.specs.Notes.{chord_text, grace_text, key_text, note_text, rest_text}
+use Rattle.xml_laws.specs.Hearing.{HeardPart, heard_with}
+use Rattle.xml_laws.specs.Notes.{ReadChord, read_stretch}
 use Rattle.xml_laws.proofs.Durations.{duration_number}
-use Rattle.xml_laws.proofs.NoteParts.{duration_read, mark_read, marks_read, noted, pitch_read, pitched, rest_marks_read, ties_read}
-use Rattle.xml_laws.proofs.ValueTexts.{type_read, value_read}
-use Rattle.xml_laws.proofs.ValuesRead.{IsShown, value_fits, value_shown, valued}
-use Rattle.xml_laws.proofs.ReadTexts.{Reads, reads_both, reads_element, reads_line, reads_none}
+use Rattle.xml_laws.proofs.ValuesRead.{value_fits, value_shown}
+use Rattle.xml_laws.proofs.ReadTexts.{Reads, reads_both, reads_none}
 use Rattle.xml_laws.proofs.NoteLines.{chord_lines, first_grace, first_key, further_grace, further_key, grace_of, known, long_of, rest_of, rest_read}
 
 -- ---- what is heard after a text
@@ -67,7 +56,8 @@ module _ (h : HeardPart) where
       record {
         before = second.before;
         chord = second.chord;
-        reads = reads_both (known h v c) (known h first.before first.chord) (known h second.before second.chord) xs ys first.reads second.reads;
+        reads = reads_both (known h v c) (known h first.before first.chord)
+            (known h second.before second.chord) xs ys first.reads second.reads;
         heard = second.heard;
       }
 
@@ -145,10 +135,13 @@ module _ (r : ℕ) (units : 1 ≤ r) (few : r ≤ MOST_UNITS) (sf : Option ℤ) 
         record {
           before = w;
           chord = Some (long_of h sf key quarter said g.ratio first last n number shown fits ks);
-          reads = chord_lines h (key_text (set sf g.ratio first last) n) (long_of h sf key quarter said g.ratio first last n number shown fits)
-              (first_key h sf key quarter said g.ratio first last n number shown fits) (further_key h sf key quarter said g.ratio first last n number shown fits) v w c
+          reads = chord_lines h (key_text (set sf g.ratio first last) n)
+              (long_of h sf key quarter said g.ratio first last n number shown fits)
+              (first_key h sf key quarter said g.ratio first last n number shown fits)
+              (further_key h sf key quarter said g.ratio first last n number shown fits) v w c
               n.keys are heard;
-          heard = ap (λ b. if b then hear ◌+◌ w (read_stretch (long_of h sf key quarter said g.ratio first last n number shown fits ks)) else None)
+          heard = ap (λ b. if b then hear ◌+◌ w
+              (read_stretch (long_of h sf key quarter said g.ratio first last n number shown fits ks)) else None)
               (keys_up 0 ks (keys_rise n.keys))
               ∙ ap (hear ◌+◌ w) stretch ∙ e;
         }
@@ -202,12 +195,14 @@ module _ (r : ℕ) (units : 1 ≤ r) (few : r ≤ MOST_UNITS) (sf : Option ℤ) 
         go : (graced : HeardVoice ℕ) → hear_graces w n.graces ≡ Some graced → hear ◌+◌ graced (note_stretch n) ≡ Some next
             → (b : Bool) → (n.keys == 0) ≡ b → Turns h w (if b then s else graces ++ chord) next
         go graced one rest true silent =
-            rest_turns n first last w next is silent (ap (λ v. hear ◌+◌ v (note_stretch n)) (rest_alone n w graced next silent one rest) ∙ rest)
+            rest_turns n first last w next is silent
+            (ap (λ v. hear ◌+◌ v (note_stretch n)) (rest_alone n w graced next silent one rest) ∙ rest)
         go graced one rest false sounds =
             turns_both h w graced next graces chord (graces_turn g.ratio first last n.graces w graced is.graces one)
             (chord_turns n first last graced next is (is.keys sounds) rest)
 
-    notes_turn : (first : Bool) (notes : List Note) (w next : HeardVoice ℕ) → All (IsWrittenNote r g.ratio) notes → hear_notes w notes ≡ Some next
+    notes_turn : (first : Bool) (notes : List Note) (w next : HeardVoice ℕ) → All (IsWrittenNote r g.ratio) notes
+        → hear_notes w notes ≡ Some next
         → Turns h w (notes_text sf g.ratio first notes) next
     notes_turn first [] w next all e = turns_none h w next (cc)
     notes_turn first (n ∷ notes) w next all e =

@@ -75,11 +75,13 @@ score_part_opens n = opening_passes (codes "score-part") (codes "id") (part_name
 
 score_instrument_opens : (n : ℕ) → Passes (opening_with (codes "score-instrument") (codes "id") (instrument_name n))
 unfolding head_values head_marks
-score_instrument_opens n = opening_passes (codes "score-instrument") (codes "id") (instrument_name n) refl refl (instrument_inside n) refl refl
+score_instrument_opens n = opening_passes (codes "score-instrument") (codes "id") (instrument_name n) refl refl
+    (instrument_inside n) refl refl
 
 midi_instrument_opens : (n : ℕ) → Passes (opening_with (codes "midi-instrument") (codes "id") (instrument_name n))
 unfolding head_values head_marks
-midi_instrument_opens n = opening_passes (codes "midi-instrument") (codes "id") (instrument_name n) refl refl (instrument_inside n) refl refl
+midi_instrument_opens n = opening_passes (codes "midi-instrument") (codes "id") (instrument_name n) refl refl
+    (instrument_inside n) refl refl
 
 score_part_closes : Passes (closing (codes "score-part"))
 unfolding closing head_values head_marks

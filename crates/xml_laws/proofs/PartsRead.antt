@@ -43,9 +43,14 @@ part_opens : (n : ℕ) (more : List ℕ) → read_parts None (xml_words (opening
     ≡ read_parts (Some unheard_part) (xml_words more)
 part_opens n more = ap (read_parts None) (opening_cut (codes "part") (codes "id") (part_name n) more refl refl (name_inside n))
 
-part_closes : (r : ℕ) (before : Option ScoreBar) (v : HeardVoice ℕ) (lengths more : List ℕ) (spans : List (HeardSpan ℕ)) → ended_spans v ≡ Some spans
+part_closes : (r : ℕ) (before : Option ScoreBar) (v : HeardVoice ℕ) (lengths more : List ℕ) (spans : List (HeardSpan ℕ))
+    → ended_spans v ≡ Some spans
     → read_parts (Some (said_after r (at_barline v lengths) before)) (xml_words (closing (codes "part") ++ more))
-    ≡ option_map (λ parts. record { spans = spans_of (said_after r (at_barline v lengths) before).divisions spans; lengths = lengths } ∷ parts)
+    ≡ option_map (λ parts. record {
+      spans = spans_of
+          (said_after r (at_barline v lengths) before).divisions spans;
+      lengths = lengths;
+    } ∷ parts)
     (read_parts None (xml_words more))
 unfolding closing
 part_closes r None v lengths more spans is =
@@ -64,7 +69,8 @@ module _ (r : ℕ) (units : 1 ≤ r) (few : r ≤ MOST_UNITS) (sbars : List Scor
     (signatures : HaveSignatures sbars bars) where
   -- where there is no bar nothing was heard
   spans_after : (sbars : List ScoreBar) (before : ScoreBar) (spans : List (HeardSpan ℕ)) (v : HeardVoice ℕ) (lengths : List ℕ)
-      → spans_of (said_after r (at_barline v lengths) (last_bar r units few (Some before) sbars)).divisions spans ≡ map (span_of (64 * r)) spans
+      → spans_of (said_after r (at_barline v lengths) (last_bar r units few (Some before) sbars)).divisions spans
+      ≡ map (span_of (64 * r)) spans
   spans_after [] before spans v lengths =
       let whole : 4 * (16 * r) ≡ 64 * r = omega arith in
       ap (λ n. map (span_of n) spans) whole
@@ -112,7 +118,8 @@ module _ (r : ℕ) (units : 1 ≤ r) (few : r ≤ MOST_UNITS) (sbars : List Scor
             ∙ append_assoc (opening_with (codes "part") (codes "id") (part_name number)) (codes "\n") (body ++ (closes ++ more)))
             ∙ part_opens number (codes "\n" ++ (body ++ (closes ++ more)))
             ∙ read (closes ++ more)
-            ∙ ap (λ t. read_parts (Some (said_after r (at_barline last lengths) ended)) (xml_words t)) (append_assoc (closing (codes "part")) (codes "\n") more)
+            ∙ ap (λ t. read_parts (Some (said_after r (at_barline last lengths) ended)) (xml_words t))
+            (append_assoc (closing (codes "part")) (codes "\n") more)
             ∙ part_closes r ended last lengths (codes "\n" ++ more) heard.heard end
             ∙ ap (λ spans. option_map (λ parts. record { spans = spans; lengths = lengths } ∷ parts) (read_parts None (xml_words more)))
             (spans_are sbars all last heard.heard lengths one end);

@@ -241,7 +241,8 @@ module _ (r : ℕ) (units : 1 ≤ r) (few : r ≤ MOST_UNITS) (h : HeardPart) wh
       go false same = time_read h (Some (16 * r)) (Some before.num) (Some before.den) bar right
 
   attributes_read : (clef : Clef) (first : Bool) (before : Option ScoreBar) (bar : ScoreBar) → IsScoreBar bar
-      → Reads (said_after r h before) (line (element (codes "attributes") (attributes (record { resolution = r; clef = clef; is_first = first }) before bar)))
+      → Reads (said_after r h before) (line
+      (element (codes "attributes") (attributes (record { resolution = r; clef = clef; is_first = first }) before bar)))
       (said_after r h (Some bar))
   unfolding attributes
   attributes_read clef first before bar right =
@@ -316,7 +317,8 @@ tempo_read h n =
     let three = empty_with (codes "sound") (codes "tempo") (decimal n) in
     reads_both h h h (one ++ two ++ three) (closing (codes "direction"))
     (reads_both h h h (one ++ two) three
-    (reads_both h h h one two (direction_opens h) (mark_element h (codes "direction-type") (metronome n) direction_type_mark (metronome_read h n)))
+    (reads_both h h h one two (direction_opens h)
+    (mark_element h (codes "direction-type") (metronome n) direction_type_mark (metronome_read h n)))
     (sound_read h n)) (direction_closes h)
 
 pub tempo_line_read : (h : HeardPart) (r : ℕ) (clef : Clef) (first : Bool) (before : Option ScoreBar) (bar : ScoreBar)

@@ -27,7 +27,8 @@ parts_are : (s : Score) (bars : List Bar) (voices : List (List (List Group))) (i
     → ArePartsRead s.resolution is.some_unit is.few_units s.bars bars is.bars signatures s.voices
     (parts_text s.resolution s.bars 1 s.voices voices ++ line (closing (codes "score-partwise")))
 parts_are s bars written is signatures each =
-    parts_read s.resolution is.some_unit is.few_units s.bars bars is.bars signatures 1 s.voices written (line (closing (codes "score-partwise")))
+    parts_read s.resolution is.some_unit is.few_units s.bars bars is.bars signatures 1 s.voices written
+    (line (closing (codes "score-partwise")))
     is.voices each tail_passes
 
 text_is : (s : Score) (channels : List ℕ) (written : List (List (List Group)))

@@ -1,33 +1,21 @@
 -- The elements of a value are read as it.
-use Rattle.std.proofs.Common.{◌≡◌, ℕ, zero, suc, ◌+◌, ◌<◌, ◌≤◌, ◌&&◌, ◌==◌, Bool, true, false, not, List, [], ◌∷◌, ◌++◌, Option, Some, None, refl, ap, ◌∙◌, subst, arith}
-use Rattle.std.specs.Prelude.{ℤ, IfSome, codes, decimal, if◌then◌else◌, nat_lt}
-use Rattle.std.specs.Char.{is_ascii_digit}
-use Rattle.std.specs.Fmt.{signed_decimal}
+use Rattle.std.proofs.Common.{◌≡◌, ℕ, zero, suc, ◌+◌, ◌≤◌, ◌==◌, Bool, true, false, List, [], ◌++◌, Some, refl, ap, subst, arith}
+use Rattle.std.specs.Prelude.{codes, decimal, if◌then◌else◌, nat_lt}
 use Rattle.std.specs.List.{repeat}
 use Rattle.std.proofs.lemmas.Bool.Decides.{nat_tests}
 use Rattle.durations.specs.declared.value.Recip.{Recip}
 use Rattle.durations.specs.declared.value.Recip.TheVariants.{Of, Breve, Long}
 use Rattle.durations.specs.declared.value.Value.{Value}
-use Rattle.derivation.specs.Score.{IsKeySignature}
 use Rattle.kern_reader.specs.Tokens.{◌>>=◌}
-use Rattle.kern_laws.proofs.TextTests.{all_weaker, decimal_digits}
 use Rattle.notation.specs.declared.note.Ratio.{Ratio}
-use Rattle.notation.specs.declared.names.PitchName.{PitchName}
-use Rattle.notation.specs.Names.{pitch_name}
-use Rattle.notation.specs.Notes.{Note}
-use Rattle.musicxml_writer.specs.Elements.{attribute_start, closing, element, empty_element, empty_with, opening, some_element, text_if}
-use Rattle.musicxml_writer.specs.Notes.{bracket_ends, chord_mark, key_marks, notations, short_mark, start_tag, stop_tag, tie_ends}
-use Rattle.musicxml_writer.specs.Pitches.{alter_text, key_pitch, letter_text, pitch_text}
+use Rattle.musicxml_writer.specs.Elements.{closing, element, empty_element, opening, text_if}
 use Rattle.musicxml_writer.specs.Values.{finer, part_type, ratio_text, type_text, value_text}
-use Rattle.xml_laws.specs.Hearing.{HeardPart, hear_keys, hear_tag, hear_value, hear_xml_word, within_note}
+use Rattle.xml_laws.specs.Hearing.{HeardPart, hear_tag, hear_value, hear_xml_word, within_note}
 use Rattle.xml_laws.specs.Notes.{ReadNote, xml_number}
-use Rattle.xml_laws.specs.Pitches.{xml_key}
-use Rattle.xml_laws.specs.Reading.{read_parts}
-use Rattle.xml_laws.specs.Words.{part_marks, part_values, xml_words}
-use Rattle.xml_laws.proofs.Cutting.{is_content_byte, is_plain_content, word}
-use Rattle.xml_laws.proofs.Names.{alter_plain, letter_plain, name_read, octave_plain}
+use Rattle.xml_laws.specs.Words.{part_marks, part_values}
+use Rattle.xml_laws.proofs.Cutting.{is_plain_content, word}
 use Rattle.xml_laws.proofs.ValuesRead.{IsShown, valued}
-use Rattle.xml_laws.proofs.ReadTexts.{IsValueName, Reads, reads_both, reads_element, reads_if, reads_none, reads_some, reads_value}
+use Rattle.xml_laws.proofs.ReadTexts.{IsValueName, Reads, reads_both, reads_element, reads_none, reads_value}
 use Rattle.xml_laws.proofs.NoteParts.{decimal_plain, noted}
 
 -- ---- texts
@@ -95,12 +83,14 @@ dots_read : (h : HeardPart) (n : ReadNote) (d k : ℕ)
     → Reads (noted h (record n { dots = d })) (repeat k (empty_element (codes "dot"))) (noted h (record n { dots = k + d }))
 dots_read h n d zero =
     let same : d ≡ zero + d = omega arith in
-    subst (λ m. Reads (noted h (record n { dots = d })) [] (noted h (record n { dots = m }))) same (reads_none (noted h (record n { dots = d })))
+    subst (λ m. Reads (noted h (record n { dots = d })) [] (noted h (record n { dots = m }))) same
+    (reads_none (noted h (record n { dots = d })))
 dots_read h n d (suc k) =
     let same : k + suc d ≡ suc k + d = omega arith in
     let dot = empty_element (codes "dot") in
     subst (λ m. Reads (noted h (record n { dots = d })) (dot ++ repeat k dot) (noted h (record n { dots = m }))) same
-    (reads_both (noted h (record n { dots = d })) (noted h (record n { dots = suc d })) (noted h (record n { dots = k + suc d })) dot (repeat k dot)
+    (reads_both (noted h (record n { dots = d })) (noted h (record n { dots = suc d }))
+    (noted h (record n { dots = k + suc d })) dot (repeat k dot)
     (dot_read h (record n { dots = d })) (dots_read h n (suc d) k))
 
 modification_opens : (h : HeardPart) → Reads h (opening (codes "time-modification")) h
@@ -132,7 +122,8 @@ ratio_read h n a m first second some some_normal few = go (nat_lt 1 a) refl
     go : (b : Bool) → nat_lt 1 a ≡ b
         → Reads begun (text_if b (element (codes "time-modification") (one ++ two))) whole
     go true e = reads_element begun begun whole whole (codes "time-modification") (one ++ two) (modification_opens begun)
-        (reads_both begun (noted h (record n { actual = a; normal = 1 })) whole one two (actual_read h (record n { actual = 1; normal = 1 }) a first)
+        (reads_both begun (noted h (record n { actual = a; normal = 1 })) whole one two
+        (actual_read h (record n { actual = 1; normal = 1 }) a first)
         (normal_read h (record n { actual = a; normal = 1 }) m second)) (modification_closes whole)
     go false e =
         let actual : 1 ≡ a = let low : a ≤ 1 = grind (arith, nat_tests, e) in omega (arith, low, some) in

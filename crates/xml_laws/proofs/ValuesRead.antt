@@ -120,14 +120,16 @@ ring_second len d a g = grind arith
 ring_third : (q m w : ℕ) → 4 * (q * m * w) ≡ q * (4 * m * w)
 ring_third q m w = grind arith
 
-module _ (r : ℕ) (units : 1 ≤ r) (few : r ≤ MOST_UNITS) (g : Group) (n : Note) (group : IsWrittenGroup r g) (is : IsWrittenNote r g.ratio n) where
+module _ (r : ℕ) (units : 1 ≤ r) (few : r ≤ MOST_UNITS) (g : Group) (n : Note) (group : IsWrittenGroup r g)
+    (is : IsWrittenNote r g.ratio n) where
   pub value_shown : IsShown g.ratio n.value
   value_shown =
       let kind = recip_kind n.value.recip is.value.part in
       let actual = group.few_actual in
       let below = group.few_normal in
       let most : g.ratio.actual * kind.factor ≤ 960 * 32 = at_most g.ratio.actual kind.factor 960 32 actual kind.few in
-      let least : g.ratio.actual * 1 ≤ g.ratio.actual * kind.factor = at_most g.ratio.actual 1 g.ratio.actual kind.factor (omega arith) kind.some in
+      let least : g.ratio.actual * 1 ≤ g.ratio.actual * kind.factor = at_most g.ratio.actual 1 g.ratio.actual kind.factor
+      (omega arith) kind.some in
       let one = times_one g.ratio.actual in
       let same = kind.finer_is g.ratio.actual in
       let some_a : 1 ≤ finer g.ratio.actual n.value.recip = let h = group.some_actual in omega (arith, least, one, same, h) in
@@ -151,7 +153,8 @@ module _ (r : ℕ) (units : 1 ≤ r) (few : r ≤ MOST_UNITS) (g : Group) (n : N
       let all : pp * (n.duration * (2 ^ kind.place * d * (a * kind.factor))) ≡ pp * (4 * times * (64 * r * g.ratio.normal)) =
       ring_first n.duration (2 ^ kind.place) d a kind.factor pp ∙ ap (λ x. n.duration * (d * a) * x) kind.same
       ∙ ring_second n.duration d a (plain_grid v.recip) ∙ ap (λ x. 4 * x) is.long ∙ ring_third pp times (64 * r * g.ratio.normal) in
-      let one : n.duration * (2 ^ kind.place * d * (a * kind.factor)) ≡ 4 * times * (64 * r * g.ratio.normal) = eq_of_mul-eq-mul_left pp (plain_some v.recip) _ _ all in
+      let one : n.duration * (2 ^ kind.place * d * (a * kind.factor))
+      ≡ 4 * times * (64 * r * g.ratio.normal) = eq_of_mul-eq-mul_left pp (plain_some v.recip) _ _ all in
       let same : n.duration * (2 ^ kind.place * d * finer a v.recip) ≡ 4 * times * (4 * quarter * g.ratio.normal) =
       ap (λ f. n.duration * (2 ^ kind.place * d * f)) (kind.finer_is a) ∙ one ∙ ap (λ w. 4 * times * (w * g.ratio.normal)) (sym whole) in
       ap (is_of_value quarter (valued m g.ratio v) n.duration) kind.kind ∙ tested _ _ same

@@ -12,7 +12,8 @@ use Rattle.xml_laws.specs.Words.{head_marks, head_values, part_marks, part_value
 
 -- ---- words
 
-cut : xml_words (codes "\n<step>C</step>\n<dot/>") ≡ record { content = []; tag = codes "step" } ∷ record { content = codes "C"; tag = codes "/step" }
+cut : xml_words (codes "\n<step>C</step>\n<dot/>")
+    ≡ record { content = []; tag = codes "step" } ∷ record { content = codes "C"; tag = codes "/step" }
     ∷ record { content = []; tag = codes "dot/" } ∷ []
 cut = refl
 
@@ -54,7 +55,8 @@ span from of len part keys graces short =
 abbrev head : List ℕ
 head =
     codes "<?xml version=\"1.0\" encoding=\"UTF-8\"?>\n"
-    ++ codes "<!DOCTYPE score-partwise PUBLIC \"-//Recordare//DTD MusicXML 4.0 Partwise//EN\" \"http://www.musicxml.org/dtds/partwise.dtd\">\n"
+    ++ codes "<!DOCTYPE score-partwise PUBLIC \"-//Recordare//DTD MusicXML 4.0 Partwise//EN\" "
+    ++ codes "\"http://www.musicxml.org/dtds/partwise.dtd\">\n"
     ++ codes "<score-partwise version=\"4.0\">\n"
     ++ codes "<part-list>\n"
     ++ codes "<score-part id=\"P1\"><part-name>Channel 0</part-name><score-instrument id=\"P1-I1\">"
@@ -142,105 +144,162 @@ parts =
     ++ codes "<attributes><divisions>48</divisions><time><beats>4</beats><beat-type>4</beat-type></time></attributes>\n"
     ++ codes "<note><rest measure=\"yes\"/><duration>192</duration></note>\n"
     ++ codes "</measure>\n"
+    ++ codes "<measure number=\"2\">\n"
+    ++ codes "<note><rest measure=\"yes\"/><duration>192</duration></note>\n"
+    ++ codes "</measure>\n"
+    ++ codes "<measure number=\"3\">\n"
+    ++ codes "<attributes><time><beats>3</beats><beat-type>8</beat-type></time></attributes>\n"
+    ++ codes "<note><rest measure=\"yes\"/><duration>72</duration></note>\n"
+    ++ codes "</measure>\n"
     ++ codes "</part>\n"
     ++ codes "</score-partwise>\n"
 
 reads_parts : musicxml_events (head ++ parts)
-    ≡ Some ((span 0 1 3 8 (2 ^ 60 + 2 ^ 63) [] true ∷ span 1 2 1 1 (2 ^ 60) [] false ∷ span 3 2 1 2 (2 ^ 59) ((2 ^ 62 + 2 ^ 65) ∷ []) false ∷ []) ∷ [] ∷ [])
-unfolding kinds text_parts hear_tag hear_value hear_xml_word xml_key part_values part_marks head_values head_marks number_of gcd lib.Count.ones
+    ≡ Some ((
+    span 0 1 3 8 (2 ^ 60 + 2 ^ 63) [] true ∷ span 1 2 1 1 (2 ^ 60) [] false
+    ∷ span 3 2 1 2 (2 ^ 59) ((2 ^ 62 + 2 ^ 65) ∷ []) false ∷ []) ∷ [] ∷ [])
+unfolding kinds text_parts hear_tag hear_value hear_xml_word xml_key part_values part_marks head_values head_marks number_of gcd
+    lib.Count.ones
 reads_parts = refl
 
-reads_lengths : measure_lengths (head ++ parts) ≡ Some ((192 ∷ 192 ∷ 72 ∷ []) ∷ (192 ∷ []) ∷ [])
-unfolding kinds text_parts hear_tag hear_value hear_xml_word xml_key part_values part_marks head_values head_marks number_of gcd lib.Count.ones
+reads_lengths : measure_lengths (head ++ parts) ≡ Some ((192 ∷ 192 ∷ 72 ∷ []) ∷ (192 ∷ 192 ∷ 72 ∷ []) ∷ [])
+unfolding kinds text_parts hear_tag hear_value hear_xml_word xml_key part_values part_marks head_values head_marks number_of gcd
+    lib.Count.ones
 reads_lengths = refl
 
 reads_whole : musicxml_events (measure whole_note) ≡ Some ((span 0 1 1 1 (2 ^ 60) [] false ∷ []) ∷ [])
-unfolding kinds text_parts hear_tag hear_value hear_xml_word xml_key part_values part_marks head_values head_marks number_of gcd lib.Count.ones
+unfolding kinds text_parts hear_tag hear_value hear_xml_word xml_key part_values part_marks head_values head_marks number_of gcd
+    lib.Count.ones
 reads_whole = refl
 
--- ---- of such texts nothing is read: a chord whose keys fall, whose notes differ in their duration, or in their ties, a second note that is marked
--- short, a further note of a rest
+-- ---- of such texts nothing is read: a chord whose keys fall, whose notes differ in their duration, or in their ties, a second note
+-- that is marked short, a further note of a rest
 
-falling : musicxml_events (measure (note_with [] (codes "E") (codes "256") [] (codes "whole") [] ++ note_with (codes "<chord/>") (codes "C") (codes "256") [] (codes "whole") [])) ≡ None
-unfolding kinds text_parts hear_tag hear_value hear_xml_word xml_key part_values part_marks head_values head_marks number_of gcd lib.Count.ones
+falling :
+    musicxml_events (measure (note_with [] (codes "E") (codes "256") [] (codes "whole") []
+    ++ note_with (codes "<chord/>") (codes "C") (codes "256") [] (codes "whole") [])) ≡ None
+unfolding kinds text_parts hear_tag hear_value hear_xml_word xml_key part_values part_marks head_values head_marks number_of gcd
+    lib.Count.ones
 falling = refl
 
-two_lengths : musicxml_events (measure (note_with [] (codes "C") (codes "256") [] (codes "whole") [] ++ note_with (codes "<chord/>") (codes "E") (codes "128") [] (codes "half") [])) ≡ None
-unfolding kinds text_parts hear_tag hear_value hear_xml_word xml_key part_values part_marks head_values head_marks number_of gcd lib.Count.ones
+two_lengths :
+    musicxml_events (measure (note_with [] (codes "C") (codes "256") [] (codes "whole") []
+    ++ note_with (codes "<chord/>") (codes "E") (codes "128") [] (codes "half") [])) ≡ None
+unfolding kinds text_parts hear_tag hear_value hear_xml_word xml_key part_values part_marks head_values head_marks number_of gcd
+    lib.Count.ones
 two_lengths = refl
 
-two_ties : musicxml_events (measure (note_with [] (codes "C") (codes "256") [] (codes "whole") [] ++ note_with (codes "<chord/>") (codes "E") (codes "256") start (codes "whole") [])) ≡ None
-unfolding kinds text_parts hear_tag hear_value hear_xml_word xml_key part_values part_marks head_values head_marks number_of gcd lib.Count.ones
+two_ties :
+    musicxml_events (measure (note_with [] (codes "C") (codes "256") [] (codes "whole") []
+    ++ note_with (codes "<chord/>") (codes "E") (codes "256") start (codes "whole") [])) ≡ None
+unfolding kinds text_parts hear_tag hear_value hear_xml_word xml_key part_values part_marks head_values head_marks number_of gcd
+    lib.Count.ones
 two_ties = refl
 
-second_short : musicxml_events (measure (note_with [] (codes "C") (codes "256") [] (codes "whole") [] ++ note_with (codes "<chord/>") (codes "E") (codes "256") [] (codes "whole") (codes "<notations><articulations><staccato/></articulations></notations>"))) ≡ None
-unfolding kinds text_parts hear_tag hear_value hear_xml_word xml_key part_values part_marks head_values head_marks number_of gcd lib.Count.ones
+second_short :
+    musicxml_events (measure (note_with [] (codes "C") (codes "256") [] (codes "whole") []
+    ++ note_with (codes "<chord/>") (codes "E") (codes "256") [] (codes "whole")
+    (codes "<notations><articulations><staccato/></articulations></notations>"))) ≡ None
+unfolding kinds text_parts hear_tag hear_value hear_xml_word xml_key part_values part_marks head_values head_marks number_of gcd
+    lib.Count.ones
 second_short = refl
 
-of_rest : musicxml_events (measure (codes "<note><rest/><duration>256</duration><type>whole</type></note>\n" ++ note_with (codes "<chord/>") (codes "E") (codes "256") [] (codes "whole") [])) ≡ None
-unfolding kinds text_parts hear_tag hear_value hear_xml_word xml_key part_values part_marks head_values head_marks number_of gcd lib.Count.ones
+of_rest :
+    musicxml_events (measure (codes "<note><rest/><duration>256</duration><type>whole</type></note>\n"
+    ++ note_with (codes "<chord/>") (codes "E") (codes "256") [] (codes "whole") [])) ≡ None
+unfolding kinds text_parts hear_tag hear_value hear_xml_word xml_key part_values part_marks head_values head_marks number_of gcd
+    lib.Count.ones
 of_rest = refl
 
 -- ---- nor of a tie to other keys, to a rest, to the end, from nowhere, or that is not taken up
 
-to_others : musicxml_events (measure (note_with [] (codes "C") (codes "128") start (codes "half") [] ++ note_with [] (codes "D") (codes "128") stop (codes "half") [])) ≡ None
-unfolding kinds text_parts hear_tag hear_value hear_xml_word xml_key part_values part_marks head_values head_marks number_of gcd lib.Count.ones
+to_others :
+    musicxml_events (measure (note_with [] (codes "C") (codes "128") start (codes "half") []
+    ++ note_with [] (codes "D") (codes "128") stop (codes "half") [])) ≡ None
+unfolding kinds text_parts hear_tag hear_value hear_xml_word xml_key part_values part_marks head_values head_marks number_of gcd
+    lib.Count.ones
 to_others = refl
 
-to_a_rest : musicxml_events (measure (note_with [] (codes "C") (codes "128") start (codes "half") [] ++ codes "<note><rest/><duration>128</duration><type>half</type></note>\n")) ≡ None
-unfolding kinds text_parts hear_tag hear_value hear_xml_word xml_key part_values part_marks head_values head_marks number_of gcd lib.Count.ones
+to_a_rest :
+    musicxml_events (measure (note_with [] (codes "C") (codes "128") start (codes "half") []
+    ++ codes "<note><rest/><duration>128</duration><type>half</type></note>\n")) ≡ None
+unfolding kinds text_parts hear_tag hear_value hear_xml_word xml_key part_values part_marks head_values head_marks number_of gcd
+    lib.Count.ones
 to_a_rest = refl
 
 to_the_end : musicxml_events (measure (note_with [] (codes "C") (codes "256") start (codes "whole") [])) ≡ None
-unfolding kinds text_parts hear_tag hear_value hear_xml_word xml_key part_values part_marks head_values head_marks number_of gcd lib.Count.ones
+unfolding kinds text_parts hear_tag hear_value hear_xml_word xml_key part_values part_marks head_values head_marks number_of gcd
+    lib.Count.ones
 to_the_end = refl
 
 from_nowhere : musicxml_events (measure (note_with [] (codes "C") (codes "256") stop (codes "whole") [])) ≡ None
-unfolding kinds text_parts hear_tag hear_value hear_xml_word xml_key part_values part_marks head_values head_marks number_of gcd lib.Count.ones
+unfolding kinds text_parts hear_tag hear_value hear_xml_word xml_key part_values part_marks head_values head_marks number_of gcd
+    lib.Count.ones
 from_nowhere = refl
 
-not_taken_up : musicxml_events (measure (note_with [] (codes "C") (codes "128") start (codes "half") [] ++ note_with [] (codes "C") (codes "128") [] (codes "half") [])) ≡ None
-unfolding kinds text_parts hear_tag hear_value hear_xml_word xml_key part_values part_marks head_values head_marks number_of gcd lib.Count.ones
+not_taken_up :
+    musicxml_events (measure (note_with [] (codes "C") (codes "128") start (codes "half") []
+    ++ note_with [] (codes "C") (codes "128") [] (codes "half") [])) ≡ None
+unfolding kinds text_parts hear_tag hear_value hear_xml_word xml_key part_values part_marks head_values head_marks number_of gcd
+    lib.Count.ones
 not_taken_up = refl
 
 -- ---- of a grace chord before a rest, within a tie, or at the end of a measure
 
-grace_of_rest : musicxml_events (measure (grace_note ++ codes "<note><rest/><duration>256</duration><type>whole</type></note>\n")) ≡ None
-unfolding kinds text_parts hear_tag hear_value hear_xml_word xml_key part_values part_marks head_values head_marks number_of gcd lib.Count.ones
+grace_of_rest :
+    musicxml_events (measure (grace_note
+    ++ codes "<note><rest/><duration>256</duration><type>whole</type></note>\n")) ≡ None
+unfolding kinds text_parts hear_tag hear_value hear_xml_word xml_key part_values part_marks head_values head_marks number_of gcd
+    lib.Count.ones
 grace_of_rest = refl
 
-grace_in_tie : musicxml_events (measure (note_with [] (codes "C") (codes "128") start (codes "half") [] ++ grace_note ++ note_with [] (codes "C") (codes "128") stop (codes "half") [])) ≡ None
-unfolding kinds text_parts hear_tag hear_value hear_xml_word xml_key part_values part_marks head_values head_marks number_of gcd lib.Count.ones
+grace_in_tie :
+    musicxml_events (measure (note_with [] (codes "C") (codes "128") start (codes "half") []
+    ++ grace_note
+    ++ note_with [] (codes "C") (codes "128") stop (codes "half") [])) ≡ None
+unfolding kinds text_parts hear_tag hear_value hear_xml_word xml_key part_values part_marks head_values head_marks number_of gcd
+    lib.Count.ones
 grace_in_tie = refl
 
 grace_at_end : musicxml_events (measure (whole_note ++ grace_note)) ≡ None
-unfolding kinds text_parts hear_tag hear_value hear_xml_word xml_key part_values part_marks head_values head_marks number_of gcd lib.Count.ones
+unfolding kinds text_parts hear_tag hear_value hear_xml_word xml_key part_values part_marks head_values head_marks number_of gcd
+    lib.Count.ones
 grace_at_end = refl
 
--- ---- of a measure that is too short, a value that is not the duration, a ratio that is not, a note without a pitch, and an element that is not known
+-- ---- of a measure that is too short, a value that is not the duration, a ratio that is not, a note without a pitch, and an element
+-- that is not known
 
 too_short : musicxml_events (measure (note_with [] (codes "C") (codes "128") [] (codes "half") [])) ≡ None
-unfolding kinds text_parts hear_tag hear_value hear_xml_word xml_key part_values part_marks head_values head_marks number_of gcd lib.Count.ones
+unfolding kinds text_parts hear_tag hear_value hear_xml_word xml_key part_values part_marks head_values head_marks number_of gcd
+    lib.Count.ones
 too_short = refl
 
 other_value : musicxml_events (measure (note_with [] (codes "C") (codes "256") [] (codes "half") [])) ≡ None
-unfolding kinds text_parts hear_tag hear_value hear_xml_word xml_key part_values part_marks head_values head_marks number_of gcd lib.Count.ones
+unfolding kinds text_parts hear_tag hear_value hear_xml_word xml_key part_values part_marks head_values head_marks number_of gcd
+    lib.Count.ones
 other_value = refl
 
-other_ratio : musicxml_events (measure (note_with [] (codes "C") (codes "256") [] (codes "whole") (codes "<time-modification><actual-notes>3</actual-notes><normal-notes>2</normal-notes></time-modification>"))) ≡ None
-unfolding kinds text_parts hear_tag hear_value hear_xml_word xml_key part_values part_marks head_values head_marks number_of gcd lib.Count.ones
+other_ratio :
+    musicxml_events (measure (note_with [] (codes "C") (codes "256") [] (codes "whole")
+    (codes "<time-modification><actual-notes>3</actual-notes><normal-notes>2</normal-notes></time-modification>"))) ≡ None
+unfolding kinds text_parts hear_tag hear_value hear_xml_word xml_key part_values part_marks head_values head_marks number_of gcd
+    lib.Count.ones
 other_ratio = refl
 
 no_pitch : musicxml_events (measure (codes "<note><duration>256</duration><type>whole</type></note>\n")) ≡ None
-unfolding kinds text_parts hear_tag hear_value hear_xml_word xml_key part_values part_marks head_values head_marks number_of gcd lib.Count.ones
+unfolding kinds text_parts hear_tag hear_value hear_xml_word xml_key part_values part_marks head_values head_marks number_of gcd
+    lib.Count.ones
 no_pitch = refl
 
 not_known : musicxml_events (measure (whole_note ++ codes "<backup><duration>256</duration></backup>\n")) ≡ None
-unfolding kinds text_parts hear_tag hear_value hear_xml_word xml_key part_values part_marks head_values head_marks number_of gcd lib.Count.ones
+unfolding kinds text_parts hear_tag hear_value hear_xml_word xml_key part_values part_marks head_values head_marks number_of gcd
+    lib.Count.ones
 not_known = refl
 
 -- ---- and of a text that is cut off
 
-cut_text : musicxml_events (head ++ codes "<part id=\"P1\">\n<measure number=\"1\">\n" ++ attributes ++ whole_note ++ codes "</measure>\n</part") ≡ None
-unfolding kinds text_parts hear_tag hear_value hear_xml_word xml_key part_values part_marks head_values head_marks number_of gcd lib.Count.ones
+cut_text : musicxml_events (head ++ codes "<part id=\"P1\">\n<measure number=\"1\">\n" ++ attributes ++ whole_note
+    ++ codes "</measure>\n</part") ≡ None
+unfolding kinds text_parts hear_tag hear_value hear_xml_word xml_key part_values part_marks head_values head_marks number_of gcd
+    lib.Count.ones
 cut_text = refl

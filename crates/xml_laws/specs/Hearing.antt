@@ -1,12 +1,12 @@
 -- What is known of a part after some of its words, in parts of a quarter, and how each word adds to it.
-use Rattle.std.specs.Prelude.{◌≡◌, ℕ, suc, ◌+◌, ◌-◌, ◌*◌, ◌^◌, Bool, true, false, ◌==◌, ◌&&◌, ◌||◌, not, nat_eq, if◌then◌else◌, List, [], ◌∷◌, ◌++◌, codes, drop, position, Option, Some, None}
+use Rattle.std.specs.Prelude.{◌≡◌, ℕ, suc, ◌+◌, ◌-◌, ◌*◌, Bool, true, false, ◌==◌, ◌&&◌, ◌||◌, nat_eq, if◌then◌else◌, List, [], ◌∷◌, ◌++◌, codes, drop, Option, Some, None}
 use Rattle.std.specs.List.{starts_with}
 use Rattle.std.specs.Option.{option_map}
 use Rattle.std.specs.Str.{bytes_eq}
-use Rattle.kern_reader.specs.Tokens.{◌>>=◌, number_of, same_bool}
+use Rattle.kern_reader.specs.Tokens.{◌>>=◌}
 use Rattle.lily_writer.specs.Hearing.{heard_rise, key_set}
 use Rattle.notation.specs.Notes.{is_empty}
-use Rattle.notation_laws.specs.Hearing.{HeardVoice, Stretch, hear, hear_grace, is_none, unheard}
+use Rattle.notation_laws.specs.Hearing.{HeardVoice, hear, hear_grace, is_none, unheard}
 use Rattle.xml_laws.specs.Notes.{xml_number, ReadNote, blank_note, ReadChord, read_stretch, chord_of, with_key}
 use Rattle.xml_laws.specs.Pitches.{xml_key}
 use Rattle.xml_laws.specs.Words.{XmlWord, closes_one, is_one_of, part_marks, part_values, tag_name}

@@ -1,6 +1,5 @@
 -- What is read within a note, and the chord that notes make.
-use Rattle.std.specs.Prelude.{◌≡◌, ℕ, ◌+◌, ◌-◌, ◌*◌, ◌^◌, Bool, true, false, ◌==◌, ◌&&◌, ◌||◌, not, if◌then◌else◌, List, [], ◌∷◌, ◌++◌, codes, position, Option, Some, None}
-use Rattle.std.specs.Option.{option_map}
+use Rattle.std.specs.Prelude.{◌≡◌, ℕ, ◌-◌, ◌*◌, ◌^◌, Bool, true, false, ◌==◌, ◌&&◌, ◌||◌, not, if◌then◌else◌, List, [], ◌∷◌, ◌++◌, codes, position, Option, Some, None}
 use Rattle.std.specs.Str.{bytes_eq}
 use Rattle.kern_reader.specs.Tokens.{◌>>=◌, number_of, same_bool}
 use Rattle.lily_writer.specs.Hearing.{key_set}
@@ -55,8 +54,8 @@ blank_note = record {
 -- types, each half as long as the one before it, from four whole notes on
 unfoldable pub kinds : List (List ℕ)
 kinds =
-    codes "long" ∷ codes "breve" ∷ codes "whole" ∷ codes "half" ∷ codes "quarter" ∷ codes "eighth" ∷ codes "16th" ∷ codes "32nd" ∷ codes "64th"
-    ∷ codes "128th" ∷ codes "256th" ∷ codes "512th" ∷ codes "1024th" ∷ []
+    codes "long" ∷ codes "breve" ∷ codes "whole" ∷ codes "half" ∷ codes "quarter" ∷ codes "eighth" ∷ codes "16th" ∷ codes "32nd"
+    ∷ codes "64th" ∷ codes "128th" ∷ codes "256th" ∷ codes "512th" ∷ codes "1024th" ∷ []
 
 -- a type at a place, with dots, and so many in the time of so many, is as long as this, where a quarter has so many parts
 abbrev pub IsOfValue : ℕ → ReadNote → ℕ → ℕ → Type 0

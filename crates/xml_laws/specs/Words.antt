@@ -58,16 +58,16 @@ closes_one names tag = begins_with 47 tag && is_one_of names (drop 1 tag)
 -- the elements of a part that hold a text
 unfoldable pub part_values : List (List ℕ)
 part_values =
-    codes "step" ∷ codes "alter" ∷ codes "octave" ∷ codes "duration" ∷ codes "divisions" ∷ codes "type" ∷ codes "actual-notes" ∷ codes "normal-notes"
-    ∷ codes "fifths" ∷ codes "beats" ∷ codes "beat-type" ∷ codes "sign" ∷ codes "line" ∷ codes "clef-octave-change" ∷ codes "beat-unit"
-    ∷ codes "per-minute" ∷ codes "bar-style" ∷ []
+    codes "divisions" ∷ codes "fifths" ∷ codes "beats" ∷ codes "beat-type" ∷ codes "sign" ∷ codes "line" ∷ codes "clef-octave-change"
+    ∷ codes "beat-unit" ∷ codes "per-minute" ∷ codes "step" ∷ codes "alter" ∷ codes "octave" ∷ codes "duration" ∷ codes "type"
+    ∷ codes "actual-notes" ∷ codes "normal-notes" ∷ codes "bar-style" ∷ []
 
--- those of it that say nothing of what is heard
+-- those of it that say nothing by themselves
 unfoldable pub part_marks : List (List ℕ)
 part_marks =
-    codes "pitch" ∷ codes "time-modification" ∷ codes "notations" ∷ codes "tied" ∷ codes "tuplet" ∷ codes "articulations"
-    ∷ codes "attributes" ∷ codes "key" ∷ codes "time" ∷ codes "clef" ∷ codes "direction" ∷ codes "direction-type" ∷ codes "metronome" ∷ codes "sound"
-    ∷ codes "barline" ∷ []
+    codes "attributes" ∷ codes "key" ∷ codes "time" ∷ codes "clef" ∷ codes "direction" ∷ codes "direction-type" ∷ codes "metronome"
+    ∷ codes "sound" ∷ codes "pitch" ∷ codes "time-modification" ∷ codes "notations" ∷ codes "tied" ∷ codes "tuplet"
+    ∷ codes "articulations" ∷ codes "barline" ∷ []
 
 -- the elements outside of parts that hold a text, and the others
 unfoldable pub head_values : List (List ℕ)
