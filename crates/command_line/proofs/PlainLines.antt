@@ -57,7 +57,7 @@ all_rows : (rows : List Row) → has_row (codes "no-drums") rows ≡ false → f
 all_rows rows none =
     ap (λ (rs : List Row). fold with_default rs (drums_rule ∷ rest)) (no_default rows workers_filled refl)
     ∙ ap (λ (rs : List Row). fold with_default rs rest) told
-    ∙ no_rows_more (rows ++ drums_row ∷ []) rest (refl, (refl, (refl, (refl, (refl, (refl, (refl, (refl, tt))))))))
+    ∙ no_rows_more (rows ++ drums_row ∷ []) rest (refl, (refl, (refl, (refl, (refl, (refl, (refl, (refl, (refl, tt)))))))))
   where
     workers_filled : Rule
     workers_filled = with_index 1 (filled (value_rule (codes "workers")))
@@ -111,22 +111,23 @@ nothing_told rows plain =
     (none_plain (codes "no-drums") rows (record { no_option = refl; no_words = refl }) plain).0 refl) in rw (split, hands, strum, meter, tempo, upbeat, key, drums) refl
 
 line_is : (rows : List Row) (said : List Text) (option_word : Option Text) → ArePlainRows rows → words_so_far rows ≡ said → first_of (codes "workers") rows ≡ option_word
-    → line_said (rows ++ drums_row ∷ []) ≡ option_map (λ (n : ℕ). record { workers = n; options = no_options; words = said }) (workers_of option_word)
+    → line_said (rows ++ drums_row ∷ []) ≡ option_map (λ (n : ℕ). record { workers = n; options = no_options; script = []; words = said }) (workers_of option_word)
 line_is rows said option_word plain words_are option_is =
     let words : words_given (rows ++ drums_row ∷ []) ≡ said =
     ap (λ (r : Option Row). unwrap_or (option_map (λ (r : Row). r.values) r) []) (find-more (λ r. bytes_eq r.id (codes "words")) rows drums_row refl) ∙ words_are in
     let workers : first_of (codes "workers") (rows ++ drums_row ∷ []) ≡ option_word =
     ap (option_and_then (λ (r : Row). slice_get r.values 0)) (find-more (λ r. bytes_eq r.id (codes "workers")) rows drums_row refl) ∙ option_is in
-    rw (workers, nothing_told rows plain, words) (by (workers_of option_word))
+    let script = no_word (codes "script") rows (record { no_option = refl; no_words = refl }) refl plain in
+    rw (workers, nothing_told rows plain, script, words) (by (workers_of option_word))
   where
     by : (o : Option ℕ)
-        → option_and_then {U = CommandLine} (λ (n : ℕ). Some (record { workers = n; options = no_options; words = said })) o
-        ≡ option_map {U = CommandLine} (λ (n : ℕ). record { workers = n; options = no_options; words = said }) o
+        → option_and_then {U = CommandLine} (λ (n : ℕ). Some (record { workers = n; options = no_options; script = []; words = said })) o
+        ≡ option_map {U = CommandLine} (λ (n : ℕ). record { workers = n; options = no_options; script = []; words = said }) o
     by None = refl
     by (Some n) = refl
 
 pub plain_line : (words : List Text) → is_plain words ≡ true
-    → command_line_of words ≡ option_map (λ (n : ℕ). record { workers = n; options = no_options; words = other_words words }) (workers_of (word_of_workers words))
+    → command_line_of words ≡ option_map (λ (n : ℕ). record { workers = n; options = no_options; script = []; words = other_words words }) (workers_of (word_of_workers words))
 unfolding line_matches
 plain_line words plain =
     let e = walk_ends words plain nothing [] [] tt refl refl refl refl in
@@ -202,7 +203,7 @@ no_version (b ∷ bs) e = let miss : (b == 45) ≡ false = e in rw miss refl
 -- ---- the law
 
 pub plain_words : (words : List Text) → ArePlainWords words
-    → invocation_of words ≡ option_map (λ (n : ℕ). Command (record { workers = n; options = no_options; words = other_words words })) (workers_of (word_of_workers words))
+    → invocation_of words ≡ option_map (λ (n : ℕ). Command (record { workers = n; options = no_options; script = []; words = other_words words })) (workers_of (word_of_workers words))
 plain_words words plain =
     let no_help_asked : asks is_help words ≡ false =
     none_free is_help (flags_of is_help refl no_help) (position_or_len is_dashes words) false words plain.others in
@@ -211,7 +212,7 @@ plain_words words plain =
     rw (no_help_asked, no_version_asked, plain_line words (plain_test words plain)) (by (workers_of (word_of_workers words)))
   where
     by : (o : Option ℕ)
-        → option_map Command (option_map (λ (n : ℕ). record { workers = n; options = no_options; words = other_words words }) o)
-        ≡ option_map (λ (n : ℕ). Command (record { workers = n; options = no_options; words = other_words words })) o
+        → option_map Command (option_map (λ (n : ℕ). record { workers = n; options = no_options; script = []; words = other_words words }) o)
+        ≡ option_map (λ (n : ℕ). Command (record { workers = n; options = no_options; script = []; words = other_words words })) o
     by None = refl
     by (Some n) = refl

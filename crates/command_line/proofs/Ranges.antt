@@ -9,7 +9,7 @@ use Rattle.performance_prepare.specs.Ranges.{AreInRange, IsFraction, IsKey, IsKe
 use Rattle.performance_prepare.specs.declared.options.Fraction.{Fraction}
 use Rattle.performance_prepare.specs.declared.options.Options.{Options}
 use Rattle.rhythm_base.specs.Signatures.{is_den}
-use Rattle.command_line.specs.CommandLines.{HasOptions, command_line_of, invocation_of, line_matches, line_said, words_given}
+use Rattle.command_line.specs.CommandLines.{HasOptions, command_line_of, invocation_of, line_matches, line_said, script_in, words_given}
 use Rattle.command_line.specs.Laws.{OptionsAreInRange}
 use Rattle.command_line.specs.Numbers.{after_hyphen, fraction_in, fraction_of, is_slash, key_by, key_in, keyboard_in, keyboard_of, number_in, workers_of}
 use Rattle.command_line.specs.Preparing.{AreToldInRange, IfTold, all_told, options_of, told, told_by}
@@ -157,7 +157,7 @@ pub options_ranged : (rows : List Row) (o : Options) → options_of rows ≡ Som
 options_ranged rows o e = all_ranged (told_by rows) o (told_in_range rows) e
 
 abbrev line_by : List Row → ℕ → Options → CommandLine
-line_by rows n o = record { workers = n; options = o; words = words_given rows }
+line_by rows n o = record { workers = n; options = o; script = script_in rows; words = words_given rows }
 
 abbrev line_with : List Row → ℕ → Option CommandLine
 line_with rows n = option_map (line_by rows n) (options_of rows)

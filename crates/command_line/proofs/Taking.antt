@@ -102,7 +102,7 @@ found_has P p (r ∷ rules) a each e = go (p r) e (λ later. found_has P p rules
 
 all_agree : OfEach UseAgrees built_shape.rules
 all_agree =
-    (value_use (codes "workers"), (flag_use (codes "no-drums"), (value_use (codes "split"), (value_use (codes "hands"), (value_use (codes "strum"), (value_use (codes "meter"), (value_use (codes "tempo"), (value_use (codes "upbeat"), (value_use (codes "key"), (word_use, tt))))))))))
+    (value_use (codes "workers"), (flag_use (codes "no-drums"), (value_use (codes "split"), (value_use (codes "hands"), (value_use (codes "strum"), (value_use (codes "meter"), (value_use (codes "tempo"), (value_use (codes "upbeat"), (value_use (codes "key"), (value_use (codes "script"), (word_use, tt)))))))))))
 
 -- what is pending, with any rows
 settle : (h : Held) → is_passed (settle_fault built_shape.rules false h) ≡ settle_passes built_shape.rules false h
@@ -221,7 +221,7 @@ abbrev IsDefaultTaken : Rule → Type 0
 IsDefaultTaken a = given_default_fault a a.defaults ≡ []
 
 all_taken : OfEach IsDefaultTaken built_shape.rules
-all_taken = (refl, (refl, (refl, (refl, (refl, (refl, (refl, (refl, (refl, (refl, tt))))))))))
+all_taken = (refl, (refl, (refl, (refl, (refl, (refl, (refl, (refl, (refl, (refl, (refl, tt)))))))))))
 
 default_taken : (rows : List Row) (a : Rule) → IsDefaultTaken a → default_fault rows a ≡ []
 default_taken rows a taken = go (has_row a.id rows || is_empty a.defaults)

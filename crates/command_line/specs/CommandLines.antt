@@ -1,5 +1,5 @@
 -- What the words of a command line say.
-use Rattle.std.specs.Prelude.{⊤, ℕ, ◌≤◌, if◌then◌else◌, List, [], codes, Option, Some, None, option_and_then, option_map, unwrap_or}
+use Rattle.std.specs.Prelude.{⊤, ℕ, ◌≤◌, if◌then◌else◌, List, [], ◌∷◌, codes, Option, Some, None, option_and_then, option_map, unwrap_or}
 use Rattle.clap.specs.Words.{Row, all_of, first_of, matches_of, takes}
 use Rattle.performance_prepare.specs.Ranges.{AreInRange}
 use Rattle.performance_prepare.specs.declared.options.Options.{Options}
@@ -19,10 +19,20 @@ line_matches words = if takes line_app words then Some (matches_of line_app word
 abbrev pub words_given : List Row → List (List ℕ)
 words_given rows = unwrap_or (all_of (codes "words") rows) []
 
--- the number of workers, what is told of a take, and the words of the command: none where a word of an option is out of range
+-- the word of an option as a list: no word, or one
+abbrev pub listed : Option (List ℕ) → List (List ℕ)
+listed None = []
+listed (Some word) = word ∷ []
+
+-- the name of the script file, where one is given
+abbrev pub script_in : List Row → List (List ℕ)
+script_in rows = listed (first_of (codes "script") rows)
+
+-- the number of workers, what is told of a take, the name of the script file, and the words of the command: none where a word of an option is out of
+-- range
 abbrev pub line_said : List Row → Option CommandLine
 line_said rows =
-    option_and_then (λ (n : ℕ). option_map (λ (o : Options). record { workers = n; options = o; words = words_given rows }) (options_of rows))
+    option_and_then (λ (n : ℕ). option_map (λ (o : Options). record { workers = n; options = o; script = script_in rows; words = words_given rows }) (options_of rows))
     (workers_of (first_of (codes "workers") rows))
 
 -- the same of words, none where `clap` refuses them

@@ -31,6 +31,7 @@ line_rules =
     ∷ value_rule (codes "tempo")
     ∷ value_rule (codes "upbeat")
     ∷ value_rule (codes "key")
+    ∷ value_rule (codes "script")
     ∷ words_rule
     ∷ []
 

@@ -11,7 +11,8 @@ takes_next word =
     || (bytes_eq word (codes "--hands")
     || (bytes_eq word (codes "--strum")
     || (bytes_eq word (codes "--meter")
-    || (bytes_eq word (codes "--tempo") || (bytes_eq word (codes "--upbeat") || bytes_eq word (codes "--key")))))))
+    || (bytes_eq word (codes "--tempo")
+    || (bytes_eq word (codes "--upbeat") || (bytes_eq word (codes "--key") || bytes_eq word (codes "--script"))))))))
 
 -- the word is `--`, after which no word is an option
 abbrev pub is_dashes : List ℕ → Bool

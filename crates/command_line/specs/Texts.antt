@@ -75,6 +75,7 @@ help_lines =
     ∷ codes "  --tempo Q       It was played at Q quarters a minute, 1 to 1000."
     ∷ codes "  --upbeat N/D    The first note is N/D of a whole note before a barline."
     ∷ codes "  --key SF        It has SF sharps, 0 to 7; flats are told as in --key=-3."
+    ∷ codes "  --script FILE   The edits of an edit script are made first; not for notes."
     ∷ []
     ∷ codes "Status:"
     ∷ codes "  0   done"

@@ -57,6 +57,7 @@ fn line_command<'a>(alloc: Global) -> Result<Command<'a>, AllocError>
     let command = with_arg(command, value_option(alloc, "tempo"))?;
     let command = with_arg(command, value_option(alloc, "upbeat"))?;
     let command = with_arg(command, value_option(alloc, "key"))?;
+    let command = with_arg(command, value_option(alloc, "script"))?;
     with_arg(command, positional(alloc))
 }
 

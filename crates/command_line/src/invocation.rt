@@ -14,6 +14,8 @@ pub struct CommandLine {
     pub workers: u32,
     /// What is told of a take.
     pub options: Options,
+    /// The name of the script file, where one is given: no word, or one.
+    pub script: Words,
     /// The name of the command and its arguments.
     pub words: Words,
 }

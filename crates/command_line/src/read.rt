@@ -1,8 +1,8 @@
 ghost use Rattle.clap.specs.Words.{found_of, rows_of};
-ghost use Rattle.command_line.specs.CommandLines.{HasOptions, HasWorkers, command_line_of, invocation_of, line_said, words_given};
+ghost use Rattle.command_line.specs.CommandLines.{HasOptions, HasWorkers, command_line_of, invocation_of, line_said, listed, words_given};
 ghost use Rattle.command_line.specs.declared.invocation.WordsFault.TheVariants.{Refused};
 ghost use Rattle.performance_prepare.specs.Ranges.{AreInRange};
-ghost use Rattle.std.specs.Prelude.{◌≡◌, ◌≤◌, IfErr, IfOk, None, Some, map};
+ghost use Rattle.std.specs.Prelude.{◌≡◌, ◌≤◌, IfErr, IfOk, None, Some, map, option_map};
 
 use crate::flat_command::{refusal_of, taken_matches};
 use crate::invocation::{CommandLine, Invocation, WordsFault};
@@ -47,6 +47,17 @@ fn given_words(alloc: Global, matches: &ArgMatches<'_>) -> Result<Words, AllocEr
     }
 }
 
+/// The word of an option as words: no word, or one.
+fn listed(alloc: Global, said: Option<&str>) -> Result<Words, AllocError>
+    ensures { IfOk result (λ words. words ≡ listed (option_map (λ s. s.now) said.entry)) }
+{
+    let mut words = Words::new(alloc);
+    if let Some(word) = said {
+        words.push(word)?;
+    }
+    Ok(words)
+}
+
 /// The command line that the matches say.
 fn line_in(alloc: Global, matches: &ArgMatches<'_>) -> Result<CommandLine, WordsFault>
     ensures ok { IfOk result (λ line. line_said (rows_of (found_of matches.now)) ≡ Some line) }
@@ -60,10 +71,12 @@ fn line_in(alloc: Global, matches: &ArgMatches<'_>) -> Result<CommandLine, Words
     match options_in(matches) {
         None => Err(WordsFault::Refused),
         Some(options) => {
+            let script = listed(alloc, word_of(matches, "script"))?;
             let words = given_words(alloc, matches)?;
             Ok(CommandLine {
                 workers,
                 options,
+                script,
                 words,
             })
         }

@@ -47,6 +47,7 @@ fn takes_next(word: &str) -> bool
         || word == "--tempo"
         || word == "--upbeat"
         || word == "--key"
+        || word == "--script"
 }
 
 /// Whether a word before the first `--` has the long name or the short one, other than the word of an option.

@@ -68,6 +68,7 @@ Of what was recorded, for the commands on MIDI and GRAMMAR, and for notes:
   --tempo Q       It was played at Q quarters a minute, 1 to 1000.
   --upbeat N/D    The first note is N/D of a whole note before a barline.
   --key SF        It has SF sharps, 0 to 7; flats are told as in --key=-3.
+  --script FILE   The edits of an edit script are made first; not for notes.
 
 Status:
   0   done

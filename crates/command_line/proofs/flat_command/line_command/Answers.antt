@@ -25,5 +25,6 @@ returns c =
     let tempo = more _ _ _ _ _ c.in_ok-command-7.ensures meter c.value_option-6.ensures.rule in
     let upbeat = more _ _ _ _ _ c.in_ok-command-8.ensures tempo c.value_option-7.ensures.rule in
     let key = more _ _ _ _ _ c.in_ok-command-9.ensures upbeat c.value_option-8.ensures.rule in
-    let whole = ap₂ with_rule key c.positional.ensures.rule in
-    subst (λ (a : App). IfOk c.with_arg-10.result (λ command. app_of command ≡ a)) whole c.with_arg-10.ensures
+    let script = more _ _ _ _ _ c.in_ok-command-10.ensures key c.value_option-9.ensures.rule in
+    let whole = ap₂ with_rule script c.positional.ensures.rule in
+    subst (λ (a : App). IfOk c.with_arg-11.result (λ command. app_of command ≡ a)) whole c.with_arg-11.ensures
