@@ -1,6 +1,6 @@
 -- What is asked for tells of a take only what is in range.
 use Rattle.std.proofs.Common.{◌≡◌, ℕ, Bool, true, false, List, [], ◌∷◌, Option, Some, None, refl}
-use Rattle.std.specs.Prelude.{IfSome, length, if◌then◌else◌, nat_eq, nat_le, option_and_then, option_map}
+use Rattle.std.specs.Prelude.{IfSome, length, if◌then◌else◌, nat_eq, nat_le, option_and_then, option_map, slice_get}
 use Rattle.std.specs.Cmp.Lexicographic.{pointwise}
 use Rattle.barline_fit.specs.declared.candidates.Candidates.{Candidates}
 use Rattle.barline_fit.specs.declared.candidates.TheConstants.{MOST_CANDIDATES}
@@ -13,7 +13,7 @@ use Rattle.performance_prepare.specs.Ranges.{AreInRange}
 use Rattle.performance_prepare.specs.Told.{is_told}
 use Rattle.performance_prepare.specs.declared.options.Options.{Options}
 use Rattle.rhythm_app.specs.Inputs.{Inputs}
-use Rattle.rhythm_app.specs.Asked.{Asked, Call, answer, asked_by, asked_of, at_word, calls, candidate_count, candidates_by, drill, drill_by, events, fit, command_by, fit_by, fit_of, follow, generate, generate_by, inputs_named, learn, learn_by, learn_of, notes, of_inputs, of_one, of_six, of_two, too_many_candidates, too_many_files, untold, write}
+use Rattle.rhythm_app.specs.Asked.{Asked, Call, answer, asked_by, asked_of, at_word, calls, candidate_count, candidates_by, drill, drill_by, events, fit, command_by, fit_by, fit_of, follow, generate, generate_by, inputs_named, learn, learn_by, learn_of, notes, of_inputs, of_one, of_six, of_two, too_many_candidates, too_many_files, unscripted, untold, write}
 use Rattle.rhythm_app.specs.declared.learn.TheConstants.{MOST_FILES}
 use Rattle.rhythm_app.specs.declared.request.Form.TheVariants as form
 use Rattle.rhythm_app.specs.declared.request.Talk.TheVariants as talk
@@ -60,13 +60,20 @@ map_in : {X : Type 0} (make : X → Asked) → ((x : X) → HasAskedOptions (mak
 map_in make each None = tt
 map_in make each (Some x) = each x
 
-untold_in : (o : Options) (asked : Option Asked) → HasOptionsIn asked → HasOptionsIn (untold o asked)
-untold_in o None has = tt
-untold_in o (Some a) has = go (is_told o)
+unscripted_in : (script : Option (List ℕ)) (asked : Option Asked) → HasOptionsIn asked → HasOptionsIn (unscripted script asked)
+unscripted_in None asked has = has
+unscripted_in (Some name) asked has = tt
+
+untold_in : (o : Options) (script : Option (List ℕ)) (asked : Option Asked) → HasOptionsIn asked → HasOptionsIn (untold o script asked)
+untold_in o script asked has = unscripted_in script (option_and_then (λ (a : Asked). if is_told o then None else Some a) asked) (told asked has)
   where
-    go : (b : Bool) → HasOptionsIn (if b then None else Some a)
-    go true = tt
-    go false = has
+    told : (asked : Option Asked) → HasOptionsIn asked → HasOptionsIn (option_and_then (λ (a : Asked). if is_told o then None else Some a) asked)
+    told None has = tt
+    told (Some a) has = go (is_told o)
+      where
+        go : (b : Bool) → HasOptionsIn (if b then None else Some a)
+        go true = tt
+        go false = has
 
 -- ---- the commands
 
@@ -98,20 +105,20 @@ generate_in number bars = go (number_in 0 65534 number)
     go None = tt
     go (Some n) = map_in (λ (b : ℕ). generate n b) (λ b. tt) (number_in 1 2000 bars)
 
-module _ (o : Options) (range : AreInRange o) where
+module _ (o : Options) (script : Option (List ℕ)) (range : AreInRange o) where
   abbrev IsCallIn : Call → Type 0
-  IsCallIn c = (words : List (List ℕ)) → HasOptionsIn (c.asked o words)
+  IsCallIn c = (words : List (List ℕ)) → HasOptionsIn (c.asked o script words)
 
-  inputs_in : (make : Inputs → Asked) → ((midi grammar : List ℕ) → HasAskedOptions (make (inputs_named o midi grammar)))
-      → (words : List (List ℕ)) → HasOptionsIn (of_inputs make o words)
-  inputs_in make each = two_in (λ midi grammar. Some (make (inputs_named o midi grammar))) each
+  inputs_in : (make : Inputs → Asked) → ((midi grammar : List ℕ) → HasAskedOptions (make (inputs_named o script midi grammar)))
+      → (words : List (List ℕ)) → HasOptionsIn (of_inputs make o script words)
+  inputs_in make each = two_in (λ midi grammar. Some (make (inputs_named o script midi grammar))) each
 
-  of_range : (make : Inputs → Asked) → ((i : Inputs) → AreInRange i.options → HasAskedOptions (make i)) → (words : List (List ℕ)) → HasOptionsIn (of_inputs make o words)
-  of_range make each = inputs_in make (λ midi grammar. each (inputs_named o midi grammar) range)
+  of_range : (make : Inputs → Asked) → ((i : Inputs) → AreInRange i.options → HasAskedOptions (make i)) → (words : List (List ℕ)) → HasOptionsIn (of_inputs make o script words)
+  of_range make each = inputs_in make (λ midi grammar. each (inputs_named o script midi grammar) range)
 
-  fits_in : (words : List (List ℕ)) → HasOptionsIn (of_six (fit_by o) words)
+  fits_in : (words : List (List ℕ)) → HasOptionsIn (of_six (fit_by o script) words)
   fits_in =
-      six_in (fit_by o) (λ midi grammar bar low high step. map_in (λ (c : Candidates). fit_of (inputs_named o midi grammar) c) (fit_of_in (inputs_named o midi grammar) range)
+      six_in (fit_by o script) (λ midi grammar bar low high step. map_in (λ (c : Candidates). fit_of (inputs_named o script midi grammar) c) (fit_of_in (inputs_named o script midi grammar) range)
       (candidates_by bar low high step))
 
   -- it is so of each call, one after another
@@ -121,17 +128,17 @@ module _ (o : Options) (range : AreInRange o) where
 
   each_call : AreCallsIn calls
   each_call =
-      (of_range (write form.Score) (λ i h. h), (of_range (write form.LilyPond) (λ i h. h), (of_range (write form.Page) (λ i h. h), (of_range (write form.MusicXml) (λ i h. h), (of_range (write form.Rendered) (λ i h. h), (of_range (answer talk.Editing) (λ i h. h), (of_range (answer talk.Studio) (λ i h. h), (fits_in, (of_range follow (λ i h. h), ((λ words. untold_in o (learn_by words) (learn_in words)), (one_in (λ a. Some (notes a o)) (λ a. range), ((λ words. untold_in o (of_one (λ a. Some (events a)) words) (one_in (λ a. Some (events a)) (λ a. tt) words)), ((λ words. untold_in o (of_two generate_by words) (two_in generate_by generate_in words)), ((λ words. untold_in o (of_two drill_by words) (two_in drill_by (λ number grammar. map_in (λ (n : ℕ). drill n grammar) (λ n. tt) (number_in 0 65534 number)) words)), tt))))))))))))))
+      (of_range (write form.Score) (λ i h. h), (of_range (write form.LilyPond) (λ i h. h), (of_range (write form.Page) (λ i h. h), (of_range (write form.MusicXml) (λ i h. h), (of_range (write form.Rendered) (λ i h. h), (of_range (answer talk.Editing) (λ i h. h), (of_range (answer talk.Studio) (λ i h. h), (fits_in, (of_range follow (λ i h. h), ((λ words. untold_in o script (learn_by words) (learn_in words)), ((λ words. unscripted_in script (of_one (λ a. Some (notes a o)) words) (one_in (λ a. Some (notes a o)) (λ a. range) words)), ((λ words. untold_in o script (of_one (λ a. Some (events a)) words) (one_in (λ a. Some (events a)) (λ a. tt) words)), ((λ words. untold_in o script (of_two generate_by words) (two_in generate_by generate_in words)), ((λ words. untold_in o script (of_two drill_by words) (two_in drill_by (λ number grammar. map_in (λ (n : ℕ). drill n grammar) (λ n. tt) (number_in 0 65534 number)) words)), tt))))))))))))))
 
-  at_word_in : (word : List ℕ) (more : List (List ℕ)) (cs : List Call) → AreCallsIn cs → HasOptionsIn (at_word (λ c. c.asked o more) word cs)
+  at_word_in : (word : List ℕ) (more : List (List ℕ)) (cs : List Call) → AreCallsIn cs → HasOptionsIn (at_word (λ c. c.asked o script more) word cs)
   at_word_in word more [] each = tt
   at_word_in word more (c ∷ cs) each = go (pointwise nat_eq word c.word) (at_word_in word more cs each.1)
     where
-      go : (b : Bool) → HasOptionsIn (at_word (λ c. c.asked o more) word cs) → HasOptionsIn (if b then c.asked o more else at_word (λ c. c.asked o more) word cs)
+      go : (b : Bool) → HasOptionsIn (at_word (λ c. c.asked o script more) word cs) → HasOptionsIn (if b then c.asked o script more else at_word (λ c. c.asked o script more) word cs)
       go true later = each.0 more
       go false later = later
 
-  command_in : (words : List (List ℕ)) → HasOptionsIn (command_by o words)
+  command_in : (words : List (List ℕ)) → HasOptionsIn (command_by o script words)
   command_in [] = tt
   command_in (word ∷ more) = at_word_in word more calls each_call
 
@@ -140,7 +147,7 @@ module _ (o : Options) (range : AreInRange o) where
 said_in : (said : Invocation) → HasOptions said → HasOptionsIn (asked_of said)
 said_in Help has = tt
 said_in Version has = tt
-said_in (Command line) has = command_in line.options has line.words
+said_in (Command line) has = command_in line.options (slice_get line.script 0) has line.words
 
 pub asked_in : (words : List (List ℕ)) → IfSome (asked_by words) HasAskedOptions
 unfolding asked_by

@@ -27,3 +27,5 @@ mod Playings
 mod Untold
 mod AskedOptions
 mod Outcomes
+mod ScriptFiles
+mod ScriptedEdits

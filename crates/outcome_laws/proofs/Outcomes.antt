@@ -1,14 +1,15 @@
 -- Every command line has an outcome.
-use Rattle.std.proofs.Common.{◌≡◌, ℕ, List, subst, refl, Option, Some, None, Result, Ok, Err}
+use Rattle.std.proofs.Common.{◌≡◌, ℕ, List, [], subst, refl, Option, Some, None, Result, Ok, Err}
 use Rattle.std.specs.Prelude.{IfSome}
 use Rattle.performance_prepare.specs.Ranges.{AreInRange}
 use Rattle.performance_prepare.specs.declared.options.Options.{Options}
-use Rattle.rhythm_app.proofs.OneOutcome.{in_ranges, readable, sound_inputs, well_played}
+use Rattle.rhythm_app.proofs.OneOutcome.{in_ranges, readable, sound_files, sound_inputs, well_played}
 use Rattle.rhythm_app.specs.Asked.{Asked, help, version, write, answer, fit, too_many_candidates, follow, learn, too_many_files, notes, events, generate, drill, asked_by}
 use Rattle.rhythm_app.specs.Commands.{HasOutcomeOf}
 use Rattle.rhythm_app.specs.Inputs.{Inputs, file_content}
 use Rattle.rhythm_app.specs.Learning.{IsLearning}
-use Rattle.rhythm_app.specs.Outcome.{AreFilesRead, AreInTurn, AreInputs, IsAnswering, IsDrilling, IsFitting, IsFollowing, IsListing, IsNoting, IsPieceMade, IsPieceOf, IsPlaying, IsRead, IsScoreRead, IsUnderstood, IsWriting, Ready, grammar_tests, kern_tests, midi_tests}
+use Rattle.rhythm_app.specs.Outcome.{AreFilesRead, AreInTurn, AreInputs, AreLoaded, IsAnswering, IsDrilling, IsFitting, IsFollowing, IsListing, IsNoting, IsOpening, IsPieceMade, IsPieceOf, IsPlaying, IsRead, IsScoreRead, IsScriptRead, IsScripted, IsUnderstood, IsWriting, Ready, grammar_tests, kern_tests, loaded, midi_tests, sized}
+use Rattle.rhythm_app.specs.declared.stop.Kind.TheVariants as kind
 use Rattle.rhythm_app.specs.declared.stop.Stop.{Stop}
 use Rattle.rhythm_app.specs.declared.stop.Stop.TheVariants.{TooManyCandidates, TooManyFiles, Usage}
 use Rattle.rhythm_base.specs.Grammar.{Grammar}
@@ -28,22 +29,37 @@ use Rattle.outcome_laws.proofs.Listings.{some_listing}
 use Rattle.outcome_laws.proofs.Notings.{some_noting}
 use Rattle.outcome_laws.proofs.Pieces.{some_piece}
 use Rattle.outcome_laws.proofs.Playings.{some_playing}
+use Rattle.outcome_laws.proofs.ScriptFiles.{some_opened}
 use Rattle.outcome_laws.proofs.Writings.{some_writing}
 
 -- ---- commands on inputs
 
 module _ (i : Inputs) (range : AreInRange i.options) (files : List File) (holds : HoldBytes files) where
-  some_inputs : ComesTo (AreInputs i files)
-  some_inputs =
+  some_loaded : ComesTo (AreLoaded i files)
+  some_loaded =
       let midi = file_content files i.midi in
       let grammar = file_content files i.grammar in
-      in_turn (IsRead midi) (λ f. AreInTurn (IsUnderstood grammar) (λ g. AreInTurn (IsPlaying i.options f) (λ p r. r ≡ Ok (g, p)))) (midi_tests midi, refl)
-      (λ f read. in_turn (IsUnderstood grammar) (λ g. AreInTurn (IsPlaying i.options f) (λ p r. r ≡ Ok (g, p))) (grammar_tests grammar, refl)
-      (λ g _. in_turn (IsPlaying i.options f) (λ p r. r ≡ Ok (g, p)) (some_playing i.options range f (read_in_range midi (content_bytes files i.midi holds) f read)) (λ p _. (Ok (g, p), refl))))
+      in_turn (IsRead midi)
+      (λ f. AreInTurn (IsUnderstood grammar) (λ g. AreInTurn (IsScriptRead i.script files) (λ script. AreInTurn (IsPlaying i.options f) (λ p r. r ≡ Ok (loaded g p script))))) (midi_tests midi, refl)
+      (λ f read. in_turn (IsUnderstood grammar) (λ g. AreInTurn (IsScriptRead i.script files) (λ script. AreInTurn (IsPlaying i.options f) (λ p r. r ≡ Ok (loaded g p script)))) (grammar_tests grammar, refl)
+      (λ g _. in_turn (IsScriptRead i.script files) (λ script. AreInTurn (IsPlaying i.options f) (λ p r. r ≡ Ok (loaded g p script))) (some_script i.script)
+      (λ script _. in_turn (IsPlaying i.options f) (λ p r. r ≡ Ok (loaded g p script)) (some_playing i.options range f (read_in_range midi (content_bytes files i.midi holds) f read))
+      (λ p _. (Ok (loaded g p script), refl)))))
+    where
+      some_script : (name : Option (List ℕ)) → ComesTo (IsScriptRead name files)
+      some_script None = (Ok [], refl)
+      some_script (Some name) = (sized kind.ScriptFile (file_content files name), refl)
+
+  some_inputs : ComesTo (AreInputs i files)
+  some_inputs =
+      in_turn (AreLoaded i files) (λ x. AreInTurn (IsOpening x.grammar x.performance) (IsScripted x.script)) some_loaded
+      (λ x loads. let sound = sound_files i files x loads in some_opened x.grammar x.performance x.script sound.0 sound.1)
 
   of_files : (last : Grammar → Performance → Result Ready Stop → Type 0) → ((g : Grammar) (p : Performance) → IsReadable g → IsWellFormed p → ComesTo (last g p))
       → ComesTo (AreFilesRead i files last)
-  of_files last some = in_turn (AreInputs i files) (λ x. last x.0 x.1) some_inputs (λ x are. let sound = sound_inputs i files x are in some x.0 x.1 sound.0 sound.1)
+  of_files last some =
+      in_turn (AreInputs i files) (λ o. last o.grammar o.performance) some_inputs
+      (λ o are. let sound = sound_inputs i files o are in some o.grammar o.performance sound.0 sound.1)
 
 -- ---- the others
 

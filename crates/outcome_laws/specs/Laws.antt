@@ -1,6 +1,7 @@
 -- The laws, each as one statement over the definitions.
-use Rattle.std.specs.Prelude.{◌↔◌, ◌<◌, ℕ, All, List, Result}
+use Rattle.std.specs.Prelude.{◌≡◌, ◌↔◌, ◌<◌, ◌≤◌, ℕ, All, List, length, Result, Ok}
 use Rattle.barline_fit.specs.declared.candidates.Candidates.{Candidates}
+use Rattle.edit_script.specs.Replies.{done_text}
 use Rattle.kern_reader.specs.Score.{IsKernScore, KernColumns}
 use Rattle.performance_prepare.specs.Laws.{no_options}
 use Rattle.performance_prepare.specs.Ranges.{AreInRange}
@@ -8,13 +9,17 @@ use Rattle.performance_prepare.specs.declared.options.Options.{Options}
 use Rattle.rhythm_app.specs.Commands.{HasOutcome}
 use Rattle.rhythm_app.specs.Learning.{IsLearning}
 use Rattle.rhythm_app.specs.Outcome.{IsAnswering, IsDrilling, IsFitting, IsFollowing, IsListing, IsLoading, IsNoting, IsPieceMade, IsPieceOf, IsPlaying, IsWriting, Ready}
+use Rattle.rhythm_app.specs.Scripted.{AreLinesMade, Opened}
 use Rattle.rhythm_app.specs.declared.request.Form.{Form}
 use Rattle.rhythm_app.specs.declared.request.Talk.{Talk}
 use Rattle.rhythm_app.specs.declared.stop.Stop.{Stop}
 use Rattle.rhythm_base.specs.Grammar.{Grammar}
 use Rattle.rhythm_base.specs.Performance.{IsWellFormed, Performance}
 use Rattle.rhythm_base.specs.Readable.{IsReadable}
+use Rattle.rhythm_base.specs.declared.limits.TheConstants.{LONGEST_SCRIPT_LINE}
 use Rattle.rhythm_ports.specs.Files.{File}
+use Rattle.script_laws.specs.Script.{Run}
+use Rattle.script_run.specs.Answers.{AnswersLine, Quits}
 use Rattle.smf_reader.specs.Played.{Smf}
 use Rattle.smf_reader.specs.Ranges.{IsPlayedFile}
 
@@ -72,6 +77,21 @@ abbrev pub LearningsExist : Type 0
 LearningsExist =
     (bit : ℕ) (files : List File) (midis : List (List ℕ)) (g : Grammar) → HoldBytes files → IsReadable g
     → (r : Result Ready Stop) × IsLearning bit files midis g r
+
+-- ---- the script file
+
+-- a line of no more than 4,096 bytes is answered `ok` by an editor
+abbrev pub IsAnsweredOk : Grammar → Performance → List ℕ → List ℕ → Performance → Type 0
+IsAnsweredOk g p line reply next =
+    (length line ≤ LONGEST_SCRIPT_LINE) × ((built cost : ℕ) × AnswersLine g p line reply built next × (reply ≡ done_text built cost))
+
+-- The edits of a script file are those of an edit script whose lines are all answered `ok`: where they are made, an editor answers each
+-- line so, and stands on the same performance afterwards; and where it answers each line so, they are made
+pub record ScriptFilesAreEdits : Type 0 where
+  pub answered : (o last : Opened) (lines : List (List ℕ)) → AreLinesMade 1 o lines (Ok last)
+      → (replies : List ℕ) × Run (IsAnsweredOk o.grammar) Quits o.performance lines replies last.performance
+  pub made : (o : Opened) (lines : List (List ℕ)) (replies : List ℕ) (p : Performance) → Run (IsAnsweredOk o.grammar) Quits o.performance lines replies p
+      → (last : Opened) × AreLinesMade 1 o lines (Ok last) × (last.performance ≡ p)
 
 -- ---- the run
 

@@ -1,4 +1,4 @@
-ghost use Rattle.outcome_laws.specs.Laws.{AnsweringsExist, DrillingsExist, FittingsExist, FollowingsExist, LearningsExist, ListingsExist, LoadingsExist, NotingsExist, PlayingsExist, PlayingsWithoutOptions, RunsHaveOutcomes, WritingsExist};
+ghost use Rattle.outcome_laws.specs.Laws.{AnsweringsExist, DrillingsExist, FittingsExist, FollowingsExist, LearningsExist, ListingsExist, LoadingsExist, NotingsExist, PlayingsExist, PlayingsWithoutOptions, RunsHaveOutcomes, ScriptFilesAreEdits, WritingsExist};
 
 /// A MIDI file that was read loads to a performance, or has a fault.
 pub fn loadings_exist()
@@ -53,6 +53,11 @@ pub fn followings_exist()
 /// Weights are learned from the files, whatever their bytes, by a readable grammar, or there is a stop.
 pub fn learnings_exist()
     ensures { LearningsExist }
+{}
+
+/// The edits of a script file are those of an edit script whose lines are all answered `ok`.
+pub fn script_files_are_edits()
+    ensures { ScriptFilesAreEdits }
 {}
 
 /// Every command line has an outcome, whatever its words and whatever the bytes of its files.

@@ -7,5 +7,5 @@ mod laws;
 pub use laws::{
     answerings_exist, drillings_exist, fittings_exist, followings_exist, learnings_exist,
     listings_exist, loadings_exist, notings_exist, playings_exist, playings_without_options,
-    runs_have_outcomes, writings_exist,
+    runs_have_outcomes, script_files_are_edits, writings_exist,
 };

@@ -1,5 +1,5 @@
 -- What the stages of a fit come to together.
-use Rattle.std.proofs.Common.{◌≡◌, ◌≢◌, ◌≤◌, ◌⊎◌, ◌∷◌, [], ◌∙◌, ℕ, List, Vec, ap, inl, inr, refl, sym, subst, IfErr, IfOk, OnOk, Some, Result, Ok, Err}
+use Rattle.std.proofs.Common.{◌≡◌, ◌≢◌, ◌≤◌, ◌⊎◌, ◌∷◌, [], ◌∙◌, ℕ, List, Vec, ap, inl, inr, refl, sym, subst, IfErr, IfOk, OnOk, Option, Some, Result, Ok, Err}
 use Rattle.std.specs.Option.{ForSome}
 use Rattle.barline_fit.specs.Builds.{AreReachedAt, AreWithinReach}
 use Rattle.barline_fit.specs.Candidates.{ticks_of}
@@ -9,25 +9,21 @@ use Rattle.barline_fit.specs.declared.candidates.Candidates.{Candidates}
 use Rattle.barline_fit.specs.declared.fit_fault.FitFault.{FitFault}
 use Rattle.barline_fit.specs.declared.fit_fault.FitFault.TheVariants as fitting
 use Rattle.barline_fit.specs.declared.fitted.Fitted.{Fitted}
-use Rattle.edit_session.specs.Opening.{CanOpen, cells_of}
+use Rattle.edit_session.specs.Opening.{CanOpen}
 use Rattle.edit_session.specs.Prepared.{RisesBy}
 use Rattle.edit_session.specs.Session.{Session}
-use Rattle.edit_session.specs.declared.open_fault.OpenFault.{OpenFault}
-use Rattle.edit_session.specs.declared.open_fault.OpenFault.TheVariants as opening
 use Rattle.rhythm_app.specs.Asked.{fit}
-use Rattle.rhythm_app.specs.Builds.{AreSomeFitted, HasBuilt, HasBuiltAll, HasFitted, HasPartlyFitted, HasTried, MatchBuilds, MatchFitted, OfInputs}
+use Rattle.rhythm_app.specs.Builds.{HasBuilt, HasBuiltAll, HasFitted, HasFittedOf, HasFittedOver, HasPartlyFitted, HasTried, MatchFitted, OfLoaded}
 use Rattle.rhythm_app.specs.Commands.{cells_fitted, no_cells}
 use Rattle.rhythm_app.specs.Inputs.{Inputs}
 use Rattle.rhythm_app.specs.Lent.{Lent}
-use Rattle.rhythm_app.specs.Outcome.{IsFitting, IsUnopened, fit_stop, fit_text, open_stop}
-use Rattle.rhythm_app.specs.Stages.{CountsAlone, Follows, HasInputs, HasText, IsEarly, IsOfContent, said_of}
+use Rattle.rhythm_app.specs.Outcome.{IsFitting, fit_stop, fit_text}
+use Rattle.rhythm_app.specs.Stages.{CountsUp, Follows, HasOpened, HasText, IsBuiltUnopened, IsEarly, IsOfContent, said_of}
 use Rattle.rhythm_app.specs.declared.stop.Stop.{Stop}
 use Rattle.rhythm_app.specs.declared.stop.Stop.TheVariants as stop
-use Rattle.rhythm_app.proofs.Opened.{from_mid, text_had, unread_text}
-use Rattle.rhythm_app.proofs.Sessions.{for_inputs}
-use Rattle.rhythm_base.specs.Counter.{risen}
-use Rattle.rhythm_base.specs.Grammar.{Grammar}
-use Rattle.rhythm_base.specs.Performance.{Performance}
+use Rattle.rhythm_app.proofs.Opened.{of_session, text_had, unopened_text}
+use Rattle.rhythm_base.specs.declared.edit_fault.EditFault.{EditFault}
+use Rattle.rhythm_ports.specs.Files.{File}
 
 -- ---- a session
 
@@ -42,7 +38,8 @@ IsStopAt bar tick r s = IfErr r (λ e. (e ≡ stop.Memory) ⊎ ((line : ℕ) × 
 module _ (c : Candidates) (s : Session) (can : CanOpen s.grammar s.performance) (old new : ℕ) where
   abbrev pub BuiltSo : Stop → Type 0
   BuiltSo e =
-      MatchFitted (new ≡ old) (HasTried c s.grammar s.performance old new) (HasFitted c s.grammar s.performance old new) (HasPartlyFitted c s.grammar s.performance old new) ⊥ e
+      MatchFitted ⊥ (λ line fault. ⊥) (new ≡ old) (HasTried c s.grammar s.performance old new) (HasFitted c s.grammar s.performance old new)
+      (HasPartlyFitted c s.grammar s.performance old new) ⊥ e
 
   module _ (x : Fitted) (mid : ℕ) (fitted : IsFitted s.grammar s.performance c.bar (ticks_of c) x) (tried : HasTried c s.grammar s.performance old mid) {A : Type 0} where
     pub fit_tests : (r : Result (Vec ℕ A) Stop) → IsTextAt c.bar x r s → IsStopAt c.bar x.tick r s → Follows (IsFitting c s.grammar s.performance) (said_of r)
@@ -86,140 +83,104 @@ module _ (c : Candidates) (s : Session) (can : CanOpen s.grammar s.performance) 
 
   pub unfitted_built : (fault : FitFault) → IsFitFault s.grammar s.performance c.bar (ticks_of c) fault → (fault ≢ fitting.Memory → HasTried c s.grammar s.performance old new)
       → (fault ≡ fitting.NoBar c.bar → new ≡ old) → RisesBy old new (AreWithinReach s.grammar s.performance c.bar (ticks_of c))
-      → MatchFitted (new ≡ old) (HasTried c s.grammar s.performance old new) (HasFitted c s.grammar s.performance old new) (HasPartlyFitted c s.grammar s.performance old new) ⊥ (fit_stop fault)
+      → BuiltSo (fit_stop fault)
   unfitted_built (fitting.NoBar bar) (same, none) tried unbuilt most = unbuilt (ap fitting.NoBar same)
   unfitted_built fitting.NoCandidate is tried unbuilt most = tried (λ e. cc)
   unfitted_built fitting.Memory is tried unbuilt most = inl most
 
--- ---- the opening
-
-module _ (A B C D T F : Type 0) where
-  at_fault : (fault : OpenFault) → MatchBuilds A B C (open_stop fault) → MatchFitted A T F (B ⊎ D) C (open_stop fault)
-  at_fault (opening.Cells count) h = h
-  at_fault (opening.NoStart bar num den) h = h
-  at_fault (opening.NoDerivation channel bar) h = h
-  at_fault opening.Memory h = inl h
-
-  -- the cells that were built by then
-  pub unopened_fit : (g : Grammar) (p : Performance) (s : Stop) → IsUnopened g p s ⊎ (s ≡ stop.Memory) → MatchBuilds A B C s → MatchFitted A T F (B ⊎ D) C s
-  unopened_fit g p s (inl (fault, is, other, e)) h = subst (MatchFitted A T F (B ⊎ D) C) (sym e) (at_fault fault (subst (MatchBuilds A B C) e h))
-  unopened_fit g p s (inr e) h = subst (MatchFitted A T F (B ⊎ D) C) (sym e) (inl (subst (MatchBuilds A B C) e h))
-
 -- what is known of the cells by the stop gives what follows from it
-fitted_more : {A B C D N A' B' C' D' N' : Type 0} → (A → A') → (B → B') → (C → C') → (D → D') → (N → N') → (s : Stop) → MatchFitted A B C D N s → MatchFitted A' B' C' D' N' s
-fitted_more a b c d n stop.Usage h = n h
-fitted_more a b c d n (stop.FileTooLong k m) h = n h
-fitted_more a b c d n (stop.LineTooLong m) h = n h
-fitted_more a b c d n (stop.Smf e) h = n h
-fitted_more a b c d n (stop.Grammar e) h = n h
-fitted_more a b c d n (stop.Kern e) h = n h
-fitted_more a b c d n stop.NoNotes h = n h
-fitted_more a b c d n (stop.TooManyNotes m) h = n h
-fitted_more a b c d n (stop.BadSignature m k) h = n h
-fitted_more a b c d n (stop.UnevenBar j m k) h = n h
-fitted_more a b c d n (stop.TooManyBars m) h = n h
-fitted_more a b c d n (stop.TooManyCells m) h = n h
-fitted_more a b c d n (stop.NoStart j m k) h = n h
-fitted_more a b c d n (stop.Unprepared e) h = n h
-fitted_more a b c d n (stop.NoDerivation m k) h = a h
-fitted_more a b c d n (stop.ScoreTooLong m) h = c h
-fitted_more a b c d n (stop.RenderTooLong m) h = n h
-fitted_more a b c d n (stop.InFile m s) h = n h
-fitted_more a b c d n (stop.TooManyFiles m) h = n h
-fitted_more a b c d n (stop.TooManyCandidates m) h = n h
-fitted_more a b c d n (stop.NoBarline m) h = a h
-fitted_more a b c d n stop.NoCandidate h = b h
-fitted_more a b c d n (stop.Read k) h = n h
-fitted_more a b c d n stop.Write h = tt
-fitted_more a b c d n stop.Memory h = d h
-
--- the session stands on the grammar and the performance that it was opened with
-module _ (c : Candidates) (s : Session) (g : Grammar) (p : Performance) (same_grammar : s.grammar ≡ g) (same_performance : s.performance ≡ p) where
-  pub of_inputs : (P : Grammar → Performance → Type 0) → P s.grammar s.performance → P g p
-  of_inputs P h = subst (λ (q : Performance). P g q) same_performance (subst (λ (x : Grammar). P x s.performance) same_grammar h)
-
-  pub to_session : (P : Grammar → Performance → Type 0) → P g p → P s.grammar s.performance
-  to_session P h = subst (λ (x : Grammar). P x s.performance) (sym same_grammar) (subst (λ (q : Performance). P g q) (sym same_performance) h)
-
-  pub fitted_from : {T E : Type 0} (r : Result T E) (mid start new : ℕ) → mid ≡ start → OnOk r (HasFitted c s.grammar s.performance mid new) → OnOk r (HasFitted c g p start new)
-  fitted_from (Ok x) mid start new e h = of_inputs (λ g p. HasFitted c g p start new) (subst (λ m. HasFitted c s.grammar s.performance m new) e h)
-  fitted_from (Err x) mid start new e h = tt
-
-  pub built_from : {T : Type 0} (r : Result T Stop) (old mid new : ℕ) → mid ≡ risen old (cells_of p)
-      → IfErr r (MatchFitted (new ≡ mid) (HasTried c s.grammar s.performance mid new) (HasFitted c s.grammar s.performance mid new) (HasPartlyFitted c s.grammar s.performance mid new) ⊥)
-      → IfErr r (MatchFitted (new ≡ risen old (cells_of p)) (HasTried c g p (risen old (cells_of p)) new) (HasFitted c g p (risen old (cells_of p)) new) (AreSomeFitted c g p old new) (new ≡ old))
-  built_from (Ok x) old mid new e h = tt
-  built_from (Err x) old mid new e h =
-      fitted_more (λ same. same ∙ e) (λ tried. of_inputs (λ g p. HasTried c g p (risen old (cells_of p)) new) (moved (λ m. HasTried c s.grammar s.performance m new) tried))
-      (λ fitted. of_inputs (λ g q. HasFitted c g q (risen old (cells_of p)) new) (subst (λ m. HasFitted c s.grammar s.performance m new) e fitted))
-      (λ some. inr (of_inputs (λ g q. HasPartlyFitted c g q (risen old (cells_of p)) new) (subst (λ m. HasPartlyFitted c s.grammar s.performance m new) e some)))
-      (λ none. absurd none) x h
-    where
-      moved : (P : ℕ → Type 0) → P mid → P (risen old (cells_of s.performance))
-      moved P h = subst (λ (q : Performance). P (risen old (cells_of q))) (sym same_performance) (subst P e h)
+fitted_more : (L' : Type 0) (R' : ℕ → Option EditFault → Type 0) {A B C D N A' B' C' D' N' : Type 0} → (A → A') → (B → B') → (C → C') → (D → D') → (N → N') → (s : Stop)
+    → MatchFitted ⊥ (λ line fault. ⊥) A B C D N s → MatchFitted L' R' A' B' C' D' N' s
+fitted_more L' R' a b c d n stop.Usage h = n h
+fitted_more L' R' a b c d n (stop.FileTooLong k m) h = n h
+fitted_more L' R' a b c d n (stop.LineTooLong m) h = n h
+fitted_more L' R' a b c d n (stop.Smf e) h = n h
+fitted_more L' R' a b c d n (stop.Grammar e) h = n h
+fitted_more L' R' a b c d n (stop.Kern e) h = n h
+fitted_more L' R' a b c d n stop.NoNotes h = n h
+fitted_more L' R' a b c d n (stop.TooManyNotes m) h = n h
+fitted_more L' R' a b c d n (stop.BadSignature m k) h = n h
+fitted_more L' R' a b c d n (stop.UnevenBar j m k) h = n h
+fitted_more L' R' a b c d n (stop.TooManyBars m) h = n h
+fitted_more L' R' a b c d n (stop.TooManyCells m) h = n h
+fitted_more L' R' a b c d n (stop.NoStart j m k) h = n h
+fitted_more L' R' a b c d n (stop.Unprepared e) h = n h
+fitted_more L' R' a b c d n (stop.NoDerivation m k) h = absurd h
+fitted_more L' R' a b c d n (stop.ScoreTooLong m) h = c h
+fitted_more L' R' a b c d n (stop.RenderTooLong m) h = n h
+fitted_more L' R' a b c d n (stop.InFile m s) h = n h
+fitted_more L' R' a b c d n (stop.TooManyFiles m) h = n h
+fitted_more L' R' a b c d n (stop.TooManyCandidates m) h = n h
+fitted_more L' R' a b c d n (stop.NoBarline m) h = a h
+fitted_more L' R' a b c d n stop.NoCandidate h = b h
+fitted_more L' R' a b c d n (stop.ScriptLine row why) h = absurd h
+fitted_more L' R' a b c d n (stop.Read k) h = n h
+fitted_more L' R' a b c d n stop.Write h = tt
+fitted_more L' R' a b c d n stop.Memory h = d h
 
 -- ---- the files
 
 -- nothing is built yet
-early_fitted : (A B C D : Type 0) (old : ℕ) (s : Stop) → IsEarly s → MatchFitted A B C ((old ≡ old) ⊎ D) (old ≡ old) s
-early_fitted A B C D old stop.Usage early = absurd early
-early_fitted A B C D old (stop.FileTooLong k n) early = refl
-early_fitted A B C D old (stop.LineTooLong n) early = absurd early
-early_fitted A B C D old (stop.Smf e) early = refl
-early_fitted A B C D old (stop.Grammar e) early = refl
-early_fitted A B C D old (stop.Kern e) early = refl
-early_fitted A B C D old stop.NoNotes early = refl
-early_fitted A B C D old (stop.TooManyNotes n) early = refl
-early_fitted A B C D old (stop.BadSignature m n) early = refl
-early_fitted A B C D old (stop.UnevenBar l m n) early = refl
-early_fitted A B C D old (stop.TooManyBars n) early = refl
-early_fitted A B C D old (stop.TooManyCells n) early = refl
-early_fitted A B C D old (stop.NoStart l m n) early = refl
-early_fitted A B C D old (stop.Unprepared e) early = refl
-early_fitted A B C D old (stop.NoDerivation m n) early = absurd early
-early_fitted A B C D old (stop.ScoreTooLong n) early = absurd early
-early_fitted A B C D old (stop.RenderTooLong n) early = absurd early
-early_fitted A B C D old (stop.InFile m s) early = absurd early
-early_fitted A B C D old (stop.TooManyFiles n) early = absurd early
-early_fitted A B C D old (stop.TooManyCandidates n) early = absurd early
-early_fitted A B C D old (stop.NoBarline n) early = absurd early
-early_fitted A B C D old stop.NoCandidate early = absurd early
-early_fitted A B C D old (stop.Read k) early = refl
-early_fitted A B C D old stop.Write early = absurd early
-early_fitted A B C D old stop.Memory early = inl refl
+early_fitted : (L : Type 0) (R : ℕ → Option EditFault → Type 0) (A B C D : Type 0) (old new : ℕ) → new ≡ old → (s : Stop) → IsEarly s → MatchFitted L R A B C ((new ≡ old) ⊎ D) (new ≡ old) s
+early_fitted L R A B C D old new same stop.Usage early = absurd early
+early_fitted L R A B C D old new same (stop.FileTooLong k n) early = same
+early_fitted L R A B C D old new same (stop.LineTooLong n) early = absurd early
+early_fitted L R A B C D old new same (stop.Smf e) early = same
+early_fitted L R A B C D old new same (stop.Grammar e) early = same
+early_fitted L R A B C D old new same (stop.Kern e) early = same
+early_fitted L R A B C D old new same stop.NoNotes early = same
+early_fitted L R A B C D old new same (stop.TooManyNotes n) early = same
+early_fitted L R A B C D old new same (stop.BadSignature m n) early = same
+early_fitted L R A B C D old new same (stop.UnevenBar l m n) early = same
+early_fitted L R A B C D old new same (stop.TooManyBars n) early = same
+early_fitted L R A B C D old new same (stop.TooManyCells n) early = same
+early_fitted L R A B C D old new same (stop.NoStart l m n) early = same
+early_fitted L R A B C D old new same (stop.Unprepared e) early = same
+early_fitted L R A B C D old new same (stop.NoDerivation m n) early = absurd early
+early_fitted L R A B C D old new same (stop.ScoreTooLong n) early = absurd early
+early_fitted L R A B C D old new same (stop.RenderTooLong n) early = absurd early
+early_fitted L R A B C D old new same (stop.InFile m s) early = absurd early
+early_fitted L R A B C D old new same (stop.TooManyFiles n) early = absurd early
+early_fitted L R A B C D old new same (stop.TooManyCandidates n) early = absurd early
+early_fitted L R A B C D old new same (stop.NoBarline n) early = absurd early
+early_fitted L R A B C D old new same stop.NoCandidate early = absurd early
+early_fitted L R A B C D old new same (stop.ScriptLine row why) early = absurd early
+early_fitted L R A B C D old new same (stop.Read k) early = same
+early_fitted L R A B C D old new same stop.Write early = absurd early
+early_fitted L R A B C D old new same stop.Memory early = inl same
+
+-- no session is had
+unopened_fit : (i : Inputs) (c : Candidates) (fs : Option (List File)) (old new : ℕ) (s : Stop) → IsBuiltUnopened (OfLoaded i fs) old new s → HasFittedOf i fs c old new s
+unopened_fit i c fs old new s (inl (early, same)) = early_fitted _ _ _ _ _ _ old new same s early
+unopened_fit i c fs old new s (inr (inl (channel, bar, e, h))) = subst (HasFittedOf i fs c old new) (sym e) h
+unopened_fit i c fs old new s (inr (inr (inl (line, fault, e, h)))) = subst (HasFittedOf i fs c old new) (sym e) h
+unopened_fit i c fs old new s (inr (inr (inr (e, h)))) = subst (HasFittedOf i fs c old new) (sym e) (inr (inl h))
 
 some_cells : (i : Inputs) (c : Candidates) → cells_fitted i c ≢ no_cells
 some_cells i c e = cc
 
 module _ {S O E : Type 0} (i : Inputs) (c : Candidates) (old mid : Lent S O E) where
-  -- the inputs are not had
-  pub unread_fit : {A : Type 0} (s : Stop) → HasInputs i old mid (Err s) → HasText {A = A} (Some (fit i c)) old mid (Err s)
+  -- no session is had
+  pub unread_fit : {A : Type 0} (s : Stop) → HasOpened i old mid (Err s) → HasText {A = A} (Some (fit i c)) old mid (Err s)
   unread_fit s had =
-      unread_text (fit i c) i (IsFitting c) refl (λ files r h. h) (some_cells i c) old mid s had (early_fitted _ _ _ _ old.built s had.early)
+      unopened_text (fit i c) i (IsFitting c) refl (λ files r h. h) (some_cells i c) old mid s had (unopened_fit i c old.files old.built mid.built s had.built)
 
-  module _ (g : Grammar) (p : Performance) (had : HasInputs i old mid (Ok (g, p))) where
-    fit_inputs : (P : ℕ → Grammar → Performance → Type 0) → P mid.built g p → OfInputs i old.files (P old.built)
-    fit_inputs P h = for_inputs i old.files g p had.tests (P old.built) (from_mid old mid had.reads (λ n. P n g p) h)
+  module _ (new : Lent S O E) (s : Session) (had : HasOpened i old mid (Ok s)) where
+    all_fitted : {A : Type 0} (r : Result (Vec ℕ A) Stop) → OnOk r (HasFitted c s.grammar s.performance mid.built new.built)
+        → IfOk r (λ _. ForSome old.files (λ files. HasBuiltAll (cells_fitted i c) files old.built new.built))
+    all_fitted (Ok v) h = of_session i old mid s had (λ n g p. HasFitted c g p n new.built) h
+    all_fitted (Err e) h = tt
 
-    all_fitted : {A : Type 0} (new : ℕ) (r : Result (Vec ℕ A) Stop) → OnOk r (HasFitted c g p (risen mid.built (cells_of p)) new)
-        → IfOk r (λ _. ForSome old.files (λ files. HasBuiltAll (cells_fitted i c) files old.built new))
-    all_fitted new (Ok v) h = fit_inputs (λ n g p. HasFitted c g p (risen n (cells_of p)) new) h
-    all_fitted new (Err s) h = tt
-
-    fit_cells : {A : Type 0} (new : ℕ) (r : Result (Vec ℕ A) Stop)
-        → IfErr r (MatchFitted (new ≡ risen mid.built (cells_of p)) (HasTried c g p (risen mid.built (cells_of p)) new) (HasFitted c g p (risen mid.built (cells_of p)) new)
-        (AreSomeFitted c g p mid.built new) (new ≡ mid.built)) → IfErr r (HasBuilt (cells_fitted i c) old.files old.built new)
-    fit_cells new (Ok v) h = tt
-    fit_cells new (Err s) h =
-        fitted_more (fit_inputs (λ n g p. new ≡ risen n (cells_of p))) (fit_inputs (λ n g p. HasTried c g p (risen n (cells_of p)) new))
-        (fit_inputs (λ n g p. HasFitted c g p (risen n (cells_of p)) new)) (λ some. inr (fit_inputs (λ n g p. AreSomeFitted c g p n new) some))
-        (λ none. from_mid old mid had.reads (λ n. new ≡ n) none) s h
+    fit_cells : {A : Type 0} (r : Result (Vec ℕ A) Stop) → IfErr r (HasFittedOver c s mid.built new.built) → IfErr r (HasBuilt (cells_fitted i c) old.files old.built new.built)
+    fit_cells (Ok v) h = tt
+    fit_cells (Err e) h =
+        fitted_more _ _ (of_session i old mid s had (λ n g p. new.built ≡ n)) (of_session i old mid s had (λ n g p. HasTried c g p n new.built))
+        (of_session i old mid s had (λ n g p. HasFitted c g p n new.built)) (λ some. inr (inr (of_session i old mid s had (λ n g p. HasPartlyFitted c g p n new.built) some)))
+        (λ none. absurd none) e h
 
     -- a barline is fitted
-    pub fit_had : {A : Type 0} (new : Lent S O E) (r : Result (Vec ℕ A) Stop) → Follows (IsFitting c g p) (said_of r) → IfErr r IsOfContent → OnOk r (HasFitted c g p (risen mid.built (cells_of p)) new.built)
-        → IfErr r (MatchFitted (new.built ≡ risen mid.built (cells_of p)) (HasTried c g p (risen mid.built (cells_of p)) new.built) (HasFitted c g p (risen mid.built (cells_of p)) new.built)
-        (AreSomeFitted c g p mid.built new.built) (new.built ≡ mid.built)) → mid.built ≤ new.built → mid.multiplied ≤ new.multiplied → CountsAlone mid new
+    pub fit_had : {A : Type 0} (r : Result (Vec ℕ A) Stop) → Follows (IsFitting c s.grammar s.performance) (said_of r) → IfErr r IsOfContent
+        → OnOk r (HasFitted c s.grammar s.performance mid.built new.built) → IfErr r (HasFittedOver c s mid.built new.built) → CountsUp mid new
         → HasText (Some (fit i c)) old new r
-    fit_had new r tests content all built rises multiplies counts =
-        text_had (fit i c) i (IsFitting c) refl (λ files r h. h) (some_cells i c) old mid new g p had counts r tests content (all_fitted new.built r all)
-        (fit_cells new.built r built) rises multiplies
+    fit_had r tests content all built counts =
+        text_had (fit i c) i (IsFitting c) refl (λ files r h. h) (some_cells i c) old mid new s had counts r tests content (all_fitted r all) (fit_cells r built)

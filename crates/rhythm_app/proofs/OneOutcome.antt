@@ -11,6 +11,7 @@ use Rattle.barline_follow.proofs.OneBest.{one_answer}
 use Rattle.drill_run.proofs.OneDrill.{drills_one}
 use Rattle.drill_run.specs.Ends.{IsDrillOf}
 use Rattle.drill_run.specs.declared.piece.TheConstants.{DRILL_BARS}
+use Rattle.edit_script.specs.ScriptLines.{script_lines}
 use Rattle.edit_session.proofs.Faults.{fault_or_open, one_fault}
 use Rattle.edit_session.specs.Opening.{CanOpen}
 use Rattle.grammar_file.proofs.SayableLemmas.{is_sayable}
@@ -49,7 +50,9 @@ use Rattle.performance_prepare.specs.declared.options.Options.{Options}
 use Rattle.performance_load.specs.declared.load_fault.LoadFault.{LoadFault}
 use Rattle.piece_laws.proofs.FormedPieces.{pieces_formed}
 use Rattle.rhythm_app.proofs.InTurn.{IsOne, in_turn_one}
+use Rattle.rhythm_app.proofs.OneScript.{one_run, run_formed}
 use Rattle.rhythm_app.proofs.Performing.{not_stopped, same_stop}
+use Rattle.rhythm_app.proofs.Unopened.{all_are_made}
 use Rattle.rule_counts.proofs.Adding as counting
 use Rattle.session_counts.proofs.RuleLists.{are_one}
 use Rattle.weight_learning.specs.Learned.{learned}
@@ -58,7 +61,8 @@ use Rattle.rhythm_app.specs.Commands.{HasOutcomeOf}
 use Rattle.rhythm_app.specs.Inputs.{Inputs, file_content}
 use Rattle.rhythm_app.specs.Laws.{OutcomesAreOne}
 use Rattle.rhythm_app.specs.Learning.{AreAllListed, AreListsOf, AreOfFile, AreOfFiles, IsFirstStop, IsLearning, IsWeighed, in_file}
-use Rattle.rhythm_app.specs.Outcome.{AreEventsOf, AreInTurn, AreInputs, AreFilesRead, FitsScore, IsAnswering, IsFitting, IsFormOf, IsListing, IsLoading, IsNoting, IsPlaying, IsPreparing, IsRead, IsScoreRead, IsTakeLoading, IsTaking, IsTooLongToWrite, IsUnfitted, IsUnwritten, IsWriting, IsWrittenOf, fit_stop, fit_text, IsDrilling, IsFollowing, IsPieceMade, IsPieceOf, IsTooLongDrill, Ready, say, serve, IsUnderstood, IsUnopened, grammar_tests, kern_tests, limit_of, load_stop, note_stop, open_stop, passed, stopped}
+use Rattle.rhythm_app.specs.Outcome.{AreEventsOf, AreInTurn, AreInputs, AreFilesRead, AreLoaded, FitsScore, IsAnswering, IsFitting, IsFormOf, IsListing, IsLoading, IsNoting, IsOpening, IsPlaying, IsPreparing, IsScriptRead, IsScripted, Loaded, IsRead, IsScoreRead, IsTakeLoading, IsTaking, IsTooLongToWrite, IsUnfitted, IsUnwritten, IsWriting, IsWrittenOf, fit_stop, fit_text, IsDrilling, IsFollowing, IsPieceMade, IsPieceOf, IsTooLongDrill, Ready, say, serve, IsUnderstood, IsUnopened, grammar_tests, kern_tests, limit_of, load_stop, loaded, note_stop, open_stop, passed, refused_stop, stopped}
+use Rattle.rhythm_app.specs.Scripted.{AreLinesMade, Opened, Refused}
 use Rattle.rhythm_app.specs.declared.request.Form.{Form}
 use Rattle.rhythm_app.specs.declared.request.Form.TheVariants as form
 use Rattle.rhythm_app.specs.declared.request.Talk.{Talk}
@@ -476,30 +480,65 @@ one_listing score well (Err s) r h k = absurd h
 
 -- ---- the run
 
-one_pair : (g : Grammar) (p : Performance) → IsOne (λ (r : Result (Grammar × Performance) Stop). r ≡ Ok (g, p))
-one_pair g p r s h k = h ∙ sym k
+one_script_read : (name : Option (List ℕ)) (files : List File) → IsOne (IsScriptRead name files)
+one_script_read None files r s h k = h ∙ sym k
+one_script_read (Some name) files r s h k = sym h ∙ k
+
+one_what : (g : Grammar) (p : Performance) (script : List ℕ) → IsOne (λ (r : Result Loaded Stop). r ≡ Ok (loaded g p script))
+one_what g p script r s h k = h ∙ sym k
+
+one_loaded_inputs : (i : Inputs) (files : List File) → IsOne (AreLoaded i files)
+one_loaded_inputs i files =
+    let midi = file_content files i.midi in
+    let grammar = file_content files i.grammar in
+    in_turn_one (IsRead midi)
+    (λ f. AreInTurn (IsUnderstood grammar) (λ g. AreInTurn (IsScriptRead i.script files) (λ script. AreInTurn (IsPlaying i.options f) (λ p r. r ≡ Ok (loaded g p script))))) (one_read midi)
+    (λ f _. in_turn_one (IsUnderstood grammar) (λ g. AreInTurn (IsScriptRead i.script files) (λ script. AreInTurn (IsPlaying i.options f) (λ p r. r ≡ Ok (loaded g p script)))) (one_understood grammar)
+    (λ g _. in_turn_one (IsScriptRead i.script files) (λ script. AreInTurn (IsPlaying i.options f) (λ p r. r ≡ Ok (loaded g p script))) (one_script_read i.script files)
+    (λ script _. in_turn_one (IsPlaying i.options f) (λ p r. r ≡ Ok (loaded g p script)) (one_playing i.options f) (λ p _. one_what g p script))))
+
+same_loaded : (x y : Loaded) → ◌≡◌ {A = Result Loaded Stop} (Ok x) (Ok y) → y ≡ x
+same_loaded x y e = cc
+
+-- the grammar can be read, and the performance is well formed
+pub sound_files : (i : Inputs) (files : List File) (x : Loaded) → AreLoaded i files (Ok x) → IsReadable x.grammar × IsWellFormed x.performance
+sound_files i files x (f, read, (g, understood, (script, found, (p, played, is)))) =
+    subst (λ (x : Loaded). IsReadable x.grammar × IsWellFormed x.performance) (same_loaded x (loaded g p script) is)
+    (readable (file_content files i.grammar) g understood, well_played i.options f p played)
+
+one_opening : (g : Grammar) (p : Performance) → IsReadable g → IsWellFormed p → IsOne (IsOpening g p)
+one_opening g p read formed (Ok a) (Ok b) h k = ap (λ (o : Opened). Ok o) (h.1 ∙ sym k.1)
+one_opening g p read formed (Ok a) (Err t) h k = absurd (opened g p read formed t h.0 k)
+one_opening g p read formed (Err s) (Ok b) h k = absurd (opened g p read formed s k.0 h)
+one_opening g p read formed (Err s) (Err t) h k = ap Err (h.3 ∙ ap open_stop (one_fault g p h.0 k.0 read formed h.2 k.2 h.1 k.1) ∙ sym k.3)
+
+-- what is opened is sound
+sound_opening : (g : Grammar) (p : Performance) (o : Opened) → IsReadable g → IsWellFormed p → IsOpening g p (Ok o) → IsReadable o.grammar × IsWellFormed o.performance
+sound_opening g p o read formed h = subst (λ (x : Opened). IsReadable x.grammar × IsWellFormed x.performance) (sym h.1) (read, formed)
+
+one_scripted : (script : List ℕ) (o : Opened) → IsReadable o.grammar → IsWellFormed o.performance → IsOne (IsScripted script o)
+one_scripted script o read formed r s (edits, h, e) (others, k, e') =
+    e ∙ ap (stopped refused_stop) (one_run 1 o (script_lines script) edits others read formed h k) ∙ sym e'
 
 one_inputs : (i : Inputs) (files : List File) → IsOne (AreInputs i files)
 one_inputs i files =
-    let midi = file_content files i.midi in
-    let grammar = file_content files i.grammar in
-    in_turn_one (IsRead midi) (λ f. AreInTurn (IsUnderstood grammar) (λ g. AreInTurn (IsPlaying i.options f) (λ p r. r ≡ Ok (g, p)))) (one_read midi)
-    (λ f _. in_turn_one (IsUnderstood grammar) (λ g. AreInTurn (IsPlaying i.options f) (λ p r. r ≡ Ok (g, p))) (one_understood grammar)
-    (λ g _. in_turn_one (IsPlaying i.options f) (λ p r. r ≡ Ok (g, p)) (one_playing i.options f) (λ p _. one_pair g p)))
+    in_turn_one (AreLoaded i files) (λ x. AreInTurn (IsOpening x.grammar x.performance) (IsScripted x.script)) (one_loaded_inputs i files)
+    (λ x loads. let sound = sound_files i files x loads in
+    in_turn_one (IsOpening x.grammar x.performance) (IsScripted x.script) (one_opening x.grammar x.performance sound.0 sound.1)
+    (λ o opens. let well = sound_opening x.grammar x.performance o sound.0 sound.1 opens in one_scripted x.script o well.0 well.1))
 
-same_inputs : (x : Grammar × Performance) (g : Grammar) (p : Performance) → ◌≡◌ {A = Result (Grammar × Performance) Stop} (Ok x) (Ok (g, p)) → (g, p) ≡ x
-same_inputs x g p e = cc
-
--- the grammar can be read, and the performance is well formed
-pub sound_inputs : (i : Inputs) (files : List File) (x : Grammar × Performance) → AreInputs i files (Ok x) → IsReadable x.0 × IsWellFormed x.1
-sound_inputs i files x (f, read, (g, understood, (p, loaded, is))) =
-    subst (λ (x : Grammar × Performance). IsReadable x.0 × IsWellFormed x.1) (same_inputs x g p is) (readable (file_content files i.grammar) g understood, well_played i.options f p loaded)
+-- the same after the edits of the script file
+pub sound_inputs : (i : Inputs) (files : List File) (o : Opened) → AreInputs i files (Ok o) → IsReadable o.grammar × IsWellFormed o.performance
+sound_inputs i files o (x, loads, (start, opens, (edits, made, e))) =
+    let sound = sound_files i files x loads in
+    let well = sound_opening x.grammar x.performance start sound.0 sound.1 opens in
+    run_formed 1 start o (script_lines x.script) well.0 well.1 (subst (λ (r : Result Opened Refused). AreLinesMade 1 start (script_lines x.script) r) (all_are_made o edits e) made)
 
 one_of_files : (last : Grammar → Performance → Result Ready Stop → Type 0) → ((g : Grammar) (p : Performance) → IsReadable g → IsWellFormed p → IsOne (last g p))
     → (i : Inputs) (files : List File) → IsOne (AreFilesRead i files last)
 one_of_files last one i files =
-    in_turn_one (AreInputs i files) (λ x. last x.0 x.1) (one_inputs i files)
-    (λ x are. let sound = sound_inputs i files x are in one x.0 x.1 sound.0 sound.1)
+    in_turn_one (AreInputs i files) (λ o. last o.grammar o.performance) (one_inputs i files)
+    (λ o are. let sound = sound_inputs i files o are in one o.grammar o.performance sound.0 sound.1)
 
 one_of : (asked : Option Asked) (files : List File) → IsOne (HasOutcomeOf asked files)
 one_of None files r s h k = h ∙ sym k

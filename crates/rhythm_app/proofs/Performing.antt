@@ -25,6 +25,9 @@ midi_is_no_script e = cc
 pub grammar_is_no_script : kind.Grammar ≢ kind.Script
 grammar_is_no_script e = cc
 
+pub script_file_is_no_script : kind.ScriptFile ≢ kind.Script
+script_file_is_no_script e = cc
+
 pub kern_is_no_script : kind.Kern ≢ kind.Script
 kern_is_no_script e = cc
 
@@ -34,6 +37,7 @@ module _ (k : Kind) (reads : List Named) (files : List File) (before now : ℕ) 
   read_at kind.Midi same = subst (λ (x : Kind). ComesTo files x reads) (sym same) comes
   read_at kind.Grammar same = subst (λ (x : Kind). ComesTo files x reads) (sym same) comes
   read_at kind.Kern same = subst (λ (x : Kind). ComesTo files x reads) (sym same) comes
+  read_at kind.ScriptFile same = subst (λ (x : Kind). ComesTo files x reads) (sym same) comes
   read_at kind.Script same = absurd (other (sym same))
 
   pub read_fails : (s : Stop) → IsFailure s → EndsBy k before now s → IsReadFailure reads files s
@@ -59,6 +63,7 @@ module _ (k : Kind) (reads : List Named) (files : List File) (before now : ℕ) 
   read_fails (stop.TooManyCandidates n) failed end = absurd failed
   read_fails (stop.NoBarline n) failed end = absurd failed
   read_fails stop.NoCandidate failed end = absurd failed
+  read_fails (stop.ScriptLine row why) failed end = absurd failed
   read_fails (stop.Read j) failed end = read_at j end.0
   read_fails stop.Write failed end = absurd end
   read_fails stop.Memory failed end = tt
@@ -87,9 +92,11 @@ failure_of asked files (stop.TooManyFiles n) failed = absurd failed
 failure_of asked files (stop.TooManyCandidates n) failed = absurd failed
 failure_of asked files (stop.NoBarline n) failed = absurd failed
 failure_of asked files stop.NoCandidate failed = absurd failed
+failure_of asked files (stop.ScriptLine row why) failed = absurd failed
 failure_of asked files (stop.Read kind.Midi) failed = failed
 failure_of asked files (stop.Read kind.Grammar) failed = failed
 failure_of asked files (stop.Read kind.Kern) failed = failed
+failure_of asked files (stop.Read kind.ScriptFile) failed = failed
 failure_of asked files (stop.Read kind.Script) failed = absurd failed
 failure_of asked files stop.Write failed = absurd failed
 failure_of asked files stop.Memory failed = tt
@@ -109,6 +116,7 @@ read_end k before now stop.Usage end other = absurd end
 read_end k before now (stop.FileTooLong kind.Midi n) end other = tt
 read_end k before now (stop.FileTooLong kind.Grammar n) end other = tt
 read_end k before now (stop.FileTooLong kind.Kern n) end other = tt
+read_end k before now (stop.FileTooLong kind.ScriptFile n) end other = tt
 read_end k before now (stop.FileTooLong kind.Script n) end other = absurd (other (sym end))
 read_end k before now (stop.LineTooLong n) end other = absurd end
 read_end k before now (stop.Smf e) end other = tt
@@ -130,9 +138,11 @@ read_end k before now (stop.TooManyFiles n) end other = absurd end
 read_end k before now (stop.TooManyCandidates n) end other = tt
 read_end k before now (stop.NoBarline n) end other = tt
 read_end k before now stop.NoCandidate end other = tt
+read_end k before now (stop.ScriptLine row why) end other = tt
 read_end k before now (stop.Read kind.Midi) end other = end.1
 read_end k before now (stop.Read kind.Grammar) end other = end.1
 read_end k before now (stop.Read kind.Kern) end other = end.1
+read_end k before now (stop.Read kind.ScriptFile) end other = end.1
 read_end k before now (stop.Read kind.Script) end other = absurd (other (sym end.0))
 read_end k before now stop.Write end other = absurd end
 read_end k before now stop.Memory end other = tt
@@ -279,6 +289,7 @@ content_end before now (stop.TooManyFiles n) content = absurd content
 content_end before now (stop.TooManyCandidates n) content = tt
 content_end before now (stop.NoBarline n) content = tt
 content_end before now stop.NoCandidate content = tt
+content_end before now (stop.ScriptLine row why) content = tt
 content_end before now (stop.Read k) content = absurd content
 content_end before now stop.Write content = absurd content
 content_end before now stop.Memory content = tt

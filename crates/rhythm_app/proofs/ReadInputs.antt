@@ -1,19 +1,18 @@
 -- What the files say, of what is lent.
-use Rattle.std.proofs.Common.{◌≡◌, ◌≢◌, ◌≤◌, ◌⊎◌, ◌∙◌, ℕ, List, length, subst, IfErr, IfOk, None, Result, Err}
+use Rattle.std.proofs.Common.{◌≡◌, ◌≢◌, ◌≤◌, ◌∙◌, ℕ, List, Vec, length, subst, IfErr, IfOk, None, Result}
 use Rattle.std.specs.Option.{ForSome}
 use Rattle.rhythm_app.specs.Commands.{HaveNames, input_files}
 use Rattle.rhythm_app.specs.Counting.{HasPerformance, IsMidiLoading, IsOfMidi}
-use Rattle.rhythm_app.specs.Ends.{IsReadFailure}
 use Rattle.rhythm_app.specs.Inputs.{Inputs, file_content}
 use Rattle.rhythm_app.specs.Lent.{Lent}
-use Rattle.rhythm_app.specs.Outcome.{AreInputs, IsUnderstood}
-use Rattle.rhythm_app.specs.Stages.{EndsBy, EndsReading, Follows, HasInputs, HasRules, IsEarly, ReadsShelf}
+use Rattle.rhythm_app.specs.Outcome.{AreLoaded, IsUnderstood}
+use Rattle.rhythm_app.specs.Stages.{EndsBy, EndsReading, Follows, HasLoaded, HasRules, IsEarly, IsLoadStop, ReadsShelf, loaded_of}
 use Rattle.rhythm_app.specs.declared.stop.Kind.TheVariants as kind
 use Rattle.rhythm_app.specs.declared.stop.Stop.{Stop}
 use Rattle.rhythm_base.specs.Grammar.{Grammar}
 use Rattle.rhythm_base.specs.Performance.{Performance}
 use Rattle.rhythm_base.specs.Readable.{IsReadable}
-use Rattle.rhythm_base.specs.declared.limits.TheConstants.{MOST_NOTES}
+use Rattle.rhythm_base.specs.declared.limits.TheConstants.{LONGEST_SCRIPT, MOST_NOTES}
 use Rattle.rhythm_ports.specs.Files.{file_of}
 
 module _ {S O E : Type 0} where
@@ -21,18 +20,19 @@ module _ {S O E : Type 0} where
   shelf_read : (old new : Lent S O E) → new ≡ record old { files = new.files; strays = new.strays; shelf_faults = new.shelf_faults } → new.files ≡ old.files → ReadsShelf old new
   shelf_read old new reads files = reads ∙ (λ i. record old { files = files i; strays = new.strays; shelf_faults = new.shelf_faults })
 
-  pub inputs_had : (i : Inputs) (seen old new : Lent S O E) (r : Result (Grammar × Performance) Stop) → seen ≡ old
+  pub inputs_had : {A : Type 0} (i : Inputs) (seen old new : Lent S O E) (r : Result (Grammar × Performance × Vec ℕ A) Stop) → seen ≡ old
       → new ≡ record seen { files = new.files; strays = new.strays; shelf_faults = new.shelf_faults } → new.files ≡ seen.files
-      → ForSome seen.files (λ files. Follows (AreInputs i files) r)
-      → IfErr r (λ stop. ForSome seen.files (λ files. AreInputs i files (Err stop) ⊎ IsReadFailure (input_files i) files stop))
-      → IfOk r (λ inputs. IsReadable inputs.0) → IfOk r (λ inputs. length inputs.1.notes ≤ MOST_NOTES) → IfErr r (EndsReading seen.shelf_faults new.shelf_faults)
-      → IfErr r IsEarly → ForSome seen.files (λ files. HaveNames files (input_files i) → new.strays ≡ seen.strays) → HasInputs i old new r
-  inputs_had i seen old new r same reads files tests cause readable few_notes end early strays =
-      subst (λ (l : Lent S O E). HasInputs i l new r) same (record {
+      → ForSome seen.files (λ files. Follows (AreLoaded i files) (loaded_of r)) → IfErr r (λ stop. ForSome seen.files (λ files. IsLoadStop i files stop))
+      → IfOk r (λ had. IsReadable had.0) → IfOk r (λ had. length had.1.notes ≤ MOST_NOTES) → IfOk r (λ had. length had.2.items ≤ LONGEST_SCRIPT)
+      → IfErr r (EndsReading seen.shelf_faults new.shelf_faults) → IfErr r IsEarly → ForSome seen.files (λ files. HaveNames files (input_files i) → new.strays ≡ seen.strays)
+      → HasLoaded i old new r
+  inputs_had i seen old new r same reads files tests cause readable few_notes short end early strays =
+      subst (λ (l : Lent S O E). HasLoaded i l new r) same (record {
         tests = tests;
         cause = cause;
         readable = readable;
         few_notes = few_notes;
+        short = short;
         end = end;
         early = early;
         strays = strays;

@@ -23,21 +23,6 @@ module _ (g : Grammar) (p : Performance) where
   unopened (opening.NoDerivation channel bar) h = inl (opening.NoDerivation channel bar, h, (λ e. cc), refl)
   unopened opening.Memory h = inr refl
 
-  -- no session is opened, so nothing is written of it
-  pub unopened_writing : (f : Form) (s : Stop) → IsUnopened g p s ⊎ (s ≡ stop.Memory) → Follows (IsWriting f g p) (Err s)
-  unopened_writing f s (inl h) = inl (inl h)
-  unopened_writing f s (inr e) = subst (λ (x : Stop). Follows (IsWriting f g p) (Err x)) (sym e) (inr tt)
-
-  -- nor does it answer a script
-  pub unopened_answering : (talk : Talk) (s : Stop) → IsUnopened g p s ⊎ (s ≡ stop.Memory) → Follows (IsAnswering talk g p) (Err s)
-  unopened_answering talk s (inl h) = inl h
-  unopened_answering talk s (inr e) = subst (λ (x : Stop). Follows (IsAnswering talk g p) (Err x)) (sym e) (inr tt)
-
-  -- nor is a barline fitted
-  pub unopened_fitting : (c : Candidates) (s : Stop) → IsUnopened g p s ⊎ (s ≡ stop.Memory) → Follows (IsFitting c g p) (Err s)
-  unopened_fitting c s (inl h) = inl (inl h)
-  unopened_fitting c s (inr e) = subst (λ (x : Stop). Follows (IsFitting c g p) (Err x)) (sym e) (inr tt)
-
   pub too_long_to_write : (line : ℕ) → CanOpen g p → HasTooLongText g p line → IsTooLongToWrite g p (stop.ScoreTooLong line)
   too_long_to_write line can long = (line, can, long, refl)
 

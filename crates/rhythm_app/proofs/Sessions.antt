@@ -1,26 +1,24 @@
 -- What the stages of a command come to together.
-use Rattle.std.proofs.Common.{◌≡◌, ◌≤◌, ◌⊎◌, ℕ, List, Vec, arith, inl, inr, refl, sym, subst, IfErr, IfOk, OnOk, Option, Some, Result, Ok, Err}
+use Rattle.std.proofs.Common.{◌≡◌, ◌≢◌, ◌≤◌, ◌⊎◌, ◌∷◌, [], ℕ, List, Vec, arith, inl, inr, refl, sym, subst, IfErr, IfOk, OnOk, Option, Some, None, Result, Ok, Err}
 use Rattle.std.specs.Option.{ForSome}
 use Rattle.std.specs.Prelude.{IsOk}
-use Rattle.edit_session.specs.Opening.{CanOpen}
-use Rattle.edit_session.specs.Session.{Session}
 use Rattle.rhythm_app.proofs.InTurn.{next_follows, stop_follows}
-use Rattle.rhythm_app.proofs.Performing.{failure_of, grammar_is_no_script, midi_is_no_script, read_fails}
-use Rattle.rhythm_app.proofs.Scoring.{unopened_answering}
+use Rattle.rhythm_app.proofs.Performing.{failure_of, grammar_is_no_script, midi_is_no_script, read_fails, script_file_is_no_script}
 use Rattle.rhythm_app.specs.Asked.{Asked}
-use Rattle.rhythm_app.specs.Builds.{MatchBuilds, OfInputs}
-use Rattle.rhythm_app.specs.Commands.{HasOutcomeOf, Named, command, input_files}
-use Rattle.rhythm_app.specs.Ends.{IsCauseOf, IsReadFailure}
+use Rattle.rhythm_app.specs.Builds.{MatchBuilds, MatchInputs}
+use Rattle.rhythm_app.specs.Commands.{HasOutcomeOf, Named, command, input_files, named, script_file}
+use Rattle.rhythm_app.specs.Ends.{ComesTo, IsCauseOf, IsReadFailure}
 use Rattle.rhythm_app.specs.Inputs.{Inputs, file_content}
-use Rattle.rhythm_app.specs.Outcome.{AreInTurn, AreInputs, AreFilesRead, IsAnswering, IsPlaying, IsRead, IsUnderstood, IsUnopened, Ready, midi_tests, say, serve}
-use Rattle.rhythm_app.specs.Stages.{EndsBy, Follows, IsFailure, IsOfContent, IsOfWriting, said_of}
-use Rattle.rhythm_app.specs.declared.request.Talk.{Talk}
+use Rattle.rhythm_app.specs.Outcome.{AreInTurn, AreInputs, AreFilesRead, AreLoaded, IsPlaying, IsRead, IsScriptRead, IsUnderstood, Loaded, Ready, grammar_tests, loaded, midi_tests, say}
+use Rattle.rhythm_app.specs.Scripted.{Opened}
+use Rattle.rhythm_app.specs.Stages.{EndsBy, Follows, IsFailure, IsLoadStop, IsOfContent, IsOfWriting, said_of}
 use Rattle.rhythm_app.specs.declared.stop.Kind.TheVariants as kind
 use Rattle.rhythm_app.specs.declared.stop.Stop.{Stop}
 use Rattle.rhythm_app.specs.declared.stop.Stop.TheVariants as stop
 use Rattle.rhythm_base.specs.Counter.{risen}
 use Rattle.rhythm_base.specs.Grammar.{Grammar}
 use Rattle.rhythm_base.specs.Performance.{Performance}
+use Rattle.rhythm_base.specs.declared.edit_fault.EditFault.{EditFault}
 use Rattle.rhythm_ports.specs.Files.{File}
 use Rattle.smf_reader.specs.Played.{Smf}
 
@@ -50,6 +48,7 @@ content_read reads files (stop.TooManyFiles n) failed content = absurd content
 content_read reads files (stop.TooManyCandidates n) failed content = absurd failed
 content_read reads files (stop.NoBarline n) failed content = absurd failed
 content_read reads files stop.NoCandidate failed content = absurd failed
+content_read reads files (stop.ScriptLine row why) failed content = absurd failed
 content_read reads files (stop.Read k) failed content = absurd content
 content_read reads files stop.Write failed content = absurd content
 content_read reads files stop.Memory failed content = tt
@@ -64,6 +63,7 @@ match_more a b d stop.Usage h = d h
 match_more a b d (stop.FileTooLong kind.Midi n) h = d h
 match_more a b d (stop.FileTooLong kind.Grammar n) h = d h
 match_more a b d (stop.FileTooLong kind.Kern n) h = d h
+match_more a b d (stop.FileTooLong kind.ScriptFile n) h = d h
 match_more a b d (stop.FileTooLong kind.Script n) h = tt
 match_more a b d (stop.LineTooLong n) h = tt
 match_more a b d (stop.Smf e) h = d h
@@ -85,9 +85,11 @@ match_more a b d (stop.TooManyFiles n) h = d h
 match_more a b d (stop.TooManyCandidates n) h = d h
 match_more a b d (stop.NoBarline n) h = d h
 match_more a b d stop.NoCandidate h = d h
+match_more a b d (stop.ScriptLine row why) h = d h
 match_more a b d (stop.Read kind.Midi) h = d h
 match_more a b d (stop.Read kind.Grammar) h = d h
 match_more a b d (stop.Read kind.Kern) h = d h
+match_more a b d (stop.Read kind.ScriptFile) h = d h
 match_more a b d (stop.Read kind.Script) h = tt
 match_more a b d stop.Write h = tt
 match_more a b d stop.Memory h = b h
@@ -108,8 +110,7 @@ no_failure outcome x (inr failed) = absurd failed
 
 module _ (i : Inputs) (files : List File) where
   -- the MIDI file is not had
-  pub unread_midi : (before now : ℕ) (s : Stop) → Follows (IsRead (file_content files i.midi)) (Err s) → EndsBy kind.Midi before now s
-      → AreInputs i files (Err s) ⊎ IsReadFailure (input_files i) files s
+  pub unread_midi : (before now : ℕ) (s : Stop) → Follows (IsRead (file_content files i.midi)) (Err s) → EndsBy kind.Midi before now s → IsLoadStop i files s
   unread_midi before now s (inl h) end = inl (inl h)
   unread_midi before now s (inr failed) end = inr (read_fails kind.Midi (input_files i) files before now midi_is_no_script (inl (refl, refl)) s failed end)
 
@@ -119,34 +120,57 @@ module _ (i : Inputs) (files : List File) where
 
     -- it is, and the grammar file is not
     pub unread_grammar : (before now : ℕ) (s : Stop) → Follows (IsRead (file_content files i.midi)) (Ok f) → Follows (IsUnderstood (file_content files i.grammar)) (Err s)
-        → EndsBy kind.Grammar before now s → AreInputs i files (Err s) ⊎ IsReadFailure (input_files i) files s
+        → EndsBy kind.Grammar before now s → IsLoadStop i files s
     unread_grammar before now s (inl read) (inl h) end = inl (inr (f, read, inl h))
     unread_grammar before now s (inl read) (inr failed) end =
         inr (read_fails kind.Grammar (input_files i) files before now grammar_is_no_script (inr (passes read, inl (refl, refl))) s failed end)
     unread_grammar before now s (inr failed) h end = absurd failed
 
-    module _ (g : Grammar) (read : Follows (IsRead (file_content files i.midi)) (Ok f)) (understood : Follows (IsUnderstood (file_content files i.grammar)) (Ok g)) where
-      loading_follows : (r : Result (Grammar × Performance) Stop) → Follows (AreInTurn (IsPlaying i.options f) (λ p s. s ≡ Ok (g, p))) r → Follows (AreInputs i files) r
-      loading_follows r h =
-          next_follows (IsRead (file_content files i.midi)) (λ f. AreInTurn (IsUnderstood (file_content files i.grammar)) (λ g. AreInTurn (IsPlaying i.options f) (λ p s. s ≡ Ok (g, p)))) f r read
-          (next_follows (IsUnderstood (file_content files i.grammar)) (λ g. AreInTurn (IsPlaying i.options f) (λ p s. s ≡ Ok (g, p))) g r understood h)
+    module _ (g : Grammar) where
+      understands : IsUnderstood (file_content files i.grammar) (Ok g) → IsOk (grammar_tests (file_content files i.grammar))
+      understands understood = subst (λ (r : Result Grammar Stop). IsOk r) (sym understood) refl
 
-      -- the performance could not be loaded
-      pub unloaded_follows : (s : Stop) → Follows (IsPlaying i.options f) (Err s) → Follows (AreInputs i files) (Err s)
-      unloaded_follows s h = loading_follows (Err s) (stop_follows (IsPlaying i.options f) (λ p s. s ≡ Ok (g, p)) s h)
+      -- they are, and the script file is not
+      pub unread_script : (before now : ℕ) (s : Stop) → i.script ≢ None → Follows (IsRead (file_content files i.midi)) (Ok f) → Follows (IsUnderstood (file_content files i.grammar)) (Ok g)
+          → Follows (IsScriptRead i.script files) (Err s) → EndsBy kind.ScriptFile before now s → IsLoadStop i files s
+      unread_script before now s there (inr failed) understood h end = absurd failed
+      unread_script before now s there (inl read) (inr failed) h end = absurd failed
+      unread_script before now s there (inl read) (inl understood) (inl h) end = inl (inr (f, read, inr (g, understood, inl h)))
+      unread_script before now s there (inl read) (inl understood) (inr failed) end =
+          inr (read_fails kind.ScriptFile (input_files i) files before now script_file_is_no_script (inr (passes read, inr (understands understood, come_to i.script there))) s failed end)
+        where
+          come_to : (name : Option (List ℕ)) → name ≢ None → ComesTo files kind.ScriptFile (script_file name)
+          come_to None there = absurd (there refl)
+          come_to (Some name) there = inl (refl, refl)
 
-      -- it was
-      pub loaded_follows : (p : Performance) → Follows (IsPlaying i.options f) (Ok p) → Follows (AreInputs i files) (Ok (g, p))
-      loaded_follows p h = loading_follows (Ok (g, p)) (next_follows (IsPlaying i.options f) (λ p s. s ≡ Ok (g, p)) p (Ok (g, p)) h (inl refl))
+      pub unfound_follows : (s : Stop) → Follows (IsRead (file_content files i.midi)) (Ok f) → Follows (IsUnderstood (file_content files i.grammar)) (Ok g)
+          → Follows (IsScriptRead i.script files) (Err s) → Follows (AreLoaded i files) (Err s)
+      unfound_follows s read understood h =
+          next_follows (IsRead (file_content files i.midi))
+          (λ f. AreInTurn (IsUnderstood (file_content files i.grammar)) (λ g. AreInTurn (IsScriptRead i.script files) (λ script. AreInTurn (IsPlaying i.options f) (λ p s. s ≡ Ok (loaded g p script))))) f (Err s) read
+          (next_follows (IsUnderstood (file_content files i.grammar)) (λ g. AreInTurn (IsScriptRead i.script files) (λ script. AreInTurn (IsPlaying i.options f) (λ p s. s ≡ Ok (loaded g p script)))) g (Err s) understood
+          (stop_follows (IsScriptRead i.script files) (λ script. AreInTurn (IsPlaying i.options f) (λ p s. s ≡ Ok (loaded g p script))) s h))
 
-  pub inputs_cause : (s : Stop) → Follows (AreInputs i files) (Err s) → IsOfContent s → AreInputs i files (Err s) ⊎ IsReadFailure (input_files i) files s
+      module _ (script : List ℕ) (read : Follows (IsRead (file_content files i.midi)) (Ok f)) (understood : Follows (IsUnderstood (file_content files i.grammar)) (Ok g))
+          (found : Follows (IsScriptRead i.script files) (Ok script)) where
+        loading_follows : (r : Result Loaded Stop) → Follows (AreInTurn (IsPlaying i.options f) (λ p s. s ≡ Ok (loaded g p script))) r → Follows (AreLoaded i files) r
+        loading_follows r h =
+            next_follows (IsRead (file_content files i.midi))
+            (λ f. AreInTurn (IsUnderstood (file_content files i.grammar)) (λ g. AreInTurn (IsScriptRead i.script files) (λ script. AreInTurn (IsPlaying i.options f) (λ p s. s ≡ Ok (loaded g p script))))) f r read
+            (next_follows (IsUnderstood (file_content files i.grammar)) (λ g. AreInTurn (IsScriptRead i.script files) (λ script. AreInTurn (IsPlaying i.options f) (λ p s. s ≡ Ok (loaded g p script)))) g r understood
+            (next_follows (IsScriptRead i.script files) (λ script. AreInTurn (IsPlaying i.options f) (λ p s. s ≡ Ok (loaded g p script))) script r found h))
+
+        -- the performance could not be loaded
+        pub unloaded_follows : (s : Stop) → Follows (IsPlaying i.options f) (Err s) → Follows (AreLoaded i files) (Err s)
+        unloaded_follows s h = loading_follows (Err s) (stop_follows (IsPlaying i.options f) (λ p s. s ≡ Ok (loaded g p script)) s h)
+
+        -- it was
+        pub loaded_follows : (p : Performance) → Follows (IsPlaying i.options f) (Ok p) → Follows (AreLoaded i files) (Ok (loaded g p script))
+        loaded_follows p h = loading_follows (Ok (loaded g p script)) (next_follows (IsPlaying i.options f) (λ p s. s ≡ Ok (loaded g p script)) p (Ok (loaded g p script)) h (inl refl))
+
+  pub inputs_cause : (s : Stop) → Follows (AreLoaded i files) (Err s) → IsOfContent s → IsLoadStop i files s
   inputs_cause s (inl are) content = inl are
   inputs_cause s (inr failed) content = inr (content_read (input_files i) files s failed content)
-
--- what holds of the inputs is known of the files
-pub for_inputs : (i : Inputs) (fs : Option (List File)) (g : Grammar) (p : Performance) → ForSome fs (λ files. Follows (AreInputs i files) (Ok (g, p)))
-    → (P : Grammar → Performance → Type 0) → P g p → OfInputs i fs P
-for_inputs i fs g p had P h = λ files are. (g, p, no_failure (AreInputs i files) (g, p) (had files are), h)
 
 -- ---- a command on its inputs
 
@@ -158,8 +182,9 @@ module _ (asked : Asked) (i : Inputs) (files : List File) (last : Grammar → Pe
   inputs_stop s (inr failed) = inr (failure_of asked files s (subst (λ (n : List Named). IsReadFailure n files s) (sym reads) failed))
 
   -- they are
-  pub then_follows : (g : Grammar) (p : Performance) → Follows (AreInputs i files) (Ok (g, p)) → (r : Result Ready Stop) → Follows (last g p) r → Follows (HasOutcomeOf (Some asked) files) r
-  then_follows g p are r h = elim (next_follows (AreInputs i files) (λ x. last x.0 x.1) (g, p) r are h) [ inl it ↦ inl (outcome r it) | inr failed ↦ inr failed ]
+  pub then_follows : (o : Opened) → AreInputs i files (Ok o) → (r : Result Ready Stop) → Follows (last o.grammar o.performance) r → Follows (HasOutcomeOf (Some asked) files) r
+  then_follows o are r h =
+      elim (next_follows (AreInputs i files) (λ x. last x.grammar x.performance) o r (inl are) h) [ inl it ↦ inl (outcome r it) | inr failed ↦ inr failed ]
 
 -- ---- a stage and what it is ready for
 
@@ -182,14 +207,6 @@ pub said_follow : {A : Type 0} (fs : Option (List File)) (asked : Asked) (r : Re
 said_follow fs asked (Ok x) h = h
 said_follow fs asked (Err s) h = h
 
--- a session that is ready
-pub opened_follow : (fs : Option (List File)) (asked : Asked) (talk : Talk) (r : Result Session Stop) (g : Grammar) (p : Performance) → IfOk r (λ s. s.grammar ≡ g) → IfOk r (λ s. s.performance ≡ p)
-    → OnOk r (CanOpen g p) → IfErr r (λ s. IsUnopened g p s ⊎ (s ≡ stop.Memory))
-    → ((files : List File) → fs ≡ Some files → (x : Result Ready Stop) → Follows (IsAnswering talk g p) x → Follows (HasOutcomeOf (Some asked) files) x)
-    → Follow fs asked (λ s. serve talk s.grammar s.performance) r
-opened_follow fs asked talk (Ok s) g p grammar performance can unopened all = λ files are. all files are (Ok (serve talk s.grammar s.performance)) (inl (can, refl, grammar, performance))
-opened_follow fs asked talk (Err s) g p grammar performance can unopened all = λ files are. all files are (Err s) (unopened_answering g p talk s unopened)
-
 -- ---- what is written of a session that is open
 
 writing_content : (s : Stop) → IsOfWriting s → IsOfContent s
@@ -200,6 +217,7 @@ writing_content (stop.TooManyFiles n) end = absurd end
 writing_content (stop.TooManyCandidates n) end = absurd end
 writing_content (stop.NoBarline n) end = absurd end
 writing_content stop.NoCandidate end = absurd end
+writing_content (stop.ScriptLine row why) end = absurd end
 writing_content stop.Memory end = tt
 writing_content stop.Usage end = absurd end
 writing_content (stop.FileTooLong k n) end = absurd end
@@ -224,37 +242,33 @@ of_content (Ok x) end = tt
 of_content (Err s) end = writing_content s end
 
 -- all cells are built by then
-writing_built : (old cells new : ℕ) (s : Stop) → IsOfWriting s → new ≡ risen old cells → MatchBuilds (new ≡ risen old cells) (new ≤ risen old cells) (new ≡ old) s
-writing_built old cells new (stop.ScoreTooLong n) end all = all
-writing_built old cells new (stop.RenderTooLong n) end all = all
-writing_built old cells new (stop.InFile m s) end all = absurd end
-writing_built old cells new (stop.TooManyFiles n) end all = absurd end
-writing_built old cells new (stop.TooManyCandidates n) end all = absurd end
-writing_built old cells new (stop.NoBarline n) end all = absurd end
-writing_built old cells new stop.NoCandidate end all = absurd end
-writing_built old cells new stop.Memory end all = omega (arith, all)
-writing_built old cells new stop.Usage end all = absurd end
-writing_built old cells new (stop.FileTooLong k n) end all = absurd end
-writing_built old cells new (stop.LineTooLong n) end all = absurd end
-writing_built old cells new (stop.Smf e) end all = absurd end
-writing_built old cells new (stop.Grammar e) end all = absurd end
-writing_built old cells new (stop.Kern e) end all = absurd end
-writing_built old cells new stop.NoNotes end all = absurd end
-writing_built old cells new (stop.TooManyNotes n) end all = absurd end
-writing_built old cells new (stop.BadSignature m n) end all = absurd end
-writing_built old cells new (stop.UnevenBar l m n) end all = absurd end
-writing_built old cells new (stop.TooManyBars n) end all = absurd end
-writing_built old cells new (stop.TooManyCells n) end all = absurd end
-writing_built old cells new (stop.NoStart l m n) end all = absurd end
-writing_built old cells new (stop.Unprepared e) end all = absurd end
-writing_built old cells new (stop.NoDerivation m n) end all = absurd end
-writing_built old cells new (stop.Read k) end all = absurd end
-writing_built old cells new stop.Write end all = absurd end
-
-pub all_built : {T : Type 0} (old cells new : ℕ) (r : Result T Stop) → IfErr r IsOfWriting → new ≡ risen old cells
-    → IfErr r (MatchBuilds (new ≡ risen old cells) (new ≤ risen old cells) (new ≡ old))
-all_built old cells new (Ok x) end all = tt
-all_built old cells new (Err s) end all = writing_built old cells new s end all
+pub writing_inputs : (L A B N : Type 0) (R : ℕ → Option EditFault → Type 0) (s : Stop) → IsOfWriting s → A → B → MatchInputs L R A B N s
+writing_inputs L A B N R (stop.ScoreTooLong n) end all some = all
+writing_inputs L A B N R (stop.RenderTooLong n) end all some = all
+writing_inputs L A B N R (stop.InFile m s) end all some = absurd end
+writing_inputs L A B N R (stop.TooManyFiles n) end all some = absurd end
+writing_inputs L A B N R (stop.TooManyCandidates n) end all some = absurd end
+writing_inputs L A B N R (stop.NoBarline n) end all some = absurd end
+writing_inputs L A B N R stop.NoCandidate end all some = absurd end
+writing_inputs L A B N R (stop.ScriptLine row why) end all some = absurd end
+writing_inputs L A B N R stop.Memory end all some = some
+writing_inputs L A B N R stop.Usage end all some = absurd end
+writing_inputs L A B N R (stop.FileTooLong k n) end all some = absurd end
+writing_inputs L A B N R (stop.LineTooLong n) end all some = absurd end
+writing_inputs L A B N R (stop.Smf e) end all some = absurd end
+writing_inputs L A B N R (stop.Grammar e) end all some = absurd end
+writing_inputs L A B N R (stop.Kern e) end all some = absurd end
+writing_inputs L A B N R stop.NoNotes end all some = absurd end
+writing_inputs L A B N R (stop.TooManyNotes n) end all some = absurd end
+writing_inputs L A B N R (stop.BadSignature m n) end all some = absurd end
+writing_inputs L A B N R (stop.UnevenBar l m n) end all some = absurd end
+writing_inputs L A B N R (stop.TooManyBars n) end all some = absurd end
+writing_inputs L A B N R (stop.TooManyCells n) end all some = absurd end
+writing_inputs L A B N R (stop.NoStart l m n) end all some = absurd end
+writing_inputs L A B N R (stop.Unprepared e) end all some = absurd end
+writing_inputs L A B N R (stop.NoDerivation m n) end all some = absurd end
+writing_inputs L A B N R (stop.Read k) end all some = absurd end
+writing_inputs L A B N R stop.Write end all some = absurd end
 
 pub always : {T E P : Type 0} (r : Result T E) → P → OnOk r P
 always (Ok x) p = p

@@ -68,6 +68,7 @@ module _ (words : List (List ℕ)) (files : List File) where
   failure_status (stop.FileTooLong kind.Midi n) failed r outcome = absurd failed
   failure_status (stop.FileTooLong kind.Grammar n) failed r outcome = absurd failed
   failure_status (stop.FileTooLong kind.Kern n) failed r outcome = absurd failed
+  failure_status (stop.FileTooLong kind.ScriptFile n) failed r outcome = absurd failed
   failure_status (stop.FileTooLong kind.Script n) failed r outcome = script_status failed r outcome
   failure_status (stop.LineTooLong n) failed r outcome = script_status failed r outcome
   failure_status (stop.Smf e) failed r outcome = absurd failed
@@ -89,6 +90,7 @@ module _ (words : List (List ℕ)) (files : List File) where
   failure_status (stop.TooManyCandidates n) failed r outcome = absurd failed
   failure_status (stop.NoBarline n) failed r outcome = absurd failed
   failure_status stop.NoCandidate failed r outcome = absurd failed
+  failure_status (stop.ScriptLine row why) failed r outcome = absurd failed
   failure_status (stop.Read k) failed r outcome = may_end_5 r
   failure_status stop.Write failed r outcome = subst (λ (r : Result Ready Stop). MayEnd r 6) (one_outcome words files (Ok failed.0) r failed.1 outcome) (may_end_6 failed.0)
   failure_status stop.Memory failed r outcome = may_end_7 r
@@ -131,6 +133,7 @@ module _ (words : List (List ℕ)) (files : List File) where
     failure_complete (stop.FileTooLong kind.Midi n) failed risen ready k = absurd failed
     failure_complete (stop.FileTooLong kind.Grammar n) failed risen ready k = absurd failed
     failure_complete (stop.FileTooLong kind.Kern n) failed risen ready k = absurd failed
+    failure_complete (stop.FileTooLong kind.ScriptFile n) failed risen ready k = absurd failed
     failure_complete (stop.FileTooLong kind.Script n) failed risen ready k = complete_script ready 4 failed k (λ t g p read heard written. inr (inl refl))
     failure_complete (stop.LineTooLong n) failed risen ready k = complete_script ready 4 failed k (λ t g p read heard written. inr (inl refl))
     failure_complete (stop.Smf e) failed risen ready k = absurd failed
@@ -152,9 +155,11 @@ module _ (words : List (List ℕ)) (files : List File) where
     failure_complete (stop.TooManyCandidates n) failed risen ready k = absurd failed
     failure_complete (stop.NoBarline n) failed risen ready k = absurd failed
     failure_complete stop.NoCandidate failed risen ready k = absurd failed
+    failure_complete (stop.ScriptLine row why) failed risen ready k = absurd failed
     failure_complete (stop.Read kind.Midi) failed risen ready k = complete_read ready risen
     failure_complete (stop.Read kind.Grammar) failed risen ready k = complete_read ready risen
     failure_complete (stop.Read kind.Kern) failed risen ready k = complete_read ready risen
+    failure_complete (stop.Read kind.ScriptFile) failed risen ready k = complete_read ready risen
     failure_complete (stop.Read kind.Script) failed risen ready k = complete_script ready 5 failed k (λ t g p read heard written. absurd (heard risen))
     failure_complete stop.Write failed risen ready k = complete_write ready risen
     failure_complete stop.Memory failed risen ready k = complete_7 ready

@@ -1,8 +1,8 @@
 -- What follows of a stop.
-use Rattle.std.proofs.Common.{◌≡◌, ◌≢◌, ◌⊎◌, ◌+◌, ℕ, arith, List, inl, inr, refl, ap, ◌∙◌, Option, Some, Ok}
+use Rattle.std.proofs.Common.{◌≡◌, ◌≢◌, ◌⊎◌, ◌+◌, ℕ, arith, List, inl, inr, refl, ap, subst, Option, Some, Ok}
 use Rattle.std.specs.Option.{ForSome}
 use Rattle.rhythm_app.specs.Asked.{Asked}
-use Rattle.rhythm_app.specs.Builds.{HasBuilt, HasBuiltAll, MatchBuilds}
+use Rattle.rhythm_app.specs.Builds.{ArePartlyBuilt, HasBuilt, MatchBuilds, MatchInputs, OfLoaded}
 use Rattle.rhythm_app.specs.Commands.{HasOutcomeOf, cells_in}
 use Rattle.rhythm_app.specs.Ends.{HasRisen, HasStopped, HasTaken, IsBrokenOff, IsCauseOf, IsUntouched}
 use Rattle.rhythm_app.specs.Inputs.{Inputs}
@@ -17,12 +17,12 @@ use Rattle.rhythm_app.specs.declared.stop.Stop.TheVariants as stop
 use Rattle.rhythm_base.specs.Counter.{risen}
 use Rattle.rhythm_base.specs.Grammar.{Grammar}
 use Rattle.rhythm_base.specs.Performance.{Performance}
+use Rattle.rhythm_base.specs.declared.edit_fault.EditFault.{EditFault}
 use Rattle.rhythm_ports.specs.Causes.{Rose}
 use Rattle.rhythm_ports.specs.Files.{File}
 use Rattle.script_run.specs.Editing.{Editing}
 use Rattle.script_run.specs.declared.script_stop.ScriptStop.{ScriptStop}
 use Rattle.script_run.specs.declared.script_stop.ScriptStop.TheVariants as script
-use Rattle.script_run.proofs.Hearings.{risen_more}
 
 -- ---- before anything is written
 
@@ -32,6 +32,7 @@ early_built A B old stop.Usage early = absurd early
 early_built A B old (stop.FileTooLong kind.Midi n) early = refl
 early_built A B old (stop.FileTooLong kind.Grammar n) early = refl
 early_built A B old (stop.FileTooLong kind.Kern n) early = refl
+early_built A B old (stop.FileTooLong kind.ScriptFile n) early = refl
 early_built A B old (stop.FileTooLong kind.Script n) early = tt
 early_built A B old (stop.LineTooLong n) early = tt
 early_built A B old (stop.Smf e) early = refl
@@ -53,12 +54,51 @@ early_built A B old (stop.TooManyFiles n) early = absurd early
 early_built A B old (stop.TooManyCandidates n) early = absurd early
 early_built A B old (stop.NoBarline n) early = absurd early
 early_built A B old stop.NoCandidate early = absurd early
+early_built A B old (stop.ScriptLine row why) early = absurd early
 early_built A B old (stop.Read kind.Midi) early = refl
 early_built A B old (stop.Read kind.Grammar) early = refl
 early_built A B old (stop.Read kind.Kern) early = refl
+early_built A B old (stop.Read kind.ScriptFile) early = refl
 early_built A B old (stop.Read kind.Script) early = tt
 early_built A B old stop.Write early = tt
 early_built A B old stop.Memory early = inl refl
+
+-- the same of the cells of inputs
+pub early_inputs : (L : Type 0) (R : ℕ → Option EditFault → Type 0) (A B : Type 0) (old new : ℕ) → new ≡ old → (s : Stop) → IsEarly s → MatchInputs L R A ((new ≡ old) ⊎ B) (new ≡ old) s
+early_inputs L R A B old new same stop.Usage early = absurd early
+early_inputs L R A B old new same (stop.FileTooLong kind.Midi n) early = same
+early_inputs L R A B old new same (stop.FileTooLong kind.Grammar n) early = same
+early_inputs L R A B old new same (stop.FileTooLong kind.Kern n) early = same
+early_inputs L R A B old new same (stop.FileTooLong kind.ScriptFile n) early = same
+early_inputs L R A B old new same (stop.FileTooLong kind.Script n) early = tt
+early_inputs L R A B old new same (stop.LineTooLong n) early = tt
+early_inputs L R A B old new same (stop.Smf e) early = same
+early_inputs L R A B old new same (stop.Grammar e) early = same
+early_inputs L R A B old new same (stop.Kern e) early = same
+early_inputs L R A B old new same stop.NoNotes early = same
+early_inputs L R A B old new same (stop.TooManyNotes n) early = same
+early_inputs L R A B old new same (stop.BadSignature m n) early = same
+early_inputs L R A B old new same (stop.UnevenBar l m n) early = same
+early_inputs L R A B old new same (stop.TooManyBars n) early = same
+early_inputs L R A B old new same (stop.TooManyCells n) early = same
+early_inputs L R A B old new same (stop.NoStart l m n) early = same
+early_inputs L R A B old new same (stop.Unprepared e) early = same
+early_inputs L R A B old new same (stop.NoDerivation m n) early = absurd early
+early_inputs L R A B old new same (stop.ScoreTooLong n) early = absurd early
+early_inputs L R A B old new same (stop.RenderTooLong n) early = absurd early
+early_inputs L R A B old new same (stop.InFile m s) early = absurd early
+early_inputs L R A B old new same (stop.TooManyFiles n) early = absurd early
+early_inputs L R A B old new same (stop.TooManyCandidates n) early = absurd early
+early_inputs L R A B old new same (stop.NoBarline n) early = absurd early
+early_inputs L R A B old new same stop.NoCandidate early = absurd early
+early_inputs L R A B old new same (stop.ScriptLine row why) early = absurd early
+early_inputs L R A B old new same (stop.Read kind.Midi) early = same
+early_inputs L R A B old new same (stop.Read kind.Grammar) early = same
+early_inputs L R A B old new same (stop.Read kind.Kern) early = same
+early_inputs L R A B old new same (stop.Read kind.ScriptFile) early = same
+early_inputs L R A B old new same (stop.Read kind.Script) early = tt
+early_inputs L R A B old new same stop.Write early = tt
+early_inputs L R A B old new same stop.Memory early = inl same
 
 module _ {S O E : Type 0} (old new : Lent S O E) where
   pub reading_risen : (s : Stop) → EndsReading old.shelf_faults new.shelf_faults s → HasRisen old new s
@@ -84,9 +124,11 @@ module _ {S O E : Type 0} (old new : Lent S O E) where
   reading_risen (stop.TooManyCandidates n) end = tt
   reading_risen (stop.NoBarline n) end = tt
   reading_risen stop.NoCandidate end = tt
+  reading_risen (stop.ScriptLine row why) end = tt
   reading_risen (stop.Read kind.Midi) end = end
   reading_risen (stop.Read kind.Grammar) end = end
   reading_risen (stop.Read kind.Kern) end = end
+  reading_risen (stop.Read kind.ScriptFile) end = end
   reading_risen (stop.Read kind.Script) end = absurd end
   reading_risen stop.Write end = absurd end
   reading_risen stop.Memory end = tt
@@ -97,6 +139,7 @@ module _ {S O E : Type 0} (old new : Lent S O E) where
   reading_taken asked before now (stop.FileTooLong kind.Midi n) end none = none
   reading_taken asked before now (stop.FileTooLong kind.Grammar n) end none = none
   reading_taken asked before now (stop.FileTooLong kind.Kern n) end none = none
+  reading_taken asked before now (stop.FileTooLong kind.ScriptFile n) end none = none
   reading_taken asked before now (stop.FileTooLong kind.Script n) end none = absurd end
   reading_taken asked before now (stop.LineTooLong n) end none = absurd end
   reading_taken asked before now (stop.Smf e) end none = none
@@ -118,9 +161,11 @@ module _ {S O E : Type 0} (old new : Lent S O E) where
   reading_taken asked before now (stop.TooManyCandidates n) end none = none
   reading_taken asked before now (stop.NoBarline n) end none = none
   reading_taken asked before now stop.NoCandidate end none = none
+  reading_taken asked before now (stop.ScriptLine row why) end none = none
   reading_taken asked before now (stop.Read kind.Midi) end none = none
   reading_taken asked before now (stop.Read kind.Grammar) end none = none
   reading_taken asked before now (stop.Read kind.Kern) end none = none
+  reading_taken asked before now (stop.Read kind.ScriptFile) end none = none
   reading_taken asked before now (stop.Read kind.Script) end none = absurd end
   reading_taken asked before now stop.Write end none = absurd end
   reading_taken asked before now stop.Memory end none = none
@@ -148,6 +193,7 @@ reading_known before now (stop.TooManyFiles n) end e = absurd (cc)
 reading_known before now (stop.TooManyCandidates n) end e = absurd (cc)
 reading_known before now (stop.NoBarline n) end e = absurd (cc)
 reading_known before now stop.NoCandidate end e = absurd (cc)
+reading_known before now (stop.ScriptLine row why) end e = absurd (cc)
 reading_known before now (stop.Read k) end e = absurd (cc)
 reading_known before now stop.Write end e = absurd (cc)
 reading_known before now stop.Memory end e = absurd (cc)
@@ -186,20 +232,17 @@ module _ {S O E : Type 0} (old new : Lent S O E) where
   script_taken asked script.Write part none = λ files are. inr (part files are)
   script_taken asked script.Memory part none = none refl
 
-pub served_builds : (old mid new cells built : ℕ) → mid ≡ risen old cells → new ≡ risen mid built → new ≡ risen old (cells + built)
-served_builds old mid new cells built opened more = more ∙ ap (λ m. risen m built) opened ∙ risen_more old cells built
-
 -- the script is not begun, so the cells of the performance alone are built
 no_edits : {S O E : Type 0} (old new : Lent S O E) (t : Talk) (g : Grammar) (p : Performance) (last : Editing) → IsBrokenOff script.Memory old new t g p last → last.built ≡ 0
 no_edits old new t g p last broken = ap (λ (e : Editing). e.built) broken.0
 
 pub script_built : {S O E : Type 0} (from : ℕ) (old new : Lent S O E) (fs : Option (List File)) (i : Inputs) (t : Talk) (g : Grammar) (p : Performance) (s : ScriptStop) (last : Editing)
-    → new.built ≡ risen old.built last.built → IsBrokenOff s old new t g p last → ForSome fs (λ files. HasBuiltAll (cells_in i) files from old.built)
+    → new.built ≡ risen old.built last.built → IsBrokenOff s old new t g p last → OfLoaded i fs (ArePartlyBuilt from old.built)
     → HasBuilt (cells_in i) fs from new.built (script_stop s)
-script_built from old new fs i t g p script.Read last more broken all = tt
-script_built from old new fs i t g p (script.TooLong n) last more broken all = tt
-script_built from old new fs i t g p (script.LineTooLong n) last more broken all = tt
-script_built from old new fs i t g p script.Write last more broken all = tt
-script_built from old new fs i t g p script.Memory last more broken all =
+script_built from old new fs i t g p script.Read last more broken some = tt
+script_built from old new fs i t g p (script.TooLong n) last more broken some = tt
+script_built from old new fs i t g p (script.LineTooLong n) last more broken some = tt
+script_built from old new fs i t g p script.Write last more broken some = tt
+script_built from old new fs i t g p script.Memory last more broken some =
     let none = no_edits old new t g p last broken in
-    inr (λ files are. let it = all files are in (it.0, it.1, it.2, omega (arith, it.3, more, none)))
+    let same : old.built ≡ new.built = omega (arith, more, none) in inr (subst (λ n. OfLoaded i fs (ArePartlyBuilt from n)) same some)

@@ -46,6 +46,10 @@ pub OnErr-always : {T E : Type 0} (r : Result T E) (P : Type 0) → P → OnErr 
 OnErr-always (Ok x) P p = tt
 OnErr-always (Err e) P p = p
 
+pub OnErr-more : {T E P Q : Type 0} (r : Result T E) → (P → Q) → OnErr r P → OnErr r Q
+OnErr-more (Ok x) f h = tt
+OnErr-more (Err e) f h = f h
+
 -- a line was written whole, or a first part of it where a call failed
 pub reported : {T E : Type 0} (a b : Option (List ℕ)) (before now : ℕ) (t : List ℕ) (r : Result T E) → OnOk r (Appends a b t) → OnErr r (AppendsPart a b t) → HasCause before now r
     → Reports a b before now t

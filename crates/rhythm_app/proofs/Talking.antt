@@ -1,6 +1,5 @@
 -- The answering of a script over what is lent.
 use Rattle.std.proofs.Common.{◌≡◌, ◌≤◌, ◌∙◌, ap, arith, inr, refl, sym, subst, IfErr, OnOk, Some, Result, Ok, Err}
-use Rattle.edit_session.specs.Opening.{cells_of}
 use Rattle.edit_session.specs.Session.{Session}
 use Rattle.rhythm_app.specs.Asked.{Asked, answer}
 use Rattle.rhythm_app.specs.Ends.{IsBrokenOff, IsTalkDone, IsPerformed, IsErrUntouched, IsUntouched, KeepsRest, desk_of}
@@ -12,7 +11,8 @@ use Rattle.rhythm_app.specs.declared.request.Talk.{Talk}
 use Rattle.rhythm_app.specs.declared.stop.Stop.{Stop}
 use Rattle.rhythm_app.specs.declared.stop.Stop.TheVariants as stop
 use Rattle.rhythm_app.proofs.Performing.{kept_rest, silent_alone, untouched}
-use Rattle.rhythm_app.proofs.Stops.{script_built, script_cause, script_known, script_risen, script_taken, served_builds}
+use Rattle.rhythm_app.proofs.Stops.{script_built, script_cause, script_known, script_risen, script_taken}
+use Rattle.rhythm_app.proofs.Unopened.{inputs_partly}
 use Rattle.rhythm_base.specs.Counter.{risen}
 use Rattle.rhythm_base.specs.Grammar.{Grammar}
 use Rattle.rhythm_base.specs.Performance.{Performance}
@@ -100,7 +100,7 @@ module _ {S O E : Type 0} where
         last,
         h.ready fs are,
         done_old last done,
-        served_builds old.built mid.built new.built (cells_of s.performance) last.built h.cells more,
+        (mid.built, h.all fs are, more),
       );
       stopped = tt;
       rest = answered_rest files built multiplied;
@@ -129,11 +129,11 @@ module _ {S O E : Type 0} where
             last,
             h.ready fs are,
             broken_old e last broken,
-            served_builds old.built mid.built new.built (cells_of s.performance) last.built h.cells more,
+            (mid.built, h.all fs are, more),
           ),
         )) (λ is. let none = memory is in let first = untouched old mid h.before.alone in (none.0 ∙ first.0, none.1 ∙ first.1));
         nothing = λ none _. absurd none;
-        built = script_built old.built mid new old.files i t s.grammar s.performance e last more broken h.all;
+        built = script_built old.built mid new old.files i t s.grammar s.performance e last more broken (λ fs are. inputs_partly i fs old.built mid.built (h.all fs are));
       };
       rest = answered_rest files built multiplied;
       err = let none = silent_alone old mid h.before.alone in (err.0 ∙ none.0, err.1 ∙ none.1, err.2 ∙ none.2);

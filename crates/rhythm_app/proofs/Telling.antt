@@ -22,6 +22,7 @@ module _ {S O E : Type 0} (asked : Option Asked) (old mid : Lent S O E) (err : E
   risen_after (stop.FileTooLong kind.Midi n) h = h
   risen_after (stop.FileTooLong kind.Grammar n) h = h
   risen_after (stop.FileTooLong kind.Kern n) h = h
+  risen_after (stop.FileTooLong kind.ScriptFile n) h = h
   risen_after (stop.FileTooLong kind.Script n) h = h
   risen_after (stop.LineTooLong n) h = h
   risen_after (stop.Smf e) h = h
@@ -43,9 +44,11 @@ module _ {S O E : Type 0} (asked : Option Asked) (old mid : Lent S O E) (err : E
   risen_after (stop.TooManyCandidates n) h = h
   risen_after (stop.NoBarline n) h = h
   risen_after stop.NoCandidate h = h
+  risen_after (stop.ScriptLine row why) h = h
   risen_after (stop.Read kind.Midi) h = h
   risen_after (stop.Read kind.Grammar) h = h
   risen_after (stop.Read kind.Kern) h = h
+  risen_after (stop.Read kind.ScriptFile) h = h
   risen_after (stop.Read kind.Script) h = h
   risen_after stop.Write h = h
   risen_after stop.Memory h = h
@@ -65,6 +68,7 @@ module _ {S O E : Type 0} (asked : Option Asked) (old mid : Lent S O E) (err : E
   taken_after (stop.FileTooLong kind.Midi n) h = h
   taken_after (stop.FileTooLong kind.Grammar n) h = h
   taken_after (stop.FileTooLong kind.Kern n) h = h
+  taken_after (stop.FileTooLong kind.ScriptFile n) h = h
   taken_after (stop.FileTooLong kind.Script n) h = λ files are. stopped_after files (stop.FileTooLong kind.Script n) (h files are)
   taken_after (stop.LineTooLong n) h = λ files are. stopped_after files (stop.LineTooLong n) (h files are)
   taken_after (stop.Smf e) h = h
@@ -86,9 +90,11 @@ module _ {S O E : Type 0} (asked : Option Asked) (old mid : Lent S O E) (err : E
   taken_after (stop.TooManyCandidates n) h = h
   taken_after (stop.NoBarline n) h = h
   taken_after stop.NoCandidate h = h
+  taken_after (stop.ScriptLine row why) h = h
   taken_after (stop.Read kind.Midi) h = h
   taken_after (stop.Read kind.Grammar) h = h
   taken_after (stop.Read kind.Kern) h = h
+  taken_after (stop.Read kind.ScriptFile) h = h
   taken_after (stop.Read kind.Script) h = λ files are. stopped_after files (stop.Read kind.Script) (h files are)
   taken_after stop.Write h = λ files are. cut_after files (h files are)
   taken_after stop.Memory h = h

@@ -1,6 +1,6 @@
 -- What the words of a command line ask for.
 use Rattle.rhythm_base.specs.declared.limits.TheConstants.{LATEST_TICK, MOST_BARS}
-use Rattle.std.specs.Prelude.{ℕ, ◌+◌, ◌-◌, ◌/◌, ◌<◌, nat_eq, nat_le, List, [], ◌∷◌, codes, if◌then◌else◌, Option, Some, None, option_and_then, option_map, IsSome, length, drop, ◌≤◌, ⊤}
+use Rattle.std.specs.Prelude.{ℕ, ◌+◌, ◌-◌, ◌/◌, ◌<◌, nat_eq, nat_le, List, [], ◌∷◌, codes, if◌then◌else◌, Option, Some, None, option_and_then, option_map, IsSome, length, drop, slice_get, ◌≤◌, ⊤}
 use Rattle.std.specs.Cmp.Lexicographic.{pointwise}
 use Rattle.barline_fit.specs.declared.candidates.Candidates.{Candidates}
 use Rattle.barline_fit.specs.declared.candidates.TheConstants.{MOST_CANDIDATES}
@@ -54,17 +54,22 @@ of_two make (a ∷ []) = None
 of_two make (a ∷ b ∷ []) = make a b
 of_two make (a ∷ b ∷ c ∷ more) = None
 
--- the names of a MIDI file and a grammar, and how the take is prepared
-abbrev pub inputs_named : Options → List ℕ → List ℕ → Inputs
-inputs_named o midi grammar = record { midi = midi; grammar = grammar; options = o }
+-- the names of a MIDI file and a grammar, how the take is prepared, and the script file
+abbrev pub inputs_named : Options → Option (List ℕ) → List ℕ → List ℕ → Inputs
+inputs_named o script midi grammar = record { midi = midi; grammar = grammar; options = o; script = script }
 
 -- a word and these names
-abbrev pub of_inputs : (Inputs → Asked) → Options → List (List ℕ) → Option Asked
-of_inputs make o = of_two (λ midi grammar. Some (make (inputs_named o midi grammar)))
+abbrev pub of_inputs : (Inputs → Asked) → Options → Option (List ℕ) → List (List ℕ) → Option Asked
+of_inputs make o script = of_two (λ midi grammar. Some (make (inputs_named o script midi grammar)))
 
--- a command for which nothing is told of a take
-abbrev pub untold : Options → Option Asked → Option Asked
-untold o asked = option_and_then (λ (a : Asked). if is_told o then None else Some a) asked
+-- a command without a script file
+abbrev pub unscripted : Option (List ℕ) → Option Asked → Option Asked
+unscripted None asked = asked
+unscripted (Some name) asked = None
+
+-- a command for which nothing is told of a take, and without a script file
+abbrev pub untold : Options → Option (List ℕ) → Option Asked → Option Asked
+untold o script asked = unscripted script (option_and_then (λ (a : Asked). if is_told o then None else Some a) asked)
 
 -- a word and six more
 abbrev pub of_six : (List ℕ → List ℕ → List ℕ → List ℕ → List ℕ → List ℕ → Option Asked) → List (List ℕ) → Option Asked
@@ -99,8 +104,9 @@ abbrev pub fit_of : Inputs → Candidates → Asked
 fit_of i c = if nat_le (candidate_count c) MOST_CANDIDATES then fit i c else too_many_candidates (candidate_count c)
 
 -- two files, and the candidates of a barline
-abbrev pub fit_by : Options → List ℕ → List ℕ → List ℕ → List ℕ → List ℕ → List ℕ → Option Asked
-fit_by o midi grammar bar low high step = option_map (λ (c : Candidates). fit_of (inputs_named o midi grammar) c) (candidates_by bar low high step)
+abbrev pub fit_by : Options → Option (List ℕ) → List ℕ → List ℕ → List ℕ → List ℕ → List ℕ → List ℕ → Option Asked
+fit_by o script midi grammar bar low high step =
+    option_map (λ (c : Candidates). fit_of (inputs_named o script midi grammar) c) (candidates_by bar low high step)
 
 -- weights are learned from at most 256 files
 abbrev pub learn_of : ℕ → List ℕ → List (List ℕ) → Asked
@@ -111,13 +117,13 @@ abbrev pub learn_by : List (List ℕ) → Option Asked
 learn_by (bit ∷ grammar ∷ midi ∷ more) = option_map (λ (b : ℕ). learn_of b grammar (midi ∷ more)) (number_in 1 HEAVIEST_BIT bit)
 learn_by _ = None
 
--- how a command is called: its word, what the words after it are, and what these ask for by what is told of a take
+-- how a command is called: its word, what the words after it are, and what these ask for by what is told of a take and the script file
 pub record Call : Type 0 where
   pub word : List ℕ
   pub after : List ℕ
-  pub asked : Options → List (List ℕ) → Option Asked
+  pub asked : Options → Option (List ℕ) → List (List ℕ) → Option Asked
 
-abbrev pub call : List ℕ → List ℕ → (Options → List (List ℕ) → Option Asked) → Call
+abbrev pub call : List ℕ → List ℕ → (Options → Option (List ℕ) → List (List ℕ) → Option Asked) → Call
 call word after asked = record { word = word; after = after; asked = asked }
 
 -- the commands
@@ -130,13 +136,13 @@ calls =
     ∷ call (codes "render") (codes "MIDI GRAMMAR") (of_inputs (write form.Rendered))
     ∷ call (codes "edit") (codes "MIDI GRAMMAR") (of_inputs (answer talk.Editing))
     ∷ call (codes "studio") (codes "MIDI GRAMMAR") (of_inputs (answer talk.Studio))
-    ∷ call (codes "fit") (codes "MIDI GRAMMAR BAR LOW HIGH STEP, with BAR from 0 to 4096, LOW and HIGH from 0 to 2000000000, LOW no more than HIGH, and STEP from 1 to 2000000000") (λ o. of_six (fit_by o))
+    ∷ call (codes "fit") (codes "MIDI GRAMMAR BAR LOW HIGH STEP, with BAR from 0 to 4096, LOW and HIGH from 0 to 2000000000, LOW no more than HIGH, and STEP from 1 to 2000000000") (λ o script. of_six (fit_by o script))
     ∷ call (codes "follow") (codes "MIDI GRAMMAR") (of_inputs follow)
-    ∷ call (codes "learn") (codes "BIT GRAMMAR MIDI..., with BIT from 1 to 10000, and 1 to 256 MIDI files") (λ o words. untold o (learn_by words))
-    ∷ call (codes "notes") (codes "MIDI") (λ o. of_one (λ a. Some (notes a o)))
-    ∷ call (codes "events") (codes "KERN") (λ o words. untold o (of_one (λ a. Some (events a)) words))
-    ∷ call (codes "generate") (codes "NUMBER BARS, with NUMBER from 0 to 65534 and BARS from 1 to 2000") (λ o words. untold o (of_two generate_by words))
-    ∷ call (codes "drill") (codes "NUMBER GRAMMAR, with NUMBER from 0 to 65534") (λ o words. untold o (of_two drill_by words))
+    ∷ call (codes "learn") (codes "BIT GRAMMAR MIDI..., with BIT from 1 to 10000, and 1 to 256 MIDI files") (λ o script words. untold o script (learn_by words))
+    ∷ call (codes "notes") (codes "MIDI") (λ o script words. unscripted script (of_one (λ a. Some (notes a o)) words))
+    ∷ call (codes "events") (codes "KERN") (λ o script words. untold o script (of_one (λ a. Some (events a)) words))
+    ∷ call (codes "generate") (codes "NUMBER BARS, with NUMBER from 0 to 65534 and BARS from 1 to 2000") (λ o script words. untold o script (of_two generate_by words))
+    ∷ call (codes "drill") (codes "NUMBER GRAMMAR, with NUMBER from 0 to 65534") (λ o script words. untold o script (of_two drill_by words))
     ∷ []
 
 -- what the call of this word has
@@ -144,10 +150,10 @@ abbrev pub at_word : {X : Type 0} → (Call → Option X) → List ℕ → List 
 at_word f word [] = None
 at_word f word (c ∷ more) = if pointwise nat_eq word c.word then f c else at_word f word more
 
--- the command of the words that are no option, by what is told of a take
-abbrev pub command_by : Options → List (List ℕ) → Option Asked
-command_by o [] = None
-command_by o (word ∷ more) = at_word (λ c. c.asked o more) word calls
+-- the command of the words that are no option, by what is told of a take and the script file
+abbrev pub command_by : Options → Option (List ℕ) → List (List ℕ) → Option Asked
+command_by o script [] = None
+command_by o script (word ∷ more) = at_word (λ c. c.asked o script more) word calls
 
 -- what the words after this one are, where it is the word of a command
 abbrev pub words_after : List ℕ → Option (List ℕ)
@@ -155,13 +161,13 @@ words_after word = at_word (λ c. Some c.after) word calls
 
 -- the word, with some words after it, is a command
 abbrev pub IsCommandWord : List ℕ → Type 0
-IsCommandWord word = (more : List (List ℕ)) × IsSome (command_by no_options (word ∷ more))
+IsCommandWord word = (more : List (List ℕ)) × IsSome (command_by no_options None (word ∷ more))
 
 -- what is asked for, whatever the number of workers is
 abbrev pub asked_of : Invocation → Option Asked
 asked_of invocation.Help = Some help
 asked_of invocation.Version = Some version
-asked_of (invocation.Command line) = command_by line.options line.words
+asked_of (invocation.Command line) = command_by line.options (slice_get line.script 0) line.words
 
 -- the number of workers that the words say, 1 to 16: that of the option, and 1 without it
 abbrev pub workers_asked : Invocation → ℕ

@@ -9,24 +9,31 @@ use Rattle.barline_fit.specs.declared.fitted.Fitted.{Fitted}
 use Rattle.barline_follow.specs.Searched.{AreBuiltToFollow}
 use Rattle.barline_follow.specs.Builds.{AreMostBuilt}
 use Rattle.drill_run.specs.Ends.{HasDrilled, IsDrillBrokenOff}
+use Rattle.edit_script.specs.ScriptLines.{script_lines}
 use Rattle.edit_session.specs.Opening.{cells_of}
 use Rattle.edit_session.specs.Prepared.{RisesBy}
 use Rattle.edit_session.specs.Session.{Session}
 use Rattle.rhythm_app.specs.Commands.{Cells, no_cells, cells_in, cells_fitted, cells_followed, cells_learned, cells_drilled}
 use Rattle.rhythm_app.specs.Inputs.{Inputs, file_content}
 use Rattle.rhythm_app.specs.Learning.{AreCellsBuilt, HasLearnedOf}
-use Rattle.rhythm_app.specs.Outcome.{AreInputs, IsPieceOf, IsUnderstood}
+use Rattle.rhythm_app.specs.Outcome.{AreInputs, AreLoaded, IsPieceOf, IsUnderstood, Loaded}
+use Rattle.rhythm_app.specs.Scripted.{AreLinesMade, MayHaveBuilt, Opened, Refused, opened_on}
 use Rattle.rhythm_app.specs.declared.stop.Kind.TheVariants as kind
 use Rattle.rhythm_app.specs.declared.stop.Stop.{Stop}
-use Rattle.rhythm_app.specs.declared.stop.Stop.TheVariants.{FileTooLong, LineTooLong, NoDerivation, Read, ScoreTooLong, RenderTooLong, NoBarline, NoCandidate, Write, Memory}
+use Rattle.rhythm_app.specs.declared.stop.Stop.TheVariants.{FileTooLong, LineTooLong, NoDerivation, Read, ScoreTooLong, RenderTooLong, NoBarline, NoCandidate, ScriptLine, Write, Memory}
 use Rattle.rhythm_base.specs.Counter.{risen}
 use Rattle.rhythm_base.specs.Grammar.{Grammar}
 use Rattle.rhythm_base.specs.Performance.{Performance}
+use Rattle.rhythm_base.specs.declared.edit_fault.EditFault.{EditFault}
 use Rattle.rhythm_ports.specs.Files.{File}
 
--- inputs say this grammar and this performance, and P holds of them
-abbrev pub ForInputs : Inputs → List File → (Grammar → Performance → Type 0) → Type 0
-ForInputs i files P = (g : Grammar) × (p : Performance) × AreInputs i files (Ok (g, p)) × P g p
+-- the files of inputs say this, and P holds of it
+abbrev pub ForLoaded : Inputs → List File → (Loaded → Type 0) → Type 0
+ForLoaded i files P = (x : Loaded) × AreLoaded i files (Ok x) × P x
+
+-- inputs say this performance, after the edits of their script file, and P holds of it
+abbrev pub ForInputs : Inputs → List File → (Opened → Type 0) → Type 0
+ForInputs i files P = (o : Opened) × AreInputs i files (Ok o) × P o
 
 -- the cells that a barline reaches at its candidates were built, one candidate after another
 abbrev pub HasTried : Candidates → Grammar → Performance → ℕ → ℕ → Type 0
@@ -43,10 +50,6 @@ HasPartlyFitted c g p old new =
     RisesBy old new (AreWithinReach g p c.bar (ticks_of c))
     ⊎ ((x : Fitted) × (mid : ℕ) × IsFitted g p c.bar (ticks_of c) x × HasTried c g p old mid × RisesBy mid new (AreWithinReach g p c.bar (x.tick ∷ [])))
 
--- some of the cells of a performance were built, or all of them and some of those for the fit
-abbrev pub AreSomeFitted : Candidates → Grammar → Performance → ℕ → ℕ → Type 0
-AreSomeFitted c g p old new = (new ≤ risen old (cells_of p)) ⊎ HasPartlyFitted c g p (risen old (cells_of p)) new
-
 -- the tables of the search for barlines that follow the player were built, and those of the trial of its script
 abbrev pub HasFollowed : Grammar → Performance → ℕ → ℕ → Type 0
 HasFollowed g p old new = RisesBy old new (AreBuiltToFollow g p)
@@ -54,10 +57,6 @@ HasFollowed g p old new = RisesBy old new (AreBuiltToFollow g p)
 -- no more of these were built than there are at most
 abbrev pub HasPartlyFollowed : Grammar → Performance → ℕ → ℕ → Type 0
 HasPartlyFollowed g p old new = RisesBy old new (λ n. (most : ℕ) → AreMostBuilt g p most → n ≤ most)
-
--- some of the cells of a performance were built, or all of them and some of these tables
-abbrev pub AreSomeFollowed : Grammar → Performance → ℕ → ℕ → Type 0
-AreSomeFollowed g p old new = (new ≤ risen old (cells_of p)) ⊎ HasPartlyFollowed g p (risen old (cells_of p)) new
 
 -- a grammar file and the number of a piece say this grammar and this performance, and P holds of them
 abbrev pub ForPiece : List ℕ → ℕ → (Grammar → Performance → Type 0) → Type 0
@@ -67,13 +66,13 @@ ForPiece bytes number P = (g : Grammar) × (p : Performance) × IsUnderstood byt
 abbrev pub AreDrilled : List ℕ → ℕ → Result (List ℕ) ℕ → ℕ → ℕ → Type 0
 AreDrilled bytes number said old new = ForPiece bytes number (λ g p. HasDrilled g number p said (risen old (cells_of p)) new)
 
--- all cells of the command's performance were built. A fit builds, besides, those for its candidates, barlines that follow the player those
+-- all cells of the command's performance were built, and then those for the edits of its script file. A fit builds, besides, those for its candidates, barlines that follow the player those
 -- of the search for them, and a drill those for its edits. A command that has no cells leaves the counter as it was
 abbrev pub HasBuiltAll : Cells → List File → ℕ → ℕ → Type 0
 HasBuiltAll no_cells files old new = new ≡ old
-HasBuiltAll (cells_in i) files old new = ForInputs i files (λ g p. new ≡ risen old (cells_of p))
-HasBuiltAll (cells_fitted i c) files old new = ForInputs i files (λ g p. HasFitted c g p (risen old (cells_of p)) new)
-HasBuiltAll (cells_followed i) files old new = ForInputs i files (λ g p. HasFollowed g p (risen old (cells_of p)) new)
+HasBuiltAll (cells_in i) files old new = ForInputs i files (λ o. new ≡ risen old o.built)
+HasBuiltAll (cells_fitted i c) files old new = ForInputs i files (λ o. HasFitted c o.grammar o.performance (risen old o.built) new)
+HasBuiltAll (cells_followed i) files old new = ForInputs i files (λ o. HasFollowed o.grammar o.performance (risen old o.built) new)
 HasBuiltAll (cells_learned midis) files old new = AreCellsBuilt files midis old new
 HasBuiltAll (cells_drilled number grammar) files old new = (text : List ℕ) × AreDrilled (file_content files grammar) number (Ok text) old new
 
@@ -95,55 +94,90 @@ MatchBuilds all some none _ = none
 abbrev pub HasBuiltFor : Performance → ℕ → ℕ → Stop → Type 0
 HasBuiltFor p old new = MatchBuilds (new ≡ risen old (cells_of p)) (new ≤ risen old (cells_of p)) (new ≡ old)
 
--- and where barlines follow the player
-abbrev pub HasFollowedFor : Grammar → Performance → ℕ → ℕ → Stop → Type 0
-HasFollowedFor g p old new = MatchBuilds (new ≡ risen old (cells_of p)) (AreSomeFollowed g p old new) (new ≡ old)
+-- ---- the cells of inputs
 
--- inputs say a grammar and a performance of which P holds, where the files are told
-abbrev pub OfInputs : Inputs → Option (List File) → (Grammar → Performance → Type 0) → Type 0
+-- inputs say what P holds of, where the files are told
+abbrev pub OfLoaded : Inputs → Option (List File) → (Loaded → Type 0) → Type 0
+OfLoaded i files P = ForSome files (λ files. ForLoaded i files P)
+
+abbrev pub OfInputs : Inputs → Option (List File) → (Opened → Type 0) → Type 0
 OfInputs i files P = ForSome files (λ files. ForInputs i files P)
 
--- the same of the cells of inputs
+-- the cells of the performance as it is loaded were built, and no more
+abbrev pub AreLoadedBuilt : ℕ → ℕ → Loaded → Type 0
+AreLoadedBuilt old new x = new ≡ risen old (cells_of x.performance)
+
+-- these, those for the edits of the lines before this one, which is refused, and those that its edit would have reached
+abbrev pub AreBuiltToLine : ℕ → Option EditFault → ℕ → ℕ → Loaded → Type 0
+AreBuiltToLine line fault old new x =
+    (r : Refused) × AreLinesMade 1 (opened_on x.grammar x.performance) (script_lines x.script) (Err r) × (line ≡ r.line) × (fault ≡ r.fault) × (new ≡ risen old r.built)
+
+-- some of the cells of the performance were built, or all of them and some of those for the edits
+abbrev pub ArePartlyBuilt : ℕ → ℕ → Loaded → Type 0
+ArePartlyBuilt old new x =
+    (new ≤ risen old (cells_of x.performance)) ⊎ RisesBy old new (MayHaveBuilt (opened_on x.grammar x.performance) (script_lines x.script))
+
+-- all cells were built of the performance that inputs say, and those for the edits of their script file
+abbrev pub AreInputsBuilt : ℕ → ℕ → Opened → Type 0
+AreInputsBuilt old new o = new ≡ risen old o.built
+
+-- what holds of the cells of inputs by the stop: those of the performance are built where a derivation is wanting; those for the edits too,
+-- up to a line that is refused, or all where the score or its MIDI file is too long; some where memory is wanting; and none before any other
+-- stop. Where something was written before, more is known by what was written
+abbrev pub MatchInputs : Type 0 → (ℕ → Option EditFault → Type 0) → Type 0 → Type 0 → Type 0 → Stop → Type 0
+MatchInputs loaded line all some none (NoDerivation _ _) = loaded
+MatchInputs loaded line all some none (ScriptLine n fault) = line n fault
+MatchInputs loaded line all some none (ScoreTooLong _) = all
+MatchInputs loaded line all some none (RenderTooLong _) = all
+MatchInputs loaded line all some none Memory = some
+MatchInputs loaded line all some none Write = ⊤
+MatchInputs loaded line all some none (Read kind.Script) = ⊤
+MatchInputs loaded line all some none (FileTooLong kind.Script _) = ⊤
+MatchInputs loaded line all some none (LineTooLong _) = ⊤
+MatchInputs loaded line all some none _ = none
+
+-- the cells of inputs
 abbrev pub HasBuiltOf : Inputs → Option (List File) → ℕ → ℕ → Stop → Type 0
 HasBuiltOf i files old new =
-    MatchBuilds (OfInputs i files (λ g p. new ≡ risen old (cells_of p))) ((new ≡ old) ⊎ OfInputs i files (λ g p. new ≤ risen old (cells_of p)))
-    (new ≡ old)
+    MatchInputs (OfLoaded i files (AreLoadedBuilt old new)) (λ n fault. OfLoaded i files (AreBuiltToLine n fault old new))
+    (OfInputs i files (AreInputsBuilt old new)) ((new ≡ old) ⊎ OfLoaded i files (ArePartlyBuilt old new)) (new ≡ old)
 
--- what holds of the cells of a fit by the stop: all of the performance are built where a derivation or the barline is wanting, and those
--- for the candidates too where no candidate is fitted; where the score is too long, those for it, too; some where memory is wanting
-abbrev pub MatchFitted : Type 0 → Type 0 → Type 0 → Type 0 → Type 0 → Stop → Type 0
-MatchFitted all tried fitted some none (NoDerivation _ _) = all
-MatchFitted all tried fitted some none (NoBarline _) = all
-MatchFitted all tried fitted some none NoCandidate = tried
-MatchFitted all tried fitted some none (ScoreTooLong _) = fitted
-MatchFitted all tried fitted some none Memory = some
-MatchFitted all tried fitted some none Write = ⊤
-MatchFitted all tried fitted some none _ = none
+-- what holds of the cells of a fit by the stop: as of those of inputs; all of these are built where the barline is wanting, and those
+-- for the candidates too where no candidate is fitted; where the score is too long, those for it, too
+abbrev pub MatchFitted : Type 0 → (ℕ → Option EditFault → Type 0) → Type 0 → Type 0 → Type 0 → Type 0 → Type 0 → Stop → Type 0
+MatchFitted loaded line all tried fitted some none (NoDerivation _ _) = loaded
+MatchFitted loaded line all tried fitted some none (ScriptLine n fault) = line n fault
+MatchFitted loaded line all tried fitted some none (NoBarline _) = all
+MatchFitted loaded line all tried fitted some none NoCandidate = tried
+MatchFitted loaded line all tried fitted some none (ScoreTooLong _) = fitted
+MatchFitted loaded line all tried fitted some none Memory = some
+MatchFitted loaded line all tried fitted some none Write = ⊤
+MatchFitted loaded line all tried fitted some none _ = none
 
 -- the same of the fit of a barline over a session
 abbrev pub HasFittedOver : Candidates → Session → ℕ → ℕ → Stop → Type 0
 HasFittedOver c s old new =
-    MatchFitted (new ≡ old) (HasTried c s.grammar s.performance old new) (HasFitted c s.grammar s.performance old new)
+    MatchFitted ⊥ (λ n fault. ⊥) (new ≡ old) (HasTried c s.grammar s.performance old new) (HasFitted c s.grammar s.performance old new)
     (HasPartlyFitted c s.grammar s.performance old new) ⊥
 
--- and of a performance, on which a session is opened
-abbrev pub HasFittedFor : Candidates → Grammar → Performance → ℕ → ℕ → Stop → Type 0
-HasFittedFor c g p old new =
-    MatchFitted (new ≡ risen old (cells_of p)) (HasTried c g p (risen old (cells_of p)) new) (HasFitted c g p (risen old (cells_of p)) new)
-    (AreSomeFitted c g p old new) (new ≡ old)
-
--- the same of the fit of a barline of inputs
+-- and of inputs, on which a session is opened
 abbrev pub HasFittedOf : Inputs → Option (List File) → Candidates → ℕ → ℕ → Stop → Type 0
 HasFittedOf i files c old new =
-    MatchFitted (OfInputs i files (λ g p. new ≡ risen old (cells_of p))) (OfInputs i files (λ g p. HasTried c g p (risen old (cells_of p)) new))
-    (OfInputs i files (λ g p. HasFitted c g p (risen old (cells_of p)) new)) ((new ≡ old) ⊎ OfInputs i files (λ g p. AreSomeFitted c g p old new))
+    MatchFitted (OfLoaded i files (AreLoadedBuilt old new)) (λ n fault. OfLoaded i files (AreBuiltToLine n fault old new))
+    (OfInputs i files (AreInputsBuilt old new)) (OfInputs i files (λ o. HasTried c o.grammar o.performance (risen old o.built) new))
+    (OfInputs i files (λ o. HasFitted c o.grammar o.performance (risen old o.built) new))
+    ((new ≡ old) ⊎ OfLoaded i files (ArePartlyBuilt old new) ⊎ OfInputs i files (λ o. HasPartlyFitted c o.grammar o.performance (risen old o.built) new))
     (new ≡ old)
 
 -- the same of barlines that follow the player
 abbrev pub HasFollowedOf : Inputs → Option (List File) → ℕ → ℕ → Stop → Type 0
 HasFollowedOf i files old new =
-    MatchBuilds (OfInputs i files (λ g p. new ≡ risen old (cells_of p))) ((new ≡ old) ⊎ OfInputs i files (λ g p. AreSomeFollowed g p old new))
+    MatchInputs (OfLoaded i files (AreLoadedBuilt old new)) (λ n fault. OfLoaded i files (AreBuiltToLine n fault old new))
+    (OfInputs i files (AreInputsBuilt old new))
+    ((new ≡ old) ⊎ OfLoaded i files (ArePartlyBuilt old new) ⊎ OfInputs i files (λ o. HasPartlyFollowed o.grammar o.performance (risen old o.built) new))
     (new ≡ old)
+
+-- ---- the cells of a drill
 
 -- what holds of the cells of a drill by the stop: as of those of a file, but where the last score is too long, those for the edits are
 -- built, too; and where memory is wanting, some of these may be

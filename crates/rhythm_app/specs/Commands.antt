@@ -48,9 +48,14 @@ pub record Command : Type 1 where
 abbrev pub only : List ℕ → List File → Result Ready Stop → Type 0
 only text files r = r ≡ Ok (say text)
 
+-- the script file, where there is one
+abbrev pub script_file : Option (List ℕ) → List Named
+script_file None = []
+script_file (Some name) = named kind.ScriptFile name ∷ []
+
 -- the files of inputs, in the order in which they are read
 abbrev pub input_files : Inputs → List Named
-input_files i = named kind.Midi i.midi ∷ named kind.Grammar i.grammar ∷ []
+input_files i = named kind.Midi i.midi ∷ named kind.Grammar i.grammar ∷ script_file i.script
 
 -- a command on inputs, by what it comes to by the grammar and the performance that they say
 abbrev pub on_inputs : Inputs → (Grammar → Performance → Result Ready Stop → Type 0) → Cells → Command

@@ -2,14 +2,13 @@
 use Rattle.std.specs.Prelude.{◌≡◌, ◌≢◌, ℕ, ◌+◌, ◌⊎◌, ◌<◌, ◌≤◌, false, List, [], ◌∷◌, ◌++◌, length, take, IfErr, OnOk, Result, Ok, Err, Option, Some, None, IsOk, ⊤}
 use Rattle.std.specs.Io.KnownBytes.{Appends}
 use Rattle.std.specs.Option.{ForSome}
-use Rattle.edit_session.specs.Opening.{cells_of}
 use Rattle.rhythm_app.specs.Asked.{Asked, learn}
 use Rattle.rhythm_app.specs.Builds.{HasBuilt, HasBuiltAll}
 use Rattle.rhythm_app.specs.Commands.{HasNames, HasOutcome, HasOutcomeOf, Named, ReadsNoScript, cells_of_asked, command}
 use Rattle.rhythm_app.specs.Inputs.{file_content}
 use Rattle.rhythm_app.specs.Learning.{PassBefore}
 use Rattle.rhythm_app.specs.Lent.{Lent}
-use Rattle.rhythm_app.specs.Outcome.{Ready, say, serve, IsUnderstood, grammar_tests, kern_tests, midi_tests}
+use Rattle.rhythm_app.specs.Outcome.{Ready, say, serve, IsUnderstood, grammar_tests, kern_tests, midi_tests, sized}
 use Rattle.rhythm_app.specs.Stops.{status_of, stop_line, script_stop}
 use Rattle.rhythm_app.specs.declared.request.Talk.{Talk}
 use Rattle.rhythm_app.specs.declared.request.Talk.TheVariants as talk
@@ -52,11 +51,11 @@ AppendsPart old new text = (n : ℕ) × (n < length text) × Appends old new (ta
 abbrev pub IsTextSaid : {S O E : Type 0} → Option Asked → List File → (List ℕ → Type 0) → Lent S O E → Lent S O E → Type 0
 IsTextSaid asked files W old new = (text : List ℕ) × HasOutcomeOf asked files (Ok (say text)) × W text × HasBuiltAll (cells_of_asked asked) files old.built new.built
 
--- a script is answered as W says, from the performance that was loaded on. All its cells were built, and then those for the edits
+-- a script is answered as W says, from the performance on that the inputs say. All its cells were built, and then those for the edits
 abbrev pub IsServed : {S O E : Type 0} → Option Asked → List File → (Talk → Grammar → Performance → Editing → Type 0) → Lent S O E → Lent S O E → Type 0
 IsServed asked files W old new =
     (t : Talk) × (g : Grammar) × (p : Performance) × (last : Editing) × HasOutcomeOf asked files (Ok (serve t g p)) × W t g p last
-    × (new.built ≡ risen old.built (cells_of p + last.built))
+    × ((mid : ℕ) × HasBuiltAll (cells_of_asked asked) files old.built mid × (new.built ≡ risen mid last.built))
 
 -- what answers a script, before its first line
 abbrev pub desk_of : Talk → Grammar → Performance → Desk
@@ -107,6 +106,7 @@ abbrev pub Passes : Kind → List ℕ → Type 0
 Passes kind.Midi bytes = IsOk (midi_tests bytes)
 Passes kind.Grammar bytes = IsOk (grammar_tests bytes)
 Passes kind.Kern bytes = IsOk (kern_tests bytes)
+Passes kind.ScriptFile bytes = IsOk (sized kind.ScriptFile bytes)
 Passes kind.Script bytes = ⊤
 
 -- one of the files that are read is this input, and no number is told of it, and all files before it pass their tests

@@ -9,5 +9,6 @@ pub mod Learning
 pub mod Lent
 pub mod Outcome
 pub mod Parts
+pub mod Scripted
 pub mod Stages
 pub mod Stops

@@ -1,10 +1,10 @@
 -- What the bytes of a command's files come to: what the command is ready to write, or the first test that fails, as a stop. The tests come in this order: the words; the MIDI file's size and its faults; the grammar file's size and its
--- faults; the notes; the take as it is prepared, an option after the other; the bars; the cells, the root symbols and the derivations; the fit of a barline, where one is asked for; the size
+-- faults; the size of the script file, where there is one; the notes; the take as it is prepared, an option after the other; the bars; the cells, the root symbols and the derivations; the lines of the script file, one after another; the fit of a barline, where one is asked for; the size
 -- of a score, and of its MIDI file. Too many candidates for a barline are told before any file is read. Where the command has a MIDI file
 -- alone, there is no grammar file between its faults and the notes; where it has a **kern file, after the words come its size and its faults. `drill` has a grammar file, the cells, the root symbols and the derivations
 -- of its piece, and the size of its last score; `generate`, the help and the version read no file. A failed read, a failed write and
 -- want of memory are no outcomes: they may end any run.
-use Rattle.std.specs.Prelude.{◌≡◌, ◌≢◌, ℕ, ◌+◌, ◌≤◌, ◌⊎◌, nat_le, List, [], ◌∷◌, ◌++◌, codes, length, IfOk, map, decimal, if◌then◌else◌, Result, Ok, Err}
+use Rattle.std.specs.Prelude.{◌≡◌, ◌≢◌, ℕ, ◌+◌, ◌≤◌, ◌⊎◌, nat_le, List, [], ◌∷◌, ◌++◌, codes, length, IfOk, map, decimal, if◌then◌else◌, Option, Some, None, Result, Ok, Err}
 use Rattle.barline_fit.specs.Candidates.{ticks_of}
 use Rattle.barline_fit.specs.Fitted.{IsFitFault, IsFitted}
 use Rattle.barline_fit.specs.FittedScore.{IsFittedScore}
@@ -19,6 +19,7 @@ use Rattle.derivation.specs.PerformanceScore.{IsScoreOf, score_bar}
 use Rattle.derivation.specs.Score.{Score}
 use Rattle.drill_run.specs.Ends.{IsDrillOf}
 use Rattle.drill_run.specs.declared.piece.TheConstants.{DRILL_BARS}
+use Rattle.edit_script.specs.ScriptLines.{script_lines}
 use Rattle.edit_session.specs.Opening.{CanOpen, IsOpenFault}
 use Rattle.edit_session.specs.Session.{Session}
 use Rattle.edit_session.specs.declared.open_fault.OpenFault.{OpenFault}
@@ -52,11 +53,14 @@ use Rattle.rhythm_app.specs.declared.stop.Kind.{Kind}
 use Rattle.rhythm_app.specs.declared.stop.Kind.TheVariants as kind
 use Rattle.rhythm_app.specs.declared.stop.Stop.{Stop}
 use Rattle.rhythm_app.specs.declared.stop.Stop.TheVariants as stop
+use Rattle.rhythm_app.specs.Scripted.{AreLinesMade, Opened, Refused, opened_on}
 use Rattle.rhythm_app.specs.Stops.{joined_words}
 use Rattle.rhythm_base.specs.Grammar.{Grammar}
 use Rattle.rhythm_base.specs.Performance.{IsWellFormed, Performance}
 use Rattle.rhythm_base.specs.declared.bar_fault.BarFault.TheVariants as laying
 use Rattle.rhythm_base.specs.declared.edit.Edit.{Edit}
+use Rattle.rhythm_base.specs.declared.edit_fault.EditFault.{EditFault}
+use Rattle.rhythm_base.specs.declared.edit_fault.EditFault.TheVariants as editing
 use Rattle.rhythm_base.specs.declared.limits.TheConstants.{LONGEST_GRAMMAR, LONGEST_MIDI, LONGEST_SCORE, LONGEST_SCRIPT}
 use Rattle.rhythm_ports.specs.Files.{File}
 use Rattle.script_writer.specs.EditText.{script_text}
@@ -80,6 +84,7 @@ abbrev pub limit_of : Kind → ℕ
 limit_of kind.Midi = LONGEST_MIDI
 limit_of kind.Grammar = LONGEST_GRAMMAR
 limit_of kind.Kern = LONGEST_SCORE
+limit_of kind.ScriptFile = LONGEST_SCRIPT
 limit_of kind.Script = LONGEST_SCRIPT
 
 -- the bytes of a file that is not too long. Of a longer one, one byte more than the limit is read
@@ -116,6 +121,11 @@ IsUnderstood bytes r = grammar_tests bytes ≡ r
 -- what the **kern file comes to
 abbrev pub IsScoreRead : List ℕ → Result KernColumns Stop → Type 0
 IsScoreRead bytes r = kern_tests bytes ≡ r
+
+-- what the script file comes to: its bytes, and none where there is no such file
+abbrev pub IsScriptRead : Option (List ℕ) → List File → Result (List ℕ) Stop → Type 0
+IsScriptRead None files r = r ≡ Ok []
+IsScriptRead (Some name) files r = sized kind.ScriptFile (file_content files name) ≡ r
 
 -- ---- the performance
 
@@ -342,12 +352,44 @@ IsDrilling g number p (Err s) = IsUnopened g p s ⊎ IsTooLongDrill g number p s
 
 -- ---- the run
 
--- what inputs come to by the files: the grammar and the performance that they say
-abbrev pub AreInputs : Inputs → List File → Result (Grammar × Performance) Stop → Type 0
-AreInputs i files =
+-- what the files of inputs say: a grammar, a performance, and the script whose edits are made first
+pub record Loaded : Type 0 where
+  pub grammar : Grammar
+  pub performance : Performance
+  pub script : List ℕ
+
+abbrev pub loaded : Grammar → Performance → List ℕ → Loaded
+loaded g p script = record { grammar = g; performance = p; script = script }
+
+-- what the files of inputs come to
+abbrev pub AreLoaded : Inputs → List File → Result Loaded Stop → Type 0
+AreLoaded i files =
     AreInTurn (IsRead (file_content files i.midi))
-    (λ f. AreInTurn (IsUnderstood (file_content files i.grammar)) (λ g. AreInTurn (IsPlaying i.options f) (λ p r. r ≡ Ok (g, p))))
+    (λ f. AreInTurn (IsUnderstood (file_content files i.grammar))
+    (λ g. AreInTurn (IsScriptRead i.script files) (λ script. AreInTurn (IsPlaying i.options f) (λ p r. r ≡ Ok (loaded g p script)))))
+
+-- what the opening of a session comes to
+abbrev pub IsOpening : Grammar → Performance → Result Opened Stop → Type 0
+IsOpening g p (Ok o) = CanOpen g p × (o ≡ opened_on g p)
+IsOpening g p (Err s) = IsUnopened g p s
+
+-- why the edits of a script end at a line, as a stop: it says no edit, its edit is refused, or memory is wanting
+abbrev pub line_stop : ℕ → Option EditFault → Stop
+line_stop line (Some editing.Memory) = stop.Memory
+line_stop line fault = stop.ScriptLine line fault
+
+-- a refused line as a stop
+abbrev pub refused_stop : Refused → Stop
+refused_stop x = stop.ScriptLine x.line x.fault
+
+-- what the edits of a script come to
+abbrev pub IsScripted : List ℕ → Opened → Result Opened Stop → Type 0
+IsScripted script o r = (edits : Result Opened Refused) × AreLinesMade 1 o (script_lines script) edits × (r ≡ stopped refused_stop edits)
+
+-- what inputs come to by the files: the performance that they say, after the edits of the script file
+abbrev pub AreInputs : Inputs → List File → Result Opened Stop → Type 0
+AreInputs i files = AreInTurn (AreLoaded i files) (λ x. AreInTurn (IsOpening x.grammar x.performance) (IsScripted x.script))
 
 -- what they come to by what is asked of the grammar and the performance
 abbrev pub AreFilesRead : Inputs → List File → (Grammar → Performance → Result Ready Stop → Type 0) → Result Ready Stop → Type 0
-AreFilesRead i files last = AreInTurn (AreInputs i files) (λ inputs. last inputs.0 inputs.1)
+AreFilesRead i files last = AreInTurn (AreInputs i files) (λ o. last o.grammar o.performance)

@@ -2,28 +2,31 @@
 use Rattle.std.specs.Prelude.{◌≡◌, ◌≢◌, ℕ, ◌≤◌, ◌⊎◌, List, length, IfErr, IfOk, Option, None, Result, Ok, Err, Vec, ⊤}
 use Rattle.std.specs.Io.KnownBytes.{Appends}
 use Rattle.std.specs.Option.{ForSome}
-use Rattle.edit_session.specs.Opening.{cells_of}
+use Rattle.edit_session.specs.Opening.{CanOpen}
+use Rattle.edit_session.specs.Prepared.{RisesBy}
 use Rattle.edit_session.specs.Session.{Session}
 use Rattle.rhythm_ports.specs.Causes.{Rose}
 use Rattle.rhythm_base.specs.Counter.{risen}
 use Rattle.rhythm_base.specs.Grammar.{Grammar}
 use Rattle.rhythm_base.specs.Performance.{Performance}
 use Rattle.rhythm_base.specs.Readable.{IsReadable}
-use Rattle.rhythm_base.specs.declared.limits.TheConstants.{MOST_NOTES}
+use Rattle.rhythm_base.specs.declared.limits.TheConstants.{LONGEST_SCRIPT, MOST_NOTES}
+use Rattle.rhythm_base.specs.declared.edit_fault.EditFault.{EditFault}
 use Rattle.rhythm_ports.specs.Files.{File, file_of}
 use Rattle.rhythm_app.specs.Asked.{Asked}
-use Rattle.rhythm_app.specs.Builds.{HasBuilt, HasBuiltAll}
+use Rattle.rhythm_app.specs.Builds.{AreBuiltToLine, AreLoadedBuilt, ArePartlyBuilt, HasBuilt, HasBuiltAll, OfInputs, OfLoaded}
 use Rattle.rhythm_app.specs.Commands.{HasNames, HasOutcomeOf, HaveNames, cells_of_asked, input_files, no_cells}
 use Rattle.rhythm_app.specs.Ends.{AppendsPart, IsCauseOf, IsReadFailure}
 use Rattle.rhythm_app.specs.Inputs.{Inputs, file_content}
 use Rattle.rhythm_app.specs.Lent.{Lent}
-use Rattle.rhythm_app.specs.Outcome.{AreInputs, IsUnderstood, Ready, say, serve}
+use Rattle.rhythm_app.specs.Outcome.{AreInTurn, AreInputs, AreLoaded, IsOpening, IsScripted, IsUnderstood, Loaded, Ready, loaded, refused_stop, say, serve}
+use Rattle.rhythm_app.specs.Scripted.{AreLinesMade, MayHaveBuilt, Opened, Refused}
 use Rattle.rhythm_app.specs.declared.request.Talk.{Talk}
 use Rattle.rhythm_app.specs.declared.stop.Kind.{Kind}
 use Rattle.rhythm_app.specs.declared.stop.Kind.TheVariants as kind
 use Rattle.rhythm_app.specs.declared.stop.MidiStop.TheVariants as midi
 use Rattle.rhythm_app.specs.declared.stop.Stop.{Stop}
-use Rattle.rhythm_app.specs.declared.stop.Stop.TheVariants.{FileTooLong, LineTooLong, Usage, NoDerivation, ScoreTooLong, RenderTooLong, InFile, TooManyFiles, TooManyCandidates, NoBarline, NoCandidate, Read, Write, Memory}
+use Rattle.rhythm_app.specs.declared.stop.Stop.TheVariants.{FileTooLong, LineTooLong, Usage, NoDerivation, ScoreTooLong, RenderTooLong, InFile, TooManyFiles, TooManyCandidates, NoBarline, NoCandidate, ScriptLine, Read, Write, Memory}
 
 -- a failed call, or want of memory
 abbrev pub IsFailure : Stop → Type 0
@@ -54,6 +57,7 @@ IsEarly (TooManyFiles _) = ⊥
 IsEarly (TooManyCandidates _) = ⊥
 IsEarly (NoBarline _) = ⊥
 IsEarly NoCandidate = ⊥
+IsEarly (ScriptLine _ _) = ⊥
 IsEarly Write = ⊥
 IsEarly _ = ⊤
 
@@ -110,9 +114,14 @@ EndsReading before now Write = ⊥
 EndsReading before now Usage = ⊥
 EndsReading before now _ = ⊤
 
--- no grammar and no performance is had of the inputs: that is what they come to, or a read failed, or memory is wanting
-abbrev pub IsInputsStop : Inputs → List File → Stop → Type 0
-IsInputsStop i files stop = AreInputs i files (Err stop) ⊎ IsReadFailure (input_files i) files stop
+-- no grammar, no performance and no script is had of the inputs: that is what their files come to, or a read failed, or memory is wanting
+abbrev pub IsLoadStop : Inputs → List File → Stop → Type 0
+IsLoadStop i files stop = AreLoaded i files (Err stop) ⊎ IsReadFailure (input_files i) files stop
+
+-- a grammar, a performance and the bytes of a script as contracts see them
+abbrev pub loaded_of : {A E : Type 0} → Result (Grammar × Performance × Vec ℕ A) E → Result Loaded E
+loaded_of (Ok had) = Ok (loaded had.0 had.1 had.2.items)
+loaded_of (Err e) = Err e
 
 -- ---- stages of a command
 
@@ -146,16 +155,68 @@ pub record IsStoppedBefore {S O E : Type 0} (asked : Option Asked) (old new : Le
 abbrev pub ReadsShelf : {S O E : Type 0} → Lent S O E → Lent S O E → Type 0
 ReadsShelf old new = new ≡ record old { strays = new.strays; shelf_faults = new.shelf_faults }
 
--- what the inputs say is had: a grammar and a performance
-pub record HasInputs {S O E : Type 0} (i : Inputs) (old new : Lent S O E) (result : Result (Grammar × Performance) Stop) : Type 0 where
-  pub tests : ForSome old.files (λ files. Follows (AreInputs i files) result)
-  pub cause : IfErr result (λ stop. ForSome old.files (λ files. AreInputs i files (Err stop) ⊎ IsReadFailure (input_files i) files stop))
-  pub readable : IfOk result (λ inputs. IsReadable inputs.0)
-  pub few_notes : IfOk result (λ inputs. length inputs.1.notes ≤ MOST_NOTES)
+-- what the files of the inputs say is had: a grammar, a performance and the bytes of a script
+pub record HasLoaded {S O E A : Type 0} (i : Inputs) (old new : Lent S O E) (result : Result (Grammar × Performance × Vec ℕ A) Stop) : Type 0 where
+  pub tests : ForSome old.files (λ files. Follows (AreLoaded i files) (loaded_of result))
+  pub cause : IfErr result (λ stop. ForSome old.files (λ files. IsLoadStop i files stop))
+  pub readable : IfOk result (λ had. IsReadable had.0)
+  pub few_notes : IfOk result (λ had. length had.1.notes ≤ MOST_NOTES)
+  pub short : IfOk result (λ had. length had.2.items ≤ LONGEST_SCRIPT)
   pub end : IfErr result (EndsReading old.shelf_faults new.shelf_faults)
   pub early : IfErr result IsEarly
   pub strays : ForSome old.files (λ files. HaveNames files (input_files i) → new.strays ≡ old.strays)
   pub reads : ReadsShelf old new
+
+-- ---- a session on inputs
+
+-- a session on a performance for which so many cells were built
+abbrev pub standing : Session → ℕ → Opened
+standing s n = record { grammar = s.grammar; performance = s.performance; built = n }
+
+-- the edits of lines were made on a performance, and so many cells were built: the performance after them; the first line that is refused;
+-- or want of memory
+abbrev pub HasEdited : {T : Type 0} → Opened → List (List ℕ) → ℕ → ℕ → Performance → Result T Stop → Type 0
+HasEdited o lines old new q (Ok x) = (last : Opened) × AreLinesMade 1 o lines (Ok last) × (q ≡ last.performance) × (new ≡ risen old last.built)
+HasEdited o lines old new q (Err s) =
+    ((x : Refused) × AreLinesMade 1 o lines (Err x) × (s ≡ refused_stop x) × (new ≡ risen old x.built))
+    ⊎ ((s ≡ Memory) × RisesBy old new (MayHaveBuilt o lines))
+
+-- how many cells were built where no session is had: none; those of the performance, where a derivation is wanting; those up to the line that
+-- is refused; or some, where memory is wanting. L is what holds of what the files say
+abbrev pub IsBuiltUnopened : ((Loaded → Type 0) → Type 0) → ℕ → ℕ → Stop → Type 0
+IsBuiltUnopened L old new s =
+    (IsEarly s × (new ≡ old))
+    ⊎ ((channel bar : ℕ) × (s ≡ NoDerivation channel bar) × L (AreLoadedBuilt old new))
+    ⊎ ((line : ℕ) × (fault : Option EditFault) × (s ≡ ScriptLine line fault) × L (AreBuiltToLine line fault old new))
+    ⊎ ((s ≡ Memory) × L (ArePartlyBuilt old new))
+
+-- what a session on a performance comes to, after the edits of a script
+abbrev pub IsOpeningScripted : Loaded → Result Opened Stop → Type 0
+IsOpeningScripted x = AreInTurn (IsOpening x.grammar x.performance) (IsScripted x.script)
+
+-- a session stands on a performance, as edited so far
+abbrev pub StandsOn : Session → Opened → Type 0
+StandsOn s o = (s.grammar ≡ o.grammar) × (s.performance ≡ o.performance)
+
+-- a session is opened on what was loaded, and the edits of its script are made
+pub record HasScripted {S O E : Type 0} (x : Loaded) (old new : Lent S O E) (result : Result Session Stop) : Type 0 where
+  pub had : IfOk result (λ s. (o : Opened) × IsOpeningScripted x (Ok o) × StandsOn s o × (new.built ≡ risen old.built o.built))
+  pub can : IfOk result (λ s. CanOpen s.grammar s.performance)
+  pub cause : IfErr result (λ s. IsOpeningScripted x (Err s) ⊎ (s ≡ Memory))
+  pub content : IfErr result IsOfContent
+  pub built : IfErr result (IsBuiltUnopened (λ P. P x) old.built new.built)
+  pub counts : CountsUp old new
+
+-- a session is opened on inputs, and the edits of their script file are made
+pub record HasOpened {S O E : Type 0} (i : Inputs) (old new : Lent S O E) (result : Result Session Stop) : Type 0 where
+  pub had : IfOk result (λ s. OfInputs i old.files (λ o. StandsOn s o × (new.built ≡ risen old.built o.built)))
+  pub can : IfOk result (λ s. CanOpen s.grammar s.performance)
+  pub cause : IfErr result (λ stop. ForSome old.files (λ files. AreInputs i files (Err stop) ⊎ IsReadFailure (input_files i) files stop))
+  pub end : IfErr result (EndsReading old.shelf_faults new.shelf_faults)
+  pub built : IfErr result (IsBuiltUnopened (OfLoaded i old.files) old.built new.built)
+  pub strays : ForSome old.files (λ files. HaveNames files (input_files i) → new.strays ≡ old.strays)
+  pub rises : (old.built ≤ new.built) × (old.multiplied ≤ new.multiplied)
+  pub alone : ReadsAlone old new
 
 -- what the grammar file of this name says is had
 pub record HasRules {S O E : Type 0} (grammar : List ℕ) (old new : Lent S O E) (result : Result Grammar Stop) : Type 0 where
@@ -175,7 +236,6 @@ pub record HasText {S O E A : Type 0} (asked : Option Asked) (old new : Lent S O
 -- the session that answers a script is had, and all its cells are built
 pub record HasSession {S O E : Type 0} (asked : Option Asked) (talk : Talk) (old new : Lent S O E) (result : Result Session Stop) : Type 0 where
   pub ready : IfOk result (λ s. ForSome old.files (λ files. HasOutcomeOf asked files (Ok (serve talk s.grammar s.performance))))
-  pub cells : IfOk result (λ s. new.built ≡ risen old.built (cells_of s.performance))
   pub all : IfOk result (λ _. ForSome old.files (λ files. HasBuiltAll (cells_of_asked asked) files old.built new.built))
   pub before : IsStoppedBefore asked old new result
 

@@ -1,5 +1,6 @@
 -- The status of each stop, and the line that err takes.
 use Rattle.std.specs.Prelude.{ℕ, List, [], ◌∷◌, ◌++◌, codes, decimal, Option, Some, None}
+use Rattle.edit_script.specs.Replies.{fault_words, reply_line}
 use Rattle.grammar_file.specs.declared.fault.GrammarWhat.{GrammarWhat}
 use Rattle.grammar_file.specs.declared.fault.GrammarWhat.TheVariants as what
 use Rattle.kern_reader.specs.FaultName.{fault_name}
@@ -10,7 +11,8 @@ use Rattle.rhythm_app.specs.declared.stop.Kind.TheVariants as kind
 use Rattle.rhythm_app.specs.declared.stop.Stop.{Stop}
 use Rattle.rhythm_app.specs.declared.stop.MidiStop.{MidiStop}
 use Rattle.rhythm_app.specs.declared.stop.MidiStop.TheVariants as midi
-use Rattle.rhythm_app.specs.declared.stop.Stop.TheVariants.{Usage, FileTooLong, LineTooLong, Smf, Grammar, Kern, NoNotes, TooManyNotes, BadSignature, UnevenBar, TooManyBars, TooManyCells, NoStart, Unprepared, NoDerivation, ScoreTooLong, RenderTooLong, InFile, TooManyFiles, TooManyCandidates, NoBarline, NoCandidate, Read, Write, Memory}
+use Rattle.rhythm_app.specs.declared.stop.Stop.TheVariants.{Usage, FileTooLong, LineTooLong, Smf, Grammar, Kern, NoNotes, TooManyNotes, BadSignature, UnevenBar, TooManyBars, TooManyCells, NoStart, Unprepared, NoDerivation, ScoreTooLong, RenderTooLong, InFile, TooManyFiles, TooManyCandidates, NoBarline, NoCandidate, ScriptLine, Read, Write, Memory}
+use Rattle.rhythm_base.specs.declared.edit_fault.EditFault.{EditFault}
 use Rattle.script_run.specs.declared.script_stop.ScriptStop.{ScriptStop}
 use Rattle.script_run.specs.declared.script_stop.ScriptStop.TheVariants as script
 use Rattle.smf_reader.specs.declared.fault.SmfFault.{SmfFault}
@@ -62,6 +64,7 @@ status_of (TooManyFiles _) = 4
 status_of (TooManyCandidates _) = 4
 status_of (NoBarline _) = 9
 status_of NoCandidate = 9
+status_of (ScriptLine _ _) = 2
 status_of (Read _) = 5
 status_of Write = 6
 status_of Memory = 7
@@ -80,6 +83,7 @@ abbrev pub kind_name : Kind → List ℕ
 kind_name kind.Midi = codes "midi"
 kind_name kind.Grammar = codes "grammar"
 kind_name kind.Kern = codes "kern"
+kind_name kind.ScriptFile = codes "script-file"
 kind_name kind.Script = codes "script"
 
 -- the name of a fault of a MIDI file, and its number, where it has one. No file has want of memory as its fault
@@ -198,6 +202,11 @@ prepare_stop_line preparing.Memory = joined_words (codes "memory\n" ∷ [])
 abbrev pub in_file_line : ℕ → MidiStop → List ℕ
 in_file_line number s = joined_words (codes "file " ∷ decimal number ∷ codes " " ∷ []) ++ midi_stop_line s
 
+-- a line of the script file, and why it is refused: the words of the reply to its edit, after the first
+abbrev pub script_fault_line : ℕ → Option EditFault → List ℕ
+script_fault_line line None = joined_words (codes "script " ∷ decimal line ∷ codes " Line\n" ∷ [])
+script_fault_line line (Some fault) = joined_words (codes "script " ∷ decimal line ∷ codes " " ∷ []) ++ reply_line (fault_words fault)
+
 abbrev pub stop_line : Stop → List ℕ
 stop_line Usage = joined_words (codes "usage\n" ∷ [])
 stop_line (FileTooLong kind read) = limit_line (kind_name kind) read
@@ -221,6 +230,7 @@ stop_line (TooManyFiles count) = limit_line (codes "files") count
 stop_line (TooManyCandidates count) = limit_line (codes "candidates") count
 stop_line (NoBarline bar) = named_line (codes "fit ") (codes "NoBar") (Some bar)
 stop_line NoCandidate = named_line (codes "fit ") (codes "NoCandidate") None
+stop_line (ScriptLine line fault) = script_fault_line line fault
 stop_line (Read kind) = named_line (codes "read ") (kind_name kind) None
 stop_line Write = joined_words (codes "write\n" ∷ [])
 stop_line Memory = joined_words (codes "memory\n" ∷ [])

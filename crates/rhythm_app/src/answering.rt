@@ -11,10 +11,9 @@ ghost use Rattle.script_run.specs.Editing.{Editing};
 ghost use Rattle.script_run.specs.declared.script_stop.ScriptStop.TheVariants as stops;
 ghost use Rattle.std.specs.Prelude.{◌≡◌, ◌≤◌, Err, IfErr, IfOk, OnOk, Some};
 
-use crate::inputs::read_inputs;
 use crate::lent::{Lent, World};
 use crate::request::{Inputs, Talk};
-use crate::session::open_session;
+use crate::script_file::opened_session;
 use crate::stop::{Kind, Stop};
 use edit_session::Session;
 use rhythm_ports::Means;
@@ -50,8 +49,8 @@ fn session_of<W: World>(
     requires options { AreInRange inputs.options }
     ensures { HasSession (Some (answer talk (shown_inputs inputs.entry))) talk lent.old lent.new result }
 {
-    match read_inputs(lent, inputs) {
-        Ok((grammar, performance)) => open_session(lent, workers, grammar, performance),
+    match opened_session(lent, workers, inputs) {
+        Ok(session) => Ok(session),
         Err(stop) => Err(stop),
     }
 }

@@ -1,10 +1,12 @@
 ghost use Rattle.rhythm_app.specs.Counting.{IsOfMidi};
-ghost use Rattle.rhythm_app.specs.Inputs.{file_content};
-ghost use Rattle.rhythm_app.specs.Outcome.{IsRead, IsScoreRead, IsUnderstood, limit_of, sized, stopped};
+ghost use Rattle.rhythm_app.specs.Commands.{HaveNames, script_file};
+ghost use Rattle.rhythm_app.specs.Inputs.{file_content, shown_name};
+ghost use Rattle.rhythm_app.specs.Outcome.{IsRead, IsScoreRead, IsScriptRead, IsUnderstood, limit_of, sized, stopped};
 ghost use Rattle.rhythm_app.specs.Stages.{EndsBy, Follows, IsEarly, IsOfContent, IsUnread, items_of};
 ghost use Rattle.rhythm_app.specs.declared.stop.Kind.TheVariants as kind;
 ghost use Rattle.rhythm_app.specs.declared.stop.Stop.TheVariants as stop;
 ghost use Rattle.rhythm_base.specs.Readable.{IsReadable};
+ghost use Rattle.rhythm_base.specs.declared.limits.TheConstants.{LONGEST_SCRIPT};
 ghost use Rattle.rhythm_ports.specs.Files.{file_of};
 ghost use Rattle.smf_reader.specs.Ranges.{IsPlayedFile};
 ghost use Rattle.smf_reader.specs.SmfFile.{smf};
@@ -27,7 +29,7 @@ fn limit(kind: Kind) -> u64
         Kind::Midi => LONGEST_MIDI,
         Kind::Grammar => LONGEST_GRAMMAR,
         Kind::Kern => LONGEST_SCORE,
-        Kind::Script => LONGEST_SCRIPT,
+        Kind::ScriptFile | Kind::Script => LONGEST_SCRIPT,
     }
 }
 
@@ -131,5 +133,25 @@ pub fn kern_of<F: Shelf>(alloc: Global, shelf: &mut F, name: &str) -> Result<Ker
             },
         ) => Err(Stop::Memory),
         Err(fault) => Err(Stop::Kern(fault)),
+    }
+}
+
+/// The bytes of the script file, none where there is none.
+pub fn script_of<F: Shelf>(
+    alloc: Global,
+    shelf: &mut F,
+    name: Option<&str>,
+) -> Result<Vec<u8>, Stop>
+    ensures tests { ForSome (F.files shelf.old) (λ files. Follows (IsScriptRead (shown_name name.entry) files) (items_of result)) }
+    ensures within { IfOk result (λ bytes. length bytes.items ≤ LONGEST_SCRIPT) }
+    ensures named { IfErr result (λ _. shown_name name.entry ≢ None) }
+    ensures end { IfErr result (EndsBy kind.ScriptFile (F.faults shelf.old) (F.faults shelf.new)) }
+    ensures later { F.faults shelf.old ≤ F.faults shelf.new }
+    ensures files { F.files shelf.new ≡ F.files shelf.old }
+    ensures strays { ForSome (F.files shelf.old) (λ files. HaveNames files (script_file (shown_name name.entry)) → F.strays shelf.new ≡ F.strays shelf.old) }
+{
+    match name {
+        None => Ok(Vec::new(alloc)),
+        Some(name) => read_file(alloc, shelf, Kind::ScriptFile, name),
     }
 }

@@ -10,7 +10,7 @@ ghost use Rattle.barline_fit.specs.Tries.{
 ghost use Rattle.edit_session.specs.Opening.{CanOpen, cells_of};
 ghost use Rattle.performance_prepare.specs.Ranges.{AreInRange};
 ghost use Rattle.rhythm_app.specs.Asked.{AreCandidates, fit};
-ghost use Rattle.rhythm_app.specs.Builds.{HasFitted, HasFittedFor, HasFittedOver};
+ghost use Rattle.rhythm_app.specs.Builds.{HasFitted, HasFittedOver};
 ghost use Rattle.rhythm_app.specs.Inputs.{shown_inputs};
 ghost use Rattle.rhythm_app.specs.Outcome.{IsFitting, IsUnscored, fit_line, fit_stop, fit_text, fitted_at};
 ghost use Rattle.rhythm_app.specs.Stages.{CountsUp, Follows, HasText, IsOfContent, said_of};
@@ -20,10 +20,9 @@ ghost use Rattle.rhythm_base.specs.Readable.{IsReadable};
 ghost use Rattle.rhythm_base.specs.declared.limits.TheConstants.{MOST_NOTES};
 ghost use Rattle.std.specs.Prelude.{◌≡◌, ◌≢◌, ◌≤◌, ℕ, List, Err, IfErr, IfOk, Ok, OnOk, Some, length};
 
-use crate::inputs::read_inputs;
 use crate::lent::{Lent, World};
 use crate::request::Inputs;
-use crate::session::open_session;
+use crate::script_file::opened_session;
 use crate::stop::Stop;
 use barline_fit::{
     Candidate, Candidates, FitFault, Fitted, ScoreFault, best_barline, fitted_score,
@@ -160,32 +159,6 @@ fn fit_over<W: World>(
     }
 }
 
-/// The text of the fit of a barline of a performance. Each of its cells is built once, by one of the workers, and then those that the
-/// barline reaches at its candidates.
-fn fitted_by<W: World>(
-    lent: &mut Lent<W>,
-    workers: u32,
-    among: Candidates,
-    grammar: Grammar,
-    performance: Performance,
-) -> Result<Vec<u8>, Stop>
-    requires some_worker { 1 ≤ workers }
-    requires few_workers { workers ≤ 16 }
-    requires tried { AreCandidates among }
-    requires readable { IsReadable grammar }
-    requires few_notes { length performance.notes ≤ MOST_NOTES }
-    ensures tests { Follows (IsFitting among grammar performance) (said_of result) }
-    ensures content { IfErr result IsOfContent }
-    ensures all { OnOk result (HasFitted among grammar performance (risen lent.old.built (cells_of performance)) lent.new.built) }
-    ensures built { IfErr result (HasFittedFor among grammar performance lent.old.built lent.new.built) }
-    ensures counts { CountsUp lent.old lent.new }
-{
-    match open_session(lent, workers, grammar, performance) {
-        Ok(mut session) => fit_over(lent, &mut session, among),
-        Err(stop) => Err(stop),
-    }
-}
-
 /// The text of the fit of a barline of the performance of a MIDI file, by a grammar file.
 pub fn fit_text_of<W: World>(
     lent: &mut Lent<W>,
@@ -199,8 +172,8 @@ pub fn fit_text_of<W: World>(
     requires tried { AreCandidates among }
     ensures { HasText (Some (fit (shown_inputs inputs.entry) among)) lent.old lent.new result }
 {
-    match read_inputs(lent, inputs) {
-        Ok((grammar, performance)) => fitted_by(lent, workers, among, grammar, performance),
+    match opened_session(lent, workers, inputs) {
+        Ok(mut session) => fit_over(lent, &mut session, among),
         Err(stop) => Err(stop),
     }
 }

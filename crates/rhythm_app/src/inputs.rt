@@ -3,16 +3,16 @@ ghost use Rattle.rhythm_app.specs.Commands.{HaveInputs, HaveNames, input_files};
 ghost use Rattle.rhythm_app.specs.Counting.{HasPerformance, IsMidiLoading, IsOfMidi};
 ghost use Rattle.rhythm_app.specs.Ends.{IsReadFailure};
 ghost use Rattle.rhythm_app.specs.Inputs.{file_content, shown_inputs};
-ghost use Rattle.rhythm_app.specs.Outcome.{AreInputs};
-ghost use Rattle.rhythm_app.specs.Stages.{EndsBy, EndsReading, Follows, HasInputs, HasRules, IsEarly, IsInputsStop};
+ghost use Rattle.rhythm_app.specs.Outcome.{AreLoaded};
+ghost use Rattle.rhythm_app.specs.Stages.{EndsBy, EndsReading, Follows, HasLoaded, HasRules, IsEarly, IsLoadStop, loaded_of};
 ghost use Rattle.rhythm_app.specs.declared.stop.Kind.TheVariants as kind;
 ghost use Rattle.rhythm_ports.specs.Files.{file_of};
 ghost use Rattle.rhythm_base.specs.Readable.{IsReadable};
-ghost use Rattle.rhythm_base.specs.declared.limits.TheConstants.{MOST_NOTES};
+ghost use Rattle.rhythm_base.specs.declared.limits.TheConstants.{LONGEST_SCRIPT, MOST_NOTES};
 ghost use Rattle.std.specs.Option.{ForSome};
 ghost use Rattle.std.specs.Prelude.{◌≡◌, ◌≢◌, ◌≤◌, ◌⊎◌, Err, IfErr, IfOk, None, length};
 
-use crate::files::{grammar_of, midi_of};
+use crate::files::{grammar_of, midi_of, script_of};
 use crate::lent::{Lent, World};
 use crate::performance::{performance_of, played_by};
 use crate::request::Inputs;
@@ -21,18 +21,20 @@ use rhythm_base::{Grammar, Performance};
 use rhythm_ports::Shelf;
 use std::alloc::Global;
 
-/// The grammar and the performance that the inputs say. The grammar file is opened only where the MIDI file passed its tests.
+/// The grammar and the performance that the inputs say, and the bytes of the script file. The grammar file is opened only where the MIDI
+/// file passed its tests, and then the script file.
 #[tactic(auto, using(crate::proofs::Reading::ends_early))]
 fn inputs_of<F: Shelf>(
     alloc: Global,
     inputs: Inputs,
     shelf: &mut F,
-) -> Result<(Grammar, Performance), Stop>
+) -> Result<(Grammar, Performance, Vec<u8>), Stop>
     requires { AreInRange inputs.options }
-    ensures tests { ForSome (F.files shelf.old) (λ files. Follows (AreInputs (shown_inputs inputs.entry) files) result) }
-    ensures cause { IfErr result (λ stop. ForSome (F.files shelf.old) (λ files. IsInputsStop (shown_inputs inputs.entry) files stop)) }
+    ensures tests { ForSome (F.files shelf.old) (λ files. Follows (AreLoaded (shown_inputs inputs.entry) files) (loaded_of result)) }
+    ensures cause { IfErr result (λ stop. ForSome (F.files shelf.old) (λ files. IsLoadStop (shown_inputs inputs.entry) files stop)) }
     ensures readable { IfOk result (λ had. IsReadable had.0) }
     ensures few_notes { IfOk result (λ had. length had.1.notes ≤ MOST_NOTES) }
+    ensures short { IfOk result (λ had. length had.2.items ≤ LONGEST_SCRIPT) }
     ensures end { IfErr result (EndsReading (F.faults shelf.old) (F.faults shelf.new)) }
     ensures early { IfErr result IsEarly }
     ensures files { F.files shelf.new ≡ F.files shelf.old }
@@ -40,19 +42,20 @@ fn inputs_of<F: Shelf>(
 {
     let played = midi_of(alloc, shelf, inputs.midi)?;
     let grammar = grammar_of(alloc, shelf, inputs.grammar)?;
+    let script = script_of(alloc, shelf, inputs.script)?;
     match played_by(alloc, &inputs.options, &played) {
-        Ok(performance) => Ok((grammar, performance)),
+        Ok(performance) => Ok((grammar, performance, script)),
         Err(stop) => Err(stop),
     }
 }
 
-/// The grammar and the performance that the inputs say.
+/// The grammar and the performance that the inputs say, and the bytes of the script file.
 pub fn read_inputs<W: World>(
     lent: &mut Lent<W>,
     inputs: Inputs,
-) -> Result<(Grammar, Performance), Stop>
+) -> Result<(Grammar, Performance, Vec<u8>), Stop>
     requires { AreInRange inputs.options }
-    ensures { HasInputs (shown_inputs inputs.entry) lent.old lent.new result }
+    ensures { HasLoaded (shown_inputs inputs.entry) lent.old lent.new result }
 {
     inputs_of(lent.alloc, inputs, &mut lent.shelf)
 }

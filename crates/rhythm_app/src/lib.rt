@@ -20,6 +20,7 @@ mod names;
 mod notes;
 mod performance;
 mod request;
+mod script_file;
 mod session;
 mod stop;
 mod top;

@@ -1,3 +1,4 @@
+ghost use Rattle.edit_script.specs.Replies.{fault_words, reply_line};
 ghost use Rattle.rhythm_ports.specs.Causes.{HasCause};
 ghost use Rattle.rhythm_app.specs.Ends.{AppendsPart, Reports};
 ghost use Rattle.rhythm_app.specs.Parts.{part_text, part_texts};
@@ -9,6 +10,7 @@ ghost use Rattle.rhythm_app.specs.Stops.{
   named_line,
   pair_line,
   prepare_stop_line,
+  script_fault_line,
   bar_signature_line,
   stop_line,
   upbeat_line,
@@ -17,11 +19,15 @@ ghost use Rattle.rhythm_app.specs.declared.stop.Stop.TheVariants as stop;
 ghost use Rattle.std.specs.Io.KnownBytes.{Appends};
 ghost use Rattle.std.specs.Prelude.{◌≡◌, OnErr, OnOk, decimal};
 
-use crate::names::{kind_name, smf_name, smf_number, what_name, what_number};
+use crate::names::{
+    FaultNumbers, fault_name, fault_numbers, kind_name, smf_name, smf_number, what_name,
+    what_number,
+};
 use crate::stop::{Kind, MidiStop, Stop};
 use grammar_file::GrammarFault;
 use kern_reader::KernFault;
 use performance_prepare::PrepareFault;
+use rhythm_base::EditFault;
 use rhythm_ports::{Failed, Sink, write_all};
 use smf_reader::SmfFault;
 
@@ -155,22 +161,31 @@ fn write_kern_fault<K: Sink>(sink: &mut K, fault: KernFault) -> Result<(), Faile
     )
 }
 
-/// Writes the two numbers of a signature.
-fn write_signature<K: Sink>(sink: &mut K, head: &str, num: u8, dd: u8) -> Result<(), Failed>
-    ensures all { OnOk result (Appends (K.taken sink.old) (K.taken sink.new) (pair_line head.now num dd)) }
-    ensures part { OnErr result (AppendsPart (K.taken sink.old) (K.taken sink.new) (pair_line head.now num dd)) }
+/// Writes two numbers.
+fn write_pair<K: Sink>(sink: &mut K, head: &str, first: u64, second: u64) -> Result<(), Failed>
+    ensures all { OnOk result (Appends (K.taken sink.old) (K.taken sink.new) (pair_line head.now first second)) }
+    ensures part { OnErr result (AppendsPart (K.taken sink.old) (K.taken sink.new) (pair_line head.now first second)) }
     ensures cause { HasCause (K.faults sink.old) (K.faults sink.new) result }
 {
     write_parts(
         sink,
         &[
             Part::Text(head),
-            Part::Number(u64::from(num)),
+            Part::Number(first),
             Part::Text(" "),
-            Part::Number(u64::from(dd)),
+            Part::Number(second),
             Part::Text("\n"),
         ],
     )
+}
+
+/// Writes the two numbers of a signature.
+fn write_signature<K: Sink>(sink: &mut K, head: &str, num: u8, dd: u8) -> Result<(), Failed>
+    ensures all { OnOk result (Appends (K.taken sink.old) (K.taken sink.new) (pair_line head.now num dd)) }
+    ensures part { OnErr result (AppendsPart (K.taken sink.old) (K.taken sink.new) (pair_line head.now num dd)) }
+    ensures cause { HasCause (K.faults sink.old) (K.faults sink.new) result }
+{
+    write_pair(sink, head, u64::from(num), u64::from(dd))
 }
 
 /// Writes the voice and the bar that have no derivation.
@@ -179,16 +194,7 @@ fn write_no_derivation<K: Sink>(sink: &mut K, channel: u8, bar: u32) -> Result<(
     ensures part { OnErr result (AppendsPart (K.taken sink.old) (K.taken sink.new) (stop_line (stop.NoDerivation channel bar))) }
     ensures cause { HasCause (K.faults sink.old) (K.faults sink.new) result }
 {
-    write_parts(
-        sink,
-        &[
-            Part::Text("no derivation "),
-            Part::Number(u64::from(channel)),
-            Part::Text(" "),
-            Part::Number(u64::from(bar)),
-            Part::Text("\n"),
-        ],
-    )
+    write_pair(sink, "no derivation ", u64::from(channel), u64::from(bar))
 }
 
 /// Writes a bar and its signature.
@@ -279,6 +285,57 @@ fn write_unprepared<K: Sink>(sink: &mut K, fault: PrepareFault) -> Result<(), Fa
     }
 }
 
+/// Writes why an edit is refused: the name of the fault and its numbers.
+fn write_fault<K: Sink>(sink: &mut K, fault: EditFault) -> Result<(), Failed>
+    ensures all { OnOk result (Appends (K.taken sink.old) (K.taken sink.new) (reply_line (fault_words fault))) }
+    ensures part { OnErr result (AppendsPart (K.taken sink.old) (K.taken sink.new) (reply_line (fault_words fault))) }
+    ensures cause { HasCause (K.faults sink.old) (K.faults sink.new) result }
+{
+    match fault_numbers(fault) {
+        FaultNumbers::None => write_named(sink, "", fault_name(fault), None),
+        FaultNumbers::One(number) => write_named(sink, "", fault_name(fault), Some(number)),
+        FaultNumbers::Two(first, second) => write_parts(
+            sink,
+            &[
+                Part::Text(fault_name(fault)),
+                Part::Text(" "),
+                Part::Number(first),
+                Part::Text(" "),
+                Part::Number(second),
+                Part::Text("\n"),
+            ],
+        ),
+        FaultNumbers::Limit(what, count) => write_parts(
+            sink,
+            &[
+                Part::Text(fault_name(fault)),
+                Part::Text(" "),
+                Part::Text(what),
+                Part::Text(" "),
+                Part::Number(count),
+                Part::Text("\n"),
+            ],
+        ),
+    }
+}
+
+/// Writes the number of a line of the script file, and that it says no edit or why its edit is refused.
+fn write_refused<K: Sink>(sink: &mut K, line: u32, fault: Option<EditFault>) -> Result<(), Failed>
+    ensures all { OnOk result (Appends (K.taken sink.old) (K.taken sink.new) (script_fault_line line fault)) }
+    ensures part { OnErr result (AppendsPart (K.taken sink.old) (K.taken sink.new) (script_fault_line line fault)) }
+    ensures cause { HasCause (K.faults sink.old) (K.faults sink.new) result }
+{
+    let head = Part::Text("script ");
+    let line = Part::Number(u64::from(line));
+    match fault {
+        None => write_parts(sink, &[head, line, Part::Text(" Line\n")]),
+        Some(fault) => {
+            write_parts(sink, &[head, line, Part::Text(" ")])?;
+            write_fault(sink, fault)
+        }
+    }
+}
+
 /// Writes the line of a stop.
 fn write_stop<K: Sink>(sink: &mut K, stop: Stop) -> Result<(), Failed>
     ensures all { OnOk result (Appends (K.taken sink.old) (K.taken sink.new) (stop_line stop)) }
@@ -317,6 +374,7 @@ fn write_stop<K: Sink>(sink: &mut K, stop: Stop) -> Result<(), Failed>
         Stop::TooManyCandidates { count } => write_limit(sink, "candidates", count),
         Stop::NoBarline { bar } => write_named(sink, "fit ", "NoBar", Some(u64::from(bar))),
         Stop::NoCandidate => write_named(sink, "fit ", "NoCandidate", None),
+        Stop::ScriptLine { line, fault } => write_refused(sink, line, fault),
         Stop::Read(kind) => write_named(sink, "read ", kind_name(kind), None),
         Stop::Write => write_text(sink, "write\n"),
         Stop::Memory => write_text(sink, "memory\n"),

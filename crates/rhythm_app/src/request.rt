@@ -1,7 +1,7 @@
 ghost use Rattle.command_line.specs.CommandLines.{HasOptions, HasWorkers};
-ghost use Rattle.rhythm_app.specs.Asked.{AreCandidates, IsCommandWord, IsRequestInRange, asked_of, candidate_count, candidates_by, command_by, drill_by, fit_by, fit_of, generate_by, in_order, learn_by, words_of_call, shown_request, untold, words_after, workers_asked};
+ghost use Rattle.rhythm_app.specs.Asked.{AreCandidates, IsCommandWord, IsRequestInRange, asked_of, candidate_count, candidates_by, command_by, drill_by, fit_by, fit_of, generate_by, in_order, learn_by, words_of_call, shown_request, unscripted, untold, words_after, workers_asked};
 ghost use Rattle.performance_prepare.specs.Ranges.{AreInRange};
-ghost use Rattle.rhythm_app.specs.Inputs.{shown_inputs};
+ghost use Rattle.rhythm_app.specs.Inputs.{shown_inputs, shown_name};
 ghost use Rattle.rhythm_base.specs.declared.limits.TheConstants.{LATEST_TICK};
 ghost use Rattle.std.specs.Prelude.{◌≡◌, ◌≤◌, ◌↔◌, ◌∷◌, [], IfSome, IsFalse, IsSome, Some, codes, drop, nat_eq, option_map};
 ghost use Rattle.std.specs.Cmp.Lexicographic.{pointwise};
@@ -20,6 +20,8 @@ pub struct Inputs<'a> {
     pub grammar: &'a str,
     /// How the take of the MIDI file is prepared.
     pub options: Options,
+    /// The script file whose edits are made first.
+    pub script: Option<&'a str>,
 }
 
 /// What is written of a session on a performance.
@@ -119,13 +121,33 @@ pub fn words_after(word: &str) -> Option<&'static str>
     }
 }
 
-/// A command for which nothing is told of a take.
-fn untold<'a>(options: &Options, request: Option<Request<'a>>) -> Option<Request<'a>>
+/// A command without a script file.
+fn unscripted<'a>(script: Option<&str>, request: Option<Request<'a>>) -> Option<Request<'a>>
     requires { IfSome request IsRequestInRange }
-    ensures asked { option_map shown_request result ≡ untold options.now (option_map shown_request request.entry) }
+    ensures asked { option_map shown_request result ≡ unscripted (shown_name script.entry) (option_map shown_request request.entry) }
     ensures range { IfSome result IsRequestInRange }
 {
-    if options.is_told() { None } else { request }
+    match script {
+        None => request,
+        Some(_name) => None,
+    }
+}
+
+/// A command for which nothing is told of a take, and without a script file.
+fn untold<'a>(
+    options: &Options,
+    script: Option<&str>,
+    request: Option<Request<'a>>,
+) -> Option<Request<'a>>
+    requires { IfSome request IsRequestInRange }
+    ensures asked { option_map shown_request result ≡ untold options.now (shown_name script.entry) (option_map shown_request request.entry) }
+    ensures range { IfSome result IsRequestInRange }
+{
+    if options.is_told() {
+        None
+    } else {
+        unscripted(script, request)
+    }
 }
 
 /// Whether options say how the MIDI file of the command is prepared.
@@ -133,19 +155,30 @@ pub fn takes_options(word: &str) -> bool {
     !matches!(word, "learn" | "events" | "generate" | "drill")
 }
 
+/// Whether the edits of a script file are made before the command does anything else.
+pub fn takes_script(word: &str) -> bool {
+    word != "notes" && takes_options(word)
+}
+
 /// The command of a word and the name of one file.
-fn request_of_one<'a>(options: &Options, word: &'a str, file: &'a str) -> Option<Request<'a>>
+fn request_of_one<'a>(
+    options: &Options,
+    script: Option<&str>,
+    word: &'a str,
+    file: &'a str,
+) -> Option<Request<'a>>
     requires { AreInRange options.now }
-    ensures asked { option_map shown_request result ≡ command_by options.now (word.entry.now ∷ file.entry.now ∷ []) }
+    ensures asked { option_map shown_request result ≡ command_by options.now (shown_name script.entry) (word.entry.now ∷ file.entry.now ∷ []) }
     ensures range { IfSome result IsRequestInRange }
 {
     if word == "notes" {
-        Some(Request::Notes {
+        let notes = Request::Notes {
             midi: file,
             options: *options,
-        })
+        };
+        unscripted(script, Some(notes))
     } else if word == "events" {
-        untold(options, Some(Request::Events(file)))
+        untold(options, script, Some(Request::Events(file)))
     } else {
         None
     }
@@ -196,18 +229,20 @@ fn learn_request<'a>(words: &'a Words) -> Option<Request<'a>>
 /// The command of a word and two more.
 fn request_of_two<'a>(
     options: &Options,
+    script: Option<&'a str>,
     word: &'a str,
     first: &'a str,
     second: &'a str,
 ) -> Option<Request<'a>>
     requires { AreInRange options.now }
-    ensures asked { option_map shown_request result ≡ command_by options.now (word.entry.now ∷ first.entry.now ∷ second.entry.now ∷ []) }
+    ensures asked { option_map shown_request result ≡ command_by options.now (shown_name script.entry) (word.entry.now ∷ first.entry.now ∷ second.entry.now ∷ []) }
     ensures range { IfSome result IsRequestInRange }
 {
     let inputs = Inputs {
         midi: first,
         grammar: second,
         options: *options,
+        script,
     };
     if word == "transcribe" {
         Some(Request::Write(Form::Score, inputs))
@@ -226,9 +261,9 @@ fn request_of_two<'a>(
     } else if word == "follow" {
         Some(Request::Follow(inputs))
     } else if word == "generate" {
-        untold(options, generate_request(first, second))
+        untold(options, script, generate_request(first, second))
     } else if word == "drill" {
-        untold(options, drill_request(first, second))
+        untold(options, script, drill_request(first, second))
     } else {
         None
     }
@@ -295,7 +330,7 @@ fn request_of_six<'a>(
     requires options { AreInRange inputs.options }
     requires other { IsFalse (pointwise nat_eq word.now (codes "learn")) }
     ensures asked { option_map shown_request result
-        ≡ command_by (shown_inputs inputs.entry).options (words_of_call word.entry.now (shown_inputs inputs.entry) bar.entry.now low.entry.now high.entry.now step.entry.now) }
+        ≡ command_by (shown_inputs inputs.entry).options (shown_inputs inputs.entry).script (words_of_call word.entry.now (shown_inputs inputs.entry) bar.entry.now low.entry.now high.entry.now step.entry.now) }
     ensures range { IfSome result IsRequestInRange }
 {
     if word == "fit" {
@@ -309,27 +344,32 @@ fn request_of_six<'a>(
 }
 
 /// The command that the words are.
-fn command_of<'a>(options: &Options, words: &'a Words) -> Option<Request<'a>>
+fn command_of<'a>(
+    options: &Options,
+    script: Option<&'a str>,
+    words: &'a Words,
+) -> Option<Request<'a>>
     requires { AreInRange options.now }
-    ensures asked { option_map shown_request result ≡ command_by options.now words.entry.now }
+    ensures asked { option_map shown_request result ≡ command_by options.now (shown_name script.entry) words.entry.now }
     ensures range { IfSome result IsRequestInRange }
 {
     let word = words.get(0)?;
     if word == "learn" {
-        return untold(options, learn_request(words));
+        return untold(options, script, learn_request(words));
     }
     let first = words.get(1)?;
     match words.count() {
-        2 => request_of_one(options, word, first),
+        2 => request_of_one(options, script, word, first),
         3 => {
             let second = words.get(2)?;
-            request_of_two(options, word, first, second)
+            request_of_two(options, script, word, first, second)
         }
         7 => {
             let inputs = Inputs {
                 midi: first,
                 grammar: words.get(2)?,
                 options: *options,
+                script,
             };
             let bar = words.get(3)?;
             let low = words.get(4)?;
@@ -350,7 +390,7 @@ pub fn request_of<'a>(said: &'a Invocation) -> Option<Request<'a>>
     match said {
         Invocation::Help => Some(Request::Help),
         Invocation::Version => Some(Request::Version),
-        Invocation::Command(line) => command_of(&line.options, &line.words),
+        Invocation::Command(line) => command_of(&line.options, line.script.get(0), &line.words),
     }
 }
 

@@ -4,6 +4,7 @@ ghost use Rattle.std.specs.Prelude.{◌≡◌};
 use grammar_file::GrammarFault;
 use kern_reader::KernFault;
 use performance_prepare::PrepareFault;
+use rhythm_base::EditFault;
 use smf_reader::SmfFault;
 
 /// Which of the command's inputs.
@@ -15,6 +16,8 @@ pub enum Kind {
     Grammar,
     /// The **kern file.
     Kern,
+    /// The script file, whose edits are made first.
+    ScriptFile,
     /// The edit script, which is no file by name.
     Script,
 }
@@ -127,6 +130,8 @@ pub enum Stop {
     NoBarline { bar: u32 },
     /// A barline can be set to none of its candidates.
     NoCandidate,
+    /// A line of the script file, by its number, from 1, says no edit, or its edit is refused.
+    ScriptLine { line: u32, fault: Option<EditFault> },
     /// A file or the script was not read.
     Read(Kind),
     /// The output was not written.
@@ -148,7 +153,8 @@ impl Stop {
             | Stop::NoNotes
             | Stop::BadSignature { .. }
             | Stop::UnevenBar { .. }
-            | Stop::NoStart { .. } => 2,
+            | Stop::NoStart { .. }
+            | Stop::ScriptLine { .. } => 2,
             Stop::Unprepared(fault) => prepare_status(*fault),
             Stop::NoDerivation { .. } => 3,
             Stop::FileTooLong { .. }

@@ -4,7 +4,7 @@ ghost use Rattle.rhythm_app.specs.declared.stop.Stop.TheVariants as stop;
 ghost use Rattle.std.specs.Prelude.{◌≡◌, ◌++◌, ℕ, IfOk, List};
 
 use crate::line::write_line;
-use crate::request::{takes_options, words_after};
+use crate::request::{takes_options, takes_script, words_after};
 use crate::stop::Stop;
 use command_line::{CommandLine, Invocation, read_words, words_refusal};
 use rhythm_base::Words;
@@ -19,6 +19,9 @@ fn command_reason(alloc: Global, line: &CommandLine) -> Result<String, AllocErro
     match words_after(word) {
         Some(_after) if line.options.is_told() && !takes_options(word) => {
             format!(in alloc; "{word} takes no options for the MIDI file")
+        }
+        Some(_after) if line.script.count() > 0 && !takes_script(word) => {
+            format!(in alloc; "{word} takes no script file")
         }
         Some(after) => format!(in alloc; "the command is called as: rhythm {word} {after}"),
         None => format!(in alloc; "there is no command {word}"),

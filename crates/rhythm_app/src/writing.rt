@@ -15,10 +15,9 @@ ghost use Rattle.rhythm_base.specs.Readable.{IsReadable};
 ghost use Rattle.rhythm_base.specs.declared.limits.TheConstants.{MOST_BARS, MOST_NOTES, MOST_VOICES};
 ghost use Rattle.std.specs.Prelude.{◌≡◌, ◌≤◌, ◌⊎◌, ℕ, IfErr, IfOk, List, OnOk, Some, length};
 
-use crate::inputs::read_inputs;
 use crate::lent::{Lent, World};
 use crate::request::{Form, Inputs};
-use crate::session::open_session;
+use crate::script_file::opened_session;
 use crate::stop::Stop;
 use derivation::Score;
 use edit_session::{ScoreFault, Session};
@@ -196,29 +195,15 @@ fn text_of(alloc: Global, form: Form, session: &Session, resolution: u16) -> Res
     }
 }
 
-/// What is written in this form of a performance by a grammar. Each of its cells is built once, by one of the workers.
-fn text_by<W: World>(
-    lent: &mut Lent<W>,
-    workers: u32,
-    form: Form,
-    grammar: Grammar,
-    performance: Performance,
-) -> Result<Vec<u8>, Stop>
-    requires some_worker { 1 ≤ workers }
-    requires few_workers { workers ≤ 16 }
-    requires readable { IsReadable grammar }
-    requires few_notes { length performance.notes ≤ MOST_NOTES }
-    ensures tests { Follows (IsWriting form grammar performance) (said_of result) }
-    ensures content { IfErr result IsOfContent }
-    ensures all { OnOk result (lent.new.built ≡ risen lent.old.built (cells_of performance)) }
-    ensures built { IfErr result (HasBuiltFor performance lent.old.built lent.new.built) }
-    ensures counts { CountsUp lent.old lent.new }
+/// What is written of a session in this form, which builds no table.
+fn text_over<W: World>(lent: &mut Lent<W>, form: Form, session: &Session) -> Result<Vec<u8>, Stop>
+    requires { CanOpen session.now.grammar session.now.performance }
+    ensures tests { Follows (IsWriting form session.now.grammar session.now.performance) (said_of result) }
+    ensures end { IfErr result IsOfWriting }
+    ensures same { lent.new ≡ lent.old }
 {
-    let resolution = grammar.resolution;
-    match open_session(lent, workers, grammar, performance) {
-        Ok(session) => text_of(lent.alloc, form, &session, resolution),
-        Err(stop) => Err(stop),
-    }
+    let resolution = session.grammar().resolution;
+    text_of(lent.alloc, form, session, resolution)
 }
 
 /// The text of a command that writes a session on a MIDI file and a grammar.
@@ -233,8 +218,8 @@ pub fn session_text<W: World>(
     requires options { AreInRange inputs.options }
     ensures { HasText (Some (write form (shown_inputs inputs.entry))) lent.old lent.new result }
 {
-    match read_inputs(lent, inputs) {
-        Ok((grammar, performance)) => text_by(lent, workers, form, grammar, performance),
+    match opened_session(lent, workers, inputs) {
+        Ok(session) => text_over(lent, form, &session),
         Err(stop) => Err(stop),
     }
 }

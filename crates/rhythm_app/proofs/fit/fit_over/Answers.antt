@@ -48,6 +48,6 @@ returns-in-Err-clause-built g c =
     let new = c.tick_among.new.lent.built in
     let fault : FitFault = c.in-Err.fault in
     let built = c.in-Err.ensures.builds in
-    subst (MatchFitted (new ≡ old) (HasTried among s.grammar s.performance old new) (HasFitted among s.grammar s.performance old new) (HasPartlyFitted among s.grammar s.performance old new) ⊥)
+    subst (MatchFitted ⊥ (λ line fault. ⊥) (new ≡ old) (HasTried among s.grammar s.performance old new) (HasFitted among s.grammar s.performance old new) (HasPartlyFitted among s.grammar s.performance old new) ⊥)
     (sym c.fit_stop.ensures)
     (unfitted_built among s c.requires.can old new fault c.in-Err.ensures.fault (λ other. built.all (λ e. other (same_fault fault e))) (λ is. built.none (ap Err is)) built.most)

@@ -4,9 +4,8 @@ use Rattle.rhythm_app.proofs.fit.fit_text_of.Goals as goal
 
 pub returns-in-Ok : goal.returns-in-Ok
 returns-in-Ok g c =
-    let said = c.fitted_by.ensures in
-    fit_had (shown_inputs c.args.inputs) c.args.among c.args.lent.now c.read_inputs.new.lent c.in-Ok.grammar c.in-Ok.performance c.in-Ok.ensures c.fitted_by.new.lent c.fitted_by.result
-    said.tests said.content said.all said.built said.counts.1.0 said.counts.1.1 said.counts.0
+    let said = c.fit_over.ensures in
+    fit_had (shown_inputs c.args.inputs) c.args.among c.args.lent.now c.opened_session.new.lent c.fit_over.new.lent c.in-Ok.session c.in-Ok.ensures c.fit_over.result said.tests said.content said.all said.built said.counts
 
 pub returns-in-Err : goal.returns-in-Err
-returns-in-Err g c = unread_fit (shown_inputs c.args.inputs) c.args.among c.args.lent.now c.read_inputs.new.lent c.in-Err.stop c.in-Err.ensures
+returns-in-Err g c = unread_fit (shown_inputs c.args.inputs) c.args.among c.args.lent.now c.opened_session.new.lent c.in-Err.stop c.in-Err.ensures
