@@ -4,7 +4,7 @@ import os
 import threading
 
 import rhythm
-from forms import forms, takes_scripts
+from forms import forms
 from performance import Clock, Performance, chords, touched
 from written import Score, alike, columns_of
 
@@ -92,8 +92,7 @@ class Editor:
 
     def follow(self):
         """Moves the barlines to where the player has them; None where too little is gained by that."""
-        lines = self.script() if takes_scripts() else []
-        found = forms("follow", self.midi, self.grammar, lines).decode().splitlines()
+        found = forms("follow", self.midi, self.grammar, self.script()).decode().splitlines()
         with self._alone():
             return self._step(found) if found else None
 

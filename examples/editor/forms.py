@@ -6,23 +6,12 @@ import tempfile
 import rhythm
 
 
-class Lacking(Exception):
-    """The program takes no scripts with the files, so the form is to be had before the first edit alone."""
-
-
 class Unwritten(Exception):
     """The program has not written the form, and has said why."""
 
 
-def takes_scripts():
-    """Whether the program has the option `--script`."""
-    return "--script" in subprocess.run([rhythm.PROGRAM, "--help"], capture_output=True, text=True).stdout
-
-
 def forms(form, midi, grammar, lines):
     """What `rhythm FORM MIDI GRAMMAR --script FILE` writes, with these lines as the script."""
-    if lines and not takes_scripts():
-        raise Lacking
     with tempfile.NamedTemporaryFile("w", suffix=".script") as script:
         script.writelines(line + "\n" for line in lines)
         script.flush()

@@ -35,7 +35,6 @@ sys.path.insert(0, str(TOP / "python"))
 
 import rhythm
 from engraving import has_lilypond
-from forms import takes_scripts
 from written import bars_of
 
 rhythm.PROGRAM = os.environ.get("PROGRAM") or str(TOP / "bin/rhythm")
@@ -286,17 +285,14 @@ class InABrowser(unittest.TestCase):
         self.assertEqual(window.lines(), lines)
         self.shows_the_score(window)
 
-    def test_other_forms_are_kept_or_it_is_said_what_they_need(self):
+    def test_other_forms_are_kept_before_and_after_an_edit(self):
         window = self.opened(*VOICES)
         forms = [("musicxml", "two-voices.musicxml", b"<?xml"), ("page", "two-voices.ly", b"\\version"), ("render", "two-voices.mid", b"MThd")]
-        for edited in (False, True):
+        for _ in range(2):
             for form, name, beginning in forms:
                 window.driver.find_element(By.CSS_SELECTOR, f"[data-form={form}]").click()
-                if edited and not takes_scripts():
-                    window.until(lambda: "--script" in window.said())
-                else:
-                    self.assertEqual(window.kept_file(name)[: len(beginning)], beginning)
-                    (pathlib.Path(window.kept.name) / name).unlink()
+                self.assertEqual(window.kept_file(name)[: len(beginning)], beginning)
+                (pathlib.Path(window.kept.name) / name).unlink()
             window.click("addbar")
 
     def test_keys_alone_do_all(self):
@@ -352,10 +348,7 @@ class InABrowser(unittest.TestCase):
         image = "document.querySelector('#page img')?.dataset.version"
         window.until(lambda: window.ask(image))
         window.click("addbar")
-        if takes_scripts():
-            window.until(lambda: window.ask(image) == str(window.version()))
-        else:
-            window.until(lambda: "--script" in window.named("page").text)
+        window.until(lambda: window.ask(image) == str(window.version()))
         self.shows_the_score(window)
 
     def test_the_browser_has_nothing_to_complain_of(self):

@@ -16,7 +16,7 @@ sys.path.insert(0, str(TOP / "python"))
 import rhythm
 from editing import Editor, Stale
 from engraving import some_bars
-from forms import forms, takes_scripts
+from forms import forms
 from web import LONGEST_STEP, Server
 
 rhythm.PROGRAM = os.environ.get("PROGRAM") or str(TOP / "bin/rhythm")
@@ -168,7 +168,6 @@ class Editing(unittest.TestCase):
         said = "\\clef \"bass\"\n\\key g \\major\n\\time 3/4\n\\set Score.currentBarNumber = #5\n"
         self.assertIn(said + "g,2. |\n\\bar \"|.\"", some_bars(page, 4, 9, 200))
 
-    @unittest.skipUnless(takes_scripts(), "the program has no option --script")
     def test_forms_of_an_edited_piece(self):
         lines = rhythm.follow(*PIECES[3])
         self.assertEqual(forms("transcribe", *PIECES[3], lines).decode(), after(*PIECES[3], lines))

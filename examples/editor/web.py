@@ -16,7 +16,7 @@ import rhythm
 import words
 from editing import Stale
 from engraving import Dropped, Engraver, Unengraved, has_lilypond
-from forms import Lacking, Unwritten, forms
+from forms import Unwritten, forms
 
 STATIC = pathlib.Path(__file__).resolve().parent / "static"
 KINDS = {".html": "text/html; charset=utf-8", ".css": "text/css; charset=utf-8", ".js": "text/javascript; charset=utf-8"}
@@ -185,8 +185,6 @@ class Request(http.server.BaseHTTPRequestHandler):
             status, (kind, body) = 409, self._json({"wrong": words.STALE})
         except Dropped:
             status, (kind, body) = 200, self._json({"dropped": True})
-        except Lacking:
-            status, (kind, body) = 501, self._json({"wrong": words.LACKING})
         except Unwritten as why:
             status, (kind, body) = 500, self._json({"wrong": words.unwritten(why)})
         except Unengraved:

@@ -16,7 +16,6 @@ REFUSALS = {
     "Memory": "There was not enough memory, and nothing is changed. Try again when other programs have ended.",
 }
 STALE = "The piece was changed meanwhile, in another window or by follow. It is shown as it is now; nothing was changed by this."
-LACKING = "This form of an edited piece needs a program with the option --script, which the one here has not. There is the **kern text."
 NO_EDIT = "This is no line of an edit script."
 
 
