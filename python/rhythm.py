@@ -121,20 +121,21 @@ def _run(workers, *words, read=""):
     return ran.stdout.decode()
 
 
-def transcribe(midi, grammar, workers=1):
-    """The score of a MIDI file by a grammar, with so many threads, 1 to 16; it is the same for every number of them."""
-    return _run(workers, "transcribe", midi, grammar)
+def transcribe(midi, grammar, workers=1, options=()):
+    """The score of a MIDI file by a grammar, with so many threads, 1 to 16; it is the same for every number of them. Options are words as
+    the program takes them, as in `["--hands", "0", "--meter", "3/4"]`."""
+    return _run(workers, "transcribe", midi, grammar, *options)
 
 
-def follow(midi, grammar, workers=1):
+def follow(midi, grammar, workers=1, options=()):
     """The lines of the edit script that moves the barlines to where the player has them; none where too little is gained by that."""
-    return _run(workers, "follow", midi, grammar).splitlines()
+    return _run(workers, "follow", midi, grammar, *options).splitlines()
 
 
-def notes(midi):
-    """The bars, tempos, keys and notes of a MIDI file."""
+def notes(midi, options=()):
+    """The bars, tempos, keys and notes of a MIDI file, as options make them."""
     bars, tempos, keys, found, end = [], [], [], [], 0
-    for kind, *words in map(str.split, _run(1, "notes", midi).splitlines()):
+    for kind, *words in map(str.split, _run(1, "notes", midi, *options).splitlines()):
         if kind == "bar":
             bars.append(Bar(int(words[0]), int(words[1]), words[2]))
         elif kind == "tempo":
@@ -171,8 +172,8 @@ class Session:
     changes nothing. It is for one thread at a time.
     """
 
-    def __init__(self, midi, grammar, workers=1):
-        words = _command(workers, "studio", midi, grammar)
+    def __init__(self, midi, grammar, workers=1, options=()):
+        words = _command(workers, "studio", midi, grammar, *options)
         self._said = tempfile.TemporaryFile()
         self._program = subprocess.Popen(words, stdin=subprocess.PIPE, stdout=subprocess.PIPE, stderr=self._said)
         self._made = []

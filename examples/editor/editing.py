@@ -30,10 +30,10 @@ class Editor:
     of all steps are the piece, and any state of it can be opened again from them. `version` counts the steps that were made and taken back.
     """
 
-    def __init__(self, midi, grammar, lines=(), workers=1):
-        self.midi, self.grammar, self._workers = midi, grammar, workers
+    def __init__(self, midi, grammar, lines=(), workers=1, options=()):
+        self.midi, self.grammar, self.options, self._workers = midi, grammar, options, workers
         self._lock = threading.Lock()
-        self._found = rhythm.notes(midi)
+        self._found = rhythm.notes(midi, options)
         self._session = None
         self._clock = Clock(self._found.tempos)
         self._window = window_of(grammar) * Performance(self._found).division
@@ -90,9 +90,13 @@ class Editor:
             cost, best = min(((cost, tick) for cost, tick in costs if cost is not None), default=(self._cost, now))
             return self._step([f"barline {bar} {best}"]) if cost < self._cost else None
 
+    def form(self, form, lines):
+        """A form of the score after these lines."""
+        return forms(form, self.midi, self.grammar, lines, self.options)
+
     def follow(self):
         """Moves the barlines to where the player has them; None where too little is gained by that."""
-        found = forms("follow", self.midi, self.grammar, self.script()).decode().splitlines()
+        found = self.form("follow", self.script()).decode().splitlines()
         with self._alone():
             return self._step(found) if found else None
 
@@ -160,7 +164,7 @@ class Editor:
         """A new session, brought to where the steps lead. The first line changes nothing, and tells the cost."""
         if self._session:
             self._session.close()
-        self._session = rhythm.Session(self.midi, self.grammar, self._workers)
+        self._session = rhythm.Session(self.midi, self.grammar, self._workers, self.options)
         self._session.unpin(self._found.channels()[0], 0)
         self._take_back(1)
         for line in self._lines():

@@ -7,7 +7,6 @@ import subprocess
 import tempfile
 import threading
 
-from forms import forms
 
 LONGEST = 60  # seconds that LilyPond may take for a page
 PAGES = 200  # after so many pages it is started anew
@@ -137,10 +136,10 @@ class LilyPond:
 
 
 class Engraver:
-    """Engraves one page at a time. Of those that are asked for meanwhile the newest is next, and the others are dropped."""
+    """Engraves one page at a time, of what `form("page", lines)` writes. Of those that are asked for meanwhile the newest is next, and the others are dropped."""
 
-    def __init__(self, midi, grammar):
-        self._midi, self._grammar = midi, grammar
+    def __init__(self, form):
+        self._form = form
         self._change = threading.Condition()
         self._newest, self._wanted, self._made = 0, None, (0, None)
         self._lilypond, self._worker = LilyPond(), None
@@ -176,7 +175,7 @@ class Engraver:
                 self._change.wait_for(lambda: self._wanted)
                 number, (lines, first, last, width), self._wanted = self._newest, self._wanted, None
             try:
-                page = forms("page", self._midi, self._grammar, lines).decode()
+                page = self._form("page", lines).decode()
                 made = self._lilypond.engrave(some_bars(page, first, last, width))
             except Exception as met:  # the one who waits is told
                 made = met

@@ -10,13 +10,13 @@ class Unwritten(Exception):
     """The program has not written the form, and has said why."""
 
 
-def forms(form, midi, grammar, lines):
-    """What `rhythm FORM MIDI GRAMMAR --script FILE` writes, with these lines as the script."""
+def forms(form, midi, grammar, lines, options=()):
+    """What `rhythm FORM MIDI GRAMMAR OPTION.. --script FILE` writes, with these lines as the script."""
     with tempfile.NamedTemporaryFile("w", suffix=".script") as script:
         script.writelines(line + "\n" for line in lines)
         script.flush()
         words = ["--script", script.name] if lines else []
-        ran = subprocess.run([rhythm.PROGRAM, form, os.fspath(midi), os.fspath(grammar), *words], capture_output=True)
+        ran = subprocess.run([rhythm.PROGRAM, form, os.fspath(midi), os.fspath(grammar), *options, *words], capture_output=True)
     if ran.returncode:
         raise Unwritten(ran.stderr.decode(errors="replace").split("\n")[0])
     return ran.stdout

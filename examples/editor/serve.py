@@ -1,8 +1,9 @@
 #!/usr/bin/env python3
 """An editor for a performance, in the browser: what was played, what is written of it, and how to correct it.
 
-    examples/editor/serve.py MIDI GRAMMAR [--script FILE] [--port N] [--workers N] [--program FILE]
+    examples/editor/serve.py MIDI GRAMMAR [OPTION..] [--script FILE] [--port N] [--workers N] [--program FILE]
 
+    OPTION           what is told of a recording, as in --hands 0 --meter 3/4 (docs/PREPARE.md)
     --script FILE    opens with the edits of a script that was saved
     --port N         the port on 127.0.0.1; without it a free one
     --workers N      threads of the program `rhythm`, 1 to 16
@@ -25,11 +26,17 @@ from editing import Editor
 from web import Server
 
 
+PREPARING = ["split", "hands", "strum", "meter", "tempo", "upbeat", "key"]  # options of the program that a word follows
+
+
 def given():
     """The words of the command line."""
     asked = argparse.ArgumentParser(description=__doc__, formatter_class=argparse.RawDescriptionHelpFormatter)
     asked.add_argument("midi", metavar="MIDI")
     asked.add_argument("grammar", metavar="GRAMMAR")
+    asked.add_argument("--no-drums", action="store_true")
+    for name in PREPARING:
+        asked.add_argument(f"--{name}")
     asked.add_argument("--script", metavar="FILE")
     asked.add_argument("--port", type=int, default=0, metavar="N")
     asked.add_argument("--workers", type=int, default=1, metavar="N")
@@ -43,11 +50,17 @@ def program(named):
     return named or (str(built) if built.exists() else "rhythm")
 
 
+def options(asked):
+    """What is told of the recording, as words for the program."""
+    told = [f"--{name}={getattr(asked, name)}" for name in PREPARING if getattr(asked, name) is not None]
+    return ["--no-drums", *told] if asked.no_drums else told
+
+
 def opened(asked):
     """The editor on the two files, or the end with a line that says what is wrong."""
     try:
         lines = pathlib.Path(asked.script).read_text(encoding="utf-8").splitlines() if asked.script else []
-        return Editor(asked.midi, asked.grammar, [line for line in lines if line], asked.workers)
+        return Editor(asked.midi, asked.grammar, [line for line in lines if line], asked.workers, options(asked))
     except (rhythm.Ended, OSError) as ended:
         sys.exit(f"serve.py: {ended}")
     except rhythm.Refused as refused:

@@ -168,6 +168,14 @@ class Editing(unittest.TestCase):
         said = "\\clef \"bass\"\n\\key g \\major\n\\time 3/4\n\\set Score.currentBarNumber = #5\n"
         self.assertIn(said + "g,2. |\n\\bar \"|.\"", some_bars(page, 4, 9, 200))
 
+    def test_a_recording_as_options_tell(self):
+        files, told = (TOP / "examples/keyboard.mid", TOP / "grammars/triple.rhy"), ["--hands=0", "--meter=3/4", "--tempo=93", "--upbeat=1/4"]
+        editor = Editor(*files, options=told)
+        self.addCleanup(editor.close)
+        self.assertEqual(editor.score(), rhythm.transcribe(*files, options=told))
+        editor.edit(editor.version, ["addbar"])
+        self.assertEqual(editor.form("transcribe", editor.script()).decode(), editor.score())
+
     def test_forms_of_an_edited_piece(self):
         lines = rhythm.follow(*PIECES[3])
         self.assertEqual(forms("transcribe", *PIECES[3], lines).decode(), after(*PIECES[3], lines))

@@ -16,7 +16,7 @@ import rhythm
 import words
 from editing import Stale
 from engraving import Dropped, Engraver, Unengraved, has_lilypond
-from forms import Unwritten, forms
+from forms import Unwritten
 
 STATIC = pathlib.Path(__file__).resolve().parent / "static"
 KINDS = {".html": "text/html; charset=utf-8", ".css": "text/css; charset=utf-8", ".js": "text/javascript; charset=utf-8"}
@@ -64,7 +64,7 @@ class Answers:
 
     def __init__(self, editor):
         self._editor = editor
-        self._engraver = Engraver(editor.midi, editor.grammar)
+        self._engraver = Engraver(editor.form)
 
     def start(self):
         """Has a LilyPond ready for the first page."""
@@ -115,7 +115,7 @@ class Answers:
             return "text/plain; charset=utf-8", "".join(line + "\n" for line in self._editor.script()).encode()
         if form == "kern":
             return "text/plain; charset=utf-8", self._editor.score().encode()
-        return FORMS[form], forms(form, self._editor.midi, self._editor.grammar, self._editor.script())
+        return FORMS[form], self._editor.form(form, self._editor.script())
 
 
 ASKED = ("edit", "undo", "redo", "fit", "follow", "alternatives", "open", "engrave")
