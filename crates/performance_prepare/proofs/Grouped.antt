@@ -5,21 +5,21 @@ use Rattle.std.specs.List.{slice_range}
 use Rattle.std.proofs.lemmas.Bool.{cases_order}
 use Rattle.std.proofs.lemmas.Bool.Decides.{nat_tests}
 use Rattle.std.proofs.lemmas.List.{append-nil, get_or-set_other, get_or-set_same, length-map, length-set, same_lists, take_more}
-use Rattle.rhythm_base.proofs.Members.{all_among, all_from_among, out_of}
+use Rattle.rhythm_base.proofs.Members.{all_from_among, out_of}
 use Rattle.rhythm_base.proofs.ListParts.{filter_few}
 use Rattle.rhythm_base.proofs.OrderedLists.{all_head}
 use Rattle.note_list.specs.Pairing.{IsPlayed}
-use Rattle.rhythm_base.specs.Lists.{greatest, last_of}
+use Rattle.rhythm_base.specs.Lists.{last_of}
 use Rattle.rhythm_base.specs.Time.{time}
 use Rattle.rhythm_base.specs.declared.event.Tempo.{Tempo}
 use Rattle.rhythm_base.specs.declared.note.Note.{Note}
 use Rattle.performance_prepare.specs.Elapsed.{milliseconds, time_between}
 use Rattle.performance_prepare.specs.Ends.{AreEnds, end_of, held_by, holds, row_by}
-use Rattle.performance_prepare.specs.Groups.{cost, costs_after, first_onset, groups, held_keys, is_held, sounds_past, stretch}
+use Rattle.performance_prepare.specs.Groups.{cost, costs_after, first_onset, groups, held_keys, is_held, sounds_past}
 use Rattle.performance_prepare.specs.Middle.{numbers_from}
 use Rattle.performance_prepare.specs.Strum.{strikes}
 use Rattle.performance_prepare.proofs.Cutting.{whole}
-use Rattle.performance_prepare.proofs.Middles.{filter_from, fold_high, from_among, from_entry, length_from}
+use Rattle.performance_prepare.proofs.Middles.{filter_from, from_among, from_entry, length_from}
 use Rattle.performance_prepare.proofs.ShiftedTakes.{all_mapped}
 
 -- ---- a row

@@ -9,9 +9,11 @@ pub mod Kept
 pub mod KeysOnce
 pub mod LawsKept
 pub mod Middles
+pub mod NearKeys
 pub mod NextKeys
 pub mod Parting
 pub mod ShiftedTakes
+pub mod SidesCounted
 pub mod Strummed
 pub mod Strumming
 pub mod Told

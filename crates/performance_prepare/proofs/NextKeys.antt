@@ -1,5 +1,5 @@
 -- Borders without a key between them part the keys the same way.
-use Rattle.std.proofs.Common.{◌≡◌, ℕ, ◌+◌, ◌*◌, ◌<◌, ◌≤◌, Bool, true, false, cond, not, List, [], ◌∷◌, min, inl, inr, refl, sym, ap, ◌∙◌, arith}
+use Rattle.std.proofs.Common.{◌≡◌, ℕ, ◌+◌, ◌*◌, ◌≤◌, Bool, true, cond, not, List, [], ◌∷◌, min, inl, inr, refl, sym, ap, ◌∙◌, arith}
 use Rattle.std.specs.Prelude.{filter, fold, nat_lt}
 use Rattle.std.specs.List.{reduce}
 use Rattle.std.proofs.lemmas.Bool.Decides.{nat_tests}

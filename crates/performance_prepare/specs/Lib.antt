@@ -14,6 +14,7 @@ pub mod Parts
 pub mod Prepared
 pub mod Ranges
 pub mod Shift
+pub mod Sides
 pub mod Split
 pub mod Strum
 pub mod StrumLaws

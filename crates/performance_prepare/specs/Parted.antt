@@ -1,6 +1,7 @@
 -- What a border costs by how it parts the keys of a group.
-use Rattle.std.specs.Prelude.{◌≡◌, ℕ, ◌+◌, ◌*◌, ◌≤◌, List, Option, Some, None, min}
+use Rattle.std.specs.Prelude.{◌≡◌, ℕ, ◌+◌, ◌-◌, ◌*◌, ◌≤◌, List, length, Option, Some, None, min}
 use Rattle.std.specs.List.{reduce}
+use Rattle.rhythm_base.specs.Lists.{gap}
 use Rattle.performance_prepare.specs.Groups.{held_beside, stretch}
 use Rattle.performance_prepare.specs.Middle.{keys_below, keys_from}
 
@@ -9,6 +10,14 @@ abbrev pub parted_cost : List ℕ → List ℕ → ℕ → ℕ
 parted_cost struck held border =
     100 * (stretch (keys_below border struck) + stretch (keys_from border struck))
     + 1000 * (held_beside (keys_below border struck) (keys_below border held) + held_beside (keys_from border struck) (keys_from border held))
+
+-- and 1 for each key that it is from the middle for each that is struck
+abbrev pub place_cost : ℕ → List ℕ → List ℕ → ℕ → ℕ
+place_cost middle struck held border = length struck * gap border middle + parted_cost struck held border
+
+-- a key within five of the border costs 20 for each half key that it is nearer
+abbrev pub near : ℕ → ℕ → ℕ
+near key border = 20 * (10 - gap (2 * key + 1) (2 * border))
 
 -- the borders from one on up to another cost so much by it
 abbrev pub IsParting : List ℕ → List ℕ → ℕ → ℕ → ℕ → Type 0

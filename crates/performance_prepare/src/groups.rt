@@ -3,10 +3,11 @@ ghost use Rattle.performance_prepare.specs.Ends as held;
 ghost use Rattle.performance_prepare.specs.Ends.{AreEnds};
 ghost use Rattle.performance_prepare.specs.Groups as groups;
 ghost use Rattle.performance_prepare.specs.Middle.{numbers_from};
+ghost use Rattle.performance_prepare.specs.Parted.{near, place_cost};
 ghost use Rattle.rhythm_base.specs.Lists.{gap, greatest, least_of};
 ghost use Rattle.rhythm_base.specs.declared.limits.TheConstants.{LATEST_EVENT, MOST_NOTES};
 ghost use Rattle.rhythm_base.specs.declared.note.Note.{Note};
-ghost use Rattle.std.specs.Prelude.{◌≡◌, ◌≤◌, ◌<◌, ◌+◌, ◌*◌, ◌∷◌, ◌++◌, ◌&&◌, All, IfOk, drop, filter, length, List, map, nat_lt, not, slice_index};
+ghost use Rattle.std.specs.Prelude.{◌≡◌, ◌≤◌, ◌<◌, ◌+◌, ◌*◌, ◌∷◌, ◌++◌, ◌&&◌, All, IfOk, drop, filter, length, List, map, nat_lt, not, slice_index, ℕ};
 ghost use Rattle.std.specs.List.{slice_range};
 
 use crate::elapsed::{milliseconds, time_between};
@@ -53,43 +54,70 @@ fn apart(a: u64, b: u64) -> u64
     if a < b { b - a } else { a - b }
 }
 
-/// What keys near a border cost.
-fn nearness(border: u8, keys: &[u8]) -> u64
-    requires few { length keys.now ≤ MOST_NOTES }
-    ensures nearness { result ≡ groups.nearness border keys.now }
-    ensures low { result ≤ 200 * length keys.now }
+/// What a key costs near a border.
+fn near(border: u64, key: u64) -> u32
+    requires border { border ≤ 128 }
+    requires key { key ≤ 127 }
+    ensures near { result ≡ near key border }
+    ensures low { result ≤ 200 }
 {
-    let mut total = 0;
-    for key in keys {
-        total += 20 * 10u64.saturating_sub(apart(2 * u64::from(*key) + 1, 2 * u64::from(border)));
-    }
-    total
+    20 * 10u64.saturating_sub(apart(2 * key + 1, 2 * border)) as u32
 }
 
-/// What a border costs in a group that strikes these keys, by what it costs as it parts them.
-fn cost(middle: u64, struck: &[u8], border: u8, parted: u64) -> u32
+/// Adds to the costs of borders what a key costs near them: more than five keys away nothing.
+fn add_near(costs: &mut [u32; BORDERS], key: u8)
+    requires room { (border : ℕ) → border < 129 → slice_index costs.old border ≤ 4_000_000_000 }
+    requires key { key < 128 }
+    ensures { (border : ℕ) → border < 129 → slice_index costs.new border ≡ slice_index costs.old border + near key border }
+{
+    let first = key.saturating_sub(4) as usize;
+    let end = (key as usize + 6).min(BORDERS);
+    'borders: for border in first..end {
+        costs[border] += near(border as u64, u64::from(key));
+    }
+}
+
+/// What a border costs by its place where so many keys are struck, and by how it parts them.
+fn placed(middle: u64, count: u64, border: u64, parted: u64) -> u32
     requires middle { middle ≤ 128 }
     requires border { border ≤ 128 }
-    requires few { length struck.now ≤ MOST_NOTES }
+    requires few { count ≤ MOST_NOTES }
     requires parted { parted ≤ 307_000 }
-    ensures { result ≡ length struck.now * gap border middle + groups.nearness border struck.now + parted }
+    ensures cost { result ≡ count * gap border middle + parted }
+    ensures low { result ≤ 9_000_000 }
 {
-    let moved = struck.len() as u64 * apart(u64::from(border), middle);
-    (moved + nearness(border, struck) + parted) as u32
+    (count * apart(border, middle) + parted) as u32
+}
+
+/// What borders cost by their places and by how they part the keys of a group.
+fn places(middle: u64, struck: &[u8], held: &[u8]) -> [u32; BORDERS]
+    requires middle { middle ≤ 128 }
+    requires few { length struck.now ≤ MOST_NOTES }
+    requires held { length held.now ≤ 128 }
+    ensures places { (border : ℕ) → border < 129 → slice_index result border ≡ place_cost middle struck.now held.now border }
+    ensures low { (border : ℕ) → border < 129 → slice_index result border ≤ 9_000_000 }
+{
+    let count = struck.len() as u64;
+    let mut costs = [0u32; BORDERS];
+    let mut parting = parting_from(struck, held, 0);
+    'borders: for border in 0..BORDERS {
+        parting = parting_on(parting, struck, held, border as u8);
+        costs[border] = placed(middle, count, border as u64, parting.cost);
+    }
+    costs
 }
 
 /// What each border costs in a group that strikes these keys where those are held.
 fn row(middle: u64, struck: &[u8], held: &[u8]) -> [u32; BORDERS]
     requires middle { middle ≤ 128 }
     requires few { length struck.now ≤ MOST_NOTES }
+    requires struck { All (λ k. k < 128) struck.now }
     requires held { length held.now ≤ 128 }
     ensures { result ≡ map (groups.cost middle struck.now held.now) (numbers_from 0 129) }
 {
-    let mut costs = [0u32; BORDERS];
-    let mut parting = parting_from(struck, held, 0);
-    'borders: for border in 0..BORDERS {
-        parting = parting_on(parting, struck, held, border as u8);
-        costs[border] = cost(middle, struck, border as u8, parting.cost);
+    let mut costs = places(middle, struck, held);
+    for key in struck {
+        add_near(&mut costs, *key);
     }
     costs
 }

@@ -1,39 +1,14 @@
 ghost use Rattle.performance_prepare.specs.Middle as middles;
+ghost use Rattle.performance_prepare.specs.Sides.{ArePart, IsSide, keys_at};
 ghost use Rattle.rhythm_base.specs.Lists.{greatest, least_of};
 ghost use Rattle.rhythm_base.specs.declared.limits.TheConstants.{MOST_NOTES};
-ghost use Rattle.std.specs.Prelude.{◌≡◌, ◌≤◌, ◌<◌, ◌*◌, ◌-◌, ◌==◌, All, IfOk, filter, length, map, min, slice_index};
+ghost use Rattle.std.specs.Prelude.{◌≡◌, ◌≤◌, ◌<◌, ◌+◌, ◌*◌, ◌/◌, ◌-◌, ◌==◌, All, IfOk, List, ℕ, filter, length, map, min, slice_index};
 ghost use Rattle.std.specs.List.{reduce, sum};
 
 use std::alloc::{AllocError, Global};
 
 /// The border between the hands where it lies midway on a keyboard.
 const USUAL: u64 = 60;
-
-/// The keys below a border.
-pub fn keys_below(alloc: Global, border: u8, keys: &[u8]) -> Result<Vec<u8>, AllocError>
-    requires { All (λ k. k < 128) keys.now }
-    ensures value { IfOk result (λ v. v.items ≡ middles.keys_below border keys.now) }
-    ensures few { IfOk result (λ v. length v.items ≤ length keys.now) }
-    ensures keys { IfOk result (λ v. All (λ k. k < 128) v.items) }
-{
-    keys.iter()
-        .copied()
-        .filter(|key| *key < border)
-        .collect(alloc)
-}
-
-/// The keys at a border or above it.
-pub fn keys_from(alloc: Global, border: u8, keys: &[u8]) -> Result<Vec<u8>, AllocError>
-    requires { All (λ k. k < 128) keys.now }
-    ensures value { IfOk result (λ v. v.items ≡ middles.keys_from border keys.now) }
-    ensures few { IfOk result (λ v. length v.items ≤ length keys.now) }
-    ensures keys { IfOk result (λ v. All (λ k. k < 128) v.items) }
-{
-    keys.iter()
-        .copied()
-        .filter(|key| *key >= border)
-        .collect(alloc)
-}
 
 /// The sum of keys.
 fn sum_of(keys: &[u8]) -> u64
@@ -49,30 +24,79 @@ fn sum_of(keys: &[u8]) -> u64
     total
 }
 
-/// The mean of keys in sixteenths, rounded down, of one key at least.
-fn mean(keys: &[u8]) -> u64
-    requires some { 1 ≤ length keys.now }
+/// How many keys there are of each number.
+fn counts_of(keys: &[u8]) -> [u64; 128]
     requires few { length keys.now ≤ MOST_NOTES }
     requires keys { All (λ k. k < 128) keys.now }
-    ensures mean { result ≡ middles.mean keys.now }
-    ensures low { result ≤ 2032 }
+    ensures { (key : ℕ) → key < 128 → slice_index result key ≡ length (keys_at key keys.now) }
 {
-    16 * sum_of(keys) / keys.len() as u64
+    let mut counts = [0u64; 128];
+    for key in keys {
+        counts[*key as usize] += 1;
+    }
+    counts
 }
 
-/// How well a border parts the keys.
-fn parting(alloc: Global, keys: &[u8], border: u8) -> Result<u64, AllocError>
-    requires few { length keys.now ≤ MOST_NOTES }
-    requires keys { All (λ k. k < 128) keys.now }
-    ensures { IfOk result (λ n. n ≡ middles.parting keys.now border) }
+/// The keys on a side of a border: how many there are, and their sum.
+#[derive(Clone, Copy)]
+struct Side {
+    count: u64,
+    sum: u64,
+}
+
+/// With so many keys more of a number.
+fn with_keys(side: Side, key: u8, more: u64) -> Side
+    requires count { side.count ≤ MOST_NOTES }
+    requires sum { side.sum ≤ 127 * side.count }
+    requires more { more ≤ MOST_NOTES }
+    ensures count { result.count ≡ side.count + more }
+    ensures sum { result.sum ≡ side.sum + key * more }
 {
-    let below = keys_below(alloc, border, keys)?;
-    let above = keys_from(alloc, border, keys)?;
-    if below.is_empty() || above.is_empty() {
-        return Ok(0);
+    Side {
+        count: side.count + more,
+        sum: side.sum + u64::from(key) * more,
     }
-    let apart = mean(&above).saturating_sub(mean(&below));
-    Ok(below.len() as u64 * above.len() as u64 * (apart * apart))
+}
+
+/// The mean of keys in sixteenths, rounded down, of one key at least.
+fn mean(side: Side) -> u64
+    requires some { 1 ≤ side.count }
+    requires few { side.count ≤ MOST_NOTES }
+    requires low { side.sum ≤ 127 * side.count }
+    ensures mean { result ≡ (16 * side.sum) / side.count }
+    ensures low { result ≤ 2032 }
+{
+    16 * side.sum / side.count
+}
+
+/// How well a border parts keys, by those below it and the others.
+fn parting(below: Side, above: Side) -> u64
+    requires below { below.count ≤ MOST_NOTES }
+    requires above { above.count ≤ MOST_NOTES }
+    requires low { below.sum ≤ 127 * below.count }
+    requires high { above.sum ≤ 127 * above.count }
+    ensures { (keys : List ℕ) (border : ℕ) → IsSide (middles.keys_below border keys) below.count below.sum
+        → IsSide (middles.keys_from border keys) above.count above.sum → result ≡ middles.parting keys border }
+{
+    if below.count == 0 || above.count == 0 {
+        return 0;
+    }
+    let apart = mean(above).saturating_sub(mean(below));
+    below.count * above.count * (apart * apart)
+}
+
+/// How well a border parts keys, by those below it and all.
+fn parting_within(below: Side, all: Side) -> u64
+    requires part { ArePart below.count below.sum all.count all.sum }
+    requires few { all.count ≤ MOST_NOTES }
+    ensures { (keys : List ℕ) (border : ℕ) → IsSide (middles.keys_below border keys) below.count below.sum
+        → IsSide keys all.count all.sum → result ≡ middles.parting keys border }
+{
+    let above = Side {
+        count: all.count - below.count,
+        sum: all.sum - below.sum,
+    };
+    parting(below, above)
 }
 
 /// How well each border from 1 to 127 parts the keys.
@@ -81,9 +105,16 @@ fn partings(alloc: Global, keys: &[u8]) -> Result<Vec<u64>, AllocError>
     requires keys { All (λ k. k < 128) keys.now }
     ensures { IfOk result (λ v. v.items ≡ map (middles.parting keys.now) middles.inner_borders) }
 {
+    let counts = counts_of(keys);
+    let all = Side {
+        count: keys.len() as u64,
+        sum: sum_of(keys),
+    };
     let mut list = Vec::new(alloc);
+    let mut below = Side { count: 0, sum: 0 };
     'borders: for border in 1..128u8 {
-        list.push(parting(alloc, keys, border)?)?;
+        below = with_keys(below, border - 1, counts[border as usize - 1]);
+        list.push(parting_within(below, all))?;
     }
     Ok(list)
 }

@@ -7,7 +7,7 @@ ghost use Rattle.std.specs.List.{reduce};
 use hand_borders::BORDERS;
 
 /// How many keys are below a border.
-pub fn count_below(border: u8, keys: &[u8]) -> u64
+fn count_below(border: u8, keys: &[u8]) -> u64
     ensures count { result ≡ length (middles.keys_below border keys.now) }
     ensures few { result ≤ length keys.now }
 {
@@ -15,7 +15,7 @@ pub fn count_below(border: u8, keys: &[u8]) -> u64
 }
 
 /// How many keys are at a border or above it.
-pub fn count_from(border: u8, keys: &[u8]) -> u64
+fn count_from(border: u8, keys: &[u8]) -> u64
     ensures count { result ≡ length (middles.keys_from border keys.now) }
     ensures few { result ≤ length keys.now }
 {

@@ -4,7 +4,7 @@ use Rattle.performance_prepare.proofs.Grouped.{first_low, holds_later}
 use Rattle.performance_prepare.proofs.groups.is_held.Goals as goal
 
 pub returns-then-end-onset : goal.returns-then-end-onset
-returns-then-end-onset c = 
+returns-then-end-onset c =
     let e = c.first_onset-onset.ensures in
     let le = c.if-end-onset.true in
     let early : c.args.end ≤ first_onset c.args.group.now = omega (arith, e, le) in

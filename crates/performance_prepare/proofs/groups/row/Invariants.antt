@@ -1,13 +1,12 @@
-use Rattle.std.proofs.Common.{ℕ, ◌≡◌, ◌<◌, ◌≤◌, length}
+use Rattle.std.proofs.Common.{ℕ, ◌≡◌, ◌+◌, ◌*◌, ◌<◌, ◌≤◌, length, take}
 use Rattle.std.specs.Prelude.{slice_index}
-use Rattle.performance_prepare.specs.Groups.{cost}
-use Rattle.performance_prepare.specs.Parted.{IsParting}
+use Rattle.performance_prepare.specs.Groups.{nearness}
+use Rattle.performance_prepare.specs.Parted.{place_cost}
 use Rattle.performance_prepare.proofs.groups.row.Given as goal
 
-abbrev pub invariant-borders : goal.invariant-borders
-invariant-borders l = record {
-  each : (k : ℕ) → k < l.border → slice_index l.costs k ≡ cost l.middle l.struck l.held k;
+abbrev pub invariant-loop-key : goal.invariant-loop-key
+invariant-loop-key l = record {
+  costs : (k : ℕ) → k < 129 → slice_index l.costs k ≡ place_cost l.middle l.struck l.held k + nearness k (take l.key-index l.struck);
   long : length l.costs ≡ 129;
-  parting : IsParting l.struck l.held l.border l.parting.last l.parting.cost;
-  low : l.parting.cost ≤ 307000;
+  low : (k : ℕ) → k < 129 → slice_index l.costs k ≤ 9000000 + 200 * l.key-index;
 }
