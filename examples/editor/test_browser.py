@@ -35,6 +35,7 @@ sys.path.insert(0, str(TOP / "python"))
 
 import rhythm
 from engraving import has_lilypond
+from forms import forms
 from written import bars_of
 
 rhythm.PROGRAM = os.environ.get("PROGRAM") or str(TOP / "bin/rhythm")
@@ -47,9 +48,7 @@ PATIENCE = 30
 
 def score_of(midi, grammar, lines):
     """The score of a fresh transcription after the lines of a script."""
-    script = "".join(line + "\n" for line in [*lines, "score"])
-    said = subprocess.run([rhythm.PROGRAM, "edit", midi, grammar], input=script, capture_output=True, text=True, check=True).stdout
-    return said.split("\nscore " if lines else "score ", 1)[1].split("\n", 1)[1]
+    return forms("transcribe", midi, grammar, lines).decode()
 
 
 class Window:
@@ -287,9 +286,9 @@ class InABrowser(unittest.TestCase):
 
     def test_other_forms_are_kept_before_and_after_an_edit(self):
         window = self.opened(*VOICES)
-        forms = [("musicxml", "two-voices.musicxml", b"<?xml"), ("page", "two-voices.ly", b"\\version"), ("render", "two-voices.mid", b"MThd")]
+        kept = [("musicxml", "two-voices.musicxml", b"<?xml"), ("page", "two-voices.ly", b"\\version"), ("render", "two-voices.mid", b"MThd")]
         for _ in range(2):
-            for form, name, beginning in forms:
+            for form, name, beginning in kept:
                 window.driver.find_element(By.CSS_SELECTOR, f"[data-form={form}]").click()
                 self.assertEqual(window.kept_file(name)[: len(beginning)], beginning)
                 (pathlib.Path(window.kept.name) / name).unlink()
