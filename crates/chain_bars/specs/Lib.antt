@@ -1,6 +1,7 @@
 pub mod Chain
 pub mod Endings
 pub mod Laws
+pub mod Products
 pub mod Reaches
 pub mod Tower
 pub mod Walks

@@ -1,5 +1,6 @@
 ghost use Rattle.rhythm_base.specs.declared.limits.TheConstants.{MOST_BARS};
 ghost use Rattle.rhythm_base.specs.Paths.{AreCheap, IsCheap};
+ghost use Rattle.chain_bars.specs.Products.{RisesTwice};
 ghost use Rattle.chain_bars.specs.Tower.{AreCells, IsTower, best_cost, cost_of, level};
 ghost use Rattle.carry_matrix.specs.LowSums.{HaveLowSums};
 ghost use Rattle.rhythm_base.specs.Counter.{risen};
@@ -126,8 +127,7 @@ pub fn around_of<P: Tag>(levels: &[Level], at: usize, products: &mut Steps<P>) -
     requires at { at < length (level levels.now 0) }
     ensures before { result.before ≡ five (λ to. cost_of (least_key (take at (level levels.now 0)) 0 to)) }
     ensures after { result.after ≡ five (λ from. cost_of (least_key (drop (at + 1) (level levels.now 0)) from 0)) }
-    ensures products { (d : ℕ) → length (level levels.now 0) ≤ 2 ^ d → products.new ≤ risen products.old (2 * d) }
-    ensures rises { products.old ≤ products.new }
+    ensures products { RisesTwice (length (level levels.now 0)) products.old products.new }
 {
     let mut before = CarryMatrix::identity();
     let mut after = CarryMatrix::identity();

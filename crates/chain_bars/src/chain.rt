@@ -1,5 +1,6 @@
 ghost use Rattle.rhythm_base.specs.declared.limits.TheConstants.{MOST_BARS, DEAREST_CELL};
 ghost use Rattle.rhythm_base.specs.Counter.{risen};
+ghost use Rattle.chain_bars.specs.Products.{RisesOnce, RisesTwice};
 ghost use Rattle.chain_bars.specs.Walks.{AreCarries};
 ghost use Rattle.rhythm_base.specs.Paths.{IsDeadCell};
 ghost use Rattle.rhythm_base.specs.Paths.{AreCheap, IsCheap};
@@ -82,8 +83,7 @@ impl Chain {
         requires cheap { IsCheap DEAREST_CELL cell.now }
         ensures cells { self.new.cells ≡ slice_set self.old.cells at cell.now }
         ensures room { self.new.room ≡ self.old.room }
-        ensures products { (d : ℕ) → length self.old.cells ≤ 2 ^ d → products.new ≤ risen products.old d }
-        ensures rises { products.old ≤ products.new }
+        ensures products { RisesOnce (length self.old.cells) products.old products.new }
     {
         renew(self.levels.as_mut_slice(), at, cell, products);
     }
@@ -101,8 +101,7 @@ impl Chain {
         ensures err { IfErr result (λ _. (self.new.cells ≡ self.old.cells) × (self.new.room ≡ self.old.room) × (products.new ≡ products.old)) }
         ensures room { self.old.room ≤ self.new.room }
         ensures fits { length self.new.cells ≤ self.new.room }
-        ensures products { (d : ℕ) → length self.old.cells + 1 ≤ 2 ^ d → products.new ≤ risen products.old d }
-        ensures rises { products.old ≤ products.new }
+        ensures products { RisesOnce (length self.old.cells + 1) products.old products.new }
     {
         let count = self.count();
         self.reserve(count + 1)?;
@@ -118,8 +117,7 @@ impl Chain {
         requires cheap { IsCheap DEAREST_CELL cell.now }
         ensures cells { self.new.cells ≡ self.old.cells ++ cell.now ∷ [] }
         ensures room { self.new.room ≡ self.old.room }
-        ensures products { (d : ℕ) → length self.old.cells + 1 ≤ 2 ^ d → products.new ≤ risen products.old d }
-        ensures rises { products.old ≤ products.new }
+        ensures products { RisesOnce (length self.old.cells + 1) products.old products.new }
     {
         extend(self.levels.as_mut_slice(), cell, products);
     }
@@ -129,8 +127,7 @@ impl Chain {
         requires { 1 < length self.old.cells }
         ensures cells { self.new.cells ≡ take (length self.old.cells - 1) self.old.cells }
         ensures room { self.new.room ≡ self.old.room }
-        ensures products { (d : ℕ) → length self.old.cells ≤ 2 ^ d → products.new ≤ risen products.old d }
-        ensures rises { products.old ≤ products.new }
+        ensures products { RisesOnce (length self.old.cells) products.old products.new }
     {
         shorten(self.levels.as_mut_slice(), products);
     }
@@ -180,8 +177,7 @@ impl Chain {
         requires at { at < length self.now.cells }
         ensures before { result.before ≡ five (λ to. cost_of (least_key (take at self.now.cells) 0 to)) }
         ensures after { result.after ≡ five (λ from. cost_of (least_key (drop (at + 1) self.now.cells) from 0)) }
-        ensures products { (d : ℕ) → length self.now.cells ≤ 2 ^ d → products.new ≤ risen products.old (2 * d) }
-        ensures rises { products.old ≤ products.new }
+        ensures products { RisesTwice (length self.now.cells) products.old products.new }
     {
         around_of(self.levels.as_slice(), at, products)
     }

@@ -1,6 +1,7 @@
 ghost use Rattle.rhythm_base.specs.declared.limits.TheConstants.{MOST_BARS, DEAREST_CELL};
 ghost use Rattle.rhythm_base.specs.Counter.{risen};
 ghost use Rattle.chain_bars.specs.Endings.{HasNewEnd};
+ghost use Rattle.chain_bars.specs.Products.{RisesOnce};
 ghost use Rattle.rhythm_base.specs.Paths.{AreCheap, IsCheap, IsRanked};
 ghost use Rattle.chain_bars.specs.Tower.{AreCells, HasRoom, IsTower, best_cost, cost_of, halved, level, node_at, level_above, level_of, room_at};
 ghost use Rattle.path_laws.specs.Tables.{AllRanked};
@@ -223,8 +224,7 @@ pub fn renew<P: Tag>(levels: &mut [Level], at: usize, cell: &CarryMatrix, produc
     ensures tower { IsTower (level levels.new 0) levels.new }
     ensures sound { AreCells (level levels.new 0) }
     ensures room { (k : ℕ) → k < 13 → room_at levels.new k ≡ room_at levels.old k }
-    ensures products { (d : ℕ) → length (level levels.old 0) ≤ 2 ^ d → products.new ≤ risen products.old d }
-    ensures rises { products.old ≤ products.new }
+    ensures products { RisesOnce (length (level levels.old 0)) products.old products.new }
 {
     let _ = cell.get(0, 0);
     levels[0].set(at, *cell);
@@ -242,8 +242,7 @@ fn renew_last<P: Tag>(levels: &mut [Level], products: &mut Steps<P>)
     ensures cells { level levels.new 0 ≡ level levels.old 0 }
     ensures tower { IsTower (level levels.old 0) levels.new }
     ensures room { (k : ℕ) → k < 13 → room_at levels.new k ≡ room_at levels.old k }
-    ensures products { (d : ℕ) → length (level levels.old 0) ≤ 2 ^ d → products.new ≤ risen products.old d }
-    ensures rises { products.old ≤ products.new }
+    ensures products { RisesOnce (length (level levels.old 0)) products.old products.new }
 {
     'renewal: for above in 1..levels.len() {
         let nodes = levels[above - 1].slice();
@@ -264,8 +263,7 @@ pub fn extend<P: Tag>(levels: &mut [Level], cell: &CarryMatrix, products: &mut S
     ensures sound { AreCells (level levels.new 0) }
     ensures tower { IsTower (level levels.new 0) levels.new }
     ensures room { (k : ℕ) → k < 13 → room_at levels.new k ≡ room_at levels.old k }
-    ensures products { (d : ℕ) → length (level levels.old 0) + 1 ≤ 2 ^ d → products.new ≤ risen products.old d }
-    ensures rises { products.old ≤ products.new }
+    ensures products { RisesOnce (length (level levels.old 0) + 1) products.old products.new }
 {
     let _ = cell.get(0, 0);
     levels[0].add(*cell);
@@ -282,8 +280,7 @@ pub fn shorten<P: Tag>(levels: &mut [Level], products: &mut Steps<P>)
     ensures sound { AreCells (level levels.new 0) }
     ensures tower { IsTower (level levels.new 0) levels.new }
     ensures room { (k : ℕ) → k < 13 → room_at levels.new k ≡ room_at levels.old k }
-    ensures products { (d : ℕ) → length (level levels.old 0) ≤ 2 ^ d → products.new ≤ risen products.old d }
-    ensures rises { products.old ≤ products.new }
+    ensures products { RisesOnce (length (level levels.old 0)) products.old products.new }
 {
     let count = levels[0].len() - 1;
     levels[0].keep(count);

@@ -37,13 +37,6 @@ pub record AreProductsOfEdit {A : Type 0} (g : Grammar) (p : Performance) (edit 
   pub most : (after : Performance) → edited p edit ≡ Ok after → AreProductsOf (changes_of_edit result) g p after old new
   pub none : changes_of_edit result ≡ 0 → new ≡ old
 
--- what d products for a table, or twice d, make of a counter, where there are at most 2 ^ d bars
-abbrev pub RisesOnce : ℕ → ℕ → ℕ → Type 0
-RisesOnce bars old new = (old ≤ new) × ((d : ℕ) → bars ≤ 2 ^ d → new ≤ risen old d)
-
-abbrev pub RisesTwice : ℕ → ℕ → ℕ → Type 0
-RisesTwice bars old new = (old ≤ new) × ((d : ℕ) → bars ≤ 2 ^ d → new ≤ risen old (2 * d))
-
 -- a counter does not fall, and stands still where a call fails
 abbrev pub RisesOnOk : {A E : Type 0} → Result A E → ℕ → ℕ → Type 0
 RisesOnOk result old new = (old ≤ new) × OnErr result (new ≡ old)

@@ -1,5 +1,5 @@
 ghost use Rattle.edit_session.specs.Asking.{AreBestByTables, CanBePinned};
-ghost use Rattle.edit_session.specs.Products.{RisesTwice};
+ghost use Rattle.chain_bars.specs.Products.{RisesTwice};
 ghost use Rattle.rhythm_base.specs.Readable.{IsReadable};
 ghost use Rattle.rhythm_base.specs.declared.limits.TheConstants.{MOST_BARS};
 ghost use Rattle.edit_session.specs.LeastTrees.{IsTableIn};

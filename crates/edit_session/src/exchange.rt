@@ -21,7 +21,7 @@ ghost use Rattle.edit_session.specs.Exchange.{
   tables_of_bars,
   tables_below,
 };
-ghost use Rattle.edit_session.specs.Products.{RisesOnce};
+ghost use Rattle.chain_bars.specs.Products.{RisesOnce};
 ghost use Rattle.rhythm_base.specs.declared.limits.TheConstants.{MOST_BARS};
 ghost use Rattle.std.specs.Prelude.{
   ◌≡◌,

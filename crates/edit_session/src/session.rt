@@ -1,5 +1,6 @@
 ghost use Rattle.bar_pool.specs.Pool.{AreTablesOf, RisesWithin};
 ghost use Rattle.bar_pool.specs.declared.limits.TheConstants.{MOST_WORKERS};
+ghost use Rattle.chain_bars.specs.Products.{RisesTwice};
 ghost use Rattle.edit_session.specs.Asking.{CanBePinned, IsAskFault};
 ghost use Rattle.edit_session.specs.ChangedVoices.{LeavesOthers};
 ghost use Rattle.edit_session.specs.Effects.{
@@ -28,7 +29,7 @@ ghost use Rattle.tree_laws.specs.Alternatives.{AreBestOfBar};
 ghost use Rattle.rhythm_base.specs.Voices.{HasDerivation, HasStarts, IsCostOf};
 ghost use Rattle.rhythm_base.specs.declared.limits.TheConstants.{LONGEST_SCORE, MOST_BARS, MOST_CELLS, MOST_NOTES};
 ghost use Rattle.edit_session.specs.Prepared.{RisesBy, Suits, bar_table_of, cell_of};
-ghost use Rattle.edit_session.specs.Products.{RisesTwice, changes_made};
+ghost use Rattle.edit_session.specs.Products.{changes_made};
 ghost use Rattle.edit_session.specs.ReachedCells.{place_pair};
 ghost use Rattle.edit_session.specs.RuleLists.{AreLeastListsOf};
 ghost use Rattle.edit_laws.specs.Edits as edits;

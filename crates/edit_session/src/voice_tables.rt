@@ -2,7 +2,7 @@ ghost use Rattle.rhythm_base.specs.declared.limits.TheConstants.{DEAREST_CELL, M
 ghost use Rattle.bar_alternatives.specs.Laws.{costs_after, costs_before};
 ghost use Rattle.chain_bars.specs.Laws.{matrices};
 ghost use Rattle.chain_bars.specs.Walks.{AreCarries};
-ghost use Rattle.edit_session.specs.Products.{RisesOnce, RisesTwice};
+ghost use Rattle.chain_bars.specs.Products.{RisesOnce, RisesTwice};
 ghost use Rattle.edit_session.specs.VoiceTables.{HasPath, HasTables, IsGrown, path_cost};
 ghost use Rattle.rhythm_base.specs.BarTables.{BarTable};
 ghost use Rattle.rhythm_base.specs.Paths.{AreCheap, IsCheap, IsDeadCell};

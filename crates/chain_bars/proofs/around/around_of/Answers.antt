@@ -77,4 +77,4 @@ returns-clause-after g c =
     ∙ after_root c.args.levels.now c.args.at c.up.below c.up.place c.up.after c.requires.cells (omega (arith, c.up-test.false, c.up.auto.below-end, c.requires.tower.count)) c.up.invariant.2
 
 pub returns-clause-products : goal.returns-clause-products
-returns-clause-products g c = λ d few. sides_end c.up.below d c.args.products.now c.up.products (c.up.invariant.3 d few)
+returns-clause-products g c = (c.up.invariant.4, λ d few. sides_end c.up.below d c.args.products.now c.up.products (c.up.invariant.3 d few))

@@ -56,4 +56,4 @@ pub returns-clause-room : goal.returns-clause-room
 returns-clause-room g c = c.renewal.invariant.1.room
 
 pub returns-clause-products : goal.returns-clause-products
-returns-clause-products g c = λ d few. way_end (c.renewal.above - 1) d c.args.products.now c.renewal.products (c.renewal.invariant.3 d few)
+returns-clause-products g c = (c.renewal.invariant.4, λ d few. way_end (c.renewal.above - 1) d c.args.products.now c.renewal.products (c.renewal.invariant.3 d few))

@@ -11,8 +11,8 @@ push_within-requires-clause-cheap g c κs within = subst (IsCheap DEAREST_CELL) 
 
 pub returns-clause-products : goal.returns-clause-products
 returns-clause-products g c = (
-  c.push_within.ensures.rises,
+  c.push_within.ensures.products.0,
   λ d few.
       let long = ap length c.self.invariant ∙ length-map c.self.inside.tables.items (λ (x : BarTable). x.matrix) ∙ ap (λ (v : VoiceTables). length v.tables) c.self.view_is in
-      c.push_within.ensures.products d (omega (arith, few, long)),
+      c.push_within.ensures.products.1 d (omega (arith, few, long)),
 )

@@ -19,8 +19,8 @@ invariant_of-self g c =
 
 pub returns-clause-products : goal.returns-clause-products
 returns-clause-products g c = (
-  c.replace.ensures.rises,
+  c.replace.ensures.products.0,
   λ d few.
       let long = ap length c.self.invariant ∙ length-map c.self.inside.tables.items (λ (x : BarTable). x.matrix) ∙ ap (λ (v : VoiceTables). length v.tables) c.self.view_is in
-      c.replace.ensures.products d (omega (arith, few, long)),
+      c.replace.ensures.products.1 d (omega (arith, few, long)),
 )
