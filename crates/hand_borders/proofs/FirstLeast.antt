@@ -73,7 +73,7 @@ among_range a (suc n) x low high = elim (cases_order a x) [
   ]
 ]
 
-range_among : (a n x : ℕ) → Among x (range_with_len a n) → (a ≤ x) × (x < a + n)
+pub range_among : (a n x : ℕ) → Among x (range_with_len a n) → (a ≤ x) × (x < a + n)
 range_among a zero x h = absurd h
 range_among a (suc n) x (inl e) = (omega (arith, e), omega (arith, e))
 range_among a (suc n) x (inr h) = let r = range_among (a + 1) n x h in (omega (arith, r.0), omega (arith, r.1))

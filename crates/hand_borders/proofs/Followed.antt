@@ -1,6 +1,7 @@
 -- The ways of all groups, pushed from the last group to the first.
 use Rattle.std.proofs.Common.{◌≡◌, ℕ, zero, suc, ◌+◌, ◌-◌, ◌*◌, ◌^◌, ◌<◌, ◌≤◌, List, [], ◌∷◌, ◌++◌, length, drop, get_or, refl, sym, ap, ◌∙◌, subst, arith, append_assoc, length-append, length-drop}
 use Rattle.std.specs.Prelude.{All, IfOk, Result, Ok, Err, reverse, slice_index}
+use Rattle.std.proofs.lemmas.Grind.{get_or_default_zero}
 use Rattle.std.proofs.lemmas.List.{drop_more, get_or_append_left, get_or_push, reverse-append}
 use Rattle.hand_borders.specs.Borders.{IsLeastBorders, least_borders}
 use Rattle.hand_borders.specs.Ways.{AreNearest, AreWays, IsLowest, follow}
@@ -63,26 +64,16 @@ best_pushed groups done group after costs borders sums rows list d some within i
 pub borders_near : (after costs borders : List ℕ) → length borders ≡ 129 → AreNearest after costs borders → AreWays borders
 borders_near after costs borders long near = (long, λ k d lt. below k d (omega (arith, lt, long)))
   where
-    other : (xs : List ℕ) (k d : ℕ) → k < length xs → get_or xs k d ≡ slice_index xs k
-    other [] k d lt = absurd (omega (arith, lt))
-    other (x ∷ xs) zero d lt = refl
-    other (x ∷ xs) (suc k) d lt = other xs k d (omega (arith, lt))
-
     below : (k d : ℕ) → k < 129 → get_or borders k d < 129
-    below k d lt = let n = (near k lt).within in let e = other borders k d (omega (arith, lt, long)) in omega (arith, n, e)
+    below k d lt = let n = (near k lt).within in let e = get_or_default_zero borders k d (omega (arith, lt, long)) in omega (arith, n, e)
 
 -- ---- no cost is too great
-
-at_any : (xs : List ℕ) (k d : ℕ) → k < length xs → get_or xs k d ≡ slice_index xs k
-at_any [] k d lt = absurd (omega (arith, lt))
-at_any (x ∷ xs) zero d lt = refl
-at_any (x ∷ xs) (suc k) d lt = at_any xs k d (omega (arith, lt))
 
 pub near_few : (after costs borders : List ℕ) (done : ℕ) → length after ≡ 129 → length costs ≡ 129 → done ≤ 65536 → All (λ c. c ≤ done * 4294967295) after → AreNearest after costs borders → All (λ c. c ≤ 2 ^ 60) costs
 near_few after costs borders done long wide low few near k d lt =
     let low_here = nearest_low after k (slice_index costs k) (slice_index borders k) (omega (arith, lt, wide)) (near k (omega (arith, lt, wide))) in
     let here : slice_index after k ≤ done * 4294967295 = few k 0 (omega (arith, lt, long, wide)) in
-    let e = at_any costs k d lt in
+    let e = get_or_default_zero costs k d lt in
     omega (arith, low_here, here, e, low)
 
 pub sums_few : (after costs borders sums : List ℕ) (done : ℕ) → length after ≡ 129 → length sums ≡ 129 → All (λ c. c ≤ done * 4294967295) after → AreNearest after costs borders
@@ -91,11 +82,11 @@ sums_few after costs borders sums done long wide few near sum k d lt =
     let low = nearest_low after k (slice_index costs k) (slice_index borders k) (omega (arith, lt, wide)) (near k (omega (arith, lt, wide))) in
     let here : slice_index after k ≤ done * 4294967295 = few k 0 (omega (arith, lt, long, wide)) in
     let more = sum k (omega (arith, lt, wide)) in
-    let e = at_any sums k d lt in
+    let e = get_or_default_zero sums k d lt in
     omega (arith, low, here, more, e)
 
 pub begin_few : (zeros sums : List ℕ) → length sums ≡ 129 → ((k : ℕ) → k < 129 → slice_index zeros k ≡ 0) → ((k : ℕ) → k < 129 → slice_index sums k ≤ slice_index zeros k + 4294967295) → All (λ c. c ≤ 4294967295) sums
-begin_few zeros sums wide none sum k d lt = let z = none k (omega (arith, lt, wide)) in let s = sum k (omega (arith, lt, wide)) in let e = at_any sums k d lt in omega (arith, z, s, e)
+begin_few zeros sums wide none sum k d lt = let z = none k (omega (arith, lt, wide)) in let s = sum k (omega (arith, lt, wide)) in let e = get_or_default_zero sums k d lt in omega (arith, z, s, e)
 
 -- ---- all groups
 

@@ -29,7 +29,8 @@ AreBorders groups borders = Each (λ group b. b < 129) groups borders
 pub record IsLeastBorders (groups : List (List ℕ)) (borders : List ℕ) : Type 0 where
   pub are : AreBorders groups borders
   pub least : (others : List ℕ) → AreBorders groups others → cost_of groups borders ≤ cost_of groups others
-  pub first : (others : List ℕ) → AreBorders groups others → cost_of groups others ≡ cost_of groups borders → slice_cmp nat_cmp others borders ≢ Less
+  pub first : (others : List ℕ) → AreBorders groups others → cost_of groups others ≡ cost_of groups borders
+      → slice_cmp nat_cmp others borders ≢ Less
 
 -- ---- the same as a function
 

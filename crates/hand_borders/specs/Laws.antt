@@ -8,4 +8,5 @@ LeastBordersAreLeast = (groups : List (List ℕ)) → IsLeastBorders groups (lea
 
 -- and no others are
 abbrev pub LeastBordersAreOne : Type 0
-LeastBordersAreOne = (groups : List (List ℕ)) (some others : List ℕ) → IsLeastBorders groups some → IsLeastBorders groups others → some ≡ others
+LeastBordersAreOne =
+    (groups : List (List ℕ)) (some others : List ℕ) → IsLeastBorders groups some → IsLeastBorders groups others → some ≡ others

@@ -18,7 +18,8 @@ pub record IsNearest (after : List ℕ) (from cost to : ℕ) : Type 0 where
 
 -- for each border below n
 abbrev pub AreNearestBelow : List ℕ → ℕ → List ℕ → List ℕ → Type 0
-AreNearestBelow after n costs borders = (from : ℕ) → from < n → IsNearestBelow after from (slice_index costs from) (slice_index borders from)
+AreNearestBelow after n costs borders =
+    (from : ℕ) → from < n → IsNearestBelow after from (slice_index costs from) (slice_index borders from)
 
 -- for each border
 abbrev pub AreNearest : List ℕ → List ℕ → List ℕ → Type 0

@@ -4,6 +4,7 @@ use Rattle.std.specs.Prelude.{All, ◌==◌, ◌&&◌, filter, not, nat_lt, slic
 use Rattle.std.specs.List.{slice_range}
 use Rattle.std.proofs.lemmas.Bool.{cases_order}
 use Rattle.std.proofs.lemmas.Bool.Decides.{nat_tests}
+use Rattle.std.proofs.lemmas.Grind.{get_or_default_zero}
 use Rattle.std.proofs.lemmas.List.{append-nil, get_or-set_other, get_or-set_same, length-map, length-set, same_lists, take_more}
 use Rattle.rhythm_base.proofs.Members.{all_from_among, out_of}
 use Rattle.rhythm_base.proofs.ListParts.{filter_few}
@@ -13,6 +14,7 @@ use Rattle.rhythm_base.specs.Lists.{last_of}
 use Rattle.rhythm_base.specs.Time.{time}
 use Rattle.rhythm_base.specs.declared.event.Tempo.{Tempo}
 use Rattle.rhythm_base.specs.declared.note.Note.{Note}
+use Rattle.performance_laws.proofs.ChordLemmas.{time_rises}
 use Rattle.performance_prepare.specs.Elapsed.{milliseconds, time_between}
 use Rattle.performance_prepare.specs.Ends.{AreEnds, end_of, held_by, holds, row_by}
 use Rattle.performance_prepare.specs.Groups.{cost, costs_after, first_onset, groups, held_keys, is_held, sounds_past}
@@ -24,16 +26,11 @@ use Rattle.performance_prepare.proofs.ShiftedTakes.{all_mapped}
 
 -- ---- a row
 
-at_any : (xs : List ℕ) (k d : ℕ) → k < length xs → get_or xs k d ≡ slice_index xs k
-at_any [] k d lt = absurd (omega (arith, lt))
-at_any (x ∷ xs) zero d lt = refl
-at_any (x ∷ xs) (suc k) d lt = at_any xs k d (omega (arith, lt))
-
 pub row_is : (f : ℕ → ℕ) (costs : List ℕ) (n : ℕ) → 129 ≤ n → length costs ≡ 129 → ((k : ℕ) → k < n → slice_index costs k ≡ f k) → costs ≡ map f (numbers_from 0 129)
 row_is f costs n all long each =
     let wide : length (map f (numbers_from 0 129)) ≡ 129 = length-map (numbers_from 0 129) f ∙ length_from 0 129 in
     same_lists costs (map f (numbers_from 0 129)) (long ∙ sym wide) (λ k d lt.
-    at_any costs k d lt ∙ each k (omega (arith, lt, long, all)) ∙ ap f (let e : k ≡ 0 + k = omega arith in e) ∙ sym (from_entry f 0 129 k (omega (arith, lt, long))) ∙ sym (at_any (map f (numbers_from 0 129)) k d (omega (arith, lt, long, wide))))
+    get_or_default_zero costs k d lt ∙ each k (omega (arith, lt, long, all)) ∙ ap f (let e : k ≡ 0 + k = omega arith in e) ∙ sym (from_entry f 0 129 k (omega (arith, lt, long))) ∙ sym (get_or_default_zero (map f (numbers_from 0 129)) k d (omega (arith, lt, long, wide))))
 
 pub row_more : (f : ℕ → ℕ) (costs : List ℕ) (n v : ℕ) → n < 129 → length costs ≡ 129 → ((k : ℕ) → k < n → slice_index costs k ≡ f k) → v ≡ f n → (k : ℕ) → k < n + 1 → slice_index (set costs n v) k ≡ f k
 row_more f costs n v within long each is k lt = elim (cases_order k n) [
@@ -103,21 +100,6 @@ past_some : (tempos : List Tempo) (division tick : ℕ) (o : Option Note) → so
 past_some tempos division tick None = sym (past_none tempos division tick)
 past_some tempos division tick (Some n) = refl
 
--- no time is less than that of an earlier tick
-time_up : (tempos : List Tempo) (a b : ℕ) → a ≤ b → time tempos a ≤ time tempos b
-unfolding time
-time_up tempos a zero le = ap_le (omega (arith, le))
-  where
-    ap_le : a ≡ 0 → time tempos a ≤ time tempos zero
-    ap_le e = subst (λ n. time tempos n ≤ time tempos 0) (sym e) (omega arith)
-time_up tempos a (suc b) le = elim (cases_order a (suc b)) [
-  | inl e ↦ subst (λ n. time tempos n ≤ time tempos (suc b)) (sym e) (omega arith)
-  | inr other ↦ elim other [
-    | inl less ↦ (let rest = time_up tempos a b (omega (arith, less)) in omega (arith, rest))
-    | inr more ↦ absurd (omega (arith, more, le))
-  ]
-]
-
 pub held_same : (tempos : List Tempo) (division : ℕ) (ends : List ℕ) (before group : List Note) → AreEnds ends before → held_by tempos division ends group ≡ held_keys tempos division before group
 held_same tempos division ends before group h =
     filter_from (λ key. holds tempos division (slice_index ends key) group key) (is_held tempos division before group) 0 128 (λ key low lt.
@@ -126,7 +108,7 @@ held_same tempos division ends before group h =
 
 pub holds_later : (tempos : List Tempo) (division end : ℕ) (group : List Note) (key : ℕ) → end ≤ first_onset group → holds tempos division end group key ≡ false
 holds_later tempos division end group key le =
-    let no_time : time_between tempos (first_onset group) end ≡ 0 = (let up = time_up tempos end (first_onset group) le in omega (arith, up)) in
+    let no_time : time_between tempos (first_onset group) end ≡ 0 = (let up = time_rises tempos end (first_onset group) le in omega (arith, up)) in
     ap (λ t. not (strikes group key) && nat_lt (milliseconds division 60) t) no_time ∙ never (not (strikes group key)) (milliseconds division 60)
   where
     never : (b : Bool) (n : ℕ) → (b && nat_lt n 0) ≡ false

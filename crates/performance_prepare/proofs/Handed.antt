@@ -92,13 +92,13 @@ module _ {X : Type 0} (joins : List X → X → X → Bool) where
       go true on next = on ∙ append_assoc part (x ∷ []) xs
       go false on next = ap (λ ys. part ++ ys) next
 
-  flat_parts : (xs : List X) → flat_map (λ p. p) (parts joins xs) ≡ xs
+  pub flat_parts : (xs : List X) → flat_map (λ p. p) (parts joins xs) ≡ xs
   flat_parts [] = refl
   flat_parts (x ∷ xs) = flat_from xs (x ∷ []) x
 
 -- ---- a border for each group
 
-each_group : (tempos : List Tempo) (division middle : ℕ) (before : List Note) (gs : List (List Note)) (bs : List ℕ) → AreBorders (costs_after tempos division middle before gs) bs → Each (λ (g : List Note) (b : ℕ). b < 129) gs bs
+pub each_group : (tempos : List Tempo) (division middle : ℕ) (before : List Note) (gs : List (List Note)) (bs : List ℕ) → AreBorders (costs_after tempos division middle before gs) bs → Each (λ (g : List Note) (b : ℕ). b < 129) gs bs
 each_group tempos division middle before [] bs h = h
 each_group tempos division middle before (g ∷ gs) [] h = absurd h
 each_group tempos division middle before (g ∷ gs) (b ∷ bs) h = (h.0, each_group tempos division middle (before ++ g) gs bs h.1)

@@ -1,6 +1,6 @@
 -- Each map keeps a take well formed.
-use Rattle.std.proofs.Common.{◌≡◌, ℕ, zero, suc, ◌+◌, ◌-◌, ◌*◌, ◌/◌, ◌%◌, ◌^◌, ◌<◌, ◌≤◌, eqb, Bool, true, false, not, cond, inl, inr, List, [], ◌∷◌, length, map, refl, sym, ap, ◌∙◌, subst, arith, Option, Some, None, Ok, Err}
-use Rattle.std.specs.Prelude.{All, ℤ, filter, fold, min, ◌||◌, nat_lt, ◌==◌}
+use Rattle.std.proofs.Common.{◌≡◌, ℕ, ◌+◌, ◌-◌, ◌*◌, ◌/◌, ◌%◌, ◌^◌, ◌<◌, ◌≤◌, eqb, Bool, true, false, not, cond, inl, inr, List, [], ◌∷◌, length, map, refl, sym, ap, ◌∙◌, subst, arith, Option, Some, None, Ok, Err}
+use Rattle.std.specs.Prelude.{All, ℤ, filter, ◌||◌, nat_lt, ◌==◌}
 use Rattle.std.specs.List.Sorted.{IsNonDecreasing}
 use Rattle.std.proofs.lemmas.Bool.{cases_order}
 use Rattle.std.proofs.lemmas.Bool.Decides.{nat_tests}
@@ -10,6 +10,7 @@ use Rattle.std.proofs.Math.Nat.{mul-le-mul_left, mul-le-mul_right}
 use Rattle.note_list.proofs.Places.{IsBefore}
 use Rattle.note_list.specs.Pairing.{IsPlayed}
 use Rattle.rhythm_base.proofs.ListParts.{filter_few}
+use Rattle.rhythm_base.proofs.Members.{all_from_among}
 use Rattle.rhythm_base.proofs.OrderedLists.{all_head, all_tail}
 use Rattle.rhythm_base.specs.Bars.{signature_at}
 use Rattle.rhythm_base.specs.Lists.{least_of}
@@ -34,6 +35,7 @@ use Rattle.performance_prepare.specs.declared.prepare_fault.PrepareFault.TheVari
 use Rattle.performance_prepare.specs.declared.shift.Shift.{Shift}
 use Rattle.performance_prepare.proofs.Answered.{ends_early, timely}
 use Rattle.performance_prepare.proofs.Fineness.{fineness_fine, finer_few}
+use Rattle.performance_prepare.proofs.LeastNumbers.{least_among}
 use Rattle.performance_prepare.proofs.ShiftedTakes.{HasRoom, all_mapped, shift_formed}
 
 -- a well-formed take, with no change after a tick
@@ -234,18 +236,8 @@ module _ (t : Take) (ready : IsReady 1000000000 t) where
 
 -- ---- the upbeat
 
-fold_low : (n : ℕ) (xs : List ℕ) → fold min n xs ≤ n
-fold_low n [] = omega arith
-fold_low n (x ∷ xs) = let rest = fold_low (min n x) xs in omega (arith, rest)
-
-fold_least : (n : ℕ) (xs : List ℕ) → All (λ x. fold min n xs ≤ x) xs
-fold_least n [] k d lt = absurd (omega (arith, lt))
-fold_least n (x ∷ xs) zero d lt = let rest = fold_low (min n x) xs in omega (arith, rest)
-fold_least n (x ∷ xs) (suc k) d lt = fold_least (min n x) xs k d (omega (arith, lt))
-
 least_low : (xs : List ℕ) → All (λ x. least_of xs ≤ x) xs
-least_low [] = All-nil (λ x. 0 ≤ x)
-least_low (x ∷ xs) = All-cons (λ y. fold min x xs ≤ y) x xs (fold_low x xs) (fold_least x xs)
+least_low xs = all_from_among (λ x. least_of xs ≤ x) xs (least_among xs)
 
 onsets_above : (low : ℕ) (ns : List Note) → All (λ x. low ≤ x) (map (λ n. n.onset) ns) → All (λ n. low ≤ n.onset) ns
 onsets_above low [] all = All-nil (λ n. low ≤ n.onset)

@@ -2,9 +2,9 @@
 use Rattle.std.proofs.Common.{◌≡◌, ◌⊎◌, ℕ, ◌<◌, ◌≤◌, eqb, Bool, true, false, not, cond, inl, inr, List, [], ◌∷◌, ◌++◌, refl, sym, ap, ◌∙◌, subst, arith}
 use Rattle.std.specs.Prelude.{◌==◌, ◌&&◌, ◌||◌, AllPairs}
 use Rattle.std.proofs.lemmas.Bool.Decides.{nat_tests}
-use Rattle.rhythm_base.proofs.Members.{Among, Pairwise, among_both}
+use Rattle.rhythm_base.proofs.Booleans.{or_true}
+use Rattle.rhythm_base.proofs.Members.{Among, Pairwise, all_among, among_both}
 use Rattle.rhythm_base.proofs.OrderedLists.{pairs_head, pairs_tail}
-use Rattle.rhythm_base.proofs.Members.{all_among}
 use Rattle.rhythm_base.specs.declared.event.Tempo.{Tempo}
 use Rattle.rhythm_base.specs.declared.note.Note.{Note}
 use Rattle.performance_prepare.specs.Drums.{is_drum}
@@ -12,17 +12,17 @@ use Rattle.performance_prepare.specs.Parts.{parts, parts_from}
 use Rattle.performance_prepare.specs.Strum.{joins, rolls_on, strikes}
 use Rattle.performance_prepare.specs.StrumLaws as laws
 use Rattle.performance_prepare.specs.StrumLaws.{goes_on}
-use Rattle.performance_prepare.proofs.Strumming.{Before, IsRun, joined, later_end, notes_before, one_of, run_more, run_one, strikes_some}
+use Rattle.performance_prepare.proofs.Strumming.{Before, IsRun, joined, later_end, notes_before, run_more, run_one, strikes_some}
 
-abbrev Ends : Note → Note → Type 0
+abbrev pub Ends : Note → Note → Type 0
 Ends m n = m.channel ≡ n.channel → m.key ≡ n.key → m.end ≤ n.onset
 
-to_pairs : (ns : List Note) → AllPairs Ends ns → Pairwise Ends ns
+pub to_pairs : (ns : List Note) → AllPairs Ends ns → Pairwise Ends ns
 to_pairs [] h = tt
 to_pairs (n ∷ ns) h = ((λ m am. all_among (Ends n) ns (pairs_head Ends n ns h) m am), to_pairs ns (pairs_tail Ends n ns h))
 
 module _ (tempos : List Tempo) (division within : ℕ) where
-  abbrev G : List Note → Note → Note → Bool
+  abbrev pub G : List Note → Note → Note → Bool
   G = goes_on tempos division within
 
   abbrev J : List Note → Note → Note → Bool
@@ -41,10 +41,10 @@ module _ (tempos : List Tempo) (division within : ℕ) where
       clash m am key end (inl old) (inl at) (inl lt) = omega (arith, lt, same)
       clash m am key end (inl old) (inl at) (inr h) = let r = (run.each m am).3 in omega (arith, r, h.2, key, old, at)
 
-  test_same : (a b : ℕ) → eqb a b ≡ true → a ≡ b
+  pub test_same : (a b : ℕ) → eqb a b ≡ true → a ≡ b
   test_same a b e = grind (arith, nat_tests)
 
-  same_test : (first y : Note) (part : List Note) (x : Note) → IsRun first y part → Before y x → ((m : Note) → Among m part → Ends m x) → G part y x ≡ J part y x
+  pub same_test : (first y : Note) (part : List Note) (x : Note) → IsRun first y part → Before y x → ((m : Note) → Among m part → Ends m x) → G part y x ≡ J part y x
   same_test first y part x run before ends = by (x.channel == y.channel) refl (is_drum x) (strikes part x.key) refl ((x.onset == y.onset) || rolls_on tempos division within part y x) refl
     where
       by : (a : Bool) → (x.channel == y.channel) ≡ a → (d s : Bool) → strikes part x.key ≡ s → (r : Bool) → ((x.onset == y.onset) || rolls_on tempos division within part y x) ≡ r → (a && (not d && r)) ≡ (a && (not d && (not s && r)))
@@ -52,7 +52,7 @@ module _ (tempos : List Tempo) (division within : ℕ) where
       by true ea true s es r er = refl
       by true ea false false es r er = refl
       by true ea false true es false er = refl
-      by true ea false true es true er = absurd (no_key first y part x run before ends (test_same x.channel y.channel ea) (sounds (one_of (x.onset == y.onset) (rolls_on tempos division within part y x) er)) es)
+      by true ea false true es true er = absurd (no_key first y part x run before ends (test_same x.channel y.channel ea) (sounds (or_true (x.onset == y.onset) (rolls_on tempos division within part y x) er)) es)
         where
           sounds : ((x.onset == y.onset) ≡ true) ⊎ (rolls_on tempos division within part y x ≡ true) → (x.onset ≡ y.onset) ⊎ ((m : Note) → Among m part → x.onset < m.end)
           sounds (inl e) = inl (test_same x.onset y.onset e)

@@ -8,6 +8,7 @@ pub mod InForce
 pub mod Kept
 pub mod KeysOnce
 pub mod LawsKept
+pub mod LeastNumbers
 pub mod Middles
 pub mod NearKeys
 pub mod NextKeys

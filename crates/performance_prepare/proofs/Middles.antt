@@ -1,14 +1,17 @@
 -- Numbers of the middle: none is too great, and lists of borders one by one.
-use Rattle.std.proofs.Common.{◌≡◌, ℕ, zero, suc, ◌+◌, ◌-◌, ◌*◌, ◌/◌, ◌%◌, ◌<◌, ◌≤◌, Bool, true, false, cond, eqb, List, [], ◌∷◌, ◌++◌, length, map, max, min, inl, inr, refl, sym, ap, ◌∙◌, arith, append_assoc}
+use Rattle.std.proofs.Common.{◌≡◌, ℕ, zero, suc, ◌+◌, ◌-◌, ◌*◌, ◌/◌, ◌%◌, ◌<◌, ◌≤◌, Bool, true, false, cond, eqb, List, [], ◌∷◌, ◌++◌, length, map, max, inl, inr, refl, sym, ap, ◌∙◌, arith, append_assoc}
 use Rattle.std.specs.Prelude.{◌==◌, filter, fold, slice_index}
 use Rattle.std.specs.List.{range_with_len}
 use Rattle.std.proofs.lemmas.Bool.{cases_lt}
 use Rattle.std.proofs.lemmas.Bool.Decides.{nat_tests}
 use Rattle.std.proofs.lemmas.List.{append-nil, length-map}
+use Rattle.std.proofs.lemmas.List.FromFn.{length-range_with_len}
 use Rattle.std.proofs.Math.Nat.{mul-le-mul_left}
 use Rattle.rhythm_base.proofs.Members.{Among, out_of}
 use Rattle.rhythm_base.specs.Lists.{greatest, least_of}
+use Rattle.hand_borders.proofs.FirstLeast.{range_among}
 use Rattle.performance_prepare.specs.Middle.{best_borders, best_parting, inner_borders, numbers_from, parting, parting_border}
+use Rattle.performance_prepare.proofs.LeastNumbers.{fold_low}
 
 -- ---- bounds
 
@@ -24,13 +27,6 @@ mean_low s n some low =
       | inr h ↦ (let more : n * 2033 ≤ n * q = mul-le-mul_left n h in absurd (omega (arith, more, le, some)))
     ]
 
-pub product_low : (a b d : ℕ) → a ≤ 65536 → b ≤ 65536 → d ≤ 2032 → a * b * (d * d) ≤ 17734023044399104
-product_low a b d la lb ld =
-    let first : a * b ≤ a * 65536 = mul-le-mul_left a lb in
-    let square : d * d ≤ d * 2032 = mul-le-mul_left d ld in
-    let both : a * b * (d * d) ≤ a * b * 4129024 = mul-le-mul_left (a * b) (omega (arith, square, ld)) in
-    omega (arith, both, first, la)
-
 -- ---- the numbers from one on
 
 pub from_more : (b e : ℕ) → b < e → numbers_from b e ≡ b ∷ numbers_from (b + 1) e
@@ -41,18 +37,9 @@ pub from_end : (b e : ℕ) → e ≤ b → numbers_from b e ≡ []
 unfolding numbers_from
 from_end b e le = ap (range_with_len b) (let none : e - b ≡ 0 = omega (arith, le) in none)
 
-length_range : (a n : ℕ) → length (range_with_len a n) ≡ n
-length_range a zero = refl
-length_range a (suc n) = let rest = length_range (a + 1) n in omega (arith, rest)
-
 pub length_from : (b e : ℕ) → length (numbers_from b e) ≡ e - b
 unfolding numbers_from
-length_from b e = length_range b (e - b)
-
-range_among : (a n x : ℕ) → Among x (range_with_len a n) → (a ≤ x) × (x < a + n)
-range_among a zero x am = absurd am
-range_among a (suc n) x (inl e) = (omega (arith, e), omega (arith, e))
-range_among a (suc n) x (inr am) = let rest = range_among (a + 1) n x am in (omega (arith, rest.0), omega (arith, rest.1))
+length_from b e = length-range_with_len b (e - b)
 
 pub from_among : (b e x : ℕ) → Among x (numbers_from b e) → (b ≤ x) × (x < e)
 unfolding numbers_from
@@ -118,10 +105,6 @@ pub fold_high : (n m : ℕ) (xs : List ℕ) → n ≤ m → ((x : ℕ) → Among
 fold_high n m [] low all = low
 fold_high n m (x ∷ xs) low all = fold_high (max n x) m xs (let here = all x (inl refl) in omega (arith, here, low)) (λ y am. all y (inr am))
 
-fold_under : (n : ℕ) (xs : List ℕ) → fold min n xs ≤ n
-fold_under n [] = omega arith
-fold_under n (x ∷ xs) = let rest = fold_under (min n x) xs in omega (arith, rest)
-
 best_high : (keys : List ℕ) (x : ℕ) → Among x (best_borders keys) → x ≤ 127
 best_high keys x am = let r = from_among 1 128 x (out_of (λ b. parting keys b == best_parting keys) inner_borders x am).0 in omega (arith, r.1)
 
@@ -133,7 +116,7 @@ least_best keys = go (best_borders keys) (best_high keys)
   where
     go : (xs : List ℕ) → ((x : ℕ) → Among x xs → x ≤ 127) → least_of xs ≤ 127
     go [] all = omega arith
-    go (x ∷ xs) all = let low = fold_under x xs in let here = all x (inl refl) in omega (arith, low, here)
+    go (x ∷ xs) all = let low = fold_low x xs in let here = all x (inl refl) in omega (arith, low, here)
 
 -- ---- the border
 

@@ -1,12 +1,13 @@
 -- Borders without a key between them part the keys the same way.
 use Rattle.std.proofs.Common.{◌≡◌, ℕ, ◌+◌, ◌*◌, ◌≤◌, Bool, true, cond, not, List, [], ◌∷◌, min, inl, inr, refl, sym, ap, ◌∙◌, arith}
-use Rattle.std.specs.Prelude.{filter, fold, nat_lt}
+use Rattle.std.specs.Prelude.{filter, nat_lt}
 use Rattle.std.specs.List.{reduce}
 use Rattle.std.proofs.lemmas.Bool.Decides.{nat_tests}
 use Rattle.rhythm_base.proofs.Members.{Among, kept_by, out_of}
 use Rattle.performance_prepare.specs.Groups.{held_beside, stretch}
 use Rattle.performance_prepare.specs.Middle.{keys_below, keys_from}
 use Rattle.performance_prepare.specs.Parted.{IsParting, next_key, or_last, parted_cost}
+use Rattle.performance_prepare.proofs.LeastNumbers.{fold_least, fold_low, fold_over}
 
 filter_still : (p q : ℕ → Bool) (keys : List ℕ) → ((k : ℕ) → Among k keys → p k ≡ q k) → filter p keys ≡ filter q keys
 filter_still p q [] same = refl
@@ -17,22 +18,9 @@ filter_still p q (k ∷ keys) same =
 
 -- ---- the next key
 
-fold_under : (n : ℕ) (xs : List ℕ) → fold min n xs ≤ n
-fold_under n [] = omega arith
-fold_under n (x ∷ xs) = let rest = fold_under (min n x) xs in omega (arith, rest)
-
-fold_least : (n : ℕ) (xs : List ℕ) (x : ℕ) → Among x xs → fold min n xs ≤ x
-fold_least n [] x am = absurd am
-fold_least n (y ∷ xs) x (inl e) = let low = fold_under (min n y) xs in omega (arith, low, e)
-fold_least n (y ∷ xs) x (inr am) = fold_least (min n y) xs x am
-
-fold_over : (b n : ℕ) (xs : List ℕ) → b ≤ n → ((x : ℕ) → Among x xs → b ≤ x) → b ≤ fold min n xs
-fold_over b n [] low all = low
-fold_over b n (x ∷ xs) low all = fold_over b (min n x) xs (let here = all x (inl refl) in omega (arith, here, low)) (λ y am. all y (inr am))
-
 least : (xs : List ℕ) (x : ℕ) → Among x xs → or_last (reduce min xs) ≤ x
 least [] x am = absurd am
-least (y ∷ xs) x (inl e) = let low = fold_under y xs in omega (arith, low, e)
+least (y ∷ xs) x (inl e) = let low = fold_low y xs in omega (arith, low, e)
 least (y ∷ xs) x (inr am) = fold_least y xs x am
 
 over : (b : ℕ) (xs : List ℕ) → b ≤ 128 → ((x : ℕ) → Among x xs → b ≤ x) → b ≤ or_last (reduce min xs)

@@ -73,7 +73,7 @@ module _ (within : ℕ) (t : Take) (formed : IsTakeFormed t) where
   pub take_each : Each IsStruck t.notes Struck
   take_each = strummed_each t.tempos t.division within t.notes (notes_before 1000000000 t.notes formed.notes formed.notes_in_order)
 
-  strum_formed : IsTakeFormed (with_strum within t)
+  pub strum_formed : IsTakeFormed (with_strum within t)
   strum_formed =
       let moved = order_permuted Struck in
       let long = length_permutation Struck (in_order Struck) moved in

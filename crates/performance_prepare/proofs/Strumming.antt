@@ -1,14 +1,15 @@
 -- The notes of strums: in order, at different places, and none shorter than a tick that was longer.
 use Rattle.std.proofs.Common.{◌≡◌, ◌≢◌, ◌⊎◌, ℕ, ◌+◌, ◌-◌, ◌*◌, ◌<◌, ◌≤◌, eqb, Bool, true, false, not, cond, inl, inr, List, [], ◌∷◌, ◌++◌, length, map, refl, sym, ap, ◌∙◌, subst, arith, length-append}
-use Rattle.std.specs.Prelude.{◌==◌, ◌&&◌, ◌||◌, nat_le, nat_lt, All, fold, min, slice_index}
+use Rattle.std.specs.Prelude.{◌==◌, ◌&&◌, ◌||◌, nat_le, nat_lt, All, slice_index}
 use Rattle.std.specs.List.{IsDistinct, flat_map}
-use Rattle.std.proofs.lemmas.Bool.{cases_order}
+use Rattle.std.proofs.lemmas.Bool.{and_parts, cases_order}
 use Rattle.std.proofs.lemmas.Bool.Decides.{nat_tests}
 use Rattle.std.proofs.lemmas.List.{append-nil, get_or-map, get_or_push}
 use Rattle.std.proofs.lemmas.Map.Keys.{IsDistinct-from_apart}
 use Rattle.note_list.proofs.Places.{IsBefore}
 use Rattle.note_list.specs.Kept.{same_place}
 use Rattle.note_list.specs.Pairing.{IsPlayed}
+use Rattle.rhythm_base.proofs.Booleans.{or_true}
 use Rattle.rhythm_base.proofs.Members.{Among, Pairwise, all_among, among_both, among_map, from_map, pairs_from, pairs_join, pairs_map}
 use Rattle.rhythm_base.proofs.OrderedLists.{all_head, all_tail, pairs_head, pairs_tail}
 use Rattle.rhythm_base.specs.Lists.{AreInOrder, least_of}
@@ -21,6 +22,7 @@ use Rattle.performance_prepare.specs.Drums.{is_drum}
 use Rattle.performance_prepare.specs.Elapsed.{milliseconds, time_between}
 use Rattle.performance_prepare.specs.Parts.{parts_from}
 use Rattle.performance_prepare.specs.Strum.{begun_at, joins, midway, rolls_on, strikes, strummed_notes, together}
+use Rattle.performance_prepare.proofs.LeastNumbers.{least_among}
 
 -- ---- the order of notes, by numbers
 
@@ -62,32 +64,7 @@ notes_before latest (n ∷ notes) played order = (
   notes_before latest notes (all_tail (IsPlayed latest) n notes played) (pairs_tail IsBefore n notes order),
 )
 
--- ---- the least end
-
-fold_low : (n : ℕ) (xs : List ℕ) → fold min n xs ≤ n
-fold_low n [] = omega arith
-fold_low n (x ∷ xs) = let rest = fold_low (min n x) xs in omega (arith, rest)
-
-fold_least : (n : ℕ) (xs : List ℕ) (x : ℕ) → Among x xs → fold min n xs ≤ x
-fold_least n [] x am = absurd am
-fold_least n (y ∷ xs) x (inl e) = let rest = fold_low (min n y) xs in omega (arith, rest, e)
-fold_least n (y ∷ xs) x (inr am) = fold_least (min n y) xs x am
-
-pub least_among : (xs : List ℕ) (x : ℕ) → Among x xs → least_of xs ≤ x
-least_among [] x am = absurd am
-least_among (y ∷ xs) x (inl e) = let low = fold_low y xs in omega (arith, low, e)
-least_among (y ∷ xs) x (inr am) = fold_least y xs x am
-
 -- ---- tests
-
-both : (a b : Bool) → (a && b) ≡ true → (a ≡ true) × (b ≡ true)
-both true true e = (refl, refl)
-both true false e = absurd (cc)
-both false b e = absurd (cc)
-
-pub one_of : (a b : Bool) → (a || b) ≡ true → (a ≡ true) ⊎ (b ≡ true)
-one_of true b e = inl refl
-one_of false b e = inr e
 
 -- where no note has the key, it differs from all
 strikes_not : (part : List Note) (key : ℕ) → strikes part key ≡ false → (m : Note) → Among m part → m.key ≢ key
@@ -178,7 +155,7 @@ module _ (tempos : List Tempo) (division within : ℕ) where
 
   pub later_end : (part : List Note) (y x : Note) → rolls_on tempos division within part y x ≡ true → (m : Note) → Among m part → x.onset < m.end
   later_end part y x e m am =
-      let e2 = (both (nat_le (time_between tempos y.onset x.onset) (milliseconds division within)) (nat_lt (milliseconds division 40) (time_between tempos x.onset (least_of (map (λ n. n.end) part)))) e).1 in
+      let e2 = (and_parts (nat_le (time_between tempos y.onset x.onset) (milliseconds division within)) (nat_lt (milliseconds division 40) (time_between tempos x.onset (least_of (map (λ n. n.end) part)))) e).1 in
       let low : least_of (map (λ n. n.end) part) ≤ m.end = least_among (map (λ n. n.end) part) m.end (among_map (λ (n : Note). n.end) part m am) in
       let past : time tempos x.onset < time tempos (least_of (map (λ n. n.end) part)) = after (milliseconds division 40) (time tempos x.onset) (time tempos (least_of (map (λ n. n.end) part))) e2 in
       elim (cases_order x.onset (least_of (map (λ n. n.end) part))) [
@@ -194,14 +171,14 @@ module _ (tempos : List Tempo) (division within : ℕ) where
 
   pub joined : (part : List Note) (y x : Note) → J part y x ≡ true → IsJoined part y x
   joined part y x e =
-      let a = both (x.channel == y.channel) (not (is_drum x) && (not (strikes part x.key) && ((x.onset == y.onset) || rolls_on tempos division within part y x))) e in
-      let b = both (not (is_drum x)) (not (strikes part x.key) && ((x.onset == y.onset) || rolls_on tempos division within part y x)) a.1 in
-      let c = both (not (strikes part x.key)) ((x.onset == y.onset) || rolls_on tempos division within part y x) b.1 in
+      let a = and_parts (x.channel == y.channel) (not (is_drum x) && (not (strikes part x.key) && ((x.onset == y.onset) || rolls_on tempos division within part y x))) e in
+      let b = and_parts (not (is_drum x)) (not (strikes part x.key) && ((x.onset == y.onset) || rolls_on tempos division within part y x)) a.1 in
+      let c = and_parts (not (strikes part x.key)) ((x.onset == y.onset) || rolls_on tempos division within part y x) b.1 in
       record {
         channel = (let h = a.0 in grind (arith, nat_tests));
         pitched = (let h = b.0 in λ same. grind (arith, nat_tests));
         new = strikes_not part x.key (turned (strikes part x.key) c.0);
-        sounds = (elim (one_of (x.onset == y.onset) (rolls_on tempos division within part y x) c.1) [
+        sounds = (elim (or_true (x.onset == y.onset) (rolls_on tempos division within part y x) c.1) [
           | inl h ↦ inl (grind (arith, nat_tests))
           | inr h ↦ inr (later_end part y x h)
         ]);
@@ -256,10 +233,10 @@ module _ (tempos : List Tempo) (division within : ℕ) where
   Next b part x xs = flat_map together (cond b (parts_from J (part ++ x ∷ []) x xs) (part ∷ parts_from J (x ∷ []) x xs))
 
   -- not before a note in its channel
-  abbrev Beyond : Note → Note → Type 0
+  abbrev pub Beyond : Note → Note → Type 0
   Beyond f z = (f.channel < z.channel) ⊎ ((z.channel ≡ f.channel) × (f.onset ≤ z.onset) × (f.channel ≡ 9 → spot f ≤ spot z))
 
-  together_beyond : (first y : Note) (part : List Note) → IsRun first y part → (z : Note) → Among z (together part) → Beyond first z
+  pub together_beyond : (first y : Note) (part : List Note) → IsRun first y part → (z : Note) → Among z (together part) → Beyond first z
   together_beyond first y part run z az =
       let m = from_map (begun_at (midway part)) part z az in
       let e = run.each m.0 m.1 in
@@ -291,7 +268,7 @@ module _ (tempos : List Tempo) (division within : ℕ) where
             omega (arith, s, t, h.2)),
       )
 
-  placed_beyond : (xs : List Note) (first y : Note) (part : List Note) → IsRun first y part → Pairwise Before (y ∷ xs) → (z : Note) → Among z (Placed part y xs) → Beyond first z
+  pub placed_beyond : (xs : List Note) (first y : Note) (part : List Note) → IsRun first y part → Pairwise Before (y ∷ xs) → (z : Note) → Among z (Placed part y xs) → Beyond first z
   placed_beyond [] first y part run order z az = together_beyond first y part run z (subst (Among z) (append-nil (together part)) az)
   placed_beyond (x ∷ xs) first y part run order z az = go (J part y x) refl az (placed_beyond xs first x (part ++ x ∷ [])) (placed_beyond xs x x (x ∷ []) (run_one x) order.1)
     where
@@ -304,7 +281,7 @@ module _ (tempos : List Tempo) (division within : ℕ) where
       ]
 
   -- a strum's place is before the next note, where that begins another in its channel
-  cut_sooner : (first y : Note) (part : List Note) (x : Note) → IsRun first y part → Before y x → J part y x ≡ false → x.channel ≡ y.channel → x.channel ≢ 9 → midway part < x.onset
+  pub cut_sooner : (first y : Note) (part : List Note) (x : Note) → IsRun first y part → Before y x → J part y x ≡ false → x.channel ≡ y.channel → x.channel ≢ 9 → midway part < x.onset
   cut_sooner first y part x run before e same pitched = elim (cases_order y.onset x.onset) [
     | inl equal ↦ (let s = strikes_some part x.key (struck (strikes part x.key) equal e) in sooner s.0 s.1 s.2 equal)
     | inr other ↦ elim other [
@@ -377,7 +354,7 @@ module _ (tempos : List Tempo) (division within : ℕ) where
   together_apart : (first y : Note) (part : List Note) → IsRun first y part → Pairwise AreApart (together part)
   together_apart first y part run = pairs_map (λ m n. m.key ≢ n.key) AreApart (begun_at (midway part)) part (λ m n h. record { place = key_apart (begun_at (midway part) m) (begun_at (midway part) n) h; order = λ e. omega arith }) run.apart
 
-  across_apart : (first y : Note) (part : List Note) (x : Note) → IsRun first y part → Before y x → J part y x ≡ false → (z w : Note) → Among z (together part) → Beyond x w → AreApart z w
+  pub across_apart : (first y : Note) (part : List Note) (x : Note) → IsRun first y part → Before y x → J part y x ≡ false → (z w : Note) → Among z (together part) → Beyond x w → AreApart z w
   across_apart first y part x run before e z w az beyond =
       let m = from_map (begun_at (midway part)) part z az in
       by before beyond m.0 m.1 (ap (λ (k : Note). k.channel) m.2) (ap (λ (k : Note). k.onset) m.2) (ap (λ (k : Note). k.key) m.2)

@@ -26,4 +26,5 @@ held_by tempos division ends group = filter (λ key. holds tempos division (slic
 
 -- what each border costs in the group
 abbrev pub row_by : List Tempo → ℕ → ℕ → List ℕ → List Note → List ℕ
-row_by tempos division middle ends group = map (cost middle (map (λ n. n.key) group) (held_by tempos division ends group)) (numbers_from 0 129)
+row_by tempos division middle ends group =
+    map (cost middle (map (λ n. n.key) group) (held_by tempos division ends group)) (numbers_from 0 129)

@@ -59,7 +59,8 @@ abbrev pub cost : ℕ → List ℕ → List ℕ → ℕ → ℕ
 cost middle struck held border =
     length struck * gap border middle + nearness border struck
     + 100 * (stretch (keys_below border struck) + stretch (keys_from border struck))
-    + 1000 * (held_beside (keys_below border struck) (keys_below border held) + held_beside (keys_from border struck) (keys_from border held))
+    + 1000
+    * (held_beside (keys_below border struck) (keys_below border held) + held_beside (keys_from border struck) (keys_from border held))
 
 -- the costs of each group at the borders 0 to 128, after the notes of the groups before
 abbrev pub costs_after : List Tempo → ℕ → ℕ → List Note → List (List Note) → List (List ℕ)

@@ -63,4 +63,5 @@ with_borders channel groups borders t =
 -- the channel's notes in groups that begin within so many milliseconds from note to note, parted by borders of least cost
 abbrev pub with_hands : ℕ → ℕ → Take → Result Take PrepareFault
 with_hands channel within t =
-    with_borders channel (groups t.tempos t.division within (notes_of channel t.notes)) (borders_of t.tempos t.division within (notes_of channel t.notes)) t
+    with_borders channel (groups t.tempos t.division within (notes_of channel t.notes))
+    (borders_of t.tempos t.division within (notes_of channel t.notes)) t

@@ -85,7 +85,8 @@ UpbeatsKeepDistances =
 -- a tempo makes ticks finer and moves no note
 abbrev pub TemposKeepPlaces : Type 0
 TemposKeepPlaces =
-    (quarters : ℕ) (t u : Take) → IsTakeFormed t → with_tempo quarters t ≡ Ok u → (times : ℕ) × (1 ≤ times) × AreMoved times 0 0 t.notes u.notes
+    (quarters : ℕ) (t u : Take) → IsTakeFormed t → with_tempo quarters t ≡ Ok u
+    → (times : ℕ) × (1 ≤ times) × AreMoved times 0 0 t.notes u.notes
 
 -- in its tempo in proportion a tick lasts as long as before, but for half a microsecond a quarter
 abbrev pub TemposKeepTime : Type 0

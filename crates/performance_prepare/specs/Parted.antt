@@ -9,7 +9,8 @@ use Rattle.performance_prepare.specs.Middle.{keys_below, keys_from}
 abbrev pub parted_cost : List ℕ → List ℕ → ℕ → ℕ
 parted_cost struck held border =
     100 * (stretch (keys_below border struck) + stretch (keys_from border struck))
-    + 1000 * (held_beside (keys_below border struck) (keys_below border held) + held_beside (keys_from border struck) (keys_from border held))
+    + 1000
+    * (held_beside (keys_below border struck) (keys_below border held) + held_beside (keys_from border struck) (keys_from border held))
 
 -- and 1 for each key that it is from the middle for each that is struck
 abbrev pub place_cost : ℕ → List ℕ → List ℕ → ℕ → ℕ

@@ -39,7 +39,8 @@ pub record IsKey (sf : ℤ) : Type 0 where
   pub low : negsuc 6 ≤ℤ sf
   pub high : sf ≤ℤ pos 7
 
--- hands are not those of drums, strums reach over 1 to 100 ms, the meter and the upbeat are fractions, quarters a minute are 1 to 1,000, and keys seven flats to seven sharps
+-- hands are not those of drums, strums reach over 1 to 100 ms, the meter and the upbeat are fractions, quarters a minute are 1 to
+-- 1,000, and keys seven flats to seven sharps
 pub record AreInRange (o : Options) : Type 0 where
   pub hands : IfGiven o.hands IsKeyboard
   pub strum : IfGiven o.strum IsReach

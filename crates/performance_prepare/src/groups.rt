@@ -219,7 +219,8 @@ pub fn costs(
     requires middle { middle ≤ 128 }
     requires few { length notes.now ≤ MOST_NOTES }
     requires notes { All (IsPlayed LATEST_EVENT) notes.now }
-    ensures costs { IfOk result (λ v. v.items ≡ groups.costs map.now.tempos division middle (groups.groups map.now.tempos division within notes.now)) }
+    ensures costs { IfOk result (λ v. v.items
+        ≡ groups.costs map.now.tempos division middle (groups.groups map.now.tempos division within notes.now)) }
     ensures few { IfOk result (λ v. length v.items ≤ MOST_NOTES) }
 {
     let mut rows = Vec::new(alloc);
