@@ -12,9 +12,11 @@ pub mod LeastNumbers
 pub mod Middles
 pub mod NearKeys
 pub mod NextKeys
+pub mod OneKey
 pub mod Parting
 pub mod ShiftedTakes
 pub mod SidesCounted
+pub mod StruckAgain
 pub mod Strummed
 pub mod Strumming
 pub mod Told

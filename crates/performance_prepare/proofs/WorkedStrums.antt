@@ -49,6 +49,17 @@ struck_again : with_strum 100 (take_of (note 0 60 0 20 ∷ note 0 62 0 500 ∷ n
 unfolding time
 struck_again = refl
 
+-- a key that is struck again before it has ended, as in no file: there a second strum changes the take again
+struck_early : with_strum 30 (take_of (note 0 63 0 500 ∷ note 0 63 20 500 ∷ note 0 60 40 500 ∷ []))
+    ≡ take_of (note 0 63 0 500 ∷ note 0 60 30 500 ∷ note 0 63 30 500 ∷ [])
+unfolding time
+struck_early = refl
+
+struck_early_again : with_strum 30 (take_of (note 0 63 0 500 ∷ note 0 60 30 500 ∷ note 0 63 30 500 ∷ []))
+    ≡ take_of (note 0 60 15 500 ∷ note 0 63 15 500 ∷ note 0 63 30 500 ∷ [])
+unfolding time
+struck_early_again = refl
+
 -- drums are not strummed
 drums : with_strum 100 (take_of (note 9 48 100 960 ∷ note 9 52 124 960 ∷ note 9 55 149 960 ∷ []))
     ≡ take_of (note 9 48 100 960 ∷ note 9 52 124 960 ∷ note 9 55 149 960 ∷ [])

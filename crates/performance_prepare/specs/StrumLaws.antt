@@ -44,9 +44,17 @@ abbrev pub goes_on : List Tempo → ℕ → ℕ → List Note → Note → Note 
 goes_on tempos division within run last n =
     (n.channel == last.channel) && (not (is_drum n) && ((n.onset == last.onset) || rolls_on tempos division within run last n))
 
--- where each note ends at the latest where its key is struck again in its channel, as it does in the take of a file, no strum would have a
--- key twice without the test of it
+-- each note ends at the latest where its key is struck again in its channel, as it does in the take of a file
+abbrev pub EndWhereStruck : List Note → Type 0
+EndWhereStruck notes = AllPairs (λ m n. m.channel ≡ n.channel → m.key ≡ n.key → m.end ≤ n.onset) notes
+
+-- then no strum would have a key twice without the test of it
 abbrev pub StrumsHaveNoKeyTwice : Type 0
 StrumsHaveNoKeyTwice =
-    (within : ℕ) (t : Take) → IsTakeFormed t → AllPairs (λ m n. m.channel ≡ n.channel → m.key ≡ n.key → m.end ≤ n.onset) t.notes
+    (within : ℕ) (t : Take) → IsTakeFormed t → EndWhereStruck t.notes
     → parts (goes_on t.tempos t.division within) t.notes ≡ strums t.tempos t.division within t.notes
+
+-- and a second strum by the same milliseconds changes nothing
+abbrev pub StrumsChangeNothingAgain : Type 0
+StrumsChangeNothingAgain =
+    (within : ℕ) (t : Take) → IsTakeFormed t → EndWhereStruck t.notes → with_strum within (with_strum within t) ≡ with_strum within t

@@ -8,8 +8,13 @@ ghost use Rattle.performance_prepare.specs.Laws.{
   TemposKeepTime,
   UpbeatsKeepDistances,
 };
-ghost use Rattle.performance_prepare.specs.HandLaws.{HandsAreLeast, HandsKeepNotes, HandsLieApart};
-ghost use Rattle.performance_prepare.specs.StrumLaws.{StrumsHaveNoKeyTwice, StrumsKeepNotes, StrumsStayBetween};
+ghost use Rattle.performance_prepare.specs.HandLaws.{HandsAreLeast, HandsKeepNotes, HandsLeaveOneKey, HandsLieApart};
+ghost use Rattle.performance_prepare.specs.StrumLaws.{
+  StrumsChangeNothingAgain,
+  StrumsHaveNoKeyTwice,
+  StrumsKeepNotes,
+  StrumsStayBetween,
+};
 
 /// Without options the performance of a file is as ever.
 pub fn no_options_change_nothing()
@@ -66,6 +71,11 @@ pub fn strums_have_no_key_twice()
     ensures { StrumsHaveNoKeyTwice }
 {}
 
+/// In the take of a file a second strum by the same milliseconds changes nothing.
+pub fn strums_change_nothing_again()
+    ensures { StrumsChangeNothingAgain }
+{}
+
 /// But for their channels, the notes of two hands are the same; those of other channels stay, and one channel at most is new.
 pub fn hands_keep_notes()
     ensures { HandsKeepNotes }
@@ -79,4 +89,9 @@ pub fn hands_are_least()
 /// In a group each note of the left hand lies below each of the right.
 pub fn hands_lie_apart()
     ensures { HandsLieApart }
+{}
+
+/// A channel whose notes have one key stays as it is.
+pub fn hands_leave_one_key()
+    ensures { HandsLeaveOneKey }
 {}

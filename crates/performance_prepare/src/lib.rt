@@ -24,8 +24,9 @@ mod tempo;
 mod upbeat;
 
 pub use laws::{
-    drums_are_out, hands_are_least, hands_keep_notes, hands_lie_apart, no_options_change_nothing,
-    prepared_performances_are_one, prepared_performances_are_well_formed, splits_keep_notes,
+    drums_are_out, hands_are_least, hands_keep_notes, hands_leave_one_key, hands_lie_apart,
+    no_options_change_nothing, prepared_performances_are_one,
+    prepared_performances_are_well_formed, splits_keep_notes, strums_change_nothing_again,
     strums_have_no_key_twice, strums_keep_notes, strums_stay_between, tempos_keep_places,
     tempos_keep_time, upbeats_keep_distances,
 };
