@@ -11,19 +11,11 @@ pub const BORDERS: usize = 129;
 /// What a key costs that the border moves.
 const MOVE: u64 = 200;
 
-/// For each border the one to which it is best to go, and what that costs with the move to it.
-#[derive(Clone, Copy)]
-struct Ways {
-    costs: [u64; BORDERS],
-    borders: [u8; BORDERS],
-}
-
-/// The best ways to the borders up to each.
-fn ways_down(after: &[u64; BORDERS]) -> Ways
-    requires { All (λ c. c ≤ 2 ^ 60) after.now }
-    ensures { AreNearestBelow after.now 129 result.costs result.borders }
+/// What it costs to go on from each border, by the borders up to it, in place of what it costs there; and to which of them.
+fn ways_down(costs: &mut [u64; BORDERS]) -> [u8; BORDERS]
+    requires { All (λ c. c ≤ 2 ^ 60) costs.old }
+    ensures { AreNearestBelow costs.old 129 costs.new result }
 {
-    let mut costs = *after;
     let mut borders = [0u8; BORDERS];
     'borders: for border in 1..BORDERS {
         let lower = costs[border - 1] + MOVE;
@@ -34,18 +26,15 @@ fn ways_down(after: &[u64; BORDERS]) -> Ways
             borders[border] = border as u8;
         }
     }
-    Ways { costs, borders }
+    borders
 }
 
-/// The best ways to all borders.
-fn ways_from(after: &[u64; BORDERS]) -> Ways
-    requires { All (λ c. c ≤ 2 ^ 60) after.now }
-    ensures { AreNearest after.now result.costs result.borders }
+/// What it costs to go on from each border, in place of what it costs there; and to which it is best to go.
+fn ways_from(costs: &mut [u64; BORDERS]) -> [u8; BORDERS]
+    requires { All (λ c. c ≤ 2 ^ 60) costs.old }
+    ensures { AreNearest costs.old costs.new result }
 {
-    let Ways {
-        mut costs,
-        mut borders,
-    } = ways_down(after);
+    let mut borders = ways_down(costs);
     'borders: for border in (0..BORDERS - 1).rev() {
         let higher = costs[border + 1] + MOVE;
         if higher < costs[border] {
@@ -53,20 +42,18 @@ fn ways_from(after: &[u64; BORDERS]) -> Ways
             borders[border] = borders[border + 1];
         }
     }
-    Ways { costs, borders }
+    borders
 }
 
-/// What it costs from a group on: its own cost at each border, and the best way on.
-fn with_group(group: &[u32; BORDERS], ways: &[u64; BORDERS]) -> [u64; BORDERS]
-    requires { All (λ c. c ≤ 2 ^ 60) ways.now }
-    ensures sums { (k : ℕ) → k < 129 → slice_index result k ≡ slice_index group.now k + slice_index ways.now k }
-    ensures few { (k : ℕ) → k < 129 → slice_index result k ≤ slice_index ways.now k + 4294967295 }
+/// Adds a group's own cost at each border.
+fn add_group(costs: &mut [u64; BORDERS], group: &[u32; BORDERS])
+    requires { All (λ c. c ≤ 2 ^ 60) costs.old }
+    ensures sums { (k : ℕ) → k < 129 → slice_index costs.new k ≡ slice_index group.now k + slice_index costs.old k }
+    ensures few { (k : ℕ) → k < 129 → slice_index costs.new k ≤ slice_index costs.old k + 4294967295 }
 {
-    let mut sums = *ways;
     'borders: for border in 0..BORDERS {
-        sums[border] += u64::from(group[border]);
+        costs[border] += u64::from(group[border]);
     }
-    sums
 }
 
 /// The first border of least cost.
@@ -107,12 +94,13 @@ pub fn least_borders(alloc: Global, groups: &[[u32; BORDERS]]) -> Result<Vec<u8>
     if count == 0 {
         return Ok(Vec::new(alloc));
     }
-    let mut after = with_group(&groups[count - 1], &[0; BORDERS]);
+    let mut after = [0; BORDERS];
+    add_group(&mut after, &groups[count - 1]);
     let mut list = Vec::new(alloc);
     'groups: for done in 1..count {
-        let ways = ways_from(&after);
-        after = with_group(&groups[count - 1 - done], &ways.costs);
-        list.push(ways.borders)?;
+        let ways = ways_from(&mut after);
+        add_group(&mut after, &groups[count - 1 - done]);
+        list.push(ways)?;
     }
     followed(alloc, lowest(&after), list)
 }
