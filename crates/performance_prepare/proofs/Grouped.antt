@@ -5,7 +5,7 @@ use Rattle.std.specs.List.{slice_range}
 use Rattle.std.proofs.lemmas.Bool.{cases_order}
 use Rattle.std.proofs.lemmas.Bool.Decides.{nat_tests}
 use Rattle.std.proofs.lemmas.Grind.{get_or_default_zero}
-use Rattle.std.proofs.lemmas.List.{append-nil, get_or-set_other, get_or-set_same, length-map, length-set, same_lists, take_more}
+use Rattle.std.proofs.lemmas.List.{append-nil, drop-map, get_or-set_other, get_or-set_same, length-map, length-set, same_lists, take-map, take_more}
 use Rattle.rhythm_base.proofs.Members.{all_from_among, out_of}
 use Rattle.rhythm_base.proofs.ListParts.{filter_few}
 use Rattle.rhythm_base.proofs.OrderedLists.{all_head}
@@ -123,6 +123,10 @@ first_low (n ∷ group) played = let h = all_head (IsPlayed 1000000000) n group 
 
 pub keys_low : (group : List Note) → All (IsPlayed 1000000000) group → All (λ k. k < 128) (map (λ n. n.key) group)
 keys_low group played = all_mapped (IsPlayed 1000000000) (λ k. k < 128) (λ (n : Note). n.key) (λ n h. h.key) group played
+
+pub keys_between : (notes : List Note) (start end : ℕ) → slice_range (map (λ n. n.key) notes) start end ≡ map (λ n. n.key) (slice_range notes start end)
+keys_between notes start end =
+    ap (take (end - start)) (drop-map (λ (n : Note). n.key) start notes) ∙ take-map (λ (n : Note). n.key) (end - start) (drop start notes)
 
 pub held_few : (tempos : List Tempo) (division : ℕ) (ends : List ℕ) (group : List Note) → length (held_by tempos division ends group) ≤ 128
 held_few tempos division ends group =

@@ -1,11 +1,11 @@
 -- What keys cost near borders, added to what the borders cost.
-use Rattle.std.proofs.Common.{◌≡◌, ◌⊎◌, ℕ, ◌+◌, ◌-◌, ◌<◌, ◌≤◌, List, length, map, set, take, inl, inr, sym, ap, ◌∙◌, arith}
+use Rattle.std.proofs.Common.{◌≡◌, ◌⊎◌, ℕ, ◌+◌, ◌-◌, ◌<◌, ◌≤◌, List, length, map, set, take, inl, inr, sym, ap, ◌∙◌, subst, arith}
 use Rattle.std.specs.Prelude.{slice_index}
-use Rattle.std.proofs.lemmas.Bool.{cases_order}
+use Rattle.std.proofs.lemmas.Bool.{cases_lt, cases_order}
 use Rattle.std.proofs.lemmas.List.{get_or-set_other, get_or-set_same, length-set}
 use Rattle.performance_prepare.specs.Groups.{cost, nearness}
 use Rattle.performance_prepare.specs.Middle.{numbers_from}
-use Rattle.performance_prepare.specs.Parted.{near, place_cost}
+use Rattle.performance_prepare.specs.Parted.{AreRaised, near, place_cost}
 use Rattle.performance_prepare.proofs.Cutting.{whole}
 use Rattle.performance_prepare.proofs.Grouped.{row_is}
 
@@ -33,6 +33,33 @@ added_more f costs sums n v within is h = record {
 
     here : (k : ℕ) → k ≡ n → slice_index (set sums n v) k ≡ slice_index costs k + f k
     here k e = ap (slice_index (set sums n v)) e ∙ own ∙ sym (λ i. slice_index costs (e i) + f (e i))
+
+-- the borders up to another cost as much more
+pub added_raised : (f : ℕ → ℕ) (costs sums later : List ℕ) (first end more : ℕ) → first ≤ end → length later ≡ 129
+    → ((k : ℕ) → first ≤ k → k < end → more ≡ f k) → AreRaised first end more sums later → AreAdded f costs sums first → AreAdded f costs later end
+added_raised f costs sums later first end more le long same up h = record {
+  done = λ k lt low. (elim (cases_lt k first) [
+    | inl less ↦ up.low k less ∙ h.done k less low
+    | inr past ↦ (let r = up.raised k past lt in let a = h.ahead k past low in let m = same k past lt in omega (arith, r, a, m))
+  ]);
+  ahead = λ k past low. up.high k past low ∙ h.ahead k (omega (arith, le, past)) low;
+  long = long;
+}
+
+pub raised_more : (first n more v : ℕ) (costs sums : List ℕ) → first ≤ n → n < 129 → length sums ≡ 129 → v ≡ slice_index sums n + more
+    → AreRaised first n more costs sums → AreRaised first (n + 1) more costs (set sums n v)
+raised_more first n more v costs sums le within long is h = record {
+  low = λ k lt. get_or-set_other sums n k v 0 (λ e. omega (arith, lt, le, e)) ∙ h.low k lt;
+  raised = λ k past lt. (elim (cases_order k n) [
+    | inl e ↦ subst (λ i. slice_index (set sums n v) i ≡ slice_index costs i + more) (sym e)
+        (get_or-set_same sums n v 0 (omega (arith, long, within)) ∙ is ∙ ap (λ x. x + more) (h.high n (omega arith) within))
+    | inr other ↦ elim other [
+      | inl less ↦ get_or-set_other sums n k v 0 (λ e. omega (arith, less, e)) ∙ h.raised k past less
+      | inr greater ↦ absurd (omega (arith, greater, lt))
+    ]
+  ]);
+  high = λ k past lt. get_or-set_other sums n k v 0 (λ e. omega (arith, past, e)) ∙ h.high k (omega (arith, past)) lt;
+}
 
 far_below : (key k : ℕ) → k < key - 4 → near key k ≡ 0
 far_below key k lt = omega (arith, lt)

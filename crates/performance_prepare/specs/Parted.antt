@@ -1,5 +1,5 @@
 -- What a border costs by how it parts the keys of a group.
-use Rattle.std.specs.Prelude.{◌≡◌, ℕ, ◌+◌, ◌-◌, ◌*◌, ◌≤◌, List, length, Option, Some, None, min}
+use Rattle.std.specs.Prelude.{◌≡◌, ℕ, ◌+◌, ◌-◌, ◌*◌, ◌<◌, ◌≤◌, List, length, slice_index, Option, Some, None, min}
 use Rattle.std.specs.List.{reduce}
 use Rattle.rhythm_base.specs.Lists.{gap}
 use Rattle.performance_prepare.specs.Groups.{held_beside, stretch}
@@ -19,6 +19,12 @@ place_cost middle struck held border = length struck * gap border middle + parte
 -- a key within five of the border costs 20 for each half key that it is nearer
 abbrev pub near : ℕ → ℕ → ℕ
 near key border = 20 * (10 - gap (2 * key + 1) (2 * border))
+
+-- the borders from one up to another, but not that, cost so much more, and the others what they did
+pub record AreRaised (first end more : ℕ) (before after : List ℕ) : Type 0 where
+  pub low : (border : ℕ) → border < first → slice_index after border ≡ slice_index before border
+  pub raised : (border : ℕ) → first ≤ border → border < end → slice_index after border ≡ slice_index before border + more
+  pub high : (border : ℕ) → end ≤ border → border < 129 → slice_index after border ≡ slice_index before border
 
 -- the borders from one on up to another cost so much by it
 abbrev pub IsParting : List ℕ → List ℕ → ℕ → ℕ → ℕ → Type 0

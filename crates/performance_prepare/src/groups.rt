@@ -3,7 +3,7 @@ ghost use Rattle.performance_prepare.specs.Ends as held;
 ghost use Rattle.performance_prepare.specs.Ends.{AreEnds};
 ghost use Rattle.performance_prepare.specs.Groups as groups;
 ghost use Rattle.performance_prepare.specs.Middle.{numbers_from};
-ghost use Rattle.performance_prepare.specs.Parted.{near, place_cost};
+ghost use Rattle.performance_prepare.specs.Parted.{AreRaised, near, parted_cost};
 ghost use Rattle.rhythm_base.specs.Lists.{gap, greatest, least_of};
 ghost use Rattle.rhythm_base.specs.declared.limits.TheConstants.{LATEST_EVENT, MOST_NOTES};
 ghost use Rattle.rhythm_base.specs.declared.note.Note.{Note};
@@ -11,7 +11,7 @@ ghost use Rattle.std.specs.Prelude.{◌≡◌, ◌≤◌, ◌<◌, ◌+◌, ◌*
 ghost use Rattle.std.specs.List.{slice_range};
 
 use crate::elapsed::{milliseconds, time_between};
-use crate::parted::{parting_from, parting_on};
+use crate::parted::parting_from;
 use crate::strum::strikes;
 use hand_borders::BORDERS;
 use rhythm_base::Note;
@@ -48,20 +48,20 @@ pub fn group_end(map: &TempoMap, division: u16, within: u8, notes: &[Note], star
 }
 
 /// How far apart two numbers are.
-fn apart(a: u64, b: u64) -> u64
+fn apart(a: u32, b: u32) -> u32
     ensures { result ≡ gap a b }
 {
     if a < b { b - a } else { a - b }
 }
 
 /// What a key costs near a border.
-fn near(border: u64, key: u64) -> u32
+fn near(border: u32, key: u32) -> u32
     requires border { border ≤ 128 }
     requires key { key ≤ 127 }
     ensures near { result ≡ near key border }
     ensures low { result ≤ 200 }
 {
-    20 * 10u64.saturating_sub(apart(2 * key + 1, 2 * border)) as u32
+    20 * 10u32.saturating_sub(apart(2 * key + 1, 2 * border))
 }
 
 /// Adds to the costs of borders what a key costs near them: more than five keys away nothing.
@@ -73,49 +73,75 @@ fn add_near(costs: &mut [u32; BORDERS], key: u8)
     let first = key.saturating_sub(4) as usize;
     let end = (key as usize + 6).min(BORDERS);
     'borders: for border in first..end {
-        costs[border] += near(border as u64, u64::from(key));
+        costs[border] += near(border as u32, u32::from(key));
     }
 }
 
-/// What a border costs by its place where so many keys are struck, and by how it parts them.
-fn placed(middle: u64, count: u64, border: u64, parted: u64) -> u32
+/// What a border costs by its place where so many keys are struck.
+fn placed(middle: u32, count: u32, border: u32) -> u32
     requires middle { middle ≤ 128 }
     requires border { border ≤ 128 }
     requires few { count ≤ MOST_NOTES }
-    requires parted { parted ≤ 307_000 }
-    ensures cost { result ≡ count * gap border middle + parted }
-    ensures low { result ≤ 9_000_000 }
+    ensures cost { result ≡ count * gap border middle }
+    ensures low { result ≤ 8_500_000 }
 {
-    (count * apart(border, middle) + parted) as u32
+    count * apart(border, middle)
 }
 
-/// What borders cost by their places and by how they part the keys of a group.
-fn places(middle: u64, struck: &[u8], held: &[u8]) -> [u32; BORDERS]
+/// What borders cost by their places where so many keys are struck.
+fn places(middle: u32, count: u32) -> [u32; BORDERS]
     requires middle { middle ≤ 128 }
-    requires few { length struck.now ≤ MOST_NOTES }
-    requires held { length held.now ≤ 128 }
-    ensures places { (border : ℕ) → border < 129 → slice_index result border ≡ place_cost middle struck.now held.now border }
-    ensures low { (border : ℕ) → border < 129 → slice_index result border ≤ 9_000_000 }
+    requires few { count ≤ MOST_NOTES }
+    ensures places { (border : ℕ) → border < 129 → slice_index result border ≡ count * gap border middle }
+    ensures low { (border : ℕ) → border < 129 → slice_index result border ≤ 8_500_000 }
 {
-    let count = struck.len() as u64;
     let mut costs = [0u32; BORDERS];
-    let mut parting = parting_from(struck, held, 0);
     'borders: for border in 0..BORDERS {
-        parting = parting_on(parting, struck, held, border as u8);
-        costs[border] = placed(middle, count, border as u64, parting.cost);
+        costs[border] = placed(middle, count, border as u32);
     }
     costs
 }
 
+/// Adds so much to the costs of borders from one up to another.
+fn raise(costs: &mut [u32; BORDERS], first: usize, end: usize, more: u32)
+    requires room { (border : ℕ) → border < 129 → slice_index costs.old border ≤ 4_000_000_000 }
+    requires low { more ≤ 307_000 }
+    requires first { first ≤ end }
+    requires end { end ≤ 129 }
+    ensures { AreRaised first end more costs.old costs.new }
+{
+    'borders: for border in first..end {
+        costs[border] += more;
+    }
+}
+
+/// Adds to the costs of borders what they cost by how they part the keys of a group.
+fn add_partings(costs: &mut [u32; BORDERS], struck: &[u8], held: &[u8])
+    requires room { (border : ℕ) → border < 129 → slice_index costs.old border ≤ 8_500_000 }
+    requires held { length held.now ≤ 128 }
+    ensures parted { (border : ℕ) → border < 129
+        → slice_index costs.new border ≡ slice_index costs.old border + parted_cost struck.now held.now border }
+    ensures low { (border : ℕ) → border < 129 → slice_index costs.new border ≤ 9_000_000 }
+{
+    let mut border = 0;
+    'partings: while border < BORDERS {
+        let parting = parting_from(struck, held, border as u8);
+        let end = (parting.last as usize + 1).min(BORDERS);
+        raise(costs, border, end, parting.cost as u32);
+        border = end;
+    }
+}
+
 /// What each border costs in a group that strikes these keys where those are held.
-fn row(middle: u64, struck: &[u8], held: &[u8]) -> [u32; BORDERS]
+fn row(middle: u32, struck: &[u8], held: &[u8]) -> [u32; BORDERS]
     requires middle { middle ≤ 128 }
     requires few { length struck.now ≤ MOST_NOTES }
     requires struck { All (λ k. k < 128) struck.now }
     requires held { length held.now ≤ 128 }
     ensures { result ≡ map (groups.cost middle struck.now held.now) (numbers_from 0 129) }
 {
-    let mut costs = places(middle, struck, held);
+    let mut costs = places(middle, struck.len() as u32);
+    add_partings(&mut costs, struck, held);
     for key in struck {
         add_near(&mut costs, *key);
     }
@@ -140,12 +166,12 @@ fn first_onset(group: &[Note]) -> u64
 }
 
 /// The last note of a key, which ends there, sounds on past a group's beginning, and the key is not struck in the group.
-fn is_held(map: &TempoMap, division: u16, end: u64, group: &[Note], key: u8) -> bool
+fn is_held(map: &TempoMap, division: u16, onset: u64, end: u64, group: &[Note], key: u8) -> bool
+    requires onset { onset ≡ groups.first_onset group.now }
     requires end { end ≤ LATEST_EVENT }
     requires group { All (IsPlayed LATEST_EVENT) group.now }
     ensures { result ≡ held.holds map.now.tempos division end group.now key }
 {
-    let onset = first_onset(group);
     if end <= onset {
         return false;
     }
@@ -162,49 +188,29 @@ fn held_keys(
 ) -> Result<Vec<u8>, AllocError>
     requires ends { All (λ end. end ≤ LATEST_EVENT) ends.now }
     requires group { All (IsPlayed LATEST_EVENT) group.now }
-    ensures { IfOk result (λ v. v.items ≡ held.held_by map.now.tempos division ends.now group.now) }
+    ensures keys { IfOk result (λ v. v.items ≡ held.held_by map.now.tempos division ends.now group.now) }
+    ensures few { IfOk result (λ v. length v.items ≤ 128) }
 {
+    let onset = first_onset(group);
     let mut list = Vec::new(alloc);
     'keys: for key in 0..128u8 {
-        if is_held(map, division, ends[key as usize], group, key) {
+        if is_held(map, division, onset, ends[key as usize], group, key) {
             list.push(key)?;
         }
     }
     Ok(list)
 }
 
-/// The ends of the last notes of all keys, after a group more.
-fn ends_with(ends: &[u64; 128], group: &[Note]) -> [u64; 128]
-    requires ends { All (λ end. end ≤ LATEST_EVENT) ends.now }
+/// Puts the ends of the notes of a group in place of those of the last notes of their keys before.
+fn put_ends(ends: &mut [u64; 128], group: &[Note])
+    requires ends { All (λ end. end ≤ LATEST_EVENT) ends.old }
     requires group { All (IsPlayed LATEST_EVENT) group.now }
-    ensures ends { (before : List Note) → AreEnds ends.now before → AreEnds result (before ++ group.now) }
-    ensures low { All (λ end. end ≤ LATEST_EVENT) result }
+    ensures ends { (before : List Note) → AreEnds ends.old before → AreEnds ends.new (before ++ group.now) }
+    ensures low { All (λ end. end ≤ LATEST_EVENT) ends.new }
 {
-    let mut later = *ends;
     for note in group {
-        later[note.key as usize] = note.end;
+        ends[note.key as usize] = note.end;
     }
-    later
-}
-
-/// What each border costs in a group, by the ends of the last notes of the keys before it.
-fn row_of(
-    alloc: Global,
-    map: &TempoMap,
-    division: u16,
-    middle: u64,
-    ends: &[u64; 128],
-    group: &[Note],
-) -> Result<[u32; BORDERS], AllocError>
-    requires middle { middle ≤ 128 }
-    requires few { length group.now ≤ MOST_NOTES }
-    requires ends { All (λ end. end ≤ LATEST_EVENT) ends.now }
-    requires group { All (IsPlayed LATEST_EVENT) group.now }
-    ensures { IfOk result (λ r. r ≡ held.row_by map.now.tempos division middle ends.now group.now) }
-{
-    let struck = keys_of(alloc, group)?;
-    let held = held_keys(alloc, map, division, ends, group)?;
-    Ok(row(middle, &struck, &held))
 }
 
 /// What each border costs in each group of the notes of a channel.
@@ -213,7 +219,7 @@ pub fn costs(
     map: &TempoMap,
     division: u16,
     within: u8,
-    middle: u64,
+    middle: u32,
     notes: &[Note],
 ) -> Result<Vec<[u32; BORDERS]>, AllocError>
     requires middle { middle ≤ 128 }
@@ -223,14 +229,15 @@ pub fn costs(
         ≡ groups.costs map.now.tempos division middle (groups.groups map.now.tempos division within notes.now)) }
     ensures few { IfOk result (λ v. length v.items ≤ MOST_NOTES) }
 {
+    let keys = keys_of(alloc, notes)?;
     let mut rows = Vec::new(alloc);
     let mut ends = [0u64; 128];
     let mut start = 0;
     'groups: while start < notes.len() {
         let end = group_end(map, division, within, notes, start);
-        let group = &notes[start..end];
-        rows.push(row_of(alloc, map, division, middle, &ends, group)?)?;
-        ends = ends_with(&ends, group);
+        let held = held_keys(alloc, map, division, &ends, &notes[start..end])?;
+        rows.push(row(middle, &keys[start..end], &held))?;
+        put_ends(&mut ends, &notes[start..end]);
         start = end;
     }
     Ok(rows)

@@ -52,7 +52,7 @@ fn borders_of(
 {
     let keys = keys_of(alloc, notes)?;
     let middle = middle(alloc, &keys)?;
-    let rows = costs(alloc, map, division, within, middle, notes)?;
+    let rows = costs(alloc, map, division, within, middle as u32, notes)?;
     least_borders(alloc, &rows)
 }
 

@@ -116,20 +116,3 @@ pub fn parting_from(struck: &[u8], held: &[u8], border: u8) -> Parting
         cost: parted(struck, held, border),
     }
 }
-
-/// What the borders from one on cost, where it is known of those before.
-pub fn parting_on(before: Parting, struck: &[u8], held: &[u8], border: u8) -> Parting
-    requires before { IsParting struck.now held.now border before.last before.cost }
-    requires low { before.cost ≤ 307_000 }
-    requires held { length held.now ≤ 128 }
-    requires border { border ≤ 128 }
-    ensures parting { IsParting struck.now held.now border result.last result.cost }
-    ensures from { border ≤ result.last }
-    ensures low { result.cost ≤ 307_000 }
-{
-    if border <= before.last {
-        before
-    } else {
-        parting_from(struck, held, border)
-    }
-}

@@ -1,11 +1,14 @@
-use Rattle.std.proofs.Common.{rules, arith, ℕ, ◌≡◌, ◌≤◌, ◌+◌, ◌∙◌, ◌++◌, ◌∷◌, [], List, ap, length, take, length-append}
+use Rattle.std.proofs.Common.{arith, ℕ, ◌≡◌, ◌≤◌, ◌<◌, ◌+◌, ◌-◌, drop, subst, sym, ◌∙◌, ◌++◌, ◌∷◌, [], List, ap, length, map, take, length-append}
 use Rattle.std.specs.List.{slice_range}
+use Rattle.std.specs.Prelude.{All}
 use Rattle.std.proofs.lemmas.List.{get_or-replicate}
+use Rattle.std.proofs.lemmas.List.Elements.{All-drop, All-take}
 use Rattle.rhythm_base.specs.declared.event.Tempo.{Tempo}
 use Rattle.rhythm_base.specs.declared.note.Note.{Note}
-use Rattle.performance_prepare.specs.Ends.{row_by}
-use Rattle.performance_prepare.specs.Groups.{costs, costs_after, groups}
-use Rattle.performance_prepare.proofs.Grouped.{costs_more, taken_ends}
+use Rattle.performance_prepare.specs.Ends.{held_by, row_by}
+use Rattle.performance_prepare.specs.Groups.{cost, costs, costs_after, groups}
+use Rattle.performance_prepare.specs.Middle.{numbers_from}
+use Rattle.performance_prepare.proofs.Grouped.{costs_more, keys_between, keys_low, taken_ends}
 use Rattle.performance_prepare.proofs.groups.costs.Goals as goal
 
 pub groups-init : goal.groups-init
@@ -24,13 +27,27 @@ groups-preserved c =
     let S : ℕ = c.groups.start in
     let E : ℕ = c.group_end-end.result in
     let le : S ≤ E = (let l = c.group_end-end.ensures.later in omega (arith, l)) in
-    let pushed : c.push.new.self.items ≡ c.groups.rows.items ++ row_by T c.args.division c.args.middle c.groups.ends (slice_range notes S E) ∷ [] = search rules in
+    let struck : slice_range c.deref.result.now S E ≡ map (λ n. n.key) (slice_range notes S E) =
+    ap (λ ks. slice_range ks S E) (c.deref.ensures.value ∙ c.in_ok-keys.ensures) ∙ keys_between notes S E in
+    let held : c.deref-in-groups.result.now ≡ held_by T c.args.division c.groups.ends (slice_range notes S E) =
+    c.deref-in-groups.ensures.value ∙ c.in_ok-held.ensures.keys in
+    let row : c.row.result ≡ row_by T c.args.division c.args.middle c.groups.ends (slice_range notes S E) =
+    c.row.ensures ∙ (λ i. map (cost c.args.middle (struck i) (held i)) (numbers_from 0 129)) in
+    let pushed : c.push.new.self.items ≡ c.groups.rows.items ++ row_by T c.args.division c.args.middle c.groups.ends (slice_range notes S E) ∷ [] =
+    c.in_ok-push.ensures.items ∙ ap (λ r. c.groups.rows.items ++ r ∷ []) row in
     let long : length c.push.new.self.items ≡ length c.groups.rows.items + 1 = ap length pushed ∙ length-append c.groups.rows.items (row_by T c.args.division c.args.middle c.groups.ends (slice_range notes S E) ∷ []) in
     record {
       costs = costs_more T c.args.division c.args.within c.args.middle notes c.groups.rows.items c.push.new.self.items (costs T c.args.division c.args.middle (groups T c.args.division c.args.within notes)) c.groups.ends S E le
           c.groups.invariant.ends c.group_end-end.ensures.group pushed c.groups.invariant.costs;
-      ends = taken_ends c.ends_with-ends.result notes S E le (c.ends_with-ends.ensures.ends (take S notes) c.groups.invariant.ends);
-      low = c.ends_with-ends.ensures.low;
+      ends = taken_ends c.put_ends.new.ends notes S E le (c.put_ends.ensures.ends (take S notes) c.groups.invariant.ends);
+      low = c.put_ends.ensures.low;
       within = c.group_end-end.ensures.within;
       few = (let f = c.groups.invariant.few in let l = c.group_end-end.ensures.later in omega (arith, long, f, l));
     }
+
+pub row-requires-clause-struck : goal.row-requires-clause-struck
+row-requires-clause-struck c =
+    let all : All (λ k. k < 128) c.deref.result.now =
+    subst (All (λ k. k < 128)) (sym (c.deref.ensures.value ∙ c.in_ok-keys.ensures)) (keys_low c.args.notes.now c.requires.notes) in
+    All-take (λ k. k < 128) (c.group_end-end.result - c.groups.start) (drop c.groups.start c.deref.result.now)
+    (All-drop (λ k. k < 128) c.groups.start c.deref.result.now all)

@@ -1,7 +1,8 @@
-use Rattle.std.proofs.Common.{rules, ℕ, Bool, true, false, List, sym, ◌∙◌, ◌≡◌, ◌+◌, ◌++◌}
+use Rattle.std.proofs.Common.{rules, arith, ap, length, ℕ, Bool, true, false, List, sym, ◌∙◌, ◌≡◌, ◌+◌, ◌++◌}
 use Rattle.std.specs.Prelude.{filter, slice_index}
 use Rattle.performance_prepare.specs.Ends.{held_by, holds}
 use Rattle.performance_prepare.specs.Middle.{numbers_from}
+use Rattle.performance_prepare.proofs.Grouped.{held_few}
 use Rattle.performance_prepare.proofs.Middles.{kept_more, left_out, none_left}
 use Rattle.performance_prepare.proofs.groups.held_keys.Goals as goal
 use Rattle.performance_prepare.proofs.groups.held_keys.Goals.{then-is_held+in_ok-push, else-is_held}
@@ -24,5 +25,11 @@ keys-preserved c =
 
 pub returns : goal.returns
 returns c =
-    none_left (λ key. holds c.args.map.now.tempos c.args.division (slice_index c.args.ends.now key) c.args.group.now key) c.keys.list.items
-    (held_by c.args.map.now.tempos c.args.division c.args.ends.now c.args.group.now) c.keys.key 128 c.keys-test.false c.keys.invariant
+    let all : List ℕ = held_by c.args.map.now.tempos c.args.division c.args.ends.now c.args.group.now in
+    let is : c.keys.list.items ≡ all =
+    none_left (λ key. holds c.args.map.now.tempos c.args.division (slice_index c.args.ends.now key) c.args.group.now key)
+    c.keys.list.items all c.keys.key 128 c.keys-test.false c.keys.invariant in
+    record {
+      keys = is;
+      few = (let low = held_few c.args.map.now.tempos c.args.division c.args.ends.now c.args.group.now in let long = ap (length {A = ℕ}) is in omega (arith, low, long));
+    }

@@ -1,13 +1,11 @@
-use Rattle.std.proofs.Common.{ℕ, ◌≡◌, ◌<◌, ◌≤◌, length}
+use Rattle.std.proofs.Common.{ℕ, ◌≡◌, ◌*◌, ◌<◌, ◌≤◌, length}
 use Rattle.std.specs.Prelude.{slice_index}
-use Rattle.performance_prepare.specs.Parted.{IsParting, place_cost}
+use Rattle.rhythm_base.specs.Lists.{gap}
 use Rattle.performance_prepare.proofs.groups.places.Given as goal
 
 abbrev pub invariant-borders : goal.invariant-borders
 invariant-borders l = record {
-  each : (k : ℕ) → k < l.border → slice_index l.costs k ≡ place_cost l.middle l.struck l.held k;
+  each : (k : ℕ) → k < l.border → slice_index l.costs k ≡ l.count * gap k l.middle;
   long : length l.costs ≡ 129;
-  parting : IsParting l.struck l.held l.border l.parting.last l.parting.cost;
-  few : (k : ℕ) → k < l.border → slice_index l.costs k ≤ 9000000;
-  low : l.parting.cost ≤ 307000;
+  few : (k : ℕ) → k < l.border → slice_index l.costs k ≤ 8500000;
 }
