@@ -103,6 +103,16 @@ each_group tempos division middle before [] bs h = h
 each_group tempos division middle before (g ∷ gs) [] h = absurd h
 each_group tempos division middle before (g ∷ gs) (b ∷ bs) h = (h.0, each_group tempos division middle (before ++ g) gs bs h.1)
 
+-- ---- a channel and the others
+
+pub sides_permuted : (channel : ℕ) (notes : List Note) → IsPermutation notes (other_notes channel notes ++ notes_of channel notes)
+sides_permuted channel notes =
+    IsPermutation-filter_both (λ n. not (n.channel == channel)) (λ n. n.channel == channel) (λ n. twice (n.channel == channel)) notes
+  where
+    twice : (b : Bool) → b ≡ not (not b)
+    twice true = refl
+    twice false = refl
+
 -- ---- a channel without a note
 
 not_sounding : (notes : List Note) (c : ℕ) → sounds notes c ≡ false → (n : Note) → Among n notes → n.channel ≢ c
@@ -229,11 +239,7 @@ module _ (channel within left : ℕ) (t : Take) (formed : IsTakeFormed t) where
       each_append (IsHanded channel left) Others Own Others (handed_notes left Groups Borders) (each_self channel left Others) (subst (λ ns. Each (IsHanded channel left) ns (handed_notes left Groups Borders)) flat each)
 
   pub both_permuted : IsPermutation t.notes (Others ++ Own)
-  both_permuted = IsPermutation-filter_both (λ m. not (m.channel == channel)) (λ m. m.channel == channel) (λ m. twice (m.channel == channel)) t.notes
-    where
-      twice : (b : Bool) → b ≡ not (not b)
-      twice true = refl
-      twice false = refl
+  both_permuted = sides_permuted channel t.notes
 
   places : Pairwise (λ m n. same_place m n ≡ false) t.notes
   places = pairs_weaken Before (λ m n. same_place m n ≡ false) t.notes apart (notes_before 1000000000 t.notes formed.notes formed.notes_in_order)

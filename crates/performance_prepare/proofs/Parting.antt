@@ -240,6 +240,19 @@ sorted_is xs ys once moved sorted =
 pub order_permuted : (xs : List Note) → IsPermutation xs (in_order xs)
 order_permuted xs = subst (IsPermutation xs) (sym (same_order xs)) (placed_permuted xs)
 
+-- the order is one however the notes stand before
+pub one_in_order : (xs ys : List Note) → IsDistinct same_place xs → IsPermutation xs ys → in_order ys ≡ in_order xs
+one_in_order xs ys once moved =
+    same_order ys
+    ∙ one_order IsBefore not_both (in_place ys) (in_place xs)
+    (placed_in_order ys (IsDistinct-IsPermutation same_place either_way xs ys moved once)) (placed_in_order xs once)
+    (λ n there. Contains-permutation xs (in_place xs) n (placed_permuted xs)
+    (Contains-permutation ys xs n (IsPermutation-sym xs ys moved)
+    (Contains-permutation (in_place ys) ys n (IsPermutation-sym ys (in_place ys) (placed_permuted ys)) there)))
+    (λ n there. Contains-permutation ys (in_place ys) n (placed_permuted ys)
+    (Contains-permutation xs ys n moved (Contains-permutation (in_place xs) xs n (IsPermutation-sym xs (in_place xs) (placed_permuted xs)) there)))
+    ∙ sym (same_order xs)
+
 -- ---- the take
 
 module _ (key : ℕ) (t : Take) (formed : IsTakeFormed t) where

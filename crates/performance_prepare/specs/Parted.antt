@@ -1,9 +1,11 @@
 -- What a border costs by how it parts the keys of a group.
 use Rattle.std.specs.Prelude.{◌≡◌, ℕ, ◌+◌, ◌-◌, ◌*◌, ◌<◌, ◌≤◌, List, length, slice_index, Option, Some, None, min}
 use Rattle.std.specs.List.{reduce}
-use Rattle.rhythm_base.specs.Lists.{gap}
+use Rattle.rhythm_base.specs.Lists.{gap, greatest, least_of}
 use Rattle.performance_prepare.specs.Groups.{held_beside, stretch}
 use Rattle.performance_prepare.specs.Middle.{keys_below, keys_from}
+use Rattle.performance_prepare.specs.declared.parted.Hand.{Hand}
+use Rattle.performance_prepare.specs.declared.parted.TwoHands.{TwoHands}
 
 -- 100 for each semitone above an octave of a hand, and 1,000 for each key that a hand holds where it strikes anew
 abbrev pub parted_cost : List ℕ → List ℕ → ℕ → ℕ
@@ -19,6 +21,17 @@ place_cost middle struck held border = length struck * gap border middle + parte
 -- a key within five of the border costs 20 for each half key that it is nearer
 abbrev pub near : ℕ → ℕ → ℕ
 near key border = 20 * (10 - gap (2 * key + 1) (2 * border))
+
+-- what is known of the keys of a hand: how many they are, and the lowest and the highest of them
+pub record IsHand (keys : List ℕ) (hand : Hand) : Type 0 where
+  pub all : hand.count ≡ length keys
+  pub low : hand.lowest ≡ least_of keys
+  pub high : hand.highest ≡ greatest keys
+
+-- and of the keys below a border and the others
+pub record AreTwoHands (border : ℕ) (keys : List ℕ) (hands : TwoHands) : Type 0 where
+  pub left : IsHand (keys_below border keys) hands.left
+  pub right : IsHand (keys_from border keys) hands.right
 
 -- the borders from one up to another, but not that, cost so much more, and the others what they did
 pub record AreRaised (first end more : ℕ) (before after : List ℕ) : Type 0 where

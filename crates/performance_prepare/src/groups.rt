@@ -118,6 +118,7 @@ fn raise(costs: &mut [u32; BORDERS], first: usize, end: usize, more: u32)
 /// Adds to the costs of borders what they cost by how they part the keys of a group.
 fn add_partings(costs: &mut [u32; BORDERS], struck: &[u8], held: &[u8])
     requires room { (border : ℕ) → border < 129 → slice_index costs.old border ≤ 8_500_000 }
+    requires struck { length struck.now ≤ MOST_NOTES }
     requires held { length held.now ≤ 128 }
     ensures parted { (border : ℕ) → border < 129
         → slice_index costs.new border ≡ slice_index costs.old border + parted_cost struck.now held.now border }

@@ -2,8 +2,11 @@ ghost use Rattle.note_list.specs.Pairing.{IsPlayed};
 ghost use Rattle.performance_load.specs.Taking.{IsTakeFormed};
 ghost use Rattle.performance_prepare.specs.Groups.{groups};
 ghost use Rattle.performance_prepare.specs.Hands as hands;
+ghost use Rattle.note_list.specs.Kept.{same_place};
 ghost use Rattle.performance_prepare.specs.Outcome.{Answers};
+ghost use Rattle.performance_prepare.specs.Split.{in_order};
 ghost use Rattle.rhythm_base.specs.declared.limits.TheConstants.{LATEST_EVENT, MOST_NOTES};
+ghost use Rattle.std.specs.List.{IsDistinct};
 ghost use Rattle.std.specs.Prelude.{◌≡◌, ◌≤◌, ◌++◌, All, IfOk, OnOk, length, map};
 
 use crate::groups::{costs, group_end, keys_of};
@@ -136,6 +139,16 @@ fn push_hands(
     Ok(())
 }
 
+/// The notes by channel, onset and key. Those of a channel that stand between others are put behind them first, which leaves little to sort.
+fn in_order_with(alloc: Global, channel: u8, notes: &[Note]) -> Result<Vec<Note>, AllocError>
+    requires { IsDistinct same_place notes.now }
+    ensures { IfOk result (λ v. v.items ≡ in_order notes.now) }
+{
+    let mut placed = other_notes(alloc, channel, notes)?;
+    placed.append(&mut notes_of(alloc, channel, notes)?)?;
+    in_order(placed)
+}
+
 /// The take whose left hand, in a channel, has a channel of its own.
 pub fn with_hands(alloc: Global, channel: u8, within: u8, take: Take) -> Result<Take, PrepareFault>
     requires { IsTakeFormed take }
@@ -164,6 +177,6 @@ pub fn with_hands(alloc: Global, channel: u8, within: u8, take: Take) -> Result<
         &borders,
         free[0],
     )?;
-    let notes = in_order(handed)?;
+    let notes = in_order_with(alloc, free[0], &handed)?;
     Ok(Take { notes, ..take })
 }

@@ -1,96 +1,128 @@
 ghost use Rattle.performance_prepare.specs.Groups as groups;
-ghost use Rattle.performance_prepare.specs.Middle as middles;
-ghost use Rattle.performance_prepare.specs.Parted.{IsParting, next_key, parted_cost};
-ghost use Rattle.std.specs.Prelude.{◌≡◌, ◌≤◌, List, ℕ, length, max, min};
+ghost use Rattle.performance_prepare.specs.Parted.{AreTwoHands, IsHand, IsParting, next_key, or_last, parted_cost};
+ghost use Rattle.rhythm_base.specs.declared.limits.TheConstants.{MOST_NOTES};
+ghost use Rattle.std.specs.Prelude.{◌≡◌, ◌≤◌, ◌<◌, ◌+◌, ◌++◌, ◌∷◌, ◌==◌, [], List, ℕ, if◌then◌else◌, length, min};
 ghost use Rattle.std.specs.List.{reduce};
 
 use hand_borders::BORDERS;
 
-/// How many keys are below a border.
-fn count_below(border: u8, keys: &[u8]) -> u64
-    ensures count { result ≡ length (middles.keys_below border keys.now) }
-    ensures few { result ≤ length keys.now }
-{
-    keys.iter().filter(|key| **key < border).count() as u64
+/// The keys of a hand: how many, and the lowest and the highest, 0 and 0 without one.
+#[derive(Clone, Copy)]
+pub struct Hand {
+    pub count: u64,
+    pub lowest: u8,
+    pub highest: u8,
 }
 
-/// How many keys are at a border or above it.
-fn count_from(border: u8, keys: &[u8]) -> u64
-    ensures count { result ≡ length (middles.keys_from border keys.now) }
-    ensures few { result ≤ length keys.now }
-{
-    keys.iter().filter(|key| **key >= border).count() as u64
-}
+/// No keys.
+const NO_KEYS: Hand = Hand {
+    count: 0,
+    lowest: 0,
+    highest: 0,
+};
 
-/// The lowest of the keys below a border.
-fn lowest_below(border: u8, keys: &[u8]) -> Option<u8>
-    ensures { result ≡ reduce min (middles.keys_below border keys.now) }
+/// The lowest of a hand's keys and one more.
+fn lowest_with(hand: Hand, key: u8) -> u8
+    ensures { result ≡ (if hand.count == 0 then key else min hand.lowest key) }
 {
-    keys.iter().copied().filter(|key| *key < border).min()
-}
-
-/// The highest of the keys below a border.
-fn highest_below(border: u8, keys: &[u8]) -> Option<u8>
-    ensures { result ≡ reduce max (middles.keys_below border keys.now) }
-{
-    keys.iter().copied().filter(|key| *key < border).max()
-}
-
-/// The lowest of the keys at a border or above it.
-fn lowest_from(border: u8, keys: &[u8]) -> Option<u8>
-    ensures { result ≡ reduce min (middles.keys_from border keys.now) }
-{
-    keys.iter().copied().filter(|key| *key >= border).min()
-}
-
-/// The highest of the keys at a border or above it.
-fn highest_from(border: u8, keys: &[u8]) -> Option<u8>
-    ensures { result ≡ reduce max (middles.keys_from border keys.now) }
-{
-    keys.iter().copied().filter(|key| *key >= border).max()
-}
-
-/// The semitones that the keys of a hand are apart, above an octave, by its lowest key and its highest.
-fn stretch(lowest: Option<u8>, highest: Option<u8>) -> u64
-    ensures stretch { (keys : List ℕ) → lowest ≡ reduce min keys → highest ≡ reduce max keys → result ≡ groups.stretch keys }
-    ensures low { result ≤ 255 }
-{
-    match (lowest, highest) {
-        (Some(low), Some(high)) => u64::from(high)
-            .saturating_sub(u64::from(low))
-            .saturating_sub(12),
-        _ => 0,
+    if hand.count == 0 {
+        key
+    } else {
+        hand.lowest.min(key)
     }
 }
 
-/// How many keys a hand holds that strikes so many.
-fn held_beside(struck: u64, held: u64) -> u64
-    ensures keys { (keys others : List ℕ) → struck ≡ length keys → held ≡ length others → result ≡ groups.held_beside keys others }
-    ensures few { result ≤ held }
+/// A hand with one key more.
+fn with_key(hand: Hand, key: u8) -> Hand
+    requires { hand.count < 4_000_000_000 }
+    ensures { (keys : List ℕ) → IsHand keys hand → IsHand (keys ++ key ∷ []) result }
 {
-    if struck == 0 { 0 } else { held }
+    Hand {
+        count: hand.count + 1,
+        lowest: lowest_with(hand, key),
+        highest: hand.highest.max(key),
+    }
+}
+
+/// The keys below a border, and the others.
+#[derive(Clone, Copy)]
+pub struct TwoHands {
+    pub left: Hand,
+    pub right: Hand,
+}
+
+/// The two hands with one key more.
+fn with_one(border: u8, hands: TwoHands, key: u8) -> TwoHands
+    requires left { hands.left.count < 4_000_000_000 }
+    requires right { hands.right.count < 4_000_000_000 }
+    ensures { (keys : List ℕ) → AreTwoHands border keys hands → AreTwoHands border (keys ++ key ∷ []) result }
+{
+    if key < border {
+        return TwoHands {
+            left: with_key(hands.left, key),
+            ..hands
+        };
+    }
+    TwoHands {
+        right: with_key(hands.right, key),
+        ..hands
+    }
+}
+
+/// The keys below a border and the others.
+fn two_hands(border: u8, keys: &[u8]) -> TwoHands
+    requires { length keys.now ≤ MOST_NOTES }
+    ensures { AreTwoHands border keys.now result }
+{
+    let mut hands = TwoHands {
+        left: NO_KEYS,
+        right: NO_KEYS,
+    };
+    for key in keys {
+        hands = with_one(border, hands, *key);
+    }
+    hands
+}
+
+/// The semitones that the keys of a hand are apart, above an octave.
+fn stretch(hand: Hand) -> u64
+    ensures stretch { (keys : List ℕ) → IsHand keys hand → result ≡ groups.stretch keys }
+    ensures low { result ≤ 255 }
+{
+    u64::from(hand.highest)
+        .saturating_sub(u64::from(hand.lowest))
+        .saturating_sub(12)
+}
+
+/// How many keys a hand holds that strikes these.
+fn held_beside(struck: Hand, held: Hand) -> u64
+    ensures keys { (keys others : List ℕ) → IsHand keys struck → IsHand others held → result ≡ groups.held_beside keys others }
+    ensures few { result ≤ held.count }
+{
+    if struck.count == 0 { 0 } else { held.count }
 }
 
 /// What a border costs by how it parts the keys of a group.
-fn parted(struck: &[u8], held: &[u8], border: u8) -> u64
-    requires { length held.now ≤ 128 }
-    ensures cost { result ≡ parted_cost struck.now held.now border }
+fn parted(struck: TwoHands, held: TwoHands) -> u64
+    requires left { held.left.count ≤ 128 }
+    requires right { held.right.count ≤ 128 }
+    ensures cost { (keys others : List ℕ) (border : ℕ) → AreTwoHands border keys struck → AreTwoHands border others held
+        → result ≡ parted_cost keys others border }
     ensures low { result ≤ 307_000 }
 {
-    let left = stretch(lowest_below(border, struck), highest_below(border, struck));
-    let right = stretch(lowest_from(border, struck), highest_from(border, struck));
-    let held_left = held_beside(count_below(border, struck), count_below(border, held));
-    let held_right = held_beside(count_from(border, struck), count_from(border, held));
-    100 * (left + right) + 1_000 * (held_left + held_right)
+    let apart = stretch(struck.left) + stretch(struck.right);
+    let holding = held_beside(struck.left, held.left) + held_beside(struck.right, held.right);
+    100 * apart + 1_000 * holding
 }
 
 /// The lowest of the keys at a border or above it, and the last border without one.
-fn next_key(border: u8, keys: &[u8]) -> u8
-    ensures { result ≡ next_key border keys.now }
+fn next_key(hands: TwoHands) -> u8
+    ensures { (keys : List ℕ) (border : ℕ) → AreTwoHands border keys hands → result ≡ next_key border keys }
 {
-    match lowest_from(border, keys) {
-        Some(key) => key,
-        None => BORDERS as u8 - 1,
+    if hands.right.count == 0 {
+        BORDERS as u8 - 1
+    } else {
+        hands.right.lowest
     }
 }
 
@@ -105,14 +137,17 @@ pub struct Parting {
 
 /// What the borders from one on cost, up to the next key.
 pub fn parting_from(struck: &[u8], held: &[u8], border: u8) -> Parting
+    requires struck { length struck.now ≤ MOST_NOTES }
     requires held { length held.now ≤ 128 }
     requires border { border ≤ 128 }
     ensures parting { IsParting struck.now held.now border result.last result.cost }
     ensures from { border ≤ result.last }
     ensures low { result.cost ≤ 307_000 }
 {
+    let struck = two_hands(border, struck);
+    let held = two_hands(border, held);
     Parting {
-        last: next_key(border, struck).min(next_key(border, held)),
-        cost: parted(struck, held, border),
+        last: next_key(struck).min(next_key(held)),
+        cost: parted(struck, held),
     }
 }

@@ -37,8 +37,8 @@ push_hands-requires c =
     let own : c.in_ok-own.own.items ≡ notes_of c.args.channel t.notes = search rules in
     record { notes = subst (All (IsPlayed 1000000000)) (sym (c.deref-9.ensures.value ∙ own)) (All-filter (λ (n : Note). n.channel == c.args.channel) (IsPlayed 1000000000) t.notes c.requires.notes) }
 
-pub in_order-requires : goal.in_order-requires
-in_order-requires c =
+pub in_order_with-requires : goal.in_order_with-requires
+in_order_with-requires c =
     let first : c.index.result.now ≡ get_or c.in_ok-free.free.items 0 0 = search rules in
     let long : c.in_ok-free.free.len ≡ length c.in_ok-free.free.items = search rules in
     let some : 0 < c.in_ok-free.free.len = has_some c.in_ok-free.free.len c.if-is_empty.ensures in
@@ -48,8 +48,8 @@ in_order-requires c =
     let eighth : c.deref-8.result.now ≡ c.args.take.notes = search rules in
     let tempos : c.in_ok-map.map.tempos ≡ c.args.take.tempos = search rules in
     let division : c.take.inside.division ≡ c.args.take.division = search rules in
-    distinct_hands c.args.channel c.args.within c.args.take c.requires c.in_ok-free.free.items c.in_ok-own.own.items c.in_ok-handed.handed.items c.push_hands.new.handed.items c.in_ok-borders.borders.items c.index.result.now
+    distinct_hands c.args.channel c.args.within c.args.take c.requires c.in_ok-free.free.items c.in_ok-own.own.items c.in_ok-handed.handed.items c.deref-11.result.now c.in_ok-borders.borders.items c.index.result.now
     more (c.in_ok-free.ensures ∙ ap free_channels seventh) first (c.in_ok-own.ensures ∙ ap (notes_of c.args.channel) third) (c.in_ok-handed.ensures ∙ ap (other_notes c.args.channel) eighth)
     (c.in_ok-borders.ensures ∙ (λ i. borders_of (tempos i) (division i) c.args.within (c.deref-4.ensures.value i)))
-    (c.in_ok-push_hands.ensures
+    (c.deref-11.ensures.value ∙ c.in_ok-push_hands.ensures
     ∙ (λ i. c.in_ok-handed.handed.items ++ handed_notes c.index.result.now (groups (tempos i) (division i) c.args.within (c.deref-9.ensures.value i)) (c.deref-10.ensures.value i)))
