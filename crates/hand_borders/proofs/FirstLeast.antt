@@ -39,13 +39,16 @@ not_both (x ∷ xs) (y ∷ ys) h k = elim (cases_order x y) [
 ]
 
 -- lists as long, of which neither is before the other, are one
-same_list : (gs : List (List ℕ)) (xs ys : List ℕ) → AreBorders gs xs → AreBorders gs ys → slice_cmp nat_cmp xs ys ≢ Less → slice_cmp nat_cmp ys xs ≢ Less → xs ≡ ys
+same_list : (gs : List (List ℕ)) (xs ys : List ℕ) → AreBorders gs xs → AreBorders gs ys → slice_cmp nat_cmp xs ys ≢ Less
+    → slice_cmp nat_cmp ys xs ≢ Less → xs ≡ ys
 same_list [] xs ys h k less more = h ∙ sym k
 same_list (g ∷ gs) [] ys h k less more = absurd h
 same_list (g ∷ gs) (x ∷ xs) [] h k less more = absurd k
 same_list (g ∷ gs) (x ∷ xs) (y ∷ ys) h k less more = elim (cases_order x y) [
   | inl e ↦ (
-      let rest : xs ≡ ys = same_list gs xs ys h.1 k.1 (λ b. less (subst (λ z. Before (x ∷ xs) (z ∷ ys)) e (before_tail x xs ys b))) (λ b. more (subst (λ z. Before (z ∷ ys) (x ∷ xs)) e (before_tail x ys xs b))) in
+      let rest : xs ≡ ys =
+      same_list gs xs ys h.1 k.1 (λ b. less (subst (λ z. Before (x ∷ xs) (z ∷ ys)) e (before_tail x xs ys b)))
+      (λ b. more (subst (λ z. Before (z ∷ ys) (x ∷ xs)) e (before_tail x ys xs b))) in
       λ i. e i ∷ rest i
       )
   | inr other ↦ elim other [
@@ -97,14 +100,16 @@ all_there : (gs : List (List ℕ)) (xs : List ℕ) → AreBorders gs xs → Amon
 all_there [] xs e = inl e
 all_there (g ∷ gs) [] h = absurd h
 all_there (g ∷ gs) (x ∷ xs) h =
-    among_flat (λ b. map (λ borders. b ∷ borders) (all_borders (length gs))) (range_with_len 0 129) x (x ∷ xs) (among_range 0 129 x (omega arith) (omega (arith, h.0)))
+    among_flat (λ b. map (λ borders. b ∷ borders) (all_borders (length gs))) (range_with_len 0 129) x (x ∷ xs)
+    (among_range 0 129 x (omega arith) (omega (arith, h.0)))
     (among_map (λ borders. x ∷ borders) (all_borders (length gs)) xs (all_there gs xs h.1))
 
 in_order : (n : ℕ) → Pairwise Before (all_borders n)
 in_order zero = ((λ y h. absurd h), tt)
 in_order (suc n) = every (in_order n) (range_with_len 0 129) (range_rises 0 129)
   where
-    every : Pairwise Before (all_borders n) → (bs : List ℕ) → Pairwise (λ x y. x < y) bs → Pairwise Before (flat_map (λ b. map (λ borders. b ∷ borders) (all_borders n)) bs)
+    every : Pairwise Before (all_borders n) → (bs : List ℕ) → Pairwise (λ x y. x < y) bs
+        → Pairwise Before (flat_map (λ b. map (λ borders. b ∷ borders) (all_borders n)) bs)
     every lists [] h = tt
     every lists (b ∷ bs) h =
         pairs_join Before (map (λ borders. b ∷ borders) (all_borders n)) (flat_map (λ b. map (λ borders. b ∷ borders) (all_borders n)) bs)
@@ -142,7 +147,8 @@ module _ (cost : List ℕ → ℕ) where
       same x (inr am) = absurd am
   best_first a (x ∷ xs) h = go (nat_lt (cost x) (cost a)) refl (best_first x xs h.1) (best_first a xs ((λ y am. h.0 y (inr am)), h.1.1))
     where
-      go : (b : Bool) → nat_lt (cost x) (cost a) ≡ b → IsFirstLeast (Best x xs) (x ∷ xs) → IsFirstLeast (Best a xs) (a ∷ xs) → IsFirstLeast (Best (cond b x a) xs) (a ∷ x ∷ xs)
+      go : (b : Bool) → nat_lt (cost x) (cost a) ≡ b → IsFirstLeast (Best x xs) (x ∷ xs) → IsFirstLeast (Best a xs) (a ∷ xs)
+          → IsFirstLeast (Best (cond b x a) xs) (a ∷ x ∷ xs)
       go true e with_x with_a = later with_x (grind (arith, nat_tests))
         where
           later : IsFirstLeast (Best x xs) (x ∷ xs) → cost x < cost a → IsFirstLeast (Best x xs) (a ∷ x ∷ xs)
@@ -157,7 +163,8 @@ module _ (cost : List ℕ → ℕ) where
               low y (inr am) = k.least y am
 
               lowest : (y : List ℕ) → Among y (a ∷ x ∷ xs) → cost y ≡ cost (Best x xs) → (y ≡ Best x xs) ⊎ Before (Best x xs) y
-              lowest y (inl e) s = let l = k.least x (inl refl) in let c : cost y ≡ cost a = ap cost e in absurd (omega (arith, l, lt, c, s))
+              lowest y (inl e) s = let l = k.least x (inl refl) in let c : cost y ≡ cost a = ap cost e in
+                  absurd (omega (arith, l, lt, c, s))
               lowest y (inr am) s = k.first y am s
       go false e with_x with_a = later with_a (grind (arith, nat_tests))
         where
@@ -187,7 +194,8 @@ module _ (cost : List ℕ → ℕ) where
 
               lowest : (y : List ℕ) → Among y (a ∷ x ∷ xs) → cost y ≡ cost (Best a xs) → (y ≡ Best a xs) ⊎ Before (Best a xs) y
               lowest y (inl e) s = k.first y (inl e) s
-              lowest y (inr (inl e)) s = inr (subst (Before (Best a xs)) (sym e) (behind k.there (sym (ap cost e) ∙ s) (k.least a (inl refl))))
+              lowest y (inr (inl e)) s =
+                  inr (subst (Before (Best a xs)) (sym e) (behind k.there (sym (ap cost e) ∙ s) (k.least a (inl refl))))
               lowest y (inr (inr am)) s = k.first y (inr am) s
 
 pub are_least : laws.LeastBordersAreLeast
@@ -196,9 +204,14 @@ are_least groups = go (all_borders (length groups)) (all_are groups) (all_there 
   where
     some : (n : ℕ) → (a : List ℕ) × Among a (all_borders n)
     some zero = ([], inl refl)
-    some (suc n) = let rest = some n in (0 ∷ rest.0, among_flat (λ b. map (λ borders. b ∷ borders) (all_borders n)) (range_with_len 0 129) 0 (0 ∷ rest.0) (among_range 0 129 0 (omega arith) (omega arith)) (among_map (λ borders. 0 ∷ borders) (all_borders n) rest.0 rest.1))
+    some (suc n) = let rest = some n in (
+      0 ∷ rest.0,
+      among_flat (λ b. map (λ borders. b ∷ borders) (all_borders n)) (range_with_len 0 129) 0 (0 ∷ rest.0)
+          (among_range 0 129 0 (omega arith) (omega arith)) (among_map (λ borders. 0 ∷ borders) (all_borders n) rest.0 rest.1),
+    )
 
-    go : (lists : List (List ℕ)) → ((xs : List ℕ) → Among xs lists → AreBorders groups xs) → ((xs : List ℕ) → AreBorders groups xs → Among xs lists) → Pairwise Before lists
+    go : (lists : List (List ℕ)) → ((xs : List ℕ) → Among xs lists → AreBorders groups xs)
+        → ((xs : List ℕ) → AreBorders groups xs → Among xs lists) → Pairwise Before lists
         → (a : List ℕ) × Among a lists → IsLeastBorders groups (first_least groups lists)
     go [] are there order any = absurd any.1
     go (a ∷ lists) are there order any =

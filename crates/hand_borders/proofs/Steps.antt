@@ -72,7 +72,8 @@ module _ (after : List ℕ) where
     first = λ j lt e. h.first j (omega arith) (omega (arith, e, lt));
   }
 
-  pub nearest_above : (k v c w e : ℕ) → IsNearestBelow after k v c → IsNearest after (k + 1) w e → w + 200 < v → IsNearest after k (w + 200) e
+  pub nearest_above : (k v c w e : ℕ) → IsNearestBelow after k v c → IsNearest after (k + 1) w e → w + 200 < v
+      → IsNearest after k (w + 200) e
   nearest_above k v c w e h n less = record {
     within = n.within;
     value = (elim (cases_order e k) [
@@ -98,7 +99,8 @@ module _ (after : List ℕ) where
     ]);
   }
 
-  pub nearest_own : (k v c w e : ℕ) → k < 129 → IsNearestBelow after k v c → IsNearest after (k + 1) w e → v ≤ w + 200 → IsNearest after k v c
+  pub nearest_own : (k v c w e : ℕ) → k < 129 → IsNearestBelow after k v c → IsNearest after (k + 1) w e → v ≤ w + 200
+      → IsNearest after k v c
   nearest_own k v c w e low h n more = record {
     within = omega (arith, h.within, low);
     value = omega (arith, h.value, h.within);
@@ -153,7 +155,8 @@ best_last group b lt = record {
     alone [] e less = cc
     alone (o ∷ others) e less = cc
 
-later_words : (c j : ℕ) (rest others : List ℕ) → c ≤ j → (j ≡ c → slice_cmp nat_cmp others rest ≢ Less) → slice_cmp nat_cmp (j ∷ others) (c ∷ rest) ≢ Less
+later_words : (c j : ℕ) (rest others : List ℕ) → c ≤ j → (j ≡ c → slice_cmp nat_cmp others rest ≢ Less)
+    → slice_cmp nat_cmp (j ∷ others) (c ∷ rest) ≢ Less
 later_words c j rest others le same less = elim (cases_order c j) [
   | inl e ↦ same (sym e) (grind (arith, nat_tests))
   | inr other ↦ elim other [
@@ -163,7 +166,8 @@ later_words c j rest others le same less = elim (cases_order c j) [
 ]
 
 module _ (group next : List ℕ) (groups : List (List ℕ)) (after : List ℕ) (rows : List (List ℕ)) (cost choice sums : List ℕ) where
-  pub best_more : AreBest (next ∷ groups) after rows → AreNearest after cost choice → ((k : ℕ) → k < 129 → slice_index sums k ≡ slice_index group k + slice_index cost k)
+  pub best_more : AreBest (next ∷ groups) after rows → AreNearest after cost choice
+      → ((k : ℕ) → k < 129 → slice_index sums k ≡ slice_index group k + slice_index cost k)
       → AreBest (group ∷ next ∷ groups) sums (choice ∷ rows)
   best_more best near sum b lt =
       let n = near b lt in
@@ -181,8 +185,11 @@ module _ (group next : List ℕ) (groups : List (List ℕ)) (after : List ℕ) (
       at_least n [] are = absurd are
       at_least n (j ∷ others) are = let l = n.least j are.0 in let m = (best j are.0).least others are in omega (arith, l, m)
 
-      none_before : IsNearest after b (slice_index cost b) (slice_index choice b) → IsBestFrom (next ∷ groups) (slice_index choice b) (slice_index after (slice_index choice b)) (follow rows (slice_index choice b))
-          → (others : List ℕ) → AreBorders (next ∷ groups) others → cost_of (group ∷ next ∷ groups) (b ∷ others) ≡ slice_index group b + slice_index cost b
+      none_before : IsNearest after b (slice_index cost b) (slice_index choice b)
+          → IsBestFrom (next ∷ groups) (slice_index choice b) (slice_index after (slice_index choice b))
+          (follow rows (slice_index choice b))
+          → (others : List ℕ) → AreBorders (next ∷ groups) others
+          → cost_of (group ∷ next ∷ groups) (b ∷ others) ≡ slice_index group b + slice_index cost b
           → slice_cmp nat_cmp others (slice_index choice b ∷ follow rows (slice_index choice b)) ≢ Less
       none_before n from [] are e = absurd are
       none_before n from (j ∷ others) are e =
@@ -191,20 +198,26 @@ module _ (group next : List ℕ) (groups : List (List ℕ)) (after : List ℕ) (
           let cheap : slice_index after j + 200 * gap b j ≡ slice_index cost b = omega (arith, l, m, e) in
           let equal : cost_of (next ∷ groups) (j ∷ others) ≡ slice_index after j = omega (arith, l, m, e) in
           later_words (slice_index choice b) j (follow rows (slice_index choice b)) others (n.first j are.0 cheap)
-          (λ same. from.first others (subst (λ i. AreBorders (next ∷ groups) (i ∷ others)) same are) (subst (λ i. cost_of (next ∷ groups) (i ∷ others) ≡ slice_index after i) same equal))
+          (λ same. from.first others (subst (λ i. AreBorders (next ∷ groups) (i ∷ others)) same are)
+          (subst (λ i. cost_of (next ∷ groups) (i ∷ others) ≡ slice_index after i) same equal))
 
-pub best_of_all : (group : List ℕ) (groups : List (List ℕ)) (after : List ℕ) (rows : List (List ℕ)) (b : ℕ) → AreBest (group ∷ groups) after rows → IsLowest after b → IsLeastBorders (group ∷ groups) (b ∷ follow rows b)
+pub best_of_all : (group : List ℕ) (groups : List (List ℕ)) (after : List ℕ) (rows : List (List ℕ)) (b : ℕ)
+    → AreBest (group ∷ groups) after rows → IsLowest after b → IsLeastBorders (group ∷ groups) (b ∷ follow rows b)
 best_of_all group groups after rows b best lowest = record {
   are = (best b lowest.within).are;
   least = λ others are. at_least others are;
   first = λ others are e. none_before others are e;
 }
   where
-    at_least : (others : List ℕ) → AreBorders (group ∷ groups) others → cost_of (group ∷ groups) (b ∷ follow rows b) ≤ cost_of (group ∷ groups) others
+    at_least : (others : List ℕ) → AreBorders (group ∷ groups) others
+        → cost_of (group ∷ groups) (b ∷ follow rows b) ≤ cost_of (group ∷ groups) others
     at_least [] are = absurd are
-    at_least (j ∷ others) are = let v = (best b lowest.within).value in let l = lowest.least j are.0 in let m = (best j are.0).least others are in omega (arith, v, l, m)
+    at_least (j ∷ others) are = let v = (best b lowest.within).value in let l = lowest.least j are.0 in
+        let m = (best j are.0).least others are in omega (arith, v, l, m)
 
-    none_before : (others : List ℕ) → AreBorders (group ∷ groups) others → cost_of (group ∷ groups) others ≡ cost_of (group ∷ groups) (b ∷ follow rows b) → slice_cmp nat_cmp others (b ∷ follow rows b) ≢ Less
+    none_before : (others : List ℕ) → AreBorders (group ∷ groups) others
+        → cost_of (group ∷ groups) others ≡ cost_of (group ∷ groups) (b ∷ follow rows b)
+        → slice_cmp nat_cmp others (b ∷ follow rows b) ≢ Less
     none_before [] are e = absurd are
     none_before (j ∷ others) are e =
         let v = (best b lowest.within).value in
@@ -213,4 +226,5 @@ best_of_all group groups after rows b best lowest = record {
         let cheap : slice_index after j ≡ slice_index after b = omega (arith, v, l, m, e) in
         let equal : cost_of (group ∷ groups) (j ∷ others) ≡ slice_index after j = omega (arith, v, l, m, e) in
         later_words b j (follow rows b) others (lowest.first j are.0 cheap)
-        (λ same. (best b lowest.within).first others (subst (λ i. AreBorders (group ∷ groups) (i ∷ others)) same are) (subst (λ i. cost_of (group ∷ groups) (i ∷ others) ≡ slice_index after i) same equal))
+        (λ same. (best b lowest.within).first others (subst (λ i. AreBorders (group ∷ groups) (i ∷ others)) same are)
+        (subst (λ i. cost_of (group ∷ groups) (i ∷ others) ≡ slice_index after i) same equal))

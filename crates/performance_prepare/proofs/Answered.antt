@@ -40,7 +40,8 @@ timely t u h = by (ltb 1000000000 (greatest_end t.notes)) h
 pub ends_early : (t u : Take) → Ok u ≡ unless_late t → greatest_end t.notes ≤ 1000000000
 ends_early t u h = by (ltb 1000000000 (greatest_end t.notes)) refl h
   where
-    by : (b : Bool) → ltb 1000000000 (greatest_end t.notes) ≡ b → Ok u ≡ cond b (Err (TooLate (greatest_end t.notes))) (Ok t) → greatest_end t.notes ≤ 1000000000
+    by : (b : Bool) → ltb 1000000000 (greatest_end t.notes) ≡ b → Ok u ≡ cond b (Err (TooLate (greatest_end t.notes))) (Ok t)
+        → greatest_end t.notes ≤ 1000000000
     by true is h = absurd (cc)
     by false is h = grind (arith, nat_tests)
 
@@ -50,7 +51,8 @@ pub least_reduced : (xs : List ℕ) (n : ℕ) → Some n ≡ reduce min xs → n
 least_reduced [] n h = absurd (cc)
 least_reduced (x ∷ xs) n h = cc
 
-pub placed_answers : (bar : ℕ) (u : Fraction) (t : Take) (r : Result Take PrepareFault) → (4 * t.division * u.num) % u.den ≡ 0 → (4 * t.division * u.num) / u.den ≤ bar
+pub placed_answers : (bar : ℕ) (u : Fraction) (t : Take) (r : Result Take PrepareFault) → (4 * t.division * u.num) % u.den ≡ 0
+    → (4 * t.division * u.num) / u.den ≤ bar
     → r ≡ unless_late (shifted_take (upbeat_shift bar ((4 * t.division * u.num) / u.den) t) t) → Answers (placed bar u t) r
 placed_answers bar u t r whole fits is = same_answers (placed bar u t) r (is ∙ sym opened)
   where
@@ -63,14 +65,17 @@ placed_answers bar u t r whole fits is = same_answers (placed bar u t) r (is ∙
     opened : placed bar u t ≡ unless_late (shifted_take (upbeat_shift bar (ticks_of t.division u) t) t)
     opened = rw (holds, below) refl
 
-pub placed_in_answers : (o : Option ℕ) (bar : ℕ) (u : Fraction) (t : Take) (r : Result Take PrepareFault) → Some bar ≡ o → Answers (placed bar u t) r → Answers (placed_in o u t) r
+pub placed_in_answers : (o : Option ℕ) (bar : ℕ) (u : Fraction) (t : Take) (r : Result Take PrepareFault) → Some bar ≡ o
+    → Answers (placed bar u t) r → Answers (placed_in o u t) r
 placed_in_answers o bar u t r is h = subst (λ p. Answers (placed_in p u t) r) is h
 
 -- ---- the tempo
 
-pub tempo_answers : (q : ℕ) (t : Take) (r o : Result Take PrepareFault) → (new_division q t ≡ 0 → ⊥) → new_division q t ≤ 32767 → o ≡ unless_late (shifted_take (finer_shift t) t)
+pub tempo_answers : (q : ℕ) (t : Take) (r o : Result Take PrepareFault) → (new_division q t ≡ 0 → ⊥) → new_division q t ≤ 32767
+    → o ≡ unless_late (shifted_take (finer_shift t) t)
     → Answers (then_retimed (new_division q t) (fine_division t) (tempo_at t.tempos 0) o) r → Answers (with_tempo q t) r
-tempo_answers q t r o some few is h = subst (λ m. Answers m r) (ap (then_retimed (new_division q t) (fine_division t) (tempo_at t.tempos 0)) is ∙ sym opened) h
+tempo_answers q t r o some few is h =
+    subst (λ m. Answers m r) (ap (then_retimed (new_division q t) (fine_division t) (tempo_at t.tempos 0)) is ∙ sym opened) h
   where
     more : eqb (new_division q t) 0 ≡ false
     more = grind (arith, nat_tests)
@@ -78,5 +83,6 @@ tempo_answers q t r o some few is h = subst (λ m. Answers m r) (ap (then_retime
     below : ltb 32767 (new_division q t) ≡ false
     below = grind (arith, nat_tests)
 
-    opened : with_tempo q t ≡ then_retimed (new_division q t) (fine_division t) (tempo_at t.tempos 0) (unless_late (shifted_take (finer_shift t) t))
+    opened : with_tempo q t ≡ then_retimed (new_division q t) (fine_division t) (tempo_at t.tempos 0)
+        (unless_late (shifted_take (finer_shift t) t))
     opened = rw (more, below) refl

@@ -35,7 +35,8 @@ unfolding finer
 are_fine zero division times some h = h
 are_fine (suc n) division times some h = go (ltb 8192 (2 * times * division)) refl (λ next. are_fine n division (2 * times) some next)
   where
-    go : (b : Bool) → ltb 8192 (2 * times * division) ≡ b → (IsFine division (2 * times) → IsFine division (finer n division (2 * times))) → IsFine division (cond b times (finer n division (2 * times)))
+    go : (b : Bool) → ltb 8192 (2 * times * division) ≡ b → (IsFine division (2 * times) → IsFine division (finer n division (2 * times)))
+        → IsFine division (cond b times (finer n division (2 * times)))
     go true is more = h
     go false is more = more (record { some = omega (arith, h.some); near = inr (low_test (2 * times * division) is) })
 

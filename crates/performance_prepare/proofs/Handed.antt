@@ -55,30 +55,42 @@ module _ (tempos : List Tempo) (division within : ℕ) where
   G notes = groups tempos division within notes
 
   pub count_more : (notes : List Note) (borders : List ℕ) (start end i b count more all : ℕ) → i < length borders → b ≡ get_or borders i 0
-      → G (drop start notes) ≡ slice_range notes start end ∷ G (drop end notes) → more ≡ count + length (notes_below b (slice_range notes start end))
-      → count + length (left_notes (G (drop start notes)) (drop i borders)) ≡ all → more + length (left_notes (G (drop end notes)) (drop (i + 1) borders)) ≡ all
+      → G (drop start notes) ≡ slice_range notes start end ∷ G (drop end notes)
+      → more ≡ count + length (notes_below b (slice_range notes start end))
+      → count + length (left_notes (G (drop start notes)) (drop i borders)) ≡ all
+      → more + length (left_notes (G (drop end notes)) (drop (i + 1) borders)) ≡ all
   count_more notes borders start end i b count more all lt is first e h =
-      let here : left_notes (G (drop start notes)) (drop i borders) ≡ notes_below b (slice_range notes start end) ++ left_notes (G (drop end notes)) (drop (i + 1) borders) =
-      (λ j. left_notes (first j) (drop_more borders i 0 lt j)) ∙ ap (λ k. notes_below k (slice_range notes start end) ++ left_notes (G (drop end notes)) (drop (i + 1) borders)) (sym is) in
-      let long : length (left_notes (G (drop start notes)) (drop i borders)) ≡ length (notes_below b (slice_range notes start end)) + length (left_notes (G (drop end notes)) (drop (i + 1) borders)) =
-      ap length here ∙ length-append (notes_below b (slice_range notes start end)) (left_notes (G (drop end notes)) (drop (i + 1) borders)) in
+      let here : left_notes (G (drop start notes)) (drop i borders)
+      ≡ notes_below b (slice_range notes start end) ++ left_notes (G (drop end notes)) (drop (i + 1) borders) =
+      (λ j. left_notes (first j) (drop_more borders i 0 lt j))
+      ∙ ap (λ k. notes_below k (slice_range notes start end) ++ left_notes (G (drop end notes)) (drop (i + 1) borders)) (sym is) in
+      let long : length (left_notes (G (drop start notes)) (drop i borders))
+      ≡ length (notes_below b (slice_range notes start end)) + length (left_notes (G (drop end notes)) (drop (i + 1) borders)) =
+      ap length here ∙ length-append (notes_below b (slice_range notes start end))
+      (left_notes (G (drop end notes)) (drop (i + 1) borders)) in
       omega (arith, long, e, h)
 
-  pub count_early : (notes : List Note) (bs : List ℕ) (start count all : ℕ) → length notes ≤ start → count + length (left_notes (G (drop start notes)) bs) ≡ all → count ≡ all
+  pub count_early : (notes : List Note) (bs : List ℕ) (start count all : ℕ) → length notes ≤ start
+      → count + length (left_notes (G (drop start notes)) bs) ≡ all → count ≡ all
   count_early notes bs start count all past h =
       let none : left_notes (G (drop start notes)) bs ≡ [] = ap (λ ns. left_notes (G ns) bs) (drop_all notes start past) in
       let zero_long : length (left_notes (G (drop start notes)) bs) ≡ 0 = ap length none in
       omega (arith, zero_long, h)
 
-  pub count_end : (notes : List Note) (borders : List ℕ) (start i count all : ℕ) → length borders ≤ i → count + length (left_notes (G (drop start notes)) (drop i borders)) ≡ all → count ≡ all
+  pub count_end : (notes : List Note) (borders : List ℕ) (start i count all : ℕ) → length borders ≤ i
+      → count + length (left_notes (G (drop start notes)) (drop i borders)) ≡ all → count ≡ all
   count_end notes borders start i count all past h =
-      let none : left_notes (G (drop start notes)) (drop i borders) ≡ [] = ap (left_notes (G (drop start notes))) (drop_all borders i past) ∙ no_left (G (drop start notes)) in
+      let none : left_notes (G (drop start notes)) (drop i borders) ≡ [] = ap (left_notes (G (drop start notes))) (drop_all borders i past)
+      ∙ no_left (G (drop start notes)) in
       let zero_long : length (left_notes (G (drop start notes)) (drop i borders)) ≡ 0 = ap length none in
       omega (arith, zero_long, h)
 
-  pub handed_end : (left : ℕ) (notes list all : List Note) (borders : List ℕ) (start i : ℕ) → length borders ≤ i → list ++ handed_notes left (G (drop start notes)) (drop i borders) ≡ all → list ≡ all
+  pub handed_end : (left : ℕ) (notes list all : List Note) (borders : List ℕ) (start i : ℕ) → length borders ≤ i
+      → list ++ handed_notes left (G (drop start notes)) (drop i borders) ≡ all → list ≡ all
   handed_end left notes list all borders start i past h =
-      sym (append-nil list) ∙ ap (λ ns. list ++ ns) (sym (ap (handed_notes left (G (drop start notes))) (drop_all borders i past) ∙ no_handed left (G (drop start notes)))) ∙ h
+      sym (append-nil list)
+      ∙ ap (λ ns. list ++ ns) (sym (ap (handed_notes left (G (drop start notes))) (drop_all borders i past)
+      ∙ no_handed left (G (drop start notes)))) ∙ h
 
 -- ---- the parts of a list are the list
 
@@ -87,7 +99,8 @@ module _ {X : Type 0} (joins : List X → X → X → Bool) where
   flat_from [] part last = refl
   flat_from (x ∷ xs) part last = go (joins part last x) (flat_from xs (part ++ x ∷ []) x) (flat_from xs (x ∷ []) x)
     where
-      go : (b : Bool) → flat_map (λ p. p) (parts_from joins (part ++ x ∷ []) x xs) ≡ (part ++ x ∷ []) ++ xs → flat_map (λ p. p) (parts_from joins (x ∷ []) x xs) ≡ x ∷ xs
+      go : (b : Bool) → flat_map (λ p. p) (parts_from joins (part ++ x ∷ []) x xs) ≡ (part ++ x ∷ []) ++ xs
+          → flat_map (λ p. p) (parts_from joins (x ∷ []) x xs) ≡ x ∷ xs
           → flat_map (λ p. p) (cond b (parts_from joins (part ++ x ∷ []) x xs) (part ∷ parts_from joins (x ∷ []) x xs)) ≡ part ++ x ∷ xs
       go true on next = on ∙ append_assoc part (x ∷ []) xs
       go false on next = ap (λ ys. part ++ ys) next
@@ -98,7 +111,8 @@ module _ {X : Type 0} (joins : List X → X → X → Bool) where
 
 -- ---- a border for each group
 
-pub each_group : (tempos : List Tempo) (division middle : ℕ) (before : List Note) (gs : List (List Note)) (bs : List ℕ) → AreBorders (costs_after tempos division middle before gs) bs → Each (λ (g : List Note) (b : ℕ). b < 129) gs bs
+pub each_group : (tempos : List Tempo) (division middle : ℕ) (before : List Note) (gs : List (List Note)) (bs : List ℕ)
+    → AreBorders (costs_after tempos division middle before gs) bs → Each (λ (g : List Note) (b : ℕ). b < 129) gs bs
 each_group tempos division middle before [] bs h = h
 each_group tempos division middle before (g ∷ gs) [] h = absurd h
 each_group tempos division middle before (g ∷ gs) (b ∷ bs) h = (h.0, each_group tempos division middle (before ++ g) gs bs h.1)
@@ -117,7 +131,8 @@ sides_permuted channel notes =
 
 not_sounding : (notes : List Note) (c : ℕ) → sounds notes c ≡ false → (n : Note) → Among n notes → n.channel ≢ c
 not_sounding [] c e n am same = absurd am
-not_sounding (m ∷ notes) c e n (inl is) same = let at : m.channel ≡ c = sym (ap (λ (x : Note). x.channel) is) ∙ same in absurd (here (eqb m.channel c) refl at e)
+not_sounding (m ∷ notes) c e n (inl is) same = let at : m.channel ≡ c = sym (ap (λ (x : Note). x.channel) is) ∙ same in
+    absurd (here (eqb m.channel c) refl at e)
   where
     here : (b : Bool) → eqb m.channel c ≡ b → m.channel ≡ c → (b || sounds notes c) ≡ false → ⊥
     here true is at h = cc
@@ -147,7 +162,8 @@ module _ (c left : ℕ) where
       by true = inr (own, refl)
       by false = inl refl
 
-  each_handed : (gs : List (List Note)) (bs : List ℕ) → Each (λ (g : List Note) (b : ℕ). b < 129) gs bs → ((n : Note) → Among n (flat_map (λ g. g) gs) → n.channel ≡ c) → Each IsHanded (flat_map (λ g. g) gs) (handed_notes left gs bs)
+  each_handed : (gs : List (List Note)) (bs : List ℕ) → Each (λ (g : List Note) (b : ℕ). b < 129) gs bs
+      → ((n : Note) → Among n (flat_map (λ g. g) gs) → n.channel ≡ c) → Each IsHanded (flat_map (λ g. g) gs) (handed_notes left gs bs)
   each_handed [] bs h own = refl
   each_handed (g ∷ gs) [] h own = absurd h
   each_handed (g ∷ gs) (b ∷ bs) h own =
@@ -175,16 +191,20 @@ module _ (c left : ℕ) where
       same a b d = grind (arith, nat_tests)
 
       clash : z.channel ≡ w.channel → z.onset ≡ w.onset → z.key ≡ w.key → IsHanded n z → IsHanded m w → ⊥
-      clash a b d (inl e) (inl f) = same (sym (ap (λ (x : Note). x.channel) e) ∙ a ∙ ap (λ (x : Note). x.channel) f) (sym (ap (λ (x : Note). x.onset) e) ∙ b ∙ ap (λ (x : Note). x.onset) f) (sym (ap (λ (x : Note). x.key) e) ∙ d ∙ ap (λ (x : Note). x.key) f)
+      clash a b d (inl e) (inl f) = same (sym (ap (λ (x : Note). x.channel) e) ∙ a
+          ∙ ap (λ (x : Note). x.channel) f) (sym (ap (λ (x : Note). x.onset) e) ∙ b
+          ∙ ap (λ (x : Note). x.onset) f) (sym (ap (λ (x : Note). x.key) e) ∙ d ∙ ap (λ (x : Note). x.key) f)
       clash a b d (inl e) (inr f) = nl (sym (ap (λ (x : Note). x.channel) e) ∙ a ∙ ap (λ (x : Note). x.channel) f.1)
       clash a b d (inr e) (inl f) = ml (sym (ap (λ (x : Note). x.channel) f) ∙ sym a ∙ ap (λ (x : Note). x.channel) e.1)
-      clash a b d (inr e) (inr f) = same (e.0 ∙ sym f.0) (sym (ap (λ (x : Note). x.onset) e.1) ∙ b ∙ ap (λ (x : Note). x.onset) f.1) (sym (ap (λ (x : Note). x.key) e.1) ∙ d ∙ ap (λ (x : Note). x.key) f.1)
+      clash a b d (inr e) (inr f) = same (e.0 ∙ sym f.0) (sym (ap (λ (x : Note). x.onset) e.1) ∙ b
+          ∙ ap (λ (x : Note). x.onset) f.1) (sym (ap (λ (x : Note). x.key) e.1) ∙ d ∙ ap (λ (x : Note). x.key) f.1)
 
       by : (t : Bool) → same_place z w ≡ t → t ≡ false
       by true e = absurd (clash (grind (arith, nat_tests)) (grind (arith, nat_tests)) (grind (arith, nat_tests)) hn hm)
       by false e = refl
 
-  pairs_apart : (ns zs : List Note) → Each IsHanded ns zs → ((n : Note) → Among n ns → n.channel ≢ left) → Pairwise Apart ns → Pairwise Apart zs
+  pairs_apart : (ns zs : List Note) → Each IsHanded ns zs → ((n : Note) → Among n ns → n.channel ≢ left) → Pairwise Apart ns
+      → Pairwise Apart zs
   pairs_apart [] zs h others apart = subst (Pairwise Apart) (sym h) tt
   pairs_apart (n ∷ ns) [] h others apart = absurd h
   pairs_apart (n ∷ ns) (z ∷ zs) h others apart = (
@@ -194,7 +214,12 @@ module _ (c left : ℕ) where
 
   handed_played : (latest : ℕ) → left < 16 → (n z : Note) → IsPlayed latest n → IsHanded n z → IsPlayed latest z
   handed_played latest low n z h (inl e) = subst (IsPlayed latest) (sym e) h
-  handed_played latest low n z h (inr e) = subst (IsPlayed latest) (sym e.1) (record { channel = low; key = h.key; after = h.after; within = h.within })
+  handed_played latest low n z h (inr e) = subst (IsPlayed latest) (sym e.1) (record {
+    channel = low;
+    key = h.key;
+    after = h.after;
+    within = h.within;
+  })
 
   pub handed_unvoiced : (ns zs : List Note) → Each IsHanded ns zs → map unvoiced zs ≡ map unvoiced ns
   handed_unvoiced [] zs h = ap (map unvoiced) h
@@ -234,15 +259,18 @@ module _ (channel within left : ℕ) (t : Take) (formed : IsTakeFormed t) where
 
   pub hands_each : Each (IsHanded channel left) (Others ++ Own) Hands
   hands_each =
-      let borders = each_group t.tempos t.division (middle_of Own) [] Groups Borders (are_least (costs t.tempos t.division (middle_of Own) Groups)).are in
+      let borders = each_group t.tempos t.division (middle_of Own) [] Groups Borders
+      (are_least (costs t.tempos t.division (middle_of Own) Groups)).are in
       let each = each_handed channel left Groups Borders borders (λ n am. own n (subst (Among n) flat am)) in
-      each_append (IsHanded channel left) Others Own Others (handed_notes left Groups Borders) (each_self channel left Others) (subst (λ ns. Each (IsHanded channel left) ns (handed_notes left Groups Borders)) flat each)
+      each_append (IsHanded channel left) Others Own Others (handed_notes left Groups Borders) (each_self channel left Others)
+      (subst (λ ns. Each (IsHanded channel left) ns (handed_notes left Groups Borders)) flat each)
 
   pub both_permuted : IsPermutation t.notes (Others ++ Own)
   both_permuted = sides_permuted channel t.notes
 
   places : Pairwise (λ m n. same_place m n ≡ false) t.notes
-  places = pairs_weaken Before (λ m n. same_place m n ≡ false) t.notes apart (notes_before 1000000000 t.notes formed.notes formed.notes_in_order)
+  places = pairs_weaken Before (λ m n. same_place m n ≡ false) t.notes apart
+      (notes_before 1000000000 t.notes formed.notes formed.notes_in_order)
     where
       apart : (m n : Note) → Before m n → same_place m n ≡ false
       apart m n (inl lt) = channel_apart [] 0 0 m n lt
@@ -250,7 +278,8 @@ module _ (channel within left : ℕ) (t : Take) (formed : IsTakeFormed t) where
 
   both_apart : Pairwise (λ m n. same_place m n ≡ false) (Others ++ Own)
   both_apart =
-      pairs_join (λ m n. same_place m n ≡ false) Others Own (pairs_filter (λ m n. same_place m n ≡ false) (λ m. not (m.channel == channel)) t.notes places)
+      pairs_join (λ m n. same_place m n ≡ false) Others Own
+      (pairs_filter (λ m n. same_place m n ≡ false) (λ m. not (m.channel == channel)) t.notes places)
       (pairs_filter (λ m n. same_place m n ≡ false) (λ m. m.channel == channel) t.notes places)
       (λ m n am an. differ m n (other m am) (own n an))
     where
@@ -285,7 +314,8 @@ module _ (channel within left : ℕ) (t : Take) (formed : IsTakeFormed t) where
         some_note = omega (arith, formed.some_note, long, many, whole);
         few_notes = omega (arith, formed.few_notes, long, many, whole);
         notes = All-permutation (IsPlayed 1000000000) Hands (in_order Hands) moved
-            (all_each (IsHanded channel left) (IsPlayed 1000000000) (IsPlayed 1000000000) (Others ++ Own) Hands (λ n z p h. handed_played channel left 1000000000 low n z p h) hands_each
+            (all_each (IsHanded channel left) (IsPlayed 1000000000) (IsPlayed 1000000000) (Others ++ Own) Hands
+            (λ n z p h. handed_played channel left 1000000000 low n z p h) hands_each
             (All-permutation (IsPlayed 1000000000) t.notes (Others ++ Own) both_permuted formed.notes));
         notes_in_order = subst (AreInOrder place_of_note) (sym (same_order Hands)) (placed_in_order Hands (hands_distinct free));
         tempos = formed.tempos;
@@ -339,14 +369,21 @@ hands_ready latest channel within t u is ready = elim (hands_ok channel within t
       )
 ]
 
-pub distinct_hands : (channel within : ℕ) (t : Take) → IsTakeFormed t → (free : List ℕ) (own others hands : List Note) (borders : List ℕ) (left : ℕ) → 0 < length free → free ≡ free_channels t.notes → left ≡ get_or free 0 0
-    → own ≡ notes_of channel t.notes → others ≡ other_notes channel t.notes → borders ≡ borders_of t.tempos t.division within own → hands ≡ others ++ handed_notes left (groups t.tempos t.division within own) borders
+pub distinct_hands : (channel within : ℕ) (t : Take) → IsTakeFormed t
+    → (free : List ℕ) (own others hands : List Note) (borders : List ℕ) (left : ℕ) → 0 < length free → free ≡ free_channels t.notes
+    → left ≡ get_or free 0 0
+    → own ≡ notes_of channel t.notes → others ≡ other_notes channel t.notes → borders ≡ borders_of t.tempos t.division within own
+    → hands ≡ others ++ handed_notes left (groups t.tempos t.division within own) borders
     → IsDistinct same_place hands
 distinct_hands channel within t formed free own others hands borders left some is first e f g h =
     let quiet : sounds t.notes left ≡ false =
-    subst (λ c. sounds t.notes c ≡ false) (sym (first ∙ ap (λ cs. get_or cs 0 0) is)) (silent 0 t.notes 0 (subst (λ cs. 0 < length cs) is some)) in
-    let whole : hands ≡ other_notes channel t.notes ++ handed_notes left (groups t.tempos t.division within (notes_of channel t.notes)) (borders_of t.tempos t.division within (notes_of channel t.notes)) =
-    h ∙ (λ i. f i ++ handed_notes left (groups t.tempos t.division within (e i)) (g i)) ∙ (λ i. other_notes channel t.notes ++ handed_notes left (groups t.tempos t.division within (notes_of channel t.notes)) (borders_of t.tempos t.division within (e i))) in
+    subst (λ c. sounds t.notes c ≡ false) (sym (first ∙ ap (λ cs. get_or cs 0 0) is))
+    (silent 0 t.notes 0 (subst (λ cs. 0 < length cs) is some)) in
+    let whole : hands ≡ other_notes channel t.notes ++ handed_notes left (groups t.tempos t.division within (notes_of channel t.notes))
+    (borders_of t.tempos t.division within (notes_of channel t.notes)) =
+    h ∙ (λ i. f i ++ handed_notes left (groups t.tempos t.division within (e i)) (g i))
+    ∙ (λ i. other_notes channel t.notes ++ handed_notes left (groups t.tempos t.division within (notes_of channel t.notes))
+    (borders_of t.tempos t.division within (e i))) in
     subst (IsDistinct same_place) (sym whole) (hands_distinct channel within left t formed quiet)
 
 pub has_some : (n : ℕ) → false ≡ eqb n 0 → 0 < n

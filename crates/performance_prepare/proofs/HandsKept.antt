@@ -21,14 +21,17 @@ use Rattle.performance_prepare.proofs.Parting.{order_permuted}
 -- ---- least
 
 pub least_hands : laws.HandsAreLeast
-least_hands channel within t = are_least (costs t.tempos t.division (middle_of (notes_of channel t.notes)) (groups t.tempos t.division within (notes_of channel t.notes)))
+least_hands channel within t =
+    are_least (costs t.tempos t.division (middle_of (notes_of channel t.notes))
+    (groups t.tempos t.division within (notes_of channel t.notes)))
 
 -- ---- apart
 
 pub apart_hands : laws.HandsLieApart
 apart_hands left border m n ml nl h k = by (nat_lt m.key border) refl (nat_lt n.key border) refl h k
   where
-    by : (a : Bool) → nat_lt m.key border ≡ a → (b : Bool) → nat_lt n.key border ≡ b → (cond a (record m { channel = left }) m).channel ≡ left → (cond b (record n { channel = left }) n).channel ≢ left → m.key < n.key
+    by : (a : Bool) → nat_lt m.key border ≡ a → (b : Bool) → nat_lt n.key border ≡ b
+        → (cond a (record m { channel = left }) m).channel ≡ left → (cond b (record n { channel = left }) n).channel ≢ left → m.key < n.key
     by false e b f h k = absurd (ml h)
     by true e true f h k = absurd (k refl)
     by true e false f h k = below (test_less m.key border e) (test_more n.key border f)
@@ -77,22 +80,28 @@ module _ (channel within : ℕ) (t : Take) (formed : IsTakeFormed t) where
       record {
         same = IsPermutation-trans (map unvoiced t.notes) (map unvoiced both) (map unvoiced (in_order hands))
             (IsPermutation-map unvoiced t.notes both (both_permuted channel within left t formed))
-            (subst (λ ns. IsPermutation ns (map unvoiced (in_order hands))) (handed_unvoiced channel left both hands each) (IsPermutation-map unvoiced hands (in_order hands) moved));
+            (subst (λ ns. IsPermutation ns (map unvoiced (in_order hands))) (handed_unvoiced channel left both hands each)
+            (IsPermutation-map unvoiced hands (in_order hands) moved));
         stay = λ n other there.
-            let among : Among n (Others channel within left t formed) = kept_by (λ m. not (m.channel == channel)) t.notes n (among_contained t.notes n there) (differ n.channel channel other) in
-            Contains-permutation hands (in_order hands) n moved (place_among hands n (among_left (Others channel within left t formed) _ n among));
+            let among : Among n (Others channel within left t formed) =
+            kept_by (λ m. not (m.channel == channel)) t.notes n (among_contained t.notes n there) (differ n.channel channel other) in
+            Contains-permutation hands (in_order hands) n moved
+            (place_among hands n (among_left (Others channel within left t formed) _ n among));
         one = λ m n cm cn sm sn. new m cm sm ∙ sym (new n cn sn);
       }
     where
       new : (m : Note) → Contains (in_order (Hands channel within left t formed)) m → sounds t.notes m.channel ≡ false → m.channel ≡ left
       new m there silent =
           let hands : List Note = Hands channel within left t formed in
-          let here : Contains hands m = Contains-permutation (in_order hands) hands m (IsPermutation-sym hands (in_order hands) (order_permuted hands)) there in
-          let p = partner channel left (Others channel within left t formed ++ Own channel within left t formed) hands (hands_each channel within left t formed) m (among_contained hands m here) in
+          let here : Contains hands m =
+          Contains-permutation (in_order hands) hands m (IsPermutation-sym hands (in_order hands) (order_permuted hands)) there in
+          let p = partner channel left (Others channel within left t formed ++ Own channel within left t formed) hands
+          (hands_each channel within left t formed) m (among_contained hands m here) in
           by p.0 (in_take channel within left t formed p.0 p.1) p.2
         where
           by : (n : Note) → Among n t.notes → IsHanded channel left n m → m.channel ≡ left
-          by n am (inl e) = let h = subst (λ c. sounds t.notes c ≡ true) (sym (ap (λ (x : Note). x.channel) e)) (sounding t.notes n am) in absurd (cc)
+          by n am (inl e) = let h = subst (λ c. sounds t.notes c ≡ true) (sym (ap (λ (x : Note). x.channel) e)) (sounding t.notes n am) in
+              absurd (cc)
           by n am (inr e) = ap (λ (x : Note). x.channel) e.1
 
 pub kept_hands : laws.HandsKeepNotes

@@ -20,7 +20,8 @@ module _ {X : Type 0} (tick : X → ℕ) (t : ℕ) where
       by true = last_snoc (filter (λ y. leb (tick y) t) xs) x
       by false = ap last_of (append-nil (filter (λ y. leb (tick y) t) xs))
 
-  pub force_more : (xs : List X) (k : ℕ) (d : X) → k < length xs → in_force tick (take (k + 1) xs) t ≡ cond (leb (tick (get_or xs k d)) t) (Some (get_or xs k d)) (in_force tick (take k xs) t)
+  pub force_more : (xs : List X) (k : ℕ) (d : X) → k < length xs
+      → in_force tick (take (k + 1) xs) t ≡ cond (leb (tick (get_or xs k d)) t) (Some (get_or xs k d)) (in_force tick (take k xs) t)
   force_more xs k d within = ap (λ l. in_force tick l t) (take_more xs k d within) ∙ force_snoc (take k xs) (get_or xs k d)
 
 first_tick : (n : ℕ) → n ≡ 0 → leb n 0 ≡ true

@@ -64,12 +64,16 @@ module _ (t : Take) (formed : IsTakeFormed t) where
 pub drums_ready : (latest : ℕ) (t u : Take) → without_drums t ≡ Ok u → IsReady latest t → IsReady latest u
 drums_ready latest t u is ready = by (eqb (length (pitched_notes t.notes)) 0) refl is
   where
-    by : (b : Bool) → eqb (length (pitched_notes t.notes)) 0 ≡ b → cond b (Err NoNotes) (Ok (record t { notes = pitched_notes t.notes })) ≡ Ok u → IsReady latest u
+    by : (b : Bool) → eqb (length (pitched_notes t.notes)) 0 ≡ b
+        → cond b (Err NoNotes) (Ok (record t { notes = pitched_notes t.notes })) ≡ Ok u → IsReady latest u
     by true e is = absurd (cc)
     by false e is =
         let some : length (pitched_notes t.notes) ≡ 0 → ⊥ = λ z. grind (arith, nat_tests) in
         let same : record t { notes = pitched_notes t.notes } ≡ u = cc in
-        subst (IsReady latest) same (record { formed = pitched_formed t ready.formed some; marks = record { tempos = ready.marks.tempos; key_marks = ready.marks.key_marks; signatures = ready.marks.signatures } })
+        subst (IsReady latest) same (record {
+          formed = pitched_formed t ready.formed some;
+          marks = record { tempos = ready.marks.tempos; key_marks = ready.marks.key_marks; signatures = ready.marks.signatures };
+        })
 
 -- ---- meter and key
 
@@ -138,18 +142,21 @@ module _ (new old first : ℕ) where
   all_tempos : (ts : List Tempo) → All IsTempo (scaled_tempos new old first ts)
   all_tempos ts =
       let one = scaled_in_range first in
-      All-cons IsTempo (record { tick = 0; micros = scaled new old first }) (map (scaled_tempo new old) (filter is_later ts)) (record { some = one.0; few = one.1 })
+      All-cons IsTempo (record { tick = 0; micros = scaled new old first }) (map (scaled_tempo new old) (filter is_later ts))
+      (record { some = one.0; few = one.1 })
       (every (filter is_later ts))
     where
       every : (xs : List Tempo) → All IsTempo (map (scaled_tempo new old) xs)
       every [] = All-nil IsTempo
-      every (x ∷ xs) = let one = scaled_in_range x.micros in All-cons IsTempo (scaled_tempo new old x) (map (scaled_tempo new old) xs) (record { some = one.0; few = one.1 }) (every xs)
+      every (x ∷ xs) = let one = scaled_in_range x.micros in
+          All-cons IsTempo (scaled_tempo new old x) (map (scaled_tempo new old) xs) (record { some = one.0; few = one.1 }) (every xs)
 
   scaled_up : (low : ℕ) (xs : List Tempo) → Up low (map (λ x. x.tick) xs) → Up low (map (λ x. x.tick) (map (scaled_tempo new old) xs))
   scaled_up low [] up = tt
   scaled_up low (x ∷ xs) up = (up.0, scaled_up x.tick xs up.1)
 
-  tempos_rise : (ts : List Tempo) → IsNonDecreasing (map (λ x. x.tick) ts) → IsNonDecreasing (map (λ x. x.tick) (scaled_tempos new old first ts))
+  tempos_rise : (ts : List Tempo) → IsNonDecreasing (map (λ x. x.tick) ts)
+      → IsNonDecreasing (map (λ x. x.tick) (scaled_tempos new old first ts))
   tempos_rise ts order =
       let up : Up 0 (map (λ x. x.tick) ts) = up_from 0 (map (λ x. x.tick) ts) (λ k d lt. omega arith) order in
       up_to 0 (map (λ x. x.tick) (scaled_tempos new old first ts))
@@ -157,8 +164,12 @@ module _ (new old first : ℕ) where
 
   tempos_low : (latest : ℕ) (ts : List Tempo) → All (λ x. x.tick ≤ latest) ts → All (λ x. x.tick ≤ latest) (scaled_tempos new old first ts)
   tempos_low latest ts all =
-      All-cons (λ x. x.tick ≤ latest) (record { tick = 0; micros = scaled new old first }) (map (scaled_tempo new old) (filter is_later ts)) (omega arith)
-      (all_mapped (λ x. x.tick ≤ latest) (λ x. x.tick ≤ latest) (scaled_tempo new old) (λ x le. le) (filter is_later ts) (All-filter is_later (λ x. x.tick ≤ latest) ts all))
+      All-cons (λ x. x.tick ≤ latest) (record {
+        tick = 0;
+        micros = scaled new old first;
+      }) (map (scaled_tempo new old) (filter is_later ts)) (omega arith)
+      (all_mapped (λ x. x.tick ≤ latest) (λ x. x.tick ≤ latest) (scaled_tempo new old) (λ x le. le) (filter is_later ts)
+      (All-filter is_later (λ x. x.tick ≤ latest) ts all))
 
   retimed_ready : (latest : ℕ) (t : Take) → 1 ≤ new → new ≤ 32767 → IsReady latest t → IsReady latest (retimed new old first t)
   retimed_ready latest t some few ready =
@@ -210,9 +221,12 @@ module _ (t : Take) (ready : IsReady 1000000000 t) where
       subst (IsReady 8192000000000) same (record {
         formed = shift_formed FineShift fine_shift t ready.formed room (ends_early (shifted_take FineShift t) u is);
         marks = record {
-          tempos = all_mapped (λ x. x.tick ≤ 1000000000) (λ x. x.tick ≤ 8192000000000) _ (λ x le. finer_mark FineShift x.tick fine_shift.few refl le) t.tempos ready.marks.tempos;
-          key_marks = all_mapped (λ x. x.tick ≤ 1000000000) (λ x. x.tick ≤ 8192000000000) _ (λ x le. finer_mark FineShift x.tick fine_shift.few refl le) t.key_marks ready.marks.key_marks;
-          signatures = all_mapped (λ x. x.tick ≤ 1000000000) (λ x. x.tick ≤ 8192000000000) _ (λ x le. finer_mark FineShift x.tick fine_shift.few refl le) t.signatures ready.marks.signatures;
+          tempos = all_mapped (λ x. x.tick ≤ 1000000000) (λ x. x.tick ≤ 8192000000000) _
+              (λ x le. finer_mark FineShift x.tick fine_shift.few refl le) t.tempos ready.marks.tempos;
+          key_marks = all_mapped (λ x. x.tick ≤ 1000000000) (λ x. x.tick ≤ 8192000000000) _
+              (λ x le. finer_mark FineShift x.tick fine_shift.few refl le) t.key_marks ready.marks.key_marks;
+          signatures = all_mapped (λ x. x.tick ≤ 1000000000) (λ x. x.tick ≤ 8192000000000) _
+              (λ x le. finer_mark FineShift x.tick fine_shift.few refl le) t.signatures ready.marks.signatures;
         };
       })
 
@@ -222,7 +236,8 @@ module _ (t : Take) (ready : IsReady 1000000000 t) where
       out : (new_division q t == 0) || nat_lt 32767 (new_division q t) ≡ false → (1 ≤ new_division q t) × (new_division q t ≤ 32767)
       out e = (grind (arith, nat_tests), grind (arith, nat_tests))
 
-      then : (o : _) → o ≡ unless_late (shifted_take FineShift t) → (1 ≤ new_division q t) × (new_division q t ≤ 32767) → then_retimed (new_division q t) (fine_division t) (tempo_at t.tempos 0) o ≡ Ok u → IsReady 8192000000000 u
+      then : (o : _) → o ≡ unless_late (shifted_take FineShift t) → (1 ≤ new_division q t) × (new_division q t ≤ 32767)
+          → then_retimed (new_division q t) (fine_division t) (tempo_at t.tempos 0) o ≡ Ok u → IsReady 8192000000000 u
       then (Err fault) e range is = absurd (cc)
       then (Ok v) e range is =
           let same : retimed (new_division q t) (fine_division t) (tempo_at t.tempos 0) v ≡ u = cc in
@@ -230,7 +245,9 @@ module _ (t : Take) (ready : IsReady 1000000000 t) where
           (retimed_ready (new_division q t) (fine_division t) (tempo_at t.tempos 0) 8192000000000 v range.0 range.1 (fine_ready v e))
 
       by : (b : Bool) → (new_division q t == 0) || nat_lt 32767 (new_division q t) ≡ b
-          → cond b (Err (WrongDivision (new_division q t))) (then_retimed (new_division q t) (fine_division t) (tempo_at t.tempos 0) (unless_late (shifted_take FineShift t))) ≡ Ok u → IsReady 8192000000000 u
+          → cond b (Err (WrongDivision (new_division q t)))
+          (then_retimed (new_division q t) (fine_division t) (tempo_at t.tempos 0) (unless_late (shifted_take FineShift t))) ≡ Ok u
+          → IsReady 8192000000000 u
       by true e is = absurd (cc)
       by false e is = then (unless_late (shifted_take FineShift t)) refl (out e) is
 
@@ -242,7 +259,8 @@ least_low xs = all_from_among (λ x. least_of xs ≤ x) xs (least_among xs)
 onsets_above : (low : ℕ) (ns : List Note) → All (λ x. low ≤ x) (map (λ n. n.onset) ns) → All (λ n. low ≤ n.onset) ns
 onsets_above low [] all = All-nil (λ n. low ≤ n.onset)
 onsets_above low (n ∷ ns) all =
-    All-cons (λ n. low ≤ n.onset) n ns (all_head (λ x. low ≤ x) n.onset (map (λ n. n.onset) ns) all) (onsets_above low ns (all_tail (λ x. low ≤ x) n.onset (map (λ n. n.onset) ns) all))
+    All-cons (λ n. low ≤ n.onset) n ns (all_head (λ x. low ≤ x) n.onset (map (λ n. n.onset) ns) all)
+    (onsets_above low ns (all_tail (λ x. low ≤ x) n.onset (map (λ n. n.onset) ns) all))
 
 -- the first note of an upbeat has room
 pub first_room : (t : Take) (bar ticks : ℕ) → All (λ n. least_of (map (λ m. m.onset) t.notes) ≤ n.onset * 1 + (bar - ticks) % bar) t.notes
@@ -265,7 +283,8 @@ div_low x y pos = let more = mul-le-mul_right (x / y) pos in omega (arith, more)
 rest_low : (x y : ℕ) → 0 < y → x % y < y
 rest_low x y pos = omega arith
 
-bar_in_range : (division num dd bar : ℕ) → 1 ≤ division → division ≤ 32767 → ticks_of_bar division (num, dd) ≡ Some bar → (1 ≤ bar) × (bar ≤ 100000000)
+bar_in_range : (division num dd bar : ℕ) → 1 ≤ division → division ≤ 32767 → ticks_of_bar division (num, dd) ≡ Some bar
+    → (1 ≤ bar) × (bar ≤ 100000000)
 bar_in_range division num dd bar some few is = by (is_out (num, dd)) refl is
   where
     in_range : is_out (num, dd) ≡ false → (1 ≤ num) × (num ≤ 64)
@@ -274,7 +293,8 @@ bar_in_range division num dd bar some few is = by (is_out (num, dd)) refl is
     power : 0 < 2 ^ dd
     power = grind arith
 
-    whole : (1 ≤ num) × (num ≤ 64) → (4 * division * num) % (2 ^ dd) ≡ 0 → Some ((4 * division * num) / (2 ^ dd)) ≡ Some bar → (1 ≤ bar) × (bar ≤ 100000000)
+    whole : (1 ≤ num) × (num ≤ 64) → (4 * division * num) % (2 ^ dd) ≡ 0 → Some ((4 * division * num) / (2 ^ dd)) ≡ Some bar
+        → (1 ≤ bar) × (bar ≤ 100000000)
     whole range rest is =
         let same : (4 * division * num) / (2 ^ dd) ≡ bar = cc in
         let high : 4 * division * num ≤ 4 * division * 64 = mul-le-mul_left (4 * division) range.1 in
@@ -283,11 +303,14 @@ bar_in_range division num dd bar some few is = by (is_out (num, dd)) refl is
         let most = div_low (4 * division * num) (2 ^ dd) power in
         (omega (arith, one, same), omega (arith, most, high, few, same))
 
-    inner : (1 ≤ num) × (num ≤ 64) → (b : Bool) → eqb ((4 * division * num) % (2 ^ dd)) 0 ≡ b → cond b (Some ((4 * division * num) / (2 ^ dd))) None ≡ Some bar → (1 ≤ bar) × (bar ≤ 100000000)
+    inner : (1 ≤ num) × (num ≤ 64) → (b : Bool) → eqb ((4 * division * num) % (2 ^ dd)) 0 ≡ b
+        → cond b (Some ((4 * division * num) / (2 ^ dd))) None ≡ Some bar → (1 ≤ bar) × (bar ≤ 100000000)
     inner range true e is = whole range (grind (arith, nat_tests)) is
     inner range false e is = absurd (cc)
 
-    by : (b : Bool) → is_out (num, dd) ≡ b → cond b None (cond (eqb ((4 * division * num) % (2 ^ dd)) 0) (Some ((4 * division * num) / (2 ^ dd))) None) ≡ Some bar → (1 ≤ bar) × (bar ≤ 100000000)
+    by : (b : Bool) → is_out (num, dd) ≡ b
+        → cond b None (cond (eqb ((4 * division * num) % (2 ^ dd)) 0) (Some ((4 * division * num) / (2 ^ dd))) None) ≡ Some bar
+        → (1 ≤ bar) × (bar ≤ 100000000)
     by true e is = absurd (cc)
     by false e is = inner (in_range e) (eqb ((4 * division * num) % (2 ^ dd)) 0) refl is
 
@@ -299,13 +322,20 @@ module _ (t : Take) (formed : IsTakeFormed t) (f : Fraction) where
   placed_formed bar u some few is = by (not (is_whole t.division f) || nat_lt bar (ticks_of t.division f)) is
     where
       is_shift : IsShift (Moved bar)
-      is_shift = record { some = omega arith; few = omega arith; near = (let rest = rest_low (bar - ticks_of t.division f) bar (omega (arith, some)) in omega (arith, rest, few)) }
+      is_shift = record {
+        some = omega arith;
+        few = omega arith;
+        near = (let rest = rest_low (bar - ticks_of t.division f) bar (omega (arith, some)) in omega (arith, rest, few));
+      }
 
       room : All (HasRoom (Moved bar) is_shift) t.notes
-      room k d lt = let above = onsets_above (least_of (map (λ n. n.onset) t.notes)) t.notes (least_low (map (λ n. n.onset) t.notes)) k d lt in omega (arith, above)
+      room k d lt = let above =
+          onsets_above (least_of (map (λ n. n.onset) t.notes)) t.notes (least_low (map (λ n. n.onset) t.notes)) k d lt in
+          omega (arith, above)
 
       timed : Ok u ≡ unless_late (shifted_take (Moved bar) t) → IsTakeFormed u
-      timed e = subst IsTakeFormed (sym (timely (shifted_take (Moved bar) t) u e)) (shift_formed (Moved bar) is_shift t formed room (ends_early (shifted_take (Moved bar) t) u e))
+      timed e = subst IsTakeFormed (sym (timely (shifted_take (Moved bar) t) u e))
+          (shift_formed (Moved bar) is_shift t formed room (ends_early (shifted_take (Moved bar) t) u e))
 
       by : (b : Bool) → cond b (Err (BadUpbeat f.num f.den)) (unless_late (shifted_take (Moved bar) t)) ≡ Ok u → IsTakeFormed u
       by true is = absurd (cc)

@@ -75,7 +75,8 @@ passes n other = grind (arith, nat_tests)
 without : (notes : List Note) → AreWithoutDrums notes (pitched_notes notes)
 without notes = record {
   out = λ k d lt. pitched (get_or (pitched_notes notes) k d) (filter_passes (λ n. not (is_drum n)) notes k d lt);
-  kept = λ n other there. place_among (pitched_notes notes) n (kept_by (λ m. not (is_drum m)) notes n (among_contained notes n there) (passes n other));
+  kept = λ n other there. place_among (pitched_notes notes) n
+      (kept_by (λ m. not (is_drum m)) notes n (among_contained notes n there) (passes n other));
   same = λ n there. place_among notes n (out_of (λ m. not (is_drum m)) notes n (among_contained (pitched_notes notes) n there)).0;
 }
 
@@ -84,7 +85,8 @@ out_drums t u is = by (eqb (length (pitched_notes t.notes)) 0) is
   where
     by : (b : Bool) → cond b (Err NoNotes) (Ok (record t { notes = pitched_notes t.notes })) ≡ Ok u → AreWithoutDrums t.notes u.notes
     by true is = absurd (cc)
-    by false is = let same : record t { notes = pitched_notes t.notes } ≡ u = cc in subst (λ v. AreWithoutDrums t.notes v.notes) same (without t.notes)
+    by false is = let same : record t { notes = pitched_notes t.notes } ≡ u = cc in
+        subst (λ v. AreWithoutDrums t.notes v.notes) same (without t.notes)
 
 -- ---- the split
 
@@ -95,7 +97,8 @@ module _ (key : ℕ) (notes : List Note) where
   unvoiced_part : (n : Note) → unvoiced (to_part n) ≡ unvoiced n
   unvoiced_part n = by (is_low key n)
     where
-      by : (b : Bool) → unvoiced (cond b (record n { channel = lower_channel (split_channels key notes) (free_channels notes) n.channel }) n) ≡ unvoiced n
+      by : (b : Bool) → unvoiced (cond b (record n { channel = lower_channel (split_channels key notes) (free_channels notes) n.channel })
+          n) ≡ unvoiced n
       by true = refl
       by false = refl
 
@@ -130,24 +133,29 @@ module _ (key : ℕ) (notes : List Note) where
   are_split =
       let moved = order_permuted (parted_notes key notes) in
       record {
-        same = subst (λ l. IsPermutation l (map unvoiced (in_order (parted_notes key notes)))) (unvoiced_parts notes) (IsPermutation-map unvoiced (parted_notes key notes) (in_order (parted_notes key notes)) moved);
+        same = subst (λ l. IsPermutation l (map unvoiced (in_order (parted_notes key notes)))) (unvoiced_parts notes)
+            (IsPermutation-map unvoiced (parted_notes key notes) (in_order (parted_notes key notes)) moved);
         stay = λ n whole there.
             let among : Among (to_part n) (parted_notes key notes) = among_map to_part notes n (among_contained notes n there) in
-            let here : Contains (parted_notes key notes) n = place_among (parted_notes key notes) n (subst (λ m. Among m (parted_notes key notes)) (stays n whole) among) in
+            let here : Contains (parted_notes key notes) n =
+            place_among (parted_notes key notes) n (subst (λ m. Among m (parted_notes key notes)) (stays n whole) among) in
             Contains-permutation (parted_notes key notes) (in_order (parted_notes key notes)) n moved here;
       }
 
 pub kept_by_split : laws.SplitsKeepNotes
 kept_by_split key t u is = by (ltb (length (free_channels t.notes)) (length (split_channels key t.notes))) is
   where
-    by : (b : Bool) → cond b (Err (TooManyVoices (length (voice_channels t.notes) + length (split_channels key t.notes)))) (Ok (record t { notes = in_order (parted_notes key t.notes) })) ≡ Ok u → AreSplit key t.notes u.notes
+    by : (b : Bool) → cond b (Err (TooManyVoices (length (voice_channels t.notes) + length (split_channels key t.notes))))
+        (Ok (record t { notes = in_order (parted_notes key t.notes) })) ≡ Ok u → AreSplit key t.notes u.notes
     by true is = absurd (cc)
-    by false is = let same : record t { notes = in_order (parted_notes key t.notes) } ≡ u = cc in subst (λ v. AreSplit key t.notes v.notes) same (are_split key t.notes)
+    by false is = let same : record t { notes = in_order (parted_notes key t.notes) } ≡ u = cc in
+        subst (λ v. AreSplit key t.notes v.notes) same (are_split key t.notes)
 
 -- ---- places
 
 -- notes at other places are moved alike, where none comes before tick 0
-all_moved : (s : Shift) (notes : List Note) → All (λ n. s.earlier ≤ n.onset * s.times + s.later) notes → All (λ n. s.earlier ≤ n.end * s.times + s.later) notes → AreMoved s.times s.later s.earlier notes (map (shifted_note s) notes)
+all_moved : (s : Shift) (notes : List Note) → All (λ n. s.earlier ≤ n.onset * s.times + s.later) notes
+    → All (λ n. s.earlier ≤ n.end * s.times + s.later) notes → AreMoved s.times s.later s.earlier notes (map (shifted_note s) notes)
 all_moved s notes onsets ends = record {
   many = length-map notes (shifted_note s);
   each = λ k d lt.
@@ -156,23 +164,32 @@ all_moved s notes onsets ends = record {
       (moved (get_or notes k d) (onsets k d lt) (ends k d lt));
 }
   where
-    moved : (n : Note) → s.earlier ≤ n.onset * s.times + s.later → s.earlier ≤ n.end * s.times + s.later → IsMoved s.times s.later s.earlier n (shifted_note s n)
+    moved : (n : Note) → s.earlier ≤ n.onset * s.times + s.later → s.earlier ≤ n.end * s.times + s.later
+        → IsMoved s.times s.later s.earlier n (shifted_note s n)
     moved n onset end = record { channel = refl; key = refl; onset = omega (arith, onset); end = omega (arith, end) }
 
 pub placed_by_tempo : laws.TemposKeepPlaces
-placed_by_tempo q t u formed is = (fineness t.division, (fineness_fine t.division formed.division_low).some, by ((new_division q t == 0) || nat_lt 32767 (new_division q t)) is)
+placed_by_tempo q t u formed is = (
+  fineness t.division,
+  (fineness_fine t.division formed.division_low).some,
+  by ((new_division q t == 0) || nat_lt 32767 (new_division q t)) is,
+)
   where
     fine_notes : AreMoved (fineness t.division) 0 0 t.notes (map (shifted_note (finer_shift t)) t.notes)
     fine_notes = all_moved (finer_shift t) t.notes (λ k d lt. omega arith) (λ k d lt. omega arith)
 
-    then : (o : Result Take PrepareFault) → o ≡ unless_late (shifted_take (finer_shift t) t) → then_retimed (new_division q t) (fine_division t) (tempo_at t.tempos 0) o ≡ Ok u → AreMoved (fineness t.division) 0 0 t.notes u.notes
+    then : (o : Result Take PrepareFault) → o ≡ unless_late (shifted_take (finer_shift t) t)
+        → then_retimed (new_division q t) (fine_division t) (tempo_at t.tempos 0) o ≡ Ok u
+        → AreMoved (fineness t.division) 0 0 t.notes u.notes
     then (Err fault) e is = absurd (cc)
     then (Ok v) e is =
         let same : retimed (new_division q t) (fine_division t) (tempo_at t.tempos 0) v ≡ u = cc in
         let shifted : v ≡ shifted_take (finer_shift t) t = timely (shifted_take (finer_shift t) t) v e in
-        subst (λ w. AreMoved (fineness t.division) 0 0 t.notes w.notes) same (subst (λ w. AreMoved (fineness t.division) 0 0 t.notes w.notes) (sym shifted) fine_notes)
+        subst (λ w. AreMoved (fineness t.division) 0 0 t.notes w.notes) same
+        (subst (λ w. AreMoved (fineness t.division) 0 0 t.notes w.notes) (sym shifted) fine_notes)
 
-    by : (b : Bool) → cond b (Err (WrongDivision (new_division q t))) (then_retimed (new_division q t) (fine_division t) (tempo_at t.tempos 0) (unless_late (shifted_take (finer_shift t) t))) ≡ Ok u
+    by : (b : Bool) → cond b (Err (WrongDivision (new_division q t)))
+        (then_retimed (new_division q t) (fine_division t) (tempo_at t.tempos 0) (unless_late (shifted_take (finer_shift t) t))) ≡ Ok u
         → AreMoved (fineness t.division) 0 0 t.notes u.notes
     by true is = absurd (cc)
     by false is = then (unless_late (shifted_take (finer_shift t) t)) refl is
@@ -185,11 +202,14 @@ module _ (f : Fraction) (t u : Take) (formed : IsTakeFormed t) where
   abbrev Moved : Type 0
   Moved = (later earlier : ℕ) × AreMoved 1 later earlier t.notes u.notes
 
-  timed : (s : Shift) → s.times ≡ 1 → All (λ n. s.earlier ≤ n.onset * s.times + s.later) t.notes → Ok u ≡ unless_late (shifted_take s t) → Moved
+  timed : (s : Shift) → s.times ≡ 1 → All (λ n. s.earlier ≤ n.onset * s.times + s.later) t.notes → Ok u ≡ unless_late (shifted_take s t)
+      → Moved
   timed s one room e =
-      let ends : All (λ n. s.earlier ≤ n.end * s.times + s.later) t.notes = λ k d lt. later_end (get_or t.notes k d) (formed.notes k d lt).after (room k d lt) in
+      let ends : All (λ n. s.earlier ≤ n.end * s.times + s.later) t.notes =
+      λ k d lt. later_end (get_or t.notes k d) (formed.notes k d lt).after (room k d lt) in
       let same : shifted_take s t ≡ u = sym (timely (shifted_take s t) u e) in
-      let moved : AreMoved s.times s.later s.earlier t.notes u.notes = subst (λ v. AreMoved s.times s.later s.earlier t.notes v.notes) same (all_moved s t.notes room ends) in
+      let moved : AreMoved s.times s.later s.earlier t.notes u.notes =
+      subst (λ v. AreMoved s.times s.later s.earlier t.notes v.notes) same (all_moved s t.notes room ends) in
       (s.later, s.earlier, subst (λ m. AreMoved m s.later s.earlier t.notes u.notes) one moved)
     where
       later_end : (n : Note) → n.onset ≤ n.end → s.earlier ≤ n.onset * s.times + s.later → s.earlier ≤ n.end * s.times + s.later
@@ -201,7 +221,8 @@ module _ (f : Fraction) (t u : Take) (formed : IsTakeFormed t) where
   in_bar : (bar : ℕ) → placed bar f t ≡ Ok u → Moved
   in_bar bar is = by (not (is_whole t.division f) || nat_lt bar (ticks_of t.division f)) is
     where
-      by : (b : Bool) → cond b (Err (BadUpbeat f.num f.den)) (unless_late (shifted_take (upbeat_shift bar (ticks_of t.division f) t) t)) ≡ Ok u → Moved
+      by : (b : Bool) → cond b (Err (BadUpbeat f.num f.den)) (unless_late (shifted_take (upbeat_shift bar (ticks_of t.division f) t) t))
+          ≡ Ok u → Moved
       by true is = absurd (cc)
       by false is = timed (upbeat_shift bar (ticks_of t.division f) t) refl (first_room t bar (ticks_of t.division f)) (sym is)
 

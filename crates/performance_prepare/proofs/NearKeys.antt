@@ -15,7 +15,8 @@ pub record AreAdded (f : ℕ → ℕ) (costs sums : List ℕ) (n : ℕ) : Type 0
   pub ahead : (k : ℕ) → n ≤ k → k < 129 → slice_index sums k ≡ slice_index costs k
   pub long : length sums ≡ 129
 
-pub added_more : (f : ℕ → ℕ) (costs sums : List ℕ) (n v : ℕ) → n < 129 → v ≡ slice_index sums n + f n → AreAdded f costs sums n → AreAdded f costs (set sums n v) (n + 1)
+pub added_more : (f : ℕ → ℕ) (costs sums : List ℕ) (n v : ℕ) → n < 129 → v ≡ slice_index sums n + f n → AreAdded f costs sums n
+    → AreAdded f costs (set sums n v) (n + 1)
 added_more f costs sums n v within is h = record {
   done = λ k lt low. (elim (cases_order k n) [
     | inl e ↦ here k e
@@ -29,14 +30,16 @@ added_more f costs sums n v within is h = record {
 }
   where
     own : slice_index (set sums n v) n ≡ slice_index costs n + f n
-    own = get_or-set_same sums n v 0 (let long = h.long in omega (arith, long, within)) ∙ is ∙ ap (λ x. x + f n) (h.ahead n (omega arith) within)
+    own = get_or-set_same sums n v 0 (let long = h.long in omega (arith, long, within)) ∙ is
+        ∙ ap (λ x. x + f n) (h.ahead n (omega arith) within)
 
     here : (k : ℕ) → k ≡ n → slice_index (set sums n v) k ≡ slice_index costs k + f k
     here k e = ap (slice_index (set sums n v)) e ∙ own ∙ sym (λ i. slice_index costs (e i) + f (e i))
 
 -- the borders up to another cost as much more
 pub added_raised : (f : ℕ → ℕ) (costs sums later : List ℕ) (first end more : ℕ) → first ≤ end → length later ≡ 129
-    → ((k : ℕ) → first ≤ k → k < end → more ≡ f k) → AreRaised first end more sums later → AreAdded f costs sums first → AreAdded f costs later end
+    → ((k : ℕ) → first ≤ k → k < end → more ≡ f k) → AreRaised first end more sums later → AreAdded f costs sums first
+    → AreAdded f costs later end
 added_raised f costs sums later first end more le long same up h = record {
   done = λ k lt low. (elim (cases_lt k first) [
     | inl less ↦ up.low k less ∙ h.done k less low
@@ -74,20 +77,24 @@ added_none key costs long = record {
   long = long;
 }
 
-pub added_all : (key n : ℕ) (costs sums : List ℕ) → (129 ≤ n) ⊎ (key + 6 ≤ n) → AreAdded (near key) costs sums n → (k : ℕ) → k < 129 → slice_index sums k ≡ slice_index costs k + near key k
+pub added_all : (key n : ℕ) (costs sums : List ℕ) → (129 ≤ n) ⊎ (key + 6 ≤ n) → AreAdded (near key) costs sums n → (k : ℕ) → k < 129
+    → slice_index sums k ≡ slice_index costs k + near key k
 added_all key n costs sums (inl past) h k low = h.done k (omega (arith, past, low)) low
 added_all key n costs sums (inr past) h k low = elim (cases_order k n) [
   | inl e ↦ (let none = far_above key k (omega (arith, past, e)) in let own = h.ahead k (omega (arith, e)) low in omega (arith, none, own))
   | inr other ↦ elim other [
     | inl less ↦ h.done k less low
-    | inr more ↦ (let none = far_above key k (omega (arith, past, more)) in let own = h.ahead k (omega (arith, more)) low in omega (arith, none, own))
+    | inr more ↦ (let none = far_above key k (omega (arith, past, more)) in let own = h.ahead k (omega (arith, more)) low in
+        omega (arith, none, own))
   ]
 ]
 
 -- a group's costs, when those near all keys are added
 pub costs_whole : (middle : ℕ) (struck held costs : List ℕ) (i : ℕ) → length struck ≤ i → length costs ≡ 129
-    → ((k : ℕ) → k < 129 → slice_index costs k ≡ place_cost middle struck held k + nearness k (take i struck)) → costs ≡ map (cost middle struck held) (numbers_from 0 129)
+    → ((k : ℕ) → k < 129 → slice_index costs k ≡ place_cost middle struck held k + nearness k (take i struck))
+    → costs ≡ map (cost middle struck held) (numbers_from 0 129)
 costs_whole middle struck held costs i past long each =
     row_is (cost middle struck held) costs 129 (omega arith) long (λ k lt.
-    let here : slice_index costs k ≡ place_cost middle struck held k + nearness k struck = each k lt ∙ ap (λ keys. place_cost middle struck held k + nearness k keys) (whole struck i past) in
+    let here : slice_index costs k ≡ place_cost middle struck held k + nearness k struck = each k lt
+    ∙ ap (λ keys. place_cost middle struck held k + nearness k keys) (whole struck i past) in
     omega (arith, here))

@@ -54,7 +54,8 @@ module _ (b c : ℕ) (keys : List ℕ) (le : b ≤ c) (near : c ≤ next_key b k
   from_still : keys_from c keys ≡ keys_from b keys
   from_still = filter_still (λ k. not (nat_lt k c)) (λ k. not (nat_lt k b)) keys (λ k am. ap not (still k am))
 
-pub parted_still : (struck held : List ℕ) (b last cost : ℕ) → last ≤ next_key b struck → last ≤ next_key b held → cost ≡ parted_cost struck held b → IsParting struck held b last cost
+pub parted_still : (struck held : List ℕ) (b last cost : ℕ) → last ≤ next_key b struck → last ≤ next_key b held
+    → cost ≡ parted_cost struck held b → IsParting struck held b last cost
 parted_still struck held b last cost near far is c le within =
     let sb = below_still b c struck le (omega (arith, within, near)) in
     let sf = from_still b c struck le (omega (arith, within, near)) in

@@ -45,7 +45,8 @@ one_border_are b (row ∷ rows) lt = (lt, one_border_are b rows lt)
 
 module _ (f : ℕ → ℕ) where
   -- to stay at the cheapest of the borders saves the moves
-  cheaper : (rows : List (List ℕ)) (borders : List ℕ) (b : ℕ) → AreMultiples f rows → AreBorders rows borders → b < 129 → ((c : ℕ) → Among c borders → f b ≤ f c)
+  cheaper : (rows : List (List ℕ)) (borders : List ℕ) (b : ℕ) → AreMultiples f rows → AreBorders rows borders → b < 129
+      → ((c : ℕ) → Among c borders → f b ≤ f c)
       → cost_of rows (one_border b rows) + moves borders ≤ cost_of rows borders
   cheaper [] [] b rate are lt low = omega arith
   cheaper [] (c ∷ borders) b rate are lt low = absurd (cc)
@@ -70,7 +71,8 @@ module _ (f : ℕ → ℕ) where
       alone d (inr am) = absurd am
   cheapest c (d ∷ borders) = by (cheapest d borders)
     where
-      by : (b : ℕ) × Among b (d ∷ borders) × ((e : ℕ) → Among e (d ∷ borders) → f b ≤ f e) → (b : ℕ) × Among b (c ∷ d ∷ borders) × ((e : ℕ) → Among e (c ∷ d ∷ borders) → f b ≤ f e)
+      by : (b : ℕ) × Among b (d ∷ borders) × ((e : ℕ) → Among e (d ∷ borders) → f b ≤ f e)
+          → (b : ℕ) × Among b (c ∷ d ∷ borders) × ((e : ℕ) → Among e (c ∷ d ∷ borders) → f b ≤ f e)
       by h = elim (cases_lt (f c) (f h.0)) [
         | inl less ↦ (c, inl refl, first less)
         | inr more ↦ (h.0, inr h.1, later more)
@@ -99,7 +101,8 @@ module _ (f : ℕ → ℕ) where
   border_below (row ∷ rows) (c ∷ borders) are b (inr am) = border_below rows borders are.1 b am
 
   -- so no border moves
-  stay : (rows : List (List ℕ)) (borders : List ℕ) → AreMultiples f rows → IsLeastBorders rows borders → (b : ℕ) × ((c : ℕ) → Among c borders → c ≡ b)
+  stay : (rows : List (List ℕ)) (borders : List ℕ) → AreMultiples f rows → IsLeastBorders rows borders
+      → (b : ℕ) × ((c : ℕ) → Among c borders → c ≡ b)
   stay rows [] rate least = (0, λ c am. absurd am)
   stay rows (b ∷ borders) rate least =
       let low = cheapest b borders in
@@ -131,7 +134,8 @@ module _ (key : ℕ) where
   near_same b (k ∷ keys) same =
       let rest = near_same b keys (λ x am. same x (inr am)) in
       let here : k ≡ key = same k (inl refl) in
-      let one : 20 * (10 - gap (2 * k + 1) (2 * b)) ≡ 20 * (10 - gap (2 * key + 1) (2 * b)) = ap (λ x. 20 * (10 - gap (2 * x + 1) (2 * b))) here in
+      let one : 20 * (10 - gap (2 * k + 1) (2 * b)) ≡ 20 * (10 - gap (2 * key + 1) (2 * b)) =
+      ap (λ x. 20 * (10 - gap (2 * x + 1) (2 * b))) here in
       sum_by-cons (λ x. x) (20 * (10 - gap (2 * k + 1) (2 * b))) (map (λ x. 20 * (10 - gap (2 * x + 1) (2 * b))) keys)
       ∙ (λ i. one i + rest i) ∙ sym (once_more (length keys) (20 * (10 - gap (2 * key + 1) (2 * b))))
     where
@@ -176,22 +180,26 @@ module _ (tempos : List Tempo) (division middle key : ℕ) where
   no_other : (before : List Note) (k : ℕ) → AreNotes before → k ≢ key → filter (λ n. n.key == k) before ≡ []
   no_other [] k same other = refl
   no_other (n ∷ before) k same other =
-      ap (λ b. cond b (n ∷ filter (λ m. m.key == k) before) (filter (λ m. m.key == k) before)) (test n.key k (λ e. other (sym e ∙ same n (inl refl))))
+      ap (λ b. cond b (n ∷ filter (λ m. m.key == k) before) (filter (λ m. m.key == k) before))
+      (test n.key k (λ e. other (sym e ∙ same n (inl refl))))
       ∙ no_other before k (λ m am. same m (inr am)) other
     where
       test : (a b : ℕ) → a ≢ b → eqb a b ≡ false
       test a b e = grind (arith, nat_tests)
 
-  not_held : (before : List Note) (n : Note) (group : List Note) (k : ℕ) → AreNotes before → AreNotes (n ∷ group) → is_held tempos division before (n ∷ group) k ≡ false
+  not_held : (before : List Note) (n : Note) (group : List Note) (k : ℕ) → AreNotes before → AreNotes (n ∷ group)
+      → is_held tempos division before (n ∷ group) k ≡ false
   not_held before n group k old new = by (eqb k key) refl
     where
       by : (b : Bool) → eqb k key ≡ b → is_held tempos division before (n ∷ group) k ≡ false
-      by true e = ap (λ b. not b && sounds_past tempos division n.onset (last_of (filter (λ m. m.key == k) before))) (subst (λ i. strikes (n ∷ group) i ≡ true) (sym (equal k key e)) (strikes_it n group new))
+      by true e = ap (λ b. not b && sounds_past tempos division n.onset (last_of (filter (λ m. m.key == k) before)))
+          (subst (λ i. strikes (n ∷ group) i ≡ true) (sym (equal k key e)) (strikes_it n group new))
         where
           equal : (a b : ℕ) → eqb a b ≡ true → a ≡ b
           equal a b h = grind (arith, nat_tests)
       by false e =
-          ap (λ ms. not (strikes (n ∷ group) k) && sounds_past tempos division n.onset (last_of ms)) (no_other before k old (differ k key e)) ∙ never (not (strikes (n ∷ group) k))
+          ap (λ ms. not (strikes (n ∷ group) k) && sounds_past tempos division n.onset (last_of ms))
+          (no_other before k old (differ k key e)) ∙ never (not (strikes (n ∷ group) k))
         where
           differ : (a b : ℕ) → eqb a b ≡ false → a ≢ b
           differ a b h same = grind (arith, nat_tests)
@@ -204,22 +212,27 @@ module _ (tempos : List Tempo) (division middle key : ℕ) where
   none_kept p [] fails = refl
   none_kept p (x ∷ xs) fails = ap (λ b. cond b (x ∷ filter p xs) (filter p xs)) (fails x) ∙ none_kept p xs fails
 
-  nothing_held : (before : List Note) (n : Note) (group : List Note) → AreNotes before → AreNotes (n ∷ group) → held_keys tempos division before (n ∷ group) ≡ []
-  nothing_held before n group old new = none_kept (is_held tempos division before (n ∷ group)) (numbers_from 0 128) (λ k. not_held before n group k old new)
+  nothing_held : (before : List Note) (n : Note) (group : List Note) → AreNotes before → AreNotes (n ∷ group)
+      → held_keys tempos division before (n ∷ group) ≡ []
+  nothing_held before n group old new =
+      none_kept (is_held tempos division before (n ∷ group)) (numbers_from 0 128) (λ k. not_held before n group k old new)
 
   own_keys : (group : List Note) → AreNotes group → (k : ℕ) → Among k (map (λ (n : Note). n.key) group) → k ≡ key
   own_keys group same k am = let n = from_map (λ (m : Note). m.key) group k am in n.2 ∙ same n.0 n.1
 
   row_same : (before group : List Note) → 1 ≤ length group → AreNotes before → AreNotes group → (b : ℕ) → b < 129
-      → slice_index (map (cost middle (map (λ n. n.key) group) (held_keys tempos division before group)) (numbers_from 0 129)) b ≡ length (map (λ (n : Note). n.key) group) * rate key middle b
+      → slice_index (map (cost middle (map (λ n. n.key) group) (held_keys tempos division before group)) (numbers_from 0 129)) b
+      ≡ length (map (λ (n : Note). n.key) group) * rate key middle b
   row_same before [] some old new b lt = absurd (omega (arith, some))
   row_same before (n ∷ group) some old new b lt =
       from_entry (cost middle (map (λ m. m.key) (n ∷ group)) (held_keys tempos division before (n ∷ group))) 0 129 b (omega (arith, lt))
-      ∙ ap (λ i. cost middle (map (λ m. m.key) (n ∷ group)) (held_keys tempos division before (n ∷ group)) i) (let e : 0 + b ≡ b = omega arith in e)
+      ∙ ap (λ i. cost middle (map (λ m. m.key) (n ∷ group)) (held_keys tempos division before (n ∷ group)) i) (let e : 0 + b
+      ≡ b = omega arith in e)
       ∙ ap (λ held. cost middle (map (λ m. m.key) (n ∷ group)) held b) (nothing_held before n group old new)
       ∙ cost_same key middle b (map (λ m. m.key) (n ∷ group)) (own_keys (n ∷ group) new)
 
-  multiples : (before : List Note) (gs : List (List Note)) → AreSome gs → AreNotes before → AreNotes (flat_map (λ g. g) gs) → AreMultiples (rate key middle) (costs_after tempos division middle before gs)
+  multiples : (before : List Note) (gs : List (List Note)) → AreSome gs → AreNotes before → AreNotes (flat_map (λ g. g) gs)
+      → AreMultiples (rate key middle) (costs_after tempos division middle before gs)
   multiples before [] some old new = tt
   multiples before (group ∷ gs) some old new = (
     (length (map (λ (n : Note). n.key) group), row_same before group some.0 old here),
@@ -239,23 +252,30 @@ module _ (tempos : List Tempo) (division middle key : ℕ) where
 
   all_left : (b : ℕ) (group : List Note) → key < b → AreNotes group → notes_below b group ≡ group
   all_left b [] lt same = refl
-  all_left b (n ∷ group) lt same = ap (λ t. cond t (n ∷ notes_below b group) (notes_below b group)) (lt_test n.key b (let e = same n (inl refl) in omega (arith, e, lt))) ∙ ap (λ ms. n ∷ ms) (all_left b group lt (λ m am. same m (inr am)))
+  all_left b (n ∷ group) lt same =
+      ap (λ t. cond t (n ∷ notes_below b group) (notes_below b group)) (lt_test n.key b (let e = same n (inl refl) in omega (arith, e, lt)))
+      ∙ ap (λ ms. n ∷ ms) (all_left b group lt (λ m am. same m (inr am)))
 
   none_left : (b : ℕ) (group : List Note) → b ≤ key → AreNotes group → notes_below b group ≡ []
   none_left b [] le same = refl
-  none_left b (n ∷ group) le same = ap (λ t. cond t (n ∷ notes_below b group) (notes_below b group)) (ge_test n.key b (let e = same n (inl refl) in omega (arith, e, le))) ∙ none_left b group le (λ m am. same m (inr am))
+  none_left b (n ∷ group) le same =
+      ap (λ t. cond t (n ∷ notes_below b group) (notes_below b group)) (ge_test n.key b (let e = same n (inl refl) in omega (arith, e, le)))
+      ∙ none_left b group le (λ m am. same m (inr am))
 
-  left_all : (gs : List (List Note)) (borders : List ℕ) (b : ℕ) → key < b → AreNotes (flat_map (λ g. g) gs) → Each (λ (g : List Note) (c : ℕ). c < 129) gs borders → ((c : ℕ) → Among c borders → c ≡ b)
+  left_all : (gs : List (List Note)) (borders : List ℕ) (b : ℕ) → key < b → AreNotes (flat_map (λ g. g) gs)
+      → Each (λ (g : List Note) (c : ℕ). c < 129) gs borders → ((c : ℕ) → Among c borders → c ≡ b)
       → left_notes gs borders ≡ flat_map (λ g. g) gs
   left_all [] borders b lt same each one = refl
   left_all (group ∷ gs) [] b lt same each one = absurd each
   left_all (group ∷ gs) (c ∷ borders) b lt same each one =
       let e : c ≡ b = one c (inl refl) in
       let here = all_left c group (omega (arith, e, lt)) (λ n am. same n (among_left group (flat_map (λ g. g) gs) n am)) in
-      let rest = left_all gs borders b lt (λ n am. same n (among_right group (flat_map (λ g. g) gs) n am)) each.1 (λ d am. one d (inr am)) in
+      let rest = left_all gs borders b lt (λ n am. same n (among_right group (flat_map (λ g. g) gs) n am)) each.1
+      (λ d am. one d (inr am)) in
       λ i. here i ++ rest i
 
-  left_none : (gs : List (List Note)) (borders : List ℕ) (b : ℕ) → b ≤ key → AreNotes (flat_map (λ g. g) gs) → ((c : ℕ) → Among c borders → c ≡ b) → left_notes gs borders ≡ []
+  left_none : (gs : List (List Note)) (borders : List ℕ) (b : ℕ) → b ≤ key → AreNotes (flat_map (λ g. g) gs)
+      → ((c : ℕ) → Among c borders → c ≡ b) → left_notes gs borders ≡ []
   left_none [] borders b le same one = refl
   left_none (group ∷ gs) [] b le same one = refl
   left_none (group ∷ gs) (c ∷ borders) b le same one =
@@ -270,9 +290,12 @@ module _ (tempos : List Tempo) (division within : ℕ) where
 
   some_from : (notes : List Note) (group : List Note) (last : Note) → 1 ≤ length group → AreSome (parts_from Near group last notes)
   some_from [] group last some = (some, tt)
-  some_from (n ∷ notes) group last some = go (Near group last n) (some_from notes (group ++ n ∷ []) n (let long = length-append group (n ∷ []) in omega (arith, long))) (some_from notes (n ∷ []) n (omega arith))
+  some_from (n ∷ notes) group last some =
+      go (Near group last n) (some_from notes (group ++ n ∷ []) n (let long = length-append group (n ∷ []) in
+      omega (arith, long))) (some_from notes (n ∷ []) n (omega arith))
     where
-      go : (b : Bool) → AreSome (parts_from Near (group ++ n ∷ []) n notes) → AreSome (parts_from Near (n ∷ []) n notes) → AreSome (cond b (parts_from Near (group ++ n ∷ []) n notes) (group ∷ parts_from Near (n ∷ []) n notes))
+      go : (b : Bool) → AreSome (parts_from Near (group ++ n ∷ []) n notes) → AreSome (parts_from Near (n ∷ []) n notes)
+          → AreSome (cond b (parts_from Near (group ++ n ∷ []) n notes) (group ∷ parts_from Near (n ∷ []) n notes))
       go true on next = on
       go false on next = (some, next)
 
@@ -304,12 +327,15 @@ module _ (channel within key : ℕ) (t : Take) (all : All (λ n. n.key ≡ key) 
   stays : (b : ℕ) × ((c : ℕ) → Among c Borders → c ≡ b)
   stays =
       stay (rate key (middle_of Own)) Costs Borders
-      (multiples t.tempos t.division (middle_of Own) key [] Parts (some_notes t.tempos t.division within Own) (λ n am. absurd am) same) (are_least Costs)
+      (multiples t.tempos t.division (middle_of Own) key [] Parts (some_notes t.tempos t.division within Own) (λ n am. absurd am) same)
+      (are_least Costs)
 
-  left_or_none : (b : ℕ) → ((c : ℕ) → Among c Borders → c ≡ b) → (length (left_notes Parts Borders) ≡ length Own) ⊎ (length (left_notes Parts Borders) ≡ 0)
+  left_or_none : (b : ℕ) → ((c : ℕ) → Among c Borders → c ≡ b)
+      → (length (left_notes Parts Borders) ≡ length Own) ⊎ (length (left_notes Parts Borders) ≡ 0)
   left_or_none b one = elim (cases_lt key b) [
     | inl less ↦ inl
-        (ap length (left_all t.tempos t.division (middle_of Own) key Parts Borders b less same (each_group t.tempos t.division (middle_of Own) [] Parts Borders (are_least Costs).are) one ∙ flat))
+        (ap length (left_all t.tempos t.division (middle_of Own) key Parts Borders b less same
+        (each_group t.tempos t.division (middle_of Own) [] Parts Borders (are_least Costs).are) one ∙ flat))
     | inr more ↦ inr (ap length (left_none t.tempos t.division (middle_of Own) key Parts Borders b more same one))
   ]
 

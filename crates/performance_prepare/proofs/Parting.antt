@@ -40,7 +40,8 @@ all_of : (p : ℕ → Bool) (xs : List ℕ) → list_all p xs ≡ true → All (
 all_of p [] h = All-nil (λ x. p x ≡ true)
 all_of p (x ∷ xs) h = by (p x) refl h (all_of p xs)
   where
-    by : (b : Bool) → p x ≡ b → (b && list_all p xs) ≡ true → (list_all p xs ≡ true → All (λ x. p x ≡ true) xs) → All (λ x. p x ≡ true) (x ∷ xs)
+    by : (b : Bool) → p x ≡ b → (b && list_all p xs) ≡ true → (list_all p xs ≡ true → All (λ x. p x ≡ true) xs)
+        → All (λ x. p x ≡ true) (x ∷ xs)
     by true e h rest = All-cons (λ x. p x ≡ true) x xs e (rest h)
     by false e h rest = absurd (cc)
 
@@ -51,8 +52,10 @@ pairs_of (x ∷ xs) h = by (list_all (λ y. not (eqb x y)) xs) refl h (pairs_of 
     differ : (y : ℕ) → not (eqb x y) ≡ true → x ≢ y
     differ y h same = grind (arith, nat_tests)
 
-    by : (b : Bool) → list_all (λ y. not (eqb x y)) xs ≡ b → (b && are_apart xs) ≡ true → (are_apart xs ≡ true → AllPairs (λ x y. x ≢ y) xs) → AllPairs (λ x y. x ≢ y) (x ∷ xs)
-    by true e h rest = AllPairs-cons (λ x y. x ≢ y) x xs (λ k d lt. differ (get_or xs k d) (all_of (λ y. not (eqb x y)) xs e k d lt)) (rest h)
+    by : (b : Bool) → list_all (λ y. not (eqb x y)) xs ≡ b → (b && are_apart xs) ≡ true → (are_apart xs ≡ true → AllPairs (λ x y. x ≢ y) xs)
+        → AllPairs (λ x y. x ≢ y) (x ∷ xs)
+    by true e h rest = AllPairs-cons (λ x y. x ≢ y) x xs (λ k d lt. differ (get_or xs k d) (all_of (λ y. not (eqb x y)) xs e k d lt))
+        (rest h)
     by false e h rest = absurd (cc)
 
 spare_apart : AllPairs (λ x y. x ≢ y) spare_channels
@@ -78,7 +81,13 @@ given (s ∷ split) (f ∷ free) c = by (eqb s c) refl (given split free c)
     by : (b : Bool) → eqb s c ≡ b → IsGiven split free c (lower_channel split free c) ⊎ (lower_channel split free c ≡ c)
         → IsGiven (s ∷ split) (f ∷ free) c (cond b f (lower_channel split free c)) ⊎ (cond b f (lower_channel split free c) ≡ c)
     by true e later = inl (record { place = 0; within = omega arith; few = omega arith; from = grind (arith, nat_tests); to = refl })
-    by false e (inl g) = inl (record { place = suc g.place; within = omega (arith, g.within); few = omega (arith, g.few); from = g.from; to = g.to })
+    by false e (inl g) = inl (record {
+      place = suc g.place;
+      within = omega (arith, g.within);
+      few = omega (arith, g.few);
+      from = g.from;
+      to = g.to;
+    })
     by false e (inr same) = inr same
 
 apart_at : (xs : List ℕ) → AllPairs (λ x y. x ≢ y) xs → (i j : ℕ) → i < length xs → j < length xs → get_or xs i 0 ≡ get_or xs j 0 → i ≡ j
@@ -120,7 +129,8 @@ module _ (key : ℕ) (notes : List Note) where
   one_lower : (c d : ℕ) → sounds notes c ≡ true → sounds notes d ≡ true → lower_channel Split Free c ≡ lower_channel Split Free d → c ≡ d
   one_lower c d sc sd same = by (given Split Free c) (given Split Free d)
     where
-      by : IsGiven Split Free c (lower_channel Split Free c) ⊎ (lower_channel Split Free c ≡ c) → IsGiven Split Free d (lower_channel Split Free d) ⊎ (lower_channel Split Free d ≡ d) → c ≡ d
+      by : IsGiven Split Free c (lower_channel Split Free c) ⊎ (lower_channel Split Free c ≡ c)
+          → IsGiven Split Free d (lower_channel Split Free d) ⊎ (lower_channel Split Free d ≡ d) → c ≡ d
       by (inl g) (inl h) =
           let places : g.place ≡ h.place = apart_at Free free_apart g.place h.place g.few h.few (sym g.to ∙ same ∙ h.to) in
           sym g.from ∙ ap (λ i. get_or Split i 0) places ∙ h.from
@@ -163,7 +173,8 @@ module _ (key : ℕ) (notes : List Note) where
   one_channel m n sm sn keys same = by (is_low key m) (is_low key n) refl (ap (λ k. ltb k key) (sym keys)) same
     where
       by : (a b : Bool) → is_low key m ≡ a → b ≡ is_low key m
-          → (cond a (record m { channel = lower_channel Split Free m.channel }) m).channel ≡ (cond b (record n { channel = lower_channel Split Free n.channel }) n).channel → m.channel ≡ n.channel
+          → (cond a (record m { channel = lower_channel Split Free m.channel }) m).channel
+          ≡ (cond b (record n { channel = lower_channel Split Free n.channel }) n).channel → m.channel ≡ n.channel
       by true true e f same = one_lower m.channel n.channel sm sn same
       by true false e f same = absurd (cc)
       by false true e f same = absurd (cc)
@@ -193,7 +204,8 @@ module _ (key : ℕ) (notes : List Note) where
       every : (ms : List Note) → All Sounding ms → All (IsBefore n) ms → AllByRecursion (λ y. same_place (part n) y ≡ false) (map part ms)
       every [] sm before = tt
       every (m ∷ ms) sm before = (
-        stay_apart n m (all_head Sounding n ns all) (all_head Sounding m ms sm) (all_head (IsBefore n) m ms before) (same_place (part n) (part m)) refl,
+        stay_apart n m (all_head Sounding n ns all) (all_head Sounding m ms sm) (all_head (IsBefore n) m ms before)
+            (same_place (part n) (part m)) refl,
         every ms (all_tail Sounding m ms sm) (all_tail (IsBefore n) m ms before),
       )
 
@@ -227,14 +239,16 @@ pub same_order : (ns : List Note) → in_order ns ≡ in_place ns
 same_order [] = refl
 same_order (n ∷ ns) = ap (list_with place_of_note n) (same_order ns)
 
-pub sorted_is : (xs ys : List Note) → IsDistinct same_place xs → IsPermutation xs ys → IsSortedByKey place_of_note (slice_cmp nat_cmp) ys → ys ≡ in_order xs
+pub sorted_is : (xs ys : List Note) → IsDistinct same_place xs → IsPermutation xs ys → IsSortedByKey place_of_note (slice_cmp nat_cmp) ys
+    → ys ≡ in_order xs
 sorted_is xs ys once moved sorted =
     let placed = placed_permuted xs in
     one_order IsBefore not_both ys (in_place xs)
     (sorted_in_order ys (IsDistinct-IsPermutation same_place either_way xs ys moved once) sorted)
     (placed_in_order xs once)
     (λ n there. Contains-permutation xs (in_place xs) n placed (Contains-permutation ys xs n (IsPermutation-sym xs ys moved) there))
-    (λ n there. Contains-permutation xs ys n moved (Contains-permutation (in_place xs) xs n (IsPermutation-sym xs (in_place xs) placed) there))
+    (λ n there. Contains-permutation xs ys n moved (Contains-permutation (in_place xs) xs n (IsPermutation-sym xs (in_place xs) placed)
+    there))
     ∙ sym (same_order xs)
 
 pub order_permuted : (xs : List Note) → IsPermutation xs (in_order xs)
@@ -250,7 +264,8 @@ one_in_order xs ys once moved =
     (Contains-permutation ys xs n (IsPermutation-sym xs ys moved)
     (Contains-permutation (in_place ys) ys n (IsPermutation-sym ys (in_place ys) (placed_permuted ys)) there)))
     (λ n there. Contains-permutation ys (in_place ys) n (placed_permuted ys)
-    (Contains-permutation xs ys n moved (Contains-permutation (in_place xs) xs n (IsPermutation-sym xs (in_place xs) (placed_permuted xs)) there)))
+    (Contains-permutation xs ys n moved (Contains-permutation (in_place xs) xs n (IsPermutation-sym xs (in_place xs) (placed_permuted xs))
+    there)))
     ∙ sym (same_order xs)
 
 -- ---- the take
@@ -269,8 +284,11 @@ module _ (key : ℕ) (t : Take) (formed : IsTakeFormed t) where
         division_high = formed.division_high;
         some_note = omega (arith, formed.some_note, long, many);
         few_notes = omega (arith, formed.few_notes, long, many);
-        notes = All-permutation (IsPlayed 1000000000) Parted (in_order Parted) moved (all_mapped (IsPlayed 1000000000) (IsPlayed 1000000000) (parted_note key (split_channels key t.notes) (free_channels t.notes)) (part_played key t.notes) t.notes formed.notes);
-        notes_in_order = subst (AreInOrder place_of_note) (sym (same_order Parted)) (placed_in_order Parted (parted_distinct key t.notes formed.notes_in_order));
+        notes = All-permutation (IsPlayed 1000000000) Parted (in_order Parted) moved
+            (all_mapped (IsPlayed 1000000000) (IsPlayed 1000000000) (parted_note key (split_channels key t.notes) (free_channels t.notes))
+            (part_played key t.notes) t.notes formed.notes);
+        notes_in_order = subst (AreInOrder place_of_note) (sym (same_order Parted))
+            (placed_in_order Parted (parted_distinct key t.notes formed.notes_in_order));
         tempos = formed.tempos;
         tempos_in_order = formed.tempos_in_order;
         key_marks = formed.key_marks;
@@ -281,11 +299,15 @@ module _ (key : ℕ) (t : Take) (formed : IsTakeFormed t) where
 pub split_ready : (latest key : ℕ) (t u : Take) → with_split key t ≡ Ok u → IsReady latest t → IsReady latest u
 split_ready latest key t u is ready = by (ltb (length (free_channels t.notes)) (length (split_channels key t.notes))) is
   where
-    by : (b : Bool) → cond b (Err (TooManyVoices (length (voice_channels t.notes) + length (split_channels key t.notes)))) (Ok (record t { notes = in_order (parted_notes key t.notes) })) ≡ Ok u → IsReady latest u
+    by : (b : Bool) → cond b (Err (TooManyVoices (length (voice_channels t.notes) + length (split_channels key t.notes))))
+        (Ok (record t { notes = in_order (parted_notes key t.notes) })) ≡ Ok u → IsReady latest u
     by true is = absurd (cc)
     by false is =
         let same : record t { notes = in_order (parted_notes key t.notes) } ≡ u = cc in
-        subst (IsReady latest) same (record { formed = split_formed key t ready.formed; marks = record { tempos = ready.marks.tempos; key_marks = ready.marks.key_marks; signatures = ready.marks.signatures } })
+        subst (IsReady latest) same (record {
+          formed = split_formed key t ready.formed;
+          marks = record { tempos = ready.marks.tempos; key_marks = ready.marks.key_marks; signatures = ready.marks.signatures };
+        })
 
 -- ---- what the split comes to
 
@@ -295,20 +317,28 @@ less_test a b lt = grind (arith, nat_tests)
 more_test : (a b : ℕ) → b ≤ a → ltb a b ≡ false
 more_test a b le = grind (arith, nat_tests)
 
-pub split_fault : (key : ℕ) (t : Take) (n : ℕ) → length (free_channels t.notes) < length (split_channels key t.notes) → n ≡ length (voice_channels t.notes) + length (split_channels key t.notes)
+pub split_fault : (key : ℕ) (t : Take) (n : ℕ) → length (free_channels t.notes) < length (split_channels key t.notes)
+    → n ≡ length (voice_channels t.notes) + length (split_channels key t.notes)
     → with_split key t ≡ Err (TooManyVoices n)
-split_fault key t n many count = by (ltb (length (free_channels t.notes)) (length (split_channels key t.notes))) (less_test (length (free_channels t.notes)) (length (split_channels key t.notes)) many)
+split_fault key t n many count =
+    by (ltb (length (free_channels t.notes)) (length (split_channels key t.notes)))
+    (less_test (length (free_channels t.notes)) (length (split_channels key t.notes)) many)
   where
     by : (b : Bool) → b ≡ true
-        → cond b (Err (TooManyVoices (length (voice_channels t.notes) + length (split_channels key t.notes)))) (Ok (record t { notes = in_order (parted_notes key t.notes) })) ≡ Err (TooManyVoices n)
+        → cond b (Err (TooManyVoices (length (voice_channels t.notes) + length (split_channels key t.notes))))
+        (Ok (record t { notes = in_order (parted_notes key t.notes) })) ≡ Err (TooManyVoices n)
     by true e = ap (λ k. Err (TooManyVoices k)) (sym count)
     by false e = absurd (cc)
 
-pub split_done : (key : ℕ) (t : Take) (notes : List Note) → length (split_channels key t.notes) ≤ length (free_channels t.notes) → notes ≡ in_order (parted_notes key t.notes)
+pub split_done : (key : ℕ) (t : Take) (notes : List Note) → length (split_channels key t.notes) ≤ length (free_channels t.notes)
+    → notes ≡ in_order (parted_notes key t.notes)
     → with_split key t ≡ Ok (record t { notes = notes })
-split_done key t notes few is = by (ltb (length (free_channels t.notes)) (length (split_channels key t.notes))) (more_test (length (free_channels t.notes)) (length (split_channels key t.notes)) few)
+split_done key t notes few is =
+    by (ltb (length (free_channels t.notes)) (length (split_channels key t.notes)))
+    (more_test (length (free_channels t.notes)) (length (split_channels key t.notes)) few)
   where
     by : (b : Bool) → b ≡ false
-        → cond b (Err (TooManyVoices (length (voice_channels t.notes) + length (split_channels key t.notes)))) (Ok (record t { notes = in_order (parted_notes key t.notes) })) ≡ Ok (record t { notes = notes })
+        → cond b (Err (TooManyVoices (length (voice_channels t.notes) + length (split_channels key t.notes))))
+        (Ok (record t { notes = in_order (parted_notes key t.notes) })) ≡ Ok (record t { notes = notes })
     by true e = absurd (cc)
     by false e = ap (λ ns. Ok (record t { notes = ns })) (sym is)

@@ -24,11 +24,14 @@ use Rattle.performance_prepare.specs.declared.shift.Shift.{Shift}
 
 -- ---- lists
 
-pub all_mapped : {X Y : Type 0} (P : X → Type 0) (Q : Y → Type 0) (f : X → Y) → ((x : X) → P x → Q (f x)) → (xs : List X) → All P xs → All Q (map f xs)
+pub all_mapped : {X Y : Type 0} (P : X → Type 0) (Q : Y → Type 0) (f : X → Y) → ((x : X) → P x → Q (f x)) → (xs : List X) → All P xs
+    → All Q (map f xs)
 all_mapped P Q f gives [] all = All-nil Q
-all_mapped P Q f gives (x ∷ xs) all = All-cons Q (f x) (map f xs) (gives x (all_head P x xs all)) (all_mapped P Q f gives xs (all_tail P x xs all))
+all_mapped P Q f gives (x ∷ xs) all =
+    All-cons Q (f x) (map f xs) (gives x (all_head P x xs all)) (all_mapped P Q f gives xs (all_tail P x xs all))
 
-pub pairs_mapped : {X Y : Type 0} (P : X → Type 0) (R : X → X → Type 0) (S : Y → Y → Type 0) (f : X → Y) → ((x y : X) → P x → R x y → S (f x) (f y)) → (xs : List X) → All P xs
+pub pairs_mapped : {X Y : Type 0} (P : X → Type 0) (R : X → X → Type 0) (S : Y → Y → Type 0) (f : X → Y)
+    → ((x y : X) → P x → R x y → S (f x) (f y)) → (xs : List X) → All P xs
     → AllPairs R xs → AllPairs S (map f xs)
 pairs_mapped P R S f gives [] all h = pairs_nil S
 pairs_mapped P R S f gives (x ∷ xs) all h =
@@ -36,7 +39,8 @@ pairs_mapped P R S f gives (x ∷ xs) all h =
     (all_mapped (R x) (S (f x)) f (λ y r. gives x y (all_head P x xs all) r) xs (pairs_head R x xs h))
     (pairs_mapped P R S f gives xs (all_tail P x xs all) (pairs_tail R x xs h))
 
-module _ {X : Type 0} (tick : X → ℕ) (g : X → X) (f : ℕ → ℕ) (same : (x : X) → tick (g x) ≡ f (tick x)) (rise : (a b : ℕ) → a ≤ b → f a ≤ f b) where
+module _ {X : Type 0} (tick : X → ℕ) (g : X → X) (f : ℕ → ℕ) (same : (x : X) → tick (g x) ≡ f (tick x)) (rise : (a b : ℕ) → a ≤ b
+    → f a ≤ f b) where
   up_mapped : (low : ℕ) (xs : List X) → Up low (map tick xs) → Up (f low) (map tick (map g xs))
   up_mapped low [] up = tt
   up_mapped low (x ∷ xs) up = (
@@ -134,11 +138,13 @@ module _ (s : Shift) (h : IsShift s) where
   pub shifted_key_marks : (ks : List KeyMark) → All IsKeyMark ks → All IsKeyMark (map (shifted_key_mark s) ks)
   shifted_key_marks ks all = all_mapped IsKeyMark IsKeyMark (shifted_key_mark s) (λ k is. record { low = is.low; high = is.high }) ks all
 
-  module _ (t : Take) (formed : IsTakeFormed t) (room : All HasRoom t.notes) (early : greatest_end (map (shifted_note s) t.notes) ≤ 1000000000) where
+  module _ (t : Take) (formed : IsTakeFormed t) (room : All HasRoom t.notes)
+      (early : greatest_end (map (shifted_note s) t.notes) ≤ 1000000000) where
     ends : All (λ n. n.end ≤ 1000000000) (map (shifted_note s) t.notes)
     ends k d lt = let most = below_greatest (λ n. n.end) (map (shifted_note s) t.notes) k d lt in omega (arith, most, early)
 
-    played : (ns : List Note) → All (IsPlayed 1000000000) ns → All (λ n. n.end ≤ 1000000000) (map (shifted_note s) ns) → All (IsPlayed 1000000000) (map (shifted_note s) ns)
+    played : (ns : List Note) → All (IsPlayed 1000000000) ns → All (λ n. n.end ≤ 1000000000) (map (shifted_note s) ns)
+        → All (IsPlayed 1000000000) (map (shifted_note s) ns)
     played [] all low = All-nil (IsPlayed 1000000000)
     played (n ∷ ns) all low =
         let one = all_head (IsPlayed 1000000000) n ns all in
@@ -155,8 +161,11 @@ module _ (s : Shift) (h : IsShift s) where
       notes = played t.notes formed.notes ends;
       notes_in_order = pairs_mapped HasRoom IsBefore IsBefore (shifted_note s) note_before t.notes room formed.notes_in_order;
       tempos = shifted_tempos t.tempos formed.tempos;
-      tempos_in_order = order_mapped (λ x. x.tick) (shifted_tempo s) (shifted_mark s) (λ x. refl) mark_rises t.tempos formed.tempos_in_order;
+      tempos_in_order = order_mapped (λ x. x.tick) (shifted_tempo s) (shifted_mark s) (λ x. refl) mark_rises t.tempos
+          formed.tempos_in_order;
       key_marks = shifted_key_marks t.key_marks formed.key_marks;
-      key_marks_in_order = order_mapped (λ x. x.tick) (shifted_key_mark s) (shifted_mark s) (λ x. refl) mark_rises t.key_marks formed.key_marks_in_order;
-      signatures_in_order = order_mapped (λ x. x.tick) (shifted_signature s) (shifted_mark s) (λ x. refl) mark_rises t.signatures formed.signatures_in_order;
+      key_marks_in_order =
+          order_mapped (λ x. x.tick) (shifted_key_mark s) (shifted_mark s) (λ x. refl) mark_rises t.key_marks formed.key_marks_in_order;
+      signatures_in_order =
+          order_mapped (λ x. x.tick) (shifted_signature s) (shifted_mark s) (λ x. refl) mark_rises t.signatures formed.signatures_in_order;
     }

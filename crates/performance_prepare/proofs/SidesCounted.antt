@@ -15,10 +15,20 @@ use Rattle.performance_prepare.specs.Sides.{ArePart, IsSide, keys_at}
 
 -- ---- one border more
 
-one_key : (b k : ℕ) (t u v : Bool) (xs ys zs : List ℕ) → nat_lt k (b + 1) ≡ t → nat_lt k b ≡ u → eqb k b ≡ v → length xs ≡ length ys + length zs → sum xs ≡ sum ys + b * length zs
-    → (length (cond t (k ∷ xs) xs) ≡ length (cond u (k ∷ ys) ys) + length (cond v (k ∷ zs) zs)) × (sum (cond t (k ∷ xs) xs) ≡ sum (cond u (k ∷ ys) ys) + b * length (cond v (k ∷ zs) zs))
-one_key b k true true false xs ys zs t u v n s = (omega (arith, n), (let c = sum_by-cons (λ x. x) k xs in let d = sum_by-cons (λ x. x) k ys in omega (arith, c, d, s)))
-one_key b k true false true xs ys zs t u v n s = (omega (arith, n), (let c = sum_by-cons (λ x. x) k xs in let e : k ≡ b = grind (arith, nat_tests) in omega (arith, c, e, s)))
+one_key : (b k : ℕ) (t u v : Bool) (xs ys zs : List ℕ) → nat_lt k (b + 1) ≡ t → nat_lt k b ≡ u → eqb k b ≡ v
+    → length xs ≡ length ys + length zs → sum xs ≡ sum ys + b * length zs
+    → (length (cond t (k ∷ xs) xs) ≡ length (cond u (k ∷ ys) ys) + length (cond v (k ∷ zs) zs))
+    × (sum (cond t (k ∷ xs) xs) ≡ sum (cond u (k ∷ ys) ys) + b * length (cond v (k ∷ zs) zs))
+one_key b k true true false xs ys zs t u v n s = (
+  omega (arith, n),
+  (let c = sum_by-cons (λ x. x) k xs in
+      let d = sum_by-cons (λ x. x) k ys in omega (arith, c, d, s)),
+)
+one_key b k true false true xs ys zs t u v n s = (
+  omega (arith, n),
+  (let c = sum_by-cons (λ x. x) k xs in
+      let e : k ≡ b = grind (arith, nat_tests) in omega (arith, c, e, s)),
+)
 one_key b k false false false xs ys zs t u v n s = (n, s)
 one_key b k true true true xs ys zs t u v n s = absurd (grind (arith, nat_tests))
 one_key b k true false false xs ys zs t u v n s = absurd (grind (arith, nat_tests))
@@ -26,13 +36,16 @@ one_key b k false true true xs ys zs t u v n s = absurd (grind (arith, nat_tests
 one_key b k false true false xs ys zs t u v n s = absurd (grind (arith, nat_tests))
 one_key b k false false true xs ys zs t u v n s = absurd (grind (arith, nat_tests))
 
-below_more : (b : ℕ) (keys : List ℕ) → (length (keys_below (b + 1) keys) ≡ length (keys_below b keys) + length (keys_at b keys)) × (sum (keys_below (b + 1) keys) ≡ sum (keys_below b keys) + b * length (keys_at b keys))
+below_more : (b : ℕ) (keys : List ℕ) → (length (keys_below (b + 1) keys) ≡ length (keys_below b keys) + length (keys_at b keys))
+    × (sum (keys_below (b + 1) keys) ≡ sum (keys_below b keys) + b * length (keys_at b keys))
 below_more b [] = (refl, omega arith)
 below_more b (k ∷ keys) =
     let rest = below_more b keys in
-    one_key b k (nat_lt k (b + 1)) (nat_lt k b) (eqb k b) (keys_below (b + 1) keys) (keys_below b keys) (keys_at b keys) refl refl refl rest.0 rest.1
+    one_key b k (nat_lt k (b + 1)) (nat_lt k b) (eqb k b) (keys_below (b + 1) keys) (keys_below b keys) (keys_at b keys) refl refl refl
+    rest.0 rest.1
 
-pub side_more : (b : ℕ) (keys : List ℕ) (count total more : ℕ) → IsSide (keys_below b keys) count total → more ≡ length (keys_at b keys) → IsSide (keys_below (b + 1) keys) (count + more) (total + b * more)
+pub side_more : (b : ℕ) (keys : List ℕ) (count total more : ℕ) → IsSide (keys_below b keys) count total → more ≡ length (keys_at b keys)
+    → IsSide (keys_below (b + 1) keys) (count + more) (total + b * more)
 side_more b keys count total more h e =
     let next = below_more b keys in
     record { all = (λ i. h.all i + e i) ∙ sym next.0; value = (λ i. h.value i + b * e i) ∙ sym next.1 }
@@ -48,7 +61,8 @@ pub side_none : (keys : List ℕ) → IsSide (keys_below 0 keys) 0 0
 side_none keys = subst (λ ks. IsSide ks 0 0) (sym (none_below keys)) (record { all = refl; value = refl })
 
 -- the keys on the other side
-pub side_other : (b : ℕ) (keys : List ℕ) (count total n s : ℕ) → IsSide keys n s → IsSide (keys_below b keys) count total → IsSide (keys_from b keys) (n - count) (s - total)
+pub side_other : (b : ℕ) (keys : List ℕ) (count total n s : ℕ) → IsSide keys n s → IsSide (keys_below b keys) count total
+    → IsSide (keys_from b keys) (n - count) (s - total)
 side_other b keys count total n s whole h =
     let both = length-filter_both (λ k. nat_lt k b) (λ k. not (nat_lt k b)) (λ k. refl) keys in
     let sums = sum_by-filter_both (λ k. nat_lt k b) (λ k. not (nat_lt k b)) (λ k. refl) (λ x. x) keys in
@@ -67,8 +81,10 @@ same a = grind (arith, nat_tests)
 pub at_few : (key : ℕ) (keys : List ℕ) → length (keys_at key keys) ≤ length keys
 at_few key keys = filter_few (λ k. k == key) keys
 
-pub counted_more : (counts keys : List ℕ) (i d v : ℕ) → i < length keys → length counts ≡ 128 → get_or keys i d < 128 → ((key : ℕ) → key < 128 → slice_index counts key ≡ length (keys_at key (take i keys)))
-    → v ≡ slice_index counts (get_or keys i d) + 1 → (key : ℕ) → key < 128 → slice_index (set counts (get_or keys i d) v) key ≡ length (keys_at key (take (i + 1) keys))
+pub counted_more : (counts keys : List ℕ) (i d v : ℕ) → i < length keys → length counts ≡ 128 → get_or keys i d < 128
+    → ((key : ℕ) → key < 128 → slice_index counts key ≡ length (keys_at key (take i keys)))
+    → v ≡ slice_index counts (get_or keys i d) + 1 → (key : ℕ) → key < 128
+    → slice_index (set counts (get_or keys i d) v) key ≡ length (keys_at key (take (i + 1) keys))
 counted_more counts keys i d v lt long low each is key within = elim (cases_order key (get_or keys i d)) [
   | inl e ↦ (
       let k : ℕ = get_or keys i d in
@@ -82,7 +98,8 @@ counted_more counts keys i d v lt long low each is key within = elim (cases_orde
   | inr other ↦ (
       let apart : key ≢ get_or keys i d = λ e. either e other in
       let more = length-filter_more (λ x. x == key) keys i d lt in
-      let none : ◌≡◌ {A = ℕ} (cond (eqb (get_or keys i d) key) 1 0) 0 = ap (λ b. cond {A = ℕ} b 1 0) (differs (get_or keys i d) key (λ e. apart (sym e))) in
+      let none : ◌≡◌ {A = ℕ} (cond (eqb (get_or keys i d) key) 1 0) 0 =
+      ap (λ b. cond {A = ℕ} b 1 0) (differs (get_or keys i d) key (λ e. apart (sym e))) in
       let old = each key within in
       let there = get_or-set_other counts (get_or keys i d) key v 0 apart in
       omega (arith, there, old, more, none)
@@ -113,7 +130,8 @@ sum_low (k ∷ keys) low =
 kept_low : (p : ℕ → Bool) (keys : List ℕ) → All (λ k. k < 128) keys → All (λ k. k < 128) (filter p keys)
 kept_low p keys low = all_from_among (λ k. k < 128) (filter p keys) (λ k am. all_among (λ x. x < 128) keys low k (out_of p keys k am).0)
 
-pub below_part : (keys : List ℕ) (border count total s : ℕ) → All (λ k. k < 128) keys → s ≡ sum keys → IsSide (keys_below border keys) count total → ArePart count total (length keys) s
+pub below_part : (keys : List ℕ) (border count total s : ℕ) → All (λ k. k < 128) keys → s ≡ sum keys
+    → IsSide (keys_below border keys) count total → ArePart count total (length keys) s
 below_part keys border count total s low all h =
     let other = side_other border keys count total (length keys) s (record { all = refl; value = all }) h in
     let sums = sum_by-filter_both (λ k. nat_lt k border) (λ k. not (nat_lt k border)) (λ k. refl) (λ x. x) keys in
@@ -126,7 +144,8 @@ below_part keys border count total s low all h =
       high = (let e = other.all in let v = other.value in omega (arith, e, v, two));
     }
 
-pub side_next : (keys : List ℕ) (border count total more n s : ℕ) → 1 ≤ border → IsSide (keys_below (border - 1) keys) count total → more ≡ length (keys_at (border - 1) keys) → n ≡ count + more → s ≡ total + (border - 1) * more
+pub side_next : (keys : List ℕ) (border count total more n s : ℕ) → 1 ≤ border → IsSide (keys_below (border - 1) keys) count total
+    → more ≡ length (keys_at (border - 1) keys) → n ≡ count + more → s ≡ total + (border - 1) * more
     → IsSide (keys_below border keys) n s
 side_next keys border count total more n s some h e is all =
     let next : border - 1 + 1 ≡ border = omega (arith, some) in

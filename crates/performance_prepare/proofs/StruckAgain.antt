@@ -73,23 +73,32 @@ module _ (tempos : List Tempo) (division within : ℕ) where
 
   -- why a note begins another strum
   apart : (first y : Note) (part : List Note) (x : Note) → IsRun first y part → Before y x → ((m : Note) → Among m part → Ends m x)
-      → J tempos division within part y x ≡ false → x.channel ≡ y.channel → x.channel ≢ 9 → Close y x → (m : Note) × Among m part × Ended x m
+      → J tempos division within part y x ≡ false → x.channel ≡ y.channel → x.channel ≢ 9 → Close y x
+      → (m : Note) × Among m part × Ended x m
   apart first y part x run before ends e same pitched close =
       by (x.channel == y.channel) (is_drum x) (x.onset == y.onset) refl refl
       (nat_le (time_between tempos y.onset x.onset) (milliseconds division within)) refl
-      (nat_lt (milliseconds division 40) (time_between tempos x.onset (First part))) refl (same_test tempos division within first y part x run before ends ∙ e)
+      (nat_lt (milliseconds division 40) (time_between tempos x.onset (First part))) refl
+      (same_test tempos division within first y part x run before ends ∙ e)
     where
       ended : nat_lt (milliseconds division 40) (time_between tempos x.onset (First part)) ≡ false → (m : Note) × Among m part × Ended x m
       ended short =
-          let there = least_there (map (λ n. n.end) part) (let some = run.some in let long = length-map part (λ (n : Note). n.end) in omega (arith, some, long)) in
-          let m = from_map (λ (n : Note). n.end) part (First part) there in
-          (m.0, m.1, subst (λ end. time_between tempos x.onset end ≤ milliseconds division 40) m.2 (low (milliseconds division 40) (time_between tempos x.onset (First part)) short))
+          let there = least_there (map (λ n. n.end) part) (let some = run.some in let long = length-map part (λ (n : Note). n.end) in
+          omega (arith, some, long)) in
+          let m = from_map (λ (n : Note). n.end) part (First part) there in (
+            m.0,
+            m.1,
+            subst (λ end. time_between tempos x.onset end ≤ milliseconds division 40) m.2
+                (low (milliseconds division 40) (time_between tempos x.onset (First part)) short),
+          )
         where
           low : (a b : ℕ) → nat_lt a b ≡ false → b ≤ a
           low a b h = grind (arith, nat_tests)
 
-      by : (a d o : Bool) → (x.channel == y.channel) ≡ a → is_drum x ≡ d → (r : Bool) → nat_le (time_between tempos y.onset x.onset) (milliseconds division within) ≡ r
-          → (s : Bool) → nat_lt (milliseconds division 40) (time_between tempos x.onset (First part)) ≡ s → (a && (not d && (o || (r && s)))) ≡ false → (m : Note) × Among m part × Ended x m
+      by : (a d o : Bool) → (x.channel == y.channel) ≡ a → is_drum x ≡ d → (r : Bool)
+          → nat_le (time_between tempos y.onset x.onset) (milliseconds division within) ≡ r
+          → (s : Bool) → nat_lt (milliseconds division 40) (time_between tempos x.onset (First part)) ≡ s
+          → (a && (not d && (o || (r && s)))) ≡ false → (m : Note) × Among m part × Ended x m
       by false d o ea ed r er s es h = absurd (differ x.channel y.channel ea same)
         where
           differ : (a b : ℕ) → eqb a b ≡ false → a ≢ b
@@ -115,7 +124,8 @@ module _ (tempos : List Tempo) (division within : ℕ) where
 
   -- a strum and those after it
   joined_settled : (first y : Note) (part : List Note) (x : Note) (xs : List Note) → IsRun first y part → Pairwise Before (y ∷ x ∷ xs)
-      → ((m : Note) → Among m part → Ends m x) → J tempos division within part y x ≡ false → Settled (Placed tempos division within (x ∷ []) x xs)
+      → ((m : Note) → Among m part → Ends m x) → J tempos division within part y x ≡ false
+      → Settled (Placed tempos division within (x ∷ []) x xs)
       → Settled (together part ++ Placed tempos division within (x ∷ []) x xs)
   joined_settled first y part x xs run order ends e rest u v au av same pitched less close =
       by (among_both (together part) (From x xs) u au) (among_both (together part) (From x xs) v av)
@@ -126,7 +136,8 @@ module _ (tempos : List Tempo) (division within : ℕ) where
       beyond : (w : Note) → Among w (From x xs) → Beyond tempos division within x w
       beyond w aw = placed_beyond tempos division within xs x x (x ∷ []) (run_one x) order.1 w aw
 
-      across : Among u (together part) → Beyond tempos division within x v → (m : Note) × Among m (together part ++ (From x xs)) × (m.channel ≡ u.channel) × (m.onset ≡ u.onset) × Ended v m
+      across : Among u (together part) → Beyond tempos division within x v
+          → (m : Note) × Among m (together part ++ (From x xs)) × (m.channel ≡ u.channel) × (m.onset ≡ u.onset) × Ended v m
       across here there = go before there
         where
           from : (n : Note) × Among n part × (u ≡ begun_at (midway part) n)
@@ -135,7 +146,8 @@ module _ (tempos : List Tempo) (division within : ℕ) where
           own : u.channel ≡ y.channel
           own = ap (λ (n : Note). n.channel) from.2 ∙ (run.each from.0 from.1).0
 
-          go : Before y x → Beyond tempos division within x v → (m : Note) × Among m (together part ++ (From x xs)) × (m.channel ≡ u.channel) × (m.onset ≡ u.onset) × Ended v m
+          go : Before y x → Beyond tempos division within x v
+              → (m : Note) × Among m (together part ++ (From x xs)) × (m.channel ≡ u.channel) × (m.onset ≡ u.onset) × Ended v m
           go (inl lt) (inl more) = absurd (omega (arith, own, same, lt, more))
           go (inl lt) (inr at) = (let c = at.0 in absurd (omega (arith, own, same, lt, c)))
           go (inr at) (inl more) = (let c = at.0 in absurd (omega (arith, own, same, c, more)))
@@ -154,19 +166,23 @@ module _ (tempos : List Tempo) (division within : ℕ) where
                 omega (arith, short, late),
               )
 
-      by : Among u (together part) ⊎ Among u (From x xs) → Among v (together part) ⊎ Among v (From x xs) → (m : Note) × Among m (together part ++ (From x xs)) × (m.channel ≡ u.channel) × (m.onset ≡ u.onset) × Ended v m
+      by : Among u (together part) ⊎ Among u (From x xs) → Among v (together part) ⊎ Among v (From x xs)
+          → (m : Note) × Among m (together part ++ (From x xs)) × (m.channel ≡ u.channel) × (m.onset ≡ u.onset) × Ended v m
       by (inl a) (inl b) = let ou = together_onset part u a in let ov = together_onset part v b in absurd (omega (arith, ou, ov, less))
       by (inl a) (inr b) = across a (beyond v b)
       by (inr a) (inl b) =
           let le = (across_apart tempos division within first y part x run before e v u b (beyond u a)).order (sym same) in
           absurd (omega (arith, le, less))
-      by (inr a) (inr b) = let m = rest u v a b same pitched less close in (m.0, among_right (together part) (From x xs) m.0 m.1, m.2, m.3, m.4)
+      by (inr a) (inr b) = let m = rest u v a b same pitched less close in
+          (m.0, among_right (together part) (From x xs) m.0 m.1, m.2, m.3, m.4)
 
-  placed_settled : (xs : List Note) (first y : Note) (part : List Note) → IsRun first y part → Pairwise Before (y ∷ xs) → ((m : Note) → Among m part → (x : Note) → Among x xs → Ends m x)
+  placed_settled : (xs : List Note) (first y : Note) (part : List Note) → IsRun first y part → Pairwise Before (y ∷ xs)
+      → ((m : Note) → Among m part → (x : Note) → Among x xs → Ends m x)
       → Pairwise Ends xs → Settled (Placed tempos division within part y xs)
   placed_settled [] first y part run order ends pairs = subst Settled (sym (append-nil (together part))) (together_settled part)
   placed_settled (x ∷ xs) first y part run order ends pairs =
-      go (J tempos division within part y x) refl (λ r. placed_settled xs first x (part ++ x ∷ []) r order.1 (λ m am z az. more m (among_both part (x ∷ []) m am) z az) pairs.1)
+      go (J tempos division within part y x) refl (λ r. placed_settled xs first x (part ++ x ∷ []) r order.1
+      (λ m am z az. more m (among_both part (x ∷ []) m am) z az) pairs.1)
       (placed_settled xs x x (x ∷ []) (run_one x) order.1 (λ m am z az. alone m am z az) pairs.1)
     where
       alone : (m : Note) → Among m (x ∷ []) → (z : Note) → Among z xs → Ends m z
@@ -177,9 +193,11 @@ module _ (tempos : List Tempo) (division within : ℕ) where
       more m (inl am) z az = ends m am z (inr az)
       more m (inr am) z az = alone m am z az
 
-      go : (b : Bool) → J tempos division within part y x ≡ b → (IsRun first x (part ++ x ∷ []) → Settled (Placed tempos division within (part ++ x ∷ []) x xs))
+      go : (b : Bool) → J tempos division within part y x ≡ b
+          → (IsRun first x (part ++ x ∷ []) → Settled (Placed tempos division within (part ++ x ∷ []) x xs))
           → Settled (Placed tempos division within (x ∷ []) x xs) → Settled (Next tempos division within b part x xs)
-      go true e on next = on (run_more tempos division within first y part x run (order.0 x (inl refl)) (joined tempos division within part y x e))
+      go true e on next = on (run_more tempos division within first y part x run (order.0 x (inl refl))
+          (joined tempos division within part y x e))
       go false e on next = joined_settled first y part x xs run order (λ m am. ends m am x (inl refl)) e next
 
   all_settled : (notes : List Note) → Pairwise Before notes → Pairwise Ends notes → Settled (strummed_notes tempos division within notes)
@@ -221,7 +239,8 @@ module _ (tempos : List Tempo) (division within : ℕ) where
   member (x ∷ xs) some = (x, inl refl)
 
   -- no note before x in its channel is after it
-  not_back : (x : Note) (xs : List Note) → Pairwise Before (x ∷ xs) → (m : Note) → Among m (x ∷ xs) → m.channel ≡ x.channel → x.onset ≤ m.onset
+  not_back : (x : Note) (xs : List Note) → Pairwise Before (x ∷ xs) → (m : Note) → Among m (x ∷ xs) → m.channel ≡ x.channel
+      → x.onset ≤ m.onset
   not_back x xs order m (inl e) same = let o = ap (λ (n : Note). n.onset) e in omega (arith, o)
   not_back x xs order m (inr am) same = by (order.0 m am)
     where
@@ -230,7 +249,8 @@ module _ (tempos : List Tempo) (division within : ℕ) where
       by (inr h) = h.1
 
   -- what joins a chord of settled notes begins with it
-  begins_with : (first y : Note) (part : List Note) (x : Note) (xs : List Note) → IsChord first y part → Pairwise Before (y ∷ x ∷ xs) → Settled (part ++ x ∷ xs)
+  begins_with : (first y : Note) (part : List Note) (x : Note) (xs : List Note) → IsChord first y part → Pairwise Before (y ∷ x ∷ xs)
+      → Settled (part ++ x ∷ xs)
       → J tempos division within part y x ≡ true → x.onset ≡ y.onset
   begins_with first y part x xs chord order settled e =
       let join = joined tempos division within part y x e in
@@ -251,24 +271,28 @@ module _ (tempos : List Tempo) (division within : ℕ) where
       -- a note of the chord that has ended
       clash : x.channel ≡ y.channel → x.channel ≢ 9 → y.onset < x.onset → rolls_on tempos division within part y x ≡ true → ⊥
       clash same pitched less rolls =
-          let tests = and_parts (nat_le (time_between tempos y.onset x.onset) (milliseconds division within)) (nat_lt (milliseconds division 40) (time_between tempos x.onset (First part))) rolls in
+          let tests = and_parts (nat_le (time_between tempos y.onset x.onset) (milliseconds division within))
+          (nat_lt (milliseconds division 40) (time_between tempos x.onset (First part))) rolls in
           let close = near (time_between tempos y.onset x.onset) (milliseconds division within) tests.0 in
           let long = far (milliseconds division 40) (time_between tempos x.onset (First part)) tests.1 in
           let p = member part chord.run.some in
           let channel : p.0.channel ≡ y.channel = (chord.run.each p.0 p.1).0 in
           let onset : p.0.onset ≡ y.onset = chord_onset first y part chord p.0 p.1 in
-          let m = settled p.0 x (among_left part (x ∷ xs) p.0 p.1) (among_right part (x ∷ xs) x (inl refl)) (channel ∙ sym same) (λ nine. pitched (same ∙ sym channel ∙ nine)) (omega (arith, onset, less))
+          let m = settled p.0 x (among_left part (x ∷ xs) p.0 p.1) (among_right part (x ∷ xs) x (inl refl)) (channel
+          ∙ sym same) (λ nine. pitched (same ∙ sym channel ∙ nine)) (omega (arith, onset, less))
           (subst (λ tick. time_between tempos tick x.onset ≤ milliseconds division within) (sym onset) close) in
           there m.0 (among_both part (x ∷ xs) m.0 m.1) (m.2 ∙ channel) (m.3 ∙ onset) m.4 long
         where
-          there : (m : Note) → Among m part ⊎ Among m (x ∷ xs) → m.channel ≡ y.channel → m.onset ≡ y.onset → Ended x m → milliseconds division 40 < time_between tempos x.onset (First part) → ⊥
+          there : (m : Note) → Among m part ⊎ Among m (x ∷ xs) → m.channel ≡ y.channel → m.onset ≡ y.onset → Ended x m
+              → milliseconds division 40 < time_between tempos x.onset (First part) → ⊥
           there m (inr am) c o ended long = let le = not_back x xs order.1 m am (c ∙ sym same) in omega (arith, le, o, less)
           there m (inl am) c o ended long =
               let low = least_among (map (λ n. n.end) part) m.end (among_map (λ (n : Note). n.end) part m am) in
               let up = later_start x.onset x.onset (First part) m.end (omega arith) low in
               omega (arith, ended, long, up)
 
-      by : x.channel ≡ y.channel → x.channel ≢ 9 → ((x.onset == y.onset) ≡ true) ⊎ (rolls_on tempos division within part y x ≡ true) → x.onset ≡ y.onset
+      by : x.channel ≡ y.channel → x.channel ≢ 9 → ((x.onset == y.onset) ≡ true) ⊎ (rolls_on tempos division within part y x ≡ true)
+          → x.onset ≡ y.onset
       by same pitched (inl h) = equal x.onset y.onset h
       by same pitched (inr h) = elim (cases_order y.onset x.onset) [
         | inl at ↦ sym at
@@ -279,7 +303,8 @@ module _ (tempos : List Tempo) (division within : ℕ) where
       ]
 
   -- where a chord of settled notes ends, the others are settled
-  settled_rest : (first y : Note) (part : List Note) (x : Note) (xs : List Note) → IsChord first y part → Pairwise Before (y ∷ x ∷ xs) → Settled (part ++ x ∷ xs)
+  settled_rest : (first y : Note) (part : List Note) (x : Note) (xs : List Note) → IsChord first y part → Pairwise Before (y ∷ x ∷ xs)
+      → Settled (part ++ x ∷ xs)
       → J tempos division within part y x ≡ false → Settled (x ∷ xs)
   settled_rest first y part x xs chord order settled e u v au av same pitched less close =
       let m = settled u v (among_right part (x ∷ xs) u au) (among_right part (x ∷ xs) v av) same pitched less close in
@@ -296,7 +321,8 @@ module _ (tempos : List Tempo) (division within : ℕ) where
               omega (arith, lt, mid, le)
 
           go : Before y x → Among u (x ∷ xs) → ⊥
-          go before (inl is) = let o = ap (λ (n : Note). n.onset) is in sooner before (sym (ap (λ (n : Note). n.channel) is) ∙ channel) (omega (arith, o, onset))
+          go before (inl is) = let o = ap (λ (n : Note). n.onset) is in
+              sooner before (sym (ap (λ (n : Note). n.channel) is) ∙ channel) (omega (arith, o, onset))
           go (inl lt) (inr am) = after (order.1.0 u am)
             where
               after : Before x u → ⊥
@@ -308,22 +334,28 @@ module _ (tempos : List Tempo) (division within : ℕ) where
               after (inl less) = let c = at.0 in omega (arith, c, less, channel)
               after (inr h) = let o = h.1 in sooner (inr at) (sym at.0) (omega (arith, o, onset))
 
-      by : (m : Note) → Among m part ⊎ Among m (x ∷ xs) → m.channel ≡ u.channel → m.onset ≡ u.onset → Ended v m → (n : Note) × Among n (x ∷ xs) × (n.channel ≡ u.channel) × (n.onset ≡ u.onset) × Ended v n
+      by : (m : Note) → Among m part ⊎ Among m (x ∷ xs) → m.channel ≡ u.channel → m.onset ≡ u.onset → Ended v m
+          → (n : Note) × Among n (x ∷ xs) × (n.channel ≡ u.channel) × (n.onset ≡ u.onset) × Ended v n
       by m (inr am) c o ended = (m, am, c, o, ended)
       by m (inl am) c o ended = absurd (clash (sym c ∙ (chord.run.each m am).0) (sym o ∙ chord_onset first y part chord m am))
 
-  placed_still : (xs : List Note) (first y : Note) (part : List Note) → IsChord first y part → Pairwise Before (y ∷ xs) → Settled (part ++ xs) → Placed tempos division within part y xs ≡ part ++ xs
+  placed_still : (xs : List Note) (first y : Note) (part : List Note) → IsChord first y part → Pairwise Before (y ∷ xs)
+      → Settled (part ++ xs) → Placed tempos division within part y xs ≡ part ++ xs
   placed_still [] first y part chord order settled = ap (λ ns. ns ++ []) (chord_still first y part chord)
   placed_still (x ∷ xs) first y part chord order settled =
-      go (J tempos division within part y x) refl (λ c. placed_still xs first x (part ++ x ∷ []) c order.1 (subst Settled (sym (append_assoc part (x ∷ []) xs)) settled))
+      go (J tempos division within part y x) refl (λ c. placed_still xs first x (part ++ x ∷ []) c order.1
+      (subst Settled (sym (append_assoc part (x ∷ []) xs)) settled))
       (placed_still xs x x (x ∷ []) (record { run = run_one x; one = refl }) order.1)
     where
-      go : (b : Bool) → J tempos division within part y x ≡ b → (IsChord first x (part ++ x ∷ []) → Placed tempos division within (part ++ x ∷ []) x xs ≡ (part ++ x ∷ []) ++ xs)
-          → (Settled (x ∷ xs) → Placed tempos division within (x ∷ []) x xs ≡ x ∷ xs) → Next tempos division within b part x xs ≡ part ++ x ∷ xs
+      go : (b : Bool) → J tempos division within part y x ≡ b
+          → (IsChord first x (part ++ x ∷ []) → Placed tempos division within (part ++ x ∷ []) x xs ≡ (part ++ x ∷ []) ++ xs)
+          → (Settled (x ∷ xs) → Placed tempos division within (x ∷ []) x xs ≡ x ∷ xs)
+          → Next tempos division within b part x xs ≡ part ++ x ∷ xs
       go true e on next =
           let with_it = begins_with first y part x xs chord order settled e in
           on (record {
-            run = run_more tempos division within first y part x chord.run (order.0 x (inl refl)) (joined tempos division within part y x e);
+            run = run_more tempos division within first y part x chord.run (order.0 x (inl refl))
+                (joined tempos division within part y x e);
             one = chord.one ∙ sym with_it;
           })
           ∙ append_assoc part (x ∷ []) xs
@@ -354,11 +386,13 @@ module _ (within : ℕ) (t : Take) (formed : IsTakeFormed t) (ends : AllPairs En
   settled_once : Settled t.tempos t.division within (in_order Once)
   settled_once =
       settled_permuted t.tempos t.division within Once (in_order Once) (order_permuted Once)
-      (all_settled t.tempos t.division within t.notes (notes_before 1000000000 t.notes formed.notes formed.notes_in_order) (to_pairs t.notes ends))
+      (all_settled t.tempos t.division within t.notes (notes_before 1000000000 t.notes formed.notes formed.notes_in_order)
+      (to_pairs t.notes ends))
 
   strummed_once : strummed_notes t.tempos t.division within (in_order Once) ≡ in_order Once
   strummed_once =
-      settled_still t.tempos t.division within (in_order Once) (notes_before 1000000000 (in_order Once) struck.notes struck.notes_in_order) settled_once
+      settled_still t.tempos t.division within (in_order Once) (notes_before 1000000000 (in_order Once) struck.notes struck.notes_in_order)
+      settled_once
 
   distinct : IsDistinct same_place (in_order Once)
   distinct =

@@ -60,7 +60,9 @@ before_by_place m n low high h = elim (cases_order m.channel n.channel) [
 pub notes_before : (latest : ℕ) (notes : List Note) → All (IsPlayed latest) notes → AreInOrder place_of_note notes → Pairwise Before notes
 notes_before latest [] played order = tt
 notes_before latest (n ∷ notes) played order = (
-  (λ m am. before_by_place n m (all_head (IsPlayed latest) n notes played).key (all_among (IsPlayed latest) notes (all_tail (IsPlayed latest) n notes played) m am).key (all_among (IsBefore n) notes (pairs_head IsBefore n notes order) m am)),
+  (λ m am. before_by_place n m (all_head (IsPlayed latest) n notes played).key
+      (all_among (IsPlayed latest) notes (all_tail (IsPlayed latest) n notes played) m am).key
+      (all_among (IsBefore n) notes (pairs_head IsBefore n notes order) m am)),
   notes_before latest notes (all_tail (IsPlayed latest) n notes played) (pairs_tail IsBefore n notes order),
 )
 
@@ -69,7 +71,8 @@ notes_before latest (n ∷ notes) played order = (
 -- where no note has the key, it differs from all
 strikes_not : (part : List Note) (key : ℕ) → strikes part key ≡ false → (m : Note) → Among m part → m.key ≢ key
 strikes_not [] key e m am same = absurd am
-strikes_not (n ∷ part) key e m (inl is) same = let at : n.key ≡ key = sym (ap (λ (x : Note). x.key) is) ∙ same in absurd (here (eqb n.key key) refl at e)
+strikes_not (n ∷ part) key e m (inl is) same = let at : n.key ≡ key = sym (ap (λ (x : Note). x.key) is) ∙ same in
+    absurd (here (eqb n.key key) refl at e)
   where
     here : (b : Bool) → eqb n.key key ≡ b → n.key ≡ key → (b || strikes part key) ≡ false → ⊥
     here true e at h = cc
@@ -84,7 +87,8 @@ pub strikes_some : (part : List Note) (key : ℕ) → strikes part key ≡ true 
 strikes_some [] key e = absurd (cc)
 strikes_some (n ∷ part) key e = go (eqb n.key key) refl e (strikes_some part key)
   where
-    go : (b : Bool) → eqb n.key key ≡ b → (b || strikes part key) ≡ true → (strikes part key ≡ true → (m : Note) × Among m part × (m.key ≡ key)) → (m : Note) × Among m (n ∷ part) × (m.key ≡ key)
+    go : (b : Bool) → eqb n.key key ≡ b → (b || strikes part key) ≡ true
+        → (strikes part key ≡ true → (m : Note) × Among m part × (m.key ≡ key)) → (m : Note) × Among m (n ∷ part) × (m.key ≡ key)
     go true is h rest = (n, inl refl, grind (arith, nat_tests))
     go false is h rest = let r = rest h in (r.0, inr r.1, r.2)
 
@@ -97,7 +101,8 @@ pub record IsRun (first last : Note) (part : List Note) : Type 0 where
   pub some : 1 ≤ length part
   pub channel : first.channel ≡ last.channel
   pub order : first.onset ≤ last.onset
-  pub each : (n : Note) → Among n part → (n.channel ≡ last.channel) × (first.onset ≤ n.onset) × (n.onset ≤ last.onset) × (spot n ≤ spot last)
+  pub each : (n : Note) → Among n part → (n.channel ≡ last.channel) × (first.onset ≤ n.onset) × (n.onset ≤ last.onset)
+      × (spot n ≤ spot last)
   pub apart : Pairwise (λ m n. m.key ≢ n.key) part
   pub drum : last.channel ≡ 9 → (part ≡ last ∷ []) × (first ≡ last)
   pub sounding : (n : Note) → Among n part → (n.onset ≡ last.onset) ⊎ (last.onset < n.end)
@@ -120,7 +125,8 @@ run_one x = record {
     same n (inr am) = absurd am
 
     alike : (n : Note) → Among n (x ∷ []) → (n.channel ≡ x.channel) × (x.onset ≤ n.onset) × (n.onset ≤ x.onset) × (spot n ≤ spot x)
-    alike n (inl e) = let o = ap (λ (m : Note). m.onset) e in let k = ap spot e in (ap (λ (m : Note). m.channel) e, omega (arith, o), omega (arith, o), omega (arith, k))
+    alike n (inl e) = let o = ap (λ (m : Note). m.onset) e in let k = ap spot e in
+        (ap (λ (m : Note). m.channel) e, omega (arith, o), omega (arith, o), omega (arith, k))
     alike n (inr am) = absurd am
 
 pub run_low : (first last : Note) (part : List Note) → IsRun first last part → first.onset ≤ midway part
@@ -132,7 +138,8 @@ run_high first last part run = let b = run.begin in let e = run.end in let o = r
 run_sooner : (first last : Note) (part : List Note) → IsRun first last part → first.onset < last.onset → midway part < last.onset
 run_sooner first last part run less = let b = run.begin in let e = run.end in omega (arith, b, e, less)
 
-first_pushed : (part : List Note) (x : Note) → 1 ≤ length part → slice_index (map (λ n. n.onset) (part ++ x ∷ [])) 0 ≡ slice_index (map (λ n. n.onset) part) 0
+first_pushed : (part : List Note) (x : Note) → 1 ≤ length part
+    → slice_index (map (λ n. n.onset) (part ++ x ∷ [])) 0 ≡ slice_index (map (λ n. n.onset) part) 0
 first_pushed [] x some = absurd (omega (arith, some))
 first_pushed (p ∷ part) x some = refl
 
@@ -153,16 +160,21 @@ module _ (tempos : List Tempo) (division within : ℕ) where
     pub new : (m : Note) → Among m part → m.key ≢ x.key
     pub sounds : (x.onset ≡ y.onset) ⊎ ((m : Note) → Among m part → x.onset < m.end)
 
-  pub later_end : (part : List Note) (y x : Note) → rolls_on tempos division within part y x ≡ true → (m : Note) → Among m part → x.onset < m.end
+  pub later_end : (part : List Note) (y x : Note) → rolls_on tempos division within part y x ≡ true → (m : Note) → Among m part
+      → x.onset < m.end
   later_end part y x e m am =
-      let e2 = (and_parts (nat_le (time_between tempos y.onset x.onset) (milliseconds division within)) (nat_lt (milliseconds division 40) (time_between tempos x.onset (least_of (map (λ n. n.end) part)))) e).1 in
-      let low : least_of (map (λ n. n.end) part) ≤ m.end = least_among (map (λ n. n.end) part) m.end (among_map (λ (n : Note). n.end) part m am) in
-      let past : time tempos x.onset < time tempos (least_of (map (λ n. n.end) part)) = after (milliseconds division 40) (time tempos x.onset) (time tempos (least_of (map (λ n. n.end) part))) e2 in
+      let e2 = (and_parts (nat_le (time_between tempos y.onset x.onset) (milliseconds division within))
+      (nat_lt (milliseconds division 40) (time_between tempos x.onset (least_of (map (λ n. n.end) part)))) e).1 in
+      let low : least_of (map (λ n. n.end) part) ≤ m.end =
+      least_among (map (λ n. n.end) part) m.end (among_map (λ (n : Note). n.end) part m am) in
+      let past : time tempos x.onset < time tempos (least_of (map (λ n. n.end) part)) =
+      after (milliseconds division 40) (time tempos x.onset) (time tempos (least_of (map (λ n. n.end) part))) e2 in
       elim (cases_order x.onset (least_of (map (λ n. n.end) part))) [
         | inl same ↦ (let t = ap (time tempos) same in absurd (omega (arith, past, t)))
         | inr other ↦ elim other [
           | inl lt ↦ omega (arith, lt, low)
-          | inr gt ↦ (let t = time_rises tempos (least_of (map (λ n. n.end) part)) x.onset (omega (arith, gt)) in absurd (omega (arith, past, t)))
+          | inr gt ↦ (let t = time_rises tempos (least_of (map (λ n. n.end) part)) x.onset (omega (arith, gt)) in
+              absurd (omega (arith, past, t)))
         ]
       ]
     where
@@ -171,8 +183,10 @@ module _ (tempos : List Tempo) (division within : ℕ) where
 
   pub joined : (part : List Note) (y x : Note) → J part y x ≡ true → IsJoined part y x
   joined part y x e =
-      let a = and_parts (x.channel == y.channel) (not (is_drum x) && (not (strikes part x.key) && ((x.onset == y.onset) || rolls_on tempos division within part y x))) e in
-      let b = and_parts (not (is_drum x)) (not (strikes part x.key) && ((x.onset == y.onset) || rolls_on tempos division within part y x)) a.1 in
+      let a = and_parts (x.channel == y.channel) (not (is_drum x)
+      && (not (strikes part x.key) && ((x.onset == y.onset) || rolls_on tempos division within part y x))) e in
+      let b = and_parts (not (is_drum x)) (not (strikes part x.key) && ((x.onset == y.onset) || rolls_on tempos division within part y x))
+      a.1 in
       let c = and_parts (not (strikes part x.key)) ((x.onset == y.onset) || rolls_on tempos division within part y x) b.1 in
       record {
         channel = (let h = a.0 in grind (arith, nat_tests));
@@ -188,7 +202,8 @@ module _ (tempos : List Tempo) (division within : ℕ) where
       turned true h = absurd (cc)
       turned false h = refl
 
-  pub run_more : (first y : Note) (part : List Note) (x : Note) → IsRun first y part → Before y x → IsJoined part y x → IsRun first x (part ++ x ∷ [])
+  pub run_more : (first y : Note) (part : List Note) (x : Note) → IsRun first y part → Before y x → IsJoined part y x
+      → IsRun first x (part ++ x ∷ [])
   run_more first y part x run before join = record {
     begin = first_pushed part x run.some ∙ run.begin;
     end = last_pushed part x;
@@ -205,16 +220,19 @@ module _ (tempos : List Tempo) (division within : ℕ) where
       next (inl lt) = absurd (let c = join.channel in omega (arith, c, lt))
       next (inr h) = (h.1, h.2)
 
-      each : (n : Note) → Among n part ⊎ Among n (x ∷ []) → (y.onset ≤ x.onset) × (spot y < spot x) → (n.channel ≡ x.channel) × (first.onset ≤ n.onset) × (n.onset ≤ x.onset) × (spot n ≤ spot x)
+      each : (n : Note) → Among n part ⊎ Among n (x ∷ []) → (y.onset ≤ x.onset) × (spot y < spot x)
+          → (n.channel ≡ x.channel) × (first.onset ≤ n.onset) × (n.onset ≤ x.onset) × (spot n ≤ spot x)
       each n (inl am) h = let e = run.each n am in (e.0 ∙ sym join.channel, e.1, omega (arith, e.2, h.0), omega (arith, e.3, h.1))
-      each n (inr (inl e)) h = let o = ap (λ (m : Note). m.onset) e in let k = ap spot e in let f = run.order in (ap (λ (m : Note). m.channel) e, omega (arith, o, f, h.0), omega (arith, o), omega (arith, k))
+      each n (inr (inl e)) h = let o = ap (λ (m : Note). m.onset) e in let k = ap spot e in let f = run.order in
+          (ap (λ (m : Note). m.channel) e, omega (arith, o, f, h.0), omega (arith, o), omega (arith, k))
       each n (inr (inr am)) h = absurd am
 
       differ : (m n : Note) → Among m part → Among n (x ∷ []) → m.key ≢ n.key
       differ m n am (inl e) same = join.new m am (same ∙ ap (λ (k : Note). k.key) e)
       differ m n am (inr an) same = absurd an
 
-      sounds : (n : Note) → Among n part ⊎ Among n (x ∷ []) → (x.onset ≡ y.onset) ⊎ ((m : Note) → Among m part → x.onset < m.end) → (n.onset ≡ x.onset) ⊎ (x.onset < n.end)
+      sounds : (n : Note) → Among n part ⊎ Among n (x ∷ []) → (x.onset ≡ y.onset) ⊎ ((m : Note) → Among m part → x.onset < m.end)
+          → (n.onset ≡ x.onset) ⊎ (x.onset < n.end)
       sounds n (inr (inl e)) s = inl (ap (λ (m : Note). m.onset) e)
       sounds n (inr (inr am)) s = absurd am
       sounds n (inl am) (inr later) = inr (later n am)
@@ -243,10 +261,16 @@ module _ (tempos : List Tempo) (division within : ℕ) where
       let low = run_low first y part run in
       let onset : z.onset ≡ midway part = ap (λ (k : Note). k.onset) m.2 in
       let key : z.key ≡ m.0.key = ap (λ (k : Note). k.key) m.2 in
-      inr (ap (λ (k : Note). k.channel) m.2 ∙ e.0 ∙ sym run.channel, omega (arith, low, onset), λ nine. drums m.0 m.1 onset key (run.drum (sym run.channel ∙ nine)) low)
+      inr (
+        ap (λ (k : Note). k.channel) m.2 ∙ e.0 ∙ sym run.channel,
+        omega (arith, low, onset),
+        λ nine. drums m.0 m.1 onset key (run.drum (sym run.channel ∙ nine)) low,
+      )
     where
-      drums : (n : Note) → Among n part → z.onset ≡ midway part → z.key ≡ n.key → (part ≡ y ∷ []) × (first ≡ y) → first.onset ≤ midway part → spot first ≤ spot z
-      drums n an onset key h low = let k : n ≡ y = only (subst (Among n) h.0 an) in let same : n.key ≡ first.key = ap (λ (j : Note). j.key) (k ∙ sym h.1) in omega (arith, onset, key, same, low)
+      drums : (n : Note) → Among n part → z.onset ≡ midway part → z.key ≡ n.key → (part ≡ y ∷ []) × (first ≡ y) → first.onset ≤ midway part
+          → spot first ≤ spot z
+      drums n an onset key h low = let k : n ≡ y = only (subst (Among n) h.0 an) in
+          let same : n.key ≡ first.key = ap (λ (j : Note). j.key) (k ∙ sym h.1) in omega (arith, onset, key, same, low)
         where
           only : Among n (y ∷ []) → n ≡ y
           only (inl e) = e
@@ -268,11 +292,15 @@ module _ (tempos : List Tempo) (division within : ℕ) where
             omega (arith, s, t, h.2)),
       )
 
-  pub placed_beyond : (xs : List Note) (first y : Note) (part : List Note) → IsRun first y part → Pairwise Before (y ∷ xs) → (z : Note) → Among z (Placed part y xs) → Beyond first z
+  pub placed_beyond : (xs : List Note) (first y : Note) (part : List Note) → IsRun first y part → Pairwise Before (y ∷ xs) → (z : Note)
+      → Among z (Placed part y xs) → Beyond first z
   placed_beyond [] first y part run order z az = together_beyond first y part run z (subst (Among z) (append-nil (together part)) az)
-  placed_beyond (x ∷ xs) first y part run order z az = go (J part y x) refl az (placed_beyond xs first x (part ++ x ∷ [])) (placed_beyond xs x x (x ∷ []) (run_one x) order.1)
+  placed_beyond (x ∷ xs) first y part run order z az =
+      go (J part y x) refl az (placed_beyond xs first x (part ++ x ∷ [])) (placed_beyond xs x x (x ∷ []) (run_one x) order.1)
     where
-      go : (b : Bool) → J part y x ≡ b → Among z (Next b part x xs) → (IsRun first x (part ++ x ∷ []) → Pairwise Before (x ∷ xs) → (w : Note) → Among w (Placed (part ++ x ∷ []) x xs) → Beyond first w)
+      go : (b : Bool) → J part y x ≡ b → Among z (Next b part x xs)
+          → (IsRun first x (part ++ x ∷ []) → Pairwise Before (x ∷ xs) → (w : Note) → Among w (Placed (part ++ x ∷ []) x xs)
+          → Beyond first w)
           → ((w : Note) → Among w (Placed (x ∷ []) x xs) → Beyond x w) → Beyond first z
       go true e az on next = on (run_more first y part x run (order.0 x (inl refl)) (joined part y x e)) order.1 z az
       go false e az on next = elim (among_both (together part) (Placed (x ∷ []) x xs) z az) [
@@ -281,7 +309,8 @@ module _ (tempos : List Tempo) (division within : ℕ) where
       ]
 
   -- a strum's place is before the next note, where that begins another in its channel
-  pub cut_sooner : (first y : Note) (part : List Note) (x : Note) → IsRun first y part → Before y x → J part y x ≡ false → x.channel ≡ y.channel → x.channel ≢ 9 → midway part < x.onset
+  pub cut_sooner : (first y : Note) (part : List Note) (x : Note) → IsRun first y part → Before y x → J part y x ≡ false
+      → x.channel ≡ y.channel → x.channel ≢ 9 → midway part < x.onset
   cut_sooner first y part x run before e same pitched = elim (cases_order y.onset x.onset) [
     | inl equal ↦ (let s = strikes_some part x.key (struck (strikes part x.key) equal e) in sooner s.0 s.1 s.2 equal)
     | inr other ↦ elim other [
@@ -295,11 +324,16 @@ module _ (tempos : List Tempo) (division within : ℕ) where
       back (inr h) gt = omega (arith, h.1, gt)
 
       -- a test that fails though all else holds
-      struck : (b : Bool) → y.onset ≡ x.onset → ((x.channel == y.channel) && (not (is_drum x) && (not b && ((x.onset == y.onset) || rolls_on tempos division within part y x)))) ≡ false → b ≡ true
+      struck : (b : Bool) → y.onset ≡ x.onset
+          → ((x.channel == y.channel) && (not (is_drum x) && (not b && ((x.onset == y.onset) || rolls_on tempos division within part y x))))
+          ≡ false → b ≡ true
       struck true equal e = refl
-      struck false equal e = absurd (fails (x.channel == y.channel) (is_drum x) (x.onset == y.onset) (grind (arith, nat_tests)) (grind (arith, nat_tests)) (grind (arith, nat_tests)) e)
+      struck false equal e =
+          absurd (fails (x.channel == y.channel) (is_drum x) (x.onset == y.onset) (grind (arith, nat_tests)) (grind (arith, nat_tests))
+          (grind (arith, nat_tests)) e)
         where
-          fails : (a c d : Bool) → a ≡ true → c ≡ false → d ≡ true → (a && (not c && (true && (d || rolls_on tempos division within part y x)))) ≡ false → ⊥
+          fails : (a c d : Bool) → a ≡ true → c ≡ false → d ≡ true
+              → (a && (not c && (true && (d || rolls_on tempos division within part y x)))) ≡ false → ⊥
           fails true false true ea ec ed e = cc
           fails false c d ea ec ed e = cc (ea)
           fails true true d ea ec ed e = cc (ec)
@@ -341,7 +375,8 @@ module _ (tempos : List Tempo) (division within : ℕ) where
   spot_apart z w h = by (same_place z w) refl
     where
       by : (b : Bool) → same_place z w ≡ b → b ≡ false
-      by true e = let o : z.onset ≡ w.onset = grind (arith, nat_tests) in let k : z.key ≡ w.key = grind (arith, nat_tests) in absurd (omega (arith, o, k, h))
+      by true e = let o : z.onset ≡ w.onset = grind (arith, nat_tests) in let k : z.key ≡ w.key = grind (arith, nat_tests) in
+          absurd (omega (arith, o, k, h))
       by false e = refl
 
   onset_apart : (z w : Note) → z.onset < w.onset → same_place z w ≡ false
@@ -352,9 +387,12 @@ module _ (tempos : List Tempo) (division within : ℕ) where
       by false e = refl
 
   together_apart : (first y : Note) (part : List Note) → IsRun first y part → Pairwise AreApart (together part)
-  together_apart first y part run = pairs_map (λ m n. m.key ≢ n.key) AreApart (begun_at (midway part)) part (λ m n h. record { place = key_apart (begun_at (midway part) m) (begun_at (midway part) n) h; order = λ e. omega arith }) run.apart
+  together_apart first y part run =
+      pairs_map (λ m n. m.key ≢ n.key) AreApart (begun_at (midway part)) part
+      (λ m n h. record { place = key_apart (begun_at (midway part) m) (begun_at (midway part) n) h; order = λ e. omega arith }) run.apart
 
-  pub across_apart : (first y : Note) (part : List Note) (x : Note) → IsRun first y part → Before y x → J part y x ≡ false → (z w : Note) → Among z (together part) → Beyond x w → AreApart z w
+  pub across_apart : (first y : Note) (part : List Note) (x : Note) → IsRun first y part → Before y x → J part y x ≡ false → (z w : Note)
+      → Among z (together part) → Beyond x w → AreApart z w
   across_apart first y part x run before e z w az beyond =
       let m = from_map (begun_at (midway part)) part z az in
       by before beyond m.0 m.1 (ap (λ (k : Note). k.channel) m.2) (ap (λ (k : Note). k.onset) m.2) (ap (λ (k : Note). k.key) m.2)
@@ -363,7 +401,8 @@ module _ (tempos : List Tempo) (division within : ℕ) where
       far lt = record { place = channel_apart z w lt; order = λ same. absurd (omega (arith, same, lt)) }
 
       -- in one channel
-      near : (n : Note) → Among n part → z.channel ≡ n.channel → z.onset ≡ midway part → z.key ≡ n.key → y.channel ≡ x.channel → spot y < spot x → w.channel ≡ x.channel → x.onset ≤ w.onset → (x.channel ≡ 9 → spot x ≤ spot w) → AreApart z w
+      near : (n : Note) → Among n part → z.channel ≡ n.channel → z.onset ≡ midway part → z.key ≡ n.key → y.channel ≡ x.channel
+          → spot y < spot x → w.channel ≡ x.channel → x.onset ≤ w.onset → (x.channel ≡ 9 → spot x ≤ spot w) → AreApart z w
       near n an channel onset key same rise channels le drum = by_drum (eqb x.channel 9) refl
         where
           by_drum : (b : Bool) → eqb x.channel 9 ≡ b → AreApart z w
@@ -395,29 +434,37 @@ module _ (tempos : List Tempo) (division within : ℕ) where
               let lt : z.onset < w.onset = omega (arith, less, onset, le) in
               record { place = onset_apart z w lt; order = λ c. omega (arith, lt) }
 
-      by : Before y x → Beyond x w → (n : Note) → Among n part → z.channel ≡ n.channel → z.onset ≡ midway part → z.key ≡ n.key → AreApart z w
+      by : Before y x → Beyond x w → (n : Note) → Among n part → z.channel ≡ n.channel → z.onset ≡ midway part → z.key ≡ n.key
+          → AreApart z w
       by (inl lt) (inl more) n an c o k = let r = (run.each n an).0 in far (omega (arith, c, r, lt, more))
       by (inl lt) (inr same) n an c o k = let r = (run.each n an).0 in far (omega (arith, c, r, lt, same.0))
       by (inr h) (inl more) n an c o k = let r = (run.each n an).0 in far (omega (arith, c, r, h.0, more))
       by (inr h) (inr same) n an c o k = near n an c o k h.0 h.2 same.0 same.1 same.2
 
-  placed_apart : (xs : List Note) (first y : Note) (part : List Note) → IsRun first y part → Pairwise Before (y ∷ xs) → Pairwise AreApart (Placed part y xs)
+  placed_apart : (xs : List Note) (first y : Note) (part : List Note) → IsRun first y part → Pairwise Before (y ∷ xs)
+      → Pairwise AreApart (Placed part y xs)
   placed_apart [] first y part run order = subst (Pairwise AreApart) (sym (append-nil (together part))) (together_apart first y part run)
-  placed_apart (x ∷ xs) first y part run order = go (J part y x) refl (placed_apart xs first x (part ++ x ∷ [])) (placed_apart xs x x (x ∷ []) (run_one x) order.1)
+  placed_apart (x ∷ xs) first y part run order =
+      go (J part y x) refl (placed_apart xs first x (part ++ x ∷ [])) (placed_apart xs x x (x ∷ []) (run_one x) order.1)
     where
-      go : (b : Bool) → J part y x ≡ b → (IsRun first x (part ++ x ∷ []) → Pairwise Before (x ∷ xs) → Pairwise AreApart (Placed (part ++ x ∷ []) x xs)) → Pairwise AreApart (Placed (x ∷ []) x xs) → Pairwise AreApart (Next b part x xs)
+      go : (b : Bool) → J part y x ≡ b → (IsRun first x (part ++ x ∷ []) → Pairwise Before (x ∷ xs)
+          → Pairwise AreApart (Placed (part ++ x ∷ []) x xs)) → Pairwise AreApart (Placed (x ∷ []) x xs)
+          → Pairwise AreApart (Next b part x xs)
       go true e on next = on (run_more first y part x run (order.0 x (inl refl)) (joined part y x e)) order.1
       go false e on next = pairs_join AreApart (together part) (Placed (x ∷ []) x xs) (together_apart first y part run) next
-          (λ z w az aw. across_apart first y part x run (order.0 x (inl refl)) e z w az (placed_beyond xs x x (x ∷ []) (run_one x) order.1 w aw))
+          (λ z w az aw. across_apart first y part x run (order.0 x (inl refl)) e z w az
+          (placed_beyond xs x x (x ∷ []) (run_one x) order.1 w aw))
 
   pub all_apart : (notes : List Note) → Pairwise Before notes → Pairwise AreApart (strummed_notes tempos division within notes)
   all_apart [] order = tt
   all_apart (n ∷ notes) order = placed_apart notes n n (n ∷ []) (run_one n) order
 
-  pub strummed_distinct : (latest : ℕ) (notes : List Note) → All (IsPlayed latest) notes → AreInOrder place_of_note notes → IsDistinct same_place (strummed_notes tempos division within notes)
+  pub strummed_distinct : (latest : ℕ) (notes : List Note) → All (IsPlayed latest) notes → AreInOrder place_of_note notes
+      → IsDistinct same_place (strummed_notes tempos division within notes)
   strummed_distinct latest notes played order =
       IsDistinct-from_apart same_place (strummed_notes tempos division within notes)
-      (pairs_from (λ z w. same_place z w ≡ false) (strummed_notes tempos division within notes) (places (strummed_notes tempos division within notes) (all_apart notes (notes_before latest notes played order))))
+      (pairs_from (λ z w. same_place z w ≡ false) (strummed_notes tempos division within notes)
+      (places (strummed_notes tempos division within notes) (all_apart notes (notes_before latest notes played order))))
     where
       places : (zs : List Note) → Pairwise AreApart zs → Pairwise (λ z w. same_place z w ≡ false) zs
       places [] h = tt

@@ -72,7 +72,8 @@ told_key_formed (Some sf) t u key is formed = let same : with_key sf t ≡ u = c
 
 -- ---- all of them
 
-through : (m : Result Take PrepareFault) (next : Take → Result Take PrepareFault) (u : Take) → (m >>= next) ≡ Ok u → (t : Take) × (m ≡ Ok t) × (next t ≡ Ok u)
+through : (m : Result Take PrepareFault) (next : Take → Result Take PrepareFault) (u : Take) → (m >>= next) ≡ Ok u
+    → (t : Take) × (m ≡ Ok t) × (next t ≡ Ok u)
 through (Ok t) next u is = (t, refl, is)
 through (Err fault) next u is = absurd (cc)
 

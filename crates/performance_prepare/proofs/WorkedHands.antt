@@ -32,6 +32,7 @@ is_held : held_keys [] 1000 (note 0 60 0 221 ∷ []) (note 0 62 100 1000 ∷ [])
 unfolding time numbers_from
 is_held = refl
 
--- two keys, one held: 2 for the middle at each border, 20 a half key nearer than five keys, 700 above an octave, 1,000 where the hand that holds strikes
+-- two keys, one held: 2 for the middle at each border, 20 a half key nearer than five keys, 700 above an octave, 1,000 where the hand
+-- that holds strikes
 some_costs : map (cost 60 (50 ∷ 69 ∷ []) (48 ∷ [])) (50 ∷ 51 ∷ 60 ∷ 69 ∷ 70 ∷ []) ≡ 900 ∷ 1198 ∷ 1000 ∷ 1198 ∷ 1900 ∷ []
 some_costs = refl

@@ -40,12 +40,14 @@ unfolding time
 held_on = refl
 
 -- a quick run, each note to the next
-quick_run : with_strum 100 (take_of (note 0 60 0 30 ∷ note 0 62 30 60 ∷ note 0 64 60 500 ∷ [])) ≡ take_of (note 0 60 0 30 ∷ note 0 62 30 60 ∷ note 0 64 60 500 ∷ [])
+quick_run : with_strum 100 (take_of (note 0 60 0 30 ∷ note 0 62 30 60 ∷ note 0 64 60 500 ∷ []))
+    ≡ take_of (note 0 60 0 30 ∷ note 0 62 30 60 ∷ note 0 64 60 500 ∷ [])
 unfolding time
 quick_run = refl
 
 -- a key that is struck again
-struck_again : with_strum 100 (take_of (note 0 60 0 20 ∷ note 0 62 0 500 ∷ note 0 60 30 500 ∷ [])) ≡ take_of (note 0 60 0 20 ∷ note 0 62 0 500 ∷ note 0 60 30 500 ∷ [])
+struck_again : with_strum 100 (take_of (note 0 60 0 20 ∷ note 0 62 0 500 ∷ note 0 60 30 500 ∷ []))
+    ≡ take_of (note 0 60 0 20 ∷ note 0 62 0 500 ∷ note 0 60 30 500 ∷ [])
 unfolding time
 struck_again = refl
 
@@ -67,7 +69,8 @@ unfolding time
 drums = refl
 
 -- a strum is of one channel
-two_channels : with_strum 40 (take_of (note 0 48 0 500 ∷ note 0 52 30 500 ∷ note 1 60 10 500 ∷ [])) ≡ take_of (note 0 48 15 500 ∷ note 0 52 15 500 ∷ note 1 60 10 500 ∷ [])
+two_channels : with_strum 40 (take_of (note 0 48 0 500 ∷ note 0 52 30 500 ∷ note 1 60 10 500 ∷ []))
+    ≡ take_of (note 0 48 15 500 ∷ note 0 52 15 500 ∷ note 1 60 10 500 ∷ [])
 unfolding time
 two_channels = refl
 
@@ -89,12 +92,17 @@ unfolding time
 changed_tempo = refl
 
 -- rolled down
-rolled_down : with_strum 30 (take_of (note 0 67 0 900 ∷ note 0 64 20 900 ∷ note 0 60 40 900 ∷ [])) ≡ take_of (note 0 60 20 900 ∷ note 0 64 20 900 ∷ note 0 67 20 900 ∷ [])
+rolled_down : with_strum 30 (take_of (note 0 67 0 900 ∷ note 0 64 20 900 ∷ note 0 60 40 900 ∷ []))
+    ≡ take_of (note 0 60 20 900 ∷ note 0 64 20 900 ∷ note 0 67 20 900 ∷ [])
 unfolding time
 rolled_down = refl
 
 -- a strum is put together before the upbeat is taken
-with_an_upbeat : prepared (record no_options { strum = Some 25; meter = Some (record { num = 2; den = 4 }); upbeat = Some (record { num = 1; den = 4 }) }) (take_of roll) ≡ Ok (record {
+with_an_upbeat : prepared (record no_options {
+  strum = Some 25;
+  meter = Some (record { num = 2; den = 4 });
+  upbeat = Some (record { num = 1; den = 4 });
+}) (take_of roll) ≡ Ok (record {
   division = 500;
   notes = note 0 48 500 1325 ∷ note 0 52 500 1325 ∷ note 0 55 500 1325 ∷ note 0 60 500 1325 ∷ [];
   tempos = [];

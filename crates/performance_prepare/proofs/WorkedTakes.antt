@@ -33,9 +33,11 @@ split_at_the_third = refl
 -- a channel that lies on one side and that of drums stay
 three_voices :
     with_split 60 (take_of 480
-    (note 0 40 0 960 ∷ note 0 60 0 480 ∷ note 1 30 960 1920 ∷ note 3 50 480 960 ∷ note 3 64 480 960 ∷ note 9 35 0 480 ∷ note 9 70 0 480 ∷ []))
+    (note 0 40 0 960 ∷ note 0 60 0 480 ∷ note 1 30 960 1920 ∷ note 3 50 480 960 ∷ note 3 64 480 960 ∷ note 9 35 0 480 ∷ note 9 70 0 480 ∷
+    []))
     ≡ Ok (take_of 480
-    (note 0 60 0 480 ∷ note 1 30 960 1920 ∷ note 2 40 0 960 ∷ note 3 64 480 960 ∷ note 4 50 480 960 ∷ note 9 35 0 480 ∷ note 9 70 0 480 ∷ []))
+    (note 0 60 0 480 ∷ note 1 30 960 1920 ∷ note 2 40 0 960 ∷ note 3 64 480 960 ∷ note 4 50 480 960 ∷ note 9 35 0 480 ∷ note 9 70 0 480 ∷
+    []))
 three_voices = refl
 
 -- nine channels on both sides want two more than there are
@@ -148,7 +150,12 @@ too_late_where_fine = refl
 
 -- an upbeat of a quarter in 3/4: the meter and the tempo come before the upbeat
 four_options :
-    prepared (record no_options { split = Some 64; meter = Some (part 3 4); tempo = Some 100; upbeat = Some (part 1 4) }) (take_of 480 four_notes) ≡ Ok (record {
+    prepared (record no_options {
+      split = Some 64;
+      meter = Some (part 3 4);
+      tempo = Some 100;
+      upbeat = Some (part 1 4);
+    }) (take_of 480 four_notes) ≡ Ok (record {
       division = 9216;
       notes = note 0 64 33792 41472 ∷ note 0 65 41472 49152 ∷ note 1 60 18432 26112 ∷ note 1 62 26112 33792 ∷ [];
       tempos = record { tick = 0; micros = 600000 } ∷ [];
@@ -172,7 +179,8 @@ abbrev with_a_drum : Take
 with_a_drum = take_of 480 (note 0 60 480 960 ∷ note 9 36 0 240 ∷ note 9 38 960 7680 ∷ [])
 
 -- drums do not begin the upbeat
-no_drums_before : prepared (record no_options { no_drums = true; upbeat = Some (part 0 4) }) with_a_drum ≡ Ok (take_of 480 (note 0 60 0 480 ∷ []))
+no_drums_before : prepared (record no_options { no_drums = true; upbeat = Some (part 0 4) }) with_a_drum
+    ≡ Ok (take_of 480 (note 0 60 0 480 ∷ []))
 no_drums_before = refl
 
 only_drums : without_drums (take_of 480 (note 9 36 0 480 ∷ [])) ≡ Err NoNotes

@@ -139,7 +139,8 @@ fn push_hands(
     Ok(())
 }
 
-/// The notes by channel, onset and key. Those of a channel that stand between others are put behind them first, which leaves little to sort.
+/// The notes by channel, onset and key. Those of a channel that stand among others are put behind them first, which leaves
+/// little to sort.
 fn in_order_with(alloc: Global, channel: u8, notes: &[Note]) -> Result<Vec<Note>, AllocError>
     requires { IsDistinct same_place notes.now }
     ensures { IfOk result (λ v. v.items ≡ in_order notes.now) }

@@ -6,7 +6,8 @@ use Rattle.performance_prepare.proofs.groups.costs.Given as goal
 
 abbrev pub invariant-groups : goal.invariant-groups
 invariant-groups l = record {
-  costs : l.rows.items ++ costs_after l.map.tempos l.division l.middle (take l.start l.notes) (groups l.map.tempos l.division l.within (drop l.start l.notes))
+  costs : l.rows.items ++ costs_after l.map.tempos l.division l.middle (take l.start l.notes)
+      (groups l.map.tempos l.division l.within (drop l.start l.notes))
       ≡ costs l.map.tempos l.division l.middle (groups l.map.tempos l.division l.within l.notes);
   ends : AreEnds l.ends (take l.start l.notes);
   low : All (λ end. end ≤ 1000000000) l.ends;

@@ -15,11 +15,13 @@ keys-preserved c =
       | then-is_held+in_ok-push w ↦ (
           let passes : p c.keys.key ≡ true = sym c.is_held.ensures ∙ w.if-is_held.true in
           (λ i. (w.list-is i).items ++ filter p (numbers_from (c.keys.key + 1) 128))
-          ∙ kept_more p c.keys.list.items w.push.new.self.items all c.keys.key 128 c.keys-test.true passes (search (rules, w.in_ok-push.ensures.items)) c.keys.invariant
+          ∙ kept_more p c.keys.list.items w.push.new.self.items all c.keys.key 128 c.keys-test.true passes
+          (search (rules, w.in_ok-push.ensures.items)) c.keys.invariant
           )
       | else-is_held w ↦ (
           let fails : p c.keys.key ≡ false = sym c.is_held.ensures ∙ w.if-is_held.false in
-          (λ i. (w.list-is i).items ++ filter p (numbers_from (c.keys.key + 1) 128)) ∙ left_out p c.keys.list.items all c.keys.key 128 c.keys-test.true fails c.keys.invariant
+          (λ i. (w.list-is i).items ++ filter p (numbers_from (c.keys.key + 1) 128))
+          ∙ left_out p c.keys.list.items all c.keys.key 128 c.keys-test.true fails c.keys.invariant
           )
     ]
 
@@ -31,5 +33,6 @@ returns c =
     c.keys.list.items all c.keys.key 128 c.keys-test.false c.keys.invariant in
     record {
       keys = is;
-      few = (let low = held_few c.args.map.now.tempos c.args.division c.args.ends.now c.args.group.now in let long = ap (length {A = ℕ}) is in omega (arith, low, long));
+      few = (let low = held_few c.args.map.now.tempos c.args.division c.args.ends.now c.args.group.now in
+          let long = ap (length {A = ℕ}) is in omega (arith, low, long));
     }

@@ -11,4 +11,5 @@ returns-then-end-onset c =
     sym (holds_later c.args.map.now.tempos c.args.division c.args.end c.args.group.now c.args.key early)
 
 pub time_between-requires-clause-from : goal.time_between-requires-clause-from
-time_between-requires-clause-from c = let low = first_low c.args.group.now c.requires.group in let e = c.requires.onset in omega (arith, low, e)
+time_between-requires-clause-from c = let low = first_low c.args.group.now c.requires.group in let e = c.requires.onset in
+    omega (arith, low, e)

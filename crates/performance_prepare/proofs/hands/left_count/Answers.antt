@@ -15,8 +15,11 @@ overflow_add-count c =
 
 pub borders-preserved : goal.borders-preserved
 borders-preserved c = record {
-  count = count_more c.args.map.now.tempos c.args.division c.args.within c.args.notes.now c.args.borders.now c.borders.start c.group_end-end.result c.borders.border-index (get_or c.args.borders.now c.borders.border-index 0) c.borders.count
-      (c.borders.count + c.count_below-count.result) (length (left_notes (groups c.args.map.now.tempos c.args.division c.args.within c.args.notes.now) c.args.borders.now)) c.borders-test.true refl c.group_end-end.ensures.group
+  count = count_more c.args.map.now.tempos c.args.division c.args.within c.args.notes.now c.args.borders.now c.borders.start
+      c.group_end-end.result c.borders.border-index (get_or c.args.borders.now c.borders.border-index 0) c.borders.count
+      (c.borders.count + c.count_below-count.result) (length
+      (left_notes (groups c.args.map.now.tempos c.args.division c.args.within c.args.notes.now) c.args.borders.now)) c.borders-test.true
+      refl c.group_end-end.ensures.group
       (ap (λ n. c.borders.count + n) c.count_below-count.ensures.notes) c.borders.invariant.count;
   few = (
       let f = c.borders.invariant.few in
@@ -30,5 +33,7 @@ borders-preserved c = record {
 
 pub returns : goal.returns
 returns c =
-    count_end c.args.map.now.tempos c.args.division c.args.within c.args.notes.now c.args.borders.now c.borders.start c.borders.border-index c.borders.count
-    (length (left_notes (groups c.args.map.now.tempos c.args.division c.args.within c.args.notes.now) c.args.borders.now)) c.borders-test.false c.borders.invariant.count
+    count_end c.args.map.now.tempos c.args.division c.args.within c.args.notes.now c.args.borders.now c.borders.start c.borders.border-index
+    c.borders.count
+    (length (left_notes (groups c.args.map.now.tempos c.args.division c.args.within c.args.notes.now) c.args.borders.now))
+    c.borders-test.false c.borders.invariant.count

@@ -23,19 +23,26 @@ pub borders_of-requires-clause-notes : goal.borders_of-requires-clause-notes
 borders_of-requires-clause-notes c =
     let t : Take = c.args.take in
     let own : c.in_ok-own.own.items ≡ notes_of c.args.channel t.notes = search rules in
-    subst (All (IsPlayed 1000000000)) (sym (c.deref-4.ensures.value ∙ own)) (All-filter (λ (n : Note). n.channel == c.args.channel) (IsPlayed 1000000000) t.notes c.requires.notes)
+    subst (All (IsPlayed 1000000000)) (sym (c.deref-4.ensures.value ∙ own))
+    (All-filter (λ (n : Note). n.channel == c.args.channel) (IsPlayed 1000000000) t.notes c.requires.notes)
 
 pub left_count-count-requires : goal.left_count-count-requires
 left_count-count-requires c =
     let t : Take = c.args.take in
     let own : c.in_ok-own.own.items ≡ notes_of c.args.channel t.notes = search rules in
-    record { notes = subst (All (IsPlayed 1000000000)) (sym (c.deref-5.ensures.value ∙ own)) (All-filter (λ (n : Note). n.channel == c.args.channel) (IsPlayed 1000000000) t.notes c.requires.notes) }
+    record {
+      notes = subst (All (IsPlayed 1000000000)) (sym (c.deref-5.ensures.value
+          ∙ own)) (All-filter (λ (n : Note). n.channel == c.args.channel) (IsPlayed 1000000000) t.notes c.requires.notes);
+    }
 
 pub push_hands-requires : goal.push_hands-requires
 push_hands-requires c =
     let t : Take = c.args.take in
     let own : c.in_ok-own.own.items ≡ notes_of c.args.channel t.notes = search rules in
-    record { notes = subst (All (IsPlayed 1000000000)) (sym (c.deref-9.ensures.value ∙ own)) (All-filter (λ (n : Note). n.channel == c.args.channel) (IsPlayed 1000000000) t.notes c.requires.notes) }
+    record {
+      notes = subst (All (IsPlayed 1000000000)) (sym (c.deref-9.ensures.value
+          ∙ own)) (All-filter (λ (n : Note). n.channel == c.args.channel) (IsPlayed 1000000000) t.notes c.requires.notes);
+    }
 
 pub in_order_with-requires : goal.in_order_with-requires
 in_order_with-requires c =
@@ -48,8 +55,11 @@ in_order_with-requires c =
     let eighth : c.deref-8.result.now ≡ c.args.take.notes = search rules in
     let tempos : c.in_ok-map.map.tempos ≡ c.args.take.tempos = search rules in
     let division : c.take.inside.division ≡ c.args.take.division = search rules in
-    distinct_hands c.args.channel c.args.within c.args.take c.requires c.in_ok-free.free.items c.in_ok-own.own.items c.in_ok-handed.handed.items c.deref-11.result.now c.in_ok-borders.borders.items c.index.result.now
-    more (c.in_ok-free.ensures ∙ ap free_channels seventh) first (c.in_ok-own.ensures ∙ ap (notes_of c.args.channel) third) (c.in_ok-handed.ensures ∙ ap (other_notes c.args.channel) eighth)
+    distinct_hands c.args.channel c.args.within c.args.take c.requires c.in_ok-free.free.items c.in_ok-own.own.items
+    c.in_ok-handed.handed.items c.deref-11.result.now c.in_ok-borders.borders.items c.index.result.now
+    more (c.in_ok-free.ensures ∙ ap free_channels seventh) first (c.in_ok-own.ensures
+    ∙ ap (notes_of c.args.channel) third) (c.in_ok-handed.ensures ∙ ap (other_notes c.args.channel) eighth)
     (c.in_ok-borders.ensures ∙ (λ i. borders_of (tempos i) (division i) c.args.within (c.deref-4.ensures.value i)))
     (c.deref-11.ensures.value ∙ c.in_ok-push_hands.ensures
-    ∙ (λ i. c.in_ok-handed.handed.items ++ handed_notes c.index.result.now (groups (tempos i) (division i) c.args.within (c.deref-9.ensures.value i)) (c.deref-10.ensures.value i)))
+    ∙ (λ i. c.in_ok-handed.handed.items ++ handed_notes c.index.result.now
+    (groups (tempos i) (division i) c.args.within (c.deref-9.ensures.value i)) (c.deref-10.ensures.value i)))

@@ -11,15 +11,21 @@ borders-preserved c =
     let all : List ℕ = filter p inner_borders in
     elim c.if-partings-border.branch [
       | then-partings-border+in_ok-push w ↦ (
-          let passes : p c.borders.border ≡ true = test_true (slice_index c.args.partings.now (c.borders.border - 1)) c.args.best w.if-partings-border.true in
+          let passes : p c.borders.border ≡ true =
+          test_true (slice_index c.args.partings.now (c.borders.border - 1)) c.args.best w.if-partings-border.true in
           (λ i. (w.list-is i).items ++ filter p (numbers_from (c.borders.border + 1) 128))
-          ∙ kept_more p c.borders.list.items w.push.new.self.items all c.borders.border 128 c.borders-test.true passes (search (rules, w.in_ok-push.ensures.items)) c.borders.invariant
+          ∙ kept_more p c.borders.list.items w.push.new.self.items all c.borders.border 128 c.borders-test.true passes
+          (search (rules, w.in_ok-push.ensures.items)) c.borders.invariant
           )
       | else-partings-border w ↦ (
-          let fails : p c.borders.border ≡ false = test_false (slice_index c.args.partings.now (c.borders.border - 1)) c.args.best w.if-partings-border.false in
-          (λ i. (w.list-is i).items ++ filter p (numbers_from (c.borders.border + 1) 128)) ∙ left_out p c.borders.list.items all c.borders.border 128 c.borders-test.true fails c.borders.invariant
+          let fails : p c.borders.border ≡ false =
+          test_false (slice_index c.args.partings.now (c.borders.border - 1)) c.args.best w.if-partings-border.false in
+          (λ i. (w.list-is i).items ++ filter p (numbers_from (c.borders.border + 1) 128))
+          ∙ left_out p c.borders.list.items all c.borders.border 128 c.borders-test.true fails c.borders.invariant
           )
     ]
 
 pub returns : goal.returns
-returns c = none_left (λ b. slice_index c.args.partings.now (b - 1) == c.args.best) c.borders.list.items (filter (λ b. slice_index c.args.partings.now (b - 1) == c.args.best) inner_borders) c.borders.border 128 c.borders-test.false c.borders.invariant
+returns c = none_left (λ b. slice_index c.args.partings.now (b - 1) == c.args.best) c.borders.list.items
+    (filter (λ b. slice_index c.args.partings.now (b - 1) == c.args.best) inner_borders) c.borders.border 128 c.borders-test.false
+    c.borders.invariant

@@ -19,8 +19,10 @@ overflow_add-result c =
     let second : c.deref-2.result.now ≡ map (parting keys) inner_borders = c.deref-2.ensures.value ∙ c.in_ok-partings.ensures in
     let first : c.deref.result.now ≡ c.deref-2.result.now = c.deref.ensures.value ∙ sym c.deref-2.ensures.value in
     let top : c.greatest_of-best.result ≡ greatest c.deref-2.result.now = c.greatest_of-best.ensures ∙ ap greatest first in
-    let best : c.in_ok-borders.borders.items ≡ best_borders keys = c.in_ok-borders.ensures ∙ borders_best keys c.deref-2.result.now c.greatest_of-best.result second top in
-    let low : c.least_number.result ≡ least_of (best_borders keys) = c.least_number.ensures ∙ ap least_of (c.deref-3.ensures.value ∙ best) in
+    let best : c.in_ok-borders.borders.items ≡ best_borders keys = c.in_ok-borders.ensures
+    ∙ borders_best keys c.deref-2.result.now c.greatest_of-best.result second top in
+    let low : c.least_number.result ≡ least_of (best_borders keys) = c.least_number.ensures
+    ∙ ap least_of (c.deref-3.ensures.value ∙ best) in
     let high : c.greatest_of.result ≡ greatest (best_borders keys) = c.greatest_of.ensures ∙ ap greatest (c.deref-4.ensures.value ∙ best) in
     let one = least_best keys in
     let other = greatest_best keys in
@@ -32,8 +34,10 @@ returns-clause-border c =
     let second : c.deref-2.result.now ≡ map (parting keys) inner_borders = c.deref-2.ensures.value ∙ c.in_ok-partings.ensures in
     let first : c.deref.result.now ≡ c.deref-2.result.now = c.deref.ensures.value ∙ sym c.deref-2.ensures.value in
     let top : c.greatest_of-best.result ≡ greatest c.deref-2.result.now = c.greatest_of-best.ensures ∙ ap greatest first in
-    let best : c.in_ok-borders.borders.items ≡ best_borders keys = c.in_ok-borders.ensures ∙ borders_best keys c.deref-2.result.now c.greatest_of-best.result second top in
-    let low : c.least_number.result ≡ least_of (best_borders keys) = c.least_number.ensures ∙ ap least_of (c.deref-3.ensures.value ∙ best) in
+    let best : c.in_ok-borders.borders.items ≡ best_borders keys = c.in_ok-borders.ensures
+    ∙ borders_best keys c.deref-2.result.now c.greatest_of-best.result second top in
+    let low : c.least_number.result ≡ least_of (best_borders keys) = c.least_number.ensures
+    ∙ ap least_of (c.deref-3.ensures.value ∙ best) in
     let high : c.greatest_of.result ≡ greatest (best_borders keys) = c.greatest_of.ensures ∙ ap greatest (c.deref-4.ensures.value ∙ best) in
     let some : best_parting keys ≡ 0 → ⊥ = λ none. c.if-best-eq0.false (top ∙ ap greatest second ∙ none) in
     border_midway keys c.least_number.result c.greatest_of.result some low high
@@ -44,8 +48,10 @@ returns-clause-low c =
     let second : c.deref-2.result.now ≡ map (parting keys) inner_borders = c.deref-2.ensures.value ∙ c.in_ok-partings.ensures in
     let first : c.deref.result.now ≡ c.deref-2.result.now = c.deref.ensures.value ∙ sym c.deref-2.ensures.value in
     let top : c.greatest_of-best.result ≡ greatest c.deref-2.result.now = c.greatest_of-best.ensures ∙ ap greatest first in
-    let best : c.in_ok-borders.borders.items ≡ best_borders keys = c.in_ok-borders.ensures ∙ borders_best keys c.deref-2.result.now c.greatest_of-best.result second top in
-    let low : c.least_number.result ≡ least_of (best_borders keys) = c.least_number.ensures ∙ ap least_of (c.deref-3.ensures.value ∙ best) in
+    let best : c.in_ok-borders.borders.items ≡ best_borders keys = c.in_ok-borders.ensures
+    ∙ borders_best keys c.deref-2.result.now c.greatest_of-best.result second top in
+    let low : c.least_number.result ≡ least_of (best_borders keys) = c.least_number.ensures
+    ∙ ap least_of (c.deref-3.ensures.value ∙ best) in
     let high : c.greatest_of.result ≡ greatest (best_borders keys) = c.greatest_of.ensures ∙ ap greatest (c.deref-4.ensures.value ∙ best) in
     let one = least_best keys in
     let other = greatest_best keys in

@@ -24,7 +24,8 @@ told_hands-requires c =
 pub told_strum-requires : goal.told_strum-requires
 told_strum-requires c =
     let ready : IsReady soon c.args.take = record { formed = c.requires.formed; marks = c.requires.marks } in
-    (told_hands_ready soon c.args.options.now.hands c.args.options.now.strum c.in_ok-split.split c.in_ok-handed.handed c.in_ok-handed.ensures
+    (told_hands_ready soon c.args.options.now.hands c.args.options.now.strum c.in_ok-split.split c.in_ok-handed.handed
+    c.in_ok-handed.ensures
     (told_split_ready soon c.args.options.now.split c.in_ok-pitched.pitched c.in_ok-split.split c.in_ok-split.ensures
     (told_drums_ready soon c.args.options.now.no_drums c.args.take c.in_ok-pitched.pitched c.in_ok-pitched.ensures ready))).formed
 
@@ -80,7 +81,8 @@ returns-clause-formed c = by c.told_key.result c.told_key.ensures
         (told_tempo_ready c.args.options.now.tempo c.in_ok-metered.metered c.in_ok-timed.timed c.in_ok-timed.ensures
         (told_meter_ready soon c.args.options.now.meter c.in_ok-strummed.strummed c.in_ok-metered.metered c.in_ok-metered.ensures
         (told_strum_ready soon c.args.options.now.strum c.in_ok-handed.handed c.in_ok-strummed.strummed c.in_ok-strummed.ensures
-        (told_hands_ready soon c.args.options.now.hands c.args.options.now.strum c.in_ok-split.split c.in_ok-handed.handed c.in_ok-handed.ensures
+        (told_hands_ready soon c.args.options.now.hands c.args.options.now.strum c.in_ok-split.split c.in_ok-handed.handed
+        c.in_ok-handed.ensures
         (told_split_ready soon c.args.options.now.split c.in_ok-pitched.pitched c.in_ok-split.split c.in_ok-split.ensures
         (told_drums_ready soon c.args.options.now.no_drums c.args.take c.in_ok-pitched.pitched c.in_ok-pitched.ensures ready)))))).formed
 

@@ -10,4 +10,5 @@ pub in_order-requires : goal.in_order-requires
 in_order-requires c =
     let t : Take = c.args.take in
     let placed : c.in_ok-placed.placed.items ≡ strummed_notes t.tempos t.division c.args.within t.notes = search rules in
-    subst (IsDistinct same_place) (sym placed) (strummed_distinct t.tempos t.division c.args.within _ t.notes c.requires.notes c.requires.notes_in_order)
+    subst (IsDistinct same_place) (sym placed) (strummed_distinct t.tempos t.division c.args.within _ t.notes c.requires.notes
+    c.requires.notes_in_order)

@@ -20,18 +20,22 @@ overflow_mul-times-in-loop-doubling c =
 
 pub returns-then-times-from-gt-FINEST : goal.returns-then-times-from-gt-FINEST
 returns-then-times-from-gt-FINEST c =
-    let enough : 8192 < 2 * c.loop-doubling.times * c.args.division = subst (λ d. 8192 < 2 * c.loop-doubling.times * d) c.from.ensures c.if-times-from-gt-FINEST.true in
+    let enough : 8192 < 2 * c.loop-doubling.times * c.args.division =
+    subst (λ d. 8192 < 2 * c.loop-doubling.times * d) c.from.ensures c.if-times-from-gt-FINEST.true in
     sym (finer_stop (13 - c.loop-doubling._doubling) c.args.division c.loop-doubling.times enough) ∙ c.loop-doubling.invariant.value
 
 pub loop-doubling-preserved : goal.loop-doubling-preserved
 loop-doubling-preserved c =
-    let low : 2 * c.loop-doubling.times * c.args.division ≤ 8192 = subst (λ d. 2 * c.loop-doubling.times * d ≤ 8192) c.from.ensures c.if-times-from-gt-FINEST.false in
+    let low : 2 * c.loop-doubling.times * c.args.division ≤ 8192 =
+    subst (λ d. 2 * c.loop-doubling.times * d ≤ 8192) c.from.ensures c.if-times-from-gt-FINEST.false in
     record {
-      value = sym (finer_more (13 - c.loop-doubling._doubling) (13 - (c.loop-doubling._doubling + 1)) c.args.division c.loop-doubling.times (omega arith) low) ∙ c.loop-doubling.invariant.value;
+      value = sym (finer_more (13 - c.loop-doubling._doubling) (13 - (c.loop-doubling._doubling + 1)) c.args.division c.loop-doubling.times
+          (omega arith) low) ∙ c.loop-doubling.invariant.value;
       few = times_low c.args.division c.loop-doubling.times c.requires low;
     }
 
 pub returns : goal.returns
 returns c =
     let none : 13 - c.loop-doubling._doubling ≡ 0 = omega arith in
-    sym (finer_none c.args.division c.loop-doubling.times) ∙ sym (ap (λ n. finer n c.args.division c.loop-doubling.times) none) ∙ c.loop-doubling.invariant.value
+    sym (finer_none c.args.division c.loop-doubling.times) ∙ sym (ap (λ n. finer n c.args.division c.loop-doubling.times) none)
+    ∙ c.loop-doubling.invariant.value

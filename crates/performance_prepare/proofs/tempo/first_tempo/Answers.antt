@@ -10,13 +10,19 @@ loop-tempo-preserved c = elim c.if-tempo-eq0.branch [
       let within = c.loop-tempo-test.true in
       let here = c.requires c.loop-tempo.tempo-index (record { tick = 0; micros = 0 }) within in
       record {
-        value = w.found-is ∙ sym (tempo_here c.args.tempos.now c.loop-tempo.tempo-index (record { tick = 0; micros = 0 }) within w.if-tempo-eq0.true);
+        value = w.found-is ∙ sym (tempo_here c.args.tempos.now c.loop-tempo.tempo-index (record {
+          tick = 0;
+          micros = 0;
+        }) within w.if-tempo-eq0.true);
         range = subst IsMicros (sym w.found-is) (record { some = here.some; few = here.few });
       }
       )
   | else-tempo-eq0 w ↦ record {
     value = w.found-is ∙ c.loop-tempo.invariant.value
-        ∙ sym (tempo_before c.args.tempos.now c.loop-tempo.tempo-index (record { tick = 0; micros = 0 }) c.loop-tempo-test.true w.if-tempo-eq0.false);
+        ∙ sym (tempo_before c.args.tempos.now c.loop-tempo.tempo-index (record {
+          tick = 0;
+          micros = 0;
+        }) c.loop-tempo-test.true w.if-tempo-eq0.false);
     range = subst IsMicros (sym w.found-is) c.loop-tempo.invariant.range;
   }
 ]

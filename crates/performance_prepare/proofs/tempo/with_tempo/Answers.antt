@@ -46,11 +46,14 @@ returns-in-Err c =
     let old : c.from.result * c.fineness-times.result ≡ fine_division t = λ i. division i * times i in
     let first : c.first_tempo-first.result ≡ tempo_at t.tempos 0 = search rules in
     let parts : c.bar_parts.result ≡ bar_parts t.signatures = search rules in
-    let new : c.new_division-division.result ≡ new_division c.args.quarters t = c.new_division-division.ensures ∙ (λ i. division_of (old i) (parts i) c.args.quarters (first i)) in
+    let new : c.new_division-division.result ≡ new_division c.args.quarters t = c.new_division-division.ensures
+    ∙ (λ i. division_of (old i) (parts i) c.args.quarters (first i)) in
     let some : new_division c.args.quarters t ≡ 0 → ⊥ = λ none. c.if-division-eq0.false (new ∙ none) in
     let few : new_division c.args.quarters t ≤ 32767 = omega (arith, new, c.if-division-from.false, c.from-else-division-eq0.ensures) in
-    let shifted : c.in_ok-shifted.shifted ≡ shifted_take (finer_shift t) t = c.in_ok-shifted.ensures ∙ (λ i. shifted_take (record { times = times i; later = 0; earlier = 0 }) t) in
-    tempo_answers c.args.quarters t (Err c.in-Err.fault) (Err c.in-Err.fault) some few (c.in-Err.ensures ∙ ap unless_late shifted) (meant_answers (Err c.in-Err.fault))
+    let shifted : c.in_ok-shifted.shifted ≡ shifted_take (finer_shift t) t = c.in_ok-shifted.ensures
+    ∙ (λ i. shifted_take (record { times = times i; later = 0; earlier = 0 }) t) in
+    tempo_answers c.args.quarters t (Err c.in-Err.fault) (Err c.in-Err.fault) some few (c.in-Err.ensures
+    ∙ ap unless_late shifted) (meant_answers (Err c.in-Err.fault))
 
 pub retimed-requires-clause-some : goal.retimed-requires-clause-some
 retimed-requires-clause-some c =
@@ -78,6 +81,8 @@ retimed-requires-clause-tempos c =
     let fine : IsFine t.division (fineness t.division) = fineness_fine t.division c.requires.formed.division_low in
     let few = finer_few t.division (fineness t.division) c.requires.formed.division_low fine in
     let times : c.fineness-times.result ≡ fineness t.division = search rules in
-    let same : c.in-Ok.fine ≡ shifted_take (finer_shift t) t = timely c.in_ok-shifted.shifted c.in-Ok.fine c.in-Ok.ensures ∙ c.in_ok-shifted.ensures ∙ (λ i. shifted_take (record { times = times i; later = 0; earlier = 0 }) t) in
-    let all : All IsTempo (shifted_take (finer_shift t) t).tempos = shifted_tempos (finer_shift t) (record { some = fine.some; few = few; near = omega arith }) t.tempos c.requires.formed.tempos in
+    let same : c.in-Ok.fine ≡ shifted_take (finer_shift t) t = timely c.in_ok-shifted.shifted c.in-Ok.fine c.in-Ok.ensures
+    ∙ c.in_ok-shifted.ensures ∙ (λ i. shifted_take (record { times = times i; later = 0; earlier = 0 }) t) in
+    let all : All IsTempo (shifted_take (finer_shift t) t).tempos =
+    shifted_tempos (finer_shift t) (record { some = fine.some; few = few; near = omega arith }) t.tempos c.requires.formed.tempos in
     subst (λ u. All IsTempo u.tempos) (sym same) all

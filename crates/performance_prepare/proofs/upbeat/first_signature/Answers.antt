@@ -5,8 +5,17 @@ use Rattle.performance_prepare.proofs.upbeat.first_signature.Goals.{then-signatu
 
 pub loop-signature-preserved : goal.loop-signature-preserved
 loop-signature-preserved c = elim c.if-signature-eq0.branch [
-  | then-signature-eq0 w ↦ w.found-is ∙ sym (signature_here c.args.signatures.now c.loop-signature.signature-index (record { tick = 0; num = 0; dd = 0 }) c.loop-signature-test.true w.if-signature-eq0.true)
+  | then-signature-eq0 w ↦ w.found-is
+      ∙ sym (signature_here c.args.signatures.now c.loop-signature.signature-index (record {
+        tick = 0;
+        num = 0;
+        dd = 0;
+      }) c.loop-signature-test.true w.if-signature-eq0.true)
   | else-signature-eq0 w ↦
       w.found-is ∙ c.loop-signature.invariant
-      ∙ sym (signature_before c.args.signatures.now c.loop-signature.signature-index (record { tick = 0; num = 0; dd = 0 }) c.loop-signature-test.true w.if-signature-eq0.false)
+      ∙ sym (signature_before c.args.signatures.now c.loop-signature.signature-index (record {
+        tick = 0;
+        num = 0;
+        dd = 0;
+      }) c.loop-signature-test.true w.if-signature-eq0.false)
 ]

@@ -16,10 +16,13 @@ returns c =
     let den : c.from-under.result ≡ u.den = search rules in
     let over : 4 * c.from.result * c.from-2.result ≡ 4 * t.division * u.num = λ i. 4 * division i * num i in
     let onsets : c.deref.result.now ≡ t.notes = search rules in
-    let onset : c.first_onset.result ≡ least_of (map (λ n. n.onset) t.notes) = c.first_onset.ensures ∙ ap (λ ns. least_of (map (λ n. n.onset) ns)) onsets in
-    let whole : (4 * t.division * u.num) % u.den ≡ 0 = subst (λ n. n % u.den ≡ 0) over (subst (λ d. (4 * c.from.result * c.from-2.result) % d ≡ 0) den c.if-over-under-ne0.false) in
+    let onset : c.first_onset.result ≡ least_of (map (λ n. n.onset) t.notes) = c.first_onset.ensures
+    ∙ ap (λ ns. least_of (map (λ n. n.onset) ns)) onsets in
+    let whole : (4 * t.division * u.num) % u.den ≡ 0 = subst (λ n. n % u.den
+    ≡ 0) over (subst (λ d. (4 * c.from.result * c.from-2.result) % d ≡ 0) den c.if-over-under-ne0.false) in
     let ticks : (4 * c.from.result * c.from-2.result) / c.from-under.result ≡ ticks_of t.division u = λ i. over i / den i in
     let fits : ticks_of t.division u ≤ c.args.bar = subst (λ n. n ≤ c.args.bar) ticks c.if-bar-ticks.false in
     let shifted : c.in_ok-shifted.shifted ≡ shifted_take (upbeat_shift c.args.bar (ticks_of t.division u) t) t =
-    c.in_ok-shifted.ensures ∙ (λ i. shifted_take (record { times = 1; later = (c.args.bar - ticks i) % c.args.bar; earlier = onset i }) t) in
+    c.in_ok-shifted.ensures
+    ∙ (λ i. shifted_take (record { times = 1; later = (c.args.bar - ticks i) % c.args.bar; earlier = onset i }) t) in
     placed_answers c.args.bar u t c.unless_late.result whole fits (c.unless_late.ensures ∙ ap unless_late shifted)

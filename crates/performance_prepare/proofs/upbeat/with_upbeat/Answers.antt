@@ -11,4 +11,5 @@ returns-in-Some c =
     let division : c.take.inside.division ≡ t.division = search rules in
     let signatures : c.deref.result.now ≡ t.signatures = search rules in
     let bar : Some c.in-Some.bar ≡ ticks_of_bar t.division (signature_at t.signatures 0) = search rules in
-    placed_in_answers (ticks_of_bar t.division (signature_at t.signatures 0)) c.in-Some.bar c.args.upbeat t c.placed.result bar c.placed.ensures
+    placed_in_answers (ticks_of_bar t.division (signature_at t.signatures 0)) c.in-Some.bar c.args.upbeat t c.placed.result bar
+    c.placed.ensures
