@@ -1,6 +1,7 @@
 pub mod Drums
 pub mod Elapsed
 pub mod Ends
+pub mod FaultText
 pub mod Groups
 pub mod HandLaws
 pub mod Hands

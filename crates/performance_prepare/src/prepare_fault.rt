@@ -1,4 +1,5 @@
-ghost use Rattle.std.specs.Prelude.{◌≡◌};
+ghost use Rattle.std.specs.Prelude.{◌≡◌, Some};
+ghost use Rattle.performance_prepare.specs.FaultText.{fault_text};
 ghost use Rattle.performance_prepare.specs.declared.prepare_fault.PrepareFault.TheVariants.{Memory};
 
 use std::alloc::{AllocError, AllocFailed};
@@ -23,6 +24,8 @@ pub enum PrepareFault {
 }
 
 impl fmt::Display for PrepareFault {
+    ghost output = { λ fault. Some (fault_text fault) };
+
     fn fmt<W: fmt::Write>(&self, f: &mut fmt::Formatter<W>) -> fmt::Result {
         match self {
             PrepareFault::NoNotes => write!(f, "without drums there are no notes"),
