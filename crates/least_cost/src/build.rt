@@ -1,13 +1,13 @@
 ghost use Rattle.grammar_plan.specs.Plans.{HasSeat, IsPlan};
 ghost use Rattle.least_cost.specs.Tables.{AreCellTrees};
-ghost use Rattle.rhythm_base.specs.BarInput.{IsBarInput};
 ghost use Rattle.rhythm_base.specs.BarTables.{IsTable};
 ghost use Rattle.rhythm_base.specs.Counter.{risen};
 ghost use Rattle.rhythm_base.specs.Readable.{IsReadable};
 ghost use Rattle.row_laws.specs.Grounds.{IsReady, ground_of};
 ghost use Rattle.row_laws.specs.QuietTrees.{IsQuiet};
-ghost use Rattle.std.specs.Prelude.{◌≡◌, None, IfOk, option_map};
+ghost use Rattle.std.specs.Prelude.{◌≡◌, None, IfOk};
 
+use crate::copies::copy_of;
 use crate::kept_rules::KeptRules;
 use crate::steps::Steps;
 use crate::table::BarTable;
@@ -16,7 +16,7 @@ use best_trees::least_trees;
 use carry_matrix::CarryMatrix;
 use grammar_plan::Plan;
 use least_rows::{Room, quiet_of};
-use rhythm_base::{BarInput, Grammar, Shape, Tag};
+use rhythm_base::{BarInput, Grammar, Tag};
 use row_laws::Quiet;
 use std::alloc::{AllocError, Global};
 
@@ -184,32 +184,4 @@ fn table_of(
     let kept = copy_of(alloc, input)?;
     let matrix = CarryMatrix::make(bests.rows);
     Ok(BarTable::of(matrix, own, ends, kept))
-}
-
-/// An equal input.
-fn copy_of(alloc: Global, input: &BarInput) -> Result<BarInput, AllocError>
-    requires { IsBarInput input.now }
-    ensures { IfOk result (λ b. b ≡ input.now) }
-{
-    let onsets = input.onsets().to_vec(alloc)?;
-    let pin = copy_of_pin(alloc, input.pin())?;
-    Ok(BarInput::make(
-        input.start(),
-        input.resolution(),
-        input.num(),
-        input.den(),
-        input.length(),
-        onsets,
-        input.before(),
-        pin,
-    ))
-}
-
-fn copy_of_pin(alloc: Global, pin: Option<&Shape>) -> Result<Option<Shape>, AllocError>
-    ensures { IfOk result (λ o. o ≡ option_map (λ s. s.now) pin.entry) }
-{
-    match pin {
-        None => Ok(None),
-        Some(shape) => Ok(Some(shape.copy(alloc)?)),
-    }
 }

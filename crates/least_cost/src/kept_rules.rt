@@ -27,6 +27,16 @@ impl KeptRules {
         Ok(KeptRules::Few(few))
     }
 
+    /// Equal rules.
+    pub fn copy(&self, alloc: Global) -> Result<KeptRules, AllocError>
+        ensures { IfOk result (λ r. rules_of r ≡ rules_of self.now) }
+    {
+        match self {
+            KeptRules::Few(few) => Ok(KeptRules::Few(*few)),
+            KeptRules::Many(many) => Ok(KeptRules::Many(many.as_slice().to_vec(alloc)?)),
+        }
+    }
+
     /// The rules, and whatever comes after them.
     pub fn as_slice(&self) -> &[u16]
         ensures { result.now ≡ rules_of self.now }

@@ -4,8 +4,8 @@ ghost use Rattle.std.specs.Prelude.{◌≡◌, ℕ};
 use rhythm_base::Tag;
 use std::marker::{Model, PhantomData};
 
-/// A number of builds. It stays at 2 to the power 64 less one, and is marked by what it counts for. Only
-/// `build_cell` and `build_planned` raise it, besides adding another counter of the same mark.
+/// A number of builds. It stays at 2 to the power 64 less one, and is marked by what it counts for. Only `build_cell`,
+/// `build_planned` and `BarTable::for_equal_input` raise it, besides adding another counter of the same mark.
 #[derive(Drop)]
 pub struct Steps<B: Tag> {
     count: u64,

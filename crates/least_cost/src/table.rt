@@ -2,11 +2,15 @@ ghost use Rattle.least_cost.specs.KeptRules.{rules_of};
 ghost use Rattle.least_cost.specs.Tables.{AreAllPlaced, lists_of};
 ghost use Rattle.bar_trees.specs.WrittenLists.{IsPlaced, list_of, list_number};
 ghost use Rattle.rhythm_base.specs.BarTables.{list_at};
-ghost use Rattle.std.specs.Prelude.{◌≡◌, ◌<◌, option_map};
+ghost use Rattle.rhythm_base.specs.Counter.{risen};
+ghost use Rattle.std.specs.Prelude.{◌≡◌, ◌<◌, IfOk, option_map};
 
+use crate::copies::copy_of;
 use crate::kept_rules::KeptRules;
+use crate::steps::Steps;
 use carry_matrix::CarryMatrix;
-use rhythm_base::BarInput;
+use rhythm_base::{BarInput, Tag};
+use std::alloc::{AllocError, Global};
 use std::marker::Model;
 
 /// The least trees of one bar of one voice, by the number of chords carried into the bar and the number carried out: what
@@ -55,6 +59,24 @@ impl BarTable {
             ends,
             input,
         }
+    }
+
+    /// The table of an input that is equal to this one's, without a search. It counts as a build: it takes one step, also where it
+    /// wants memory.
+    pub fn for_equal_input<B: Tag>(
+        &self,
+        alloc: Global,
+        builds: &mut Steps<B>,
+    ) -> Result<BarTable, AllocError>
+        ensures builds { builds.new ≡ risen builds.old 1 }
+        ensures table { IfOk result (λ t. t ≡ self.now) }
+    {
+        builds.tick();
+        // An accessor's contract tells that the input is well formed.
+        let _start = self.input.start();
+        let rules = self.rules.copy(alloc)?;
+        let input = copy_of(alloc, &self.input)?;
+        Ok(BarTable::of(self.matrix, rules, self.ends, input))
     }
 
     /// The costs, each at most 500,000,000,000, and the places of the rule lists in their rows.
