@@ -10,7 +10,7 @@ use Rattle.bar_pool.specs.Draws.{AreLawful, Draws, HasEachBelow, Seat, drawn_by_
 use Rattle.bar_pool.specs.DrawTable.{IsDrawTable, draws_of, seat_of}
 use Rattle.bar_pool.specs.Workers.{HasShare, IsNumbered, numbers}
 use Rattle.bar_pool.specs.Places.{StandIn}
-use Rattle.bar_pool.specs.Pool.{AreTablesOf, IsTableOf}
+use Rattle.bar_pool.specs.Sources.{AreTablesAt, IsTableAt}
 use Rattle.bar_pool.specs.declared.draws.DrawCounts.{DrawCounts}
 use Rattle.bar_pool.specs.declared.draws.SeatView.{SeatView}
 use Rattle.bar_pool.proofs.Counting.{below_one, sum_by-most, times-flat_map}
@@ -80,21 +80,23 @@ module _ (inputs workers : ℕ) (key : DrawCounts) (words slots : List ℕ) (id 
   closed_few = few_drawn inputs workers (draws_of state.words state.views) id (seat_of me.0) lawful (seat_at state.views id me.0 final.1.1)
 
 -- the tables in their places
-pub tables_of : (g : Grammar) (inputs : List BarInput) (numbered : List (ℕ × BarTable)) (tables : List BarTable) → HasEachBelow (length inputs) (numbers numbered)
-    → All (IsNumbered g inputs) numbered → length tables ≡ length inputs → StandIn numbered tables → AreTablesOf g inputs tables
-tables_of g inputs numbered tables once of size stand = Each-from (IsTableOf g) inputs tables size at
+pub tables_of : (g : Grammar) (inputs : List BarInput) (searched : List ℕ) (numbered : List (ℕ × BarTable)) (tables : List BarTable)
+    → HasEachBelow (length searched) (numbers numbered) → All (IsNumbered g inputs searched) numbered → length tables ≡ length searched → StandIn numbered tables
+    → AreTablesAt g inputs searched tables
+tables_of g inputs searched numbered tables once of size stand = Each-from (IsTableAt g inputs) searched tables size at
   where
-    at : (k : ℕ) (input : BarInput) (table : BarTable) → slice_get inputs k ≡ Some input → slice_get tables k ≡ Some table → IsTableOf g input table
-    at k input table e f =
-        let low = slice_get_within inputs k input e in
-        let there = place_of numbered k (omega (arith, once k, below_one k (length inputs) low)) in
+    at : (k number : ℕ) (table : BarTable) → slice_get searched k ≡ Some number → slice_get tables k ≡ Some table → IsTableAt g inputs number table
+    at k number table e f =
+        let low = slice_get_within searched k number e in
+        let there = place_of numbered k (omega (arith, once k, below_one k (length searched) low)) in
         let p : ℕ × BarTable = there.1 in
         let same : p.0 ≡ k = there.3 in
         let stands : slice_get tables p.0 ≡ Some p.1 = stand there.0 p there.2 in
         let here : slice_get tables k ≡ Some p.1 = subst (λ m. slice_get tables m ≡ Some p.1) same stands in
         let one : p.1 ≡ table = cc in
-        let is : IsTableOf g input p.1 = All-at (IsNumbered g inputs) numbered there.0 p of there.2 input (subst (λ m. slice_get inputs m ≡ Some input) (sym same) e) in
-        subst (IsTableOf g input) one is
+        let is : IsTableAt g inputs number p.1
+        = All-at (IsNumbered g inputs searched) numbered there.0 p of there.2 number (subst (λ m. slice_get searched m ≡ Some number) (sym same) e) in
+        subst (IsTableAt g inputs number) one is
 
 -- what two facts of an `Ok` show
 pub with_both : {A E : Type 0} (r : Result A E) (P Q R : A → Type 0) → ((x : A) → P x → Q x → R x) → IfOk r P → IfOk r Q → IfOk r R

@@ -1,8 +1,11 @@
 pub mod Closing
 pub mod Counting
 pub mod EachLemmas
+pub mod KnownInputs
 pub mod Lawful
 pub mod Numbered
 pub mod Placed
+pub mod SourceLists
+pub mod Spreading
 pub mod TableKeeps
 pub mod WorkedDraws

@@ -7,7 +7,7 @@ use Rattle.std.proofs.lemmas.List.Elements.{All-append, All-push}
 use Rattle.atomic_table.specs.Table.{Me}
 use Rattle.bar_pool.specs.Draws.{seat_after}
 use Rattle.bar_pool.specs.DrawTable.{seat_of, view_of, view_with}
-use Rattle.bar_pool.specs.Pool.{IsTableOf}
+use Rattle.bar_pool.specs.Sources.{IsTableAt}
 use Rattle.bar_pool.specs.Workers.{AreBuilt, HasShare, IsNumbered, numbers}
 use Rattle.bar_pool.specs.declared.draws.SeatView.{SeatView}
 use Rattle.bar_pool.proofs.Counting.{above, above-push}
@@ -51,26 +51,26 @@ module _ (me after : Me ℕ SeatView) (n count : ℕ) (drew : after ≡ (view_of
       ap (λ l. numbers l) e ∙ map-append (λ p. p.0) built ((n, t) ∷ []) ∙ ap (λ l. l ++ n ∷ []) h ∙ sym drawn_after
 
 -- the numbered tables with one more
-pub tables_after : (g : Grammar) (inputs : List BarInput) (built more : List (ℕ × BarTable)) (n : ℕ) (input : BarInput) (t : BarTable) → more ≡ built ++ (n, t) ∷ []
-    → All (IsNumbered g inputs) built → slice_get inputs n ≡ Some input → IsTableOf g input t → All (IsNumbered g inputs) more
-tables_after g inputs built more n input t e h at of =
-    let one : IsNumbered g inputs (n, t) = λ other f.
-    let same : input ≡ other = cc in
-    subst (λ k. IsTableOf g k t) same of in
-    subst (All (IsNumbered g inputs)) (sym e) (All-push (IsNumbered g inputs) built (n, t) h one)
+pub tables_after : (g : Grammar) (inputs : List BarInput) (searched : List ℕ) (built more : List (ℕ × BarTable)) (n number : ℕ) (t : BarTable) → more ≡ built ++ (n, t) ∷ []
+    → All (IsNumbered g inputs searched) built → slice_get searched n ≡ Some number → IsTableAt g inputs number t → All (IsNumbered g inputs searched) more
+tables_after g inputs searched built more n number t e h at of =
+    let one : IsNumbered g inputs searched (n, t) = λ other f.
+    let same : number ≡ other = cc in
+    subst (λ k. IsTableAt g inputs k t) same of in
+    subst (All (IsNumbered g inputs searched)) (sym e) (All-push (IsNumbered g inputs searched) built (n, t) h one)
 
 -- what two seats have built, where one takes over the other
-module _ (g : Grammar) (inputs : List BarInput) (first second after : Me ℕ SeatView) (me : after ≡ (view_with first.0 second.0, [])) where
-  built : (xs ys zs : List (ℕ × BarTable)) → AreBuilt g inputs first xs → AreBuilt g inputs second ys → zs ≡ xs ++ ys → AreBuilt g inputs after zs
+module _ (g : Grammar) (inputs : List BarInput) (searched : List ℕ) (first second after : Me ℕ SeatView) (me : after ≡ (view_with first.0 second.0, [])) where
+  built : (xs ys zs : List (ℕ × BarTable)) → AreBuilt g inputs searched first xs → AreBuilt g inputs searched second ys → zs ≡ xs ++ ys → AreBuilt g inputs searched after zs
   built xs ys zs a b e = record {
     past = let same = ap (λ (m : Me ℕ SeatView). m.0.past) me in omega (arith, same, a.past);
     numbers = ap (λ l. numbers l) e ∙ map-append (λ p. p.0) xs ys ∙ ap (λ l. l ++ numbers ys) a.numbers ∙ ap (λ l. first.0.drawn ++ l) b.numbers ∙ sym (ap (λ (m : Me ℕ SeatView). m.0.drawn) me);
-    tables = subst (All (IsNumbered g inputs)) (sym e) (All-append (IsNumbered g inputs) xs ys a.tables b.tables);
+    tables = subst (All (IsNumbered g inputs searched)) (sym e) (All-append (IsNumbered g inputs searched) xs ys a.tables b.tables);
   }
 
   pub both_built : {V E : Type 0} (items : V → List (ℕ × BarTable)) (r a b : Result V E) → IfOk r (λ v. IfOk a (λ x. IfOk b (λ y. items v ≡ items x ++ items y)))
-      → (IsOk r → IsOk a × IsOk b) → IfOk a (λ x. AreBuilt g inputs first (items x)) → IfOk b (λ y. AreBuilt g inputs second (items y))
-      → IfOk r (λ v. AreBuilt g inputs after (items v))
+      → (IsOk r → IsOk a × IsOk b) → IfOk a (λ x. AreBuilt g inputs searched first (items x)) → IfOk b (λ y. AreBuilt g inputs searched second (items y))
+      → IfOk r (λ v. AreBuilt g inputs searched after (items v))
   both_built items (Err e) a b all both one two = tt
   both_built items (Ok v) (Ok x) (Ok y) all both one two = built (items x) (items y) (items v) one two all
   both_built items (Ok v) (Ok x) (Err e) all both one two = let h : false ≡ true = (both refl).1 in absurd (cc)

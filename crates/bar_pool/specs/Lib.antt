@@ -1,6 +1,10 @@
 pub mod DrawTable
 pub mod Draws
+pub mod Equal
+pub mod EqualLaws
+pub mod Known
 pub mod Laws
 pub mod Places
 pub mod Pool
+pub mod Sources
 pub mod Workers

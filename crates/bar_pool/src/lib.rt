@@ -1,13 +1,20 @@
-//! Builds the tables of many cells: one table for each input, in their order, and one step of the counter for each.
+//! Builds the tables of many cells: one table for each input, in their order, and one step of the counter for each. First it looks for equal
+//! inputs (sources). Then one of each kind is searched, in turn (search) or by several workers, who draw the numbers of
+//! their cells (draws, workers), and the tables are moved to their places (places). At last the others take over the tables of their
+//! equals (spread).
 #![tactic(auto)]
 
 mod draws;
+mod input_key;
 mod laws;
 mod limits;
 mod order;
 mod places;
 mod pool;
 mod rooms;
+mod search;
+mod sources;
+mod spread;
 mod workers;
 
 pub use draws::{

@@ -1,24 +1,31 @@
 ghost use Rattle.bar_pool.specs.Pool.{AreTablesOf, RisesWithin};
+ghost use Rattle.bar_pool.specs.Sources.{AreTablesAt};
 ghost use Rattle.grammar_plan.specs.Plans.{IsPlan};
 ghost use Rattle.rhythm_base.specs.Counter.{risen};
 ghost use Rattle.rhythm_base.specs.Readable.{IsReadable};
 ghost use Rattle.bar_pool.specs.declared.limits.TheConstants.{MOST_WORKERS};
-ghost use Rattle.std.specs.Prelude.{◌≡◌, ◌≤◌, All, IfOk, OnOk, length};
+ghost use Rattle.std.specs.Prelude.{◌≡◌, ◌<◌, ◌≤◌, All, IfOk, OnOk, length};
 
+use crate::limits::LEAST_FOR_A_WORKER;
 use crate::order::Order;
 use crate::rooms::Rooms;
+use crate::search::build_in_turn;
+use crate::sources::Sources;
+use crate::spread::spread;
 use crate::workers::build_by_workers;
-use least_cost::{BarTable, Steps, build_planned};
-use least_rows::Room;
+use least_cost::{BarTable, Steps};
 use rhythm_base::Tag;
 use rhythm_ports::{Gate, Means};
 use std::alloc::AllocError;
 use std::thread::Threads;
 
-/// The table of each input, in the order of the inputs. Before a cell is built, the gate is passed with the number of its input.
-/// There are `workers` of them, but no more than inputs, and each draws the number of the cell that it builds next. One worker
-/// is the calling thread, which takes the numbers in turn. With no inputs there is nothing to draw. All workers read the one plan,
-/// and each has a room of its own.
+/// The table of each input, in the order of the inputs. Of equal inputs the first is searched, and the others take over its table; but
+/// bars without an onset and a pin are each searched, which takes hardly anything. The gate is passed once with the number of each input: of
+/// a searched one by its worker before its search, and of another by the calling thread, after all searches, before the table is taken over.
+///
+/// There are `workers` of them, but no more than give each of them eight inputs to search, and each draws the input that it
+/// searches next. One worker is the calling thread, which takes the inputs in turn. With no inputs there is nothing to draw. All workers
+/// read the one plan, and each has a room of its own.
 pub fn build_cells<R: Threads + Sync, G: Gate + Sync, B: Tag>(
     means: &Means<'_, R, G>,
     order: &Order<'_>,
@@ -38,41 +45,33 @@ pub fn build_cells<R: Threads + Sync, G: Gate + Sync, B: Tag>(
     if order.inputs.is_empty() {
         return Ok(Vec::new(means.alloc));
     }
-    let workers = order.inputs.len().min(workers as usize);
-    let rooms = rooms.for_workers(means.alloc, workers)?;
-    if workers <= 1 {
-        return build_in_turn(means, order, &mut rooms[0], builds);
-    }
-    build_by_workers(means, order, workers as u64, rooms, builds)
+    let sources = Sources::of(means.alloc, order.inputs)?;
+    let searched = sources.searched.as_slice();
+    let found = build_all_searched(means, order, searched, workers as usize, rooms, builds)?;
+    spread(means, order, sources.equals.as_slice(), found, builds)
 }
 
-/// Builds the cells one after another.
-fn build_in_turn<R: Threads + Sync, G: Gate + Sync, B: Tag>(
+/// Searches the inputs of these numbers, by one worker or by several.
+fn build_all_searched<R: Threads + Sync, G: Gate + Sync, B: Tag>(
     means: &Means<'_, R, G>,
     order: &Order<'_>,
-    room: &mut Room,
+    searched: &[usize],
+    workers: usize,
+    rooms: &mut Rooms,
     builds: &mut Steps<B>,
 ) -> Result<Vec<BarTable>, AllocError>
     requires readable { IsReadable order.now.grammar.now }
     requires plan { IsPlan order.now.grammar.now order.now.plan.now }
     requires units { All (λ k. k.resolution ≡ order.now.grammar.now.resolution) order.now.inputs.now }
-    ensures tables { IfOk result (λ v. AreTablesOf order.now.grammar.now order.now.inputs.now v.items) }
-    ensures builds { OnOk result (builds.new ≡ risen builds.old (length order.now.inputs.now)) }
-    ensures most { RisesWithin builds.old builds.new (length order.now.inputs.now) }
+    requires within { All (λ n. n < length order.now.inputs.now) searched.now }
+    ensures tables { IfOk result (λ v. AreTablesAt order.now.grammar.now order.now.inputs.now searched.now v.items) }
+    ensures builds { OnOk result (builds.new ≡ risen builds.old (length searched.now)) }
+    ensures most { RisesWithin builds.old builds.new (length searched.now) }
 {
-    let inputs = order.inputs;
-    let mut tables = Vec::with_capacity(means.alloc, inputs.len())?;
-    'cells: for number in 0..inputs.len() {
-        means.gate.pass(number as u64);
-        let table = build_planned(
-            means.alloc,
-            order.grammar,
-            order.plan,
-            room,
-            &inputs[number],
-            builds,
-        )?;
-        tables.push(table)?;
+    let workers = workers.min(searched.len() / LEAST_FOR_A_WORKER).max(1);
+    let rooms = rooms.for_workers(means.alloc, workers)?;
+    if workers == 1 {
+        return build_in_turn(means, order, searched, &mut rooms[0], builds);
     }
-    Ok(tables)
+    build_by_workers(means, order, searched, workers as u64, rooms, builds)
 }

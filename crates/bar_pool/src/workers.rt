@@ -1,6 +1,7 @@
 ghost use Rattle.bar_pool.specs.DrawTable.{seat_of, view_of, view_with};
 ghost use Rattle.bar_pool.specs.Draws.{seat_after};
-ghost use Rattle.bar_pool.specs.Pool.{AreTablesOf, RisesWithin};
+ghost use Rattle.bar_pool.specs.Pool.{RisesWithin};
+ghost use Rattle.bar_pool.specs.Sources.{AreTablesAt};
 ghost use Rattle.bar_pool.specs.Workers.{AreBuilt, HasShare, IsFresh};
 ghost use Rattle.grammar_plan.specs.Plans.{IsPlan};
 ghost use Rattle.rhythm_base.specs.Counter.{risen};
@@ -11,7 +12,8 @@ ghost use Rattle.std.specs.Thread.{IsSync};
 use crate::draws::{Draw, DrawCounts, DrawSeat, DrawTable, HalfShare, SharedDraws, Takeover};
 use crate::order::Order;
 use crate::places::in_places;
-use least_cost::{BarTable, Steps, build_planned};
+use crate::search::build_searched;
+use least_cost::{BarTable, Steps};
 use least_rows::Room;
 use rhythm_base::Tag;
 use rhythm_ports::{Gate, Means};
@@ -36,6 +38,7 @@ fn draw(shared: &SharedDraws, seat: &mut DrawSeat) -> u64
 fn build_drawn<R: Threads + Sync, G: Gate + Sync, B: Tag>(
     means: &Means<'_, R, G>,
     order: &Order<'_>,
+    searched: &[usize],
     shared: &SharedDraws,
     seat: &mut DrawSeat,
     room: &mut Room,
@@ -44,26 +47,24 @@ fn build_drawn<R: Threads + Sync, G: Gate + Sync, B: Tag>(
     requires readable { IsReadable order.now.grammar.now }
     requires plan { IsPlan order.now.grammar.now order.now.plan.now }
     requires units { All (λ k. k.resolution ≡ order.now.grammar.now.resolution) order.now.inputs.now }
+    requires within { All (λ n. n < length order.now.inputs.now) searched.now }
     requires table { seat.old.table_id ≡ shared.now.table_id }
     requires words { shared.now.table_id.words ≡ 1 }
-    requires fresh { IsFresh seat.old.me (length order.now.inputs.now) 1 }
+    requires fresh { IsFresh seat.old.me (length searched.now) 1 }
     ensures same { (seat.new.table_id ≡ seat.old.table_id) × (seat.new.id ≡ seat.old.id) }
-    ensures share { HasShare seat.new.me (length order.now.inputs.now) 1 }
-    ensures tables { IfOk result (λ v. AreBuilt order.now.grammar.now order.now.inputs.now seat.new.me v.items) }
+    ensures share { HasShare seat.new.me (length searched.now) 1 }
+    ensures tables { IfOk result (λ v. AreBuilt order.now.grammar.now order.now.inputs.now searched.now seat.new.me v.items) }
     ensures builds { builds.new ≡ risen builds.old (length seat.new.me.0.drawn) }
 {
-    let inputs = order.inputs;
     let mut tables = Vec::new(means.alloc);
     'draws: loop {
-        let number = draw(shared, seat);
-        if number >= inputs.len() as u64 {
+        let drawn = draw(shared, seat);
+        if drawn >= searched.len() as u64 {
             return Ok(tables);
         }
-        means.gate.pass(number);
-        let number = number as usize;
-        let input = &inputs[number];
-        let table = build_planned(means.alloc, order.grammar, order.plan, room, input, builds)?;
-        tables.push((number, table))?;
+        let drawn = drawn as usize;
+        let table = build_searched(means, order, searched[drawn], room, builds)?;
+        tables.push((drawn, table))?;
     }
 }
 
@@ -141,6 +142,7 @@ fn side_by_side<R: Threads, F: FnOnce() -> Built<B> + Send, G: FnOnce() -> Built
 fn build_alone<R: Threads + Sync, G: Gate + Sync, B: Tag>(
     means: &Means<'_, R, G>,
     order: &Order<'_>,
+    searched: &[usize],
     shared: &SharedDraws,
     seat: DrawSeat,
     place: &mut Room,
@@ -148,18 +150,27 @@ fn build_alone<R: Threads + Sync, G: Gate + Sync, B: Tag>(
     requires readable { IsReadable order.now.grammar.now }
     requires plan { IsPlan order.now.grammar.now order.now.plan.now }
     requires units { All (λ k. k.resolution ≡ order.now.grammar.now.resolution) order.now.inputs.now }
+    requires within { All (λ n. n < length order.now.inputs.now) searched.now }
     requires table { seat.table_id ≡ shared.now.table_id }
     requires words { shared.now.table_id.words ≡ 1 }
-    requires fresh { IsFresh seat.me (length order.now.inputs.now) 1 }
+    requires fresh { IsFresh seat.me (length searched.now) 1 }
     ensures table { result.seat.table_id ≡ shared.now.table_id }
-    ensures share { HasShare result.seat.me (length order.now.inputs.now) 1 }
-    ensures tables { IfOk result.tables (λ v. AreBuilt order.now.grammar.now order.now.inputs.now result.seat.me v.items) }
+    ensures share { HasShare result.seat.me (length searched.now) 1 }
+    ensures tables { IfOk result.tables (λ v. AreBuilt order.now.grammar.now order.now.inputs.now searched.now result.seat.me v.items) }
     ensures builds { result.builds ≡ risen 0 (length result.seat.me.0.drawn) }
 {
     let mut seat = seat;
     let mut builds = Steps::zero();
     let mut room = mem::replace(place, Room::new(means.alloc));
-    let tables = build_drawn(means, order, shared, &mut seat, &mut room, &mut builds);
+    let tables = build_drawn(
+        means,
+        order,
+        searched,
+        shared,
+        &mut seat,
+        &mut room,
+        &mut builds,
+    );
     *place = room;
     Built {
         seat,
@@ -174,6 +185,7 @@ fn build_alone<R: Threads + Sync, G: Gate + Sync, B: Tag>(
 pub fn build_in_halves<R: Threads + Sync, G: Gate + Sync, B: Tag>(
     means: &Means<'_, R, G>,
     order: &Order<'_>,
+    searched: &[usize],
     shared: &SharedDraws,
     seat: DrawSeat,
     workers: u64,
@@ -182,18 +194,19 @@ pub fn build_in_halves<R: Threads + Sync, G: Gate + Sync, B: Tag>(
     requires readable { IsReadable order.now.grammar.now }
     requires plan { IsPlan order.now.grammar.now order.now.plan.now }
     requires units { All (λ k. k.resolution ≡ order.now.grammar.now.resolution) order.now.inputs.now }
+    requires within { All (λ n. n < length order.now.inputs.now) searched.now }
     requires table { seat.table_id ≡ shared.now.table_id }
     requires words { shared.now.table_id.words ≡ 1 }
     requires some { 0 < workers }
     requires rooms { workers ≤ length rooms.old }
-    requires fresh { IsFresh seat.me (length order.now.inputs.now) workers }
+    requires fresh { IsFresh seat.me (length searched.now) workers }
     ensures table { result.seat.table_id ≡ shared.now.table_id }
-    ensures share { HasShare result.seat.me (length order.now.inputs.now) workers }
-    ensures tables { IfOk result.tables (λ v. AreBuilt order.now.grammar.now order.now.inputs.now result.seat.me v.items) }
+    ensures share { HasShare result.seat.me (length searched.now) workers }
+    ensures tables { IfOk result.tables (λ v. AreBuilt order.now.grammar.now order.now.inputs.now searched.now result.seat.me v.items) }
     ensures builds { result.builds ≡ risen 0 (length result.seat.me.0.drawn) }
 {
     if workers == 1 {
-        return build_alone(means, order, shared, seat, &mut rooms[0]);
+        return build_alone(means, order, searched, shared, seat, &mut rooms[0]);
     }
     let half = workers / 2;
     let rest = workers - half;
@@ -205,31 +218,33 @@ pub fn build_in_halves<R: Threads + Sync, G: Gate + Sync, B: Tag>(
         requires readable { IsReadable order.now.grammar.now }
         requires plan { IsPlan order.now.grammar.now order.now.plan.now }
         requires units { All (λ k. k.resolution ≡ order.now.grammar.now.resolution) order.now.inputs.now }
+        requires within { All (λ n. n < length order.now.inputs.now) searched.now }
         requires rest { 0 < rest }
         requires rooms { rest ≤ length left_rooms.now }
         requires table { seat.table_id ≡ shared.now.table_id }
         requires words { shared.now.table_id.words ≡ 1 }
-        requires fresh { IsFresh seat.me (length order.now.inputs.now) rest }
+        requires fresh { IsFresh seat.me (length searched.now) rest }
         ensures table { result.seat.table_id ≡ shared.entry.now.table_id }
-        ensures share { HasShare result.seat.me (length order.entry.now.inputs.now) rest }
-        ensures tables { IfOk result.tables (λ v. AreBuilt order.entry.now.grammar.now order.entry.now.inputs.now result.seat.me v.items) }
+        ensures share { HasShare result.seat.me (length searched.entry.now) rest }
+        ensures tables { IfOk result.tables (λ v. AreBuilt order.entry.now.grammar.now order.entry.now.inputs.now searched.entry.now result.seat.me v.items) }
         ensures builds { result.builds ≡ risen 0 (length result.seat.me.0.drawn) }
-    { build_in_halves(means, order, shared, seat, rest, left_rooms) };
+    { build_in_halves(means, order, searched, shared, seat, rest, left_rooms) };
     let right = move || -> Built<B>
         requires sync { IsSync R.row × IsSync G.row }
         requires readable { IsReadable order.now.grammar.now }
         requires plan { IsPlan order.now.grammar.now order.now.plan.now }
         requires units { All (λ k. k.resolution ≡ order.now.grammar.now.resolution) order.now.inputs.now }
+        requires within { All (λ n. n < length order.now.inputs.now) searched.now }
         requires half { 0 < half }
         requires rooms { half ≤ length right_rooms.now }
         requires table { other.table_id ≡ shared.now.table_id }
         requires words { shared.now.table_id.words ≡ 1 }
-        requires fresh { IsFresh other.me (length order.now.inputs.now) half }
+        requires fresh { IsFresh other.me (length searched.now) half }
         ensures table { result.seat.table_id ≡ shared.entry.now.table_id }
-        ensures share { HasShare result.seat.me (length order.entry.now.inputs.now) half }
-        ensures tables { IfOk result.tables (λ v. AreBuilt order.entry.now.grammar.now order.entry.now.inputs.now result.seat.me v.items) }
+        ensures share { HasShare result.seat.me (length searched.entry.now) half }
+        ensures tables { IfOk result.tables (λ v. AreBuilt order.entry.now.grammar.now order.entry.now.inputs.now searched.entry.now result.seat.me v.items) }
         ensures builds { result.builds ≡ risen 0 (length result.seat.me.0.drawn) }
-    { build_in_halves(means, order, shared, other, half, right_rooms) };
+    { build_in_halves(means, order, searched, shared, other, half, right_rooms) };
     let (first, second) = side_by_side(means.rt, left, right);
     take_over(shared, first, second)
 }
@@ -239,21 +254,23 @@ pub fn build_in_halves<R: Threads + Sync, G: Gate + Sync, B: Tag>(
 pub fn build_by_workers<R: Threads + Sync, G: Gate + Sync, B: Tag>(
     means: &Means<'_, R, G>,
     order: &Order<'_>,
+    searched: &[usize],
     workers: u64,
     rooms: &mut [Room],
     builds: &mut Steps<B>,
 ) -> Result<Vec<BarTable>, AllocError>
     requires some_worker { 1 ≤ workers }
-    requires few_workers { workers ≤ length order.now.inputs.now }
+    requires few_workers { workers ≤ length searched.now }
     requires rooms { workers ≤ length rooms.old }
     requires readable { IsReadable order.now.grammar.now }
     requires plan { IsPlan order.now.grammar.now order.now.plan.now }
     requires units { All (λ k. k.resolution ≡ order.now.grammar.now.resolution) order.now.inputs.now }
-    ensures tables { IfOk result (λ v. AreTablesOf order.now.grammar.now order.now.inputs.now v.items) }
-    ensures builds { OnOk result (builds.new ≡ risen builds.old (length order.now.inputs.now)) }
-    ensures most { RisesWithin builds.old builds.new (length order.now.inputs.now) }
+    requires within { All (λ n. n < length order.now.inputs.now) searched.now }
+    ensures tables { IfOk result (λ v. AreTablesAt order.now.grammar.now order.now.inputs.now searched.now v.items) }
+    ensures builds { OnOk result (builds.new ≡ risen builds.old (length searched.now)) }
+    ensures most { RisesWithin builds.old builds.new (length searched.now) }
 {
-    let count = order.inputs.len();
+    let count = searched.len();
     let counts = DrawCounts {
         inputs: count as u64,
         workers,
@@ -263,7 +280,7 @@ pub fn build_by_workers<R: Threads + Sync, G: Gate + Sync, B: Tag>(
         seat,
         builds: own,
         tables,
-    } = build_in_halves(means, order, &table.shared, seat, workers, rooms);
+    } = build_in_halves(means, order, searched, &table.shared, seat, workers, rooms);
     builds.absorb(own);
     table.close_with(seat).free();
     in_places(means.alloc, tables?, count)

@@ -12,5 +12,5 @@ pub returns-clause-tables : goal.returns-clause-tables
 returns-clause-tables g t c =
     let first = c.side_by_side-first.result.0 in
     let second = c.side_by_side-first.result.1 in
-    both_built c.args.order.now.grammar.now c.args.order.now.inputs.now first.seat.me second.seat.me c.take_over.result.seat.me c.take_over.ensures.view (λ v. v.items)
+    both_built c.args.order.now.grammar.now c.args.order.now.inputs.now c.args.searched.now first.seat.me second.seat.me c.take_over.result.seat.me c.take_over.ensures.view (λ v. v.items)
     c.take_over.result.tables first.tables second.tables c.take_over.ensures.tables c.take_over.ensures.both c.side_by_side-first.ensures.first.1.1.0 c.side_by_side-first.ensures.second.1.1.0

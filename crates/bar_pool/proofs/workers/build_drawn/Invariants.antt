@@ -8,13 +8,13 @@ abbrev pub invariant-draws : goal.invariant-draws
 invariant-draws g l = record {
   table : l.seat.table_id ≡ l.initial.seat.table_id;
   id : l.seat.id ≡ l.initial.seat.id;
-  share : HasShare l.seat.me (length l.inputs) 1;
+  share : HasShare l.seat.me (length l.searched) 1;
   past : l.seat.me.0.past ≡ 0;
   numbers : numbers l.tables.items ≡ l.seat.me.0.drawn;
-  tables : All (IsNumbered l.order.grammar.now l.inputs) l.tables.items;
-  within : above l.seat.me.0.drawn ≤ length l.inputs;
+  tables : All (IsNumbered l.order.grammar.now l.order.inputs.now l.searched) l.tables.items;
+  within : above l.seat.me.0.drawn ≤ length l.searched;
   builds : l.builds ≡ risen l.initial.builds (length l.seat.me.0.drawn);
 }
 
 abbrev pub decreases-draws : goal.decreases-draws
-decreases-draws g l = length l.inputs - above l.seat.me.0.drawn
+decreases-draws g l = length l.searched - above l.seat.me.0.drawn

@@ -1,0 +1,43 @@
+ghost use Rattle.bar_pool.specs.Pool.{AreTablesOf, RisesWithin};
+ghost use Rattle.bar_pool.specs.Sources.{AreSources, AreTablesAt, searched_from};
+ghost use Rattle.rhythm_base.specs.Counter.{risen};
+ghost use Rattle.std.specs.Prelude.{◌≡◌, ◌-◌, ◌<◌, IfOk, OnOk, length};
+
+use crate::order::Order;
+use least_cost::{BarTable, Steps};
+use rhythm_base::Tag;
+use rhythm_ports::{Gate, Means};
+use std::alloc::AllocError;
+use std::thread::Threads;
+
+/// The tables of all inputs, of those that were found for the searched ones.
+pub fn spread<R: Threads + Sync, G: Gate + Sync, B: Tag>(
+    means: &Means<'_, R, G>,
+    order: &Order<'_>,
+    equals: &[Option<usize>],
+    found: Vec<BarTable>,
+    builds: &mut Steps<B>,
+) -> Result<Vec<BarTable>, AllocError>
+    requires sources { AreSources order.now.inputs.now equals.now }
+    requires found { AreTablesAt order.now.grammar.now order.now.inputs.now (searched_from 0 equals.now) found.items }
+    ensures tables { IfOk result (λ v. AreTablesOf order.now.grammar.now order.now.inputs.now v.items) }
+    ensures builds { OnOk result (builds.new ≡ risen builds.old (length order.now.inputs.now - length found.items)) }
+    ensures most { RisesWithin builds.old builds.new (length order.now.inputs.now - length found.items) }
+{
+    let mut found = found.into_iter();
+    let mut tables: Vec<BarTable> = Vec::with_capacity(means.alloc, equals.len())?;
+    'inputs: for number in 0..order.inputs.len() {
+        let table = match equals[number] {
+            Some(earlier) => {
+                means.gate.pass(number as u64);
+                tables[earlier].for_equal_input(means.alloc, builds)?
+            }
+            None => match found.next() {
+                Some(table) => table,
+                None => unreachable!(),
+            },
+        };
+        tables.push(table)?;
+    }
+    Ok(tables)
+}
