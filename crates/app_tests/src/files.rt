@@ -23,6 +23,22 @@ pub const SIXTEEN_BARS: &[u8] = b"\
     MTrk\0\0\0\x0c\0\x90<@@\x80<\0\0\xff/\0\
 ";
 
+/// A note of 128 bars, with a tick to a quarter note.
+pub const MANY_BARS: &[u8] = b"\
+    MThd\0\0\0\x06\0\0\0\x01\0\x01\
+    MTrk\0\0\0\x0d\0\x90<@\x84\0\x80<\0\0\xff/\0\
+";
+
+/// Eight voices, each of a note that begins a tick after that of the voice before it, and ends after two bars, with 480 ticks
+/// to a quarter note.
+pub const EIGHT_VOICES: &[u8] = b"\
+    MThd\0\0\0\x06\0\0\0\x01\x01\xe0\
+    MTrk\0\0\0E\
+    \0\x90<@\x01\x91<@\x01\x92<@\x01\x93<@\x01\x94<@\x01\x95<@\x01\x96<@\x01\x97<@\
+    \x9dy\x80<\0\0\x81<\0\0\x82<\0\0\x83<\0\0\x84<\0\0\x85<\0\0\x86<\0\0\x87<\0\
+    \0\xff/\0\
+";
+
 /// A note of as many bars as there may be, with a tick to a quarter note.
 pub const MOST_BARS: &[u8] = b"\
     MThd\0\0\0\x06\0\0\0\x01\0\x01\

@@ -1,12 +1,12 @@
 -- The tables of the first inputs, with that of the next, which is found or that of an equal one before it.
-use Rattle.std.proofs.Common.{◌≡◌, ℕ, zero, suc, ◌+◌, ◌-◌, ◌<◌, ◌≤◌, List, [], ◌∷◌, ◌++◌, drop, get_or, length, take, refl, sym, ap, subst, ◌∙◌, arith}
+use Rattle.std.proofs.Common.{◌≡◌, ℕ, zero, suc, ◌+◌, ◌-◌, ◌<◌, ◌≤◌, List, [], ◌∷◌, ◌++◌, drop, get_or, length, take, sym, ap, subst, ◌∙◌, arith}
 use Rattle.std.specs.Prelude.{Option, Some, None, slice_get}
 use Rattle.std.proofs.lemmas.List.{drop_more, length-drop, length-take-le}
 use Rattle.std.proofs.lemmas.Option.{slice_get-get_or}
 use Rattle.bar_pool.proofs.EachLemmas.{Each-more}
 use Rattle.bar_pool.proofs.SourceLists.{searched_few}
 use Rattle.bar_pool.specs.Pool.{AreTablesOf, IsTableOf}
-use Rattle.bar_pool.specs.Sources.{AreSources, AreTablesAt, IsSource, IsTableAt, searched_from}
+use Rattle.bar_pool.specs.Sources.{AreTablesAt, IsSource, IsTableAt, searched_from}
 use Rattle.rhythm_base.specs.BarInput.{BarInput}
 use Rattle.rhythm_base.specs.BarTables.{BarTable}
 use Rattle.rhythm_base.specs.Counter.{risen}

@@ -17,7 +17,8 @@ same_shape x y = pointwise nat_eq (shape_numbers x) (shape_numbers y)
 -- each part of the one is equal to that of the other
 abbrev pub same_input : BarInput → BarInput → Bool
 same_input k m =
-    (k.symbol == m.symbol) && ((k.resolution == m.resolution) && ((k.num == m.num) && ((k.den == m.den) && ((k.length == m.length) && ((k.before == m.before)
+    (k.symbol == m.symbol) && ((k.resolution == m.resolution) && ((k.num == m.num) && ((k.den == m.den)
+    && ((k.length == m.length) && ((k.before == m.before)
     && (pointwise same_chord k.chords m.chords && option_eq same_shape k.pin m.pin))))))
 
 abbrev pub chord_writes : Inner → HashWrites
@@ -25,4 +26,5 @@ chord_writes c = u64 c.onset ++ u64 c.end
 
 -- all but the units, which one grammar gives to all, and the pin, which few have
 abbrev pub input_writes : BarInput → HashWrites
-input_writes k = u8 k.symbol ++ (u8 k.num ++ (u8 k.den ++ (u64 k.length ++ (u64 k.before ++ slice chord_writes k.chords))))
+input_writes k =
+    u8 k.symbol ++ (u8 k.num ++ (u8 k.den ++ (u64 k.length ++ (u64 k.before ++ slice chord_writes k.chords))))

@@ -1,5 +1,5 @@
 -- Where the tables of inputs come from.
-use Rattle.std.specs.Prelude.{◌≡◌, ◌≢◌, ℕ, ◌+◌, ◌<◌, Bool, true, false, List, [], ◌∷◌, Option, Some, None, length, slice_get, ◌⊎◌}
+use Rattle.std.specs.Prelude.{◌≡◌, ◌≢◌, ℕ, ◌+◌, ◌<◌, List, [], ◌∷◌, Option, Some, None, length, slice_get, ◌⊎◌}
 use Rattle.bar_pool.specs.Pool.{IsTableOf}
 use Rattle.rhythm_base.specs.BarInput.{BarInput}
 use Rattle.rhythm_base.specs.BarTables.{BarTable}
@@ -14,7 +14,8 @@ IsBare k = (k.chords ≡ []) × (k.pin ≡ None)
 abbrev pub IsSource : List BarInput → ℕ → Option ℕ → Type 0
 IsSource inputs number (Some earlier) = (earlier < number) × (slice_get inputs earlier ≡ slice_get inputs number)
 IsSource inputs number None =
-    (k : BarInput) → slice_get inputs number ≡ Some k → IsBare k ⊎ ((earlier : ℕ) → earlier < number → slice_get inputs earlier ≢ Some k)
+    (k : BarInput) → slice_get inputs number ≡ Some k
+    → IsBare k ⊎ ((earlier : ℕ) → earlier < number → slice_get inputs earlier ≢ Some k)
 
 -- the source of each input
 pub record AreSources (inputs : List BarInput) (sources : List (Option ℕ)) : Type 0 where

@@ -27,10 +27,12 @@ numbers things = map (λ p. p.0) things
 
 -- the table is that of the input whose number stands at this place among the searched ones
 abbrev pub IsNumbered : Grammar → List BarInput → List ℕ → ℕ × BarTable → Type 0
-IsNumbered g inputs searched numbered = (number : ℕ) → slice_get searched numbered.0 ≡ Some number → IsTableAt g inputs number numbered.1
+IsNumbered g inputs searched numbered =
+    (number : ℕ) → slice_get searched numbered.0 ≡ Some number → IsTableAt g inputs number numbered.1
 
 -- the seat drew past the searched inputs, and there is a table for each place that it drew before
-pub record AreBuilt (g : Grammar) (inputs : List BarInput) (searched : List ℕ) (me : Me ℕ SeatView) (built : List (ℕ × BarTable)) : Type 0 where
+pub record AreBuilt (g : Grammar) (inputs : List BarInput) (searched : List ℕ) (me : Me ℕ SeatView)
+    (built : List (ℕ × BarTable)) : Type 0 where
   pub past : 0 < me.0.past
   pub numbers : numbers built ≡ me.0.drawn
   pub tables : All (IsNumbered g inputs searched) built

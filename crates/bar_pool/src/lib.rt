@@ -1,7 +1,7 @@
-//! Builds the tables of many cells: one table for each input, in their order, and one step of the counter for each. First it looks for equal
-//! inputs (sources). Then one of each kind is searched, in turn (search) or by several workers, who draw the numbers of
-//! their cells (draws, workers), and the tables are moved to their places (places). At last the others take over the tables of their
-//! equals (spread).
+//! Builds the tables of many cells: one table for each input, in their order, and one step of the counter for each. Equal
+//! inputs are found first (sources). Then the first of each kind is searched, in turn (search) or by several workers
+//! (workers), who draw what they search next (draws), and whose tables are moved to their places (places). At last the
+//! others take over the tables of their equals (spread).
 #![tactic(auto)]
 
 mod draws;

@@ -1,6 +1,6 @@
 /// The most workers that build cells.
 pub const MOST_WORKERS: u32 = 16;
 
-/// Each worker has at least so many cells to search, where there are several workers. A search takes some ten microseconds, and a
-/// thread takes about as long to start as several of them: so for a few cells one worker is done first.
+/// Where several workers search, each has at least so many inputs. A search takes some ten to fifty microseconds, about as
+/// long as a thread takes to start and to be joined: so one worker is done sooner with a few.
 pub const LEAST_FOR_A_WORKER: usize = 8;

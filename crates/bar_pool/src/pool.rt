@@ -19,13 +19,14 @@ use rhythm_ports::{Gate, Means};
 use std::alloc::AllocError;
 use std::thread::Threads;
 
-/// The table of each input, in the order of the inputs. Of equal inputs the first is searched, and the others take over its table; but
-/// bars without an onset and a pin are each searched, which takes hardly anything. The gate is passed once with the number of each input: of
-/// a searched one by its worker before its search, and of another by the calling thread, after all searches, before the table is taken over.
+/// The table of each input, in the order of the inputs. An input that is equal to one before it takes over its table, and all
+/// others are searched, among them all bars without an onset and a pin, whose search takes hardly anything. Before a cell
+/// is built, the gate is passed with the number of its input: before a search by its worker, and before a table is taken
+/// over by the calling thread, when all searches are done.
 ///
-/// There are `workers` of them, but no more than give each of them eight inputs to search, and each draws the input that it
-/// searches next. One worker is the calling thread, which takes the inputs in turn. With no inputs there is nothing to draw. All workers
-/// read the one plan, and each has a room of its own.
+/// There are `workers` of them, but no more than have eight inputs each to search, and each draws the input that it
+/// searches next. One worker is the calling thread, which takes the inputs in turn. With no inputs there is nothing to
+/// draw. All workers read the one plan, and each has a room of its own.
 pub fn build_cells<R: Threads + Sync, G: Gate + Sync, B: Tag>(
     means: &Means<'_, R, G>,
     order: &Order<'_>,

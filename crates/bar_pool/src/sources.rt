@@ -10,15 +10,15 @@ use std::collections::HashMap;
 /// Where the tables of inputs come from.
 #[derive(Drop)]
 pub struct Sources {
-    /// For each input the number of the last one before it that is equal, whose table serves for it. Where there is none it is searched.
+    /// For each input the number of the last one before it that is equal, whose table it takes over.
     pub equals: Vec<Option<usize>>,
-    /// The numbers of the inputs that are searched, in order.
+    /// The numbers of the others, in order. They are searched.
     pub searched: Vec<usize>,
 }
 
 impl Sources {
-    /// Looks for equal inputs. Bare ones are all searched: that takes less than to look for an equal. The map has a fixed hasher: there
-    /// are at most 16,384 inputs, and whoever makes many of one hash only waits longer.
+    /// Looks for equal inputs. Bare ones are all searched: that takes no longer than to look for an equal one. The map has
+    /// a fixed hasher: there are at most 16,384 inputs, and whoever makes many of one hash only waits longer.
     pub fn of(alloc: Global, inputs: &[BarInput]) -> Result<Sources, AllocError>
         ensures equals { IfOk result (λ s. AreSources inputs.now s.equals.items) }
         ensures searched { IfOk result (λ s. s.searched.items ≡ searched_from 0 s.equals.items) }
@@ -37,7 +37,8 @@ impl Sources {
     }
 }
 
-/// The number of the last input before this one that is equal to it, if it is not bare. From then on the map knows this one too.
+/// The number of the last input before this one that is equal to it, if it is not bare. From then on the map knows this
+/// one too.
 fn equal_before<'a>(
     known: &mut HashMap<InputKey<'a>, usize>,
     inputs: &'a [BarInput],
@@ -55,7 +56,7 @@ fn equal_before<'a>(
     Ok(known.insert(InputKey { input }, number)?)
 }
 
-/// Whether the bar has neither an onset nor a pin. Then hardly anything is searched.
+/// Whether the bar has neither an onset nor a pin.
 fn is_bare(input: &BarInput) -> bool
     ensures { IsTrue result ↔ IsBare input.now }
 {

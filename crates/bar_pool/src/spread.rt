@@ -10,7 +10,7 @@ use rhythm_ports::{Gate, Means};
 use std::alloc::AllocError;
 use std::thread::Threads;
 
-/// The tables of all inputs, of those that were found for the searched ones.
+/// The tables of all inputs, by those that were found for the searched ones. The gate is passed before a table is taken over.
 pub fn spread<R: Threads + Sync, G: Gate + Sync, B: Tag>(
     means: &Means<'_, R, G>,
     order: &Order<'_>,

@@ -33,7 +33,7 @@ fn draw(shared: &SharedDraws, seat: &mut DrawSeat) -> u64
     shared.fetch_add::<Draw>(seat, 0, 1)
 }
 
-/// Builds the cells whose numbers one worker draws, each in one atomic step. It stops at the first number past the inputs, and
+/// Builds the cells whose places among the searched ones one worker draws, each in one atomic step. It stops at the first number past the inputs, and
 /// where it wants memory.
 fn build_drawn<R: Threads + Sync, G: Gate + Sync, B: Tag>(
     means: &Means<'_, R, G>,
@@ -68,8 +68,8 @@ fn build_drawn<R: Threads + Sync, G: Gate + Sync, B: Tag>(
     }
 }
 
-/// What the workers of a seat have built: the seat, the count of the builds, and the tables, each with the number of its
-/// input, if there was enough memory.
+/// What the workers of a seat have built: the seat, the count of the builds, and the tables, each with the number that was
+/// drawn for it, if there was enough memory.
 pub struct Built<B: Tag> {
     pub seat: DrawSeat,
     pub builds: Steps<B>,

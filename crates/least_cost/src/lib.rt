@@ -2,7 +2,7 @@
 //! the least tree costs, the place of its rule list among those of its row, and the list. A bar without a pin is searched by
 //! rows, by a plan of its grammar (least_rows), and one with a pin from the root down (best_trees). What was found is kept
 //! as a table (table), with the bar that it was found for. Each build is one step of a counter that only this crate raises
-//! (steps). The table of a bar that is equal to one before it may be had without a search, and counts as a build as well.
+//! (steps). A bar that is equal to one with a table may have an equal table without a search; it counts as a build too.
 #![tactic(auto)]
 
 mod build;

@@ -61,8 +61,8 @@ impl BarTable {
         }
     }
 
-    /// The table of an input that is equal to this one's, without a search. It counts as a build: it takes one step, also where it
-    /// wants memory.
+    /// The table of an input that is equal to this one's, without a search. It counts as a build: it takes one step, also
+    /// where it wants memory.
     pub fn for_equal_input<B: Tag>(
         &self,
         alloc: Global,

@@ -5,8 +5,8 @@ use crate::bars::{bar_of, chords_of};
 use crate::grammars::{USUAL, read};
 use bar_pool::{Order, Rooms, build_cells};
 use grammar_plan::Plan;
-use least_cost::{BarTable, Steps};
-use rhythm_base::{BarInput, Grammar, Tag};
+use least_cost::{BarTable, Steps, build_cell};
+use rhythm_base::{BarInput, Grammar, Shape, Tag};
 use rhythm_ports::{Gate, Means, OpenGate};
 use std::alloc::Global;
 use std::sync::atomic::{AtomicBool, AtomicU64, Ordering};
@@ -18,25 +18,33 @@ struct ByWorkers;
 
 impl Tag for ByWorkers {}
 
+/// A bar with a chord at this tick and another one after it.
+fn bar(alloc: Global, grammar: &Grammar, onset: u64, pin: Option<Shape>) -> Result<BarInput, Fail>
+    requires readable { IsReadable grammar.now }
+    requires early { onset ≤ 1720 }
+    ensures { IfOk result (λ b. b.resolution ≡ grammar.now.resolution) }
+{
+    let chords = chords_of(alloc, &[(onset, onset + 100), (onset + 150, 1920)])?;
+    match bar_of(grammar, chords, onset / 2, pin) {
+        Some(bar) => Ok(bar),
+        None => Err(Fail::new("no bar")),
+    }
+}
+
 /// So many bars, each with a chord at another tick.
 fn bars(alloc: Global, grammar: &Grammar, count: u64) -> Result<Vec<BarInput>, Fail>
     requires readable { IsReadable grammar.now }
-    requires few { count ≤ 12 }
+    requires few { count ≤ 128 }
     ensures { IfOk result (λ v. All (λ b. b.resolution ≡ grammar.now.resolution) v.items) }
 {
     let mut bars = Vec::new(alloc);
     'bars: for number in 0..count {
-        let onset = number * 155;
-        let chords = chords_of(alloc, &[(onset, onset + 100), (onset + 150, 1920)])?;
-        let Some(bar) = bar_of(grammar, chords, onset / 2, None) else {
-            return Err(Fail::new("no bar"));
-        };
-        bars.push(bar)?;
+        bars.push(bar(alloc, grammar, number * 13, None)?)?;
     }
     Ok(bars)
 }
 
-/// Holds one number until three others have passed, for at most 100,000,000 turns.
+/// Holds one number until fifteen others have passed, for at most 100,000,000 turns.
 #[derive(Drop)]
 struct Holding {
     held: u64,
@@ -61,7 +69,7 @@ impl Gate for Holding {
             return;
         }
         for _ in 0..100_000_000u32 {
-            if self.passed.load(Ordering::SeqCst) == 3 {
+            if self.passed.load(Ordering::SeqCst) == 15 {
                 return;
             }
         }
@@ -75,8 +83,8 @@ fn a_worker_draws_what_a_held_one_leaves(rt: HostRuntime) -> Result<(), Fail> {
     let alloc = rt.alloc();
     let grammar = read(alloc, USUAL)?;
     let plan = Plan::of(alloc, &grammar)?;
-    let inputs = bars(alloc, &grammar, 4)?;
-    for held in 0..3u64 {
+    let inputs = bars(alloc, &grammar, 16)?;
+    for held in [0u64, 8, 14] {
         let gate = Holding::new(held);
         let order = Order {
             grammar: &grammar,
@@ -91,7 +99,7 @@ fn a_worker_draws_what_a_held_one_leaves(rt: HostRuntime) -> Result<(), Fail> {
         let mut rooms = Rooms::new(alloc);
         let mut builds = Steps::<ByWorkers>::zero();
         let tables = build_cells(&means, &order, 2, &mut rooms, &mut builds)?;
-        assert!(rt; tables.len() == 4 && builds.count() == 4, "number {held}");
+        assert!(rt; tables.len() == 16 && builds.count() == 16, "number {held}");
         assert!(rt;
             !gate.gave_up.load(Ordering::SeqCst),
             "number {held} was held to the end"
@@ -120,7 +128,7 @@ fn any_number_of_workers_gives_equal_tables(rt: HostRuntime) -> Result<(), Fail>
     let alloc = rt.alloc();
     let grammar = read(alloc, USUAL)?;
     let plan = Plan::of(alloc, &grammar)?;
-    let inputs = bars(alloc, &grammar, 12)?;
+    let inputs = bars(alloc, &grammar, 128)?;
     let order = Order {
         grammar: &grammar,
         plan: &plan,
@@ -134,25 +142,25 @@ fn any_number_of_workers_gives_equal_tables(rt: HostRuntime) -> Result<(), Fail>
     let mut rooms = Rooms::new(alloc);
     let mut builds = Steps::<ByWorkers>::zero();
     let alone = build_cells(&means, &order, 1, &mut rooms, &mut builds)?;
-    assert!(rt; alone.len() == 12);
+    assert!(rt; alone.len() == 128);
     for workers in [2u32, 3, 16] {
         let tables = build_cells(&means, &order, workers, &mut rooms, &mut builds)?;
-        assert!(rt; tables.len() == 12);
+        assert!(rt; tables.len() == 128);
         for (one, other) in alone.iter().zip(tables.iter()) {
             assert!(rt; are_equal(one, other), "by {workers} workers");
         }
     }
-    assert!(rt; builds.count() == 48);
+    assert!(rt; builds.count() == 512);
     Ok(())
 }
 
-/// The tables of the dozen differ, so that one in another's place would be seen.
+/// The tables of neighbours differ, so that one in another's place would be seen.
 #[test]
 fn the_tables_differ(rt: HostRuntime) -> Result<(), Fail> {
     let alloc = rt.alloc();
     let grammar = read(alloc, USUAL)?;
     let plan = Plan::of(alloc, &grammar)?;
-    let inputs = bars(alloc, &grammar, 12)?;
+    let inputs = bars(alloc, &grammar, 128)?;
     let order = Order {
         grammar: &grammar,
         plan: &plan,
@@ -191,5 +199,72 @@ fn no_cells_by_four_workers(rt: HostRuntime) -> Result<(), Fail> {
     let mut builds = Steps::<ByWorkers>::zero();
     let tables = build_cells(&means, &order, 4, &mut rooms, &mut builds)?;
     assert!(rt; tables.is_empty() && builds.count() == 0);
+    Ok(())
+}
+
+/// Counts the numbers that pass, and adds them up.
+#[derive(Drop)]
+struct Passes {
+    count: AtomicU64,
+    sum: AtomicU64,
+}
+
+impl Gate for Passes {
+    fn pass(&self, index: u64) {
+        self.count.fetch_add(1, Ordering::SeqCst);
+        self.sum.fetch_add(index, Ordering::SeqCst);
+    }
+}
+
+/// Where the first chord of some bars begins, and whether the tree is to be a leaf.
+const EQUAL_BARS: &[(u64, bool)] = &[
+    (0, false),
+    (500, false),
+    (0, false),
+    (0, true),
+    (500, false),
+    (0, true),
+    (0, false),
+    (1000, false),
+];
+
+/// Each of several bars has the table of a bar that is built alone, and all count, whether they are equal or not.
+#[test]
+fn equal_bars_have_equal_tables(rt: HostRuntime) -> Result<(), Fail> {
+    let alloc = rt.alloc();
+    let grammar = read(alloc, USUAL)?;
+    let plan = Plan::of(alloc, &grammar)?;
+    let mut inputs = Vec::new(alloc);
+    'bars: for (onset, is_leaf) in EQUAL_BARS {
+        let pin = is_leaf.then(|| Shape::leaf());
+        inputs.push(bar(alloc, &grammar, *onset, pin)?)?;
+    }
+    let gate = Passes {
+        count: AtomicU64::new(0),
+        sum: AtomicU64::new(0),
+    };
+    let order = Order {
+        grammar: &grammar,
+        plan: &plan,
+        inputs: inputs.as_slice(),
+    };
+    let means = Means {
+        rt: &rt,
+        alloc,
+        gate: &gate,
+    };
+    let mut builds = Steps::<ByWorkers>::zero();
+    let tables = build_cells(&means, &order, 2, &mut Rooms::new(alloc), &mut builds)?;
+    let counts = (
+        tables.len(),
+        builds.count(),
+        gate.count.load(Ordering::SeqCst),
+        gate.sum.load(Ordering::SeqCst),
+    );
+    assert_eq!(rt; counts, (8, 8, 8, 28));
+    for (input, table) in inputs.iter().zip(tables.iter()) {
+        let alone = build_cell(alloc, &grammar, input, &mut builds)?;
+        assert!(rt; are_equal(&alone, table));
+    }
     Ok(())
 }

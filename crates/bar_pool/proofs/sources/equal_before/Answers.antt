@@ -1,8 +1,7 @@
-use Rattle.std.proofs.Common.{rules, ◌≡◌, length, refl, sym}
+use Rattle.std.proofs.Common.{rules, ◌≡◌, length, refl}
 use Rattle.std.specs.Prelude.{Some, slice_get}
 use Rattle.std.proofs.lemmas.Option.{slice_get_read}
 use Rattle.bar_pool.specs.Sources.{IsBare}
-use Rattle.bar_pool.specs.declared.input_key.InputKey.{InputKey}
 use Rattle.bar_pool.proofs.KnownInputs.{knows_bare, knows_more, source_is}
 use Rattle.bar_pool.proofs.sources.equal_before.Goals as goal
 

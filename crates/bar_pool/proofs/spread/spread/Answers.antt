@@ -2,7 +2,7 @@ use Rattle.std.proofs.Common.{rules, arith, ◌≡◌, ◌+◌, ◌<◌, ◌++�
 use Rattle.std.specs.Prelude.{Some, None}
 use Rattle.std.proofs.lemmas.Option.{slice_get-get_or}
 use Rattle.bar_pool.specs.Sources.{IsSource, IsTableAt}
-use Rattle.bar_pool.proofs.Spreading.{IsRest, as_many, equal_one, next_found, one_more, rest_all, rest_less, rest_most, rest_same}
+use Rattle.bar_pool.proofs.Spreading.{IsRest, as_many, equal_one, next_found, one_more, rest_less, rest_most, rest_same}
 use Rattle.rhythm_base.specs.Counter.{risen}
 use Rattle.bar_pool.proofs.spread.spread.Goals.{in-Some+in_ok-table-in-Some, in-None+in-Some-next}
 use Rattle.bar_pool.proofs.spread.spread.Goals as goal
