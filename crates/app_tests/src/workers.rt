@@ -180,7 +180,7 @@ const PARTINGS: &[Met] = &[
         script: b"",
         free: 0,
         wanted: 2,
-        turns: SHORT,
+        turns: BRIEF,
     },
     Met {
         shows: "sixteen cells are too few for a third worker",
@@ -189,7 +189,7 @@ const PARTINGS: &[Met] = &[
         script: b"",
         free: 0,
         wanted: 3,
-        turns: SHORT,
+        turns: BRIEF,
     },
     Met {
         shows: "four cells are too few for a second one",
@@ -235,7 +235,7 @@ const PARTINGS: &[Met] = &[
         script: b"",
         free: 16,
         wanted: 2,
-        turns: SHORT,
+        turns: BRIEF,
     },
     Met {
         shows: "two workers are too few for three",
