@@ -1,3 +1,4 @@
+pub mod OptionTable
 pub mod Rows
 pub mod Walks
 pub mod Taking

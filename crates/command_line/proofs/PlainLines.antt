@@ -1,7 +1,11 @@
 -- What plain words say.
-use Rattle.std.proofs.Common.{◌≡◌, ◌∙◌, ◌≤◌, ◌+◌, ◌==◌, ℕ, zero, suc, take, Bool, ◌||◌, ◌&&◌, true, false, refl, sym, ap, subst, arith, List, [], ◌∷◌, ◌++◌, Option, Some, None, codes}
+use Rattle.std.proofs.Common.{◌≡◌, ◌∙◌, ◌≤◌, ◌+◌, ◌==◌, ℕ, zero, suc, take, Bool, ◌||◌, ◌&&◌, true, false, true≢false, refl, sym, ap, subst, arith, List, [], ◌∷◌, ◌++◌, Option, Some, None, codes}
 use Rattle.std.specs.List.{count_by, fold, list_all, position_or_len}
-use Rattle.std.specs.Prelude.{drop, if◌then◌else◌, option_and_then, option_map, slice_get, unwrap_or}
+use Rattle.std.specs.Prelude.{find, if◌then◌else◌, option_and_then, option_map, slice_get, unwrap_or}
+use Rattle.std.specs.Option.{option_or}
+use Rattle.std.proofs.lemmas.List.Folds.{find-append}
+use Rattle.rhythm_base.proofs.Booleans.{or_false}
+use Rattle.performance_prepare.specs.declared.options.Options.{Options}
 use Rattle.std.specs.Str.{bytes_eq}
 use Rattle.std.proofs.lemmas.Bool.{and_parts, not-true}
 use Rattle.std.specs.Cmp.Derive.{both_true}
@@ -9,64 +13,93 @@ use Rattle.std.proofs.lemmas.List.Sums.{sum_by-cons}
 use Rattle.std.proofs.lemmas.Slice.Eq.{bytes_eq-Decides}
 use Rattle.clap.specs.Walk.{Row, Rule, default_rows, first_of, has_row, more_values, reading_by, settled_rows, with_default}
 use Rattle.clap.specs.Faults.{fault_of, settle_fault}
-use Rattle.clap.specs.Simple.{filled, matches_of, with_index}
+use Rattle.clap.specs.Simple.{matches_of}
 use Rattle.clap.specs.declared.parser.matches.ValueSource.TheVariants.{DefaultValue}
 use Rattle.command_line.specs.CommandLines.{command_line_of, invocation_of, line_matches, line_said, words_given}
-use Rattle.command_line.specs.FlatCommand.{flag_rule, line_app, value_rule}
+use Rattle.command_line.specs.FlatCommand.{line_app}
 use Rattle.command_line.specs.PlainWords.{ArePlainWords, begins_with_hyphen, is_workers, other_words, word_of_workers}
 use Rattle.command_line.specs.Numbers.{workers_of}
-use Rattle.command_line.specs.Preparing.{options_of}
+use Rattle.command_line.specs.Preparing.{◌>>=◌, options_of, word_in}
 use Rattle.command_line.specs.Requests.{asks, has_free, is_dashes, is_help, is_version, takes_next}
 use Rattle.command_line.specs.declared.invocation.Invocation.TheVariants.{Command}
 use Rattle.performance_prepare.specs.Laws.{no_options}
 use Rattle.command_line.specs.declared.invocation.CommandLine.{CommandLine}
-use Rattle.command_line.proofs.Rows.{ArePlainRows, IsOther, Text, at_row-missing, find-last, find-more, none_plain, words_so_far}
-use Rattle.command_line.proofs.Taking.{OfEach, faultless, no_defaults}
+use Rattle.command_line.proofs.Rows.{ArePlainRows, Text, at_row-missing, none_plain, words_so_far}
+use Rattle.command_line.proofs.Taking.{faultless, no_defaults}
 use Rattle.command_line.proofs.Walks.{WalkEnds, IsFree, Pending, a_word, an_option, is_after_option, is_hyphenless, is_plain, nothing, pending_of, walk_at, rows_with, built_shape, walk_ends}
 
 -- ---- after the walk
 
--- a rule without a default adds no row
-no_default : (rows : List Row) (a : Rule) → a.defaults ≡ [] → with_default rows a ≡ rows
-no_default rows a e = go (has_row a.id rows) a.defaults e
+-- the row of an id
+abbrev row_of : Text → List Row → Option Row
+row_of id rows = find (λ r. bytes_eq r.id id) rows
+
+-- the row that a rule gives to an id that has none
+abbrev default_row : Rule → List Text → Option Row
+default_row a [] = None
+default_row a (d ∷ ds) =
+    Some (record { id = a.id; values = d ∷ ds; count = None; source = Some DefaultValue; reading = reading_by a })
+
+abbrev default_by : Text → Rule → Option Row
+default_by id a = if bytes_eq a.id id then default_row a a.defaults else None
+
+abbrev default_of : Text → List Rule → Option Row
+default_of id [] = None
+default_of id (a ∷ rules) = option_or (default_by id a) (default_of id rules)
+
+or_none : (o : Option Row) → o ≡ option_or o None
+or_none None = refl
+or_none (Some r) = refl
+
+or_assoc : (a b c : Option Row) → option_or (option_or a b) c ≡ option_or a (option_or b c)
+or_assoc None b c = refl
+or_assoc (Some r) b c = refl
+
+-- a row that is there stays
+or_there : (id : Text) (rows : List Row) (o : Option Row) → has_row id rows ≡ true → row_of id rows ≡ option_or (row_of id rows) o
+or_there id [] o there = absurd (true≢false (sym there))
+or_there id (r ∷ rows) o there = go (bytes_eq r.id id) there (or_there id rows o)
   where
-    go : (b : Bool) (defaults : List Text) → defaults ≡ [] → (if b then rows else default_rows a.id (reading_by a) defaults rows) ≡ rows
-    go true defaults e = refl
-    go false [] e = refl
-    go false (d ∷ ds) e = cc
+    go : (b : Bool) → (b || has_row id rows) ≡ true → (has_row id rows ≡ true → row_of id rows ≡ option_or (row_of id rows) o)
+        → (if b then Some r else row_of id rows) ≡ option_or (if b then Some r else row_of id rows) o
+    go true there later = refl
+    go false there later = later there
 
-no_rows_more : (rows : List Row) (rules : List Rule) → OfEach (λ a. a.defaults ≡ []) rules → fold with_default rows rules ≡ rows
-no_rows_more rows [] each = refl
-no_rows_more rows (a ∷ rules) each = ap (λ (rs : List Row). fold with_default rs rules) (no_default rows a each.0) ∙ no_rows_more rows rules each.1
+never : (b : Bool) → ◌≡◌ {A = Option Row} None (if b then None else None)
+never true = refl
+never false = refl
 
--- the row of the option without a word, where it is not given
-abbrev drums_rule : Rule
-drums_rule = with_index 1 (filled (flag_rule (codes "no-drums")))
-
-abbrev drums_row : Row
-drums_row = record {
-  id = codes "no-drums";
-  values = codes "false" ∷ [];
-  count = None;
-  source = Some DefaultValue;
-  reading = reading_by drums_rule;
-}
-
--- the row is added, and no other
-all_rows : (rows : List Row) → has_row (codes "no-drums") rows ≡ false → fold with_default rows built_shape.rules ≡ rows ++ drums_row ∷ []
-all_rows rows none =
-    ap (λ (rs : List Row). fold with_default rs (drums_rule ∷ rest)) (no_default rows workers_filled refl)
-    ∙ ap (λ (rs : List Row). fold with_default rs rest) told
-    ∙ no_rows_more (rows ++ drums_row ∷ []) rest (refl, (refl, (refl, (refl, (refl, (refl, (refl, (refl, (refl, tt)))))))))
+-- a default is for an id that has no row
+defaulted : (id : Text) (rows : List Row) (a : Rule) → row_of id (with_default rows a) ≡ option_or (row_of id rows) (default_by id a)
+defaulted id rows a = go (has_row a.id rows) refl (bytes_eq a.id id) refl
   where
-    workers_filled : Rule
-    workers_filled = with_index 1 (filled (value_rule (codes "workers")))
+    added : (defaults : List Text) → has_row a.id rows ≡ false
+        → row_of id (default_rows a.id (reading_by a) defaults rows) ≡ option_or (row_of id rows) (if bytes_eq a.id id then default_row a defaults else None)
+    added [] none = or_none (row_of id rows) ∙ ap (option_or (row_of id rows)) (never (bytes_eq a.id id))
+    added (d ∷ ds) none =
+        ap (row_of id) (at_row-missing a.id (more_values DefaultValue (d ∷ ds)) (row ∷ []) rows none)
+        ∙ find-append (λ r. bytes_eq r.id id) rows (row ∷ [])
+      where
+        row : Row
+        row = record { id = a.id; values = d ∷ ds; count = None; source = Some DefaultValue; reading = reading_by a }
 
-    rest : List Rule
-    rest = drop 2 built_shape.rules
+    go : (there : Bool) → has_row a.id rows ≡ there → (same : Bool) → bytes_eq a.id id ≡ same
+        → row_of id (if there then rows else default_rows a.id (reading_by a) a.defaults rows) ≡ option_or (row_of id rows) (default_by id a)
+    go false none same e = added a.defaults none
+    go true there false e = rw e (or_none (row_of id rows))
+    go true there true e =
+        or_there id rows (default_by id a) (subst (λ (x : Text). has_row x rows ≡ true) ((bytes_eq-Decides a.id id).0 e) there)
 
-    told : with_default rows drums_rule ≡ rows ++ drums_row ∷ []
-    told = rw none (at_row-missing (codes "no-drums") (more_values DefaultValue (codes "false" ∷ [])) (drums_row ∷ []) rows none)
+all_defaulted : (id : Text) (rules : List Rule) (rows : List Row) → row_of id (fold with_default rows rules) ≡ option_or (row_of id rows) (default_of id rules)
+all_defaulted id [] rows = or_none (row_of id rows)
+all_defaulted id (a ∷ rules) rows =
+    all_defaulted id rules (with_default rows a)
+    ∙ ap (λ (o : Option Row). option_or o (default_of id rules)) (defaulted id rows a)
+    ∙ or_assoc (row_of id rows) (default_by id a) (default_of id rules)
+
+-- rows with all defaults
+abbrev AreSettled : List Row → List Row → Type 0
+AreSettled rows settled = (id : Text) → row_of id settled ≡ option_or (row_of id rows) (default_of id built_shape.rules)
 
 -- what is pending is no fault
 settles : (p : Pending) (rows : List Row) → IsFree p rows → settle_fault built_shape.rules false (walk_at p rows).held ≡ []
@@ -83,46 +116,54 @@ no_fault : (words said : List Text) (option_word : Option Text) → WalkEnds not
 no_fault words said option_word e = rw (e.walks, e.passes, settles e.last e.found e.free, settled_is e.last e.found, no_defaults (rows_with e.last e.found)) refl
 
 rows_are : (words said : List Text) (option_word : Option Text) (e : WalkEnds nothing [] words said option_word)
-    → matches_of line_app words ≡ rows_with e.last e.found ++ drums_row ∷ []
-rows_are words said option_word e =
-    rw (e.walks, settled_is e.last e.found)
-    (all_rows (rows_with e.last e.found) (none_plain (codes "no-drums") (rows_with e.last e.found) (record { no_option = refl; no_words = refl }) e.plain).1)
+    → matches_of line_app words ≡ fold with_default (rows_with e.last e.found) built_shape.rules
+rows_are words said option_word e = rw (e.walks, settled_is e.last e.found) refl
+
+are_settled : (words said : List Text) (option_word : Option Text) (e : WalkEnds nothing [] words said option_word)
+    → AreSettled (rows_with e.last e.found) (matches_of line_app words)
+are_settled words said option_word e id = ap (row_of id) (rows_are words said option_word e) ∙ all_defaulted id built_shape.rules (rows_with e.last e.found)
 
 -- ---- what the rows say
 
--- an option that is not given says no word
-no_word : (id : Text) (rows : List Row) → IsOther id → bytes_eq (codes "no-drums") id ≡ false → ArePlainRows rows → first_of id (rows ++ drums_row ∷ []) ≡ None
-no_word id rows other no_drums plain =
-    ap (option_and_then (λ (r : Row). slice_get r.values 0)) (find-more (λ r. bytes_eq r.id id) rows drums_row no_drums ∙ (none_plain id rows other plain).0)
+-- the word of an id by its row
+abbrev word_by : Option Row → Option Text
+word_by row = option_and_then (λ (r : Row). slice_get r.values 0) row
+
+abbrev is_plain_id : Text → Bool
+is_plain_id id = bytes_eq (codes "workers") id || bytes_eq (codes "words") id
+
+-- of all other options the defaults tell
+others_say : (rows settled : List Row) → ArePlainRows rows → AreSettled rows settled → (id : Text)
+    → word_in settled id ≡ (if is_plain_id id then word_in settled id else word_by (default_of id built_shape.rules))
+others_say rows settled plain is id = go (is_plain_id id) refl
+  where
+    go : (b : Bool) → is_plain_id id ≡ b → word_in settled id ≡ (if b then word_in settled id else word_by (default_of id built_shape.rules))
+    go true e = refl
+    go false e =
+        let other = or_false (bytes_eq (codes "workers") id) (bytes_eq (codes "words") id) e in
+        let none = (none_plain id rows (record { no_option = other.0; no_words = other.1 }) plain).0 in
+        ap word_by (is id ∙ ap (λ (o : Option Row). option_or o (default_of id built_shape.rules)) none)
 
 -- nothing is told of a take
-nothing_told : (rows : List Row) → ArePlainRows rows → options_of (rows ++ drums_row ∷ []) ≡ Some no_options
-nothing_told rows plain =
-    let strum = no_word (codes "strum") rows (record { no_option = refl; no_words = refl }) refl plain in
-    let hands = no_word (codes "hands") rows (record { no_option = refl; no_words = refl }) refl plain in
-    let split = no_word (codes "split") rows (record { no_option = refl; no_words = refl }) refl plain in
-    let meter = no_word (codes "meter") rows (record { no_option = refl; no_words = refl }) refl plain in
-    let tempo = no_word (codes "tempo") rows (record { no_option = refl; no_words = refl }) refl plain in
-    let upbeat = no_word (codes "upbeat") rows (record { no_option = refl; no_words = refl }) refl plain in
-    let key = no_word (codes "key") rows (record { no_option = refl; no_words = refl }) refl plain in
-    let drums : first_of (codes "no-drums") (rows ++ drums_row ∷ []) ≡ Some (codes "false") =
-    ap (option_and_then (λ (r : Row). slice_get r.values 0))
-    (find-last (λ r. bytes_eq r.id (codes "no-drums")) rows drums_row
-    (none_plain (codes "no-drums") rows (record { no_option = refl; no_words = refl }) plain).0 refl) in rw (split, hands, strum, meter, tempo, upbeat, key, drums) refl
+nothing_told : (rows settled : List Row) → ArePlainRows rows → AreSettled rows settled → options_of (word_in settled) ≡ Some no_options
+nothing_told rows settled plain is = ap options_of (λ i id. others_say rows settled plain is id i) ∙ refl
 
-line_is : (rows : List Row) (said : List Text) (option_word : Option Text) → ArePlainRows rows → words_so_far rows ≡ said → first_of (codes "workers") rows ≡ option_word
-    → line_said (rows ++ drums_row ∷ []) ≡ option_map (λ (n : ℕ). record { workers = n; options = no_options; script = []; words = said }) (workers_of option_word)
-line_is rows said option_word plain words_are option_is =
-    let words : words_given (rows ++ drums_row ∷ []) ≡ said =
-    ap (λ (r : Option Row). unwrap_or (option_map (λ (r : Row). r.values) r) []) (find-more (λ r. bytes_eq r.id (codes "words")) rows drums_row refl) ∙ words_are in
-    let workers : first_of (codes "workers") (rows ++ drums_row ∷ []) ≡ option_word =
-    ap (option_and_then (λ (r : Row). slice_get r.values 0)) (find-more (λ r. bytes_eq r.id (codes "workers")) rows drums_row refl) ∙ option_is in
-    let script = no_word (codes "script") rows (record { no_option = refl; no_words = refl }) refl plain in
-    rw (workers, nothing_told rows plain, script, words) (by (workers_of option_word))
+line_is : (rows settled : List Row) (said : List Text) (option_word : Option Text) → ArePlainRows rows → AreSettled rows settled
+    → words_so_far rows ≡ said → first_of (codes "workers") rows ≡ option_word
+    → line_said settled ≡ option_map (λ (n : ℕ). record { workers = n; options = no_options; script = []; words = said }) (workers_of option_word)
+line_is rows settled said option_word plain is words_are option_is =
+    let words : words_given settled ≡ said =
+    ap (λ (r : Option Row). unwrap_or (option_map (λ (r : Row). r.values) r) []) (is (codes "words") ∙ sym (or_none (row_of (codes "words") rows))) ∙ words_are in
+    let workers : word_in settled (codes "workers") ≡ option_word =
+    ap word_by (is (codes "workers") ∙ sym (or_none (row_of (codes "workers") rows))) ∙ option_is in
+    let script : word_in settled (codes "script") ≡ None = others_say rows settled plain is (codes "script") in
+    rw (workers, nothing_told rows settled plain is, script, words) (by (workers_of option_word))
   where
+    of_words : ℕ → Options → CommandLine
+    of_words n told = record { workers = n; options = told; script = []; words = said }
+
     by : (o : Option ℕ)
-        → option_and_then {U = CommandLine} (λ (n : ℕ). Some (record { workers = n; options = no_options; script = []; words = said })) o
-        ≡ option_map {U = CommandLine} (λ (n : ℕ). record { workers = n; options = no_options; script = []; words = said }) o
+        → (o >>= (λ (n : ℕ). Some no_options >>= (λ (told : Options). Some (of_words n told)))) ≡ option_map (λ (n : ℕ). of_words n no_options) o
     by None = refl
     by (Some n) = refl
 
@@ -132,8 +173,9 @@ unfolding line_matches
 plain_line words plain =
     let e = walk_ends words plain nothing [] [] tt refl refl refl refl in
     let taken = (faultless words).1 (no_fault words _ _ e) in
-    rw (taken, rows_are words _ _ e)
-    (line_is (rows_with e.last e.found) (other_words words) (word_of_workers words) e.plain e.words_are e.option_is)
+    rw taken
+    (line_is (rows_with e.last e.found) (matches_of line_app words) (other_words words) (word_of_workers words) e.plain
+    (are_settled words _ _ e) e.words_are e.option_is)
 
 -- ---- plain words by a test
 

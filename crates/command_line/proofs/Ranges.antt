@@ -1,44 +1,41 @@
 -- What the options of a command line tell of a take is in range.
-use Rattle.std.proofs.Common.{◌≡◌, ℕ, zero, suc, ℤ, pos, negsuc, ◌≤ℤ◌, ◌≤◌, Bool, true, false, IsTrue, List, Option, Some, None, codes, refl, sym, subst, ◌≢◌, arith}
+use Rattle.std.proofs.Common.{◌≡◌, ℕ, zero, suc, ℤ, pos, ◌≤◌, Bool, true, false, List, Option, Some, None, codes, refl, sym, subst, ◌≢◌, arith}
 use Rattle.std.specs.Prelude.{if◌then◌else◌, neg_ℤ, ◌==◌, option_and_then, option_map}
 use Rattle.std.specs.List.{after_first, before_first}
 use Rattle.std.proofs.lemmas.Bool.Decides.{nat_tests}
-use Rattle.clap.specs.Walk.{Row, first_of}
+use Rattle.clap.specs.Walk.{Row}
 use Rattle.performance_prepare.specs.Drums.{drum_channel}
-use Rattle.performance_prepare.specs.Ranges.{AreInRange, IsFraction, IsKey, IsKeyboard, IsPace, IsReach}
+use Rattle.performance_prepare.specs.Ranges.{AreInRange, IfGiven, IsFraction, IsKey, IsKeyboard, IsPace, IsReach}
 use Rattle.performance_prepare.specs.declared.options.Fraction.{Fraction}
 use Rattle.performance_prepare.specs.declared.options.Options.{Options}
 use Rattle.rhythm_base.specs.Signatures.{is_den}
-use Rattle.command_line.specs.CommandLines.{HasOptions, command_line_of, invocation_of, line_matches, line_said, script_in, words_given}
+use Rattle.command_line.specs.CommandLines.{HasOptions, command_line_of, line_matches, line_said, listed, words_given}
 use Rattle.command_line.specs.Laws.{OptionsAreInRange}
 use Rattle.command_line.specs.Numbers.{after_hyphen, fraction_in, fraction_of, is_slash, key_by, key_in, keyboard_in, keyboard_of, number_in, workers_of}
-use Rattle.command_line.specs.Preparing.{AreToldInRange, IfTold, all_told, options_of, told, told_by}
+use Rattle.command_line.specs.Preparing.{◌>>=◌, options_of, told, word_in}
 use Rattle.command_line.specs.Requests.{asks, is_help, is_version}
 use Rattle.command_line.specs.declared.invocation.CommandLine.{CommandLine}
 use Rattle.command_line.specs.declared.invocation.Invocation.{Invocation}
 use Rattle.command_line.specs.declared.invocation.Invocation.TheVariants.{Help, Version, Command}
-use Rattle.command_line.specs.declared.preparing.Told.{Told}
 use Rattle.command_line.proofs.Numbers.{as_in_scripts}
 use Rattle.command_line.proofs.Rows.{Text}
 
 module _ {A B : Type 0} where
   -- a second step is had where both are
-  pub then_some : (f : A → Option B) (o : Option A) (y : B) → option_and_then f o ≡ Some y → (x : A) × (o ≡ Some x) × (f x ≡ Some y)
-  then_some f None y e = absurd (cc)
-  then_some f (Some x) y e = (x, refl, e)
+  pub then_some : (o : Option A) (next : A → Option B) (y : B) → (o >>= next) ≡ Some y → (x : A) × (o ≡ Some x) × (next x ≡ Some y)
+  then_some None next y e = absurd (cc)
+  then_some (Some x) next y e = (x, refl, e)
 
-  pub map_some : (f : A → B) (o : Option A) (y : B) → option_map f o ≡ Some y → (x : A) × (o ≡ Some x) × (f x ≡ y)
+  and_then_some : (f : A → Option B) (o : Option A) (y : B) → option_and_then f o ≡ Some y → (x : A) × (o ≡ Some x) × (f x ≡ Some y)
+  and_then_some f None y e = absurd (cc)
+  and_then_some f (Some x) y e = (x, refl, e)
+
+  map_some : (f : A → B) (o : Option A) (y : B) → option_map f o ≡ Some y → (x : A) × (o ≡ Some x) × (f x ≡ y)
   map_some f None y e = absurd (cc)
   map_some f (Some x) y e = (x, refl, cc)
 
 number_low : (least most n : ℕ) (word : Text) → number_in least most word ≡ Some n → (n ≤ most) × (least ≤ n)
 number_low least most n word e = let is = (as_in_scripts least most n word).0 e in (is.0.high, is.1)
-
-pub pace_ranged : (word : Text) (n : ℕ) → number_in 1 1000 word ≡ Some n → IsPace n
-pace_ranged word n e = let is = number_low 1 1000 n word e in record { some = is.1; few = is.0 }
-
-pub reach_ranged : (word : Text) (n : ℕ) → number_in 1 100 word ≡ Some n → IsReach n
-reach_ranged word n e = let is = number_low 1 100 n word e in record { some = is.1; few = is.0 }
 
 -- a fraction of a number up to 64 and a power of two
 of_numbers : (num den : ℕ) (f : Fraction) → num ≤ 64 → fraction_of num den ≡ Some f → IsFraction f
@@ -50,9 +47,9 @@ of_numbers num den f few = go (is_den den) refl
 
 pub fraction_ranged : (least : ℕ) (word : Text) (f : Fraction) → fraction_in least word ≡ Some f → IsFraction f
 fraction_ranged least word f e =
-    let outer = then_some (λ (num : ℕ). option_and_then (λ (den : ℕ). fraction_of num den) (number_in 1 64 (after_first is_slash word)))
+    let outer = and_then_some (λ (num : ℕ). option_and_then (λ (den : ℕ). fraction_of num den) (number_in 1 64 (after_first is_slash word)))
     (number_in least 64 (before_first is_slash word)) f e in
-    let inner = then_some (λ (den : ℕ). fraction_of outer.0 den) (number_in 1 64 (after_first is_slash word)) f outer.2 in
+    let inner = and_then_some (λ (den : ℕ). fraction_of outer.0 den) (number_in 1 64 (after_first is_slash word)) f outer.2 in
     of_numbers outer.0 inner.0 f (number_low least 64 outer.0 (before_first is_slash word) outer.1).0 inner.2
 
 pub key_ranged : (word : Text) (k : ℤ) → key_in word ≡ Some k → IsKey k
@@ -82,91 +79,74 @@ of_channel n c few = go (n == 9) refl
 
 pub keyboard_ranged : (word : Text) (c : ℕ) → keyboard_in word ≡ Some c → IsKeyboard c
 keyboard_ranged word c e =
-    let n = then_some keyboard_of (number_in 0 15 word) c e in of_channel n.0 c (number_low 0 15 n.0 word n.1).0 n.2
+    let n = and_then_some keyboard_of (number_in 0 15 word) c e in of_channel n.0 c (number_low 0 15 n.0 word n.1).0 n.2
 
--- what is told is as the word says it
-told_ranged : {X : Type 0} (read : Text → Option X) (P : X → Type 0) → ((word : Text) (x : X) → read word ≡ Some x → P x) → (said : Option Text) → IfTold (told read said) P
-told_ranged {X} read P ranged None = tt
-told_ranged {X} read P ranged (Some word) = go (read word) refl
+-- what is told is in range, if anything is told
+record IsRanged (told : Option Options) : Type 0 where
+  pub has : (o : Options) → told ≡ Some o → AreInRange o
+
+-- what the words of an option say, and then the others
+then_in : {X : Type 0} (read : Text → Option X) (P : X → Type 0) → ((word : Text) (x : X) → read word ≡ Some x → P x) → (said : Option Text)
+    (next : Option X → Option Options) → ((x : Option X) → IfGiven x P → IsRanged (next x)) → IsRanged (told read said >>= next)
+then_in {X} read P ranged None next each = each None tt
+then_in {X} read P ranged (Some word) next each = go (read word) refl
   where
-    go : (o : Option X) → read word ≡ o → IfTold (option_map (λ (x : X). Some x) o) P
-    go None e = tt
-    go (Some x) e = ranged word x e
+    go : (o : Option X) → read word ≡ o → IsRanged (option_map (λ (x : X). Some x) o >>= next)
+    go None e = record { has = λ o none. absurd (cc) }
+    go (Some x) e = each (Some x) (ranged word x e)
 
-told_in_range : (rows : List Row) → AreToldInRange (told_by rows)
-told_in_range rows = record {
-  hands = told_ranged keyboard_in IsKeyboard keyboard_ranged (first_of (codes "hands") rows);
-  strum = told_ranged (number_in 1 100) IsReach reach_ranged (first_of (codes "strum") rows);
-  meter = told_ranged (fraction_in 1) IsFraction (fraction_ranged 1) (first_of (codes "meter") rows);
-  tempo = told_ranged (number_in 1 1000) IsPace pace_ranged (first_of (codes "tempo") rows);
-  upbeat = told_ranged (fraction_in 0) IsFraction (fraction_ranged 0) (first_of (codes "upbeat") rows);
-  key = told_ranged key_in IsKey key_ranged (first_of (codes "key") rows);
-}
+abbrev IsFrom : ℕ → ℕ → ℕ → Type 0
+IsFrom least most n = (n ≤ most) × (least ≤ n)
 
--- the options, as the words of the first of them are known
-abbrev from_all : Told → Option ℕ → Option ℕ → Option ℕ → Option Fraction → Option ℕ → Option Fraction → Option ℤ → Options
-from_all t split hands strum meter tempo upbeat key = record {
-  no_drums = t.no_drums;
-  split = split;
-  hands = hands;
-  strum = strum;
-  meter = meter;
-  tempo = tempo;
-  upbeat = upbeat;
-  key = key;
-}
+number_then : (least most : ℕ) (said : Option Text) (next : Option ℕ → Option Options)
+    → ((x : Option ℕ) → IfGiven x (IsFrom least most) → IsRanged (next x)) → IsRanged (told (number_in least most) said >>= next)
+number_then least most = then_in (number_in least most) (IsFrom least most) (λ word n. number_low least most n word)
 
-abbrev from_upbeat : Told → Option ℕ → Option ℕ → Option ℕ → Option Fraction → Option ℕ → Option Fraction → Option Options
-from_upbeat t split hands strum meter tempo upbeat = option_map (from_all t split hands strum meter tempo upbeat) t.key
+keyboard_then : (said : Option Text) (next : Option ℕ → Option Options)
+    → ((x : Option ℕ) → IfGiven x IsKeyboard → IsRanged (next x)) → IsRanged (told keyboard_in said >>= next)
+keyboard_then = then_in keyboard_in IsKeyboard keyboard_ranged
 
-abbrev from_tempo : Told → Option ℕ → Option ℕ → Option ℕ → Option Fraction → Option ℕ → Option Options
-from_tempo t split hands strum meter tempo = option_and_then (from_upbeat t split hands strum meter tempo) t.upbeat
+fraction_then : (least : ℕ) (said : Option Text) (next : Option Fraction → Option Options)
+    → ((x : Option Fraction) → IfGiven x IsFraction → IsRanged (next x)) → IsRanged (told (fraction_in least) said >>= next)
+fraction_then least = then_in (fraction_in least) IsFraction (fraction_ranged least)
 
-abbrev from_meter : Told → Option ℕ → Option ℕ → Option ℕ → Option Fraction → Option Options
-from_meter t split hands strum meter = option_and_then (from_tempo t split hands strum meter) t.tempo
+key_then : (said : Option Text) (next : Option ℤ → Option Options)
+    → ((x : Option ℤ) → IfGiven x IsKey → IsRanged (next x)) → IsRanged (told key_in said >>= next)
+key_then = then_in key_in IsKey key_ranged
 
-abbrev from_strum : Told → Option ℕ → Option ℕ → Option ℕ → Option Options
-from_strum t split hands strum = option_and_then (from_meter t split hands strum) t.meter
+-- and at last all of it
+at_last : (o : Options) → AreInRange o → IsRanged (Some o)
+at_last o range = record { has = λ p same. let is : o ≡ p = cc in subst AreInRange is range }
 
-abbrev from_hands : Told → Option ℕ → Option ℕ → Option Options
-from_hands t split hands = option_and_then (from_strum t split hands) t.strum
+pace_from : (x : Option ℕ) → IfGiven x (IsFrom 1 1000) → IfGiven x IsPace
+pace_from None is = tt
+pace_from (Some n) is = record { some = is.1; few = is.0 }
 
-abbrev from_split : Told → Option ℕ → Option Options
-from_split t split = option_and_then (from_hands t split) t.hands
+reach_from : (x : Option ℕ) → IfGiven x (IsFrom 1 100) → IfGiven x IsReach
+reach_from None is = tt
+reach_from (Some n) is = record { some = is.1; few = is.0 }
 
--- all of it is in range, where each option says something
-all_ranged : (t : Told) (o : Options) → AreToldInRange t → all_told t ≡ Some o → AreInRange o
-all_ranged t o range e =
-    let split = then_some (from_split t) t.split o e in
-    let hands = then_some (from_hands t split.0) t.hands o split.2 in
-    let strum = then_some (from_strum t split.0 hands.0) t.strum o hands.2 in
-    let meter = then_some (from_meter t split.0 hands.0 strum.0) t.meter o strum.2 in
-    let tempo = then_some (from_tempo t split.0 hands.0 strum.0 meter.0) t.tempo o meter.2 in
-    let upbeat = then_some (from_upbeat t split.0 hands.0 strum.0 meter.0 tempo.0) t.upbeat o tempo.2 in
-    let key = map_some (from_all t split.0 hands.0 strum.0 meter.0 tempo.0 upbeat.0) t.key o upbeat.2 in
-    subst AreInRange key.2 (record {
-      hands = subst (λ x. IfTold x IsKeyboard) hands.1 range.hands;
-      strum = subst (λ x. IfTold x IsReach) strum.1 range.strum;
-      meter = subst (λ x. IfTold x IsFraction) meter.1 range.meter;
-      tempo = subst (λ x. IfTold x IsPace) tempo.1 range.tempo;
-      upbeat = subst (λ x. IfTold x IsFraction) upbeat.1 range.upbeat;
-      key = subst (λ x. IfTold x IsKey) key.1 range.key;
-    })
+told_ranged : (said : Text → Option Text) → IsRanged (options_of said)
+told_ranged said = search (number_then, keyboard_then, fraction_then, key_then, at_last, pace_from, reach_from) depth 20 fits 4000
 
-pub options_ranged : (rows : List Row) (o : Options) → options_of rows ≡ Some o → AreInRange o
-options_ranged rows o e = all_ranged (told_by rows) o (told_in_range rows) e
-
-abbrev line_by : List Row → ℕ → Options → CommandLine
-line_by rows n o = record { workers = n; options = o; script = script_in rows; words = words_given rows }
-
-abbrev line_with : List Row → ℕ → Option CommandLine
-line_with rows n = option_map (line_by rows n) (options_of rows)
+options_ranged : (said : Text → Option Text) (o : Options) → options_of said ≡ Some o → AreInRange o
+options_ranged said = (told_ranged said).has
 
 line_ranged : (rows : List Row) (line : CommandLine) → line_said rows ≡ Some line → AreInRange line.options
 line_ranged rows line e =
-    let workers = then_some (line_with rows) (workers_of (first_of (codes "workers") rows)) line e in
-    let options = map_some (line_by rows workers.0) (options_of rows) line workers.2 in
-    subst (λ (l : CommandLine). AreInRange l.options) options.2 (options_ranged rows options.0 options.1)
+    let workers = then_some (workers_of (word_in rows (codes "workers"))) (λ (n : ℕ). options_of (word_in rows) >>= line_by rows n) line e in
+    let told = then_some (options_of (word_in rows)) (line_by rows workers.0) line workers.2 in
+    let is : line_with rows workers.0 told.0 ≡ line = cc in
+    subst (λ (l : CommandLine). AreInRange l.options) is (options_ranged (word_in rows) told.0 told.1)
+  where
+    line_with : List Row → ℕ → Options → CommandLine
+    line_with rows n told = record { workers = n; options = told; script = listed (word_in rows (codes "script")); words = words_given rows }
+
+    line_by : List Row → ℕ → Options → Option CommandLine
+    line_by rows n told = Some (line_with rows n told)
+
+pub words_ranged : (words : List Text) (line : CommandLine) → command_line_of words ≡ Some line → AreInRange line.options
+words_ranged words line e = let rows = and_then_some line_said (line_matches words) line e in line_ranged rows.0 line rows.2
 
 pub ranged : OptionsAreInRange
 ranged words said e = go (asks is_help words) (asks is_version words) e
@@ -178,5 +158,4 @@ ranged words said e = go (asks is_help words) (asks is_version words) e
     go true version e = no_line Help e tt
     go false true e = no_line Version e tt
     go false false e =
-        let line = map_some Command (command_line_of words) said e in
-        let rows = then_some line_said (line_matches words) line.0 line.1 in subst HasOptions line.2 (line_ranged rows.0 line.0 rows.2)
+        let line = map_some Command (command_line_of words) said e in subst HasOptions line.2 (words_ranged words line.0 line.1)

@@ -1,5 +1,5 @@
 -- What a command line is read by.
-use Rattle.std.proofs.Common.{◌≡◌, ◌≢◌, ◌∙◌, ℕ, ◌<◌, ◌≤◌, ◌+◌, ◌^◌, Bool, true, false, true≢false, get_or, Some, None, Result, Ok, List, [], ◌∷◌, ◌++◌, length, map, take, arith, refl, sym, ap, Option, inl, inr, codes, Bor}
+use Rattle.std.proofs.Common.{◌≡◌, ◌≢◌, ◌∙◌, ℕ, ◌<◌, ◌≤◌, ◌+◌, ◌^◌, true, false, get_or, Some, None, Result, Ok, List, [], ◌∷◌, ◌++◌, length, map, take, arith, refl, sym, ap, inl, inr, Bor}
 use Rattle.std.specs.Prelude.{slice_get}
 use Rattle.std.specs.Result.{result_ok}
 use Rattle.std.specs.Char.{is_ascii_digit}

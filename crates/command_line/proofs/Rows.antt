@@ -1,6 +1,6 @@
 -- What `clap`'s rows say of the option and of the words, after one more use of either.
-use Rattle.std.proofs.Common.{◌≡◌, ◌∙◌, ℕ, Bool, ◌&&◌, ◌||◌, true, false, refl, ap, List, [], ◌∷◌, ◌++◌, Option, Some, None, codes}
-use Rattle.std.specs.Prelude.{find, if◌then◌else◌, unwrap_or}
+use Rattle.std.proofs.Common.{◌≡◌, ℕ, Bool, ◌||◌, true, false, refl, ap, List, [], ◌∷◌, ◌++◌, Some, None, codes}
+use Rattle.std.specs.Prelude.{find, unwrap_or}
 use Rattle.std.specs.List.{list_all}
 use Rattle.std.proofs.lemmas.Bool.{and_parts}
 use Rattle.std.specs.Cmp.Derive.{both_true}
@@ -150,21 +150,3 @@ pub at_row-missing : (id : Text) (change : Row → List Row) (missing rows : Lis
 at_row-missing id change missing [] none = refl
 at_row-missing id change missing (r ∷ rows) none =
     let h = or_false (bytes_eq r.id id) (has_row id rows) none in rw h.0 (ap (λ (rs : List Row). r ∷ rs) (at_row-missing id change missing rows h.1))
-
--- and another row is found as before
-pub find-more : (p : Row → Bool) (rows : List Row) (d : Row) → p d ≡ false → find p (rows ++ d ∷ []) ≡ find p rows
-find-more p [] d miss = rw miss refl
-find-more p (r ∷ rows) d miss = go (p r) (find-more p rows d miss)
-  where
-    go : (b : Bool) → find p (rows ++ d ∷ []) ≡ find p rows → (if b then Some r else find p (rows ++ d ∷ [])) ≡ (if b then Some r else find p rows)
-    go true e = refl
-    go false e = e
-
-pub find-last : (p : Row → Bool) (rows : List Row) (d : Row) → find p rows ≡ None → p d ≡ true → find p (rows ++ d ∷ []) ≡ Some d
-find-last p [] d none here = rw here refl
-find-last p (r ∷ rows) d none here = go (p r) none (λ e. find-last p rows d e here)
-  where
-    go : (b : Bool) → (if b then Some r else find p rows) ≡ None → (find p rows ≡ None → find p (rows ++ d ∷ []) ≡ Some d)
-        → (if b then Some r else find p (rows ++ d ∷ [])) ≡ Some d
-    go true e later = absurd (cc)
-    go false e later = later e

@@ -1,5 +1,5 @@
 -- `clap` takes words exactly where it finds no fault in them.
-use Rattle.std.proofs.Common.{◌≡◌, ◌∙◌, ℕ, ◌==◌, zero, suc, Bool, ◌||◌, ◌&&◌, true, false, true≢false, not, refl, sym, subst, ap, ap₂, arith, List, [], ◌∷◌, length, drop, Option, Some, None, codes}
+use Rattle.std.proofs.Common.{◌≡◌, ◌∙◌, ℕ, ◌==◌, zero, suc, Bool, ◌||◌, ◌&&◌, true, false, true≢false, not, refl, sym, subst, ap, ap₂, arith, List, [], ◌∷◌, ◌++◌, length, map, drop, Option, Some, None}
 use Rattle.std.specs.Prelude.{◌↔◌, find, is_some, encode_utf8, if◌then◌else◌, nat_le, slice_get}
 use Rattle.std.specs.Str.{bytes_eq, chars}
 use Rattle.std.specs.Option.{option_map_or}
@@ -7,10 +7,11 @@ use Rattle.std.proofs.lemmas.Bool.Decides.{nat_tests}
 use Rattle.clap.specs.Kinds.{Kinds, or_else}
 use Rattle.clap.specs.Lexer.{long_of, short_of}
 use Rattle.clap.specs.Walk.{Held, Row, Rule, Step, Waiting, Walk, arg_by_id, arg_by_long, has_long, has_row, idle, is_empty, is_pending, next, option, positional, settled, nothing_held, subcommand, takes_values, trailing, value, walk, walk_from, walked, with_default, word_met}
-use Rattle.clap.specs.Simple.{filled, with_index}
+use Rattle.clap.specs.Simple.{filled, filled_from, index_after, with_index}
 use Rattle.clap.specs.Faults.{bundle_fault, bundle_step_fault, default_fault, defaults_fault, flags_fault, flag_word_fault, given_default_fault, long_fault, option_fault, other_fault, react_fault, fault_of, settle_fault, step_fault, turn_fault, use_fault, walk_fault, word_fault}
 use Rattle.clap.specs.Takes.{bundle_passes, bundle_step_passes, flags_pass, flag_word_passes, long_passes, option_passes, other_passes, react_passes, takes, settle_passes, step_passes, turn_passes, use_passes, walk_passes, word_passes}
-use Rattle.command_line.specs.FlatCommand.{flag_rule, line_app, value_rule, words_rule}
+use Rattle.command_line.specs.FlatCommand.{flag_rule, line_app, option_rule, rule_by, value_rule, words_rule}
+use Rattle.command_line.specs.OptionTable.{OptionRow, options}
 use Rattle.clap.specs.declared.error.kind.ErrorKind.TheVariants.{TooManyValues}
 use Rattle.command_line.proofs.Rows.{Text}
 use Rattle.command_line.proofs.Walks.{built_shape}
@@ -100,9 +101,23 @@ found_has P p (r ∷ rules) a each e = go (p r) e (λ later. found_has P p rules
     go true e later = let same : r ≡ a = cc in subst P same each.0
     go false e later = later e
 
+-- no option of the table is a positional
+no_place : (word : Option Text) (name : Text) → index_after 1 (rule_by word name) ≡ 1
+no_place None name = refl
+no_place (Some word) name = refl
+
+-- what holds of each option and of the positional holds of each rule, whatever options there are
+of_rules : (P : Rule → Type 0) → ((word : Option Text) (name : Text) → P (with_index 1 (filled (rule_by word name)))) → P (with_index 1 (filled words_rule))
+    → (rows : List OptionRow) → OfEach P (filled_from 1 (map option_rule rows ++ words_rule ∷ []))
+of_rules P each last [] = (last, tt)
+of_rules P each last (row ∷ rows) = (each row.word row.name, rw (no_place row.word row.name) (of_rules P each last rows))
+
+option_use : (word : Option Text) (name : Text) → UseAgrees (with_index 1 (filled (rule_by word name)))
+option_use None name = flag_use name
+option_use (Some word) name = value_use name
+
 all_agree : OfEach UseAgrees built_shape.rules
-all_agree =
-    (value_use (codes "workers"), (flag_use (codes "no-drums"), (value_use (codes "split"), (value_use (codes "hands"), (value_use (codes "strum"), (value_use (codes "meter"), (value_use (codes "tempo"), (value_use (codes "upbeat"), (value_use (codes "key"), (value_use (codes "script"), (word_use, tt)))))))))))
+all_agree = of_rules UseAgrees option_use word_use options
 
 -- what is pending, with any rows
 settle : (h : Held) → is_passed (settle_fault built_shape.rules false h) ≡ settle_passes built_shape.rules false h
@@ -220,8 +235,12 @@ walks w (word ∷ words) = both_agree (turn_fault built_shape [] w word) (walk_f
 abbrev IsDefaultTaken : Rule → Type 0
 IsDefaultTaken a = given_default_fault a a.defaults ≡ []
 
+option_default : (word : Option Text) (name : Text) → IsDefaultTaken (with_index 1 (filled (rule_by word name)))
+option_default None name = refl
+option_default (Some word) name = refl
+
 all_taken : OfEach IsDefaultTaken built_shape.rules
-all_taken = (refl, (refl, (refl, (refl, (refl, (refl, (refl, (refl, (refl, (refl, (refl, tt)))))))))))
+all_taken = of_rules IsDefaultTaken option_default refl options
 
 default_taken : (rows : List Row) (a : Rule) → IsDefaultTaken a → default_fault rows a ≡ []
 default_taken rows a taken = go (has_row a.id rows || is_empty a.defaults)

@@ -1,11 +1,10 @@
 -- What the words of a command line say.
 use Rattle.std.specs.Prelude.{⊤, ℕ, ◌≤◌, if◌then◌else◌, List, [], ◌∷◌, codes, Option, Some, None, option_and_then, option_map, unwrap_or}
-use Rattle.clap.specs.Words.{Row, all_of, first_of, matches_of, takes}
+use Rattle.clap.specs.Words.{Row, all_of, matches_of, takes}
 use Rattle.performance_prepare.specs.Ranges.{AreInRange}
-use Rattle.performance_prepare.specs.declared.options.Options.{Options}
 use Rattle.command_line.specs.FlatCommand.{line_app}
 use Rattle.command_line.specs.Numbers.{workers_of}
-use Rattle.command_line.specs.Preparing.{options_of}
+use Rattle.command_line.specs.Preparing.{◌>>=◌, options_of, word_in}
 use Rattle.command_line.specs.Requests.{asks, is_help, is_version}
 use Rattle.command_line.specs.declared.invocation.CommandLine.{CommandLine}
 use Rattle.command_line.specs.declared.invocation.Invocation.{Invocation}
@@ -24,16 +23,13 @@ abbrev pub listed : Option (List ℕ) → List (List ℕ)
 listed None = []
 listed (Some word) = word ∷ []
 
--- the name of the script file, where one is given
-abbrev pub script_in : List Row → List (List ℕ)
-script_in rows = listed (first_of (codes "script") rows)
-
 -- the number of workers, what is told of a take, the name of the script file, and the words of the command: none where a word of an option is out of
 -- range
 abbrev pub line_said : List Row → Option CommandLine
-line_said rows =
-    option_and_then (λ (n : ℕ). option_map (λ (o : Options). record { workers = n; options = o; script = script_in rows; words = words_given rows }) (options_of rows))
-    (workers_of (first_of (codes "workers") rows))
+line_said rows = do
+  workers ← workers_of (word_in rows (codes "workers"))
+  told ← options_of (word_in rows)
+  Some (record { workers = workers; options = told; script = listed (word_in rows (codes "script")); words = words_given rows })
 
 -- the same of words, none where `clap` refuses them
 abbrev pub command_line_of : List (List ℕ) → Option CommandLine

@@ -1,7 +1,8 @@
 -- The one flat command, as `clap` sees it.
-use Rattle.std.specs.Prelude.{ℕ, List, [], ◌∷◌, codes, Some, true}
-use Rattle.clap.specs.Words.{App, Rule, new_app, new_rule, with_rule}
+use Rattle.std.specs.Prelude.{ℕ, List, [], ◌∷◌, ◌++◌, codes, map, Option, Some, None, true}
+use Rattle.clap.specs.Words.{App, Rule, new_app, new_rule}
 use Rattle.clap.specs.declared.builder.action.ArgAction.TheVariants.{Set, SetTrue, Append}
+use Rattle.command_line.specs.OptionTable.{OptionRow, options}
 
 -- an option that takes one word, and stands at most once
 abbrev pub value_rule : List ℕ → Rule
@@ -15,27 +16,23 @@ flag_rule name = record (new_rule name) { long = Some name; action = Some SetTru
 abbrev pub words_rule : Rule
 words_rule = record (new_rule (codes "words")) { action = Some Append }
 
-abbrev pub with_rules : App → List Rule → App
-with_rules app [] = app
-with_rules app (rule ∷ rules) = with_rules (with_rule app rule) rules
+abbrev pub rule_by : Option (List ℕ) → List ℕ → Rule
+rule_by (Some word) name = value_rule name
+rule_by None name = flag_rule name
+
+-- an option of the table
+abbrev pub option_rule : OptionRow → Rule
+option_rule row = rule_by row.word row.name
 
 -- the options and the positional
 abbrev pub line_rules : List Rule
-line_rules =
-    value_rule (codes "workers")
-    ∷ flag_rule (codes "no-drums")
-    ∷ value_rule (codes "split")
-    ∷ value_rule (codes "hands")
-    ∷ value_rule (codes "strum")
-    ∷ value_rule (codes "meter")
-    ∷ value_rule (codes "tempo")
-    ∷ value_rule (codes "upbeat")
-    ∷ value_rule (codes "key")
-    ∷ value_rule (codes "script")
-    ∷ words_rule
-    ∷ []
+line_rules = map option_rule options ++ words_rule ∷ []
 
--- the command: these, and no other option, not even one for help. The name of the program is not among the words
+-- the command of these: no other option, not even one for help. The name of the program is not among the words
+abbrev pub app_of_rules : List Rule → App
+app_of_rules rules =
+    let plain : App = new_app (codes "rhythm") in
+    record plain { top = record plain.top { no_binary_name = true; disable_help_flag = true; rules = rules } }
+
 abbrev pub line_app : App
-line_app =
-    let plain : App = new_app (codes "rhythm") in with_rules (record plain { top = record plain.top { no_binary_name = true; disable_help_flag = true } }) line_rules
+line_app = app_of_rules line_rules

@@ -1,3 +1,4 @@
+pub mod OptionTable
 pub mod FlatCommand
 pub mod Numbers
 pub mod Preparing

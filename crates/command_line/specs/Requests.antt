@@ -1,18 +1,16 @@
 -- Words that ask for help or for the version.
-use Rattle.std.specs.Prelude.{ℕ, ◌==◌, ◌&&◌, ◌||◌, Bool, false, not, List, [], ◌∷◌, codes}
+use Rattle.std.specs.Prelude.{ℕ, ◌==◌, ◌&&◌, ◌||◌, Bool, false, not, List, [], ◌∷◌, ◌++◌, codes, is_some}
 use Rattle.std.specs.List.{before_first, list_all, list_any}
 use Rattle.std.specs.Str.{bytes_eq}
+use Rattle.command_line.specs.OptionTable.{OptionRow, options}
+
+-- the word is the option, its name after two hyphens, and this takes the next word
+abbrev pub is_taking : List ℕ → OptionRow → Bool
+is_taking word row = is_some row.word && bytes_eq word (codes "--" ++ row.name)
 
 -- the word is an option that takes the next word
 abbrev pub takes_next : List ℕ → Bool
-takes_next word =
-    bytes_eq word (codes "--workers")
-    || (bytes_eq word (codes "--split")
-    || (bytes_eq word (codes "--hands")
-    || (bytes_eq word (codes "--strum")
-    || (bytes_eq word (codes "--meter")
-    || (bytes_eq word (codes "--tempo")
-    || (bytes_eq word (codes "--upbeat") || (bytes_eq word (codes "--key") || bytes_eq word (codes "--script"))))))))
+takes_next word = list_any (is_taking word) options
 
 -- the word is `--`, after which no word is an option
 abbrev pub is_dashes : List ℕ → Bool

@@ -1,6 +1,7 @@
 -- Texts for the program's user.
 use Rattle.std.specs.Prelude.{ℕ, ◌==◌, Bool, List, [], ◌∷◌, ◌++◌, codes, length, nat_le}
 use Rattle.std.specs.List.{list_all, slice_split}
+use Rattle.command_line.specs.OptionTable.{recording_lines}
 
 -- no line of the text is longer than 80 bytes
 abbrev pub has_narrow_lines : List ℕ → Bool
@@ -11,9 +12,9 @@ abbrev pub text_of_lines : List (List ℕ) → List ℕ
 text_of_lines [] = []
 text_of_lines (line ∷ lines) = line ++ 10 ∷ text_of_lines lines
 
--- how the program is called: the commands with what each reads and writes, the options, and the statuses
-abbrev pub help_lines : List (List ℕ)
-help_lines =
+-- how the program is called: the commands with what each reads and writes, and the options
+abbrev pub calling_lines : List (List ℕ)
+calling_lines =
     codes "Usage: rhythm [OPTION...] COMMAND ARGUMENT..."
     ∷ []
     ∷ codes "Turns a performance, a Standard MIDI File, into notation in Humdrum **kern, by"
@@ -65,19 +66,12 @@ help_lines =
     ∷ codes "  -V, --version   Writes the version."
     ∷ []
     ∷ codes "Of what was recorded, for the commands on MIDI and GRAMMAR, and for notes:"
-    ∷ codes "  --no-drums      Channel 9, the drums, is left out."
-    ∷ codes "  --split KEY     The notes below KEY, 1 to 127, are the other hand: 60 is"
-    ∷ codes "                  middle C."
-    ∷ codes "  --hands CHANNEL Two hands that played in CHANNEL, 0 to 15 but 9, are parted."
-    ∷ codes "  --strum MS      Notes at most MS milliseconds, 1 to 100, one after the other,"
-    ∷ codes "                  that sound on, are one chord."
-    ∷ codes "  --meter N/D     It is in N/D: N is 1 to 64, D is 1, 2, 4, 8, 16, 32 or 64."
-    ∷ codes "  --tempo Q       It was played at Q quarters a minute, 1 to 1000."
-    ∷ codes "  --upbeat N/D    The first note is N/D of a whole note before a barline."
-    ∷ codes "  --key SF        It has SF sharps, 0 to 7; flats are told as in --key=-3."
-    ∷ codes "  --script FILE   The edits of an edit script are made first; not for notes."
     ∷ []
-    ∷ codes "Status:"
+
+-- the statuses
+abbrev pub status_lines : List (List ℕ)
+status_lines =
+    codes "Status:"
     ∷ codes "  0   done"
     ∷ codes "  1   the words are no command"
     ∷ codes "  2   a file is refused"
@@ -88,6 +82,9 @@ help_lines =
     ∷ codes "  7   not enough memory"
     ∷ codes "  9   there is no such barline to be fitted, or no tick for it"
     ∷ []
+
+abbrev pub help_lines : List (List ℕ)
+help_lines = calling_lines ++ (recording_lines ++ ([] ∷ status_lines))
 
 unfoldable pub help_text : List ℕ
 help_text = text_of_lines help_lines

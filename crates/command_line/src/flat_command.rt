@@ -1,10 +1,12 @@
 ghost use Rattle.clap.specs.Words.{FailsBy, HasMatchesOf, app_of, fault_of, found_of, kind_of, rows_of, rule_of, with_rule};
 ghost use Rattle.command_line.specs.CommandLines.{line_matches};
-ghost use Rattle.command_line.specs.FlatCommand.{flag_rule, line_app, value_rule, words_rule};
+ghost use Rattle.command_line.specs.FlatCommand.{app_of_rules, flag_rule, line_app, option_rule, value_rule, words_rule};
+ghost use Rattle.command_line.specs.OptionTable.{shown_row};
 ghost use Rattle.command_line.specs.declared.invocation.WordsFault.TheVariants.{Refused};
-ghost use Rattle.std.specs.Prelude.{◌≡◌, ◌≢◌, IfErr, IfOk, None, Some, false, map};
+ghost use Rattle.std.specs.Prelude.{◌≡◌, ◌≢◌, [], IfErr, IfOk, None, Some, false, map};
 
 use crate::invocation::WordsFault;
+use crate::option_table::{OptionRow, options};
 use clap::error::ErrorKind;
 use clap::{Arg, ArgAction, ArgMatches, Command, Error};
 use std::alloc::{AllocError, Global};
@@ -25,12 +27,32 @@ fn flag<'a>(alloc: Global, name: &'a str) -> Arg<'a>
     Arg::new(alloc, name).long(name).action(ArgAction::SetTrue)
 }
 
+/// An option of the table.
+fn option_arg<'a>(alloc: Global, row: &OptionRow) -> Arg<'a>
+    ensures rule { rule_of result ≡ option_rule (shown_row row.now) }
+    ensures local { result.global ≡ false }
+{
+    match row.word {
+        Some(_wanted) => value_option(alloc, row.name),
+        None => flag(alloc, row.name),
+    }
+}
+
 /// The positional, which takes all other words.
 fn positional<'a>(alloc: Global) -> Arg<'a>
     ensures rule { rule_of result ≡ words_rule }
     ensures local { result.global ≡ false }
 {
     Arg::new(alloc, "words").action(ArgAction::Append)
+}
+
+/// The command without options and positional.
+fn plain_command<'a>(alloc: Global) -> Command<'a>
+    ensures { app_of result ≡ app_of_rules [] }
+{
+    Command::new(alloc, "rhythm")
+        .no_binary_name(true)
+        .disable_help_flag(true)
 }
 
 /// The command with one more option or positional.
@@ -45,19 +67,10 @@ fn with_arg<'a>(command: Command<'a>, arg: Arg<'a>) -> Result<Command<'a>, Alloc
 fn line_command<'a>(alloc: Global) -> Result<Command<'a>, AllocError>
     ensures { IfOk result (λ c. app_of c ≡ line_app) }
 {
-    let plain = Command::new(alloc, "rhythm")
-        .no_binary_name(true)
-        .disable_help_flag(true);
-    let command = with_arg(plain, value_option(alloc, "workers"))?;
-    let command = with_arg(command, flag(alloc, "no-drums"))?;
-    let command = with_arg(command, value_option(alloc, "split"))?;
-    let command = with_arg(command, value_option(alloc, "hands"))?;
-    let command = with_arg(command, value_option(alloc, "strum"))?;
-    let command = with_arg(command, value_option(alloc, "meter"))?;
-    let command = with_arg(command, value_option(alloc, "tempo"))?;
-    let command = with_arg(command, value_option(alloc, "upbeat"))?;
-    let command = with_arg(command, value_option(alloc, "key"))?;
-    let command = with_arg(command, value_option(alloc, "script"))?;
+    let mut command = plain_command(alloc);
+    for row in options() {
+        command = with_arg(command, option_arg(alloc, row))?;
+    }
     with_arg(command, positional(alloc))
 }
 

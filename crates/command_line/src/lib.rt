@@ -7,6 +7,7 @@ mod flat_command;
 mod invocation;
 mod laws;
 mod number;
+mod option_table;
 mod preparing;
 mod read;
 mod requests;

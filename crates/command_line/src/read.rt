@@ -1,13 +1,11 @@
 ghost use Rattle.clap.specs.Words.{found_of, rows_of};
 ghost use Rattle.command_line.specs.CommandLines.{HasOptions, HasWorkers, command_line_of, invocation_of, line_said, listed, words_given};
 ghost use Rattle.command_line.specs.declared.invocation.WordsFault.TheVariants.{Refused};
-ghost use Rattle.performance_prepare.specs.Ranges.{AreInRange};
-ghost use Rattle.std.specs.Prelude.{◌≡◌, ◌≤◌, IfErr, IfOk, None, Some, map, option_map};
+ghost use Rattle.std.specs.Prelude.{◌≡◌, ◌≤◌, IfErr, IfOk, None, Some, is_none, is_some, map, option_map};
 
 use crate::flat_command::{refusal_of, taken_matches};
 use crate::invocation::{CommandLine, Invocation, WordsFault};
-use crate::number::workers_in;
-use crate::preparing::{options_in, range_refusal, word_of};
+use crate::preparing::{numbers_in, range_refusal, word_of};
 use crate::requests::asks_by;
 use clap::ArgMatches;
 use rhythm_base::Words;
@@ -63,24 +61,16 @@ fn line_in(alloc: Global, matches: &ArgMatches<'_>) -> Result<CommandLine, Words
     ensures ok { IfOk result (λ line. line_said (rows_of (found_of matches.now)) ≡ Some line) }
     ensures refused { IfErr result (λ fault. fault ≡ Refused → line_said (rows_of (found_of matches.now)) ≡ None) }
     ensures workers { IfOk result (λ line. (1 ≤ line.workers) × (line.workers ≤ 16)) }
-    ensures options { IfOk result (λ line. AreInRange line.options) }
 {
-    let Some(workers) = workers_in(word_of(matches, "workers")) else {
-        return Err(WordsFault::Refused);
-    };
-    match options_in(matches) {
-        None => Err(WordsFault::Refused),
-        Some(options) => {
-            let script = listed(alloc, word_of(matches, "script"))?;
-            let words = given_words(alloc, matches)?;
-            Ok(CommandLine {
-                workers,
-                options,
-                script,
-                words,
-            })
-        }
-    }
+    let (workers, options) = numbers_in(matches)?;
+    let script = listed(alloc, word_of(matches, "script"))?;
+    let words = given_words(alloc, matches)?;
+    Ok(CommandLine {
+        workers,
+        options,
+        script,
+        words,
+    })
 }
 
 /// The command line that the words are.
@@ -88,7 +78,6 @@ fn command_line(alloc: Global, list: &[&str]) -> Result<CommandLine, WordsFault>
     ensures ok { IfOk result (λ line. command_line_of (map (λ s. s.now) list.now) ≡ Some line) }
     ensures refused { IfErr result (λ fault. fault ≡ Refused → command_line_of (map (λ s. s.now) list.now) ≡ None) }
     ensures workers { IfOk result (λ line. (1 ≤ line.workers) × (line.workers ≤ 16)) }
-    ensures options { IfOk result (λ line. AreInRange line.options) }
 {
     let matches = match taken_matches(alloc, list) {
         Ok(matches) => matches,
@@ -118,19 +107,28 @@ pub fn read_words(alloc: Global, words: &Words) -> Result<Invocation, WordsFault
     Ok(Invocation::Command(line))
 }
 
+/// What is wrong with a list of words that is refused, in one line.
+fn refusal(alloc: Global, list: &[&str]) -> Result<String, AllocError> {
+    if let Some(said) = refusal_of(alloc, list)? {
+        return Ok(said);
+    }
+    match taken_matches(alloc, list) {
+        Ok(matches) => range_refusal(alloc, &matches),
+        Err(_fault) => Err(AllocError),
+    }
+}
+
 /// What is wrong with words that are refused, in one line: in the words of `clap` where it refuses them, and else which option is out
 /// of range. Nothing of words that are not refused.
-pub fn words_refusal(alloc: Global, words: &Words) -> Result<Option<String>, AllocError> {
-    let list = texts_of(alloc, words)?;
-    if let Some(said) = refusal_of(alloc, list.as_slice())? {
-        return Ok(Some(said));
-    }
+pub fn words_refusal(alloc: Global, words: &Words) -> Result<Option<String>, AllocError>
+    ensures { IfOk result (λ said. is_some said ≡ is_none (invocation_of words.now)) }
+{
     match read_words(alloc, words) {
-        Err(WordsFault::Refused) => match taken_matches(alloc, list.as_slice()) {
-            Ok(matches) => Ok(Some(String::from_str(alloc, range_refusal(&matches))?)),
-            Err(_fault) => Err(AllocError),
-        },
-        Err(WordsFault::Memory) => Err(AllocError),
         Ok(_said) => Ok(None),
+        Err(WordsFault::Memory) => Err(AllocError),
+        Err(WordsFault::Refused) => {
+            let list = texts_of(alloc, words)?;
+            Ok(Some(refusal(alloc, list.as_slice())?))
+        }
     }
 }

@@ -1,6 +1,10 @@
-ghost use Rattle.command_line.specs.Requests.{asks, has_short_names, is_named, is_short_name, takes_next};
+ghost use Rattle.command_line.specs.OptionTable.{shown_row};
+ghost use Rattle.command_line.specs.Requests.{asks, has_short_names, is_named, is_short_name, is_taking, takes_next};
 ghost use Rattle.std.specs.List.{list_all, list_any};
-ghost use Rattle.std.specs.Prelude.{◌≡◌, ◌==◌, map};
+ghost use Rattle.std.specs.Prelude.{◌≡◌, ◌==◌, ◌++◌, codes, map};
+ghost use Rattle.std.specs.Str.{bytes_eq};
+
+use crate::option_table::{OptionRow, options};
 
 /// Whether each of the letters is a short name.
 fn are_short_names(letters: &[u8]) -> bool
@@ -35,19 +39,35 @@ fn is_named(word: &str, long: &str, letter: u8) -> bool
     word == long || has_short_names(word.as_bytes()) && has_byte(word.as_bytes(), letter)
 }
 
+/// Whether the word is the name after two hyphens.
+fn is_long(word: &str, name: &str) -> bool
+    ensures { result ≡ bytes_eq word.now (codes "--" ++ name.now) }
+{
+    word.strip_prefix("--") == Some(name)
+}
+
+/// Whether the word is the option, and this takes the next word.
+fn is_taking(word: &str, row: &OptionRow) -> bool
+    ensures { result ≡ is_taking word.now (shown_row row.now) }
+{
+    match row.word {
+        Some(_wanted) => is_long(word, row.name),
+        None => false,
+    }
+}
+
+/// Whether the word is one of the options, and this takes the next word.
+fn any_is_taking(word: &str, rows: &[OptionRow]) -> bool
+    ensures { result ≡ list_any (λ row. is_taking word.now (shown_row row)) rows.now }
+{
+    rows.iter().any(|row| is_taking(word, row))
+}
+
 /// Whether the word is an option that takes the next word.
 fn takes_next(word: &str) -> bool
     ensures { result ≡ takes_next word.now }
 {
-    word == "--workers"
-        || word == "--split"
-        || word == "--hands"
-        || word == "--strum"
-        || word == "--meter"
-        || word == "--tempo"
-        || word == "--upbeat"
-        || word == "--key"
-        || word == "--script"
+    any_is_taking(word, options())
 }
 
 /// Whether a word before the first `--` has the long name or the short one, other than the word of an option.

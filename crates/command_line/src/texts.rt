@@ -1,11 +1,10 @@
 ghost use Rattle.command_line.specs.Texts.{has_narrow_lines, help_text, version_text};
 ghost use Rattle.std.specs.Prelude.{IsTrue, ◌≡◌};
 
-/// How the program is called, for its user: lines of at most 80 characters.
-pub fn help_text() -> &'static str
-    ensures text { result.now ≡ help_text }
-    ensures narrow { IsTrue (has_narrow_lines result.now) }
-{
+use crate::option_table::with_recording_lines;
+
+/// How the program is called: the commands with what each reads and writes, the options, and the statuses.
+const HELP: &str = with_recording_lines!(
     "\
 Usage: rhythm [OPTION...] COMMAND ARGUMENT...
 
@@ -58,18 +57,8 @@ Options:
   -V, --version   Writes the version.
 
 Of what was recorded, for the commands on MIDI and GRAMMAR, and for notes:
-  --no-drums      Channel 9, the drums, is left out.
-  --split KEY     The notes below KEY, 1 to 127, are the other hand: 60 is
-                  middle C.
-  --hands CHANNEL Two hands that played in CHANNEL, 0 to 15 but 9, are parted.
-  --strum MS      Notes at most MS milliseconds, 1 to 100, one after the other,
-                  that sound on, are one chord.
-  --meter N/D     It is in N/D: N is 1 to 64, D is 1, 2, 4, 8, 16, 32 or 64.
-  --tempo Q       It was played at Q quarters a minute, 1 to 1000.
-  --upbeat N/D    The first note is N/D of a whole note before a barline.
-  --key SF        It has SF sharps, 0 to 7; flats are told as in --key=-3.
-  --script FILE   The edits of an edit script are made first; not for notes.
-
+",
+    "
 Status:
   0   done
   1   the words are no command
@@ -81,6 +70,14 @@ Status:
   7   not enough memory
   9   there is no such barline to be fitted, or no tick for it
 "
+);
+
+/// How the program is called, for its user: lines of at most 80 characters.
+pub fn help_text() -> &'static str
+    ensures text { result.now ≡ help_text }
+    ensures narrow { IsTrue (has_narrow_lines result.now) }
+{
+    HELP
 }
 
 /// The name of the program and its version.
