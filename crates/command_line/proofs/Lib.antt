@@ -2,6 +2,7 @@ pub mod OptionTable
 pub mod Rows
 pub mod Walks
 pub mod Taking
+pub mod Defaults
 pub mod PlainLines
 pub mod Asking
 pub mod Reading

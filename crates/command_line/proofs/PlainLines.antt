@@ -1,9 +1,8 @@
 -- What plain words say.
-use Rattle.std.proofs.Common.{◌≡◌, ◌∙◌, ◌≤◌, ◌+◌, ◌==◌, ℕ, zero, suc, take, Bool, ◌||◌, ◌&&◌, true, false, true≢false, refl, sym, ap, subst, arith, List, [], ◌∷◌, ◌++◌, Option, Some, None, codes}
+use Rattle.std.proofs.Common.{◌≡◌, ◌∙◌, ◌≤◌, ◌+◌, ◌==◌, ℕ, zero, suc, take, Bool, ◌||◌, ◌&&◌, true, false, refl, sym, ap, subst, arith, List, [], ◌∷◌, ◌++◌, Option, Some, None, codes}
 use Rattle.std.specs.List.{count_by, fold, list_all, position_or_len}
-use Rattle.std.specs.Prelude.{find, if◌then◌else◌, option_and_then, option_map, slice_get, unwrap_or}
+use Rattle.std.specs.Prelude.{if◌then◌else◌, option_and_then, option_map, slice_get, unwrap_or}
 use Rattle.std.specs.Option.{option_or}
-use Rattle.std.proofs.lemmas.List.Folds.{find-append}
 use Rattle.rhythm_base.proofs.Booleans.{or_false}
 use Rattle.performance_prepare.specs.declared.options.Options.{Options}
 use Rattle.std.specs.Str.{bytes_eq}
@@ -11,10 +10,9 @@ use Rattle.std.proofs.lemmas.Bool.{and_parts, not-true}
 use Rattle.std.specs.Cmp.Derive.{both_true}
 use Rattle.std.proofs.lemmas.List.Sums.{sum_by-cons}
 use Rattle.std.proofs.lemmas.Slice.Eq.{bytes_eq-Decides}
-use Rattle.clap.specs.Walk.{Row, Rule, default_rows, first_of, has_row, more_values, reading_by, settled_rows, with_default}
+use Rattle.clap.specs.Walk.{Row, first_of, settled_rows, with_default}
 use Rattle.clap.specs.Faults.{fault_of, settle_fault}
 use Rattle.clap.specs.Simple.{matches_of}
-use Rattle.clap.specs.declared.parser.matches.ValueSource.TheVariants.{DefaultValue}
 use Rattle.command_line.specs.CommandLines.{command_line_of, invocation_of, line_matches, line_said, words_given}
 use Rattle.command_line.specs.FlatCommand.{line_app}
 use Rattle.command_line.specs.PlainWords.{ArePlainWords, begins_with_hyphen, is_workers, other_words, word_of_workers}
@@ -24,78 +22,12 @@ use Rattle.command_line.specs.Requests.{asks, has_free, is_dashes, is_help, is_v
 use Rattle.command_line.specs.declared.invocation.Invocation.TheVariants.{Command}
 use Rattle.performance_prepare.specs.Laws.{no_options}
 use Rattle.command_line.specs.declared.invocation.CommandLine.{CommandLine}
-use Rattle.command_line.proofs.Rows.{ArePlainRows, Text, at_row-missing, none_plain, words_so_far}
+use Rattle.command_line.proofs.Defaults.{all_defaulted, default_of, or_none, row_of}
+use Rattle.command_line.proofs.Rows.{ArePlainRows, Text, none_plain, words_so_far}
 use Rattle.command_line.proofs.Taking.{faultless, no_defaults}
 use Rattle.command_line.proofs.Walks.{WalkEnds, IsFree, Pending, a_word, an_option, is_after_option, is_hyphenless, is_plain, nothing, pending_of, walk_at, rows_with, built_shape, walk_ends}
 
 -- ---- after the walk
-
--- the row of an id
-abbrev row_of : Text → List Row → Option Row
-row_of id rows = find (λ r. bytes_eq r.id id) rows
-
--- the row that a rule gives to an id that has none
-abbrev default_row : Rule → List Text → Option Row
-default_row a [] = None
-default_row a (d ∷ ds) =
-    Some (record { id = a.id; values = d ∷ ds; count = None; source = Some DefaultValue; reading = reading_by a })
-
-abbrev default_by : Text → Rule → Option Row
-default_by id a = if bytes_eq a.id id then default_row a a.defaults else None
-
-abbrev default_of : Text → List Rule → Option Row
-default_of id [] = None
-default_of id (a ∷ rules) = option_or (default_by id a) (default_of id rules)
-
-or_none : (o : Option Row) → o ≡ option_or o None
-or_none None = refl
-or_none (Some r) = refl
-
-or_assoc : (a b c : Option Row) → option_or (option_or a b) c ≡ option_or a (option_or b c)
-or_assoc None b c = refl
-or_assoc (Some r) b c = refl
-
--- a row that is there stays
-or_there : (id : Text) (rows : List Row) (o : Option Row) → has_row id rows ≡ true → row_of id rows ≡ option_or (row_of id rows) o
-or_there id [] o there = absurd (true≢false (sym there))
-or_there id (r ∷ rows) o there = go (bytes_eq r.id id) there (or_there id rows o)
-  where
-    go : (b : Bool) → (b || has_row id rows) ≡ true → (has_row id rows ≡ true → row_of id rows ≡ option_or (row_of id rows) o)
-        → (if b then Some r else row_of id rows) ≡ option_or (if b then Some r else row_of id rows) o
-    go true there later = refl
-    go false there later = later there
-
-never : (b : Bool) → ◌≡◌ {A = Option Row} None (if b then None else None)
-never true = refl
-never false = refl
-
--- a default is for an id that has no row
-defaulted : (id : Text) (rows : List Row) (a : Rule) → row_of id (with_default rows a) ≡ option_or (row_of id rows) (default_by id a)
-defaulted id rows a = go (has_row a.id rows) refl (bytes_eq a.id id) refl
-  where
-    added : (defaults : List Text) → has_row a.id rows ≡ false
-        → row_of id (default_rows a.id (reading_by a) defaults rows) ≡ option_or (row_of id rows) (if bytes_eq a.id id then default_row a defaults else None)
-    added [] none = or_none (row_of id rows) ∙ ap (option_or (row_of id rows)) (never (bytes_eq a.id id))
-    added (d ∷ ds) none =
-        ap (row_of id) (at_row-missing a.id (more_values DefaultValue (d ∷ ds)) (row ∷ []) rows none)
-        ∙ find-append (λ r. bytes_eq r.id id) rows (row ∷ [])
-      where
-        row : Row
-        row = record { id = a.id; values = d ∷ ds; count = None; source = Some DefaultValue; reading = reading_by a }
-
-    go : (there : Bool) → has_row a.id rows ≡ there → (same : Bool) → bytes_eq a.id id ≡ same
-        → row_of id (if there then rows else default_rows a.id (reading_by a) a.defaults rows) ≡ option_or (row_of id rows) (default_by id a)
-    go false none same e = added a.defaults none
-    go true there false e = rw e (or_none (row_of id rows))
-    go true there true e =
-        or_there id rows (default_by id a) (subst (λ (x : Text). has_row x rows ≡ true) ((bytes_eq-Decides a.id id).0 e) there)
-
-all_defaulted : (id : Text) (rules : List Rule) (rows : List Row) → row_of id (fold with_default rows rules) ≡ option_or (row_of id rows) (default_of id rules)
-all_defaulted id [] rows = or_none (row_of id rows)
-all_defaulted id (a ∷ rules) rows =
-    all_defaulted id rules (with_default rows a)
-    ∙ ap (λ (o : Option Row). option_or o (default_of id rules)) (defaulted id rows a)
-    ∙ or_assoc (row_of id rows) (default_by id a) (default_of id rules)
 
 -- rows with all defaults
 abbrev AreSettled : List Row → List Row → Type 0

@@ -2,7 +2,8 @@
 use Rattle.std.specs.Prelude.{ℕ, Bool, false, List, codes, Option, Some, None, option_map}
 use Rattle.std.specs.Option.{option_map_or}
 use Rattle.std.specs.Str.{bytes_eq}
-use Rattle.clap.specs.Words.{Row, first_of}
+use Rattle.clap.specs.Words.{Row, first_of, found_of, rows_of}
+use Rattle.clap.specs.declared.parser.matches.ArgMatches.{ArgMatches}
 use Rattle.performance_prepare.specs.declared.options.Options.{Options}
 use Rattle.command_line.specs.Numbers.{fraction_in, key_in, keyboard_in, number_in}
 
@@ -15,6 +16,9 @@ None >>= next = None
 -- the word of the option with this name, if it is given
 abbrev pub word_in : List Row → List ℕ → Option (List ℕ)
 word_in rows name = first_of name rows
+
+abbrev pub said_by : ArgMatches → List ℕ → Option (List ℕ)
+said_by matches = word_in (rows_of (found_of matches))
 
 -- an option without a word is given
 abbrev pub is_given : Option (List ℕ) → Bool

@@ -1,7 +1,7 @@
-ghost use Rattle.clap.specs.Words.{first_of, found_of, rows_of};
+ghost use Rattle.clap.specs.Words.{found_of, rows_of};
 ghost use Rattle.command_line.specs.CommandLines.{line_said};
 ghost use Rattle.command_line.specs.Numbers as numbers;
-ghost use Rattle.command_line.specs.Preparing.{is_given, options_of, told, word_in};
+ghost use Rattle.command_line.specs.Preparing.{is_given, options_of, said_by, told};
 ghost use Rattle.command_line.specs.declared.invocation.WordsFault.TheVariants.{Refused};
 ghost use Rattle.std.specs.Prelude.{◌≡◌, IfErr, IfOk, None, Some, codes, option_map};
 ghost use Rattle.std.specs.Result.{result_ok};
@@ -30,14 +30,14 @@ impl From<OutOfRange> for WordsFault {
 
 /// The word of an option, if it is given.
 pub(crate) fn word_of<'a>(matches: &ArgMatches<'a>, name: &str) -> Option<&'a str>
-    ensures { option_map (λ s. s.now) result ≡ first_of name.now (rows_of (found_of matches.now)) }
+    ensures { option_map (λ s. s.now) result ≡ said_by matches.now name.now }
 {
     matches.get_str(name)
 }
 
 /// Whether an option without a word is given.
 fn is_given(matches: &ArgMatches<'_>, name: &str) -> bool
-    ensures { result ≡ is_given (word_in (rows_of (found_of matches.now)) name.now) }
+    ensures { result ≡ is_given (said_by matches.now name.now) }
 {
     match word_of(matches, name) {
         None => false,
@@ -52,7 +52,7 @@ fn byte_told(
     least: u8,
     most: u8,
 ) -> Result<Option<u8>, OutOfRange>
-    ensures { result_ok result ≡ told (numbers.number_in least most) (word_in (rows_of (found_of matches.now)) name.now) }
+    ensures { result_ok result ≡ told (numbers.number_in least most) (said_by matches.now name.now) }
 {
     match word_of(matches, name) {
         None => Ok(None),
@@ -69,7 +69,7 @@ fn number_told(
     least: u16,
     most: u16,
 ) -> Result<Option<u16>, OutOfRange>
-    ensures { result_ok result ≡ told (numbers.number_in least most) (word_in (rows_of (found_of matches.now)) name.now) }
+    ensures { result_ok result ≡ told (numbers.number_in least most) (said_by matches.now name.now) }
 {
     match word_of(matches, name) {
         None => Ok(None),
@@ -81,7 +81,7 @@ fn number_told(
 
 /// A channel but that of drums.
 fn keyboard_told(matches: &ArgMatches<'_>, name: &'static str) -> Result<Option<u8>, OutOfRange>
-    ensures { result_ok result ≡ told numbers.keyboard_in (word_in (rows_of (found_of matches.now)) name.now) }
+    ensures { result_ok result ≡ told numbers.keyboard_in (said_by matches.now name.now) }
 {
     match word_of(matches, name) {
         None => Ok(None),
@@ -95,7 +95,7 @@ fn fraction_told(
     name: &'static str,
     least: u64,
 ) -> Result<Option<Fraction>, OutOfRange>
-    ensures { result_ok result ≡ told (numbers.fraction_in least) (word_in (rows_of (found_of matches.now)) name.now) }
+    ensures { result_ok result ≡ told (numbers.fraction_in least) (said_by matches.now name.now) }
 {
     match word_of(matches, name) {
         None => Ok(None),
@@ -105,7 +105,7 @@ fn fraction_told(
 
 /// A signature.
 fn key_told(matches: &ArgMatches<'_>, name: &'static str) -> Result<Option<i8>, OutOfRange>
-    ensures { result_ok result ≡ told numbers.key_in (word_in (rows_of (found_of matches.now)) name.now) }
+    ensures { result_ok result ≡ told numbers.key_in (said_by matches.now name.now) }
 {
     match word_of(matches, name) {
         None => Ok(None),
@@ -115,7 +115,7 @@ fn key_told(matches: &ArgMatches<'_>, name: &'static str) -> Result<Option<i8>, 
 
 /// What the options tell of a take, where each that is given says something, and else the first that says nothing.
 pub(crate) fn options_in(matches: &ArgMatches<'_>) -> Result<Options, OutOfRange>
-    ensures { result_ok result ≡ options_of (word_in (rows_of (found_of matches.now))) }
+    ensures { result_ok result ≡ options_of (said_by matches.now) }
 {
     Ok(Options {
         no_drums: is_given(matches, "no-drums"),
@@ -131,7 +131,8 @@ pub(crate) fn options_in(matches: &ArgMatches<'_>) -> Result<Options, OutOfRange
 
 /// The number of workers, and what the options tell of a take.
 pub(crate) fn numbers_in(matches: &ArgMatches<'_>) -> Result<(u32, Options), OutOfRange>
-    ensures ok { IfOk result (λ said. (numbers.workers_of (word_in (rows_of (found_of matches.now)) (codes "workers")) ≡ Some said.0) × (options_of (word_in (rows_of (found_of matches.now))) ≡ Some said.1)) }
+    ensures workers { IfOk result (λ said. numbers.workers_of (said_by matches.now (codes "workers")) ≡ Some said.0) }
+    ensures options { IfOk result (λ said. options_of (said_by matches.now) ≡ Some said.1) }
     ensures refused { IfErr result (λ _. line_said (rows_of (found_of matches.now)) ≡ None) }
 {
     let workers = workers_in(word_of(matches, "workers")).ok_or(OutOfRange { name: "workers" })?;
