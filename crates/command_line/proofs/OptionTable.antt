@@ -18,8 +18,9 @@ one_rule_more rows i d lt =
     ∙ map-append option_rule (map shown_row (take i rows)) (shown_row (get_or rows i d) ∷ [])
 
 -- the command with one option more
-pub one_option_more : (rows : List code.OptionRow) (i : ℕ) (d : code.OptionRow) (old new : App) (rule : Rule) → i < length rows
-    → old ≡ app_of_rules (rules_before rows i) → rule ≡ option_rule (shown_row (get_or rows i d)) → new ≡ with_rule old rule
+pub one_option_more : (rows : List code.OptionRow) (i : ℕ) (d : code.OptionRow) (old new : App) (rule : Rule)
+    → i < length rows → old ≡ app_of_rules (rules_before rows i)
+    → rule ≡ option_rule (shown_row (get_or rows i d)) → new ≡ with_rule old rule
     → new ≡ app_of_rules (rules_before rows (i + 1))
 one_option_more rows i d old new rule lt was is added =
     added ∙ ap₂ with_rule was is ∙ ap app_of_rules (sym (one_rule_more rows i d lt))

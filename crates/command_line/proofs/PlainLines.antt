@@ -53,7 +53,8 @@ rows_are words said option_word e = rw (e.walks, settled_is e.last e.found) refl
 
 are_settled : (words said : List Text) (option_word : Option Text) (e : WalkEnds nothing [] words said option_word)
     → AreSettled (rows_with e.last e.found) (matches_of line_app words)
-are_settled words said option_word e id = ap (row_of id) (rows_are words said option_word e) ∙ all_defaulted id built_shape.rules (rows_with e.last e.found)
+are_settled words said option_word e id =
+    ap (row_of id) (rows_are words said option_word e) ∙ all_defaulted id built_shape.rules (rows_with e.last e.found)
 
 -- ---- what the rows say
 
@@ -69,7 +70,8 @@ others_say : (rows settled : List Row) → ArePlainRows rows → AreSettled rows
     → word_in settled id ≡ (if is_plain_id id then word_in settled id else word_by (default_of id built_shape.rules))
 others_say rows settled plain is id = go (is_plain_id id) refl
   where
-    go : (b : Bool) → is_plain_id id ≡ b → word_in settled id ≡ (if b then word_in settled id else word_by (default_of id built_shape.rules))
+    go : (b : Bool) → is_plain_id id ≡ b
+        → word_in settled id ≡ (if b then word_in settled id else word_by (default_of id built_shape.rules))
     go true e = refl
     go false e =
         let other = or_false (bytes_eq (codes "workers") id) (bytes_eq (codes "words") id) e in
@@ -77,15 +79,19 @@ others_say rows settled plain is id = go (is_plain_id id) refl
         ap word_by (is id ∙ ap (λ (o : Option Row). option_or o (default_of id built_shape.rules)) none)
 
 -- nothing is told of a take
-nothing_told : (rows settled : List Row) → ArePlainRows rows → AreSettled rows settled → options_of (word_in settled) ≡ Some no_options
+nothing_told : (rows settled : List Row) → ArePlainRows rows → AreSettled rows settled
+    → options_of (word_in settled) ≡ Some no_options
 nothing_told rows settled plain is = ap options_of (λ i id. others_say rows settled plain is id i) ∙ refl
 
-line_is : (rows settled : List Row) (said : List Text) (option_word : Option Text) → ArePlainRows rows → AreSettled rows settled
-    → words_so_far rows ≡ said → first_of (codes "workers") rows ≡ option_word
-    → line_said settled ≡ option_map (λ (n : ℕ). record { workers = n; options = no_options; script = []; words = said }) (workers_of option_word)
+line_is : (rows settled : List Row) (said : List Text) (option_word : Option Text)
+    → ArePlainRows rows → AreSettled rows settled → words_so_far rows ≡ said → first_of (codes "workers") rows ≡ option_word
+    → line_said settled
+    ≡ option_map (λ (n : ℕ). record { workers = n; options = no_options; script = []; words = said }) (workers_of option_word)
 line_is rows settled said option_word plain is words_are option_is =
     let words : words_given settled ≡ said =
-    ap (λ (r : Option Row). unwrap_or (option_map (λ (r : Row). r.values) r) []) (is (codes "words") ∙ sym (or_none (row_of (codes "words") rows))) ∙ words_are in
+    ap (λ (r : Option Row). unwrap_or (option_map (λ (r : Row). r.values) r) [])
+    (is (codes "words") ∙ sym (or_none (row_of (codes "words") rows)))
+    ∙ words_are in
     let workers : word_in settled (codes "workers") ≡ option_word =
     ap word_by (is (codes "workers") ∙ sym (or_none (row_of (codes "workers") rows))) ∙ option_is in
     let script : word_in settled (codes "script") ≡ None = others_say rows settled plain is (codes "script") in
@@ -95,7 +101,8 @@ line_is rows settled said option_word plain is words_are option_is =
     of_words n told = record { workers = n; options = told; script = []; words = said }
 
     by : (o : Option ℕ)
-        → (o >>= (λ (n : ℕ). Some no_options >>= (λ (told : Options). Some (of_words n told)))) ≡ option_map (λ (n : ℕ). of_words n no_options) o
+        → (o >>= (λ (n : ℕ). Some no_options >>= (λ (told : Options). Some (of_words n told))))
+        ≡ option_map (λ (n : ℕ). of_words n no_options) o
     by None = refl
     by (Some n) = refl
 

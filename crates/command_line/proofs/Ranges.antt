@@ -9,7 +9,7 @@ use Rattle.performance_prepare.specs.Ranges.{AreInRange, IfGiven, IsFraction, Is
 use Rattle.performance_prepare.specs.declared.options.Fraction.{Fraction}
 use Rattle.performance_prepare.specs.declared.options.Options.{Options}
 use Rattle.rhythm_base.specs.Signatures.{is_den}
-use Rattle.command_line.specs.CommandLines.{HasOptions, command_line_of, line_matches, line_said, listed, words_given}
+use Rattle.command_line.specs.CommandLines.{HasOptions, command_line_of, line_matches, line_said, script_in, words_given}
 use Rattle.command_line.specs.Laws.{OptionsAreInRange}
 use Rattle.command_line.specs.Numbers.{after_hyphen, fraction_in, fraction_of, is_slash, key_by, key_in, keyboard_in, keyboard_of, number_in, workers_of}
 use Rattle.command_line.specs.Preparing.{◌>>=◌, options_of, told, word_in}
@@ -22,11 +22,13 @@ use Rattle.command_line.proofs.Rows.{Text}
 
 module _ {A B : Type 0} where
   -- a second step is had where both are
-  pub then_some : (o : Option A) (next : A → Option B) (y : B) → (o >>= next) ≡ Some y → (x : A) × (o ≡ Some x) × (next x ≡ Some y)
+  pub then_some : (o : Option A) (next : A → Option B) (y : B) → (o >>= next) ≡ Some y
+      → (x : A) × (o ≡ Some x) × (next x ≡ Some y)
   then_some None next y e = absurd (cc)
   then_some (Some x) next y e = (x, refl, e)
 
-  and_then_some : (f : A → Option B) (o : Option A) (y : B) → option_and_then f o ≡ Some y → (x : A) × (o ≡ Some x) × (f x ≡ Some y)
+  and_then_some : (f : A → Option B) (o : Option A) (y : B) → option_and_then f o ≡ Some y
+      → (x : A) × (o ≡ Some x) × (f x ≡ Some y)
   and_then_some f None y e = absurd (cc)
   and_then_some f (Some x) y e = (x, refl, e)
 
@@ -86,8 +88,9 @@ record IsRanged (told : Option Options) : Type 0 where
   pub has : (o : Options) → told ≡ Some o → AreInRange o
 
 -- what the words of an option say, and then the others
-then_in : {X : Type 0} (read : Text → Option X) (P : X → Type 0) → ((word : Text) (x : X) → read word ≡ Some x → P x) → (said : Option Text)
-    (next : Option X → Option Options) → ((x : Option X) → IfGiven x P → IsRanged (next x)) → IsRanged (told read said >>= next)
+then_in : {X : Type 0} (read : Text → Option X) (P : X → Type 0) → ((word : Text) (x : X) → read word ≡ Some x → P x)
+    → (said : Option Text) (next : Option X → Option Options) → ((x : Option X) → IfGiven x P → IsRanged (next x))
+    → IsRanged (told read said >>= next)
 then_in {X} read P ranged None next each = each None tt
 then_in {X} read P ranged (Some word) next each = go (read word) refl
   where
@@ -99,7 +102,8 @@ abbrev IsFrom : ℕ → ℕ → ℕ → Type 0
 IsFrom least most n = (n ≤ most) × (least ≤ n)
 
 number_then : (least most : ℕ) (said : Option Text) (next : Option ℕ → Option Options)
-    → ((x : Option ℕ) → IfGiven x (IsFrom least most) → IsRanged (next x)) → IsRanged (told (number_in least most) said >>= next)
+    → ((x : Option ℕ) → IfGiven x (IsFrom least most) → IsRanged (next x))
+    → IsRanged (told (number_in least most) said >>= next)
 number_then least most = then_in (number_in least most) (IsFrom least most) (λ word n. number_low least most n word)
 
 keyboard_then : (said : Option Text) (next : Option ℕ → Option Options)
@@ -107,7 +111,8 @@ keyboard_then : (said : Option Text) (next : Option ℕ → Option Options)
 keyboard_then = then_in keyboard_in IsKeyboard keyboard_ranged
 
 fraction_then : (least : ℕ) (said : Option Text) (next : Option Fraction → Option Options)
-    → ((x : Option Fraction) → IfGiven x IsFraction → IsRanged (next x)) → IsRanged (told (fraction_in least) said >>= next)
+    → ((x : Option Fraction) → IfGiven x IsFraction → IsRanged (next x))
+    → IsRanged (told (fraction_in least) said >>= next)
 fraction_then least = then_in (fraction_in least) IsFraction (fraction_ranged least)
 
 key_then : (said : Option Text) (next : Option ℤ → Option Options)
@@ -127,26 +132,31 @@ reach_from None is = tt
 reach_from (Some n) is = record { some = is.1; few = is.0 }
 
 told_ranged : (said : Text → Option Text) → IsRanged (options_of said)
-told_ranged said = search (number_then, keyboard_then, fraction_then, key_then, at_last, pace_from, reach_from) depth 20 fits 4000
+told_ranged said =
+    search (number_then, keyboard_then, fraction_then, key_then, at_last, pace_from, reach_from) depth 20 fits 4000
 
 options_ranged : (said : Text → Option Text) (o : Options) → options_of said ≡ Some o → AreInRange o
 options_ranged said = (told_ranged said).has
 
 line_ranged : (rows : List Row) (line : CommandLine) → line_said rows ≡ Some line → AreInRange line.options
 line_ranged rows line e =
-    let workers = then_some (workers_of (word_in rows (codes "workers"))) (λ (n : ℕ). options_of (word_in rows) >>= line_by rows n) line e in
+    let workers =
+    then_some (workers_of (word_in rows (codes "workers"))) (λ (n : ℕ). options_of (word_in rows) >>= line_by rows n)
+    line e in
     let told = then_some (options_of (word_in rows)) (line_by rows workers.0) line workers.2 in
     let is : line_with rows workers.0 told.0 ≡ line = cc in
     subst (λ (l : CommandLine). AreInRange l.options) is (options_ranged (word_in rows) told.0 told.1)
   where
     line_with : List Row → ℕ → Options → CommandLine
-    line_with rows n told = record { workers = n; options = told; script = listed (word_in rows (codes "script")); words = words_given rows }
+    line_with rows n told = record { workers = n; options = told; script = script_in rows; words = words_given rows }
 
     line_by : List Row → ℕ → Options → Option CommandLine
     line_by rows n told = Some (line_with rows n told)
 
-pub words_ranged : (words : List Text) (line : CommandLine) → command_line_of words ≡ Some line → AreInRange line.options
-words_ranged words line e = let rows = and_then_some line_said (line_matches words) line e in line_ranged rows.0 line rows.2
+pub words_ranged : (words : List Text) (line : CommandLine) → command_line_of words ≡ Some line
+    → AreInRange line.options
+words_ranged words line e =
+    let rows = and_then_some line_said (line_matches words) line e in line_ranged rows.0 line rows.2
 
 pub ranged : OptionsAreInRange
 ranged words said e = go (asks is_help words) (asks is_version words) e
@@ -158,4 +168,5 @@ ranged words said e = go (asks is_help words) (asks is_version words) e
     go true version e = no_line Help e tt
     go false true e = no_line Version e tt
     go false false e =
-        let line = map_some Command (command_line_of words) said e in subst HasOptions line.2 (words_ranged words line.0 line.1)
+        let line = map_some Command (command_line_of words) said e in
+        subst HasOptions line.2 (words_ranged words line.0 line.1)

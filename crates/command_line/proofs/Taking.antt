@@ -107,10 +107,11 @@ no_place None name = refl
 no_place (Some word) name = refl
 
 -- what holds of each option and of the positional holds of each rule, whatever options there are
-of_rules : (P : Rule → Type 0) → ((word : Option Text) (name : Text) → P (with_index 1 (filled (rule_by word name)))) → P (with_index 1 (filled words_rule))
-    → (rows : List OptionRow) → OfEach P (filled_from 1 (map option_rule rows ++ words_rule ∷ []))
+of_rules : (P : Rule → Type 0) → ((word : Option Text) (name : Text) → P (with_index 1 (filled (rule_by word name))))
+    → P (with_index 1 (filled words_rule)) → (rows : List OptionRow) → OfEach P (filled_from 1 (map option_rule rows ++ words_rule ∷ []))
 of_rules P each last [] = (last, tt)
-of_rules P each last (row ∷ rows) = (each row.word row.name, rw (no_place row.word row.name) (of_rules P each last rows))
+of_rules P each last (row ∷ rows) =
+    (each row.word row.name, rw (no_place row.word row.name) (of_rules P each last rows))
 
 option_use : (word : Option Text) (name : Text) → UseAgrees (with_index 1 (filled (rule_by word name)))
 option_use None name = flag_use name

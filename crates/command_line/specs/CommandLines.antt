@@ -23,13 +23,17 @@ abbrev pub listed : Option (List ℕ) → List (List ℕ)
 listed None = []
 listed (Some word) = word ∷ []
 
--- the number of workers, what is told of a take, the name of the script file, and the words of the command: none where a word of an option is out of
--- range
+-- the name of the script file, where one is given
+abbrev pub script_in : List Row → List (List ℕ)
+script_in rows = listed (word_in rows (codes "script"))
+
+-- the number of workers, what is told of a take, the name of the script file, and the words of the command: none where
+-- a word of an option is out of range
 abbrev pub line_said : List Row → Option CommandLine
 line_said rows = do
   workers ← workers_of (word_in rows (codes "workers"))
   told ← options_of (word_in rows)
-  Some (record { workers = workers; options = told; script = listed (word_in rows (codes "script")); words = words_given rows })
+  Some (record { workers = workers; options = told; script = script_in rows; words = words_given rows })
 
 -- the same of words, none where `clap` refuses them
 abbrev pub command_line_of : List (List ℕ) → Option CommandLine

@@ -16,6 +16,7 @@ flag_rule name = record (new_rule name) { long = Some name; action = Some SetTru
 abbrev pub words_rule : Rule
 words_rule = record (new_rule (codes "words")) { action = Some Append }
 
+-- an option by what its word must be, where one follows it
 abbrev pub rule_by : Option (List ℕ) → List ℕ → Rule
 rule_by (Some word) name = value_rule name
 rule_by None name = flag_rule name

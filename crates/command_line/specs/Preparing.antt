@@ -17,6 +17,7 @@ None >>= next = None
 abbrev pub word_in : List Row → List ℕ → Option (List ℕ)
 word_in rows name = first_of name rows
 
+-- the same in matches
 abbrev pub said_by : ArgMatches → List ℕ → Option (List ℕ)
 said_by matches = word_in (rows_of (found_of matches))
 
@@ -29,8 +30,9 @@ abbrev pub told : {X : Type 0} → (List ℕ → Option X) → Option (List ℕ)
 told read None = Some None
 told read (Some word) = option_map Some (read word)
 
--- what is told of a take, by the words of the options: a key from 1 to 127, a channel but that of drums, 1 to 100 milliseconds, a meter of 1
--- to 64 beats, 1 to 1,000 quarters a minute, an upbeat, and a signature of up to seven sharps or flats
+-- what is told of a take, by the words of the options: a key from 1 to 127, a channel but that of drums, 1 to 100
+-- milliseconds, a meter of 1 to 64 beats, 1 to 1,000 quarters a minute, an upbeat, and a signature of up to seven
+-- sharps or flats
 abbrev pub options_of : (List ℕ → Option (List ℕ)) → Option Options
 options_of said = do
   split ← told (number_in 1 127) (said (codes "split"))
