@@ -5,7 +5,7 @@ use Rattle.std.specs.List.{after_first, before_first}
 use Rattle.std.proofs.lemmas.Bool.Decides.{nat_tests}
 use Rattle.clap.specs.Walk.{Row}
 use Rattle.performance_prepare.specs.Drums.{drum_channel}
-use Rattle.performance_prepare.specs.Ranges.{AreInRange, IfGiven, IsFraction, IsKey, IsKeyboard, IsPace, IsReach}
+use Rattle.performance_prepare.specs.Ranges.{AreInRange, IfGiven, IsFraction, IsKey, IsKeyboard}
 use Rattle.performance_prepare.specs.declared.options.Fraction.{Fraction}
 use Rattle.performance_prepare.specs.declared.options.Options.{Options}
 use Rattle.rhythm_base.specs.Signatures.{is_den}
@@ -101,10 +101,17 @@ then_in {X} read P ranged (Some word) next each = go (read word) refl
 abbrev IsFrom : ℕ → ℕ → ℕ → Type 0
 IsFrom least most n = (n ≤ most) × (least ≤ n)
 
+given_from : {P Q : ℕ → Type 0} → ((n : ℕ) → P n → Q n) → (x : Option ℕ) → IfGiven x P → IfGiven x Q
+given_from within None is = tt
+given_from within (Some n) is = within n is
+
+-- a number is in each range that has all numbers from the least to the most
 number_then : (least most : ℕ) (said : Option Text) (next : Option ℕ → Option Options)
-    → ((x : Option ℕ) → IfGiven x (IsFrom least most) → IsRanged (next x))
+    → ((x : Option ℕ) → ((P : ℕ → Type 0) → ((n : ℕ) → n ≤ most → least ≤ n → P n) → IfGiven x P) → IsRanged (next x))
     → IsRanged (told (number_in least most) said >>= next)
-number_then least most = then_in (number_in least most) (IsFrom least most) (λ word n. number_low least most n word)
+number_then least most said next each =
+    then_in (number_in least most) (IsFrom least most) (λ word n. number_low least most n word) said next
+    (λ x is. each x (λ P within. given_from (λ n from. within n from.0 from.1) x is))
 
 keyboard_then : (said : Option Text) (next : Option ℕ → Option Options)
     → ((x : Option ℕ) → IfGiven x IsKeyboard → IsRanged (next x)) → IsRanged (told keyboard_in said >>= next)
@@ -123,17 +130,9 @@ key_then = then_in key_in IsKey key_ranged
 at_last : (o : Options) → AreInRange o → IsRanged (Some o)
 at_last o range = record { has = λ p same. let is : o ≡ p = cc in subst AreInRange is range }
 
-pace_from : (x : Option ℕ) → IfGiven x (IsFrom 1 1000) → IfGiven x IsPace
-pace_from None is = tt
-pace_from (Some n) is = record { some = is.1; few = is.0 }
-
-reach_from : (x : Option ℕ) → IfGiven x (IsFrom 1 100) → IfGiven x IsReach
-reach_from None is = tt
-reach_from (Some n) is = record { some = is.1; few = is.0 }
-
 told_ranged : (said : Text → Option Text) → IsRanged (options_of said)
 told_ranged said =
-    search (number_then, keyboard_then, fraction_then, key_then, at_last, pace_from, reach_from) depth 20 fits 4000
+    search (number_then, keyboard_then, fraction_then, key_then, at_last) depth 20 fits 4000
 
 options_ranged : (said : Text → Option Text) (o : Options) → options_of said ≡ Some o → AreInRange o
 options_ranged said = (told_ranged said).has
