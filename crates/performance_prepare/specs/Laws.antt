@@ -15,6 +15,7 @@ use Rattle.performance_prepare.specs.Prepared.{prepared}
 use Rattle.performance_prepare.specs.Ranges.{AreInRange}
 use Rattle.performance_prepare.specs.Split.{is_split, with_split}
 use Rattle.performance_prepare.specs.Tempo.{rounded, scaled, with_tempo}
+pub use Rattle.performance_prepare.specs.Told.{no_options}
 use Rattle.performance_prepare.specs.Upbeat.{with_upbeat}
 use Rattle.performance_prepare.specs.declared.options.Fraction.{Fraction}
 use Rattle.performance_prepare.specs.declared.options.Options.{Options}
@@ -26,10 +27,6 @@ pub record IsPrepared (o : Options) (f : Smf) (p : Performance) : Type 0 where
   pub taken : IsTake f played
   pub mapped : prepared o played ≡ Ok take
   pub loaded : IsLoadedOf take p
-
--- nothing is told
-abbrev pub no_options : Options
-no_options = record { no_drums = false; split = None; hands = None; strum = None; meter = None; tempo = None; upbeat = None; key = None }
 
 -- without options the performance of a file is as ever
 abbrev pub NoOptionsChangeNothing : Type 0
