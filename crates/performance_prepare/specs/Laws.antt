@@ -1,6 +1,6 @@
 -- What holds of prepared takes and of their performances.
 use Rattle.rhythm_base.specs.declared.limits.TheConstants.{SLOWEST_TEMPO}
-use Rattle.std.specs.Prelude.{◌≡◌, ◌≢◌, ◌↔◌, ℕ, ◌+◌, ◌*◌, ◌<◌, ◌≤◌, false, List, length, map, slice_index_or, All, Contains, None, Ok}
+use Rattle.std.specs.Prelude.{◌≡◌, ◌≢◌, ◌↔◌, ℕ, ◌+◌, ◌*◌, ◌<◌, ◌≤◌, false, List, length, map, slice_index_or, All, Contains, Ok}
 use Rattle.std.specs.List.Sorted.{IsPermutation}
 use Rattle.rhythm_base.specs.Lists.{gap}
 use Rattle.rhythm_base.specs.Performance.{IsWellFormed, Performance}
