@@ -1,8 +1,7 @@
 ghost use Rattle.command_line.specs.Numbers.{after_hyphen, fraction_in, fraction_of, key_in, keyboard_in, keyboard_of, number_in, workers_of};
-ghost use Rattle.performance_prepare.specs.Ranges.{IsFraction, IsKey, IsKeyboard};
 ghost use Rattle.std.specs.Char.{is_ascii_digit};
 ghost use Rattle.std.specs.List.{list_all};
-ghost use Rattle.std.specs.Prelude.{◌≡◌, ◌≤◌, IfSome, option_map};
+ghost use Rattle.std.specs.Prelude.{◌≡◌, option_map};
 
 use performance_prepare::Fraction;
 
@@ -36,9 +35,7 @@ pub(crate) fn workers_in(option: Option<&str>) -> Option<u32>
 
 /// The fraction of two numbers, where the second is a power of two.
 fn fraction_of(num: u8, den: u8) -> Option<Fraction>
-    requires { num ≤ 64 }
-    ensures value { result ≡ fraction_of num den }
-    ensures range { IfSome result IsFraction }
+    ensures { result ≡ fraction_of num den }
 {
     if matches!(den, 1 | 2 | 4 | 8 | 16 | 32 | 64) {
         Some(Fraction { num, den })
@@ -49,8 +46,7 @@ fn fraction_of(num: u8, den: u8) -> Option<Fraction>
 
 /// The fraction that the word says: a number up to 64, a slash, and a power of two up to 64.
 pub(crate) fn fraction_in(word: &str, least: u64) -> Option<Fraction>
-    ensures value { result ≡ fraction_in least word.now }
-    ensures range { IfSome result IsFraction }
+    ensures { result ≡ fraction_in least word.now }
 {
     let (num, den) = word.split_once('/')?;
     let num = number_in(num, least, 64)? as u8;
@@ -68,8 +64,7 @@ fn after_hyphen(word: &str) -> Option<&str>
 
 /// The signature that the word says: so many sharps, or so many flats after a hyphen, 0 to 7.
 pub(crate) fn key_in(word: &str) -> Option<i8>
-    ensures value { result ≡ key_in word.now }
-    ensures range { IfSome result IsKey }
+    ensures { result ≡ key_in word.now }
 {
     match after_hyphen(word) {
         None => Some(number_in(word, 0, 7)? as i8),
@@ -79,17 +74,14 @@ pub(crate) fn key_in(word: &str) -> Option<i8>
 
 /// The channel, where it is not that of drums.
 fn keyboard_of(channel: u8) -> Option<u8>
-    requires { channel ≤ 15 }
-    ensures value { result ≡ keyboard_of channel }
-    ensures range { IfSome result IsKeyboard }
+    ensures { result ≡ keyboard_of channel }
 {
     if channel == 9 { None } else { Some(channel) }
 }
 
 /// The channel that the word says, 0 to 15 but 9.
 pub(crate) fn keyboard_in(word: &str) -> Option<u8>
-    ensures value { result ≡ keyboard_in word.now }
-    ensures range { IfSome result IsKeyboard }
+    ensures { result ≡ keyboard_in word.now }
 {
     keyboard_of(number_in(word, 0, 15)? as u8)
 }
