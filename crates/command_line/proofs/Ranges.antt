@@ -130,6 +130,7 @@ key_then = then_in key_in IsKey key_ranged
 at_last : (o : Options) → AreInRange o → IsRanged (Some o)
 at_last o range = record { has = λ p same. let is : o ≡ p = cc in subst AreInRange is range }
 
+-- each option is one step of the search
 told_ranged : (said : Text → Option Text) → IsRanged (options_of said)
 told_ranged said =
     search (number_then, keyboard_then, fraction_then, key_then, at_last) depth 20 fits 4000
