@@ -9,8 +9,7 @@ use Rattle.command_line.specs.CommandLines.{HasOptions, invocation_of}
 use Rattle.command_line.specs.Numbers.{number_in}
 use Rattle.command_line.specs.declared.invocation.Invocation.{Invocation}
 use Rattle.command_line.specs.declared.invocation.Invocation.TheVariants.{Help, Version, Command}
-use Rattle.performance_prepare.specs.Ranges.{AreInRange}
-use Rattle.performance_prepare.specs.Told.{is_told}
+use Rattle.performance_prepare.specs.Ranges.{AreInRange, is_told}
 use Rattle.performance_prepare.specs.declared.options.Options.{Options}
 use Rattle.rhythm_app.specs.Inputs.{Inputs}
 use Rattle.rhythm_app.specs.Asked.{Asked, Call, answer, asked_by, asked_of, at_word, calls, candidate_count, candidates_by, drill, drill_by, events, fit, command_by, fit_by, fit_of, follow, generate, generate_by, inputs_named, learn, learn_by, learn_of, notes, of_inputs, of_one, of_six, of_two, too_many_candidates, too_many_files, unscripted, untold, write}

@@ -13,9 +13,9 @@ use Rattle.performance_load.specs.Taking.{IsLoadedOf, IsTake, IsTakeFormed}
 use Rattle.performance_prepare.specs.Drums.{drum_channel, without_drums}
 use Rattle.performance_prepare.specs.Prepared.{prepared}
 use Rattle.performance_prepare.specs.Ranges.{AreInRange}
+pub use Rattle.performance_prepare.specs.Ranges.{no_options}
 use Rattle.performance_prepare.specs.Split.{is_split, with_split}
 use Rattle.performance_prepare.specs.Tempo.{rounded, scaled, with_tempo}
-pub use Rattle.performance_prepare.specs.Told.{no_options}
 use Rattle.performance_prepare.specs.Upbeat.{with_upbeat}
 use Rattle.performance_prepare.specs.declared.options.Fraction.{Fraction}
 use Rattle.performance_prepare.specs.declared.options.Options.{Options}

@@ -20,5 +20,4 @@ pub mod Split
 pub mod Strum
 pub mod StrumLaws
 pub mod Tempo
-pub mod Told
 pub mod Upbeat

@@ -1,5 +1,5 @@
--- The ranges of what can be told of a take.
-use Rattle.std.specs.Prelude.{ℕ, ℤ, pos, negsuc, ◌≤ℤ◌, ◌≢◌, ◌<◌, ◌≤◌, IsTrue, Option, Some, None, ⊤}
+-- What can be told of a take: its ranges, whether anything is told, and nothing.
+use Rattle.std.specs.Prelude.{ℕ, ℤ, pos, negsuc, ◌≤ℤ◌, ◌≢◌, ◌<◌, ◌≤◌, ◌||◌, Bool, false, IsTrue, Option, Some, None, is_some, ⊤}
 use Rattle.rhythm_base.specs.declared.limits.TheConstants.{SLOWEST_TEMPO}
 use Rattle.rhythm_base.specs.Signatures.{is_den}
 use Rattle.performance_prepare.specs.Drums.{drum_channel}
@@ -48,3 +48,14 @@ pub record AreInRange (o : Options) : Type 0 where
   pub tempo : IfGiven o.tempo IsPace
   pub upbeat : IfGiven o.upbeat IsFraction
   pub key : IfGiven o.key IsKey
+
+-- whether anything is told
+abbrev pub is_told : Options → Bool
+is_told o =
+    o.no_drums || (is_some o.split || (is_some o.hands || (is_some o.strum
+    || (is_some o.meter || (is_some o.tempo || (is_some o.upbeat || is_some o.key))))))
+
+-- nothing is told
+abbrev pub no_options : Options
+no_options =
+    record { no_drums = false; split = None; hands = None; strum = None; meter = None; tempo = None; upbeat = None; key = None }

@@ -1,4 +1,4 @@
-ghost use Rattle.performance_prepare.specs.Told.{is_told};
+ghost use Rattle.performance_prepare.specs.Ranges.{is_told};
 ghost use Rattle.std.specs.Prelude.{◌≡◌};
 
 /// A part of a whole note, as the meter of a bar or the length of an upbeat: `num` times 1 over `den`.

@@ -9,8 +9,7 @@ use Rattle.command_line.specs.Numbers.{number_in}
 use Rattle.command_line.specs.declared.invocation.Invocation.{Invocation}
 use Rattle.command_line.specs.declared.invocation.Invocation.TheVariants as invocation
 use Rattle.performance_prepare.specs.Laws.{no_options}
-use Rattle.performance_prepare.specs.Ranges.{AreInRange}
-use Rattle.performance_prepare.specs.Told.{is_told}
+use Rattle.performance_prepare.specs.Ranges.{AreInRange, is_told}
 use Rattle.performance_prepare.specs.declared.options.Options.{Options}
 use Rattle.rhythm_app.specs.Inputs.{Inputs, shown_inputs}
 use Rattle.rhythm_app.specs.declared.learn.TheConstants.{MOST_FILES}
