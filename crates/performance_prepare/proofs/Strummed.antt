@@ -15,11 +15,11 @@ use Rattle.rhythm_base.specs.declared.note.Note.{Note}
 use Rattle.performance_load.specs.Take.{Take}
 use Rattle.performance_load.specs.Taking.{IsTakeFormed}
 use Rattle.performance_prepare.specs.Parts.{parts_from}
+use Rattle.performance_prepare.specs.Ready.{IsReady}
 use Rattle.performance_prepare.specs.Split.{in_order}
 use Rattle.performance_prepare.specs.Strum.{begun_at, midway, strummed_notes, strums, together, with_strum}
 use Rattle.performance_prepare.specs.StrumLaws as laws
 use Rattle.performance_prepare.specs.StrumLaws.{IsBetween, IsStruck}
-use Rattle.performance_prepare.proofs.Kept.{IsReady}
 use Rattle.performance_prepare.proofs.Parting.{order_permuted, same_order}
 use Rattle.performance_prepare.proofs.Strumming.{AreApart, Before, IsRun, J, Next, Placed, all_apart, joined, notes_before, run_high, run_low, run_more, run_one, strummed_distinct}
 
@@ -126,6 +126,9 @@ strum_ready latest within t ready = record {
   formed = strum_formed within t ready.formed;
   marks = record { tempos = ready.marks.tempos; key_marks = ready.marks.key_marks; signatures = ready.marks.signatures };
 }
+
+pub strum_kept : (latest within : ℕ) (t u : Take) → u ≡ with_strum within t → IsReady latest t → IsReady latest u
+strum_kept latest within t u is ready = subst (IsReady latest) (sym is) (strum_ready latest within t ready)
 
 -- ---- the laws
 

@@ -1,54 +1,76 @@
 -- Whatever is told, the take stays well formed.
-use Rattle.std.proofs.Common.{◌≡◌, ℕ, Bool, true, false, arith, refl, subst, Option, Some, None, Ok, Err}
-use Rattle.std.specs.Prelude.{Result, ℤ}
+use Rattle.std.proofs.Common.{◌≡◌, ℕ, ℤ, Bool, true, false, arith, subst, Option, Some, None, Ok, Err}
+use Rattle.std.specs.Prelude.{IfOk, Result}
+use Rattle.rhythm_base.specs.declared.limits.TheConstants.{LATEST_EVENT}
 use Rattle.performance_load.specs.Take.{Take}
 use Rattle.performance_load.specs.Taking.{IsTakeFormed}
-use Rattle.performance_prepare.specs.Keying.{with_key}
-use Rattle.performance_prepare.specs.Meter.{with_meter}
+use Rattle.performance_prepare.specs.Drums.{without_drums}
+use Rattle.performance_prepare.specs.Hands.{with_hands}
 use Rattle.performance_prepare.specs.Outcome.{◌>>=◌}
 use Rattle.performance_prepare.specs.Prepared.{group_reach, prepared, told_drums, told_hands, told_key, told_meter, told_split, told_strum, told_tempo, told_upbeat}
-use Rattle.performance_prepare.specs.Strum.{with_strum}
 use Rattle.performance_prepare.specs.Ranges.{AreInRange, IfGiven, IsKey}
+use Rattle.performance_prepare.specs.Ready.{IsReady}
+use Rattle.performance_prepare.specs.Shift.{latest_mark}
+use Rattle.performance_prepare.specs.Split.{with_split}
+use Rattle.performance_prepare.specs.Strum.{with_strum}
+use Rattle.performance_prepare.specs.Meter.{with_meter}
+use Rattle.performance_prepare.specs.Keying.{with_key}
+use Rattle.performance_prepare.specs.Tempo.{with_tempo}
+use Rattle.performance_prepare.specs.Upbeat.{with_upbeat}
 use Rattle.performance_prepare.specs.declared.options.Fraction.{Fraction}
 use Rattle.performance_prepare.specs.declared.options.Options.{Options}
 use Rattle.performance_prepare.specs.declared.prepare_fault.PrepareFault.{PrepareFault}
-use Rattle.performance_prepare.proofs.Handed.{hands_ready}
-use Rattle.performance_prepare.proofs.Parting.{split_ready}
+use Rattle.performance_prepare.proofs.Answered.{meant_answers}
+use Rattle.performance_prepare.proofs.Handed.{hands_kept}
+use Rattle.performance_prepare.proofs.Kept.{drums_kept, key_formed, meter_ready, tempo_kept, upbeat_kept}
+use Rattle.performance_prepare.proofs.Parting.{split_kept}
 use Rattle.performance_prepare.proofs.Strummed.{strum_ready}
-use Rattle.performance_prepare.proofs.Kept.{IsReady, drums_ready, key_formed, meter_ready, tempo_ready, upbeat_formed}
 
--- the latest tick of a change of a file
-abbrev pub soon : ℕ
-soon = 1000000000
+-- the take that it gives is well formed
+record GivesFormed (m : Result Take PrepareFault) : Type 0 where
+  pub has : (u : Take) → m ≡ Ok u → IsTakeFormed u
 
--- and of one where ticks are finer
-abbrev pub late : ℕ
-late = 8192000000000
+-- of a take of which the first holds, the map and then the others give one that is well formed, as they do where the second holds
+abbrev LeadsOn : (P Q : Take → Type 0) → (Take → Result Take PrepareFault) → Type 0
+LeadsOn P Q map =
+    (t : Take) (next : Take → Result Take PrepareFault) → P t → ((u : Take) → Q u → GivesFormed (next u)) → GivesFormed (map t >>= next)
 
-same_ready : (latest : ℕ) (t u : Take) → (let r : Result Take PrepareFault = Ok t in r) ≡ Ok u → IsReady latest t → IsReady latest u
-same_ready latest t u is ready = let same : t ≡ u = cc in subst (IsReady latest) same ready
+lead_on : (Q : Take → Type 0) (m : Result Take PrepareFault) (next : Take → Result Take PrepareFault) → IfOk m Q
+    → ((u : Take) → Q u → GivesFormed (next u)) → GivesFormed (m >>= next)
+lead_on Q (Ok t) next is each = each t is
+lead_on Q (Err fault) next is each = record { has = λ u e. absurd (cc) }
 
-pub told_drums_ready : (latest : ℕ) (b : Bool) (t u : Take) → told_drums b t ≡ Ok u → IsReady latest t → IsReady latest u
-told_drums_ready latest false t u is ready = same_ready latest t u is ready
-told_drums_ready latest true t u is ready = drums_ready latest t u is ready
+abbrev IsEarly : Take → Type 0
+IsEarly = IsReady LATEST_EVENT
 
-pub told_split_ready : (latest : ℕ) (o : Option ℕ) (t u : Take) → told_split o t ≡ Ok u → IsReady latest t → IsReady latest u
-told_split_ready latest None t u is ready = same_ready latest t u is ready
-told_split_ready latest (Some key) t u is ready = split_ready latest key t u is ready
+abbrev IsFine : Take → Type 0
+IsFine = IsReady latest_mark
 
-pub told_hands_ready : (latest : ℕ) (o strum : Option ℕ) (t u : Take) → told_hands o strum t ≡ Ok u → IsReady latest t → IsReady latest u
-told_hands_ready latest None strum t u is ready = same_ready latest t u is ready
-told_hands_ready latest (Some channel) strum t u is ready = hands_ready latest channel (group_reach strum) t u is ready
+drums_then : (b : Bool) → LeadsOn IsEarly IsEarly (told_drums b)
+drums_then false t next ready each = each t ready
+drums_then true t next ready each =
+    let m = without_drums t in lead_on IsEarly m next (drums_kept LATEST_EVENT t m (meant_answers m) ready) each
 
-pub told_strum_ready : (latest : ℕ) (o : Option ℕ) (t u : Take) → told_strum o t ≡ Ok u → IsReady latest t → IsReady latest u
-told_strum_ready latest None t u is ready = same_ready latest t u is ready
-told_strum_ready latest (Some within) t u is ready = same_ready latest (with_strum within t) u is (strum_ready latest within t ready)
+split_then : (o : Option ℕ) → LeadsOn IsEarly IsEarly (told_split o)
+split_then None t next ready each = each t ready
+split_then (Some key) t next ready each =
+    let m = with_split key t in lead_on IsEarly m next (split_kept LATEST_EVENT key t m (meant_answers m) ready) each
 
-pub told_meter_ready : (latest : ℕ) (o : Option Fraction) (t u : Take) → told_meter o t ≡ Ok u → IsReady latest t → IsReady latest u
-told_meter_ready latest None t u is ready = same_ready latest t u is ready
-told_meter_ready latest (Some m) t u is ready = same_ready latest (with_meter m t) u is (meter_ready latest m t ready)
+hands_then : (o strum : Option ℕ) → LeadsOn IsEarly IsEarly (told_hands o strum)
+hands_then None strum t next ready each = each t ready
+hands_then (Some channel) strum t next ready each =
+    let m = with_hands channel (group_reach strum) t in
+    lead_on IsEarly m next (hands_kept LATEST_EVENT channel (group_reach strum) t m (meant_answers m) ready) each
 
-later : (t : Take) → IsReady soon t → IsReady late t
+strum_then : (o : Option ℕ) → LeadsOn IsEarly IsEarly (told_strum o)
+strum_then None t next ready each = each t ready
+strum_then (Some within) t next ready each = each (with_strum within t) (strum_ready LATEST_EVENT within t ready)
+
+meter_then : (o : Option Fraction) → LeadsOn IsEarly IsEarly (told_meter o)
+meter_then None t next ready each = each t ready
+meter_then (Some m) t next ready each = each (with_meter m t) (meter_ready LATEST_EVENT m t ready)
+
+later : (t : Take) → IsEarly t → IsFine t
 later t ready = record {
   formed = ready.formed;
   marks = record {
@@ -58,46 +80,25 @@ later t ready = record {
   };
 }
 
-pub told_tempo_ready : (o : Option ℕ) (t u : Take) → told_tempo o t ≡ Ok u → IsReady soon t → IsReady late u
-told_tempo_ready None t u is ready = same_ready late t u is (later t ready)
-told_tempo_ready (Some q) t u is ready = tempo_ready t ready q u is
+tempo_then : (o : Option ℕ) → LeadsOn IsEarly IsFine (told_tempo o)
+tempo_then None t next ready each = each t (later t ready)
+tempo_then (Some q) t next ready each =
+    let m = with_tempo q t in lead_on IsFine m next (tempo_kept q t m (meant_answers m) ready) each
 
-pub told_upbeat_formed : (o : Option Fraction) (t u : Take) → told_upbeat o t ≡ Ok u → IsTakeFormed t → IsTakeFormed u
-told_upbeat_formed None t u is formed = let same : t ≡ u = cc in subst IsTakeFormed same formed
-told_upbeat_formed (Some f) t u is formed = upbeat_formed t formed f u is
+upbeat_then : (o : Option Fraction) → LeadsOn IsFine IsTakeFormed (told_upbeat o)
+upbeat_then None t next ready each = each t ready.formed
+upbeat_then (Some f) t next ready each =
+    let m = with_upbeat f t in lead_on IsTakeFormed m next (upbeat_kept f t m (meant_answers m) ready) each
 
-pub told_key_formed : (o : Option ℤ) (t u : Take) → IfGiven o IsKey → told_key o t ≡ Ok u → IsTakeFormed t → IsTakeFormed u
-told_key_formed None t u key is formed = let same : t ≡ u = cc in subst IsTakeFormed same formed
-told_key_formed (Some sf) t u key is formed = let same : with_key sf t ≡ u = cc in subst IsTakeFormed same (key_formed sf t key formed)
+key_last : (o : Option ℤ) (t : Take) → IfGiven o IsKey → IsTakeFormed t → GivesFormed (told_key o t)
+key_last None t key formed = record { has = λ u e. let same : t ≡ u = cc in subst IsTakeFormed same formed }
+key_last (Some sf) t key formed =
+    record { has = λ u e. let same : with_key sf t ≡ u = cc in subst IsTakeFormed same (key_formed sf t key formed) }
 
--- ---- all of them
+-- each map is one step of the search
+all_formed : (o : Options) (t : Take) → AreInRange o → IsEarly t → GivesFormed (prepared o t)
+all_formed o t range ready =
+    search (drums_then, split_then, hands_then, strum_then, meter_then, tempo_then, upbeat_then, key_last) depth 20 fits 4000
 
-through : (m : Result Take PrepareFault) (next : Take → Result Take PrepareFault) (u : Take) → (m >>= next) ≡ Ok u
-    → (t : Take) × (m ≡ Ok t) × (next t ≡ Ok u)
-through (Ok t) next u is = (t, refl, is)
-through (Err fault) next u is = absurd (cc)
-
-pub prepared_formed : (o : Options) (t u : Take) → AreInRange o → IsReady soon t → prepared o t ≡ Ok u → IsTakeFormed u
-prepared_formed o t u range ready is =
-    let last : Take → Result Take PrepareFault = told_key o.key in
-    let upbeat : Take → Result Take PrepareFault = λ d. told_upbeat o.upbeat d >>= last in
-    let tempo : Take → Result Take PrepareFault = λ b. told_tempo o.tempo b >>= upbeat in
-    let meter : Take → Result Take PrepareFault = λ a. told_meter o.meter a >>= tempo in
-    let strum : Take → Result Take PrepareFault = λ a. told_strum o.strum a >>= meter in
-    let hands : Take → Result Take PrepareFault = λ a. told_hands o.hands o.strum a >>= strum in
-    let split : Take → Result Take PrepareFault = λ x. told_split o.split x >>= hands in
-    let pitched = through (told_drums o.no_drums t) split u is in
-    let parted = through (told_split o.split pitched.0) hands u pitched.2 in
-    let handed = through (told_hands o.hands o.strum parted.0) strum u parted.2 in
-    let strummed = through (told_strum o.strum handed.0) meter u handed.2 in
-    let metered = through (told_meter o.meter strummed.0) tempo u strummed.2 in
-    let timed = through (told_tempo o.tempo metered.0) upbeat u metered.2 in
-    let placed = through (told_upbeat o.upbeat timed.0) last u timed.2 in
-    told_key_formed o.key placed.0 u range.key placed.2
-    (told_upbeat_formed o.upbeat timed.0 placed.0 placed.1
-    (told_tempo_ready o.tempo metered.0 timed.0 timed.1
-    (told_meter_ready soon o.meter strummed.0 metered.0 metered.1
-    (told_strum_ready soon o.strum handed.0 strummed.0 strummed.1
-    (told_hands_ready soon o.hands o.strum parted.0 handed.0 handed.1
-    (told_split_ready soon o.split pitched.0 parted.0 parted.1
-    (told_drums_ready soon o.no_drums t pitched.0 pitched.1 ready)))))).formed)
+pub prepared_formed : (o : Options) (t u : Take) → AreInRange o → IsReady LATEST_EVENT t → prepared o t ≡ Ok u → IsTakeFormed u
+prepared_formed o t u range ready = (all_formed o t range ready).has u

@@ -14,6 +14,7 @@ pub mod Parted
 pub mod Parts
 pub mod Prepared
 pub mod Ranges
+pub mod Ready
 pub mod Shift
 pub mod Sides
 pub mod Split

@@ -1,7 +1,8 @@
 ghost use Rattle.performance_load.specs.Taking.{AreMarksUpTo, IsTakeFormed};
 ghost use Rattle.performance_prepare.specs.Outcome.{Answers};
 ghost use Rattle.performance_prepare.specs.Prepared as maps;
-ghost use Rattle.performance_prepare.specs.Ranges.{AreInRange, IfGiven, IsFraction, IsPace};
+ghost use Rattle.performance_prepare.specs.Ranges.{AreInRange, IfGiven, IsFraction, IsKey, IsPace};
+ghost use Rattle.performance_prepare.specs.Ready.{IsReady};
 ghost use Rattle.performance_prepare.specs.Shift.{latest_mark};
 ghost use Rattle.rhythm_base.specs.declared.limits.TheConstants.{LATEST_EVENT};
 ghost use Rattle.std.specs.Prelude.{◌≡◌, IfOk};
@@ -20,8 +21,11 @@ use performance_load::Take;
 use std::alloc::Global;
 
 /// The take without drums, if it is told that they go.
+#[tactic(auto, using(crate::proofs::Kept::drums_kept))]
 fn told_drums(alloc: Global, no_drums: bool, take: Take) -> Result<Take, PrepareFault>
-    ensures { Answers (maps.told_drums no_drums take) result }
+    requires { IsReady LATEST_EVENT take }
+    ensures answer { Answers (maps.told_drums no_drums take) result }
+    ensures ready { IfOk result (IsReady LATEST_EVENT) }
 {
     if no_drums {
         without_drums(alloc, take)
@@ -32,8 +36,9 @@ fn told_drums(alloc: Global, no_drums: bool, take: Take) -> Result<Take, Prepare
 
 /// The take that is split at the key, if one is told.
 fn told_split(alloc: Global, split: Option<u8>, take: Take) -> Result<Take, PrepareFault>
-    requires { IsTakeFormed take }
-    ensures { Answers (maps.told_split split take) result }
+    requires { IsReady LATEST_EVENT take }
+    ensures answer { Answers (maps.told_split split take) result }
+    ensures ready { IfOk result (IsReady LATEST_EVENT) }
 {
     match split {
         None => Ok(take),
@@ -61,8 +66,9 @@ fn told_hands(
     strum: Option<u8>,
     take: Take,
 ) -> Result<Take, PrepareFault>
-    requires { IsTakeFormed take }
-    ensures { Answers (maps.told_hands hands strum take) result }
+    requires { IsReady LATEST_EVENT take }
+    ensures answer { Answers (maps.told_hands hands strum take) result }
+    ensures ready { IfOk result (IsReady LATEST_EVENT) }
 {
     match hands {
         None => Ok(take),
@@ -72,8 +78,9 @@ fn told_hands(
 
 /// The take whose strums begin together, if their milliseconds are told.
 fn told_strum(alloc: Global, strum: Option<u8>, take: Take) -> Result<Take, PrepareFault>
-    requires { IsTakeFormed take }
-    ensures { Answers (maps.told_strum strum take) result }
+    requires { IsReady LATEST_EVENT take }
+    ensures answer { Answers (maps.told_strum strum take) result }
+    ensures ready { IfOk result (IsReady LATEST_EVENT) }
 {
     match strum {
         None => Ok(take),
@@ -83,7 +90,9 @@ fn told_strum(alloc: Global, strum: Option<u8>, take: Take) -> Result<Take, Prep
 
 /// The take of the meter, if one is told.
 fn told_meter(alloc: Global, meter: Option<Fraction>, take: Take) -> Result<Take, PrepareFault>
-    ensures { Answers (maps.told_meter meter take) result }
+    requires { IsReady LATEST_EVENT take }
+    ensures answer { Answers (maps.told_meter meter take) result }
+    ensures ready { IfOk result (IsReady LATEST_EVENT) }
 {
     match meter {
         None => Ok(take),
@@ -94,9 +103,9 @@ fn told_meter(alloc: Global, meter: Option<Fraction>, take: Take) -> Result<Take
 /// The take at so many quarters a minute, if they are told.
 fn told_tempo(alloc: Global, tempo: Option<u16>, take: Take) -> Result<Take, PrepareFault>
     requires tempo { IfGiven tempo IsPace }
-    requires formed { IsTakeFormed take }
-    requires marks { AreMarksUpTo LATEST_EVENT take }
-    ensures { Answers (maps.told_tempo tempo take) result }
+    requires ready { IsReady LATEST_EVENT take }
+    ensures answer { Answers (maps.told_tempo tempo take) result }
+    ensures ready { IfOk result (IsReady latest_mark) }
 {
     match tempo {
         None => Ok(take),
@@ -107,9 +116,9 @@ fn told_tempo(alloc: Global, tempo: Option<u16>, take: Take) -> Result<Take, Pre
 /// The take of the upbeat, if one is told.
 fn told_upbeat(alloc: Global, upbeat: Option<Fraction>, take: Take) -> Result<Take, PrepareFault>
     requires upbeat { IfGiven upbeat IsFraction }
-    requires formed { IsTakeFormed take }
-    requires marks { AreMarksUpTo latest_mark take }
-    ensures { Answers (maps.told_upbeat upbeat take) result }
+    requires ready { IsReady latest_mark take }
+    ensures answer { Answers (maps.told_upbeat upbeat take) result }
+    ensures formed { IfOk result IsTakeFormed }
 {
     match upbeat {
         None => Ok(take),
@@ -119,7 +128,10 @@ fn told_upbeat(alloc: Global, upbeat: Option<Fraction>, take: Take) -> Result<Ta
 
 /// The take of the key, if one is told.
 fn told_key(alloc: Global, key: Option<i8>, take: Take) -> Result<Take, PrepareFault>
-    ensures { Answers (maps.told_key key take) result }
+    requires key { IfGiven key IsKey }
+    requires formed { IsTakeFormed take }
+    ensures answer { Answers (maps.told_key key take) result }
+    ensures formed { IfOk result IsTakeFormed }
 {
     match key {
         None => Ok(take),
