@@ -86,9 +86,13 @@ fn told(alloc: Global, line: &str) -> Result<Option<Options>, AllocError> {
 #[test]
 fn options_tell_of_a_take(rt: HostRuntime) -> Result<(), Fail> {
     let line =
-        "--split=60|notes|--no-drums|a.mid|--hands|15|--meter|3/4|--tempo|93|--upbeat=0/4|--key=-3|--strum|40";
-    let options = Options {
+        "--split=60|notes|a.mid|--hands|15|--meter|3/4|--tempo|93|--upbeat=0/4|--key=-3|--strum|40";
+    let untold = told(rt.alloc(), "notes|a.mid")?;
+    let without_drums = untold.map(|untold| Options {
         no_drums: true,
+        ..untold
+    });
+    let all_others = untold.map(|untold| Options {
         split: Some(60),
         hands: Some(15),
         strum: Some(40),
@@ -96,9 +100,11 @@ fn options_tell_of_a_take(rt: HostRuntime) -> Result<(), Fail> {
         tempo: Some(93),
         upbeat: Some(Fraction { num: 0, den: 4 }),
         key: Some(-3),
-    };
-    assert!(rt; told(rt.alloc(), line)? == Some(options));
-    assert!(rt; told(rt.alloc(), "notes|a.mid")?.is_some_and(|options| !options.is_told()));
+        ..untold
+    });
+    assert!(rt; untold.is_some_and(|options| !options.is_told()));
+    assert!(rt; told(rt.alloc(), "notes|--no-drums|a.mid")? == without_drums);
+    assert!(rt; told(rt.alloc(), line)? == all_others);
     Ok(())
 }
 
