@@ -1,6 +1,6 @@
 -- A call that answers what is meant.
 use Rattle.std.proofs.Common.{◌≡◌, ◌≤◌, ℕ, ◌*◌, ◌/◌, ◌%◌, ltb, eqb, Bool, true, false, cond, refl, sym, ap, subst, ◌∙◌, arith}
-use Rattle.std.specs.Prelude.{Result, Ok, Err, Option, Some, List, [], ◌∷◌, min}
+use Rattle.std.specs.Prelude.{IfOk, Result, Ok, Err, Option, Some, List, [], ◌∷◌, min}
 use Rattle.std.specs.List.{reduce}
 use Rattle.std.proofs.lemmas.Bool.Decides.{nat_tests}
 use Rattle.rhythm_base.specs.Lists.{least_of}
@@ -24,6 +24,15 @@ meant_answers (Err (WrongDivision division)) = refl
 meant_answers (Err (TooLate tick)) = refl
 meant_answers (Err (BadUpbeat num den)) = refl
 meant_answers (Err Memory) = tt
+
+-- an answer has what that which is meant has
+pub answered : (P : Take → Type 0) (meant r : Result Take PrepareFault) → Answers meant r → IfOk meant P → IfOk r P
+answered P meant (Ok u) is has = subst (λ (m : Result Take PrepareFault). IfOk m P) is has
+answered P meant (Err fault) is has = tt
+
+pub if_ok : (P : Take → Type 0) (m : Result Take PrepareFault) → ((u : Take) → m ≡ Ok u → P u) → IfOk m P
+if_ok P (Ok u) each = each u refl
+if_ok P (Err fault) each = tt
 
 pub same_answers : (meant r : Result Take PrepareFault) → r ≡ meant → Answers meant r
 same_answers meant r is = subst (λ m. Answers m r) is (meant_answers r)

@@ -1,6 +1,6 @@
 -- The notes of two hands are at different places, and well formed.
-use Rattle.std.proofs.Common.{◌≡◌, ◌≢◌, ◌⊎◌, ℕ, ◌+◌, ◌-◌, ◌<◌, ◌≤◌, eqb, Bool, true, false, not, cond, inl, inr, List, [], ◌∷◌, ◌++◌, length, map, drop, get_or, refl, sym, ap, ◌∙◌, subst, arith, append_assoc, length-append, length-drop, Ok, Err}
-use Rattle.std.specs.Prelude.{IfOk, Result, ◌==◌, ◌||◌, nat_lt}
+use Rattle.std.proofs.Common.{◌≡◌, ◌≢◌, ◌⊎◌, ℕ, ◌+◌, ◌-◌, ◌<◌, ◌≤◌, eqb, Bool, true, false, not, cond, inl, inr, List, [], ◌∷◌, ◌++◌, length, map, drop, get_or, refl, sym, ap, ◌∙◌, subst, arith, append_assoc, length-append, length-drop, Ok}
+use Rattle.std.specs.Prelude.{IfOk, ◌==◌, ◌||◌, nat_lt}
 use Rattle.std.specs.List.{IsDistinct, flat_map, slice_range}
 use Rattle.std.specs.List.Sorted.{IsPermutation}
 use Rattle.std.proofs.lemmas.Bool.Decides.{nat_tests}
@@ -24,10 +24,9 @@ use Rattle.performance_prepare.specs.Groups.{begins_near, costs, costs_after, gr
 use Rattle.performance_prepare.specs.Hands.{borders_of, handed_note, handed_notes, is_one_hand, left_notes, middle_of, notes_below, notes_of, other_notes, with_hands, with_left}
 use Rattle.performance_prepare.specs.Laws.{unvoiced}
 use Rattle.performance_prepare.specs.Parts.{parts, parts_from}
-use Rattle.performance_prepare.specs.Outcome.{Answers}
 use Rattle.performance_prepare.specs.Ready.{IsReady}
 use Rattle.performance_prepare.specs.Split.{free_channels, in_order, sounds}
-use Rattle.performance_prepare.specs.declared.prepare_fault.PrepareFault.{PrepareFault}
+use Rattle.performance_prepare.proofs.Answered.{if_ok}
 use Rattle.performance_prepare.proofs.Parting.{free_below, order_permuted, same_order, silent}
 use Rattle.performance_prepare.proofs.Strummed.{all_each, each_long, each_mapped}
 use Rattle.performance_prepare.proofs.Strumming.{Before, channel_apart, notes_before, spot_apart}
@@ -371,10 +370,9 @@ hands_ready latest channel within t u is ready = elim (hands_ok channel within t
       )
 ]
 
-pub hands_kept : (latest channel within : ℕ) (t : Take) (r : Result Take PrepareFault) → Answers (with_hands channel within t) r
-    → IsReady latest t → IfOk r (IsReady latest)
-hands_kept latest channel within t (Ok u) is ready = hands_ready latest channel within t u is ready
-hands_kept latest channel within t (Err fault) is ready = tt
+pub hands_kept : (latest channel within : ℕ) (t : Take) → IsReady latest t → IfOk (with_hands channel within t) (IsReady latest)
+hands_kept latest channel within t ready =
+    if_ok (IsReady latest) (with_hands channel within t) (λ u is. hands_ready latest channel within t u is ready)
 
 pub distinct_hands : (channel within : ℕ) (t : Take) → IsTakeFormed t
     → (free : List ℕ) (own others hands : List Note) (borders : List ℕ) (left : ℕ) → 0 < length free → free ≡ free_channels t.notes

@@ -1,6 +1,6 @@
 -- Each map keeps a take well formed.
 use Rattle.std.proofs.Common.{◌≡◌, ℕ, ◌+◌, ◌-◌, ◌*◌, ◌/◌, ◌%◌, ◌^◌, ◌<◌, ◌≤◌, eqb, Bool, true, false, not, cond, inl, inr, List, [], ◌∷◌, length, map, refl, sym, ap, ◌∙◌, subst, arith, Option, Some, None, Ok, Err}
-use Rattle.std.specs.Prelude.{All, IfOk, Result, ℤ, filter, ◌||◌, nat_lt, ◌==◌}
+use Rattle.std.specs.Prelude.{All, IfOk, ℤ, filter, ◌||◌, nat_lt, ◌==◌}
 use Rattle.std.specs.List.Sorted.{IsNonDecreasing}
 use Rattle.std.proofs.lemmas.Bool.{cases_order}
 use Rattle.std.proofs.lemmas.Bool.Decides.{nat_tests}
@@ -26,7 +26,6 @@ use Rattle.performance_load.specs.Take.{Take}
 use Rattle.performance_load.specs.Taking.{IsTakeFormed}
 use Rattle.performance_prepare.specs.Drums.{is_drum, pitched_notes, without_drums}
 use Rattle.performance_prepare.specs.Keying.{with_key}
-use Rattle.performance_prepare.specs.Outcome.{Answers}
 use Rattle.performance_prepare.specs.Meter.{power_of, with_meter}
 use Rattle.performance_prepare.specs.Ranges.{IsKey}
 use Rattle.performance_prepare.specs.Ready.{IsReady}
@@ -34,13 +33,15 @@ use Rattle.performance_prepare.specs.Shift.{IsShift, latest_mark, shifted_mark, 
 use Rattle.performance_prepare.specs.Tempo.{fine_division, fineness, finer_shift, new_division, retimed, scaled, scaled_tempo, scaled_tempos, then_retimed, with_tempo}
 use Rattle.performance_prepare.specs.Upbeat.{is_out, is_whole, placed, placed_in, ticks_of, ticks_of_bar, upbeat_shift, with_upbeat}
 use Rattle.performance_prepare.specs.declared.options.Fraction.{Fraction}
-use Rattle.performance_prepare.specs.declared.prepare_fault.PrepareFault.{PrepareFault}
 use Rattle.performance_prepare.specs.declared.prepare_fault.PrepareFault.TheVariants.{BadUpbeat, NoNotes, WrongDivision}
 use Rattle.performance_prepare.specs.declared.shift.Shift.{Shift}
-use Rattle.performance_prepare.proofs.Answered.{ends_early, timely}
+use Rattle.performance_prepare.proofs.Answered.{ends_early, if_ok, timely}
 use Rattle.performance_prepare.proofs.Fineness.{fineness_fine, finer_few}
+use Rattle.performance_prepare.proofs.Handed.{hands_kept}
 use Rattle.performance_prepare.proofs.LeastNumbers.{least_among}
+use Rattle.performance_prepare.proofs.Parting.{split_kept}
 use Rattle.performance_prepare.proofs.ShiftedTakes.{HasRoom, all_mapped, shift_formed}
+use Rattle.performance_prepare.proofs.Strummed.{strum_ready}
 
 -- ---- drums
 
@@ -74,10 +75,8 @@ drums_ready latest t u is ready = by (eqb (length (pitched_notes t.notes)) 0) re
           marks = record { tempos = ready.marks.tempos; key_marks = ready.marks.key_marks; signatures = ready.marks.signatures };
         })
 
-pub drums_kept : (latest : ℕ) (t : Take) (r : Result Take PrepareFault) → Answers (without_drums t) r → IsReady latest t
-    → IfOk r (IsReady latest)
-drums_kept latest t (Ok u) is ready = drums_ready latest t u is ready
-drums_kept latest t (Err fault) is ready = tt
+pub drums_kept : (latest : ℕ) (t : Take) → IsReady latest t → IfOk (without_drums t) (IsReady latest)
+drums_kept latest t ready = if_ok (IsReady latest) (without_drums t) (λ u is. drums_ready latest t u is ready)
 
 -- ---- meter and key
 
@@ -255,10 +254,8 @@ module _ (t : Take) (ready : IsReady 1000000000 t) where
       by true e is = absurd (cc)
       by false e is = then (unless_late (shifted_take FineShift t)) refl (out e) is
 
-pub tempo_kept : (q : ℕ) (t : Take) (r : Result Take PrepareFault) → Answers (with_tempo q t) r → IsReady LATEST_EVENT t
-    → IfOk r (IsReady latest_mark)
-tempo_kept q t (Ok u) is ready = tempo_ready t ready q u is
-tempo_kept q t (Err fault) is ready = tt
+pub tempo_kept : (q : ℕ) (t : Take) → IsReady LATEST_EVENT t → IfOk (with_tempo q t) (IsReady latest_mark)
+tempo_kept q t ready = if_ok (IsReady latest_mark) (with_tempo q t) (λ u is. tempo_ready t ready q u is)
 
 -- ---- the upbeat
 
@@ -360,7 +357,9 @@ module _ (t : Take) (formed : IsTakeFormed t) (f : Fraction) where
           let range = bar_in_range t.division s.0 s.1 bar formed.division_low formed.division_high e in
           placed_formed bar u range.0 range.1 is
 
-pub upbeat_kept : (f : Fraction) (t : Take) (r : Result Take PrepareFault) → Answers (with_upbeat f t) r → IsReady latest_mark t
-    → IfOk r IsTakeFormed
-upbeat_kept f t (Ok u) is ready = upbeat_formed t ready.formed f u is
-upbeat_kept f t (Err fault) is ready = tt
+pub upbeat_kept : (f : Fraction) (t : Take) → IsReady latest_mark t → IfOk (with_upbeat f t) IsTakeFormed
+upbeat_kept f t ready = if_ok IsTakeFormed (with_upbeat f t) (λ u is. upbeat_formed t ready.formed f u is)
+
+-- ---- the maps before the tempo
+
+pub ruleset kept = (drums_kept, split_kept, hands_kept, strum_ready, meter_ready)

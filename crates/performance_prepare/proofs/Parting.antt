@@ -1,6 +1,6 @@
 -- The notes of a split are at different places, and well formed.
 use Rattle.std.proofs.Common.{◌≡◌, ◌⊎◌, ℕ, suc, ◌+◌, ◌<◌, ◌≤◌, eqb, ltb, Bool, true, false, not, cond, inl, inr, List, [], ◌∷◌, length, map, get_or, refl, sym, ap, ◌∙◌, subst, arith, Ok, Err}
-use Rattle.std.specs.Prelude.{All, AllPairs, IfOk, Result, ◌&&◌, ◌≢◌}
+use Rattle.std.specs.Prelude.{All, AllPairs, IfOk, ◌&&◌, ◌≢◌}
 use Rattle.std.specs.List.{AllByRecursion, IsDistinct, list_all}
 use Rattle.std.specs.List.Sorted.{IsPermutation, IsSortedByKey}
 use Rattle.std.specs.Ordering.{nat_cmp}
@@ -25,11 +25,10 @@ use Rattle.rhythm_base.specs.Performance.{place_of_note}
 use Rattle.rhythm_base.specs.declared.note.Note.{Note}
 use Rattle.performance_load.specs.Take.{Take}
 use Rattle.performance_load.specs.Taking.{IsTakeFormed}
-use Rattle.performance_prepare.specs.Outcome.{Answers}
 use Rattle.performance_prepare.specs.Ready.{IsReady}
 use Rattle.performance_prepare.specs.Split.{free_channels, in_order, is_low, lower_channel, parted_note, parted_notes, sounds, spare_channels, split_channels, voice_channels, with_split}
-use Rattle.performance_prepare.specs.declared.prepare_fault.PrepareFault.{PrepareFault}
 use Rattle.performance_prepare.specs.declared.prepare_fault.PrepareFault.TheVariants.{TooManyVoices}
+use Rattle.performance_prepare.proofs.Answered.{if_ok}
 use Rattle.performance_prepare.proofs.ShiftedTakes.{all_mapped}
 
 -- ---- the spare channels
@@ -311,10 +310,8 @@ split_ready latest key t u is ready = by (ltb (length (free_channels t.notes)) (
           marks = record { tempos = ready.marks.tempos; key_marks = ready.marks.key_marks; signatures = ready.marks.signatures };
         })
 
-pub split_kept : (latest key : ℕ) (t : Take) (r : Result Take PrepareFault) → Answers (with_split key t) r → IsReady latest t
-    → IfOk r (IsReady latest)
-split_kept latest key t (Ok u) is ready = split_ready latest key t u is ready
-split_kept latest key t (Err fault) is ready = tt
+pub split_kept : (latest key : ℕ) (t : Take) → IsReady latest t → IfOk (with_split key t) (IsReady latest)
+split_kept latest key t ready = if_ok (IsReady latest) (with_split key t) (λ u is. split_ready latest key t u is ready)
 
 -- ---- what the split comes to
 

@@ -1,9 +1,16 @@
 ghost use Rattle.performance_load.specs.Taking.{AreMarksUpTo, IsTakeFormed};
+ghost use Rattle.performance_prepare.specs.Drums as drums;
+ghost use Rattle.performance_prepare.specs.Keying as keys;
+ghost use Rattle.performance_prepare.specs.Meter as meters;
 ghost use Rattle.performance_prepare.specs.Outcome.{Answers};
 ghost use Rattle.performance_prepare.specs.Prepared as maps;
 ghost use Rattle.performance_prepare.specs.Ranges.{AreInRange, IfGiven, IsFraction, IsKey, IsPace};
 ghost use Rattle.performance_prepare.specs.Ready.{IsReady};
 ghost use Rattle.performance_prepare.specs.Shift.{latest_mark};
+ghost use Rattle.performance_prepare.specs.Split as splits;
+ghost use Rattle.performance_prepare.specs.Strum as strums;
+ghost use Rattle.performance_prepare.specs.Tempo as paces;
+ghost use Rattle.performance_prepare.specs.Upbeat as upbeats;
 ghost use Rattle.rhythm_base.specs.declared.limits.TheConstants.{LATEST_EVENT};
 ghost use Rattle.std.specs.Prelude.{◌≡◌, IfOk};
 
@@ -21,10 +28,9 @@ use performance_load::Take;
 use std::alloc::Global;
 
 /// The take without drums, if it is told that they go.
-#[tactic(auto, using(crate::proofs::Kept::drums_kept))]
 fn told_drums(alloc: Global, no_drums: bool, take: Take) -> Result<Take, PrepareFault>
     requires { IsReady LATEST_EVENT take }
-    ensures answer { Answers (maps.told_drums no_drums take) result }
+    ensures answer { Answers (maps.if_told drums.without_drums no_drums take) result }
     ensures ready { IfOk result (IsReady LATEST_EVENT) }
 {
     if no_drums {
@@ -37,7 +43,7 @@ fn told_drums(alloc: Global, no_drums: bool, take: Take) -> Result<Take, Prepare
 /// The take that is split at the key, if one is told.
 fn told_split(alloc: Global, split: Option<u8>, take: Take) -> Result<Take, PrepareFault>
     requires { IsReady LATEST_EVENT take }
-    ensures answer { Answers (maps.told_split split take) result }
+    ensures answer { Answers (maps.given splits.with_split split take) result }
     ensures ready { IfOk result (IsReady LATEST_EVENT) }
 {
     match split {
@@ -67,7 +73,7 @@ fn told_hands(
     take: Take,
 ) -> Result<Take, PrepareFault>
     requires { IsReady LATEST_EVENT take }
-    ensures answer { Answers (maps.told_hands hands strum take) result }
+    ensures answer { Answers (maps.given (maps.handed_by strum) hands take) result }
     ensures ready { IfOk result (IsReady LATEST_EVENT) }
 {
     match hands {
@@ -79,7 +85,7 @@ fn told_hands(
 /// The take whose strums begin together, if their milliseconds are told.
 fn told_strum(alloc: Global, strum: Option<u8>, take: Take) -> Result<Take, PrepareFault>
     requires { IsReady LATEST_EVENT take }
-    ensures answer { Answers (maps.told_strum strum take) result }
+    ensures answer { Answers (maps.changed strums.with_strum strum take) result }
     ensures ready { IfOk result (IsReady LATEST_EVENT) }
 {
     match strum {
@@ -91,7 +97,7 @@ fn told_strum(alloc: Global, strum: Option<u8>, take: Take) -> Result<Take, Prep
 /// The take of the meter, if one is told.
 fn told_meter(alloc: Global, meter: Option<Fraction>, take: Take) -> Result<Take, PrepareFault>
     requires { IsReady LATEST_EVENT take }
-    ensures answer { Answers (maps.told_meter meter take) result }
+    ensures answer { Answers (maps.changed meters.with_meter meter take) result }
     ensures ready { IfOk result (IsReady LATEST_EVENT) }
 {
     match meter {
@@ -104,7 +110,7 @@ fn told_meter(alloc: Global, meter: Option<Fraction>, take: Take) -> Result<Take
 fn told_tempo(alloc: Global, tempo: Option<u16>, take: Take) -> Result<Take, PrepareFault>
     requires tempo { IfGiven tempo IsPace }
     requires ready { IsReady LATEST_EVENT take }
-    ensures answer { Answers (maps.told_tempo tempo take) result }
+    ensures answer { Answers (maps.given paces.with_tempo tempo take) result }
     ensures ready { IfOk result (IsReady latest_mark) }
 {
     match tempo {
@@ -117,7 +123,7 @@ fn told_tempo(alloc: Global, tempo: Option<u16>, take: Take) -> Result<Take, Pre
 fn told_upbeat(alloc: Global, upbeat: Option<Fraction>, take: Take) -> Result<Take, PrepareFault>
     requires upbeat { IfGiven upbeat IsFraction }
     requires ready { IsReady latest_mark take }
-    ensures answer { Answers (maps.told_upbeat upbeat take) result }
+    ensures answer { Answers (maps.given upbeats.with_upbeat upbeat take) result }
     ensures formed { IfOk result IsTakeFormed }
 {
     match upbeat {
@@ -130,7 +136,7 @@ fn told_upbeat(alloc: Global, upbeat: Option<Fraction>, take: Take) -> Result<Ta
 fn told_key(alloc: Global, key: Option<i8>, take: Take) -> Result<Take, PrepareFault>
     requires key { IfGiven key IsKey }
     requires formed { IsTakeFormed take }
-    ensures answer { Answers (maps.told_key key take) result }
+    ensures answer { Answers (maps.changed keys.with_key key take) result }
     ensures formed { IfOk result IsTakeFormed }
 {
     match key {
