@@ -358,7 +358,8 @@ module _ (channel within : ℕ) (t : Take) where
       go true is = let same : t ≡ u = cc (is) in inl same
       go false is = parted_free u (free_channels t.notes) refl is
 
-hands_ready : (latest channel within : ℕ) (t u : Take) → with_hands channel within t ≡ Ok u → IsReady latest t → IsReady latest u
+hands_ready : (latest channel within : ℕ) (t u : Take) → with_hands channel within t ≡ Ok u → IsReady latest t
+    → IsReady latest u
 hands_ready latest channel within t u is ready = elim (hands_ok channel within t u is) [
   | inl same ↦ subst (IsReady latest) same ready
   | inr h ↦ (
@@ -370,7 +371,8 @@ hands_ready latest channel within t u is ready = elim (hands_ok channel within t
       )
 ]
 
-pub hands_kept : (latest channel within : ℕ) (t : Take) → IsReady latest t → IfOk (with_hands channel within t) (IsReady latest)
+pub hands_kept : (latest channel within : ℕ) (t : Take) → IsReady latest t
+    → IfOk (with_hands channel within t) (IsReady latest)
 hands_kept latest channel within t ready =
     if_ok (IsReady latest) (with_hands channel within t) (λ u is. hands_ready latest channel within t u is ready)
 

@@ -27,30 +27,30 @@ lead_on : (P : Take → Type 0) (m : Result Take PrepareFault) (next : Take → 
 lead_on P (Ok t) next is each = each t is
 lead_on P (Err fault) next is each = record { has = λ u e. absurd (cc) }
 
-abbrev IsEarly : Take → Type 0
-IsEarly = IsReady LATEST_EVENT
+-- ---- each map that keeps a take ready
 
--- ---- before the tempo, each map that keeps a take ready
+if_told_then : (latest : ℕ) (map : Take → Result Take PrepareFault) (b : Bool) (t : Take)
+    (next : Take → Result Take PrepareFault) → IsReady latest t
+    → ((t : Take) → IsReady latest t → IfOk (map t) (IsReady latest))
+    → ((u : Take) → IsReady latest u → GivesFormed (next u)) → GivesFormed (if_told map b t >>= next)
+if_told_then latest map false t next ready kept each = each t ready
+if_told_then latest map true t next ready kept each = lead_on (IsReady latest) (map t) next (kept t ready) each
 
-if_told_then : (map : Take → Result Take PrepareFault) (b : Bool) (t : Take) (next : Take → Result Take PrepareFault)
-    → ((t : Take) → IsEarly t → IfOk (map t) IsEarly) → IsEarly t
-    → ((u : Take) → IsEarly u → GivesFormed (next u)) → GivesFormed (if_told map b t >>= next)
-if_told_then map false t next kept ready each = each t ready
-if_told_then map true t next kept ready each = lead_on IsEarly (map t) next (kept t ready) each
+given_then : {X : Type 0} (latest : ℕ) (map : X → Take → Result Take PrepareFault) (o : Option X) (t : Take)
+    (next : Take → Result Take PrepareFault) → IsReady latest t
+    → ((x : X) (t : Take) → IsReady latest t → IfOk (map x t) (IsReady latest))
+    → ((u : Take) → IsReady latest u → GivesFormed (next u)) → GivesFormed (given map o t >>= next)
+given_then latest map None t next ready kept each = each t ready
+given_then latest map (Some x) t next ready kept each = lead_on (IsReady latest) (map x t) next (kept x t ready) each
 
-given_then : {X : Type 0} (map : X → Take → Result Take PrepareFault) (o : Option X) (t : Take) (next : Take → Result Take PrepareFault)
-    → ((x : X) (t : Take) → IsEarly t → IfOk (map x t) IsEarly) → IsEarly t
-    → ((u : Take) → IsEarly u → GivesFormed (next u)) → GivesFormed (given map o t >>= next)
-given_then map None t next kept ready each = each t ready
-given_then map (Some x) t next kept ready each = lead_on IsEarly (map x t) next (kept x t ready) each
+changed_then : {X : Type 0} (latest : ℕ) (map : X → Take → Take) (o : Option X) (t : Take)
+    (next : Take → Result Take PrepareFault) → IsReady latest t
+    → ((x : X) (t : Take) → IsReady latest t → IsReady latest (map x t))
+    → ((u : Take) → IsReady latest u → GivesFormed (next u)) → GivesFormed (changed map o t >>= next)
+changed_then latest map None t next ready kept each = each t ready
+changed_then latest map (Some x) t next ready kept each = each (map x t) (kept x t ready)
 
-changed_then : {X : Type 0} (map : X → Take → Take) (o : Option X) (t : Take) (next : Take → Result Take PrepareFault)
-    → ((x : X) (t : Take) → IsEarly t → IsEarly (map x t)) → IsEarly t
-    → ((u : Take) → IsEarly u → GivesFormed (next u)) → GivesFormed (changed map o t >>= next)
-changed_then map None t next kept ready each = each t ready
-changed_then map (Some x) t next kept ready each = each (map x t) (kept x t ready)
-
--- ---- from the tempo on
+-- ---- the others
 
 later : (t : Take) → IsReady LATEST_EVENT t → IsReady latest_mark t
 later t ready = record {
@@ -62,7 +62,7 @@ later t ready = record {
   };
 }
 
-tempo_then : (o : Option ℕ) (t : Take) (next : Take → Result Take PrepareFault) → IsEarly t
+tempo_then : (o : Option ℕ) (t : Take) (next : Take → Result Take PrepareFault) → IsReady LATEST_EVENT t
     → ((u : Take) → IsReady latest_mark u → GivesFormed (next u)) → GivesFormed (given with_tempo o t >>= next)
 tempo_then None t next ready each = each t (later t ready)
 tempo_then (Some q) t next ready each = lead_on (IsReady latest_mark) (with_tempo q t) next (tempo_kept q t ready) each
@@ -79,9 +79,10 @@ key_last (Some sf) t key formed =
 
 -- ---- all of them: each map is a step of the search
 
-all_formed : (o : Options) (t : Take) → AreInRange o → IsEarly t → GivesFormed (prepared o t)
+all_formed : (o : Options) (t : Take) → AreInRange o → IsReady LATEST_EVENT t → GivesFormed (prepared o t)
 all_formed o t range ready =
     search (if_told_then, given_then, changed_then, kept, tempo_then, upbeat_then, key_last) depth 30 fits 8000
 
-pub prepared_formed : (o : Options) (t u : Take) → AreInRange o → IsReady LATEST_EVENT t → prepared o t ≡ Ok u → IsTakeFormed u
+pub prepared_formed : (o : Options) (t u : Take) → AreInRange o → IsReady LATEST_EVENT t → prepared o t ≡ Ok u
+    → IsTakeFormed u
 prepared_formed o t u range ready = (all_formed o t range ready).has u

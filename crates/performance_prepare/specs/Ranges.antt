@@ -58,4 +58,13 @@ is_told o =
 -- nothing is told
 abbrev pub no_options : Options
 no_options =
-    record { no_drums = false; split = None; hands = None; strum = None; meter = None; tempo = None; upbeat = None; key = None }
+    record {
+      no_drums = false;
+      split = None;
+      hands = None;
+      strum = None;
+      meter = None;
+      tempo = None;
+      upbeat = None;
+      key = None;
+    }
