@@ -11,7 +11,6 @@ mod score;
 mod trying;
 
 pub use candidates::{Candidate, Candidates, MOST_CANDIDATES};
-pub use edit_session::ScoreFault;
 pub use fit::best_barline;
 pub use fit_fault::FitFault;
 pub use fitted::Fitted;
@@ -20,3 +19,4 @@ pub use laws::{
     reached_sums_are_one,
 };
 pub use score::fitted_score;
+pub use session_text::ScoreFault;

@@ -4,10 +4,11 @@ ghost use Rattle.std.specs.Prelude.{◌≡◌, ◌≢◌, ◌≤◌, ℕ, Err, I
 
 use crate::candidates::Candidate;
 use carry_matrix::Steps as Products;
-use edit_session::{ScoreFault, Session};
+use edit_session::Session;
 use least_cost::Steps as Builds;
 use rhythm_base::{Edit, EditFault, Tag};
 use rhythm_ports::{Gate, Means};
+use session_text::{KernText, ScoreFault};
 use std::thread::Threads;
 
 /// The **kern text of the least derivations with the barline at a tick where it can be set, as at a fitted one. The session is as before

@@ -6,7 +6,8 @@ ghost use Rattle.std.specs.Prelude.{◌≡◌, ℕ, Err, IfOk, Ok};
 
 use crate::drill_stop::DrillStop;
 use crate::figures::{Figures, text_of};
-use edit_session::{ScoreFault, Session};
+use edit_session::Session;
+use session_text::{KernText, ScoreFault};
 use std::alloc::Global;
 
 /// What stops a drill whose score is not written.

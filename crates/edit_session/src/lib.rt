@@ -26,7 +26,6 @@ mod voice_tables;
 pub use ask_fault::AskFault;
 pub use bar_alternatives::Alternative;
 pub use committed::{Applied, Committed, Dead};
-pub use kern_writer::ScoreFault;
 pub use laws::openings_are_one;
 pub use open_fault::OpenFault;
 pub use prepared::{CellTable, Prepared};

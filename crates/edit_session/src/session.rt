@@ -20,14 +20,12 @@ ghost use Rattle.edit_session.specs.Opening.{CanOpen, IsBuilt, IsOpenFault, cell
 ghost use Rattle.edit_session.specs.declared.open_fault.OpenFault.TheVariants.{Cells, Memory, NoDerivation, NoStart};
 ghost use Rattle.derivation.specs.PerformanceScore.{IsScoreOf, score_bar};
 ghost use Rattle.derivation.specs.Score.{IsScore};
-ghost use Rattle.kern_writer.specs.PerformanceText.{HasTooLongText, IsTextOf};
-ghost use Rattle.kern_writer.specs.declared.fault.ScoreFault.TheVariants.{TooLong};
 ghost use Rattle.rhythm_base.specs.Counter.{risen};
 ghost use Rattle.rhythm_base.specs.Performance.{IsWellFormed};
 ghost use Rattle.rhythm_base.specs.Readable.{IsReadable};
 ghost use Rattle.tree_laws.specs.Alternatives.{AreBestOfBar};
 ghost use Rattle.rhythm_base.specs.Voices.{HasDerivation, HasStarts, IsCostOf};
-ghost use Rattle.rhythm_base.specs.declared.limits.TheConstants.{LONGEST_SCORE, MOST_BARS, MOST_CELLS, MOST_NOTES};
+ghost use Rattle.rhythm_base.specs.declared.limits.TheConstants.{MOST_BARS, MOST_CELLS, MOST_NOTES};
 ghost use Rattle.edit_session.specs.Prepared.{RisesBy, Suits, bar_table_of, cell_of};
 ghost use Rattle.edit_session.specs.Products.{changes_made};
 ghost use Rattle.edit_session.specs.ReachedCells.{place_pair};
@@ -57,7 +55,6 @@ use bar_pool::{Order, Rooms, build_cells};
 use carry_matrix::Steps as Products;
 use derivation::{Score, ScoreBar};
 use grammar_plan::Plan;
-use kern_writer::{ScoreFault, write_kern};
 use least_cost::Steps as Builds;
 use performance_edit::edited;
 use rhythm_base::{Edit, EditFault, Grammar, Performance, Tag};
@@ -145,17 +142,7 @@ impl Session {
         total_of(self.voices.as_slice())
     }
 
-    /// The **kern text of the least derivation of each voice.
-    pub fn score(&self, alloc: Global) -> Result<Vec<u8>, ScoreFault>
-        ensures text { IfOk result (λ v. IsTextOf self.now.grammar self.now.performance v.items) }
-        ensures short { IfOk result (λ v. length v.items ≤ LONGEST_SCORE) }
-        ensures too_long { (line : ℕ) → result ≡ Err (TooLong line) → HasTooLongText self.now.grammar self.now.performance line }
-    {
-        let score = self.whole_score(alloc)?;
-        write_kern(alloc, &score)
-    }
-
-    /// The score itself: the sounds of the least derivation of each voice, with the signatures, tempos and keys of the bars. It is what
+    /// The score: the sounds of the least derivation of each voice, with the signatures, tempos and keys of the bars. It is what
     /// the writers of other forms take.
     pub fn whole_score(&self, alloc: Global) -> Result<Score, AllocError>
         ensures score { IfOk result (λ score. IsScoreOf self.now.grammar self.now.performance score) }

@@ -9,6 +9,7 @@ use least_cost::Steps as Builds;
 use performance_load::load;
 use rhythm_base::{Grammar, Performance, Tag};
 use rhythm_ports::{Gate, Means};
+use session_text::KernText;
 use smf_reader::{Smf, read_smf};
 use std::alloc::Global;
 use std::thread::Threads;

@@ -27,6 +27,7 @@ use lily_writer::write_lily;
 use musicxml_writer::write_musicxml;
 use page_writer::write_page;
 use rhythm_base::{Grammar, Performance};
+use session_text::KernText;
 use smf_writer::{RenderFault, render};
 use std::alloc::Global;
 use voice_events::events_of;

@@ -17,10 +17,11 @@ ghost use Rattle.std.specs.Prelude.{◌≡◌, ◌≢◌, ◌≤◌, ◌↔◌, 
 use crate::shown::all_shown;
 use carry_matrix::Steps as Products;
 use edit_script::{Command, LineFault, Refusal, Reply, read_line};
-use edit_session::{Alternative, Applied, AskFault, ScoreFault, Session};
+use edit_session::{Alternative, Applied, AskFault, Session};
 use least_cost::Steps as Builds;
 use rhythm_base::{Edit, EditFault, Tag};
 use rhythm_ports::{Gate, Means};
+use session_text::{KernText, ScoreFault};
 use std::alloc::Global;
 use std::thread::Threads;
 

@@ -7,6 +7,7 @@ use least_cost::Steps as Builds;
 use rhythm_base::{Edit, EditFault};
 use rhythm_ports::{Means, OpenGate};
 use sample_grammars::USUAL;
+use session_text::KernText;
 use std::alloc::{AllocError, Global};
 use std::test::Fail;
 use std::thread::Threads;

@@ -4,12 +4,13 @@ ghost use Rattle.session_tests.specs.EditedScore.{IsEditedScore};
 ghost use Rattle.std.specs.Prelude.{◌≤◌, IfOk, length};
 
 use carry_matrix::Steps as Products;
-use edit_session::{OpenFault, ScoreFault, Session};
+use edit_session::{OpenFault, Session};
 use grammar_file::{GrammarFault, read_grammar};
 use least_cost::Steps as Builds;
 use performance_load::{LoadFault, load};
 use rhythm_base::{Edit, EditFault, Tag};
 use rhythm_ports::{Means, OpenGate};
+use session_text::{KernText, ScoreFault};
 use smf_reader::{SmfFault, read_smf};
 use std::alloc::Global;
 use std::thread::Threads;
