@@ -1,5 +1,5 @@
 -- What is asked for tells of a take only what is in range.
-use Rattle.std.proofs.Common.{◌≡◌, ℕ, Bool, true, false, List, [], ◌∷◌, Option, Some, None, refl}
+use Rattle.std.proofs.Common.{◌≡◌, ℕ, Bool, true, false, List, [], ◌∷◌, ◌++◌, map, Option, Some, None, refl}
 use Rattle.std.specs.Prelude.{IfSome, length, if◌then◌else◌, nat_eq, nat_le, option_and_then, option_map, slice_get}
 use Rattle.std.specs.Cmp.Lexicographic.{pointwise}
 use Rattle.barline_fit.specs.declared.candidates.Candidates.{Candidates}
@@ -12,9 +12,9 @@ use Rattle.command_line.specs.declared.invocation.Invocation.TheVariants.{Help, 
 use Rattle.performance_prepare.specs.Ranges.{AreInRange, is_told}
 use Rattle.performance_prepare.specs.declared.options.Options.{Options}
 use Rattle.rhythm_app.specs.Inputs.{Inputs}
-use Rattle.rhythm_app.specs.Asked.{Asked, Call, answer, asked_by, asked_of, at_word, calls, candidate_count, candidates_by, drill, drill_by, events, fit, command_by, fit_by, fit_of, follow, generate, generate_by, inputs_named, learn, learn_by, learn_of, notes, of_inputs, of_one, of_six, of_two, too_many_candidates, too_many_files, unscripted, untold, write}
+use Rattle.rhythm_app.specs.Asked.{Asked, Call, answer, asked_by, asked_of, at_word, calls, candidate_count, candidates_by, drill, drill_by, events, fit, command_by, fit_by, fit_of, follow, form_call, forms, generate, generate_by, inputs_named, learn, learn_by, learn_of, notes, of_inputs, of_one, of_six, of_two, other_calls, too_many_candidates, too_many_files, unscripted, untold, write}
 use Rattle.rhythm_app.specs.declared.learn.TheConstants.{MOST_FILES}
-use Rattle.rhythm_app.specs.declared.request.Form.TheVariants as form
+use Rattle.rhythm_app.specs.declared.request.Form.{Form}
 use Rattle.rhythm_app.specs.declared.request.Talk.TheVariants as talk
 use Rattle.weight_learning.specs.declared.weights.TheConstants.{HEAVIEST_BIT}
 
@@ -125,9 +125,16 @@ module _ (o : Options) (script : Option (List ℕ)) (range : AreInRange o) where
   AreCallsIn [] = Unit {0}
   AreCallsIn (c ∷ cs) = IsCallIn c × AreCallsIn cs
 
+  each_other : AreCallsIn other_calls
+  each_other =
+      (of_range (answer talk.Editing) (λ i h. h), (of_range (answer talk.Studio) (λ i h. h), (fits_in, (of_range follow (λ i h. h), ((λ words. untold_in o script (learn_by words) (learn_in words)), ((λ words. unscripted_in script (of_one (λ a. Some (notes a o)) words) (one_in (λ a. Some (notes a o)) (λ a. range) words)), ((λ words. untold_in o script (of_one (λ a. Some (events a)) words) (one_in (λ a. Some (events a)) (λ a. tt) words)), ((λ words. untold_in o script (of_two generate_by words) (two_in generate_by generate_in words)), ((λ words. untold_in o script (of_two drill_by words) (two_in drill_by (λ number grammar. map_in (λ (n : ℕ). drill n grammar) (λ n. tt) (number_in 0 65534 number)) words)), tt)))))))))
+
+  each_form : (named : List (List ℕ × Form)) → AreCallsIn (map form_call named ++ other_calls)
+  each_form [] = each_other
+  each_form (n ∷ named) = (of_range (write n.1) (λ i h. h), each_form named)
+
   each_call : AreCallsIn calls
-  each_call =
-      (of_range (write form.Score) (λ i h. h), (of_range (write form.LilyPond) (λ i h. h), (of_range (write form.Page) (λ i h. h), (of_range (write form.MusicXml) (λ i h. h), (of_range (write form.Rendered) (λ i h. h), (of_range (answer talk.Editing) (λ i h. h), (of_range (answer talk.Studio) (λ i h. h), (fits_in, (of_range follow (λ i h. h), ((λ words. untold_in o script (learn_by words) (learn_in words)), ((λ words. unscripted_in script (of_one (λ a. Some (notes a o)) words) (one_in (λ a. Some (notes a o)) (λ a. range) words)), ((λ words. untold_in o script (of_one (λ a. Some (events a)) words) (one_in (λ a. Some (events a)) (λ a. tt) words)), ((λ words. untold_in o script (of_two generate_by words) (two_in generate_by generate_in words)), ((λ words. untold_in o script (of_two drill_by words) (two_in drill_by (λ number grammar. map_in (λ (n : ℕ). drill n grammar) (λ n. tt) (number_in 0 65534 number)) words)), tt))))))))))))))
+  each_call = each_form forms
 
   at_word_in : (word : List ℕ) (more : List (List ℕ)) (cs : List Call) → AreCallsIn cs → HasOptionsIn (at_word (λ c. c.asked o script more) word cs)
   at_word_in word more [] each = tt

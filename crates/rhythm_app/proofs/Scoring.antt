@@ -1,12 +1,12 @@
 -- What the score of a performance and a grammar comes to, and a session on it.
 use Rattle.rhythm_base.specs.Counter.{risen}
-use Rattle.std.proofs.Common.{◌≡◌, ◌≤◌, ◌⊎◌, ℕ, arith, refl, inl, inr, subst, sym, Err}
+use Rattle.std.proofs.Common.{◌≡◌, ◌≤◌, ◌⊎◌, ℕ, ap, arith, refl, inl, inr, subst, sym, Result, Ok, Err}
 use Rattle.edit_session.specs.Opening.{CanOpen, IsBuilt, IsOpenFault}
 use Rattle.edit_session.specs.declared.open_fault.OpenFault.{OpenFault}
 use Rattle.edit_session.specs.declared.open_fault.OpenFault.TheVariants as opening
 use Rattle.barline_fit.specs.declared.candidates.Candidates.{Candidates}
 use Rattle.kern_writer.specs.PerformanceText.{HasTooLongText}
-use Rattle.rhythm_app.specs.Outcome.{IsAnswering, IsFitting, IsTooLongToWrite, IsUnopened, IsWriting, open_stop}
+use Rattle.rhythm_app.specs.Outcome.{IsAnswering, IsFitting, IsTooLongToWrite, IsUnopened, IsWriting, open_stop, or_stop}
 use Rattle.rhythm_app.specs.declared.request.Form.{Form}
 use Rattle.rhythm_app.specs.declared.request.Talk.{Talk}
 use Rattle.rhythm_app.specs.Builds.{MatchBuilds}
@@ -43,3 +43,8 @@ open_rises old new cells (opening.Cells count) h = omega (arith, h)
 open_rises old new cells (opening.NoStart bar num den) h = omega (arith, h)
 open_rises old new cells (opening.NoDerivation channel bar) h = omega (arith, h)
 open_rises old new cells opening.Memory h = h.0
+
+-- what is made without a stop is made without a fault
+pub or_stop_made : {T E : Type 0} (f : E → Stop) (r : Result T E) (x : T) → (let q : Result T Stop = Ok x in q) ≡ or_stop f r → (let o : Result T E = Ok x in r ≡ o)
+or_stop_made f (Ok y) x same = let e : x ≡ y = cc in ap (λ z. Ok z) (sym e)
+or_stop_made f (Err fault) x same = absurd (cc)

@@ -1,16 +1,24 @@
 -- A word has words after it where, and only where, it is that of a command.
-use Rattle.std.proofs.Common.{ℕ, List, [], ◌∷◌, codes, nat_eq, Bool, true, false, if◌then◌else◌, Some, None, IsSome, ◌≡◌, ◌↔◌, refl}
+use Rattle.std.proofs.Common.{ℕ, List, [], ◌∷◌, ◌++◌, codes, map, nat_eq, Bool, true, false, if◌then◌else◌, Some, None, IsSome, ◌≡◌, ◌↔◌, refl}
 use Rattle.std.specs.Cmp.Lexicographic.{pointwise}
 use Rattle.performance_prepare.specs.Laws.{no_options}
-use Rattle.rhythm_app.specs.Asked.{Call, IsCommandWord, at_word, calls, words_after}
+use Rattle.rhythm_app.specs.Asked.{Call, IsCommandWord, at_word, calls, form_call, forms, other_calls, words_after}
+use Rattle.rhythm_app.specs.declared.request.Form.{Form}
 
 -- by each call something is asked for by some words
 abbrev HaveWords : List Call → Type 0
 HaveWords [] = Unit {0}
 HaveWords (c ∷ more) = ((words : List (List ℕ)) × IsSome (c.asked no_options None words)) × HaveWords more
 
+others_have_words : HaveWords other_calls
+others_have_words = (([] ∷ [] ∷ [], refl), (([] ∷ [] ∷ [], refl), (([] ∷ [] ∷ codes "0" ∷ codes "0" ∷ codes "0" ∷ codes "1" ∷ [], refl), (([] ∷ [] ∷ [], refl), ((codes "1" ∷ [] ∷ [] ∷ [], refl), (([] ∷ [], refl), (([] ∷ [], refl), ((codes "0" ∷ codes "1" ∷ [], refl), ((codes "0" ∷ [] ∷ [], refl), tt)))))))))
+
+forms_have_words : (named : List (List ℕ × Form)) → HaveWords (map form_call named ++ other_calls)
+forms_have_words [] = others_have_words
+forms_have_words (n ∷ named) = (([] ∷ [] ∷ [], refl), forms_have_words named)
+
 calls_have_words : HaveWords calls
-calls_have_words = (([] ∷ [] ∷ [], refl), (([] ∷ [] ∷ [], refl), (([] ∷ [] ∷ [], refl), (([] ∷ [] ∷ [], refl), (([] ∷ [] ∷ [], refl), (([] ∷ [] ∷ [], refl), (([] ∷ [] ∷ [], refl), (([] ∷ [] ∷ codes "0" ∷ codes "0" ∷ codes "0" ∷ codes "1" ∷ [], refl), (([] ∷ [] ∷ [], refl), ((codes "1" ∷ [] ∷ [] ∷ [], refl), (([] ∷ [], refl), (([] ∷ [], refl), ((codes "0" ∷ codes "1" ∷ [], refl), ((codes "0" ∷ [] ∷ [], refl), tt))))))))))))))
+calls_have_words = forms_have_words forms
 
 none_is_some : false ≡ true → ⊥
 none_is_some e = cc

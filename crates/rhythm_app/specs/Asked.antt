@@ -1,6 +1,6 @@
 -- What the words of a command line ask for.
 use Rattle.rhythm_base.specs.declared.limits.TheConstants.{LATEST_TICK, MOST_BARS}
-use Rattle.std.specs.Prelude.{ℕ, ◌+◌, ◌-◌, ◌/◌, ◌<◌, nat_eq, nat_le, List, [], ◌∷◌, codes, if◌then◌else◌, Option, Some, None, option_and_then, option_map, IsSome, length, drop, slice_get, ◌≤◌, ⊤}
+use Rattle.std.specs.Prelude.{ℕ, ◌+◌, ◌-◌, ◌/◌, ◌<◌, nat_eq, nat_le, List, [], ◌∷◌, ◌++◌, codes, if◌then◌else◌, map, Option, Some, None, option_and_then, option_map, IsSome, length, drop, slice_get, ◌≤◌, ⊤}
 use Rattle.std.specs.Cmp.Lexicographic.{pointwise}
 use Rattle.barline_fit.specs.declared.candidates.Candidates.{Candidates}
 use Rattle.barline_fit.specs.declared.candidates.TheConstants.{MOST_CANDIDATES}
@@ -125,15 +125,24 @@ pub record Call : Type 0 where
 abbrev pub call : List ℕ → List ℕ → (Options → Option (List ℕ) → List (List ℕ) → Option Asked) → Call
 call word after asked = record { word = word; after = after; asked = asked }
 
--- the commands
-abbrev pub calls : List Call
-calls =
-    call (codes "transcribe") (codes "MIDI GRAMMAR") (of_inputs (write form.Score))
-    ∷ call (codes "lily") (codes "MIDI GRAMMAR") (of_inputs (write form.LilyPond))
-    ∷ call (codes "page") (codes "MIDI GRAMMAR") (of_inputs (write form.Page))
-    ∷ call (codes "musicxml") (codes "MIDI GRAMMAR") (of_inputs (write form.MusicXml))
-    ∷ call (codes "render") (codes "MIDI GRAMMAR") (of_inputs (write form.Rendered))
-    ∷ call (codes "edit") (codes "MIDI GRAMMAR") (of_inputs (answer talk.Editing))
+-- the words of what a session is written as
+abbrev pub forms : List (List ℕ × Form)
+forms =
+    (codes "transcribe", form.Score)
+    ∷ (codes "lily", form.LilyPond)
+    ∷ (codes "page", form.Page)
+    ∷ (codes "musicxml", form.MusicXml)
+    ∷ (codes "render", form.Rendered)
+    ∷ []
+
+-- the command that writes a session on MIDI and GRAMMAR in a form
+abbrev pub form_call : List ℕ × Form → Call
+form_call named = call named.0 (codes "MIDI GRAMMAR") (of_inputs (write named.1))
+
+-- the commands that write no session
+abbrev pub other_calls : List Call
+other_calls =
+    call (codes "edit") (codes "MIDI GRAMMAR") (of_inputs (answer talk.Editing))
     ∷ call (codes "studio") (codes "MIDI GRAMMAR") (of_inputs (answer talk.Studio))
     ∷ call (codes "fit") (codes "MIDI GRAMMAR BAR LOW HIGH STEP, with BAR from 0 to 4096, LOW and HIGH from 0 to 2000000000, LOW no more than HIGH, and STEP from 1 to 2000000000") (λ o script. of_six (fit_by o script))
     ∷ call (codes "follow") (codes "MIDI GRAMMAR") (of_inputs follow)
@@ -143,6 +152,10 @@ calls =
     ∷ call (codes "generate") (codes "NUMBER BARS, with NUMBER from 0 to 65534 and BARS from 1 to 2000") (λ o script words. untold o script (of_two generate_by words))
     ∷ call (codes "drill") (codes "NUMBER GRAMMAR, with NUMBER from 0 to 65534") (λ o script words. untold o script (of_two drill_by words))
     ∷ []
+
+-- the commands
+abbrev pub calls : List Call
+calls = map form_call forms ++ other_calls
 
 -- what the call of this word has
 abbrev pub at_word : {X : Type 0} → (Call → Option X) → List ℕ → List Call → Option X
@@ -195,6 +208,10 @@ shown_request (request.Notes midi options) = notes midi.now options
 shown_request (request.Events kern) = events kern.now
 shown_request (request.Generate number bars) = generate number bars
 shown_request (request.Drill number grammar) = drill number grammar.now
+
+-- the same, where there is one
+abbrev pub shown_asked : Option Request → Option Asked
+shown_asked asked = option_map shown_request asked
 
 -- a text is asked for, and no answer to a script
 abbrev pub AsksForText : Request → Type 0

@@ -1,5 +1,6 @@
 -- The commands, a row each: the files that it reads, what it comes to by their bytes, and which cells it builds.
 use Rattle.std.specs.Prelude.{◌≡◌, ◌≢◌, ℕ, Bool, true, false, List, [], ◌∷◌, All, map, Result, Ok, Err, Option, Some, None, ⊤}
+use Rattle.std.specs.Option.{ForSome}
 use Rattle.command_line.specs.Texts.{help_text, version_text}
 use Rattle.barline_fit.specs.declared.candidates.Candidates.{Candidates}
 use Rattle.rhythm_app.specs.Asked.{Asked, help, version, write, answer, fit, learn, too_many_candidates, too_many_files, follow, notes, events, generate, drill, asked_by}
@@ -105,6 +106,10 @@ ReadsNoScript _ = ⊤
 -- the files have each of these names
 abbrev pub HaveNames : List File → List Named → Type 0
 HaveNames files reads = All (λ (it : Named). file_of files it.name ≢ None) reads
+
+-- where the files have these, no name was opened that they have not
+abbrev pub AreOpenedAlone : Option (List File) → List Named → (before after : ℕ) → Type 0
+AreOpenedAlone files reads before after = ForSome files (λ files. HaveNames files reads → after ≡ before)
 
 -- they have those of the inputs
 abbrev pub HaveInputs : List File → Inputs → Type 0

@@ -31,6 +31,8 @@ use Rattle.kern_reader.specs.Outcome.{score_of}
 use Rattle.kern_reader.specs.Score.{KernColumns}
 use Rattle.voice_events.specs.declared.event.KernEvent.{KernEvent}
 use Rattle.kern_writer.specs.PerformanceText.{HasTooLongText, IsTextOf}
+use Rattle.kern_writer.specs.declared.fault.ScoreFault.{ScoreFault}
+use Rattle.kern_writer.specs.declared.fault.ScoreFault.TheVariants as scoring
 use Rattle.lily_writer.specs.Text.{IsLilyText}
 use Rattle.musicxml_writer.specs.Text.{IsMusicXml}
 use Rattle.note_list.specs.declared.fault.NoteFault.{NoteFault}
@@ -181,6 +183,16 @@ open_stop opening.Memory = stop.Memory
 -- no session is opened
 abbrev pub IsUnopened : Grammar → Performance → Stop → Type 0
 IsUnopened g p s = (fault : OpenFault) × IsOpenFault g p fault × (fault ≢ opening.Memory) × (s ≡ open_stop fault)
+
+-- what is made, or the stop of the fault for which it is not
+abbrev pub or_stop : {T E : Type 0} → (E → Stop) → Result T E → Result T Stop
+or_stop stop (Ok made) = Ok made
+or_stop stop (Err fault) = Err (stop fault)
+
+-- a fault of the text of a score as a stop
+abbrev pub score_stop : ScoreFault → Stop
+score_stop (scoring.TooLong line) = stop.ScoreTooLong line
+score_stop scoring.Memory = stop.Memory
 
 -- a session is opened, and its score is too long
 abbrev pub IsTooLongToWrite : Grammar → Performance → Stop → Type 0

@@ -16,7 +16,7 @@ use Rattle.rhythm_ports.specs.Files.{File, file_of}
 use Rattle.rhythm_app.specs.Asked.{Asked}
 use Rattle.rhythm_app.specs.Builds.{AreBuiltToLine, AreLoadedBuilt, ArePartlyBuilt, HasBuilt, HasBuiltAll, OfInputs, OfLoaded}
 use Rattle.rhythm_app.specs.Commands.{HasNames, HasOutcomeOf, HaveNames, cells_of_asked, input_files, no_cells}
-use Rattle.rhythm_app.specs.Ends.{AppendsPart, IsCauseOf, IsReadFailure}
+use Rattle.rhythm_app.specs.Ends.{AppendsPart, IsCauseOf, IsPerformed, IsReadFailure}
 use Rattle.rhythm_app.specs.Inputs.{Inputs, file_content}
 use Rattle.rhythm_app.specs.Lent.{Lent}
 use Rattle.rhythm_app.specs.Outcome.{AreInTurn, AreInputs, AreLoaded, IsOpening, IsScripted, IsUnderstood, Loaded, Ready, loaded, refused_stop, say, serve}
@@ -232,6 +232,11 @@ pub record HasText {S O E A : Type 0} (asked : Option Asked) (old new : Lent S O
   pub text : IfOk result (λ v. ForSome old.files (λ files. HasOutcomeOf asked files (Ok (say v.items))))
   pub all : IfOk result (λ _. ForSome old.files (λ files. HasBuiltAll (cells_of_asked asked) files old.built new.built))
   pub before : IsStoppedBefore asked old new result
+
+-- what is asked for is done, whatever it is, where its text was had before
+abbrev pub IsFinished : {S O E A T : Type 0} → Result (Vec ℕ A) Stop → (old new : Lent S O E) → Result T Stop → Type 0
+IsFinished {S} {O} {E} text old new result =
+    (asked : Option Asked) (before : Lent S O E) → HasText asked before old text → IsPerformed asked before new result
 
 -- the session that answers a script is had, and all its cells are built
 pub record HasSession {S O E : Type 0} (asked : Option Asked) (talk : Talk) (old new : Lent S O E) (result : Result Session Stop) : Type 0 where

@@ -1,5 +1,5 @@
 ghost use Rattle.rhythm_app.specs.Counting.{IsOfMidi};
-ghost use Rattle.rhythm_app.specs.Commands.{HaveNames, script_file};
+ghost use Rattle.rhythm_app.specs.Commands.{AreOpenedAlone, script_file};
 ghost use Rattle.rhythm_app.specs.Inputs.{file_content, shown_name};
 ghost use Rattle.rhythm_app.specs.Outcome.{IsRead, IsScoreRead, IsScriptRead, IsUnderstood, limit_of, sized, stopped};
 ghost use Rattle.rhythm_app.specs.Stages.{EndsBy, Follows, IsEarly, IsOfContent, IsUnread, items_of};
@@ -148,7 +148,7 @@ pub fn script_of<F: Shelf>(
     ensures end { IfErr result (EndsBy kind.ScriptFile (F.faults shelf.old) (F.faults shelf.new)) }
     ensures later { F.faults shelf.old ≤ F.faults shelf.new }
     ensures files { F.files shelf.new ≡ F.files shelf.old }
-    ensures strays { ForSome (F.files shelf.old) (λ files. HaveNames files (script_file (shown_name name.entry)) → F.strays shelf.new ≡ F.strays shelf.old) }
+    ensures strays { AreOpenedAlone (F.files shelf.old) (script_file (shown_name name.entry)) (F.strays shelf.old) (F.strays shelf.new) }
 {
     match name {
         None => Ok(Vec::new(alloc)),

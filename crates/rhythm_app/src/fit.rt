@@ -12,7 +12,7 @@ ghost use Rattle.performance_prepare.specs.Ranges.{AreInRange};
 ghost use Rattle.rhythm_app.specs.Asked.{AreCandidates, fit};
 ghost use Rattle.rhythm_app.specs.Builds.{HasFitted, HasFittedOver};
 ghost use Rattle.rhythm_app.specs.Inputs.{shown_inputs};
-ghost use Rattle.rhythm_app.specs.Outcome.{IsFitting, IsUnscored, fit_line, fit_stop, fit_text, fitted_at};
+ghost use Rattle.rhythm_app.specs.Outcome.{IsFitting, IsUnscored, fit_line, fit_text, fitted_at};
 ghost use Rattle.rhythm_app.specs.Stages.{CountsUp, Follows, HasText, IsOfContent, said_of};
 ghost use Rattle.rhythm_app.specs.declared.stop.Stop.TheVariants as stop;
 ghost use Rattle.rhythm_base.specs.Counter.{risen};
@@ -20,28 +20,16 @@ ghost use Rattle.rhythm_base.specs.Readable.{IsReadable};
 ghost use Rattle.rhythm_base.specs.declared.limits.TheConstants.{MOST_NOTES};
 ghost use Rattle.std.specs.Prelude.{◌≡◌, ◌≢◌, ◌≤◌, ℕ, List, Err, IfErr, IfOk, Ok, OnOk, Some, length};
 
+use crate::faults::{fitted_or_stop, score_or_stop};
 use crate::lent::{Lent, World};
 use crate::request::Inputs;
 use crate::script_file::opened_session;
 use crate::stop::Stop;
-use barline_fit::{
-    Candidate, Candidates, FitFault, Fitted, ScoreFault, best_barline, fitted_score,
-};
+use barline_fit::{Candidate, Candidates, FitFault, Fitted, best_barline, fitted_score};
 use edit_session::Session;
 use rhythm_base::{Grammar, Performance};
 use rhythm_ports::Means;
 use std::alloc::{AllocError, Global};
-
-/// A fault of fitting a barline as a stop.
-fn fit_stop(fault: FitFault) -> Stop
-    ensures { result ≡ fit_stop fault }
-{
-    match fault {
-        FitFault::NoBar(bar) => Stop::NoBarline { bar },
-        FitFault::NoCandidate => Stop::NoCandidate,
-        FitFault::Memory => Stop::Memory,
-    }
-}
 
 /// The line of a fitted tick, and the score after it.
 fn text_with(alloc: Global, fitted: Fitted, score: &[u8]) -> Result<Vec<u8>, AllocError>
@@ -98,18 +86,13 @@ fn score_at<W: World>(
         alloc: lent.alloc,
         gate: &lent.gate,
     };
-    let score = fitted_score(
+    score_or_stop(fitted_score(
         &means,
         session,
         candidate,
         &mut lent.builds,
         &mut lent.products,
-    );
-    match score {
-        Ok(score) => Ok(score),
-        Err(ScoreFault::TooLong { line }) => Err(Stop::ScoreTooLong { line }),
-        Err(ScoreFault::Memory) => Err(Stop::Memory),
-    }
+    ))
 }
 
 /// The text of a fit, where a tick is fitted.
@@ -153,10 +136,8 @@ fn fit_over<W: World>(
     ensures built { IfErr result (HasFittedOver among session.old lent.old.built lent.new.built) }
     ensures counts { CountsUp lent.old lent.new }
 {
-    match tick_among(lent, session, among) {
-        Ok(fitted) => fitted_text(lent, session, among.bar, fitted),
-        Err(fault) => Err(fit_stop(fault)),
-    }
+    let fitted = fitted_or_stop(tick_among(lent, session, among))?;
+    fitted_text(lent, session, among.bar, fitted)
 }
 
 /// The text of the fit of a barline of the performance of a MIDI file, by a grammar file.

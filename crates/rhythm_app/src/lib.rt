@@ -6,6 +6,7 @@
 mod answering;
 mod drill;
 mod events;
+mod faults;
 mod files;
 mod fit;
 mod follow;

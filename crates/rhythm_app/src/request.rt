@@ -1,5 +1,5 @@
 ghost use Rattle.command_line.specs.CommandLines.{HasOptions, HasWorkers};
-ghost use Rattle.rhythm_app.specs.Asked.{AreCandidates, IsCommandWord, IsRequestInRange, asked_of, candidate_count, candidates_by, command_by, drill_by, fit_by, fit_of, generate_by, in_order, learn_by, words_of_call, shown_request, unscripted, untold, words_after, workers_asked};
+ghost use Rattle.rhythm_app.specs.Asked.{AreCandidates, IsCommandWord, IsRequestInRange, asked_of, candidate_count, candidates_by, command_by, drill_by, fit_by, fit_of, generate_by, in_order, learn_by, words_of_call, shown_asked, shown_request, unscripted, untold, words_after, workers_asked};
 ghost use Rattle.performance_prepare.specs.Ranges.{AreInRange};
 ghost use Rattle.rhythm_app.specs.Inputs.{shown_inputs, shown_name};
 ghost use Rattle.rhythm_base.specs.declared.limits.TheConstants.{LATEST_TICK};
@@ -124,7 +124,7 @@ pub fn words_after(word: &str) -> Option<&'static str>
 /// A command without a script file.
 fn unscripted<'a>(script: Option<&str>, request: Option<Request<'a>>) -> Option<Request<'a>>
     requires { IfSome request IsRequestInRange }
-    ensures asked { option_map shown_request result ≡ unscripted (shown_name script.entry) (option_map shown_request request.entry) }
+    ensures asked { shown_asked result ≡ unscripted (shown_name script.entry) (shown_asked request.entry) }
     ensures range { IfSome result IsRequestInRange }
 {
     match script {
@@ -140,7 +140,7 @@ fn untold<'a>(
     request: Option<Request<'a>>,
 ) -> Option<Request<'a>>
     requires { IfSome request IsRequestInRange }
-    ensures asked { option_map shown_request result ≡ untold options.now (shown_name script.entry) (option_map shown_request request.entry) }
+    ensures asked { shown_asked result ≡ untold options.now (shown_name script.entry) (shown_asked request.entry) }
     ensures range { IfSome result IsRequestInRange }
 {
     if options.is_told() {
@@ -168,7 +168,7 @@ fn request_of_one<'a>(
     file: &'a str,
 ) -> Option<Request<'a>>
     requires { AreInRange options.now }
-    ensures asked { option_map shown_request result ≡ command_by options.now (shown_name script.entry) (word.entry.now ∷ file.entry.now ∷ []) }
+    ensures asked { shown_asked result ≡ command_by options.now (shown_name script.entry) (word.entry.now ∷ file.entry.now ∷ []) }
     ensures range { IfSome result IsRequestInRange }
 {
     if word == "notes" {
@@ -186,7 +186,7 @@ fn request_of_one<'a>(
 
 /// `generate` with its two numbers.
 fn generate_request<'a>(number: &'a str, bars: &'a str) -> Option<Request<'a>>
-    ensures asked { option_map shown_request result ≡ generate_by number.entry.now bars.entry.now }
+    ensures asked { shown_asked result ≡ generate_by number.entry.now bars.entry.now }
     ensures range { IfSome result IsRequestInRange }
 {
     let number = number_in(number, 0, 65534)? as u32;
@@ -196,7 +196,7 @@ fn generate_request<'a>(number: &'a str, bars: &'a str) -> Option<Request<'a>>
 
 /// `drill` with its number and the name of its file.
 fn drill_request<'a>(number: &'a str, grammar: &'a str) -> Option<Request<'a>>
-    ensures asked { option_map shown_request result ≡ drill_by number.entry.now grammar.entry.now }
+    ensures asked { shown_asked result ≡ drill_by number.entry.now grammar.entry.now }
     ensures range { IfSome result IsRequestInRange }
 {
     let number = number_in(number, 0, 65534)? as u32;
@@ -205,7 +205,7 @@ fn drill_request<'a>(number: &'a str, grammar: &'a str) -> Option<Request<'a>>
 
 /// `learn` with its number and the names of its files.
 fn learn_request<'a>(words: &'a Words) -> Option<Request<'a>>
-    ensures asked { option_map shown_request result ≡ learn_by (drop 1 words.entry.now) }
+    ensures asked { shown_asked result ≡ learn_by (drop 1 words.entry.now) }
     ensures range { IfSome result IsRequestInRange }
 {
     let bit = words.get(1)?;
@@ -235,7 +235,7 @@ fn request_of_two<'a>(
     second: &'a str,
 ) -> Option<Request<'a>>
     requires { AreInRange options.now }
-    ensures asked { option_map shown_request result ≡ command_by options.now (shown_name script.entry) (word.entry.now ∷ first.entry.now ∷ second.entry.now ∷ []) }
+    ensures asked { shown_asked result ≡ command_by options.now (shown_name script.entry) (word.entry.now ∷ first.entry.now ∷ second.entry.now ∷ []) }
     ensures range { IfSome result IsRequestInRange }
 {
     let inputs = Inputs {
@@ -329,7 +329,7 @@ fn request_of_six<'a>(
 ) -> Option<Request<'a>>
     requires options { AreInRange inputs.options }
     requires other { IsFalse (pointwise nat_eq word.now (codes "learn")) }
-    ensures asked { option_map shown_request result
+    ensures asked { shown_asked result
         ≡ command_by (shown_inputs inputs.entry).options (shown_inputs inputs.entry).script (words_of_call word.entry.now (shown_inputs inputs.entry) bar.entry.now low.entry.now high.entry.now step.entry.now) }
     ensures range { IfSome result IsRequestInRange }
 {
@@ -350,7 +350,7 @@ fn command_of<'a>(
     words: &'a Words,
 ) -> Option<Request<'a>>
     requires { AreInRange options.now }
-    ensures asked { option_map shown_request result ≡ command_by options.now (shown_name script.entry) words.entry.now }
+    ensures asked { shown_asked result ≡ command_by options.now (shown_name script.entry) words.entry.now }
     ensures range { IfSome result IsRequestInRange }
 {
     let word = words.get(0)?;
@@ -384,7 +384,7 @@ fn command_of<'a>(
 /// What is asked for.
 pub fn request_of<'a>(said: &'a Invocation) -> Option<Request<'a>>
     requires { HasOptions said.now }
-    ensures asked { option_map shown_request result ≡ asked_of said.entry.now }
+    ensures asked { shown_asked result ≡ asked_of said.entry.now }
     ensures range { IfSome result IsRequestInRange }
 {
     match said {

@@ -1,16 +1,16 @@
 ghost use Rattle.command_line.specs.CommandLines.{HasOptions, HasWorkers};
 ghost use Rattle.rhythm_app.specs.Asked.{asked_by, asked_of};
 ghost use Rattle.rhythm_app.specs.Ends.{AppendsPart, HasStatus, IsAnswered, IsComplete, IsErrUntouched, IsPerformed, IsStopTold, IsStopped, IsStoppedBy, IsWriteCut, KeepsRest};
-ghost use Rattle.rhythm_app.specs.Lent.{Lent as Stood};
-ghost use Rattle.rhythm_app.specs.Stages.{HasText, IsTextWritten};
-ghost use Rattle.rhythm_app.specs.Asked.{Asked, IsRequestInRange, AsksForText, shown_request};
+ghost use Rattle.rhythm_app.specs.Stages.{HasText, IsFinished, IsTextWritten};
+ghost use Rattle.rhythm_app.specs.Asked.{IsRequestInRange, AsksForText, shown_request};
 ghost use Rattle.rhythm_app.specs.Stops.{status_of};
+ghost use Rattle.rhythm_app.specs.declared.request.Request.TheVariants as requests;
 ghost use Rattle.rhythm_app.specs.declared.stop.Stop.TheVariants as stop;
 ghost use Rattle.rhythm_app.specs.declared.stop.Stop.{Stop};
 ghost use Rattle.rhythm_ports.specs.Causes.{Rose};
 ghost use Rattle.std.specs.Io.KnownBytes.{Appends};
 ghost use Rattle.std.specs.Option.{ForSome};
-ghost use Rattle.std.specs.Prelude.{◌≡◌, ◌≢◌, ◌≤◌, ◌↔◌, ◌⊎◌, Err, IfErr, None, OnOk, Option};
+ghost use Rattle.std.specs.Prelude.{◌≡◌, ◌≢◌, ◌≤◌, ◌↔◌, ◌⊎◌, ℕ, Err, IfErr, None, OnOk};
 
 use crate::answering::answer;
 use crate::drill::drill_text;
@@ -50,7 +50,7 @@ fn write_text<W: World>(lent: &mut Lent<W>, text: &[u8]) -> Result<(), Stop>
 
 /// Writes the text of a command, where it is had: nothing before it is whole.
 fn finish<W: World>(lent: &mut Lent<W>, text: Result<Vec<u8>, Stop>) -> Result<(), Stop>
-    ensures { (asked : Option Asked) (before : Stood W.Script W.Out W.Err) → HasText asked before lent.old text → IsPerformed asked before lent.new result }
+    ensures { IsFinished text lent.old lent.new result }
 {
     match text {
         Ok(text) => write_text(lent, text.as_slice()),
@@ -64,7 +64,9 @@ fn text_asked<W: World>(lent: &mut Lent<W>, workers: u32, request: Request) -> R
     requires few_workers { workers ≤ 16 }
     requires text { AsksForText request }
     requires range { IsRequestInRange request }
-    ensures { HasText (Some (shown_request request.entry)) lent.old lent.new result }
+    ensures text { HasText (Some (shown_request request.entry)) lent.old lent.new result }
+    ensures candidates { (count : ℕ) → request.entry ≡ requests.TooManyCandidates count → result ≡ Err (stop.TooManyCandidates count) }
+    ensures files { (count : ℕ) → request.entry ≡ requests.TooManyFiles count → result ≡ Err (stop.TooManyFiles count) }
 {
     match request {
         Request::Help => help(lent),

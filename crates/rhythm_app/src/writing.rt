@@ -5,7 +5,7 @@ ghost use Rattle.performance_prepare.specs.Ranges.{AreInRange};
 ghost use Rattle.rhythm_app.specs.Asked.{write};
 ghost use Rattle.rhythm_app.specs.Builds.{HasBuiltFor};
 ghost use Rattle.rhythm_app.specs.Inputs.{shown_inputs};
-ghost use Rattle.rhythm_app.specs.Outcome.{AreEventsOf, IsKernTextOf, IsTooLongToWrite, IsWriting, render_stop};
+ghost use Rattle.rhythm_app.specs.Outcome.{AreEventsOf, IsKernTextOf, IsTooLongToWrite, IsWriting};
 ghost use Rattle.rhythm_app.specs.Stages.{CountsUp, Follows, HasText, IsOfContent, IsOfWriting, said_of};
 ghost use Rattle.rhythm_app.specs.declared.request.Form.TheVariants as form;
 ghost use Rattle.rhythm_app.specs.declared.stop.Stop.TheVariants as stop;
@@ -15,12 +15,13 @@ ghost use Rattle.rhythm_base.specs.Readable.{IsReadable};
 ghost use Rattle.rhythm_base.specs.declared.limits.TheConstants.{MOST_BARS, MOST_NOTES, MOST_VOICES};
 ghost use Rattle.std.specs.Prelude.{◌≡◌, ◌≤◌, ◌⊎◌, ℕ, IfErr, IfOk, List, OnOk, Some, length};
 
+use crate::faults::{rendering_or_stop, score_or_stop};
 use crate::lent::{Lent, World};
 use crate::request::{Form, Inputs};
 use crate::script_file::opened_session;
 use crate::stop::Stop;
 use derivation::Score;
-use edit_session::{ScoreFault, Session};
+use edit_session::Session;
 use kern_reader::KernEvent;
 use kern_writer::write_kern;
 use lily_writer::write_lily;
@@ -28,7 +29,7 @@ use musicxml_writer::write_musicxml;
 use page_writer::write_page;
 use rhythm_base::{Grammar, Performance};
 use session_text::KernText;
-use smf_writer::{RenderFault, render};
+use smf_writer::render;
 use std::alloc::Global;
 use voice_events::events_of;
 
@@ -38,11 +39,7 @@ fn kern_text_of(alloc: Global, session: &Session) -> Result<Vec<u8>, Stop>
     ensures text { IfOk result (λ v. IsKernTextOf session.now.grammar session.now.performance v.items) }
     ensures stop { IfErr result (λ s. IsTooLongToWrite session.now.grammar session.now.performance s ⊎ (s ≡ stop.Memory)) }
 {
-    match session.score(alloc) {
-        Ok(text) => Ok(text),
-        Err(ScoreFault::TooLong { line }) => Err(Stop::ScoreTooLong { line }),
-        Err(ScoreFault::Memory) => Err(Stop::Memory),
-    }
+    score_or_stop(session.score(alloc))
 }
 
 /// The score of a session, where its **kern text is within its limit.
@@ -57,11 +54,8 @@ fn short_score(alloc: Global, session: &Session) -> Result<Score, Stop>
     let Ok(score) = session.whole_score(alloc) else {
         return Err(Stop::Memory);
     };
-    match write_kern(alloc, &score) {
-        Ok(_text) => Ok(score),
-        Err(ScoreFault::TooLong { line }) => Err(Stop::ScoreTooLong { line }),
-        Err(ScoreFault::Memory) => Err(Stop::Memory),
-    }
+    let _text = score_or_stop(write_kern(alloc, &score))?;
+    Ok(score)
 }
 
 /// The events of the score of a session.
@@ -143,16 +137,6 @@ fn musicxml_of(alloc: Global, session: &Session) -> Result<Vec<u8>, Stop>
     }
 }
 
-/// A fault of rendering as a stop.
-fn render_stop(fault: RenderFault) -> Stop
-    ensures { result ≡ render_stop fault }
-{
-    match fault {
-        RenderFault::TooLong { tick } => Stop::RenderTooLong { tick },
-        RenderFault::Memory => Stop::Memory,
-    }
-}
-
 /// The MIDI file of the score of a session.
 fn rendering_of(alloc: Global, session: &Session, resolution: u16) -> Result<Vec<u8>, Stop>
     requires can { CanOpen session.now.grammar session.now.performance }
@@ -165,16 +149,13 @@ fn rendering_of(alloc: Global, session: &Session, resolution: u16) -> Result<Vec
     let events = score_events(alloc, session)?;
     let channels = performance.channels();
     match session.score_bars(alloc) {
-        Ok(bars) => match render(
+        Ok(bars) => rendering_or_stop(render(
             alloc,
             events.as_slice(),
             bars.as_slice(),
             channels,
             resolution,
-        ) {
-            Ok(bytes) => Ok(bytes),
-            Err(fault) => Err(render_stop(fault)),
-        },
+        )),
         Err(_error) => Err(Stop::Memory),
     }
 }
