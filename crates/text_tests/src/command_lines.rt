@@ -127,6 +127,6 @@ fn numbers_have_one_to_ten_digits(rt: HostRuntime) -> Result<(), Fail> {
 
 #[test]
 fn help_and_version_are_told(rt: HostRuntime) -> Result<(), Fail> {
-    assert!(rt; help_text().starts_with("Usage: ") && version_text() == "rhythm 1.3\n");
+    assert!(rt; help_text().starts_with("Usage: ") && version_text() == "rhythm 1.4\n");
     Ok(())
 }
