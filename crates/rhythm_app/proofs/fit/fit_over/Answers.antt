@@ -22,7 +22,7 @@ returns-clause-built g c =
     let made : c.tick_among.result ≡ some = or_stop_made fit_stop c.tick_among.result x c.in_ok-fitted.ensures in
     let fitted : IsFittedAmong s c.args.among x = subst (λ (r : Result Fitted FitFault). IfOk r (IsFittedAmong s c.args.among)) made c.tick_among.ensures.fitted in
     let builds : HasBuiltToFit s c.args.among some c.args.lent.now.built mid =
-        subst (λ (r : Result Fitted FitFault). HasBuiltToFit s c.args.among r c.args.lent.now.built mid) made c.tick_among.ensures.builds in
+    subst (λ (r : Result Fitted FitFault). HasBuiltToFit s c.args.among r c.args.lent.now.built mid) made c.tick_among.ensures.builds in
     fit_built c.args.among s c.requires.can c.args.lent.now.built new x mid fitted (builds.all (λ e. cc)) c.fitted_text.result
     (subst (IsStopAt c.args.among.bar x.tick c.fitted_text.result) same said.stop)
     (λ other. subst (λ (t : Session). RisesBy mid new (AreReachedAt t.grammar t.performance c.args.among.bar (x.tick ∷ []))) same (said.builds other))
