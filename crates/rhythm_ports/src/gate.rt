@@ -1,6 +1,6 @@
 /// What a worker passes before it builds a cell, so that a test can hold the worker there.
 pub trait Gate {
-    /// Called by the worker with each number that it drew, below the number of cells.
+    /// Called once with the number of each cell: by the worker that searches it, or by the calling thread if it takes over a table.
     fn pass(&self, index: u64);
 }
 
