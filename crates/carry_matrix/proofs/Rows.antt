@@ -1,6 +1,6 @@
 -- The rows of a matrix give back its entries.
 use Rattle.std.proofs.Common.{◌≡◌, ℕ, zero, suc, ◌+◌, ◌<◌, ◌≤◌, ◌^◌, Bool, true, false, nat_lt, List, [], ◌∷◌, refl, sym, ap, subst, ◌∙◌, arith}
-use Rattle.std.specs.Prelude.{Option, Some, None, slice_index_or, if◌then◌else◌}
+use Rattle.std.specs.Prelude.{IfSome, Option, Some, None, slice_index_or, if◌then◌else◌}
 use Rattle.std.proofs.lemmas.Bool.Decides.{nat_tests}
 use Rattle.rhythm_base.specs.declared.best.Best.{Best}
 use Rattle.rhythm_base.specs.Paths.{AreLow, IsLow, IsRanked}
@@ -47,6 +47,10 @@ pub each_row : (m : CarryMatrix) (r0 r1 r2 r3 r4 : Row) → r0 ≡ row_code (at 
 unfolding rows_of
 each_row m r0 r1 r2 r3 r4 h0 h1 h2 h3 h4 = λ i. h0 i ∷ h1 i ∷ h2 i ∷ h3 i ∷ h4 i ∷ []
 
+-- a row for a number that is known
+pub row_for : (m : CarryMatrix) (r : Row) {n k : ℕ} → r ≡ row_code (at m n) → n ≡ k → r ≡ row_code (at m k)
+row_for m r is same = is ∙ ap (λ n. row_code (at m n)) same
+
 few_under : (row : ℕ → Option Key) (x : List ℕ) (n : ℕ) → count_under row x n ≤ n
 few_under row x zero = omega arith
 few_under row x (suc n) = go (is_under (row n) x) (few_under row x n)
@@ -60,6 +64,10 @@ low_rank m ranked from to e lf lt s =
     let rank : e.rank ≡ count_under (one m from) (e.rank ∷ []) 5 = ranked.counts from to lf lt e s in
     let few : count_under (one m from) (e.rank ∷ []) 5 ≤ 5 = few_under (one m from) (e.rank ∷ []) 5 in
     omega (arith, rank, few)
+
+pub rank_within : (m : CarryMatrix) → IsRanked m → (from to : ℕ) → from < 5 → to < 5 → (o : Option Best) → o ≡ at m from to → IfSome o (λ e. e.rank ≤ 5)
+rank_within m ranked from to lf lt None is = tt
+rank_within m ranked from to lf lt (Some e) is = low_rank m ranked from to e lf lt (sym is)
 
 pub row_within : (m : CarryMatrix) → IsRanked m → AreLow m → (from : ℕ) → from < 5 → IsWithin (row_code (at m from))
 row_within m ranked low from lf = λ to lt.

@@ -1,22 +1,14 @@
-ghost use Rattle.carry_matrix.specs.Choices.{AreLowSums, IsLowSum, choice_code, choices_code};
-ghost use Rattle.carry_matrix.specs.Rows.{IsWithin, cost_code, rank_code, row_code};
-ghost use Rattle.rhythm_base.specs.Ranked.{Key, Sum, better, is_under, ranked, sum_before, sum_key, summed};
-ghost use Rattle.rhythm_base.specs.declared.best.Best.{Best};
-ghost use Rattle.std.specs.Prelude.{
-  ◌≡◌,
-  ◌+◌,
-  ◌<◌,
-  ◌≤◌,
-  ◌∷◌,
-  ◌^◌,
-  ℕ,
-  [],
-  if◌then◌else◌,
-  ◌*◌,
-  Option,
-  None,
-  Some,
+ghost use Rattle.carry_matrix.specs.Choices.{
+  AreNearer,
+  CountsUnder,
+  IsCostOf,
+  IsNearer,
+  IsRankAmong,
+  IsRowChosen,
+  choice_code,
 };
+ghost use Rattle.carry_matrix.specs.Rows.{IsWithin};
+ghost use Rattle.std.specs.Prelude.{◌≡◌, ◌<◌, ◌≤◌, ◌^◌, None};
 
 use crate::row::{ABOVE_COSTS, ABSENT, Row};
 use rhythm_base::Best;
@@ -52,8 +44,7 @@ pub fn none() -> Choice
 pub fn nearer(best: Choice, left: Best, cost: u64, rank: u8, middle: u8) -> Choice
     requires left { (left.cost < 2 ^ 62) × (left.rank ≤ 5) }
     requires right { (cost ≤ 2 ^ 63) × (rank ≤ 5) }
-    ensures { (o : Option (ℕ × Sum)) (right : Option Best) → IsLowSum o → best ≡ choice_code o → cost ≡ cost_code right → rank ≡ rank_code right
-        → ((y : Best) → right ≡ Some y → left.cost + y.cost < 2 ^ 62) → result ≡ choice_code (better sum_before o middle (summed (Some left) right)) }
+    ensures { IsNearer best left cost rank middle result }
 {
     let sum = left.cost + cost;
     let order = 8 * u32::from(left.rank);
@@ -74,8 +65,7 @@ pub fn nearer(best: Choice, left: Best, cost: u64, rank: u8, middle: u8) -> Choi
 pub fn nearer_row(choices: &Choices, left: Best, row: &Row, middle: u8) -> Choices
     requires left { (left.cost < 2 ^ 62) × (left.rank ≤ 5) }
     requires right { IsWithin row.now }
-    ensures { (o : ℕ → Option (ℕ × Sum)) (right : ℕ → Option Best) → AreLowSums o → choices.now ≡ choices_code o → row.now ≡ row_code right
-        → ((to : ℕ) (y : Best) → to < 5 → right to ≡ Some y → left.cost + y.cost < 2 ^ 62) → result ≡ choices_code (λ to. better sum_before (o to) middle (summed (Some left) (right to))) }
+    ensures { AreNearer choices.now left row.now middle result }
 {
     [
         nearer(choices[0], left, row.costs[0], row.ranks[0], middle),
@@ -90,7 +80,7 @@ pub fn nearer_row(choices: &Choices, left: Best, row: &Row, middle: u8) -> Choic
 #[inline(always)]
 fn lower(choice: Choice, order: u32) -> u8
     ensures small { result < 2 }
-    ensures is { (o : Option (ℕ × Sum)) (l r : ℕ) → IsLowSum o → choice ≡ choice_code o → r ≤ 5 → order ≡ 8 * l + r → result ≡ (if is_under (sum_key o) (l ∷ r ∷ []) then 1 else 0) }
+    ensures is { CountsUnder choice order result }
 {
     if choice.order < order { 1 } else { 0 }
 }
@@ -98,8 +88,7 @@ fn lower(choice: Choice, order: u32) -> u8
 /// How many of the choices have a lower order than one of them, 0 where that is none.
 #[inline(always)]
 fn rank(choices: &Choices, own: Choice) -> u8
-    ensures { (o : ℕ → Option (ℕ × Sum)) (u : Option (ℕ × Sum)) → AreLowSums o → IsLowSum u → choices.now ≡ choices_code o → own ≡ choice_code u
-        → result ≡ rank_code (ranked (λ n. sum_key (o n)) (sum_key u)) }
+    ensures { IsRankAmong choices.now own result }
 {
     if own.cost < ABOVE_COSTS {
         lower(choices[4], own.order)
@@ -114,7 +103,7 @@ fn rank(choices: &Choices, own: Choice) -> u8
 /// What stands for the cost of the entry of a choice.
 #[inline(always)]
 fn cost(own: Choice) -> u64
-    ensures { (u : Option (ℕ × Sum)) → IsLowSum u → own ≡ choice_code u → (row : ℕ → Option Key) → result ≡ cost_code (ranked row (sum_key u)) }
+    ensures { IsCostOf own result }
 {
     if own.cost < ABOVE_COSTS {
         own.cost
@@ -126,7 +115,7 @@ fn cost(own: Choice) -> u64
 /// The row of the choices.
 #[inline(always)]
 pub fn row_chosen(choices: &Choices) -> Row
-    ensures { (o : ℕ → Option (ℕ × Sum)) → AreLowSums o → choices.now ≡ choices_code o → result ≡ row_code (λ to. ranked (λ n. sum_key (o n)) (sum_key (o to))) }
+    ensures { IsRowChosen choices.now result }
 {
     Row {
         costs: [

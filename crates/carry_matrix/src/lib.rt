@@ -13,6 +13,6 @@ mod steps;
 
 pub use laws::{identity_is_neutral, products_associate};
 pub use matrix::CarryMatrix;
-pub use products::{middle, product};
+pub use products::{between, middle, product};
 pub use rhythm_base::Best;
 pub use steps::Steps;

@@ -1,10 +1,10 @@
 ghost use Rattle.carry_matrix.specs.Rows.{AreRows, IsWithin, entries_of, row_code};
 ghost use Rattle.rhythm_base.specs.Paths.{AreLow, IsLow, IsRanked};
 ghost use Rattle.rhythm_base.specs.Ranked.{at, identity_entries};
-ghost use Rattle.std.specs.Prelude.{◌≡◌, ◌<◌};
+ghost use Rattle.std.specs.Prelude.{◌≡◌, ◌<◌, ◌≤◌, IfSome};
 
 use crate::row::{Row, entry, row_of};
-use rhythm_base::Best;
+use rhythm_base::{Best, Carry};
 use std::marker::Model;
 
 /// The least way for each number of chords carried in, 0 to 4, and each carried out. The ranks of a row are the numbers
@@ -69,7 +69,7 @@ impl CarryMatrix {
         ])
     }
 
-    /// The entry for these numbers carried in and out.
+    /// The entry for these numbers carried in and out, each 0 to 4.
     #[inline(always)]
     pub fn get(&self, from: u8, to: u8) -> Option<Best>
         requires from { from < 5 }
@@ -78,22 +78,34 @@ impl CarryMatrix {
         ensures sound { IsRanked self.now }
         ensures low { IsLow result }
     {
-        let row = &self.rows[from as usize];
-        entry(row.costs[to as usize], row.ranks[to as usize])
+        self.entry(Carry::of(from), Carry::of(to))
+    }
+
+    /// The entry for these numbers carried in and out.
+    #[inline(always)]
+    pub fn entry(&self, from: Carry, to: Carry) -> Option<Best>
+        ensures is { result ≡ at self.now from to }
+        ensures sound { IsRanked self.now }
+        ensures low { IsLow result }
+        ensures rank { IfSome result (λ best. best.rank ≤ 5) }
+    {
+        let row = &self.rows[from.index()];
+        let place = to.index();
+        entry(row.costs[place], row.ranks[place])
     }
 
     /// The entries for this number carried in.
     #[inline(always)]
-    pub(crate) fn row(&self, from: u8) -> &Row
-        requires { from < 5 }
+    pub(crate) fn row(&self, from: Carry) -> &Row
         ensures is { result.now ≡ row_code (at self.now from) }
         ensures within { IsWithin result.now }
     {
-        &self.rows[from as usize]
+        &self.rows[from.index()]
     }
 
-    /// What every matrix keeps.
-    pub(crate) fn see(&self)
+    /// What every matrix keeps: a proof sees it after this call, which does nothing.
+    #[inline(always)]
+    pub fn see(&self)
         ensures { IsRanked self.now }
     {
         let _ = &self.rows;

@@ -1,3 +1,4 @@
+ghost use Rattle.durations.specs.declared.grid.TheConstants.{MOST_GRID};
 ghost use Rattle.std.specs.Prelude.{◌≡◌, ◌*◌, ◌+◌, ◌<◌, ◌≤◌, ◌++◌, ◌^◌, All, IfOk, IfSome, OnOk, length, map, sum, true};
 ghost use Rattle.durations.specs.Joined as bars;
 ghost use Rattle.durations.specs.Joined.{AreWritten, AreValuesOf, IsTimedLeaf, value_places};
@@ -5,6 +6,7 @@ ghost use Rattle.durations.specs.Laws.{CountsIn, FillTheBar};
 ghost use Rattle.durations.specs.Value as lengths;
 ghost use Rattle.durations.specs.Value.{IsWide};
 
+use crate::grid::Grid;
 use crate::notation::push_length;
 use crate::value::{Recip, Value, width};
 use rhythm_base::SoundKind;
@@ -30,11 +32,11 @@ pub struct Written {
 }
 
 /// Whether ties after a leaf may be joined to it.
-fn may_join(leaf: Timed, whole: u64) -> bool
-    requires { 1 ≤ leaf.len }
+fn may_join(leaf: Timed, whole: Grid) -> bool
+    requires { IsTimedLeaf whole leaf }
     ensures { result ≡ bars.may_join whole leaf }
 {
-    matches!(leaf.kind, SoundKind::Begin | SoundKind::Tie) && whole % leaf.len == 0
+    matches!(leaf.kind, SoundKind::Begin | SoundKind::Tie) && whole.count() % leaf.len == 0
 }
 
 /// Whether there is such a leaf, and it is a tie of this part of a length: 2 is half of it.
@@ -46,8 +48,7 @@ fn is_tie_of(leaf: Option<Timed>, part: u64, len: u64) -> bool
 }
 
 /// The dots that a leaf takes from those after it.
-fn dots(leaf: Timed, more: &[Timed], whole: u64) -> u8
-    requires whole { whole ≤ 61440 }
+fn dots(leaf: Timed, more: &[Timed], whole: Grid) -> u8
     requires leaf { IsTimedLeaf whole leaf }
     requires more { All (IsTimedLeaf whole) more.now }
     ensures { result ≡ bars.dots whole leaf more.now }
@@ -63,9 +64,7 @@ fn dots(leaf: Timed, more: &[Timed], whole: u64) -> u8
 
 /// Puts the values of a leaf in the place of those in the list: those of its length, or one with a dot for each leaf that is
 /// joined to it.
-fn renew(values: &mut Vec<Value>, leaf: Timed, dots: u8, whole: u64) -> Result<(), AllocError>
-    requires some { 1 ≤ whole }
-    requires few { whole ≤ 61440 }
+fn renew(values: &mut Vec<Value>, leaf: Timed, dots: u8, whole: Grid) -> Result<(), AllocError>
     requires leaf { IsTimedLeaf whole leaf }
     requires joined { 0 < dots → bars.may_join whole leaf ≡ true }
     ensures { OnOk result (AreValuesOf whole leaf dots values.new.items) }
@@ -74,7 +73,7 @@ fn renew(values: &mut Vec<Value>, leaf: Timed, dots: u8, whole: u64) -> Result<(
     if dots == 0 {
         return push_length(values, leaf.len, whole);
     }
-    let recip = Recip::Of((whole / leaf.len) as u32);
+    let recip = Recip::Of((whole.count() / leaf.len) as u32);
     Ok(values.push(Value { recip, dots })?)
 }
 
@@ -84,10 +83,8 @@ fn push_values(
     values: &[Value],
     leaf: u32,
     place: u64,
-    whole: u64,
+    whole: Grid,
 ) -> Result<(), AllocError>
-    requires some { 1 ≤ whole }
-    requires few { whole ≤ 61440 }
     requires dots { All (λ v. v.dots ≤ 2) values.now }
     requires wide { All (IsWide whole) values.now }
     requires end { place + sum (map (lengths.width whole) values.now) < 2 ^ 64 }
@@ -110,7 +107,7 @@ fn push_values(
 /// leaf and a rest take none and give none. Lengths and places count in parts of 1/`whole` of a whole note.
 pub fn values_of(alloc: Global, leaves: &[Timed], whole: u64) -> Result<Vec<Written>, AllocError>
     requires some { 1 ≤ whole }
-    requires few { whole ≤ 61440 }
+    requires few { whole ≤ MOST_GRID }
     requires leaves { All (IsTimedLeaf whole) leaves.now }
     requires bar { sum (map (λ x. x.len) leaves.now) ≤ 64 * whole }
     ensures written { IfOk result (λ v. AreWritten whole leaves.now v.items) }
@@ -119,6 +116,7 @@ pub fn values_of(alloc: Global, leaves: &[Timed], whole: u64) -> Result<Vec<Writ
     ensures dots { IfOk result (λ v. All (λ w. w.dots ≤ 2) (map (λ w. w.value) v.items)) }
     ensures grid { IfOk result (λ v. All (CountsIn whole) (map (λ w. w.value) v.items)) }
 {
+    let grid = Grid::of(whole);
     let mut written = Vec::with_capacity(alloc, leaves.len())?;
     let mut values = Vec::new(alloc);
     let mut joined = 0;
@@ -127,9 +125,9 @@ pub fn values_of(alloc: Global, leaves: &[Timed], whole: u64) -> Result<Vec<Writ
         if joined > 0 {
             joined -= 1;
         } else {
-            joined = dots(*timed, &leaves[leaf + 1..], whole);
-            renew(&mut values, *timed, joined, whole)?;
-            push_values(&mut written, &values, leaf as u32, place, whole)?;
+            joined = dots(*timed, &leaves[leaf + 1..], grid);
+            renew(&mut values, *timed, joined, grid)?;
+            push_values(&mut written, &values, leaf as u32, place, grid)?;
         }
         place += timed.len;
     }

@@ -4,6 +4,7 @@ ghost use Rattle.durations.specs.Value.{IsSingle};
 ghost use Rattle.durations.specs.declared.value.Recip.{Recip};
 ghost use Rattle.durations.specs.Values.{HasSingle, IsLowest, IsPlain, IsTaken};
 
+use crate::grid::Grid;
 use crate::value::{Recip, Value};
 
 /// A length of `parts` of `whole` equal parts of a whole note.
@@ -39,14 +40,24 @@ pub fn lowest(length: Length) -> Length
     }
 }
 
-/// The one value of a length in lowest terms, where it is one.
-pub fn single(length: Length) -> Option<Value>
-    requires some { 1 ≤ length.whole }
-    requires few { length.whole ≤ 61440 }
-    ensures one { IfSome result (λ v. IsSingle length.parts length.whole v) }
-    ensures none { IfNone result (HasSingle length.parts length.whole → ⊥) }
+/// So many parts of a whole note in lowest terms.
+pub(crate) fn lowest_parts(parts: u64, whole: Grid) -> (u64, Grid)
+    ensures lowest { IsLowest parts whole result.0 result.1 }
+    ensures some { 1 ≤ result.1 }
 {
-    let (recip, dots) = match (length.parts, length.whole) {
+    let length = lowest(Length {
+        parts,
+        whole: whole.count(),
+    });
+    (length.parts, Grid::of(length.whole))
+}
+
+/// The one value of a length in lowest terms, where it is one.
+pub fn single(parts: u64, whole: Grid) -> Option<Value>
+    ensures one { IfSome result (λ v. IsSingle parts whole v) }
+    ensures none { IfNone result (HasSingle parts whole → ⊥) }
+{
+    let (recip, dots) = match (parts, whole.count()) {
         (1, whole) => (Recip::Of(whole as u32), 0),
         (2, 1) => (Recip::Breve, 0),
         (3, 1) => (Recip::Breve, 1),
@@ -59,13 +70,12 @@ pub fn single(length: Length) -> Option<Value>
 }
 
 /// The value without dots that is so many parts, where it is one.
-fn plain(parts: u64, whole: u64) -> Option<Recip>
-    requires parts { 1 ≤ parts }
-    requires some { 1 ≤ whole }
-    requires few { whole ≤ 61440 }
+fn plain(parts: u64, whole: Grid) -> Option<Recip>
+    requires { 1 ≤ parts }
     ensures one { IfSome result (λ r. IsPlain parts whole r) }
     ensures none { IfNone result ((r : Recip) → IsPlain parts whole r → ⊥) }
 {
+    let whole = whole.count();
     if whole % parts == 0 {
         Some(Recip::Of((whole / parts) as u32))
     } else if parts == 2 * whole {
@@ -78,15 +88,13 @@ fn plain(parts: u64, whole: u64) -> Option<Recip>
 }
 
 /// What is taken off a length in lowest terms that is no single value: the parts and the value without dots that they are.
-pub fn taken(length: Length) -> (u64, Recip)
-    requires parts { 1 ≤ length.parts }
-    requires some { 1 ≤ length.whole }
-    requires few { length.whole ≤ 61440 }
-    ensures { IsTaken length.parts length.whole result.0 result.1 }
+pub fn taken(parts: u64, whole: Grid) -> (u64, Recip)
+    requires { 1 ≤ parts }
+    ensures { IsTaken parts whole result.0 result.1 }
 {
-    let mut power = 1 << length.parts.ilog2();
+    let mut power = 1 << parts.ilog2();
     'powers: loop {
-        if let Some(recip) = plain(power, length.whole) {
+        if let Some(recip) = plain(power, whole) {
             return (power, recip);
         }
         power /= 2;

@@ -4,12 +4,14 @@
 //! pitches are defined here besides, for all crates of notation.
 #![tactic(auto)]
 
+mod grid;
 mod joined;
 mod laws;
 mod length;
 mod notation;
 mod value;
 
+pub use grid::{Grid, MOST_GRID};
 pub use joined::{Timed, Written, values_of};
 pub use laws::{
     bars_count_in_the_grid, dots_sum_to_the_leaves, values_are_one, values_count_in_the_grid,

@@ -2,6 +2,8 @@ ghost use Rattle.std.specs.Prelude.{◌≡◌, ◌≤◌};
 ghost use Rattle.durations.specs.Value as lengths;
 ghost use Rattle.durations.specs.Value.{IsWide};
 
+use crate::grid::Grid;
+
 /// A value without its dots, as the reciprocal of a whole note that names it.
 #[derive(Clone, Copy, Debug, PartialEq, Eq)]
 pub enum Recip {
@@ -22,13 +24,12 @@ pub struct Value {
 }
 
 /// How many of `whole` equal parts of a whole note the value is long.
-pub fn width(value: Value, whole: u64) -> u64
-    requires some { 1 ≤ whole }
-    requires few { whole ≤ 61440 }
+pub fn width(value: Value, whole: Grid) -> u64
     requires dots { value.dots ≤ 2 }
     requires wide { IsWide whole value }
     ensures { result ≡ lengths.width whole value }
 {
+    let whole = whole.count();
     let (parts, grid) = match value.recip {
         Recip::Of(number) => (1, u64::from(number)),
         Recip::Breve => (2, 1),

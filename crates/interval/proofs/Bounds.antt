@@ -1,10 +1,8 @@
 -- A displacement is at most the length of the longest bar, 64 whole notes, in 960ths of a quarter.
-use Rattle.std.proofs.Common.{◌≡◌, ℕ, zero, suc, ◌+◌, ◌-◌, ◌*◌, ◌/◌, ◌<◌, ◌≤◌, arith}
+use Rattle.std.proofs.Common.{◌≡◌, ℕ, ◌*◌, ◌<◌, ◌≤◌, arith}
 use Rattle.std.proofs.Math.Nat.{div-le_of_le-mul, mul-le-mul_right, mul-le-mul_left}
 use Rattle.rhythm_base.specs.Lists.{gap}
 use Rattle.rhythm_base.specs.Cost.{displacement_of}
-use Rattle.std.specs.Prelude.{IsTrue}
-use Rattle.rhythm_base.specs.Signatures.{is_den}
 
 -- an onset of the bar and a unit of it are at most a bar apart
 gap_small : (length r q t : ℕ) → q ≤ r → t < length → gap (t * r) (q * length) ≤ r * length

@@ -1,4 +1,4 @@
-ghost use Rattle.rhythm_base.specs.declared.limits.TheConstants.{LATEST_TICK, MOST_UNITS};
+ghost use Rattle.interval.specs.OneLeaf.{IsBarOf};
 ghost use Rattle.rhythm_base.specs.Cost.{displacement_of, is_after};
 ghost use Rattle.rhythm_base.specs.Signatures.{IsSignature};
 ghost use Rattle.std.specs.Prelude.{◌≡◌, ◌<◌, ◌≤◌};
@@ -7,10 +7,7 @@ ghost use Rattle.std.specs.Prelude.{◌≡◌, ◌<◌, ◌≤◌};
 /// `q` may be the whole resolution, the start of the next bar.
 pub fn displacement(num: u8, den: u8, length: u64, resolution: u16, q: u16, onset: u64) -> u64
     requires signature { IsSignature num den }
-    requires some_tick { 1 ≤ length }
-    requires few_ticks { length ≤ LATEST_TICK }
-    requires some_unit { 1 ≤ resolution }
-    requires few_units { resolution ≤ MOST_UNITS }
+    requires bar { IsBarOf length resolution }
     requires unit { q ≤ resolution }
     requires onset { onset < length }
     ensures value { result ≡ displacement_of num den length resolution q onset }
@@ -23,10 +20,7 @@ pub fn displacement(num: u8, den: u8, length: u64, resolution: u16, q: u16, onse
 
 /// Whether an onset that is attached at unit `q` was played after it.
 pub fn late(length: u64, resolution: u16, q: u16, onset: u64) -> bool
-    requires some_tick { 1 ≤ length }
-    requires few_ticks { length ≤ LATEST_TICK }
-    requires some_unit { 1 ≤ resolution }
-    requires few_units { resolution ≤ MOST_UNITS }
+    requires bar { IsBarOf length resolution }
     requires unit { q ≤ resolution }
     requires onset { onset < length }
     ensures { result ≡ is_after length resolution q onset }

@@ -1,6 +1,6 @@
 -- What the pairing of note-ons with their ends comes to.
 use Rattle.rhythm_base.specs.declared.limits.TheConstants.{MOST_NOTES}
-use Rattle.std.specs.Prelude.{◌≡◌, ◌≤◌, ◌<◌, ℕ, Bool, true, false, List, length, All, ⊤}
+use Rattle.std.specs.Prelude.{◌≡◌, ◌≤◌, ◌<◌, ◌+◌, ◌*◌, ℕ, Bool, true, false, List, length, slice_index_or, Option, None, All, ⊤}
 use Rattle.rhythm_base.specs.declared.event.Event.{Event}
 use Rattle.rhythm_base.specs.declared.event.What.{What}
 use Rattle.rhythm_base.specs.declared.event.What.TheVariants.{On, Off}
@@ -34,6 +34,10 @@ pub record IsPlayed (last : ℕ) (n : Note) : Type 0 where
   pub key : n.key < 128
   pub after : n.onset ≤ n.end
   pub within : n.end ≤ last
+
+-- the onset of the note that was put last at the channel and the key of a note
+abbrev pub onset_at : List (Option ℕ) → Note → Option ℕ
+onset_at onsets n = slice_index_or onsets (128 * n.channel + n.key) None
 
 -- the notes of events: there are some, and not too many
 pub record ArePaired (last : ℕ) (events : List Event) (list : List Note) : Type 0 where

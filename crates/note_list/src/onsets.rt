@@ -1,4 +1,6 @@
-ghost use Rattle.std.specs.Prelude.{◌≡◌, ◌≢◌, ◌<◌, ◌+◌, ◌*◌, ◌↔◌, All, IfOk, IsTrue, None, Some, length, slice_index_or, slice_set};
+ghost use Rattle.note_list.specs.Pairing.{IsPlayable, onset_at};
+ghost use Rattle.rhythm_base.specs.declared.event.What.TheVariants.{On};
+ghost use Rattle.std.specs.Prelude.{◌≡◌, ◌≢◌, ◌+◌, ◌*◌, ◌↔◌, All, IfOk, IsTrue, None, Some, length, slice_set};
 
 use crate::ends::place_of;
 use rhythm_base::Note;
@@ -34,9 +36,8 @@ impl Onsets {
 
     /// Puts a note at its channel and key. It is new where none stands there, or one of another onset.
     pub fn insert(&mut self, note: Note) -> bool
-        requires channel { note.channel < 16 }
-        requires key { note.key < 128 }
-        ensures new { IsTrue result ↔ (slice_index_or self.old (128 * note.channel + note.key) None ≢ Some note.onset) }
+        requires { IsPlayable (On note.channel note.key) }
+        ensures new { IsTrue result ↔ (onset_at self.old note ≢ Some note.onset) }
         ensures onsets { self.new ≡ slice_set self.old (128 * note.channel + note.key) (Some note.onset) }
     {
         let place = place_of(note.channel, note.key);

@@ -8,6 +8,7 @@ pub mod KeySets
 pub mod LastEnds
 pub mod ListParts
 pub mod Members
+pub mod NoteBlocks
 pub mod NotePlaces
 pub mod NumbersBelow
 pub mod Numerals

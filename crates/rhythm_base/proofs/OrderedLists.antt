@@ -8,7 +8,7 @@ use Rattle.std.specs.declared.cmp.Ordering.{Ordering}
 use Rattle.std.proofs.lemmas.List.Elements.{All-append, All-filter, filter_passes}
 use Rattle.std.proofs.lemmas.List.Kept.{AllPairs-cons, AllPairs-filter}
 use Rattle.std.proofs.lemmas.Bool.{not-true, cases_order}
-use Rattle.rhythm_base.specs.Lists.{list_with, AreInOrder}
+use Rattle.rhythm_base.specs.Lists.{list_with, AreInOrder, earlier}
 use Rattle.rhythm_base.proofs.TotalOrders.{above, before_above, both_above, list_equal}
 use Rattle.std.specs.List.Sorted.{IsStrictlyIncreasing}
 use Rattle.std.specs.Cmp.{nat_cmp_is}
@@ -56,9 +56,6 @@ is_less Greater h = absurd (cc)
 
 by_less : (r : Ordering) → r ≡ Less → is_lt r ≡ true
 by_less r h = ap is_lt h
-
-abbrev pub earlier : List ℕ → List ℕ → Bool
-earlier a b = is_lt (slice_cmp nat_cmp a b)
 
 through : (a b c : List ℕ) → earlier a b ≡ true → earlier b c ≡ true → (t : Bool) → earlier a c ≡ t → t ≡ true
 through a b c h k true is = refl

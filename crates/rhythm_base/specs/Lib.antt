@@ -17,6 +17,7 @@ pub mod Least
 pub mod Leaves
 pub mod Line
 pub mod Lists
+pub mod NoteBlocks
 pub mod Notes
 pub mod Numerals
 pub mod Paths

@@ -1,5 +1,5 @@
 -- Lists in an order, and their last and greatest members.
-use Rattle.std.specs.Prelude.{◌≡◌, ℕ, List, AllPairs, length, ◌-◌, slice_get, Option, [], ◌∷◌, ◌+◌, not, ◌++◌, filter, fold, min, max}
+use Rattle.std.specs.Prelude.{◌≡◌, ℕ, Bool, List, AllPairs, length, ◌-◌, slice_get, Option, [], ◌∷◌, ◌+◌, not, ◌++◌, filter, fold, min, max}
 use Rattle.std.specs.Ordering.{nat_cmp, is_lt}
 use Rattle.std.specs.Cmp.Lexicographic.{slice_cmp}
 use Rattle.std.specs.declared.cmp.Ordering.TheVariants.{Less}
@@ -7,6 +7,10 @@ use Rattle.std.specs.declared.cmp.Ordering.TheVariants.{Less}
 -- each is before all that follow, so no two have one place
 abbrev pub AreInOrder : {X : Type 0} → (X → List ℕ) → List X → Type 0
 AreInOrder place xs = AllPairs (λ x y. slice_cmp nat_cmp (place x) (place y) ≡ Less) xs
+
+-- of two places the first is before the second
+abbrev pub earlier : List ℕ → List ℕ → Bool
+earlier a b = is_lt (slice_cmp nat_cmp a b)
 
 -- the last of a list
 abbrev pub last_of : {X : Type 0} → List X → Option X

@@ -152,4 +152,27 @@ impl BarInput {
     {
         self.pin.as_ref()
     }
+
+    /// An equal input.
+    pub fn copy(&self, alloc: Global) -> Result<BarInput, AllocError>
+        ensures { IfOk result (λ b. b ≡ self.now) }
+    {
+        let onsets = self.onsets.as_slice().to_vec(alloc)?;
+        let pin = copied_pin(alloc, self.pin())?;
+        Ok(BarInput {
+            onsets,
+            pin,
+            ..*self
+        })
+    }
+}
+
+/// An equal pin, where there is one.
+pub fn copied_pin(alloc: Global, pin: Option<&Shape>) -> Result<Option<Shape>, AllocError>
+    ensures { IfOk result (λ o. o ≡ option_map (λ s. s.now) pin.entry) }
+{
+    match pin {
+        None => Ok(None),
+        Some(shape) => Ok(Some(shape.copy(alloc)?)),
+    }
 }

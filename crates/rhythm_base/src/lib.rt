@@ -6,6 +6,7 @@
 mod bar_fault;
 mod bar_input;
 mod best;
+mod carry;
 mod chord;
 mod edit;
 mod edit_fault;
@@ -18,6 +19,7 @@ mod kids;
 mod limits;
 mod name;
 mod note;
+mod notes;
 mod performance;
 mod pin;
 mod portions;
@@ -32,11 +34,14 @@ mod tag;
 mod tree;
 mod tree_from_rules;
 mod tree_shape;
+mod units;
 mod words;
+mod workers;
 
 pub use bar_fault::BarFault;
-pub use bar_input::BarInput;
+pub use bar_input::{BarInput, copied_pin};
 pub use best::Best;
+pub use carry::Carry;
 pub use chord::Chord;
 pub use edit::Edit;
 pub use edit_fault::{EditFault, LimitKind};
@@ -47,13 +52,15 @@ pub use inner::Inner;
 pub use keys::Keys;
 pub use kids::Kids;
 pub use limits::{
-    DEAREST_CELL, HEAVIEST_ONSET, HEAVIEST_RULE, LATEST_EVENT, LATEST_TICK, LONGEST_GRAMMAR,
-    LONGEST_MIDI, LONGEST_SCORE, LONGEST_SCRIPT, LONGEST_SCRIPT_LINE, MOST_BARS, MOST_CELLS,
-    MOST_DIVISION, MOST_LEVELS_BELOW, MOST_NAMES, MOST_NOTES, MOST_PARTS, MOST_RULES,
-    MOST_UNEQUAL_UNITS, MOST_UNITS, MOST_VOICES, SLOWEST_TEMPO, WIDEST_WINDOW,
+    DEAREST_CELL, FARTHEST_CHORDS, FARTHEST_ONSET, HEAVIEST_ONSET, HEAVIEST_RULE, LATEST_EVENT,
+    LATEST_TICK, LONGEST_GRAMMAR, LONGEST_MIDI, LONGEST_SCORE, LONGEST_SCRIPT, LONGEST_SCRIPT_LINE,
+    MOST_BARS, MOST_CARRIED, MOST_CELLS, MOST_DIVISION, MOST_LEVELS_BELOW, MOST_NAMES, MOST_NOTES,
+    MOST_PARTS, MOST_RULES, MOST_UNEQUAL_UNITS, MOST_UNITS, MOST_VOICES, MOST_WORKERS,
+    SLOWEST_TEMPO, WIDEST_WINDOW,
 };
 pub use name::Name;
 pub use note::{Bar, Note};
+pub use notes::{Block, Notes};
 pub use performance::Performance;
 pub use pin::Pin;
 pub use portions::Portions;
@@ -65,4 +72,6 @@ pub use sound::{Sound, SoundKind};
 pub use span::{Frac, Span};
 pub use tag::Tag;
 pub use tree::Tree;
+pub use units::Units;
 pub use words::Words;
+pub use workers::Workers;

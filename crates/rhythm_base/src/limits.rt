@@ -34,6 +34,9 @@ pub const MOST_RULES: usize = 512;
 /// The most parts of a cut.
 pub const MOST_PARTS: usize = 16;
 
+/// The most chords that are carried over a border.
+pub const MOST_CARRIED: u8 = 4;
+
 /// The most levels below the first level of a shape: 96 levels in all.
 pub const MOST_LEVELS_BELOW: usize = 95;
 
@@ -46,11 +49,20 @@ pub const HEAVIEST_RULE: u32 = 1_000_000;
 /// The greatest weight of an onset's displacement.
 pub const HEAVIEST_ONSET: u32 = 1_000;
 
+/// The greatest displacement of an onset, in 960ths of a quarter note: a bar of 64 whole notes.
+pub const FARTHEST_ONSET: u64 = 245_760;
+
+/// The greatest sum of the displacements of as many chords as can be carried over a border.
+pub const FARTHEST_CHORDS: u64 = 983_040;
+
 /// More than the least tree of a cell can cost, so that the sums over a voice's bars do not overflow.
 pub const DEAREST_CELL: u64 = 500_000_000_000;
 
 /// The most voices of a performance: there is one for each channel at most.
 pub const MOST_VOICES: usize = 16;
+
+/// The most workers that build cells side by side.
+pub const MOST_WORKERS: u32 = 16;
 
 /// The most bytes of a MIDI file.
 pub const LONGEST_MIDI: u64 = 16_777_216;

@@ -1,27 +1,32 @@
-ghost use Rattle.std.specs.Prelude.{◌≡◌};
 ghost use Rattle.rhythm_base.specs.Performance.{IsWellFormed, Performance};
+ghost use Rattle.std.specs.Arc.{arc_slice_items};
+ghost use Rattle.std.specs.Prelude.{◌≡◌, IfOk};
 
 use crate::event::{KeyMark, Tempo};
-use crate::note::{Bar, Note};
+use crate::note::Bar;
+use crate::notes::Notes;
 use crate::pin::Pin;
+use std::alloc::AllocError;
 use std::marker::Model;
+use std::sync::ArcSlice;
 
 /// A performance: what a MIDI file says, as far as a score takes it, and what edits made of it. It is always well formed.
 #[derive(Drop)]
 pub struct Performance {
     division: u16,
-    tempos: Vec<Tempo>,
-    key_marks: Vec<KeyMark>,
-    bars: Vec<Bar>,
+    tempos: ArcSlice<Tempo>,
+    key_marks: ArcSlice<KeyMark>,
+    bars: ArcSlice<Bar>,
     last: u64,
-    channels: Vec<u8>,
-    notes: Vec<Note>,
-    pins: Vec<Pin>,
+    channels: ArcSlice<u8>,
+    notes: Notes,
+    pins: ArcSlice<Pin>,
 }
 
 impl Model for Performance {
     ghost use Rattle.rhythm_base.specs.PerformanceCode.{performance_code};
     ghost use Rattle.rhythm_base.specs.Performance.{IsWellFormed, Performance};
+    ghost use Rattle.std.specs.Arc.{arc_slice_items};
 
     ghost Value = { Performance };
 
@@ -29,24 +34,24 @@ impl Model for Performance {
 
     ghost view = { λ p. record {
       division = p.division;
-      tempos = p.tempos.items;
-      key_marks = p.key_marks.items;
-      bars = p.bars.items;
+      tempos = arc_slice_items p.tempos;
+      key_marks = arc_slice_items p.key_marks;
+      bars = arc_slice_items p.bars;
       last = p.last;
-      channels = p.channels.items;
-      notes = p.notes.items;
-      pins = p.pins.items;
+      channels = arc_slice_items p.channels;
+      notes = p.notes;
+      pins = arc_slice_items p.pins;
     } };
 
     ghost invariant = { λ p. IsWellFormed record {
       division = p.division;
-      tempos = p.tempos.items;
-      key_marks = p.key_marks.items;
-      bars = p.bars.items;
+      tempos = arc_slice_items p.tempos;
+      key_marks = arc_slice_items p.key_marks;
+      bars = arc_slice_items p.bars;
       last = p.last;
-      channels = p.channels.items;
-      notes = p.notes.items;
-      pins = p.pins.items;
+      channels = arc_slice_items p.channels;
+      notes = p.notes;
+      pins = arc_slice_items p.pins;
     } };
 }
 
@@ -59,9 +64,9 @@ impl Performance {
         bars: Vec<Bar>,
         last: u64,
         channels: Vec<u8>,
-        notes: Vec<Note>,
+        notes: Notes,
         pins: Vec<Pin>,
-    ) -> Performance
+    ) -> Result<Performance, AllocError>
         requires { IsWellFormed record {
           division = division;
           tempos = tempos.items;
@@ -69,21 +74,26 @@ impl Performance {
           bars = bars.items;
           last = last;
           channels = channels.items;
-          notes = notes.items;
+          notes = notes;
           pins = pins.items;
         } }
-        ensures { result ≡ record {
+        ensures { IfOk result (λ p. p ≡ record {
           division = division;
           tempos = tempos.items;
           key_marks = key_marks.items;
           bars = bars.items;
           last = last;
           channels = channels.items;
-          notes = notes.items;
+          notes = notes;
           pins = pins.items;
-        } }
+        }) }
     {
-        Performance {
+        let tempos = ArcSlice::from_vec(tempos)?;
+        let key_marks = ArcSlice::from_vec(key_marks)?;
+        let bars = ArcSlice::from_vec(bars)?;
+        let channels = ArcSlice::from_vec(channels)?;
+        let pins = ArcSlice::from_vec(pins)?;
+        Ok(Performance {
             division,
             tempos,
             key_marks,
@@ -92,7 +102,43 @@ impl Performance {
             channels,
             notes,
             pins,
-        }
+        })
+    }
+
+    /// The performance with other bars, another last barline, other notes and other pins. The rest is shared.
+    pub fn with_parts(
+        &self,
+        bars: ArcSlice<Bar>,
+        last: u64,
+        notes: Notes,
+        pins: ArcSlice<Pin>,
+    ) -> Result<Performance, AllocError>
+        requires { IsWellFormed record self.now {
+          bars = arc_slice_items bars;
+          last = last;
+          notes = notes;
+          pins = arc_slice_items pins;
+        } }
+        ensures { IfOk result (λ p. p ≡ record self.now {
+          bars = arc_slice_items bars;
+          last = last;
+          notes = notes;
+          pins = arc_slice_items pins;
+        }) }
+    {
+        let tempos = self.tempos.clone()?;
+        let key_marks = self.key_marks.clone()?;
+        let channels = self.channels.clone()?;
+        Ok(Performance {
+            division: self.division,
+            tempos,
+            key_marks,
+            bars,
+            last,
+            channels,
+            notes,
+            pins,
+        })
     }
 
     /// Ticks of a quarter note, 1 to 32,767.
@@ -110,11 +156,25 @@ impl Performance {
         self.tempos.as_slice()
     }
 
+    /// The changes of tempo, shared.
+    pub fn shared_tempos(&self) -> Result<ArcSlice<Tempo>, AllocError>
+        ensures { IfOk result (λ tempos. arc_slice_items tempos ≡ self.now.tempos) }
+    {
+        self.tempos.clone()
+    }
+
     /// The changes of key, by tick.
     pub fn key_marks(&self) -> &[KeyMark]
         ensures { result.now ≡ self.now.key_marks }
     {
         self.key_marks.as_slice()
+    }
+
+    /// The changes of key, shared.
+    pub fn shared_key_marks(&self) -> Result<ArcSlice<KeyMark>, AllocError>
+        ensures { IfOk result (λ key_marks. arc_slice_items key_marks ≡ self.now.key_marks) }
+    {
+        self.key_marks.clone()
     }
 
     /// The bars, 1 to 4,096, side by side from tick 0.
@@ -123,6 +183,13 @@ impl Performance {
         ensures formed { IsWellFormed self.now }
     {
         self.bars.as_slice()
+    }
+
+    /// The bars, shared.
+    pub fn shared_bars(&self) -> Result<ArcSlice<Bar>, AllocError>
+        ensures { IfOk result (λ bars. arc_slice_items bars ≡ self.now.bars) }
+    {
+        self.bars.clone()
     }
 
     /// The tick of the last barline, at most 2,000,000,000.
@@ -140,11 +207,11 @@ impl Performance {
     }
 
     /// The notes, by channel, onset and key.
-    pub fn notes(&self) -> &[Note]
+    pub fn notes(&self) -> &Notes
         ensures value { result.now ≡ self.now.notes }
         ensures formed { IsWellFormed self.now }
     {
-        self.notes.as_slice()
+        &self.notes
     }
 
     /// The pins, by channel and bar, at most one a cell.
@@ -152,5 +219,12 @@ impl Performance {
         ensures { result.now ≡ self.now.pins }
     {
         self.pins.as_slice()
+    }
+
+    /// The pins, shared.
+    pub fn shared_pins(&self) -> Result<ArcSlice<Pin>, AllocError>
+        ensures { IfOk result (λ pins. arc_slice_items pins ≡ self.now.pins) }
+    {
+        self.pins.clone()
     }
 }

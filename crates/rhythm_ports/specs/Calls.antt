@@ -1,5 +1,5 @@
 -- The calls of an object in memory.
-use Rattle.std.specs.Prelude.{ℕ, Bool, List, Contains, min}
+use Rattle.std.specs.Prelude.{ℕ, Bool, List, Contains, length, min}
 use Rattle.rhythm_ports.specs.Counts.{next_count, count_after}
 
 -- the most bytes that a call moves, the numbers of the calls that fail, the number of the next call, and how many failed
@@ -21,6 +21,6 @@ FailsNext calls = Contains calls.failing calls.next
 abbrev pub calls_after : Calls → Bool → Calls
 calls_after calls failed = record calls { next = next_count calls.next; faults = count_after calls.faults failed }
 
--- how many bytes a read moves: as many as are held and find room, up to the most of a call
-abbrev pub moved_count : ℕ → ℕ → ℕ → ℕ
-moved_count most room held = min (min held room) most
+-- how many bytes a read into a buffer moves of those that are left: as many as find room, up to the most of a call
+abbrev pub moved_count : ℕ → List ℕ → List ℕ → ℕ
+moved_count most buffer left = min (min (length left) (length buffer)) most

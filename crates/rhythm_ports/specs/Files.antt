@@ -1,6 +1,7 @@
 -- Files by their names.
-use Rattle.std.specs.Prelude.{◌≡◌, ◌≢◌, ℕ, Bool, List, [], ◌∷◌, Option, Some, None, unwrap_or, ⊤, if◌then◌else◌}
+use Rattle.std.specs.Prelude.{◌≡◌, ◌≢◌, ℕ, Bool, List, [], ◌∷◌, Option, Some, None, is_none, unwrap_or, ⊤, if◌then◌else◌}
 use Rattle.std.specs.Str.{bytes_eq}
+use Rattle.rhythm_ports.specs.Counts.{count_after}
 
 -- a file: its name as UTF-8, and its bytes
 pub record File : Type 0 where
@@ -31,6 +32,10 @@ pub record PutsFile (old new : List File) (name bytes : List ℕ) : Type 0 where
 abbrev pub Opens : Option (List File) → List ℕ → Option (List ℕ) → Type 0
 Opens None name rest = ⊤
 Opens (Some files) name rest = rest ≡ Some (unwrap_or (file_of files name) [])
+
+-- how many strays there are after an open of a name: an absent one is a stray
+abbrev pub strays_after : List File → List ℕ → ℕ → ℕ
+strays_after files name before = count_after before (is_none (file_of files name))
 
 -- an open of a name that the files have is no stray
 abbrev pub KeepsStrays : Option (List File) → List ℕ → ℕ → ℕ → Type 0

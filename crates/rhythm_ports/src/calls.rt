@@ -1,15 +1,16 @@
 ghost use Rattle.rhythm_ports.specs.Calls.{FailsNext, calls_at_start};
 ghost use Rattle.rhythm_ports.specs.Counts.{next_count};
-ghost use Rattle.std.specs.Prelude.{◌≡◌, ◌≤◌, ◌↔◌, IsTrue};
+ghost use Rattle.std.specs.Prelude.{◌≡◌, ◌↔◌, IsTrue};
 
 use crate::failed::Failed;
+use crate::piece_size::PieceSize;
 use std::marker::Model;
 
 /// The calls of an object in memory, numbered from 0: how many bytes one moves at most, and which
 /// of them fail.
 #[derive(Debug, Drop)]
 pub(crate) struct Calls {
-    most: usize,
+    most: PieceSize,
     failing: Vec<u64>,
     next: u64,
     faults: u64,
@@ -17,7 +18,6 @@ pub(crate) struct Calls {
 
 impl Model for Calls {
     ghost use Rattle.rhythm_ports.specs.Calls.{Calls};
-    ghost use Rattle.std.specs.Prelude.{◌≤◌};
 
     ghost Value = { Calls };
 
@@ -27,13 +27,10 @@ impl Model for Calls {
       next = c.next;
       faults = c.faults;
     } };
-
-    ghost invariant = { λ c. 1 ≤ c.most };
 }
 
 impl Calls {
-    pub(crate) fn new(most: usize, failing: Vec<u64>) -> Calls
-        requires { 1 ≤ most }
+    pub(crate) fn new(most: PieceSize, failing: Vec<u64>) -> Calls
         ensures { result ≡ calls_at_start most failing.items }
     {
         Calls {
@@ -45,9 +42,8 @@ impl Calls {
     }
 
     /// The most bytes that a call moves.
-    pub(crate) fn most(&self) -> usize
-        ensures value { result ≡ self.now.most }
-        ensures some { 1 ≤ result }
+    pub(crate) fn most(&self) -> PieceSize
+        ensures { result ≡ self.now.most }
     {
         self.most
     }

@@ -12,6 +12,7 @@ mod means;
 mod memory_shelf;
 mod memory_sink;
 mod memory_source;
+mod piece_size;
 mod read_end;
 mod real_input;
 mod real_output;

@@ -1,7 +1,6 @@
 ghost use Rattle.rhythm_ports.specs.Calls.{FailsNext, calls_after, calls_at_start, moved_count};
 ghost use Rattle.rhythm_ports.specs.Causes.{HasCause};
-ghost use Rattle.rhythm_ports.specs.Counts.{count_after};
-ghost use Rattle.rhythm_ports.specs.Files.{KeepsStrays, Opens, PutsFile, file_of};
+ghost use Rattle.rhythm_ports.specs.Files.{KeepsStrays, Opens, PutsFile, file_of, strays_after};
 ghost use Rattle.std.specs.Io.{ReadsAtMost};
 ghost use Rattle.std.specs.Io.KnownBytes.{IsAtEnd, ReadConsumes};
 ghost use Rattle.std.specs.Prelude.{
@@ -19,12 +18,12 @@ ghost use Rattle.std.specs.Prelude.{
   OnOk,
   Some,
   is_err,
-  is_none,
-  length,
+  max,
 };
 
 use crate::calls::Calls;
 use crate::failed::Failed;
+use crate::piece_size::PieceSize;
 use crate::shelf::Shelf;
 use crate::stock::Stock;
 use std::alloc::{AllocError, Global};
@@ -55,16 +54,16 @@ impl Model for MemShelf {
 impl MemShelf {
     /// A shelf with no file. A read moves at most `most` bytes, and the calls whose numbers, from 0,
     /// are in `failing` fail. The calls of `open` and of `read` are numbered together.
+    /// Where `most` is 0 it moves one.
     pub fn new(alloc: Global, most: usize, failing: Vec<u64>) -> MemShelf
-        requires { 1 ≤ most }
         ensures files { result.files ≡ [] }
         ensures rest { result.rest ≡ [] }
-        ensures calls { result.calls ≡ calls_at_start most failing.items }
+        ensures calls { result.calls ≡ calls_at_start (max most 1) failing.items }
         ensures strays { result.strays ≡ 0 }
     {
         MemShelf {
             stock: Stock::new(alloc),
-            calls: Calls::new(most, failing),
+            calls: Calls::new(PieceSize::of(most), failing),
             strays: 0,
         }
     }
@@ -106,8 +105,7 @@ impl Shelf for MemShelf {
         ensures fails { IsErr result
             ↔ (FailsNext self.old.calls ⊎ (file_of self.old.files name.now ≡ None)) }
         ensures calls { self.new.calls ≡ calls_after self.old.calls (is_err result) }
-        ensures stray { self.new.strays
-            ≡ count_after self.old.strays (is_none (file_of self.old.files name.now)) }
+        ensures stray { self.new.strays ≡ strays_after self.old.files name.now self.old.strays }
     {
         let fails = self.calls.begin_failing();
         let is_there = self.stock.open(name);
@@ -132,8 +130,8 @@ impl Shelf for MemShelf {
         // It fails exactly in the calls that were named, and moves as many bytes as it may.
         ensures fails { IsErr result ↔ FailsNext self.old.calls }
         ensures calls { self.new.calls ≡ calls_after self.old.calls (is_err result) }
-        ensures count { IfOk result (λ count.
-            count ≡ moved_count self.old.calls.most (length buf.new) (length self.old.rest)) }
+        ensures count { IfOk result
+            (λ count. count ≡ moved_count self.old.calls.most buf.new self.old.rest) }
     {
         if self.calls.begin_failing() {
             return Err(self.calls.fail());

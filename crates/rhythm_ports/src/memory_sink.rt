@@ -2,10 +2,11 @@ ghost use Rattle.rhythm_ports.specs.Calls.{FailsNext, calls_after, calls_at_star
 ghost use Rattle.rhythm_ports.specs.Causes.{HasCause};
 ghost use Rattle.std.specs.Io.{WritesAtMost};
 ghost use Rattle.std.specs.Io.KnownBytes.{WriteAppends};
-ghost use Rattle.std.specs.Prelude.{◌≡◌, ◌<◌, ◌≤◌, ◌⊎◌, [], IfOk, IsErr, OnErr, Some, is_err, length, min};
+ghost use Rattle.std.specs.Prelude.{◌≡◌, ◌<◌, ◌⊎◌, [], IfOk, IsErr, OnErr, Some, is_err, length, max, min};
 
 use crate::calls::Calls;
 use crate::failed::Failed;
+use crate::piece_size::PieceSize;
 use crate::sink::Sink;
 use std::alloc::Global;
 use std::marker::Model;
@@ -29,14 +30,14 @@ impl Model for MemSink {
 impl MemSink {
     /// An empty sink. A call takes at most `most` bytes, and the calls whose numbers, from 0, are in
     /// `failing` fail.
+    /// Where `most` is 0 it takes one.
     pub fn new(alloc: Global, most: usize, failing: Vec<u64>) -> MemSink
-        requires { 1 ≤ most }
         ensures empty { result.bytes ≡ [] }
-        ensures calls { result.calls ≡ calls_at_start most failing.items }
+        ensures calls { result.calls ≡ calls_at_start (max most 1) failing.items }
     {
         MemSink {
             bytes: Vec::new(alloc),
-            calls: Calls::new(most, failing),
+            calls: Calls::new(PieceSize::of(most), failing),
         }
     }
 
@@ -70,7 +71,7 @@ impl Sink for MemSink {
         ensures count { IfOk result (λ count. count ≡ min (length piece.now) self.old.calls.most) }
     {
         let fails = self.calls.begin_failing();
-        let count = piece.len().min(self.calls.most());
+        let count = piece.len().min(self.calls.most().count());
         if fails || self.bytes.extend_from_slice(&piece[..count]).is_err() {
             return Err(self.calls.fail());
         }

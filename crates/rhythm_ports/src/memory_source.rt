@@ -2,10 +2,11 @@ ghost use Rattle.rhythm_ports.specs.Calls.{FailsNext, calls_after, calls_at_star
 ghost use Rattle.rhythm_ports.specs.Causes.{HasCause};
 ghost use Rattle.std.specs.Io.{ReadsAtMost};
 ghost use Rattle.std.specs.Io.KnownBytes.{ReadConsumes};
-ghost use Rattle.std.specs.Prelude.{◌≡◌, ◌≤◌, ◌↔◌, IfOk, IsErr, Some, is_err, length};
+ghost use Rattle.std.specs.Prelude.{◌≡◌, ◌↔◌, IfOk, IsErr, Some, is_err, max};
 
 use crate::calls::Calls;
 use crate::failed::Failed;
+use crate::piece_size::PieceSize;
 use crate::source::Source;
 use crate::unread::Unread;
 use std::marker::Model;
@@ -28,14 +29,14 @@ impl Model for MemSource {
 impl MemSource {
     /// A source of the bytes. A call moves at most `most` of them, and the calls whose numbers,
     /// from 0, are in `failing` fail.
+    /// Where `most` is 0 it moves one.
     pub fn new(bytes: Vec<u8>, most: usize, failing: Vec<u64>) -> MemSource
-        requires { 1 ≤ most }
         ensures rest { result.rest ≡ bytes.items }
-        ensures calls { result.calls ≡ calls_at_start most failing.items }
+        ensures calls { result.calls ≡ calls_at_start (max most 1) failing.items }
     {
         MemSource {
             unread: Unread::new(bytes),
-            calls: Calls::new(most, failing),
+            calls: Calls::new(PieceSize::of(most), failing),
         }
     }
 }
@@ -54,8 +55,8 @@ impl Source for MemSource {
         // It fails exactly in the calls that were named, and moves as many bytes as it may.
         ensures fails { IsErr result ↔ FailsNext self.old.calls }
         ensures calls { self.new.calls ≡ calls_after self.old.calls (is_err result) }
-        ensures count { IfOk result (λ count.
-            count ≡ moved_count self.old.calls.most (length buf.new) (length self.old.rest)) }
+        ensures count { IfOk result
+            (λ count. count ≡ moved_count self.old.calls.most buf.new self.old.rest) }
     {
         if self.calls.begin_failing() {
             return Err(self.calls.fail());

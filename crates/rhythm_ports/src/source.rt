@@ -81,9 +81,7 @@ mod tests {
         }
     }
 
-    fn digits(alloc: Global, most: usize) -> Result<SureSource, AllocError>
-        requires { 1 ≤ most }
-    {
+    fn digits(alloc: Global, most: usize) -> Result<SureSource, AllocError> {
         Ok(SureSource::new(DIGITS.to_vec(alloc)?, most))
     }
 

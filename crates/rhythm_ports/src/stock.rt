@@ -4,7 +4,6 @@ ghost use Rattle.std.specs.Prelude.{
   ◌≡◌,
   ◌≢◌,
   ◌<◌,
-  ◌≤◌,
   ◌++◌,
   [],
   IsOk,
@@ -19,6 +18,7 @@ ghost use Rattle.std.specs.Prelude.{
   unwrap_or,
 };
 
+use crate::piece_size::PieceSize;
 use crate::unread::{fill, rest_of};
 use std::alloc::{AllocError, Global};
 use std::marker::Model;
@@ -128,9 +128,8 @@ impl Stock {
     }
 
     /// Moves a first part of the chosen file's rest to the front of the buffer.
-    pub(crate) fn read(&mut self, buf: &mut [u8], most: usize) -> usize
-        requires { 1 ≤ most }
-        ensures count { result ≡ moved_count most (length buf.old) (length self.old.rest) }
+    pub(crate) fn read(&mut self, buf: &mut [u8], most: PieceSize) -> usize
+        ensures count { result ≡ moved_count most buf.old self.old.rest }
         ensures moved { self.old.rest ≡ take result buf.new ++ self.new.rest }
         ensures end { result ≡ 0 → 0 < length buf.old → self.new.rest ≡ [] }
         ensures files { self.new.files ≡ self.old.files }

@@ -1,7 +1,6 @@
 ghost use Rattle.rhythm_ports.specs.Calls.{moved_count};
 ghost use Rattle.rhythm_ports.specs.Causes.{HasCause};
-ghost use Rattle.rhythm_ports.specs.Counts.{count_after};
-ghost use Rattle.rhythm_ports.specs.Files.{KeepsStrays, Opens, PutsFile, file_of};
+ghost use Rattle.rhythm_ports.specs.Files.{KeepsStrays, Opens, PutsFile, file_of, strays_after};
 ghost use Rattle.std.specs.Io.{ReadsAtMost};
 ghost use Rattle.std.specs.Io.KnownBytes.{IsAtEnd, ReadConsumes};
 ghost use Rattle.std.specs.Prelude.{
@@ -15,11 +14,11 @@ ghost use Rattle.std.specs.Prelude.{
   OnErr,
   OnOk,
   Some,
-  is_none,
-  length,
+  max,
 };
 
 use crate::failed::Failed;
+use crate::piece_size::PieceSize;
 use crate::shelf::Shelf;
 use crate::stock::Stock;
 use std::alloc::{AllocError, Global};
@@ -30,13 +29,12 @@ use std::marker::Model;
 #[derive(Debug, Drop)]
 pub struct SureShelf {
     stock: Stock,
-    most: usize,
+    most: PieceSize,
     strays: u64,
 }
 
 impl Model for SureShelf {
     ghost use Rattle.rhythm_ports.specs.Memory.{SureShelfState};
-    ghost use Rattle.std.specs.Prelude.{◌≤◌};
 
     ghost Value = { SureShelfState };
 
@@ -46,22 +44,20 @@ impl Model for SureShelf {
       most = s.most;
       strays = s.strays;
     } };
-
-    ghost invariant = { λ s. 1 ≤ s.most };
 }
 
 impl SureShelf {
     /// A shelf with no file. A read moves at most `most` bytes.
+    /// Where `most` is 0 it moves one.
     pub fn new(alloc: Global, most: usize) -> SureShelf
-        requires { 1 ≤ most }
         ensures files { result.files ≡ [] }
         ensures rest { result.rest ≡ [] }
-        ensures most { result.most ≡ most }
+        ensures most { result.most ≡ max most 1 }
         ensures strays { result.strays ≡ 0 }
     {
         SureShelf {
             stock: Stock::new(alloc),
-            most,
+            most: PieceSize::of(most),
             strays: 0,
         }
     }
@@ -102,8 +98,7 @@ impl Shelf for SureShelf {
         // It never fails, and an absent name is a stray.
         ensures sure { IsOk result }
         ensures most { self.new.most ≡ self.old.most }
-        ensures stray { self.new.strays
-            ≡ count_after self.old.strays (is_none (file_of self.old.files name.now)) }
+        ensures stray { self.new.strays ≡ strays_after self.old.files name.now self.old.strays }
     {
         if !self.stock.open(name) {
             self.strays = self.strays.saturating_add(1);
@@ -120,8 +115,7 @@ impl Shelf for SureShelf {
         ensures strays { self.new.strays ≡ self.old.strays }
 
         // It never fails, and moves as many bytes as it may.
-        ensures count { result
-            ≡ Ok (moved_count self.old.most (length buf.new) (length self.old.rest)) }
+        ensures count { result ≡ Ok (moved_count self.old.most buf.new self.old.rest) }
         ensures most { self.new.most ≡ self.old.most }
     {
         Ok(self.stock.read(buf, self.most))

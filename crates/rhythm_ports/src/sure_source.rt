@@ -2,9 +2,10 @@ ghost use Rattle.rhythm_ports.specs.Calls.{moved_count};
 ghost use Rattle.rhythm_ports.specs.Causes.{HasCause};
 ghost use Rattle.std.specs.Io.{ReadsAtMost};
 ghost use Rattle.std.specs.Io.KnownBytes.{ReadConsumes};
-ghost use Rattle.std.specs.Prelude.{◌≡◌, ◌≤◌, Ok, Some, length};
+ghost use Rattle.std.specs.Prelude.{◌≡◌, Ok, Some, max};
 
 use crate::failed::Failed;
+use crate::piece_size::PieceSize;
 use crate::source::Source;
 use crate::unread::Unread;
 use std::marker::Model;
@@ -13,30 +14,27 @@ use std::marker::Model;
 #[derive(Debug, Drop)]
 pub struct SureSource {
     unread: Unread,
-    most: usize,
+    most: PieceSize,
 }
 
 impl Model for SureSource {
     ghost use Rattle.rhythm_ports.specs.Memory.{SureSourceState};
-    ghost use Rattle.std.specs.Prelude.{◌≤◌};
 
     ghost Value = { SureSourceState };
 
     ghost view = { λ s. record { rest = s.unread; most = s.most } };
-
-    ghost invariant = { λ s. 1 ≤ s.most };
 }
 
 impl SureSource {
     /// A source of the bytes. A call moves at most `most` of them.
+    /// Where `most` is 0 it moves one.
     pub fn new(bytes: Vec<u8>, most: usize) -> SureSource
-        requires { 1 ≤ most }
         ensures rest { result.rest ≡ bytes.items }
-        ensures most { result.most ≡ most }
+        ensures most { result.most ≡ max most 1 }
     {
         SureSource {
             unread: Unread::new(bytes),
-            most,
+            most: PieceSize::of(most),
         }
     }
 }
@@ -53,8 +51,7 @@ impl Source for SureSource {
         ensures cause { HasCause 0 0 result }
 
         // It never fails, and moves as many bytes as it may.
-        ensures count { result
-            ≡ Ok (moved_count self.old.most (length buf.new) (length self.old.rest)) }
+        ensures count { result ≡ Ok (moved_count self.old.most buf.new self.old.rest) }
         ensures most { self.new.most ≡ self.old.most }
     {
         Ok(self.unread.read(buf, self.most))

@@ -1,6 +1,7 @@
 ghost use Rattle.rhythm_ports.specs.Calls.{moved_count};
-ghost use Rattle.std.specs.Prelude.{◌≡◌, ◌<◌, ◌≤◌, ◌++◌, [], drop, length, take};
+ghost use Rattle.std.specs.Prelude.{◌≡◌, ◌<◌, ◌++◌, [], drop, length, take};
 
+use crate::piece_size::PieceSize;
 use std::marker::Model;
 
 /// Bytes in memory, of which a first part was read.
@@ -26,9 +27,8 @@ impl Unread {
     }
 
     /// Moves a first part to the front of the buffer.
-    pub(crate) fn read(&mut self, buf: &mut [u8], most: usize) -> usize
-        requires { 1 ≤ most }
-        ensures count { result ≡ moved_count most (length buf.old) (length self.old) }
+    pub(crate) fn read(&mut self, buf: &mut [u8], most: PieceSize) -> usize
+        ensures count { result ≡ moved_count most buf.old self.old }
         ensures moved { self.old ≡ take result buf.new ++ self.new }
         ensures end { result ≡ 0 → 0 < length buf.old → self.new ≡ [] }
     {
@@ -46,13 +46,12 @@ pub(crate) fn rest_of(bytes: &[u8], at: usize) -> &[u8]
 }
 
 /// Moves a first part to the front of the buffer: as many bytes as both have, up to `most`.
-pub(crate) fn fill(buf: &mut [u8], rest: &[u8], most: usize) -> usize
-    requires { 1 ≤ most }
-    ensures count { result ≡ moved_count most (length buf.old) (length rest.now) }
+pub(crate) fn fill(buf: &mut [u8], rest: &[u8], most: PieceSize) -> usize
+    ensures count { result ≡ moved_count most buf.old rest.now }
     ensures front { take result buf.new ≡ take result rest.now }
     ensures end { result ≡ 0 → 0 < length buf.old → rest.now ≡ [] }
 {
-    let count = rest.len().min(buf.len()).min(most);
+    let count = rest.len().min(buf.len()).min(most.count());
     buf[..count].copy_from_slice(&rest[..count]);
     count
 }

@@ -11,5 +11,5 @@ mod track;
 pub use chunk::{push_header, push_track};
 pub use laws::quantities_are_shortest;
 pub use message::push_event;
-pub use quantity::GREATEST_QUANTITY;
+pub use quantity::{GREATEST_QUANTITY, Quantity};
 pub use track::{push_end, track_content};

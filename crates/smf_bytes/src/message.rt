@@ -3,7 +3,7 @@ ghost use Rattle.smf_bytes.specs.Quantity.{quantity_bytes};
 ghost use Rattle.smf_bytes.specs.declared.quantity.TheConstants.{GREATEST_QUANTITY};
 ghost use Rattle.std.specs.Prelude.{◌≡◌, ◌++◌, ◌≤◌, ◌<◌, ◌∷◌, [], OnOk, length};
 
-use crate::quantity::push_quantity;
+use crate::quantity::{Quantity, push_quantity};
 use rhythm_base::What;
 use std::alloc::AllocError;
 
@@ -13,17 +13,17 @@ use std::alloc::AllocError;
 #[tactic(auto, using(crate::proofs::ShortForms::one_byte, crate::proofs::ShortForms::two_bytes))]
 fn push_key(
     content: &mut Vec<u8>,
-    ticks: u64,
+    ticks: Quantity,
     status: u8,
     key: u8,
     velocity: u8,
 ) -> Result<(), AllocError>
-    requires { ticks ≤ GREATEST_QUANTITY }
     ensures { OnOk result (content.new.items ≡ content.old.items ++ (quantity_bytes ticks ++ status ∷ key ∷ velocity ∷ [])) }
 {
-    let lowest = (ticks % 128) as u8;
-    let low = 128 + (ticks / 128 % 128) as u8;
-    match ticks {
+    let number = ticks.count();
+    let lowest = (number % 128) as u8;
+    let low = 128 + (number / 128 % 128) as u8;
+    match number {
         0..128 => content.extend_from_slice(&[lowest, status, key, velocity]),
         128..16384 => content.extend_from_slice(&[low, lowest, status, key, velocity]),
         _ => {
@@ -34,9 +34,13 @@ fn push_key(
 }
 
 /// Appends a meta event of this type after the number of ticks since the event before it.
-fn push_meta(content: &mut Vec<u8>, ticks: u64, kind: u8, said: &[u8]) -> Result<(), AllocError>
-    requires early { ticks ≤ GREATEST_QUANTITY }
-    requires short { length said.now < 128 }
+fn push_meta(
+    content: &mut Vec<u8>,
+    ticks: Quantity,
+    kind: u8,
+    said: &[u8],
+) -> Result<(), AllocError>
+    requires { length said.now < 128 }
     ensures { OnOk result (content.new.items ≡ content.old.items ++ (quantity_bytes ticks ++ 255 ∷ kind ∷ length said.now ∷ said.now)) }
 {
     push_quantity(content, ticks)?;
@@ -52,6 +56,7 @@ pub fn push_event(content: &mut Vec<u8>, ticks: u64, what: What) -> Result<(), A
     requires channel { HasChannel what }
     ensures { OnOk result (content.new.items ≡ content.old.items ++ (quantity_bytes ticks ++ message_bytes what)) }
 {
+    let ticks = Quantity::of(ticks);
     match what {
         What::On { channel, key } => push_key(content, ticks, 0x90 + channel, key, 0x40),
         What::Off { channel, key } => push_key(content, ticks, 0x80 + channel, key, 0),

@@ -12,23 +12,23 @@ use std::marker::Model;
 /// The tempo where there is no change yet, in microseconds of a quarter note.
 const USUAL: u32 = 500_000;
 
-/// The elapsed time, the tempo and the key at each tick of a file. Besides the changes it keeps the elapsed time at each
+/// The elapsed time, the tempo and the key at each tick of a file, by its changes, which are lent. It keeps the elapsed time at each
 /// change of tempo, so that the time at a tick is found without a sum over those before it.
 #[derive(Drop)]
-pub struct TempoMap {
-    tempos: Vec<Tempo>,
+pub struct TempoMap<'a> {
+    tempos: &'a [Tempo],
     elapsed: Vec<u64>,
-    key_marks: Vec<KeyMark>,
+    key_marks: &'a [KeyMark],
 }
 
-impl Model for TempoMap {
+impl<'a> Model for TempoMap<'a> {
     ghost use Rattle.tempo_map.specs.TempoMap.{IsTempoMap, TempoMap};
 
     ghost Value = { TempoMap };
 
-    ghost view = { λ m. record { tempos = m.tempos.items; key_marks = m.key_marks.items } };
+    ghost view = { λ m. record { tempos = m.tempos.now; key_marks = m.key_marks.now } };
 
-    ghost invariant = { λ m. IsTempoMap m.tempos.items m.elapsed.items m.key_marks.items };
+    ghost invariant = { λ m. IsTempoMap m.tempos.now m.elapsed.items m.key_marks.now };
 }
 
 /// The elapsed time at each change of tempo that is no later than the greatest tick of a score.
@@ -36,7 +36,7 @@ fn elapsed_of(alloc: Global, tempos: &[Tempo]) -> Result<Vec<u64>, AllocError>
     requires { IsNonDecreasing (map (λ t. t.tick) tempos.now) }
     ensures { IfOk result (λ v. AreElapsed tempos.now v.items) }
 {
-    let mut elapsed = Vec::new(alloc);
+    let mut elapsed = Vec::with_capacity(alloc, tempos.len())?;
     let mut time = 0;
     let mut last = Tempo {
         tick: 0,
@@ -68,22 +68,22 @@ fn time_at(tempos: &[Tempo], elapsed: &[u64], tick: u64) -> u64
     elapsed[count - 1] + (tick - tempo.tick) * u64::from(tempo.micros)
 }
 
-impl TempoMap {
+impl<'a> TempoMap<'a> {
     /// The map of these changes, which stand by tick; of changes at one tick the last counts.
     pub fn new(
         alloc: Global,
-        tempos: &[Tempo],
-        key_marks: &[KeyMark],
-    ) -> Result<TempoMap, AllocError>
+        tempos: &'a [Tempo],
+        key_marks: &'a [KeyMark],
+    ) -> Result<TempoMap<'a>, AllocError>
         requires tempos { IsNonDecreasing (map (λ t. t.tick) tempos.now) }
         requires key_marks { IsNonDecreasing (map (λ k. k.tick) key_marks.now) }
-        ensures { IfOk result (λ m. m ≡ record { tempos = tempos.now; key_marks = key_marks.now }) }
+        ensures { IfOk result (λ m. m ≡ record { tempos = tempos.entry.now; key_marks = key_marks.entry.now }) }
     {
         let elapsed = elapsed_of(alloc, tempos)?;
         Ok(TempoMap {
-            tempos: tempos.to_vec(alloc)?,
+            tempos,
             elapsed,
-            key_marks: key_marks.to_vec(alloc)?,
+            key_marks,
         })
     }
 
@@ -93,7 +93,7 @@ impl TempoMap {
         requires { tick ≤ LATEST_TICK }
         ensures { result ≡ times.time self.now.tempos tick }
     {
-        time_at(self.tempos.as_slice(), self.elapsed.as_slice(), tick)
+        time_at(self.tempos, self.elapsed.as_slice(), tick)
     }
 
     /// The tempo in force at a tick, in microseconds of a quarter note.
@@ -101,7 +101,7 @@ impl TempoMap {
         requires { tick ≤ LATEST_TICK }
         ensures { result ≡ times.tempo_at self.now.tempos tick }
     {
-        match tempo_in_force(self.tempos.as_slice(), tick) {
+        match tempo_in_force(self.tempos, tick) {
             Some(tempo) => tempo.micros,
             None => USUAL,
         }
@@ -112,6 +112,6 @@ impl TempoMap {
         requires { tick ≤ LATEST_TICK }
         ensures { result ≡ times.key_at self.now.key_marks tick }
     {
-        key_in_force(self.key_marks.as_slice(), tick).map(|mark| mark.sf)
+        key_in_force(self.key_marks, tick).map(|mark| mark.sf)
     }
 }

@@ -1,6 +1,6 @@
 -- The notes of one voice, and what holds of all their chords.
 use Rattle.rhythm_base.specs.declared.limits.TheConstants.{LATEST_TICK}
-use Rattle.std.specs.Prelude.{◌≡◌, ℕ, ◌≤◌, ◌<◌, List, map, All, AllPairs}
+use Rattle.std.specs.Prelude.{◌≡◌, ℕ, ◌≤◌, ◌<◌, ◌^◌, List, map, max, bit_or, All, AllPairs}
 use Rattle.std.specs.List.Sorted.{IsStrictlyIncreasing}
 use Rattle.rhythm_base.specs.declared.chord.Chord.{Chord}
 use Rattle.rhythm_base.specs.declared.event.Tempo.{Tempo}
@@ -20,6 +20,10 @@ pub record AreNotesOfVoice (notes : List Note) : Type 0 where
   pub channel : AllPairs (λ m n. m.channel ≡ n.channel) notes
   pub in_order : AreInOrder place_of_note notes
   pub each : All IsSounded notes
+
+-- a chord with one note more
+abbrev pub joined : Chord → Note → Chord
+joined chord n = record { onset = chord.onset; end = max chord.end n.end; keys = bit_or chord.keys (2 ^ n.key) }
 
 -- each chord begins after the one before it
 abbrev pub ChordsRise : Type 0

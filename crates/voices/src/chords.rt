@@ -1,6 +1,7 @@
-ghost use Rattle.std.specs.Prelude.{◌≡◌, ◌<◌, ◌^◌, [], ◌∷◌, IfOk, bit_or, length, max, vec_capacity};
+ghost use Rattle.std.specs.Prelude.{◌≡◌, ◌<◌, [], ◌∷◌, IfOk, length, vec_capacity};
 ghost use Rattle.rhythm_base.specs.Chords as chords;
-ghost use Rattle.voices.specs.Voice.{AreNotesOfVoice};
+ghost use Rattle.voices.specs.Voice as voice;
+ghost use Rattle.voices.specs.Voice.{AreNotesOfVoice, IsSounded};
 
 use rhythm_base::{Chord, Keys, Note};
 use std::alloc::{AllocError, Global};
@@ -8,7 +9,7 @@ use tempo_map::TempoMap;
 
 /// The chord of one note.
 fn chord_of(note: &Note) -> Chord
-    requires { note.now.key < 128 }
+    requires { IsSounded note.now }
     ensures { result ≡ chords.chord_of note.now [] }
 {
     Chord {
@@ -20,12 +21,8 @@ fn chord_of(note: &Note) -> Chord
 
 /// The chord with one note more.
 fn joined(chord: Chord, note: &Note) -> Chord
-    requires { note.now.key < 128 }
-    ensures { result ≡ record {
-      onset = chord.onset;
-      end = max chord.end note.now.end;
-      keys = bit_or chord.keys (2 ^ note.now.key);
-    } }
+    requires { IsSounded note.now }
+    ensures { result ≡ voice.joined chord note.now }
 {
     Chord {
         onset: chord.onset,

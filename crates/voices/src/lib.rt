@@ -5,7 +5,9 @@
 mod breaks;
 mod chords;
 mod laws;
+mod voice_notes;
 
 pub use breaks::{break_from, break_up_to};
 pub use chords::chords_of;
 pub use laws::{breaks_are_one, chords_rise, no_chord_ends_before_it_begins};
+pub use voice_notes::{VoiceNotes, notes_of_voice};

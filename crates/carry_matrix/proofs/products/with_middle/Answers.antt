@@ -1,23 +1,19 @@
-use Rattle.std.proofs.Common.{◌≡◌, ◌∙◌, ◌+◌, ℕ, suc, refl, sym, ap, arith}
-use Rattle.std.specs.Prelude.{Option}
+use Rattle.std.proofs.Common.{◌≡◌, ◌∙◌, ◌+◌, ℕ, suc, sym, ap, arith}
+use Rattle.std.specs.Prelude.{Option, Some}
 use Rattle.rhythm_base.specs.Ranked.{Sum, at, better, pick, sum_before, summed}
 use Rattle.carry_matrix.specs.Choices.{choices_below, choices_code}
 use Rattle.carry_matrix.proofs.Choices.{pick_low}
-use Rattle.carry_matrix.proofs.Rows.{low_rank}
 use Rattle.carry_matrix.proofs.products.with_middle.Goals as goal
-
-pub nearer_row-requires-clause-left : goal.nearer_row-requires-clause-left
-nearer_row-requires-clause-left c =
-    (c.in-Some.ensures.low c.in-Some.left refl, low_rank _ c.in-Some.ensures.sound _ _ c.in-Some.left c.requires.from c.requires.middle (sym c.in-Some.ensures.is))
 
 pub returns-in-Some : goal.returns-in-Some
 returns-in-Some c =
     let m : ℕ = c.args.middle in
     let sums : ℕ → ℕ → Option Sum = λ to m. summed (at c.args.a.now c.args.from m) (at c.args.b.now m to) in
     let next : suc m ≡ m + 1 = omega arith in
-    c.nearer_row.ensures (λ to. pick sum_before (sums to) m) (at c.args.b.now m) (pick_low c.args.a.now c.args.b.now c.requires.small c.requires.ranked c.args.from m (omega (arith, c.requires.middle)))
+    c.nearer_row.ensures (λ to. pick sum_before (sums to) m) (at c.args.b.now m) (pick_low c.args.a.now c.args.b.now c.requires.small c.requires.ranked c.args.from m (omega (arith, c.count.ensures.is, c.count.ensures.within)))
     c.requires.known c.row.ensures.is
     (λ to y lt s. c.requires.small c.args.from m m to c.in-Some.left y (sym c.in-Some.ensures.is) s)
+    ∙ ap (λ n. choices_code (λ to. better sum_before (pick sum_before (sums to) m) n (summed (Some c.in-Some.left) (at c.args.b.now m to)))) c.count.ensures.is
     ∙ ap (λ x. choices_code (λ to. better sum_before (pick sum_before (sums to) m) m (summed x (at c.args.b.now m to)))) c.in-Some.ensures.is
     ∙ ap (choices_below c.args.a.now c.args.b.now c.args.from) next
 

@@ -23,24 +23,24 @@ pub push_values-requires-clause-dots : goal.push_values-requires-clause-dots
 push_values-requires-clause-dots c =
     let xs = c.args.leaves.now in
     let i = c.leaves.leaf in
-    let e = c.dots-joined.ensures ∙ ap (dots c.args.whole (leaf_at xs i)) (after xs (i + 1)) in
-    subst (All (λ v. v.dots ≤ 2)) (sym c.deref.ensures.value) (group_few c.args.whole c.dots-joined.result (drop (i + 1) xs) (leaf_at xs i) c.renew.new.values.items e c.in_ok-renew.ensures)
+    let e = c.dots-joined.ensures ∙ ap (dots c.of-grid.result (leaf_at xs i)) (after xs (i + 1)) in
+    subst (All (λ v. v.dots ≤ 2)) (sym c.deref.ensures.value) (group_few c.of-grid.result c.dots-joined.result (drop (i + 1) xs) (leaf_at xs i) c.renew.new.values.items e c.in_ok-renew.ensures)
 
 pub push_values-requires-clause-wide : goal.push_values-requires-clause-wide
 push_values-requires-clause-wide c =
     let xs = c.args.leaves.now in
     let i = c.leaves.leaf in
-    let e = c.dots-joined.ensures ∙ ap (dots c.args.whole (leaf_at xs i)) (after xs (i + 1)) in
-    subst (All (IsWide c.args.whole)) (sym c.deref.ensures.value) (group_wide c.args.whole c.dots-joined.result (drop (i + 1) xs) (leaf_at xs i) c.renew.new.values.items c.requires.some e c.in_ok-renew.ensures)
+    let e = c.dots-joined.ensures ∙ ap (dots c.of-grid.result (leaf_at xs i)) (after xs (i + 1)) in
+    subst (All (IsWide c.of-grid.result)) (sym c.deref.ensures.value) (group_wide c.of-grid.result c.dots-joined.result (drop (i + 1) xs) (leaf_at xs i) c.renew.new.values.items (omega (arith, c.requires.some, c.of-grid.ensures)) e c.in_ok-renew.ensures)
 
 pub push_values-requires-clause-end : goal.push_values-requires-clause-end
 push_values-requires-clause-end c =
     let f : Timed → ℕ = λ x. x.len in
     let xs = c.args.leaves.now in
     let i = c.leaves.leaf in
-    let e = c.dots-joined.ensures ∙ ap (dots c.args.whole (leaf_at xs i)) (after xs (i + 1)) in
-    let end = group_end c.args.whole c.dots-joined.result (drop (i + 1) xs) (leaf_at xs i) c.renew.new.values.items c.requires.some e c.in_ok-renew.ensures in
-    let same : sum (map (width c.args.whole) c.deref.result.now) ≡ sum (map (width c.args.whole) c.renew.new.values.items) = ap (λ x. sum (map (width c.args.whole) x)) c.deref.ensures.value in
+    let e = c.dots-joined.ensures ∙ ap (dots c.of-grid.result (leaf_at xs i)) (after xs (i + 1)) in
+    let end = group_end c.of-grid.result c.dots-joined.result (drop (i + 1) xs) (leaf_at xs i) c.renew.new.values.items (omega (arith, c.requires.some, c.of-grid.ensures)) e c.in_ok-renew.ensures in
+    let same : sum (map (width c.of-grid.result) c.deref.result.now) ≡ sum (map (width c.of-grid.result) c.renew.new.values.items) = ap (λ x. sum (map (width c.of-grid.result) x)) c.deref.ensures.value in
     let more = sum_by_more_le f xs i (record { len = 0; kind = Begin }) c.leaves-test.true in
     omega (arith, same, end, more, c.leaves.invariant.place, sum-map f (take i xs), sum-map f xs, c.requires.bar, c.requires.few)
 
@@ -55,7 +55,7 @@ overflow_add-place c =
 pub leaves-preserved : goal.leaves-preserved
 leaves-preserved c =
     let f : Timed → ℕ = λ x. x.len in
-    let whole = c.args.whole in
+    let whole = c.of-grid.result in
     let xs = c.args.leaves.now in
     let i = c.leaves.leaf in
     let place = c.leaves.place in
@@ -86,8 +86,9 @@ leaves-preserved c =
 pub returns-clause-written : goal.returns-clause-written
 returns-clause-written c =
     let none : drop c.leaves.leaf c.args.leaves.now ≡ [] = drop_of_length-le c.args.leaves.now c.leaves-test.false in
-    let end = subst (λ x. AreWrittenFrom c.args.whole c.leaves.joined c.leaves.leaf c.leaves.place x []) (sym none) (nothing c.args.whole c.leaves.joined c.leaves.leaf c.leaves.place) in
-    subst (AreWritten c.args.whole c.args.leaves.now) (append-nil c.leaves.written.items) (c.leaves.invariant.so_far [] end)
+    let end = subst (λ x. AreWrittenFrom c.of-grid.result c.leaves.joined c.leaves.leaf c.leaves.place x []) (sym none) (nothing c.of-grid.result c.leaves.joined c.leaves.leaf c.leaves.place) in
+    let told = subst (AreWritten c.of-grid.result c.args.leaves.now) (append-nil c.leaves.written.items) (c.leaves.invariant.so_far [] end) in
+    subst (λ whole. AreWritten whole c.args.leaves.now c.leaves.written.items) c.of-grid.ensures told
 
 pub returns-clause-fills : goal.returns-clause-fills
 returns-clause-fills c = written_fills c.args.whole c.args.leaves.now c.leaves.written.items c.requires.some (returns-clause-written c)

@@ -10,7 +10,7 @@ powers-init c =
     record {
       power = (k, is);
       within = omega (arith, is, c.ilog2.ensures.power_le);
-      largest = λ d other h le plain. let e = power_largest c.args.length.parts k d c.ilog2.ensures.next_power_gt h le in omega (arith, e, is);
+      largest = λ d other h le plain. let e = power_largest c.args.parts k d c.ilog2.ensures.next_power_gt h le in omega (arith, e, is);
     }
 
 pub powers-preserved : goal.powers-preserved
@@ -20,5 +20,5 @@ powers-preserved c =
     record {
       power = power_half c.powers.power (not_one _ _ h.power none) h.power;
       within = omega (arith, h.within);
-      largest = λ d other power le plain. next_largest c.powers.power c.args.length.whole d other h.power none power plain (h.largest d other power le plain);
+      largest = λ d other power le plain. next_largest c.powers.power c.args.whole d other h.power none power plain (h.largest d other power le plain);
     }

@@ -7,8 +7,8 @@ use Rattle.durations.proofs.length.taken.Given as goal
 abbrev pub invariant-powers : goal.invariant-powers
 invariant-powers l = record {
   power : IsPowerOfTwo l.power;
-  within : l.power ≤ l.length.parts;
-  largest : (d : ℕ) (other : Recip) → IsPowerOfTwo d → d ≤ l.length.parts → IsPlain d l.length.whole other → d ≤ l.power;
+  within : l.power ≤ l.parts;
+  largest : (d : ℕ) (other : Recip) → IsPowerOfTwo d → d ≤ l.parts → IsPlain d l.whole other → d ≤ l.power;
 }
 
 abbrev pub decreases-powers : goal.decreases-powers

@@ -10,7 +10,7 @@ pub returns-clause-values : goal.returns-clause-values
 returns-clause-values c =
     let told = c.in_ok-push_length.ensures in
     let whole_list = told.2 ∙ ap (λ (xs : List Value). xs ++ told.0) c.new-values.ensures.items in
-    subst (AreValues c.args.len c.args.whole) (sym whole_list) told.1
+    subst (AreValues c.args.len c.args.whole) (sym whole_list) (subst (λ whole. AreValues c.args.len whole told.0) c.of.ensures told.1)
 
 pub returns-clause-sum : goal.returns-clause-sum
 returns-clause-sum c = values_sum c.args.len c.args.whole c.push_length.new.values.items c.requires.parts (returns-clause-values c)

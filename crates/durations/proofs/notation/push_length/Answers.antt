@@ -5,6 +5,6 @@ use Rattle.durations.proofs.notation.push_length.Goals as goal
 
 pub returns : goal.returns
 returns c =
-    let none : c.values.rest.parts ≡ 0 = omega (arith, c.values-test.false) in
-    let own = c.values.invariant.so_far.0 in
-    (own, subst (AreValues c.args.len c.args.whole) (append-nil own) (c.values.invariant.so_far.2 [] none), c.values.invariant.so_far.1)
+    let none : c.values.left ≡ 0 = omega (arith, c.values-test.false) in
+    let own = c.values.invariant.0 in
+    (own, subst (AreValues c.args.len c.args.whole) (append-nil own) (c.values.invariant.2 [] none), c.values.invariant.1)

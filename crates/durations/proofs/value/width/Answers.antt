@@ -8,7 +8,7 @@ use Rattle.durations.proofs.value.width.Goals.{in-Of, in-Breve, in-Long}
 
 pub nonzero_div-result : goal.nonzero_div-result
 nonzero_div-result c =
-    let some = wide_some c.args.whole c.args.value.recip c.args.value.dots c.requires.some c.requires.wide in
+    let some = wide_some c.args.whole c.args.value.recip c.args.value.dots (omega (arith, c.count-whole.ensures.is, c.count-whole.ensures.some)) c.requires.wide in
     let grid : c.match-value.parts.1 ≡ plain_grid c.args.value.recip = elim c.match-value.branch [
       | in-Of w ↦ ap (λ (p : ℕ × ℕ). p.1) w.parts-is ∙ w.from.ensures ∙ sym (ap plain_grid w.in-Of.is)
       | in-Breve w ↦ ap (λ (p : ℕ × ℕ). p.1) w.parts-is ∙ sym (ap plain_grid w.in-Breve.is)

@@ -1,4 +1,4 @@
-use Rattle.std.proofs.Common.{rules, ◌≡◌, ◌≤◌, ◌*◌, ◌/◌, ℕ, subst, sym, arith}
+use Rattle.std.proofs.Common.{rules, ◌≡◌, ◌≤◌, ◌*◌, ◌/◌, subst, sym}
 use Rattle.rhythm_base.specs.Cost.{displacement_of}
 use Rattle.interval.proofs.Bounds.{displacement_small}
 use Rattle.rhythm_base.proofs.Beats.{some_beat}

@@ -39,8 +39,9 @@ returns c =
     let events = c.args.events.now in
     let i = c.events.event-index in
     let all : take i events ≡ events = take_all i events (search rules) in
-    let ended : c.push_end.new.content.items ≡ c.events.content.items ++ (quantity_bytes (c.args.last - c.events.tick) ++ end_of_track_bytes) = search rules in
+    let ended : c.push_end.new.content.items ≡ c.events.content.items ++ (quantity_bytes (c.count-end.result - c.events.tick) ++ end_of_track_bytes) = search rules in
     ended
+    ∙ ap (λ n. c.events.content.items ++ (quantity_bytes (n - c.events.tick) ++ end_of_track_bytes)) c.count-end.ensures.is
     ∙ ap (λ (xs : List ℕ). xs ++ (quantity_bytes (c.args.last - c.events.tick) ++ end_of_track_bytes)) c.events.invariant.so_far
     ∙ ap (λ t. bytes_from 0 (map timed_message (take i events)) ++ (quantity_bytes (c.args.last - t) ++ end_of_track_bytes)) c.events.invariant.tick
     ∙ sym (content_end (take i events) c.args.last)
@@ -56,12 +57,12 @@ pub push_event-requires-clause-early : goal.push_event-requires-clause-early
 push_event-requires-clause-early c =
     let nothing : Event = record { tick = 0; what = On 0 0 } in
     let early = timed_early 0 c.args.events.now c.args.last c.events.event-index nothing c.requires.order c.events-test.true in
-    omega (arith, early, c.requires.last)
+    omega (arith, early, c.count-end.ensures.is, c.count-end.ensures.few)
 
-pub overflow_sub-last : goal.overflow_sub-last
-overflow_sub-last c =
+pub overflow_sub-end : goal.overflow_sub-end
+overflow_sub-end c =
     let events = c.args.events.now in
     let i = c.events.event-index in
     let all : take i events ≡ events = take_all i events (search rules) in
     let within = timed_within 0 events c.args.last c.requires.order in
-    omega (arith, within, c.events.invariant.tick ∙ ap (last_tick 0) all)
+    omega (arith, within, c.count-end.ensures.is, c.events.invariant.tick ∙ ap (last_tick 0) all)

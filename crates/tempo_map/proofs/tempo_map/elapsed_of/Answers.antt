@@ -7,7 +7,7 @@ use Rattle.tempo_map.proofs.tempo_map.elapsed_of.Goals as goal
 pub loop-tempo-init : goal.loop-tempo-init
 loop-tempo-init c =
     let P : List ℕ → Type 0 = λ l. Counted c.args.tempos.now l 0 0 500000 0 in
-    subst P (sym c.new-elapsed.ensures.items) (counted_none c.args.tempos.now)
+    subst P (sym c.in_ok-elapsed.ensures.items) (counted_none c.args.tempos.now)
 
 pub returns-then-tempo-gt-LATEST_TICK : goal.returns-then-tempo-gt-LATEST_TICK
 returns-then-tempo-gt-LATEST_TICK c =

@@ -34,10 +34,10 @@ overflow_sub-time c =
     omega (arith, le, c.time-time.ensures)
 
 pub chord_of-chord-requires-then-time-begin : goal.chord_of-chord-requires-then-time-begin
-chord_of-chord-requires-then-time-begin c = (c.requires.notes.each (suc c.notes.note-index) _ (omega (arith, c.notes-test.true))).key
+chord_of-chord-requires-then-time-begin c = (c.requires.notes.each (suc c.notes.note-index) _ (omega (arith, c.notes-test.true)))
 
 pub joined-chord-requires : goal.joined-chord-requires
-joined-chord-requires c = (c.requires.notes.each (suc c.notes.note-index) _ (omega (arith, c.notes-test.true))).key
+joined-chord-requires c = (c.requires.notes.each (suc c.notes.note-index) _ (omega (arith, c.notes-test.true)))
 
 pub notes-preserved : goal.notes-preserved
 notes-preserved c =

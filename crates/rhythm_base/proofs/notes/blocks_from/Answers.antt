@@ -1,0 +1,29 @@
+use Rattle.std.proofs.Common.{◌≡◌, ◌+◌, ◌-◌, ◌++◌, suc, length, drop, ap, ◌∙◌, arith, get_or}
+use Rattle.rhythm_base.specs.NoteBlocks.{Block, notes_of}
+use Rattle.rhythm_base.proofs.NoteBlocks.{high, drop_at}
+use Rattle.rhythm_base.proofs.notes.blocks_from.Goals as goal
+
+pub split_at-requires-in-Some : goal.split_at-requires-in-Some
+split_at-requires-in-Some c =
+    let bs = c.args.blocks.now in
+    let i = c.in-Some.number in
+    let d : Block = c.index-blocks-number.result in
+    let same : d ≡ get_or bs i d = c.index-blocks-number.is in
+    let from = c.from.ensures ∙ ap (λ (b : Block). b.from) same in
+    let long = ap length (c.notes.ensures ∙ ap (λ (b : Block). b.notes) same) in
+    let within = high bs c.args.count c.args.place i d c.requires.blocks c.in-Some.ensures c.requires.place in
+    omega (arith, from, long, within)
+
+pub returns-in-Some : goal.returns-in-Some
+returns-in-Some c =
+    let bs = c.args.blocks.now in
+    let place = c.args.place in
+    let i = c.in-Some.number in
+    let d : Block = c.index-blocks-number.result in
+    let same : d ≡ get_or bs i d = c.index-blocks-number.is in
+    let from = c.from.ensures ∙ ap (λ (b : Block). b.from) same in
+    let own = c.notes.ensures ∙ ap (λ (b : Block). b.notes) same in
+    let last = c.split_at-in-Some.ensures.back ∙ (λ j. drop (place - from j) (own j)) in
+    let after : i + 1 ≡ suc i = omega arith in
+    let back = ap notes_of (c.split_at.ensures.back ∙ ap (λ k. drop k bs) after) in
+    (λ j. last j ++ back j) ∙ drop_at bs c.args.count place i d c.requires.blocks c.in-Some.ensures c.requires.place
