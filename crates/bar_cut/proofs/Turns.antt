@@ -16,6 +16,7 @@ use Rattle.rhythm_base.specs.Leaves.{VoiceBar, soundings}
 use Rattle.rhythm_base.specs.Shape.{Shape}
 use Rattle.rhythm_base.specs.Grammar.{Grammar, root_of}
 use Rattle.rhythm_base.specs.Pins.{pin_of}
+use Rattle.rhythm_base.specs.Signatures.{IsSignature}
 use Rattle.rhythm_base.specs.Voices.{voice_bar, voice_bars_from}
 use Rattle.bar_cut.specs.Cuts.{AreBarsAndChords, AreInside, Rises, moved_all}
 use Rattle.bar_cut.proofs.Barlines.{bar_at, measures-next, starts_at}
@@ -52,6 +53,9 @@ module _ (g : Grammar) (pins : List Pin) (channel last n : ℕ) (bars : List Bar
 
   pub start_is : start ≡ bar.start
   start_is = starts_at bars last n d lt
+
+  pub signature_is : IsSignature bar.num bar.den
+  signature_is = (w.are_before n d lt).signature
 
   -- what the pass has of the chords is these
   abbrev IsCount : List Chord → ℕ → ℕ → Type 0

@@ -1,8 +1,8 @@
-ghost use Rattle.bar_cut.specs.Cuts.{AreBarsAndChords, IsFirstWithoutStart, inputs};
-ghost use Rattle.bar_cut.specs.declared.fault.CutFault.TheVariants.{Memory, NoStart};
+ghost use Rattle.bar_cut.specs.Cuts.{AreBarsAndChords, NamesFirstWithoutStart, inputs};
+ghost use Rattle.bar_cut.specs.declared.fault.CutFault.TheVariants.{Memory};
 ghost use Rattle.rhythm_base.specs.Readable.{IsInRange};
 ghost use Rattle.rhythm_base.specs.Voices.{HasStarts};
-ghost use Rattle.std.specs.Prelude.{◌≡◌, ◌<◌, Err, IfOk, Some, length, slice_get, ℕ};
+ghost use Rattle.std.specs.Prelude.{◌≡◌, ◌<◌, Err, IfOk, Some, length, slice_get};
 
 use crate::fault::CutFault;
 use crate::inner::{count_before, last_end};
@@ -27,7 +27,7 @@ pub fn sections<'a>(
     requires grammar { IsInRange grammar.now }
     ensures inputs { IfOk result (λ v. v.items ≡ inputs grammar.now pins.entry.now channel last bars.now voice.entry.now) }
     ensures starts { IfOk result (λ _. HasStarts grammar.now bars.now) }
-    ensures no_start { (bar num den : ℕ) → result ≡ Err (NoStart bar num den) → IsFirstWithoutStart grammar.now bars.now bar num den }
+    ensures no_start { NamesFirstWithoutStart grammar.now bars.now result }
     ensures memory { result ≡ Err Memory → HasStarts grammar.now bars.now }
 {
     check_starts(grammar, bars)?;
@@ -100,7 +100,7 @@ pub fn cut(
     requires grammar { IsInRange grammar.now }
     ensures inputs { IfOk result (λ v. v.items ≡ inputs grammar.now pins.now channel last bars.now voice.now) }
     ensures starts { IfOk result (λ _. HasStarts grammar.now bars.now) }
-    ensures no_start { (bar num den : ℕ) → result ≡ Err (NoStart bar num den) → IsFirstWithoutStart grammar.now bars.now bar num den }
+    ensures no_start { NamesFirstWithoutStart grammar.now bars.now result }
     ensures memory { result ≡ Err Memory → HasStarts grammar.now bars.now }
 {
     let sections = sections(alloc, voice, bars, last, grammar, pins, channel)?;

@@ -1,4 +1,4 @@
-ghost use Rattle.bar_cut.specs.Cuts.{moved_all};
+ghost use Rattle.bar_cut.specs.Cuts.{moved, moved_all};
 ghost use Rattle.rhythm_base.specs.Lists.{last_end};
 ghost use Rattle.std.specs.Prelude.{◌≡◌, ◌↔◌, IfOk, IsTrue, unwrap_or, length, map, min, ◌-◌, nat_le};
 ghost use Rattle.std.specs.List.{position};
@@ -15,7 +15,7 @@ pub fn cut_end(start: u64, length: u64, end: u64) -> u64
 
 /// A chord of a bar as the bar sees it.
 fn inner_chord(chord: &Chord, start: u64, length: u64) -> Inner
-    ensures { result ≡ record { onset = chord.now.onset - start; end = min (chord.now.end - start) length } }
+    ensures { result ≡ moved start length chord.now }
 {
     Inner {
         onset: chord.onset.saturating_sub(start),

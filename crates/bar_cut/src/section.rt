@@ -1,11 +1,9 @@
-ghost use Rattle.bar_cut.specs.Cuts.{AreInside, Rises, moved_all};
+ghost use Rattle.bar_cut.specs.Cuts.{IsBarWithChords, bar_input, pinned};
 ghost use Rattle.rhythm_base.specs.Readable.{IsInRange};
-ghost use Rattle.rhythm_base.specs.Signatures.{IsSignature};
-ghost use Rattle.rhythm_base.specs.declared.limits.TheConstants.{LATEST_TICK};
-ghost use Rattle.std.specs.Prelude.{◌≡◌, ◌↔◌, ◌≤◌, ◌<◌, ◌-◌, IfOk, IsTrue, min, option_map};
+ghost use Rattle.std.specs.Prelude.{◌≡◌, ◌↔◌, IfOk, IsTrue};
 
 use crate::inner::{cut_end, inner_of, same_inner};
-use rhythm_base::{Bar, BarInput, Chord, Grammar, Shape};
+use rhythm_base::{Bar, BarInput, Chord, Grammar, Shape, copied_pin};
 use std::alloc::{AllocError, Global};
 use std::marker::Model;
 
@@ -56,19 +54,9 @@ impl<'a> Model for Section<'a> {
     } };
 }
 
-/// A copy of a pin's shape.
-fn copied(alloc: Global, pin: Option<&Shape>) -> Result<Option<Shape>, AllocError>
-    ensures { IfOk result (λ shape. shape ≡ option_map (λ s. s.now) pin.entry) }
-{
-    match pin {
-        None => Ok(None),
-        Some(shape) => Ok(Some(shape.copy(alloc)?)),
-    }
-}
-
 /// The pins are equal.
 fn same_pin(pin: Option<&Shape>, other: Option<&Shape>) -> bool
-    ensures { IsTrue result ↔ (option_map (λ s. s.now) pin.entry ≡ option_map (λ s. s.now) other.entry) }
+    ensures { IsTrue result ↔ (pinned pin.entry ≡ pinned other.entry) }
 {
     match (pin, other) {
         (None, None) => true,
@@ -89,21 +77,8 @@ impl<'a> Section<'a> {
         pin: Option<&'a Shape>,
     ) -> Section<'a>
         requires grammar { IsInRange grammar.now }
-        requires signature { IsSignature bar.num bar.den }
-        requires some_tick { bar.start < end }
-        requires few_ticks { end ≤ LATEST_TICK }
-        requires rise { Rises bar.start own.now }
-        requires inside { AreInside bar.start end own.now }
-        ensures { result ≡ record {
-          symbol = symbol;
-          resolution = grammar.now.resolution;
-          num = bar.num;
-          den = bar.den;
-          length = end - bar.start;
-          chords = moved_all bar.start (end - bar.start) own.entry.now;
-          before = min (before - bar.start) (end - bar.start);
-          pin = option_map (λ s. s.now) pin.entry;
-        } }
+        requires bar { IsBarWithChords bar end own.now }
+        ensures { result ≡ bar_input grammar.now symbol bar end own.entry.now before (pinned pin.entry) }
     {
         let length = end - bar.start;
         Section {
@@ -138,7 +113,7 @@ impl<'a> Section<'a> {
         ensures { IfOk result (λ k. k ≡ self.now) }
     {
         let inner = inner_of(alloc, self.own, self.start, self.length)?;
-        let shape = copied(alloc, self.pin)?;
+        let shape = copied_pin(alloc, self.pin)?;
         Ok(BarInput::make(
             self.symbol,
             self.resolution,

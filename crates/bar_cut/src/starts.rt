@@ -1,8 +1,8 @@
-ghost use Rattle.bar_cut.specs.Cuts.{IsFirstWithoutStart};
-ghost use Rattle.bar_cut.specs.declared.fault.CutFault.TheVariants.{Memory, NoStart};
+ghost use Rattle.bar_cut.specs.Cuts.{NamesFirstWithoutStart};
+ghost use Rattle.bar_cut.specs.declared.fault.CutFault.TheVariants.{Memory};
 ghost use Rattle.rhythm_base.specs.declared.limits.TheConstants.{MOST_BARS};
 ghost use Rattle.rhythm_base.specs.Voices.{HasStarts};
-ghost use Rattle.std.specs.Prelude.{◌≡◌, ◌≢◌, ◌≤◌, Err, IfOk, length, ℕ};
+ghost use Rattle.std.specs.Prelude.{◌≡◌, ◌≢◌, ◌≤◌, Err, IfOk, length};
 
 use crate::fault::CutFault;
 use crate::lookup::root_of;
@@ -12,7 +12,7 @@ use rhythm_base::{Bar, Grammar};
 pub fn check_starts(grammar: &Grammar, bars: &[Bar]) -> Result<(), CutFault>
     requires { length bars.now ≤ MOST_BARS }
     ensures starts { IfOk result (λ _. HasStarts grammar.now bars.now) }
-    ensures no_start { (bar num den : ℕ) → result ≡ Err (NoStart bar num den) → IsFirstWithoutStart grammar.now bars.now bar num den }
+    ensures no_start { NamesFirstWithoutStart grammar.now bars.now result }
     ensures no_memory { result ≢ Err Memory }
 {
     'bars: for number in 0..bars.len() {

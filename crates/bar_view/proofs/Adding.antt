@@ -1,6 +1,6 @@
 -- A view that goes on past one more chord.
 use Rattle.std.proofs.Common.{◌≡◌, ℕ, suc, ◌<◌, ◌≤◌, ◌+◌, ◌*◌, ◌++◌, ◌↔◌, [], ◌∷◌, length, max, get_or, sym, ap, ◌∙◌, subst, arith, inl, inr}
-use Rattle.std.proofs.Math.Nat.{mul-le-mul_left, mul-le-mul_right}
+use Rattle.std.proofs.Math.Nat.{mul-le-mul_right}
 use Rattle.std.proofs.Math.Seq.{get_or-append_seam}
 use Rattle.std.proofs.lemmas.Bool.{cases_lt}
 use Rattle.std.proofs.lemmas.List.{get_or_append_left, length-append}
@@ -12,13 +12,6 @@ use Rattle.bar_view.specs.Views.{AreHalves, IsViewTo}
 use Rattle.bar_view.specs.declared.point.Point.{Point}
 use Rattle.bar_view.specs.declared.view.View.{View}
 use Rattle.bar_view.proofs.Leaves.{onsets-rise}
-
--- a tick of the bar is a point of it
-pub tick-within : (t r l : ℕ) → r ≤ 960 → t ≤ l → t * r ≤ 960 * l
-tick-within t r l few inside =
-    let one : t * r ≤ t * 960 = mul-le-mul_left t few in
-    let two : t * 960 ≤ l * 960 = mul-le-mul_right 960 inside in
-    omega (arith, one, two)
 
 -- an onset lies in a unit of the bar
 pub unit-within : (t r l : ℕ) (p : Point) → IsPoint l (t * r) p → t < l → 1 ≤ r → p.unit < r

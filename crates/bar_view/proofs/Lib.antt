@@ -8,3 +8,4 @@ pub mod Few
 pub mod Narrower
 pub mod Charges
 pub mod LookUps
+pub mod Wholes

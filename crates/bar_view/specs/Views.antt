@@ -2,6 +2,9 @@
 use Rattle.std.specs.Prelude.{◌≡◌, ℕ, ◌+◌, ◌*◌, ◌<◌, ◌≤◌, ◌↔◌, List, length, slice_index_or}
 use Rattle.rhythm_base.specs.BarInput.{BarInput}
 use Rattle.rhythm_base.specs.declared.inner.Inner.{Inner}
+use Rattle.tree_laws.specs.Forests.{Ground}
+use Rattle.row_laws.specs.QuietTrees.{IsQuiet}
+use Rattle.row_laws.specs.declared.quiet.Quiet.{Quiet}
 use Rattle.bar_view.specs.Units.{AreUnits, end_of_earlier}
 use Rattle.bar_view.specs.declared.view.View.{View}
 
@@ -19,6 +22,10 @@ pub record IsViewTo (k : BarInput) (n : ℕ) (v : View) : Type 0 where
   pub within : length v.units.below.items ≤ k.resolution
   pub past : (i : ℕ) (d : Inner) → i < n → (slice_index_or k.chords i d).onset * k.resolution < length v.units.below.items * k.length
   pub halves : AreHalves k n v.halves.items v.sounding.items
+
+-- the w units from the unit p on are not quiet, however they sound
+abbrev pub IsUnquiet : Ground → ℕ → ℕ → Type 0
+IsUnquiet d p w = (q : Quiet) → 1 ≤ w → IsQuiet q d p w → ⊥
 
 pub record IsViewOf (k : BarInput) (v : View) : Type 0 where
   pub units : AreUnits k v.units

@@ -1,6 +1,5 @@
-ghost use Rattle.bar_view.specs.Points.{IsPoint};
-ghost use Rattle.rhythm_base.specs.declared.limits.TheConstants.{LATEST_TICK, MOST_UNITS};
-ghost use Rattle.std.specs.Prelude.{◌≡◌, ℕ, ◌+◌, ◌*◌, ◌≤◌, ◌↔◌};
+ghost use Rattle.rhythm_base.specs.declared.limits.TheConstants.{MOST_UNITS};
+ghost use Rattle.std.specs.Prelude.{◌≤◌, ◌*◌};
 
 /// A point of a bar: ticks from the bar's start, times the units of a bar, so that a unit is as long as the bar has ticks.
 #[derive(Clone, Copy)]
@@ -9,19 +8,23 @@ pub struct Point {
     pub unit: u16,
     /// How far the unit begins before it.
     pub rest: u64,
+    ghost few: { unit ≤ MOST_UNITS },
 }
 
 impl Point {
-    /// The point at this distance from the bar's start.
+    ghost use Rattle.bar_view.specs.Points.{IsFirstHalf, IsFirstUnit, IsLastHalf, IsPoint, IsShort};
+    ghost use Rattle.interval.specs.OneLeaf.{IsBarOf};
+
+    /// The point of a bar of so many ticks and units at this distance from its start, in ticks.
     #[inline(always)]
-    pub fn of(length: u64, at: u64) -> Point
-        requires some_tick { 1 ≤ length }
-        requires few_ticks { length ≤ LATEST_TICK }
-        requires within { at ≤ MOST_UNITS * length }
-        ensures { IsPoint length at result }
+    pub fn of(length: u64, resolution: u16, at: u64) -> Point
+        requires bar { IsBarOf length resolution }
+        requires within { at ≤ length }
+        ensures { IsPoint length (at * resolution) result }
     {
-        let unit = at / length;
-        let rest = at - unit * length;
+        let distance = at * u64::from(resolution);
+        let unit = distance / length;
+        let rest = distance - unit * length;
         Point {
             unit: unit as u16,
             rest,
@@ -31,8 +34,7 @@ impl Point {
     /// The first unit that does not begin before it.
     #[inline(always)]
     pub fn after(self) -> u16
-        requires few { self.unit ≤ MOST_UNITS }
-        ensures { (length at : ℕ) → IsPoint length at self → (unit : ℕ) → (result ≤ unit) ↔ (at ≤ unit * length) }
+        ensures { IsFirstUnit self result }
     {
         if self.rest == 0 {
             self.unit
@@ -44,10 +46,8 @@ impl Point {
     /// The first half of a unit that does not begin before it.
     #[inline(always)]
     pub fn half_after(self, length: u64) -> u16
-        requires few { self.unit ≤ MOST_UNITS }
-        requires few_ticks { length ≤ LATEST_TICK }
-        requires small { self.rest ≤ length }
-        ensures { (at : ℕ) → IsPoint length at self → (half : ℕ) → (result ≤ half) ↔ (2 * at ≤ half * length) }
+        requires short { IsShort length self }
+        ensures { IsFirstHalf length self result }
     {
         let first = 2 * self.unit;
         if self.rest == 0 {
@@ -62,10 +62,8 @@ impl Point {
     /// The last half of a unit that does not begin after it.
     #[inline(always)]
     pub fn half_before(self, length: u64) -> u16
-        requires few { self.unit ≤ MOST_UNITS }
-        requires few_ticks { length ≤ LATEST_TICK }
-        requires small { self.rest ≤ length }
-        ensures { (at : ℕ) → IsPoint length at self → (half : ℕ) → (half ≤ result) ↔ (half * length ≤ 2 * at) }
+        requires short { IsShort length self }
+        ensures { IsLastHalf length self result }
     {
         let first = 2 * self.unit;
         if 2 * self.rest < length {

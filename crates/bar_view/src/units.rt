@@ -1,9 +1,6 @@
-ghost use Rattle.bar_view.specs.Points.{IsPoint};
-ghost use Rattle.bar_view.specs.Units.{AreUnits, IsUnitPart, SplitsAt, end_of_earlier};
-ghost use Rattle.rhythm_base.specs.BarInput.{BarInput, IsBarInput};
-ghost use Rattle.rhythm_base.specs.declared.inner.Inner.{Inner};
-ghost use Rattle.rhythm_base.specs.declared.limits.TheConstants.{LATEST_TICK, MOST_UNITS};
-ghost use Rattle.std.specs.Prelude.{◌≡◌, ◌+◌, ◌*◌, ◌<◌, ◌≤◌, ℕ, OnOk, Option, length, max, slice_index_or};
+ghost use Rattle.bar_view.specs.Units.{AreUnits, BeginsIn, IsEndOfEarlier, IsFilled, IsFilledFrom, SplitsAll};
+ghost use Rattle.rhythm_base.specs.BarInput.{IsBarInput};
+ghost use Rattle.std.specs.Prelude.{◌≡◌, ◌+◌, ◌≤◌, OnOk, length, max};
 
 use crate::point::Point;
 use crate::stretch::Stretch;
@@ -51,9 +48,10 @@ impl Units {
     ) -> Result<(), AllocError>
         requires cell { IsBarInput input.now }
         requires units { AreUnits input.now self.old }
-        requires split { (unit : ℕ) → length self.old.below.items ≤ unit → unit ≤ last → SplitsAt input.now unit count }
-        requires end { (d : Inner) → IsPoint input.now.length (end_of_earlier input.now count d * input.now.resolution) end }
+        requires split { SplitsAll input.now (length self.old.below.items) last count }
+        requires end { IsEndOfEarlier input.now count end }
         requires within { last ≤ input.now.resolution }
+        requires next { BeginsIn input.now count last }
         ensures units { OnOk result (AreUnits input.now self.new) }
         ensures long { OnOk result (length self.new.below.items ≡ max (length self.old.below.items) (last + 1)) }
     {
@@ -62,7 +60,7 @@ impl Units {
             return Ok(());
         }
         self.below.resize(next + 1, count)?;
-        fill(&mut self.quiet, input.length(), end, last)?;
+        fill(&mut self.quiet, end, last)?;
         self.quiet.push(Stretch::none())?;
         Ok(())
     }
@@ -70,12 +68,8 @@ impl Units {
 
 /// Goes on up to a unit, and no chord begins before it: those that the chord before fills, which ends at a point, the one
 /// in which it ends, and those after it.
-fn fill(quiet: &mut Vec<Stretch>, ticks: u64, end: Point, next: u16) -> Result<(), AllocError>
-    requires few_ticks { ticks ≤ LATEST_TICK }
-    requires few { end.unit ≤ MOST_UNITS }
-    ensures long { OnOk result (length quiet.new.items ≡ max (length quiet.old.items) next) }
-    ensures same { OnOk result ((unit : ℕ) (d : Stretch) → unit < length quiet.old.items → slice_index_or quiet.new.items unit d ≡ slice_index_or quiet.old.items unit d) }
-    ensures part { OnOk result ((at unit : ℕ) (d : Stretch) → IsPoint ticks at end → length quiet.old.items ≤ unit → unit < next → IsUnitPart ticks at next unit (slice_index_or quiet.new.items unit d)) }
+fn fill(quiet: &mut Vec<Stretch>, end: Point, next: u16) -> Result<(), AllocError>
+    ensures { OnOk result (IsFilledFrom end next quiet.old.items quiet.new.items) }
 {
     let full = end.unit.min(next);
     let over = end.after().min(next);
@@ -96,9 +90,7 @@ fn fill(quiet: &mut Vec<Stretch>, ticks: u64, end: Point, next: u16) -> Result<(
 /// Goes on up to a unit with units that are alike.
 #[inline(always)]
 fn extend(quiet: &mut Vec<Stretch>, next: u16, stretch: Stretch) -> Result<(), AllocError>
-    ensures long { OnOk result (length quiet.new.items ≡ max (length quiet.old.items) next) }
-    ensures same { OnOk result ((unit : ℕ) (d : Stretch) → unit < length quiet.old.items → slice_index_or quiet.new.items unit d ≡ slice_index_or quiet.old.items unit d) }
-    ensures more { OnOk result ((unit : ℕ) (d : Stretch) → length quiet.old.items ≤ unit → unit < next → slice_index_or quiet.new.items unit d ≡ stretch) }
+    ensures { OnOk result (IsFilled next stretch quiet.old.items quiet.new.items) }
 {
     if quiet.len() < usize::from(next) {
         quiet.resize(usize::from(next), stretch)

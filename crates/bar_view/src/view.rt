@@ -1,6 +1,6 @@
 ghost use Rattle.bar_view.specs.Points.{IsPoint};
-ghost use Rattle.bar_view.specs.Views.{IsViewOf, IsViewTo};
-ghost use Rattle.bar_view.specs.Units.{end_of_earlier};
+ghost use Rattle.bar_view.specs.Views.{IsUnquiet, IsViewOf, IsViewTo};
+ghost use Rattle.bar_view.specs.Units.{IsEndOfEarlier};
 ghost use Rattle.rhythm_base.specs.BarInput.{BarInput, IsBarInput};
 ghost use Rattle.rhythm_base.specs.Grammar.{Grammar};
 ghost use Rattle.rhythm_base.specs.declared.inner.Inner.{Inner};
@@ -16,7 +16,6 @@ ghost use Rattle.std.specs.Prelude.{
   ◌^◌,
   ℕ,
   IfOk,
-  IfSome,
   MatchOption,
   OnOk,
   length,
@@ -80,7 +79,7 @@ impl View {
         self.halves.reserve(chords)?;
         self.sounding.clear();
         self.sounding.reserve(chords)?;
-        let end = Point::of(length, input.before() * u64::from(resolution));
+        let end = Point::of(length, resolution, input.before());
         self.sounding.push(end.half_before(length))?;
         Ok(end)
     }
@@ -98,16 +97,16 @@ impl View {
         requires view { IsViewTo input.now count self.old }
         requires more { count < length input.now.chords }
         requires chord { (d : Inner) → slice_index_or input.now.chords count d ≡ chord }
-        requires end { (d : Inner) → IsPoint input.now.length (end_of_earlier input.now count d * input.now.resolution) end }
+        requires end { IsEndOfEarlier input.now count end }
         ensures view { OnOk result (IsViewTo input.now (count + 1) self.new) }
         ensures end { IfOk result (λ e. IsPoint input.now.length (chord.end * input.now.resolution) e) }
     {
-        let units = u64::from(input.resolution());
+        let resolution = input.resolution();
         let length = input.length();
-        let onset = Point::of(length, chord.onset * units);
+        let onset = Point::of(length, resolution, chord.onset);
         self.units.go_on(input, count, end, onset.unit)?;
         self.halves.push(onset.half_after(length))?;
-        let over = Point::of(length, chord.end * units);
+        let over = Point::of(length, resolution, chord.end);
         self.sounding.push(over.half_before(length))?;
         Ok(over)
     }
@@ -117,7 +116,8 @@ impl View {
     pub fn quiet(&self, input: &BarInput, place: u16, width: u16) -> Option<Quiet>
         requires view { IsViewOf input.now self.now }
         requires within { place + width ≤ input.now.resolution }
-        ensures { (g : Grammar) → g.resolution ≡ input.now.resolution → IfSome result (λ q. IsQuiet q (ground_of g input.now) place width) }
+        ensures { (g : Grammar) → g.resolution ≡ input.now.resolution → MatchOption result (IsUnquiet (ground_of g input.now) place width)
+            (λ q. IsQuiet q (ground_of g input.now) place width) }
     {
         let stretch = self.units.quiet[usize::from(place)];
         if place < stretch.until && width <= stretch.until - place {

@@ -10,7 +10,7 @@ use Rattle.path_laws.proofs.LeastKeys.{IsLeast}
 use Rattle.path_laws.proofs.PathTables.{keys-least_path}
 use Rattle.rhythm_base.proofs.LastEnds.{last_end-append}
 use Rattle.chain_bars.specs.Tower.{cost_of}
-use Rattle.chain_bars.specs.Reaches.{IsReachedCount, AreReachedCounts, IsAnyReached, CanStep}
+use Rattle.chain_bars.specs.Reaches.{AreReachedCounts, AreStepped, CanStep, HasMarked, IsAnyReached, IsReachedCount}
 
 pub some_is : {T : Type 0} (o : Option T) → IsSome o → (x : T) × (o ≡ Some x)
 some_is None h = absurd (cc)
@@ -88,7 +88,7 @@ end_low a [] low c = low
 end_low a (m ∷ p) low c = end_low m p c.0 c.1
 
 pub reached_step : (es : List CarryMatrix) (n m : ℕ) (cell : CarryMatrix) (marks next : List Bool) → m ≡ suc n → n < length es → cell ≡ slice_index_or es n [] → AreReachedCounts es n marks
-    → ((to : ℕ) → to < 5 → IsTrue (slice_index_or next to false) ↔ CanStep marks cell to) → AreReachedCounts es m next
+    → AreStepped marks cell next → AreReachedCounts es m next
 reached_step es n m cell marks next e low c h step b lb = ((λ t. forward ((step b lb).0 t)), λ r. (step b lb).1 (backward r))
   where
     longer : take m es ≡ take n es ++ cell ∷ []
@@ -115,6 +115,18 @@ reached_step es n m cell marks next e low c h step b lb = ((λ t. forward ((step
           marked = (h (last_end 0 back.path) from_low).1 record { counts = back.path; carried = back.carried; there = back.there; ends = refl };
           there = back.step;
         }
+
+-- no marked count below n leads over the cell, nor does n
+pub no_more : (marks : List Bool) (cell : CarryMatrix) (to n m : ℕ) → m ≡ suc n
+    → ((k : ℕ) → k < n → IsTrue (slice_index_or marks k false) → IsSome (at cell k to) → ⊥)
+    → (IsTrue (slice_index_or marks n false) → IsSome (at cell n to) → ⊥)
+    → (k : ℕ) → k < m → IsTrue (slice_index_or marks k false) → IsSome (at cell k to) → ⊥
+no_more marks cell to n m next before own k low marked there = elim (cases_lt k n) [
+  | inl below ↦ before k below marked there
+  | inr above ↦
+      let same : k ≡ n = omega (arith, low, next, above) in
+      own (subst (λ j. IsTrue (slice_index_or marks j false)) same marked) (subst (λ j. IsSome (at cell j to)) same there)
+]
 
 -- ---- ways
 
@@ -204,29 +216,10 @@ reached_total es n all r = go (least_key es 0 0) refl
     go None e = absurd ((subst (IsLeast (IsPathKey es 0 0)) e (keys-least_path es 0 0)) key.0 (r.counts, r.carried, r.ends, key.1))
     go (Some k) e = subst (λ (u : Option Key). IsSome (cost_of u)) (sym e) refl
 
--- ---- the five counts of the code
-
-pub each_of_five : (P : ℕ → Type 0) (a b c d e : Bool) → IsTrue a ↔ P 0 → IsTrue b ↔ P 1 → IsTrue c ↔ P 2 → IsTrue d ↔ P 3 → IsTrue e ↔ P 4
-    → (n : ℕ) → n < 5 → IsTrue (slice_index_or (a ∷ b ∷ c ∷ d ∷ e ∷ []) n false) ↔ P n
-each_of_five P a b c d e p q r s t zero low = p
-each_of_five P a b c d e p q r s t (suc zero) low = q
-each_of_five P a b c d e p q r s t (suc (suc zero)) low = r
-each_of_five P a b c d e p q r s t (suc (suc (suc zero))) low = s
-each_of_five P a b c d e p q r s t (suc (suc (suc (suc zero)))) low = t
-each_of_five P a b c d e p q r s t (suc (suc (suc (suc (suc n))))) low = absurd (omega (arith, low))
-
-pub steps_lead : (marks steps : List Bool) (cell : CarryMatrix) (to : ℕ) (any : Bool)
-    → ((n : ℕ) → n < 5 → IsTrue (slice_index_or steps n false) ↔ (IsTrue (slice_index_or marks n false) × IsSome (at cell n to)))
-    → IsTrue any ↔ ((n : ℕ) × (n < 5) × IsTrue (slice_index_or steps n false)) → IsTrue any ↔ CanStep marks cell to
-steps_lead marks steps cell to any h a = (
-  (λ t. let found = a.0 t in let step = (h found.0 found.1).0 found.2 in record { from = found.0; low = found.1; marked = step.0; there = step.1 }),
-  (λ s. a.1 (s.from, s.low, (h s.from s.low).1 (s.marked, s.there))),
-)
-
 -- ---- the answers
 
 pub dead_here : (es : List CarryMatrix) (n m : ℕ) (next : List Bool) (any : Bool) → m ≡ n + 1 → n < length es → AreReachedCounts es m next → ((j : ℕ) → j < n → IsAnyReached es (j + 1))
-    → IsTrue any ↔ ((k : ℕ) × (k < 5) × IsTrue (slice_index_or next k false)) → any ≡ false → IsDeadCell es n
+    → IsTrue any ↔ HasMarked next → any ≡ false → IsDeadCell es n
 dead_here es n m next any e low h before a none = record {
   cell = low;
   dead = λ way. let t : IsTrue any = a.1 (any_marked es m next h (way_reached es n m e way)) in cc;

@@ -1,7 +1,8 @@
 -- Reading and writing at a place.
-use Rattle.std.proofs.Common.{◌≡◌, ◌≢◌, ℕ, zero, suc, ◌<◌, ◌≤◌, List, [], ◌∷◌, length, take, refl, sym, subst, ap, arith}
+use Rattle.std.proofs.Common.{◌≡◌, ◌≢◌, ℕ, zero, suc, ◌<◌, ◌≤◌, List, [], ◌∷◌, length, take, inl, inr, refl, sym, subst, ap, ◌∙◌, arith}
 use Rattle.std.specs.Prelude.{slice_index_or, slice_set}
-use Rattle.rhythm_base.specs.Ranked.{CarryMatrix}
+use Rattle.std.proofs.lemmas.Bool.{cases_lt}
+use Rattle.rhythm_base.specs.Ranked.{CarryMatrix, five}
 use Rattle.rhythm_base.specs.Paths.{IsCheap, AreCheap}
 use Rattle.chain_bars.specs.Tower.{Level, level, room_at, tier}
 use Rattle.chain_bars.proofs.Towers.{cheap_at}
@@ -35,6 +36,35 @@ set_other (y ∷ xs) zero zero x z h = absurd (h refl)
 set_other (y ∷ xs) zero (suc k) x z h = refl
 set_other (y ∷ xs) (suc n) zero x z h = refl
 set_other (y ∷ xs) (suc n) (suc k) x z h = set_other xs n k x z (λ e. h (ap suc e))
+
+-- five members, of which those below n are so
+pub record AreFilled {A : Type 0} (z : A) (P : ℕ → A → Type 0) (xs : List A) (n : ℕ) : Type 0 where
+  pub five : length xs ≡ 5
+  pub each : (k : ℕ) → k < n → P k (slice_index_or xs k z)
+
+-- and one more
+pub fill : {A : Type 0} (z : A) (P : ℕ → A → Type 0) (xs : List A) (n m : ℕ) (x : A) → m ≡ suc n → n < 5 → AreFilled z P xs n → P n x → AreFilled z P (slice_set xs n x) m
+fill {A} z P xs n m x next low h own = record { five = set_length xs n x ∙ h.five; each = each }
+  where
+    each : (k : ℕ) → k < m → P k (slice_index_or (slice_set xs n x) k z)
+    each k lk = elim (cases_lt k n) [
+      | inl below ↦ subst (P k) (sym (set_other xs n k x z (λ e. absurd (omega (arith, below, e))))) (h.each k below)
+      | inr above ↦
+          let same : n ≡ k = omega (arith, lk, next, above) in
+          subst (λ j. P j (slice_index_or (slice_set xs n x) j z)) same (subst (P n) (sym (set_same xs n x z (omega (arith, low, h.five)))) own)
+    ]
+
+pub filled : {A : Type 0} (z : A) (f : ℕ → A) (xs : List A) (n : ℕ) → 5 ≤ n → AreFilled z (λ k x. x ≡ f k) xs n → xs ≡ five f
+filled {A} z f xs n all h = go xs h.five h.each
+  where
+    go : (ys : List A) → length ys ≡ 5 → ((k : ℕ) → k < n → slice_index_or ys k z ≡ f k) → ys ≡ five f
+    go (a ∷ b ∷ c ∷ d ∷ e ∷ []) size each = λ i. each 0 (omega (arith, all)) i ∷ each 1 (omega (arith, all)) i ∷ each 2 (omega (arith, all)) i ∷ each 3 (omega (arith, all)) i ∷ each 4 (omega (arith, all)) i ∷ []
+    go [] size each = absurd (cc)
+    go (a ∷ []) size each = absurd (omega (arith, size))
+    go (a ∷ b ∷ []) size each = absurd (omega (arith, size))
+    go (a ∷ b ∷ c ∷ []) size each = absurd (omega (arith, size))
+    go (a ∷ b ∷ c ∷ d ∷ []) size each = absurd (omega (arith, size))
+    go (a ∷ b ∷ c ∷ d ∷ e ∷ g ∷ ys) size each = absurd (omega (arith, size))
 
 pub length_take : {A : Type 0} (xs : List A) (n : ℕ) → n ≤ length xs → length (take n xs) ≡ n
 length_take xs zero h = refl

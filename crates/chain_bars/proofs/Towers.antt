@@ -216,7 +216,7 @@ root_one es h =
 
 -- ---- the root
 
-cost_ranked : (row : ℕ → Option Key) (o : Option Key) → best_cost (ranked row o) ≡ cost_of o
+pub cost_ranked : (row : ℕ → Option Key) (o : Option Key) → best_cost (ranked row o) ≡ cost_of o
 cost_ranked row None = refl
 cost_ranked row (Some k) = refl
 

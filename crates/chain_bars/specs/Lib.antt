@@ -3,5 +3,6 @@ pub mod Endings
 pub mod Laws
 pub mod Products
 pub mod Reaches
+pub mod Sides
 pub mod Tower
 pub mod Walks

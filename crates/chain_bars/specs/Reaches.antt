@@ -24,3 +24,10 @@ pub record CanStep (marks : List Bool) (cell : CarryMatrix) (to : ℕ) : Type 0 
   pub low : from < 5
   pub marked : IsTrue (slice_index_or marks from false)
   pub there : IsSome (at cell from to)
+
+-- the counts that a step over a cell from the marked ones leads to
+abbrev pub AreStepped : List Bool → CarryMatrix → List Bool → Type 0
+AreStepped marks cell next = (to : ℕ) → to < 5 → IsTrue (slice_index_or next to false) ↔ CanStep marks cell to
+
+abbrev pub HasMarked : List Bool → Type 0
+HasMarked marks = (n : ℕ) × (n < 5) × IsTrue (slice_index_or marks n false)

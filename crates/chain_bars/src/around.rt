@@ -1,7 +1,8 @@
 ghost use Rattle.rhythm_base.specs.declared.limits.TheConstants.{MOST_BARS};
 ghost use Rattle.rhythm_base.specs.Paths.{AreCheap, IsCheap};
 ghost use Rattle.chain_bars.specs.Products.{RisesTwice};
-ghost use Rattle.chain_bars.specs.Tower.{AreCells, IsTower, best_cost, cost_of, level};
+ghost use Rattle.chain_bars.specs.Sides.{IsJoinedLeft, IsJoinedRight, costs_from_none, costs_to_none};
+ghost use Rattle.chain_bars.specs.Tower.{AreCells, IsTower, best_cost, level};
 ghost use Rattle.carry_matrix.specs.LowSums.{HaveLowSums};
 ghost use Rattle.rhythm_base.specs.Counter.{risen};
 ghost use Rattle.rhythm_base.specs.Ranked.{at, five, least_key, product_of};
@@ -25,7 +26,7 @@ ghost use Rattle.std.specs.Prelude.{
 
 use crate::levels::Level;
 use carry_matrix::{CarryMatrix, Steps, product};
-use rhythm_base::{Best, Tag};
+use rhythm_base::{Best, Carry, Tag};
 
 /// The least costs of the cells round one of them, each by a number of chords, 0 to 4; none where there is no path.
 #[derive(Clone, Copy, Debug, PartialEq, Eq)]
@@ -49,24 +50,22 @@ fn cost_at(entry: Option<Best>) -> Option<u64>
 fn costs_from_none(matrix: &CarryMatrix) -> [Option<u64>; 5]
     ensures { result ≡ five (λ to. best_cost (at matrix.now 0 to)) }
 {
-    let first = cost_at(matrix.get(0, 0));
-    let second = cost_at(matrix.get(0, 1));
-    let third = cost_at(matrix.get(0, 2));
-    let fourth = cost_at(matrix.get(0, 3));
-    let fifth = cost_at(matrix.get(0, 4));
-    [first, second, third, fourth, fifth]
+    let mut costs = [None; 5];
+    'counts: for to in 0..5u8 {
+        costs[to as usize] = cost_at(matrix.entry(Carry::none(), Carry::of(to)));
+    }
+    costs
 }
 
 /// The costs of what ends with nothing carried, by the number carried in.
 fn costs_to_none(matrix: &CarryMatrix) -> [Option<u64>; 5]
     ensures { result ≡ five (λ from. best_cost (at matrix.now from 0)) }
 {
-    let first = cost_at(matrix.get(0, 0));
-    let second = cost_at(matrix.get(1, 0));
-    let third = cost_at(matrix.get(2, 0));
-    let fourth = cost_at(matrix.get(3, 0));
-    let fifth = cost_at(matrix.get(4, 0));
-    [first, second, third, fourth, fifth]
+    let mut costs = [None; 5];
+    'counts: for from in 0..5u8 {
+        costs[from as usize] = cost_at(matrix.entry(Carry::of(from), Carry::none()));
+    }
+    costs
 }
 
 /// What stands before a node under the one above it, and then `before`.
@@ -79,8 +78,7 @@ fn with_left<P: Tag>(
     requires place { place < length nodes.now }
     requires cheap { AreCheap (2 ^ 61 - 1) nodes.now }
     requires small { IsCheap (2 ^ 61 - 1) before.now }
-    ensures right { 2 * (place / 2) < place → result ≡ product_of (slice_index_or nodes.now (2 * (place / 2)) []) before.now }
-    ensures left { place ≤ 2 * (place / 2) → result ≡ before.now }
+    ensures joined { IsJoinedLeft nodes.now place before.now result }
     ensures products { products.new ≤ risen products.old 1 }
     ensures rises { products.old ≤ products.new }
     ensures single { length nodes.now ≤ 1 → products.new ≡ products.old }
@@ -104,9 +102,7 @@ fn with_right<P: Tag>(
     requires place { place < length nodes.now }
     requires cheap { AreCheap (2 ^ 61 - 1) nodes.now }
     requires small { IsCheap (2 ^ 61 - 1) after.now }
-    ensures left { 2 * (place / 2) ≡ place → place + 1 < length nodes.now → result ≡ product_of after.now (slice_index_or nodes.now (place + 1) []) }
-    ensures lone { length nodes.now ≤ place + 1 → result ≡ after.now }
-    ensures right { 2 * (place / 2) < place → result ≡ after.now }
+    ensures joined { IsJoinedRight nodes.now place after.now result }
     ensures products { products.new ≤ risen products.old 1 }
     ensures rises { products.old ≤ products.new }
     ensures single { length nodes.now ≤ 1 → products.new ≡ products.old }
@@ -125,8 +121,8 @@ pub fn around_of<P: Tag>(levels: &[Level], at: usize, products: &mut Steps<P>) -
     requires cells { AreCells (level levels.now 0) }
     requires tower { IsTower (level levels.now 0) levels.now }
     requires at { at < length (level levels.now 0) }
-    ensures before { result.before ≡ five (λ to. cost_of (least_key (take at (level levels.now 0)) 0 to)) }
-    ensures after { result.after ≡ five (λ from. cost_of (least_key (drop (at + 1) (level levels.now 0)) from 0)) }
+    ensures before { result.before ≡ costs_from_none (take at (level levels.now 0)) }
+    ensures after { result.after ≡ costs_to_none (drop (at + 1) (level levels.now 0)) }
     ensures products { RisesTwice (length (level levels.now 0)) products.old products.new }
 {
     let mut before = CarryMatrix::identity();

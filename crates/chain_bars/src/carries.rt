@@ -1,7 +1,7 @@
 ghost use Rattle.rhythm_base.specs.declared.limits.TheConstants.{MOST_BARS};
 ghost use Rattle.rhythm_base.specs.Paths.{AreCheap};
 ghost use Rattle.chain_bars.specs.Tower.{AreCells, IsTower, cost_of, level};
-ghost use Rattle.chain_bars.specs.Walks.{AreCarries, descended, number_or};
+ghost use Rattle.chain_bars.specs.Walks.{AreCarries, AreLonger, descended, number_or};
 ghost use Rattle.rhythm_base.specs.Paths.{AreCarried};
 ghost use Rattle.rhythm_base.specs.Ranked.{least_key, middle_of};
 ghost use Rattle.std.specs.Prelude.{
@@ -23,18 +23,17 @@ ghost use Rattle.std.specs.Prelude.{
 ghost use Rattle.carry_matrix.specs.LowSums.{HaveLowSums};
 
 use crate::levels::Level;
-use carry_matrix::{CarryMatrix, middle};
+use carry_matrix::{CarryMatrix, between};
+use rhythm_base::Carry;
 use std::alloc::{AllocError, Global};
 
 /// The count between two cells: that of their product.
-fn between(left: &CarryMatrix, right: &CarryMatrix, from: u8, to: u8) -> u8
-    requires from { from < 5 }
-    requires to { to < 5 }
-    requires small { HaveLowSums left.now right.now }
+fn count_between(left: &CarryMatrix, right: &CarryMatrix, from: Carry, to: Carry) -> u8
+    requires { HaveLowSums left.now right.now }
     ensures { result ≡ number_or (middle_of left.now right.now from to) }
 {
-    match middle(left, right, from, to) {
-        Some(count) => count,
+    match between(left, right, from, to) {
+        Some(count) => count.count(),
         None => 0,
     }
 }
@@ -44,23 +43,20 @@ fn push_below(
     counts: &mut Vec<u8>,
     nodes: &[CarryMatrix],
     left: usize,
-    from: u8,
-    to: u8,
+    from: Carry,
+    to: Carry,
 ) -> Result<(), AllocError>
     requires few { length nodes.now ≤ MOST_BARS }
     requires cheap { AreCheap (2 ^ 61 - 1) nodes.now }
     requires left { left < length nodes.now }
-    requires from { from < 5 }
-    requires to { to < 5 }
-    ensures two { IfOk result (λ _. left + 1 < length nodes.now → counts.new.items ≡ counts.old.items ++ number_or (middle_of (slice_index_or nodes.now left []) (slice_index_or nodes.now (left + 1) []) from to) ∷ to ∷ []) }
-    ensures lone { IfOk result (λ _. length nodes.now ≤ left + 1 → counts.new.items ≡ counts.old.items ++ to ∷ []) }
+    ensures { IfOk result (λ _. AreLonger nodes.now left from to counts.old.items counts.new.items) }
 {
     if left + 1 < nodes.len() {
-        counts.push(between(&nodes[left], &nodes[left + 1], from, to))?;
-        counts.push(to)?;
+        counts.push(count_between(&nodes[left], &nodes[left + 1], from, to))?;
+        counts.push(to.count())?;
         Ok(())
     } else {
-        counts.push(to)?;
+        counts.push(to.count())?;
         Ok(())
     }
 }
@@ -76,10 +72,10 @@ fn one_down(alloc: Global, nodes: &[CarryMatrix], above: &[u8]) -> Result<Vec<u8
     ensures { IfOk result (λ v. v.items ≡ descended nodes.now above.now) }
 {
     let mut counts = Vec::new(alloc);
-    let mut from = above[0];
-    counts.push(from)?;
+    let mut from = Carry::of(above[0]);
+    counts.push(from.count())?;
     'nodes: for number in 1..above.len() {
-        let to = above[number];
+        let to = Carry::of(above[number]);
         push_below(&mut counts, nodes, 2 * (number - 1), from, to)?;
         from = to;
     }

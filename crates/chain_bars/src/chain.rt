@@ -65,14 +65,13 @@ impl Chain {
     /// Takes memory, so that the chain grows up to so many cells without taking more. After want of memory the room is as
     /// before.
     pub fn reserve(&mut self, cells: u32) -> Result<(), AllocError>
-        requires { cells ≤ MOST_BARS }
         ensures cells { self.new.cells ≡ self.old.cells }
         ensures room { self.old.room ≤ self.new.room }
         ensures ok { IfOk result (λ _. cells ≤ self.new.room) }
         ensures err { IfErr result (λ _. self.new.room ≡ self.old.room) }
         ensures fits { length self.new.cells ≤ self.new.room }
     {
-        reserve_all(self.levels.as_mut_slice(), cells as usize)?;
+        reserve_all(self.levels.as_mut_slice(), cells)?;
         self.room = self.room.max(cells);
         Ok(())
     }
@@ -98,7 +97,7 @@ impl Chain {
         requires few { length self.old.cells < MOST_BARS }
         requires cheap { IsCheap DEAREST_CELL cell.now }
         ensures ok { IfOk result (λ _. self.new.cells ≡ self.old.cells ++ cell.now ∷ []) }
-        ensures err { IfErr result (λ _. (self.new.cells ≡ self.old.cells) × (self.new.room ≡ self.old.room) × (products.new ≡ products.old)) }
+        ensures err { IfErr result (λ _. (self.new ≡ self.old) × (products.new ≡ products.old)) }
         ensures room { self.old.room ≤ self.new.room }
         ensures fits { length self.new.cells ≤ self.new.room }
         ensures products { RisesOnce (length self.old.cells + 1) products.old products.new }

@@ -165,12 +165,12 @@ pub fn joined<P: Tag>(nodes: &[CarryMatrix], at: usize, products: &mut Steps<P>)
     }
 }
 
-/// What every cell keeps, as `get` tells it.
+/// What every cell keeps.
 pub fn see_all(cells: &[CarryMatrix])
     ensures { AllRanked cells.now }
 {
     'cells: for number in 0..cells.len() {
-        let _ = cells[number].get(0, 0);
+        cells[number].see();
     }
 }
 
@@ -198,15 +198,14 @@ pub fn grown<P: Tag>(
 }
 
 /// Takes memory for what stands above so many cells.
-pub fn reserve_all(levels: &mut [Level], cells: usize) -> Result<(), AllocError>
-    requires count { length levels.old ≡ 13 }
-    requires few { cells ≤ MOST_BARS }
+pub fn reserve_all(levels: &mut [Level], cells: u32) -> Result<(), AllocError>
+    requires { length levels.old ≡ 13 }
     ensures count { length levels.new ≡ 13 }
     ensures nodes { (k : ℕ) → k < 13 → level levels.new k ≡ level levels.old k }
     ensures room { (k : ℕ) → k < 13 → room_at levels.old k ≤ room_at levels.new k }
     ensures ok { IfOk result (λ _. HasRoom cells levels.new) }
 {
-    let mut count = cells;
+    let mut count = cells as usize;
     'up: for number in 0..levels.len() {
         levels[number].reserve(count)?;
         count = (count + 1) / 2;
@@ -226,7 +225,7 @@ pub fn renew<P: Tag>(levels: &mut [Level], at: usize, cell: &CarryMatrix, produc
     ensures room { (k : ℕ) → k < 13 → room_at levels.new k ≡ room_at levels.old k }
     ensures products { RisesOnce (length (level levels.old 0)) products.old products.new }
 {
-    let _ = cell.get(0, 0);
+    cell.see();
     levels[0].set(at, *cell);
     let mut place = at;
     'up: for above in 1..levels.len() {
@@ -265,7 +264,7 @@ pub fn extend<P: Tag>(levels: &mut [Level], cell: &CarryMatrix, products: &mut S
     ensures room { (k : ℕ) → k < 13 → room_at levels.new k ≡ room_at levels.old k }
     ensures products { RisesOnce (length (level levels.old 0) + 1) products.old products.new }
 {
-    let _ = cell.get(0, 0);
+    cell.see();
     levels[0].add(*cell);
     renew_last(levels, products);
 }

@@ -6,7 +6,7 @@ use crate::channels::{channels_of, last_end, last_onset};
 use crate::load_fault::LoadFault;
 use crate::played::Take;
 use crate::taking::take;
-use rhythm_base::Performance;
+use rhythm_base::{Notes, Performance};
 use smf_reader::Smf;
 use std::alloc::Global;
 use tempo_map::lay_bars;
@@ -24,16 +24,18 @@ pub fn load_take(alloc: Global, take: Take) -> Result<Performance, LoadFault>
         last_end(&take.notes),
     )?;
     let channels = channels_of(alloc, &take.notes)?;
-    Ok(Performance::make(
+    let notes = Notes::new(alloc, &take.notes)?;
+    let performance = Performance::make(
         take.division,
         take.tempos,
         take.key_marks,
         laid.bars,
         laid.last,
         channels,
-        take.notes,
+        notes,
         Vec::new(alloc),
-    ))
+    )?;
+    Ok(performance)
 }
 
 /// The performance that the file says, without pins.

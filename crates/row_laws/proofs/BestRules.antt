@@ -5,6 +5,7 @@ use Rattle.std.specs.Cmp.{nat_cmp_is, ranked}
 use Rattle.std.specs.Ordering.{nat_cmp, ordering_then, is_lt}
 use Rattle.std.specs.declared.cmp.Ordering.{Ordering}
 use Rattle.std.specs.declared.cmp.Ordering.TheVariants.{Less, Equal, Greater}
+use Rattle.std.proofs.lemmas.Bool.{cases_lt}
 use Rattle.std.proofs.lemmas.Bool.Decides.{nat_tests}
 use Rattle.rhythm_base.specs.BarInput.{BarInput}
 use Rattle.rhythm_base.specs.Bodies.{children}
@@ -304,6 +305,20 @@ pub best-whole : (d : Ground) (p : ℕ) (q : ℕ × ℕ) (a : ℕ) (rules : ℕ 
     → ((r : ℕ) → suits (slice_get d.book.rules r) q ≡ true → rules r) → AreLeastRow d p (q ∷ []) a keys
 best-whole d p q a rules keys choices best whole b lb = rules-all d p q a b rules whole (keys b) (best.least b lb)
 
+-- a key that costs more does not come before, nor one that costs as much whose list begins with a higher rule
+pub dearer-after : (k x : Key) → x.0 < k.0 → is_before k x ≡ false
+dearer-after k x h = sym (ap (λ o. is_lt (ordering_then o (list_cmp k.1 x.1))) (nat_cmp_is k.0 x.0 Greater h))
+
+pub higher-after : (k x : Key) (r s : ℕ) (xs ys : List ℕ) → k.1 ≡ r ∷ xs → x.1 ≡ s ∷ ys → s < r → x.0 ≤ k.0 → is_before k x ≡ false
+higher-after k x r s xs ys e f less cost = elim (cases_lt x.0 k.0) [
+  | inl more ↦ dearer-after k x more
+  | inr le ↦
+      let same : k.0 ≡ x.0 = omega (arith, cost, le) in
+      (λ i. is_lt (ordering_then (nat_cmp k.0 x.0) (list_cmp (e i) (f i))))
+      ∙ sym (ap (λ o. is_lt (ordering_then o (list_cmp (r ∷ xs) (s ∷ ys)))) (nat_cmp_is k.0 x.0 Equal same))
+      ∙ sym (ap (λ o. is_lt (ordering_then o (list_cmp xs ys))) (nat_cmp_is r s Greater less))
+]
+
 -- ---- the same choices
 
 module _ (d : Ground) (p : ℕ) (q : ℕ × ℕ) (a : ℕ) (rules : ℕ → Type 0) (keys : ℕ → Option Key) (choices : ℕ → Option Choice) (best : AreBestOf d p q a rules keys choices) where
@@ -326,17 +341,14 @@ module _ (d : Ground) (p : ℕ) (q : ℕ × ℕ) (a : ℕ) (rules : ℕ → Type
     marked = λ b lb. subst (λ o. IsMarked rules o (keys b)) (is b lb) (best.marked b lb);
   }
 
-  -- a rule whose trees all cost more than what is there
-  pub best-passed : (r : ℕ) → ((b : ℕ) (k : Key) → b < 5 → IsRuleKey d None p q r a b k → (x : Key) × (keys b ≡ Some x) × (x.0 < k.0)) → AreBestOf d p q a (λ s. rules s ⊎ (s ≡ r)) keys choices
+  -- a rule whose trees all come after what is there
+  pub best-passed : (r : ℕ) → ((b : ℕ) (k : Key) → b < 5 → IsRuleKey d None p q r a b k → (x : Key) × (keys b ≡ Some x) × (is_before k x ≡ false)) → AreBestOf d p q a (λ s. rules s ⊎ (s ≡ r)) keys choices
   best-passed r over = record {
     least = λ b lb. least b lb (keys b) refl (best.least b lb);
     alike = best.alike;
     marked = λ b lb. marked-wider rules (λ s. rules s ⊎ (s ≡ r)) (λ s h. inl h) (choices b) (keys b) (best.marked b lb);
   }
     where
-      above_it : (k x : Key) → x.0 < k.0 → is_before k x ≡ false
-      above_it k x h = sym (ap (λ o. is_lt (ordering_then o (list_cmp k.1 x.1))) (nat_cmp_is k.0 x.0 Greater h))
-
       least : (b : ℕ) → b < 5 → (o : Option Key) → keys b ≡ o → IsLeastKey (IsKeyOfRules d p q rules a b) o → IsLeastKey (IsKeyOfRules d p q (λ s. rules s ⊎ (s ≡ r)) a b) o
       least b lb None e h = λ k (s, on, key). elim on [
         | inl own ↦ h k (s, own, key)
@@ -349,4 +361,4 @@ module _ (d : Ground) (p : ℕ) (q : ℕ × ℕ) (a : ℕ) (rules : ℕ → Type
           first k (s, inr is, key) =
               let x = over b k lb (subst (λ s. IsRuleKey d None p q s a b k) is key) in
               let there : x.0 ≡ y = let one : Some x.0 ≡ Some y = sym x.1 ∙ e in cc in
-              above_it k y (subst (λ (y : Key). y.0 < k.0) there x.2)
+              subst (λ y. is_before k y ≡ false) there x.2

@@ -1,6 +1,6 @@
--- What need not be searched: where no onset lies in the right half of an interval, no chord is carried out of it, and trees side
+-- What need not be searched: no more chords are carried out of an interval than have their onsets in its right half, and trees side
 -- by side cost no less than the first of them.
-use Rattle.std.proofs.Common.{◌≡◌, ℕ, ◌<◌, ◌≤◌, ◌+◌, ◌-◌, ◌*◌, ◌&&◌, inl, inr, nat_lt, Bool, true, false, not, List, [], ◌∷◌, ◌++◌, cond, filter, length, map, refl, sym, ap, ◌∙◌, subst, arith}
+use Rattle.std.proofs.Common.{◌≡◌, ℕ, ◌<◌, ◌≤◌, ◌+◌, ◌-◌, ◌*◌, ◌&&◌, inl, inr, nat_lt, Bool, true, false, not, List, [], ◌∷◌, ◌++◌, cond, filter, length, map, refl, ap, subst, arith}
 use Rattle.std.specs.Prelude.{Option, Some, None, nat_le}
 use Rattle.std.specs.Cmp.{nat_cmp_is}
 use Rattle.std.specs.Ordering.{ordering_then, is_lt}
@@ -69,47 +69,51 @@ module _ (r : ℕ) (bar : VoiceBar) (x y : BarLeaf) (t : ℕ) (low : y.place ≤
           le_tells_not : (a b : ℕ) → nat_le a b ≡ false → b < a
           le_tells_not a b h = grind (arith, nat_tests)
 
-fewer-none : (f g : ℕ → Bool) (cs : List Inner) → ((t : ℕ) → g t ≡ true → f t ≡ true) → length (map (λ c. c.end) (filter (λ c. f c.onset) cs)) ≡ 0 → length (map (λ c. c.end) (filter (λ c. g c.onset) cs)) ≡ 0
-fewer-none f g [] less h = refl
-fewer-none f g (c ∷ cs) less h = go (f c.onset) (g c.onset) refl refl h (λ rest. fewer-none f g cs less rest)
+-- no more of them where one test holds than where the other does, which it implies
+fewer : (f g : ℕ → Bool) (cs : List Inner) → ((t : ℕ) → g t ≡ true → f t ≡ true) → length (map (λ c. c.end) (filter (λ c. g c.onset) cs)) ≤ length (map (λ c. c.end) (filter (λ c. f c.onset) cs))
+fewer f g [] less = omega arith
+fewer f g (c ∷ cs) less = go (f c.onset) (g c.onset) refl refl (fewer f g cs less)
   where
-    go : (a b : Bool) → f c.onset ≡ a → g c.onset ≡ b → length (map (λ c. c.end) (cond a (c ∷ filter (λ c. f c.onset) cs) (filter (λ c. f c.onset) cs))) ≡ 0
-        → (length (map (λ c. c.end) (filter (λ c. f c.onset) cs)) ≡ 0 → length (map (λ c. c.end) (filter (λ c. g c.onset) cs)) ≡ 0)
-        → length (map (λ c. c.end) (cond b (c ∷ filter (λ c. g c.onset) cs) (filter (λ c. g c.onset) cs))) ≡ 0
-    go true b e k h ih = absurd (omega (arith, h))
-    go false true e k h ih = let on = less c.onset k in absurd (cc)
-    go false false e k h ih = ih h
+    go : (a b : Bool) → f c.onset ≡ a → g c.onset ≡ b → length (map (λ c. c.end) (filter (λ c. g c.onset) cs)) ≤ length (map (λ c. c.end) (filter (λ c. f c.onset) cs))
+        → length (map (λ c. c.end) (cond b (c ∷ filter (λ c. g c.onset) cs) (filter (λ c. g c.onset) cs))) ≤ length (map (λ c. c.end) (cond a (c ∷ filter (λ c. f c.onset) cs) (filter (λ c. f c.onset) cs)))
+    go true true e k ih = omega (arith, ih)
+    go true false e k ih = omega (arith, ih)
+    go false true e k ih = let on = less c.onset k in absurd (cc)
+    go false false e k ih = ih
 
--- so none is carried out of it
-module _ (d : Ground) (p w : ℕ) (none_right : length (rights (looks d.book.resolution) (record { bar = d.bar; part = record { ending = Note; place = p; width = w } }) d.chords) ≡ 0) where
-  leaving-nothing : (f m : ℕ) (x : BarLeaf) (xs : List BarLeaf) → p ≤ m → SideBySide m (x ∷ xs) (p + w) → leaving (looks d.book.resolution) d.chords f (in_bar d.bar (x ∷ xs)) ≡ 0
-  leaving-nothing f m x [] low side =
+-- so no more are carried out of it than lie there
+module _ (d : Ground) (p w : ℕ) where
+  abbrev whole : Leaf
+  whole = record { bar = d.bar; part = record { ending = Note; place = p; width = w } }
+
+  abbrev right : ℕ
+  right = length (rights (looks d.book.resolution) whole d.chords)
+
+  leaving-most : (f m : ℕ) (x : BarLeaf) (xs : List BarLeaf) → p ≤ m → SideBySide m (x ∷ xs) (p + w) → leaving (looks d.book.resolution) d.chords f (in_bar d.bar (x ∷ xs)) ≤ right
+  leaving-most f m x [] low side =
       let place : x.place ≡ m = side.0 in
       let end : m + x.width ≡ p + w = side.2 in
-      fewer-none (λ t. lies_in d.book.resolution whole t && not (goes_left d.book.resolution whole t)) (λ t. lies_in d.book.resolution here t && not (goes_left d.book.resolution here t)) d.chords
-      (λ t h. last-half d.book.resolution d.bar x whole.part t (omega (arith, place, low)) (omega (arith, place, end)) h) none_right
+      fewer (λ t. lies_in d.book.resolution whole t && not (goes_left d.book.resolution whole t)) (λ t. lies_in d.book.resolution here t && not (goes_left d.book.resolution here t)) d.chords
+      (λ t h. last-half d.book.resolution d.bar x whole.part t (omega (arith, place, low)) (omega (arith, place, end)) h)
     where
-      whole : Leaf
-      whole = record { bar = d.bar; part = record { ending = Note; place = p; width = w } }
-
       here : Leaf
       here = record { bar = d.bar; part = x }
-  leaving-nothing f m x (y ∷ ys) low side =
-      leaving-nothing (length (rights (looks d.book.resolution) (record { bar = d.bar; part = x }) d.chords)) (m + x.width) y ys (omega (arith, low)) side.2
+  leaving-most f m x (y ∷ ys) low side =
+      leaving-most (length (rights (looks d.book.resolution) (record { bar = d.bar; part = x }) d.chords)) (m + x.width) y ys (omega (arith, low)) side.2
 
-  pub left-out : IsGround d → (symbol a b : ℕ) (k : Key) → 1 ≤ w → IsForestKey d None p ((w, symbol) ∷ []) a b k → b ≡ 0
-  left-out ground symbol a b k wide (f, stands, is) =
-      sym stands.fits.leave ∙ go (leaves d.book.rules p ((w, symbol) ∷ []) f) (leaves-fill d.book.rules f p ((w, symbol) ∷ []) (wide, tt) stands.trees)
+  pub carried-out : IsGround d → (symbol a b : ℕ) (k : Key) → 1 ≤ w → IsForestKey d None p ((w, symbol) ∷ []) a b k → b ≤ right
+  carried-out ground symbol a b k wide (f, stands, is) =
+      subst (λ n. n ≤ right) stands.fits.leave (go (leaves d.book.rules p ((w, symbol) ∷ []) f) (leaves-fill d.book.rules f p ((w, symbol) ∷ []) (wide, tt) stands.trees))
     where
-      go : (xs : List BarLeaf) → SideBySide p xs (p + (w + 0)) → leaving (looks d.book.resolution) d.chords a (in_bar d.bar xs) ≡ 0
+      go : (xs : List BarLeaf) → SideBySide p xs (p + (w + 0)) → leaving (looks d.book.resolution) d.chords a (in_bar d.bar xs) ≤ right
       go [] side = absurd (omega (arith, side, wide))
-      go (x ∷ xs) side = let one : p + (w + 0) ≡ p + w = omega arith in leaving-nothing a p x xs (omega arith) (subst (λ e. SideBySide p (x ∷ xs) e) one side)
+      go (x ∷ xs) side = let one : p + (w + 0) ≡ p + w = omega arith in leaving-most a p x xs (omega arith) (subst (λ e. SideBySide p (x ∷ xs) e) one side)
 
--- of a cell: no chord of the interval is attached to the next leaf
-pub next-none : (g : Grammar) (k : BarInput) → IsReady g k → (p w symbol a b : ℕ) (key : Key) → 1 ≤ w → length (next_ends k p w) ≡ 0 → IsForestKey (ground_of g k) None p ((w, symbol) ∷ []) a b key → b ≡ 0
-next-none g k ready p w symbol a b key wide h f =
-    left-out (ground_of g k) p w
-    (subst (λ r. length (rights (looks r) (record { bar = bar_of k; part = record { ending = Note; place = p; width = w } }) k.chords) ≡ 0) (sym ready.units) h) (grounded g k ready) symbol a b key wide f
+-- of a cell: no more than the chords of the interval that are attached to the next leaf
+pub next-most : (g : Grammar) (k : BarInput) → IsReady g k → (p w symbol a b : ℕ) (key : Key) → 1 ≤ w → IsForestKey (ground_of g k) None p ((w, symbol) ∷ []) a b key → b ≤ length (next_ends k p w)
+next-most g k ready p w symbol a b key wide f =
+    subst (λ r. b ≤ length (rights (looks r) (record { bar = bar_of k; part = record { ending = Note; place = p; width = w } }) k.chords)) ready.units
+    (carried-out (ground_of g k) p w (grounded g k ready) symbol a b key wide f)
 
 -- ---- costs so far
 

@@ -9,35 +9,24 @@ use Rattle.bar_cut.proofs.cells.section_of.Goals as goal
 abbrev no_bar : Bar
 no_bar = record { start = 0; num = 0; den = 0 }
 
-pub of-requires-clause-some_tick : goal.of-requires-clause-some_tick
-of-requires-clause-some_tick c =
+pub of-requires-clause-bar : goal.of-requires-clause-bar
+of-requires-clause-bar c =
+    let later = turn.later_is c.args.grammar.now c.args.pins.now c.args.channel c.args.last c.args.number c.args.bars.now c.args.voice.now no_bar c.requires.voice c.requires.number
+    c.split_at.result.1.now c.count_before.result c.split_at.ensures.back c.count_before.ensures in
+    let front = turn.front_is c.args.grammar.now c.args.pins.now c.args.channel c.args.last c.args.number c.args.bars.now c.args.voice.now no_bar c.requires.voice c.requires.number
+    c.split_at-2.result.0.now c.split_at.result.1.now c.count_before-2.result c.barline_after-end.result c.split_at-2.ensures.front c.count_before-2.ensures c.barline_after-end.ensures later in
+    let b : Bar = get_or c.args.bars.now c.args.number no_bar in
     let rise = turn.rise c.args.grammar.now c.args.pins.now c.args.channel c.args.last c.args.number c.args.bars.now c.args.voice.now no_bar c.requires.voice c.requires.number in
     let start = turn.start_is c.args.grammar.now c.args.pins.now c.args.channel c.args.last c.args.number c.args.bars.now c.args.voice.now no_bar c.requires.voice c.requires.number in
-    omega (arith, rise.0, start, c.barline_after-end.ensures)
-
-pub of-requires-clause-few_ticks : goal.of-requires-clause-few_ticks
-of-requires-clause-few_ticks c =
-    let rise = turn.rise c.args.grammar.now c.args.pins.now c.args.channel c.args.last c.args.number c.args.bars.now c.args.voice.now no_bar c.requires.voice c.requires.number in
-    omega (arith, rise.1, c.requires.voice.last_barline, c.barline_after-end.ensures)
-
-pub of-requires-clause-rise : goal.of-requires-clause-rise
-of-requires-clause-rise c =
-    let later = turn.later_is c.args.grammar.now c.args.pins.now c.args.channel c.args.last c.args.number c.args.bars.now c.args.voice.now no_bar c.requires.voice c.requires.number
-    c.split_at.result.1.now c.count_before.result c.split_at.ensures.back c.count_before.ensures in
-    let front = turn.front_is c.args.grammar.now c.args.pins.now c.args.channel c.args.last c.args.number c.args.bars.now c.args.voice.now no_bar c.requires.voice c.requires.number
-    c.split_at-2.result.0.now c.split_at.result.1.now c.count_before-2.result c.barline_after-end.result c.split_at-2.ensures.front c.count_before-2.ensures c.barline_after-end.ensures later in
-    subst (λ cs. Rises (get_or c.args.bars.now c.args.number no_bar).start cs) (sym front)
-    (turn.own_rises c.args.grammar.now c.args.pins.now c.args.channel c.args.last c.args.number c.args.bars.now c.args.voice.now no_bar c.requires.voice c.requires.number)
-
-pub of-requires-clause-inside : goal.of-requires-clause-inside
-of-requires-clause-inside c =
-    let later = turn.later_is c.args.grammar.now c.args.pins.now c.args.channel c.args.last c.args.number c.args.bars.now c.args.voice.now no_bar c.requires.voice c.requires.number
-    c.split_at.result.1.now c.count_before.result c.split_at.ensures.back c.count_before.ensures in
-    let front = turn.front_is c.args.grammar.now c.args.pins.now c.args.channel c.args.last c.args.number c.args.bars.now c.args.voice.now no_bar c.requires.voice c.requires.number
-    c.split_at-2.result.0.now c.split_at.result.1.now c.count_before-2.result c.barline_after-end.result c.split_at-2.ensures.front c.count_before-2.ensures c.barline_after-end.ensures later in
     let inside = turn.own_inside c.args.grammar.now c.args.pins.now c.args.channel c.args.last c.args.number c.args.bars.now c.args.voice.now no_bar c.requires.voice c.requires.number in
-    subst (λ e. AreInside (get_or c.args.bars.now c.args.number no_bar).start e c.split_at-2.result.0.now) (sym c.barline_after-end.ensures)
-    (subst (λ cs. AreInside (get_or c.args.bars.now c.args.number no_bar).start (barline c.args.bars.now c.args.last (c.args.number + 1)) cs) (sym front) inside)
+    record {
+      signature = turn.signature_is c.args.grammar.now c.args.pins.now c.args.channel c.args.last c.args.number c.args.bars.now c.args.voice.now no_bar c.requires.voice c.requires.number;
+      some_tick = omega (arith, rise.0, start, c.barline_after-end.ensures);
+      few_ticks = omega (arith, rise.1, c.requires.voice.last_barline, c.barline_after-end.ensures);
+      rise = subst (λ cs. Rises b.start cs) (sym front) (turn.own_rises c.args.grammar.now c.args.pins.now c.args.channel c.args.last c.args.number c.args.bars.now c.args.voice.now no_bar c.requires.voice c.requires.number);
+      inside = subst (λ e. AreInside b.start e c.split_at-2.result.0.now) (sym c.barline_after-end.ensures)
+          (subst (λ cs. AreInside b.start (barline c.args.bars.now c.args.last (c.args.number + 1)) cs) (sym front) inside);
+    }
 
 pub returns : goal.returns
 returns c =

@@ -23,35 +23,23 @@ bars-init c =
       before = ap (λ cs. last_end 0 (map (λ c. c.end) cs)) (sym all.0) ∙ ap (λ t. end_before t c.args.voice.now) (sym zero);
     }
 
-pub of-requires-clause-some_tick : goal.of-requires-clause-some_tick
-of-requires-clause-some_tick c =
+pub of-requires-clause-bar : goal.of-requires-clause-bar
+of-requires-clause-bar c =
     let lt : c.bars.number < length c.args.bars.now = search rules in
+    let front = turn.front_is c.args.grammar.now c.args.pins.now c.args.channel c.args.last c.bars.number c.args.bars.now c.args.voice.now no_bar c.requires.voice lt
+    c.split_at.result.0.now c.bars.later.now c.count_before.result c.barline_after-end.result c.split_at.ensures.front c.count_before.ensures c.barline_after-end.ensures c.bars.invariant.later in
+    let b : Bar = get_or c.args.bars.now c.bars.number no_bar in
     let rise = turn.rise c.args.grammar.now c.args.pins.now c.args.channel c.args.last c.bars.number c.args.bars.now c.args.voice.now no_bar c.requires.voice lt in
     let start = turn.start_is c.args.grammar.now c.args.pins.now c.args.channel c.args.last c.bars.number c.args.bars.now c.args.voice.now no_bar c.requires.voice lt in
-    omega (arith, rise.0, start, c.barline_after-end.ensures)
-
-pub of-requires-clause-few_ticks : goal.of-requires-clause-few_ticks
-of-requires-clause-few_ticks c =
-    let lt : c.bars.number < length c.args.bars.now = search rules in
-    let rise = turn.rise c.args.grammar.now c.args.pins.now c.args.channel c.args.last c.bars.number c.args.bars.now c.args.voice.now no_bar c.requires.voice lt in
-    omega (arith, rise.1, c.requires.voice.last_barline, c.barline_after-end.ensures)
-
-pub of-requires-clause-rise : goal.of-requires-clause-rise
-of-requires-clause-rise c =
-    let lt : c.bars.number < length c.args.bars.now = search rules in
-    let front = turn.front_is c.args.grammar.now c.args.pins.now c.args.channel c.args.last c.bars.number c.args.bars.now c.args.voice.now no_bar c.requires.voice lt
-    c.split_at.result.0.now c.bars.later.now c.count_before.result c.barline_after-end.result c.split_at.ensures.front c.count_before.ensures c.barline_after-end.ensures c.bars.invariant.later in
-    subst (λ cs. Rises (get_or c.args.bars.now c.bars.number no_bar).start cs) (sym front)
-    (turn.own_rises c.args.grammar.now c.args.pins.now c.args.channel c.args.last c.bars.number c.args.bars.now c.args.voice.now no_bar c.requires.voice lt)
-
-pub of-requires-clause-inside : goal.of-requires-clause-inside
-of-requires-clause-inside c =
-    let lt : c.bars.number < length c.args.bars.now = search rules in
-    let front = turn.front_is c.args.grammar.now c.args.pins.now c.args.channel c.args.last c.bars.number c.args.bars.now c.args.voice.now no_bar c.requires.voice lt
-    c.split_at.result.0.now c.bars.later.now c.count_before.result c.barline_after-end.result c.split_at.ensures.front c.count_before.ensures c.barline_after-end.ensures c.bars.invariant.later in
     let inside = turn.own_inside c.args.grammar.now c.args.pins.now c.args.channel c.args.last c.bars.number c.args.bars.now c.args.voice.now no_bar c.requires.voice lt in
-    subst (λ e. AreInside (get_or c.args.bars.now c.bars.number no_bar).start e c.split_at.result.0.now) (sym c.barline_after-end.ensures)
-    (subst (λ cs. AreInside (get_or c.args.bars.now c.bars.number no_bar).start (barline c.args.bars.now c.args.last (c.bars.number + 1)) cs) (sym front) inside)
+    record {
+      signature = turn.signature_is c.args.grammar.now c.args.pins.now c.args.channel c.args.last c.bars.number c.args.bars.now c.args.voice.now no_bar c.requires.voice lt;
+      some_tick = omega (arith, rise.0, start, c.barline_after-end.ensures);
+      few_ticks = omega (arith, rise.1, c.requires.voice.last_barline, c.barline_after-end.ensures);
+      rise = subst (λ cs. Rises b.start cs) (sym front) (turn.own_rises c.args.grammar.now c.args.pins.now c.args.channel c.args.last c.bars.number c.args.bars.now c.args.voice.now no_bar c.requires.voice lt);
+      inside = subst (λ e. AreInside b.start e c.split_at.result.0.now) (sym c.barline_after-end.ensures)
+          (subst (λ cs. AreInside b.start (barline c.args.bars.now c.args.last (c.bars.number + 1)) cs) (sym front) inside);
+    }
 
 pub bars-preserved : goal.bars-preserved
 bars-preserved c =

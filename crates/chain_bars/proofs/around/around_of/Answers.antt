@@ -56,10 +56,10 @@ up-preserved g c =
     let two : c.with_right-after.new.products ≤ risen c.with_left-before.new.products 1 = c.with_right-after.ensures.products in (
       left.next,
       before_step es c.args.at c.up.below c.up.place c.up.before c.with_left-before.result c.requires.cells c.up.invariant.0 c.up.invariant.1
-          (λ odd. c.with_left-before.ensures.right odd ∙ ap (λ l. product_of (slice_index_or l (2 * (c.up.place / 2)) []) c.up.before) left.here) c.with_left-before.ensures.left,
+          (λ odd. c.with_left-before.ensures.joined.right odd ∙ ap (λ l. product_of (slice_index_or l (2 * (c.up.place / 2)) []) c.up.before) left.here) c.with_left-before.ensures.joined.left,
       after_step es c.args.at c.up.below c.up.place c.up.after c.with_right-after.result c.requires.cells c.up.invariant.0 c.up.invariant.2
-          (λ even there. c.with_right-after.ensures.left even (subst (λ l. c.up.place + 1 < length l) (sym right.here) there) ∙ ap (λ l. product_of c.up.after (slice_index_or l (c.up.place + 1) [])) right.here)
-          (λ end. c.with_right-after.ensures.lone (subst (λ l. length l ≤ c.up.place + 1) (sym right.here) end)) c.with_right-after.ensures.right,
+          (λ even there. c.with_right-after.ensures.joined.left even (subst (λ l. c.up.place + 1 < length l) (sym right.here) there) ∙ ap (λ l. product_of c.up.after (slice_index_or l (c.up.place + 1) [])) right.here)
+          (λ end. c.with_right-after.ensures.joined.lone (subst (λ l. length l ≤ c.up.place + 1) (sym right.here) end)) c.with_right-after.ensures.joined.right,
       λ d few.
           sides_step es c.up.below d (length c.slice.result.now) c.args.products.now c.up.products c.with_left-before.new.products c.with_right-after.new.products (ap length left.here) few (c.up.invariant.3 d few) one two
           c.with_left-before.ensures.single (λ short. c.with_right-after.ensures.single (subst (λ l. length l ≤ 1) (left.here ∙ sym right.here) short)),

@@ -1,8 +1,15 @@
+use Rattle.std.proofs.Common.{◌↔◌, ◌+◌, arith, subst}
+use Rattle.std.specs.Prelude.{IsTrue, false}
 use Rattle.chain_bars.specs.Reaches.{CanStep}
-use Rattle.chain_bars.proofs.Deaths.{each_of_five}
+use Rattle.chain_bars.proofs.Lists.{fill}
 use Rattle.chain_bars.proofs.dead.after.Goals as goal
 
+pub counts-preserved : goal.counts-preserved
+counts-preserved c =
+    let cell = c.args.cell.now in
+    let marks = c.args.reached.now in
+    fill false (λ k mark. IsTrue mark ↔ CanStep marks cell k) c.counts.next c.counts.to (c.counts.to + 1) c.leads_to.result (omega arith) c.counts-test.true c.counts.invariant
+    (subst (λ n. IsTrue c.leads_to.result ↔ CanStep marks cell n) c.of.ensures c.leads_to.ensures)
+
 pub returns : goal.returns
-returns c =
-    each_of_five (CanStep c.args.reached.now c.args.cell.now) c.leads_to-first.result c.leads_to-second.result c.leads_to-third.result c.leads_to-fourth.result c.leads_to-fifth.result
-    c.leads_to-first.ensures c.leads_to-second.ensures c.leads_to-third.ensures c.leads_to-fourth.ensures c.leads_to-fifth.ensures
+returns c = λ to low. c.counts.invariant.each to (omega (arith, low, c.counts-test.false))

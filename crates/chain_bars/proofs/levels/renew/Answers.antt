@@ -14,7 +14,7 @@ joined-node-requires-clause-few g c κs within =
     let es = level old 0 in
     let fs = slice_set es c.args.at c.args.cell.now in
     let high : c.up.above < 13 = omega (arith, c.up-test.true, c.up.auto.levels, c.up.invariant.0.levels.count) in
-    let asked = change_asks es fs old c.up.levels c.up.above c.slice.result.now c.index-levels-above.result (set_cells es c.args.at c.args.cell.now c.requires.cells c.get.ensures.sound c.requires.cheap) c.up.invariant.0.levels c.up.invariant.1 high c.slice.ensures in
+    let asked = change_asks es fs old c.up.levels c.up.above c.slice.result.now c.index-levels-above.result (set_cells es c.args.at c.args.cell.now c.requires.cells c.see.ensures c.requires.cheap) c.up.invariant.0.levels c.up.invariant.1 high c.slice.ensures in
     asked.few
 
 pub joined-node-requires-clause-cheap : goal.joined-node-requires-clause-cheap
@@ -23,7 +23,7 @@ joined-node-requires-clause-cheap g c κs within =
     let es = level old 0 in
     let fs = slice_set es c.args.at c.args.cell.now in
     let high : c.up.above < 13 = omega (arith, c.up-test.true, c.up.auto.levels, c.up.invariant.0.levels.count) in
-    let asked = change_asks es fs old c.up.levels c.up.above c.slice.result.now c.index-levels-above.result (set_cells es c.args.at c.args.cell.now c.requires.cells c.get.ensures.sound c.requires.cheap) c.up.invariant.0.levels c.up.invariant.1 high c.slice.ensures in
+    let asked = change_asks es fs old c.up.levels c.up.above c.slice.result.now c.index-levels-above.result (set_cells es c.args.at c.args.cell.now c.requires.cells c.see.ensures c.requires.cheap) c.up.invariant.0.levels c.up.invariant.1 high c.slice.ensures in
     asked.cheap
 
 pub set-requires-in-up : goal.set-requires-in-up
@@ -32,7 +32,7 @@ set-requires-in-up g c =
     let es = level old 0 in
     let fs = slice_set es c.args.at c.args.cell.now in
     let high : c.up.above < 13 = omega (arith, c.up-test.true, c.up.auto.levels, c.up.invariant.0.levels.count) in
-    let asked = change_asks es fs old c.up.levels c.up.above c.slice.result.now c.index-levels-above.result (set_cells es c.args.at c.args.cell.now c.requires.cells c.get.ensures.sound c.requires.cheap) c.up.invariant.0.levels c.up.invariant.1 high c.slice.ensures in
+    let asked = change_asks es fs old c.up.levels c.up.above c.slice.result.now c.index-levels-above.result (set_cells es c.args.at c.args.cell.now c.requires.cells c.see.ensures c.requires.cheap) c.up.invariant.0.levels c.up.invariant.1 high c.slice.ensures in
     let step = renew_step es fs old c.up.levels c.up.above (c.up.above - 1) c.up.place (c.up.place / 2) c.joined-node.result c.up.invariant.0 (omega (arith, c.up.invariant.1)) high refl (c.joined-node.ensures.result ∙ ap (λ l. node_at l (c.up.place / 2)) asked.here) in
     let there : c.up.above < length c.up.levels = omega (arith, c.up-test.true, c.up.auto.levels) in
     let read = level_read c.up.levels c.up.above c.index-levels-above-in-up.result there in
@@ -44,7 +44,7 @@ up-preserved g c =
     let es = level old 0 in
     let fs = slice_set es c.args.at c.args.cell.now in
     let high : c.up.above < 13 = omega (arith, c.up-test.true, c.up.auto.levels, c.up.invariant.0.levels.count) in
-    let asked = change_asks es fs old c.up.levels c.up.above c.slice.result.now c.index-levels-above.result (set_cells es c.args.at c.args.cell.now c.requires.cells c.get.ensures.sound c.requires.cheap) c.up.invariant.0.levels c.up.invariant.1 high c.slice.ensures in
+    let asked = change_asks es fs old c.up.levels c.up.above c.slice.result.now c.index-levels-above.result (set_cells es c.args.at c.args.cell.now c.requires.cells c.see.ensures c.requires.cheap) c.up.invariant.0.levels c.up.invariant.1 high c.slice.ensures in
     let step = renew_step es fs old c.up.levels c.up.above (c.up.above - 1) c.up.place (c.up.place / 2) c.joined-node.result c.up.invariant.0 (omega (arith, c.up.invariant.1)) high refl (c.joined-node.ensures.result ∙ ap (λ l. node_at l (c.up.place / 2)) asked.here) in
     let there : c.up.above < length c.up.levels = omega (arith, c.up-test.true, c.up.auto.levels) in
     let read = level_read c.up.levels c.up.above c.index-levels-above-in-up.result there in
@@ -61,4 +61,4 @@ pub returns-clause-sound : goal.returns-clause-sound
 returns-clause-sound g c =
     let old = c.args.levels.now in
     let es = level old 0 in
-    subst AreCells (sym (c.up.invariant.0.levels.new 0 (omega (arith, c.up.invariant.1)) (omega arith))) (set_cells es c.args.at c.args.cell.now c.requires.cells c.get.ensures.sound c.requires.cheap)
+    subst AreCells (sym (c.up.invariant.0.levels.new 0 (omega (arith, c.up.invariant.1)) (omega arith))) (set_cells es c.args.at c.args.cell.now c.requires.cells c.see.ensures c.requires.cheap)
