@@ -15,12 +15,12 @@ use Rattle.grammar_file.proofs.EndingLemmas.{ending_readable}
 use Rattle.grammar_file.proofs.NumberLemmas.{IsWithin}
 use Rattle.grammar_file.proofs.OutcomeLemmas.{then_ok}
 use Rattle.grammar_file.proofs.SoundLemmas.{IsSound, IsSoundBody, IsSoundHeader, header_sound, said_sound}
-use Rattle.grammar_file.proofs.StatementLemmas.{first_appearances-with, names_of-rule, names_of-start, with_name}
+use Rattle.grammar_file.proofs.StatementLemmas.{first_appearances-with, names_of-rule, names_of-start}
 use Rattle.grammar_file.proofs.SymbolLemmas.{any-place}
 use Rattle.grammar_file.specs.Content.{content_of}
 use Rattle.grammar_file.specs.Grammar.{grammar_of, grammar_of_lines, grammar_of_parts, understood}
 use Rattle.grammar_file.specs.Header.{header_of, most_units}
-use Rattle.grammar_file.specs.Names.{first_appearances, is_known, is_name, symbol_of}
+use Rattle.grammar_file.specs.Names.{first_appearances, is_known, is_name, symbol_of, with_name}
 use Rattle.grammar_file.specs.Outcome.{◌>>=◌, on_line}
 use Rattle.grammar_file.specs.Said.{said_by}
 use Rattle.grammar_file.specs.Sayable.{IsSayable}

@@ -7,15 +7,11 @@ use Rattle.std.specs.Str.{bytes_eq}
 use Rattle.rhythm_base.proofs.Positions.{list_any-map}
 use Rattle.grammar_file.proofs.AppearanceLemmas.{first_appearances-push}
 use Rattle.rhythm_base.proofs.Texts.{bytes_eq-sym}
-use Rattle.grammar_file.specs.Names.{first_appearances, is_known}
+use Rattle.grammar_file.specs.Names.{first_appearances, is_known, with_name}
 use Rattle.grammar_file.specs.Statements.{left_side, left_sides, names_of}
 use Rattle.grammar_file.specs.declared.draft.Spoken.{Spoken}
 use Rattle.grammar_file.specs.declared.said.NamedBody.{NamedBody}
 use Rattle.grammar_file.specs.declared.said.Said.TheVariants.{Start, Rule}
-
--- a list with a name, if it lacks that
-abbrev pub with_name : List (List ℕ) → List ℕ → List (List ℕ)
-with_name names name = cond (is_known names name) names (names ++ name ∷ [])
 
 -- a line that is a start
 pub names_of-start : (before : List Spoken) (line num den : ℕ) (name : List ℕ)

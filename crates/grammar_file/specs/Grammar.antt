@@ -1,7 +1,7 @@
 -- The grammar that a file says, or its first fault. A line with an unknown name comes after all other faults, since names
 -- may be used above the lines that they stand at the left of.
-use Rattle.std.specs.Prelude.{ℕ, List, [], ◌∷◌, drop, Result, Ok, Err}
-use Rattle.grammar_file.specs.Content.{Content, content_of}
+use Rattle.std.specs.Prelude.{All, ℕ, List, [], ◌∷◌, drop, Result, Ok, Err}
+use Rattle.grammar_file.specs.Content.{Content, IsLineNumber, content_of}
 use Rattle.grammar_file.specs.Header.{header_of}
 use Rattle.grammar_file.specs.Outcome.{◌>>=◌}
 use Rattle.grammar_file.specs.Statements.{in_turn, names_of, spoken_after}
@@ -10,6 +10,7 @@ use Rattle.grammar_file.specs.declared.draft.Spoken.{Spoken}
 use Rattle.grammar_file.specs.declared.fault.GrammarFault.{GrammarFault}
 use Rattle.grammar_file.specs.declared.fault.GrammarWhat.TheVariants.{UnknownName}
 use Rattle.grammar_file.specs.declared.header.Header.{Header}
+use Rattle.grammar_file.specs.declared.read.Placed.{Placed}
 use Rattle.rhythm_base.specs.Grammar.{Grammar}
 use Rattle.rhythm_base.specs.declared.grammar.Start.{Start}
 use Rattle.rhythm_base.specs.declared.rule.Rule.{Rule}
@@ -17,6 +18,10 @@ use Rattle.rhythm_base.specs.declared.rule.Rule.{Rule}
 -- the starts and the rules of the lines
 abbrev pub starts_and_rules : List (List ℕ) → List Spoken → List Start × List Rule
 starts_and_rules names spoken = (starts_in names spoken, rules_in names spoken)
+
+-- the lines have numbers up to the end
+abbrev pub AreWithin : ℕ → List Spoken → Type 0
+AreWithin end spoken = All (λ line. IsLineNumber end line.line) spoken
 
 -- the grammar of a header and lines that use only known names
 abbrev pub grammar_of_parts : Header → List Spoken → Grammar
@@ -35,6 +40,13 @@ grammar_of_parts header spoken = record {
 abbrev pub understood : {A : Type 0} → A → List Spoken → Result A GrammarFault
 understood value [] = Ok value
 understood value (first ∷ others) = Err (record { line = first.line; what = UnknownName })
+
+abbrev pub placed_by : List (List ℕ) → List Spoken → Result (List Start × List Rule) GrammarFault
+placed_by names spoken = understood (starts_and_rules names spoken) (not_understood names spoken)
+
+-- what was placed, as contracts see it
+abbrev pub seen_placed : Placed → List Start × List Rule
+seen_placed placed = (placed.starts.items, placed.rules.items)
 
 abbrev pub grammar_of_lines : Header → List Spoken → Result Grammar GrammarFault
 grammar_of_lines header spoken =

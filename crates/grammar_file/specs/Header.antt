@@ -1,6 +1,6 @@
 -- The first four lines of a grammar file.
 use Rattle.rhythm_base.specs.declared.limits.TheConstants.{MOST_UNITS, MOST_UNEQUAL_UNITS, WIDEST_WINDOW, HEAVIEST_ONSET}
-use Rattle.std.specs.Prelude.{ℕ, ◌==◌, ◌&&◌, if◌then◌else◌, List, [], ◌∷◌, Option, Some, None, Result, Ok, Err, codes, slice_get}
+use Rattle.std.specs.Prelude.{◌≡◌, ℕ, ◌==◌, ◌&&◌, if◌then◌else◌, List, [], ◌∷◌, Option, Some, None, Result, Ok, Err, codes, slice_get}
 use Rattle.std.specs.Str.{bytes_eq}
 use Rattle.grammar_file.specs.Content.{Content}
 use Rattle.grammar_file.specs.Numbers.{is_numeral, number_within}
@@ -52,6 +52,14 @@ missing end = record { line = end; what = what.Header }
 abbrev pub line_says : {A : Type 0} → ℕ → (List (List ℕ) → Result A GrammarWhat) → Option Line → Result A GrammarFault
 line_says end say (Some line) = on_line line.number (say line.words)
 line_says end say None = Err (missing end)
+
+-- no line is left, and this is the fault of one that is not there
+abbrev pub IsMissing : Content → GrammarFault → Type 0
+IsMissing content fault = (slice_get content.lines 0 ≡ None) × (fault ≡ missing content.end)
+
+-- what the first line says
+abbrev pub first_says : {A : Type 0} → Content → (List (List ℕ) → Result A GrammarWhat) → Result A GrammarFault
+first_says content say = line_says content.end say (slice_get content.lines 0)
 
 -- what the first four lines say
 unfoldable pub header_of : Content → Result Header GrammarFault

@@ -1,5 +1,6 @@
 -- The names of symbols.
-use Rattle.std.specs.Prelude.{ℕ, ◌==◌, ◌&&◌, ◌||◌, Bool, false, not, List, [], ◌∷◌, length, filter, nat_le}
+use Rattle.rhythm_base.specs.declared.limits.TheConstants.{MOST_NAMES}
+use Rattle.std.specs.Prelude.{ℕ, ◌==◌, ◌&&◌, ◌||◌, Bool, cond, false, not, List, [], ◌∷◌, ◌++◌, length, filter, nat_le, nat_lt}
 use Rattle.std.specs.Char.{is_ascii_alphanumeric, is_ascii_uppercase}
 use Rattle.std.specs.List.{list_all, list_any, position_or_len}
 use Rattle.std.specs.Str.{bytes_eq}
@@ -21,6 +22,14 @@ first_appearances (text ∷ texts) = text ∷ filter (λ other. not (bytes_eq ot
 -- whether the name is among the names
 abbrev pub is_known : List (List ℕ) → List ℕ → Bool
 is_known names name = list_any (bytes_eq name) names
+
+-- whether the name is among the names, or may be the next one
+abbrev pub has_room : List (List ℕ) → List ℕ → Bool
+has_room names name = is_known names name || nat_lt (length names) MOST_NAMES
+
+-- the names with one more, if they lack it
+abbrev pub with_name : List (List ℕ) → List ℕ → List (List ℕ)
+with_name names name = cond (is_known names name) names (names ++ name ∷ [])
 
 -- the symbol of a known name: its place among the names
 abbrev pub symbol_of : List (List ℕ) → List ℕ → ℕ

@@ -1,5 +1,6 @@
 -- What reading comes to: a value, or a fault.
-use Rattle.std.specs.Prelude.{◌≡◌, ◌≢◌, ℕ, Result, Ok, Err}
+use Rattle.std.specs.Prelude.{◌≡◌, ◌≢◌, ℕ, IfErr, Result, Ok, Err}
+use Rattle.grammar_file.specs.Content.{IsLineNumber}
 use Rattle.grammar_file.specs.declared.fault.GrammarFault.{GrammarFault}
 use Rattle.grammar_file.specs.declared.fault.GrammarWhat.{GrammarWhat}
 use Rattle.grammar_file.specs.declared.fault.GrammarWhat.TheVariants.{Memory}
@@ -19,6 +20,10 @@ on_line number (Err what) = Err (record { line = number; what = what })
 abbrev pub GivesGrammar : {A : Type 0} → Result A GrammarWhat → Result A GrammarWhat → Type 0
 GivesGrammar (Ok x) outcome = outcome ≡ Ok x
 GivesGrammar (Err what) outcome = what ≢ Memory → outcome ≡ Err what
+
+-- a fault stands at a line up to the end
+abbrev pub FailsWithin : {A : Type 0} → ℕ → Result A GrammarFault → Type 0
+FailsWithin end result = IfErr result (λ fault. IsLineNumber end fault.line)
 
 -- what was read, seen as a contract sees it
 abbrev pub seen_grammar : {A B E : Type 0} → (A → B) → Result A E → Result B E

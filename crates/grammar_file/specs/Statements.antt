@@ -1,8 +1,8 @@
 -- The lines after the header, one after the other.
-use Rattle.rhythm_base.specs.declared.limits.TheConstants.{MOST_NAMES, MOST_RULES}
-use Rattle.std.specs.Prelude.{ℕ, ◌==◌, ◌&&◌, ◌||◌, Bool, true, false, if◌then◌else◌, List, [], ◌∷◌, ◌++◌, length, filter, nat_le, nat_lt, Option, Some, None, Result, Ok, Err}
+use Rattle.rhythm_base.specs.declared.limits.TheConstants.{MOST_RULES}
+use Rattle.std.specs.Prelude.{ℕ, ◌==◌, ◌&&◌, Bool, true, false, if◌then◌else◌, List, [], ◌∷◌, ◌++◌, length, filter, nat_le, Option, Some, None, Result, Ok, Err}
 use Rattle.std.specs.List.{flat_map, list_any}
-use Rattle.grammar_file.specs.Names.{first_appearances, is_known}
+use Rattle.grammar_file.specs.Names.{first_appearances, has_room}
 use Rattle.grammar_file.specs.Outcome.{◌>>=◌, on_line}
 use Rattle.grammar_file.specs.Said.{said_by}
 use Rattle.grammar_file.specs.declared.draft.Spoken.{Spoken}
@@ -51,7 +51,7 @@ abbrev pub conflict : List Spoken → Said → Option GrammarWhat
 conflict before (Start num den name) = if list_any (is_start_of num den) before then Some DoubleStart else None
 conflict before (Rule name weight body) =
     if nat_le MOST_RULES (length (filter is_rule before)) then Some TooManyRules
-    else if is_known (names_of before) name || nat_lt (length (names_of before)) MOST_NAMES then None
+    else if has_room (names_of before) name then None
     else Some TooManyNames
 
 -- the value, where nothing speaks against it
@@ -72,3 +72,7 @@ spoken_after version before line = on_line line.number (spoken_by version before
 abbrev pub in_turn : {A B E : Type 0} → (List B → A → Result B E) → List B → List A → Result (List B) E
 in_turn read before [] = Ok before
 in_turn read before (x ∷ xs) = read before x >>= λ y. in_turn read (before ++ y ∷ []) xs
+
+-- what all lines say
+abbrev pub all_spoken : ℕ → List Line → Result (List Spoken) GrammarFault
+all_spoken version lines = in_turn (spoken_after version) [] lines

@@ -1,5 +1,5 @@
 -- Names by their numbers.
-use Rattle.std.specs.Prelude.{ℕ, Bool, true, false, not, List, [], ◌∷◌, filter, map, Result, Ok, Err}
+use Rattle.std.specs.Prelude.{◌≡◌, ℕ, Bool, true, false, not, List, [], ◌∷◌, filter, map, Result, Ok, Err}
 use Rattle.std.specs.List.{flat_map, list_all}
 use Rattle.grammar_file.specs.Endings.{body_of_ending}
 use Rattle.grammar_file.specs.Names.{is_known, symbol_of}
@@ -51,6 +51,23 @@ abbrev pub body_with : List (List ℕ) → NamedBody → Body
 body_with names (named.Split kids) = bodies.Split (map (symbol_of names) kids)
 body_with names (named.Parts parts) = bodies.Parts (parts_with names parts)
 body_with names (named.Ending ending) = body_of_ending ending
+
+-- the symbol of a name, those of names, parts with symbols and a body with symbols, where all names are known
+abbrev pub known_symbol : List (List ℕ) → List ℕ → Result ℕ GrammarWhat
+known_symbol names name = where_known (is_known names name) (symbol_of names name)
+
+abbrev pub known_symbols : List (List ℕ) → List (List ℕ) → Result (List ℕ) GrammarWhat
+known_symbols names words = where_known (list_all (is_known names) words) (map (symbol_of names) words)
+
+abbrev pub known_parts : List (List ℕ) → List (ℕ × List ℕ) → Result (List (ℕ × ℕ)) GrammarWhat
+known_parts names parts = where_known (list_all (is_known names) (names_of_parts parts)) (parts_with names parts)
+
+abbrev pub known_body : List (List ℕ) → NamedBody → Result Body GrammarWhat
+known_body names named = where_known (list_all (is_known names) (names_in named)) (body_with names named)
+
+-- the line uses an unknown name, and this is said of it
+abbrev pub IsUnknownIn : List (List ℕ) → Spoken → GrammarWhat → Type 0
+IsUnknownIn names spoken what = (what ≡ UnknownName) × (is_understood names spoken ≡ false)
 
 -- the start or the rule of a line
 abbrev pub start_in : List (List ℕ) → Spoken → List Start

@@ -1,18 +1,15 @@
-ghost use Rattle.rhythm_base.specs.declared.limits.TheConstants.{MOST_NAMES};
-ghost use Rattle.grammar_file.specs.Names.{is_known};
-ghost use Rattle.grammar_file.specs.Outcome.{GivesGrammar, GivesAt, seen_grammar};
-ghost use Rattle.grammar_file.specs.Statements.{conflict, in_turn, is_rule, is_start_of, names_of, spoken_after, spoken_by};
+ghost use Rattle.grammar_file.specs.Grammar.{AreWithin};
+ghost use Rattle.grammar_file.specs.Outcome.{FailsWithin, GivesAt, GivesGrammar, seen_grammar};
+ghost use Rattle.grammar_file.specs.Statements.{all_spoken, conflict, is_rule, is_start_of, names_of, spoken_by};
 ghost use Rattle.grammar_file.specs.declared.fault.GrammarWhat.TheVariants.{Memory};
 ghost use Rattle.std.specs.List.{list_any};
-ghost use Rattle.grammar_file.specs.Content.{IsLineNumber};
-ghost use Rattle.std.specs.Prelude.{All, ◌≡◌, ◌||◌, [], ◌∷◌, ◌++◌, IfErr, IfOk, OnOk, filter, length, map, nat_lt};
+ghost use Rattle.std.specs.Prelude.{◌≡◌, [], ◌∷◌, ◌++◌, IfErr, IfOk, OnOk, filter, length};
 
 use crate::fault::{GrammarFault, GrammarWhat, on_line};
 use crate::line::{Line, Lines, Next};
+use crate::names::Names;
 use crate::said::{Said, read_said};
-use indexmap::IndexSet;
 use std::alloc::Global;
-use std::hash::BuildHasherDefault;
 
 /// A line after the header, with its number.
 #[derive(Drop)]
@@ -24,9 +21,8 @@ pub(crate) struct Spoken<'a> {
 /// What the lines after the header say so far.
 #[derive(Drop)]
 pub(crate) struct Draft<'a> {
-    /// The names on the left sides of rules, in the order of their first appearance. A fixed hasher serves, since there are
-    /// at most 64.
-    pub(crate) names: IndexSet<&'a [u8]>,
+    /// The names on the left sides of rules, in the order of their first appearance.
+    pub(crate) names: Names<'a>,
     /// What each line says.
     pub(crate) spoken: Vec<Spoken<'a>>,
 }
@@ -55,25 +51,17 @@ impl<'a> Draft<'a> {
     /// A draft of no lines.
     fn new(alloc: Global) -> Draft<'a>
         ensures spoken { result.spoken.items ≡ [] }
-        ensures names { map (λ x. x.now) result.names.keys ≡ [] }
+        ensures names { result.names ≡ [] }
     {
         Draft {
-            names: IndexSet::with_hasher(alloc, BuildHasherDefault::new()),
+            names: Names::new(alloc),
             spoken: Vec::new(alloc),
         }
     }
 
-    /// Whether the name is a left side's, or may be the next one.
-    fn has_room_for(&self, name: &[u8]) -> bool
-        requires { map (λ x. x.now) self.now.names.keys ≡ names_of self.now.spoken.items }
-        ensures { result ≡ (is_known (names_of self.now.spoken.items) name.now || nat_lt (length (names_of self.now.spoken.items)) MOST_NAMES) }
-    {
-        self.names.contains(name) || self.names.len() < 64
-    }
-
     /// What speaks against a line after the others.
     fn conflict(&self, said: &Said) -> Option<GrammarWhat>
-        requires { map (λ x. x.now) self.now.names.keys ≡ names_of self.now.spoken.items }
+        requires { self.now.names ≡ names_of self.now.spoken.items }
         ensures { result ≡ conflict self.now.spoken.items said.now }
     {
         match said {
@@ -83,7 +71,7 @@ impl<'a> Draft<'a> {
             Said::Rule { name, .. } => {
                 if count_rules(&self.spoken) >= 512 {
                     Some(GrammarWhat::TooManyRules)
-                } else if self.has_room_for(name.as_slice()) {
+                } else if self.names.has_room_for(name.as_slice()) {
                     None
                 } else {
                     Some(GrammarWhat::TooManyNames)
@@ -94,7 +82,7 @@ impl<'a> Draft<'a> {
 
     /// What a line says after the others.
     fn speak(&self, alloc: Global, version: u8, line: &Line<'a>) -> Result<Spoken<'a>, GrammarWhat>
-        requires { map (λ x. x.now) self.now.names.keys ≡ names_of self.now.spoken.items }
+        requires { self.now.names ≡ names_of self.now.spoken.items }
         ensures value { GivesGrammar result (spoken_by version self.now.spoken.items line.now) }
         ensures line { IfOk result (λ spoken. spoken.line ≡ line.now.number) }
     {
@@ -110,8 +98,8 @@ impl<'a> Draft<'a> {
 
     /// Appends a line.
     fn push(&mut self, spoken: Spoken<'a>) -> Result<(), GrammarWhat>
-        requires { map (λ x. x.now) self.old.names.keys ≡ names_of self.old.spoken.items }
-        ensures names { OnOk result (map (λ x. x.now) self.new.names.keys ≡ names_of self.new.spoken.items) }
+        requires { self.old.names ≡ names_of self.old.spoken.items }
+        ensures names { OnOk result (self.new.names ≡ names_of self.new.spoken.items) }
         ensures spoken { OnOk result (self.new.spoken.items ≡ self.old.spoken.items ++ spoken.entry ∷ []) }
         ensures err { IfErr result (λ what. what ≡ Memory) }
     {
@@ -129,10 +117,10 @@ pub(crate) fn read_lines<'a>(
     version: u8,
     lines: &mut Lines<'a>,
 ) -> Result<Draft<'a>, GrammarFault>
-    ensures value { GivesAt (seen_grammar (λ d. d.spoken.items) result) (in_turn (spoken_after version) [] lines.old.lines) }
-    ensures names { IfOk result (λ d. map (λ x. x.now) d.names.keys ≡ names_of d.spoken.items) }
-    ensures lines { IfOk result (λ d. All (λ s. IsLineNumber lines.old.end s.line) d.spoken.items) }
-    ensures at { IfErr result (λ fault. IsLineNumber lines.old.end fault.line) }
+    ensures value { GivesAt (seen_grammar (λ d. d.spoken.items) result) (all_spoken version lines.old.lines) }
+    ensures names { IfOk result (λ d. d.names ≡ names_of d.spoken.items) }
+    ensures lines { IfOk result (λ d. AreWithin lines.old.end d.spoken.items) }
+    ensures at { FailsWithin lines.old.end result }
 {
     let mut draft = Draft::new(alloc);
     'lines: while let Next::Line(line) = lines.next(alloc)? {

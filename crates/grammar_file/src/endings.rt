@@ -1,6 +1,7 @@
+ghost use Rattle.grammar_file.specs.Lines.{texts};
 ghost use Rattle.grammar_file.specs.Endings.{body_of_ending, ending_of_words, ending_word_of, ending_words, has_ending_form};
 ghost use Rattle.std.specs.List.{join_with_byte};
-ghost use Rattle.std.specs.Prelude.{◌≡◌, ◌++◌, IsTrue, OnOk, map};
+ghost use Rattle.std.specs.Prelude.{◌≡◌, ◌++◌, IsTrue, OnOk};
 
 use crate::fault::GrammarWhat;
 use crate::number::{is_numeral, number_within};
@@ -35,7 +36,7 @@ pub(crate) fn ending_word_of(word: &[u8]) -> Option<EndingWord>
 
 /// Whether the words after its first fit an ending of this word.
 pub(crate) fn has_ending_form(word: EndingWord, words: &[&[u8]]) -> bool
-    ensures { result ≡ has_ending_form word (map (λ x. x.now) words.now) }
+    ensures { result ≡ has_ending_form word (texts words.now) }
 {
     match word {
         EndingWord::Grace => match words {
@@ -50,8 +51,8 @@ pub(crate) fn has_ending_form(word: EndingWord, words: &[&[u8]]) -> bool
 
 /// The ending of this word with these words after it.
 pub(crate) fn ending_of_words(word: EndingWord, words: &[&[u8]]) -> Result<Ending, GrammarWhat>
-    requires { IsTrue (has_ending_form word (map (λ x. x.now) words.now)) }
-    ensures { result ≡ ending_of_words word (map (λ x. x.now) words.now) }
+    requires { IsTrue (has_ending_form word (texts words.now)) }
+    ensures { result ≡ ending_of_words word (texts words.now) }
 {
     Ok(match word {
         EndingWord::Note => Ending::Note,

@@ -1,9 +1,10 @@
 ghost use Rattle.rhythm_base.specs.declared.limits.TheConstants.{MOST_UNITS};
 ghost use Rattle.grammar_file.specs.Content.{IsLineNumber, content_after_first};
-ghost use Rattle.grammar_file.specs.Header.{header_of, line_says, missing, most_units, said_number, numbers_of, version_of, weights_of};
-ghost use Rattle.grammar_file.specs.Outcome.{GivesAt};
+ghost use Rattle.grammar_file.specs.Header.{IsMissing, first_says, header_of, most_units, numbers_of, said_number, version_of, weights_of};
+ghost use Rattle.grammar_file.specs.Lines.{texts};
+ghost use Rattle.grammar_file.specs.Outcome.{FailsWithin, GivesAt};
 ghost use Rattle.grammar_file.specs.declared.fault.GrammarWhat.TheVariants.{Memory};
-ghost use Rattle.std.specs.Prelude.{◌<◌, ◌≡◌, ◌≢◌, ◌≤◌, IfErr, IfOk, None, OnOk, Some, drop, map, slice_get};
+ghost use Rattle.std.specs.Prelude.{◌≡◌, ◌≢◌, ◌≤◌, IfErr, IfOk, OnOk, Some, drop, slice_get};
 
 use crate::fault::{GrammarFault, GrammarWhat, on_line};
 use crate::line::{Line, Lines, Next};
@@ -27,7 +28,7 @@ pub(crate) struct Header {
 
 /// The version of a file.
 fn version(words: &[&[u8]]) -> Result<u8, GrammarWhat>
-    ensures { result ≡ version_of (map (λ x. x.now) words.now) }
+    ensures { result ≡ version_of (texts words.now) }
 {
     match words {
         [key, version] if *key == b"rhythm".as_slice() && *version == b"1".as_slice() => Ok(1),
@@ -38,8 +39,7 @@ fn version(words: &[&[u8]]) -> Result<u8, GrammarWhat>
 
 /// The number of a line that begins with this word.
 fn number(key: &[u8], low: u32, high: u32, words: &[&[u8]]) -> Result<u32, GrammarWhat>
-    requires { high < 4294967295 }
-    ensures value { result ≡ said_number key.now low high (map (λ x. x.now) words.now) }
+    ensures value { result ≡ said_number key.now low high (texts words.now) }
     ensures within { IfOk result (λ n. n ≤ high) }
 {
     match words {
@@ -56,8 +56,7 @@ fn number(key: &[u8], low: u32, high: u32, words: &[&[u8]]) -> Result<u32, Gramm
 
 /// Both numbers of a line that begins with this word.
 fn numbers(key: &[u8], low: u32, high: u32, words: &[&[u8]]) -> Result<(u32, u32), GrammarWhat>
-    requires { high < 4294967295 }
-    ensures { result ≡ numbers_of key.now low high (map (λ x. x.now) words.now) }
+    ensures { result ≡ numbers_of key.now low high (texts words.now) }
 {
     match words {
         [first, digits, others] if *first == key => {
@@ -73,7 +72,7 @@ fn numbers(key: &[u8], low: u32, high: u32, words: &[&[u8]]) -> Result<(u32, u32
 
 /// The weights of early and of late onsets.
 fn weights(version: u8, words: &[&[u8]]) -> Result<(u32, u32), GrammarWhat>
-    ensures { result ≡ weights_of version (map (λ x. x.now) words.now) }
+    ensures { result ≡ weights_of version (texts words.now) }
 {
     if version == 2 {
         return numbers(b"onset", 0, 1_000, words);
@@ -87,8 +86,8 @@ fn next_line<'a>(alloc: Global, lines: &mut Lines<'a>) -> Result<Line<'a>, Gramm
     ensures line { IfOk result (λ line. slice_get lines.old.lines 0 ≡ Some line) }
     ensures after { OnOk result (lines.new ≡ content_after_first lines.old) }
     ensures number { IfOk result (λ line. IsLineNumber lines.old.end line.number) }
-    ensures at { IfErr result (λ fault. IsLineNumber lines.old.end fault.line) }
-    ensures end { IfErr result (λ fault. fault.what ≢ Memory → (slice_get lines.old.lines 0 ≡ None) × (fault ≡ missing lines.old.end)) }
+    ensures at { FailsWithin lines.old.end result }
+    ensures end { IfErr result (λ fault. fault.what ≢ Memory → IsMissing lines.old fault) }
 {
     match lines.next(alloc)? {
         Next::Line(line) => Ok(line),
@@ -101,8 +100,8 @@ fn next_line<'a>(alloc: Global, lines: &mut Lines<'a>) -> Result<Line<'a>, Gramm
 
 /// The version that the next line says.
 fn read_version(alloc: Global, lines: &mut Lines) -> Result<u8, GrammarFault>
-    ensures at { IfErr result (λ fault. IsLineNumber lines.old.end fault.line) }
-    ensures value { GivesAt result (line_says lines.old.end version_of (slice_get lines.old.lines 0)) }
+    ensures at { FailsWithin lines.old.end result }
+    ensures value { GivesAt result (first_says lines.old version_of) }
     ensures after { OnOk result (lines.new ≡ content_after_first lines.old) }
 {
     let line = next_line(alloc, lines)?;
@@ -117,9 +116,8 @@ fn read_number(
     low: u32,
     high: u32,
 ) -> Result<u32, GrammarFault>
-    requires { high < 4294967295 }
-    ensures at { IfErr result (λ fault. IsLineNumber lines.old.end fault.line) }
-    ensures value { GivesAt result (line_says lines.old.end (said_number key.now low high) (slice_get lines.old.lines 0)) }
+    ensures at { FailsWithin lines.old.end result }
+    ensures value { GivesAt result (first_says lines.old (said_number key.now low high)) }
     ensures within { IfOk result (λ n. n ≤ high) }
     ensures after { OnOk result (lines.new ≡ content_after_first lines.old) }
 {
@@ -129,8 +127,8 @@ fn read_number(
 
 /// The weights that the next line says.
 fn read_weights(alloc: Global, lines: &mut Lines, version: u8) -> Result<(u32, u32), GrammarFault>
-    ensures at { IfErr result (λ fault. IsLineNumber lines.old.end fault.line) }
-    ensures value { GivesAt result (line_says lines.old.end (weights_of version) (slice_get lines.old.lines 0)) }
+    ensures at { FailsWithin lines.old.end result }
+    ensures value { GivesAt result (first_says lines.old (weights_of version)) }
     ensures after { OnOk result (lines.new ≡ content_after_first lines.old) }
 {
     let line = next_line(alloc, lines)?;
@@ -148,7 +146,7 @@ fn most_units(version: u8) -> u32
 /// What the first four lines say.
 pub(crate) fn read_header(alloc: Global, lines: &mut Lines) -> Result<Header, GrammarFault>
     ensures value { GivesAt result (header_of lines.old) }
-    ensures at { IfErr result (λ fault. IsLineNumber lines.old.end fault.line) }
+    ensures at { FailsWithin lines.old.end result }
     ensures end { OnOk result (lines.new.end ≡ lines.old.end) }
     ensures after { OnOk result (lines.new.lines ≡ drop 4 lines.old.lines) }
 {

@@ -1,7 +1,8 @@
+ghost use Rattle.grammar_file.specs.Lines.{texts};
 ghost use Rattle.grammar_file.specs.Said.{are_parts, has_form, kind_of};
 ghost use Rattle.grammar_file.specs.Names.{is_name};
 ghost use Rattle.std.specs.List.{list_all};
-ghost use Rattle.std.specs.Prelude.{◌≡◌, map};
+ghost use Rattle.std.specs.Prelude.{◌≡◌};
 
 use crate::endings::{EndingWord, ending_word_of, has_ending_form};
 use crate::number::is_numeral;
@@ -29,7 +30,7 @@ pub(crate) fn kind_of(word: &[u8]) -> Option<Kind>
 
 /// Whether the words are sizes and names in turn.
 pub(crate) fn are_parts(words: &[&[u8]]) -> bool
-    ensures { result ≡ are_parts (map (λ x. x.now) words.now) }
+    ensures { result ≡ are_parts (texts words.now) }
 {
     match words {
         [] => true,
@@ -40,14 +41,14 @@ pub(crate) fn are_parts(words: &[&[u8]]) -> bool
 
 /// Whether the words are names.
 fn are_names(words: &[&[u8]]) -> bool
-    ensures { result ≡ list_all is_name (map (λ x. x.now) words.now) }
+    ensures { result ≡ list_all is_name (texts words.now) }
 {
     words.iter().all(|word| is_name(word))
 }
 
 /// Whether the words after its first fit a body of this kind in this version.
 pub(crate) fn has_form(version: u8, kind: Kind, words: &[&[u8]]) -> bool
-    ensures { result ≡ has_form version kind (map (λ x. x.now) words.now) }
+    ensures { result ≡ has_form version kind (texts words.now) }
 {
     match kind {
         Kind::Split => words.len() >= 2 && words.len() <= 16 && are_names(words),

@@ -11,6 +11,7 @@ mod header;
 mod kind;
 mod laws;
 mod line;
+mod names;
 mod number;
 mod print;
 mod read;
@@ -21,6 +22,6 @@ mod text;
 mod words;
 
 pub use fault::{GrammarFault, GrammarWhat};
-pub use laws::printed_grammars_are_read_back;
+pub use laws::{printed_grammars_are_read_back, said_grammars_are_readable};
 pub use print::print_grammar;
 pub use read::read_grammar;

@@ -1,6 +1,7 @@
-ghost use Rattle.grammar_file.specs.Content.{Content, IsLineNumber, IsNext, content_after_first, content_from, line_with, next_statement, says_something};
+ghost use Rattle.grammar_file.specs.Content.{Content, IsNext, content_after_first, content_from, line_with, next_statement, says_something};
 ghost use Rattle.grammar_file.specs.Lines.{is_blank, grammar_lines, without_return, grammar_words};
 ghost use Rattle.std.specs.Prelude.{◌+◌, ◌<◌, ◌∷◌, ◌≡◌, ◌≤◌, ◌^◌, IfErr, IfOk, OnOk, length};
+ghost use Rattle.grammar_file.specs.Outcome.{FailsWithin};
 ghost use Rattle.grammar_file.specs.declared.fault.GrammarWhat.TheVariants.{Memory};
 
 use crate::fault::{GrammarFault, GrammarWhat};
@@ -114,7 +115,7 @@ impl<'a> Lines<'a> {
         ensures after { OnOk result (self.new ≡ content_after_first self.old) }
         ensures number { IfOk result (IsNext self.old.end) }
         ensures err { IfErr result (λ fault. fault.what ≡ Memory) }
-        ensures at { IfErr result (λ fault. IsLineNumber self.old.end fault.line) }
+        ensures at { FailsWithin self.old.end result }
     {
         'lines: while !self.rest.is_empty() {
             let number = self.number;

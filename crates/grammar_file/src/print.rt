@@ -1,8 +1,19 @@
-ghost use Rattle.grammar_file.specs.Lines.{newline};
-ghost use Rattle.grammar_file.specs.Printed.{body_words, header_words, line_text, symbol_name, printed, rule_words, start_words, weight_words};
+ghost use Rattle.grammar_file.specs.Printed.{
+  body_text,
+  header_text,
+  names_text,
+  number_line,
+  printed,
+  rule_line,
+  rule_lines,
+  sizes_text,
+  start_line,
+  start_lines,
+  symbol_name,
+  weight_line,
+};
 ghost use Rattle.rhythm_base.specs.Readable.{IsBody, IsReadable};
-ghost use Rattle.std.specs.List.{flat_map, join_with_byte};
-ghost use Rattle.std.specs.Prelude.{◌≡◌, ℕ, [], ◌∷◌, ◌++◌, ◌<◌, All, IfOk, OnOk, codes, decimal, length, map};
+ghost use Rattle.std.specs.Prelude.{◌≡◌, ℕ, ◌∷◌, ◌++◌, ◌<◌, All, IfOk, OnOk, length};
 
 use crate::endings::push_ending;
 use crate::text::{push, push_number};
@@ -21,7 +32,7 @@ fn push_name(text: &mut Vec<u8>, names: &[Name], symbol: u8) -> Result<(), Alloc
 /// Appends the names of symbols, each after a space.
 fn push_names(text: &mut Vec<u8>, names: &[Name], symbols: &[u8]) -> Result<(), AllocError>
     requires { All (λ s. s < length names.now) symbols.now }
-    ensures { OnOk result (text.new.items ≡ text.old.items ++ flat_map (λ s. 32 ∷ symbol_name names.now s) symbols.now) }
+    ensures { OnOk result (text.new.items ≡ text.old.items ++ names_text names.now symbols.now) }
 {
     for symbol in symbols {
         push_name(text, names, *symbol)?;
@@ -37,7 +48,7 @@ fn push_parts(
     parts: &[(u8, u8)],
 ) -> Result<(), AllocError>
     requires { All (λ q. q.1 < length names.now) parts.now }
-    ensures { OnOk result (text.new.items ≡ text.old.items ++ flat_map (λ q. 32 ∷ (decimal q.0 ++ 32 ∷ symbol_name names.now q.1)) parts.now) }
+    ensures { OnOk result (text.new.items ≡ text.old.items ++ sizes_text names.now parts.now) }
 {
     for (size, symbol) in parts {
         push(text, b" ")?;
@@ -55,7 +66,7 @@ fn push_body(
     body: &Body,
 ) -> Result<(), AllocError>
     requires { (version : ℕ) × IsBody version (length names.now) body.now }
-    ensures { OnOk result (text.new.items ≡ text.old.items ++ join_with_byte 32 (body_words names.now body.now)) }
+    ensures { OnOk result (text.new.items ≡ text.old.items ++ body_text names.now body.now) }
 {
     match body {
         Body::Split(kids) => {
@@ -82,7 +93,7 @@ fn push_rule(
 ) -> Result<(), AllocError>
     requires lhs { rule.now.lhs < length names.now }
     requires body { (version : ℕ) × IsBody version (length names.now) rule.now.body }
-    ensures { OnOk result (text.new.items ≡ text.old.items ++ line_text (rule_words names.now rule.now)) }
+    ensures { OnOk result (text.new.items ≡ text.old.items ++ rule_line names.now rule.now) }
 {
     push(text, names[rule.lhs as usize].as_slice())?;
     push(text, b" ")?;
@@ -100,7 +111,7 @@ fn push_start(
     start: &Start,
 ) -> Result<(), AllocError>
     requires { start.now.symbol < length names.now }
-    ensures { OnOk result (text.new.items ≡ text.old.items ++ line_text (start_words names.now start.now)) }
+    ensures { OnOk result (text.new.items ≡ text.old.items ++ start_line names.now start.now) }
 {
     push(text, b"start ")?;
     push_number(alloc, text, u32::from(start.num))?;
@@ -112,7 +123,7 @@ fn push_start(
 
 /// Appends a line of a word and a number.
 fn push_line(alloc: Global, text: &mut Vec<u8>, word: &[u8], number: u32) -> Result<(), AllocError>
-    ensures { OnOk result (text.new.items ≡ text.old.items ++ line_text (word.now ∷ decimal number ∷ [])) }
+    ensures { OnOk result (text.new.items ≡ text.old.items ++ number_line word.now number) }
 {
     push(text, word)?;
     push(text, b" ")?;
@@ -122,7 +133,7 @@ fn push_line(alloc: Global, text: &mut Vec<u8>, word: &[u8], number: u32) -> Res
 
 /// Appends the line of the weights of onsets.
 fn push_weights(alloc: Global, text: &mut Vec<u8>, grammar: &Grammar) -> Result<(), AllocError>
-    ensures { OnOk result (text.new.items ≡ text.old.items ++ line_text (weight_words grammar.now)) }
+    ensures { OnOk result (text.new.items ≡ text.old.items ++ weight_line grammar.now) }
 {
     if grammar.version != 2 {
         return push_line(alloc, text, b"onset", grammar.early);
@@ -136,7 +147,7 @@ fn push_weights(alloc: Global, text: &mut Vec<u8>, grammar: &Grammar) -> Result<
 
 /// Appends the header.
 fn push_header(alloc: Global, text: &mut Vec<u8>, grammar: &Grammar) -> Result<(), AllocError>
-    ensures { OnOk result (text.new.items ≡ text.old.items ++ flat_map line_text (header_words grammar.now)) }
+    ensures { OnOk result (text.new.items ≡ text.old.items ++ header_text grammar.now) }
 {
     push_line(alloc, text, b"rhythm", u32::from(grammar.version))?;
     push_line(alloc, text, b"resolution", u32::from(grammar.resolution))?;
@@ -152,7 +163,7 @@ fn push_starts(
     starts: &[Start],
 ) -> Result<(), AllocError>
     requires { All (λ s. s.symbol < length names.now) starts.now }
-    ensures { OnOk result (text.new.items ≡ text.old.items ++ flat_map line_text (map (start_words names.now) starts.now)) }
+    ensures { OnOk result (text.new.items ≡ text.old.items ++ start_lines names.now starts.now) }
 {
     for start in starts {
         push_start(alloc, text, names, start)?;
@@ -169,7 +180,7 @@ fn push_rules(
 ) -> Result<(), AllocError>
     requires sides { All (λ r. r.lhs < length names.now) rules.now }
     requires bodies { (version : ℕ) × All (λ r. IsBody version (length names.now) r.body) rules.now }
-    ensures { OnOk result (text.new.items ≡ text.old.items ++ flat_map line_text (map (rule_words names.now) rules.now)) }
+    ensures { OnOk result (text.new.items ≡ text.old.items ++ rule_lines names.now rules.now) }
 {
     for rule in rules {
         push_rule(alloc, text, names, rule)?;

@@ -1,38 +1,35 @@
 ghost use Rattle.rhythm_base.specs.declared.limits.TheConstants.{MOST_NAMES};
-ghost use Rattle.grammar_file.specs.Grammar.{grammar_of, grammar_of_lines, starts_and_rules, understood};
-ghost use Rattle.grammar_file.specs.Names.{is_name};
-ghost use Rattle.grammar_file.specs.Outcome.{GivesAt, seen_grammar};
+ghost use Rattle.grammar_file.specs.Grammar.{AreWithin, grammar_of, grammar_of_lines, placed_by, seen_placed};
+ghost use Rattle.grammar_file.specs.Outcome.{FailsWithin, GivesAt, seen_grammar};
 ghost use Rattle.grammar_file.specs.Sayable.{IsSayable};
 ghost use Rattle.grammar_file.specs.Statements.{names_of};
-ghost use Rattle.grammar_file.specs.Symbols.{not_understood};
-ghost use Rattle.grammar_file.specs.declared.fault.GrammarWhat.TheVariants.{Memory};
 ghost use Rattle.rhythm_base.specs.Readable.{IsReadable};
-ghost use Rattle.rhythm_base.specs.declared.grammar.Start.{Start as StartValue};
-ghost use Rattle.rhythm_base.specs.declared.rule.Rule.{Rule as RuleValue};
 ghost use Rattle.grammar_file.specs.Content.{IsLineNumber};
 ghost use Rattle.grammar_file.specs.Lines.{grammar_lines};
-ghost use Rattle.std.specs.Prelude.{All, ℕ, ◌+◌, List, ◌≡◌, ◌≤◌, IfErr, IfOk, length, map};
+ghost use Rattle.std.specs.Prelude.{ℕ, ◌+◌, ◌≡◌, ◌≤◌, IfErr, IfOk, length};
 
 use crate::draft::{Draft, Spoken, read_lines};
-use crate::fault::{GrammarFault, GrammarWhat, on_line};
+use crate::fault::{GrammarFault, on_line};
 use crate::header::{Header, read_header};
 use crate::line::Lines;
+use crate::names::Names;
 use crate::symbols::place;
-use indexmap::IndexSet;
-use rhythm_base::{Grammar, Name, Rule, Start};
+use rhythm_base::{Grammar, Rule, Start};
 use std::alloc::Global;
 
+/// Starts and rules, with symbols for names.
+#[derive(Drop)]
+struct Placed {
+    starts: Vec<Start>,
+    rules: Vec<Rule>,
+}
+
 /// The starts and the rules of the lines, with symbols for names.
-fn place_all(
-    alloc: Global,
-    names: &IndexSet<&[u8]>,
-    lines: &[Spoken],
-) -> Result<(Vec<Start>, Vec<Rule>), GrammarFault>
-    requires kept { map (λ x. x.now) names.now.keys ≡ names_of lines.now }
-    requires few { length names.now.keys ≤ MOST_NAMES }
-    ensures at { (end : ℕ) → All (λ s. IsLineNumber end s.line) lines.now → IfErr result (λ fault. IsLineNumber end fault.line) }
-    ensures value { GivesAt {A = List StartValue × List RuleValue} (seen_grammar (λ v. (v.0.items, v.1.items)) result) (understood
-        (starts_and_rules (names_of lines.now) lines.now) (not_understood (names_of lines.now) lines.now)) }
+fn place_all(alloc: Global, names: &Names, lines: &[Spoken]) -> Result<Placed, GrammarFault>
+    requires kept { names.now ≡ names_of lines.now }
+    requires few { length names.now ≤ MOST_NAMES }
+    ensures at { (end : ℕ) → AreWithin end lines.now → FailsWithin end result }
+    ensures value { GivesAt (seen_grammar seen_placed result) (placed_by (names_of lines.now) lines.now) }
 {
     let mut starts = Vec::new(alloc);
     let mut rules = Vec::new(alloc);
@@ -42,32 +39,19 @@ fn place_all(
             place(alloc, names, line, &mut starts, &mut rules),
         )?;
     }
-    Ok((starts, rules))
-}
-
-/// Copies of the names.
-fn owned_names(alloc: Global, names: &[&[u8]]) -> Result<Vec<Name>, GrammarWhat>
-    ensures names { IfOk result (λ v. v.items ≡ map (λ x. x.now) names.now) }
-    ensures err { IfErr result (λ what. what ≡ Memory) }
-{
-    let mut owned = Vec::with_capacity(alloc, names.len())?;
-    for name in names {
-        owned.push(Name::of(Vec::from_slice(alloc, name)?))?;
-    }
-    Ok(owned)
+    Ok(Placed { starts, rules })
 }
 
 /// The grammar of a header and the lines after it.
 fn grammar(alloc: Global, header: Header, draft: &Draft) -> Result<Grammar, GrammarFault>
-    requires kept { map (λ x. x.now) draft.now.names.keys ≡ names_of draft.now.spoken.items }
-    requires few { length draft.now.names.keys ≤ MOST_NAMES }
+    requires kept { draft.now.names ≡ names_of draft.now.spoken.items }
+    requires few { length draft.now.names ≤ MOST_NAMES }
     ensures value { GivesAt result (grammar_of_lines header draft.now.spoken.items) }
-    ensures at { (end : ℕ) → 1 ≤ end → All (λ s. IsLineNumber end s.line) draft.now.spoken.items
-        → IfErr result (λ fault. IsLineNumber end fault.line) }
+    ensures at { (end : ℕ) → 1 ≤ end → AreWithin end draft.now.spoken.items → FailsWithin end result }
 {
-    let (starts, rules) = place_all(alloc, &draft.names, &draft.spoken)?;
+    let placed = place_all(alloc, &draft.names, &draft.spoken)?;
     let last = draft.spoken.last().map_or(1, |spoken| spoken.line);
-    let names = on_line(last, owned_names(alloc, draft.names.as_slice()))?;
+    let names = on_line(last, draft.names.owned(alloc))?;
     Ok(Grammar {
         version: header.version,
         resolution: header.resolution,
@@ -75,8 +59,8 @@ fn grammar(alloc: Global, header: Header, draft: &Draft) -> Result<Grammar, Gram
         early: header.early,
         late: header.late,
         names,
-        starts,
-        rules,
+        starts: placed.starts,
+        rules: placed.rules,
     })
 }
 

@@ -1,7 +1,8 @@
+ghost use Rattle.grammar_file.specs.Lines.{texts};
 ghost use Rattle.grammar_file.specs.Outcome.{GivesGrammar};
-ghost use Rattle.grammar_file.specs.Said.{are_parts, body_of, has_form, kind_of, said_parts, rule_of_kind, said_by, start_of};
+ghost use Rattle.grammar_file.specs.Said.{are_parts, body_of, has_form, said_parts, rule_of_kind, said_by, start_of};
 ghost use Rattle.std.specs.List.{after_first, before_first};
-ghost use Rattle.std.specs.Prelude.{◌≡◌, ◌==◌, ℕ, IsTrue, map};
+ghost use Rattle.std.specs.Prelude.{◌≡◌, ◌==◌, ℕ, IsTrue};
 
 use crate::endings::ending_of_words;
 use crate::fault::GrammarWhat;
@@ -67,8 +68,8 @@ fn start<'a>(signature: &[u8], name: &'a [u8]) -> Result<Said<'a>, GrammarWhat>
 
 /// The parts of these sizes and names.
 fn parts<'a>(alloc: Global, words: &[&'a [u8]]) -> Result<Sizes<'a>, GrammarWhat>
-    requires { IsTrue (are_parts (map (λ x. x.now) words.now)) }
-    ensures { GivesGrammar result (said_parts (map (λ x. x.now) words.now)) }
+    requires { IsTrue (are_parts (texts words.now)) }
+    ensures { GivesGrammar result (said_parts (texts words.now)) }
 {
     let mut parts = Vec::with_capacity(alloc, words.len() / 2)?;
     let mut rest = words;
@@ -81,8 +82,8 @@ fn parts<'a>(alloc: Global, words: &[&'a [u8]]) -> Result<Sizes<'a>, GrammarWhat
 
 /// The body of this kind with these words after its first.
 fn body<'a>(alloc: Global, kind: Kind, words: &[&'a [u8]]) -> Result<NamedBody<'a>, GrammarWhat>
-    requires { (version : ℕ) × IsTrue (has_form version kind (map (λ x. x.now) words.now)) }
-    ensures { GivesGrammar result (body_of kind (map (λ x. x.now) words.now)) }
+    requires { (version : ℕ) × IsTrue (has_form version kind (texts words.now)) }
+    ensures { GivesGrammar result (body_of kind (texts words.now)) }
 {
     Ok(match kind {
         Kind::Split => NamedBody::Split(Words::of(Vec::from_slice(alloc, words)?)),
@@ -91,18 +92,18 @@ fn body<'a>(alloc: Global, kind: Kind, words: &[&'a [u8]]) -> Result<NamedBody<'
     })
 }
 
-/// The rule that a line says with these words.
+/// The rule that a line says with a name, a weight, and words after the word of this kind.
 fn rule<'a>(
     alloc: Global,
     version: u8,
     name: &'a [u8],
     weight: &[u8],
-    word: &[u8],
+    kind: Option<Kind>,
     words: &[&'a [u8]],
 ) -> Result<Said<'a>, GrammarWhat>
-    ensures { GivesGrammar result (rule_of_kind version name.now weight.now (kind_of word.now) (map (λ x. x.now) words.now)) }
+    ensures { GivesGrammar result (rule_of_kind version name.now weight.now kind (texts words.now)) }
 {
-    let Some(kind) = kind_of(word) else {
+    let Some(kind) = kind else {
         return Err(GrammarWhat::Line);
     };
     if !(is_name(name) && is_numeral(weight) && has_form(version, kind, words)) {
@@ -123,14 +124,14 @@ pub(crate) fn read_said<'a>(
     version: u8,
     words: &[&'a [u8]],
 ) -> Result<Said<'a>, GrammarWhat>
-    ensures { GivesGrammar result (said_by version (map (λ x. x.now) words.now)) }
+    ensures { GivesGrammar result (said_by version (texts words.now)) }
 {
     match words {
         [first, second, third, more @ ..] => {
             if *first == b"start".as_slice() && more.is_empty() {
                 return start(second, third);
             }
-            rule(alloc, version, first, second, third, more)
+            rule(alloc, version, first, second, kind_of(third), more)
         }
         _ => Err(GrammarWhat::Line),
     }

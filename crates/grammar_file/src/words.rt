@@ -1,3 +1,4 @@
+ghost use Rattle.grammar_file.specs.Lines.{texts};
 ghost use Rattle.std.specs.Prelude.{◌≡◌, map};
 
 use std::marker::Model;
@@ -49,14 +50,14 @@ impl<'a> Model for Words<'a> {
 impl<'a> Words<'a> {
     /// The list of these words.
     pub(crate) fn of(words: Vec<&'a [u8]>) -> Words<'a>
-        ensures { result ≡ map (λ x. x.now) words.entry.items }
+        ensures { result ≡ texts words.entry.items }
     {
         Words { words }
     }
 
     /// The words, first to last.
     pub(crate) fn as_slice(&self) -> &[&'a [u8]]
-        ensures { map (λ x. x.now) result.now ≡ self.now }
+        ensures { texts result.now ≡ self.now }
     {
         self.words.as_slice()
     }

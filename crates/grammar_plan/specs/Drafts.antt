@@ -1,13 +1,16 @@
 -- Seats and cuts while a plan is made: what stands stays, and what comes is put after it.
-use Rattle.std.specs.Prelude.{⊤, ◌≡◌, ℕ, ◌<◌, ◌≤◌, List, [], ◌∷◌, ◌++◌, ◌&&◌, Bool, true, false, length, slice_get, Option, Some, None}
+use Rattle.std.specs.Prelude.{⊤, ◌≡◌, ℕ, ◌<◌, ◌≤◌, ◌⊎◌, List, [], ◌∷◌, ◌++◌, ◌&&◌, Bool, true, false, length, slice_get, Option, Some, None}
 use Rattle.rhythm_base.specs.Bodies.{children, ending_of}
 use Rattle.rhythm_base.specs.Grammar.{Grammar}
 use Rattle.rhythm_base.specs.Trees.{suits}
+use Rattle.rhythm_base.specs.declared.rule.Body.{Body}
 use Rattle.rhythm_base.specs.declared.rule.Ending.{Ending}
 use Rattle.rhythm_base.specs.declared.rule.Rule.{Rule}
 use Rattle.row_laws.specs.RuleKeys.{IsCutRule}
 use Rattle.grammar_plan.specs.Plans.{between, pair_of}
 use Rattle.grammar_plan.specs.declared.cut.Cut.{Cut}
+use Rattle.grammar_plan.specs.declared.draft.Draft.{Draft}
+use Rattle.grammar_plan.specs.declared.pairs.Pairs.{Pairs}
 use Rattle.grammar_plan.specs.declared.seat.Seat.{Seat}
 
 -- more after it
@@ -28,6 +31,18 @@ HavePairs pairs (n ∷ ns) (q ∷ qs) = HasPair pairs n q × HavePairs pairs ns 
 abbrev pub ArePairs : ℕ → ℕ → List (ℕ × ℕ) → Type 0
 ArePairs most names pairs = (n : ℕ) (q : ℕ × ℕ) → HasPair pairs n q → (1 ≤ q.0) × (q.0 ≤ most) × (q.1 < names)
 
+-- so are those that were found for the grammar
+abbrev pub ArePairsOf : Grammar → Pairs → Type 0
+ArePairsOf g pairs = ArePairs g.resolution (length g.names) pairs.found.items
+
+-- the pair is there: it was put after the others, or nothing changed
+abbrev pub HasAdded : ℕ × ℕ → Pairs → Pairs → Type 0
+HasAdded q old new = (new.found.items ≡ old.found.items) ⊎ (new.found.items ≡ old.found.items ++ q ∷ [])
+
+-- where a symbol has a number, that is of its pair over the whole bar
+abbrev pub HaveRootPairs : Grammar → Pairs → List (Option ℕ) → Type 0
+HaveRootPairs g pairs roots = (symbol n : ℕ) → slice_get roots symbol ≡ Some (Some n) → HasPair pairs.found.items n (g.resolution, symbol)
+
 -- the numbers of these widths and symbols were put after the parts
 pub record ArePushed (old new : List (ℕ × ℕ)) (parts more : List ℕ) (qs : List (ℕ × ℕ)) : Type 0 where
   pub longer : IsLonger old new
@@ -35,6 +50,11 @@ pub record ArePushed (old new : List (ℕ × ℕ)) (parts more : List ℕ) (qs :
   pub parts_longer : more ≡ parts ++ numbers
   pub have : HavePairs new numbers qs
   pub lawful : (most names : ℕ) → ArePairs most names old → ArePairs most names qs → ArePairs most names new
+
+-- the parts of a node of this width with this body were put after those of the draft, and no cut
+pub record HasPartsOf (body : Body) (width : ℕ) (old new : Draft) : Type 0 where
+  pub pushed : ArePushed old.pairs.found.items new.pairs.found.items old.parts.items new.parts.items (children body width)
+  pub cuts : new.cuts ≡ old.cuts
 
 -- a rule that cuts, with its weight and the numbers of its parts
 pub record IsCutIn (g : Grammar) (pairs : List (ℕ × ℕ)) (parts : List ℕ) (q : ℕ × ℕ) (c : Cut) : Type 0 where
@@ -80,7 +100,19 @@ pub record HasMoreCuts (g : Grammar) (q : ℕ × ℕ) (old pairs : List (ℕ × 
   pub own : AreCutsFrom g pairs parts cuts q (length was) n
   pub lawful : ArePairs g.resolution (length g.names) old → 1 ≤ q.0 → q.0 ≤ g.resolution → ArePairs g.resolution (length g.names) pairs
 
+-- all cuts of the width and symbol were put after those of the draft
+abbrev pub HasAllCuts : Grammar → ℕ × ℕ → Draft → Draft → Type 0
+HasAllCuts g q old new = HasMoreCuts g q old.pairs.found.items new.pairs.found.items old.parts.items new.parts.items old.cuts.items new.cuts.items (length g.rules)
+
+-- the rule of this number was put after them as a cut, with the parts that were put there
+pub record HasCutOf (rule : Rule) (number width : ℕ) (old new : Draft) : Type 0 where
+  pub parts : ArePushed old.pairs.found.items new.pairs.found.items old.parts.items new.parts.items (children rule.body width)
+  pub cut : new.cuts.items ≡ old.cuts.items ++ record { rule = number; weight = rule.weight; first = length old.parts.items; end = length new.parts.items } ∷ []
+
 -- what was found is lawful, and the seats so far are those of the first of it
 pub record IsDraft (g : Grammar) (pairs : List (ℕ × ℕ)) (parts : List ℕ) (cuts : List Cut) (seats : List Seat) : Type 0 where
   pub lawful : ArePairs g.resolution (length g.names) pairs
   pub each : AreSeatsIn g pairs parts cuts seats
+
+abbrev pub IsDraftOf : Grammar → Draft → List Seat → Type 0
+IsDraftOf g draft seats = IsDraft g draft.pairs.found.items draft.parts.items draft.cuts.items seats

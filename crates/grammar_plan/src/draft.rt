@@ -1,8 +1,7 @@
-ghost use Rattle.grammar_plan.specs.Drafts.{ArePairs, ArePushed, HasMoreCuts, cuts_pair};
+ghost use Rattle.grammar_plan.specs.Drafts.{HasAllCuts, HasCutOf, cuts_pair};
 ghost use Rattle.grammar_plan.specs.Spans.{IsRuleSpan};
-ghost use Rattle.rhythm_base.specs.Bodies.{children};
 ghost use Rattle.rhythm_base.specs.Readable.{IsReadable};
-ghost use Rattle.std.specs.Prelude.{◌≡◌, ◌≤◌, ◌++◌, [], ◌∷◌, IfOk, length};
+ghost use Rattle.std.specs.Prelude.{◌≡◌, ◌≤◌, IfOk, length};
 
 use crate::cut::Cut;
 use crate::pairs::Pairs;
@@ -33,8 +32,7 @@ impl Draft {
         requires readable { IsReadable grammar.now }
         requires within { (span.first ≤ span.end) × (span.end ≤ length grammar.now.rules) }
         requires each { IsRuleSpan grammar.now.rules symbol span.first span.end }
-        ensures { IfOk result (λ done. HasMoreCuts grammar.now (width, symbol) self.old.pairs.found.items self.new.pairs.found.items
-            self.old.parts.items self.new.parts.items self.old.cuts.items self.new.cuts.items (length grammar.now.rules)) }
+        ensures { IfOk result (λ _. HasAllCuts grammar.now (width, symbol) self.old self.new) }
     {
         'rules: for number in span.first..span.end {
             let rule = &grammar.rules[number as usize];
@@ -47,12 +45,10 @@ impl Draft {
 
     /// Pushes the rule of this number as a cut of the width.
     fn push_cut(&mut self, rule: &Rule, number: u16, width: u16) -> Result<(), AllocError>
-        ensures parts { IfOk result (λ done. ArePushed self.old.pairs.found.items self.new.pairs.found.items self.old.parts.items self.new.parts.items (children rule.now.body width)) }
-        ensures cut { IfOk result (λ done. self.new.cuts.items
-            ≡ self.old.cuts.items ++ record { rule = number; weight = rule.now.weight; first = length self.old.parts.items; end = length self.new.parts.items } ∷ []) }
+        ensures { IfOk result (λ _. HasCutOf rule.now number width self.old self.new) }
     {
         let first = u32::try_from(self.parts.len()).ok().ok_or(AllocError)?;
-        push_parts(&mut self.pairs, &mut self.parts, &rule.body, width)?;
+        push_parts(self, &rule.body, width)?;
         let end = u32::try_from(self.parts.len()).ok().ok_or(AllocError)?;
         self.cuts.push(Cut {
             rule: number,

@@ -4,7 +4,7 @@ ghost use Rattle.grammar_plan.specs.Plans.{place_of_leaf};
 ghost use Rattle.std.specs.Prelude.{◌≡◌, ◌<◌, ◌≤◌, IfOk, length};
 
 use crate::leaf_rule::LeafRule;
-use rhythm_base::{Ending, Grammar, Rule};
+use rhythm_base::{Carry, Ending, Grammar, Rule};
 use std::alloc::{AllocError, Global};
 
 /// The rules that end the leaves of a symbol: those of a note, a short, a tie and a rest, and of 1 to 3 grace chords.
@@ -86,14 +86,13 @@ pub fn all_leaf_rules(
     Ok(leaves)
 }
 
-/// The place of the leaves to which so many chords are attached, 4 at most, and in which the latest chord sounds or not.
+/// The place of the leaves to which so many chords are attached, and in which the latest chord sounds or not.
 #[inline(always)]
-pub fn place_of_leaf(count: u8, sounds: bool) -> usize
-    requires few { count ≤ 4 }
+pub fn place_of_leaf(count: Carry, sounds: bool) -> usize
     ensures place { result ≡ place_of_leaf count sounds }
     ensures low { result < 7 }
 {
-    match (count, sounds) {
+    match (count.count(), sounds) {
         (0, true) => 2,
         (0, false) => 3,
         (1, true) => 0,

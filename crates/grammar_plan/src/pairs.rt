@@ -1,4 +1,5 @@
-ghost use Rattle.std.specs.Prelude.{◌≡◌, ◌⊎◌, ◌++◌, [], ◌∷◌, slice_get, IfOk, IfSome, Some};
+ghost use Rattle.grammar_plan.specs.Drafts.{HasAdded};
+ghost use Rattle.std.specs.Prelude.{◌≡◌, [], slice_get, IfOk, IfSome, Some};
 
 use crate::seat_table::SeatTable;
 use std::alloc::{AllocError, Global};
@@ -24,9 +25,7 @@ impl Pairs {
     /// The seat of a width and a symbol, which is made where there is none yet.
     pub fn seat(&mut self, width: u16, symbol: u8) -> Result<u32, AllocError>
         ensures seat { IfOk result (λ n. slice_get self.new.found.items n ≡ Some (width, symbol)) }
-        ensures more { IfOk result (λ n.
-            (self.new.found.items ≡ self.old.found.items)
-            ⊎ (self.new.found.items ≡ self.old.found.items ++ (width, symbol) ∷ [])) }
+        ensures more { IfOk result (λ _. HasAdded (width, symbol) self.old self.new) }
     {
         if let Some(seat) = self.known(width, symbol) {
             return Ok(seat);

@@ -9,7 +9,7 @@ use crate::leaf_rules::place_of_leaf;
 use crate::quiet_tree::QuietTree;
 use crate::quiet_trees::quiet_trees;
 use crate::seat::Seat;
-use rhythm_base::Grammar;
+use rhythm_base::{Carry, Grammar};
 use row_laws::Quiet;
 use std::alloc::{AllocError, Global};
 
@@ -66,9 +66,7 @@ impl Plan {
         requires seat { seat.now.symbol < length self.now.leaves.items }
         ensures { HasLeafRule grammar.now seat.now.symbol count sounds result }
     {
-        if count > 4 {
-            return None;
-        }
+        let count = Carry::new(count)?;
         self.leaves[seat.symbol as usize][place_of_leaf(count, sounds)]
     }
 

@@ -1,8 +1,21 @@
 ghost use Rattle.grammar_plan.specs.Frames.{IsFrame};
-ghost use Rattle.grammar_plan.specs.Plans.{HasQuietTree, IsQuietTree, IsSeat, between, pair_of};
-ghost use Rattle.grammar_plan.specs.QuietRows.{AreCheapRows, AreMarked, AreQuietRows, added, cut_tree, entry, leaf_tree, nearer_tree, others_cost, parts_cost};
-ghost use Rattle.grammar_plan.specs.Plans as plans;
-ghost use Rattle.rhythm_base.specs.Ranked.{five};
+ghost use Rattle.grammar_plan.specs.Plans.{IsSeat, between, pair_of};
+ghost use Rattle.grammar_plan.specs.QuietRows.{
+  AreAllMarked,
+  AreAllQuiet,
+  AreCheapRows,
+  AreQuietRows,
+  AreRowsUpTo,
+  IsQuietRow,
+  added,
+  cut_row,
+  cut_tree,
+  entry,
+  leaf_row,
+  leaf_tree,
+  nearer_tree,
+  others_cost,
+};
 ghost use Rattle.rhythm_base.specs.Readable.{IsReadable};
 ghost use Rattle.row_laws.specs.QuietTrees.{sounds_so};
 ghost use Rattle.std.specs.Prelude.{◌≡◌, ◌+◌, ◌*◌, ◌^◌, ◌<◌, ◌≤◌, [], All, ℕ, IfOk, IfSome, None, length, slice_get, slice_index_or, Some};
@@ -13,7 +26,7 @@ use crate::leaf_rules::place_of_leaf;
 use crate::plan::Plan;
 use crate::quiet_tree::QuietTree;
 use crate::seat::Seat;
-use rhythm_base::Grammar;
+use rhythm_base::{Carry, Grammar};
 use row_laws::Quiet;
 use std::alloc::{AllocError, Global};
 
@@ -30,8 +43,7 @@ pub fn quiet_trees(
     requires readable { IsReadable grammar.now }
     requires frame { IsFrame grammar.now plan.now }
     ensures long { IfOk result (λ rows. length rows.items ≡ length plan.now.seats.items) }
-    ensures least { IfOk result (λ rows. (n from : ℕ) → n < length plan.now.seats.items → from < 5
-        → HasQuietTree grammar.now plan.now n quiet from (slice_index_or (slice_index_or rows.items n []) from None)) }
+    ensures least { IfOk result (λ rows. AreAllQuiet grammar.now plan.now quiet rows.items) }
 {
     let widths = widths_of(alloc, plan, grammar.resolution)?;
     let mut rows = no_rows(alloc, plan.seats.len())?;
@@ -46,7 +58,7 @@ pub fn quiet_trees(
 /// By width: whether a seat has it.
 fn widths_of(alloc: Global, plan: &Plan, widest: u16) -> Result<Vec<bool>, AllocError>
     ensures long { IfOk result (λ widths. length widths.items ≡ widest + 1) }
-    ensures all { IfOk result (λ widths. AreMarked plan.now.seats.items (length plan.now.seats.items) widths.items) }
+    ensures all { IfOk result (λ widths. AreAllMarked plan.now widths.items) }
 {
     let mut widths = vec![in alloc; false; widest as usize + 1]?;
     'seats: for number in 0..plan.seats.len() {
@@ -75,7 +87,7 @@ fn fill_width(grammar: &Grammar, plan: &Plan, quiet: Quiet, width: u16, rows: &m
     requires readable { IsReadable grammar.now }
     requires frame { IsFrame grammar.now plan.now }
     requires narrower { AreQuietRows grammar.now plan.now quiet rows.old.items width 0 }
-    ensures { AreQuietRows grammar.now plan.now quiet rows.new.items width (length plan.now.seats.items) }
+    ensures { AreRowsUpTo grammar.now plan.now quiet rows.new.items width }
 {
     'seats: for number in 0..plan.seats.len() {
         let seat = plan.seats[number];
@@ -92,7 +104,7 @@ fn quiet_row(grammar: &Grammar, plan: &Plan, quiet: Quiet, seat: Seat, rows: &[R
     requires seat { IsSeat grammar.now plan.now seat }
     requires narrower { (m : ℕ) × AreQuietRows grammar.now plan.now quiet rows.now seat.width m }
     ensures long { length result ≡ 5 }
-    ensures least { (from : ℕ) → from < 5 → IsQuietTree grammar.now plan.now quiet (pair_of seat) from (slice_index_or result from None) }
+    ensures least { IsQuietRow grammar.now plan.now quiet (pair_of seat) result }
 {
     let mut row = leaf_row(&plan.leaves[seat.symbol as usize], sounds_so(quiet));
     'cuts: for number in seat.first..seat.end {
@@ -123,14 +135,14 @@ fn sounds_so(quiet: Quiet) -> bool
 
 /// The trees of leaves alone.
 fn leaf_row(rules: &[Option<LeafRule>; 7], sounds: bool) -> Row
-    ensures { result ≡ five (λ from. leaf_tree (slice_index_or rules.now (plans.place_of_leaf from sounds) None)) }
+    ensures { result ≡ leaf_row rules.now sounds }
 {
     [
-        leaf_tree(rules[place_of_leaf(0, sounds)]),
-        leaf_tree(rules[place_of_leaf(1, sounds)]),
-        leaf_tree(rules[place_of_leaf(2, sounds)]),
-        leaf_tree(rules[place_of_leaf(3, sounds)]),
-        leaf_tree(rules[place_of_leaf(4, sounds)]),
+        leaf_tree(rules[place_of_leaf(Carry::of(0), sounds)]),
+        leaf_tree(rules[place_of_leaf(Carry::of(1), sounds)]),
+        leaf_tree(rules[place_of_leaf(Carry::of(2), sounds)]),
+        leaf_tree(rules[place_of_leaf(Carry::of(3), sounds)]),
+        leaf_tree(rules[place_of_leaf(Carry::of(4), sounds)]),
     ]
 }
 
@@ -152,7 +164,7 @@ fn cut_row(row: &Row, cut: Cut, number: u32, parts: &[u32], rows: &[Row]) -> Row
     requires parts { All (λ n. n < length rows.now) parts.now }
     requires few { length parts.now < 2 ^ 32 }
     requires cheap { AreCheapRows rows.now }
-    ensures { result ≡ five (λ from. nearer_tree (slice_index_or row.now from None) (cut_tree cut number (parts_cost rows.now from parts.now))) }
+    ensures { result ≡ cut_row row.now cut number parts.now rows.now }
 {
     match parts {
         [first, others @ ..] => {

@@ -1,8 +1,8 @@
-ghost use Rattle.grammar_plan.specs.Drafts.{ArePairs, HasPair, IsDraft, IsLonger};
+ghost use Rattle.grammar_plan.specs.Drafts.{ArePairsOf, HaveRootPairs, IsDraftOf, IsLonger};
 ghost use Rattle.grammar_plan.specs.Plans.{HaveSeatsOverBars};
 ghost use Rattle.grammar_plan.specs.Spans.{AreRuleSpans};
 ghost use Rattle.rhythm_base.specs.Readable.{IsReadable};
-ghost use Rattle.std.specs.Prelude.{◌≡◌, ◌<◌, ◌+◌, [], ℕ, IfOk, length, slice_get, Some};
+ghost use Rattle.std.specs.Prelude.{◌≡◌, ◌<◌, ◌+◌, [], IfOk, length};
 
 use crate::draft::Draft;
 use crate::grid::Grid;
@@ -19,9 +19,9 @@ pub fn root_seats(
     grammar: &Grammar,
 ) -> Result<Vec<Option<u32>>, AllocError>
     requires readable { IsReadable grammar.now }
-    requires lawful { ArePairs grammar.now.resolution (length grammar.now.names) pairs.old.found.items }
-    ensures lawful { IfOk result (λ seats. ArePairs grammar.now.resolution (length grammar.now.names) pairs.new.found.items) }
-    ensures roots { IfOk result (λ seats. (symbol n : ℕ) → slice_get seats.items symbol ≡ Some (Some n) → HasPair pairs.new.found.items n (grammar.now.resolution, symbol)) }
+    requires lawful { ArePairsOf grammar.now pairs.old }
+    ensures lawful { IfOk result (λ _. ArePairsOf grammar.now pairs.new) }
+    ensures roots { IfOk result (λ seats. HaveRootPairs grammar.now pairs.new seats.items) }
     ensures starts { IfOk result (λ seats. HaveSeatsOverBars seats.items grammar.now.starts) }
 {
     let mut seats = vec![in alloc; None; grammar.names.len()]?;
@@ -44,8 +44,8 @@ pub fn fill_seats(
     requires readable { IsReadable grammar.now }
     requires spans { AreRuleSpans grammar.now.rules spans.now }
     requires none { seats.old.items ≡ [] }
-    requires draft { IsDraft grammar.now draft.old.pairs.found.items draft.old.parts.items draft.old.cuts.items seats.old.items }
-    ensures draft { IfOk result (λ done. IsDraft grammar.now draft.new.pairs.found.items draft.new.parts.items draft.new.cuts.items seats.new.items) }
+    requires draft { IsDraftOf grammar.now draft.old seats.old.items }
+    ensures draft { IfOk result (λ _. IsDraftOf grammar.now draft.new seats.new.items) }
     ensures longer { IfOk result (λ done. IsLonger draft.old.pairs.found.items draft.new.pairs.found.items) }
     ensures all { IfOk result (λ done. length seats.new.items ≡ length draft.new.pairs.found.items) }
 {
@@ -69,8 +69,8 @@ fn push_seat(
     requires readable { IsReadable grammar.now }
     requires spans { AreRuleSpans grammar.now.rules spans.now }
     requires more { length seats.old.items < length draft.old.pairs.found.items }
-    requires draft { IsDraft grammar.now draft.old.pairs.found.items draft.old.parts.items draft.old.cuts.items seats.old.items }
-    ensures draft { IfOk result (λ done. IsDraft grammar.now draft.new.pairs.found.items draft.new.parts.items draft.new.cuts.items seats.new.items) }
+    requires draft { IsDraftOf grammar.now draft.old seats.old.items }
+    ensures draft { IfOk result (λ _. IsDraftOf grammar.now draft.new seats.new.items) }
     ensures longer { IfOk result (λ done. IsLonger draft.old.pairs.found.items draft.new.pairs.found.items) }
     ensures next { IfOk result (λ done. length seats.new.items ≡ length seats.old.items + 1) }
 {

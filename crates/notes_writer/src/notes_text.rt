@@ -98,7 +98,9 @@ fn push_notes(text: &mut Vec<u8>, notes: &[Note]) -> Result<(), AllocError>
 pub fn write_notes(alloc: Global, performance: &Performance) -> Result<Vec<u8>, AllocError>
     ensures { IfOk result (λ v. IsNotesText performance.now v.items) }
 {
-    let notes = notes_by_onset(alloc, performance.notes())?;
+    let notes = performance.notes();
+    let notes = notes.range(alloc, 0, notes.len())?;
+    let notes = notes_by_onset(alloc, notes.as_slice())?;
     let mut text = Vec::new(alloc);
     push_bars(&mut text, performance.bars())?;
     push_tempos(&mut text, performance.tempos())?;

@@ -3,6 +3,5 @@ pub mod Tracks
 pub mod Voices
 pub mod Opening
 pub mod Worked
-pub mod OneByOne
 pub mod Sung
 pub mod FirstBeats

@@ -18,10 +18,10 @@ last_end_push t [] n = refl
 last_end_push t (m ∷ ns) n = last_end_push m.end ns n
 
 -- the two events of a note
-pub note_bytes : (old : List ℕ) (t : ℕ) (n : Note)
+pub bytes_of_note : (old : List ℕ) (t : ℕ) (n : Note)
     → (old ++ (quantity_bytes (n.onset - t) ++ ((144 + n.channel) ∷ n.key ∷ 64 ∷ []))) ++ (quantity_bytes (n.end - n.onset) ++ ((128 + n.channel) ∷ n.key ∷ 0 ∷ [])) ≡ old ++ bytes_from t (events_of n)
 unfolding bytes_from
-note_bytes old t n = simp (append_assoc, append-nil)
+bytes_of_note old t n = simp (append_assoc, append-nil)
 
 -- events after those of notes
 pub bytes_after : (t : ℕ) (ns : List Note) (more : List (ℕ × List ℕ)) → bytes_from t (flat_map events_of ns ++ more) ≡ bytes_from t (flat_map events_of ns) ++ bytes_from (last_end t ns) more

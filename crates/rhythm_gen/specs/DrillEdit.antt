@@ -1,9 +1,11 @@
 -- The edits of a drill.
-use Rattle.std.specs.Prelude.{ℕ, ◌+◌, ◌%◌, ◌==◌, if◌then◌else◌, length, slice_get, Option, option_map, max}
+use Rattle.std.specs.Prelude.{ℕ, ◌+◌, ◌%◌, ◌<◌, ◌≤◌, ◌==◌, if◌then◌else◌, length, slice_get, Option, option_map, max}
 use Rattle.rhythm_base.specs.declared.edit.Edit.{Edit}
 use Rattle.rhythm_base.specs.declared.edit.Edit.TheVariants.{Add, Drop, Move, Barline}
 use Rattle.rhythm_base.specs.Performance.{Performance}
 use Rattle.rhythm_gen.specs.Draws.{draw}
+use Rattle.rhythm_gen.specs.declared.drill.TheConstants.{LATEST_DRILLED}
+use Rattle.rhythm_gen.specs.declared.piece_number.TheConstants.{GREATEST_NUMBER}
 
 -- a note is added, from 120 to 240 ticks after the start of the bar of that number
 abbrev pub added_note : ℕ → ℕ → ℕ → Performance → Option Edit
@@ -30,6 +32,18 @@ edit_by e v p =
     else (if e % 4 == 1 then dropped (v % length p.notes) p
     else (if e % 4 == 2 then moved_note (v % length p.notes) p
     else delayed (max 1 (v % length p.bars)) p))
+
+-- a performance has what the edit of number e, counted from 0, of a drill is made of
+pub record IsReadyForEdit (e : ℕ) (p : Performance) : Type 0 where
+  pub among : e < 40
+  pub some_note : 1 ≤ length p.notes
+  pub two_bars : 2 ≤ length p.bars
+  pub last : p.last ≤ LATEST_DRILLED
+
+-- so the drill of a number has one
+pub record HasDrillEdit (number e : ℕ) (p : Performance) : Type 0 where
+  pub numbered : number ≤ GREATEST_NUMBER
+  pub ready : IsReadyForEdit e p
 
 -- The edit of number e, counted from 0, of the drill of a number: its draw has the number e + 1 in the stream that starts with
 -- the next number. There is one where the performance has a note and two bars.

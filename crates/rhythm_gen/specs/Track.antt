@@ -8,6 +8,10 @@ use Rattle.smf_bytes.specs.Track.{bytes_from, end_of_track_bytes}
 abbrev pub events_of : Note → List (ℕ × List ℕ)
 events_of n = (n.onset, (144 + n.channel) ∷ n.key ∷ 64 ∷ []) ∷ (n.end, (128 + n.channel) ∷ n.key ∷ 0 ∷ []) ∷ []
 
+-- their bytes after a tick
+abbrev pub note_bytes : ℕ → Note → List ℕ
+note_bytes tick n = bytes_from tick (events_of n)
+
 -- The events of a track which ends at a tick. The notes of a voice are one by one, each from its onset to its end, so their
 -- events, note after note, are in the order of their ticks.
 abbrev pub event_bytes : List Note → ℕ → List (ℕ × List ℕ)

@@ -1,5 +1,5 @@
 -- The notes of a voice.
-use Rattle.std.specs.Prelude.{ℕ, ◌+◌, ◌*◌, ◌<◌, ◌≤◌, List, [], ◌∷◌}
+use Rattle.std.specs.Prelude.{ℕ, ◌+◌, ◌*◌, ◌<◌, List}
 use Rattle.std.specs.List.{flat_map, range_with_len}
 use Rattle.rhythm_base.specs.declared.note.Note.{Note}
 use Rattle.rhythm_gen.specs.Beat.{beat_notes}
@@ -12,11 +12,6 @@ first_beats start channel beats = flat_map (λ beat. beat_notes channel beat (dr
 -- the notes of so many bars
 abbrev pub voice_notes : ℕ → ℕ → ℕ → List Note
 voice_notes start bars channel = first_beats start channel (4 * bars)
-
--- notes one after another from tick t to another tick, as those of a voice are from tick 0 to the last barline
-abbrev pub AreOneByOne : ℕ → List Note → ℕ → Type 0
-AreOneByOne t [] end = t ≤ end
-AreOneByOne t (n ∷ ns) end = (t ≤ n.onset) × (n.onset ≤ n.end) × AreOneByOne n.end ns end
 
 -- a note that a track can hold: its channel fits in a status byte, and its ticks in quantities
 pub record CanBeWritten (n : Note) : Type 0 where

@@ -1,7 +1,8 @@
 ghost use Rattle.rhythm_gen.specs.Beat.{beat_notes, figure, key, kind, notes_in_beat, shift};
-ghost use Rattle.std.specs.Prelude.{◌≡◌, ◌++◌, ◌<◌, ◌≤◌, OnOk};
+ghost use Rattle.std.specs.Prelude.{◌≡◌, ◌++◌, OnOk};
 
 use crate::figure::Figure;
+use crate::voice_channel::VoiceChannel;
 use rhythm_base::Note;
 use std::alloc::AllocError;
 
@@ -17,26 +18,24 @@ fn figure_of(place: u32, draw: u32) -> Figure
 }
 
 /// The key of a beat's notes, by its draw.
-fn key_of(channel: u8, draw: u32) -> u8
-    requires { channel ≤ 1 }
+fn key_of(channel: VoiceChannel, draw: u32) -> u8
     ensures { result ≡ key channel draw }
 {
-    60 - 12 * channel + (draw / 84 % 12) as u8
+    60 - 12 * channel.number() + (draw / 84 % 12) as u8
 }
 
 /// Appends the notes of a beat, which is counted through the piece, by its draw.
 pub(crate) fn push_beat(
     notes: &mut Vec<Note>,
-    channel: u8,
+    channel: VoiceChannel,
     beat: u32,
     draw: u32,
 ) -> Result<(), AllocError>
-    requires channel { channel ≤ 1 }
-    requires beat { beat < 8000 }
     ensures { OnOk result (notes.new.items ≡ notes.old.items ++ beat_notes channel beat draw) }
 {
     let key = key_of(channel, draw);
-    let begin = u64::from(480 * beat + draw / 4 % 21);
+    let channel = channel.number();
+    let begin = 480 * u64::from(beat) + u64::from(draw / 4 % 21);
     let note = |onset: u64, length: u64| Note {
         channel,
         key,

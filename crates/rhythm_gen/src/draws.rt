@@ -1,6 +1,7 @@
 ghost use Rattle.rhythm_gen.specs.Draws.{draw, next_draw};
-ghost use Rattle.std.specs.Prelude.{◌≡◌, ◌<◌, ◌≤◌};
+ghost use Rattle.std.specs.Prelude.{◌≡◌, ◌+◌};
 
+use crate::piece_number::PieceNumber;
 use std::marker::Model;
 
 /// A stream of draws, by its last draw, or by its start where there is none yet.
@@ -20,12 +21,22 @@ impl Model for Draws {
 }
 
 impl Draws {
-    /// The stream that starts with this number.
-    pub(crate) fn starting_with(number: u32) -> Draws
-        requires { number < 65537 }
+    /// The stream of a piece, which starts with its number.
+    pub(crate) fn of_piece(number: PieceNumber) -> Draws
         ensures { result ≡ number }
     {
-        Draws { last: number }
+        Draws {
+            last: number.number(),
+        }
+    }
+
+    /// The stream of a drill, which starts with the next number.
+    pub(crate) fn of_drill(number: PieceNumber) -> Draws
+        ensures { result ≡ number + 1 }
+    {
+        Draws {
+            last: number.number() + 1,
+        }
     }
 
     /// The next draw, below 65,537.
@@ -36,18 +47,16 @@ impl Draws {
         self.last = (75 * self.last + 74) % 65537;
         self.last
     }
-}
 
-/// The draw of this number, counted from 1, of the stream that starts with the other one.
-#[tactic(auto, using(crate::proofs::OneMoreDraw::first_draw, crate::proofs::OneMoreDraw::later_draw))]
-pub(crate) fn draw_of(start: u32, number: u32) -> u32
-    requires { start < 65537 }
-    ensures { result ≡ draw start number }
-{
-    let mut draws = Draws::starting_with(start);
-    let mut draw = start;
-    for _ in 0..number {
-        draw = draws.next();
+    /// The draw of this number, counted from 1; the start where it is 0.
+    #[tactic(auto, using(crate::proofs::OneMoreDraw::first_draw, crate::proofs::OneMoreDraw::later_draw))]
+    pub(crate) fn draw(mut self, number: u32) -> u32
+        ensures { result ≡ draw self number }
+    {
+        let mut draw = self.last;
+        for _ in 0..number {
+            draw = self.next();
+        }
+        draw
     }
-    draw
 }

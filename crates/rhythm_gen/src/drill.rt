@@ -1,25 +1,27 @@
 ghost use Rattle.rhythm_base.specs.EditRanges.{IsEditInRange};
-ghost use Rattle.rhythm_gen.specs.DrillEdit.{drill_edit};
-ghost use Rattle.std.specs.Prelude.{◌≡◌, ◌<◌, ◌≤◌, Some, length};
+ghost use Rattle.rhythm_gen.specs.DrillEdit.{HasDrillEdit, drill_edit};
+ghost use Rattle.std.specs.Prelude.{◌≡◌, Some};
 
-use crate::draws::draw_of;
+use crate::draws::Draws;
+use crate::piece_number::PieceNumber;
 use rhythm_base::{Edit, Performance};
+
+/// The last barline of a performance that is drilled, at the latest: 1,000 ticks before the latest tick.
+pub const LATEST_DRILLED: u64 = 1_999_999_000;
 
 /// The edit of this index, 0 to 39, of the drill of a number. It may be refused.
 pub fn drill_edit(number: u32, index: u32, performance: &Performance) -> Edit
-    requires number { number ≤ 65534 }
-    requires index { index < 40 }
-    requires some_note { 1 ≤ length performance.now.notes }
-    requires two_bars { 2 ≤ length performance.now.bars }
-    requires last { performance.now.last ≤ 1999999000 }
+    requires { HasDrillEdit number index performance.now }
     ensures value { Some result ≡ drill_edit number index performance.now }
     ensures range { IsEditInRange result }
 {
-    let draw = draw_of(number + 1, index + 1);
+    let draw = Draws::of_drill(PieceNumber::of(number)).draw(index + 1);
     let bars = performance.bars();
     let notes = performance.notes();
     let bar = draw as usize % bars.len();
-    let note = notes[draw as usize % notes.len()];
+    let Some(note) = notes.get(draw as usize % notes.len()) else {
+        unreachable!()
+    };
     match index % 4 {
         0 => Edit::Add {
             channel: (index % 2) as u8,

@@ -8,8 +8,13 @@ mod draws;
 mod drill;
 mod figure;
 mod file;
+mod piece_bars;
+mod piece_number;
 mod track;
 mod voice;
+mod voice_channel;
 
-pub use drill::drill_edit;
+pub use drill::{LATEST_DRILLED, drill_edit};
 pub use file::generate;
+pub use piece_bars::{MOST_PIECE_BARS, PieceBars};
+pub use piece_number::{GREATEST_NUMBER, PieceNumber};

@@ -1,8 +1,8 @@
-ghost use Rattle.rhythm_gen.specs.Track.{events_of, track_bytes};
+ghost use Rattle.rhythm_gen.specs.Track.{note_bytes, track_bytes};
 ghost use Rattle.rhythm_gen.specs.Voice.{CanBeWritten};
-ghost use Rattle.smf_bytes.specs.Track.{bytes_from};
-ghost use Rattle.std.specs.Prelude.{◌≡◌, ◌++◌, ◌<◌, ◌≤◌, ◌+◌, ◌*◌, ◌-◌, All, IfOk, OnOk, length};
+ghost use Rattle.std.specs.Prelude.{◌≡◌, ◌++◌, ◌*◌, All, IfOk, OnOk};
 
+use crate::piece_bars::PieceBars;
 use rhythm_base::{Note, What};
 use smf_bytes::{push_end, push_event};
 use std::alloc::{AllocError, Global};
@@ -10,7 +10,7 @@ use std::alloc::{AllocError, Global};
 /// Appends the note on and the note off of a note after the tick.
 fn push_note(content: &mut Vec<u8>, tick: u64, note: &Note) -> Result<(), AllocError>
     requires { CanBeWritten note.now }
-    ensures { OnOk result (content.new.items ≡ content.old.items ++ bytes_from tick (events_of note.now)) }
+    ensures { OnOk result (content.new.items ≡ content.old.items ++ note_bytes tick note.now) }
 {
     let Note {
         channel,
@@ -30,12 +30,15 @@ fn push_note(content: &mut Vec<u8>, tick: u64, note: &Note) -> Result<(), AllocE
     )
 }
 
-/// The content of a track of these notes that ends at a tick.
+/// The content of a track of these notes that ends with its last bar.
 #[tactic(auto, using(crate::proofs::Tracks::bytes_push, crate::proofs::Tracks::last_end_push))]
-pub(crate) fn track_content(alloc: Global, notes: &[Note], end: u64) -> Result<Vec<u8>, AllocError>
-    requires notes { All CanBeWritten notes.now }
-    requires end { end < 268435456 }
-    ensures { IfOk result (λ content. content.items ≡ track_bytes notes.now end) }
+pub(crate) fn track_content(
+    alloc: Global,
+    notes: &[Note],
+    bars: PieceBars,
+) -> Result<Vec<u8>, AllocError>
+    requires { All CanBeWritten notes.now }
+    ensures { IfOk result (λ content. content.items ≡ track_bytes notes.now (1920 * bars)) }
 {
     let mut content = Vec::new(alloc);
     let mut tick = 0;
@@ -43,6 +46,7 @@ pub(crate) fn track_content(alloc: Global, notes: &[Note], end: u64) -> Result<V
         push_note(&mut content, tick, note)?;
         tick = note.end;
     }
+    let end = u64::from(1920 * bars.count());
     push_end(&mut content, end.saturating_sub(tick))?;
     Ok(content)
 }

@@ -1,9 +1,11 @@
 ghost use Rattle.rhythm_gen.specs.Draws.{draw};
-ghost use Rattle.rhythm_gen.specs.Voice.{voice_notes};
-ghost use Rattle.std.specs.Prelude.{◌≡◌, ◌≤◌, ◌*◌, IfOk, OnOk};
+ghost use Rattle.rhythm_gen.specs.Voice.{CanBeWritten, voice_notes};
+ghost use Rattle.std.specs.Prelude.{◌≡◌, ◌*◌, All, IfOk, OnOk};
 
 use crate::beat::push_beat;
 use crate::draws::Draws;
+use crate::piece_bars::PieceBars;
+use crate::voice_channel::VoiceChannel;
 use rhythm_base::Note;
 use std::alloc::{AllocError, Global};
 
@@ -12,16 +14,14 @@ use std::alloc::{AllocError, Global};
 pub(crate) fn voice_notes(
     alloc: Global,
     draws: &mut Draws,
-    channel: u8,
-    bars: u32,
+    channel: VoiceChannel,
+    bars: PieceBars,
 ) -> Result<Vec<Note>, AllocError>
-    requires channel { channel ≤ 1 }
-    requires bars { bars ≤ 2000 }
     ensures notes { IfOk result (λ notes. notes.items ≡ voice_notes draws.old bars channel) }
     ensures draws { OnOk result (draws.new ≡ draw draws.old (4 * bars)) }
 {
     let mut notes = Vec::new(alloc);
-    for beat in 0..4 * bars {
+    for beat in 0..4 * bars.count() {
         push_beat(&mut notes, channel, beat, draws.next())?;
     }
     Ok(notes)

@@ -1,5 +1,5 @@
 -- Weights made of counts: a rule that is used half as often as another of its symbol costs `bit` more.
-use Rattle.std.specs.Prelude.{ℕ, ◌+◌, ◌-◌, ◌*◌, ◌/◌, ◌==◌, ◌&&◌, Bool, nat_lt, if◌then◌else◌, List, filter, max, sum_by}
+use Rattle.std.specs.Prelude.{◌≡◌, ℕ, ◌+◌, ◌-◌, ◌*◌, ◌/◌, ◌^◌, ◌≤◌, ◌==◌, ◌&&◌, Bool, nat_lt, if◌then◌else◌, List, Some, filter, max, slice_get, sum_by}
 use Rattle.std.specs.List.{list_any, zip}
 use Rattle.rhythm_base.specs.declared.rule.Rule.{Rule}
 use Rattle.weight_learning.specs.Shares.{share}
@@ -25,6 +25,12 @@ counted_of symbol counted = filter (λ q. q.0.lhs == symbol) counted
 abbrev pub share_sum : ℕ → ℕ → List Rule → ℕ
 share_sum bit symbol rules = max (sum_by (share_of bit) (rules_of_symbol symbol rules)) 1
 
+-- the share of a rule in the whole
+pub record IsShareOf (share whole : ℕ) : Type 0 where
+  pub some : 1 ≤ whole
+  pub part : share ≤ whole
+  pub few : share ≤ 2 ^ 31
+
 -- 1,024 parts for each use; and of the parts of 20 imagined uses the share of the whole, a part at least
 abbrev pub rule_parts : ℕ → ℕ → ℕ → ℕ
 rule_parts count share whole = 1024 * count + max (20480 * share / whole) 1
@@ -49,3 +55,8 @@ learned_weight bit rules counts q =
     let all = steps (part_sum bit symbol rules counts) in
     let own = steps (parts_of bit (share_sum bit symbol rules) q) in
     if is_used symbol rules counts then bit * (all - own) / 64 else q.0.weight
+
+-- what the rule of a number weighs
+abbrev pub IsLearnedWeight : ℕ → List Rule → List ℕ → ℕ → ℕ → Type 0
+IsLearnedWeight bit rules counts number weight =
+    (rule : CountedRule) → slice_get (zip rules counts) number ≡ Some rule → weight ≡ learned_weight bit rules counts rule

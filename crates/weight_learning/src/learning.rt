@@ -4,8 +4,9 @@ ghost use Rattle.rule_counts.specs.Counts.{AreCapped};
 ghost use Rattle.std.specs.Prelude.{◌≡◌, ◌≤◌, IfOk, length};
 ghost use Rattle.weight_learning.specs.Learned as learning;
 
+use crate::bit::Bit;
 use crate::copies::{with_rules, with_weight};
-use crate::weights::{HEAVIEST_BIT, learned_weight};
+use crate::weights::learned_weight;
 use rhythm_base::{Grammar, Rule};
 use rule_counts::RuleCounts;
 use std::alloc::{AllocError, Global};
@@ -15,10 +16,8 @@ fn learned_rules(
     alloc: Global,
     rules: &[Rule],
     counts: &[u32],
-    bit: u32,
+    bit: Bit,
 ) -> Result<Vec<Rule>, AllocError>
-    requires some_bit { 1 ≤ bit }
-    requires bit_range { bit ≤ HEAVIEST_BIT }
     requires few_rules { length rules.now ≤ MOST_RULES }
     requires counts { length counts.now ≡ length rules.now }
     requires capped { AreCapped counts.now }
@@ -33,21 +32,21 @@ fn learned_rules(
 }
 
 /// The grammar with the weights that the counts of its rules say, where a rule that is used half as often as another of its
-/// symbol costs `bit` more, 1 to 10,000. A symbol of which no rule is used keeps its weights.
+/// symbol costs `bit` more. A symbol of which no rule is used keeps its weights.
 #[tactic(auto, unfolding(crate::specs::Learned::learned))]
 pub fn learned(
     alloc: Global,
     grammar: &Grammar,
     counts: &RuleCounts,
-    bit: u32,
+    bit: Bit,
 ) -> Result<Grammar, AllocError>
     requires readable { IsReadable grammar.now }
     requires counts { length counts.now ≡ length grammar.now.rules }
-    requires some_bit { 1 ≤ bit }
-    requires bit_range { bit ≤ HEAVIEST_BIT }
     ensures value { IfOk result (λ g. g ≡ learning.learned grammar.now counts.now bit) }
     ensures readable { IfOk result IsReadable }
 {
+    // For the proof: the bit is in its range.
+    let _weight = bit.weight();
     let rules = learned_rules(alloc, &grammar.rules, counts.as_slice(), bit)?;
     with_rules(alloc, grammar, rules)
 }

@@ -1,6 +1,7 @@
 //! Weights that are learned: the weights of a grammar made anew of how often its rules are used.
 #![tactic(auto)]
 
+mod bit;
 mod copies;
 mod laws;
 mod learning;
@@ -9,6 +10,7 @@ mod shares;
 mod steps;
 mod weights;
 
+pub use bit::Bit;
 pub use copies::copied;
 pub use laws::{
     learned_weights_are_few, lone_rules_weigh_nothing, more_used_is_no_heavier,

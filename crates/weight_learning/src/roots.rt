@@ -1,6 +1,5 @@
-ghost use Rattle.std.specs.Prelude.{◌≡◌, ◌<◌, ◌≤◌, true, false, nat_le};
-ghost use Rattle.std.specs.List.Sorted.{IsPartitionPoint};
-ghost use Rattle.weight_learning.specs.Thresholds.{threshold};
+ghost use Rattle.std.specs.Prelude.{◌≤◌};
+ghost use Rattle.weight_learning.specs.Steps.{AreUpTo};
 
 /// 2 ^ (40 + j / 64) for each j below 64, rounded up: the least t with t ^ 64 >= 2 ^ (64 * 40 + j).
 pub const ROOTS: [u64; 64] = [
@@ -73,15 +72,7 @@ pub const ROOTS: [u64; 64] = [
 /// How many of the roots are at most x: they are the first ones, since roots rise.
 pub fn roots_up_to(x: u64) -> usize
     ensures bound { result ≤ 64 }
-    ensures point { IsPartitionPoint (λ root. nat_le root x ≡ true) (λ root. nat_le root x ≡ false) ROOTS result }
+    ensures point { AreUpTo x ROOTS result }
 {
     ROOTS.partition_point(|root| *root <= x)
-}
-
-/// 2 ^ (31 + j / 64), rounded up.
-pub fn threshold(j: usize) -> u64
-    requires { j < 64 }
-    ensures { result ≡ threshold j }
-{
-    ROOTS[j].div_ceil(512)
 }

@@ -1,7 +1,7 @@
 ghost use Rattle.std.specs.Prelude.{◌≡◌, ◌^◌, ◌≤◌};
 ghost use Rattle.weight_learning.specs.Shares.{share};
 
-use crate::roots::threshold;
+use crate::roots::ROOTS;
 
 /// 2 ^ (31 - k / 64), nearly.
 pub fn share(k: u64) -> u64
@@ -12,5 +12,6 @@ pub fn share(k: u64) -> u64
         return 0;
     }
     let bits = k.div_ceil(64);
-    threshold((64 * bits - k) as usize) >> bits
+    let threshold = ROOTS[(64 * bits - k) as usize].div_ceil(512);
+    threshold >> bits
 }

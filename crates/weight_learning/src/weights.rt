@@ -1,10 +1,9 @@
 ghost use Rattle.rhythm_base.specs.declared.limits.TheConstants.{MOST_RULES};
 ghost use Rattle.rule_counts.specs.Counts.{AreCapped};
-ghost use Rattle.rule_counts.specs.declared.rule_counts.TheConstants.{MOST_USES};
-ghost use Rattle.std.specs.List.{zip};
-ghost use Rattle.std.specs.Prelude.{◌≡◌, ◌+◌, ◌*◌, ◌^◌, ◌<◌, ◌≤◌, Some, length, slice_get};
+ghost use Rattle.std.specs.Prelude.{◌≡◌, ◌+◌, ◌*◌, ◌^◌, ◌<◌, ◌≤◌, length};
 ghost use Rattle.weight_learning.specs.Weights as weights;
 
+use crate::bit::Bit;
 use crate::shares::share;
 use crate::steps::steps;
 use rhythm_base::Rule;
@@ -22,17 +21,15 @@ const PARTS_OF_USE: u64 = 1_024;
 const IMAGINED_USES: u64 = 20;
 
 /// The share of a rule by its weight.
-fn share_of(rule: &Rule, bit: u32) -> u64
-    requires { 1 ≤ bit }
+fn share_of(rule: &Rule, bit: Bit) -> u64
     ensures value { result ≡ weights.share_of bit rule.now }
     ensures few { result ≤ 2 ^ 31 }
 {
-    share(64 * u64::from(rule.weight) / u64::from(bit))
+    share(64 * u64::from(rule.weight) / bit.weight())
 }
 
 /// The shares of a symbol's rules together, 1 at least.
-fn share_sum(rules: &[Rule], bit: u32, symbol: u8) -> u64
-    requires some_bit { 1 ≤ bit }
+fn share_sum(rules: &[Rule], bit: Bit, symbol: u8) -> u64
     requires few_rules { length rules.now ≤ MOST_RULES }
     ensures { result ≡ weights.share_sum bit symbol rules.now }
 {
@@ -47,21 +44,17 @@ fn share_sum(rules: &[Rule], bit: u32, symbol: u8) -> u64
 
 /// The parts of a rule that is used so often and has this share of the whole.
 fn parts(count: u32, share: u64, whole: u64) -> u64
-    requires capped { count ≤ MOST_USES }
-    requires some { 1 ≤ whole }
-    requires part { share ≤ whole }
-    requires few { share ≤ 2 ^ 31 }
+    requires { weights.IsShareOf share whole }
     ensures value { result ≡ weights.rule_parts count share whole }
     ensures some { 1 ≤ result }
-    ensures few { result ≤ 1024 * MOST_USES + 20480 }
+    ensures few { result ≤ 1024 * count + 20480 }
 {
     let imagined = IMAGINED_USES * PARTS_OF_USE * share / whole;
     PARTS_OF_USE * u64::from(count) + imagined.max(1)
 }
 
 /// The parts of a symbol's rules together.
-fn part_sum(rules: &[Rule], counts: &[u32], bit: u32, symbol: u8) -> u64
-    requires some_bit { 1 ≤ bit }
+fn part_sum(rules: &[Rule], counts: &[u32], bit: Bit, symbol: u8) -> u64
     requires few_rules { length rules.now ≤ MOST_RULES }
     requires counts { length counts.now ≡ length rules.now }
     requires capped { AreCapped counts.now }
@@ -92,15 +85,12 @@ fn is_used(rules: &[Rule], counts: &[u32], symbol: u8) -> bool
 }
 
 /// What the rule of this number weighs by the counts.
-pub fn learned_weight(rules: &[Rule], counts: &[u32], bit: u32, number: usize) -> u32
-    requires some_bit { 1 ≤ bit }
-    requires bit_range { bit ≤ HEAVIEST_BIT }
+pub fn learned_weight(rules: &[Rule], counts: &[u32], bit: Bit, number: usize) -> u32
     requires few_rules { length rules.now ≤ MOST_RULES }
     requires counts { length counts.now ≡ length rules.now }
     requires capped { AreCapped counts.now }
     requires there { number < length rules.now }
-    ensures { (rule : weights.CountedRule) → slice_get (zip rules.now counts.now) number ≡ Some rule
-        → result ≡ weights.learned_weight bit rules.now counts.now rule }
+    ensures { weights.IsLearnedWeight bit rules.now counts.now number result }
 {
     let rule = &rules[number];
     if !is_used(rules, counts, rule.lhs) {
@@ -109,5 +99,5 @@ pub fn learned_weight(rules: &[Rule], counts: &[u32], bit: u32, number: usize) -
     let whole = share_sum(rules, bit, rule.lhs);
     let own = parts(counts[number], share_of(rule, bit), whole);
     let all = part_sum(rules, counts, bit, rule.lhs);
-    (u64::from(bit) * (steps(all) - steps(own)) / 64) as u32
+    (bit.weight() * (steps(all) - steps(own)) / 64) as u32
 }

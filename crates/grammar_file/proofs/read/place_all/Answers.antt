@@ -1,4 +1,4 @@
-use Rattle.std.proofs.Common.{◌≡◌, ◌≢◌, ℕ, true, false, not, List, map, Result, Err, sym, ap, subst, ◌∙◌}
+use Rattle.std.proofs.Common.{◌≡◌, ◌≢◌, ℕ, true, false, not, List, Result, Err, sym, ap, subst, ◌∙◌}
 use Rattle.std.proofs.lemmas.Result.{err_from_is_err_and}
 use Rattle.std.specs.List.{list_all}
 use Rattle.grammar_file.proofs.KnownLemmas.{filter_first, left_sides_known}
@@ -7,7 +7,7 @@ use Rattle.grammar_file.specs.Content.{IsLineNumber}
 use Rattle.grammar_file.specs.Grammar.{starts_and_rules, understood}
 use Rattle.grammar_file.specs.Names.{is_known}
 use Rattle.grammar_file.specs.Statements.{left_side, names_of}
-use Rattle.grammar_file.specs.Symbols.{is_understood}
+use Rattle.grammar_file.specs.Symbols.{IsUnknownIn, is_understood}
 use Rattle.grammar_file.specs.declared.draft.Spoken.{Spoken}
 use Rattle.grammar_file.specs.declared.fault.GrammarFault.{GrammarFault}
 use Rattle.grammar_file.specs.declared.fault.GrammarWhat.{GrammarWhat}
@@ -38,7 +38,7 @@ returns-in_err-on_line-clause-value c =
     let names : List (List ℕ) = names_of lines in
     let p = err_from_is_err_and c.from_residual.result c.from_residual.ensures.1 in
     let why = on_line-err line.line c.place.result _ (sym c.on_line.ensures ∙ c.in_err-on_line.was) in
-    let unknown = err_holds (λ what. what ≢ Memory → (what ≡ UnknownName) × (is_understood (map (λ x. x.now) c.args.names.now.keys) line ≡ false)) c.place.result why.0 why.1 c.place.ensures.unknown in
+    let unknown = err_holds (λ what. what ≢ Memory → IsUnknownIn c.args.names.now line what) c.place.result why.0 why.1 c.place.ensures.unknown in
     let fault_at : ℕ → GrammarWhat → Result (List Start × List Rule) GrammarFault = λ number what. Err (record { line = number; what = what }) in
     rw (p.1, p.2, why.2) (λ other.
     let P : List (List ℕ) → Type 0 = λ ns. is_understood ns line ≡ false in

@@ -1,5 +1,4 @@
 use Rattle.std.proofs.Common.{All, ◌+◌, ◌≡◌, [], length, drop, arith, sym, ap, subst, ◌∙◌}
-use Rattle.std.proofs.lemmas.List.{length-map}
 use Rattle.std.proofs.lemmas.Result.{IfOk-weaker, err_from_is_err_and}
 use Rattle.rhythm_base.specs.Readable.{IsReadable}
 use Rattle.grammar_file.proofs.GrammarLemmas.{grammar_1, grammar_2, grammar_3}
@@ -49,7 +48,7 @@ returns-clause-line c =
 pub grammar-requires-clause-few : goal.grammar-requires-clause-few
 grammar-requires-clause-few c =
     let few = few_names c.in_ok-header.header.version c.read_header.new.lines.lines c.in_ok-draft.draft.spoken.items c.in_ok-draft.ensures.value in
-    omega (arith, length-map c.in_ok-draft.draft.names.keys (λ x. x.now), ap length c.in_ok-draft.ensures.names, few)
+    omega (arith, ap length c.in_ok-draft.ensures.names, few)
 
 pub returns-clause-value : goal.returns-clause-value
 returns-clause-value c =

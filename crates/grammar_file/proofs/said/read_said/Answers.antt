@@ -1,9 +1,11 @@
-use Rattle.std.proofs.Common.{◌≡◌, ◌==◌, ℕ, List, [], Bor, true, false, sym, ap, ◌∙◌, subst, map, length, drop, get_or}
+use Rattle.std.proofs.Common.{◌≡◌, ◌==◌, ◌-◌, ℕ, List, [], Bor, Option, true, false, sym, ap, ◌∙◌, subst, length, drop, get_or, take}
 use Rattle.std.proofs.lemmas.List.{take_rest}
 use Rattle.std.specs.Prelude.{codes}
 use Rattle.std.specs.Str.{bytes_eq}
 use Rattle.grammar_file.proofs.OutcomeLemmas.{gives_itself}
 use Rattle.grammar_file.proofs.SaidLemmas.{said_by-more, said_by-other, said_by-short, said_by-start}
+use Rattle.grammar_file.specs.Lines.{texts}
+use Rattle.grammar_file.specs.declared.kind.Kind.{Kind}
 use Rattle.grammar_file.specs.Outcome.{GivesGrammar}
 use Rattle.grammar_file.specs.Said.{kind_of, rule_of_kind}
 use Rattle.grammar_file.proofs.said.read_said.Goals as goal
@@ -23,8 +25,9 @@ pub returns-else-eq : goal.returns-else-eq
 returns-else-eq c =
     let words : List (Bor (List ℕ)) = c.args.words.now in
     let d : Bor (List ℕ) = record { ref_ptr = (0, 0); now = [] } in
-    let P : List (Bor (List ℕ)) → Type 0 = λ xs. GivesGrammar c.rule.result (rule_of_kind c.args.version (get_or words 0 d).now (get_or words 1 d).now (kind_of (get_or words 2 d).now) (map (λ x. x.now) xs)) in
-    let rule = subst P (take_rest words 3) c.rule.ensures in
+    let P : List (Bor (List ℕ)) → Type 0 = λ xs. GivesGrammar c.rule.result (rule_of_kind c.args.version (get_or words 0 d).now (get_or words 1 d).now (kind_of (get_or words 2 d).now) (texts xs)) in
+    let Q : Option Kind → Type 0 = λ kind. GivesGrammar c.rule.result (rule_of_kind c.args.version (get_or words 0 d).now (get_or words 1 d).now kind (texts (take (length words - 3) (drop 3 words)))) in
+    let rule = subst P (take_rest words 3) (subst Q c.kind_of.ensures c.rule.ensures) in
     elim c.else-eq.branch [
       | else-eq-via-then-eq+else-is_empty w ↦
           let first : bytes_eq (get_or words 0 d).now (codes "start") ≡ true = ap (bytes_eq _) (sym c.as_slice.ensures) ∙ sym c.eq.ensures ∙ w.if-eq.true in

@@ -1,4 +1,4 @@
-use Rattle.std.proofs.Common.{ℕ, Bool, List, [], Bor, Err, sym, ap, ◌∙◌, map}
+use Rattle.std.proofs.Common.{ℕ, Bool, List, [], Bor, Ok, Err, sym, ap, ◌∙◌}
 use Rattle.std.proofs.lemmas.Result.{err_from_is_err_and}
 use Rattle.grammar_file.proofs.SymbolLemmas.{all_known, known-err, known-ok, known_more, one_unknown, symbols_more, where_known-map}
 use Rattle.grammar_file.specs.Names.{is_known, symbol_of}
@@ -6,7 +6,7 @@ use Rattle.grammar_file.proofs.symbols.kids.Goals as goal
 
 pub returns-in_err-symbol : goal.returns-in_err-symbol
 returns-in_err-symbol c =
-    let names = map (λ k. k.now) c.args.names.now.keys in
+    let names : List (List ℕ) = c.args.names.now in
     let p = err_from_is_err_and c.from_residual-in_err-symbol.result c.from_residual-in_err-symbol.ensures.1 in
     let unknown = known-err _ _ _ (sym c.symbol.ensures ∙ c.in_err-symbol.was) in
     rw (p.1, p.2) (λ other. where_known-map (is_known names) (symbol_of names) (λ x. x.now) c.args.words.now
@@ -15,7 +15,7 @@ returns-in_err-symbol c =
 
 pub loop-word-preserved : goal.loop-word-preserved
 loop-word-preserved c =
-    let names : List (List ℕ) = map (λ k. k.now) c.args.names.now.keys in
+    let names : List (List ℕ) = c.args.names.now in
     let here = known-ok _ _ _ (sym c.symbol.ensures ∙ c.in_ok-symbol.was) in
     let known : Bor (List ℕ) → Bool = λ w. is_known names w.now in
     let symbol : Bor (List ℕ) → ℕ = λ w. symbol_of names w.now in
@@ -28,6 +28,7 @@ loop-word-preserved c =
 
 pub returns : goal.returns
 returns c =
-    let names = map (λ k. k.now) c.args.names.now.keys in
+    let names : List (List ℕ) = c.args.names.now in
     where_known-map (is_known names) (symbol_of names) (λ x. x.now) c.args.words.now
     ∙ all_known (λ w. is_known names w.now) _ c.args.words.now _ _ c.loop-word-test.false c.loop-word.invariant.known c.loop-word.invariant.symbols
+    ∙ ap Ok (sym c.of.ensures)

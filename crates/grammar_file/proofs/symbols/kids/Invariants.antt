@@ -5,6 +5,6 @@ use Rattle.grammar_file.proofs.symbols.kids.Given as goal
 
 abbrev pub invariant-loop-word : goal.invariant-loop-word
 invariant-loop-word l = record {
-  known : list_all (λ w. is_known (map (λ k. k.now) l.names.keys) w.now) (take l.word-index l.words) ≡ true;
-  symbols : l.kids.items ≡ map (λ w. symbol_of (map (λ k. k.now) l.names.keys) w.now) (take l.word-index l.words);
+  known : list_all (λ w. is_known l.names w.now) (take l.word-index l.words) ≡ true;
+  symbols : l.kids.items ≡ map (λ w. symbol_of l.names w.now) (take l.word-index l.words);
 }

@@ -16,13 +16,21 @@ portions-preserved c =
     let xs = c.args.portions.now in
     let i = c.portions.portion-index in
     let low : i < length xs = search rules in
-    let pushed : c.push.new.self.items ≡ c.portions.parts.items ++ c.in_ok-seat.seat ∷ [] = search rules in
-    subst (λ l. ArePushed c.args.pairs.now.found.items c.seat.new.self.found.items c.args.parts.now.items l (map (λ (q : ℕ × ℕ). (q.0 * (c.args.width / c.max.result), q.1)) (take (i + 1) xs))) (sym pushed)
-    (pushed-taken (λ (q : ℕ × ℕ). (q.0 * (c.args.width / c.max.result), q.1)) xs c.args.pairs.now.found.items c.portions.pairs.found.items c.args.parts.now.items c.portions.parts.items i (0, 0) c.seat.new.self.found.items c.in_ok-seat.seat low c.portions.invariant c.in_ok-seat.ensures.more c.in_ok-seat.ensures.seat)
+    let pushed : c.push.new.self.items ≡ c.portions.draft.parts.items ++ c.in_ok-seat.seat ∷ [] = search rules in
+    record {
+      cuts = c.portions.invariant.cuts;
+      pushed =
+          subst (λ l. ArePushed c.args.draft.now.pairs.found.items c.seat.new.self.found.items c.args.draft.now.parts.items l (map (λ (q : ℕ × ℕ). (q.0 * (c.args.width / c.max.result), q.1)) (take (i + 1) xs))) (sym pushed)
+          (pushed-taken (λ (q : ℕ × ℕ). (q.0 * (c.args.width / c.max.result), q.1)) xs c.args.draft.now.pairs.found.items c.portions.draft.pairs.found.items c.args.draft.now.parts.items c.portions.draft.parts.items i (0, 0) c.seat.new.self.found.items c.in_ok-seat.seat low c.portions.invariant.pushed c.in_ok-seat.ensures.more c.in_ok-seat.ensures.seat);
+    }
 
 pub returns : goal.returns
 returns c =
     let share : c.max.result ≡ max 1 (sizes c.args.portions.now) = search rules in
     let past : length c.args.portions.now ≤ c.portions.portion-index = search rules in
-    subst (λ n. ArePushed c.args.pairs.now.found.items c.portions.pairs.found.items c.args.parts.now.items c.portions.parts.items (map (λ (q : ℕ × ℕ). (q.0 * (c.args.width / n), q.1)) c.args.portions.now)) share
-    (pushed-all (λ (q : ℕ × ℕ). (q.0 * (c.args.width / c.max.result), q.1)) c.args.portions.now c.args.pairs.now.found.items c.portions.pairs.found.items c.args.parts.now.items c.portions.parts.items c.portions.portion-index past c.portions.invariant)
+    record {
+      cuts = c.portions.invariant.cuts;
+      pushed =
+          subst (λ n. ArePushed c.args.draft.now.pairs.found.items c.portions.draft.pairs.found.items c.args.draft.now.parts.items c.portions.draft.parts.items (map (λ (q : ℕ × ℕ). (q.0 * (c.args.width / n), q.1)) c.args.portions.now)) share
+          (pushed-all (λ (q : ℕ × ℕ). (q.0 * (c.args.width / c.max.result), q.1)) c.args.portions.now c.args.draft.now.pairs.found.items c.portions.draft.pairs.found.items c.args.draft.now.parts.items c.portions.draft.parts.items c.portions.portion-index past c.portions.invariant.pushed);
+    }

@@ -8,8 +8,8 @@ use Rattle.rhythm_gen.specs.Voice.{CanBeWritten, first_beats}
 use Rattle.rhythm_gen.proofs.Voices.{beats_written}
 use Rattle.rhythm_gen.proofs.file.push_voice.Goals as goal
 
-pub track_content-requires-clause-notes : goal.track_content-requires-clause-notes
-track_content-requires-clause-notes c =
+pub track_content-requires : goal.track_content-requires
+track_content-requires c =
     let beats = 4 * c.args.bars in
     let notes : c.as_slice.result.now ≡ first_beats c.args.draws.now c.args.channel beats = search rules in
     let P : List Note → Type 0 = All CanBeWritten in

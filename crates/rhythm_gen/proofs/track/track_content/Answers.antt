@@ -1,4 +1,4 @@
-use Rattle.std.proofs.Common.{rules, ◌≡◌, ◌++◌, ◌+◌, ◌-◌, ◌<◌, ℕ, List, [], ◌∷◌, get_or, take, length, refl, sym, ap, ◌∙◌}
+use Rattle.std.proofs.Common.{rules, ◌≡◌, ◌++◌, ◌+◌, ◌-◌, ◌*◌, ◌<◌, ℕ, List, [], ◌∷◌, get_or, take, length, refl, sym, ap, ◌∙◌}
 use Rattle.std.specs.List.{flat_map}
 use Rattle.std.proofs.Math.Numerals.{add-one}
 use Rattle.std.proofs.Math.Seq.{take-suc}
@@ -39,9 +39,9 @@ returns c =
     let notes = c.args.notes.now in
     let i = c.loop-note.note-index in
     let all : take i notes ≡ notes = take_all i notes (search rules) in
-    let ended : c.push_end.new.content.items ≡ c.loop-note.content.items ++ (quantity_bytes (c.args.end - c.loop-note.tick) ++ end_of_track_bytes) = search rules in
+    let ended : c.push_end.new.content.items ≡ c.loop-note.content.items ++ (quantity_bytes ((1920 * c.args.bars) - c.loop-note.tick) ++ end_of_track_bytes) = search rules in
     ended
-    ∙ ap (λ (xs : List ℕ). xs ++ (quantity_bytes (c.args.end - c.loop-note.tick) ++ end_of_track_bytes)) c.loop-note.invariant.so_far
-    ∙ ap (λ t. bytes_from 0 (flat_map events_of (take i notes)) ++ (quantity_bytes (c.args.end - t) ++ end_of_track_bytes)) c.loop-note.invariant.tick
-    ∙ sym (bytes_end (take i notes) c.args.end)
-    ∙ ap (λ (xs : List Note). track_bytes xs c.args.end) all
+    ∙ ap (λ (xs : List ℕ). xs ++ (quantity_bytes ((1920 * c.args.bars) - c.loop-note.tick) ++ end_of_track_bytes)) c.loop-note.invariant.so_far
+    ∙ ap (λ t. bytes_from 0 (flat_map events_of (take i notes)) ++ (quantity_bytes ((1920 * c.args.bars) - t) ++ end_of_track_bytes)) c.loop-note.invariant.tick
+    ∙ sym (bytes_end (take i notes) (1920 * c.args.bars))
+    ∙ ap (λ (xs : List Note). track_bytes xs (1920 * c.args.bars)) all

@@ -1,4 +1,4 @@
-use Rattle.std.proofs.Common.{◌≡◌, List, ℕ, ◌∙◌, ap, subst, sym}
+use Rattle.std.proofs.Common.{◌≡◌, List, ℕ, ◌∙◌, ap, arith, subst, sym}
 use Rattle.std.proofs.lemmas.Result.{IfOk-weaker}
 use Rattle.rhythm_base.specs.Grammar.{Grammar}
 use Rattle.rhythm_base.specs.Readable.{IsReadable}
@@ -21,8 +21,8 @@ returns-clause-readable c =
       few_rules = c.requires.readable.few_rules;
       of_each = c.requires.counts;
       capped = c.as_slice.ensures.capped;
-      some_bit = c.requires.some_bit;
-      bit_range = c.requires.bit_range;
+      some_bit = omega (arith, c.weight-weight.ensures.is, c.weight-weight.ensures.some);
+      bit_range = omega (arith, c.weight-weight.ensures.is, c.weight-weight.ensures.few);
     } in
     let readable : IsReadable (learned g counts bit) = only_weights.readable g counts bit can c.requires.readable in
     IfOk-weaker c.with_rules.result (λ h. h ≡ with c.in_ok-rules.rules.items) IsReadable

@@ -1,4 +1,4 @@
-use Rattle.std.proofs.Common.{◌≡◌, ℕ, ◌-◌, ◌*◌, ◌/◌, ◌≤◌, ◌<◌, List, length, ap, ◌∙◌, get_or, refl, sym}
+use Rattle.std.proofs.Common.{◌≡◌, ℕ, ◌-◌, ◌*◌, ◌/◌, ◌≤◌, ◌<◌, List, length, ap, ◌∙◌, arith, get_or, refl, sym}
 use Rattle.std.proofs.Math.Nat.{le_of_eq, le_trans}
 use Rattle.rhythm_base.specs.declared.rule.Rule.{Rule}
 use Rattle.weight_learning.specs.Steps.{steps}
@@ -18,11 +18,14 @@ returns-then-not-is_used c = λ q found.
     (λ (p : CountedRule). r.weight ≡ learned_weight c.args.bit rules counts p) q found
     (sym (among_unused c.args.bit rules counts r.lhs (r, get_or counts c.args.number 0) (sym c.is_used.ensures ∙ c.if-not-is_used.true)))
 
-pub parts-own-requires-clause-part : goal.parts-own-requires-clause-part
-parts-own-requires-clause-part c =
-    le_trans (le_of_eq c.share_of.ensures.value)
-    (le_trans (share_read c.args.bit c.index-rules-number.result.lhs c.args.rules.now c.args.number c.index-rules-number.result c.requires.there (sym c.index-rules-number.is) refl)
-    (le_of_eq (sym c.share_sum-whole.ensures)))
+pub parts-own-requires : goal.parts-own-requires
+parts-own-requires c = record {
+  some = omega (arith, c.share_sum-whole.ensures);
+  part = le_trans (le_of_eq c.share_of.ensures.value)
+      (le_trans (share_read c.args.bit c.index-rules-number.result.lhs c.args.rules.now c.args.number c.index-rules-number.result c.requires.there (sym c.index-rules-number.is) refl)
+      (le_of_eq (sym c.share_sum-whole.ensures)));
+  few = c.share_of.ensures.few;
+}
 
 -- the parts of the rule are within those of its symbol
 own_within : (rules : List Rule) (counts : List ℕ) (bit i own all s w : ℕ) (r : Rule) → length counts ≡ length rules → i < length rules → get_or rules i r ≡ r
@@ -59,8 +62,8 @@ returns c = λ q found.
     let sum : ℕ = part_sum bit r.lhs rules counts in
     let own = own_parts c.parts-own.result count c.share_of.result c.share_sum-whole.result bit r.lhs rules r c.parts-own.ensures.value c.share_of.ensures.value c.share_sum-whole.ensures in
     at_found rules counts c.requires.counts r.lhs c.args.number r c.requires.there (sym c.index-rules-number.is)
-    (λ (p : CountedRule). (c.from.result * (c.steps.result - c.steps-2.result)) / 64 ≡ learned_weight bit rules counts p) q found
-    (ap (λ n. n * (c.steps.result - c.steps-2.result) / 64) c.from.ensures
+    (λ (p : CountedRule). (c.weight.result * (c.steps.result - c.steps-2.result)) / 64 ≡ learned_weight bit rules counts p) q found
+    (ap (λ n. n * (c.steps.result - c.steps-2.result) / 64) c.weight.ensures.is
     ∙ ap (λ n. bit * (n - c.steps-2.result) / 64) (c.steps.ensures.value ∙ ap steps c.part_sum-all.ensures.value)
     ∙ ap (λ n. bit * (steps sum - n) / 64) (c.steps-2.ensures.value ∙ ap steps own)
     ∙ sym (among_used bit rules counts r.lhs (r, count) (sym c.is_used.ensures ∙ c.if-not-is_used.false)))

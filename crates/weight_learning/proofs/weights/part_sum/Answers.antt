@@ -8,11 +8,14 @@ use Rattle.weight_learning.proofs.WeightLemmas.{share_read}
 use Rattle.weight_learning.proofs.weights.part_sum.Goals as goal
 use Rattle.weight_learning.proofs.weights.part_sum.Goals.{then-rule-symbol, else-rule-symbol}
 
-pub parts-sum-requires-clause-part : goal.parts-sum-requires-clause-part
-parts-sum-requires-clause-part c =
-    le_trans (le_of_eq c.share_of.ensures.value)
-    (le_trans (share_read c.args.bit c.args.symbol c.args.rules.now c.rules.number c.index-rules-number.result c.rules-test.true (sym c.index-rules-number.is) c.if-rule-symbol.true)
-    (le_of_eq (sym c.share_sum-whole.ensures)))
+pub parts-sum-requires : goal.parts-sum-requires
+parts-sum-requires c = record {
+  some = omega (arith, c.share_sum-whole.ensures);
+  part = le_trans (le_of_eq c.share_of.ensures.value)
+      (le_trans (share_read c.args.bit c.args.symbol c.args.rules.now c.rules.number c.index-rules-number.result c.rules-test.true (sym c.index-rules-number.is) c.if-rule-symbol.true)
+      (le_of_eq (sym c.share_sum-whole.ensures)));
+  few = c.share_of.ensures.few;
+}
 
 pub rules-preserved : goal.rules-preserved
 rules-preserved c =

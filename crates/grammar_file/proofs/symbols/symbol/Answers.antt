@@ -1,9 +1,0 @@
-use Rattle.std.proofs.Common.{sym, ◌∙◌}
-use Rattle.grammar_file.proofs.SymbolLemmas.{symbol_of-found, symbol_of-missing}
-use Rattle.grammar_file.proofs.symbols.symbol.Goals as goal
-
-pub returns-in-Some : goal.returns-in-Some
-returns-in-Some c = symbol_of-found (λ x. x.now) c.args.names.now.keys c.args.name.now _ (sym c.get_index_of.ensures.index ∙ c.in-Some.is)
-
-pub returns-in-None : goal.returns-in-None
-returns-in-None c = symbol_of-missing (λ x. x.now) c.args.names.now.keys c.args.name.now (sym c.get_index_of.ensures.index ∙ c.in-None.is)
