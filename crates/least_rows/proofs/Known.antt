@@ -6,13 +6,12 @@ use Rattle.std.proofs.lemmas.List.{get_or-set_other, length-append, length-set, 
 use Rattle.std.proofs.lemmas.Grind.{get_or-set_at}
 use Rattle.std.proofs.lemmas.List.Elements.{All-push, All-weaker}
 use Rattle.std.proofs.lemmas.Option.{get_or_from_slice_get}
-use Rattle.rhythm_base.specs.BarInput.{BarInput}
-use Rattle.rhythm_base.specs.Grammar.{Grammar}
 use Rattle.rhythm_base.specs.Trees.{suits}
-use Rattle.row_laws.specs.Grounds.{ground_of, IsReady}
-use Rattle.grammar_plan.specs.Plans.{between, pair_of, IsPlan}
+use Rattle.grammar_plan.specs.Plans.{between, pair_of}
 use Rattle.grammar_plan.specs.declared.plan.Plan.{Plan}
 use Rattle.grammar_plan.specs.declared.seat.Seat.{Seat}
+use Rattle.least_rows.specs.Searches.{ground_in, IsSearch}
+use Rattle.least_rows.specs.declared.search.Search.{Search}
 use Rattle.least_rows.specs.Choices.{AreBestChoices, AreSettled}
 use Rattle.least_rows.specs.Entries.{IsRow}
 use Rattle.least_rows.specs.States.{AreKnown, Grows, HasRow, HasState, IsRowAt, IsState}
@@ -56,20 +55,20 @@ between-last xs ys first n e f =
 
 -- ---- more entries
 
-pub row-more : (g : Grammar) (k : BarInput) (plan : Plan) (es more : List Entry) (p : ℕ) (q : ℕ × ℕ) (a : ℕ) (span : RowSpan) → IsRowAt g k plan es p q a span → IsRowAt g k plan (es ++ more) p q a span
-row-more g k plan es more p q a span h = record {
+pub row-more : (bar : Search) (es more : List Entry) (p : ℕ) (q : ℕ × ℕ) (a : ℕ) (span : RowSpan) → IsRowAt bar es p q a span → IsRowAt bar (es ++ more) p q a span
+row-more bar es more p q a span h = record {
   few = h.few;
   within = let low = h.within in let long = length-append es more in omega (arith, low, long);
-  row = subst (IsRow (ground_of g k) plan p q a) (sym (between-append span.first span.count es more h.within)) h.row;
+  row = subst (IsRow (ground_in bar) bar.plan.now p q a) (sym (between-append span.first span.count es more h.within)) h.row;
 }
 
-pub state-more : (g : Grammar) (k : BarInput) (plan : Plan) (es more : List Entry) (x : State) → IsState g k plan es x → IsState g k plan (es ++ more) x
-state-more g k plan es more x h = record {
+pub state-more : (bar : Search) (es more : List Entry) (x : State) → IsState bar es x → IsState bar (es ++ more) x
+state-more bar es more x h = record {
   seat = h.seat;
   at = h.at;
   within = h.within;
   leaf = h.leaf;
-  rows = λ a span low e. row-more g k plan es more x.place (pair_of h.seat) a span (h.rows a span low e);
+  rows = λ a span low e. row-more bar es more x.place (pair_of h.seat) a span (h.rows a span low e);
 }
 
 -- ---- what grows
@@ -92,10 +91,10 @@ module _ (old new : Rows) (x : State) (states : new.states.items ≡ old.states.
     states = λ n seat place h. (h.0, ap (λ l. slice_get l n) states ∙ append-get old.states.items (x ∷ []) h.0 n h.1, h.2, h.3);
   }
 
-  pub add-known : (g : Grammar) (k : BarInput) (plan : Plan) → AreKnown g k plan old → IsState g k plan old.entries.items x → AreKnown g k plan new
-  add-known g k plan h own =
-      let P : State → Type 0 = IsState g k plan old.entries.items in
-      subst (λ es. All (IsState g k plan es) new.states.items) (sym entries) (subst (All P) (sym states) (All-push P old.states.items x h own))
+  pub add-known : (bar : Search) → AreKnown bar old → IsState bar old.entries.items x → AreKnown bar new
+  add-known bar h own =
+      let P : State → Type 0 = IsState bar old.entries.items in
+      subst (λ es. All (IsState bar es) new.states.items) (sym entries) (subst (All P) (sym states) (All-push P old.states.items x h own))
 
   pub add-state : (n seat place : ℕ) → n ≡ length old.states.items → x.seat ≡ seat → x.place ≡ place → HasState new n seat place
   add-state n seat place e s p = (x, (λ i. slice_get (states i) (e i)) ∙ last-get old.states.items x, s, p)
@@ -138,22 +137,22 @@ pub seat-same : (plan : Plan) (n m : ℕ) (s t : Seat) → n ≡ m → slice_get
 seat-same plan n m s t e f h = let both : Some s ≡ Some t = sym f ∙ ap (slice_get plan.seats.items) e ∙ h in cc
 
 -- a row that a state knows is one of its seat
-pub row-of : (g : Grammar) (k : BarInput) (plan : Plan) (rows : Rows) (number seat place from : ℕ) (span : RowSpan) → AreKnown g k plan rows → HasState rows number seat place → from < 5 → HasRow rows number from span
-    → IsRowOf g k plan rows seat place from span
-row-of g k plan rows number seat place from span known h low r s at =
+pub row-of : (bar : Search) (rows : Rows) (number seat place from : ℕ) (span : RowSpan) → AreKnown bar rows → HasState rows number seat place → from < 5 → HasRow rows number from span
+    → IsRowOf bar rows seat place from span
+row-of bar rows number seat place from span known h low r s at =
     let both : Some h.0 ≡ Some r.0 = sym h.1 ∙ r.1 in
     let one : h.0 ≡ r.0 = cc in
-    let x = all-at (IsState g k plan rows.entries.items) rows.states.items number r.0 known r.1 in
+    let x = all-at (IsState bar rows.entries.items) rows.states.items number r.0 known r.1 in
     let own : r.0.seat ≡ seat = ap (λ (x : State). x.seat) (sym one) ∙ h.2 in
     let there : r.0.place ≡ place = ap (λ (x : State). x.place) (sym one) ∙ h.3 in
     let row = x.rows from span low r.2 in
-    subst (λ s. IsRowAt g k plan rows.entries.items place (pair_of s) from span) (seat-same plan r.0.seat seat x.seat s own x.at at)
-    (subst (λ p. IsRowAt g k plan rows.entries.items p (pair_of x.seat) from span) there row)
+    subst (λ s. IsRowAt bar rows.entries.items place (pair_of s) from span) (seat-same bar.plan.now r.0.seat seat x.seat s own x.at at)
+    (subst (λ p. IsRowAt bar rows.entries.items p (pair_of x.seat) from span) there row)
 
-module _ (g : Grammar) (k : BarInput) (plan : Plan) (old new : Rows) (number seat place from : ℕ) (best : List (Option Choice)) (span : RowSpan) (known : AreKnown g k plan old) (h : HasState old number seat place) (low : from < 5)
-    (rules : Seat → ℕ → Type 0) (choices : (s : Seat) → slice_get plan.seats.items seat ≡ Some s → AreBestChoices (ground_of g k) plan place (pair_of s) from (rules s) best)
-    (whole : (s : Seat) → slice_get plan.seats.items seat ≡ Some s → (r : ℕ) → suits (slice_get g.rules r) (pair_of s) ≡ true → rules s r) where
-  settled-row : (es : List Entry) → AreSettled best old.entries.items es span → (s : Seat) → slice_get plan.seats.items seat ≡ Some s → IsRowAt g k plan es place (pair_of s) from span
+module _ (bar : Search) (old new : Rows) (number seat place from : ℕ) (best : List (Option Choice)) (span : RowSpan) (known : AreKnown bar old) (h : HasState old number seat place) (low : from < 5)
+    (rules : Seat → ℕ → Type 0) (choices : (s : Seat) → slice_get bar.plan.now.seats.items seat ≡ Some s → AreBestChoices (ground_in bar) bar.plan.now place (pair_of s) from (rules s) best)
+    (whole : (s : Seat) → slice_get bar.plan.now.seats.items seat ≡ Some s → (r : ℕ) → suits (slice_get bar.grammar.now.rules r) (pair_of s) ≡ true → rules s r) where
+  settled-row : (es : List Entry) → AreSettled best old.entries.items es span → (s : Seat) → slice_get bar.plan.now.seats.items seat ≡ Some s → IsRowAt bar es place (pair_of s) from span
   settled-row es t s at =
       let few = t.split.few in
       let count = t.count in
@@ -163,35 +162,35 @@ module _ (g : Grammar) (k : BarInput) (plan : Plan) (old new : Rows) (number sea
       record {
         few = omega (arith, few, count);
         within = omega (arith, first, count, long, added);
-        row = subst (IsRow (ground_of g k) plan place (pair_of s) from) (sym (ap (λ l. between l span.first (span.first + span.count)) t.added ∙ between-last old.entries.items t.es span.first span.count first count))
-            (split-row (ground_of g k) plan place (pair_of s) from (rules s) best t.left t.es (choices s at) (whole s at) t.split t.none);
+        row = subst (IsRow (ground_in bar) bar.plan.now place (pair_of s) from) (sym (ap (λ l. between l span.first (span.first + span.count)) t.added ∙ between-last old.entries.items t.es span.first span.count first count))
+            (split-row (ground_in bar) bar.plan.now place (pair_of s) from (rules s) best t.left t.es (choices s at) (whole s at) t.split t.none);
       }
 
-  pub keep-known : KeepsRow old new number from best span → AreKnown g k plan new
+  pub keep-known : KeepsRow old new number from best span → AreKnown bar new
   keep-known t =
-      let P : State → Type 0 = IsState g k plan new.entries.items in
+      let P : State → Type 0 = IsState bar new.entries.items in
       let es = t.3.es in
-      let longer : All (IsState g k plan (old.entries.items ++ es)) old.states.items = All-weaker (IsState g k plan old.entries.items) (IsState g k plan (old.entries.items ++ es)) (λ x s. state-more g k plan old.entries.items es x s) old.states.items known in
-      let all : All P old.states.items = subst (λ l. All (IsState g k plan l) old.states.items) (sym t.3.added) longer in
+      let longer : All (IsState bar (old.entries.items ++ es)) old.states.items = All-weaker (IsState bar old.entries.items) (IsState bar (old.entries.items ++ es)) (λ x s. state-more bar old.entries.items es x s) old.states.items known in
+      let all : All P old.states.items = subst (λ l. All (IsState bar l) old.states.items) (sym t.3.added) longer in
       let x = all-at P old.states.items number t.0 all t.1 in
       let both : Some h.0 ≡ Some t.0 = sym h.1 ∙ t.1 in
       let one : h.0 ≡ t.0 = cc in
       let own : t.0.seat ≡ seat = ap (λ (x : State). x.seat) (sym one) ∙ h.2 in
       let there : t.0.place ≡ place = ap (λ (x : State). x.place) (sym one) ∙ h.3 in
-      let row : IsRowAt g k plan new.entries.items t.0.place (pair_of x.seat) from span
-      = subst (λ p. IsRowAt g k plan new.entries.items p (pair_of x.seat) from span) (sym there) (settled-row new.entries.items t.3 x.seat (ap (slice_get plan.seats.items) (sym own) ∙ x.at)) in
+      let row : IsRowAt bar new.entries.items t.0.place (pair_of x.seat) from span
+      = subst (λ p. IsRowAt bar new.entries.items p (pair_of x.seat) from span) (sym there) (settled-row new.entries.items t.3 x.seat (ap (slice_get bar.plan.now.seats.items) (sym own) ∙ x.at)) in
       subst (All P) (sym t.2) (all-set P old.states.items number _ all (record {
         seat = x.seat;
         at = x.at;
         within = x.within;
         leaf = x.leaf;
         rows = λ a sp la e. elim (set-cases t.0.rows from a span sp e) [
-          | inl new-one ↦ subst (λ sp. IsRowAt g k plan new.entries.items t.0.place (pair_of x.seat) a sp) new-one.1 (subst (λ a. IsRowAt g k plan new.entries.items t.0.place (pair_of x.seat) a span) (sym new-one.0) row)
+          | inl new-one ↦ subst (λ sp. IsRowAt bar new.entries.items t.0.place (pair_of x.seat) a sp) new-one.1 (subst (λ a. IsRowAt bar new.entries.items t.0.place (pair_of x.seat) a span) (sym new-one.0) row)
           | inr old-one ↦ x.rows a sp la old-one
         ];
       }))
 
-  pub keep-row : KeepsRow old new number from best span → IsRowOf g k plan new seat place from span
+  pub keep-row : KeepsRow old new number from best span → IsRowOf bar new seat place from span
   keep-row t s at = settled-row new.entries.items t.3 s at
 
   pub keep-grows : KeepsRow old new number from best span → Grows old new
@@ -223,25 +222,25 @@ between-long first n xs h =
     let rest = drop-long first xs (omega (arith, h)) in
     ap (λ m. length (take m (drop first xs))) count ∙ take_length n (drop first xs) (omega (arith, h, rest))
 
-module _ (g : Grammar) (k : BarInput) (plan : Plan) (ready : IsReady g k) (is : IsPlan g plan) (n : ℕ) (s : Seat) (at : slice_get plan.seats.items n ≡ Some s) (es : List Entry) (place from : ℕ) (span : RowSpan)
-    (row : IsRowAt g k plan es place (pair_of s) from span) (xs : List Entry) (there : xs ≡ between es span.first (span.first + span.count)) where
+module _ (bar : Search) (is : IsSearch bar) (n : ℕ) (s : Seat) (at : slice_get bar.plan.now.seats.items n ≡ Some s) (es : List Entry) (place from : ℕ) (span : RowSpan)
+    (row : IsRowAt bar es place (pair_of s) from span) (xs : List Entry) (there : xs ≡ between es span.first (span.first + span.count)) where
   few-entries : length (between es span.first (span.first + span.count)) ≤ 5
   few-entries = let long = between-long span.first span.count es row.within in let few = row.few in omega (arith, long, few)
 
   pub span-entries : AreEntries xs
   span-entries =
-      let seat = seat-of g plan is n s at in
-      subst AreEntries (sym there) (row-entries (ground_of g k) plan place (pair_of s) from (between es span.first (span.first + span.count)) row.row (grounded g k ready) (bounds g k ready) few-entries seat.wide seat.within)
+      let seat = seat-of bar.grammar.now bar.plan.now is.plan_of n s at in
+      subst AreEntries (sym there) (row-entries (ground_in bar) bar.plan.now place (pair_of s) from (between es span.first (span.first + span.count)) row.row (grounded bar.grammar.now bar.input.now is.ready) (bounds bar.grammar.now bar.input.now is.ready) few-entries seat.wide seat.within)
 
-  pub span-ranked : IsRankedRow (ground_of g k) place (pair_of s) from (rank_in xs 0)
-  span-ranked = subst (λ xs. IsRankedRow (ground_of g k) place (pair_of s) from (rank_in xs 0)) (sym there) (row-ranked (ground_of g k) plan place (pair_of s) from (between es span.first (span.first + span.count)) row.row few-entries)
+  pub span-ranked : IsRankedRow (ground_in bar) place (pair_of s) from (rank_in xs 0)
+  span-ranked = subst (λ xs. IsRankedRow (ground_in bar) place (pair_of s) from (rank_in xs 0)) (sym there) (row-ranked (ground_in bar) bar.plan.now place (pair_of s) from (between es span.first (span.first + span.count)) row.row few-entries)
 
 -- the leaf of a state is that of its seat
-pub leaf-of : (g : Grammar) (k : BarInput) (plan : Plan) (rows : Rows) (number seat place : ℕ) (y : State) → AreKnown g k plan rows → HasState rows number seat place → y ≡ get_or rows.states.items number y
-    → (s : Seat) → slice_get plan.seats.items seat ≡ Some s → IsLeafAt g k place s.width y.leaf
-leaf-of g k plan rows number seat place y known h e s at =
+pub leaf-of : (bar : Search) (rows : Rows) (number seat place : ℕ) (y : State) → AreKnown bar rows → HasState rows number seat place → y ≡ get_or rows.states.items number y
+    → (s : Seat) → slice_get bar.plan.now.seats.items seat ≡ Some s → IsLeafAt bar.grammar.now bar.input.now place s.width y.leaf
+leaf-of bar rows number seat place y known h e s at =
     let one : y ≡ h.0 = e ∙ get_or_from_slice_get rows.states.items number h.0 y h.1 in
-    let x = all-at (IsState g k plan rows.entries.items) rows.states.items number h.0 known h.1 in
-    let there = seat-same plan h.0.seat seat x.seat s h.2 x.at at in
-    subst (λ (y : State). IsLeafAt g k place s.width y.leaf) (sym one)
-    (subst (λ p. IsLeafAt g k p s.width h.0.leaf) h.3 (subst (λ (s : Seat). IsLeafAt g k h.0.place s.width h.0.leaf) there x.leaf))
+    let x = all-at (IsState bar rows.entries.items) rows.states.items number h.0 known h.1 in
+    let there = seat-same bar.plan.now h.0.seat seat x.seat s h.2 x.at at in
+    subst (λ (y : State). IsLeafAt bar.grammar.now bar.input.now place s.width y.leaf) (sym one)
+    (subst (λ p. IsLeafAt bar.grammar.now bar.input.now p s.width h.0.leaf) h.3 (subst (λ (s : Seat). IsLeafAt bar.grammar.now bar.input.now h.0.place s.width h.0.leaf) there x.leaf))

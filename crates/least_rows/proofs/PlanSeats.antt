@@ -16,7 +16,9 @@ use Rattle.grammar_plan.specs.Plans.{HasSeat, HaveSeats, IsCutOf, IsPlan, IsSeat
 use Rattle.grammar_plan.specs.declared.cut.Cut.{Cut}
 use Rattle.grammar_plan.specs.declared.plan.Plan.{Plan}
 use Rattle.grammar_plan.specs.declared.seat.Seat.{Seat}
+use Rattle.least_rows.specs.Places.{IsRoot, IsSeatPlace}
 use Rattle.least_rows.specs.declared.parts.Parts.{Parts}
+use Rattle.least_rows.specs.declared.search.Search.{Search}
 use Rattle.least_rows.specs.Parts.{AreSeatsOf}
 
 -- ---- what stands at a place of a list
@@ -27,6 +29,20 @@ one_at xs n x y h k = let both : Some x ≡ Some y = sym h ∙ k in cc
 
 pub All-at : {X : Type 0} (P : X → Type 0) (xs : List X) (n : ℕ) (x : X) → All P xs → slice_get xs n ≡ Some x → P x
 All-at P xs n x all at = subst P (get_or_from_slice_get xs n x x at) (All-get_or P xs n x (slice_get_within xs n x at) all)
+
+-- the seat at a place is there
+pub place-there : (bar : Search) (seat place : ℕ) → IsSeatPlace bar seat place → seat < length bar.plan.now.seats.items
+place-there bar seat place h = slice_get_within bar.plan.now.seats.items seat h.0 h.1
+
+-- and its interval lies in the bar
+pub place-within : (bar : Search) (seat place : ℕ) → IsSeatPlace bar seat place → (s : Seat) → slice_get bar.plan.now.seats.items seat ≡ Some s → place + s.width ≤ bar.input.now.resolution
+place-within bar seat place h s at = subst (λ (s : Seat). place + s.width ≤ bar.input.now.resolution) (one_at bar.plan.now.seats.items seat h.0 s h.1 at) h.2
+
+-- the root's seat stands at the bar's beginning
+pub root-place : (bar : Search) (seat : ℕ) → IsRoot bar seat → IsSeatPlace bar seat 0
+root-place bar seat h =
+    let wide : h.0.width ≡ bar.input.now.resolution = ap (λ (q : ℕ × ℕ). q.0) h.2 in
+    (h.0, h.1, omega (arith, wide))
 
 pub on_ok : {T E P Q : Type 0} (r : Result T E) → (P → Q) → OnOk r P → OnOk r Q
 on_ok (Ok x) f h = f h

@@ -1,5 +1,5 @@
 -- The rows of a bar's root symbol.
-use Rattle.std.proofs.Common.{◌≡◌, ◌≢◌, ℕ, zero, suc, ◌<◌, ◌+◌, ◌==◌, inl, inr, true, List, [], ◌∷◌, ◌++◌, length, get_or, set, refl, sym, ap, ◌∙◌, subst, arith, append-nil}
+use Rattle.std.proofs.Common.{◌≡◌, ◌≢◌, ℕ, zero, suc, ◌<◌, ◌≤◌, ◌+◌, ◌==◌, inl, inr, Bool, true, false, replicate, List, [], ◌∷◌, ◌++◌, length, get_or, set, refl, sym, ap, ◌∙◌, subst, arith, append-nil}
 use Rattle.std.specs.Prelude.{Option, Some, None, slice_get, if◌then◌else◌}
 use Rattle.std.specs.Ordering.{is_lt}
 use Rattle.std.specs.declared.cmp.Ordering.{Ordering}
@@ -26,7 +26,7 @@ use Rattle.grammar_plan.specs.declared.plan.Plan.{Plan}
 use Rattle.grammar_plan.specs.declared.quiet_tree.QuietTree.{QuietTree}
 use Rattle.bar_trees.specs.BarTrees.{AreBarTrees}
 use Rattle.least_rows.specs.Entries.{IsRowEntry, IsRow}
-use Rattle.least_rows.specs.Roots.{AreRootBests, AreRootKeys, AreRootRows, IsBestIn, IsOnlyTree, IsRootBest, IsRootList, IsRootListAt, only_best, only_key, only_list}
+use Rattle.least_rows.specs.Roots.{AreAskedRows, AreRootBests, AreRootKeys, AreRootRows, IsAskedRow, IsBestIn, IsOnlyTree, IsRootBest, IsRootList, IsRootListAt, only_best, only_key, only_list}
 use Rattle.bar_trees.specs.WrittenLists.{AreListsWritten, IsListAt, IsListOf, list_number}
 use Rattle.bar_trees.specs.declared.trees.BarTrees.{BarTrees}
 use Rattle.least_rows.specs.declared.entry.Entry.{Entry}
@@ -51,19 +51,19 @@ only_rank key = ap (λ (o : Ordering). 0 + (0 + (0 + (0 + ((if is_lt o then 1 el
 
 -- there is no tree, and nothing is written
 pub only-none : (g : Grammar) (k : BarInput) → IsReady g k → (plan : Plan) (quiet : Quiet) (a : ℕ) → IsQuiet quiet (ground_of g k) 0 k.resolution → IsQuietTree g plan quiet (k.resolution, k.symbol) a None → (rules : List ℕ)
-    → IsOnlyTree g k a None rules rules
+    → IsOnlyTree g k a rules rules None
 only-none g k ready plan quiet a calm least rules = (None, only_least g k ready quiet a calm None least, refl, sym (append-nil rules))
 
 -- the tree, where its rule list was written
 pub only-some : (g : Grammar) (k : BarInput) → IsReady g k → (plan : Plan) (quiet : Quiet) (a : ℕ) → IsQuiet quiet (ground_of g k) 0 k.resolution → (t : QuietTree) → IsQuietTree g plan quiet (k.resolution, k.symbol) a (Some t) → (rules later : List ℕ)
-    → ((key : Key) → IsQuietLeast g quiet (k.resolution, k.symbol) a (Some key) → later ≡ rules ++ key.1) → IsOnlyTree g k a (Some (record { cost = t.cost; rank = 0 })) rules later
+    → ((key : Key) → IsQuietLeast g quiet (k.resolution, k.symbol) a (Some key) → later ≡ rules ++ key.1) → IsOnlyTree g k a rules later (Some (record { cost = t.cost; rank = 0 }))
 only-some g k ready plan quiet a calm t (key, least, cost, cheap, made) rules later written = (Some key, only_least g k ready quiet a calm (Some key) least, λ i. Some (record { cost = cost i; rank = 0 }), written key least)
 
 -- the whole row of that tree
 abbrev pub quiet_row : Option Best → List (Option Best)
 quiet_row o = o ∷ None ∷ None ∷ None ∷ None ∷ []
 
-pub only-bests : (g : Grammar) (k : BarInput) (a : ℕ) (best : Option Best) (rules later : List ℕ) → IsOnlyTree g k a best rules later → AreRootBests g k a (best ∷ None ∷ None ∷ None ∷ None ∷ [])
+pub only-bests : (g : Grammar) (k : BarInput) (a : ℕ) (best : Option Best) (rules later : List ℕ) → IsOnlyTree g k a rules later best → AreRootBests g k a (best ∷ None ∷ None ∷ None ∷ None ∷ [])
 only-bests g k a best rules later (o, least, is, grown) = record { keys = only_key o; least = least; each = ap (λ (o : Option Best). o ∷ None ∷ None ∷ None ∷ None ∷ []) (is ∙ ranked_only o) }
   where
     ranked_only : (o : Option Key) → only_best o ≡ ranked (only_key o) o
@@ -138,28 +138,46 @@ root-list-of g k a b n xs low list is a' b' low' is' =
     subst (λ b. IsRootList g k a' b xs) count (subst (λ a. IsRootList g k a b xs) row list)
 
 -- the lists of the row of the only tree: that of the tree, and empty ones
-pub only-list : (g : Grammar) (k : BarInput) (a n : ℕ) (best : Option Best) (rules later : List ℕ) → (h : IsOnlyTree g k a best rules later) → n ≡ list_number a 0 → IsRootListAt g k n (only_list h.0)
+pub only-list : (g : Grammar) (k : BarInput) (a n : ℕ) (best : Option Best) (rules later : List ℕ) → (h : IsOnlyTree g k a rules later best) → n ≡ list_number a 0 → IsRootListAt g k n (only_list h.0)
 only-list g k a n best rules later (o, least, is, grown) here = root-list g k a 0 n (only_key o) (only_list o) (omega arith) least (own o) here
   where
     own : (o : Option Key) → IsListOf o (only_list o)
     own None = tt
     own (Some key) = refl
 
-pub only-empty : (g : Grammar) (k : BarInput) (a b n : ℕ) (best : Option Best) (rules later : List ℕ) → IsOnlyTree g k a best rules later → b < 4 → n ≡ list_number a (suc b) → IsRootListAt g k n []
+pub only-empty : (g : Grammar) (k : BarInput) (a b n : ℕ) (best : Option Best) (rules later : List ℕ) → IsOnlyTree g k a rules later best → b < 4 → n ≡ list_number a (suc b) → IsRootListAt g k n []
 only-empty g k a b n best rules later (o, least, is, grown) low here = root-list g k a (suc b) n (only_key o) [] (omega (arith, low)) least tt here
 
 -- ---- all rows
 
-pub rows-next : (g : Grammar) (k : BarInput) (n : ℕ) (bests : List (List (Option Best))) (best : List (Option Best)) → length bests ≡ 5 → n < 5 → AreRootRows g k n bests → AreRootBests g k n best → AreRootRows g k (n + 1) (set bests n best)
-rows-next g k n bests best long few h here a below = elim (cases_lt a n) [
+pub rows-next : (g : Grammar) (k : BarInput) (asked : List Bool) (n : ℕ) (bests : List (List (Option Best))) (best : List (Option Best)) → length bests ≡ 5 → n < 5 → AreAskedRows g k asked n bests
+    → IsAskedRow g k n (get_or asked n false) best → AreAskedRows g k asked (n + 1) (set bests n best)
+rows-next g k asked n bests best long few h here a below = elim (cases_lt a n) [
   | inl before ↦
       let other : a ≢ n = λ same. let no : ⊥ = omega (arith, same, before) in no in
-      subst (AreRootBests g k a) (sym (get_or-set_other bests n a best [] other)) (h a before)
+      subst (IsAskedRow g k a (get_or asked a false)) (sym (get_or-set_other bests n a best [] other)) (h a before)
   | inr le ↦
       let same : n ≡ a = omega (arith, le, below) in
       let one : get_or (set bests n best) a [] ≡ best = ap (λ a. get_or (set bests n best) a []) (sym same) ∙ get_or-set_same bests n best [] (omega (arith, few, long)) in
-      subst (AreRootBests g k a) (sym one) (subst (λ n. AreRootBests g k n best) same here)
+      subst (IsAskedRow g k a (get_or asked a false)) (sym one) (subst (λ n. IsAskedRow g k n (get_or asked n false) best) same here)
 ]
+
+-- those of the later numbers stay as they are
+pub rest-same : (n : ℕ) (bests : List (List (Option Best))) (best : List (Option Best)) → ((a : ℕ) → n ≤ a → a < 5 → get_or bests a [] ≡ replicate 5 None)
+    → (a : ℕ) → n + 1 ≤ a → a < 5 → get_or (set bests n best) a [] ≡ replicate 5 None
+rest-same n bests best h a above below =
+    let other : a ≢ n = λ same. let no : ⊥ = omega (arith, same, above) in no in
+    let later : n ≤ a = omega (arith, above) in
+    get_or-set_other bests n a best [] other ∙ h a later below
+
+-- all are asked for
+pub all-asked : (g : Grammar) (k : BarInput) (bests : List (List (Option Best))) → AreAskedRows g k (replicate 5 true) 5 bests → AreRootRows g k 5 bests
+all-asked g k bests h zero low = h zero low
+all-asked g k bests h (suc zero) low = h (suc zero) low
+all-asked g k bests h (suc (suc zero)) low = h (suc (suc zero)) low
+all-asked g k bests h (suc (suc (suc zero))) low = h (suc (suc (suc zero))) low
+all-asked g k bests h (suc (suc (suc (suc zero)))) low = h (suc (suc (suc (suc zero)))) low
+all-asked g k bests h (suc (suc (suc (suc (suc a))))) low = absurd (omega arith)
 
 module _ (g : Grammar) (k : BarInput) (bests : List (List (Option Best))) (h : AreRootRows g k 5 bests) where
   row : (a : ℕ) → a < 5 → AreRootBests g k a (get_or bests a [])
@@ -204,7 +222,7 @@ module _ (g : Grammar) (k : BarInput) (bests : List (List (Option Best))) (h : A
 -- ---- the rows of a bar that is quiet as a whole
 
 pub quiet-rows : (g : Grammar) (k : BarInput) (o p q r s : Option Best) (r0 r1 r2 r3 r4 r5 : List ℕ)
-    → IsOnlyTree g k 0 o r0 r1 → IsOnlyTree g k 1 p r1 r2 → IsOnlyTree g k 2 q r2 r3 → IsOnlyTree g k 3 r r3 r4 → IsOnlyTree g k 4 s r4 r5
+    → IsOnlyTree g k 0 r0 r1 o → IsOnlyTree g k 1 r1 r2 p → IsOnlyTree g k 2 r2 r3 q → IsOnlyTree g k 3 r3 r4 r → IsOnlyTree g k 4 r4 r5 s
     → AreRootRows g k 5 (quiet_row o ∷ quiet_row p ∷ quiet_row q ∷ quiet_row r ∷ quiet_row s ∷ [])
 quiet-rows g k o p q r s r0 r1 r2 r3 r4 r5 ho hp hq hr hs zero low = only-bests g k 0 o r0 r1 ho
 quiet-rows g k o p q r s r0 r1 r2 r3 r4 r5 ho hp hq hr hs (suc zero) low = only-bests g k 1 p r1 r2 hp
@@ -217,7 +235,7 @@ quiet-rows g k o p q r s r0 r1 r2 r3 r4 r5 ho hp hq hr hs (suc (suc (suc (suc (s
 abbrev ended : List ℕ → ℕ → ℕ → List ℕ
 ended ends n e = set (set (set (set (set ends n e) (n + 1) e) (n + 2) e) (n + 3) e) (n + 4) e
 
-quiet-ended : (g : Grammar) (k : BarInput) (a n m : ℕ) (best : Option Best) (rules later ends : List ℕ) → a < 5 → n ≡ list_number a 0 → n + 5 ≡ m → IsOnlyTree g k a best rules later
+quiet-ended : (g : Grammar) (k : BarInput) (a n m : ℕ) (best : Option Best) (rules later ends : List ℕ) → a < 5 → n ≡ list_number a 0 → n + 5 ≡ m → IsOnlyTree g k a rules later best
     → AreListsWritten (IsRootListAt g k) rules ends n → AreListsWritten (IsRootListAt g k) later (ended ends n (length later)) m
 quiet-ended g k a n m best rules later ends low here next h written =
     let P = IsRootListAt g k in
@@ -234,7 +252,7 @@ quiet_ends a b c d e =
     a ∷ a ∷ a ∷ a ∷ a ∷ b ∷ b ∷ b ∷ b ∷ b ∷ c ∷ c ∷ c ∷ c ∷ c ∷ d ∷ d ∷ d ∷ d ∷ d ∷ e ∷ e ∷ e ∷ e ∷ e ∷ []
 
 pub quiet-written : (g : Grammar) (k : BarInput) (o p q r s : Option Best) (r1 r2 r3 r4 r5 : List ℕ)
-    → IsOnlyTree g k 0 o [] r1 → IsOnlyTree g k 1 p r1 r2 → IsOnlyTree g k 2 q r2 r3 → IsOnlyTree g k 3 r r3 r4 → IsOnlyTree g k 4 s r4 r5
+    → IsOnlyTree g k 0 [] r1 o → IsOnlyTree g k 1 r1 r2 p → IsOnlyTree g k 2 r2 r3 q → IsOnlyTree g k 3 r3 r4 r → IsOnlyTree g k 4 r4 r5 s
     → AreListsWritten (IsRootListAt g k) r5 (quiet_ends (length r1) (length r2) (length r3) (length r4) (length r5)) 25
 quiet-written g k o p q r s r1 r2 r3 r4 r5 ho hp hq hr hs =
     let w0 = written-none (IsRootListAt g k) [] (quiet_ends 0 0 0 0 0) refl refl in

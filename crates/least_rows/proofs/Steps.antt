@@ -2,17 +2,15 @@
 use Rattle.std.proofs.Common.{inl, inr, ◌≡◌, ℕ, zero, suc, ◌<◌, ◌==◌, Bool, true, false, [], ◌∷◌, refl, sym, ap, ◌∙◌, subst, arith}
 use Rattle.std.specs.Prelude.{Option, Some, None, if◌then◌else◌, slice_get}
 use Rattle.std.proofs.lemmas.Bool.Decides.{nat_tests}
-use Rattle.rhythm_base.specs.BarInput.{BarInput}
-use Rattle.rhythm_base.specs.Grammar.{Grammar}
 use Rattle.tree_laws.specs.Forests.{Ground}
 use Rattle.path_laws.specs.Rows.{AreAlike}
 use Rattle.path_laws.proofs.LeastKeys.{last}
 use Rattle.row_laws.specs.BestRules.{Choice, choice_key}
 use Rattle.row_laws.specs.Rows.{AreLeastRow}
-use Rattle.row_laws.specs.Grounds.{ground_of}
 use Rattle.grammar_plan.specs.Plans.{pair_of}
-use Rattle.grammar_plan.specs.declared.plan.Plan.{Plan}
 use Rattle.grammar_plan.specs.declared.seat.Seat.{Seat}
+use Rattle.least_rows.specs.Searches.{ground_in}
+use Rattle.least_rows.specs.declared.search.Search.{Search}
 use Rattle.least_rows.specs.Steps.{LeadsOver}
 use Rattle.least_rows.specs.declared.lead.Lead.{Lead}
 use Rattle.least_rows.specs.declared.lead.Lead.TheVariants.{Nowhere, One, Several}
@@ -144,8 +142,8 @@ module _ (d : Ground) (p : ℕ) (q : ℕ × ℕ) (ways : ℕ → Option Way) (n 
 
 -- ---- where one way leads
 
-pub lead-over : (g : Grammar) (k : BarInput) (plan : Plan) (seat place : ℕ) (way : Way) (count : ℕ) → count < 5 → (ranks : ℕ → Option Choice)
-    → ((s : Seat) → slice_get plan.seats.items seat ≡ Some s → IsRankedRow (ground_of g k) place (pair_of s) count ranks) → (lead : Lead) → IsLead ranks way count lead → LeadsOver g k plan seat place way count lead
-lead-over g k plan seat place way count low ranks row Nowhere h = λ s at. one-on (ground_of g k) place (pair_of s) way count low ranks (row s at) (λ b. None) h
-lead-over g k plan seat place way count low ranks row (One next to) h = (h.0, λ s at. one-on (ground_of g k) place (pair_of s) way count low ranks (row s at) (one_way next to) h.1)
-lead-over g k plan seat place way count low ranks row Several h = tt
+pub lead-over : (bar : Search) (seat place : ℕ) (way : Way) (count : ℕ) → count < 5 → (ranks : ℕ → Option Choice)
+    → ((s : Seat) → slice_get bar.plan.now.seats.items seat ≡ Some s → IsRankedRow (ground_in bar) place (pair_of s) count ranks) → (lead : Lead) → IsLead ranks way count lead → LeadsOver bar seat place way count lead
+lead-over bar seat place way count low ranks row Nowhere h = λ s at. one-on (ground_in bar) place (pair_of s) way count low ranks (row s at) (λ b. None) h
+lead-over bar seat place way count low ranks row (One next to) h = (h.0, λ s at. one-on (ground_in bar) place (pair_of s) way count low ranks (row s at) (one_way next to) h.1)
+lead-over bar seat place way count low ranks row Several h = tt

@@ -30,6 +30,8 @@ use Rattle.grammar_plan.specs.declared.cut.Cut.{Cut}
 use Rattle.grammar_plan.specs.declared.plan.Plan.{Plan}
 use Rattle.grammar_plan.specs.declared.quiet_tree.QuietTree.{QuietTree}
 use Rattle.grammar_plan.specs.declared.seat.Seat.{Seat}
+use Rattle.least_rows.specs.Searches.{ground_in}
+use Rattle.least_rows.specs.declared.search.Search.{Search}
 use Rattle.least_rows.specs.Entries.{IsRowEntry, IsListMade, IsRow}
 use Rattle.least_rows.specs.declared.entry.Entry.{Entry}
 use Rattle.least_rows.specs.Parts.{ArePartsOf, AreSeatsOf, IsLeg, carried_after}
@@ -236,29 +238,29 @@ module _ (plan : Plan) (x : Parts) (parts : ArePartsOf plan x) (part d : ℕ) (l
       omega (arith, below.1, own, same)
 
 -- the parts of an entry's cut
-module _ (g : Grammar) (k : BarInput) (plan : Plan) (s : Seat) (p a rule way to : ℕ) (list : List ℕ) (c : Cut) (wide : 1 ≤ s.width) (within : p + s.width ≤ k.resolution)
-    (made : IsMadeCut (ground_of g k) plan p (pair_of s) a rule c way to list) where
+module _ (bar : Search) (s : Seat) (p a rule way to : ℕ) (list : List ℕ) (c : Cut) (wide : 1 ≤ s.width) (within : p + s.width ≤ bar.input.now.resolution)
+    (made : IsMadeCut (ground_in bar) bar.plan.now p (pair_of s) a rule c way to list) where
   abbrev all_parts : Parts
   all_parts = record { first = c.first; end = c.end; width = s.width }
 
-  pub cut_parts : ArePartsOf plan (record { first = c.first; end = c.end; width = s.width })
+  pub cut_parts : ArePartsOf bar.plan.now (record { first = c.first; end = c.end; width = s.width })
   cut_parts = record {
     order = made.cut.order;
     within = made.cut.within;
     seats = children made.cut.rule.body s.width;
     are = made.cut.parts;
-    below = cut_below g plan (pair_of s) c wide made.cut;
+    below = cut_below bar.grammar.now bar.plan.now (pair_of s) c wide made.cut;
   }
 
   pub cut_count : c.end - c.first ≡ length (children made.cut.rule.body s.width)
-  cut_count = sym (parts-length plan all_parts (children made.cut.rule.body s.width) made.cut.order made.cut.within made.cut.parts)
+  cut_count = sym (parts-length bar.plan.now all_parts (children made.cut.rule.body s.width) made.cut.order made.cut.within made.cut.parts)
 
-  pub cut_along : IsWayList (ground_of g k) p (children made.cut.rule.body s.width) a (c.end - c.first) way to made.below
-  cut_along = subst (λ n. IsWayList (ground_of g k) p (children made.cut.rule.body s.width) a n way to made.below) (sym cut_count) made.along
+  pub cut_along : IsWayList (ground_in bar) p (children made.cut.rule.body s.width) a (c.end - c.first) way to made.below
+  cut_along = subst (λ n. IsWayList (ground_in bar) p (children made.cut.rule.body s.width) a n way to made.below) (sym cut_count) made.along
 
-  pub cut_leg : IsLeg g k plan (record { first = c.first; end = c.end; width = s.width }) (record { place = p; from = a; way = way; to = to })
+  pub cut_leg : IsLeg bar (record { first = c.first; end = c.end; width = s.width }) (record { place = p; from = a; way = way; to = to })
   cut_leg =
-      let whole : sizes (children made.cut.rule.body s.width) ≡ s.width = cut_whole g plan (pair_of s) c wide made.cut in
+      let whole : sizes (children made.cut.rule.body s.width) ≡ s.width = cut_whole bar.grammar.now bar.plan.now (pair_of s) c wide made.cut in
       record {
         seats = children made.cut.rule.body s.width;
         are = made.cut.parts;

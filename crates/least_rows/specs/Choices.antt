@@ -1,5 +1,5 @@
 -- What the entries of a row may become: the nearest choice for each number of chords carried out.
-use Rattle.std.specs.Prelude.{⊤, ◌≡◌, ◌≢◌, ◌⊎◌, ℕ, suc, ◌+◌, ◌-◌, ◌*◌, ◌/◌, ◌<◌, ◌≤◌, ◌^◌, Bool, true, false, nat_le, if◌then◌else◌, List, [], ◌∷◌, ◌++◌, length, slice_get, slice_index_or, Option, Some, None}
+use Rattle.std.specs.Prelude.{⊤, ◌≡◌, ◌≢◌, ◌⊎◌, ℕ, zero, suc, ◌+◌, ◌-◌, ◌*◌, ◌/◌, ◌<◌, ◌≤◌, ◌^◌, nat_le, nat_lt, max, if◌then◌else◌, List, [], ◌∷◌, ◌++◌, length, slice_get, slice_index_or, slice_set, Option, Some, None}
 use Rattle.rhythm_base.specs.Grammar.{Grammar}
 use Rattle.rhythm_base.specs.Ranked.{Key}
 use Rattle.tree_laws.specs.Forests.{Ground}
@@ -7,9 +7,11 @@ use Rattle.row_laws.specs.BestRules.{AreBestOf, is_nearer}
 use Rattle.row_laws.specs.BestRules as best
 use Rattle.row_laws.specs.LeafRules.{EndsInterval}
 use Rattle.grammar_plan.specs.declared.cut.Cut.{Cut}
+use Rattle.grammar_plan.specs.declared.leaf_rule.LeafRule.{LeafRule}
 use Rattle.grammar_plan.specs.declared.plan.Plan.{Plan}
 use Rattle.grammar_plan.specs.declared.seat.Seat.{Seat}
 use Rattle.least_rows.specs.Entries.{IsListMade}
+use Rattle.least_rows.specs.Ways.{rank_in, way_on}
 use Rattle.least_rows.specs.declared.choice.Choice.{Choice}
 use Rattle.least_rows.specs.declared.entry.Entry.{Entry}
 use Rattle.least_rows.specs.declared.state.RowSpan.{RowSpan}
@@ -34,16 +36,38 @@ abbrev pub topped_choice : Cut → ℕ → Option Way → Option Choice
 topped_choice cut number None = None
 topped_choice cut number (Some w) = Some (record { cost = cut.weight + w.cost; order = cut.rule * 2 ^ 48 + w.order; cut = Some number; way = w.way })
 
--- what is left of the cost of a choice under a cut of this weight, where it is not less; without a choice, more than any way costs
-abbrev pub left_of : Option Choice → ℕ → Option ℕ
-left_of None weight = Some (2 ^ 64 - 1)
-left_of (Some c) weight = if nat_le weight c.cost then Some (c.cost - weight) else None
+-- each choice with the nearest of those that the way gives with the entries of a row after it, under the cut
+abbrev pub OffersEntries : Cut → (number : ℕ) → Way → (count : ℕ) → List Entry → (old new : List (Option Choice)) → Type 0
+OffersEntries cut number way count entries old new =
+    (b : ℕ) → b < 5 → choice_in new b ≡ nearer_choice (choice_in old b) (topped_choice cut number (way_on (Some way) count (rank_in entries 0 b)))
 
--- what the ways over the parts of a cut of this weight may cost at most for the cut to be offered: a limit where no chord is
+-- the choice of a leaf that the rule ends
+abbrev pub choice_of_leaf : LeafRule → (charges : ℕ) → Choice
+choice_of_leaf rule charges = record { cost = rule.weight + charges; order = rule.rule * 2 ^ 48; cut = None; way = 0 }
+
+-- one where the choice comes before each way under the cut that costs as much: its rule is lower
+abbrev pub tie_of : Choice → Cut → ℕ
+tie_of c cut = if nat_lt c.order (cut.rule * 2 ^ 48) then 1 else 0
+
+-- what the ways under the cut may cost at most to come before the choice, where some may; without a choice, more than any way costs
+abbrev pub left_of : Option Choice → Cut → Option ℕ
+left_of None cut = Some (2 ^ 64 - 1)
+left_of (Some c) cut = if nat_le (cut.weight + tie_of c cut) c.cost then Some (c.cost - (cut.weight + tie_of c cut)) else None
+
+abbrev pub greater : Option ℕ → Option ℕ → Option ℕ
+greater None o = o
+greater (Some x) None = Some x
+greater (Some x) (Some y) = Some (max x y)
+
+-- the greatest of these for the first n choices
+abbrev pub left_below : List (Option Choice) → ℕ → Cut → Option ℕ
+left_below choices zero cut = None
+left_below choices (suc n) cut = greater (left_below choices n cut) (left_of (choice_in choices n) cut)
+
+-- what the ways over the parts of a cut may cost at most for the cut to be offered: a limit where fewer than four chords are
 -- carried out of any tree
-abbrev pub limit_below : List (Option Choice) → Bool → ℕ → Option ℕ
-limit_below choices true weight = left_of (choice_in choices 0) weight
-limit_below choices false weight = left_of None weight
+unfoldable pub limit_below : List (Option Choice) → (most : ℕ) → Cut → Option ℕ
+limit_below choices most cut = if nat_lt most 4 then left_below choices (most + 1) cut else Some (2 ^ 64 - 1)
 
 -- the list of the key is made as the choice says
 abbrev pub IsChoiceMade : Ground → Plan → ℕ → ℕ × ℕ → ℕ → ℕ → Option Choice → Option Key → Type 0
@@ -76,6 +100,12 @@ IsEntryOf c to e = (e.to ≡ to) × (e.cost ≡ c.cost) × (e.rule ≡ c.order /
 -- the entry of the choice by which none are carried out, where there is no other
 abbrev pub IsAlone : List (Option Choice) → Entry → Type 0
 IsAlone choices e = (c : Choice) × (choice_in choices 0 ≡ Some c) × IsEntryOf c 0 e × ((b : ℕ) → b < 5 → b ≢ 0 → choice_in choices b ≡ None)
+
+-- the choice of the lowest order is taken out, as an entry, where there is one
+abbrev pub TakesFirst : (old new : List (Option Choice)) → Option Entry → Type 0
+TakesFirst old new None = (new ≡ old) × ((b : ℕ) → b < 5 → choice_in old b ≡ None)
+TakesFirst old new (Some e) =
+    IsFirst old 5 (Some e.to) × ((c : Choice) → choice_in old e.to ≡ Some c → IsEntryOf c e.to e) × (new ≡ slice_set old e.to None)
 
 abbrev pub count_some : List (Option Choice) → ℕ
 count_some [] = 0

@@ -1,5 +1,5 @@
 -- The entries of a row.
-use Rattle.std.specs.Prelude.{◌≡◌, ℕ, ◌<◌, All, List, [], ◌∷◌, length, slice_get, Option, Some, None}
+use Rattle.std.specs.Prelude.{◌≡◌, ℕ, ◌<◌, ◌==◌, All, List, [], ◌∷◌, length, position, slice_get, slice_index_or, Option, Some, None}
 use Rattle.std.specs.declared.cmp.Ordering.TheVariants.{Less}
 use Rattle.rhythm_base.specs.Bodies.{children}
 use Rattle.rhythm_base.specs.Ranked.{Key}
@@ -13,6 +13,7 @@ use Rattle.grammar_plan.specs.Plans.{IsCutOf}
 use Rattle.grammar_plan.specs.declared.cut.Cut.{Cut}
 use Rattle.grammar_plan.specs.declared.plan.Plan.{Plan}
 use Rattle.least_rows.specs.declared.entry.Entry.{Entry}
+use Rattle.least_rows.specs.declared.write.Found.{Found}
 
 -- how a rule list is made: a leaf's rule alone, or a cut's rule and the lists of the least trees of its parts along a way
 abbrev pub IsListMade : Ground → Plan → ℕ → ℕ × ℕ → ℕ → (rule : ℕ) → Option ℕ → (way to : ℕ) → List ℕ → Type 0
@@ -33,3 +34,8 @@ pub record IsRow (d : Ground) (plan : Plan) (p : ℕ) (q : ℕ × ℕ) (a : ℕ)
   pub each : All (IsRowEntry d plan p q a keys) entries
   pub all : (b : ℕ) (k : Key) → b < 5 → keys b ≡ Some k → (i : ℕ) × (e : Entry) × (slice_get entries i ≡ Some e) × (e.to ≡ b)
   pub rise : (i j : ℕ) (e f : Entry) → i < j → slice_get entries i ≡ Some e → slice_get entries j ≡ Some f → lists_cmp (keys e.to) (keys f.to) ≡ Less
+
+-- the first entry of a row for a number carried out, and its place
+abbrev pub IsFoundIn : List Entry → ℕ → Option Found → Type 0
+IsFoundIn row to None = position (λ e. e.to == to) row ≡ None
+IsFoundIn row to (Some x) = (position (λ e. e.to == to) row ≡ Some x.place) × (x.entry ≡ slice_index_or row x.place x.entry)

@@ -1,8 +1,10 @@
 pub mod Choices
 pub mod Entries
 pub mod Ways
+pub mod Memo
 pub mod Parts
 pub mod Places
+pub mod QuietLists
 pub mod QuietTrees
 pub mod Roots
 pub mod Searches

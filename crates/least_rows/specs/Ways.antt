@@ -29,10 +29,21 @@ nearer_way None (Some x) = Some x
 nearer_way (Some y) (Some x) = if is_nearer (x.cost, x.order) (y.cost, y.order) then Some x else Some y
 
 -- one part more, into which so many chords are carried, with the cost and the rank of its entry
+abbrev pub way_then : Way → (count cost rank : ℕ) → Way
+way_then w count cost rank = record { cost = w.cost + cost; order = w.order * 8 + rank; way = w.way * 8 + count }
+
 abbrev pub way_on : Option Way → ℕ → Option Choice → Option Way
 way_on None count r = None
 way_on (Some w) count None = None
-way_on (Some w) count (Some r) = Some (record { cost = w.cost + r.0; order = w.order * 8 + r.1; way = w.way * 8 + count })
+way_on (Some w) count (Some r) = Some (way_then w count r.0 r.1)
+
+-- what a part adds: its entry's cost, and the entry's rank in its row
+abbrev pub IsPartSum : (cost rank : ℕ) → Type 0
+IsPartSum cost rank = (cost ≤ 3000000000) × (rank < 8)
+
+-- each way with the nearest of those that one way gives with a part of these costs and ranks after it
+abbrev pub Joins : Way → (count : ℕ) → (ranks : ℕ → Option Choice) → (old new : ℕ → Option Way) → Type 0
+Joins way count ranks old new = (b : ℕ) → b < 5 → new b ≡ nearer_way (old b) (way_on (Some way) count (ranks b))
 
 -- the nearest of those over the first n counts between
 abbrev pub nearest_below : (ℕ → Option Way) → (ℕ → ℕ → Option Choice) → ℕ → ℕ → Option Way

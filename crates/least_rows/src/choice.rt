@@ -1,33 +1,12 @@
-ghost use Rattle.least_rows.specs.Choices.{
-  IsAlone,
-  IsEntryOf,
-  IsFirst,
-  choice_in,
-  limit_below,
-  nearer_choice,
-  topped_choice,
-};
-ghost use Rattle.least_rows.specs.Ways.{AreEntries, IsSmallWay, rank_in, way_on};
-ghost use Rattle.least_rows.specs.declared.way.Way.{Way};
-ghost use Rattle.least_rows.specs.declared.choice.Choice.{Choice};
+ghost use Rattle.least_rows.specs.Choices.{IsAlone, IsEntryOf, IsFirst, greater, left_below, left_of, limit_below, nearer_choice, topped_choice, OffersEntries, TakesFirst};
+ghost use Rattle.least_rows.specs.Ways.{AreEntries, IsSmallWay};
 ghost use Rattle.row_laws.specs.BestRules.{is_nearer};
-ghost use Rattle.std.specs.Prelude.{
-  ◌≡◌,
-  ◌+◌,
-  ◌<◌,
-  ◌≤◌,
-  ◌^◌,
-  ℕ,
-  IfSome,
-  MatchOption,
-  None,
-  Some,
-  slice_set,
-};
+ghost use Rattle.std.specs.Prelude.{◌≡◌, ◌+◌, ◌<◌, ◌≤◌, ◌^◌, IfSome, Some};
 
 use crate::entry::Entry;
 use crate::way::Way;
 use grammar_plan::Cut;
+use rhythm_base::Carry;
 
 /// What an entry of a row may become.
 #[derive(Clone, Copy)]
@@ -93,13 +72,12 @@ pub fn offer_entries(
     cut: &Cut,
     number: u32,
     way: Way,
-    count: u8,
+    count: Carry,
     entries: &[Entry],
 )
     requires low { IsSmallWay way }
-    requires count { count < 5 }
     requires entries { AreEntries entries.now }
-    ensures { (b : ℕ) → b < 5 → choice_in best.new b ≡ nearer_choice (choice_in best.old b) (topped_choice cut.now number (way_on (Some way) count (rank_in entries.now 0 b))) }
+    ensures { OffersEntries cut.now number way count entries.now best.old best.new }
 {
     let cut = *cut;
     let mut rank = 0u8;
@@ -110,16 +88,58 @@ pub fn offer_entries(
     }
 }
 
-/// What the ways over the parts of a cut of this weight may cost at most for the cut to be offered, where no chord is carried out
-/// of any tree: what is left of the cost of the choice for none, and none where the cut alone costs more. Without such a choice
-/// it is more than any way costs.
+/// What the ways over the parts of a cut may cost at most to come before the choice: what is left of its cost under the weight of
+/// the cut, less one where the choice comes first at equal costs, and none where no way comes before it. Without a choice it is
+/// more than any way costs.
 #[inline(always)]
-pub fn limit_below(best: &Choices, ends: bool, weight: u32) -> Option<u64>
-    ensures { result ≡ limit_below best.now ends weight }
+fn left_of(choice: &Option<Choice>, cut: &Cut) -> Option<u64>
+    ensures { result ≡ left_of choice.now cut.now }
 {
-    match &best[0] {
-        Some(choice) if ends => choice.cost.checked_sub(u64::from(weight)),
-        _ => Some(u64::MAX),
+    let Some(choice) = choice else {
+        return Some(u64::MAX);
+    };
+    let tie = u64::from(choice.order < u64::from(cut.rule) * RULE);
+    choice.cost.checked_sub(u64::from(cut.weight) + tie)
+}
+
+/// The greatest of these for the choices by which up to `most` chords are carried out. Apart, so that the loops in which it is not
+/// called are small.
+#[inline(never)]
+fn left_of_all(best: &Choices, most: u8, cut: &Cut) -> Option<u64>
+    requires { most < 4 }
+    ensures { result ≡ left_below best.now (most + 1) cut.now }
+{
+    let mut limit = None;
+    'tos: for to in 0..most + 1 {
+        limit = greater(limit, left_of(&best[to as usize], cut));
+    }
+    limit
+}
+
+/// The greater of two limits.
+#[inline(always)]
+fn greater(x: Option<u64>, y: Option<u64>) -> Option<u64>
+    ensures { result ≡ greater x y }
+{
+    match (x, y) {
+        (Some(x), Some(y)) => Some(x.max(y)),
+        (None, y) => y,
+        (x, None) => x,
+    }
+}
+
+/// What the ways over the parts of a cut may cost at most for the cut to be offered, where no tree carries more than `most` chords
+/// out; none where no way over them comes before what is there. Where 4 may be carried out it is more than any way costs.
+#[inline(always)]
+pub fn limit_below(best: &Choices, most: u8, cut: &Cut) -> Option<u64>
+    ensures { result ≡ limit_below best.now most cut.now }
+{
+    if most == 0 {
+        left_of(&best[0], cut)
+    } else if most < 4 {
+        left_of_all(best, most, cut)
+    } else {
+        Some(u64::MAX)
     }
 }
 
@@ -180,9 +200,7 @@ pub fn alone(best: &Choices) -> Option<Entry>
 
 /// Takes the choice of the lowest order out, as an entry.
 pub fn take_first(left: &mut Choices) -> Option<Entry>
-    ensures { MatchOption result
-        ((left.new ≡ left.old) × ((b : ℕ) → b < 5 → choice_in left.old b ≡ None))
-        (λ e. IsFirst left.old 5 (Some e.to) × ((c : Choice) → choice_in left.old e.to ≡ Some c → IsEntryOf c e.to e) × (left.new ≡ slice_set left.old e.to None)) }
+    ensures { TakesFirst left.old left.new result }
 {
     let to = first_of(left)?;
     let choice = left[to as usize]?;

@@ -1,12 +1,13 @@
 ghost use Rattle.least_rows.specs.Ways.{AreEntries, IsLead, IsShort, quiet_rank, rank_in};
 ghost use Rattle.least_rows.specs.declared.lead.Lead.TheVariants.{Several};
 ghost use Rattle.grammar_plan.specs.declared.quiet_tree.QuietTree.{QuietTree};
-ghost use Rattle.std.specs.Prelude.{◌≡◌, ◌≢◌, ◌<◌, ◌≤◌, Some};
+ghost use Rattle.std.specs.Prelude.{◌≡◌, ◌≢◌, ◌≤◌, Some};
 
 use crate::entry::Entry;
 use crate::state::RowSpan;
 use crate::way::Way;
 use grammar_plan::QuietTree;
+use rhythm_base::Carry;
 
 /// Where one way leads over the next part of a cut.
 #[derive(Clone, Copy)]
@@ -28,9 +29,8 @@ pub struct RowLead {
 
 /// One way with the entries of a row after it.
 #[inline(always)]
-pub fn lead_by_row(way: Way, count: u8, entries: &[Entry]) -> Lead
+pub fn lead_by_row(way: Way, count: Carry, entries: &[Entry]) -> Lead
     requires short { IsShort way }
-    requires count { count < 5 }
     requires entries { AreEntries entries.now }
     ensures { IsLead (rank_in entries.now 0) way count result }
 {
@@ -43,9 +43,8 @@ pub fn lead_by_row(way: Way, count: u8, entries: &[Entry]) -> Lead
 
 /// One way with the tree over a quiet interval after it.
 #[inline(always)]
-pub fn lead_by_quiet(way: Way, count: u8, tree: Option<QuietTree>) -> Lead
+pub fn lead_by_quiet(way: Way, count: Carry, tree: Option<QuietTree>) -> Lead
     requires short { IsShort way }
-    requires count { count < 5 }
     requires tree { (t : QuietTree) → tree ≡ Some t → t.cost ≤ 3000000000 }
     ensures lead { IsLead (quiet_rank tree) way count result }
     ensures one { result ≢ Several }

@@ -12,6 +12,7 @@ mod leaf_choices;
 mod parts;
 mod quiet_bar;
 mod quiet_lists;
+mod quiet_tree;
 mod quiet_trees;
 mod quiet_ways;
 mod room;

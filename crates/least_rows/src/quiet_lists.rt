@@ -1,13 +1,11 @@
-ghost use Rattle.grammar_plan.specs.Plans.{HasQuietTree, HaveSeats, IsCutOf, IsPlan, between, pair_of};
-ghost use Rattle.grammar_plan.specs.declared.cut.Cut.{Cut};
-ghost use Rattle.grammar_plan.specs.declared.seat.Seat.{Seat};
+ghost use Rattle.grammar_plan.specs.Plans.{HasQuietTree, IsPlan};
 ghost use Rattle.grammar_plan.specs.Drafts.{IsLonger};
-ghost use Rattle.rhythm_base.specs.Ranked.{Key};
-ghost use Rattle.row_laws.specs.QuietTrees.{IsQuietLeast, IsQuietList};
-ghost use Rattle.std.specs.Prelude.{◌≡◌, ◌<◌, ◌++◌, ℕ, List, OnOk, Some, length, slice_get};
+ghost use Rattle.std.specs.Prelude.{◌<◌, OnOk, Some, length};
+ghost use Rattle.least_rows.specs.QuietLists.{IsCutOfSeat, WritesQuiet, WritesQuietCut};
 
+use crate::quiet_tree::least_quiet;
 use grammar_plan::{Plan, QuietTree};
-use rhythm_base::Grammar;
+use rhythm_base::{Carry, Grammar};
 use row_laws::Quiet;
 use std::alloc::{AllocError, Global};
 
@@ -19,17 +17,15 @@ pub fn write_quiet(
     plan: &Plan,
     quiet: Quiet,
     seat: u32,
-    from: u8,
+    from: Carry,
     list: &mut Vec<u16>,
 ) -> Result<(), AllocError>
     requires plan { IsPlan grammar.now plan.now }
     requires seat { seat < length plan.now.seats.items }
-    requires from { from < 5 }
     ensures grows { OnOk result (IsLonger list.old.items list.new.items) }
-    ensures list { OnOk result ((s : Seat) (k : Key) → slice_get plan.now.seats.items seat ≡ Some s → IsQuietLeast grammar.now quiet (pair_of s) from (Some k)
-        → list.new.items ≡ list.old.items ++ k.1) }
+    ensures list { OnOk result (WritesQuiet grammar.now plan.now quiet seat from list.old.items list.new.items) }
 {
-    match plan.quiet_tree(grammar, seat, quiet, from) {
+    match least_quiet(grammar, plan, seat, quiet, from) {
         None => Ok(()),
         Some(tree) => write_tree(grammar, plan, quiet, tree, seat, from, list),
     }
@@ -44,16 +40,14 @@ pub fn write_tree(
     quiet: Quiet,
     tree: QuietTree,
     seat: u32,
-    from: u8,
+    from: Carry,
     list: &mut Vec<u16>,
 ) -> Result<(), AllocError>
     requires plan { IsPlan grammar.now plan.now }
     requires seat { seat < length plan.now.seats.items }
-    requires from { from < 5 }
     requires tree { HasQuietTree grammar.now plan.now seat quiet from (Some tree) }
     ensures grows { OnOk result (IsLonger list.old.items list.new.items) }
-    ensures list { OnOk result ((s : Seat) (k : Key) → slice_get plan.now.seats.items seat ≡ Some s → IsQuietLeast grammar.now quiet (pair_of s) from (Some k)
-        → list.new.items ≡ list.old.items ++ k.1) }
+    ensures list { OnOk result (WritesQuiet grammar.now plan.now quiet seat from list.old.items list.new.items) }
 {
     list.push(tree.rule)?;
     match tree.cut {
@@ -71,18 +65,15 @@ fn write_quiet_parts(
     quiet: Quiet,
     number: u32,
     seat: u32,
-    from: u8,
+    from: Carry,
     list: &mut Vec<u16>,
 ) -> Result<(), AllocError>
     requires plan { IsPlan grammar.now plan.now }
     requires seat { seat < length plan.now.seats.items }
-    requires from { from < 5 }
     requires number { number < length plan.now.cuts.items }
-    requires cut { (s : Seat) (c : Cut) → slice_get plan.now.seats.items seat ≡ Some s → slice_get plan.now.cuts.items number ≡ Some c → IsCutOf grammar.now plan.now (pair_of s) c }
+    requires cut { IsCutOfSeat grammar.now plan.now seat number }
     ensures grows { OnOk result (IsLonger list.old.items list.new.items) }
-    ensures list { OnOk result ((c : Cut) (qs : List (ℕ × ℕ)) (xs : List ℕ) → slice_get plan.now.cuts.items number ≡ Some c
-        → HaveSeats plan.now (between plan.now.parts.items c.first c.end) qs → IsQuietList grammar.now quiet qs from xs
-        → list.new.items ≡ list.old.items ++ xs) }
+    ensures list { OnOk result (WritesQuietCut grammar.now plan.now quiet number from list.old.items list.new.items) }
 {
     let cut = &plan.cuts[number as usize];
     let mut carried = from;
@@ -95,7 +86,7 @@ fn write_quiet_parts(
             carried,
             list,
         )?;
-        carried = 0;
+        carried = Carry::none();
     }
     Ok(())
 }

@@ -1,14 +1,14 @@
 ghost use Rattle.grammar_plan.specs.Plans.{HasSeat, IsPlan};
-ghost use Rattle.least_rows.specs.Roots.{AreRootRows, IsOnlyTree, IsRootListAt};
-ghost use Rattle.bar_trees.specs.WrittenLists.{AreListsWritten};
+ghost use Rattle.least_rows.specs.Roots.{AreRootRows, IsOnlyTree, AreRootLists, IsOnlyEnded};
 ghost use Rattle.row_laws.specs.Grounds.{IsReady, ground_of};
 ghost use Rattle.row_laws.specs.QuietTrees.{IsQuiet};
-ghost use Rattle.std.specs.Prelude.{◌≡◌, ◌<◌, IfOk, length};
+ghost use Rattle.std.specs.Prelude.{◌≡◌, IfOk, length};
 
 use crate::quiet_lists::write_tree;
+use crate::quiet_tree::least_quiet;
 use bar_trees::BarBests;
 use grammar_plan::Plan;
-use rhythm_base::{BarInput, Best, Grammar};
+use rhythm_base::{BarInput, Best, Carry, Grammar};
 use row_laws::Quiet;
 use std::alloc::AllocError;
 
@@ -44,14 +44,14 @@ pub fn quiet_trees(
     requires quiet { IsQuiet quiet (ground_of grammar.now input.now) 0 input.now.resolution }
     ensures long { IfOk result (λ q. length q.bests.rows ≡ 5) }
     ensures rows { IfOk result (λ q. AreRootRows grammar.now input.now 5 q.bests.rows) }
-    ensures written { IfOk result (λ q. AreListsWritten (IsRootListAt grammar.now input.now) rules.new.items q.ends 25) }
+    ensures written { IfOk result (λ q. AreRootLists grammar.now input.now rules.new.items q.ends 25) }
 {
     rules.clear();
-    let a = only_tree(grammar, plan, input, quiet, root, 0, rules)?;
-    let b = only_tree(grammar, plan, input, quiet, root, 1, rules)?;
-    let c = only_tree(grammar, plan, input, quiet, root, 2, rules)?;
-    let d = only_tree(grammar, plan, input, quiet, root, 3, rules)?;
-    let e = only_tree(grammar, plan, input, quiet, root, 4, rules)?;
+    let a = only_tree(grammar, plan, input, quiet, root, Carry::of(0), rules)?;
+    let b = only_tree(grammar, plan, input, quiet, root, Carry::of(1), rules)?;
+    let c = only_tree(grammar, plan, input, quiet, root, Carry::of(2), rules)?;
+    let d = only_tree(grammar, plan, input, quiet, root, Carry::of(3), rules)?;
+    let e = only_tree(grammar, plan, input, quiet, root, Carry::of(4), rules)?;
     let rows = [
         [a.best, None, None, None, None],
         [b.best, None, None, None, None],
@@ -77,16 +77,14 @@ fn only_tree(
     input: &BarInput,
     quiet: Quiet,
     root: u32,
-    from: u8,
+    from: Carry,
     rules: &mut Vec<u16>,
 ) -> Result<OnlyTree, AllocError>
     requires ready { IsReady grammar.now input.now }
     requires plan { IsPlan grammar.now plan.now }
     requires root { HasSeat plan.now root (input.now.resolution, input.now.symbol) }
     requires quiet { IsQuiet quiet (ground_of grammar.now input.now) 0 input.now.resolution }
-    requires from { from < 5 }
-    ensures tree { IfOk result (λ x. IsOnlyTree grammar.now input.now from x.best rules.old.items rules.new.items) }
-    ensures end { IfOk result (λ x. x.end ≡ length rules.new.items) }
+    ensures { IfOk result (IsOnlyEnded grammar.now input.now from rules.old.items rules.new.items) }
 {
     let best = write_only(grammar, plan, input, quiet, root, from, rules)?;
     let end = u16::try_from(rules.len()).ok().ok_or(AllocError)?;
@@ -101,17 +99,16 @@ fn write_only(
     input: &BarInput,
     quiet: Quiet,
     root: u32,
-    from: u8,
+    from: Carry,
     rules: &mut Vec<u16>,
 ) -> Result<Option<Best>, AllocError>
     requires ready { IsReady grammar.now input.now }
     requires plan { IsPlan grammar.now plan.now }
     requires root { HasSeat plan.now root (input.now.resolution, input.now.symbol) }
     requires quiet { IsQuiet quiet (ground_of grammar.now input.now) 0 input.now.resolution }
-    requires from { from < 5 }
-    ensures { IfOk result (λ best. IsOnlyTree grammar.now input.now from best rules.old.items rules.new.items) }
+    ensures { IfOk result (IsOnlyTree grammar.now input.now from rules.old.items rules.new.items) }
 {
-    let Some(tree) = plan.quiet_tree(grammar, root, quiet, from) else {
+    let Some(tree) = least_quiet(grammar, plan, root, quiet, from) else {
         return Ok(None);
     };
     write_tree(grammar, plan, quiet, tree, root, from, rules)?;

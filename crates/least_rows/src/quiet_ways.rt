@@ -1,21 +1,22 @@
-ghost use Rattle.least_rows.specs.Ways.{AreShort, IsShort, nearer_way, quiet_rank, way_in, way_on};
+ghost use Rattle.least_rows.specs.Ways.{AreShort, IsShort, quiet_rank, way_in, Joins};
 ghost use Rattle.grammar_plan.specs.declared.quiet_tree.QuietTree.{QuietTree};
 ghost use Rattle.least_rows.specs.Searches.{IsSearch};
 ghost use Rattle.least_rows.specs.Steps.{AreQuietWays, AreQuietWaysBelow, way_to_none};
-ghost use Rattle.std.specs.Prelude.{◌≡◌, ◌+◌, ◌<◌, ◌≤◌, ℕ, Some, length};
+ghost use Rattle.std.specs.Prelude.{◌≡◌, ◌+◌, ◌<◌, ◌≤◌, Some, length};
 
+use crate::quiet_tree::least_quiet;
 use crate::search::Search;
 use crate::way::{Way, offer_way};
 use grammar_plan::QuietTree;
+use rhythm_base::Carry;
 use row_laws::Quiet;
 
 /// Offers a way with a tree over a quiet interval after it, where there is one.
 #[inline(always)]
-fn offer_rest(best: &mut Option<Way>, way: Way, count: u8, tree: Option<QuietTree>)
+fn offer_rest(best: &mut Option<Way>, way: Way, count: Carry, tree: Option<QuietTree>)
     requires short { IsShort way }
-    requires count { count < 5 }
     requires tree { (t : QuietTree) → tree ≡ Some t → t.cost ≤ 3000000000 }
-    ensures { (b : ℕ) → b < 5 → way_to_none best.new b ≡ nearer_way (way_to_none best.old b) (way_on (Some way) count (quiet_rank tree b)) }
+    ensures { Joins way count (quiet_rank tree) (way_to_none best.old) (way_to_none best.new) }
 {
     if let Some(tree) = tree {
         offer_way(best, way.then(count, tree.cost, 0));
@@ -28,21 +29,20 @@ fn offer_quiet(
     search: &Search<'_>,
     best: &mut Option<Way>,
     ways: &[Option<Way>; 5],
-    count: u8,
+    count: Carry,
     seat: u32,
     quiet: Quiet,
 )
-    requires search { IsSearch search.now.grammar.now search.now.input.now search.now.plan.now search.now.view.now }
+    requires search { IsSearch search.now }
     requires seat { seat < length search.now.plan.now.seats.items }
     requires short { AreShort (way_in ways.now) }
-    requires count { count < 5 }
-    requires below { AreQuietWaysBelow search.now.grammar.now search.now.input.now search.now.plan.now quiet seat (way_in ways.now) count (way_to_none best.old) }
-    ensures { AreQuietWaysBelow search.now.grammar.now search.now.input.now search.now.plan.now quiet seat (way_in ways.now) (count + 1) (way_to_none best.new) }
+    requires below { AreQuietWaysBelow search.now quiet seat ways.now count best.old }
+    ensures { AreQuietWaysBelow search.now quiet seat ways.now (count + 1) best.new }
 {
-    match ways[count as usize] {
+    match ways[count.index()] {
         None => {}
         Some(way) => {
-            let tree = search.plan.quiet_tree(search.grammar, seat, quiet, count);
+            let tree = least_quiet(search.grammar, search.plan, seat, quiet, count);
             offer_rest(best, way, count, tree);
         }
     }
@@ -56,14 +56,14 @@ pub fn rest_of_several(
     seat: u32,
     quiet: Quiet,
 ) -> Option<Way>
-    requires search { IsSearch search.now.grammar.now search.now.input.now search.now.plan.now search.now.view.now }
+    requires search { IsSearch search.now }
     requires seat { seat < length search.now.plan.now.seats.items }
     requires short { AreShort (way_in ways.now) }
-    ensures { AreQuietWays search.now.grammar.now search.now.input.now search.now.plan.now quiet seat (way_in ways.now) (way_to_none result) }
+    ensures { AreQuietWays search.now quiet seat ways.now result }
 {
     let mut best = None;
     'counts: for count in 0..5u8 {
-        offer_quiet(search, &mut best, ways, count, seat, quiet);
+        offer_quiet(search, &mut best, ways, Carry::of(count), seat, quiet);
     }
     best
 }

@@ -1,13 +1,14 @@
 ghost use Rattle.grammar_plan.specs.Plans.{HasSeat, IsPlan};
 ghost use Rattle.bar_trees.specs.BarTrees.{AreBarTrees};
 ghost use Rattle.least_rows.specs.QuietTrees.{bar_trees};
+ghost use Rattle.least_rows.specs.Roots.{AreAskedRows};
 ghost use Rattle.row_laws.specs.Grounds.{IsReady, ground_of};
 ghost use Rattle.row_laws.specs.QuietTrees.{IsQuiet};
 ghost use Rattle.std.specs.Prelude.{◌≡◌, [], IfOk, OnOk};
 
 use crate::quiet_bar::quiet_of;
 use crate::quiet_trees::{QuietTrees, quiet_trees};
-use crate::roots::trees_of;
+use crate::roots::{find_bests, trees_of};
 use crate::rows::Rows;
 use crate::search::Search;
 use crate::texts::Texts;
@@ -103,7 +104,36 @@ impl Room {
     }
 }
 
+impl Room {
+    /// The costs and the ranks of the least trees of a bar that is not quiet as a whole, for the numbers carried in that are asked
+    /// for, and none for the others. No rule list is written: those of the room are no longer of its trees.
+    pub fn search_asked(
+        &mut self,
+        grammar: &Grammar,
+        plan: &Plan,
+        input: &BarInput,
+        root: u32,
+        asked: [bool; 5],
+    ) -> Result<(), AllocError>
+        requires ready { IsReady grammar.now input.now }
+        requires plan { IsPlan grammar.now plan.now }
+        requires root { HasSeat plan.now root (input.now.resolution, input.now.symbol) }
+        ensures { OnOk result (AreAskedRows grammar.now input.now asked 5 self.new.trees.bests.rows) }
+    {
+        self.view.set(grammar, input)?;
+        clear(&mut self.rows, plan)?;
+        let search = Search {
+            grammar,
+            plan,
+            input,
+            view: &self.view,
+        };
+        find_bests(&mut self.rows, &search, root, asked, &mut self.trees.bests)
+    }
+}
+
 /// Forgets all rows, and makes room for those of the plan.
+#[inline(always)]
 fn clear(rows: &mut Rows, plan: &Plan) -> Result<(), AllocError>
     ensures { OnOk result (rows.new.states.items ≡ []) }
 {

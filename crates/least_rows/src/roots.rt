@@ -1,11 +1,11 @@
-ghost use Rattle.grammar_plan.specs.Plans.{HasSeat};
 ghost use Rattle.bar_trees.specs.BarTrees.{AreBarTrees};
-ghost use Rattle.least_rows.specs.Roots.{AreRootBests, AreRootRows, IsBestIn, IsRootBest, IsRootList, IsRootListAt};
+ghost use Rattle.least_rows.specs.Roots.{AreRootBests, AreRootRows, IsBestIn, IsRootBest, HasAskedRows, HasRootLists, WritesRootList, IsRootTree};
 ghost use Rattle.least_rows.specs.Searches.{IsSearch};
 ghost use Rattle.least_rows.specs.States.{AreKnown};
 ghost use Rattle.least_rows.specs.Texts.{AreTexts};
-ghost use Rattle.bar_trees.specs.WrittenLists.{AreListsWritten, list_number};
-ghost use Rattle.std.specs.Prelude.{◌≡◌, ◌<◌, ◌++◌, ℕ, List, IfOk, OnOk, None, length, slice_index_or};
+ghost use Rattle.bar_trees.specs.WrittenLists.{list_number};
+ghost use Rattle.std.specs.Prelude.{◌≡◌, ◌<◌, ℕ, IfOk, OnOk, None, length, slice_index_or};
+ghost use Rattle.least_rows.specs.Places.{IsRoot};
 
 use crate::entry::Entry;
 use crate::rows::Rows;
@@ -14,7 +14,7 @@ use crate::texts::Texts;
 use crate::tree_at::TreeAt;
 use crate::write::{entries_of, place_in, write};
 use bar_trees::{BarBests, BarTrees, WrittenLists};
-use rhythm_base::Best;
+use rhythm_base::{Best, Carry};
 use std::alloc::AllocError;
 
 /// Finds the least trees of a bar, whose root symbol has this seat.
@@ -25,35 +25,42 @@ pub fn trees_of(
     texts: &mut Texts,
     trees: &mut BarTrees,
 ) -> Result<(), AllocError>
-    requires search { IsSearch search.now.grammar.now search.now.input.now search.now.plan.now search.now.view.now }
-    requires root { HasSeat search.now.plan.now root (search.now.input.now.resolution, search.now.input.now.symbol) }
-    requires known { AreKnown search.now.grammar.now search.now.input.now search.now.plan.now rows.old }
+    requires search { IsSearch search.now }
+    requires root { IsRoot search.now root }
+    requires known { AreKnown search.now rows.old }
     ensures { OnOk result (AreBarTrees search.now.grammar.now search.now.input.now trees.new) }
 {
-    trees.bests = BarBests::none();
     trees.lists.clear();
-    find_bests(rows, search, root, &mut trees.bests)?;
+    find_bests(rows, search, root, [true; 5], &mut trees.bests)?;
     texts.clear(rows.entries.len())?;
     write_rows(rows, search, root, &trees.bests, texts, &mut trees.lists)
 }
 
-/// The costs and the ranks of the root's rows.
-fn find_bests(
+/// The costs and the ranks of the root's rows for the numbers carried in that are asked for, and none for the others.
+#[inline(always)]
+pub fn find_bests(
     rows: &mut Rows,
     search: &Search<'_>,
     root: u32,
+    asked: [bool; 5],
     bests: &mut BarBests,
 ) -> Result<(), AllocError>
-    requires search { IsSearch search.now.grammar.now search.now.input.now search.now.plan.now search.now.view.now }
-    requires root { HasSeat search.now.plan.now root (search.now.input.now.resolution, search.now.input.now.symbol) }
-    requires known { AreKnown search.now.grammar.now search.now.input.now search.now.plan.now rows.old }
-    requires long { length bests.old.rows ≡ 5 }
-    ensures known { OnOk result (AreKnown search.now.grammar.now search.now.input.now search.now.plan.now rows.new) }
+    requires search { IsSearch search.now }
+    requires root { IsRoot search.now root }
+    requires known { AreKnown search.now rows.old }
+    ensures known { OnOk result (AreKnown search.now rows.new) }
     ensures long { OnOk result (length bests.new.rows ≡ 5) }
-    ensures bests { OnOk result (AreRootRows search.now.grammar.now search.now.input.now 5 bests.new.rows) }
+    ensures bests { OnOk result (HasAskedRows search.now asked bests.new) }
 {
+    *bests = BarBests {
+        rows: [[None; 5]; 5],
+    };
     'counts: for from in 0..5u8 {
-        let row = root_bests(rows, search, root, from)?;
+        if !asked[from as usize] {
+            continue;
+        }
+        let carried = Carry::of(from);
+        let row = root_bests(rows, search, root, carried)?;
         bests.rows[from as usize] = row;
     }
     Ok(())
@@ -68,14 +75,14 @@ fn write_rows(
     texts: &mut Texts,
     lists: &mut WrittenLists,
 ) -> Result<(), AllocError>
-    requires search { IsSearch search.now.grammar.now search.now.input.now search.now.plan.now search.now.view.now }
-    requires root { HasSeat search.now.plan.now root (search.now.input.now.resolution, search.now.input.now.symbol) }
+    requires search { IsSearch search.now }
+    requires root { IsRoot search.now root }
     requires long { length bests.now.rows ≡ 5 }
     requires bests { AreRootRows search.now.grammar.now search.now.input.now 5 bests.now.rows }
-    requires known { AreKnown search.now.grammar.now search.now.input.now search.now.plan.now rows.old }
-    requires texts { AreTexts search.now.grammar.now search.now.input.now search.now.plan.now lists.old.rules.items texts.old }
-    requires written { AreListsWritten (IsRootListAt search.now.grammar.now search.now.input.now) lists.old.rules.items lists.old.ends 0 }
-    ensures { OnOk result (AreListsWritten (IsRootListAt search.now.grammar.now search.now.input.now) lists.new.rules.items lists.new.ends 25) }
+    requires known { AreKnown search.now rows.old }
+    requires texts { AreTexts search.now lists.old.rules.items texts.old }
+    requires written { HasRootLists search.now lists.old 0 }
+    ensures { OnOk result (HasRootLists search.now lists.new 25) }
 {
     'counts: for from in 0..5u8 {
         let row = bests.rows[from as usize];
@@ -85,17 +92,17 @@ fn write_rows(
 }
 
 /// The costs and the ranks of the root's row for a number carried in.
+#[inline(always)]
 fn root_bests(
     rows: &mut Rows,
     search: &Search<'_>,
     root: u32,
-    from: u8,
+    from: Carry,
 ) -> Result<[Option<Best>; 5], AllocError>
-    requires search { IsSearch search.now.grammar.now search.now.input.now search.now.plan.now search.now.view.now }
-    requires root { HasSeat search.now.plan.now root (search.now.input.now.resolution, search.now.input.now.symbol) }
-    requires from { from < 5 }
-    requires known { AreKnown search.now.grammar.now search.now.input.now search.now.plan.now rows.old }
-    ensures known { OnOk result (AreKnown search.now.grammar.now search.now.input.now search.now.plan.now rows.new) }
+    requires search { IsSearch search.now }
+    requires root { IsRoot search.now root }
+    requires known { AreKnown search.now rows.old }
+    ensures known { OnOk result (AreKnown search.now rows.new) }
     ensures bests { IfOk result (AreRootBests search.now.grammar.now search.now.input.now from) }
 {
     let span = rows.row(search, root, 0, from)?;
@@ -141,16 +148,16 @@ fn write_lists(
     texts: &mut Texts,
     lists: &mut WrittenLists,
 ) -> Result<(), AllocError>
-    requires search { IsSearch search.now.grammar.now search.now.input.now search.now.plan.now search.now.view.now }
-    requires root { HasSeat search.now.plan.now root (search.now.input.now.resolution, search.now.input.now.symbol) }
+    requires search { IsSearch search.now }
+    requires root { IsRoot search.now root }
     requires from { from < 5 }
     requires bests { AreRootBests search.now.grammar.now search.now.input.now from bests.now }
-    requires known { AreKnown search.now.grammar.now search.now.input.now search.now.plan.now rows.old }
-    requires texts { AreTexts search.now.grammar.now search.now.input.now search.now.plan.now lists.old.rules.items texts.old }
-    requires written { AreListsWritten (IsRootListAt search.now.grammar.now search.now.input.now) lists.old.rules.items lists.old.ends (list_number from 0) }
-    ensures texts { OnOk result (AreTexts search.now.grammar.now search.now.input.now search.now.plan.now lists.new.rules.items texts.new) }
-    ensures known { OnOk result (AreKnown search.now.grammar.now search.now.input.now search.now.plan.now rows.new) }
-    ensures written { OnOk result (AreListsWritten (IsRootListAt search.now.grammar.now search.now.input.now) lists.new.rules.items lists.new.ends (list_number from 5)) }
+    requires known { AreKnown search.now rows.old }
+    requires texts { AreTexts search.now lists.old.rules.items texts.old }
+    requires written { HasRootLists search.now lists.old (list_number from 0) }
+    ensures texts { OnOk result (AreTexts search.now lists.new.rules.items texts.new) }
+    ensures known { OnOk result (AreKnown search.now rows.new) }
+    ensures written { OnOk result (HasRootLists search.now lists.new (list_number from 5)) }
 {
     'counts: for to in 0..5u8 {
         let tree = TreeAt {
@@ -181,17 +188,14 @@ fn write_list(
     texts: &mut Texts,
     rules: &mut Vec<u16>,
 ) -> Result<(), AllocError>
-    requires search { IsSearch search.now.grammar.now search.now.input.now search.now.plan.now search.now.view.now }
-    requires root { HasSeat search.now.plan.now tree.seat (search.now.input.now.resolution, search.now.input.now.symbol) }
-    requires place { tree.place ≡ 0 }
-    requires from { tree.from < 5 }
-    requires to { tree.to < 5 }
+    requires search { IsSearch search.now }
+    requires root { IsRootTree search.now tree }
     requires best { IsRootBest search.now.grammar.now search.now.input.now tree.from tree.to best }
-    requires known { AreKnown search.now.grammar.now search.now.input.now search.now.plan.now rows.old }
-    requires texts { AreTexts search.now.grammar.now search.now.input.now search.now.plan.now rules.old.items texts.old }
-    ensures known { OnOk result (AreKnown search.now.grammar.now search.now.input.now search.now.plan.now rows.new) }
-    ensures texts { OnOk result (AreTexts search.now.grammar.now search.now.input.now search.now.plan.now rules.new.items texts.new) }
-    ensures list { OnOk result ((more : List ℕ) × (rules.new.items ≡ rules.old.items ++ more) × IsRootList search.now.grammar.now search.now.input.now tree.from tree.to more) }
+    requires known { AreKnown search.now rows.old }
+    requires texts { AreTexts search.now rules.old.items texts.old }
+    ensures known { OnOk result (AreKnown search.now rows.new) }
+    ensures texts { OnOk result (AreTexts search.now rules.new.items texts.new) }
+    ensures list { OnOk result (WritesRootList search.now tree rules.old.items rules.new.items) }
 {
     let Some(_best) = best else {
         return Ok(());

@@ -1,46 +1,20 @@
-ghost use Rattle.grammar_plan.specs.Plans.{pair_of};
-ghost use Rattle.grammar_plan.specs.declared.seat.Seat.{Seat};
-ghost use Rattle.least_rows.specs.Choices.{RulesBefore};
 ghost use Rattle.least_rows.specs.Ways.{AreShort, IsShort, one_way, way_in};
 ghost use Rattle.least_rows.specs.Places.{IsSeatPlace};
 ghost use Rattle.least_rows.specs.Searches.{IsSearch};
-ghost use Rattle.least_rows.specs.States.{AreKnown, Grows, HasState, IsRowAt};
-ghost use Rattle.least_rows.specs.Steps.{
-  AreChoicesOf,
-  AreWaysOver,
-  EndsThere,
-  IsRowOf,
-  KeepsRow,
-  LeadsOver,
-  way_to_none,
-};
+ghost use Rattle.least_rows.specs.States.{AreKnown, Grows, HasState};
+ghost use Rattle.least_rows.specs.Steps.{AreWaysOver, CarriesAtMost, IsRowOf, KeepsRow, LeadsOver, way_to_none, AreLeafChoices, AreAllChoices};
 ghost use Rattle.least_rows.specs.declared.lead.Lead.TheVariants.{Several};
-ghost use Rattle.least_rows.specs.Tops.{AreWaysTo, IsOffered, IsPassed, IsRowOfPart, IsTop};
+ghost use Rattle.least_rows.specs.Tops.{AreWaysTo, IsOffered, IsRowOfPart, IsTop, AreChoicesBeforeTop, AreChoicesWithTop, IsOfferedWithin};
 ghost use Rattle.grammar_plan.specs.Plans.{between};
-ghost use Rattle.row_laws.specs.LeafRules.{EndsInterval};
-ghost use Rattle.std.specs.Prelude.{
-  ◌≡◌,
-  ◌⊎◌,
-  ◌+◌,
-  ◌<◌,
-  ◌≤◌,
-  ◌^◌,
-  ℕ,
-  true,
-  IfOk,
-  IfSome,
-  None,
-  OnOk,
-  Some,
-  length,
-  slice_get,
-};
+ghost use Rattle.std.specs.Prelude.{◌≡◌, ◌+◌, ◌<◌, ◌≤◌, ◌^◌, ℕ, IfOk, None, OnOk, length, slice_set};
+ghost use Rattle.least_rows.specs.Memo.{slot_at, IsLookedUp, IsInSlot, IsKept, GivesState, GivesRow};
 
 use crate::choice::{Choices, limit_below, offer_entries, offer_way};
 use crate::entry::Entry;
 use crate::fork::{Fork, PartAt};
 use crate::lead::{Lead, RowLead, lead_by_quiet, lead_by_row};
-use crate::leaf_choices::{ends_there, offer_leaf};
+use crate::leaf_choices::{most_out, offer_leaf};
+use crate::quiet_tree::least_quiet;
 use crate::quiet_ways::rest_of_several;
 use crate::search::Search;
 use crate::settled::settle;
@@ -49,7 +23,11 @@ use crate::top::Top;
 use crate::way::Way;
 use crate::ways::join;
 use grammar_plan::{Cut, Plan, Seat};
+use rhythm_base::Carry;
 use std::alloc::{AllocError, Global};
+
+/// A seat with so many cuts has many: there it pays to look at choices for one to three chords carried out, too.
+const MANY_CUTS: u32 = 16;
 
 /// All rows of a bar that were found so far.
 #[derive(Drop)]
@@ -62,14 +40,18 @@ pub struct Rows {
 
 /// Where the state of a seat from a unit on is looked for. It may be past the table's end.
 #[inline(always)]
-fn slot_of(seat: &Seat, place: u16) -> usize {
+fn slot_of(seat: &Seat, place: u16) -> usize
+    ensures { result ≡ slot_at seat.now place }
+{
     let shift = u32::from(place).wrapping_mul(seat.inverse) >> 16;
     seat.base.wrapping_add(shift) as usize
 }
 
 /// Writes the number of a state into the table, where the slot is within.
 #[inline(always)]
-fn write_slot(table: &mut Vec<u32>, slot: usize, number: u32) {
+fn write_slot(table: &mut Vec<u32>, slot: usize, number: u32)
+    ensures { table.new.items ≡ slice_set table.old.items slot number }
+{
     if let Some(cell) = table.get_mut(slot) {
         *cell = number;
     }
@@ -98,7 +80,7 @@ impl Rows {
     /// The number of the state of a seat from a unit on, where the table has it.
     #[inline(always)]
     fn known_state(&self, slot: usize, seat: u32, place: u16) -> Option<usize>
-        ensures { IfSome result (λ n. HasState self.now n seat place) }
+        ensures { IsLookedUp self.now slot seat place result }
     {
         let number = *self.table.get(slot)? as usize;
         let state = self.states.get(number)?;
@@ -118,12 +100,13 @@ impl Rows {
         seat: u32,
         place: u16,
     ) -> Result<usize, AllocError>
-        requires search { IsSearch search.now.grammar.now search.now.input.now search.now.plan.now search.now.view.now }
-        requires place { IsSeatPlace search.now.input.now search.now.plan.now seat place }
-        requires known { AreKnown search.now.grammar.now search.now.input.now search.now.plan.now self.old }
-        ensures known { OnOk result (AreKnown search.now.grammar.now search.now.input.now search.now.plan.now self.new) }
+        requires search { IsSearch search.now }
+        requires place { IsSeatPlace search.now seat place }
+        requires known { AreKnown search.now self.old }
+        ensures known { OnOk result (AreKnown search.now self.new) }
         ensures grows { OnOk result (Grows self.old self.new) }
         ensures state { IfOk result (λ n. HasState self.new n seat place) }
+        ensures slot { IfOk result (IsInSlot self.new slot seat place) }
     {
         let number = u32::try_from(self.states.len()).ok().ok_or(AllocError)?;
         let plan = search.plan;
@@ -142,12 +125,14 @@ impl Rows {
     /// The number of the state of a seat from a unit on.
     #[inline(always)]
     fn state(&mut self, search: &Search<'_>, seat: u32, place: u16) -> Result<usize, AllocError>
-        requires search { IsSearch search.now.grammar.now search.now.input.now search.now.plan.now search.now.view.now }
-        requires place { IsSeatPlace search.now.input.now search.now.plan.now seat place }
-        requires known { AreKnown search.now.grammar.now search.now.input.now search.now.plan.now self.old }
-        ensures known { OnOk result (AreKnown search.now.grammar.now search.now.input.now search.now.plan.now self.new) }
+        requires search { IsSearch search.now }
+        requires place { IsSeatPlace search.now seat place }
+        requires known { AreKnown search.now self.old }
+        ensures known { OnOk result (AreKnown search.now self.new) }
         ensures grows { OnOk result (Grows self.old self.new) }
         ensures state { IfOk result (λ n. HasState self.new n seat place) }
+        ensures slot { IfOk result (IsKept search.now self.new seat place) }
+        ensures memo { GivesState search.now self.old self.new seat place result }
     {
         let plan = search.plan;
         let slot = slot_of(&plan.seats[seat as usize], place);
@@ -161,15 +146,14 @@ impl Rows {
     fn keep_row(
         &mut self,
         number: usize,
-        from: u8,
+        from: Carry,
         best: &mut Choices,
     ) -> Result<RowSpan, AllocError>
         requires number { number < length self.old.states.items }
-        requires from { from < 5 }
         ensures { IfOk result (KeepsRow self.old self.new number from best.old) }
     {
         let span = settle(&mut self.entries, best)?;
-        self.states[number].rows[from as usize] = Some(span);
+        self.states[number].rows[from.count() as usize] = Some(span);
         Ok(span)
     }
 
@@ -181,17 +165,14 @@ impl Rows {
         search: &Search<'_>,
         seat: u32,
         place: u16,
-        from: u8,
+        from: Carry,
     ) -> Result<RowSpan, AllocError>
-        requires search { IsSearch search.now.grammar.now search.now.input.now search.now.plan.now search.now.view.now }
-        requires seat { seat < length search.now.plan.now.seats.items }
-        requires within { (s : Seat) → slice_get search.now.plan.now.seats.items seat ≡ Some s → place + s.width ≤ search.now.input.now.resolution }
-        requires from { from < 5 }
-        requires known { AreKnown search.now.grammar.now search.now.input.now search.now.plan.now self.old }
-        ensures known { OnOk result (AreKnown search.now.grammar.now search.now.input.now search.now.plan.now self.new) }
+        requires search { IsSearch search.now }
+        requires place { IsSeatPlace search.now seat place }
+        requires known { AreKnown search.now self.old }
+        ensures known { OnOk result (AreKnown search.now self.new) }
         ensures grows { OnOk result (Grows self.old self.new) }
-        ensures row { IfOk result (λ span. (s : Seat) → slice_get search.now.plan.now.seats.items seat ≡ Some s
-            → IsRowAt search.now.grammar.now search.now.input.now search.now.plan.now self.new.entries.items place (pair_of s) from span) }
+        ensures row { IfOk result (IsRowOf search.now self.new seat place from) }
     {
         let number = self.state(search, seat, place)?;
         self.row_of(search, number, seat, place, from)
@@ -206,18 +187,18 @@ impl Rows {
         number: usize,
         seat: u32,
         place: u16,
-        from: u8,
+        from: Carry,
     ) -> Result<RowSpan, AllocError>
-        requires search { IsSearch search.now.grammar.now search.now.input.now search.now.plan.now search.now.view.now }
-        requires place { IsSeatPlace search.now.input.now search.now.plan.now seat place }
-        requires from { from < 5 }
-        requires known { AreKnown search.now.grammar.now search.now.input.now search.now.plan.now self.old }
+        requires search { IsSearch search.now }
+        requires place { IsSeatPlace search.now seat place }
+        requires known { AreKnown search.now self.old }
         requires state { HasState self.old number seat place }
-        ensures known { OnOk result (AreKnown search.now.grammar.now search.now.input.now search.now.plan.now self.new) }
+        ensures known { OnOk result (AreKnown search.now self.new) }
         ensures grows { OnOk result (Grows self.old self.new) }
-        ensures row { IfOk result (IsRowOf search.now.grammar.now search.now.input.now search.now.plan.now self.new seat place from) }
+        ensures row { IfOk result (IsRowOf search.now self.new seat place from) }
+        ensures memo { GivesRow self.old self.new number from result }
     {
-        match self.states[number].rows[from as usize] {
+        match self.states[number].rows[from.count() as usize] {
             Some(span) => Ok(span),
             None => {
                 let found = self.find_row(search, number, seat, place, from)?;
@@ -235,28 +216,29 @@ impl Rows {
         number: usize,
         seat: u32,
         place: u16,
-        from: u8,
+        from: Carry,
     ) -> Result<RowSpan, AllocError>
-        requires search { IsSearch search.now.grammar.now search.now.input.now search.now.plan.now search.now.view.now }
-        requires place { IsSeatPlace search.now.input.now search.now.plan.now seat place }
-        requires from { from < 5 }
-        requires known { AreKnown search.now.grammar.now search.now.input.now search.now.plan.now self.old }
+        requires search { IsSearch search.now }
+        requires place { IsSeatPlace search.now seat place }
+        requires known { AreKnown search.now self.old }
         requires state { HasState self.old number seat place }
-        ensures known { OnOk result (AreKnown search.now.grammar.now search.now.input.now search.now.plan.now self.new) }
+        ensures known { OnOk result (AreKnown search.now self.new) }
         ensures grows { OnOk result (Grows self.old self.new) }
-        ensures row { IfOk result (IsRowOf search.now.grammar.now search.now.input.now search.now.plan.now self.new seat place from) }
+        ensures row { IfOk result (IsRowOf search.now self.new seat place from) }
     {
+        let _few = from.count();
         let plan = search.plan;
         let leaf = self.states[number].leaf;
-        let ends = ends_there(leaf);
+        let most = most_out(leaf);
         let mut best = [None; 5];
         offer_leaf(&mut best, search, &plan.seats[seat as usize], leaf, from);
-        self.offer_cuts(search, seat, place, from, ends, &mut best)?;
+        self.offer_cuts(search, seat, place, from, most, &mut best)?;
         let span = self.keep_row(number, from, &mut best)?;
         Ok(span)
     }
 
-    /// Offers the trees with a cut of the seat on top. `ends` tells that no chord is carried out of them.
+    /// Offers the trees with a cut of the seat on top. No more than `most` chords are carried out of them. The three calls come to
+    /// the same: they stand apart so that a loop over few cuts has its number as a constant, and asks nothing at each cut.
     #[cycle(rows)]
     #[inline(always)]
     fn offer_cuts(
@@ -264,21 +246,75 @@ impl Rows {
         search: &Search<'_>,
         seat: u32,
         place: u16,
-        from: u8,
-        ends: bool,
+        from: Carry,
+        most: u8,
         best: &mut Choices,
     ) -> Result<(), AllocError>
-        requires search { IsSearch search.now.grammar.now search.now.input.now search.now.plan.now search.now.view.now }
-        requires place { IsSeatPlace search.now.input.now search.now.plan.now seat place }
-        requires from { from < 5 }
-        requires ends { ends ≡ true → EndsThere search.now.grammar.now search.now.input.now search.now.plan.now seat place }
-        requires known { AreKnown search.now.grammar.now search.now.input.now search.now.plan.now self.old }
-        requires best { AreChoicesOf search.now.grammar.now search.now.input.now search.now.plan.now seat place from (λ s. EndsInterval search.now.grammar.now) best.old }
-        ensures known { OnOk result (AreKnown search.now.grammar.now search.now.input.now search.now.plan.now self.new) }
+        requires search { IsSearch search.now }
+        requires place { IsSeatPlace search.now seat place }
+        requires most { CarriesAtMost search.now seat place most }
+        requires known { AreKnown search.now self.old }
+        requires best { AreLeafChoices search.now seat place from best.old }
+        ensures known { OnOk result (AreKnown search.now self.new) }
         ensures grows { OnOk result (Grows self.old self.new) }
-        ensures best { OnOk result (AreChoicesOf search.now.grammar.now search.now.input.now search.now.plan.now seat place from
-            (λ s. RulesBefore search.now.grammar.now search.now.plan.now s s.end) best.new) }
+        ensures best { OnOk result (AreAllChoices search.now seat place from best.new) }
     {
+        if most == 0 {
+            return self.offer_each(search, seat, place, from, 0, best);
+        }
+        let own = &search.plan.seats[seat as usize];
+        if own.end - own.first < MANY_CUTS {
+            return self.offer_each(search, seat, place, from, 4, best);
+        }
+        self.offer_many(search, seat, place, from, most, best)
+    }
+
+    /// Offers the trees with a cut of a seat on top that has many cuts.
+    #[cycle(rows)]
+    #[inline(never)]
+    fn offer_many(
+        &mut self,
+        search: &Search<'_>,
+        seat: u32,
+        place: u16,
+        from: Carry,
+        most: u8,
+        best: &mut Choices,
+    ) -> Result<(), AllocError>
+        requires search { IsSearch search.now }
+        requires place { IsSeatPlace search.now seat place }
+        requires most { CarriesAtMost search.now seat place most }
+        requires known { AreKnown search.now self.old }
+        requires best { AreLeafChoices search.now seat place from best.old }
+        ensures known { OnOk result (AreKnown search.now self.new) }
+        ensures grows { OnOk result (Grows self.old self.new) }
+        ensures best { OnOk result (AreAllChoices search.now seat place from best.new) }
+    {
+        self.offer_each(search, seat, place, from, most, best)
+    }
+
+    /// Offers the trees with a cut of the seat on top, one cut after the other.
+    #[cycle(rows)]
+    #[inline(always)]
+    fn offer_each(
+        &mut self,
+        search: &Search<'_>,
+        seat: u32,
+        place: u16,
+        from: Carry,
+        most: u8,
+        best: &mut Choices,
+    ) -> Result<(), AllocError>
+        requires search { IsSearch search.now }
+        requires place { IsSeatPlace search.now seat place }
+        requires most { CarriesAtMost search.now seat place most }
+        requires known { AreKnown search.now self.old }
+        requires best { AreLeafChoices search.now seat place from best.old }
+        ensures known { OnOk result (AreKnown search.now self.new) }
+        ensures grows { OnOk result (Grows self.old self.new) }
+        ensures best { OnOk result (AreAllChoices search.now seat place from best.new) }
+    {
+        let _few = from.count();
         let plan = search.plan;
         let first = plan.seats[seat as usize].first;
         let end = plan.seats[seat as usize].end;
@@ -290,7 +326,7 @@ impl Rows {
                 number,
             };
             let cut = &plan.cuts[number as usize];
-            self.offer_cut(search, top, cut, ends, best)?;
+            self.offer_cut(search, top, cut, most, best)?;
         }
         Ok(())
     }
@@ -304,21 +340,19 @@ impl Rows {
         search: &Search<'_>,
         top: Top,
         cut: &Cut,
-        ends: bool,
+        most: u8,
         best: &mut Choices,
     ) -> Result<(), AllocError>
-        requires search { IsSearch search.now.grammar.now search.now.input.now search.now.plan.now search.now.view.now }
-        requires top { IsTop search.now.grammar.now search.now.input.now search.now.plan.now top cut.now }
-        requires ends { ends ≡ true → EndsThere search.now.grammar.now search.now.input.now search.now.plan.now top.seat top.place }
-        requires known { AreKnown search.now.grammar.now search.now.input.now search.now.plan.now self.old }
-        requires best { AreChoicesOf search.now.grammar.now search.now.input.now search.now.plan.now top.seat top.place top.from
-            (λ s. RulesBefore search.now.grammar.now search.now.plan.now s top.number) best.old }
-        ensures known { OnOk result (AreKnown search.now.grammar.now search.now.input.now search.now.plan.now self.new) }
+        requires search { IsSearch search.now }
+        requires top { IsTop search.now top cut.now }
+        requires most { CarriesAtMost search.now top.seat top.place most }
+        requires known { AreKnown search.now self.old }
+        requires best { AreChoicesBeforeTop search.now top best.old }
+        ensures known { OnOk result (AreKnown search.now self.new) }
         ensures grows { OnOk result (Grows self.old self.new) }
-        ensures best { OnOk result (AreChoicesOf search.now.grammar.now search.now.input.now search.now.plan.now top.seat top.place top.from
-            (λ s. RulesBefore search.now.grammar.now search.now.plan.now s (top.number + 1)) best.new) }
+        ensures best { OnOk result (AreChoicesWithTop search.now top best.new) }
     {
-        let Some(limit) = limit_below(best, ends, cut.weight) else {
+        let Some(limit) = limit_below(best, most, cut) else {
             return Ok(());
         };
         let way = Way {
@@ -348,16 +382,16 @@ impl Rows {
         limit: u64,
         best: &mut Choices,
     ) -> Result<(), AllocError>
-        requires search { IsSearch search.now.grammar.now search.now.input.now search.now.plan.now search.now.view.now }
-        requires top { IsTop search.now.grammar.now search.now.input.now search.now.plan.now top cut.now }
+        requires search { IsSearch search.now }
+        requires top { IsTop search.now top cut.now }
         requires part { (cut.now.first ≤ start.part) × (start.part ≤ cut.now.end) }
-        requires count { start.count < 5 }
-        requires ways { AreWaysTo search.now.grammar.now search.now.input.now search.now.plan.now top cut.now start.part start.at (one_way start.way start.count) }
-        requires known { AreKnown search.now.grammar.now search.now.input.now search.now.plan.now self.old }
-        ensures known { OnOk result (AreKnown search.now.grammar.now search.now.input.now search.now.plan.now self.new) }
+        requires ways { AreWaysTo search.now top cut.now start.part start.at (one_way start.way start.count) }
+        requires known { AreKnown search.now self.old }
+        ensures known { OnOk result (AreKnown search.now self.new) }
         ensures grows { OnOk result (Grows self.old self.new) }
-        ensures best { OnOk result (IsOffered search.now.grammar.now search.now.input.now search.now.plan.now top cut.now best.old best.new ⊎ IsPassed search.now.grammar.now search.now.input.now search.now.plan.now top cut.now limit best.old best.new) }
+        ensures best { OnOk result (IsOfferedWithin search.now top cut.now limit best.old best.new) }
     {
+        let _few = start.count.count();
         let mut way = start.way;
         let mut count = start.count;
         let mut at = start.at;
@@ -372,7 +406,7 @@ impl Rows {
                 Lead::Nowhere => return Ok(()),
                 Lead::One(next, to) => {
                     way = next;
-                    count = to;
+                    count = Carry::of(to);
                 }
                 Lead::Several => {
                     let fork = Fork {
@@ -388,7 +422,7 @@ impl Rows {
             }
             at += width;
         }
-        offer_way(&mut best[count as usize], way, cut, top.number);
+        offer_way(&mut best[count.count() as usize], way, cut, top.number);
         Ok(())
     }
 
@@ -399,25 +433,25 @@ impl Rows {
         &mut self,
         search: &Search<'_>,
         way: Way,
-        count: u8,
+        count: Carry,
         seat: u32,
         place: u16,
     ) -> Result<RowLead, AllocError>
-        requires search { IsSearch search.now.grammar.now search.now.input.now search.now.plan.now search.now.view.now }
-        requires place { IsSeatPlace search.now.input.now search.now.plan.now seat place }
+        requires search { IsSearch search.now }
+        requires place { IsSeatPlace search.now seat place }
         requires short { IsShort way }
-        requires count { count < 5 }
-        requires known { AreKnown search.now.grammar.now search.now.input.now search.now.plan.now self.old }
-        ensures known { OnOk result (AreKnown search.now.grammar.now search.now.input.now search.now.plan.now self.new) }
+        requires known { AreKnown search.now self.old }
+        ensures known { OnOk result (AreKnown search.now self.new) }
         ensures grows { OnOk result (Grows self.old self.new) }
-        ensures lead { IfOk result (λ l. LeadsOver search.now.grammar.now search.now.input.now search.now.plan.now seat place way count l.lead) }
-        ensures row { IfOk result (λ l. l.lead ≡ Several → IsRowOf search.now.grammar.now search.now.input.now search.now.plan.now self.new seat place count l.row) }
+        ensures lead { IfOk result (λ l. LeadsOver search.now seat place way count l.lead) }
+        ensures row { IfOk result (λ l. l.lead ≡ Several → IsRowOf search.now self.new seat place count l.row) }
     {
+        let _few = count.count();
         let plan = search.plan;
         let width = plan.seats[seat as usize].width;
         match search.view.quiet(search.input, place, width) {
             Some(quiet) => {
-                let tree = plan.quiet_tree(search.grammar, seat, quiet, count);
+                let tree = least_quiet(search.grammar, plan, seat, quiet, count);
                 Ok(RowLead {
                     lead: lead_by_quiet(way, count, tree),
                     row: RowSpan { first: 0, count: 0 },
@@ -445,17 +479,17 @@ impl Rows {
         row: RowSpan,
         best: &mut Choices,
     ) -> Result<(), AllocError>
-        requires search { IsSearch search.now.grammar.now search.now.input.now search.now.plan.now search.now.view.now }
-        requires top { IsTop search.now.grammar.now search.now.input.now search.now.plan.now top cut.now }
+        requires search { IsSearch search.now }
+        requires top { IsTop search.now top cut.now }
         requires part { (cut.now.first ≤ fork.part) × (fork.part < cut.now.end) × (cut.now.end < 2 ^ 32) }
-        requires count { fork.count < 5 }
-        requires ways { AreWaysTo search.now.grammar.now search.now.input.now search.now.plan.now top cut.now fork.part fork.at (one_way fork.way fork.count) }
-        requires row { IsRowOfPart search.now.grammar.now search.now.input.now search.now.plan.now self.old top cut.now fork row }
-        requires known { AreKnown search.now.grammar.now search.now.input.now search.now.plan.now self.old }
-        ensures known { OnOk result (AreKnown search.now.grammar.now search.now.input.now search.now.plan.now self.new) }
+        requires ways { AreWaysTo search.now top cut.now fork.part fork.at (one_way fork.way fork.count) }
+        requires row { IsRowOfPart search.now self.old top cut.now fork row }
+        requires known { AreKnown search.now self.old }
+        ensures known { OnOk result (AreKnown search.now self.new) }
         ensures grows { OnOk result (Grows self.old self.new) }
-        ensures best { OnOk result (IsOffered search.now.grammar.now search.now.input.now search.now.plan.now top cut.now best.old best.new) }
+        ensures best { OnOk result (IsOffered search.now top cut.now best.old best.new) }
     {
+        let _few = fork.count.count();
         let own = search.plan.parts[fork.part as usize];
         let entries = self.entries_of(row);
         let part = fork.part + 1;
@@ -481,14 +515,14 @@ impl Rows {
         ways: &[Option<Way>; 5],
         best: &mut Choices,
     ) -> Result<(), AllocError>
-        requires search { IsSearch search.now.grammar.now search.now.input.now search.now.plan.now search.now.view.now }
-        requires top { IsTop search.now.grammar.now search.now.input.now search.now.plan.now top cut.now }
+        requires search { IsSearch search.now }
+        requires top { IsTop search.now top cut.now }
         requires part { (cut.now.first ≤ next.part) × (next.part < cut.now.end) × (cut.now.end < 2 ^ 32) }
-        requires ways { AreWaysTo search.now.grammar.now search.now.input.now search.now.plan.now top cut.now next.part next.at (way_in ways.now) }
-        requires known { AreKnown search.now.grammar.now search.now.input.now search.now.plan.now self.old }
-        ensures known { OnOk result (AreKnown search.now.grammar.now search.now.input.now search.now.plan.now self.new) }
+        requires ways { AreWaysTo search.now top cut.now next.part next.at (way_in ways.now) }
+        requires known { AreKnown search.now self.old }
+        ensures known { OnOk result (AreKnown search.now self.new) }
         ensures grows { OnOk result (Grows self.old self.new) }
-        ensures best { OnOk result (IsOffered search.now.grammar.now search.now.input.now search.now.plan.now top cut.now best.old best.new) }
+        ensures best { OnOk result (IsOffered search.now top cut.now best.old best.new) }
     {
         let seat = search.plan.parts[next.part as usize];
         let width = search.plan.seats[seat as usize].width;
@@ -520,14 +554,14 @@ impl Rows {
         ways: &[Option<Way>; 5],
         best: &mut Choices,
     ) -> Result<(), AllocError>
-        requires search { IsSearch search.now.grammar.now search.now.input.now search.now.plan.now search.now.view.now }
-        requires top { IsTop search.now.grammar.now search.now.input.now search.now.plan.now top cut.now }
+        requires search { IsSearch search.now }
+        requires top { IsTop search.now top cut.now }
         requires part { (cut.now.first ≤ next.part) × (next.part + 1 < cut.now.end) × (cut.now.end < 2 ^ 32) }
-        requires ways { AreWaysTo search.now.grammar.now search.now.input.now search.now.plan.now top cut.now next.part next.at (way_in ways.now) }
-        requires known { AreKnown search.now.grammar.now search.now.input.now search.now.plan.now self.old }
-        ensures known { OnOk result (AreKnown search.now.grammar.now search.now.input.now search.now.plan.now self.new) }
+        requires ways { AreWaysTo search.now top cut.now next.part next.at (way_in ways.now) }
+        requires known { AreKnown search.now self.old }
+        ensures known { OnOk result (AreKnown search.now self.new) }
         ensures grows { OnOk result (Grows self.old self.new) }
-        ensures best { OnOk result (IsOffered search.now.grammar.now search.now.input.now search.now.plan.now top cut.now best.old best.new) }
+        ensures best { OnOk result (IsOffered search.now top cut.now best.old best.new) }
     {
         let seat = search.plan.parts[next.part as usize];
         let part = next.part + 1;
@@ -549,21 +583,21 @@ impl Rows {
         way: Option<Way>,
         best: &mut Choices,
     ) -> Result<(), AllocError>
-        requires search { IsSearch search.now.grammar.now search.now.input.now search.now.plan.now search.now.view.now }
-        requires top { IsTop search.now.grammar.now search.now.input.now search.now.plan.now top cut.now }
+        requires search { IsSearch search.now }
+        requires top { IsTop search.now top cut.now }
         requires part { (cut.now.first ≤ next.part) × (next.part ≤ cut.now.end) }
-        requires ways { AreWaysTo search.now.grammar.now search.now.input.now search.now.plan.now top cut.now next.part next.at (way_to_none way) }
-        requires known { AreKnown search.now.grammar.now search.now.input.now search.now.plan.now self.old }
-        ensures known { OnOk result (AreKnown search.now.grammar.now search.now.input.now search.now.plan.now self.new) }
+        requires ways { AreWaysTo search.now top cut.now next.part next.at (way_to_none way) }
+        requires known { AreKnown search.now self.old }
+        ensures known { OnOk result (AreKnown search.now self.new) }
         ensures grows { OnOk result (Grows self.old self.new) }
-        ensures best { OnOk result (IsOffered search.now.grammar.now search.now.input.now search.now.plan.now top cut.now best.old best.new) }
+        ensures best { OnOk result (IsOffered search.now top cut.now best.old best.new) }
     {
         let Some(way) = way else {
             return Ok(());
         };
         let start = Fork {
             way,
-            count: 0,
+            count: Carry::none(),
             part: next.part,
             at: next.at,
         };
@@ -582,14 +616,14 @@ impl Rows {
         ways: &[Option<Way>; 5],
         best: &mut Choices,
     ) -> Result<(), AllocError>
-        requires search { IsSearch search.now.grammar.now search.now.input.now search.now.plan.now search.now.view.now }
-        requires top { IsTop search.now.grammar.now search.now.input.now search.now.plan.now top cut.now }
+        requires search { IsSearch search.now }
+        requires top { IsTop search.now top cut.now }
         requires part { (cut.now.first ≤ last.part) × (last.part + 1 ≡ cut.now.end) }
-        requires ways { AreWaysTo search.now.grammar.now search.now.input.now search.now.plan.now top cut.now last.part last.at (way_in ways.now) }
-        requires known { AreKnown search.now.grammar.now search.now.input.now search.now.plan.now self.old }
-        ensures known { OnOk result (AreKnown search.now.grammar.now search.now.input.now search.now.plan.now self.new) }
+        requires ways { AreWaysTo search.now top cut.now last.part last.at (way_in ways.now) }
+        requires known { AreKnown search.now self.old }
+        ensures known { OnOk result (AreKnown search.now self.new) }
         ensures grows { OnOk result (Grows self.old self.new) }
-        ensures best { OnOk result (IsOffered search.now.grammar.now search.now.input.now search.now.plan.now top cut.now best.old best.new) }
+        ensures best { OnOk result (IsOffered search.now top cut.now best.old best.new) }
     {
         let own = search.plan.parts[last.part as usize];
         let number = self.state(search, own, last.at)?;
@@ -597,8 +631,9 @@ impl Rows {
             let Some(way) = ways[count as usize] else {
                 continue;
             };
-            let span = self.row_of(search, number, own, last.at, count)?;
-            offer_entries(best, cut, top.number, way, count, self.entries_of(span));
+            let from = Carry::of(count);
+            let span = self.row_of(search, number, own, last.at, from)?;
+            offer_entries(best, cut, top.number, way, from, self.entries_of(span));
         }
         Ok(())
     }
@@ -614,22 +649,23 @@ impl Rows {
         seat: u32,
         place: u16,
     ) -> Result<(), AllocError>
-        requires search { IsSearch search.now.grammar.now search.now.input.now search.now.plan.now search.now.view.now }
-        requires place { IsSeatPlace search.now.input.now search.now.plan.now seat place }
+        requires search { IsSearch search.now }
+        requires place { IsSeatPlace search.now seat place }
         requires none { (b : ℕ) → b < 5 → way_in next.old b ≡ None }
         requires short { AreShort (way_in ways.now) }
-        requires known { AreKnown search.now.grammar.now search.now.input.now search.now.plan.now self.old }
-        ensures known { OnOk result (AreKnown search.now.grammar.now search.now.input.now search.now.plan.now self.new) }
+        requires known { AreKnown search.now self.old }
+        ensures known { OnOk result (AreKnown search.now self.new) }
         ensures grows { OnOk result (Grows self.old self.new) }
-        ensures ways { OnOk result (AreWaysOver search.now.grammar.now search.now.input.now search.now.plan.now seat place (way_in ways.now) (way_in next.new)) }
+        ensures ways { OnOk result (AreWaysOver search.now seat place (way_in ways.now) (way_in next.new)) }
     {
         let number = self.state(search, seat, place)?;
         'counts: for count in 0..5u8 {
             let Some(way) = ways[count as usize] else {
                 continue;
             };
-            let span = self.row_of(search, number, seat, place, count)?;
-            join(next, way, count, self.entries_of(span));
+            let from = Carry::of(count);
+            let span = self.row_of(search, number, seat, place, from)?;
+            join(next, way, from, self.entries_of(span));
         }
         Ok(())
     }

@@ -1,6 +1,8 @@
-ghost use Rattle.least_rows.specs.Ways.{IsShort, nearer_way};
+ghost use Rattle.least_rows.specs.Ways.{IsShort, nearer_way, way_then, IsPartSum};
 ghost use Rattle.row_laws.specs.BestRules.{is_nearer};
-ghost use Rattle.std.specs.Prelude.{◌≡◌, ◌+◌, ◌*◌, ◌<◌, ◌≤◌, Some};
+ghost use Rattle.std.specs.Prelude.{◌≡◌, Some};
+
+use rhythm_base::Carry;
 
 /// The least way over the first parts of a cut, for one number of chords carried out of them.
 #[derive(Clone, Copy)]
@@ -18,17 +20,15 @@ pub type Ways = [Option<Way>; 5];
 impl Way {
     /// The way with one part more, into which `count` chords are carried, by its entry of this cost and rank.
     #[inline(always)]
-    pub fn then(self, count: u8, cost: u64, rank: u8) -> Way
+    pub fn then(self, count: Carry, cost: u64, rank: u8) -> Way
         requires short { IsShort self }
-        requires count { count < 8 }
-        requires cost { cost ≤ 3000000000 }
-        requires rank { rank < 8 }
-        ensures { result ≡ record { cost = self.cost + cost; order = self.order * 8 + rank; way = self.way * 8 + count } }
+        requires part { IsPartSum cost rank }
+        ensures { result ≡ way_then self count cost rank }
     {
         Way {
             cost: self.cost + cost,
             order: self.order * 8 + u64::from(rank),
-            way: self.way * 8 + u64::from(count),
+            way: self.way * 8 + u64::from(count.count()),
         }
     }
 }

@@ -1,17 +1,11 @@
-ghost use Rattle.grammar_plan.specs.Plans.{between, pair_of};
-ghost use Rattle.grammar_plan.specs.declared.seat.Seat.{Seat};
-ghost use Rattle.least_rows.specs.Parts.{ArePartsOf, AreSeatsOf, IsLeg};
+ghost use Rattle.grammar_plan.specs.Plans.{between};
+ghost use Rattle.least_rows.specs.Parts.{ArePartsOf, IsLeg, WritesParts};
 ghost use Rattle.least_rows.specs.Searches.{IsSearch};
 ghost use Rattle.least_rows.specs.States.{AreKnown};
-ghost use Rattle.least_rows.specs.Texts.{AreTexts};
+ghost use Rattle.least_rows.specs.Texts.{AreTexts, WritesTree, IsTreePlace};
 ghost use Rattle.grammar_plan.specs.Drafts.{IsLonger};
-ghost use Rattle.rhythm_base.specs.Bodies.{sizes};
-ghost use Rattle.rhythm_base.specs.Ranked.{Key};
-ghost use Rattle.tree_laws.specs.Forests.{IsForestKey};
-ghost use Rattle.path_laws.specs.Tables.{IsLeastKey};
-ghost use Rattle.row_laws.specs.Grounds.{ground_of};
-ghost use Rattle.row_laws.specs.Ways.{IsWayList};
-ghost use Rattle.std.specs.Prelude.{◌≡◌, ◌==◌, ◌+◌, ◌-◌, ◌<◌, ◌≤◌, ◌++◌, [], ◌∷◌, ℕ, List, IfOk, MatchOption, OnOk, None, Some, length, position, slice_index_or, slice_get, take};
+ghost use Rattle.std.specs.Prelude.{◌≡◌, ◌==◌, ◌+◌, ◌-◌, ◌≤◌, OnOk, length, position};
+ghost use Rattle.least_rows.specs.Entries.{IsFoundIn};
 
 use crate::entry::Entry;
 use crate::parts::{Leg, Parts};
@@ -21,6 +15,7 @@ use crate::search::Search;
 use crate::state::RowSpan;
 use crate::texts::Texts;
 use crate::tree_at::TreeAt;
+use rhythm_base::Carry;
 use std::alloc::{AllocError, Global};
 
 /// The entries of a row.
@@ -48,7 +43,7 @@ struct Found {
 
 /// The entry of a row for a number carried out.
 fn entry_in(row: &[Entry], to: u8) -> Option<Found>
-    ensures { MatchOption result (position (λ e. e.to == to) row.now ≡ None) (λ x. (position (λ e. e.to == to) row.now ≡ Some x.place) × (x.entry ≡ slice_index_or row.now x.place x.entry)) }
+    ensures { IsFoundIn row.now to result }
 {
     let place = place_in(row, to)?;
     Some(Found {
@@ -66,25 +61,29 @@ pub fn write(
     texts: &mut Texts,
     list: &mut Vec<u16>,
 ) -> Result<(), AllocError>
-    requires search { IsSearch search.now.grammar.now search.now.input.now search.now.plan.now search.now.view.now }
-    requires seat { tree.seat < length search.now.plan.now.seats.items }
-    requires within { (s : Seat) → slice_get search.now.plan.now.seats.items tree.seat ≡ Some s → tree.place + s.width ≤ search.now.input.now.resolution }
-    requires from { tree.from < 5 }
-    requires known { AreKnown search.now.grammar.now search.now.input.now search.now.plan.now rows.old }
-    requires texts { AreTexts search.now.grammar.now search.now.input.now search.now.plan.now list.old.items texts.old }
-    ensures known { OnOk result (AreKnown search.now.grammar.now search.now.input.now search.now.plan.now rows.new) }
-    ensures texts { OnOk result (AreTexts search.now.grammar.now search.now.input.now search.now.plan.now list.new.items texts.new) }
+    requires search { IsSearch search.now }
+    requires tree { IsTreePlace search.now tree }
+    requires known { AreKnown search.now rows.old }
+    requires texts { AreTexts search.now list.old.items texts.old }
+    ensures known { OnOk result (AreKnown search.now rows.new) }
+    ensures texts { OnOk result (AreTexts search.now list.new.items texts.new) }
     ensures grows { OnOk result (IsLonger list.old.items list.new.items) }
-    ensures list { OnOk result ((s : Seat) (k : Key) → slice_get search.now.plan.now.seats.items tree.seat ≡ Some s
-        → IsLeastKey (IsForestKey (ground_of search.now.grammar.now search.now.input.now) None tree.place (pair_of s ∷ []) tree.from tree.to) (Some k)
-        → list.new.items ≡ list.old.items ++ k.1) }
+    ensures list { OnOk result (WritesTree search.now tree list.old.items list.new.items) }
 {
     let plan = search.plan;
     let width = plan.seats[tree.seat as usize].width;
     if let Some(quiet) = search.view.quiet(search.input, tree.place, width) {
-        return write_quiet(search.grammar, plan, quiet, tree.seat, tree.from, list);
+        return write_quiet(
+            search.grammar,
+            plan,
+            quiet,
+            tree.seat,
+            Carry::of(tree.from),
+            list,
+        );
     }
-    let span = rows.row(search, tree.seat, tree.place, tree.from)?;
+    let from = Carry::of(tree.from);
+    let span = rows.row(search, tree.seat, tree.place, from)?;
     let Some(found) = entry_in(entries_of(rows, span), tree.to) else {
         return Ok(());
     };
@@ -127,18 +126,16 @@ fn write_parts(
     texts: &mut Texts,
     list: &mut Vec<u16>,
 ) -> Result<(), AllocError>
-    requires search { IsSearch search.now.grammar.now search.now.input.now search.now.plan.now search.now.view.now }
+    requires search { IsSearch search.now }
     requires parts { ArePartsOf search.now.plan.now parts }
     requires few { parts.end - parts.first ≤ 16 }
-    requires leg { IsLeg search.now.grammar.now search.now.input.now search.now.plan.now parts leg }
-    requires known { AreKnown search.now.grammar.now search.now.input.now search.now.plan.now rows.old }
-    requires texts { AreTexts search.now.grammar.now search.now.input.now search.now.plan.now list.old.items texts.old }
-    ensures known { OnOk result (AreKnown search.now.grammar.now search.now.input.now search.now.plan.now rows.new) }
-    ensures texts { OnOk result (AreTexts search.now.grammar.now search.now.input.now search.now.plan.now list.new.items texts.new) }
+    requires leg { IsLeg search.now parts leg }
+    requires known { AreKnown search.now rows.old }
+    requires texts { AreTexts search.now list.old.items texts.old }
+    ensures known { OnOk result (AreKnown search.now rows.new) }
+    ensures texts { OnOk result (AreTexts search.now list.new.items texts.new) }
     ensures grows { OnOk result (IsLonger list.old.items list.new.items) }
-    ensures list { OnOk result ((qs : List (ℕ × ℕ)) (xs : List ℕ) → AreSeatsOf search.now.plan.now parts qs
-        → IsWayList (ground_of search.now.grammar.now search.now.input.now) leg.place qs leg.from (parts.end - parts.first) leg.way leg.to xs
-        → list.new.items ≡ list.old.items ++ xs) }
+    ensures list { OnOk result (WritesParts search.now parts leg list.old.items list.new.items) }
 {
     let mut place = leg.place;
     let mut from = leg.from;

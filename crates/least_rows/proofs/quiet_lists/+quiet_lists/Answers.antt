@@ -65,7 +65,7 @@ write_quiet_parts-write_quiet-requires t c =
     let plan = c.args.plan.now in
     let own = cut_there g plan c.args.seat c.args.number c.requires.seat c.requires.number c.requires.cut c.index-cut.result.now c.index-cut.ensures in
     let part = quiet_part g plan c.requires.plan c.args.seat own.0 own.1 c.index-cut.result.now own.2 c.parts.part c.index.result.now c.parts.invariant.order c.parts-test.true c.index.ensures in
-    and_then (omega (arith, part.1, c.decreases)) (and_then c.requires.plan (and_then part.0 c.parts.invariant.carried))
+    and_then (omega (arith, part.1, c.decreases)) (and_then c.requires.plan part.0)
 
 pub write_quiet_parts-parts-preserved : goal.write_quiet_parts-parts-preserved
 write_quiet_parts-parts-preserved t c =
@@ -77,7 +77,6 @@ write_quiet_parts-parts-preserved t c =
     let first = c.in_ok-write_quiet.ensures.list in
     record {
       order = omega (arith, low);
-      carried = omega arith;
       grows = longer-later c.args.list.now.items c.parts.list.items c.write_quiet.new.list.items old.grows c.in_ok-write_quiet.ensures.grows;
       rest = λ qs xs seats list.
           let left = old.rest qs xs seats list in
@@ -85,7 +84,7 @@ write_quiet_parts-parts-preserved t c =
           let seat : HasSeat plan c.index.result.now one.0 = subst (λ n. HasSeat plan n one.0) (sym c.index.ensures) one.3 in
           let made : IsQuietList g c.args.quiet (one.0 ∷ one.1) c.parts.carried left.1 = subst (λ qs. IsQuietList g c.args.quiet qs c.parts.carried left.1) one.2 left.3 in
           let here = first seat.0 made.0 seat.1 (subst (λ q. IsQuietLeast g c.args.quiet q c.parts.carried (Some made.0)) (sym seat.2) made.2) in
-          (one.1, made.1, one.4, made.3, ap (λ l. l ++ made.1) here ∙ append_assoc c.parts.list.items made.0.1 made.1 ∙ ap (λ l. c.parts.list.items ++ l) (sym made.4) ∙ left.4);
+          (one.1, made.1, one.4, subst (λ n. IsQuietList g c.args.quiet one.1 n made.1) (sym c.none-carried.ensures) made.3, ap (λ l. l ++ made.1) here ∙ append_assoc c.parts.list.items made.0.1 made.1 ∙ ap (λ l. c.parts.list.items ++ l) (sym made.4) ∙ left.4);
     }
 
 pub write_quiet_parts-returns-clause-list : goal.write_quiet_parts-returns-clause-list

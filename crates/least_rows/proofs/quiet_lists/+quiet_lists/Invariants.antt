@@ -9,7 +9,6 @@ use Rattle.least_rows.proofs.quiet_lists.+quiet_lists.Given as goal
 abbrev pub invariant-write_quiet_parts-parts : goal.invariant-write_quiet_parts-parts
 invariant-write_quiet_parts-parts l = record {
   order : l.initial.part ≤ l.part;
-  carried : l.carried < 5;
   grows : IsLonger l.initial.list.items l.list.items;
   rest : (qs : List (ℕ × ℕ)) (xs : List ℕ) → HaveSeats l.plan (between l.plan.parts.items l.initial.part l.part-end) qs → IsQuietList l.grammar l.quiet qs l.fn.from xs
       → (rs : List (ℕ × ℕ)) × (ys : List ℕ) × HaveSeats l.plan (between l.plan.parts.items l.part l.part-end) rs × IsQuietList l.grammar l.quiet rs l.carried ys × (l.list.items ++ ys ≡ l.initial.list.items ++ xs);

@@ -6,7 +6,7 @@ use Rattle.least_rows.proofs.roots.write_rows.Given as goal
 
 abbrev pub invariant-counts : goal.invariant-counts
 invariant-counts l = record {
-  known : AreKnown l.search.grammar.now l.search.input.now l.search.plan.now l.rows;
-  texts : AreTexts l.search.grammar.now l.search.input.now l.search.plan.now l.lists.rules.items l.texts;
+  known : AreKnown l.search l.rows;
+  texts : AreTexts l.search l.lists.rules.items l.texts;
   written : AreListsWritten (IsRootListAt l.search.grammar.now l.search.input.now) l.lists.rules.items l.lists.ends (list_number l.from 0);
 }

@@ -1,9 +1,8 @@
 use Rattle.std.proofs.Common.{◌≡◌, ◌+◌, ◌-◌, ◌*◌, ◌<◌}
-use Rattle.least_rows.specs.Choices.{RulesBefore}
 use Rattle.least_rows.specs.Ways.{one_way, way_in}
 use Rattle.least_rows.specs.Places.{width_at}
 use Rattle.least_rows.specs.States.{AreKnown, Grows, HasState}
-use Rattle.least_rows.specs.Steps.{AreChoicesOf, AreWaysOverBelow}
+use Rattle.least_rows.specs.Steps.{AreChoicesBefore, AreWaysOverBelow}
 use Rattle.least_rows.specs.Tops.{AreOfferedBelow, AreWaysTo}
 use Rattle.least_rows.proofs.rows.Rows.+rows.Given as goal
 
@@ -14,7 +13,13 @@ abbrev pub decreases-lead : goal.decreases-lead
 decreases-lead l = 64 * width_at l.search.now.plan.now l.seat + 60
 
 abbrev pub decreases-offer_cut : goal.decreases-offer_cut
-decreases-offer_cut l = 64 * width_at l.search.now.plan.now l.top.seat + 55
+decreases-offer_cut l = 64 * width_at l.search.now.plan.now l.top.seat + 53
+
+abbrev pub decreases-offer_each : goal.decreases-offer_each
+decreases-offer_each l = 64 * width_at l.search.now.plan.now l.seat + 54
+
+abbrev pub decreases-offer_many : goal.decreases-offer_many
+decreases-offer_many l = 64 * width_at l.search.now.plan.now l.seat + 55
 
 abbrev pub decreases-offer_cuts : goal.decreases-offer_cuts
 decreases-offer_cuts l = 64 * width_at l.search.now.plan.now l.seat + 56
@@ -46,34 +51,34 @@ decreases-row l = 64 * width_at l.search.now.plan.now l.seat + 59
 abbrev pub decreases-row_of : goal.decreases-row_of
 decreases-row_of l = 64 * width_at l.search.now.plan.now l.seat + 58
 
-abbrev pub invariant-offer_cuts-cuts : goal.invariant-offer_cuts-cuts
-invariant-offer_cuts-cuts l = record {
-  known : AreKnown l.search.grammar.now l.search.input.now l.search.plan.now l.self;
+abbrev pub invariant-offer_each-cuts : goal.invariant-offer_each-cuts
+invariant-offer_each-cuts l = record {
+  known : AreKnown l.search l.self;
   grows : Grows l.initial.self l.self;
-  best : AreChoicesOf l.search.grammar.now l.search.input.now l.search.plan.now l.seat l.place l.from (λ s. RulesBefore l.search.grammar.now l.search.plan.now s l.number) l.best;
+  best : AreChoicesBefore l.search l.seat l.place l.from l.number l.best;
 }
 
 abbrev pub invariant-offer_along-parts : goal.invariant-offer_along-parts
 invariant-offer_along-parts l = record {
-  known : AreKnown l.search.grammar.now l.search.input.now l.search.plan.now l.self;
+  known : AreKnown l.search l.self;
   grows : Grows l.initial.self l.self;
   same : l.best ≡ l.initial.best;
   few : l.count < 5;
-  ways : AreWaysTo l.search.grammar.now l.search.input.now l.search.plan.now l.top l.cut l.part l.at (one_way l.way l.count);
+  ways : AreWaysTo l.search l.top l.cut l.part l.at (one_way l.way l.count);
 }
 
 abbrev pub invariant-offer_several-counts : goal.invariant-offer_several-counts
 invariant-offer_several-counts l = record {
-  known : AreKnown l.search.grammar.now l.search.input.now l.search.plan.now l.self;
+  known : AreKnown l.search l.self;
   grows : Grows l.initial.self l.self;
   state : HasState l.self l.number l.own l.last.at;
-  offered : AreOfferedBelow l.search.grammar.now l.search.input.now l.search.plan.now l.top l.cut l.last.part l.last.at (way_in l.ways) l.count l.initial.best l.best;
+  offered : AreOfferedBelow l.search l.top l.cut l.last.part l.last.at (way_in l.ways) l.count l.initial.best l.best;
 }
 
 abbrev pub invariant-over_rows-counts : goal.invariant-over_rows-counts
 invariant-over_rows-counts l = record {
-  known : AreKnown l.search.grammar.now l.search.input.now l.search.plan.now l.self;
+  known : AreKnown l.search l.self;
   grows : Grows l.initial.self l.self;
   state : HasState l.self l.number l.seat l.place;
-  below : AreWaysOverBelow l.search.grammar.now l.search.input.now l.search.plan.now l.seat l.place (way_in l.ways) l.count (way_in l.next);
+  below : AreWaysOverBelow l.search l.seat l.place (way_in l.ways) l.count (way_in l.next);
 }

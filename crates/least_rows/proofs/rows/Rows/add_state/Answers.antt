@@ -20,16 +20,14 @@ no-rows (suc (suc (suc (suc (suc b))))) span h e = absurd (omega arith)
 
 pub returns-clause-known : goal.returns-clause-known
 returns-clause-known c =
-    let g = c.args.search.now.grammar.now in
-    let k = c.args.search.now.input.now in
-    let plan = c.args.search.now.plan.now in
+    let bar = c.args.search.now in
     let new : Rows = record { table = c.write_slot.new.table; states = c.push.new.self; entries = c.args.self.now.entries } in
     let x : State = record { seat = c.args.seat; place = c.args.place; leaf = c.leaf-leaf.result; rows = None ∷ None ∷ None ∷ None ∷ None ∷ [] } in
     let s : Seat = c.requires.place.0 in
-    let one : c.index.result.now ≡ s = c.index.ensures ∙ get_or_from_slice_get plan.seats.items c.args.seat s c.index.result.now c.requires.place.1 in
-    let leaf : IsLeafAt g k c.args.place s.width c.leaf-leaf.result = subst (λ (s : Seat). IsLeafAt g k c.args.place s.width c.leaf-leaf.result) one c.leaf-leaf.ensures in
-    let own : IsState g k plan c.args.self.now.entries.items x = record { seat = s; at = c.requires.place.1; within = c.requires.place.2; leaf = leaf; rows = λ a span low e. absurd (no-rows a span low e) } in
-    add-known c.args.self.now new x c.in_ok-push.ensures.items refl g k plan c.requires.known own
+    let one : c.index.result.now ≡ s = c.index.ensures ∙ get_or_from_slice_get bar.plan.now.seats.items c.args.seat s c.index.result.now c.requires.place.1 in
+    let leaf : IsLeafAt bar.grammar.now bar.input.now c.args.place s.width c.leaf-leaf.result = subst (λ (s : Seat). IsLeafAt bar.grammar.now bar.input.now c.args.place s.width c.leaf-leaf.result) one c.leaf-leaf.ensures in
+    let own : IsState bar c.args.self.now.entries.items x = record { seat = s; at = c.requires.place.1; within = c.requires.place.2; leaf = leaf; rows = λ a span low e. absurd (no-rows a span low e) } in
+    add-known c.args.self.now new x c.in_ok-push.ensures.items refl bar c.requires.known own
 
 pub returns-clause-grows : goal.returns-clause-grows
 returns-clause-grows c =
