@@ -5,6 +5,7 @@ ghost use Rattle.bar_alternatives.specs.Totals.{totals, totals_offered};
 ghost use Rattle.std.specs.Prelude.{◌≡◌, ◌<◌, ◌^◌, ℕ, IfOk, OnOk, Some};
 
 use best_trees::{Grid, Ranking};
+use rhythm_base::Carry;
 use std::alloc::{AllocError, Global};
 
 /// Offers the trees at their costs together with these two, where both are there.
@@ -47,14 +48,8 @@ pub fn best_totals(
     let mut best = Ranking::none(alloc);
     'pairs: for pair in 0..25 {
         let (from, to) = (pair / 5, pair % 5);
-        offer_totals(
-            alloc,
-            count,
-            before[from],
-            after[to],
-            grid.at(from, to),
-            &mut best,
-        )?;
+        let trees = grid.at(Carry::of(from as u8), Carry::of(to as u8));
+        offer_totals(alloc, count, before[from], after[to], trees, &mut best)?;
     }
     Ok(best)
 }

@@ -10,7 +10,6 @@ use Rattle.bar_pool.specs.Draws.{AreLawful, Draws, HasEachBelow, Seat, drawn_by_
 use Rattle.bar_pool.specs.DrawTable.{IsDrawTable, draws_of, seat_of}
 use Rattle.bar_pool.specs.Workers.{HasShare, IsNumbered, numbers}
 use Rattle.bar_pool.specs.Places.{StandIn}
-use Rattle.bar_pool.specs.Sources.{AreTablesAt, IsTableAt}
 use Rattle.bar_pool.specs.declared.draws.DrawCounts.{DrawCounts}
 use Rattle.bar_pool.specs.declared.draws.SeatView.{SeatView}
 use Rattle.bar_pool.proofs.Counting.{below_one, sum_by-most, times-flat_map}
@@ -18,9 +17,7 @@ use Rattle.bar_pool.proofs.EachLemmas.{Each-from}
 use Rattle.bar_pool.proofs.Placed.{place_of}
 use Rattle.bar_pool.proofs.Lawful.{All-at, together-length}
 use Rattle.bar_pool.proofs.TableKeeps.{seat_at}
-use Rattle.rhythm_base.specs.BarInput.{BarInput}
-use Rattle.rhythm_base.specs.BarTables.{BarTable}
-use Rattle.rhythm_base.specs.Grammar.{Grammar}
+use Rattle.rhythm_base.specs.Lists.{Each}
 
 -- where the sum of shares is that of one seat, the others have none
 none_left : (f : Seat → ℕ) (xs : List Seat) → All (λ s. s.share ≡ 0 → f s ≡ 0) xs → sum_by (λ s. s.share) xs ≡ 0 → sum_by f xs ≡ 0
@@ -79,24 +76,24 @@ module _ (inputs workers : ℕ) (key : DrawCounts) (words slots : List ℕ) (id 
   pub closed_few : length me.0.drawn ≤ inputs
   closed_few = few_drawn inputs workers (draws_of state.words state.views) id (seat_of me.0) lawful (seat_at state.views id me.0 final.1.1)
 
--- the tables in their places
-pub tables_of : (g : Grammar) (inputs : List BarInput) (searched : List ℕ) (numbered : List (ℕ × BarTable)) (tables : List BarTable)
-    → HasEachBelow (length searched) (numbers numbered) → All (IsNumbered g inputs searched) numbered → length tables ≡ length searched → StandIn numbered tables
-    → AreTablesAt g inputs searched tables
-tables_of g inputs searched numbered tables once of size stand = Each-from (IsTableAt g inputs) searched tables size at
+-- the things in their places
+pub things_of : {T : Type 0} (Built : ℕ → T → Type 0) (searched : List ℕ) (numbered : List (ℕ × T)) (things : List T)
+    → HasEachBelow (length searched) (numbers numbered) → All (IsNumbered Built searched) numbered → length things ≡ length searched → StandIn numbered things
+    → Each Built searched things
+things_of {T} Built searched numbered things once of size stand = Each-from Built searched things size at
   where
-    at : (k number : ℕ) (table : BarTable) → slice_get searched k ≡ Some number → slice_get tables k ≡ Some table → IsTableAt g inputs number table
-    at k number table e f =
+    at : (k number : ℕ) (thing : T) → slice_get searched k ≡ Some number → slice_get things k ≡ Some thing → Built number thing
+    at k number thing e f =
         let low = slice_get_within searched k number e in
         let there = place_of numbered k (omega (arith, once k, below_one k (length searched) low)) in
-        let p : ℕ × BarTable = there.1 in
+        let p : ℕ × T = there.1 in
         let same : p.0 ≡ k = there.3 in
-        let stands : slice_get tables p.0 ≡ Some p.1 = stand there.0 p there.2 in
-        let here : slice_get tables k ≡ Some p.1 = subst (λ m. slice_get tables m ≡ Some p.1) same stands in
-        let one : p.1 ≡ table = cc in
-        let is : IsTableAt g inputs number p.1
-        = All-at (IsNumbered g inputs searched) numbered there.0 p of there.2 number (subst (λ m. slice_get searched m ≡ Some number) (sym same) e) in
-        subst (IsTableAt g inputs number) one is
+        let stands : slice_get things p.0 ≡ Some p.1 = stand there.0 p there.2 in
+        let here : slice_get things k ≡ Some p.1 = subst (λ m. slice_get things m ≡ Some p.1) same stands in
+        let one : p.1 ≡ thing = cc in
+        let is : Built number p.1
+        = All-at (IsNumbered Built searched) numbered there.0 p of there.2 number (subst (λ m. slice_get searched m ≡ Some number) (sym same) e) in
+        subst (Built number) one is
 
 -- what two facts of an `Ok` show
 pub with_both : {A E : Type 0} (r : Result A E) (P Q R : A → Type 0) → ((x : A) → P x → Q x → R x) → IfOk r P → IfOk r Q → IfOk r R

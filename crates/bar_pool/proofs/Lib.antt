@@ -4,6 +4,7 @@ pub mod EachLemmas
 pub mod KnownInputs
 pub mod Lawful
 pub mod Numbered
+pub mod Numbers
 pub mod Placed
 pub mod SourceLists
 pub mod Spreading

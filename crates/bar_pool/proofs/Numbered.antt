@@ -1,4 +1,4 @@
--- A seat and its numbered tables after one draw more.
+-- A seat and its numbered things after one draw more.
 use Rattle.std.proofs.Common.{◌≡◌, ℕ, ◌+◌, ◌<◌, nat_lt, Bool, true, false, List, [], ◌∷◌, ◌++◌, length, All, max, refl, sym, ap, ◌∙◌, subst, arith, length-append}
 use Rattle.std.specs.Prelude.{if◌then◌else◌, Some, slice_get, IfOk, IsOk, Result, Ok, Err}
 use Rattle.std.proofs.lemmas.Bool.Decides.{nat_tests}
@@ -7,13 +7,9 @@ use Rattle.std.proofs.lemmas.List.Elements.{All-append, All-push}
 use Rattle.atomic_table.specs.Table.{Me}
 use Rattle.bar_pool.specs.Draws.{seat_after}
 use Rattle.bar_pool.specs.DrawTable.{seat_of, view_of, view_with}
-use Rattle.bar_pool.specs.Sources.{IsTableAt}
 use Rattle.bar_pool.specs.Workers.{AreBuilt, HasShare, IsNumbered, numbers}
 use Rattle.bar_pool.specs.declared.draws.SeatView.{SeatView}
 use Rattle.bar_pool.proofs.Counting.{above, above-push}
-use Rattle.rhythm_base.specs.BarInput.{BarInput}
-use Rattle.rhythm_base.specs.BarTables.{BarTable}
-use Rattle.rhythm_base.specs.Grammar.{Grammar}
 
 -- a number below that of the inputs joins the list
 took : (v : SeatView) (n : ℕ) → n < v.inputs → view_of v (seat_after v.inputs n (seat_of v)) ≡ record v { drawn = v.drawn ++ n ∷ [] }
@@ -50,27 +46,27 @@ module _ (me after : Me ℕ SeatView) (n count : ℕ) (drew : after ≡ (view_of
   numbers_after built more t e h =
       ap (λ l. numbers l) e ∙ map-append (λ p. p.0) built ((n, t) ∷ []) ∙ ap (λ l. l ++ n ∷ []) h ∙ sym drawn_after
 
--- the numbered tables with one more
-pub tables_after : (g : Grammar) (inputs : List BarInput) (searched : List ℕ) (built more : List (ℕ × BarTable)) (n number : ℕ) (t : BarTable) → more ≡ built ++ (n, t) ∷ []
-    → All (IsNumbered g inputs searched) built → slice_get searched n ≡ Some number → IsTableAt g inputs number t → All (IsNumbered g inputs searched) more
-tables_after g inputs searched built more n number t e h at of =
-    let one : IsNumbered g inputs searched (n, t) = λ other f.
+-- the numbered things with one more
+pub things_after : {T : Type 0} (Built : ℕ → T → Type 0) (searched : List ℕ) (built more : List (ℕ × T)) (n number : ℕ) (t : T) → more ≡ built ++ (n, t) ∷ []
+    → All (IsNumbered Built searched) built → slice_get searched n ≡ Some number → Built number t → All (IsNumbered Built searched) more
+things_after Built searched built more n number t e h at of =
+    let one : IsNumbered Built searched (n, t) = λ other f.
     let same : number ≡ other = cc in
-    subst (λ k. IsTableAt g inputs k t) same of in
-    subst (All (IsNumbered g inputs searched)) (sym e) (All-push (IsNumbered g inputs searched) built (n, t) h one)
+    subst (λ k. Built k t) same of in
+    subst (All (IsNumbered Built searched)) (sym e) (All-push (IsNumbered Built searched) built (n, t) h one)
 
 -- what two seats have built, where one takes over the other
-module _ (g : Grammar) (inputs : List BarInput) (searched : List ℕ) (first second after : Me ℕ SeatView) (me : after ≡ (view_with first.0 second.0, [])) where
-  built : (xs ys zs : List (ℕ × BarTable)) → AreBuilt g inputs searched first xs → AreBuilt g inputs searched second ys → zs ≡ xs ++ ys → AreBuilt g inputs searched after zs
+module _ {T : Type 0} (Built : ℕ → T → Type 0) (searched : List ℕ) (first second after : Me ℕ SeatView) (me : after ≡ (view_with first.0 second.0, [])) where
+  built : (xs ys zs : List (ℕ × T)) → AreBuilt Built searched first xs → AreBuilt Built searched second ys → zs ≡ xs ++ ys → AreBuilt Built searched after zs
   built xs ys zs a b e = record {
     past = let same = ap (λ (m : Me ℕ SeatView). m.0.past) me in omega (arith, same, a.past);
     numbers = ap (λ l. numbers l) e ∙ map-append (λ p. p.0) xs ys ∙ ap (λ l. l ++ numbers ys) a.numbers ∙ ap (λ l. first.0.drawn ++ l) b.numbers ∙ sym (ap (λ (m : Me ℕ SeatView). m.0.drawn) me);
-    tables = subst (All (IsNumbered g inputs searched)) (sym e) (All-append (IsNumbered g inputs searched) xs ys a.tables b.tables);
+    things = subst (All (IsNumbered Built searched)) (sym e) (All-append (IsNumbered Built searched) xs ys a.things b.things);
   }
 
-  pub both_built : {V E : Type 0} (items : V → List (ℕ × BarTable)) (r a b : Result V E) → IfOk r (λ v. IfOk a (λ x. IfOk b (λ y. items v ≡ items x ++ items y)))
-      → (IsOk r → IsOk a × IsOk b) → IfOk a (λ x. AreBuilt g inputs searched first (items x)) → IfOk b (λ y. AreBuilt g inputs searched second (items y))
-      → IfOk r (λ v. AreBuilt g inputs searched after (items v))
+  pub both_built : {V E : Type 0} (items : V → List (ℕ × T)) (r a b : Result V E) → IfOk r (λ v. IfOk a (λ x. IfOk b (λ y. items v ≡ items x ++ items y)))
+      → (IsOk r → IsOk a × IsOk b) → IfOk a (λ x. AreBuilt Built searched first (items x)) → IfOk b (λ y. AreBuilt Built searched second (items y))
+      → IfOk r (λ v. AreBuilt Built searched after (items v))
   both_built items (Err e) a b all both one two = tt
   both_built items (Ok v) (Ok x) (Ok y) all both one two = built (items x) (items y) (items v) one two all
   both_built items (Ok v) (Ok x) (Err e) all both one two = let h : false ≡ true = (both refl).1 in absurd (cc)

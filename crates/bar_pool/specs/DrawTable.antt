@@ -15,6 +15,10 @@ seat_of v = record { share = v.share; drawn = v.drawn; past = v.past }
 abbrev pub view_of : SeatView → Seat → SeatView
 view_of v s = record { share = s.share; drawn = s.drawn; past = s.past; inputs = v.inputs; workers = v.workers }
 
+-- the view of a seat that drew the number
+abbrev pub drawn_view : SeatView → ℕ → SeatView
+drawn_view v number = view_of v (seat_after v.inputs number (seat_of v))
+
 -- the draws that the table shows
 abbrev pub draws_of : List ℕ → List SeatView → Draws
 draws_of words views = record { next = slice_index words 0; seats = map seat_of views }
@@ -39,7 +43,7 @@ first_view c = record { share = c.workers; drawn = []; past = 0; inputs = c.inpu
 -- above all that the seat drew
 abbrev pub IsDrawn : {S : Type 0} → Step S → Me S SeatView → ℕ → Me S SeatView → Type 0
 IsDrawn step before number after =
-    (after.0 ≡ view_of before.0 (seat_after before.0.inputs number (seat_of before.0)))
+    (after.0 ≡ drawn_view before.0 number)
     × (after.1 ≡ before.1)
     × All (λ x. x < number) before.0.drawn
 

@@ -1,8 +1,8 @@
 -- When two inputs are equal, as a test, and what of an input is hashed.
-use Rattle.std.specs.Prelude.{Bool, ◌==◌, ◌&&◌, ◌++◌, nat_eq}
+use Rattle.std.specs.Prelude.{ℕ, ◌+◌, ◌*◌, ◌%◌, ◌^◌, Bool, ◌==◌, ◌&&◌, fold, nat_eq}
 use Rattle.std.specs.Cmp.Lexicographic.{pointwise}
 use Rattle.std.specs.Option.{option_eq}
-use Rattle.std.specs.Hash.{HashWrites, slice, u8, u64}
+use Rattle.std.specs.Hash.{HashWrites, u64}
 use Rattle.rhythm_base.specs.BarInput.{BarInput}
 use Rattle.rhythm_base.specs.Shape.{Shape}
 use Rattle.rhythm_base.specs.ShapeCode.{shape_numbers}
@@ -21,10 +21,16 @@ same_input k m =
     && ((k.length == m.length) && ((k.before == m.before)
     && (pointwise same_chord k.chords m.chords && option_eq same_shape k.pin m.pin))))))
 
-abbrev pub chord_writes : Inner → HashWrites
-chord_writes c = u64 c.onset ++ u64 c.end
+-- a number mixed into those before it
+abbrev pub mixed : ℕ → ℕ → ℕ
+mixed sum number = ((sum * 11400714819323198485) % 2 ^ 64 + number) % 2 ^ 64
 
--- all but the units, which one grammar gives to all, and the pin, which few have
+abbrev pub chord_mixed : ℕ → Inner → ℕ
+chord_mixed sum c = mixed (mixed sum c.onset) c.end
+
+-- one number of all but the units, which one grammar gives to all, the signature, which goes with the symbol, and the pin, which few have
+abbrev pub digest : BarInput → ℕ
+digest k = fold chord_mixed (mixed (mixed k.symbol k.length) k.before) k.chords
+
 abbrev pub input_writes : BarInput → HashWrites
-input_writes k =
-    u8 k.symbol ++ (u8 k.num ++ (u8 k.den ++ (u64 k.length ++ (u64 k.before ++ slice chord_writes k.chords))))
+input_writes k = u64 (digest k)

@@ -1,9 +1,11 @@
+pub mod Costs
 pub mod DrawTable
 pub mod Draws
 pub mod Equal
 pub mod EqualLaws
 pub mod Known
 pub mod Laws
+pub mod Orders
 pub mod Places
 pub mod Pool
 pub mod Sources

@@ -1,5 +1,5 @@
 -- Where the tables of inputs come from.
-use Rattle.std.specs.Prelude.{◌≡◌, ◌≢◌, ℕ, ◌+◌, ◌<◌, List, [], ◌∷◌, Option, Some, None, length, slice_get, ◌⊎◌}
+use Rattle.std.specs.Prelude.{◌≡◌, ◌≢◌, ℕ, zero, suc, ◌+◌, ◌<◌, List, [], ◌∷◌, Option, Some, None, length, slice_get, ◌⊎◌}
 use Rattle.bar_pool.specs.Pool.{IsTableOf}
 use Rattle.rhythm_base.specs.BarInput.{BarInput}
 use Rattle.rhythm_base.specs.BarTables.{BarTable}
@@ -21,6 +21,11 @@ IsSource inputs number None =
 pub record AreSources (inputs : List BarInput) (sources : List (Option ℕ)) : Type 0 where
   pub long : length sources ≡ length inputs
   pub each : (number : ℕ) (source : Option ℕ) → slice_get sources number ≡ Some source → IsSource inputs number source
+
+-- so many numbers, from n on
+abbrev pub counted_from : ℕ → ℕ → List ℕ
+counted_from n zero = []
+counted_from n (suc count) = n ∷ counted_from (n + 1) count
 
 -- the numbers, from n on, of the inputs that have no source
 abbrev pub searched_from : ℕ → List (Option ℕ) → List ℕ

@@ -1,3 +1,4 @@
+ghost use Rattle.bar_pool.specs.Equal as equal;
 ghost use Rattle.bar_pool.specs.EqualLaws.{inputs_equiv, writes_alike};
 ghost use Rattle.bar_pool.specs.Equal.{input_writes, same_input, same_shape};
 ghost use Rattle.std.specs.Cmp.{on_equiv, partial_equiv_from_equiv};
@@ -42,18 +43,28 @@ impl<'a> Hash for InputKey<'a> {
     ghost respects_eq = { λ a b same. writes_alike a.input.now b.input.now same };
 
     fn hash<H: Hasher>(&self, state: &mut H) {
-        let input = self.input;
-        state.write_u8(input.start());
-        state.write_u8(input.num());
-        state.write_u8(input.den());
-        state.write_u64(input.length());
-        state.write_u64(input.before());
-        state.write_usize(input.onsets().len());
-        'chords: for chord in input.onsets() {
-            state.write_u64(chord.onset);
-            state.write_u64(chord.end);
-        }
+        state.write_u64(digest(self.input));
     }
+}
+
+/// A number mixed into those before it. The factor is the golden ratio's part of 2 to the power 64.
+fn mixed(sum: u64, number: u64) -> u64
+    ensures { result ≡ equal.mixed sum number }
+{
+    sum.wrapping_mul(0x9e37_79b9_7f4a_7c15).wrapping_add(number)
+}
+
+/// One number of an input, for the hasher, which is then handed no others.
+fn digest(input: &BarInput) -> u64
+    ensures { result ≡ equal.digest input.now }
+{
+    let head = mixed(
+        mixed(u64::from(input.start()), input.length()),
+        input.before(),
+    );
+    input.onsets().iter().fold(head, |sum, chord| {
+        mixed(mixed(sum, chord.onset), chord.end)
+    })
 }
 
 /// Whether both have no pin, or equal ones.

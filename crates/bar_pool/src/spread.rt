@@ -1,7 +1,8 @@
+ghost use Rattle.bar_pool.specs.Orders.{AreFound, others};
 ghost use Rattle.bar_pool.specs.Pool.{AreTablesOf, RisesWithin};
-ghost use Rattle.bar_pool.specs.Sources.{AreSources, AreTablesAt, searched_from};
+ghost use Rattle.bar_pool.specs.Sources.{AreSources};
 ghost use Rattle.rhythm_base.specs.Counter.{risen};
-ghost use Rattle.std.specs.Prelude.{◌≡◌, ◌-◌, ◌<◌, IfOk, OnOk, length};
+ghost use Rattle.std.specs.Prelude.{◌≡◌, IfOk, OnOk};
 
 use crate::order::Order;
 use least_cost::{BarTable, Steps};
@@ -19,10 +20,10 @@ pub fn spread<R: Threads + Sync, G: Gate + Sync, B: Tag>(
     builds: &mut Steps<B>,
 ) -> Result<Vec<BarTable>, AllocError>
     requires sources { AreSources order.now.inputs.now equals.now }
-    requires found { AreTablesAt order.now.grammar.now order.now.inputs.now (searched_from 0 equals.now) found.items }
+    requires found { AreFound order.now equals.now found.items }
     ensures tables { IfOk result (λ v. AreTablesOf order.now.grammar.now order.now.inputs.now v.items) }
-    ensures builds { OnOk result (builds.new ≡ risen builds.old (length order.now.inputs.now - length found.items)) }
-    ensures most { RisesWithin builds.old builds.new (length order.now.inputs.now - length found.items) }
+    ensures builds { OnOk result (builds.new ≡ risen builds.old (others order.now found.items)) }
+    ensures most { RisesWithin builds.old builds.new (others order.now found.items) }
 {
     let mut found = found.into_iter();
     let mut tables: Vec<BarTable> = Vec::with_capacity(means.alloc, equals.len())?;

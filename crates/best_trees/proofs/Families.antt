@@ -6,9 +6,7 @@ use Rattle.std.proofs.Math.ListN.{get_or-append}
 use Rattle.std.proofs.lemmas.List.{length-append}
 use Rattle.std.proofs.lemmas.List.Elements.{All-push}
 use Rattle.std.proofs.lemmas.Option.{get_or_from_slice_get, slice_get-get_or, slice_get_within}
-use Rattle.rhythm_base.specs.BarInput.{BarInput}
 use Rattle.rhythm_base.specs.Bodies.{sizes}
-use Rattle.rhythm_base.specs.Grammar.{Grammar}
 use Rattle.rhythm_base.specs.Ranked.{Key}
 use Rattle.rhythm_base.specs.Shape.{Shape}
 use Rattle.tree_laws.specs.Forests.{AreWide, Ground, IsForestKey, IsGround, one_shape}
@@ -22,14 +20,13 @@ use Rattle.best_trees.specs.declared.memo.LastParts.TheVariants.{One, Several}
 use Rattle.best_trees.specs.declared.memo.Site.{Site}
 use Rattle.best_trees.specs.declared.memo.Site.TheVariants.{From, Wherever}
 use Rattle.best_trees.specs.declared.pins.Demand.{Demand}
-use Rattle.row_laws.specs.Grounds.{ground_of}
+use Rattle.best_trees.specs.declared.search.SearchedBar.{SearchedBar}
 use Rattle.row_laws.specs.QuietTrees.{IsQuiet}
 use Rattle.row_laws.specs.declared.quiet.Quiet.{Quiet}
 use Rattle.row_laws.specs.declared.quiet.Quiet.TheVariants.{Silent, Sounding}
 use Rattle.best_trees.specs.Grids.{ranking_at}
 use Rattle.best_trees.specs.Memos.{AddsFound, AreThere, HasFound, IsGridOf, KeepsFound, LiesAt}
-use Rattle.best_trees.specs.Nodes.{AreBestForests, AreBestLast, AreFound, AreDemanded, IsAnswerAt, IsAnswerOf, IsOf, IsInBar}
-use Rattle.best_trees.specs.Pins.{demanded}
+use Rattle.best_trees.specs.Nodes.{AreBestForests, AreBestLast, AreFound, AreDemanded, IsAnswerAt, IsAnswerOf, IsInBar, IsOf, ground_in, shapes_in}
 use Rattle.best_trees.proofs.Firsts.{first-same}
 
 -- ---- intervals that are answered alike
@@ -53,58 +50,58 @@ module _ (d : Ground) (ground : IsGround d) (s : Option Shape) (n w symbol : ℕ
 
 -- ---- what was found
 
-module _ (g : Grammar) (k : BarInput) (os : List Shape) (ground : IsGround (ground_of g k)) (count : ℕ) where
-  answer-of : (family : Family) (asked : Asked) (grid : List (List Key)) → IsInBar k asked → IsOf g k family asked → AreDemanded g k os count asked grid → IsAnswerOf g k os count family grid
+module _ (bar : SearchedBar) (ground : IsGround (ground_in bar)) where
+  answer-of : (family : Family) (asked : Asked) (grid : List (List Key)) → IsInBar bar.input.now asked → IsOf bar family asked → AreDemanded bar asked grid → IsAnswerOf bar family grid
   answer-of family asked grid within is own p there =
-      let d = ground_of g k in
-      let P : ℕ → ℕ → Demand → Type 0 = λ w s o. AreBestForests d (one_shape (demanded os o)) count p ((w, s) ∷ []) grid in
+      let d = ground_in bar in
+      let P : ℕ → ℕ → Demand → Type 0 = λ w s o. AreBestForests d (one_shape (shapes_in bar o)) bar.count p ((w, s) ∷ []) grid in
       let here : LiesAt d family.site p asked.width = subst (LiesAt d family.site p) is.width there in
-      let best = forests-there d ground (one_shape (demanded os asked.demand)) count asked.width asked.symbol within.wide asked.place p grid family.site is.site here own in
+      let best = forests-there d ground (one_shape (shapes_in bar asked.demand)) bar.count asked.width asked.symbol within.wide asked.place p grid family.site is.site here own in
       subst (P family.width family.symbol) (sym is.demand) (subst (λ s. P family.width s asked.demand) (sym is.symbol) (subst (λ w. P w asked.symbol asked.demand) (sym is.width) best))
 
-  answer-from : (family : Family) (asked : Asked) (grid : List (List Key)) → IsOf g k family asked → IsAnswerOf g k os count family grid → AreDemanded g k os count asked grid
+  answer-from : (family : Family) (asked : Asked) (grid : List (List Key)) → IsOf bar family asked → IsAnswerOf bar family grid → AreDemanded bar asked grid
   answer-from family asked grid is all =
-      let d = ground_of g k in
-      let P : ℕ → ℕ → Demand → Type 0 = λ w s o. AreBestForests d (one_shape (demanded os o)) count asked.place ((w, s) ∷ []) grid in
+      let d = ground_in bar in
+      let P : ℕ → ℕ → Demand → Type 0 = λ w s o. AreBestForests d (one_shape (shapes_in bar o)) bar.count asked.place ((w, s) ∷ []) grid in
       let best = all asked.place (subst (LiesAt d family.site asked.place) (sym is.width) is.site) in
       subst (P asked.width asked.symbol) is.demand (subst (λ s. P asked.width s family.demand) is.symbol (subst (λ w. P w family.symbol family.demand) is.width best))
 
-  pub found-add : (xs ys : List Found) (family : Family) (asked : Asked) (grid : List (List Key)) → IsInBar k asked → IsOf g k family asked → AddsFound xs ys family grid
-      → AreFound g k os count xs → AreDemanded g k os count asked grid → AreFound g k os count ys
+  pub found-add : (xs ys : List Found) (family : Family) (asked : Asked) (grid : List (List Key)) → IsInBar bar.input.now asked → IsOf bar family asked → AddsFound xs ys family grid
+      → AreFound bar xs → AreDemanded bar asked grid → AreFound bar ys
   found-add xs ys family asked grid within is new h own =
       let all = answer-of family asked grid within is own in
-      let P : Found → Type 0 = λ x. IsAnswerOf g k os count x.family x.grid in
-      let Q : Family → Type 0 = λ f. IsAnswerOf g k os count f new.0.grid in
-      let R : List (List Key) → Type 0 = λ t. IsAnswerOf g k os count family t in
+      let P : Found → Type 0 = λ x. IsAnswerOf bar x.family x.grid in
+      let Q : Family → Type 0 = λ f. IsAnswerOf bar f new.0.grid in
+      let R : List (List Key) → Type 0 = λ t. IsAnswerOf bar family t in
       record { each = subst (All P) (sym new.1) (All-push P xs new.0 h.each (subst Q (sym new.2) (subst R (sym new.3) all))) }
 
-  pub found-is : (xs : List Found) (family : Family) (asked : Asked) (n : ℕ) → IsOf g k family asked → AreFound g k os count xs → HasFound xs family n → IsAnswerAt g k os count xs asked n
+  pub found-is : (xs : List Found) (family : Family) (asked : Asked) (n : ℕ) → IsOf bar family asked → AreFound bar xs → HasFound xs family n → IsAnswerAt bar xs asked n
   found-is xs family asked n is h f =
-      let P : Found → Type 0 = λ x. IsAnswerOf g k os count x.family x.grid in
-      let Q : Family → Type 0 = λ a. IsAnswerOf g k os count a f.0.grid in
+      let P : Found → Type 0 = λ x. IsAnswerOf bar x.family x.grid in
+      let Q : Family → Type 0 = λ a. IsAnswerOf bar a f.0.grid in
       let here : P f.0 = subst P (get_or_from_slice_get xs n f.0 f.0 f.1) (h.each n f.0 (slice_get_within xs n f.0 f.1)) in
       (f.0, f.1, answer-from family asked f.0.grid is (subst Q f.2 here))
 
   -- what is kept last has the last number
-  pub found-last : (xs ys : List Found) (family : Family) (asked : Asked) (grid : List (List Key)) (n : ℕ) → AddsFound xs ys family grid → n ≡ length xs → AreDemanded g k os count asked grid
-      → IsAnswerAt g k os count ys asked n
+  pub found-last : (xs ys : List Found) (family : Family) (asked : Asked) (grid : List (List Key)) (n : ℕ) → AddsFound xs ys family grid → n ≡ length xs → AreDemanded bar asked grid
+      → IsAnswerAt bar ys asked n
   found-last xs ys family asked grid n new last own =
       let x : Found = new.0 in
       let at : slice_get ys n ≡ Some x =
       (λ i. slice_get (new.1 i) (last i)) ∙ slice_get-get_or (xs ++ x ∷ []) (length xs) x (longer xs x) ∙ ap (λ (y : Found). Some y) (get_or-append_seam xs x [] x) in
-      (x, at, subst (AreDemanded g k os count asked) (sym new.3) own)
+      (x, at, subst (AreDemanded bar asked) (sym new.3) own)
     where
       longer : (xs : List Found) (x : Found) → length xs < length (xs ++ x ∷ [])
       longer xs x = let long = length-append xs (x ∷ []) in omega (arith, long)
 
 -- ---- the answer of a number
 
-pub answer-low : (g : Grammar) (k : BarInput) (os : List Shape) (count : ℕ) (xs : List Found) (asked : Asked) (n : ℕ) → IsAnswerAt g k os count xs asked n → n < length xs
-answer-low g k os count xs asked n a = slice_get_within xs n a.0 a.1
+pub answer-low : (bar : SearchedBar) (xs : List Found) (asked : Asked) (n : ℕ) → IsAnswerAt bar xs asked n → n < length xs
+answer-low bar xs asked n a = slice_get_within xs n a.0 a.1
 
-pub answered : (g : Grammar) (k : BarInput) (os : List Shape) (count : ℕ) (xs : List Found) (asked : Asked) (n : ℕ) (grid : List (List Key)) → IsAnswerAt g k os count xs asked n
-    → ((x : Found) → slice_get xs n ≡ Some x → x.grid ≡ grid) → AreDemanded g k os count asked grid
-answered g k os count xs asked n grid a is = subst (AreDemanded g k os count asked) (is a.0 a.1) a.2
+pub answered : (bar : SearchedBar) (xs : List Found) (asked : Asked) (n : ℕ) (grid : List (List Key)) → IsAnswerAt bar xs asked n
+    → ((x : Found) → slice_get xs n ≡ Some x → x.grid ≡ grid) → AreDemanded bar asked grid
+answered bar xs asked n grid a is = subst (AreDemanded bar asked) (is a.0 a.1) a.2
 
 -- ---- what stays found
 

@@ -1,5 +1,5 @@
 -- A leaf alone fits where its rule agrees with what it hears.
-use Rattle.std.proofs.Common.{◌≡◌, ℕ, ◌<◌, ◌≤◌, ◌+◌, ◌&&◌, inl, inr, Bool, true, false, List, [], ◌∷◌, length, refl, sym, ◌∙◌, subst, arith}
+use Rattle.std.proofs.Common.{◌≡◌, ℕ, ◌<◌, ◌≤◌, ◌+◌, ◌&&◌, inl, inr, Bool, true, false, [], ◌∷◌, length, refl, sym, ◌∙◌, subst, arith}
 use Rattle.rhythm_base.specs.declared.rule.Ending.{Ending}
 use Rattle.rhythm_base.specs.BarInput.{BarInput}
 use Rattle.rhythm_base.specs.Cells.{bar_of}
@@ -12,9 +12,9 @@ use Rattle.tree_laws.proofs.Ranks.{both}
 use Rattle.tree_laws.proofs.Runs.{agrees-few}
 use Rattle.row_laws.specs.Leaves.{HasLeaf, IsCrowded, leaf_of_cell, next_ends, own_ends}
 use Rattle.best_trees.specs.declared.memo.Asked.{Asked}
+use Rattle.best_trees.specs.declared.search.SearchedBar.{SearchedBar}
 use Rattle.best_trees.specs.Nodes.{HasNoLeaf}
 use Rattle.best_trees.specs.Pins.{demanded}
-use Rattle.rhythm_base.specs.Shape.{Shape}
 use Rattle.rhythm_base.specs.Forest.{none}
 use Rattle.tree_laws.specs.Forests.{has_shapes}
 
@@ -60,8 +60,9 @@ module _ (k : BarInput) (p w : ℕ) (ending : Ending) where
         and_true false e = e
 
 -- no leaf where it is crowded, or where others are demanded
-pub crowded-none : (g : Grammar) (k : BarInput) (os : List Shape) (asked : Asked) → g.resolution ≡ k.resolution → IsCrowded k asked.place asked.width → HasNoLeaf g k os asked
-crowded-none g k os asked units many = record { none_fits = λ ending a b allowed fits. never-crowded k asked.place asked.width ending g.resolution a b units many fits }
+pub crowded-none : (bar : SearchedBar) (asked : Asked) → bar.grammar.now.resolution ≡ bar.input.now.resolution → IsCrowded bar.input.now asked.place asked.width → HasNoLeaf bar asked
+crowded-none bar asked units many =
+    record { none_fits = λ ending a b allowed fits. never-crowded bar.input.now asked.place asked.width ending bar.grammar.now.resolution a b units many fits }
 
-pub denied-none : (g : Grammar) (k : BarInput) (os : List Shape) (asked : Asked) → (has_shapes (demanded os asked.demand) none ≡ true → ⊥) → HasNoLeaf g k os asked
-denied-none g k os asked denied = record { none_fits = λ ending a b allowed fits. denied allowed }
+pub denied-none : (bar : SearchedBar) (asked : Asked) → (has_shapes (demanded bar.pins.now asked.demand) none ≡ true → ⊥) → HasNoLeaf bar asked
+denied-none bar asked denied = record { none_fits = λ ending a b allowed fits. denied allowed }

@@ -29,44 +29,46 @@ use Rattle.row_laws.proofs.Grounds.{bounds, grounded}
 use Rattle.row_laws.proofs.LeafKeys.{leaf_body}
 use Rattle.row_laws.proofs.RuleKeys.{cut-key}
 use Rattle.best_trees.specs.declared.memo.Asked.{Asked}
+use Rattle.best_trees.specs.declared.search.SearchedBar.{SearchedBar}
 use Rattle.best_trees.specs.Firsts.{AreFirstKeys, AreKeptKeys, offered}
 use Rattle.best_trees.specs.Grids.{AreAllAddable, HasLists, joined_row, ranking_at}
-use Rattle.best_trees.specs.Nodes.{AreBestBelow, AreBestForests, HasNoLeaf, AreDemanded, IsAskedKey, IsLeafHere, is_leaf_at}
-use Rattle.best_trees.specs.Pins.{NoneFit, demanded}
+use Rattle.best_trees.specs.Nodes.{AreBestBelow, AreBestForests, HasNoLeaf, AreDemanded, IsAskedKey, IsLeafHere, ground_in, shapes_in}
+use Rattle.best_trees.specs.Leaves.{HasLeafOffered, is_leaf_at}
+use Rattle.best_trees.specs.Pins.{NoneFit}
 use Rattle.best_trees.proofs.Firsts.{IsTopped}
 use Rattle.best_trees.proofs.LeafFits.{agrees-fits, fits-agrees}
 use Rattle.best_trees.proofs.Parts.{cut_body}
 use Rattle.best_trees.proofs.Rules.{leaf_back, leaf_there, unsuited_none}
 use Rattle.best_trees.proofs.Steps.{below-jump, below-none, below-skip, cut-next, first-kept, forests-addable, forests-joined, forests-none, forests-topped, one-next, rules-all}
 
-module _ (g : Grammar) (k : BarInput) (os : List Shape) (count : ℕ) (asked : Asked) where
+module _ (bar : SearchedBar) (asked : Asked) where
   -- ---- before any rule, and after all
 
-  pub best-none : (grid : List (List Key)) → HasLists (λ a b. []) grid → AreBestBelow g k os count asked 0 grid
-  best-none grid is a b la lb = subst (AreFirstKeys (IsOneBelow (IsAskedKey g k os asked a b) 0) count) (sym (is a b la lb)) (below-none (IsAskedKey g k os asked a b) count)
+  pub best-none : (grid : List (List Key)) → HasLists (λ a b. []) grid → AreBestBelow bar asked 0 grid
+  best-none grid is a b la lb = subst (AreFirstKeys (IsOneBelow (IsAskedKey bar asked a b) 0) bar.count) (sym (is a b la lb)) (below-none (IsAskedKey bar asked a b) bar.count)
 
-  pub best-all : (grid : List (List Key)) → AreBestBelow g k os count asked (length g.rules) grid → AreDemanded g k os count asked grid
-  best-all grid h a b la lb = rules-all (ground_of g k) (demanded os asked.demand) asked.place (asked.width, asked.symbol) count 0 a b (ranking_at grid a b) (h a b la lb)
+  pub best-all : (grid : List (List Key)) → AreBestBelow bar asked (length bar.grammar.now.rules) grid → AreDemanded bar asked grid
+  best-all grid h a b la lb = rules-all (ground_in bar) (shapes_in bar asked.demand) asked.place (asked.width, asked.symbol) bar.count 0 a b (ranking_at grid a b) (h a b la lb)
 
-  pub best-kept : (i : ℕ) (grid : List (List Key)) → AreBestBelow g k os count asked i grid → (a b : ℕ) → a < 5 → b < 5 → AreKeptKeys count (ranking_at grid a b)
-  best-kept i grid h a b la lb = first-kept (IsOneBelow (IsAskedKey g k os asked a b) i) count (ranking_at grid a b) (h a b la lb)
+  pub best-kept : (i : ℕ) (grid : List (List Key)) → AreBestBelow bar asked i grid → (a b : ℕ) → a < 5 → b < 5 → AreKeptKeys bar.count (ranking_at grid a b)
+  best-kept i grid h a b la lb = first-kept (IsOneBelow (IsAskedKey bar asked a b) i) bar.count (ranking_at grid a b) (h a b la lb)
 
   -- ---- rules without trees
 
-  best-skip : (i : ℕ) (grid : List (List Key)) → ((a b : ℕ) (key : Key) → IsAskedKey g k os asked a b i key → ⊥) → AreBestBelow g k os count asked i grid → AreBestBelow g k os count asked (i + 1) grid
-  best-skip i grid bare h a b la lb = below-skip (IsAskedKey g k os asked a b) count i (ranking_at grid a b) (bare a b) (h a b la lb)
+  best-skip : (i : ℕ) (grid : List (List Key)) → ((a b : ℕ) (key : Key) → IsAskedKey bar asked a b i key → ⊥) → AreBestBelow bar asked i grid → AreBestBelow bar asked (i + 1) grid
+  best-skip i grid bare h a b la lb = below-skip (IsAskedKey bar asked a b) bar.count i (ranking_at grid a b) (bare a b) (h a b la lb)
 
   -- none of the next rules suits
-  pub best-jump : (from to : ℕ) (grid : List (List Key)) → from ≤ to → NoneSuit g.rules (asked.width, asked.symbol) from to → AreBestBelow g k os count asked from grid → AreBestBelow g k os count asked to grid
+  pub best-jump : (from to : ℕ) (grid : List (List Key)) → from ≤ to → NoneSuit bar.grammar.now.rules (asked.width, asked.symbol) from to → AreBestBelow bar asked from grid → AreBestBelow bar asked to grid
   best-jump from to grid order apart h a b la lb =
       let whole : (to - from) + from ≡ to = omega (arith, order) in
-      subst (λ n. AreFirstKeys (IsOneBelow (IsAskedKey g k os asked a b) n) count (ranking_at grid a b)) whole
-      (below-jump (IsAskedKey g k os asked a b) count (to - from) from (ranking_at grid a b)
-      (λ j low high. unsuited_none (ground_of g k) (demanded os asked.demand) asked.place (asked.width, asked.symbol) j a b (apart j low (omega (arith, high, whole)))) (h a b la lb))
+      subst (λ n. AreFirstKeys (IsOneBelow (IsAskedKey bar asked a b) n) bar.count (ranking_at grid a b)) whole
+      (below-jump (IsAskedKey bar asked a b) bar.count (to - from) from (ranking_at grid a b)
+      (λ j low high. unsuited_none (ground_in bar) (shapes_in bar asked.demand) asked.place (asked.width, asked.symbol) j a b (apart j low (omega (arith, high, whole)))) (h a b la lb))
 
   -- ---- one rule
 
-  module _ (ready : IsReady g k) (i : ℕ) (rule : Rule) (at : slice_get g.rules i ≡ Some rule) (suit : suits (Some rule) (asked.width, asked.symbol) ≡ true) where
+  module _ (ready : IsReady bar.grammar.now bar.input.now) (i : ℕ) (rule : Rule) (at : slice_get bar.grammar.now.rules i ≡ Some rule) (suit : suits (Some rule) (asked.width, asked.symbol) ≡ true) where
     -- ---- a leaf
 
     module _ (ending : Ending) (ends : ending_of rule.body ≡ Some ending) where
@@ -74,77 +76,77 @@ module _ (g : Grammar) (k : BarInput) (os : List Shape) (count : ℕ) (asked : A
       x = record { ending = ending; place = asked.place; width = asked.width }
 
       abbrev Fits : ℕ → ℕ → Type 0
-      Fits a b = FitsAt g.resolution (bar_of k) k.chords k.before asked.place (x ∷ []) a b
+      Fits a b = FitsAt bar.grammar.now.resolution (bar_of bar.input.now) bar.input.now.chords bar.input.now.before asked.place (x ∷ []) a b
 
-      own_fits : (a b : ℕ) (key : Key) → IsAskedKey g k os asked a b i key
-          → (has_shapes (demanded os asked.demand) none ≡ true) × Fits a b × (key ≡ (rule.weight + charges g (in_bar (bar_of k) (x ∷ [])) k.chords, i ∷ []))
+      own_fits : (a b : ℕ) (key : Key) → IsAskedKey bar asked a b i key
+          → (has_shapes (shapes_in bar asked.demand) none ≡ true) × Fits a b × (key ≡ (rule.weight + charges bar.grammar.now (in_bar (bar_of bar.input.now) (x ∷ [])) bar.input.now.chords, i ∷ []))
       own_fits a b key w =
           let body = leaf_body rule.body ending asked.place asked.width ends in
-          leaf_there (ground_of g k) (demanded os asked.demand) asked.place (asked.width, asked.symbol) i a b rule at suit x body.0 body.1 key w
+          leaf_there (ground_in bar) (shapes_in bar asked.demand) asked.place (asked.width, asked.symbol) i a b rule at suit x body.0 body.1 key w
 
       -- no leaf fits
-      pub best-bare : (grid : List (List Key)) → HasNoLeaf g k os asked → AreBestBelow g k os count asked i grid → AreBestBelow g k os count asked (i + 1) grid
+      pub best-bare : (grid : List (List Key)) → HasNoLeaf bar asked → AreBestBelow bar asked i grid → AreBestBelow bar asked (i + 1) grid
       best-bare grid bare h = best-skip i grid (λ a b key w. let own = own_fits a b key w in bare.none_fits ending a b own.0 own.1) h
 
-      pub best-leaf : (l : Leaf) → IsLeafHere g k os asked l → (old new : List (List Key))
-          → HasLists (λ a b. if is_leaf_at ending l a b then offered count (rule.weight + l.charges, i ∷ []) (ranking_at old a b) else ranking_at old a b) new
-          → AreBestBelow g k os count asked i old → AreBestBelow g k os count asked (i + 1) new
+      pub best-leaf : (l : Leaf) → IsLeafHere bar asked l → (old new : List (List Key))
+          → HasLeafOffered bar.count ending l rule.weight i old new
+          → AreBestBelow bar asked i old → AreBestBelow bar asked (i + 1) new
       best-leaf l here old new is h a b la lb =
-          subst (AreFirstKeys (IsOneBelow W (i + 1)) count) (sym (is a b la lb)) (go (is_leaf_at ending l a b) refl)
+          subst (AreFirstKeys (IsOneBelow W (i + 1)) bar.count) (sym (is a b la lb)) (go (is_leaf_at ending l a b) refl)
         where
           W : ℕ → Key → Type 0
-          W = IsAskedKey g k os asked a b
+          W = IsAskedKey bar asked a b
 
-          cost : rule.weight + charges g (in_bar (bar_of k) (x ∷ [])) k.chords ≡ rule.weight + l.charges
+          cost : rule.weight + charges bar.grammar.now (in_bar (bar_of bar.input.now) (x ∷ [])) bar.input.now.chords ≡ rule.weight + l.charges
           cost = ap (λ n. rule.weight + n) (sym here.leaf.charged)
 
           own : is_leaf_at ending l a b ≡ true → Fits a b
           own e =
               let t = both (agrees ending (a + l.own) l.sounds) _ e in
-              agrees-fits k asked.place asked.width ending g ready.units l.own l.next l.charges l.sounds here.leaf a b la lb t.0 (let out = t.1 in grind (arith, nat_tests))
+              agrees-fits bar.input.now asked.place asked.width ending bar.grammar.now ready.units l.own l.next l.charges l.sounds here.leaf a b la lb t.0 (let out = t.1 in grind (arith, nat_tests))
 
           apart : is_leaf_at ending l a b ≡ false → Fits a b → ⊥
           apart e fits =
-              let t = fits-agrees k asked.place asked.width ending g ready.units l.own l.next l.charges l.sounds here.leaf a b fits in
+              let t = fits-agrees bar.input.now asked.place asked.width ending bar.grammar.now ready.units l.own l.next l.charges l.sounds here.leaf a b fits in
               let on : (l.next == b) ≡ true = let out : l.next ≡ b = t.1 in grind (arith, nat_tests) in
               let yes_fit : is_leaf_at ending l a b ≡ true = ap₂ ◌&&◌ t.0 on in
               absurd (cc)
 
-          go : (t : Bool) → is_leaf_at ending l a b ≡ t → AreFirstKeys (IsOneBelow W (i + 1)) count (if t then offered count (rule.weight + l.charges, i ∷ []) (ranking_at old a b) else ranking_at old a b)
+          go : (t : Bool) → is_leaf_at ending l a b ≡ t → AreFirstKeys (IsOneBelow W (i + 1)) bar.count (if t then offered bar.count (rule.weight + l.charges, i ∷ []) (ranking_at old a b) else ranking_at old a b)
           go true e =
-              one-next (ground_of g k) (demanded os asked.demand) asked.place (asked.width, asked.symbol) count i a b (rule.weight + l.charges, i ∷ []) (ranking_at old a b)
+              one-next (ground_in bar) (shapes_in bar asked.demand) asked.place (asked.width, asked.symbol) bar.count i a b (rule.weight + l.charges, i ∷ []) (ranking_at old a b)
               (λ key w. (own_fits a b key w).2 ∙ (λ j. (cost j, i ∷ [])))
               (let body = leaf_body rule.body ending asked.place asked.width ends in
-              leaf_back (ground_of g k) (demanded os asked.demand) asked.place (asked.width, asked.symbol) i a b rule at suit x body.0 body.1 (rule.weight + l.charges, i ∷ []) here.allowed (own e) (λ j. (sym cost j, i ∷ [])))
+              leaf_back (ground_in bar) (shapes_in bar asked.demand) asked.place (asked.width, asked.symbol) i a b rule at suit x body.0 body.1 (rule.weight + l.charges, i ∷ []) here.allowed (own e) (λ j. (sym cost j, i ∷ [])))
               (h a b la lb)
-          go false e = below-skip W count i (ranking_at old a b) (λ key w. apart e (own_fits a b key w).1) (h a b la lb)
+          go false e = below-skip W bar.count i (ranking_at old a b) (λ key w. apart e (own_fits a b key w).1) (h a b la lb)
 
     -- ---- a cut
 
     module _ (cuts : ending_of rule.body ≡ None) where
       -- the parts are not as demanded
-      pub best-roomless : NoneFit (children rule.body asked.width) (demanded os asked.demand) → (grid : List (List Key)) → AreBestBelow g k os count asked i grid → AreBestBelow g k os count asked (i + 1) grid
+      pub best-roomless : NoneFit (children rule.body asked.width) (shapes_in bar asked.demand) → (grid : List (List Key)) → AreBestBelow bar asked i grid → AreBestBelow bar asked (i + 1) grid
       best-roomless bare grid h =
           best-skip i grid
-          (λ a b key w. let own = cut-key (ground_of g k) (demanded os asked.demand) asked.place (asked.width, asked.symbol) i a b rule at suit (cut_body rule.body asked.place asked.width cuts) key w in
-          bare g.rules own.1.0 own.1.1.trees own.1.1.shaped)
+          (λ a b key w. let own = cut-key (ground_in bar) (shapes_in bar asked.demand) asked.place (asked.width, asked.symbol) i a b rule at suit (cut_body rule.body asked.place asked.width cuts) key w in
+          bare bar.grammar.now.rules own.1.0 own.1.1.trees own.1.1.shaped)
           h
 
-      pub best-cut : (q : ℕ × ℕ) (qs : List (ℕ × ℕ)) (one rest : Option Shape) → first_shape (demanded os asked.demand) ≡ one_shape one → other_shapes (demanded os asked.demand) ≡ rest
+      pub best-cut : (q : ℕ × ℕ) (qs : List (ℕ × ℕ)) (one rest : Option Shape) → first_shape (shapes_in bar asked.demand) ≡ one_shape one → other_shapes (shapes_in bar asked.demand) ≡ rest
           → children rule.body asked.width ≡ q ∷ qs → AreBelow asked.width (q ∷ qs) → (left right old new : List (List Key))
-          → AreBestForests (ground_of g k) (one_shape one) count asked.place (q ∷ []) left → AreBestForests (ground_of g k) rest count (asked.place + q.0) qs right
-          → HasLists (λ a b. joined_row count (rule.weight, i ∷ []) left right a b (ranking_at old a b)) new → AreBestBelow g k os count asked i old → AreBestBelow g k os count asked (i + 1) new
+          → AreBestForests (ground_in bar) (one_shape one) bar.count asked.place (q ∷ []) left → AreBestForests (ground_in bar) rest bar.count (asked.place + q.0) qs right
+          → HasLists (λ a b. joined_row bar.count (rule.weight, i ∷ []) left right a b (ranking_at old a b)) new → AreBestBelow bar asked i old → AreBestBelow bar asked (i + 1) new
       best-cut q qs one rest first others kids below left right old new own after is h a b la lb =
-          let d = ground_of g k in
-          let s = demanded os asked.demand in
-          let Below : Key → Type 0 = IsOneBelow (IsAskedKey g k os asked a b) i in
-          let all = joined_row count (rule.weight, i ∷ []) left right a b (ranking_at old a b) in
-          let P : Option Shape → Type 0 = λ s. AreBestForests d s count asked.place (q ∷ []) left in
-          let Q : Option Shape → Type 0 = λ s. AreBestForests d s count (asked.place + q.0) qs right in
-          subst (AreFirstKeys (IsOneBelow (IsAskedKey g k os asked a b) (i + 1)) count) (sym (is a b la lb))
-          (cut-next d s asked.place (asked.width, asked.symbol) count i a b rule at suit (cut_body rule.body asked.place asked.width cuts) all
-          (subst (λ qs. AreFirstKeys (λ key. Below key ⊎ IsTopped (IsForestKey d s asked.place qs a b) (rule.weight, i ∷ []) key) count all) (sym kids)
-          (forests-topped d (grounded g k ready) count asked.place q qs (below-wide asked.width (q ∷ qs) below) left right s (subst P (sym first) own) (subst Q (sym others) after) (rule.weight, i ∷ []) Below (ranking_at old a b)
+          let d = ground_in bar in
+          let s = shapes_in bar asked.demand in
+          let Below : Key → Type 0 = IsOneBelow (IsAskedKey bar asked a b) i in
+          let all = joined_row bar.count (rule.weight, i ∷ []) left right a b (ranking_at old a b) in
+          let P : Option Shape → Type 0 = λ s. AreBestForests d s bar.count asked.place (q ∷ []) left in
+          let Q : Option Shape → Type 0 = λ s. AreBestForests d s bar.count (asked.place + q.0) qs right in
+          subst (AreFirstKeys (IsOneBelow (IsAskedKey bar asked a b) (i + 1)) bar.count) (sym (is a b la lb))
+          (cut-next d s asked.place (asked.width, asked.symbol) bar.count i a b rule at suit (cut_body rule.body asked.place asked.width cuts) all
+          (subst (λ qs. AreFirstKeys (λ key. Below key ⊎ IsTopped (IsForestKey d s asked.place qs a b) (rule.weight, i ∷ []) key) bar.count all) (sym kids)
+          (forests-topped d (grounded bar.grammar.now bar.input.now ready) bar.count asked.place q qs (below-wide asked.width (q ∷ qs) below) left right s (subst P (sym first) own) (subst Q (sym others) after) (rule.weight, i ∷ []) Below (ranking_at old a b)
           (h a b la lb) a b la lb)))
 
 -- ---- the parts of a cut

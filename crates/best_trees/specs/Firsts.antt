@@ -1,5 +1,5 @@
 -- The first keys of a set, in order; and a list of keys in order that others are offered to.
-use Rattle.std.specs.Prelude.{◌≡◌, ◌<◌, ◌≤◌, ◌^◌, ◌⊎◌, ℕ, true, drop, List, [], ◌∷◌, length, map, take, All, AllPairs, Contains, Option, Some, None, if◌then◌else◌}
+use Rattle.std.specs.Prelude.{◌≡◌, ◌<◌, ◌≤◌, ◌^◌, ◌⊎◌, ℕ, true, drop, Bool, List, [], ◌∷◌, ◌++◌, IsFalse, length, map, take, All, AllPairs, Contains, Option, Some, None, MatchOption, if◌then◌else◌}
 use Rattle.rhythm_base.specs.Ranked.{Key, is_before, plus}
 
 abbrev pub IsBefore : Key → Key → Type 0
@@ -38,6 +38,18 @@ abbrev pub sums_offered : ℕ → List Key → List Key → List Key → List Ke
 sums_offered count [] right xs = xs
 sums_offered count (x ∷ left) right xs = sums_offered count left right (all_offered count (map (plus x) right) xs)
 
+-- the key of trees of this cost, whose rules are those of the three lists
+abbrev pub key_of : ℕ → List ℕ → List ℕ → List ℕ → Key
+key_of cost top first last = (cost, (top ++ first) ++ last)
+
+-- each of the others was offered, with a key before it
+abbrev pub HasOffers : ℕ → Key → List Key → List Key → List Key → Type 0
+HasOffers count k others old new = new ≡ all_offered count (map (plus k) others) old
+
+-- each sum of a key on the left and one on the right was offered, with a key before it
+abbrev pub HasSums : ℕ → Key → List Key → List Key → List Key → List Key → Type 0
+HasSums count k left right old new = new ≡ sums_offered count (map (plus k) left) right old
+
 -- ---- lists that are offered to
 
 -- keys in order, and no more than so many
@@ -51,6 +63,10 @@ pub record IsPlace (keys : List Key) (k : Key) (n : ℕ) : Type 0 where
   pub low : All (λ x. IsBefore x k) (take n keys)
   pub high : All (IsBefore k) (drop n keys)
 
+-- that place, none where the key is there already
+abbrev pub IsPlaceFor : List Key → Key → Option ℕ → Type 0
+IsPlaceFor keys k place = MatchOption place (Contains keys k) (IsPlace keys k)
+
 -- keys in order, of costs that can be added
 pub record AreAddable (keys : List Key) : Type 0 where
   pub in_order : AllPairs IsBefore keys
@@ -60,6 +76,10 @@ pub record AreAddable (keys : List Key) : Type 0 where
 pub record IsPast (count : ℕ) (k : Key) (keys : List Key) : Type 0 where
   pub full : length keys ≡ count
   pub before : All (λ x. IsBefore x k) keys
+
+-- all keys that may be are before the key, unless it is said that others may be near
+abbrev pub IsPastUnless : ℕ → Key → List Key → Bool → Type 0
+IsPastUnless count k keys near = IsFalse near → IsPast count k keys
 
 -- there are as many keys as may be, and each costs less
 pub record AreCheaper (count c : ℕ) (keys : List Key) : Type 0 where

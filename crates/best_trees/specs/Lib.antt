@@ -1,6 +1,7 @@
 pub mod BarTrees
 pub mod Firsts
 pub mod Grids
+pub mod Leaves
 pub mod Memos
 pub mod Nodes
 pub mod Pieces

@@ -1,11 +1,9 @@
 -- The best trees of a bar over an interval of its units, and when all that was found of them is right.
-use Rattle.std.specs.Prelude.{◌≡◌, ℕ, ◌+◌, ◌&&◌, ◌==◌, Bool, true, ◌<◌, ◌≤◌, List, [], ◌∷◌, All, Some, None, slice_get, Option}
+use Rattle.std.specs.Prelude.{◌≡◌, ℕ, ◌+◌, true, ◌<◌, ◌≤◌, List, [], ◌∷◌, All, Some, None, slice_get, map, Option}
 use Rattle.rhythm_base.specs.BarInput.{BarInput}
 use Rattle.rhythm_base.specs.Bodies.{ending_of}
 use Rattle.rhythm_base.specs.Cells.{bar_of}
 use Rattle.rhythm_base.specs.Forest.{none}
-use Rattle.rhythm_base.specs.Grammar.{Grammar}
-use Rattle.rhythm_base.specs.Line.{agrees}
 use Rattle.rhythm_base.specs.Ranked.{Key}
 use Rattle.rhythm_base.specs.Shape.{Shape}
 use Rattle.rhythm_base.specs.declared.rule.Ending.{Ending}
@@ -17,14 +15,18 @@ use Rattle.bar_view.specs.declared.leaf.Leaf.{Leaf}
 use Rattle.row_laws.specs.Grounds.{ground_of}
 use Rattle.row_laws.specs.Leaves.{HasLeaf}
 use Rattle.row_laws.specs.RuleKeys.{IsRuleKey}
+use Rattle.best_trees.specs.declared.cut.Piece.{Piece}
 use Rattle.best_trees.specs.declared.memo.Asked.{Asked}
 use Rattle.best_trees.specs.declared.memo.Family.{Family}
 use Rattle.best_trees.specs.declared.memo.Found.{Found}
 use Rattle.best_trees.specs.declared.memo.LastParts.{LastParts}
 use Rattle.best_trees.specs.declared.memo.LastParts.TheVariants.{One, Several}
+use Rattle.best_trees.specs.declared.pins.Demand.{Demand}
+use Rattle.best_trees.specs.declared.search.SearchedBar.{SearchedBar}
 use Rattle.best_trees.specs.Firsts.{AreFirstKeys}
 use Rattle.best_trees.specs.Grids.{ranking_at}
 use Rattle.best_trees.specs.Memos.{LiesAt}
+use Rattle.best_trees.specs.Pieces.{piece_pair}
 use Rattle.best_trees.specs.Pins.{demanded}
 
 -- an interval of the bar's units
@@ -36,17 +38,24 @@ pub record IsInBar (k : BarInput) (asked : Asked) : Type 0 where
 abbrev pub AreBestForests : Ground → Option Shape → ℕ → ℕ → List (ℕ × ℕ) → List (List Key) → Type 0
 AreBestForests d shapes count p qs grid = (a b : ℕ) → a < 5 → b < 5 → AreFirstKeys (IsForestKey d shapes p qs a b) count (ranking_at grid a b)
 
--- the first `count` of the trees that are asked for, by the shapes of a pin
-abbrev pub AreDemanded : Grammar → BarInput → List Shape → ℕ → Asked → List (List Key) → Type 0
-AreDemanded g k os count asked grid = AreBestForests (ground_of g k) (one_shape (demanded os asked.demand)) count asked.place ((asked.width, asked.symbol) ∷ []) grid
+-- where the trees of the bar that is searched stand, and the shapes that its pin demands
+abbrev pub ground_in : SearchedBar → Ground
+ground_in bar = ground_of bar.grammar.now bar.input.now
+
+abbrev pub shapes_in : SearchedBar → Demand → Option Shape
+shapes_in bar demand = demanded bar.pins.now demand
+
+-- the first of the trees that are asked for, as many as the search wants
+abbrev pub AreDemanded : SearchedBar → Asked → List (List Key) → Type 0
+AreDemanded bar asked grid = AreBestForests (ground_in bar) (one_shape (shapes_in bar asked.demand)) bar.count asked.place ((asked.width, asked.symbol) ∷ []) grid
 
 -- the key of one of them with the rule r on top
-abbrev pub IsAskedKey : Grammar → BarInput → List Shape → Asked → ℕ → ℕ → ℕ → Key → Type 0
-IsAskedKey g k os asked a b r = IsRuleKey (ground_of g k) (demanded os asked.demand) asked.place (asked.width, asked.symbol) r a b
+abbrev pub IsAskedKey : SearchedBar → Asked → ℕ → ℕ → ℕ → Key → Type 0
+IsAskedKey bar asked a b r = IsRuleKey (ground_in bar) (shapes_in bar asked.demand) asked.place (asked.width, asked.symbol) r a b
 
--- the first `count` of those with a rule before i on top
-abbrev pub AreBestBelow : Grammar → BarInput → List Shape → ℕ → Asked → ℕ → List (List Key) → Type 0
-AreBestBelow g k os count asked i grid = (a b : ℕ) → a < 5 → b < 5 → AreFirstKeys (IsOneBelow (IsAskedKey g k os asked a b) i) count (ranking_at grid a b)
+-- the first of those with a rule before i on top
+abbrev pub AreBestBelow : SearchedBar → Asked → ℕ → List (List Key) → Type 0
+AreBestBelow bar asked i grid = (a b : ℕ) → a < 5 → b < 5 → AreFirstKeys (IsOneBelow (IsAskedKey bar asked a b) i) bar.count (ranking_at grid a b)
 
 -- how a rule ends its interval, none where it cuts it
 abbrev pub rule_ending : Option Rule → Option Ending
@@ -60,43 +69,43 @@ ending_at rules r = rule_ending (slice_get rules r)
 -- ---- leaves
 
 -- no leaf is allowed over the interval, or fits it, with whatever rule
-pub record HasNoLeaf (g : Grammar) (k : BarInput) (os : List Shape) (asked : Asked) : Type 0 where
-  pub none_fits : (ending : Ending) (a b : ℕ) → has_shapes (demanded os asked.demand) none ≡ true
-      → FitsAt g.resolution (bar_of k) k.chords k.before asked.place (record { ending = ending; place = asked.place; width = asked.width } ∷ []) a b → ⊥
+pub record HasNoLeaf (bar : SearchedBar) (asked : Asked) : Type 0 where
+  pub none_fits : (ending : Ending) (a b : ℕ) → has_shapes (shapes_in bar asked.demand) none ≡ true
+      → FitsAt bar.grammar.now.resolution (bar_of bar.input.now) bar.input.now.chords bar.input.now.before asked.place (record { ending = ending; place = asked.place; width = asked.width } ∷ []) a b → ⊥
 
 -- a leaf is allowed over the interval, and this is the one
-pub record IsLeafHere (g : Grammar) (k : BarInput) (os : List Shape) (asked : Asked) (l : Leaf) : Type 0 where
-  pub allowed : has_shapes (demanded os asked.demand) none ≡ true
-  pub leaf : HasLeaf g k asked.place asked.width l.own l.next l.sounds l.charges
-
--- a leaf that ends so fits with these counts
-abbrev pub is_leaf_at : Ending → Leaf → ℕ → ℕ → Bool
-is_leaf_at ending l a b = agrees ending (a + l.own) l.sounds && (l.next == b)
+pub record IsLeafHere (bar : SearchedBar) (asked : Asked) (l : Leaf) : Type 0 where
+  pub allowed : has_shapes (shapes_in bar asked.demand) none ≡ true
+  pub leaf : HasLeaf bar.grammar.now bar.input.now asked.place asked.width l.own l.next l.sounds l.charges
 
 -- ---- what was found
 
 -- what was found under this number is that
-abbrev pub IsAnswerAt : Grammar → BarInput → List Shape → ℕ → List Found → Asked → ℕ → Type 0
-IsAnswerAt g k os count xs asked n = (x : Found) × (slice_get xs n ≡ Some x) × AreDemanded g k os count asked x.grid
+abbrev pub IsAnswerAt : SearchedBar → List Found → Asked → ℕ → Type 0
+IsAnswerAt bar xs asked n = (x : Found) × (slice_get xs n ≡ Some x) × AreDemanded bar asked x.grid
 
 -- the best trees over these parts, the last of a cut
 abbrev pub AreBestLast : Ground → Option Shape → ℕ → List Found → ℕ → List (ℕ × ℕ) → LastParts → Type 0
 AreBestLast d shapes count xs p qs (One n) = (x : Found) × (slice_get xs n ≡ Some x) × AreBestForests d shapes count p qs x.grid
 AreBestLast d shapes count xs p qs (Several grid) = AreBestForests d shapes count p qs grid
 
+-- those over these pieces from the unit p on, of the shapes that are demanded
+abbrev pub AreBestBeside : SearchedBar → List Found → Demand → ℕ → List Piece → LastParts → Type 0
+AreBestBeside bar xs demand p pieces parts = AreBestLast (ground_in bar) (shapes_in bar demand) bar.count xs p (map piece_pair pieces) parts
+
 -- the trees that are asked for are of this family
-pub record IsOf (g : Grammar) (k : BarInput) (family : Family) (asked : Asked) : Type 0 where
-  pub site : LiesAt (ground_of g k) family.site asked.place asked.width
+pub record IsOf (bar : SearchedBar) (family : Family) (asked : Asked) : Type 0 where
+  pub site : LiesAt (ground_in bar) family.site asked.place asked.width
   pub width : family.width ≡ asked.width
   pub symbol : family.symbol ≡ asked.symbol
   pub demand : family.demand ≡ asked.demand
 
 -- the first of the trees of the family over each of its intervals
-abbrev pub IsAnswerOf : Grammar → BarInput → List Shape → ℕ → Family → List (List Key) → Type 0
-IsAnswerOf g k os count family grid =
-    (p : ℕ) → LiesAt (ground_of g k) family.site p family.width
-    → AreBestForests (ground_of g k) (one_shape (demanded os family.demand)) count p ((family.width, family.symbol) ∷ []) grid
+abbrev pub IsAnswerOf : SearchedBar → Family → List (List Key) → Type 0
+IsAnswerOf bar family grid =
+    (p : ℕ) → LiesAt (ground_in bar) family.site p family.width
+    → AreBestForests (ground_in bar) (one_shape (shapes_in bar family.demand)) bar.count p ((family.width, family.symbol) ∷ []) grid
 
 -- all that was found is right
-pub record AreFound (g : Grammar) (k : BarInput) (os : List Shape) (count : ℕ) (xs : List Found) : Type 0 where
-  pub each : All (λ x. IsAnswerOf g k os count x.family x.grid) xs
+pub record AreFound (bar : SearchedBar) (xs : List Found) : Type 0 where
+  pub each : All (λ x. IsAnswerOf bar x.family x.grid) xs

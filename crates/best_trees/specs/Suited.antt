@@ -13,6 +13,14 @@ abbrev pub AreSuiting : List Rule → ℕ × ℕ → List ℕ → ℕ → ℕ �
 AreSuiting rules q [] from to = NoneSuit rules q from to
 AreSuiting rules q (n ∷ ns) from to = (from ≤ n) × (n < to) × NoneSuit rules q from n × (suits (slice_get rules n) q ≡ true) × AreSuiting rules q ns (n + 1) to
 
--- so are all that were asked for
+-- these are, in order, all rules that suit
+abbrev pub AreAllThatSuit : List Rule → ℕ × ℕ → List ℕ → Type 0
+AreAllThatSuit rules q numbers = AreSuiting rules q numbers 0 (length rules)
+
+-- so they are for each width and symbol that was asked for
 abbrev pub AreAllSuited : List Rule → Suited → Type 0
-AreAllSuited rules s = All (λ x. AreSuiting rules (x.width, x.symbol) x.numbers.items 0 (length rules)) s.found.items
+AreAllSuited rules s = All (λ x. AreAllThatSuit rules (x.width, x.symbol) x.numbers.items) s.found.items
+
+-- these are all that suit, by whatever rules all that were asked for do
+abbrev pub AreKnownToSuit : Suited → ℕ × ℕ → List ℕ → Type 0
+AreKnownToSuit s q numbers = (rules : List Rule) → AreAllSuited rules s → AreAllThatSuit rules q numbers

@@ -49,7 +49,7 @@ impl Agenda {
 
     /// All that a search for this comes to ask.
     pub fn of(bar: &SearchedBar<'_>, root: Asked) -> Result<Agenda, AllocError>
-        requires { IsTreeSearch bar.now.grammar.now bar.now.input.now bar.now.view.now bar.now.suited.now }
+        requires { IsTreeSearch bar.now }
         ensures { IfOk result (λ a. AreAllSuited bar.now.grammar.now.rules a.suited) }
     {
         let mut agenda = Agenda::none(bar.alloc, root.width)?;
@@ -62,7 +62,7 @@ impl Agenda {
 
     /// Adds what is asked for, where its family is not there yet.
     fn ask(&mut self, bar: &SearchedBar<'_>, asked: Asked) -> Result<(), AllocError>
-        requires search { IsTreeSearch bar.now.grammar.now bar.now.input.now bar.now.view.now bar.now.suited.now }
+        requires search { IsTreeSearch bar.now }
         requires suited { AreAllSuited bar.now.grammar.now.rules self.old.suited }
         ensures { OnOk result (AreAllSuited bar.now.grammar.now.rules self.new.suited) }
     {
@@ -90,7 +90,7 @@ impl Agenda {
 
     /// Adds the parts of all that is asked for with a width.
     fn go_down(&mut self, bar: &SearchedBar<'_>, width: u16) -> Result<(), AllocError>
-        requires search { IsTreeSearch bar.now.grammar.now bar.now.input.now bar.now.view.now bar.now.suited.now }
+        requires search { IsTreeSearch bar.now }
         requires suited { AreAllSuited bar.now.grammar.now.rules self.old.suited }
         ensures { OnOk result (AreAllSuited bar.now.grammar.now.rules self.new.suited) }
     {
@@ -107,7 +107,7 @@ impl Agenda {
 
     /// Adds the parts of what is asked for, by all rules.
     fn ask_parts(&mut self, bar: &SearchedBar<'_>, asked: Asked) -> Result<(), AllocError>
-        requires search { IsTreeSearch bar.now.grammar.now bar.now.input.now bar.now.view.now bar.now.suited.now }
+        requires search { IsTreeSearch bar.now }
         requires suited { AreAllSuited bar.now.grammar.now.rules self.old.suited }
         ensures { OnOk result (AreAllSuited bar.now.grammar.now.rules self.new.suited) }
     {
@@ -133,7 +133,7 @@ impl Agenda {
         asked: Asked,
         pieces: &[Piece],
     ) -> Result<(), AllocError>
-        requires search { IsTreeSearch bar.now.grammar.now bar.now.input.now bar.now.view.now bar.now.suited.now }
+        requires search { IsTreeSearch bar.now }
         requires suited { AreAllSuited bar.now.grammar.now.rules self.old.suited }
         ensures { OnOk result (AreAllSuited bar.now.grammar.now.rules self.new.suited) }
     {
@@ -166,9 +166,9 @@ impl Agenda {
         width: u16,
         memo: &mut Memo,
     ) -> Result<(), AllocError>
-        requires search { IsTreeSearch bar.now.grammar.now bar.now.input.now bar.now.view.now bar.now.suited.now }
-        requires found { AreFound bar.now.grammar.now bar.now.input.now bar.now.pins.now bar.now.count memo.old.found.items }
-        ensures found { OnOk result (AreFound bar.now.grammar.now bar.now.input.now bar.now.pins.now bar.now.count memo.new.found.items) }
+        requires search { IsTreeSearch bar.now }
+        requires found { AreFound bar.now memo.old.found.items }
+        ensures found { OnOk result (AreFound bar.now memo.new.found.items) }
     {
         let Some(list) = self.asked.get(usize::from(width)) else {
             return Ok(());

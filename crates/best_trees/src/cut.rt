@@ -1,6 +1,5 @@
-ghost use Rattle.std.specs.Prelude.{◌≡◌, map, IfOk};
-ghost use Rattle.rhythm_base.specs.Bodies.{children};
-ghost use Rattle.best_trees.specs.Pieces.{piece_pair};
+ghost use Rattle.best_trees.specs.Pieces.{ArePieces};
+ghost use Rattle.std.specs.Prelude.{IfOk};
 
 use grammar_plan::sizes;
 use rhythm_base::Body;
@@ -17,7 +16,7 @@ pub struct Piece {
 
 /// The parts of a node of this width, in units: none of a leaf.
 pub fn children(alloc: Global, body: &Body, width: u16) -> Result<Vec<Piece>, AllocError>
-    ensures { IfOk result (λ pieces. map piece_pair pieces.items ≡ children body.now width) }
+    ensures { IfOk result (λ v. ArePieces body.now width v.items) }
 {
     match body {
         Body::Split(symbols) => equal_pieces(alloc, symbols.as_slice(), width),
@@ -28,7 +27,7 @@ pub fn children(alloc: Global, body: &Body, width: u16) -> Result<Vec<Piece>, Al
 
 /// Parts of these symbols that share the width equally.
 fn equal_pieces(alloc: Global, symbols: &[u8], width: u16) -> Result<Vec<Piece>, AllocError>
-    ensures { IfOk result (λ pieces. map piece_pair pieces.items ≡ children (Body.Split symbols.now) width) }
+    ensures { IfOk result (λ v. ArePieces (Body.Split symbols.now) width v.items) }
 {
     let share = (width as usize / symbols.len().max(1)) as u16;
     let mut pieces = Vec::new(alloc);
@@ -43,7 +42,7 @@ fn equal_pieces(alloc: Global, symbols: &[u8], width: u16) -> Result<Vec<Piece>,
 
 /// Parts that share the width by their sizes.
 fn unequal_pieces(alloc: Global, parts: &[(u8, u8)], width: u16) -> Result<Vec<Piece>, AllocError>
-    ensures { IfOk result (λ pieces. map piece_pair pieces.items ≡ children (Body.Parts parts.now) width) }
+    ensures { IfOk result (λ v. ArePieces (Body.Parts parts.now) width v.items) }
 {
     let share = (width as u128 / sizes(parts).max(1)) as u16;
     let mut pieces = Vec::new(alloc);

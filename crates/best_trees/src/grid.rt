@@ -1,19 +1,18 @@
-ghost use Rattle.best_trees.specs.Firsts.{AreKeptKeys, offered};
-ghost use Rattle.best_trees.specs.Grids.{AreAllAddable, HasLists, joined_row, ranking_at};
-ghost use Rattle.std.specs.Prelude.{
-  ◌≡◌,
-  ◌&&◌,
-  ◌==◌,
-  ◌<◌,
-  ◌^◌,
-  ℕ,
-  [],
-  if◌then◌else◌,
-  IfOk,
-  OnOk,
+ghost use Rattle.best_trees.specs.Firsts.{AreKeptKeys};
+ghost use Rattle.best_trees.specs.Grids.{
+  AreAllAddable,
+  HasJoined,
+  HasLists,
+  HasOffered,
+  is_pair,
+  joined_at,
+  joined_row,
+  ranking_at,
 };
+ghost use Rattle.std.specs.Prelude.{◌≡◌, ◌<◌, ◌^◌, ℕ, [], IfOk, OnOk};
 
 use crate::ranking::Ranking;
+use rhythm_base::Carry;
 use std::alloc::{AllocError, Global};
 use std::marker::Model;
 
@@ -56,12 +55,12 @@ impl Grid {
     }
 
     /// The best trees for these counts.
-    pub fn at(&self, from: usize, to: usize) -> &Ranking
-        requires from { from < 5 }
-        requires to { to < 5 }
-        ensures { result.now ≡ ranking_at self.now from to }
+    pub fn at(&self, from: Carry, to: Carry) -> &Ranking
+        ensures value { result.now ≡ ranking_at self.now from to }
+        ensures from { from < 5 }
+        ensures to { to < 5 }
     {
-        &self.rankings[5 * from + to]
+        &self.rankings[5 * from.index() + to.index()]
     }
 
     /// Offers trees of this cost and with these rules for these counts.
@@ -69,18 +68,15 @@ impl Grid {
         &mut self,
         alloc: Global,
         count: usize,
-        from: usize,
-        to: usize,
+        from: Carry,
+        to: Carry,
         cost: u64,
         rules: &[u16],
     ) -> Result<(), AllocError>
-        requires from { from < 5 }
-        requires to { to < 5 }
         requires kept { AreKeptKeys count (ranking_at self.old from to) }
-        ensures { OnOk result (HasLists (λ a b. if (a == from) && (b == to) then offered count (cost, rules.now) (ranking_at self.old a b)
-            else ranking_at self.old a b) self.new) }
+        ensures { OnOk result (HasOffered count (is_pair from to) (cost, rules.now) self.old self.new) }
     {
-        self.rankings[5 * from + to].offer(alloc, count, cost, rules, &[], &[])?;
+        self.rankings[5 * from.index() + to.index()].offer(alloc, count, cost, rules, &[], &[])?;
         Ok(())
     }
 
@@ -95,11 +91,13 @@ impl Grid {
         requires cost { sides.now.cost < 2 ^ 62 }
         requires left { AreAllAddable sides.now.left.now }
         requires right { AreAllAddable sides.now.right.now }
-        ensures { OnOk result (HasLists (λ a b. joined_row count (sides.now.cost, sides.now.top.now) sides.now.left.now sides.now.right.now a b (ranking_at self.old a b)) self.new) }
+        ensures { OnOk result (HasJoined count sides.now self.old self.new) }
     {
-        'pairs: for pair in 0..25 {
-            let best = &mut self.rankings[pair];
-            offer_at(alloc, count, sides, pair / 5, pair % 5, best)?;
+        'pairs: for pair in 0..25u8 {
+            let best = &mut self.rankings[usize::from(pair)];
+            let from = Carry::of(pair / 5);
+            let to = Carry::of(pair % 5);
+            offer_at(alloc, count, sides, from, to, best)?;
         }
         Ok(())
     }
@@ -110,19 +108,18 @@ fn offer_at(
     alloc: Global,
     count: usize,
     sides: &Sides<'_>,
-    from: usize,
-    to: usize,
+    from: Carry,
+    to: Carry,
     best: &mut Ranking,
 ) -> Result<(), AllocError>
-    requires from { from < 5 }
-    requires to { to < 5 }
     requires kept { AreKeptKeys count best.old }
     requires cost { sides.now.cost < 2 ^ 62 }
     requires left { AreAllAddable sides.now.left.now }
     requires right { AreAllAddable sides.now.right.now }
-    ensures { OnOk result (best.new ≡ joined_row count (sides.now.cost, sides.now.top.now) sides.now.left.now sides.now.right.now from to best.old) }
+    ensures { OnOk result (best.new ≡ joined_at count sides.now from to best.old) }
 {
-    'counts: for middle in 0..5 {
+    'counts: for number in 0..5u8 {
+        let middle = Carry::of(number);
         let first = sides.left.at(from, middle);
         if first.is_empty() {
             continue;

@@ -1,13 +1,12 @@
-ghost use Rattle.bar_view.specs.declared.leaf.Leaf.{Leaf};
-ghost use Rattle.best_trees.specs.Firsts.{AreKeptKeys, offered};
-ghost use Rattle.best_trees.specs.Grids.{HasLists, ranking_at};
-ghost use Rattle.best_trees.specs.Nodes.{is_leaf_at};
+ghost use Rattle.best_trees.specs.Firsts.{AreKeptKeys};
+ghost use Rattle.best_trees.specs.Grids.{ranking_at};
+ghost use Rattle.best_trees.specs.Leaves.{HasLeafOffered, IsSmallLeaf};
 ghost use Rattle.rhythm_base.specs.Line.{agrees};
-ghost use Rattle.std.specs.Prelude.{◌≡◌, ◌+◌, ◌<◌, ◌≤◌, ◌^◌, ◌∷◌, ℕ, [], if◌then◌else◌, OnOk};
+ghost use Rattle.std.specs.Prelude.{◌≡◌, ◌<◌, ℕ, OnOk};
 
 use crate::grid::Grid;
 use bar_view::Leaf;
-use rhythm_base::Ending;
+use rhythm_base::{Carry, Ending};
 use std::alloc::{AllocError, Global};
 
 /// Whether this ending of a leaf agrees with so many chords attached to it, where the latest chord sounds in it or not.
@@ -34,17 +33,15 @@ pub fn offer_leaf(
     number: u16,
     best: &mut Grid,
 ) -> Result<(), AllocError>
-    requires own { leaf.own ≤ 4 }
-    requires next { leaf.next ≤ 4 }
-    requires small { leaf.charges < 2 ^ 60 }
+    requires leaf { IsSmallLeaf leaf }
     requires kept { (a b : ℕ) → a < 5 → b < 5 → AreKeptKeys count (ranking_at best.old a b) }
-    ensures { OnOk result (HasLists (λ a b. if is_leaf_at ending leaf a b then offered count (weight + leaf.charges, number ∷ []) (ranking_at best.old a b)
-        else ranking_at best.old a b) best.new) }
+    ensures { OnOk result (HasLeafOffered count ending leaf weight number best.old best.new) }
 {
     let cost = u64::from(weight) + leaf.charges;
-    'counts: for from in 0..5 {
-        if agrees(ending, from + usize::from(leaf.own), leaf.sounds) {
-            best.offer(alloc, count, from, usize::from(leaf.next), cost, &[number])?;
+    let next = Carry::of(leaf.next);
+    'counts: for from in 0..5u8 {
+        if agrees(ending, usize::from(from + leaf.own), leaf.sounds) {
+            best.offer(alloc, count, Carry::of(from), next, cost, &[number])?;
         }
     }
     Ok(())

@@ -1,6 +1,16 @@
-ghost use Rattle.best_trees.specs.Memos.{AddsFound, AreThere, HasFound, IsGridOf};
+ghost use Rattle.best_trees.specs.Memos.{
+  AddsFound,
+  AreThere,
+  IsGridOf,
+  IsKnownAs,
+  IsUnknown,
+  KeepsKnown,
+  demand_code,
+  family_code,
+  site_code,
+};
 ghost use Rattle.best_trees.specs.declared.memo.Found.{Found};
-ghost use Rattle.std.specs.Prelude.{◌≡◌, ◌<◌, [], length, slice_get, IfOk, IfSome, OnOk, Some};
+ghost use Rattle.std.specs.Prelude.{◌≡◌, ◌<◌, [], length, slice_get, IfOk, MatchOption, OnOk, Some};
 
 use crate::grid::Grid;
 use crate::pins::Demand;
@@ -62,20 +72,37 @@ pub struct Memo {
     numbers: HashMap<u64, usize>,
 }
 
-/// The code of a family, which says its interval, its symbol and its part of the pin. Where two families had one, what is
-/// found would be looked at again, and searched again.
-pub fn code_of(family: Family) -> u64 {
-    let site = match family.site {
+#[inline(always)]
+fn site_code(site: Site) -> u64
+    ensures { result ≡ site_code site }
+{
+    match site {
         Site::From(place) => u64::from(place) + 2,
         Site::Wherever(Quiet::Sounding) => 1,
         Site::Wherever(Quiet::Silent) => 0,
-    };
-    let part = match family.demand {
+    }
+}
+
+#[inline(always)]
+fn demand_code(demand: Demand) -> u32
+    ensures { result ≡ demand_code demand }
+{
+    match demand {
         Demand::Any => 0,
         Demand::Nothing => 1,
         Demand::Shapes(number) => u32::try_from(number).unwrap_or(u32::MAX).saturating_add(2),
-    };
-    site << 52 | u64::from(family.width) << 40 | u64::from(family.symbol) << 32 | u64::from(part)
+    }
+}
+
+/// The code of a family, which says its interval, its symbol and its part of the pin. Where two families had one, what is
+/// found would be looked at again, and searched again.
+pub fn code_of(family: Family) -> u64
+    ensures { result ≡ family_code family }
+{
+    site_code(family.site) << 52
+        | u64::from(family.width) << 40
+        | u64::from(family.symbol) << 32
+        | u64::from(demand_code(family.demand))
 }
 
 impl Memo {
@@ -91,12 +118,16 @@ impl Memo {
 
     /// The number of what was found for the family, if anything was.
     pub fn find(&self, family: Family) -> Option<usize>
-        ensures { IfSome result (HasFound self.now.found.items family) }
+        ensures { MatchOption result (IsUnknown self.now family) (IsKnownAs self.now family) }
     {
-        let number = *self.numbers.get(&code_of(family))?;
-        let found = self.found.get(number)?;
+        let Some(number) = self.numbers.get(&code_of(family)) else {
+            return None;
+        };
+        let Some(found) = self.found.get(*number) else {
+            return None;
+        };
         if found.family == family {
-            Some(number)
+            Some(*number)
         } else {
             None
         }
@@ -134,6 +165,8 @@ impl Memo {
     pub fn keep(&mut self, family: Family, grid: Grid) -> Result<usize, AllocError>
         ensures found { OnOk result (AddsFound self.old.found.items self.new.found.items family grid) }
         ensures number { IfOk result (λ n. n ≡ length self.old.found.items) }
+        ensures known { IfOk result (IsKnownAs self.new family) }
+        ensures others { OnOk result (KeepsKnown self.old self.new family) }
     {
         let number = self.found.len();
         self.numbers.insert(code_of(family), number)?;

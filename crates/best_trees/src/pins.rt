@@ -1,8 +1,9 @@
-ghost use Rattle.best_trees.specs.Pieces.{piece_pair};
 ghost use Rattle.best_trees.specs.Pins.{
   GrowsOutlines,
   HasOutline,
-  NoneFit,
+  HasPart,
+  HaveNoRoom,
+  IsSplitOf,
   demanded,
   leaf_count,
   least_leaves,
@@ -10,8 +11,8 @@ ghost use Rattle.best_trees.specs.Pins.{
   outline_before,
 };
 ghost use Rattle.rhythm_base.specs.Forest.{none};
-ghost use Rattle.rhythm_base.specs.Shape.{Shape, end, shape_of_parts, part};
-ghost use Rattle.tree_laws.specs.Forests.{AreWide, first_shape, has_shapes, one_shape, other_shapes};
+ghost use Rattle.rhythm_base.specs.Shape.{Shape, end, shape_of_parts};
+ghost use Rattle.tree_laws.specs.Forests.{has_shapes};
 ghost use Rattle.std.specs.Prelude.{
   ◌≡◌,
   ◌≤◌,
@@ -26,7 +27,6 @@ ghost use Rattle.std.specs.Prelude.{
   IsTrue,
   MatchOption,
   OnOk,
-  map,
   option_map,
 };
 
@@ -126,8 +126,7 @@ impl Pins {
     /// Keeps a part, and the shapes after it.
     fn keep(&mut self, parts: Option<usize>, others: Option<usize>) -> Result<usize, AllocError>
         ensures more { OnOk result (GrowsOutlines self.old self.new) }
-        ensures outline { IfOk result (λ n. (x y : Shape) → HasOutline self.old parts x → HasOutline self.old others y
-            → HasOutline self.new (Some n) (part x y)) }
+        ensures outline { IfOk result (HasPart self.old self.new parts others) }
     {
         let number = self.parts.len();
         let leaves = self
@@ -161,8 +160,7 @@ impl Pins {
     /// What is demanded of the first tree alone, as what is demanded below it, and of the trees after it; none where no
     /// tree may stand there.
     pub fn split(&self, demand: Demand) -> Option<(Demand, Demand)>
-        ensures { MatchOption result (demanded self.now demand ≡ Some end) (λ q.
-            (first_shape (demanded self.now demand) ≡ one_shape (demanded self.now q.0)) × (other_shapes (demanded self.now demand) ≡ demanded self.now q.1)) }
+        ensures { MatchOption result (demanded self.now demand ≡ Some end) (IsSplitOf self.now demand) }
     {
         match demand {
             Demand::Any => Some((Demand::Any, Demand::Any)),
@@ -202,7 +200,7 @@ impl Pins {
     /// Whether trees over these pieces may be as demanded: there are as many, and none is to have more leaves than units.
     #[cycle(room)]
     pub fn have_room(&self, demand: Demand, pieces: &[Piece]) -> bool
-        ensures { IsFalse result → AreWide (map piece_pair pieces.now) → NoneFit (map piece_pair pieces.now) (demanded self.now demand) }
+        ensures { IsFalse result → HaveNoRoom self.now demand pieces.now }
     {
         match pieces {
             [] => self.allows_none(demand),

@@ -1,15 +1,16 @@
 ghost use Rattle.best_trees.specs.Firsts.{
-  AreKeptKeys,
   AreAddable,
-  IsBefore,
   AreCheaper,
-  IsPast,
-  IsPlace,
-  all_offered,
+  AreKeptKeys,
+  HasOffers,
+  HasSums,
+  IsBefore,
+  IsPastUnless,
+  IsPlaceFor,
+  key_of,
   offered,
-  sums_offered,
 };
-ghost use Rattle.rhythm_base.specs.Ranked.{key_cmp, list_cmp, plus};
+ghost use Rattle.rhythm_base.specs.Ranked.{key_cmp, list_cmp};
 ghost use Rattle.std.specs.Prelude.{
   ◌≡◌,
   ◌↔◌,
@@ -20,14 +21,10 @@ ghost use Rattle.std.specs.Prelude.{
   ◌^◌,
   [],
   AllPairs,
-  Contains,
   IfOk,
-  IsFalse,
   IsTrue,
-  MatchOption,
   OnOk,
   length,
-  map,
   take,
 };
 
@@ -65,15 +62,15 @@ impl Entry {
 }
 
 /// How a list in two pieces compares with another.
-fn order_of_lists(first: &[u16], second: &[u16], other: &[u16]) -> Ordering
-    ensures { result ≡ list_cmp (first.now ++ second.now) other.now }
+fn order_of_lists(first: &[u16], last: &[u16], other: &[u16]) -> Ordering
+    ensures { result ≡ list_cmp (first.now ++ last.now) other.now }
 {
     match first {
-        [] => second.cmp(other),
+        [] => last.cmp(other),
         [rule, rules @ ..] => match other {
             [] => Ordering::Greater,
             [one, more @ ..] => match rule.cmp(one) {
-                Ordering::Equal => order_of_lists(rules, second, more),
+                Ordering::Equal => order_of_lists(rules, last, more),
                 order => order,
             },
         },
@@ -81,15 +78,15 @@ fn order_of_lists(first: &[u16], second: &[u16], other: &[u16]) -> Ordering
 }
 
 /// How a list in three pieces compares with another.
-fn order_of_pieces(top: &[u16], first: &[u16], second: &[u16], other: &[u16]) -> Ordering
-    ensures { result ≡ list_cmp ((top.now ++ first.now) ++ second.now) other.now }
+fn order_of_pieces(top: &[u16], first: &[u16], last: &[u16], other: &[u16]) -> Ordering
+    ensures { result ≡ list_cmp ((top.now ++ first.now) ++ last.now) other.now }
 {
     match top {
-        [] => order_of_lists(first, second, other),
+        [] => order_of_lists(first, last, other),
         [rule, rules @ ..] => match other {
             [] => Ordering::Greater,
             [one, more @ ..] => match rule.cmp(one) {
-                Ordering::Equal => order_of_pieces(rules, first, second, more),
+                Ordering::Equal => order_of_pieces(rules, first, last, more),
                 order => order,
             },
         },
@@ -97,29 +94,23 @@ fn order_of_pieces(top: &[u16], first: &[u16], second: &[u16], other: &[u16]) ->
 }
 
 /// How trees of this cost, with the rules of a list in three pieces, compare with the entry.
-fn order(cost: u64, top: &[u16], first: &[u16], second: &[u16], entry: &Entry) -> Ordering
-    ensures { result ≡ key_cmp (cost, (top.now ++ first.now) ++ second.now) entry.now }
+fn order(cost: u64, top: &[u16], first: &[u16], last: &[u16], entry: &Entry) -> Ordering
+    ensures { result ≡ key_cmp (key_of cost top.now first.now last.now) entry.now }
 {
     match cost.cmp(&entry.cost()) {
-        Ordering::Equal => order_of_pieces(top, first, second, entry.rules()),
+        Ordering::Equal => order_of_pieces(top, first, last, entry.rules()),
         order => order,
     }
 }
 
 /// How many of the entries come before such trees; none where these are there already.
-fn place_of(
-    entries: &[Entry],
-    cost: u64,
-    top: &[u16],
-    first: &[u16],
-    second: &[u16],
-) -> Option<usize>
+fn place_of(entries: &[Entry], cost: u64, top: &[u16], first: &[u16], last: &[u16]) -> Option<usize>
     requires { AllPairs IsBefore entries.now }
-    ensures { MatchOption result (Contains entries.now (cost, (top.now ++ first.now) ++ second.now)) (IsPlace entries.now (cost, (top.now ++ first.now) ++ second.now)) }
+    ensures { IsPlaceFor entries.now (key_of cost top.now first.now last.now) result }
 {
     let mut place = entries.len();
     'back: while place > 0 {
-        match order(cost, top, first, second, &entries[place - 1]) {
+        match order(cost, top, first, last, &entries[place - 1]) {
             Ordering::Less => place -= 1,
             Ordering::Equal => return None,
             Ordering::Greater => return Some(place),
@@ -195,13 +186,13 @@ impl Ranking {
         cost: u64,
         top: &[u16],
         first: &[u16],
-        second: &[u16],
+        last: &[u16],
     ) -> Result<bool, AllocError>
         requires { AreKeptKeys count self.old }
-        ensures kept { OnOk result (self.new ≡ offered count (cost, (top.now ++ first.now) ++ second.now) self.old) }
-        ensures past { IfOk result (λ near. IsFalse near → IsPast count (cost, (top.now ++ first.now) ++ second.now) self.old) }
+        ensures kept { OnOk result (self.new ≡ offered count (key_of cost top.now first.now last.now) self.old) }
+        ensures past { IfOk result (IsPastUnless count (key_of cost top.now first.now last.now) self.old) }
     {
-        let Some(place) = place_of(self.entries.as_slice(), cost, top, first, second) else {
+        let Some(place) = place_of(self.entries.as_slice(), cost, top, first, last) else {
             return Ok(true);
         };
         if place >= count {
@@ -211,11 +202,11 @@ impl Ranking {
         rules.reserve(
             top.len()
                 .saturating_add(first.len())
-                .saturating_add(second.len()),
+                .saturating_add(last.len()),
         )?;
         rules.extend_from_slice(top)?;
         rules.extend_from_slice(first)?;
-        rules.extend_from_slice(second)?;
+        rules.extend_from_slice(last)?;
         self.entries.insert(place, Entry { cost, rules })?;
         Ok(true)
     }
@@ -233,7 +224,7 @@ impl Ranking {
         requires kept { AreKeptKeys count self.old }
         requires cost { cost < 2 ^ 63 }
         requires others { AreAddable others.now }
-        ensures { OnOk result (self.new ≡ all_offered count (map (plus (cost, top.now ++ rules.now)) others.now) self.old) }
+        ensures { OnOk result (HasOffers count (cost, top.now ++ rules.now) others.now self.old self.new) }
     {
         'others: for other in &others.entries {
             if !self.offer(alloc, count, cost + other.cost(), top, rules, other.rules())? {
@@ -269,7 +260,7 @@ impl Ranking {
         requires cost { cost < 2 ^ 62 }
         requires left { AreAddable left.now }
         requires right { AreAddable right.now }
-        ensures { OnOk result (self.new ≡ sums_offered count (map (plus (cost, top.now)) left.now) right.now self.old) }
+        ensures { OnOk result (HasSums count (cost, top.now) left.now right.now self.old self.new) }
     {
         let Some(least) = right.entries.first() else {
             return Ok(());

@@ -1,9 +1,10 @@
 ghost use Rattle.best_trees.specs.Firsts.{offered};
 ghost use Rattle.best_trees.specs.Grids.{HasLists};
+ghost use Rattle.best_trees.specs.Leaves.{IsSmallLeaf};
 ghost use Rattle.best_trees.specs.Memos.{KeepsFound};
 ghost use Rattle.best_trees.specs.Nodes.{
   AreBestBelow,
-  AreBestLast,
+  AreBestBeside,
   AreFound,
   HasNoLeaf,
   IsAnswerAt,
@@ -13,14 +14,11 @@ ghost use Rattle.best_trees.specs.Nodes.{
   ending_at,
 };
 ghost use Rattle.best_trees.specs.Pieces.{piece_pair};
-ghost use Rattle.best_trees.specs.Pins.{demanded};
 ghost use Rattle.best_trees.specs.Searches.{IsTreeSearch};
-ghost use Rattle.best_trees.specs.Suited.{AreSuiting};
-ghost use Rattle.bar_view.specs.declared.leaf.Leaf.{Leaf};
+ghost use Rattle.best_trees.specs.Suited.{AreAllThatSuit};
 ghost use Rattle.rhythm_base.specs.Bodies.{sizes};
 ghost use Rattle.rhythm_base.specs.Trees.{suits};
 ghost use Rattle.tree_laws.specs.Shares.{AreBelow};
-ghost use Rattle.row_laws.specs.Grounds.{ground_of};
 ghost use Rattle.std.specs.Prelude.{
   ◌≡◌,
   ◌+◌,
@@ -32,6 +30,7 @@ ghost use Rattle.std.specs.Prelude.{
   true,
   if◌then◌else◌,
   IfOk,
+  IfSome,
   MatchOption,
   None,
   OnOk,
@@ -48,7 +47,7 @@ use crate::memo::{Asked, Family, LastParts, Memo, Site};
 use crate::pins::{Demand, Pins};
 use crate::suited::{Suited, suiting};
 use bar_view::{Leaf, View};
-use rhythm_base::{BarInput, Grammar};
+use rhythm_base::{BarInput, Carry, Grammar};
 use std::alloc::{AllocError, Global};
 
 /// What is searched: a bar by its view, for the first `count` of the trees of the parts of a pin.
@@ -68,7 +67,8 @@ fn nothing(alloc: Global, count: usize) -> Result<Grid, AllocError>
     ensures { IfOk result (HasLists (λ a b. if a == b then offered count (0, []) [] else [])) }
 {
     let mut grid = Grid::none(alloc)?;
-    'counts: for carried in 0..5 {
+    'counts: for number in 0..5u8 {
+        let carried = Carry::of(number);
         grid.offer(alloc, count, carried, carried, 0, &[])?;
     }
     Ok(grid)
@@ -76,9 +76,9 @@ fn nothing(alloc: Global, count: usize) -> Result<Grid, AllocError>
 
 /// The family of the trees that are asked for.
 pub fn family_of(bar: &SearchedBar<'_>, asked: Asked) -> Family
-    requires search { IsTreeSearch bar.now.grammar.now bar.now.input.now bar.now.view.now bar.now.suited.now }
+    requires search { IsTreeSearch bar.now }
     requires within { IsInBar bar.now.input.now asked }
-    ensures { IsOf bar.now.grammar.now bar.now.input.now result asked }
+    ensures { IsOf bar.now result asked }
 {
     let site = match bar.view.quiet(bar.input, asked.place, asked.width) {
         Some(quiet) => Site::Wherever(quiet),
@@ -94,11 +94,11 @@ pub fn family_of(bar: &SearchedBar<'_>, asked: Asked) -> Family
 
 /// The leaf over the interval, where no other shape is demanded, and no more than four chords are attached to it or to the next.
 fn leaf_here(bar: &SearchedBar<'_>, asked: Asked) -> Option<Leaf>
-    requires search { IsTreeSearch bar.now.grammar.now bar.now.input.now bar.now.view.now bar.now.suited.now }
+    requires search { IsTreeSearch bar.now }
     requires within { IsInBar bar.now.input.now asked }
-    ensures leaf { MatchOption result (HasNoLeaf bar.now.grammar.now bar.now.input.now bar.now.pins.now asked)
-        (IsLeafHere bar.now.grammar.now bar.now.input.now bar.now.pins.now asked) }
-    ensures small { (l : Leaf) → result ≡ Some l → l.charges < 2 ^ 60 }
+    ensures leaf { MatchOption result (HasNoLeaf bar.now asked)
+        (IsLeafHere bar.now asked) }
+    ensures small { IfSome result IsSmallLeaf }
 {
     if bar.pins.allows_none(asked.demand) {
         bar.view
@@ -111,12 +111,12 @@ fn leaf_here(bar: &SearchedBar<'_>, asked: Asked) -> Option<Leaf>
 /// The number of the best trees that are asked for, found once for all intervals that are answered alike.
 #[cycle(search)]
 pub fn search(bar: &SearchedBar<'_>, memo: &mut Memo, asked: Asked) -> Result<usize, AllocError>
-    requires search { IsTreeSearch bar.now.grammar.now bar.now.input.now bar.now.view.now bar.now.suited.now }
+    requires search { IsTreeSearch bar.now }
     requires within { IsInBar bar.now.input.now asked }
-    requires found { AreFound bar.now.grammar.now bar.now.input.now bar.now.pins.now bar.now.count memo.old.found.items }
+    requires found { AreFound bar.now memo.old.found.items }
     ensures more { OnOk result (KeepsFound memo.old.found.items memo.new.found.items) }
-    ensures found { OnOk result (AreFound bar.now.grammar.now bar.now.input.now bar.now.pins.now bar.now.count memo.new.found.items) }
-    ensures answer { IfOk result (IsAnswerAt bar.now.grammar.now bar.now.input.now bar.now.pins.now bar.now.count memo.new.found.items asked) }
+    ensures found { OnOk result (AreFound bar.now memo.new.found.items) }
+    ensures answer { IfOk result (IsAnswerAt bar.now memo.new.found.items asked) }
 {
     let family = family_of(bar, asked);
     if let Some(number) = memo.find(family) {
@@ -136,13 +136,13 @@ fn by_rules(
     asked: Asked,
     best: &mut Grid,
 ) -> Result<(), AllocError>
-    requires search { IsTreeSearch bar.now.grammar.now bar.now.input.now bar.now.view.now bar.now.suited.now }
+    requires search { IsTreeSearch bar.now }
     requires within { IsInBar bar.now.input.now asked }
-    requires found { AreFound bar.now.grammar.now bar.now.input.now bar.now.pins.now bar.now.count memo.old.found.items }
-    requires best { AreBestBelow bar.now.grammar.now bar.now.input.now bar.now.pins.now bar.now.count asked 0 best.old }
+    requires found { AreFound bar.now memo.old.found.items }
+    requires best { AreBestBelow bar.now asked 0 best.old }
     ensures more { OnOk result (KeepsFound memo.old.found.items memo.new.found.items) }
-    ensures found { OnOk result (AreFound bar.now.grammar.now bar.now.input.now bar.now.pins.now bar.now.count memo.new.found.items) }
-    ensures best { OnOk result (AreBestBelow bar.now.grammar.now bar.now.input.now bar.now.pins.now bar.now.count asked (length bar.now.grammar.now.rules) best.new) }
+    ensures found { OnOk result (AreFound bar.now memo.new.found.items) }
+    ensures best { OnOk result (AreBestBelow bar.now asked (length bar.now.grammar.now.rules) best.new) }
 {
     match bar.suited.rules(asked.width, asked.symbol) {
         Some(numbers) => by_each(bar, memo, asked, numbers, best),
@@ -162,14 +162,14 @@ fn by_each(
     numbers: &[u16],
     best: &mut Grid,
 ) -> Result<(), AllocError>
-    requires search { IsTreeSearch bar.now.grammar.now bar.now.input.now bar.now.view.now bar.now.suited.now }
+    requires search { IsTreeSearch bar.now }
     requires within { IsInBar bar.now.input.now asked }
-    requires numbers { AreSuiting bar.now.grammar.now.rules (asked.width, asked.symbol) numbers.now 0 (length bar.now.grammar.now.rules) }
-    requires found { AreFound bar.now.grammar.now bar.now.input.now bar.now.pins.now bar.now.count memo.old.found.items }
-    requires best { AreBestBelow bar.now.grammar.now bar.now.input.now bar.now.pins.now bar.now.count asked 0 best.old }
+    requires numbers { AreAllThatSuit bar.now.grammar.now.rules (asked.width, asked.symbol) numbers.now }
+    requires found { AreFound bar.now memo.old.found.items }
+    requires best { AreBestBelow bar.now asked 0 best.old }
     ensures more { OnOk result (KeepsFound memo.old.found.items memo.new.found.items) }
-    ensures found { OnOk result (AreFound bar.now.grammar.now bar.now.input.now bar.now.pins.now bar.now.count memo.new.found.items) }
-    ensures best { OnOk result (AreBestBelow bar.now.grammar.now bar.now.input.now bar.now.pins.now bar.now.count asked (length bar.now.grammar.now.rules) best.new) }
+    ensures found { OnOk result (AreFound bar.now memo.new.found.items) }
+    ensures best { OnOk result (AreBestBelow bar.now asked (length bar.now.grammar.now.rules) best.new) }
 {
     'rules: for number in numbers {
         by_rule(bar, memo, asked, *number, best)?;
@@ -186,15 +186,15 @@ fn by_rule(
     number: u16,
     best: &mut Grid,
 ) -> Result<(), AllocError>
-    requires search { IsTreeSearch bar.now.grammar.now bar.now.input.now bar.now.view.now bar.now.suited.now }
+    requires search { IsTreeSearch bar.now }
     requires within { IsInBar bar.now.input.now asked }
     requires number { number < length bar.now.grammar.now.rules }
     requires suits { suits (slice_get bar.now.grammar.now.rules number) (asked.width, asked.symbol) ≡ true }
-    requires found { AreFound bar.now.grammar.now bar.now.input.now bar.now.pins.now bar.now.count memo.old.found.items }
-    requires best { AreBestBelow bar.now.grammar.now bar.now.input.now bar.now.pins.now bar.now.count asked number best.old }
+    requires found { AreFound bar.now memo.old.found.items }
+    requires best { AreBestBelow bar.now asked number best.old }
     ensures more { OnOk result (KeepsFound memo.old.found.items memo.new.found.items) }
-    ensures found { OnOk result (AreFound bar.now.grammar.now bar.now.input.now bar.now.pins.now bar.now.count memo.new.found.items) }
-    ensures best { OnOk result (AreBestBelow bar.now.grammar.now bar.now.input.now bar.now.pins.now bar.now.count asked (number + 1) best.new) }
+    ensures found { OnOk result (AreFound bar.now memo.new.found.items) }
+    ensures best { OnOk result (AreBestBelow bar.now asked (number + 1) best.new) }
 {
     let grammar = bar.grammar;
     let rule = &grammar.rules[number as usize];
@@ -224,16 +224,16 @@ fn by_cut(
     number: u16,
     best: &mut Grid,
 ) -> Result<(), AllocError>
-    requires search { IsTreeSearch bar.now.grammar.now bar.now.input.now bar.now.view.now bar.now.suited.now }
+    requires search { IsTreeSearch bar.now }
     requires within { IsInBar bar.now.input.now asked }
     requires number { number < length bar.now.grammar.now.rules }
     requires suits { suits (slice_get bar.now.grammar.now.rules number) (asked.width, asked.symbol) ≡ true }
     requires cut { ending_at bar.now.grammar.now.rules number ≡ None }
-    requires found { AreFound bar.now.grammar.now bar.now.input.now bar.now.pins.now bar.now.count memo.old.found.items }
-    requires best { AreBestBelow bar.now.grammar.now bar.now.input.now bar.now.pins.now bar.now.count asked number best.old }
+    requires found { AreFound bar.now memo.old.found.items }
+    requires best { AreBestBelow bar.now asked number best.old }
     ensures more { OnOk result (KeepsFound memo.old.found.items memo.new.found.items) }
-    ensures found { OnOk result (AreFound bar.now.grammar.now bar.now.input.now bar.now.pins.now bar.now.count memo.new.found.items) }
-    ensures best { OnOk result (AreBestBelow bar.now.grammar.now bar.now.input.now bar.now.pins.now bar.now.count asked (number + 1) best.new) }
+    ensures found { OnOk result (AreFound bar.now memo.new.found.items) }
+    ensures best { OnOk result (AreBestBelow bar.now asked (number + 1) best.new) }
 {
     let grammar = bar.grammar;
     let rule = &grammar.rules[number as usize];
@@ -276,13 +276,13 @@ fn beside(
     demand: Demand,
     below: u16,
 ) -> Result<LastParts, AllocError>
-    requires search { IsTreeSearch bar.now.grammar.now bar.now.input.now bar.now.view.now bar.now.suited.now }
+    requires search { IsTreeSearch bar.now }
     requires below { AreBelow below (map piece_pair pieces.now) }
     requires within { place + sizes (map piece_pair pieces.now) ≤ bar.now.input.now.resolution }
-    requires found { AreFound bar.now.grammar.now bar.now.input.now bar.now.pins.now bar.now.count memo.old.found.items }
+    requires found { AreFound bar.now memo.old.found.items }
     ensures more { OnOk result (KeepsFound memo.old.found.items memo.new.found.items) }
-    ensures found { OnOk result (AreFound bar.now.grammar.now bar.now.input.now bar.now.pins.now bar.now.count memo.new.found.items) }
-    ensures best { IfOk result (AreBestLast (ground_of bar.now.grammar.now bar.now.input.now) (demanded bar.now.pins.now demand) bar.now.count memo.new.found.items place (map piece_pair pieces.now)) }
+    ensures found { OnOk result (AreFound bar.now memo.new.found.items) }
+    ensures best { IfOk result (AreBestBeside bar.now memo.new.found.items demand place pieces.now) }
 {
     let [piece, rest @ ..] = pieces else {
         return Ok(LastParts::Several(if bar.pins.allows_none(demand) {

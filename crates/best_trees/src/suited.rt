@@ -1,7 +1,6 @@
-ghost use Rattle.best_trees.specs.Suited.{AreAllSuited, AreSuiting};
+ghost use Rattle.best_trees.specs.Suited.{AreAllSuited, AreAllThatSuit, AreKnownToSuit};
 ghost use Rattle.rhythm_base.specs.Readable.{IsReadable};
-ghost use Rattle.rhythm_base.specs.declared.rule.Rule.{Rule};
-ghost use Rattle.std.specs.Prelude.{◌≡◌, List, [], IfOk, IfSome, OnOk, length};
+ghost use Rattle.std.specs.Prelude.{◌≡◌, [], IfOk, IfSome, OnOk, length};
 
 use grammar_plan::suits;
 use rhythm_base::Grammar;
@@ -36,7 +35,7 @@ pub fn suiting(
     symbol: u8,
 ) -> Result<Vec<u16>, AllocError>
     requires readable { IsReadable grammar.now }
-    ensures { IfOk result (λ v. AreSuiting grammar.now.rules (width, symbol) v.items 0 (length grammar.now.rules)) }
+    ensures { IfOk result (λ v. AreAllThatSuit grammar.now.rules (width, symbol) v.items) }
 {
     let mut numbers = Vec::new(alloc);
     'rules: for number in 0..grammar.rules.len() as u16 {
@@ -111,7 +110,7 @@ impl Suited {
 
     /// The rules that suit, where they were asked for.
     pub fn rules(&self, width: u16, symbol: u8) -> Option<&[u16]>
-        ensures { (rules : List Rule) → AreAllSuited rules self.now → IfSome result (λ numbers. AreSuiting rules (width, symbol) numbers.now 0 (length rules)) }
+        ensures { IfSome result (λ numbers. AreKnownToSuit self.now (width, symbol) numbers.now) }
     {
         let place = *self.places.get(&code_of(width, symbol))?;
         let found = self.found.get(place)?;

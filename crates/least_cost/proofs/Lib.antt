@@ -1,2 +1,6 @@
-pub mod TableLists
+pub mod AskedCosts
+pub mod LeastForests
+pub mod LeastTold
 pub mod Roots
+pub mod TableLists
+pub mod Tables

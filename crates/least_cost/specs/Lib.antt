@@ -1,3 +1,4 @@
+pub mod Costs
+pub mod KeptRules
 pub mod TableCode
 pub mod Tables
-pub mod KeptRules

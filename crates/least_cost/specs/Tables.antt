@@ -1,6 +1,7 @@
 -- The rule lists of a table.
 use Rattle.std.specs.Prelude.{◌≡◌, ℕ, ◌<◌, List, [], ◌∷◌, Option, Some, None}
 use Rattle.rhythm_base.specs.BarInput.{BarInput}
+use Rattle.rhythm_base.specs.BarTables.{BarTable}
 use Rattle.rhythm_base.specs.Grammar.{Grammar}
 use Rattle.rhythm_base.specs.Ranked.{CarryMatrix, Keys, at, five, table_of}
 use Rattle.rhythm_base.specs.declared.best.Best.{Best}
@@ -16,6 +17,10 @@ list_where (Some e) xs = Some xs
 -- the lists of the entries that are there
 abbrev pub lists_of : CarryMatrix → List ℕ → List ℕ → List (List (Option (List ℕ)))
 lists_of m rules ends = five (λ a. five (λ b. list_where (at m a b) (list_of rules ends (list_number a b))))
+
+-- the table of these costs and rule lists, for an input
+abbrev pub table_with : CarryMatrix → (rules ends : List ℕ) → BarInput → BarTable
+table_with m rules ends k = record { matrix = m; lists = lists_of m rules ends; input = k }
 
 -- all lists lie in the rules
 abbrev pub AreAllPlaced : List ℕ → List ℕ → Type 0

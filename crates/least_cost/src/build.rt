@@ -7,9 +7,8 @@ ghost use Rattle.row_laws.specs.Grounds.{IsReady, ground_of};
 ghost use Rattle.row_laws.specs.QuietTrees.{IsQuiet};
 ghost use Rattle.std.specs.Prelude.{◌≡◌, None, IfOk};
 
-use crate::copies::copy_of;
 use crate::kept_rules::KeptRules;
-use crate::steps::Steps;
+use crate::steps::{Leave, Steps};
 use crate::table::BarTable;
 use bar_trees::BarBests;
 use best_trees::least_trees;
@@ -60,7 +59,25 @@ pub fn build_planned<B: Tag>(
     ensures input { IfOk result (λ t. t.input ≡ input.now) }
     ensures table { IfOk result (IsTable grammar.now) }
 {
-    Steps::tick(builds);
+    build_table(builds.leave(), alloc, grammar, plan, room, input)
+}
+
+/// The same by the leave of a counter.
+#[inline(always)]
+pub fn build_table(
+    _leave: Leave,
+    alloc: Global,
+    grammar: &Grammar,
+    plan: &Plan,
+    room: &mut Room,
+    input: &BarInput,
+) -> Result<BarTable, AllocError>
+    requires readable { IsReadable grammar.now }
+    requires units { input.now.resolution ≡ grammar.now.resolution }
+    requires plan { IsPlan grammar.now plan.now }
+    ensures input { IfOk result (λ t. t.input ≡ input.now) }
+    ensures table { IfOk result (IsTable grammar.now) }
+{
     // An accessor's contract tells that the input is well formed.
     let _start = input.start();
     if input.pin().is_some() {
@@ -181,7 +198,7 @@ fn table_of(
     ensures table { IfOk result (IsTable grammar.now) }
 {
     let own = KeptRules::keep(alloc, rules)?;
-    let kept = copy_of(alloc, input)?;
+    let kept = input.copy(alloc)?;
     let matrix = CarryMatrix::make(bests.rows);
     Ok(BarTable::of(matrix, own, ends, kept))
 }

@@ -1,15 +1,14 @@
 ghost use Rattle.least_cost.specs.KeptRules.{rules_of};
-ghost use Rattle.least_cost.specs.Tables.{AreAllPlaced, lists_of};
+ghost use Rattle.least_cost.specs.Tables.{AreAllPlaced, table_with};
 ghost use Rattle.bar_trees.specs.WrittenLists.{IsPlaced, list_of, list_number};
 ghost use Rattle.rhythm_base.specs.BarTables.{list_at};
 ghost use Rattle.rhythm_base.specs.Counter.{risen};
 ghost use Rattle.std.specs.Prelude.{◌≡◌, ◌<◌, IfOk, option_map};
 
-use crate::copies::copy_of;
 use crate::kept_rules::KeptRules;
 use crate::steps::Steps;
 use carry_matrix::CarryMatrix;
-use rhythm_base::{BarInput, Tag};
+use rhythm_base::{BarInput, Carry, Tag};
 use std::alloc::{AllocError, Global};
 use std::marker::Model;
 
@@ -30,13 +29,13 @@ impl Model for BarTable {
     ghost use Rattle.rhythm_base.specs.BarTables.{BarTable};
     ghost use Rattle.least_cost.specs.KeptRules.{rules_of};
     ghost use Rattle.least_cost.specs.TableCode.{table_code};
-    ghost use Rattle.least_cost.specs.Tables.{AreAllPlaced, lists_of};
+    ghost use Rattle.least_cost.specs.Tables.{AreAllPlaced, table_with};
 
     ghost Value = { BarTable };
 
     ghost coded = { table_code };
 
-    ghost view = { λ t. record { matrix = t.matrix; lists = lists_of t.matrix (rules_of t.rules) t.ends; input = t.input } };
+    ghost view = { λ t. table_with t.matrix (rules_of t.rules) t.ends t.input };
 
     ghost invariant = { λ t. AreAllPlaced (rules_of t.rules) t.ends };
 }
@@ -51,7 +50,7 @@ impl BarTable {
         input: BarInput,
     ) -> BarTable
         requires { AreAllPlaced (rules_of rules) ends }
-        ensures { result ≡ record { matrix = matrix; lists = lists_of matrix (rules_of rules) ends; input = input } }
+        ensures { result ≡ table_with matrix (rules_of rules) ends input }
     {
         BarTable {
             matrix,
@@ -75,7 +74,7 @@ impl BarTable {
         // An accessor's contract tells that the input is well formed.
         let _start = self.input.start();
         let rules = self.rules.copy(alloc)?;
-        let input = copy_of(alloc, &self.input)?;
+        let input = self.input.copy(alloc)?;
         Ok(BarTable::of(self.matrix, rules, self.ends, input))
     }
 
@@ -94,7 +93,11 @@ impl BarTable {
     {
         match self.matrix.get(from, to) {
             None => None,
-            Some(_best) => Some(list_in(self.rules.as_slice(), &self.ends, from, to)),
+            Some(_best) => {
+                let row = Carry::of(from);
+                let column = Carry::of(to);
+                Some(list_in(self.rules.as_slice(), &self.ends, row, column))
+            }
         }
     }
 
@@ -107,13 +110,11 @@ impl BarTable {
 }
 
 /// The list for these numbers carried in and out.
-fn list_in<'a>(rules: &'a [u16], ends: &[u16; 25], from: u8, to: u8) -> &'a [u16]
-    requires from { from < 5 }
-    requires to { to < 5 }
+fn list_in<'a>(rules: &'a [u16], ends: &[u16; 25], from: Carry, to: Carry) -> &'a [u16]
     requires placed { IsPlaced rules.now ends.now (list_number from to) }
     ensures { result.now ≡ list_of rules.now ends.now (list_number from to) }
 {
-    let number = 5 * from as usize + to as usize;
+    let number = 5 * from.index() + to.index();
     let end = ends[number] as usize;
     let first = if number == 0 {
         0

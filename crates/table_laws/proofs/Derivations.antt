@@ -16,7 +16,7 @@ use Rattle.tree_laws.specs.Voices.{IsVoice}
 use Rattle.chain_bars.specs.Laws.{AreTables, matrices}
 use Rattle.chain_bars.proofs.Voices.{dead_bar, key_derivation, path_none}
 use Rattle.table_laws.proofs.SomeDead.{some_dead}
-use Rattle.table_laws.proofs.Tables.{some_table}
+use Rattle.least_cost.proofs.Tables.{some_table}
 
 -- each bar has a table
 some_tables : (g : Grammar) (cs : List Inner) (bars : List VoiceBar) → All (λ bar. IsReady g (input g bar cs)) bars → (tables : List BarTable) × AreTables g cs bars tables

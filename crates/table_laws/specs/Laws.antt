@@ -1,5 +1,6 @@
 -- The laws, each as one statement over the definitions.
-use Rattle.std.specs.Prelude.{◌≡◌, ℕ, ◌⊎◌, List, All}
+use Rattle.std.specs.Prelude.{◌≡◌, ℕ, ◌⊎◌, Bool, List, All, Option}
+use Rattle.least_cost.specs.Costs.{AreCostsOf}
 use Rattle.rhythm_base.specs.BarInput.{BarInput}
 use Rattle.rhythm_base.specs.BarTables.{BarTable, IsTable}
 use Rattle.rhythm_base.specs.Cells.{input}
@@ -23,6 +24,12 @@ use Rattle.tree_laws.specs.Voices.{IsVoice}
 abbrev pub TablesExist : Type 0
 TablesExist =
     (g : Grammar) (k : BarInput) → IsReady g k → (table : BarTable) × IsTable g table × (table.input ≡ k)
+
+-- the costs that are asked for of a cell are one
+abbrev pub CostsAreOne : Type 0
+CostsAreOne =
+    (g : Grammar) (k : BarInput) (asked : List Bool) (costs others : List (List (Option ℕ)))
+    → AreCostsOf g k asked costs → AreCostsOf g k asked others → costs ≡ others
 
 -- a voice, each bar of which is a cell of a grammar from a file, has a least derivation, or none fits
 abbrev pub DerivationsExist : Type 0

@@ -1,5 +1,6 @@
 ghost use Rattle.table_laws.specs.Laws.{
   ChordsExist,
+  CostsAreOne,
   DeadBarsExist,
   DerivationsExist,
   TablesExist,
@@ -10,6 +11,11 @@ ghost use Rattle.table_laws.specs.Laws.{
 /// Each cell of a grammar from a file has a table.
 pub fn tables_exist()
     ensures { TablesExist }
+{}
+
+/// The costs that are asked for of a cell are one.
+pub fn costs_are_one()
+    ensures { CostsAreOne }
 {}
 
 /// A voice has a least derivation, or no derivation of it fits.

@@ -6,6 +6,6 @@
 mod laws;
 
 pub use laws::{
-    chords_exist, dead_bars_exist, derivations_exist, tables_exist, voices_are_ready,
-    voices_have_answers,
+    chords_exist, costs_are_one, dead_bars_exist, derivations_exist, tables_exist,
+    voices_are_ready, voices_have_answers,
 };

@@ -28,7 +28,7 @@ returns-clause-builds g c =
     let searched = c.as_slice-searched.result.now in
     let is : length searched ≡ length (searched_from 0 equals) = ap length (c.as_slice-searched.ensures.value ∙ c.in_ok-sources.ensures.searched) in
     let few = searched_few 0 equals in
-    let many = each_length (IsTableAt c.args.order.now.grammar.now inputs) searched c.in_ok-found.found.items c.in_ok-found.ensures.tables in
+    let many = each_length (IsTableAt c.args.order.now.grammar.now inputs) searched c.in_ok-found.found.items c.in_ok-found.ensures.things in
     on_ok_weaker c.spread.result (λ rises. omega (arith, rises, c.in_ok-found.ensures.builds, many, is, few, c.in_ok-sources.ensures.equals.long)) c.spread.ensures.builds
 
 pub returns-clause-most : goal.returns-clause-most
@@ -38,7 +38,7 @@ returns-clause-most g c =
     let searched = c.as_slice-searched.result.now in
     let is : length searched ≡ length (searched_from 0 equals) = ap length (c.as_slice-searched.ensures.value ∙ c.in_ok-sources.ensures.searched) in
     let few = searched_few 0 equals in
-    let many = each_length (IsTableAt c.args.order.now.grammar.now inputs) searched c.in_ok-found.found.items c.in_ok-found.ensures.tables in
+    let many = each_length (IsTableAt c.args.order.now.grammar.now inputs) searched c.in_ok-found.found.items c.in_ok-found.ensures.things in
     let most = c.spread.ensures.most in (
       omega (arith, most.0, c.in_ok-found.ensures.builds),
       omega (arith, most.1, c.in_ok-found.ensures.builds, many, is, few, c.in_ok-sources.ensures.equals.long),

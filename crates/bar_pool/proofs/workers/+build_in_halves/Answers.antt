@@ -8,9 +8,9 @@ split_seat-other-requires g t c =
     let seat = c.args.seat in
     (c.requires.table, omega arith, split_allowed c.args.shared.now.key seat.id seat.me.0 (omega arith) c.requires.fresh.past)
 
-pub returns-clause-tables : goal.returns-clause-tables
-returns-clause-tables g t c =
+pub returns-clause-things : goal.returns-clause-things
+returns-clause-things g t c =
     let first = c.side_by_side-first.result.0 in
     let second = c.side_by_side-first.result.1 in
-    both_built c.args.order.now.grammar.now c.args.order.now.inputs.now c.args.searched.now first.seat.me second.seat.me c.take_over.result.seat.me c.take_over.ensures.view (λ v. v.items)
-    c.take_over.result.tables first.tables second.tables c.take_over.ensures.tables c.take_over.ensures.both c.side_by_side-first.ensures.first.1.1.0 c.side_by_side-first.ensures.second.1.1.0
+    both_built (g.J.Job.built c.args.job.now) c.args.searched.now first.seat.me second.seat.me c.take_over.result.seat.me c.take_over.ensures.view (λ v. v.items)
+    c.take_over.result.things first.things second.things c.take_over.ensures.things c.take_over.ensures.both c.side_by_side-first.ensures.first.1.1.0 c.side_by_side-first.ensures.second.1.1.0

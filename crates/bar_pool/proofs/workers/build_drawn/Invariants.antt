@@ -10,8 +10,8 @@ invariant-draws g l = record {
   id : l.seat.id ≡ l.initial.seat.id;
   share : HasShare l.seat.me (length l.searched) 1;
   past : l.seat.me.0.past ≡ 0;
-  numbers : numbers l.tables.items ≡ l.seat.me.0.drawn;
-  tables : All (IsNumbered l.order.grammar.now l.order.inputs.now l.searched) l.tables.items;
+  numbers : numbers l.things.items ≡ l.seat.me.0.drawn;
+  things : All (IsNumbered (g.J.Job.built l.job) l.searched) l.things.items;
   within : above l.seat.me.0.drawn ≤ length l.searched;
   builds : l.builds ≡ risen l.initial.builds (length l.seat.me.0.drawn);
 }

@@ -1,13 +1,12 @@
 use Rattle.std.proofs.Common.{◌≡◌, ◌<◌, ◌≤◌, arith, [], ◌∷◌, refl, subst}
 use Rattle.std.specs.Prelude.{Option, Some, None, option_map}
+use Rattle.std.proofs.lemmas.Option.{slice_get_within}
 use Rattle.std.proofs.lemmas.Result.{IfOk-weaker}
 use Rattle.rhythm_base.specs.Shape.{Shape}
 use Rattle.tree_laws.specs.Forests.{first_shape, one_shape}
 use Rattle.row_laws.specs.Grounds.{ground_of}
 use Rattle.best_trees.specs.Pins.{least_leaves}
-use Rattle.best_trees.specs.declared.memo.Asked.{Asked}
 use Rattle.best_trees.proofs.Crowds.{crowded-none}
-use Rattle.best_trees.proofs.Families.{answer-low}
 use Rattle.best_trees.proofs.Steps.{forests-none}
 use Rattle.best_trees.proofs.bar.best_trees.Goals as goal
 
@@ -27,5 +26,5 @@ returns-then-leaves-from c =
 
 pub take-requires-2 : goal.take-requires-2
 take-requires-2 c =
-    let asked : Asked = record { place = 0; width = c.resolution-2.result; symbol = c.start.result; demand = c.in_ok-demand.demand } in
-    answer-low c.args.grammar.now c.args.input.now c.take.new.self c.args.count c.search-2.new.memo.found.items asked c.in_ok-number.number c.in_ok-number.ensures.answer
+    let answer = c.in_ok-number.ensures.answer in
+    slice_get_within c.search-2.new.memo.found.items c.in_ok-number.number answer.0 answer.1

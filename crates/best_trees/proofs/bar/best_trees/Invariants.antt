@@ -2,4 +2,4 @@ use Rattle.best_trees.specs.Nodes.{AreFound}
 use Rattle.best_trees.proofs.bar.best_trees.Given as goal
 
 abbrev pub invariant-widths : goal.invariant-widths
-invariant-widths l = AreFound l.bar.grammar.now l.bar.input.now l.bar.pins.now l.bar.count l.memo.found.items
+invariant-widths l = AreFound l.bar l.memo.found.items

@@ -6,5 +6,5 @@ use Rattle.best_trees.proofs.grid.offer_at.Given as goal
 abbrev pub invariant-counts : goal.invariant-counts
 invariant-counts l = record {
   kept : AreKeptKeys l.count l.best;
-  so_far : l.best ≡ joined_below l.count (l.sides.cost, l.sides.top.now) l.sides.left.now l.sides.right.now l.from l.to l.initial.best l.middle;
+  so_far : l.best ≡ joined_below l.count (l.sides.cost, l.sides.top.now) l.sides.left.now l.sides.right.now l.from l.to l.initial.best l.number;
 }

@@ -82,7 +82,7 @@ pub beside-grid-requires : goal.beside-grid-requires
 beside-grid-requires t c =
     let x = get_or c.args.pieces.now 0 no_piece in
     let asked : Asked = record { place = c.args.place; width = x.width; symbol = x.symbol; demand = c.in-Some.first } in
-    answer-low c.args.bar.now.grammar.now c.args.bar.now.input.now c.args.bar.now.pins.now c.args.bar.now.count c.search-2.new.memo.found.items asked c.in_ok-number-2.number c.in_ok-number-2.ensures.answer
+    answer-low c.args.bar.now c.search-2.new.memo.found.items asked c.in_ok-number-2.number c.in_ok-number-2.ensures.answer
 
 pub beside-grid_of-requires : goal.beside-grid_of-requires
 beside-grid_of-requires t c =
@@ -108,7 +108,7 @@ beside-join-requires-clause-left t c =
     let below : AreBelow c.args.below (map piece_pair (x ∷ rest)) = subst (λ l. AreBelow c.args.below (map piece_pair l)) e c.requires.below in
     let within : c.args.place + sizes (map piece_pair (x ∷ rest)) ≤ k.resolution = subst (λ l. c.args.place + sizes (map piece_pair l) ≤ k.resolution) e c.requires.within in
     let asked : Asked = record { place = c.args.place; width = x.width; symbol = x.symbol; demand = c.in-Some.first } in
-    let own = answered g k os n c.search-2.new.memo.found.items asked c.in_ok-number-2.number c.grid.result.now c.in_ok-number-2.ensures.answer c.grid.ensures in
+    let own = answered c.args.bar.now c.search-2.new.memo.found.items asked c.in_ok-number-2.number c.grid.result.now c.in_ok-number-2.ensures.answer c.grid.ensures in
     beside-addable g k c.requires.search.ready (one_shape (demanded os c.in-Some.first)) n c.args.place c.args.below (piece_pair x ∷ []) c.grid.result.now (below.0, below.1, tt) (omega (arith, within)) own
 
 pub beside-join-requires-clause-right : goal.beside-join-requires-clause-right
@@ -143,7 +143,7 @@ beside-returns-clause-best t c =
     let below : AreBelow c.args.below (map piece_pair (x ∷ rest)) = subst (λ l. AreBelow c.args.below (map piece_pair l)) e c.requires.below in
     let within : c.args.place + sizes (map piece_pair (x ∷ rest)) ≤ k.resolution = subst (λ l. c.args.place + sizes (map piece_pair l) ≤ k.resolution) e c.requires.within in
     let asked : Asked = record { place = c.args.place; width = x.width; symbol = x.symbol; demand = c.in-Some.first } in
-    let own = answered g k os n c.search-2.new.memo.found.items asked c.in_ok-number-2.number c.grid.result.now c.in_ok-number-2.ensures.answer c.grid.ensures in
+    let own = answered c.args.bar.now c.search-2.new.memo.found.items asked c.in_ok-number-2.number c.grid.result.now c.in_ok-number-2.ensures.answer c.grid.ensures in
     let next = c.args.place + x.width in
     let d = ground_of g k in
     let s = demanded os c.in-Some.others in
@@ -172,7 +172,7 @@ by_cut-returns-then-not-have_room-clause-best t c =
     let suit = ap (λ o. suits o (c.args.asked.width, c.args.asked.symbol)) (sym at) ∙ c.requires.suits in
     let cuts = ap rule_ending (sym at) ∙ c.requires.cut in
     let bare : NoneFit (children rule.body c.args.asked.width) (demanded os c.args.asked.demand) = subst (λ qs. NoneFit qs (demanded os c.args.asked.demand)) pieces (c.have_room.ensures (is_false c.if-not-have_room.true) (below-wide c.args.asked.width (map piece_pair xs) below)) in
-    best-roomless g k os n c.args.asked ready c.args.number rule at suit cuts bare c.args.best.now c.requires.best
+    best-roomless c.args.bar.now c.args.asked ready c.args.number rule at suit cuts bare c.args.best.now c.requires.best
 
 pub by_cut-returns-in_default-clause-best : goal.by_cut-returns-in_default-clause-best
 by_cut-returns-in_default-clause-best t c =
@@ -206,7 +206,7 @@ by_cut-returns-in_default-split-clause-best t c =
     let rest = take (length xs - 1) (drop 1 xs) in
     let kids = kids_are g k ready c.args.asked c.requires.within c.args.number rule at c.requires.suits c.requires.cut xs pieces in
     let bare = closed-none (piece_pair x) (map piece_pair rest) (demanded os c.args.asked.demand) c.in_default-split.ensures in
-    best-roomless g k os n c.args.asked ready c.args.number rule at suit cuts (subst (λ qs. NoneFit qs (demanded os c.args.asked.demand)) (sym kids) bare) c.args.best.now c.requires.best
+    best-roomless c.args.bar.now c.args.asked ready c.args.number rule at suit cuts (subst (λ qs. NoneFit qs (demanded os c.args.asked.demand)) (sym kids) bare) c.args.best.now c.requires.best
 
 pub by_cut-overflow_add-next : goal.by_cut-overflow_add-next
 by_cut-overflow_add-next t c =
@@ -267,7 +267,7 @@ pub by_cut-grid-requires : goal.by_cut-grid-requires
 by_cut-grid-requires t c =
     let x = get_or c.as_slice-pieces.result.now 0 no_piece in
     let asked : Asked = record { place = c.args.asked.place; width = x.width; symbol = x.symbol; demand = c.in-Some.below } in
-    answer-low c.args.bar.now.grammar.now c.args.bar.now.input.now c.args.bar.now.pins.now c.args.bar.now.count c.search.new.memo.found.items asked c.in_ok-left.left c.in_ok-left.ensures.answer
+    answer-low c.args.bar.now c.search.new.memo.found.items asked c.in_ok-left.left c.in_ok-left.ensures.answer
 
 pub by_cut-offer_joined-requires-clause-left : goal.by_cut-offer_joined-requires-clause-left
 by_cut-offer_joined-requires-clause-left t c =
@@ -286,7 +286,7 @@ by_cut-offer_joined-requires-clause-left t c =
     let x = get_or xs 0 no_piece in
     let rest = take (length xs - 1) (drop 1 xs) in
     let asked : Asked = record { place = c.args.asked.place; width = x.width; symbol = x.symbol; demand = c.in-Some.below } in
-    let left = answered g k os n c.search.new.memo.found.items asked c.in_ok-left.left c.grid.result.now c.in_ok-left.ensures.answer c.grid.ensures in
+    let left = answered c.args.bar.now c.search.new.memo.found.items asked c.in_ok-left.left c.grid.result.now c.in_ok-left.ensures.answer c.grid.ensures in
     beside-addable g k ready (one_shape (demanded os c.in-Some.below)) n c.args.asked.place c.args.asked.width (piece_pair x ∷ []) c.grid.result.now (below.0, below.1, tt) (omega (arith, within)) left
 
 pub by_cut-offer_joined-requires-clause-right : goal.by_cut-offer_joined-requires-clause-right
@@ -336,7 +336,7 @@ by_cut-returns-clause-best t c =
     let x = get_or xs 0 no_piece in
     let rest = take (length xs - 1) (drop 1 xs) in
     let asked : Asked = record { place = c.args.asked.place; width = x.width; symbol = x.symbol; demand = c.in-Some.below } in
-    let left = answered g k os n c.search.new.memo.found.items asked c.in_ok-left.left c.grid.result.now c.in_ok-left.ensures.answer c.grid.ensures in
+    let left = answered c.args.bar.now c.search.new.memo.found.items asked c.in_ok-left.left c.grid.result.now c.in_ok-left.ensures.answer c.grid.ensures in
     let next = c.args.asked.place + x.width in
     let d = ground_of g k in
     let s = demanded os c.in-Some.others in
@@ -347,7 +347,7 @@ by_cut-returns-clause-best t c =
     let kids = kids_are g k ready c.args.asked c.requires.within c.args.number rule at c.requires.suits c.requires.cut xs pieces in
     let from : c.from.result ≡ rule.weight = search rules in
     on_ok_weaker c.offer_joined.result
-    (λ is. best-cut g k os n c.args.asked ready c.args.number rule at suit cuts (piece_pair x) (map piece_pair rest) (demanded os c.in-Some.below) s c.in-Some.ensures.0 c.in-Some.ensures.1 kids below l r c.args.best.now c.offer_joined.new.self left right is
+    (λ is. best-cut c.args.bar.now c.args.asked ready c.args.number rule at suit cuts (piece_pair x) (map piece_pair rest) (demanded os c.in-Some.below) s c.in-Some.ensures.0 c.in-Some.ensures.1 kids below l r c.args.best.now c.offer_joined.new.self left right is
     c.requires.best)
     (subst (λ w. OnOk c.offer_joined.result (HasLists (λ a b. joined_row n (w, c.args.number ∷ []) l r a b (ranking_at c.args.best.now a b)) c.offer_joined.new.self)) from c.offer_joined.ensures)
 
@@ -371,7 +371,7 @@ by_rule-returns-in-Some-leaf_here-clause-best t c =
     let suit = ap (λ o. suits o (c.args.asked.width, c.args.asked.symbol)) (sym at) ∙ c.requires.suits in
     let ends = sym c.ending.ensures ∙ c.in-Some.is in
     on_ok_weaker c.offer_leaf.result
-    (λ is. best-leaf g k os c.args.bar.now.count c.args.asked c.requires.search.ready c.args.number c.index-rule.result.now at suit c.in-Some.ending ends c.in-Some-leaf_here.leaf c.in-Some-leaf_here.ensures.leaf c.args.best.now c.offer_leaf.new.best is
+    (λ is. best-leaf c.args.bar.now c.args.asked c.requires.search.ready c.args.number c.index-rule.result.now at suit c.in-Some.ending ends c.in-Some-leaf_here.leaf c.in-Some-leaf_here.ensures.leaf c.args.best.now c.offer_leaf.new.best is
     c.requires.best)
     c.offer_leaf.ensures
 
@@ -384,7 +384,7 @@ by_rule-returns-in-None-leaf_here-clause-best t c =
     let at = rule_here g.rules c.grammar.inside.rules.items c.args.number c.index-rule.result.now own c.requires.number c.index-rule.ensures in
     let suit = ap (λ o. suits o (c.args.asked.width, c.args.asked.symbol)) (sym at) ∙ c.requires.suits in
     let ends = sym c.ending.ensures ∙ c.in-Some.is in
-    best-bare g k os c.args.bar.now.count c.args.asked c.requires.search.ready c.args.number c.index-rule.result.now at suit c.in-Some.ending ends c.args.best.now c.in-None-leaf_here.ensures.leaf c.requires.best
+    best-bare c.args.bar.now c.args.asked c.requires.search.ready c.args.number c.index-rule.result.now at suit c.in-Some.ending ends c.args.best.now c.in-None-leaf_here.ensures.leaf c.requires.best
 
 -- ---- all rules
 
@@ -400,7 +400,7 @@ by_each-by_rule-requires t c =
     let n = c.args.bar.now.count in
     let inv = c.rules.invariant.best in
     let next = next_suiting g.rules (c.args.asked.width, c.args.asked.symbol) c.args.numbers.now c.rules.number-index inv.0 (length g.rules) c.rules-test.true inv.2 in
-    let best = best-jump g k os n c.args.asked inv.0 (get_or c.args.numbers.now c.rules.number-index 0) c.rules.best next.0 next.2 inv.3 in
+    let best = best-jump c.args.bar.now c.args.asked inv.0 (get_or c.args.numbers.now c.rules.number-index 0) c.rules.best next.0 next.2 inv.3 in
     and_then (omega (arith, c.decreases)) (and_then c.requires.search (and_then c.requires.within (and_then next.1 (and_then next.3 (and_then c.rules.invariant.found best)))))
 
 pub by_each-rules-preserved : goal.by_each-rules-preserved
@@ -424,7 +424,7 @@ by_each-returns-clause-best t c =
     let inv = c.rules.invariant.best in
     let bare : drop c.rules.number-index c.args.numbers.now ≡ [] = drop_all c.rules.number-index c.args.numbers.now c.rules-test.false in
     let none_left : AreSuiting g.rules q [] inv.0 (length g.rules) = subst (λ l. AreSuiting g.rules q l inv.0 (length g.rules)) bare inv.2 in
-    best-jump g k os n c.args.asked inv.0 (length g.rules) c.rules.best inv.1 none_left inv.3
+    best-jump c.args.bar.now c.args.asked inv.0 (length g.rules) c.rules.best inv.1 none_left inv.3
 
 -- ---- one tree
 
@@ -432,7 +432,7 @@ pub search-returns-in-Some-clause-answer : goal.search-returns-in-Some-clause-an
 search-returns-in-Some-clause-answer t c =
     let g = c.args.bar.now.grammar.now in
     let k = c.args.bar.now.input.now in
-    found-is g k c.args.bar.now.pins.now (grounded g k c.requires.search.ready) c.args.bar.now.count c.args.memo.now.found.items c.family_of-family.result c.args.asked c.in-Some.number c.family_of-family.ensures c.requires.found c.in-Some.ensures
+    found-is c.args.bar.now (grounded g k c.requires.search.ready) c.args.memo.now.found.items c.family_of-family.result c.args.asked c.in-Some.number c.family_of-family.ensures c.requires.found c.in-Some.ensures.found
 
 pub search-returns-clause-found : goal.search-returns-clause-found
 search-returns-clause-found t c =
@@ -440,8 +440,8 @@ search-returns-clause-found t c =
     let k = c.args.bar.now.input.now in
     let os = c.args.bar.now.pins.now in
     let n = c.args.bar.now.count in
-    let own : AreDemanded g k os n c.args.asked c.by_rules.new.best = best-all g k os n c.args.asked c.by_rules.new.best c.in_ok-by_rules.ensures.best in
-    found-add g k os (grounded g k c.requires.search.ready) n c.by_rules.new.memo.found.items c.keep.new.self.found.items c.family_of-family.result c.args.asked c.by_rules.new.best c.requires.within c.family_of-family.ensures c.in_ok-number.ensures.found
+    let own : AreDemanded c.args.bar.now c.args.asked c.by_rules.new.best = best-all c.args.bar.now c.args.asked c.by_rules.new.best c.in_ok-by_rules.ensures.best in
+    found-add c.args.bar.now (grounded g k c.requires.search.ready) c.by_rules.new.memo.found.items c.keep.new.self.found.items c.family_of-family.result c.args.asked c.by_rules.new.best c.requires.within c.family_of-family.ensures c.in_ok-number.ensures.found
     c.in_ok-by_rules.ensures.found own
 
 pub search-returns-clause-answer : goal.search-returns-clause-answer
@@ -450,8 +450,8 @@ search-returns-clause-answer t c =
     let k = c.args.bar.now.input.now in
     let os = c.args.bar.now.pins.now in
     let n = c.args.bar.now.count in
-    let own : AreDemanded g k os n c.args.asked c.by_rules.new.best = best-all g k os n c.args.asked c.by_rules.new.best c.in_ok-by_rules.ensures.best in
-    found-last g k os (grounded g k c.requires.search.ready) n c.by_rules.new.memo.found.items c.keep.new.self.found.items c.family_of-family.result c.args.asked c.by_rules.new.best c.in_ok-number.number c.in_ok-number.ensures.found
+    let own : AreDemanded c.args.bar.now c.args.asked c.by_rules.new.best = best-all c.args.bar.now c.args.asked c.by_rules.new.best c.in_ok-by_rules.ensures.best in
+    found-last c.args.bar.now (grounded g k c.requires.search.ready) c.by_rules.new.memo.found.items c.keep.new.self.found.items c.family_of-family.result c.args.asked c.by_rules.new.best c.in_ok-number.number c.in_ok-number.ensures.found
     c.in_ok-number.ensures.number own
 
 pub search-returns-clause-more : goal.search-returns-clause-more

@@ -25,7 +25,7 @@ decreases-search l = 64 * l.asked.width + 63
 abbrev pub invariant-by_each-rules : goal.invariant-by_each-rules
 invariant-by_each-rules l = record {
   more : KeepsFound l.initial.memo.found.items l.memo.found.items;
-  found : AreFound l.bar.grammar.now l.bar.input.now l.bar.pins.now l.bar.count l.memo.found.items;
+  found : AreFound l.bar l.memo.found.items;
   best : (i : ℕ) × (i ≤ length l.bar.grammar.now.rules) × AreSuiting l.bar.grammar.now.rules (l.asked.width, l.asked.symbol) (drop l.number-index l.numbers) i (length l.bar.grammar.now.rules)
-      × AreBestBelow l.bar.grammar.now l.bar.input.now l.bar.pins.now l.bar.count l.asked i l.best;
+      × AreBestBelow l.bar l.asked i l.best;
 }

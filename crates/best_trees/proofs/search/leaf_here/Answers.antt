@@ -12,7 +12,7 @@ returns-then-allows_none-clause-leaf c = go c.leaf.result c.leaf.ensures
     go : (o : Option Leaf)
         → MatchOption o (IsCrowded c.args.bar.now.input.now c.args.asked.place c.args.asked.width)
         (λ l. HasLeaf c.args.bar.now.grammar.now c.args.bar.now.input.now c.args.asked.place c.args.asked.width l.own l.next l.sounds l.charges × (l.charges < 2 ^ 60))
-        → MatchOption o (HasNoLeaf c.args.bar.now.grammar.now c.args.bar.now.input.now c.args.bar.now.pins.now c.args.asked)
-        (IsLeafHere c.args.bar.now.grammar.now c.args.bar.now.input.now c.args.bar.now.pins.now c.args.asked)
-    go None many = crowded-none c.args.bar.now.grammar.now c.args.bar.now.input.now c.args.bar.now.pins.now c.args.asked c.requires.search.ready.units many
+        → MatchOption o (HasNoLeaf c.args.bar.now c.args.asked)
+        (IsLeafHere c.args.bar.now c.args.asked)
+    go None many = crowded-none c.args.bar.now c.args.asked c.requires.search.ready.units many
     go (Some l) here = record { allowed = c.if-allows_none.ensures.0 refl; leaf = here.0 }

@@ -1,4 +1,4 @@
-use Rattle.table_laws.proofs.Tables.{some_table}
+use Rattle.least_cost.proofs.Tables.{some_table}
 use Rattle.table_laws.proofs.laws.tables_exist.Goals as goal
 
 pub returns : goal.returns

@@ -2,4 +2,4 @@ use Rattle.best_trees.specs.Nodes.{AreFound}
 use Rattle.best_trees.proofs.agenda.Agenda.search.Given as goal
 
 abbrev pub invariant-asked : goal.invariant-asked
-invariant-asked l = AreFound l.bar.grammar.now l.bar.input.now l.bar.pins.now l.bar.count l.memo.found.items
+invariant-asked l = AreFound l.bar l.memo.found.items

@@ -12,5 +12,5 @@ returns-in-Some c =
     let x = c.self.inside in
     let from = c.args.from in
     let to = c.args.to in
-    ap Some c.list_in.ensures ∙ ap (λ rules. Some (list_of rules x.ends (list_number from to))) c.as_slice.ensures ∙ ap (λ e. list_where e (list_of (rules_of x.rules) x.ends (list_number from to))) c.in-Some.ensures.is
+    ap Some c.list_in.ensures ∙ (λ i. Some (list_of c.as_slice.result.now x.ends (list_number (c.of-row.ensures i) (c.of-column.ensures i)))) ∙ ap (λ rules. Some (list_of rules x.ends (list_number from to))) c.as_slice.ensures ∙ ap (λ e. list_where e (list_of (rules_of x.rules) x.ends (list_number from to))) c.in-Some.ensures.is
     ∙ sym (list-where x.matrix (rules_of x.rules) x.ends from to c.requires.from c.requires.to) ∙ ap (λ t. list_at t from to) c.self.view_is

@@ -11,26 +11,29 @@ use Rattle.tree_laws.specs.Shares.{AreBelow}
 use Rattle.path_laws.proofs.Products.{five_at}
 use Rattle.least_cost.proofs.Roots.{root-table}
 use Rattle.least_cost.proofs.TableLists.{key_list}
-use Rattle.table_laws.proofs.LeastForests.{forest_least}
+use Rattle.least_cost.proofs.LeastForests.{forest_least}
 
 module _ (g : Grammar) (k : BarInput) (ready : IsReady g k) where
-  abbrev root : List (ℕ × ℕ)
+  abbrev pub root : List (ℕ × ℕ)
   root = (k.resolution, k.symbol) ∷ []
 
-  root_below : AreBelow (k.resolution + 1) root
+  pub root_below : AreBelow (k.resolution + 1) root
   root_below = (ready.cell.some_unit, omega arith, tt)
 
-  abbrev keys : Keys
+  abbrev pub keys : Keys
   keys a b = (forest_least (ground_of g k) (one_shape k.pin) 0 root a b (k.resolution + 1) root_below).0
 
-  keys_least : AreLeast (ground_of g k) (one_shape k.pin) 0 root keys
+  pub keys_least : AreLeast (ground_of g k) (one_shape k.pin) 0 root keys
   keys_least a b la lb = (forest_least (ground_of g k) (one_shape k.pin) 0 root a b (k.resolution + 1) root_below).1 la lb
 
-  abbrev table : BarTable
+  abbrev pub table : BarTable
   table = record { matrix = table_of keys; lists = five (λ a. five (λ b. key_list (keys a b))); input = k }
 
   lists_are : (a b : ℕ) → a < 5 → b < 5 → list_at table a b ≡ key_list (keys a b)
   lists_are a b la lb = ap (λ row. slice_index_or row b None) (five_at (λ a. five (λ b. key_list (keys a b))) [] a la) ∙ five_at (λ b. key_list (keys a b)) None b lb
 
+  pub is_table : IsTable g table
+  is_table = root-table g k ready keys keys_least table refl lists_are
+
   pub some_table : (table : BarTable) × IsTable g table × (table.input ≡ k)
-  some_table = (table, root-table g k ready keys keys_least table refl lists_are, refl)
+  some_table = (table, is_table, refl)

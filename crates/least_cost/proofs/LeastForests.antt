@@ -14,7 +14,7 @@ use Rattle.tree_laws.specs.Runs.{leaving}
 use Rattle.tree_laws.specs.Shares.{AreBelow}
 use Rattle.path_laws.proofs.LeastKeys.{IsLeast-same}
 use Rattle.tree_laws.proofs.Ranks.{both}
-use Rattle.table_laws.proofs.LeastTold.{IsToldKey, told_least}
+use Rattle.least_cost.proofs.LeastTold.{IsToldKey, told_least}
 use Rattle.rhythm_base.proofs.Booleans.{equal_test}
 
 same_is : (m n : ℕ) → (m == n) ≡ true → m ≡ n
