@@ -70,17 +70,17 @@ module _ (g : Grammar) (whole : List TimedLeaf) (lists : List (List ℕ)) (i n :
       }
 
 module _ (g : Grammar) (last n : ℕ) (later after : List Bar) (d : Bar) (some : 1 ≤ length later) (rest : after ≡ drop 1 later) where
-  pub list_read : (whole : List TimedLeaf) (lists : List (List ℕ)) (i : ℕ) (rules : List Rule) (r end : ℕ) (list left : List ℕ) (found longer : List TimedLeaf)
-      → rules ≡ g.rules → r ≡ g.resolution → end ≡ barline after last 0 → i < length lists → list ≡ get_or lists i list
-      → ((symbol : ℕ) → AreRead rules (record { number = n; start = (get_or later 0 d).start; length = end - (get_or later 0 d).start; resolution = r }) 0 ((r, symbol) ∷ []) list left found longer)
+  pub list_read : (whole : List TimedLeaf) (lists : List (List ℕ)) (i : ℕ) (rules : List Rule) (r width end : ℕ) (list left : List ℕ) (found longer : List TimedLeaf)
+      → rules ≡ g.rules → r ≡ g.resolution → width ≡ r → end ≡ barline after last 0 → i < length lists → list ≡ get_or lists i list
+      → ((symbol : ℕ) → AreRead rules (record { number = n; start = (get_or later 0 d).start; length = end - (get_or later 0 d).start; resolution = r }) 0 ((width, symbol) ∷ []) list left found longer)
       → IsFound g whole lists i n (voice_bars_from g [] 0 last n later) found → IsFound g whole lists (i + 1) (n + 1) (voice_bars_from g [] 0 last (n + 1) after) longer
-  list_read whole lists i rules r end list left found longer same_rules same_units same_end within is read h =
+  list_read whole lists i rules r width end list left found longer same_rules same_units same_width same_end within is read h =
       let first : Bar = get_or later 0 d in
       let bar : VoiceBar = voice_bar g [] 0 n first (barline after last 0) in
       let others : List VoiceBar = voice_bars_from g [] 0 last (suc n) after in
       let Read : List Rule → ℕ → ℕ → Type 0 = λ rs u e. (symbol : ℕ) → AreRead rs (record { number = n; start = first.start; length = e - first.start; resolution = u }) 0 ((u, symbol) ∷ []) list left found longer in
       let own : Read g.rules g.resolution (barline after last 0) =
-      subst (Read g.rules g.resolution) same_end (subst (λ u. Read g.rules u end) same_units (subst (λ rs. Read rs r end) same_rules read)) in
+      subst (Read g.rules g.resolution) same_end (subst (λ u. Read g.rules u end) same_units (subst (λ rs. Read rs r end) same_rules (subst (λ w. (symbol : ℕ) → AreRead rules (record { number = n; start = first.start; length = end - first.start; resolution = r }) 0 ((w, symbol) ∷ []) list left found longer) same_width read))) in
       let bars : voice_bars_from g [] 0 last n later ≡ bar ∷ others = ap (voice_bars_from g [] 0 last n) (first_bar later d some ∙ ap (λ l. first ∷ l) (sym rest)) in
       let split : drop i lists ≡ list ∷ drop (suc i) lists = drop-cons lists i list within ∙ ap (λ l. l ∷ drop (suc i) lists) (sym is) in
       let more_found = one_more g whole lists i n bar others list left found longer h.left (h.have ∙ split)

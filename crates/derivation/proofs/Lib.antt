@@ -17,3 +17,5 @@ pub mod SpansRead
 pub mod Pairs
 pub mod OneScore
 pub mod WorkedSounds
+pub mod HeldLists
+pub mod NextSounds

@@ -5,3 +5,6 @@ pub mod WellSounded
 pub mod Score
 pub mod PerformanceScore
 pub mod RuleLists
+pub mod HeldSounds
+pub mod Ahead
+pub mod SpanLists

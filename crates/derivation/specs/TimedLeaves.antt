@@ -14,9 +14,8 @@ use Rattle.derivation.specs.declared.leaf.TimedBar.{TimedBar}
 use Rattle.derivation.specs.declared.leaf.TimedLeaf.{TimedLeaf}
 use Rattle.derivation.specs.Sounds.{but_last}
 
--- a bar of 1 unit or more, within the ticks of a performance
+-- a bar of some units, within the ticks of a performance
 pub record IsTimedBar (bar : TimedBar) : Type 0 where
-  pub some : 1 ≤ bar.resolution
   pub start : bar.start ≤ LATEST_TICK
   pub length : bar.length ≤ LATEST_TICK
 

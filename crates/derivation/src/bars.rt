@@ -8,24 +8,26 @@ ghost use Rattle.std.specs.Prelude.{◌≡◌, ◌≤◌, IfOk, length, map};
 
 use crate::leaf::{TimedBar, TimedLeaf};
 use crate::walk::push_tree;
-use rhythm_base::{Bar, Grammar};
+use rhythm_base::{Bar, Grammar, Units};
 use std::alloc::{AllocError, Global};
 
 /// The leaves of the trees of a voice, left to right, off the rule list of each bar's tree.
 pub fn timed_leaves(
     alloc: Global,
     grammar: &Grammar,
+    resolution: Units,
     lists: &[&[u16]],
     bars: &[Bar],
     last: u64,
 ) -> Result<Vec<TimedLeaf>, AllocError>
-    requires some_unit { 1 ≤ grammar.now.resolution }
+    requires units { resolution ≡ grammar.now.resolution }
     requires few_bars { length bars.now ≤ MOST_BARS }
     requires last { last ≤ LATEST_TICK }
     requires near { let all = plain_bars grammar.now last bars.now in Adjacent 0 all (end_of_bars 0 all) }
     ensures { let all = plain_bars grammar.now last bars.now in
         IfOk result (λ v. AreToldLeaves grammar.now all (map (λ l. l.now) lists.now) v.items) }
 {
+    let units = resolution.count();
     let mut leaves = Vec::new(alloc);
     let mut later = bars;
     let mut number = 0;
@@ -37,16 +39,9 @@ pub fn timed_leaves(
             number,
             start: bar.start,
             length: first_barline(after, last) - bar.start,
-            resolution: grammar.resolution,
+            resolution,
         };
-        push_tree(
-            grammar.rules.as_slice(),
-            &bar,
-            0,
-            grammar.resolution,
-            list,
-            &mut leaves,
-        )?;
+        push_tree(grammar.rules.as_slice(), &bar, 0, units, list, &mut leaves)?;
         later = after;
         number += 1;
     }

@@ -1,10 +1,10 @@
 ghost use Rattle.derivation.specs.TimedLeaves.{IsTimedBar, timed_leaf};
 ghost use Rattle.std.specs.Prelude.{◌≡◌};
 
-use rhythm_base::{Ending, SoundKind};
+use rhythm_base::{Ending, SoundKind, Units};
 
 /// A bar of a voice, as its leaves take their places in it.
-#[derive(Clone, Copy, Debug, PartialEq, Eq)]
+#[derive(Clone, Copy, PartialEq, Eq)]
 pub struct TimedBar {
     /// The bar, numbered from 0.
     pub number: u32,
@@ -13,7 +13,7 @@ pub struct TimedBar {
     /// Its length in ticks.
     pub length: u64,
     /// Its units.
-    pub resolution: u16,
+    pub resolution: Units,
 }
 
 /// A leaf of a voice, as the chords are read along it.
@@ -37,7 +37,7 @@ impl TimedBar {
         requires { IsTimedBar self.now }
         ensures { result ≡ timed_leaf self.now (record { ending = ending; place = place; width = width }) }
     {
-        let units = u64::from(self.resolution);
+        let units = u64::from(self.resolution.count());
         let halves = 2 * u64::from(place) + u64::from(width);
         TimedLeaf {
             bar: self.number,

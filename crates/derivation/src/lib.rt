@@ -3,21 +3,29 @@
 //! format is written.
 #![tactic(auto)]
 
+mod ahead;
 mod bars;
+mod held;
+mod held_sounds;
 mod kind;
 mod laws;
 mod leaf;
+mod lent;
 mod parts;
 mod reading;
 mod score;
 mod sounds;
 mod spans;
+mod voice_sounds;
 mod walk;
 
+pub use ahead::{SoundsAhead, own_count};
 pub use laws::{
     chords_have_keys, derivations_are_well_sounded, pins_do_not_sound, scores_are_one,
     spans_are_one, spans_exist, well_sounded_fill_the_score,
 };
-pub use score::{Score, ScoreBar, VoiceSounds};
-pub use sounds::sounds_of;
+pub use lent::LentSounds;
+pub use score::{Score, ScoreBar};
+pub use sounds::{derivation_sounds, sounds_of};
 pub use spans::spans_of;
+pub use voice_sounds::VoiceSounds;

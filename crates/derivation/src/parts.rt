@@ -5,16 +5,15 @@ ghost use Rattle.std.specs.Prelude.{◌≡◌, ◌^◌, ◌*◌, ◌<◌, ◌≤
 
 use crate::kind::is_tie;
 use durations::{Length, lowest};
-use rhythm_base::{Bar, Frac, Sound};
+use rhythm_base::{Bar, Frac, Sound, Units};
 
 /// So many parts of a whole note, where there are 64 for each unit of a bar, as a number of whole notes.
-pub fn frac(parts: u64, resolution: u16) -> Frac
-    requires { 1 ≤ resolution }
+pub fn frac(parts: u64, resolution: Units) -> Frac
     ensures { IsFrac parts (64 * resolution) result }
 {
     let length = lowest(Length {
         parts,
-        whole: 64 * u64::from(resolution),
+        whole: 64 * u64::from(resolution.count()),
     });
     Frac {
         num: length.parts,

@@ -8,6 +8,7 @@ ghost use Rattle.std.specs.List.{position};
 ghost use Rattle.std.specs.Prelude.{◌≡◌, IfOk, if◌then◌else◌, length, map, nat_lt, unwrap_or};
 
 use crate::leaf::TimedLeaf;
+use crate::voice_sounds::VoiceSounds;
 use rhythm_base::{Chord, Graces, Keys, Sound, SoundKind};
 use std::alloc::{AllocError, Global};
 
@@ -16,11 +17,11 @@ pub fn sounds_along(
     alloc: Global,
     leaves: &[TimedLeaf],
     chords: &[Chord],
-) -> Result<Vec<Sound>, AllocError>
+) -> Result<VoiceSounds, AllocError>
     requires { Rising 0 (soundings chords.now) }
-    ensures { IfOk result (λ v. v.items ≡ sounds_along 0 chords.now leaves.now) }
+    ensures { IfOk result (λ v. v ≡ sounds_along 0 chords.now leaves.now) }
 {
-    let mut sounds = Vec::with_capacity(alloc, leaves.len())?;
+    let mut sounds = VoiceSounds::with_capacity(alloc, leaves.len())?;
     let mut later = chords;
     let mut latest = Keys::none();
     'leaves: for leaf in leaves {

@@ -1,6 +1,8 @@
+ghost use Rattle.derivation.specs.Score.{IsScore};
 ghost use Rattle.std.specs.Prelude.{◌≡◌};
 
-use rhythm_base::Sound;
+use crate::voice_sounds::VoiceSounds;
+use rhythm_base::Units;
 use std::marker::Model;
 
 /// A bar as it is written.
@@ -14,37 +16,6 @@ pub struct ScoreBar {
     pub tempo: u32,
     /// The sharps of the key in force at the bar's start, flats below 0: -7 to 7; none where there is no key yet.
     pub sf: Option<i8>,
-}
-
-/// The sounds of a voice, bar after bar.
-#[derive(Drop)]
-pub struct VoiceSounds {
-    sounds: Vec<Sound>,
-}
-
-impl Model for VoiceSounds {
-    ghost use Rattle.std.specs.Prelude.{List};
-    ghost use Rattle.rhythm_base.specs.declared.sound.Sound.{Sound};
-
-    ghost Value = { List Sound };
-
-    ghost view = { λ v. v.sounds.items };
-}
-
-impl VoiceSounds {
-    /// The sounds of a voice in their order.
-    pub fn of(sounds: Vec<Sound>) -> VoiceSounds
-        ensures { result ≡ sounds.items }
-    {
-        VoiceSounds { sounds }
-    }
-
-    /// The sounds, first to last.
-    pub fn as_slice(&self) -> &[Sound]
-        ensures { result.now ≡ self.now }
-    {
-        self.sounds.as_slice()
-    }
 }
 
 /// A score: its bars, each of so many units, and the sounds of each voice over them.
@@ -63,4 +34,14 @@ impl Model for Score {
     ghost Value = { Score };
 
     ghost view = { λ s. record { resolution = s.resolution; bars = s.bars.items; voices = s.voices.items } };
+}
+
+impl Score {
+    /// The units of a bar.
+    pub fn units(&self) -> Units
+        requires { IsScore self.now }
+        ensures { result ≡ self.now.resolution }
+    {
+        Units::of(self.resolution)
+    }
 }

@@ -3,3 +3,6 @@ pub mod KeysFrom
 pub mod SetKeys
 pub mod Separators
 pub mod WrittenKeys
+pub mod TextLines
+pub mod ChangeLines
+pub mod MajorKeys

@@ -1,6 +1,6 @@
 ghost use Rattle.score_words.specs.Keys.{keys_onward, rising_keys};
 ghost use Rattle.std.specs.Int.{bit_at};
-ghost use Rattle.std.specs.Prelude.{◌≡◌, ◌∷◌, ◌+◌, ◌<◌, ◌≤◌, [], ℕ, IfSome, MatchOption};
+ghost use Rattle.std.specs.Prelude.{◌≡◌, ◌∷◌, ◌+◌, ◌<◌, ◌≤◌, [], ℕ, IfSome, MatchOption, length};
 
 use rhythm_base::Keys;
 use std::marker::Model;
@@ -63,4 +63,16 @@ impl RisingKeys {
         self.from = key + 1;
         Some(key)
     }
+}
+
+/// How many keys are in a set.
+pub fn key_count(keys: Keys) -> usize
+    ensures { result ≡ length (rising_keys keys) }
+{
+    let mut left = RisingKeys::of(keys);
+    let mut count = 0;
+    'keys: while let Some(_key) = left.next() {
+        count += 1;
+    }
+    count
 }

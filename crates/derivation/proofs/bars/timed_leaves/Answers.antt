@@ -8,9 +8,7 @@ pub push_tree-requires-clause-bar : goal.push_tree-requires-clause-bar
 push_tree-requires-clause-bar c =
     let near = c.lists.invariant.near in
     let within = bar_within c.args.grammar.now c.args.last c.lists.number c.lists.later.now _ (record { start = 0; num = 0; den = 0 }) c.in-len1-up.len_at_least (take_rest c.lists.later.now 1) near.0 near.1 near.2 in
-    let units = ap (λ g. g.resolution) c.grammar.view_is in
     record {
-      some = omega (arith, units, c.requires.some_unit);
       start = omega (arith, within.0, within.1, c.requires.last);
       length = omega (arith, within.0, within.1, c.requires.last, c.first_barline.ensures);
     }
@@ -20,8 +18,8 @@ lists-preserved c =
     let near = c.lists.invariant.near in
     let one_less = ap length (take_rest c.lists.later.now 1) ∙ length-drop 1 c.lists.later.now in
     record {
-      found = λ trees are have. list_read c.args.grammar.now c.args.last c.lists.number c.lists.later.now _ (record { start = 0; num = 0; den = 0 }) c.in-len1-up.len_at_least (take_rest c.lists.later.now 1) _ (map (λ l. l.now) c.args.lists.now) c.lists.list-index _ _ _ _ _ _ _
-          (c.as_slice.ensures.value ∙ ap (λ g. g.rules) c.grammar.view_is) (ap (λ g. g.resolution) c.grammar.view_is) c.first_barline.ensures (omega (arith, c.lists-test.true, length-map c.args.lists.now (λ l. l.now)))
+      found = λ trees are have. list_read c.args.grammar.now c.args.last c.lists.number c.lists.later.now _ (record { start = 0; num = 0; den = 0 }) c.in-len1-up.len_at_least (take_rest c.lists.later.now 1) _ (map (λ l. l.now) c.args.lists.now) c.lists.list-index _ _ _ _ _ _ _ _
+          (c.as_slice.ensures.value ∙ ap (λ g. g.rules) c.grammar.view_is) c.requires.units c.count-units.ensures.is c.first_barline.ensures (omega (arith, c.lists-test.true, length-map c.args.lists.now (λ l. l.now)))
           (sym (get_or-map (λ l. l.now) c.args.lists.now c.lists.list-index _ _ c.lists-test.true)) c.in_ok-push_tree.ensures.read (c.lists.invariant.found trees are have);
       count = omega (arith, one_less, c.in-len1-up.len_at_least, c.lists.invariant.count);
       near = near_later c.args.grammar.now c.args.last c.lists.number c.lists.later.now _ (record { start = 0; num = 0; den = 0 }) c.in-len1-up.len_at_least (take_rest c.lists.later.now 1) near.0 near.1 near.2;

@@ -6,6 +6,6 @@ use Rattle.derivation.proofs.reading.sounds_along.Given as goal
 
 abbrev pub invariant-leaves : goal.invariant-leaves
 invariant-leaves l = record {
-  made : l.sounds.items ++ sounds_along l.latest l.later (drop l.leaf-index l.leaves) ≡ sounds_along 0 l.chords l.leaves;
+  made : l.sounds ++ sounds_along l.latest l.later (drop l.leaf-index l.leaves) ≡ sounds_along 0 l.chords l.leaves;
   rise : Rising 0 (soundings l.later);
 }

@@ -2,7 +2,7 @@ use Rattle.std.proofs.Common.{◌∙◌, ap}
 use Rattle.std.proofs.lemmas.Result.{IfOk-weaker}
 use Rattle.derivation.specs.TimedLeaves.{sounds_along}
 use Rattle.derivation.proofs.SoundsRead.{sounds_read}
-use Rattle.derivation.proofs.sounds.sounds_of.Goals as goal
+use Rattle.derivation.proofs.sounds.derivation_sounds.Goals as goal
 
 pub returns : goal.returns
 returns c = record {

@@ -1,0 +1,4 @@
+pub mod Values
+pub mod GoesOn
+pub mod Ahead
+pub mod Laws
