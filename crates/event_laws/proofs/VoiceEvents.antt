@@ -1,5 +1,5 @@
 -- The events that are read of the text of a score are those of the score, and a writer can take them.
-use Rattle.std.proofs.Common.{◌≡◌, ◌↔◌, ℕ, suc, ◌≤◌, List, [], ◌∷◌, length, map, sym, ap, ◌∙◌, subst, arith}
+use Rattle.std.proofs.Common.{◌≡◌, ℕ, suc, ◌≤◌, List, [], ◌∷◌, length, map, sym, ap, ◌∙◌, subst, arith}
 use Rattle.std.specs.Prelude.{All, Ok, Result}
 use Rattle.std.proofs.lemmas.List.{length-map}
 use Rattle.rhythm_base.specs.Grammar.{Grammar}
@@ -11,34 +11,38 @@ use Rattle.derivation.specs.declared.score.ScoreBar.{ScoreBar}
 use Rattle.derivation.specs.PerformanceScore.{score_bar}
 use Rattle.derivation.specs.Score.{IsScore, IsScoreBar, Score}
 use Rattle.kern_writer.specs.PerformanceText.{IsTextOf}
+use Rattle.kern_writer.specs.Text.{IsScoreText}
 use Rattle.voice_events.specs.declared.event.KernEvent.{KernEvent}
 use Rattle.kern_reader.specs.Events.{AreEvents}
 use Rattle.kern_reader.specs.Outcome.{score_of}
 use Rattle.kern_reader.specs.Score.{KernColumns}
-use Rattle.kern_laws.proofs.ReadBack.{texts_read_back, have_signatures}
-use Rattle.voice_events.specs.Events.{AreVoiceSpans, HaveSignatures}
+use Rattle.kern_laws.proofs.ReadBack.{scores_read_back}
+use Rattle.voice_events.specs.Events.{HaveSignatures}
 use Rattle.voice_events.specs.VoiceEvents.{AreVoiceEvents}
 use Rattle.voice_events.specs.Writable.{IsWritable}
+use Rattle.voice_events.proofs.BarUnits.{signatures_kept, some_bar}
 use Rattle.voice_events.proofs.ScoreEvents.{decided, events_exist, events_follow}
-use Rattle.event_laws.specs.Laws.{TextsHaveTheirEvents, TextsHaveVoiceEvents}
+use Rattle.event_laws.specs.Laws.{ScoreTextsHaveTheirEvents, TextsHaveTheirEvents, TextsHaveVoiceEvents}
 
 -- ---- what is read of its text are the events of the score
 
 same_value : {A E : Type 0} (x : Result A E) (a b : A) → x ≡ Ok a → x ≡ Ok b → a ≡ b
 same_value x a b e f = let both : Ok a ≡ Ok b = sym e ∙ f in cc
 
-pub their_events : TextsHaveTheirEvents
-their_events g p s text readable formed of of_text =
-    let (t, own, reads) = texts_read_back g p text readable formed of_text in
-    let same : t ≡ s = scores_one.score g p t s readable formed own of in
-    let have : HaveSignatures s.bars p.bars = subst (λ (bars : List ScoreBar). HaveSignatures bars p.bars) (sym of.bars) (have_signatures p p.bars) in
-    let over : (events : List KernEvent) → AreEvents reads.score events ↔ AreVoiceSpans s.resolution p.bars 1 s.voices events =
-    λ events. subst (λ r. AreEvents reads.score events ↔ AreVoiceSpans r p.bars 1 s.voices events) (sym of.resolution)
-    (subst (λ (u : Score). AreEvents reads.score events ↔ AreVoiceSpans g.resolution p.bars 1 u.voices events) same (reads.events events)) in (
+pub score_events : ScoreTextsHaveTheirEvents
+score_events s text is written =
+    let bars = map some_bar s.bars in
+    let have : HaveSignatures s.bars bars = signatures_kept s.bars in
+    let reads = scores_read_back s bars text is have written in (
       reads.score,
       reads.read,
-      λ events. (λ read. decided s p.bars events have ((over events).0 read), λ are. (over events).1 (are p.bars have)),
+      λ events. (λ read. decided s bars events have ((reads.events events).0 read), λ are. (reads.events events).1 (are bars have)),
     )
+
+pub their_events : TextsHaveTheirEvents
+their_events g p s text readable formed of (t, own, written) =
+    let same : t ≡ s = scores_one.score g p t s readable formed own of in
+    score_events s text (scores_one.can_be_written g p s readable formed of) (subst (λ (u : Score). IsScoreText u text) same written)
 
 -- ---- and a writer can take them
 

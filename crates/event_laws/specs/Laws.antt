@@ -4,8 +4,9 @@ use Rattle.rhythm_base.specs.Grammar.{Grammar}
 use Rattle.rhythm_base.specs.Performance.{IsWellFormed, Performance}
 use Rattle.rhythm_base.specs.Readable.{IsReadable}
 use Rattle.derivation.specs.PerformanceScore.{IsScoreOf, score_bar}
-use Rattle.derivation.specs.Score.{Score}
+use Rattle.derivation.specs.Score.{IsScore, Score}
 use Rattle.kern_writer.specs.PerformanceText.{IsTextOf}
+use Rattle.kern_writer.specs.Text.{IsScoreText}
 use Rattle.voice_events.specs.declared.event.KernEvent.{KernEvent}
 use Rattle.kern_reader.specs.Events.{AreEvents}
 use Rattle.kern_reader.specs.Outcome.{score_of}
@@ -14,7 +15,13 @@ use Rattle.voice_events.specs.Events.{AreScoreEvents}
 use Rattle.voice_events.specs.VoiceEvents.{AreVoiceEvents}
 use Rattle.voice_events.specs.Writable.{IsWritable}
 
--- what is read of the text of the score of a performance: exactly the events of the score
+-- what is read of the text of a score that can be written: exactly the events of the score
+abbrev pub ScoreTextsHaveTheirEvents : Type 0
+ScoreTextsHaveTheirEvents =
+    (s : Score) (text : List ℕ) → IsScore s → IsScoreText s text
+    → (k : KernColumns) × (score_of text ≡ Ok k) × ((events : List KernEvent) → AreEvents k events ↔ AreScoreEvents s events)
+
+-- so it is of the text of the score of a performance
 abbrev pub TextsHaveTheirEvents : Type 0
 TextsHaveTheirEvents =
     (g : Grammar) (p : Performance) (s : Score) (text : List ℕ) → IsReadable g → IsWellFormed p → IsScoreOf g p s → IsTextOf g p text

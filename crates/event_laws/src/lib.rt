@@ -4,4 +4,4 @@
 
 mod laws;
 
-pub use laws::{texts_have_their_events, texts_have_voice_events};
+pub use laws::{score_texts_have_their_events, texts_have_their_events, texts_have_voice_events};

@@ -7,16 +7,18 @@ use Rattle.rhythm_base.specs.declared.sound.Sound.{Sound}
 use Rattle.rhythm_base.specs.Lists.{Each}
 use Rattle.derivation.specs.WellSounded.{AreWellSounded, StandInBars}
 use Rattle.derivation.specs.declared.score.ScoreBar.{ScoreBar}
-use Rattle.kern_writer.specs.Ahead.{AreTokensAhead, begins_with_tie, later_sounds, own_sounds}
+use Rattle.kern_writer.specs.Ahead.{AreTokensAhead}
+use Rattle.derivation.specs.Ahead.{later_sounds, own_sounds}
+use Rattle.voice_values.specs.Ahead.{begins_with_tie}
 use Rattle.kern_writer.specs.Columns.{RiseFrom}
 use Rattle.kern_writer.specs.Records.{AreBarRecords, AreBarsRecords, AreRecords, Record, head, tail, tokens_in_bar}
 use Rattle.derivation.specs.Score.{IsScore, IsScoreBar, Score}
 use Rattle.kern_writer.specs.Tokens.{Token, voice_tokens}
-use Rattle.kern_writer.specs.Values.{AreVoiceValues, VoiceValue}
+use Rattle.voice_values.specs.Values.{AreVoiceValues, VoiceValue}
 use Rattle.kern_writer.proofs.BarTokens.{tokens_exist, tokens_rise}
 use Rattle.kern_writer.proofs.Merging.{are_records, bar_records, data_exist}
 use Rattle.derivation.proofs.Pairs.{each_length}
-use Rattle.kern_writer.proofs.TimedSounds.{some_whole}
+use Rattle.voice_values.proofs.TimedSounds.{some_whole}
 use Rattle.kern_writer.proofs.VoiceTokens.{AreVoiceTokens, voice_values_are}
 
 -- ---- the records of bars whose tokens stand at the front of the lists of each voice

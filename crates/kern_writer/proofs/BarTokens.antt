@@ -1,27 +1,25 @@
 -- The tokens of the sounds of a bar.
-use Rattle.std.proofs.Common.{◌≡◌, ℕ, zero, suc, ◌+◌, ◌-◌, ◌*◌, ◌^◌, ◌≤◌, Bool, true, not, ◌&&◌, ◌||◌, List, [], ◌∷◌, ◌++◌, Option, Some, None, map, refl, sym, ap, ◌∙◌, subst, arith}
+use Rattle.std.proofs.Common.{◌≡◌, ℕ, zero, suc, ◌+◌, ◌-◌, ◌*◌, ◌^◌, ◌≤◌, Bool, List, [], ◌∷◌, ◌++◌, Option, Some, None, map, refl, sym, ap, ◌∙◌, subst, arith}
 use Rattle.std.specs.Prelude.{All, slice_get}
 use Rattle.std.proofs.Math.Nat.{div-mul_cancel}
 use Rattle.std.proofs.lemmas.List.Elements.{All-head, All-tail}
 use Rattle.std.proofs.lemmas.Nat.{pow_pos}
 use Rattle.rhythm_base.specs.declared.sound.Sound.{Sound}
-use Rattle.rhythm_base.specs.declared.sound.SoundKind.{SoundKind}
-use Rattle.rhythm_base.specs.declared.sound.SoundKind.TheVariants.{Begin, Short, Tie, Rest}
-use Rattle.rhythm_base.specs.SoundKinds.{is_rest, is_tie}
-use Rattle.durations.specs.declared.joined.Timed.{Timed}
 use Rattle.durations.specs.declared.joined.Written.{Written}
 use Rattle.durations.specs.declared.value.Value.{Value}
-use Rattle.durations.specs.Joined.{ArePlaced, AreValuesOf, AreWritten, dots, value_places}
+use Rattle.durations.specs.Joined.{ArePlaced}
 use Rattle.durations.specs.Value.{IsWide, parts, plain_parts, value_grid, width}
-use Rattle.durations.proofs.Bars.{values_in, written_fills, written_one}
+use Rattle.durations.proofs.Bars.{values_in, written_fills}
 use Rattle.durations.proofs.Wide.{some_product, some_parts}
 use Rattle.derivation.specs.declared.score.ScoreBar.{ScoreBar}
-use Rattle.kern_writer.specs.Columns.{AreTokens, RiseFrom, column_tokens, next_in_column}
-use Rattle.kern_writer.specs.Tokens.{Token, bar_tokens, next_goes_on, token}
+use Rattle.kern_writer.specs.Columns.{AreTokens, RiseFrom, column_tokens}
+use Rattle.voice_values.specs.GoesOn.{next_in_column}
+use Rattle.kern_writer.specs.Tokens.{Token, bar_tokens, token}
+use Rattle.voice_values.specs.GoesOn.{next_goes_on}
 use Rattle.score_words.specs.Changes.{has_flats}
-use Rattle.kern_writer.specs.Values.{AreBarValues, VoiceValue, is_first, timed, value_of_sound, values_of_sounds}
+use Rattle.voice_values.proofs.ValuesExist.{bar_values_exist}
+use Rattle.voice_values.specs.Values.{VoiceValue, is_first, timed, value_of_sound, values_of_sounds}
 use Rattle.kern_writer.proofs.Rising.{rise_weaker}
-use Rattle.durations.proofs.ValuesExist.{written_exist}
 
 -- ---- their places rise
 
@@ -59,13 +57,6 @@ tokens_rise r bar after sounds tokens some (vs, (ws, written, values), are) =
 
 -- ---- there are tokens, and only one list
 
-pub bar_values_exist : (r : ℕ) (bar : ScoreBar) (sounds : List Sound) → 1 ≤ r * bar.den → (vs : List VoiceValue) × AreBarValues r bar sounds vs
-bar_values_exist r bar sounds some = let ws = written_exist (r * bar.den) (map (timed bar) sounds) some in (values_of_sounds sounds None ws.0, (ws.0, ws.1, refl))
-
-pub bar_values_one : (r : ℕ) (bar : ScoreBar) (sounds : List Sound) (vs us : List VoiceValue) → 1 ≤ r * bar.den → AreBarValues r bar sounds vs → AreBarValues r bar sounds us → vs ≡ us
-bar_values_one r bar sounds vs us some (ws, written, values) (others, too, same) =
-    values ∙ ap (values_of_sounds sounds None) (written_one (r * bar.den) (map (timed bar) sounds) ws others some written too) ∙ sym same
-
 pub tokens_exist : (r : ℕ) (bar : ScoreBar) (after : Bool) (sounds : List Sound) → 1 ≤ r * bar.den → (tokens : List Token) × AreTokens r bar after sounds tokens
 tokens_exist r bar after sounds some = let vs = bar_values_exist r bar sounds some in (column_tokens (has_flats bar.sf) after vs.0, (vs.0, vs.1, refl))
 
@@ -78,28 +69,3 @@ next_of (v ∷ vs) later = refl
 pub bar_tokens_are : (flats : Bool) (vs later : List VoiceValue) → bar_tokens flats vs later ≡ column_tokens flats (next_goes_on later) vs
 bar_tokens_are flats [] later = refl
 bar_tokens_are flats (v ∷ vs) later = λ i. token flats v (next_of vs later i) ∷ bar_tokens_are flats vs later i
-
--- the first written value of a bar is one of its first leaf
-first_written : (whole : ℕ) (leaf : Timed) (more : List Timed) (ws : List Written) → 1 ≤ leaf.len → AreWritten whole (leaf ∷ more) ws → (w : Written) × (rest : List Written) × (ws ≡ w ∷ rest) × (w.leaf ≡ 0)
-first_written whole leaf more ws long (vs, rest, values, is, then) = go vs (dots whole leaf more) values is
-  where
-    go : (vs : List Value) (d : ℕ) → AreValuesOf whole leaf d vs → ws ≡ value_places whole 0 0 vs ++ rest → (w : Written) × (rest : List Written) × (ws ≡ w ∷ rest) × (w.leaf ≡ 0)
-    go [] zero h e = absurd (omega (arith, h, long))
-    go [] (suc d) (n, long, h) e = cc
-    go (v ∷ vs) d h e = (record { leaf = 0; from = 0; value = v }, value_places whole 0 (0 + width whole v) vs ++ rest, e, refl)
-
-kind_goes : (k : SoundKind) → (not (is_rest k) && (is_tie k || not true)) ≡ is_tie k
-kind_goes Begin = refl
-kind_goes Short = refl
-kind_goes Tie = refl
-kind_goes Rest = refl
-
-pub first_goes : (r : ℕ) (bar : ScoreBar) (s : Sound) (sounds : List Sound) (vs later : List VoiceValue) → 1 ≤ s.width * bar.num → AreBarValues r bar (s ∷ sounds) vs → next_goes_on (vs ++ later) ≡ is_tie s.kind
-first_goes r bar s sounds vs later long (ws, written, values) = go (first_written (r * bar.den) (timed bar s) (map (timed bar) sounds) ws long written)
-  where
-    go : (w : Written) × (rest : List Written) × (ws ≡ w ∷ rest) × (w.leaf ≡ 0) → next_goes_on (vs ++ later) ≡ is_tie s.kind
-    go (w, rest, is, zero_leaf) =
-        let read : slice_get (s ∷ sounds) w.leaf ≡ Some s = ap (slice_get (s ∷ sounds)) zero_leaf in
-        ap (λ us. next_goes_on (us ++ later)) (values ∙ ap (values_of_sounds (s ∷ sounds) None) is)
-        ∙ ap (λ o. next_goes_on (value_of_sound o true w ++ values_of_sounds (s ∷ sounds) (Some w.leaf) rest ++ later)) read
-        ∙ kind_goes s.kind

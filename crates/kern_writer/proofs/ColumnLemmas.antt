@@ -5,7 +5,7 @@ use Rattle.std.proofs.lemmas.Bool.{cases_lt, false≢true}
 use Rattle.std.proofs.lemmas.List.{drop-drop, drop_all}
 use Rattle.kern_writer.specs.Columns.{column_tokens}
 use Rattle.kern_writer.specs.Records.{token_at}
-use Rattle.kern_writer.specs.Values.{VoiceValue}
+use Rattle.voice_values.specs.Values.{VoiceValue}
 
 drop_first : (flats after : Bool) (vs : List VoiceValue) → column_tokens flats after (drop 1 vs) ≡ drop 1 (column_tokens flats after vs)
 drop_first flats after [] = refl

@@ -1,17 +1,15 @@
 pub mod AllRecords
-pub mod BarSounds
 pub mod BarTokens
-pub mod BarValues
 pub mod ColumnLemmas
 pub mod Merging
 pub mod OneText
 pub mod Rising
 pub mod RisingPlaces
 pub mod TextsExist
-pub mod TimedSounds
 pub mod VoiceTokens
 pub mod Writing
 mod WorkedChanges
 mod WorkedRecords
 mod WorkedScore
 mod WorkedTokens
+pub mod ReadBars

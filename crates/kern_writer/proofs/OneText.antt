@@ -15,7 +15,7 @@ use Rattle.kern_writer.specs.Records.{AreBarRecords, AreBarsRecords, AreRecords,
 use Rattle.derivation.specs.Score.{IsScore, Score}
 use Rattle.kern_writer.specs.Text.{IsScoreText, IsTooLong, record_text, records_text}
 use Rattle.kern_writer.specs.Tokens.{Token, voice_tokens}
-use Rattle.kern_writer.specs.Values.{AreVoiceValues}
+use Rattle.voice_values.specs.Values.{AreVoiceValues}
 use Rattle.kern_writer.proofs.Merging.{places_one}
 use Rattle.derivation.proofs.Pairs.{each_one}
 use Rattle.kern_writer.proofs.VoiceTokens.{voice_values_one}

@@ -7,15 +7,20 @@ use Rattle.rhythm_base.specs.declared.sound.Sound.{Sound}
 use Rattle.derivation.specs.WellSounded.{StandInBars}
 use Rattle.durations.proofs.Wide.{some_product}
 use Rattle.derivation.specs.declared.score.ScoreBar.{ScoreBar}
-use Rattle.kern_writer.specs.Ahead.{AreTokensAhead, begins_with_tie, later_sounds, own_sounds}
+use Rattle.kern_writer.specs.Ahead.{AreTokensAhead}
+use Rattle.derivation.specs.Ahead.{later_sounds, own_sounds}
+use Rattle.voice_values.specs.Ahead.{begins_with_tie}
 use Rattle.kern_writer.specs.Columns.{column_tokens}
 use Rattle.derivation.specs.Score.{IsScoreBar}
-use Rattle.kern_writer.specs.Tokens.{Token, next_goes_on, voice_tokens}
+use Rattle.kern_writer.specs.Tokens.{Token, voice_tokens}
+use Rattle.voice_values.specs.GoesOn.{next_goes_on}
 use Rattle.score_words.specs.Changes.{has_flats}
-use Rattle.kern_writer.specs.Values.{AreBarValues, AreVoiceValues, VoiceValue, sounds_in_bar}
-use Rattle.kern_writer.proofs.BarSounds.{first_in_bar, in_bar_own, in_later, stand_later}
-use Rattle.kern_writer.proofs.BarTokens.{bar_tokens_are, bar_values_one, first_goes, tokens_exist}
-use Rattle.kern_writer.proofs.TimedSounds.{some_whole}
+use Rattle.voice_values.specs.Values.{AreBarValues, AreVoiceValues, VoiceValue, sounds_in_bar}
+use Rattle.voice_values.proofs.BarSounds.{first_in_bar, in_bar_own, in_later, stand_later}
+use Rattle.kern_writer.proofs.BarTokens.{bar_tokens_are, tokens_exist}
+use Rattle.voice_values.proofs.ValuesExist.{bar_values_one}
+use Rattle.voice_values.proofs.GoingOn.{first_goes}
+use Rattle.voice_values.proofs.TimedSounds.{some_whole}
 
 -- the tokens of the bars from number n on, a list for each
 abbrev pub AreVoiceTokens : ℕ → ℕ → List ScoreBar → List Sound → List (List Token) → Type 0

@@ -20,7 +20,7 @@ use Rattle.derivation.specs.Score.{Score}
 use Rattle.kern_writer.specs.Text.{IsScoreText}
 use Rattle.kern_writer.specs.Tokens.{Token, voice_tokens}
 use Rattle.score_words.specs.Keys.{rising_keys}
-use Rattle.kern_writer.specs.Values.{AreBarValues, VoiceValue}
+use Rattle.voice_values.specs.Values.{AreBarValues, VoiceValue}
 
 abbrev half : SoundKind → ℕ → Sound
 half kind place = record { bar = 0; place = place; width = 1; kind = kind; keys = 2 ^ 60; graces = [] }

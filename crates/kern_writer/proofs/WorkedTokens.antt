@@ -10,7 +10,7 @@ use Rattle.std.specs.Fmt.{digits}
 use Rattle.kern_writer.specs.Tokens.{Token, bar_tokens, grace_text, value_text}
 use Rattle.score_words.specs.Changes.{has_flats}
 use Rattle.score_words.specs.Keys.{rising_keys}
-use Rattle.kern_writer.specs.Values.{VoiceValue}
+use Rattle.voice_values.specs.Values.{VoiceValue}
 
 abbrev value : Recip → ℕ → Value
 value recip dots = record { recip = recip; dots = dots }

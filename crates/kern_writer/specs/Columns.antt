@@ -6,14 +6,11 @@ use Rattle.rhythm_base.specs.declared.sound.Sound.{Sound}
 use Rattle.derivation.specs.declared.score.ScoreBar.{ScoreBar}
 use Rattle.kern_writer.specs.Records.{ArePlaces, Record, records_at}
 use Rattle.score_words.specs.Changes.{has_flats}
-use Rattle.kern_writer.specs.Tokens.{Token, goes_on, token}
-use Rattle.kern_writer.specs.Values.{AreBarValues, VoiceValue}
+use Rattle.kern_writer.specs.Tokens.{Token, token}
+use Rattle.voice_values.specs.GoesOn.{next_in_column}
+use Rattle.voice_values.specs.Values.{AreBarValues, VoiceValue}
 
 -- ---- the tokens of a bar, after whose values one follows that goes on, or none that does
-
-abbrev pub next_in_column : Bool → List VoiceValue → Bool
-next_in_column after [] = after
-next_in_column after (v ∷ vs) = goes_on v
 
 abbrev pub column_tokens : Bool → Bool → List VoiceValue → List Token
 column_tokens flats after [] = []

@@ -1,4 +1,3 @@
-pub mod Values
 pub mod Tokens
 pub mod Changes
 pub mod Records

@@ -3,12 +3,13 @@ use Rattle.std.specs.Prelude.{◌≡◌, ◌↔◌, ℕ, ◌+◌, ◌-◌, ◌==
 use Rattle.std.proofs.Common.{suc, zero}
 use Rattle.std.specs.List.{flat_map}
 use Rattle.std.specs.List.Sorted.{IsStrictlyIncreasing}
+use Rattle.rhythm_base.specs.declared.sound.Sound.{Sound}
 use Rattle.rhythm_base.specs.Lists.{Each}
 use Rattle.derivation.specs.declared.score.ScoreBar.{ScoreBar}
 use Rattle.kern_writer.specs.Changes.{changes}
 use Rattle.derivation.specs.Score.{Score}
 use Rattle.kern_writer.specs.Tokens.{Token, voice_tokens}
-use Rattle.kern_writer.specs.Values.{AreVoiceValues, VoiceValue}
+use Rattle.voice_values.specs.Values.{AreVoiceValues, VoiceValue}
 
 -- the columns of a line
 abbrev pub Record : Type 0
@@ -43,8 +44,12 @@ grace_records_at place voices = fold (λ n tokens. max n (length (grace_tokens (
 abbrev pub grace_column : ℕ → List (List ℕ) → List ℕ
 grace_column left graces = if nat_lt (length graces) left then codes "." else slice_index_or graces (length graces - left) []
 
+-- what the voice has in the grace record of a place with so many to come
+abbrev pub grace_at : ℕ → ℕ → List Token → List ℕ
+grace_at place left tokens = grace_column left (grace_tokens (token_at place tokens))
+
 abbrev pub grace_record : ℕ → List (List Token) → ℕ → Record
-grace_record place voices left = map (λ tokens. grace_column left (grace_tokens (token_at place tokens))) voices
+grace_record place voices left = map (grace_at place left) voices
 
 abbrev pub grace_records : ℕ → List (List Token) → ℕ → List Record
 grace_records place voices zero = []
@@ -96,3 +101,12 @@ pub record AreRecords (s : Score) (records : List Record) : Type 0 where
   pub bars : List Record
   pub are_bars : AreBarsRecords (map (voice_tokens s.bars) values) None 0 s.bars bars
   pub are : records ≡ head (length s.voices) ∷ (bars ++ tail (length s.voices))
+
+abbrev pub AreRecordsOf : ℕ → List ScoreBar → List (List Sound) → List Record → Type 0
+AreRecordsOf resolution bars voices records = AreRecords (record { resolution = resolution; bars = bars; voices = voices }) records
+
+-- the records of all bars
+abbrev pub AreOfAllBars : ℕ → List ScoreBar → List (List Sound) → List Record → Type 0
+AreOfAllBars resolution bars voices records =
+    (values : List (List (List VoiceValue))) × Each (AreVoiceValues resolution 0 bars) voices values
+    × AreBarsRecords (map (voice_tokens bars) values) None 0 bars records

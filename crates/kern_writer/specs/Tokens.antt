@@ -1,15 +1,16 @@
 -- Tokens: what stands in the column of a voice at a place at which it has a value.
-use Rattle.std.specs.Prelude.{ℕ, Bool, false, ◌&&◌, ◌||◌, not, if◌then◌else◌, List, [], ◌∷◌, ◌++◌, codes, decimal, map, replicate}
+use Rattle.std.specs.Prelude.{ℕ, Bool, ◌&&◌, not, if◌then◌else◌, List, [], ◌∷◌, ◌++◌, codes, decimal, map, replicate}
 use Rattle.std.specs.List.{flat_map, join_with_byte}
 use Rattle.durations.specs.Pitch.{pitch}
-use Rattle.rhythm_base.specs.SoundKinds.{is_rest, is_short, is_tie}
+use Rattle.rhythm_base.specs.SoundKinds.{is_rest, is_short}
 use Rattle.durations.specs.declared.value.Recip.{Recip}
 use Rattle.durations.specs.declared.value.Recip.TheVariants.{Of, Breve, Long}
 use Rattle.durations.specs.declared.value.Value.{Value}
 use Rattle.derivation.specs.declared.score.ScoreBar.{ScoreBar}
 use Rattle.score_words.specs.Changes.{has_flats}
 use Rattle.score_words.specs.Keys.{rising_keys}
-use Rattle.kern_writer.specs.Values.{VoiceValue}
+use Rattle.voice_values.specs.GoesOn.{goes_on, next_goes_on}
+use Rattle.voice_values.specs.Values.{VoiceValue}
 
 -- ---- values and chords
 
@@ -27,15 +28,6 @@ abbrev pub chord_text : (ℕ → List ℕ) → ℕ → List ℕ
 chord_text note keys = join_with_byte 32 (map note (rising_keys keys))
 
 -- ---- marks
-
--- a value goes on with the span of the value before it: it is a second one of a leaf that sounds, or one of a tie
-abbrev pub goes_on : VoiceValue → Bool
-goes_on v = not (is_rest v.sound.kind) && (is_tie v.sound.kind || not v.first)
-
--- the next value of the voice goes on
-abbrev pub next_goes_on : List VoiceValue → Bool
-next_goes_on [] = false
-next_goes_on (v ∷ vs) = goes_on v
 
 -- the first value of a span of several begins with a bracket
 abbrev pub opening : Bool → Bool → List ℕ
@@ -55,9 +47,13 @@ abbrev pub note_text : Bool → VoiceValue → Bool → ℕ → List ℕ
 note_text flats v next key =
     opening (goes_on v) next ++ value_text v.value ++ pitch flats key ++ closing (goes_on v) next ++ short_mark v
 
+-- the notes of a value
+abbrev pub notes_text : Bool → VoiceValue → Bool → List ℕ
+notes_text flats v next = chord_text (note_text flats v next) v.sound.keys
+
 abbrev pub main_text : Bool → VoiceValue → Bool → List ℕ
 main_text flats v next =
-    if is_rest v.sound.kind then value_text v.value ++ codes "r" else chord_text (note_text flats v next) v.sound.keys
+    if is_rest v.sound.kind then value_text v.value ++ codes "r" else notes_text flats v next
 
 -- a grace chord: each of its notes is a q and its pitch
 abbrev pub grace_text : Bool → ℕ → List ℕ

@@ -1,102 +1,117 @@
-ghost use Rattle.kern_writer.specs.Ahead as definitions;
-ghost use Rattle.kern_writer.specs.Ahead.{AreTokensAhead, FillBar, later_sounds, own_sounds};
+ghost use Rattle.kern_writer.specs.Ahead.{AreTokensRead, IsFilled, bar_read, laters};
 ghost use Rattle.derivation.specs.Score.{IsScoreBar};
 ghost use Rattle.rhythm_base.specs.Lists.{Each};
-ghost use Rattle.rhythm_base.specs.declared.limits.TheConstants.{MOST_UNITS};
-ghost use Rattle.std.specs.Prelude.{◌≡◌, ◌≤◌, ◌==◌, All, IfOk, OnOk, map};
-ghost use Rattle.std.specs.List.{prefix_len};
+ghost use Rattle.std.specs.Prelude.{◌≡◌, [], All, IfOk, OnOk, map};
+ghost use Rattle.voice_values.specs.Ahead as definitions;
 
 use crate::column::Column;
-use derivation::ScoreBar;
-use rhythm_base::{Sound, SoundKind};
+use derivation::{LentSounds, ScoreBar, SoundsAhead, VoiceSounds};
+use rhythm_base::{SoundKind, Units};
 use std::alloc::{AllocError, Global};
 use std::marker::Model;
 
-/// The sounds of a voice from a bar on.
+/// A voice as it is read bar by bar: the sounds of the bar that was read last, and those after it.
 #[derive(Drop)]
-pub(crate) struct SoundsAhead<'a> {
-    sounds: &'a [Sound],
+pub(crate) struct VoiceAhead<'a> {
+    own: LentSounds<'a>,
+    later: SoundsAhead<'a>,
 }
 
-impl<'a> Model for SoundsAhead<'a> {
-    ghost use Rattle.std.specs.Prelude.{List};
-    ghost use Rattle.rhythm_base.specs.declared.sound.Sound.{Sound};
+impl<'a> Model for VoiceAhead<'a> {
+    ghost use Rattle.kern_writer.specs.Ahead.{VoiceAhead};
 
-    ghost Value = { List Sound };
+    ghost Value = { VoiceAhead };
 
-    ghost view = { λ a. a.sounds.now };
-}
-
-/// How many of the sounds are in the bar, before one that is not.
-fn own_count(sounds: &[Sound], number: usize) -> usize
-    ensures { result ≡ prefix_len (λ s. s.bar == number) sounds.now }
-{
-    sounds
-        .iter()
-        .take_while(|sound| sound.bar as usize == number)
-        .count()
+    ghost view = { λ a. record { own = a.own; later = a.later } };
 }
 
 /// Whether the first of the sounds is a tie.
-fn begins_with_tie(sounds: &[Sound]) -> bool
+fn begins_with_tie(sounds: &SoundsAhead) -> bool
     ensures { result ≡ definitions.begins_with_tie sounds.now }
 {
-    match sounds {
-        [] => false,
-        [sound, ..] => sound.kind == SoundKind::Tie,
+    match sounds.next_kind() {
+        None => false,
+        Some(kind) => kind == SoundKind::Tie,
     }
 }
 
-impl<'a> SoundsAhead<'a> {
-    /// All sounds of a voice.
-    pub(crate) fn of(sounds: &'a [Sound]) -> SoundsAhead<'a>
-        ensures { result ≡ sounds.entry.now }
+impl<'a> VoiceAhead<'a> {
+    /// A voice of which no bar is read.
+    pub(crate) fn of(alloc: Global, sounds: &'a VoiceSounds) -> VoiceAhead<'a>
+        ensures { result ≡ record { own = []; later = sounds.entry.now } }
     {
-        SoundsAhead { sounds }
+        VoiceAhead {
+            own: LentSounds::of(alloc, &[]),
+            later: sounds.ahead(),
+        }
     }
 
-    /// The column of the bar of this number, whose sounds are the next, and are passed over.
-    pub(crate) fn next_column(
-        &mut self,
+    /// Reads the bar of this number, whose sounds are the next.
+    fn read_bar(&mut self, alloc: Global, number: usize) -> Result<(), AllocError>
+        ensures { OnOk result (self.new ≡ bar_read number self.old) }
+    {
+        self.own = self.later.next_bar(alloc, number)?;
+        Ok(())
+    }
+
+    /// The column of the bar that was read last.
+    fn column<'c>(
+        &'c self,
         alloc: Global,
-        resolution: u16,
+        resolution: Units,
         bar: &ScoreBar,
-        number: usize,
-    ) -> Result<Column<'a>, AllocError>
+    ) -> Result<Column<'c>, AllocError>
         requires bar { IsScoreBar bar.now }
-        requires some_unit { 1 ≤ resolution }
-        requires few_units { resolution ≤ MOST_UNITS }
-        requires full { FillBar resolution number self.old }
-        ensures column { IfOk result (λ c. AreTokensAhead resolution bar.now number self.old c) }
-        ensures rest { self.new ≡ later_sounds number self.old }
+        requires full { IsFilled resolution self.now }
+        ensures { IfOk result (λ c. AreTokensRead resolution bar.now self.entry.now c) }
     {
-        let sounds = self.sounds;
-        let count = own_count(sounds, number);
-        let (own, later) = sounds.split_at(count);
-        self.sounds = later;
-        let goes_on = begins_with_tie(later);
-        Column::of(alloc, resolution, bar, own, goes_on)
+        let goes_on = begins_with_tie(&self.later);
+        Column::of(alloc, resolution, bar, self.own.as_slice(), goes_on)
     }
 }
 
-/// The column of each voice in the bar of this number.
-pub(crate) fn next_columns<'a>(
+/// Reads the bar of this number of each voice.
+pub(crate) fn read_bars(
     alloc: Global,
-    resolution: u16,
-    bar: &ScoreBar,
     number: usize,
-    ahead: &mut [SoundsAhead<'a>],
-) -> Result<Vec<Column<'a>>, AllocError>
+    ahead: &mut [VoiceAhead],
+) -> Result<(), AllocError>
+    ensures { OnOk result (ahead.new ≡ map (bar_read number) ahead.old) }
+{
+    'voices: for voice in ahead.iter_mut() {
+        voice.read_bar(alloc, number)?;
+    }
+    Ok(())
+}
+
+/// The column of each voice in the bar that was read last.
+pub(crate) fn columns_of<'c>(
+    alloc: Global,
+    resolution: Units,
+    bar: &ScoreBar,
+    ahead: &'c [VoiceAhead],
+) -> Result<Vec<Column<'c>>, AllocError>
     requires bar { IsScoreBar bar.now }
-    requires some_unit { 1 ≤ resolution }
-    requires few_units { resolution ≤ MOST_UNITS }
-    requires full { All (FillBar resolution number) ahead.old }
-    ensures columns { IfOk result (λ v. Each (AreTokensAhead resolution bar.now number) ahead.old v.items) }
-    ensures rest { OnOk result (ahead.new ≡ map (later_sounds number) ahead.old) }
+    requires full { All (IsFilled resolution) ahead.now }
+    ensures { IfOk result (λ v. Each (AreTokensRead resolution bar.now) ahead.entry.now v.items) }
 {
     let mut columns = Vec::with_capacity(alloc, ahead.len())?;
-    'voices: for voice in ahead.iter_mut() {
-        columns.push(voice.next_column(alloc, resolution, bar, number)?)?;
+    'voices: for voice in ahead {
+        columns.push(voice.column(alloc, resolution, bar)?)?;
     }
     Ok(columns)
+}
+
+/// The voices, of which no bar is read.
+pub(crate) fn voices_ahead<'a>(
+    alloc: Global,
+    voices: &'a [VoiceSounds],
+) -> Result<Vec<VoiceAhead<'a>>, AllocError>
+    ensures { IfOk result (λ v. laters v.items ≡ voices.entry.now) }
+{
+    let mut ahead = Vec::with_capacity(alloc, voices.len())?;
+    'voices: for voice in voices {
+        ahead.push(VoiceAhead::of(alloc, voice))?;
+    }
+    Ok(ahead)
 }

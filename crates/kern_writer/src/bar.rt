@@ -1,14 +1,13 @@
 ghost use Rattle.kern_writer.specs.Columns.{RiseFrom};
-ghost use Rattle.kern_writer.specs.Records.{AreBarRecords, Record};
+ghost use Rattle.kern_writer.specs.Records.{AreBarRecords};
 ghost use Rattle.derivation.specs.Score.{IsScoreBar};
-ghost use Rattle.kern_writer.specs.Writing.{IsBounded, WritesRecords};
-ghost use Rattle.kern_writer.specs.Ahead.{AreTokensAhead, FillBar, later_sounds};
-ghost use Rattle.kern_writer.specs.Tokens.{Token};
-ghost use Rattle.rhythm_base.specs.Lists.{Each};
-ghost use Rattle.rhythm_base.specs.declared.limits.TheConstants.{MOST_UNITS};
-ghost use Rattle.std.specs.Prelude.{◌≡◌, ◌≤◌, ◌<◌, ◌^◌, All, IfSome, List, OnOk, map};
+ghost use Rattle.kern_writer.specs.Writing.{IsBounded, WritesSome};
+ghost use Rattle.kern_writer.specs.Ahead.{AreOfBar, laters};
+ghost use Rattle.derivation.specs.Ahead.{later_sounds};
+ghost use Rattle.voice_values.specs.Ahead.{FillBar};
+ghost use Rattle.std.specs.Prelude.{◌≡◌, ◌<◌, ◌^◌, All, IfSome, OnOk, map};
 
-use crate::ahead::{SoundsAhead, next_columns};
+use crate::ahead::{VoiceAhead, columns_of, read_bars};
 use crate::changes::write_changes;
 use crate::column::Column;
 use crate::data::write_data;
@@ -16,6 +15,7 @@ use crate::fault::ScoreFault;
 use crate::kern_text::KernText;
 use crate::shared::{SharedToken, write_shared};
 use derivation::ScoreBar;
+use rhythm_base::Units;
 use std::alloc::Global;
 
 /// Writes the records of the bar of this number, counted from 0, with these columns.
@@ -31,7 +31,7 @@ fn write_columns(
     requires bar { IsScoreBar bar.now }
     requires number { number < 2 ^ 63 }
     requires columns { All (RiseFrom 0) columns.old }
-    ensures { (records : List Record) × AreBarRecords before bar.now number columns.old records × WritesRecords records text.old result text.new }
+    ensures { WritesSome (AreBarRecords before bar.now number columns.old) text.old result text.new }
 {
     let voices = columns.len();
     write_changes(text, voices, before, bar)?;
@@ -43,23 +43,22 @@ fn write_columns(
 pub(crate) fn write_bar(
     alloc: Global,
     text: &mut KernText,
-    resolution: u16,
+    resolution: Units,
     before: Option<ScoreBar>,
     bar: &ScoreBar,
     number: usize,
-    ahead: &mut [SoundsAhead],
+    ahead: &mut [VoiceAhead],
 ) -> Result<(), ScoreFault>
     requires text { IsBounded text.old }
-    requires some_unit { 1 ≤ resolution }
-    requires few_units { resolution ≤ MOST_UNITS }
     requires before { IfSome before IsScoreBar }
     requires bar { IsScoreBar bar.now }
     requires number { number < 2 ^ 63 }
-    requires full { All (FillBar resolution number) ahead.old }
-    ensures records { (columns : List (List Token)) × (records : List Record) × Each (AreTokensAhead resolution bar.now number) ahead.old columns
-        × AreBarRecords before bar.now number columns records × WritesRecords records text.old result text.new }
-    ensures rest { OnOk result (ahead.new ≡ map (later_sounds number) ahead.old) }
+    requires full { All (FillBar resolution number) (laters ahead.old) }
+    ensures records { WritesSome (AreOfBar resolution before bar.now number ahead.old) text.old result text.new }
+    ensures rest { OnOk result (laters ahead.new ≡ map (later_sounds number) (laters ahead.old)) }
 {
-    let mut columns = next_columns(alloc, resolution, bar, number, ahead)?;
+    let _units = resolution.count();
+    read_bars(alloc, number, ahead)?;
+    let mut columns = columns_of(alloc, resolution, bar, ahead)?;
     write_columns(text, before, bar, number, &mut columns)
 }

@@ -1,8 +1,7 @@
 ghost use Rattle.kern_writer.specs.Changes.{changes, key_change, signature_change, tempo_change};
-ghost use Rattle.kern_writer.specs.Records.{alike};
 ghost use Rattle.derivation.specs.Score.{IsScoreBar};
-ghost use Rattle.kern_writer.specs.Writing.{IsBounded, WritesRecords};
-ghost use Rattle.std.specs.Prelude.{IfSome, map};
+ghost use Rattle.kern_writer.specs.Writing.{IsBounded, WritesShared};
+ghost use Rattle.std.specs.Prelude.{IfSome};
 
 use crate::fault::ScoreFault;
 use crate::kern_text::KernText;
@@ -18,7 +17,7 @@ fn write_key(
     key: Option<i8>,
 ) -> Result<(), ScoreFault>
     requires { IsBounded text.old }
-    ensures { WritesRecords (map (alike voices) (key_change before key)) text.old result text.new }
+    ensures { WritesShared voices (key_change before key) text.old result text.new }
 {
     match key {
         Some(sf) if !is_same_key(before, sf) => write_shared(text, voices, SharedToken::Key(sf)),
@@ -34,7 +33,7 @@ fn write_signature(
     bar: &ScoreBar,
 ) -> Result<(), ScoreFault>
     requires { IsBounded text.old }
-    ensures { WritesRecords (map (alike voices) (signature_change before bar.now)) text.old result text.new }
+    ensures { WritesShared voices (signature_change before bar.now) text.old result text.new }
 {
     if is_same_signature(before, bar) {
         return Ok(());
@@ -53,7 +52,7 @@ fn write_tempo(
     requires text { IsBounded text.old }
     requires before { IfSome before IsScoreBar }
     requires bar { IsScoreBar bar.now }
-    ensures { WritesRecords (map (alike voices) (tempo_change before bar.now)) text.old result text.new }
+    ensures { WritesShared voices (tempo_change before bar.now) text.old result text.new }
 {
     if is_same_tempo(before, bar) {
         return Ok(());
@@ -71,7 +70,7 @@ pub(crate) fn write_changes(
     requires text { IsBounded text.old }
     requires before { IfSome before IsScoreBar }
     requires bar { IsScoreBar bar.now }
-    ensures { WritesRecords (map (alike voices) (changes before bar.now)) text.old result text.new }
+    ensures { WritesShared voices (changes before bar.now) text.old result text.new }
 {
     write_key(text, voices, key_before(before), bar.sf)?;
     write_signature(text, voices, before, bar)?;

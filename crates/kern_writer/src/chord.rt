@@ -1,17 +1,19 @@
-ghost use Rattle.kern_writer.specs.Tokens.{chord_text, closing, goes_on, grace_text, main_text, note_text, opening, short_mark};
+ghost use Rattle.kern_writer.specs.Tokens.{closing, grace_text, main_text, note_text, notes_text, opening, short_mark};
+ghost use Rattle.voice_values.specs.GoesOn.{goes_on};
 ghost use Rattle.durations.specs.Pitch.{pitch};
-ghost use Rattle.std.specs.Prelude.{◌≡◌, ◌++◌, IsTrue, OnOk, codes};
+ghost use Rattle.score_words.specs.Writing.{Writes};
+ghost use Rattle.std.specs.Prelude.{◌++◌, IsTrue, codes};
 
 use crate::pitch::push_pitch;
 use crate::value_text::push_value;
-use crate::voice_value::VoiceValue;
 use rhythm_base::{Keys, SoundKind};
 use score_words::{RisingKeys, push_between};
 use std::alloc::AllocError;
+use voice_values::VoiceValue;
 
 /// Appends the bracket of the first value of a span of several.
 fn push_opening(text: &mut Vec<u8>, goes_on: bool, next: bool) -> Result<(), AllocError>
-    ensures { OnOk result (text.new.items ≡ text.old.items ++ opening goes_on next) }
+    ensures { Writes (opening goes_on next) text.old result text.new }
 {
     if !goes_on && next {
         text.push(b'[')?;
@@ -21,7 +23,7 @@ fn push_opening(text: &mut Vec<u8>, goes_on: bool, next: bool) -> Result<(), All
 
 /// Appends the bracket of the last value of a span of several, and the underscore of one between the first and the last.
 fn push_closing(text: &mut Vec<u8>, goes_on: bool, next: bool) -> Result<(), AllocError>
-    ensures { OnOk result (text.new.items ≡ text.old.items ++ closing goes_on next) }
+    ensures { Writes (closing goes_on next) text.old result text.new }
 {
     if goes_on {
         text.push(if next { b'_' } else { b']' })?;
@@ -31,7 +33,7 @@ fn push_closing(text: &mut Vec<u8>, goes_on: bool, next: bool) -> Result<(), All
 
 /// Appends the mark of the first value of a short leaf.
 fn push_short(text: &mut Vec<u8>, value: &VoiceValue) -> Result<(), AllocError>
-    ensures { OnOk result (text.new.items ≡ text.old.items ++ short_mark value.now) }
+    ensures { Writes (short_mark value.now) text.old result text.new }
 {
     if value.sound.kind == SoundKind::Short && value.first {
         text.push(b'\'')?;
@@ -47,7 +49,7 @@ fn push_note(
     next: bool,
     key: u8,
 ) -> Result<(), AllocError>
-    ensures { OnOk result (text.new.items ≡ text.old.items ++ note_text flats value.now next key) }
+    ensures { Writes (note_text flats value.now next key) text.old result text.new }
 {
     let goes_on = value.goes_on();
     push_opening(text, goes_on, next)?;
@@ -64,7 +66,7 @@ fn push_notes(
     value: &VoiceValue,
     next: bool,
 ) -> Result<(), AllocError>
-    ensures { OnOk result (text.new.items ≡ text.old.items ++ chord_text (note_text flats value.now next) value.now.sound.keys) }
+    ensures { Writes (notes_text flats value.now next) text.old result text.new }
 {
     let mut left = RisingKeys::of(value.sound.keys);
     let mut number = 0;
@@ -83,7 +85,7 @@ pub(crate) fn push_main(
     value: &VoiceValue,
     next: bool,
 ) -> Result<(), AllocError>
-    ensures { OnOk result (text.new.items ≡ text.old.items ++ main_text flats value.now next) }
+    ensures { Writes (main_text flats value.now next) text.old result text.new }
 {
     if value.sound.kind == SoundKind::Rest {
         push_value(text, value.value)?;
@@ -95,7 +97,7 @@ pub(crate) fn push_main(
 
 /// Appends a note of a grace chord.
 fn push_grace_note(text: &mut Vec<u8>, flats: bool, key: u8) -> Result<(), AllocError>
-    ensures { OnOk result (text.new.items ≡ text.old.items ++ (codes "q" ++ pitch flats key)) }
+    ensures { Writes (codes "q" ++ pitch flats key) text.old result text.new }
 {
     text.extend_from_slice(b"q")?;
     push_pitch(text, flats, key)
@@ -103,7 +105,7 @@ fn push_grace_note(text: &mut Vec<u8>, flats: bool, key: u8) -> Result<(), Alloc
 
 /// Appends a grace chord by rising key, with a space between two.
 pub(crate) fn push_grace(text: &mut Vec<u8>, flats: bool, keys: Keys) -> Result<(), AllocError>
-    ensures { OnOk result (text.new.items ≡ text.old.items ++ grace_text flats keys) }
+    ensures { Writes (grace_text flats keys) text.old result text.new }
 {
     let mut left = RisingKeys::of(keys);
     let mut number = 0;

@@ -1,16 +1,16 @@
 ghost use Rattle.kern_writer.specs.Columns.{AreTokens, RiseFrom, first_place, tokens_after};
-ghost use Rattle.kern_writer.specs.Records.{grace_column, grace_tokens, main_column, token_at};
+ghost use Rattle.kern_writer.specs.Records.{grace_at, grace_tokens, main_column, token_at};
 ghost use Rattle.derivation.specs.Score.{IsScoreBar};
-ghost use Rattle.rhythm_base.specs.declared.limits.TheConstants.{MOST_UNITS};
-ghost use Rattle.std.specs.Prelude.{◌≡◌, is_some, ◌≤◌, ◌++◌, All, IfOk, OnOk, length, map, slice_get, sum};
+ghost use Rattle.score_words.specs.Writing.{Writes};
+ghost use Rattle.std.specs.Prelude.{◌≡◌, is_some, ◌≤◌, ◌+◌, All, IfOk, length, map, slice_get, sum};
 
 use crate::token::Token;
-use crate::voice_value::{VoiceValue, bar_values};
 use derivation::ScoreBar;
-use rhythm_base::Sound;
+use rhythm_base::{Sound, Units};
 use score_words::has_flats;
 use std::alloc::{AllocError, Global};
 use std::marker::Model;
+use voice_values::{VoiceValue, bar_values};
 
 /// The column of a voice in a bar: the values whose tokens are still to be written.
 #[derive(Drop)]
@@ -40,14 +40,12 @@ impl<'a> Column<'a> {
     /// The column of the sounds of a bar, which fill it. The value after them goes on with the span of the last one or not.
     pub(crate) fn of(
         alloc: Global,
-        resolution: u16,
+        resolution: Units,
         bar: &ScoreBar,
         sounds: &'a [Sound],
         goes_on: bool,
     ) -> Result<Column<'a>, AllocError>
         requires bar { IsScoreBar bar.now }
-        requires some_unit { 1 ≤ resolution }
-        requires few_units { resolution ≤ MOST_UNITS }
         requires some { All (λ s. 1 ≤ s.width) sounds.now }
         requires full { sum (map (λ s. s.width) sounds.now) ≡ resolution }
         ensures { IfOk result (λ c. AreTokens resolution bar.now goes_on sounds.entry.now c) }
@@ -131,19 +129,18 @@ impl<'a> Column<'a> {
         }
     }
 
-    /// Appends what stands in a grace record of a place that no token is before, so many records before the main one.
+    /// Appends what stands in a grace record of a place that no token is before, before so many later ones and the main one.
     pub(crate) fn push_grace(
         &self,
         text: &mut Vec<u8>,
         place: u64,
-        left: usize,
+        later: usize,
     ) -> Result<(), AllocError>
-        requires place { RiseFrom place self.now }
-        requires some { 1 ≤ left }
-        ensures { OnOk result (text.new.items ≡ text.old.items ++ grace_column left (grace_tokens (token_at place self.now))) }
+        requires { RiseFrom place self.now }
+        ensures { Writes (grace_at place (later + 1) self.now) text.old result text.new }
     {
         match self.token_at(place) {
-            Some(token) => token.push_grace_column(text, left),
+            Some(token) => token.push_grace_column(text, later),
             None => text.extend_from_slice(b"."),
         }
     }
@@ -151,7 +148,7 @@ impl<'a> Column<'a> {
     /// Appends what stands in the main record of a place that no token is before.
     pub(crate) fn push_main(&self, text: &mut Vec<u8>, place: u64) -> Result<(), AllocError>
         requires { RiseFrom place self.now }
-        ensures { OnOk result (text.new.items ≡ text.old.items ++ main_column (token_at place self.now)) }
+        ensures { Writes (main_column (token_at place self.now)) text.old result text.new }
     {
         match self.token_at(place) {
             Some(token) => token.push_main(text),

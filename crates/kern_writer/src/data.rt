@@ -1,8 +1,8 @@
 ghost use Rattle.kern_writer.specs.Columns as definitions;
 ghost use Rattle.kern_writer.specs.Columns.{AreDataRecords, RiseFrom, earlier_place, tokens_after};
-ghost use Rattle.kern_writer.specs.Records.{Record, grace_record, grace_records_at, main_record, records_at};
-ghost use Rattle.kern_writer.specs.Writing.{IsBounded, WritesRecords};
-ghost use Rattle.std.specs.Prelude.{◌≡◌, ◌≤◌, ◌∷◌, [], All, List, map};
+ghost use Rattle.kern_writer.specs.Records.{grace_record, grace_records_at, main_record, records_at};
+ghost use Rattle.kern_writer.specs.Writing.{IsBounded, WritesRecords, WritesSome};
+ghost use Rattle.std.specs.Prelude.{◌≡◌, ◌+◌, ◌∷◌, [], All, map};
 
 use crate::column::Column;
 use crate::fault::ScoreFault;
@@ -43,21 +43,20 @@ fn most_graces(columns: &[Column], place: u64) -> usize
     most
 }
 
-/// Writes a grace record, so many records before the main one.
+/// Writes a grace record, before so many later ones and the main one.
 fn write_graces(
     text: &mut KernText,
     columns: &[Column],
     place: u64,
-    left: usize,
+    later: usize,
 ) -> Result<(), ScoreFault>
     requires text { IsBounded text.old }
     requires place { All (RiseFrom place) columns.now }
-    requires some { 1 ≤ left }
-    ensures { WritesRecords (grace_record place columns.now left ∷ []) text.old result text.new }
+    ensures { WritesRecords (grace_record place columns.now (later + 1) ∷ []) text.old result text.new }
 {
     'columns: for (number, column) in columns.iter().enumerate() {
         push_between(&mut text.bytes, b'\t', number)?;
-        column.push_grace(&mut text.bytes, place, left)?;
+        column.push_grace(&mut text.bytes, place, later)?;
     }
     text.end_record()
 }
@@ -83,8 +82,8 @@ fn write_place(text: &mut KernText, columns: &[Column], place: u64) -> Result<()
 {
     let mut left = most_graces(columns, place);
     'graces: while left > 0 {
-        write_graces(text, columns, place, left)?;
         left -= 1;
+        write_graces(text, columns, place, left)?;
     }
     write_main(text, columns, place)
 }
@@ -103,7 +102,7 @@ fn pass(columns: &mut [Column], place: u64)
 pub(crate) fn write_data(text: &mut KernText, columns: &mut [Column]) -> Result<(), ScoreFault>
     requires text { IsBounded text.old }
     requires place { All (RiseFrom 0) columns.old }
-    ensures { (records : List Record) × AreDataRecords columns.old records × WritesRecords records text.old result text.new }
+    ensures { WritesSome (AreDataRecords columns.old) text.old result text.new }
 {
     'places: while let Some(place) = next_place(columns) {
         write_place(text, columns, place)?;

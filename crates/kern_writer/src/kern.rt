@@ -1,55 +1,37 @@
-ghost use Rattle.rhythm_base.specs.Lists.{Each};
-ghost use Rattle.rhythm_base.specs.declared.limits.TheConstants.{LONGEST_SCORE, MOST_UNITS};
+ghost use Rattle.rhythm_base.specs.declared.limits.TheConstants.{LONGEST_SCORE};
 ghost use Rattle.kern_writer.specs.declared.fault.ScoreFault.TheVariants.{TooLong};
 ghost use Rattle.std.specs.Prelude.{Err};
-ghost use Rattle.kern_writer.specs.Records.{AreBarsRecords, AreRecords, Record};
+ghost use Rattle.kern_writer.specs.Records.{AreOfAllBars, AreRecordsOf};
 ghost use Rattle.derivation.specs.Score.{IsScore, IsScoreBar};
 ghost use Rattle.derivation.specs.WellSounded.{AreWellSounded};
 ghost use Rattle.kern_writer.specs.Text.{IsScoreText, IsTooLong};
-ghost use Rattle.kern_writer.specs.Tokens.{voice_tokens};
-ghost use Rattle.kern_writer.specs.Values.{AreVoiceValues, VoiceValue};
-ghost use Rattle.kern_writer.specs.Writing.{IsBounded, WritesRecords};
-ghost use Rattle.std.specs.Prelude.{◌≡◌, ◌≤◌, ℕ, All, IfOk, List, None, length, map};
+ghost use Rattle.kern_writer.specs.Writing.{IsBounded, WritesSome};
+ghost use Rattle.std.specs.Prelude.{◌≡◌, ◌≤◌, ℕ, All, IfOk, length};
 
-use crate::ahead::SoundsAhead;
+use crate::ahead::voices_ahead;
 use crate::bar::write_bar;
 use crate::fault::ScoreFault;
 use crate::kern_text::KernText;
 use crate::shared::{SharedToken, write_shared};
 use derivation::{Score, ScoreBar, VoiceSounds};
+use rhythm_base::Units;
 use std::alloc::{AllocError, Global};
-
-/// The sounds of each voice from the first bar on.
-fn sounds_ahead<'a>(
-    alloc: Global,
-    voices: &'a [VoiceSounds],
-) -> Result<Vec<SoundsAhead<'a>>, AllocError>
-    ensures { IfOk result (λ v. v.items ≡ voices.entry.now) }
-{
-    let mut ahead = Vec::with_capacity(alloc, voices.len())?;
-    'voices: for voice in voices {
-        ahead.push(SoundsAhead::of(voice.as_slice()))?;
-    }
-    Ok(ahead)
-}
 
 /// Writes the records of all bars.
 fn write_bars(
     alloc: Global,
     text: &mut KernText,
-    resolution: u16,
+    resolution: Units,
     bars: &[ScoreBar],
     voices: &[VoiceSounds],
 ) -> Result<(), ScoreFault>
     requires text { IsBounded text.old }
-    requires some_unit { 1 ≤ resolution }
-    requires few_units { resolution ≤ MOST_UNITS }
     requires bars { All IsScoreBar bars.now }
     requires voices { All (AreWellSounded resolution (length bars.now)) voices.now }
-    ensures { (values : List (List (List VoiceValue))) × (records : List Record) × Each (AreVoiceValues resolution 0 bars.now) voices.now values
-        × AreBarsRecords (map (voice_tokens bars.now) values) None 0 bars.now records × WritesRecords records text.old result text.new }
+    ensures { WritesSome (AreOfAllBars resolution bars.now voices.now) text.old result text.new }
 {
-    let mut ahead = sounds_ahead(alloc, voices)?;
+    let _units = resolution.count();
+    let mut ahead = voices_ahead(alloc, voices)?;
     let mut before = None;
     'bars: for (number, bar) in bars.iter().enumerate() {
         write_bar(alloc, text, resolution, before, bar, number, &mut ahead)?;
@@ -68,12 +50,11 @@ fn write_records(
 ) -> Result<(), ScoreFault>
     requires text { IsBounded text.old }
     requires score { IsScore (record { resolution = resolution; bars = bars.now; voices = voices.now }) }
-    ensures { (records : List Record) × AreRecords (record { resolution = resolution; bars = bars.now; voices = voices.now }) records
-        × WritesRecords records text.old result text.new }
+    ensures { WritesSome (AreRecordsOf resolution bars.now voices.now) text.old result text.new }
 {
     let columns = voices.len();
     write_shared(text, columns, SharedToken::Kern)?;
-    write_bars(alloc, text, resolution, bars, voices)?;
+    write_bars(alloc, text, Units::of(resolution), bars, voices)?;
     write_shared(text, columns, SharedToken::LastBarline)?;
     write_shared(text, columns, SharedToken::End)
 }

@@ -1,6 +1,5 @@
-ghost use Rattle.kern_writer.specs.declared.fault.ScoreFault.TheVariants.{TooLong};
-ghost use Rattle.kern_writer.specs.Writing.{HasEnded, IfTooLong, IsPastLongest};
-ghost use Rattle.std.specs.Prelude.{◌≡◌, ◌+◌, ◌<◌, ◌≤◌, MatchResult, [], length};
+ghost use Rattle.kern_writer.specs.Writing.{EndsRecord, IsNextLine};
+ghost use Rattle.std.specs.Prelude.{◌≡◌, ◌≤◌, []};
 
 use crate::fault::ScoreFault;
 use rhythm_base::LONGEST_SCORE;
@@ -17,7 +16,7 @@ pub(crate) struct KernText {
 /// The number of one more record, with which the text has so many bytes, or that it ends past the longest text.
 fn next_line(lines: u32, bytes: usize) -> Result<u32, ScoreFault>
     requires { lines ≤ LONGEST_SCORE }
-    ensures { MatchResult result (λ line. (line ≡ lines + 1) × (bytes ≤ LONGEST_SCORE)) (λ e. (e ≡ TooLong (lines + 1)) × (LONGEST_SCORE < bytes)) }
+    ensures { IsNextLine lines bytes result }
 {
     let line = lines + 1;
     if bytes as u64 > LONGEST_SCORE {
@@ -42,7 +41,7 @@ impl KernText {
     /// Ends the record whose pieces were appended.
     pub(crate) fn end_record(&mut self) -> Result<(), ScoreFault>
         requires { self.old.lines ≤ LONGEST_SCORE }
-        ensures { MatchResult result (λ _. HasEnded self.old self.new) (λ e. IfTooLong e (IsPastLongest self.old)) }
+        ensures { EndsRecord self.old result self.new }
     {
         self.bytes.push(b'\n')?;
         self.lines = next_line(self.lines, self.bytes.len())?;

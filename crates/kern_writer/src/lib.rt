@@ -16,9 +16,7 @@ mod pitch;
 mod shared;
 mod token;
 mod value_text;
-mod voice_value;
 
 pub use fault::ScoreFault;
 pub use kern::write_kern;
 pub use laws::{texts_are_one, texts_exist};
-pub use voice_value::{VoiceValue, bar_values};

@@ -2,7 +2,8 @@ ghost use Rattle.kern_writer.specs.Changes.{accidentals, key_text};
 ghost use Rattle.kern_writer.specs.Records.{alike};
 ghost use Rattle.kern_writer.specs.Shared.{shared_text};
 ghost use Rattle.kern_writer.specs.Writing.{IsBounded, WritesRecords};
-ghost use Rattle.std.specs.Prelude.{◌≡◌, ◌++◌, ◌∷◌, [], OnOk, codes, decimal};
+ghost use Rattle.score_words.specs.Writing.{Writes};
+ghost use Rattle.std.specs.Prelude.{◌++◌, ◌∷◌, [], codes, decimal};
 
 use crate::fault::ScoreFault;
 use crate::kern_text::KernText;
@@ -36,7 +37,7 @@ pub(crate) enum SharedToken {
 
 /// Appends the accidentals of a key signature.
 fn push_accidentals(text: &mut Vec<u8>, sf: i8) -> Result<(), AllocError>
-    ensures { OnOk result (text.new.items ≡ text.old.items ++ accidentals sf) }
+    ensures { Writes (accidentals sf) text.old result text.new }
 {
     let count = usize::from(sf.unsigned_abs()).min(7);
     let names = if sf < 0 { &FLATS } else { &SHARPS };
@@ -45,7 +46,7 @@ fn push_accidentals(text: &mut Vec<u8>, sf: i8) -> Result<(), AllocError>
 
 /// Appends a key signature.
 fn push_key(text: &mut Vec<u8>, sf: i8) -> Result<(), AllocError>
-    ensures { OnOk result (text.new.items ≡ text.old.items ++ key_text sf) }
+    ensures { Writes (key_text sf) text.old result text.new }
 {
     text.extend_from_slice(b"*k[")?;
     push_accidentals(text, sf)?;
@@ -54,7 +55,7 @@ fn push_key(text: &mut Vec<u8>, sf: i8) -> Result<(), AllocError>
 
 /// Appends a time signature.
 fn push_signature(text: &mut Vec<u8>, num: u8, den: u8) -> Result<(), AllocError>
-    ensures { OnOk result (text.new.items ≡ text.old.items ++ (codes "*M" ++ decimal num ++ codes "/" ++ decimal den)) }
+    ensures { Writes (codes "*M" ++ decimal num ++ codes "/" ++ decimal den) text.old result text.new }
 {
     text.extend_from_slice(b"*M")?;
     push_number(text, u64::from(num))?;
@@ -64,7 +65,7 @@ fn push_signature(text: &mut Vec<u8>, num: u8, den: u8) -> Result<(), AllocError
 
 /// Appends a word and a number right after it.
 fn push_numbered(text: &mut Vec<u8>, word: &[u8], number: u64) -> Result<(), AllocError>
-    ensures { OnOk result (text.new.items ≡ text.old.items ++ (word.now ++ decimal number)) }
+    ensures { Writes (word.now ++ decimal number) text.old result text.new }
 {
     text.extend_from_slice(word)?;
     push_number(text, number)
@@ -72,7 +73,7 @@ fn push_numbered(text: &mut Vec<u8>, word: &[u8], number: u64) -> Result<(), All
 
 /// Appends a token that stands alike in all columns.
 fn push_shared(text: &mut Vec<u8>, token: SharedToken) -> Result<(), AllocError>
-    ensures { OnOk result (text.new.items ≡ text.old.items ++ shared_text token) }
+    ensures { Writes (shared_text token) text.old result text.new }
 {
     match token {
         SharedToken::Kern => text.extend_from_slice(b"**kern"),

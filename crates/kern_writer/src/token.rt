@@ -1,10 +1,11 @@
 ghost use Rattle.kern_writer.specs.Records.{grace_column};
-ghost use Rattle.std.specs.Prelude.{◌≡◌, ◌≤◌, ◌<◌, ◌++◌, OnOk, length, slice_index_or, []};
+ghost use Rattle.score_words.specs.Writing.{Writes};
+ghost use Rattle.std.specs.Prelude.{◌≡◌, ◌+◌, ◌<◌, length, slice_index_or, []};
 
 use crate::chord::{push_grace, push_main};
-use crate::voice_value::VoiceValue;
 use std::alloc::AllocError;
 use std::marker::Model;
+use voice_values::VoiceValue;
 
 /// A token: what stands in the column of a voice at a place at which it has a value, and the grace tokens before it.
 #[derive(Drop)]
@@ -43,7 +44,7 @@ impl<'c, 'a> Token<'c, 'a> {
 
     /// Appends its main part.
     pub(crate) fn push_main(&self, text: &mut Vec<u8>) -> Result<(), AllocError>
-        ensures { OnOk result (text.new.items ≡ text.old.items ++ self.now.main) }
+        ensures { Writes self.now.main text.old result text.new }
     {
         push_main(text, self.flats, self.value, self.next)
     }
@@ -51,26 +52,25 @@ impl<'c, 'a> Token<'c, 'a> {
     /// Appends one of the grace tokens before it, by its number.
     fn push_grace(&self, text: &mut Vec<u8>, number: usize) -> Result<(), AllocError>
         requires { number < length self.now.graces }
-        ensures { OnOk result (text.new.items ≡ text.old.items ++ slice_index_or self.now.graces number []) }
+        ensures { Writes (slice_index_or self.now.graces number []) text.old result text.new }
     {
         let value = self.value;
         push_grace(text, self.flats, value.graces()[number])
     }
 
-    /// Appends what stands in a grace record, so many records before the main one.
+    /// Appends what stands in a grace record, before so many later ones and the main one.
     pub(crate) fn push_grace_column(
         &self,
         text: &mut Vec<u8>,
-        left: usize,
+        later: usize,
     ) -> Result<(), AllocError>
-        requires { 1 ≤ left }
-        ensures { OnOk result (text.new.items ≡ text.old.items ++ grace_column left self.now.graces) }
+        ensures { Writes (grace_column (later + 1) self.now.graces) text.old result text.new }
     {
         let count = self.grace_count();
-        if count < left {
+        if count <= later {
             text.extend_from_slice(b".")
         } else {
-            self.push_grace(text, count - left)
+            self.push_grace(text, count - later - 1)
         }
     }
 }

@@ -1,14 +1,18 @@
 -- The definitions at worked cases.
-use Rattle.std.proofs.Common.{◌≡◌, ℕ, ◌^◌, [], ◌∷◌, List, map, refl, None, false}
+use Rattle.std.proofs.Common.{◌≡◌, ℕ, zero, suc, ◌+◌, ◌*◌, ◌<◌, ◌^◌, [], ◌∷◌, List, fold, map, replicate, refl, sym, ◌∙◌, subst, arith, None, false}
 use Rattle.std.specs.Int.Count.{count_trailing_zeros}
 use Rattle.rhythm_base.specs.declared.note.Note.{Note}
 use Rattle.rhythm_base.specs.declared.span.Span.{Span}
 use Rattle.derivation.specs.declared.score.ScoreBar.{ScoreBar}
 use Rattle.voice_events.specs.Events.{span_event}
+use Rattle.voice_events.specs.Parts.{score_bar_parts, score_parts}
 use Rattle.score_words.specs.Keys.{rising_keys}
 use Rattle.smf_bytes.specs.Chunk.{file_bytes}
 use Rattle.smf_bytes.specs.Track.{bytes_from, content_bytes}
+use Rattle.smf_bytes.specs.declared.quantity.TheConstants.{GREATEST_QUANTITY}
 use Rattle.smf_writer.specs.Changes.{conductor}
+use Rattle.smf_writer.specs.RenderedFile.{HasRenderFault}
+use Rattle.smf_writer.specs.declared.fault.RenderFault.TheVariants.{TooLong}
 use Rattle.smf_writer.specs.EventNotes.{event_notes}
 use Rattle.smf_writer.specs.Strokes.{spine_events}
 use Rattle.smf_writer.specs.NoteMessages.{Message, begins, ends, event_of}
@@ -70,3 +74,17 @@ crowded : event_notes 1 0 (record { start = record { num = 0; den = 1 }; len = r
     ≡ note 0 60 0 ∷ note 0 62 1 ∷ []
 unfolding rising_keys
 crowded = refl
+
+-- ---- 20,000 bars of four quarters, with a unit for each 960th: their last barline is too late for a file
+
+abbrev four_quarters : ScoreBar
+four_quarters = record { num = 4; den = 4; tempo = 500000; sf = None }
+
+parts_after : (n before : ℕ) → fold (λ parts bar. parts + score_bar_parts 960 bar) before (replicate n four_quarters) ≡ before + n * 61440
+parts_after zero before = omega arith
+parts_after (suc n) before = parts_after n (before + 61440) ∙ omega arith
+
+too_late : HasRenderFault 960 (replicate 20000 four_quarters) (TooLong 1228800000)
+too_late =
+    let parts : score_parts 960 (replicate 20000 four_quarters) ≡ 1228800000 = parts_after 20000 0 in
+    (sym parts, subst (λ last. GREATEST_QUANTITY < last) (sym parts) (omega arith))

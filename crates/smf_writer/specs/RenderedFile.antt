@@ -7,7 +7,7 @@ use Rattle.rhythm_base.specs.declared.event.Event.{Event}
 use Rattle.rhythm_base.specs.declared.note.Note.{Note}
 use Rattle.derivation.specs.declared.score.ScoreBar.{ScoreBar}
 use Rattle.voice_events.specs.declared.event.KernEvent.{KernEvent}
-use Rattle.smf_bytes.specs.Chunk.{file_bytes}
+use Rattle.smf_bytes.specs.Chunk.{file_bytes, track_chunk_bytes}
 use Rattle.smf_bytes.specs.Track.{content_bytes}
 use Rattle.smf_bytes.specs.declared.quantity.TheConstants.{GREATEST_QUANTITY}
 use Rattle.smf_writer.specs.declared.fault.RenderFault.{RenderFault}
@@ -16,6 +16,7 @@ use Rattle.voice_events.specs.Parts.{score_parts}
 use Rattle.smf_writer.specs.Changes.{conductor}
 use Rattle.smf_writer.specs.EventNotes.{AreKept, event_notes}
 use Rattle.smf_writer.specs.NoteMessages.{AreMessages}
+use Rattle.smf_writer.specs.Strokes.{voices_from}
 
 -- each voice has a channel of its own, and channels rise
 pub record AreChannels (channels : List ℕ) : Type 0 where
@@ -37,6 +38,18 @@ AreVoicesFrom resolution events spine [] voices = voices ≡ []
 AreVoicesFrom resolution events spine (channel ∷ channels) voices =
     (voice : List Event) × (others : List (List Event)) × IsVoiceTrack resolution events spine channel voice
     × AreVoicesFrom resolution events (suc spine) channels others × (voices ≡ voice ∷ others)
+
+-- the chunk of a track that ends at a tick ..
+abbrev pub track_bytes : ℕ → List Event → List ℕ
+track_bytes last track = track_chunk_bytes (content_bytes track last)
+
+-- .. whose length can be written
+abbrev pub IsShortTrack : ℕ → List Event → Type 0
+IsShortTrack last track = length (content_bytes track last) < 2 ^ 32
+
+-- the chunks of the tracks of all voices
+abbrev pub voices_bytes : ℕ → List KernEvent → List ℕ → ℕ → List ℕ
+voices_bytes resolution events channels last = flat_map (track_bytes last) (voices_from resolution events 1 channels)
 
 -- The bytes are a file of 16 * R ticks to the quarter note. Its first track has the changes, and each further one a voice; all
 -- end with the last barline. The number of ticks up to there and the length of each track can be written.

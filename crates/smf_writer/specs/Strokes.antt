@@ -39,6 +39,16 @@ together notes = flat_map begun_messages notes ++ flat_map ended notes
 abbrev pub stroke_messages : ℕ → Stroke → List Message
 stroke_messages channel s = together (stroke_notes channel s)
 
+-- and their events
+abbrev pub begun_events : List Note → List Event
+begun_events notes = map event_of (flat_map begun_messages notes)
+
+abbrev pub ended_events : List Note → List Event
+ended_events notes = map event_of (flat_map ended notes)
+
+abbrev pub stroke_events : ℕ → Stroke → List Event
+stroke_events channel s = map event_of (stroke_messages channel s)
+
 -- ---- the strokes of an event
 
 -- each grace chord has a tick
@@ -62,10 +72,18 @@ event_strokes resolution x =
 
 -- the events of the track of a spine, as the strokes make them
 abbrev pub strokes_events : ℕ → List Stroke → List Event
-strokes_events channel strokes = flat_map (λ s. map event_of (stroke_messages channel s)) strokes
+strokes_events channel strokes = flat_map (stroke_events channel) strokes
+
+-- those of grace chords from a tick on
+abbrev pub grace_events : ℕ → ℕ → List ℕ → List Event
+grace_events channel onset graces = strokes_events channel (grace_strokes onset graces)
+
+-- and those of a span
+abbrev pub span_events : ℕ → ℕ → Span → List Event
+span_events resolution channel x = strokes_events channel (event_strokes resolution x)
 
 abbrev pub own_events : ℕ → ℕ → ℕ → KernEvent → List Event
-own_events resolution channel spine e = if e.spine == spine then strokes_events channel (event_strokes resolution e.span) else []
+own_events resolution channel spine e = if e.spine == spine then span_events resolution channel e.span else []
 
 abbrev pub spine_events : ℕ → List KernEvent → ℕ → ℕ → List Event
 spine_events resolution events spine channel = flat_map (own_events resolution channel spine) events

@@ -1,12 +1,11 @@
 ghost use Rattle.derivation.specs.Score.{IsScoreBar};
-ghost use Rattle.rhythm_base.specs.declared.limits.TheConstants.{MOST_UNITS};
 ghost use Rattle.smf_writer.specs.Changes as definitions;
 ghost use Rattle.smf_writer.specs.Changes.{changes_at, key_event, signature_event, tempo_event};
 ghost use Rattle.voice_events.specs.Parts.{score_parts};
 ghost use Rattle.std.specs.Prelude.{◌≡◌, ◌++◌, ◌<◌, ◌≤◌, ◌^◌, All, IfOk, OnOk, length};
 
 use derivation::ScoreBar;
-use rhythm_base::{Event, What};
+use rhythm_base::{Event, Units, What};
 use score_words::{is_same_key, is_same_signature, key_before};
 use std::alloc::{AllocError, Global};
 use voice_events::score_bar_parts;
@@ -70,20 +69,20 @@ fn push_changes(
 pub(crate) fn conductor(
     alloc: Global,
     bars: &[ScoreBar],
-    resolution: u16,
+    resolution: Units,
 ) -> Result<Vec<Event>, AllocError>
     requires bars { All IsScoreBar bars.now }
     requires few_bars { length bars.now ≤ 2 ^ 32 }
-    requires few_units { resolution ≤ MOST_UNITS }
     ensures { IfOk result (λ events. events.items ≡ definitions.conductor resolution bars.now) }
 {
+    let units = resolution.count();
     let mut events = Vec::new(alloc);
     let mut before = None;
     let mut tick = 0;
     'bars: for bar in bars {
         push_changes(&mut events, tick, before, bar)?;
         before = Some(*bar);
-        tick += score_bar_parts(bar, resolution);
+        tick += score_bar_parts(bar, units);
     }
     Ok(events)
 }

@@ -1,6 +1,6 @@
 ghost use Rattle.smf_bytes.specs.declared.quantity.TheConstants.{GREATEST_QUANTITY};
 ghost use Rattle.smf_writer.specs.EventNotes.{main_end, main_onset};
-ghost use Rattle.smf_writer.specs.Strokes.{event_strokes, grace_strokes, joined_keys, strokes_events};
+ghost use Rattle.smf_writer.specs.Strokes.{grace_events, joined_keys, span_events};
 ghost use Rattle.voice_events.specs.Parts as parts;
 ghost use Rattle.voice_events.specs.Parts.{IsWhole, end_parts, len_parts, start_parts};
 ghost use Rattle.voice_events.specs.VoiceEvents.{IsVoiceSpan};
@@ -9,6 +9,7 @@ ghost use Rattle.std.specs.Prelude.{◌≡◌, ◌++◌, ◌+◌, ◌*◌, ◌�
 use crate::messages::push_stroke;
 use crate::stroke::Stroke;
 use rhythm_base::{Event, Frac, Keys, Span};
+use smf_bytes::Quantity;
 use std::alloc::{AllocError, Global};
 use voice_events::frac_parts;
 
@@ -35,17 +36,16 @@ fn joined(graces: &[Keys]) -> Keys
 /// Appends the messages of grace chords of a tick each, from a tick on, and gives the tick after them.
 fn push_graces(
     alloc: Global,
-    events: &mut Vec<Event>,
+    track: &mut Vec<Event>,
     channel: u8,
-    onset: u64,
+    onset: Quantity,
     graces: &[Keys],
 ) -> Result<u64, AllocError>
-    requires few { length graces.now ≤ 3 }
-    requires early { onset ≤ GREATEST_QUANTITY }
-    ensures events { OnOk result (events.new.items ≡ events.old.items ++ strokes_events channel (grace_strokes onset graces.now)) }
+    requires { length graces.now ≤ 3 }
+    ensures events { OnOk result (track.new.items ≡ track.old.items ++ grace_events channel onset graces.now) }
     ensures after { IfOk result (λ tick. tick ≡ onset + length graces.now) }
 {
-    let mut tick = onset;
+    let mut tick = onset.count();
     'graces: for keys in graces {
         let stroke = Stroke {
             onset: tick,
@@ -53,7 +53,7 @@ fn push_graces(
             held: *keys,
             passing: Keys::none(),
         };
-        push_stroke(alloc, events, channel, &stroke)?;
+        push_stroke(alloc, track, channel, &stroke)?;
         tick += 1;
     }
     Ok(tick)
@@ -74,20 +74,20 @@ fn end_of(span: &Span, onset: u64, end: u64) -> u64
 /// Appends the messages of an event.
 pub(crate) fn push_event(
     alloc: Global,
-    events: &mut Vec<Event>,
+    track: &mut Vec<Event>,
     channel: u8,
     resolution: u16,
     span: &Span,
 ) -> Result<(), AllocError>
     requires span { IsVoiceSpan resolution span.now }
     requires early { end_parts resolution span.now ≤ GREATEST_QUANTITY }
-    ensures { OnOk result (events.new.items ≡ events.old.items ++ strokes_events channel (event_strokes resolution span.now)) }
+    ensures { OnOk result (track.new.items ≡ track.old.items ++ span_events resolution channel span.now) }
 {
     let start = ticks_of(span.start, resolution);
     let length = ticks_of(span.len, resolution);
     let graces = span.graces.as_slice();
     let (onset, passing) = if (graces.len() as u64) < length {
-        let onset = push_graces(alloc, events, channel, start, graces)?;
+        let onset = push_graces(alloc, track, channel, Quantity::of(start), graces)?;
         (onset, Keys::none())
     } else {
         (start, joined(graces))
@@ -98,5 +98,5 @@ pub(crate) fn push_event(
         held: span.keys,
         passing,
     };
-    push_stroke(alloc, events, channel, &stroke)
+    push_stroke(alloc, track, channel, &stroke)
 }

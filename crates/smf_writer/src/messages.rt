@@ -1,8 +1,6 @@
 ghost use Rattle.rhythm_base.specs.declared.event.What.TheVariants.{Off, On};
-ghost use Rattle.smf_writer.specs.NoteMessages.{event_of};
-ghost use Rattle.smf_writer.specs.Strokes.{begun_messages, ended, stroke_messages};
-ghost use Rattle.std.specs.List.{flat_map};
-ghost use Rattle.std.specs.Prelude.{◌≡◌, ◌++◌, OnOk, map};
+ghost use Rattle.smf_writer.specs.Strokes.{begun_events, ended_events, stroke_events};
+ghost use Rattle.std.specs.Prelude.{◌≡◌, ◌++◌, OnOk};
 
 use crate::stroke::{Stroke, notes_of};
 use rhythm_base::{Event, Note, What};
@@ -42,7 +40,7 @@ fn ending(note: &Note) -> Event
 
 /// Appends that notes begin; those of no length end at once.
 fn push_begun(events: &mut Vec<Event>, notes: &[Note]) -> Result<(), AllocError>
-    ensures { OnOk result (events.new.items ≡ events.old.items ++ map event_of (flat_map begun_messages notes.now)) }
+    ensures { OnOk result (events.new.items ≡ events.old.items ++ begun_events notes.now) }
 {
     'notes: for note in notes {
         events.push(beginning(note))?;
@@ -55,7 +53,7 @@ fn push_begun(events: &mut Vec<Event>, notes: &[Note]) -> Result<(), AllocError>
 
 /// Appends that notes of some length end.
 fn push_ended(events: &mut Vec<Event>, notes: &[Note]) -> Result<(), AllocError>
-    ensures { OnOk result (events.new.items ≡ events.old.items ++ map event_of (flat_map ended notes.now)) }
+    ensures { OnOk result (events.new.items ≡ events.old.items ++ ended_events notes.now) }
 {
     'notes: for note in notes {
         if note.onset < note.end {
@@ -72,7 +70,7 @@ pub(crate) fn push_stroke(
     channel: u8,
     stroke: &Stroke,
 ) -> Result<(), AllocError>
-    ensures { OnOk result (events.new.items ≡ events.old.items ++ map event_of (stroke_messages channel stroke.now)) }
+    ensures { OnOk result (events.new.items ≡ events.old.items ++ stroke_events channel stroke.now) }
 {
     let notes = notes_of(alloc, channel, stroke)?;
     push_begun(events, notes.as_slice())?;

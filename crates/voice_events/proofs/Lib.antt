@@ -1,5 +1,7 @@
 pub mod AlikeBars
+pub mod BarUnits
 pub mod CountedParts
+pub mod SameFractions
 pub mod ScoreBars
 pub mod ScoreEvents
 pub mod SpanEnds

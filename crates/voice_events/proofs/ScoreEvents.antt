@@ -1,5 +1,5 @@
 -- A score has one list of events, and they are such as a writer takes.
-use Rattle.std.proofs.Common.{◌≡◌, ℕ, suc, ◌*◌, ◌≤◌, List, [], ◌∷◌, ◌++◌, length, map, refl, sym, ap, ap₂, ◌∙◌, subst}
+use Rattle.std.proofs.Common.{◌≡◌, ℕ, suc, ◌*◌, ◌≤◌, List, [], ◌∷◌, ◌++◌, length, map, refl, sym, ap₂, ◌∙◌, subst}
 use Rattle.std.specs.Prelude.{All, sum_by}
 use Rattle.std.proofs.lemmas.List.Elements.{All-head, All-tail}
 use Rattle.rhythm_base.specs.declared.note.Bar.{Bar}
@@ -15,17 +15,17 @@ use Rattle.voice_events.specs.Events.{AreVoiceSpans, HaveSignatures, span_event}
 use Rattle.voice_events.specs.Laws.{ScoreEventsAreOne, ScoreEventsAreVoiceEvents, ScoreEventsExist, SignaturesDecideEvents}
 use Rattle.voice_events.specs.VoiceEvents.{AreVoiceEventsFrom}
 use Rattle.voice_events.proofs.AlikeBars.{spans_alike}
+use Rattle.voice_events.proofs.BarUnits.{signatures_kept, some_bar}
 use Rattle.voice_events.proofs.ScoreBars.{same_count, same_parts, well_signed}
 use Rattle.voice_events.proofs.SpansFollow.{of_voice}
 
 -- there are bars of the signatures of a score
 some_bars : List ScoreBar → List Bar
-some_bars bars = map (λ b. record { start = 0; num = b.num; den = b.den }) bars
+some_bars bars = map some_bar bars
 
 have_some : (bars : List ScoreBar) → HaveSignatures bars (some_bars bars)
 unfolding some_bars
-have_some [] = refl
-have_some (bar ∷ bars) = ap (λ rest. (bar.num, bar.den) ∷ rest) (have_some bars)
+have_some bars = signatures_kept bars
 
 pub decided : SignaturesDecideEvents
 decided s bars events have are = λ others own. spans_alike s.bars s.resolution bars others 1 s.voices events have own are

@@ -9,9 +9,8 @@ use Rattle.voice_events.specs.declared.event.KernEvent.{KernEvent}
 use Rattle.voice_events.specs.Events.{AreVoiceSpans, span_event}
 
 -- a voice that is one of others as they are seen elsewhere
-pub same_voice : (voices others : List (List Sound)) (i : ℕ) (sounds voice : List Sound) → sounds ≡ voice → voice ≡ get_or voices i voice → voices ≡ others
-    → sounds ≡ get_or others i sounds
-same_voice voices others i sounds voice same is all = same ∙ is ∙ ap (λ xs. get_or xs i voice) all ∙ ap (λ d. get_or others i d) (sym same)
+pub same_voice : (voices others : List (List Sound)) (i : ℕ) (voice : List Sound) → voice ≡ get_or voices i voice → voices ≡ others → voice ≡ get_or others i voice
+same_voice voices others i voice is all = is ∙ ap (λ xs. get_or xs i voice) all
 
 module _ (r : ℕ) (bars : List Bar) (voices : List (List Sound)) where
   voice_next : (spine i : ℕ) (sounds : List Sound) (spans : List Span) (more : List KernEvent) → i < length voices → sounds ≡ get_or voices i sounds

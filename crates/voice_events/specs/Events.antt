@@ -1,5 +1,5 @@
 -- The events of a score: the spans of the sounds of its voices.
-use Rattle.std.specs.Prelude.{◌≡◌, ℕ, List, [], ◌∷◌, ◌++◌, map}
+use Rattle.std.specs.Prelude.{◌≡◌, ℕ, List, [], ◌∷◌, ◌++◌, Vec, map}
 use Rattle.std.proofs.Common.{suc}
 use Rattle.rhythm_base.specs.declared.note.Bar.{Bar}
 use Rattle.rhythm_base.specs.declared.sound.Sound.{Sound}
@@ -11,6 +11,11 @@ use Rattle.voice_events.specs.declared.event.KernEvent.{KernEvent}
 
 abbrev pub span_event : ℕ → Span → KernEvent
 span_event spine span = record { spine = spine; span = span }
+
+-- the spans of the sounds of a voice stand after other events, as events of its spine
+abbrev pub AddsEventsOf : {A : Type 0} → List Sound → ℕ → ℕ → List Bar → Vec KernEvent A → Vec KernEvent A → Type 0
+AddsEventsOf sounds spine resolution bars before after =
+    (spans : List Span) × AreSpans resolution bars sounds spans × (after.items ≡ before.items ++ map (span_event spine) spans)
 
 -- the bars of a performance have the signatures of those of a score
 abbrev pub HaveSignatures : List ScoreBar → List Bar → Type 0

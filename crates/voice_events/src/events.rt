@@ -1,15 +1,13 @@
 ghost use Rattle.derivation.specs.Score.{IsScore};
 ghost use Rattle.derivation.specs.WellSounded.{AreWellSounded};
-ghost use Rattle.durations.specs.Spans.{AreSpans};
 ghost use Rattle.rhythm_base.specs.Signatures.{IsSignature};
-ghost use Rattle.rhythm_base.specs.declared.limits.TheConstants.{MOST_BARS, MOST_UNITS};
-ghost use Rattle.rhythm_base.specs.declared.span.Span.{Span};
-ghost use Rattle.voice_events.specs.Events.{AreScoreEvents, HaveSignatures, span_event};
-ghost use Rattle.std.specs.Prelude.{◌≡◌, ◌≤◌, ◌++◌, All, IfOk, List, OnOk, length, map};
+ghost use Rattle.rhythm_base.specs.declared.limits.TheConstants.{MOST_BARS};
+ghost use Rattle.voice_events.specs.Events.{AddsEventsOf, AreScoreEvents, HaveSignatures, span_event};
+ghost use Rattle.std.specs.Prelude.{◌≡◌, ◌≤◌, ◌++◌, All, IfOk, OnOk, length, map};
 
 use crate::event::KernEvent;
-use derivation::{Score, ScoreBar, spans_of};
-use rhythm_base::{Bar, Sound, Span};
+use derivation::{Score, ScoreBar, VoiceSounds, spans_of};
+use rhythm_base::{Bar, Span, Units};
 use std::alloc::{AllocError, Global};
 
 /// Bars of the signatures of a score. Where they start is not asked of them: spans are counted in whole notes.
@@ -31,6 +29,7 @@ fn bars_of(alloc: Global, bars: &[ScoreBar]) -> Result<Vec<Bar>, AllocError>
 fn push_spans(events: &mut Vec<KernEvent>, spine: u8, spans: Vec<Span>) -> Result<(), AllocError>
     ensures { OnOk result (events.new.items ≡ events.old.items ++ map (span_event spine) spans.items) }
 {
+    events.reserve(spans.len())?;
     'spans: for span in spans {
         events.push(KernEvent { spine, span })?;
     }
@@ -42,19 +41,17 @@ fn push_voice(
     alloc: Global,
     events: &mut Vec<KernEvent>,
     spine: u8,
-    sounds: &[Sound],
+    voice: &VoiceSounds,
     bars: &[Bar],
-    resolution: u16,
+    resolution: Units,
 ) -> Result<(), AllocError>
-    requires sounds { AreWellSounded resolution (length bars.now) sounds.now }
-    requires some_unit { 1 ≤ resolution }
-    requires few_units { resolution ≤ MOST_UNITS }
+    requires sounds { AreWellSounded resolution (length bars.now) voice.now }
     requires few_bars { length bars.now ≤ MOST_BARS }
     requires signatures { All (λ b. IsSignature b.num b.den) bars.now }
-    ensures { OnOk result ((spans : List Span) × AreSpans resolution bars.now sounds.now spans
-        × (events.new.items ≡ events.old.items ++ map (span_event spine) spans)) }
+    ensures { OnOk result (AddsEventsOf voice.now spine resolution bars.now events.old events.new) }
 {
-    let spans = spans_of(alloc, sounds, bars, resolution)?;
+    let sounds = voice.sounds(alloc)?;
+    let spans = spans_of(alloc, sounds.as_slice(), bars, resolution.count())?;
     push_spans(events, spine, spans)
 }
 
@@ -65,16 +62,10 @@ pub fn events_of(alloc: Global, score: &Score) -> Result<Vec<KernEvent>, AllocEr
     ensures { IfOk result (λ v. AreScoreEvents score.now v.items) }
 {
     let bars = bars_of(alloc, &score.bars)?;
+    let units = score.units();
     let mut events = Vec::new(alloc);
     'voices: for (number, voice) in score.voices.iter().enumerate() {
-        push_voice(
-            alloc,
-            &mut events,
-            number as u8 + 1,
-            voice.as_slice(),
-            &bars,
-            score.resolution,
-        )?;
+        push_voice(alloc, &mut events, number as u8 + 1, voice, &bars, units)?;
     }
     Ok(events)
 }

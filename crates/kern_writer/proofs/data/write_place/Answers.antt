@@ -1,4 +1,4 @@
-use Rattle.std.proofs.Common.{◌≡◌, ℕ, zero, suc, ◌-◌, ◌<◌, List, [], ◌∷◌, ◌++◌, sym, ap, ◌∙◌, subst, arith}
+use Rattle.std.proofs.Common.{◌≡◌, ℕ, zero, suc, ◌+◌, ◌-◌, ◌<◌, List, [], ◌∷◌, ◌++◌, sym, ap, ap₂, ◌∙◌, subst, arith}
 use Rattle.std.proofs.lemmas.List.{append-nil, append_assoc}
 use Rattle.kern_writer.specs.Records.{grace_record, grace_records, grace_records_at, main_record, records_at}
 use Rattle.kern_writer.specs.Tokens.{Token}
@@ -6,9 +6,12 @@ use Rattle.kern_writer.specs.Writing.{HasWritten}
 use Rattle.kern_writer.proofs.Writing.{fault_handed, past_among, writes_after, written_after}
 use Rattle.kern_writer.proofs.data.write_place.Goals as goal
 
-graces_next : (place : ℕ) (columns : List (List Token)) (left : ℕ) → 0 < left → grace_records place columns left ≡ grace_record place columns left ∷ grace_records place columns (left - 1)
+graces_next : (place : ℕ) (columns : List (List Token)) (left : ℕ) → 0 < left → grace_records place columns left ≡ grace_record place columns (left - 1 + 1) ∷ grace_records place columns (left - 1)
 graces_next place columns zero some = absurd (omega arith)
-graces_next place columns (suc n) some = let e : n ≡ suc n - 1 = omega arith in ap (λ k. grace_record place columns (suc n) ∷ grace_records place columns k) e
+graces_next place columns (suc n) some =
+    let e : n ≡ suc n - 1 = omega arith in
+    let own : suc n ≡ suc n - 1 + 1 = omega arith in
+    ap₂ (λ a k. grace_record place columns a ∷ grace_records place columns k) own e
 
 pub returns-in_err-write_graces : goal.returns-in_err-write_graces
 returns-in_err-write_graces c =
@@ -17,7 +20,7 @@ returns-in_err-write_graces c =
     let left = c.graces.left in
     let h = c.graces.invariant in
     let main = main_record p columns ∷ [] in
-    let now = grace_record p columns left ∷ [] in
+    let now = grace_record p columns (left - 1 + 1) ∷ [] in
     let rest = grace_records p columns (left - 1) in
     let next : h.0 ++ (now ++ (rest ++ main)) ≡ records_at columns p =
     sym (append_assoc h.0 (now ++ rest) main)
@@ -31,7 +34,7 @@ graces-preserved c =
     let columns = c.args.columns.now in
     let left = c.graces.left in
     let h = c.graces.invariant in
-    let now = grace_record p columns left ∷ [] in
+    let now = grace_record p columns (left - 1 + 1) ∷ [] in
     let rest = grace_records p columns (left - 1) in
     let all = written_after c.args.text.now c.graces.text c.write_graces.new.text h.0 now h.1 c.in_ok-write_graces.ensures in
     (h.0 ++ now, all, append_assoc h.0 now rest ∙ ap (λ t. h.0 ++ t) (sym (graces_next p columns left c.graces-test.true)) ∙ h.2)

@@ -1,6 +1,7 @@
 use Rattle.std.proofs.Common.{◌++◌, None, List, length, drop}
 use Rattle.std.specs.Prelude.{All, IfSome}
 use Rattle.derivation.specs.WellSounded.{StandInBars}
+use Rattle.kern_writer.specs.Ahead.{laters}
 use Rattle.kern_writer.specs.Records.{Record}
 use Rattle.derivation.specs.Score.{IsScoreBar}
 use Rattle.kern_writer.specs.Writing.{HasWritten}
@@ -11,9 +12,9 @@ use Rattle.kern_writer.proofs.kern.write_bars.Given as goal
 abbrev pub invariant-bars : goal.invariant-bars
 invariant-bars l = record {
   before : IfSome l.before IsScoreBar;
-  stand : All (StandInBars l.resolution (length l.bars) l.number 0) l.ahead.items;
+  stand : All (StandInBars l.resolution (length l.bars) l.number 0) (laters l.ahead.items);
   so_far :
       (done : List Record) × HasWritten l.initial.text l.text done
-      × ((rest : List Record) → AreRecordsAhead l.resolution l.before l.number (drop l.number l.bars) l.ahead.items rest
+      × ((rest : List Record) → AreRecordsAhead l.resolution l.before l.number (drop l.number l.bars) (laters l.ahead.items) rest
       → AreRecordsAhead l.resolution None 0 l.bars l.voices (done ++ rest));
 }

@@ -1,4 +1,5 @@
-use Rattle.std.proofs.Common.{length, ◌∙◌, arith}
+use Rattle.std.proofs.Common.{length, ◌≤◌, ◌∙◌, arith, rules}
+use Rattle.smf_bytes.specs.declared.quantity.TheConstants.{GREATEST_QUANTITY}
 use Rattle.smf_writer.proofs.Spines.{all_playable}
 use Rattle.smf_writer.proofs.Tracks.{all_short, all_there, one_more, one_more_short, voice_can_stand, voice_in_order}
 use Rattle.smf_writer.proofs.rendered_file.push_voices.Goals as goal
@@ -9,7 +10,8 @@ voice-requires-clause-spans c = λ k d lt. (all_playable c.args.resolution _ 1 (
 pub voice-requires-clause-early : goal.voice-requires-clause-early
 voice-requires-clause-early c = λ k d lt.
     let e = all_playable c.args.resolution _ 1 (length c.args.channels.now) c.args.events.now c.requires.events k d lt in
-    omega (arith, e.early, c.requires.last, c.requires.early)
+    let few : c.args.last ≤ GREATEST_QUANTITY = search rules in
+    omega (arith, e.early, c.requires.last, few)
 
 pub push_events-requires-clause-order : goal.push_events-requires-clause-order
 push_events-requires-clause-order c =

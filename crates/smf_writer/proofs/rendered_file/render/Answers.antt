@@ -14,15 +14,21 @@ use Rattle.smf_writer.proofs.rendered_file.render.Goals as goal
 
 pub push_events-requires-clause-order : goal.push_events-requires-clause-order
 push_events-requires-clause-order c =
-    let last = c.score_parts-last.result in
-    subst (λ (es : List Event). AreTimed 0 es last) (sym (c.as_slice.ensures.value ∙ c.in_ok-changes.ensures))
-    (conductor_timed last c.args.resolution c.args.bars.now (omega (arith, c.score_parts-last.ensures)))
+    let last = c.in-Some.last in
+    let r = c.of.result in
+    let bars = c.args.bars.now in
+    let parts = c.score_parts-tick.ensures ∙ ap (λ n. score_parts n bars) (sym c.of.ensures) in
+    subst (λ (es : List Event). AreTimed 0 es last) (sym (c.as_slice.ensures.value ∙ c.in_ok-changes.ensures)) (conductor_timed last r bars (omega (arith, parts, c.in-Some.ensures.is)))
 
 pub push_events-requires-clause-channels : goal.push_events-requires-clause-channels
 push_events-requires-clause-channels c =
-    let early : score_parts c.args.resolution c.args.bars.now ≤ GREATEST_QUANTITY = omega (arith, c.if-last-gt-GREATEST_QUANTITY.false, c.score_parts-last.ensures) in
+    let r = c.of.result in
+    let bars = c.args.bars.now in
+    let parts = c.score_parts-tick.ensures ∙ ap (λ n. score_parts n bars) (sym c.of.ensures) in
+    let few : c.in-Some.last ≤ GREATEST_QUANTITY = search rules in
+    let early : score_parts r bars ≤ GREATEST_QUANTITY = omega (arith, few, c.in-Some.ensures.is, parts) in
     let changes : All (IsChange GREATEST_QUANTITY) c.as_slice.result.now =
-    subst (All (IsChange GREATEST_QUANTITY)) (sym (c.as_slice.ensures.value ∙ c.in_ok-changes.ensures)) (conductor_changes GREATEST_QUANTITY c.args.resolution c.args.bars.now early) in
+    subst (All (IsChange GREATEST_QUANTITY)) (sym (c.as_slice.ensures.value ∙ c.in_ok-changes.ensures)) (conductor_changes GREATEST_QUANTITY r bars early) in
     λ k d lt. (changes k d lt).no_channel
 
 pub returns-clause-file : goal.returns-clause-file
@@ -31,8 +37,9 @@ returns-clause-file c =
     let bars = c.args.bars.now in
     let channels = c.args.channels.now in
     let events = c.args.events.now in
-    let last = c.score_parts-last.result in
-    let changes : c.as_slice.result.now ≡ definitions.conductor r bars = c.as_slice.ensures.value ∙ c.in_ok-changes.ensures in
+    let last = c.in-Some.last in
+    let few : last ≤ GREATEST_QUANTITY = search rules in
+    let changes : c.as_slice.result.now ≡ definitions.conductor r bars = c.as_slice.ensures.value ∙ c.in_ok-changes.ensures ∙ ap (λ n. definitions.conductor n bars) c.of.ensures in
     let headed : c.push_header.new.bytes.items ≡ header_bytes (length channels + 1) (16 * r) = search rules in
     let made =
     c.in_ok-push_voices.ensures.bytes
@@ -40,5 +47,5 @@ returns-clause-file c =
     (c.in_ok-push_events.ensures.bytes
     ∙ ap (λ (bytes : List ℕ). bytes ++ track_of last c.as_slice.result.now) headed
     ∙ ap (λ (es : List Event). header_bytes (length channels + 1) (16 * r) ++ track_of last es) changes) in
-    rendered_up_to r bars channels events c.push_voices.new.bytes.items last c.score_parts-last.ensures (omega (arith, c.if-last-gt-GREATEST_QUANTITY.false)) c.requires.events
+    rendered_up_to r bars channels events c.push_voices.new.bytes.items last (c.in-Some.ensures.is ∙ c.score_parts-tick.ensures) few c.requires.events
     (subst (IsShort last) changes c.in_ok-push_events.ensures.short) c.in_ok-push_voices.ensures.short made

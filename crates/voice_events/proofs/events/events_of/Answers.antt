@@ -20,13 +20,13 @@ voices-preserved c = λ more rest.
     let i = c.voices.number in
     let s = c.args.score.now in
     let all = c.deref-voice-items.ensures.value ∙ ap (λ v. v.voices) c.score.view_is in
-    let is = same_voice c.deref-voice-items.result.now s.voices i c.as_slice.result.now c.voice-item.result c.as_slice.ensures c.voice-item.is all in
+    let is = same_voice c.deref-voice-items.result.now s.voices i c.voice-item.result c.voice-item.is all in
     let within : i < length s.voices = subst (λ xs. i < length xs) all c.voices-test.true in
     let (spans, own, pushed) = c.in_ok-push_voice.ensures in
-    let are : AreSpans s.resolution c.in_ok-bars.bars.items c.as_slice.result.now spans =
-    subst (λ bars. AreSpans s.resolution bars c.as_slice.result.now spans) c.deref-in-voices.ensures.value
-    (subst (λ r. AreSpans r c.deref-in-voices.result.now c.as_slice.result.now spans) (ap (λ v. v.resolution) c.score.view_is) own) in
-    voice_written s.resolution c.in_ok-bars.bars.items s.voices (i + 1) i c.as_slice.result.now spans c.voices.events.items c.push_voice.new.events.items more
+    let are : AreSpans s.resolution c.in_ok-bars.bars.items c.voice-item.result spans =
+    subst (λ bars. AreSpans s.resolution bars c.voice-item.result spans) c.deref-in-voices.ensures.value
+    (subst (λ r. AreSpans r c.deref-in-voices.result.now c.voice-item.result spans) c.units-units.ensures own) in
+    voice_written s.resolution c.in_ok-bars.bars.items s.voices (i + 1) i c.voice-item.result spans c.voices.events.items c.push_voice.new.events.items more
     within is are pushed c.voices.invariant rest
 
 pub returns : goal.returns
