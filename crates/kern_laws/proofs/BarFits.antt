@@ -14,17 +14,18 @@ use Rattle.durations.specs.declared.value.Value.{Value}
 use Rattle.durations.specs.Value.{value_grid, width}
 use Rattle.derivation.specs.declared.score.ScoreBar.{ScoreBar}
 use Rattle.derivation.specs.Score.{IsScoreBar}
-use Rattle.kern_writer.specs.Tokens.{goes_on, next_goes_on}
-use Rattle.kern_writer.specs.Values.{VoiceValue}
-use Rattle.kern_writer.proofs.TimedSounds.{some_whole}
+use Rattle.voice_values.specs.GoesOn.{goes_on, next_goes_on}
+use Rattle.voice_values.specs.Values.{VoiceValue}
+use Rattle.voice_values.proofs.TimedSounds.{some_whole}
 use Rattle.kern_reader.specs.declared.token.Token.TheVariants as token
 use Rattle.kern_reader.specs.Columns.{continues, has_value, is_left_open, open_keys, token_values}
 use Rattle.kern_reader.specs.Faults.{is_chord_untied, is_grace_wrong, is_tie_wrong}
 use Rattle.kern_reader.specs.Score.{Counts}
-use Rattle.kern_reader.specs.Tokens.{IsWellToken, IsWellValue}
+use Rattle.kern_reader.specs.Tokens.{IsWellToken}
+use Rattle.text_words.specs.Values.{IsWellValue}
 use Rattle.kern_laws.proofs.ScoreLines.{Said, bar_said, said, said_graces, tie_mark, value_token, voice_said, writing_of}
 use Rattle.kern_laws.proofs.BarLines.{FitsBars, frame_of, said_in}
-use Rattle.kern_laws.proofs.BarSounded.{AreSounded, IsValue, leaf_values, sound_len, sound_lens}
+use Rattle.voice_values.proofs.BarSounded.{AreSounded, IsValue, leaf_values, sound_len, sound_lens}
 use Rattle.kern_laws.proofs.BarVoice.{AreVoice}
 use Rattle.voice_events.proofs.ScoreBars.{parts_finer}
 use Rattle.kern_laws.proofs.GridParts.{divisor_some, well_value, width_finer}

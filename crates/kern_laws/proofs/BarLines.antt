@@ -14,7 +14,7 @@ use Rattle.derivation.specs.declared.score.ScoreBar.{ScoreBar}
 use Rattle.score_words.specs.Changes.{key_before, same_signature}
 use Rattle.kern_writer.specs.Changes.{key_change, signature_change, signature_text, tempo_change}
 use Rattle.derivation.specs.Score.{IsScoreBar}
-use Rattle.kern_reader.specs.declared.token.TimeSignature.{TimeSignature}
+use Rattle.text_words.specs.declared.time_signature.TimeSignature.{TimeSignature}
 use Rattle.kern_reader.specs.declared.token.Token.{Token}
 use Rattle.kern_reader.specs.declared.token.Token.TheVariants as token
 use Rattle.kern_reader.specs.Columns.{add_bar, announced, columns_of, current_bar, grid_of, open_keys, place, spine_at, spines_of, stage_of, waiting}

@@ -10,9 +10,9 @@ use Rattle.derivation.specs.WellSounded.{StandInBars}
 use Rattle.durations.proofs.Wide.{some_product}
 use Rattle.derivation.specs.declared.score.ScoreBar.{ScoreBar}
 use Rattle.derivation.specs.Score.{IsScoreBar}
-use Rattle.kern_writer.specs.Values.{AreBarValues, AreVoiceValues, VoiceValue, sounds_in_bar}
-use Rattle.kern_writer.proofs.TimedSounds.{some_whole}
-use Rattle.kern_laws.proofs.BarSounded.{AreSounded, sound_len, sound_lens, sounded}
+use Rattle.voice_values.specs.Values.{AreBarValues, AreVoiceValues, VoiceValue, sounds_in_bar}
+use Rattle.voice_values.proofs.TimedSounds.{some_whole}
+use Rattle.voice_values.proofs.BarSounded.{AreSounded, sound_len, sound_lens, sounded}
 
 -- sounds side by side in bar n, from unit p on
 abbrev pub StandOwn : ℕ → ℕ → List Sound → Type 0

@@ -8,9 +8,10 @@ use Rattle.std.proofs.lemmas.List.Elements.{All-head, All-tail}
 use Rattle.std.proofs.lemmas.Nat.{pow_pos, div-add-mod'}
 use Rattle.durations.specs.declared.value.Value.{Value}
 use Rattle.durations.specs.Value.{IsWide, parts, plain_grid, value_grid, width}
-use Rattle.kern_reader.specs.Columns.{gcd, gcd_within, grid_with, lcm}
-use Rattle.kern_reader.specs.Tokens.{IsWellValue}
-use Rattle.kern_reader.proofs.GridLemmas.{gcd_is, gcd_some}
+use Rattle.text_words.specs.Divisors.{gcd, gcd_within}
+use Rattle.kern_reader.specs.Columns.{grid_with, lcm}
+use Rattle.text_words.specs.Values.{IsWellValue}
+use Rattle.text_words.proofs.Divisors.{gcd_is, gcd_some}
 
 -- ---- the least common multiple
 

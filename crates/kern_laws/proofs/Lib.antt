@@ -1,6 +1,5 @@
 pub mod BarFits
 pub mod BarLines
-pub mod BarSounded
 pub mod BarVoice
 pub mod EventsExist
 pub mod GraceSteps
@@ -11,6 +10,7 @@ pub mod LineLists
 pub mod LineScore
 pub mod LineTests
 pub mod LineWalk
+pub mod LinesOfRecords
 pub mod OneList
 pub mod OnlyPitches
 pub mod OnlyValueTexts
@@ -35,10 +35,6 @@ pub mod SpanRuns
 pub mod SpanTokens
 pub mod SpanValues
 pub mod SpanVoices
-pub mod TextNumbers
-pub mod TextRuns
-pub mod TextSplits
-pub mod TextTests
 pub mod TieValues
 pub mod TokenChords
 pub mod TokenNotes

@@ -9,7 +9,7 @@ use Rattle.std.proofs.lemmas.List.Elements.{All-cons, All-nil}
 use Rattle.rhythm_base.specs.Lists.{Each}
 use Rattle.derivation.specs.declared.score.ScoreBar.{ScoreBar}
 use Rattle.derivation.specs.Score.{IsScoreBar}
-use Rattle.kern_reader.specs.declared.token.TimeSignature.{TimeSignature}
+use Rattle.text_words.specs.declared.time_signature.TimeSignature.{TimeSignature}
 use Rattle.kern_reader.specs.declared.token.Token.{Token}
 use Rattle.kern_reader.specs.Columns.{announced, columns_of, current_bar, grid_of, grid_with, line_values, spine_at, spines_of, stage_after, stage_of}
 use Rattle.kern_reader.specs.Faults.{has_no_grid, has_wrong_grace, has_wrong_tie, is_head_stage, is_misplaced, is_unfilled, is_unread, is_wrong_bar}

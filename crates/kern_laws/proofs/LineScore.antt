@@ -9,7 +9,7 @@ use Rattle.rhythm_base.specs.Lists.{Each}
 use Rattle.derivation.specs.WellSounded.{AreWellSounded}
 use Rattle.derivation.specs.declared.score.ScoreBar.{ScoreBar}
 use Rattle.derivation.specs.Score.{IsScore, IsScoreBar, Score}
-use Rattle.kern_writer.specs.Values.{AreVoiceValues, VoiceValue}
+use Rattle.voice_values.specs.Values.{AreVoiceValues, VoiceValue}
 use Rattle.kern_laws.specs.Lines.{KernLine}
 use Rattle.kern_laws.proofs.ScoreLines.{AreScoreLines, ending_line, Heading, LastBarline, StandFrom, voice_said}
 use Rattle.kern_laws.proofs.BarFits.{voice_fits}

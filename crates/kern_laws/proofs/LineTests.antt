@@ -10,7 +10,7 @@ use Rattle.std.proofs.lemmas.List.Elements.{All-append, All-cons, All-head, All-
 use Rattle.rhythm_base.specs.Lists.{Each, least_of}
 use Rattle.kern_reader.specs.declared.fault.KernWhat.{KernWhat}
 use Rattle.kern_reader.specs.declared.fault.KernWhat.TheVariants as what
-use Rattle.kern_reader.specs.declared.token.TimeSignature.{TimeSignature}
+use Rattle.text_words.specs.declared.time_signature.TimeSignature.{TimeSignature}
 use Rattle.kern_reader.specs.declared.token.Token.{Token}
 use Rattle.kern_reader.specs.Columns.{add_token, announced, columns_of, current_bar, grid_of, grid_with, open_keys, place, spine_at, spines_of, stage_of, token_values, waiting}
 use Rattle.kern_reader.specs.Faults.{first_fault, has_no_grid, has_wrong_grace, has_wrong_tie, is_grace, is_grace_wrong, is_head_stage, is_misplaced, is_null, is_tie_wrong, is_unread, is_wrong_bar, least_place, said_tests, stands}

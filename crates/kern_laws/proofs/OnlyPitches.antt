@@ -7,7 +7,9 @@ use Rattle.std.proofs.lemmas.Bool.{and_parts, leb-true}
 use Rattle.std.proofs.lemmas.Bool.Decides.{nat_tests}
 use Rattle.std.proofs.lemmas.Slice.Eq.{bytes_eq-Decides}
 use Rattle.durations.specs.Pitch.{is_black, pitch}
-use Rattle.kern_reader.specs.Tokens.{◌>>=◌, altered, is_lower_case, is_upper, pitch_key, key_of_letters, octave_of, white_key, within_keys}
+use Rattle.text_words.specs.Steps.{◌>>=◌}
+use Rattle.kern_reader.specs.Tokens.{altered, is_lower_case, is_upper, pitch_key, key_of_letters, octave_of, white_key}
+use Rattle.text_words.specs.Numbers.{within_keys}
 use Rattle.kern_laws.specs.Laws.{OnlyPitchesAreRead}
 use Rattle.rhythm_base.proofs.NumbersBelow.{one_below, all_below}
 

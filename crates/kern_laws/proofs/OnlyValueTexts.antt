@@ -16,8 +16,11 @@ use Rattle.durations.specs.declared.value.Recip.{Recip}
 use Rattle.durations.specs.declared.value.Recip.TheVariants.{Of, Breve, Long}
 use Rattle.durations.specs.declared.value.Value.{Value}
 use Rattle.kern_writer.specs.Tokens.{recip_text, value_text}
-use Rattle.kern_reader.specs.Tokens.{IsWellValue, are_dots, digits_part, dots_part, is_plain, number_of, recip_of, value_of}
-use Rattle.kern_reader.proofs.NumberLemmas.{plain_digits}
+use Rattle.text_words.specs.Values.{IsWellValue}
+use Rattle.text_words.specs.Marks.{are_dots}
+use Rattle.kern_reader.specs.Tokens.{digits_part, dots_part, recip_of, value_of}
+use Rattle.text_words.specs.Numbers.{is_plain, number_of}
+use Rattle.text_words.proofs.NumberLemmas.{plain_digits}
 use Rattle.kern_reader.proofs.ScoreLemmas.{value_well}
 use Rattle.kern_laws.specs.Laws.{OnlyValueTextsAreRead}
 

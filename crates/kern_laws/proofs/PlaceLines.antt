@@ -5,7 +5,7 @@ use Rattle.std.specs.List.{list_any, zip}
 use Rattle.std.proofs.Math.Nat.{mul-le-mul_left}
 use Rattle.std.proofs.lemmas.Bool.{le-ltb, ltb-false, ltb-true}
 use Rattle.rhythm_base.specs.Lists.{Each}
-use Rattle.kern_reader.specs.declared.token.TimeSignature.{TimeSignature}
+use Rattle.text_words.specs.declared.time_signature.TimeSignature.{TimeSignature}
 use Rattle.kern_reader.specs.declared.token.Token.{Token}
 use Rattle.kern_reader.specs.Columns.{add_token, columns_of, open_keys, place}
 use Rattle.kern_reader.specs.Faults.{is_grace}

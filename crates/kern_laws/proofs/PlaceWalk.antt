@@ -6,7 +6,7 @@ use Rattle.std.specs.List.Sorted.{IsStrictlyIncreasing}
 use Rattle.std.proofs.lemmas.Bool.Decides.{nat_tests}
 use Rattle.rhythm_base.specs.Lists.{Each}
 use Rattle.kern_writer.proofs.RisingPlaces.{contains_cases, contains_here, contains_none, contains_there, rising_above}
-use Rattle.kern_reader.specs.declared.token.TimeSignature.{TimeSignature}
+use Rattle.text_words.specs.declared.time_signature.TimeSignature.{TimeSignature}
 use Rattle.kern_reader.specs.declared.token.Token.{Token}
 use Rattle.kern_reader.specs.Columns.{columns_of, open_keys, place, waiting}
 use Rattle.kern_laws.specs.Lines.{KernLine}

@@ -23,7 +23,7 @@ scores_read_back s bars text is have written =
     }
 
 -- the bars of a score have the signatures of those of the performance
-pub have_signatures : (p : Performance) (bars : List Bar) → HaveSignatures (map (score_bar p) bars) bars
+have_signatures : (p : Performance) (bars : List Bar) → HaveSignatures (map (score_bar p) bars) bars
 have_signatures p [] = refl
 have_signatures p (bar ∷ bars) = ap (λ rest. (bar.num, bar.den) ∷ rest) (have_signatures p bars)
 

@@ -12,13 +12,14 @@ use Rattle.kern_reader.specs.Columns.{announced, columns_of, current_bar, grid_o
 use Rattle.kern_reader.specs.Faults.{first_fault, has_no_head, has_wrong_width, is_head_stage, is_out_of_turn, line_fault, said_tests}
 use Rattle.kern_reader.specs.Lines.{is_ending, is_heading, line_of}
 use Rattle.kern_reader.specs.Outcome.{at_end, read_from, read_text}
-use Rattle.kern_reader.specs.Text.{columns, kern_lines}
+use Rattle.kern_reader.specs.Text.{columns}
+use Rattle.text_words.specs.Lines.{text_lines}
 use Rattle.kern_reader.proofs.TextLemmas.{read_next}
 use Rattle.kern_laws.specs.Lines.{KernLine}
 use Rattle.kern_laws.proofs.ScoreLines.{AreScoreLines, Body, ending_line, Head, Heading, Last, LastBarline, Stage, StandFrom}
 use Rattle.kern_laws.proofs.RecordsLines.{SaysInside, SaysLine, row_text}
 use Rattle.kern_laws.proofs.RecordsSay.{SayScore, records_apart, score_rows}
-use Rattle.kern_laws.proofs.TextSplits.{lines_of_records}
+use Rattle.kern_laws.proofs.LinesOfRecords.{lines_of_records}
 use Rattle.kern_laws.proofs.WordsSay.{end_ending, end_says, head_heading, head_says, last_ending, last_says}
 
 -- ---- the tests of a line by its text
@@ -140,8 +141,8 @@ score_read : (m : ℕ) (s : Score) (records : List Record) (text : List ℕ) →
 score_read m s records text is h =
     let n = length s.voices in
     let rows = head (suc m) ∷ (h.rows ++ tail (suc m)) in
-    let pieces : kern_lines text ≡ map row_text rows =
-    ap kern_lines is ∙ lines_of_records records (records_apart m s records h) ∙ ap (map row_text) h.are_rows in
+    let pieces : text_lines text ≡ map row_text rows =
+    ap text_lines is ∙ lines_of_records records (records_apart m s records h) ∙ ap (map row_text) h.are_rows in
     let read : StandFrom n [] (with_ends n h.bars) → read_from [] 1 (map row_text rows) ≡ Ok (reverse (with_ends n h.bars)) =
     subst (λ k. StandFrom k [] (with_ends k h.bars) → read_from [] 1 (map row_text rows) ≡ Ok (reverse (with_ends k h.bars)))
     (sym h.count) (lines_read m h.rows h.bars h.few h.say) in

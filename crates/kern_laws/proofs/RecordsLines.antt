@@ -10,12 +10,15 @@ use Rattle.kern_writer.specs.Records.{Record}
 use Rattle.kern_reader.specs.declared.token.Token.{Token}
 use Rattle.kern_reader.specs.Columns.{stage_after}
 use Rattle.kern_reader.specs.Lines.{all_are, data_line, is_ending, is_heading, line_of, other_line}
-use Rattle.kern_reader.specs.Text.{begins_with, columns, is_skipped}
-use Rattle.kern_reader.specs.Tokens.{◌>>=◌, all_tokens}
+use Rattle.text_words.specs.Lines.{begins_with}
+use Rattle.kern_reader.specs.Text.{columns, is_skipped}
+use Rattle.text_words.specs.Steps.{◌>>=◌}
+use Rattle.kern_reader.specs.Tokens.{all_tokens}
 use Rattle.kern_laws.specs.Lines.{KernLine}
 use Rattle.kern_laws.proofs.ScoreLines.{Body, Data}
-use Rattle.kern_laws.proofs.TextSplits.{false_of_not, in_line, split_joined}
-use Rattle.kern_laws.proofs.TextTests.{all_joined, all_weaker, is_printing, lacks, printing_no_newline, printing_no_tab}
+use Rattle.text_words.proofs.TextSplits.{false_of_not, split_joined}
+use Rattle.kern_laws.proofs.LinesOfRecords.{in_line}
+use Rattle.text_words.proofs.TextTests.{all_joined, all_weaker, is_printing, lacks, printing_no_newline, printing_no_tab}
 use Rattle.kern_laws.proofs.TokenTexts.{SaysToken, begins_data}
 
 abbrev pub row_text : Record → List ℕ

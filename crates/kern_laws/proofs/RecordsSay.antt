@@ -8,14 +8,14 @@ use Rattle.rhythm_base.specs.Lists.{Each}
 use Rattle.kern_writer.specs.Records.{AreRecords, Record, head, tail}
 use Rattle.derivation.specs.Score.{IsScore, Score}
 use Rattle.kern_writer.specs.Tokens.{voice_tokens}
-use Rattle.kern_writer.specs.Values.{AreVoiceValues}
+use Rattle.voice_values.specs.Values.{AreVoiceValues}
 use Rattle.derivation.proofs.Pairs.{each_length}
 use Rattle.kern_laws.specs.Lines.{KernLine}
 use Rattle.kern_laws.proofs.ScoreLines.{AreScoreLines, ending_line, Heading, LastBarline, voice_said}
 use Rattle.kern_laws.proofs.RecordsBars.{bars_say}
 use Rattle.kern_laws.proofs.RecordsLines.{SaysInside, SaysLine}
 use Rattle.kern_laws.proofs.RecordsVoices.{voices_say}
-use Rattle.kern_laws.proofs.TextSplits.{in_line}
+use Rattle.kern_laws.proofs.LinesOfRecords.{in_line}
 use Rattle.kern_laws.proofs.WordsSay.{end_says, head_says, last_says}
 use Rattle.rhythm_base.proofs.PairedLists.{each_append}
 

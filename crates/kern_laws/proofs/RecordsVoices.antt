@@ -18,12 +18,13 @@ use Rattle.durations.proofs.Bars.{written_dots}
 use Rattle.durations.proofs.Beats.{written_part}
 use Rattle.derivation.specs.declared.score.ScoreBar.{ScoreBar}
 use Rattle.derivation.specs.Score.{IsScoreBar}
-use Rattle.kern_writer.specs.Tokens.{Token, bar_tokens, grace_text, next_goes_on, token, voice_tokens}
+use Rattle.kern_writer.specs.Tokens.{Token, bar_tokens, grace_text, token, voice_tokens}
+use Rattle.voice_values.specs.GoesOn.{next_goes_on}
 use Rattle.score_words.specs.Changes.{has_flats}
-use Rattle.kern_writer.specs.Values.{AreBarValues, AreVoiceValues, VoiceValue, is_first, sounds_in_bar, timed, value_of_sound, values_of_sounds}
-use Rattle.kern_writer.proofs.BarValues.{sounds_of_values}
+use Rattle.voice_values.specs.Values.{AreBarValues, AreVoiceValues, VoiceValue, is_first, sounds_in_bar, timed, value_of_sound, values_of_sounds}
+use Rattle.voice_values.proofs.BarValues.{sounds_of_values}
 use Rattle.kern_reader.specs.declared.token.Token.TheVariants as reads
-use Rattle.kern_reader.specs.Tokens.{IsWellValue}
+use Rattle.text_words.specs.Values.{IsWellValue}
 use Rattle.kern_laws.proofs.ScoreLines.{Said, bar_said, said, voice_said}
 use Rattle.kern_laws.proofs.TokenTexts.{SaysToken, grace_said, main_said}
 

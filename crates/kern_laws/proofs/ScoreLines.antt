@@ -10,14 +10,14 @@ use Rattle.derivation.specs.declared.score.ScoreBar.{ScoreBar}
 use Rattle.score_words.specs.Changes.{key_before}
 use Rattle.kern_writer.specs.Changes.{key_change, signature_change, tempo_change}
 use Rattle.derivation.specs.Score.{Score}
-use Rattle.kern_writer.specs.Tokens.{goes_on, next_goes_on}
-use Rattle.kern_writer.specs.Values.{AreVoiceValues, VoiceValue}
+use Rattle.voice_values.specs.GoesOn.{goes_on, next_goes_on}
+use Rattle.voice_values.specs.Values.{AreVoiceValues, VoiceValue}
 use Rattle.kern_reader.specs.declared.token.TieMark.{TieMark}
 use Rattle.kern_reader.specs.declared.token.TieMark.TheVariants.{Absent, GoesOn, Ends}
 use Rattle.kern_reader.specs.declared.token.Token.{Token}
 use Rattle.kern_reader.specs.declared.token.Token.TheVariants as token
 use Rattle.kern_reader.specs.declared.token.Writing.{Writing}
-use Rattle.kern_reader.specs.declared.token.TimeSignature.{TimeSignature}
+use Rattle.text_words.specs.declared.time_signature.TimeSignature.{TimeSignature}
 use Rattle.kern_reader.specs.Columns.{announced, columns_of, current_bar, grid_of, spines_of, stage_after, stage_of}
 use Rattle.kern_reader.specs.Faults.{first_fault, is_head_stage, said_tests}
 use Rattle.kern_laws.specs.Lines.{KernLine, type_of}

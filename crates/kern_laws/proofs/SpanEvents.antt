@@ -10,7 +10,7 @@ use Rattle.durations.specs.Spans.{chord_runs}
 use Rattle.derivation.specs.WellSounded.{AreWellSounded}
 use Rattle.derivation.specs.declared.score.ScoreBar.{ScoreBar}
 use Rattle.derivation.specs.Score.{IsScore, IsScoreBar, Score}
-use Rattle.kern_writer.specs.Values.{AreVoiceValues, VoiceValue}
+use Rattle.voice_values.specs.Values.{AreVoiceValues, VoiceValue}
 use Rattle.voice_events.specs.declared.event.KernEvent.{KernEvent}
 use Rattle.kern_reader.specs.declared.token.Token.{Token}
 use Rattle.kern_reader.specs.Columns.{columns_of, grid_of}
@@ -28,7 +28,8 @@ use Rattle.kern_laws.proofs.PlaceParts.{clean}
 use Rattle.kern_laws.proofs.SpanClean.{each_original}
 use Rattle.kern_laws.proofs.SpanMatch.{IsMatch, kern_spans, sound_spans}
 use Rattle.kern_laws.proofs.SpanTokens.{bars_read, clean_reversed, voice_read}
-use Rattle.kern_laws.proofs.SpanVoices.{AreUnits, units_are, voice_matches}
+use Rattle.voice_events.proofs.BarUnits.{AreUnits, units_are}
+use Rattle.kern_laws.proofs.SpanVoices.{voice_matches}
 use Rattle.rhythm_base.proofs.ListParts.{all_reversed}
 
 module _ (r : ℕ) (sbars : List ScoreBar) (bars : List Bar) (some : 1 ≤ r) (few : 64 * r ≤ 61440) (right : All IsScoreBar sbars) (units : AreUnits bars 0 sbars)

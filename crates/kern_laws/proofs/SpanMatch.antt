@@ -1,32 +1,17 @@
 -- When a chord that begins in a column is the run of a chord of sounds.
 use Rattle.std.proofs.Common.{◌≡◌, ℕ, suc, ◌+◌, ◌*◌, ◌≤◌, List, [], ◌∷◌, length, sym, ap, ◌∙◌, arith}
 use Rattle.std.specs.Prelude.{reverse, sum_by}
-use Rattle.std.proofs.Math.Nat.{eq_of_mul-eq-mul_right}
 use Rattle.rhythm_base.specs.declared.note.Bar.{Bar}
 use Rattle.rhythm_base.specs.declared.sound.Sound.{Sound}
-use Rattle.rhythm_base.specs.declared.span.Frac.{Frac}
 use Rattle.rhythm_base.specs.declared.span.Span.{Span}
 use Rattle.rhythm_base.specs.Lists.{Each}
-use Rattle.durations.specs.Spans.{IsFrac, IsSpan, sound_length}
+use Rattle.durations.specs.Spans.{IsSpan, sound_length}
 use Rattle.rhythm_base.specs.SoundKinds.{is_short}
 use Rattle.durations.specs.Spans as sounds
 use Rattle.durations.specs.Value.{width}
 use Rattle.kern_reader.specs.Columns.{waiting}
+use Rattle.voice_events.proofs.SameFractions.{frac_same}
 use Rattle.kern_reader.specs.Events.{Beginning, IsKernSpan, token_place, tied_values}
-
--- a fraction is one of all equal quotients
-pub frac_same : (a b c d : ℕ) (f : Frac) → 1 ≤ b → a * d ≡ c * b → IsFrac a b f → IsFrac c d f
-frac_same a b c d f some same is = record {
-  value = eq_of_mul-eq-mul_right b some (f.num * d) (c * f.den) whole;
-  some = is.some;
-  lowest = is.lowest;
-}
-  where
-    whole : f.num * d * b ≡ c * f.den * b
-    whole = first f.num d b ∙ ap (λ x. x * d) is.value ∙ first a f.den d ∙ ap (λ x. x * f.den) same ∙ first c b f.den
-      where
-        first : (x y z : ℕ) → x * y * z ≡ x * z * y
-        first x y z = grind arith
 
 -- the same place, length, keys, grace chords and mark
 pub record IsMatch (grid resolution : ℕ) (bars : List Bar) (b : Beginning) (run : Sound × List Sound) : Type 0 where

@@ -19,15 +19,15 @@ use Rattle.durations.specs.declared.value.Value.{Value}
 use Rattle.durations.specs.Value.{width}
 use Rattle.derivation.specs.declared.score.ScoreBar.{ScoreBar}
 use Rattle.derivation.specs.Score.{IsScoreBar}
-use Rattle.kern_writer.specs.Tokens.{next_goes_on}
-use Rattle.kern_writer.specs.Values.{VoiceValue}
+use Rattle.voice_values.specs.GoesOn.{next_goes_on}
+use Rattle.voice_values.specs.Values.{VoiceValue}
 use Rattle.kern_reader.specs.declared.token.Token.{Token}
 use Rattle.kern_reader.specs.Columns.{place, waiting}
 use Rattle.kern_reader.specs.Events.{bar_start, beginnings, tied_values, Beginning}
 use Rattle.kern_reader.proofs.SpineLemmas.{take_while-goes, take_while-stops}
 use Rattle.kern_laws.proofs.ScoreLines.{value_token, writing_of}
 use Rattle.kern_laws.proofs.BarFits.{valued_said, value_finer, width_said}
-use Rattle.kern_laws.proofs.BarSounded.{AreGroup, AreSounded, IsValue, leaf_values, sound_len, sound_lens}
+use Rattle.voice_values.proofs.BarSounded.{AreGroup, AreSounded, IsValue, leaf_values, sound_len, sound_lens}
 use Rattle.kern_laws.proofs.BarVoice.{StandOwn}
 use Rattle.kern_laws.proofs.PlaceParts.{graced}
 use Rattle.kern_laws.proofs.SpanClean.{tied_stops}

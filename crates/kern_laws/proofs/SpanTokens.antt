@@ -8,8 +8,8 @@ use Rattle.rhythm_base.specs.declared.note.Bar.{Bar}
 use Rattle.rhythm_base.specs.declared.sound.Sound.{Sound}
 use Rattle.durations.specs.Spans.{parts_of_unit}
 use Rattle.derivation.specs.declared.score.ScoreBar.{ScoreBar}
-use Rattle.kern_writer.specs.Tokens.{next_goes_on}
-use Rattle.kern_writer.specs.Values.{VoiceValue}
+use Rattle.voice_values.specs.GoesOn.{next_goes_on}
+use Rattle.voice_values.specs.Values.{VoiceValue}
 use Rattle.kern_reader.specs.declared.token.Token.{Token}
 use Rattle.kern_reader.specs.declared.token.Token.TheVariants as token
 use Rattle.kern_reader.specs.Columns.{has_value, place, waiting}

@@ -10,15 +10,15 @@ use Rattle.rhythm_base.specs.declared.sound.SoundKind.TheVariants.{Begin, Short,
 use Rattle.rhythm_base.specs.SoundKinds.{begins_chord, is_rest, is_short, is_tie}
 use Rattle.durations.specs.declared.value.Value.{Value}
 use Rattle.durations.specs.Value.{width}
-use Rattle.kern_writer.specs.Tokens.{goes_on, next_goes_on}
-use Rattle.kern_writer.specs.Values.{VoiceValue}
+use Rattle.voice_values.specs.GoesOn.{goes_on, next_goes_on}
+use Rattle.voice_values.specs.Values.{VoiceValue}
 use Rattle.kern_reader.specs.declared.token.Token.{Token}
 use Rattle.kern_reader.specs.declared.token.Token.TheVariants as token
 use Rattle.kern_reader.specs.Columns.{place, token_values}
 use Rattle.kern_reader.specs.Events.{beginning, beginnings, holds_tie, tied_values}
 use Rattle.kern_laws.proofs.ScoreLines.{tie_mark, value_token, writing_of}
 use Rattle.kern_laws.proofs.BarFits.{valued_said, width_said}
-use Rattle.kern_laws.proofs.BarSounded.{leaf_values}
+use Rattle.voice_values.proofs.BarSounded.{leaf_values}
 use Rattle.kern_laws.proofs.SpanTokens.{IsReached, value_reached, values_read}
 use Rattle.kern_reader.proofs.EventLemmas.{tied_next}
 

@@ -12,9 +12,9 @@ use Rattle.derivation.specs.WellSounded as sounded
 use Rattle.durations.specs.declared.value.Value.{Value}
 use Rattle.durations.specs.Value.{width}
 use Rattle.derivation.specs.declared.score.ScoreBar.{ScoreBar}
-use Rattle.kern_writer.specs.Tokens.{goes_on}
-use Rattle.kern_writer.specs.Values.{VoiceValue}
-use Rattle.kern_laws.proofs.BarSounded.{AreSounded, leaf_values, sound_len}
+use Rattle.voice_values.specs.GoesOn.{goes_on}
+use Rattle.voice_values.specs.Values.{VoiceValue}
+use Rattle.voice_values.proofs.BarSounded.{AreSounded, leaf_values, sound_len}
 use Rattle.kern_laws.proofs.BarVoice.{AreVoice}
 use Rattle.derivation.proofs.WellSounding.{tie_no_rest}
 

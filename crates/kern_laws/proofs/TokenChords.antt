@@ -8,9 +8,10 @@ use Rattle.std.proofs.lemmas.Bool.Decides.{nat_tests}
 use Rattle.derivation.specs.WellSounded.{AreKeys}
 use Rattle.kern_writer.specs.Tokens.{chord_text}
 use Rattle.score_words.specs.Keys.{rising_keys}
-use Rattle.kern_reader.specs.Tokens.{◌>>=◌, all_notes, token_chord, chord_of_notes, chord_token, follows, keys_with, note_of, rising_notes, same_style}
-use Rattle.kern_laws.proofs.TextSplits.{split_joined}
-use Rattle.kern_laws.proofs.TextTests.{all_joined, all_weaker, graphic_no_space, graphic_prints, is_graphic, is_printing, lacks}
+use Rattle.text_words.specs.Steps.{◌>>=◌}
+use Rattle.kern_reader.specs.Tokens.{all_notes, token_chord, chord_of_notes, chord_token, follows, keys_with, note_of, rising_notes, same_style}
+use Rattle.text_words.proofs.TextSplits.{split_joined}
+use Rattle.text_words.proofs.TextTests.{all_joined, all_weaker, graphic_no_space, graphic_prints, is_graphic, is_printing, lacks}
 use Rattle.score_words.proofs.SetKeys.{KeysRise, keys_rise, keys_set, or_none, set_with}
 use Rattle.kern_laws.proofs.TokenStyles.{Style, note_at}
 

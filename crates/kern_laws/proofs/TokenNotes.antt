@@ -7,14 +7,16 @@ use Rattle.rhythm_base.specs.declared.sound.SoundKind.{SoundKind}
 use Rattle.rhythm_base.specs.declared.sound.SoundKind.TheVariants.{Begin, Short, Tie, Rest}
 use Rattle.durations.specs.Pitch.{pitch}
 use Rattle.rhythm_base.specs.SoundKinds.{is_rest, is_short, is_tie}
-use Rattle.kern_writer.specs.Tokens.{closing, goes_on, note_text, opening, short_mark, value_text}
-use Rattle.kern_writer.specs.Values.{VoiceValue}
+use Rattle.kern_writer.specs.Tokens.{closing, note_text, opening, short_mark, value_text}
+use Rattle.voice_values.specs.GoesOn.{goes_on}
+use Rattle.voice_values.specs.Values.{VoiceValue}
 use Rattle.kern_reader.specs.Lines.{digit_first}
-use Rattle.kern_reader.specs.Tokens.{IsWellValue, after_value, is_pitch_byte, is_value_byte, pitch_key, marks_of, marks_part, note_of, pitch_part, value_of, value_part, valued_note}
+use Rattle.text_words.specs.Values.{IsWellValue}
+use Rattle.kern_reader.specs.Tokens.{after_value, is_pitch_byte, is_value_byte, pitch_key, marks_of, marks_part, note_of, pitch_part, value_of, value_part, valued_note}
 use Rattle.kern_laws.proofs.ScoreLines.{tie_mark, writing_of}
 use Rattle.kern_laws.proofs.Pitches.{pitches}
-use Rattle.kern_laws.proofs.TextRuns.{run_dropped, run_taken}
-use Rattle.kern_laws.proofs.TextTests.{all_append, is_graphic}
+use Rattle.text_words.proofs.TextRuns.{run_dropped, run_taken}
+use Rattle.text_words.proofs.TextTests.{all_append, is_graphic}
 use Rattle.kern_laws.proofs.TokenPitches.{pitch_begins, pitch_bytes, pitch_graphic, value_ends}
 use Rattle.kern_laws.proofs.TokenStyles.{Style, grace_style, note_at, valued_style}
 use Rattle.kern_laws.proofs.TokenValues.{value_begins, value_bytes, value_graphic}

@@ -5,7 +5,7 @@ use Rattle.std.proofs.lemmas.Bool.{and_parts}
 use Rattle.std.proofs.lemmas.Bool.Decides.{nat_tests}
 use Rattle.durations.specs.Pitch.{pitch}
 use Rattle.kern_reader.specs.Tokens.{is_pitch_byte, is_value_byte}
-use Rattle.kern_laws.proofs.TextTests.{all_weaker, is_graphic}
+use Rattle.text_words.proofs.TextTests.{all_weaker, is_graphic}
 
 -- what holds of the first n numbers
 abbrev pub holds_below : (ℕ → Bool) → ℕ → Bool

@@ -10,7 +10,9 @@ use Rattle.kern_reader.specs.declared.token.TieMark.{TieMark}
 use Rattle.kern_reader.specs.declared.token.TieMark.TheVariants.{Absent, GoesOn, Ends}
 use Rattle.kern_reader.specs.declared.token.Token.TheVariants as token
 use Rattle.kern_reader.specs.declared.token.Writing.{Writing}
-use Rattle.kern_reader.specs.Tokens.{◌>>=◌, chord_token, follows, grace_note, pitch_key, marks_of, marks_part, pitch_part, same_bool, same_recip, same_style, same_tie, same_writing, value_of, value_part, valued_note}
+use Rattle.text_words.specs.Steps.{◌>>=◌}
+use Rattle.kern_reader.specs.Tokens.{chord_token, follows, grace_note, pitch_key, marks_of, marks_part, pitch_part, same_recip, same_style, same_tie, same_writing, value_of, value_part, valued_note}
+use Rattle.text_words.specs.Marks.{same_bool}
 
 -- ---- the reader's notes and their styles, each called by what it is given to
 

@@ -9,15 +9,17 @@ use Rattle.durations.specs.Pitch.{pitch}
 use Rattle.rhythm_base.specs.SoundKinds.{is_rest}
 use Rattle.derivation.specs.WellSounded.{AreKeys, IsWellSounding}
 use Rattle.durations.specs.declared.value.Value.{Value}
-use Rattle.kern_writer.specs.Tokens.{chord_text, goes_on, grace_text, main_text, note_text, value_text}
-use Rattle.kern_writer.specs.Values.{VoiceValue}
+use Rattle.kern_writer.specs.Tokens.{chord_text, grace_text, main_text, note_text, value_text}
+use Rattle.voice_values.specs.GoesOn.{goes_on}
+use Rattle.voice_values.specs.Values.{VoiceValue}
 use Rattle.kern_reader.specs.declared.token.Token.{Token}
 use Rattle.kern_reader.specs.declared.token.Token.TheVariants as token
 use Rattle.kern_reader.specs.Lines.{digit_first}
-use Rattle.kern_reader.specs.Tokens.{IsWellValue, after_value, token_chord, is_value_byte, rest_of, token_of, value_part}
+use Rattle.text_words.specs.Values.{IsWellValue}
+use Rattle.kern_reader.specs.Tokens.{after_value, token_chord, is_value_byte, rest_of, token_of, value_part}
 use Rattle.kern_laws.proofs.ScoreLines.{value_token, writing_of}
-use Rattle.kern_laws.proofs.TextRuns.{run_dropped, run_taken}
-use Rattle.kern_laws.proofs.TextTests.{all_append, all_weaker, graphic_prints, is_graphic, is_printing}
+use Rattle.text_words.proofs.TextRuns.{run_dropped, run_taken}
+use Rattle.text_words.proofs.TextTests.{all_append, all_weaker, graphic_prints, is_graphic, is_printing}
 use Rattle.kern_laws.proofs.TokenChords.{chord_read}
 use Rattle.kern_laws.proofs.TokenNotes.{first_append, grace_graphic, grace_note_text, grace_read, is_marked_short, marks_text, note_graphic, note_parts, note_read, plain_text}
 use Rattle.kern_laws.proofs.TokenPitches.{begins_pitch, pitch_begins, pitch_no_rest, value_ends}

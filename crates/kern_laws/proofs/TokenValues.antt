@@ -12,8 +12,9 @@ use Rattle.durations.specs.declared.value.Value.{Value}
 use Rattle.durations.specs.Value.{plain_grid}
 use Rattle.kern_writer.specs.Tokens.{recip_text, value_text}
 use Rattle.kern_reader.specs.Lines.{digit_first}
-use Rattle.kern_reader.specs.Tokens.{IsWellValue, is_value_byte}
-use Rattle.kern_laws.proofs.TextTests.{all_alike, all_append, all_weaker, decimal_digits, is_graphic}
+use Rattle.text_words.specs.Values.{IsWellValue}
+use Rattle.kern_reader.specs.Tokens.{is_value_byte}
+use Rattle.text_words.proofs.TextTests.{all_alike, all_append, all_weaker, decimal_digits, is_graphic}
 
 digit_of_value : (b : ℕ) → is_ascii_digit b ≡ true → is_value_byte b ≡ true
 digit_of_value b h = or_left (is_ascii_digit b) (b == 46) h

@@ -13,10 +13,12 @@ use Rattle.durations.specs.declared.value.Recip.{Recip}
 use Rattle.durations.specs.declared.value.Recip.TheVariants.{Of, Breve, Long}
 use Rattle.durations.specs.Value.{plain_grid}
 use Rattle.kern_writer.specs.Tokens.{recip_text}
-use Rattle.kern_reader.specs.Tokens.{are_dots, digits_part, dots_part, number_of, recip_of, value_of}
+use Rattle.text_words.specs.Marks.{are_dots}
+use Rattle.kern_reader.specs.Tokens.{digits_part, dots_part, recip_of, value_of}
+use Rattle.text_words.specs.Numbers.{number_of}
 use Rattle.kern_laws.specs.Laws.{ValuesReadBack}
 use Rattle.rhythm_base.proofs.ListParts.{front as taken, back as dropped}
-use Rattle.kern_laws.proofs.TextNumbers.{plain_digits}
+use Rattle.text_words.proofs.TextNumbers.{digits_plain}
 
 abbrev dotted : ℕ → List ℕ
 dotted d = replicate d 46
@@ -61,7 +63,7 @@ number_read n some few =
     let small : n < 2 ^ 64 = omega (arith, few) in
     let all = digits_decimal numerals n small in
     let first = first_decimal n some small in
-    let plain = plain_digits (decimal n) all (decimal_nonempty n small) first in
+    let plain = digits_plain (decimal n) all (decimal_nonempty n small) first in
     let (zero_no, zeros_no) = no_zero (decimal n) first in
     let value = digits_value-decimal numerals n small in
     rw (zero_no, zeros_no, plain, value, le-leb n 61440 few) refl

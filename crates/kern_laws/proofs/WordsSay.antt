@@ -1,5 +1,5 @@
 -- What the records say that have the same text in each column: the head, changes, barlines and the end.
-use Rattle.std.proofs.Common.{◌≡◌, ℕ, ℤ, pos, negsuc, suc, ◌*◌, ◌+◌, ◌≤◌, ◌==◌, true, false, not, List, [], ◌∷◌, ◌++◌, append_assoc, refl, sym, ap, ◌∙◌, subst, arith}
+use Rattle.std.proofs.Common.{◌≡◌, ℕ, ℤ, pos, negsuc, suc, ◌*◌, ◌+◌, ◌≤◌, ◌==◌, true, false, List, [], ◌∷◌, ◌++◌, append_assoc, refl, sym, ap, ◌∙◌, subst, arith}
 use Rattle.std.specs.Prelude.{Some, None, codes, decimal, if◌then◌else◌, replicate, IsTrue}
 use Rattle.std.specs.Char.{is_ascii_digit}
 use Rattle.std.specs.List.{list_all, list_any}
@@ -13,16 +13,19 @@ use Rattle.derivation.specs.declared.score.ScoreBar.{ScoreBar}
 use Rattle.kern_writer.specs.Changes.{accidentals, key_text, signature_text, tempo_text}
 use Rattle.score_words.specs.Changes.{quarters_of_minute}
 use Rattle.kern_writer.specs.Records.{alike, barline_record, head}
-use Rattle.kern_reader.specs.declared.token.TimeSignature.{TimeSignature}
-use Rattle.kern_reader.specs.Lines.{all_are, begins_signature, is_ending, is_heading, is_refused_word, line_of, other_line, signature_of, signature_of_numbers, signature_of_parts}
-use Rattle.kern_reader.specs.Text.{begins_with, columns}
-use Rattle.kern_reader.specs.Tokens.{◌>>=◌, number_of}
+use Rattle.text_words.specs.declared.time_signature.TimeSignature.{TimeSignature}
+use Rattle.kern_reader.specs.Lines.{all_are, begins_signature, is_ending, is_heading, is_refused_word, line_of, other_line, signature_of}
+use Rattle.text_words.specs.TimeSignatures.{signature_of_numbers, signature_of_parts}
+use Rattle.text_words.specs.Lines.{begins_with}
+use Rattle.kern_reader.specs.Text.{columns}
+use Rattle.text_words.specs.Steps.{◌>>=◌}
+use Rattle.text_words.specs.Numbers.{number_of}
 use Rattle.kern_laws.specs.Lines.{KernLine}
 use Rattle.kern_laws.proofs.ScoreLines.{Barline, ending_line, Heading, LastBarline, Other, Signature}
 use Rattle.kern_laws.proofs.RecordsLines.{SaysInside, SaysLine, not_all, other_said, row_columns, row_says, row_text}
-use Rattle.kern_laws.proofs.TextNumbers.{number_back}
-use Rattle.kern_laws.proofs.TextSplits.{split_first, split_last}
-use Rattle.kern_laws.proofs.TextTests.{all_alike, all_append, all_take, all_weaker, decimal_digits, digit_graphic, graphic_prints, is_printing, lacks, none_alike}
+use Rattle.text_words.proofs.TextNumbers.{number_back}
+use Rattle.text_words.proofs.TextSplits.{split_first, split_last}
+use Rattle.text_words.proofs.TextTests.{all_alike, all_append, all_take, all_weaker, decimal_digits, digit_graphic, graphic_prints, is_printing, none_alike, slash_free}
 use Rattle.kern_laws.proofs.TokenValues.{digits_begin}
 
 bytes_same : (text : List ℕ) → bytes_eq text text ≡ true
@@ -153,12 +156,6 @@ tempo_says m bar = other_inside m (tempo_text bar) (decimal_prints (quarters_of_
 
 den_range : (den : ℕ) → IsTrue (is_den den) → (1 ≤ den) × (den ≤ 64)
 den_range den h = (grind (arith, nat_tests), grind (arith, nat_tests))
-
-pub slash_free : (n : ℕ) → lacks 47 (decimal n) ≡ true
-slash_free n = all_weaker is_ascii_digit (λ b. not (b == 47)) (decimal n) no_slash (decimal_digits n)
-  where
-    no_slash : (b : ℕ) → is_ascii_digit b ≡ true → not (b == 47) ≡ true
-    no_slash b h = let no : (b == 47) ≡ false = grind (arith, nat_tests) in rw no refl
 
 signature_parts : (bar : ScoreBar) → signature_text bar ≡ 42 ∷ 77 ∷ (decimal bar.num ++ 47 ∷ decimal bar.den)
 signature_parts bar = ap (λ t. 42 ∷ 77 ∷ t) (append_assoc (decimal bar.num) (47 ∷ []) (decimal bar.den))

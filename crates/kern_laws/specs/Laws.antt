@@ -19,7 +19,8 @@ use Rattle.kern_reader.specs.Columns.{grid_of, line_values}
 use Rattle.kern_reader.specs.Events.{AreEvents}
 use Rattle.kern_reader.specs.Outcome.{score_of}
 use Rattle.kern_reader.specs.Score.{Counts, IsKernScore, KernColumns}
-use Rattle.kern_reader.specs.Tokens.{IsWellValue, pitch_key, value_of}
+use Rattle.text_words.specs.Values.{IsWellValue}
+use Rattle.kern_reader.specs.Tokens.{pitch_key, value_of}
 use Rattle.voice_events.specs.Events.{AreVoiceSpans, HaveSignatures}
 use Rattle.kern_laws.specs.Lines.{KernLine}
 

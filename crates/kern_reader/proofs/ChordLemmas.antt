@@ -6,7 +6,8 @@ use Rattle.std.specs.Prelude.{◌==◌, bit_or, if◌then◌else◌}
 use Rattle.kern_reader.specs.declared.token.Note.{Note}
 use Rattle.kern_reader.specs.declared.token.Style.{Style}
 use Rattle.kern_reader.specs.declared.token.Token.{Token}
-use Rattle.kern_reader.specs.Tokens.{◌>>=◌, all_notes, token_chord, chord_of_notes, chord_token, follows, keys_with, note_of, rising_notes}
+use Rattle.text_words.specs.Steps.{◌>>=◌}
+use Rattle.kern_reader.specs.Tokens.{all_notes, token_chord, chord_of_notes, chord_token, follows, keys_with, note_of, rising_notes}
 
 -- what a chord comes to from here on, where the last note is given and the keys so far
 abbrev pub chord_on : Style → Note → ℕ → List (List ℕ) → Option Token

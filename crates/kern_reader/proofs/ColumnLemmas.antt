@@ -9,13 +9,14 @@ use Rattle.durations.specs.declared.value.Value.{Value}
 use Rattle.durations.specs.Value.{value_grid}
 use Rattle.kern_reader.specs.declared.line.KernLine.{KernLine}
 use Rattle.kern_reader.specs.declared.line.KernLine.TheVariants.{Heading, Signature, Other, Ending, Barline, LastBarline, Data, Unread}
-use Rattle.kern_reader.specs.declared.token.TimeSignature.{TimeSignature}
+use Rattle.text_words.specs.declared.time_signature.TimeSignature.{TimeSignature}
 use Rattle.kern_reader.specs.declared.token.Token.{Token}
 use Rattle.kern_reader.specs.declared.token.Token.TheVariants as token
 use Rattle.kern_reader.specs.Columns.{add_bar, add_token, announced, columns_of, grid_of, grid_with, lcm, line_values, token_values}
 use Rattle.kern_reader.specs.Lines.{IsWellLine}
 use Rattle.kern_reader.specs.Score.{Counts, IsColumnOn, IsTokenOn}
-use Rattle.kern_reader.specs.Tokens.{IsWellSignature, IsWellToken, IsWellValue}
+use Rattle.kern_reader.specs.Tokens.{IsWellSignature, IsWellToken}
+use Rattle.text_words.specs.Values.{IsWellValue}
 use Rattle.kern_reader.proofs.GridLemmas.{AreWell, grid_grows, grid_multiple, lcm_second}
 use Rattle.kern_reader.proofs.GridWalk.{values_well}
 

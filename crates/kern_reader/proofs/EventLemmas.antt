@@ -13,7 +13,7 @@ use Rattle.durations.specs.declared.value.Value.{Value}
 use Rattle.durations.specs.Value.{width}
 use Rattle.voice_events.specs.declared.event.KernEvent.{KernEvent}
 use Rattle.kern_reader.specs.declared.events.Walk.{Walk}
-use Rattle.kern_reader.specs.declared.token.TimeSignature.{TimeSignature}
+use Rattle.text_words.specs.declared.time_signature.TimeSignature.{TimeSignature}
 use Rattle.kern_reader.specs.declared.token.Token.{Token}
 use Rattle.kern_reader.specs.declared.token.Token.TheVariants as token
 use Rattle.kern_reader.specs.declared.token.Writing.{Writing}

@@ -1,42 +1,21 @@
 -- Least common multiples, and the parts in which values count.
-use Rattle.std.proofs.Common.{◌≡◌, ℕ, zero, suc, ◌-◌, ◌*◌, ◌/◌, ◌%◌, ◌^◌, ◌<◌, ◌≤◌, ◌==◌, Bool, true, false, List, [], ◌∷◌, ◌++◌, refl, sym, ap, ◌∙◌, subst, arith}
-use Rattle.std.specs.Prelude.{All, if◌then◌else◌}
-use Rattle.std.specs.Int.{IsGcd, ◌∣◌}
-use Rattle.std.proofs.Math.Nat.{div-le_of_le-mul, div-mul_cancel, dvd-mul_right, dvd-mul_left, dvd_refl, dvd_trans, mul-div_left, mul-le-mul_left, mul-le-mul_right, zero-dvd, le-div_iff_mul-le}
-use Rattle.std.proofs.lemmas.Bool.Decides.{nat_tests}
+use Rattle.std.proofs.Common.{inl, inr, ◌≡◌, ℕ, zero, suc, ◌-◌, ◌*◌, ◌/◌, ◌^◌, ◌<◌, ◌≤◌, List, [], ◌∷◌, ◌++◌, refl, sym, ap, ◌∙◌, subst, arith, Option, Some, None}
+use Rattle.std.specs.Prelude.{◌↔◌, All, IfSome, IsSome}
+use Rattle.std.specs.Int.{◌∣◌}
+use Rattle.std.proofs.Math.Nat.{div-le_of_le-mul, div-mul_cancel, dvd-mul_right, dvd-mul_left, dvd_refl, dvd_trans, mul-div_left, mul-le-mul_left, mul-le-mul_right, le-div_iff_mul-le}
+use Rattle.std.proofs.lemmas.Bool.{cases_lt, false≢true}
 use Rattle.std.proofs.lemmas.List.Elements.{All-head, All-tail}
-use Rattle.std.proofs.lemmas.Nat.Gcd.{IsGcd-from_mod, IsGcd-from_zero, IsGcd-swap, le_of_dvd, same_from_IsGcd}
+use Rattle.std.proofs.lemmas.Nat.Gcd.{IsGcd-swap, same_from_IsGcd}
+use Rattle.durations.specs.declared.grid.TheConstants.{MOST_GRID}
 use Rattle.durations.specs.declared.value.Recip.{Recip}
 use Rattle.durations.specs.declared.value.Recip.TheVariants.{Of, Breve, Long}
 use Rattle.durations.specs.declared.value.Value.{Value}
 use Rattle.durations.specs.Value.{parts, plain_grid, plain_parts, value_grid, width}
 use Rattle.durations.specs.Values.{IsLowest}
-use Rattle.kern_reader.specs.Columns.{gcd, gcd_within, grid_with, lcm}
-use Rattle.kern_reader.specs.Tokens.{IsWellValue}
-
--- ---- the greatest common divisor
-
-gcd_within_is : (steps a b : ℕ) → b < steps → IsGcd a b (gcd_within steps a b)
-gcd_within_is zero a b few = absurd (omega (arith, few))
-gcd_within_is (suc steps) a b few = at (b == 0) refl (λ less. gcd_within_is steps b (a % b) less)
-  where
-    at : (t : Bool) → (b == 0) ≡ t → (a % b < steps → IsGcd b (a % b) (gcd_within steps b (a % b))) → IsGcd a b (if t then a else gcd_within steps b (a % b))
-    at true e rest = IsGcd-from_zero a b (grind (arith, nat_tests))
-    at false e rest = let some : 0 < b = grind (arith, nat_tests) in IsGcd-from_mod a b _ (rest (omega arith))
-
-pub gcd_is : (a b : ℕ) → IsGcd a b (gcd a b)
-unfolding gcd
-gcd_is a b = gcd_within_is (suc b) a b (omega arith)
-
--- it is at least 1 and at most the second number
-pub gcd_some : (a b : ℕ) → 1 ≤ b → (1 ≤ gcd a b) × (gcd a b ≤ b)
-gcd_some a b some =
-    let is = gcd_is a b in
-    (positive (gcd a b) b some is.1, le_of_dvd some is.1)
-  where
-    positive : (d n : ℕ) → 1 ≤ n → d ∣ n → 1 ≤ d
-    positive zero n some divides = let e : n ≡ zero = (zero-dvd {n = n}).0 divides in absurd (omega arith)
-    positive (suc d) n some divides = omega arith
+use Rattle.text_words.specs.Divisors.{gcd}
+use Rattle.kern_reader.specs.Columns.{IsGridWith, grid_with, lcm}
+use Rattle.text_words.proofs.Divisors.{gcd_is, gcd_some}
+use Rattle.text_words.specs.Values.{IsWellValue}
 
 -- ---- the least common multiple
 
@@ -122,6 +101,15 @@ grid_grows grid [] well = omega arith
 grid_grows grid (v ∷ vs) well =
     let one = (counted v (All-head IsWellValue v vs well)).0 in
     omega (arith, lcm_grows grid (value_grid v) one, grid_grows (lcm grid (value_grid v)) vs (All-tail IsWellValue v vs well))
+
+-- one value more, where the grid is made or is too fine
+pub new_grid : (grid : ℕ) (v : Value) (result : Option ℕ) (finer : ℕ) → 1 ≤ grid → IsWellValue v → finer ≡ lcm grid (value_grid v)
+    → IsSome result ↔ ((1 ≤ finer) × (finer ≤ MOST_GRID)) → IfSome result (λ g. g ≡ finer) → IsGridWith grid (v ∷ []) result
+new_grid grid v None finer some well is within same = elim (cases_lt MOST_GRID finer) [
+  | inl past ↦ subst (λ g. MOST_GRID < g) is past
+  | inr few ↦ absurd (false≢true (within.1 (omega (arith, some, is, lcm_grows grid (value_grid v) (counted v well).0), few)))
+]
+new_grid grid v (Some g) finer some well is within same = (same ∙ is, omega (arith, same, (within.0 refl).1))
 
 -- the values of the grid before count in it, and so do those that are new
 pub grid_multiple : (grid : ℕ) (vs : List Value) → grid ∣ grid_with grid vs

@@ -6,7 +6,8 @@ use Rattle.std.proofs.lemmas.List.Elements.{All-append, All-cons, All-drop, All-
 use Rattle.kern_reader.specs.declared.token.Token.{Token}
 use Rattle.kern_reader.specs.declared.token.Token.TheVariants as token
 use Rattle.kern_reader.specs.Columns.{grid_with, token_values}
-use Rattle.kern_reader.specs.Tokens.{IsWellToken, IsWellValue}
+use Rattle.kern_reader.specs.Tokens.{IsWellToken}
+use Rattle.text_words.specs.Values.{IsWellValue}
 use Rattle.kern_reader.proofs.GridLemmas.{AreWell, grid_append, grid_grows}
 
 pub token_values_well : (t : Token) → IsWellToken t → AreWell (token_values t)

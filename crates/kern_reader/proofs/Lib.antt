@@ -4,10 +4,8 @@ pub mod EventLemmas
 pub mod GridLemmas
 pub mod GridWalk
 pub mod KeyLemmas
-pub mod LineLemmas
 pub mod LinesToRead
 pub mod ListingLemmas
-pub mod NumberLemmas
 pub mod PitchLemmas
 pub mod Runs
 pub mod ScoreLemmas

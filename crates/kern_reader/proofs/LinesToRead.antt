@@ -11,9 +11,18 @@ use Rattle.kern_reader.specs.declared.line.Stage.{Stage}
 use Rattle.kern_reader.specs.declared.line.Stage.TheVariants as stage
 use Rattle.kern_reader.specs.Columns.{stage_after}
 use Rattle.kern_reader.specs.Faults.{line_fault}
-use Rattle.kern_reader.specs.Lines.{line_of}
+use Rattle.kern_reader.specs.declared.token.Token.{Token}
+use Rattle.kern_reader.specs.Lines.{data_line, line_of, takes_memory}
 use Rattle.kern_reader.specs.Outcome.{IsLineToRead, at_end, or_fault, read_from, read_text}
-use Rattle.kern_reader.specs.Text.{is_skipped, kern_lines}
+use Rattle.kern_reader.specs.Text.{is_skipped}
+use Rattle.text_words.specs.Lines.{text_lines}
+
+-- ---- memory
+
+-- a data line takes it, also where it is none
+pub data_takes : (tokens : Option (List Token)) → takes_memory (data_line tokens) ≡ true
+data_takes None = refl
+data_takes (Some tokens) = refl
 
 -- ---- a fault is of a line from number n on, where some line was read before
 
@@ -61,22 +70,23 @@ rest_next lines rest after line n some here first =
     let next : n - 1 + 1 ≡ n + 1 - 1 = omega (arith, some) in
     ap (drop 1) (sym first ∙ here) ∙ drop-drop 1 (n - 1) lines ∙ ap (λ k. drop k lines) next
 
-pub line_to_read : (text : List ℕ) (before : List KernLine) (n : ℕ) (line : List ℕ) (after : List (List ℕ)) → 1 ≤ n → is_skipped line ≡ false
-    → read_from before n (line ∷ after) ≡ read_text text → line ∷ after ≡ drop (n - 1) (kern_lines text) → IsLineToRead text n
-line_to_read text before n line after some said same here = record {
+pub line_to_read : (text : List ℕ) (before : List KernLine) (n : ℕ) (line : List ℕ) (after : List (List ℕ)) → 1 ≤ n → is_skipped line ≡ false → takes_memory (line_of line) ≡ true
+    → read_from before n (line ∷ after) ≡ read_text text → line ∷ after ≡ drop (n - 1) (text_lines text) → IsLineToRead text n
+line_to_read text before n line after some said takes same here = record {
   some = some;
   there =
       let count = ap length here in
-      let left = length-drop (n - 1) (kern_lines text) in
+      let left = length-drop (n - 1) (text_lines text) in
       omega (arith, some, count, left);
   said = subst (λ own. is_skipped own ≡ false) own said;
+  takes = subst (λ own. takes_memory (line_of own) ≡ true) own takes;
   first = λ fault e. first fault (same ∙ e);
 }
   where
-    own : line ≡ get_or (kern_lines text) (n - 1) []
+    own : line ≡ get_or (text_lines text) (n - 1) []
     own =
         let end : n - 1 + 0 ≡ n - 1 = omega arith in
-        ap (λ ls. get_or ls 0 []) here ∙ get_or-drop (n - 1) (kern_lines text) 0 [] ∙ ap (λ k. get_or (kern_lines text) k []) end
+        ap (λ ls. get_or ls 0 []) here ∙ get_or-drop (n - 1) (text_lines text) 0 [] ∙ ap (λ k. get_or (text_lines text) k []) end
 
     first : (fault : KernFault) → read_from before n (line ∷ after) ≡ Err fault → n ≤ fault.line
     first fault e = go (is_skipped line) said e

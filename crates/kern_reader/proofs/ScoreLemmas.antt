@@ -27,19 +27,25 @@ use Rattle.kern_reader.specs.declared.token.Note.{Note}
 use Rattle.kern_reader.specs.declared.token.Style.{Style}
 use Rattle.kern_reader.specs.declared.token.Style.TheVariants as style
 use Rattle.kern_reader.specs.declared.token.TieMark.{TieMark}
-use Rattle.kern_reader.specs.declared.token.TimeSignature.{TimeSignature}
+use Rattle.text_words.specs.declared.time_signature.TimeSignature.{TimeSignature}
 use Rattle.kern_reader.specs.declared.token.Token.{Token}
 use Rattle.kern_reader.specs.declared.token.Token.TheVariants as token
 use Rattle.kern_reader.specs.Columns.{add_bar, add_token, announced, columns_of, current_bar, grid_of, grid_with, line_values, spines_of, stage_of}
 use Rattle.kern_reader.specs.Faults.{first_fault, has_no_grid, has_wrong_grace, has_wrong_tie, is_misplaced, is_unread, is_wrong_bar, line_fault, said_tests, text_tests}
-use Rattle.kern_reader.specs.Lines.{IsWellLine, all_are, barline_said, begins_signature, data_line, interpretation, is_ending, is_heading, is_refused_word, line_of, other_line, signature_line, signature_of, signature_of_numbers, signature_of_parts}
+use Rattle.kern_reader.specs.Lines.{IsWellLine, all_are, barline_said, begins_signature, data_line, interpretation, is_ending, is_heading, is_refused_word, line_of, other_line, signature_line, signature_of}
+use Rattle.text_words.specs.TimeSignatures.{signature_of_numbers, signature_of_parts}
 use Rattle.kern_reader.specs.Outcome.{at_end, or_fault, read_from, read_text, score_of, scored}
 use Rattle.kern_reader.specs.Reading.{HasWidth}
 use Rattle.kern_reader.specs.Score.{IsColumnOn, IsKernScore, IsTokenOn, KernColumns, score_columns}
-use Rattle.kern_reader.specs.Text.{begins_with, columns, is_skipped, kern_lines, lines_of_pieces}
-use Rattle.kern_reader.specs.Tokens.{◌>>=◌, IsWellSignature, IsWellStyle, IsWellToken, IsWellValue, all_notes, all_tokens, are_dots, token_chord, chord_of_notes, chord_token, digits_part, dots_part, grace_note, is_plain, pitch_key, keys_with, marks_of, marks_part, note_of, number_of, pitch_part, recip_of, rest_of, rising_notes, token_of, value_of, value_part, valued_note}
+use Rattle.text_words.specs.Lines.{begins_with, text_lines, lines_of_pieces}
+use Rattle.kern_reader.specs.Text.{columns, is_skipped}
+use Rattle.text_words.specs.Steps.{◌>>=◌}
+use Rattle.kern_reader.specs.Tokens.{IsWellSignature, IsWellStyle, IsWellToken, all_notes, all_tokens, token_chord, chord_of_notes, chord_token, digits_part, dots_part, grace_note, pitch_key, keys_with, marks_of, marks_part, note_of, pitch_part, recip_of, rest_of, rising_notes, token_of, value_of, value_part, valued_note}
+use Rattle.text_words.specs.Values.{IsWellValue}
+use Rattle.text_words.specs.Marks.{are_dots}
+use Rattle.text_words.specs.Numbers.{is_plain, number_of}
 use Rattle.kern_reader.proofs.ColumnLemmas.{IsShort, columns_on, columns_short, grid_some}
-use Rattle.kern_reader.proofs.NumberLemmas.{plain_some}
+use Rattle.text_words.proofs.NumberLemmas.{plain_some}
 use Rattle.kern_reader.proofs.WidthLemmas.{passes, wide}
 use Rattle.rhythm_base.specs.Signatures.{is_den}
 use Rattle.rhythm_base.proofs.ListParts.{all_reversed}
@@ -325,12 +331,12 @@ no_lines = record { well = All-nil IsWellLine; fine = omega arith; narrow = omeg
 pub well_score : (text : List ℕ) (score : KernColumns) → length text ≤ 4294967294 → score_of text ≡ Ok score → IsKernScore score
 well_score text score short e = at (read_text text) refl e
   where
-    few : length (kern_lines text) ≤ 4294967295
+    few : length (text_lines text) ≤ 4294967295
     few = omega (arith, short, lines_few (slice_split (λ b. b == 10) text), length-slice_split (λ b. b == 10) text, count_by-le-length (λ b. b == 10) text)
 
     at : (r : Result (List KernLine) KernFault) → read_text text ≡ r → scored r ≡ Ok score → IsKernScore score
     at (Err fault) is e = absurd (cc)
     at (Ok lines) is e =
-        let (sound, within) = read_sound [] 1 4294967295 (kern_lines text) lines no_lines (omega (arith, few)) is in
+        let (sound, within) = read_sound [] 1 4294967295 (text_lines text) lines no_lines (omega (arith, few)) is in
         let same : score_columns lines ≡ score = cc in
         subst IsKernScore same (sound_score lines sound (omega (arith, within)))

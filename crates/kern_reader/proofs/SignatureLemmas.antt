@@ -3,8 +3,9 @@ use Rattle.std.proofs.Common.{◌≡◌, ℕ, ◌<◌, List, [], ◌∷◌, leng
 use Rattle.std.specs.List.{slice_split}
 use Rattle.std.specs.Prelude.{◌==◌, ◌+◌, count_by}
 use Rattle.std.proofs.lemmas.List.Splits.{length-slice_split}
-use Rattle.kern_reader.specs.declared.token.TimeSignature.{TimeSignature}
-use Rattle.kern_reader.specs.Lines.{signature_of, signature_of_numbers}
+use Rattle.text_words.specs.declared.time_signature.TimeSignature.{TimeSignature}
+use Rattle.kern_reader.specs.Lines.{signature_of}
+use Rattle.text_words.specs.TimeSignatures.{signature_of_numbers}
 use Rattle.kern_reader.specs.Text.{pieces_in}
 
 -- a second slash

@@ -14,7 +14,7 @@ use Rattle.kern_reader.specs.declared.token.Token.TheVariants as token
 use Rattle.kern_reader.specs.declared.token.Writing.{Writing}
 use Rattle.kern_reader.specs.Columns.{grace_keys, has_value, is_bar, is_left_open, place, rescaled, spine_after, spine_at, token_values, waiting}
 use Rattle.kern_reader.specs.Score.{Counts, IsTokenOn}
-use Rattle.kern_reader.specs.Tokens.{IsWellValue}
+use Rattle.text_words.specs.Values.{IsWellValue}
 use Rattle.kern_reader.proofs.GridLemmas.{counted, width_few}
 
 -- ---- the front of a list

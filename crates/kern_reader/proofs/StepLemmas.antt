@@ -11,13 +11,13 @@ use Rattle.kern_reader.specs.declared.fault.KernWhat.{KernWhat}
 use Rattle.kern_reader.specs.declared.line.KernLine.{KernLine}
 use Rattle.kern_reader.specs.declared.line.KernLine.TheVariants.{Heading, Signature, Other, Ending, Barline, LastBarline, Data, Unread}
 use Rattle.kern_reader.specs.declared.reading.Reading.{Reading}
-use Rattle.kern_reader.specs.declared.token.TimeSignature.{TimeSignature}
+use Rattle.text_words.specs.declared.time_signature.TimeSignature.{TimeSignature}
 use Rattle.kern_reader.specs.declared.token.Token.{Token}
 use Rattle.kern_reader.specs.declared.token.Token.TheVariants as token
-use Rattle.kern_reader.specs.Columns.{add_bar, add_token, announced, columns_of, current_bar, grid_of, grid_with, line_values, place, rescaled, spine_after, spine_at, spines_of, stage_of, token_values}
+use Rattle.kern_reader.specs.Columns.{add_bar, add_token, announced, columns_of, current_bar, first_spine, IsGridWith, grid_of, grid_with, line_values, place, rescaled, spine_after, spine_at, spines_of, stage_of, token_values}
 use Rattle.kern_reader.specs.Faults.{first_fault, line_fault, said_tests, text_tests}
 use Rattle.kern_reader.specs.Lines.{IsWellLine, line_of}
-use Rattle.kern_reader.specs.Reading.{Adds, HasWidth, IsCountable, IsReading, barred_columns, barred_spines, first_spine}
+use Rattle.kern_reader.specs.Reading.{Adds, HasWidth, IsCountable, IsReading, barred_columns, barred_spines}
 use Rattle.kern_reader.specs.Score.{IsColumnOn}
 use Rattle.kern_reader.specs.Text.{columns}
 use Rattle.kern_reader.proofs.ColumnLemmas.{IsShort, columns_on, columns_short, grid_some}
@@ -122,9 +122,11 @@ places_small number before r is small =
     All-weaker (IsCountable 1) (λ s. s.place < 2 ^ 56) (λ s h. omega (arith, h.0)) r.spines.items all
 
 pub countable_finer : (number finer : ℕ) (before : List KernLine) (r : Reading) (line : KernLine) → IsReading number before r → number < 2 ^ 32
-    → (finer ≡ grid_with r.grid (line_values line)) × (1 ≤ finer) × (finer ≤ 61440) → All (IsCountable (finer / r.grid)) r.spines.items
-countable_finer number finer before r line is small (same, some, fine) =
-    countable number finer before r is small fine some (subst (λ g. r.grid ∣ g) (sym same) (grid_multiple r.grid (line_values line)))
+    → IsWellLine line → IsGridWith r.grid (line_values line) (Some finer) → All (IsCountable (finer / r.grid)) r.spines.items
+countable_finer number finer before r line is small well (same, fine) =
+    let some = grid_some (line ∷ before) (All-cons IsWellLine line before well is.well) in
+    let here : finer ≡ grid_of (line ∷ before) = same ∙ ap (λ g. grid_with g (line_values line)) is.grid in
+    countable number finer before r is small fine (subst (λ g. 1 ≤ g) (sym here) some) (subst (λ g. r.grid ∣ g) (sym same) (grid_multiple r.grid (line_values line)))
 
 -- ---- the line is added
 
@@ -184,9 +186,9 @@ still number finer before line old new is well spines columns grid next bar stag
 }
 
 pub added : (number finer : ℕ) (before : List KernLine) (line : KernLine) (old new : Reading) → IsReading number before old → Adds line finer old new
-    → IsWellLine line → HasWidth line (length old.spines.items) → (finer ≡ grid_with old.grid (line_values line)) × (1 ≤ finer) × (finer ≤ 61440)
+    → IsWellLine line → HasWidth line (length old.spines.items) → IsGridWith old.grid (line_values line) (Some finer)
     → IsReading (suc number) (line ∷ before) new
-added number finer before (Heading count) old new is adds well width (same, some, fine) = record {
+added number finer before (Heading count) old new is adds well width (same, fine) = record {
   spines = adds.spines ∙ begun_spines (grid_of before) count;
   columns = adds.columns ∙ begun_columns count;
   grid = adds.grid ∙ same ∙ is.grid;
@@ -198,17 +200,17 @@ added number finer before (Heading count) old new is adds well width (same, some
   few = omega (arith, is.few);
   narrow = omega (arith, length-replicate count (let column : List Token = [] in column), width);
 }
-added number finer before (Signature signature) old new is adds well width (same, some, fine) =
+added number finer before (Signature signature) old new is adds well width (same, fine) =
     still number finer before (Signature signature) old new is well adds.spines adds.columns (adds.grid ∙ same) adds.next (adds.bar ∙ is.bar) adds.stage refl refl
-added number finer before Other old new is adds well width (same, some, fine) =
+added number finer before Other old new is adds well width (same, fine) =
     still number finer before Other old new is well adds.spines adds.columns (adds.grid ∙ same) (adds.next ∙ is.next) (adds.bar ∙ is.bar) adds.stage refl refl
-added number finer before Ending old new is adds well width (same, some, fine) =
+added number finer before Ending old new is adds well width (same, fine) =
     still number finer before Ending old new is well adds.spines adds.columns (adds.grid ∙ same) (adds.next ∙ is.next) (adds.bar ∙ is.bar) adds.stage refl refl
-added number finer before LastBarline old new is adds well width (same, some, fine) =
+added number finer before LastBarline old new is adds well width (same, fine) =
     still number finer before LastBarline old new is well adds.spines adds.columns (adds.grid ∙ same) (adds.next ∙ is.next) (adds.bar ∙ is.bar) adds.stage refl refl
-added number finer before Unread old new is adds well width (same, some, fine) =
+added number finer before Unread old new is adds well width (same, fine) =
     still number finer before Unread old new is well adds.spines adds.columns (adds.grid ∙ same) (adds.next ∙ is.next) (adds.bar ∙ is.bar) adds.stage refl refl
-added number finer before Barline old new is adds well width (same, some, fine) = record {
+added number finer before Barline old new is adds well width (same, fine) = record {
   spines = adds.spines ∙ ap (λ o. barred_spines o old.spines.items) is.next ∙ ap (barred_spines (announced before)) is.spines ∙ barred (announced before) (grid_of before) (columns_of before);
   columns = adds.columns ∙ ap (λ o. barred_columns o old.columns.items) is.next ∙ ap (barred_columns (announced before)) is.columns ∙ bar_appended (announced before) (columns_of before);
   grid = adds.grid ∙ same ∙ is.grid;
@@ -220,7 +222,7 @@ added number finer before Barline old new is adds well width (same, some, fine) 
   few = omega (arith, is.few);
   narrow = subst (λ n. n ≤ 16) (sym (length-map (columns_of before) (add_bar (announced before)))) is.narrow;
 }
-added number finer before (Data tokens) old new is adds well width (same, some, fine) =
+added number finer before (Data tokens) old new is adds well width (same, fine) =
     let vs = flat_map token_values tokens in
     let g = grid_of before in
     let whole : finer ≡ grid_with g vs = same ∙ ap (λ x. grid_with x vs) is.grid in

@@ -1,10 +1,9 @@
 -- A line without a fault has a token for each spine.
 use Rattle.std.proofs.Common.{◌≡◌, ℕ, suc, ◌≤◌, ◌==◌, ◌&&◌, Bool, true, false, not, List, [], ◌∷◌, length, refl, sym, ap, ◌∙◌, subst, arith, Option, Some, None}
-use Rattle.std.specs.Prelude.{if◌then◌else◌, nat_le}
+use Rattle.std.specs.Prelude.{if◌then◌else◌, nat_le, codes, drop}
 use Rattle.std.specs.Char.{is_ascii_digit}
 use Rattle.std.specs.List.{list_all, list_any}
 use Rattle.std.specs.Option.{option_map}
-use Rattle.std.specs.Prelude.{codes, drop}
 use Rattle.std.specs.Str.{bytes_eq}
 use Rattle.std.proofs.lemmas.Bool.{leb-true}
 use Rattle.std.proofs.lemmas.Bool.Decides.{nat_tests}
@@ -15,13 +14,15 @@ use Rattle.kern_reader.specs.declared.line.KernLine.TheVariants.{Heading, Other,
 use Rattle.kern_reader.specs.declared.line.Stage.{Stage}
 use Rattle.kern_reader.specs.declared.line.Stage.TheVariants as stage
 use Rattle.kern_reader.specs.declared.spine.Spine.{Spine}
-use Rattle.kern_reader.specs.declared.token.TimeSignature.{TimeSignature}
+use Rattle.text_words.specs.declared.time_signature.TimeSignature.{TimeSignature}
 use Rattle.kern_reader.specs.declared.token.Token.{Token}
 use Rattle.kern_reader.specs.Faults.{first_fault, has_no_grid, has_no_head, has_wrong_grace, has_wrong_tie, has_wrong_width, is_misplaced, is_wrong_bar, is_out_of_turn, is_unread, said_tests, text_tests}
 use Rattle.kern_reader.specs.Lines.{all_are, barline_said, begins_signature, data_line, interpretation, is_ending, is_heading, is_refused_word, line_of, other_line, signature_line, signature_of}
 use Rattle.kern_reader.specs.Reading.{HasWidth}
-use Rattle.kern_reader.specs.Text.{begins_with, columns}
-use Rattle.kern_reader.specs.Tokens.{◌>>=◌, all_tokens, token_chord, note_of, token_of, value_of}
+use Rattle.text_words.specs.Lines.{begins_with}
+use Rattle.kern_reader.specs.Text.{columns}
+use Rattle.text_words.specs.Steps.{◌>>=◌}
+use Rattle.kern_reader.specs.Tokens.{all_tokens, token_chord, note_of, token_of, value_of}
 
 -- a test before the others does not hold
 pub passes : (x : Bool × KernWhat) (xs : List (Bool × KernWhat)) → first_fault (x ∷ xs) ≡ None → (x.0 ≡ false) × (first_fault xs ≡ None)

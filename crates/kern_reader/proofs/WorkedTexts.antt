@@ -5,11 +5,12 @@ use Rattle.kern_reader.specs.declared.fault.KernFault.{KernFault}
 use Rattle.kern_reader.specs.declared.fault.KernWhat.{KernWhat}
 use Rattle.kern_reader.specs.declared.fault.KernWhat.TheVariants as what
 use Rattle.kern_reader.specs.declared.line.KernLine.{KernLine}
-use Rattle.kern_reader.specs.Columns.{gcd}
+use Rattle.text_words.specs.Divisors.{gcd}
 use Rattle.kern_reader.specs.Faults.{has_no_grid, has_no_head, has_wrong_grace, has_wrong_tie, has_wrong_width, is_misplaced, is_out_of_turn, is_unread, is_wrong_bar, line_fault}
 use Rattle.kern_reader.specs.Lines.{line_of, other_line, signature_of}
 use Rattle.kern_reader.specs.Outcome.{read_text}
-use Rattle.kern_reader.specs.Tokens.{token_chord, pitch_key, marks_of, note_of, number_of, recip_of, token_of, value_of, valued_note, white_key}
+use Rattle.kern_reader.specs.Tokens.{token_chord, pitch_key, marks_of, note_of, recip_of, token_of, value_of, valued_note, white_key}
+use Rattle.text_words.specs.Numbers.{number_of}
 
 abbrev text_of : List (List ℕ) → List ℕ
 text_of lines = flat_map (λ l. l ++ (10 ∷ [])) lines

@@ -1,30 +1,24 @@
 -- What stands in the spines after some lines, and what is known of a spine there. The lines before stand last first, and so
 -- do the items of a column.
-use Rattle.std.specs.Prelude.{ℕ, zero, suc, ◌+◌, ◌*◌, ◌/◌, ◌%◌, Bool, true, false, ◌==◌, ◌||◌, not, if◌then◌else◌, List, [], ◌∷◌, length, fold, map, replicate, sum_by, take_while, Option, Some, None}
+use Rattle.std.specs.Prelude.{◌≡◌, ◌<◌, ◌≤◌, ℕ, suc, ◌+◌, ◌*◌, ◌/◌, Bool, true, false, ◌||◌, not, if◌then◌else◌, List, [], ◌∷◌, length, fold, map, replicate, sum_by, take_while, Option, Some, None}
 use Rattle.std.specs.List.{flat_map, zip}
+use Rattle.durations.specs.declared.grid.TheConstants.{MOST_GRID}
 use Rattle.durations.specs.declared.value.Value.{Value}
 use Rattle.durations.specs.Value.{value_grid, width}
 use Rattle.kern_reader.specs.declared.line.KernLine.{KernLine}
 use Rattle.kern_reader.specs.declared.line.KernLine.TheVariants.{Heading, Signature, Ending, Barline, LastBarline, Data}
 use Rattle.kern_reader.specs.declared.line.Stage.{Stage}
 use Rattle.kern_reader.specs.declared.line.Stage.TheVariants as stage
-use Rattle.kern_reader.specs.declared.token.TimeSignature.{TimeSignature}
 use Rattle.kern_reader.specs.declared.spine.Spine.{Spine}
 use Rattle.kern_reader.specs.declared.token.TieMark.{TieMark}
 use Rattle.kern_reader.specs.declared.token.TieMark.TheVariants.{Absent, GoesOn, Ends}
 use Rattle.kern_reader.specs.declared.token.Token.{Token}
 use Rattle.kern_reader.specs.declared.token.Token.TheVariants as token
 use Rattle.kern_reader.specs.declared.token.Writing.{Writing}
+use Rattle.text_words.specs.Divisors.{gcd}
+use Rattle.text_words.specs.declared.time_signature.TimeSignature.{TimeSignature}
 
 -- ---- the grid: the least common multiple of the parts in which values count
-
--- Euclid's algorithm, in at most so many steps
-abbrev pub gcd_within : ℕ → ℕ → ℕ → ℕ
-gcd_within zero a b = a
-gcd_within (suc steps) a b = if b == 0 then a else gcd_within steps b (a % b)
-
-unfoldable pub gcd : ℕ → ℕ → ℕ
-gcd a b = gcd_within (suc b) a b
 
 abbrev pub lcm : ℕ → ℕ → ℕ
 lcm a b = a * (b / gcd a b)
@@ -42,6 +36,11 @@ line_values _ = []
 
 abbrev pub grid_with : ℕ → List Value → ℕ
 grid_with grid values = fold (λ g v. lcm g (value_grid v)) grid values
+
+-- the grid with these values, where it is fine enough for them and not too fine
+abbrev pub IsGridWith : ℕ → List Value → Option ℕ → Type 0
+IsGridWith grid values None = MOST_GRID < grid_with grid values
+IsGridWith grid values (Some finer) = (finer ≡ grid_with grid values) × (finer ≤ MOST_GRID)
 
 -- of all values of the lines
 abbrev pub grid_of : List KernLine → ℕ
@@ -146,6 +145,10 @@ spine_at grid column = record { place = place grid column; tied = open_keys colu
 abbrev pub spines_of : List KernLine → List Spine
 spines_of before = map (spine_at (grid_of before)) (columns_of before)
 
+-- at its beginning
+abbrev pub first_spine : Spine
+first_spine = record { place = 0; tied = None; graces = 0 }
+
 -- ---- and after one more line
 
 -- a bar begins
@@ -164,3 +167,7 @@ spine_after grid spine (token.Chord writing keys) =
 -- the grid is so many times finer
 abbrev pub rescaled : ℕ → Spine → Spine
 rescaled times spine = record spine { place = spine.place * times }
+
+-- both: the tokens of a line are added in all spines, on a grid that has become so many times finer
+abbrev pub spines_after : ℕ → ℕ → List Token → List Spine → List Spine
+spines_after grid times tokens spines = map (λ pair. spine_after grid (rescaled times pair.1) pair.0) (zip tokens spines)

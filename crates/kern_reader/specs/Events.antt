@@ -9,7 +9,7 @@ use Rattle.durations.specs.Value.{width}
 use Rattle.voice_events.specs.declared.event.KernEvent.{KernEvent}
 use Rattle.voice_events.specs.Events.{span_event}
 use Rattle.kern_reader.specs.declared.events.Walk.{Walk}
-use Rattle.kern_reader.specs.declared.token.TimeSignature.{TimeSignature}
+use Rattle.text_words.specs.declared.time_signature.TimeSignature.{TimeSignature}
 use Rattle.kern_reader.specs.declared.token.Token.{Token}
 use Rattle.kern_reader.specs.declared.token.Token.TheVariants as token
 use Rattle.kern_reader.specs.declared.token.Writing.{Writing}
@@ -100,3 +100,22 @@ pub record IsWalk (grid : ℕ) (before : List Token) (w : Walk) : Type 0 where
   pub bar : w.bar ≡ sum (take 1 (bars before))
   pub place : w.place ≡ place grid before
   pub graces : w.graces.items ≡ reverse (waiting before)
+
+-- a token is passed
+abbrev pub Passes : ℕ → Token → Walk → Walk → Type 0
+Passes grid t old new = (before : List Token) → IsWalk grid before old → IsWalk grid (t ∷ before) new
+
+-- the span of a chord that begins here, before these tokens
+abbrev pub IsSpanHere : ℕ → Walk → Writing → ℕ → List Token → Span → Type 0
+IsSpanHere grid w writing keys after x =
+    (before : List Token) → IsWalk grid before w → IsKernSpan grid (record { before = before; writing = writing; keys = keys; after = after }) x
+
+-- the event of the span that begins here with a token is added, where one does
+abbrev pub AddsEvent : ℕ → ℕ → Walk → Token → List Token → List KernEvent → List KernEvent → Type 0
+AddsEvent grid spine w t after old new =
+    (before : List Token) → IsWalk grid before w
+    → (own : List Span) × (new ≡ old ++ map (span_event spine) own) × Each (IsKernSpan grid) (beginning before t after) own
+
+-- and those of all spans of a column
+abbrev pub AddsColumn : ℕ → ℕ → List Token → List KernEvent → List KernEvent → Type 0
+AddsColumn grid spine column old new = (spans : List Span) × AreColumnSpans grid column spans × (new ≡ old ++ map (span_event spine) spans)

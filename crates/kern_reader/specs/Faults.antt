@@ -8,7 +8,7 @@ use Rattle.kern_reader.specs.declared.line.KernLine.{KernLine}
 use Rattle.kern_reader.specs.declared.line.KernLine.TheVariants.{Heading, Barline, LastBarline, Data, Unread}
 use Rattle.kern_reader.specs.declared.line.Stage.{Stage}
 use Rattle.kern_reader.specs.declared.line.Stage.TheVariants as stage
-use Rattle.kern_reader.specs.declared.token.TimeSignature.{TimeSignature}
+use Rattle.text_words.specs.declared.time_signature.TimeSignature.{TimeSignature}
 use Rattle.kern_reader.specs.declared.spine.Spine.{Spine}
 use Rattle.kern_reader.specs.declared.token.Token.{Token}
 use Rattle.kern_reader.specs.declared.token.Token.TheVariants as token
@@ -67,8 +67,11 @@ abbrev pub stands : Bool → ℕ → Token → ℕ → Bool
 stands true least t place = is_null t || (is_grace t && (place == least))
 stands false least t place = if is_null t then not (place == least) else place == least
 
+abbrev pub all_stand : Bool → ℕ → List Spine → List Token → Bool
+all_stand grace least spines tokens = list_all (λ pair. stands grace least pair.0 pair.1.place) (zip tokens spines)
+
 abbrev pub are_placed : List Spine → List Token → Bool
-are_placed spines tokens = list_all (λ pair. stands (list_any is_grace tokens) (least_place spines) pair.0 pair.1.place) (zip tokens spines)
+are_placed spines tokens = all_stand (list_any is_grace tokens) (least_place spines) spines tokens
 
 -- data stands in a bar
 unfoldable pub is_misplaced : Option TimeSignature → List Spine → KernLine → Bool
@@ -85,9 +88,12 @@ is_grace_wrong (token.Rest value) waiting = nat_lt 0 waiting
 is_grace_wrong (token.Grace keys) waiting = nat_le 3 waiting
 is_grace_wrong (token.Chord writing keys) waiting = continues writing && nat_lt 0 waiting
 
+abbrev pub some_grace_wrong : List Spine → List Token → Bool
+some_grace_wrong spines tokens = list_any (λ pair. is_grace_wrong pair.0 pair.1.graces) (zip tokens spines)
+
 -- graces wait at a barline
 unfoldable pub has_wrong_grace : List Spine → KernLine → Bool
-has_wrong_grace spines (Data tokens) = list_any (λ pair. is_grace_wrong pair.0 pair.1.graces) (zip tokens spines)
+has_wrong_grace spines (Data tokens) = some_grace_wrong spines tokens
 has_wrong_grace spines Barline = list_any (λ s. nat_lt 0 s.graces) spines
 has_wrong_grace spines LastBarline = list_any (λ s. nat_lt 0 s.graces) spines
 has_wrong_grace spines _ = false
@@ -122,8 +128,11 @@ is_tie_wrong (token.Grace keys) tied = false
 is_tie_wrong (token.Rest value) tied = is_some tied
 is_tie_wrong (token.Chord writing keys) tied = is_chord_untied writing keys tied
 
+abbrev pub some_tie_wrong : List Spine → List Token → Bool
+some_tie_wrong spines tokens = list_any (λ pair. is_tie_wrong pair.0 pair.1.tied) (zip tokens spines)
+
 unfoldable pub has_wrong_tie : List Spine → KernLine → Bool
-has_wrong_tie spines (Data tokens) = list_any (λ pair. is_tie_wrong pair.0 pair.1.tied) (zip tokens spines)
+has_wrong_tie spines (Data tokens) = some_tie_wrong spines tokens
 has_wrong_tie spines LastBarline = list_any (λ s. is_some s.tied) spines
 has_wrong_tie spines _ = false
 

@@ -1,35 +1,29 @@
 -- What a line says.
-use Rattle.std.specs.Prelude.{⊤, All, ℕ, Bool, false, ◌==◌, ◌&&◌, ◌||◌, not, if◌then◌else◌, List, [], ◌∷◌, codes, length, drop, nat_eq, Option, Some, None}
+use Rattle.std.specs.Prelude.{⊤, All, ℕ, Bool, false, true, ◌==◌, ◌&&◌, ◌||◌, not, if◌then◌else◌, List, [], ◌∷◌, codes, length, drop, nat_eq, Option, Some, None}
 use Rattle.std.specs.Char.{is_ascii_digit}
 use Rattle.std.specs.List.{list_all, list_any, slice_split, starts_with}
 use Rattle.std.specs.Str.{bytes_eq}
-use Rattle.rhythm_base.specs.Signatures.{is_den}
 use Rattle.kern_reader.specs.declared.line.KernLine.{KernLine}
 use Rattle.kern_reader.specs.declared.line.KernLine.TheVariants.{Heading, Signature, Other, Ending, Barline, LastBarline, Data, Unread}
-use Rattle.kern_reader.specs.declared.token.TimeSignature.{TimeSignature}
 use Rattle.kern_reader.specs.declared.token.Token.{Token}
-use Rattle.kern_reader.specs.Text.{begins_with, columns}
-use Rattle.kern_reader.specs.Tokens.{◌>>=◌, IsWellSignature, IsWellToken, all_tokens, number_of}
+use Rattle.kern_reader.specs.Text.{columns, pieces_in}
+use Rattle.kern_reader.specs.Tokens.{IsWellSignature, IsWellToken, all_tokens}
+use Rattle.text_words.specs.Lines.{begins_with}
+use Rattle.text_words.specs.TimeSignatures.{signature_of_numbers}
+use Rattle.text_words.specs.declared.time_signature.TimeSignature.{TimeSignature}
 
 abbrev pub all_are : List ℕ → List (List ℕ) → Bool
 all_are word texts = list_all (λ text. bytes_eq text word) texts
 
 -- ---- time signatures
 
-abbrev pub signature_of_parts : ℕ → ℕ → Option TimeSignature
-signature_of_parts num den = if is_den den then Some (record { num = num; den = den }) else None
-
--- 1 to 64 over a power of two up to 64
-abbrev pub signature_of_numbers : List (List ℕ) → Option TimeSignature
-signature_of_numbers (first ∷ second ∷ []) = do
-  num ← number_of 64 first
-  den ← number_of 64 second
-  signature_of_parts num den
-signature_of_numbers _ = None
-
 -- the signature after `*M`
 unfoldable pub signature_of : List ℕ → Option TimeSignature
 signature_of word = signature_of_numbers (slice_split (λ b. b == 47) (drop 2 word))
+
+-- the same of its first part, and of what is left after that
+abbrev pub signature_from : List ℕ → Option (List ℕ) → Option TimeSignature
+signature_from first rest = signature_of_numbers (first ∷ pieces_in 47 rest)
 
 abbrev pub digit_first : List ℕ → Bool
 digit_first [] = false
@@ -89,6 +83,17 @@ line_of line =
     else other_line (columns line)
 
 -- ---- what is read
+
+-- for a head, a barline and tokens memory is taken, and perhaps for those of a line that is none of these
+abbrev pub takes_memory : KernLine → Bool
+takes_memory (Heading spines) = true
+takes_memory (Signature signature) = false
+takes_memory Other = false
+takes_memory Ending = false
+takes_memory Barline = true
+takes_memory LastBarline = false
+takes_memory (Data tokens) = true
+takes_memory Unread = true
 
 -- signatures and values are in their ranges
 abbrev pub IsWellLine : KernLine → Type 0

@@ -1,15 +1,17 @@
 -- The state of a reading, and what it is to add a line to it.
-use Rattle.std.specs.Prelude.{◌≡◌, ℕ, ◌*◌, ◌/◌, ◌^◌, ◌<◌, ◌≤◌, All, List, [], ◌∷◌, ◌++◌, length, map, replicate, reverse, Option, Some, None}
+use Rattle.std.specs.Prelude.{◌≡◌, ℕ, suc, ◌*◌, ◌/◌, ◌^◌, ◌<◌, ◌≤◌, All, List, [], ◌∷◌, ◌++◌, length, map, replicate, reverse, Option, Some, None}
 use Rattle.std.specs.List.{zip}
+use Rattle.kern_reader.specs.declared.fault.KernWhat.{KernWhat}
 use Rattle.kern_reader.specs.declared.line.KernLine.{KernLine}
 use Rattle.kern_reader.specs.declared.line.KernLine.TheVariants.{Heading, Signature, Barline, Data}
 use Rattle.kern_reader.specs.declared.reading.Reading.{Reading}
 use Rattle.kern_reader.specs.declared.spine.Spine.{Spine}
-use Rattle.kern_reader.specs.declared.token.TimeSignature.{TimeSignature}
+use Rattle.text_words.specs.declared.time_signature.TimeSignature.{TimeSignature}
 use Rattle.kern_reader.specs.declared.token.Token.{Token}
 use Rattle.kern_reader.specs.declared.token.Token.TheVariants as token
-use Rattle.kern_reader.specs.Columns.{announced, at_bar, columns_of, current_bar, grid_of, rescaled, spine_after, spines_of, stage_after, stage_of}
-use Rattle.kern_reader.specs.Lines.{IsWellLine}
+use Rattle.kern_reader.specs.Columns.{announced, at_bar, columns_of, current_bar, first_spine, grid_of, spines_after, spines_of, stage_after, stage_of}
+use Rattle.kern_reader.specs.Faults.{first_fault, line_fault, said_tests}
+use Rattle.kern_reader.specs.Lines.{IsWellLine, line_of}
 
 -- the state after lines that say these, the last first, before the line of this number
 pub record IsReading (number : ℕ) (before : List KernLine) (r : Reading) : Type 0 where
@@ -24,7 +26,24 @@ pub record IsReading (number : ℕ) (before : List KernLine) (r : Reading) : Typ
   pub few : length before < number
   pub narrow : length (columns_of before) ≤ 16
 
+-- some lines were read, and their number fits its type
+abbrev pub IsUnderWay : Reading → Type 0
+IsUnderWay r = (number : ℕ) × (before : List KernLine) × IsReading number before r × (number < 2 ^ 32)
+
 -- ---- one line more
+
+-- the fault of a line by what it says
+abbrev pub said_fault : Reading → KernLine → Option KernWhat
+said_fault r line = first_fault (said_tests r.stage r.grid r.bar r.announced r.spines.items line)
+
+-- a line with this text has this fault after the lines that were read ..
+abbrev pub IsFaultAfter : Reading → List ℕ → KernWhat → Type 0
+IsFaultAfter r text what = (number : ℕ) (before : List KernLine) → IsReading number before r → line_fault before text ≡ Some what
+
+-- .. or it has none, and is read too
+abbrev pub ReadsLine : List ℕ → Reading → Reading → Type 0
+ReadsLine text old new =
+    (number : ℕ) (before : List KernLine) → IsReading number before old → (line_fault before text ≡ None) × IsReading (suc number) (line_of text ∷ before) new
 
 abbrev pub barred_spines : Option TimeSignature → List Spine → List Spine
 barred_spines None spines = spines
@@ -34,12 +53,9 @@ abbrev pub barred_columns : Option TimeSignature → List (List Token) → List 
 barred_columns None columns = columns
 barred_columns (Some signature) columns = map (λ c. c ++ token.Bar signature ∷ []) columns
 
-abbrev pub first_spine : Spine
-first_spine = record { place = 0; tied = None; graces = 0 }
-
 abbrev pub added_spines : KernLine → ℕ → Reading → List Spine
 added_spines (Heading count) grid r = replicate count first_spine
-added_spines (Data tokens) grid r = map (λ p. spine_after grid (rescaled (grid / r.grid) p.1) p.0) (zip tokens r.spines.items)
+added_spines (Data tokens) grid r = spines_after grid (grid / r.grid) tokens r.spines.items
 added_spines Barline grid r = barred_spines r.announced r.spines.items
 added_spines _ grid r = r.spines.items
 

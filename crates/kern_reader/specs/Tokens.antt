@@ -1,42 +1,27 @@
 -- The tokens of a data line: a dot, a rest, a chord of grace notes, or a chord with a value.
-use Rattle.std.specs.Prelude.{◌≤◌, ◌<◌, ⊤, ℕ, suc, ◌+◌, ◌-◌, ◌*◌, ◌^◌, Bool, true, false, ◌==◌, ◌&&◌, ◌||◌, not, nat_le, nat_lt, if◌then◌else◌, List, [], ◌∷◌, codes, length, drop, take_while, bit_or, fold, position, Option, Some, None}
+use Rattle.std.specs.Prelude.{◌<◌, ⊤, ℕ, suc, ◌+◌, ◌-◌, ◌*◌, ◌^◌, Bool, true, false, ◌==◌, ◌&&◌, ◌||◌, nat_le, nat_lt, if◌then◌else◌, List, [], ◌∷◌, codes, length, drop, take_while, bit_or, fold, position, Option, Some, None}
 use Rattle.std.specs.Char.{is_ascii_digit}
-use Rattle.std.specs.List.{list_all, prefix_len, slice_split}
+use Rattle.std.specs.List.{prefix_len, slice_split}
 use Rattle.std.specs.Option.{option_map}
 use Rattle.std.specs.Str.{bytes_eq}
-use Rattle.std.specs.Str.Parse.{digits_value}
 use Rattle.durations.specs.Pitch.{is_black}
 use Rattle.rhythm_base.specs.Signatures.{IsSignature}
 use Rattle.durations.specs.declared.value.Recip.{Recip}
 use Rattle.durations.specs.declared.value.Recip.TheVariants.{Of, Breve, Long}
 use Rattle.durations.specs.declared.value.Value.{Value}
-use Rattle.durations.specs.Value.{plain_grid}
 use Rattle.kern_reader.specs.declared.token.Note.{Note}
 use Rattle.kern_reader.specs.declared.token.Style.{Style}
 use Rattle.kern_reader.specs.declared.token.Style.TheVariants as style
 use Rattle.kern_reader.specs.declared.token.TieMark.{TieMark}
 use Rattle.kern_reader.specs.declared.token.TieMark.TheVariants.{Absent, GoesOn, Ends}
-use Rattle.kern_reader.specs.declared.token.TimeSignature.{TimeSignature}
 use Rattle.kern_reader.specs.declared.token.Token.{Token}
 use Rattle.kern_reader.specs.declared.token.Token.TheVariants as token
 use Rattle.kern_reader.specs.declared.token.Writing.{Writing}
-
--- what is read of a text is read on where there is something
-infixl 10 ◌>>=◌
-abbrev pub ◌>>=◌ : {A B : Type 0} → Option A → (A → Option B) → Option B
-None >>= next = None
-(Some x) >>= next = next x
-
--- ---- numbers
-
--- decimal digits, the first of which is not 0
-abbrev pub is_plain : List ℕ → Bool
-is_plain [] = false
-is_plain (d ∷ ds) = (nat_le 49 d && nat_le d 57) && list_all is_ascii_digit ds
-
--- the number from 1 to a greatest one that a text says
-unfoldable pub number_of : ℕ → List ℕ → Option ℕ
-number_of most text = if is_plain text && nat_le (digits_value 10 text) most then Some (digits_value 10 text) else None
+use Rattle.text_words.specs.Marks.{are_dots, same_bool}
+use Rattle.text_words.specs.Numbers.{number_of, within_keys}
+use Rattle.text_words.specs.Steps.{◌>>=◌}
+use Rattle.text_words.specs.Values.{IsWellValue}
+use Rattle.text_words.specs.declared.time_signature.TimeSignature.{TimeSignature}
 
 -- ---- values: a number, `0` or `00`, and at most two dots
 
@@ -45,9 +30,6 @@ recip_of text =
     if bytes_eq text (codes "0") then Some Breve
     else if bytes_eq text (codes "00") then Some Long
     else option_map (λ n. Of n) (number_of 61440 text)
-
-abbrev pub are_dots : List ℕ → Bool
-are_dots text = list_all (λ b. b == 46) text && nat_le (length text) 2
 
 abbrev pub digits_part : List ℕ → List ℕ
 digits_part text = take_while is_ascii_digit text
@@ -91,8 +73,9 @@ altered text white =
     else if bytes_eq text (codes "-") && is_black (white - 1) then Some (white - 1)
     else None
 
-abbrev pub within_keys : ℕ → Option ℕ
-within_keys key = if nat_lt key 128 then Some key else None
+-- both: the key of a letter with its accidental, in its octave
+abbrev pub octave_key : ℕ → List ℕ → Option ℕ
+octave_key letter accidental = white_key letter >>= altered accidental
 
 abbrev pub key_of_letters : ℕ → ℕ → List ℕ → Option ℕ
 key_of_letters letter count accidental = do
@@ -169,10 +152,6 @@ same_tie GoesOn GoesOn = true
 same_tie Ends Ends = true
 same_tie _ _ = false
 
-abbrev pub same_bool : Bool → Bool → Bool
-same_bool true b = b
-same_bool false b = not b
-
 abbrev pub same_writing : Writing → Writing → Bool
 same_writing w v =
     same_recip w.value.recip v.value.recip && ((w.value.dots == v.value.dots) && (same_bool w.opens v.opens && (same_tie w.tie v.tie && same_bool w.short v.short)))
@@ -226,12 +205,6 @@ all_tokens [] = Some []
 all_tokens (text ∷ texts) = token_of text >>= λ t. option_map (λ ts. t ∷ ts) (all_tokens texts)
 
 -- ---- what is read
-
--- the value can be written: a number of 1 to 61,440, and at most two dots
-pub record IsWellValue (v : Value) : Type 0 where
-  pub some : 1 ≤ plain_grid v.recip
-  pub few : plain_grid v.recip ≤ 61440
-  pub dots : v.dots ≤ 2
 
 abbrev pub IsWellSignature : TimeSignature → Type 0
 IsWellSignature signature = IsSignature signature.num signature.den

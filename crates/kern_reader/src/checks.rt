@@ -1,12 +1,13 @@
 ghost use Rattle.kern_reader.specs.Faults as definitions;
-ghost use Rattle.kern_reader.specs.Columns as columns;
-ghost use Rattle.std.specs.List.{list_all, list_any, zip};
-ghost use Rattle.std.specs.Prelude.{◌≡◌, ◌≤◌, ◌<◌, ◌*◌, ◌^◌, All, nat_lt, is_some};
+ghost use Rattle.std.specs.List.{list_all, list_any};
+ghost use Rattle.std.specs.Prelude.{◌≡◌, ◌<◌, ◌^◌, All, nat_lt, is_some};
 
 use crate::line::KernLine;
 use crate::spine::{Spine, marks_tie};
-use crate::token::{TimeSignature, Token, Writing};
+use crate::token::{Token, Writing};
+use durations::Grid;
 use rhythm_base::Keys;
+use text_words::TimeSignature;
 
 /// Whether the token is a dot.
 fn is_null(token: &Token) -> bool
@@ -61,7 +62,7 @@ fn has_grace(tokens: &[Token]) -> bool
 
 /// Whether all tokens may stand in their spines.
 fn all_stand(grace: bool, least: u64, spines: &[Spine], tokens: &[Token]) -> bool
-    ensures { result ≡ list_all (λ p. definitions.stands grace least p.0 p.1.place) (zip tokens.now spines.now) }
+    ensures { result ≡ definitions.all_stand grace least spines.now tokens.now }
 {
     tokens
         .iter()
@@ -109,7 +110,7 @@ fn some_wait(spines: &[Spine]) -> bool
 
 /// Whether some token may not stand after the grace chords before it.
 fn some_grace_wrong(spines: &[Spine], tokens: &[Token]) -> bool
-    ensures { result ≡ list_any (λ p. definitions.is_grace_wrong p.0 p.1.graces) (zip tokens.now spines.now) }
+    ensures { result ≡ definitions.some_grace_wrong spines.now tokens.now }
 {
     tokens
         .iter()
@@ -131,21 +132,19 @@ pub(crate) fn has_wrong_grace(spines: &[Spine], line: &KernLine) -> bool
 }
 
 /// Whether the spines have filled their bar.
-fn are_filled(grid: u64, signature: TimeSignature, spines: &[Spine]) -> bool
-    requires grid { grid ≤ 61440 }
-    requires places { All (λ s. s.place < 2 ^ 56) spines.now }
+fn are_filled(grid: Grid, signature: TimeSignature, spines: &[Spine]) -> bool
+    requires { All (λ s. s.place < 2 ^ 56) spines.now }
     ensures { result ≡ list_all (definitions.is_filled grid signature) spines.now }
 {
-    let parts = u64::from(signature.num) * grid;
+    let parts = u64::from(signature.num) * grid.count();
     spines
         .iter()
         .all(|spine| spine.place * u64::from(signature.den) == parts)
 }
 
 /// Whether a bar that has begun is not full.
-fn is_unfilled(grid: u64, bar: Option<TimeSignature>, spines: &[Spine]) -> bool
-    requires grid { grid ≤ 61440 }
-    requires places { All (λ s. s.place < 2 ^ 56) spines.now }
+fn is_unfilled(grid: Grid, bar: Option<TimeSignature>, spines: &[Spine]) -> bool
+    requires { All (λ s. s.place < 2 ^ 56) spines.now }
     ensures { result ≡ definitions.is_unfilled grid bar spines.now }
 {
     match bar {
@@ -157,14 +156,13 @@ fn is_unfilled(grid: u64, bar: Option<TimeSignature>, spines: &[Spine]) -> bool
 #[tactic(auto, unfolding(crate::specs::Faults::is_wrong_bar))]
 /// Whether a barline ends a bar that is not full, or begins one without a signature.
 pub(crate) fn is_wrong_bar(
-    grid: u64,
+    grid: Grid,
     bar: Option<TimeSignature>,
     next: Option<TimeSignature>,
     spines: &[Spine],
     line: &KernLine,
 ) -> bool
-    requires grid { grid ≤ 61440 }
-    requires places { All (λ s. s.place < 2 ^ 56) spines.now }
+    requires { All (λ s. s.place < 2 ^ 56) spines.now }
     ensures { result ≡ definitions.is_wrong_bar grid bar next spines.now line.now }
 {
     match line {
@@ -199,7 +197,7 @@ fn is_tie_wrong(token: Token, tied: Option<Keys>) -> bool
 
 /// Whether some token may not stand where its spine is tied.
 fn some_tie_wrong(spines: &[Spine], tokens: &[Token]) -> bool
-    ensures { result ≡ list_any (λ p. definitions.is_tie_wrong p.0 p.1.tied) (zip tokens.now spines.now) }
+    ensures { result ≡ definitions.some_tie_wrong spines.now tokens.now }
 {
     tokens
         .iter()

@@ -1,6 +1,7 @@
 ghost use Rattle.kern_reader.specs.Tokens as definitions;
 ghost use Rattle.kern_reader.specs.Tokens.{IsWellStyle, IsWellToken, token_chord};
 ghost use Rattle.std.specs.Prelude.{◌≡◌, ◌<◌, IfSome};
+ghost use Rattle.text_words.specs.Marks as marks;
 
 use crate::note::note;
 use crate::piece::first_piece;
@@ -34,7 +35,7 @@ fn same_tie(one: TieMark, other: TieMark) -> bool
 
 /// Whether two truths are equal.
 fn same_bool(one: bool, other: bool) -> bool
-    ensures { result ≡ definitions.same_bool one other }
+    ensures { result ≡ marks.same_bool one other }
 {
     if one { other } else { !other }
 }

@@ -1,6 +1,5 @@
 ghost use Rattle.kern_reader.specs.EventText as definitions;
 ghost use Rattle.kern_reader.specs.EventText.{event_text, events_text, frac_text, keys_text, kind_text};
-ghost use Rattle.std.specs.List.{flat_map};
 ghost use Rattle.std.specs.Prelude.{◌≡◌, ◌++◌, OnOk};
 
 use rhythm_base::{Frac, Keys, Span};
@@ -42,7 +41,7 @@ fn push_keys(text: &mut Vec<u8>, keys: Keys) -> Result<(), AllocError>
 
 /// Appends the grace chords of an event.
 fn push_graces(text: &mut Vec<u8>, graces: &[Keys]) -> Result<(), AllocError>
-    ensures { OnOk result (text.new.items ≡ text.old.items ++ flat_map definitions.event_graces graces.now) }
+    ensures { OnOk result (text.new.items ≡ text.old.items ++ definitions.graces_text graces.now) }
 {
     'graces: for keys in graces {
         text.extend_from_slice(b" q")?;

@@ -1,21 +1,18 @@
 ghost use Rattle.durations.specs.Value as lengths;
-ghost use Rattle.kern_reader.specs.Columns.{has_value, token_values};
+ghost use Rattle.kern_reader.specs.Columns.{token_values};
 ghost use Rattle.kern_reader.specs.Events as definitions;
-ghost use Rattle.kern_reader.specs.Events.{AreColumnSpans, IsKernSpan, IsWalk, beginning, tied_values};
-ghost use Rattle.voice_events.specs.Events.{span_event};
-ghost use Rattle.kern_reader.specs.Score.{IsColumnOn, IsTokenOn};
-ghost use Rattle.kern_reader.specs.Tokens.{IsWellToken, IsWellValue};
-ghost use Rattle.rhythm_base.specs.Lists.{Each};
-ghost use Rattle.rhythm_base.specs.declared.span.Span.{Span};
-ghost use Rattle.kern_reader.specs.declared.token.Token.{Token};
-ghost use Rattle.std.specs.List.{flat_map};
-ghost use Rattle.std.specs.Prelude.{◌≡◌, ◌≤◌, ◌<◌, ◌+◌, ◌*◌, ◌^◌, ◌++◌, ◌∷◌, [], ℕ, List, All, IfOk, OnOk, length, map, sum, sum_by};
+ghost use Rattle.kern_reader.specs.Events.{AddsColumn, AddsEvent, IsSpanHere, IsWalk, Passes, tied_values};
+ghost use Rattle.kern_reader.specs.Score.{IsColumnOn};
+ghost use Rattle.kern_reader.specs.Tokens.{IsWellToken};
+ghost use Rattle.text_words.specs.Values.{IsWellValue};
+ghost use Rattle.std.specs.Prelude.{◌≡◌, ◌≤◌, ◌<◌, ◌+◌, ◌*◌, ◌^◌, [], ℕ, IfOk, OnOk, length, sum_by};
 
 use crate::grid::{token_value, width};
 use crate::place::{bar_parts, frac};
 use crate::score::KernScore;
 use crate::spine::marks_tie;
 use crate::token::{Token, Writing};
+use durations::Grid;
 use rhythm_base::{Graces, Keys, Span};
 use std::alloc::{AllocError, Global};
 use voice_events::KernEvent;
@@ -47,9 +44,8 @@ fn holds_tie(token: Token) -> bool
 }
 
 /// How many parts of the grid the value of a token is long, 0 where it has none.
-fn token_width(token: Token, grid: u64) -> u64
-    requires well { IsWellToken token }
-    requires fine { grid ≤ 61440 }
+fn token_width(token: Token, grid: Grid) -> u64
+    requires { IsWellToken token }
     ensures width { result ≡ sum_by (lengths.width grid) (token_values token) }
     ensures few { result ≤ 7 * grid }
 {
@@ -60,8 +56,7 @@ fn token_width(token: Token, grid: u64) -> u64
 }
 
 /// How long the tie goes on over these tokens, in parts of the grid.
-fn tie_length(tokens: &[Token], grid: u64) -> u64
-    requires fine { grid ≤ 61440 }
+fn tie_length(tokens: &[Token], grid: Grid) -> u64
     requires on { IsColumnOn grid tokens.now }
     requires short { length tokens.now < 2 ^ 32 }
     ensures length { result ≡ sum_by (lengths.width grid) (tied_values tokens.now) }
@@ -91,12 +86,11 @@ impl Walk {
     }
 
     /// Passes a token.
-    pub(crate) fn step(&mut self, token: Token, grid: u64) -> Result<(), AllocError>
-        requires fine { grid ≤ 61440 }
+    pub(crate) fn step(&mut self, token: Token, grid: Grid) -> Result<(), AllocError>
         requires well { IsWellToken token }
         requires place { self.old.place < 2 ^ 60 }
         requires start { self.old.start + self.old.bar < 2 ^ 60 }
-        ensures { OnOk result ((before : List Token) → IsWalk grid before self.old → IsWalk grid (token ∷ before) self.new) }
+        ensures { OnOk result (Passes grid token self.old self.new) }
     {
         match token {
             Token::Bar(signature) => {
@@ -131,19 +125,17 @@ impl Walk {
         writing: Writing,
         keys: Keys,
         after: &[Token],
-        grid: u64,
+        grid: Grid,
     ) -> Result<Span, AllocError>
-        requires some { 1 ≤ grid }
-        requires fine { grid ≤ 61440 }
         requires well { IsWellValue writing.value }
         requires on { IsColumnOn grid after.now }
         requires short { length after.now < 2 ^ 32 }
         requires small { grid * self.now.start + 64 * self.now.place < 2 ^ 63 }
-        ensures { IfOk result (λ x. (before : List Token) → IsWalk grid before self.now
-            → IsKernSpan grid (record { before = before; writing = writing; keys = keys; after = after.now }) x) }
+        ensures { IfOk result (λ x. IsSpanHere grid self.now writing keys after.now x) }
     {
-        let start = frac(grid * self.start + 64 * self.place, 64 * grid);
-        let len = frac(width(writing.value, grid) + tie_length(after, grid), grid);
+        let parts = grid.count();
+        let start = frac(parts * self.start + 64 * self.place, 64 * parts);
+        let len = frac(width(writing.value, grid) + tie_length(after, grid), parts);
         let graces = Graces::of(Vec::from_slice(alloc, &self.graces)?);
         Ok(Span {
             start,
@@ -162,17 +154,14 @@ pub(crate) fn push_beginning(
     walk: &Walk,
     token: Token,
     after: &[Token],
-    grid: u64,
+    grid: Grid,
     events: &mut Vec<KernEvent>,
 ) -> Result<(), AllocError>
-    requires some { 1 ≤ grid }
-    requires fine { grid ≤ 61440 }
     requires well { IsWellToken token }
     requires on { IsColumnOn grid after.now }
     requires short { length after.now < 2 ^ 32 }
     requires small { grid * walk.now.start + 64 * walk.now.place < 2 ^ 63 }
-    ensures { OnOk result ((before : List Token) → IsWalk grid before walk.now
-        → (own : List Span) × (events.new.items ≡ events.old.items ++ map (span_event spine) own) × Each (IsKernSpan grid) (beginning before token after.now) own) }
+    ensures { OnOk result (AddsEvent grid spine walk.now token after.now events.old.items events.new.items) }
 {
     match token {
         Token::Chord(writing, keys) => {
@@ -192,14 +181,12 @@ fn push_events(
     alloc: Global,
     spine: u8,
     tokens: &[Token],
-    grid: u64,
+    grid: Grid,
     events: &mut Vec<KernEvent>,
 ) -> Result<(), AllocError>
-    requires some { 1 ≤ grid }
-    requires fine { grid ≤ 61440 }
     requires on { IsColumnOn grid tokens.now }
     requires short { length tokens.now < 2 ^ 32 }
-    ensures { OnOk result ((spans : List Span) × AreColumnSpans grid tokens.now spans × (events.new.items ≡ events.old.items ++ map (span_event spine) spans)) }
+    ensures { OnOk result (AddsColumn grid spine tokens.now events.old.items events.new.items) }
 {
     let mut walk = Walk::new(alloc);
     let mut later = tokens;

@@ -1,6 +1,7 @@
 ghost use Rattle.kern_reader.specs.Faults as definitions;
 ghost use Rattle.kern_reader.specs.Faults.{first_fault, text_tests};
-ghost use Rattle.std.specs.Prelude.{◌≡◌};
+ghost use Rattle.kern_reader.specs.declared.fault.KernWhat.TheVariants.{Memory};
+ghost use Rattle.std.specs.Prelude.{◌≡◌, ◌≢◌, IfSome};
 
 use crate::fault::KernWhat;
 use crate::line::{KernLine, Stage};
@@ -44,7 +45,8 @@ fn has_wrong_width(stage: Stage, spines: usize, text: &[u8]) -> bool
 
 /// The fault of a line by its text alone.
 pub(crate) fn text_fault(stage: Stage, spines: usize, text: &[u8]) -> Option<KernWhat>
-    ensures { result ≡ first_fault (text_tests stage spines text.now) }
+    ensures fault { result ≡ first_fault (text_tests stage spines text.now) }
+    ensures no_memory { IfSome result (λ what. what ≢ Memory) }
 {
     if has_no_head(stage, text) {
         Some(KernWhat::Head)

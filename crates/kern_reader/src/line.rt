@@ -1,7 +1,8 @@
 ghost use Rattle.std.specs.Prelude.{◌≡◌};
 
-use crate::token::{TimeSignature, Token};
+use crate::token::Token;
 use std::marker::Model;
+use text_words::TimeSignature;
 
 /// The columns of a data line.
 #[derive(Drop)]

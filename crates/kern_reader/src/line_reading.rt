@@ -1,10 +1,10 @@
 ghost use Rattle.kern_reader.specs.Lines as definitions;
-ghost use Rattle.kern_reader.specs.Lines.{IsWellLine, data_line, line_of, other_line, signature_line};
+ghost use Rattle.kern_reader.specs.Lines.{IsWellLine, data_line, line_of, other_line, signature_line, takes_memory};
 ghost use Rattle.kern_reader.specs.Text.{columns};
 ghost use Rattle.kern_reader.specs.Tokens.{all_tokens};
 ghost use Rattle.std.specs.Char.{is_ascii_digit};
 ghost use Rattle.std.specs.List.{list_all};
-ghost use Rattle.std.specs.Prelude.{◌≡◌, IfOk, drop};
+ghost use Rattle.std.specs.Prelude.{◌≡◌, IfOk, OnErr, drop, true};
 
 use crate::line::KernLine;
 use crate::line_words::{all_are, begins_with, has_refused_word, has_signature, width};
@@ -70,10 +70,12 @@ fn are_digits_after(word: &[u8]) -> bool
     }
 }
 
+#[tactic(auto, using(crate::proofs::LinesToRead::data_takes))]
 /// What a data line says.
 fn data(alloc: Global, line: &[u8]) -> Result<KernLine, AllocError>
     ensures line { IfOk result (λ l. l ≡ data_line (all_tokens (columns line.now))) }
     ensures well { IfOk result IsWellLine }
+    ensures memory { takes_memory (data_line (all_tokens (columns line.now))) ≡ true }
 {
     match tokens(alloc, line)? {
         Some(tokens) => Ok(KernLine::Data(tokens)),
@@ -86,6 +88,7 @@ fn data(alloc: Global, line: &[u8]) -> Result<KernLine, AllocError>
 fn other_line(alloc: Global, line: &[u8]) -> Result<KernLine, AllocError>
     ensures line { IfOk result (λ l. l ≡ definitions.other_line (columns line.now)) }
     ensures well { IfOk result IsWellLine }
+    ensures memory { OnErr result (takes_memory (definitions.other_line (columns line.now)) ≡ true) }
 {
     let (first, _rest) = first_piece(line, b'\t');
     if begins_with(b'*', first) {
@@ -102,6 +105,7 @@ fn other_line(alloc: Global, line: &[u8]) -> Result<KernLine, AllocError>
 pub(crate) fn line(alloc: Global, text: &[u8]) -> Result<KernLine, AllocError>
     ensures line { IfOk result (λ l. l ≡ line_of text.now) }
     ensures well { IfOk result IsWellLine }
+    ensures memory { OnErr result (takes_memory (line_of text.now) ≡ true) }
 {
     if all_are(b"**kern", text) {
         Ok(KernLine::Heading(width(text)))

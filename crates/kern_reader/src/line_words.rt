@@ -1,9 +1,9 @@
 ghost use Rattle.kern_reader.specs.Lines as definitions;
 ghost use Rattle.kern_reader.specs.Lines.{all_are};
-ghost use Rattle.kern_reader.specs.Text as texts;
 ghost use Rattle.kern_reader.specs.Text.{columns};
 ghost use Rattle.std.specs.List.{list_any};
 ghost use Rattle.std.specs.Prelude.{◌≡◌, ◌≤◌, ◌==◌, count_by, drop, length};
+ghost use Rattle.text_words.specs.Lines as lines;
 
 /// How many tabs a line has.
 fn tabs(line: &[u8]) -> usize
@@ -30,7 +30,7 @@ pub(crate) fn all_are(word: &[u8], line: &[u8]) -> bool
 
 /// Whether the text begins with the byte.
 pub(crate) fn begins_with(byte: u8, text: &[u8]) -> bool
-    ensures { result ≡ texts.begins_with byte text.now }
+    ensures { result ≡ lines.begins_with byte text.now }
 {
     match text {
         [] => false,

@@ -1,14 +1,12 @@
-ghost use Rattle.kern_reader.specs.EventText.{events_text};
-ghost use Rattle.kern_reader.specs.Events.{AreColumnSpans};
-ghost use Rattle.voice_events.specs.Events.{span_event};
+ghost use Rattle.kern_reader.specs.EventText.{AddsColumnLines, AreEventLines};
 ghost use Rattle.kern_reader.specs.Score.{IsColumnOn};
-ghost use Rattle.rhythm_base.specs.declared.span.Span.{Span};
-ghost use Rattle.std.specs.Prelude.{◌≡◌, ◌≤◌, ◌<◌, ◌^◌, ◌++◌, List, IfOk, OnOk, length, map};
+ghost use Rattle.std.specs.Prelude.{◌<◌, ◌^◌, IfOk, OnOk, length};
 
 use crate::event_text::push_lines;
 use crate::events::{Walk, push_beginning};
 use crate::score::KernScore;
 use crate::token::Token;
+use durations::Grid;
 use std::alloc::{AllocError, Global};
 
 /// Appends the lines of the events of a column, one after another: no more than one of them is held.
@@ -16,14 +14,12 @@ fn push_column(
     alloc: Global,
     spine: u8,
     tokens: &[Token],
-    grid: u64,
+    grid: Grid,
     text: &mut Vec<u8>,
 ) -> Result<(), AllocError>
-    requires some { 1 ≤ grid }
-    requires fine { grid ≤ 61440 }
     requires on { IsColumnOn grid tokens.now }
     requires short { length tokens.now < 2 ^ 32 }
-    ensures { OnOk result ((spans : List Span) × AreColumnSpans grid tokens.now spans × (text.new.items ≡ text.old.items ++ events_text (map (span_event spine) spans))) }
+    ensures { OnOk result (AddsColumnLines grid spine tokens.now text.old.items text.new.items) }
 {
     let mut walk = Walk::new(alloc);
     let mut own = Vec::new(alloc);
@@ -39,14 +35,11 @@ fn push_column(
 }
 
 impl KernScore {
-    ghost use Rattle.kern_reader.specs.Events.{AreEvents};
-    ghost use Rattle.voice_events.specs.declared.event.KernEvent.{KernEvent};
-
     /// The lines of the sounding spans of the score, by spine and then by start: `SPINE START LENGTH KIND KEYS` and the grace
     /// chords, with fractions of a whole note from the beginning of the score in lowest terms. Beside the score it takes memory
     /// for the text, and for one span at a time.
     pub fn write_events(&self, alloc: Global) -> Result<Vec<u8>, AllocError>
-        ensures { IfOk result (λ v. (events : List KernEvent) × AreEvents self.now events × (v.items ≡ events_text events)) }
+        ensures { IfOk result (λ v. AreEventLines self.now v.items) }
     {
         let mut text = Vec::new(alloc);
         'columns: for (number, column) in self.columns.iter().enumerate() {

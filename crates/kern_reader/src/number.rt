@@ -1,4 +1,4 @@
-ghost use Rattle.kern_reader.specs.Tokens.{is_plain, number_of};
+ghost use Rattle.text_words.specs.Numbers.{is_plain, number_of};
 ghost use Rattle.std.specs.Char.{is_ascii_digit};
 ghost use Rattle.std.specs.List.{list_all};
 ghost use Rattle.std.specs.Prelude.{◌<◌, ◌≡◌, ◌≤◌, IfSome, min, true};
@@ -35,10 +35,9 @@ fn digits_number(digits: &[u8]) -> u32
     value
 }
 
-#[tactic(auto, using(crate::proofs::NumberLemmas::number_read, crate::proofs::NumberLemmas::number_past, crate::proofs::NumberLemmas::number_odd, crate::proofs::NumberLemmas::plain_some, crate::proofs::NumberLemmas::plain_digits))]
+#[tactic(auto, using(text_words::proofs::NumberLemmas::number_read, text_words::proofs::NumberLemmas::number_past, text_words::proofs::NumberLemmas::number_odd, text_words::proofs::NumberLemmas::plain_some, text_words::proofs::NumberLemmas::plain_digits))]
 /// The number from 1 to a greatest one that a text says.
-pub(crate) fn number(text: &[u8], most: u32) -> Option<u32>
-    requires { most < 4294967295 }
+pub(crate) fn number(text: &[u8], most: u16) -> Option<u32>
     ensures number { result ≡ number_of most text.now }
     ensures some { IfSome result (λ n. 1 ≤ n) }
     ensures few { IfSome result (λ n. n ≤ most) }
@@ -47,5 +46,9 @@ pub(crate) fn number(text: &[u8], most: u32) -> Option<u32>
         return None;
     }
     let value = digits_number(text);
-    if value <= most { Some(value) } else { None }
+    if value <= u32::from(most) {
+        Some(value)
+    } else {
+        None
+    }
 }

@@ -1,23 +1,22 @@
 ghost use Rattle.kern_reader.specs.Tokens as definitions;
-ghost use Rattle.kern_reader.specs.Tokens.{altered, pitch_key, octave_of};
+ghost use Rattle.kern_reader.specs.Tokens.{octave_key, octave_of, pitch_key};
 ghost use Rattle.std.specs.List.{prefix_len};
-ghost use Rattle.std.specs.Prelude.{◌≡◌, ◌<◌, ◌≤◌, ◌==◌, IfSome, length, position};
+ghost use Rattle.std.specs.Prelude.{◌≡◌, ◌<◌, ◌≤◌, ◌+◌, ◌==◌, IfSome, length, position};
 
 use score_words::is_black;
 
 /// The white keys of an octave by their letters.
 const WHITE: [u8; 12] = *b"c.d.ef.g.a.b";
 
-/// The octave of so many equal letters.
-fn octave(letter: u8, count: usize) -> Option<u8>
-    requires { 1 ≤ count }
-    ensures octave { result ≡ octave_of letter count }
+/// The octave of a letter and so many more like it.
+fn octave(letter: u8, more: usize) -> Option<u8>
+    ensures octave { result ≡ octave_of letter (more + 1) }
     ensures few { IfSome result (λ n. n ≤ 10) }
 {
-    if matches!(letter, b'a'..=b'g') && count <= 6 {
-        Some(count as u8 + 4)
-    } else if matches!(letter, b'A'..=b'G') && count <= 5 {
-        Some(5 - count as u8)
+    if matches!(letter, b'a'..=b'g') && more <= 5 {
+        Some(more as u8 + 5)
+    } else if matches!(letter, b'A'..=b'G') && more <= 4 {
+        Some(4 - more as u8)
     } else {
         None
     }
@@ -54,12 +53,12 @@ fn white_key(letter: u8) -> Option<u8>
     }
 }
 
-/// The key that an accidental makes of a white one.
-fn altered_key(accidental: &[u8], white: u8) -> Option<u8>
-    requires { white < 12 }
-    ensures key { result ≡ altered accidental.now white }
+/// The key of a letter with an accidental in its octave.
+fn altered_key(accidental: &[u8], letter: u8) -> Option<u8>
+    ensures key { result ≡ octave_key letter accidental.now }
     ensures few { IfSome result (λ n. n < 12) }
 {
+    let white = white_key(letter)?;
     if accidental == b"".as_slice() {
         Some(white)
     } else if accidental == b"#".as_slice() && is_black(white + 1) {
@@ -80,15 +79,13 @@ fn letters_len(text: &[u8], letter: u8) -> usize
     text.iter().take_while(|byte| **byte == letter).count()
 }
 
-/// The key of a letter that is repeated so often, with an accidental.
-fn key_of_letters(letter: u8, count: usize, accidental: &[u8]) -> Option<u8>
-    requires { 1 ≤ count }
-    ensures key { result ≡ definitions.key_of_letters letter count accidental.now }
+/// The key of a letter and so many more like it, with an accidental.
+fn key_of_letters(letter: u8, more: usize, accidental: &[u8]) -> Option<u8>
+    ensures key { result ≡ definitions.key_of_letters letter (more + 1) accidental.now }
     ensures few { IfSome result (λ n. n < 128) }
 {
-    let octave = octave(letter, count)?;
-    let white = white_key(letter)?;
-    let key = altered_key(accidental, white)?;
+    let octave = octave(letter, more)?;
+    let key = altered_key(accidental, letter)?;
     let key = 12 * octave + key;
     (key < 128).then_some(key)
 }
@@ -104,7 +101,7 @@ pub(crate) fn key(text: &[u8]) -> Option<u8>
         [letter, rest @ ..] => {
             let more = letters_len(rest, *letter);
             let (_letters, accidental) = rest.split_at(more);
-            key_of_letters(*letter, more + 1, accidental)
+            key_of_letters(*letter, more, accidental)
         }
     }
 }

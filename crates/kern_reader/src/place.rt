@@ -3,9 +3,9 @@ ghost use Rattle.kern_reader.specs.Tokens.{IsWellSignature};
 ghost use Rattle.durations.specs.Spans.{IsFrac};
 ghost use Rattle.std.specs.Prelude.{◌≡◌, ◌≤◌};
 
-use crate::token::TimeSignature;
 use durations::{Length, lowest};
 use rhythm_base::Frac;
+use text_words::TimeSignature;
 
 /// So many of `whole` equal parts of a whole note, as a number of whole notes.
 pub(crate) fn frac(parts: u64, whole: u64) -> Frac

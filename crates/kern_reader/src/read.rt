@@ -1,10 +1,11 @@
-ghost use Rattle.kern_reader.specs.Columns.{stage_of};
-ghost use Rattle.kern_reader.specs.Outcome.{GivesKern, IsLineToRead, at_end, read_from, score_of, scored};
+ghost use Rattle.kern_reader.specs.Lines.{line_of, takes_memory};
+ghost use Rattle.kern_reader.specs.Outcome.{GivesAtEnd, GivesKern, GoesOn, IsLineOrNext, IsLineToRead, StopsAt, score_of};
 ghost use Rattle.kern_reader.specs.Reading.{IsReading};
-ghost use Rattle.kern_reader.specs.Text.{is_skipped, kern_lines};
+ghost use Rattle.kern_reader.specs.Text.{is_skipped};
+ghost use Rattle.text_words.specs.Lines.{text_lines};
 ghost use Rattle.kern_reader.specs.declared.fault.KernWhat.TheVariants.{Memory};
 ghost use Rattle.kern_reader.specs.declared.line.KernLine.{KernLine};
-ghost use Rattle.std.specs.Prelude.{◌≡◌, ◌≢◌, ◌≤◌, ◌<◌, ◌+◌, ◌^◌, ◌∷◌, ℕ, List, Err, IfErr, OnErr, OnOk, false, length};
+ghost use Rattle.std.specs.Prelude.{◌≡◌, ◌≢◌, ◌≤◌, ◌<◌, ◌∷◌, List, IfErr, OnErr, OnOk, false, length, true};
 
 use crate::fault::{KernFault, KernWhat};
 use crate::line::Stage;
@@ -16,7 +17,7 @@ use std::alloc::Global;
 /// The first line of a text, and the text after its newline.
 fn first_line(text: &[u8]) -> (&[u8], &[u8])
     requires { 0 < length text.now }
-    ensures line { kern_lines text.now ≡ result.0.now ∷ kern_lines result.1.now }
+    ensures line { text_lines text.now ≡ result.0.now ∷ text_lines result.1.now }
     ensures shorter { length result.1.now < length text.now }
 {
     match text.iter().position(|byte| *byte == b'\n') {
@@ -33,12 +34,11 @@ fn read_line(
     text: &[u8],
 ) -> Result<(), KernFault>
     requires { (before : List KernLine) × IsReading number before reading.old }
-    ensures read { OnOk result ((before : List KernLine) (texts : List (List ℕ)) → IsReading number before reading.old
-        → (after : List KernLine) × IsReading (number + 1) after reading.new × (read_from before number (text.now ∷ texts) ≡ read_from after (number + 1) texts)) }
-    ensures fault { IfErr result (λ fault. fault.what ≢ Memory → (before : List KernLine) (texts : List (List ℕ)) → IsReading number before reading.old
-        → read_from before number (text.now ∷ texts) ≡ Err fault) }
+    ensures read { OnOk result (GoesOn number text.now reading.old reading.new) }
+    ensures fault { IfErr result (λ fault. fault.what ≢ Memory → StopsAt number text.now reading.old fault) }
     ensures line { IfErr result (λ fault. fault.line ≡ number) }
     ensures said { OnErr result (is_skipped text.now ≡ false) }
+    ensures memory { IfErr result (λ fault. fault.what ≡ Memory → takes_memory (line_of text.now) ≡ true) }
 {
     if begins_with(b'!', text) {
         return Ok(());
@@ -52,8 +52,8 @@ fn read_line(
 /// The score of all lines, before the line of this number.
 fn score(reading: Reading, number: u32) -> Result<KernScore, KernFault>
     requires { (before : List KernLine) × IsReading number before reading }
-    ensures score { (before : List KernLine) → IsReading number before reading → GivesKern result (scored (at_end (stage_of before) number before)) }
-    ensures line { IfErr result (λ fault. (1 ≤ number → 1 ≤ fault.line) × (1 ≤ number → fault.line ≤ number)) }
+    ensures score { GivesAtEnd number reading result }
+    ensures line { 1 ≤ number → IfErr result (λ fault. (1 ≤ fault.line) × (fault.line ≤ number)) }
     ensures no_memory { IfErr result (λ fault. fault.what ≢ Memory) }
 {
     match reading.stage {
@@ -83,7 +83,7 @@ pub fn read_kern(alloc: Global, bytes: &[u8]) -> Result<KernScore, KernFault>
     requires { length bytes.now ≤ 4294967294 }
     ensures score { GivesKern result (score_of bytes.now) }
     // a line of the text, or the one after the last
-    ensures line { IfErr result (λ fault. (1 ≤ fault.line) × (fault.line ≤ length (kern_lines bytes.now) + 1)) }
+    ensures line { IfErr result (λ fault. IsLineOrNext bytes.now fault.line) }
     ensures memory { IfErr result (λ fault. fault.what ≡ Memory → IsLineToRead bytes.now fault.line) }
 {
     let mut reading = Reading::new(alloc);

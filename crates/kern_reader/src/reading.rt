@@ -1,8 +1,6 @@
-ghost use Rattle.kern_reader.specs.Columns.{grid_with, line_values, stage_after};
-ghost use Rattle.kern_reader.specs.Faults as definitions;
-ghost use Rattle.kern_reader.specs.Faults.{first_fault, said_tests};
-ghost use Rattle.kern_reader.specs.Lines.{IsWellLine};
-ghost use Rattle.std.specs.Prelude.{◌≡◌, ◌≤◌, ◌<◌, ◌^◌, ◌/◌, [], true, false, ◌∷◌, ◌≢◌, All, IfErr, IfOk, MatchOption, OnOk, length};
+ghost use Rattle.kern_reader.specs.Columns.{IsGridWith, line_values, stage_after};
+ghost use Rattle.kern_reader.specs.Lines.{IsWellLine, line_of, takes_memory};
+ghost use Rattle.std.specs.Prelude.{◌≡◌, ◌<◌, ◌^◌, ◌/◌, [], ◌≢◌, All, IfErr, IfOk, OnErr, OnOk, length, true};
 
 use crate::checks::{has_wrong_grace, has_wrong_tie, is_misplaced, is_wrong_bar};
 use crate::fault::KernWhat;
@@ -11,8 +9,10 @@ use crate::grid::grid_with_tokens;
 use crate::line::{KernLine, Stage};
 use crate::line_reading::line;
 use crate::spine::{Column, Spine, append, append_bar, begin_bar, new_columns, new_spines, pass};
-use crate::token::{TimeSignature, Token};
+use crate::token::Token;
+use durations::Grid;
 use std::alloc::{AllocError, Global};
+use text_words::TimeSignature;
 
 /// What is known after some lines of a text.
 #[derive(Drop)]
@@ -20,7 +20,7 @@ pub(crate) struct Reading {
     pub(crate) spines: Vec<Spine>,
     pub(crate) columns: Vec<Column>,
     /// In so many parts of a whole note all values count.
-    pub(crate) grid: u64,
+    pub(crate) grid: Grid,
     /// The signature for the next bar.
     pub(crate) announced: Option<TimeSignature>,
     /// The signature of the bar that has begun.
@@ -39,14 +39,10 @@ fn stage_after(line: &KernLine) -> Stage
     }
 }
 
-#[tactic(auto, unfolding(crate::specs::Faults::has_no_grid))]
 /// The grid with the values of a line, where it is not too fine.
-fn grid_with_line(grid: u64, line: &KernLine) -> Option<u64>
-    requires some { 1 ≤ grid }
-    requires fine { grid ≤ 61440 }
-    requires well { IsWellLine line.now }
-    ensures { MatchOption result (definitions.has_no_grid grid line.now ≡ true)
-        (λ g. (definitions.has_no_grid grid line.now ≡ false) × (g ≡ grid_with grid (line_values line.now)) × (1 ≤ g) × (g ≤ 61440)) }
+fn grid_with_line(grid: Grid, line: &KernLine) -> Option<Grid>
+    requires { IsWellLine line.now }
+    ensures { IsGridWith grid (line_values line.now) result }
 {
     match line {
         KernLine::Data(tokens) => grid_with_tokens(grid, tokens.as_slice()),
@@ -55,15 +51,10 @@ fn grid_with_line(grid: u64, line: &KernLine) -> Option<u64>
 }
 
 impl Reading {
-    ghost use Rattle.kern_reader.specs.Reading.{Adds, HasWidth, IsCountable, IsReading};
+    ghost use Rattle.kern_reader.specs.Reading.{Adds, HasWidth, IsCountable, IsFaultAfter, IsReading, IsUnderWay, ReadsLine, said_fault};
     ghost use Rattle.kern_reader.specs.Tokens.{IsWellToken};
     ghost use Rattle.kern_reader.specs.declared.fault.KernWhat.TheVariants.{Memory};
-    ghost use Rattle.kern_reader.specs.declared.line.KernLine.{KernLine};
     ghost use Rattle.kern_reader.specs.declared.line.KernLine.TheVariants.{Heading, Barline, Data};
-    ghost use Rattle.kern_reader.specs.Faults.{line_fault};
-    ghost use Rattle.kern_reader.specs.Lines.{line_of};
-    ghost use Rattle.std.specs.Prelude.{ℕ, List};
-    ghost use Rattle.std.proofs.Common.{suc};
 
     /// No line yet.
     pub(crate) fn new(alloc: Global) -> Reading
@@ -72,7 +63,7 @@ impl Reading {
         Reading {
             spines: Vec::new(alloc),
             columns: Vec::new(alloc),
-            grid: 1,
+            grid: Grid::of(1),
             announced: None,
             bar: None,
             stage: Stage::Head,
@@ -81,11 +72,10 @@ impl Reading {
 
     /// Reads one more line.
     pub(crate) fn read(&mut self, alloc: Global, text: &[u8]) -> Result<(), KernWhat>
-        requires { (number : ℕ) × (before : List KernLine) × IsReading number before self.old × (number < 2 ^ 32) }
-        ensures read { OnOk result ((number : ℕ) (before : List KernLine) → IsReading number before self.old
-            → (line_fault before text.now ≡ None) × IsReading (suc number) (line_of text.now ∷ before) self.new) }
-        ensures fault { IfErr result (λ what. what ≢ Memory → (number : ℕ) (before : List KernLine) → IsReading number before self.old
-            → line_fault before text.now ≡ Some what) }
+        requires { IsUnderWay self.old }
+        ensures read { OnOk result (ReadsLine text.now self.old self.new) }
+        ensures fault { IfErr result (λ what. what ≢ Memory → IsFaultAfter self.old text.now what) }
+        ensures memory { IfErr result (λ what. what ≡ Memory → takes_memory (line_of text.now) ≡ true) }
     {
         match text_fault(self.stage, self.spines.len(), text) {
             Some(what) => return Err(what),
@@ -100,15 +90,15 @@ impl Reading {
         Ok(())
     }
 
+    #[tactic(auto, unfolding(crate::specs::Faults::has_no_grid))]
     /// The fault of a line by what it says, or the grid with its values.
-    pub(crate) fn said_fault(&self, line: &KernLine) -> Result<u64, KernWhat>
-        requires some { 1 ≤ self.now.grid }
-        requires fine { self.now.grid ≤ 61440 }
+    pub(crate) fn said_fault(&self, line: &KernLine) -> Result<Grid, KernWhat>
         requires well { IsWellLine line.now }
         requires places { All (λ s. s.place < 2 ^ 56) self.now.spines.items }
-        ensures none { IfOk result (λ g. first_fault (said_tests self.now.stage self.now.grid self.now.bar self.now.announced self.now.spines.items line.now) ≡ None) }
-        ensures grid { IfOk result (λ g. (g ≡ grid_with self.now.grid (line_values line.now)) × (1 ≤ g) × (g ≤ 61440)) }
-        ensures fault { IfErr result (λ what. first_fault (said_tests self.now.stage self.now.grid self.now.bar self.now.announced self.now.spines.items line.now) ≡ Some what) }
+        ensures none { OnOk result (said_fault self.now line.now ≡ None) }
+        ensures grid { IfOk result (λ g. IsGridWith self.now.grid (line_values line.now) (Some g)) }
+        ensures fault { IfErr result (λ what. said_fault self.now line.now ≡ Some what) }
+        ensures no_memory { IfErr result (λ what. what ≢ Memory) }
     {
         if is_unread(self.stage, line) {
             return Err(KernWhat::Token);
@@ -136,15 +126,14 @@ impl Reading {
         &mut self,
         alloc: Global,
         line: &KernLine,
-        grid: u64,
+        grid: Grid,
     ) -> Result<(), AllocError>
-        requires some { 1 ≤ self.old.grid }
-        requires fine { grid ≤ 61440 }
         requires well { IsWellLine line.now }
         requires spines { HasWidth line.now (length self.old.spines.items) }
         requires columns { HasWidth line.now (length self.old.columns.items) }
         requires places { All (IsCountable (grid / self.old.grid)) self.old.spines.items }
-        ensures { OnOk result (Adds line.now grid self.old self.new) }
+        ensures adds { OnOk result (Adds line.now grid self.old self.new) }
+        ensures memory { OnErr result (takes_memory line.now ≡ true) }
     {
         match line {
             KernLine::Heading(count) => self.add_heading(alloc, *count, grid),
@@ -165,7 +154,7 @@ impl Reading {
     }
 
     /// Adds the heads of so many spines.
-    fn add_heading(&mut self, alloc: Global, count: usize, grid: u64) -> Result<(), AllocError>
+    fn add_heading(&mut self, alloc: Global, count: usize, grid: Grid) -> Result<(), AllocError>
         ensures { OnOk result (Adds (Heading count) grid self.old self.new) }
     {
         let spines = new_spines(alloc, count)?;
@@ -178,7 +167,7 @@ impl Reading {
     }
 
     /// Adds a barline.
-    fn add_barline(&mut self, grid: u64) -> Result<(), AllocError>
+    fn add_barline(&mut self, grid: Grid) -> Result<(), AllocError>
         ensures { OnOk result (Adds Barline grid self.old self.new) }
     {
         self.bar = self.announced;
@@ -194,16 +183,14 @@ impl Reading {
     }
 
     /// Adds the tokens of a data line.
-    fn add_tokens(&mut self, tokens: &[Token], grid: u64) -> Result<(), AllocError>
-        requires some { 1 ≤ self.old.grid }
-        requires fine { grid ≤ 61440 }
+    fn add_tokens(&mut self, tokens: &[Token], grid: Grid) -> Result<(), AllocError>
         requires well { All IsWellToken tokens.now }
         requires spines { length tokens.now ≡ length self.old.spines.items }
         requires columns { length tokens.now ≡ length self.old.columns.items }
         requires places { All (IsCountable (grid / self.old.grid)) self.old.spines.items }
         ensures { OnOk result (Adds (Data tokens.now) grid self.old self.new) }
     {
-        let times = grid / self.grid;
+        let times = grid.count() / self.grid.count();
         pass(&mut self.spines, tokens, times, grid);
         self.grid = grid;
         self.stage = Stage::Body;

@@ -1,6 +1,7 @@
 ghost use Rattle.std.specs.Prelude.{◌≡◌};
 
 use crate::spine::Column;
+use durations::Grid;
 use std::marker::Model;
 
 /// A score that was read from a **kern text.
@@ -8,7 +9,7 @@ use std::marker::Model;
 pub struct KernScore {
     pub(crate) columns: Vec<Column>,
     /// In so many parts of a whole note all values count.
-    pub(crate) grid: u64,
+    pub(crate) grid: Grid,
 }
 
 impl Model for KernScore {

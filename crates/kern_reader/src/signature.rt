@@ -1,12 +1,12 @@
-ghost use Rattle.kern_reader.specs.Lines.{signature_of, signature_of_numbers, signature_of_parts};
-ghost use Rattle.kern_reader.specs.Text.{pieces_in};
+ghost use Rattle.kern_reader.specs.Lines.{signature_from, signature_of};
+ghost use Rattle.text_words.specs.TimeSignatures.{signature_of_numbers};
 ghost use Rattle.kern_reader.specs.Tokens.{IsWellSignature};
 ghost use Rattle.rhythm_base.specs.Signatures.{is_den};
 ghost use Rattle.std.specs.Prelude.{◌≡◌, ◌≤◌, ◌∷◌, [], IfSome, length, option_map};
 
 use crate::number::number;
 use crate::piece::first_piece;
-use crate::token::TimeSignature;
+use text_words::TimeSignature;
 
 /// Whether a beat can have this value.
 fn is_den(den: u32) -> bool
@@ -15,14 +15,13 @@ fn is_den(den: u32) -> bool
     matches!(den, 1 | 2 | 4 | 8 | 16 | 32 | 64)
 }
 
-/// The signature of two numbers.
-fn signature_of_parts(num: u32, den: u32) -> Option<TimeSignature>
-    requires some { 1 ≤ num }
-    requires num { num ≤ 64 }
-    requires den { den ≤ 64 }
-    ensures signature { result ≡ signature_of_parts num den }
+/// The signature of the texts of two numbers.
+fn signature_of_texts(first: &[u8], second: &[u8]) -> Option<TimeSignature>
+    ensures signature { result ≡ signature_of_numbers (first.now ∷ second.now ∷ []) }
     ensures well { IfSome result IsWellSignature }
 {
+    let num = number(first, 64)?;
+    let den = number(second, 64)?;
     if is_den(den) {
         Some(TimeSignature {
             num: num as u8,
@@ -33,19 +32,9 @@ fn signature_of_parts(num: u32, den: u32) -> Option<TimeSignature>
     }
 }
 
-/// The signature of the texts of two numbers.
-fn signature_of_texts(first: &[u8], second: &[u8]) -> Option<TimeSignature>
-    ensures signature { result ≡ signature_of_numbers (first.now ∷ second.now ∷ []) }
-    ensures well { IfSome result IsWellSignature }
-{
-    let num = number(first, 64)?;
-    let den = number(second, 64)?;
-    signature_of_parts(num, den)
-}
-
 /// The signature of the first text and what is left after it.
 fn signature_of_rest(first: &[u8], rest: Option<&[u8]>) -> Option<TimeSignature>
-    ensures signature { result ≡ signature_of_numbers (first.now ∷ pieces_in 47 (option_map (λ x. x.now) rest.entry)) }
+    ensures signature { result ≡ signature_from first.now (option_map (λ x. x.now) rest.entry) }
     ensures well { IfSome result IsWellSignature }
 {
     match rest {

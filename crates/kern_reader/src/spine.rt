@@ -1,15 +1,17 @@
 ghost use Rattle.kern_reader.specs.Columns as definitions;
 ghost use Rattle.kern_reader.specs.Columns.{spine_after};
 ghost use Rattle.kern_reader.specs.Tokens.{IsWellToken};
-ghost use Rattle.std.specs.Prelude.{◌≡◌, ◌≤◌, ◌<◌, ◌^◌, ◌+◌, ◌*◌, ◌++◌, ◌∷◌, [], All, IfOk, OnOk, if◌then◌else◌, length, map, replicate};
+ghost use Rattle.std.specs.Prelude.{◌≡◌, ◌<◌, ◌^◌, ◌+◌, ◌*◌, ◌++◌, ◌∷◌, [], All, IfOk, OnOk, if◌then◌else◌, length, map, replicate};
 ghost use Rattle.std.specs.List.{zip};
 ghost use Rattle.kern_reader.specs.declared.token.Token.TheVariants as token;
 
 use crate::grid::width;
-use crate::token::{TieMark, TimeSignature, Token, Writing};
+use crate::token::{TieMark, Token, Writing};
+use durations::Grid;
 use rhythm_base::Keys;
 use std::alloc::{AllocError, Global};
 use std::marker::Model;
+use text_words::TimeSignature;
 
 /// What a spine holds from its head on.
 #[derive(Drop)]
@@ -120,8 +122,7 @@ fn rescaled(spine: Spine, times: u64) -> Spine
 }
 
 /// What is known of a spine after one more token, on a grid in which its value counts.
-fn spine_after(spine: Spine, token: Token, grid: u64) -> Spine
-    requires fine { grid ≤ 61440 }
+fn spine_after(spine: Spine, token: Token, grid: Grid) -> Spine
     requires well { IsWellToken token }
     requires place { spine.place < 2 ^ 62 }
     requires graces { spine.graces < 2 ^ 62 }
@@ -149,13 +150,12 @@ fn spine_after(spine: Spine, token: Token, grid: u64) -> Spine
 }
 
 /// Passes the tokens of a line in all spines, where the grid has become so many times finer.
-pub(crate) fn pass(spines: &mut [Spine], tokens: &[Token], times: u64, grid: u64)
-    requires fine { grid ≤ 61440 }
+pub(crate) fn pass(spines: &mut [Spine], tokens: &[Token], times: u64, grid: Grid)
     requires lengths { length tokens.now ≡ length spines.old }
     requires well { All IsWellToken tokens.now }
     requires places { All (λ s. s.place * times < 2 ^ 62) spines.old }
     requires graces { All (λ s. s.graces < 2 ^ 62) spines.old }
-    ensures { spines.new ≡ map (λ p. spine_after grid (definitions.rescaled times p.1) p.0) (zip tokens.now spines.old) }
+    ensures { spines.new ≡ definitions.spines_after grid times tokens.now spines.old }
 {
     'spines: for (number, spine) in spines.iter_mut().enumerate() {
         *spine = spine_after(rescaled(*spine, times), tokens[number], grid);
@@ -194,7 +194,7 @@ pub(crate) fn append_bar(columns: &mut [Column], signature: TimeSignature) -> Re
 
 /// So many spines at their beginning.
 pub(crate) fn new_spines(alloc: Global, count: usize) -> Result<Vec<Spine>, AllocError>
-    ensures { IfOk result (λ v. v.items ≡ replicate count (record { place = 0; tied = None; graces = 0 })) }
+    ensures { IfOk result (λ v. v.items ≡ replicate count definitions.first_spine) }
 {
     let mut spines = Vec::new(alloc);
     'spines: for _number in 0..count {

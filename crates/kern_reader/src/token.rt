@@ -1,5 +1,6 @@
 use durations::Value;
 use rhythm_base::Keys;
+use text_words::TimeSignature;
 
 /// What stands after the pitch of a note and says how a tie goes on.
 #[derive(Clone, Copy)]
@@ -52,13 +53,4 @@ pub(crate) enum Token {
     Grace(Keys),
     /// A chord that has a value.
     Chord(Writing, Keys),
-}
-
-/// A time signature.
-#[derive(Clone, Copy)]
-pub(crate) struct TimeSignature {
-    /// 1 to 64.
-    pub(crate) num: u8,
-    /// A power of two up to 64.
-    pub(crate) den: u8,
 }

@@ -1,12 +1,13 @@
 ghost use Rattle.durations.specs.Value.{plain_grid};
-ghost use Rattle.kern_reader.specs.Tokens as definitions;
-ghost use Rattle.kern_reader.specs.Tokens.{IsWellValue, recip_of, value_of};
+ghost use Rattle.kern_reader.specs.Tokens.{recip_of, value_of};
 ghost use Rattle.std.specs.Char.{is_ascii_digit};
 ghost use Rattle.std.specs.List.{prefix_len};
 ghost use Rattle.std.specs.Prelude.{◌≡◌, ◌≤◌, IfSome, length};
+ghost use Rattle.text_words.specs.Marks as marks;
+ghost use Rattle.text_words.specs.Values.{IsWellValue};
 
 use crate::number::number;
-use durations::{Recip, Value};
+use durations::{MOST_GRID, Recip, Value};
 
 #[tactic(auto, using(crate::proofs::Runs::prefix_within))]
 /// How many digits the text begins with.
@@ -19,7 +20,7 @@ fn digits_len(text: &[u8]) -> usize
 
 /// Whether the text is at most two dots.
 fn are_dots(text: &[u8]) -> bool
-    ensures { result ≡ definitions.are_dots text.now }
+    ensures { result ≡ marks.are_dots text.now }
 {
     text.iter().all(|byte| *byte == b'.') && text.len() <= 2
 }
@@ -36,7 +37,7 @@ fn recip(text: &[u8]) -> Option<Recip>
     } else if text == b"00".as_slice() {
         Some(Recip::Long)
     } else {
-        match number(text, 61_440) {
+        match number(text, MOST_GRID as u16) {
             Some(number) => Some(Recip::Of(number)),
             None => None,
         }

@@ -15,9 +15,9 @@ use Rattle.durations.specs.declared.value.Value.{Value}
 use Rattle.derivation.specs.declared.score.ScoreBar.{ScoreBar}
 use Rattle.derivation.specs.Score.{IsScoreBar}
 use Rattle.derivation.specs.WellSounded.{AreKeys}
-use Rattle.kern_reader.specs.Tokens.{◌>>=◌}
+use Rattle.text_words.specs.Steps.{◌>>=◌}
 use Rattle.voice_events.proofs.ScoreBars.{parts_finer}
-use Rattle.kern_laws.proofs.TextTests.{all_append, lacks}
+use Rattle.text_words.proofs.TextTests.{all_append, lacks}
 use Rattle.voice_events.specs.Parts.{score_bar_parts, end_parts, start_parts}
 use Rattle.voice_events.specs.VoiceEvents.{FollowFrom, IsVoiceSpan}
 use Rattle.lily_writer.specs.Elements.{Element, grace_group, note_value, rest_value}

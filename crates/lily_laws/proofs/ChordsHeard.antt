@@ -7,8 +7,8 @@ use Rattle.std.proofs.lemmas.Bool.{and_parts, false≢true}
 use Rattle.std.proofs.lemmas.Bool.Decides.{nat_tests}
 use Rattle.std.proofs.lemmas.List.Sums.{fold-append}
 use Rattle.rhythm_base.specs.declared.span.Span.{Span}
-use Rattle.kern_reader.specs.Tokens.{◌>>=◌}
-use Rattle.kern_laws.proofs.TextRuns.{run_dropped, run_taken}
+use Rattle.text_words.specs.Steps.{◌>>=◌}
+use Rattle.text_words.proofs.TextRuns.{run_dropped, run_taken}
 use Rattle.score_words.proofs.SetKeys.{KeysRise}
 use Rattle.lily_writer.specs.Hearing.{HeardVoice, Side, at_brace, hear, outside, span_with, with_span, within, hear_chord, hear_on_side, hear_word, hear_words, is_empty, key_set, heard_rise}
 use Rattle.lily_writer.specs.Pitches.{lily_pitch}

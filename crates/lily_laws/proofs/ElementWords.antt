@@ -8,9 +8,9 @@ use Rattle.std.proofs.lemmas.Grind.{flat_map-append}
 use Rattle.std.proofs.lemmas.List.Elements.{All-head, All-tail}
 use Rattle.derivation.specs.WellSounded.{AreKeys}
 use Rattle.score_words.specs.Keys.{rising_keys}
-use Rattle.kern_reader.specs.Tokens.{IsWellValue}
-use Rattle.kern_laws.proofs.TextSplits.{split_first, split_last}
-use Rattle.kern_laws.proofs.TextTests.{all_append, all_weaker, graphic_no_space, graphic_prints, is_graphic, lacks, printing_no_newline}
+use Rattle.text_words.specs.Values.{IsWellValue}
+use Rattle.text_words.proofs.TextSplits.{split_first, split_last}
+use Rattle.text_words.proofs.TextTests.{all_append, all_weaker, graphic_no_space, graphic_prints, is_graphic, lacks, printing_no_newline}
 use Rattle.score_words.proofs.SetKeys.{KeysRise, keys_rise, keys_set, set_with}
 use Rattle.lily_writer.specs.Elements.{Element, element_text, elements_text, grace_group, lily_grace, note_value, rest_value, lily_short, lily_tie}
 use Rattle.lily_writer.specs.Pitches.{pitches_text, lily_chord, lily_pitch, words}

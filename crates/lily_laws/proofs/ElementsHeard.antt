@@ -9,8 +9,10 @@ use Rattle.durations.specs.declared.value.Value.{Value}
 use Rattle.durations.specs.Value.{parts, value_grid}
 use Rattle.derivation.specs.WellSounded.{AreKeys}
 use Rattle.score_words.specs.Keys.{rising_keys}
-use Rattle.kern_reader.specs.Tokens.{◌>>=◌, IsWellValue, number_of}
-use Rattle.kern_reader.specs.Columns.{gcd}
+use Rattle.text_words.specs.Steps.{◌>>=◌}
+use Rattle.text_words.specs.Values.{IsWellValue}
+use Rattle.text_words.specs.Numbers.{number_of}
+use Rattle.text_words.specs.Divisors.{gcd}
 use Rattle.score_words.proofs.SetKeys.{KeysRise, keys_rise}
 use Rattle.lily_writer.specs.Elements.{grace_group, note_value, rest_value}
 use Rattle.lily_writer.specs.Fractions.{frac, frac_plus, frac_times}

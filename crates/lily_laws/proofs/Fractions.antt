@@ -4,9 +4,9 @@ use Rattle.rhythm_base.specs.declared.span.Frac.{Frac}
 use Rattle.durations.specs.Spans.{IsFrac}
 use Rattle.durations.proofs.LowestTerms.{divided}
 use Rattle.derivation.proofs.Fractions.{frac_one}
-use Rattle.kern_reader.proofs.GridLemmas.{gcd_is}
-use Rattle.kern_reader.specs.Columns.{gcd}
-use Rattle.kern_laws.proofs.SpanMatch.{frac_same}
+use Rattle.text_words.proofs.Divisors.{gcd_is}
+use Rattle.text_words.specs.Divisors.{gcd}
+use Rattle.voice_events.proofs.SameFractions.{frac_same}
 use Rattle.lily_writer.specs.Fractions.{frac, frac_plus, frac_times}
 use Rattle.durations.proofs.Wide.{some_product}
 use Rattle.durations.proofs.FractionLemmas.{frac_of_lowest}

@@ -7,7 +7,7 @@ use Rattle.std.proofs.lemmas.Bool.{and_parts, false≢true}
 use Rattle.std.proofs.lemmas.Bool.Decides.{nat_tests}
 use Rattle.std.proofs.lemmas.List.Elements.{All-head}
 use Rattle.derivation.specs.WellSounded.{AreKeys}
-use Rattle.kern_reader.specs.Text.{begins_with}
+use Rattle.text_words.specs.Lines.{begins_with}
 use Rattle.score_words.proofs.SetKeys.{KeysRise, keys_rise}
 use Rattle.lily_writer.specs.Elements.{Element, element_text, elements_text, grace_group, note_value, rest_value, lily_short, lily_tie}
 use Rattle.lily_writer.specs.Pitches.{pitches_text, lily_chord, lily_pitch}

@@ -8,31 +8,30 @@ use Rattle.std.proofs.lemmas.Bool.{and_from, and_parts}
 use Rattle.std.proofs.lemmas.List.Splits.{length-slice_split}
 use Rattle.rhythm_base.specs.declared.span.Span.{Span}
 use Rattle.derivation.specs.declared.score.ScoreBar.{ScoreBar}
-use Rattle.score_words.specs.Changes.{key_before, quarters_of_minute, same_key, same_signature, same_tempo}
-use Rattle.score_words.specs.Changes.{has_flats}
-use Rattle.kern_reader.specs.Text.{kern_lines, lines_of_pieces}
-use Rattle.kern_laws.proofs.TextSplits.{split_first}
-use Rattle.kern_laws.proofs.TextTests.{all_append, all_weaker, decimal_digits, digit_graphic, graphic_prints, lacks, printing_no_newline}
+use Rattle.score_words.specs.Changes.{key_before, quarters_of_minute, same_key, same_signature, same_tempo, has_flats}
+use Rattle.text_words.specs.Lines.{text_lines, lines_of_pieces}
+use Rattle.text_words.proofs.TextSplits.{split_first}
+use Rattle.text_words.proofs.TextTests.{all_append, all_weaker, decimal_digits, digit_graphic, graphic_prints, lacks, printing_no_newline}
 use Rattle.voice_events.specs.Parts.{score_bar_parts, score_parts}
 use Rattle.voice_events.specs.VoiceEvents.{IsVoiceSpan}
-use Rattle.lily_writer.specs.Changes.{lily_changes, lily_key_lines, lily_key, key_name, key_names, key_number, lily_tempo_lines, lily_tempo, time_change, time_line}
+use Rattle.score_words.specs.LilyChanges.{lily_changes, lily_key_lines, lily_key, key_name, key_names, key_number, lily_tempo_lines, lily_tempo, time_change, time_line}
 use Rattle.lily_writer.specs.Pieces.{stretches}
 use Rattle.lily_writer.specs.Staves.{AreBarsOfStaff, AreStaffLines, staff_bar}
-use Rattle.lily_writer.specs.Text.{lines_text}
+use Rattle.score_words.specs.TextLines.{lines_text}
 use Rattle.lily_laws.proofs.BarWords.{bar_in_line, bar_sounds}
-use Rattle.kern_reader.proofs.LineLemmas.{lines_among_more}
+use Rattle.text_words.proofs.LineLemmas.{lines_among_more}
 
 -- ---- lines that were joined
 
 abbrev pub are_lines : List (List ℕ) → Bool
 are_lines lines = list_all (lacks 10) lines
 
-pub lines_split : (lines : List (List ℕ)) → are_lines lines ≡ true → kern_lines (lines_text lines) ≡ lines
+pub lines_split : (lines : List (List ℕ)) → are_lines lines ≡ true → text_lines (lines_text lines) ≡ lines
 lines_split [] h = refl
 lines_split (line ∷ lines) h =
     let parts = and_parts (lacks 10 line) (are_lines lines) h in
     let rest = lines_text lines in
-    ap kern_lines (append_assoc line (10 ∷ []) rest) ∙ ap lines_of_pieces (split_first 10 line rest parts.0)
+    ap text_lines (append_assoc line (10 ∷ []) rest) ∙ ap lines_of_pieces (split_first 10 line rest parts.0)
     ∙ lines_among_more line (slice_split (λ b. b == 10) rest) (omega (arith, length-slice_split (λ b. b == 10) rest))
     ∙ ap (λ ls. line ∷ ls) (lines_split lines parts.1)
 
@@ -80,7 +79,7 @@ tempo_lines : (first : Bool) (old : Option ScoreBar) (bar : ScoreBar) → are_li
 tempo_lines true old bar = one_line (lily_tempo bar) (tempo_free bar) (same_tempo old bar)
 tempo_lines false old bar = refl
 
-changes_lines : (first : Bool) (old : Option ScoreBar) (bar : ScoreBar) → are_lines (lily_changes first old bar) ≡ true
+pub changes_lines : (first : Bool) (old : Option ScoreBar) (bar : ScoreBar) → are_lines (lily_changes first old bar) ≡ true
 changes_lines first old bar =
     let key = lily_key_lines (key_before old) bar.sf in
     let time = time_change old bar in

@@ -12,9 +12,9 @@ use Rattle.derivation.specs.declared.score.ScoreBar.{ScoreBar}
 use Rattle.derivation.specs.Score.{IsScoreBar}
 use Rattle.voice_events.specs.declared.event.KernEvent.{KernEvent}
 use Rattle.voice_events.specs.Events.{span_event}
-use Rattle.kern_reader.specs.Text.{kern_lines}
-use Rattle.kern_reader.specs.Tokens.{◌>>=◌}
-use Rattle.kern_laws.proofs.TextTests.{all_append, lacks}
+use Rattle.text_words.specs.Lines.{text_lines}
+use Rattle.text_words.specs.Steps.{◌>>=◌}
+use Rattle.text_words.proofs.TextTests.{all_append, lacks}
 use Rattle.voice_events.specs.Parts.{score_parts}
 use Rattle.voice_events.specs.VoiceEvents.{AreVoiceEventsFrom}
 use Rattle.lily_writer.specs.Reading.{after_head, events_of_lines, lily_events}
@@ -154,6 +154,6 @@ texts_read r bars voices events text writable are (staves, each, is) =
     let free = staves_lines r bars events some few writable.each_bar voices 1 [] events staves refl low are each in
     let all : are_lines (page_head ++ rows ++ page_tail) ≡ true = all_append (lacks 10) (page_head ++ rows) page_tail
     (all_append (lacks 10) page_head rows refl free) refl in
-    ap (λ ls. after_head ls >>= events_of_lines 1 None) (ap kern_lines is ∙ lines_split (page_head ++ rows ++ page_tail) all)
+    ap (λ ls. after_head ls >>= events_of_lines 1 None) (ap text_lines is ∙ lines_split (page_head ++ rows ++ page_tail) all)
     ∙ ap (λ o. o >>= events_of_lines 1 None) (head_read rows)
     ∙ staves_read r bars events some few writable.each_bar voices 1 [] events staves refl low are each

@@ -5,7 +5,7 @@ use Rattle.std.proofs.lemmas.Bool.{and_parts}
 use Rattle.lily_writer.specs.Pitches.{lily_pitch}
 use Rattle.lily_writer.specs.Words.{is_letter, is_lily_pitch_byte, word_key}
 use Rattle.rhythm_base.proofs.NumbersBelow.{all_below, one_below}
-use Rattle.kern_laws.proofs.Pitches.{read_key, is_key}
+use Rattle.text_words.proofs.ReadKeys.{read_key, is_key}
 
 -- it is of the bytes of pitches, and its first one is a letter that begins no rest
 abbrev pub is_pitch : List ℕ → Bool

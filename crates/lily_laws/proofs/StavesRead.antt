@@ -15,17 +15,17 @@ use Rattle.rhythm_base.specs.declared.span.Span.{Span}
 use Rattle.rhythm_base.specs.Signatures.{is_den}
 use Rattle.derivation.specs.declared.score.ScoreBar.{ScoreBar}
 use Rattle.derivation.specs.Score.{IsScoreBar}
-use Rattle.score_words.specs.Changes.{key_before, same_key, same_signature, same_tempo}
-use Rattle.score_words.specs.Changes.{has_flats}
+use Rattle.score_words.specs.Changes.{key_before, same_key, same_signature, same_tempo, has_flats}
 use Rattle.voice_events.specs.Events.{span_event}
-use Rattle.kern_reader.specs.declared.token.TimeSignature.{TimeSignature}
-use Rattle.kern_reader.specs.Lines.{signature_of_numbers, signature_of_parts}
-use Rattle.kern_reader.specs.Tokens.{◌>>=◌, number_of}
-use Rattle.kern_laws.proofs.TextNumbers.{number_back}
-use Rattle.kern_laws.proofs.TextSplits.{split_first, split_last}
+use Rattle.text_words.specs.declared.time_signature.TimeSignature.{TimeSignature}
+use Rattle.text_words.specs.TimeSignatures.{signature_of_numbers, signature_of_parts}
+use Rattle.text_words.specs.Steps.{◌>>=◌}
+use Rattle.text_words.specs.Numbers.{number_of}
+use Rattle.text_words.proofs.TextNumbers.{number_back}
+use Rattle.text_words.proofs.TextSplits.{split_first, split_last}
 use Rattle.voice_events.specs.Parts.{score_bar_parts, score_parts}
 use Rattle.voice_events.specs.VoiceEvents.{AreOfVoice, FollowFrom, IsVoiceSpan}
-use Rattle.lily_writer.specs.Changes.{lily_changes, lily_key_lines, lily_key, lily_tempo_lines, lily_tempo, time_change, time_line}
+use Rattle.score_words.specs.LilyChanges.{lily_changes, lily_key_lines, lily_key, lily_tempo_lines, lily_tempo, time_change, time_line}
 use Rattle.lily_writer.specs.Fractions.{frac, nothing}
 use Rattle.lily_writer.specs.Hearing.{HeardVoice, unheard}
 use Rattle.lily_writer.specs.Pieces.{stretches}
@@ -37,7 +37,7 @@ use Rattle.lily_laws.proofs.Fractions.{is_frac}
 use Rattle.lily_laws.proofs.LineStarts.{IsBarText, bar_begins, is_bar_text}
 use Rattle.lily_laws.proofs.Reached.{reached, reached_end, reached_start}
 use Rattle.lily_laws.proofs.WrittenParts.{part_range}
-use Rattle.kern_laws.proofs.WordsSay.{slash_free}
+use Rattle.text_words.proofs.TextTests.{slash_free}
 
 -- what is known of a staff
 abbrev staff : Option Frac → HeardVoice → Staff

@@ -12,10 +12,10 @@ use Rattle.durations.specs.declared.value.Recip.{Recip}
 use Rattle.durations.specs.declared.value.Recip.TheVariants.{Of, Breve, Long}
 use Rattle.durations.specs.declared.value.Value.{Value}
 use Rattle.durations.specs.Value.{parts, plain_grid, plain_parts, value_grid}
-use Rattle.kern_reader.specs.Tokens.{IsWellValue}
-use Rattle.kern_reader.specs.Columns.{gcd}
-use Rattle.kern_laws.proofs.TextRuns.{run_dropped, run_taken}
-use Rattle.kern_laws.proofs.TextTests.{all_alike, all_append, all_weaker, decimal_digits, is_graphic}
+use Rattle.text_words.specs.Values.{IsWellValue}
+use Rattle.text_words.specs.Divisors.{gcd}
+use Rattle.text_words.proofs.TextRuns.{run_dropped, run_taken}
+use Rattle.text_words.proofs.TextTests.{all_alike, all_append, all_weaker, decimal_digits, is_graphic}
 use Rattle.lily_writer.specs.Elements.{lily_short, lily_tie}
 use Rattle.lily_writer.specs.Fractions.{frac, frac_times}
 use Rattle.lily_writer.specs.Values.{base_text, scale_of_part, scale_text, lily_value, written_part}

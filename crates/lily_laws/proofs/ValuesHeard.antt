@@ -18,7 +18,7 @@ use Rattle.durations.specs.Laws.{CountsIn}
 use Rattle.durations.specs.Value.{IsWide, parts, plain_grid, value_grid, width}
 use Rattle.durations.specs.Values.{AreValues}
 use Rattle.derivation.specs.WellSounded.{AreKeys}
-use Rattle.kern_reader.specs.Tokens.{IsWellValue}
+use Rattle.text_words.specs.Values.{IsWellValue}
 use Rattle.lily_writer.specs.Elements.{Element, grace_group, note_value, rest_value}
 use Rattle.lily_writer.specs.Fractions.{frac, frac_plus}
 use Rattle.lily_writer.specs.Hearing.{hear_words}

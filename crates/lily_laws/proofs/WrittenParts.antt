@@ -8,17 +8,17 @@ use Rattle.std.specs.Int.{IsGcd, ◌∣◌}
 use Rattle.std.proofs.Math.Nat.{div-le_self, div-mul_cancel}
 use Rattle.std.proofs.lemmas.Bool.Decides.{nat_tests}
 use Rattle.rhythm_base.specs.Signatures.{is_den}
-use Rattle.kern_reader.proofs.GridLemmas.{gcd_is}
-use Rattle.kern_reader.specs.Columns.{gcd}
-use Rattle.kern_reader.specs.Tokens.{number_of}
-use Rattle.kern_laws.proofs.TextNumbers.{number_back}
-use Rattle.kern_laws.proofs.TextSplits.{split_first, split_last}
+use Rattle.text_words.proofs.Divisors.{gcd_is}
+use Rattle.text_words.specs.Divisors.{gcd}
+use Rattle.text_words.specs.Numbers.{number_of}
+use Rattle.text_words.proofs.TextNumbers.{number_back}
+use Rattle.text_words.proofs.TextSplits.{split_first, split_last}
 use Rattle.lily_writer.specs.Fractions.{frac}
 use Rattle.lily_writer.specs.Values.{scale_of_part, written_part}
 use Rattle.lily_writer.specs.Words.{base_of, ratio_of, scale_of}
 use Rattle.lily_laws.proofs.Fractions.{same_value}
 use Rattle.rhythm_base.proofs.Booleans.{or_true}
-use Rattle.kern_laws.proofs.WordsSay.{slash_free}
+use Rattle.text_words.proofs.TextTests.{slash_free}
 
 -- ---- powers of two up to 64
 

@@ -1,4 +1,4 @@
-use Rattle.std.proofs.Common.{◌^◌, ◌<◌, ◌∷◌, ◌++◌, [], length, sym, ap, arith, append-nil}
+use Rattle.std.proofs.Common.{◌^◌, ◌<◌, ◌∷◌, ◌++◌, [], length, sym, ap, arith, rules, append-nil}
 use Rattle.std.proofs.lemmas.List.{take_rest}
 use Rattle.std.proofs.lemmas.List.Elements.{All-cons, All-nil}
 use Rattle.kern_reader.specs.Score.{IsTokenOn}
@@ -18,19 +18,19 @@ pub push_beginning-requires-clause-small : goal.push_beginning-requires-clause-s
 push_beginning-requires-clause-small c =
     let (before, spans, is, on_before, on_later, count, written, made) = c.tokens.invariant in
     let short : length before < 2 ^ 32 = omega (arith, count, c.requires.short) in
-    (start_small c.args.grid before c.tokens.walk c.requires.fine short on_before is).0
+    (start_small c.args.grid before c.tokens.walk (search rules) short on_before is).0
 
 pub step-requires-clause-place : goal.step-requires-clause-place
 step-requires-clause-place c =
     let (before, spans, is, on_before, on_later, count, written, made) = c.tokens.invariant in
     let short : length before < 2 ^ 32 = omega (arith, count, c.requires.short) in
-    (start_small c.args.grid before c.tokens.walk c.requires.fine short on_before is).2
+    (start_small c.args.grid before c.tokens.walk (search rules) short on_before is).2
 
 pub step-requires-clause-start : goal.step-requires-clause-start
 step-requires-clause-start c =
     let (before, spans, is, on_before, on_later, count, written, made) = c.tokens.invariant in
     let short : length before < 2 ^ 32 = omega (arith, count, c.requires.short) in
-    let small = (start_small c.args.grid before c.tokens.walk c.requires.fine short on_before is).1 in
+    let small = (start_small c.args.grid before c.tokens.walk (search rules) short on_before is).1 in
     omega (arith, small)
 
 pub tokens-preserved : goal.tokens-preserved

@@ -1,5 +1,5 @@
 use Rattle.std.proofs.Common.{arith}
-use Rattle.kern_reader.proofs.NumberLemmas.{digit_there, one_digit_more}
+use Rattle.text_words.proofs.NumberLemmas.{digit_there, one_digit_more}
 use Rattle.kern_reader.proofs.number.digits_number.Goals as goal
 
 pub overflow_sub-digit : goal.overflow_sub-digit

@@ -3,7 +3,7 @@ use Rattle.std.proofs.lemmas.Iterator.{YieldsList-from_slice}
 use Rattle.std.proofs.lemmas.Iterator.Search.{position_from_yields_List}
 use Rattle.std.proofs.lemmas.List.{take_rest}
 use Rattle.rhythm_base.proofs.Positions.{position-found, position-missing, position-within}
-use Rattle.kern_reader.proofs.LineLemmas.{lines_first, lines_last}
+use Rattle.text_words.proofs.LineLemmas.{lines_first, lines_last}
 use Rattle.kern_reader.proofs.read.first_line.Goals as goal
 
 pub returns-in-Some-clause-line : goal.returns-in-Some-clause-line

@@ -2,16 +2,16 @@ use Rattle.std.proofs.Common.{◌≡◌, ◌+◌, ◌-◌, ◌<◌, ◌≤◌, �
 use Rattle.kern_reader.specs.declared.line.KernLine.{KernLine}
 use Rattle.kern_reader.specs.Outcome.{read_from, read_text}
 use Rattle.kern_reader.specs.Reading.{IsReading}
-use Rattle.kern_reader.specs.Text.{kern_lines}
+use Rattle.text_words.specs.Lines.{text_lines}
 use Rattle.kern_reader.proofs.read.read_kern.Given as goal
 
 abbrev pub invariant-lines : goal.invariant-lines
 invariant-lines l = record {
-  before : (before : List KernLine) × IsReading l.number before l.reading × (read_from before l.number (kern_lines l.rest) ≡ read_text l.bytes);
+  before : (before : List KernLine) × IsReading l.number before l.reading × (read_from before l.number (text_lines l.rest) ≡ read_text l.bytes);
   some : 1 ≤ l.number;
   small : l.number + length l.rest < 2 ^ 32;
-  rest : kern_lines l.rest ≡ drop (l.number - 1) (kern_lines l.bytes);
-  count : l.number + length (kern_lines l.rest) ≡ length (kern_lines l.bytes) + 1;
+  rest : text_lines l.rest ≡ drop (l.number - 1) (text_lines l.bytes);
+  count : l.number + length (text_lines l.rest) ≡ length (text_lines l.bytes) + 1;
 }
 
 abbrev pub decreases-lines : goal.decreases-lines
