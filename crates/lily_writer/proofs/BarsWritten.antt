@@ -3,7 +3,6 @@ use Rattle.std.proofs.Common.{◌≡◌, ℕ, ◌+◌, ◌^◌, ◌≤◌, ◌<�
 use Rattle.std.specs.Prelude.{All, IfSome, codes}
 use Rattle.std.specs.List.{flat_map}
 use Rattle.std.proofs.lemmas.List.{append-nil, drop_all}
-use Rattle.std.proofs.lemmas.List.Concat.{flat_map-append}
 use Rattle.std.proofs.lemmas.List.Elements.{All-get_or}
 use Rattle.std.proofs.lemmas.List.Sums.{sum_by-drop_more}
 use Rattle.rhythm_base.specs.declared.limits.TheConstants.{MOST_UNITS}
@@ -15,11 +14,12 @@ use Rattle.score_words.specs.Changes.{has_flats}
 use Rattle.voice_events.specs.Parts.{score_bar_parts, score_parts}
 use Rattle.voice_events.specs.VoiceEvents.{AreOfVoice}
 use Rattle.voice_events.proofs.SpanEnds.{score_few}
-use Rattle.lily_writer.specs.Changes.{lily_changes}
+use Rattle.score_words.specs.LilyChanges.{lily_changes}
 use Rattle.lily_writer.specs.Elements.{Element, elements_text}
 use Rattle.lily_writer.specs.Pieces.{AreElements, Stretch, bar_pieces, stretches}
 use Rattle.lily_writer.specs.Staves.{AreBarElements, AreBarsOfStaff, AreStaffLines, staff_bar}
-use Rattle.lily_writer.specs.Text.{lines_text}
+use Rattle.score_words.specs.TextLines.{lines_text}
+use Rattle.score_words.proofs.TextLines.{lines_append}
 use Rattle.lily_writer.specs.Writing.{Ahead, HasWrittenBar, IsAhead, stretches_ahead}
 
 -- The lines of the bars before number n are written after a text. The bar before is this one, the next bar begins at a place, and
@@ -34,9 +34,6 @@ pub record HasWrittenBars (resolution : ℕ) (first : Bool) (ss : List Stretch) 
   pub ahead : IsAhead resolution a
   pub rest : from + score_parts resolution (drop n bars) ≡ score_parts resolution bars
   pub earlier : IfSome before IsScoreBar
-
-pub lines_append : (xs ys : List (List ℕ)) → lines_text (xs ++ ys) ≡ lines_text xs ++ lines_text ys
-lines_append xs ys = flat_map-append (λ line. line ++ 10 ∷ []) xs ys
 
 pub ahead_first : (resolution : ℕ) (bars : List ScoreBar) (spans : List Span) → 1 ≤ resolution → resolution ≤ MOST_UNITS
     → All IsScoreBar bars → length bars ≤ 2 ^ 32

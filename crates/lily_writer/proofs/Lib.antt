@@ -1,5 +1,4 @@
 pub mod BarsWritten
-pub mod ChangeLines
 pub mod EventsAhead
 pub mod Names
 pub mod NotesAfter

@@ -8,12 +8,13 @@ use Rattle.durations.proofs.OneList.{values_one}
 use Rattle.derivation.specs.declared.score.ScoreBar.{ScoreBar}
 use Rattle.score_words.specs.Changes.{has_flats}
 use Rattle.voice_events.specs.Parts.{score_bar_parts, score_parts}
-use Rattle.lily_writer.specs.Changes.{lily_changes}
+use Rattle.score_words.specs.LilyChanges.{lily_changes}
 use Rattle.lily_writer.specs.Elements.{Element}
 use Rattle.lily_writer.specs.Laws.{PagesAreOne}
 use Rattle.lily_writer.specs.Pieces.{AreElements, Piece, Stretch, piece_begins, elements_of, piece_goes_on, bar_pieces, stretches}
 use Rattle.lily_writer.specs.Staves.{AreBarElements, AreBarsOfStaff, AreStaffLines, staff_bar, voice_spans}
-use Rattle.lily_writer.specs.Text.{IsStaff, page_head, lines_text, page_tail}
+use Rattle.lily_writer.specs.Text.{IsStaff, page_head, page_tail}
+use Rattle.score_words.specs.TextLines.{lines_text}
 
 -- where each has one partner, a list has one
 each_same : {X Y : Type 0} (R : X → Y → Type 0) (xs : List X) (ys zs : List Y) → ((x : X) (y z : Y) → R x y → R x z → y ≡ z) → Each R xs ys

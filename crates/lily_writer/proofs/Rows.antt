@@ -7,17 +7,18 @@ use Rattle.durations.specs.declared.value.Recip.TheVariants.{Of}
 use Rattle.durations.specs.declared.value.Value.{Value}
 use Rattle.derivation.specs.declared.score.ScoreBar.{ScoreBar}
 use Rattle.voice_events.specs.declared.event.KernEvent.{KernEvent}
-use Rattle.kern_reader.specs.Columns.{gcd}
+use Rattle.text_words.specs.Divisors.{gcd}
 use Rattle.voice_events.specs.Events.{span_event}
-use Rattle.kern_reader.specs.Tokens.{number_of}
+use Rattle.text_words.specs.Numbers.{number_of}
 use Rattle.score_words.specs.Keys.{rising_keys}
-use Rattle.lily_writer.specs.Changes.{lily_changes}
+use Rattle.score_words.specs.LilyChanges.{lily_changes}
 use Rattle.lily_writer.specs.Elements.{element_text, note_value}
 use Rattle.lily_writer.specs.Hearing.{hear}
 use Rattle.lily_writer.specs.Pieces.{piece_begins, elements_of, piece_goes_on, bar_pieces, stretches}
 use Rattle.lily_writer.specs.Reading.{hear_bar, hear_line, lily_events}
 use Rattle.lily_writer.specs.Staves.{staff_bar}
-use Rattle.lily_writer.specs.Text.{page_head, lines_text, page_tail}
+use Rattle.lily_writer.specs.Text.{page_head, page_tail}
+use Rattle.score_words.specs.TextLines.{lines_text}
 use Rattle.lily_writer.specs.Values.{lily_value}
 use Rattle.lily_writer.specs.Words.{base_of, word_ending, word_key, pitched_word, scale_of, word_of}
 

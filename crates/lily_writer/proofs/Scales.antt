@@ -5,8 +5,8 @@ use Rattle.std.proofs.Math.Nat.{mul-div_left, pos_of_dvd_of_pos}
 use Rattle.std.proofs.lemmas.Bool.Decides.{nat_tests}
 use Rattle.std.proofs.lemmas.Nat.Gcd.{same_from_IsGcd}
 use Rattle.durations.specs.Values.{IsLowest}
-use Rattle.kern_reader.specs.Columns.{gcd}
-use Rattle.kern_reader.proofs.GridLemmas.{gcd_is}
+use Rattle.text_words.specs.Divisors.{gcd}
+use Rattle.text_words.proofs.Divisors.{gcd_is}
 use Rattle.lily_writer.specs.Values.{scale_of_part}
 
 -- what is left of two numbers by their greatest common divisor

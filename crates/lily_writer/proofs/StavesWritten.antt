@@ -10,8 +10,9 @@ use Rattle.voice_events.specs.declared.event.KernEvent.{KernEvent}
 use Rattle.voice_events.specs.Parts.{score_parts}
 use Rattle.voice_events.specs.VoiceEvents.{AreOfVoice, AreVoiceEventsFrom}
 use Rattle.lily_writer.specs.Staves.{AreStaffLines, spans_of, voice_spans}
-use Rattle.lily_writer.specs.Text.{IsLilyText, IsStaff, page_head, lines_text, page_tail}
-use Rattle.lily_writer.proofs.BarsWritten.{lines_append}
+use Rattle.lily_writer.specs.Text.{IsLilyText, IsStaff, page_head, page_tail}
+use Rattle.score_words.specs.TextLines.{lines_text}
+use Rattle.score_words.proofs.TextLines.{lines_append}
 use Rattle.lily_writer.proofs.VoiceSplit.{IsSplit, voice_split}
 
 -- the staves of the first n voices are written after a text, and the events of the others are still to be

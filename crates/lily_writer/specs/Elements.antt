@@ -27,6 +27,9 @@ element_text flats (grace_group chords) = codes "\\grace { " ++ flat_map (lily_g
 element_text flats (note_value keys value short tied) = lily_chord flats keys ++ lily_value value ++ lily_short short ++ lily_tie tied
 element_text flats (rest_value value) = codes "r" ++ lily_value value
 
+abbrev pub spaced : Bool → Element → List ℕ
+spaced flats e = element_text flats e ++ codes " "
+
 -- elements with a space after each
 abbrev pub elements_text : Bool → List Element → List ℕ
 elements_text flats elements = flat_map (λ e. element_text flats e ++ codes " ") elements

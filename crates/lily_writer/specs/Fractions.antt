@@ -1,7 +1,7 @@
 -- Numbers of whole notes, in lowest terms.
 use Rattle.std.specs.Prelude.{ℕ, ◌+◌, ◌*◌, ◌/◌, ◌==◌, ◌&&◌, Bool}
 use Rattle.rhythm_base.specs.declared.span.Frac.{Frac}
-use Rattle.kern_reader.specs.Columns.{gcd}
+use Rattle.text_words.specs.Divisors.{gcd}
 
 abbrev pub frac : ℕ → ℕ → Frac
 frac n d = record { num = n / gcd n d; den = d / gcd n d }

@@ -2,7 +2,7 @@
 use Rattle.std.specs.Prelude.{ℕ, ◌^◌, Bool, true, false, ◌==◌, ◌&&◌, ◌||◌, not, nat_lt, if◌then◌else◌, List, [], ◌∷◌, ◌++◌, fold, map, sum, Option, Some, None}
 use Rattle.rhythm_base.specs.declared.span.Frac.{Frac}
 use Rattle.rhythm_base.specs.declared.span.Span.{Span}
-use Rattle.kern_reader.specs.Tokens.{◌>>=◌}
+use Rattle.text_words.specs.Steps.{◌>>=◌}
 use Rattle.lily_writer.specs.Fractions.{frac, nothing, frac_plus, same_frac}
 use Rattle.lily_writer.specs.Words.{WordEnding, Word, closing_word, first_key, grace_word, last_key, middle_key, opening_word, rest_word, single_key, word_of}
 

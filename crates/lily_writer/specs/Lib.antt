@@ -2,7 +2,6 @@ pub mod Pitches
 pub mod Values
 pub mod Elements
 pub mod Pieces
-pub mod Changes
 pub mod Staves
 pub mod Text
 pub mod Laws

@@ -19,6 +19,10 @@ octave_marks octave = if nat_le 4 octave then replicate (octave - 4) 39 else rep
 abbrev pub lily_pitch : Bool → ℕ → List ℕ
 lily_pitch flats k = slice_index_or (names flats) (k % 12) [] ++ octave_marks (k / 12)
 
+-- those of the keys of a chord, by rising key
+abbrev pub lily_pitches : Bool → ℕ → List (List ℕ)
+lily_pitches flats keys = map (lily_pitch flats) (rising_keys keys)
+
 -- one pitch stands alone, several between angles with a space between two
 abbrev pub pitches_text : List (List ℕ) → List ℕ
 pitches_text (lily_pitch ∷ []) = lily_pitch
@@ -26,4 +30,4 @@ pitches_text pitches = codes "<" ++ join_with_byte 32 pitches ++ codes ">"
 
 -- the pitches of a chord, by rising key
 abbrev pub lily_chord : Bool → ℕ → List ℕ
-lily_chord flats keys = pitches_text (map (lily_pitch flats) (rising_keys keys))
+lily_chord flats keys = pitches_text (lily_pitches flats keys)

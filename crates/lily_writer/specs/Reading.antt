@@ -8,9 +8,9 @@ use Rattle.rhythm_base.specs.declared.span.Frac.{Frac}
 use Rattle.rhythm_base.specs.declared.span.Span.{Span}
 use Rattle.voice_events.specs.declared.event.KernEvent.{KernEvent}
 use Rattle.voice_events.specs.Events.{span_event}
-use Rattle.kern_reader.specs.Lines.{signature_of_numbers}
-use Rattle.kern_reader.specs.Text.{kern_lines}
-use Rattle.kern_reader.specs.Tokens.{◌>>=◌}
+use Rattle.text_words.specs.TimeSignatures.{signature_of_numbers}
+use Rattle.text_words.specs.Lines.{text_lines}
+use Rattle.text_words.specs.Steps.{◌>>=◌}
 use Rattle.lily_writer.specs.Fractions.{frac, frac_plus, same_frac}
 use Rattle.lily_writer.specs.Hearing.{HeardVoice, hear_words, is_between, is_none, unheard}
 use Rattle.lily_writer.specs.Pitches.{words}
@@ -89,4 +89,4 @@ after_head (first ∷ second ∷ third ∷ lines) =
 after_head _ = None
 
 unfoldable pub lily_events : List ℕ → Option (List KernEvent)
-lily_events text = after_head (kern_lines text) >>= events_of_lines 1 None
+lily_events text = after_head (text_lines text) >>= events_of_lines 1 None

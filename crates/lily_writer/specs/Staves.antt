@@ -7,7 +7,7 @@ use Rattle.derivation.specs.declared.score.ScoreBar.{ScoreBar}
 use Rattle.voice_events.specs.declared.event.KernEvent.{KernEvent}
 use Rattle.score_words.specs.Changes.{has_flats}
 use Rattle.voice_events.specs.Parts.{score_bar_parts, score_parts}
-use Rattle.lily_writer.specs.Changes.{lily_changes}
+use Rattle.score_words.specs.LilyChanges.{lily_changes}
 use Rattle.lily_writer.specs.Elements.{Element, elements_text}
 use Rattle.lily_writer.specs.Pieces.{AreElements, Stretch, bar_pieces, stretches}
 

@@ -4,10 +4,8 @@ use Rattle.std.specs.List.{flat_map, range_with_len}
 use Rattle.rhythm_base.specs.Lists.{Each}
 use Rattle.derivation.specs.declared.score.ScoreBar.{ScoreBar}
 use Rattle.voice_events.specs.declared.event.KernEvent.{KernEvent}
+use Rattle.score_words.specs.TextLines.{lines_text}
 use Rattle.lily_writer.specs.Staves.{AreStaffLines, voice_spans}
-
-abbrev pub lines_text : List (List ℕ) → List ℕ
-lines_text lines = flat_map (λ line. line ++ (10 ∷ [])) lines
 
 abbrev pub page_head : List (List ℕ)
 page_head = codes "\\version \"2.24.0\"" ∷ codes "\\score {" ∷ codes "<<" ∷ []

@@ -3,7 +3,7 @@ use Rattle.std.specs.Prelude.{ℕ, ◌/◌, ◌==◌, nat_le, if◌then◌else�
 use Rattle.durations.specs.declared.value.Recip.{Recip}
 use Rattle.durations.specs.declared.value.Recip.TheVariants.{Of, Breve, Long}
 use Rattle.durations.specs.declared.value.Value.{Value}
-use Rattle.kern_reader.specs.Columns.{gcd}
+use Rattle.text_words.specs.Divisors.{gcd}
 
 -- 1/n of a whole note is written by the largest power of two that is at most n, up to 64
 abbrev pub written_part : ℕ → ℕ

@@ -6,8 +6,10 @@ use Rattle.std.specs.Option.{option_map}
 use Rattle.std.specs.Str.{bytes_eq}
 use Rattle.rhythm_base.specs.declared.span.Frac.{Frac}
 use Rattle.rhythm_base.specs.Signatures.{is_den}
-use Rattle.kern_reader.specs.Text.{begins_with}
-use Rattle.kern_reader.specs.Tokens.{◌>>=◌, are_dots, number_of, within_keys}
+use Rattle.text_words.specs.Lines.{begins_with}
+use Rattle.text_words.specs.Steps.{◌>>=◌}
+use Rattle.text_words.specs.Marks.{are_dots}
+use Rattle.text_words.specs.Numbers.{number_of, within_keys}
 use Rattle.lily_writer.specs.Fractions.{frac, frac_times}
 use Rattle.lily_writer.specs.Pitches.{names}
 

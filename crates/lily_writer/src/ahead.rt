@@ -1,10 +1,10 @@
-ghost use Rattle.lily_writer.specs.Pieces.{bar_pieces};
-ghost use Rattle.lily_writer.specs.Writing.{EndsAfter, HasPassed, HasWrittenBar, IsAhead, WritesPieces, stretches_ahead};
-ghost use Rattle.std.specs.Prelude.{◌+◌, ◌*◌, ◌≤◌, IfOk, OnOk};
+ghost use Rattle.lily_writer.specs.Writing.{EndsAfter, IsAhead, PassesEnded, WritesBar, WritesFront};
+ghost use Rattle.std.specs.Prelude.{◌+◌, ◌*◌, ◌≤◌, IfOk};
 
 use crate::extent::Extent;
 use crate::piece::{write_gap, write_span};
 use crate::place::extent_of;
+use rhythm_base::Units;
 use std::alloc::{AllocError, Global};
 use std::marker::Model;
 use voice_events::KernEvent;
@@ -33,13 +33,13 @@ fn write_ended<'a>(
     alloc: Global,
     text: &mut Vec<u8>,
     flats: bool,
-    resolution: u16,
+    resolution: Units,
     bar: Extent,
     ahead: Ahead<'a>,
 ) -> Result<Ahead<'a>, AllocError>
     requires ahead { IsAhead resolution ahead }
     requires few { bar.to ≤ bar.from + 64 * (64 * resolution) }
-    ensures passed { IfOk result (λ a. HasPassed resolution bar.from bar.to flats ahead.entry a text.old.items text.new.items) }
+    ensures passed { PassesEnded resolution flats bar ahead.entry text.old result text.new }
     ensures next { IfOk result (λ a. EndsAfter resolution bar.to a.spans) }
 {
     let Ahead {
@@ -69,15 +69,14 @@ fn write_front(
     alloc: Global,
     text: &mut Vec<u8>,
     flats: bool,
-    resolution: u16,
+    resolution: Units,
     bar: Extent,
     ahead: &Ahead,
 ) -> Result<(), AllocError>
     requires ahead { IsAhead resolution ahead.now }
     requires next { EndsAfter resolution bar.to ahead.now.spans }
     requires few { bar.to ≤ bar.from + 64 * (64 * resolution) }
-    ensures { OnOk result (WritesPieces resolution flats (bar_pieces bar.from bar.to (stretches_ahead resolution ahead.now))
-        text.old.items text.new.items) }
+    ensures { WritesFront resolution flats bar ahead.now text.old result text.new }
 {
     match ahead.events {
         [] => {
@@ -103,13 +102,13 @@ pub(crate) fn write_bar<'a>(
     alloc: Global,
     text: &mut Vec<u8>,
     flats: bool,
-    resolution: u16,
+    resolution: Units,
     bar: Extent,
     ahead: Ahead<'a>,
 ) -> Result<Ahead<'a>, AllocError>
     requires ahead { IsAhead resolution ahead }
     requires few { bar.to ≤ bar.from + 64 * (64 * resolution) }
-    ensures { IfOk result (λ a. HasWrittenBar resolution bar.from bar.to flats ahead.entry a text.old.items text.new.items) }
+    ensures { WritesBar resolution flats bar ahead.entry text.old result text.new }
 {
     let after = write_ended(alloc, text, flats, resolution, bar, ahead)?;
     write_front(alloc, text, flats, resolution, bar, &after)?;

@@ -1,9 +1,11 @@
-ghost use Rattle.lily_writer.specs.Elements.{element_text, elements_text, lily_grace, note_value, rest_value, lily_short, lily_tie};
+ghost use Rattle.lily_writer.specs.Elements.{lily_grace, note_value, spaced, lily_short, lily_tie};
 ghost use Rattle.lily_writer.specs.Pieces as pieces;
-ghost use Rattle.lily_writer.specs.Pieces.{first_graces, grace_elements};
+ghost use Rattle.lily_writer.specs.Pieces.{first_graces, grace_elements, notes};
 ghost use Rattle.durations.specs.Value.{plain_grid};
 ghost use Rattle.std.specs.List.{flat_map};
-ghost use Rattle.std.specs.Prelude.{◌≡◌, ◌≤◌, ◌++◌, All, Bool, OnOk, codes, map};
+ghost use Rattle.lily_writer.specs.Writing.{WritesElements, WritesRests};
+ghost use Rattle.score_words.specs.Writing.{Writes};
+ghost use Rattle.std.specs.Prelude.{◌≡◌, ◌≤◌, ◌++◌, All};
 
 use crate::chord::push_chord;
 use crate::value_text::push_value;
@@ -13,7 +15,7 @@ use std::alloc::AllocError;
 
 /// Appends the marks of a value of a chord: of the first one of a short chord, and of one that is tied to the next.
 fn push_marks(text: &mut Vec<u8>, short: bool, tied: bool) -> Result<(), AllocError>
-    ensures { OnOk result (text.new.items ≡ text.old.items ++ (lily_short short ++ lily_tie tied)) }
+    ensures { Writes (lily_short short ++ lily_tie tied) text.old result text.new }
 {
     if short {
         text.extend_from_slice(b"-.")?;
@@ -25,7 +27,7 @@ fn push_marks(text: &mut Vec<u8>, short: bool, tied: bool) -> Result<(), AllocEr
 }
 
 /// Appends a value of a chord, and a space.
-fn push_note(
+fn push_chord_value(
     text: &mut Vec<u8>,
     flats: bool,
     keys: Keys,
@@ -34,7 +36,7 @@ fn push_note(
     tied: bool,
 ) -> Result<(), AllocError>
     requires { 1 ≤ plain_grid value.recip }
-    ensures { OnOk result (text.new.items ≡ text.old.items ++ (element_text flats (note_value keys value short tied) ++ codes " ")) }
+    ensures { Writes (spaced flats (note_value keys value short tied)) text.old result text.new }
 {
     push_chord(text, flats, keys)?;
     push_value(text, value)?;
@@ -63,12 +65,12 @@ pub(crate) fn push_notes(
     goes_on: bool,
 ) -> Result<(), AllocError>
     requires { All (λ v. 1 ≤ plain_grid v.recip) values.now }
-    ensures { OnOk result (text.new.items ≡ text.old.items ++ elements_text flats (pieces.notes keys short goes_on values.now)) }
+    ensures { WritesElements flats (notes keys short goes_on values.now) text.old result text.new }
 {
     let mut marked = short;
     let mut later = values;
     'values: while let [value, more @ ..] = later {
-        push_note(text, flats, keys, *value, marked, is_tied(goes_on, more))?;
+        push_chord_value(text, flats, keys, *value, marked, is_tied(goes_on, more))?;
         marked = false;
         later = more;
     }
@@ -78,7 +80,7 @@ pub(crate) fn push_notes(
 /// Appends values of a rest, with a space after each.
 pub(crate) fn push_rests(text: &mut Vec<u8>, values: &[Value]) -> Result<(), AllocError>
     requires { All (λ v. 1 ≤ plain_grid v.recip) values.now }
-    ensures { OnOk result ((flats : Bool) → text.new.items ≡ text.old.items ++ elements_text flats (map rest_value values.now)) }
+    ensures { WritesRests values.now text.old result text.new }
 {
     'values: for value in values {
         text.push(b'r')?;
@@ -90,7 +92,7 @@ pub(crate) fn push_rests(text: &mut Vec<u8>, values: &[Value]) -> Result<(), All
 
 /// Appends grace chords as eighths, with a space after each.
 fn push_grace_chords(text: &mut Vec<u8>, flats: bool, chords: &[Keys]) -> Result<(), AllocError>
-    ensures { OnOk result (text.new.items ≡ text.old.items ++ flat_map (lily_grace flats) chords.now) }
+    ensures { Writes (flat_map (lily_grace flats) chords.now) text.old result text.new }
 {
     'chords: for keys in chords {
         push_chord(text, flats, *keys)?;
@@ -101,7 +103,7 @@ fn push_grace_chords(text: &mut Vec<u8>, flats: bool, chords: &[Keys]) -> Result
 
 /// Appends grace chords in their braces, and a space, where there are some.
 fn push_graces(text: &mut Vec<u8>, flats: bool, chords: &[Keys]) -> Result<(), AllocError>
-    ensures { OnOk result (text.new.items ≡ text.old.items ++ elements_text flats (grace_elements chords.now)) }
+    ensures { WritesElements flats (grace_elements chords.now) text.old result text.new }
 {
     if chords.is_empty() {
         return Ok(());
@@ -118,7 +120,7 @@ pub(crate) fn push_first_graces(
     begins: bool,
     span: &Span,
 ) -> Result<(), AllocError>
-    ensures { OnOk result (text.new.items ≡ text.old.items ++ elements_text flats (first_graces begins span.now)) }
+    ensures { WritesElements flats (first_graces begins span.now) text.old result text.new }
 {
     if begins {
         push_graces(text, flats, span.graces.as_slice())

@@ -5,7 +5,6 @@
 #![tactic(auto)]
 
 mod ahead;
-mod changes;
 mod chord;
 mod elements;
 mod extent;

@@ -6,6 +6,7 @@ ghost use Rattle.voice_events.specs.Writable.{IsWritable};
 
 use crate::staff::write_staff;
 use derivation::ScoreBar;
+use rhythm_base::Units;
 use std::alloc::{AllocError, Global};
 use voice_events::KernEvent;
 
@@ -32,12 +33,13 @@ pub fn write_lily(
     requires events { AreVoiceEvents resolution bars.now voices events.now }
     ensures { IfOk result (λ v. IsLilyText resolution bars.now voices events.now v.items) }
 {
+    let units = Units::of(resolution);
     let mut text = Vec::new(alloc);
     text.extend_from_slice(b"\\version \"2.24.0\"\n\\score {\n<<\n")?;
     let mut later = events;
     'staves: for voice in 0..voices {
         let (own, others) = later.split_at(own_count(later, voice + 1));
-        write_staff(alloc, &mut text, resolution, bars, voice == 0, own)?;
+        write_staff(alloc, &mut text, units, bars, voice == 0, own)?;
         later = others;
     }
     text.extend_from_slice(b">>\n}\n")?;

@@ -1,17 +1,15 @@
 ghost use Rattle.derivation.specs.Score.{IsScoreBar};
-ghost use Rattle.lily_writer.specs.Pieces.{stretches};
-ghost use Rattle.lily_writer.specs.Staves.{AreBarsOfStaff, AreStaffLines, spans_of};
-ghost use Rattle.lily_writer.specs.Text.{lines_text};
-ghost use Rattle.rhythm_base.specs.declared.limits.TheConstants.{MOST_UNITS};
-ghost use Rattle.std.specs.Prelude.{◌≡◌, ◌^◌, ◌≤◌, ◌++◌, ℕ, List, None, All, OnOk, length};
+ghost use Rattle.lily_writer.specs.Staves.{spans_of};
+ghost use Rattle.lily_writer.specs.Writing.{WritesBars, WritesStaff};
+ghost use Rattle.std.specs.Prelude.{◌^◌, ◌≤◌, All, length};
 ghost use Rattle.voice_events.specs.Parts as parts;
 ghost use Rattle.voice_events.specs.VoiceEvents.{AreOfVoice};
 
 use crate::ahead::{Ahead, write_bar};
-use crate::changes::write_changes;
 use crate::extent::Extent;
 use derivation::ScoreBar;
-use score_words::has_flats;
+use rhythm_base::Units;
+use score_words::{has_flats, write_lily_changes};
 use std::alloc::{AllocError, Global};
 use voice_events::{KernEvent, score_bar_parts, score_parts};
 
@@ -19,31 +17,27 @@ use voice_events::{KernEvent, score_bar_parts, score_parts};
 fn write_bars(
     alloc: Global,
     text: &mut Vec<u8>,
-    resolution: u16,
+    resolution: Units,
     bars: &[ScoreBar],
     first: bool,
     events: &[KernEvent],
 ) -> Result<(), AllocError>
-    requires some_unit { 1 ≤ resolution }
-    requires few_units { resolution ≤ MOST_UNITS }
     requires bars { All IsScoreBar bars.now }
     requires few_bars { length bars.now ≤ 2 ^ 32 }
     requires events { AreOfVoice resolution (parts.score_parts resolution bars.now) (spans_of events.now) }
-    ensures { OnOk result ((lines : List (List ℕ))
-        × AreBarsOfStaff resolution first (stretches resolution 0 (parts.score_parts resolution bars.now) (spans_of events.now))
-        None 0 bars.now lines
-        × (text.new.items ≡ text.old.items ++ lines_text lines)) }
+    ensures { WritesBars resolution first bars.now (spans_of events.now) text.old result text.new }
 {
+    let units = resolution.count();
     let mut ahead = Ahead {
         events,
         at: 0,
-        end: score_parts(bars, resolution),
+        end: score_parts(bars, units),
     };
     let mut from = 0;
     let mut before = None;
     'bars: for bar in bars {
-        write_changes(text, first, before, bar)?;
-        let to = from + score_bar_parts(bar, resolution);
+        write_lily_changes(text, first, before, bar)?;
+        let to = from + score_bar_parts(bar, units);
         let extent = Extent { from, to };
         ahead = write_bar(alloc, text, has_flats(bar), resolution, extent, ahead)?;
         text.extend_from_slice(b"|\n")?;
@@ -57,18 +51,15 @@ fn write_bars(
 pub(crate) fn write_staff(
     alloc: Global,
     text: &mut Vec<u8>,
-    resolution: u16,
+    resolution: Units,
     bars: &[ScoreBar],
     first: bool,
     events: &[KernEvent],
 ) -> Result<(), AllocError>
-    requires some_unit { 1 ≤ resolution }
-    requires few_units { resolution ≤ MOST_UNITS }
     requires bars { All IsScoreBar bars.now }
     requires few_bars { length bars.now ≤ 2 ^ 32 }
     requires events { AreOfVoice resolution (parts.score_parts resolution bars.now) (spans_of events.now) }
-    ensures { OnOk result ((lines : List (List ℕ)) × AreStaffLines resolution bars.now first (spans_of events.now) lines
-        × (text.new.items ≡ text.old.items ++ lines_text lines)) }
+    ensures { WritesStaff resolution first bars.now (spans_of events.now) text.old result text.new }
 {
     text.extend_from_slice(b"\\new Staff {\n")?;
     write_bars(alloc, text, resolution, bars, first, events)?;

@@ -1,7 +1,8 @@
 ghost use Rattle.lily_writer.specs.Values as definitions;
 ghost use Rattle.lily_writer.specs.Values.{base_text, scale_of_part, scale_text, lily_value};
 ghost use Rattle.durations.specs.Value.{plain_grid};
-ghost use Rattle.std.specs.Prelude.{◌≡◌, ◌≤◌, ◌++◌, OnOk};
+ghost use Rattle.score_words.specs.Writing.{Writes};
+ghost use Rattle.std.specs.Prelude.{◌≡◌, ◌≤◌};
 
 use durations::{Length, Recip, Value, lowest};
 use score_words::{push_number, push_times};
@@ -26,7 +27,7 @@ fn written_part(number: u32) -> u64
 /// Appends the scale that makes 1/`part` to 1/`number`, where they are not one.
 fn push_scale(text: &mut Vec<u8>, part: u64, number: u64) -> Result<(), AllocError>
     requires { 1 ≤ number }
-    ensures { OnOk result (text.new.items ≡ text.old.items ++ scale_of_part part number) }
+    ensures { Writes (scale_of_part part number) text.old result text.new }
 {
     if part == number {
         return Ok(());
@@ -43,7 +44,7 @@ fn push_scale(text: &mut Vec<u8>, part: u64, number: u64) -> Result<(), AllocErr
 
 /// Appends the word or the number of a value.
 fn push_base(text: &mut Vec<u8>, recip: Recip) -> Result<(), AllocError>
-    ensures { OnOk result (text.new.items ≡ text.old.items ++ base_text recip) }
+    ensures { Writes (base_text recip) text.old result text.new }
 {
     match recip {
         Recip::Of(number) => push_number(text, written_part(number)),
@@ -55,7 +56,7 @@ fn push_base(text: &mut Vec<u8>, recip: Recip) -> Result<(), AllocError>
 /// Appends a value.
 pub(crate) fn push_value(text: &mut Vec<u8>, value: Value) -> Result<(), AllocError>
     requires { 1 ≤ plain_grid value.recip }
-    ensures { OnOk result (text.new.items ≡ text.old.items ++ lily_value value) }
+    ensures { Writes (lily_value value) text.old result text.new }
 {
     push_base(text, value.recip)?;
     push_times(text, b'.', value.dots)?;

@@ -1,5 +1,5 @@
 -- A score has one text.
-use Rattle.std.proofs.Common.{◌≡◌, ℕ, List, refl, sym, ap, ◌∙◌}
+use Rattle.std.proofs.Common.{List, refl, sym, ap, ◌∙◌}
 use Rattle.notation.proofs.ScoreGroups.{some_written, written_one}
 use Rattle.notation.specs.Notes.{Group}
 use Rattle.musicxml_writer.specs.Laws.{TextsAreOne, TextsExist}

@@ -22,6 +22,10 @@ key_change before (Some sf) = text_if (not (same_key before sf)) (element (codes
 unfoldable pub time : ScoreBar → List ℕ
 time bar = element (codes "time") (element (codes "beats") (decimal bar.num) ++ element (codes "beat-type") (decimal bar.den))
 
+-- a signature is said where it is not the one before
+abbrev pub time_change : Option ScoreBar → ScoreBar → List ℕ
+time_change before bar = text_if (not (same_signature before bar)) (time bar)
+
 abbrev pub sign_text : Clef → List ℕ
 sign_text BassBelow = codes "F"
 sign_text Bass = codes "F"
@@ -59,7 +63,7 @@ unfoldable pub attributes : Part → Option ScoreBar → ScoreBar → List ℕ
 attributes part before bar =
     text_if (is_none before) (divisions part.resolution)
     ++ key_change (key_before before) bar.sf
-    ++ text_if (not (same_signature before bar)) (time bar)
+    ++ time_change before bar
     ++ text_if (is_none before) (clef_text part.clef)
 
 -- the line stands where the key or the signature changes, and so in the first bar, before which there is no signature
@@ -72,12 +76,16 @@ attributes_line part before bar =
 unfoldable pub metronome : ℕ → List ℕ
 metronome quarters = element (codes "metronome") (element (codes "beat-unit") (codes "quarter") ++ element (codes "per-minute") (decimal quarters))
 
+-- quarter notes of a minute as what sounds
+abbrev pub sounding_tempo : ℕ → List ℕ
+sounding_tempo quarters = empty_with (codes "sound") (codes "tempo") (decimal quarters)
+
 -- quarter notes of a minute, as a mark and as what sounds
 unfoldable pub tempo_text : ℕ → List ℕ
 tempo_text quarters =
     opening_with (codes "direction") (codes "placement") (codes "above")
     ++ element (codes "direction-type") (metronome quarters)
-    ++ empty_with (codes "sound") (codes "tempo") (decimal quarters)
+    ++ sounding_tempo quarters
     ++ closing (codes "direction")
 
 -- tempos are said in the first part alone. One that is rounded to the same number has not changed

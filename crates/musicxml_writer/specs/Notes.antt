@@ -1,6 +1,6 @@
 -- The lines of a note: of each key of a chord, each key of its grace chords, or a rest.
 use Rattle.rhythm_base.specs.declared.limits.TheConstants.{MOST_UNITS}
-use Rattle.std.specs.Prelude.{ℕ, ◌≤◌, ◌==◌, Bool, true, false, not, if◌then◌else◌, List, [], ◌∷◌, ◌++◌, codes, decimal, IfSome}
+use Rattle.std.specs.Prelude.{ℕ, ◌≤◌, ◌==◌, Bool, true, false, not, ◌&&◌, ◌||◌, if◌then◌else◌, List, [], ◌∷◌, ◌++◌, codes, decimal, IfSome}
 use Rattle.std.specs.List.{flat_map}
 use Rattle.derivation.specs.Score.{IsKeySignature}
 use Rattle.score_words.specs.Keys.{rising_keys}
@@ -38,6 +38,10 @@ short_mark short = text_if short (element (codes "articulations") (empty_element
 -- what is drawn at a key: what is said of the whole chord stands at its lowest key alone
 unfoldable pub key_marks : Bracket → Note → Bool → List ℕ
 key_marks bracket n lowest = tie_ends (codes "tied") n ++ text_if lowest (bracket_ends bracket ++ short_mark n.short)
+
+-- something is drawn there
+abbrev pub is_marked : Bracket → Note → Bool → Bool
+is_marked bracket n lowest = n.comes || n.goes || (lowest && (bracket.starts || bracket.stops || n.short))
 
 abbrev pub notations : List ℕ → List ℕ
 notations marks = some_element (codes "notations") marks

@@ -1,5 +1,5 @@
 -- The MusicXML text of a score: the list of its parts, and the parts, one for each voice.
-use Rattle.std.specs.Prelude.{◌≡◌, ℕ, ◌+◌, List, [], ◌∷◌, ◌++◌, codes, decimal}
+use Rattle.std.specs.Prelude.{◌≡◌, ℕ, ◌+◌, List, [], ◌∷◌, ◌++◌, codes, decimal, OnOk, Result, Vec}
 use Rattle.rhythm_base.specs.declared.sound.Sound.{Sound}
 use Rattle.rhythm_base.specs.Lists.{Each}
 use Rattle.derivation.specs.Score.{Score}
@@ -24,6 +24,10 @@ channel_name channel = codes "Channel " ++ decimal channel
 -- a part has one instrument
 abbrev pub instrument_name : ℕ → List ℕ
 instrument_name number = part_name number ++ codes "-I1"
+
+-- what opens an element of it
+abbrev pub instrument_start : List ℕ → ℕ → List ℕ
+instrument_start name number = opening_with name (codes "id") (instrument_name number)
 
 -- which has the name of its channel
 unfoldable pub named_instrument : ℕ → ℕ → List ℕ
@@ -64,6 +68,12 @@ parts_text resolution bars number [] written = []
 parts_text resolution bars number (sounds ∷ voices) [] = []
 parts_text resolution bars number (sounds ∷ voices) (all ∷ written) =
     part_text resolution number bars sounds all ++ parts_text resolution bars (number + 1) voices written
+
+-- they stand after a text, unless there was not enough memory
+abbrev pub WritesParts : {A X E : Type 0} → ℕ → List ScoreBar → List (List Sound) → Vec ℕ A → Result X E → Vec ℕ A → Type 0
+WritesParts resolution bars voices before result after =
+    OnOk result ((written : List (List (List Group))) × Each (AreVoiceGroups resolution 0 bars) voices written
+    × (after.items ≡ before.items ++ parts_text resolution bars 1 voices written))
 
 -- ---- the whole
 

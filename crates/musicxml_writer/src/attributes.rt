@@ -1,8 +1,9 @@
 ghost use Rattle.musicxml_writer.specs.Attributes as definitions;
-ghost use Rattle.musicxml_writer.specs.Attributes.{attributes, attributes_line, clef_text, divisions, is_none, key_change, time};
+ghost use Rattle.musicxml_writer.specs.Attributes.{attributes, attributes_line, clef_text, divisions, is_none, key_change, time, time_change};
 ghost use Rattle.musicxml_writer.specs.Elements.{text_if};
 ghost use Rattle.score_words.specs.Changes.{same_signature};
-ghost use Rattle.std.specs.Prelude.{◌≡◌, ◌++◌, OnOk, not};
+ghost use Rattle.score_words.specs.Writing.{Writes};
+ghost use Rattle.std.specs.Prelude.{◌≡◌, not};
 
 use crate::elements::{close, close_line, open, push_count, push_signed, push_some, push_words};
 use crate::part::Part;
@@ -18,7 +19,7 @@ fn push_divisions(
     resolution: u16,
     before: Option<ScoreBar>,
 ) -> Result<(), AllocError>
-    ensures { OnOk result (text.new.items ≡ text.old.items ++ text_if (is_none before) (divisions resolution)) }
+    ensures { Writes (text_if (is_none before) (divisions resolution)) text.old result text.new }
 {
     match before {
         None => push_count(text, "divisions", 16 * u64::from(resolution)),
@@ -43,7 +44,7 @@ fn push_key_change(
     before: Option<i8>,
     key: Option<i8>,
 ) -> Result<(), AllocError>
-    ensures { OnOk result (text.new.items ≡ text.old.items ++ key_change before key) }
+    ensures { Writes (key_change before key) text.old result text.new }
 {
     match key {
         Some(sf) if !is_same_key(before, sf) => {
@@ -62,7 +63,7 @@ fn push_time_change(
     before: Option<ScoreBar>,
     bar: &ScoreBar,
 ) -> Result<(), AllocError>
-    ensures { OnOk result (text.new.items ≡ text.old.items ++ text_if (not (same_signature before bar.now)) (time bar.now)) }
+    ensures { Writes (time_change before bar.now) text.old result text.new }
 {
     if is_same_signature(before, bar) {
         return Ok(());
@@ -107,7 +108,7 @@ fn octave_text(clef: Clef) -> &'static str
 /// Appends the element of a clef.
 #[tactic(auto, unfolding(crate::specs::Elements::element, crate::specs::Attributes::clef_text))]
 fn push_clef(text: &mut Vec<u8>, clef: Clef) -> Result<(), AllocError>
-    ensures { OnOk result (text.new.items ≡ text.old.items ++ clef_text clef) }
+    ensures { Writes (clef_text clef) text.old result text.new }
 {
     open(text, "clef")?;
     push_words(text, "sign", sign_text(clef))?;
@@ -124,7 +125,7 @@ fn push_attributes(
     before: Option<ScoreBar>,
     bar: &ScoreBar,
 ) -> Result<(), AllocError>
-    ensures { OnOk result (text.new.items ≡ text.old.items ++ attributes part before bar.now) }
+    ensures { Writes (attributes part before bar.now) text.old result text.new }
 {
     push_divisions(text, part.resolution, before)?;
     push_key_change(text, key_before(before), bar.sf)?;
@@ -143,7 +144,7 @@ pub(crate) fn push_attributes_line(
     before: Option<ScoreBar>,
     bar: &ScoreBar,
 ) -> Result<(), AllocError>
-    ensures { OnOk result (text.new.items ≡ text.old.items ++ attributes_line part before bar.now) }
+    ensures { Writes (attributes_line part before bar.now) text.old result text.new }
 {
     if !changes_key(key_before(before), bar.sf) && is_same_signature(before, bar) {
         return Ok(());

@@ -3,7 +3,8 @@ ghost use Rattle.musicxml_writer.specs.Bars.{bar_notes, bar_rest, group_text, no
 ghost use Rattle.derivation.specs.Score.{IsKeySignature, IsScoreBar};
 ghost use Rattle.rhythm_base.specs.declared.limits.TheConstants.{MOST_UNITS};
 ghost use Rattle.std.specs.List.{flat_map};
-ghost use Rattle.std.specs.Prelude.{◌≡◌, ◌≤◌, ◌++◌, All, IfSome, OnOk};
+ghost use Rattle.score_words.specs.Writing.{Writes};
+ghost use Rattle.std.specs.Prelude.{◌≡◌, ◌≤◌, All, IfSome};
 
 use crate::elements::{close_line, open, push_count, push_empty_with};
 use crate::marks::{Bracket, Setting};
@@ -32,7 +33,7 @@ fn set(sf: Option<i8>, ratio: Ratio, first: bool, last: bool) -> Setting
 fn push_group(text: &mut Vec<u8>, sf: Option<i8>, group: &Group<'_>) -> Result<(), AllocError>
     requires sf { IfSome sf IsKeySignature }
     requires actual { group.now.ratio.actual ≤ MOST_UNITS }
-    ensures { OnOk result (text.new.items ≡ text.old.items ++ group_text sf group.now) }
+    ensures { Writes (group_text sf group.now) text.old result text.new }
 {
     let notes = group.notes.as_slice();
     'notes: for (number, note) in notes.iter().enumerate() {
@@ -46,7 +47,7 @@ fn push_group(text: &mut Vec<u8>, sf: Option<i8>, group: &Group<'_>) -> Result<(
 #[tactic(auto, unfolding(crate::specs::Elements::element, crate::specs::Bars::bar_rest))]
 fn push_bar_rest(text: &mut Vec<u8>, resolution: u16, bar: &ScoreBar) -> Result<(), AllocError>
     requires { IsScoreBar bar.now }
-    ensures { OnOk result (text.new.items ≡ text.old.items ++ bar_rest resolution bar.now) }
+    ensures { Writes (bar_rest resolution bar.now) text.old result text.new }
 {
     let length = 64 * u64::from(resolution) * u64::from(bar.num) / u64::from(bar.den);
     open(text, "note")?;
@@ -59,7 +60,7 @@ fn push_bar_rest(text: &mut Vec<u8>, resolution: u16, bar: &ScoreBar) -> Result<
 fn push_groups(text: &mut Vec<u8>, sf: Option<i8>, groups: &[Group<'_>]) -> Result<(), AllocError>
     requires sf { IfSome sf IsKeySignature }
     requires actual { All (λ g. g.ratio.actual ≤ MOST_UNITS) groups.now }
-    ensures { OnOk result (text.new.items ≡ text.old.items ++ flat_map (group_text sf) groups.now) }
+    ensures { Writes (flat_map (group_text sf) groups.now) text.old result text.new }
 {
     'groups: for group in groups {
         push_group(text, sf, group)?;
@@ -77,7 +78,7 @@ pub(crate) fn push_bar_notes(
 ) -> Result<(), AllocError>
     requires bar { IsScoreBar bar.now }
     requires actual { All (λ g. g.ratio.actual ≤ MOST_UNITS) groups.now }
-    ensures { OnOk result (text.new.items ≡ text.old.items ++ bar_notes resolution bar.now groups.now) }
+    ensures { Writes (bar_notes resolution bar.now groups.now) text.old result text.new }
 {
     if groups.is_empty() {
         push_bar_rest(text, resolution, bar)

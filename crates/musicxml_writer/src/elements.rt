@@ -1,6 +1,7 @@
 ghost use Rattle.musicxml_writer.specs.Elements.{attribute_start, closing, element, empty_element, empty_with, opening, opening_with, some_element};
 ghost use Rattle.std.specs.Fmt.{signed_decimal};
-ghost use Rattle.std.specs.Prelude.{◌≡◌, ◌++◌, OnOk, codes, decimal};
+ghost use Rattle.score_words.specs.Writing.{Writes};
+ghost use Rattle.std.specs.Prelude.{◌++◌, codes, decimal};
 
 use itoa::Buffer;
 use score_words::push_number;
@@ -9,7 +10,7 @@ use std::alloc::AllocError;
 /// Appends the tag that opens an element.
 #[tactic(auto, unfolding(crate::specs::Elements::opening))]
 pub(crate) fn open(text: &mut Vec<u8>, name: &str) -> Result<(), AllocError>
-    ensures { OnOk result (text.new.items ≡ text.old.items ++ opening name.now) }
+    ensures { Writes (opening name.now) text.old result text.new }
 {
     text.push(b'<')?;
     text.extend_from_slice(name.as_bytes())?;
@@ -20,7 +21,7 @@ pub(crate) fn open(text: &mut Vec<u8>, name: &str) -> Result<(), AllocError>
 /// Appends the tag that closes an element.
 #[tactic(auto, unfolding(crate::specs::Elements::closing))]
 pub(crate) fn close(text: &mut Vec<u8>, name: &str) -> Result<(), AllocError>
-    ensures { OnOk result (text.new.items ≡ text.old.items ++ closing name.now) }
+    ensures { Writes (closing name.now) text.old result text.new }
 {
     text.extend_from_slice(b"</")?;
     text.extend_from_slice(name.as_bytes())?;
@@ -30,7 +31,7 @@ pub(crate) fn close(text: &mut Vec<u8>, name: &str) -> Result<(), AllocError>
 
 /// Appends the tag that closes an element, and ends the line.
 pub(crate) fn close_line(text: &mut Vec<u8>, name: &str) -> Result<(), AllocError>
-    ensures { OnOk result (text.new.items ≡ text.old.items ++ (closing name.now ++ codes "\n")) }
+    ensures { Writes (closing name.now ++ codes "\n") text.old result text.new }
 {
     close(text, name)?;
     text.push(b'\n')?;
@@ -44,7 +45,7 @@ pub(crate) fn start_attribute(
     name: &str,
     attribute: &str,
 ) -> Result<(), AllocError>
-    ensures { OnOk result (text.new.items ≡ text.old.items ++ attribute_start name.now attribute.now) }
+    ensures { Writes (attribute_start name.now attribute.now) text.old result text.new }
 {
     text.push(b'<')?;
     text.extend_from_slice(name.as_bytes())?;
@@ -55,7 +56,7 @@ pub(crate) fn start_attribute(
 
 /// Appends the end of a tag after the value of its attribute.
 pub(crate) fn end_opening(text: &mut Vec<u8>) -> Result<(), AllocError>
-    ensures { OnOk result (text.new.items ≡ text.old.items ++ codes "\">") }
+    ensures { Writes (codes "\">") text.old result text.new }
 {
     text.extend_from_slice(b"\">")
 }
@@ -68,7 +69,7 @@ pub(crate) fn open_with(
     attribute: &str,
     value: &str,
 ) -> Result<(), AllocError>
-    ensures { OnOk result (text.new.items ≡ text.old.items ++ opening_with name.now attribute.now value.now) }
+    ensures { Writes (opening_with name.now attribute.now value.now) text.old result text.new }
 {
     start_attribute(text, name, attribute)?;
     text.extend_from_slice(value.as_bytes())?;
@@ -78,7 +79,7 @@ pub(crate) fn open_with(
 /// Appends an empty element.
 #[tactic(auto, unfolding(crate::specs::Elements::empty_element))]
 pub(crate) fn push_empty(text: &mut Vec<u8>, name: &str) -> Result<(), AllocError>
-    ensures { OnOk result (text.new.items ≡ text.old.items ++ empty_element name.now) }
+    ensures { Writes (empty_element name.now) text.old result text.new }
 {
     text.push(b'<')?;
     text.extend_from_slice(name.as_bytes())?;
@@ -93,7 +94,7 @@ pub(crate) fn push_empty_with(
     attribute: &str,
     value: &str,
 ) -> Result<(), AllocError>
-    ensures { OnOk result (text.new.items ≡ text.old.items ++ empty_with name.now attribute.now value.now) }
+    ensures { Writes (empty_with name.now attribute.now value.now) text.old result text.new }
 {
     start_attribute(text, name, attribute)?;
     text.extend_from_slice(value.as_bytes())?;
@@ -103,7 +104,7 @@ pub(crate) fn push_empty_with(
 /// Appends an element of words.
 #[tactic(auto, unfolding(crate::specs::Elements::element))]
 pub(crate) fn push_words(text: &mut Vec<u8>, name: &str, words: &str) -> Result<(), AllocError>
-    ensures { OnOk result (text.new.items ≡ text.old.items ++ element name.now words.now) }
+    ensures { Writes (element name.now words.now) text.old result text.new }
 {
     open(text, name)?;
     text.extend_from_slice(words.as_bytes())?;
@@ -113,7 +114,7 @@ pub(crate) fn push_words(text: &mut Vec<u8>, name: &str, words: &str) -> Result<
 /// Appends an element of words, where there are some.
 #[tactic(auto, unfolding(crate::specs::Elements::some_element))]
 pub(crate) fn push_some(text: &mut Vec<u8>, name: &str, words: &str) -> Result<(), AllocError>
-    ensures { OnOk result (text.new.items ≡ text.old.items ++ some_element name.now words.now) }
+    ensures { Writes (some_element name.now words.now) text.old result text.new }
 {
     if words.is_empty() {
         Ok(())
@@ -125,7 +126,7 @@ pub(crate) fn push_some(text: &mut Vec<u8>, name: &str, words: &str) -> Result<(
 /// Appends an element of a number.
 #[tactic(auto, unfolding(crate::specs::Elements::element))]
 pub(crate) fn push_count(text: &mut Vec<u8>, name: &str, number: u64) -> Result<(), AllocError>
-    ensures { OnOk result (text.new.items ≡ text.old.items ++ element name.now (decimal number)) }
+    ensures { Writes (element name.now (decimal number)) text.old result text.new }
 {
     open(text, name)?;
     push_number(text, number)?;
@@ -135,7 +136,7 @@ pub(crate) fn push_count(text: &mut Vec<u8>, name: &str, number: u64) -> Result<
 /// Appends an element of a number that may be below 0.
 #[tactic(auto, unfolding(crate::specs::Elements::element))]
 pub(crate) fn push_signed(text: &mut Vec<u8>, name: &str, number: i8) -> Result<(), AllocError>
-    ensures { OnOk result (text.new.items ≡ text.old.items ++ element name.now (signed_decimal number)) }
+    ensures { Writes (element name.now (signed_decimal number)) text.old result text.new }
 {
     let mut buffer = Buffer::new();
     open(text, name)?;

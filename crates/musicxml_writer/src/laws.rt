@@ -1,11 +1,11 @@
 ghost use Rattle.musicxml_writer.specs.Laws.{TextsAreOne, TextsExist};
 
-/// A score that can be written has at most one MusicXML text.
-pub fn texts_are_one()
-    ensures { TextsAreOne }
-{}
-
-/// It has one.
+/// A score that can be written has a MusicXML text.
 pub fn texts_exist()
     ensures { TextsExist }
+{}
+
+/// It has no other.
+pub fn texts_are_one()
+    ensures { TextsAreOne }
 {}

@@ -1,6 +1,7 @@
-ghost use Rattle.musicxml_writer.specs.Text.{channel_name, instrument_name, listed_part, listed_parts, named_instrument, played_instrument};
+ghost use Rattle.musicxml_writer.specs.Text.{channel_name, instrument_start, listed_part, listed_parts, named_instrument, played_instrument};
 ghost use Rattle.musicxml_writer.specs.Elements.{element, opening_with};
-ghost use Rattle.std.specs.Prelude.{◌≡◌, ◌++◌, OnOk, codes};
+ghost use Rattle.score_words.specs.Writing.{Writes};
+ghost use Rattle.std.specs.Prelude.{codes};
 
 use crate::elements::{close, close_line, end_opening, open, push_count, start_attribute};
 use crate::part::push_part_name;
@@ -10,7 +11,7 @@ use std::alloc::AllocError;
 /// Appends an element of the name of a channel.
 #[tactic(auto, unfolding(crate::specs::Elements::element))]
 fn push_channel_name(text: &mut Vec<u8>, name: &str, channel: u8) -> Result<(), AllocError>
-    ensures { OnOk result (text.new.items ≡ text.old.items ++ element name.now (channel_name channel)) }
+    ensures { Writes (element name.now (channel_name channel)) text.old result text.new }
 {
     open(text, name)?;
     text.extend_from_slice(b"Channel ")?;
@@ -21,7 +22,7 @@ fn push_channel_name(text: &mut Vec<u8>, name: &str, channel: u8) -> Result<(), 
 /// Appends the name of the instrument of a part, in the tag that opens an element.
 #[tactic(auto, unfolding(crate::specs::Elements::opening_with))]
 fn open_instrument(text: &mut Vec<u8>, name: &str, number: u64) -> Result<(), AllocError>
-    ensures { OnOk result (text.new.items ≡ text.old.items ++ opening_with name.now (codes "id") (instrument_name number)) }
+    ensures { Writes (instrument_start name.now number) text.old result text.new }
 {
     start_attribute(text, name, "id")?;
     push_part_name(text, number)?;
@@ -32,7 +33,7 @@ fn open_instrument(text: &mut Vec<u8>, name: &str, number: u64) -> Result<(), Al
 /// Appends the element of the instrument of a part.
 #[tactic(auto, unfolding(crate::specs::Text::named_instrument))]
 fn push_named_instrument(text: &mut Vec<u8>, number: u64, channel: u8) -> Result<(), AllocError>
-    ensures { OnOk result (text.new.items ≡ text.old.items ++ named_instrument number channel) }
+    ensures { Writes (named_instrument number channel) text.old result text.new }
 {
     open_instrument(text, "score-instrument", number)?;
     push_channel_name(text, "instrument-name", channel)?;
@@ -42,7 +43,7 @@ fn push_named_instrument(text: &mut Vec<u8>, number: u64, channel: u8) -> Result
 /// Appends the element of what the instrument of a part plays on.
 #[tactic(auto, unfolding(crate::specs::Text::played_instrument))]
 fn push_played_instrument(text: &mut Vec<u8>, number: u64, channel: u8) -> Result<(), AllocError>
-    ensures { OnOk result (text.new.items ≡ text.old.items ++ played_instrument number channel) }
+    ensures { Writes (played_instrument number channel) text.old result text.new }
 {
     open_instrument(text, "midi-instrument", number)?;
     push_count(text, "midi-channel", u64::from(channel) + 1)?;
@@ -52,7 +53,7 @@ fn push_played_instrument(text: &mut Vec<u8>, number: u64, channel: u8) -> Resul
 /// Appends the line of a part in the list of them.
 #[tactic(auto, unfolding(crate::specs::Elements::opening_with, crate::specs::Text::listed_part))]
 fn push_listed_part(text: &mut Vec<u8>, number: u64, channel: u8) -> Result<(), AllocError>
-    ensures { OnOk result (text.new.items ≡ text.old.items ++ listed_part number channel) }
+    ensures { Writes (listed_part number channel) text.old result text.new }
 {
     start_attribute(text, "score-part", "id")?;
     push_part_name(text, number)?;
@@ -65,7 +66,7 @@ fn push_listed_part(text: &mut Vec<u8>, number: u64, channel: u8) -> Result<(), 
 
 /// Appends the lines of the parts of these channels.
 pub(crate) fn push_listed_parts(text: &mut Vec<u8>, channels: &[u8]) -> Result<(), AllocError>
-    ensures { OnOk result (text.new.items ≡ text.old.items ++ listed_parts 1 channels.now) }
+    ensures { Writes (listed_parts 1 channels.now) text.old result text.new }
 {
     'channels: for (index, channel) in channels.iter().enumerate() {
         push_listed_part(text, index as u64 + 1, *channel)?;

@@ -1,7 +1,8 @@
 ghost use Rattle.musicxml_writer.specs.Elements.{text_if};
 ghost use Rattle.musicxml_writer.specs.Notes as definitions;
 ghost use Rattle.musicxml_writer.specs.Notes.{bracket_ends, key_marks, notations, short_mark, start_tag, stop_tag, tie_ends};
-ghost use Rattle.std.specs.Prelude.{◌≡◌, ◌++◌, ◌&&◌, ◌||◌, OnOk};
+ghost use Rattle.score_words.specs.Writing.{Writes};
+ghost use Rattle.std.specs.Prelude.{◌≡◌, ◌&&◌, ◌||◌};
 
 use crate::elements::{close, open, push_empty, push_empty_with};
 use notation::{Note, Ratio};
@@ -25,7 +26,7 @@ pub(crate) struct Setting {
 
 /// Appends the empty element that says that something starts, where it does.
 fn push_start(text: &mut Vec<u8>, name: &str, starts: bool) -> Result<(), AllocError>
-    ensures { OnOk result (text.new.items ≡ text.old.items ++ text_if starts (start_tag name.now)) }
+    ensures { Writes (text_if starts (start_tag name.now)) text.old result text.new }
 {
     if starts {
         push_empty_with(text, name, "type", "start")
@@ -36,7 +37,7 @@ fn push_start(text: &mut Vec<u8>, name: &str, starts: bool) -> Result<(), AllocE
 
 /// Appends the empty element that says that something stops, where it does.
 fn push_stop(text: &mut Vec<u8>, name: &str, stops: bool) -> Result<(), AllocError>
-    ensures { OnOk result (text.new.items ≡ text.old.items ++ text_if stops (stop_tag name.now)) }
+    ensures { Writes (text_if stops (stop_tag name.now)) text.old result text.new }
 {
     if stops {
         push_empty_with(text, name, "type", "stop")
@@ -52,7 +53,7 @@ pub(crate) fn push_tie_ends(
     name: &str,
     note: &Note<'_>,
 ) -> Result<(), AllocError>
-    ensures { OnOk result (text.new.items ≡ text.old.items ++ tie_ends name.now note.now) }
+    ensures { Writes (tie_ends name.now note.now) text.old result text.new }
 {
     push_stop(text, name, note.comes)?;
     push_start(text, name, note.goes)
@@ -61,7 +62,7 @@ pub(crate) fn push_tie_ends(
 /// Appends the ends of a bracket.
 #[tactic(auto, unfolding(crate::specs::Notes::bracket_ends))]
 fn push_bracket_ends(text: &mut Vec<u8>, bracket: Bracket) -> Result<(), AllocError>
-    ensures { OnOk result (text.new.items ≡ text.old.items ++ bracket_ends bracket) }
+    ensures { Writes (bracket_ends bracket) text.old result text.new }
 {
     push_start(text, "tuplet", bracket.starts)?;
     push_stop(text, "tuplet", bracket.stops)
@@ -70,7 +71,7 @@ fn push_bracket_ends(text: &mut Vec<u8>, bracket: Bracket) -> Result<(), AllocEr
 /// Appends the mark of a short note.
 #[tactic(auto, unfolding(crate::specs::Elements::element, crate::specs::Notes::short_mark))]
 fn push_short(text: &mut Vec<u8>, short: bool) -> Result<(), AllocError>
-    ensures { OnOk result (text.new.items ≡ text.old.items ++ short_mark short) }
+    ensures { Writes (short_mark short) text.old result text.new }
 {
     if short {
         open(text, "articulations")?;
@@ -88,7 +89,7 @@ fn push_key_marks(
     note: &Note<'_>,
     lowest: bool,
 ) -> Result<(), AllocError>
-    ensures { OnOk result (text.new.items ≡ text.old.items ++ key_marks bracket note.now lowest) }
+    ensures { Writes (key_marks bracket note.now lowest) text.old result text.new }
 {
     push_tie_ends(text, "tied", note)?;
     if lowest {
@@ -100,7 +101,7 @@ fn push_key_marks(
 
 /// Whether something is drawn at a key of a chord.
 fn is_marked(bracket: Bracket, note: &Note<'_>, lowest: bool) -> bool
-    ensures { result ≡ (note.now.comes || note.now.goes || (lowest && (bracket.starts || bracket.stops || note.now.short))) }
+    ensures { result ≡ definitions.is_marked bracket note.now lowest }
 {
     note.comes || note.goes || (lowest && (bracket.starts || bracket.stops || note.is_short))
 }
@@ -112,7 +113,7 @@ pub(crate) fn push_key_notations(
     note: &Note<'_>,
     lowest: bool,
 ) -> Result<(), AllocError>
-    ensures { OnOk result (text.new.items ≡ text.old.items ++ notations (key_marks bracket note.now lowest)) }
+    ensures { Writes (notations (key_marks bracket note.now lowest)) text.old result text.new }
 {
     if is_marked(bracket, note, lowest) {
         open(text, "notations")?;
@@ -131,7 +132,7 @@ fn has_ends(bracket: Bracket) -> bool
 
 /// Appends the element of what is drawn at a rest, where something is.
 pub(crate) fn push_rest_notations(text: &mut Vec<u8>, bracket: Bracket) -> Result<(), AllocError>
-    ensures { OnOk result (text.new.items ≡ text.old.items ++ notations (bracket_ends bracket)) }
+    ensures { Writes (notations (bracket_ends bracket)) text.old result text.new }
 {
     if has_ends(bracket) {
         open(text, "notations")?;

@@ -1,6 +1,7 @@
 ghost use Rattle.musicxml_writer.specs.Notes.{IsSetting, chord_mark, chord_text, grace_text, key_text, note_text, rest_text};
 ghost use Rattle.std.specs.List.{flat_map};
-ghost use Rattle.std.specs.Prelude.{◌≡◌, ◌<◌, ◌++◌, OnOk};
+ghost use Rattle.score_words.specs.Writing.{Writes};
+ghost use Rattle.std.specs.Prelude.{◌<◌};
 
 use crate::elements::{close_line, open, push_count, push_empty, push_empty_with, push_words};
 use crate::marks::{Setting, push_key_notations, push_rest_notations, push_tie_ends};
@@ -14,7 +15,7 @@ use std::alloc::AllocError;
 /// Appends the mark of a key that sounds with the one before it.
 #[tactic(auto, unfolding(crate::specs::Notes::chord_mark))]
 fn push_chord_mark(text: &mut Vec<u8>, lowest: bool) -> Result<(), AllocError>
-    ensures { OnOk result (text.new.items ≡ text.old.items ++ chord_mark lowest) }
+    ensures { Writes (chord_mark lowest) text.old result text.new }
 {
     if lowest {
         Ok(())
@@ -34,7 +35,7 @@ fn push_key(
 ) -> Result<(), AllocError>
     requires setting { IsSetting setting }
     requires key { key < 128 }
-    ensures { OnOk result (text.new.items ≡ text.old.items ++ key_text setting note.now lowest key) }
+    ensures { Writes (key_text setting note.now lowest key) text.old result text.new }
 {
     open(text, "note")?;
     push_chord_mark(text, lowest)?;
@@ -49,7 +50,7 @@ fn push_key(
 /// Appends the lines of the keys of a chord, by rising key.
 fn push_chord(text: &mut Vec<u8>, setting: Setting, note: &Note<'_>) -> Result<(), AllocError>
     requires { IsSetting setting }
-    ensures { OnOk result (text.new.items ≡ text.old.items ++ chord_text (key_text setting note.now) note.now.keys) }
+    ensures { Writes (chord_text (key_text setting note.now) note.now.keys) text.old result text.new }
 {
     let mut left = RisingKeys::of(note.keys);
     let mut lowest = true;
@@ -65,7 +66,7 @@ fn push_chord(text: &mut Vec<u8>, setting: Setting, note: &Note<'_>) -> Result<(
 fn push_grace(text: &mut Vec<u8>, setting: Setting, lowest: bool, key: u8) -> Result<(), AllocError>
     requires setting { IsSetting setting }
     requires key { key < 128 }
-    ensures { OnOk result (text.new.items ≡ text.old.items ++ grace_text setting lowest key) }
+    ensures { Writes (grace_text setting lowest key) text.old result text.new }
 {
     open(text, "note")?;
     push_empty_with(text, "grace", "slash", "yes")?;
@@ -78,7 +79,7 @@ fn push_grace(text: &mut Vec<u8>, setting: Setting, lowest: bool, key: u8) -> Re
 /// Appends the lines of a grace chord, by rising key.
 fn push_grace_chord(text: &mut Vec<u8>, setting: Setting, keys: Keys) -> Result<(), AllocError>
     requires { IsSetting setting }
-    ensures { OnOk result (text.new.items ≡ text.old.items ++ chord_text (grace_text setting) keys) }
+    ensures { Writes (chord_text (grace_text setting) keys) text.old result text.new }
 {
     let mut left = RisingKeys::of(keys);
     let mut lowest = true;
@@ -92,7 +93,7 @@ fn push_grace_chord(text: &mut Vec<u8>, setting: Setting, keys: Keys) -> Result<
 /// Appends the lines of grace chords.
 fn push_graces(text: &mut Vec<u8>, setting: Setting, chords: &[Keys]) -> Result<(), AllocError>
     requires { IsSetting setting }
-    ensures { OnOk result (text.new.items ≡ text.old.items ++ flat_map (chord_text (grace_text setting)) chords.now) }
+    ensures { Writes (flat_map (chord_text (grace_text setting)) chords.now) text.old result text.new }
 {
     'chords: for keys in chords {
         push_grace_chord(text, setting, *keys)?;
@@ -104,7 +105,7 @@ fn push_graces(text: &mut Vec<u8>, setting: Setting, chords: &[Keys]) -> Result<
 #[tactic(auto, unfolding(crate::specs::Elements::element, crate::specs::Notes::rest_text))]
 fn push_rest(text: &mut Vec<u8>, setting: Setting, note: &Note<'_>) -> Result<(), AllocError>
     requires { IsSetting setting }
-    ensures { OnOk result (text.new.items ≡ text.old.items ++ rest_text setting note.now) }
+    ensures { Writes (rest_text setting note.now) text.old result text.new }
 {
     open(text, "note")?;
     push_empty(text, "rest")?;
@@ -122,7 +123,7 @@ pub(crate) fn push_note(
     note: &Note<'_>,
 ) -> Result<(), AllocError>
     requires { IsSetting setting }
-    ensures { OnOk result (text.new.items ≡ text.old.items ++ note_text setting note.now) }
+    ensures { Writes (note_text setting note.now) text.old result text.new }
 {
     if note.keys == Keys::none() {
         return push_rest(text, setting, note);

@@ -1,11 +1,10 @@
 ghost use Rattle.derivation.specs.Score.{IsScoreBar};
 ghost use Rattle.derivation.specs.WellSounded.{AreWellSounded};
-ghost use Rattle.musicxml_writer.specs.Elements.{line, opening_with, text_if};
-ghost use Rattle.musicxml_writer.specs.Parts.{bar_text, bars_text, final_barline, part_name, part_text};
-ghost use Rattle.notation.specs.Bars.{AreVoiceGroups};
-ghost use Rattle.notation.specs.Notes.{Group};
+ghost use Rattle.musicxml_writer.specs.Elements.{line, text_if};
+ghost use Rattle.musicxml_writer.specs.Parts.{WritesPart, bars_text, final_barline, measure_start, part_name, part_start, placed_text};
 ghost use Rattle.rhythm_base.specs.declared.limits.TheConstants.{MOST_BARS, MOST_UNITS};
-ghost use Rattle.std.specs.Prelude.{◌≡◌, ◌≤◌, ◌++◌, All, IfSome, List, None, OnOk, codes, decimal, length};
+ghost use Rattle.score_words.specs.Writing.{Writes};
+ghost use Rattle.std.specs.Prelude.{◌≡◌, ◌≤◌, All, IfSome, None, length};
 
 use crate::attributes::push_attributes_line;
 use crate::bar::push_bar_notes;
@@ -13,7 +12,7 @@ use crate::elements::{close_line, end_opening, open_with, push_words, start_attr
 use crate::tempo::push_tempo_line;
 use derivation::ScoreBar;
 use notation::{BarGroups, Clef, Group, clef_of, voice_groups};
-use rhythm_base::Sound;
+use rhythm_base::{Sound, Units};
 use score_words::push_number;
 use std::alloc::{AllocError, Global};
 
@@ -40,7 +39,7 @@ pub(crate) struct PlacedBar {
 
 /// Appends the name of a part.
 pub(crate) fn push_part_name(text: &mut Vec<u8>, number: u64) -> Result<(), AllocError>
-    ensures { OnOk result (text.new.items ≡ text.old.items ++ part_name number) }
+    ensures { Writes (part_name number) text.old result text.new }
 {
     text.push(b'P')?;
     push_number(text, number)
@@ -49,7 +48,7 @@ pub(crate) fn push_part_name(text: &mut Vec<u8>, number: u64) -> Result<(), Allo
 /// Appends the line that opens a bar.
 #[tactic(auto, unfolding(crate::specs::Elements::opening_with))]
 fn push_measure_start(text: &mut Vec<u8>, number: u64) -> Result<(), AllocError>
-    ensures { OnOk result (text.new.items ≡ text.old.items ++ line (opening_with (codes "measure") (codes "number") (decimal number))) }
+    ensures { Writes (line (measure_start number)) text.old result text.new }
 {
     start_attribute(text, "measure", "number")?;
     push_number(text, number)?;
@@ -61,7 +60,7 @@ fn push_measure_start(text: &mut Vec<u8>, number: u64) -> Result<(), AllocError>
 /// Appends the line of the barline after the last bar.
 #[tactic(auto, unfolding(crate::specs::Parts::final_barline))]
 fn push_barline(text: &mut Vec<u8>, is_last: bool) -> Result<(), AllocError>
-    ensures { OnOk result (text.new.items ≡ text.old.items ++ text_if is_last final_barline) }
+    ensures { Writes (text_if is_last final_barline) text.old result text.new }
 {
     if is_last {
         open_with(text, "barline", "location", "right")?;
@@ -82,8 +81,7 @@ fn push_bar(
     requires before { IfSome placed.now.before IsScoreBar }
     requires bar { IsScoreBar placed.now.bar }
     requires actual { All (λ g. g.ratio.actual ≤ MOST_UNITS) groups.now }
-    ensures { OnOk result (text.new.items ≡ text.old.items
-        ++ bar_text part placed.now.before placed.now.bar placed.now.number placed.now.is_last groups.now) }
+    ensures { Writes (placed_text part placed.now groups.now) text.old result text.new }
 {
     push_measure_start(text, placed.number as u64)?;
     push_attributes_line(text, part, placed.before, &placed.bar)?;
@@ -103,7 +101,7 @@ fn push_bars(
     requires bars { All IsScoreBar bars.now }
     requires same { length groups.now ≡ length bars.now }
     requires actual { All (All (λ g. g.ratio.actual ≤ MOST_UNITS)) groups.now }
-    ensures { OnOk result (text.new.items ≡ text.old.items ++ bars_text part None 1 bars.now groups.now) }
+    ensures { Writes (bars_text part None 1 bars.now groups.now) text.old result text.new }
 {
     let mut before = None;
     'bars: for (index, bar) in bars.iter().enumerate() {
@@ -123,7 +121,7 @@ fn push_bars(
 /// Appends the line that opens a part.
 #[tactic(auto, unfolding(crate::specs::Elements::opening_with))]
 fn push_part_start(text: &mut Vec<u8>, number: u64) -> Result<(), AllocError>
-    ensures { OnOk result (text.new.items ≡ text.old.items ++ line (opening_with (codes "part") (codes "id") (part_name number))) }
+    ensures { Writes (line (part_start number)) text.old result text.new }
 {
     start_attribute(text, "part", "id")?;
     push_part_name(text, number)?;
@@ -137,22 +135,20 @@ fn push_part_start(text: &mut Vec<u8>, number: u64) -> Result<(), AllocError>
 pub(crate) fn push_part(
     alloc: Global,
     text: &mut Vec<u8>,
-    resolution: u16,
+    resolution: Units,
     number: usize,
     bars: &[ScoreBar],
     sounds: &[Sound],
 ) -> Result<(), AllocError>
-    requires some_unit { 1 ≤ resolution }
-    requires few_units { resolution ≤ MOST_UNITS }
     requires bars { All IsScoreBar bars.now }
     requires few_bars { length bars.now ≤ MOST_BARS }
     requires sounds { AreWellSounded resolution (length bars.now) sounds.now }
-    ensures { OnOk result ((groups : List (List Group)) × AreVoiceGroups resolution 0 bars.now sounds.now groups
-        × (text.new.items ≡ text.old.items ++ part_text resolution number bars.now sounds.now groups)) }
+    ensures { WritesPart resolution number bars.now sounds.now text.old result text.new }
 {
+    let units = resolution.count();
     let groups = voice_groups(alloc, resolution, bars, sounds)?;
     let part = Part {
-        resolution,
+        resolution: units,
         clef: clef_of(sounds),
         is_first: number == 1,
     };

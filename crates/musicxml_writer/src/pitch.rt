@@ -1,7 +1,8 @@
 ghost use Rattle.musicxml_writer.specs.Pitches as definitions;
 ghost use Rattle.derivation.specs.Score.{IsKeySignature};
 ghost use Rattle.musicxml_writer.specs.Pitches.{key_pitch, pitch_text};
-ghost use Rattle.std.specs.Prelude.{◌≡◌, ◌<◌, ◌++◌, IfSome, OnOk};
+ghost use Rattle.score_words.specs.Writing.{Writes};
+ghost use Rattle.std.specs.Prelude.{◌≡◌, ◌<◌, IfSome};
 
 use crate::elements::{close, open, push_signed, push_some, push_words};
 use notation::{Alteration, Letter, PitchName, pitch_name};
@@ -38,7 +39,7 @@ fn alter_text(alteration: Alteration) -> &'static str
 /// Appends the element of a pitch.
 #[tactic(auto, unfolding(crate::specs::Elements::element, crate::specs::Pitches::pitch_text))]
 fn push_pitch(text: &mut Vec<u8>, name: PitchName) -> Result<(), AllocError>
-    ensures { OnOk result (text.new.items ≡ text.old.items ++ pitch_text name) }
+    ensures { Writes (pitch_text name) text.old result text.new }
 {
     open(text, "pitch")?;
     push_words(text, "step", letter_text(name.letter))?;
@@ -52,7 +53,7 @@ fn push_pitch(text: &mut Vec<u8>, name: PitchName) -> Result<(), AllocError>
 pub(crate) fn push_key_pitch(text: &mut Vec<u8>, sf: Option<i8>, key: u8) -> Result<(), AllocError>
     requires sf { IfSome sf IsKeySignature }
     requires key { key < 128 }
-    ensures { OnOk result (text.new.items ≡ text.old.items ++ key_pitch sf key) }
+    ensures { Writes (key_pitch sf key) text.old result text.new }
 {
     push_pitch(text, pitch_name(key, sf))
 }

@@ -1,7 +1,8 @@
 ghost use Rattle.derivation.specs.Score.{IsScoreBar};
-ghost use Rattle.musicxml_writer.specs.Attributes.{metronome, tempo_line, tempo_text};
+ghost use Rattle.musicxml_writer.specs.Attributes.{metronome, sounding_tempo, tempo_line, tempo_text};
 ghost use Rattle.musicxml_writer.specs.Elements.{empty_with, line};
-ghost use Rattle.std.specs.Prelude.{◌≡◌, ◌++◌, IfSome, OnOk, codes, decimal};
+ghost use Rattle.score_words.specs.Writing.{Writes};
+ghost use Rattle.std.specs.Prelude.{IfSome, codes, decimal};
 
 use crate::elements::{
     close, close_line, open, open_with, push_count, push_words, start_attribute,
@@ -14,7 +15,7 @@ use std::alloc::AllocError;
 /// Appends the element of a metronome.
 #[tactic(auto, unfolding(crate::specs::Elements::element))]
 fn push_metronome(text: &mut Vec<u8>, quarters: u64) -> Result<(), AllocError>
-    ensures { OnOk result (text.new.items ≡ text.old.items ++ metronome quarters) }
+    ensures { Writes (metronome quarters) text.old result text.new }
 {
     open(text, "metronome")?;
     push_words(text, "beat-unit", "quarter")?;
@@ -25,7 +26,7 @@ fn push_metronome(text: &mut Vec<u8>, quarters: u64) -> Result<(), AllocError>
 /// Appends the empty element of a tempo that sounds.
 #[tactic(auto, unfolding(crate::specs::Elements::empty_with))]
 fn push_sound(text: &mut Vec<u8>, quarters: u64) -> Result<(), AllocError>
-    ensures { OnOk result (text.new.items ≡ text.old.items ++ empty_with (codes "sound") (codes "tempo") (decimal quarters)) }
+    ensures { Writes (sounding_tempo quarters) text.old result text.new }
 {
     start_attribute(text, "sound", "tempo")?;
     push_number(text, quarters)?;
@@ -35,7 +36,7 @@ fn push_sound(text: &mut Vec<u8>, quarters: u64) -> Result<(), AllocError>
 /// Appends the line of so many quarter notes of a minute.
 #[tactic(auto, unfolding(crate::specs::Elements::element, crate::specs::Attributes::tempo_text))]
 fn push_tempo(text: &mut Vec<u8>, quarters: u64) -> Result<(), AllocError>
-    ensures { OnOk result (text.new.items ≡ text.old.items ++ line (tempo_text quarters)) }
+    ensures { Writes (line (tempo_text quarters)) text.old result text.new }
 {
     open_with(text, "direction", "placement", "above")?;
     open(text, "direction-type")?;
@@ -55,7 +56,7 @@ pub(crate) fn push_tempo_line(
 ) -> Result<(), AllocError>
     requires before { IfSome before IsScoreBar }
     requires bar { IsScoreBar bar.now }
-    ensures { OnOk result (text.new.items ≡ text.old.items ++ tempo_line part before bar.now) }
+    ensures { Writes (tempo_line part before bar.now) text.old result text.new }
 {
     if part.is_first && !is_same_tempo(before, bar) {
         push_tempo(text, quarters_of_minute(bar))?;

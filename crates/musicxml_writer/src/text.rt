@@ -1,16 +1,15 @@
 ghost use Rattle.derivation.specs.Score.{IsScore, IsScoreBar};
 ghost use Rattle.derivation.specs.WellSounded.{AreWellSounded};
-ghost use Rattle.musicxml_writer.specs.Text.{IsMusicXml, head, part_list, parts_text};
-ghost use Rattle.notation.specs.Bars.{AreVoiceGroups};
-ghost use Rattle.notation.specs.Notes.{Group};
-ghost use Rattle.rhythm_base.specs.Lists.{Each};
-ghost use Rattle.rhythm_base.specs.declared.limits.TheConstants.{MOST_BARS, MOST_UNITS};
-ghost use Rattle.std.specs.Prelude.{◌≡◌, ◌≤◌, ◌++◌, All, IfOk, List, OnOk, length};
+ghost use Rattle.musicxml_writer.specs.Text.{IsMusicXml, WritesParts, head, part_list};
+ghost use Rattle.rhythm_base.specs.declared.limits.TheConstants.{MOST_BARS};
+ghost use Rattle.score_words.specs.Writing.{Writes};
+ghost use Rattle.std.specs.Prelude.{◌≡◌, ◌≤◌, All, IfOk, length};
 
 use crate::elements::{close_line, open};
 use crate::list::push_listed_parts;
 use crate::part::push_part;
 use derivation::{Score, ScoreBar, VoiceSounds};
+use rhythm_base::Units;
 use std::alloc::{AllocError, Global};
 
 /// The lines before the list of parts.
@@ -22,7 +21,7 @@ const HEAD: &[u8] = b"<?xml version=\"1.0\" encoding=\"UTF-8\"?>
 /// Appends the lines before the list of parts.
 #[tactic(auto, unfolding(crate::specs::Text::head))]
 fn push_head(text: &mut Vec<u8>) -> Result<(), AllocError>
-    ensures { OnOk result (text.new.items ≡ text.old.items ++ head) }
+    ensures { Writes head text.old result text.new }
 {
     text.extend_from_slice(HEAD)
 }
@@ -30,7 +29,7 @@ fn push_head(text: &mut Vec<u8>) -> Result<(), AllocError>
 /// Appends the list of parts.
 #[tactic(auto, unfolding(crate::specs::Text::part_list))]
 fn push_list(text: &mut Vec<u8>, channels: &[u8]) -> Result<(), AllocError>
-    ensures { OnOk result (text.new.items ≡ text.old.items ++ part_list channels.now) }
+    ensures { Writes (part_list channels.now) text.old result text.new }
 {
     open(text, "part-list")?;
     text.push(b'\n')?;
@@ -42,20 +41,18 @@ fn push_list(text: &mut Vec<u8>, channels: &[u8]) -> Result<(), AllocError>
 fn push_parts(
     alloc: Global,
     text: &mut Vec<u8>,
-    resolution: u16,
+    resolution: Units,
     bars: &[ScoreBar],
     voices: &[VoiceSounds],
 ) -> Result<(), AllocError>
-    requires some_unit { 1 ≤ resolution }
-    requires few_units { resolution ≤ MOST_UNITS }
     requires bars { All IsScoreBar bars.now }
     requires few_bars { length bars.now ≤ MOST_BARS }
     requires voices { All (AreWellSounded resolution (length bars.now)) voices.now }
-    ensures { OnOk result ((written : List (List (List Group))) × Each (AreVoiceGroups resolution 0 bars.now) voices.now written
-        × (text.new.items ≡ text.old.items ++ parts_text resolution bars.now 1 voices.now written)) }
+    ensures { WritesParts resolution bars.now voices.now text.old result text.new }
 {
     'voices: for (index, voice) in voices.iter().enumerate() {
-        push_part(alloc, text, resolution, index + 1, bars, voice.as_slice())?;
+        let sounds = voice.sounds(alloc)?;
+        push_part(alloc, text, resolution, index + 1, bars, sounds.as_slice())?;
     }
     Ok(())
 }
@@ -73,13 +70,8 @@ pub fn write_musicxml(alloc: Global, score: &Score, channels: &[u8]) -> Result<V
     let mut text = Vec::new(alloc);
     push_head(&mut text)?;
     push_list(&mut text, channels)?;
-    push_parts(
-        alloc,
-        &mut text,
-        score.resolution,
-        &score.bars,
-        &score.voices,
-    )?;
+    let (bars, voices) = (&score.bars, &score.voices);
+    push_parts(alloc, &mut text, score.units(), bars, voices)?;
     close_line(&mut text, "score-partwise")?;
     Ok(text)
 }

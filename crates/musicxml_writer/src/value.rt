@@ -3,7 +3,8 @@ ghost use Rattle.musicxml_writer.specs.Values as definitions;
 ghost use Rattle.musicxml_writer.specs.Values.{ratio_text, value_text};
 ghost use Rattle.rhythm_base.specs.declared.limits.TheConstants.{MOST_UNITS};
 ghost use Rattle.std.specs.List.{repeat};
-ghost use Rattle.std.specs.Prelude.{◌≡◌, ◌≤◌, ◌++◌, OnOk, codes};
+ghost use Rattle.score_words.specs.Writing.{Writes};
+ghost use Rattle.std.specs.Prelude.{◌≡◌, ◌≤◌, codes};
 
 use crate::elements::{close, open, push_count, push_empty, push_words};
 use durations::{Recip, Value};
@@ -44,7 +45,7 @@ fn finer(actual: u64, recip: Recip) -> u64
 
 /// Appends so many dots.
 fn push_dots(text: &mut Vec<u8>, dots: u8) -> Result<(), AllocError>
-    ensures { OnOk result (text.new.items ≡ text.old.items ++ repeat dots (empty_element (codes "dot"))) }
+    ensures { Writes (repeat dots (empty_element (codes "dot"))) text.old result text.new }
 {
     'dots: for _ in 0..dots {
         push_empty(text, "dot")?;
@@ -55,7 +56,7 @@ fn push_dots(text: &mut Vec<u8>, dots: u8) -> Result<(), AllocError>
 /// Appends the ratio of so many in the time of so many, where it is one.
 #[tactic(auto, unfolding(crate::specs::Elements::element, crate::specs::Values::ratio_text))]
 fn push_ratio(text: &mut Vec<u8>, actual: u64, normal: u64) -> Result<(), AllocError>
-    ensures { OnOk result (text.new.items ≡ text.old.items ++ ratio_text actual normal) }
+    ensures { Writes (ratio_text actual normal) text.old result text.new }
 {
     if actual > 1 {
         open(text, "time-modification")?;
@@ -70,7 +71,7 @@ fn push_ratio(text: &mut Vec<u8>, actual: u64, normal: u64) -> Result<(), AllocE
 #[tactic(auto, unfolding(crate::specs::Values::value_text))]
 pub(crate) fn push_value(text: &mut Vec<u8>, ratio: Ratio, value: Value) -> Result<(), AllocError>
     requires { ratio.actual ≤ MOST_UNITS }
-    ensures { OnOk result (text.new.items ≡ text.old.items ++ value_text ratio value) }
+    ensures { Writes (value_text ratio value) text.old result text.new }
 {
     push_words(text, "type", type_text(value.recip))?;
     push_dots(text, value.dots)?;

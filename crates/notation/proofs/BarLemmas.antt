@@ -6,8 +6,8 @@ use Rattle.rhythm_base.specs.declared.sound.Sound.{Sound}
 use Rattle.rhythm_base.specs.Lists.{Each}
 use Rattle.derivation.specs.declared.score.ScoreBar.{ScoreBar}
 use Rattle.derivation.specs.Score.{IsScoreBar}
-use Rattle.kern_writer.specs.Values.{AreBarValues, VoiceValue}
-use Rattle.kern_writer.proofs.TimedSounds.{width_of}
+use Rattle.voice_values.specs.Values.{AreBarValues, VoiceValue}
+use Rattle.voice_values.proofs.TimedSounds.{width_of}
 use Rattle.notation.specs.Bars.{are_silent, grouped}
 use Rattle.notation.specs.Groups.{parted}
 use Rattle.notation.specs.Notes.{Group, IsGroup}

@@ -18,8 +18,8 @@ use Rattle.durations.proofs.Bars.{values_in, written_dots, written_fills, writte
 use Rattle.durations.proofs.Beats.{beat_part, written_part}
 use Rattle.derivation.specs.declared.score.ScoreBar.{ScoreBar}
 use Rattle.derivation.specs.Score.{IsScoreBar}
-use Rattle.kern_writer.specs.Values.{AreBarValues, VoiceValue, is_first, timed, value_of_sound, values_of_sounds}
-use Rattle.kern_writer.proofs.TimedSounds.{some_whole, timed_bar, width_of}
+use Rattle.voice_values.specs.Values.{AreBarValues, VoiceValue, is_first, timed, value_of_sound, values_of_sounds}
+use Rattle.voice_values.proofs.TimedSounds.{some_whole, timed_bar, width_of}
 use Rattle.notation.specs.Places.{whole_of}
 use Rattle.notation.specs.Runs.{IsInBar}
 use Rattle.notation.proofs.Values.{some_divisor}

@@ -11,8 +11,8 @@ use Rattle.durations.specs.Value.{plain_grid, plain_parts, value_grid, width}
 use Rattle.durations.proofs.Wide.{some_parts, some_product}
 use Rattle.derivation.specs.declared.score.ScoreBar.{ScoreBar}
 use Rattle.derivation.specs.Score.{IsScoreBar}
-use Rattle.kern_writer.specs.Columns.{next_in_column}
-use Rattle.kern_writer.specs.Values.{VoiceValue}
+use Rattle.voice_values.specs.GoesOn.{next_in_column}
+use Rattle.voice_values.specs.Values.{VoiceValue}
 use Rattle.notation.specs.Places.{is_plain, whole_of}
 use Rattle.notation.specs.Runs.{StandBetween}
 use Rattle.notation.specs.Tokens.{Token, bar_tokens, cut_token, cuts, first_part, part_ends, value_token, value_tokens}

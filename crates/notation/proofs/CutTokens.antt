@@ -3,8 +3,8 @@ use Rattle.std.proofs.Common.{◌≡◌, ℕ, suc, ◌+◌, ◌-◌, ◌/◌, Bo
 use Rattle.std.specs.Prelude.{filter}
 use Rattle.derivation.specs.declared.score.ScoreBar.{ScoreBar}
 use Rattle.durations.specs.declared.value.Value.{Value}
-use Rattle.kern_writer.specs.Columns.{next_in_column}
-use Rattle.kern_writer.specs.Values.{VoiceValue}
+use Rattle.voice_values.specs.GoesOn.{next_in_column}
+use Rattle.voice_values.specs.Values.{VoiceValue}
 use Rattle.notation.specs.Places.{is_plain}
 use Rattle.notation.specs.Tokens.{Token, bar_tokens, cut_token, cuts, first_part, part_ends, value_token}
 

@@ -9,8 +9,8 @@ use Rattle.std.proofs.lemmas.List.{get_or-map, get_or-take, length-map, length-t
 use Rattle.std.proofs.lemmas.List.Elements.{All-cons, All-nil}
 use Rattle.notation.specs.Places.{is_halved}
 use Rattle.notation.specs.Rests.{joined, joined_from, last_number}
-use Rattle.notation.specs.Tokens.{Token}
-use Rattle.notation.proofs.LastNumbers.{ends, last_holds}
+use Rattle.notation.specs.Tokens.{Token, ends}
+use Rattle.notation.proofs.LastNumbers.{last_holds}
 
 divides : (rest : ℕ) (b : Bool) → ((rest == 0) && b) ≡ true → rest ≡ 0
 divides rest b h = grind (arith, nat_tests, h)

@@ -10,10 +10,9 @@ use Rattle.derivation.specs.Score.{IsScoreBar}
 use Rattle.notation.specs.Places.{is_halved, whole_of}
 use Rattle.notation.specs.Rests.{joined, joined_from, joined_rests, last_number, may_stand, rests_taken}
 use Rattle.notation.specs.Runs.{StandBetween}
-use Rattle.notation.specs.Tokens.{Token, is_silent}
+use Rattle.notation.specs.Tokens.{Token, is_silent, ends}
 use Rattle.notation.proofs.Halved.{halved_le, taken_at}
 use Rattle.notation.proofs.Joining.{ended, joined_at}
-use Rattle.notation.proofs.LastNumbers.{ends}
 
 -- where so many tokens more have ended
 abbrev pub end_after : ℕ → ℕ → List Token → ℕ

@@ -4,7 +4,7 @@ use Rattle.std.specs.Prelude.{nat_lt}
 use Rattle.std.proofs.lemmas.Bool.Decides.{nat_tests}
 use Rattle.std.proofs.lemmas.List.{length-map, length-take-le, map-append, take_more}
 use Rattle.notation.specs.Rests.{last_number}
-use Rattle.notation.specs.Tokens.{Token}
+use Rattle.notation.specs.Tokens.{Token, ends}
 
 above : (n m : ℕ) → cond (nat_lt 0 (suc n)) (suc (suc n)) m ≡ suc (suc n)
 above n m = grind (arith, nat_tests)
@@ -18,9 +18,6 @@ last_push may (q ∷ qs) p = go (may p) (last_push may qs p)
         (suc (length (q ∷ qs))) (last_number may (q ∷ qs))
     go true e = ap (λ n. cond (nat_lt 0 n) (suc n) (cond (may q) 1 0)) e ∙ above (length qs) (cond (may q) 1 0)
     go false e = ap (λ n. cond (nat_lt 0 n) (suc n) (cond (may q) 1 0)) e
-
-abbrev pub ends : List Token → List ℕ
-ends ts = map (λ (t : Token). t.end) ts
 
 -- one more token
 pub last_step : (may : ℕ → Bool) (ts : List Token) (i : ℕ) (t : Token) (b : Bool) (last new : ℕ) → i < length ts → t ≡ get_or ts i t → b ≡ may t.end

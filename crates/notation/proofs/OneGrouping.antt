@@ -11,10 +11,10 @@ use Rattle.durations.proofs.Powers.{power_largest}
 use Rattle.derivation.specs.declared.score.ScoreBar.{ScoreBar}
 use Rattle.derivation.specs.Score.{IsScoreBar}
 use Rattle.derivation.proofs.Pairs.{each_one}
-use Rattle.kern_writer.specs.Ahead.{begins_with_tie}
-use Rattle.kern_writer.specs.Values.{sounds_in_bar}
-use Rattle.kern_writer.proofs.BarTokens.{bar_values_one}
-use Rattle.kern_writer.proofs.TimedSounds.{some_whole}
+use Rattle.voice_values.specs.Ahead.{begins_with_tie}
+use Rattle.voice_values.specs.Values.{sounds_in_bar}
+use Rattle.voice_values.proofs.ValuesExist.{bar_values_one}
+use Rattle.voice_values.proofs.TimedSounds.{some_whole}
 use Rattle.notation.specs.Bars.{AreBarGroups, AreVoiceGroups, grouped}
 use Rattle.notation.specs.Laws.{VoiceGroupsAreOne}
 use Rattle.notation.specs.Notes.{AreNotes, Group, IsGreatestPower, IsGrid, IsGroup, Note, joined_ties, spelled_whole, token_notes}

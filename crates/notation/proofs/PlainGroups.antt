@@ -12,8 +12,8 @@ use Rattle.rhythm_base.specs.declared.sound.Sound.{Sound}
 use Rattle.rhythm_base.specs.Lists.{last_end}
 use Rattle.durations.specs.declared.joined.Timed.{Timed}
 use Rattle.derivation.specs.declared.score.ScoreBar.{ScoreBar}
-use Rattle.kern_writer.specs.Values.{timed}
-use Rattle.kern_writer.proofs.TimedSounds.{width_of}
+use Rattle.voice_values.specs.Values.{timed}
+use Rattle.voice_values.proofs.TimedSounds.{width_of}
 use Rattle.notation.specs.Bars.{are_silent}
 use Rattle.notation.specs.Groups.{group_end, group_start, is_whole, parted, parted_from}
 use Rattle.notation.specs.Laws.{ArePlain, GroupsArePlain}

@@ -1,6 +1,6 @@
 -- The tokens of a group can be spelled.
 use Rattle.rhythm_base.specs.declared.limits.TheConstants.{MOST_UNITS}
-use Rattle.std.proofs.Common.{◌≡◌, ℕ, zero, suc, ◌+◌, ◌-◌, ◌*◌, ◌/◌, ◌^◌, ◌≤◌, Bool, List, [], ◌∷◌, length, get_or, take, sym, ap, ◌∙◌, subst, arith}
+use Rattle.std.proofs.Common.{◌≡◌, ℕ, zero, suc, ◌+◌, ◌-◌, ◌*◌, ◌/◌, ◌^◌, ◌≤◌, Bool, List, [], ◌∷◌, length, get_or, take, refl, sym, ap, ap₂, ◌∙◌, subst, arith}
 use Rattle.std.specs.Prelude.{◌&&◌, All, not}
 use Rattle.std.specs.Int.{◌∣◌, IsPowerOfTwo}
 use Rattle.std.proofs.Math.Nat.{div-le_of_le-mul, div-mul_cancel, dvd-mul_left, dvd-mul_right, mul-le-mul_left, mul-le-mul_right}
@@ -8,16 +8,15 @@ use Rattle.std.proofs.lemmas.List.Elements.{All-cons, All-head, All-nil, All-tai
 use Rattle.std.proofs.lemmas.Nat.Gcd.{dvd_trans, le_of_dvd}
 use Rattle.durations.proofs.Powers.{power_some}
 use Rattle.durations.proofs.Wide.{some_product}
-use Rattle.notation.specs.Notes.{IsGreatestPower, IsGrid, ties_taken, tied_ends}
+use Rattle.notation.specs.Notes.{IsGreatestPower, IsGrid, IsGroup, Note, ties_taken, tied_ends}
 use Rattle.notation.specs.Places.{IsOddPart, is_halved, whole_of}
 use Rattle.notation.specs.Rests.{joined, joined_from, last_number}
 use Rattle.notation.specs.Runs.{AreRun, StandBetween}
-use Rattle.notation.specs.Spelling.{AreInGrid, IsSpellable, IsSpelling}
-use Rattle.notation.specs.Tokens.{Token, is_silent}
+use Rattle.notation.specs.Spelling.{AreInGrid, AreSpelled, IsSpellable, Spelling}
+use Rattle.notation.specs.Tokens.{Token, is_silent, ends}
 use Rattle.notation.proofs.GridLemmas.{CountIn}
 use Rattle.notation.proofs.Halved.{halved_le, joined_all, taken_at}
 use Rattle.notation.proofs.Joining.{ended, joined_at}
-use Rattle.notation.proofs.LastNumbers.{ends}
 use Rattle.notation.proofs.TiedTokens.{gap, grid_later, grid_more, tied_front}
 use Rattle.notation.proofs.Values.{some_divisor}
 
@@ -31,6 +30,9 @@ odd_divides r odd (k, e, h) = subst (λ x. odd ∣ x) (sym e) (dvd-mul_right odd
 
 pub odd_whole : (r odd : ℕ) → IsOddPart r odd → whole_of r / odd * odd ≡ whole_of r
 odd_whole r odd h = div-mul_cancel odd (dvd_trans odd (odd_divides r odd h) (dvd-mul_left r 64))
+
+pub units_some : (r odd : ℕ) → IsOddPart r odd → 1 ≤ r
+units_some r odd (k, e, h) = subst (λ x. 1 ≤ x) (sym e) (some_product odd (2 ^ k) (omega (arith, h)) (power_some (2 ^ k) (k, refl)))
 
 odd_few : (r odd : ℕ) → 1 ≤ r → IsOddPart r odd → odd ≤ r
 odd_few r odd some h = le_of_dvd some (odd_divides r odd h)
@@ -46,6 +48,13 @@ actual_some odd grid some h = go (odd / grid) (div-mul_cancel grid h)
     go : (n : ℕ) → n * grid ≡ odd → 1 ≤ n
     go zero e = omega (arith, e, some)
     go (suc n) e = omega arith
+
+-- so many parts are one of the grid, and so many of the grid a whole note
+pub record IsSpelling (grid whole : ℕ) : Type 0 where
+  pub some_grid : 1 ≤ grid
+  pub few_grid : grid ≤ MOST_UNITS
+  pub some : 1 ≤ whole
+  pub few : whole ≤ 64 * MOST_UNITS
 
 pub spelling : (r odd grid actual normal : ℕ) → 1 ≤ r → r ≤ MOST_UNITS → IsOddPart r odd → grid ∣ odd → actual ≡ odd / grid
     → IsGreatestPower actual normal → IsSpelling grid (whole_of r / odd * normal)
@@ -71,6 +80,14 @@ spelling r odd grid actual normal some few h part is power =
     factor : (u : ℕ) → u * odd ≡ whole_of r → 1 ≤ u
     factor zero e = omega (arith, e, some)
     factor (suc u) e = omega arith
+
+-- the same of what is computed
+pub spelling_of : (r odd grid part whole normal : ℕ) → part ≡ odd → whole ≡ whole_of r → whole ≤ 64 * MOST_UNITS → IsOddPart r odd → grid ∣ odd
+    → IsGreatestPower (part / grid) normal → IsSpelling grid (whole / part * normal)
+spelling_of r odd grid part whole normal same all few h divides power =
+    subst (λ w. IsSpelling grid (w / part * normal)) (sym all)
+    (subst (λ o. IsGreatestPower (o / grid) normal → IsSpelling grid (whole_of r / o * normal)) (sym same)
+    (λ p. spelling r odd grid (odd / grid) normal (units_some r odd h) (omega (arith, all, few)) h divides refl p) power)
 
 pub whole_some : (r odd normal : ℕ) → 1 ≤ r → IsOddPart r odd → IsPowerOfTwo normal → 1 ≤ whole_of r / odd * normal
 whole_some r odd normal some h power = some_product (whole_of r / odd) normal (factor (whole_of r / odd) (odd_whole r odd h)) (power_some normal power)
@@ -120,6 +137,29 @@ pub group_spellable : (r odd grid actual normal : ℕ) (ts : List Token) → IsO
 group_spellable r odd grid actual normal ts h is_grid is power run =
     tokens_spellable r grid (whole_of r / odd * normal) run.from run.to ts
     (spelled_long r odd grid actual normal h is_grid.odd_part is power) run.stand is_grid.places
+
+-- the same of what is computed
+pub spellable_of : (r odd grid part whole normal : ℕ) (ts : List Token) → part ≡ odd → whole ≡ whole_of r → IsOddPart r odd → IsGrid odd ts grid
+    → IsGreatestPower (part / grid) normal → AreRun r ts → All (IsSpellable grid (whole / part * normal)) ts
+spellable_of r odd grid part whole normal ts same all h is_grid power run =
+    subst (λ w. All (IsSpellable grid (w / part * normal)) ts) (sym all)
+    (subst (λ o. IsGreatestPower (o / grid) normal → All (IsSpellable grid (whole_of r / o * normal)) ts) (sym same)
+    (λ p. group_spellable r odd grid (odd / grid) normal ts h is_grid refl p run) power)
+
+pub group_of : (r odd grid part whole normal parts : ℕ) (by : Spelling) (ts : List Token) (notes : List Note) → part ≡ odd → whole ≡ whole_of r
+    → parts ≡ whole / part * normal → by ≡ record { grid = grid; whole = parts } → IsGrid odd ts grid → IsGreatestPower (part / grid) normal
+    → AreSpelled by (part / grid) ts notes
+    → IsGroup r odd ts (record { ratio = record { actual = part / grid; normal = normal }; notes = notes })
+group_of r odd grid part whole normal parts by ts notes same all is spells is_grid power spelled =
+    let here = subst (λ (s : Spelling). AreSpelled s (part / grid) ts notes) spells spelled in
+    let there = subst (λ w. AreSpelled (record { grid = grid; whole = w }) (part / grid) ts notes) (is ∙ ap₂ (λ w o. w / o * normal) all same) here in
+    record {
+      grid = grid;
+      is_grid = is_grid;
+      actual = sym (div-mul_cancel grid is_grid.odd_part) ∙ ap (λ o. o / grid * grid) (sym same);
+      normal = power;
+      notes = there;
+    }
 
 -- ---- tokens that are joined
 

@@ -8,9 +8,8 @@ use Rattle.std.proofs.lemmas.Nat.Gcd.{le_of_dvd}
 use Rattle.notation.specs.Notes.{tied_ends}
 use Rattle.notation.specs.Runs.{StandBetween}
 use Rattle.notation.specs.Spelling.{AreInGrid}
-use Rattle.notation.specs.Tokens.{Token, is_silent}
+use Rattle.notation.specs.Tokens.{Token, is_silent, ends}
 use Rattle.notation.proofs.GridLemmas.{CountIn}
-use Rattle.notation.proofs.LastNumbers.{ends}
 use Rattle.notation.proofs.Standing.{run_after}
 
 -- those that are tied are a front of the tokens

@@ -4,9 +4,10 @@ use Rattle.std.proofs.lemmas.List.{length-take-le, take_more}
 use Rattle.rhythm_base.specs.declared.sound.Sound.{Sound}
 use Rattle.derivation.specs.WellSounded.{StandInBars}
 use Rattle.derivation.specs.declared.score.ScoreBar.{ScoreBar}
-use Rattle.kern_writer.specs.Ahead.{begins_with_tie, later_sounds, own_sounds}
-use Rattle.kern_writer.specs.Values.{sounds_in_bar}
-use Rattle.kern_writer.proofs.BarSounds.{first_in_bar, in_bar_own, in_later}
+use Rattle.derivation.specs.Ahead.{later_sounds, own_sounds}
+use Rattle.voice_values.specs.Ahead.{begins_with_tie}
+use Rattle.voice_values.specs.Values.{sounds_in_bar}
+use Rattle.voice_values.proofs.BarSounds.{first_in_bar, in_bar_own, in_later}
 use Rattle.notation.specs.Bars.{AreBarGroups, AreVoiceGroups}
 use Rattle.notation.specs.Notes.{Group}
 

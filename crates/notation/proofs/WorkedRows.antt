@@ -4,7 +4,7 @@ use Rattle.rhythm_base.specs.declared.sound.SoundKind.TheVariants.{Begin, Short}
 use Rattle.durations.specs.declared.value.Recip.TheVariants.{Of}
 use Rattle.durations.specs.declared.value.Value.{Value}
 use Rattle.derivation.specs.declared.score.ScoreBar.{ScoreBar}
-use Rattle.kern_writer.specs.Values.{VoiceValue}
+use Rattle.voice_values.specs.Values.{VoiceValue}
 use Rattle.notation.specs.Groups.{parted}
 use Rattle.notation.specs.Notes.{joined_ties, token_notes}
 use Rattle.notation.specs.Rests.{joined_rests}

@@ -4,8 +4,8 @@ use Rattle.std.proofs.Common.{suc}
 use Rattle.rhythm_base.specs.declared.sound.Sound.{Sound}
 use Rattle.rhythm_base.specs.Lists.{Each}
 use Rattle.derivation.specs.declared.score.ScoreBar.{ScoreBar}
-use Rattle.kern_writer.specs.Ahead.{begins_with_tie}
-use Rattle.kern_writer.specs.Values.{AreBarValues, VoiceValue, sounds_in_bar}
+use Rattle.voice_values.specs.Ahead.{begins_with_tie}
+use Rattle.voice_values.specs.Values.{AreBarValues, VoiceValue, sounds_in_bar}
 use Rattle.notation.specs.Groups.{parted}
 use Rattle.notation.specs.Notes.{Group, IsGroup}
 use Rattle.notation.specs.Places.{IsOddPart}
@@ -20,6 +20,10 @@ are_silent (t ∷ ts) = is_silent t && are_silent ts
 -- the tokens of a bar in groups; a bar of rests alone has none
 abbrev pub grouped : ℕ → ℕ → ScoreBar → List Token → List (List Token)
 grouped resolution odd bar tokens = if are_silent tokens then [] else parted resolution odd (joined_rests resolution bar tokens)
+
+-- tokens are parted into these groups
+abbrev pub AreGroups : ℕ → ℕ → List Token → List Group → Type 0
+AreGroups resolution odd tokens groups = Each (IsGroup resolution odd) (parted resolution odd tokens) groups
 
 -- the groups of a bar with these sounds, after which a tie goes on over the barline or none does
 abbrev pub AreBarGroups : ℕ → ScoreBar → Bool → List Sound → List Group → Type 0

@@ -1,5 +1,5 @@
 -- The groups of a bar: runs of tokens from one plain place to another, each of which is written under one bracket, or under none.
-use Rattle.std.specs.Prelude.{ℕ, ◌-◌, ◌*◌, ◌%◌, ◌==◌, nat_le, Bool, true, ◌&&◌, ◌||◌, if◌then◌else◌, List, [], ◌∷◌, ◌++◌, length, map}
+use Rattle.std.specs.Prelude.{◌≡◌, ℕ, ◌-◌, ◌*◌, ◌%◌, ◌==◌, nat_le, Bool, true, ◌&&◌, ◌||◌, if◌then◌else◌, List, [], ◌∷◌, ◌++◌, drop, length, map, take}
 use Rattle.rhythm_base.specs.Lists.{greatest, last_end}
 use Rattle.notation.specs.Places.{is_plain, quarter_of}
 use Rattle.notation.specs.Tokens.{Token, token_length}
@@ -33,3 +33,7 @@ parted_from resolution odd waiting (t ∷ more) =
 
 abbrev pub parted : ℕ → ℕ → List Token → List (List Token)
 parted resolution odd tokens = parted_from resolution odd [] tokens
+
+-- the first so many tokens are the first group
+abbrev pub IsFirstGroup : ℕ → ℕ → ℕ → List Token → Type 0
+IsFirstGroup resolution odd n tokens = parted resolution odd tokens ≡ take n tokens ∷ parted resolution odd (drop n tokens)

@@ -4,7 +4,7 @@ use Rattle.rhythm_base.specs.declared.sound.Sound.{Sound}
 use Rattle.durations.specs.Value.{parts, value_grid}
 use Rattle.derivation.specs.declared.score.ScoreBar.{ScoreBar}
 use Rattle.derivation.specs.Score.{IsScoreBar}
-use Rattle.kern_writer.specs.Values.{AreBarValues, VoiceValue}
+use Rattle.voice_values.specs.Values.{AreBarValues, VoiceValue}
 use Rattle.notation.specs.Bars.{AreBarGroups, AreVoiceGroups, grouped}
 use Rattle.notation.specs.Groups.{group_end, group_start}
 use Rattle.notation.specs.Notes.{Group, IsGroup}

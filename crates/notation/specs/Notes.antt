@@ -7,7 +7,7 @@ use Rattle.durations.specs.Values.{AreValues}
 use Rattle.notation.specs.declared.note.Ratio.{Ratio}
 use Rattle.notation.specs.Places.{is_halved, whole_of}
 use Rattle.notation.specs.Rests.{joined_from, last_number}
-use Rattle.notation.specs.Tokens.{Token, is_silent}
+use Rattle.notation.specs.Tokens.{Token, is_silent, may_go_on}
 
 -- A note, a chord or a rest: how many parts it lasts; the value by which it is written within its bracket; its keys, of a rest none; the grace chords
 -- before it; whether it is marked short; and whether a tie comes to it, and one goes on from it
@@ -46,13 +46,16 @@ spelled_whole resolution odd normal = whole_of resolution / odd * normal
 -- the ends of the tokens after one, each tied to the one before it
 abbrev pub tied_ends : Bool → List Token → List ℕ
 tied_ends goes [] = []
-tied_ends goes (t ∷ ts) = if goes && t.comes then t.end ∷ tied_ends (t.goes && not (is_silent t)) ts else []
+tied_ends goes (t ∷ ts) = if goes && t.comes then t.end ∷ tied_ends (may_go_on t) ts else []
+
+-- what is from one place to another is a value without dots, in parts of the grid
+abbrev pub is_plain_value : ℕ → ℕ → ℕ → ℕ → Bool
+is_plain_value grid whole start end = is_halved whole ((end - start) / grid)
 
 -- under a bracket a token with keys takes as many that follow it, each tied to the one before, as make together a value without dots, of
 -- all such numbers the greatest
 abbrev pub ties_taken : ℕ → ℕ → Token → List Token → ℕ
-ties_taken grid whole t more =
-    last_number (λ end. is_halved whole ((end - t.start) / grid)) (tied_ends (t.goes && not (is_silent t)) more)
+ties_taken grid whole t more = last_number (is_plain_value grid whole t.start) (tied_ends (may_go_on t) more)
 
 -- without a bracket nothing is joined: there a tie shows a beat
 abbrev pub joined_ties : ℕ → ℕ → ℕ → List Token → List Token

@@ -3,7 +3,7 @@ use Rattle.std.specs.Prelude.{◌≡◌, ℕ, ◌+◌, ◌*◌, ◌<◌, ◌≤�
 use Rattle.std.specs.Int.{◌∣◌}
 use Rattle.durations.specs.Value.{value_grid, width}
 use Rattle.derivation.specs.declared.score.ScoreBar.{ScoreBar}
-use Rattle.kern_writer.specs.Values.{VoiceValue}
+use Rattle.voice_values.specs.Values.{VoiceValue}
 use Rattle.notation.specs.Places.{whole_of}
 use Rattle.notation.specs.Tokens.{Token, value_start}
 

@@ -1,12 +1,8 @@
 ghost use Rattle.derivation.specs.Score.{IsScoreBar};
-ghost use Rattle.notation.specs.Bars.{AreBarGroups};
-ghost use Rattle.notation.specs.Groups.{parted};
-ghost use Rattle.notation.specs.Notes.{IsGroup};
+ghost use Rattle.notation.specs.Bars.{AreBarGroups, AreGroups};
 ghost use Rattle.notation.specs.Places.{IsOddPart};
 ghost use Rattle.notation.specs.Runs.{AreRun};
 ghost use Rattle.notation.specs.Tokens.{is_silent};
-ghost use Rattle.rhythm_base.specs.Lists.{Each};
-ghost use Rattle.rhythm_base.specs.declared.limits.TheConstants.{MOST_UNITS};
 ghost use Rattle.std.specs.List.{list_all};
 ghost use Rattle.std.specs.Prelude.{◌≡◌, ◌≤◌, All, IfOk, map, sum};
 
@@ -14,12 +10,13 @@ use crate::cut::bar_tokens;
 use crate::groups::first_group;
 use crate::note::{BarGroups, Group};
 use crate::notes::group;
+use crate::odd::Odd;
 use crate::rests::join_rests;
 use crate::token::{Token, past};
 use derivation::ScoreBar;
-use kern_writer::bar_values;
-use rhythm_base::Sound;
+use rhythm_base::{Sound, Units};
 use std::alloc::{AllocError, Global};
+use voice_values::bar_values;
 
 /// Whether no token has keys.
 fn are_silent(tokens: &[Token]) -> bool
@@ -31,15 +28,13 @@ fn are_silent(tokens: &[Token]) -> bool
 /// The tokens in groups.
 fn groups_of<'a>(
     alloc: Global,
-    resolution: u16,
-    odd: u64,
+    resolution: Units,
+    odd: Odd,
     tokens: &[Token<'a>],
 ) -> Result<Vec<Group<'a>>, AllocError>
-    requires some_unit { 1 ≤ resolution }
-    requires few_units { resolution ≤ MOST_UNITS }
     requires odd { IsOddPart resolution odd }
     requires run { AreRun resolution tokens.now }
-    ensures { IfOk result (λ v. Each (IsGroup resolution odd) (parted resolution odd tokens.now) v.items) }
+    ensures { IfOk result (λ v. AreGroups resolution odd tokens.now v.items) }
 {
     let mut groups = Vec::new(alloc);
     let mut later = tokens;
@@ -54,14 +49,12 @@ fn groups_of<'a>(
 /// The groups of a bar with these sounds, after which a tie goes on over the barline or none does.
 pub(crate) fn bar_groups<'a>(
     alloc: Global,
-    resolution: u16,
-    odd: u64,
+    resolution: Units,
+    odd: Odd,
     bar: &ScoreBar,
     after: bool,
     sounds: &'a [Sound],
 ) -> Result<BarGroups<'a>, AllocError>
-    requires some_unit { 1 ≤ resolution }
-    requires few_units { resolution ≤ MOST_UNITS }
     requires odd { IsOddPart resolution odd }
     requires bar { IsScoreBar bar.now }
     requires some { All (λ s. 1 ≤ s.width) sounds.now }

@@ -1,22 +1,22 @@
 ghost use Rattle.durations.specs.Value.{plain_grid};
-ghost use Rattle.notation.specs.Places as places;
 ghost use Rattle.notation.specs.Runs.{IsInBar};
+ghost use Rattle.notation.specs.Spelling.{IsNoteValue};
 ghost use Rattle.notation.specs.Tokens as tokens;
-ghost use Rattle.notation.specs.Tokens.{cut_token, cuts, value_graces, value_tokens};
-ghost use Rattle.kern_writer.specs.Columns.{next_in_column};
+ghost use Rattle.notation.specs.Tokens.{cut_parts, value_graces};
+ghost use Rattle.voice_values.specs.GoesOn.{next_in_column};
 ghost use Rattle.derivation.specs.Score.{IsScoreBar};
 ghost use Rattle.rhythm_base.specs.SoundKinds as kinds;
-ghost use Rattle.rhythm_base.specs.declared.limits.TheConstants.{MOST_UNITS};
 ghost use Rattle.std.specs.Prelude.{◌≡◌, ◌*◌, ◌<◌, ◌≤◌, ◌++◌, ◌^◌, ◌&&◌, All, IfOk, OnOk, if◌then◌else◌};
 
+use crate::odd::Odd;
 use crate::place::{is_plain, whole_of};
 use crate::token::Token;
 use crate::width::width;
 use derivation::ScoreBar;
 use durations::Value;
-use kern_writer::VoiceValue;
-use rhythm_base::{Keys, SoundKind};
+use rhythm_base::{Keys, SoundKind, Units};
 use std::alloc::{AllocError, Global};
+use voice_values::VoiceValue;
 
 /// The grace chords before a value: those of its leaf before the first.
 fn graces<'a>(value: &VoiceValue<'a>) -> &'a [Keys]
@@ -38,9 +38,12 @@ fn is_short(value: &VoiceValue) -> bool
 }
 
 /// The token of a value, after which one follows that goes on, or none that does.
-fn value_token<'a>(resolution: u16, bar: &ScoreBar, goes: bool, value: &VoiceValue<'a>) -> Token<'a>
-    requires some_unit { 1 ≤ resolution }
-    requires few_units { resolution ≤ MOST_UNITS }
+fn value_token<'a>(
+    resolution: Units,
+    bar: &ScoreBar,
+    goes: bool,
+    value: &VoiceValue<'a>,
+) -> Token<'a>
     requires bar { IsScoreBar bar.now }
     requires value { IsInBar resolution bar.now value.now }
     ensures { result ≡ tokens.value_token resolution bar.now goes value.now }
@@ -58,9 +61,8 @@ fn value_token<'a>(resolution: u16, bar: &ScoreBar, goes: bool, value: &VoiceVal
 }
 
 /// How many dots of a token may be cut off: none where it starts and ends at plain places.
-fn loose_dots(odd: u64, value: Value, token: &Token) -> u8
-    requires { 1 ≤ odd }
-    ensures { result ≡ (if places.is_plain odd token.now.start && places.is_plain odd token.now.end then 0 else value.dots) }
+fn loose_dots(odd: Odd, value: Value, token: &Token) -> u8
+    ensures { result ≡ tokens.loose_dots odd value token.now }
 {
     if is_plain(odd, token.start) && is_plain(odd, token.end) {
         0
@@ -70,9 +72,8 @@ fn loose_dots(odd: u64, value: Value, token: &Token) -> u8
 }
 
 /// The length of the first part of a value with dots: without them.
-fn first_part(resolution: u16, value: Value) -> u64
-    requires few_units { resolution ≤ MOST_UNITS }
-    requires some { 1 ≤ plain_grid value.recip }
+fn first_part(resolution: Units, value: Value) -> u64
+    requires { 1 ≤ plain_grid value.recip }
     ensures part { result ≡ tokens.first_part resolution value }
     ensures few { result ≤ 245760 }
 {
@@ -82,17 +83,14 @@ fn first_part(resolution: u16, value: Value) -> u64
 /// Appends a token that was written as this value, cut where joined dots begin in one tuplet and end in another.
 fn push_cut<'a>(
     list: &mut Vec<Token<'a>>,
-    resolution: u16,
-    odd: u64,
+    resolution: Units,
+    odd: Odd,
     value: Value,
     token: Token<'a>,
 ) -> Result<(), AllocError>
-    requires odd { 1 ≤ odd }
-    requires few_units { resolution ≤ MOST_UNITS }
-    requires some { 1 ≤ plain_grid value.recip }
-    requires dots { value.dots ≤ 2 }
+    requires value { IsNoteValue value }
     requires start { token.start < 2 ^ 32 }
-    ensures { OnOk result (list.new.items ≡ list.old.items ++ cut_token (cuts resolution odd value token.entry) token.entry) }
+    ensures { OnOk result (list.new.items ≡ list.old.items ++ cut_parts resolution odd value token.entry) }
 {
     let dots = loose_dots(odd, value, &token);
     let mut part = first_part(resolution, value);
@@ -123,19 +121,17 @@ fn next_goes_on(after: bool, values: &[VoiceValue]) -> bool
 /// The tokens of the values of a bar, after which one follows in the next bar that goes on, or none that does.
 pub(crate) fn bar_tokens<'a>(
     alloc: Global,
-    resolution: u16,
-    odd: u64,
+    resolution: Units,
+    odd: Odd,
     bar: &ScoreBar,
     after: bool,
     values: &[VoiceValue<'a>],
 ) -> Result<Vec<Token<'a>>, AllocError>
-    requires odd { 1 ≤ odd }
-    requires some_unit { 1 ≤ resolution }
-    requires few_units { resolution ≤ MOST_UNITS }
     requires bar { IsScoreBar bar.now }
     requires values { All (IsInBar resolution bar.now) values.now }
     ensures { IfOk result (λ v. v.items ≡ tokens.bar_tokens resolution odd bar.now after values.now) }
 {
+    let _units = resolution.count();
     let mut list = Vec::with_capacity(alloc, values.len())?;
     let mut later = values;
     'values: while let [value, more @ ..] = later {

@@ -2,6 +2,7 @@ ghost use Rattle.notation.specs.Notes.{IsGreatestPower, IsGrid};
 ghost use Rattle.std.specs.Int.{IsGcd};
 ghost use Rattle.std.specs.Prelude.{◌≡◌, ◌≤◌};
 
+use crate::odd::Odd;
 use crate::token::Token;
 
 /// The greatest common divisor, by Euclid's algorithm.
@@ -19,10 +20,10 @@ fn gcd(a: u64, b: u64) -> u64
 }
 
 /// The greatest number of parts in which the places of the tokens count, as a divisor of the odd part of the resolution.
-pub(crate) fn grid(odd: u64, tokens: &[Token]) -> u64
+pub(crate) fn grid(odd: Odd, tokens: &[Token]) -> u64
     ensures { IsGrid odd tokens.now result }
 {
-    let mut grid = odd;
+    let mut grid = odd.count();
     'tokens: for token in tokens {
         grid = gcd(grid, gcd(token.start, token.end));
     }

@@ -1,13 +1,14 @@
 ghost use Rattle.notation.specs.Groups as groups;
-ghost use Rattle.notation.specs.Groups.{parted};
+ghost use Rattle.notation.specs.Groups.{IsFirstGroup};
 ghost use Rattle.notation.specs.Runs.{AreRun};
 ghost use Rattle.notation.specs.Tokens.{token_length};
 ghost use Rattle.rhythm_base.specs.Lists.{greatest};
-ghost use Rattle.rhythm_base.specs.declared.limits.TheConstants.{MOST_UNITS};
-ghost use Rattle.std.specs.Prelude.{◌≡◌, ◌<◌, ◌≤◌, ◌∷◌, All, drop, length, map, take};
+ghost use Rattle.std.specs.Prelude.{◌≡◌, ◌≤◌, All, length, map};
 
+use crate::odd::Odd;
 use crate::place::{is_plain, quarter_of};
 use crate::token::Token;
+use rhythm_base::Units;
 
 /// The length of the longest of the tokens.
 fn longest(tokens: &[Token]) -> u64
@@ -41,8 +42,7 @@ fn group_end(tokens: &[Token]) -> u64
 }
 
 /// Whether no tuplet follows at once.
-fn next_is_plain(odd: u64, more: &[Token]) -> bool
-    requires { 1 ≤ odd }
+fn next_is_plain(odd: Odd, more: &[Token]) -> bool
     ensures { result ≡ groups.next_is_plain odd more.now }
 {
     match more {
@@ -52,13 +52,11 @@ fn next_is_plain(odd: u64, more: &[Token]) -> bool
 }
 
 /// Whether tokens are a whole group, before these.
-fn is_whole(resolution: u16, odd: u64, group: &[Token], more: &[Token]) -> bool
-    requires odd { 1 ≤ odd }
-    requires some_unit { 1 ≤ resolution }
-    requires few_units { resolution ≤ MOST_UNITS }
-    requires run { AreRun resolution group.now }
+fn is_whole(resolution: Units, odd: Odd, group: &[Token], more: &[Token]) -> bool
+    requires { AreRun resolution group.now }
     ensures { result ≡ groups.is_whole resolution odd group.now more.now }
 {
+    let _units = resolution.count();
     let end = group_end(group);
     is_plain(odd, end)
         && (group.len() == 1
@@ -68,15 +66,12 @@ fn is_whole(resolution: u16, odd: u64, group: &[Token], more: &[Token]) -> bool
 }
 
 /// How many of the tokens, of which there is one at least, are the first group.
-pub(crate) fn first_group(resolution: u16, odd: u64, tokens: &[Token]) -> usize
-    requires odd { 1 ≤ odd }
-    requires some_unit { 1 ≤ resolution }
-    requires few_units { resolution ≤ MOST_UNITS }
+pub(crate) fn first_group(resolution: Units, odd: Odd, tokens: &[Token]) -> usize
     requires run { AreRun resolution tokens.now }
     requires some { 1 ≤ length tokens.now }
     ensures some { 1 ≤ result }
     ensures few { result ≤ length tokens.now }
-    ensures group { parted resolution odd tokens.now ≡ take result tokens.now ∷ parted resolution odd (drop result tokens.now) }
+    ensures group { IsFirstGroup resolution odd result tokens.now }
 {
     let mut count = 1;
     'tokens: while count < tokens.len() {

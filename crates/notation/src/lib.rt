@@ -11,8 +11,10 @@ mod laws;
 mod names;
 mod note;
 mod notes;
+mod odd;
 mod place;
 mod rests;
+mod spelling;
 mod ties;
 mod token;
 mod voice;
@@ -23,8 +25,6 @@ pub use laws::{
     groups_are_plain, groups_fill_the_bar, notes_fill_their_group, notes_have_their_ratio,
     voice_groups_are_one, voice_groups_exist,
 };
-pub use names::{
-    Alteration, Letter, PitchName, names_are_one, pitch_name, tonic_alteration, tonic_letter,
-};
+pub use names::{Alteration, Letter, PitchName, names_are_one, pitch_name};
 pub use note::{BarGroups, Group, Note, Ratio};
 pub use voice::voice_groups;

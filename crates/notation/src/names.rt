@@ -151,22 +151,6 @@ pub fn pitch_name(key: u8, sf: Option<i8>) -> PitchName
     }
 }
 
-/// The letter of the tonic of the major key of a signature.
-pub fn tonic_letter(sf: i8) -> Letter
-    requires { IsKeySignature sf }
-    ensures { result ≡ definitions.letter_at (definitions.tonic (Some sf)) }
-{
-    letter_at(tonic(sf))
-}
-
-/// The alteration of the tonic of the major key of a signature.
-pub fn tonic_alteration(sf: i8) -> Alteration
-    requires { IsKeySignature sf }
-    ensures { result ≡ definitions.alteration_at (definitions.tonic (Some sf)) }
-{
-    alteration_at(tonic(sf))
-}
-
 /// Each key has exactly one name in the window of a key signature.
 pub fn names_are_one()
     ensures { NamesAreOne }

@@ -1,16 +1,15 @@
 ghost use Rattle.durations.specs.Value as lengths;
-ghost use Rattle.durations.specs.Value.{plain_grid};
-ghost use Rattle.std.specs.Prelude.{◌≡◌, ◌≤◌};
+ghost use Rattle.notation.specs.Spelling.{IsNoteValue};
+ghost use Rattle.std.specs.Prelude.{◌≡◌};
 
-use durations::{Recip, Value};
+use durations::{Grid, Recip, Value};
 
 /// How many of `whole` equal parts of a whole note the value is long.
-pub(crate) fn width(value: Value, whole: u64) -> u64
-    requires few { whole ≤ 61440 }
-    requires dots { value.dots ≤ 2 }
-    requires some { 1 ≤ plain_grid value.recip }
+pub(crate) fn width(value: Value, whole: Grid) -> u64
+    requires { IsNoteValue value }
     ensures { result ≡ lengths.width whole value }
 {
+    let whole = whole.count();
     let (parts, grid) = match value.recip {
         Recip::Of(number) => (1, u64::from(number)),
         Recip::Breve => (2, 1),

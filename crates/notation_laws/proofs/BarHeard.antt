@@ -11,9 +11,9 @@ use Rattle.durations.proofs.Wide.{some_product}
 use Rattle.derivation.specs.declared.score.ScoreBar.{ScoreBar}
 use Rattle.derivation.specs.Score.{IsScoreBar}
 use Rattle.voice_events.specs.Parts.{score_bar_parts}
-use Rattle.kern_writer.specs.Values.{AreBarValues, VoiceValue}
-use Rattle.kern_writer.proofs.TimedSounds.{width_of}
-use Rattle.kern_reader.specs.Tokens.{◌>>=◌}
+use Rattle.voice_values.specs.Values.{AreBarValues, VoiceValue}
+use Rattle.voice_values.proofs.TimedSounds.{width_of}
+use Rattle.text_words.specs.Steps.{◌>>=◌}
 use Rattle.notation.specs.Bars.{are_silent, grouped}
 use Rattle.notation.specs.Groups.{parted}
 use Rattle.notation.specs.Notes.{Group, IsGroup}

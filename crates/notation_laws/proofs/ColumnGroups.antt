@@ -8,17 +8,18 @@ use Rattle.rhythm_base.specs.Lists.{Each}
 use Rattle.durations.proofs.Wide.{some_product}
 use Rattle.derivation.specs.declared.score.ScoreBar.{ScoreBar}
 use Rattle.derivation.specs.Score.{IsScoreBar}
-use Rattle.kern_writer.specs.Ahead.{begins_with_tie, later_sounds, own_sounds}
-use Rattle.kern_writer.specs.Tokens.{next_goes_on}
-use Rattle.kern_writer.specs.Values.{AreBarValues, AreVoiceValues, VoiceValue, sounds_in_bar}
-use Rattle.kern_writer.proofs.BarSounds.{stand_fill, stand_later}
-use Rattle.kern_writer.proofs.BarTokens.{bar_values_one}
-use Rattle.kern_writer.proofs.TimedSounds.{some_whole}
+use Rattle.derivation.specs.Ahead.{later_sounds, own_sounds}
+use Rattle.voice_values.specs.Ahead.{begins_with_tie}
+use Rattle.voice_values.specs.GoesOn.{next_goes_on}
+use Rattle.voice_values.specs.Values.{AreBarValues, AreVoiceValues, VoiceValue, sounds_in_bar}
+use Rattle.voice_values.proofs.BarSounds.{stand_fill, stand_later}
+use Rattle.voice_values.proofs.ValuesExist.{bar_values_one}
+use Rattle.voice_values.proofs.TimedSounds.{some_whole}
 use Rattle.notation.specs.Bars.{AreVoiceGroups, grouped}
 use Rattle.notation.specs.Notes.{Group, IsGroup}
 use Rattle.notation.specs.Tokens.{bar_tokens}
 use Rattle.notation.proofs.VoiceLemmas.{AreAhead, ahead_later, own_are}
-use Rattle.kern_laws.proofs.BarSounded.{AreSounded, sounded}
+use Rattle.voice_values.proofs.BarSounded.{AreSounded, sounded}
 use Rattle.notation_laws.specs.Columns.{AreGroupsOfBar, AreGroupsOfValues}
 use Rattle.notation_laws.specs.Laws.{GroupsAreOfTheColumn}
 use Rattle.notation_laws.proofs.SoundSegments.{tie_first}

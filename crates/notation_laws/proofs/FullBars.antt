@@ -4,16 +4,15 @@ use Rattle.std.specs.Prelude.{All, sum, sum_by}
 use Rattle.std.proofs.lemmas.List.{map-append}
 use Rattle.std.proofs.lemmas.List.Elements.{All-head, All-tail}
 use Rattle.std.proofs.lemmas.List.Sums.{sum-map, sum_by-append, sum_by-cons}
-use Rattle.rhythm_base.specs.declared.note.Bar.{Bar}
 use Rattle.rhythm_base.specs.declared.sound.Sound.{Sound}
 use Rattle.derivation.specs.declared.score.ScoreBar.{ScoreBar}
 use Rattle.derivation.specs.Score.{IsScoreBar}
-use Rattle.voice_events.specs.Events.{HaveSignatures}
+use Rattle.voice_events.proofs.BarUnits.{signatures_kept, some_bar}
 use Rattle.voice_events.specs.Parts.{score_bar_parts}
-use Rattle.kern_writer.specs.Ahead.{later_sounds}
-use Rattle.kern_writer.specs.Values.{sounds_in_bar}
-use Rattle.kern_writer.proofs.BarSounds.{stand_fill, stand_later}
-use Rattle.kern_reader.specs.Tokens.{◌>>=◌}
+use Rattle.derivation.specs.Ahead.{later_sounds}
+use Rattle.voice_values.specs.Values.{sounds_in_bar}
+use Rattle.voice_values.proofs.BarSounds.{stand_fill, stand_later}
+use Rattle.text_words.specs.Steps.{◌>>=◌}
 use Rattle.notation.specs.Bars.{AreVoiceGroups}
 use Rattle.notation.specs.Laws.{group_length}
 use Rattle.notation.specs.Notes.{Group, Note}
@@ -149,17 +148,6 @@ module _ (r total : ℕ) (some : 1 ≤ r) where
       full_bars (suc n) bars sounds (later_sounds n later) all done' at' going' last (omega (arith, count))
       (All-tail IsScoreBar bar bars right)
       (ahead_later r total n sounds later ahead (stand_later r total n later few ahead.stand)) groups e')
-
--- bars of a performance with the signatures of a score's
-abbrev pub some_bar : ScoreBar → Bar
-some_bar b = record { start = 0; num = b.num; den = b.den }
-
-pub signatures_kept : (bars : List ScoreBar) → HaveSignatures bars (map some_bar bars)
-signatures_kept [] = refl
-signatures_kept (b ∷ bars) = ap (λ xs. signature b ∷ xs) (signatures_kept bars)
-  where
-    signature : ScoreBar → ℕ × ℕ
-    signature b = (b.num, b.den)
 
 pub bars_in_full : BarsAreHeardInFull
 bars_in_full r bars sounds all voice groups =

@@ -10,7 +10,7 @@ use Rattle.rhythm_base.specs.Lists.{Each}
 use Rattle.durations.specs.declared.value.Value.{Value}
 use Rattle.durations.specs.Value.{width}
 use Rattle.durations.proofs.Sums.{values_sum}
-use Rattle.kern_reader.specs.Tokens.{◌>>=◌}
+use Rattle.text_words.specs.Steps.{◌>>=◌}
 use Rattle.notation.specs.Groups.{is_whole, parted_from}
 use Rattle.notation.specs.Notes.{AreNotes, Group, IsGroup, Note, note, spelled_whole, ties_taken, token_notes}
 use Rattle.notation.specs.Places.{IsOddPart}

@@ -2,8 +2,8 @@ pub mod BarHeard
 pub mod ColumnGroups
 pub mod FullBars
 pub mod GroupSegments
-pub mod KernEvents
 pub mod Says
+pub mod ScoreEvents
 pub mod Segments
 pub mod SoundSegments
 pub mod SpelledNotes

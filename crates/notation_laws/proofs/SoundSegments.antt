@@ -13,14 +13,13 @@ use Rattle.durations.specs.declared.value.Value.{Value}
 use Rattle.durations.specs.Value.{value_grid, width}
 use Rattle.derivation.specs.declared.score.ScoreBar.{ScoreBar}
 use Rattle.derivation.specs.Score.{IsScoreBar}
-use Rattle.kern_writer.specs.Columns.{next_in_column}
-use Rattle.kern_writer.specs.Tokens.{goes_on}
-use Rattle.kern_writer.specs.Values.{VoiceValue}
-use Rattle.kern_reader.specs.Tokens.{◌>>=◌}
+use Rattle.voice_values.specs.GoesOn.{next_in_column, goes_on}
+use Rattle.voice_values.specs.Values.{VoiceValue}
+use Rattle.text_words.specs.Steps.{◌>>=◌}
 use Rattle.notation.specs.Tokens.{value_token}
 use Rattle.notation.proofs.BarRuns.{scale, scaled, wide_scaled}
 use Rattle.notation.proofs.Values.{some_divisor}
-use Rattle.kern_laws.proofs.BarSounded.{AreSounded, AreTies, IsValue, leaf_values, sound_len, sound_lens}
+use Rattle.voice_values.proofs.BarSounded.{AreSounded, AreTies, IsValue, leaf_values, sound_len, sound_lens}
 use Rattle.notation_laws.specs.Hearing.{HeardVoice}
 use Rattle.notation_laws.proofs.Segments.{IsBegin, IsMore, IsRest, Segment, begin_heard, begun, clean, hear_segment, hear_segments, more_heard, more_only, rest_heard, rest_or_begin, sounded}
 use Rattle.notation_laws.proofs.Says.{IsSplit, Says, heard_only, join_says, joint, says_both, says_front, says_same, says_then, split_says}

@@ -16,8 +16,8 @@ use Rattle.derivation.specs.WellSounded.{GoesOn, IsWellSounding, StandInBars, Ti
 use Rattle.derivation.proofs.FilledBars.{parts_at, place_at, place_next}
 use Rattle.derivation.proofs.SpansRead.{ties_of}
 use Rattle.voice_events.proofs.SpansFollow.{tied_length}
-use Rattle.kern_writer.specs.Ahead.{begins_with_tie}
-use Rattle.kern_reader.specs.Tokens.{◌>>=◌}
+use Rattle.voice_values.specs.Ahead.{begins_with_tie}
+use Rattle.text_words.specs.Steps.{◌>>=◌}
 use Rattle.notation_laws.specs.Hearing.{HeardSpan}
 use Rattle.notation_laws.proofs.Segments.{IsBegin, IsMore, IsRest, Segment, begin_heard, begun, clean, hear_segment, hear_segments, longer, more_heard, rest_heard, sounded}
 use Rattle.notation_laws.proofs.SoundSegments.{IsKeyed, next_ties, sound_segment, sound_segments}

@@ -14,14 +14,14 @@ use Rattle.durations.specs.Spans.{chord_runs}
 use Rattle.derivation.specs.declared.score.ScoreBar.{ScoreBar}
 use Rattle.derivation.specs.WellSounded.{AreKeys, IsWellSounding}
 use Rattle.derivation.proofs.SpansRead.{ties_of}
-use Rattle.kern_reader.specs.Tokens.{◌>>=◌}
+use Rattle.text_words.specs.Steps.{◌>>=◌}
 use Rattle.notation.specs.Bars.{AreVoiceGroups}
 use Rattle.notation.specs.Notes.{Group, Note}
 use Rattle.notation_laws.specs.Hearing.{HeardSpan, HeardVoice, ended_spans}
 use Rattle.notation_laws.specs.Laws.{IsVoice}
 use Rattle.notation_laws.specs.NotesHeard.{group_notes, hear_bar, hear_bars}
 use Rattle.notation_laws.proofs.BarHeard.{rest_segment}
-use Rattle.notation_laws.proofs.FullBars.{signatures_kept, some_bar}
+use Rattle.voice_events.proofs.BarUnits.{signatures_kept, some_bar}
 use Rattle.notation_laws.proofs.GroupSegments.{note_segment, note_segments, notes_heard}
 use Rattle.notation_laws.proofs.Says.{IsClean, clean_later, heard_first}
 use Rattle.notation_laws.proofs.Segments.{IsBegin, IsRest, Segment, begun, clean, hear_segment, hear_segments, longer, more_only, rest_or_begin, sounded}

@@ -4,8 +4,8 @@ use Rattle.std.specs.Prelude.{if◌then◌else◌, take_while, ⊤}
 use Rattle.std.proofs.lemmas.List.{length-map, map-append}
 use Rattle.std.proofs.lemmas.List.Sums.{take_while-cons}
 use Rattle.derivation.specs.declared.score.ScoreBar.{ScoreBar}
-use Rattle.kern_writer.specs.Columns.{next_in_column}
-use Rattle.kern_writer.specs.Values.{VoiceValue}
+use Rattle.voice_values.specs.GoesOn.{next_in_column}
+use Rattle.voice_values.specs.Values.{VoiceValue}
 use Rattle.notation.specs.Notes.{tied_ends, ties_taken}
 use Rattle.notation.specs.Places.{is_halved}
 use Rattle.notation.specs.Rests.{joined, joined_from, joined_rests, last_number, may_stand, rests_taken}

@@ -19,18 +19,19 @@ use Rattle.derivation.specs.Score.{IsScoreBar}
 use Rattle.derivation.specs.WellSounded.{IsWellSounding, TiesGoOn}
 use Rattle.derivation.proofs.FilledBars.{parts_at}
 use Rattle.voice_events.specs.Events.{HaveSignatures}
-use Rattle.kern_writer.specs.Ahead.{begins_with_tie, later_sounds, own_sounds}
-use Rattle.kern_writer.specs.Values.{AreBarValues, sounds_in_bar}
-use Rattle.kern_writer.proofs.BarSounds.{stand_fill, stand_later}
-use Rattle.kern_writer.proofs.TimedSounds.{some_whole}
-use Rattle.kern_reader.specs.Tokens.{◌>>=◌}
+use Rattle.derivation.specs.Ahead.{later_sounds, own_sounds}
+use Rattle.voice_values.specs.Ahead.{begins_with_tie}
+use Rattle.voice_values.specs.Values.{AreBarValues, sounds_in_bar}
+use Rattle.voice_values.proofs.BarSounds.{stand_fill, stand_later}
+use Rattle.voice_values.proofs.TimedSounds.{some_whole}
+use Rattle.text_words.specs.Steps.{◌>>=◌}
 use Rattle.notation.specs.Bars.{AreVoiceGroups, grouped}
 use Rattle.notation.specs.Notes.{Group, IsGroup}
 use Rattle.notation.specs.Tokens.{bar_tokens}
 use Rattle.notation.proofs.BarRuns.{scale}
 use Rattle.notation.proofs.VoiceLemmas.{AreAhead, ahead_later, own_are, tie_ahead}
-use Rattle.kern_laws.proofs.BarSounded.{sounded}
-use Rattle.kern_laws.proofs.SpanVoices.{AreUnits, units_are}
+use Rattle.voice_values.proofs.BarSounded.{sounded}
+use Rattle.voice_events.proofs.BarUnits.{AreUnits, units_are}
 use Rattle.notation_laws.specs.Hearing.{HeardSpan, ended_spans}
 use Rattle.notation_laws.specs.Laws.{IsVoice, VoicesAreHeard}
 use Rattle.notation_laws.specs.NotesHeard.{IsSpanHeard, hear_bar, hear_bars, voice_heard}

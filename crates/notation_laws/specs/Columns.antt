@@ -3,8 +3,8 @@ use Rattle.std.specs.Prelude.{◌≡◌, ℕ, List, [], ◌∷◌}
 use Rattle.std.specs.List.{flat_map}
 use Rattle.rhythm_base.specs.Lists.{Each}
 use Rattle.derivation.specs.declared.score.ScoreBar.{ScoreBar}
-use Rattle.kern_writer.specs.Tokens.{next_goes_on}
-use Rattle.kern_writer.specs.Values.{VoiceValue}
+use Rattle.voice_values.specs.GoesOn.{next_goes_on}
+use Rattle.voice_values.specs.Values.{VoiceValue}
 use Rattle.notation.specs.Bars.{grouped}
 use Rattle.notation.specs.Notes.{Group, IsGroup}
 use Rattle.notation.specs.Places.{IsOddPart}

@@ -1,7 +1,7 @@
 -- What is heard of a voice, note after note. Places and lengths are in a kind of number that can be added: in parts
 -- of a whole note, or in whole notes.
 use Rattle.std.specs.Prelude.{ℕ, Bool, true, false, ◌==◌, ◌&&◌, ◌||◌, not, if◌then◌else◌, List, [], ◌∷◌, ◌++◌, Option, Some, None}
-use Rattle.kern_reader.specs.Tokens.{◌>>=◌}
+use Rattle.text_words.specs.Steps.{◌>>=◌}
 use Rattle.notation.specs.Notes.{is_empty}
 
 -- A note, a chord or a rest as it is read: how long it is; its keys, of a rest none; whether it is marked short; and

@@ -1,20 +1,16 @@
 -- The laws, each as one statement over the definitions.
 use Rattle.rhythm_base.specs.declared.limits.TheConstants.{MOST_UNITS}
-use Rattle.std.specs.Prelude.{◌≡◌, ◌↔◌, ℕ, ◌*◌, ◌≤◌, All, List, length, Ok, Some}
+use Rattle.std.specs.Prelude.{◌≡◌, ◌↔◌, ℕ, ◌*◌, ◌≤◌, All, List, length, Some}
 use Rattle.rhythm_base.specs.declared.note.Bar.{Bar}
 use Rattle.rhythm_base.specs.declared.sound.Sound.{Sound}
 use Rattle.rhythm_base.specs.declared.span.Span.{Span}
 use Rattle.rhythm_base.specs.Lists.{Each}
 use Rattle.durations.specs.Spans.{AreSpans}
 use Rattle.derivation.specs.declared.score.ScoreBar.{ScoreBar}
-use Rattle.derivation.specs.Score.{IsScore, IsScoreBar, Score}
+use Rattle.derivation.specs.Score.{IsScoreBar, Score}
 use Rattle.derivation.specs.WellSounded.{AreWellSounded}
-use Rattle.voice_events.specs.Events.{HaveSignatures}
-use Rattle.kern_writer.specs.Text.{IsScoreText}
-use Rattle.kern_writer.specs.Values.{AreVoiceValues, VoiceValue}
-use Rattle.kern_reader.specs.Events.{AreEvents}
-use Rattle.kern_reader.specs.Outcome.{score_of}
-use Rattle.kern_reader.specs.Score.{KernColumns}
+use Rattle.voice_events.specs.Events.{AreScoreEvents, HaveSignatures}
+use Rattle.voice_values.specs.Values.{AreVoiceValues, VoiceValue}
 use Rattle.notation.specs.Bars.{AreVoiceGroups}
 use Rattle.notation.specs.Notes.{Group}
 use Rattle.notation_laws.specs.Columns.{AreGroupsOfValues}
@@ -60,14 +56,12 @@ NotesCanBeWritten =
     → IsVoice resolution bars sounds
     → AreVoiceGroups resolution 0 bars sounds all → All (All (IsWrittenGroup resolution)) all
 
--- The spans of the voices of a score are the events of its **kern text. So what is read of another text as these
--- spans says the same music
+-- The spans of the voices of a score are its events. So what is read of a text as these spans says the same music as
+-- every other form of the score
 abbrev pub SpansAreTheEvents : Type 0
 SpansAreTheEvents =
-    (s : Score) (bars : List Bar) (text : List ℕ) (all : List (List Span)) → IsScore s → HaveSignatures s.bars bars
-    → IsScoreText s text
-    → Each (AreSpans s.resolution bars) s.voices all
-    → (k : KernColumns) × (score_of text ≡ Ok k) × AreEvents k (voices_events 1 all)
+    (s : Score) (bars : List Bar) (all : List (List Span)) → HaveSignatures s.bars bars
+    → Each (AreSpans s.resolution bars) s.voices all → AreScoreEvents s (voices_events 1 all)
 
 -- the groups of a voice are those of the values of its **kern column
 abbrev pub GroupsAreOfTheColumn : Type 0

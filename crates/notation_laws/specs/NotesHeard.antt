@@ -5,7 +5,7 @@ use Rattle.rhythm_base.specs.declared.span.Span.{Span}
 use Rattle.durations.specs.Spans.{IsFrac}
 use Rattle.derivation.specs.declared.score.ScoreBar.{ScoreBar}
 use Rattle.voice_events.specs.Parts.{score_bar_parts}
-use Rattle.kern_reader.specs.Tokens.{◌>>=◌}
+use Rattle.text_words.specs.Steps.{◌>>=◌}
 use Rattle.notation.specs.Notes.{Group, Note}
 use Rattle.notation_laws.specs.Hearing.{HeardSpan, HeardVoice, Stretch, ended_spans, hear, hear_graces, unheard}
 

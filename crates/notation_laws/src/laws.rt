@@ -20,7 +20,7 @@ pub fn notes_can_be_written()
     ensures { NotesCanBeWritten }
 {}
 
-/// The spans of the voices of a score are the events that are read of its **kern text.
+/// The spans of the voices of a score are its events.
 pub fn spans_are_the_events()
     ensures { SpansAreTheEvents }
 {}

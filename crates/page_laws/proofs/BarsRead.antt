@@ -13,13 +13,13 @@ use Rattle.derivation.specs.declared.score.ScoreBar.{ScoreBar}
 use Rattle.derivation.specs.Score.{IsKeySignature, IsScoreBar}
 use Rattle.voice_events.proofs.ScoreBars.{parts_finer}
 use Rattle.voice_events.specs.Parts.{score_bar_parts}
-use Rattle.kern_reader.specs.declared.token.TimeSignature.{TimeSignature}
-use Rattle.kern_reader.specs.Lines.{signature_of_numbers, signature_of_parts}
-use Rattle.kern_reader.specs.Tokens.{◌>>=◌, number_of}
-use Rattle.kern_laws.proofs.TextNumbers.{number_back}
-use Rattle.kern_laws.proofs.TextSplits.{split_first, split_last}
-use Rattle.kern_laws.proofs.TextTests.{decimal_digits}
-use Rattle.kern_laws.proofs.WordsSay.{slash_free}
+use Rattle.text_words.specs.declared.time_signature.TimeSignature.{TimeSignature}
+use Rattle.text_words.specs.TimeSignatures.{signature_of_numbers, signature_of_parts}
+use Rattle.text_words.specs.Steps.{◌>>=◌}
+use Rattle.text_words.specs.Numbers.{number_of}
+use Rattle.text_words.proofs.TextNumbers.{number_back}
+use Rattle.text_words.proofs.TextSplits.{split_first, split_last}
+use Rattle.text_words.proofs.TextTests.{decimal_digits, slash_free}
 use Rattle.lily_writer.specs.Fractions.{frac, frac_plus, same_frac}
 use Rattle.lily_writer.specs.Pitches.{words}
 use Rattle.lily_writer.specs.Reading.{bar_fraction, words_of_bar}
@@ -33,7 +33,7 @@ use Rattle.notation_laws.specs.Hearing.{HeardVoice, hear, hear_graces}
 use Rattle.notation_laws.specs.NotesHeard.{group_notes, hear_bar, hear_note, hear_notes, note_stretch, rest_stretch}
 use Rattle.notation_laws.specs.Written.{IsWrittenGroup}
 use Rattle.notation_laws.proofs.Says.{heard_first}
-use Rattle.page_writer.specs.Bars.{bar_line, bar_words, first_graces}
+use Rattle.page_writer.specs.Bars.{bar_line, first_graces}
 use Rattle.page_writer.specs.Bars as written
 use Rattle.page_laws.specs.Hearing.{HeardStaff, at_bracket, at_ratio, hear_page_word, with_voice}
 use Rattle.page_laws.specs.Reading.{after_page_bar, hear_page_bar, hear_page_words}

@@ -7,7 +7,7 @@ use Rattle.rhythm_base.specs.declared.span.Frac.{Frac}
 use Rattle.lily_writer.specs.Fractions.{frac_plus, same_frac}
 use Rattle.lily_writer.specs.Pitches.{words}
 use Rattle.lily_writer.specs.Reading.{words_of_bar}
-use Rattle.kern_reader.specs.Tokens.{◌>>=◌}
+use Rattle.text_words.specs.Steps.{◌>>=◌}
 use Rattle.notation.specs.Notes.{is_empty}
 use Rattle.notation_laws.proofs.Says.{heard_first}
 use Rattle.page_laws.specs.Hearing.{HeardStaff, is_unbracketed}

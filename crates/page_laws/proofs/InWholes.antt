@@ -4,7 +4,7 @@ use Rattle.std.specs.Prelude.{if◌then◌else◌}
 use Rattle.std.specs.Option.{option_map}
 use Rattle.std.proofs.lemmas.List.{map-append}
 use Rattle.rhythm_base.specs.declared.span.Frac.{Frac}
-use Rattle.kern_reader.specs.Tokens.{◌>>=◌}
+use Rattle.text_words.specs.Steps.{◌>>=◌}
 use Rattle.lily_writer.specs.Fractions.{frac, frac_plus}
 use Rattle.lily_laws.proofs.Fractions.{plus_parts}
 use Rattle.notation.specs.Notes.{is_empty}

@@ -11,27 +11,22 @@ use Rattle.derivation.specs.Score.{IsKeySignature, IsScoreBar}
 use Rattle.score_words.specs.Changes.{key_before, quarters_of_minute, same_key, same_signature, same_tempo}
 use Rattle.score_words.specs.Keys.{rising_keys}
 use Rattle.score_words.proofs.SetKeys.{KeysRise, keys_rise}
-use Rattle.kern_laws.proofs.TextTests.{all_append, all_weaker, decimal_digits, digit_graphic, graphic_prints, lacks, printing_no_newline}
+use Rattle.text_words.proofs.TextTests.{all_append, all_weaker, decimal_digits, digit_graphic, graphic_prints, lacks, printing_no_newline}
 use Rattle.lily_writer.specs.Fractions.{frac}
 use Rattle.lily_laws.proofs.BarWords.{signature}
 use Rattle.lily_laws.proofs.ElementWords.{pitch_words, spaced, spaced_in_line}
-use Rattle.lily_laws.proofs.PageLines.{are_lines}
+use Rattle.lily_laws.proofs.PageLines.{are_lines, changes_lines}
 use Rattle.notation.specs.declared.clef.Clef.{Clef}
 use Rattle.notation.specs.declared.clef.Clef.TheVariants.{BassBelow, Bass, Treble, TrebleAbove}
-use Rattle.notation.specs.declared.names.Alteration.{Alteration}
-use Rattle.notation.specs.declared.names.Alteration.TheVariants.{DoubleFlat, Flat, Natural, Sharp, DoubleSharp}
-use Rattle.notation.specs.declared.names.Letter.{Letter}
-use Rattle.notation.specs.declared.names.Letter.TheVariants.{C, D, E, F, G, A, B}
-use Rattle.notation.specs.Names.{alteration_at, letter_at, tonic}
 use Rattle.notation.specs.Notes.{Group, Note, is_empty}
 use Rattle.notation_laws.specs.Written.{IsWrittenGroup}
 use Rattle.page_writer.specs.Bars.{bar_line, first_graces}
-use Rattle.page_writer.specs.Changes.{key_change, key_line, key_name, page_changes, tempo_change, tempo_line, time_change, time_line}
-use Rattle.page_writer.specs.Pitches.{alteration_text, letter_text, page_pitch}
+use Rattle.score_words.specs.LilyChanges.{lily_key_lines, lily_key, key_name, lily_changes, lily_tempo_lines, lily_tempo, time_change, time_line}
+use Rattle.page_writer.specs.Pitches.{page_pitch}
 use Rattle.page_writer.specs.Staves.{clef_line, staff_head}
 use Rattle.page_laws.specs.Hearing.{HeardStaff}
 use Rattle.page_laws.specs.Reading.{PageStaff, begins_staff, ends_in, hear_page_bar, hear_page_line, spans_of_lines}
-use Rattle.kern_reader.specs.Tokens.{◌>>=◌}
+use Rattle.text_words.specs.Steps.{◌>>=◌}
 use Rattle.rhythm_base.specs.declared.span.Frac.{Frac}
 use Rattle.page_laws.proofs.BarsRead.{bar_text, numbers_read}
 use Rattle.page_laws.proofs.NoteWords.{bar_graphic, bar_list, graces_list, group_list, groups_list, note_list, notes_list, own_list, ratio_text, sounding_list}
@@ -203,18 +198,18 @@ bar_said r some bar silent groups staff next right all said heard =
 
 -- ---- changes
 
-key_said : (staff : PageStaff) (sf : ℤ) → IsLine staff (key_line sf) staff
+key_said : (staff : PageStaff) (sf : ℤ) → IsLine staff (lily_key sf) staff
 key_said staff sf = record {
   begins = refl;
-  heard = other_line staff (key_line sf) refl (end_is 124 (codes "\\key " ++ key_name sf) 32 (codes "\\major"));
+  heard = other_line staff (lily_key sf) refl (end_is 124 (codes "\\key " ++ key_name sf) 32 (codes "\\major"));
 }
 
-tempo_said : (staff : PageStaff) (bar : ScoreBar) → IsLine staff (tempo_line bar) staff
+tempo_said : (staff : PageStaff) (bar : ScoreBar) → IsLine staff (lily_tempo bar) staff
 tempo_said staff bar =
     let ds = decimal (quarters_of_minute bar.tempo) in
     record {
       begins = refl;
-      heard = other_line staff (tempo_line bar) refl
+      heard = other_line staff (lily_tempo bar) refl
           (end_is 124 (codes "\\tempo 4 =") 32 ds ∙ digits_end 32 ds refl (decimal_digits (quarters_of_minute bar.tempo)));
     }
 
@@ -252,22 +247,22 @@ same_is (Some before) bar staff same said =
 
 pub changes_said : (first : Bool) (before : Option ScoreBar) (bar : ScoreBar) (staff : PageStaff) (lines : List (List ℕ)) → IsScoreBar bar
     → IsSaid before staff
-    → spans_of_lines (Some staff) (page_changes first before bar ++ lines)
+    → spans_of_lines (Some staff) (lily_changes first before bar ++ lines)
     ≡ spans_of_lines (Some (record staff { signature = Some (signature bar) })) lines
 changes_said first before bar staff lines right said =
-    let key = key_change (key_before before) bar.sf in
+    let key = lily_key_lines (key_before before) bar.sf in
     let time = time_change before bar in
-    let tempo : List (List ℕ) = if first then tempo_change before bar else [] in
+    let tempo : List (List ℕ) = if first then lily_tempo_lines before bar else [] in
     let next : PageStaff = record staff { signature = Some (signature bar) } in
     ap (spans_of_lines (Some staff)) (append_assoc (key ++ time) tempo lines ∙ append_assoc key time (tempo ++ lines))
     ∙ keys bar.sf (time ++ (tempo ++ lines)) ∙ times (same_signature before bar) refl (tempo ++ lines) ∙ tempos next first lines
   where
-    key_test : (b : Bool) (sf : ℤ) (lines : List (List ℕ)) → spans_of_lines (Some staff) ((if b then [] else key_line sf ∷ []) ++ lines)
+    key_test : (b : Bool) (sf : ℤ) (lines : List (List ℕ)) → spans_of_lines (Some staff) ((if b then [] else lily_key sf ∷ []) ++ lines)
         ≡ spans_of_lines (Some staff) lines
     key_test true sf lines = refl
-    key_test false sf lines = line_more staff staff (key_line sf) lines (key_said staff sf)
+    key_test false sf lines = line_more staff staff (lily_key sf) lines (key_said staff sf)
 
-    keys : (sf : Option ℤ) (lines : List (List ℕ)) → spans_of_lines (Some staff) (key_change (key_before before) sf ++ lines)
+    keys : (sf : Option ℤ) (lines : List (List ℕ)) → spans_of_lines (Some staff) (lily_key_lines (key_before before) sf ++ lines)
         ≡ spans_of_lines (Some staff) lines
     keys None lines = refl
     keys (Some sf) lines = key_test (same_key (key_before before) sf) sf lines
@@ -283,12 +278,12 @@ changes_said first before bar staff lines right said =
         (time_said staff bar right)
 
     tempo_test : (staff : PageStaff) (b : Bool) (lines : List (List ℕ))
-        → spans_of_lines (Some staff) ((if b then [] else tempo_line bar ∷ []) ++ lines) ≡ spans_of_lines (Some staff) lines
+        → spans_of_lines (Some staff) ((if b then [] else lily_tempo bar ∷ []) ++ lines) ≡ spans_of_lines (Some staff) lines
     tempo_test staff true lines = refl
-    tempo_test staff false lines = line_more staff staff (tempo_line bar) lines (tempo_said staff bar)
+    tempo_test staff false lines = line_more staff staff (lily_tempo bar) lines (tempo_said staff bar)
 
     tempos : (staff : PageStaff) (first : Bool) (lines : List (List ℕ))
-        → spans_of_lines (Some staff) ((if first then tempo_change before bar else []) ++ lines) ≡ spans_of_lines (Some staff) lines
+        → spans_of_lines (Some staff) ((if first then lily_tempo_lines before bar else []) ++ lines) ≡ spans_of_lines (Some staff) lines
     tempos staff true lines = tempo_test staff (same_tempo before bar) lines
     tempos staff false lines = refl
 
@@ -319,69 +314,14 @@ number_free n = all_weaker is_ascii_digit (λ b. not (b == 10)) (decimal n) digi
 free : ℕ → Bool
 free b = not (b == 10)
 
-letter_free : (l : Letter) → lacks 10 (letter_text l) ≡ true
-letter_free C = refl
-letter_free D = refl
-letter_free E = refl
-letter_free F = refl
-letter_free G = refl
-letter_free A = refl
-letter_free B = refl
-
-alteration_free : (a : Alteration) → lacks 10 (alteration_text a) ≡ true
-alteration_free DoubleFlat = refl
-alteration_free Flat = refl
-alteration_free Natural = refl
-alteration_free Sharp = refl
-alteration_free DoubleSharp = refl
-
-key_free : (sf : ℤ) → lacks 10 (key_line sf) ≡ true
-key_free sf =
-    let letter = letter_text (letter_at (tonic (Some sf))) in
-    let alteration = alteration_text (alteration_at (tonic (Some sf))) in
-    all_append (λ b. not (b == 10)) (codes "\\key " ++ (letter ++ alteration)) (codes " \\major")
-    (all_append (λ b. not (b == 10)) (codes "\\key ") (letter ++ alteration) refl
-    (all_append (λ b. not (b == 10)) letter alteration (letter_free (letter_at (tonic (Some sf))))
-    (alteration_free (alteration_at (tonic (Some sf)))))) refl
-
-time_free : (bar : ScoreBar) → lacks 10 (time_line bar) ≡ true
-time_free bar =
-    all_append (λ b. not (b == 10)) (codes "\\time " ++ decimal bar.num ++ codes "/") (decimal bar.den)
-    (all_append (λ b. not (b == 10)) (codes "\\time " ++ decimal bar.num) (codes "/")
-    (all_append (λ b. not (b == 10)) (codes "\\time ") (decimal bar.num) refl (number_free bar.num)) refl) (number_free bar.den)
-
-tempo_free : (bar : ScoreBar) → lacks 10 (tempo_line bar) ≡ true
-tempo_free bar = all_append (λ b. not (b == 10)) (codes "\\tempo 4 = ") (decimal (quarters_of_minute bar.tempo)) refl
-    (number_free (quarters_of_minute bar.tempo))
-
-one_line : (line : List ℕ) → lacks 10 line ≡ true → (b : Bool) → are_lines (if b then [] else line ∷ []) ≡ true
-one_line line h true = refl
-one_line line h false = and_from (lacks 10 line) true h refl
-
-changes_free : (first : Bool) (before : Option ScoreBar) (bar : ScoreBar) → are_lines (page_changes first before bar) ≡ true
-changes_free first before bar =
-    let key = key_change (key_before before) bar.sf in
-    let time = time_change before bar in
-    let tempo : List (List ℕ) = if first then tempo_change before bar else [] in
-    all_append (lacks 10) (key ++ time) tempo
-    (all_append (lacks 10) key time (keys bar.sf) (one_line (time_line bar) (time_free bar) (same_signature before bar))) (tempos first)
-  where
-    keys : (sf : Option ℤ) → are_lines (key_change (key_before before) sf) ≡ true
-    keys None = refl
-    keys (Some sf) = one_line (key_line sf) (key_free sf) (same_key (key_before before) sf)
-
-    tempos : (first : Bool) → are_lines (if first then tempo_change before bar else []) ≡ true
-    tempos true = one_line (tempo_line bar) (tempo_free bar) (same_tempo before bar)
-    tempos false = refl
-
 -- what stands before a bar, and the bar
 pub bar_lines_free : (r : ℕ) (some : 1 ≤ 64 * r) (first : Bool) (before : Option ScoreBar) (bar : ScoreBar) (silent : ℕ)
     (groups : List Group)
     (lines : List (List ℕ)) → IsScoreBar bar → All (IsWrittenGroup r) groups → are_lines lines ≡ true
-    → are_lines (page_changes first before bar ++ bar_line bar silent groups ∷ lines) ≡ true
+    → are_lines (lily_changes first before bar ++ bar_line bar silent groups ∷ lines) ≡ true
 bar_lines_free r some first before bar silent groups lines right all rest =
     let ws = bar_list bar silent groups in
-    all_append (lacks 10) (page_changes first before bar) (bar_line bar silent groups ∷ lines) (changes_free first before bar)
+    all_append (lacks 10) (lily_changes first before bar) (bar_line bar silent groups ∷ lines) (changes_lines first before bar)
     (and_from (lacks 10 (bar_line bar silent groups)) (are_lines lines)
     (ap (lacks 10) (bar_text r some bar right silent groups all)
     ∙ all_append (λ b. not (b == 10)) (spaced ws) (codes "|") (spaced_in_line ws (bar_graphic r bar silent groups right all)) refl) rest)

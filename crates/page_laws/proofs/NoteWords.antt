@@ -11,7 +11,7 @@ use Rattle.derivation.specs.Score.{IsKeySignature, IsScoreBar}
 use Rattle.derivation.specs.WellSounded.{AreKeys}
 use Rattle.score_words.specs.Keys.{rising_keys}
 use Rattle.score_words.proofs.SetKeys.{KeysRise, keys_rise}
-use Rattle.kern_laws.proofs.TextTests.{all_alike, all_append, all_weaker, decimal_digits, digit_graphic, is_graphic}
+use Rattle.text_words.proofs.TextTests.{all_alike, all_append, all_weaker, decimal_digits, digit_graphic, is_graphic}
 use Rattle.lily_writer.specs.Pitches as lily
 use Rattle.lily_writer.specs.Words.{is_lily_pitch_byte}
 use Rattle.lily_laws.proofs.ElementWords.{later_words, pitch_words, pitches_spaced, some_key, spaced}

@@ -10,8 +10,9 @@ use Rattle.durations.specs.Value.{parts, value_grid}
 use Rattle.durations.proofs.Wide.{some_product}
 use Rattle.derivation.specs.Score.{IsKeySignature}
 use Rattle.derivation.specs.WellSounded.{AreKeys}
-use Rattle.kern_reader.specs.Columns.{gcd}
-use Rattle.kern_reader.specs.Tokens.{◌>>=◌, number_of}
+use Rattle.text_words.specs.Divisors.{gcd}
+use Rattle.text_words.specs.Steps.{◌>>=◌}
+use Rattle.text_words.specs.Numbers.{number_of}
 use Rattle.lily_writer.specs.Fractions.{frac, frac_plus}
 use Rattle.lily_writer.specs.Words.{WordEnding, scale_of}
 use Rattle.lily_laws.proofs.Fractions.{same_value, times_parts}

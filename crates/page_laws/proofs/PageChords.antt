@@ -10,8 +10,8 @@ use Rattle.derivation.specs.Score.{IsKeySignature}
 use Rattle.derivation.specs.WellSounded.{AreKeys}
 use Rattle.score_words.specs.Keys.{rising_keys}
 use Rattle.score_words.proofs.SetKeys.{KeysRise, keys_rise}
-use Rattle.kern_reader.specs.Tokens.{◌>>=◌}
-use Rattle.kern_laws.proofs.TextRuns.{run_dropped, run_taken}
+use Rattle.text_words.specs.Steps.{◌>>=◌}
+use Rattle.text_words.proofs.TextRuns.{run_dropped, run_taken}
 use Rattle.lily_writer.specs.Hearing.{heard_rise, key_set}
 use Rattle.lily_writer.specs.Words.{WordEnding, after_front, front, is_lily_pitch_byte}
 use Rattle.lily_laws.proofs.ElementWords.{first_words, later_words, pitch_words, some_key}

@@ -6,7 +6,7 @@ use Rattle.std.proofs.lemmas.Bool.{and_parts}
 use Rattle.std.proofs.lemmas.Int.{ints}
 use Rattle.rhythm_base.proofs.NumbersBelow.{all_below, one_below}
 use Rattle.derivation.specs.Score.{IsKeySignature}
-use Rattle.kern_laws.proofs.Pitches.{read_key, is_key}
+use Rattle.text_words.proofs.ReadKeys.{read_key, is_key}
 use Rattle.lily_writer.specs.Words.{is_lily_pitch_byte}
 use Rattle.notation.specs.Names.{first_place}
 use Rattle.page_writer.specs.Pitches.{page_pitch}

@@ -14,10 +14,10 @@ use Rattle.durations.specs.declared.value.Recip.TheVariants.{Of, Breve, Long}
 use Rattle.durations.specs.declared.value.Value.{Value}
 use Rattle.durations.specs.Value.{parts, plain_grid, plain_parts, value_grid}
 use Rattle.durations.proofs.Wide.{some_product}
-use Rattle.kern_reader.specs.Columns.{gcd}
-use Rattle.kern_reader.specs.Tokens.{number_of}
-use Rattle.kern_laws.proofs.TextRuns.{run_dropped, run_taken}
-use Rattle.kern_laws.proofs.TextTests.{all_alike, all_append, all_weaker, decimal_digits, is_graphic}
+use Rattle.text_words.specs.Divisors.{gcd}
+use Rattle.text_words.specs.Numbers.{number_of}
+use Rattle.text_words.proofs.TextRuns.{run_dropped, run_taken}
+use Rattle.text_words.proofs.TextTests.{all_alike, all_append, all_weaker, decimal_digits, is_graphic}
 use Rattle.lily_writer.specs.Fractions.{frac, frac_times, same_frac}
 use Rattle.lily_writer.specs.Words.{WordEnding, after_front, dotted, front, is_base_byte, is_dot, is_scale_byte, scale_of, word_marks}
 use Rattle.lily_laws.proofs.Fractions.{same_value, times_parts}

@@ -17,9 +17,9 @@ use Rattle.derivation.specs.declared.score.ScoreBar.{ScoreBar}
 use Rattle.derivation.specs.Score.{IsScoreBar}
 use Rattle.derivation.specs.WellSounded.{AreWellSounded}
 use Rattle.voice_events.specs.Events.{HaveSignatures}
-use Rattle.kern_reader.specs.Text.{kern_lines}
-use Rattle.kern_reader.specs.Tokens.{◌>>=◌}
-use Rattle.kern_laws.proofs.TextTests.{all_append, lacks}
+use Rattle.text_words.specs.Lines.{text_lines}
+use Rattle.text_words.specs.Steps.{◌>>=◌}
+use Rattle.text_words.proofs.TextTests.{all_append, lacks}
 use Rattle.lily_writer.specs.Fractions.{frac, nothing}
 use Rattle.lily_laws.proofs.BarWords.{signature}
 use Rattle.lily_laws.proofs.Fractions.{frac_is, is_frac}
@@ -36,7 +36,7 @@ use Rattle.notation_laws.proofs.Says.{heard_first}
 use Rattle.notation_laws.proofs.VoiceHeard.{voices_heard}
 use Rattle.notation_laws.proofs.WrittenNotes.{notes_can_be_written}
 use Rattle.page_writer.specs.Bars.{bar_line}
-use Rattle.page_writer.specs.Changes.{page_changes}
+use Rattle.score_words.specs.LilyChanges.{lily_changes}
 use Rattle.page_writer.specs.Graces.{most_graces, most_in_bars, silent_graces}
 use Rattle.page_writer.specs.Page.{closing_lines, head_lines, opening_lines, page_lines, score_lines, size_line, staff_size, tail_lines}
 use Rattle.page_writer.specs.Staves.{bars_lines, clef_line, staff_end, staff_head, staff_lines, staves_lines}
@@ -97,7 +97,7 @@ module _ (r : ℕ) (some : 1 ≤ 64 * r) where
       let own = All-head IsScoreBar bar bars right in
       let mine = All-head (All (IsWrittenGroup r)) groups all written in
       let silent = silent_graces before bar m groups in
-      let changes = page_changes first before bar in
+      let changes = lily_changes first before bar in
       let line = bar_line bar silent groups in
       let others = bars_lines first (Some bar) bars most all in
       let there = known (Some (signature bar)) h in
@@ -326,7 +326,7 @@ pub pages_read : PagesAreReadBack
 unfolding page_events
 pages_read s bars channels text is signatures count (written, each, same) = record {
   spans = all.spans;
-  read = ap (λ ls. spans_of_lines None ls) (ap kern_lines same ∙ lines_split (page_lines s channels written) free ∙ parted)
+  read = ap (λ ls. spans_of_lines None ls) (ap text_lines same ∙ lines_split (page_lines s channels written) free ∙ parted)
       ∙ head_read n (staves ++ tail) ∙ all.read;
   are = all.are;
 }

@@ -2,10 +2,10 @@
 use Rattle.std.proofs.Common.{◌≡◌, ℕ, Bool, true, false, List, [], ◌∷◌, ◌++◌, Some, None, refl}
 use Rattle.std.specs.Prelude.{codes}
 use Rattle.rhythm_base.specs.declared.span.Span.{Span}
-use Rattle.kern_reader.specs.Columns.{gcd}
-use Rattle.kern_reader.specs.Tokens.{number_of}
+use Rattle.text_words.specs.Divisors.{gcd}
+use Rattle.text_words.specs.Numbers.{number_of}
 use Rattle.lily_writer.specs.Words.{scale_of}
-use Rattle.page_writer.specs.Words.{lines_text}
+use Rattle.score_words.specs.TextLines.{lines_text}
 use Rattle.page_laws.specs.Hearing.{hear_page_word}
 use Rattle.page_laws.specs.Reading.{hear_page_bar, hear_page_line, page_events}
 use Rattle.page_laws.specs.Words.{page_base, page_ending, page_key, page_word, page_pitched_word}

@@ -1,7 +1,7 @@
 -- What is known of a staff after some of its words, in whole notes, and how each word adds to it.
 use Rattle.std.specs.Prelude.{ℕ, Bool, true, false, ◌&&◌, not, if◌then◌else◌, List, [], ◌∷◌, ◌++◌, Option, Some, None}
 use Rattle.rhythm_base.specs.declared.span.Frac.{Frac}
-use Rattle.kern_reader.specs.Tokens.{◌>>=◌}
+use Rattle.text_words.specs.Steps.{◌>>=◌}
 use Rattle.lily_writer.specs.Fractions.{frac_plus, frac_times, nothing}
 use Rattle.lily_writer.specs.Hearing.{heard_rise, is_grace_value, key_set}
 use Rattle.lily_writer.specs.Words.{WordEnding}

@@ -1,16 +1,12 @@
 -- The laws, each as one statement over the definitions.
-use Rattle.std.specs.Prelude.{◌≡◌, ℕ, List, [], Ok, Some, length}
+use Rattle.std.specs.Prelude.{◌≡◌, ℕ, List, [], Some, length}
 use Rattle.rhythm_base.specs.declared.note.Bar.{Bar}
 use Rattle.rhythm_base.specs.declared.span.Frac.{Frac}
 use Rattle.rhythm_base.specs.declared.span.Span.{Span}
 use Rattle.rhythm_base.specs.Lists.{Each}
 use Rattle.durations.specs.Spans.{AreSpans}
 use Rattle.derivation.specs.Score.{IsScore, Score}
-use Rattle.voice_events.specs.Events.{HaveSignatures}
-use Rattle.kern_writer.specs.Text.{IsScoreText}
-use Rattle.kern_reader.specs.Events.{AreEvents}
-use Rattle.kern_reader.specs.Outcome.{score_of}
-use Rattle.kern_reader.specs.Score.{KernColumns}
+use Rattle.voice_events.specs.Events.{AreScoreEvents, HaveSignatures}
 use Rattle.lily_writer.specs.Fractions.{frac_plus}
 use Rattle.notation_laws.specs.VoicesEvents.{voices_events}
 use Rattle.page_writer.specs.Page.{IsPage}
@@ -29,19 +25,17 @@ PagesAreReadBack =
     (s : Score) (bars : List Bar) (channels text : List ℕ) → IsScore s → HaveSignatures s.bars bars
     → length channels ≡ length s.voices → IsPage s channels text → IsPageReadBack s bars text
 
--- a page that is read says the events of this **kern text, the spans of a staff as those of its spine
-pub record SaysTheEvents (text kern : List ℕ) : Type 0 where
+-- a page that is read says the events of a score, the spans of a staff as those of its voice
+pub record SaysTheEvents (s : Score) (text : List ℕ) : Type 0 where
   pub spans : List (List Span)
   pub read : page_events text ≡ Some spans
-  pub columns : KernColumns
-  pub kern_read : score_of kern ≡ Ok columns
-  pub events : AreEvents columns (voices_events 1 spans)
+  pub events : AreScoreEvents s (voices_events 1 spans)
 
--- so the page of a score says the events of its **kern text
+-- so the page of a score says its events
 abbrev pub PagesSayTheEvents : Type 0
 PagesSayTheEvents =
-    (s : Score) (channels text kern : List ℕ) → IsScore s → length channels ≡ length s.voices → IsPage s channels text
-    → IsScoreText s kern → SaysTheEvents text kern
+    (s : Score) (channels text : List ℕ) → IsScore s → length channels ≡ length s.voices → IsPage s channels text
+    → SaysTheEvents s text
 
 -- a bar that is read is as long as its signature says, and no grace chord waits at its end: so it is of each bar of a
 -- page that is read

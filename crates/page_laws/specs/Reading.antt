@@ -5,8 +5,8 @@ use Rattle.std.specs.List.{starts_with}
 use Rattle.std.specs.Option.{option_map}
 use Rattle.rhythm_base.specs.declared.span.Frac.{Frac}
 use Rattle.rhythm_base.specs.declared.span.Span.{Span}
-use Rattle.kern_reader.specs.Text.{kern_lines}
-use Rattle.kern_reader.specs.Tokens.{◌>>=◌}
+use Rattle.text_words.specs.Lines.{text_lines}
+use Rattle.text_words.specs.Steps.{◌>>=◌}
 use Rattle.lily_writer.specs.Fractions.{frac_plus, same_frac}
 use Rattle.lily_writer.specs.Pitches.{words}
 use Rattle.lily_writer.specs.Reading.{bar_fraction, words_of_bar}
@@ -87,4 +87,4 @@ spans_of_lines (Some staff) (line ∷ lines) =
 
 -- the spans of each staff of a page
 unfoldable pub page_events : List ℕ → Option (List (List Span))
-page_events text = spans_of_lines None (kern_lines text)
+page_events text = spans_of_lines None (text_lines text)

@@ -7,8 +7,9 @@ use Rattle.std.specs.Option.{option_map}
 use Rattle.std.specs.Str.{bytes_eq}
 use Rattle.rhythm_base.specs.declared.limits.TheConstants.{MOST_UNITS}
 use Rattle.rhythm_base.specs.declared.span.Frac.{Frac}
-use Rattle.kern_reader.specs.Text.{begins_with}
-use Rattle.kern_reader.specs.Tokens.{◌>>=◌, number_of, within_keys}
+use Rattle.text_words.specs.Lines.{begins_with}
+use Rattle.text_words.specs.Steps.{◌>>=◌}
+use Rattle.text_words.specs.Numbers.{number_of, within_keys}
 use Rattle.lily_writer.specs.Fractions.{frac, frac_times}
 use Rattle.lily_writer.specs.Reading.{bar_fraction}
 use Rattle.lily_writer.specs.Words.{WordEnding, after_base, after_dots, after_front, dotted, front, is_base_byte, is_dot, is_letter, is_lily_pitch_byte, is_scale_byte, scale_of, word_marks}

@@ -5,7 +5,7 @@ pub fn pages_are_read_back()
     ensures { PagesAreReadBack }
 {}
 
-/// The page of a score says the events of its **kern text.
+/// The page of a score says its events.
 pub fn pages_say_the_events()
     ensures { PagesSayTheEvents }
 {}

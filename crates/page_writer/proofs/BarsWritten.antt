@@ -7,23 +7,23 @@ use Rattle.derivation.specs.declared.score.ScoreBar.{ScoreBar}
 use Rattle.notation.specs.Bars.{AreVoiceGroups}
 use Rattle.notation.specs.Notes.{Group}
 use Rattle.page_writer.specs.Bars.{bar_line}
-use Rattle.page_writer.specs.Changes.{page_changes}
+use Rattle.score_words.specs.LilyChanges.{lily_changes}
 use Rattle.page_writer.specs.Graces.{silent_graces}
 use Rattle.page_writer.specs.Staves.{bars_lines}
-use Rattle.page_writer.specs.Words.{lines_text}
-use Rattle.page_writer.proofs.Lines.{lines_append}
+use Rattle.score_words.specs.TextLines.{lines_text}
+use Rattle.score_words.proofs.TextLines.{lines_append}
 
 pub bars_next : (first : Bool) (before : Option ScoreBar) (bars : List ScoreBar) (most : List ℕ) (all : List (List Group)) (i : ℕ) (bar : ScoreBar) (m : ℕ)
     (groups : List Group) (text one two whole : List ℕ)
     → i < length bars → i < length most → i < length all → bar ≡ get_or bars i bar → m ≡ get_or most i m → groups ≡ get_or all i groups
-    → one ≡ text ++ lines_text (page_changes first before bar) → two ≡ one ++ lines_text (bar_line bar (silent_graces before bar m groups) groups ∷ [])
+    → one ≡ text ++ lines_text (lily_changes first before bar) → two ≡ one ++ lines_text (bar_line bar (silent_graces before bar m groups) groups ∷ [])
     → text ++ lines_text (bars_lines first before (drop i bars) (drop i most) (drop i all)) ≡ whole
     → two ++ lines_text (bars_lines first (Some bar) (drop (i + 1) bars) (drop (i + 1) most) (drop (i + 1) all)) ≡ whole
 bars_next first before bars most all i bar m groups text one two whole in_bars in_most in_all is_bar is_m is_groups said line so =
     let bs : drop i bars ≡ bar ∷ drop (i + 1) bars = drop_more bars i bar in_bars ∙ ap (λ b. b ∷ drop (i + 1) bars) (sym is_bar) in
     let ms : drop i most ≡ m ∷ drop (i + 1) most = drop_more most i m in_most ∙ ap (λ n. n ∷ drop (i + 1) most) (sym is_m) in
     let gs : drop i all ≡ groups ∷ drop (i + 1) all = drop_more all i groups in_all ∙ ap (λ g. g ∷ drop (i + 1) all) (sym is_groups) in
-    let changes = page_changes first before bar in
+    let changes = lily_changes first before bar in
     let own = bar_line bar (silent_graces before bar m groups) groups in
     let later = bars_lines first (Some bar) (drop (i + 1) bars) (drop (i + 1) most) (drop (i + 1) all) in
     let lines : lines_text (bars_lines first before (drop i bars) (drop i most) (drop i all)) ≡ lines_text (changes ++ own ∷ later) =

@@ -5,7 +5,7 @@ use Rattle.std.proofs.Math.Nat.{mul-le-mul}
 use Rattle.std.proofs.lemmas.Bool.Decides.{nat_tests}
 use Rattle.rhythm_base.specs.declared.sound.Sound.{Sound}
 use Rattle.derivation.specs.WellSounded.{AreWellSounded, StandInBars}
-use Rattle.kern_writer.specs.Values.{sounds_in_bar}
+use Rattle.voice_values.specs.Values.{sounds_in_bar}
 use Rattle.page_writer.specs.Graces.{begun_graces, graces_of_first}
 use Rattle.page_writer.specs.Writing.{start_graces}
 

@@ -4,20 +4,16 @@ use Rattle.std.specs.Prelude.{codes, replicate}
 use Rattle.std.proofs.lemmas.List.{append-nil, replicate_more}
 use Rattle.std.proofs.lemmas.List.Concat.{flat_map-append}
 use Rattle.page_writer.specs.Groups.{silent_graces_text}
-use Rattle.page_writer.specs.Words.{lines_text, words_text}
+use Rattle.score_words.specs.TextLines.{lines_text}
+use Rattle.page_writer.specs.Words.{words_text}
+use Rattle.score_words.proofs.TextLines.{line_after, lines_append}
 
 pub words_append : (xs ys : List (List ℕ)) → words_text (xs ++ ys) ≡ words_text xs ++ words_text ys
 words_append xs ys = flat_map-append (λ (word : List ℕ). word ++ 32 ∷ []) xs ys
 
-pub lines_append : (xs ys : List (List ℕ)) → lines_text (xs ++ ys) ≡ lines_text xs ++ lines_text ys
-lines_append xs ys = flat_map-append (λ (line : List ℕ). line ++ 10 ∷ []) xs ys
-
--- a text with a word or a line after it
+-- a text with a word after it
 pub word_after : (text word new : List ℕ) → new ≡ text ++ (word ++ 32 ∷ []) → new ≡ text ++ words_text (word ∷ [])
 word_after text word new is = is ∙ ap (λ t. text ++ t) (sym (append-nil (word ++ 32 ∷ [])))
-
-pub line_after : (text line new : List ℕ) → new ≡ text ++ (line ++ 10 ∷ []) → new ≡ text ++ lines_text (line ∷ [])
-line_after text line new is = is ∙ ap (λ t. text ++ t) (sym (append-nil (line ++ 10 ∷ [])))
 
 -- one silent grace note more
 pub silent_more : (n : ℕ) → silent_graces_text (n + 1) ≡ silent_graces_text n ++ codes "s8 "

@@ -1,10 +1,10 @@
 -- A score has one page.
-use Rattle.std.proofs.Common.{◌≡◌, ℕ, List, refl, sym, ap, ◌∙◌}
+use Rattle.std.proofs.Common.{List, refl, sym, ap, ◌∙◌}
 use Rattle.notation.proofs.ScoreGroups.{some_written, written_one}
 use Rattle.notation.specs.Notes.{Group}
 use Rattle.page_writer.specs.Laws.{PagesAreOne, PagesExist}
 use Rattle.page_writer.specs.Page.{page_lines}
-use Rattle.page_writer.specs.Words.{lines_text}
+use Rattle.score_words.specs.TextLines.{lines_text}
 
 pub pages_one : PagesAreOne
 pages_one s channels a b score (written, each, is) (other, too, same) =

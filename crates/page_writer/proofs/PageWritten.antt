@@ -5,8 +5,8 @@ use Rattle.derivation.specs.Score.{Score}
 use Rattle.notation.specs.Bars.{AreVoiceGroups}
 use Rattle.notation.specs.Notes.{Group}
 use Rattle.page_writer.specs.Page.{IsPage, closing_lines, head_lines, opening_lines, score_lines, tail_lines}
-use Rattle.page_writer.specs.Words.{lines_text}
-use Rattle.page_writer.proofs.Lines.{lines_append}
+use Rattle.score_words.specs.TextLines.{lines_text}
+use Rattle.score_words.proofs.TextLines.{lines_append}
 
 -- the staves of a score stand after a text
 abbrev pub HasStaves : Score → List ℕ → List ℕ → List ℕ → Type 0

@@ -8,8 +8,8 @@ use Rattle.derivation.specs.declared.score.ScoreBar.{ScoreBar}
 use Rattle.notation.specs.Bars.{AreVoiceGroups}
 use Rattle.notation.specs.Notes.{Group}
 use Rattle.page_writer.specs.Staves.{staff_lines, staves_lines}
-use Rattle.page_writer.specs.Words.{lines_text}
-use Rattle.page_writer.proofs.Lines.{lines_append}
+use Rattle.score_words.specs.TextLines.{lines_text}
+use Rattle.score_words.proofs.TextLines.{lines_append}
 
 module _ (resolution : ℕ) (bars : List ScoreBar) (most channels : List ℕ) (voices : List (List Sound)) where
   -- the staves of the first i voices are these lines, whatever the groups of the others are

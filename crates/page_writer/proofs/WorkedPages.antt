@@ -13,7 +13,7 @@ use Rattle.notation.specs.Names.{first_place}
 use Rattle.notation.specs.Notes.{Group, Note}
 use Rattle.score_words.specs.Keys.{rising_keys}
 use Rattle.page_writer.specs.Bars.{bar_line}
-use Rattle.page_writer.specs.Changes.{key_name}
+use Rattle.score_words.specs.LilyChanges.{key_name}
 use Rattle.page_writer.specs.Page.{page_lines}
 use Rattle.page_writer.specs.Pitches.{page_pitch}
 use Rattle.page_writer.specs.Values.{page_value}

@@ -4,7 +4,7 @@ use Rattle.std.specs.List.{range_with_len}
 use Rattle.rhythm_base.specs.declared.sound.Sound.{Sound}
 use Rattle.rhythm_base.specs.Lists.{greatest}
 use Rattle.derivation.specs.declared.score.ScoreBar.{ScoreBar}
-use Rattle.kern_writer.specs.Values.{sounds_in_bar}
+use Rattle.voice_values.specs.Values.{sounds_in_bar}
 use Rattle.notation.specs.Notes.{Group}
 use Rattle.score_words.specs.Changes.{key_before, same_key, same_signature}
 use Rattle.page_writer.specs.Bars.{first_graces}

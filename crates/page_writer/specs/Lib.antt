@@ -3,7 +3,6 @@ pub mod Values
 pub mod Words
 pub mod Groups
 pub mod Bars
-pub mod Changes
 pub mod Graces
 pub mod Staves
 pub mod Page

@@ -6,7 +6,7 @@ use Rattle.notation.specs.Bars.{AreVoiceGroups}
 use Rattle.notation.specs.Notes.{Group}
 use Rattle.page_writer.specs.Graces.{most_in_bars}
 use Rattle.page_writer.specs.Staves.{staves_lines}
-use Rattle.page_writer.specs.Words.{lines_text}
+use Rattle.score_words.specs.TextLines.{lines_text}
 
 -- how high a staff is, in points, where there are so many
 abbrev pub staff_size : ℕ → ℕ

@@ -37,6 +37,10 @@ name_text name = letter_text name.letter ++ alteration_text name.alteration ++ o
 abbrev pub page_pitch : Option ℤ → ℕ → List ℕ
 page_pitch sf key = name_text (pitch_name sf key)
 
+-- those of the keys of a chord, by rising key
+abbrev pub page_pitches : Option ℤ → ℕ → List (List ℕ)
+page_pitches sf keys = map (page_pitch sf) (rising_keys keys)
+
 -- one pitch stands alone, several between angles with a space between two
 abbrev pub pitches_text : List (List ℕ) → List ℕ
 pitches_text (pitch ∷ []) = pitch
@@ -44,4 +48,4 @@ pitches_text pitches = codes "<" ++ join_with_byte 32 pitches ++ codes ">"
 
 -- the pitches of a chord, by rising key
 abbrev pub page_chord : Option ℤ → ℕ → List ℕ
-page_chord sf keys = pitches_text (map (page_pitch sf) (rising_keys keys))
+page_chord sf keys = pitches_text (page_pitches sf keys)

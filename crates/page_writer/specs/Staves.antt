@@ -7,7 +7,7 @@ use Rattle.notation.specs.declared.clef.Clef.TheVariants.{BassBelow, Bass, Trebl
 use Rattle.notation.specs.Clefs.{clef_of}
 use Rattle.notation.specs.Notes.{Group}
 use Rattle.page_writer.specs.Bars.{bar_line}
-use Rattle.page_writer.specs.Changes.{page_changes}
+use Rattle.score_words.specs.LilyChanges.{lily_changes}
 use Rattle.page_writer.specs.Graces.{silent_graces}
 
 abbrev pub staff_head : ℕ → List ℕ
@@ -31,7 +31,7 @@ bars_lines first before [] most all = []
 bars_lines first before (bar ∷ bars) [] all = []
 bars_lines first before (bar ∷ bars) (m ∷ most) [] = []
 bars_lines first before (bar ∷ bars) (m ∷ most) (groups ∷ all) =
-    page_changes first before bar ++ bar_line bar (silent_graces before bar m groups) groups ∷ bars_lines first (Some bar) bars most all
+    lily_changes first before bar ++ bar_line bar (silent_graces before bar m groups) groups ∷ bars_lines first (Some bar) bars most all
 
 -- the last barline is drawn as such
 abbrev pub staff_end : List (List ℕ)

@@ -1,8 +1,9 @@
 ghost use Rattle.derivation.specs.Score.{IsScoreBar};
 ghost use Rattle.page_writer.specs.Bars as definitions;
 ghost use Rattle.page_writer.specs.Bars.{bar_line, bar_words, rest_word, sounding_words};
-ghost use Rattle.page_writer.specs.Words.{lines_text, words_text};
-ghost use Rattle.std.specs.Prelude.{◌≡◌, ◌++◌, ◌∷◌, [], OnOk};
+ghost use Rattle.page_writer.specs.Words.{words_text};
+ghost use Rattle.score_words.specs.Writing.{Writes, WritesLines};
+ghost use Rattle.std.specs.Prelude.{◌≡◌, ◌∷◌, []};
 
 use crate::group::push_groups;
 use crate::note::push_graces;
@@ -14,7 +15,7 @@ use std::alloc::AllocError;
 
 /// Appends a rest over a whole bar, and a space.
 fn push_rest(text: &mut Vec<u8>, bar: &ScoreBar) -> Result<(), AllocError>
-    ensures { OnOk result (text.new.items ≡ text.old.items ++ words_text (rest_word bar.now ∷ [])) }
+    ensures { Writes (words_text (rest_word bar.now ∷ [])) text.old result text.new }
 {
     text.extend_from_slice(b"R1*")?;
     push_number(text, u64::from(bar.num))?;
@@ -32,7 +33,7 @@ fn push_sounding(
     groups: &[Group],
 ) -> Result<(), AllocError>
     requires { IsScoreBar bar.now }
-    ensures { OnOk result (text.new.items ≡ text.old.items ++ words_text (sounding_words bar.now written groups.now)) }
+    ensures { Writes (words_text (sounding_words bar.now written groups.now)) text.old result text.new }
 {
     match groups {
         [] => push_rest(text, bar),
@@ -61,7 +62,7 @@ fn push_bar_words(
     groups: &[Group],
 ) -> Result<(), AllocError>
     requires { IsScoreBar bar.now }
-    ensures { OnOk result (text.new.items ≡ text.old.items ++ words_text (bar_words bar.now silent groups.now)) }
+    ensures { Writes (words_text (bar_words bar.now silent groups.now)) text.old result text.new }
 {
     if silent == 0 {
         return push_sounding(text, bar, false, groups);
@@ -78,7 +79,7 @@ pub(crate) fn write_bar(
     groups: &[Group],
 ) -> Result<(), AllocError>
     requires { IsScoreBar bar.now }
-    ensures { OnOk result (text.new.items ≡ text.old.items ++ lines_text (bar_line bar.now silent groups.now ∷ [])) }
+    ensures { WritesLines (bar_line bar.now silent groups.now ∷ []) text.old result text.new }
 {
     push_bar_words(text, bar, silent, groups)?;
     text.extend_from_slice(b"|\n")

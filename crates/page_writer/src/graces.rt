@@ -1,13 +1,13 @@
 ghost use Rattle.derivation.specs.WellSounded.{AreWellSounded};
-ghost use Rattle.page_writer.specs.Writing.{start_graces};
+ghost use Rattle.page_writer.specs.Writing.{AreRaised, start_graces};
 ghost use Rattle.page_writer.specs.Graces as definitions;
 ghost use Rattle.page_writer.specs.Graces.{most_in_bars};
-ghost use Rattle.std.specs.Prelude.{◌≡◌, ◌<◌, ℕ, All, IfOk, length, max, slice_index};
+ghost use Rattle.std.specs.Prelude.{◌≡◌, All, IfOk};
 
 use crate::bar::first_graces;
 use derivation::{ScoreBar, VoiceSounds};
 use notation::Group;
-use rhythm_base::Sound;
+use rhythm_base::{Sound, Units};
 use score_words::{is_same_key, is_same_signature, key_before};
 use std::alloc::{AllocError, Global};
 
@@ -24,7 +24,7 @@ fn begun_graces(alloc: Global, sounds: &[Sound]) -> Result<Vec<usize>, AllocErro
 
 /// Raises each number to the one at its place in `own`, where that is greater.
 fn raise(most: &mut [usize], own: &[usize])
-    ensures { (k : ℕ) → k < length most.old → slice_index most.new k ≡ max (slice_index most.old k) (slice_index own.now k) }
+    ensures { AreRaised most.old own.now most.new }
 {
     'bars: for (number, count) in most.iter_mut().enumerate() {
         let other = own.get(number).copied().unwrap_or(0);
@@ -36,7 +36,7 @@ fn raise(most: &mut [usize], own: &[usize])
 pub(crate) fn most_graces(
     alloc: Global,
     voices: &[VoiceSounds],
-    resolution: u16,
+    resolution: Units,
     bars: usize,
 ) -> Result<Vec<usize>, AllocError>
     requires { All (AreWellSounded resolution bars) voices.now }
@@ -44,7 +44,8 @@ pub(crate) fn most_graces(
 {
     let mut most = vec![in alloc; 0; bars]?;
     'voices: for voice in voices {
-        let own = begun_graces(alloc, voice.as_slice())?;
+        let sounds = voice.sounds(alloc)?;
+        let own = begun_graces(alloc, sounds.as_slice())?;
         raise(&mut most, &own);
     }
     Ok(most)

@@ -1,7 +1,8 @@
 ghost use Rattle.derivation.specs.Score.{IsKeySignature};
 ghost use Rattle.page_writer.specs.Groups.{bracket_word, group_words, groups_words, notes_words};
 ghost use Rattle.page_writer.specs.Words.{words_text};
-ghost use Rattle.std.specs.Prelude.{◌≡◌, ◌++◌, ◌∷◌, [], IfSome, OnOk};
+ghost use Rattle.score_words.specs.Writing.{Writes};
+ghost use Rattle.std.specs.Prelude.{◌∷◌, [], IfSome};
 
 use crate::note::push_note;
 use notation::{Group, Note, Ratio};
@@ -16,7 +17,7 @@ fn push_notes(
     notes: &[Note],
 ) -> Result<(), AllocError>
     requires { IfSome sf IsKeySignature }
-    ensures { OnOk result (text.new.items ≡ text.old.items ++ words_text (notes_words sf written notes.now)) }
+    ensures { Writes (words_text (notes_words sf written notes.now)) text.old result text.new }
 {
     let mut graces_written = written;
     'notes: for note in notes {
@@ -28,7 +29,7 @@ fn push_notes(
 
 /// Appends what opens a bracket, and a space.
 fn push_bracket(text: &mut Vec<u8>, ratio: Ratio) -> Result<(), AllocError>
-    ensures { OnOk result (text.new.items ≡ text.old.items ++ words_text (bracket_word ratio ∷ [])) }
+    ensures { Writes (words_text (bracket_word ratio ∷ [])) text.old result text.new }
 {
     text.extend_from_slice(b"\\tuplet ")?;
     push_number(text, ratio.actual)?;
@@ -45,7 +46,7 @@ fn push_group(
     group: &Group,
 ) -> Result<(), AllocError>
     requires { IfSome sf IsKeySignature }
-    ensures { OnOk result (text.new.items ≡ text.old.items ++ words_text (group_words sf written group.now)) }
+    ensures { Writes (words_text (group_words sf written group.now)) text.old result text.new }
 {
     if group.ratio.actual <= 1 {
         return push_notes(text, sf, written, &group.notes);
@@ -63,7 +64,7 @@ pub(crate) fn push_groups(
     groups: &[Group],
 ) -> Result<(), AllocError>
     requires { IfSome sf IsKeySignature }
-    ensures { OnOk result (text.new.items ≡ text.old.items ++ words_text (groups_words sf written groups.now)) }
+    ensures { Writes (words_text (groups_words sf written groups.now)) text.old result text.new }
 {
     let mut graces_written = written;
     'groups: for group in groups {

@@ -4,7 +4,6 @@
 #![tactic(auto)]
 
 mod bar;
-mod changes;
 mod chord;
 mod graces;
 mod group;

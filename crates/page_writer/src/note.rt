@@ -1,7 +1,8 @@
 ghost use Rattle.derivation.specs.Score.{IsKeySignature};
 ghost use Rattle.page_writer.specs.Groups.{chord_word, grace_text, graces_word, note_word, note_words, own_graces, short_text, silent_graces_text, tie_text};
 ghost use Rattle.page_writer.specs.Words.{words_text};
-ghost use Rattle.std.specs.Prelude.{◌≡◌, ◌==◌, ◌++◌, ◌∷◌, [], IfSome, OnOk, map};
+ghost use Rattle.score_words.specs.Writing.{Writes};
+ghost use Rattle.std.specs.Prelude.{◌≡◌, ◌==◌, ◌++◌, ◌∷◌, [], IfSome, map};
 
 use crate::chord::push_chord;
 use crate::value_text::push_value;
@@ -11,7 +12,7 @@ use std::alloc::AllocError;
 
 /// Appends so many silent grace notes, with a space after each.
 fn push_silent_graces(text: &mut Vec<u8>, count: usize) -> Result<(), AllocError>
-    ensures { OnOk result (text.new.items ≡ text.old.items ++ silent_graces_text count) }
+    ensures { Writes (silent_graces_text count) text.old result text.new }
 {
     'silent: for _ in 0..count {
         text.extend_from_slice(b"s8 ")?;
@@ -22,7 +23,7 @@ fn push_silent_graces(text: &mut Vec<u8>, count: usize) -> Result<(), AllocError
 /// Appends grace chords as eighths, with a space after each.
 fn push_grace_chords(text: &mut Vec<u8>, sf: Option<i8>, chords: &[Keys]) -> Result<(), AllocError>
     requires { IfSome sf IsKeySignature }
-    ensures { OnOk result (text.new.items ≡ text.old.items ++ words_text (map (grace_text sf) chords.now)) }
+    ensures { Writes (words_text (map (grace_text sf) chords.now)) text.old result text.new }
 {
     'chords: for keys in chords {
         push_chord(text, sf, *keys)?;
@@ -39,7 +40,7 @@ pub(crate) fn push_graces(
     chords: &[Keys],
 ) -> Result<(), AllocError>
     requires { IfSome sf IsKeySignature }
-    ensures { OnOk result (text.new.items ≡ text.old.items ++ words_text (graces_word sf silent chords.now ∷ [])) }
+    ensures { Writes (words_text (graces_word sf silent chords.now ∷ [])) text.old result text.new }
 {
     text.extend_from_slice(b"\\slashedGrace { ")?;
     push_silent_graces(text, silent)?;
@@ -56,7 +57,7 @@ fn push_own_graces(
     note: &Note,
 ) -> Result<(), AllocError>
     requires { IfSome sf IsKeySignature }
-    ensures { OnOk result (text.new.items ≡ text.old.items ++ words_text (own_graces sf written note.now)) }
+    ensures { Writes (words_text (own_graces sf written note.now)) text.old result text.new }
 {
     if written || note.graces.is_empty() {
         return Ok(());
@@ -66,7 +67,7 @@ fn push_own_graces(
 
 /// Appends the marks of a chord: one of a short chord, and one where it is tied to the next.
 fn push_marks(text: &mut Vec<u8>, short: bool, goes: bool) -> Result<(), AllocError>
-    ensures { OnOk result (text.new.items ≡ text.old.items ++ (short_text short ++ tie_text goes)) }
+    ensures { Writes (short_text short ++ tie_text goes) text.old result text.new }
 {
     if short {
         text.extend_from_slice(b"-.")?;
@@ -80,7 +81,7 @@ fn push_marks(text: &mut Vec<u8>, short: bool, goes: bool) -> Result<(), AllocEr
 /// Appends a chord with its value and its marks.
 fn push_chord_word(text: &mut Vec<u8>, sf: Option<i8>, note: &Note) -> Result<(), AllocError>
     requires { IfSome sf IsKeySignature }
-    ensures { OnOk result (text.new.items ≡ text.old.items ++ chord_word sf note.now) }
+    ensures { Writes (chord_word sf note.now) text.old result text.new }
 {
     push_chord(text, sf, note.keys)?;
     push_value(text, note.value)?;
@@ -97,7 +98,7 @@ fn is_rest(note: &Note) -> bool
 /// Appends a note, a chord or a rest.
 fn push_note_word(text: &mut Vec<u8>, sf: Option<i8>, note: &Note) -> Result<(), AllocError>
     requires { IfSome sf IsKeySignature }
-    ensures { OnOk result (text.new.items ≡ text.old.items ++ note_word sf note.now) }
+    ensures { Writes (note_word sf note.now) text.old result text.new }
 {
     if is_rest(note) {
         text.push(b'r')?;
@@ -114,7 +115,7 @@ pub(crate) fn push_note(
     note: &Note,
 ) -> Result<(), AllocError>
     requires { IfSome sf IsKeySignature }
-    ensures { OnOk result (text.new.items ≡ text.old.items ++ words_text (note_words sf written note.now)) }
+    ensures { Writes (words_text (note_words sf written note.now)) text.old result text.new }
 {
     push_own_graces(text, sf, written, note)?;
     push_note_word(text, sf, note)?;

@@ -1,20 +1,17 @@
 ghost use Rattle.derivation.specs.Score.{IsScore, IsScoreBar};
 ghost use Rattle.derivation.specs.WellSounded.{AreWellSounded};
-ghost use Rattle.notation.specs.Bars.{AreVoiceGroups};
-ghost use Rattle.notation.specs.Notes.{Group};
-ghost use Rattle.page_writer.specs.Graces.{most_in_bars};
 ghost use Rattle.page_writer.specs.Page as definitions;
 ghost use Rattle.page_writer.specs.Page.{IsPage, closing_lines, head_lines, opening_lines, paper_lines, size_line, tail_lines};
-ghost use Rattle.page_writer.specs.Staves.{staves_lines};
-ghost use Rattle.page_writer.specs.Words.{lines_text};
-ghost use Rattle.rhythm_base.specs.Lists.{Each};
-ghost use Rattle.rhythm_base.specs.declared.limits.TheConstants.{MOST_BARS, MOST_UNITS};
-ghost use Rattle.std.specs.Prelude.{◌≡◌, ◌∷◌, ◌++◌, ◌≤◌, [], List, true, All, IfOk, OnOk, length};
+ghost use Rattle.page_writer.specs.Writing.{WritesStaves};
+ghost use Rattle.rhythm_base.specs.declared.limits.TheConstants.{MOST_BARS};
+ghost use Rattle.score_words.specs.Writing.{WritesLines};
+ghost use Rattle.std.specs.Prelude.{◌≡◌, ◌≤◌, ◌∷◌, [], All, IfOk, length};
 
 use crate::graces::most_graces;
 use crate::staff::write_staff;
 use derivation::{Score, ScoreBar, VoiceSounds};
 use notation::voice_groups;
+use rhythm_base::Units;
 use score_words::push_number;
 use std::alloc::{AllocError, Global};
 
@@ -32,7 +29,7 @@ fn staff_size(staves: usize) -> u64
 
 /// Writes the line of the size of so many staves.
 fn write_size(text: &mut Vec<u8>, staves: usize) -> Result<(), AllocError>
-    ensures { OnOk result (text.new.items ≡ text.old.items ++ lines_text (size_line staves ∷ [])) }
+    ensures { WritesLines (size_line staves ∷ []) text.old result text.new }
 {
     text.extend_from_slice(b"#(set-global-staff-size ")?;
     push_number(text, staff_size(staves))?;
@@ -42,7 +39,7 @@ fn write_size(text: &mut Vec<u8>, staves: usize) -> Result<(), AllocError>
 
 /// Writes the lines of the paper and of what opens the score.
 fn write_paper(text: &mut Vec<u8>) -> Result<(), AllocError>
-    ensures { OnOk result (text.new.items ≡ text.old.items ++ lines_text paper_lines) }
+    ensures { WritesLines paper_lines text.old result text.new }
 {
     text.extend_from_slice(b"\\paper { page-breaking-system-system-spacing = ")?;
     text.extend_from_slice(b"#'((basic-distance . 14) (minimum-distance . 10) (padding . 8)) }\n")?;
@@ -51,7 +48,7 @@ fn write_paper(text: &mut Vec<u8>) -> Result<(), AllocError>
 
 /// Writes the lines before the staves.
 fn write_head(text: &mut Vec<u8>, staves: usize) -> Result<(), AllocError>
-    ensures { OnOk result (text.new.items ≡ text.old.items ++ lines_text (head_lines staves)) }
+    ensures { WritesLines (head_lines staves) text.old result text.new }
 {
     text.extend_from_slice(b"\\version \"2.24.0\"\n\\header { tagline = ##f }\n")?;
     write_size(text, staves)?;
@@ -61,7 +58,7 @@ fn write_head(text: &mut Vec<u8>, staves: usize) -> Result<(), AllocError>
 
 /// Opens the bracket of several staves.
 fn write_opening(text: &mut Vec<u8>, staves: usize) -> Result<(), AllocError>
-    ensures { OnOk result (text.new.items ≡ text.old.items ++ lines_text (opening_lines staves)) }
+    ensures { WritesLines (opening_lines staves) text.old result text.new }
 {
     if staves > 1 {
         text.extend_from_slice(b"\\new StaffGroup <<\n")?;
@@ -71,7 +68,7 @@ fn write_opening(text: &mut Vec<u8>, staves: usize) -> Result<(), AllocError>
 
 /// Closes the bracket of several staves.
 fn write_closing(text: &mut Vec<u8>, staves: usize) -> Result<(), AllocError>
-    ensures { OnOk result (text.new.items ≡ text.old.items ++ lines_text (closing_lines staves)) }
+    ensures { WritesLines (closing_lines staves) text.old result text.new }
 {
     if staves > 1 {
         text.extend_from_slice(b">>\n")?;
@@ -81,7 +78,7 @@ fn write_closing(text: &mut Vec<u8>, staves: usize) -> Result<(), AllocError>
 
 /// Writes the lines after the staves.
 fn write_tail(text: &mut Vec<u8>) -> Result<(), AllocError>
-    ensures { OnOk result (text.new.items ≡ text.old.items ++ lines_text tail_lines) }
+    ensures { WritesLines tail_lines text.old result text.new }
 {
     text.extend_from_slice(b"\\layout { indent = 22\\mm short-indent = 8\\mm ")?;
     text.extend_from_slice(b"\\context { \\Staff \\RemoveEmptyStaves } }\n}\n")
@@ -91,24 +88,22 @@ fn write_tail(text: &mut Vec<u8>) -> Result<(), AllocError>
 fn write_staves(
     alloc: Global,
     text: &mut Vec<u8>,
-    resolution: u16,
+    resolution: Units,
     bars: &[ScoreBar],
     voices: &[VoiceSounds],
     channels: &[u8],
 ) -> Result<(), AllocError>
-    requires some_unit { 1 ≤ resolution }
-    requires few_units { resolution ≤ MOST_UNITS }
     requires few_bars { length bars.now ≤ MOST_BARS }
     requires bars { All IsScoreBar bars.now }
     requires voices { All (AreWellSounded resolution (length bars.now)) voices.now }
     requires channels { length channels.now ≡ length voices.now }
-    ensures { OnOk result ((written : List (List (List Group))) × Each (AreVoiceGroups resolution 0 bars.now) voices.now written
-        × (text.new.items ≡ text.old.items ++ lines_text (staves_lines true bars.now (most_in_bars voices.now (length bars.now))
-        channels.now voices.now written))) }
+    ensures { WritesStaves resolution bars.now channels.now voices.now text.old result text.new }
 {
+    let _units = resolution.count();
     let most = most_graces(alloc, voices, resolution, bars.len())?;
     'voices: for (number, voice) in voices.iter().enumerate() {
-        let sounds = voice.as_slice();
+        let made = voice.sounds(alloc)?;
+        let sounds = made.as_slice();
         let groups = voice_groups(alloc, resolution, bars, sounds)?;
         write_staff(
             text,
@@ -137,7 +132,7 @@ pub fn write_page(alloc: Global, score: &Score, channels: &[u8]) -> Result<Vec<u
     write_staves(
         alloc,
         &mut text,
-        score.resolution,
+        score.units(),
         &score.bars,
         &score.voices,
         channels,

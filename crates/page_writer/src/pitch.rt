@@ -1,7 +1,8 @@
 ghost use Rattle.derivation.specs.Score.{IsKeySignature};
 ghost use Rattle.page_writer.specs.Pitches as definitions;
 ghost use Rattle.page_writer.specs.Pitches.{name_text, octave_marks, page_pitch};
-ghost use Rattle.std.specs.Prelude.{◌≡◌, ◌++◌, ◌<◌, IfSome, OnOk};
+ghost use Rattle.score_words.specs.Writing.{Writes};
+ghost use Rattle.std.specs.Prelude.{◌≡◌, ◌<◌, IfSome};
 
 use notation::{Alteration, Letter, PitchName, pitch_name};
 use score_words::push_times;
@@ -37,7 +38,7 @@ pub(crate) fn alteration_text(alteration: Alteration) -> &'static [u8]
 
 /// Appends the marks of an octave.
 fn push_octave(text: &mut Vec<u8>, octave: i8) -> Result<(), AllocError>
-    ensures { OnOk result (text.new.items ≡ text.old.items ++ octave_marks octave) }
+    ensures { Writes (octave_marks octave) text.old result text.new }
 {
     let marks = octave.abs_diff(3);
     if octave < 3 {
@@ -49,7 +50,7 @@ fn push_octave(text: &mut Vec<u8>, octave: i8) -> Result<(), AllocError>
 
 /// Appends the name of a pitch.
 fn push_name(text: &mut Vec<u8>, name: PitchName) -> Result<(), AllocError>
-    ensures { OnOk result (text.new.items ≡ text.old.items ++ name_text name) }
+    ensures { Writes (name_text name) text.old result text.new }
 {
     text.extend_from_slice(letter_text(name.letter))?;
     text.extend_from_slice(alteration_text(name.alteration))?;
@@ -60,7 +61,7 @@ fn push_name(text: &mut Vec<u8>, name: PitchName) -> Result<(), AllocError>
 pub(crate) fn push_pitch(text: &mut Vec<u8>, sf: Option<i8>, key: u8) -> Result<(), AllocError>
     requires key { key < 128 }
     requires sf { IfSome sf IsKeySignature }
-    ensures { OnOk result (text.new.items ≡ text.old.items ++ page_pitch sf key) }
+    ensures { Writes (page_pitch sf key) text.old result text.new }
 {
     push_name(text, pitch_name(key, sf))
 }

@@ -1,21 +1,20 @@
 ghost use Rattle.derivation.specs.Score.{IsScoreBar};
 ghost use Rattle.page_writer.specs.Staves as definitions;
 ghost use Rattle.page_writer.specs.Staves.{bars_lines, clef_line, staff_head, staff_lines};
-ghost use Rattle.page_writer.specs.Words.{lines_text};
+ghost use Rattle.score_words.specs.Writing.{WritesLines};
 ghost use Rattle.std.specs.Prelude.{◌≡◌, ◌++◌, ◌∷◌, ◌≤◌, ◌^◌, [], All, None, OnOk, length};
 
 use crate::bar::write_bar;
-use crate::changes::write_changes;
 use crate::graces::silent_graces;
 use derivation::ScoreBar;
 use notation::{BarGroups, Clef, clef_of};
 use rhythm_base::Sound;
-use score_words::push_number;
+use score_words::{push_number, write_lily_changes};
 use std::alloc::AllocError;
 
 /// Writes the line that opens the staff of a channel.
 fn write_head(text: &mut Vec<u8>, channel: u8) -> Result<(), AllocError>
-    ensures { OnOk result (text.new.items ≡ text.old.items ++ lines_text (staff_head channel ∷ [])) }
+    ensures { WritesLines (staff_head channel ∷ []) text.old result text.new }
 {
     text.extend_from_slice(b"\\new Staff \\with { instrumentName = \"Channel ")?;
     push_number(text, u64::from(channel))?;
@@ -39,7 +38,7 @@ fn clef_text(clef: Clef) -> &'static [u8]
 
 /// Writes the line of a clef.
 fn write_clef(text: &mut Vec<u8>, clef: Clef) -> Result<(), AllocError>
-    ensures { OnOk result (text.new.items ≡ text.old.items ++ lines_text (clef_line clef ∷ [])) }
+    ensures { WritesLines (clef_line clef ∷ []) text.old result text.new }
 {
     text.extend_from_slice(b"\\clef \"")?;
     text.extend_from_slice(clef_text(clef))?;
@@ -57,13 +56,13 @@ fn write_bars(
     requires bars { All IsScoreBar bars.now }
     requires most { length most.now ≡ length bars.now }
     requires groups { length groups.now ≡ length bars.now }
-    ensures { OnOk result (text.new.items ≡ text.old.items ++ lines_text (bars_lines first None bars.now most.now groups.now)) }
+    ensures { WritesLines (bars_lines first None bars.now most.now groups.now) text.old result text.new }
 {
     let mut before = None;
     'bars: for (number, bar) in bars.iter().enumerate() {
         let bar_groups = &groups[number];
         let own = bar_groups.groups.as_slice();
-        write_changes(text, first, before, bar)?;
+        write_lily_changes(text, first, before, bar)?;
         let silent = silent_graces(before, bar, most[number], own);
         write_bar(text, bar, silent, own)?;
         before = Some(*bar);
@@ -85,8 +84,7 @@ pub(crate) fn write_staff(
     requires most { length most.now ≡ length bars.now }
     requires groups { length groups.now ≡ length bars.now }
     requires sounds { length sounds.now ≤ 2 ^ 32 }
-    ensures { OnOk result (text.new.items
-        ≡ text.old.items ++ lines_text (staff_lines first bars.now most.now channel sounds.now groups.now)) }
+    ensures { WritesLines (staff_lines first bars.now most.now channel sounds.now groups.now) text.old result text.new }
 {
     write_head(text, channel)?;
     write_clef(text, clef_of(sounds))?;

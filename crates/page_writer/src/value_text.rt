@@ -1,5 +1,5 @@
 ghost use Rattle.page_writer.specs.Values.{base_text, page_value, scale_text};
-ghost use Rattle.std.specs.Prelude.{◌≡◌, ◌++◌, OnOk};
+ghost use Rattle.score_words.specs.Writing.{Writes};
 
 use durations::{Recip, Value};
 use score_words::{push_number, push_times};
@@ -10,7 +10,7 @@ const SHORTEST: u32 = 1024;
 
 /// Appends the number or the word of a value.
 fn push_base(text: &mut Vec<u8>, recip: Recip) -> Result<(), AllocError>
-    ensures { OnOk result (text.new.items ≡ text.old.items ++ base_text recip) }
+    ensures { Writes (base_text recip) text.old result text.new }
 {
     match recip {
         Recip::Of(number) => push_number(text, u64::from(number.min(SHORTEST))),
@@ -21,7 +21,7 @@ fn push_base(text: &mut Vec<u8>, recip: Recip) -> Result<(), AllocError>
 
 /// Appends the scale of a value that is shorter than any with flags.
 fn push_scale(text: &mut Vec<u8>, recip: Recip) -> Result<(), AllocError>
-    ensures { OnOk result (text.new.items ≡ text.old.items ++ scale_text recip) }
+    ensures { Writes (scale_text recip) text.old result text.new }
 {
     match recip {
         Recip::Of(number) if number > SHORTEST => {
@@ -34,7 +34,7 @@ fn push_scale(text: &mut Vec<u8>, recip: Recip) -> Result<(), AllocError>
 
 /// Appends a value.
 pub(crate) fn push_value(text: &mut Vec<u8>, value: Value) -> Result<(), AllocError>
-    ensures { OnOk result (text.new.items ≡ text.old.items ++ page_value value) }
+    ensures { Writes (page_value value) text.old result text.new }
 {
     push_base(text, value.recip)?;
     push_times(text, b'.', value.dots)?;

@@ -11,7 +11,7 @@ use Rattle.derivation.specs.Score.{IsScoreBar}
 use Rattle.durations.proofs.Beats.{beat_part}
 use Rattle.durations.proofs.Wide.{some_product}
 use Rattle.voice_events.specs.Parts.{score_bar_parts}
-use Rattle.kern_reader.specs.Tokens.{◌>>=◌}
+use Rattle.text_words.specs.Steps.{◌>>=◌}
 use Rattle.notation.specs.declared.clef.Clef.{Clef}
 use Rattle.notation.specs.Notes.{Group, is_empty}
 use Rattle.notation_laws.specs.Hearing.{HeardVoice, hear}

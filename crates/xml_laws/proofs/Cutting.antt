@@ -2,7 +2,7 @@
 use Rattle.std.proofs.Common.{◌≡◌, ℕ, ◌==◌, ◌&&◌, Bool, true, false, not, List, [], ◌∷◌, ◌++◌, refl, sym, ap, ◌∙◌, append_assoc, append-nil}
 use Rattle.std.specs.List.{list_all}
 use Rattle.std.proofs.lemmas.Bool.{and_parts}
-use Rattle.kern_laws.proofs.TextTests.{lacks}
+use Rattle.text_words.proofs.TextTests.{lacks}
 use Rattle.musicxml_writer.specs.Elements.{attribute_start, closing, element, empty_with, opening, opening_with}
 use Rattle.xml_laws.specs.Words.{XmlWord, cut_content, in_content, in_tag, words_from, xml_words}
 

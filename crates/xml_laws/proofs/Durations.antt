@@ -8,7 +8,7 @@ use Rattle.durations.specs.declared.value.Recip.{Recip}
 use Rattle.durations.specs.declared.value.Recip.TheVariants.{Of, Breve, Long}
 use Rattle.durations.specs.Value.{parts, plain_grid, plain_parts, value_grid}
 use Rattle.durations.proofs.Wide.{some_product}
-use Rattle.kern_laws.proofs.TextNumbers.{number_back}
+use Rattle.text_words.proofs.TextNumbers.{number_back}
 use Rattle.notation.specs.Notes.{Group, Note}
 use Rattle.notation_laws.specs.Written.{IsHalvedPart, IsWrittenGroup, IsWrittenNote}
 use Rattle.xml_laws.specs.Notes.{xml_number}

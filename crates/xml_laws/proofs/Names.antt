@@ -6,7 +6,7 @@ use Rattle.std.proofs.lemmas.Bool.{and_parts}
 use Rattle.std.proofs.lemmas.Int.{ints}
 use Rattle.rhythm_base.proofs.NumbersBelow.{all_below, one_below}
 use Rattle.derivation.specs.Score.{IsKeySignature}
-use Rattle.kern_laws.proofs.Pitches.{read_key, is_key}
+use Rattle.text_words.proofs.ReadKeys.{read_key, is_key}
 use Rattle.notation.specs.declared.names.Alteration.{Alteration}
 use Rattle.notation.specs.declared.names.Alteration.TheVariants.{DoubleFlat, Flat, Natural, Sharp, DoubleSharp}
 use Rattle.notation.specs.declared.names.Letter.{Letter}

@@ -8,7 +8,8 @@ use Rattle.derivation.specs.Score.{IsKeySignature}
 use Rattle.derivation.specs.WellSounded.{AreKeys}
 use Rattle.score_words.specs.Keys.{rising_keys}
 use Rattle.score_words.proofs.SetKeys.{KeysRise, keys_rise}
-use Rattle.kern_reader.specs.Tokens.{◌>>=◌, same_bool}
+use Rattle.text_words.specs.Steps.{◌>>=◌}
+use Rattle.text_words.specs.Marks.{same_bool}
 use Rattle.lily_laws.proofs.ElementWords.{some_key}
 use Rattle.notation.specs.declared.note.Ratio.{Ratio}
 use Rattle.notation.specs.Names.{pitch_name}

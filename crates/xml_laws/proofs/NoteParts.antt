@@ -5,8 +5,8 @@ use Rattle.std.specs.Char.{is_ascii_digit}
 use Rattle.std.specs.Fmt.{signed_decimal}
 use Rattle.std.proofs.lemmas.Bool.Decides.{nat_tests}
 use Rattle.derivation.specs.Score.{IsKeySignature}
-use Rattle.kern_reader.specs.Tokens.{◌>>=◌}
-use Rattle.kern_laws.proofs.TextTests.{all_weaker, decimal_digits}
+use Rattle.text_words.specs.Steps.{◌>>=◌}
+use Rattle.text_words.proofs.TextTests.{all_weaker, decimal_digits}
 use Rattle.notation.specs.declared.names.PitchName.{PitchName}
 use Rattle.notation.specs.Names.{pitch_name}
 use Rattle.notation.specs.Notes.{Note}

@@ -10,7 +10,7 @@ use Rattle.derivation.specs.Score.{IsKeySignature}
 use Rattle.derivation.specs.WellSounded.{AreKeys}
 use Rattle.score_words.specs.Keys.{rising_keys}
 use Rattle.score_words.proofs.SetKeys.{keys_rise}
-use Rattle.kern_reader.specs.Tokens.{◌>>=◌}
+use Rattle.text_words.specs.Steps.{◌>>=◌}
 use Rattle.lily_writer.specs.Hearing.{key_set}
 use Rattle.lily_laws.proofs.KeySums.{keys_sum, keys_up}
 use Rattle.notation.specs.declared.note.Ratio.{Ratio}

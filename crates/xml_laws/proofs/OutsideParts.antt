@@ -1,7 +1,7 @@
 -- What stands outside of the parts says nothing of what is heard.
 use Rattle.std.proofs.Common.{◌≡◌, ℕ, ◌+◌, ◌==◌, not, true, false, List, [], ◌∷◌, ◌++◌, None, refl, ap, ◌∙◌, append_assoc}
 use Rattle.std.specs.Prelude.{codes, decimal}
-use Rattle.kern_laws.proofs.TextTests.{all_append, lacks}
+use Rattle.text_words.proofs.TextTests.{all_append, lacks}
 use Rattle.musicxml_writer.specs.Elements.{closing, element, line, opening, opening_with}
 use Rattle.musicxml_writer.specs.Parts.{part_name}
 use Rattle.musicxml_writer.specs.Text.{channel_name, head, instrument_name, listed_part, listed_parts, named_instrument, part_list, played_instrument}

@@ -14,7 +14,7 @@ use Rattle.derivation.specs.Score.{IsScoreBar}
 use Rattle.derivation.specs.WellSounded.{AreWellSounded}
 use Rattle.voice_events.specs.Events.{HaveSignatures}
 use Rattle.voice_events.specs.Parts.{score_bar_parts}
-use Rattle.kern_reader.specs.Tokens.{◌>>=◌}
+use Rattle.text_words.specs.Steps.{◌>>=◌}
 use Rattle.lily_laws.proofs.Fractions.{frac_is}
 use Rattle.notation.specs.Bars.{AreVoiceGroups}
 use Rattle.notation.specs.Clefs.{clef_of}

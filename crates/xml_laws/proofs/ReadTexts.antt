@@ -2,8 +2,8 @@
 use Rattle.std.proofs.Common.{◌≡◌, ℕ, Bool, true, false, List, [], ◌∷◌, ◌++◌, Some, refl, ap, ◌∙◌, append_assoc}
 use Rattle.std.specs.Prelude.{codes}
 use Rattle.std.specs.Str.{bytes_eq}
-use Rattle.kern_reader.specs.Tokens.{◌>>=◌}
-use Rattle.kern_laws.proofs.TextTests.{lacks}
+use Rattle.text_words.specs.Steps.{◌>>=◌}
+use Rattle.text_words.proofs.TextTests.{lacks}
 use Rattle.musicxml_writer.specs.Elements.{closing, element, empty_with, line, opening, opening_with, some_element, text_if}
 use Rattle.xml_laws.specs.Hearing.{HeardPart, hear_xml_word}
 use Rattle.xml_laws.specs.Reading.{ends_part, read_parts}

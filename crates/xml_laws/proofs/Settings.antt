@@ -13,7 +13,7 @@ use Rattle.derivation.specs.Score.{IsScoreBar}
 use Rattle.rhythm_base.specs.Signatures.{is_den}
 use Rattle.durations.proofs.Beats.{beat_part}
 use Rattle.score_words.specs.Changes.{key_before, quarters_of_minute, same_key, same_signature, same_tempo}
-use Rattle.kern_laws.proofs.TextTests.{all_weaker, decimal_digits, lacks}
+use Rattle.text_words.proofs.TextTests.{all_weaker, decimal_digits, lacks}
 use Rattle.notation.specs.declared.clef.Clef.{Clef}
 use Rattle.notation.specs.declared.clef.Clef.TheVariants.{BassBelow, Bass, Treble, TrebleAbove}
 use Rattle.musicxml_writer.specs.Attributes.{attributes, attributes_line, changes_key, clef_text, divisions, is_none, key_change, line_text, metronome, octave_text, sign_text, tempo_line, tempo_text, time}

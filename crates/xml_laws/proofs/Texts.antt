@@ -8,8 +8,8 @@ use Rattle.derivation.specs.Score.{IsScore, Score}
 use Rattle.voice_events.specs.Events.{HaveSignatures}
 use Rattle.notation.specs.Bars.{AreVoiceGroups}
 use Rattle.notation.specs.Notes.{Group}
-use Rattle.notation_laws.proofs.FullBars.{signatures_kept, some_bar}
-use Rattle.notation_laws.proofs.KernEvents.{kern_events}
+use Rattle.voice_events.proofs.BarUnits.{signatures_kept, some_bar}
+use Rattle.notation_laws.proofs.ScoreEvents.{spans_are_events}
 use Rattle.musicxml_writer.specs.Elements.{closing, line}
 use Rattle.musicxml_writer.specs.Text.{head, part_list, parts_text, score_text}
 use Rattle.xml_laws.specs.Laws.{BarsAreFull, TextsAreReadBack, TextsSayTheEvents}
@@ -56,11 +56,10 @@ bars_full s channels text is (written, each, same) =
     let all = parts_are s (map some_bar s.bars) written is (signatures_kept s.bars) each in
     ap (option_map (map (λ part. part.lengths))) (ap text_parts same ∙ text_is s channels written ∙ all.read) ∙ ap (λ ls. Some ls) all.long
 
--- so it says the events of its **kern text
+-- so it says the events of the score
 pub events_said : TextsSayTheEvents
-events_said s channels text kern is written kern_written =
+events_said s channels text is written =
     let bars = map some_bar s.bars in
     let signatures = signatures_kept s.bars in
     let back = texts_read s bars channels text is signatures written in
-    let (columns, read, events) = kern_events s bars kern back.spans is signatures kern_written back.are in
-    record { spans = back.spans; read = back.read; columns = columns; kern_read = read; events = events }
+    record { spans = back.spans; read = back.read; events = spans_are_events s bars back.spans signatures back.are }

@@ -6,7 +6,7 @@ use Rattle.std.proofs.lemmas.Bool.Decides.{nat_tests}
 use Rattle.durations.specs.declared.value.Recip.{Recip}
 use Rattle.durations.specs.declared.value.Recip.TheVariants.{Of, Breve, Long}
 use Rattle.durations.specs.declared.value.Value.{Value}
-use Rattle.kern_reader.specs.Tokens.{◌>>=◌}
+use Rattle.text_words.specs.Steps.{◌>>=◌}
 use Rattle.notation.specs.declared.note.Ratio.{Ratio}
 use Rattle.musicxml_writer.specs.Elements.{closing, element, empty_element, opening, text_if}
 use Rattle.musicxml_writer.specs.Values.{finer, part_type, ratio_text, type_text, value_text}

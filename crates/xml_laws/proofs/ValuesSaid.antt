@@ -4,7 +4,7 @@ use Rattle.std.specs.Prelude.{if◌then◌else◌, position}
 use Rattle.std.specs.Str.{bytes_eq}
 use Rattle.std.proofs.lemmas.Bool.{false≢true}
 use Rattle.std.proofs.lemmas.Bool.Decides.{nat_tests}
-use Rattle.kern_reader.specs.Tokens.{◌>>=◌}
+use Rattle.text_words.specs.Steps.{◌>>=◌}
 use Rattle.notation_laws.proofs.Says.{heard_first}
 use Rattle.xml_laws.specs.Hearing.{add_note, hear_tag}
 use Rattle.xml_laws.specs.Notes.{chord_of, grace_chord, is_of_value, kinds, long_chord, says_duration}

@@ -2,8 +2,8 @@
 use Rattle.std.proofs.Common.{◌≡◌, ℕ, ◌+◌, ◌^◌, Bool, true, false, List, [], ◌∷◌, ◌++◌, Some, None, refl}
 use Rattle.std.specs.Prelude.{codes}
 use Rattle.rhythm_base.specs.declared.span.Span.{Span}
-use Rattle.kern_reader.specs.Columns.{gcd}
-use Rattle.kern_reader.specs.Tokens.{number_of}
+use Rattle.text_words.specs.Divisors.{gcd}
+use Rattle.text_words.specs.Numbers.{number_of}
 use Rattle.xml_laws.specs.Hearing.{hear_tag, hear_value, hear_xml_word}
 use Rattle.xml_laws.specs.Notes.{kinds}
 use Rattle.xml_laws.specs.Pitches.{xml_key}

@@ -1,17 +1,13 @@
 -- The laws, each as one statement over the definitions.
-use Rattle.std.specs.Prelude.{◌≡◌, ℕ, ◌-◌, false, List, [], codes, position, Ok, Some, map}
+use Rattle.std.specs.Prelude.{◌≡◌, ℕ, ◌-◌, false, List, [], codes, position, Some, map}
 use Rattle.std.specs.Str.{bytes_eq}
 use Rattle.rhythm_base.specs.declared.note.Bar.{Bar}
 use Rattle.rhythm_base.specs.declared.span.Span.{Span}
 use Rattle.rhythm_base.specs.Lists.{Each}
 use Rattle.durations.specs.Spans.{AreSpans}
 use Rattle.derivation.specs.Score.{IsScore, Score}
-use Rattle.voice_events.specs.Events.{HaveSignatures}
+use Rattle.voice_events.specs.Events.{AreScoreEvents, HaveSignatures}
 use Rattle.voice_events.specs.Parts.{score_bar_parts}
-use Rattle.kern_writer.specs.Text.{IsScoreText}
-use Rattle.kern_reader.specs.Events.{AreEvents}
-use Rattle.kern_reader.specs.Outcome.{score_of}
-use Rattle.kern_reader.specs.Score.{KernColumns}
 use Rattle.musicxml_writer.specs.Text.{IsMusicXml}
 use Rattle.notation_laws.specs.VoicesEvents.{voices_events}
 use Rattle.xml_laws.specs.Hearing.{HeardPart, IsOfBeats, hear_tag}
@@ -30,19 +26,15 @@ TextsAreReadBack =
     (s : Score) (bars : List Bar) (channels text : List ℕ) → IsScore s → HaveSignatures s.bars bars
     → IsMusicXml s channels text → IsTextReadBack s bars text
 
--- a text that is read says the events of this **kern text, the spans of a part as those of its spine
-pub record SaysTheEvents (text kern : List ℕ) : Type 0 where
+-- a text that is read says the events of a score, the spans of a part as those of its voice
+pub record SaysTheEvents (s : Score) (text : List ℕ) : Type 0 where
   pub spans : List (List Span)
   pub read : musicxml_events text ≡ Some spans
-  pub columns : KernColumns
-  pub kern_read : score_of kern ≡ Ok columns
-  pub events : AreEvents columns (voices_events 1 spans)
+  pub events : AreScoreEvents s (voices_events 1 spans)
 
--- so the text of a score says the events of its **kern text
+-- so the text of a score says its events
 abbrev pub TextsSayTheEvents : Type 0
-TextsSayTheEvents =
-    (s : Score) (channels text kern : List ℕ) → IsScore s → IsMusicXml s channels text → IsScoreText s kern
-    → SaysTheEvents text kern
+TextsSayTheEvents = (s : Score) (channels text : List ℕ) → IsScore s → IsMusicXml s channels text → SaysTheEvents s text
 
 -- in each part of the text of a score the durations of a measure are together as long as its bar, in parts of
 -- 1/(64 * resolution) of a whole note

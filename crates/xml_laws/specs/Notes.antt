@@ -1,7 +1,9 @@
 -- What is read within a note, and the chord that notes make.
 use Rattle.std.specs.Prelude.{◌≡◌, ℕ, ◌-◌, ◌*◌, ◌^◌, Bool, true, false, ◌==◌, ◌&&◌, ◌||◌, not, if◌then◌else◌, List, [], ◌∷◌, ◌++◌, codes, position, Option, Some, None}
 use Rattle.std.specs.Str.{bytes_eq}
-use Rattle.kern_reader.specs.Tokens.{◌>>=◌, number_of, same_bool}
+use Rattle.text_words.specs.Steps.{◌>>=◌}
+use Rattle.text_words.specs.Numbers.{number_of}
+use Rattle.text_words.specs.Marks.{same_bool}
 use Rattle.lily_writer.specs.Hearing.{key_set}
 use Rattle.notation.specs.Notes.{is_empty}
 use Rattle.notation_laws.specs.Hearing.{Stretch, is_none}

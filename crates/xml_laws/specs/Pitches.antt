@@ -1,7 +1,8 @@
 -- The key that a pitch says, by the texts of its letter, of its alteration in half tones, and of its octave.
 use Rattle.std.specs.Prelude.{ℕ, ◌+◌, ◌-◌, ◌*◌, ◌==◌, nat_le, if◌then◌else◌, List, [], ◌∷◌, codes, position, Option, Some, None}
 use Rattle.std.specs.Str.{bytes_eq}
-use Rattle.kern_reader.specs.Tokens.{◌>>=◌, within_keys}
+use Rattle.text_words.specs.Steps.{◌>>=◌}
+use Rattle.text_words.specs.Numbers.{within_keys}
 
 -- the key of a letter, 0 for C to 11 for B
 abbrev pub letter_key_of : List ℕ → Option ℕ

@@ -2,7 +2,7 @@
 use Rattle.std.specs.Prelude.{ℕ, Bool, ◌==◌, ◌&&◌, ◌||◌, not, if◌then◌else◌, List, [], ◌∷◌, ◌++◌, codes, drop}
 use Rattle.std.specs.List.{list_any}
 use Rattle.std.specs.Str.{bytes_eq}
-use Rattle.kern_reader.specs.Text.{begins_with}
+use Rattle.text_words.specs.Lines.{begins_with}
 use Rattle.lily_writer.specs.Words.{front}
 use Rattle.notation.specs.Notes.{is_empty}
 

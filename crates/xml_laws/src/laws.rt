@@ -5,7 +5,7 @@ pub fn texts_are_read_back()
     ensures { TextsAreReadBack }
 {}
 
-/// The MusicXML text of a score says the events of its **kern text.
+/// The MusicXML text of a score says its events.
 pub fn texts_say_the_events()
     ensures { TextsSayTheEvents }
 {}

@@ -21,10 +21,11 @@ split_at-requires c =
 
 pub write_staff-requires-clause-events : goal.write_staff-requires-clause-events
 write_staff-requires-clause-events c =
-    subst (λ es. AreOfVoice c.args.resolution (score_parts c.args.resolution c.args.bars.now) (spans_of es)) (sym c.split_at.ensures.front)
+    subst (λ r. AreOfVoice r (score_parts r c.args.bars.now) (spans_of c.split_at.result.0.now)) (sym c.of-units.ensures)
+    (subst (λ es. AreOfVoice c.args.resolution (score_parts c.args.resolution c.args.bars.now) (spans_of es)) (sym c.split_at.ensures.front)
     (own_voice c.args.resolution c.args.bars.now c.args.voices c.args.events.now c.staves.voice c.own_count.result c.staves.later.now _
     c.staves.text.items
-    c.staves-test.true c.own_count.ensures c.staves.invariant)
+    c.staves-test.true c.own_count.ensures c.staves.invariant))
 
 pub staves-preserved : goal.staves-preserved
 staves-preserved c =
@@ -35,7 +36,8 @@ staves-preserved c =
     (staves_next c.args.resolution c.args.bars.now c.args.voices c.args.events.now c.staves.voice c.own_count.result (c.staves.voice == 0)
     c.staves.later.now lines head c.staves.text.items c.write_staff.new.text.items
     c.staves-test.true c.own_count.ensures refl c.staves.invariant
-    (subst (λ es. AreStaffLines c.args.resolution c.args.bars.now (c.staves.voice == 0) (spans_of es) lines) c.split_at.ensures.front are)
+    (subst (λ es. AreStaffLines c.args.resolution c.args.bars.now (c.staves.voice == 0) (spans_of es) lines) c.split_at.ensures.front
+    (subst (λ r. AreStaffLines r c.args.bars.now (c.staves.voice == 0) (spans_of c.split_at.result.0.now) lines) c.of-units.ensures are))
     written)
 
 pub returns : goal.returns

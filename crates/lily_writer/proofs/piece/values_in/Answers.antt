@@ -10,4 +10,4 @@ pub returns-clause-some : goal.returns-clause-some
 returns-clause-some c =
     let whole = 64 * c.from.result in
     IfOk-weaker c.notate.result (λ v. All (CountsIn whole) v.items) (λ v. All (λ w. 1 ≤ plain_grid w.recip) v.items)
-    (λ v h. counted_some whole v.items (omega (arith, c.requires.some_unit, c.from.ensures)) h) c.notate.ensures.grid
+    (λ v h. counted_some whole v.items (omega (arith, c.count.ensures.some, c.from.ensures)) h) c.notate.ensures.grid

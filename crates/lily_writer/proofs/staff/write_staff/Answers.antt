@@ -1,6 +1,6 @@
 use Rattle.std.proofs.lemmas.Result.{on_ok_weaker}
 use Rattle.lily_writer.specs.Staves.{spans_of}
-use Rattle.lily_writer.proofs.ChangeLines.{on_ok_items}
+use Rattle.score_words.proofs.ChangeLines.{on_ok_items}
 use Rattle.lily_writer.proofs.BarsWritten.{staff_written}
 use Rattle.lily_writer.proofs.staff.write_staff.Goals as goal
 

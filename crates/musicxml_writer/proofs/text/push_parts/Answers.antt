@@ -1,4 +1,4 @@
-use Rattle.std.proofs.Common.{◌≡◌, ◌+◌, ◌++◌, List, subst}
+use Rattle.std.proofs.Common.{◌≡◌, ◌+◌, ◌++◌, List, ◌∙◌, subst}
 use Rattle.rhythm_base.specs.declared.sound.Sound.{Sound}
 use Rattle.notation.specs.Bars.{AreVoiceGroups}
 use Rattle.musicxml_writer.specs.Parts.{part_text}
@@ -16,7 +16,7 @@ voices-preserved c =
     let (groups, are, is) = c.in_ok-push_part.ensures in
     let own = subst (λ (s : List Sound). AreVoiceGroups r 0 bars s groups
     × (c.push_part.new.text.items ≡ c.voices.text.items ++ part_text r (i + 1) bars s groups))
-    c.as_slice.ensures (are, is) in
+    (c.as_slice.ensures ∙ c.in_ok-sounds.ensures) (are, is) in
     one_part r bars c.args.voices.now i c.index-voices-index.result groups c.args.text.now.items c.voices.text.items c.push_part.new.text.items c.voices-test.true
     c.index-voices-index.is c.voices.invariant own.0 own.1
 

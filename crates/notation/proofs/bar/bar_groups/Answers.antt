@@ -5,22 +5,23 @@ use Rattle.notation.specs.Rests.{joined_rests}
 use Rattle.notation.specs.Runs.{AreRun, IsInBar}
 use Rattle.notation.specs.Tokens.{bar_tokens, is_silent}
 use Rattle.notation.proofs.BarLemmas.{rests_run, silent_groups, sounding_groups, tokens_run, values_in_bar}
+use Rattle.notation.proofs.Spelled.{units_some}
 use Rattle.notation.proofs.bar.bar_groups.Goals as goal
 
 pub bar_tokens-requires-clause-values : goal.bar_tokens-requires-clause-values
 bar_tokens-requires-clause-values c =
     let r = c.args.resolution in
     let bar = c.args.bar.now in
-    subst (All (IsInBar r bar)) (sym c.deref.ensures.value) (values_in_bar r bar c.args.sounds.now c.in_ok-values.values.items c.requires.some_unit
+    subst (All (IsInBar r bar)) (sym c.deref.ensures.value) (values_in_bar r bar c.args.sounds.now c.in_ok-values.values.items (units_some c.args.resolution c.args.odd c.requires.odd)
     c.requires.bar c.requires.full c.in_ok-values.ensures)
 
-pub join_rests-requires-clause-run : goal.join_rests-requires-clause-run
-join_rests-requires-clause-run c =
+pub join_rests-requires : goal.join_rests-requires
+join_rests-requires c =
     let r = c.args.resolution in
     let bar = c.args.bar.now in
     let vs = c.in_ok-values.values.items in
     let tokens = c.deref-3.ensures.value ∙ c.in_ok-tokens.ensures ∙ ap (bar_tokens r c.args.odd bar c.args.after) c.deref.ensures.value in
-    subst (AreRun r) (sym tokens) (tokens_run r c.args.odd bar c.args.after c.args.sounds.now vs c.requires.some_unit c.requires.bar c.requires.full
+    subst (AreRun r) (sym tokens) (tokens_run r c.args.odd bar c.args.after c.args.sounds.now vs (units_some c.args.resolution c.args.odd c.requires.odd) c.requires.bar c.requires.full
     c.in_ok-values.ensures)
 
 pub groups_of-requires-clause-run : goal.groups_of-requires-clause-run
@@ -29,9 +30,9 @@ groups_of-requires-clause-run c =
     let bar = c.args.bar.now in
     let vs = c.in_ok-values.values.items in
     let tokens = c.deref-3.ensures.value ∙ c.in_ok-tokens.ensures ∙ ap (bar_tokens r c.args.odd bar c.args.after) c.deref.ensures.value in
-    let run = tokens_run r c.args.odd bar c.args.after c.args.sounds.now vs c.requires.some_unit c.requires.bar c.requires.full c.in_ok-values.ensures in
+    let run = tokens_run r c.args.odd bar c.args.after c.args.sounds.now vs (units_some c.args.resolution c.args.odd c.requires.odd) c.requires.bar c.requires.full c.in_ok-values.ensures in
     let joined = c.deref-4.ensures.value ∙ c.in_ok-joined.ensures ∙ ap (joined_rests r bar) tokens in
-    subst (AreRun r) (sym joined) (rests_run r bar (bar_tokens r c.args.odd bar c.args.after vs) c.requires.some_unit c.requires.bar run)
+    subst (AreRun r) (sym joined) (rests_run r bar (bar_tokens r c.args.odd bar c.args.after vs) (units_some c.args.resolution c.args.odd c.requires.odd) c.requires.bar run)
 
 pub returns-then-are_silent : goal.returns-then-are_silent
 returns-then-are_silent c =

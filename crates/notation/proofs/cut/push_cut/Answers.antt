@@ -26,7 +26,7 @@ overflow_add-place c =
     let h = c.parts.invariant in
     let t = c.args.token in
     let plain = is_plain c.args.odd t.start && is_plain c.args.odd t.end in
-    let few = few_dots plain c.args.value.dots c.requires.dots in
+    let few = few_dots plain c.args.value.dots c.requires.value.dots in
     let dots : c.loose_dots-dots.result ≤ 2 = omega (arith, c.loose_dots-dots.ensures, few) in
     omega (arith, h.small, h.place, c.parts-test.true, dots, c.requires.start)
 

@@ -1,11 +1,8 @@
-use Rattle.std.proofs.Common.{◌≤◌, sym, subst}
-use Rattle.durations.specs.Value.{plain_grid}
-use Rattle.kern_writer.specs.Values.{VoiceValue}
-use Rattle.notation.proofs.Values.{some_plain}
+use Rattle.std.proofs.Common.{arith, sym, subst}
+use Rattle.voice_values.specs.Values.{VoiceValue}
+use Rattle.notation.specs.Spelling.{IsNoteValue}
+use Rattle.notation.proofs.Values.{note_value}
 use Rattle.notation.proofs.cut.value_token.Goals as goal
 
-pub width-requires-clause-some : goal.width-requires-clause-some
-width-requires-clause-some c =
-    let v = c.args.value.now in
-    subst (λ (x : VoiceValue). 1 ≤ plain_grid x.value.recip) (sym c.value.view_is)
-    (some_plain c.args.resolution v.value c.requires.some_unit c.requires.value.grid)
+pub width-requires : goal.width-requires
+width-requires c = subst (λ (x : VoiceValue). IsNoteValue x.value) (sym c.value.view_is) (note_value c.args.resolution c.args.bar.now c.args.value.now (omega (arith, c.whole_of.ensures.is, c.whole_of.ensures.some)) c.requires.value)

@@ -1,11 +1,12 @@
-use Rattle.std.proofs.Common.{subst}
+use Rattle.std.proofs.Common.{[], sym, subst}
 use Rattle.std.specs.Int.{IsGcd}
+use Rattle.notation.specs.Notes.{IsGrid}
 use Rattle.notation.specs.Tokens.{Token}
 use Rattle.notation.proofs.GridLemmas.{grid_none, grid_step}
 use Rattle.notation.proofs.grid.grid.Goals as goal
 
 pub tokens-init : goal.tokens-init
-tokens-init c = grid_none c.args.odd
+tokens-init c = subst (IsGrid c.args.odd []) (sym c.count-grid.ensures.is) (grid_none c.args.odd)
 
 pub tokens-preserved : goal.tokens-preserved
 tokens-preserved c =

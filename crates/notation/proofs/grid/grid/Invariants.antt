@@ -3,4 +3,4 @@ use Rattle.notation.specs.Notes.{IsGrid}
 use Rattle.notation.proofs.grid.grid.Given as goal
 
 abbrev pub invariant-tokens : goal.invariant-tokens
-invariant-tokens l = IsGrid l.odd (take l.token-index l.tokens) l.grid
+invariant-tokens l = IsGrid l.fn.odd (take l.token-index l.tokens) l.grid

@@ -6,8 +6,8 @@ use Rattle.notation.proofs.GroupLemmas.{group_last, group_waits, group_whole, sa
 use Rattle.notation.proofs.Standing.{run_front}
 use Rattle.notation.proofs.groups.first_group.Goals as goal
 
-pub is_whole-requires-clause-run : goal.is_whole-requires-clause-run
-is_whole-requires-clause-run c =
+pub is_whole-requires : goal.is_whole-requires
+is_whole-requires c =
     let ts = c.args.tokens.now in
     let n = c.tokens.count in
     subst (AreRun c.args.resolution) (sym c.split_at.ensures.front) (run_front c.args.resolution (take n ts) (drop n ts)

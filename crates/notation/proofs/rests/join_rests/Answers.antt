@@ -7,8 +7,8 @@ use Rattle.notation.proofs.Joining.{join_step}
 use Rattle.notation.proofs.Standing.{run_after}
 use Rattle.notation.proofs.rests.join_rests.Goals as goal
 
-pub rests_taken-taken-requires-clause-run : goal.rests_taken-taken-requires-clause-run
-rests_taken-taken-requires-clause-run c =
+pub rests_taken-taken-requires : goal.rests_taken-taken-requires
+rests_taken-taken-requires c =
     let later = c.tokens.later.now in
     let split = first_and_more later _ c.token-item.result c.in-len1-up.len_at_least (take_rest later 1) c.token-item.is in
     subst (AreRun c.args.resolution) split c.tokens.invariant.run

@@ -3,19 +3,19 @@ use Rattle.std.specs.Prelude.{All, take}
 use Rattle.std.proofs.lemmas.List.{length-map, length-take}
 use Rattle.std.proofs.lemmas.List.Elements.{All-take}
 use Rattle.notation.specs.Places.{whole_of}
-use Rattle.notation.specs.Tokens.{Token}
+use Rattle.notation.specs.Tokens.{Token, ends}
 use Rattle.notation.specs.Rests.{may_stand}
-use Rattle.notation.proofs.LastNumbers.{ends, last_few}
+use Rattle.notation.proofs.LastNumbers.{last_few}
 use Rattle.notation.proofs.Standing.{later_ends}
 use Rattle.notation.proofs.rests.rests_taken.Goals as goal
 
-pub last_standing-requires-clause-later : goal.last_standing-requires-clause-later
-last_standing-requires-clause-later c =
+pub last_standing-requires : goal.last_standing-requires
+last_standing-requires c =
     let t = c.args.token.now in
     let n = c.rests_before.result in
     let r = c.args.resolution in
     subst (λ (x : Token). All (λ (u : Token). (x.start < u.end) × (u.end ≤ 64 * whole_of r)) (take n c.args.more.now)) (sym c.token.view_is)
-    (All-take (λ (u : Token). (t.start < u.end) × (u.end ≤ 64 * whole_of r)) n c.args.more.now (later_ends r t c.args.more.now c.requires.run))
+    (All-take (λ (u : Token). (t.start < u.end) × (u.end ≤ 64 * whole_of r)) n c.args.more.now (later_ends r t c.args.more.now c.requires))
 
 pub returns-clause-few : goal.returns-clause-few
 returns-clause-few c =

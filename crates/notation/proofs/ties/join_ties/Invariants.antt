@@ -6,8 +6,8 @@ use Rattle.notation.proofs.ties.join_ties.Given as goal
 
 abbrev pub invariant-tokens : goal.invariant-tokens
 invariant-tokens l = record {
-  places : AreInGrid l.grid l.later;
-  joined : l.joined.items ++ joined_from (ties_taken l.grid l.whole) 0 l.later ≡ joined_from (ties_taken l.grid l.whole) 0 l.tokens;
+  places : AreInGrid l.by.grid l.later;
+  joined : l.joined.items ++ joined_from (ties_taken l.by.grid l.by.whole) 0 l.later ≡ joined_from (ties_taken l.by.grid l.by.whole) 0 l.tokens;
 }
 
 abbrev pub decreases-tokens : goal.decreases-tokens

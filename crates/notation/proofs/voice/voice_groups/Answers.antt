@@ -4,9 +4,10 @@ use Rattle.std.proofs.lemmas.List.{take_all}
 use Rattle.std.proofs.lemmas.List.Sums.{prefix_len-le-length}
 use Rattle.rhythm_base.specs.declared.sound.Sound.{Sound}
 use Rattle.derivation.specs.declared.score.ScoreBar.{ScoreBar}
-use Rattle.kern_writer.specs.Ahead.{begins_with_tie, later_sounds, own_sounds}
-use Rattle.kern_writer.specs.Values.{sounds_in_bar}
-use Rattle.kern_writer.proofs.BarSounds.{stand_fill, stand_later}
+use Rattle.derivation.specs.Ahead.{later_sounds, own_sounds}
+use Rattle.voice_values.specs.Ahead.{begins_with_tie}
+use Rattle.voice_values.specs.Values.{sounds_in_bar}
+use Rattle.voice_values.proofs.BarSounds.{stand_fill, stand_later}
 use Rattle.notation.specs.Bars.{AreBarGroups, AreVoiceGroups}
 use Rattle.notation.proofs.VoiceLemmas.{AreAhead, ahead_later, own_are, tie_ahead, voice_step}
 use Rattle.notation.proofs.voice.voice_groups.Goals as goal

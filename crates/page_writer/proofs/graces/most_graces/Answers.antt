@@ -19,7 +19,7 @@ voices-preserved c =
     let room : length c.raise.new.most ≡ c.voices.most.len = omega (arith, c.raise.auto.most, c.deref_mut.ensures.len) in
     let whole = with_items_is c.voices.most c.raise.new.most room in
     let own : (k : ℕ) → get_or c.deref.result.now k 0 ≡ begun_graces k sounds =
-    λ k. ap (λ xs. get_or xs k 0) (c.deref.ensures.value ∙ c.in_ok-own.ensures ∙ ap start_graces c.as_slice.ensures)
+    λ k. ap (λ xs. get_or xs k 0) (c.deref.ensures.value ∙ c.in_ok-own.ensures ∙ ap start_graces (c.as_slice.ensures ∙ c.in_ok-sounds.ensures))
     ∙ starts_begin c.args.resolution c.args.bars sounds k are in
     record {
       count = ap length whole ∙ omega (arith, c.raise.auto.most, items, c.voices.invariant.count);

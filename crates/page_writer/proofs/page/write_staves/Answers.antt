@@ -6,7 +6,7 @@ use Rattle.derivation.specs.WellSounded.{AreWellSounded}
 use Rattle.notation.specs.Bars.{AreVoiceGroups}
 use Rattle.page_writer.specs.Graces.{most_graces}
 use Rattle.page_writer.specs.Staves.{staff_lines, staves_lines}
-use Rattle.page_writer.specs.Words.{lines_text}
+use Rattle.score_words.specs.TextLines.{lines_text}
 use Rattle.page_writer.proofs.BarsWritten.{groups_for_bars}
 use Rattle.page_writer.proofs.BegunGraces.{few_sounds}
 use Rattle.page_writer.proofs.StavesWritten.{staves_all, staves_next}
@@ -28,8 +28,8 @@ write_staff-requires-clause-sounds c =
     let Are = AreWellSounded c.args.resolution (length c.args.bars.now) in
     let are : AreWellSounded c.args.resolution (length c.args.bars.now) sounds =
     subst Are (sym c.index-voices-number.is) (All-get_or Are c.args.voices.now c.voices.number sounds c.voices-test.true c.requires.voices) in
-    let few = few_sounds c.args.resolution (length c.args.bars.now) sounds are c.requires.few_units c.requires.few_bars in
-    let same = ap length c.as_slice-sounds.ensures in
+    let few = few_sounds c.args.resolution (length c.args.bars.now) sounds are (omega (arith, c.count-units.ensures.is, c.count-units.ensures.few)) c.requires.few_bars in
+    let same = ap length (c.as_slice-sounds.ensures ∙ c.in_ok-made.ensures) in
     omega (arith, few, same)
 
 pub voices-preserved : goal.voices-preserved
@@ -39,11 +39,12 @@ voices-preserved c =
     let groups = c.in_ok-groups.groups.items in
     let bars = c.args.bars.now in
     let channel = get_or c.args.channels.now number 0 in
+    let own = c.as_slice-sounds.ensures ∙ c.in_ok-made.ensures in
     staves_next c.args.resolution bars c.in_ok-most.most.items c.args.channels.now c.args.voices.now number sounds groups c.args.text.now.items c.voices.text.items
     c.write_staff.new.text.items c.voices-test.true (omega (arith, c.voices-test.true, c.requires.channels)) c.index-voices-number.is
-    (subst (λ s. AreVoiceGroups c.args.resolution 0 bars s groups) c.as_slice-sounds.ensures c.in_ok-groups.ensures)
+    (subst (λ s. AreVoiceGroups c.args.resolution 0 bars s groups) own c.in_ok-groups.ensures)
     (c.in_ok-write_staff.ensures ∙ (λ j. c.voices.text.items ++ lines_text
-    (staff_lines (number == 0) bars (c.deref.ensures.value j) channel (c.as_slice-sounds.ensures j) (c.deref-in-voices.ensures.value j))))
+    (staff_lines (number == 0) bars (c.deref.ensures.value j) channel (own j) (c.deref-in-voices.ensures.value j))))
     c.voices.invariant
 
 pub returns : goal.returns

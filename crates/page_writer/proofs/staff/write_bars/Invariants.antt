@@ -2,7 +2,7 @@ use Rattle.std.proofs.Common.{◌≡◌, ◌++◌, drop}
 use Rattle.std.specs.Prelude.{IfSome, None}
 use Rattle.derivation.specs.Score.{IsScoreBar}
 use Rattle.page_writer.specs.Staves.{bars_lines}
-use Rattle.page_writer.specs.Words.{lines_text}
+use Rattle.score_words.specs.TextLines.{lines_text}
 use Rattle.page_writer.proofs.staff.write_bars.Given as goal
 
 abbrev pub invariant-bars : goal.invariant-bars

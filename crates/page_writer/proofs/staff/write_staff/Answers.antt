@@ -2,7 +2,7 @@ use Rattle.std.proofs.Common.{◌++◌, [], ◌∷◌, ap, ◌∙◌}
 use Rattle.std.specs.Prelude.{None}
 use Rattle.notation.specs.Clefs.{clef_of}
 use Rattle.page_writer.specs.Staves.{bars_lines, clef_line, staff_end, staff_head}
-use Rattle.page_writer.specs.Words.{lines_text}
+use Rattle.score_words.specs.TextLines.{lines_text}
 use Rattle.page_writer.proofs.BarsWritten.{staff_written}
 use Rattle.page_writer.proofs.staff.write_staff.Goals as goal
 
