@@ -17,9 +17,11 @@ use Rattle.clap.specs.Takes.{takes}
 use Rattle.clap.specs.Kinds.{HasKind, IsAmong, Kinds}
 use Rattle.clap.specs.Values.{kind_of}
 use Rattle.clap.specs.declared.error.Error.{Error}
+use Rattle.clap.specs.declared.error.kind.ErrorKind.{ErrorKind}
 use Rattle.clap.specs.declared.error.kind.ErrorKind.TheVariants.{OutOfMemory}
 use Rattle.clap.specs.declared.parser.matches.ArgMatches.{ArgMatches}
-use Rattle.command_line.specs.CommandLines.{line_matches}
+use Rattle.command_line.specs.CommandLines.{line_matches, words_fault}
+use Rattle.command_line.specs.declared.invocation.WordsFault.TheVariants.{Memory, Refused}
 use Rattle.command_line.specs.FlatCommand.{line_app}
 use Rattle.command_line.proofs.Rows.{Text}
 use Rattle.command_line.proofs.Taking.{faultless, is_passed, takes_is}
@@ -51,6 +53,11 @@ unfolding line_matches
 matches_are words m passes has =
     let rows : rows_of (found_of m) ≡ matches_of line_app words = (has refl).0 in
     let taken : takes line_app words ≡ true = (faultless words).1 passes in rw (taken, rows) refl
+
+-- words are refused for no want of memory
+pub other_kind : (kind : ErrorKind) → words_fault kind ≡ Refused → kind ≢ OutOfMemory
+other_kind kind refused is =
+    let bad : Memory ≡ Refused = sym (ap words_fault is) ∙ refused in cc
 
 -- an error that is not for memory refuses the words
 pub refusal_is : (words : List Text) (e : Error) → HasKind (fault_of line_app words) e → kind_of e ≢ OutOfMemory → line_matches words ≡ None

@@ -1,6 +1,10 @@
 -- What the words of a command line say.
-use Rattle.std.specs.Prelude.{⊤, ℕ, ◌≤◌, if◌then◌else◌, List, [], ◌∷◌, codes, Option, Some, None, option_and_then, option_map, unwrap_or}
-use Rattle.clap.specs.Words.{Row, all_of, matches_of, takes}
+use Rattle.std.specs.Prelude.{⊤, ℕ, if◌then◌else◌, List, [], ◌∷◌, codes, map, Option, Some, None, option_and_then, option_map, unwrap_or}
+use Rattle.std.specs.Borrow.{Bor}
+use Rattle.clap.specs.Words.{Row, all_of, found_of, matches_of, rows_of, takes}
+use Rattle.clap.specs.declared.error.kind.ErrorKind.{ErrorKind}
+use Rattle.clap.specs.declared.error.kind.ErrorKind.TheVariants as kinds
+use Rattle.clap.specs.declared.parser.matches.ArgMatches.{ArgMatches}
 use Rattle.performance_prepare.specs.Ranges.{AreInRange}
 use Rattle.command_line.specs.FlatCommand.{line_app}
 use Rattle.command_line.specs.Numbers.{workers_of}
@@ -9,6 +13,17 @@ use Rattle.command_line.specs.Requests.{asks, is_help, is_version}
 use Rattle.command_line.specs.declared.invocation.CommandLine.{CommandLine}
 use Rattle.command_line.specs.declared.invocation.Invocation.{Invocation}
 use Rattle.command_line.specs.declared.invocation.Invocation.TheVariants.{Help, Version, Command}
+use Rattle.command_line.specs.declared.invocation.WordsFault.{WordsFault}
+use Rattle.command_line.specs.declared.invocation.WordsFault.TheVariants.{Memory, Refused}
+
+-- a list of texts as contracts see it
+abbrev pub texts : List (Bor (List ℕ)) → List (List ℕ)
+texts list = map (λ s. s.now) list
+
+-- an error of `clap` as a fault of the words: it refuses them, or there was not enough memory
+abbrev pub words_fault : ErrorKind → WordsFault
+words_fault kinds.OutOfMemory = Memory
+words_fault _ = Refused
 
 -- what `clap`'s written meaning of the flat command gives, none where it does not take the words
 unfoldable pub line_matches : List (List ℕ) → Option (List Row)
@@ -35,15 +50,13 @@ line_said rows = do
   told ← options_of (word_in rows)
   Some (record { workers = workers; options = told; script = script_in rows; words = words_given rows })
 
+-- the same of matches
+abbrev pub line_in : ArgMatches → Option CommandLine
+line_in matches = line_said (rows_of (found_of matches))
+
 -- the same of words, none where `clap` refuses them
 abbrev pub command_line_of : List (List ℕ) → Option CommandLine
 command_line_of words = option_and_then line_said (line_matches words)
-
--- a command line has 1 to 16 workers
-abbrev pub HasWorkers : Invocation → Type 0
-HasWorkers Help = ⊤
-HasWorkers Version = ⊤
-HasWorkers (Command line) = (1 ≤ line.workers) × (line.workers ≤ 16)
 
 -- what a command line tells of a take is in range
 abbrev pub HasOptions : Invocation → Type 0

@@ -91,4 +91,4 @@ help_text = text_of_lines help_lines
 
 -- the name of the program and its version
 unfoldable pub version_text : List ℕ
-version_text = text_of_lines (codes "rhythm 1.4" ∷ [])
+version_text = text_of_lines (codes "rhythm 1.5" ∷ [])

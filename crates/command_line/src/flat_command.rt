@@ -1,9 +1,9 @@
 ghost use Rattle.clap.specs.Words.{FailsBy, HasMatchesOf, app_of, fault_of, found_of, kind_of, rows_of, rule_of, with_rule};
-ghost use Rattle.command_line.specs.CommandLines.{line_matches};
+ghost use Rattle.command_line.specs.CommandLines.{line_matches, texts, words_fault};
 ghost use Rattle.command_line.specs.FlatCommand.{app_of_rules, flag_rule, line_app, option_rule, value_rule, words_rule};
 ghost use Rattle.command_line.specs.OptionTable.{shown_row};
 ghost use Rattle.command_line.specs.declared.invocation.WordsFault.TheVariants.{Refused};
-ghost use Rattle.std.specs.Prelude.{◌≡◌, ◌≢◌, [], IfErr, IfOk, None, Some, false, map};
+ghost use Rattle.std.specs.Prelude.{◌≡◌, [], IfErr, IfOk, None, Some, false};
 
 use crate::invocation::WordsFault;
 use crate::option_table::{OptionRow, options};
@@ -76,8 +76,8 @@ fn line_command<'a>(alloc: Global) -> Result<Command<'a>, AllocError>
 
 /// What `clap` makes of the words, by the one flat command.
 fn parsed<'a>(alloc: Global, words: &'a [&'a str]) -> Result<ArgMatches<'a>, Error>
-    ensures ok { IfOk result (λ m. HasMatchesOf line_app (map (λ s. s.now) words.entry.now) m) }
-    ensures kinds { FailsBy (fault_of line_app (map (λ s. s.now) words.entry.now)) result }
+    ensures ok { IfOk result (λ m. HasMatchesOf line_app (texts words.entry.now) m) }
+    ensures kinds { FailsBy (fault_of line_app (texts words.entry.now)) result }
 {
     let command = line_command(alloc)?;
     command.try_get_matches_from(words)
@@ -85,12 +85,11 @@ fn parsed<'a>(alloc: Global, words: &'a [&'a str]) -> Result<ArgMatches<'a>, Err
 
 /// Whether `clap` refuses the words, or there was not enough memory.
 fn words_fault(error: &Error) -> WordsFault
-    ensures { result ≡ Refused → kind_of error.now ≢ ErrorKind.OutOfMemory }
+    ensures { result ≡ words_fault (kind_of error.now) }
 {
-    if error.kind() == ErrorKind::OutOfMemory {
-        WordsFault::Memory
-    } else {
-        WordsFault::Refused
+    match error.kind() {
+        ErrorKind::OutOfMemory => WordsFault::Memory,
+        _ => WordsFault::Refused,
     }
 }
 
@@ -99,8 +98,8 @@ pub(crate) fn taken_matches<'a>(
     alloc: Global,
     words: &'a [&'a str],
 ) -> Result<ArgMatches<'a>, WordsFault>
-    ensures ok { IfOk result (λ m. line_matches (map (λ s. s.now) words.entry.now) ≡ Some (rows_of (found_of m))) }
-    ensures refused { IfErr result (λ fault. fault ≡ Refused → line_matches (map (λ s. s.now) words.entry.now) ≡ None) }
+    ensures ok { IfOk result (λ m. line_matches (texts words.entry.now) ≡ Some (rows_of (found_of m))) }
+    ensures refused { IfErr result (λ fault. fault ≡ Refused → line_matches (texts words.entry.now) ≡ None) }
 {
     match parsed(alloc, words) {
         Ok(matches) => Ok(matches),

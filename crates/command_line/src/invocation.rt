@@ -2,7 +2,7 @@ ghost use Rattle.command_line.specs.declared.invocation.WordsFault.TheVariants.{
 ghost use Rattle.std.specs.Prelude.{◌≡◌};
 
 use performance_prepare::Options;
-use rhythm_base::Words;
+use rhythm_base::{Words, Workers};
 use std::alloc::{AllocError, AllocFailed};
 use std::error::Error;
 use std::fmt;
@@ -10,8 +10,8 @@ use std::fmt;
 /// A command with its options.
 #[derive(Drop)]
 pub struct CommandLine {
-    /// How many workers build cells, 1 to 16.
-    pub workers: u32,
+    /// How many workers build cells.
+    pub workers: Workers,
     /// What is told of a take.
     pub options: Options,
     /// The name of the script file, where one is given: no word, or one.

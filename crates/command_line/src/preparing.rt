@@ -1,6 +1,6 @@
-ghost use Rattle.clap.specs.Words.{found_of, rows_of};
-ghost use Rattle.command_line.specs.CommandLines.{line_said};
+ghost use Rattle.command_line.specs.CommandLines.{line_in};
 ghost use Rattle.command_line.specs.Numbers as numbers;
+ghost use Rattle.command_line.specs.Numbers.{workers_of};
 ghost use Rattle.command_line.specs.Preparing.{is_given, options_of, said_by, told};
 ghost use Rattle.command_line.specs.declared.invocation.WordsFault.TheVariants.{Refused};
 ghost use Rattle.std.specs.Prelude.{◌≡◌, IfErr, IfOk, None, Some, codes, option_map};
@@ -131,9 +131,9 @@ pub(crate) fn options_in(matches: &ArgMatches<'_>) -> Result<Options, OutOfRange
 
 /// The number of workers, and what the options tell of a take.
 pub(crate) fn numbers_in(matches: &ArgMatches<'_>) -> Result<(u32, Options), OutOfRange>
-    ensures workers { IfOk result (λ said. numbers.workers_of (said_by matches.now (codes "workers")) ≡ Some said.0) }
+    ensures workers { IfOk result (λ said. workers_of (said_by matches.now (codes "workers")) ≡ Some said.0) }
     ensures options { IfOk result (λ said. options_of (said_by matches.now) ≡ Some said.1) }
-    ensures refused { IfErr result (λ _. line_said (rows_of (found_of matches.now)) ≡ None) }
+    ensures refused { IfErr result (λ _. line_in matches.now ≡ None) }
 {
     let workers = workers_in(word_of(matches, "workers")).ok_or(OutOfRange { name: "workers" })?;
     let options = options_in(matches)?;

@@ -1,19 +1,19 @@
 ghost use Rattle.clap.specs.Words.{found_of, rows_of};
-ghost use Rattle.command_line.specs.CommandLines.{HasOptions, HasWorkers, command_line_of, invocation_of, line_said, listed, words_given};
+ghost use Rattle.command_line.specs.CommandLines.{HasOptions, command_line_of, invocation_of, line_in, listed, texts, words_given};
 ghost use Rattle.command_line.specs.declared.invocation.WordsFault.TheVariants.{Refused};
-ghost use Rattle.std.specs.Prelude.{◌≡◌, ◌≤◌, IfErr, IfOk, None, Some, is_none, is_some, map, option_map};
+ghost use Rattle.std.specs.Prelude.{◌≡◌, IfErr, IfOk, None, Some, is_none, is_some, option_map};
 
 use crate::flat_command::{refusal_of, taken_matches};
 use crate::invocation::{CommandLine, Invocation, WordsFault};
 use crate::preparing::{numbers_in, range_refusal, word_of};
 use crate::requests::asks_by;
 use clap::ArgMatches;
-use rhythm_base::Words;
+use rhythm_base::{Words, Workers};
 use std::alloc::{AllocError, Global};
 
 /// The words as a list of texts.
 fn texts_of<'a>(alloc: Global, words: &'a Words) -> Result<Vec<&'a str>, AllocError>
-    ensures { IfOk result (λ list. map (λ s. s.now) list.items ≡ words.entry.now) }
+    ensures { IfOk result (λ list. texts list.items ≡ words.entry.now) }
 {
     let mut list = Vec::new(alloc);
     for at in 0..words.count() {
@@ -26,7 +26,7 @@ fn texts_of<'a>(alloc: Global, words: &'a Words) -> Result<Vec<&'a str>, AllocEr
 
 /// A list of texts as words.
 fn words_of(alloc: Global, list: &[&str]) -> Result<Words, AllocError>
-    ensures { IfOk result (λ words. words ≡ map (λ s. s.now) list.now) }
+    ensures { IfOk result (λ words. words ≡ texts list.now) }
 {
     let mut words = Words::new(alloc);
     for word in list {
@@ -58,15 +58,14 @@ fn listed(alloc: Global, said: Option<&str>) -> Result<Words, AllocError>
 
 /// The command line that the matches say.
 fn line_in(alloc: Global, matches: &ArgMatches<'_>) -> Result<CommandLine, WordsFault>
-    ensures ok { IfOk result (λ line. line_said (rows_of (found_of matches.now)) ≡ Some line) }
-    ensures refused { IfErr result (λ fault. fault ≡ Refused → line_said (rows_of (found_of matches.now)) ≡ None) }
-    ensures workers { IfOk result (λ line. (1 ≤ line.workers) × (line.workers ≤ 16)) }
+    ensures ok { IfOk result (λ line. line_in matches.now ≡ Some line) }
+    ensures refused { IfErr result (λ fault. fault ≡ Refused → line_in matches.now ≡ None) }
 {
     let (workers, options) = numbers_in(matches)?;
     let script = listed(alloc, word_of(matches, "script"))?;
     let words = given_words(alloc, matches)?;
     Ok(CommandLine {
-        workers,
+        workers: Workers::of(workers),
         options,
         script,
         words,
@@ -75,9 +74,8 @@ fn line_in(alloc: Global, matches: &ArgMatches<'_>) -> Result<CommandLine, Words
 
 /// The command line that the words are.
 fn command_line(alloc: Global, list: &[&str]) -> Result<CommandLine, WordsFault>
-    ensures ok { IfOk result (λ line. command_line_of (map (λ s. s.now) list.now) ≡ Some line) }
-    ensures refused { IfErr result (λ fault. fault ≡ Refused → command_line_of (map (λ s. s.now) list.now) ≡ None) }
-    ensures workers { IfOk result (λ line. (1 ≤ line.workers) × (line.workers ≤ 16)) }
+    ensures ok { IfOk result (λ line. command_line_of (texts list.now) ≡ Some line) }
+    ensures refused { IfErr result (λ fault. fault ≡ Refused → command_line_of (texts list.now) ≡ None) }
 {
     let matches = match taken_matches(alloc, list) {
         Ok(matches) => matches,
@@ -93,7 +91,6 @@ fn command_line(alloc: Global, list: &[&str]) -> Result<CommandLine, WordsFault>
 pub fn read_words(alloc: Global, words: &Words) -> Result<Invocation, WordsFault>
     ensures ok { IfOk result (λ said. invocation_of words.now ≡ Some said) }
     ensures refused { IfErr result (λ fault. fault ≡ Refused → invocation_of words.now ≡ None) }
-    ensures workers { IfOk result HasWorkers }
     ensures options { IfOk result HasOptions }
 {
     let list = texts_of(alloc, words)?;

@@ -1,7 +1,8 @@
+ghost use Rattle.command_line.specs.CommandLines.{texts};
 ghost use Rattle.command_line.specs.OptionTable.{shown_row};
 ghost use Rattle.command_line.specs.Requests.{asks, has_short_names, is_named, is_short_name, is_taking, takes_next};
 ghost use Rattle.std.specs.List.{list_all, list_any};
-ghost use Rattle.std.specs.Prelude.{◌≡◌, ◌==◌, ◌++◌, codes, map};
+ghost use Rattle.std.specs.Prelude.{◌≡◌, ◌==◌, ◌++◌, codes};
 ghost use Rattle.std.specs.Str.{bytes_eq};
 
 use crate::option_table::{OptionRow, options};
@@ -73,7 +74,7 @@ fn takes_next(word: &str) -> bool
 /// Whether a word before the first `--` has the long name or the short one, other than the word of an option.
 #[tactic(auto, using(crate::proofs::Asking::goes_on, crate::proofs::Asking::found_here, crate::proofs::Asking::dashes_end))]
 pub(crate) fn asks_by(words: &[&str], long: &str, letter: u8) -> bool
-    ensures { result ≡ asks (is_named long.now letter) (map (λ s. s.now) words.now) }
+    ensures { result ≡ asks (is_named long.now letter) (texts words.now) }
 {
     let mut follows = false;
     for word in words {

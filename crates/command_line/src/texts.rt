@@ -84,5 +84,5 @@ pub fn help_text() -> &'static str
 pub fn version_text() -> &'static str
     ensures { result.now ≡ version_text }
 {
-    "rhythm 1.4\n"
+    "rhythm 1.5\n"
 }

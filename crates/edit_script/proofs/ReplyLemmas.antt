@@ -6,8 +6,8 @@ use Rattle.std.specs.List.{flat_map, join_with_byte}
 use Rattle.edit_script.specs.Replies.{reply_line}
 use Rattle.rhythm_ports.specs.declared.sink.Partial.{Partial}
 use Rattle.edit_script.specs.Gathered.{Gathered}
-use Rattle.edit_script.specs.Sending.{Sent, SentPart, Writes}
-use Rattle.edit_script.proofs.SendingLemmas.{SentPart-first, SentPart-more, writes_after}
+use Rattle.edit_script.specs.Sending.{Sent, SentPart}
+use Rattle.edit_script.proofs.SendingLemmas.{SentPart-first, SentPart-more, Written, writes_after}
 
 module _ (total shape rules : List ℕ) where
   abbrev front : List ℕ
@@ -36,9 +36,9 @@ module _ (total shape rules : List ℕ) where
 
   -- all but the newline was written
   pub sent_front : (a b c d : Option (List ℕ)) (i j k l : Gathered) → Sent a b i j front → Sent b c j k (codes " ") → Sent c d k l rules
-      → {T : Type 0} (e : Option (List ℕ)) (m : Gathered) (r : Result T Partial) → Writes d e l m (codes "\n") r → Writes a e i m line r
+      → {T : Type 0} (e : Option (List ℕ)) (m : Gathered) (r : Result T Partial) → Written d e l m (codes "\n") r → Written a e i m line r
   sent_front a b c d i j k l p q r e m result last =
-      subst (λ (t : List ℕ). Writes a e i m t result) pieces
+      subst (λ (t : List ℕ). Written a e i m t result) pieces
       (writes_after a b e i j m front (codes " " ++ (rules ++ codes "\n")) result p (writes_after b c e j k m (codes " ") (rules ++ codes "\n") result q
       (writes_after c d e k l m rules (codes "\n") result r last)))
 

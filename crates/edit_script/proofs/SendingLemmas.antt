@@ -8,7 +8,7 @@ use Rattle.std.specs.Io.KnownBytes.{Appends}
 use Rattle.std.proofs.KnownBytes.{Appends-nil, Appends-trans}
 use Rattle.rhythm_ports.specs.declared.sink.Partial.{Partial}
 use Rattle.edit_script.specs.Gathered.{Gathered}
-use Rattle.edit_script.specs.Sending.{Sent, SentPart, TakesPartAfter, Writes, counted}
+use Rattle.edit_script.specs.Sending.{HandsOn, Sent, SentPart, TakesPartAfter, Writes, counted}
 use Rattle.edit_script.specs.declared.gathered.TheConstants.{MOST_GATHERED}
 
 -- nothing was written
@@ -160,22 +160,26 @@ last_part_sent a b c j s t sent (n, within, count, taken) = part_of (part_of_las
         let same : take (length front) t ≡ front = ap (take (length front)) whole ∙ take-append_seam front (drop n j.bytes) in
         (length front, omega (arith, size, left, within), omega (arith, count, before, first, sum), subst (Appends a c) (sym same) both)
 
-pub last_part : {T : Type 0} (a b c : Option (List ℕ)) (i j : Gathered) (t : List ℕ) (r : Result T Partial) → i ≡ start → Sent a b i j t
-    → IfErr r (λ e. TakesPartAfter b c j.sent e.sent j.bytes) → IfErr r (λ e. TakesPartAfter a c 0 e.sent t)
-last_part a b c i j t (Ok x) is sent part = tt
-last_part a b c i j t (Err e) is sent part = last_part_sent a b c j e.sent t (subst (λ (g : Gathered). Sent a b g j t) is sent) part
+pub last_part : {T : Type 0} (a b c : Option (List ℕ)) (i j k : Gathered) (t : List ℕ) (r : Result T Partial) → i ≡ start → Sent a b i j t
+    → HandsOn (λ taken. taken) b c j k r → IfErr r (λ e. TakesPartAfter a c 0 e.sent t)
+last_part a b c i j k t (Ok x) is sent handed = tt
+last_part a b c i j k t (Err e) is sent part = last_part_sent a b c j e.sent t (subst (λ (g : Gathered). Sent a b g j t) is sent) part
 
 -- ---- one piece after another
 
+-- a text was written, or the sink failed, of a sink that is seen as what it took
+abbrev pub Written : {T : Type 0} → Option (List ℕ) → Option (List ℕ) → Gathered → Gathered → List ℕ → Result T Partial → Type 0
+Written old new before after text result = Writes (λ taken. taken) old new before after text result
+
 -- a piece, and then what is written after it
-pub writes_after : {T : Type 0} (a b c : Option (List ℕ)) (i j k : Gathered) (t u : List ℕ) (r : Result T Partial) → Sent a b i j t → Writes b c j k u r
-    → Writes a c i k (t ++ u) r
+pub writes_after : {T : Type 0} (a b c : Option (List ℕ)) (i j k : Gathered) (t u : List ℕ) (r : Result T Partial) → Sent a b i j t → Written b c j k u r
+    → Written a c i k (t ++ u) r
 writes_after a b c i j k t u (Ok x) front next = Sent-trans a b c i j k t u front next
 writes_after a b c i j k t u (Err e) front next = SentPart-more a b c i j e.sent t u front next
 
 -- the failure of a piece is handed on
 pub fails : {T : Type 0} (a b : Option (List ℕ)) (i k : Gathered) (t : List ℕ) (r : Result T Partial) (e : Partial) → IsErr r × IsErrAnd r (λ y. y ≡ e)
-    → SentPart a b i e.sent t → Writes a b i k t r
+    → SentPart a b i e.sent t → Written a b i k t r
 fails a b i k t (Ok x) e is part = let both : false ≡ true = is.0 in absurd (cc)
 fails a b i k t (Err y) e is part = subst (λ (z : Partial). SentPart a b i z.sent t) (sym is.1) part
 

@@ -57,8 +57,12 @@ pub record Shown : Type 0 where
   pub shape : List ℕ
   pub rules : List ℕ
 
+-- numbers with a comma between two
+abbrev pub numbers_text : List ℕ → List ℕ
+numbers_text numbers = join_with_byte 44 (map decimal numbers)
+
 abbrev pub shown_text : Shown → List ℕ
-shown_text a = reply_line (codes "alt" ∷ decimal a.total ∷ a.shape ∷ join_with_byte 44 (map decimal a.rules) ∷ [])
+shown_text a = reply_line (codes "alt" ∷ decimal a.total ∷ a.shape ∷ numbers_text a.rules ∷ [])
 
 -- their number, and a line for each
 abbrev pub alternatives_text : List Shown → List ℕ

@@ -35,9 +35,12 @@ script_lines bytes =
 abbrev pub trimmed : List ℕ → List ℕ
 trimmed line = if ends_with nat_eq line (13 ∷ []) then take (length line - 1) line else line
 
--- its words, with exactly one space between two: a word is empty where two spaces meet or one stands at an end
+-- the words of a text, with exactly one space between two: a word is empty where two spaces meet or one stands at an end
+abbrev pub words_of : List ℕ → List (List ℕ)
+words_of text = slice_split (λ b. b == 32) text
+
 abbrev pub script_words : List ℕ → List (List ℕ)
-script_words line = slice_split (λ b. b == 32) (trimmed line)
+script_words line = words_of (trimmed line)
 
 -- the word is a channel, 0 to 15; a key, 0 to 127; a bar, 0 to 4,096; a tick, 0 to 2,000,000,000; or a number of
 -- alternatives, 1 to 16

@@ -1,7 +1,6 @@
-ghost use Rattle.edit_script.specs.Sending.{TakesPartAfter, Writes, counted};
+ghost use Rattle.edit_script.specs.Sending.{HandsOn, HasRoom, LacksRoom, Sends, Writes, joined};
 ghost use Rattle.rhythm_ports.specs.Causes.{HasCause};
-ghost use Rattle.std.specs.Io.KnownBytes.{Appends};
-ghost use Rattle.std.specs.Prelude.{◌≡◌, ◌<◌, ◌≤◌, ◌+◌, ◌++◌, [], IfErr, IfOk, MatchBool, OnOk, length};
+ghost use Rattle.std.specs.Prelude.{◌≡◌, [], MatchBool};
 
 use arrayvec::ArrayVec;
 use rhythm_ports::{Partial, Sink, write_all};
@@ -27,8 +26,7 @@ impl Model for Gathered {
 
 /// Lets the sink take bytes, and counts them after those that it took before.
 fn send<K: Sink>(sink: &mut K, sent: usize, bytes: &[u8]) -> Result<usize, Partial>
-    ensures all { IfOk result (λ count. Appends (K.taken sink.old) (K.taken sink.new) bytes.now × (count ≡ counted sent (length bytes.now))) }
-    ensures part { IfErr result (λ e. TakesPartAfter (K.taken sink.old) (K.taken sink.new) sent e.sent bytes.now) }
+    ensures sent { Sends K.taken sink.old sink.new sent bytes.now result }
     ensures cause { HasCause (K.faults sink.old) (K.faults sink.new) result }
 {
     match write_all(sink, bytes) {
@@ -52,18 +50,15 @@ impl Gathered {
 
     /// Gathers bytes where there is room for all of them, and says whether there was.
     fn gather(&mut self, bytes: &[u8]) -> bool
-        ensures { MatchBool result
-            ((length self.old.bytes + length bytes.now ≤ MOST_GATHERED) × (self.new ≡ record self.old { bytes = self.old.bytes ++ bytes.now }))
-            ((MOST_GATHERED < length self.old.bytes + length bytes.now) × (self.new ≡ self.old)) }
+        ensures room { MatchBool result (HasRoom self.old bytes.now) (LacksRoom self.old bytes.now) }
+        ensures new { MatchBool result (self.new ≡ joined self.old bytes.now) (self.new ≡ self.old) }
     {
         self.bytes.try_extend_from_slice(bytes).is_ok()
     }
 
     /// Lets the sink take what is gathered.
     pub(crate) fn hand_on<K: Sink>(&mut self, sink: &mut K) -> Result<(), Partial>
-        ensures all { OnOk result (Appends (K.taken sink.old) (K.taken sink.new) self.old.bytes
-            × (self.new ≡ record { bytes = []; sent = counted self.old.sent (length self.old.bytes) })) }
-        ensures part { IfErr result (λ e. TakesPartAfter (K.taken sink.old) (K.taken sink.new) self.old.sent e.sent self.old.bytes) }
+        ensures handed { HandsOn K.taken sink.old sink.new self.old self.new result }
         ensures cause { HasCause (K.faults sink.old) (K.faults sink.new) result }
     {
         self.sent = send(sink, self.sent, self.bytes.as_slice())?;
@@ -73,8 +68,8 @@ impl Gathered {
 
     /// Writes bytes of which too many are to wait beside those before them: what was gathered is handed on.
     fn write_on<K: Sink>(&mut self, sink: &mut K, bytes: &[u8]) -> Result<(), Partial>
-        requires { MOST_GATHERED < length self.old.bytes + length bytes.now }
-        ensures written { Writes (K.taken sink.old) (K.taken sink.new) self.old self.new bytes.now result }
+        requires { LacksRoom self.old bytes.now }
+        ensures written { Writes K.taken sink.old sink.new self.old self.new bytes.now result }
         ensures cause { HasCause (K.faults sink.old) (K.faults sink.new) result }
     {
         self.hand_on(sink)?;
@@ -87,7 +82,7 @@ impl Gathered {
 
     /// Writes bytes: they wait while there is room for them.
     pub(crate) fn write<K: Sink>(&mut self, sink: &mut K, bytes: &[u8]) -> Result<(), Partial>
-        ensures written { Writes (K.taken sink.old) (K.taken sink.new) self.old self.new bytes.now result }
+        ensures written { Writes K.taken sink.old sink.new self.old self.new bytes.now result }
         ensures cause { HasCause (K.faults sink.old) (K.faults sink.new) result }
     {
         if self.gather(bytes) {

@@ -1,9 +1,9 @@
 ghost use Rattle.edit_script.specs.Finds.{Finds};
-ghost use Rattle.edit_script.specs.LineWords.{Begins, words_in};
-ghost use Rattle.edit_script.specs.ScriptLines.{Are};
+ghost use Rattle.edit_script.specs.LineWords.{AreFour, AreThree, AreTwo, Begins, words_in};
+ghost use Rattle.edit_script.specs.ScriptLines.{Are, words_of};
 ghost use Rattle.rhythm_base.specs.Numerals.{IsNumber};
-ghost use Rattle.std.specs.List.{join_with_byte, slice_split};
-ghost use Rattle.std.specs.Prelude.{◌≡◌, ◌≤◌, ◌==◌, ◌∷◌, [], ℕ, ◌↔◌, IfSome, IsTrue, drop, length, option_map, slice_get};
+ghost use Rattle.std.specs.List.{join_with_byte};
+ghost use Rattle.std.specs.Prelude.{◌≡◌, ◌≤◌, ◌∷◌, [], ℕ, ◌↔◌, IfSome, IsTrue, drop, option_map, slice_get};
 
 use crate::number::number;
 use std::marker::Model;
@@ -26,7 +26,7 @@ impl<'a> Model for LineWords<'a> {
 
 /// The first word of a text, and the text after the space that ends it.
 fn first_word(text: &[u8]) -> (&[u8], Option<&[u8]>)
-    ensures { slice_split (λ b. b == 32) text.now ≡ result.0.now ∷ words_in (option_map (λ x. x.now) result.1) }
+    ensures { words_of text.now ≡ result.0.now ∷ words_in (option_map (λ x. x.now) result.1) }
 {
     match text.iter().position(|byte| *byte == b' ') {
         Some(end) => (&text[..end], Some(&text[end + 1..])),
@@ -37,7 +37,7 @@ fn first_word(text: &[u8]) -> (&[u8], Option<&[u8]>)
 impl<'a> LineWords<'a> {
     /// All words of a text.
     pub(crate) fn of(text: &'a [u8]) -> LineWords<'a>
-        ensures { result ≡ slice_split (λ b. b == 32) text.now }
+        ensures { result ≡ words_of text.now }
     {
         LineWords { rest: Some(text) }
     }
@@ -89,7 +89,7 @@ impl<'a> LineWords<'a> {
 
     /// The numbers that the last two words are, up to a greatest one for each.
     pub(crate) fn two(&mut self, first: u32, second: u32) -> Option<(u32, u32)>
-        ensures words { Finds (λ n. Are (IsNumber first n.0 ∷ IsNumber second n.1 ∷ []) self.old) result }
+        ensures words { Finds (λ n. AreTwo (first, second) n self.old) result }
         ensures within { IfSome result (λ n. (n.0 ≤ first) × (n.1 ≤ second)) }
     {
         let number = self.number(first)?;
@@ -99,7 +99,7 @@ impl<'a> LineWords<'a> {
 
     /// The numbers that the last three words are, up to a greatest one for each.
     pub(crate) fn three(&mut self, first: u32, second: u32, third: u32) -> Option<(u32, u32, u32)>
-        ensures words { Finds (λ n. Are (IsNumber first n.0 ∷ IsNumber second n.1 ∷ IsNumber third n.2 ∷ []) self.old) result }
+        ensures words { Finds (λ n. AreThree (first, second, third) n self.old) result }
         ensures within { IfSome result (λ n. (n.0 ≤ first) × (n.1 ≤ second) × (n.2 ≤ third)) }
     {
         let number = self.number(first)?;
@@ -115,7 +115,7 @@ impl<'a> LineWords<'a> {
         third: u32,
         fourth: u32,
     ) -> Option<(u32, u32, u32, u32)>
-        ensures words { Finds (λ n. Are (IsNumber first n.0 ∷ IsNumber second n.1 ∷ IsNumber third n.2 ∷ IsNumber fourth n.3 ∷ []) self.old) result }
+        ensures words { Finds (λ n. AreFour (first, second, third, fourth) n self.old) result }
         ensures within { IfSome result (λ n. (n.0 ≤ first) × (n.1 ≤ second) × (n.2 ≤ third) × (n.3 ≤ fourth)) }
     {
         let number = self.number(first)?;

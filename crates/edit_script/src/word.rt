@@ -1,9 +1,7 @@
-ghost use Rattle.edit_script.specs.Pieces.{word_text};
+ghost use Rattle.edit_script.specs.Pieces.{after, more_numbers, more_words, word_text, words_line, words_text};
 ghost use Rattle.edit_script.specs.Sending.{Writes};
-ghost use Rattle.edit_script.specs.Replies.{reply_line};
+ghost use Rattle.edit_script.specs.Replies.{numbers_text};
 ghost use Rattle.rhythm_ports.specs.Causes.{HasCause};
-ghost use Rattle.std.specs.List.{flat_map, join_with_byte};
-ghost use Rattle.std.specs.Prelude.{◌∷◌, decimal, map};
 
 use crate::gathered::Gathered;
 use rhythm_ports::{Partial, Sink};
@@ -16,15 +14,15 @@ pub(crate) enum Word<'a> {
 }
 
 /// Writes a word.
-fn write_word<K: Sink>(sink: &mut K, gathered: &mut Gathered, word: Word) -> Result<(), Partial>
-    ensures written { Writes (K.taken sink.old) (K.taken sink.new) gathered.old gathered.new (word_text word.entry) result }
+fn write_word<K: Sink>(sink: &mut K, held: &mut Gathered, word: Word) -> Result<(), Partial>
+    ensures written { Writes K.taken sink.old sink.new held.old held.new (word_text word.entry) result }
     ensures cause { HasCause (K.faults sink.old) (K.faults sink.new) result }
 {
     match word {
-        Word::Name(text) => gathered.write(sink, text),
+        Word::Name(text) => held.write(sink, text),
         Word::Number(number) => {
             let mut buffer = itoa::Buffer::new();
-            gathered.write(sink, buffer.format(number).as_bytes())
+            held.write(sink, buffer.format(number).as_bytes())
         }
     }
 }
@@ -32,28 +30,28 @@ fn write_word<K: Sink>(sink: &mut K, gathered: &mut Gathered, word: Word) -> Res
 /// Writes a separator and the word after it.
 fn write_after<K: Sink>(
     sink: &mut K,
-    gathered: &mut Gathered,
+    held: &mut Gathered,
     separator: u8,
     word: Word,
 ) -> Result<(), Partial>
-    ensures written { Writes (K.taken sink.old) (K.taken sink.new) gathered.old gathered.new (separator ∷ word_text word.entry) result }
+    ensures written { Writes K.taken sink.old sink.new held.old held.new (after separator word.entry) result }
     ensures cause { HasCause (K.faults sink.old) (K.faults sink.new) result }
 {
-    gathered.write(sink, &[separator])?;
-    write_word(sink, gathered, word)
+    held.write(sink, &[separator])?;
+    write_word(sink, held, word)
 }
 
 /// Writes words with a space before each.
 fn write_later_words<K: Sink>(
     sink: &mut K,
-    gathered: &mut Gathered,
+    held: &mut Gathered,
     words: &[Word],
 ) -> Result<(), Partial>
-    ensures written { Writes (K.taken sink.old) (K.taken sink.new) gathered.old gathered.new (flat_map (λ w. 32 ∷ word_text w) words.now) result }
+    ensures written { Writes K.taken sink.old sink.new held.old held.new (more_words words.now) result }
     ensures cause { HasCause (K.faults sink.old) (K.faults sink.new) result }
 {
     'words: for word in words {
-        write_after(sink, gathered, b' ', *word)?;
+        write_after(sink, held, b' ', *word)?;
     }
     Ok(())
 }
@@ -61,14 +59,14 @@ fn write_later_words<K: Sink>(
 /// Writes numbers with a comma before each.
 fn write_later_numbers<K: Sink>(
     sink: &mut K,
-    gathered: &mut Gathered,
+    held: &mut Gathered,
     numbers: &[u16],
 ) -> Result<(), Partial>
-    ensures written { Writes (K.taken sink.old) (K.taken sink.new) gathered.old gathered.new (flat_map (λ n. 44 ∷ decimal n) numbers.now) result }
+    ensures written { Writes K.taken sink.old sink.new held.old held.new (more_numbers numbers.now) result }
     ensures cause { HasCause (K.faults sink.old) (K.faults sink.new) result }
 {
     'numbers: for number in numbers {
-        write_after(sink, gathered, b',', Word::Number(u64::from(*number)))?;
+        write_after(sink, held, b',', Word::Number(u64::from(*number)))?;
     }
     Ok(())
 }
@@ -76,17 +74,17 @@ fn write_later_numbers<K: Sink>(
 /// Writes words with a space between two.
 pub(crate) fn write_words<K: Sink>(
     sink: &mut K,
-    gathered: &mut Gathered,
+    held: &mut Gathered,
     words: &[Word],
 ) -> Result<(), Partial>
-    ensures written { Writes (K.taken sink.old) (K.taken sink.new) gathered.old gathered.new (join_with_byte 32 (map word_text words.now)) result }
+    ensures written { Writes K.taken sink.old sink.new held.old held.new (words_text words.now) result }
     ensures cause { HasCause (K.faults sink.old) (K.faults sink.new) result }
 {
     match words {
         [] => Ok(()),
         [first, later @ ..] => {
-            write_word(sink, gathered, *first)?;
-            write_later_words(sink, gathered, later)
+            write_word(sink, held, *first)?;
+            write_later_words(sink, held, later)
         }
     }
 }
@@ -94,17 +92,17 @@ pub(crate) fn write_words<K: Sink>(
 /// Writes numbers with a comma between two.
 pub(crate) fn write_numbers<K: Sink>(
     sink: &mut K,
-    gathered: &mut Gathered,
+    held: &mut Gathered,
     numbers: &[u16],
 ) -> Result<(), Partial>
-    ensures written { Writes (K.taken sink.old) (K.taken sink.new) gathered.old gathered.new (join_with_byte 44 (map decimal numbers.now)) result }
+    ensures written { Writes K.taken sink.old sink.new held.old held.new (numbers_text numbers.now) result }
     ensures cause { HasCause (K.faults sink.old) (K.faults sink.new) result }
 {
     match numbers {
         [] => Ok(()),
         [first, later @ ..] => {
-            write_word(sink, gathered, Word::Number(u64::from(*first)))?;
-            write_later_numbers(sink, gathered, later)
+            write_word(sink, held, Word::Number(u64::from(*first)))?;
+            write_later_numbers(sink, held, later)
         }
     }
 }
@@ -112,12 +110,12 @@ pub(crate) fn write_numbers<K: Sink>(
 /// Writes a line of words.
 pub(crate) fn write_line<K: Sink>(
     sink: &mut K,
-    gathered: &mut Gathered,
+    held: &mut Gathered,
     words: &[Word],
 ) -> Result<(), Partial>
-    ensures written { Writes (K.taken sink.old) (K.taken sink.new) gathered.old gathered.new (reply_line (map word_text words.now)) result }
+    ensures written { Writes K.taken sink.old sink.new held.old held.new (words_line words.now) result }
     ensures cause { HasCause (K.faults sink.old) (K.faults sink.new) result }
 {
-    write_words(sink, gathered, words)?;
-    gathered.write(sink, b"\n")
+    write_words(sink, held, words)?;
+    held.write(sink, b"\n")
 }

@@ -11,9 +11,8 @@ use Rattle.std.proofs.lemmas.Bool.Decides.{nat_tests}
 use Rattle.std.proofs.lemmas.Option.{slice_get-get_or}
 use Rattle.rhythm_base.specs.declared.note.Note.{Note}
 use Rattle.edit_laws.specs.Edits.{has_note, is_note, without_note}
-use Rattle.rhythm_base.specs.Lists.{AreInOrder}
+use Rattle.rhythm_base.specs.Lists.{AreInOrder, earlier}
 use Rattle.rhythm_base.specs.Performance.{place_of_note}
-use Rattle.rhythm_base.proofs.OrderedLists.{earlier}
 use Rattle.performance_edit.specs.OnlyPlaces.{IsOnlyPlace}
 use Rattle.performance_edit.proofs.Searches.{is_some-find, list_any-filter}
 

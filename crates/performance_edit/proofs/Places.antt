@@ -5,8 +5,8 @@ use Rattle.std.specs.List.Sorted.{IsPartitionedBy}
 use Rattle.std.specs.Prelude.{filter, if◌then◌else◌}
 use Rattle.std.specs.Ordering.{is_lt}
 use Rattle.std.proofs.lemmas.Bool.{cases_lt}
-use Rattle.rhythm_base.specs.Lists.{AreInOrder, list_with}
-use Rattle.rhythm_base.proofs.OrderedLists.{earlier, goes_through}
+use Rattle.rhythm_base.specs.Lists.{AreInOrder, earlier, list_with}
+use Rattle.rhythm_base.proofs.OrderedLists.{goes_through}
 
 -- one more after those that pass
 module _ {X : Type 0} (p : X → Bool) (x : X) where

@@ -2,7 +2,11 @@
 use Rattle.std.proofs.Common.{◌≡◌, ℕ, ◌≤◌, Bool, true, false, ◌&&◌, ◌||◌, List, [], ◌∷◌, map, refl, ap, sym, ◌∙◌, arith, Option, Some, None}
 use Rattle.std.specs.List.{list_any, reduce}
 use Rattle.std.specs.Option.{is_some, option_map}
-use Rattle.std.specs.Prelude.{filter, find, if◌then◌else◌, min}
+use Rattle.performance_edit.specs.OnlyPlaces.{lesser}
+use Rattle.std.proofs.Common.{◌++◌}
+use Rattle.std.proofs.lemmas.List.{map-append}
+use Rattle.std.proofs.lemmas.List.Elements.{filter-append}
+use Rattle.std.specs.Prelude.{fold, filter, find, if◌then◌else◌, min}
 use Rattle.rhythm_base.specs.declared.edit.Edit.TheVariants.{Move}
 use Rattle.rhythm_base.specs.declared.edit_fault.EditFault.{EditFault}
 use Rattle.rhythm_base.specs.declared.edit_fault.EditFault.TheVariants.{NoNote, PastEnd, SameNote}
@@ -56,6 +60,31 @@ pub least-past : (fault : ℕ → EditFault) (tick : ℕ) (notes : List Note)
 least-past fault tick notes =
     reduce-least fault (onsets_past tick notes)
     ∙ ap (λ b. if b then Some (fault (least_of (onsets_past tick notes))) else None) (is_some-reduce (is_past tick) (λ n. n.onset) notes)
+
+-- ---- the least of two parts
+
+min_first : (x b : ℕ) (bs : List ℕ) → fold min (min x b) bs ≡ min x (fold min b bs)
+min_first x b [] = refl
+min_first x b (c ∷ cs) = let same : min (min x b) c ≡ min x (min b c) = omega arith in ap (λ n. fold min n cs) same ∙ min_first x (min b c) cs
+
+fold_parts : (x : ℕ) (xs ys : List ℕ) → Some (fold min x (xs ++ ys)) ≡ lesser (Some (fold min x xs)) (reduce min ys)
+fold_parts x [] [] = refl
+fold_parts x [] (y ∷ ys) = ap Some (min_first x y ys)
+fold_parts x (z ∷ xs) ys = fold_parts (min x z) xs ys
+
+reduce_parts : (xs ys : List ℕ) → reduce min (xs ++ ys) ≡ lesser (reduce min xs) (reduce min ys)
+reduce_parts [] ys = refl
+reduce_parts (x ∷ xs) ys = fold_parts x xs ys
+
+pub least-parts : (tick : ℕ) (xs ys : List Note)
+    → lesser (reduce min (onsets_past tick xs)) (reduce min (onsets_past tick ys)) ≡ reduce min (onsets_past tick (xs ++ ys))
+least-parts tick xs ys =
+    sym
+    (
+    ap (λ l. reduce min (map (λ (n : Note). n.onset) l)) (filter-append (is_past tick) xs ys)
+    ∙ ap (reduce min) (map-append (λ (n : Note). n.onset) (filter (is_past tick) xs) (filter (is_past tick) ys))
+    ∙ reduce_parts (onsets_past tick xs) (onsets_past tick ys)
+    )
 
 -- ---- the note that is to move
 

@@ -1,1 +1,3 @@
 pub mod OnlyPlaces
+pub mod Changed
+pub mod Refusals

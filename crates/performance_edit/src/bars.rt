@@ -1,11 +1,15 @@
 ghost use Rattle.rhythm_base.specs.Barlines as barlines;
 ghost use Rattle.edit_laws.specs.Edits as edits;
+ghost use Rattle.edit_laws.specs.Edits.{performance_after};
 ghost use Rattle.rhythm_base.specs.Lists.{last_of};
 ghost use Rattle.rhythm_base.specs.Performance.{IsWellFormed};
+ghost use Rattle.rhythm_base.specs.Signatures.{IsSignature};
+ghost use Rattle.std.specs.Arc.{arc_slice_items};
 ghost use Rattle.std.specs.Prelude.{◌≡◌, ◌≤◌, ◌-◌, ◌++◌, IfOk, length, take};
 
 use rhythm_base::{Bar, Edit, Performance};
 use std::alloc::{AllocError, Global};
+use std::sync::ArcSlice;
 
 /// Where a bar starts, or the last barline after the last bar.
 pub fn barline(performance: &Performance, number: usize) -> u64
@@ -29,7 +33,7 @@ pub fn last_start(performance: &Performance) -> u64
 
 /// The ticks of a whole bar of its signature.
 fn nominal(division: u16, bar: &Bar) -> u64
-    requires { 1 ≤ bar.now.den }
+    requires { IsSignature bar.now.num bar.now.den }
     ensures { result ≡ barlines.nominal division bar.now }
 {
     4 * u64::from(division) * u64::from(bar.num) / u64::from(bar.den)
@@ -94,20 +98,22 @@ pub fn bars_after(
     alloc: Global,
     performance: &Performance,
     edit: &Edit,
-) -> Result<Vec<Bar>, AllocError>
-    ensures bars { IfOk result (λ v. v.items ≡ (edits.performance_after performance.now edit.now).bars) }
+) -> Result<ArcSlice<Bar>, AllocError>
+    ensures bars { IfOk result (λ v. arc_slice_items v ≡ (performance_after performance.now edit.now).bars) }
     ensures formed { IsWellFormed performance.now }
 {
     let bars = performance.bars();
     match edit {
-        Edit::Barline { bar, tick } => with_barline(alloc, bars, *bar as usize, *tick),
-        Edit::AddBar => with_next(alloc, bars, performance.last()),
-        Edit::DropBar => without_last(alloc, bars),
+        Edit::Barline { bar, tick } => {
+            ArcSlice::from_vec(with_barline(alloc, bars, *bar as usize, *tick)?)
+        }
+        Edit::AddBar => ArcSlice::from_vec(with_next(alloc, bars, performance.last())?),
+        Edit::DropBar => ArcSlice::from_vec(without_last(alloc, bars)?),
         Edit::Add { .. }
         | Edit::Drop { .. }
         | Edit::Move { .. }
         | Edit::Pin { .. }
-        | Edit::Unpin { .. } => Vec::from_slice(alloc, bars),
+        | Edit::Unpin { .. } => performance.shared_bars(),
     }
 }
 

@@ -1,11 +1,11 @@
 ghost use Rattle.edit_laws.specs.Edits as edits;
+ghost use Rattle.performance_edit.specs.Refusals.{refusal};
 ghost use Rattle.rhythm_base.specs.EditRanges.{IsEditInRange};
 ghost use Rattle.rhythm_base.specs.declared.edit_fault.EditFault.{EditFault};
 ghost use Rattle.rhythm_base.specs.declared.edit_fault.EditFault.TheVariants.{Memory};
 ghost use Rattle.std.specs.Prelude.{◌≡◌, ◌≢◌, Err, IfOk, IsOk, None, Ok};
 
 use crate::bars::{bars_after, last_after};
-use crate::copies::with_parts;
 use crate::notes::notes_after;
 use crate::pins::pins_after;
 use crate::refusals::refusal;
@@ -19,14 +19,14 @@ fn performance_after(
     edit: &Edit,
 ) -> Result<Performance, AllocError>
     requires range { IsEditInRange edit.now }
-    requires made { edits.first_refusal (edits.edit_tests performance.now edit.now) ≡ None }
+    requires made { refusal performance.now edit.now ≡ None }
     ensures { IfOk result (λ q. q ≡ edits.performance_after performance.now edit.now) }
 {
     let bars = bars_after(alloc, performance, edit)?;
     let last = last_after(performance, edit);
     let notes = notes_after(alloc, performance, edit)?;
     let pins = pins_after(alloc, performance, edit)?;
-    with_parts(alloc, performance, bars, last, notes, pins)
+    performance.with_parts(bars, last, notes, pins)
 }
 
 /// The performance after an edit, or the first refusal of the edit. Whether each voice has a derivation is asked

@@ -1,14 +1,14 @@
 ghost use Rattle.edit_laws.specs.Edits as edits;
 ghost use Rattle.rhythm_base.specs.EditRanges.{IsEditInRange};
+ghost use Rattle.performance_edit.specs.Changed as changed;
 ghost use Rattle.rhythm_base.specs.declared.limits.TheConstants.{LATEST_TICK};
 ghost use Rattle.rhythm_base.specs.Lists.{AreInOrder, list_with};
 ghost use Rattle.rhythm_base.specs.Performance.{place_of_note};
-ghost use Rattle.std.specs.Prelude.{◌≡◌, ◌≤◌, All, IfOk, min, option_map};
-ghost use Rattle.performance_edit.specs.OnlyPlaces.{IsOnlyPlace};
+ghost use Rattle.std.specs.Prelude.{◌≡◌, ◌≤◌, All, IfOk, min};
+ghost use Rattle.performance_edit.specs.OnlyPlaces.{IsOnlyPlace, lesser};
 ghost use Rattle.std.specs.List.{reduce};
 
-use crate::order::{count_before, put};
-use rhythm_base::{Edit, Note, Performance};
+use rhythm_base::{Edit, Note, Notes, Performance};
 use std::alloc::{AllocError, Global};
 
 /// The note is that of this channel, key and onset.
@@ -19,25 +19,19 @@ pub fn is_note(note: &Note, channel: u8, key: u8, onset: u64) -> bool
 }
 
 /// The place of the note of that channel, key and onset.
-fn place_of(notes: &[Note], channel: u8, key: u8, onset: u64) -> Option<usize>
+fn place_of(notes: &Notes, channel: u8, key: u8, onset: u64) -> Option<usize>
     requires { AreInOrder place_of_note notes.now }
     ensures { IsOnlyPlace (edits.is_note channel key onset) notes.now result }
 {
-    let sought = Note {
-        channel,
-        key,
-        onset,
-        end: onset,
-    };
-    let place = count_before(notes, &sought);
+    let place = notes.count_before(u16::from(channel), onset, key);
     match notes.get(place) {
-        Some(note) if is_note(note, channel, key, onset) => Some(place),
+        Some(note) if is_note(&note, channel, key, onset) => Some(place),
         _ => None,
     }
 }
 
 /// A note has that channel, key and onset.
-pub fn has_note(notes: &[Note], channel: u8, key: u8, onset: u64) -> bool
+pub fn has_note(notes: &Notes, channel: u8, key: u8, onset: u64) -> bool
     requires { AreInOrder place_of_note notes.now }
     ensures { result ≡ edits.has_note notes.now channel key onset }
 {
@@ -45,7 +39,7 @@ pub fn has_note(notes: &[Note], channel: u8, key: u8, onset: u64) -> bool
 }
 
 /// A note besides that of this channel, key and onset has the onset `to`.
-pub fn has_other(notes: &[Note], channel: u8, key: u8, onset: u64, to: u64) -> bool
+pub fn has_other(notes: &Notes, channel: u8, key: u8, onset: u64, to: u64) -> bool
     requires { AreInOrder place_of_note notes.now }
     ensures { result ≡ edits.has_note (edits.without_note channel key onset notes.now) channel key to }
 {
@@ -53,20 +47,19 @@ pub fn has_other(notes: &[Note], channel: u8, key: u8, onset: u64, to: u64) -> b
 }
 
 /// The note of that channel, key and onset.
-pub fn note_at(notes: &[Note], channel: u8, key: u8, onset: u64) -> Option<&Note>
+pub fn note_at(notes: &Notes, channel: u8, key: u8, onset: u64) -> Option<Note>
     requires { AreInOrder place_of_note notes.now }
-    ensures { option_map (λ n. n.now) result ≡ edits.note_at notes.now channel key onset }
+    ensures { result ≡ edits.note_at notes.now channel key onset }
 {
     match place_of(notes, channel, key, onset) {
         None => None,
-        Some(place) => Some(&notes[place]),
+        Some(place) => notes.get(place),
     }
 }
 
 /// The note at another onset, of its old length.
 pub fn moved_to(note: &Note, to: u64) -> Note
-    requires onset { to ≤ LATEST_TICK }
-    requires end { note.now.end ≤ LATEST_TICK }
+    requires { changed.CanMoveTo to note.now }
     ensures { result ≡ edits.moved_to to note.now }
 {
     Note {
@@ -83,8 +76,8 @@ pub fn is_past(note: &Note, tick: u64) -> bool
     tick <= note.onset || tick < note.end
 }
 
-/// The least onset of the notes that would begin at or after the tick, or end after it.
-pub fn least_past(notes: &[Note], tick: u64) -> Option<u64>
+/// The least onset of the notes of a block that would begin at or after the tick, or end after it.
+fn least_within(notes: &[Note], tick: u64) -> Option<u64>
     ensures { result ≡ reduce min (edits.onsets_past tick notes.now) }
 {
     notes
@@ -94,69 +87,72 @@ pub fn least_past(notes: &[Note], tick: u64) -> Option<u64>
         .min()
 }
 
-/// The notes and one more.
-fn with_note(alloc: Global, notes: &[Note], note: Note) -> Result<Vec<Note>, AllocError>
-    requires { AreInOrder place_of_note notes.now }
-    ensures { IfOk result (λ v. v.items ≡ list_with place_of_note note notes.now) }
+/// The lesser of two numbers, of those that there are.
+fn lesser(one: Option<u64>, other: Option<u64>) -> Option<u64>
+    ensures { result ≡ lesser one other }
 {
-    let (front, back) = notes.split_at(count_before(notes, &note));
-    let mut longer = Vec::with_capacity(alloc, notes.len().saturating_add(1))?;
-    longer.extend_from_slice(front)?;
-    longer.push(note)?;
-    longer.extend_from_slice(back)?;
-    Ok(longer)
+    match (one, other) {
+        (Some(one), Some(other)) => Some(one.min(other)),
+        (Some(one), None) => Some(one),
+        (None, other) => other,
+    }
+}
+
+/// The least onset of the notes that would begin at or after the tick, or end after it.
+pub fn least_past(notes: &Notes, tick: u64) -> Option<u64>
+    ensures { result ≡ reduce min (edits.onsets_past tick notes.now) }
+{
+    let mut least = None;
+    'blocks: for block in notes.blocks() {
+        least = lesser(least, least_within(block.notes(), tick));
+    }
+    least
+}
+
+/// The notes and one more.
+fn with_note(alloc: Global, notes: &Notes, note: Note) -> Result<Notes, AllocError>
+    requires { AreInOrder place_of_note notes.now }
+    ensures { IfOk result (λ n. n ≡ list_with place_of_note note notes.now) }
+{
+    let place = notes.count_before(u16::from(note.channel), note.onset, note.key);
+    notes.with_other(alloc, place, 0, &[note])
 }
 
 /// The notes without that of this channel, key and onset.
 fn without_note(
     alloc: Global,
-    notes: &[Note],
+    notes: &Notes,
     channel: u8,
     key: u8,
     onset: u64,
-) -> Result<Vec<Note>, AllocError>
+) -> Result<Notes, AllocError>
     requires { AreInOrder place_of_note notes.now }
-    ensures { IfOk result (λ v. v.items ≡ edits.without_note channel key onset notes.now) }
+    ensures { IfOk result (λ n. n ≡ edits.without_note channel key onset notes.now) }
 {
     match place_of(notes, channel, key, onset) {
-        None => {
-            let others = Vec::from_slice(alloc, notes)?;
-            Ok(others)
-        }
-        Some(place) => {
-            let (front, _from) = notes.split_at(place);
-            let (_up_to, back) = notes.split_at(place + 1);
-            let mut others = Vec::with_capacity(alloc, notes.len())?;
-            others.extend_from_slice(front)?;
-            others.extend_from_slice(back)?;
-            Ok(others)
-        }
+        None => notes.shared(),
+        Some(place) => notes.with_other(alloc, place, 1, &[]),
     }
 }
 
 /// The notes with another onset of one of them.
 fn with_moved(
     alloc: Global,
-    notes: &[Note],
+    notes: &Notes,
     channel: u8,
     key: u8,
     onset: u64,
     to: u64,
-) -> Result<Vec<Note>, AllocError>
+) -> Result<Notes, AllocError>
     requires order { AreInOrder place_of_note notes.now }
-    requires onset { to ≤ LATEST_TICK }
+    requires range { IsEditInRange (Edit.Move channel key onset to) }
     requires ends { All (λ n. n.end ≤ LATEST_TICK) notes.now }
-    ensures { IfOk result (λ v. v.items ≡
-        edits.put_moved to (edits.note_at notes.now channel key onset)
-        (edits.without_note channel key onset notes.now)) }
+    ensures { IfOk result (λ n. n ≡ changed.with_moved channel key onset to notes.now) }
 {
-    let mut others = without_note(alloc, notes, channel, key, onset)?;
+    let others = without_note(alloc, notes, channel, key, onset)?;
     match note_at(notes, channel, key, onset) {
         None => Ok(others),
-        Some(note) => {
-            put(&mut others, moved_to(note, to))?;
-            Ok(others)
-        }
+        Some(note) => with_note(alloc, &others, moved_to(&note, to)),
     }
 }
 
@@ -165,9 +161,9 @@ pub fn notes_after(
     alloc: Global,
     performance: &Performance,
     edit: &Edit,
-) -> Result<Vec<Note>, AllocError>
+) -> Result<Notes, AllocError>
     requires { IsEditInRange edit.now }
-    ensures { IfOk result (λ v. v.items ≡ (edits.performance_after performance.now edit.now).notes) }
+    ensures { IfOk result (λ n. n ≡ (edits.performance_after performance.now edit.now).notes) }
 {
     let notes = performance.notes();
     match edit {
@@ -200,6 +196,6 @@ pub fn notes_after(
         | Edit::Pin { .. }
         | Edit::Unpin { .. }
         | Edit::AddBar
-        | Edit::DropBar => Vec::from_slice(alloc, notes),
+        | Edit::DropBar => notes.shared(),
     }
 }

@@ -1,15 +1,43 @@
-ghost use Rattle.edit_laws.specs.Edits as edits;
-ghost use Rattle.rhythm_base.specs.Lists.{AreInOrder, list_with};
+ghost use Rattle.edit_laws.specs.Edits.{performance_after};
+ghost use Rattle.performance_edit.specs.Changed.{with_pin};
+ghost use Rattle.performance_edit.specs.OnlyPlaces.{IsPlaceAmong};
+ghost use Rattle.rhythm_base.specs.Lists.{AreInOrder, earlier, list_with};
 ghost use Rattle.rhythm_base.specs.Performance.{place_of_pin};
 ghost use Rattle.rhythm_base.specs.Pins.{without_pin};
-ghost use Rattle.std.specs.Prelude.{◌≡◌, IfOk, filter, nat_lt};
+ghost use Rattle.std.specs.Arc.{arc_slice_items};
+ghost use Rattle.std.specs.Prelude.{◌≡◌, IfOk, OnOk, filter, nat_lt};
 
-use crate::order::put;
 use rhythm_base::{Edit, Performance, Pin, Shape};
 use std::alloc::{AllocError, Global};
+use std::sync::ArcSlice;
+
+/// The pin stands before the other one.
+fn is_before(pin: &Pin, other: &Pin) -> bool
+    ensures { result ≡ earlier (place_of_pin pin.now) (place_of_pin other.now) }
+{
+    (pin.channel, pin.bar) < (other.channel, other.bar)
+}
+
+/// How many pins stand before one.
+fn count_before(pins: &[Pin], pin: &Pin) -> usize
+    requires { AreInOrder place_of_pin pins.now }
+    ensures { IsPlaceAmong (λ other. earlier (place_of_pin other) (place_of_pin pin.now)) pins.now result }
+{
+    pins.partition_point(|other| is_before(other, pin))
+}
+
+/// Puts one more pin among others, at its place.
+fn put(pins: &mut Vec<Pin>, pin: Pin) -> Result<(), AllocError>
+    requires { AreInOrder place_of_pin pins.old.items }
+    ensures { OnOk result (pins.new.items ≡ list_with place_of_pin pin pins.old.items) }
+{
+    let place = count_before(pins.as_slice(), &pin);
+    pins.insert(place, pin)?;
+    Ok(())
+}
 
 /// Equal pins.
-pub fn copied_pins(alloc: Global, pins: &[Pin]) -> Result<Vec<Pin>, AllocError>
+fn copied_pins(alloc: Global, pins: &[Pin]) -> Result<Vec<Pin>, AllocError>
     ensures { IfOk result (λ v. v.items ≡ pins.now) }
 {
     let mut copies = Vec::with_capacity(alloc, pins.len())?;
@@ -41,8 +69,7 @@ fn with_pin(
     shape: &Shape,
 ) -> Result<Vec<Pin>, AllocError>
     requires { AreInOrder place_of_pin pins.now }
-    ensures { IfOk result (λ v. v.items ≡ list_with place_of_pin
-        record { channel = channel; bar = bar; shape = shape.now } (without_pin channel bar pins.now)) }
+    ensures { IfOk result (λ v. v.items ≡ with_pin channel bar shape.now pins.now) }
 {
     let mut others = without_pin(alloc, pins, channel, bar)?;
     let shape = shape.copy(alloc)?;
@@ -71,8 +98,8 @@ pub fn pins_after(
     alloc: Global,
     performance: &Performance,
     edit: &Edit,
-) -> Result<Vec<Pin>, AllocError>
-    ensures { IfOk result (λ v. v.items ≡ (edits.performance_after performance.now edit.now).pins) }
+) -> Result<ArcSlice<Pin>, AllocError>
+    ensures { IfOk result (λ v. arc_slice_items v ≡ (performance_after performance.now edit.now).pins) }
 {
     let bars = performance.bars().len();
     let pins = performance.pins();
@@ -81,13 +108,15 @@ pub fn pins_after(
             channel,
             bar,
             shape,
-        } => with_pin(alloc, pins, *channel, *bar, shape),
-        Edit::Unpin { channel, bar } => without_pin(alloc, pins, *channel, *bar),
-        Edit::DropBar => first_pins(alloc, pins, bars - 1),
+        } => ArcSlice::from_vec(with_pin(alloc, pins, *channel, *bar, shape)?),
+        Edit::Unpin { channel, bar } => {
+            ArcSlice::from_vec(without_pin(alloc, pins, *channel, *bar)?)
+        }
+        Edit::DropBar => ArcSlice::from_vec(first_pins(alloc, pins, bars - 1)?),
         Edit::Add { .. }
         | Edit::Drop { .. }
         | Edit::Move { .. }
         | Edit::Barline { .. }
-        | Edit::AddBar => copied_pins(alloc, pins),
+        | Edit::AddBar => performance.shared_pins(),
     }
 }

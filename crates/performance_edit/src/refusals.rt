@@ -1,16 +1,15 @@
 ghost use Rattle.rhythm_base.specs.Barlines as barlines;
 ghost use Rattle.edit_laws.specs.Edits as edits;
 ghost use Rattle.rhythm_base.specs.EditRanges.{IsEditInRange};
-ghost use Rattle.rhythm_base.specs.declared.limits.TheConstants.{LATEST_TICK};
-ghost use Rattle.rhythm_base.specs.Lists.{least_of};
+ghost use Rattle.performance_edit.specs.Refusals as refusals;
 ghost use Rattle.rhythm_base.specs.declared.edit_fault.EditFault.TheVariants.{NotEmpty, NoteOutside};
-ghost use Rattle.std.specs.List.{list_any};
-ghost use Rattle.std.specs.Prelude.{◌≡◌, ◌≤◌, None, Some, if◌then◌else◌};
+ghost use Rattle.std.specs.Prelude.{◌≡◌};
 
 use crate::bars::{barline, last_start, next_barline};
 use crate::notes::{has_note, has_other, is_past, least_past, moved_to, note_at};
 use rhythm_base::{
-    Edit, EditFault, LATEST_TICK, LimitKind, MOST_BARS, MOST_CELLS, MOST_NOTES, Note, Performance,
+    Edit, EditFault, LATEST_TICK, LimitKind, MOST_BARS, MOST_CELLS, MOST_NOTES, Note, Notes,
+    Performance,
 };
 
 /// The channel has no voice.
@@ -33,8 +32,7 @@ fn barline_after(performance: &Performance, number: usize) -> u64
 
 /// Why a note is not added.
 fn refusal_of_add(performance: &Performance, note: Note) -> Option<EditFault>
-    ensures { result ≡ edits.first_refusal
-        (edits.edit_tests performance.now (Edit.Add note.channel note.key note.onset note.end)) }
+    ensures { result ≡ refusals.refusal performance.now (Edit.Add note.channel note.key note.onset note.end) }
 {
     let notes = performance.notes();
     let last = performance.last();
@@ -59,7 +57,7 @@ fn refusal_of_add(performance: &Performance, note: Note) -> Option<EditFault>
 
 /// Why a note is not taken out.
 fn refusal_of_drop(performance: &Performance, channel: u8, key: u8, onset: u64) -> Option<EditFault>
-    ensures { result ≡ edits.first_refusal (edits.edit_tests performance.now (Edit.Drop channel key onset)) }
+    ensures { result ≡ refusals.refusal performance.now (Edit.Drop channel key onset) }
 {
     if lacks_voice(performance, channel) {
         Some(EditFault::NoVoice(channel))
@@ -78,8 +76,8 @@ fn refusal_of_move(
     onset: u64,
     to: u64,
 ) -> Option<EditFault>
-    requires { to ≤ LATEST_TICK }
-    ensures { result ≡ edits.first_refusal (edits.edit_tests performance.now (Edit.Move channel key onset to)) }
+    requires { IsEditInRange (Edit.Move channel key onset to) }
+    ensures { result ≡ refusals.refusal performance.now (Edit.Move channel key onset to) }
 {
     let notes = performance.notes();
     let last = performance.last();
@@ -91,7 +89,7 @@ fn refusal_of_move(
     };
     if has_other(notes, channel, key, onset, to) {
         Some(EditFault::SameNote)
-    } else if is_past(&moved_to(note, to), last) {
+    } else if is_past(&moved_to(&note, to), last) {
         Some(EditFault::PastEnd { last })
     } else {
         None
@@ -99,24 +97,22 @@ fn refusal_of_move(
 }
 
 /// Why the last barline is not set: a note would not lie before it.
-fn note_outside(notes: &[Note], tick: u64) -> Option<EditFault>
-    ensures { result ≡ (if list_any (edits.is_past tick) notes.now
-        then Some (NoteOutside (least_of (edits.onsets_past tick notes.now))) else None) }
+fn note_outside(notes: &Notes, tick: u64) -> Option<EditFault>
+    ensures { result ≡ refusals.fault_past NoteOutside tick notes.now }
 {
     least_past(notes, tick).map(|onset| EditFault::NoteOutside { onset })
 }
 
 /// Why a bar that starts there is not dropped: it has a note.
-fn note_inside(notes: &[Note], start: u64) -> Option<EditFault>
-    ensures { result ≡ (if list_any (edits.is_past start) notes.now
-        then Some (NotEmpty (least_of (edits.onsets_past start notes.now))) else None) }
+fn note_inside(notes: &Notes, start: u64) -> Option<EditFault>
+    ensures { result ≡ refusals.fault_past NotEmpty start notes.now }
 {
     least_past(notes, start).map(|onset| EditFault::NotEmpty { onset })
 }
 
 /// Why a barline is not set.
 fn refusal_of_barline(performance: &Performance, bar: u32, tick: u64) -> Option<EditFault>
-    ensures { result ≡ edits.first_refusal (edits.edit_tests performance.now (Edit.Barline bar tick)) }
+    ensures { result ≡ refusals.refusal performance.now (Edit.Barline bar tick) }
 {
     let count = performance.bars().len();
     let number = bar as usize;
@@ -150,7 +146,7 @@ fn refusal_of_cell(performance: &Performance, channel: u8, bar: u32) -> Option<E
 
 /// Why no bar is added.
 fn refusal_of_add_bar(performance: &Performance) -> Option<EditFault>
-    ensures { result ≡ edits.first_refusal (edits.edit_tests performance.now Edit.AddBar) }
+    ensures { result ≡ refusals.refusal performance.now Edit.AddBar }
 {
     let bars = performance.bars().len() as u64 + 1;
     let cells = performance.channels().len() as u64 * bars;
@@ -177,7 +173,7 @@ fn refusal_of_add_bar(performance: &Performance) -> Option<EditFault>
 
 /// Why the last bar is not dropped.
 fn refusal_of_drop_bar(performance: &Performance) -> Option<EditFault>
-    ensures { result ≡ edits.first_refusal (edits.edit_tests performance.now Edit.DropBar) }
+    ensures { result ≡ refusals.refusal performance.now Edit.DropBar }
 {
     if performance.bars().len() == 1 {
         Some(EditFault::OneBar)
@@ -189,7 +185,7 @@ fn refusal_of_drop_bar(performance: &Performance) -> Option<EditFault>
 /// The first refusal of an edit.
 pub fn refusal(performance: &Performance, edit: &Edit) -> Option<EditFault>
     requires { IsEditInRange edit.now }
-    ensures { result ≡ edits.first_refusal (edits.edit_tests performance.now edit.now) }
+    ensures { result ≡ refusals.refusal performance.now edit.now }
 {
     match edit {
         Edit::Add {

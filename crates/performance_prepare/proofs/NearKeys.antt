@@ -43,7 +43,7 @@ pub added_raised : (f : ℕ → ℕ) (costs sums later : List ℕ) (first end mo
 added_raised f costs sums later first end more le long same up h = record {
   done = λ k lt low. (elim (cases_lt k first) [
     | inl less ↦ up.low k less ∙ h.done k less low
-    | inr past ↦ (let r = up.raised k past lt in let a = h.ahead k past low in let m = same k past lt in omega (arith, r, a, m))
+    | inr past ↦ (let r = up.raised k past lt low in let a = h.ahead k past low in let m = same k past lt in omega (arith, r, a, m))
   ]);
   ahead = λ k past low. up.high k past low ∙ h.ahead k (omega (arith, le, past)) low;
   long = long;
@@ -53,11 +53,11 @@ pub raised_more : (first n more v : ℕ) (costs sums : List ℕ) → first ≤ n
     → AreRaised first n more costs sums → AreRaised first (n + 1) more costs (set sums n v)
 raised_more first n more v costs sums le within long is h = record {
   low = λ k lt. get_or-set_other sums n k v 0 (λ e. omega (arith, lt, le, e)) ∙ h.low k lt;
-  raised = λ k past lt. (elim (cases_order k n) [
+  raised = λ k past lt low. (elim (cases_order k n) [
     | inl e ↦ subst (λ i. slice_index (set sums n v) i ≡ slice_index costs i + more) (sym e)
         (get_or-set_same sums n v 0 (omega (arith, long, within)) ∙ is ∙ ap (λ x. x + more) (h.high n (omega arith) within))
     | inr other ↦ elim other [
-      | inl less ↦ get_or-set_other sums n k v 0 (λ e. omega (arith, less, e)) ∙ h.raised k past less
+      | inl less ↦ get_or-set_other sums n k v 0 (λ e. omega (arith, less, e)) ∙ h.raised k past less low
       | inr greater ↦ absurd (omega (arith, greater, lt))
     ]
   ]);

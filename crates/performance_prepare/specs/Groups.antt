@@ -1,6 +1,6 @@
 -- Groups of notes that begin together, and what a border between two hands costs in each.
-use Rattle.std.specs.Prelude.{ℕ, Bool, false, ◌+◌, ◌-◌, ◌*◌, ◌==◌, ◌&&◌, not, nat_le, nat_lt, List, [], ◌∷◌, ◌++◌, filter, length, map, Option, Some, None}
-use Rattle.std.specs.List.{sum}
+use Rattle.std.specs.Prelude.{◌≡◌, ◌<◌, ℕ, Bool, false, ◌+◌, ◌-◌, ◌*◌, ◌==◌, ◌&&◌, not, nat_le, nat_lt, List, [], ◌∷◌, ◌++◌, drop, filter, length, map, slice_index, Option, Some, None}
+use Rattle.std.specs.List.{slice_range, sum}
 use Rattle.rhythm_base.specs.declared.event.Tempo.{Tempo}
 use Rattle.rhythm_base.specs.declared.note.Note.{Note}
 use Rattle.rhythm_base.specs.Lists.{gap, greatest, last_of, least_of}
@@ -18,6 +18,11 @@ begins_near tempos division within last n = nat_le (time_between tempos last.ons
 -- the notes are cut before each that begins later than that after the one before it
 abbrev pub groups : List Tempo → ℕ → ℕ → List Note → List (List Note)
 groups tempos division within notes = parts (λ group last n. begins_near tempos division within last n) notes
+
+-- of the notes from one place on, those up to another are the first group
+abbrev pub IsGroup : List Tempo → ℕ → ℕ → List Note → ℕ → ℕ → Type 0
+IsGroup tempos division within notes start end =
+    groups tempos division within (drop start notes) ≡ slice_range notes start end ∷ groups tempos division within (drop end notes)
 
 -- ---- held keys
 
@@ -71,3 +76,11 @@ costs_after tempos division middle before (group ∷ groups) =
 
 abbrev pub costs : List Tempo → ℕ → ℕ → List (List Note) → List (List ℕ)
 costs tempos division middle groups = costs_after tempos division middle [] groups
+
+-- the costs of each group of the notes
+abbrev pub note_costs : List Tempo → ℕ → ℕ → ℕ → List Note → List (List ℕ)
+note_costs tempos division within middle notes = costs tempos division middle (groups tempos division within notes)
+
+-- each border costs so much
+abbrev pub AreCosts : (ℕ → ℕ) → List ℕ → Type 0
+AreCosts f costs = (border : ℕ) → border < 129 → slice_index costs border ≡ f border

@@ -43,6 +43,14 @@ abbrev pub handed_notes : ℕ → List (List Note) → List ℕ → List Note
 handed_notes left (group ∷ groups) (border ∷ borders) = map (handed_note left border) group ++ handed_notes left groups borders
 handed_notes left _ _ = []
 
+-- the notes of one group
+abbrev pub handed_group : ℕ → ℕ → List Note → List Note
+handed_group left border group = map (handed_note left border) group
+
+-- how many of the notes the left hand has
+abbrev pub left_count : List Tempo → ℕ → ℕ → List Note → List ℕ → ℕ
+left_count tempos division within notes borders = length (left_notes (groups tempos division within notes) borders)
+
 -- ---- the take
 
 -- the left hand gets the first free channel

@@ -11,6 +11,8 @@ pub mod Meter
 pub mod Middle
 pub mod Outcome
 pub mod Parted
+pub mod PartedHands
+pub mod PartedSides
 pub mod Parts
 pub mod Prepared
 pub mod Ranges

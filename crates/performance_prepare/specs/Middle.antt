@@ -1,5 +1,5 @@
 -- The middle of the keys that two hands play.
-use Rattle.std.specs.Prelude.{ℕ, ◌+◌, ◌-◌, ◌*◌, ◌/◌, ◌==◌, not, nat_lt, if◌then◌else◌, List, filter, length, map}
+use Rattle.std.specs.Prelude.{ℕ, ◌+◌, ◌-◌, ◌*◌, ◌/◌, ◌==◌, not, nat_lt, if◌then◌else◌, List, filter, length, map, slice_index}
 use Rattle.std.specs.List.{range_with_len, sum}
 use Rattle.rhythm_base.specs.Lists.{greatest, least_of}
 
@@ -32,6 +32,10 @@ best_parting keys = greatest (map (parting keys) inner_borders)
 
 abbrev pub best_borders : List ℕ → List ℕ
 best_borders keys = filter (λ b. parting keys b == best_parting keys) inner_borders
+
+-- the borders from 1 on that part so well, of these partings of all of them
+abbrev pub borders_at : List ℕ → ℕ → List ℕ
+borders_at partings best = filter (λ b. slice_index partings (b - 1) == best) inner_borders
 
 -- midway between the lowest and the highest of the borders that part the keys best; 60 where all keys are one
 abbrev pub parting_border : List ℕ → ℕ

@@ -33,10 +33,18 @@ pub record AreTwoHands (border : ℕ) (keys : List ℕ) (hands : TwoHands) : Typ
   pub left : IsHand (keys_below border keys) hands.left
   pub right : IsHand (keys_from border keys) hands.right
 
+-- no border costs more than that
+abbrev pub CostUpTo : ℕ → List ℕ → Type 0
+CostUpTo most costs = (border : ℕ) → border < 129 → slice_index costs border ≤ most
+
+-- each border costs so much more
+abbrev pub CostMore : (ℕ → ℕ) → List ℕ → List ℕ → Type 0
+CostMore f before after = (border : ℕ) → border < 129 → slice_index after border ≡ slice_index before border + f border
+
 -- the borders from one up to another, but not that, cost so much more, and the others what they did
 pub record AreRaised (first end more : ℕ) (before after : List ℕ) : Type 0 where
   pub low : (border : ℕ) → border < first → slice_index after border ≡ slice_index before border
-  pub raised : (border : ℕ) → first ≤ border → border < end → slice_index after border ≡ slice_index before border + more
+  pub raised : (border : ℕ) → first ≤ border → border < end → border < 129 → slice_index after border ≡ slice_index before border + more
   pub high : (border : ℕ) → end ≤ border → border < 129 → slice_index after border ≡ slice_index before border
 
 -- the borders from one on up to another cost so much by it

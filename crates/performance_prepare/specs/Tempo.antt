@@ -1,6 +1,6 @@
 -- A take at so many quarters a minute.
 use Rattle.rhythm_base.specs.declared.limits.TheConstants.{MOST_DIVISION, SLOWEST_TEMPO}
-use Rattle.std.specs.Prelude.{ℕ, Bool, zero, suc, ◌+◌, ◌*◌, ◌/◌, ◌%◌, ◌^◌, ◌==◌, ◌||◌, not, nat_lt, if◌then◌else◌, min, max, List, ◌∷◌, filter, fold, map, Result, Ok, Err}
+use Rattle.std.specs.Prelude.{ℕ, ◌≤◌, Bool, zero, suc, ◌+◌, ◌*◌, ◌/◌, ◌%◌, ◌^◌, ◌==◌, ◌||◌, not, nat_lt, if◌then◌else◌, min, max, List, ◌∷◌, filter, fold, map, Result, Ok, Err}
 use Rattle.rhythm_base.specs.declared.event.Signature.{Signature}
 use Rattle.rhythm_base.specs.declared.event.Tempo.{Tempo}
 use Rattle.rhythm_base.specs.Time.{tempo_at}
@@ -10,6 +10,12 @@ use Rattle.performance_prepare.specs.Upbeat.{is_out}
 use Rattle.performance_prepare.specs.declared.prepare_fault.PrepareFault.{PrepareFault}
 use Rattle.performance_prepare.specs.declared.prepare_fault.PrepareFault.TheVariants.{WrongDivision}
 use Rattle.performance_prepare.specs.declared.shift.Shift.{Shift}
+
+-- a number over another, of which twice as much is no more than 64 bits hold
+pub record IsRatio (a b : ℕ) : Type 0 where
+  pub some : 1 ≤ b
+  pub small : b ≤ 1000000000000
+  pub low : a ≤ 1000000000000000
 
 -- a over b, to the nearest whole number, halves up
 abbrev pub rounded : ℕ → ℕ → ℕ

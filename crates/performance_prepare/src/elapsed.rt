@@ -1,6 +1,5 @@
 ghost use Rattle.performance_prepare.specs.Elapsed as elapsed;
-ghost use Rattle.rhythm_base.specs.declared.limits.TheConstants.{LATEST_EVENT};
-ghost use Rattle.std.specs.Prelude.{◌≡◌, ◌≤◌};
+ghost use Rattle.std.specs.Prelude.{◌≡◌};
 
 use tempo_map::TempoMap;
 
@@ -13,8 +12,7 @@ pub fn milliseconds(division: u16, count: u8) -> u64
 
 /// The time from a tick to another, none where that is not later.
 pub fn time_between(map: &TempoMap, from: u64, to: u64) -> u64
-    requires from { from ≤ LATEST_EVENT }
-    requires to { to ≤ LATEST_EVENT }
+    requires { elapsed.AreInFile from to }
     ensures { result ≡ elapsed.time_between map.now.tempos from to }
 {
     map.time(to).saturating_sub(map.time(from))

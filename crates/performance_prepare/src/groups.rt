@@ -1,14 +1,14 @@
 ghost use Rattle.note_list.specs.Pairing.{IsPlayed};
 ghost use Rattle.performance_prepare.specs.Ends as held;
+ghost use Rattle.performance_prepare.specs.Elapsed.{AreInFile};
 ghost use Rattle.performance_prepare.specs.Ends.{AreEnds};
 ghost use Rattle.performance_prepare.specs.Groups as groups;
 ghost use Rattle.performance_prepare.specs.Middle.{numbers_from};
-ghost use Rattle.performance_prepare.specs.Parted.{AreRaised, near, parted_cost};
-ghost use Rattle.rhythm_base.specs.Lists.{gap, greatest, least_of};
+ghost use Rattle.performance_prepare.specs.Parted.{AreRaised, CostMore, CostUpTo, near, parted_cost};
+ghost use Rattle.rhythm_base.specs.Lists.{gap};
 ghost use Rattle.rhythm_base.specs.declared.limits.TheConstants.{LATEST_EVENT, MOST_NOTES};
 ghost use Rattle.rhythm_base.specs.declared.note.Note.{Note};
-ghost use Rattle.std.specs.Prelude.{◌≡◌, ◌≤◌, ◌<◌, ◌+◌, ◌*◌, ◌∷◌, ◌++◌, ◌&&◌, All, IfOk, drop, filter, length, List, map, nat_lt, not, slice_index, ℕ};
-ghost use Rattle.std.specs.List.{slice_range};
+ghost use Rattle.std.specs.Prelude.{◌≡◌, ◌≤◌, ◌<◌, ◌-◌, ◌*◌, ◌++◌, All, IfOk, List, length, map};
 
 use crate::elapsed::{milliseconds, time_between};
 use crate::parted::parting_from;
@@ -34,8 +34,7 @@ fn begins_near(map: &TempoMap, division: u16, within: u8, last: &Note, note: &No
 pub fn group_end(map: &TempoMap, division: u16, within: u8, notes: &[Note], start: usize) -> usize
     requires notes { All (IsPlayed LATEST_EVENT) notes.now }
     requires start { start < length notes.now }
-    ensures group { groups.groups map.now.tempos division within (drop start notes.now)
-        ≡ slice_range notes.now start result ∷ groups.groups map.now.tempos division within (drop result notes.now) }
+    ensures group { groups.IsGroup map.now.tempos division within notes.now start result }
     ensures later { start < result }
     ensures within { result ≤ length notes.now }
 {
@@ -55,93 +54,83 @@ fn apart(a: u32, b: u32) -> u32
 }
 
 /// What a key costs near a border.
-fn near(border: u32, key: u32) -> u32
-    requires border { border ≤ 128 }
-    requires key { key ≤ 127 }
+fn near(border: u8, key: u8) -> u32
     ensures near { result ≡ near key border }
     ensures low { result ≤ 200 }
 {
-    20 * 10u32.saturating_sub(apart(2 * key + 1, 2 * border))
+    let away = apart(2 * u32::from(key) + 1, 2 * u32::from(border));
+    20 * 10u32.saturating_sub(away)
 }
 
 /// Adds to the costs of borders what a key costs near them: more than five keys away nothing.
 fn add_near(costs: &mut [u32; BORDERS], key: u8)
-    requires room { (border : ℕ) → border < 129 → slice_index costs.old border ≤ 4_000_000_000 }
-    requires key { key < 128 }
-    ensures { (border : ℕ) → border < 129 → slice_index costs.new border ≡ slice_index costs.old border + near key border }
+    requires { CostUpTo 4_000_000_000 costs.old }
+    ensures { CostMore (near key) costs.old costs.new }
 {
     let first = key.saturating_sub(4) as usize;
     let end = (key as usize + 6).min(BORDERS);
     'borders: for border in first..end {
-        costs[border] += near(border as u32, u32::from(key));
+        costs[border] += near(border as u8, key);
     }
 }
 
-/// What a border costs by its place where so many keys are struck.
-fn placed(middle: u32, count: u32, border: u32) -> u32
-    requires middle { middle ≤ 128 }
-    requires border { border ≤ 128 }
-    requires few { count ≤ MOST_NOTES }
-    ensures cost { result ≡ count * gap border middle }
-    ensures low { result ≤ 8_500_000 }
+/// What a border costs by its place where these keys are struck.
+fn placed(middle: u8, struck: &[u8], border: u8) -> u32
+    requires { length struck.now ≤ MOST_NOTES }
+    ensures cost { result ≡ length struck.now * gap border middle }
+    ensures low { result ≤ 17_000_000 }
 {
-    count * apart(border, middle)
+    struck.len() as u32 * apart(u32::from(border), u32::from(middle))
 }
 
-/// What borders cost by their places where so many keys are struck.
-fn places(middle: u32, count: u32) -> [u32; BORDERS]
-    requires middle { middle ≤ 128 }
-    requires few { count ≤ MOST_NOTES }
-    ensures places { (border : ℕ) → border < 129 → slice_index result border ≡ count * gap border middle }
-    ensures low { (border : ℕ) → border < 129 → slice_index result border ≤ 8_500_000 }
+/// What borders cost by their places where these keys are struck.
+fn places(middle: u8, struck: &[u8]) -> [u32; BORDERS]
+    requires { length struck.now ≤ MOST_NOTES }
+    ensures places { groups.AreCosts (λ border. length struck.now * gap border middle) result }
+    ensures low { CostUpTo 17_000_000 result }
 {
     let mut costs = [0u32; BORDERS];
     'borders: for border in 0..BORDERS {
-        costs[border] = placed(middle, count, border as u32);
+        costs[border] = placed(middle, struck, border as u8);
     }
     costs
 }
 
 /// Adds so much to the costs of borders from one up to another.
 fn raise(costs: &mut [u32; BORDERS], first: usize, end: usize, more: u32)
-    requires room { (border : ℕ) → border < 129 → slice_index costs.old border ≤ 4_000_000_000 }
-    requires low { more ≤ 307_000 }
-    requires first { first ≤ end }
-    requires end { end ≤ 129 }
+    requires room { CostUpTo (4_294_967_295 - more) costs.old }
+    requires order { first ≤ end }
     ensures { AreRaised first end more costs.old costs.new }
 {
-    'borders: for border in first..end {
+    'borders: for border in first..end.min(BORDERS) {
         costs[border] += more;
     }
 }
 
 /// Adds to the costs of borders what they cost by how they part the keys of a group.
 fn add_partings(costs: &mut [u32; BORDERS], struck: &[u8], held: &[u8])
-    requires room { (border : ℕ) → border < 129 → slice_index costs.old border ≤ 8_500_000 }
+    requires room { CostUpTo 17_000_000 costs.old }
     requires struck { length struck.now ≤ MOST_NOTES }
     requires held { length held.now ≤ 128 }
-    ensures parted { (border : ℕ) → border < 129
-        → slice_index costs.new border ≡ slice_index costs.old border + parted_cost struck.now held.now border }
-    ensures low { (border : ℕ) → border < 129 → slice_index costs.new border ≤ 9_000_000 }
+    ensures parted { CostMore (parted_cost struck.now held.now) costs.old costs.new }
+    ensures low { CostUpTo 17_500_000 costs.new }
 {
     let mut border = 0;
     'partings: while border < BORDERS {
         let parting = parting_from(struck, held, border as u8);
-        let end = (parting.last as usize + 1).min(BORDERS);
+        let end = parting.last as usize + 1;
         raise(costs, border, end, parting.cost as u32);
         border = end;
     }
 }
 
 /// What each border costs in a group that strikes these keys where those are held.
-fn row(middle: u32, struck: &[u8], held: &[u8]) -> [u32; BORDERS]
-    requires middle { middle ≤ 128 }
+fn row(middle: u8, struck: &[u8], held: &[u8]) -> [u32; BORDERS]
     requires few { length struck.now ≤ MOST_NOTES }
-    requires struck { All (λ k. k < 128) struck.now }
     requires held { length held.now ≤ 128 }
     ensures { result ≡ map (groups.cost middle struck.now held.now) (numbers_from 0 129) }
 {
-    let mut costs = places(middle, struck.len() as u32);
+    let mut costs = places(middle, struck);
     add_partings(&mut costs, struck, held);
     for key in struck {
         add_near(&mut costs, *key);
@@ -168,9 +157,8 @@ fn first_onset(group: &[Note]) -> u64
 
 /// The last note of a key, which ends there, sounds on past a group's beginning, and the key is not struck in the group.
 fn is_held(map: &TempoMap, division: u16, onset: u64, end: u64, group: &[Note], key: u8) -> bool
-    requires onset { onset ≡ groups.first_onset group.now }
-    requires end { end ≤ LATEST_EVENT }
-    requires group { All (IsPlayed LATEST_EVENT) group.now }
+    requires first { onset ≡ groups.first_onset group.now }
+    requires ticks { AreInFile onset end }
     ensures { result ≡ held.holds map.now.tempos division end group.now key }
 {
     if end <= onset {
@@ -220,14 +208,12 @@ pub fn costs(
     map: &TempoMap,
     division: u16,
     within: u8,
-    middle: u32,
+    middle: u8,
     notes: &[Note],
 ) -> Result<Vec<[u32; BORDERS]>, AllocError>
-    requires middle { middle ≤ 128 }
     requires few { length notes.now ≤ MOST_NOTES }
     requires notes { All (IsPlayed LATEST_EVENT) notes.now }
-    ensures costs { IfOk result (λ v. v.items
-        ≡ groups.costs map.now.tempos division middle (groups.groups map.now.tempos division within notes.now)) }
+    ensures costs { IfOk result (λ v. v.items ≡ groups.note_costs map.now.tempos division within middle notes.now) }
     ensures few { IfOk result (λ v. length v.items ≤ MOST_NOTES) }
 {
     let keys = keys_of(alloc, notes)?;

@@ -7,7 +7,7 @@ ghost use Rattle.performance_prepare.specs.Outcome.{Answers};
 ghost use Rattle.performance_prepare.specs.Split.{in_order};
 ghost use Rattle.rhythm_base.specs.declared.limits.TheConstants.{LATEST_EVENT, MOST_NOTES};
 ghost use Rattle.std.specs.List.{IsDistinct};
-ghost use Rattle.std.specs.Prelude.{◌≡◌, ◌≤◌, ◌++◌, All, IfOk, OnOk, length, map};
+ghost use Rattle.std.specs.Prelude.{◌≡◌, ◌≤◌, ◌++◌, All, IfOk, OnOk, length};
 
 use crate::groups::{costs, group_end, keys_of};
 use crate::middle::middle;
@@ -55,7 +55,7 @@ fn borders_of(
 {
     let keys = keys_of(alloc, notes)?;
     let middle = middle(alloc, &keys)?;
-    let rows = costs(alloc, map, division, within, middle as u32, notes)?;
+    let rows = costs(alloc, map, division, within, middle, notes)?;
     least_borders(alloc, &rows)
 }
 
@@ -70,7 +70,7 @@ fn count_below(border: u8, group: &[Note]) -> usize
 /// How many notes the left hand has.
 fn left_count(map: &TempoMap, division: u16, within: u8, notes: &[Note], borders: &[u8]) -> usize
     requires notes { All (IsPlayed LATEST_EVENT) notes.now }
-    ensures { result ≡ length (hands.left_notes (groups map.now.tempos division within notes.now) borders.now) }
+    ensures { result ≡ hands.left_count map.now.tempos division within notes.now borders.now }
 {
     let mut count = 0;
     let mut start = 0;
@@ -106,7 +106,7 @@ fn push_handed(
     border: u8,
     group: &[Note],
 ) -> Result<(), AllocError>
-    ensures { OnOk result (handed.new.items ≡ handed.old.items ++ map (hands.handed_note left border) group.now) }
+    ensures { OnOk result (handed.new.items ≡ handed.old.items ++ hands.handed_group left border group.now) }
 {
     for note in group {
         handed.push(handed_note(left, border, note))?;
@@ -160,6 +160,7 @@ pub fn with_hands(alloc: Global, channel: u8, within: u8, take: Take) -> Result<
     let borders = borders_of(alloc, &map, take.division, within, &own)?;
     let count = left_count(&map, take.division, within, &own, &borders);
     if count == 0 || count == own.len() {
+        drop(map);
         return Ok(take);
     }
     let free = free_channels(alloc, &take.notes)?;
@@ -178,6 +179,7 @@ pub fn with_hands(alloc: Global, channel: u8, within: u8, take: Take) -> Result<
         &borders,
         free[0],
     )?;
+    drop(map);
     let notes = in_order_with(alloc, free[0], &handed)?;
     Ok(Take { notes, ..take })
 }

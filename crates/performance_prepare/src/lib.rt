@@ -5,6 +5,7 @@
 //! loaded of a prepared take is well formed.
 #![tactic(auto)]
 
+mod division;
 mod drums;
 mod elapsed;
 mod groups;

@@ -1,8 +1,9 @@
 ghost use Rattle.performance_prepare.specs.Middle as middles;
-ghost use Rattle.performance_prepare.specs.Sides.{ArePart, IsSide, keys_at};
+ghost use Rattle.performance_prepare.specs.Sides.{AreOfKeys, ArePart, IsSide, keys_at};
+ghost use Rattle.performance_prepare.specs.PartedSides.{IsPartingBelow, IsPartingOf};
 ghost use Rattle.rhythm_base.specs.Lists.{greatest, least_of};
 ghost use Rattle.rhythm_base.specs.declared.limits.TheConstants.{MOST_NOTES};
-ghost use Rattle.std.specs.Prelude.{◌≡◌, ◌≤◌, ◌<◌, ◌+◌, ◌*◌, ◌/◌, ◌-◌, ◌==◌, All, IfOk, List, ℕ, filter, length, map, min, slice_index};
+ghost use Rattle.std.specs.Prelude.{◌≡◌, ◌≢◌, ◌≤◌, ◌<◌, ◌+◌, ◌*◌, ◌/◌, All, IfOk, ℕ, length, map, min, slice_index};
 ghost use Rattle.std.specs.List.{reduce, sum};
 
 use std::alloc::{AllocError, Global};
@@ -46,9 +47,8 @@ struct Side {
 
 /// With so many keys more of a number.
 fn with_keys(side: Side, key: u8, more: u64) -> Side
-    requires count { side.count ≤ MOST_NOTES }
-    requires sum { side.sum ≤ 127 * side.count }
-    requires more { more ≤ MOST_NOTES }
+    requires few { side.count + more ≤ MOST_NOTES }
+    requires side { AreOfKeys side.count side.sum }
     ensures count { result.count ≡ side.count + more }
     ensures sum { result.sum ≡ side.sum + key * more }
 {
@@ -60,9 +60,8 @@ fn with_keys(side: Side, key: u8, more: u64) -> Side
 
 /// The mean of keys in sixteenths, rounded down, of one key at least.
 fn mean(side: Side) -> u64
-    requires some { 1 ≤ side.count }
-    requires few { side.count ≤ MOST_NOTES }
-    requires low { side.sum ≤ 127 * side.count }
+    requires some { side.count ≢ 0 }
+    requires keys { AreOfKeys side.count side.sum }
     ensures mean { result ≡ (16 * side.sum) / side.count }
     ensures low { result ≤ 2032 }
 {
@@ -71,12 +70,9 @@ fn mean(side: Side) -> u64
 
 /// How well a border parts keys, by those below it and the others.
 fn parting(below: Side, above: Side) -> u64
-    requires below { below.count ≤ MOST_NOTES }
-    requires above { above.count ≤ MOST_NOTES }
-    requires low { below.sum ≤ 127 * below.count }
-    requires high { above.sum ≤ 127 * above.count }
-    ensures { (keys : List ℕ) (border : ℕ) → IsSide (middles.keys_below border keys) below.count below.sum
-        → IsSide (middles.keys_from border keys) above.count above.sum → result ≡ middles.parting keys border }
+    requires below { AreOfKeys below.count below.sum }
+    requires above { AreOfKeys above.count above.sum }
+    ensures { IsPartingOf below above result }
 {
     if below.count == 0 || above.count == 0 {
         return 0;
@@ -88,9 +84,8 @@ fn parting(below: Side, above: Side) -> u64
 /// How well a border parts keys, by those below it and all.
 fn parting_within(below: Side, all: Side) -> u64
     requires part { ArePart below.count below.sum all.count all.sum }
-    requires few { all.count ≤ MOST_NOTES }
-    ensures { (keys : List ℕ) (border : ℕ) → IsSide (middles.keys_below border keys) below.count below.sum
-        → IsSide keys all.count all.sum → result ≡ middles.parting keys border }
+    requires all { AreOfKeys all.count all.sum }
+    ensures { IsPartingBelow below all result }
 {
     let above = Side {
         count: all.count - below.count,
@@ -150,7 +145,7 @@ fn least_number(numbers: &[u64]) -> u64
 /// The borders from 1 on that part the keys so well, of these partings.
 fn borders_at(alloc: Global, partings: &[u64], best: u64) -> Result<Vec<u64>, AllocError>
     requires { length partings.now ≡ 127 }
-    ensures { IfOk result (λ v. v.items ≡ filter (λ b. slice_index partings.now (b - 1) == best) middles.inner_borders) }
+    ensures { IfOk result (λ v. v.items ≡ middles.borders_at partings.now best) }
 {
     let mut list = Vec::new(alloc);
     'borders: for border in 1..128usize {
@@ -178,12 +173,11 @@ fn parting_border(alloc: Global, keys: &[u8]) -> Result<u64, AllocError>
 }
 
 /// The middle of the keys that two hands play.
-pub fn middle(alloc: Global, keys: &[u8]) -> Result<u64, AllocError>
+pub fn middle(alloc: Global, keys: &[u8]) -> Result<u8, AllocError>
     requires few { length keys.now ≤ MOST_NOTES }
     requires keys { All (λ k. k < 128) keys.now }
-    ensures middle { IfOk result (λ n. n ≡ middles.middle keys.now) }
-    ensures low { IfOk result (λ n. n ≤ 128) }
+    ensures { IfOk result (λ n. n ≡ middles.middle keys.now) }
 {
     let border = parting_border(alloc, keys)?;
-    Ok((3 * border + 62) / 4)
+    Ok(((3 * border + 62) / 4) as u8)
 }

@@ -1,15 +1,15 @@
 ghost use Rattle.performance_prepare.specs.Groups as groups;
-ghost use Rattle.performance_prepare.specs.Parted.{AreTwoHands, IsHand, IsParting, next_key, or_last, parted_cost};
+ghost use Rattle.performance_prepare.specs.PartedHands.{AreHandsWith, IsNextKey, IsPartedCost, KeepHeld};
+ghost use Rattle.performance_prepare.specs.Parted.{AreTwoHands, IsHand, IsParting};
 ghost use Rattle.rhythm_base.specs.declared.limits.TheConstants.{MOST_NOTES};
-ghost use Rattle.std.specs.Prelude.{◌≡◌, ◌≤◌, ◌<◌, ◌+◌, ◌++◌, ◌∷◌, ◌==◌, [], List, ℕ, if◌then◌else◌, length, min};
-ghost use Rattle.std.specs.List.{reduce};
+ghost use Rattle.std.specs.Prelude.{◌≡◌, ◌≤◌, ◌<◌, ◌+◌, ◌*◌, ◌++◌, ◌∷◌, ◌==◌, [], List, ℕ, if◌then◌else◌, length, min};
 
 use hand_borders::BORDERS;
 
 /// The keys of a hand: how many, and the lowest and the highest, 0 and 0 without one.
 #[derive(Clone, Copy)]
 pub struct Hand {
-    pub count: u64,
+    pub count: u32,
     pub lowest: u8,
     pub highest: u8,
 }
@@ -53,9 +53,8 @@ pub struct TwoHands {
 
 /// The two hands with one key more.
 fn with_one(border: u8, hands: TwoHands, key: u8) -> TwoHands
-    requires left { hands.left.count < 4_000_000_000 }
-    requires right { hands.right.count < 4_000_000_000 }
-    ensures { (keys : List ℕ) → AreTwoHands border keys hands → AreTwoHands border (keys ++ key ∷ []) result }
+    requires { hands.left.count + hands.right.count < 4_000_000_000 }
+    ensures { AreHandsWith border key hands result }
 {
     if key < border {
         return TwoHands {
@@ -96,19 +95,20 @@ fn stretch(hand: Hand) -> u64
 
 /// How many keys a hand holds that strikes these.
 fn held_beside(struck: Hand, held: Hand) -> u64
-    ensures keys { (keys others : List ℕ) → IsHand keys struck → IsHand others held → result ≡ groups.held_beside keys others }
+    ensures keys { KeepHeld struck held result }
     ensures few { result ≤ held.count }
 {
-    if struck.count == 0 { 0 } else { held.count }
+    if struck.count == 0 {
+        0
+    } else {
+        u64::from(held.count)
+    }
 }
 
 /// What a border costs by how it parts the keys of a group.
 fn parted(struck: TwoHands, held: TwoHands) -> u64
-    requires left { held.left.count ≤ 128 }
-    requires right { held.right.count ≤ 128 }
-    ensures cost { (keys others : List ℕ) (border : ℕ) → AreTwoHands border keys struck → AreTwoHands border others held
-        → result ≡ parted_cost keys others border }
-    ensures low { result ≤ 307_000 }
+    ensures cost { IsPartedCost struck held result }
+    ensures low { result ≤ 51_000 + 1_000 * (held.left.count + held.right.count) }
 {
     let apart = stretch(struck.left) + stretch(struck.right);
     let holding = held_beside(struck.left, held.left) + held_beside(struck.right, held.right);
@@ -117,7 +117,7 @@ fn parted(struck: TwoHands, held: TwoHands) -> u64
 
 /// The lowest of the keys at a border or above it, and the last border without one.
 fn next_key(hands: TwoHands) -> u8
-    ensures { (keys : List ℕ) (border : ℕ) → AreTwoHands border keys hands → result ≡ next_key border keys }
+    ensures { IsNextKey hands result }
 {
     if hands.right.count == 0 {
         BORDERS as u8 - 1
@@ -139,9 +139,8 @@ pub struct Parting {
 pub fn parting_from(struck: &[u8], held: &[u8], border: u8) -> Parting
     requires struck { length struck.now ≤ MOST_NOTES }
     requires held { length held.now ≤ 128 }
-    requires border { border ≤ 128 }
     ensures parting { IsParting struck.now held.now border result.last result.cost }
-    ensures from { border ≤ result.last }
+    ensures from { border < 129 → border ≤ result.last }
     ensures low { result.cost ≤ 307_000 }
 {
     let struck = two_hands(border, struck);

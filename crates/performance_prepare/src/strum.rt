@@ -1,6 +1,7 @@
 ghost use Rattle.note_list.specs.Pairing.{IsPlayed};
 ghost use Rattle.performance_load.specs.Taking.{IsTakeFormed};
 ghost use Rattle.performance_prepare.specs.Strum as strums;
+ghost use Rattle.performance_prepare.specs.Strum.{strummed_notes};
 ghost use Rattle.rhythm_base.specs.Lists.{least_of};
 ghost use Rattle.rhythm_base.specs.declared.limits.TheConstants.{LATEST_EVENT};
 ghost use Rattle.std.specs.Prelude.{◌≡◌, ◌++◌, All, IfOk, OnOk, map};
@@ -105,7 +106,7 @@ fn strummed_notes(
     notes: &[Note],
 ) -> Result<Vec<Note>, AllocError>
     requires { All (IsPlayed LATEST_EVENT) notes.now }
-    ensures { IfOk result (λ v. v.items ≡ strums.strummed_notes map.now.tempos division within notes.now) }
+    ensures { IfOk result (λ v. v.items ≡ strummed_notes map.now.tempos division within notes.now) }
 {
     let mut placed = Vec::with_capacity(alloc, notes.len())?;
     let mut start = 0;
@@ -129,6 +130,7 @@ pub fn with_strum(alloc: Global, within: u8, take: Take) -> Result<Take, AllocEr
 {
     let map = TempoMap::new(alloc, &take.tempos, &take.key_marks)?;
     let placed = strummed_notes(alloc, &map, take.division, within, &take.notes)?;
+    drop(map);
     let notes = in_order(placed)?;
     Ok(Take { notes, ..take })
 }

@@ -4,9 +4,10 @@ ghost use Rattle.performance_prepare.specs.Ranges.{IsMicros, IsPace};
 ghost use Rattle.performance_prepare.specs.Tempo as paces;
 ghost use Rattle.rhythm_base.specs.Performance.{IsTempo};
 ghost use Rattle.rhythm_base.specs.Time as times;
-ghost use Rattle.rhythm_base.specs.declared.limits.TheConstants.{LATEST_EVENT, MOST_DIVISION, SLOWEST_TEMPO};
-ghost use Rattle.std.specs.Prelude.{◌≡◌, ◌≤◌, ◌*◌, All, IfOk};
+ghost use Rattle.rhythm_base.specs.declared.limits.TheConstants.{LATEST_EVENT};
+ghost use Rattle.std.specs.Prelude.{◌≡◌, ◌≤◌, All, IfOk};
 
+use crate::division::Division;
 use crate::prepare_fault::PrepareFault;
 use crate::shift::{Shift, unless_late};
 use performance_load::Take;
@@ -20,13 +21,13 @@ const USUAL: u32 = 500_000;
 const FINEST: u64 = 8_192;
 
 /// How many times finer ticks are made: a power of two, at most 8,192.
-fn fineness(division: u16) -> u64
-    requires { 1 ≤ division }
+fn fineness(division: Division) -> u64
     ensures { result ≡ paces.fineness division }
 {
+    let ticks = division.ticks();
     let mut times = 1;
     for _doubling in 0..13u8 {
-        if 2 * times * u64::from(division) > FINEST {
+        if 2 * times * ticks > FINEST {
             return times;
         }
         times *= 2;
@@ -86,36 +87,30 @@ fn bar_parts(signatures: &[Signature]) -> u64
 
 /// The first number over the second, to the nearest whole number, halves up.
 fn rounded(over: u64, under: u64) -> u64
-    requires some { 1 ≤ under }
-    requires under { under ≤ 1000000000000 }
-    requires over { over ≤ 1000000000000000 }
+    requires { paces.IsRatio over under }
     ensures { result ≡ paces.rounded over under }
 {
     (2 * over + under) / (2 * under)
 }
 
-/// Ticks of a quarter where so many of them last a minute in a tempo, of quarters of `old` ticks: a multiple of `parts`.
-fn new_division(old: u64, parts: u64, quarters: u16, first: u32) -> u64
-    requires old { old ≤ MOST_DIVISION }
-    requires some { 1 ≤ parts }
-    requires few { parts ≤ 16 }
+/// Ticks of a quarter where so many of them last a minute in a tempo, of quarters of `old` ticks: a multiple of what makes the bars
+/// of all signatures whole.
+fn new_division(old: Division, signatures: &[Signature], quarters: u16, first: u32) -> u64
     requires quarters { IsPace quarters }
     requires first { IsMicros first }
-    ensures { result ≡ paces.division_of old parts quarters first }
+    ensures { result ≡ paces.division_of old (paces.bar_parts signatures.now) quarters first }
 {
-    let over = old * 60_000_000;
+    let parts = bar_parts(signatures);
+    let over = old.ticks() * 60_000_000;
     let under = parts * u64::from(quarters) * u64::from(first);
     parts * rounded(over, under)
 }
 
 /// A tempo in proportion, where a quarter has `new` ticks in place of `old`.
-fn scaled(new: u16, old: u64, micros: u32) -> u32
-    requires some { 1 ≤ old }
-    requires old { old ≤ MOST_DIVISION }
-    requires micros { micros ≤ SLOWEST_TEMPO }
+fn scaled(new: u16, old: Division, micros: u32) -> u32
     ensures { result ≡ paces.scaled new old micros }
 {
-    let nearest = rounded(u64::from(micros) * u64::from(new), old);
+    let nearest = rounded(u64::from(micros) * u64::from(new), old.ticks());
     nearest.max(1).min(u64::from(SLOWEST_TEMPO)) as u32
 }
 
@@ -123,14 +118,10 @@ fn scaled(new: u16, old: u64, micros: u32) -> u32
 fn scaled_tempos(
     alloc: Global,
     new: u16,
-    old: u64,
+    old: Division,
     first: u32,
     tempos: &[Tempo],
 ) -> Result<Vec<Tempo>, AllocError>
-    requires some { 1 ≤ old }
-    requires old { old ≤ MOST_DIVISION }
-    requires first { IsMicros first }
-    requires tempos { All IsTempo tempos.now }
     ensures { IfOk result (λ v. v.items ≡ paces.scaled_tempos new old first tempos.now) }
 {
     let mut list = Vec::new(alloc);
@@ -150,11 +141,13 @@ fn scaled_tempos(
 }
 
 /// The take with quarters of `new` ticks in place of `old`.
-fn retimed(alloc: Global, new: u16, old: u64, first: u32, take: Take) -> Result<Take, AllocError>
-    requires some { 1 ≤ old }
-    requires old { old ≤ MOST_DIVISION }
-    requires first { IsMicros first }
-    requires tempos { All IsTempo take.tempos }
+fn retimed(
+    alloc: Global,
+    new: u16,
+    old: Division,
+    first: u32,
+    take: Take,
+) -> Result<Take, AllocError>
     ensures { IfOk result (λ t. t ≡ paces.retimed new old first take) }
 {
     let tempos = scaled_tempos(alloc, new, old, first, &take.tempos)?;
@@ -172,10 +165,11 @@ pub fn with_tempo(alloc: Global, quarters: u16, take: Take) -> Result<Take, Prep
     requires marks { AreMarksUpTo LATEST_EVENT take }
     ensures { Answers (paces.with_tempo quarters take) result }
 {
-    let times = fineness(take.division);
-    let old = u64::from(take.division) * times;
+    let coarse = Division::of(&take);
+    let times = fineness(coarse);
+    let old = coarse.finer(times);
     let first = first_tempo(&take.tempos);
-    let division = new_division(old, bar_parts(&take.signatures), quarters, first);
+    let division = new_division(old, &take.signatures, quarters, first);
     if division == 0 || division > u64::from(MOST_DIVISION) {
         return Err(PrepareFault::WrongDivision { division });
     }

@@ -1,6 +1,6 @@
 -- What an edit script does: which reply each line may have, and the performance after it. S says what the score of a
 -- performance is: its text, or the number of the record that would pass its limit.
-use Rattle.std.specs.Prelude.{◌≡◌, ◌≢◌, ℕ, ◌⊎◌, List, [], ◌∷◌, ◌++◌, IsTrue, All, codes, map, Some, None, Result, Ok, Err, nat_eq}
+use Rattle.std.specs.Prelude.{◌≡◌, ◌≢◌, ℕ, ◌⊎◌, List, [], ◌∷◌, ◌++◌, IsTrue, codes, map, Some, None, Result, Ok, Err, nat_eq}
 use Rattle.std.specs.List.{starts_with}
 use Rattle.edit_script.specs.declared.command.Command.{Command}
 use Rattle.edit_script.specs.declared.command.Command.TheVariants.{Change, Score, Alternatives, Quit}
@@ -8,13 +8,12 @@ use Rattle.rhythm_base.specs.declared.edit_fault.EditFault.{EditFault}
 use Rattle.rhythm_base.specs.declared.edit_fault.EditFault.TheVariants.{Memory}
 use Rattle.edit_laws.specs.Edits.{cell_tests, first_refusal}
 use Rattle.rhythm_base.specs.Forest.{Tree, preorder_of}
-use Rattle.rhythm_base.specs.Performance.{IsWellFormed, Performance}
+use Rattle.rhythm_base.specs.Performance.{Performance}
 use Rattle.edit_script.specs.Replies.{Shown, alternatives_text, bad_line_text, bye_text, done_text, long_score_text, refused_text, score_text}
 use Rattle.rhythm_base.specs.Grammar.{Grammar}
 use Rattle.edit_script.specs.ScriptLines.{SaysCommand, SaysNothing}
 use Rattle.rhythm_base.specs.ShapeText.{shape_text}
 use Rattle.rhythm_base.specs.Trees.{shape_of}
-use Rattle.rhythm_base.specs.Voices.{HasDerivation}
 use Rattle.edit_laws.specs.EditOutcomes.{EditOutcome, IsOutcome, made, refused}
 use Rattle.tree_laws.specs.Alternatives.{AreBestOfBar}
 
@@ -23,13 +22,6 @@ use Rattle.tree_laws.specs.Alternatives.{AreBestOfBar}
 abbrev pub outcome_text : EditOutcome → List ℕ
 outcome_text (refused fault) = refused_text fault
 outcome_text (made built cost) = done_text built cost
-
--- ---- scores
-
--- a well-formed performance has one score at most, and one where each of its voices has a derivation
-pub record HasOneScore (g : Grammar) (S : Performance → Result (List ℕ) ℕ → Type 0) : Type 0 where
-  pub one : (p : Performance) (r s : Result (List ℕ) ℕ) → IsWellFormed p → S p r → S p s → r ≡ s
-  pub some : (p : Performance) → IsWellFormed p → All (HasDerivation g p) p.channels → (r : Result (List ℕ) ℕ) × S p r
 
 -- ---- alternatives
 

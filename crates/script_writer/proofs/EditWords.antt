@@ -13,12 +13,12 @@ use Rattle.rhythm_base.specs.declared.edit.Edit.TheVariants.{Add, Drop, Move, Ba
 use Rattle.rhythm_base.specs.EditRanges.{IsEditInRange}
 use Rattle.rhythm_base.specs.Shape.{Shape}
 use Rattle.rhythm_base.specs.ShapeText.{shape_text}
-use Rattle.edit_script.specs.ScriptLines.{AreEdit, IsBarWord, IsChannelWord, IsKeyWord, IsTickWord, SaysCommand, script_words}
+use Rattle.edit_script.specs.ScriptLines.{AreEdit, IsBarWord, IsChannelWord, IsKeyWord, IsTickWord, SaysCommand, script_words, words_of}
 use Rattle.rhythm_base.specs.Numerals.{IsNumber}
 use Rattle.rhythm_base.proofs.Numerals.{numerals}
 use Rattle.script_writer.specs.EditText.{edit_line, edit_words}
 use Rattle.script_writer.proofs.PrintedBytes.{IsGraphic, IsPrinting, graphic_prints, joined_prints, number_graphic, shape_prints}
-use Rattle.script_writer.proofs.WordSplits.{between_spaces, first_word, joined_words, words_of_line}
+use Rattle.script_writer.proofs.WordSplits.{first_word, joined_words, words_of_line}
 
 -- a number in decimal digits is read as this number
 number_word : (most n : ℕ) → most < 10 ^ 10 → n ≤ most → IsNumber most n (decimal n)
@@ -104,8 +104,8 @@ module _ (channel bar : ℕ) (shape : Shape) (range : IsEditInRange (Pin channel
         ),
       ))
 
-  pin_words : between_spaces (edit_line (Pin channel bar shape))
-      ≡ codes "pin" ∷ decimal channel ∷ decimal bar ∷ between_spaces (shape_text shape)
+  pin_words : words_of (edit_line (Pin channel bar shape))
+      ≡ codes "pin" ∷ decimal channel ∷ decimal bar ∷ words_of (shape_text shape)
   pin_words =
       first_word (codes "pin") (join_with_byte 32 (decimal channel ∷ decimal bar ∷ shape_text shape ∷ [])) (named (codes "pin") refl)
       ∙ ap (λ ws. codes "pin" ∷ ws) (first_word (decimal channel) (join_with_byte 32 (decimal bar ∷ shape_text shape ∷ [])) channel_graphic

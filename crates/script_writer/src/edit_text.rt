@@ -1,7 +1,5 @@
-ghost use Rattle.rhythm_base.specs.declared.edit.Edit.TheVariants as edit;
-ghost use Rattle.script_writer.specs.EditText.{edit_line, script_text};
-ghost use Rattle.std.specs.List.{flat_map, join_with_byte};
-ghost use Rattle.std.specs.Prelude.{◌≡◌, ◌∷◌, ◌++◌, IfOk, OnOk, decimal, map};
+ghost use Rattle.script_writer.specs.EditText.{edit_line, named_numbers, key_line, pin_line, script_text, spaced_numbers};
+ghost use Rattle.std.specs.Prelude.{◌≡◌, ◌∷◌, ◌++◌, IfOk, OnOk, decimal};
 
 use rhythm_base::{Edit, Shape};
 use std::alloc::{AllocError, Global};
@@ -17,7 +15,7 @@ fn push_number(text: &mut Vec<u8>, number: u64) -> Result<(), AllocError>
 
 /// Appends numbers, with a space before each.
 fn push_numbers(text: &mut Vec<u8>, numbers: &[u64]) -> Result<(), AllocError>
-    ensures { OnOk result (text.new.items ≡ text.old.items ++ flat_map (λ n. 32 ∷ decimal n) numbers.now) }
+    ensures { OnOk result (text.new.items ≡ text.old.items ++ spaced_numbers numbers.now) }
 {
     'numbers: for number in numbers {
         push_number(text, *number)?;
@@ -27,10 +25,24 @@ fn push_numbers(text: &mut Vec<u8>, numbers: &[u64]) -> Result<(), AllocError>
 
 /// Appends a name and numbers, with a space between two words.
 fn push_words(text: &mut Vec<u8>, name: &[u8], numbers: &[u64]) -> Result<(), AllocError>
-    ensures { OnOk result (text.new.items ≡ text.old.items ++ join_with_byte 32 (name.now ∷ map decimal numbers.now)) }
+    ensures { OnOk result (text.new.items ≡ text.old.items ++ named_numbers name.now numbers.now) }
 {
     text.extend_from_slice(name)?;
     push_numbers(text, numbers)
+}
+
+/// Appends a name, a channel, a key of it and ticks.
+fn push_key(
+    text: &mut Vec<u8>,
+    name: &[u8],
+    channel: u8,
+    key: u8,
+    ticks: &[u64],
+) -> Result<(), AllocError>
+    ensures { OnOk result (text.new.items ≡ text.old.items ++ key_line name.now channel key ticks.now) }
+{
+    push_words(text, name, &[u64::from(channel), u64::from(key)])?;
+    push_numbers(text, ticks)
 }
 
 /// Appends the line of a pin.
@@ -41,7 +53,7 @@ fn push_pin(
     bar: u32,
     shape: &Shape,
 ) -> Result<(), AllocError>
-    ensures { OnOk result (text.new.items ≡ text.old.items ++ edit_line (edit.Pin channel bar shape.now)) }
+    ensures { OnOk result (text.new.items ≡ text.old.items ++ pin_line channel bar shape.now) }
 {
     let shape = shape.text(alloc)?;
     push_words(text, b"pin", &[u64::from(channel), u64::from(bar)])?;
@@ -59,30 +71,18 @@ fn push_edit(alloc: Global, text: &mut Vec<u8>, edit: &Edit) -> Result<(), Alloc
             key,
             onset,
             end,
-        } => push_words(
-            text,
-            b"add",
-            &[u64::from(*channel), u64::from(*key), *onset, *end],
-        ),
+        } => push_key(text, b"add", *channel, *key, &[*onset, *end]),
         Edit::Drop {
             channel,
             key,
             onset,
-        } => push_words(
-            text,
-            b"drop",
-            &[u64::from(*channel), u64::from(*key), *onset],
-        ),
+        } => push_key(text, b"drop", *channel, *key, &[*onset]),
         Edit::Move {
             channel,
             key,
             onset,
             to,
-        } => push_words(
-            text,
-            b"move",
-            &[u64::from(*channel), u64::from(*key), *onset, *to],
-        ),
+        } => push_key(text, b"move", *channel, *key, &[*onset, *to]),
         Edit::Barline { bar, tick } => push_words(text, b"barline", &[u64::from(*bar), *tick]),
         Edit::Pin {
             channel,

@@ -9,7 +9,7 @@ use Rattle.edit_script.proofs.reply_lines.write_alternative.Goals as goal
 
 pub returns-in_err-write_words-clause-written : goal.returns-in_err-write_words-clause-written
 returns-in_err-write_words-clause-written g c =
-    let P : List ℕ → Type 0 = λ shape. Writes (g.K.Sink.taken c.args.sink.now) (g.K.Sink.taken c.write_words.new.sink) c.args.gathered.now c.write_words.new.gathered
+    let P : List ℕ → Type 0 = λ shape. Writes g.K.Sink.taken c.args.sink.now c.write_words.new.sink c.args.held.now c.write_words.new.held
     (reply_line (codes "alt" ∷ decimal c.args.alt.now.total ∷ shape ∷ join_with_byte 44 (map decimal c.args.alt.now.rules.items) ∷ [])) c.from_residual.result in
     subst P c.as_bytes.ensures.value
     (fails _ _ _ _ _ c.from_residual.result c.in_err-write_words.field-0.0 (c.from_residual.ensures.0, c.from_residual.ensures.1)
@@ -18,7 +18,7 @@ returns-in_err-write_words-clause-written g c =
 pub returns-in_err-write-clause-written : goal.returns-in_err-write-clause-written
 returns-in_err-write-clause-written g c =
     let residual = c.from_residual-in_err-write in
-    let P : List ℕ → Type 0 = λ shape. Writes (g.K.Sink.taken c.args.sink.now) (g.K.Sink.taken c.write.new.sink) c.args.gathered.now c.write.new.self
+    let P : List ℕ → Type 0 = λ shape. Writes g.K.Sink.taken c.args.sink.now c.write.new.sink c.args.held.now c.write.new.self
     (reply_line (codes "alt" ∷ decimal c.args.alt.now.total ∷ shape ∷ join_with_byte 44 (map decimal c.args.alt.now.rules.items) ∷ [])) residual.result in
     subst P c.as_bytes.ensures.value
     (fails _ _ _ _ _ residual.result c.in_err-write.field-0.0 (residual.ensures.0, residual.ensures.1)
@@ -28,7 +28,7 @@ returns-in_err-write-clause-written g c =
 pub returns-in_err-write_numbers-clause-written : goal.returns-in_err-write_numbers-clause-written
 returns-in_err-write_numbers-clause-written g c =
     let residual = c.from_residual-in_err-write_numbers in
-    let P : List ℕ → List ℕ → Type 0 = λ shape rules. Writes (g.K.Sink.taken c.args.sink.now) (g.K.Sink.taken c.write_numbers.new.sink) c.args.gathered.now c.write_numbers.new.gathered
+    let P : List ℕ → List ℕ → Type 0 = λ shape rules. Writes g.K.Sink.taken c.args.sink.now c.write_numbers.new.sink c.args.held.now c.write_numbers.new.held
     (reply_line (codes "alt" ∷ decimal c.args.alt.now.total ∷ shape ∷ join_with_byte 44 (map decimal rules) ∷ [])) residual.result in
     subst (P (string_bytes c.args.alt.now.shape)) c.as_slice.ensures.value (subst (λ shape. P shape c.as_slice.result.now) c.as_bytes.ensures.value
     (fails _ _ _ _ _ residual.result c.in_err-write_numbers.field-0.0 (residual.ensures.0, residual.ensures.1)
@@ -37,7 +37,7 @@ returns-in_err-write_numbers-clause-written g c =
 
 pub returns-clause-written : goal.returns-clause-written
 returns-clause-written g c =
-    let P : List ℕ → List ℕ → Type 0 = λ shape rules. Writes (g.K.Sink.taken c.args.sink.now) (g.K.Sink.taken c.write-2.new.sink) c.args.gathered.now c.write-2.new.self
+    let P : List ℕ → List ℕ → Type 0 = λ shape rules. Writes g.K.Sink.taken c.args.sink.now c.write-2.new.sink c.args.held.now c.write-2.new.self
     (reply_line (codes "alt" ∷ decimal c.args.alt.now.total ∷ shape ∷ join_with_byte 44 (map decimal rules) ∷ [])) c.write-2.result in
     subst (P (string_bytes c.args.alt.now.shape)) c.as_slice.ensures.value (subst (λ shape. P shape c.as_slice.result.now) c.as_bytes.ensures.value
     (sent_front (decimal c.args.alt.now.total) c.as_bytes.result.now (join_with_byte 44 (map decimal c.as_slice.result.now)) _ _ _ _ _ _ _ _

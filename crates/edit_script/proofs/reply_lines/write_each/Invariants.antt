@@ -7,6 +7,6 @@ use Rattle.edit_script.proofs.reply_lines.write_each.Given as goal
 
 abbrev pub invariant-alternatives : goal.invariant-alternatives
 invariant-alternatives g l = record {
-  sent : Sent (g.K.Sink.taken l.initial.sink) (g.K.Sink.taken l.sink) l.initial.gathered l.gathered (flat_map (λ a. shown_text (shown_by a)) (take l.alt-index l.alts));
+  sent : Sent (g.K.Sink.taken l.initial.sink) (g.K.Sink.taken l.sink) l.initial.held l.held (flat_map (λ a. shown_text (shown_by a)) (take l.alt-index l.alts));
   later : g.K.Sink.faults l.initial.sink ≤ g.K.Sink.faults l.sink;
 }

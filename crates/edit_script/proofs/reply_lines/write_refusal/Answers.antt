@@ -8,13 +8,13 @@ use Rattle.edit_script.proofs.reply_lines.write_refusal.Goals as goal
 pub returns-in-Line-clause-written : goal.returns-in-Line-clause-written
 returns-in-Line-clause-written g c =
     let written = c.write_line in
-    subst (λ (r : Refusal). Writes (g.K.Sink.taken c.args.sink.now) (g.K.Sink.taken written.new.sink) c.args.gathered.now written.new.gathered (refusal_text r) written.result) (sym c.in-Line.is)
+    subst (λ (r : Refusal). Writes g.K.Sink.taken c.args.sink.now written.new.sink c.args.held.now written.new.held (refusal_text r) written.result) (sym c.in-Line.is)
     written.ensures.written
 
 pub returns-in-ScoreTooLong-clause-written : goal.returns-in-ScoreTooLong-clause-written
 returns-in-ScoreTooLong-clause-written g c =
     let written = c.write_line-in-ScoreTooLong in
-    subst (λ (r : Refusal). Writes (g.K.Sink.taken c.args.sink.now) (g.K.Sink.taken written.new.sink) c.args.gathered.now written.new.gathered (refusal_text r) written.result)
+    subst (λ (r : Refusal). Writes g.K.Sink.taken c.args.sink.now written.new.sink c.args.held.now written.new.held (refusal_text r) written.result)
     (sym c.in-ScoreTooLong.is)
-    (subst (λ (n : ℕ). Writes (g.K.Sink.taken c.args.sink.now) (g.K.Sink.taken written.new.sink) c.args.gathered.now written.new.gathered (long_score_text n) written.result) c.from.ensures
+    (subst (λ (n : ℕ). Writes g.K.Sink.taken c.args.sink.now written.new.sink c.args.held.now written.new.held (long_score_text n) written.result) c.from.ensures
     written.ensures.written)

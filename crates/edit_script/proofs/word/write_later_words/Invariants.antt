@@ -6,6 +6,6 @@ use Rattle.edit_script.proofs.word.write_later_words.Given as goal
 
 abbrev pub invariant-words : goal.invariant-words
 invariant-words g l = record {
-  sent : Sent (g.K.Sink.taken l.initial.sink) (g.K.Sink.taken l.sink) l.initial.gathered l.gathered (flat_map (λ w. 32 ∷ word_text w) (take l.word-index l.words));
+  sent : Sent (g.K.Sink.taken l.initial.sink) (g.K.Sink.taken l.sink) l.initial.held l.held (flat_map (λ w. 32 ∷ word_text w) (take l.word-index l.words));
   later : g.K.Sink.faults l.initial.sink ≤ g.K.Sink.faults l.sink;
 }

@@ -7,14 +7,14 @@ use Rattle.edit_script.proofs.word.write_words.Goals as goal
 
 pub returns-in_err-write_word-in-len1-up-clause-written : goal.returns-in_err-write_word-in-len1-up-clause-written
 returns-in_err-write_word-in-len1-up-clause-written g c =
-    let P : List ℕ → Type 0 = λ t. Writes (g.K.Sink.taken c.args.sink.now) (g.K.Sink.taken c.write_word.new.sink) c.args.gathered.now c.write_word.new.gathered t c.from_residual.result in
+    let P : List ℕ → Type 0 = λ t. Writes g.K.Sink.taken c.args.sink.now c.write_word.new.sink c.args.held.now c.write_word.new.held t c.from_residual.result in
     subst P (joined_list 32 word_text c.args.words.now _ c.in-len1-up.len_at_least)
     (fails _ _ _ _ _ c.from_residual.result c.in_err-write_word-in-len1-up.field-0.0 (c.from_residual.ensures.0, c.from_residual.ensures.1)
     (SentPart-first _ _ _ _ _ (flat_map (λ y. 32 ∷ word_text y) (take (length c.args.words.now - 1) (drop 1 c.args.words.now))) c.in_err-write_word-in-len1-up.ensures.written))
 
 pub returns-in_ok-write_word-in-len1-up-clause-written : goal.returns-in_ok-write_word-in-len1-up-clause-written
 returns-in_ok-write_word-in-len1-up-clause-written g c =
-    let P : List ℕ → Type 0 = λ t. Writes (g.K.Sink.taken c.args.sink.now) (g.K.Sink.taken c.write_later_words.new.sink) c.args.gathered.now c.write_later_words.new.gathered t
+    let P : List ℕ → Type 0 = λ t. Writes g.K.Sink.taken c.args.sink.now c.write_later_words.new.sink c.args.held.now c.write_later_words.new.held t
     c.write_later_words.result in
     subst P (joined_list 32 word_text c.args.words.now _ c.in-len1-up.len_at_least)
     (writes_after _ _ _ _ _ _ _ (flat_map (λ y. 32 ∷ word_text y) (take (length c.args.words.now - 1) (drop 1 c.args.words.now))) c.write_later_words.result

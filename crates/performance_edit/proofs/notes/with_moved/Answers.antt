@@ -11,11 +11,13 @@ use Rattle.rhythm_base.specs.Performance.{place_of_note}
 use Rattle.edit_laws.proofs.Edited.{is_found}
 use Rattle.performance_edit.proofs.notes.with_moved.Goals as goal
 
-pub moved_to-requires-clause-end : goal.moved_to-requires-clause-end
-moved_to-requires-clause-end c =
-    (is_found (is_note c.args.channel c.args.key c.args.onset) (λ n. n.end ≤ LATEST_TICK) c.in-Some.note.now c.args.notes.now c.requires.ends (sym c.in-Some.ensures)).0
+pub moved_to-requires : goal.moved_to-requires
+moved_to-requires c = record {
+  onset = c.requires.range.3;
+  end = (is_found (is_note c.args.channel c.args.key c.args.onset) (λ n. n.end ≤ LATEST_TICK) c.in-Some.note c.args.notes.now c.requires.ends (sym c.in-Some.ensures)).0;
+}
 
-pub put-requires : goal.put-requires
-put-requires c =
+pub with_note-requires : goal.with_note-requires
+with_note-requires c =
     subst (λ (l : List Note). AreInOrder place_of_note l) (sym c.in_ok-others.ensures)
     (AllPairs-filter (λ x y. slice_cmp nat_cmp (place_of_note x) (place_of_note y) ≡ Less) (λ n. not (is_note c.args.channel c.args.key c.args.onset n)) c.args.notes.now c.requires.order)

@@ -1,5 +1,7 @@
-use Rattle.std.proofs.Common.{append_assoc, List, [], ◌∷◌, ◌++◌, sym, ap, ◌∙◌}
+use Rattle.std.proofs.Common.{◌≡◌, ◌+◌, ◌∷◌, [], ◌++◌, ℕ, List, IfOk, take, drop, true, false, length, subst, sym, ap, ◌∙◌, arith}
+use Rattle.std.specs.List.{AllWithin}
 use Rattle.rhythm_base.specs.declared.note.Note.{Note}
+use Rattle.rhythm_base.specs.Lists.{earlier, list_with}
 use Rattle.rhythm_base.specs.Performance.{place_of_note}
 use Rattle.performance_edit.proofs.OnlyPlaces.{insert-parts}
 use Rattle.performance_edit.proofs.Places.{list_with-insert}
@@ -7,13 +9,14 @@ use Rattle.performance_edit.proofs.notes.with_note.Goals as goal
 
 pub returns : goal.returns
 returns c =
-    let notes = c.args.notes.now in
-    let n = c.count_before.result in
-    let found = c.count_before.ensures in
-    let front : List Note = c.split_at.result.0.now in
-    let back : List Note = c.split_at.result.1.now in
-    let first = c.in_ok-extend_from_slice.ensures.items ∙ ap (λ l. l ++ front) c.in_ok-longer.ensures.items in
-    let more = c.in_ok-push.ensures.items ∙ ap (λ l. l ++ c.args.note ∷ []) first in
-    c.in_ok-extend_from_slice-2.ensures.items ∙ ap (λ l. l ++ back) more ∙ append_assoc front (c.args.note ∷ []) back
-    ∙ (λ i. c.split_at.ensures.front i ++ (c.args.note ∷ c.split_at.ensures.back i))
-    ∙ sym (insert-parts c.args.note notes n found.within) ∙ list_with-insert place_of_note c.args.note notes n found.within found.front found.back
+    let notes : List Note = c.args.notes.now in
+    let note : Note = c.args.note in
+    let n : ℕ = c.count_before-place.result in
+    let found = c.count_before-place.ensures in
+    let front = subst (λ k. AllWithin (λ y. earlier (place_of_note y) (k ∷ note.onset ∷ note.key ∷ []) ≡ true) notes 0 n) c.from.ensures found.front in
+    let back = subst (λ k. AllWithin (λ y. earlier (place_of_note y) (k ∷ note.onset ∷ note.key ∷ []) ≡ false) notes n (length notes)) c.from.ensures found.back in
+    let zero_more : n + 0 ≡ n = omega arith in
+    let is : take n notes ++ ((note ∷ []) ++ drop (n + 0) notes) ≡ list_with place_of_note note notes =
+    ap (λ k. take n notes ++ (note ∷ drop k notes)) zero_more
+    ∙ sym (insert-parts note notes n found.within) ∙ list_with-insert place_of_note note notes n found.within front back in
+    subst (λ (l : List Note). IfOk c.with_other.result (λ n. n ≡ l)) is c.with_other.ensures

@@ -9,28 +9,28 @@ returns-in_default c =
     let found = ap (λ l. note_at l c.args.channel c.args.key c.args.onset) (sym c.notes-notes.ensures.value) ∙ sym c.in_default.ensures in
     sym (no_note c.args.performance.now c.args.channel c.args.key c.args.onset c.args.to (sym c.if-lacks_voice.ensures) found)
 
-pub moved_to-requires-clause-end : goal.moved_to-requires-clause-end
-moved_to-requires-clause-end c =
+pub moved_to-requires : goal.moved_to-requires
+moved_to-requires c =
     let found = ap (λ l. note_at l c.args.channel c.args.key c.args.onset) (sym c.notes-notes.ensures.value) ∙ sym c.in-Some.ensures in
-    note-end c.args.performance.now c.args.channel c.args.key c.args.onset c.in-Some.note.now c.notes-notes.ensures.formed found
+    record { onset = c.requires.3; end = note-end c.args.performance.now c.args.channel c.args.key c.args.onset c.in-Some.note c.notes-notes.ensures.formed found }
 
 pub returns-then-has_other : goal.returns-then-has_other
 returns-then-has_other c =
     let found = ap (λ l. note_at l c.args.channel c.args.key c.args.onset) (sym c.notes-notes.ensures.value) ∙ sym c.in-Some.ensures in
     let same = ap (λ l. has_note (without_note c.args.channel c.args.key c.args.onset l) c.args.channel c.args.key c.args.to) (sym c.notes-notes.ensures.value) ∙ sym c.if-has_other.ensures in
-    sym (same_note c.args.performance.now c.args.channel c.args.key c.args.onset c.args.to c.in-Some.note.now (sym c.if-lacks_voice.ensures) found same)
+    sym (same_note c.args.performance.now c.args.channel c.args.key c.args.onset c.args.to c.in-Some.note (sym c.if-lacks_voice.ensures) found same)
 
 pub returns-then-is_past : goal.returns-then-is_past
 returns-then-is_past c =
     let found = ap (λ l. note_at l c.args.channel c.args.key c.args.onset) (sym c.notes-notes.ensures.value) ∙ sym c.in-Some.ensures in
     let free = ap (λ l. has_note (without_note c.args.channel c.args.key c.args.onset l) c.args.channel c.args.key c.args.to) (sym c.notes-notes.ensures.value) ∙ sym c.if-has_other.ensures in
-    let past = ap (λ t. is_past t (moved_to c.args.to c.in-Some.note.now)) (sym c.last-last.ensures) ∙ ap (is_past c.last-last.result) (sym c.moved_to.ensures) ∙ sym c.if-is_past.ensures in
+    let past = ap (λ t. is_past t (moved_to c.args.to c.in-Some.note)) (sym c.last-last.ensures) ∙ ap (is_past c.last-last.result) (sym c.moved_to.ensures) ∙ sym c.if-is_past.ensures in
     ap (λ t. Some (PastEnd t)) c.last-last.ensures
-    ∙ sym (past_end c.args.performance.now c.args.channel c.args.key c.args.onset c.args.to c.in-Some.note.now (sym c.if-lacks_voice.ensures) found free past)
+    ∙ sym (past_end c.args.performance.now c.args.channel c.args.key c.args.onset c.args.to c.in-Some.note (sym c.if-lacks_voice.ensures) found free past)
 
 pub returns-else-is_past : goal.returns-else-is_past
 returns-else-is_past c =
     let found = ap (λ l. note_at l c.args.channel c.args.key c.args.onset) (sym c.notes-notes.ensures.value) ∙ sym c.in-Some.ensures in
     let free = ap (λ l. has_note (without_note c.args.channel c.args.key c.args.onset l) c.args.channel c.args.key c.args.to) (sym c.notes-notes.ensures.value) ∙ sym c.if-has_other.ensures in
-    let inside = ap (λ t. is_past t (moved_to c.args.to c.in-Some.note.now)) (sym c.last-last.ensures) ∙ ap (is_past c.last-last.result) (sym c.moved_to.ensures) ∙ sym c.if-is_past.ensures in
-    sym (no_fault c.args.performance.now c.args.channel c.args.key c.args.onset c.args.to c.in-Some.note.now (sym c.if-lacks_voice.ensures) found free inside)
+    let inside = ap (λ t. is_past t (moved_to c.args.to c.in-Some.note)) (sym c.last-last.ensures) ∙ ap (is_past c.last-last.result) (sym c.moved_to.ensures) ∙ sym c.if-is_past.ensures in
+    sym (no_fault c.args.performance.now c.args.channel c.args.key c.args.onset c.args.to c.in-Some.note (sym c.if-lacks_voice.ensures) found free inside)

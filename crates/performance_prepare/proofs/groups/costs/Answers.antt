@@ -1,14 +1,12 @@
-use Rattle.std.proofs.Common.{arith, ℕ, ◌≡◌, ◌≤◌, ◌<◌, ◌+◌, ◌-◌, drop, subst, sym, ◌∙◌, ◌++◌, ◌∷◌, [], List, ap, length, map, take, length-append}
+use Rattle.std.proofs.Common.{arith, ℕ, ◌≡◌, ◌≤◌, ◌+◌, ◌∙◌, ◌++◌, ◌∷◌, [], List, ap, length, map, take, length-append}
 use Rattle.std.specs.List.{slice_range}
-use Rattle.std.specs.Prelude.{All}
 use Rattle.std.proofs.lemmas.List.{get_or-replicate}
-use Rattle.std.proofs.lemmas.List.Elements.{All-drop, All-take}
 use Rattle.rhythm_base.specs.declared.event.Tempo.{Tempo}
 use Rattle.rhythm_base.specs.declared.note.Note.{Note}
 use Rattle.performance_prepare.specs.Ends.{held_by, row_by}
 use Rattle.performance_prepare.specs.Groups.{cost, costs, costs_after, groups}
 use Rattle.performance_prepare.specs.Middle.{numbers_from}
-use Rattle.performance_prepare.proofs.Grouped.{costs_more, keys_between, keys_low, taken_ends}
+use Rattle.performance_prepare.proofs.Grouped.{costs_more, keys_between, taken_ends}
 use Rattle.performance_prepare.proofs.groups.costs.Goals as goal
 
 pub groups-init : goal.groups-init
@@ -48,10 +46,3 @@ groups-preserved c =
       within = c.group_end-end.ensures.within;
       few = (let f = c.groups.invariant.few in let l = c.group_end-end.ensures.later in omega (arith, long, f, l));
     }
-
-pub row-requires-clause-struck : goal.row-requires-clause-struck
-row-requires-clause-struck c =
-    let all : All (λ k. k < 128) c.deref.result.now =
-    subst (All (λ k. k < 128)) (sym (c.deref.ensures.value ∙ c.in_ok-keys.ensures)) (keys_low c.args.notes.now c.requires.notes) in
-    All-take (λ k. k < 128) (c.group_end-end.result - c.groups.start) (drop c.groups.start c.deref.result.now)
-    (All-drop (λ k. k < 128) c.groups.start c.deref.result.now all)

@@ -2,10 +2,15 @@ use Rattle.std.proofs.Common.{rules, arith, ap, length, ℕ, Bool, true, false, 
 use Rattle.std.specs.Prelude.{filter, slice_index}
 use Rattle.performance_prepare.specs.Ends.{held_by, holds}
 use Rattle.performance_prepare.specs.Middle.{numbers_from}
-use Rattle.performance_prepare.proofs.Grouped.{held_few}
+use Rattle.performance_prepare.proofs.Grouped.{first_low, held_few}
 use Rattle.performance_prepare.proofs.Middles.{kept_more, left_out, none_left}
 use Rattle.performance_prepare.proofs.groups.held_keys.Goals as goal
 use Rattle.performance_prepare.proofs.groups.held_keys.Goals.{then-is_held+in_ok-push, else-is_held}
+
+pub is_held-requires-clause-ticks : goal.is_held-requires-clause-ticks
+is_held-requires-clause-ticks c =
+    let low = first_low c.args.group.now c.requires.group in
+    record { early = omega (arith, low, c.first_onset-onset.ensures); late = search rules }
 
 pub keys-preserved : goal.keys-preserved
 keys-preserved c =

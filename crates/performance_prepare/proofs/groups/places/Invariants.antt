@@ -5,7 +5,7 @@ use Rattle.performance_prepare.proofs.groups.places.Given as goal
 
 abbrev pub invariant-borders : goal.invariant-borders
 invariant-borders l = record {
-  each : (k : ℕ) → k < l.border → slice_index l.costs k ≡ l.count * gap k l.middle;
+  each : (k : ℕ) → k < l.border → slice_index l.costs k ≡ length l.struck * gap k l.middle;
   long : length l.costs ≡ 129;
-  few : (k : ℕ) → k < l.border → slice_index l.costs k ≤ 8500000;
+  few : (k : ℕ) → k < l.border → slice_index l.costs k ≤ 17000000;
 }

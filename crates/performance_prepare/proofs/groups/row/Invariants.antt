@@ -8,5 +8,5 @@ abbrev pub invariant-loop-key : goal.invariant-loop-key
 invariant-loop-key l = record {
   costs : (k : ℕ) → k < 129 → slice_index l.costs k ≡ place_cost l.middle l.struck l.held k + nearness k (take l.key-index l.struck);
   long : length l.costs ≡ 129;
-  low : (k : ℕ) → k < 129 → slice_index l.costs k ≤ 9000000 + 200 * l.key-index;
+  low : (k : ℕ) → k < 129 → slice_index l.costs k ≤ 17500000 + 200 * l.key-index;
 }

@@ -1,9 +1,10 @@
 use Rattle.std.proofs.Common.{arith, ℕ, ◌≡◌, ◌+◌, ◌-◌, ◌∷◌, ◌++◌, [], List, ap, refl, ◌∙◌, map, subst}
-use Rattle.std.specs.Prelude.{slice_index}
+use Rattle.std.specs.Prelude.{nat_lt, slice_index}
+use Rattle.rhythm_base.proofs.ListParts.{filter_few}
 use Rattle.performance_prepare.specs.Middle.{inner_borders, keys_below, parting}
 use Rattle.performance_prepare.specs.Sides.{IsSide}
 use Rattle.performance_prepare.proofs.Middles.{no_more, one_more}
-use Rattle.performance_prepare.proofs.SidesCounted.{at_few, below_part, side_next, side_none}
+use Rattle.performance_prepare.proofs.SidesCounted.{below_part, side_more, side_next, side_none}
 use Rattle.performance_prepare.proofs.middle.partings.Goals as goal
 
 pub borders-init : goal.borders-init
@@ -12,23 +13,21 @@ borders-init c = record {
   below = side_none c.args.keys.now;
 }
 
-pub with_keys-below-requires-clause-count : goal.with_keys-below-requires-clause-count
-with_keys-below-requires-clause-count c =
+pub with_keys-below-requires-clause-few : goal.with_keys-below-requires-clause-few
+with_keys-below-requires-clause-few c =
+    let keys : List ℕ = c.args.keys.now in
+    let b : ℕ = c.borders.border in
+    let at = c.counts_of-counts.ensures (b - 1) (omega (arith, c.borders-test.true)) in
+    let more = side_more (b - 1) keys c.borders.below.count c.borders.below.sum (slice_index c.counts_of-counts.result (b - 1))
+    c.borders.invariant.below at in
+    let few = filter_few (λ k. nat_lt k (b - 1 + 1)) keys in
+    omega (arith, more.all, few, c.requires.few)
+
+pub with_keys-below-requires-clause-side : goal.with_keys-below-requires-clause-side
+with_keys-below-requires-clause-side c =
     let part = below_part c.args.keys.now (c.borders.border - 1) c.borders.below.count c.borders.below.sum c.sum_of.result c.requires.keys
     c.sum_of.ensures.sum c.borders.invariant.below in
-    let few = part.few in
-    omega (arith, few, c.requires.few)
-
-pub with_keys-below-requires-clause-sum : goal.with_keys-below-requires-clause-sum
-with_keys-below-requires-clause-sum c =
-    (below_part c.args.keys.now (c.borders.border - 1) c.borders.below.count c.borders.below.sum c.sum_of.result c.requires.keys
-    c.sum_of.ensures.sum c.borders.invariant.below).low
-
-pub with_keys-below-requires-clause-more : goal.with_keys-below-requires-clause-more
-with_keys-below-requires-clause-more c =
-    let at = c.counts_of-counts.ensures (c.borders.border - 1) (omega (arith, c.borders-test.true)) in
-    let few = at_few (c.borders.border - 1) c.args.keys.now in
-    omega (arith, at, few, c.requires.few)
+    record { few = omega (arith, part.few, c.requires.few); low = part.low }
 
 pub parting_within-requires-clause-part : goal.parting_within-requires-clause-part
 parting_within-requires-clause-part c =

@@ -13,25 +13,25 @@ pub overflow_mul-times-in-loop-doubling : goal.overflow_mul-times-in-loop-doubli
 overflow_mul-times-in-loop-doubling c =
     let few = c.loop-doubling.invariant.few in
     let twice : 2 * c.loop-doubling.times ≤ 16384 = omega (arith, few) in
-    let same = c.from.ensures in
-    let small : c.from.result ≤ 65535 = omega (arith, same) in
-    let low = small_product (2 * c.loop-doubling.times) c.from.result twice small in
+    let few_ticks = c.ticks-ticks.ensures.few in
+    let small : c.ticks-ticks.result ≤ 65535 = omega (arith, few_ticks) in
+    let low = small_product (2 * c.loop-doubling.times) c.ticks-ticks.result twice small in
     omega (arith, low)
 
-pub returns-then-times-from-gt-FINEST : goal.returns-then-times-from-gt-FINEST
-returns-then-times-from-gt-FINEST c =
+pub returns-then-times-ticks-gt-FINEST : goal.returns-then-times-ticks-gt-FINEST
+returns-then-times-ticks-gt-FINEST c =
     let enough : 8192 < 2 * c.loop-doubling.times * c.args.division =
-    subst (λ d. 8192 < 2 * c.loop-doubling.times * d) c.from.ensures c.if-times-from-gt-FINEST.true in
+    subst (λ d. 8192 < 2 * c.loop-doubling.times * d) c.ticks-ticks.ensures.is c.if-times-ticks-gt-FINEST.true in
     sym (finer_stop (13 - c.loop-doubling._doubling) c.args.division c.loop-doubling.times enough) ∙ c.loop-doubling.invariant.value
 
 pub loop-doubling-preserved : goal.loop-doubling-preserved
 loop-doubling-preserved c =
     let low : 2 * c.loop-doubling.times * c.args.division ≤ 8192 =
-    subst (λ d. 2 * c.loop-doubling.times * d ≤ 8192) c.from.ensures c.if-times-from-gt-FINEST.false in
+    subst (λ d. 2 * c.loop-doubling.times * d ≤ 8192) c.ticks-ticks.ensures.is c.if-times-ticks-gt-FINEST.false in
     record {
       value = sym (finer_more (13 - c.loop-doubling._doubling) (13 - (c.loop-doubling._doubling + 1)) c.args.division c.loop-doubling.times
           (omega arith) low) ∙ c.loop-doubling.invariant.value;
-      few = times_low c.args.division c.loop-doubling.times c.requires low;
+      few = times_low c.args.division c.loop-doubling.times (omega (arith, c.ticks-ticks.ensures.is, c.ticks-ticks.ensures.some)) low;
     }
 
 pub returns : goal.returns

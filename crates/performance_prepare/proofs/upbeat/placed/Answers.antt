@@ -2,7 +2,8 @@ use Rattle.std.proofs.Common.{rules, ◌≡◌, ◌-◌, ◌*◌, ◌/◌, ◌%�
 use Rattle.rhythm_base.specs.Lists.{least_of}
 use Rattle.performance_load.specs.Take.{Take}
 use Rattle.performance_prepare.specs.Shift.{shifted_take, unless_late}
-use Rattle.performance_prepare.specs.Upbeat.{ticks_of, upbeat_shift}
+use Rattle.performance_prepare.specs.Upbeat.{placed, ticks_of, upbeat_shift}
+use Rattle.performance_prepare.specs.Outcome.{Answers}
 use Rattle.performance_prepare.specs.declared.options.Fraction.{Fraction}
 use Rattle.performance_prepare.proofs.Answered.{placed_answers}
 use Rattle.performance_prepare.proofs.upbeat.placed.Goals as goal
@@ -21,8 +22,9 @@ returns c =
     let whole : (4 * t.division * u.num) % u.den ≡ 0 = subst (λ n. n % u.den
     ≡ 0) over (subst (λ d. (4 * c.from.result * c.from-2.result) % d ≡ 0) den c.if-over-under-ne0.false) in
     let ticks : (4 * c.from.result * c.from-2.result) / c.from-under.result ≡ ticks_of t.division u = λ i. over i / den i in
-    let fits : ticks_of t.division u ≤ c.args.bar = subst (λ n. n ≤ c.args.bar) ticks c.if-bar-ticks.false in
-    let shifted : c.in_ok-shifted.shifted ≡ shifted_take (upbeat_shift c.args.bar (ticks_of t.division u) t) t =
+    let fits : ticks_of t.division u ≤ c.count-bar.result = subst (λ n. n ≤ c.count-bar.result) ticks c.if-bar-ticks.false in
+    let shifted : c.in_ok-shifted.shifted ≡ shifted_take (upbeat_shift c.count-bar.result (ticks_of t.division u) t) t =
     c.in_ok-shifted.ensures
-    ∙ (λ i. shifted_take (record { times = 1; later = (c.args.bar - ticks i) % c.args.bar; earlier = onset i }) t) in
-    placed_answers c.args.bar u t c.unless_late.result whole fits (c.unless_late.ensures ∙ ap unless_late shifted)
+    ∙ (λ i. shifted_take (record { times = 1; later = (c.count-bar.result - ticks i) % c.count-bar.result; earlier = onset i }) t) in
+    subst (λ b. Answers (placed b u t) c.unless_late.result) c.count-bar.ensures.is
+    (placed_answers c.count-bar.result u t c.unless_late.result whole fits (c.unless_late.ensures ∙ ap unless_late shifted))

@@ -8,7 +8,7 @@ use Rattle.performance_prepare.proofs.upbeat.with_upbeat.Goals as goal
 pub returns-in-Some : goal.returns-in-Some
 returns-in-Some c =
     let t : Take = c.args.take in
-    let division : c.take.inside.division ≡ t.division = search rules in
+    let division : c.of.result ≡ t.division = search rules in
     let signatures : c.deref.result.now ≡ t.signatures = search rules in
     let bar : Some c.in-Some.bar ≡ ticks_of_bar t.division (signature_at t.signatures 0) = search rules in
     placed_in_answers (ticks_of_bar t.division (signature_at t.signatures 0)) c.in-Some.bar c.args.upbeat t c.placed.result bar
