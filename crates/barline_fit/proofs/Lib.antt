@@ -3,7 +3,6 @@ pub mod Reaching
 pub mod Settable
 pub mod BestSoFar
 pub mod OneFit
-pub mod OneWritten
 pub mod Tries
 pub mod TriedTicks
 mod Worked

@@ -1,21 +1,17 @@
 -- The laws, each as one statement over the definitions.
-use Rattle.std.specs.Prelude.{◌≡◌, ◌≢◌, ◌↔◌, ℕ, ◌+◌, ◌-◌, ◌*◌, ◌/◌, ◌≤◌, List, All, Contains, length, Result, Ok, Err}
+use Rattle.std.specs.Prelude.{◌≡◌, ◌≢◌, ◌↔◌, ℕ, ◌+◌, ◌-◌, ◌*◌, ◌/◌, ◌≤◌, List, All, Contains, length}
 use Rattle.std.specs.List.Sorted.{IsStrictlyIncreasing}
 use Rattle.barline_fit.specs.Builds.{AreReachedAt}
 use Rattle.barline_fit.specs.Candidates.{candidates}
-use Rattle.barline_fit.specs.Fitted.{IsAcceptedAt, IsFitFault, IsFitted}
-use Rattle.barline_fit.specs.FittedScore.{IsFittedScore, IsWritten}
+use Rattle.barline_fit.specs.Fitted.{IsFitFault, IsFitted}
 use Rattle.barline_fit.specs.declared.fit_fault.FitFault.{FitFault}
 use Rattle.barline_fit.specs.declared.fit_fault.FitFault.TheVariants.{Memory}
 use Rattle.barline_fit.specs.declared.fitted.Fitted.{Fitted}
 use Rattle.rhythm_base.specs.Grammar.{Grammar}
 use Rattle.rhythm_base.specs.Performance.{IsWellFormed, Performance}
 use Rattle.rhythm_base.specs.Readable.{IsReadable}
-use Rattle.edit_script.specs.Replies.{long_score_text, score_text}
-use Rattle.script_laws.specs.Script.{Answers}
 use Rattle.edit_laws.specs.EditOutcomes.{EditOutcome, IsOutcome, made}
 use Rattle.rhythm_base.specs.Voices.{HasDerivation}
-use Rattle.edit_script.specs.declared.command.Command.TheVariants.{Change, Score}
 use Rattle.rhythm_base.specs.declared.edit.Edit.TheVariants.{Barline}
 
 -- a tick is a candidate exactly where whole steps lead to it from the lowest, and it is no later than the highest; they rise, and there
@@ -46,17 +42,3 @@ FittedBarlineIsMade =
     (g : Grammar) (p next : Performance) (bar : ℕ) (ticks : List ℕ) (x : Fitted) (outcome : EditOutcome) → IsReadable g → IsWellFormed p
     → IsFitted g p bar ticks x → IsOutcome g p (Barline bar x.tick) outcome next
     → (reached : ℕ) × (outcome ≡ made reached x.cost) × All (HasDerivation g next) next.channels
-
--- the reply to a line that asks for the score
-abbrev pub score_reply : Result (List ℕ) ℕ → List ℕ
-score_reply (Ok text) = score_text text
-score_reply (Err line) = long_score_text line
-
--- A performance has one score with its barline at an accepted tick. It is that of the same edit in a script: the reply to a line that
--- asks for the score after a line that sets the barline to the tick.
-pub record FittedScoresAreOne : Type 0 where
-  pub one : (g : Grammar) (p : Performance) (bar tick : ℕ) (a b : Result (List ℕ) ℕ) → IsReadable g → IsWellFormed p
-      → IsFittedScore g p bar tick a → IsFittedScore g p bar tick b → a ≡ b
-  pub as_edited : (g : Grammar) (p next last : Performance) (bar tick cost : ℕ) (score : Result (List ℕ) ℕ) (reply said : List ℕ) → IsReadable g → IsWellFormed p
-      → IsAcceptedAt g p bar tick cost → IsFittedScore g p bar tick score → Answers (IsWritten g) g p (Change (Barline bar tick)) reply next
-      → Answers (IsWritten g) g next Score said last → said ≡ score_reply score

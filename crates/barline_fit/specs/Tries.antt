@@ -1,9 +1,8 @@
 -- What is told where ticks are tried for a barline of a session, and which tables are built for them.
-use Rattle.std.specs.Prelude.{◌≡◌, ◌≢◌, ℕ, ◌∷◌, [], List, Option, Result, Err, IsOk}
+use Rattle.std.specs.Prelude.{◌≡◌, ◌≢◌, ℕ, ◌∷◌, [], Option, Result, Err, IsOk}
 use Rattle.barline_fit.specs.Builds.{AreReachedAt, AreWithinReach}
 use Rattle.barline_fit.specs.Candidates.{ticks_of}
 use Rattle.barline_fit.specs.Fitted.{IsAcceptedAt, IsFitFault, IsFitted, IsTriedAt}
-use Rattle.barline_fit.specs.FittedScore.{IsFittedScore}
 use Rattle.barline_fit.specs.declared.candidates.Candidate.{Candidate}
 use Rattle.barline_fit.specs.declared.candidates.Candidates.{Candidates}
 use Rattle.barline_fit.specs.declared.fit_fault.FitFault.{FitFault}
@@ -27,10 +26,6 @@ IsAllowed s c = IsOk (edited s.performance (Barline c.bar c.tick))
 -- what the performance of the session costs with the barline there, where it can be set
 abbrev pub IsCostAt : Session → Candidate → Option ℕ → Type 0
 IsCostAt s c cost = IsTriedAt s.grammar s.performance c.bar c.tick cost
-
--- what is written of the session with the barline there
-abbrev pub IsScoreAt : Session → Candidate → Result (List ℕ) ℕ → Type 0
-IsScoreAt s c score = IsFittedScore s.grammar s.performance c.bar c.tick score
 
 -- a table is built for each cell that the barline reaches there
 abbrev pub HasReached : Session → Candidate → ℕ → ℕ → Type 0

@@ -1,7 +1,6 @@
 ghost use Rattle.barline_fit.specs.Laws.{
   CandidatesAreSteps,
   FittedBarlineIsMade,
-  FittedScoresAreOne,
   FittedTicksAreOne,
   ReachedSumsAreOne,
 };
@@ -24,9 +23,4 @@ pub fn reached_sums_are_one()
 /// The edit that sets the barline to the fitted tick is made, and costs what was told.
 pub fn a_fitted_barline_is_made()
     ensures { FittedBarlineIsMade }
-{}
-
-/// There is one score with the barline at the fitted tick, and it is that of the same edit in a script.
-pub fn fitted_scores_are_one()
-    ensures { FittedScoresAreOne }
 {}

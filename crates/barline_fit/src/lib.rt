@@ -1,5 +1,5 @@
-//! A fitted barline: of several ticks for one barline the one of least total cost, and the score with the barline there. The session
-//! on which the ticks are tried is afterwards as it was.
+//! A fitted barline: of several ticks for one barline the one of least total cost. The session on which the ticks are tried is afterwards
+//! as it was.
 #![tactic(auto)]
 
 mod candidates;
@@ -7,7 +7,6 @@ mod fit;
 mod fit_fault;
 mod fitted;
 mod laws;
-mod score;
 mod trying;
 
 pub use candidates::{Candidate, Candidates, MOST_CANDIDATES};
@@ -15,8 +14,5 @@ pub use fit::best_barline;
 pub use fit_fault::FitFault;
 pub use fitted::Fitted;
 pub use laws::{
-    a_fitted_barline_is_made, candidates_are_steps, fitted_scores_are_one, fitted_ticks_are_one,
-    reached_sums_are_one,
+    a_fitted_barline_is_made, candidates_are_steps, fitted_ticks_are_one, reached_sums_are_one,
 };
-pub use score::fitted_score;
-pub use session_text::ScoreFault;

@@ -5,10 +5,10 @@ use Rattle.std.specs.Cmp.Lexicographic.{nat_list_cmp_total}
 use Rattle.std.specs.Ordering.{is_lt}
 use Rattle.std.proofs.lemmas.Bool.{eqb-false, eqb-true, false≢true, true≢false}
 use Rattle.std.proofs.lemmas.List.{take-take}
-use Rattle.rhythm_base.specs.Lists.{list_with}
+use Rattle.rhythm_base.specs.Lists.{earlier, list_with}
 use Rattle.rhythm_base.proofs.FirstLists.{contains_split}
 use Rattle.rhythm_base.proofs.TotalOrders.{before_above, itself}
-use Rattle.rhythm_base.proofs.OrderedLists.{earlier, goes_through, other_way, pairs_head, pairs_tail}
+use Rattle.rhythm_base.proofs.OrderedLists.{goes_through, other_way, pairs_head, pairs_tail}
 use Rattle.barline_follow.specs.Least.{AreFirstLeast}
 use Rattle.barline_follow.proofs.ApartTicks.{AreApart, apart_take, kept_apart, keeps_itself, pairs_take}
 use Rattle.barline_follow.proofs.CostLemmas.{less_cost, not_less_cost}

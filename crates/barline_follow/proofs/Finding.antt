@@ -6,7 +6,8 @@ use Rattle.std.proofs.Math.Nat.{mul-le-mul_right}
 use Rattle.std.proofs.lemmas.Bool.{cases_lt, false≢true, true≢false}
 use Rattle.std.proofs.lemmas.List.{length-append}
 use Rattle.std.proofs.lemmas.List.Elements.{All-append, All-nil}
-use Rattle.bar_pool.specs.Pool.{AreTablesOf}
+use Rattle.bar_pool.specs.Costs.{AreAllCosts}
+use Rattle.bar_pool.specs.Pool.{IsTableOf}
 use Rattle.chain_bars.specs.Laws.{matrices}
 use Rattle.chain_bars.specs.Tower.{cost_of}
 use Rattle.chain_bars.proofs.Voices.{tables_long}
@@ -15,6 +16,7 @@ use Rattle.edit_session.proofs.PathCosts.{least_cheap, cheap}
 use Rattle.rhythm_base.specs.declared.chord.Chord.{Chord}
 use Rattle.rhythm_base.specs.declared.limits.TheConstants.{DEAREST_CELL, LATEST_TICK}
 use Rattle.rhythm_base.specs.declared.note.Bar.{Bar}
+use Rattle.least_cost.specs.declared.costs.BarCosts.{BarCosts}
 use Rattle.rhythm_base.specs.BarTables.{BarTable}
 use Rattle.edit_laws.specs.Edits.{is_past, next_bar, with_start}
 use Rattle.rhythm_base.specs.Grammar.{Grammar, root_of}
@@ -31,8 +33,9 @@ use Rattle.barline_follow.specs.declared.next_bar.NextBar.{NextBar}
 use Rattle.barline_follow.specs.declared.offers.Offer.{Offer}
 use Rattle.barline_follow.specs.Bars.{bars_on, is_closed, pattern_of, with_barlines}
 use Rattle.barline_follow.specs.Barring.{Course, barring_end}
-use Rattle.barline_follow.specs.Costs.{AreLowHeads, head_cost_at, costs_with, total}
-use Rattle.barline_follow.specs.NextBars.{IsNextBar, IsCourseOf, IsTried, cells}
+use Rattle.barline_follow.specs.Costs.{AreLowHeads, costs_with_bar, costs_with, head_cost_at, total}
+use Rattle.barline_follow.specs.NextBars.{IsNextBar, IsCourseOf, IsTried, asked_cell, asked_cells}
+use Rattle.barline_follow.proofs.BarCosts.{asked_enough}
 use Rattle.barline_follow.specs.Rounds.{Draft, IsOpenAt, IsFound, IsWholeAt, at_cost, going, lost, whole, with_bar}
 use Rattle.barline_follow.specs.Courses.{AreHeads, bars_of, cell}
 use Rattle.barline_follow.proofs.CostLemmas.{cost_key}
@@ -94,8 +97,8 @@ all_low g p ticks (v ∷ voices) (x ∷ heads) few h = all_cons AreLowHeads x he
 abbrev costs_of : Heads → List (Option ℕ)
 costs_of h = h.costs
 
-abbrev longer_costs : Heads × BarTable → List (Option ℕ)
-longer_costs pair = costs_with pair.0.costs pair.1.matrix
+abbrev longer_costs : Heads × BarCosts → List (Option ℕ)
+longer_costs pair = costs_with_bar pair.0.costs pair.1.costs
 
 module _ (next : NextBar) (n : IsNextBar next) (t : Course) (is : IsCourseOf next next.number t) (o : Offer) (tried : IsTried next (barring_end t.barring) o) where
   abbrev g : Grammar
@@ -141,24 +144,27 @@ module _ (next : NextBar) (n : IsNextBar next) (t : Course) (is : IsCourseOf nex
       (All-append Rooted (bars_on p 0 ticks) (with_start (barring_end t.barring) next.like ∷ []) is.starts
       (all_cons Rooted (with_start (barring_end t.barring) next.like) [] (n.rooted tried.rooted) (All-nil Rooted)))
 
-  all_heads : (voices : List (List Chord)) (before : List Heads) (tables : List BarTable) (after : List Heads) → Each (AreHeads g p ticks) voices before
-      → AreTablesOf g (map (cell g next.like (barring_end t.barring) x) voices) tables → map costs_of after ≡ map longer_costs (zip before tables)
+  all_heads : (voices : List (List Chord)) (before : List Heads) (bars : List BarCosts) (after : List Heads) → Each (AreHeads g p ticks) voices before
+      → AreAllCosts g (map (asked_cell next (barring_end t.barring) x) (zip voices before)) bars → map costs_of after ≡ map longer_costs (zip before bars)
       → Each (AreHeads g p longer) voices after
-  all_heads [] [] tables [] h k are = refl
-  all_heads [] [] tables (a ∷ after) h k are = absurd (cc)
-  all_heads [] (b ∷ before) tables after h k are = absurd (cc)
-  all_heads (v ∷ voices) [] tables after h k are = absurd h
+  all_heads [] [] bars [] h k are = refl
+  all_heads [] [] bars (a ∷ after) h k are = absurd (cc)
+  all_heads [] (b ∷ before) bars after h k are = absurd (cc)
+  all_heads (v ∷ voices) [] bars after h k are = absurd h
   all_heads (v ∷ voices) (b ∷ before) [] after h k are = absurd k
-  all_heads (v ∷ voices) (b ∷ before) (y ∷ tables) [] h k are = absurd (cc)
-  all_heads (v ∷ voices) (b ∷ before) (y ∷ tables) (a ∷ after) h k are =
-      let own : a.costs ≡ costs_with b.costs y.matrix = cc in
-      let rest : map costs_of after ≡ map longer_costs (zip before tables) = cc in
-      (heads_more g p ticks next.like x some like_is v b a y h.0 k.0 own, all_heads voices before tables after h.1 k.1 rest)
+  all_heads (v ∷ voices) (b ∷ before) (y ∷ bars) [] h k are = absurd (cc)
+  all_heads (v ∷ voices) (b ∷ before) (y ∷ bars) (a ∷ after) h k are =
+      let own : a.costs ≡ costs_with_bar b.costs y.costs = cc in
+      let rest : map costs_of after ≡ map longer_costs (zip before bars) = cc in
+      let table : BarTable = k.0.table in
+      let is_table : IsTableOf g (cell g next.like (barring_end t.barring) x v) table = record { is = k.0.is; of_input = k.0.of_input } in
+      let whole : a.costs ≡ costs_with b.costs table.matrix = own ∙ ap (costs_with_bar b.costs) k.0.costs_are ∙ asked_enough b.costs table.matrix in
+      (heads_more g p ticks next.like x some like_is v b a table h.0 is_table whole, all_heads voices before bars after h.1 k.1 rest)
 
-  module _ (tables : List BarTable) (heads : List Heads) (are_tables : AreTablesOf g (cells next (barring_end t.barring) o) tables)
-      (are : map costs_of heads ≡ map longer_costs (zip t.heads tables)) where
+  module _ (bars : List BarCosts) (heads : List Heads) (are_costs : AreAllCosts g (asked_cells next t o) bars)
+      (are : map costs_of heads ≡ map longer_costs (zip t.heads bars)) where
     are_heads : Each (AreHeads g p longer) next.voices.now heads
-    are_heads = all_heads next.voices.now t.heads tables heads is.heads are_tables are
+    are_heads = all_heads next.voices.now t.heads bars heads is.heads are_costs are
 
     pub longer_low : All AreLowHeads heads
     longer_low = all_low g p longer next.voices.now heads longer_few are_heads

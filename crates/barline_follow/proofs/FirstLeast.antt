@@ -8,9 +8,9 @@ use Rattle.std.proofs.lemmas.Bool.{cases_eq, cases_lt, eq-eqb, ne_eqb}
 use Rattle.std.proofs.lemmas.List.Elements.{Contains-append_cases, Contains-append_left, Contains-append_right, filter_passes}
 use Rattle.std.proofs.lemmas.List.{length_push}
 use Rattle.std.proofs.lemmas.List.Kept.{AllPairs-filter}
-use Rattle.rhythm_base.specs.Lists.{list_with}
+use Rattle.rhythm_base.specs.Lists.{earlier, list_with}
 use Rattle.rhythm_base.proofs.FirstLists.{contains_split}
-use Rattle.rhythm_base.proofs.OrderedLists.{earlier, put_in_order}
+use Rattle.rhythm_base.proofs.OrderedLists.{put_in_order}
 use Rattle.barline_follow.specs.Least.{AreFirstLeast, IsFirstLeast}
 
 -- ---- members

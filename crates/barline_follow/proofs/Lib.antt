@@ -1,3 +1,4 @@
+pub mod BarCosts
 pub mod CostLemmas
 pub mod Totals
 pub mod LongerBars

@@ -3,6 +3,10 @@ use Rattle.std.specs.Prelude.{◌≡◌, ◌≢◌, ℕ, ◌+◌, ◌*◌, ◌<�
 use Rattle.std.specs.List.{flat_map, list_any, zip}
 use Rattle.barline_follow.specs.declared.next_bar.NextBar.{NextBar}
 use Rattle.barline_follow.specs.declared.offers.Offer.{Offer}
+use Rattle.barline_follow.specs.declared.heads.Heads.{Heads}
+use Rattle.bar_pool.specs.declared.order.AskedCell.{AskedCell}
+use Rattle.rhythm_base.specs.declared.chord.Chord.{Chord}
+use Rattle.barline_follow.specs.Costs.{asked_after}
 use Rattle.rhythm_base.specs.declared.limits.TheConstants.{LATEST_TICK, MOST_BARS}
 use Rattle.rhythm_base.specs.BarInput.{BarInput}
 use Rattle.edit_laws.specs.Edits.{is_past}
@@ -58,6 +62,19 @@ cells next start o = map (cell next.grammar.now next.like start (start + o.ticks
 -- the inputs of all bars that are tried, of each list of the front in its order
 abbrev pub all_cells : NextBar → List Course → List (List Offer) → List BarInput
 all_cells next front tried = flat_map (λ pair. flat_map (cells next (barring_end pair.0.barring)) pair.1) (zip front tried)
+
+-- the cell of a voice, of which the costs are asked for by what its list costs up to there
+abbrev pub asked_cell : NextBar → ℕ → ℕ → List Chord × Heads → AskedCell
+asked_cell next start end own = record { input = cell next.grammar.now next.like start end own.0; asked = asked_after own.1.costs }
+
+-- the cell of the bar of each voice after a list
+abbrev pub asked_cells : NextBar → Course → Offer → List AskedCell
+asked_cells next course o =
+    map (asked_cell next (barring_end course.barring) (barring_end course.barring + o.ticks)) (zip next.voices.now course.heads)
+
+-- the cells of all bars that are tried, of each list of the front in its order
+abbrev pub all_asked : NextBar → List Course → List (List Offer) → List AskedCell
+all_asked next front tried = flat_map (λ pair. flat_map (asked_cells next pair.0) pair.1) (zip front tried)
 
 -- ---- the round of it
 

@@ -30,7 +30,7 @@ module _ (g : Grammar) (p : Performance) where
   tried_bars i (b ∷ front) [] = 0
   tried_bars i (b ∷ front) (own ∷ offers) = length (filter (is_tried i b) own) + tried_bars i front offers
 
-  -- round i builds a table for each voice and each bar that is tried after a list of the front
+  -- round i builds a table, or its costs alone, for each voice and each bar that is tried after a list of the front
   pub record AreBuiltInRound (i : ℕ) (front : List Barring) (tables : ℕ) : Type 0 where
     pub offers : List (List Offer)
     pub are_offers : Each (λ b own. AreOffers g p i (last_length b.ticks) own) front offers

@@ -1,6 +1,6 @@
 ghost use Rattle.bar_cut.specs.Cuts.{AreBarsAndChords, inputs};
 ghost use Rattle.barline_follow.specs.Barring.{barring_end};
-ghost use Rattle.barline_follow.specs.NextBars.{IsNextBar, IsTried, all_cells, cells};
+ghost use Rattle.barline_follow.specs.NextBars.{IsCourseOf, IsNextBar, IsTried, all_asked, asked_cells};
 ghost use Rattle.barline_follow.specs.Sounded.{AreSounded};
 ghost use Rattle.rhythm_base.specs.BarInput as inputs_of_bars;
 ghost use Rattle.rhythm_base.specs.Cells.{input};
@@ -15,9 +15,11 @@ ghost use Rattle.std.specs.List.{flat_map};
 ghost use Rattle.std.specs.Prelude.{◌≡◌, ◌≤◌, ◌<◌, ◌++◌, List, [], ◌∷◌, All, IfOk, OnOk, map};
 
 use crate::barring::Course;
+use crate::costs::asked_after;
 use crate::next_bar::NextBar;
 use crate::offers::Offer;
 use bar_cut::sections;
+use bar_pool::AskedCell;
 use rhythm_base::{Bar, BarInput, Chord, Grammar, Pin};
 use std::alloc::{AllocError, Global};
 
@@ -79,59 +81,65 @@ fn cell_input(
     }
 }
 
-/// Appends the input of a bar of each voice, after a barline.
+/// Appends the cell of a bar of each voice, after a list, with what is asked of it.
 fn push_cells(
     alloc: Global,
     next: &NextBar,
-    start: u64,
+    course: &Course,
     offer: Offer,
-    inputs: &mut Vec<BarInput>,
+    cells: &mut Vec<AskedCell>,
 ) -> Result<(), AllocError>
     requires next { IsNextBar next.now }
-    requires tried { IsTried next.now start offer }
-    ensures { OnOk result (inputs.new.items ≡ inputs.old.items ++ cells next.now start offer) }
+    requires tried { IsTried next.now (barring_end course.now.barring) offer }
+    ensures { OnOk result (cells.new.items ≡ cells.old.items ++ asked_cells next.now course.now offer) }
 {
+    let start = course.barring().end();
     let end = start + offer.ticks;
     let bar = Bar { start, ..next.like };
-    'voices: for voice in next.voices {
-        inputs.push(cell_input(alloc, next.grammar, voice.chords(), bar, end)?)?;
+    let heads = course.heads();
+    let count = next.voices.len().min(heads.len());
+    'voices: for voice in 0..count {
+        let chords = next.voices[voice].chords();
+        let input = cell_input(alloc, next.grammar, chords, bar, end)?;
+        let asked = asked_after(&heads[voice]);
+        cells.push(AskedCell { input, asked })?;
     }
     Ok(())
 }
 
-/// Appends the inputs of the bars that are tried after a barline.
+/// Appends the cells of the bars that are tried after a list.
 fn push_tried(
     alloc: Global,
     next: &NextBar,
-    start: u64,
+    course: &Course,
     tried: &[Offer],
-    inputs: &mut Vec<BarInput>,
+    cells: &mut Vec<AskedCell>,
 ) -> Result<(), AllocError>
     requires next { IsNextBar next.now }
-    requires tried { All (IsTried next.now start) tried.now }
-    ensures { OnOk result (inputs.new.items ≡ inputs.old.items ++ flat_map (cells next.now start) tried.now) }
+    requires tried { All (IsTried next.now (barring_end course.now.barring)) tried.now }
+    ensures { OnOk result (cells.new.items ≡ cells.old.items ++ flat_map (asked_cells next.now course.now) tried.now) }
 {
     'offers: for offer in tried {
-        push_cells(alloc, next, start, *offer, inputs)?;
+        push_cells(alloc, next, course, *offer, cells)?;
     }
     Ok(())
 }
 
-/// The inputs of all bars that are tried in a round.
-pub fn round_inputs(
+/// The cells of all bars that are tried in a round.
+pub fn round_cells(
     alloc: Global,
     next: &NextBar,
     front: &[Course],
     tried: &[Vec<Offer>],
-) -> Result<Vec<BarInput>, AllocError>
+) -> Result<Vec<AskedCell>, AllocError>
     requires next { IsNextBar next.now }
     requires tried { Each (λ t own. All (IsTried next.now (barring_end t.barring)) own) front.now (map (λ own. own.items) tried.now) }
-    ensures { IfOk result (λ v. v.items ≡ all_cells next.now front.now (map (λ own. own.items) tried.now)) }
+    ensures { IfOk result (λ v. v.items ≡ all_asked next.now front.now (map (λ own. own.items) tried.now)) }
 {
-    let mut inputs = Vec::new(alloc);
+    let mut cells = Vec::new(alloc);
     'lists: for place in 0..front.len().min(tried.len()) {
-        let start = front[place].barring().end();
-        push_tried(alloc, next, start, tried[place].as_slice(), &mut inputs)?;
+        let course = &front[place];
+        push_tried(alloc, next, course, tried[place].as_slice(), &mut cells)?;
     }
-    Ok(inputs)
+    Ok(cells)
 }

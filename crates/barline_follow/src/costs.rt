@@ -1,11 +1,8 @@
 ghost use Rattle.barline_follow.specs.Costs as costs;
-ghost use Rattle.chain_bars.specs.Tower.{best_cost};
-ghost use Rattle.rhythm_base.specs.Ranked.{at};
 ghost use Rattle.std.specs.Prelude.{◌≡◌, ◌<◌, ◌≤◌, ◌^◌, ℕ, All, Some, length};
 
 use crate::heads::Heads;
-use carry_matrix::CarryMatrix;
-use rhythm_base::Best;
+use least_cost::BarCosts;
 
 /// The lower of two costs, where there are any.
 fn lower(one: Option<u64>, other: Option<u64>) -> Option<u64>
@@ -30,40 +27,46 @@ fn sum(one: Option<u64>, other: Option<u64>) -> Option<u64>
     }
 }
 
-/// The cost of an entry, where it is there.
-fn cost_of(entry: Option<Best>) -> Option<u64>
-    ensures { result ≡ best_cost entry }
-{
-    match entry {
-        Some(best) => Some(best.cost),
-        None => None,
-    }
-}
-
 /// The least cost with a bar more, where so many chords leave it.
-fn least_to(heads: &Heads, matrix: &CarryMatrix, to: u8) -> Option<u64>
+fn least_to(heads: &Heads, bar: &BarCosts, to: usize) -> Option<u64>
     requires few { to < 5 }
     requires low { costs.AreLowHeads heads.now }
-    ensures { result ≡ costs.least_of_five (λ from. costs.sum (costs.head_cost_at heads.now.costs from) (best_cost (at matrix.now from to))) }
+    requires low_bar { costs.AreLowCosts bar.now.costs }
+    ensures { result ≡ costs.least_of_five (λ from. costs.sum (costs.head_cost_at heads.now.costs from) (costs.bar_cost_at bar.now.costs from to)) }
 {
     let mut least = None;
-    'counts: for from in 0..5u8 {
-        let own = sum(heads.costs[from as usize], cost_of(matrix.get(from, to)));
+    'counts: for from in 0..5usize {
+        let own = sum(heads.costs[from], bar.costs[from][to]);
         least = lower(least, own);
     }
     least
 }
 
-/// The costs with a bar more, of this table.
-pub fn with_bar(heads: &Heads, matrix: &CarryMatrix) -> Heads
-    requires low { costs.AreLowHeads heads.now }
-    ensures { result.costs ≡ costs.costs_with heads.now.costs matrix.now }
+/// The numbers of chords that may enter a bar after these costs.
+pub fn asked_after(heads: &Heads) -> [bool; 5]
+    ensures { result ≡ costs.asked_after heads.now.costs }
 {
-    let first = least_to(heads, matrix, 0);
-    let second = least_to(heads, matrix, 1);
-    let third = least_to(heads, matrix, 2);
-    let fourth = least_to(heads, matrix, 3);
-    let fifth = least_to(heads, matrix, 4);
+    let costs = &heads.costs;
+    [
+        costs[0].is_some(),
+        costs[1].is_some(),
+        costs[2].is_some(),
+        costs[3].is_some(),
+        costs[4].is_some(),
+    ]
+}
+
+/// The costs with a bar of these costs more.
+pub fn with_bar(heads: &Heads, bar: &BarCosts) -> Heads
+    requires low { costs.AreLowHeads heads.now }
+    requires low_bar { costs.AreLowCosts bar.now.costs }
+    ensures { result.costs ≡ costs.costs_with_bar heads.now.costs bar.now.costs }
+{
+    let first = least_to(heads, bar, 0);
+    let second = least_to(heads, bar, 1);
+    let third = least_to(heads, bar, 2);
+    let fourth = least_to(heads, bar, 3);
+    let fifth = least_to(heads, bar, 4);
     Heads {
         costs: [first, second, third, fourth, fifth],
     }

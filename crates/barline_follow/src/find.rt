@@ -1,11 +1,10 @@
-ghost use Rattle.bar_pool.specs.Pool.{IsTableOf};
+ghost use Rattle.bar_pool.specs.Costs.{AreAllCosts};
 ghost use Rattle.barline_follow.specs.Barring.{barring_end};
-ghost use Rattle.barline_follow.specs.Costs.{AreLowHeads, costs_with};
+ghost use Rattle.barline_follow.specs.Costs.{AreLowCosts, AreLowHeads, costs_with_bar};
 ghost use Rattle.barline_follow.specs.Gathered.{found_of, going_in};
-ghost use Rattle.barline_follow.specs.NextBars.{IsNextBar, IsCourseOf, IsTried, cells};
+ghost use Rattle.barline_follow.specs.NextBars.{IsNextBar, IsCourseOf, IsTried, asked_cells};
 ghost use Rattle.barline_follow.specs.Rounds.{IsFound, at_cost, with_bar};
 ghost use Rattle.barline_follow.specs.declared.heads.Heads.{Heads};
-ghost use Rattle.rhythm_base.specs.Lists.{Each};
 ghost use Rattle.rhythm_base.specs.declared.limits.TheConstants.{LATEST_TICK};
 ghost use Rattle.std.specs.List.{zip};
 ghost use Rattle.std.specs.Prelude.{◌≡◌, ◌+◌, ◌<◌, ◌≤◌, ◌^◌, All, IfOk, map};
@@ -16,18 +15,19 @@ use crate::heads::Heads;
 use crate::next_bar::NextBar;
 use crate::offers::Offer;
 use crate::round::Outcome;
-use least_cost::BarTable;
+use least_cost::BarCosts;
 use std::alloc::{AllocError, Global};
 
-/// The heads of each voice with a bar more, of these tables.
-fn heads_with(alloc: Global, heads: &[Heads], tables: &[BarTable]) -> Result<Vec<Heads>, AllocError>
-    requires { All AreLowHeads heads.now }
-    ensures { IfOk result (λ v. map (λ h. h.costs) v.items ≡ map (λ pair. costs_with pair.0.costs pair.1.matrix) (zip heads.now tables.now)) }
+/// The heads of each voice with a bar more, of these costs.
+fn heads_with(alloc: Global, heads: &[Heads], costs: &[BarCosts]) -> Result<Vec<Heads>, AllocError>
+    requires low { All AreLowHeads heads.now }
+    requires low_bars { All (λ bar. AreLowCosts bar.costs) costs.now }
+    ensures { IfOk result (λ v. map (λ h. h.costs) v.items ≡ map (λ pair. costs_with_bar pair.0.costs pair.1.costs) (zip heads.now costs.now)) }
 {
-    let count = heads.len().min(tables.len());
+    let count = heads.len().min(costs.len());
     let mut longer = Vec::with_capacity(alloc, count)?;
     'voices: for voice in 0..count {
-        longer.push(with_bar(&heads[voice], tables[voice].matrix()))?;
+        longer.push(with_bar(&heads[voice], &costs[voice]))?;
     }
     Ok(longer)
 }
@@ -43,22 +43,22 @@ fn longer(alloc: Global, barring: &Barring, offer: Offer, cost: u64) -> Result<B
     Ok(Barring::of(ticks, barring.prices() + offer.price, cost))
 }
 
-/// What a list of the front comes to with a bar more, by the tables of this bar.
+/// What a list of the front comes to with a bar more, by the costs of this bar.
 pub fn find(
     alloc: Global,
     next: &NextBar,
     course: &Course,
     offer: Offer,
-    tables: &[BarTable],
+    costs: &[BarCosts],
 ) -> Result<Outcome, AllocError>
     requires next { IsNextBar next.now }
     requires course { IsCourseOf next.now next.now.number course.now }
     requires tried { IsTried next.now (barring_end course.now.barring) offer }
-    requires tables { Each (IsTableOf next.now.grammar.now) (cells next.now (barring_end course.now.barring) offer) tables.now }
+    requires costs { AreAllCosts next.now.grammar.now (asked_cells next.now course.now offer) costs.now }
     ensures found { IfOk result (λ o. IsFound next.now.grammar.now next.now.performance.now (with_bar course.now.barring offer) (found_of o)) }
     ensures going { IfOk result (λ o. All (IsCourseOf next.now (next.now.number + 1)) (going_in o)) }
 {
-    let heads = heads_with(alloc, course.heads(), tables)?;
+    let heads = heads_with(alloc, course.heads(), costs)?;
     let is_closed = next.closing <= course.barring().end() + offer.ticks;
     let Some(cost) = total(is_closed, heads.as_slice()) else {
         return Ok(Outcome::Lost);

@@ -5,7 +5,7 @@ ghost use Rattle.std.specs.List.{list_any};
 ghost use Rattle.std.specs.Prelude.{◌≡◌, ◌<◌, ◌^◌, All, Some, nat_le, not, ℕ};
 
 use crate::voice::Voice;
-use rhythm_base::{Bar, Grammar, Note, Performance};
+use rhythm_base::{Bar, Grammar, Note, Notes, Performance};
 
 /// The bar that lists get in a round.
 #[derive(Clone, Copy)]
@@ -33,14 +33,26 @@ pub fn bar_like(performance: &Performance, number: usize) -> Bar
     bars[number.min(bars.len() - 1)]
 }
 
-/// The first tick from which on no note begins, and no note ends later.
-pub fn closing_tick(notes: &[Note]) -> u64
+/// The first tick from which on no note of a block begins, and none ends later.
+fn closing_within(notes: &[Note]) -> u64
     requires { All (λ n. n.onset < 2 ^ 63) notes.now }
     ensures { (end : ℕ) → not (list_any (is_past end) notes.now) ≡ nat_le result end }
 {
     let mut tick = 0;
     'notes: for note in notes {
         tick = tick.max(note.onset + 1).max(note.end);
+    }
+    tick
+}
+
+/// The first tick from which on no note begins, and no note ends later.
+pub fn closing_tick(notes: &Notes) -> u64
+    requires { All (λ n. n.onset < 2 ^ 63) notes.now }
+    ensures { (end : ℕ) → not (list_any (is_past end) notes.now) ≡ nat_le result end }
+{
+    let mut tick = 0;
+    'blocks: for block in notes.blocks() {
+        tick = tick.max(closing_within(block.notes()));
     }
     tick
 }

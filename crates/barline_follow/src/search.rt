@@ -1,5 +1,4 @@
 ghost use Rattle.bar_pool.specs.Pool.{RisesWithin};
-ghost use Rattle.bar_pool.specs.declared.limits.TheConstants.{MOST_WORKERS};
 ghost use Rattle.barline_follow.specs.Builds.{most_lists, most_tables};
 ghost use Rattle.barline_follow.specs.NextBars.{AreBuiltInRoundOf, IsCourseOf, IsNextBar, IsRoundOf};
 ghost use Rattle.barline_follow.specs.Rounds.{IsBest};
@@ -11,14 +10,14 @@ ghost use Rattle.rhythm_base.specs.Readable.{IsReadable};
 ghost use Rattle.std.specs.Prelude.{◌≡◌, ◌+◌, ◌*◌, ◌≤◌, [], ◌∷◌, All, IfOk, OnOk, length};
 
 use crate::barring::{Barring, Course};
-use crate::cells::round_inputs;
+use crate::cells::round_cells;
 use crate::gather::gather;
 use crate::heads::Heads;
 use crate::next_bar::{NextBar, bar_like, closing_tick};
 use crate::tried::front_tried;
 use crate::voice::voices_of;
 use bar_cut::check_starts;
-use bar_pool::{Order, Rooms, build_cells};
+use bar_pool::{CostOrder, Rooms, build_all_costs};
 use grammar_plan::Plan;
 use least_cost::Steps as Builds;
 use rhythm_base::{Grammar, Performance, Tag};
@@ -26,7 +25,7 @@ use rhythm_ports::{Gate, Means};
 use std::alloc::{AllocError, Global};
 use std::thread::Threads;
 
-/// By which plan and by up to how many workers tables are built.
+/// By which plan and by up to how many workers cells are built.
 #[derive(Drop)]
 struct Crew<'a> {
     plan: &'a Plan,
@@ -65,8 +64,6 @@ fn next_round<R: Threads + Sync, G: Gate + Sync, B: Tag>(
     requires front { All (IsCourseOf next.now next.now.number) front.now }
     requires few_lists { length front.now ≤ most_lists next.now.number }
     requires plan { IsPlan next.now.grammar.now crew.now.plan.now }
-    requires some_worker { 1 ≤ crew.now.workers }
-    requires few_workers { crew.now.workers ≤ MOST_WORKERS }
     ensures round { IfOk result (λ r. IsRoundOf next.now front.now best r.0.items r.1) }
     ensures courses { IfOk result (λ r. All (IsCourseOf next.now (next.now.number + 1)) r.0.items) }
     ensures lists { IfOk result (λ r. length r.0.items ≤ 24) }
@@ -75,20 +72,20 @@ fn next_round<R: Threads + Sync, G: Gate + Sync, B: Tag>(
 {
     let all = front_tried(means.alloc, next, front)?;
     let tried = all.as_slice();
-    let cells = round_inputs(means.alloc, next, front, tried)?;
-    let inputs = cells.as_slice();
-    let order = Order {
+    let asked = round_cells(means.alloc, next, front, tried)?;
+    let cells = asked.as_slice();
+    let order = CostOrder {
         grammar: next.grammar,
         plan: crew.plan,
-        inputs,
+        cells,
     };
-    let tables = build_cells(means, &order, crew.workers, rooms, builds)?;
-    let round = gather(means.alloc, next, front, tried, tables.as_slice(), best)?;
+    let costs = build_all_costs(means, &order, crew.workers, rooms, builds)?;
+    let round = gather(means.alloc, next, front, tried, costs.as_slice(), best)?;
     Ok(round.close())
 }
 
-/// The best barlines for a performance by a grammar; none where no list is whole. All tables of a round are built by up to so many
-/// workers, 1 to 16, each once.
+/// The best barlines for a performance by a grammar; none where no list is whole. All cells of a round are built by up to so many
+/// workers, one at least, each once, and only their costs.
 pub fn best_barlines<R: Threads + Sync, G: Gate + Sync, B: Tag>(
     means: &Means<'_, R, G>,
     grammar: &Grammar,
@@ -96,8 +93,6 @@ pub fn best_barlines<R: Threads + Sync, G: Gate + Sync, B: Tag>(
     workers: u32,
     builds: &mut Builds<B>,
 ) -> Result<Option<Barring>, AllocError>
-    requires some_worker { 1 ≤ workers }
-    requires few_workers { workers ≤ MOST_WORKERS }
     requires readable { IsReadable grammar.now }
     ensures best { IfOk result (λ best. IsBest grammar.now performance.now best) }
     ensures builds { OnOk result (RisesBy builds.old builds.new (AreBuiltInSearch grammar.now performance.now)) }

@@ -1,14 +1,14 @@
 ghost use Rattle.barline_follow.specs.Sounded.{AreSounded};
-ghost use Rattle.rhythm_base.specs.Lists.{AreInOrder, Each};
-ghost use Rattle.rhythm_base.specs.Performance.{IsWellFormed, place_of_note};
+ghost use Rattle.rhythm_base.specs.Lists.{Each};
+ghost use Rattle.rhythm_base.specs.Performance.{IsWellFormed};
 ghost use Rattle.rhythm_base.specs.Voices.{AreChordsOf};
-ghost use Rattle.std.specs.Prelude.{◌≡◌, ◌==◌, IfOk, filter};
+ghost use Rattle.std.specs.Prelude.{◌≡◌, IfOk};
 
-use rhythm_base::{Chord, Grammar, Note, Performance};
+use rhythm_base::{Chord, Grammar, Performance};
 use std::alloc::{AllocError, Global};
 use std::marker::Model;
 use tempo_map::TempoMap;
-use voices::chords_of;
+use voices::{chords_of, notes_of_voice};
 
 /// The chords of a voice.
 #[derive(Drop)]
@@ -46,17 +46,6 @@ impl Voice {
     }
 }
 
-/// The notes of the voice of a channel.
-fn voice_notes(notes: &[Note], channel: u8) -> &[Note]
-    requires { AreInOrder place_of_note notes.now }
-    ensures { result.now ≡ filter (λ n. n.channel == channel) notes.now }
-{
-    let first = notes.partition_point(|note| note.channel < channel);
-    let (_before, later) = notes.split_at(first);
-    let count = later.partition_point(|note| note.channel <= channel);
-    &later[..count]
-}
-
 /// The voice of a channel.
 fn voice_of(
     alloc: Global,
@@ -68,9 +57,9 @@ fn voice_of(
     requires { tempo_map.now.tempos ≡ performance.now.tempos }
     ensures { IfOk result (λ v. AreChordsOf grammar.now performance.now channel v) }
 {
-    let notes = voice_notes(performance.notes(), channel);
+    let notes = notes_of_voice(alloc, performance.notes(), channel)?;
     let division = performance.division();
-    let chords = chords_of(alloc, notes, tempo_map, division, grammar.window)?;
+    let chords = chords_of(alloc, notes.as_slice(), tempo_map, division, grammar.window)?;
     Ok(Voice::of(chords))
 }
 

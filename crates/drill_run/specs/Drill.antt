@@ -6,6 +6,13 @@ use Rattle.edit_laws.specs.Reached.{WouldReach}
 use Rattle.edit_laws.specs.EditOutcomes.{EditOutcome, IsOutcome, made, refused}
 use Rattle.rhythm_base.specs.declared.edit.Edit.{Edit}
 use Rattle.rhythm_gen.specs.DrillEdit.{drill_edit}
+use Rattle.rhythm_gen.specs.declared.drill.TheConstants.{LATEST_DRILLED}
+
+-- a performance has what the forty edits of a drill are made of, at most ten of which drop a note
+pub record IsReadyForDrill (p : Performance) : Type 0 where
+  pub some_notes : 11 ≤ length p.notes
+  pub two_bars : 2 ≤ length p.bars
+  pub last : p.last ≤ LATEST_DRILLED
 
 -- where a drill stands: the performance as edited so far, how many edits were accepted, and how many cells these reached
 pub record Drilled : Type 0 where

@@ -20,6 +20,10 @@ abbrev pub score_stop : ScoreFault → DrillStop
 score_stop (fault.TooLong line) = stop.ScoreTooLong line
 score_stop fault.Memory = stop.Memory
 
+-- where a score is too long, the number of the record that would pass its limit has this
+abbrev pub OnTooLong : {X : Type 0} → Result X DrillStop → (ℕ → Type 0) → Type 0
+OnTooLong result P = (line : ℕ) → result ≡ Err (stop.ScoreTooLong line) → P line
+
 -- what is said after the last edit: the summary; or, where the score is too long, the number of the record that would pass its limit
 abbrev pub IsSummarySaid : Grammar → Drilled → Result (List ℕ) ℕ → Type 0
 IsSummarySaid g last (Ok text) = IsSummary g last text

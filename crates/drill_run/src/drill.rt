@@ -1,3 +1,5 @@
+ghost use Rattle.drill_run.specs.Drill.{IsReadyForDrill};
+ghost use Rattle.drill_run.specs.Ends.{OnTooLong};
 ghost use Rattle.drill_run.specs.Stands.{
   HasBrokenOff,
   HasBrokenOffOn,
@@ -9,7 +11,8 @@ ghost use Rattle.drill_run.specs.Stands.{
 ghost use Rattle.drill_run.specs.declared.drill_stop.DrillStop.TheVariants as stop;
 ghost use Rattle.edit_session.specs.Products.{RisesOnOk};
 ghost use Rattle.rhythm_base.specs.Performance.{IsWellFormed};
-ghost use Rattle.std.specs.Prelude.{◌≡◌, ◌+◌, ◌*◌, ◌<◌, ◌≤◌, ℕ, Err, IfOk, Ok, OnErr, OnOk, length};
+ghost use Rattle.rhythm_gen.specs.DrillEdit.{IsReadyForEdit};
+ghost use Rattle.std.specs.Prelude.{◌≡◌, ◌+◌, ◌*◌, ◌≤◌, Err, IfOk, Ok, OnErr, OnOk};
 
 use crate::drill_stop::DrillStop;
 use crate::summary::summary_of;
@@ -17,7 +20,7 @@ use carry_matrix::Steps as Products;
 use edit_session::Session;
 use least_cost::Steps as Builds;
 use rhythm_base::{EditFault, Tag};
-use rhythm_gen::drill_edit;
+use rhythm_gen::{PieceNumber, drill_edit};
 use rhythm_ports::{Gate, Means};
 use std::alloc::AllocError;
 use std::thread::Threads;
@@ -28,7 +31,7 @@ pub const DRILL_EDITS: u32 = 40;
 /// A drill so far: its number, the session as edited, how many edits were accepted, and how many cells these reached.
 #[derive(Drop)]
 struct Drill {
-    number: u32,
+    number: PieceNumber,
     session: Session,
     accepted: u32,
     built: u64,
@@ -43,11 +46,7 @@ impl Drill {
         builds: &mut Builds<B>,
         products: &mut Products<P>,
     ) -> Result<(), AllocError>
-        requires number { self.old.number ≤ 65534 }
-        requires index { index < DRILL_EDITS }
-        requires some_note { 1 ≤ length self.old.session.performance.notes }
-        requires two_bars { 2 ≤ length self.old.session.performance.bars }
-        requires last { self.old.session.performance.last ≤ 1999999000 }
+        requires ready { IsReadyForEdit index self.old.session.performance }
         requires accepted { self.old.accepted ≤ index }
         requires built { self.old.built ≤ 65536 * index }
         ensures formed { IsWellFormed self.old.session.performance }
@@ -59,7 +58,7 @@ impl Drill {
         ensures stopped { OnErr result (HasStoppedAt self.old index builds.old builds.new) }
         ensures products { RisesOnOk result products.old products.new }
     {
-        let edit = drill_edit(self.number, index, self.session.performance());
+        let edit = drill_edit(self.number.number(), index, self.session.performance());
         match self.session.apply(means, &edit, builds, products) {
             Ok(applied) => {
                 self.accepted += 1;
@@ -80,10 +79,7 @@ impl Drill {
         builds: &mut Builds<B>,
         products: &mut Products<P>,
     ) -> Result<(), AllocError>
-        requires number { self.old.number ≤ 65534 }
-        requires some_notes { 11 ≤ length self.old.session.performance.notes }
-        requires two_bars { 2 ≤ length self.old.session.performance.bars }
-        requires last { self.old.session.performance.last ≤ 1999999000 }
+        requires ready { IsReadyForDrill self.old.session.performance }
         requires accepted { self.old.accepted ≡ 0 }
         requires built { self.old.built ≡ 0 }
         ensures grammar { self.new.session.grammar ≡ self.old.session.grammar }
@@ -103,17 +99,13 @@ impl Drill {
 pub fn run_drill<R: Threads + Sync, G: Gate + Sync, B: Tag, P: Tag>(
     means: &Means<'_, R, G>,
     session: Session,
-    number: u32,
+    number: PieceNumber,
     builds: &mut Builds<B>,
     products: &mut Products<P>,
 ) -> Result<Vec<u8>, DrillStop>
-    requires number { number ≤ 65534 }
-    requires some_notes { 11 ≤ length session.performance.notes }
-    requires two_bars { 2 ≤ length session.performance.bars }
-    requires last { session.performance.last ≤ 1999999000 }
+    requires { IsReadyForDrill session.performance }
     ensures summary { IfOk result (λ text. HasSaid session number (Ok text.items) builds.old builds.new) }
-    ensures too_long { (line : ℕ) → result ≡ Err (stop.ScoreTooLong line)
-        → HasSaid session number (Err line) builds.old builds.new }
+    ensures too_long { OnTooLong result (λ line. HasSaid session number (Err line) builds.old builds.new) }
     ensures memory { result ≡ Err stop.Memory → HasBrokenOffOn session number builds.old builds.new }
     ensures products { products.old ≤ products.new }
 {

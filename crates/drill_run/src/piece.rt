@@ -7,7 +7,7 @@ ghost use Rattle.std.specs.Prelude.{◌≡◌, ◌≤◌, ◌*◌, ◌∷◌, []
 
 use performance_load::{LoadFault, load};
 use rhythm_base::Performance;
-use rhythm_gen::generate;
+use rhythm_gen::{PieceNumber, generate};
 use smf_reader::{Smf, SmfFault, read_smf};
 use std::alloc::{AllocError, Global};
 
@@ -15,12 +15,11 @@ use std::alloc::{AllocError, Global};
 pub const DRILL_BARS: u32 = 500;
 
 /// What the file of the piece of a number says. It has no fault.
-fn played_piece(alloc: Global, number: u32) -> Result<Smf, AllocError>
-    requires { number ≤ 65534 }
+fn played_piece(alloc: Global, number: PieceNumber) -> Result<Smf, AllocError>
     ensures says { IfOk result (SaysFile (generated number DRILL_BARS)) }
     ensures range { IfOk result IsPlayedFile }
 {
-    let bytes = generate(alloc, number, DRILL_BARS)?;
+    let bytes = generate(alloc, number.number(), DRILL_BARS)?;
     match read_smf(alloc, bytes.as_slice()) {
         Ok(played) => Ok(played),
         Err(fault) => match fault {
@@ -31,8 +30,7 @@ fn played_piece(alloc: Global, number: u32) -> Result<Smf, AllocError>
 }
 
 /// The performance of the piece of a number, as its file is read and loaded. It has no fault.
-pub fn made_performance(alloc: Global, number: u32) -> Result<Performance, AllocError>
-    requires { number ≤ 65534 }
+pub fn made_performance(alloc: Global, number: PieceNumber) -> Result<Performance, AllocError>
     ensures loading { IfOk result (λ p. IsLoadingOf number DRILL_BARS (Ok p)) }
     ensures bars { IfOk result (λ p. length p.bars ≡ DRILL_BARS) }
     ensures last { IfOk result (λ p. p.last ≡ 1920 * DRILL_BARS) }

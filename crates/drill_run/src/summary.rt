@@ -1,8 +1,8 @@
 ghost use Rattle.drill_run.specs.Ends as ends;
+ghost use Rattle.drill_run.specs.Ends.{OnTooLong};
 ghost use Rattle.drill_run.specs.Stands.{HasScoreLength, IsSaidOf};
-ghost use Rattle.drill_run.specs.declared.drill_stop.DrillStop.TheVariants as stop;
 ghost use Rattle.kern_writer.specs.PerformanceText.{HasTooLongText};
-ghost use Rattle.std.specs.Prelude.{◌≡◌, ℕ, Err, IfOk, Ok};
+ghost use Rattle.std.specs.Prelude.{◌≡◌, Err, IfOk, Ok};
 
 use crate::drill_stop::DrillStop;
 use crate::figures::{Figures, text_of};
@@ -23,7 +23,7 @@ fn score_stop(fault: ScoreFault) -> DrillStop
 /// The length of the score.
 fn score_length(alloc: Global, session: &Session) -> Result<u64, DrillStop>
     ensures length { IfOk result (HasScoreLength session.now) }
-    ensures too_long { (line : ℕ) → result ≡ Err (stop.ScoreTooLong line) → HasTooLongText session.now.grammar session.now.performance line }
+    ensures too_long { OnTooLong result (HasTooLongText session.now.grammar session.now.performance) }
 {
     match session.score(alloc) {
         Ok(text) => Ok(text.len() as u64),
@@ -39,7 +39,7 @@ pub fn summary_of(
     built: u64,
 ) -> Result<Vec<u8>, DrillStop>
     ensures summary { IfOk result (λ text. IsSaidOf session.now accepted built (Ok text.items)) }
-    ensures too_long { (line : ℕ) → result ≡ Err (stop.ScoreTooLong line) → IsSaidOf session.now accepted built (Err line) }
+    ensures too_long { OnTooLong result (λ line. IsSaidOf session.now accepted built (Err line)) }
 {
     let performance = session.performance();
     let bars = performance.bars().len() as u64;

@@ -38,3 +38,5 @@ pub mod BarStarts
 pub mod Edges
 pub mod LocalCells
 pub mod NoteParts
+pub mod SameSides
+pub mod TouchedNotes

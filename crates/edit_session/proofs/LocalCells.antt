@@ -1,6 +1,6 @@
 -- Outside of a span the inputs of a voice are as before, and inside they are those by a part of its notes.
 use Rattle.std.proofs.Common.{◌≡◌, ◌⊎◌, ℕ, zero, suc, ◌+◌, ◌-◌, ◌<◌, ◌≤◌, List, [], length, get_or, max, refl, sym, ap, ◌∙◌, subst, inl, inr, arith}
-use Rattle.std.specs.Prelude.{Some, slice_get, option_map}
+use Rattle.std.specs.Prelude.{Some, slice_get, option_map, unwrap_or}
 use Rattle.std.specs.List.{between}
 use Rattle.std.proofs.lemmas.Option.{same_Some, slice_get-map}
 use Rattle.rhythm_base.specs.declared.chord.Chord.{Chord}
@@ -10,7 +10,7 @@ use Rattle.rhythm_base.specs.BarInput.{BarInput}
 use Rattle.rhythm_base.specs.BarTables.{BarTable}
 use Rattle.rhythm_base.specs.Cells.{input}
 use Rattle.rhythm_base.specs.Chords.{AreChords}
-use Rattle.rhythm_base.specs.Grammar.{Grammar}
+use Rattle.rhythm_base.specs.Grammar.{Grammar, root_of}
 use Rattle.rhythm_base.specs.Leaves.{VoiceBar, soundings}
 use Rattle.rhythm_base.specs.Performance.{IsWellFormed, Performance}
 use Rattle.rhythm_base.specs.Voices.{AreChordsOf, notes_of_voice, voice_bar, voice_bars, voice_bars_from}
@@ -60,16 +60,28 @@ module _ (g : Grammar) (q : Performance) (channel : ℕ) (formed : IsWellFormed 
       let whole : i + (k - i) ≡ k = omega (arith, le) in
       omega (arith, later_barline i (k - i) (omega (arith, whole, within)), ap (barline q.bars q.last) whole)
 
-  module _ (p : Performance) (span : Span) (first_bar bar_end : ℕ) (others : IsKnown p q first_bar bar_end)
+  module _ (p : Performance) (span : Span) (early_tick late_tick first_bar bar_end : ℕ) (others : IsKnown p q early_tick late_tick first_bar bar_end)
       (is : IsNoteSpan q.tempos q.division g.window (notes_of_voice p channel) (notes_of_voice q channel) q.bars q.last first_bar bar_end span) where
-    known_bar : (i : ℕ) → i < length q.bars → (i < span.first_bar) ⊎ (span.bar_end ≤ i) → IsSameBar p q i
-    known_bar i lt (inl early) = others.bars i lt (inl (omega (arith, early, is.from)))
-    known_bar i lt (inr late) = others.bars i lt (inr (omega (arith, late, is.up_to)))
+    beyond : (i : ℕ) → (i < span.first_bar) ⊎ (span.bar_end ≤ i) → (i < first_bar) ⊎ (bar_end ≤ i)
+    beyond i (inl early) = inl (omega (arith, early, is.from))
+    beyond i (inr late) = inr (omega (arith, late, is.up_to))
 
-    there_before : (i : ℕ) → IsSameBar p q i → slice_get (voice_bars g p channel) i ≡ Some (bar_of i)
-    there_before i same =
+    known_bar : (i : ℕ) → i < length q.bars → (i < span.first_bar) ⊎ (span.bar_end ≤ i) → IsSameBar p q i
+    known_bar i lt out = others.bars i lt (beyond i out)
+
+    there_before : (i : ℕ) → i < length q.bars → (i < span.first_bar) ⊎ (span.bar_end ≤ i) → slice_get (voice_bars g p channel) i ≡ Some (bar_of i)
+    there_before i lt out =
+        let same = known_bar i lt out in
+        let pin = others.pins channel i lt (beyond i out) in
         bar_at g p.pins channel p.last i p.bars no_bar same.there
-        ∙ sym (λ k. Some (voice_bar g (others.pins k) channel i (same.bar no_bar k) (same.end k)))
+        ∙ sym (λ k. Some record {
+          start = (same.bar no_bar k).start;
+          length = same.end k - (same.bar no_bar k).start;
+          num = (same.bar no_bar k).num;
+          den = (same.bar no_bar k).den;
+          symbol = unwrap_or (root_of g.starts (same.bar no_bar k).num (same.bar no_bar k).den) 0;
+          pin = pin k;
+        })
 
     outside_chords : (i : ℕ) (cs ds : List Chord) → i < length q.bars → (i < span.first_bar) ⊎ (span.bar_end ≤ i)
         → AreChords q.tempos q.division g.window (notes_of_voice p channel) cs → AreChordsOf g q channel ds
@@ -89,7 +101,7 @@ module _ (g : Grammar) (q : Performance) (channel : ℕ) (formed : IsWellFormed 
     -- outside of the span a cell has the input that it had
     pub same_outside : (i : ℕ) (k l : BarInput) → i < length q.bars → (i < span.first_bar) ⊎ (span.bar_end ≤ i) → IsInputOf g p channel i k → IsInputOf g q channel i l → k ≡ l
     same_outside i k l lt out h m =
-        let bar : h.cell_bar ≡ bar_of i = same_Some h.cell_bar (bar_of i) (sym h.there ∙ there_before i (known_bar i lt out)) in
+        let bar : h.cell_bar ≡ bar_of i = same_Some h.cell_bar (bar_of i) (sym h.there ∙ there_before i lt out) in
         let bar_after : m.cell_bar ≡ bar_of i = same_Some m.cell_bar (bar_of i) (sym m.there ∙ there i lt) in
         let chords : AreChords q.tempos q.division g.window (notes_of_voice p channel) h.chords =
         subst (λ ts. AreChords ts q.division g.window (notes_of_voice p channel) h.chords) (sym others.tempos)

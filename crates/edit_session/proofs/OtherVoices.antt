@@ -66,7 +66,7 @@ module _ {X : Type 0} (place : X → List ℕ) (x : X) where
           λ i. none.0 i ++ (y ∷ none.1 i)
 
   -- one more that a test does not keep
-  filter_put : (p : X → Bool) (ys : List X) → p x ≡ false → AreInOrder place ys → filter p (list_with place x ys) ≡ filter p ys
+  pub filter_put : (p : X → Bool) (ys : List X) → p x ≡ false → AreInOrder place ys → filter p (list_with place x ys) ≡ filter p ys
   filter_put p ys is h =
       filter-append p (filter is_early ys) (x ∷ filter is_late ys)
       ∙ ap (λ (b : Bool). filter p (filter is_early ys) ++ (if b then x ∷ filter p (filter is_late ys) else filter p (filter is_late ys))) is
@@ -75,7 +75,7 @@ module _ {X : Type 0} (place : X → List ℕ) (x : X) where
 
 module _ {X : Type 0} (p q : X → Bool) (within : (x : X) → p x ≡ true → q x ≡ true) where
   -- fewer, but all of those that a test keeps
-  filter_within : (xs : List X) → filter p (filter q xs) ≡ filter p xs
+  pub filter_within : (xs : List X) → filter p (filter q xs) ≡ filter p xs
   filter_within [] = refl
   filter_within (x ∷ xs) = at (q x) (p x) refl refl (filter_within xs)
     where
@@ -85,7 +85,7 @@ module _ {X : Type 0} (p q : X → Bool) (within : (x : X) → p x ≡ true → 
       at false true kept is rest = let wrong = within x is in absurd (cc)
       at false false kept is rest = rest
 
-  find_within : (xs : List X) → find p (filter q xs) ≡ find p xs
+  pub find_within : (xs : List X) → find p (filter q xs) ≡ find p xs
   find_within [] = refl
   find_within (x ∷ xs) = at (q x) (p x) refl refl (find_within xs)
     where
@@ -188,20 +188,20 @@ edited_leaves p q edit formed h = λ channel other.
     subst (λ r. IsUnchangedVoice p r channel) after.1 (unchanged_after p formed channel edit other)
 
 -- an edit leaves all that times depend on
+pub times : (p : Performance) (edit : Edit) → ((performance_after p edit).tempos ≡ p.tempos) × ((performance_after p edit).division ≡ p.division)
+times p (Add channel key onset end) = (refl, refl)
+times p (Drop channel key onset) = (refl, refl)
+times p (Move channel key onset to) = (refl, refl)
+times p (Barline bar tick) = (refl, refl)
+times p (Pin channel bar shape) = (refl, refl)
+times p (Unpin channel bar) = (refl, refl)
+times p AddBar = (refl, refl)
+times p DropBar = (refl, refl)
+
 pub edited_times : (p q : Performance) (edit : Edit) → edited p edit ≡ Ok q → (q.tempos ≡ p.tempos) × (q.division ≡ p.division)
 edited_times p q edit h =
     let after = made (performance_after p edit) q (first_refusal (edit_tests p edit)) h in
-    subst (λ (r : Performance). (r.tempos ≡ p.tempos) × (r.division ≡ p.division)) after.1 (times edit)
-  where
-    times : (edit : Edit) → ((performance_after p edit).tempos ≡ p.tempos) × ((performance_after p edit).division ≡ p.division)
-    times (Add channel key onset end) = (refl, refl)
-    times (Drop channel key onset) = (refl, refl)
-    times (Move channel key onset to) = (refl, refl)
-    times (Barline bar tick) = (refl, refl)
-    times (Pin channel bar shape) = (refl, refl)
-    times (Unpin channel bar) = (refl, refl)
-    times AddBar = (refl, refl)
-    times DropBar = (refl, refl)
+    subst (λ (r : Performance). (r.tempos ≡ p.tempos) × (r.division ≡ p.division)) after.1 (times p edit)
 
 -- ---- the cells of a voice that is as before
 

@@ -1,26 +1,13 @@
 -- The inputs of a voice, and of one voice more.
-use Rattle.std.proofs.Common.{◌≡◌, ℕ, ◌+◌, ◌<◌, List, [], ◌∷◌, ◌++◌, length, get_or, take, refl, sym, ap, ◌∙◌, append-nil}
+use Rattle.std.proofs.Common.{ℕ, ◌+◌, ◌<◌, List, [], ◌∷◌, ◌++◌, length, get_or, take, refl, sym, ap, ◌∙◌, append-nil}
 use Rattle.std.specs.List.{flat_map}
 use Rattle.std.proofs.lemmas.List.Concat.{flat_map-append}
 use Rattle.bar_pool.proofs.EachLemmas.{Each-more}
 use Rattle.bar_cut.specs.Cuts.{inputs}
-use Rattle.rhythm_base.specs.declared.chord.Chord.{Chord}
-use Rattle.rhythm_base.specs.declared.note.Bar.{Bar}
-use Rattle.rhythm_base.specs.declared.pin.Pin.{Pin}
 use Rattle.rhythm_base.specs.BarInput.{BarInput}
 use Rattle.rhythm_base.specs.Grammar.{Grammar}
 use Rattle.rhythm_base.specs.Performance.{Performance}
-use Rattle.rhythm_base.specs.Voices.{AreChordsOf}
 use Rattle.edit_session.specs.Inputs.{AreInputsOf, AreInputsOfVoice}
-
--- a voice is cut into the inputs of its cells
-pub cut_inputs : (g : Grammar) (p : Performance) (channel last : ℕ) (pins : List Pin) (bars : List Bar) (chords cs : List Chord) (own : List BarInput)
-    → AreChordsOf g p channel chords → pins ≡ p.pins → last ≡ p.last → bars ≡ p.bars → cs ≡ chords → own ≡ inputs g pins channel last bars cs → AreInputsOfVoice g p channel own
-cut_inputs g p channel last pins bars chords cs own are pins_are last_is bars_are same is = record {
-  chords = chords;
-  are_chords = are;
-  are = is ∙ (λ i. inputs g (pins_are i) channel (last_is i) (bars_are i) (same i));
-}
 
 pub no_inputs : (g : Grammar) (p : Performance) → AreInputsOf g p [] []
 no_inputs g p = record { voices = []; each = refl; are = refl }

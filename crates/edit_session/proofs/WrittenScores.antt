@@ -1,6 +1,6 @@
 -- The score of a well-formed performance can be written.
 use Rattle.rhythm_base.specs.declared.limits.TheConstants.{MOST_BARS}
-use Rattle.std.proofs.Common.{◌≡◌, ◌≤◌, ◌∙◌, ℕ, ap, arith, length, IfOk, Result, Ok, Err}
+use Rattle.std.proofs.Common.{◌≤◌, ap, arith, length, IfOk, Result, Ok, Err}
 use Rattle.std.proofs.lemmas.List.{length-map}
 use Rattle.derivation.proofs.OneScore.{scores_one}
 use Rattle.derivation.specs.PerformanceScore.{IsScoreOf, score_bar}

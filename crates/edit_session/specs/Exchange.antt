@@ -99,6 +99,11 @@ pub record AreVoicesAfter (x : Change) (voices : List VoiceTables) (gone : List 
   pub tables_gone : All (IsCellTable x.grammar x.before) gone
   pub enough : tables_below (length x.after.bars) gone + length x.before.channels * (length x.after.bars - length x.before.bars) ≤ place
 
+-- how many bars a performance may have
+pub record IsBarCount (bars : ℕ) : Type 0 where
+  pub some : 1 ≤ bars
+  pub few : bars ≤ MOST_BARS
+
 -- each voice has as many tables, and there is place for all tables that go out where these come in
 pub record HasPlace (voices : List VoiceTables) (bars : ℕ) (coming : List CellTable) (place : ℕ) : Type 0 where
   pub count : ℕ

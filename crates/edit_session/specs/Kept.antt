@@ -1,5 +1,5 @@
 -- What a session keeps: the table of each cell, and a path over the tables of each voice.
-use Rattle.bar_pool.specs.declared.limits.TheConstants.{MOST_WORKERS}
+use Rattle.rhythm_base.specs.declared.limits.TheConstants.{MOST_WORKERS}
 use Rattle.rhythm_base.specs.declared.limits.TheConstants.{MOST_CELLS, MOST_NOTES}
 use Rattle.std.specs.Prelude.{ℕ, ◌≤◌, List, length}
 use Rattle.chain_bars.specs.Laws.{AreTables}

@@ -17,3 +17,4 @@ pub mod ChangedVoices
 pub mod Exchange
 pub mod Products
 pub mod Effects
+pub mod Touched

@@ -2,17 +2,14 @@
 use Rattle.std.specs.Prelude.{ℕ, List, length, map}
 use Rattle.bar_cut.specs.Cuts.{inputs}
 use Rattle.edit_session.specs.Inputs.{AreInputsOfVoice}
-use Rattle.edit_session.specs.Kept.{AreTablesOfVoice}
 use Rattle.edit_session.specs.ReachedCells.{AreOtherInputs, AreOtherInputsWithin, place_pair}
-use Rattle.edit_session.specs.Spans.{IsKnown}
-use Rattle.edit_session.specs.declared.known.Known.{Known}
 use Rattle.edit_session.specs.declared.reached.CellPlace.{CellPlace}
 use Rattle.edit_session.specs.declared.span.Span.{Span}
 use Rattle.rhythm_base.specs.declared.chord.Chord.{Chord}
 use Rattle.rhythm_base.specs.BarInput.{BarInput}
 use Rattle.rhythm_base.specs.BarTables.{BarTable}
 use Rattle.rhythm_base.specs.Grammar.{Grammar}
-use Rattle.rhythm_base.specs.Performance.{IsWellFormed, Performance}
+use Rattle.rhythm_base.specs.Performance.{Performance}
 
 -- these, with their inputs, of the inputs of the voice
 abbrev pub AreOthersOfVoice : Grammar → Performance → ℕ → List BarTable → List CellPlace → List BarInput → Type 0
@@ -24,8 +21,3 @@ AreOthersOfVoice g p channel tables cells others =
 abbrev pub AreOthersInSpan : Grammar → Performance → ℕ → List Chord → List BarTable → Span → List CellPlace → List BarInput → Type 0
 AreOthersInSpan g p channel chords tables span cells others =
     AreOtherInputsWithin channel (inputs g p.pins channel p.last p.bars chords) tables span.first_bar span.bar_end (map place_pair cells) others
-
--- what is known of a voice before the change, and its tables
-abbrev pub IsKnownVoice : Grammar → Performance → ℕ → List BarTable → Known → Type 0
-IsKnownVoice g p channel tables k =
-    IsWellFormed k.before.now × IsKnown k.before.now p k.first_bar k.bar_end × AreTablesOfVoice g k.before.now channel tables

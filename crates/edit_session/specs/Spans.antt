@@ -1,5 +1,5 @@
 -- The bars of a voice that a change of its notes may reach, and the notes on which their inputs depend.
-use Rattle.std.specs.Prelude.{◌≡◌, ◌⊎◌, ℕ, ◌+◌, ◌<◌, ◌≤◌, List, ◌∷◌, All, drop, get_or, length, take}
+use Rattle.std.specs.Prelude.{◌≡◌, ◌⊎◌, ℕ, ◌+◌, ◌<◌, ◌≤◌, List, ◌∷◌, All, drop, filter, get_or, length, nat_le, nat_lt, take}
 use Rattle.std.specs.List.{between}
 use Rattle.edit_session.specs.declared.span.Span.{Span}
 use Rattle.rhythm_base.specs.declared.event.Tempo.{Tempo}
@@ -7,6 +7,7 @@ use Rattle.rhythm_base.specs.declared.note.Bar.{Bar}
 use Rattle.rhythm_base.specs.declared.note.Note.{Note}
 use Rattle.rhythm_base.specs.Barlines.{barline}
 use Rattle.rhythm_base.specs.Performance.{Performance}
+use Rattle.rhythm_base.specs.Pins.{pin_of}
 use Rattle.voices.specs.Breaks.{IsBreak}
 
 -- up to the place the notes are as before, no chord goes on over it, and no other note begins before the tick
@@ -73,9 +74,12 @@ pub record IsSameBar (before after : Performance) (number : ℕ) : Type 0 where
   pub bar : (d : Bar) → get_or after.bars number d ≡ get_or before.bars number d
   pub end : barline after.bars after.last (number + 1) ≡ barline before.bars before.last (number + 1)
 
--- all that inputs depend on but notes is as before, outside of some bars
-pub record IsKnown (before after : Performance) (first_bar bar_end : ℕ) : Type 0 where
-  pub pins : after.pins ≡ before.pins
+-- All that inputs depend on is as before: notes that begin before one tick, or from another one on, and bars and pins outside of
+-- some bars.
+pub record IsKnown (before after : Performance) (low high first_bar bar_end : ℕ) : Type 0 where
+  pub early : filter (λ n. nat_lt n.onset low) after.notes ≡ filter (λ n. nat_lt n.onset low) before.notes
+  pub late : filter (λ n. nat_le high n.onset) after.notes ≡ filter (λ n. nat_le high n.onset) before.notes
+  pub pins : (channel bar : ℕ) → bar < length after.bars → (bar < first_bar) ⊎ (bar_end ≤ bar) → pin_of after.pins channel bar ≡ pin_of before.pins channel bar
   pub tempos : after.tempos ≡ before.tempos
   pub division : after.division ≡ before.division
   pub first : first_bar ≤ length after.bars

@@ -8,6 +8,7 @@ ghost use Rattle.edit_session.specs.Exchange.{
   HasPlace,
   HasPlaceForVoice,
   HasShortWayBack,
+  IsBarCount,
   IsCheapTable,
   IsLastOf,
   IsNoMoreThanCame,
@@ -229,8 +230,7 @@ fn exchange_voice<P: Tag>(
     gone: &mut Vec<CellTable>,
     products: &mut Steps<P>,
 )
-    requires some { 1 ≤ bars }
-    requires few { bars ≤ MOST_BARS }
+    requires bars { IsBarCount bars }
     requires few_before { length voice.old.tables ≤ MOST_BARS }
     requires room { bars ≤ voice.old.room }
     requires cheap { All IsCheapTable coming.old.items }
@@ -257,8 +257,7 @@ fn exchange_voices<P: Tag>(
     gone: &mut Vec<CellTable>,
     products: &mut Steps<P>,
 )
-    requires some { 1 ≤ bars }
-    requires few { bars ≤ MOST_BARS }
+    requires bars { IsBarCount bars }
     requires channels { length voices.old ≡ length channels.now }
     requires room { All (λ v. bars ≤ v.room) voices.old }
     requires cheap { All IsCheapTable coming.old.items }
@@ -288,8 +287,7 @@ pub fn exchange<P: Tag>(
     place: Vec<CellTable>,
     products: &mut Steps<P>,
 ) -> Exchanged
-    requires some { 1 ≤ bars }
-    requires few { bars ≤ MOST_BARS }
+    requires bars { IsBarCount bars }
     requires channels { length voices.old ≡ length channels.now }
     requires room { All (λ v. bars ≤ v.room) voices.old }
     requires cheap { All IsCheapTable tables.items }

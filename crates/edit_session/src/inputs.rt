@@ -1,34 +1,25 @@
 ghost use Rattle.edit_session.specs.Inputs.{AreInputsOf, AreInputsOfVoice};
 ghost use Rattle.edit_session.specs.Opening.{IsInputFault};
 ghost use Rattle.bar_cut.specs.Cuts.{IsFirstWithoutStart};
-ghost use Rattle.rhythm_base.specs.Lists.{AreInOrder};
-ghost use Rattle.rhythm_base.specs.Performance.{IsWellFormed, place_of_note};
+ghost use Rattle.rhythm_base.specs.Performance.{IsWellFormed};
 ghost use Rattle.rhythm_base.specs.Readable.{IsReadable};
 ghost use Rattle.rhythm_base.specs.Voices.{AreChordsOf, HasStarts};
-ghost use Rattle.std.specs.Prelude.{◌≡◌, ◌==◌, Err, IfErr, IfOk, filter, ℕ};
+ghost use Rattle.std.specs.Prelude.{◌≡◌, Err, IfErr, IfOk, ℕ};
 
 use crate::open_fault::OpenFault;
 use bar_cut::{CutFault, check_starts, cut};
-use rhythm_base::{BarInput, Chord, Grammar, Note, Performance};
+use rhythm_base::{BarInput, Chord, Grammar, Performance};
 use std::alloc::{AllocError, Global};
 use tempo_map::TempoMap;
-use voices::chords_of;
-
-/// The notes of the voice of a channel.
-pub fn voice_notes(notes: &[Note], channel: u8) -> &[Note]
-    requires { AreInOrder place_of_note notes.now }
-    ensures { result.now ≡ filter (λ n. n.channel == channel) notes.now }
-{
-    let first = notes.partition_point(|note| note.channel < channel);
-    let (_before, later) = notes.split_at(first);
-    let count = later.partition_point(|note| note.channel <= channel);
-    &later[..count]
-}
+use voices::{chords_of, notes_of_voice};
 
 /// The tempos and keys of the performance.
-pub fn tempo_map_of(alloc: Global, performance: &Performance) -> Result<TempoMap, AllocError>
+pub fn tempo_map_of<'a>(
+    alloc: Global,
+    performance: &'a Performance,
+) -> Result<TempoMap<'a>, AllocError>
     requires { IsWellFormed performance.now }
-    ensures { IfOk result (λ m. m ≡ record { tempos = performance.now.tempos; key_marks = performance.now.key_marks }) }
+    ensures { let p = performance.entry.now in IfOk result (λ m. m ≡ record { tempos = p.tempos; key_marks = p.key_marks }) }
 {
     TempoMap::new(alloc, performance.tempos(), performance.key_marks())
 }
@@ -44,9 +35,9 @@ pub fn voice_chords(
     requires { tempo_map.now.tempos ≡ performance.now.tempos }
     ensures { IfOk result (λ v. AreChordsOf grammar.now performance.now channel v.items) }
 {
-    let notes = voice_notes(performance.notes(), channel);
+    let notes = notes_of_voice(alloc, performance.notes(), channel)?;
     let division = performance.division();
-    chords_of(alloc, notes, tempo_map, division, grammar.window)
+    chords_of(alloc, notes.as_slice(), tempo_map, division, grammar.window)
 }
 
 /// The inputs of the cells of the voice of a channel, bar after bar.

@@ -1,4 +1,5 @@
 ghost use Rattle.chain_bars.specs.Laws.{matrices};
+ghost use Rattle.edit_session.specs.Exchange.{IsBarCount};
 ghost use Rattle.edit_session.specs.VoiceTables.{HasPath, HasTables, IsFirstDead, IsGrown, voice_cost};
 ghost use Rattle.rhythm_base.specs.Lists.{Each};
 ghost use Rattle.rhythm_base.specs.Paths.{AreCheap};
@@ -59,8 +60,7 @@ pub fn voices_of<P: Tag>(
     bars: usize,
     products: &mut Steps<P>,
 ) -> Result<Vec<VoiceTables>, AllocError>
-    requires some { 1 ≤ bars }
-    requires few { bars ≤ MOST_BARS }
+    requires bars { IsBarCount bars }
     requires tables { length tables.items ≡ voices * bars }
     requires cheap { AreCheap DEAREST_CELL (matrices tables.items) }
     ensures tables { IfOk result (λ v. flat_map (λ voice. voice.tables) v.items ≡ tables.items) }

@@ -1,15 +1,20 @@
-ghost use Rattle.edit_session.specs.ChangedVoices.{LeavesOthers};
+ghost use Rattle.edit_laws.specs.Edits.{performance_after};
 ghost use Rattle.edit_session.specs.Spans.{IsKnown, IsSameBar};
-ghost use Rattle.std.specs.Prelude.{◌≡◌, ◌<◌, ◌≤◌, ℕ, IfSome, IsTrue, length};
+ghost use Rattle.edit_session.specs.Touched.{LeavesPin, touched_from, touched_up_to};
+ghost use Rattle.rhythm_base.specs.EditRanges.{IsEditInRange};
+ghost use Rattle.rhythm_base.specs.Performance.{IsWellFormed};
+ghost use Rattle.std.specs.Prelude.{◌≡◌, ◌⊎◌, ◌<◌, ◌≤◌, ℕ, IsTrue, length};
 
-use crate::same_notes::same_pins;
 use crate::span::barline_at;
-use rhythm_base::Performance;
+use rhythm_base::{Edit, LATEST_TICK, Performance};
 
-/// The performance before a change, where the change leaves all but notes and some bars; and these bars, from one up to another.
+/// The performance before an edit, and what of it the edit leaves: the notes that begin before a tick `low`, or at a tick `high` or
+/// after it, and bars and pins outside of the bars from one up to another.
 #[derive(Clone, Copy)]
 pub struct Known<'a> {
     pub before: &'a Performance,
+    pub low: u64,
+    pub high: u64,
     pub first_bar: usize,
     pub bar_end: usize,
 }
@@ -60,30 +65,59 @@ fn other_bar_end(before: &Performance, after: &Performance) -> usize
     end
 }
 
-/// What is known of the performance before a change, where the change leaves all but notes and bars.
-pub fn known_of<'a>(
-    before: &'a Performance,
-    after: &Performance,
-    changed: Option<u8>,
-) -> Option<Known<'a>>
-    requires others { LeavesOthers changed before.now after.now }
-    requires tempos { after.now.tempos ≡ before.now.tempos }
-    requires division { after.now.division ≡ before.now.division }
-    ensures { IfSome result (λ known. (known.before.now ≡ before.entry.now) × IsKnown before.entry.now after.now known.first_bar known.bar_end) }
+/// The bars, from one up to another, outside of which an edit leaves bars and pins.
+fn touched_bars(before: &Performance, after: &Performance, edit: &Edit) -> (usize, usize)
+    ensures first { result.0 ≤ length after.now.bars }
+    ensures end { result.1 ≤ length after.now.bars }
+    ensures bars { after.now ≡ performance_after before.now edit.now → (number : ℕ) → number < length after.now.bars
+        → (number < result.0) ⊎ (result.1 ≤ number) → IsSameBar before.now after.now number }
+    ensures pins { (channel bar : ℕ) → bar < length after.now.bars → (bar < result.0) ⊎ (result.1 ≤ bar) → LeavesPin edit.now channel bar }
 {
-    if !same_pins(before.pins(), after.pins()) {
-        return None;
+    let count = after.bars().len();
+    match edit {
+        Edit::Add { .. } | Edit::Drop { .. } | Edit::Move { .. } => (count, 0),
+        Edit::Pin { bar, .. } | Edit::Unpin { bar, .. } => {
+            let bar = *bar as usize;
+            (bar.min(count), bar.saturating_add(1).min(count))
+        }
+        Edit::Barline { .. } | Edit::AddBar | Edit::DropBar => {
+            (first_other_bar(before, after), other_bar_end(before, after))
+        }
     }
-    match changed {
-        Some(_channel) => Some(Known {
-            before,
-            first_bar: after.bars().len(),
-            bar_end: 0,
-        }),
-        None => Some(Known {
-            before,
-            first_bar: first_other_bar(before, after),
-            bar_end: other_bar_end(before, after),
-        }),
+}
+
+/// The ticks, from one up to another, outside of which an edit leaves the notes that begin there.
+fn touched_ticks(edit: &Edit) -> (u64, u64)
+    requires { IsEditInRange edit.now }
+    ensures from { result.0 ≡ touched_from edit.now }
+    ensures up_to { result.1 ≡ touched_up_to edit.now }
+{
+    match edit {
+        Edit::Add { onset, .. } | Edit::Drop { onset, .. } => (*onset, *onset + 1),
+        Edit::Move { onset, to, .. } => (*onset.min(to), *onset.max(to) + 1),
+        Edit::Barline { .. }
+        | Edit::Pin { .. }
+        | Edit::Unpin { .. }
+        | Edit::AddBar
+        | Edit::DropBar => (LATEST_TICK, 0),
+    }
+}
+
+/// What is known of the performance before an edit.
+pub fn known_of<'a>(before: &'a Performance, after: &Performance, edit: &Edit) -> Known<'a>
+    requires formed { IsWellFormed before.now }
+    requires range { IsEditInRange edit.now }
+    requires after { after.now ≡ performance_after before.now edit.now }
+    ensures before { result.before.now ≡ before.entry.now }
+    ensures known { IsKnown before.entry.now after.now result.low result.high result.first_bar result.bar_end }
+{
+    let (low, high) = touched_ticks(edit);
+    let (first_bar, bar_end) = touched_bars(before, after, edit);
+    Known {
+        before,
+        low,
+        high,
+        first_bar,
+        bar_end,
     }
 }

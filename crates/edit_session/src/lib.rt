@@ -17,7 +17,6 @@ mod opening;
 mod prepared;
 mod preparing;
 mod reached;
-mod same_notes;
 mod score;
 mod session;
 mod span;

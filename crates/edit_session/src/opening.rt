@@ -1,4 +1,3 @@
-ghost use Rattle.bar_pool.specs.declared.limits.TheConstants.{MOST_WORKERS};
 ghost use Rattle.edit_session.specs.Inputs.{AreCellTables};
 ghost use Rattle.edit_session.specs.Opening.{IsBuilt, IsOpenFault, cells_of};
 ghost use Rattle.edit_session.specs.declared.open_fault.OpenFault.TheVariants.{Cells};
@@ -49,8 +48,6 @@ pub fn cell_tables<R: Threads + Sync, G: Gate + Sync, B: Tag>(
     workers: u32,
     builds: &mut Steps<B>,
 ) -> Result<PlannedTables, OpenFault>
-    requires some_worker { 1 ≤ workers }
-    requires few_workers { workers ≤ MOST_WORKERS }
     requires readable { IsReadable grammar.now }
     ensures formed { IsWellFormed performance.now }
     ensures few { IfOk result (λ _. cells_of performance.now ≤ MOST_CELLS) }

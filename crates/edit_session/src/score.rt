@@ -13,7 +13,7 @@ ghost use Rattle.std.specs.Prelude.{◌≡◌, ◌≤◌, All, IfOk, map};
 use crate::inputs::{tempo_map_of, voice_chords};
 use crate::least_trees::least_lists;
 use crate::voice_tables::VoiceTables;
-use derivation::{Score, ScoreBar, VoiceSounds, sounds_of};
+use derivation::{Score, ScoreBar, VoiceSounds, derivation_sounds};
 use rhythm_base::{Bar, Grammar, Performance};
 use std::alloc::{AllocError, Global};
 use tempo_map::TempoMap;
@@ -66,15 +66,14 @@ fn least_sounds(
 {
     let chords = voice_chords(alloc, grammar, performance, tempo_map, channel)?;
     let lists = least_lists(alloc, voice)?;
-    let sounds = sounds_of(
+    derivation_sounds(
         alloc,
         grammar,
         lists.as_slice(),
         performance.bars(),
         performance.last(),
         chords.as_slice(),
-    )?;
-    Ok(VoiceSounds::of(sounds))
+    )
 }
 
 /// The sounds of the least derivation of each voice.

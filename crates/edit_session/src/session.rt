@@ -1,8 +1,8 @@
 ghost use Rattle.bar_pool.specs.Pool.{AreTablesOf, RisesWithin};
-ghost use Rattle.bar_pool.specs.declared.limits.TheConstants.{MOST_WORKERS};
+ghost use Rattle.rhythm_base.specs.declared.limits.TheConstants.{MOST_WORKERS};
 ghost use Rattle.chain_bars.specs.Products.{RisesTwice};
 ghost use Rattle.edit_session.specs.Asking.{CanBePinned, IsAskFault};
-ghost use Rattle.edit_session.specs.ChangedVoices.{LeavesOthers};
+ghost use Rattle.edit_session.specs.ChangedVoices.{LeavesOthers, changed_channel};
 ghost use Rattle.edit_session.specs.Effects.{
   AllLive,
   HasBuiltInVain,
@@ -37,7 +37,6 @@ ghost use Rattle.std.specs.Prelude.{◌≡◌, ◌≤◌, ◌<◌, ℕ, All, Err
 
 use crate::ask_fault::AskFault;
 use crate::asking::{alternatives_of, place_of};
-use crate::changed_voice::changed_channel;
 use crate::committed::{Applied, Committed, Dead};
 use crate::exchange::{Exchanged, exchange};
 use crate::inputs::tempo_map_of;
@@ -270,19 +269,21 @@ impl Session {
         placed_tables(means.alloc, reached.cells.as_slice(), tables)
     }
 
-    /// The tables of the cells that the change to another performance reaches, and memory for those that they replace.
+    /// The tables of the cells that an edit reaches, and memory for those that they replace.
     fn prepare_next<R: Threads + Sync, G: Gate + Sync, B: Tag>(
         &self,
         means: &Means<'_, R, G>,
         next: Performance,
-        changed: Option<u8>,
+        edit: &Edit,
         builds: &mut Builds<B>,
     ) -> Result<Prepared, AllocError>
         requires formed { IsWellFormed next }
         requires channels { next.channels ≡ self.now.performance.channels }
         requires tempos { next.tempos ≡ self.now.performance.tempos }
         requires division { next.division ≡ self.now.performance.division }
-        requires others { LeavesOthers changed self.now.performance next }
+        requires range { IsEditInRange edit.now }
+        requires after { next ≡ edits.performance_after self.now.performance edit.now }
+        requires others { LeavesOthers (changed_channel edit.now) self.now.performance next }
         requires starts { HasStarts self.now.grammar next.bars }
         requires few_cells { cells_of next ≤ MOST_CELLS }
         requires few_notes { length next.notes ≤ MOST_NOTES }
@@ -294,7 +295,7 @@ impl Session {
         let voices = self.voices.as_slice();
         let grammar = &self.grammar;
         let before = &self.performance;
-        let reached = reached_cells(means.alloc, grammar, before, &next, changed, voices)?;
+        let reached = reached_cells(means.alloc, grammar, before, &next, edit, voices)?;
         let tables = self.reached_tables(means, &reached, builds)?;
         let bars = self.performance.bars().len();
         let lost = bars.saturating_sub(next.bars().len());
@@ -319,13 +320,10 @@ impl Session {
     {
         match edited(means.alloc, &self.performance, edit) {
             Err(fault) => Err(fault),
-            Ok(next) => {
-                let changed = changed_channel(edit);
-                match self.prepare_next(means, next, changed, builds) {
-                    Ok(prepared) => Ok(prepared),
-                    Err(_error) => Err(EditFault::Memory),
-                }
-            }
+            Ok(next) => match self.prepare_next(means, next, edit, builds) {
+                Ok(prepared) => Ok(prepared),
+                Err(_error) => Err(EditFault::Memory),
+            },
         }
     }
 

@@ -1,16 +1,15 @@
 ghost use Rattle.edit_session.specs.Spans.{AreSameBefore, AreSameFrom, IsBarEnd, IsFirstBar, IsNotePart, IsSpanOf};
 ghost use Rattle.rhythm_base.specs.Barlines.{barline};
 ghost use Rattle.rhythm_base.specs.Performance.{IsWellFormed};
-ghost use Rattle.std.specs.List.{AllWithin};
 ghost use Rattle.std.specs.List.Sorted.{IsStrictlyIncreasing};
-ghost use Rattle.std.specs.Prelude.{◌≡◌, ◌<◌, ◌≤◌, ◌-◌, ℕ, IfSome, drop, length, map, take};
+ghost use Rattle.std.specs.Prelude.{◌≡◌, ◌<◌, ◌≤◌, ◌-◌, ℕ, IfSome, drop, filter, length, map, nat_le, nat_lt, take};
 ghost use Rattle.tempo_map.specs.TempoMap.{AreUpTo};
 ghost use Rattle.voices.specs.Voice.{AreNotesOfVoice};
 
-use crate::same_notes::{same_back, same_front};
-use rhythm_base::{Bar, Note, Performance};
+use crate::known::Known;
+use rhythm_base::{Bar, Performance};
 use tempo_map::TempoMap;
-use voices::{break_from, break_up_to};
+use voices::{VoiceNotes, break_from, break_up_to};
 
 /// The bars of a voice that a change of its notes may reach, from one bar up to another, and the notes of the voice, from one up to
 /// another, on which their inputs depend.
@@ -54,20 +53,10 @@ fn bars_up_to(bars: &[Bar], tick: u64) -> usize
     bars.partition_point(|bar| bar.start <= tick)
 }
 
-/// How many notes of a voice begin before a tick.
-fn notes_before(notes: &[Note], tick: u64) -> usize
-    requires { AreNotesOfVoice notes.now }
-    ensures within { result ≤ length notes.now }
-    ensures front { AllWithin (λ n. n.onset < tick) notes.now 0 result }
-    ensures back { AllWithin (λ n. tick ≤ n.onset) notes.now result (length notes.now) }
-{
-    notes.partition_point(|note| note.onset < tick)
-}
-
 /// Up to where the notes are as before, where the first `same` are.
 fn first_edge(
-    before: &[Note],
-    after: &[Note],
+    before: &VoiceNotes<'_>,
+    after: &VoiceNotes<'_>,
     same: usize,
     tempo_map: &TempoMap,
     division: u16,
@@ -86,14 +75,14 @@ fn first_edge(
     }
     Edge {
         place,
-        tick: after[place].onset,
+        tick: after.onset(place),
     }
 }
 
 /// From where on the notes are as before, where the last `same` are.
 fn last_edge(
-    before: &[Note],
-    after: &[Note],
+    before: &VoiceNotes<'_>,
+    after: &VoiceNotes<'_>,
     same: usize,
     tempo_map: &TempoMap,
     division: u16,
@@ -119,7 +108,7 @@ fn last_edge(
 
 /// The notes on which the inputs of the bars between two ticks depend.
 fn part_of(
-    notes: &[Note],
+    notes: &VoiceNotes<'_>,
     low: u64,
     high: u64,
     tempo_map: &TempoMap,
@@ -129,8 +118,8 @@ fn part_of(
     requires { AreNotesOfVoice notes.now }
     ensures { IsNotePart tempo_map.now.tempos division window notes.now low high result.first result.end }
 {
-    let earlier = notes_before(notes, low);
-    let up_to = notes_before(notes, high);
+    let earlier = notes.count_before(low);
+    let up_to = notes.count_before(high);
     let first = break_up_to(
         notes,
         tempo_map,
@@ -144,8 +133,8 @@ fn part_of(
 
 /// The first bar that a change may reach, where the first `same` notes are as before.
 fn first_bar_of(
-    before: &[Note],
-    after: &[Note],
+    before: &VoiceNotes<'_>,
+    after: &VoiceNotes<'_>,
     same: usize,
     bars: &[Bar],
     tempo_map: &TempoMap,
@@ -166,8 +155,8 @@ fn first_bar_of(
 
 /// The bar after the last one that a change may reach, where the last `same` notes are as before.
 fn bar_end_of(
-    before: &[Note],
-    after: &[Note],
+    before: &VoiceNotes<'_>,
+    after: &VoiceNotes<'_>,
     same: usize,
     bars: &[Bar],
     tempo_map: &TempoMap,
@@ -188,31 +177,32 @@ fn bar_end_of(
     }
 }
 
-/// The bars of a voice that a change may reach, where all but notes is as before outside of the bars from `first_bar` up to `bar_end`.
+/// The bars of a voice that an edit may reach, by what is known of the performance before it.
 pub fn span_of(
-    before: &[Note],
-    after: &[Note],
+    before: &VoiceNotes<'_>,
+    after: &VoiceNotes<'_>,
     performance: &Performance,
-    first_bar: usize,
-    bar_end: usize,
+    known: Known<'_>,
     tempo_map: &TempoMap,
     window: u32,
 ) -> Span
     requires before { AreNotesOfVoice before.now }
     requires after { AreNotesOfVoice after.now }
     requires formed { IsWellFormed performance.now }
-    requires end { bar_end ≤ length performance.now.bars }
-    ensures { IsSpanOf tempo_map.now.tempos performance.now window before.now after.now first_bar bar_end result }
+    requires early { filter (λ n. nat_lt n.onset known.low) after.now ≡ filter (λ n. nat_lt n.onset known.low) before.now }
+    requires late { filter (λ n. nat_le known.high n.onset) after.now ≡ filter (λ n. nat_le known.high n.onset) before.now }
+    requires end { known.bar_end ≤ length performance.now.bars }
+    ensures { IsSpanOf tempo_map.now.tempos performance.now window before.now after.now known.entry.first_bar known.entry.bar_end result }
 {
     let division = performance.division();
     let bars = performance.bars();
     let last = performance.last();
-    let front = same_front(before, after);
-    let back = same_back(before, after, front);
+    let front = before.count_before(known.low);
+    let back = before.len() - before.count_before(known.high);
     let first = first_bar_of(before, after, front, bars, tempo_map, division, window);
-    let first_bar = first.min(first_bar);
+    let first_bar = first.min(known.first_bar);
     let end = bar_end_of(before, after, back, bars, tempo_map, division, window);
-    let bar_end = end.max(bar_end);
+    let bar_end = end.max(known.bar_end);
     let low = barline_at(bars, last, first_bar);
     let high = barline_at(bars, last, bar_end);
     let part = part_of(after, low, high, tempo_map, division, window);

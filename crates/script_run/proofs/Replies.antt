@@ -1,6 +1,6 @@
 -- What the replies to lines say.
 use Rattle.std.proofs.Common.{◌≡◌, ◌≢◌, ◌∙◌, ℕ, arith, inl, inr, List, [], ◌∷◌, get_or, map, refl, sym, ap, subst, codes, Result, Ok, Err, IfErr, IfOk, None}
-use Rattle.std.specs.Prelude.{IsOk, IsTrue, MatchResult, nat_eq}
+use Rattle.std.specs.Prelude.{IsOk, IsTrue, nat_eq}
 use Rattle.std.specs.List.{starts_with}
 use Rattle.edit_script.specs.ReplyText.{reply_text, shown_by}
 use Rattle.edit_script.specs.declared.reply.Refusal.TheVariants as refusals
@@ -26,6 +26,7 @@ use Rattle.rhythm_base.specs.declared.edit_fault.EditFault.{EditFault}
 use Rattle.rhythm_base.specs.declared.edit_fault.EditFault.TheVariants.{NoVoice, NoBar, BadSpan, NoNote, SameNote, PastEnd, BarlineOrder, NoteOutside, NotEmpty, OneBar, Limit, NoDerivation, Memory}
 use Rattle.script_run.specs.Answers.{AnswersLine, IsBuiltFor, IsBuiltForEdit, IsWrittenScore, Quits, TakesMemory}
 use Rattle.script_run.specs.Hearing.{MayAnswer}
+use Rattle.script_run.specs.LineReplies.{IsEditReply}
 
 -- ---- a refusal for want of memory is the one reply with its text
 
@@ -97,11 +98,7 @@ module _ (g : Grammar) (p : Performance) where
     other = λ none. refl;
   }
 
-  -- what became of an edit
-  abbrev pub EditReplies : Reply → Result Applied EditFault → Type 0
-  EditReplies reply outcome = MatchResult outcome (λ a. reply ≡ replies.Done a.built a.cost) (λ fault. reply ≡ replies.Refused (refusals.Edit fault))
-
-  pub edit_lacks_memory : (edit : Edit) (outcome : Result Applied EditFault) (reply : Reply) → EditReplies reply outcome
+  pub edit_lacks_memory : (edit : Edit) (outcome : Result Applied EditFault) (reply : Reply) → IsEditReply outcome reply
       → IfErr outcome (λ fault. fault ≡ Memory → IsOk (edited p edit)) → reply ≡ replies.Refused (refusals.Edit Memory) → IsOk (edited p edit)
   edit_lacks_memory edit (Ok a) reply is may e = let both : replies.Done a.built a.cost ≡ replies.Refused (refusals.Edit Memory) = sym is ∙ e in absurd (cc)
   edit_lacks_memory edit (Err fault) reply is may e =
@@ -109,7 +106,7 @@ module _ (g : Grammar) (p : Performance) where
       let same : fault ≡ Memory = cc in
       may same
 
-  pub edit_builds : (edit : Edit) (outcome : Result Applied EditFault) (reply : Reply) (old new : ℕ) → EditReplies reply outcome
+  pub edit_builds : (edit : Edit) (outcome : Result Applied EditFault) (reply : Reply) (old new : ℕ) → IsEditReply outcome reply
       → IfOk outcome (λ a. new ≡ risen old a.built) → IfErr outcome (λ fault. RisesBy old new (AreBuiltInVain g p edit fault))
       → (n : ℕ) × IsBuiltForEdit g p edit (reply_text reply) n × (new ≡ risen old n)
   edit_builds edit (Ok a) reply old new is done vain =
@@ -190,7 +187,7 @@ line_is_no_bye e = cc
 -- ---- an edit of a session
 
 module _ (s new : Session) (edit : Edit) where
-  pub session_answers : (outcome : Result Applied EditFault) (reply : Reply) → EditReplies s.grammar s.performance reply outcome
+  pub session_answers : (outcome : Result Applied EditFault) (reply : Reply) → IsEditReply outcome reply
       → IfOk outcome (IsApplied s edit new) → IfErr outcome (IsRejected s edit new) → MayAnswer s.grammar s.performance (Change edit) (reply_text reply) new.performance
   session_answers (Ok a) reply is done rejected =
       subst (λ (r : Reply). MayAnswer s.grammar s.performance (Change edit) (reply_text r) new.performance) (sym is)

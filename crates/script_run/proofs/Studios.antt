@@ -1,6 +1,6 @@
 -- What the replies to the lines of a studio say.
 use Rattle.std.proofs.Common.{◌≡◌, ◌≢◌, ◌∙◌, ◌⊎◌, ℕ, arith, inl, inr, List, [], get_or, refl, sym, ap, subst, codes, Result, Ok, Err, IfErr, IfOk, OnErr, OnOk, None}
-use Rattle.std.specs.Prelude.{IsOk, IsTrue, MatchResult, nat_eq}
+use Rattle.std.specs.Prelude.{IsOk, IsTrue, nat_eq}
 use Rattle.std.specs.List.{starts_with}
 use Rattle.edit_script.specs.ReplyText.{reply_text}
 use Rattle.edit_script.specs.declared.reply.Refusal.TheVariants as refusals
@@ -32,8 +32,9 @@ use Rattle.session_history.specs.declared.studio_reply.StudioReply.TheVariants a
 use Rattle.session_history.proofs.StudioWords.{one_studio_command}
 use Rattle.script_run.specs.Answers.{IsBuiltFor, IsBuiltForEdit, IsWrittenScore, Quits, TakesMemory}
 use Rattle.script_run.specs.Hearing.{MayAnswer}
+use Rattle.script_run.specs.LineReplies.{IsEditReply, IsStepReply}
 use Rattle.script_run.specs.Studio.{AnswersStudioLine, MayAnswerInStudio}
-use Rattle.script_run.proofs.Replies.{EditReplies, change_builds, memory_reply, other_builds}
+use Rattle.script_run.proofs.Replies.{change_builds, memory_reply, other_builds}
 
 -- no step to go is another refusal than want of memory
 no_step_reply : no_step_text ≡ refused_text Memory → ⊥
@@ -51,14 +52,10 @@ module _ (h : History) where
     other = λ none. refl;
   }
 
-  -- what became of a step
-  abbrev pub StepReplies : StudioReply → Result Applied NoStep → Type 0
-  StepReplies reply outcome = MatchResult outcome (λ a. reply ≡ studio.Plain (replies.Done a.built a.cost)) (λ _. reply ≡ studio.NoStep)
-
   abbrev StepsSo : (History → Type 0) → Type 0 → List ℕ → History → Type 0
   StepsSo Goes none reply next = (Goes next × TellsCost next reply) ⊎ (none × (reply ≡ no_step_text) × (next ≡ h))
 
-  steps_so : (Goes : History → Type 0) (none : Type 0) (outcome : Result Applied NoStep) (reply : StudioReply) (next : History) → StepReplies reply outcome
+  steps_so : (Goes : History → Type 0) (none : Type 0) (outcome : Result Applied NoStep) (reply : StudioReply) (next : History) → IsStepReply outcome reply
       → OnOk outcome (Goes next) → IfOk outcome (IsStepAnswer next) → OnErr outcome none → OnErr outcome (next ≡ h)
       → StepsSo Goes none (studio_reply_text reply) next × (studio_reply_text reply ≡ refused_text Memory → ⊥)
   steps_so Goes none (Ok a) reply next is goes told lacks stays =
@@ -67,21 +64,21 @@ module _ (h : History) where
   steps_so Goes none (Err x) reply next is goes told lacks stays =
       (inr (lacks, ap studio_reply_text is, stays), λ e. no_step_reply (sym (ap studio_reply_text is) ∙ e))
 
-  pub undo_line : (line : List ℕ) (outcome : Result Applied NoStep) (reply : StudioReply) (next : History) → SaysStudio line Undo → StepReplies reply outcome
+  pub undo_line : (line : List ℕ) (outcome : Result Applied NoStep) (reply : StudioReply) (next : History) → SaysStudio line Undo → IsStepReply outcome reply
       → OnOk outcome (IsUndone h next) → IfOk outcome (IsStepAnswer next) → OnErr outcome (h.past ≡ []) → OnErr outcome (next ≡ h)
       → AnswersStudioLine h line (studio_reply_text reply) 0 next
   undo_line line outcome reply next says is goes told lacks stays =
       let so = steps_so (IsUndone h) (h.past ≡ []) outcome reply next is goes told lacks stays in
       record { step = inl (Undo, says, so.0); memory = λ e. absurd (so.1 e); built = step_builds line Undo (studio_reply_text reply) says (λ command e. cc) }
 
-  pub redo_line : (line : List ℕ) (outcome : Result Applied NoStep) (reply : StudioReply) (next : History) → SaysStudio line Redo → StepReplies reply outcome
+  pub redo_line : (line : List ℕ) (outcome : Result Applied NoStep) (reply : StudioReply) (next : History) → SaysStudio line Redo → IsStepReply outcome reply
       → OnOk outcome (IsRedone h next) → IfOk outcome (IsStepAnswer next) → OnErr outcome (h.future ≡ []) → OnErr outcome (next ≡ h)
       → AnswersStudioLine h line (studio_reply_text reply) 0 next
   redo_line line outcome reply next says is goes told lacks stays =
       let so = steps_so (IsRedone h) (h.future ≡ []) outcome reply next is goes told lacks stays in
       record { step = inl (Redo, says, so.0); memory = λ e. absurd (so.1 e); built = step_builds line Redo (studio_reply_text reply) says (λ command e. cc) }
 
-  pub step_is_no_bye : (outcome : Result Applied NoStep) (reply : StudioReply) → StepReplies reply outcome → reply ≡ studio.Plain replies.Bye → ⊥
+  pub step_is_no_bye : (outcome : Result Applied NoStep) (reply : StudioReply) → IsStepReply outcome reply → reply ≡ studio.Plain replies.Bye → ⊥
   step_is_no_bye (Ok a) reply is e = let both : studio.Plain (replies.Done a.built a.cost) ≡ studio.Plain replies.Bye = sym is ∙ e in absurd (cc)
   step_is_no_bye (Err x) reply is e = let both : studio.NoStep ≡ studio.Plain replies.Bye = sym is ∙ e in absurd (cc)
 
@@ -103,7 +100,7 @@ module _ (h : History) where
   refused_in_studio edit (NoDerivation channel bar) is = inl (refused (NoDerivation channel bar), is (λ e. cc), refl, refl)
   refused_in_studio edit Memory is = inr (refl, refl)
 
-  pub edit_in_studio : (edit : Edit) (outcome : Result Applied EditFault) (reply : Reply) (next : History) → EditReplies h.grammar h.present reply outcome
+  pub edit_in_studio : (edit : Edit) (outcome : Result Applied EditFault) (reply : Reply) (next : History) → IsEditReply outcome reply
       → IfOk outcome (IsStepMade h edit next) → IfErr outcome (IsStepRefused h edit next) → MayAnswerInStudio h (Plain (Change edit)) (reply_text reply) next
   edit_in_studio edit (Ok a) reply next is done refuses =
       subst (λ (r : Reply). MayAnswerInStudio h (Plain (Change edit)) (reply_text r) next) (sym is) (inl (made a.built a.cost, done.made, done.step, refl))

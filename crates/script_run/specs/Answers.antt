@@ -35,12 +35,16 @@ pub record IsBuiltFor (g : Grammar) (p : Performance) (line reply : List ℕ) (n
   pub edit : (edit : Edit) → SaysCommand line (Change edit) → IsBuiltForEdit g p edit reply n
   pub other : ((edit : Edit) → SaysCommand line (Change edit) → ⊥) → n ≡ 0
 
+-- the voice and the bar are there
+abbrev pub HasCell : Performance → ℕ → ℕ → Type 0
+HasCell p channel bar = first_refusal (cell_tests p channel bar) ≡ None
+
 -- a command that takes memory: an edit that the performance alone does not refuse, the score, the alternatives of a bar of a voice
 -- that are there
 abbrev pub TakesMemory : Performance → Command → Type 0
 TakesMemory p (Change edit) = IsOk (edited p edit)
 TakesMemory p Score = ⊤
-TakesMemory p (Alternatives channel bar count) = first_refusal (cell_tests p channel bar) ≡ None
+TakesMemory p (Alternatives channel bar count) = HasCell p channel bar
 TakesMemory p Quit = ⊥
 
 -- where memory may be wanting: at the shape of a pin, which is read when its channel and bar are, and before they are looked for; and at

@@ -1,5 +1,5 @@
 -- A script heard byte by byte: a newline answers the line that was begun, and another byte joins it.
-use Rattle.std.specs.Prelude.{◌≡◌, ◌≢◌, ℕ, ◌+◌, ◌<◌, ◌⊎◌, List, [], ◌∷◌, ◌++◌, length, take, Option}
+use Rattle.std.specs.Prelude.{◌≡◌, ◌≢◌, ◌↔◌, ℕ, ◌+◌, ◌<◌, ◌⊎◌, Bool, IsTrue, List, [], ◌∷◌, ◌++◌, length, take, Option}
 use Rattle.std.specs.Io.KnownBytes.{Appends}
 use Rattle.rhythm_base.specs.Counter.{risen}
 use Rattle.rhythm_base.specs.Grammar.{Grammar}
@@ -27,6 +27,32 @@ pub record Heard : Type 0 where
 -- a line is answered, and so many cells are built for it
 abbrev pub Replies : Heard → List ℕ → ℕ → Desk → Type 0
 Replies old reply n next = AnswersOn old.desk old.begun reply n next
+
+-- a byte joins the line that was begun
+abbrev pub joined : Heard → ℕ → Heard
+joined heard byte = record heard { begun = heard.begun ++ byte ∷ []; read = heard.read + 1 }
+
+-- the line that was begun is as long as a line may be, or a byte can join it
+abbrev pub IsLongLine : Heard → Type 0
+IsLongLine heard = length heard.begun ≡ LONGEST_SCRIPT_LINE
+
+abbrev pub IsShortLine : Heard → Type 0
+IsShortLine heard = length heard.begun < LONGEST_SCRIPT_LINE
+
+-- a byte can join the line that was begun, and the script may have one more
+abbrev pub CanJoin : Heard → Type 0
+CanJoin heard = IsShortLine heard × (heard.read < LONGEST_SCRIPT)
+
+-- out took the reply to the line that was begun, and so many cells are built; and whether that line ends the script
+abbrev pub Whole : {O : Type 0} → (O → Option (List ℕ)) → O → O → ℕ → ℕ → Heard → Desk → Bool → Type 0
+Whole taken out out' built built' old next ends =
+    (IsTrue ends ↔ Quits old.begun)
+    × ((reply : List ℕ) × (n : ℕ) × Replies old reply n next × Appends (taken out) (taken out') reply × (built' ≡ risen built n))
+
+-- out took a first part of that reply, and not all
+abbrev pub Part : {O : Type 0} → (O → Option (List ℕ)) → O → O → ℕ → ℕ → Heard → Desk → Type 0
+Part taken out out' built built' old next =
+    (reply : List ℕ) × (n sent : ℕ) × Replies old reply n next × (sent < length reply) × Appends (taken out) (taken out') (take sent reply) × (built' ≡ risen built n)
 
 -- a byte is heard, and no line that says `quit` ends there
 abbrev pub Hears : Heard → ℕ → List ℕ → ℕ → Heard → Type 0

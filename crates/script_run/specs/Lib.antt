@@ -9,3 +9,4 @@ pub mod Machine
 pub mod Ends
 pub mod Faults
 pub mod Laws
+pub mod LineReplies

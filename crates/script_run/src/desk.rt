@@ -1,10 +1,8 @@
 ghost use Rattle.edit_script.specs.declared.reply.Reply.TheVariants as replies;
-ghost use Rattle.rhythm_base.specs.Counter.{risen};
 ghost use Rattle.script_run.specs.Answers.{Quits};
-ghost use Rattle.script_run.specs.Desk.{AnswersOn, shown};
-ghost use Rattle.session_history.specs.StudioReplies.{studio_reply_text};
+ghost use Rattle.script_run.specs.LineReplies.{Built, RepliesOn};
 ghost use Rattle.session_history.specs.declared.studio_reply.StudioReply.TheVariants as studio;
-ghost use Rattle.std.specs.Prelude.{◌≡◌, ◌≤◌, ◌↔◌, ℕ, IsTrue};
+ghost use Rattle.std.specs.Prelude.{◌≡◌, ◌≤◌, ◌↔◌, IsTrue};
 
 use crate::reply::reply_to;
 use crate::studio::studio_reply_to;
@@ -42,8 +40,7 @@ impl Desk {
         builds: &mut Builds<B>,
         products: &mut Products<P>,
     ) -> StudioReply
-        ensures answer { (n : ℕ) × AnswersOn (shown self.old) line.now (studio_reply_text result) n (shown self.new)
-            × (builds.new ≡ risen builds.old n) }
+        ensures answer { Built builds.old builds.new (RepliesOn self.old line.now result self.new) }
         ensures ends { (result ≡ studio.Plain replies.Bye) ↔ Quits line.now }
         ensures products { products.old ≤ products.new }
     {

@@ -1,11 +1,8 @@
-ghost use Rattle.rhythm_base.specs.Counter.{risen};
-ghost use Rattle.rhythm_base.specs.declared.limits.TheConstants.{LONGEST_SCRIPT, LONGEST_SCRIPT_LINE};
+ghost use Rattle.rhythm_base.specs.declared.limits.TheConstants.{LONGEST_SCRIPT};
 ghost use Rattle.rhythm_ports.specs.Causes.{HasCause};
-ghost use Rattle.script_run.specs.Answers.{Quits};
 ghost use Rattle.script_run.specs.Desk.{shown};
-ghost use Rattle.script_run.specs.Hearing.{Heard, Replies};
-ghost use Rattle.std.specs.Io.KnownBytes.{Appends};
-ghost use Rattle.std.specs.Prelude.{◌≡◌, ◌≤◌, ◌<◌, ◌+◌, ◌↔◌, ◌++◌, ◌∷◌, [], ℕ, List, IfOk, IsTrue, MatchBool, OnErr, length, take};
+ghost use Rattle.script_run.specs.Hearing.{CanJoin, Heard, IsLongLine, IsShortLine, Part, Whole, joined};
+ghost use Rattle.std.specs.Prelude.{◌≡◌, ◌≤◌, ◌<◌, ◌+◌, ◌↔◌, [], IfOk, IsTrue, MatchBool, OnErr};
 
 use crate::desk::{Desk, is_bye};
 use carry_matrix::Steps as Products;
@@ -65,9 +62,8 @@ impl Listener {
 
     /// Joins a byte to the line that was begun.
     pub fn join(&mut self, byte: u8)
-        requires line { length self.old.begun < LONGEST_SCRIPT_LINE }
-        requires script { self.old.read < LONGEST_SCRIPT }
-        ensures { self.new ≡ record self.old { begun = self.old.begun ++ byte ∷ []; read = self.old.read + 1 } }
+        requires { CanJoin self.old }
+        ensures { self.new ≡ joined self.old byte }
     {
         self.line.push_reserved(byte);
         self.read += 1;
@@ -83,11 +79,8 @@ impl Listener {
         products: &mut Products<P>,
     ) -> Result<bool, Failed>
         ensures same { (self.new.read ≡ self.old.read) × (self.new.begun ≡ []) }
-        ensures ok { IfOk result (λ ends. (IsTrue ends ↔ Quits self.old.begun)
-            × ((reply : List ℕ) × (n : ℕ) × Replies self.old reply n self.new.desk
-            × Appends (O.taken out.old) (O.taken out.new) reply × (builds.new ≡ risen builds.old n))) }
-        ensures cut { OnErr result ((reply : List ℕ) × (n sent : ℕ) × Replies self.old reply n self.new.desk
-            × (sent < length reply) × Appends (O.taken out.old) (O.taken out.new) (take sent reply) × (builds.new ≡ risen builds.old n)) }
+        ensures ok { IfOk result (Whole O.taken out.old out.new builds.old builds.new self.old self.new.desk) }
+        ensures cut { OnErr result (Part O.taken out.old out.new builds.old builds.new self.old self.new.desk) }
         ensures cause { HasCause (O.faults out.old) (O.faults out.new) result }
         ensures products { products.old ≤ products.new }
     {
@@ -124,7 +117,7 @@ impl Listener {
 
     /// Whether the line that was begun is as long as a line may be.
     pub fn has_long_line(&self) -> bool
-        ensures { MatchBool result (length self.now.begun ≡ LONGEST_SCRIPT_LINE) (length self.now.begun < LONGEST_SCRIPT_LINE) }
+        ensures { MatchBool result (IsLongLine self.now) (IsShortLine self.now) }
     {
         self.line.len() as u64 == LONGEST_SCRIPT_LINE
     }

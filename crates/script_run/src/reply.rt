@@ -1,18 +1,21 @@
-ghost use Rattle.edit_script.specs.ReplyText.{reply_text};
-ghost use Rattle.edit_script.specs.declared.reply.Refusal.TheVariants as refusals;
 ghost use Rattle.edit_script.specs.declared.reply.Reply.TheVariants as replies;
 ghost use Rattle.edit_session.specs.Asking.{CanBePinned};
-ghost use Rattle.rhythm_base.specs.Counter.{risen};
 ghost use Rattle.rhythm_base.specs.EditRanges.{IsEditInRange};
-ghost use Rattle.edit_laws.specs.Edits.{cell_tests, edited, first_refusal};
-ghost use Rattle.edit_script.specs.Replies.{alternatives_text};
-ghost use Rattle.script_laws.specs.Script.{shown_alternative};
+ghost use Rattle.edit_laws.specs.Edits.{edited};
 ghost use Rattle.edit_script.specs.declared.command.Command.TheVariants as command;
-ghost use Rattle.rhythm_base.specs.declared.edit_fault.EditFault.TheVariants as faults;
-ghost use Rattle.script_run.specs.Answers.{AnswersLine, IsBuiltForEdit, Quits};
+ghost use Rattle.script_run.specs.Answers.{HasCell, Quits};
 ghost use Rattle.script_run.specs.Faults.{refusal_of_asking, refusal_of_score};
-ghost use Rattle.script_run.specs.Hearing.{MayAnswer};
-ghost use Rattle.std.specs.Prelude.{◌≡◌, ◌≢◌, ◌≤◌, ◌↔◌, ◌⊎◌, ℕ, All, IfOk, IsOk, MatchResult, None, map};
+ghost use Rattle.script_run.specs.LineReplies.{
+  Built,
+  IsBuiltByEdit,
+  IsEditReply,
+  Refuses,
+  MayReply,
+  RepliesToLine,
+  ShowsAll,
+  no_memory,
+};
+ghost use Rattle.std.specs.Prelude.{◌≡◌, ◌≢◌, ◌≤◌, ◌↔◌, All, IfOk, IsOk, MatchResult};
 
 use crate::shown::all_shown;
 use carry_matrix::Steps as Products;
@@ -27,7 +30,7 @@ use std::thread::Threads;
 
 /// The reply to an edit, by what became of it.
 pub fn edit_reply(outcome: Result<Applied, EditFault>) -> Reply
-    ensures { MatchResult outcome (λ a. result ≡ replies.Done a.built a.cost) (λ fault. result ≡ replies.Refused (refusals.Edit fault)) }
+    ensures { IsEditReply outcome result }
 {
     match outcome {
         Ok(applied) => Reply::Done {
@@ -48,9 +51,9 @@ fn reply_to_edit<R: Threads + Sync, G: Gate + Sync, B: Tag, P: Tag>(
 ) -> Reply
     requires { IsEditInRange edit.now }
     ensures grammar { session.new.grammar ≡ session.old.grammar }
-    ensures answer { MayAnswer session.old.grammar session.old.performance (command.Change edit.now) (reply_text result) session.new.performance }
-    ensures memory { result ≡ replies.Refused (refusals.Edit faults.Memory) → IsOk (edited session.old.performance edit.now) }
-    ensures built { (n : ℕ) × IsBuiltForEdit session.old.grammar session.old.performance edit.now (reply_text result) n × (builds.new ≡ risen builds.old n) }
+    ensures answer { MayReply session.old (command.Change edit.now) result session.new }
+    ensures memory { result ≡ no_memory → IsOk (edited session.old.performance edit.now) }
+    ensures built { Built builds.old builds.new (IsBuiltByEdit session.old edit.now result) }
     ensures goes_on { result ≢ replies.Bye }
     ensures products { products.old ≤ products.new }
 {
@@ -69,7 +72,7 @@ fn score_refusal(fault: ScoreFault) -> Refusal
 
 /// The reply to a line that asks for the score, by what became of it.
 fn score_reply(score: Result<Vec<u8>, ScoreFault>) -> Reply
-    ensures { MatchResult score (λ text. result ≡ replies.Text text) (λ fault. result ≡ replies.Refused (refusal_of_score fault)) }
+    ensures { MatchResult score (λ text. result ≡ replies.Text text) (Refuses refusal_of_score result) }
 {
     match score {
         Ok(text) => Reply::Text(text),
@@ -79,7 +82,7 @@ fn score_reply(score: Result<Vec<u8>, ScoreFault>) -> Reply
 
 /// The reply to a line that asks for the score.
 pub fn reply_with_score(alloc: Global, session: &Session) -> Reply
-    ensures answer { MayAnswer session.now.grammar session.now.performance command.Score (reply_text result) session.now.performance }
+    ensures answer { MayReply session.now command.Score result session.now }
     ensures goes_on { result ≢ replies.Bye }
 {
     score_reply(session.score(alloc))
@@ -99,7 +102,7 @@ fn ask_refusal(fault: AskFault) -> Refusal
 /// The reply that shows alternatives.
 fn list_reply(alloc: Global, list: &[Alternative]) -> Reply
     requires { All CanBePinned list.now }
-    ensures text { (reply_text result ≡ alternatives_text (map shown_alternative list.now)) ⊎ (result ≡ replies.Refused (refusals.Edit faults.Memory)) }
+    ensures text { ShowsAll list.now result }
     ensures goes_on { result ≢ replies.Bye }
 {
     match all_shown(alloc, list) {
@@ -111,9 +114,7 @@ fn list_reply(alloc: Global, list: &[Alternative]) -> Reply
 /// The reply to a line that asks for alternatives, by what became of it.
 fn alternatives_reply(alloc: Global, list: Result<Vec<Alternative>, AskFault>) -> Reply
     requires { IfOk list (λ v. All CanBePinned v.items) }
-    ensures reply { MatchResult list
-        (λ v. (reply_text result ≡ alternatives_text (map shown_alternative v.items)) ⊎ (result ≡ replies.Refused (refusals.Edit faults.Memory)))
-        (λ fault. result ≡ replies.Refused (refusal_of_asking fault)) }
+    ensures reply { MatchResult list (λ v. ShowsAll v.items result) (Refuses refusal_of_asking result) }
     ensures goes_on { result ≢ replies.Bye }
 {
     match list {
@@ -131,8 +132,8 @@ pub fn reply_with_alternatives<P: Tag>(
     count: u32,
     products: &mut Products<P>,
 ) -> Reply
-    ensures answer { MayAnswer session.now.grammar session.now.performance (command.Alternatives channel bar count) (reply_text result) session.now.performance }
-    ensures memory { result ≡ replies.Refused (refusals.Edit faults.Memory) → first_refusal (cell_tests session.now.performance channel bar) ≡ None }
+    ensures answer { MayReply session.now (command.Alternatives channel bar count) result session.now }
+    ensures memory { result ≡ no_memory → HasCell session.now.performance channel bar }
     ensures goes_on { result ≢ replies.Bye }
     ensures products { products.old ≤ products.new }
 {
@@ -151,8 +152,7 @@ pub fn reply_to<R: Threads + Sync, G: Gate + Sync, B: Tag, P: Tag>(
     products: &mut Products<P>,
 ) -> Reply
     ensures grammar { session.new.grammar ≡ session.old.grammar }
-    ensures answer { (n : ℕ) × AnswersLine session.old.grammar session.old.performance line.now (reply_text result) n session.new.performance
-        × (builds.new ≡ risen builds.old n) }
+    ensures answer { Built builds.old builds.new (RepliesToLine session.old line.now result session.new) }
     ensures ends { (result ≡ replies.Bye) ↔ Quits line.now }
     ensures products { products.old ≤ products.new }
 {

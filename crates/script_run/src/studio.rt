@@ -1,17 +1,17 @@
-ghost use Rattle.edit_script.specs.ReplyText.{reply_text};
-ghost use Rattle.edit_script.specs.declared.reply.Refusal.TheVariants as refusals;
 ghost use Rattle.edit_script.specs.declared.reply.Reply.TheVariants as replies;
-ghost use Rattle.rhythm_base.specs.Counter.{risen};
 ghost use Rattle.rhythm_base.specs.EditRanges.{IsEditInRange};
 ghost use Rattle.edit_laws.specs.Edits.{edited};
-ghost use Rattle.edit_script.specs.declared.command.Command.TheVariants as command;
-ghost use Rattle.rhythm_base.specs.declared.edit_fault.EditFault.TheVariants as faults;
-ghost use Rattle.script_run.specs.Answers.{IsBuiltForEdit, Quits};
-ghost use Rattle.script_run.specs.Studio.{AnswersStudioLine, MayAnswerInStudio};
-ghost use Rattle.session_history.specs.StudioReplies.{studio_reply_text};
-ghost use Rattle.session_history.specs.declared.studio_command.StudioCommand.TheVariants as studio_command;
+ghost use Rattle.script_run.specs.Answers.{Quits};
+ghost use Rattle.script_run.specs.LineReplies.{
+  Built,
+  IsBuiltByStep,
+  IsStepReply,
+  MayReplyToEdit,
+  RepliesInStudio,
+  no_memory,
+};
 ghost use Rattle.session_history.specs.declared.studio_reply.StudioReply.TheVariants as studio;
-ghost use Rattle.std.specs.Prelude.{◌≡◌, ◌≢◌, ◌≤◌, ◌↔◌, ℕ, IsOk, MatchResult};
+ghost use Rattle.std.specs.Prelude.{◌≡◌, ◌≢◌, ◌≤◌, ◌↔◌, IsOk};
 
 use crate::reply::{edit_reply, reply_with_alternatives, reply_with_score};
 use carry_matrix::Steps as Products;
@@ -25,7 +25,7 @@ use std::thread::Threads;
 
 /// The reply to a line that asks for a step back or on.
 fn step_reply(outcome: Result<Applied, NoStep>) -> StudioReply
-    ensures { MatchResult outcome (λ a. result ≡ studio.Plain (replies.Done a.built a.cost)) (λ _. result ≡ studio.NoStep) }
+    ensures { IsStepReply outcome result }
 {
     match outcome {
         Ok(applied) => StudioReply::Plain(Reply::Done {
@@ -45,9 +45,9 @@ fn reply_to_edit<R: Threads + Sync, G: Gate + Sync, B: Tag, P: Tag>(
     products: &mut Products<P>,
 ) -> Reply
     requires { IsEditInRange edit.now }
-    ensures answer { MayAnswerInStudio history.old (studio_command.Plain (command.Change edit.now)) (reply_text result) history.new }
-    ensures memory { result ≡ replies.Refused (refusals.Edit faults.Memory) → IsOk (edited history.old.present edit.now) }
-    ensures built { (n : ℕ) × IsBuiltForEdit history.old.grammar history.old.present edit.now (reply_text result) n × (builds.new ≡ risen builds.old n) }
+    ensures answer { MayReplyToEdit history.old edit.now result history.new }
+    ensures memory { result ≡ no_memory → IsOk (edited history.old.present edit.now) }
+    ensures built { Built builds.old builds.new (IsBuiltByStep history.old edit.now result) }
     ensures goes_on { result ≢ replies.Bye }
     ensures products { products.old ≤ products.new }
 {
@@ -62,7 +62,7 @@ pub fn studio_reply_to<R: Threads + Sync, G: Gate + Sync, B: Tag, P: Tag>(
     builds: &mut Builds<B>,
     products: &mut Products<P>,
 ) -> StudioReply
-    ensures answer { (n : ℕ) × AnswersStudioLine history.old line.now (studio_reply_text result) n history.new × (builds.new ≡ risen builds.old n) }
+    ensures answer { Built builds.old builds.new (RepliesInStudio history.old line.now result history.new) }
     ensures ends { (result ≡ studio.Plain replies.Bye) ↔ Quits line.now }
     ensures products { products.old ≤ products.new }
 {

@@ -1,13 +1,18 @@
-use Rattle.std.proofs.Common.{◌+◌, ◌++◌, List, map, ap, sym, ◌∙◌}
-use Rattle.std.proofs.lemmas.List.{append-nil, take_all}
+use Rattle.std.proofs.Common.{◌≡◌, ◌+◌, ◌<◌, ◌++◌, ◌∷◌, [], ℕ, List, length, map, take, ap, sym, ◌∙◌, arith}
+use Rattle.std.specs.List.{zip}
+use Rattle.std.proofs.lemmas.List.{append-nil, append_assoc}
+use Rattle.bar_pool.specs.declared.order.AskedCell.{AskedCell}
 use Rattle.rhythm_base.specs.declared.chord.Chord.{Chord}
+use Rattle.barline_follow.specs.declared.heads.Heads.{Heads}
+use Rattle.barline_follow.specs.Barring.{barring_end}
 use Rattle.barline_follow.specs.Courses.{cell}
+use Rattle.barline_follow.specs.NextBars.{asked_cell}
 use Rattle.barline_follow.proofs.NextBarLemmas.{like_signature}
-use Rattle.barline_follow.proofs.Searching.{grown_one}
+use Rattle.barline_follow.proofs.Searching.{joined_more, zip_short}
 use Rattle.barline_follow.proofs.cells.push_cells.Goals as goal
 
 pub voices-init : goal.voices-init
-voices-init c = sym (append-nil c.args.inputs.now.items)
+voices-init c = sym (append-nil c.args.cells.now.items)
 
 pub cell_input-requires-clause-signature : goal.cell_input-requires-clause-signature
 cell_input-requires-clause-signature c =
@@ -17,18 +22,29 @@ cell_input-requires-clause-signature c =
 pub voices-preserved : goal.voices-preserved
 voices-preserved c =
     let next = c.args.next.now in
-    let start = c.args.start in
-    let end = start + c.args.offer.ticks in
-    let voice_is = c.chords.ensures.value ∙ c.voice-item.is in
+    let i : ℕ = c.voices.voice in
+    let start : ℕ = c.end-start.result in
+    let end : ℕ = start + c.args.offer.ticks in
+    let voices : List (List Chord) = next.voices.now in
+    let heads : List Heads = c.heads-heads.result.now in
+    let low : i < length voices = omega (arith, c.voices-test.true, c.min-count.ensures) in
+    let high : i < length heads = omega (arith, c.voices-test.true, c.min-count.ensures) in
+    let own_input = c.in_ok-input.ensures ∙ ap (cell next.grammar.now next.like start end) c.chords-chords.ensures.value in
+    let own_asked = c.asked_after-asked.ensures in
     c.in_ok-push.ensures.items
-    ∙ grown_one (cell next.grammar.now next.like start end) c.args.inputs.now.items c.voices.inputs.items next.voices.now c.voices.voice-index _
-    c.in_ok-cell_input.field-0 c.voices-test.true c.voices.invariant
-    (c.in_ok-cell_input.ensures ∙ ap (cell next.grammar.now next.like start end) voice_is)
+    ∙ (λ k. c.voices.invariant k ++ (record { input = own_input k; asked = own_asked k } ∷ []))
+    ∙ append_assoc c.args.cells.now.items (map (asked_cell next start end) (zip (take i voices) (take i heads))) _
+    ∙ ap (λ (l : List AskedCell). c.args.cells.now.items ++ l) (sym (joined_more (asked_cell next start end) voices heads i c.index-next-voice.result _ low high))
 
 pub returns : goal.returns
 returns c =
     let next = c.args.next.now in
-    let start = c.args.start in
-    let end = start + c.args.offer.ticks in
+    let course = c.args.course.now in
+    let start = c.end-start.result in
+    let voices : List (List Chord) = next.voices.now in
+    let start_is : start ≡ barring_end course.barring = c.end-start.ensures.value ∙ ap barring_end c.barring.ensures in
+    let all = zip_short voices c.heads-heads.result.now c.voices.voice (omega (arith, c.voices-test.false, c.min-count.ensures)) in
+    let heads_is : c.heads-heads.result.now ≡ course.heads = c.heads-heads.ensures in
     c.voices.invariant
-    ∙ ap (λ (l : List (List Chord)). c.args.inputs.now.items ++ map (cell next.grammar.now next.like start end) l) (take_all c.voices.voice-index next.voices.now c.voices-test.false)
+    ∙ ap (λ (l : List (List Chord × Heads)). c.args.cells.now.items ++ map (asked_cell next start (start + c.args.offer.ticks)) l) all
+    ∙ (λ k. c.args.cells.now.items ++ map (asked_cell next (start_is k) (start_is k + c.args.offer.ticks)) (zip voices (heads_is k)))

@@ -1,7 +1,8 @@
 use Rattle.std.proofs.Common.{◌≡◌, ◌++◌, map, take}
-use Rattle.barline_follow.specs.Courses.{cell}
+use Rattle.std.specs.List.{zip}
+use Rattle.barline_follow.specs.NextBars.{asked_cell}
 use Rattle.barline_follow.proofs.cells.push_cells.Given as goal
 
 abbrev pub invariant-voices : goal.invariant-voices
 invariant-voices l =
-    l.inputs.items ≡ l.initial.inputs.items ++ map (cell l.next.grammar.now l.next.like l.start l.end) (take l.voice-index l.next.voices.now)
+    l.cells.items ≡ l.initial.cells.items ++ map (asked_cell l.next l.start l.end) (zip (take l.voice l.next.voices.now) (take l.voice l.heads))

@@ -3,15 +3,15 @@ use Rattle.std.specs.Prelude.{All}
 use Rattle.std.specs.List.{flat_map}
 use Rattle.std.proofs.lemmas.List.{length-map, take_all}
 use Rattle.std.proofs.lemmas.List.Elements.{All-append, All-nil}
-use Rattle.bar_pool.specs.Pool.{AreTablesOf}
-use Rattle.rhythm_base.specs.BarInput.{BarInput}
+use Rattle.bar_pool.specs.Costs.{AreAllCosts}
+use Rattle.bar_pool.specs.declared.order.AskedCell.{AskedCell}
 use Rattle.rhythm_base.specs.Lists.{Each}
 use Rattle.barline_follow.specs.declared.offers.Offer.{Offer}
 use Rattle.barline_follow.specs.Barring.{Course, barring_end}
 use Rattle.barline_follow.specs.Gathered.{barring_of}
-use Rattle.barline_follow.specs.NextBars.{IsCourseOf, IsTried, all_cells, cells}
+use Rattle.barline_follow.specs.NextBars.{IsCourseOf, IsTried, all_asked, asked_cells}
 use Rattle.barline_follow.specs.Rounds.{Draft, Found, IsFound, rows, with_bar}
-use Rattle.barline_follow.proofs.NextBarLemmas.{all_cells_next}
+use Rattle.barline_follow.proofs.NextBarLemmas.{all_asked_next}
 use Rattle.barline_follow.proofs.Searching.{each_append, each_at_map, each_long, rows_more}
 use Rattle.barline_follow.proofs.gather.gather.Goals as goal
 
@@ -39,8 +39,8 @@ add_all-requires-clause-tried c =
     subst (λ (l : List Offer). All (IsTried next (barring_end course.barring)) l) own_is
     (subst (λ (t : Course). All (IsTried next (barring_end t.barring)) (get_or tried n c.index-tried-place.result).items) track_is all)
 
-pub add_all-requires-clause-tables : goal.add_all-requires-clause-tables
-add_all-requires-clause-tables c =
+pub add_all-requires-clause-costs : goal.add_all-requires-clause-costs
+add_all-requires-clause-costs c =
     let next = c.args.next.now in
     let n : ℕ = c.lists.place in
     let front : List Course = c.args.front.now in
@@ -50,16 +50,16 @@ add_all-requires-clause-tables c =
     let course : Course = c.index-front-place.result in
     let track_is : get_or front n course ≡ course = sym c.index-front-place.is in
     let own_is : (get_or tried n c.index-tried-place.result).items ≡ c.as_slice-own.result.now = ap items_of (sym c.index-tried-place.is) ∙ sym c.as_slice-own.ensures.value in
-    let rest : List BarInput = all_cells next (drop (n + 1) front) (map items_of (drop (n + 1) tried)) in
-    let parts = all_cells_next next front tried n course c.index-tried-place.result low high
-    ∙ (λ i. flat_map (cells next (barring_end (track_is i).barring)) (own_is i) ++ all_cells next (drop (n + 1) front) (map items_of (drop (n + 1) tried))) in
-    (rest, subst (λ (l : List BarInput). AreTablesOf next.grammar.now l c.lists.left.now) parts c.lists.invariant.0)
+    let rest : List AskedCell = all_asked next (drop (n + 1) front) (map items_of (drop (n + 1) tried)) in
+    let parts = all_asked_next next front tried n course c.index-tried-place.result low high
+    ∙ (λ i. flat_map (asked_cells next (track_is i)) (own_is i) ++ all_asked next (drop (n + 1) front) (map items_of (drop (n + 1) tried))) in
+    (rest, subst (λ (l : List AskedCell). AreAllCosts next.grammar.now l c.lists.left.now) parts c.lists.invariant.0)
 
 pub add_all-requires-clause-round : goal.add_all-requires-clause-round
 add_all-requires-clause-round c = (c.args.best, c.lists.invariant.1.0, c.lists.invariant.1.1, c.lists.invariant.1.4)
 
 pub lists-init : goal.lists-init
-lists-init c = (c.requires.tables, ([], [], refl, All-nil (IsCourseOf c.args.next.now (c.args.next.now.number + 1)), c.begin-round.ensures))
+lists-init c = (c.requires.costs, ([], [], refl, All-nil (IsCourseOf c.args.next.now (c.args.next.now.number + 1)), c.begin-round.ensures))
 
 pub lists-preserved : goal.lists-preserved
 lists-preserved c =
@@ -73,10 +73,10 @@ lists-preserved c =
     let track_is : get_or front n course ≡ course = sym c.index-front-place.is in
     let own_is : (get_or tried n c.index-tried-place.result).items ≡ c.as_slice-own.result.now = ap items_of (sym c.index-tried-place.is) ∙ sym c.as_slice-own.ensures.value in
     let Finds : Draft → Found → Type 0 = IsFound next.grammar.now next.performance.now in
-    let rest : List BarInput = all_cells next (drop (n + 1) front) (map items_of (drop (n + 1) tried)) in
-    let parts = all_cells_next next front tried n course c.index-tried-place.result low high
-    ∙ (λ i. flat_map (cells next (barring_end (track_is i).barring)) (own_is i) ++ all_cells next (drop (n + 1) front) (map items_of (drop (n + 1) tried))) in
-    let were = subst (λ (l : List BarInput). AreTablesOf next.grammar.now l c.lists.left.now) parts c.lists.invariant.0 in
+    let rest : List AskedCell = all_asked next (drop (n + 1) front) (map items_of (drop (n + 1) tried)) in
+    let parts = all_asked_next next front tried n course c.index-tried-place.result low high
+    ∙ (λ i. flat_map (asked_cells next (track_is i)) (own_is i) ++ all_asked next (drop (n + 1) front) (map items_of (drop (n + 1) tried))) in
+    let were = subst (λ (l : List AskedCell). AreAllCosts next.grammar.now l c.lists.left.now) parts c.lists.invariant.0 in
     let was = c.lists.invariant.1 in
     let more = c.in_ok-left.ensures.gathered c.args.best was.0 was.1 was.4 in
     let drafts = rows_more front tried n course c.index-tried-place.result low high

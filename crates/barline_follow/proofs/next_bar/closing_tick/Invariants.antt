@@ -2,7 +2,8 @@ use Rattle.std.proofs.Common.{◌≡◌, ℕ, take}
 use Rattle.std.specs.Prelude.{nat_le, not}
 use Rattle.std.specs.List.{list_any}
 use Rattle.edit_laws.specs.Edits.{is_past}
+use Rattle.rhythm_base.specs.NoteBlocks.{notes_of}
 use Rattle.barline_follow.proofs.next_bar.closing_tick.Given as goal
 
-abbrev pub invariant-notes : goal.invariant-notes
-invariant-notes l = (end : ℕ) → not (list_any (is_past end) (take l.note-index l.notes)) ≡ nat_le l.tick end
+abbrev pub invariant-blocks-2 : goal.invariant-blocks-2
+invariant-blocks-2 l = (end : ℕ) → not (list_any (is_past end) (notes_of (take l.block-index l.block-items))) ≡ nat_le l.tick end

@@ -1,23 +1,36 @@
-use Rattle.std.proofs.Common.{rules, subst, sym, ap, ◌∙◌}
+use Rattle.std.proofs.Common.{rules, ◌≡◌, List, subst, sym, ap, ◌∙◌}
 use Rattle.std.specs.Prelude.{◌==◌, filter}
 use Rattle.rhythm_base.specs.Lists.{AreInOrder}
 use Rattle.rhythm_base.specs.Performance.{place_of_note}
-use Rattle.rhythm_base.specs.Voices.{AreChordsOf}
+use Rattle.rhythm_base.specs.declared.note.Note.{Note}
+use Rattle.rhythm_base.specs.Chords.{AreChords}
+use Rattle.rhythm_base.specs.Voices.{AreChordsOf, notes_of_voice}
 use Rattle.voices.specs.Voice.{AreNotesOfVoice}
 use Rattle.bar_cut.proofs.Performances.{can_be_cut}
 use Rattle.edit_session.proofs.VoiceNotes.{notes_are_voice}
 use Rattle.barline_follow.proofs.voice.voice_of.Goals as goal
 
-pub voice_notes-notes-requires : goal.voice_notes-notes-requires
-voice_notes-notes-requires c = subst (AreInOrder place_of_note) (sym c.notes.ensures.value) c.notes.ensures.formed.notes_in_order
+pub notes_of_voice-requires : goal.notes_of_voice-requires
+notes_of_voice-requires c = subst (AreInOrder place_of_note) (sym c.notes.ensures.value) c.notes.ensures.formed.notes_in_order
 
 pub chords_of-requires : goal.chords_of-requires
 chords_of-requires c =
-    let is = c.voice_notes-notes.ensures ∙ ap (λ l. filter (λ n. n.channel == c.args.channel) l) c.notes.ensures.value in
+    let lent : c.as_slice.result.now ≡ c.in_ok-notes.notes.items = search rules in
+    let is = lent ∙ c.in_ok-notes.ensures ∙ ap (λ l. filter (λ n. n.channel == c.args.channel) l) c.notes.ensures.value in
     subst AreNotesOfVoice (sym is) (notes_are_voice c.args.performance.now c.args.channel c.notes.ensures.formed)
 
 pub of-requires : goal.of-requires
 of-requires c =
-    let are : AreChordsOf c.args.grammar.now c.args.performance.now c.args.channel c.in_ok-chords.chords.items = search rules in
+    let g = c.args.grammar.now in
+    let p = c.args.performance.now in
+    let own : List Note = notes_of_voice p c.args.channel in
+    let lent : c.as_slice.result.now ≡ c.in_ok-notes.notes.items = search rules in
+    let is : c.as_slice.result.now ≡ own = lent ∙ c.in_ok-notes.ensures ∙ ap (λ l. filter (λ n. n.channel == c.args.channel) l) c.notes.ensures.value in
+    let window : c.grammar.inside.window ≡ g.window = search rules in
+    let are : AreChordsOf g p c.args.channel c.in_ok-chords.chords.items =
+    subst (λ ts. AreChords ts p.division g.window own c.in_ok-chords.chords.items) c.requires
+    (subst (λ d. AreChords c.args.tempo_map.now.tempos d g.window own c.in_ok-chords.chords.items) c.division-division.ensures.value
+    (subst (λ w. AreChords c.args.tempo_map.now.tempos c.division-division.result w own c.in_ok-chords.chords.items) window
+    (subst (λ (ns : List Note). AreChords c.args.tempo_map.now.tempos c.division-division.result c.grammar.inside.window ns c.in_ok-chords.chords.items) is c.in_ok-chords.ensures))) in
     let cut = can_be_cut c.args.grammar.now c.args.performance.now c.args.channel c.in_ok-chords.chords.items c.notes.ensures.formed are in
     record { rise = cut.chords_rise; ends = cut.chords }

@@ -1,42 +1,38 @@
-use Rattle.std.proofs.Common.{rules, ℕ, ◌+◌, Option, get_or, length, refl, sym, ap, ◌∙◌, subst, inl, inr, arith}
-use Rattle.rhythm_base.specs.Barlines.{barline}
-use Rattle.edit_session.specs.ChangedVoices.{IsUnchangedVoice, LeavesOthers}
+use Rattle.std.proofs.Common.{◌≡◌, ◌⊎◌, ◌<◌, ◌≤◌, ℕ, filter, length, sym, ap, ◌∙◌, subst, arith}
+use Rattle.rhythm_base.specs.Performance.{Performance}
+use Rattle.rhythm_base.specs.Pins.{pin_of}
+use Rattle.edit_laws.specs.Edits.{performance_after}
+use Rattle.edit_session.specs.Spans.{IsKnown, IsSameBar}
+use Rattle.edit_session.specs.Touched.{LeavesPin, touched_from, touched_up_to}
+use Rattle.edit_session.proofs.OtherVoices.{times}
+use Rattle.edit_session.proofs.SameSides.{is_early, is_late}
+use Rattle.edit_session.proofs.TouchedNotes.{early_after, late_after, pins_after}
 use Rattle.edit_session.proofs.known.known_of.Goals as goal
 
-pub returns-in-Some : goal.returns-in-Some
-returns-in-Some c =
+pub returns-clause-known : goal.returns-clause-known
+returns-clause-known c =
     let p = c.args.before.now in
-    let q = c.args.after.now in
-    let channel : ℕ = c.in-Some._channel in
-    let leaves = subst (λ (o : Option ℕ). LeavesOthers o p q) c.in-Some.is c.requires.others in
-    let kept : IsUnchangedVoice p q (channel + 1) = leaves (channel + 1) (λ same. omega (arith, same)) in (
-      refl,
-      record {
-        pins = sym c.pins-2.ensures ∙ sym (c.same_pins.ensures (search rules)) ∙ c.pins.ensures;
-        tempos = c.requires.tempos;
-        division = c.requires.division;
-        first = omega (arith, ap length c.bars.ensures.value);
-        end = omega arith;
-        bars = λ k lt out. record {
-          there = omega (arith, lt, ap length kept.bars);
-          bar = λ d. ap (λ l. get_or l k d) kept.bars;
-          end = λ i. barline (kept.bars i) (kept.last i) (k + 1);
-        };
-      },
-    )
-
-pub returns-in-None : goal.returns-in-None
-returns-in-None c = (
-  refl,
-  record {
-    pins = sym c.pins-2.ensures ∙ sym (c.same_pins.ensures (search rules)) ∙ c.pins.ensures;
-    tempos = c.requires.tempos;
-    division = c.requires.division;
-    first = c.first_other_bar.ensures.within;
-    end = c.other_bar_end.ensures.within;
-    bars = λ k lt out. elim out [
-      | inl early ↦ c.first_other_bar.ensures.same k early
-      | inr late ↦ c.other_bar_end.ensures.same k late lt
-    ];
-  },
-)
+    let edit = c.args.edit.now in
+    let ticks = c.touched_ticks-low.ensures in
+    let bars = c.touched_bars-first_bar.ensures in
+    let first : ℕ = c.touched_bars-first_bar.result.0 in
+    let end : ℕ = c.touched_bars-first_bar.result.1 in
+    let of_edit : (q : Performance) → q ≡ performance_after p edit → first ≤ length q.bars → end ≤ length q.bars
+    → ((number : ℕ) → number < length q.bars → (number < first) ⊎ (end ≤ number) → IsSameBar p q number)
+    → ((channel bar : ℕ) → bar < length q.bars → (bar < first) ⊎ (end ≤ bar) → LeavesPin edit channel bar)
+    → IsKnown p q (touched_from edit) (touched_up_to edit) first end =
+    λ q is few few_end same pins. record {
+      early = ap (λ (r : Performance). filter (is_early (touched_from edit)) r.notes) is ∙ early_after p c.requires.formed edit;
+      late = ap (λ (r : Performance). filter (is_late (touched_up_to edit)) r.notes) is ∙ late_after p c.requires.formed edit;
+      pins = λ channel bar lt out.
+          let count : bar < length (performance_after p edit).bars = omega (arith, lt, ap (λ (r : Performance). length r.bars) is) in
+          ap (λ (r : Performance). pin_of r.pins channel bar) is ∙ pins_after p c.requires.formed channel bar edit count (pins channel bar lt out);
+      tempos = ap (λ (r : Performance). r.tempos) is ∙ (times p edit).0;
+      division = ap (λ (r : Performance). r.division) is ∙ (times p edit).1;
+      first = few;
+      end = few_end;
+      bars = same;
+    } in
+    subst (λ t. IsKnown p c.args.after.now t c.touched_ticks-low.result.1 first end) (sym ticks.from)
+    (subst (λ t. IsKnown p c.args.after.now (touched_from edit) t first end) (sym ticks.up_to)
+    (of_edit c.args.after.now c.requires.after bars.first bars.end (bars.bars c.requires.after) bars.pins))

@@ -11,5 +11,8 @@ returns-then-place-eq0 c =
 
 pub returns : goal.returns
 returns c =
-    edge_later c.args.tempo_map.now.tempos c.args.division c.args.window c.args.before.now c.args.after.now c.requires.before c.requires.after c.break_up_to-place.result c.args.same
-    c.requires.same c.requires.within c.requires.within_after (omega (arith, c.break_up_to-place.ensures.within, c.saturating_sub.ensures)) (λ none. omega (arith, none, c.if-place-eq0.false)) c.break_up_to-place.ensures.break
+    let tempos = c.args.tempo_map.now.tempos in
+    let at = c.onset.ensures (record { channel = 0; key = 0; onset = 0; end = 0 }) in
+    subst (AreSameBefore tempos c.args.division c.args.window c.args.before.now c.args.after.now c.break_up_to-place.result) (sym at)
+    (edge_later tempos c.args.division c.args.window c.args.before.now c.args.after.now c.requires.before c.requires.after c.break_up_to-place.result c.args.same
+    c.requires.same c.requires.within c.requires.within_after (omega (arith, c.break_up_to-place.ensures.within, c.saturating_sub.ensures)) (λ none. omega (arith, none, c.if-place-eq0.false)) c.break_up_to-place.ensures.break)

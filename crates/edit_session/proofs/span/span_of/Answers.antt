@@ -1,8 +1,10 @@
-use Rattle.std.proofs.Common.{◌≡◌, ℕ, List, ◌∙◌, subst, arith}
+use Rattle.std.proofs.Common.{◌≡◌, ◌-◌, ℕ, List, drop, length, ap, sym, ◌∙◌, subst, arith}
 use Rattle.rhythm_base.specs.declared.note.Bar.{Bar}
+use Rattle.rhythm_base.specs.declared.note.Note.{Note}
 use Rattle.rhythm_base.specs.Barlines.{barline}
 use Rattle.edit_session.specs.Spans.{IsBarEnd, IsFirstBar, IsNotePart}
 use Rattle.edit_session.proofs.BarStarts.{earlier_bar, later_end}
+use Rattle.edit_session.proofs.SameSides.{begin_alike, end_alike}
 use Rattle.edit_session.proofs.span.span_of.Goals as goal
 
 pub returns : goal.returns
@@ -36,3 +38,32 @@ returns c =
       from = omega (arith, c.min-first_bar.ensures);
       up_to = omega (arith, c.max-bar_end.ensures);
     }
+
+-- ---- how many are the same
+
+pub first_bar_of-first-requires-clause-same : goal.first_bar_of-first-requires-clause-same
+first_bar_of-first-requires-clause-same c =
+    let found = c.count_before-front.ensures in
+    (begin_alike c.args.before.now c.args.after.now c.requires.before c.requires.after c.args.known.low c.count_before-front.result c.requires.early found.within found.front found.back).0
+
+pub first_bar_of-first-requires-clause-within_after : goal.first_bar_of-first-requires-clause-within_after
+first_bar_of-first-requires-clause-within_after c =
+    let found = c.count_before-front.ensures in
+    (begin_alike c.args.before.now c.args.after.now c.requires.before c.requires.after c.args.known.low c.count_before-front.result c.requires.early found.within found.front found.back).1
+
+pub bar_end_of-end-requires-clause-same : goal.bar_end_of-end-requires-clause-same
+bar_end_of-end-requires-clause-same c =
+    let before : List Note = c.args.before.now in
+    let after : List Note = c.args.after.now in
+    let found = c.count_before.ensures in
+    let long : length before - c.count_before.result ≡ c.len.result - c.count_before.result = ap (λ k. k - c.count_before.result) (sym c.len.ensures.value) in
+    subst (λ k. drop (length before - k) before ≡ drop (length after - k) after) long
+    (end_alike before after c.requires.before c.requires.after c.args.known.high c.count_before.result c.requires.late found.within found.front found.back).0
+
+pub bar_end_of-end-requires-clause-within_after : goal.bar_end_of-end-requires-clause-within_after
+bar_end_of-end-requires-clause-within_after c =
+    let before : List Note = c.args.before.now in
+    let after : List Note = c.args.after.now in
+    let found = c.count_before.ensures in
+    let both = end_alike before after c.requires.before c.requires.after c.args.known.high c.count_before.result c.requires.late found.within found.front found.back in
+    omega (arith, both.1, c.len.ensures.value)

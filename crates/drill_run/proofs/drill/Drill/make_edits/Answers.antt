@@ -10,7 +10,7 @@ edits-init g c =
       refl,
       refl,
       at_start self.session.grammar self.number self.session.performance self.accepted self.built c.args.builds.now c.requires.accepted c.requires.built,
-      record { bars = c.requires.two_bars; last = c.requires.last; dropped = 0; few_dropped = omega arith; notes = omega (arith, c.requires.some_notes) },
+      record { bars = c.requires.ready.two_bars; last = c.requires.ready.last; dropped = 0; few_dropped = omega arith; notes = omega (arith, c.requires.ready.some_notes) },
       omega (arith, c.requires.accepted),
       omega (arith, c.requires.built),
       omega arith,

@@ -1,6 +1,5 @@
-use Rattle.std.proofs.Common.{◌≡◌, arith, refl, subst, Some}
+use Rattle.std.proofs.Common.{◌∙◌, arith, refl}
 use Rattle.edit_session.proofs.SessionProducts.{memory_idles}
-use Rattle.rhythm_base.specs.Performance.{Performance}
 use Rattle.rhythm_gen.specs.DrillEdit.{drill_edit}
 use Rattle.drill_run.proofs.Tries.{accepted_step, any_allowed, any_edit, reached_few, refused_step}
 use Rattle.drill_run.proofs.drill.Drill.step.Goals as goal
@@ -8,15 +7,15 @@ use Rattle.drill_run.proofs.drill.Drill.step.Goals as goal
 pub overflow_add-self-in-Ok : goal.overflow_add-self-in-Ok
 overflow_add-self-in-Ok g c =
     let session = c.args.self.now.session in
-    let is = subst (λ (p : Performance). Some c.drill_edit-edit.result ≡ drill_edit c.args.self.now.number c.args.index p) c.performance.ensures.value c.drill_edit-edit.ensures.value in
+    let is = c.drill_edit-edit.ensures.value ∙ (λ i. drill_edit (c.number.ensures.is i) c.args.index (c.performance.ensures.value i)) in
     let few = reached_few session.grammar c.args.self.now.number c.args.index session.performance c.apply.new.self.performance c.drill_edit-edit.result is c.args.self.now.accepted c.args.self.now.built
     c.in-Ok.applied.built c.in-Ok.applied.cost c.performance.ensures.formed c.in-Ok.ensures.made.made in
-    omega (arith, few, c.requires.built, c.requires.index)
+    omega (arith, few, c.requires.built, c.requires.ready.among)
 
 pub returns-in-Ok-clause-step : goal.returns-in-Ok-clause-step
 returns-in-Ok-clause-step g c =
     let session = c.args.self.now.session in
-    let is = subst (λ (p : Performance). Some c.drill_edit-edit.result ≡ drill_edit c.args.self.now.number c.args.index p) c.performance.ensures.value c.drill_edit-edit.ensures.value in
+    let is = c.drill_edit-edit.ensures.value ∙ (λ i. drill_edit (c.number.ensures.is i) c.args.index (c.performance.ensures.value i)) in
     let step = accepted_step session.grammar c.args.self.now.number c.args.index session.performance c.apply.new.self.performance c.drill_edit-edit.result is c.args.self.now.accepted c.args.self.now.built
     c.in-Ok.applied.built c.in-Ok.applied.cost c.in-Ok.ensures.made.made in
     (c.in-Ok.applied.built, 0, step, refl, omega (arith, c.in-Ok.ensures.builds))
@@ -24,7 +23,7 @@ returns-in-Ok-clause-step g c =
 pub returns-in-Ok-clause-built : goal.returns-in-Ok-clause-built
 returns-in-Ok-clause-built g c =
     let session = c.args.self.now.session in
-    let is = subst (λ (p : Performance). Some c.drill_edit-edit.result ≡ drill_edit c.args.self.now.number c.args.index p) c.performance.ensures.value c.drill_edit-edit.ensures.value in
+    let is = c.drill_edit-edit.ensures.value ∙ (λ i. drill_edit (c.number.ensures.is i) c.args.index (c.performance.ensures.value i)) in
     let few = reached_few session.grammar c.args.self.now.number c.args.index session.performance c.apply.new.self.performance c.drill_edit-edit.result is c.args.self.now.accepted c.args.self.now.built
     c.in-Ok.applied.built c.in-Ok.applied.cost c.performance.ensures.formed c.in-Ok.ensures.made.made in
     omega (arith, few, c.requires.built)
@@ -32,7 +31,7 @@ returns-in-Ok-clause-built g c =
 pub returns-clause-step : goal.returns-clause-step
 returns-clause-step g c =
     let session = c.args.self.now.session in
-    let is = subst (λ (p : Performance). Some c.drill_edit-edit.result ≡ drill_edit c.args.self.now.number c.args.index p) c.performance.ensures.value c.drill_edit-edit.ensures.value in
+    let is = c.drill_edit-edit.ensures.value ∙ (λ i. drill_edit (c.number.ensures.is i) c.args.index (c.performance.ensures.value i)) in
     let built = c.in-Err.ensures.built in
     let rejected = c.in-Err.ensures.rejected in
     let step = refused_step session.grammar c.args.self.now.number c.args.index session.performance c.apply.new.self.performance c.drill_edit-edit.result is c.args.self.now.accepted c.args.self.now.built
@@ -45,7 +44,7 @@ returns-clause-step g c =
 pub returns-in-Memory-clause-stopped : goal.returns-in-Memory-clause-stopped
 returns-in-Memory-clause-stopped g c =
     let session = c.args.self.now.session in
-    let is = subst (λ (p : Performance). Some c.drill_edit-edit.result ≡ drill_edit c.args.self.now.number c.args.index p) c.performance.ensures.value c.drill_edit-edit.ensures.value in
+    let is = c.drill_edit-edit.ensures.value ∙ (λ i. drill_edit (c.number.ensures.is i) c.args.index (c.performance.ensures.value i)) in
     let built = c.in-Err.ensures.built in
     let rejected = c.in-Err.ensures.rejected in (
       built.0,

@@ -1,7 +1,8 @@
-use Rattle.std.proofs.Common.{◌≡◌, ℕ, Ok, refl, ap, subst, sym, arith}
-use Rattle.std.specs.Prelude.{Err, IsOk, Option}
+use Rattle.std.proofs.Common.{◌≡◌, Ok, refl, ap, subst, sym, arith}
+use Rattle.std.specs.Prelude.{Err, IsOk}
 use Rattle.edit_laws.proofs.EditedCounts.{edited_cells, edited_notes, edited_starts}
-use Rattle.edit_laws.specs.Edits.{edited}
+use Rattle.edit_laws.specs.Edits.{edit_tests, edited, first_refusal, performance_after}
+use Rattle.edit_laws.proofs.Edited.{made}
 use Rattle.rhythm_base.specs.Voices.{HasStarts}
 use Rattle.edit_session.specs.ChangedVoices.{LeavesOthers, changed_channel}
 use Rattle.edit_session.specs.Session.{Session}
@@ -52,11 +53,17 @@ returns-in-Err-prepare_next-clause-built g c =
 
 -- ---- what is asked of the performance after it
 
+pub prepare_next-requires-clause-after : goal.prepare_next-requires-clause-after
+prepare_next-requires-clause-after g c κs within =
+    let p = c.self.inside.performance in
+    let edit = c.args.edit.now in
+    let after = made (performance_after p edit) c.in-Ok.next (first_refusal (edit_tests p edit)) c.in-Ok.ensures.ok in
+    subst (λ (s : Session). c.in-Ok.next ≡ performance_after s.performance edit) c.self.view_is (sym after.1)
+
 pub prepare_next-requires-clause-others : goal.prepare_next-requires-clause-others
 prepare_next-requires-clause-others g c κs within =
     let kept = edited_leaves c.self.inside.performance c.in-Ok.next c.args.edit.now c.self.invariant.formed c.in-Ok.ensures.ok in
-    subst (λ (changed : Option ℕ). LeavesOthers changed c.args.self.now.performance c.in-Ok.next) (sym c.changed_channel-changed.ensures)
-    (subst (λ (s : Session). LeavesOthers (changed_channel c.args.edit.now) s.performance c.in-Ok.next) c.self.view_is kept)
+    subst (λ (s : Session). LeavesOthers (changed_channel c.args.edit.now) s.performance c.in-Ok.next) c.self.view_is kept
 
 pub prepare_next-requires-clause-tempos : goal.prepare_next-requires-clause-tempos
 prepare_next-requires-clause-tempos g c κs within =

@@ -1,5 +1,0 @@
-use Rattle.barline_fit.proofs.OneWritten.{scores_with_barline_one}
-use Rattle.barline_fit.proofs.laws.fitted_scores_are_one.Goals as goal
-
-pub returns : goal.returns
-returns c = scores_with_barline_one
