@@ -9,7 +9,7 @@ use Rattle.kern_reader.specs.Events.{AreEvents, AreEventsFrom, Beginning, IsKern
 use Rattle.voice_events.specs.Events.{span_event}
 use Rattle.kern_reader.specs.Score.{KernColumns}
 use Rattle.voice_events.specs.declared.event.KernEvent.{KernEvent}
-use Rattle.kern_reader.specs.declared.token.TimeSignature.{TimeSignature}
+use Rattle.text_words.specs.declared.time_signature.TimeSignature.{TimeSignature}
 use Rattle.kern_reader.specs.declared.token.Token.{Token}
 use Rattle.kern_reader.specs.declared.token.Token.TheVariants as token
 use Rattle.rhythm_base.specs.declared.span.Span.{Span}

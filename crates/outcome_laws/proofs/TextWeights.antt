@@ -12,12 +12,14 @@ use Rattle.kern_reader.specs.Faults.{line_fault}
 use Rattle.kern_reader.specs.Lines.{all_are, barline_said, data_line, interpretation, is_ending, is_heading, is_refused_word, begins_signature, line_of, other_line, signature_line, signature_of}
 use Rattle.kern_reader.specs.Outcome.{at_end, or_fault, read_from, score_of, scored}
 use Rattle.kern_reader.specs.Score.{KernColumns, score_columns}
-use Rattle.kern_reader.specs.Text.{begins_with, columns, is_skipped, kern_lines, lines_of_pieces}
-use Rattle.kern_reader.specs.Tokens.{◌>>=◌, after_value, all_notes, all_tokens, chord_of_notes, chord_token, keys_with, note_of, marks_of, marks_part, pitch_key, pitch_part, rest_of, rising_notes, token_chord, token_of, value_of, value_part, valued_note}
+use Rattle.text_words.specs.Lines.{begins_with, text_lines, lines_of_pieces}
+use Rattle.kern_reader.specs.Text.{columns, is_skipped}
+use Rattle.text_words.specs.Steps.{◌>>=◌}
+use Rattle.kern_reader.specs.Tokens.{after_value, all_notes, all_tokens, chord_of_notes, chord_token, keys_with, note_of, marks_of, marks_part, pitch_key, pitch_part, rest_of, rising_notes, token_chord, token_of, value_of, value_part, valued_note}
 use Rattle.kern_reader.specs.declared.fault.KernFault.{KernFault}
 use Rattle.kern_reader.specs.declared.fault.KernWhat.{KernWhat}
 use Rattle.kern_reader.specs.declared.token.TieMark.{TieMark}
-use Rattle.kern_reader.specs.declared.token.TimeSignature.{TimeSignature}
+use Rattle.text_words.specs.declared.time_signature.TimeSignature.{TimeSignature}
 use Rattle.kern_reader.specs.declared.token.Token.{Token}
 use Rattle.kern_reader.specs.declared.token.Token.TheVariants as token
 use Rattle.std.specs.Str.{bytes_eq}
@@ -286,12 +288,12 @@ reversed_columns [] = refl
 reversed_columns (column ∷ columns) = let own = reversed_keys column in let rest = reversed_columns columns in omega (arith, own, rest)
 
 pub text_keys : (text : List ℕ) (score : KernColumns) → score_of text ≡ Ok score → columns_keys score.columns ≤ length text
-text_keys text score e = go (read_from [] 1 (kern_lines text)) refl e
+text_keys text score e = go (read_from [] 1 (text_lines text)) refl e
   where
-    go : (r : Result (List KernLine) KernFault) → read_from [] 1 (kern_lines text) ≡ r → scored r ≡ Ok score → columns_keys score.columns ≤ length text
+    go : (r : Result (List KernLine) KernFault) → read_from [] 1 (text_lines text) ≡ r → scored r ≡ Ok score → columns_keys score.columns ≤ length text
     go (Err fault) is e = absurd (cc)
     go (Ok lines) is e =
-        let read = read_few [] (λ number lines e. absurd (cc)) 1 (kern_lines text) lines is in
+        let read = read_few [] (λ number lines e. absurd (cc)) 1 (text_lines text) lines is in
         let pieces = line_lengths (slice_split (λ b. b == 10) text) in
         let short = split_lengths (λ b. b == 10) text in
         let turned = reversed_columns (columns_of lines) in

@@ -24,7 +24,7 @@ use Rattle.rhythm_app.proofs.Stops.{early_built}
 use Rattle.rhythm_app.specs.Asked.{learn}
 use Rattle.rhythm_app.specs.Builds.{HasBuilt, HasBuiltAll, MatchBuilds}
 use Rattle.rhythm_app.specs.Commands.{HasNames, HasOutcomeOf, HaveNames, Named, cells_learned, named, no_cells, one_of_several}
-use Rattle.rhythm_app.specs.Counting.{AreFilesCounted, HasPerformance, IsFileBuilt, IsFileCounted, IsFileFailure, IsFilePartlyBuilt, IsMidiLoading, IsOfMidi, IsPerformanceCounted, IsReadAndCounted, IsTextLearned}
+use Rattle.rhythm_app.specs.Counting.{CountsAll, HasPerformance, IsFileBuilt, CountsFile, IsFileFailure, IsFilePartlyBuilt, IsMidiLoading, IsOfMidi, CountsPerformance, IsReadAndCounted, IsTextLearned}
 use Rattle.rhythm_app.specs.Ends.{IsCauseOf}
 use Rattle.rhythm_app.specs.Inputs.{file_content}
 use Rattle.rhythm_app.specs.Learning.{AreAllListed, AreCellsBuilt, AreFirstBuilt, AreOfFile, AreOfFiles, AreSomeBuilt, HasCells, HasLearnedOf, HaveCells, IsLearning, in_file}
@@ -353,7 +353,7 @@ module _ {S O E : Type 0} (g : Grammar) (name : List ℕ) (counts : List ℕ) (o
   mid_files reads = ap (λ (l : Lent S O E). l.files) reads
 
   -- no performance is had
-  pub unread_file : {T : Type 0} (s : Stop) → HasPerformance name old mid (Err s) → IsFileCounted g name counts counts old mid {T = T} (Err s)
+  pub unread_file : {T : Type 0} (s : Stop) → HasPerformance name old mid (Err s) → CountsFile g name counts counts old mid {T = T} (Err s)
   unread_file s h = record {
     had = tt;
     of_each = refl;
@@ -387,7 +387,7 @@ module _ {S O E : Type 0} (g : Grammar) (name : List ℕ) (counts : List ℕ) (o
     file_end (Ok x) cause = tt
     file_end (Err s) cause = unopened_content g p s cause
 
-    file_read : {T : Type 0} (r : Result T Stop) → IsPerformanceCounted g p counts counted mid new r → IsReadAndCounted old new r
+    file_read : {T : Type 0} (r : Result T Stop) → CountsPerformance g p counts counted mid new r → IsReadAndCounted old new r
     file_read r k = record {
       end = content_ends old.shelf_faults new.shelf_faults r (file_end r k.cause);
       later = omega (arith, h.later, ap (λ (l : Lent S O E). l.shelf_faults) k.counters.0);
@@ -399,7 +399,7 @@ module _ {S O E : Type 0} (g : Grammar) (name : List ℕ) (counts : List ℕ) (o
     file_strays alone = λ files are named. ap (λ (l : Lent S O E). l.strays) alone ∙ h.strays files are named
 
     -- the performance is counted
-    pub read_file : {T : Type 0} (r : Result T Stop) → IsPerformanceCounted g p counts counted mid new r → IsFileCounted g name counts counted old new r
+    pub read_file : {T : Type 0} (r : Result T Stop) → CountsPerformance g p counts counted mid new r → CountsFile g name counts counted old new r
     read_file (Ok x) k = record {
       had = λ files are.
           let loads = no_failure (IsMidiLoading (file_content files name)) p (h.tests files are) in
@@ -433,7 +433,7 @@ module _ {S O E : Type 0} (g : Grammar) (name : List ℕ) (counts : List ℕ) (o
 -- a performance is counted by the session that was opened on it
 pub session_counted : {S O E T : Type 0} (g h : Grammar) (p q : Performance) (counts counted : List ℕ) (old new : Lent S O E) (x : T) → h ≡ g → q ≡ p → CanOpen g p
     → AreCountedIn h q counts counted → length counted ≡ length counts → new.built ≡ risen old.built (cells_of p)
-    → CountsUp old new → IsPerformanceCounted g p counts counted old new (Ok x)
+    → CountsUp old new → CountsPerformance g p counts counted old new (Ok x)
 session_counted g h p q counts counted old new x same_grammar same_performance can own of_each all counters =
     let counts_own = subst (λ (r : Performance). AreCountedIn g r counts counted) same_performance (subst (λ (k : Grammar). AreCountedIn k q counts counted) same_grammar own) in
     record { had = (can, counts_own); of_each = of_each; cause = tt; all = all; built = tt; counters = counters }
@@ -507,7 +507,7 @@ module _ {S O E : Type 0} (g : Grammar) (midis : List (List ℕ)) (n : ℕ) (lt 
   strays_more strays = λ files are names. strays files (still files are) (name_at files midis n lt names) ∙ h.strays files are names
 
   -- one more
-  pub one_more : {T : Type 0} (x : T) → IsFileCounted g (get_or midis n []) counted more mid new (Ok x) → AreCountedUpTo g midis (n + 1) counts more old new
+  pub one_more : {T : Type 0} (x : T) → CountsFile g (get_or midis n []) counted more mid new (Ok x) → AreCountedUpTo g midis (n + 1) counts more old new
   one_more x k = record {
     had = λ files are.
         let before = h.had files are in
@@ -522,8 +522,8 @@ module _ {S O E : Type 0} (g : Grammar) (midis : List (List ℕ)) (n : ℕ) (lt 
   }
 
   -- or this one is stopped
-  pub one_stopped : {T U : Type 0} (s : Stop) → IsFileCounted g (get_or midis n []) counted more mid new {T = T} (Err s)
-      → AreFilesCounted g midis counts more old new {T = U} (Err (in_file (n + 1) s))
+  pub one_stopped : {T U : Type 0} (s : Stop) → CountsFile g (get_or midis n []) counted more mid new {T = T} (Err s)
+      → CountsAll g midis counts more old new {T = U} (Err (in_file (n + 1) s))
   one_stopped s k = record {
     had = tt;
     of_each = k.of_each ∙ h.of_each;
@@ -557,10 +557,10 @@ module _ {S O E : Type 0} (g : Grammar) (midis : List (List ℕ)) (n : ℕ) (lt 
 
 -- all are
 pub all_counted : {S O E T : Type 0} (g : Grammar) (midis : List (List ℕ)) (n : ℕ) (counts counted : List ℕ) (old new : Lent S O E) (x : T) → length midis ≤ n
-    → AreCountedUpTo g midis n counts counted old new → AreFilesCounted g midis counts counted old new (Ok x)
+    → AreCountedUpTo g midis n counts counted old new → CountsAll g midis counts counted old new (Ok x)
 all_counted {S} {O} {E} {T} g midis n counts counted old new x all h = go (take_all n midis all)
   where
-    go : take n midis ≡ midis → AreFilesCounted g midis counts counted old new {T = T} (Ok x)
+    go : take n midis ≡ midis → CountsAll g midis counts counted old new {T = T} (Ok x)
     go same = record {
       had = λ files are. let it = h.had files are in (it.0, subst (λ l. AreOfFiles g files l it.0) same it.1, it.2);
       of_each = h.of_each;
@@ -577,7 +577,7 @@ all_counted {S} {O} {E} {T} g midis n counts counted old new x all h = go (take_
 
 module _ {S O E A : Type 0} (bit : ℕ) (g : Grammar) (midis : List (List ℕ)) (zeros counted : List ℕ) (old new : Lent S O E) (none : AreRuleCounts (length g.rules) [] zeros) where
   -- all are counted
-  pub text_learned : {T : Type 0} (x : T) (r : Result (Vec ℕ A) Stop) → AreFilesCounted g midis zeros counted old new (Ok x)
+  pub text_learned : {T : Type 0} (x : T) (r : Result (Vec ℕ A) Stop) → CountsAll g midis zeros counted old new (Ok x)
       → IfOk r (λ v. v.items ≡ printed (learned g counted bit)) → IfErr r (λ s. s ≡ stop.Memory) → IsTextLearned bit g midis old new r
   text_learned x (Ok v) h text memory = record {
     text = λ files are. let it = h.had files are in (it.0, it.1, (counted, it.2 [] none, text));
@@ -596,7 +596,7 @@ module _ {S O E A : Type 0} (bit : ℕ) (g : Grammar) (midis : List (List ℕ)) 
   })
 
   -- one is stopped
-  pub text_stopped : {T : Type 0} (s : Stop) → AreFilesCounted g midis zeros counted old new {T = T} (Err s) → IsTextLearned {A = A} bit g midis old new (Err s)
+  pub text_stopped : {T : Type 0} (s : Stop) → CountsAll g midis zeros counted old new {T = T} (Err s) → IsTextLearned {A = A} bit g midis old new (Err s)
   text_stopped s h = record {
     text = tt;
     cause = λ files are. caused files (h.cause files are);

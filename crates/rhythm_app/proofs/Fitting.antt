@@ -4,7 +4,7 @@ use Rattle.std.specs.Option.{ForSome}
 use Rattle.barline_fit.specs.Builds.{AreReachedAt, AreWithinReach}
 use Rattle.barline_fit.specs.Candidates.{ticks_of}
 use Rattle.barline_fit.specs.Fitted.{IsFitFault, IsFitted}
-use Rattle.barline_fit.specs.FittedScore.{IsFittedScore}
+use Rattle.rhythm_app.specs.FittedScore.{IsFittedScore}
 use Rattle.barline_fit.specs.declared.candidates.Candidates.{Candidates}
 use Rattle.barline_fit.specs.declared.fit_fault.FitFault.{FitFault}
 use Rattle.barline_fit.specs.declared.fit_fault.FitFault.TheVariants as fitting

@@ -1,12 +1,12 @@
 -- The names of inputs.
-use Rattle.std.proofs.Common.{◌≢◌, List, [], ◌∷◌, None}
-use Rattle.rhythm_app.specs.Commands.{HaveInputs, HaveNames, Named, named, script_file}
+use Rattle.std.proofs.Common.{◌≢◌, List, ◌∷◌, None}
+use Rattle.rhythm_app.specs.Commands.{HaveNames, Named, input_files, named, script_file}
 use Rattle.rhythm_app.specs.Inputs.{Inputs}
 use Rattle.rhythm_app.specs.declared.stop.Kind.TheVariants as kind
 use Rattle.rhythm_base.proofs.OrderedLists.{all_head, all_tail}
 use Rattle.rhythm_ports.specs.Files.{File, file_of}
 
-module _ (i : Inputs) (files : List File) (names : HaveInputs files i) where
+module _ (i : Inputs) (files : List File) (names : HaveNames files (input_files i)) where
   abbrev IsThere : Named → Type 0
   IsThere it = file_of files it.name ≢ None
 

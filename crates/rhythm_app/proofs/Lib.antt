@@ -12,6 +12,7 @@ pub mod Notating
 pub mod Noting
 pub mod OneOutcome
 pub mod OneScript
+pub mod OneWritten
 pub mod Opened
 pub mod Performing
 pub mod ReadInputs

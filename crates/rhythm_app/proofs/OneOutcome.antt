@@ -1,10 +1,10 @@
 -- What words and files come to is one.
 use Rattle.std.proofs.Common.{◌≡◌, ◌≤◌, ◌<◌, ◌+◌, ℕ, List, [], get_or, take, Option, Some, None, ap, ap₂, inl, inr, refl, sym, subst, ◌∙◌, Bool, true, false, Result, Ok, Err, arith}
-use Rattle.std.proofs.lemmas.Bool.{leb-true}
+use Rattle.std.proofs.lemmas.Bool.{leb-true, cases_lt}
 use Rattle.std.specs.Prelude.{IfOk, if◌then◌else◌, nat_le, length, map, flat_map}
 use Rattle.barline_fit.proofs.OneFit.{ticks_one}
-use Rattle.barline_fit.proofs.OneWritten.{scores_with_barline_one}
-use Rattle.barline_fit.specs.FittedScore.{IsFittedScore}
+use Rattle.rhythm_app.proofs.OneWritten.{scores_with_barline_one}
+use Rattle.rhythm_app.specs.FittedScore.{IsFittedScore}
 use Rattle.barline_fit.specs.declared.candidates.Candidates.{Candidates}
 use Rattle.barline_fit.specs.declared.fitted.Fitted.{Fitted}
 use Rattle.barline_follow.proofs.OneBest.{one_answer}
@@ -19,7 +19,6 @@ use Rattle.grammar_file.specs.Grammar.{grammar_of}
 use Rattle.grammar_file.specs.Printed.{printed}
 use Rattle.edit_session.proofs.EachRuns.{Each-at}
 use Rattle.derivation.proofs.Pairs.{each_one}
-use Rattle.std.proofs.lemmas.Bool.{cases_lt}
 use Rattle.std.proofs.lemmas.List.{length-take, get_or-take}
 use Rattle.kern_laws.proofs.OneList.{one_list}
 use Rattle.kern_reader.proofs.ScoreLemmas.{well_score}

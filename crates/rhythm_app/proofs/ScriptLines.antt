@@ -3,8 +3,8 @@ use Rattle.std.proofs.Common.{◌≡◌, ◌∙◌, ◌<◌, ◌≤◌, ◌-◌,
 use Rattle.std.specs.List.{after_first, before_first, position_or_len, slice_split}
 use Rattle.std.proofs.lemmas.List.Splits.{length-slice_split}
 use Rattle.edit_script.specs.ScriptLines.{between_newlines, open_line, script_lines}
-use Rattle.kern_reader.proofs.LineLemmas.{lines_first, lines_last}
-use Rattle.kern_reader.specs.Text.{kern_lines, lines_of_pieces}
+use Rattle.text_words.proofs.LineLemmas.{lines_first, lines_last}
+use Rattle.text_words.specs.Lines.{text_lines, lines_of_pieces}
 use Rattle.rhythm_base.specs.Lists.{last_of}
 
 -- the lines among pieces
@@ -23,16 +23,16 @@ are_among ([] ∷ []) some = refl
 are_among ((b ∷ bytes) ∷ []) some = refl
 are_among (piece ∷ next ∷ pieces) some = ap (λ l. piece ∷ l) (are_among (next ∷ pieces) (omega arith)) ∙ sym (among_more piece next pieces)
 
--- they are as those of a **kern text
-pub as_kern : (text : List ℕ) → kern_lines text ≡ script_lines text
-as_kern text = are_among (slice_split (λ b. b == 10) text) (omega (arith, length-slice_split (λ b. b == 10) text))
+-- they are as those of any text
+pub as_text : (text : List ℕ) → text_lines text ≡ script_lines text
+as_text text = are_among (slice_split (λ b. b == 10) text) (omega (arith, length-slice_split (λ b. b == 10) text))
 
 -- the first line, up to a newline
 pub first_of_lines : (text : List ℕ) → position_or_len (λ b. b == 10) text < length text
     → script_lines text ≡ before_first (λ b. b == 10) text ∷ script_lines (after_first (λ b. b == 10) text)
 first_of_lines text within =
-    sym (as_kern text) ∙ lines_first text within ∙ ap (λ l. before_first (λ b. b == 10) text ∷ l) (as_kern (after_first (λ b. b == 10) text))
+    sym (as_text text) ∙ lines_first text within ∙ ap (λ l. before_first (λ b. b == 10) text ∷ l) (as_text (after_first (λ b. b == 10) text))
 
 -- a script without a newline is one line
 pub last_of_lines : (text : List ℕ) → 0 < length text → length text ≤ position_or_len (λ b. b == 10) text → script_lines text ≡ text ∷ []
-last_of_lines text some none = sym (as_kern text) ∙ lines_last text some none
+last_of_lines text some none = sym (as_text text) ∙ lines_last text some none

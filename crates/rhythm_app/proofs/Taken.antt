@@ -1,11 +1,11 @@
-use Rattle.std.proofs.Common.{◌≡◌, ℕ, zero, suc, ◌+◌, ◌<◌, List, [], ◌∷◌, ◌++◌, length, take, drop, refl, sym, ap, subst, arith, ◌∙◌, length-append, append_assoc, append-nil, add-one, get_or, inl, inr, OnErr, OnOk, Result, Ok, Err}
+use Rattle.std.proofs.Common.{◌≡◌, ℕ, zero, suc, ◌+◌, ◌<◌, ◌≤◌, List, [], ◌∷◌, ◌++◌, length, take, drop, refl, sym, ap, subst, arith, ◌∙◌, length-append, append_assoc, append-nil, add-one, get_or, inl, inr, Result, Ok, Err}
 use Rattle.std.specs.Prelude.{Option}
 use Rattle.std.proofs.lemmas.List.{take-append-le}
 use Rattle.std.proofs.Math.Seq.{take-append-add}
 use Rattle.std.proofs.KnownBytes.{Appends-trans}
 use Rattle.std.specs.Io.KnownBytes.{Appends}
-use Rattle.rhythm_ports.specs.Causes.{HasCause}
-use Rattle.rhythm_app.specs.Ends.{AppendsPart, Reports}
+use Rattle.rhythm_ports.specs.Causes.{Rose}
+use Rattle.rhythm_app.specs.Ends.{AppendsPart, OfSink, Reports, Writes}
 use Rattle.rhythm_app.specs.Stops.{joined_words}
 use Rattle.rhythm_app.specs.Parts.{part_text, part_texts}
 use Rattle.rhythm_app.specs.declared.line.Part.{Part}
@@ -42,16 +42,35 @@ parts_cut a b c ps i d h front next =
     let cut = AppendsPart-more a b c (joined_words (part_texts (take i ps))) (part_text (get_or ps i d) ++ rest) front (AppendsPart-first b c (part_text (get_or ps i d)) rest next) in
     subst (AppendsPart a c) (sym (joined_at ps i d h)) cut
 
-pub OnErr-always : {T E : Type 0} (r : Result T E) (P : Type 0) → P → OnErr r P
-OnErr-always (Ok x) P p = tt
-OnErr-always (Err e) P p = p
+-- a count of faults that rose later rose
+rose_before : (a b c : ℕ) → a ≤ b → Rose b c → Rose a c
+rose_before a b c later rose = omega (arith, later, rose)
 
-pub OnErr-more : {T E P Q : Type 0} (r : Result T E) → (P → Q) → OnErr r P → OnErr r Q
-OnErr-more (Ok x) f h = tt
-OnErr-more (Err e) f h = f h
+module _ {S T E : Type 0} (taken : S → Option (List ℕ)) (faults : S → ℕ) where
+  -- the writing of a part failed, and so that of the text
+  pub writes_cut : (old mid new : S) (text : List ℕ) (r : Result T E) (e : E) → r ≡ Err e → AppendsPart (taken old) (taken new) text → faults old ≤ faults mid → Rose (faults mid) (faults new)
+      → faults mid ≤ faults new → Writes taken faults old new text r
+  writes_cut old mid new text r e is part before rose later = subst (λ (x : Result T E). Writes taken faults old new text x) (sym is) (record {
+    all = tt;
+    part = part;
+    cause = record { later = omega (arith, before, later); failed = rose_before (faults old) (faults mid) (faults new) before rose };
+  })
 
--- a line was written whole, or a first part of it where a call failed
-pub reported : {T E : Type 0} (a b : Option (List ℕ)) (before now : ℕ) (t : List ℕ) (r : Result T E) → OnOk r (Appends a b t) → OnErr r (AppendsPart a b t) → HasCause before now r
-    → Reports a b before now t
-reported a b before now t (Ok x) all part cause = inl all
-reported a b before now t (Err e) all part cause = inr (cause.failed, part)
+  -- a text was written before this one
+  pub writes_after : (old mid new : S) (before text : List ℕ) (r : Result T E) → Appends (taken old) (taken mid) before → faults old ≤ faults mid → Writes taken faults mid new text r
+      → Writes taken faults old new (before ++ text) r
+  writes_after old mid new before text (Ok x) front rises h = record {
+    all = Appends-trans (taken old) (taken mid) (taken new) before text front h.all;
+    part = tt;
+    cause = record { later = omega (arith, rises, h.cause.later); failed = tt };
+  }
+  writes_after old mid new before text (Err e) front rises h = record {
+    all = tt;
+    part = AppendsPart-more (taken old) (taken mid) (taken new) before text front h.part;
+    cause = record { later = omega (arith, rises, h.cause.later); failed = rose_before (faults old) (faults mid) (faults new) rises h.cause.failed };
+  }
+
+  -- what was written is the line
+  pub writes_line : (old new : S) (line : List ℕ) (r : Result T E) → Writes taken faults old new line r → OfSink Reports taken faults old new line
+  writes_line old new line (Ok x) h = inl h.all
+  writes_line old new line (Err e) h = inr (h.cause.failed, h.part)

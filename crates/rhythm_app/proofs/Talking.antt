@@ -55,7 +55,7 @@ module _ {S O E : Type 0} where
       (begun_on (desk_of t g p), (refl, refl, refl), omega arith)
 
   -- after the session is had, a script is answered: what holds of the files, the counters and err
-  module _ (t : Talk) (i : Inputs) (old mid new : Lent S O E) (s : Session) (h : HasSession (Some (answer t i)) t old mid (Ok s)) where
+  module _ (t : Talk) (i : Inputs) (old mid new : Lent S O E) (s : Session) (h : HasSession t i old mid (Ok s)) where
     abbrev asked : Asked
     asked = answer t i
 

@@ -1,6 +1,7 @@
 -- What the words of a command line ask for.
 use Rattle.rhythm_base.specs.declared.limits.TheConstants.{LATEST_TICK, MOST_BARS}
-use Rattle.std.specs.Prelude.{ℕ, ◌+◌, ◌-◌, ◌/◌, ◌<◌, nat_eq, nat_le, List, [], ◌∷◌, ◌++◌, codes, if◌then◌else◌, map, Option, Some, None, option_and_then, option_map, IsSome, length, drop, slice_get, ◌≤◌, ⊤}
+use Rattle.std.specs.Prelude.{◌≡◌, ℕ, ◌+◌, ◌-◌, ◌/◌, ◌<◌, nat_eq, nat_le, List, [], ◌∷◌, ◌++◌, codes, if◌then◌else◌, map, Option, Some, None, option_and_then, option_map, IsSome, length, drop, slice_get, ◌≤◌, ⊤}
+use Rattle.std.specs.Borrow.{Bor}
 use Rattle.std.specs.Cmp.Lexicographic.{pointwise}
 use Rattle.barline_fit.specs.declared.candidates.Candidates.{Candidates}
 use Rattle.barline_fit.specs.declared.candidates.TheConstants.{MOST_CANDIDATES}
@@ -11,10 +12,11 @@ use Rattle.command_line.specs.declared.invocation.Invocation.TheVariants as invo
 use Rattle.performance_prepare.specs.Laws.{no_options}
 use Rattle.performance_prepare.specs.Ranges.{AreInRange, is_told}
 use Rattle.performance_prepare.specs.declared.options.Options.{Options}
-use Rattle.rhythm_app.specs.Inputs.{Inputs, shown_inputs}
+use Rattle.rhythm_app.specs.Inputs.{Inputs, shown_inputs, shown_name}
 use Rattle.rhythm_app.specs.declared.learn.TheConstants.{MOST_FILES}
 use Rattle.rhythm_app.specs.declared.request.Form.{Form}
 use Rattle.rhythm_app.specs.declared.request.Form.TheVariants as form
+use Rattle.rhythm_app.specs.declared.request.Inputs as code
 use Rattle.rhythm_app.specs.declared.request.Request.{Request}
 use Rattle.rhythm_app.specs.declared.request.Request.TheVariants as request
 use Rattle.rhythm_app.specs.declared.request.Talk.{Talk}
@@ -218,9 +220,19 @@ abbrev pub AsksForText : Request → Type 0
 AsksForText (request.Answer talk inputs) = ⊥
 AsksForText _ = ⊤
 
--- a word, the names of the inputs, and four words more
-abbrev pub words_of_call : List ℕ → Inputs → List ℕ → List ℕ → List ℕ → List ℕ → List (List ℕ)
-words_of_call word i a b c d = word ∷ i.midi ∷ i.grammar ∷ a ∷ b ∷ c ∷ d ∷ []
+-- the words ask for this request, by what is told of a take and the script file
+abbrev pub AsksBy : Options → Option (Bor (List ℕ)) → List (Bor (List ℕ)) → Option Request → Type 0
+AsksBy o script words asked = shown_asked asked ≡ command_by o (shown_name script) (map (λ w. w.now) words)
+
+-- so do the word of a command on inputs, their names, and more words
+abbrev pub AsksOn : code.Inputs → Bor (List ℕ) → List (Bor (List ℕ)) → Option Request → Type 0
+AsksOn i word more = AsksBy i.options i.script (word ∷ i.midi ∷ i.grammar ∷ more)
+
+-- the ticks from the lowest to the highest, by a step, are ticks of a performance
+pub record AreTicks (c : Candidates) : Type 0 where
+  pub order : c.low ≤ c.high
+  pub high : c.high ≤ LATEST_TICK
+  pub step : 1 ≤ c.step
 
 -- the candidates of a barline that are tried
 pub record AreCandidates (c : Candidates) : Type 0 where

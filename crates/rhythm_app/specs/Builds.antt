@@ -1,5 +1,5 @@
 -- By how much a run raises the counter of builds.
-use Rattle.std.specs.Prelude.{◌≡◌, ℕ, ◌≤◌, ◌⊎◌, List, [], ◌∷◌, Result, Ok, Err, Option, ⊤}
+use Rattle.std.specs.Prelude.{◌≡◌, ℕ, ◌≤◌, ◌⊎◌, List, [], ◌∷◌, Result, Ok, Err, Option, Vec, ⊤}
 use Rattle.std.specs.Option.{ForSome}
 use Rattle.barline_fit.specs.Builds.{AreReachedAt, AreWithinReach}
 use Rattle.barline_fit.specs.Candidates.{ticks_of}
@@ -9,6 +9,8 @@ use Rattle.barline_fit.specs.declared.fitted.Fitted.{Fitted}
 use Rattle.barline_follow.specs.Searched.{AreBuiltToFollow}
 use Rattle.barline_follow.specs.Builds.{AreMostBuilt}
 use Rattle.drill_run.specs.Ends.{HasDrilled, IsDrillBrokenOff}
+use Rattle.drill_run.specs.declared.drill_stop.DrillStop.{DrillStop}
+use Rattle.drill_run.specs.declared.drill_stop.DrillStop.TheVariants as drill
 use Rattle.edit_script.specs.ScriptLines.{script_lines}
 use Rattle.edit_session.specs.Opening.{cells_of}
 use Rattle.edit_session.specs.Prepared.{RisesBy}
@@ -44,6 +46,10 @@ abbrev pub HasFitted : Candidates → Grammar → Performance → ℕ → ℕ �
 HasFitted c g p old new =
     (x : Fitted) × (mid : ℕ) × IsFitted g p c.bar (ticks_of c) x × HasTried c g p old mid × RisesBy mid new (AreReachedAt g p c.bar (x.tick ∷ []))
 
+-- the same over a session
+abbrev pub HasFittedAll : Candidates → Session → ℕ → ℕ → Type 0
+HasFittedAll c s old new = HasFitted c s.grammar s.performance old new
+
 -- no more of these were built
 abbrev pub HasPartlyFitted : Candidates → Grammar → Performance → ℕ → ℕ → Type 0
 HasPartlyFitted c g p old new =
@@ -54,9 +60,17 @@ HasPartlyFitted c g p old new =
 abbrev pub HasFollowed : Grammar → Performance → ℕ → ℕ → Type 0
 HasFollowed g p old new = RisesBy old new (AreBuiltToFollow g p)
 
+-- the same over a session
+abbrev pub HasFollowedOver : Session → ℕ → ℕ → Type 0
+HasFollowedOver s old new = HasFollowed s.grammar s.performance old new
+
 -- no more of these were built than there are at most
 abbrev pub HasPartlyFollowed : Grammar → Performance → ℕ → ℕ → Type 0
 HasPartlyFollowed g p old new = RisesBy old new (λ n. (most : ℕ) → AreMostBuilt g p most → n ≤ most)
+
+-- the same over a session
+abbrev pub HasPartlyFollowedOver : Session → ℕ → ℕ → Type 0
+HasPartlyFollowedOver s old new = HasPartlyFollowed s.grammar s.performance old new
 
 -- a grammar file and the number of a piece say this grammar and this performance, and P holds of them
 abbrev pub ForPiece : List ℕ → ℕ → (Grammar → Performance → Type 0) → Type 0
@@ -192,13 +206,29 @@ MatchDrilled all long some none _ = none
 abbrev pub AreSomeDrilled : Grammar → ℕ → Performance → ℕ → ℕ → Type 0
 AreSomeDrilled g number p old new = (new ≤ risen old (cells_of p)) ⊎ IsDrillBrokenOff g number p (risen old (cells_of p)) new
 
--- the cells for the edits of the drill of a number over a session were built, which comes to this
-abbrev pub HasDrilledOver : Session → ℕ → Result (List ℕ) ℕ → ℕ → ℕ → Type 0
-HasDrilledOver s number said old new = HasDrilled s.grammar number s.performance said old new
+-- the drill of a number over a session came to this summary, and the cells for its edits were built
+abbrev pub HasSummary : {A : Type 0} → Session → ℕ → ℕ → ℕ → Vec ℕ A → Type 0
+HasSummary s number old new text = HasDrilled s.grammar number s.performance (Ok text.items) old new
+
+-- its last score is too long, by this line of it, and the cells for its edits were built
+abbrev pub HasLongScore : Session → ℕ → ℕ → ℕ → ℕ → Type 0
+HasLongScore s number old new line = HasDrilled s.grammar number s.performance (Err line) old new
+
+-- memory is wanting, and some of the cells for its edits were built
+abbrev pub PartlyDrills : Session → ℕ → ℕ → ℕ → Type 0
+PartlyDrills s number old new = IsDrillBrokenOff s.grammar number s.performance old new
+
+-- a drill ends by a last score that is too long, by a line of which this holds
+abbrev pub IfLongScore : {T : Type 0} → Result T DrillStop → (ℕ → Type 0) → Type 0
+IfLongScore result P = (line : ℕ) → result ≡ Err (drill.ScoreTooLong line) → P line
 
 -- all cells of a performance were built, and then those for the edits of its drill, which comes to this
 abbrev pub HasDrilledAll : Grammar → ℕ → Performance → Result (List ℕ) ℕ → ℕ → ℕ → Type 0
 HasDrilledAll g number p said old new = HasDrilled g number p said (risen old (cells_of p)) new
+
+-- the drill of a performance came to this summary, and all its cells were built, and then those for the edits
+abbrev pub HasSummaryOf : {A : Type 0} → Grammar → ℕ → Performance → ℕ → ℕ → Vec ℕ A → Type 0
+HasSummaryOf g number p old new text = HasDrilledAll g number p (Ok text.items) old new
 
 -- what holds of the cells of a drill of a performance by the stop
 abbrev pub HasDrilledFor : Grammar → ℕ → Performance → ℕ → ℕ → Stop → Type 0

@@ -107,13 +107,13 @@ ReadsNoScript _ = ⊤
 abbrev pub HaveNames : List File → List Named → Type 0
 HaveNames files reads = All (λ (it : Named). file_of files it.name ≢ None) reads
 
--- where the files have these, no name was opened that they have not
-abbrev pub AreOpenedAlone : Option (List File) → List Named → (before after : ℕ) → Type 0
-AreOpenedAlone files reads before after = ForSome files (λ files. HaveNames files reads → after ≡ before)
+-- where the files of a shelf have these names, no name was opened that they have not
+abbrev pub OpensOnly : {S : Type 0} → (S → Option (List File)) → (S → ℕ) → List Named → (old new : S) → Type 0
+OpensOnly files strays reads old new = ForSome (files old) (λ files. HaveNames files reads → strays new ≡ strays old)
 
--- they have those of the inputs
-abbrev pub HaveInputs : List File → Inputs → Type 0
-HaveInputs files i = HaveNames files (input_files i)
+-- the same of one name
+abbrev pub OpensOnlyName : {S : Type 0} → (S → Option (List File)) → (S → ℕ) → List ℕ → (old new : S) → Type 0
+OpensOnlyName files strays name old new = ForSome (files old) (λ files. file_of files name ≢ None → strays new ≡ strays old)
 
 -- the files have every name of the command
 abbrev pub HasNames : List File → Option Asked → Type 0

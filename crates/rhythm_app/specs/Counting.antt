@@ -43,7 +43,7 @@ pub record HasPerformance {S O E : Type 0} (name : List ℕ) (old new : Lent S O
   pub reads : ReadsShelf old new
 
 -- the rules in the least derivations of a performance were counted besides
-pub record IsPerformanceCounted {S O E : Type 0} (g : Grammar) (p : Performance) (counts counted : List ℕ) (old new : Lent S O E) {T : Type 0} (result : Result T Stop) : Type 0 where
+pub record CountsPerformance {S O E : Type 0} (g : Grammar) (p : Performance) (counts counted : List ℕ) (old new : Lent S O E) {T : Type 0} (result : Result T Stop) : Type 0 where
   pub had : OnOk result (CanOpen g p × ((lists : List (List ℕ)) × AreRuleListsOf g p lists × AreRaisedBy (length g.rules) lists counts counted))
   pub of_each : length counted ≡ length counts
   pub cause : IfErr result (λ s. IsUnopened g p s ⊎ (s ≡ stop.Memory))
@@ -66,7 +66,7 @@ abbrev pub IsFilePartlyBuilt : List File → List ℕ → ℕ → ℕ → Type 0
 IsFilePartlyBuilt files name old new = (count : ℕ) × HasCells (file_content files name) count × (new ≤ risen old count)
 
 -- the rules in the least derivations of a file were counted besides
-pub record IsFileCounted {S O E : Type 0} (g : Grammar) (name counts counted : List ℕ) (old new : Lent S O E) {T : Type 0} (result : Result T Stop) : Type 0 where
+pub record CountsFile {S O E : Type 0} (g : Grammar) (name counts counted : List ℕ) (old new : Lent S O E) {T : Type 0} (result : Result T Stop) : Type 0 where
   pub had : OnOk result (ForSome old.files (λ files.
       (lists : List (List ℕ)) × AreOfFile g (file_content files name) (Ok lists) × AreRaisedBy (length g.rules) lists counts counted))
   pub of_each : length counted ≡ length counts
@@ -94,7 +94,7 @@ pub record IsEachCounted {S O E : Type 0} (midis : List (List ℕ)) (old new : L
   pub read : IsReadAndCounted old new result
 
 -- the rules in the least derivations of these files were counted besides
-pub record AreFilesCounted {S O E : Type 0} (g : Grammar) (midis : List (List ℕ)) (counts counted : List ℕ) (old new : Lent S O E) {T : Type 0} (result : Result T Stop) : Type 0 where
+pub record CountsAll {S O E : Type 0} (g : Grammar) (midis : List (List ℕ)) (counts counted : List ℕ) (old new : Lent S O E) {T : Type 0} (result : Result T Stop) : Type 0 where
   pub had : OnOk result (ForSome old.files (λ files.
       (lists : List (List ℕ)) × AreOfFiles g files midis lists × AreRaisedBy (length g.rules) lists counts counted))
   pub of_each : length counted ≡ length counts

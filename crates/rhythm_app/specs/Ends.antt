@@ -1,5 +1,5 @@
 -- How a run may end, by what stood before it, `old`, and after it, `new`.
-use Rattle.std.specs.Prelude.{◌≡◌, ◌≢◌, ℕ, ◌+◌, ◌⊎◌, ◌<◌, ◌≤◌, false, List, [], ◌∷◌, ◌++◌, length, take, IfErr, OnOk, Result, Ok, Err, Option, Some, None, IsOk, ⊤}
+use Rattle.std.specs.Prelude.{◌≡◌, ◌≢◌, ℕ, ◌+◌, ◌⊎◌, ◌<◌, ◌≤◌, false, List, [], ◌∷◌, ◌++◌, length, take, IfErr, OnErr, OnOk, Result, Ok, Err, Option, Some, None, IsOk, ⊤}
 use Rattle.std.specs.Io.KnownBytes.{Appends}
 use Rattle.std.specs.Option.{ForSome}
 use Rattle.rhythm_app.specs.Asked.{Asked, learn}
@@ -20,8 +20,9 @@ use Rattle.rhythm_app.specs.declared.stop.Stop.TheVariants.{Usage, FileTooLong, 
 use Rattle.rhythm_base.specs.Counter.{risen}
 use Rattle.rhythm_base.specs.Grammar.{Grammar}
 use Rattle.rhythm_base.specs.Performance.{Performance}
-use Rattle.rhythm_ports.specs.Causes.{Rose}
+use Rattle.rhythm_ports.specs.Causes.{HasCause, Rose}
 use Rattle.rhythm_ports.specs.Files.{File}
+use Rattle.edit_session.specs.Session.{Session}
 use Rattle.script_run.specs.Desk.{Desk, editor, studio}
 use Rattle.script_run.specs.Editing.{Editing}
 use Rattle.script_run.specs.Ends as script
@@ -46,6 +47,12 @@ HasStatus words files status = (r : Result Ready Stop) → HasOutcome words file
 -- a first part of a text was taken, and not all of it
 abbrev pub AppendsPart : Option (List ℕ) → Option (List ℕ) → List ℕ → Type 0
 AppendsPart old new text = (n : ℕ) × (n < length text) × Appends old new (take n text)
+
+-- a sink took a text, or a first part of it where a call failed. What a sink has taken, and the count of its faults, are given
+pub record Writes {S T E : Type 0} (taken : S → Option (List ℕ)) (faults : S → ℕ) (old new : S) (text : List ℕ) (result : Result T E) : Type 0 where
+  pub all : OnOk result (Appends (taken old) (taken new) text)
+  pub part : OnErr result (AppendsPart (taken old) (taken new) text)
+  pub cause : HasCause (faults old) (faults new) result
 
 -- a text is the outcome; out took what W says of it, and all cells were built, where there are any
 abbrev pub IsTextSaid : {S O E : Type 0} → Option Asked → List File → (List ℕ → Type 0) → Lent S O E → Lent S O E → Type 0
@@ -74,9 +81,21 @@ IsBrokenOff s old new t g p last = script.IsScriptStopped s (desk_of t g p) old.
 abbrev pub HasTalked : {S O E : Type 0} → (Editing → Type 0) → Lent S O E → Lent S O E → Type 0
 HasTalked W old new = (last : Editing) × W last × (new.built ≡ risen old.built last.built)
 
+-- a script is answered over a session, to its end or to `quit`
+abbrev pub HasTalkedOn : {S O E : Type 0} → Talk → Session → Lent S O E → Lent S O E → Type 0
+HasTalkedOn talk s old new = HasTalked (IsTalkDone old new talk s.grammar s.performance) old new
+
+-- the answering of a script over a session stopped
+abbrev pub HasBrokenOff : {S O E : Type 0} → Talk → Session → Lent S O E → Lent S O E → ScriptStop → Type 0
+HasBrokenOff talk s old new end = HasTalked (IsBrokenOff end old new talk s.grammar s.performance) old new
+
 -- all is written: the text, or the replies to the script
 abbrev pub IsAnswered : {S O E : Type 0} → Option Asked → List File → Lent S O E → Lent S O E → Type 0
 IsAnswered asked files old new = IsTextSaid asked files (Appends old.taken new.taken) old new ⊎ IsServed asked files (IsTalkDone old new) old new
+
+-- the same by the files of the shelf
+abbrev pub IsAllAnswered : {S O E : Type 0} → Option Asked → Lent S O E → Lent S O E → Type 0
+IsAllAnswered asked old new = ForSome old.files (λ files. IsAnswered asked files old new)
 
 -- the answering of a script stopped, and so the run
 abbrev pub HasStopped : {S O E : Type 0} → Option Asked → List File → Stop → Lent S O E → Lent S O E → Type 0
@@ -179,13 +198,21 @@ pub record KeepsRest {S O E : Type 0} (asked : Option Asked) (old new : Lent S O
 abbrev pub IsErrUntouched : {S O E : Type 0} → Lent S O E → Lent S O E → Type 0
 IsErrUntouched old new = (new.err ≡ old.err) × (new.told ≡ old.told) × (new.err_faults ≡ old.err_faults)
 
+-- no name was opened, and no call of the shelf failed
+abbrev pub IsShelfUntouched : {S O E : Type 0} → Lent S O E → Lent S O E → Type 0
+IsShelfUntouched old new = (new.files ≡ old.files) × (new.strays ≡ old.strays) × (new.shelf_faults ≡ old.shelf_faults)
+
 -- what a run does before err is told: all is written, or it stopped
 pub record IsPerformed {S O E : Type 0} (asked : Option Asked) (old new : Lent S O E) {T : Type 0} (result : Result T Stop) : Type 0 where
   pub known : result ≡ Err Usage → asked ≡ None
-  pub done : OnOk result (ForSome old.files (λ files. IsAnswered asked files old new))
+  pub done : OnOk result (IsAllAnswered asked old new)
   pub stopped : IfErr result (IsStopped asked old new)
   pub rest : KeepsRest asked old new
   pub err : IsErrUntouched old new
+
+-- what holds of a sink, by what it has taken and by the count of its faults, before and after
+abbrev pub OfSink : {S : Type 0} {R : Type 1} → (Option (List ℕ) → Option (List ℕ) → ℕ → ℕ → R) → (S → Option (List ℕ)) → (S → ℕ) → (old new : S) → R
+OfSink P taken faults old new = P (taken old) (taken new) (faults old) (faults new)
 
 -- a line was taken whole, or a first part of it where a call failed
 abbrev pub Reports : Option (List ℕ) → Option (List ℕ) → ℕ → ℕ → List ℕ → Type 0

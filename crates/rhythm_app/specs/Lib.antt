@@ -3,6 +3,7 @@ pub mod Builds
 pub mod Commands
 pub mod Counting
 pub mod Ends
+pub mod FittedScore
 pub mod Inputs
 pub mod Laws
 pub mod Learning

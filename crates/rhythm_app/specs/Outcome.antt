@@ -4,11 +4,10 @@
 -- alone, there is no grammar file between its faults and the notes; where it has a **kern file, after the words come its size and its faults. `drill` has a grammar file, the cells, the root symbols and the derivations
 -- of its piece, and the size of its last score; `generate`, the help and the version read no file. A failed read, a failed write and
 -- want of memory are no outcomes: they may end any run.
-use Rattle.std.specs.Prelude.{◌≡◌, ◌≢◌, ℕ, ◌+◌, ◌≤◌, ◌⊎◌, nat_le, List, [], ◌∷◌, ◌++◌, codes, length, IfOk, map, decimal, if◌then◌else◌, Option, Some, None, Result, Ok, Err}
+use Rattle.std.specs.Prelude.{◌≡◌, ◌≢◌, ℕ, ◌+◌, ◌≤◌, ◌⊎◌, nat_le, List, [], ◌∷◌, ◌++◌, codes, length, IfOk, map, decimal, if◌then◌else◌, Option, Some, None, Result, Ok, Err, Vec}
 use Rattle.barline_fit.specs.Candidates.{ticks_of}
 use Rattle.barline_fit.specs.Fitted.{IsFitFault, IsFitted}
-use Rattle.barline_fit.specs.FittedScore.{IsFittedScore}
-use Rattle.barline_fit.specs.Tries.{IsScoreAt}
+use Rattle.rhythm_app.specs.FittedScore.{IsFittedScore, IsScoreAt}
 use Rattle.barline_fit.specs.declared.candidates.Candidate.{Candidate}
 use Rattle.barline_fit.specs.declared.candidates.Candidates.{Candidates}
 use Rattle.barline_fit.specs.declared.fit_fault.FitFault.{FitFault}
@@ -92,6 +91,10 @@ limit_of kind.Script = LONGEST_SCRIPT
 -- the bytes of a file that is not too long. Of a longer one, one byte more than the limit is read
 abbrev pub sized : Kind → List ℕ → Result (List ℕ) Stop
 sized kind bytes = if nat_le (length bytes) (limit_of kind) then Ok bytes else Err (stop.FileTooLong kind (limit_of kind + 1))
+
+-- what the size of a file comes to
+abbrev pub IsSized : Kind → List ℕ → Result (List ℕ) Stop → Type 0
+IsSized kind bytes r = sized kind bytes ≡ r
 
 -- the next test, where a test passed
 abbrev pub passed : {T U : Type 0} → Result T Stop → (T → Result U Stop) → Result U Stop
@@ -297,6 +300,10 @@ IsUnscored s c end = (end ≡ stop.Memory) ⊎ ((line : ℕ) × IsScoreAt s c (E
 -- that line, and the score with the barline there
 abbrev pub fit_text : Fitted → List ℕ → List ℕ
 fit_text x score = fit_line x ++ score
+
+-- the text of a session with its barline at the fitted tick
+abbrev pub IsFitTextOf : {A : Type 0} → Session → ℕ → Fitted → Vec ℕ A → Type 0
+IsFitTextOf s bar x text = (score : List ℕ) × IsScoreAt s (fitted_at bar x) (Ok score) × (text.items ≡ fit_text x score)
 
 -- a tick is fitted, and the score with the barline there is this, or is too long
 pub record FitsScore (c : Candidates) (g : Grammar) (p : Performance) (x : Fitted) (score : Result (List ℕ) ℕ) : Type 0 where

@@ -1,7 +1,11 @@
 -- How one stage of a command may end.
-use Rattle.std.specs.Prelude.{◌≡◌, ◌≢◌, ℕ, ◌≤◌, ◌⊎◌, List, length, IfErr, IfOk, Option, None, Result, Ok, Err, Vec, ⊤}
+use Rattle.std.specs.Prelude.{◌≡◌, ◌≢◌, ℕ, ◌≤◌, ◌⊎◌, List, length, IfErr, IfOk, Option, Some, None, Result, Ok, Err, Vec, ⊤}
 use Rattle.std.specs.Io.KnownBytes.{Appends}
 use Rattle.std.specs.Option.{ForSome}
+use Rattle.barline_fit.specs.Tries.{HasReached}
+use Rattle.barline_fit.specs.declared.candidates.Candidate.{Candidate}
+use Rattle.edit_laws.specs.EditOutcomes.{IsOutcome, made}
+use Rattle.edit_script.specs.ScriptLines.{script_lines}
 use Rattle.edit_session.specs.Opening.{CanOpen}
 use Rattle.edit_session.specs.Prepared.{RisesBy}
 use Rattle.edit_session.specs.Session.{Session}
@@ -11,16 +15,21 @@ use Rattle.rhythm_base.specs.Grammar.{Grammar}
 use Rattle.rhythm_base.specs.Performance.{Performance}
 use Rattle.rhythm_base.specs.Readable.{IsReadable}
 use Rattle.rhythm_base.specs.declared.limits.TheConstants.{LONGEST_SCRIPT, MOST_NOTES}
+use Rattle.rhythm_base.specs.declared.edit.Edit.{Edit}
 use Rattle.rhythm_base.specs.declared.edit_fault.EditFault.{EditFault}
+use Rattle.rhythm_base.specs.declared.edit_fault.EditFault.TheVariants as editing
 use Rattle.rhythm_ports.specs.Files.{File, file_of}
-use Rattle.rhythm_app.specs.Asked.{Asked}
+use Rattle.rhythm_app.specs.Asked.{Asked, answer}
 use Rattle.rhythm_app.specs.Builds.{AreBuiltToLine, AreLoadedBuilt, ArePartlyBuilt, HasBuilt, HasBuiltAll, OfInputs, OfLoaded}
 use Rattle.rhythm_app.specs.Commands.{HasNames, HasOutcomeOf, HaveNames, cells_of_asked, input_files, no_cells}
 use Rattle.rhythm_app.specs.Ends.{AppendsPart, IsCauseOf, IsPerformed, IsReadFailure}
 use Rattle.rhythm_app.specs.Inputs.{Inputs, file_content}
 use Rattle.rhythm_app.specs.Lent.{Lent}
-use Rattle.rhythm_app.specs.Outcome.{AreInTurn, AreInputs, AreLoaded, IsOpening, IsScripted, IsUnderstood, Loaded, Ready, loaded, refused_stop, say, serve}
-use Rattle.rhythm_app.specs.Scripted.{AreLinesMade, MayHaveBuilt, Opened, Refused}
+use Rattle.rhythm_app.specs.Outcome.{AreInTurn, AreInputs, AreLoaded, IsKernTextOf, IsOpening, IsScriptRead, IsScripted, IsTooLongToWrite, IsUnderstood, IsWriting, Loaded, Ready, loaded, refused_stop, say, serve}
+use Rattle.rhythm_app.specs.Scripted.{AreLinesMade, IsLineBrokenOff, IsLineMade, IsLineRefused, MayHaveBuilt, Opened, Refused}
+use Rattle.rhythm_app.specs.declared.request.Form.{Form}
+use Rattle.rhythm_app.specs.declared.request.Request.{Request}
+use Rattle.rhythm_app.specs.declared.request.Request.TheVariants as requests
 use Rattle.rhythm_app.specs.declared.request.Talk.{Talk}
 use Rattle.rhythm_app.specs.declared.stop.Kind.{Kind}
 use Rattle.rhythm_app.specs.declared.stop.Kind.TheVariants as kind
@@ -43,6 +52,14 @@ EndsByFailure (Err stop) = IsFailure stop
 -- a stage gives what its tests come to, but for a failure
 abbrev pub Follows : {T : Type 0} → (Result T Stop → Type 0) → Result T Stop → Type 0
 Follows outcome r = outcome r ⊎ EndsByFailure r
+
+-- the file of this name gives what its bytes come to, but for a failure
+abbrev pub FollowsFile : {T : Type 0} → Option (List File) → List ℕ → (List ℕ → Result T Stop → Type 0) → Result T Stop → Type 0
+FollowsFile files name outcome r = ForSome files (λ files. Follows (outcome (file_content files name)) r)
+
+-- the script file gives what its bytes come to, but for a failure
+abbrev pub FollowsScript : Option (List File) → Option (List ℕ) → Result (List ℕ) Stop → Type 0
+FollowsScript files name r = ForSome files (λ files. Follows (IsScriptRead name files) r)
 
 -- a stage before a session is opened ends neither by the words nor by what comes later: the derivations, the fit of a barline, the size of
 -- the score and the writing, or the script
@@ -118,10 +135,36 @@ EndsReading before now _ = ⊤
 abbrev pub IsLoadStop : Inputs → List File → Stop → Type 0
 IsLoadStop i files stop = AreLoaded i files (Err stop) ⊎ IsReadFailure (input_files i) files stop
 
+-- the same by the files of a shelf
+abbrev pub IsStopOfInputs : Option (List File) → Inputs → Stop → Type 0
+IsStopOfInputs files i stop = ForSome files (λ files. IsLoadStop i files stop)
+
 -- a grammar, a performance and the bytes of a script as contracts see them
 abbrev pub loaded_of : {A E : Type 0} → Result (Grammar × Performance × Vec ℕ A) E → Result Loaded E
 loaded_of (Ok had) = Ok (loaded had.0 had.1 had.2.items)
 loaded_of (Err e) = Err e
+
+-- inputs give what their files come to, but for a failure
+abbrev pub FollowsInputs : {A : Type 0} → Option (List File) → Inputs → Result (Grammar × Performance × Vec ℕ A) Stop → Type 0
+FollowsInputs files i r = ForSome files (λ files. Follows (AreLoaded i files) (loaded_of r))
+
+-- ---- a session that is written
+
+-- the **kern text of the score of a session is within its limit
+abbrev pub HasShortText : Session → Type 0
+HasShortText s = (text : List ℕ) × IsKernTextOf s.grammar s.performance text
+
+-- the score of a session has no such text, or memory is wanting
+abbrev pub HasNoText : Session → Stop → Type 0
+HasNoText s stop = IsTooLongToWrite s.grammar s.performance stop ⊎ (stop ≡ Memory)
+
+-- a session is written in this form, but for a failure
+abbrev pub FollowsForm : {A : Type 0} → Form → Session → Result (Vec ℕ A) Stop → Type 0
+FollowsForm form s r = Follows (IsWriting form s.grammar s.performance) (said_of r)
+
+-- the cells were built that a barline reaches at a tick, but where memory is wanting
+abbrev pub ReachesBarline : {S O E T : Type 0} → Session → Candidate → (old new : Lent S O E) → Result T Stop → Type 0
+ReachesBarline s c old new result = result ≢ Err Memory → HasReached s c old.built new.built
 
 -- ---- stages of a command
 
@@ -167,6 +210,12 @@ pub record HasLoaded {S O E A : Type 0} (i : Inputs) (old new : Lent S O E) (res
   pub strays : ForSome old.files (λ files. HaveNames files (input_files i) → new.strays ≡ old.strays)
   pub reads : ReadsShelf old new
 
+-- what asks for too many candidates or files ends by their count
+abbrev pub TellsTooMany : {T : Type 0} → Request → Result T Stop → Type 0
+TellsTooMany (requests.TooManyCandidates count) result = result ≡ Err (TooManyCandidates count)
+TellsTooMany (requests.TooManyFiles count) result = result ≡ Err (TooManyFiles count)
+TellsTooMany _ result = ⊤
+
 -- ---- a session on inputs
 
 -- a session on a performance for which so many cells were built
@@ -180,6 +229,30 @@ HasEdited o lines old new q (Ok x) = (last : Opened) × AreLinesMade 1 o lines (
 HasEdited o lines old new q (Err s) =
     ((x : Refused) × AreLinesMade 1 o lines (Err x) × (s ≡ refused_stop x) × (new ≡ risen old x.built))
     ⊎ ((s ≡ Memory) × RisesBy old new (MayHaveBuilt o lines))
+
+-- an edit of a session is made, and so many cells were built as it says
+abbrev pub MakesEdit : {S O E : Type 0} → Edit → (old new : Session) → (before after : Lent S O E) → Type 0
+MakesEdit edit old new before after =
+    RisesBy before.built after.built (λ n. (cost : ℕ) × IsOutcome old.grammar old.performance edit (made n cost) new.performance)
+
+-- the edit of a line is made, and so many cells were built
+abbrev pub MakesLine : {S O E : Type 0} → List ℕ → (old new : Session) → (before after : Lent S O E) → Type 0
+MakesLine line old new before after = RisesBy before.built after.built (IsLineMade old.grammar old.performance line new.performance)
+
+-- a line is refused over a session, and the cells were built that its edit would have reached
+abbrev pub RefusesLine : {S O E : Type 0} → List ℕ → Session → (before after : Lent S O E) → Option EditFault → Type 0
+RefusesLine line s before after fault =
+    fault ≢ Some editing.Memory → RisesBy before.built after.built (IsLineRefused s.grammar s.performance line fault)
+
+-- memory is wanting for a line over a session, and no more cells were built than its edit would have reached
+abbrev pub BreaksLineOff : {S O E : Type 0} → List ℕ → Session → (before after : Lent S O E) → Option EditFault → Type 0
+BreaksLineOff line s before after fault =
+    fault ≡ Some editing.Memory → RisesBy before.built after.built (IsLineBrokenOff s.grammar s.performance line)
+
+-- the edits of a script were made over a session for which some cells had been built before, up to the first line that is refused
+abbrev pub MakesEdits : {S O E T : Type 0} → List ℕ → (old new : Session) → (before after : Lent S O E) → Result T Stop → Type 0
+MakesEdits script old new before after result =
+    (from n : ℕ) → before.built ≡ risen from n → HasEdited (standing old n) (script_lines script) from after.built new.performance result
 
 -- how many cells were built where no session is had: none; those of the performance, where a derivation is wanting; those up to the line that
 -- is refused; or some, where memory is wanting. L is what holds of what the files say
@@ -239,10 +312,10 @@ IsFinished {S} {O} {E} text old new result =
     (asked : Option Asked) (before : Lent S O E) → HasText asked before old text → IsPerformed asked before new result
 
 -- the session that answers a script is had, and all its cells are built
-pub record HasSession {S O E : Type 0} (asked : Option Asked) (talk : Talk) (old new : Lent S O E) (result : Result Session Stop) : Type 0 where
-  pub ready : IfOk result (λ s. ForSome old.files (λ files. HasOutcomeOf asked files (Ok (serve talk s.grammar s.performance))))
-  pub all : IfOk result (λ _. ForSome old.files (λ files. HasBuiltAll (cells_of_asked asked) files old.built new.built))
-  pub before : IsStoppedBefore asked old new result
+pub record HasSession {S O E : Type 0} (talk : Talk) (i : Inputs) (old new : Lent S O E) (result : Result Session Stop) : Type 0 where
+  pub ready : IfOk result (λ s. ForSome old.files (λ files. HasOutcomeOf (Some (answer talk i)) files (Ok (serve talk s.grammar s.performance))))
+  pub all : IfOk result (λ _. ForSome old.files (λ files. HasBuiltAll (cells_of_asked (Some (answer talk i))) files old.built new.built))
+  pub before : IsStoppedBefore (Some (answer talk i)) old new result
 
 -- a text was written, or a first part of it where a call failed; nothing but out was touched
 pub record IsTextWritten {S O E T : Type 0} (text : List ℕ) (old new : Lent S O E) (result : Result T Stop) : Type 0 where

@@ -163,8 +163,8 @@ abbrev pub pair_line : List ℕ → ℕ → ℕ → List ℕ
 pair_line head first second = joined_words (head ∷ decimal first ∷ codes " " ∷ decimal second ∷ codes "\n" ∷ [])
 
 -- a bar and its signature
-abbrev pub bar_signature_line : List ℕ → ℕ → ℕ → ℕ → List ℕ
-bar_signature_line head bar num den =
+abbrev pub signature_line : List ℕ → ℕ → ℕ → ℕ → List ℕ
+signature_line head bar num den =
     joined_words (head ∷ decimal bar ∷ codes " " ∷ decimal num ∷ codes "/" ∷ decimal den ∷ codes "\n" ∷ [])
 
 -- what is counted, and the number that is above its limit
@@ -178,10 +178,10 @@ midi_stop_line (midi.Smf fault) = named_line (codes "smf ") (smf_name fault) (sm
 midi_stop_line midi.NoNotes = joined_words (codes "notes NoNotes\n" ∷ [])
 midi_stop_line (midi.TooManyNotes count) = limit_line (codes "notes") count
 midi_stop_line (midi.BadSignature num dd) = pair_line (codes "bars BadSignature ") num dd
-midi_stop_line (midi.UnevenBar bar num den) = bar_signature_line (codes "bars UnevenBar ") bar num den
+midi_stop_line (midi.UnevenBar bar num den) = signature_line (codes "bars UnevenBar ") bar num den
 midi_stop_line (midi.TooManyBars start) = limit_line (codes "bars") start
 midi_stop_line (midi.TooManyCells count) = limit_line (codes "cells") count
-midi_stop_line (midi.NoStart bar num den) = bar_signature_line (codes "start ") bar num den
+midi_stop_line (midi.NoStart bar num den) = signature_line (codes "start ") bar num den
 midi_stop_line (midi.NoDerivation channel bar) = pair_line (codes "no derivation ") channel bar
 midi_stop_line midi.Read = named_line (codes "read ") (kind_name kind.Midi) None
 

@@ -1,21 +1,21 @@
 ghost use Rattle.performance_prepare.specs.Ranges.{AreInRange};
 ghost use Rattle.rhythm_app.specs.Asked.{answer};
-ghost use Rattle.rhythm_app.specs.Ends.{HasTalked, IsBrokenOff, IsErrUntouched, IsPerformed, IsTalkDone, IsUntouched, desk_of};
+ghost use Rattle.rhythm_app.specs.Ends.{HasBrokenOff, HasTalkedOn, IsErrUntouched, IsPerformed, IsShelfUntouched, IsUntouched, desk_of};
 ghost use Rattle.rhythm_app.specs.Inputs.{shown_inputs};
 ghost use Rattle.rhythm_app.specs.Stages.{CountersRise, HasSession};
 ghost use Rattle.rhythm_app.specs.Stops.{script_stop};
-ghost use Rattle.rhythm_base.specs.Counter.{risen};
 ghost use Rattle.rhythm_ports.specs.Causes.{Rose};
 ghost use Rattle.script_run.specs.Desk.{shown};
 ghost use Rattle.script_run.specs.Editing.{Editing};
 ghost use Rattle.script_run.specs.declared.script_stop.ScriptStop.TheVariants as stops;
-ghost use Rattle.std.specs.Prelude.{◌≡◌, ◌≤◌, Err, IfErr, IfOk, OnOk, Some};
+ghost use Rattle.std.specs.Prelude.{◌≡◌, Err, IfErr, IfOk, OnOk, Some};
 
 use crate::lent::{Lent, World};
 use crate::request::{Inputs, Talk};
 use crate::script_file::opened_session;
 use crate::stop::{Kind, Stop};
 use edit_session::Session;
+use rhythm_base::Workers;
 use rhythm_ports::Means;
 use script_run::{Desk, ScriptStop, run_script};
 use session_history::History;
@@ -40,14 +40,12 @@ fn script_stop(stop: ScriptStop) -> Stop
 /// The session that answers a script, before any line of it is read.
 fn session_of<W: World>(
     lent: &mut Lent<W>,
-    workers: u32,
+    workers: Workers,
     talk: Talk,
     inputs: Inputs,
 ) -> Result<Session, Stop>
-    requires some_worker { 1 ≤ workers }
-    requires few_workers { workers ≤ 16 }
     requires options { AreInRange inputs.options }
-    ensures { HasSession (Some (answer talk (shown_inputs inputs.entry))) talk lent.old lent.new result }
+    ensures { HasSession talk (shown_inputs inputs.entry) lent.old lent.new result }
 {
     match opened_session(lent, workers, inputs) {
         Ok(session) => Ok(session),
@@ -71,13 +69,13 @@ fn desk_of(alloc: Global, talk: Talk, session: Session) -> Result<Desk, ScriptSt
 
 /// Answers the lines of a script over a session.
 fn talk_over<W: World>(lent: &mut Lent<W>, talk: Talk, session: Session) -> Result<(), ScriptStop>
-    ensures done { OnOk result (HasTalked (IsTalkDone lent.old lent.new talk session.grammar session.performance) lent.old lent.new) }
-    ensures broken { IfErr result (λ end. HasTalked (IsBrokenOff end lent.old lent.new talk session.grammar session.performance) lent.old lent.new) }
+    ensures done { OnOk result (HasTalkedOn talk session lent.old lent.new) }
+    ensures broken { IfErr result (HasBrokenOff talk session lent.old lent.new) }
     ensures read { result ≡ Err stops.Read → Rose lent.old.script_faults lent.new.script_faults }
     ensures write { result ≡ Err stops.Write → Rose lent.old.out_faults lent.new.out_faults }
     ensures memory { result ≡ Err stops.Memory → IsUntouched lent.old lent.new }
     ensures counters { CountersRise lent.old lent.new }
-    ensures files { (lent.new.files ≡ lent.old.files) × (lent.new.strays ≡ lent.old.strays) × (lent.new.shelf_faults ≡ lent.old.shelf_faults) }
+    ensures files { IsShelfUntouched lent.old lent.new }
     ensures err { IsErrUntouched lent.old lent.new }
 {
     let means = Means {
@@ -101,12 +99,10 @@ fn talk_over<W: World>(lent: &mut Lent<W>, talk: Talk, session: Session) -> Resu
 /// Answers a script over the session on a MIDI file and a grammar.
 pub fn answer<W: World>(
     lent: &mut Lent<W>,
-    workers: u32,
+    workers: Workers,
     talk: Talk,
     inputs: Inputs,
 ) -> Result<(), Stop>
-    requires some_worker { 1 ≤ workers }
-    requires few_workers { workers ≤ 16 }
     requires options { AreInRange inputs.options }
     ensures { IsPerformed (Some (answer talk (shown_inputs inputs.entry))) lent.old lent.new result }
 {

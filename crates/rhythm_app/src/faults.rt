@@ -2,7 +2,8 @@ ghost use Rattle.rhythm_app.specs.Outcome.{fit_stop, or_stop, render_stop, score
 ghost use Rattle.std.specs.Prelude.{◌≡◌};
 
 use crate::stop::Stop;
-use barline_fit::{FitFault, Fitted, ScoreFault};
+use barline_fit::{FitFault, Fitted};
+use session_text::ScoreFault;
 use smf_writer::RenderFault;
 
 /// What is made by the text of a score, or the stop of a fault of that text.

@@ -1,16 +1,14 @@
 ghost use Rattle.rhythm_app.specs.Counting.{IsOfMidi};
-ghost use Rattle.rhythm_app.specs.Commands.{AreOpenedAlone, script_file};
-ghost use Rattle.rhythm_app.specs.Inputs.{file_content, shown_name};
-ghost use Rattle.rhythm_app.specs.Outcome.{IsRead, IsScoreRead, IsScriptRead, IsUnderstood, limit_of, sized, stopped};
-ghost use Rattle.rhythm_app.specs.Stages.{EndsBy, Follows, IsEarly, IsOfContent, IsUnread, items_of};
+ghost use Rattle.rhythm_app.specs.Commands.{OpensOnly, OpensOnlyName, script_file};
+ghost use Rattle.rhythm_app.specs.Inputs.{shown_name};
+ghost use Rattle.rhythm_app.specs.Outcome.{IsRead, IsScoreRead, IsSized, IsUnderstood, limit_of, stopped};
+ghost use Rattle.rhythm_app.specs.Stages.{EndsBy, Follows, FollowsFile, FollowsScript, IsEarly, IsOfContent, IsUnread, items_of};
 ghost use Rattle.rhythm_app.specs.declared.stop.Kind.TheVariants as kind;
 ghost use Rattle.rhythm_app.specs.declared.stop.Stop.TheVariants as stop;
 ghost use Rattle.rhythm_base.specs.Readable.{IsReadable};
 ghost use Rattle.rhythm_base.specs.declared.limits.TheConstants.{LONGEST_SCRIPT};
-ghost use Rattle.rhythm_ports.specs.Files.{file_of};
 ghost use Rattle.smf_reader.specs.Ranges.{IsPlayedFile};
 ghost use Rattle.smf_reader.specs.SmfFile.{smf};
-ghost use Rattle.std.specs.Option.{ForSome};
 ghost use Rattle.std.specs.Prelude.{◌≡◌, ◌≢◌, ◌≤◌, IfErr, IfOk, None, length};
 
 use crate::stop::{Kind, Stop};
@@ -40,13 +38,13 @@ fn read_file<F: Shelf>(
     kind: Kind,
     name: &str,
 ) -> Result<Vec<u8>, Stop>
-    ensures tests { ForSome (F.files shelf.old) (λ files. Follows (λ r. sized kind (file_content files name.now) ≡ r) (items_of result)) }
+    ensures tests { FollowsFile (F.files shelf.old) name.now (IsSized kind) (items_of result) }
     ensures within { IfOk result (λ bytes. length bytes.items ≤ limit_of kind) }
     ensures unread { IfErr result (IsUnread kind) }
     ensures end { IfErr result (EndsBy kind (F.faults shelf.old) (F.faults shelf.new)) }
     ensures later { F.faults shelf.old ≤ F.faults shelf.new }
     ensures files { F.files shelf.new ≡ F.files shelf.old }
-    ensures strays { ForSome (F.files shelf.old) (λ files. file_of files name.now ≢ None → F.strays shelf.new ≡ F.strays shelf.old) }
+    ensures strays { OpensOnlyName F.files F.strays name.now shelf.old shelf.new }
 {
     if shelf.open(name).is_err() {
         return Err(Stop::Read(kind));
@@ -79,13 +77,13 @@ fn smf_in(alloc: Global, bytes: &[u8]) -> Result<Smf, Stop>
 /// What the MIDI file says.
 #[tactic(auto, unfolding(crate::specs::Outcome::midi_tests))]
 pub fn midi_of<F: Shelf>(alloc: Global, shelf: &mut F, name: &str) -> Result<Smf, Stop>
-    ensures tests { ForSome (F.files shelf.old) (λ files. Follows (IsRead (file_content files name.now)) result) }
+    ensures tests { FollowsFile (F.files shelf.old) name.now IsRead result }
     ensures played { IfOk result IsPlayedFile }
     ensures own { IfErr result IsOfMidi }
     ensures end { IfErr result (EndsBy kind.Midi (F.faults shelf.old) (F.faults shelf.new)) }
     ensures later { F.faults shelf.old ≤ F.faults shelf.new }
     ensures files { F.files shelf.new ≡ F.files shelf.old }
-    ensures strays { ForSome (F.files shelf.old) (λ files. file_of files name.now ≢ None → F.strays shelf.new ≡ F.strays shelf.old) }
+    ensures strays { OpensOnlyName F.files F.strays name.now shelf.old shelf.new }
 {
     let bytes = read_file(alloc, shelf, Kind::Midi, name)?;
     smf_in(alloc, bytes.as_slice())
@@ -94,12 +92,12 @@ pub fn midi_of<F: Shelf>(alloc: Global, shelf: &mut F, name: &str) -> Result<Smf
 /// The grammar of the grammar file.
 #[tactic(auto, unfolding(crate::specs::Outcome::grammar_tests))]
 pub fn grammar_of<F: Shelf>(alloc: Global, shelf: &mut F, name: &str) -> Result<Grammar, Stop>
-    ensures tests { ForSome (F.files shelf.old) (λ files. Follows (IsUnderstood (file_content files name.now)) result) }
+    ensures tests { FollowsFile (F.files shelf.old) name.now IsUnderstood result }
     ensures readable { IfOk result IsReadable }
     ensures end { IfErr result (EndsBy kind.Grammar (F.faults shelf.old) (F.faults shelf.new)) }
     ensures later { F.faults shelf.old ≤ F.faults shelf.new }
     ensures files { F.files shelf.new ≡ F.files shelf.old }
-    ensures strays { ForSome (F.files shelf.old) (λ files. file_of files name.now ≢ None → F.strays shelf.new ≡ F.strays shelf.old) }
+    ensures strays { OpensOnlyName F.files F.strays name.now shelf.old shelf.new }
 {
     let bytes = read_file(alloc, shelf, Kind::Grammar, name)?;
     match read_grammar(alloc, bytes.as_slice()) {
@@ -117,11 +115,11 @@ pub fn grammar_of<F: Shelf>(alloc: Global, shelf: &mut F, name: &str) -> Result<
 /// The score of the **kern file.
 #[tactic(auto, unfolding(crate::specs::Outcome::kern_tests))]
 pub fn kern_of<F: Shelf>(alloc: Global, shelf: &mut F, name: &str) -> Result<KernScore, Stop>
-    ensures tests { ForSome (F.files shelf.old) (λ files. Follows (IsScoreRead (file_content files name.now)) result) }
+    ensures tests { FollowsFile (F.files shelf.old) name.now IsScoreRead result }
     ensures end { IfErr result (EndsBy kind.Kern (F.faults shelf.old) (F.faults shelf.new)) }
     ensures later { F.faults shelf.old ≤ F.faults shelf.new }
     ensures files { F.files shelf.new ≡ F.files shelf.old }
-    ensures strays { ForSome (F.files shelf.old) (λ files. file_of files name.now ≢ None → F.strays shelf.new ≡ F.strays shelf.old) }
+    ensures strays { OpensOnlyName F.files F.strays name.now shelf.old shelf.new }
 {
     let bytes = read_file(alloc, shelf, Kind::Kern, name)?;
     match read_kern(alloc, bytes.as_slice()) {
@@ -142,13 +140,13 @@ pub fn script_of<F: Shelf>(
     shelf: &mut F,
     name: Option<&str>,
 ) -> Result<Vec<u8>, Stop>
-    ensures tests { ForSome (F.files shelf.old) (λ files. Follows (IsScriptRead (shown_name name.entry) files) (items_of result)) }
+    ensures tests { FollowsScript (F.files shelf.old) (shown_name name.entry) (items_of result) }
     ensures within { IfOk result (λ bytes. length bytes.items ≤ LONGEST_SCRIPT) }
     ensures named { IfErr result (λ _. shown_name name.entry ≢ None) }
     ensures end { IfErr result (EndsBy kind.ScriptFile (F.faults shelf.old) (F.faults shelf.new)) }
     ensures later { F.faults shelf.old ≤ F.faults shelf.new }
     ensures files { F.files shelf.new ≡ F.files shelf.old }
-    ensures strays { AreOpenedAlone (F.files shelf.old) (script_file (shown_name name.entry)) (F.strays shelf.old) (F.strays shelf.new) }
+    ensures strays { OpensOnly F.files F.strays (script_file (shown_name name.entry)) shelf.old shelf.new }
 {
     match name {
         None => Ok(Vec::new(alloc)),

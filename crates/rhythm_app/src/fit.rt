@@ -1,33 +1,29 @@
 ghost use Rattle.barline_fit.specs.Tries.{
   CanBeSet,
   HasBuiltToFit,
-  HasReached,
   HasReachedSome,
   IsFaultAmong,
   IsFittedAmong,
-  IsScoreAt,
 };
-ghost use Rattle.edit_session.specs.Opening.{CanOpen, cells_of};
+ghost use Rattle.edit_session.specs.Opening.{CanOpen};
 ghost use Rattle.performance_prepare.specs.Ranges.{AreInRange};
 ghost use Rattle.rhythm_app.specs.Asked.{AreCandidates, fit};
-ghost use Rattle.rhythm_app.specs.Builds.{HasFitted, HasFittedOver};
+ghost use Rattle.rhythm_app.specs.Builds.{HasFittedAll, HasFittedOver};
+ghost use Rattle.rhythm_app.specs.FittedScore.{IsScoreAt};
 ghost use Rattle.rhythm_app.specs.Inputs.{shown_inputs};
-ghost use Rattle.rhythm_app.specs.Outcome.{IsFitting, IsUnscored, fit_line, fit_text, fitted_at};
-ghost use Rattle.rhythm_app.specs.Stages.{CountsUp, Follows, HasText, IsOfContent, said_of};
-ghost use Rattle.rhythm_app.specs.declared.stop.Stop.TheVariants as stop;
-ghost use Rattle.rhythm_base.specs.Counter.{risen};
-ghost use Rattle.rhythm_base.specs.Readable.{IsReadable};
-ghost use Rattle.rhythm_base.specs.declared.limits.TheConstants.{MOST_NOTES};
-ghost use Rattle.std.specs.Prelude.{◌≡◌, ◌≢◌, ◌≤◌, ℕ, List, Err, IfErr, IfOk, Ok, OnOk, Some, length};
+ghost use Rattle.rhythm_app.specs.Outcome.{IsFitTextOf, IsFitting, IsUnscored, fit_text, fitted_at};
+ghost use Rattle.rhythm_app.specs.Stages.{CountsUp, Follows, HasText, IsOfContent, ReachesBarline, said_of};
+ghost use Rattle.std.specs.Prelude.{◌≡◌, Err, IfErr, IfOk, Ok, OnOk, Some};
 
 use crate::faults::{fitted_or_stop, score_or_stop};
+use crate::fit_score::fitted_score;
 use crate::lent::{Lent, World};
 use crate::request::Inputs;
 use crate::script_file::opened_session;
 use crate::stop::Stop;
-use barline_fit::{Candidate, Candidates, FitFault, Fitted, best_barline, fitted_score};
+use barline_fit::{Candidate, Candidates, FitFault, Fitted, best_barline};
 use edit_session::Session;
-use rhythm_base::{Grammar, Performance};
+use rhythm_base::{Grammar, Performance, Workers};
 use rhythm_ports::Means;
 use std::alloc::{AllocError, Global};
 
@@ -77,7 +73,7 @@ fn score_at<W: World>(
     requires { CanBeSet session.old candidate }
     ensures text { IfOk result (λ v. IsScoreAt session.old candidate (Ok v.items)) }
     ensures stop { IfErr result (IsUnscored session.old candidate) }
-    ensures builds { result ≢ Err stop.Memory → HasReached session.old candidate lent.old.built lent.new.built }
+    ensures builds { ReachesBarline session.old candidate lent.old lent.new result }
     ensures most { HasReachedSome session.old candidate lent.old.built lent.new.built }
     ensures counts { CountsUp lent.old lent.new }
 {
@@ -103,9 +99,9 @@ fn fitted_text<W: World>(
     fitted: Fitted,
 ) -> Result<Vec<u8>, Stop>
     requires { CanBeSet session.old (fitted_at bar fitted) }
-    ensures text { IfOk result (λ v. (score : List ℕ) × IsScoreAt session.old (fitted_at bar fitted) (Ok score) × (v.items ≡ fit_text fitted score)) }
+    ensures text { IfOk result (IsFitTextOf session.old bar fitted) }
     ensures stop { IfErr result (IsUnscored session.old (fitted_at bar fitted)) }
-    ensures builds { result ≢ Err stop.Memory → HasReached session.old (fitted_at bar fitted) lent.old.built lent.new.built }
+    ensures builds { ReachesBarline session.old (fitted_at bar fitted) lent.old lent.new result }
     ensures most { HasReachedSome session.old (fitted_at bar fitted) lent.old.built lent.new.built }
     ensures counts { CountsUp lent.old lent.new }
 {
@@ -132,7 +128,7 @@ fn fit_over<W: World>(
     requires can { CanOpen session.old.grammar session.old.performance }
     ensures tests { Follows (IsFitting among session.old.grammar session.old.performance) (said_of result) }
     ensures content { IfErr result IsOfContent }
-    ensures all { OnOk result (HasFitted among session.old.grammar session.old.performance lent.old.built lent.new.built) }
+    ensures all { OnOk result (HasFittedAll among session.old lent.old.built lent.new.built) }
     ensures built { IfErr result (HasFittedOver among session.old lent.old.built lent.new.built) }
     ensures counts { CountsUp lent.old lent.new }
 {
@@ -143,12 +139,10 @@ fn fit_over<W: World>(
 /// The text of the fit of a barline of the performance of a MIDI file, by a grammar file.
 pub fn fit_text_of<W: World>(
     lent: &mut Lent<W>,
-    workers: u32,
+    workers: Workers,
     inputs: Inputs,
     among: Candidates,
 ) -> Result<Vec<u8>, Stop>
-    requires some_worker { 1 ≤ workers }
-    requires few_workers { workers ≤ 16 }
     requires options { AreInRange inputs.options }
     requires tried { AreCandidates among }
     ensures { HasText (Some (fit (shown_inputs inputs.entry) among)) lent.old lent.new result }

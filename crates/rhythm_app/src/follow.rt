@@ -1,15 +1,12 @@
-ghost use Rattle.edit_session.specs.Opening.{CanOpen, cells_of};
+ghost use Rattle.edit_session.specs.Opening.{CanOpen};
 ghost use Rattle.performance_prepare.specs.Ranges.{AreInRange};
 ghost use Rattle.rhythm_app.specs.Asked.{follow};
-ghost use Rattle.rhythm_app.specs.Builds.{HasFollowed, HasPartlyFollowed};
+ghost use Rattle.rhythm_app.specs.Builds.{HasFollowedOver, HasPartlyFollowedOver};
 ghost use Rattle.rhythm_app.specs.Inputs.{shown_inputs};
 ghost use Rattle.rhythm_app.specs.Outcome.{IsFollowing};
-ghost use Rattle.rhythm_app.specs.Stages.{CountsUp, Follows, HasText, IsOfContent, said_of};
+ghost use Rattle.rhythm_app.specs.Stages.{CountsUp, Follows, HasText, said_of};
 ghost use Rattle.rhythm_app.specs.declared.stop.Stop.TheVariants as stop;
-ghost use Rattle.rhythm_base.specs.Counter.{risen};
-ghost use Rattle.rhythm_base.specs.Readable.{IsReadable};
-ghost use Rattle.rhythm_base.specs.declared.limits.TheConstants.{MOST_NOTES};
-ghost use Rattle.std.specs.Prelude.{◌≡◌, ◌≤◌, IfErr, OnOk, Some, length};
+ghost use Rattle.std.specs.Prelude.{◌≡◌, IfErr, OnOk, Some};
 
 use crate::lent::{Lent, World};
 use crate::request::Inputs;
@@ -17,7 +14,7 @@ use crate::script_file::opened_session;
 use crate::stop::Stop;
 use barline_follow::follow;
 use edit_session::Session;
-use rhythm_base::{Grammar, Performance};
+use rhythm_base::{Grammar, Performance, Workers};
 use rhythm_ports::Means;
 use script_writer::write_edits;
 
@@ -26,8 +23,8 @@ fn script_over<W: World>(lent: &mut Lent<W>, session: &mut Session) -> Result<Ve
     requires { CanOpen session.old.grammar session.old.performance }
     ensures tests { Follows (IsFollowing session.old.grammar session.old.performance) (said_of result) }
     ensures memory { IfErr result (λ s. s ≡ stop.Memory) }
-    ensures builds { OnOk result (HasFollowed session.old.grammar session.old.performance lent.old.built lent.new.built) }
-    ensures most { HasPartlyFollowed session.old.grammar session.old.performance lent.old.built lent.new.built }
+    ensures builds { OnOk result (HasFollowedOver session.old lent.old.built lent.new.built) }
+    ensures most { HasPartlyFollowedOver session.old lent.old.built lent.new.built }
     ensures counts { CountsUp lent.old lent.new }
 {
     let means = Means {
@@ -48,11 +45,9 @@ fn script_over<W: World>(lent: &mut Lent<W>, session: &mut Session) -> Result<Ve
 /// The text of the script that moves the barlines of a MIDI file to those that follow the player, by a grammar file.
 pub fn follow_text<W: World>(
     lent: &mut Lent<W>,
-    workers: u32,
+    workers: Workers,
     inputs: Inputs,
 ) -> Result<Vec<u8>, Stop>
-    requires some_worker { 1 ≤ workers }
-    requires few_workers { workers ≤ 16 }
     requires options { AreInRange inputs.options }
     ensures { HasText (Some (follow (shown_inputs inputs.entry))) lent.old lent.new result }
 {

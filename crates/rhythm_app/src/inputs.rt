@@ -1,16 +1,12 @@
 ghost use Rattle.performance_prepare.specs.Ranges.{AreInRange};
-ghost use Rattle.rhythm_app.specs.Commands.{HaveInputs, HaveNames, input_files};
+ghost use Rattle.rhythm_app.specs.Commands.{OpensOnly, OpensOnlyName, input_files};
 ghost use Rattle.rhythm_app.specs.Counting.{HasPerformance, IsMidiLoading, IsOfMidi};
-ghost use Rattle.rhythm_app.specs.Ends.{IsReadFailure};
-ghost use Rattle.rhythm_app.specs.Inputs.{file_content, shown_inputs};
-ghost use Rattle.rhythm_app.specs.Outcome.{AreLoaded};
-ghost use Rattle.rhythm_app.specs.Stages.{EndsBy, EndsReading, Follows, HasLoaded, HasRules, IsEarly, IsLoadStop, loaded_of};
+ghost use Rattle.rhythm_app.specs.Inputs.{shown_inputs};
+ghost use Rattle.rhythm_app.specs.Stages.{EndsBy, EndsReading, FollowsFile, FollowsInputs, HasLoaded, HasRules, IsEarly, IsStopOfInputs};
 ghost use Rattle.rhythm_app.specs.declared.stop.Kind.TheVariants as kind;
-ghost use Rattle.rhythm_ports.specs.Files.{file_of};
 ghost use Rattle.rhythm_base.specs.Readable.{IsReadable};
 ghost use Rattle.rhythm_base.specs.declared.limits.TheConstants.{LONGEST_SCRIPT, MOST_NOTES};
-ghost use Rattle.std.specs.Option.{ForSome};
-ghost use Rattle.std.specs.Prelude.{◌≡◌, ◌≢◌, ◌≤◌, ◌⊎◌, Err, IfErr, IfOk, None, length};
+ghost use Rattle.std.specs.Prelude.{◌≡◌, ◌≤◌, Err, IfErr, IfOk, length};
 
 use crate::files::{grammar_of, midi_of, script_of};
 use crate::lent::{Lent, World};
@@ -30,15 +26,15 @@ fn inputs_of<F: Shelf>(
     shelf: &mut F,
 ) -> Result<(Grammar, Performance, Vec<u8>), Stop>
     requires { AreInRange inputs.options }
-    ensures tests { ForSome (F.files shelf.old) (λ files. Follows (AreLoaded (shown_inputs inputs.entry) files) (loaded_of result)) }
-    ensures cause { IfErr result (λ stop. ForSome (F.files shelf.old) (λ files. IsLoadStop (shown_inputs inputs.entry) files stop)) }
+    ensures tests { FollowsInputs (F.files shelf.old) (shown_inputs inputs.entry) result }
+    ensures cause { IfErr result (IsStopOfInputs (F.files shelf.old) (shown_inputs inputs.entry)) }
     ensures readable { IfOk result (λ had. IsReadable had.0) }
     ensures few_notes { IfOk result (λ had. length had.1.notes ≤ MOST_NOTES) }
     ensures short { IfOk result (λ had. length had.2.items ≤ LONGEST_SCRIPT) }
     ensures end { IfErr result (EndsReading (F.faults shelf.old) (F.faults shelf.new)) }
     ensures early { IfErr result IsEarly }
     ensures files { F.files shelf.new ≡ F.files shelf.old }
-    ensures strays { ForSome (F.files shelf.old) (λ files. HaveInputs files (shown_inputs inputs.entry) → F.strays shelf.new ≡ F.strays shelf.old) }
+    ensures strays { OpensOnly F.files F.strays (input_files (shown_inputs inputs.entry)) shelf.old shelf.new }
 {
     let played = midi_of(alloc, shelf, inputs.midi)?;
     let grammar = grammar_of(alloc, shelf, inputs.grammar)?;
@@ -62,13 +58,13 @@ pub fn read_inputs<W: World>(
 
 /// The performance that a MIDI file says.
 fn performance_in<F: Shelf>(alloc: Global, name: &str, shelf: &mut F) -> Result<Performance, Stop>
-    ensures tests { ForSome (F.files shelf.old) (λ files. Follows (IsMidiLoading (file_content files name.now)) result) }
+    ensures tests { FollowsFile (F.files shelf.old) name.now IsMidiLoading result }
     ensures few_notes { IfOk result (λ p. length p.notes ≤ MOST_NOTES) }
     ensures own { IfErr result IsOfMidi }
     ensures end { IfErr result (EndsBy kind.Midi (F.faults shelf.old) (F.faults shelf.new)) }
     ensures later { F.faults shelf.old ≤ F.faults shelf.new }
     ensures files { F.files shelf.new ≡ F.files shelf.old }
-    ensures strays { ForSome (F.files shelf.old) (λ files. file_of files name.now ≢ None → F.strays shelf.new ≡ F.strays shelf.old) }
+    ensures strays { OpensOnlyName F.files F.strays name.now shelf.old shelf.new }
 {
     match midi_of(alloc, shelf, name) {
         Ok(played) => performance_of(alloc, &played),

@@ -1,6 +1,6 @@
 ghost use Rattle.grammar_file.specs.Printed.{printed};
 ghost use Rattle.rhythm_app.specs.Asked.{learn};
-ghost use Rattle.rhythm_app.specs.Counting.{AreFilesCounted, IsFileCounted, IsPerformanceCounted, IsTextLearned};
+ghost use Rattle.rhythm_app.specs.Counting.{CountsAll, CountsFile, CountsPerformance, IsTextLearned};
 ghost use Rattle.rhythm_app.specs.Learning.{in_file, midi_stop_of};
 ghost use Rattle.rhythm_app.specs.Stages.{HasText};
 ghost use Rattle.rhythm_app.specs.declared.learn.TheConstants.{MOST_FILES};
@@ -9,18 +9,17 @@ ghost use Rattle.rhythm_base.specs.Readable.{IsReadable};
 ghost use Rattle.rhythm_base.specs.declared.limits.TheConstants.{MOST_NOTES};
 ghost use Rattle.std.specs.Prelude.{◌≡◌, ◌+◌, ◌≤◌, IfErr, IfOk, Some, drop, length};
 ghost use Rattle.weight_learning.specs.Learned as learning;
-ghost use Rattle.weight_learning.specs.declared.weights.TheConstants.{HEAVIEST_BIT};
 
 use crate::inputs::{read_performance, read_rules};
 use crate::lent::{Lent, World};
 use crate::session::open_session;
 use crate::stop::{Kind, MidiStop, Stop};
 use grammar_file::print_grammar;
-use rhythm_base::{Grammar, Performance, Words};
+use rhythm_base::{Grammar, Performance, Words, Workers};
 use rule_counts::RuleCounts;
 use session_counts::count_rules;
 use std::alloc::Global;
-use weight_learning::{copied, learned};
+use weight_learning::{Bit, copied, learned};
 
 /// The most MIDI files that weights are learned from.
 pub const MOST_FILES: usize = 256;
@@ -61,17 +60,15 @@ fn in_file(number: u32, stop: Stop) -> Stop
 /// Counts the rules in the least derivations of a performance. Each of its cells is built once, by one of the workers.
 fn count_performance<W: World>(
     lent: &mut Lent<W>,
-    workers: u32,
+    workers: Workers,
     grammar: &Grammar,
     performance: Performance,
     counts: &mut RuleCounts,
 ) -> Result<(), Stop>
-    requires some_worker { 1 ≤ workers }
-    requires few_workers { workers ≤ 16 }
     requires readable { IsReadable grammar.now }
     requires few_notes { length performance.notes ≤ MOST_NOTES }
     requires of_each { length counts.old ≡ length grammar.now.rules }
-    ensures { IsPerformanceCounted grammar.now performance counts.old counts.new lent.old lent.new result }
+    ensures { CountsPerformance grammar.now performance counts.old counts.new lent.old lent.new result }
 {
     let Ok(rules) = copied(lent.alloc, grammar) else {
         return Err(Stop::Memory);
@@ -88,16 +85,14 @@ fn count_performance<W: World>(
 /// Counts the rules in the least derivations of a MIDI file.
 fn count_file<W: World>(
     lent: &mut Lent<W>,
-    workers: u32,
+    workers: Workers,
     grammar: &Grammar,
     midi: &str,
     counts: &mut RuleCounts,
 ) -> Result<(), Stop>
-    requires some_worker { 1 ≤ workers }
-    requires few_workers { workers ≤ 16 }
     requires readable { IsReadable grammar.now }
     requires of_each { length counts.old ≡ length grammar.now.rules }
-    ensures { IsFileCounted grammar.now midi.now counts.old counts.new lent.old lent.new result }
+    ensures { CountsFile grammar.now midi.now counts.old counts.new lent.old lent.new result }
 {
     match read_performance(lent, midi) {
         Ok(performance) => count_performance(lent, workers, grammar, performance, counts),
@@ -108,17 +103,15 @@ fn count_file<W: World>(
 /// Counts the rules in the least derivations of the MIDI files that the words from the fourth on name, one file after another.
 fn count_files<W: World>(
     lent: &mut Lent<W>,
-    workers: u32,
+    workers: Workers,
     grammar: &Grammar,
     words: &Words,
     counts: &mut RuleCounts,
 ) -> Result<(), Stop>
-    requires some_worker { 1 ≤ workers }
-    requires few_workers { workers ≤ 16 }
     requires readable { IsReadable grammar.now }
     requires of_each { length counts.old ≡ length grammar.now.rules }
     requires few_words { length words.now ≤ MOST_FILES + 3 }
-    ensures { AreFilesCounted grammar.now (drop 3 words.now) counts.old counts.new lent.old lent.new result }
+    ensures { CountsAll grammar.now (drop 3 words.now) counts.old counts.new lent.old lent.new result }
 {
     'files: for place in 3..words.count() {
         let midi = words.get(place).unwrap();
@@ -134,12 +127,10 @@ fn learned_text(
     alloc: Global,
     grammar: &Grammar,
     counts: &RuleCounts,
-    bit: u32,
+    bit: Bit,
 ) -> Result<Vec<u8>, Stop>
     requires readable { IsReadable grammar.now }
     requires of_each { length counts.now ≡ length grammar.now.rules }
-    requires some_bit { 1 ≤ bit }
-    requires bit_range { bit ≤ HEAVIEST_BIT }
     ensures text { IfOk result (λ v. v.items ≡ printed (learning.learned grammar.now counts.now bit)) }
     ensures memory { IfErr result (λ s. s ≡ stop.Memory) }
 {
@@ -155,15 +146,11 @@ fn learned_text(
 /// The text of the grammar with the weights that are learned from the MIDI files that the words from the fourth on name.
 fn learned_by<W: World>(
     lent: &mut Lent<W>,
-    workers: u32,
-    bit: u32,
+    workers: Workers,
+    bit: Bit,
     grammar: &Grammar,
     words: &Words,
 ) -> Result<Vec<u8>, Stop>
-    requires some_worker { 1 ≤ workers }
-    requires few_workers { workers ≤ 16 }
-    requires some_bit { 1 ≤ bit }
-    requires bit_range { bit ≤ HEAVIEST_BIT }
     requires readable { IsReadable grammar.now }
     requires few_words { length words.now ≤ MOST_FILES + 3 }
     ensures { IsTextLearned bit grammar.now (drop 3 words.now) lent.old lent.new result }
@@ -178,18 +165,14 @@ fn learned_by<W: World>(
 }
 
 /// The text of the grammar of a file with the weights that are learned from the MIDI files that the words from the fourth on name: a rule
-/// that is used half as often as another of its symbol costs `bit` more, 1 to 10,000.
+/// that is used half as often as another of its symbol costs `bit` more.
 pub fn learn_text<W: World>(
     lent: &mut Lent<W>,
-    workers: u32,
-    bit: u32,
+    workers: Workers,
+    bit: Bit,
     grammar: &str,
     words: &Words,
 ) -> Result<Vec<u8>, Stop>
-    requires some_worker { 1 ≤ workers }
-    requires few_workers { workers ≤ 16 }
-    requires some_bit { 1 ≤ bit }
-    requires bit_range { bit ≤ HEAVIEST_BIT }
     requires few_words { length words.now ≤ MOST_FILES + 3 }
     ensures { HasText (Some (learn bit grammar.now (drop 3 words.now))) lent.old lent.new result }
 {

@@ -9,6 +9,7 @@ mod events;
 mod faults;
 mod files;
 mod fit;
+mod fit_score;
 mod follow;
 mod generate;
 mod help;
@@ -28,7 +29,7 @@ mod top;
 mod usage;
 mod writing;
 
-pub use laws::outcomes_are_one;
+pub use laws::{fitted_scores_are_one, outcomes_are_one};
 pub use lent::{Lent, World};
 pub use line::write_line;
 pub use performance_load::{LoadFault, load};

@@ -1,6 +1,5 @@
 ghost use Rattle.edit_script.specs.Replies.{fault_words, reply_line};
-ghost use Rattle.rhythm_ports.specs.Causes.{HasCause};
-ghost use Rattle.rhythm_app.specs.Ends.{AppendsPart, Reports};
+ghost use Rattle.rhythm_app.specs.Ends.{OfSink, Reports, Writes};
 ghost use Rattle.rhythm_app.specs.Parts.{part_text, part_texts};
 ghost use Rattle.rhythm_app.specs.Stops.{
   joined_words,
@@ -11,13 +10,12 @@ ghost use Rattle.rhythm_app.specs.Stops.{
   pair_line,
   prepare_stop_line,
   script_fault_line,
-  bar_signature_line,
+  signature_line,
   stop_line,
   upbeat_line,
 };
 ghost use Rattle.rhythm_app.specs.declared.stop.Stop.TheVariants as stop;
-ghost use Rattle.std.specs.Io.KnownBytes.{Appends};
-ghost use Rattle.std.specs.Prelude.{◌≡◌, OnErr, OnOk, decimal};
+ghost use Rattle.std.specs.Prelude.{decimal};
 
 use crate::names::{
     FaultNumbers, fault_name, fault_numbers, kind_name, smf_name, smf_number, what_name,
@@ -39,18 +37,14 @@ enum Part<'a> {
 }
 
 fn write_text<K: Sink>(sink: &mut K, text: &str) -> Result<(), Failed>
-    ensures all { OnOk result (Appends (K.taken sink.old) (K.taken sink.new) text.now) }
-    ensures part { OnErr result (AppendsPart (K.taken sink.old) (K.taken sink.new) text.now) }
-    ensures cause { HasCause (K.faults sink.old) (K.faults sink.new) result }
+    ensures { Writes K.taken K.faults sink.old sink.new text.now result }
 {
     write_all(sink, text.as_bytes()).map_err(|_partial| Failed)
 }
 
 /// Writes a number, with no memory.
 fn write_number<K: Sink>(sink: &mut K, number: u64) -> Result<(), Failed>
-    ensures all { OnOk result (Appends (K.taken sink.old) (K.taken sink.new) (decimal number)) }
-    ensures part { OnErr result (AppendsPart (K.taken sink.old) (K.taken sink.new) (decimal number)) }
-    ensures cause { HasCause (K.faults sink.old) (K.faults sink.new) result }
+    ensures { Writes K.taken K.faults sink.old sink.new (decimal number) result }
 {
     let mut buffer = itoa::Buffer::new();
     write_all(sink, buffer.format(number).as_bytes()).map_err(|_partial| Failed)
@@ -58,9 +52,7 @@ fn write_number<K: Sink>(sink: &mut K, number: u64) -> Result<(), Failed>
 
 /// Writes a part.
 fn write_part<K: Sink>(sink: &mut K, part: Part) -> Result<(), Failed>
-    ensures all { OnOk result (Appends (K.taken sink.old) (K.taken sink.new) (part_text part.entry)) }
-    ensures part { OnErr result (AppendsPart (K.taken sink.old) (K.taken sink.new) (part_text part.entry)) }
-    ensures cause { HasCause (K.faults sink.old) (K.faults sink.new) result }
+    ensures { Writes K.taken K.faults sink.old sink.new (part_text part.entry) result }
 {
     match part {
         Part::Text(text) => write_text(sink, text),
@@ -70,9 +62,7 @@ fn write_part<K: Sink>(sink: &mut K, part: Part) -> Result<(), Failed>
 
 /// Writes the parts one after another, up to the first that fails.
 fn write_parts<K: Sink>(sink: &mut K, parts: &[Part]) -> Result<(), Failed>
-    ensures all { OnOk result (Appends (K.taken sink.old) (K.taken sink.new) (joined_words (part_texts parts.now))) }
-    ensures part { OnErr result (AppendsPart (K.taken sink.old) (K.taken sink.new) (joined_words (part_texts parts.now))) }
-    ensures cause { HasCause (K.faults sink.old) (K.faults sink.new) result }
+    ensures { Writes K.taken K.faults sink.old sink.new (joined_words (part_texts parts.now)) result }
 {
     'parts: for part in parts {
         write_part(sink, *part)?;
@@ -87,9 +77,7 @@ fn write_named<'a, K: Sink>(
     name: &'a str,
     number: Option<u64>,
 ) -> Result<(), Failed>
-    ensures all { OnOk result (Appends (K.taken sink.old) (K.taken sink.new) (named_line head.now name.now number)) }
-    ensures part { OnErr result (AppendsPart (K.taken sink.old) (K.taken sink.new) (named_line head.now name.now number)) }
-    ensures cause { HasCause (K.faults sink.old) (K.faults sink.new) result }
+    ensures { Writes K.taken K.faults sink.old sink.new (named_line head.now name.now number) result }
 {
     let head = Part::Text(head);
     let name = Part::Text(name);
@@ -107,27 +95,21 @@ fn write_named<'a, K: Sink>(
 
 /// Writes what is counted and the number that is above its limit.
 fn write_limit<K: Sink>(sink: &mut K, name: &str, count: u64) -> Result<(), Failed>
-    ensures all { OnOk result (Appends (K.taken sink.old) (K.taken sink.new) (limit_line name.now count)) }
-    ensures part { OnErr result (AppendsPart (K.taken sink.old) (K.taken sink.new) (limit_line name.now count)) }
-    ensures cause { HasCause (K.faults sink.old) (K.faults sink.new) result }
+    ensures { Writes K.taken K.faults sink.old sink.new (limit_line name.now count) result }
 {
     write_named(sink, "limit ", name, Some(count))
 }
 
 /// Writes the fault of a MIDI file.
 fn write_smf_fault<K: Sink>(sink: &mut K, fault: SmfFault) -> Result<(), Failed>
-    ensures all { OnOk result (Appends (K.taken sink.old) (K.taken sink.new) (stop_line (stop.Smf fault))) }
-    ensures part { OnErr result (AppendsPart (K.taken sink.old) (K.taken sink.new) (stop_line (stop.Smf fault))) }
-    ensures cause { HasCause (K.faults sink.old) (K.faults sink.new) result }
+    ensures { Writes K.taken K.faults sink.old sink.new (stop_line (stop.Smf fault)) result }
 {
     write_named(sink, "smf ", smf_name(fault), smf_number(fault))
 }
 
 /// Writes a line of the grammar file and what is wrong with it.
 fn write_grammar_fault<K: Sink>(sink: &mut K, fault: GrammarFault) -> Result<(), Failed>
-    ensures all { OnOk result (Appends (K.taken sink.old) (K.taken sink.new) (stop_line (stop.Grammar fault))) }
-    ensures part { OnErr result (AppendsPart (K.taken sink.old) (K.taken sink.new) (stop_line (stop.Grammar fault))) }
-    ensures cause { HasCause (K.faults sink.old) (K.faults sink.new) result }
+    ensures { Writes K.taken K.faults sink.old sink.new (stop_line (stop.Grammar fault)) result }
 {
     let head = Part::Text("grammar ");
     let line = Part::Number(u64::from(fault.line));
@@ -145,9 +127,7 @@ fn write_grammar_fault<K: Sink>(sink: &mut K, fault: GrammarFault) -> Result<(),
 
 /// Writes a line of the **kern file and the name of its fault.
 fn write_kern_fault<K: Sink>(sink: &mut K, fault: KernFault) -> Result<(), Failed>
-    ensures all { OnOk result (Appends (K.taken sink.old) (K.taken sink.new) (stop_line (stop.Kern fault))) }
-    ensures part { OnErr result (AppendsPart (K.taken sink.old) (K.taken sink.new) (stop_line (stop.Kern fault))) }
-    ensures cause { HasCause (K.faults sink.old) (K.faults sink.new) result }
+    ensures { Writes K.taken K.faults sink.old sink.new (stop_line (stop.Kern fault)) result }
 {
     write_parts(
         sink,
@@ -163,9 +143,7 @@ fn write_kern_fault<K: Sink>(sink: &mut K, fault: KernFault) -> Result<(), Faile
 
 /// Writes two numbers.
 fn write_pair<K: Sink>(sink: &mut K, head: &str, first: u64, second: u64) -> Result<(), Failed>
-    ensures all { OnOk result (Appends (K.taken sink.old) (K.taken sink.new) (pair_line head.now first second)) }
-    ensures part { OnErr result (AppendsPart (K.taken sink.old) (K.taken sink.new) (pair_line head.now first second)) }
-    ensures cause { HasCause (K.faults sink.old) (K.faults sink.new) result }
+    ensures { Writes K.taken K.faults sink.old sink.new (pair_line head.now first second) result }
 {
     write_parts(
         sink,
@@ -181,27 +159,14 @@ fn write_pair<K: Sink>(sink: &mut K, head: &str, first: u64, second: u64) -> Res
 
 /// Writes the two numbers of a signature.
 fn write_signature<K: Sink>(sink: &mut K, head: &str, num: u8, dd: u8) -> Result<(), Failed>
-    ensures all { OnOk result (Appends (K.taken sink.old) (K.taken sink.new) (pair_line head.now num dd)) }
-    ensures part { OnErr result (AppendsPart (K.taken sink.old) (K.taken sink.new) (pair_line head.now num dd)) }
-    ensures cause { HasCause (K.faults sink.old) (K.faults sink.new) result }
+    ensures { Writes K.taken K.faults sink.old sink.new (pair_line head.now num dd) result }
 {
     write_pair(sink, head, u64::from(num), u64::from(dd))
 }
 
-/// Writes the voice and the bar that have no derivation.
-fn write_no_derivation<K: Sink>(sink: &mut K, channel: u8, bar: u32) -> Result<(), Failed>
-    ensures all { OnOk result (Appends (K.taken sink.old) (K.taken sink.new) (stop_line (stop.NoDerivation channel bar))) }
-    ensures part { OnErr result (AppendsPart (K.taken sink.old) (K.taken sink.new) (stop_line (stop.NoDerivation channel bar))) }
-    ensures cause { HasCause (K.faults sink.old) (K.faults sink.new) result }
-{
-    write_pair(sink, "no derivation ", u64::from(channel), u64::from(bar))
-}
-
 /// Writes a bar and its signature.
 fn write_bar<K: Sink>(sink: &mut K, head: &str, bar: u32, num: u8, den: u8) -> Result<(), Failed>
-    ensures all { OnOk result (Appends (K.taken sink.old) (K.taken sink.new) (bar_signature_line head.now bar num den)) }
-    ensures part { OnErr result (AppendsPart (K.taken sink.old) (K.taken sink.new) (bar_signature_line head.now bar num den)) }
-    ensures cause { HasCause (K.faults sink.old) (K.faults sink.new) result }
+    ensures { Writes K.taken K.faults sink.old sink.new (signature_line head.now bar num den) result }
 {
     write_parts(
         sink,
@@ -219,9 +184,7 @@ fn write_bar<K: Sink>(sink: &mut K, head: &str, bar: u32, num: u8, den: u8) -> R
 
 /// Writes the line of a stop by a MIDI file.
 fn write_midi_stop<K: Sink>(sink: &mut K, stop: MidiStop) -> Result<(), Failed>
-    ensures all { OnOk result (Appends (K.taken sink.old) (K.taken sink.new) (midi_stop_line stop)) }
-    ensures part { OnErr result (AppendsPart (K.taken sink.old) (K.taken sink.new) (midi_stop_line stop)) }
-    ensures cause { HasCause (K.faults sink.old) (K.faults sink.new) result }
+    ensures { Writes K.taken K.faults sink.old sink.new (midi_stop_line stop) result }
 {
     match stop {
         MidiStop::TooLong { read } => write_limit(sink, kind_name(Kind::Midi), read),
@@ -233,16 +196,16 @@ fn write_midi_stop<K: Sink>(sink: &mut K, stop: MidiStop) -> Result<(), Failed>
         MidiStop::TooManyBars { start } => write_limit(sink, "bars", start),
         MidiStop::TooManyCells { count } => write_limit(sink, "cells", count),
         MidiStop::NoStart { bar, num, den } => write_bar(sink, "start ", bar, num, den),
-        MidiStop::NoDerivation { channel, bar } => write_no_derivation(sink, channel, bar),
+        MidiStop::NoDerivation { channel, bar } => {
+            write_pair(sink, "no derivation ", u64::from(channel), u64::from(bar))
+        }
         MidiStop::Read => write_named(sink, "read ", kind_name(Kind::Midi), None),
     }
 }
 
 /// Writes the number of a MIDI file, and the line of a stop by it.
 fn write_in_file<K: Sink>(sink: &mut K, number: u32, stop: MidiStop) -> Result<(), Failed>
-    ensures all { OnOk result (Appends (K.taken sink.old) (K.taken sink.new) (in_file_line number stop)) }
-    ensures part { OnErr result (AppendsPart (K.taken sink.old) (K.taken sink.new) (in_file_line number stop)) }
-    ensures cause { HasCause (K.faults sink.old) (K.faults sink.new) result }
+    ensures { Writes K.taken K.faults sink.old sink.new (in_file_line number stop) result }
 {
     let number = Part::Number(u64::from(number));
     write_parts(sink, &[Part::Text("file "), number, Part::Text(" ")])?;
@@ -251,9 +214,7 @@ fn write_in_file<K: Sink>(sink: &mut K, number: u32, stop: MidiStop) -> Result<(
 
 /// Writes the beats of an upbeat and their value.
 fn write_upbeat<K: Sink>(sink: &mut K, num: u8, den: u8) -> Result<(), Failed>
-    ensures all { OnOk result (Appends (K.taken sink.old) (K.taken sink.new) (upbeat_line num den)) }
-    ensures part { OnErr result (AppendsPart (K.taken sink.old) (K.taken sink.new) (upbeat_line num den)) }
-    ensures cause { HasCause (K.faults sink.old) (K.faults sink.new) result }
+    ensures { Writes K.taken K.faults sink.old sink.new (upbeat_line num den) result }
 {
     let num = Part::Number(u64::from(num));
     let den = Part::Number(u64::from(den));
@@ -271,9 +232,7 @@ fn write_upbeat<K: Sink>(sink: &mut K, num: u8, den: u8) -> Result<(), Failed>
 
 /// Writes the line of a stop by the options.
 fn write_unprepared<K: Sink>(sink: &mut K, fault: PrepareFault) -> Result<(), Failed>
-    ensures all { OnOk result (Appends (K.taken sink.old) (K.taken sink.new) (prepare_stop_line fault)) }
-    ensures part { OnErr result (AppendsPart (K.taken sink.old) (K.taken sink.new) (prepare_stop_line fault)) }
-    ensures cause { HasCause (K.faults sink.old) (K.faults sink.new) result }
+    ensures { Writes K.taken K.faults sink.old sink.new (prepare_stop_line fault) result }
 {
     match fault {
         PrepareFault::NoNotes => write_text(sink, "notes NoNotes\n"),
@@ -287,9 +246,7 @@ fn write_unprepared<K: Sink>(sink: &mut K, fault: PrepareFault) -> Result<(), Fa
 
 /// Writes why an edit is refused: the name of the fault and its numbers.
 fn write_fault<K: Sink>(sink: &mut K, fault: EditFault) -> Result<(), Failed>
-    ensures all { OnOk result (Appends (K.taken sink.old) (K.taken sink.new) (reply_line (fault_words fault))) }
-    ensures part { OnErr result (AppendsPart (K.taken sink.old) (K.taken sink.new) (reply_line (fault_words fault))) }
-    ensures cause { HasCause (K.faults sink.old) (K.faults sink.new) result }
+    ensures { Writes K.taken K.faults sink.old sink.new (reply_line (fault_words fault)) result }
 {
     match fault_numbers(fault) {
         FaultNumbers::None => write_named(sink, "", fault_name(fault), None),
@@ -321,9 +278,7 @@ fn write_fault<K: Sink>(sink: &mut K, fault: EditFault) -> Result<(), Failed>
 
 /// Writes the number of a line of the script file, and that it says no edit or why its edit is refused.
 fn write_refused<K: Sink>(sink: &mut K, line: u32, fault: Option<EditFault>) -> Result<(), Failed>
-    ensures all { OnOk result (Appends (K.taken sink.old) (K.taken sink.new) (script_fault_line line fault)) }
-    ensures part { OnErr result (AppendsPart (K.taken sink.old) (K.taken sink.new) (script_fault_line line fault)) }
-    ensures cause { HasCause (K.faults sink.old) (K.faults sink.new) result }
+    ensures { Writes K.taken K.faults sink.old sink.new (script_fault_line line fault) result }
 {
     let head = Part::Text("script ");
     let line = Part::Number(u64::from(line));
@@ -338,9 +293,7 @@ fn write_refused<K: Sink>(sink: &mut K, line: u32, fault: Option<EditFault>) -> 
 
 /// Writes the line of a stop.
 fn write_stop<K: Sink>(sink: &mut K, stop: Stop) -> Result<(), Failed>
-    ensures all { OnOk result (Appends (K.taken sink.old) (K.taken sink.new) (stop_line stop)) }
-    ensures part { OnErr result (AppendsPart (K.taken sink.old) (K.taken sink.new) (stop_line stop)) }
-    ensures cause { HasCause (K.faults sink.old) (K.faults sink.new) result }
+    ensures { Writes K.taken K.faults sink.old sink.new (stop_line stop) result }
 {
     match stop {
         Stop::Usage => write_text(sink, "usage\n"),
@@ -383,7 +336,7 @@ fn write_stop<K: Sink>(sink: &mut K, stop: Stop) -> Result<(), Failed>
 
 /// Writes the line of a stop, or a first part of it where a call fails.
 pub fn write_line<K: Sink>(sink: &mut K, stop: &Stop)
-    ensures { Reports (K.taken sink.old) (K.taken sink.new) (K.faults sink.old) (K.faults sink.new) (stop_line stop.now) }
+    ensures { OfSink Reports K.taken K.faults sink.old sink.new (stop_line stop.now) }
 {
     let _written = write_stop(sink, *stop);
 }

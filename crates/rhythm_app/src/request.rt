@@ -1,5 +1,5 @@
-ghost use Rattle.command_line.specs.CommandLines.{HasOptions, HasWorkers};
-ghost use Rattle.rhythm_app.specs.Asked.{AreCandidates, IsCommandWord, IsRequestInRange, asked_of, candidate_count, candidates_by, command_by, drill_by, fit_by, fit_of, generate_by, in_order, learn_by, words_of_call, shown_asked, shown_request, unscripted, untold, words_after, workers_asked};
+ghost use Rattle.command_line.specs.CommandLines.{HasOptions};
+ghost use Rattle.rhythm_app.specs.Asked.{AreTicks, AsksBy, AsksOn, IsCommandWord, IsRequestInRange, asked_of, candidates_by, command_by, drill_by, fit_of, generate_by, in_order, learn_by, shown_asked, shown_request, unscripted, untold, words_after, workers_asked};
 ghost use Rattle.performance_prepare.specs.Ranges.{AreInRange};
 ghost use Rattle.rhythm_app.specs.Inputs.{shown_inputs, shown_name};
 ghost use Rattle.rhythm_base.specs.declared.limits.TheConstants.{LATEST_TICK};
@@ -10,7 +10,7 @@ use crate::learn::MOST_FILES;
 use barline_fit::{Candidates, MOST_CANDIDATES};
 use command_line::{Invocation, number_in};
 use performance_prepare::Options;
-use rhythm_base::{LATEST_TICK, MOST_BARS, Words};
+use rhythm_base::{LATEST_TICK, MOST_BARS, Words, Workers};
 use weight_learning::HEAVIEST_BIT;
 
 /// The inputs of a command on a MIDI file and a grammar: the names of its files, and what is told of the performance.
@@ -168,7 +168,7 @@ fn request_of_one<'a>(
     file: &'a str,
 ) -> Option<Request<'a>>
     requires { AreInRange options.now }
-    ensures asked { shown_asked result ≡ command_by options.now (shown_name script.entry) (word.entry.now ∷ file.entry.now ∷ []) }
+    ensures asked { AsksBy options.now script.entry (word.entry ∷ file.entry ∷ []) result }
     ensures range { IfSome result IsRequestInRange }
 {
     if word == "notes" {
@@ -235,7 +235,7 @@ fn request_of_two<'a>(
     second: &'a str,
 ) -> Option<Request<'a>>
     requires { AreInRange options.now }
-    ensures asked { shown_asked result ≡ command_by options.now (shown_name script.entry) (word.entry.now ∷ first.entry.now ∷ second.entry.now ∷ []) }
+    ensures asked { AsksBy options.now script.entry (word.entry ∷ first.entry ∷ second.entry ∷ []) result }
     ensures range { IfSome result IsRequestInRange }
 {
     let inputs = Inputs {
@@ -304,9 +304,7 @@ fn candidates_of(bar: &str, low: &str, high: &str, step: &str) -> Option<Candida
 /// The fit of a barline, where there are not too many candidates.
 fn fit_request<'a>(inputs: Inputs<'a>, among: Candidates) -> Request<'a>
     requires options { AreInRange inputs.options }
-    requires order { among.low ≤ among.high }
-    requires high { among.high ≤ LATEST_TICK }
-    requires step { 1 ≤ among.step }
+    requires ticks { AreTicks among }
     ensures asked { shown_request result ≡ fit_of (shown_inputs inputs.entry) among }
     ensures range { IsRequestInRange result }
 {
@@ -329,8 +327,7 @@ fn request_of_six<'a>(
 ) -> Option<Request<'a>>
     requires options { AreInRange inputs.options }
     requires other { IsFalse (pointwise nat_eq word.now (codes "learn")) }
-    ensures asked { shown_asked result
-        ≡ command_by (shown_inputs inputs.entry).options (shown_inputs inputs.entry).script (words_of_call word.entry.now (shown_inputs inputs.entry) bar.entry.now low.entry.now high.entry.now step.entry.now) }
+    ensures asked { AsksOn inputs.entry word.entry (bar.entry ∷ low.entry ∷ high.entry ∷ step.entry ∷ []) result }
     ensures range { IfSome result IsRequestInRange }
 {
     if word == "fit" {
@@ -395,14 +392,11 @@ pub fn request_of<'a>(said: &'a Invocation) -> Option<Request<'a>>
 }
 
 /// The number of workers that build cells.
-pub fn workers_of(said: &Invocation) -> u32
-    requires { HasWorkers said.now }
-    ensures asked { result ≡ workers_asked said.now }
-    ensures some_worker { 1 ≤ result }
-    ensures few_workers { result ≤ 16 }
+pub fn workers_of(said: &Invocation) -> Workers
+    ensures { result ≡ workers_asked said.now }
 {
     match said {
-        Invocation::Help | Invocation::Version => 1,
+        Invocation::Help | Invocation::Version => Workers::one(),
         Invocation::Command(line) => line.workers,
     }
 }

@@ -1,19 +1,17 @@
-ghost use Rattle.edit_laws.specs.EditOutcomes.{IsOutcome, made};
+ghost use Rattle.edit_laws.specs.EditOutcomes.{made};
 ghost use Rattle.edit_script.specs.ScriptLines.{script_lines};
 ghost use Rattle.edit_session.specs.Effects.{HasBuiltInVain, IsRejected};
-ghost use Rattle.edit_session.specs.Prepared.{RisesBy};
 ghost use Rattle.performance_prepare.specs.Ranges.{AreInRange};
 ghost use Rattle.rhythm_app.specs.Inputs.{shown_inputs};
 ghost use Rattle.rhythm_app.specs.Outcome.{line_stop, loaded};
-ghost use Rattle.rhythm_app.specs.Scripted.{IsLineBrokenOff, IsLineMade, IsLineRefused, SaysEdit};
-ghost use Rattle.rhythm_app.specs.Stages.{CountsUp, HasEdited, HasOpened, HasScripted, standing};
-ghost use Rattle.rhythm_base.specs.Counter.{risen};
+ghost use Rattle.rhythm_app.specs.Scripted.{SaysEdit};
+ghost use Rattle.rhythm_app.specs.Stages.{BreaksLineOff, CountsUp, HasOpened, HasScripted, MakesEdit, MakesEdits, MakesLine, RefusesLine};
 ghost use Rattle.rhythm_base.specs.EditRanges.{IsEditInRange};
 ghost use Rattle.rhythm_base.specs.Readable.{IsReadable};
 ghost use Rattle.rhythm_base.specs.declared.edit.Edit.{Edit};
 ghost use Rattle.rhythm_base.specs.declared.edit_fault.EditFault.TheVariants as faults;
 ghost use Rattle.rhythm_base.specs.declared.limits.TheConstants.{LONGEST_SCRIPT, MOST_NOTES};
-ghost use Rattle.std.specs.Prelude.{◌≡◌, ◌≢◌, ◌≤◌, ◌<◌, ◌⊎◌, ◌∷◌, ℕ, Err, IfErr, IfOk, None, OnOk, Some, length};
+ghost use Rattle.std.specs.Prelude.{◌≡◌, ◌≤◌, ◌<◌, ◌⊎◌, ◌∷◌, Err, IfErr, IfOk, None, OnOk, Some, length};
 
 use crate::inputs::read_inputs;
 use crate::lent::{Lent, World};
@@ -22,7 +20,7 @@ use crate::session::open_session;
 use crate::stop::Stop;
 use edit_script::{Command, LineFault, read_line};
 use edit_session::Session;
-use rhythm_base::{Edit, EditFault, Grammar, LONGEST_SCRIPT_LINE, Performance};
+use rhythm_base::{Edit, EditFault, Grammar, LONGEST_SCRIPT_LINE, Performance, Workers};
 use rhythm_ports::Means;
 use std::alloc::Global;
 
@@ -51,8 +49,7 @@ fn make_edit<W: World>(
     edit: &Edit,
 ) -> Result<(), EditFault>
     requires { IsEditInRange edit.now }
-    ensures made { OnOk result (RisesBy lent.old.built lent.new.built
-        (λ n. (cost : ℕ) × IsOutcome session.old.grammar session.old.performance edit.now (made n cost) session.new.performance)) }
+    ensures made { OnOk result (MakesEdit edit.now session.old session.new lent.old lent.new) }
     ensures rejected { IfErr result (IsRejected session.old edit.now session.new) }
     ensures built { IfErr result (HasBuiltInVain session.old edit.now lent.old.built lent.new.built) }
     ensures grammar { session.new.grammar ≡ session.old.grammar }
@@ -75,12 +72,9 @@ fn make_line<W: World>(
     session: &mut Session,
     line: &[u8],
 ) -> Result<(), Option<EditFault>>
-    ensures made { OnOk result (RisesBy lent.old.built lent.new.built
-        (IsLineMade session.old.grammar session.old.performance line.now session.new.performance)) }
-    ensures refused { IfErr result (λ fault. fault ≢ Some faults.Memory
-        → RisesBy lent.old.built lent.new.built (IsLineRefused session.old.grammar session.old.performance line.now fault)) }
-    ensures broken { IfErr result (λ fault. fault ≡ Some faults.Memory
-        → RisesBy lent.old.built lent.new.built (IsLineBrokenOff session.old.grammar session.old.performance line.now)) }
+    ensures made { OnOk result (MakesLine line.now session.old session.new lent.old lent.new) }
+    ensures refused { IfErr result (RefusesLine line.now session.old lent.old lent.new) }
+    ensures broken { IfErr result (BreaksLineOff line.now session.old lent.old lent.new) }
     ensures grammar { session.new.grammar ≡ session.old.grammar }
     ensures counts { CountsUp lent.old lent.new }
 {
@@ -122,8 +116,7 @@ fn make_edits<W: World>(
     script: &[u8],
 ) -> Result<(), Stop>
     requires { length script.now ≤ LONGEST_SCRIPT }
-    ensures edited { (from n : ℕ) → lent.old.built ≡ risen from n
-        → HasEdited (standing session.old n) (script_lines script.now) from lent.new.built session.new.performance result }
+    ensures edited { MakesEdits script.now session.old session.new lent.old lent.new result }
     ensures grammar { session.new.grammar ≡ session.old.grammar }
     ensures counts { CountsUp lent.old lent.new }
 {
@@ -144,13 +137,11 @@ fn make_edits<W: World>(
 /// each edit reaches.
 fn scripted_session<W: World>(
     lent: &mut Lent<W>,
-    workers: u32,
+    workers: Workers,
     grammar: Grammar,
     performance: Performance,
     script: &[u8],
 ) -> Result<Session, Stop>
-    requires some_worker { 1 ≤ workers }
-    requires few_workers { workers ≤ 16 }
     requires readable { IsReadable grammar }
     requires few_notes { length performance.notes ≤ MOST_NOTES }
     requires short { length script.now ≤ LONGEST_SCRIPT }
@@ -168,11 +159,9 @@ fn scripted_session<W: World>(
 /// A session on what the inputs say, after the edits of their script file.
 pub fn opened_session<W: World>(
     lent: &mut Lent<W>,
-    workers: u32,
+    workers: Workers,
     inputs: Inputs,
 ) -> Result<Session, Stop>
-    requires some_worker { 1 ≤ workers }
-    requires few_workers { workers ≤ 16 }
     requires options { AreInRange inputs.options }
     ensures { HasOpened (shown_inputs inputs.entry) lent.old lent.new result }
 {

@@ -11,7 +11,7 @@ ghost use Rattle.std.specs.Prelude.{◌≡◌, ◌≤◌, ◌⊎◌, IfErr, IfOk
 use crate::lent::{Lent, World};
 use crate::stop::Stop;
 use edit_session::{OpenFault, Session};
-use rhythm_base::{Grammar, Performance};
+use rhythm_base::{Grammar, Performance, Workers};
 use rhythm_ports::Means;
 
 /// A fault of opening a session as a stop.
@@ -33,12 +33,10 @@ impl From<OpenFault> for Stop {
 /// A session on a performance. Each of its cells is built once, by one of the workers.
 pub fn open_session<W: World>(
     lent: &mut Lent<W>,
-    workers: u32,
+    workers: Workers,
     grammar: Grammar,
     performance: Performance,
 ) -> Result<Session, Stop>
-    requires some_worker { 1 ≤ workers }
-    requires few_workers { workers ≤ 16 }
     requires readable { IsReadable grammar }
     requires few_notes { length performance.notes ≤ MOST_NOTES }
     ensures grammar { IfOk result (λ s. s.grammar ≡ grammar) }
@@ -59,7 +57,7 @@ pub fn open_session<W: World>(
         &means,
         performance,
         grammar,
-        workers,
+        workers.count(),
         &mut lent.builds,
         &mut lent.products,
     )?;

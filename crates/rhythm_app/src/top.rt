@@ -1,16 +1,13 @@
-ghost use Rattle.command_line.specs.CommandLines.{HasOptions, HasWorkers};
+ghost use Rattle.command_line.specs.CommandLines.{HasOptions};
 ghost use Rattle.rhythm_app.specs.Asked.{asked_by, asked_of};
-ghost use Rattle.rhythm_app.specs.Ends.{AppendsPart, HasStatus, IsAnswered, IsComplete, IsErrUntouched, IsPerformed, IsStopTold, IsStopped, IsStoppedBy, IsWriteCut, KeepsRest};
-ghost use Rattle.rhythm_app.specs.Stages.{HasText, IsFinished, IsTextWritten};
+ghost use Rattle.rhythm_app.specs.Ends.{HasStatus, IsAllAnswered, IsComplete, IsErrUntouched, IsPerformed, IsStoppedBy, IsWriteCut, KeepsRest, OfSink};
+ghost use Rattle.rhythm_app.specs.Stages.{HasText, IsFinished, IsTextWritten, TellsTooMany};
 ghost use Rattle.rhythm_app.specs.Asked.{IsRequestInRange, AsksForText, shown_request};
-ghost use Rattle.rhythm_app.specs.Stops.{status_of};
-ghost use Rattle.rhythm_app.specs.declared.request.Request.TheVariants as requests;
 ghost use Rattle.rhythm_app.specs.declared.stop.Stop.TheVariants as stop;
 ghost use Rattle.rhythm_app.specs.declared.stop.Stop.{Stop};
-ghost use Rattle.rhythm_ports.specs.Causes.{Rose};
 ghost use Rattle.std.specs.Io.KnownBytes.{Appends};
 ghost use Rattle.std.specs.Option.{ForSome};
-ghost use Rattle.std.specs.Prelude.{◌≡◌, ◌≢◌, ◌≤◌, ◌↔◌, ◌⊎◌, ℕ, Err, IfErr, None, OnOk};
+ghost use Rattle.std.specs.Prelude.{◌≡◌, ◌≢◌, ◌↔◌, ◌⊎◌, Err, IfErr, None, OnOk};
 
 use crate::answering::answer;
 use crate::drill::drill_text;
@@ -27,13 +24,15 @@ use crate::stop::Stop;
 use crate::usage::tell;
 use crate::writing::session_text;
 use command_line::{Invocation, WordsFault, read_words};
-use rhythm_base::Words;
+use rhythm_base::{Words, Workers};
+use rhythm_gen::{PieceBars, PieceNumber};
 use rhythm_ports::{Sink, write_all};
+use weight_learning::Bit;
 
 /// Writes a text by one `write_all`.
 fn put<K: Sink>(sink: &mut K, text: &[u8]) -> Result<(), Stop>
     ensures all { OnOk result (Appends (K.taken sink.old) (K.taken sink.new) text.now) }
-    ensures part { IfErr result (IsWriteCut (K.taken sink.old) (K.taken sink.new) (K.faults sink.old) (K.faults sink.new) text.now) }
+    ensures part { IfErr result (OfSink IsWriteCut K.taken K.faults sink.old sink.new text.now) }
 {
     match write_all(sink, text) {
         Ok(()) => Ok(()),
@@ -59,14 +58,15 @@ fn finish<W: World>(lent: &mut Lent<W>, text: Result<Vec<u8>, Stop>) -> Result<(
 }
 
 /// The text that is asked for. An answer to a script is none.
-fn text_asked<W: World>(lent: &mut Lent<W>, workers: u32, request: Request) -> Result<Vec<u8>, Stop>
-    requires some_worker { 1 ≤ workers }
-    requires few_workers { workers ≤ 16 }
+fn text_asked<W: World>(
+    lent: &mut Lent<W>,
+    workers: Workers,
+    request: Request,
+) -> Result<Vec<u8>, Stop>
     requires text { AsksForText request }
     requires range { IsRequestInRange request }
     ensures text { HasText (Some (shown_request request.entry)) lent.old lent.new result }
-    ensures candidates { (count : ℕ) → request.entry ≡ requests.TooManyCandidates count → result ≡ Err (stop.TooManyCandidates count) }
-    ensures files { (count : ℕ) → request.entry ≡ requests.TooManyFiles count → result ≡ Err (stop.TooManyFiles count) }
+    ensures too_many { TellsTooMany request.entry result }
 {
     match request {
         Request::Help => help(lent),
@@ -79,20 +79,23 @@ fn text_asked<W: World>(lent: &mut Lent<W>, workers: u32, request: Request) -> R
             bit,
             grammar,
             words,
-        } => learn_text(lent, workers, bit, grammar, words),
+        } => learn_text(lent, workers, Bit::of(bit), grammar, words),
         Request::TooManyFiles { count } => Err(Stop::TooManyFiles { count }),
         Request::Follow(inputs) => follow_text(lent, workers, inputs),
         Request::Notes { midi, options } => notes_text_of(lent, midi, options),
         Request::Events(kern) => events_text(lent, kern),
-        Request::Generate { number, bars } => piece_bytes(lent, number, bars),
-        Request::Drill { number, grammar } => drill_text(lent, workers, number, grammar),
+        Request::Generate { number, bars } => {
+            piece_bytes(lent, PieceNumber::of(number), PieceBars::of(bars))
+        },
+        Request::Drill { number, grammar } => {
+            drill_text(lent, workers, PieceNumber::of(number), grammar)
+        },
     }
 }
 
 /// Does what is asked for, up to the first stop.
 fn perform<W: World>(lent: &mut Lent<W>, said: &Invocation) -> Result<(), Stop>
-    requires workers { HasWorkers said.now }
-    requires options { HasOptions said.now }
+    requires { HasOptions said.now }
     ensures usage { (result ≡ Err stop.Usage) ↔ (asked_of said.now ≡ None) }
     ensures performed { IsPerformed (asked_of said.now) lent.old lent.new result }
 {
@@ -139,7 +142,7 @@ pub fn run<W: World>(lent: &mut Lent<W>, words: &Words) -> u8
 
     // With 0 out took the text that is the outcome, or the replies to all lines of the script; all cells of the performance were built
     // once, and then those for the edits; and err took nothing.
-    ensures done { result ≡ 0 → ForSome lent.old.files (λ files. IsAnswered (asked_by words.now) files lent.old lent.new) }
+    ensures done { result ≡ 0 → IsAllAnswered (asked_by words.now) lent.old lent.new }
     ensures silent { result ≡ 0 → IsErrUntouched lent.old lent.new }
 
     // Else err took the line of the stop, which is the outcome or a failure that came, and out what was written by then. After `usage`

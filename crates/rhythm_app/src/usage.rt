@@ -1,4 +1,4 @@
-ghost use Rattle.rhythm_app.specs.Ends.{ReportsMore, Tells};
+ghost use Rattle.rhythm_app.specs.Ends.{OfSink, ReportsMore, Tells};
 ghost use Rattle.rhythm_app.specs.Stops.{stop_line};
 ghost use Rattle.rhythm_app.specs.declared.stop.Stop.TheVariants as stop;
 ghost use Rattle.std.specs.Prelude.{◌≡◌, ◌++◌, ℕ, IfOk, List};
@@ -53,7 +53,7 @@ fn usage_text(alloc: Global, words: &Words) -> Result<Vec<u8>, AllocError>
 /// Writes the lines for words that are no command, or a first part of them where a call fails. Where there is not enough memory for what is
 /// wrong with the words, the line of the stop stands alone.
 fn write_usage<K: Sink>(alloc: Global, sink: &mut K, words: &Words)
-    ensures { ReportsMore (K.taken sink.old) (K.taken sink.new) (K.faults sink.old) (K.faults sink.new) (stop_line stop.Usage) }
+    ensures { OfSink ReportsMore K.taken K.faults sink.old sink.new (stop_line stop.Usage) }
 {
     let _written = match usage_text(alloc, words) {
         Ok(text) => write_all(sink, text.as_slice()),
@@ -63,7 +63,7 @@ fn write_usage<K: Sink>(alloc: Global, sink: &mut K, words: &Words)
 
 /// Writes the line of a stop, or a first part of it where a call fails. After `usage` more lines say what is wrong with the words.
 pub fn tell<K: Sink>(alloc: Global, sink: &mut K, words: &Words, stop: &Stop)
-    ensures { Tells (K.taken sink.old) (K.taken sink.new) (K.faults sink.old) (K.faults sink.new) stop.now }
+    ensures { OfSink Tells K.taken K.faults sink.old sink.new stop.now }
 {
     match stop {
         Stop::Usage => write_usage(alloc, sink, words),

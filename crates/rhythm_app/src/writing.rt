@@ -1,19 +1,16 @@
 ghost use Rattle.derivation.specs.PerformanceScore.{IsScoreOf};
 ghost use Rattle.derivation.specs.Score.{IsScore};
-ghost use Rattle.edit_session.specs.Opening.{CanOpen, cells_of};
+ghost use Rattle.edit_session.specs.Opening.{CanOpen};
 ghost use Rattle.performance_prepare.specs.Ranges.{AreInRange};
 ghost use Rattle.rhythm_app.specs.Asked.{write};
-ghost use Rattle.rhythm_app.specs.Builds.{HasBuiltFor};
 ghost use Rattle.rhythm_app.specs.Inputs.{shown_inputs};
-ghost use Rattle.rhythm_app.specs.Outcome.{AreEventsOf, IsKernTextOf, IsTooLongToWrite, IsWriting};
-ghost use Rattle.rhythm_app.specs.Stages.{CountsUp, Follows, HasText, IsOfContent, IsOfWriting, said_of};
+ghost use Rattle.rhythm_app.specs.Outcome.{AreEventsOf, IsKernTextOf};
+ghost use Rattle.rhythm_app.specs.Stages.{FollowsForm, HasNoText, HasShortText, HasText, IsOfWriting};
 ghost use Rattle.rhythm_app.specs.declared.request.Form.TheVariants as form;
-ghost use Rattle.rhythm_app.specs.declared.stop.Stop.TheVariants as stop;
-ghost use Rattle.rhythm_base.specs.Counter.{risen};
 ghost use Rattle.rhythm_base.specs.Performance.{IsWellFormed};
 ghost use Rattle.rhythm_base.specs.Readable.{IsReadable};
-ghost use Rattle.rhythm_base.specs.declared.limits.TheConstants.{MOST_BARS, MOST_NOTES, MOST_VOICES};
-ghost use Rattle.std.specs.Prelude.{◌≡◌, ◌≤◌, ◌⊎◌, ℕ, IfErr, IfOk, List, OnOk, Some, length};
+ghost use Rattle.rhythm_base.specs.declared.limits.TheConstants.{MOST_BARS, MOST_VOICES};
+ghost use Rattle.std.specs.Prelude.{◌≡◌, ◌≤◌, IfErr, IfOk, OnOk, Some, length};
 
 use crate::faults::{rendering_or_stop, score_or_stop};
 use crate::lent::{Lent, World};
@@ -27,7 +24,7 @@ use kern_writer::write_kern;
 use lily_writer::write_lily;
 use musicxml_writer::write_musicxml;
 use page_writer::write_page;
-use rhythm_base::{Grammar, Performance};
+use rhythm_base::{Grammar, Performance, Workers};
 use session_text::KernText;
 use smf_writer::render;
 use std::alloc::Global;
@@ -37,7 +34,7 @@ use voice_events::events_of;
 fn kern_text_of(alloc: Global, session: &Session) -> Result<Vec<u8>, Stop>
     requires { CanOpen session.now.grammar session.now.performance }
     ensures text { IfOk result (λ v. IsKernTextOf session.now.grammar session.now.performance v.items) }
-    ensures stop { IfErr result (λ s. IsTooLongToWrite session.now.grammar session.now.performance s ⊎ (s ≡ stop.Memory)) }
+    ensures stop { IfErr result (HasNoText session.now) }
 {
     score_or_stop(session.score(alloc))
 }
@@ -48,8 +45,8 @@ fn short_score(alloc: Global, session: &Session) -> Result<Score, Stop>
     ensures writable { IfOk result IsScore }
     ensures few_bars { IfOk result (λ score. length score.bars ≤ MOST_BARS) }
     ensures score { IfOk result (λ score. IsScoreOf session.now.grammar session.now.performance score) }
-    ensures short { OnOk result ((text : List ℕ) × IsKernTextOf session.now.grammar session.now.performance text) }
-    ensures stop { IfErr result (λ s. IsTooLongToWrite session.now.grammar session.now.performance s ⊎ (s ≡ stop.Memory)) }
+    ensures short { OnOk result (HasShortText session.now) }
+    ensures stop { IfErr result (HasNoText session.now) }
 {
     let Ok(score) = session.whole_score(alloc) else {
         return Err(Stop::Memory);
@@ -64,7 +61,7 @@ fn score_events(alloc: Global, session: &Session) -> Result<Vec<KernEvent>, Stop
     requires readable { IsReadable session.now.grammar }
     requires formed { IsWellFormed session.now.performance }
     ensures events { IfOk result (λ v. AreEventsOf session.now.grammar session.now.performance v.items) }
-    ensures stop { IfErr result (λ s. IsTooLongToWrite session.now.grammar session.now.performance s ⊎ (s ≡ stop.Memory)) }
+    ensures stop { IfErr result (HasNoText session.now) }
 {
     let score = short_score(alloc, session)?;
     match events_of(alloc, &score) {
@@ -86,7 +83,7 @@ fn lily_of(alloc: Global, session: &Session, resolution: u16) -> Result<Vec<u8>,
     requires can { CanOpen session.now.grammar session.now.performance }
     requires readable { IsReadable session.now.grammar }
     requires resolution { resolution ≡ session.now.grammar.resolution }
-    ensures tests { Follows (IsWriting form.LilyPond session.now.grammar session.now.performance) (said_of result) }
+    ensures tests { FollowsForm form.LilyPond session.now result }
     ensures end { IfErr result IsOfWriting }
 {
     let performance = session.performance();
@@ -111,7 +108,7 @@ fn lily_of(alloc: Global, session: &Session, resolution: u16) -> Result<Vec<u8>,
 fn page_of(alloc: Global, session: &Session) -> Result<Vec<u8>, Stop>
     requires can { CanOpen session.now.grammar session.now.performance }
     requires readable { IsReadable session.now.grammar }
-    ensures tests { Follows (IsWriting form.Page session.now.grammar session.now.performance) (said_of result) }
+    ensures tests { FollowsForm form.Page session.now result }
     ensures end { IfErr result IsOfWriting }
 {
     let performance = session.performance();
@@ -126,7 +123,7 @@ fn page_of(alloc: Global, session: &Session) -> Result<Vec<u8>, Stop>
 fn musicxml_of(alloc: Global, session: &Session) -> Result<Vec<u8>, Stop>
     requires can { CanOpen session.now.grammar session.now.performance }
     requires readable { IsReadable session.now.grammar }
-    ensures tests { Follows (IsWriting form.MusicXml session.now.grammar session.now.performance) (said_of result) }
+    ensures tests { FollowsForm form.MusicXml session.now result }
     ensures end { IfErr result IsOfWriting }
 {
     let performance = session.performance();
@@ -142,7 +139,7 @@ fn rendering_of(alloc: Global, session: &Session, resolution: u16) -> Result<Vec
     requires can { CanOpen session.now.grammar session.now.performance }
     requires readable { IsReadable session.now.grammar }
     requires resolution { resolution ≡ session.now.grammar.resolution }
-    ensures tests { Follows (IsWriting form.Rendered session.now.grammar session.now.performance) (said_of result) }
+    ensures tests { FollowsForm form.Rendered session.now result }
     ensures end { IfErr result IsOfWriting }
 {
     let performance = session.performance();
@@ -165,7 +162,7 @@ fn text_of(alloc: Global, form: Form, session: &Session, resolution: u16) -> Res
     requires can { CanOpen session.now.grammar session.now.performance }
     requires readable { IsReadable session.now.grammar }
     requires resolution { resolution ≡ session.now.grammar.resolution }
-    ensures tests { Follows (IsWriting form session.now.grammar session.now.performance) (said_of result) }
+    ensures tests { FollowsForm form session.now result }
     ensures end { IfErr result IsOfWriting }
 {
     match form {
@@ -180,7 +177,7 @@ fn text_of(alloc: Global, form: Form, session: &Session, resolution: u16) -> Res
 /// What is written of a session in this form, which builds no table.
 fn text_over<W: World>(lent: &mut Lent<W>, form: Form, session: &Session) -> Result<Vec<u8>, Stop>
     requires { CanOpen session.now.grammar session.now.performance }
-    ensures tests { Follows (IsWriting form session.now.grammar session.now.performance) (said_of result) }
+    ensures tests { FollowsForm form session.now result }
     ensures end { IfErr result IsOfWriting }
     ensures same { lent.new ≡ lent.old }
 {
@@ -191,12 +188,10 @@ fn text_over<W: World>(lent: &mut Lent<W>, form: Form, session: &Session) -> Res
 /// The text of a command that writes a session on a MIDI file and a grammar.
 pub fn session_text<W: World>(
     lent: &mut Lent<W>,
-    workers: u32,
+    workers: Workers,
     form: Form,
     inputs: Inputs,
 ) -> Result<Vec<u8>, Stop>
-    requires some_worker { 1 ≤ workers }
-    requires few_workers { workers ≤ 16 }
     requires options { AreInRange inputs.options }
     ensures { HasText (Some (write form (shown_inputs inputs.entry))) lent.old lent.new result }
 {

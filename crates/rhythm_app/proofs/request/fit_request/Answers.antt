@@ -8,7 +8,7 @@ returns-then-count-le-MOST_CANDIDATES-clause-asked c =
 
 pub returns-then-count-le-MOST_CANDIDATES-clause-range : goal.returns-then-count-le-MOST_CANDIDATES-clause-range
 returns-then-count-le-MOST_CANDIDATES-clause-range c =
-    (c.requires.options, few_tried (shown_inputs c.args.inputs) c.args.among c.count-count.result c.count-count.ensures.steps c.if-count-le-MOST_CANDIDATES.true c.requires.order c.requires.high c.requires.step)
+    (c.requires.options, few_tried (shown_inputs c.args.inputs) c.args.among c.count-count.result c.count-count.ensures.steps c.if-count-le-MOST_CANDIDATES.true c.requires.ticks.order c.requires.ticks.high c.requires.ticks.step)
 
 pub returns-else-count-le-MOST_CANDIDATES-clause-asked : goal.returns-else-count-le-MOST_CANDIDATES-clause-asked
 returns-else-count-le-MOST_CANDIDATES-clause-asked c =
