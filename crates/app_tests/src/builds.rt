@@ -149,6 +149,17 @@ const BUILDINGS: &[Building] = &[
         builds: 0,
     },
     Building {
+        shows: "those of the search for barlines, and those that the lines of its script reach",
+        given: Given {
+            words: &["follow", "a.mid", "a.grammar"],
+            files: &[("a.mid", EARLY_NOTE), ("a.grammar", WHOLE)],
+            script: b"",
+        },
+        failing: NONE_FAILS,
+        status: 0,
+        builds: 335,
+    },
+    Building {
         shows: "those of each file that weights are learned from",
         given: Given {
             words: &["learn", "17", "a.grammar", "1.mid", "2.mid", "1.mid"],

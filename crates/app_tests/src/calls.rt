@@ -1,5 +1,3 @@
-ghost use Rattle.std.specs.Prelude.{◌≤◌};
-
 use crate::files::{
     EARLY_NOTE, FOUR_QUARTERS, NO_BYTES, TOO_MANY_BARS, TWO_VOICES_SCORE, WHOLE_NOTE,
 };
@@ -133,9 +131,7 @@ fn taken_from<R: Threads + Sync>(
     most: usize,
     used: &Use,
     failing: Failing,
-) -> Result<Taken, AllocError>
-    requires { 1 ≤ most }
-{
+) -> Result<Taken, AllocError> {
     let script = script_of(alloc, used.talk)?;
     let given = Given {
         words: used.words,
@@ -146,9 +142,8 @@ fn taken_from<R: Threads + Sync>(
 }
 
 /// The line of a run whose shelf fails at a call. None of its calls has the number where there is none.
-fn shelf_line(used: &Use, most: usize, call: u64) -> Option<&'static [u8]>
-    requires { 1 ≤ most }
-{
+fn shelf_line(used: &Use, most: usize, call: u64) -> Option<&'static [u8]> {
+    let most = most.max(1);
     let mut left = call;
     'files: for (name, bytes) in used.files {
         // a file is opened, read in pieces, and read once more at its end
@@ -175,9 +170,7 @@ fn names_each_file<R: Threads + Sync>(
     alloc: Global,
     most: usize,
     used: &Use,
-) -> Result<bool, AllocError>
-    requires { 1 ≤ most }
-{
+) -> Result<bool, AllocError> {
     'calls: for call in 0..MOST_CALLS {
         let port = Port::Shelf;
         let end = taken_from(rt, alloc, most, used, Failing { port, call })?;
@@ -197,10 +190,8 @@ fn names_each_file<R: Threads + Sync>(
 }
 
 /// How often a script is read: in pieces, and once more at its end, unless a line ends it.
-fn script_calls(script: &[u8], most: usize) -> u64
-    requires { 1 ≤ most }
-{
-    let pieces = script.len().div_ceil(most) as u64;
+fn script_calls(script: &[u8], most: usize) -> u64 {
+    let pieces = script.len().div_ceil(most.max(1)) as u64;
     if script.is_empty() || script.ends_with(b"quit\n") {
         return pieces;
     }
@@ -213,9 +204,7 @@ fn answers_each_line<R: Threads + Sync>(
     alloc: Global,
     most: usize,
     used: &Use,
-) -> Result<bool, AllocError>
-    requires { 1 ≤ most }
-{
+) -> Result<bool, AllocError> {
     let calls = script_calls(&script_of(alloc, used.talk)?, most);
     'calls: for call in 0..MOST_CALLS {
         let port = Port::Script;
@@ -253,9 +242,7 @@ fn writes_a_part<R: Threads + Sync>(
     alloc: Global,
     most: usize,
     used: &Use,
-) -> Result<bool, AllocError>
-    requires { 1 ≤ most }
-{
+) -> Result<bool, AllocError> {
     let whole = taken_from(rt, alloc, most, used, NONE_FAILS)?;
     let text = whole.out.bytes();
     let mut before = 0;
@@ -395,9 +382,7 @@ fn says_a_part<R: Threads + Sync>(
     most: usize,
     given: &Given<'_>,
     ending: &Ending<'_>,
-) -> Result<bool, AllocError>
-    requires { 1 ≤ most }
-{
+) -> Result<bool, AllocError> {
     let mut before = 0;
     'calls: for call in 0..MOST_CALLS {
         let port = Port::Err;

@@ -1,5 +1,3 @@
-ghost use Rattle.std.specs.Prelude.{◌≤◌};
-
 use crate::running::{Ports, run_over, words_of};
 use rhythm_ports::{Gate, MemShelf, MemSink, MemSource};
 use std::alloc::{AllocError, Global};
@@ -71,16 +69,14 @@ impl Taken {
     }
 }
 
-/// A shelf with the files. A call moves at most so many bytes, and some fail.
+/// A shelf with the files. A call moves at most so many bytes, of which 0 counts as 1, and some fail.
 pub fn shelf_of(
     alloc: Global,
     most: usize,
     failing: Vec<u64>,
     files: &[(&str, &[u8])],
-) -> Result<MemShelf, AllocError>
-    requires { 1 ≤ most }
-{
-    let mut shelf = MemShelf::new(alloc, most, failing);
+) -> Result<MemShelf, AllocError> {
+    let mut shelf = MemShelf::new(alloc, most.max(1), failing);
     'files: for (name, bytes) in files {
         shelf.put(name, Vec::from_slice(alloc, bytes)?)?;
     }
@@ -95,9 +91,8 @@ pub fn end_of<R: Threads + Sync, G: Gate + Sync>(
     given: &Given<'_>,
     failing: Failing,
     gate: &G,
-) -> Result<Taken, AllocError>
-    requires { 1 ≤ most }
-{
+) -> Result<Taken, AllocError> {
+    let most = most.max(1);
     let words = words_of(alloc, given.words)?;
     let mut shelf = shelf_of(
         alloc,

@@ -1,4 +1,4 @@
-ghost use Rattle.std.specs.Prelude.{◌≡◌, ◌≤◌, None};
+ghost use Rattle.std.specs.Prelude.{◌≡◌, None};
 
 use crate::files::{FOUR_QUARTERS, WHOLE_NOTE};
 use crate::given::shelf_of;
@@ -164,9 +164,8 @@ fn takes_turns<R: Threads + Sync>(
     midi: &[u8],
     talk: &'static [Exchange],
     parts: Parts,
-) -> Result<bool, AllocError>
-    requires { 1 ≤ most }
-{
+) -> Result<bool, AllocError> {
+    let most = most.max(1);
     let words = words_of(alloc, &[command, "a.mid", "a.grammar"])?;
     let turns = Turns {
         due: AtomicU64::new(0),

@@ -25,7 +25,7 @@ mod in_turn;
 mod pins;
 
 use bar_alternatives::Alternative;
-use bar_pool::{MOST_WORKERS, Order, Rooms, build_cells};
+use bar_pool::{Order, Rooms, build_cells};
 use bars::{bar_of, bars_of};
 use best_lists::{Around, best_trees, print_trees};
 use chains::{ChainWork, chained, matrices_of};
@@ -35,7 +35,7 @@ use grammars::{Group, grammar_named};
 use in_turn::build_in_turn;
 use least_cost::{BarTable, Steps, build_cell};
 use pins::{Cutting, shape_of};
-use rhythm_base::{BarInput, Grammar, Tag};
+use rhythm_base::{BarInput, Grammar, MOST_WORKERS, Tag};
 use rhythm_ports::{Means, OpenGate};
 use std::alloc::Global;
 use std::env;

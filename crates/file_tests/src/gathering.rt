@@ -1,4 +1,5 @@
-ghost use Rattle.std.specs.Prelude.{◌≡◌, All, IfOk, IsTrue};
+ghost use Rattle.std.specs.List.Sorted.{IsNonDecreasing};
+ghost use Rattle.std.specs.Prelude.{◌≡◌, All, IfOk, IsTrue, map};
 ghost use Rattle.std.specs.Cmp.Lexicographic.{slice_cmp};
 ghost use Rattle.std.specs.Ordering.{nat_cmp};
 ghost use Rattle.std.specs.declared.cmp.Ordering.TheVariants.{Less};
@@ -113,8 +114,10 @@ fn voice(alloc: Global, played: &[Played]) -> Result<Vec<Note>, AllocError>
     Ok(notes)
 }
 
-/// The map of these tempos, which are put in order first.
-fn map(alloc: Global, changes: &[(u64, u32)]) -> Result<TempoMap, AllocError> {
+/// These tempos in order.
+fn tempos_in_order(alloc: Global, changes: &[(u64, u32)]) -> Result<Vec<Tempo>, AllocError>
+    ensures { IfOk result (λ v. IsNonDecreasing (map (λ t. t.tick) v.items)) }
+{
     let mut tempos: Vec<Tempo> = changes
         .iter()
         .map(|(tick, micros)| Tempo {
@@ -123,7 +126,7 @@ fn map(alloc: Global, changes: &[(u64, u32)]) -> Result<TempoMap, AllocError> {
         })
         .collect(alloc)?;
     tempos.sort_by_key(|change| change.tick)?;
-    TempoMap::new(alloc, tempos.as_slice(), &[])
+    Ok(tempos)
 }
 
 fn keys(list: &[u8]) -> Keys {
@@ -152,7 +155,8 @@ fn gathered(
     window: u32,
     played: &[Played],
 ) -> Result<(usize, Vec<Chord>), AllocError> {
-    let map = map(alloc, tempos)?;
+    let tempos = tempos_in_order(alloc, tempos)?;
+    let map = TempoMap::new(alloc, tempos.as_slice(), &[])?;
     let notes = voice(alloc, played)?;
     let chords = chords_of(alloc, notes.as_slice(), &map, 480, window)?;
     Ok((notes.len(), chords))

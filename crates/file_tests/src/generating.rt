@@ -1,6 +1,6 @@
 ghost use Rattle.std.specs.Prelude.{◌≡◌, ◌<◌, ◌≤◌, IfOk, length};
 
-use rhythm_base::{Bar, Edit, Note, Performance};
+use rhythm_base::{Bar, Edit, Note, Notes, Performance};
 use rhythm_gen::{drill_edit, generate};
 use std::alloc::{AllocError, Global};
 use std::test::Fail;
@@ -90,16 +90,17 @@ fn small(alloc: Global) -> Result<Performance, AllocError>
         note(0, 64, 480, 880),
         note(1, 48, 0, 1920),
     ]?;
-    Ok(Performance::make(
+    let listed = Notes::new(alloc, notes.as_slice())?;
+    Performance::make(
         480,
         Vec::new(alloc),
         Vec::new(alloc),
         bars,
         5760,
         channels,
-        notes,
+        listed,
         Vec::new(alloc),
-    ))
+    )
 }
 
 #[test]

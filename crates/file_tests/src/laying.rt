@@ -1,3 +1,6 @@
+ghost use Rattle.std.specs.List.Sorted.{IsNonDecreasing};
+ghost use Rattle.std.specs.Prelude.{IfOk, map};
+
 use rhythm_base::{Bar, BarFault, Event, KeyMark, Signature, Tempo, What};
 use std::alloc::{AllocError, Global};
 use std::test::Fail;
@@ -97,17 +100,22 @@ fn a_bar_too_many(rt: HostRuntime) -> Result<(), Fail> {
     Ok(())
 }
 
-/// The map of these changes, which are put in order first.
-fn map(
-    alloc: Global,
-    tempos: &[(u64, u32)],
-    key_marks: &[KeyMark],
-) -> Result<TempoMap, AllocError> {
-    let mut tempos = tempos_of(alloc, tempos)?;
+/// These tempos in order.
+fn tempos_in_order(alloc: Global, changes: &[(u64, u32)]) -> Result<Vec<Tempo>, AllocError>
+    ensures { IfOk result (λ v. IsNonDecreasing (map (λ t. t.tick) v.items)) }
+{
+    let mut tempos = tempos_of(alloc, changes)?;
     tempos.sort_by_key(|change| change.tick)?;
-    let mut key_marks = key_marks.to_vec(alloc)?;
+    Ok(tempos)
+}
+
+/// These keys in order.
+fn keys_in_order(alloc: Global, changes: &[KeyMark]) -> Result<Vec<KeyMark>, AllocError>
+    ensures { IfOk result (λ v. IsNonDecreasing (map (λ k. k.tick) v.items)) }
+{
+    let mut key_marks = changes.to_vec(alloc)?;
     key_marks.sort_by_key(|change| change.tick)?;
-    TempoMap::new(alloc, tempos.as_slice(), key_marks.as_slice())
+    Ok(key_marks)
 }
 
 /// Changes of tempo and a tick, and the time and the tempo there.
@@ -131,7 +139,8 @@ const TIMES: [(&[(u64, u32)], u64, u64, u32); 9] = [
 #[test]
 fn times(rt: HostRuntime) -> Result<(), Fail> {
     for (tempos, tick, time, micros) in &TIMES {
-        let map = map(rt.alloc(), tempos, &[])?;
+        let tempos = tempos_in_order(rt.alloc(), tempos)?;
+        let map = TempoMap::new(rt.alloc(), tempos.as_slice(), &[])?;
         let tick = (*tick).min(2_000_000_000);
         assert_eq!(rt;
             (map.time(tick), map.tempo_at(tick)),
@@ -145,7 +154,8 @@ fn times(rt: HostRuntime) -> Result<(), Fail> {
 #[test]
 fn keys(rt: HostRuntime) -> Result<(), Fail> {
     let marks = [KeyMark { tick: 5, sf: -2 }, KeyMark { tick: 8, sf: 3 }];
-    let map = map(rt.alloc(), &[], &marks)?;
+    let marks = keys_in_order(rt.alloc(), &marks)?;
+    let map = TempoMap::new(rt.alloc(), &[], marks.as_slice())?;
     for (tick, key) in [(4, None), (5, Some(-2)), (7, Some(-2)), (8, Some(3))] {
         let tick = u64::min(tick, 2_000_000_000);
         assert_eq!(rt; map.key_at(tick), key, "at {tick}");

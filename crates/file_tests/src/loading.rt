@@ -110,7 +110,9 @@ fn loads_two_voices(rt: HostRuntime) -> Result<(), Fail> {
     };
     assert!(rt; performance.division() == 480);
     assert!(rt; performance.channels() == [1, 3].as_slice());
-    assert!(rt; performance.notes() == NOTES.as_slice());
+    let notes = performance.notes();
+    let notes = notes.range(alloc, 0, notes.len())?;
+    assert!(rt; notes.as_slice() == NOTES.as_slice());
     assert!(rt; performance.bars() == BARS.as_slice());
     assert!(rt; performance.last() == 3840);
     assert!(rt; performance.tempos().len() == 1 && performance.tempos()[0].micros == 600_000);

@@ -380,7 +380,7 @@ fn voice_of(
     if !stand(resolution, bars, 0, 0, &sounds) || !are_tied(&sounds) {
         return Err("the sounds of a voice")?;
     }
-    Ok(VoiceSounds::of(sounds))
+    Ok(VoiceSounds::of(alloc, sounds))
 }
 
 /// A bar of this head.

@@ -7,6 +7,7 @@ mod piece;
 mod stage;
 
 use piece::{grammar_of, midi_of};
+use rhythm_gen::PieceBars;
 use rhythm_ports::OpenGate;
 use stage::{Figure, Stage, reached};
 use std::alloc::Global;
@@ -32,9 +33,9 @@ fn run<R: Threads + Sync + Print>(
     stage: Stage,
     bars: u32,
 ) -> io::Result<()> {
-    if bars < 1 || bars > 2000 {
+    let Some(bars) = PieceBars::new(bars) else {
         return Err(io::Error::from(ErrorKind::InvalidInput));
-    }
+    };
     let bytes = midi_of(alloc, bars)?;
     let grammar = grammar_of(alloc)?;
     match reached(rt, alloc, bytes.as_slice(), grammar, stage, &OpenGate) {

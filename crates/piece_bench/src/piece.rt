@@ -1,10 +1,10 @@
 ghost use Rattle.rhythm_base.specs.Readable.{IsReadable};
 ghost use Rattle.rhythm_gen.specs.MidiFile.{generated};
-ghost use Rattle.std.specs.Prelude.{◌≡◌, ◌≤◌, IfOk};
+ghost use Rattle.std.specs.Prelude.{◌≡◌, IfOk};
 
 use grammar_file::read_grammar;
 use rhythm_base::Grammar;
-use rhythm_gen::generate;
+use rhythm_gen::{PieceBars, generate};
 use sample_grammars::USUAL;
 use std::alloc::{AllocError, Global};
 use std::io::{self, ErrorKind};
@@ -23,10 +23,8 @@ pub fn grammar_of(alloc: Global) -> io::Result<Grammar>
 }
 
 /// The MIDI file of a piece of so many bars.
-pub fn midi_of(alloc: Global, bars: u32) -> Result<Vec<u8>, AllocError>
-    requires some { 1 ≤ bars }
-    requires few { bars ≤ 2000 }
+pub fn midi_of(alloc: Global, bars: PieceBars) -> Result<Vec<u8>, AllocError>
     ensures { IfOk result (λ v. v.items ≡ generated NUMBER bars) }
 {
-    generate(alloc, NUMBER, bars)
+    generate(alloc, NUMBER, bars.count())
 }

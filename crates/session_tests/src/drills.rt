@@ -1,10 +1,9 @@
-ghost use Rattle.std.specs.Prelude.{◌≤◌};
-
 use crate::pieces::{InTests, grammar};
 use carry_matrix::Steps as Products;
 use drill_run::{made_performance, run_drill};
 use edit_session::Session;
 use least_cost::Steps as Builds;
+use rhythm_gen::PieceNumber;
 use rhythm_ports::{Means, OpenGate};
 use std::alloc::{AllocError, Global};
 use std::test::Fail;
@@ -35,11 +34,9 @@ const DRILLS: [Drill; 2] = [
 fn summary_of<R: Threads + Sync>(
     rt: &R,
     alloc: Global,
-    number: u32,
+    number: PieceNumber,
     builds: &mut Builds<InTests>,
-) -> Option<Vec<u8>>
-    requires { number ≤ 65534 }
-{
+) -> Option<Vec<u8>> {
     let Ok(performance) = made_performance(alloc, number) else {
         return None;
     };
@@ -65,10 +62,10 @@ fn drills_come_to_their_summaries(rt: HostRuntime) -> Result<(), Fail> {
     let alloc = rt.alloc();
     for drill in &DRILLS {
         let mut builds = Builds::<InTests>::zero();
-        if drill.number > 65534 {
+        let Some(number) = PieceNumber::new(drill.number) else {
             return Err(AllocError)?;
-        }
-        let Some(text) = summary_of(&rt, alloc, drill.number, &mut builds) else {
+        };
+        let Some(text) = summary_of(&rt, alloc, number, &mut builds) else {
             return Err(AllocError)?;
         };
         assert!(rt; text.as_slice() == drill.summary, "{}", drill.number);

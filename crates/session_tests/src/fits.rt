@@ -2,9 +2,9 @@ ghost use Rattle.barline_fit.specs.declared.candidates.TheConstants.{MOST_CANDID
 ghost use Rattle.rhythm_base.specs.declared.limits.TheConstants.{LATEST_TICK};
 ghost use Rattle.std.specs.Prelude.{◌≤◌, ◌<◌, ◌-◌, ◌/◌};
 
-use crate::edits::{QUARTERS, has_score};
+use crate::edits::{QUARTERS, edit, has_score};
 use crate::pieces::{EARLY_NOTE, FOUR_QUARTERS, InTests, opened};
-use barline_fit::{Candidate, Candidates, FitFault, Fitted, best_barline, fitted_score};
+use barline_fit::{Candidates, FitFault, Fitted, best_barline};
 use carry_matrix::Steps as Products;
 use edit_session::Session;
 use least_cost::Steps as Builds;
@@ -39,40 +39,6 @@ fn fitted<R: Threads + Sync>(
         gate: &OpenGate,
     };
     best_barline(&means, session, among, builds, &mut products)
-}
-
-/// The score with the barline at the best of the ticks.
-fn best_score<R: Threads + Sync>(
-    rt: &R,
-    alloc: Global,
-    session: &mut Session,
-    among: Candidates,
-    builds: &mut Builds<InTests>,
-) -> Option<Vec<u8>>
-    requires order { among.low ≤ among.high }
-    requires high { among.high ≤ LATEST_TICK }
-    requires step { 1 ≤ among.step }
-    requires few { (among.high - among.low) / among.step < MOST_CANDIDATES }
-{
-    let mut products = Products::<InTests>::zero();
-    let means = Means {
-        rt,
-        alloc,
-        gate: &OpenGate,
-    };
-    match best_barline(&means, session, among, builds, &mut products) {
-        Ok(fitted) => {
-            let best = Candidate {
-                bar: among.bar,
-                tick: fitted.tick,
-            };
-            match fitted_score(&means, session, best, builds, &mut products) {
-                Ok(score) => Some(score),
-                Err(_) => None,
-            }
-        }
-        Err(_) => None,
-    }
 }
 
 /// The line between the two notes costs least where the second one begins. The session is afterwards as it was.
@@ -130,7 +96,7 @@ fn a_fit_has_its_faults(rt: HostRuntime) -> Result<(), Fail> {
 }
 
 #[test]
-fn the_best_score_is_written(rt: HostRuntime) -> Result<(), Fail> {
+fn the_best_tick_is_set_at_its_cost(rt: HostRuntime) -> Result<(), Fail> {
     let alloc = rt.alloc();
     let Some(mut session) = opened(&rt, alloc, FOUR_QUARTERS) else {
         return Err(AllocError)?;
@@ -142,10 +108,25 @@ fn the_best_score_is_written(rt: HostRuntime) -> Result<(), Fail> {
         step: 40,
     };
     let mut builds = Builds::<InTests>::zero();
-    let Some(score) = best_score(&rt, alloc, &mut session, among, &mut builds) else {
-        return Err(AllocError)?;
-    };
-    assert!(rt; score.as_slice() == EIGHTHS && builds.count() == 3);
+    let mut products = Products::<InTests>::zero();
+    let best = fitted(&rt, alloc, &mut session, among, &mut builds);
+    assert_eq!(rt;
+        best,
+        Ok(Fitted {
+            tick: 3840,
+            cost: 170
+        })
+    );
     assert!(rt; session.cost() == 100 && has_score(alloc, &session, QUARTERS));
+    let made = edit(
+        &rt,
+        alloc,
+        &mut session,
+        "barline 1 3840",
+        &mut builds,
+        &mut products,
+    )?;
+    assert!(rt; made.cost == 170 && builds.count() == 3);
+    assert!(rt; has_score(alloc, &session, EIGHTHS));
     Ok(())
 }

@@ -1,4 +1,5 @@
 ghost use Rattle.std.specs.Prelude.{◌≡◌, ◌∷◌, []};
+ghost use Rattle.table_tests.specs.Bars.{quarter_bar};
 
 use crate::grammars::read;
 use bar_cut::{CutFault, cut};
@@ -34,58 +35,32 @@ fn chord(onset: u64, end: u64) -> Chord
     }
 }
 
+/// A bar of so many quarters.
+fn quarter_bar(start: u64, num: u8) -> Bar
+    ensures { result ≡ quarter_bar start num }
+{
+    Bar { start, num, den: 4 }
+}
+
 /// Two bars of 4/4, 1,920 ticks each.
 fn two_bars() -> [Bar; 2]
-    ensures { result ≡ record { start = 0; num = 4; den = 4 } ∷ record { start = 1920; num = 4; den = 4 } ∷ [] }
+    ensures { result ≡ quarter_bar 0 4 ∷ quarter_bar 1920 4 ∷ [] }
 {
-    [
-        Bar {
-            start: 0,
-            num: 4,
-            den: 4,
-        },
-        Bar {
-            start: 1920,
-            num: 4,
-            den: 4,
-        },
-    ]
+    [quarter_bar(0, 4), quarter_bar(1920, 4)]
 }
 
 /// Two bars of 4/4 whose barline was moved 80 ticks back.
 fn moved_bars() -> [Bar; 2]
-    ensures { result ≡ record { start = 0; num = 4; den = 4 } ∷ record { start = 2000; num = 4; den = 4 } ∷ [] }
+    ensures { result ≡ quarter_bar 0 4 ∷ quarter_bar 2000 4 ∷ [] }
 {
-    [
-        Bar {
-            start: 0,
-            num: 4,
-            den: 4,
-        },
-        Bar {
-            start: 2000,
-            num: 4,
-            den: 4,
-        },
-    ]
+    [quarter_bar(0, 4), quarter_bar(2000, 4)]
 }
 
 /// A bar of 4/4 and one of 3/4.
 fn unlike_bars() -> [Bar; 2]
-    ensures { result ≡ record { start = 0; num = 4; den = 4 } ∷ record { start = 1920; num = 3; den = 4 } ∷ [] }
+    ensures { result ≡ quarter_bar 0 4 ∷ quarter_bar 1920 3 ∷ [] }
 {
-    [
-        Bar {
-            start: 0,
-            num: 4,
-            den: 4,
-        },
-        Bar {
-            start: 1920,
-            num: 3,
-            den: 4,
-        },
-    ]
+    [quarter_bar(0, 4), quarter_bar(1920, 3)]
 }
 
 #[test]

@@ -1,7 +1,5 @@
-ghost use Rattle.std.specs.Prelude.{◌<◌};
-
 use carry_matrix::{CarryMatrix, Steps, middle, product};
-use rhythm_base::{Best, Tag};
+use rhythm_base::{Best, Carry, Tag};
 use std::test::Fail;
 
 /// What the steps of these products are counted for.
@@ -12,16 +10,12 @@ impl Tag for ByHand {}
 
 const NOTHING: [Option<Best>; 5] = [None, None, None, None, None];
 
-fn row(matrix: &CarryMatrix, from: u8) -> [Option<Best>; 5]
-    requires { from < 5 }
-{
-    [
-        matrix.get(from, 0),
-        matrix.get(from, 1),
-        matrix.get(from, 2),
-        matrix.get(from, 3),
-        matrix.get(from, 4),
-    ]
+fn row(matrix: &CarryMatrix, from: Carry) -> [Option<Best>; 5] {
+    let mut row = NOTHING;
+    'counts: for to in 0..5u8 {
+        row[to as usize] = matrix.entry(from, Carry::of(to));
+    }
+    row
 }
 
 const fn best(cost: u64, rank: u8) -> Option<Best> {
@@ -66,8 +60,8 @@ fn products_by_hand(rt: HostRuntime) -> Result<(), Fail> {
     assert!(rt; middle(&either, &after, 0, 0) == Some(1));
     assert!(rt; middle(&either, &after, 0, 4) == Some(1));
     assert!(rt; middle(&either, &after, 0, 1).is_none());
-    assert!(rt; row(&both, 0) == [best(7, 1), None, None, None, best(4, 0)]);
-    assert!(rt; row(&both, 1) == NOTHING);
+    assert!(rt; row(&both, Carry::of(0)) == [best(7, 1), None, None, None, best(4, 0)]);
+    assert!(rt; row(&both, Carry::of(1)) == NOTHING);
     Ok(())
 }
 
@@ -89,9 +83,12 @@ fn four_chords_are_carried_like_others(rt: HostRuntime) -> Result<(), Fail> {
         [Some(Best { cost: 6, rank: 0 }), None, None, None, None],
     ]);
     let over = product(&to_four, &from_four, &mut steps);
-    assert!(rt; row(&over, 0) == [best(7, 0), None, None, None, None]);
+    assert!(rt; row(&over, Carry::of(0)) == [best(7, 0), None, None, None, None]);
     assert!(rt; middle(&to_four, &from_four, 0, 0) == Some(4));
     let none = product(&from_four, &to_four, &mut steps);
-    assert!(rt; row(&none, 0) == NOTHING && row(&none, 4) == [None, None, None, None, best(7, 0)]);
+    assert!(rt;
+        row(&none, Carry::of(0)) == NOTHING
+            && row(&none, Carry::of(4)) == [None, None, None, None, best(7, 0)]
+    );
     Ok(())
 }

@@ -48,7 +48,7 @@ fn said(alloc: Global, words: &Words) -> Result<String, AllocError> {
         Err(WordsFault::Refused) => return String::from_str(alloc, "refused"),
         Err(WordsFault::Memory) => return String::from_str(alloc, "memory"),
     };
-    let mut text = format!(in alloc; "{}: ", line.workers)?;
+    let mut text = format!(in alloc; "{}: ", line.workers.count())?;
     for at in 0..line.words.count() {
         if at > 0 {
             text.push_str("|")?;
@@ -127,6 +127,6 @@ fn numbers_have_one_to_ten_digits(rt: HostRuntime) -> Result<(), Fail> {
 
 #[test]
 fn help_and_version_are_told(rt: HostRuntime) -> Result<(), Fail> {
-    assert!(rt; help_text().starts_with("Usage: ") && version_text() == "rhythm 1.4\n");
+    assert!(rt; help_text().starts_with("Usage: ") && version_text() == "rhythm 1.5\n");
     Ok(())
 }

@@ -3,7 +3,7 @@ ghost use Rattle.std.specs.Prelude.{◌≡◌, ◌≤◌, ◌+◌};
 
 use edit_script::{Command, read_line};
 use performance_edit::{copied, edited};
-use rhythm_base::{Bar, EditFault, Note, Performance};
+use rhythm_base::{Bar, EditFault, Note, Notes, Performance};
 use std::alloc::{AllocError, Global};
 use std::test::Fail;
 
@@ -108,16 +108,17 @@ fn four_quarters(alloc: Global) -> Result<Performance, AllocError> {
         quarter(64, 960),
         quarter(65, 1440),
     ]?;
-    Ok(Performance::make(
+    let listed = Notes::new(alloc, notes.as_slice())?;
+    Performance::make(
         480,
         Vec::new(alloc),
         Vec::new(alloc),
         bars,
         1920,
         channels,
-        notes,
+        listed,
         Vec::new(alloc),
-    ))
+    )
 }
 
 /// The bars, the last barline, the notes and the pins of a performance of one voice in words.
@@ -127,7 +128,8 @@ fn shown(alloc: Global, performance: &Performance) -> Result<String, AllocError>
         write!(text, "{} ", bar.start)?;
     }
     write!(text, "| {} |", performance.last())?;
-    for note in performance.notes() {
+    let notes = performance.notes();
+    for note in notes.range(alloc, 0, notes.len())?.as_slice() {
         write!(text, " {}@{}-{}", note.key, note.onset, note.end)?;
     }
     text.push_str(" |")?;
@@ -153,7 +155,7 @@ fn edits_are_made(rt: HostRuntime) -> Result<(), Fail> {
         performance = after(rt.alloc(), &performance, line)?;
         let is = shown(rt.alloc(), &performance)?;
         assert!(rt; is.as_str() == text, "{line}: {is}");
-        let copy = shown(rt.alloc(), &copied(rt.alloc(), &performance)?)?;
+        let copy = shown(rt.alloc(), &copied(&performance)?)?;
         assert!(rt; copy.as_str() == text, "{line}: {copy}");
     }
     Ok(())

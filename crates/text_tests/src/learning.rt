@@ -3,7 +3,7 @@ use grammar_file::print_grammar;
 use rule_counts::RuleCounts;
 use std::alloc::Global;
 use std::test::Fail;
-use weight_learning::{HEAVIEST_BIT, copied, learned};
+use weight_learning::{Bit, copied, learned};
 
 /// One bar in quarters, by the rules of `FOUR_SYMBOLS` and of `ONE_RULE_A_SYMBOL`.
 const FOUR_QUARTERS: &[u16] = &[3, 7, 8, 8, 7, 8, 8];
@@ -67,9 +67,9 @@ const LEARNED: [(&str, &[&[u16]], u32, &str); 6] = [
 
 /// The text of the grammar that is learned from rule lists.
 fn learned_text(alloc: Global, text: &[u8], lists: &[&[u16]], bit: u32) -> Result<Vec<u8>, Fail> {
-    if bit == 0 || bit > HEAVIEST_BIT {
+    let Some(bit) = Bit::new(bit) else {
         return Err("a bit in range".into());
-    }
+    };
     let grammar = read(alloc, text)?;
     let mut counts = RuleCounts::zeros(alloc, grammar.rules.len())?;
     for list in lists {

@@ -1,7 +1,7 @@
 ghost use Rattle.std.specs.Prelude.{◌≡◌};
 
 use notes_writer::write_notes;
-use rhythm_base::{Bar, KeyMark, Note, Performance, Tempo};
+use rhythm_base::{Bar, KeyMark, Note, Notes, Performance, Tempo};
 use std::alloc::{AllocError, Global};
 use std::test::Fail;
 
@@ -47,16 +47,17 @@ fn two_voices(alloc: Global) -> Result<Performance, AllocError> {
         note(0, 64, 480, 960),
         note(3, 48, 0, 1920),
     ]?;
-    Ok(Performance::make(
+    let listed = Notes::new(alloc, notes.as_slice())?;
+    Performance::make(
         480,
         tempos,
         key_marks,
         bars,
         3360,
         channels,
-        notes,
+        listed,
         Vec::new(alloc),
-    ))
+    )
 }
 
 /// A note of a channel and a key, from a tick to a tick.

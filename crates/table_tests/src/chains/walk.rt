@@ -1,7 +1,8 @@
-ghost use Rattle.std.specs.Prelude.{◌<◌, ◌≤◌, length};
+ghost use Rattle.std.specs.Prelude.{◌≤◌, length};
 
 use carry_matrix::CarryMatrix;
 use chain_bars::Chain;
+use rhythm_base::Carry;
 use std::alloc::{AllocError, Global};
 
 /// A way over the first cells: its cost, the list of its ranks, and the counts at the barlines that it has passed.
@@ -13,16 +14,18 @@ pub struct Way {
 }
 
 /// A way that goes on over a cell.
-fn onward(way: Option<Way>, cell: &CarryMatrix, number: usize, from: u8, to: u8) -> Option<Way>
-    requires number { number < 9 }
-    requires from { from < 5 }
-    requires to { to < 5 }
-{
+fn onward(
+    way: Option<Way>,
+    cell: &CarryMatrix,
+    number: usize,
+    from: Carry,
+    to: Carry,
+) -> Option<Way> {
     let mut longer = way?;
-    let entry = cell.get(from, to)?;
+    let entry = cell.entry(from, to)?;
     longer.cost = longer.cost.saturating_add(entry.cost);
-    longer.ranks[number] = entry.rank;
-    longer.counts[number + 1] = to;
+    *longer.ranks.get_mut(number)? = entry.rank;
+    *longer.counts.get_mut(number.checked_add(1)?)? = to.count();
     Some(longer)
 }
 
@@ -40,21 +43,17 @@ fn lesser(first: Option<Way>, second: Option<Way>) -> Option<Way> {
 }
 
 /// The least way to a count after a cell.
-fn least_to(ways: &[Option<Way>; 5], cell: &CarryMatrix, number: usize, to: u8) -> Option<Way>
-    requires number { number < 9 }
-    requires to { to < 5 }
-{
-    let first = onward(ways[0], cell, number, 0, to);
-    let second = lesser(first, onward(ways[1], cell, number, 1, to));
-    let third = lesser(second, onward(ways[2], cell, number, 2, to));
-    let fourth = lesser(third, onward(ways[3], cell, number, 3, to));
-    lesser(fourth, onward(ways[4], cell, number, 4, to))
+fn least_to(ways: &[Option<Way>; 5], cell: &CarryMatrix, number: usize, to: Carry) -> Option<Way> {
+    let mut least = None;
+    'counts: for from in 0..5u8 {
+        let way = onward(ways[from as usize], cell, number, Carry::of(from), to);
+        least = lesser(least, way);
+    }
+    least
 }
 
 /// The least way over the cells to each count, by walking from cell to cell.
-fn walk(cells: &[CarryMatrix]) -> [Option<Way>; 5]
-    requires { length cells.now ≤ 9 }
-{
+fn walk(cells: &[CarryMatrix]) -> [Option<Way>; 5] {
     let start = Way {
         cost: 0,
         ranks: [0; 9],
@@ -62,14 +61,11 @@ fn walk(cells: &[CarryMatrix]) -> [Option<Way>; 5]
     };
     let mut ways = [Some(start), None, None, None, None];
     'cells: for number in 0..cells.len() {
-        let cell = &cells[number];
-        ways = [
-            least_to(&ways, cell, number, 0),
-            least_to(&ways, cell, number, 1),
-            least_to(&ways, cell, number, 2),
-            least_to(&ways, cell, number, 3),
-            least_to(&ways, cell, number, 4),
-        ];
+        let mut next = [None; 5];
+        'counts: for to in 0..5u8 {
+            next[to as usize] = least_to(&ways, &cells[number], number, Carry::of(to));
+        }
+        ways = next;
     }
     ways
 }
