@@ -17,7 +17,8 @@ use Rattle.rhythm_base.specs.Grammar.{Grammar}
 use Rattle.rhythm_base.specs.Performance.{Performance}
 use Rattle.rhythm_base.specs.Readable.{IsReadable}
 use Rattle.script_laws.specs.Script.{Answers, shown_alternative}
-use Rattle.script_run.specs.Answers.{AnswersLine, IsBuiltFor, IsWrittenScore}
+use Rattle.kern_writer.specs.PerformanceText.{IsWrittenScore}
+use Rattle.script_run.specs.Answers.{AnswersLine, IsBuiltFor}
 use Rattle.script_run.proofs.Replies.{change_builds, memory_reply, nothing_line, other_builds, quit_line}
 use Rattle.answer_laws.specs.Editable.{IsEditable}
 use Rattle.answer_laws.proofs.Alternatives.{some_best}

@@ -14,7 +14,7 @@ use Rattle.derivation.specs.Score.{Score}
 use Rattle.derivation.specs.Sounds.{derivation_sounds}
 use Rattle.derivation.proofs.OneScore.{scores_one}
 use Rattle.kern_writer.proofs.TextsExist.{texts_exist}
-use Rattle.script_run.specs.Answers.{IsWrittenScore}
+use Rattle.kern_writer.specs.PerformanceText.{IsWrittenScore}
 use Rattle.table_laws.proofs.Performances.{derivation_or_none}
 
 module _ (g : Grammar) (p : Performance) where

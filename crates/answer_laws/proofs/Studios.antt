@@ -16,7 +16,8 @@ use Rattle.rhythm_base.specs.Performance.{Performance}
 use Rattle.rhythm_base.specs.Readable.{IsReadable}
 use Rattle.rhythm_base.proofs.OrderedLists.{all_cons, all_head, all_tail}
 use Rattle.script_laws.specs.Script.{Answers, IsLineStep, outcome_text}
-use Rattle.script_run.specs.Answers.{AnswersLine, IsWrittenScore}
+use Rattle.kern_writer.specs.PerformanceText.{IsWrittenScore}
+use Rattle.script_run.specs.Answers.{AnswersLine}
 use Rattle.script_run.specs.Studio.{AnswersStudioLine}
 use Rattle.session_history.specs.Changes.{IsEdited, IsRedone, IsUndone}
 use Rattle.session_history.specs.History.{History, Step}

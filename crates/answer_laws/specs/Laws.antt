@@ -19,7 +19,8 @@ use Rattle.rhythm_base.specs.Grammar.{Grammar}
 use Rattle.rhythm_base.specs.Performance.{IsWellFormed, Performance}
 use Rattle.rhythm_base.specs.Readable.{IsReadable}
 use Rattle.rhythm_base.specs.Voices.{HasDerivation}
-use Rattle.script_run.specs.Answers.{AnswersLine, IsWrittenScore, Quits}
+use Rattle.kern_writer.specs.PerformanceText.{IsWrittenScore}
+use Rattle.script_run.specs.Answers.{AnswersLine, Quits}
 use Rattle.script_run.specs.Desk.{AnswersOn, Desk, editor, studio}
 use Rattle.script_run.specs.Editing.{Editing, begun_on}
 use Rattle.script_run.specs.Laws.{EndsAmply, IsAmpleAnswer, IsByBytes}

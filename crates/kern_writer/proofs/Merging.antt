@@ -137,7 +137,7 @@ after_all p columns rise = all_mapped_to (RiseFrom p) (RiseFrom (suc p)) (tokens
 pub after_zero : (p : ℕ) (columns : List (List Token)) → All (RiseFrom p) columns → All (RiseFrom 0) (map (tokens_after p) columns)
 after_zero p columns rise = all_mapped_to (RiseFrom p) (RiseFrom 0) (tokens_after p) columns rise (λ ts h. rise_weaker 0 (suc p) (tokens_after p ts) (omega arith) (after_rise p ts h))
 
-contains_map : {X Y : Type 0} (f : X → Y) (xs : List X) (x : X) → Contains xs x → Contains (map f xs) (f x)
+pub contains_map : {X Y : Type 0} (f : X → Y) (xs : List X) (x : X) → Contains xs x → Contains (map f xs) (f x)
 contains_map f [] x c = absurd (contains_none x c)
 contains_map f (y ∷ ys) x c = go (contains_cases y x ys c) (contains_map f ys x)
   where

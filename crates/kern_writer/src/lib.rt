@@ -19,4 +19,4 @@ mod value_text;
 
 pub use fault::ScoreFault;
 pub use kern::write_kern;
-pub use laws::{texts_are_one, texts_exist};
+pub use laws::{performance_texts_are_one, texts_are_one, texts_exist};

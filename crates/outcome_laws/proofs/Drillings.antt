@@ -33,7 +33,7 @@ use Rattle.rhythm_base.specs.Readable.{IsReadable}
 use Rattle.rhythm_base.specs.Voices.{IsCostOf}
 use Rattle.rhythm_gen.specs.Draws.{draw}
 use Rattle.rhythm_gen.specs.DrillEdit.{added_note, delayed, drill_edit, dropped, moved_note}
-use Rattle.script_run.specs.Answers.{IsWrittenScore}
+use Rattle.kern_writer.specs.PerformanceText.{IsWrittenScore}
 use Rattle.table_laws.proofs.Performances.{some_cost}
 
 -- ---- an edit of a drill is there, and in range

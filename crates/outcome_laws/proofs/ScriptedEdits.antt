@@ -16,13 +16,12 @@ use Rattle.rhythm_base.specs.declared.edit_fault.EditFault.TheVariants.{Memory}
 use Rattle.rhythm_base.specs.declared.edit_fault.EditFault.TheVariants as faults
 use Rattle.rhythm_base.specs.declared.limits.TheConstants.{LONGEST_SCRIPT_LINE}
 use Rattle.script_laws.specs.Script.{Answers, IsLineStep, Run, outcome_text, shown_alternative}
-use Rattle.script_run.specs.Answers.{AnswersLine, IsWrittenScore, Quits}
+use Rattle.kern_writer.specs.PerformanceText.{IsWrittenScore}
+use Rattle.script_run.specs.Answers.{AnswersLine, Quits}
 use Rattle.outcome_laws.specs.Laws.{IsAnsweredOk, ScriptFilesAreEdits}
+use Rattle.rhythm_app.proofs.ScriptedSessions.{same_opened}
 
 -- ---- where they are made
-
-same_opened : (a b : Opened) → ◌≡◌ {A = Result Opened Refused} (Ok a) (Ok b) → a ≡ b
-same_opened a b e = cc
 
 line_answered : (g : Grammar) (p q : Performance) (line : List ℕ) (n : ℕ) → IsLineMade g p line q n → (reply : List ℕ) × IsAnsweredOk g p line reply q
 line_answered g p q line n (edit, cost, says, outcome) = (done_text n cost, (says.0, (n, cost, answers, refl)))

@@ -13,7 +13,8 @@ use Rattle.musicxml_writer.proofs.OneText as marking
 use Rattle.page_writer.proofs.OnePage as paging
 use Rattle.event_laws.proofs.VoiceEvents.{texts_have}
 use Rattle.voice_events.specs.declared.event.KernEvent.{KernEvent}
-use Rattle.rhythm_app.specs.Outcome.{AreEventsOf, IsKernTextOf, IsWriting, Ready, open_stop, say}
+use Rattle.kern_writer.specs.PerformanceText.{IsKernTextOf}
+use Rattle.rhythm_app.specs.Outcome.{AreEventsOf, IsWriting, Ready, open_stop, say}
 use Rattle.rhythm_app.specs.declared.request.Form.{Form}
 use Rattle.rhythm_app.specs.declared.request.Form.TheVariants as form
 use Rattle.rhythm_app.specs.declared.stop.Stop.{Stop}
@@ -21,7 +22,7 @@ use Rattle.rhythm_app.specs.declared.stop.Stop.TheVariants as stop
 use Rattle.rhythm_base.specs.Grammar.{Grammar}
 use Rattle.rhythm_base.specs.Performance.{IsWellFormed, Performance}
 use Rattle.rhythm_base.specs.Readable.{IsReadable}
-use Rattle.script_run.specs.Answers.{IsWrittenScore}
+use Rattle.kern_writer.specs.PerformanceText.{IsWrittenScore}
 use Rattle.smf_bytes.specs.Chunk.{header_bytes}
 use Rattle.smf_bytes.specs.declared.quantity.TheConstants.{GREATEST_QUANTITY}
 use Rattle.smf_writer.specs.Changes.{conductor}

@@ -31,9 +31,8 @@ use Rattle.kern_reader.specs.declared.fault.KernFault.{KernFault}
 use Rattle.derivation.proofs.OneScore.{scores_one}
 use Rattle.derivation.specs.PerformanceScore.{score_bar}
 use Rattle.derivation.specs.Score.{IsScore, Score}
-use Rattle.kern_writer.proofs.OneText.{texts_one}
-use Rattle.kern_writer.specs.PerformanceText.{HasTooLongText, IsTextOf}
-use Rattle.kern_writer.specs.Text.{IsScoreText, IsTooLong}
+use Rattle.kern_writer.proofs.OneWritten.{performance_texts_one}
+use Rattle.kern_writer.specs.PerformanceText.{HasTooLongText}
 use Rattle.lily_writer.proofs.OnePage.{pages_one}
 use Rattle.lily_writer.specs.Text.{IsLilyText}
 use Rattle.musicxml_writer.proofs.OneText as marking
@@ -71,7 +70,6 @@ use Rattle.rhythm_app.specs.declared.stop.Stop.TheVariants as stop
 use Rattle.rhythm_base.specs.Grammar.{Grammar}
 use Rattle.rhythm_base.specs.Performance.{IsWellFormed, Performance}
 use Rattle.rhythm_base.specs.Readable.{IsReadable}
-use Rattle.rhythm_base.specs.declared.limits.TheConstants.{LONGEST_SCORE}
 use Rattle.rhythm_ports.specs.Files.{File}
 use Rattle.script_writer.specs.EditText.{script_text}
 use Rattle.smf_reader.specs.Played.{Smf}
@@ -136,21 +134,6 @@ well_played o f p (t, taken, (u, mapped, h)) = go h.0 h.3 h.4
 -- ---- the score
 
 module _ (g : Grammar) (p : Performance) (read : IsReadable g) (formed : IsWellFormed p) where
-  one_text : (a b : List ℕ) → IsTextOf g p a → IsTextOf g p b → a ≡ b
-  one_text a b (s, h, k) (t, i, j) =
-      let same = scores_one.score g p s t read formed h i in
-      texts_one.text t a b (scores_one.can_be_written g p t read formed i) (subst (λ x. IsScoreText x a) same k) j
-
-  one_line : (a b : ℕ) → HasTooLongText g p a → HasTooLongText g p b → a ≡ b
-  one_line a b (s, h, k) (t, i, j) =
-      let same = scores_one.score g p s t read formed h i in
-      texts_one.too_long t a b (scores_one.can_be_written g p t read formed i) (subst (λ x. IsTooLong x a) same k) j
-
-  not_too_long : (text : List ℕ) (line : ℕ) → IsTextOf g p text → length text ≤ LONGEST_SCORE → HasTooLongText g p line → ⊥
-  not_too_long text line (s, h, k) short (t, i, j) =
-      let same = scores_one.score g p s t read formed h i in
-      texts_one.either t text line (scores_one.can_be_written g p t read formed i) (subst (λ x. IsScoreText x text) same k) short j
-
   opened : (s : Stop) → CanOpen g p → IsUnopened g p s → ⊥
   opened s can (fault, is, other, same) = fault_or_open g p fault read formed other can is
 
@@ -160,7 +143,7 @@ module _ (g : Grammar) (p : Performance) (read : IsReadable g) (formed : IsWellF
   one_events : (a b : List KernEvent) → AreEventsOf g p a → AreEventsOf g p b → a ≡ b
   one_events a b h k =
       let short = k.written.1 in
-      let same = one_text h.text k.text h.written.0 k.written.0 in
+      let same = performance_texts_one.text g p h.text k.text read formed h.written.0 k.written.0 in
       let score = same_columns h.score k.score (sym h.read ∙ ap score_of same ∙ k.read) in
       one_list k.score a b (well_score k.text k.score (omega (arith, short)) k.read) (subst (λ (s : KernColumns). AreEvents s a) score h.are) k.are
 
@@ -172,10 +155,10 @@ module _ (g : Grammar) (p : Performance) (read : IsReadable g) (formed : IsWellF
         one t p.channels a b (scores_one.can_be_written g p t read formed is') (subst (λ (x : Score). Is x p.channels a) same text) text'
 
     score_short : (text : List ℕ) (line : ℕ) → IsWrittenOf Is g p text → HasTooLongText g p line → ⊥
-    score_short text line (s, kern, is, short, written) k = not_too_long kern line short.0 short.1 k
+    score_short text line (s, kern, is, short, written) k = performance_texts_one.either g p kern line read formed short k
 
   one_of_form : (f : Form) (a b : List ℕ) → IsFormOf f g p a → IsFormOf f g p b → a ≡ b
-  one_of_form form.Score a b h k = one_text a b h.0 k.0
+  one_of_form form.Score a b h k = performance_texts_one.text g p a b read formed h.0 k.0
   one_of_form form.LilyPond a b (list, are, page) (other, others, page') =
       pages_one g.resolution (map (score_bar p) p.bars) (length p.channels) other a b read.ranges.some_unit
       (subst (λ (l : List KernEvent). IsLilyText g.resolution (map (score_bar p) p.bars) (length p.channels) l a) (one_events list other are others) page) page'
@@ -187,11 +170,11 @@ module _ (g : Grammar) (p : Performance) (read : IsReadable g) (formed : IsWellF
 
   -- no form is written of a score that is too long
   form_short : (f : Form) (text : List ℕ) (line : ℕ) → IsFormOf f g p text → HasTooLongText g p line → ⊥
-  form_short form.Score text line h k = not_too_long text line h.0 h.1 k
-  form_short form.LilyPond text line (list, are, page) k = not_too_long are.text line are.written.0 are.written.1 k
+  form_short form.Score text line h k = performance_texts_one.either g p text line read formed h k
+  form_short form.LilyPond text line (list, are, page) k = performance_texts_one.either g p are.text line read formed are.written k
   form_short form.Page text line h k = score_short IsPage paging.pages_one text line h k
   form_short form.MusicXml text line h k = score_short IsMusicXml marking.texts_one text line h k
-  form_short form.Rendered text line (list, are, file) k = not_too_long are.text line are.written.0 are.written.1 k
+  form_short form.Rendered text line (list, are, file) k = performance_texts_one.either g p are.text line read formed are.written k
 
   -- what is written in a form is not unwritten
   form_written : (f : Form) (text : List ℕ) (s : Stop) → IsFormOf f g p text → IsUnwritten f g p s → ⊥
@@ -214,7 +197,7 @@ module _ (g : Grammar) (p : Performance) (read : IsReadable g) (formed : IsWellF
   too_long_apart form.LilyPond s t h k = absurd k
   too_long_apart form.Page s t h k = absurd k
   too_long_apart form.MusicXml s t h k = absurd k
-  too_long_apart form.Rendered s t h (text, tick, can, written, fault, same) = not_too_long text h.0 written.0 written.1 h.2
+  too_long_apart form.Rendered s t h (text, tick, can, written, fault, same) = performance_texts_one.either g p text h.0 read formed written h.2
 
   one_unwritten : (f : Form) (s t : Stop) → IsUnwritten f g p s → IsUnwritten f g p t → s ≡ t
   one_unwritten form.Score s t h k = absurd h
@@ -239,7 +222,7 @@ module _ (g : Grammar) (p : Performance) (read : IsReadable g) (formed : IsWellF
   one_writing f (Err s) (Err t) (inl h) (inr (inl k)) = absurd (opened s k.1 h)
   one_writing f (Err s) (Err t) (inl h) (inr (inr k)) = absurd (apart f s t h k)
   one_writing f (Err s) (Err t) (inr (inl h)) (inl k) = absurd (opened t h.1 k)
-  one_writing f (Err s) (Err t) (inr (inl h)) (inr (inl k)) = ap Err (h.3 ∙ ap stop.ScoreTooLong (one_line h.0 k.0 h.2 k.2) ∙ sym k.3)
+  one_writing f (Err s) (Err t) (inr (inl h)) (inr (inl k)) = ap Err (h.3 ∙ ap stop.ScoreTooLong (performance_texts_one.too_long g p h.0 k.0 read formed h.2 k.2) ∙ sym k.3)
   one_writing f (Err s) (Err t) (inr (inl h)) (inr (inr k)) = absurd (too_long_apart f s t h k)
   one_writing f (Err s) (Err t) (inr (inr h)) (inl k) = absurd (apart f t s k h)
   one_writing f (Err s) (Err t) (inr (inr h)) (inr (inl k)) = absurd (too_long_apart f t s k h)

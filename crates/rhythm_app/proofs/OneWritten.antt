@@ -1,13 +1,11 @@
 -- What is written with the barline at a tick is one thing, and the same as in a script.
 use Rattle.std.proofs.Common.{◌≡◌, ℕ, List, sym, ap, ◌∙◌, subst, inl, inr, Result, Ok, Err}
 use Rattle.barline_fit.specs.Fitted.{IsAcceptedAt}
-use Rattle.rhythm_app.specs.FittedScore.{IsFittedScore, IsWritten}
+use Rattle.rhythm_app.specs.FittedScore.{IsFittedScore}
 use Rattle.rhythm_app.specs.Laws.{FittedScoresAreOne, score_reply}
 use Rattle.barline_fit.proofs.OneFit.{accepted_outcome, set_formed}
-use Rattle.derivation.proofs.OneScore.{scores_one}
-use Rattle.derivation.specs.Score.{Score}
-use Rattle.kern_writer.proofs.OneText.{texts_one}
-use Rattle.kern_writer.specs.Text.{IsScoreText, IsTooLong}
+use Rattle.kern_writer.proofs.OneWritten.{performance_texts_one}
+use Rattle.kern_writer.specs.PerformanceText.{IsWrittenScore}
 use Rattle.rhythm_base.specs.Grammar.{Grammar}
 use Rattle.rhythm_base.specs.Performance.{IsWellFormed, Performance}
 use Rattle.rhythm_base.specs.Readable.{IsReadable}
@@ -16,44 +14,29 @@ use Rattle.edit_script.specs.declared.command.Command.TheVariants as command
 use Rattle.rhythm_base.specs.declared.edit.Edit.TheVariants.{Barline}
 
 module _ (g : Grammar) (readable : IsReadable g) where
-  -- of a performance one thing is written
-  pub one_written : (p : Performance) (a b : Result (List ℕ) ℕ) → IsWellFormed p → IsWritten g p a → IsWritten g p b → a ≡ b
-  one_written p (Ok text) (Ok text') formed ((s, is, said), short) ((t, is', said'), short') =
-      let same = scores_one.score g p t s readable formed is' is in
-      ap Ok (texts_one.text s text text' (scores_one.can_be_written g p s readable formed is) said (subst (λ (x : Score). IsScoreText x text') same said'))
-  one_written p (Ok text) (Err line) formed ((s, is, said), short) (t, is', long) =
-      let same = scores_one.score g p t s readable formed is' is in
-      absurd (texts_one.either s text line (scores_one.can_be_written g p s readable formed is) said short (subst (λ (x : Score). IsTooLong x line) same long))
-  one_written p (Err line) (Ok text) formed (s, is, long) ((t, is', said), short) =
-      let same = scores_one.score g p t s readable formed is' is in
-      absurd (texts_one.either s text line (scores_one.can_be_written g p s readable formed is) (subst (λ (x : Score). IsScoreText x text) same said) short long)
-  one_written p (Err line) (Err line') formed (s, is, long) (t, is', long') =
-      let same = scores_one.score g p t s readable formed is' is in
-      ap Err (texts_one.too_long s line line' (scores_one.can_be_written g p s readable formed is) long (subst (λ (x : Score). IsTooLong x line') same long'))
-
   module _ (p : Performance) (bar tick : ℕ) (formed : IsWellFormed p) where
     one_score : (a b : Result (List ℕ) ℕ) → IsFittedScore g p bar tick a → IsFittedScore g p bar tick b → a ≡ b
     one_score a b (q, is, text) (r, is', text') =
         let both : Ok r ≡ Ok q = sym is' ∙ is in
         let same : r ≡ q = cc in
-        one_written q a b (set_formed g p bar tick readable.ranges.some_unit formed q is) text (subst (λ (x : Performance). IsWritten g x b) same text')
+        performance_texts_one.written g q a b readable (set_formed g p bar tick readable.ranges.some_unit formed q is) text (subst (λ (x : Performance). IsWrittenScore g x b) same text')
 
     -- the reply that says the score, where that is one
-    said_by : (next : Performance) (score : Result (List ℕ) ℕ) (said : List ℕ) → IsWellFormed next → IsWritten g next score → (last : Performance)
-        → Answers (IsWritten g) g next command.Score said last → said ≡ score_reply score
-    said_by next score said well text last (stays, inl (words, is, reply)) = reply ∙ ap score_reply (one_written next (Ok words) score well is text)
-    said_by next score said well text last (stays, inr (line, is, reply)) = reply ∙ ap score_reply (one_written next (Err line) score well is text)
+    said_by : (next : Performance) (score : Result (List ℕ) ℕ) (said : List ℕ) → IsWellFormed next → IsWrittenScore g next score → (last : Performance)
+        → Answers (IsWrittenScore g) g next command.Score said last → said ≡ score_reply score
+    said_by next score said well text last (stays, inl (words, is, reply)) = reply ∙ ap score_reply (performance_texts_one.written g next (Ok words) score readable well is text)
+    said_by next score said well text last (stays, inr (line, is, reply)) = reply ∙ ap score_reply (performance_texts_one.written g next (Err line) score readable well is text)
 
     as_edited : (next last : Performance) (cost : ℕ) (score : Result (List ℕ) ℕ) (reply said : List ℕ) → IsAcceptedAt g p bar tick cost
-        → IsFittedScore g p bar tick score → Answers (IsWritten g) g p (command.Change (Barline bar tick)) reply next
-        → Answers (IsWritten g) g next command.Score said last → said ≡ score_reply score
+        → IsFittedScore g p bar tick score → Answers (IsWrittenScore g) g p (command.Change (Barline bar tick)) reply next
+        → Answers (IsWrittenScore g) g next command.Score said last → said ≡ score_reply score
     as_edited next last cost score reply said accepted (q, is, text) (outcome, comes, shown) answer =
         let one = accepted_outcome g p bar tick readable.ranges.some_unit formed next cost outcome accepted comes in
         let both : Ok q ≡ Ok accepted.next = sym is ∙ accepted.made in
         let with_it : q ≡ accepted.next = cc in
         let same : q ≡ next = with_it ∙ sym one.2 in
         let well = set_formed g p bar tick readable.ranges.some_unit formed q is in
-        said_by next score said (subst IsWellFormed same well) (subst (λ (x : Performance). IsWritten g x score) same text) last answer
+        said_by next score said (subst IsWellFormed same well) (subst (λ (x : Performance). IsWrittenScore g x score) same text) last answer
 
 pub scores_with_barline_one : FittedScoresAreOne
 scores_with_barline_one = record {

@@ -4,7 +4,8 @@ use Rattle.barline_fit.specs.Fitted.{IsAcceptedAt}
 use Rattle.edit_script.specs.Replies.{long_score_text, score_text}
 use Rattle.edit_script.specs.declared.command.Command.TheVariants.{Change, Score}
 use Rattle.rhythm_app.specs.Commands.{HasOutcome}
-use Rattle.rhythm_app.specs.FittedScore.{IsFittedScore, IsWritten}
+use Rattle.kern_writer.specs.PerformanceText.{IsWrittenScore}
+use Rattle.rhythm_app.specs.FittedScore.{IsFittedScore}
 use Rattle.rhythm_app.specs.Outcome.{Ready}
 use Rattle.rhythm_app.specs.declared.stop.Stop.{Stop}
 use Rattle.rhythm_base.specs.Grammar.{Grammar}
@@ -29,5 +30,5 @@ pub record FittedScoresAreOne : Type 0 where
   pub one : (g : Grammar) (p : Performance) (bar tick : ℕ) (a b : Result (List ℕ) ℕ) → IsReadable g → IsWellFormed p
       → IsFittedScore g p bar tick a → IsFittedScore g p bar tick b → a ≡ b
   pub as_edited : (g : Grammar) (p next last : Performance) (bar tick cost : ℕ) (score : Result (List ℕ) ℕ) (reply said : List ℕ) → IsReadable g → IsWellFormed p
-      → IsAcceptedAt g p bar tick cost → IsFittedScore g p bar tick score → Answers (IsWritten g) g p (Change (Barline bar tick)) reply next
-      → Answers (IsWritten g) g next Score said last → said ≡ score_reply score
+      → IsAcceptedAt g p bar tick cost → IsFittedScore g p bar tick score → Answers (IsWrittenScore g) g p (Change (Barline bar tick)) reply next
+      → Answers (IsWrittenScore g) g next Score said last → said ≡ score_reply score

@@ -29,7 +29,7 @@ use Rattle.kern_reader.specs.Events.{AreEvents}
 use Rattle.kern_reader.specs.Outcome.{score_of}
 use Rattle.kern_reader.specs.Score.{KernColumns}
 use Rattle.voice_events.specs.declared.event.KernEvent.{KernEvent}
-use Rattle.kern_writer.specs.PerformanceText.{HasTooLongText, IsTextOf}
+use Rattle.kern_writer.specs.PerformanceText.{HasTooLongText, IsKernTextOf}
 use Rattle.kern_writer.specs.declared.fault.ScoreFault.{ScoreFault}
 use Rattle.kern_writer.specs.declared.fault.ScoreFault.TheVariants as scoring
 use Rattle.lily_writer.specs.Text.{IsLilyText}
@@ -206,10 +206,6 @@ IsTooLongToWrite g p s = (line : ℕ) × CanOpen g p × HasTooLongText g p line 
 pub data Ready : Type 0 where
   say : List ℕ → Ready
   serve : Talk → Grammar → Performance → Ready
-
--- the text of the score of a performance by a grammar
-abbrev pub IsKernTextOf : Grammar → Performance → List ℕ → Type 0
-IsKernTextOf g p text = IsTextOf g p text × (length text ≤ LONGEST_SCORE)
 
 -- the events of that score: of its text, as it is read
 pub record AreEventsOf (g : Grammar) (p : Performance) (list : List KernEvent) : Type 0 where

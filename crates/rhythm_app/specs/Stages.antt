@@ -25,7 +25,8 @@ use Rattle.rhythm_app.specs.Commands.{HasNames, HasOutcomeOf, HaveNames, cells_o
 use Rattle.rhythm_app.specs.Ends.{AppendsPart, IsCauseOf, IsPerformed, IsReadFailure}
 use Rattle.rhythm_app.specs.Inputs.{Inputs, file_content}
 use Rattle.rhythm_app.specs.Lent.{Lent}
-use Rattle.rhythm_app.specs.Outcome.{AreInTurn, AreInputs, AreLoaded, IsKernTextOf, IsOpening, IsScriptRead, IsScripted, IsTooLongToWrite, IsUnderstood, IsWriting, Loaded, Ready, loaded, refused_stop, say, serve}
+use Rattle.kern_writer.specs.PerformanceText.{IsKernTextOf}
+use Rattle.rhythm_app.specs.Outcome.{AreInTurn, AreInputs, AreLoaded, IsOpening, IsScriptRead, IsScripted, IsTooLongToWrite, IsUnderstood, IsWriting, Loaded, Ready, loaded, refused_stop, say, serve}
 use Rattle.rhythm_app.specs.Scripted.{AreLinesMade, IsLineBrokenOff, IsLineMade, IsLineRefused, MayHaveBuilt, Opened, Refused}
 use Rattle.rhythm_app.specs.declared.request.Form.{Form}
 use Rattle.rhythm_app.specs.declared.request.Request.{Request}

@@ -7,7 +7,8 @@ use Rattle.edit_script.specs.Replies.{refused_text}
 use Rattle.script_laws.specs.Script.{Run}
 use Rattle.rhythm_base.specs.declared.edit_fault.EditFault.TheVariants.{Memory}
 use Rattle.session_history.proofs.OneStudioAnswers.{one_studio_answer}
-use Rattle.script_run.specs.Answers.{IsWrittenScore, Quits}
+use Rattle.kern_writer.specs.PerformanceText.{IsWrittenScore}
+use Rattle.script_run.specs.Answers.{Quits}
 use Rattle.script_run.specs.Desk.{AnswersOn, Desk, IsSound, editor, studio}
 use Rattle.script_run.specs.Editing.{Editing}
 use Rattle.script_run.specs.Laws.{IsAmpleAnswer}

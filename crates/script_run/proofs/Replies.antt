@@ -24,7 +24,8 @@ use Rattle.edit_script.specs.declared.command.Command.TheVariants.{Change, Score
 use Rattle.rhythm_base.specs.declared.edit.Edit.{Edit}
 use Rattle.rhythm_base.specs.declared.edit_fault.EditFault.{EditFault}
 use Rattle.rhythm_base.specs.declared.edit_fault.EditFault.TheVariants.{NoVoice, NoBar, BadSpan, NoNote, SameNote, PastEnd, BarlineOrder, NoteOutside, NotEmpty, OneBar, Limit, NoDerivation, Memory}
-use Rattle.script_run.specs.Answers.{AnswersLine, IsBuiltFor, IsBuiltForEdit, IsWrittenScore, Quits, TakesMemory}
+use Rattle.kern_writer.specs.PerformanceText.{IsWrittenScore}
+use Rattle.script_run.specs.Answers.{AnswersLine, IsBuiltFor, IsBuiltForEdit, Quits, TakesMemory}
 use Rattle.script_run.specs.Hearing.{MayAnswer}
 use Rattle.script_run.specs.LineReplies.{IsEditReply}
 

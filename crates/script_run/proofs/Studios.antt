@@ -30,7 +30,8 @@ use Rattle.session_history.specs.declared.studio_command.StudioCommand.TheVarian
 use Rattle.session_history.specs.declared.studio_reply.StudioReply.{StudioReply}
 use Rattle.session_history.specs.declared.studio_reply.StudioReply.TheVariants as studio
 use Rattle.session_history.proofs.StudioWords.{one_studio_command}
-use Rattle.script_run.specs.Answers.{IsBuiltFor, IsBuiltForEdit, IsWrittenScore, Quits, TakesMemory}
+use Rattle.kern_writer.specs.PerformanceText.{IsWrittenScore}
+use Rattle.script_run.specs.Answers.{IsBuiltFor, IsBuiltForEdit, Quits, TakesMemory}
 use Rattle.script_run.specs.Hearing.{MayAnswer}
 use Rattle.script_run.specs.LineReplies.{IsEditReply, IsStepReply}
 use Rattle.script_run.specs.Studio.{AnswersStudioLine, MayAnswerInStudio}

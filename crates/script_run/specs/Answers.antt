@@ -1,7 +1,7 @@
 -- What the lines of a script do while a session is edited: the reply to each line, the performance after it, and how many cells
 -- are built for it.
-use Rattle.std.specs.Prelude.{◌≡◌, ℕ, ◌≤◌, ◌⊎◌, List, IsOk, None, length, Result, Ok, Err, ⊤}
-use Rattle.kern_writer.specs.PerformanceText.{HasTooLongText, IsTextOf}
+use Rattle.std.specs.Prelude.{◌≡◌, ℕ, ◌≤◌, ◌⊎◌, List, IsOk, None, length, ⊤}
+use Rattle.kern_writer.specs.PerformanceText.{IsWrittenScore}
 use Rattle.edit_laws.specs.Edits.{cell_tests, edited, first_refusal}
 use Rattle.rhythm_base.specs.Grammar.{Grammar}
 use Rattle.rhythm_base.specs.Performance.{Performance}
@@ -14,12 +14,6 @@ use Rattle.edit_script.specs.declared.command.Command.TheVariants.{Alternatives,
 use Rattle.rhythm_base.specs.declared.edit.Edit.{Edit}
 use Rattle.rhythm_base.specs.declared.edit_fault.EditFault.{EditFault}
 use Rattle.rhythm_base.specs.declared.edit_fault.EditFault.TheVariants.{Memory}
-use Rattle.rhythm_base.specs.declared.limits.TheConstants.{LONGEST_SCORE}
-
--- the score of a performance: its text, or the number of the record that would pass the limit of a score
-abbrev pub IsWrittenScore : Grammar → Performance → Result (List ℕ) ℕ → Type 0
-IsWrittenScore g p (Ok text) = IsTextOf g p text × (length text ≤ LONGEST_SCORE)
-IsWrittenScore g p (Err line) = HasTooLongText g p line
 
 abbrev pub Quits : List ℕ → Type 0
 Quits line = SaysCommand line Quit

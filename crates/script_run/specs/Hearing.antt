@@ -9,7 +9,8 @@ use Rattle.script_laws.specs.Script.{Answers}
 use Rattle.edit_script.specs.declared.command.Command.{Command}
 use Rattle.rhythm_base.specs.declared.edit_fault.EditFault.TheVariants.{Memory}
 use Rattle.rhythm_base.specs.declared.limits.TheConstants.{LONGEST_SCRIPT, LONGEST_SCRIPT_LINE}
-use Rattle.script_run.specs.Answers.{IsWrittenScore, Quits}
+use Rattle.kern_writer.specs.PerformanceText.{IsWrittenScore}
+use Rattle.script_run.specs.Answers.{Quits}
 use Rattle.script_run.specs.Desk.{AnswersOn, Desk}
 use Rattle.script_run.specs.declared.script_stop.ScriptStop.{ScriptStop}
 use Rattle.script_run.specs.declared.script_stop.ScriptStop.TheVariants as stop

@@ -5,7 +5,8 @@ use Rattle.rhythm_base.specs.Grammar.{Grammar}
 use Rattle.rhythm_base.specs.Readable.{IsReadable}
 use Rattle.edit_script.specs.Replies.{refused_text}
 use Rattle.rhythm_base.specs.declared.edit_fault.EditFault.TheVariants.{Memory}
-use Rattle.script_run.specs.Answers.{IsWrittenScore, Quits}
+use Rattle.kern_writer.specs.PerformanceText.{IsWrittenScore}
+use Rattle.script_run.specs.Answers.{Quits}
 use Rattle.script_run.specs.Desk.{AnswersOn, Desk, IsSound}
 use Rattle.script_run.specs.Editing.{Editing, IsLineAnswer, begun_on}
 use Rattle.script_run.specs.Machine.{IsAnswered, IsStoppedBy}

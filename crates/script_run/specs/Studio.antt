@@ -5,7 +5,8 @@ use Rattle.rhythm_base.specs.declared.edit_fault.EditFault.TheVariants.{Memory}
 use Rattle.session_history.specs.History.{History}
 use Rattle.session_history.specs.Studio.{StudioAnswers, StudioStep}
 use Rattle.session_history.specs.declared.studio_command.StudioCommand.{StudioCommand}
-use Rattle.script_run.specs.Answers.{IsBuiltFor, IsWrittenScore, MayLackMemory}
+use Rattle.kern_writer.specs.PerformanceText.{IsWrittenScore}
+use Rattle.script_run.specs.Answers.{IsBuiltFor, MayLackMemory}
 
 -- its reply, the history after it, and how many cells are built for it: an undo and a redo build none, and take no memory
 pub record AnswersStudioLine (h : History) (line reply : List ℕ) (n : ℕ) (next : History) : Type 0 where

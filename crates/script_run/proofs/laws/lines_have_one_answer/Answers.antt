@@ -1,5 +1,5 @@
 use Rattle.script_laws.proofs.OneRuns.{one_answer, one_run_of_script}
-use Rattle.script_run.specs.Answers.{IsWrittenScore}
+use Rattle.kern_writer.specs.PerformanceText.{IsWrittenScore}
 use Rattle.script_run.proofs.OneScores.{one_score}
 use Rattle.script_run.proofs.laws.lines_have_one_answer.Goals as goal
 
